@@ -1,0 +1,4 @@
+pub mod Contents
+pub mod Sealing
+pub mod Streams
+pub mod Wide

@@ -1,0 +1,6 @@
+pub mod Content
+pub mod Failing
+pub mod MemSink
+pub mod MemSource
+pub mod Number
+pub mod Outside

@@ -1,0 +1,22 @@
+//! Numbers, lists, changes, the devices outside, and bytes that end with their digest.
+#![tactic(auto)]
+
+pub mod block;
+pub mod faults;
+pub mod memory;
+pub mod number;
+pub mod numbers;
+pub mod outside;
+pub mod refusal;
+pub mod sealed;
+pub mod seq;
+pub mod text;
+
+pub use block::{Block, Change, Row};
+pub use faults::{Failed, FormatFault, NoMemory};
+pub use memory::{Failing, MemSink, MemSource};
+pub use numbers::{BlockNo, FileNo, IncNo, LAST_SCN, Moment, Scn, ThreadNo};
+pub use outside::{Sink, Source};
+pub use refusal::{Absent, Limit, Refusal, Unknown};
+pub use seq::Seq;
+pub use text::Text;
