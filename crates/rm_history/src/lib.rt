@@ -1,0 +1,12 @@
+//! Incarnations, their addresses, and what a database holds at each of them.
+#![tactic(auto)]
+
+pub mod laws;
+pub mod tree;
+pub mod world;
+
+pub use tree::{Incarnation, Tree};
+pub use world::{Datafile, World};
+
+#[cfg(test)]
+mod tests;

@@ -1,0 +1,1 @@
+// Values of the worked rows.

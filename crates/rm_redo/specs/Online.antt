@@ -1,0 +1,43 @@
+-- What the calls of the online logs do.
+use Rattle.std.specs.Prelude.{ℕ, ◌-◌, ◌<◌, ◌≤◌, ◌≡◌, ◌++◌, List, [], ◌∷◌, length, replicate, true, false, slice_get, slice_set}
+use Rattle.std.specs.Option.{option_map_or}
+use Rattle.rm_base.specs.declared.block.Change.{Change}
+use Rattle.rm_redo.specs.declared.online.LogRecord.{LogRecord}
+use Rattle.rm_redo.specs.declared.online.ThreadLog.{ThreadLog}
+use Rattle.rm_redo.specs.Logs.{Logs}
+
+-- the thread is there
+abbrev pub IsThread : Logs → ℕ → Type 0
+IsThread logs t = (0 < t) × (t ≤ length logs.threads)
+
+-- its log is lost
+abbrev pub IsLost : Logs → ℕ → Type 0
+IsLost logs t = option_map_or (λ l. l.is_lost) (slice_get logs.threads (t - 1)) false ≡ true
+
+-- its records
+abbrev pub records_of : Logs → ℕ → List LogRecord
+records_of logs t = option_map_or (λ l. l.records) (slice_get logs.threads (t - 1)) []
+
+-- the SCN from which on its log tells
+abbrev pub first_of : Logs → ℕ → ℕ
+first_of logs t = option_map_or (λ l. l.first) (slice_get logs.threads (t - 1)) 0
+
+-- a change, as its log keeps it
+abbrev pub record_of : Change → LogRecord
+record_of c = record { scn = c.scn; file = c.file; block = c.block; content = c.content }
+
+-- the log with one record more
+abbrev pub with_record : LogRecord → ThreadLog → ThreadLog
+with_record r l = record l { records = l.records ++ r ∷ [] }
+
+-- the logs with one change more
+abbrev pub with_change : Logs → Change → Logs
+with_change logs c =
+    option_map_or (λ l. record logs { threads = slice_set logs.threads (c.thread - 1) (with_record (record_of c) l) }) (slice_get logs.threads (c.thread - 1)) logs
+
+-- an empty log with sequence 1
+abbrev pub fresh_log : ℕ → ThreadLog
+fresh_log first = record { sequence = 1; first = first; is_lost = false; records = [] }
+
+abbrev pub fresh_logs : ℕ → ℕ → ℕ → ℕ → Logs
+fresh_logs dbid inc threads first = record { dbid = dbid; inc = inc; threads = replicate threads (fresh_log first) }
