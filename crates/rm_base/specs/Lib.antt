@@ -3,4 +3,5 @@ pub mod Failing
 pub mod MemSink
 pub mod MemSource
 pub mod Number
+pub mod Numbers
 pub mod Outside

@@ -1,5 +1,6 @@
 //! The online logs, one for each redo thread.
 ghost use Rattle.std.specs.Prelude.{◌≡◌, ◌+◌, ◌<◌, ◌≤◌, ◌↔◌, All, OnOk, OnErr, IfOk, IsErrOf, length};
+ghost use Rattle.rm_base.specs.Numbers.{last_scn};
 ghost use Rattle.rm_redo.specs.Online.{IsThread, IsLost, fresh_logs, with_change, records_of, first_of};
 
 use rm_base::{Block, BlockNo, Change, FileNo, IncNo, NoMemory, Scn, Seq, ThreadNo};
@@ -76,7 +77,7 @@ impl OnlineLogs {
         requires dbid { 1 ≤ dbid }
         requires inc { 1 ≤ inc }
         requires threads { (1 ≤ threads) × (threads ≤ 4) }
-        requires first { (1 ≤ first) × (first ≤ LAST_SCN) }
+        requires first { (1 ≤ first) × (first ≤ last_scn) }
         ensures { IfOk result (λ logs. logs ≡ fresh_logs dbid inc threads first) }
     {
         let mut logs = Vec::new(alloc);
@@ -101,7 +102,7 @@ impl OnlineLogs {
         requires there { ¬ IsLost self.old change.thread }
         requires inc { change.inc ≡ self.old.inc }
         requires first { first_of self.old change.thread ≤ change.scn }
-        requires last { change.scn < LAST_SCN }
+        requires last { change.scn < last_scn }
         requires above { All (λ r. r.scn < change.scn) (records_of self.old change.thread) }
         ensures ok { OnOk result (self.new ≡ with_change self.old change) }
         ensures full { IsErrOf result LogFault.Full ↔ (length (records_of self.old change.thread) ≡ 65536) }
