@@ -1,5 +1,5 @@
 -- Calls that are to fail, by their numbers.
-use Rattle.std.specs.Prelude.{ℕ, ◌+◌, ◌-◌, ◌^◌, ◌≡◌, Bool, if◌then◌else◌, List, Contains, min}
+use Rattle.std.specs.Prelude.{ℕ, ◌+◌, ◌-◌, ◌^◌, Bool, if◌then◌else◌, List, Contains, min}
 use Rattle.rm_base.specs.declared.memory.Failing.{Failing}
 
 -- the next number, which stands still at the end of its type

@@ -1,5 +1,5 @@
 -- A source in memory.
-use Rattle.std.specs.Prelude.{ℕ, Bool, List, drop, length, min}
+use Rattle.std.specs.Prelude.{ℕ, List, drop, length, min}
 use Rattle.rm_base.specs.declared.memory.Failing.{Failing}
 use Rattle.rm_base.specs.declared.memory.MemSource.{MemSource}
 

@@ -20,3 +20,6 @@ pub use outside::{Sink, Source};
 pub use refusal::{Absent, Limit, Refusal, Unknown};
 pub use seq::Seq;
 pub use text::Text;
+
+#[cfg(test)]
+mod tests;

@@ -1,6 +1,5 @@
 use Rattle.std.proofs.Common.{◌≡◌, ◌≤◌, ◌+◌, ◌-◌, ◌++◌, ◌∙◌, ℕ, List, Some, ap, sym, subst, take, drop, length, arith}
 use Rattle.std.specs.List.{slice_range}
-use Rattle.std.proofs.Math.Nat.{min-le_left}
 use Rattle.rm_base.proofs.Streams.{front-taken}
 use Rattle.rm_base.proofs.memory.MemSourceSource.read.Goals as goal
 
