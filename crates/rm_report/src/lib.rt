@@ -3,7 +3,6 @@
 
 pub mod laws;
 pub mod line;
-mod part;
 pub mod text;
 
 pub use line::{Line, Reply};
