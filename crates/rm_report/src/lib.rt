@@ -1,6 +1,12 @@
 //! Replies, and their text.
 #![tactic(auto)]
 
+pub mod laws;
 pub mod line;
+pub mod text;
 
 pub use line::{Line, Reply};
+pub use text::bytes_of;
+
+#[cfg(test)]
+mod tests;

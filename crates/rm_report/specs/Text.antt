@@ -1,0 +1,96 @@
+-- The text of a reply.
+use Rattle.std.specs.Prelude.{ℕ, ◌/◌, ◌%◌, false, true, List, [], ◌∷◌, ◌++◌, codes}
+use Rattle.std.specs.List.{flat_map}
+use Rattle.std.specs.Fmt.{decimal, digit_glyph}
+use Rattle.rm_base.specs.Content.{trimmed}
+use Rattle.rm_base.specs.declared.block.Block.{Block}
+use Rattle.rm_base.specs.declared.refusal.Absent.{Absent}
+use Rattle.rm_base.specs.declared.refusal.Absent.TheVariants.{Thread, File, Block as BlockOf}
+use Rattle.rm_base.specs.declared.refusal.Limit.{Limit}
+use Rattle.rm_base.specs.declared.refusal.Limit.TheVariants.{Threads, Files, FileBlocks, Blocks, Channels, Incarnations, Records, Bytes, ObjectIds, Sequences, LogRecords, WindowDays, Redundancy}
+use Rattle.rm_base.specs.declared.refusal.Unknown.{Unknown}
+use Rattle.rm_base.specs.declared.refusal.Unknown.TheVariants.{Entry, Tag, Log, Object, Byte}
+use Rattle.rm_base.specs.declared.refusal.Refusal.{Refusal}
+use Rattle.rm_base.specs.declared.refusal.Refusal.TheVariants.{Rm01, Rm02, Rm03, Rm04, Rm05, Rm06, Rm07, Rm08, Rm09, Rm10, Rm11, Rm12, Rm13, Rm15}
+use Rattle.rm_report.specs.declared.line.Line.{Line}
+use Rattle.rm_report.specs.declared.line.Line.TheVariants.{DatabaseAt, DatafileAt, Written, UntilIs, FileIs, BlockIs, Refused}
+use Rattle.rm_report.specs.declared.line.Reply.{Reply}
+
+-- a byte's two digits in lower-case hexadecimal
+abbrev pub byte_text : ℕ → List ℕ
+byte_text byte = digit_glyph false (byte / 16) ∷ digit_glyph false (byte % 16) ∷ []
+
+-- the digits of these bytes, or `-` for none
+abbrev pub bytes_text : List ℕ → List ℕ
+bytes_text [] = codes "-"
+bytes_text (x ∷ xs) = flat_map byte_text (x ∷ xs)
+
+-- a block's content without the zero bytes at its end
+abbrev pub content_text : Block → List ℕ
+content_text content = bytes_text (trimmed content.0)
+
+-- a limit's name and number
+abbrev pub limit_text : Limit → List ℕ
+limit_text Threads = codes "threads 4"
+limit_text Files = codes "files 64"
+limit_text FileBlocks = codes "blocks per file 65536"
+limit_text Blocks = codes "blocks 131072"
+limit_text Channels = codes "channels 16"
+limit_text Incarnations = codes "incarnations 256"
+limit_text Records = codes "records 65536"
+limit_text Bytes = codes "bytes 268435456"
+limit_text ObjectIds = codes "object ids 4294967295"
+limit_text Sequences = codes "sequences 4294967295"
+limit_text LogRecords = codes "log records 65536"
+limit_text WindowDays = codes "window days 36500"
+limit_text Redundancy = codes "redundancy 1000"
+
+-- the line for a thread, a file or a block that is not there
+abbrev pub absent_text : Absent → List ℕ
+absent_text (Thread thread) = codes "RM-05: no thread " ++ decimal thread
+absent_text (File file) = codes "RM-05: no datafile " ++ decimal file
+absent_text (BlockOf block file) = codes "RM-05: no block " ++ (decimal block ++ (codes " in datafile " ++ decimal file))
+
+-- the line for a record, a tag, a log, an object or a byte that is not there
+abbrev pub unknown_text : Unknown → List ℕ
+unknown_text (Entry entry) = codes "RM-12: no record " ++ decimal entry
+unknown_text (Tag tag) = codes "RM-12: no tag " ++ tag
+unknown_text (Log sequence thread) = codes "RM-12: no log " ++ (decimal sequence ++ (codes " of thread " ++ decimal thread))
+unknown_text (Object name) = codes "RM-12: no object " ++ name
+unknown_text (Byte at name) = codes "RM-12: no byte " ++ (decimal at ++ (codes " in " ++ name))
+
+-- the line of a refusal
+abbrev pub refusal_text : Refusal → List ℕ
+refusal_text (Rm01 line) = codes "RM-01: syntax at line " ++ decimal line
+refusal_text Rm02 = codes "RM-02: no database"
+refusal_text Rm03 = codes "RM-03: a database is there"
+refusal_text (Rm04 false) = codes "RM-04: mode is open"
+refusal_text (Rm04 true) = codes "RM-04: mode is mounted"
+refusal_text (Rm05 absent) = absent_text absent
+refusal_text (Rm06 until low high) = codes "RM-06: until " ++ (decimal until ++ (codes " is outside " ++ (decimal low ++ (codes ".." ++ decimal high))))
+refusal_text (Rm07 inc) = codes "RM-07: no incarnation " ++ decimal inc
+refusal_text (Rm08 file block scn inc) = codes "RM-08: gap in datafile " ++ (decimal file ++ (codes " block " ++ (decimal block ++ (codes " at " ++ (decimal scn ++ (codes " of incarnation " ++ decimal inc))))))
+refusal_text (Rm09 file) = codes "RM-09: datafile " ++ (decimal file ++ codes " is lost, restore it first")
+refusal_text Rm10 = codes "RM-10: recovery isn't done for this opening"
+refusal_text (Rm11 limit) = codes "RM-11: limit " ++ limit_text limit
+refusal_text (Rm12 unknown) = unknown_text unknown
+refusal_text (Rm13 name) = codes "RM-13: name " ++ (name ++ codes " is taken")
+refusal_text Rm15 = codes "RM-15: last SCN"
+
+-- a line, without its line feed
+abbrev pub line_text : Line → List ℕ
+line_text (DatabaseAt dbid scn) = codes "database " ++ (decimal dbid ++ (codes " incarnation 1 at " ++ decimal scn))
+line_text (DatafileAt file scn blocks) = codes "datafile " ++ (decimal file ++ (codes " created at " ++ (decimal scn ++ (codes " with " ++ (decimal blocks ++ codes " blocks")))))
+line_text (Written scn) = codes "scn " ++ decimal scn
+line_text (UntilIs until inc files) = codes "until " ++ (decimal until ++ (codes " of incarnation " ++ (decimal inc ++ (codes ": files " ++ decimal files))))
+line_text (FileIs file blocks written) = codes "datafile " ++ (decimal file ++ (codes ": " ++ (decimal blocks ++ (codes " blocks, " ++ (decimal written ++ codes " written")))))
+line_text (BlockIs block version content) = codes "block " ++ (decimal block ++ (codes " version " ++ (decimal version ++ (codes " value " ++ content_text content))))
+line_text (Refused refusal) = refusal_text refusal
+
+-- a line and one line feed
+abbrev pub full_line : Line → List ℕ
+full_line line = line_text line ++ 10 ∷ []
+
+-- the lines in order
+abbrev pub reply_text : Reply → List ℕ
+reply_text reply = flat_map full_line reply.lines

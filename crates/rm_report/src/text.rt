@@ -1,0 +1,151 @@
+//! The text of a reply.
+ghost use Rattle.std.specs.Prelude.{◌≡◌, ◌++◌, IfOk, OnOk};
+ghost use Rattle.std.specs.String.{string_bytes};
+ghost use Rattle.rm_report.specs.Text.{line_text, refusal_text, absent_text, unknown_text, limit_text, content_text, byte_text, reply_text};
+
+use crate::line::{Line, Reply};
+use rm_base::{Absent, Block, Limit, NoMemory, Refusal, Seq, Unknown};
+use std::alloc::{AllocError, Global};
+
+/// The text of a reply: each line in order, with a line feed at its end.
+pub fn bytes_of(alloc: Global, reply: &Reply) -> Result<Seq<u8>, NoMemory>
+    ensures { IfOk result (λ bytes. bytes ≡ reply_text reply.now) }
+{
+    let mut out = String::new(alloc);
+    for line in reply.lines.as_slice() {
+        push_line(&mut out, line)?;
+        out.push_str("\n")?;
+    }
+    Ok(Seq::from_vec(out.into_bytes()))
+}
+
+// Appends the line, without a line feed.
+fn push_line(out: &mut String, line: &Line) -> Result<(), AllocError>
+    ensures { OnOk result (string_bytes out.new ≡ string_bytes out.old ++ line_text line.now) }
+{
+    match line {
+        Line::DatabaseAt { dbid, scn } => write!(out, "database {dbid} incarnation 1 at {scn}"),
+        Line::DatafileAt { file, scn, blocks } => {
+            write!(out, "datafile {file} created at {scn} with {blocks} blocks")
+        }
+        Line::Written { scn } => write!(out, "scn {scn}"),
+        Line::UntilIs { until, inc, files } => {
+            write!(out, "until {until} of incarnation {inc}: files {files}")
+        }
+        Line::FileIs {
+            file,
+            blocks,
+            written,
+        } => write!(out, "datafile {file}: {blocks} blocks, {written} written"),
+        Line::BlockIs {
+            block,
+            version,
+            content,
+        } => {
+            write!(out, "block {block} version {version} value ")?;
+            push_content(out, content)
+        }
+        Line::Refused(refusal) => push_refusal(out, refusal),
+    }
+}
+
+// Appends the content's bytes without the zero bytes at its end, or `-` where no byte is left.
+fn push_content(out: &mut String, content: &Block) -> Result<(), AllocError>
+    ensures { OnOk result (string_bytes out.new ≡ string_bytes out.old ++ content_text content.now) }
+{
+    let bytes = content.trimmed();
+    if bytes.is_empty() {
+        return out.push_str("-");
+    }
+    for byte in bytes {
+        push_byte(out, *byte)?;
+    }
+    Ok(())
+}
+
+// Appends the byte's two digits in lower-case hexadecimal.
+fn push_byte(out: &mut String, byte: u8) -> Result<(), AllocError>
+    ensures { OnOk result (string_bytes out.new ≡ string_bytes out.old ++ byte_text byte) }
+{
+    write!(out, "{byte:02x}")
+}
+
+// Appends the line of a refusal.
+fn push_refusal(out: &mut String, refusal: &Refusal) -> Result<(), AllocError>
+    ensures { OnOk result (string_bytes out.new ≡ string_bytes out.old ++ refusal_text refusal.now) }
+{
+    match refusal {
+        Refusal::Rm01 { line } => write!(out, "RM-01: syntax at line {line}"),
+        Refusal::Rm02 => write!(out, "RM-02: no database"),
+        Refusal::Rm03 => write!(out, "RM-03: a database is there"),
+        Refusal::Rm04 { mounted: false } => write!(out, "RM-04: mode is open"),
+        Refusal::Rm04 { mounted: true } => write!(out, "RM-04: mode is mounted"),
+        Refusal::Rm05(absent) => push_absent(out, absent),
+        Refusal::Rm06 { until, low, high } => {
+            write!(out, "RM-06: until {until} is outside {low}..{high}")
+        }
+        Refusal::Rm07 { inc } => write!(out, "RM-07: no incarnation {inc}"),
+        Refusal::Rm08 {
+            file,
+            block,
+            scn,
+            inc,
+        } => write!(
+            out,
+            "RM-08: gap in datafile {file} block {block} at {scn} of incarnation {inc}"
+        ),
+        Refusal::Rm09 { file } => write!(out, "RM-09: datafile {file} is lost, restore it first"),
+        Refusal::Rm10 => write!(out, "RM-10: recovery isn't done for this opening"),
+        Refusal::Rm11(limit) => write!(out, "RM-11: limit {}", limit_text(*limit)),
+        Refusal::Rm12(unknown) => push_unknown(out, unknown),
+        Refusal::Rm13 { name } => write!(out, "RM-13: name {} is taken", name.as_str()),
+        Refusal::Rm15 => write!(out, "RM-15: last SCN"),
+    }
+}
+
+// Appends the line for a thread, a file or a block that is not there.
+fn push_absent(out: &mut String, absent: &Absent) -> Result<(), AllocError>
+    ensures { OnOk result (string_bytes out.new ≡ string_bytes out.old ++ absent_text absent.now) }
+{
+    match absent {
+        Absent::Thread(thread) => write!(out, "RM-05: no thread {thread}"),
+        Absent::File(file) => write!(out, "RM-05: no datafile {file}"),
+        Absent::Block { block, file } => write!(out, "RM-05: no block {block} in datafile {file}"),
+    }
+}
+
+// The limit's name and number.
+fn limit_text(limit: Limit) -> &'static str
+    ensures { result.now ≡ limit_text limit }
+{
+    match limit {
+        Limit::Threads => "threads 4",
+        Limit::Files => "files 64",
+        Limit::FileBlocks => "blocks per file 65536",
+        Limit::Blocks => "blocks 131072",
+        Limit::Channels => "channels 16",
+        Limit::Incarnations => "incarnations 256",
+        Limit::Records => "records 65536",
+        Limit::Bytes => "bytes 268435456",
+        Limit::ObjectIds => "object ids 4294967295",
+        Limit::Sequences => "sequences 4294967295",
+        Limit::LogRecords => "log records 65536",
+        Limit::WindowDays => "window days 36500",
+        Limit::Redundancy => "redundancy 1000",
+    }
+}
+
+// Appends the line for a record, a tag, a log, an object or a byte that is not there.
+fn push_unknown(out: &mut String, unknown: &Unknown) -> Result<(), AllocError>
+    ensures { OnOk result (string_bytes out.new ≡ string_bytes out.old ++ unknown_text unknown.now) }
+{
+    match unknown {
+        Unknown::Entry(entry) => write!(out, "RM-12: no record {entry}"),
+        Unknown::Tag(tag) => write!(out, "RM-12: no tag {}", tag.as_str()),
+        Unknown::Log { sequence, thread } => {
+            write!(out, "RM-12: no log {sequence} of thread {thread}")
+        }
+        Unknown::Object(name) => write!(out, "RM-12: no object {}", name.as_str()),
+        Unknown::Byte { at, name } => write!(out, "RM-12: no byte {at} in {}", name.as_str()),
+    }
+}
