@@ -1,0 +1,4 @@
+pub mod Ends
+pub mod Histories
+pub mod Owners
+pub mod States

@@ -1,5 +1,5 @@
 -- The histories that a database may have had: lists of changes.
-use Rattle.std.specs.Prelude.{ℕ, ◌≡◌, ◌<◌, ◌≤◌, Some, List, Contains, AllPairs}
+use Rattle.std.specs.Prelude.{◌≡◌, ◌<◌, ◌≤◌, Some, List, Contains, AllPairs}
 use Rattle.rm_base.specs.declared.block.Change.{Change}
 use Rattle.rm_history.specs.declared.world.Datafile.{Datafile}
 use Rattle.rm_history.specs.declared.world.World.{World}

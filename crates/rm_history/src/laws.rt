@@ -12,17 +12,14 @@ ghost use Rattle.rm_history.specs.State.{state, IsState};
 /// there is none.
 pub fn state_is_held()
     ensures { (w : World) (h : List Change) (i s f b : ℕ) → IsState w h i s f (state w h i s f b) }
-{
-}
+{}
 
 /// A history makes one state of a block at each address.
 pub fn state_is_one()
     ensures { (w : World) (h : List Change) (i s f : ℕ) (r : Row) → IsHistory w h → IsState w h i s f r → r ≡ state w h i s f r.block }
-{
-}
+{}
 
 /// Another end of an incarnation changes no owner.
 pub fn ends_change_no_owner()
     ensures { (tree : List Incarnation) (j end i g : ℕ) → IsThere tree j → owner (with_end tree j end) i g ≡ owner tree i g }
-{
-}
+{}

@@ -57,14 +57,7 @@ impl World {
 
     /// The state of a block at the address (i, s) by a whole history: the plain, slow way, one change
     /// after another.
-    pub fn state(
-        &self,
-        history: &[Change],
-        i: IncNo,
-        s: Scn,
-        file: FileNo,
-        block: BlockNo,
-    ) -> Row
+    pub fn state(&self, history: &[Change], i: IncNo, s: Scn, file: FileNo, block: BlockNo) -> Row
         requires there { IsThere self.now.tree i }
         requires scns { All (λ c. 0 < c.scn) history.now }
         ensures { result ≡ state self.now history.now i s file block }

@@ -4,3 +4,6 @@
 pub mod online;
 
 pub use online::{LogFault, LogRecord, OnlineLogs, ThreadLog};
+
+#[cfg(test)]
+mod tests;

@@ -112,12 +112,13 @@ impl OnlineLogs {
         if log.records.len() == MOST_RECORDS {
             return Err(LogFault::Full);
         }
-        log.records.push(LogRecord {
+        let record = LogRecord {
             scn: change.scn,
             file: change.file,
             block: change.block,
             content: change.content,
-        })?;
+        };
+        log.records.push(record)?;
         Ok(())
     }
 
