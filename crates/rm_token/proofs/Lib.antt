@@ -1,1 +1,4 @@
 pub mod Ascii
+pub mod Reading
+pub mod Digits
+pub mod ReadBack

@@ -2,8 +2,10 @@
 #![tactic(auto)]
 
 mod scan;
+mod spelling;
 mod split;
 pub mod token;
 
+pub use spelling::{are_string_bytes, is_name, text_of};
 pub use split::statements;
 pub use token::Token;

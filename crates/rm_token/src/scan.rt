@@ -13,13 +13,13 @@ fn is_separator(byte: u8) -> bool
     matches!(byte, b' ' | b'\t' | b'\r' | b'\n')
 }
 
-fn is_word_byte(byte: u8) -> bool
+pub fn is_word_byte(byte: u8) -> bool
     ensures { result ≡ is_word_byte byte }
 {
     byte.is_ascii_alphanumeric() || byte == b'_'
 }
 
-fn is_string_byte(byte: u8) -> bool
+pub fn is_string_byte(byte: u8) -> bool
     ensures { result ≡ is_string_byte byte }
 {
     (b' '..=b'~').contains(&byte) && byte != b'\''
@@ -32,7 +32,7 @@ fn is_sign(byte: u8) -> bool
 }
 
 // How many bytes at the front are of a word.
-pub fn word_len(bytes: &[u8]) -> usize
+fn word_len(bytes: &[u8]) -> usize
     ensures { result ≡ prefix_len is_word_byte bytes.now }
 {
     bytes.iter().take_while(|byte| is_word_byte(**byte)).count()
