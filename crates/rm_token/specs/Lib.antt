@@ -1,3 +1,4 @@
+pub mod Cuts
 pub mod Tokens
 pub mod Statements
 pub mod Spelling
