@@ -5,7 +5,8 @@ use Rattle.std.proofs.lemmas.Bool.{and_parts, not-true}
 use Rattle.rm_token.specs.declared.token.Token.{Token}
 use Rattle.rm_token.specs.declared.token.Token.TheVariants.{Word, Number, Quoted, Sign, Bad}
 use Rattle.rm_token.specs.Statements.{is_word}
-use Rattle.rm_grammar.specs.Grammar.{Grammar, end, semicolon, word, flag, noise, number, number_or, text, tag, optional, either, numbers, sign, many, SpellsMany, SpellsBehind, Choice, first, second, Values, Spells, SpellsMaybe, SpellsOne, SpellsMore, SpellsNumbers, SpellsFlag, SpellsNumberOr, IsName, is_string, kept_of}
+use Rattle.rm_token.specs.Spelling.{are_string_bytes}
+use Rattle.rm_grammar.specs.Grammar.{Grammar, end, semicolon, word, flag, noise, number, number_or, text, tag, optional, either, numbers, sign, many, SpellsMany, SpellsBehind, Choice, first, second, Values, Spells, SpellsMaybe, SpellsOne, SpellsMore, SpellsNumbers, SpellsFlag, SpellsNumberOr, IsName, kept_of}
 use Rattle.rm_grammar.specs.Reading.{◌>>=◌, read, word_at, number_at, text_at, name_at, tag_at, flag_at, number_or_at, more_at, numbers_at, many_at, sign_at, with_front, maybe, one_of, begins, begins_with}
 use Rattle.rm_grammar.specs.Clear.{OpensAs, firsts, unlike, apart, keyed, clear}
 use Rattle.rm_grammar.proofs.Opens.{opens, opens_many, begun, not_begun, not_with}
@@ -106,7 +107,7 @@ many_again k spells r F (x ∷ xs) (suc n) ts us u o l h go =
 
 text_again : (rd : List ℕ → Option (List ℕ)) (ts us : List Token) (w v : List ℕ) → ts ≡ Quoted w ∷ us → kept_of rd w ≡ Some v → text_at rd ts ≡ Some (v, us)
 text_again rd ts us w v e h =
-    let k = kept_parts (is_string w) (rd w) v h in
+    let k = kept_parts (are_string_bytes w) (rd w) v h in
     subst (λ z. text_at rd z ≡ Some (v, us)) (sym e) (rw k.0 (rw k.1 refl))
 
 -- what is spelled in a clear line is read, where the words of F may stand behind it

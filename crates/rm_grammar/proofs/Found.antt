@@ -6,7 +6,8 @@ use Rattle.std.specs.Prelude.{IsTrue}
 use Rattle.rm_token.specs.declared.token.Token.{Token}
 use Rattle.rm_token.specs.declared.token.Token.TheVariants.{Word, Number, Quoted, Sign, Bad}
 use Rattle.rm_token.specs.Statements.{is_word}
-use Rattle.rm_grammar.specs.Grammar.{Grammar, end, semicolon, word, flag, noise, number, number_or, text, tag, optional, either, numbers, sign, many, SpellsMany, SpellsBehind, Choice, Values, Spells, SpellsMaybe, SpellsOne, SpellsMore, SpellsNumbers, SpellsFlag, SpellsNumberOr, IsName, is_tag, is_string, capitals, kept_of}
+use Rattle.rm_token.specs.Spelling.{are_string_bytes}
+use Rattle.rm_grammar.specs.Grammar.{Grammar, end, semicolon, word, flag, noise, number, number_or, text, tag, optional, either, numbers, sign, many, SpellsMany, SpellsBehind, Choice, Values, Spells, SpellsMaybe, SpellsOne, SpellsMore, SpellsNumbers, SpellsFlag, SpellsNumberOr, IsName, is_tag, capitals, kept_of}
 use Rattle.rm_grammar.specs.Reading.{◌>>=◌, read, word_at, number_at, string_at, text_at, name_at, tag_at, flag_at, number_or_at, more_at, numbers_at, many_at, sign_at, with_front, rest_of, kept, maybe, one_of, begins, begins_with}
 
 pub bind_some : {A B : Type 0} (o : Option A) (f : A → Option B) (y : B) → (o >>= f) ≡ Some y → (x : A) × (o ≡ Some x) × (f x ≡ Some y)
@@ -65,9 +66,9 @@ kept_found : (o : Option (List ℕ)) (ts us : List Token) (v : List ℕ) → kep
 kept_found (Some w) ts us v e = let p = some_same e in (ap (λ (z : List ℕ × List Token). Some z.0) p, ap (λ (z : List ℕ × List Token). z.1) p)
 kept_found None ts us v e = absurd (cc)
 
-string_found : (ts us : List Token) (w : List ℕ) → string_at ts ≡ Some (w, us) → (ts ≡ Quoted w ∷ us) × IsTrue (is_string w)
+string_found : (ts us : List Token) (w : List ℕ) → string_at ts ≡ Some (w, us) → (ts ≡ Quoted w ∷ us) × IsTrue (are_string_bytes w)
 string_found [] us w e = absurd (cc)
-string_found (Quoted v ∷ ts) us w e = let h = pair_found (is_string v) v w ts us e in ((cc), subst (λ x. IsTrue (is_string x)) h.1 h.0)
+string_found (Quoted v ∷ ts) us w e = let h = pair_found (are_string_bytes v) v w ts us e in ((cc), subst (λ x. IsTrue (are_string_bytes x)) h.1 h.0)
 string_found (Sign c ∷ ts) us w e = absurd (cc)
 string_found (Word c ∷ ts) us w e = absurd (cc)
 string_found (Number c ∷ ts) us w e = absurd (cc)

@@ -14,7 +14,7 @@ use Rattle.rm_token.specs.declared.token.Token.TheVariants.{Word, Number, Quoted
 use Rattle.rm_token.specs.Tokens.{is_word_byte}
 use Rattle.rm_token.specs.Statements.{is_word}
 use Rattle.rm_grammar.specs.Grammar.{Grammar, end, semicolon, word, flag, noise, number, number_or, text, tag, optional, either, numbers, sign, many, Choice, first, second, Values, Spells, SpellsFlag, SpellsNumberOr, SpellsMaybe, SpellsOne, SpellsMore, SpellsNumbers, SpellsBehind, SpellsMany, IsName, is_tag, capitals, kept_of}
-use Rattle.rm_grammar.specs.Spelling.{spelled, valid, flag_spelled, number_or_spelled, maybe_spelled, one_spelled, more_spelled, numbers_spelled, many_spelled, keeps, is_shown, is_name, maybe_valid, one_valid, is_some_list}
+use Rattle.rm_grammar.specs.Spelling.{spelled, valid, flag_spelled, number_or_spelled, maybe_spelled, one_spelled, more_spelled, numbers_spelled, many_spelled, keeps, is_shown, is_capital_tag, maybe_valid, one_valid, is_some_list}
 
 -- a word is spelled as itself
 same_word : (k : List ℕ) → is_word k (Word k) ≡ true
@@ -40,7 +40,7 @@ keeps_same None v e = absurd (cc)
 same_keeps : (o : Option (List ℕ)) (v : List ℕ) → o ≡ Some v → keeps o v ≡ true
 same_keeps o v e = subst (λ x. keeps x v ≡ true) (sym e) ((bytes_eq-Decides v v).1 refl)
 
-name_spells : (w : List ℕ) → is_name w ≡ true → IsName (Quoted w) w
+name_spells : (w : List ℕ) → is_capital_tag w ≡ true → IsName (Quoted w) w
 name_spells w e = let b = and_parts (is_tag w) (bytes_eq w (capitals w)) e in (b.0, (bytes_eq-Decides w (capitals w)).0 b.1)
 
 maybe_spells : {A : Type 0} (spells : A → List Token → List Token → Type 0) (test : A → Bool) (spell : A → List Token) (v : Option A) (us : List Token)
@@ -93,7 +93,7 @@ valid_spells (text p g) vs rest e =
     let b = and_parts (is_shown p vs.0) (valid g vs.1) e in
     (p.show vs.0, spelled g vs.1 ++ rest, refl, keeps_same (kept_of p.read (p.show vs.0)) vs.0 b.0, valid_spells g vs.1 rest b.1)
 valid_spells (tag g) vs rest e =
-    let b = and_parts (is_name vs.0) (valid g vs.1) e in
+    let b = and_parts (is_capital_tag vs.0) (valid g vs.1) e in
     (Word (codes "TAG"), Quoted vs.0, spelled g vs.1 ++ rest, refl, refl, name_spells vs.0 b.0, valid_spells g vs.1 rest b.1)
 valid_spells (optional a g) vs rest e =
     let b = and_parts (maybe_valid (valid a) vs.0) (valid g vs.1) e in
@@ -132,15 +132,15 @@ capitals-capitals : (w : List ℕ) → capitals (capitals w) ≡ capitals w
 capitals-capitals [] = refl
 capitals-capitals (c ∷ cs) = rw (uppercase-uppercase c, capitals-capitals cs) refl
 
-tag_raised : (w : List ℕ) → is_tag w ≡ true → is_name (capitals w) ≡ true
+tag_raised : (w : List ℕ) → is_tag w ≡ true → is_capital_tag (capitals w) ≡ true
 tag_raised w e =
     let b = and_parts (nat_le 1 (length w) && nat_le (length w) 30) (list_all is_word_byte w) e in
     let same = (bytes_eq-Decides (capitals w) (capitals (capitals w))).1 (sym (capitals-capitals w)) in
     and_from (is_tag (capitals w)) (bytes_eq (capitals w) (capitals (capitals w))) (rw (length-map w to_ascii_uppercase) (rw b.0 (word_raised w b.1))) same
 
-spells_name : (u : Token) (w : List ℕ) → IsName u w → is_name w ≡ true
-spells_name (Word m) w h = subst (λ v. is_name v ≡ true) (sym h.1) (tag_raised m h.0)
-spells_name (Quoted m) w h = subst (λ v. is_name v ≡ true) (sym h.1) (tag_raised m h.0)
+spells_name : (u : Token) (w : List ℕ) → IsName u w → is_capital_tag w ≡ true
+spells_name (Word m) w h = subst (λ v. is_capital_tag v ≡ true) (sym h.1) (tag_raised m h.0)
+spells_name (Quoted m) w h = subst (λ v. is_capital_tag v ≡ true) (sym h.1) (tag_raised m h.0)
 spells_name (Number m) w h = absurd h
 spells_name (Sign m) w h = absurd h
 spells_name Bad w h = absurd h
@@ -182,7 +182,7 @@ spells_valid (number_or k d p g) vs ts rest h =
     and_from ((vs.0 == d) || p vs.0) (valid g vs.1) (spells_or k d vs.0 p ts h.0 h.1) (spells_valid g vs.1 h.0 rest h.2)
 spells_valid (text p g) vs ts rest h =
     and_from (is_shown p vs.0) (valid g vs.1) (same_keeps (kept_of p.read (p.show vs.0)) vs.0 (p.again h.0 vs.0 h.3)) (spells_valid g vs.1 h.1 rest h.4)
-spells_valid (tag g) vs ts rest h = and_from (is_name vs.0) (valid g vs.1) (spells_name h.1 vs.0 h.5) (spells_valid g vs.1 h.2 rest h.6)
+spells_valid (tag g) vs ts rest h = and_from (is_capital_tag vs.0) (valid g vs.1) (spells_name h.1 vs.0 h.5) (spells_valid g vs.1 h.2 rest h.6)
 spells_valid (optional a g) vs ts rest h =
     let part = spells_maybe (Spells a) (valid a) vs.0 ts h.0 (λ x s. spells_valid a x ts h.0 s) h.1 in
     and_from (maybe_valid (valid a) vs.0) (valid g vs.1) part (spells_valid g vs.1 h.0 rest h.2)

@@ -2,18 +2,15 @@
 use Rattle.std.specs.Prelude.{◌≡◌, ◌⊎◌, ℕ, List, [], ◌∷◌, Option, Some, None, codes, IsTrue, ◌==◌, ◌&&◌, not, nat_le, if◌then◌else◌, Bool, true, false, length, map}
 use Rattle.std.specs.List.{list_all}
 use Rattle.std.specs.Char.{to_ascii_uppercase}
-use Rattle.rm_token.specs.Tokens.{is_word_byte, is_string_byte}
+use Rattle.rm_token.specs.Tokens.{is_word_byte}
+use Rattle.rm_token.specs.Spelling.{are_string_bytes}
 use Rattle.rm_token.specs.declared.token.Token.{Token}
 use Rattle.rm_token.specs.declared.token.Token.TheVariants.{Word, Number, Quoted, Sign}
 use Rattle.rm_token.specs.Statements.{is_word}
 
--- a string of a script: 0 to 64 bytes from 0x20 to 0x7E without the quote
-abbrev pub is_string : List ℕ → Bool
-is_string w = nat_le (length w) 64 && list_all is_string_byte w
-
 -- what is kept of the bytes, where they are a string
 abbrev pub kept_of : (List ℕ → Option (List ℕ)) → List ℕ → Option (List ℕ)
-kept_of read w = if is_string w then read w else None
+kept_of read w = if are_string_bytes w then read w else None
 
 -- A kind of string: what is kept of one, and a string that shows what is kept. What is shown is read again as the same.
 pub record TextKind : Type 0 where

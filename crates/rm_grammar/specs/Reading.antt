@@ -3,9 +3,10 @@ use Rattle.std.specs.Prelude.{◌≡◌, ◌==◌, ◌&&◌, ◌||◌, not, ℕ,
 use Rattle.rm_token.specs.declared.token.Token.{Token}
 use Rattle.rm_token.specs.declared.token.Token.TheVariants.{Word, Number, Quoted, Sign}
 use Rattle.rm_token.specs.Statements.{is_word, is_the_sign}
+use Rattle.rm_token.specs.Spelling.{are_string_bytes}
 use Rattle.rm_grammar.specs.declared.unread.Unread.{Unread}
 use Rattle.rm_grammar.specs.declared.unread.Unread.TheVariants.{Other, NoMemory}
-use Rattle.rm_grammar.specs.Grammar.{Grammar, end, semicolon, word, flag, noise, number, number_or, text, tag, optional, either, numbers, sign, many, Choice, first, second, Values, is_tag, is_string, capitals}
+use Rattle.rm_grammar.specs.Grammar.{Grammar, end, semicolon, word, flag, noise, number, number_or, text, tag, optional, either, numbers, sign, many, Choice, first, second, Values, is_tag, capitals}
 
 infixl 10 ◌>>=◌
 -- goes on with what was read, if anything was
@@ -57,7 +58,7 @@ abbrev pub number_or_at : List ℕ → ℕ → (ℕ → Bool) → List Token →
 number_or_at k d p ts = if begins_with k ts then number_at p (rest_of ts) else Some (d, ts)
 
 abbrev pub string_at : List Token → Option (List ℕ × List Token)
-string_at (Quoted w ∷ ts) = if is_string w then Some (w, ts) else None
+string_at (Quoted w ∷ ts) = if are_string_bytes w then Some (w, ts) else None
 string_at ts = None
 
 -- this value, where there is one, and what follows

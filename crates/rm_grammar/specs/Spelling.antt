@@ -62,8 +62,8 @@ abbrev pub is_shown : TextKind → List ℕ → Bool
 is_shown kind v = keeps (kept_of kind.read (kind.show v)) v
 
 -- a tag in capitals
-abbrev pub is_name : List ℕ → Bool
-is_name w = is_tag w && bytes_eq w (capitals w)
+abbrev pub is_capital_tag : List ℕ → Bool
+is_capital_tag w = is_tag w && bytes_eq w (capitals w)
 
 abbrev pub maybe_valid : {A : Type 0} → (A → Bool) → Option A → Bool
 maybe_valid valid (Some x) = valid x
@@ -87,7 +87,7 @@ valid (noise k g) vs = valid g vs
 valid (number p g) vs = p vs.0 && valid g vs.1
 valid (number_or k d p g) vs = ((vs.0 == d) || p vs.0) && valid g vs.1
 valid (text p g) vs = is_shown p vs.0 && valid g vs.1
-valid (tag g) vs = is_name vs.0 && valid g vs.1
+valid (tag g) vs = is_capital_tag vs.0 && valid g vs.1
 valid (optional a g) vs = maybe_valid (valid a) vs.0 && valid g vs.1
 valid (either a b g) vs = one_valid (valid a) (valid b) vs.0 && valid g vs.1
 valid (numbers g) vs = is_some_list vs.0 && valid g vs.1

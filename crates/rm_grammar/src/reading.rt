@@ -1,14 +1,14 @@
 //! Reading tokens from left to right. Each function takes from the front and gives the rest.
 ghost use Rattle.std.specs.Prelude.{◌≡◌, ◌≢◌, ◌≤◌, ◌++◌, IfOk, OnOk, IfErr, IsTrue, Some, None, if◌then◌else◌, length};
 ghost use Rattle.std.specs.List.{list_all};
-ghost use Rattle.rm_token.specs.Tokens.{is_word_byte, is_string_byte};
+ghost use Rattle.rm_token.specs.Tokens.{is_word_byte};
 ghost use Rattle.rm_grammar.specs.declared.unread.Unread.TheVariants.{NoMemory as WithoutMemory};
-ghost use Rattle.rm_grammar.specs.Grammar.{any, in_range, is_string, is_tag};
+ghost use Rattle.rm_grammar.specs.Grammar.{any, in_range, is_tag};
 ghost use Rattle.rm_grammar.specs.Reading.{Gives, begins_with, word_at, sign_at, finish_at, flag_at, number_at, number_or_at, string_at, tag_of, tag_at, more_at, numbers_at};
 
 use crate::unread::Unread;
 use rm_base::{Seq, Text};
-use rm_token::Token;
+use rm_token::{Token, are_string_bytes};
 use std::alloc::Global;
 
 /// The word stands first, in any case of its letters.
@@ -137,30 +137,11 @@ pub fn string(tokens: &[Token]) -> Result<(&[u8], &[Token]), Unread>
     ensures within { IfOk result (λ x. length x.0.now ≤ 64) }
 {
     match tokens {
-        [Token::Quoted(text), rest @ ..] if is_string(text.as_bytes()) => {
+        [Token::Quoted(text), rest @ ..] if are_string_bytes(text.as_bytes()) => {
             Ok((text.as_bytes(), rest))
         }
         _ => Err(Unread::Other),
     }
-}
-
-fn is_string_byte(byte: u8) -> bool
-    ensures { result ≡ is_string_byte byte }
-{
-    (b' '..=b'~').contains(&byte) && byte != b'\''
-}
-
-fn are_string_bytes(bytes: &[u8]) -> bool
-    ensures { result ≡ list_all is_string_byte bytes.now }
-{
-    bytes.iter().all(|byte| is_string_byte(*byte))
-}
-
-/// The bytes are a string of a script.
-pub fn is_string(bytes: &[u8]) -> bool
-    ensures { result ≡ is_string bytes.now }
-{
-    bytes.len() <= 64 && are_string_bytes(bytes)
 }
 
 fn is_word_byte(byte: u8) -> bool
