@@ -4,5 +4,5 @@ pub mod Short
 pub mod Again
 pub mod Differ
 pub mod Forms
-pub mod Spelling
+pub mod Spelled
 pub mod Statements

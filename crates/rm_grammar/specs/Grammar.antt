@@ -12,11 +12,10 @@ use Rattle.rm_token.specs.Statements.{is_word}
 abbrev pub kept_of : (List ℕ → Option (List ℕ)) → List ℕ → Option (List ℕ)
 kept_of read w = if are_string_bytes w then read w else None
 
--- A kind of string: what is kept of one, and a string that shows what is kept. What is shown is read again as the same.
+-- A kind of string: what is kept of one, and a string that shows what is kept.
 pub record TextKind : Type 0 where
   pub read : List ℕ → Option (List ℕ)
   pub show : List ℕ → List ℕ
-  pub again : (w v : List ℕ) → kept_of read w ≡ Some v → kept_of read (show v) ≡ Some v
 
 -- One line of the grammar, from left to right.
 pub data Grammar : Type 0 where

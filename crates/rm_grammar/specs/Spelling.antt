@@ -1,5 +1,5 @@
 -- One spelling of what a line says: words in capitals, tags in quotes, and nothing that may be left out.
-use Rattle.std.specs.Prelude.{ℕ, List, [], ◌∷◌, ◌++◌, Option, Some, None, codes, ◌==◌, ◌&&◌, ◌||◌, not, Bool, true, false, if◌then◌else◌}
+use Rattle.std.specs.Prelude.{◌≡◌, ℕ, List, [], ◌∷◌, ◌++◌, Option, Some, None, codes, ◌==◌, ◌&&◌, ◌||◌, not, Bool, true, false, if◌then◌else◌}
 use Rattle.std.specs.List.{list_all}
 use Rattle.std.specs.Str.{bytes_eq}
 use Rattle.rm_token.specs.declared.token.Token.{Token}
@@ -93,3 +93,24 @@ valid (either a b g) vs = one_valid (valid a) (valid b) vs.0 && valid g vs.1
 valid (numbers g) vs = is_some_list vs.0 && valid g vs.1
 valid (sign c g) vs = not (c == 44) && valid g vs
 valid (many k a g) vs = list_all (valid a) vs.0 && valid g vs.1
+
+-- what is kept of a string is kept of the one that shows it
+abbrev pub IsFaithful : TextKind → Type 0
+IsFaithful kind = (w v : List ℕ) → kept_of kind.read w ≡ Some v → kept_of kind.read (kind.show v) ≡ Some v
+
+-- each kind of string in the line is faithful
+abbrev pub AreFaithful : Grammar → Type 0
+AreFaithful end = Unit {0}
+AreFaithful semicolon = Unit {0}
+AreFaithful (word k g) = AreFaithful g
+AreFaithful (flag k g) = AreFaithful g
+AreFaithful (noise k g) = AreFaithful g
+AreFaithful (number p g) = AreFaithful g
+AreFaithful (number_or k d p g) = AreFaithful g
+AreFaithful (text kind g) = IsFaithful kind × AreFaithful g
+AreFaithful (tag g) = AreFaithful g
+AreFaithful (optional a g) = AreFaithful a × AreFaithful g
+AreFaithful (either a b g) = AreFaithful a × AreFaithful b × AreFaithful g
+AreFaithful (numbers g) = AreFaithful g
+AreFaithful (sign c g) = AreFaithful g
+AreFaithful (many k a g) = AreFaithful a × AreFaithful g

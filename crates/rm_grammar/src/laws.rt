@@ -5,7 +5,7 @@ ghost use Rattle.rm_grammar.specs.Grammar.{Grammar, Values, Spells};
 ghost use Rattle.rm_grammar.specs.Reading.{read};
 ghost use Rattle.rm_grammar.specs.Clear.{clear};
 ghost use Rattle.rm_grammar.specs.Forms.{Form, IsByOne, command_in, are_apart};
-ghost use Rattle.rm_grammar.specs.Spelling.{spelled, valid};
+ghost use Rattle.rm_grammar.specs.Spelling.{spelled, valid, AreFaithful};
 
 /// What is read is spelled so.
 pub fn what_is_read_is_spelled()
@@ -37,7 +37,7 @@ pub fn what_is_valid_is_spelled()
     ensures { (g : Grammar) (vs : Values g) (rest : List TokenOf) → valid g vs ≡ true → Spells g vs (spelled g vs ++ rest) rest }
 {}
 
-/// What is spelled is valid.
+/// What is spelled is valid, where each kind of string keeps what it shows.
 pub fn what_is_spelled_is_valid()
-    ensures { (g : Grammar) (vs : Values g) (ts rest : List TokenOf) → Spells g vs ts rest → valid g vs ≡ true }
+    ensures { (g : Grammar) → AreFaithful g → (vs : Values g) (ts rest : List TokenOf) → Spells g vs ts rest → valid g vs ≡ true }
 {}

@@ -3,6 +3,8 @@
 
 pub mod laws;
 pub mod reading;
+pub mod spelling;
 pub mod unread;
 
+pub use spelling::Spelling;
 pub use unread::Unread;

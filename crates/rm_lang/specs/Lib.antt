@@ -1,1 +1,3 @@
 pub mod IsCommand
+pub mod Forms
+pub mod Language

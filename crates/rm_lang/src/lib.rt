@@ -2,5 +2,7 @@
 #![tactic(auto)]
 
 pub mod command;
+mod forms;
 
 pub use command::{Command, Until, WriteForm};
+pub use forms::command_of;

@@ -14,7 +14,7 @@ use Rattle.rm_token.specs.declared.token.Token.TheVariants.{Word, Number, Quoted
 use Rattle.rm_token.specs.Tokens.{is_word_byte}
 use Rattle.rm_token.specs.Statements.{is_word}
 use Rattle.rm_grammar.specs.Grammar.{Grammar, end, semicolon, word, flag, noise, number, number_or, text, tag, optional, either, numbers, sign, many, Choice, first, second, Values, Spells, SpellsFlag, SpellsNumberOr, SpellsMaybe, SpellsOne, SpellsMore, SpellsNumbers, SpellsBehind, SpellsMany, IsName, is_tag, capitals, kept_of}
-use Rattle.rm_grammar.specs.Spelling.{spelled, valid, flag_spelled, number_or_spelled, maybe_spelled, one_spelled, more_spelled, numbers_spelled, many_spelled, keeps, is_shown, is_capital_tag, maybe_valid, one_valid, is_some_list}
+use Rattle.rm_grammar.specs.Spelling.{spelled, valid, flag_spelled, number_or_spelled, maybe_spelled, one_spelled, more_spelled, numbers_spelled, many_spelled, keeps, is_shown, is_capital_tag, maybe_valid, one_valid, is_some_list, AreFaithful}
 
 -- a word is spelled as itself
 same_word : (k : List ℕ) → is_word k (Word k) ≡ true
@@ -171,26 +171,26 @@ spells_many k spells test (x ∷ xs) ts us go h =
     and_from (test x) (list_all test xs) (go x h.1.1 h.0 h.1.4) (spells_many k spells test xs h.0 us go h.2)
 
 -- what is spelled is valid
-pub spells_valid : (g : Grammar) (vs : Values g) (ts rest : List Token) → Spells g vs ts rest → valid g vs ≡ true
-spells_valid end vs ts rest h = refl
-spells_valid semicolon vs ts rest h = refl
-spells_valid (word k g) vs ts rest h = spells_valid g vs h.1 rest h.4
-spells_valid (flag k g) vs ts rest h = spells_valid g vs.1 h.0 rest h.2
-spells_valid (noise k g) vs ts rest h = spells_valid g vs h.1 rest h.3
-spells_valid (number p g) vs ts rest h = and_from (p vs.0) (valid g vs.1) h.2 (spells_valid g vs.1 h.0 rest h.3)
-spells_valid (number_or k d p g) vs ts rest h =
-    and_from ((vs.0 == d) || p vs.0) (valid g vs.1) (spells_or k d vs.0 p ts h.0 h.1) (spells_valid g vs.1 h.0 rest h.2)
-spells_valid (text p g) vs ts rest h =
-    and_from (is_shown p vs.0) (valid g vs.1) (same_keeps (kept_of p.read (p.show vs.0)) vs.0 (p.again h.0 vs.0 h.3)) (spells_valid g vs.1 h.1 rest h.4)
-spells_valid (tag g) vs ts rest h = and_from (is_capital_tag vs.0) (valid g vs.1) (spells_name h.1 vs.0 h.5) (spells_valid g vs.1 h.2 rest h.6)
-spells_valid (optional a g) vs ts rest h =
-    let part = spells_maybe (Spells a) (valid a) vs.0 ts h.0 (λ x s. spells_valid a x ts h.0 s) h.1 in
-    and_from (maybe_valid (valid a) vs.0) (valid g vs.1) part (spells_valid g vs.1 h.0 rest h.2)
-spells_valid (either a b g) vs ts rest h =
-    let part = spells_one (Spells a) (Spells b) (valid a) (valid b) vs.0 ts h.0 (λ x s. spells_valid a x ts h.0 s) (λ x s. spells_valid b x ts h.0 s) h.1 in
-    and_from (one_valid (valid a) (valid b) vs.0) (valid g vs.1) part (spells_valid g vs.1 h.0 rest h.2)
-spells_valid (numbers g) vs ts rest h = and_from (is_some_list vs.0) (valid g vs.1) (spells_numbers vs.0 ts h.0 h.1) (spells_valid g vs.1 h.0 rest h.2)
-spells_valid (sign c g) vs ts rest h = and_from (not (c == 44)) (valid g vs) h.2 (spells_valid g vs h.0 rest h.3)
-spells_valid (many k a g) vs ts rest h =
-    let part = spells_many k (Spells a) (valid a) vs.0 ts h.0 (λ x us ws s. spells_valid a x us ws s) h.1 in
-    and_from (list_all (valid a) vs.0) (valid g vs.1) part (spells_valid g vs.1 h.0 rest h.2)
+pub spells_valid : (g : Grammar) → AreFaithful g → (vs : Values g) (ts rest : List Token) → Spells g vs ts rest → valid g vs ≡ true
+spells_valid end f vs ts rest h = refl
+spells_valid semicolon f vs ts rest h = refl
+spells_valid (word k g) f vs ts rest h = spells_valid g f vs h.1 rest h.4
+spells_valid (flag k g) f vs ts rest h = spells_valid g f vs.1 h.0 rest h.2
+spells_valid (noise k g) f vs ts rest h = spells_valid g f vs h.1 rest h.3
+spells_valid (number p g) f vs ts rest h = and_from (p vs.0) (valid g vs.1) h.2 (spells_valid g f vs.1 h.0 rest h.3)
+spells_valid (number_or k d p g) f vs ts rest h =
+    and_from ((vs.0 == d) || p vs.0) (valid g vs.1) (spells_or k d vs.0 p ts h.0 h.1) (spells_valid g f vs.1 h.0 rest h.2)
+spells_valid (text p g) f vs ts rest h =
+    and_from (is_shown p vs.0) (valid g vs.1) (same_keeps (kept_of p.read (p.show vs.0)) vs.0 (f.0 h.0 vs.0 h.3)) (spells_valid g f.1 vs.1 h.1 rest h.4)
+spells_valid (tag g) f vs ts rest h = and_from (is_capital_tag vs.0) (valid g vs.1) (spells_name h.1 vs.0 h.5) (spells_valid g f vs.1 h.2 rest h.6)
+spells_valid (optional a g) f vs ts rest h =
+    let part = spells_maybe (Spells a) (valid a) vs.0 ts h.0 (λ x s. spells_valid a f.0 x ts h.0 s) h.1 in
+    and_from (maybe_valid (valid a) vs.0) (valid g vs.1) part (spells_valid g f.1 vs.1 h.0 rest h.2)
+spells_valid (either a b g) f vs ts rest h =
+    let part = spells_one (Spells a) (Spells b) (valid a) (valid b) vs.0 ts h.0 (λ x s. spells_valid a f.0 x ts h.0 s) (λ x s. spells_valid b f.1 x ts h.0 s) h.1 in
+    and_from (one_valid (valid a) (valid b) vs.0) (valid g vs.1) part (spells_valid g f.2 vs.1 h.0 rest h.2)
+spells_valid (numbers g) f vs ts rest h = and_from (is_some_list vs.0) (valid g vs.1) (spells_numbers vs.0 ts h.0 h.1) (spells_valid g f vs.1 h.0 rest h.2)
+spells_valid (sign c g) f vs ts rest h = and_from (not (c == 44)) (valid g vs) h.2 (spells_valid g f vs h.0 rest h.3)
+spells_valid (many k a g) f vs ts rest h =
+    let part = spells_many k (Spells a) (valid a) vs.0 ts h.0 (λ x us ws s. spells_valid a f.0 x us ws s) h.1 in
+    and_from (list_all (valid a) vs.0) (valid g vs.1) part (spells_valid g f.1 vs.1 h.0 rest h.2)
