@@ -33,11 +33,11 @@ or_spells : (k : List ℕ) (d n : ℕ) (p : ℕ → Bool) (us : List Token) (b :
 or_spells k d n p us true e h = inr (refl, eqb-true n d e)
 or_spells k d n p us false e h = inl (Word k, refl, same_word k, h)
 
-keeps_same : (o : Option (List ℕ)) (v : List ℕ) → keeps o v ≡ true → o ≡ Some v
+pub keeps_same : (o : Option (List ℕ)) (v : List ℕ) → keeps o v ≡ true → o ≡ Some v
 keeps_same (Some w) v e = ap (λ (x : List ℕ). Some x) ((bytes_eq-Decides w v).0 e)
 keeps_same None v e = absurd (cc)
 
-same_keeps : (o : Option (List ℕ)) (v : List ℕ) → o ≡ Some v → keeps o v ≡ true
+pub same_keeps : (o : Option (List ℕ)) (v : List ℕ) → o ≡ Some v → keeps o v ≡ true
 same_keeps o v e = subst (λ x. keeps x v ≡ true) (sym e) ((bytes_eq-Decides v v).1 refl)
 
 name_spells : (w : List ℕ) → is_capital_tag w ≡ true → IsName (Quoted w) w

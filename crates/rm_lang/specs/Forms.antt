@@ -1,16 +1,15 @@
 -- The lines of the grammar, and the command that each one is.
-use Rattle.std.specs.Prelude.{◌-◌, ◌^◌, ℕ, List, Option, Some, None, codes}
+use Rattle.std.specs.Prelude.{◌-◌, ◌^◌, Some, None, codes}
 use Rattle.rm_base.specs.Content.{padded, trimmed}
 use Rattle.rm_grammar.specs.Grammar.{◌▸◌, Grammar, semicolon, word, number, text, TextKind, any, in_range}
 use Rattle.rm_grammar.specs.Forms.{Form}
 use Rattle.rm_lang.specs.declared.command.Until.TheVariants.{Scn}
 use Rattle.rm_lang.specs.declared.command.Command.{Command}
 use Rattle.rm_lang.specs.declared.command.Command.TheVariants.{CreateDatabase, CreateDatafile, Write, RecoverTest}
-use Rattle.rm_lang.proofs.Contents.{content_of, shown_again}
 
 -- the content that a VALUE has, which is shown without the zero bytes at its end
 abbrev pub content : TextKind
-content = record { read = content_of; show = trimmed; again = shown_again }
+content = record { read = λ w. Some (padded w).0; show = trimmed }
 
 -- CREATE DATABASE
 abbrev pub create_database_line : Grammar

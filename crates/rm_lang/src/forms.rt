@@ -1,10 +1,10 @@
 //! The forms of statements, one function each.
 ghost use Rattle.std.specs.Prelude.{◌≡◌, IfOk, IfSome, IfNone};
 ghost use Rattle.rm_grammar.specs.Reading.{Gives};
-ghost use Rattle.rm_grammar.specs.Forms.{command_by, command_in};
+ghost use Rattle.rm_grammar.specs.Forms.{command_by};
 ghost use Rattle.rm_lang.specs.declared.command.Command.{Command as CommandOf};
 ghost use Rattle.rm_lang.specs.Forms.{create_database, create_datafile, write, recover_test};
-ghost use Rattle.rm_lang.specs.Language.{IsCommand, forms, command_at};
+ghost use Rattle.rm_lang.specs.Language.{IsCommand, command_at};
 
 use crate::command::{Command, Until, WriteForm};
 use rm_base::{Block, NoMemory};
@@ -67,9 +67,9 @@ fn recover_test(tokens: &[Token]) -> Result<Command, Unread>
 }
 
 // The command that the tokens are, by the first form that they have.
-#[tactic(auto, unfolding(crate::specs::Language::forms))]
+#[tactic(auto, unfolding(crate::specs::Language::forms, crate::specs::Language::command_at))]
 fn command(tokens: &[Token]) -> Result<Command, Unread>
-    ensures { Gives (λ x. x) result (command_in forms tokens.now) }
+    ensures { Gives (λ x. x) result (command_at tokens.now) }
 {
     match create_database(tokens) {
         Err(Unread::Other) => {}
@@ -86,6 +86,7 @@ fn command(tokens: &[Token]) -> Result<Command, Unread>
     recover_test(tokens)
 }
 
+#[tactic(auto, using(crate::proofs::Language::read))]
 /// The command that the tokens are, with their ending. None where they are no statement.
 pub fn command_of(alloc: Global, tokens: &[Token]) -> Result<Option<Command>, NoMemory>
     ensures value { IfOk result (λ o. o ≡ command_at tokens.now) }
