@@ -1,1 +1,4 @@
 pub mod IsCommand
+pub mod Forms
+pub mod Language
+pub mod Spelling

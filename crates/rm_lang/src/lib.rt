@@ -2,5 +2,10 @@
 #![tactic(auto)]
 
 pub mod command;
+mod exact;
+mod forms;
+pub mod laws;
 
 pub use command::{Command, Until, WriteForm};
+pub use exact::is_command;
+pub use forms::command_of;

@@ -1,4 +1,6 @@
 //! A token of a script.
+ghost use Rattle.std.specs.Prelude.{◌≡◌};
+
 use rm_base::Text;
 
 /// A token.
@@ -14,4 +16,28 @@ pub enum Token {
     Sign(u8),
     /// Anything else.
     Bad,
+}
+
+impl Token {
+    ghost use Rattle.rm_token.specs.Statements.{is_word, is_the_sign};
+
+    /// The token is this word, in any case.
+    pub fn is_word(&self, name: &[u8]) -> bool
+        ensures { result ≡ is_word name.now self.now }
+    {
+        match self {
+            Token::Word(word) => word.as_bytes().eq_ignore_ascii_case(name),
+            _ => false,
+        }
+    }
+
+    /// The token is this sign.
+    pub fn is_sign(&self, sign: u8) -> bool
+        ensures { result ≡ is_the_sign sign self.now }
+    {
+        match self {
+            Token::Sign(byte) => *byte == sign,
+            _ => false,
+        }
+    }
 }

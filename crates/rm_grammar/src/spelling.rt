@@ -1,0 +1,80 @@
+//! The tokens of a statement, from left to right.
+ghost use Rattle.std.specs.Prelude.{◌≡◌, ◌++◌, ◌∷◌, [], IsTrue, OnOk};
+ghost use Rattle.rm_token.specs.declared.token.Token.TheVariants.{Word, Number, Quoted, Sign};
+ghost use Rattle.rm_token.specs.Spelling.{are_string_bytes};
+
+use rm_base::{NoMemory, Seq, Text};
+use rm_token::Token;
+use std::alloc::Global;
+use std::marker::Model;
+
+/// The tokens of a statement so far.
+#[derive(Drop)]
+pub struct Spelling {
+    alloc: Global,
+    tokens: Vec<Token>,
+}
+
+impl Model for Spelling {
+    ghost use Rattle.std.specs.Prelude.{List};
+    ghost use Rattle.rm_token.specs.declared.token.Token.{Token as TokenOf};
+
+    ghost Value = { List TokenOf };
+
+    ghost view = { λ s. s.tokens.items };
+}
+
+impl Spelling {
+    /// No tokens, which take no memory.
+    pub fn new(alloc: Global) -> Self
+        ensures { result ≡ [] }
+    {
+        Spelling {
+            alloc,
+            tokens: Vec::new(alloc),
+        }
+    }
+
+    /// Adds a word.
+    pub fn word(&mut self, name: &str) -> Result<(), NoMemory>
+        ensures { OnOk result (self.new ≡ self.old ++ Word name.now ∷ []) }
+    {
+        let word = Text::from_string(String::from_str(self.alloc, name)?);
+        self.tokens.push(Token::Word(word))?;
+        Ok(())
+    }
+
+    /// Adds a number.
+    pub fn number(&mut self, n: u64) -> Result<(), NoMemory>
+        ensures { OnOk result (self.new ≡ self.old ++ Number n ∷ []) }
+    {
+        self.tokens.push(Token::Number(n))?;
+        Ok(())
+    }
+
+    /// Adds a string of these bytes.
+    pub fn string(&mut self, bytes: &[u8]) -> Result<(), NoMemory>
+        requires { IsTrue (are_string_bytes bytes.now) }
+        ensures { OnOk result (self.new ≡ self.old ++ Quoted bytes.now ∷ []) }
+    {
+        let text = Text::from_ascii(self.alloc, bytes)?;
+        self.tokens.push(Token::Quoted(text))?;
+        Ok(())
+    }
+
+    /// Adds a sign.
+    pub fn sign(&mut self, sign: u8) -> Result<(), NoMemory>
+        ensures { OnOk result (self.new ≡ self.old ++ Sign sign ∷ []) }
+    {
+        self.tokens.push(Token::Sign(sign))?;
+        Ok(())
+    }
+
+    /// The tokens.
+    pub fn into_tokens(self) -> Seq<Token>
+        ensures { result ≡ self }
+    {
+        let Spelling { tokens, .. } = self;
+        Seq::from_vec(tokens)
+    }
+}

@@ -1,0 +1,5 @@
+pub mod Ascii
+pub mod Cutting
+pub mod Digits
+pub mod ReadBack
+pub mod Reading

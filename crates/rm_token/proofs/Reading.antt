@@ -1,0 +1,48 @@
+-- How the bytes of one token are read, where others follow.
+use Rattle.std.proofs.Common.{◌≡◌, ◌<◌, ◌+◌, ◌-◌, ◌++◌, ◌==◌, ◌&&◌, ℕ, Bool, List, [], ◌∷◌, true, false, cond, length, take, Some, None, refl, ap, arith, ◌∙◌, sym, append_assoc, add-one, zero, suc, not, subst}
+use Rattle.std.specs.List.{list_all, prefix_len}
+use Rattle.std.proofs.lemmas.Bool.{and_from, and_parts}
+use Rattle.std.proofs.lemmas.Bool.Decides.{nat_tests}
+use Rattle.rm_token.specs.declared.token.Token.{Token}
+use Rattle.rm_token.specs.declared.scan.Piece.{Piece}
+use Rattle.rm_token.specs.Tokens.{stays_in_line, line_after, piece, tokens_from, feeds, placed}
+
+-- what passes a narrower test passes a wider one
+pub list_all-wider : (p q : ℕ → Bool) → ((c : ℕ) → p c ≡ true → q c ≡ true) → (cs : List ℕ) → list_all p cs ≡ true → list_all q cs ≡ true
+list_all-wider p q f [] h = refl
+list_all-wider p q f (c ∷ cs) h =
+    let parts = and_parts (p c) (list_all p cs) h in
+    and_from (q c) (list_all q cs) (f c parts.0) (list_all-wider p q f cs parts.1)
+
+-- the front that passes a test is all of the bytes before the first one that does not
+pub prefix_len-whole : (p : ℕ → Bool) (cs : List ℕ) (d : ℕ) (ds : List ℕ) → list_all p cs ≡ true → p d ≡ false → prefix_len p (cs ++ d ∷ ds) ≡ length cs
+prefix_len-whole p [] d ds h stop = rw stop refl
+prefix_len-whole p (c ∷ cs) d ds h stop =
+    let parts = and_parts (p c) (list_all p cs) h in
+    rw (parts.0, prefix_len-whole p cs d ds parts.1 stop) (omega arith)
+
+line_after-same : (line c : ℕ) → stays_in_line c ≡ true → line_after line c ≡ line
+line_after-same line c h = grind (arith, nat_tests)
+
+-- bytes that belong to a piece that began before are passed
+pub tokens_from-skip : (line : ℕ) (cs ds : List ℕ) → list_all stays_in_line cs ≡ true → tokens_from line (length cs) (cs ++ ds) ≡ tokens_from line 0 ds
+tokens_from-skip line [] ds h = refl
+tokens_from-skip line (c ∷ cs) ds h =
+    let parts = and_parts (stays_in_line c) (list_all stays_in_line cs) h in
+    ap (λ l. tokens_from l (length cs) (cs ++ ds)) (line_after-same line c parts.0) ∙ tokens_from-skip line cs ds parts.1
+
+-- a token at the front, and then what the bytes behind it hold
+pub tokens_from-piece : (line c : ℕ) (cs ds : List ℕ) (t : Token) → piece c (cs ++ ds) ≡ record { size = 1 + length cs; token = Some t } → list_all stays_in_line (c ∷ cs) ≡ true → tokens_from line 0 (c ∷ (cs ++ ds)) ≡ (line, t) ∷ tokens_from line 0 ds
+tokens_from-piece line c cs ds t is h =
+    let parts = and_parts (stays_in_line c) (list_all stays_in_line cs) h in
+    let size : (1 + length cs) - 1 ≡ length cs = omega arith in
+    let rest : Piece → Type 0 = λ p. placed line p.token ++ tokens_from (line_after line c) (p.size - 1) (cs ++ ds) ≡ (line, t) ∷ tokens_from line 0 ds in
+    subst rest (sym is) (rw (size, line_after-same line c parts.0, tokens_from-skip line cs ds parts.1) refl)
+
+-- bytes without a line feed add none
+pub feeds-append : (cs ds : List ℕ) → list_all stays_in_line cs ≡ true → feeds (cs ++ ds) ≡ feeds ds
+feeds-append [] ds h = refl
+feeds-append (c ∷ cs) ds h =
+    let parts = and_parts (stays_in_line c) (list_all stays_in_line cs) h in
+    let other : (c == 10) ≡ false = grind (arith, nat_tests) in
+    rw (other, feeds-append cs ds parts.1) refl

@@ -1,0 +1,5 @@
+pub mod Cuts
+pub mod Tokens
+pub mod Statements
+pub mod Spelling
+pub mod Splitter

@@ -1,0 +1,11 @@
+//! The tokens and the statements of a script.
+#![tactic(auto)]
+
+mod scan;
+mod spelling;
+mod split;
+pub mod token;
+
+pub use spelling::{are_string_bytes, is_name, text_of};
+pub use split::statements;
+pub use token::Token;

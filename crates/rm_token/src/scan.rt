@@ -1,0 +1,165 @@
+//! One piece of a script: a separator, a comment or a token.
+ghost use Rattle.std.specs.Prelude.{◌≡◌, ◌≤◌, ◌∷◌, IfOk, length, take};
+ghost use Rattle.std.specs.List.{prefix_len};
+ghost use Rattle.rm_token.specs.Tokens.{is_separator, is_word_byte, is_string_byte, is_sign, stays_in_line, number_after, number_token, string_piece, piece};
+
+use crate::token::Token;
+use rm_base::{NoMemory, Text};
+use std::alloc::Global;
+
+fn is_separator(byte: u8) -> bool
+    ensures { result ≡ is_separator byte }
+{
+    matches!(byte, b' ' | b'\t' | b'\r' | b'\n')
+}
+
+pub fn is_word_byte(byte: u8) -> bool
+    ensures { result ≡ is_word_byte byte }
+{
+    byte.is_ascii_alphanumeric() || byte == b'_'
+}
+
+pub fn is_string_byte(byte: u8) -> bool
+    ensures { result ≡ is_string_byte byte }
+{
+    (b' '..=b'~').contains(&byte) && byte != b'\''
+}
+
+fn is_sign(byte: u8) -> bool
+    ensures { result ≡ is_sign byte }
+{
+    matches!(byte, b';' | b',' | b'{' | b'}')
+}
+
+// How many bytes at the front are of a word.
+fn word_len(bytes: &[u8]) -> usize
+    ensures { result ≡ prefix_len is_word_byte bytes.now }
+{
+    bytes.iter().take_while(|byte| is_word_byte(**byte)).count()
+}
+
+// How many bytes at the front may stand in a string.
+fn string_len(bytes: &[u8]) -> usize
+    ensures { result ≡ prefix_len is_string_byte bytes.now }
+{
+    bytes
+        .iter()
+        .take_while(|byte| is_string_byte(**byte))
+        .count()
+}
+
+// How many bytes are before the end of the line.
+fn line_len(bytes: &[u8]) -> usize
+    ensures len { result ≡ prefix_len stays_in_line bytes.now }
+    ensures within { result ≤ length bytes.now }
+{
+    bytes.iter().take_while(|byte| **byte != b'\n').count()
+}
+
+// The number that the digits spell.
+fn number_of(word: &[u8]) -> Option<u64>
+    ensures { result ≡ number_after 0 word.now }
+{
+    let mut value = 0u64;
+    for digit in word {
+        if !digit.is_ascii_digit() {
+            return None;
+        }
+        value = value
+            .checked_mul(10)?
+            .checked_add(u64::from(*digit - b'0'))?;
+    }
+    Some(value)
+}
+
+// The token that begins with a digit.
+fn number_token(word: &[u8]) -> Token
+    ensures { result ≡ number_token word.now }
+{
+    if word.len() > 20 {
+        return Token::Bad;
+    }
+    match number_of(word) {
+        Some(value) => Token::Number(value),
+        None => Token::Bad,
+    }
+}
+
+// What stands at the front of the bytes: how many bytes it takes, and the token that it is, if it is one.
+#[derive(Drop, Debug)]
+pub struct Piece {
+    pub size: usize,
+    pub token: Option<Token>,
+}
+
+// The bytes behind a quote.
+fn string_piece(alloc: Global, rest: &[u8]) -> Result<Piece, NoMemory>
+    ensures { IfOk result (λ p. p ≡ string_piece rest.now) }
+{
+    let len = string_len(rest);
+    if len <= 64 && len < rest.len() && rest[len] == b'\'' {
+        let text = Text::from_ascii(alloc, &rest[..len])?;
+        return Ok(Piece {
+            size: len + 2,
+            token: Some(Token::Quoted(text)),
+        });
+    }
+    Ok(Piece {
+        size: 1 + line_len(rest),
+        token: Some(Token::Bad),
+    })
+}
+
+// The letters, digits and underscores from the first byte on.
+fn word_of(alloc: Global, first: u8, rest: &[u8]) -> Result<Vec<u8>, NoMemory>
+    ensures { IfOk result (λ w. w.items ≡ first ∷ take (prefix_len is_word_byte rest.now) rest.now) }
+{
+    let mut word = Vec::new(alloc);
+    word.push(first)?;
+    word.extend_from_slice(&rest[..word_len(rest)])?;
+    Ok(word)
+}
+
+// The piece that begins with a byte.
+pub fn front_piece(alloc: Global, first: u8, rest: &[u8]) -> Result<Piece, NoMemory>
+    ensures { IfOk result (λ p. p ≡ piece first rest.now) }
+{
+    if is_separator(first) {
+        return Ok(Piece {
+            size: 1,
+            token: None,
+        });
+    }
+    if first == b'#' {
+        return Ok(Piece {
+            size: 1 + line_len(rest),
+            token: None,
+        });
+    }
+    if first.is_ascii_alphabetic() {
+        let word = word_of(alloc, first, rest)?;
+        return Ok(Piece {
+            size: word.len(),
+            token: Some(Token::Word(Text::from_ascii(alloc, &word)?)),
+        });
+    }
+    if first.is_ascii_digit() {
+        let word = word_of(alloc, first, rest)?;
+        return Ok(Piece {
+            size: word.len(),
+            token: Some(number_token(&word)),
+        });
+    }
+    if first == b'\'' {
+        return string_piece(alloc, rest);
+    }
+    let token = if is_sign(first) {
+        Token::Sign(first)
+    } else {
+        Token::Bad
+    };
+    Ok(Piece {
+        size: 1,
+        token: Some(token),
+    })
+}
