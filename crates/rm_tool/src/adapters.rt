@@ -1,0 +1,89 @@
+//! A reader as a source, and a writer as a sink. Contracts see nothing of their bytes.
+ghost use Rattle.std.specs.Prelude.{◌≡◌, false};
+
+use rm_base::{Failed, Sink, Source};
+use std::io::{Read, Write};
+
+/// A reader as a source. Each error of the reader is a fault, an interrupted call too.
+#[derive(Drop)]
+pub struct ReadSource<R> {
+    reader: R,
+    pub taken: u64,
+    pub at_end: bool,
+    pub faults: u64,
+}
+
+impl<R> ReadSource<R> {
+    /// A source of which nothing was taken.
+    pub fn new(reader: R) -> Self
+        ensures taken { result.taken ≡ 0 }
+        ensures at_end { result.at_end ≡ false }
+        ensures faults { result.faults ≡ 0 }
+    {
+        ReadSource {
+            reader,
+            taken: 0,
+            at_end: false,
+            faults: 0,
+        }
+    }
+}
+
+impl<R: Read + Drop> Source for ReadSource<R> {
+    ghost use Rattle.std.specs.Prelude.{None};
+
+    ghost left = { λ _. None };
+
+    ghost taken = { λ s. s.taken };
+
+    ghost at_end = { λ s. s.at_end };
+
+    ghost faults = { λ s. s.faults };
+
+    fn read(&mut self, buf: &mut [u8]) -> Result<usize, Failed> {
+        let Ok(n) = self.reader.read(buf) else {
+            self.faults = self.faults.saturating_add(1);
+            return Err(Failed);
+        };
+        self.taken = self.taken.saturating_add(n as u64);
+        if !buf.is_empty() {
+            self.at_end = n == 0;
+        }
+        Ok(n)
+    }
+}
+
+/// A writer as a sink. Each error of the writer is a fault, and so is a write that takes none of
+/// the bytes.
+#[derive(Drop)]
+pub struct WriteSink<W> {
+    writer: W,
+    pub faults: u64,
+}
+
+impl<W> WriteSink<W> {
+    /// A sink that has not failed.
+    pub fn new(writer: W) -> Self
+        ensures { result.faults ≡ 0 }
+    {
+        WriteSink { writer, faults: 0 }
+    }
+}
+
+impl<W: Write + Drop> Sink for WriteSink<W> {
+    ghost use Rattle.std.specs.Prelude.{None};
+
+    ghost contents = { λ _. None };
+
+    ghost faults = { λ s. s.faults };
+
+    fn write(&mut self, bytes: &[u8]) -> Result<usize, Failed> {
+        match self.writer.write(bytes) {
+            Ok(n) if n > 0 || bytes.is_empty() => Ok(n),
+            _ => {
+                self.faults = self.faults.saturating_add(1);
+                Err(Failed)
+            }
+        }
+    }
+}

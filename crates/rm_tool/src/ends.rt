@@ -1,0 +1,86 @@
+//! All that a source gives, and all bytes to a sink.
+ghost use Rattle.std.specs.Prelude.{◌≡◌, ◌+◌, ◌≤◌, length, true, IfOk, IfSome, OnOk, OnErr, IsErrOf};
+ghost use Rattle.rm_base.specs.Outside.{Appends, HasTaken, Rose};
+ghost use Rattle.rm_tool.specs.Ends.{Counted, TakesMany, WritesFront};
+
+use rm_base::{Failed, Sink, Source};
+use std::alloc::{AllocError, Global};
+
+/// The most bytes of a script.
+pub const MOST_BYTES: usize = 4_194_304;
+
+/// Why a script was not read.
+#[derive(Clone, Copy, Debug, PartialEq, Eq)]
+pub enum ReadFault {
+    /// The source failed.
+    Failed,
+    /// More than [`MOST_BYTES`] bytes were taken.
+    TooLong,
+    NoMemory,
+}
+
+impl From<AllocError> for ReadFault {
+    ghost use Rattle.rm_tool.specs.declared.ends.ReadFault.TheVariants.{NoMemory as WithoutMemory};
+
+    ghost from_gives = { λ _ e. e ≡ WithoutMemory };
+
+    fn from(_: AllocError) -> Self {
+        ReadFault::NoMemory
+    }
+}
+
+impl From<Failed> for ReadFault {
+    ghost use Rattle.rm_tool.specs.declared.ends.ReadFault.TheVariants.{Failed as OfSource};
+
+    ghost from_gives = { λ _ e. e ≡ OfSource };
+
+    fn from(_: Failed) -> Self {
+        ReadFault::Failed
+    }
+}
+
+/// Reads to the end of the source, in pieces of at most 512 bytes. It stops at the first failure,
+/// and where more than [`MOST_BYTES`] bytes were taken. After want of memory nothing is known but
+/// that the source's faults did not fall.
+pub fn read_all<S: Source>(alloc: Global, source: &mut S) -> Result<Vec<u8>, ReadFault>
+    ensures taken { IfOk result (λ script. HasTaken (S.left source.old) (S.left source.new) script.items) }
+    ensures whole { IfOk result (λ script. IfSome (S.left source.old) (λ left. left ≡ script.items)) }
+    ensures end { OnOk result (S.at_end source.new ≡ true) }
+    ensures within { IfOk result (λ script. length script.items ≤ 4194304) }
+    ensures counted { IfOk result (λ script. Counted (S.taken source.old) → S.taken source.new ≡ S.taken source.old + length script.items) }
+
+    ensures failed { IsErrOf result ReadFault.Failed → Rose (S.faults source.old) (S.faults source.new) }
+    ensures failed_early { IsErrOf result ReadFault.Failed → Counted (S.taken source.old) → S.taken source.new ≤ S.taken source.old + 4194304 }
+    ensures long { IsErrOf result ReadFault.TooLong → Counted (S.taken source.old) → TakesMany (S.taken source.old) (S.taken source.new) }
+    ensures never_falls { S.faults source.old ≤ S.faults source.new }
+{
+    let mut script = Vec::new(alloc);
+    let mut piece = [0u8; 512];
+    'reading: while script.len() <= MOST_BYTES {
+        let n = source.read(&mut piece)?;
+        if n == 0 {
+            return Ok(script);
+        }
+        script.extend_from_slice(&piece[..n])?;
+    }
+    Err(ReadFault::TooLong)
+}
+
+/// Writes all bytes, in order. It stops at the first failure, and where a write takes none of them;
+/// then some of the first bytes were written.
+pub fn write_all<K: Sink>(sink: &mut K, bytes: &[u8]) -> Result<(), Failed>
+    ensures ok { OnOk result (Appends (K.contents sink.old) (K.contents sink.new) bytes.now) }
+    ensures failed { OnErr result (Rose (K.faults sink.old) (K.faults sink.new)) }
+    ensures prefix { OnErr result (WritesFront (K.contents sink.old) (K.contents sink.new) bytes.now) }
+    ensures never_falls { K.faults sink.old ≤ K.faults sink.new }
+{
+    let mut at = 0;
+    while at < bytes.len() {
+        let n = sink.write(&bytes[at..])?;
+        if n == 0 {
+            return Err(Failed);
+        }
+        at += n;
+    }
+    Ok(())
+}
