@@ -1,0 +1,5 @@
+pub mod Kept
+pub mod Made
+pub mod Rows
+pub mod Sound
+pub mod Told

@@ -1,0 +1,64 @@
+//! CREATE DATAFILE BLOCKS n
+ghost use Rattle.std.specs.Prelude.{◌≡◌, ◌≤◌, IfOk, IfNone, OnOk, None};
+ghost use Rattle.rm_lang.specs.declared.command.Command.TheVariants.{CreateDatafile};
+ghost use Rattle.rm_site.specs.CreateDatafile.{datafile_refusal, with_datafile};
+ghost use Rattle.rm_site.specs.Step.{Steps};
+
+use crate::database::{Database, raise_end};
+use crate::site::{Stop, refusal_reply, reply_of};
+use rm_base::{FileNo, LAST_SCN, Limit, NoMemory, Refusal};
+use rm_history::Datafile;
+use rm_report::{Line, Reply};
+use std::alloc::Global;
+
+impl Database {
+    // Why CREATE DATAFILE is refused.
+    fn datafile_refusal(&self, blocks: u64) -> Option<Refusal>
+        ensures value { result ≡ datafile_refusal self.now blocks }
+        ensures fits { IfNone result (blocks ≤ 65536) }
+    {
+        if self.files() >= 64 {
+            Some(Refusal::Rm11(Limit::Files))
+        } else if blocks > 65_536 {
+            Some(Refusal::Rm11(Limit::FileBlocks))
+        } else if self.blocks() + blocks > 131_072 {
+            Some(Refusal::Rm11(Limit::Blocks))
+        } else if self.now() >= LAST_SCN {
+            Some(Refusal::Rm15)
+        } else {
+            None
+        }
+    }
+
+    // Adds a datafile.
+    fn add_datafile(&mut self, blocks: u32) -> Result<(), NoMemory>
+        requires { datafile_refusal self.old blocks ≡ None }
+        ensures { OnOk result (self.new ≡ with_datafile self.old blocks) }
+    {
+        let creation = self.now();
+        self.world.files.push(Datafile {
+            inc: self.current,
+            creation,
+            blocks,
+        })?;
+        raise_end(&mut self.world.tree, self.current, creation + 1);
+        Ok(())
+    }
+}
+
+/// CREATE DATAFILE.
+pub fn create_datafile(alloc: Global, database: &mut Database, blocks: u64) -> Result<Reply, Stop>
+    ensures { IfOk result (Steps (Some database.old) (Some database.new) (CreateDatafile blocks)) }
+{
+    if let Some(refusal) = database.datafile_refusal(blocks) {
+        return refusal_reply(alloc, refusal);
+    }
+    let line = Line::DatafileAt {
+        file: database.files() as FileNo + 1,
+        scn: database.now(),
+        blocks: blocks as u32,
+    };
+    let reply = reply_of(alloc, line)?;
+    database.add_datafile(blocks as u32)?;
+    Ok(reply)
+}

@@ -1,0 +1,120 @@
+//! The live site, and its steps.
+ghost use Rattle.std.specs.Prelude.{◌≡◌, ◌∷◌, [], IfOk, IsTrue, None};
+ghost use Rattle.rm_lang.specs.IsCommand.{is_command};
+ghost use Rattle.rm_lang.specs.declared.command.Command.TheVariants.{CreateDatabase};
+ghost use Rattle.rm_report.specs.Reply.{said, refused_by};
+ghost use Rattle.rm_site.specs.Step.{Steps};
+
+use crate::create_database::create_refusal;
+use crate::create_datafile::create_datafile;
+use crate::database::Database;
+use crate::recover_test::recover_test;
+use crate::write::write;
+use rm_base::{NoMemory, Refusal, Scn, Seq};
+use rm_lang::{Command, Until};
+use rm_report::{Line, Reply};
+use std::alloc::Global;
+use std::marker::Model;
+
+/// Why a statement was stopped.
+#[derive(Clone, Copy, Debug, PartialEq, Eq)]
+pub enum Stop {
+    NoMemory,
+}
+
+impl From<NoMemory> for Stop {
+    fn from(_: NoMemory) -> Self {
+        Stop::NoMemory
+    }
+}
+
+/// The live site: a database, or none.
+#[derive(Drop)]
+pub struct Site {
+    alloc: Global,
+    database: Option<Database>,
+}
+
+impl Model for Site {
+    ghost use Rattle.std.specs.Prelude.{Option};
+    ghost use Rattle.rm_site.specs.Parts.{Parts};
+
+    ghost Value = { Option Parts };
+
+    ghost view = { λ s. s.database };
+}
+
+/// A reply of one line.
+pub(crate) fn reply_of(alloc: Global, line: Line) -> Result<Reply, Stop>
+    ensures { IfOk result (λ reply. reply ≡ said (line ∷ [])) }
+{
+    let mut lines = Seq::new(alloc);
+    lines.push(line)?;
+    Ok(Reply {
+        lines,
+        refused: false,
+    })
+}
+
+/// The reply of a refusal.
+pub fn refusal_reply(alloc: Global, refusal: Refusal) -> Result<Reply, Stop>
+    ensures { IfOk result (λ reply. reply ≡ refused_by refusal) }
+{
+    let mut lines = Seq::new(alloc);
+    lines.push(Line::Refused(refusal))?;
+    Ok(Reply {
+        lines,
+        refused: true,
+    })
+}
+
+impl Site {
+    /// A site without a database. It takes no memory.
+    pub fn new(alloc: Global) -> Site
+        ensures { result ≡ None }
+    {
+        Site {
+            alloc,
+            database: None,
+        }
+    }
+
+    // CREATE DATABASE, where there is none.
+    fn create_database(&mut self, dbid: u32, threads: u64, scn: Scn) -> Result<Reply, Stop>
+        requires there { self.old ≡ None }
+        requires command { IsTrue (is_command (CreateDatabase dbid threads scn)) }
+        ensures { IfOk result (Steps self.old self.new (CreateDatabase dbid threads scn)) }
+    {
+        if let Some(refusal) = create_refusal(threads) {
+            return refusal_reply(self.alloc, refusal);
+        }
+        let reply = reply_of(self.alloc, Line::DatabaseAt { dbid, scn })?;
+        self.database = Some(Database::new(self.alloc, dbid, scn)?);
+        Ok(reply)
+    }
+
+    /// One step of the machine. A refusal is a reply too. After a stop nothing is said of the site.
+    pub fn step(&mut self, command: &Command) -> Result<Reply, Stop>
+        requires command { IsTrue (is_command command.now) }
+        ensures step { IfOk result (Steps self.old self.new command.now) }
+    {
+        let Some(database) = &mut self.database else {
+            return match command {
+                Command::CreateDatabase { dbid, threads, scn } => {
+                    self.create_database(*dbid, *threads, *scn)
+                }
+                _ => refusal_reply(self.alloc, Refusal::Rm02),
+            };
+        };
+        match command {
+            Command::CreateDatabase { .. } => refusal_reply(self.alloc, Refusal::Rm03),
+            Command::CreateDatafile { blocks } => create_datafile(self.alloc, database, *blocks),
+            Command::Write(form) => write(self.alloc, database, form),
+            Command::RecoverTest {
+                until: Some(Until::Scn(until)),
+                inc: None,
+            } => recover_test(self.alloc, database, *until),
+            Command::RecoverTest { .. } => unreachable!(),
+        }
+    }
+}
