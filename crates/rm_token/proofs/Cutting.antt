@@ -22,13 +22,14 @@ ends_at-Ends : (before : List Token) (t : Token) → ends_at before (open_braces
 ends_at-Ends before t h =
     let depth : ℕ = open_braces before in
     elim (or_cases ((depth == 0) && is_the_sign 59 t) ((begins_run before && (depth == 1)) && is_the_sign 125 t) h) [
-      inl e ↦
-        let parts = and_parts (depth == 0) (is_the_sign 59 t) e in
-        inl (eqb-true depth 0 parts.0, sign-same 59 t parts.1)
-    | inr e ↦
-        let parts = and_parts (begins_run before && (depth == 1)) (is_the_sign 125 t) e in
-        let run = and_parts (begins_run before) (depth == 1) parts.0 in
-        inr (run.0, eqb-true depth 1 run.1, sign-same 125 t parts.1) ]
+      | inl e ↦
+          let parts = and_parts (depth == 0) (is_the_sign 59 t) e in
+          inl (eqb-true depth 0 parts.0, sign-same 59 t parts.1)
+      | inr e ↦
+          let parts = and_parts (begins_run before && (depth == 1)) (is_the_sign 125 t) e in
+          let run = and_parts (begins_run before) (depth == 1) parts.0 in
+          inr (run.0, eqb-true depth 1 run.1, sign-same 125 t parts.1)
+    ]
 
 Ends-ends_at : (before : List Token) (t : Token) → Ends before t → ends_at before (open_braces before) t ≡ true
 Ends-ends_at before t (inl e) = rw (e.0, e.1) refl
@@ -42,10 +43,11 @@ open_braces-push ts t = fold-append depth_after 0 ts (t ∷ [])
 
 HasNoEnding-push : (ts : List Token) (t : Token) → HasNoEnding ts → ¬ Ends ts t → HasNoEnding (ts ++ t ∷ [])
 HasNoEnding-push ts t none other k d h = elim (cases_lt k (length ts)) [
-      inl lt ↦ rw (take-append-le k ts (t ∷ []) (omega arith), get_or_append_left ts (t ∷ []) d k lt) (none k d lt)
-    | inr ge ↦
-        let last : k ≡ length ts = omega (arith, length-append ts (t ∷ [])) in
-        rw (last, take-append_seam ts (t ∷ []), get_or-append_seam ts t [] d) other ]
+  | inl lt ↦ rw (take-append-le k ts (t ∷ []) (omega arith), get_or_append_left ts (t ∷ []) d k lt) (none k d lt)
+  | inr ge ↦
+      let last : k ≡ length ts = omega (arith, length-append ts (t ∷ [])) in
+      rw (last, take-append_seam ts (t ∷ []), get_or-append_seam ts t [] d) other
+]
 
 first-other : (t : Token) → is_the_sign 59 t ≡ false → HasNoEnding (t ∷ [])
 first-other t h k d lt =
@@ -95,7 +97,7 @@ next_begun q ps r p qs h = by_cases (ends_at front (open_braces front) q.1) refl
     goes other =
         let none : HasNoEnding (without_lines (p ∷ (qs ++ q ∷ []))) = subst (λ (ts : List Token). HasNoEnding (p.1 ∷ ts)) (sym longer) (HasNoEnding-push front q.1 h other) in
         subst (λ (xs : List (ℕ × Token)). Goes xs (without_lines qs ++ q.1 ∷ [])) (append_assoc qs (q ∷ []) ps)
-            (subst (λ (ts : List Token). Goes ((qs ++ q ∷ []) ++ ps) ts) longer (r.begun p (qs ++ q ∷ []) none))
+        (subst (λ (ts : List Token). Goes ((qs ++ q ∷ []) ++ ps) ts) longer (r.begun p (qs ++ q ∷ []) none))
 
     by_cases : (b : Bool) → ends_at front (open_braces front) q.1 ≡ b → Cuts ((p ∷ qs) ++ q ∷ ps) (cut (record { front = front; line = p.0; depth = open_braces front }) (q ∷ ps))
     by_cases true e = rw (some, e) (ended p qs q ps _ h (ends_at-Ends front q.1 e) (r.fresh p.0))

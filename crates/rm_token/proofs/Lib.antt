@@ -3,3 +3,4 @@ pub mod Cutting
 pub mod Digits
 pub mod ReadBack
 pub mod Reading
+pub mod Spelled

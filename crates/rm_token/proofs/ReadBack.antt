@@ -47,10 +47,10 @@ piece-sign c ds h =
     let other = sign-other c h in
     rw (other.0, other.1, other.2, other.3, other.4, h) refl
 
-word-stays : (c : ℕ) → is_word_byte c ≡ true → stays_in_line c ≡ true
+pub word-stays : (c : ℕ) → is_word_byte c ≡ true → stays_in_line c ≡ true
 word-stays c h = grind (arith, nat_tests)
 
-string-stays : (c : ℕ) → is_string_byte c ≡ true → stays_in_line c ≡ true
+pub string-stays : (c : ℕ) → is_string_byte c ≡ true → stays_in_line c ≡ true
 string-stays c h = grind (arith, nat_tests)
 
 digit-word : (c : ℕ) → is_ascii_digit c ≡ true → is_word_byte c ≡ true

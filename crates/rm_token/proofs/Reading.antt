@@ -1,10 +1,11 @@
 -- How the bytes of one token are read, where others follow.
-use Rattle.std.proofs.Common.{◌≡◌, ◌<◌, ◌+◌, ◌-◌, ◌++◌, ◌==◌, ◌&&◌, ℕ, Bool, List, [], ◌∷◌, true, false, cond, length, take, Some, None, refl, ap, arith, ◌∙◌, sym, append_assoc, add-one, zero, suc, not, subst}
+use Rattle.std.proofs.Common.{◌≡◌, ◌<◌, ◌+◌, ◌-◌, ◌++◌, ◌==◌, ◌&&◌, ℕ, Bool, List, [], ◌∷◌, true, false, cond, length, take, drop, Some, None, refl, ap, arith, ◌∙◌, sym, append_assoc, add-one, zero, suc, not, subst}
 use Rattle.std.specs.List.{list_all, prefix_len}
 use Rattle.std.proofs.lemmas.Bool.{and_from, and_parts}
 use Rattle.std.proofs.lemmas.Bool.Decides.{nat_tests}
 use Rattle.rm_token.specs.declared.token.Token.{Token}
 use Rattle.rm_token.specs.declared.scan.Piece.{Piece}
+use Rattle.rm_token.specs.Pieces.{NoneInFront}
 use Rattle.rm_token.specs.Tokens.{stays_in_line, line_after, piece, tokens_from, feeds, placed}
 
 -- what passes a narrower test passes a wider one
@@ -21,7 +22,7 @@ prefix_len-whole p (c ∷ cs) d ds h stop =
     let parts = and_parts (p c) (list_all p cs) h in
     rw (parts.0, prefix_len-whole p cs d ds parts.1 stop) (omega arith)
 
-line_after-same : (line c : ℕ) → stays_in_line c ≡ true → line_after line c ≡ line
+pub line_after-same : (line c : ℕ) → stays_in_line c ≡ true → line_after line c ≡ line
 line_after-same line c h = grind (arith, nat_tests)
 
 -- bytes that belong to a piece that began before are passed
@@ -38,6 +39,21 @@ tokens_from-piece line c cs ds t is h =
     let size : (1 + length cs) - 1 ≡ length cs = omega arith in
     let rest : Piece → Type 0 = λ p. placed line p.token ++ tokens_from (line_after line c) (p.size - 1) (cs ++ ds) ≡ (line, t) ∷ tokens_from line 0 ds in
     subst rest (sym is) (rw (size, line_after-same line c parts.0, tokens_from-skip line cs ds parts.1) refl)
+
+-- the bytes at the front that pass a test, and what stands behind them
+pub record IsFront (p : ℕ → Bool) (cs : List ℕ) : Type 0 where
+  pub passes : list_all p (take (prefix_len p cs) cs) ≡ true
+  pub stops : NoneInFront p (drop (prefix_len p cs) cs)
+
+front-more : (p : ℕ → Bool) (c : ℕ) (cs : List ℕ) → IsFront p cs → (b : Bool) → p c ≡ b → IsFront p (c ∷ cs)
+front-more p c cs front true e =
+    let one : 1 + prefix_len p cs ≡ suc (prefix_len p cs) = omega arith in
+    record { passes = rw (e, one, e) front.passes; stops = rw (e, one) front.stops }
+front-more p c cs front false e = record { passes = rw e refl; stops = rw (e, e) refl }
+
+pub front-at : (p : ℕ → Bool) (cs : List ℕ) → IsFront p cs
+front-at p [] = record { passes = refl; stops = tt }
+front-at p (c ∷ cs) = front-more p c cs (front-at p cs) (p c) refl
 
 -- bytes without a line feed add none
 pub feeds-append : (cs ds : List ℕ) → list_all stays_in_line cs ≡ true → feeds (cs ++ ds) ≡ feeds ds

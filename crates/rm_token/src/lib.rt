@@ -1,6 +1,7 @@
 //! The tokens and the statements of a script.
 #![tactic(auto)]
 
+pub mod laws;
 mod scan;
 mod spelling;
 mod split;
