@@ -1,5 +1,5 @@
 -- Tokens that are written are read back.
-use Rattle.std.proofs.Common.{◌≡◌, ◌≤◌, ◌<◌, ◌+◌, ◌-◌, ◌^◌, ◌++◌, ◌∷◌, ◌==◌, ◌&&◌, ◌∙◌, ℕ, Bool, List, [], true, false, cond, length, take, map, Some, None, refl, ap, sym, arith, append_assoc, nat_lt, nat_le, not, subst, get_or, length-append}
+use Rattle.std.proofs.Common.{◌≡◌, ◌<◌, ◌+◌, ◌^◌, ◌++◌, ◌∷◌, ◌==◌, ◌∙◌, ℕ, Bool, List, [], true, false, cond, length, map, Some, refl, ap, arith, append_assoc, nat_le, not, length-append}
 use Rattle.std.specs.Char.{is_ascii_alphabetic, is_ascii_digit}
 use Rattle.std.specs.Fmt.{decimal}
 use Rattle.std.specs.List.{list_all, prefix_len}
@@ -10,9 +10,9 @@ use Rattle.std.proofs.lemmas.List.Folds.{list_all-append}
 use Rattle.std.proofs.Math.Seq.{take-append_seam, get_or-append_seam}
 use Rattle.rm_token.specs.declared.token.Token.{Token}
 use Rattle.rm_token.specs.declared.token.Token.TheVariants.{Word, Number, Quoted, Sign, Bad}
-use Rattle.rm_token.specs.Tokens.{is_separator, is_word_byte, is_string_byte, is_sign, stays_in_line, number_token, string_piece, piece, tokens_from, tokens, feeds}
-use Rattle.rm_token.specs.Statements.{is_the_sign, depth_after, ends_at, begins_run, cut, nothing_begun, statements}
-use Rattle.rm_token.specs.Spelling.{are_string_bytes, is_name, is_plain, token_text, tokens_text, ends_with, is_statement}
+use Rattle.rm_token.specs.Tokens.{is_separator, is_word_byte, is_string_byte, is_sign, stays_in_line, number_token, piece, tokens_from, tokens, feeds}
+use Rattle.rm_token.specs.Statements.{is_the_sign, depth_after, ends_at, cut, nothing_begun, statements}
+use Rattle.rm_token.specs.Spelling.{are_string_bytes, is_plain, token_text, tokens_text, ends_with, is_statement}
 use Rattle.rm_token.proofs.Reading.{list_all-wider, prefix_len-whole, tokens_from-piece, feeds-append}
 use Rattle.rm_token.proofs.Digits.{decimal-read, number_token-decimal}
 

@@ -1,5 +1,5 @@
 -- How the bytes of one token are read, where others follow.
-use Rattle.std.proofs.Common.{◌≡◌, ◌<◌, ◌+◌, ◌-◌, ◌++◌, ◌==◌, ◌&&◌, ℕ, Bool, List, [], ◌∷◌, true, false, cond, length, take, drop, Some, None, refl, ap, arith, ◌∙◌, sym, append_assoc, add-one, zero, suc, not, subst}
+use Rattle.std.proofs.Common.{◌≡◌, ◌≤◌, ◌+◌, ◌-◌, ◌++◌, ◌==◌, ℕ, Bool, List, [], ◌∷◌, true, false, length, take, drop, Some, refl, ap, arith, ◌∙◌, sym, suc, subst}
 use Rattle.std.specs.List.{list_all, prefix_len}
 use Rattle.std.proofs.lemmas.Bool.{and_from, and_parts}
 use Rattle.std.proofs.lemmas.Bool.Decides.{nat_tests}
@@ -62,3 +62,8 @@ feeds-append (c ∷ cs) ds h =
     let parts = and_parts (stays_in_line c) (list_all stays_in_line cs) h in
     let other : (c == 10) ≡ false = grind (arith, nat_tests) in
     rw (other, feeds-append cs ds parts.1) refl
+
+-- there are no more line feeds than bytes
+pub feeds_within : (cs : List ℕ) → feeds cs ≤ length cs
+feeds_within [] = omega arith
+feeds_within (c ∷ cs) = let rest = feeds_within cs in grind (arith, nat_tests)

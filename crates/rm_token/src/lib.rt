@@ -10,3 +10,6 @@ pub mod token;
 pub use spelling::{are_string_bytes, is_name, text_of};
 pub use split::statements;
 pub use token::Token;
+
+#[cfg(test)]
+mod tests;
