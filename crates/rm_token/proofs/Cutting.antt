@@ -1,6 +1,6 @@
 -- The statements of a token list are where its endings are.
-use Rattle.std.proofs.Common.{◌≡◌, ◌++◌, ◌∷◌, ◌==◌, ◌&&◌, inl, inr, ℕ, Bool, List, [], true, false, length, refl, ap, sym, arith, append_assoc, subst}
-use Rattle.std.proofs.lemmas.Bool.{and_parts, or_cases, cases_lt, eqb-true}
+use Rattle.std.proofs.Common.{◌≡◌, ◌<◌, ◌++◌, ◌∷◌, ◌==◌, ◌&&◌, ◌∙◌, inl, inr, ℕ, Bool, List, [], true, false, length, refl, ap, sym, arith, append_assoc, subst}
+use Rattle.std.proofs.lemmas.Bool.{and_parts, or_cases, or_parts, cases_lt, eqb-true}
 use Rattle.std.proofs.lemmas.Bool.Decides.{nat_tests}
 use Rattle.std.proofs.lemmas.List.{append-nil, map-append, take-append-le, get_or_append_left, length-append}
 use Rattle.std.proofs.lemmas.List.Sums.{fold-append}
@@ -108,3 +108,57 @@ cuts (q ∷ ps) = let r = cuts ps in record { fresh = next_fresh q ps r; begun =
 
 pub cut-Cuts : (ps : List (ℕ × Token)) → Cuts ps (cut (record { front = []; line = 1; depth = 0 }) ps)
 cut-Cuts ps = (cuts ps).fresh 1
+
+-- a token that ends nothing is passed
+not_at_end : (before rest : List Token) (t : Token) → HasNoEnding (before ++ t ∷ rest) → ends_at before (open_braces before) t ≡ false
+not_at_end before rest t h = by_cases (ends_at before (open_braces before) t) refl
+  where
+    here : ¬ Ends before t
+    here =
+        let inside : length before < length (before ++ t ∷ rest) = omega (arith, length-append before (t ∷ rest)) in
+        let none = h (length before) t inside in
+        rw (take-append_seam before (t ∷ rest), get_or-append_seam before t rest t) at none
+
+    by_cases : (b : Bool) → ends_at before (open_braces before) t ≡ b → ends_at before (open_braces before) t ≡ false
+    by_cases true e = absurd (here (ends_at-Ends before t e))
+    by_cases false e = e
+
+-- what has begun with p and qs goes on with the tokens ps, which hold no ending
+cut-passes : (p : ℕ × Token) (ts : List Token) (ps rest : List (ℕ × Token)) → HasNoEnding ((p.1 ∷ ts) ++ without_lines ps) →
+    cut (record { front = p.1 ∷ ts; line = p.0; depth = open_braces (p.1 ∷ ts) }) (ps ++ rest) ≡
+    cut (record { front = p.1 ∷ (ts ++ without_lines ps); line = p.0; depth = open_braces (p.1 ∷ (ts ++ without_lines ps)) }) rest
+cut-passes p ts [] rest h = rw (append-nil ts) refl
+cut-passes p ts (q ∷ ps) rest h =
+    let some : (length (p.1 ∷ ts) == 0) ≡ false = grind (arith, nat_tests) in
+    let goes = not_at_end (p.1 ∷ ts) (without_lines ps) q.1 h in
+    let same : (ts ++ q.1 ∷ []) ++ without_lines ps ≡ ts ++ q.1 ∷ without_lines ps = append_assoc ts (q.1 ∷ []) (without_lines ps) in
+    let none : HasNoEnding (p.1 ∷ ((ts ++ q.1 ∷ []) ++ without_lines ps)) = subst (λ (xs : List Token). HasNoEnding (p.1 ∷ xs)) (sym same) h in
+    let next = cut-passes p (ts ++ q.1 ∷ []) ps rest none in
+    let Goal : List Token → ℕ → Type 0 = λ xs d. cut (record { front = p.1 ∷ (ts ++ q.1 ∷ []); line = p.0; depth = d }) (ps ++ rest) ≡ cut (record { front = p.1 ∷ xs; line = p.0; depth = open_braces (p.1 ∷ xs) }) rest in
+    rw (some, goes) (subst (λ (d : ℕ). Goal (ts ++ q.1 ∷ without_lines ps) d) (open_braces-push (p.1 ∷ ts) q.1) (subst (λ (xs : List Token). Goal xs (open_braces (p.1 ∷ (ts ++ q.1 ∷ [])))) same next))
+
+-- a statement begins with its first token, which is no ;
+cut-first : (p : ℕ × Token) (ts : List Token) → HasNoEnding (p.1 ∷ ts) → (line : ℕ) (ps : List (ℕ × Token)) →
+    cut (record { front = []; line = line; depth = 0 }) (p ∷ ps) ≡ cut (record { front = p.1 ∷ []; line = p.0; depth = open_braces (p.1 ∷ []) }) ps
+cut-first p ts h line ps =
+    let goes = not_at_end [] ts p.1 h in
+    let other = or_parts (is_the_sign 59 p.1) false goes in
+    rw other.0 refl
+
+-- tokens are cut into one list of statements
+pub cuts-only : (ps : List (ℕ × Token)) (ss : List (ℕ × List Token)) → Cuts ps ss → (line : ℕ) → ss ≡ cut (record { front = []; line = line; depth = 0 }) ps
+cuts-only _ _ nothing line = refl
+cuts-only _ _ (skipped first rest ss c) line = cuts-only rest ss c first
+cuts-only _ _ (ended p ps q rest ss none ends c) line =
+    let front : List Token = without_lines (p ∷ ps) in
+    let some : (length front == 0) ≡ false = grind (arith, nat_tests) in
+    let first : cut (record { front = []; line = line; depth = 0 }) ((p ∷ ps) ++ q ∷ rest) ≡ cut (record { front = p.1 ∷ []; line = p.0; depth = open_braces (p.1 ∷ []) }) (ps ++ q ∷ rest) = cut-first p (without_lines ps) none line (ps ++ q ∷ rest) in
+    let here : cut (record { front = front; line = p.0; depth = open_braces front }) (q ∷ rest) ≡ (p.0, front ++ q.1 ∷ []) ∷ cut (record { front = []; line = p.0; depth = 0 }) rest = rw (some, Ends-ends_at front q.1 ends) refl in
+    ap (λ xs. (p.0, front ++ q.1 ∷ []) ∷ xs) (cuts-only rest ss c p.0) ∙ sym (first ∙ cut-passes p [] ps (q ∷ rest) none ∙ here)
+cuts-only _ _ (left p ps none) line =
+    let front : List Token = without_lines (p ∷ ps) in
+    let some : (length front == 0) ≡ false = grind (arith, nat_tests) in
+    let here : cut (record { front = front; line = p.0; depth = open_braces front }) [] ≡ (p.0, front) ∷ [] = rw some refl in
+    let all : cut (record { front = p.1 ∷ []; line = p.0; depth = open_braces (p.1 ∷ []) }) ps ≡ (p.0, front) ∷ [] =
+    ap (cut (record { front = p.1 ∷ []; line = p.0; depth = open_braces (p.1 ∷ []) })) (sym (append-nil ps)) ∙ cut-passes p [] ps [] none ∙ here in
+    sym (cut-first p (without_lines ps) none line ps ∙ all)

@@ -16,11 +16,12 @@ list_all-wider p q f (c ∷ cs) h =
     and_from (q c) (list_all q cs) (f c parts.0) (list_all-wider p q f cs parts.1)
 
 -- the front that passes a test is all of the bytes before the first one that does not
-pub prefix_len-whole : (p : ℕ → Bool) (cs : List ℕ) (d : ℕ) (ds : List ℕ) → list_all p cs ≡ true → p d ≡ false → prefix_len p (cs ++ d ∷ ds) ≡ length cs
-prefix_len-whole p [] d ds h stop = rw stop refl
-prefix_len-whole p (c ∷ cs) d ds h stop =
+pub prefix_len-whole : (p : ℕ → Bool) (cs ds : List ℕ) → list_all p cs ≡ true → NoneInFront p ds → prefix_len p (cs ++ ds) ≡ length cs
+prefix_len-whole p [] [] h stop = refl
+prefix_len-whole p [] (d ∷ ds) h stop = rw stop refl
+prefix_len-whole p (c ∷ cs) ds h stop =
     let parts = and_parts (p c) (list_all p cs) h in
-    rw (parts.0, prefix_len-whole p cs d ds parts.1 stop) (omega arith)
+    rw (parts.0, prefix_len-whole p cs ds parts.1 stop) (omega arith)
 
 pub line_after-same : (line c : ℕ) → stays_in_line c ≡ true → line_after line c ≡ line
 line_after-same line c h = grind (arith, nat_tests)

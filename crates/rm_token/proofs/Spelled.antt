@@ -94,7 +94,7 @@ at_digit c cs behind line e1 e2 e3 digit =
 string_bytes-front : (cs : List ℕ) → BeginsWithString cs → (nat_le (prefix_len is_string_byte cs) 64 && (get_or cs (prefix_len is_string_byte cs) 0 == 39)) ≡ true
 string_bytes-front cs (t, rest, are, is) =
     let parts = and_parts (nat_le (length t) 64) (list_all is_string_byte t) are in
-    let size : prefix_len is_string_byte cs ≡ length t = ap (prefix_len is_string_byte) is ∙ prefix_len-whole is_string_byte t 39 rest parts.1 refl in
+    let size : prefix_len is_string_byte cs ≡ length t = ap (prefix_len is_string_byte) is ∙ prefix_len-whole is_string_byte t (39 ∷ rest) parts.1 refl in
     let quote : get_or cs (length t) 0 ≡ 39 = ap (λ xs. get_or xs (length t) 0) is ∙ get_or-append_seam t 39 rest 0 in
     rw (size, parts.0, quote) refl
 
@@ -103,6 +103,16 @@ within cs size quote = elim (cases_lt size (length cs)) [
   | inl lt ↦ lt
   | inr ge ↦ let default : get_or cs size 0 ≡ 0 = get_or-eq_default cs 0 ge in absurd (omega arith)
 ]
+
+-- a quote behind at most 64 string bytes ends a string
+pub begins_string : (cs : List ℕ) → (nat_le (prefix_len is_string_byte cs) 64 && (get_or cs (prefix_len is_string_byte cs) 0 == 39)) ≡ true → BeginsWithString cs
+begins_string cs e =
+    let size : ℕ = prefix_len is_string_byte cs in
+    let parts = and_parts (nat_le size 64) (get_or cs size 0 == 39) e in
+    let quote : get_or cs size 0 ≡ 39 = eqb-true (get_or cs size 0) 39 parts.1 in
+    let rest : drop size cs ≡ 39 ∷ drop (suc size) cs = drop-cons cs size 0 (within cs size quote) ∙ ap (λ x. x ∷ drop (suc size) cs) quote in
+    let are : are_string_bytes (take size cs) ≡ true = and_from _ _ (rw (length-prefix_len is_string_byte cs) parts.0) (front-at is_string_byte cs).passes in
+    (take size cs, drop (suc size) cs, are, sym (take-append-drop size cs) ∙ ap (λ xs. take size cs ++ xs) rest)
 
 at_quote : (cs : List ℕ) → Behind cs → (line : ℕ) → (b : Bool) → (nat_le (prefix_len is_string_byte cs) 64 && (get_or cs (prefix_len is_string_byte cs) 0 == 39)) ≡ b → Front line 39 cs
 at_quote cs behind line true e =
@@ -117,7 +127,7 @@ at_quote cs behind line true e =
     let long : take (suc size) cs ≡ t ++ 39 ∷ [] = take-suc cs size 0 inside ∙ ap (λ x. t ++ x ∷ []) quote in
     let stays : list_all stays_in_line (take (suc size) cs) ≡ true =
     ap (list_all stays_in_line) long ∙ list_all-append stays_in_line t (39 ∷ []) ∙ rw (list_all-wider is_string_byte stays_in_line string-stays t front.passes) refl in
-    let are : are_string_bytes t ≡ true = and_from _ _ (rw (length-prefix_len is_string_byte cs) parts.0) front.passes in
+    let are : are_string_bytes t ≡ true = and_from (nat_le (length t) 64) (list_all is_string_byte t) (rw (length-prefix_len is_string_byte cs) parts.0) front.passes in
     let sizes : size + 2 ≡ 1 + suc size = omega arith in
     from_piece line 39 cs (suc size) (Some (Quoted t)) (rw (e, sizes) refl)
     (subst (λ (xs : List ℕ). Spelled line (39 ∷ xs) ((line, Quoted t) ∷ tokens_from line (suc size) cs)) whole

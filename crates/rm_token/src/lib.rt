@@ -1,4 +1,4 @@
-//! The tokens and the statements of a script.
+//! The tokens and the statements of a script, and tokens as text.
 #![tactic(auto)]
 
 pub mod laws;
