@@ -1,10 +1,9 @@
 -- The bytes of words and strings are characters of ASCII.
-use Rattle.std.proofs.Common.{◌≡◌, ◌<◌, ℕ, Bool, List, ◌∷◌, true, take, subst, arith}
+use Rattle.std.proofs.Common.{◌≡◌, ◌<◌, ℕ, Bool, List, true, take, subst, arith}
 use Rattle.std.specs.Char.{is_ascii_alphabetic}
 use Rattle.std.specs.List.{All, prefix_len}
 use Rattle.std.proofs.lemmas.Bool.Decides.{nat_tests}
 use Rattle.std.proofs.lemmas.List.{get_or-take}
-use Rattle.std.proofs.lemmas.List.Elements.{All-cons}
 use Rattle.std.proofs.lemmas.List.Folds.{length-prefix_len}
 use Rattle.std.proofs.lemmas.List.Sums.{prefix_len_passes}
 use Rattle.rm_token.specs.Tokens.{is_word_byte, is_string_byte}
@@ -27,5 +26,5 @@ front-All p P f cs k d h =
 pub string-ascii : (cs : List ℕ) → All (λ b. b < 128) (take (prefix_len is_string_byte cs) cs)
 string-ascii cs = front-All is_string_byte (λ b. b < 128) string_byte-below cs
 
-pub word-ascii : (c : ℕ) (cs : List ℕ) → c < 128 → All (λ b. b < 128) (c ∷ take (prefix_len is_word_byte cs) cs)
-word-ascii c cs h = All-cons (λ b. b < 128) c _ h (front-All is_word_byte (λ b. b < 128) word_byte-below cs)
+pub word-ascii : (cs : List ℕ) → All (λ b. b < 128) (take (prefix_len is_word_byte cs) cs)
+word-ascii cs = front-All is_word_byte (λ b. b < 128) word_byte-below cs

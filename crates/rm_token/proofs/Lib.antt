@@ -1,5 +1,7 @@
 pub mod Ascii
 pub mod Cutting
 pub mod Digits
+pub mod OneSpelling
 pub mod ReadBack
 pub mod Reading
+pub mod Spelled

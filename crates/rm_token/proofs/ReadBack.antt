@@ -1,5 +1,5 @@
 -- Tokens that are written are read back.
-use Rattle.std.proofs.Common.{◌≡◌, ◌≤◌, ◌<◌, ◌+◌, ◌-◌, ◌^◌, ◌++◌, ◌∷◌, ◌==◌, ◌&&◌, ◌∙◌, ℕ, Bool, List, [], true, false, cond, length, take, map, Some, None, refl, ap, sym, arith, append_assoc, nat_lt, nat_le, not, subst, get_or, length-append}
+use Rattle.std.proofs.Common.{◌≡◌, ◌<◌, ◌+◌, ◌^◌, ◌++◌, ◌∷◌, ◌==◌, ◌∙◌, ℕ, Bool, List, [], true, false, cond, length, map, Some, refl, ap, arith, append_assoc, nat_le, not, length-append}
 use Rattle.std.specs.Char.{is_ascii_alphabetic, is_ascii_digit}
 use Rattle.std.specs.Fmt.{decimal}
 use Rattle.std.specs.List.{list_all, prefix_len}
@@ -10,9 +10,10 @@ use Rattle.std.proofs.lemmas.List.Folds.{list_all-append}
 use Rattle.std.proofs.Math.Seq.{take-append_seam, get_or-append_seam}
 use Rattle.rm_token.specs.declared.token.Token.{Token}
 use Rattle.rm_token.specs.declared.token.Token.TheVariants.{Word, Number, Quoted, Sign, Bad}
-use Rattle.rm_token.specs.Tokens.{is_separator, is_word_byte, is_string_byte, is_sign, stays_in_line, number_token, string_piece, piece, tokens_from, tokens, feeds}
-use Rattle.rm_token.specs.Statements.{is_the_sign, depth_after, ends_at, begins_run, cut, nothing_begun, statements}
-use Rattle.rm_token.specs.Spelling.{are_string_bytes, is_name, is_plain, token_text, tokens_text, ends_with, is_statement}
+use Rattle.rm_token.specs.Pieces.{NoneInFront}
+use Rattle.rm_token.specs.Tokens.{is_separator, is_word_byte, is_string_byte, is_sign, stays_in_line, number_token, piece, tokens_from, tokens, feeds}
+use Rattle.rm_token.specs.Statements.{is_the_sign, depth_after, ends_at, cut, nothing_begun, statements}
+use Rattle.rm_token.specs.Spelling.{are_string_bytes, is_plain, token_text, tokens_text, ends_with, is_statement}
 use Rattle.rm_token.proofs.Reading.{list_all-wider, prefix_len-whole, tokens_from-piece, feeds-append}
 use Rattle.rm_token.proofs.Digits.{decimal-read, number_token-decimal}
 
@@ -22,44 +23,44 @@ letter-other c h = (grind (arith, nat_tests), grind (arith, nat_tests))
 digit-other : (c : ℕ) → is_ascii_digit c ≡ true → (is_separator c ≡ false) × ((c == 35) ≡ false) × (is_ascii_alphabetic c ≡ false)
 digit-other c h = (grind (arith, nat_tests), grind (arith, nat_tests), grind (arith, nat_tests))
 
-piece-word : (c : ℕ) (cs ds : List ℕ) → is_ascii_alphabetic c ≡ true → list_all is_word_byte cs ≡ true → piece c (cs ++ 32 ∷ ds) ≡ record { size = 1 + length cs; token = Some (Word (c ∷ cs)) }
-piece-word c cs ds letter bytes =
+pub piece-word : (c : ℕ) (cs ds : List ℕ) → is_ascii_alphabetic c ≡ true → list_all is_word_byte cs ≡ true → NoneInFront is_word_byte ds → piece c (cs ++ ds) ≡ record { size = 1 + length cs; token = Some (Word (c ∷ cs)) }
+piece-word c cs ds letter bytes stop =
     let other = letter-other c letter in
-    rw (other.0, other.1, letter, prefix_len-whole is_word_byte cs 32 ds bytes refl, take-append_seam cs (32 ∷ ds)) refl
+    rw (other.0, other.1, letter, prefix_len-whole is_word_byte cs ds bytes stop, take-append_seam cs ds) refl
 
-piece-number : (c : ℕ) (cs ds : List ℕ) → is_ascii_digit c ≡ true → list_all is_word_byte cs ≡ true → piece c (cs ++ 32 ∷ ds) ≡ record { size = 1 + length cs; token = Some (number_token (c ∷ cs)) }
-piece-number c cs ds digit bytes =
+pub piece-number : (c : ℕ) (cs ds : List ℕ) → is_ascii_digit c ≡ true → list_all is_word_byte cs ≡ true → NoneInFront is_word_byte ds → piece c (cs ++ ds) ≡ record { size = 1 + length cs; token = Some (number_token (c ∷ cs)) }
+piece-number c cs ds digit bytes stop =
     let other = digit-other c digit in
-    rw (other.0, other.1, other.2, digit, prefix_len-whole is_word_byte cs 32 ds bytes refl, take-append_seam cs (32 ∷ ds)) refl
+    rw (other.0, other.1, other.2, digit, prefix_len-whole is_word_byte cs ds bytes stop, take-append_seam cs ds) refl
 
-piece-string : (t ds : List ℕ) → are_string_bytes t ≡ true → piece 39 ((t ++ 39 ∷ []) ++ ds) ≡ record { size = 1 + length (t ++ 39 ∷ []); token = Some (Quoted t) }
+pub piece-string : (t ds : List ℕ) → are_string_bytes t ≡ true → piece 39 ((t ++ 39 ∷ []) ++ ds) ≡ record { size = 1 + length (t ++ 39 ∷ []); token = Some (Quoted t) }
 piece-string t ds h =
     let parts = and_parts (nat_le (length t) 64) (list_all is_string_byte t) h in
-    let front : prefix_len is_string_byte (t ++ 39 ∷ ds) ≡ length t = prefix_len-whole is_string_byte t 39 ds parts.1 refl in
+    let front : prefix_len is_string_byte (t ++ 39 ∷ ds) ≡ length t = prefix_len-whole is_string_byte t (39 ∷ ds) parts.1 refl in
     let size : length t + 2 ≡ 1 + length (t ++ 39 ∷ []) = omega (arith, length-append t (39 ∷ [])) in
     rw (append_assoc t (39 ∷ []) ds, front, parts.0, get_or-append_seam t 39 ds 0, take-append_seam t (39 ∷ ds), size) refl
 
 sign-other : (c : ℕ) → is_sign c ≡ true → (is_separator c ≡ false) × ((c == 35) ≡ false) × (is_ascii_alphabetic c ≡ false) × (is_ascii_digit c ≡ false) × ((c == 39) ≡ false)
 sign-other c h = (grind (arith, nat_tests), grind (arith, nat_tests), grind (arith, nat_tests), grind (arith, nat_tests), grind (arith, nat_tests))
 
-piece-sign : (c : ℕ) (ds : List ℕ) → is_sign c ≡ true → piece c ds ≡ record { size = 1 + 0; token = Some (Sign c) }
+pub piece-sign : (c : ℕ) (ds : List ℕ) → is_sign c ≡ true → piece c ds ≡ record { size = 1 + 0; token = Some (Sign c) }
 piece-sign c ds h =
     let other = sign-other c h in
     rw (other.0, other.1, other.2, other.3, other.4, h) refl
 
-word-stays : (c : ℕ) → is_word_byte c ≡ true → stays_in_line c ≡ true
+pub word-stays : (c : ℕ) → is_word_byte c ≡ true → stays_in_line c ≡ true
 word-stays c h = grind (arith, nat_tests)
 
-string-stays : (c : ℕ) → is_string_byte c ≡ true → stays_in_line c ≡ true
+pub string-stays : (c : ℕ) → is_string_byte c ≡ true → stays_in_line c ≡ true
 string-stays c h = grind (arith, nat_tests)
 
-digit-word : (c : ℕ) → is_ascii_digit c ≡ true → is_word_byte c ≡ true
+pub digit-word : (c : ℕ) → is_ascii_digit c ≡ true → is_word_byte c ≡ true
 digit-word c h = grind (arith, nat_tests)
 
-letter-word : (c : ℕ) → is_ascii_alphabetic c ≡ true → is_word_byte c ≡ true
+pub letter-word : (c : ℕ) → is_ascii_alphabetic c ≡ true → is_word_byte c ≡ true
 letter-word c h = grind (arith, nat_tests)
 
-sign-stays : (c : ℕ) → is_sign c ≡ true → stays_in_line c ≡ true
+pub sign-stays : (c : ℕ) → is_sign c ≡ true → stays_in_line c ≡ true
 sign-stays c h = grind (arith, nat_tests)
 
 -- a token that can be written has no line feed
@@ -82,7 +83,7 @@ digits-read line [] ds some h = absurd (omega arith)
 digits-read line (c ∷ cs) ds some h =
     let parts = and_parts (is_ascii_digit c) (list_all is_ascii_digit cs) h in
     tokens_from-piece line c cs (32 ∷ ds) (number_token (c ∷ cs))
-    (piece-number c cs ds parts.0 (list_all-wider is_ascii_digit is_word_byte digit-word cs parts.1))
+    (piece-number c cs (32 ∷ ds) parts.0 (list_all-wider is_ascii_digit is_word_byte digit-word cs parts.1) refl)
     (list_all-wider is_ascii_digit stays_in_line (λ b d. word-stays b (digit-word b d)) (c ∷ cs) h)
 
 -- the bytes of a token and a space are read as that token
@@ -90,7 +91,7 @@ pub token-read : (line : ℕ) (t : Token) (ds : List ℕ) → is_plain t ≡ tru
 token-read line (Word []) ds h = cc
 token-read line (Word (c ∷ cs)) ds h =
     let parts = and_parts (is_ascii_alphabetic c) (list_all is_word_byte cs) h in
-    tokens_from-piece line c cs (32 ∷ ds) (Word (c ∷ cs)) (piece-word c cs ds parts.0 parts.1) (token_text-stays (Word (c ∷ cs)) h)
+    tokens_from-piece line c cs (32 ∷ ds) (Word (c ∷ cs)) (piece-word c cs (32 ∷ ds) parts.0 parts.1 refl) (token_text-stays (Word (c ∷ cs)) h)
 token-read line (Number n) ds h =
     let small : n < 2 ^ 64 = grind (arith, nat_tests) in
     digits-read line (decimal n) ds (decimal_nonempty n small) (decimal-read n small).1 ∙ ap (λ t. (line, t) ∷ tokens_from line 0 ds) (number_token-decimal n small)

@@ -1,4 +1,5 @@
 pub mod Cuts
+pub mod Pieces
 pub mod Tokens
 pub mod Statements
 pub mod Spelling

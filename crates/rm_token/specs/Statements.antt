@@ -1,8 +1,8 @@
 -- The statements of a token list.
-use Rattle.std.specs.Prelude.{ℕ, zero, suc, ◌+◌, ◌-◌, ◌==◌, ◌&&◌, ◌||◌, if◌then◌else◌, Bool, false, List, [], ◌∷◌, ◌++◌, length, codes}
+use Rattle.std.specs.Prelude.{ℕ, ◌+◌, ◌-◌, ◌==◌, ◌&&◌, ◌||◌, if◌then◌else◌, Bool, false, List, [], ◌∷◌, ◌++◌, length, codes}
 use Rattle.std.specs.Str.{str_eq_ignore_ascii_case}
 use Rattle.rm_token.specs.declared.token.Token.{Token}
-use Rattle.rm_token.specs.declared.token.Token.TheVariants.{Word, Number, Quoted, Sign, Bad}
+use Rattle.rm_token.specs.declared.token.Token.TheVariants.{Word, Sign}
 use Rattle.rm_token.specs.Tokens.{tokens}
 
 abbrev pub is_word : List ℕ → Token → Bool

@@ -1,6 +1,7 @@
-//! The tokens and the statements of a script.
+//! The tokens and the statements of a script, and tokens as text.
 #![tactic(auto)]
 
+pub mod laws;
 mod scan;
 mod spelling;
 mod split;
@@ -9,3 +10,6 @@ pub mod token;
 pub use spelling::{are_string_bytes, is_name, text_of};
 pub use split::statements;
 pub use token::Token;
+
+#[cfg(test)]
+mod tests;

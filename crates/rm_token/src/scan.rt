@@ -1,7 +1,8 @@
 //! One piece of a script: a separator, a comment or a token.
-ghost use Rattle.std.specs.Prelude.{◌≡◌, ◌≤◌, ◌∷◌, IfOk, length, take};
+ghost use Rattle.std.specs.Prelude.{◌≡◌, ◌≤◌, ◌<◌, ◌∷◌, IfOk, IsTrue, All, length};
+ghost use Rattle.std.specs.Char.{is_ascii_digit, is_ascii_alphabetic};
 ghost use Rattle.std.specs.List.{prefix_len};
-ghost use Rattle.rm_token.specs.Tokens.{is_separator, is_word_byte, is_string_byte, is_sign, stays_in_line, number_after, number_token, string_piece, piece};
+ghost use Rattle.rm_token.specs.Tokens.{is_separator, is_word_byte, is_string_byte, is_sign, stays_in_line, number_after, number_token, word_piece, number_piece, string_piece, piece};
 
 use crate::token::Token;
 use rm_base::{NoMemory, Text};
@@ -33,7 +34,8 @@ fn is_sign(byte: u8) -> bool
 
 // How many bytes at the front are of a word.
 fn word_len(bytes: &[u8]) -> usize
-    ensures { result ≡ prefix_len is_word_byte bytes.now }
+    ensures len { result ≡ prefix_len is_word_byte bytes.now }
+    ensures within { result ≤ length bytes.now }
 {
     bytes.iter().take_while(|byte| is_word_byte(**byte)).count()
 }
@@ -56,12 +58,12 @@ fn line_len(bytes: &[u8]) -> usize
     bytes.iter().take_while(|byte| **byte != b'\n').count()
 }
 
-// The number that the digits spell.
-fn number_of(word: &[u8]) -> Option<u64>
-    ensures { result ≡ number_after 0 word.now }
+// The number that digits spell behind a value.
+fn number_of(front: u64, digits: &[u8]) -> Option<u64>
+    ensures { result ≡ number_after front digits.now }
 {
-    let mut value = 0u64;
-    for digit in word {
+    let mut value = front;
+    for digit in digits {
         if !digit.is_ascii_digit() {
             return None;
         }
@@ -72,14 +74,15 @@ fn number_of(word: &[u8]) -> Option<u64>
     Some(value)
 }
 
-// The token that begins with a digit.
-fn number_token(word: &[u8]) -> Token
-    ensures { result ≡ number_token word.now }
+// The token of a digit and the word bytes behind it.
+fn number_token(digit: u8, rest: &[u8]) -> Token
+    requires { IsTrue (is_ascii_digit digit) }
+    ensures { result ≡ number_token (digit ∷ rest.now) }
 {
-    if word.len() > 20 {
+    if rest.len() > 19 {
         return Token::Bad;
     }
-    match number_of(word) {
+    match number_of(u64::from(digit - b'0'), rest) {
         Some(value) => Token::Number(value),
         None => Token::Bad,
     }
@@ -92,7 +95,46 @@ pub struct Piece {
     pub token: Option<Token>,
 }
 
-// The bytes behind a quote.
+// The text of a letter and the word bytes behind it.
+fn word_of(alloc: Global, letter: u8, rest: &[u8]) -> Result<Text, NoMemory>
+    requires letter { letter < 128 }
+    requires rest { All (λ b. b < 128) rest.now }
+    ensures { IfOk result (λ word. word ≡ letter ∷ rest.now) }
+{
+    let mut word = String::new(alloc);
+    word.push(char::from(letter))?;
+    for byte in rest {
+        word.push(char::from(*byte))?;
+    }
+    Ok(Text::from_string(word))
+}
+
+// The piece that begins with a letter.
+fn word_piece(alloc: Global, letter: u8, rest: &[u8]) -> Result<Piece, NoMemory>
+    requires { IsTrue (is_ascii_alphabetic letter) }
+    ensures { IfOk result (λ p. p ≡ word_piece letter rest.now) }
+{
+    let len = word_len(rest);
+    let word = word_of(alloc, letter, &rest[..len])?;
+    Ok(Piece {
+        size: 1 + len,
+        token: Some(Token::Word(word)),
+    })
+}
+
+// The piece that begins with a digit.
+fn number_piece(digit: u8, rest: &[u8]) -> Piece
+    requires { IsTrue (is_ascii_digit digit) }
+    ensures { result ≡ number_piece digit rest.now }
+{
+    let len = word_len(rest);
+    Piece {
+        size: 1 + len,
+        token: Some(number_token(digit, &rest[..len])),
+    }
+}
+
+// The piece that begins with a quote.
 fn string_piece(alloc: Global, rest: &[u8]) -> Result<Piece, NoMemory>
     ensures { IfOk result (λ p. p ≡ string_piece rest.now) }
 {
@@ -110,17 +152,7 @@ fn string_piece(alloc: Global, rest: &[u8]) -> Result<Piece, NoMemory>
     })
 }
 
-// The letters, digits and underscores from the first byte on.
-fn word_of(alloc: Global, first: u8, rest: &[u8]) -> Result<Vec<u8>, NoMemory>
-    ensures { IfOk result (λ w. w.items ≡ first ∷ take (prefix_len is_word_byte rest.now) rest.now) }
-{
-    let mut word = Vec::new(alloc);
-    word.push(first)?;
-    word.extend_from_slice(&rest[..word_len(rest)])?;
-    Ok(word)
-}
-
-// The piece that begins with a byte.
+// The piece that begins with a byte, where rest is behind it.
 pub fn front_piece(alloc: Global, first: u8, rest: &[u8]) -> Result<Piece, NoMemory>
     ensures { IfOk result (λ p. p ≡ piece first rest.now) }
 {
@@ -137,18 +169,10 @@ pub fn front_piece(alloc: Global, first: u8, rest: &[u8]) -> Result<Piece, NoMem
         });
     }
     if first.is_ascii_alphabetic() {
-        let word = word_of(alloc, first, rest)?;
-        return Ok(Piece {
-            size: word.len(),
-            token: Some(Token::Word(Text::from_ascii(alloc, &word)?)),
-        });
+        return word_piece(alloc, first, rest);
     }
     if first.is_ascii_digit() {
-        let word = word_of(alloc, first, rest)?;
-        return Ok(Piece {
-            size: word.len(),
-            token: Some(number_token(&word)),
-        });
+        return Ok(number_piece(first, rest));
     }
     if first == b'\'' {
         return string_piece(alloc, rest);

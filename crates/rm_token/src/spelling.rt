@@ -75,8 +75,9 @@ fn push_token(alloc: Global, text: &mut Vec<u8>, token: &Token) -> Result<(), No
     }
 }
 
-/// The text of these tokens, on one line with a space behind each. It is read back as the same
-/// tokens, and as one statement where they are one.
+/// The text of these tokens, on one line with a space behind each: numbers in decimal, strings
+/// between quotes. It is read back as the same tokens, and as one statement where they are one. Each
+/// word can be a word, each string can stand between quotes, and each sign is one of the four.
 pub fn text_of(alloc: Global, tokens: &[Token]) -> Result<Seq<u8>, NoMemory>
     requires { IsTrue (list_all is_plain tokens.now) }
     ensures text { IfOk result (λ text. text ≡ tokens_text tokens.now) }

@@ -148,7 +148,10 @@ fn line_after(line: u32, byte: u8) -> u32
     if byte == b'\n' { line + 1 } else { line }
 }
 
-/// The statements of a script, each with the line of its first token, and with its ending where it has one.
+/// The statements of a script, each with the line of its first token; the first line is 1. A
+/// statement ends at a `;` outside braces, or, where its first token is RUN, at the `}` that closes
+/// its first brace, and this is its last token. A `;` with nothing before it is skipped. Tokens left
+/// at the end are a statement without an ending. The script has fewer than 2^32 - 1 line feeds.
 pub fn statements(alloc: Global, script: &[u8]) -> Result<Seq<(u32, Seq<Token>)>, NoMemory>
     requires { feeds script.now + 1 < 2 ^ 32 }
     ensures { IfOk result (λ found. found ≡ statements script.now) }

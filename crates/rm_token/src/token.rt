@@ -8,13 +8,14 @@ use rm_base::Text;
 pub enum Token {
     /// A letter and letters, digits and underscores behind it.
     Word(Text),
-    /// 1 to 20 digits with a value of at most 2^64 - 1.
+    /// 1 to 20 digits with a value of at most 2^64 - 1, and no word byte behind them.
     Number(u64),
     /// What stands between two quotes: 0 to 64 bytes from 0x20 to 0x7E without the quote.
     Quoted(Text),
     /// One of `;` `,` `{` `}`.
     Sign(u8),
-    /// Anything else.
+    /// Bytes that are no other token: a digit with word bytes behind it that are no number, a quote
+    /// that begins no string with all bytes to the end of its line, or one other byte.
     Bad,
 }
 

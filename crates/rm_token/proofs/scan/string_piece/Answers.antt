@@ -1,6 +1,4 @@
 -- The bytes in front of the closing quote are ASCII.
-use Rattle.std.proofs.Common.{subst, take, ◌<◌, ℕ}
-use Rattle.std.specs.List.{All}
 use Rattle.rm_token.proofs.Ascii.{string-ascii}
 use Rattle.rm_token.proofs.scan.string_piece.Goals as goal
 
