@@ -6,3 +6,4 @@ pub mod Differ
 pub mod Forms
 pub mod Spelled
 pub mod Statements
+pub mod Plain

@@ -1,14 +1,16 @@
 //! The tokens of a statement, from left to right.
 ghost use Rattle.std.specs.Prelude.{◌≡◌, ◌++◌, ◌∷◌, [], IsTrue, OnOk};
+ghost use Rattle.std.specs.List.{list_all};
 ghost use Rattle.rm_token.specs.declared.token.Token.TheVariants.{Word, Number, Quoted, Sign};
-ghost use Rattle.rm_token.specs.Spelling.{are_string_bytes};
+ghost use Rattle.rm_token.specs.Spelling.{are_string_bytes, is_name, is_plain};
+ghost use Rattle.rm_token.specs.Tokens.{is_sign};
 
 use rm_base::{NoMemory, Seq, Text};
 use rm_token::Token;
 use std::alloc::Global;
 use std::marker::Model;
 
-/// The tokens of a statement so far.
+/// The tokens of a statement so far, each of which can be written.
 #[derive(Drop)]
 pub struct Spelling {
     alloc: Global,
@@ -16,14 +18,19 @@ pub struct Spelling {
 }
 
 impl Model for Spelling {
-    ghost use Rattle.std.specs.Prelude.{List};
+    ghost use Rattle.std.specs.Prelude.{List, IsTrue};
+    ghost use Rattle.std.specs.List.{list_all};
     ghost use Rattle.rm_token.specs.declared.token.Token.{Token as TokenOf};
+    ghost use Rattle.rm_token.specs.Spelling.{is_plain};
 
     ghost Value = { List TokenOf };
 
     ghost view = { λ s. s.tokens.items };
+
+    ghost invariant = { λ s. IsTrue (list_all is_plain s.tokens.items) };
 }
 
+#[tactic(auto, using(crate::proofs::Plain::plain_push))]
 impl Spelling {
     /// No tokens, which take no memory.
     pub fn new(alloc: Global) -> Self
@@ -37,6 +44,7 @@ impl Spelling {
 
     /// Adds a word.
     pub fn word(&mut self, name: &str) -> Result<(), NoMemory>
+        requires { IsTrue (is_name name.now) }
         ensures { OnOk result (self.new ≡ self.old ++ Word name.now ∷ []) }
     {
         let word = Text::from_string(String::from_str(self.alloc, name)?);
@@ -64,6 +72,7 @@ impl Spelling {
 
     /// Adds a sign.
     pub fn sign(&mut self, sign: u8) -> Result<(), NoMemory>
+        requires { IsTrue (is_sign sign) }
         ensures { OnOk result (self.new ≡ self.old ++ Sign sign ∷ []) }
     {
         self.tokens.push(Token::Sign(sign))?;
@@ -72,7 +81,8 @@ impl Spelling {
 
     /// The tokens.
     pub fn into_tokens(self) -> Seq<Token>
-        ensures { result ≡ self }
+        ensures tokens { result ≡ self }
+        ensures plain { IsTrue (list_all is_plain result) }
     {
         let Spelling { tokens, .. } = self;
         Seq::from_vec(tokens)
