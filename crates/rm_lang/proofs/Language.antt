@@ -38,8 +38,6 @@ pub command_at-none : (ts : List Token) → command_at ts ≡ None → (c : Comm
 unfolding command_at IsCommand
 command_at-none ts e c h = in_none forms ts c forms_apart e h
 
-pub ruleset read = (command_at-is, command_at-none)
-
 pub one : (ts : List Token) (c d : Command) → IsCommand ts c → IsCommand ts d → c ≡ d
 unfolding IsCommand
 one ts c d h k = one_command forms ts c d forms_apart h k
@@ -81,3 +79,10 @@ all_pass = (
 pub exact : (c : Command) → IsSized c → (is_command c ≡ true) ↔ IsStatement c
 unfolding IsCommand
 exact c s = (λ h. (tokens_of c, tokens_of-is c s h), λ h. passes is_command forms all_pass h.0 c h.1)
+
+-- what is read is the command of a statement
+pub command_at-statement : (ts : List Token) (c : Command) → command_at ts ≡ Some c → is_command c ≡ true
+unfolding IsCommand
+command_at-statement ts c e = passes is_command forms all_pass ts c (command_at-is ts c e)
+
+pub ruleset read = (command_at-is, command_at-none, command_at-statement)

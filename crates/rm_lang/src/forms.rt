@@ -1,9 +1,10 @@
 //! The forms of statements, one function each.
-ghost use Rattle.std.specs.Prelude.{◌≡◌, IfOk, IfSome, IfNone};
+ghost use Rattle.std.specs.Prelude.{◌≡◌, IfOk, IfSome, IfNone, IsTrue};
 ghost use Rattle.rm_grammar.specs.Reading.{Gives};
 ghost use Rattle.rm_grammar.specs.Forms.{command_by};
 ghost use Rattle.rm_lang.specs.declared.command.Command.{Command as CommandOf};
 ghost use Rattle.rm_lang.specs.Forms.{create_database, create_datafile, write, recover_test};
+ghost use Rattle.rm_lang.specs.IsCommand.{is_command};
 ghost use Rattle.rm_lang.specs.Language.{IsCommand, command_at};
 
 use crate::command::{Command, Until, WriteForm};
@@ -92,6 +93,7 @@ pub fn command_of(alloc: Global, tokens: &[Token]) -> Result<Option<Command>, No
     ensures value { IfOk result (λ o. o ≡ command_at tokens.now) }
     ensures found { IfOk result (λ o. IfSome o (λ c. IsCommand tokens.now c)) }
     ensures none { IfOk result (λ o. IfNone o ((c : CommandOf) → IsCommand tokens.now c → ⊥)) }
+    ensures statement { IfOk result (λ o. IfSome o (λ c. IsTrue (is_command c))) }
 {
     match command(tokens) {
         Ok(found) => Ok(Some(found)),

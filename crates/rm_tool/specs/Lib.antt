@@ -1,2 +1,5 @@
 pub mod Ends
+pub mod Run
+pub mod Serving
+pub mod Session
 pub mod Words

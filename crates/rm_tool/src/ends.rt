@@ -1,5 +1,5 @@
 //! All that a source gives, and all bytes to a sink.
-ghost use Rattle.std.specs.Prelude.{◌≡◌, ◌+◌, ◌≤◌, length, true, IfOk, IfSome, OnOk, OnErr, IsErrOf};
+ghost use Rattle.std.specs.Prelude.{◌≡◌, ◌+◌, ◌<◌, ◌≤◌, length, true, IfOk, IfSome, OnOk, OnErr, IsErrOf};
 ghost use Rattle.rm_base.specs.Outside.{Appends, HasTaken, Rose};
 ghost use Rattle.rm_tool.specs.Ends.{Counted, TakesMany, WritesFront};
 
@@ -52,6 +52,7 @@ pub fn read_all<S: Source>(alloc: Global, source: &mut S) -> Result<Vec<u8>, Rea
     ensures failed { IsErrOf result ReadFault.Failed → Rose (S.faults source.old) (S.faults source.new) }
     ensures failed_early { IsErrOf result ReadFault.Failed → Counted (S.taken source.old) → S.taken source.new ≤ S.taken source.old + 4194304 }
     ensures long { IsErrOf result ReadFault.TooLong → Counted (S.taken source.old) → TakesMany (S.taken source.old) (S.taken source.new) }
+    ensures long_left { IsErrOf result ReadFault.TooLong → IfSome (S.left source.old) (λ left. 4194304 < length left) }
     ensures never_falls { S.faults source.old ≤ S.faults source.new }
 {
     let mut script = Vec::new(alloc);

@@ -3,6 +3,8 @@
 
 mod adapters;
 mod ends;
+mod run;
+mod session;
 #[cfg(test)]
 mod tests;
 mod words;
@@ -19,14 +21,6 @@ fn main(rt: HostRuntime) -> io::Result<ExitCode> {
     }
     let mut source = ReadSource::new(rt.reader());
     let mut sink = WriteSink::new(io::writer(&rt));
-    if !words::accepts(&words) {
-        return Ok(ExitCode::from(match ends::write_all(&mut sink, b"rman: bad words\n") {
-            Ok(()) => 2,
-            Err(_) => 4,
-        }));
-    }
-    Ok(ExitCode::from(match ends::read_all(rt.alloc(), &mut source) {
-        Ok(_) => 0,
-        Err(_) => 3,
-    }))
+    let status = run::run(rt.alloc(), &words, &mut source, &mut sink);
+    Ok(ExitCode::from(status))
 }
