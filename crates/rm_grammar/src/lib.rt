@@ -8,3 +8,6 @@ pub mod unread;
 
 pub use spelling::Spelling;
 pub use unread::Unread;
+
+#[cfg(test)]
+mod tests;

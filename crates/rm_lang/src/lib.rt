@@ -11,3 +11,6 @@ pub use command::{Command, Until, WriteForm};
 pub use exact::is_command;
 pub use forms::command_of;
 pub use spelling::text_of;
+
+#[cfg(test)]
+mod tests;
