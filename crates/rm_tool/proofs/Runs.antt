@@ -8,6 +8,7 @@ use Rattle.rm_base.specs.declared.block.Change.{Change}
 use Rattle.rm_base.specs.Outside.{Appends}
 use Rattle.rm_base.proofs.Streams.{appends-then, appends-nothing}
 use Rattle.rm_token.specs.declared.token.Token.{Token}
+use Rattle.rm_token.specs.Statements.{statements}
 use Rattle.rm_report.specs.declared.line.Reply.{Reply}
 use Rattle.rm_report.specs.Text.{reply_text}
 use Rattle.rm_site.specs.Parts.{Parts}
@@ -15,7 +16,7 @@ use Rattle.rm_site.specs.Machine.{Machine, Holds, machine, nothing}
 use Rattle.rm_tool.specs.Ends.{WritesFront}
 use Rattle.rm_tool.specs.Run.{StatementStep, Run}
 use Rattle.rm_tool.specs.Serving.{StatementSteps, Serves, First, Stays, Falls}
-use Rattle.rm_tool.specs.Session.{replies_text}
+use Rattle.rm_tool.specs.Session.{Script, Halts, at_statement, Falters, in_replies, replies_text}
 
 -- a run over these statements from no database on to this site, whose replies were written
 pub record Progress (ss : List (ℕ × List Token)) (site : Option Parts) (before now : Option (List ℕ)) (refused : Bool) : Type 0 where
@@ -84,10 +85,10 @@ take-behind xs ys n = take-add (length xs) n (xs ++ ys) ∙ ap (λ zs. zs ++ tak
 
 front-behind : (before now after : Option (List ℕ)) (xs ys : List ℕ) → Appends before now xs → WritesFront now after ys → WritesFront before after (xs ++ ys)
 front-behind before now after xs ys h (n, within, k) = (
-    length xs + n,
-    omega (arith, within, length-append xs ys),
-    subst (Appends before after) (sym (take-behind xs ys n)) (appends-then before now after xs (take n ys) h k),
-  )
+  length xs + n,
+  omega (arith, within, length-append xs ys),
+  subst (Appends before after) (sym (take-behind xs ys n)) (appends-then before now after xs (take n ys) h k),
+)
 
 -- the sink failed in the reply to the statement s
 pub progress-falls : (ss : List (ℕ × List Token)) (i : ℕ) (s : ℕ × List Token) (r : Reply) (old new : Option Parts) (before now after : Option (List ℕ)) (refused : Bool) → take (i + 1) ss ≡ take i ss ++ s ∷ [] → Progress (take i ss) old before now refused → StatementSteps old new s r → WritesFront now after (reply_text r) → Falls ss before after
@@ -99,3 +100,12 @@ progress-falls ss i s r old new before now after refused more p steps front =
       first = record { count = i + 1; last = machine new next.0; run = subst (λ ts. Run nothing ts (p.replies ++ r ∷ []) (machine new next.0)) (sym more) run };
       written = subst (WritesFront before after) (sym (text-push p.replies r)) (front-behind before now after (replies_text p.replies) (reply_text r) p.written front);
     }
+
+-- what serving left, of the script that was read
+pub stays-halts : (left rest before now : Option (List ℕ)) (script : List ℕ) → Script left rest script → Stays (statements script) before now → Halts left rest before now
+stays-halts left rest before now script read s =
+    at_statement s.replies (record { script = script; read = read; count = s.first.count; last = s.first.last; run = s.first.run }) s.written
+
+pub falls-falters : (words : List (List ℕ)) (left rest before now : Option (List ℕ)) (script : List ℕ) → Script left rest script → Falls (statements script) before now → Falters words left rest before now
+falls-falters words left rest before now script read s =
+    in_replies s.replies (record { script = script; read = read; count = s.first.count; last = s.first.last; run = s.first.run }) s.written
