@@ -2,15 +2,15 @@
 #![tactic(auto)]
 
 pub mod command;
-mod exact;
 mod forms;
 pub mod laws;
 mod spelling;
+mod statement;
 
 pub use command::{Command, Until, WriteForm};
-pub use exact::is_command;
 pub use forms::command_of;
 pub use spelling::text_of;
+pub use statement::is_command;
 
 #[cfg(test)]
 mod tests;

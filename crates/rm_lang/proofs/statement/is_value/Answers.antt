@@ -1,6 +1,6 @@
 use Rattle.std.proofs.Common.{◌≡◌, length, rules}
 use Rattle.rm_lang.proofs.Contents.{same_test}
-use Rattle.rm_lang.proofs.exact.is_value.Goals as goal
+use Rattle.rm_lang.proofs.statement.is_value.Goals as goal
 
 pub returns-clause-value : goal.returns-clause-value
 returns-clause-value c =
