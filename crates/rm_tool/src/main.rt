@@ -3,6 +3,8 @@
 
 mod adapters;
 mod ends;
+#[cfg(test)]
+mod rows;
 mod run;
 mod session;
 #[cfg(test)]
