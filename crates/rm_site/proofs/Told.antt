@@ -7,7 +7,6 @@ use Rattle.std.proofs.lemmas.List.Elements.{All-head, All-tail, All-contains}
 use Rattle.rm_base.specs.Content.{zero_block}
 use Rattle.rm_base.specs.declared.block.Change.{Change}
 use Rattle.rm_base.specs.declared.block.Row.{Row}
-use Rattle.rm_base.specs.declared.refusal.Refusal.{Refusal}
 use Rattle.rm_history.specs.declared.world.Datafile.{Datafile}
 use Rattle.rm_history.specs.declared.world.World.{World}
 use Rattle.rm_history.specs.Tree.{owner}
@@ -17,16 +16,11 @@ use Rattle.rm_history.proofs.Owners.{owner-first}
 use Rattle.rm_history.proofs.States.{IsLatest, latest-is, concerns-parts}
 use Rattle.rm_redo.specs.declared.online.LogRecord.{LogRecord}
 use Rattle.rm_redo.specs.Online.{record_of}
-use Rattle.rm_lang.specs.declared.command.Until.TheVariants.{Scn}
-use Rattle.rm_lang.specs.declared.command.Command.TheVariants.{RecoverTest}
-use Rattle.rm_report.specs.declared.line.Line.{Line}
 use Rattle.rm_report.specs.declared.line.Line.TheVariants.{UntilIs}
-use Rattle.rm_report.specs.Reply.{said}
 use Rattle.rm_site.specs.Parts.{Parts}
-use Rattle.rm_site.specs.Machine.{Keeps, Machine, machine}
-use Rattle.rm_site.specs.RecoverTest.{until_refusal, written, rows_lines, file_lines, files_lines, test_lines}
+use Rattle.rm_site.specs.Machine.{Keeps}
+use Rattle.rm_site.specs.RecoverTest.{written, rows_lines, file_lines, files_lines, test_lines}
 use Rattle.rm_site.specs.Replay.{or_this, last_passing, is_of, row_of, told_by_records, told_by_log}
-use Rattle.rm_site.specs.Step.{Step, StepBy}
 use Rattle.rm_site.proofs.Rows.{told_from-same}
 
 and-true : (a b c : Bool) → (a && b && c && true) ≡ (a && b && c)
@@ -104,13 +98,7 @@ files_lines-same told other h w i s f (d ∷ ds) =
     ∙ ap (λ ls. file_lines (other f) w i s f d ++ ls) (files_lines-same told other h w i s (f + 1) ds)
 
 -- the lines by the log are those by the history
-test_lines-same : (p : Parts) (h : List Change) (s : ℕ) → Keeps p h → test_lines (told_by_log p s) p.world p.current s ≡ test_lines (written p.world h p.current s) p.world p.current s
+pub test_lines-same : (p : Parts) (h : List Change) (s : ℕ) → Keeps p h → test_lines (told_by_log p s) p.world p.current s ≡ test_lines (written p.world h p.current s) p.world p.current s
 test_lines-same p h s k =
     ap (λ ls. UntilIs s p.current (count_by (exists p.world p.current s) p.world.files) ∷ ls)
     (files_lines-same (told_by_log p s) (written p.world h p.current s) (λ f b. told-written p h s f b k) p.world p.current s 1 p.world.files)
-
--- RECOVER TEST that is not refused is a step
-pub step-test : (p : Parts) (h : List Change) (s : ℕ) (lines : List Line) → until_refusal p s ≡ None → lines ≡ test_lines (told_by_log p s) p.world p.current s → Keeps p h → Step (machine (Some p) h) (RecoverTest (Some (Scn s)) None) (said lines) (machine (Some p) h)
-step-test p h s lines none is k =
-    let new : Machine = machine (Some p) h in
-    subst (λ (o : Option Refusal). StepBy o new (RecoverTest (Some (Scn s)) None) (said lines) new) (sym none) (ap said (is ∙ test_lines-same p h s k), refl)
