@@ -23,6 +23,7 @@ use Rattle.rm_site.specs.RecoverTest.{written, rows_lines, file_lines, files_lin
 use Rattle.rm_site.specs.Replay.{or_this, last_passing, is_of, row_of, told_by_records, told_by_log}
 use Rattle.rm_site.proofs.Rows.{told_from-same}
 
+-- a last part that holds
 and-true : (a b c : Bool) → (a && b && c && true) ≡ (a && b && c)
 and-true true true true = refl
 and-true true true false = refl
@@ -39,12 +40,15 @@ concerns-record w s f b c own =
 abbrev Ascends : List Change → Type 0
 Ascends h = AllPairs (λ (c d : Change). c.scn < d.scn) h
 
+-- the first lies below the rest
 ascends-head : (c : Change) (cs : List Change) → Ascends (c ∷ cs) → All (λ d. c.scn < d.scn) cs
 ascends-head c cs up = λ k d lt. up 0 (suc k) d (omega arith) (omega arith)
 
+-- the rest ascends
 ascends-tail : (c : Change) (cs : List Change) → Ascends (c ∷ cs) → Ascends cs
 ascends-tail c cs up = λ i j d lt within. up (suc i) (suc j) d (omega arith) (omega arith)
 
+-- the later is not the lower
 lt-false : (a b : ℕ) → a < b → nat_lt b a ≡ false
 lt-false a b h = grind (arith, nat_tests)
 
@@ -55,6 +59,7 @@ told-cases c false None above = refl
 told-cases c false (Some d) above = refl
 told-cases c true (Some d) above = ap (λ b. Some (record_of (cond b c d))) (sym (lt-false c.scn d.scn (above d refl)))
 
+-- the latest is one of them
 latest-held : (p : Change → Bool) (h : List Change) (e : Change) → latest p h ≡ Some e → Contains h e
 latest-held p h e is = let found : IsLatest p h (Some e) = subst (λ (o : Option Change). IsLatest p h o) is (latest-is p h) in found.held
 
@@ -83,6 +88,7 @@ row-is w h i s f b (Some c) is found =
     let same : row ≡ state-by w f b (Some c) = ap (λ n. let r : Row = record { block = n; version = c.scn; content = c.content } in r) block in
     ap Some (same ∙ ap (state-by w f b) (sym is))
 
+-- what the log tells of a block is its state by the history
 pub told-written : (p : Parts) (h : List Change) (s f b : ℕ) → Keeps p h → told_by_log p s f b ≡ written p.world h p.current s f b
 told-written p h s f b k =
     let own : All (λ c. c.inc ≡ 1) h = subst (λ i. All (λ (c : Change). c.inc ≡ i) h) k.first k.owned in
@@ -91,6 +97,7 @@ told-written p h s f b k =
     ∙ ap (option_map row_of) (told-same p.world s f b h k.ascends own ∙ ap (λ i. option_map record_of (latest (concerns p.world i s f b) h)) (sym k.first))
     ∙ row-is p.world h p.current s f b o refl (latest-is (concerns p.world p.current s f b) h)
 
+-- the lines are those of what is told
 files_lines-same : (told other : ℕ → ℕ → Option Row) → ((f b : ℕ) → told f b ≡ other f b) → (w : World) (i s f : ℕ) (ds : List Datafile) → files_lines told w i s f ds ≡ files_lines other w i s f ds
 files_lines-same told other h w i s f [] = refl
 files_lines-same told other h w i s f (d ∷ ds) =
