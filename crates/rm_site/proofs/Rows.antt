@@ -81,9 +81,9 @@ pub rows_after-told : (f s n : ℕ) (rs : List LogRecord) (rows : List (Option R
 rows_after-told f s n rs rows len is =
     let told : ℕ → Option Row = told_by_records rs s f in
     let reads : (k : ℕ) → k < length rows → slice_get rows k ≡ Some (told k) = λ k lt.
-        ap (λ xs. slice_get xs k) is
-        ∙ rows_after-row f s k rs (replicate n None) None (blank n k (omega (arith, len, lt)))
-        ∙ ap Some (or_this-None (told k)) in
+    ap (λ xs. slice_get xs k) is
+    ∙ rows_after-row f s k rs (replicate n None) None (blank n k (omega (arith, len, lt)))
+    ∙ ap Some (or_this-None (told k)) in
     told_from-reads told rows 0 (λ k lt. reads k lt ∙ ap (λ j. Some (told j)) (sym (zero-add k)))
     ∙ ap (told_from told 0) len
 

@@ -1,5 +1,5 @@
 -- What the records of an online log tell, one after another.
-use Rattle.std.specs.Prelude.{ℕ, ◌==◌, ◌&&◌, nat_lt, if◌then◌else◌, Bool, Option, Some, None, List, [], ◌∷◌, slice_set}
+use Rattle.std.specs.Prelude.{ℕ, ◌==◌, ◌&&◌, nat_lt, if◌then◌else◌, Bool, Option, Some, None, List, [], ◌∷◌}
 use Rattle.std.specs.Option.{option_map}
 use Rattle.rm_base.specs.declared.block.Row.{Row}
 use Rattle.rm_redo.specs.declared.online.LogRecord.{LogRecord}

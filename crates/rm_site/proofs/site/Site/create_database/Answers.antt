@@ -1,4 +1,4 @@
-use Rattle.std.proofs.Common.{◌≡◌, ◌∙◌, List, [], Option, Some, None, sym, subst, ap, refl}
+use Rattle.std.proofs.Common.{◌≡◌, ◌∙◌, List, [], Option, Some, None, sym, subst, ap}
 use Rattle.rm_base.specs.declared.block.Change.{Change}
 use Rattle.rm_lang.specs.declared.command.Command.{Command}
 use Rattle.rm_lang.specs.declared.command.Command.TheVariants.{CreateDatabase}
