@@ -1,14 +1,13 @@
--- A live database goes on standing for its history where it grows.
-use Rattle.std.proofs.Common.{◌≡◌, ◌<◌, ◌≤◌, ◌+◌, ◌-◌, ◌∙◌, ◌++◌, ◌==◌, ◌||◌, ℕ, List, [], ◌∷◌, Option, Some, None, Bool, true, false, cond, All, refl, ap, sym, subst, arith, length, slice_get, nat_lt}
+-- A database that grows keeps its history.
+use Rattle.std.proofs.Common.{◌≡◌, ◌<◌, ◌≤◌, ◌+◌, ◌-◌, ◌∙◌, ◌++◌, ◌==◌, ◌||◌, ℕ, List, [], ◌∷◌, Option, Some, None, Bool, true, false, cond, All, refl, ap, sym, subst, arith, slice_get, nat_lt}
 use Rattle.std.specs.Option.{option_map_or}
 use Rattle.std.proofs.lemmas.Bool.Decides.{nat_tests}
 use Rattle.std.proofs.lemmas.List.{map_push}
 use Rattle.std.proofs.lemmas.Option.{slice_get_within, get_or_from_slice_get}
-use Rattle.std.proofs.lemmas.List.Elements.{All-push, All-weaker, All-get_or}
+use Rattle.std.proofs.lemmas.List.Elements.{All-push, All-get_or}
 use Rattle.std.proofs.lemmas.List.Quantifiers.{all_pairs_push}
 use Rattle.rm_base.specs.Numbers.{last_scn}
 use Rattle.rm_base.specs.declared.block.Change.{Change}
-use Rattle.rm_base.specs.declared.refusal.Refusal.{Refusal}
 use Rattle.rm_base.specs.declared.refusal.Refusal.TheVariants.{Rm05}
 use Rattle.rm_base.specs.declared.refusal.Absent.TheVariants.{Thread, File}
 use Rattle.rm_history.specs.declared.world.Datafile.{Datafile}
@@ -20,21 +19,12 @@ use Rattle.rm_history.proofs.Histories.{world-with_end, IsChange-with_end, IsHis
 use Rattle.rm_history.proofs.Owners.{owner-first}
 use Rattle.rm_redo.specs.Online.{IsThread, record_of, records_of, with_change}
 use Rattle.rm_redo.proofs.Logs.{records_of-with_change}
-use Rattle.rm_lang.specs.declared.command.Command.TheVariants.{CreateDatafile, Write}
 use Rattle.rm_lang.specs.declared.command.WriteForm.{WriteForm}
-use Rattle.rm_report.specs.declared.line.Line.TheVariants.{DatafileAt, Written}
-use Rattle.rm_report.specs.declared.line.Reply.{Reply}
-use Rattle.rm_report.specs.Reply.{said}
 use Rattle.rm_site.specs.Parts.{Parts, IsSound, now_of}
-use Rattle.rm_site.specs.Machine.{Machine, machine, Keeps}
-use Rattle.rm_site.specs.CreateDatafile.{datafile_refusal, new_datafile, with_datafile}
-use Rattle.rm_site.specs.Step.{Step, StepBy}
+use Rattle.rm_site.specs.Machine.{Keeps}
+use Rattle.rm_site.specs.CreateDatafile.{new_datafile, with_datafile}
 use Rattle.rm_site.specs.Write.{block_refusal, write_refusal, change_of, with_write}
-use Rattle.rm_site.proofs.Sound.{end_of-with_end}
-
--- changes below m are below what is not less
-below-more : (h : List Change) (m n : ℕ) → m ≤ n → All (λ c. c.scn < m) h → All (λ c. c.scn < n) h
-below-more h m n le all = All-weaker (λ (c : Change). c.scn < m) (λ (c : Change). c.scn < n) (λ c lt. omega (arith, lt, le)) h all
+use Rattle.rm_site.proofs.Sound.{end_of-with_end, below-more}
 
 -- the SCN that the next change takes, after one more
 pub now-more : (p : Parts) → IsSound p.current p.world p.logs → now_of (record p { world = world-with_end p.world p.current (now_of p + 1) }) ≡ now_of p + 1
@@ -49,7 +39,7 @@ keeps-datafile p blocks h s k =
       first = k.first;
       owned = k.owned;
       created = All-push (λ (x : Datafile). x.inc ≡ p.current) p.world.files d k.created refl;
-      below = rw (now-more p s) (below-more h (now_of p) (now_of p + 1) (omega arith) k.below);
+      below = rw (now-more p s) (below-more (λ (c : Change). c.scn) h (now_of p) (now_of p + 1) (omega arith) k.below);
       ascends = k.ascends;
       log = k.log;
     }
@@ -116,20 +106,9 @@ keeps-write p w h s k a =
       first = k.first;
       owned = All-push (λ (x : Change). x.inc ≡ p.current) h c k.owned refl;
       created = k.created;
-      below = rw (now-more p s) (All-push (λ (x : Change). x.scn < now_of p + 1) h c (below-more h (now_of p) (now_of p + 1) (omega arith) k.below) (omega arith));
+      below = rw (now-more p s) (All-push (λ (x : Change). x.scn < now_of p + 1) h c (below-more (λ (c : Change). c.scn) h (now_of p) (now_of p + 1) (omega arith) k.below) (omega arith));
       ascends = all_pairs_push (λ (x y : Change). x.scn < y.scn) h c k.ascends (λ i d lt. All-get_or (λ (x : Change). x.scn < now_of p) h i d lt k.below);
       log =
           subst (λ t. records_of (with_change p.logs c) t ≡ records_of p.logs t ++ record_of c ∷ []) one (records_of-with_change p.logs c thread)
           ∙ ap (λ rs. rs ++ record_of c ∷ []) k.log ∙ sym (map_push record_of h c);
     }
-
--- a statement that is not refused is a step
-pub step-datafile : (p : Parts) (blocks : ℕ) (h : List Change) (reply : Reply) → datafile_refusal p blocks ≡ None → reply ≡ said (DatafileAt (length p.world.files + 1) (now_of p) blocks ∷ []) → Step (machine (Some p) h) (CreateDatafile blocks) reply (machine (Some (with_datafile p blocks)) h)
-step-datafile p blocks h reply none is =
-    let new : Machine = machine (Some (with_datafile p blocks)) h in
-    subst (λ (o : Option Refusal). StepBy o (machine (Some p) h) (CreateDatafile blocks) reply new) (sym none) (is, refl)
-
-pub step-write : (p : Parts) (w : WriteForm) (h : List Change) (reply : Reply) → write_refusal p w ≡ None → reply ≡ said (Written (now_of p) ∷ []) → Step (machine (Some p) h) (Write w) reply (machine (Some (with_write p w)) (h ++ change_of p w ∷ []))
-step-write p w h reply none is =
-    let new : Machine = machine (Some (with_write p w)) (h ++ change_of p w ∷ []) in
-    subst (λ (o : Option Refusal). StepBy o (machine (Some p) h) (Write w) reply new) (sym none) (is, refl)

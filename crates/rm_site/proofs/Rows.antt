@@ -7,13 +7,24 @@ use Rattle.std.proofs.lemmas.Option.{slice_get-get_or, slice_get_within, get_or_
 use Rattle.rm_base.specs.declared.block.Row.{Row}
 use Rattle.rm_redo.specs.declared.online.LogRecord.{LogRecord}
 use Rattle.rm_site.specs.RecoverTest.{told_from}
-use Rattle.rm_site.specs.Replay.{or_this, last_passing, is_of, row_of, told_by_records, put_record, rows_after}
+use Rattle.rm_site.specs.Replay.{or_this, last_passing, is_of, row_of, told_by_records}
 
+-- the row of the record's block, where the record is of datafile f and below s
+abbrev pub put_record : ℕ → ℕ → List (Option Row) → LogRecord → List (Option Row)
+put_record f s rows r = if (r.file == f) && nat_lt r.scn s then slice_set rows r.block (Some (row_of r)) else rows
+
+-- the rows after all records, one after another
+abbrev pub rows_after : ℕ → ℕ → List (Option Row) → List LogRecord → List (Option Row)
+rows_after f s rows [] = rows
+rows_after f s rows (r ∷ rs) = rows_after f s (put_record f s rows r) rs
+
+-- the item that is set
 set-same : {X : Type 0} (xs : List X) (b : ℕ) (v x : X) → slice_get xs b ≡ Some x → slice_get (slice_set xs b v) b ≡ Some v
 set-same xs b v x h =
     let within : b < length xs = slice_get_within xs b x h in
     slice_get-get_or (slice_set xs b v) b v (omega (arith, within, length-set xs b v)) ∙ ap Some (get_or-set_same xs b v v within)
 
+-- an item that is not
 set-other : {X : Type 0} (xs : List X) (k b : ℕ) (v x : X) → b ≢ k → slice_get xs b ≡ Some x → slice_get (slice_set xs k v) b ≡ Some x
 set-other xs k b v x ne h =
     let within : b < length xs = slice_get_within xs b x h in
@@ -39,12 +50,14 @@ told-more None true r x = refl
 told-more None false r x = refl
 told-more (Some y) t r x = refl
 
+-- all records, at the row of block b
 rows_after-row : (f s b : ℕ) (rs : List LogRecord) (rows : List (Option Row)) (x : Option Row) → slice_get rows b ≡ Some x → slice_get (rows_after f s rows rs) b ≡ Some (or_this (told_by_records rs s f b) x)
 rows_after-row f s b [] rows x h = h
 rows_after-row f s b (r ∷ rs) rows x h =
     rows_after-row f s b rs (put_record f s rows r) (or_this (if is_of s f b r then Some (row_of r) else None) x) (put-row f s b rows r x h)
     ∙ ap Some (told-more (last_passing (is_of s f b) rs) (is_of s f b r) r x)
 
+-- where the second has no value, the first is left
 or_this-None : {X : Type 0} (o : Option X) → or_this o None ≡ o
 or_this-None None = refl
 or_this-None (Some x) = refl
@@ -58,17 +71,21 @@ told_from-reads told (x ∷ xs) b h =
     let rest : xs ≡ told_from told (b + 1) (length xs) = told_from-reads told xs (b + 1) (λ k lt. h (suc k) (omega arith) ∙ ap (λ n. Some (told n)) (omega arith)) in
     ap (λ y. y ∷ xs) first ∙ ap (λ ys. told b ∷ ys) rest
 
+-- a block that no record was looked at for has no row
+blank : (n k : ℕ) → k < n → let none : Option Row = None in slice_get (replicate n none) k ≡ Some none
+blank n k lt =
+    let none : Option Row = None in
+    slice_get-get_or (replicate n none) k none (omega (arith, lt, length-replicate n none)) ∙ ap Some (get_or-replicate n k none none lt)
+
 pub rows_after-told : (f s n : ℕ) (rs : List LogRecord) (rows : List (Option Row)) → length rows ≡ n → rows ≡ rows_after f s (replicate n None) rs → rows ≡ told_from (told_by_records rs s f) 0 n
 rows_after-told f s n rs rows len is =
-    let none : Option Row = None in
-    let reads : (k : ℕ) → k < length rows → slice_get rows k ≡ Some (told_by_records rs s f k) = λ k lt.
-    let inside : k < n = omega (arith, len, lt) in
-    let full : length (replicate n none) ≡ n = length-replicate n none in
-    let blank : slice_get (replicate n none) k ≡ Some none =
-    slice_get-get_or (replicate n none) k none (omega (arith, inside, full)) ∙ ap Some (get_or-replicate n k none none inside) in
-    ap (λ xs. slice_get xs k) is ∙ rows_after-row f s k rs (replicate n none) none blank ∙ ap Some (or_this-None (told_by_records rs s f k)) in
-    told_from-reads (told_by_records rs s f) rows 0 (λ k lt. reads k lt ∙ ap (λ j. Some (told_by_records rs s f j)) (sym (zero-add k)))
-    ∙ ap (told_from (told_by_records rs s f) 0) len
+    let told : ℕ → Option Row = told_by_records rs s f in
+    let reads : (k : ℕ) → k < length rows → slice_get rows k ≡ Some (told k) = λ k lt.
+    ap (λ xs. slice_get xs k) is
+    ∙ rows_after-row f s k rs (replicate n None) None (blank n k (omega (arith, len, lt)))
+    ∙ ap Some (or_this-None (told k)) in
+    told_from-reads told rows 0 (λ k lt. reads k lt ∙ ap (λ j. Some (told j)) (sym (zero-add k)))
+    ∙ ap (told_from told 0) len
 
 -- the same told of each block
 pub told_from-same : (told other : ℕ → Option Row) → ((b : ℕ) → told b ≡ other b) → (b n : ℕ) → told_from told b n ≡ told_from other b n

@@ -1,4 +1,4 @@
--- What is true of each live database stays true where it grows.
+-- A database that grows stays sound.
 use Rattle.std.proofs.Common.{◌≡◌, ◌<◌, ◌≤◌, ◌+◌, ◌-◌, ◌∙◌, ◌++◌, ℕ, List, [], ◌∷◌, Option, All, ap, arith, length, get_or-set_same}
 use Rattle.std.specs.Option.{option_map_or}
 use Rattle.std.proofs.lemmas.List.{length-append}
@@ -26,14 +26,11 @@ end_of-with_end tree i end there =
     ap (λ (o : Option Incarnation). option_map_or (λ n. n.end) o 0) (incarnation-there (with_end tree i end) i new (IsThere-with_end tree i end i there))
     ∙ ap (λ (n : Incarnation). n.end) (get_or-set_same tree (i - 1) new new (omega (arith, there.0, there.1)))
 
--- records below m are below what is not less
-below-more : (rs : List LogRecord) (m n : ℕ) → m ≤ n → All (λ r. r.scn < m) rs → All (λ r. r.scn < n) rs
-below-more rs m n le all = All-weaker (λ (r : LogRecord). r.scn < m) (λ (r : LogRecord). r.scn < n) (λ r lt. omega (arith, lt, le)) rs all
+-- what lies below m lies below what is not less
+pub below-more : {X : Type 0} (scn : X → ℕ) (xs : List X) (m n : ℕ) → m ≤ n → All (λ x. scn x < m) xs → All (λ x. scn x < n) xs
+below-more scn xs m n le all = All-weaker (λ x. scn x < m) (λ x. scn x < n) (λ x lt. omega (arith, lt, le)) xs all
 
-created-more : (ds : List Datafile) (m n : ℕ) → m ≤ n → All (λ d. d.creation < m) ds → All (λ d. d.creation < n) ds
-created-more ds m n le all = All-weaker (λ (d : Datafile). d.creation < m) (λ (d : Datafile). d.creation < n) (λ d lt. omega (arith, lt, le)) ds all
-
--- CREATE DATAFILE
+-- with one more datafile
 pub sound-datafile : (p : Parts) (blocks : ℕ) → IsSound p.current p.world p.logs → now_of p < last_scn → length p.world.files < 64 → blocks_in p.world.files + blocks ≤ 131072 → IsSound p.current (with_datafile p blocks).world (with_datafile p blocks).logs
 sound-datafile p blocks s below few fit =
     let now : end_of (with_end p.world.tree p.current (now_of p + 1)) p.current ≡ now_of p + 1 = end_of-with_end p.world.tree p.current (now_of p + 1) s.there in
@@ -49,19 +46,19 @@ sound-datafile p blocks s below few fit =
       inc = s.inc;
       found = s.found;
       first = omega (arith, now, s.first);
-      below = rw now (below-more (records_of p.logs 1) (now_of p) (now_of p + 1) (omega arith) s.below);
+      below = rw now (below-more (λ (r : LogRecord). r.scn) (records_of p.logs 1) (now_of p) (now_of p + 1) (omega arith) s.below);
       created = All-push (λ (x : Datafile). 0 < x.creation) p.world.files d s.created s.begun;
-      before = rw now (All-push (λ (x : Datafile). x.creation < now_of p + 1) p.world.files d (created-more p.world.files (now_of p) (now_of p + 1) (omega arith) s.before) (omega arith));
+      before = rw now (All-push (λ (x : Datafile). x.creation < now_of p + 1) p.world.files d (below-more (λ (x : Datafile). x.creation) p.world.files (now_of p) (now_of p + 1) (omega arith) s.before) (omega arith));
       few = omega (arith, few, length-append p.world.files (d ∷ []));
       fit = omega (arith, all, fit);
     }
 
--- WRITE
+-- with one more change in its log
 pub sound-write : (p : Parts) (w : WriteForm) → IsSound p.current p.world p.logs → now_of p < last_scn → IsThread p.logs w.thread → IsSound p.current (with_write p w).world (with_write p w).logs
 sound-write p w s below thread =
     let now : end_of (with_end p.world.tree p.current (now_of p + 1)) p.current ≡ now_of p + 1 = end_of-with_end p.world.tree p.current (now_of p + 1) s.there in
     let c : Change = change_of p w in
-    let more : All (λ r. r.scn < now_of p + 1) (records_of p.logs 1) = below-more (records_of p.logs 1) (now_of p) (now_of p + 1) (omega arith) s.below in
+    let more : All (λ r. r.scn < now_of p + 1) (records_of p.logs 1) = below-more (λ (r : LogRecord). r.scn) (records_of p.logs 1) (now_of p) (now_of p + 1) (omega arith) s.below in
     record {
       there = IsThere-with_end p.world.tree p.current (now_of p + 1) p.current s.there;
       begun = omega (arith, now);
@@ -74,7 +71,7 @@ sound-write p w s below thread =
       first = omega (arith, now, s.first, first_of-with_change p.logs c 1);
       below = rw now (All-records-with_change (λ (r : LogRecord). r.scn < now_of p + 1) p.logs c 1 thread (omega arith) more (omega arith));
       created = s.created;
-      before = rw now (created-more p.world.files (now_of p) (now_of p + 1) (omega arith) s.before);
+      before = rw now (below-more (λ (x : Datafile). x.creation) p.world.files (now_of p) (now_of p + 1) (omega arith) s.before);
       few = s.few;
       fit = s.fit;
     }

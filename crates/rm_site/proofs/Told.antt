@@ -7,7 +7,6 @@ use Rattle.std.proofs.lemmas.List.Elements.{All-head, All-tail, All-contains}
 use Rattle.rm_base.specs.Content.{zero_block}
 use Rattle.rm_base.specs.declared.block.Change.{Change}
 use Rattle.rm_base.specs.declared.block.Row.{Row}
-use Rattle.rm_base.specs.declared.refusal.Refusal.{Refusal}
 use Rattle.rm_history.specs.declared.world.Datafile.{Datafile}
 use Rattle.rm_history.specs.declared.world.World.{World}
 use Rattle.rm_history.specs.Tree.{owner}
@@ -17,18 +16,14 @@ use Rattle.rm_history.proofs.Owners.{owner-first}
 use Rattle.rm_history.proofs.States.{IsLatest, latest-is, concerns-parts}
 use Rattle.rm_redo.specs.declared.online.LogRecord.{LogRecord}
 use Rattle.rm_redo.specs.Online.{record_of}
-use Rattle.rm_lang.specs.declared.command.Until.TheVariants.{Scn}
-use Rattle.rm_lang.specs.declared.command.Command.TheVariants.{RecoverTest}
-use Rattle.rm_report.specs.declared.line.Line.{Line}
 use Rattle.rm_report.specs.declared.line.Line.TheVariants.{UntilIs}
-use Rattle.rm_report.specs.Reply.{said}
 use Rattle.rm_site.specs.Parts.{Parts}
-use Rattle.rm_site.specs.Machine.{Keeps, Machine, machine}
-use Rattle.rm_site.specs.RecoverTest.{until_refusal, written, rows_lines, file_lines, files_lines, test_lines}
+use Rattle.rm_site.specs.Machine.{Keeps}
+use Rattle.rm_site.specs.RecoverTest.{written, rows_lines, file_lines, files_lines, test_lines}
 use Rattle.rm_site.specs.Replay.{or_this, last_passing, is_of, row_of, told_by_records, told_by_log}
-use Rattle.rm_site.specs.Step.{Step, StepBy}
 use Rattle.rm_site.proofs.Rows.{told_from-same}
 
+-- a last part that holds
 and-true : (a b c : Bool) → (a && b && c && true) ≡ (a && b && c)
 and-true true true true = refl
 and-true true true false = refl
@@ -45,12 +40,15 @@ concerns-record w s f b c own =
 abbrev Ascends : List Change → Type 0
 Ascends h = AllPairs (λ (c d : Change). c.scn < d.scn) h
 
+-- the first lies below the rest
 ascends-head : (c : Change) (cs : List Change) → Ascends (c ∷ cs) → All (λ d. c.scn < d.scn) cs
 ascends-head c cs up = λ k d lt. up 0 (suc k) d (omega arith) (omega arith)
 
+-- the rest ascends
 ascends-tail : (c : Change) (cs : List Change) → Ascends (c ∷ cs) → Ascends cs
 ascends-tail c cs up = λ i j d lt within. up (suc i) (suc j) d (omega arith) (omega arith)
 
+-- the later is not the lower
 lt-false : (a b : ℕ) → a < b → nat_lt b a ≡ false
 lt-false a b h = grind (arith, nat_tests)
 
@@ -61,6 +59,7 @@ told-cases c false None above = refl
 told-cases c false (Some d) above = refl
 told-cases c true (Some d) above = ap (λ b. Some (record_of (cond b c d))) (sym (lt-false c.scn d.scn (above d refl)))
 
+-- the latest is one of them
 latest-held : (p : Change → Bool) (h : List Change) (e : Change) → latest p h ≡ Some e → Contains h e
 latest-held p h e is = let found : IsLatest p h (Some e) = subst (λ (o : Option Change). IsLatest p h o) is (latest-is p h) in found.held
 
@@ -89,6 +88,7 @@ row-is w h i s f b (Some c) is found =
     let same : row ≡ state-by w f b (Some c) = ap (λ n. let r : Row = record { block = n; version = c.scn; content = c.content } in r) block in
     ap Some (same ∙ ap (state-by w f b) (sym is))
 
+-- what the log tells of a block is its state by the history
 pub told-written : (p : Parts) (h : List Change) (s f b : ℕ) → Keeps p h → told_by_log p s f b ≡ written p.world h p.current s f b
 told-written p h s f b k =
     let own : All (λ c. c.inc ≡ 1) h = subst (λ i. All (λ (c : Change). c.inc ≡ i) h) k.first k.owned in
@@ -97,6 +97,7 @@ told-written p h s f b k =
     ∙ ap (option_map row_of) (told-same p.world s f b h k.ascends own ∙ ap (λ i. option_map record_of (latest (concerns p.world i s f b) h)) (sym k.first))
     ∙ row-is p.world h p.current s f b o refl (latest-is (concerns p.world p.current s f b) h)
 
+-- the lines are those of what is told
 files_lines-same : (told other : ℕ → ℕ → Option Row) → ((f b : ℕ) → told f b ≡ other f b) → (w : World) (i s f : ℕ) (ds : List Datafile) → files_lines told w i s f ds ≡ files_lines other w i s f ds
 files_lines-same told other h w i s f [] = refl
 files_lines-same told other h w i s f (d ∷ ds) =
@@ -104,13 +105,7 @@ files_lines-same told other h w i s f (d ∷ ds) =
     ∙ ap (λ ls. file_lines (other f) w i s f d ++ ls) (files_lines-same told other h w i s (f + 1) ds)
 
 -- the lines by the log are those by the history
-test_lines-same : (p : Parts) (h : List Change) (s : ℕ) → Keeps p h → test_lines (told_by_log p s) p.world p.current s ≡ test_lines (written p.world h p.current s) p.world p.current s
+pub test_lines-same : (p : Parts) (h : List Change) (s : ℕ) → Keeps p h → test_lines (told_by_log p s) p.world p.current s ≡ test_lines (written p.world h p.current s) p.world p.current s
 test_lines-same p h s k =
     ap (λ ls. UntilIs s p.current (count_by (exists p.world p.current s) p.world.files) ∷ ls)
     (files_lines-same (told_by_log p s) (written p.world h p.current s) (λ f b. told-written p h s f b k) p.world p.current s 1 p.world.files)
-
--- RECOVER TEST that is not refused is a step
-pub step-test : (p : Parts) (h : List Change) (s : ℕ) (lines : List Line) → until_refusal p s ≡ None → lines ≡ test_lines (told_by_log p s) p.world p.current s → Keeps p h → Step (machine (Some p) h) (RecoverTest (Some (Scn s)) None) (said lines) (machine (Some p) h)
-step-test p h s lines none is k =
-    let new : Machine = machine (Some p) h in
-    subst (λ (o : Option Refusal). StepBy o new (RecoverTest (Some (Scn s)) None) (said lines) new) (sym none) (ap said (is ∙ test_lines-same p h s k), refl)

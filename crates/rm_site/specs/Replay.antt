@@ -1,5 +1,5 @@
 -- What the records of an online log tell, one after another.
-use Rattle.std.specs.Prelude.{ℕ, ◌==◌, ◌&&◌, nat_lt, if◌then◌else◌, Bool, Option, Some, None, List, [], ◌∷◌, slice_set}
+use Rattle.std.specs.Prelude.{ℕ, ◌==◌, ◌&&◌, nat_lt, if◌then◌else◌, Bool, Option, Some, None, List, [], ◌∷◌}
 use Rattle.std.specs.Option.{option_map}
 use Rattle.rm_base.specs.declared.block.Row.{Row}
 use Rattle.rm_redo.specs.declared.online.LogRecord.{LogRecord}
@@ -31,12 +31,3 @@ told_by_records rs s f b = option_map row_of (last_passing (is_of s f b) rs)
 -- what the online log of thread 1 tells
 abbrev pub told_by_log : Parts → ℕ → ℕ → ℕ → Option Row
 told_by_log p s f b = told_by_records (records_of p.logs 1) s f b
-
--- the row of the record's block, where the record is of datafile f and below s
-abbrev pub put_record : ℕ → ℕ → List (Option Row) → LogRecord → List (Option Row)
-put_record f s rows r = if (r.file == f) && nat_lt r.scn s then slice_set rows r.block (Some (row_of r)) else rows
-
--- the rows after all records
-abbrev pub rows_after : ℕ → ℕ → List (Option Row) → List LogRecord → List (Option Row)
-rows_after f s rows [] = rows
-rows_after f s rows (r ∷ rs) = rows_after f s (put_record f s rows r) rs

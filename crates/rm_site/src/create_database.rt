@@ -9,7 +9,7 @@ use rm_history::{Tree, World};
 use rm_redo::OnlineLogs;
 use std::alloc::Global;
 
-/// Why CREATE DATABASE is refused where there is no database.
+/// Why CREATE DATABASE is refused where there is no database, if it is: more than 4 redo threads.
 pub fn create_refusal(threads: u64) -> Option<Refusal>
     ensures { result ≡ create_refusal threads }
 {
@@ -21,7 +21,7 @@ pub fn create_refusal(threads: u64) -> Option<Refusal>
 }
 
 impl Database {
-    /// A new database with one incarnation, one redo thread and no datafile.
+    /// A new database with one incarnation, one redo thread and no datafile. Its first SCN is `scn`.
     pub fn new(alloc: Global, dbid: u32, scn: Scn) -> Result<Database, NoMemory>
         requires dbid { 1 ≤ dbid }
         requires first { 1 ≤ scn }

@@ -12,7 +12,7 @@ use rm_report::{Line, Reply};
 use std::alloc::Global;
 
 impl Database {
-    // Why CREATE DATAFILE is refused.
+    // Why CREATE DATAFILE is refused, if it is.
     fn datafile_refusal(&self, blocks: u64) -> Option<Refusal>
         ensures value { result ≡ datafile_refusal self.now blocks }
         ensures fits { IfNone result (blocks ≤ 65536) }
@@ -30,7 +30,7 @@ impl Database {
         }
     }
 
-    // Adds a datafile.
+    // Adds the datafile, which takes one SCN.
     fn add_datafile(&mut self, blocks: u32) -> Result<(), NoMemory>
         requires { datafile_refusal self.old blocks ≡ None }
         ensures { OnOk result (self.new ≡ with_datafile self.old blocks) }
@@ -46,7 +46,7 @@ impl Database {
     }
 }
 
-/// CREATE DATAFILE.
+/// CREATE DATAFILE: the datafile takes the next number and one SCN. A refusal changes nothing.
 pub fn create_datafile(alloc: Global, database: &mut Database, blocks: u64) -> Result<Reply, Stop>
     ensures { IfOk result (Steps (Some database.old) (Some database.new) (CreateDatafile blocks)) }
 {

@@ -10,3 +10,6 @@ pub mod site;
 mod write;
 
 pub use site::{Site, Stop, refusal_reply};
+
+#[cfg(test)]
+mod tests;

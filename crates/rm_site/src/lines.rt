@@ -1,7 +1,7 @@
 //! The lines that the test of a recovery prints of a datafile, by the records of its online log.
-ghost use Rattle.std.specs.Prelude.{◌≡◌, ◌++◌, None, OnOk, IfOk, length, replicate};
+ghost use Rattle.std.specs.Prelude.{◌≡◌, ◌++◌, OnOk, IfOk, length};
 ghost use Rattle.rm_site.specs.RecoverTest.{told_from, block_lines, rows_lines};
-ghost use Rattle.rm_site.specs.Replay.{rows_after, told_by_records};
+ghost use Rattle.rm_site.specs.Replay.{told_by_records};
 
 use rm_base::{FileNo, NoMemory, Row, Scn, Seq};
 use rm_history::Datafile;
@@ -9,8 +9,8 @@ use rm_redo::LogRecord;
 use rm_report::Line;
 use std::alloc::Global;
 
-// The last row of each block after all records of the datafile below `until`.
-fn replayed(
+// What the records of the datafile below `until` tell of each block: its last row.
+fn rows_at(
     alloc: Global,
     records: &[LogRecord],
     file: FileNo,
@@ -18,7 +18,7 @@ fn replayed(
     until: Scn,
 ) -> Result<Vec<Option<Row>>, NoMemory>
     ensures len { IfOk result (λ rows. length rows.items ≡ blocks) }
-    ensures rows { IfOk result (λ rows. rows.items ≡ rows_after file until (replicate blocks None) records.now) }
+    ensures rows { IfOk result (λ rows. rows.items ≡ told_from (told_by_records records.now until file) 0 blocks) }
 {
     let mut rows: Vec<Option<Row>> = vec![in alloc; None; blocks as usize]?;
     for record in records {
@@ -30,21 +30,6 @@ fn replayed(
             });
         }
     }
-    Ok(rows)
-}
-
-// What the records tell of each block of the datafile below `until`.
-fn rows_at(
-    alloc: Global,
-    records: &[LogRecord],
-    file: FileNo,
-    blocks: u32,
-    until: Scn,
-) -> Result<Vec<Option<Row>>, NoMemory>
-    ensures len { IfOk result (λ rows. length rows.items ≡ blocks) }
-    ensures rows { IfOk result (λ rows. rows.items ≡ told_from (told_by_records records.now until file) 0 blocks) }
-{
-    let rows = replayed(alloc, records, file, blocks, until)?;
     Ok(rows)
 }
 

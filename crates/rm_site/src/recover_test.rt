@@ -15,7 +15,7 @@ use rm_report::{Line, Reply};
 use std::alloc::Global;
 
 impl Database {
-    // Why an UNTIL is refused.
+    // Why an UNTIL is refused, if it is.
     fn until_refusal(&self, until: u64) -> Option<Refusal>
         ensures { result ≡ until_refusal self.now until }
     {
@@ -70,7 +70,7 @@ impl Database {
     }
 }
 
-/// RECOVER DATABASE TEST.
+/// RECOVER DATABASE TEST: tells what a recovery would bring back, and changes nothing.
 pub fn recover_test(alloc: Global, database: &mut Database, until: u64) -> Result<Reply, Stop>
     ensures { IfOk result (Steps (Some database.old) (Some database.new) (RecoverTest (Some (UntilScn until)) None)) }
 {

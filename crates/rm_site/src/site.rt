@@ -16,7 +16,7 @@ use rm_report::{Line, Reply};
 use std::alloc::Global;
 use std::marker::Model;
 
-/// Why a statement was stopped.
+/// Why a statement was stopped, without a reply.
 #[derive(Clone, Copy, Debug, PartialEq, Eq)]
 pub enum Stop {
     NoMemory,
@@ -79,7 +79,7 @@ impl Site {
         }
     }
 
-    // CREATE DATABASE, where there is none.
+    // CREATE DATABASE, where there is no database.
     fn create_database(&mut self, dbid: u32, threads: u64, scn: Scn) -> Result<Reply, Stop>
         requires there { self.old ≡ None }
         requires command { IsTrue (is_command (CreateDatabase dbid threads scn)) }
@@ -93,7 +93,8 @@ impl Site {
         Ok(reply)
     }
 
-    /// One step of the machine. A refusal is a reply too. After a stop nothing is said of the site.
+    /// One step of the machine: the reply to a statement. A refusal is a reply too, and changes nothing.
+    /// Stops where memory is wanting; nothing is said of the site after that.
     pub fn step(&mut self, command: &Command) -> Result<Reply, Stop>
         requires command { IsTrue (is_command command.now) }
         ensures step { IfOk result (Steps self.old self.new command.now) }

@@ -12,7 +12,7 @@ use rm_report::{Line, Reply};
 use std::alloc::Global;
 
 impl Database {
-    // Why WRITE is refused.
+    // Why WRITE is refused, if it is.
     fn write_refusal(&self, form: &WriteForm) -> Option<Refusal>
         ensures value { result ≡ write_refusal self.now form.now }
         ensures thread { IfNone result (form.now.thread ≡ 1) }
@@ -39,7 +39,7 @@ impl Database {
         }
     }
 
-    // Makes the change of a WRITE.
+    // Makes the change of a WRITE, which takes one SCN.
     fn write(&mut self, form: &WriteForm) -> Result<(), NoMemory>
         requires accepted { write_refusal self.old form.now ≡ None }
         requires block { form.now.block < 2 ^ 32 }
@@ -63,7 +63,7 @@ impl Database {
     }
 }
 
-/// WRITE.
+/// WRITE: the change takes one SCN and goes to the online log of its thread. A refusal changes nothing.
 pub fn write(alloc: Global, database: &mut Database, form: &WriteForm) -> Result<Reply, Stop>
     ensures { IfOk result (Steps (Some database.old) (Some database.new) (Write form.now)) }
 {

@@ -1,11 +1,14 @@
 use Rattle.std.proofs.Common.{◌≡◌, ◌∙◌, List, [], Option, Some, None, sym, subst, ap}
 use Rattle.rm_base.specs.declared.block.Change.{Change}
+use Rattle.rm_lang.specs.declared.command.Command.{Command}
 use Rattle.rm_lang.specs.declared.command.Command.TheVariants.{CreateDatabase}
+use Rattle.rm_report.specs.declared.line.Reply.{Reply}
 use Rattle.rm_site.specs.Parts.{Parts}
 use Rattle.rm_site.specs.Machine.{Holds, Keeps, machine}
-use Rattle.rm_site.specs.CreateDatabase.{create_refusal, fresh}
-use Rattle.rm_site.specs.Step.{Step}
-use Rattle.rm_site.proofs.Made.{keeps-fresh, one-thread, step-create}
+use Rattle.rm_site.specs.CreateDatabase.{fresh}
+use Rattle.rm_site.specs.Step.{Done, refusal_of}
+use Rattle.rm_site.proofs.Made.{keeps-fresh, one-thread}
+use Rattle.rm_site.proofs.Steps.{steps-done}
 use Rattle.rm_site.proofs.site.Site.create_database.Goals as goal
 
 pub returns : goal.returns
@@ -13,14 +16,15 @@ returns c h k =
     let dbid = c.args.dbid in
     let threads = c.args.threads in
     let scn = c.args.scn in
-    let none : create_refusal threads ≡ None = sym c.create_refusal.ensures ∙ c.in_default.is in
+    let command : Command = CreateDatabase dbid threads scn in
+    let reply : Reply = c.in_ok-reply.reply in
+    let new : Parts = fresh dbid 1 scn in
+    let none : Option Parts = None in
+    let there : none ≡ c.args.self.now = sym c.requires.there in
+    let empty : [] ≡ h = sym (subst (λ (o : Option Parts). Holds o h) c.requires.there k) in
     let one : threads ≡ 1 = one-thread dbid threads scn c.requires.command in
-    let empty : h ≡ [] = subst (λ (o : Option Parts). Holds o h) c.requires.there k in
-    let made : c.in_ok-new.field-0 ≡ fresh dbid threads scn = c.in_ok-new.ensures ∙ ap (λ n. fresh dbid n scn) (sym one) in
-    let reply = c.in_ok-reply.reply in
-    let step : Step (machine None h) (CreateDatabase dbid threads scn) reply (machine (Some (fresh dbid threads scn)) h) = step-create dbid threads scn h reply none c.in_ok-reply.ensures in (
-      h,
-      subst (λ (o : Option Parts). Step (machine o h) (CreateDatabase dbid threads scn) reply (machine (Some c.in_ok-new.field-0) h)) (sym c.requires.there)
-          (subst (λ (q : Parts). Step (machine None h) (CreateDatabase dbid threads scn) reply (machine (Some q) h)) (sym made) step),
-      subst (λ (q : Parts). Keeps q h) (sym c.in_ok-new.ensures) (subst (λ (g : List Change). Keeps (fresh dbid 1 scn) g) (sym empty) (keeps-fresh dbid scn)),
-    )
+    let done : Done None h command reply (machine (Some new) h) = (c.in_ok-reply.ensures, ap (λ n. machine (Some (fresh dbid n scn)) h) (sym one)) in
+    steps-done c.args.self.now _ (Some new) command reply h h (ap Some c.in_ok-new.ensures)
+    (ap (λ (o : Option Parts). refusal_of o command) (sym there) ∙ sym c.create_refusal.ensures ∙ c.in_default.is)
+    (subst (λ (o : Option Parts). Done o h command reply (machine (Some new) h)) there done)
+    (subst (λ (g : List Change). Keeps new g) empty (keeps-fresh dbid scn))

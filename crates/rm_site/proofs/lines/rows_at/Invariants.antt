@@ -1,6 +1,6 @@
 use Rattle.std.proofs.Common.{◌≡◌, drop, length, replicate, None}
-use Rattle.rm_site.specs.Replay.{rows_after}
-use Rattle.rm_site.proofs.lines.replayed.Given as goal
+use Rattle.rm_site.proofs.Rows.{rows_after}
+use Rattle.rm_site.proofs.lines.rows_at.Given as goal
 
 abbrev pub invariant-loop-record : goal.invariant-loop-record
 invariant-loop-record l = record {

@@ -1,0 +1,68 @@
+//! Two writes to one block, and what the test of a recovery tells of them.
+use crate::{Site, refusal_reply};
+use rm_base::{Block, Refusal};
+use rm_lang::{Command, Until, WriteForm, is_command};
+use rm_report::{Reply, bytes_of};
+use std::alloc::Global;
+use std::process::Abort;
+use std::test::Fail;
+
+// The reply has this text.
+fn shows(rt: &impl Abort, alloc: Global, reply: &Reply, text: &str) -> Result<(), Fail> {
+    let bytes = bytes_of(alloc, reply)?;
+    assert_eq!(rt; bytes.as_slice(), text.as_bytes(), "{text}");
+    Ok(())
+}
+
+// WRITE DATAFILE 1 BLOCK 0.
+fn write(content: Block) -> Command {
+    Command::Write(WriteForm {
+        thread: 1,
+        file: 1,
+        block: 0,
+        content,
+    })
+}
+
+// RECOVER DATABASE UNTIL SCN s TEST.
+fn test_until(scn: u64) -> Command {
+    Command::RecoverTest {
+        until: Some(Until::Scn(scn)),
+        inc: None,
+    }
+}
+
+#[test]
+fn two_writes(rt: HostRuntime) -> Result<(), Fail> {
+    let create = Command::CreateDatabase {
+        dbid: 1,
+        threads: 1,
+        scn: 1,
+    };
+    let steps = [
+        (create, "database 1 incarnation 1 at 1\n"),
+        (
+            Command::CreateDatafile { blocks: 4 },
+            "datafile 1 created at 1 with 4 blocks\n",
+        ),
+        (write(Block::padded(b"AA")), "scn 2\n"),
+        (write(Block::padded(b"BB")), "scn 3\n"),
+        (
+            test_until(4),
+            "until 4 of incarnation 1: files 1\ndatafile 1: 4 blocks, 1 written\nblock 0 version 3 value 4242\n",
+        ),
+    ];
+    let mut site = Site::new(rt.alloc());
+    for (command, text) in steps {
+        assert!(rt; is_command(&command));
+        shows(&rt, rt.alloc(), &site.step(&command)?, text)?;
+    }
+    Ok(())
+}
+
+#[test]
+fn a_refusal(rt: HostRuntime) -> Result<(), Fail> {
+    let reply = refusal_reply(rt.alloc(), Refusal::Rm15)?;
+    assert!(rt; reply.refused);
+    shows(&rt, rt.alloc(), &reply, "RM-15: last SCN\n")
+}
