@@ -8,7 +8,7 @@ ghost use Rattle.rm_grammar.specs.Reading.{Gives, begins_with, word_at, sign_at,
 
 use crate::unread::Unread;
 use rm_base::{Seq, Text};
-use rm_token::{Token, are_string_bytes};
+use rm_token::{Token, are_string_bytes, is_word_byte};
 use std::alloc::Global;
 
 /// The word stands first, in any case of its letters.
@@ -142,12 +142,6 @@ pub fn string(tokens: &[Token]) -> Result<(&[u8], &[Token]), Unread>
         }
         _ => Err(Unread::Other),
     }
-}
-
-fn is_word_byte(byte: u8) -> bool
-    ensures { result ≡ is_word_byte byte }
-{
-    byte.is_ascii_alphanumeric() || byte == b'_'
 }
 
 fn are_word_bytes(bytes: &[u8]) -> bool

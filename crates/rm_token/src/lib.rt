@@ -7,6 +7,7 @@ mod spelling;
 mod split;
 pub mod token;
 
+pub use scan::is_word_byte;
 pub use spelling::{are_string_bytes, is_name, text_of};
 pub use split::statements;
 pub use token::Token;
