@@ -11,6 +11,7 @@ set_count-le : (xs : List ℕ) → Each1 (Fits w8) xs → set_count xs ≤ 8 * l
 set_count-le [] all = omega arith
 set_count-le (x ∷ xs) all = omega (arith, sum_by-cons count_ones x xs, ones-le 8 x all.0.fits, set_count-le xs all.1)
 
+-- the counts of the bytes add up to the count of the bits
 sum_l-ones : (xs : List ℕ) → sum_l (map count_ones xs) ≡ set_count xs
 sum_l-ones [] = refl
 sum_l-ones (x ∷ xs) = ap (λ n. count_ones x + n) (sum_l-ones xs) ∙ sym (sum_by-cons count_ones x xs)
@@ -19,6 +20,7 @@ sum_l-ones (x ∷ xs) = ap (λ n. count_ones x + n) (sum_l-ones xs) ∙ sym (sum
 abbrev pub lane_counts : List ℕ → List ℕ
 lane_counts xs = map (λ n. n) (map count_ones xs)
 
+-- the same of the lanes' counts
 sum_l-counts : (xs : List ℕ) → sum_l (lane_counts xs) ≡ set_count xs
 sum_l-counts xs = ap sum_l (map-map (λ n. n) count_ones xs) ∙ sum_l-ones xs
 
@@ -26,6 +28,7 @@ sum_l-counts xs = ap sum_l (map-map (λ n. n) count_ones xs) ∙ sum_l-ones xs
 abbrev pub lanes_sum : List ℕ → ℕ
 lanes_sum xs = fold_l (λ s x. s + x) 0 (lane_counts xs)
 
+-- the sum of the lanes' counts is the count of the bits
 lanes_sum-is : (xs : List ℕ) → lanes_sum xs ≡ set_count xs
 lanes_sum-is xs = let all = fold-sum 0 (lane_counts xs) in omega (arith, all, sum_l-counts xs)
 

@@ -12,6 +12,7 @@ pub record OredBelow (i : ℕ) (old from new : List ℕ) : Type 0 where
   pub below : (k : ℕ) → k < i → slice_index new k ≡ bit_or (slice_index old k) (slice_index from k)
   pub above : (k : ℕ) → i ≤ k → slice_index new k ≡ slice_index old k
 
+-- the or of lanes is the or of lists
 zip2-bitwise_or : (xs ys : List ℕ) → zip2 bit_or xs ys ≡ bitwise_or xs ys
 zip2-bitwise_or [] ys = refl
 zip2-bitwise_or (x ∷ xs) [] = refl
@@ -25,6 +26,7 @@ all_ored i old from new same all h =
     h.below k (omega (arith, room, all)) ∙ sym (get_or-zip2 bit_or old from k 0 0 0 room (omega (arith, room, same))))
     ∙ zip2-bitwise_or old from
 
+-- k is below i, or it is not
 pub below_or_not : (k i : ℕ) → (k < i) ⊎ (i ≤ k)
 below_or_not k i = grind arith
 
