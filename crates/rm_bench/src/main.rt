@@ -1,0 +1,79 @@
+//! Runs each kernel beside a plain loop: with no word it tells whether both gave the same, and
+//! with the word `large` it tells the time of both.
+#![tactic(auto)]
+
+mod kernel;
+mod kernels;
+mod plain;
+
+use kernel::Kernel;
+use kernels::{CountOnes, IsZero, NextSet, OrInto, Same};
+use std::time::Instant;
+use std::{env, io};
+
+fn main(rt: HostRuntime) -> io::Result<()> {
+    let mut large = false;
+    for word in env::args(&rt)?.skip(1) {
+        large = word.as_str() == "large";
+    }
+    run::<OrInto>(&rt, "or_into", large)?;
+    run::<CountOnes>(&rt, "count_ones", large)?;
+    run::<NextSet>(&rt, "next_set", large)?;
+    run::<IsZero>(&rt, "is_zero", large)?;
+    run::<Same>(&rt, "same", large)
+}
+
+fn run<K: Kernel>(rt: &HostRuntime, name: &str, large: bool) -> io::Result<()> {
+    if large {
+        tell_times::<K>(rt, name)
+    } else {
+        tell_answers::<K>(rt, name)
+    }
+}
+
+// Whether lanes and plain loop give the same at each size up to 100.
+fn tell_answers<K: Kernel>(rt: &HostRuntime, name: &str) -> io::Result<()> {
+    let mut same = true;
+    for size in 0..101usize {
+        let mut lanes = K::new(rt.alloc(), size)?;
+        let mut plain = K::new(rt.alloc(), size)?;
+        lanes.by_lanes();
+        plain.by_plain_loop();
+        same = same && lanes.gave_the_same(&plain);
+    }
+    tell(rt, name, same)
+}
+
+// The times of lanes and plain loop over 65536 bytes or blocks, 1000 times over, and their ratio.
+fn tell_times<K: Kernel>(rt: &HostRuntime, name: &str) -> io::Result<()> {
+    let mut lanes = K::new(rt.alloc(), 65536)?;
+    let mut plain = K::new(rt.alloc(), 65536)?;
+    let start = Instant::now(rt)?;
+    for _ in 0..1000u32 {
+        lanes.by_lanes();
+    }
+    let middle = Instant::now(rt)?;
+    for _ in 0..1000u32 {
+        plain.by_plain_loop();
+    }
+    let end = Instant::now(rt)?;
+    let lanes_micros = middle.duration_since(start).as_micros();
+    let plain_micros = end.duration_since(middle).as_micros();
+    let percent = lanes_micros
+        .saturating_mul(100)
+        .checked_div(plain_micros)
+        .unwrap_or(0);
+    println!(rt;
+        "{name}: lanes {lanes_micros} us, plain loop {plain_micros} us, lanes / plain {percent} %"
+    )?;
+    tell(rt, name, lanes.gave_the_same(&plain))
+}
+
+fn tell(rt: &HostRuntime, name: &str, same: bool) -> io::Result<()> {
+    let answer = if same {
+        "same answer"
+    } else {
+        "DIFFERENT ANSWERS"
+    };
+    println!(rt; "{name}: {answer}")
+}

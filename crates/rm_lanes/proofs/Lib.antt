@@ -1,0 +1,4 @@
+pub mod Counting
+pub mod Equal
+pub mod Ored
+pub mod Zeros
