@@ -1,3 +1,4 @@
+pub mod Fields
 pub mod Marks
-pub mod Text
 pub mod Meaning
+pub mod Text

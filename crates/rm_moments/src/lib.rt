@@ -2,8 +2,12 @@
 #![tactic(auto)]
 
 mod civil;
+mod fields;
+pub mod laws;
 mod marks;
+mod meaning;
 mod spelling;
 
 pub use marks::{at_or_after, at_or_before};
+pub use meaning::parse;
 pub use spelling::{tag, text};
