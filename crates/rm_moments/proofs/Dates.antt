@@ -1,16 +1,16 @@
 -- Dates and times, their fields and their seconds.
-use Rattle.std.proofs.Common.{◌≡◌, ℕ, ◌+◌, ◌*◌, ◌<◌, ◌≤◌, ◌≤ℤ◌, ◌<ℤ◌, ◌⊎◌, inl, inr, pos, negsuc, unsigned_abs, ℤ, arith, refl, ap, sym, ◌∙◌}
+use Rattle.std.proofs.Common.{◌≡◌, ℕ, ◌+◌, ◌*◌, ◌<◌, ◌≤◌, ◌≤ℤ◌, ◌<ℤ◌, ◌⊎◌, inl, inr, pos, negsuc, unsigned_abs, ℤ, arith, refl, ap}
 use Rattle.std.proofs.lemmas.Int.{ints}
 use Rattle.jiff_core.specs.declared.civil.datetime.DateTime.{DateTime}
 use Rattle.jiff_core.specs.DateTime.{civil_seconds}
 use Rattle.jiff_core.specs.Time.{time_seconds}
-use Rattle.jiff.specs.Words.{IsDate, IsTime, days_in_month, epoch_day, time_nanos}
+use Rattle.jiff.specs.Words.{IsDate, IsTime, days_in_month, epoch_day}
 use Rattle.jiff_core.proofs.CalendarLemmas.{day_count-epoch, days_from_civil-day_count, day_count-lt_year}
 use Rattle.jiff_core.proofs.DateLemmas.{civil, epoch_day_same}
 use Rattle.jiff.proofs.Family.{civil_nanos-parts, civil_nanos-civil_seconds, time_nanos_bound, civil_nanos_range, epoch_day_injective}
 use Rattle.jiff.proofs.SpanFacts.{signed_arith}
 use Rattle.rm_moments.specs.declared.fields.Fields.{Fields}
-use Rattle.rm_moments.specs.Text.{two, shown, last_moment, IsAt}
+use Rattle.rm_moments.specs.Text.{shown, last_moment, IsAt}
 use Rattle.rm_moments.proofs.Digits.{fields_of, fields_of-small, spelled-injective, SameFields, year_bound}
 
 year_cases : (y : ℤ) → (pos 1970 ≤ℤ y) ⊎ (y <ℤ pos 1970)
@@ -19,11 +19,11 @@ year_cases y = grind (arith, ints)
 -- no moment lies before 1970
 pub since_1970 : (moment : ℕ) (dt : DateTime) → IsAt moment dt → pos 1970 ≤ℤ dt.date.year
 since_1970 moment dt at = elim (year_cases dt.date.year) [
-    | inl late ↦ late
-    | inr early ↦
+  | inl late ↦ late
+  | inr early ↦
       let before = day_count-lt_year dt.date.year dt.date.month dt.date.day (pos 1970) 1 1 (civil dt.date) (omega arith) early in
       absurd (omega (arith, signed_arith, civil_nanos-parts dt, civil_nanos-civil_seconds dt, time_nanos_bound dt.time, days_from_civil-day_count dt.date.year dt.date.month dt.date.day, day_count-epoch, before, at))
-  ]
+]
 
 abs_same : (x y : ℤ) → pos 0 ≤ℤ x → pos 0 ≤ℤ y → unsigned_abs x ≡ unsigned_abs y → x ≡ y
 abs_same (pos n) (pos m) a b e = ap pos e

@@ -11,3 +11,6 @@ mod spelling;
 pub use marks::{at_or_after, at_or_before};
 pub use meaning::parse;
 pub use spelling::{tag, text};
+
+#[cfg(test)]
+mod tests;

@@ -1,6 +1,4 @@
-use Rattle.std.proofs.Common.{rules, ◌≡◌, ◌∙◌, subst, sym, ap, List, ℕ, map}
-use Rattle.std.specs.Char.{to_ascii_lowercase}
-use Rattle.rm_moments.specs.Meaning.{IsDays, IsSysdate}
+use Rattle.std.proofs.Common.{rules, ◌∙◌}
 use Rattle.rm_moments.proofs.Days.{ago-word, ago-digits, take-rest}
 use Rattle.rm_moments.proofs.meaning.days_ago.Goals as goal
 
