@@ -1,9 +1,9 @@
 //! The moment that a text means.
-ghost use Rattle.std.specs.Prelude.{◌≡◌, ◌≢◌, ◌≤◌, ◌≤ℤ◌, pos, ℕ, IfSome, None};
+ghost use Rattle.std.specs.Prelude.{◌≡◌, ◌≢◌, ◌≤◌, ◌≤ℤ◌, pos, ℕ, ◌↔◌, IfSome, IsTrue, None};
 ghost use Rattle.jiff_core.specs.declared.civil.datetime.DateTime.{DateTime};
 ghost use Rattle.rm_moments.specs.Fields.{spelled, IsSmall};
 ghost use Rattle.rm_moments.specs.Text.{last_moment, shown, IsText};
-ghost use Rattle.rm_moments.specs.Meaning.{IsDays, IsAgo, MeansMoment};
+ghost use Rattle.rm_moments.specs.Meaning.{IsDays, IsSysdate, IsAgo, MeansMoment};
 
 use crate::civil::moment_of;
 use crate::fields::Fields;
@@ -25,13 +25,20 @@ pub fn parse(text: &str, moment: Moment) -> Option<Moment>
     ensures none { result ≡ None → (m : ℕ) → ¬ (MeansMoment text.now moment m) }
 {
     let text = text.as_bytes();
-    if text.eq_ignore_ascii_case(b"sysdate") {
+    if is_sysdate(text) {
         return Some(moment);
     }
     match days_ago(text) {
         Some(days) => Some(moment.saturating_sub(days * SECONDS_A_DAY)),
         None => moment_shown(text),
     }
+}
+
+// Whether this is SYSDATE, in any case of letters.
+fn is_sysdate(word: &[u8]) -> bool
+    ensures { IsTrue result ↔ IsSysdate word.now }
+{
+    word.eq_ignore_ascii_case(b"sysdate")
 }
 
 // The n of SYSDATE-n.
@@ -45,7 +52,7 @@ fn days_ago(text: &[u8]) -> Option<u64>
     }
     let (word, rest) = text.split_at(7);
     match rest {
-        [b'-', digits @ ..] if word.eq_ignore_ascii_case(b"sysdate") => days_of(digits),
+        [b'-', digits @ ..] if is_sysdate(word) => days_of(digits),
         _ => None,
     }
 }
