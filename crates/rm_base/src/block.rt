@@ -2,7 +2,7 @@
 ghost use Rattle.std.specs.Prelude.{◌≡◌, ◌≤◌, length, take};
 ghost use Rattle.rm_base.specs.Content.{padded, trimmed};
 
-use crate::numbers::{BlockNo, FileNo, IncNo, Scn, ThreadNo};
+use crate::numbers::{BlockNo, FileNo, IncNo, Moment, Scn, ThreadNo};
 
 /// What a block contains: 64 bytes.
 #[derive(Clone, Copy, Debug, PartialEq, Eq)]
@@ -58,4 +58,12 @@ pub struct Change {
     pub file: FileNo,
     pub block: BlockNo,
     pub content: Block,
+}
+
+/// A moment at which an SCN of an incarnation was written down.
+#[derive(Clone, Copy, Debug, PartialEq, Eq)]
+pub struct Mark {
+    pub moment: Moment,
+    pub inc: IncNo,
+    pub scn: Scn,
 }

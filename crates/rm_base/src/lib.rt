@@ -12,7 +12,7 @@ pub mod sealed;
 pub mod seq;
 pub mod text;
 
-pub use block::{Block, Change, Row};
+pub use block::{Block, Change, Mark, Row};
 pub use faults::{Failed, FormatFault, NoMemory};
 pub use memory::{Failing, MemSink, MemSource};
 pub use numbers::{BlockNo, FileNo, IncNo, LAST_SCN, Moment, Scn, ThreadNo};

@@ -1,0 +1,16 @@
+//! Moments as text, and the marks about a moment.
+#![tactic(auto)]
+
+mod civil;
+mod fields;
+pub mod laws;
+mod marks;
+mod meaning;
+mod spelling;
+
+pub use marks::{at_or_after, at_or_before};
+pub use meaning::parse;
+pub use spelling::{tag, text};
+
+#[cfg(test)]
+mod tests;
