@@ -8,7 +8,7 @@ use jiff::civil::Date;
 use rm_base::{Moment, NoMemory, Text};
 use std::alloc::Global;
 
-/// The moment in UTC, as `YYYY-MM-DD HH:MM:SS`.
+/// The moment, at most the last of the year 9999, in UTC as `YYYY-MM-DD HH:MM:SS`.
 pub fn text(alloc: Global, moment: Moment) -> Result<Text, NoMemory>
     requires { moment ≤ last_moment }
     ensures { IfOk result (IsText moment) }
@@ -24,7 +24,8 @@ pub fn text(alloc: Global, moment: Moment) -> Result<Text, NoMemory>
     Ok(Text::from_string(text))
 }
 
-/// The tag that a statement of this moment gives: `TAGyyyymmddThhmmss`, in UTC.
+/// The tag that a statement of this moment gives: `TAGyyyymmddThhmmss`, in UTC. The moment is at
+/// most the last of the year 9999.
 pub fn tag(alloc: Global, moment: Moment) -> Result<Text, NoMemory>
     requires { moment ≤ last_moment }
     ensures { IfOk result (IsTag moment) }
