@@ -1,6 +1,6 @@
 -- A run goes on by one statement.
-use Rattle.std.proofs.Common.{◌≡◌, ◌≤◌, ◌+◌, ◌∙◌, ◌++◌, ◌||◌, ℕ, List, [], ◌∷◌, Option, None, Bool, true, false, refl, ap, sym, subst, arith, take, drop, length}
-use Rattle.std.specs.List.{flat_map, list_any}
+use Rattle.std.proofs.Common.{◌≡◌, ◌+◌, ◌∙◌, ◌++◌, ◌||◌, ℕ, List, [], ◌∷◌, Option, None, Bool, true, false, refl, ap, sym, subst, arith, take, drop, length}
+use Rattle.std.specs.List.{list_any}
 use Rattle.std.proofs.lemmas.Grind.{flat_map-append}
 use Rattle.std.proofs.lemmas.List.{length-append}
 use Rattle.std.proofs.Math.Seq.{take-add, take-append_seam, drop-append_seam}
@@ -15,7 +15,7 @@ use Rattle.rm_site.specs.Parts.{Parts}
 use Rattle.rm_site.specs.Machine.{Machine, Holds, machine, nothing}
 use Rattle.rm_tool.specs.Ends.{WritesFront}
 use Rattle.rm_tool.specs.Run.{StatementStep, Run}
-use Rattle.rm_tool.specs.Serving.{StatementSteps, Serves, First, Stays, Falls}
+use Rattle.rm_tool.specs.Serving.{StatementSteps, Serves, Stays, Falls}
 use Rattle.rm_tool.specs.Session.{Script, Halts, at_statement, Falters, in_replies, replies_text}
 
 -- a run over these statements from no database on to this site, whose replies were written

@@ -1,6 +1,5 @@
 -- The machine's run over the statements of a script.
 use Rattle.std.specs.Prelude.{ℕ, ◌≡◌, MatchOption, List, [], ◌∷◌}
-use Rattle.rm_base.specs.declared.block.Change.{Change}
 use Rattle.rm_base.specs.declared.refusal.Refusal.TheVariants.{Rm01}
 use Rattle.rm_token.specs.declared.token.Token.{Token}
 use Rattle.rm_lang.specs.Language.{command_at}

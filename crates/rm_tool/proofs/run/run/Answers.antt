@@ -1,7 +1,6 @@
-use Rattle.std.proofs.Common.{◌≡◌, ◌∙◌, ◌<◌, ◌≤◌, ◌+◌, ◌^◌, Err, ap, refl, subst, arith, lit<, length, List, ℕ}
+use Rattle.std.proofs.Common.{◌≡◌, ◌∙◌, Err, ap, refl, subst, arith, lit<, List, ℕ}
 use Rattle.rm_token.specs.declared.token.Token.{Token}
 use Rattle.rm_token.specs.Statements.{statements}
-use Rattle.rm_token.specs.Tokens.{feeds}
 use Rattle.rm_token.proofs.Reading.{feeds_within}
 use Rattle.rm_tool.specs.Serving.{Stays, Falls}
 use Rattle.rm_tool.specs.Session.{Script}

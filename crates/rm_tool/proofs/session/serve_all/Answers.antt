@@ -1,4 +1,4 @@
-use Rattle.std.proofs.Common.{◌≡◌, ◌+◌, ◌++◌, ◌∷◌, [], ◌∙◌, ◌||◌, ℕ, List, Option, None, false, ap, sym, subst, arith, take}
+use Rattle.std.proofs.Common.{◌≡◌, ◌+◌, ◌++◌, ◌∷◌, [], ◌∙◌, ◌||◌, ℕ, List, Option, false, ap, sym, subst, arith, take}
 use Rattle.std.proofs.lemmas.List.{take_more}
 use Rattle.rm_base.specs.Outside.{Appends}
 use Rattle.rm_token.specs.declared.token.Token.{Token}
