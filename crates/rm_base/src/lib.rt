@@ -3,6 +3,7 @@
 
 pub mod block;
 pub mod faults;
+pub mod kinds;
 pub mod memory;
 pub mod number;
 pub mod numbers;
@@ -14,6 +15,7 @@ pub mod text;
 
 pub use block::{Block, Change, Mark, Row};
 pub use faults::{Failed, FormatFault, NoMemory};
+pub use kinds::{Bad, Class, Kind, Policy, Status};
 pub use memory::{Failing, MemSink, MemSource};
 pub use numbers::{BlockNo, FileNo, IncNo, LAST_SCN, Moment, Scn, ThreadNo};
 pub use outside::{Sink, Source};
