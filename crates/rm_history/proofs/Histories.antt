@@ -12,8 +12,7 @@ use Rattle.rm_history.specs.declared.world.World.{World}
 use Rattle.rm_history.specs.Tree.{IsThere, with_end}
 use Rattle.rm_history.specs.World.{file_of}
 use Rattle.rm_history.specs.History.{IsChange, IsHistory, SamePlace}
-use Rattle.rm_history.specs.State.{concerns, later, latest, state}
-use Rattle.rm_history.proofs.States.{row_of}
+use Rattle.rm_history.specs.State.{concerns, later, latest, row_of, state}
 use Rattle.rm_history.proofs.Ends.{owner-with_end, reset_of-with_end, IsThere-with_end}
 
 -- the database with another end of an incarnation

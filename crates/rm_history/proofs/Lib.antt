@@ -1,3 +1,4 @@
+pub mod BlockRows
 pub mod Ends
 pub mod Histories
 pub mod Owners

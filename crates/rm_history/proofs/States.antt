@@ -13,7 +13,7 @@ use Rattle.rm_history.specs.declared.world.World.{World}
 use Rattle.rm_history.specs.Tree.{owner}
 use Rattle.rm_history.specs.World.{creation_of}
 use Rattle.rm_history.specs.History.{IsHistory, SamePlace}
-use Rattle.rm_history.specs.State.{concerns, later, latest, IsState}
+use Rattle.rm_history.specs.State.{concerns, later, latest, row_of, IsState}
 
 -- a change of the list that passes, and above which none that passes lies
 pub record IsGreatest (p : Change → Bool) (h : List Change) (d : Change) : Type 0 where
@@ -151,10 +151,6 @@ one_place-one h apart c d (m, inside_m, is_c) (n, inside_n, is_d) same =
         | inr least ↦ let met : m ≡ n = omega (arith, most, least) in sym read_c ∙ ap (λ k. slice_index_or h k d) met ∙ is_d
       ]
     ]
-
--- what the last change makes of the block
-abbrev pub row_of : World → ℕ → ℕ → Option Change → Row
-row_of w f b o = record { block = b; version = option_map_or (λ c. c.scn) o (creation_of w f); content = option_map_or (λ c. c.content) o zero_block }
 
 row-same : (r : Row) (version : ℕ) (content : Block) → r.version ≡ version → r.content ≡ content → r ≡ record { block = r.block; version = version; content = content }
 row-same r version content v t =

@@ -2,6 +2,7 @@
 #![tactic(auto)]
 
 pub mod laws;
+pub mod rows;
 pub mod tree;
 pub mod world;
 

@@ -24,7 +24,7 @@ pub struct World {
 impl World {
     ghost use Rattle.rm_history.specs.Tree.{IsThere};
     ghost use Rattle.rm_history.specs.World.{file_of, exists};
-    ghost use Rattle.rm_history.specs.State.{state, concerns};
+    ghost use Rattle.rm_history.specs.State.{state, concerns, row_of};
 
     /// The datafile of this number. None where it is not there.
     pub fn file(&self, number: u64) -> Option<Datafile>
@@ -44,7 +44,7 @@ impl World {
     }
 
     // Whether a change is one of this block below `s`, at an address that the path of `i` owns.
-    fn concerns(&self, i: IncNo, s: Scn, file: FileNo, block: BlockNo, change: &Change) -> bool
+    pub(crate) fn concerns(&self, i: IncNo, s: Scn, file: FileNo, block: BlockNo, change: &Change) -> bool
         requires there { IsThere self.now.tree i }
         requires scn { 0 < change.now.scn }
         ensures { result ≡ concerns self.now i s file block change.now }
@@ -68,6 +68,13 @@ impl World {
                 last = Some(later(*change, last));
             }
         }
+        self.row(file, block, last)
+    }
+
+    // The row of a block by its last change, or as its datafile was created.
+    pub(crate) fn row(&self, file: FileNo, block: BlockNo, last: Option<Change>) -> Row
+        ensures { result ≡ row_of self.now file block last }
+    {
         match last {
             Some(change) => Row {
                 block,
@@ -86,7 +93,7 @@ impl World {
 ghost use Rattle.rm_history.specs.State.{later as later_of};
 
 // Of two changes the one of the greater SCN.
-fn later(change: Change, other: Option<Change>) -> Change
+pub(crate) fn later(change: Change, other: Option<Change>) -> Change
     ensures { result ≡ later_of change other }
 {
     match other {

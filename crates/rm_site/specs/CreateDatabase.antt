@@ -1,5 +1,5 @@
--- CREATE DATABASE
-use Rattle.std.specs.Prelude.{ℕ, ◌≡◌, nat_lt, if◌then◌else◌, Option, Some, None, List, [], ◌∷◌}
+-- CREATE DATABASE [DBID n] [THREADS n] [SCN n]
+use Rattle.std.specs.Prelude.{ℕ, ◌≡◌, nat_lt, if◌then◌else◌, true, Option, Some, None, List, [], ◌∷◌}
 use Rattle.rm_base.specs.declared.block.Change.{Change}
 use Rattle.rm_base.specs.declared.refusal.Refusal.{Refusal}
 use Rattle.rm_base.specs.declared.refusal.Refusal.TheVariants.{Rm11}
@@ -15,14 +15,19 @@ use Rattle.rm_site.specs.Parts.{Parts}
 abbrev pub create_refusal : ℕ → Option Refusal
 create_refusal threads = if nat_lt 4 threads then Some (Rm11 Threads) else None
 
--- a new database: incarnation 1 alone, empty logs, and no datafile
+-- a new database, open: incarnation 1 alone, empty logs, and no datafile
 abbrev pub fresh : ℕ → ℕ → ℕ → Parts
 fresh dbid threads scn =
     record {
       dbid = dbid;
+      is_open = true;
       current = 1;
+      point = None;
+      next_id = 1;
       world = record { tree = record { parent = 0; reset = scn; end = scn } ∷ []; threads = threads; files = [] };
       logs = fresh_logs dbid 1 threads scn;
+      archived = [];
+      place = [];
     }
 
 -- it makes the database

@@ -1,40 +1,47 @@
--- What a live database is made of.
-use Rattle.std.specs.Prelude.{ℕ, ◌≡◌, ◌<◌, ◌≤◌, List, All, length, sum_by}
-use Rattle.rm_base.specs.Numbers.{last_scn}
+-- What a database is made of.
+use Rattle.std.specs.Prelude.{ℕ, ◌-◌, ◌==◌, if◌then◌else◌, Bool, Option, None, List, sum_by, slice_index_or}
+use Rattle.std.specs.Option.{option_and_then}
+use Rattle.rm_blocks.specs.File.{File}
 use Rattle.rm_history.specs.declared.world.Datafile.{Datafile}
 use Rattle.rm_history.specs.declared.world.World.{World}
-use Rattle.rm_history.specs.Tree.{IsThere, end_of, reset_of}
+use Rattle.rm_history.specs.Tree.{end_of}
+use Rattle.rm_history.specs.World.{file_of, exists}
 use Rattle.rm_redo.specs.Logs.{Logs}
-use Rattle.rm_redo.specs.Online.{IsLost, first_of, records_of}
+use Rattle.rm_site.specs.declared.database.Archived.{Archived}
 
--- its number, its current incarnation, what recovery knows of it, and its online logs
 pub record Parts : Type 0 where
   pub dbid : ℕ
+  -- its mode: open, or mounted
+  pub is_open : Bool
   pub current : ℕ
+  -- The SCN of the current incarnation at which each datafile that exists there stands in place, where
+  -- one is known.
+  pub point : Option ℕ
+  -- the id of the next object
+  pub next_id : ℕ
   pub world : World
   pub logs : Logs
+  -- the archived logs by ascending id
+  pub archived : List Archived
+  -- what stands in place of datafiles 1, 2, 3 and so on; none where one is lost
+  pub place : List (Option File)
 
 -- the SCN that the next change takes
 abbrev pub now_of : Parts → ℕ
 now_of p = end_of p.world.tree p.current
 
+-- the SCN up to which the online logs tell
+abbrev pub redo_end : Parts → ℕ
+redo_end p = end_of p.world.tree p.logs.inc
+
 -- all blocks of all datafiles
 abbrev pub blocks_in : List Datafile → ℕ
 blocks_in files = sum_by (λ d. d.blocks) files
 
--- What is true of each live database. (There is one redo thread as yet.)
-pub record IsSound (current : ℕ) (world : World) (logs : Logs) : Type 0 where
-  pub there : IsThere world.tree current
-  pub begun : 0 < end_of world.tree current
-  pub reset : reset_of world.tree current ≤ end_of world.tree current
-  pub last : end_of world.tree current ≤ last_scn
-  pub one_thread : world.threads ≡ 1
-  pub threads : length logs.threads ≡ world.threads
-  pub inc : logs.inc ≡ current
-  pub found : ¬ IsLost logs 1
-  pub first : first_of logs 1 ≤ end_of world.tree current
-  pub below : All (λ r. r.scn < end_of world.tree current) (records_of logs 1)
-  pub created : All (λ d. 0 < d.creation) world.files
-  pub before : All (λ d. d.creation < end_of world.tree current) world.files
-  pub few : length world.files ≤ 64
-  pub fit : blocks_in world.files ≤ 131072
+-- what stands in place of the datafile of this number
+abbrev pub placed : Parts → ℕ → Option File
+placed p f = slice_index_or p.place (f - 1) None
+
+-- the datafile of this number, where it is on the current path
+abbrev pub on_path : Parts → ℕ → Option Datafile
+on_path p f = option_and_then (λ d. if exists p.world p.current (now_of p) d then Some d else None) (file_of p.world f)

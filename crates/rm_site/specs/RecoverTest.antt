@@ -1,61 +1,58 @@
--- RECOVER DATABASE UNTIL SCN s TEST
-use Rattle.std.specs.Prelude.{ℕ, zero, suc, ◌≡◌, ◌+◌, ◌||◌, nat_lt, if◌then◌else◌, Option, Some, None, List, [], ◌∷◌, ◌++◌, count_by, is_some}
-use Rattle.std.specs.Option.{option_map}
+-- RECOVER DATABASE [UNTIL SCN s] [INCARNATION i] TEST
+use Rattle.std.specs.Prelude.{ℕ, ◌≡◌, ◌+◌, nat_lt, if◌then◌else◌, Bool, Option, Some, None, List, [], ◌∷◌, ◌++◌, count_by, unwrap_or}
 use Rattle.rm_base.specs.declared.block.Change.{Change}
 use Rattle.rm_base.specs.declared.block.Row.{Row}
 use Rattle.rm_base.specs.declared.refusal.Refusal.{Refusal}
-use Rattle.rm_base.specs.declared.refusal.Refusal.TheVariants.{Rm06}
+use Rattle.rm_blocks.specs.File.{File}
 use Rattle.rm_history.specs.declared.world.Datafile.{Datafile}
 use Rattle.rm_history.specs.declared.world.World.{World}
-use Rattle.rm_history.specs.Tree.{reset_of}
 use Rattle.rm_history.specs.World.{exists}
-use Rattle.rm_history.specs.State.{last_change, state}
+use Rattle.rm_lang.specs.declared.command.Until.{Until}
 use Rattle.rm_report.specs.declared.line.Line.{Line}
 use Rattle.rm_report.specs.declared.line.Line.TheVariants.{UntilIs, FileIs, BlockIs}
 use Rattle.rm_report.specs.declared.line.Reply.{Reply}
 use Rattle.rm_report.specs.Reply.{said}
 use Rattle.rm_site.specs.Machine.{Machine, machine}
-use Rattle.rm_site.specs.Parts.{Parts, now_of}
+use Rattle.rm_site.specs.Parts.{Parts}
+use Rattle.rm_site.specs.Recovery.{target, until_refusal, files_at}
+use Rattle.rm_site.specs.ResetDatabase.{where_there}
 
--- why an UNTIL is refused: it is below the resetlogs SCN of the current incarnation, or above its end
-abbrev pub until_refusal : Parts → ℕ → Option Refusal
-until_refusal p s =
-    let low = reset_of p.world.tree p.current in
-    if nat_lt s low || nat_lt (now_of p) s then Some (Rm06 s low (now_of p)) else None
+-- the incarnation that it looks at: the one that it names, or the current one
+abbrev pub tested : Parts → Option ℕ → ℕ
+tested p inc = unwrap_or inc p.current
 
--- the state of a block that was written below s on the path of i
-abbrev pub written : World → List Change → ℕ → ℕ → ℕ → ℕ → Option Row
-written w h i s f b = option_map (λ c. state w h i s f b) (last_change w h i s f b)
+-- the SCN at which it stops
+abbrev pub test_target : Parts → Option Until → Option ℕ → ℕ
+test_target p until inc = target p.world.tree (tested p inc) until
 
--- what is told of n blocks from b on
-abbrev pub told_from : (ℕ → Option Row) → ℕ → ℕ → List (Option Row)
-told_from told b zero = []
-told_from told b (suc n) = told b ∷ told_from told (b + 1) n
+-- why it is refused
+abbrev pub test_refusal : Parts → Option Until → Option ℕ → Option Refusal
+test_refusal p until inc = where_there p.world.tree (tested p inc) (until_refusal p.world.tree (tested p inc) (test_target p until inc))
+
+-- the block was written: its version lies above its datafile's creation
+abbrev pub is_written : ℕ → Row → Bool
+is_written creation r = nat_lt creation r.version
 
 -- a line for each block that was written
-abbrev pub block_lines : List (Option Row) → List Line
-block_lines [] = []
-block_lines (None ∷ rows) = block_lines rows
-block_lines (Some r ∷ rows) = BlockIs r.block r.version r.content ∷ block_lines rows
+abbrev pub block_lines : ℕ → List Row → List Line
+block_lines creation [] = []
+block_lines creation (r ∷ rs) = if is_written creation r then BlockIs r.block r.version r.content ∷ block_lines creation rs else block_lines creation rs
 
--- the lines of the datafile f with these rows
-abbrev pub rows_lines : ℕ → ℕ → List (Option Row) → List Line
-rows_lines f blocks rows = FileIs f blocks (count_by is_some rows) ∷ block_lines rows
+-- the lines of a datafile at the target
+abbrev pub file_lines : ℕ → Datafile → Option File → List Line
+file_lines f d None = []
+file_lines f d (Some x) = FileIs f d.blocks (count_by (is_written d.creation) x.rows) ∷ block_lines d.creation x.rows
 
--- the lines of a datafile, where it exists at (i, s); `told b` is what is told of its block b
-abbrev pub file_lines : (ℕ → Option Row) → World → ℕ → ℕ → ℕ → Datafile → List Line
-file_lines told w i s f d = if exists w i s d then rows_lines f d.blocks (told_from told 0 d.blocks) else []
-
--- the lines of the datafiles from f on; `told f b` is what is told of block b of datafile f
-abbrev pub files_lines : (ℕ → ℕ → Option Row) → World → ℕ → ℕ → ℕ → List Datafile → List Line
-files_lines told w i s f [] = []
-files_lines told w i s f (d ∷ ds) = file_lines (told f) w i s f d ++ files_lines told w i s (f + 1) ds
+-- the lines of the datafiles from f on
+abbrev pub files_lines : ℕ → List Datafile → List (Option File) → List Line
+files_lines f [] files = []
+files_lines f (d ∷ ds) [] = []
+files_lines f (d ∷ ds) (x ∷ xs) = file_lines f d x ++ files_lines (f + 1) ds xs
 
 -- all lines of the test of a recovery of i until s
-abbrev pub test_lines : (ℕ → ℕ → Option Row) → World → ℕ → ℕ → List Line
-test_lines told w i s = UntilIs s i (count_by (exists w i s) w.files) ∷ files_lines told w i s 1 w.files
+abbrev pub test_lines : World → List Change → ℕ → ℕ → List Line
+test_lines w h i s = UntilIs s i (count_by (exists w i s) w.files) ∷ files_lines 1 w.files (files_at w h i s)
 
--- It prints, of each datafile at the target, the state of each block that was written. Nothing changes.
-abbrev pub Tests : Parts → List Change → ℕ → Reply → Machine → Type 0
-Tests p h s reply new =
-    (reply ≡ said (test_lines (written p.world h p.current s) p.world p.current s)) × (new ≡ machine (Some p) h)
+-- It prints, of each datafile at the target, each block that was written. Nothing changes.
+abbrev pub Tests : Parts → List Change → ℕ → ℕ → Reply → Machine → Type 0
+Tests p h i s reply new = (reply ≡ said (test_lines p.world h i s)) × (new ≡ machine (Some p) h)

@@ -1,44 +1,77 @@
 -- One step of the machine: a statement, its reply, and the machine after it.
-use Rattle.std.specs.Prelude.{◌≡◌, Option, Some, None, List}
+use Rattle.std.specs.Prelude.{◌≡◌, Option, Some, None, IsSomeAnd, List}
 use Rattle.rm_base.specs.declared.block.Change.{Change}
 use Rattle.rm_base.specs.declared.refusal.Refusal.{Refusal}
 use Rattle.rm_base.specs.declared.refusal.Refusal.TheVariants.{Rm02, Rm03}
-use Rattle.rm_lang.specs.declared.command.Until.TheVariants.{Scn}
 use Rattle.rm_lang.specs.declared.command.Command.{Command}
-use Rattle.rm_lang.specs.declared.command.Command.TheVariants.{CreateDatabase, CreateDatafile, Write, RecoverTest}
+use Rattle.rm_lang.specs.declared.command.Command.TheVariants.{CreateDatabase, CreateDatafile, Write, SwitchLogfile, ArchiveLogCurrent, Mount, OpenPlain, OpenResetlogs, ResetDatabase, Recover, RecoverTest, ListIncarnation, Dump}
 use Rattle.rm_report.specs.declared.line.Reply.{Reply}
 use Rattle.rm_report.specs.Reply.{refused_by}
-use Rattle.rm_site.specs.Machine.{Machine, machine, Holds}
-use Rattle.rm_site.specs.Parts.{Parts}
 use Rattle.rm_site.specs.CreateDatabase.{create_refusal, CreatesDatabase}
 use Rattle.rm_site.specs.CreateDatafile.{datafile_refusal, CreatesDatafile}
+use Rattle.rm_site.specs.Dump.{dump_refusal, Dumps}
+use Rattle.rm_site.specs.Machine.{Machine, machine, Holds}
+use Rattle.rm_site.specs.Mount.{Mounts}
+use Rattle.rm_site.specs.Open.{open_refusal, Opens, resetlogs_refusal, OpensResetlogs}
+use Rattle.rm_site.specs.Parts.{Parts}
+use Rattle.rm_site.specs.Recover.{recover_refusal, Recovers}
+use Rattle.rm_site.specs.RecoverTest.{tested, test_target, test_refusal, Tests}
+use Rattle.rm_site.specs.Recovery.{target}
+use Rattle.rm_site.specs.ResetDatabase.{reset_refusal, Chooses, ListsIncarnations}
+use Rattle.rm_site.specs.SwitchLogfile.{switch_refusal, Switches, archive_all_refusal, ArchivesAll}
 use Rattle.rm_site.specs.Write.{write_refusal, Writes}
-use Rattle.rm_site.specs.RecoverTest.{until_refusal, Tests}
 
--- Why a statement is refused, if it is. Without a database each but CREATE DATABASE is.
+-- why a statement is refused where there is no database: each but CREATE DATABASE is
+abbrev pub refusal_without : Command → Option Refusal
+refusal_without (CreateDatabase dbid threads scn) = create_refusal threads
+refusal_without _ = Some Rm02
+
+-- why a statement is refused where there is a database
+abbrev pub refusal_in : Parts → Command → Option Refusal
+refusal_in p (CreateDatabase dbid threads scn) = Some Rm03
+refusal_in p (CreateDatafile blocks) = datafile_refusal p blocks
+refusal_in p (Write w) = write_refusal p w
+refusal_in p (SwitchLogfile thread) = switch_refusal p thread
+refusal_in p ArchiveLogCurrent = archive_all_refusal p
+refusal_in p Mount = None
+refusal_in p OpenPlain = open_refusal p
+refusal_in p OpenResetlogs = resetlogs_refusal p
+refusal_in p (ResetDatabase inc) = reset_refusal p inc
+refusal_in p (Recover until) = recover_refusal p (target p.world.tree p.current until)
+refusal_in p (RecoverTest until inc) = test_refusal p until inc
+refusal_in p ListIncarnation = None
+refusal_in p (Dump file block) = dump_refusal p file block
+
+-- why a statement is refused, if it is
 abbrev pub refusal_of : Option Parts → Command → Option Refusal
-refusal_of None (CreateDatabase dbid threads scn) = create_refusal threads
-refusal_of None (CreateDatafile blocks) = Some Rm02
-refusal_of None (Write w) = Some Rm02
-refusal_of None (RecoverTest until inc) = Some Rm02
-refusal_of (Some p) (CreateDatabase dbid threads scn) = Some Rm03
-refusal_of (Some p) (CreateDatafile blocks) = datafile_refusal p blocks
-refusal_of (Some p) (Write w) = write_refusal p w
-refusal_of (Some p) (RecoverTest (Some (Scn s)) inc) = until_refusal p s
-refusal_of (Some p) (RecoverTest None inc) = None
+refusal_of None command = refusal_without command
+refusal_of (Some p) command = refusal_in p command
 
--- A statement that is not refused. (RECOVER TEST without UNTIL, or with an incarnation, is not built yet.)
+-- what a statement does that is not refused, where there is no database
+abbrev pub DoneWithout : List Change → Command → Reply → Machine → Type 0
+DoneWithout h (CreateDatabase dbid threads scn) reply new = CreatesDatabase h dbid threads scn reply new
+DoneWithout h _ reply new = ⊥
+
+-- what a statement does that is not refused, where there is a database
+abbrev pub DoneIn : Parts → List Change → Command → Reply → Machine → Type 0
+DoneIn p h (CreateDatabase dbid threads scn) reply new = ⊥
+DoneIn p h (CreateDatafile blocks) reply new = CreatesDatafile p h blocks reply new
+DoneIn p h (Write w) reply new = Writes p h w reply new
+DoneIn p h (SwitchLogfile thread) reply new = Switches p h thread reply new
+DoneIn p h ArchiveLogCurrent reply new = ArchivesAll p h reply new
+DoneIn p h Mount reply new = Mounts p h reply new
+DoneIn p h OpenPlain reply new = Opens p h reply new
+DoneIn p h OpenResetlogs reply new = IsSomeAnd p.point (λ s. OpensResetlogs p s h reply new)
+DoneIn p h (ResetDatabase inc) reply new = Chooses p h inc reply new
+DoneIn p h (Recover until) reply new = Recovers p h (target p.world.tree p.current until) reply new
+DoneIn p h (RecoverTest until inc) reply new = Tests p h (tested p inc) (test_target p until inc) reply new
+DoneIn p h ListIncarnation reply new = ListsIncarnations p h reply new
+DoneIn p h (Dump file block) reply new = Dumps p h file block reply new
+
+-- a statement that is not refused
 abbrev pub Done : Option Parts → List Change → Command → Reply → Machine → Type 0
-Done None h (CreateDatabase dbid threads scn) reply new = CreatesDatabase h dbid threads scn reply new
-Done None h (CreateDatafile blocks) reply new = ⊥
-Done None h (Write w) reply new = ⊥
-Done None h (RecoverTest until inc) reply new = ⊥
-Done (Some p) h (CreateDatabase dbid threads scn) reply new = ⊥
-Done (Some p) h (CreateDatafile blocks) reply new = CreatesDatafile p h blocks reply new
-Done (Some p) h (Write w) reply new = Writes p h w reply new
-Done (Some p) h (RecoverTest (Some (Scn s)) None) reply new = Tests p h s reply new
-Done (Some p) h (RecoverTest (Some (Scn s)) (Some i)) reply new = ⊥
-Done (Some p) h (RecoverTest None inc) reply new = ⊥
+Done None h command reply new = DoneWithout h command reply new
+Done (Some p) h command reply new = DoneIn p h command reply new
 
 -- a refusal is one line and changes nothing
 abbrev pub StepBy : Option Refusal → Machine → Command → Reply → Machine → Type 0

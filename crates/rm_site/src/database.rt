@@ -1,31 +1,46 @@
-//! A live database: its incarnations, its datafiles and its online logs.
+//! A database: its incarnations, its datafiles, its redo, and what stands in place.
 ghost use Rattle.std.specs.Prelude.{◌≡◌, ◌+◌, ◌<◌, ◌≤◌, length};
 ghost use Rattle.rm_base.specs.Numbers.{last_scn};
 ghost use Rattle.rm_history.specs.Tree.{IsThere, end_of, with_end};
-ghost use Rattle.rm_site.specs.Parts.{IsSound, now_of, blocks_in};
+ghost use Rattle.rm_site.specs.Parts.{now_of, redo_end, blocks_in};
+ghost use Rattle.rm_site.specs.Sound.{IsSound};
 
-use rm_base::{IncNo, Scn};
+use rm_base::{IncNo, Scn, Seq};
+use rm_blocks::DataFile;
 use rm_history::{Tree, World};
-use rm_redo::OnlineLogs;
+use rm_redo::{LogFile, OnlineLogs};
 use std::marker::Model;
 
-/// A live database.
+/// An archived log, under the id of its object.
+#[derive(Drop)]
+pub struct Archived {
+    pub id: u32,
+    pub log: LogFile,
+}
+
+/// A database, open or mounted.
 #[derive(Drop)]
 pub struct Database {
     pub(crate) dbid: u32,
+    pub(crate) is_open: bool,
     pub(crate) current: IncNo,
+    pub(crate) point: Option<Scn>,
+    pub(crate) next_id: u32,
     pub(crate) world: World,
     pub(crate) logs: OnlineLogs,
+    pub(crate) archived: Seq<Archived>,
+    pub(crate) place: Vec<Option<DataFile>>,
 }
 
 impl Model for Database {
-    ghost use Rattle.rm_site.specs.Parts.{Parts, IsSound};
+    ghost use Rattle.rm_site.specs.Parts.{Parts};
+    ghost use Rattle.rm_site.specs.Sound.{IsSound};
 
     ghost Value = { Parts };
 
-    ghost view = { λ d. record { dbid = d.dbid; current = d.current; world = d.world; logs = d.logs } };
+    ghost view = { λ d. record { dbid = d.dbid; is_open = d.is_open; current = d.current; point = d.point; next_id = d.next_id; world = d.world; logs = d.logs; archived = d.archived; place = d.place.items } };
 
-    ghost invariant = { λ d. IsSound d.current d.world d.logs };
+    ghost invariant = { λ d. IsSound (record { dbid = d.dbid; is_open = d.is_open; current = d.current; point = d.point; next_id = d.next_id; world = d.world; logs = d.logs; archived = d.archived; place = d.place.items }) };
 }
 
 impl Database {
@@ -33,9 +48,21 @@ impl Database {
     pub fn now(&self) -> Scn
         ensures value { result ≡ now_of self.now }
         ensures last { result ≤ last_scn }
-        ensures sound { IsSound self.now.current self.now.world self.now.logs }
+        ensures sound { IsSound self.now }
     {
         match self.world.tree.get(self.current) {
+            Some(incarnation) => incarnation.end,
+            None => unreachable!(),
+        }
+    }
+
+    /// The SCN up to which the online logs tell.
+    pub fn redo_end(&self) -> Scn
+        ensures value { result ≡ redo_end self.now }
+        ensures last { result ≤ last_scn }
+        ensures sound { IsSound self.now }
+    {
+        match self.world.tree.get(self.logs.inc()) {
             Some(incarnation) => incarnation.end,
             None => unreachable!(),
         }

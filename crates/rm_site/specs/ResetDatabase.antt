@@ -1,0 +1,40 @@
+-- RESET DATABASE TO INCARNATION n, and LIST INCARNATION
+use Rattle.std.specs.Prelude.{ℕ, ◌≡◌, ◌+◌, ◌==◌, ◌||◌, nat_lt, if◌then◌else◌, Option, Some, None, List, [], ◌∷◌, length}
+use Rattle.rm_base.specs.declared.block.Change.{Change}
+use Rattle.rm_base.specs.declared.refusal.Refusal.{Refusal}
+use Rattle.rm_base.specs.declared.refusal.Refusal.TheVariants.{Rm07}
+use Rattle.rm_history.specs.declared.tree.Incarnation.{Incarnation}
+use Rattle.rm_history.specs.Tree.{standing}
+use Rattle.rm_report.specs.declared.line.Line.{Line}
+use Rattle.rm_report.specs.declared.line.Line.TheVariants.{Chosen, IncarnationIs}
+use Rattle.rm_report.specs.declared.line.Reply.{Reply}
+use Rattle.rm_report.specs.Reply.{said}
+use Rattle.rm_site.specs.Machine.{Machine, machine}
+use Rattle.rm_site.specs.Modes.{when_mounted}
+use Rattle.rm_site.specs.Parts.{Parts}
+
+-- refused where the incarnation is not there, and else by the other rules
+abbrev pub where_there : List Incarnation → ℕ → Option Refusal → Option Refusal
+where_there tree i other = if (i == 0) || nat_lt (length tree) i then Some (Rm07 i) else other
+
+-- why RESET DATABASE is refused
+abbrev pub reset_refusal : Parts → ℕ → Option Refusal
+reset_refusal p i = when_mounted p (where_there p.world.tree i None)
+
+-- the database at another incarnation, where no point is known
+abbrev pub at_incarnation : Parts → ℕ → Parts
+at_incarnation p i = record p { current = i; point = None }
+
+-- it chooses the incarnation
+abbrev pub Chooses : Parts → List Change → ℕ → Reply → Machine → Type 0
+Chooses p h i reply new = (reply ≡ said (Chosen i ∷ [])) × (new ≡ machine (Some (at_incarnation p i)) h)
+
+-- the lines of the incarnations from i on
+abbrev pub incarnation_lines : List Incarnation → ℕ → ℕ → List Incarnation → List Line
+incarnation_lines tree current i [] = []
+incarnation_lines tree current i (n ∷ ns) = IncarnationIs i n.parent n.reset n.end (standing tree i current) ∷ incarnation_lines tree current (i + 1) ns
+
+-- it lists each incarnation; nothing changes
+abbrev pub ListsIncarnations : Parts → List Change → Reply → Machine → Type 0
+ListsIncarnations p h reply new =
+    (reply ≡ said (incarnation_lines p.world.tree p.current 1 p.world.tree)) × (new ≡ machine (Some p) h)

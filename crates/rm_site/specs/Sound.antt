@@ -1,0 +1,92 @@
+-- What is true of each database that the site holds.
+use Rattle.std.specs.Prelude.{ℕ, ◌≡◌, ◌<◌, ◌≤◌, ◌+◌, true, Option, Some, None, List, All, AllPairs, length, slice_get}
+use Rattle.rm_base.specs.Numbers.{last_scn}
+use Rattle.rm_blocks.specs.File.{File}
+use Rattle.rm_history.specs.declared.tree.Incarnation.{Incarnation}
+use Rattle.rm_history.specs.declared.world.Datafile.{Datafile}
+use Rattle.rm_history.specs.declared.world.World.{World}
+use Rattle.rm_history.specs.Tree.{IsThere, IsTree, reset_of, end_of}
+use Rattle.rm_redo.specs.declared.online.ThreadLog.{ThreadLog}
+use Rattle.rm_redo.specs.Online.{IsThread, IsLost}
+use Rattle.rm_site.specs.declared.database.Archived.{Archived}
+use Rattle.rm_site.specs.Parts.{Parts, now_of, redo_end, blocks_in, placed}
+
+-- each incarnation lasts from its resetlogs SCN up to its end
+pub record AreIncarnations (tree : List Incarnation) : Type 0 where
+  pub tree : IsTree tree
+  pub begun : (i : ℕ) → IsThere tree i → 0 < reset_of tree i
+  pub range : (i : ℕ) → IsThere tree i → reset_of tree i ≤ end_of tree i
+  pub last : (i : ℕ) → IsThere tree i → end_of tree i ≤ last_scn
+
+-- a datafile was created in an incarnation that is there
+pub record IsCreated (tree : List Incarnation) (d : Datafile) : Type 0 where
+  pub there : IsThere tree d.inc
+  pub begun : reset_of tree d.inc ≤ d.creation
+  pub below : d.creation < end_of tree d.inc
+  pub some : 0 < d.blocks
+  pub most : d.blocks ≤ 65536
+
+pub record AreFiles (w : World) : Type 0 where
+  pub created : All (IsCreated w.tree) w.files
+  pub few : length w.files ≤ 64
+  pub fit : blocks_in w.files ≤ 131072
+
+-- an online log tells from its first SCN up to the end of its incarnation
+pub record IsOnline (end : ℕ) (l : ThreadLog) : Type 0 where
+  pub begun : 0 < l.first
+  pub first : l.first ≤ end
+  pub below : All (λ r. r.scn < end) l.records
+
+-- there is one for each redo thread
+pub record AreOnline (p : Parts) : Type 0 where
+  pub dbid : p.logs.dbid ≡ p.dbid
+  pub inc : IsThere p.world.tree p.logs.inc
+  pub some : 0 < p.world.threads
+  pub most : p.world.threads ≤ 4
+  pub threads : length p.logs.threads ≡ p.world.threads
+  pub logs : All (IsOnline (redo_end p)) p.logs.threads
+
+-- an archived log has an id below the next one, and ends where its incarnation does or before
+pub record IsArchived (tree : List Incarnation) (next_id : ℕ) (a : Archived) : Type 0 where
+  pub id : a.id < next_id
+  pub inc : IsThere tree a.log.inc
+  pub next : a.log.next ≤ end_of tree a.log.inc
+  pub begun : All (λ r. 0 < r.scn) a.log.records
+
+-- the archived logs have ids of their own; a save may draw 68 ids more
+pub record AreArchived (p : Parts) : Type 0 where
+  pub each : All (IsArchived p.world.tree p.next_id) p.archived
+  pub ids : AllPairs (λ a b. a.id < b.id) p.archived
+  pub room : p.next_id + 68 ≤ 4294967295
+
+-- what stands in place of the datafile has its number and its blocks
+pub record IsPlaced (k : ℕ) (d : Datafile) (x : File) : Type 0 where
+  pub file : x.file ≡ k + 1
+  pub blocks : length x.rows ≡ d.blocks
+
+pub record ArePlaced (w : World) (place : List (Option File)) : Type 0 where
+  pub each : (k : ℕ) (d : Datafile) (x : File) → slice_get w.files k ≡ Some d → slice_get place k ≡ Some (Some x) → IsPlaced k d x
+  pub many : length place ≡ length w.files
+
+-- an open database writes redo of its current incarnation, above each version in place
+pub record IsOpen (p : Parts) : Type 0 where
+  pub inc : p.logs.inc ≡ p.current
+  pub found : (t : ℕ) → IsThread p.logs t → ¬ IsLost p.logs t
+  pub point : p.point ≡ None
+  pub below : (f : ℕ) (x : File) → placed p f ≡ Some x → All (λ r. r.version < now_of p) x.rows
+
+-- a point lies between the ends of the current incarnation
+pub record IsPoint (p : Parts) (s : ℕ) : Type 0 where
+  pub low : reset_of p.world.tree p.current ≤ s
+  pub high : s ≤ now_of p
+
+pub record IsSound (p : Parts) : Type 0 where
+  pub dbid : 0 < p.dbid
+  pub incarnations : AreIncarnations p.world.tree
+  pub there : IsThere p.world.tree p.current
+  pub files : AreFiles p.world
+  pub online : AreOnline p
+  pub archived : AreArchived p
+  pub placed : ArePlaced p.world p.place
+  pub open : p.is_open ≡ true → IsOpen p
+  pub point : (s : ℕ) → p.point ≡ Some s → IsPoint p s
