@@ -35,23 +35,19 @@ after_thread p t = if is_due p t then with_archived p t else p
 abbrev pub made_line : Parts → ℕ → Line
 made_line p t = LogMade p.next_id t (sequence_of p.logs t) (first_of p.logs t) (redo_end p)
 
--- the lines of the thread: of its archived log, or that there is nothing to archive
-abbrev pub thread_lines : Parts → ℕ → List Line
-thread_lines p t = (if is_due p t then made_line p t else NothingToArchive t) ∷ []
-
--- the lines of the thread, where only what was archived is told
-abbrev pub made_lines : Parts → ℕ → List Line
-made_lines p t = if is_due p t then made_line p t ∷ [] else []
+-- The lines of the thread: of its archived log, or that it has nothing to archive, where all are told.
+abbrev pub told_lines : Bool → Parts → ℕ → List Line
+told_lines all p t = if is_due p t then made_line p t ∷ [] else if all then NothingToArchive t ∷ [] else []
 
 -- the database after n threads from t on are archived, one after another
 abbrev pub after_threads : Parts → ℕ → ℕ → Parts
 after_threads p t zero = p
 after_threads p t (suc n) = after_threads (after_thread p t) (t + 1) n
 
--- the lines of these threads, by what is told of each one
-abbrev pub lines_of : (Parts → ℕ → List Line) → Parts → ℕ → ℕ → List Line
-lines_of told p t zero = []
-lines_of told p t (suc n) = told p t ++ lines_of told (after_thread p t) (t + 1) n
+-- the lines of these threads
+abbrev pub lines_of : Bool → Parts → ℕ → ℕ → List Line
+lines_of all p t zero = []
+lines_of all p t (suc n) = told_lines all p t ++ lines_of all (after_thread p t) (t + 1) n
 
 -- the database after all threads are archived
 abbrev pub after_all : Parts → Parts

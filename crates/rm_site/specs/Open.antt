@@ -15,7 +15,7 @@ use Rattle.rm_redo.specs.Online.{fresh_logs}
 use Rattle.rm_report.specs.declared.line.Line.TheVariants.{Opened}
 use Rattle.rm_report.specs.declared.line.Reply.{Reply}
 use Rattle.rm_report.specs.Reply.{said}
-use Rattle.rm_site.specs.Archiving.{after_all, archive_refusal, made_lines, lines_of}
+use Rattle.rm_site.specs.Archiving.{after_all, archive_refusal, lines_of}
 use Rattle.rm_site.specs.Machine.{Machine, machine}
 use Rattle.rm_site.specs.Modes.{when_mounted}
 use Rattle.rm_site.specs.Parts.{Parts, now_of}
@@ -75,5 +75,5 @@ branched_off p s =
 -- it archives what there is of each log, and opens the database at its point as a new incarnation
 abbrev pub OpensResetlogs : Parts → ℕ → List Change → Reply → Machine → Type 0
 OpensResetlogs p s h reply new =
-    (reply ≡ said (lines_of made_lines p 1 p.world.threads ++ Opened (next_incarnation p) s ∷ []))
+    (reply ≡ said (lines_of false p 1 p.world.threads ++ Opened (next_incarnation p) s ∷ []))
     × (new ≡ machine (Some (branched_off (after_all p) s)) h)

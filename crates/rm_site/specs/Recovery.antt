@@ -10,7 +10,7 @@ use Rattle.rm_history.specs.declared.world.Datafile.{Datafile}
 use Rattle.rm_history.specs.declared.world.World.{World}
 use Rattle.rm_history.specs.Tree.{reset_of, end_of}
 use Rattle.rm_history.specs.World.{exists}
-use Rattle.rm_history.specs.State.{state}
+use Rattle.rm_history.specs.State.{states}
 use Rattle.rm_lang.specs.declared.command.Until.{Until}
 use Rattle.rm_lang.specs.declared.command.Until.TheVariants.{Scn}
 use Rattle.rm_redo.specs.LogFile.{changes_of}
@@ -27,19 +27,14 @@ abbrev pub until_refusal : List Incarnation → ℕ → ℕ → Option Refusal
 until_refusal tree i s =
     if nat_lt s (reset_of tree i) || nat_lt (end_of tree i) s then Some (Rm06 s (reset_of tree i) (end_of tree i)) else None
 
--- the rows of n blocks from b on
-abbrev pub rows_from : (ℕ → Row) → ℕ → ℕ → List Row
-rows_from row b zero = []
-rows_from row b (suc n) = row b ∷ rows_from row (b + 1) n
-
--- the datafile f at (i, s): each row is the state of its block
-abbrev pub file_at : World → List Change → ℕ → ℕ → ℕ → Datafile → File
-file_at w h i s f d = record { file = f; inc = i; checkpoint = s; rows = rows_from (state w h i s f) 0 d.blocks }
+-- the datafile f with so many blocks at (i, s): each row is the state of its block
+abbrev pub file_at : World → List Change → ℕ → ℕ → ℕ → ℕ → File
+file_at w h i s f blocks = record { file = f; inc = i; checkpoint = s; rows = states w h i s f blocks }
 
 -- the datafiles from f on, where they exist at (i, s)
 abbrev pub files_from : World → List Change → ℕ → ℕ → ℕ → List Datafile → List (Option File)
 files_from w h i s f [] = []
-files_from w h i s f (d ∷ ds) = (if exists w i s d then Some (file_at w h i s f d) else None) ∷ files_from w h i s (f + 1) ds
+files_from w h i s f (d ∷ ds) = (if exists w i s d then Some (file_at w h i s f d.blocks) else None) ∷ files_from w h i s (f + 1) ds
 
 -- the datafiles of the database at (i, s)
 abbrev pub files_at : World → List Change → ℕ → ℕ → List (Option File)

@@ -1,12 +1,12 @@
 -- ALTER SYSTEM SWITCH LOGFILE [THREAD t], and ALTER SYSTEM ARCHIVE LOG CURRENT
-use Rattle.std.specs.Prelude.{ℕ, ◌≡◌, ◌==◌, ◌||◌, nat_lt, if◌then◌else◌, Option, Some, List}
+use Rattle.std.specs.Prelude.{ℕ, ◌≡◌, ◌==◌, ◌||◌, nat_lt, if◌then◌else◌, true, Option, Some, List}
 use Rattle.rm_base.specs.declared.block.Change.{Change}
 use Rattle.rm_base.specs.declared.refusal.Refusal.{Refusal}
 use Rattle.rm_base.specs.declared.refusal.Refusal.TheVariants.{Rm05}
 use Rattle.rm_base.specs.declared.refusal.Absent.TheVariants.{Thread}
 use Rattle.rm_report.specs.declared.line.Reply.{Reply}
 use Rattle.rm_report.specs.Reply.{said}
-use Rattle.rm_site.specs.Archiving.{after_thread, after_all, archive_refusal, thread_lines, lines_of}
+use Rattle.rm_site.specs.Archiving.{after_thread, after_all, archive_refusal, told_lines, lines_of}
 use Rattle.rm_site.specs.Machine.{Machine, machine}
 use Rattle.rm_site.specs.Modes.{when_open}
 use Rattle.rm_site.specs.Parts.{Parts}
@@ -18,7 +18,7 @@ switch_refusal p t =
 
 -- it archives the log of one thread
 abbrev pub Switches : Parts → List Change → ℕ → Reply → Machine → Type 0
-Switches p h t reply new = (reply ≡ said (thread_lines p t)) × (new ≡ machine (Some (after_thread p t)) h)
+Switches p h t reply new = (reply ≡ said (told_lines true p t)) × (new ≡ machine (Some (after_thread p t)) h)
 
 -- why ARCHIVE LOG CURRENT is refused
 abbrev pub archive_all_refusal : Parts → Option Refusal
@@ -26,4 +26,4 @@ archive_all_refusal p = when_open p (archive_refusal p 1 p.world.threads)
 
 -- it archives the log of each thread
 abbrev pub ArchivesAll : Parts → List Change → Reply → Machine → Type 0
-ArchivesAll p h reply new = (reply ≡ said (lines_of thread_lines p 1 p.world.threads)) × (new ≡ machine (Some (after_all p)) h)
+ArchivesAll p h reply new = (reply ≡ said (lines_of true p 1 p.world.threads)) × (new ≡ machine (Some (after_all p)) h)

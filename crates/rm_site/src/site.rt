@@ -8,10 +8,17 @@ ghost use Rattle.rm_site.specs.Step.{Steps};
 use crate::create_database::create_refusal;
 use crate::create_datafile::create_datafile;
 use crate::database::Database;
+use crate::dump::dump;
+use crate::mount::mount;
+use crate::open::open;
+use crate::open_resetlogs::open_resetlogs;
+use crate::recover::recover;
 use crate::recover_test::recover_test;
+use crate::reset_database::{list_incarnation, reset_database};
+use crate::switch_logfile::{archive_log_current, switch_logfile};
 use crate::write::write;
-use rm_base::{NoMemory, Refusal, Scn, Seq};
-use rm_lang::{Command, Until};
+use rm_base::{NoMemory, Refusal, Scn, Seq, ThreadNo};
+use rm_lang::Command;
 use rm_report::{Line, Reply};
 use std::alloc::Global;
 use std::marker::Model;
@@ -89,7 +96,8 @@ impl Site {
             return refusal_reply(self.alloc, refusal);
         }
         let reply = reply_of(self.alloc, Line::DatabaseAt { dbid, scn })?;
-        self.database = Some(Database::new(self.alloc, dbid, scn)?);
+        let database = Database::new(self.alloc, dbid, threads as ThreadNo, scn)?;
+        self.database = Some(database);
         Ok(reply)
     }
 
@@ -99,23 +107,29 @@ impl Site {
         requires command { IsTrue (is_command command.now) }
         ensures step { IfOk result (Steps self.old self.new command.now) }
     {
+        let alloc = self.alloc;
         let Some(database) = &mut self.database else {
             return match command {
                 Command::CreateDatabase { dbid, threads, scn } => {
                     self.create_database(*dbid, *threads, *scn)
                 }
-                _ => refusal_reply(self.alloc, Refusal::Rm02),
+                _ => refusal_reply(alloc, Refusal::Rm02),
             };
         };
         match command {
-            Command::CreateDatabase { .. } => refusal_reply(self.alloc, Refusal::Rm03),
-            Command::CreateDatafile { blocks } => create_datafile(self.alloc, database, *blocks),
-            Command::Write(form) => write(self.alloc, database, form),
-            Command::RecoverTest {
-                until: Some(Until::Scn(until)),
-                inc: None,
-            } => recover_test(self.alloc, database, *until),
-            Command::RecoverTest { .. } => unreachable!(),
+            Command::CreateDatabase { .. } => refusal_reply(alloc, Refusal::Rm03),
+            Command::CreateDatafile { blocks } => create_datafile(alloc, database, *blocks),
+            Command::Write(form) => write(alloc, database, form),
+            Command::SwitchLogfile { thread } => switch_logfile(alloc, database, *thread),
+            Command::ArchiveLogCurrent => archive_log_current(alloc, database),
+            Command::Mount => mount(alloc, database),
+            Command::OpenPlain => open(alloc, database),
+            Command::OpenResetlogs => open_resetlogs(alloc, database),
+            Command::ResetDatabase { inc } => reset_database(alloc, database, *inc),
+            Command::Recover { until } => recover(alloc, database, until),
+            Command::RecoverTest { until, inc } => recover_test(alloc, database, until, *inc),
+            Command::ListIncarnation => list_incarnation(alloc, database),
+            Command::Dump { file, block } => dump(alloc, database, *file, *block),
         }
     }
 }

@@ -1,28 +1,41 @@
 //! WRITE [THREAD t] DATAFILE f BLOCK b VALUE 'v'
-ghost use Rattle.std.specs.Prelude.{◌≡◌, ◌<◌, ◌^◌, IfOk, IfNone, OnOk, None};
+ghost use Rattle.std.specs.Prelude.{◌≡◌, ◌<◌, ◌≤◌, ◌-◌, IfOk, IfNone, IfSome, OnOk, Some, None, true, slice_get, slice_set, slice_index_or};
+ghost use Rattle.std.specs.Option.{option_map};
+ghost use Rattle.rm_blocks.specs.File.{written};
 ghost use Rattle.rm_lang.specs.declared.command.Command.TheVariants.{Write};
-ghost use Rattle.rm_site.specs.Write.{write_refusal, with_write};
+ghost use Rattle.rm_site.specs.Write.{place_refusal, write_refusal, with_write};
 ghost use Rattle.rm_site.specs.Step.{Steps};
 
 use crate::database::{Database, raise_end};
 use crate::site::{Stop, refusal_reply, reply_of};
-use rm_base::{Absent, Change, LAST_SCN, Limit, NoMemory, Refusal, ThreadNo};
+use rm_base::{Absent, Change, LAST_SCN, Limit, NoMemory, Refusal, Scn, ThreadNo};
+use rm_blocks::DataFile;
 use rm_lang::WriteForm;
 use rm_report::{Line, Reply};
 use std::alloc::Global;
 
+// Puts the change into its row in place.
+fn put_row(place: &mut Vec<Option<DataFile>>, form: &WriteForm, scn: Scn)
+    requires file { 0 < form.now.file }
+    requires above { IfSome (slice_index_or place.old.items (form.now.file - 1) None) (λ x. IfSome (slice_get x.rows form.now.block) (λ r. r.version < scn)) }
+    ensures { place.new.items ≡ slice_set place.old.items (form.now.file - 1) (option_map (λ x. written x form.now.block scn form.now.content) (slice_index_or place.old.items (form.now.file - 1) None)) }
+{
+    if let Some(Some(file)) = place.get_mut(form.file as usize - 1) {
+        file.write(form.block as u32, scn, form.content);
+    }
+}
+
 impl Database {
-    // Why WRITE is refused, if it is.
-    fn write_refusal(&self, form: &WriteForm) -> Option<Refusal>
-        ensures value { result ≡ write_refusal self.now form.now }
-        ensures thread { IfNone result (form.now.thread ≡ 1) }
-        ensures file { IfNone result (form.now.file < 2 ^ 32) }
-        ensures block { IfNone result (form.now.block < 2 ^ 32) }
+    // Why WRITE is refused in an open database, if it is.
+    fn place_refusal(&self, form: &WriteForm) -> Option<Refusal>
+        ensures value { result ≡ place_refusal self.now form.now }
+        ensures file { IfNone result (form.now.file ≤ 64) }
+        ensures block { IfNone result (form.now.block < 65536) }
     {
-        if form.thread == 0 || form.thread > u64::from(self.world.threads) {
+        if form.thread == 0 || form.thread > u64::from(self.threads()) {
             return Some(Refusal::Rm05(Absent::Thread(form.thread)));
         }
-        let Some(datafile) = self.world.file(form.file) else {
+        let Some(datafile) = self.on_path(form.file) else {
             return Some(Refusal::Rm05(Absent::File(form.file)));
         };
         if form.block >= u64::from(datafile.blocks) {
@@ -30,6 +43,10 @@ impl Database {
                 block: form.block,
                 file: form.file,
             }))
+        } else if self.placed(form.file).is_none() {
+            Some(Refusal::Rm09 {
+                file: form.file as u32,
+            })
         } else if self.logs.count(form.thread as ThreadNo) >= 65_536 {
             Some(Refusal::Rm11(Limit::LogRecords))
         } else if self.now() >= LAST_SCN {
@@ -39,10 +56,23 @@ impl Database {
         }
     }
 
+    // Why WRITE is refused, if it is.
+    fn write_refusal(&self, form: &WriteForm) -> Option<Refusal>
+        ensures value { result ≡ write_refusal self.now form.now }
+        ensures file { IfNone result (form.now.file ≤ 64) }
+        ensures block { IfNone result (form.now.block < 65536) }
+    {
+        if !self.is_open {
+            return Some(Refusal::Rm04 { mounted: true });
+        }
+        self.place_refusal(form)
+    }
+
     // Makes the change of a WRITE, which takes one SCN.
     fn write(&mut self, form: &WriteForm) -> Result<(), NoMemory>
         requires accepted { write_refusal self.old form.now ≡ None }
-        requires block { form.now.block < 2 ^ 32 }
+        requires file { form.now.file ≤ 64 }
+        requires block { form.now.block < 65536 }
         ensures { OnOk result (self.new ≡ with_write self.old form.now) }
     {
         let scn = self.now();
@@ -58,12 +88,14 @@ impl Database {
         let Ok(()) = self.logs.append(change) else {
             return Err(NoMemory);
         };
+        put_row(&mut self.place, form, scn);
         raise_end(&mut self.world.tree, self.current, scn + 1);
         Ok(())
     }
 }
 
-/// WRITE: the change takes one SCN and goes to the online log of its thread. A refusal changes nothing.
+/// WRITE: the change takes one SCN, and goes to its row in place and to the online log of its thread.
+/// A refusal changes nothing.
 pub fn write(alloc: Global, database: &mut Database, form: &WriteForm) -> Result<Reply, Stop>
     ensures { IfOk result (Steps (Some database.old) (Some database.new) (Write form.now)) }
 {

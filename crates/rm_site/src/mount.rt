@@ -1,0 +1,36 @@
+//! SHUTDOWN and STARTUP MOUNT
+ghost use Rattle.std.specs.Prelude.{◌≡◌, IfOk, Some, true};
+ghost use Rattle.rm_lang.specs.declared.command.Command.TheVariants.{Mount};
+ghost use Rattle.rm_site.specs.Mount.{mounted};
+ghost use Rattle.rm_site.specs.Step.{Steps};
+
+use crate::database::Database;
+use crate::place::stand_all;
+use crate::site::{Stop, reply_of};
+use rm_report::{Line, Reply};
+use std::alloc::Global;
+
+impl Database {
+    // Mounts the open database.
+    fn mount(&mut self)
+        requires { self.old.is_open ≡ true }
+        ensures { self.new ≡ mounted self.old }
+    {
+        let now = self.now();
+        let lost = self.lost_at(now);
+        stand_all(&mut self.place, self.current, now);
+        self.point = if lost.is_none() { Some(now) } else { None };
+        self.is_open = false;
+    }
+}
+
+/// SHUTDOWN and STARTUP MOUNT: the database is mounted. What stands in place stands at `now`.
+pub fn mount(alloc: Global, database: &mut Database) -> Result<Reply, Stop>
+    ensures { IfOk result (Steps (Some database.old) (Some database.new) Mount) }
+{
+    let reply = reply_of(alloc, Line::Mounted)?;
+    if database.is_open {
+        database.mount();
+    }
+    Ok(reply)
+}

@@ -1,0 +1,91 @@
+//! What stands in place of the datafiles.
+ghost use Rattle.std.specs.Prelude.{◌≡◌, ◌<◌, map, length, All};
+ghost use Rattle.std.specs.Option.{option_map};
+ghost use Rattle.rm_blocks.specs.File.{standing};
+ghost use Rattle.rm_history.specs.Tree.{IsThere};
+ghost use Rattle.rm_site.specs.Mount.{lost_at, first_lost};
+ghost use Rattle.rm_site.specs.Open.{kept_in_place};
+ghost use Rattle.rm_site.specs.Parts.{placed, on_path};
+ghost use Rattle.rm_site.specs.Recover.{put_over};
+
+use crate::database::Database;
+use rm_base::{FileNo, IncNo, Scn};
+use rm_blocks::DataFile;
+use rm_history::{Datafile, World};
+
+/// Lets each datafile in place stand at a checkpoint of an incarnation.
+pub(crate) fn stand_all(place: &mut Vec<Option<DataFile>>, inc: IncNo, checkpoint: Scn)
+    ensures { place.new.items ≡ map (option_map (λ x. standing x inc checkpoint)) place.old.items }
+{
+    for file in place.iter_mut() {
+        if let Some(file) = file {
+            file.stand(inc, checkpoint);
+        }
+    }
+}
+
+/// Takes out of place what does not exist at the address (i, s).
+pub(crate) fn keep_in_place(
+    place: &mut Vec<Option<DataFile>>,
+    world: &World,
+    i: IncNo,
+    s: Scn,
+)
+    requires there { IsThere world.now.tree i }
+    requires created { All (λ d. 0 < d.creation) world.now.files }
+    requires many { length place.old.items ≡ length world.now.files }
+    ensures { place.new.items ≡ kept_in_place world.now i s world.now.files place.old.items }
+{
+    for (index, datafile) in world.files.as_slice().iter().enumerate() {
+        if !world.exists(i, s, datafile) {
+            place[index] = None;
+        }
+    }
+}
+
+/// Puts datafiles in place of those that stood there.
+pub(crate) fn put_all(place: &mut Vec<Option<DataFile>>, files: Vec<Option<DataFile>>)
+    requires many { length files.items ≡ length place.old.items }
+    ensures { place.new.items ≡ put_over files.items place.old.items }
+{
+    for (index, file) in files.into_iter().enumerate() {
+        if file.is_some() {
+            place[index] = file;
+        }
+    }
+}
+
+impl Database {
+    /// What stands in place of the datafile of this number.
+    pub(crate) fn placed(&self, number: u64) -> Option<&DataFile>
+        requires { 0 < number }
+        ensures { option_map (λ x. x.now) result ≡ placed self.now number }
+    {
+        let index = usize::try_from(number - 1).ok()?;
+        self.place.get(index)?.as_ref()
+    }
+
+    /// The datafile of this number, where it is on the current path.
+    pub(crate) fn on_path(&self, number: u64) -> Option<Datafile>
+        ensures { result ≡ on_path self.now number }
+    {
+        let datafile = self.world.file(number)?;
+        if self.world.exists(self.current, self.now(), &datafile) {
+            Some(datafile)
+        } else {
+            None
+        }
+    }
+
+    /// The least datafile that exists at `s` of the current incarnation and is lost.
+    pub(crate) fn lost_at(&self, s: Scn) -> Option<FileNo>
+        ensures { result ≡ lost_at self.now s }
+    {
+        for (index, datafile) in self.world.files.as_slice().iter().enumerate() {
+            if self.world.exists(self.current, s, datafile) && self.place[index].is_none() {
+                return Some(index as FileNo + 1);
+            }
+        }
+        None
+    }
+}
