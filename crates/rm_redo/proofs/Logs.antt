@@ -1,18 +1,20 @@
--- What an appended change adds to the logs, and what it leaves as it was.
-use Rattle.std.proofs.Common.{◌≡◌, ◌<◌, ◌-◌, ◌∙◌, ◌≢◌, inl, inr, ℕ, zero, suc, List, [], ◌∷◌, ◌++◌, Option, Some, None, false, refl, ap, sym, subst, arith, length, All, slice_get, slice_set}
+-- What a change more, a switch and a loss make of the logs, and what they leave as it was.
+use Rattle.std.proofs.Common.{◌≡◌, ◌<◌, ◌≤◌, ◌+◌, ◌-◌, ◌∙◌, ◌≢◌, ◌==◌, ◌⊎◌, inl, inr, ℕ, zero, suc, List, [], ◌∷◌, ◌++◌, Option, Some, None, Bool, true, false, cond, refl, ap, sym, subst, arith, length, get_or, All, slice_get, slice_set}
 use Rattle.std.specs.Option.{option_map_or}
-use Rattle.std.proofs.lemmas.Bool.{cases_eq}
-use Rattle.std.proofs.lemmas.List.{length-set}
-use Rattle.std.proofs.lemmas.List.Elements.{All-push}
-use Rattle.std.proofs.lemmas.Option.{slice_get_cases}
+use Rattle.std.proofs.lemmas.Bool.{cases_eq, eq-eqb, ne_eqb, eqb-true}
+use Rattle.std.proofs.lemmas.List.{length-set, set-get_or}
+use Rattle.std.proofs.lemmas.List.Elements.{All-nil, All-get_or, All-push, All-set}
+use Rattle.std.proofs.lemmas.Option.{get_or_from_slice_get, slice_get_cases, slice_get_read, slice_get_within}
 use Rattle.rm_base.specs.declared.block.Change.{Change}
 use Rattle.rm_redo.specs.declared.online.LogRecord.{LogRecord}
 use Rattle.rm_redo.specs.declared.online.ThreadLog.{ThreadLog}
-use Rattle.rm_redo.specs.Logs.{Logs, IsLog}
-use Rattle.rm_redo.specs.Online.{IsThread, IsLost, record_of, records_of, first_of, with_record, with_change, fresh_log}
+use Rattle.rm_redo.specs.Logs.{Logs, IsLog, IsLogs}
+use Rattle.rm_redo.specs.Online.{IsThread, IsLost, record_of, records_of, first_of, sequence_of, with_log, with_record, with_change, begun_anew, switched, with_loss, fresh_log}
 
-pub fresh-is_log : (first : ℕ) → IsLog (fresh_log first)
-fresh-is_log first = record {
+pub fresh-is_log : (first : ℕ) → 0 < first → IsLog (fresh_log first)
+fresh-is_log first begun = record {
+  numbered = omega arith;
+  begun = begun;
   from = λ k d inside. absurd (omega (arith, inside));
   ascends = λ i j d less inside. absurd (omega (arith, inside));
   few = omega arith;
@@ -37,71 +39,140 @@ set-there [] k new inside = absurd (omega arith)
 set-there (l ∷ ls) zero new inside = refl
 set-there (l ∷ ls) (suc k) new inside = set-there ls k new (omega arith)
 
--- the logs with one change more, where `o` is the log of its thread
-abbrev changed : Logs → Change → Option ThreadLog → Logs
-changed logs c o = option_map_or (λ l. record logs { threads = slice_set logs.threads (c.thread - 1) (with_record (record_of c) l) }) o logs
+-- A field of the log of thread t, and `none` where there is no such thread.
+abbrev pub field_of : {X : Type 0} → (ThreadLog → X) → X → Logs → ℕ → X
+field_of field none logs t = option_map_or field (slice_get logs.threads (t - 1)) none
 
-alike-by : {X : Type 0} (field : ThreadLog → X) (none : X) → ((r : LogRecord) (l : ThreadLog) → field (with_record r l) ≡ field l) → (logs : Logs) (c : Change) (i : ℕ) (o : Option ThreadLog) → slice_get logs.threads (c.thread - 1) ≡ o → option_map_or field (slice_get (changed logs c o).threads i) none ≡ option_map_or field (slice_get logs.threads i) none
-alike-by field none kept logs c i None is = refl
-alike-by field none kept logs c i (Some l) is =
-    set-alike field none logs.threads (c.thread - 1) i (with_record (record_of c) l)
-    (ap (λ o. option_map_or field o none) is ∙ sym (kept (record_of c) l))
+-- the logs, where the log of thread t is what `f` makes of it, if it is `o`
+abbrev changed : (ThreadLog → ThreadLog) → Logs → ℕ → Option ThreadLog → Logs
+changed f logs t o = option_map_or (λ l. record logs { threads = slice_set logs.threads (t - 1) (f l) }) o logs
+
+kept-by : {X : Type 0} (field : ThreadLog → X) (none : X) (f : ThreadLog → ThreadLog) → ((l : ThreadLog) → field (f l) ≡ field l) → (logs : Logs) (t u : ℕ) (o : Option ThreadLog) → slice_get logs.threads (t - 1) ≡ o → field_of field none (changed f logs t o) u ≡ field_of field none logs u
+kept-by field none f kept logs t u None is = refl
+kept-by field none f kept logs t u (Some l) is =
+    set-alike field none logs.threads (t - 1) (u - 1) (f l) (ap (λ o. option_map_or field o none) is ∙ sym (kept l))
+
+-- what `f` leaves of each log stays
+pub kept-with_log : {X : Type 0} (field : ThreadLog → X) (none : X) (f : ThreadLog → ThreadLog) → ((l : ThreadLog) → field (f l) ≡ field l) → (logs : Logs) (t u : ℕ) → field_of field none (with_log f logs t) u ≡ field_of field none logs u
+kept-with_log field none f kept logs t u = kept-by field none f kept logs t u (slice_get logs.threads (t - 1)) refl
+
+there-by : {X : Type 0} (field : ThreadLog → X) (none : X) (f : ThreadLog → ThreadLog) (logs : Logs) (t : ℕ) (o : Option ThreadLog) → t - 1 < length logs.threads → o ≢ None → field_of field none (changed f logs t o) t ≡ option_map_or (λ l. field (f l)) o none
+there-by field none f logs t None inside some = absurd (some refl)
+there-by field none f logs t (Some l) inside some = ap (λ o. option_map_or field o none) (set-there logs.threads (t - 1) (f l) inside)
+
+pub is-there : (logs : Logs) (t : ℕ) → IsThread logs t → slice_get logs.threads (t - 1) ≢ None
+is-there logs t there none = elim (slice_get_cases logs.threads (t - 1)).1 [
+  | inl some ↦ let both : Some some.0 ≡ None = sym some.2 ∙ none in absurd (cc)
+  | inr past ↦ absurd (omega (arith, past.0, there.0, there.1))
+]
+
+-- the log of the thread is what `f` makes of it
+pub field-with_log : {X : Type 0} (field : ThreadLog → X) (none : X) (f : ThreadLog → ThreadLog) (logs : Logs) (t : ℕ) → IsThread logs t → field_of field none (with_log f logs t) t ≡ field_of (λ l. field (f l)) none logs t
+field-with_log field none f logs t there =
+    there-by field none f logs t (slice_get logs.threads (t - 1)) (omega (arith, there.0, there.1)) (is-there logs t there)
+
+other-by : (f : ThreadLog → ThreadLog) (logs : Logs) (t u : ℕ) (o : Option ThreadLog) → u - 1 ≢ t - 1 → slice_get (changed f logs t o).threads (u - 1) ≡ slice_get logs.threads (u - 1)
+other-by f logs t u None other = refl
+other-by f logs t u (Some l) other = set-other logs.threads (t - 1) (u - 1) (f l) other
+
+-- the other logs are as they were
+pub other-with_log : (f : ThreadLog → ThreadLog) (logs : Logs) (t u : ℕ) → 0 < t → 0 < u → u ≢ t → slice_get (with_log f logs t).threads (u - 1) ≡ slice_get logs.threads (u - 1)
+other-with_log f logs t u here there other =
+    other-by f logs t u (slice_get logs.threads (t - 1)) (λ same. other (omega (arith, same)))
+
+-- what surrounds the threads' logs, and their number
+pub record IsAround (old new : Logs) : Type 0 where
+  pub dbid : new.dbid ≡ old.dbid
+  pub inc : new.inc ≡ old.inc
+  pub threads : length new.threads ≡ length old.threads
+
+around-by : (f : ThreadLog → ThreadLog) (logs : Logs) (t : ℕ) (o : Option ThreadLog) → IsAround logs (changed f logs t o)
+around-by f logs t None = record { dbid = refl; inc = refl; threads = refl }
+around-by f logs t (Some l) = record { dbid = refl; inc = refl; threads = length-set logs.threads (t - 1) (f l) }
+
+pub around-with_log : (f : ThreadLog → ThreadLog) (logs : Logs) (t : ℕ) → IsAround logs (with_log f logs t)
+around-with_log f logs t = around-by f logs t (slice_get logs.threads (t - 1))
+
+-- as many threads are there
+pub IsThread-around : (old new : Logs) (t : ℕ) → IsAround old new → IsThread old t → IsThread new t
+IsThread-around old new t around there = let same = around.threads in (there.0, omega (arith, same, there.1))
+
+all-get : (P : ThreadLog → Type 0) (logs : List ThreadLog) (k : ℕ) (l : ThreadLog) → slice_get logs k ≡ Some l → All P logs → P l
+all-get P logs k l is all = subst P (get_or_from_slice_get logs k l l is) (All-get_or P logs k l (slice_get_within logs k l is) all)
+
+logs-by : (f : ThreadLog → ThreadLog) → ((l : ThreadLog) → IsLog l → IsLog (f l)) → (logs : Logs) (t : ℕ) (o : Option ThreadLog) → slice_get logs.threads (t - 1) ≡ o → IsLogs logs → IsLogs (changed f logs t o)
+logs-by f keeps logs t None is sound = sound
+logs-by f keeps logs t (Some l) is sound =
+    let same = length-set logs.threads (t - 1) (f l) in
+    record {
+      dbid = sound.dbid;
+      inc = sound.inc;
+      some = omega (arith, same, sound.some);
+      most = omega (arith, same, sound.most);
+      each = All-set IsLog logs.threads (t - 1) (f l) (keeps l (all-get IsLog logs.threads (t - 1) l is sound.each)) sound.each;
+    }
+
+-- logs stay logs where each stays one
+pub IsLogs-with_log : (f : ThreadLog → ThreadLog) → ((l : ThreadLog) → IsLog l → IsLog (f l)) → (logs : Logs) (t : ℕ) → IsLogs logs → IsLogs (with_log f logs t)
+IsLogs-with_log f keeps logs t sound = logs-by f keeps logs t (slice_get logs.threads (t - 1)) refl sound
+
+-- the log that stands at the thread's place is its log
+pub log-there : (logs : Logs) (t : ℕ) (l : ThreadLog) → IsThread logs t → l ≡ get_or logs.threads (t - 1) l → slice_get logs.threads (t - 1) ≡ Some l
+log-there logs t l there is = slice_get_read logs.threads (length logs.threads) (t - 1) l refl (omega (arith, there.0, there.1)) is
+
+-- and one of the logs
+pub is_log-there : (logs : Logs) (t : ℕ) (l : ThreadLog) → IsLogs logs → slice_get logs.threads (t - 1) ≡ Some l → IsLog l
+is_log-there logs t l sound is = all-get IsLog logs.threads (t - 1) l is sound.each
+
+-- A change more
 
 -- no log begins elsewhere
 pub first_of-with_change : (logs : Logs) (c : Change) (t : ℕ) → first_of (with_change logs c) t ≡ first_of logs t
-first_of-with_change logs c t = alike-by (λ l. l.first) 0 (λ r l. refl) logs c (t - 1) (slice_get logs.threads (c.thread - 1)) refl
+first_of-with_change logs c t = kept-with_log (λ l. l.first) 0 (with_record (record_of c)) (λ l. refl) logs c.thread t
+
+-- no log has another sequence number
+pub sequence_of-with_change : (logs : Logs) (c : Change) (t : ℕ) → sequence_of (with_change logs c) t ≡ sequence_of logs t
+sequence_of-with_change logs c t = kept-with_log (λ l. l.sequence) 0 (with_record (record_of c)) (λ l. refl) logs c.thread t
 
 -- no log is lost or found
-pub is_lost-with_change : (logs : Logs) (c : Change) (t : ℕ) → option_map_or (λ l. l.is_lost) (slice_get (with_change logs c).threads (t - 1)) false ≡ option_map_or (λ l. l.is_lost) (slice_get logs.threads (t - 1)) false
-is_lost-with_change logs c t = alike-by (λ l. l.is_lost) false (λ r l. refl) logs c (t - 1) (slice_get logs.threads (c.thread - 1)) refl
+pub is_lost-with_change : (logs : Logs) (c : Change) (t : ℕ) → field_of (λ l. l.is_lost) false (with_change logs c) t ≡ field_of (λ l. l.is_lost) false logs t
+is_lost-with_change logs c t = kept-with_log (λ l. l.is_lost) false (with_record (record_of c)) (λ l. refl) logs c.thread t
 
 pub IsLost-with_change : (logs : Logs) (c : Change) (t : ℕ) → ¬ IsLost logs t → ¬ IsLost (with_change logs c) t
 IsLost-with_change logs c t here lost = here (sym (is_lost-with_change logs c t) ∙ lost)
 
-length-by : (logs : Logs) (c : Change) (o : Option ThreadLog) → length (changed logs c o).threads ≡ length logs.threads
-length-by logs c None = refl
-length-by logs c (Some l) = length-set logs.threads (c.thread - 1) (with_record (record_of c) l)
+pub around-with_change : (logs : Logs) (c : Change) → IsAround logs (with_change logs c)
+around-with_change logs c = around-with_log (with_record (record_of c)) logs c.thread
 
 -- there are as many threads
 pub threads-with_change : (logs : Logs) (c : Change) → length (with_change logs c).threads ≡ length logs.threads
-threads-with_change logs c = length-by logs c (slice_get logs.threads (c.thread - 1))
+threads-with_change logs c = (around-with_change logs c).threads
 
 pub IsThread-with_change : (logs : Logs) (c : Change) (t : ℕ) → IsThread logs t → IsThread (with_change logs c) t
-IsThread-with_change logs c t there = let same = threads-with_change logs c in (there.0, omega (arith, same))
-
-inc-by : (logs : Logs) (c : Change) (o : Option ThreadLog) → ((changed logs c o).inc ≡ logs.inc) × ((changed logs c o).dbid ≡ logs.dbid)
-inc-by logs c None = (refl, refl)
-inc-by logs c (Some l) = (refl, refl)
+IsThread-with_change logs c t there = IsThread-around logs (with_change logs c) t (around-with_change logs c) there
 
 -- they are of the same incarnation
 pub inc-with_change : (logs : Logs) (c : Change) → (with_change logs c).inc ≡ logs.inc
-inc-with_change logs c = (inc-by logs c (slice_get logs.threads (c.thread - 1))).0
+inc-with_change logs c = (around-with_change logs c).inc
 
 -- and of the same database
 pub dbid-with_change : (logs : Logs) (c : Change) → (with_change logs c).dbid ≡ logs.dbid
-dbid-with_change logs c = (inc-by logs c (slice_get logs.threads (c.thread - 1))).1
+dbid-with_change logs c = (around-with_change logs c).dbid
 
-added-by : (logs : Logs) (c : Change) (o : Option ThreadLog) → slice_get logs.threads (c.thread - 1) ≡ o → c.thread - 1 < length logs.threads → o ≢ None → records_of (changed logs c o) c.thread ≡ option_map_or (λ l. l.records) o [] ++ record_of c ∷ []
-added-by logs c None is inside some = absurd (some refl)
-added-by logs c (Some l) is inside some = ap (λ o. option_map_or (λ l. l.records) o []) (set-there logs.threads (c.thread - 1) (with_record (record_of c) l) inside)
+pushed-by : (r : LogRecord) (o : Option ThreadLog) → o ≢ None → option_map_or (λ l. l.records ++ r ∷ []) o [] ≡ option_map_or (λ l. l.records) o [] ++ r ∷ []
+pushed-by r None some = absurd (some refl)
+pushed-by r (Some l) some = refl
 
 -- the thread's log has the change at its end
 pub records_of-with_change : (logs : Logs) (c : Change) → IsThread logs c.thread → records_of (with_change logs c) c.thread ≡ records_of logs c.thread ++ record_of c ∷ []
 records_of-with_change logs c there =
-    let inside : c.thread - 1 < length logs.threads = omega arith in
-    added-by logs c (slice_get logs.threads (c.thread - 1)) refl inside (λ none. elim (slice_get_cases logs.threads (c.thread - 1)).1 [
-      | inl some ↦ let both : Some some.0 ≡ None = sym some.2 ∙ none in absurd (cc)
-      | inr past ↦ absurd (omega (arith, past.0))
-    ])
-
-other-by : (logs : Logs) (c : Change) (t : ℕ) (o : Option ThreadLog) → t - 1 ≢ c.thread - 1 → records_of (changed logs c o) t ≡ records_of logs t
-other-by logs c t None other = refl
-other-by logs c t (Some l) other = ap (λ o. option_map_or (λ l. l.records) o []) (set-other logs.threads (c.thread - 1) (t - 1) (with_record (record_of c) l) other)
+    field-with_log (λ l. l.records) [] (with_record (record_of c)) logs c.thread there
+    ∙ pushed-by (record_of c) (slice_get logs.threads (c.thread - 1)) (is-there logs c.thread there)
 
 -- and the other logs are as they were
 pub records_of-with_change_other : (logs : Logs) (c : Change) (t : ℕ) → 0 < c.thread → 0 < t → t ≢ c.thread → records_of (with_change logs c) t ≡ records_of logs t
 records_of-with_change_other logs c t here there other =
-    other-by logs c t (slice_get logs.threads (c.thread - 1)) (λ same. other (omega (arith, same)))
+    ap (λ o. option_map_or (λ l. l.records) o []) (other-with_log (with_record (record_of c)) logs c.thread t here there other)
 
 -- what is true of the records and of the change is true of all records after it
 pub All-records-with_change : (P : LogRecord → Type 0) (logs : Logs) (c : Change) (t : ℕ) → IsThread logs c.thread → 0 < t → All P (records_of logs t) → P (record_of c) → All P (records_of (with_change logs c) t)
@@ -111,3 +182,158 @@ All-records-with_change P logs c t there here all new = elim (cases_eq t c.threa
       subst (λ n. All P (records_of (with_change logs c) n)) (sym same) (subst (All P) (sym (records_of-with_change logs c there)) grown)
   | inr other ↦ subst (All P) (sym (records_of-with_change_other logs c t there.0 here other)) all
 ]
+
+-- A switch
+
+-- a thread that begins at `now` stays as it is
+pub switched-stays : (logs : Logs) (t now : ℕ) → first_of logs t ≡ now → switched logs t now ≡ logs
+switched-stays logs t now same = ap (λ b. cond b logs (with_log (begun_anew now) logs t)) (eq-eqb (first_of logs t) now same)
+
+-- and where its log is written back as it is, the logs are the switched ones
+pub switched-back : (logs : Logs) (t now : ℕ) (l : ThreadLog) → slice_get logs.threads (t - 1) ≡ Some l → l.first ≡ now → record logs { threads = slice_set logs.threads (t - 1) l } ≡ switched logs t now
+switched-back logs t now l is same =
+    let logs_of : List ThreadLog → Logs = λ ls. record logs { threads = ls } in
+    ap logs_of (ap (slice_set logs.threads (t - 1)) (sym (get_or_from_slice_get logs.threads (t - 1) l l is)) ∙ set-get_or logs.threads (t - 1) l)
+    ∙ sym (switched-stays logs t now (ap (λ o. option_map_or (λ x. x.first) o 0) is ∙ same))
+
+-- one that begins elsewhere begins anew
+pub switched-anew : (logs : Logs) (t now : ℕ) → first_of logs t ≢ now → switched logs t now ≡ with_log (begun_anew now) logs t
+switched-anew logs t now other = ap (λ b. cond b logs (with_log (begun_anew now) logs t)) (ne_eqb (first_of logs t) now other)
+
+-- what is true of the logs and of those that begin anew is true of the switched ones
+pub switched-either : (P : Logs → Type 0) (logs : Logs) (t now : ℕ) → P logs → P (with_log (begun_anew now) logs t) → P (switched logs t now)
+switched-either P logs t now old new =
+    elim (first_of logs t == now) as (λ b. P (cond b logs (with_log (begun_anew now) logs t))) [ true ↦ old | false ↦ new ]
+
+pub switched-to : (logs : Logs) (t now : ℕ) (l : ThreadLog) → slice_get logs.threads (t - 1) ≡ Some l → l.first ≢ now → record logs { threads = slice_set logs.threads (t - 1) (begun_anew now l) } ≡ switched logs t now
+switched-to logs t now l is other =
+    sym (ap (λ o. option_map_or (λ x. record logs { threads = slice_set logs.threads (t - 1) (begun_anew now x) }) o logs) is)
+    ∙ sym (switched-anew logs t now (λ same. other (sym (ap (λ o. option_map_or (λ x. x.first) o 0) is) ∙ same)))
+
+constant-by : {X : Type 0} (x none : X) (o : Option ThreadLog) → o ≢ None → option_map_or (λ l. x) o none ≡ x
+constant-by x none None some = absurd (some refl)
+constant-by x none (Some l) some = refl
+
+alike-by : {X : Type 0} (none : X) (o : Option ThreadLog) → option_map_or (λ l. none) o none ≡ none
+alike-by none None = refl
+alike-by none (Some l) = refl
+
+next-by : (o : Option ThreadLog) → o ≢ None → option_map_or (λ l. l.sequence + 1) o 0 ≡ option_map_or (λ l. l.sequence) o 0 + 1
+next-by None some = absurd (some refl)
+next-by (Some l) some = refl
+
+-- the thread's log begins at `now`
+pub first_of-switched : (logs : Logs) (t now : ℕ) → IsThread logs t → first_of (switched logs t now) t ≡ now
+first_of-switched logs t now there = elim (cases_eq (first_of logs t) now) [
+  | inl same ↦ ap (λ x. first_of x t) (switched-stays logs t now same) ∙ same
+  | inr other ↦
+      ap (λ x. first_of x t) (switched-anew logs t now other)
+      ∙ field-with_log (λ l. l.first) 0 (begun_anew now) logs t there
+      ∙ constant-by now 0 (slice_get logs.threads (t - 1)) (is-there logs t there)
+]
+
+-- one that begins anew has the next sequence number
+pub sequence_of-switched : (logs : Logs) (t now : ℕ) → IsThread logs t → first_of logs t ≢ now → sequence_of (switched logs t now) t ≡ sequence_of logs t + 1
+sequence_of-switched logs t now there other =
+    ap (λ x. sequence_of x t) (switched-anew logs t now other)
+    ∙ field-with_log (λ l. l.sequence) 0 (begun_anew now) logs t there
+    ∙ next-by (slice_get logs.threads (t - 1)) (is-there logs t there)
+
+-- and no record
+pub records_of-switched : (logs : Logs) (t now : ℕ) → IsThread logs t → first_of logs t ≢ now → records_of (switched logs t now) t ≡ []
+records_of-switched logs t now there other =
+    ap (λ x. records_of x t) (switched-anew logs t now other)
+    ∙ field-with_log (λ l. l.records) [] (begun_anew now) logs t there
+    ∙ alike-by [] (slice_get logs.threads (t - 1))
+
+-- the other logs are as they were
+pub other-switched : (logs : Logs) (t u now : ℕ) → 0 < t → 0 < u → u ≢ t → slice_get (switched logs t now).threads (u - 1) ≡ slice_get logs.threads (u - 1)
+other-switched logs t u now here there other =
+    switched-either (λ x. slice_get x.threads (u - 1) ≡ slice_get logs.threads (u - 1)) logs t now refl (other-with_log (begun_anew now) logs t u here there other)
+
+pub first_of-switched_other : (logs : Logs) (t u now : ℕ) → 0 < t → 0 < u → u ≢ t → first_of (switched logs t now) u ≡ first_of logs u
+first_of-switched_other logs t u now here there other = ap (λ o. option_map_or (λ l. l.first) o 0) (other-switched logs t u now here there other)
+
+pub sequence_of-switched_other : (logs : Logs) (t u now : ℕ) → 0 < t → 0 < u → u ≢ t → sequence_of (switched logs t now) u ≡ sequence_of logs u
+sequence_of-switched_other logs t u now here there other = ap (λ o. option_map_or (λ l. l.sequence) o 0) (other-switched logs t u now here there other)
+
+pub records_of-switched_other : (logs : Logs) (t u now : ℕ) → 0 < t → 0 < u → u ≢ t → records_of (switched logs t now) u ≡ records_of logs u
+records_of-switched_other logs t u now here there other = ap (λ o. option_map_or (λ l. l.records) o []) (other-switched logs t u now here there other)
+
+-- what is true of all records stays true of all
+pub All-records-switched : (P : LogRecord → Type 0) (logs : Logs) (t u now : ℕ) → IsThread logs t → 0 < u → All P (records_of logs u) → All P (records_of (switched logs t now) u)
+All-records-switched P logs t u now there here all = elim (cases_eq u t) [
+  | inl same ↦ elim (cases_eq (first_of logs t) now) [
+    | inl stays ↦ subst (λ x. All P (records_of x u)) (sym (switched-stays logs t now stays)) all
+    | inr anew ↦ subst (All P) (sym (ap (records_of (switched logs t now)) same ∙ records_of-switched logs t now there anew)) (All-nil P)
+  ]
+  | inr other ↦ subst (All P) (sym (records_of-switched_other logs t u now there.0 here other)) all
+]
+
+-- no log is lost or found
+pub is_lost-switched : (logs : Logs) (t u now : ℕ) → field_of (λ l. l.is_lost) false (switched logs t now) u ≡ field_of (λ l. l.is_lost) false logs u
+is_lost-switched logs t u now =
+    switched-either (λ x. field_of (λ l. l.is_lost) false x u ≡ field_of (λ l. l.is_lost) false logs u) logs t now refl (kept-with_log (λ l. l.is_lost) false (begun_anew now) (λ l. refl) logs t u)
+
+pub IsLost-switched : (logs : Logs) (t u now : ℕ) → ¬ IsLost logs u → ¬ IsLost (switched logs t now) u
+IsLost-switched logs t u now here lost = here (sym (is_lost-switched logs t u now) ∙ lost)
+
+-- there are as many threads, of the same incarnation and database
+pub around-switched : (logs : Logs) (t now : ℕ) → IsAround logs (switched logs t now)
+around-switched logs t now =
+    switched-either (IsAround logs) logs t now (record { dbid = refl; inc = refl; threads = refl }) (around-with_log (begun_anew now) logs t)
+
+pub IsThread-switched : (logs : Logs) (t u now : ℕ) → IsThread logs u → IsThread (switched logs t now) u
+IsThread-switched logs t u now there = IsThread-around logs (switched logs t now) u (around-switched logs t now) there
+
+anew-is_log : (now : ℕ) (l : ThreadLog) → 0 < now → IsLog l → IsLog (begun_anew now l)
+anew-is_log now l begun is = record {
+  numbered = omega arith;
+  begun = begun;
+  from = λ k d inside. absurd (omega (arith, inside));
+  ascends = λ i j d less inside. absurd (omega (arith, inside));
+  few = omega arith;
+}
+
+-- logs stay logs
+pub IsLogs-switched : (logs : Logs) (t now : ℕ) → 0 < now → IsLogs logs → IsLogs (switched logs t now)
+IsLogs-switched logs t now begun sound =
+    switched-either IsLogs logs t now sound (IsLogs-with_log (begun_anew now) (λ l is. anew-is_log now l begun is) logs t sound)
+
+-- A loss
+
+abbrev as_lost : ThreadLog → ThreadLog
+as_lost l = record l { is_lost = true }
+
+pub first_of-with_loss : (logs : Logs) (t u : ℕ) → first_of (with_loss logs t) u ≡ first_of logs u
+first_of-with_loss logs t u = kept-with_log (λ l. l.first) 0 as_lost (λ l. refl) logs t u
+
+pub sequence_of-with_loss : (logs : Logs) (t u : ℕ) → sequence_of (with_loss logs t) u ≡ sequence_of logs u
+sequence_of-with_loss logs t u = kept-with_log (λ l. l.sequence) 0 as_lost (λ l. refl) logs t u
+
+pub records_of-with_loss : (logs : Logs) (t u : ℕ) → records_of (with_loss logs t) u ≡ records_of logs u
+records_of-with_loss logs t u = kept-with_log (λ l. l.records) [] as_lost (λ l. refl) logs t u
+
+-- the thread's log is lost
+pub IsLost-with_loss : (logs : Logs) (t : ℕ) → IsThread logs t → IsLost (with_loss logs t) t
+IsLost-with_loss logs t there =
+    field-with_log (λ l. l.is_lost) false as_lost logs t there
+    ∙ constant-by true false (slice_get logs.threads (t - 1)) (is-there logs t there)
+
+-- and no other
+pub is_lost-with_loss_other : (logs : Logs) (t u : ℕ) → 0 < t → 0 < u → u ≢ t → field_of (λ l. l.is_lost) false (with_loss logs t) u ≡ field_of (λ l. l.is_lost) false logs u
+is_lost-with_loss_other logs t u here there other = ap (λ o. option_map_or (λ l. l.is_lost) o false) (other-with_log as_lost logs t u here there other)
+
+-- there are as many threads, of the same incarnation and database
+pub around-with_loss : (logs : Logs) (t : ℕ) → IsAround logs (with_loss logs t)
+around-with_loss logs t = around-with_log as_lost logs t
+
+pub IsThread-with_loss : (logs : Logs) (t u : ℕ) → IsThread logs u → IsThread (with_loss logs t) u
+IsThread-with_loss logs t u there = IsThread-around logs (with_loss logs t) u (around-with_loss logs t) there
+
+lost-is_log : (l : ThreadLog) → IsLog l → IsLog (as_lost l)
+lost-is_log l is = record { numbered = is.numbered; begun = is.begun; from = is.from; ascends = is.ascends; few = is.few }
+
+-- logs stay logs
+pub IsLogs-with_loss : (logs : Logs) (t : ℕ) → IsLogs logs → IsLogs (with_loss logs t)
+IsLogs-with_loss logs t sound = IsLogs-with_log as_lost lost-is_log logs t sound

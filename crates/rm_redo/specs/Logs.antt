@@ -7,11 +7,18 @@ pub record Logs : Type 0 where
   pub inc : ℕ
   pub threads : List ThreadLog
 
--- the records ascend, from `first` on, and are at most 65,536
+-- the log has a sequence number, and its records ascend, from `first` on, and are at most 65,536
 pub record IsLog (l : ThreadLog) : Type 0 where
+  pub numbered : 0 < l.sequence
+  pub begun : 0 < l.first
   pub from : All (λ r. l.first ≤ r.scn) l.records
   pub ascends : AllPairs (λ r s. r.scn < s.scn) l.records
   pub few : length l.records ≤ 65536
 
-abbrev pub IsLogs : List ThreadLog → Type 0
-IsLogs threads = All IsLog threads
+-- the logs of one to four threads
+pub record IsLogs (logs : Logs) : Type 0 where
+  pub dbid : 0 < logs.dbid
+  pub inc : 0 < logs.inc
+  pub some : 0 < length logs.threads
+  pub most : length logs.threads ≤ 4
+  pub each : All IsLog logs.threads

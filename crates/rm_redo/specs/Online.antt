@@ -1,5 +1,5 @@
 -- What the calls of the online logs do.
-use Rattle.std.specs.Prelude.{ℕ, ◌-◌, ◌<◌, ◌≤◌, ◌≡◌, ◌++◌, List, [], ◌∷◌, length, replicate, true, false, slice_get, slice_set}
+use Rattle.std.specs.Prelude.{ℕ, ◌+◌, ◌-◌, ◌==◌, if◌then◌else◌, ◌<◌, ◌≤◌, ◌≡◌, ◌++◌, List, [], ◌∷◌, length, replicate, true, false, slice_get, slice_set}
 use Rattle.std.specs.Option.{option_map_or}
 use Rattle.rm_base.specs.declared.block.Change.{Change}
 use Rattle.rm_redo.specs.declared.online.LogRecord.{LogRecord}
@@ -22,6 +22,15 @@ records_of logs t = option_map_or (λ l. l.records) (slice_get logs.threads (t -
 abbrev pub first_of : Logs → ℕ → ℕ
 first_of logs t = option_map_or (λ l. l.first) (slice_get logs.threads (t - 1)) 0
 
+-- its sequence number
+abbrev pub sequence_of : Logs → ℕ → ℕ
+sequence_of logs t = option_map_or (λ l. l.sequence) (slice_get logs.threads (t - 1)) 0
+
+-- the logs, where the log of one thread is what `f` makes of it
+abbrev pub with_log : (ThreadLog → ThreadLog) → Logs → ℕ → Logs
+with_log f logs t =
+    option_map_or (λ l. record logs { threads = slice_set logs.threads (t - 1) (f l) }) (slice_get logs.threads (t - 1)) logs
+
 -- a change, as its log keeps it
 abbrev pub record_of : Change → LogRecord
 record_of c = record { scn = c.scn; file = c.file; block = c.block; content = c.content }
@@ -32,8 +41,24 @@ with_record r l = record l { records = l.records ++ r ∷ [] }
 
 -- the logs with one change more
 abbrev pub with_change : Logs → Change → Logs
-with_change logs c =
-    option_map_or (λ l. record logs { threads = slice_set logs.threads (c.thread - 1) (with_record (record_of c) l) }) (slice_get logs.threads (c.thread - 1)) logs
+with_change logs c = with_log (with_record (record_of c)) logs c.thread
+
+-- the logs with these changes more, one after another
+abbrev pub with_changes : Logs → List Change → Logs
+with_changes logs [] = logs
+with_changes logs (c ∷ cs) = with_changes (with_change logs c) cs
+
+-- the log, which begins anew at `now` with the next sequence number
+abbrev pub begun_anew : ℕ → ThreadLog → ThreadLog
+begun_anew now l = record { sequence = l.sequence + 1; first = now; is_lost = l.is_lost; records = [] }
+
+-- The logs, where the thread begins anew at `now`. One that begins there already stays as it is.
+abbrev pub switched : Logs → ℕ → ℕ → Logs
+switched logs t now = if first_of logs t == now then logs else with_log (begun_anew now) logs t
+
+-- the logs, where the log of one thread is lost
+abbrev pub with_loss : Logs → ℕ → Logs
+with_loss logs t = with_log (λ l. record l { is_lost = true }) logs t
 
 -- an empty log with sequence 1
 abbrev pub fresh_log : ℕ → ThreadLog

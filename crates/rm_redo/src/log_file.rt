@@ -1,4 +1,10 @@
 //! A log that was archived.
+ghost use Rattle.std.specs.Prelude.{ℕ, ◌≡◌, ◌≢◌, List, All, filter};
+ghost use Rattle.rm_base.specs.declared.block.Change.{Change};
+ghost use Rattle.rm_redo.specs.Logs.{Logs};
+ghost use Rattle.rm_redo.specs.LogFile.{changes_of, is_of_thread, log_file_of};
+ghost use Rattle.rm_redo.specs.Online.{IsThread, first_of, switched, with_changes};
+
 use crate::online::LogRecord;
 use rm_base::{IncNo, Scn, Seq, ThreadNo};
 
@@ -14,3 +20,8 @@ pub struct LogFile {
     pub next: Scn,
     pub records: Seq<LogRecord>,
 }
+
+/// A log tells exactly of the changes that were appended since its thread began anew.
+pub fn a_log_holds_what_was_appended()
+    ensures { (logs : Logs) (t now next : ℕ) (h : List Change) → IsThread logs t → first_of logs t ≢ now → All (λ c. IsThread logs c.thread × (c.inc ≡ logs.inc)) h → changes_of (log_file_of (with_changes (switched logs t now) h) t next) ≡ filter (is_of_thread t) h }
+{}

@@ -1,11 +1,15 @@
 //! The online logs, one for each redo thread.
-ghost use Rattle.std.specs.Prelude.{◌≡◌, ◌+◌, ◌<◌, ◌≤◌, ◌↔◌, All, OnOk, OnErr, IfOk, IsErrOf, length};
+ghost use Rattle.std.specs.Prelude.{◌≡◌, ◌+◌, ◌<◌, ◌≤◌, ◌↔◌, All, OnOk, OnErr, IfOk, IfSome, IsTrue, IsErrOf, length};
 ghost use Rattle.rm_base.specs.Numbers.{last_scn};
-ghost use Rattle.rm_redo.specs.Online.{IsThread, IsLost, fresh_logs, with_change, records_of, first_of};
+ghost use Rattle.rm_redo.specs.Logs.{IsLogs};
+ghost use Rattle.rm_redo.specs.LogFile.{log_file_of};
+ghost use Rattle.rm_redo.specs.Online.{IsThread, IsLost, begun_anew, fresh_logs, with_change, with_loss, switched, records_of, first_of, sequence_of};
 
+use crate::log_file::LogFile;
 use rm_base::{Block, BlockNo, Change, FileNo, IncNo, NoMemory, Scn, Seq, ThreadNo};
 use std::alloc::Global;
 use std::marker::Model;
+use std::mem;
 
 /// One change, as a log keeps it.
 #[derive(Clone, Copy, Debug, PartialEq, Eq)]
@@ -24,6 +28,19 @@ pub struct ThreadLog {
     pub first: Scn,
     pub is_lost: bool,
     pub records: Seq<LogRecord>,
+}
+
+impl ThreadLog {
+    // Lets the log begin anew at `now`, and gives the records that it had.
+    fn begin_anew(&mut self, alloc: Global, now: Scn) -> Seq<LogRecord>
+        requires { self.old.sequence < 4294967295 }
+        ensures records { result ≡ self.old.records }
+        ensures after { self.new ≡ begun_anew now self.old }
+    {
+        self.sequence += 1;
+        self.first = now;
+        mem::replace(&mut self.records, Seq::new(alloc))
+    }
 }
 
 /// Why a change was not logged.
@@ -62,7 +79,7 @@ impl Model for OnlineLogs {
 
     ghost view = { λ l. record { dbid = l.dbid; inc = l.inc; threads = l.threads.items } };
 
-    ghost invariant = { λ l. IsLogs l.threads.items };
+    ghost invariant = { λ l. IsLogs (record { dbid = l.dbid; inc = l.inc; threads = l.threads.items }) };
 }
 
 impl OnlineLogs {
@@ -122,6 +139,55 @@ impl OnlineLogs {
         Ok(())
     }
 
+    /// Closes the log of a thread, which then begins anew at `now` with the next sequence number and no
+    /// record. None, and nothing changes, where it begins at `now` already. Without memory nothing
+    /// changes either.
+    pub fn switch(&mut self, thread: ThreadNo, now: Scn) -> Result<Option<LogFile>, NoMemory>
+        requires thread { IsThread self.old thread }
+        requires there { ¬ IsLost self.old thread }
+        requires first { first_of self.old thread ≤ now }
+        requires last { now ≤ last_scn }
+        requires above { All (λ r. r.scn < now) (records_of self.old thread) }
+        requires sequence { sequence_of self.old thread < 4294967295 }
+        ensures none { IfOk result (λ log. (log ≡ None) ↔ (first_of self.old thread ≡ now)) }
+        ensures log { IfOk result (λ log. IfSome log (λ l. l ≡ log_file_of self.old thread now)) }
+        ensures after { OnOk result (self.new ≡ switched self.old thread now) }
+        ensures err { OnErr result (self.new ≡ self.old) }
+    {
+        let alloc = *self.threads.allocator();
+        let log = &mut self.threads[thread as usize - 1];
+        if log.first == now {
+            return Ok(None);
+        }
+        let (sequence, first) = (log.sequence, log.first);
+        let records = log.begin_anew(alloc, now);
+        Ok(Some(LogFile {
+            dbid: self.dbid,
+            inc: self.inc,
+            thread,
+            sequence,
+            first,
+            next: now,
+            records,
+        }))
+    }
+
+    /// Marks the log of a thread as lost.
+    pub fn lose(&mut self, thread: ThreadNo)
+        requires { IsThread self.old thread }
+        ensures { self.new ≡ with_loss self.old thread }
+    {
+        self.threads[thread as usize - 1].is_lost = true;
+    }
+
+    /// Whether the log of a thread is lost.
+    pub fn is_lost(&self, thread: ThreadNo) -> bool
+        requires { IsThread self.now thread }
+        ensures { IsTrue result ↔ IsLost self.now thread }
+    {
+        self.threads[thread as usize - 1].is_lost
+    }
+
     /// The records of a thread, by ascending SCN.
     pub fn records(&self, thread: ThreadNo) -> &[LogRecord]
         requires { IsThread self.now thread }
@@ -145,5 +211,29 @@ impl OnlineLogs {
         ensures { result ≡ first_of self.now thread }
     {
         self.threads[thread as usize - 1].first
+    }
+
+    /// The sequence number of a thread's log: 1 at first, and one more after each switch.
+    pub fn sequence(&self, thread: ThreadNo) -> u32
+        requires { IsThread self.now thread }
+        ensures value { result ≡ sequence_of self.now thread }
+        ensures least { 1 ≤ result }
+    {
+        self.threads[thread as usize - 1].sequence
+    }
+
+    /// The incarnation of which the logs are.
+    pub fn inc(&self) -> IncNo
+        ensures { result ≡ self.now.inc }
+    {
+        self.inc
+    }
+
+    /// The number of threads: 1 to 4.
+    pub fn threads(&self) -> u8
+        ensures value { result ≡ length self.now.threads }
+        ensures sound { IsLogs self.now }
+    {
+        self.threads.len() as u8
     }
 }

@@ -1,0 +1,9 @@
+//! The datafiles in place, each a list of rows.
+#![tactic(auto)]
+
+pub mod file;
+
+pub use file::DataFile;
+
+#[cfg(test)]
+mod tests;

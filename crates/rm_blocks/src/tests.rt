@@ -1,0 +1,4 @@
+//! Each public call once.
+ghost use Rattle.std.specs.Prelude.{◌≡◌};
+
+use crate::*;

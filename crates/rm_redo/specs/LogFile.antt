@@ -1,0 +1,20 @@
+-- The logs that switches close, and what they tell.
+use Rattle.std.specs.Prelude.{ℕ, ◌==◌, Bool, List, map}
+use Rattle.rm_base.specs.declared.block.Change.{Change}
+use Rattle.rm_redo.specs.declared.log_file.LogFile.{LogFile}
+use Rattle.rm_redo.specs.Logs.{Logs}
+use Rattle.rm_redo.specs.Online.{first_of, records_of, sequence_of}
+
+-- the log of a thread, which tells up to, and without, `next`
+abbrev pub log_file_of : Logs → ℕ → ℕ → LogFile
+log_file_of logs t next =
+    record { dbid = logs.dbid; inc = logs.inc; thread = t; sequence = sequence_of logs t; first = first_of logs t; next = next; records = records_of logs t }
+
+-- the changes of which a log tells
+abbrev pub changes_of : LogFile → List Change
+changes_of l =
+    map (λ r. record { inc = l.inc; thread = l.thread; scn = r.scn; file = r.file; block = r.block; content = r.content }) l.records
+
+-- the change is one of this thread
+abbrev pub is_of_thread : ℕ → Change → Bool
+is_of_thread t c = c.thread == t
