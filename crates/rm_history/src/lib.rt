@@ -6,7 +6,7 @@ pub mod rows;
 pub mod tree;
 pub mod world;
 
-pub use tree::{Incarnation, Tree};
+pub use tree::{Incarnation, Standing, Tree, TreeFault};
 pub use world::{Datafile, World};
 
 #[cfg(test)]
