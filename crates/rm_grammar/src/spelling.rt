@@ -4,6 +4,7 @@ ghost use Rattle.std.specs.List.{list_all};
 ghost use Rattle.rm_token.specs.declared.token.Token.TheVariants.{Word, Number, Quoted, Sign};
 ghost use Rattle.rm_token.specs.Spelling.{are_string_bytes, is_name, is_plain};
 ghost use Rattle.rm_token.specs.Tokens.{is_sign};
+ghost use Rattle.rm_grammar.specs.Spelling.{flag_spelled, number_or_spelled};
 
 use rm_base::{NoMemory, Seq, Text};
 use rm_token::Token;
@@ -58,6 +59,29 @@ impl Spelling {
     {
         self.tokens.push(Token::Number(n))?;
         Ok(())
+    }
+
+    /// Adds the word, where it is said.
+    pub fn flag(&mut self, name: &str, said: bool) -> Result<(), NoMemory>
+        requires { IsTrue (is_name name.now) }
+        ensures { OnOk result (self.new ≡ self.old ++ flag_spelled name.now said) }
+    {
+        if said {
+            return self.word(name);
+        }
+        Ok(())
+    }
+
+    /// Adds the word and the number, but where it is the number that is meant when both are left out.
+    pub fn number_or(&mut self, name: &str, left_out: u64, n: u64) -> Result<(), NoMemory>
+        requires { IsTrue (is_name name.now) }
+        ensures { OnOk result (self.new ≡ self.old ++ number_or_spelled name.now left_out n) }
+    {
+        if n == left_out {
+            return Ok(());
+        }
+        self.word(name)?;
+        self.number(n)
     }
 
     /// Adds a string of these bytes.

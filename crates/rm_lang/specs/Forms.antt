@@ -1,22 +1,24 @@
 -- The lines of the grammar, and the command that each one is.
-use Rattle.std.specs.Prelude.{◌-◌, ◌^◌, Some, None, codes}
+use Rattle.std.specs.Prelude.{◌-◌, ◌^◌, ℕ, Option, Some, None, Bool, true, false, codes}
+use Rattle.std.specs.Option.{option_map}
 use Rattle.rm_base.specs.Content.{padded, trimmed}
-use Rattle.rm_grammar.specs.Grammar.{◌▸◌, Grammar, semicolon, word, number, text, TextKind, any, in_range}
+use Rattle.rm_grammar.specs.Grammar.{◌▸◌, Grammar, Values, end, semicolon, word, flag, noise, number, number_or, optional, text, TextKind, any, in_range}
 use Rattle.rm_grammar.specs.Forms.{Form}
+use Rattle.rm_lang.specs.declared.command.Until.{Until}
 use Rattle.rm_lang.specs.declared.command.Until.TheVariants.{Scn}
 use Rattle.rm_lang.specs.declared.command.Command.{Command}
-use Rattle.rm_lang.specs.declared.command.Command.TheVariants.{CreateDatabase, CreateDatafile, Write, RecoverTest}
+use Rattle.rm_lang.specs.declared.command.Command.TheVariants.{CreateDatabase, CreateDatafile, Write, SwitchLogfile, ArchiveLogCurrent, Mount, OpenPlain, OpenResetlogs, ResetDatabase, Recover, RecoverTest, ListIncarnation, Dump}
 
 -- the content that a VALUE has, which is shown without the zero bytes at its end
 abbrev pub content : TextKind
 content = record { read = λ w. Some (padded w).0; show = trimmed }
 
--- CREATE DATABASE
+-- CREATE DATABASE [DBID n] [THREADS n] [SCN n]
 abbrev pub create_database_line : Grammar
-create_database_line = word (codes "CREATE") ▸ word (codes "DATABASE") ▸ semicolon
+create_database_line = word (codes "CREATE") ▸ word (codes "DATABASE") ▸ number_or (codes "DBID") 1 (in_range 1 (2 ^ 32 - 1)) ▸ number_or (codes "THREADS") 1 (in_range 1 (2 ^ 64 - 1)) ▸ number_or (codes "SCN") 1 (in_range 1 (2 ^ 48 - 1)) ▸ semicolon
 
 unfoldable pub create_database : Form Command
-create_database = record { line = create_database_line; meaning = λ v. Some (CreateDatabase 1 1 1) }
+create_database = record { line = create_database_line; meaning = λ v. Some (CreateDatabase v.0 v.1.0 v.1.1.0) }
 
 -- CREATE DATAFILE BLOCKS n
 abbrev pub create_datafile_line : Grammar
@@ -25,19 +27,99 @@ create_datafile_line = word (codes "CREATE") ▸ word (codes "DATAFILE") ▸ wor
 unfoldable pub create_datafile : Form Command
 create_datafile = record { line = create_datafile_line; meaning = λ v. Some (CreateDatafile v.0) }
 
--- WRITE DATAFILE n BLOCK n VALUE 't'
+-- WRITE [THREAD n] DATAFILE n BLOCK n VALUE 't'
 abbrev pub write_line : Grammar
-write_line = word (codes "WRITE") ▸ word (codes "DATAFILE") ▸ number any ▸ word (codes "BLOCK") ▸ number any ▸ word (codes "VALUE") ▸ text content ▸ semicolon
+write_line = word (codes "WRITE") ▸ number_or (codes "THREAD") 1 any ▸ word (codes "DATAFILE") ▸ number any ▸ word (codes "BLOCK") ▸ number any ▸ word (codes "VALUE") ▸ text content ▸ semicolon
 
 unfoldable pub write : Form Command
 write = record {
   line = write_line;
-  meaning = λ v. Some (Write (record { thread = 1; file = v.0; block = v.1.0; content = record { 0 = v.1.1.0 } }));
+  meaning = λ v. Some (Write (record { thread = v.0; file = v.1.0; block = v.1.1.0; content = record { 0 = v.1.1.1.0 } }));
 }
 
--- RECOVER DATABASE UNTIL SCN n TEST
-abbrev pub recover_test_line : Grammar
-recover_test_line = word (codes "RECOVER") ▸ word (codes "DATABASE") ▸ word (codes "UNTIL") ▸ word (codes "SCN") ▸ number any ▸ word (codes "TEST") ▸ semicolon
+-- ALTER SYSTEM SWITCH LOGFILE [THREAD n]
+abbrev pub switch_logfile_line : Grammar
+switch_logfile_line = word (codes "ALTER") ▸ word (codes "SYSTEM") ▸ word (codes "SWITCH") ▸ word (codes "LOGFILE") ▸ number_or (codes "THREAD") 1 any ▸ semicolon
 
-unfoldable pub recover_test : Form Command
-recover_test = record { line = recover_test_line; meaning = λ v. Some (RecoverTest (Some (Scn v.0)) None) }
+unfoldable pub switch_logfile : Form Command
+switch_logfile = record { line = switch_logfile_line; meaning = λ v. Some (SwitchLogfile v.0) }
+
+-- ALTER SYSTEM ARCHIVE LOG CURRENT
+abbrev pub archive_log_line : Grammar
+archive_log_line = word (codes "ALTER") ▸ word (codes "SYSTEM") ▸ word (codes "ARCHIVE") ▸ word (codes "LOG") ▸ word (codes "CURRENT") ▸ semicolon
+
+unfoldable pub archive_log : Form Command
+archive_log = record { line = archive_log_line; meaning = λ v. Some ArchiveLogCurrent }
+
+-- SHUTDOWN [IMMEDIATE]
+abbrev pub shutdown_line : Grammar
+shutdown_line = word (codes "SHUTDOWN") ▸ noise (codes "IMMEDIATE") ▸ semicolon
+
+unfoldable pub shutdown : Form Command
+shutdown = record { line = shutdown_line; meaning = λ v. Some Mount }
+
+-- STARTUP [FORCE] MOUNT
+abbrev pub startup_line : Grammar
+startup_line = word (codes "STARTUP") ▸ noise (codes "FORCE") ▸ word (codes "MOUNT") ▸ semicolon
+
+unfoldable pub startup : Form Command
+startup = record { line = startup_line; meaning = λ v. Some Mount }
+
+-- ALTER DATABASE OPEN [RESETLOGS]
+abbrev pub open_database_line : Grammar
+open_database_line = word (codes "ALTER") ▸ word (codes "DATABASE") ▸ word (codes "OPEN") ▸ flag (codes "RESETLOGS") ▸ semicolon
+
+abbrev pub opening : Bool → Command
+opening true = OpenResetlogs
+opening false = OpenPlain
+
+unfoldable pub open_database : Form Command
+open_database = record { line = open_database_line; meaning = λ v. Some (opening v.0) }
+
+-- RESET DATABASE TO INCARNATION n
+abbrev pub reset_database_line : Grammar
+reset_database_line = word (codes "RESET") ▸ word (codes "DATABASE") ▸ word (codes "TO") ▸ word (codes "INCARNATION") ▸ number any ▸ semicolon
+
+unfoldable pub reset_database : Form Command
+reset_database = record { line = reset_database_line; meaning = λ v. Some (ResetDatabase v.0) }
+
+-- UNTIL SCN n
+abbrev pub until_line : Grammar
+until_line = word (codes "UNTIL") ▸ word (codes "SCN") ▸ number any ▸ end
+
+abbrev pub until_of : Values until_line → Until
+until_of v = Scn v.0
+
+-- INCARNATION n
+abbrev pub incarnation_line : Grammar
+incarnation_line = word (codes "INCARNATION") ▸ number any ▸ end
+
+abbrev pub incarnation_of : Values incarnation_line → ℕ
+incarnation_of v = v.0
+
+-- RECOVER DATABASE [until] [INCARNATION n] [TEST]
+abbrev pub recover_line : Grammar
+recover_line = word (codes "RECOVER") ▸ word (codes "DATABASE") ▸ optional until_line ▸ optional incarnation_line ▸ flag (codes "TEST") ▸ semicolon
+
+-- an incarnation stands with TEST only
+abbrev pub recovery : Option Until → Option ℕ → Bool → Option Command
+recovery until inc true = Some (RecoverTest until inc)
+recovery until None false = Some (Recover until)
+recovery until (Some n) false = None
+
+unfoldable pub recover : Form Command
+recover = record { line = recover_line; meaning = λ v. recovery (option_map until_of v.0) (option_map incarnation_of v.1.0) v.1.1.0 }
+
+-- LIST INCARNATION
+abbrev pub list_incarnation_line : Grammar
+list_incarnation_line = word (codes "LIST") ▸ word (codes "INCARNATION") ▸ semicolon
+
+unfoldable pub list_incarnation : Form Command
+list_incarnation = record { line = list_incarnation_line; meaning = λ v. Some ListIncarnation }
+
+-- DUMP DATAFILE n BLOCK n
+abbrev pub dump_line : Grammar
+dump_line = word (codes "DUMP") ▸ word (codes "DATAFILE") ▸ number any ▸ word (codes "BLOCK") ▸ number any ▸ semicolon
+
+unfoldable pub dump : Form Command
+dump = record { line = dump_line; meaning = λ v. Some (Dump v.0 v.1.0) }

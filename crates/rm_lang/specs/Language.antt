@@ -3,11 +3,19 @@ use Rattle.std.specs.Prelude.{List, [], ◌∷◌, Option}
 use Rattle.rm_token.specs.declared.token.Token.{Token}
 use Rattle.rm_grammar.specs.Forms.{Form, IsByOne, command_in}
 use Rattle.rm_lang.specs.declared.command.Command.{Command}
-use Rattle.rm_lang.specs.Forms.{create_database, create_datafile, write, recover_test}
+use Rattle.rm_lang.specs.Forms.{create_database, create_datafile, write, switch_logfile, archive_log, shutdown, startup, open_database, reset_database, recover, list_incarnation, dump}
 
--- the forms of statements
+-- the forms that ask and answer
+unfoldable pub asking_forms : List (Form Command)
+asking_forms = list_incarnation ∷ dump ∷ []
+
+-- those of modes and recovery, and the ones above
+unfoldable pub mode_forms : List (Form Command)
+mode_forms = shutdown ∷ startup ∷ open_database ∷ reset_database ∷ recover ∷ asking_forms
+
+-- the forms of statements: those that create and write, and the ones above
 unfoldable pub forms : List (Form Command)
-forms = create_database ∷ create_datafile ∷ write ∷ recover_test ∷ []
+forms = create_database ∷ create_datafile ∷ write ∷ switch_logfile ∷ archive_log ∷ mode_forms
 
 -- The grammar: the tokens, with their ending, are this command.
 unfoldable pub IsCommand : List Token → Command → Type 0

@@ -28,8 +28,27 @@ pub enum Command {
         blocks: u64,
     },
     Write(WriteForm),
+    SwitchLogfile {
+        thread: u64,
+    },
+    ArchiveLogCurrent,
+    /// SHUTDOWN and STARTUP MOUNT.
+    Mount,
+    OpenPlain,
+    OpenResetlogs,
+    ResetDatabase {
+        inc: u64,
+    },
+    Recover {
+        until: Option<Until>,
+    },
     RecoverTest {
         until: Option<Until>,
         inc: Option<u64>,
+    },
+    ListIncarnation,
+    Dump {
+        file: u64,
+        block: u64,
     },
 }

@@ -1,28 +1,32 @@
 //! A command as text.
-ghost use Rattle.std.specs.Prelude.{◌≡◌, IsTrue, IfOk};
+ghost use Rattle.std.specs.Prelude.{◌≡◌, ◌++◌, IsTrue, IfOk, OnOk};
+ghost use Rattle.std.specs.Option.{option_map};
 ghost use Rattle.std.specs.List.{list_all};
 ghost use Rattle.rm_base.specs.Content.{trimmed};
 ghost use Rattle.rm_token.specs.Tokens.{is_string_byte, feeds};
 ghost use Rattle.rm_token.specs.Spelling.{is_statement};
-ghost use Rattle.rm_grammar.specs.Spelling.{spelled};
-ghost use Rattle.rm_lang.specs.Forms.{create_database_line, create_datafile_line, write_line, recover_test_line};
+ghost use Rattle.rm_grammar.specs.Spelling.{spelled, maybe_spelled};
+ghost use Rattle.rm_lang.specs.Forms.{create_database_line, create_datafile_line, write_line, switch_logfile_line, archive_log_line, startup_line, open_database_line, reset_database_line, until_line, incarnation_line, list_incarnation_line, dump_line};
 ghost use Rattle.rm_lang.specs.declared.command.Command.TheVariants.{Write};
 ghost use Rattle.rm_lang.specs.IsCommand.{is_command, IsSized};
-ghost use Rattle.rm_lang.specs.Spelling.{tokens_of, ReadsAs};
+ghost use Rattle.rm_lang.specs.Spelling.{until_values, incarnation_values, recover_spelled, tokens_of, ReadsAs};
 
 use crate::command::{Command, Until, WriteForm};
-use rm_base::{NoMemory, Seq};
+use rm_base::{NoMemory, Scn, Seq};
 use rm_grammar::Spelling;
 use rm_token::text_of as text_of_tokens;
 use std::alloc::Global;
 
-fn create_database(alloc: Global) -> Result<Spelling, NoMemory>
-    ensures tokens { IfOk result (λ ts. ts ≡ spelled create_database_line tt) }
+fn create_database(alloc: Global, dbid: u32, threads: u64, scn: Scn) -> Result<Spelling, NoMemory>
+    ensures tokens { IfOk result (λ ts. ts ≡ spelled create_database_line (dbid, (threads, (scn, tt)))) }
     ensures statement { IfOk result (λ ts. IsTrue (is_statement ts)) }
 {
     let mut spelling = Spelling::new(alloc);
     spelling.word("CREATE")?;
     spelling.word("DATABASE")?;
+    spelling.number_or("DBID", 1, dbid as u64)?;
+    spelling.number_or("THREADS", 1, threads)?;
+    spelling.number_or("SCN", 1, scn)?;
     spelling.sign(b';')?;
     Ok(spelling)
 }
@@ -43,12 +47,13 @@ fn create_datafile(alloc: Global, blocks: u64) -> Result<Spelling, NoMemory>
 #[tactic(auto, using(crate::proofs::Contents::string_content))]
 fn write(alloc: Global, form: WriteForm) -> Result<Spelling, NoMemory>
     requires { IsTrue (list_all is_string_byte (trimmed form.content.0)) }
-    ensures tokens { IfOk result (λ ts. ts ≡ spelled write_line (form.file, (form.block, (form.content.0, tt)))) }
+    ensures tokens { IfOk result (λ ts. ts ≡ spelled write_line (form.thread, (form.file, (form.block, (form.content.0, tt))))) }
     ensures statement { IfOk result (λ ts. IsTrue (is_statement ts)) }
     ensures sized { IsSized (Write form) }
 {
     let mut spelling = Spelling::new(alloc);
     spelling.word("WRITE")?;
+    spelling.number_or("THREAD", 1, form.thread)?;
     spelling.word("DATAFILE")?;
     spelling.number(form.file)?;
     spelling.word("BLOCK")?;
@@ -59,17 +64,135 @@ fn write(alloc: Global, form: WriteForm) -> Result<Spelling, NoMemory>
     Ok(spelling)
 }
 
-fn recover_test(alloc: Global, scn: u64) -> Result<Spelling, NoMemory>
-    ensures tokens { IfOk result (λ ts. ts ≡ spelled recover_test_line (scn, tt)) }
+fn switch_logfile(alloc: Global, thread: u64) -> Result<Spelling, NoMemory>
+    ensures tokens { IfOk result (λ ts. ts ≡ spelled switch_logfile_line (thread, tt)) }
+    ensures statement { IfOk result (λ ts. IsTrue (is_statement ts)) }
+{
+    let mut spelling = Spelling::new(alloc);
+    spelling.word("ALTER")?;
+    spelling.word("SYSTEM")?;
+    spelling.word("SWITCH")?;
+    spelling.word("LOGFILE")?;
+    spelling.number_or("THREAD", 1, thread)?;
+    spelling.sign(b';')?;
+    Ok(spelling)
+}
+
+fn archive_log(alloc: Global) -> Result<Spelling, NoMemory>
+    ensures tokens { IfOk result (λ ts. ts ≡ spelled archive_log_line tt) }
+    ensures statement { IfOk result (λ ts. IsTrue (is_statement ts)) }
+{
+    let mut spelling = Spelling::new(alloc);
+    spelling.word("ALTER")?;
+    spelling.word("SYSTEM")?;
+    spelling.word("ARCHIVE")?;
+    spelling.word("LOG")?;
+    spelling.word("CURRENT")?;
+    spelling.sign(b';')?;
+    Ok(spelling)
+}
+
+fn mount(alloc: Global) -> Result<Spelling, NoMemory>
+    ensures tokens { IfOk result (λ ts. ts ≡ spelled startup_line tt) }
+    ensures statement { IfOk result (λ ts. IsTrue (is_statement ts)) }
+{
+    let mut spelling = Spelling::new(alloc);
+    spelling.word("STARTUP")?;
+    spelling.word("MOUNT")?;
+    spelling.sign(b';')?;
+    Ok(spelling)
+}
+
+fn open_database(alloc: Global, resetlogs: bool) -> Result<Spelling, NoMemory>
+    ensures tokens { IfOk result (λ ts. ts ≡ spelled open_database_line (resetlogs, tt)) }
+    ensures statement { IfOk result (λ ts. IsTrue (is_statement ts)) }
+{
+    let mut spelling = Spelling::new(alloc);
+    spelling.word("ALTER")?;
+    spelling.word("DATABASE")?;
+    spelling.word("OPEN")?;
+    spelling.flag("RESETLOGS", resetlogs)?;
+    spelling.sign(b';')?;
+    Ok(spelling)
+}
+
+fn reset_database(alloc: Global, inc: u64) -> Result<Spelling, NoMemory>
+    ensures tokens { IfOk result (λ ts. ts ≡ spelled reset_database_line (inc, tt)) }
+    ensures statement { IfOk result (λ ts. IsTrue (is_statement ts)) }
+{
+    let mut spelling = Spelling::new(alloc);
+    spelling.word("RESET")?;
+    spelling.word("DATABASE")?;
+    spelling.word("TO")?;
+    spelling.word("INCARNATION")?;
+    spelling.number(inc)?;
+    spelling.sign(b';')?;
+    Ok(spelling)
+}
+
+// Adds the until, if there is one.
+fn push_until(spelling: &mut Spelling, until: Option<Until>) -> Result<(), NoMemory>
+    ensures { OnOk result (spelling.new ≡ spelling.old ++ maybe_spelled (spelled until_line) (option_map until_values until)) }
+{
+    if let Some(Until::Scn(scn)) = until {
+        spelling.word("UNTIL")?;
+        spelling.word("SCN")?;
+        spelling.number(scn)?;
+    }
+    Ok(())
+}
+
+// Adds the incarnation, if there is one.
+fn push_incarnation(spelling: &mut Spelling, inc: Option<u64>) -> Result<(), NoMemory>
+    ensures { OnOk result (spelling.new ≡ spelling.old ++ maybe_spelled (spelled incarnation_line) (option_map incarnation_values inc)) }
+{
+    if let Some(number) = inc {
+        spelling.word("INCARNATION")?;
+        spelling.number(number)?;
+    }
+    Ok(())
+}
+
+fn recover(
+    alloc: Global,
+    until: Option<Until>,
+    inc: Option<u64>,
+    test: bool,
+) -> Result<Spelling, NoMemory>
+    ensures tokens { IfOk result (λ ts. ts ≡ recover_spelled until inc test) }
     ensures statement { IfOk result (λ ts. IsTrue (is_statement ts)) }
 {
     let mut spelling = Spelling::new(alloc);
     spelling.word("RECOVER")?;
     spelling.word("DATABASE")?;
-    spelling.word("UNTIL")?;
-    spelling.word("SCN")?;
-    spelling.number(scn)?;
-    spelling.word("TEST")?;
+    push_until(&mut spelling, until)?;
+    push_incarnation(&mut spelling, inc)?;
+    spelling.flag("TEST", test)?;
+    spelling.sign(b';')?;
+    Ok(spelling)
+}
+
+fn list_incarnation(alloc: Global) -> Result<Spelling, NoMemory>
+    ensures tokens { IfOk result (λ ts. ts ≡ spelled list_incarnation_line tt) }
+    ensures statement { IfOk result (λ ts. IsTrue (is_statement ts)) }
+{
+    let mut spelling = Spelling::new(alloc);
+    spelling.word("LIST")?;
+    spelling.word("INCARNATION")?;
+    spelling.sign(b';')?;
+    Ok(spelling)
+}
+
+fn dump(alloc: Global, file: u64, block: u64) -> Result<Spelling, NoMemory>
+    ensures tokens { IfOk result (λ ts. ts ≡ spelled dump_line (file, (block, tt))) }
+    ensures statement { IfOk result (λ ts. IsTrue (is_statement ts)) }
+{
+    let mut spelling = Spelling::new(alloc);
+    spelling.word("DUMP")?;
+    spelling.word("DATAFILE")?;
+    spelling.number(file)?;
+    spelling.word("BLOCK")?;
+    spelling.number(block)?;
     spelling.sign(b';')?;
     Ok(spelling)
 }
@@ -82,14 +205,21 @@ fn spelling_of(alloc: Global, command: &Command) -> Result<Spelling, NoMemory>
     ensures sized { IsSized command.now }
 {
     match command {
-        Command::CreateDatabase { .. } => create_database(alloc),
+        Command::CreateDatabase { dbid, threads, scn } => {
+            create_database(alloc, *dbid, *threads, *scn)
+        }
         Command::CreateDatafile { blocks } => create_datafile(alloc, *blocks),
         Command::Write(form) => write(alloc, *form),
-        Command::RecoverTest {
-            until: Some(Until::Scn(scn)),
-            ..
-        } => recover_test(alloc, *scn),
-        Command::RecoverTest { until: None, .. } => unreachable!(),
+        Command::SwitchLogfile { thread } => switch_logfile(alloc, *thread),
+        Command::ArchiveLogCurrent => archive_log(alloc),
+        Command::Mount => mount(alloc),
+        Command::OpenPlain => open_database(alloc, false),
+        Command::OpenResetlogs => open_database(alloc, true),
+        Command::ResetDatabase { inc } => reset_database(alloc, *inc),
+        Command::Recover { until } => recover(alloc, *until, None, false),
+        Command::RecoverTest { until, inc } => recover(alloc, *until, *inc, true),
+        Command::ListIncarnation => list_incarnation(alloc),
+        Command::Dump { file, block } => dump(alloc, *file, *block),
     }
 }
 

@@ -7,7 +7,7 @@ ghost use Rattle.rm_lang.specs.IsCommand.{is_command, IsSized};
 ghost use Rattle.rm_lang.specs.Language.{IsStatement};
 
 use crate::command::Command;
-use rm_base::Block;
+use rm_base::{Block, LAST_SCN};
 use rm_token::are_string_bytes;
 
 // The content is one that a VALUE has.
@@ -24,10 +24,21 @@ fn passes(command: &Command) -> bool
     ensures sized { IsSized command.now }
 {
     match command {
-        Command::CreateDatabase { dbid, threads, scn } => *dbid == 1 && *threads == 1 && *scn == 1,
+        Command::CreateDatabase { dbid, threads, scn } => {
+            *dbid > 0 && *threads > 0 && (1..=LAST_SCN).contains(scn)
+        }
         Command::CreateDatafile { blocks } => *blocks > 0,
-        Command::Write(form) => is_value(form.content) && form.thread == 1,
-        Command::RecoverTest { until, inc } => until.is_some() && inc.is_none(),
+        Command::Write(form) => is_value(form.content),
+        Command::SwitchLogfile { .. } => true,
+        Command::ArchiveLogCurrent => true,
+        Command::Mount => true,
+        Command::OpenPlain => true,
+        Command::OpenResetlogs => true,
+        Command::ResetDatabase { .. } => true,
+        Command::Recover { .. } => true,
+        Command::RecoverTest { .. } => true,
+        Command::ListIncarnation => true,
+        Command::Dump { .. } => true,
     }
 }
 

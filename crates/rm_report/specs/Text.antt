@@ -1,5 +1,5 @@
 -- The text of a reply.
-use Rattle.std.specs.Prelude.{ℕ, ◌/◌, ◌%◌, false, true, List, [], ◌∷◌, ◌++◌, codes}
+use Rattle.std.specs.Prelude.{ℕ, ◌/◌, ◌%◌, Bool, false, true, List, [], ◌∷◌, ◌++◌, codes}
 use Rattle.std.specs.List.{flat_map}
 use Rattle.std.specs.Fmt.{decimal, digit_glyph}
 use Rattle.rm_base.specs.Content.{trimmed}
@@ -12,8 +12,10 @@ use Rattle.rm_base.specs.declared.refusal.Unknown.{Unknown}
 use Rattle.rm_base.specs.declared.refusal.Unknown.TheVariants.{Entry, Tag, Log, Object, Byte}
 use Rattle.rm_base.specs.declared.refusal.Refusal.{Refusal}
 use Rattle.rm_base.specs.declared.refusal.Refusal.TheVariants.{Rm01, Rm02, Rm03, Rm04, Rm05, Rm06, Rm07, Rm08, Rm09, Rm10, Rm11, Rm12, Rm13, Rm15}
+use Rattle.rm_history.specs.declared.tree.Standing.{Standing}
+use Rattle.rm_history.specs.declared.tree.Standing.TheVariants.{Current, Parent, Orphan}
 use Rattle.rm_report.specs.declared.line.Line.{Line}
-use Rattle.rm_report.specs.declared.line.Line.TheVariants.{DatabaseAt, DatafileAt, Written, UntilIs, FileIs, BlockIs, Refused}
+use Rattle.rm_report.specs.declared.line.Line.TheVariants.{DatabaseAt, DatafileAt, Written, LogMade, NothingToArchive, Mounted, Opened, Chosen, Recovered, UntilIs, FileIs, BlockIs, IncarnationIs, Dumped, Refused}
 use Rattle.rm_report.specs.declared.line.Reply.{Reply}
 
 -- a byte's two digits in lower-case hexadecimal
@@ -77,15 +79,42 @@ refusal_text (Rm12 unknown) = unknown_text unknown
 refusal_text (Rm13 name) = codes "RM-13: name " ++ (name ++ codes " is taken")
 refusal_text Rm15 = codes "RM-15: last SCN"
 
+-- a block's number, version and content
+abbrev pub block_text : ℕ → ℕ → Block → List ℕ
+block_text block version content = codes "block " ++ (decimal block ++ (codes " version " ++ (decimal version ++ (codes " value " ++ content_text content))))
+
+-- how an incarnation stands to the current one
+abbrev pub standing_text : Standing → List ℕ
+standing_text Current = codes "current"
+standing_text Parent = codes "parent"
+standing_text Orphan = codes "orphan"
+
 -- a line, without its line feed
 abbrev pub line_text : Line → List ℕ
 line_text (DatabaseAt dbid scn) = codes "database " ++ (decimal dbid ++ (codes " incarnation 1 at " ++ decimal scn))
 line_text (DatafileAt file scn blocks) = codes "datafile " ++ (decimal file ++ (codes " created at " ++ (decimal scn ++ (codes " with " ++ (decimal blocks ++ codes " blocks")))))
 line_text (Written scn) = codes "scn " ++ decimal scn
+line_text (LogMade id thread sequence from next) = codes "log " ++ (decimal id ++ (codes " thread " ++ (decimal thread ++ (codes " sequence " ++ (decimal sequence ++ (codes " first " ++ (decimal from ++ (codes " next " ++ decimal next))))))))
+line_text (NothingToArchive thread) = codes "thread " ++ (decimal thread ++ codes " nothing to archive")
+line_text Mounted = codes "mounted"
+line_text (Opened inc scn) = codes "opened incarnation " ++ (decimal inc ++ (codes " at " ++ decimal scn))
+line_text (Chosen inc) = codes "incarnation " ++ (decimal inc ++ codes " chosen")
+line_text (Recovered until inc files) = codes "recovered until " ++ (decimal until ++ (codes " of incarnation " ++ (decimal inc ++ (codes ": files " ++ decimal files))))
 line_text (UntilIs until inc files) = codes "until " ++ (decimal until ++ (codes " of incarnation " ++ (decimal inc ++ (codes ": files " ++ decimal files))))
 line_text (FileIs file blocks written) = codes "datafile " ++ (decimal file ++ (codes ": " ++ (decimal blocks ++ (codes " blocks, " ++ (decimal written ++ codes " written")))))
-line_text (BlockIs block version content) = codes "block " ++ (decimal block ++ (codes " version " ++ (decimal version ++ (codes " value " ++ content_text content))))
+line_text (BlockIs block version content) = block_text block version content
+line_text (IncarnationIs inc parent reset end standing) = codes "incarnation " ++ (decimal inc ++ (codes " parent " ++ (decimal parent ++ (codes " reset at " ++ (decimal reset ++ (codes " end " ++ (decimal end ++ (codes " " ++ standing_text standing))))))))
+line_text (Dumped file block version content) = codes "datafile " ++ (decimal file ++ (codes " " ++ block_text block version content))
 line_text (Refused refusal) = refusal_text refusal
+
+-- the line tells of a log, a file, a block or an incarnation
+abbrev pub tells : Line → Bool
+tells (LogMade id thread sequence from next) = true
+tells (FileIs file blocks written) = true
+tells (BlockIs block version content) = true
+tells (IncarnationIs inc parent reset end standing) = true
+tells (Dumped file block version content) = true
+tells line = false
 
 -- a line and one line feed
 abbrev pub full_line : Line → List ℕ

@@ -1,5 +1,6 @@
 //! The lines of a reply.
-use rm_base::{Block, BlockNo, FileNo, IncNo, Refusal, Scn, Seq};
+use rm_base::{Block, BlockNo, FileNo, IncNo, Refusal, Scn, Seq, ThreadNo};
+use rm_history::Standing;
 
 /// A line of a reply. Each form of line has a variant, whose fields are the numbers of its text.
 #[derive(Debug, Drop)]
@@ -19,6 +20,35 @@ pub enum Line {
     Written {
         scn: Scn,
     },
+    /// A log is archived, as an object of this id. It has the changes from `first` to below `next`.
+    LogMade {
+        id: u32,
+        thread: ThreadNo,
+        sequence: u32,
+        first: Scn,
+        next: Scn,
+    },
+    /// The thread's log has no change to archive.
+    NothingToArchive {
+        thread: ThreadNo,
+    },
+    /// The database is mounted.
+    Mounted,
+    /// The database is open, with its incarnation and its SCN.
+    Opened {
+        inc: IncNo,
+        scn: Scn,
+    },
+    /// The incarnation is the current one from now on.
+    Chosen {
+        inc: IncNo,
+    },
+    /// The files that exist at the target are recovered until it.
+    Recovered {
+        until: Scn,
+        inc: IncNo,
+        files: u32,
+    },
     /// The target of the test of a recovery, and how many files it has.
     UntilIs {
         until: Scn,
@@ -33,6 +63,21 @@ pub enum Line {
     },
     /// A block of the file that was written.
     BlockIs {
+        block: BlockNo,
+        version: Scn,
+        content: Block,
+    },
+    /// An incarnation, its parent (0 for the first), and the SCNs at which it begins and ends.
+    IncarnationIs {
+        inc: IncNo,
+        parent: IncNo,
+        reset: Scn,
+        end: Scn,
+        standing: Standing,
+    },
+    /// A block of a file that stands in place.
+    Dumped {
+        file: FileNo,
         block: BlockNo,
         version: Scn,
         content: Block,

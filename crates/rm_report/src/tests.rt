@@ -1,6 +1,7 @@
 //! The text of each line and of each refusal.
 use crate::{Line, Reply, bytes_of};
-use rm_base::{Absent, Block, Limit, Refusal, Seq, Text, Unknown};
+use rm_base::{Absent, Block, IncNo, Limit, Refusal, Seq, Text, Unknown};
+use rm_history::Standing;
 use std::alloc::Global;
 use std::process::Abort;
 use std::test::Fail;
@@ -84,6 +85,83 @@ fn lines(rt: HostRuntime) -> Result<(), Fail> {
                 content: Block(wide),
             },
             "block 5 version 9 value ab000f",
+        ),
+    ];
+    for (line, text) in table {
+        shows(&rt, rt.alloc(), line, text)?;
+    }
+    Ok(())
+}
+
+#[test]
+fn archived_and_opened(rt: HostRuntime) -> Result<(), Fail> {
+    let table = [
+        (
+            Line::LogMade {
+                id: 3,
+                thread: 1,
+                sequence: 2,
+                first: 1,
+                next: 4,
+            },
+            "log 3 thread 1 sequence 2 first 1 next 4",
+        ),
+        (
+            Line::NothingToArchive { thread: 2 },
+            "thread 2 nothing to archive",
+        ),
+        (Line::Mounted, "mounted"),
+        (Line::Opened { inc: 2, scn: 4 }, "opened incarnation 2 at 4"),
+        (Line::Chosen { inc: 1 }, "incarnation 1 chosen"),
+        (
+            Line::Recovered {
+                until: 4,
+                inc: 1,
+                files: 2,
+            },
+            "recovered until 4 of incarnation 1: files 2",
+        ),
+    ];
+    for (line, text) in table {
+        shows(&rt, rt.alloc(), line, text)?;
+    }
+    Ok(())
+}
+
+// An incarnation from 4 to 9.
+fn incarnation(inc: IncNo, parent: IncNo, standing: Standing) -> Line {
+    Line::IncarnationIs {
+        inc,
+        parent,
+        reset: 4,
+        end: 9,
+        standing,
+    }
+}
+
+#[test]
+fn incarnations_and_dumps(rt: HostRuntime) -> Result<(), Fail> {
+    let table = [
+        (
+            incarnation(1, 0, Standing::Parent),
+            "incarnation 1 parent 0 reset at 4 end 9 parent",
+        ),
+        (
+            incarnation(2, 1, Standing::Orphan),
+            "incarnation 2 parent 1 reset at 4 end 9 orphan",
+        ),
+        (
+            incarnation(3, 1, Standing::Current),
+            "incarnation 3 parent 1 reset at 4 end 9 current",
+        ),
+        (
+            Line::Dumped {
+                file: 2,
+                block: 0,
+                version: 3,
+                content: Block::padded(b"BB"),
+            },
+            "datafile 2 block 0 version 3 value 4242",
         ),
     ];
     for (line, text) in table {

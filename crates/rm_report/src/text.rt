@@ -1,10 +1,11 @@
 //! The text of a reply.
-ghost use Rattle.std.specs.Prelude.{◌≡◌, ◌++◌, IfOk, OnOk};
+ghost use Rattle.std.specs.Prelude.{◌≡◌, ◌++◌, IfOk, OnOk, IsTrue};
 ghost use Rattle.std.specs.String.{string_bytes};
-ghost use Rattle.rm_report.specs.Text.{line_text, refusal_text, absent_text, unknown_text, limit_text, content_text, byte_text, reply_text};
+ghost use Rattle.rm_report.specs.Text.{tells, line_text, block_text, standing_text, refusal_text, absent_text, unknown_text, limit_text, content_text, byte_text, reply_text};
 
 use crate::line::{Line, Reply};
-use rm_base::{Absent, Block, Limit, NoMemory, Refusal, Seq, Unknown};
+use rm_base::{Absent, Block, BlockNo, Limit, NoMemory, Refusal, Scn, Seq, Unknown};
+use rm_history::Standing;
 use std::alloc::{AllocError, Global};
 
 /// The text of a reply: each line in order, with a line feed at its end.
@@ -29,9 +30,44 @@ fn push_line(out: &mut String, line: &Line) -> Result<(), AllocError>
             write!(out, "datafile {file} created at {scn} with {blocks} blocks")
         }
         Line::Written { scn } => write!(out, "scn {scn}"),
+        Line::LogMade { .. } => push_told(out, line),
+        Line::NothingToArchive { thread } => write!(out, "thread {thread} nothing to archive"),
+        Line::Mounted => write!(out, "mounted"),
+        Line::Opened { inc, scn } => write!(out, "opened incarnation {inc} at {scn}"),
+        Line::Chosen { inc } => write!(out, "incarnation {inc} chosen"),
+        Line::Recovered { until, inc, files } => {
+            write!(
+                out,
+                "recovered until {until} of incarnation {inc}: files {files}"
+            )
+        }
         Line::UntilIs { until, inc, files } => {
             write!(out, "until {until} of incarnation {inc}: files {files}")
         }
+        Line::FileIs { .. } => push_told(out, line),
+        Line::BlockIs { .. } => push_told(out, line),
+        Line::IncarnationIs { .. } => push_told(out, line),
+        Line::Dumped { .. } => push_told(out, line),
+        Line::Refused(refusal) => push_refusal(out, refusal),
+    }
+}
+
+// Appends a line that tells of a log, a file, a block or an incarnation.
+fn push_told(out: &mut String, line: &Line) -> Result<(), AllocError>
+    requires { IsTrue (tells line.now) }
+    ensures { OnOk result (string_bytes out.new ≡ string_bytes out.old ++ line_text line.now) }
+{
+    match line {
+        Line::LogMade {
+            id,
+            thread,
+            sequence,
+            first,
+            next,
+        } => write!(
+            out,
+            "log {id} thread {thread} sequence {sequence} first {first} next {next}"
+        ),
         Line::FileIs {
             file,
             blocks,
@@ -41,11 +77,54 @@ fn push_line(out: &mut String, line: &Line) -> Result<(), AllocError>
             block,
             version,
             content,
+        } => push_block(out, *block, *version, content),
+        Line::IncarnationIs {
+            inc,
+            parent,
+            reset,
+            end,
+            standing,
         } => {
-            write!(out, "block {block} version {version} value ")?;
-            push_content(out, content)
+            let standing = standing_text(*standing);
+            write!(
+                out,
+                "incarnation {inc} parent {parent} reset at {reset} end {end} {standing}"
+            )
         }
-        Line::Refused(refusal) => push_refusal(out, refusal),
+        Line::Dumped {
+            file,
+            block,
+            version,
+            content,
+        } => {
+            write!(out, "datafile {file} ")?;
+            push_block(out, *block, *version, content)
+        }
+        _ => unreachable!(),
+    }
+}
+
+// Appends the block's number, version and content.
+fn push_block(
+    out: &mut String,
+    block: BlockNo,
+    version: Scn,
+    content: &Block,
+) -> Result<(), AllocError>
+    ensures { OnOk result (string_bytes out.new ≡ string_bytes out.old ++ block_text block version content.now) }
+{
+    write!(out, "block {block} version {version} value ")?;
+    push_content(out, content)
+}
+
+// How the incarnation stands to the current one.
+fn standing_text(standing: Standing) -> &'static str
+    ensures { result.now ≡ standing_text standing }
+{
+    match standing {
+        Standing::Current => "current",
+        Standing::Parent => "parent",
+        Standing::Orphan => "orphan",
     }
 }
 

@@ -4,7 +4,8 @@ use Rattle.std.specs.Option.{option_map_or}
 use Rattle.rm_base.specs.declared.refusal.Refusal.{Refusal}
 use Rattle.rm_base.specs.declared.refusal.Refusal.TheVariants.{Rm11}
 use Rattle.rm_base.specs.declared.refusal.Limit.TheVariants.{ObjectIds, Sequences}
-use Rattle.rm_redo.specs.Online.{first_of, sequence_of, log_file_of, switched}
+use Rattle.rm_redo.specs.LogFile.{log_file_of}
+use Rattle.rm_redo.specs.Online.{first_of, sequence_of, switched}
 use Rattle.rm_redo.specs.Logs.{Logs}
 use Rattle.rm_report.specs.declared.line.Line.{Line}
 use Rattle.rm_report.specs.declared.line.Line.TheVariants.{LogMade, NothingToArchive}

@@ -10,8 +10,8 @@ use Rattle.rm_history.specs.History.{IsHistory}
 use Rattle.rm_history.specs.State.{state}
 use Rattle.rm_history.specs.Tree.{end_of}
 use Rattle.rm_history.specs.World.{IsThread, file_of, exists}
-use Rattle.rm_redo.specs.LogFile.{log_of}
-use Rattle.rm_redo.specs.Online.{IsLost, log_file_of}
+use Rattle.rm_redo.specs.LogFile.{log_of, log_file_of}
+use Rattle.rm_redo.specs.Online.{IsLost}
 use Rattle.rm_site.specs.declared.database.Archived.{Archived}
 use Rattle.rm_site.specs.Parts.{Parts, now_of, redo_end, placed}
 

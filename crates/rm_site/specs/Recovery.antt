@@ -13,8 +13,7 @@ use Rattle.rm_history.specs.World.{exists}
 use Rattle.rm_history.specs.State.{states}
 use Rattle.rm_lang.specs.declared.command.Until.{Until}
 use Rattle.rm_lang.specs.declared.command.Until.TheVariants.{Scn}
-use Rattle.rm_redo.specs.LogFile.{changes_of}
-use Rattle.rm_redo.specs.Online.{log_file_of}
+use Rattle.rm_redo.specs.LogFile.{changes_of, log_file_of}
 use Rattle.rm_site.specs.Parts.{Parts, redo_end}
 
 -- the SCN at which a recovery of i stops: its UNTIL, or the end
