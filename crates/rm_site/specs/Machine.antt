@@ -71,7 +71,7 @@ pub record Keeps (p : Parts) (h : List Change) : Type 0 where
   pub told : All (IsTold p) h
   -- what stands in place agrees with the history; in an open database it has the state at `now`
   pub place : (f : ℕ) (x : File) → placed p f ≡ Some x → BaseAgrees p.world h (held p x)
-  pub open : p.is_open ≡ true → (f : ℕ) (x : File) → placed p f ≡ Some x → RowsAre p.world h p.current (now_of p) x
+  pub in_open : p.is_open ≡ true → (f : ℕ) (x : File) → placed p f ≡ Some x → RowsAre p.world h p.current (now_of p) x
   -- at the point each datafile that exists there stands in place
   pub point : (s : ℕ) → p.point ≡ Some s → (f : ℕ) (d : Datafile) → file_of p.world f ≡ Some d → exists p.world p.current s d ≡ true → StandsAt p h s f
 

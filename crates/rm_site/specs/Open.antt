@@ -65,8 +65,8 @@ next_incarnation p = length p.world.tree + 1
 -- The database opened at s as a new incarnation, which branches off the current one: its logs begin anew.
 abbrev pub branched_off : Parts → ℕ → Parts
 branched_off p s =
-    let open : Parts = opened p s in
-    record open {
+    let made : Parts = opened p s in
+    record made {
       current = next_incarnation p;
       world = record p.world { tree = with_branch p.world.tree p.current s };
       logs = fresh_logs p.dbid (next_incarnation p) p.world.threads s;

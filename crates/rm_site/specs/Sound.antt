@@ -13,7 +13,7 @@ use Rattle.rm_site.specs.Parts.{Parts, now_of, redo_end, blocks_in, placed}
 
 -- each incarnation lasts from its resetlogs SCN up to its end
 pub record AreIncarnations (tree : List Incarnation) : Type 0 where
-  pub tree : IsTree tree
+  pub shape : IsTree tree
   pub begun : (i : ℕ) → IsThere tree i → 0 < reset_of tree i
   pub range : (i : ℕ) → IsThere tree i → reset_of tree i ≤ end_of tree i
   pub last : (i : ℕ) → IsThere tree i → end_of tree i ≤ last_scn
@@ -88,5 +88,5 @@ pub record IsSound (p : Parts) : Type 0 where
   pub online : AreOnline p
   pub archived : AreArchived p
   pub placed : ArePlaced p.world p.place
-  pub open : p.is_open ≡ true → IsOpen p
+  pub in_open : p.is_open ≡ true → IsOpen p
   pub point : (s : ℕ) → p.point ≡ Some s → IsPoint p s

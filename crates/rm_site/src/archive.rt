@@ -1,7 +1,7 @@
 //! Online logs become archived ones.
-ghost use Rattle.std.specs.Prelude.{◌≡◌, ◌≤◌, ◌<◌, ◌+◌, ◌++◌, ◌-◌, OnOk, IfOk, None, true};
+ghost use Rattle.std.specs.Prelude.{◌≡◌, ◌≤◌, ◌<◌, ◌+◌, ◌++◌, ◌∷◌, [], OnOk, IfOk, None, true};
 ghost use Rattle.rm_redo.specs.Online.{IsThread, sequence_of};
-ghost use Rattle.rm_site.specs.Archiving.{is_due, with_archived, after_thread, after_threads, after_all, told_lines, lines_of, archive_refusal, due_from, is_last_sequence};
+ghost use Rattle.rm_site.specs.Archiving.{is_due, made_line, with_archived, after_thread, after_threads, after_all, told_lines, lines_of, archive_refusal, due_from, is_last_sequence};
 
 use crate::database::{Archived, Database};
 use rm_base::{Limit, NoMemory, Refusal, Seq, ThreadNo};

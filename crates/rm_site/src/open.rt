@@ -1,5 +1,6 @@
 //! ALTER DATABASE OPEN
 ghost use Rattle.std.specs.Prelude.{◌≡◌, IfOk, Some, None, true};
+ghost use Rattle.std.specs.List.{list_any};
 ghost use Rattle.rm_lang.specs.declared.command.Command.TheVariants.{OpenPlain};
 ghost use Rattle.rm_site.specs.Open.{is_recovered, open_refusal, opened};
 ghost use Rattle.rm_site.specs.Parts.{now_of};

@@ -1,5 +1,5 @@
 //! ALTER DATABASE OPEN RESETLOGS
-ghost use Rattle.std.specs.Prelude.{◌≡◌, ◌≤◌, ◌<◌, ◌+◌, IfOk, OnOk, Some, None, true, false, length};
+ghost use Rattle.std.specs.Prelude.{ℕ, ◌≡◌, ◌≤◌, ◌<◌, ◌+◌, IfOk, OnOk, Some, None, true, false, length};
 ghost use Rattle.rm_history.specs.Tree.{reset_of};
 ghost use Rattle.rm_lang.specs.declared.command.Command.TheVariants.{OpenResetlogs};
 ghost use Rattle.rm_site.specs.Archiving.{after_all};

@@ -1,6 +1,6 @@
 //! What stands in place of the datafiles.
 ghost use Rattle.std.specs.Prelude.{◌≡◌, ◌<◌, map, length, All};
-ghost use Rattle.std.specs.Option.{option_map};
+ghost use Rattle.std.specs.Option.{option_map, option_copied};
 ghost use Rattle.rm_blocks.specs.File.{standing};
 ghost use Rattle.rm_history.specs.Tree.{IsThere};
 ghost use Rattle.rm_site.specs.Mount.{lost_at, first_lost};
@@ -59,7 +59,7 @@ impl Database {
     /// What stands in place of the datafile of this number.
     pub(crate) fn placed(&self, number: u64) -> Option<&DataFile>
         requires { 0 < number }
-        ensures { option_map (λ x. x.now) result ≡ placed self.now number }
+        ensures { option_copied result ≡ placed self.now number }
     {
         let index = usize::try_from(number - 1).ok()?;
         self.place.get(index)?.as_ref()

@@ -2,7 +2,7 @@
 ghost use Rattle.std.specs.Prelude.{◌≡◌, ◌≤◌, IfOk, IfNone, OnOk, Some, None};
 ghost use Rattle.rm_lang.specs.declared.command.Command.TheVariants.{Recover};
 ghost use Rattle.rm_site.specs.Recover.{recover_refusal, recovered};
-ghost use Rattle.rm_site.specs.Recovery.{told_by};
+ghost use Rattle.rm_site.specs.Recovery.{target, told_by};
 ghost use Rattle.rm_site.specs.Step.{Steps};
 
 use crate::database::Database;

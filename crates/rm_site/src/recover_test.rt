@@ -1,8 +1,10 @@
 //! RECOVER DATABASE [UNTIL SCN s] [INCARNATION i] TEST
-ghost use Rattle.std.specs.Prelude.{◌≡◌, ◌<◌, ◌++◌, IfOk, IfNone, OnOk, Some, None};
+ghost use Rattle.std.specs.Prelude.{◌≡◌, ◌≤◌, ◌<◌, ◌++◌, IfOk, IfErr, OnOk, Some, None, length};
+ghost use Rattle.rm_history.specs.Tree.{IsThere};
 ghost use Rattle.rm_lang.specs.declared.command.Command.TheVariants.{RecoverTest};
 ghost use Rattle.rm_site.specs.RecoverTest.{tested, test_target, test_refusal, block_lines, file_lines, files_lines, test_lines};
 ghost use Rattle.rm_site.specs.Recovery.{told_by};
+ghost use Rattle.rm_site.specs.Sound.{IsSound};
 ghost use Rattle.rm_site.specs.Step.{Steps};
 
 use crate::database::Database;
@@ -38,7 +40,7 @@ fn push_file(
     datafile: Datafile,
     file: &Option<DataFile>,
 ) -> Result<(), NoMemory>
-    ensures { OnOk result (lines.new ≡ lines.old ++ file_lines number datafile (option_map (λ x. x) file.now)) }
+    ensures { OnOk result (lines.new ≡ lines.old ++ file_lines number datafile file.now) }
 {
     let Some(file) = file else {
         return Ok(());

@@ -1,9 +1,11 @@
 //! The datafiles that a recovery brings back, by all logs that there are.
-ghost use Rattle.std.specs.Prelude.{◌≡◌, ◌<◌, ◌≤◌, ◌++◌, ◌∷◌, [], All, IfOk, IfSome, OnOk, Some, None, length};
+ghost use Rattle.std.specs.Prelude.{◌≡◌, ◌<◌, ◌≤◌, ◌++◌, ◌∷◌, [], All, IfOk, IfSome, OnOk, Some, None, length, count_by, flat_map};
+ghost use Rattle.rm_history.specs.World.{exists};
 ghost use Rattle.rm_blocks.specs.File.{IsInOrder};
 ghost use Rattle.rm_history.specs.Tree.{IsThere, end_of};
-ghost use Rattle.rm_redo.specs.LogFile.{changes_in};
-ghost use Rattle.rm_site.specs.Recovery.{target, until_refusal, file_at, files_at, told_by};
+ghost use Rattle.rm_redo.specs.LogFile.{changes_in, changes_of};
+ghost use Rattle.rm_site.specs.Recovery.{target, until_refusal, file_at, files_at, told_online, told_by};
+ghost use Rattle.rm_site.specs.Sound.{IsSound};
 
 use crate::database::Database;
 use rm_base::{Change, FileNo, IncNo, NoMemory, Refusal, Scn, Seq, ThreadNo};
