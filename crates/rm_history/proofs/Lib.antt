@@ -1,8 +1,10 @@
 pub mod Branches
 pub mod Ends
+pub mod Growth
 pub mod Histories
 pub mod Members
 pub mod Owners
 pub mod Paths
 pub mod Shared
 pub mod States
+pub mod Worlds
