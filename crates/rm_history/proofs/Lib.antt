@@ -1,6 +1,7 @@
 pub mod Branches
 pub mod Ends
 pub mod Growth
+pub mod Highs
 pub mod Histories
 pub mod Members
 pub mod Owners

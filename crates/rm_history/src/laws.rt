@@ -1,15 +1,16 @@
 //! What the definitions of the history mean.
-ghost use Rattle.std.specs.Prelude.{ℕ, ◌≡◌, ◌+◌, ◌<◌, ◌≤◌, ◌↔◌, ◌⊎◌, ◌∷◌, [], ◌++◌, length, List, Contains, false, true};
+ghost use Rattle.std.specs.Prelude.{ℕ, ◌≡◌, ◌≢◌, ◌+◌, ◌<◌, ◌≤◌, ◌↔◌, ◌⊎◌, ◌∷◌, [], ◌++◌, length, List, Contains, Some, false, true};
 ghost use Rattle.rm_base.specs.declared.block.Change.{Change};
 ghost use Rattle.rm_base.specs.declared.block.Row.{Row};
 ghost use Rattle.rm_history.specs.declared.tree.Incarnation.{Incarnation};
+ghost use Rattle.rm_history.specs.declared.tree.Standing.TheVariants.{Current, Parent, Orphan};
 ghost use Rattle.rm_history.specs.declared.world.Datafile.{Datafile};
 ghost use Rattle.rm_history.specs.declared.world.World.{World};
-ghost use Rattle.rm_history.specs.Tree.{IsThere, IsTree, owner, parent_of, reset_of, end_of, with_end, with_branch};
+ghost use Rattle.rm_history.specs.Tree.{IsThere, IsTree, IsProperAncestor, path, segment_end, standing, owner, parent_of, reset_of, end_of, with_end, with_branch};
 ghost use Rattle.rm_history.specs.World.{exists, with_tree, with_file};
 ghost use Rattle.rm_history.specs.History.{IsChange, IsHistory};
 ghost use Rattle.rm_history.specs.State.{state, concerns, IsState};
-ghost use Rattle.rm_history.specs.Artefacts.{Base, Level1, Log};
+ghost use Rattle.rm_history.specs.Artefacts.{Base, Level1, Log, high_of};
 ghost use Rattle.rm_history.specs.Agrees.{BaseAgrees, Level1Agrees, LogAgrees, is_of};
 
 /// No change that concerns a block lies above the version of its state, and one of them made it, or
@@ -54,6 +55,25 @@ pub fn owners()
     ensures begun { (tree : List Incarnation) (i g : ℕ) → IsTree tree → IsThere tree i → (reset_of tree (owner tree i g) ≤ g) ⊎ ((c : ℕ) → c ≤ g → owner tree i c ≡ 1) }
     ensures below { (tree : List Incarnation) (i g c : ℕ) → IsTree tree → IsThere tree i → c ≤ g → owner tree (owner tree i g) c ≡ owner tree i c }
     ensures own { (tree : List Incarnation) (i g : ℕ) → IsTree tree → IsThere tree i → reset_of tree i ≤ g → owner tree i g ≡ i }
+{}
+
+/// A standing tells where an incarnation lies to the current path.
+pub fn standings()
+    ensures current { (tree : List Incarnation) (i current : ℕ) → (standing tree i current ≡ Current) ↔ (i ≡ current) }
+    ensures parent { (tree : List Incarnation) (i current : ℕ) → (standing tree i current ≡ Parent) ↔ IsProperAncestor tree i current }
+    ensures orphan { (tree : List Incarnation) (i current : ℕ) → (standing tree i current ≡ Orphan) ↔ ((i ≢ current) × (¬ Contains (path tree current) i)) }
+{}
+
+/// The segment end of a parent on a path is the resetlogs SCN of its child there.
+pub fn segments_end_where_the_child_began()
+    ensures { (tree : List Incarnation) (i child : ℕ) → IsTree tree → Contains (path tree i) child → 0 < parent_of tree child → segment_end tree (parent_of tree child) i ≡ Some (reset_of tree child) }
+{}
+
+/// What an artefact shows lies below its high SCN, which is its checkpoint or just above a version.
+pub fn high_is_the_greatest()
+    ensures checkpoint { (checkpoint : ℕ) (rows : List Row) → checkpoint ≤ high_of checkpoint rows }
+    ensures versions { (checkpoint : ℕ) (rows : List Row) (r : Row) → Contains rows r → r.version < high_of checkpoint rows }
+    ensures held { (checkpoint : ℕ) (rows : List Row) → (high_of checkpoint rows ≡ checkpoint) ⊎ ((r : Row) × Contains rows r × (r.version + 1 ≡ high_of checkpoint rows)) }
 {}
 
 /// Another end of an incarnation changes no owner.
