@@ -3,8 +3,8 @@ use Rattle.std.proofs.Common.{◌≡◌, ◌<◌, ◌≤◌, ◌+◌, ◌-◌, �
 use Rattle.std.specs.Option.{option_map_or}
 use Rattle.std.proofs.lemmas.Bool.{ne_eqb, cases_lt}
 use Rattle.rm_history.specs.declared.tree.Incarnation.{Incarnation}
-use Rattle.rm_history.specs.Tree.{HasParentsBelow, IsThere, IsTree, incarnation, parent_of, reset_of, end_of, branched, with_branch}
-use Rattle.rm_history.proofs.Owners.{parent-none}
+use Rattle.rm_history.specs.Tree.{HasParentsBelow, IsThere, IsTree, incarnation, owner, parent_of, reset_of, end_of, branched, with_branch}
+use Rattle.rm_history.proofs.Owners.{parent-none, owner-none, owner-here, owner-above, owner-cases}
 
 slice_get-left : (xs : List Incarnation) (x : Incarnation) (k : ℕ) → k < length xs → slice_get (xs ++ x ∷ []) k ≡ slice_get xs k
 slice_get-left [] x k inside = absurd (omega arith)
@@ -114,3 +114,45 @@ IsTree-with_branch tree p at is few there begun =
         | is_past out ↦ let high = inside.1 in absurd (omega (arith, long, high))
       ];
     }
+
+owner-kept : (tree : List Incarnation) (p at : ℕ) → HasParentsBelow tree → IsThere tree p → (most i g : ℕ) → i ≤ most → IsThere tree i → owner (with_branch tree p at) i g ≡ owner tree i g
+owner-kept tree p at below there zero i g few is = let up = is.0 in absurd (omega (arith, up))
+owner-kept tree p at below there (suc most) i g few is =
+    let t = with_branch tree p at in
+    let below_t = HasParentsBelow-with_branch tree p at below there in
+    let reset = reset_of-with_branch tree p at i is in
+    elim (owner-cases tree below i g is.0) [
+      | inl here ↦ let begun = here.0 in owner-here t below_t i g is.0 (omega (arith, reset, begun)) ∙ sym here.1
+      | inr above ↦
+          let later = above.0 in
+          let less : parent_of tree i < i = below i is.0 in
+          let up = is.1 in
+          owner-above t below_t i g is.0 (omega (arith, reset, later))
+          ∙ ap (λ k. owner t k g) (parent_of-with_branch tree p at i is)
+          ∙ elim (cases_lt 0 (parent_of tree i)) [
+            | inl some ↦ owner-kept tree p at below there most (parent_of tree i) g (omega (arith, less)) (some, omega (arith, less, up))
+            | inr none ↦
+                let top : parent_of tree i ≡ 0 = omega (arith, none) in
+                ap (λ k. owner t k g) top ∙ owner-none t g ∙ sym (owner-none tree g) ∙ ap (λ k. owner tree k g) (sym top)
+          ]
+          ∙ sym above.1
+    ]
+
+-- on the paths that were there the owners stay
+pub owner-with_branch : (tree : List Incarnation) (p at i g : ℕ) → HasParentsBelow tree → IsThere tree p → IsThere tree i → owner (with_branch tree p at) i g ≡ owner tree i g
+owner-with_branch tree p at i g below there is = owner-kept tree p at below there i i g (omega arith) is
+
+-- the new one owns all from where it branched off
+pub owner-branched : (tree : List Incarnation) (p at g : ℕ) → HasParentsBelow tree → IsThere tree p → at ≤ g → owner (with_branch tree p at) (length tree + 1) g ≡ length tree + 1
+owner-branched tree p at g below there high =
+    let reset = reset_of-branched tree p at in
+    owner-here (with_branch tree p at) (HasParentsBelow-with_branch tree p at below there) (length tree + 1) g (omega arith) (omega (arith, reset))
+
+-- and below that its path has its parent's owners
+pub owner-branched_below : (tree : List Incarnation) (p at g : ℕ) → HasParentsBelow tree → IsThere tree p → g < at → owner (with_branch tree p at) (length tree + 1) g ≡ owner tree p g
+owner-branched_below tree p at g below there low =
+    let t = with_branch tree p at in
+    let reset = reset_of-branched tree p at in
+    owner-above t (HasParentsBelow-with_branch tree p at below there) (length tree + 1) g (omega arith) (omega (arith, reset))
+    ∙ ap (λ k. owner t k g) (parent_of-branched tree p at)
+    ∙ owner-with_branch tree p at p g below there there

@@ -1,7 +1,7 @@
 -- The members of a path, and the segment ends on it.
-use Rattle.std.proofs.Common.{◌≡◌, ◌<◌, ◌≤◌, ◌↔◌, ◌∙◌, ◌||◌, inl, inr, ℕ, zero, suc, List, [], ◌∷◌, Option, Some, None, Bool, true, false, cond, refl, ap, sym, subst, arith, eqb, Contains, IsSome, IsTrue, is_some, option_map, ◌⊎◌}
+use Rattle.std.proofs.Common.{◌≡◌, ◌≢◌, ◌<◌, ◌≤◌, ◌↔◌, ◌∙◌, ◌||◌, inl, inr, ℕ, zero, suc, List, [], ◌∷◌, Option, Some, None, Bool, true, false, cond, refl, ap, sym, subst, arith, eqb, Contains, IsSome, IsTrue, is_some, option_map, ◌⊎◌}
 use Rattle.std.specs.List.{list_any}
-use Rattle.std.proofs.lemmas.Bool.{eq-eqb, ne_eqb, cases_eq}
+use Rattle.std.proofs.lemmas.Bool.{eq-eqb, ne_eqb, cases_eq, cases_Bool, both_ways, false_from_ne_true}
 use Rattle.rm_history.specs.declared.tree.Incarnation.{Incarnation}
 use Rattle.rm_history.specs.declared.tree.Standing.TheVariants.{Current, Parent, Orphan}
 use Rattle.rm_history.specs.Tree.{HasParentsBelow, IsProperAncestor, ancestors, parent_of, reset_of, path, is_on_path, item_before, segment_end, standing}
@@ -184,3 +184,59 @@ unfolding standing
 standing-other tree i current on differ is =
     ap (λ b. cond b Parent Orphan) (sym is)
     ∙ ap (λ b. cond b Current (cond (is_on_path tree i current) Parent Orphan)) (sym (ne_eqb i current differ))
+
+-- the standing tells how i lies to the current path, both ways
+pub standing-is_current : (tree : List Incarnation) (i current : ℕ) → (standing tree i current ≡ Current) ↔ (i ≡ current)
+standing-is_current tree i current = (
+  λ is. elim (cases_eq i current) [
+    | inl same ↦ same
+    | inr differ ↦ elim (cases_Bool (is_on_path tree i current)) [
+      | inl on ↦ let other = standing-other tree i current true differ on in absurd (cc)
+      | inr off ↦ let other = standing-other tree i current false differ off in absurd (cc)
+    ]
+  ],
+  λ same. sym (standing-current tree i current same),
+)
+
+pub standing-is_parent : (tree : List Incarnation) (i current : ℕ) → (standing tree i current ≡ Parent) ↔ IsProperAncestor tree i current
+standing-is_parent tree i current = (
+  λ is. elim (cases_eq i current) [
+    | inl same ↦ let other = standing-current tree i current same in absurd (cc)
+    | inr differ ↦ elim (cases_Bool (is_on_path tree i current)) [
+      | inl on ↦ (differ, (is_on_path-member tree current i).0 on)
+      | inr off ↦ let other = standing-other tree i current false differ off in absurd (cc)
+    ]
+  ],
+  λ ancestor. sym (standing-other tree i current true ancestor.0 ((is_on_path-member tree current i).1 ancestor.1)),
+)
+
+pub standing-is_orphan : (tree : List Incarnation) (i current : ℕ) → (standing tree i current ≡ Orphan) ↔ ((i ≢ current) × (¬ Contains (path tree current) i))
+standing-is_orphan tree i current = (
+  λ is. elim (cases_eq i current) [
+    | inl same ↦ let other = standing-current tree i current same in absurd (cc)
+    | inr differ ↦ elim (cases_Bool (is_on_path tree i current)) [
+      | inl on ↦ let other = standing-other tree i current true differ on in absurd (cc)
+      | inr off ↦ (differ, λ held. both_ways (is_on_path tree i current) off ((is_on_path-member tree current i).1 held))
+    ]
+  ],
+  λ apart. sym (standing-other tree i current false apart.0 (false_from_ne_true (is_on_path tree i current) (λ on. apart.1 ((is_on_path-member tree current i).0 on)))),
+)
+
+segment_end-child-of : (tree : List Incarnation) → HasParentsBelow tree → (most i x : ℕ) → i ≤ most → Contains (path tree i) x → 0 < parent_of tree x → segment_end tree (parent_of tree x) i ≡ Some (reset_of tree x)
+segment_end-child-of tree below zero i x few held up = let low = path-below tree below i x held in absurd (omega (arith, low.0, low.1))
+segment_end-child-of tree below (suc most) i x few held up =
+    let low = path-below tree below i x held in
+    let some : 0 < i = omega (arith, low.0, low.1) in
+    elim (first-or-rest i (path tree (parent_of tree i)) x (subst (λ xs. Contains xs x) (path-step tree below i some) held)) [
+      | inl same ↦ subst (λ k. segment_end tree (parent_of tree k) i ≡ Some (reset_of tree k)) same (segment_end-here tree below i (parent_of tree i) some (subst (λ k. 0 < parent_of tree k) (sym same) up) refl)
+      | inr rest ↦
+          let less : parent_of tree i < i = below i some in
+          let within = path-below tree below (parent_of tree i) x rest in
+          let under : parent_of tree x < x = below x within.0 in
+          segment_end-above tree below i (parent_of tree x) some (λ met. absurd (omega (arith, within.1, under, met)))
+          ∙ segment_end-child-of tree below most (parent_of tree i) x (omega (arith, less)) rest up
+    ]
+
+-- a member's resetlogs SCN is the segment end of its parent
+pub segment_end-child : (tree : List Incarnation) → HasParentsBelow tree → (i x : ℕ) → Contains (path tree i) x → 0 < parent_of tree x → segment_end tree (parent_of tree x) i ≡ Some (reset_of tree x)
+segment_end-child tree below i x held up = segment_end-child-of tree below i i x (omega arith) held up

@@ -182,6 +182,7 @@ impl Tree {
         requires few { length self.old < 256 }
         ensures number { IfOk result (λ n. n ≡ length self.old + 1) }
         ensures grown { OnOk result (self.new ≡ with_branch self.old parent at) }
+        ensures within { OnOk result (IsThere self.old parent × (reset_of self.old parent ≤ at) × (at ≤ end_of self.old parent)) }
         ensures no_such { IsErrOf result TreeFault.NoSuch ↔ (¬ IsThere self.old parent) }
         ensures outside { IsErrOf result TreeFault.Outside ↔ (IsThere self.old parent × ((at < reset_of self.old parent) ⊎ (end_of self.old parent < at))) }
         ensures refused { OnErr result (self.new ≡ self.old) }
