@@ -185,7 +185,8 @@ impl OnlineLogs {
         requires { IsThread self.now thread }
         ensures { IsTrue result ↔ IsLost self.now thread }
     {
-        self.threads[thread as usize - 1].is_lost
+        let log = &self.threads[thread as usize - 1];
+        log.is_lost
     }
 
     /// The records of a thread, by ascending SCN.

@@ -49,7 +49,9 @@ fn a_switch_closes_a_log_and_begins_the_next(rt: HostRuntime) -> Result<(), Fail
     let mut logs = OnlineLogs::new(rt.alloc(), 7, 1, 2, 5)?;
     let content = Block::padded(b"AA");
     logs.append(change(2, 6, content))?;
-    let log = logs.switch(2, 9)?.ok_or(Fail::new("no log"))?;
+    let Some(log) = logs.switch(2, 9)? else {
+        return Err(Fail::new("no log"));
+    };
     assert_eq!(rt; (log.dbid, log.inc, log.thread), (7, 1, 2));
     assert_eq!(rt; (log.sequence, log.first, log.next), (1, 5, 9));
     assert_eq!(rt; log.records.as_slice(), [record(6, content)].as_slice());
