@@ -1,15 +1,17 @@
 -- What is true of each database that the site holds.
 use Rattle.std.specs.Prelude.{ℕ, ◌≡◌, ◌<◌, ◌≤◌, ◌+◌, true, Option, Some, None, List, All, AllPairs, length, slice_get}
 use Rattle.rm_base.specs.Numbers.{last_scn}
-use Rattle.rm_blocks.specs.File.{File}
+use Rattle.rm_blocks.specs.File.{File, IsInOrder}
 use Rattle.rm_history.specs.declared.tree.Incarnation.{Incarnation}
 use Rattle.rm_history.specs.declared.world.Datafile.{Datafile}
 use Rattle.rm_history.specs.declared.world.World.{World}
 use Rattle.rm_history.specs.Tree.{IsThere, IsTree, reset_of, end_of}
+use Rattle.rm_history.specs.World.{exists}
 use Rattle.rm_redo.specs.declared.online.ThreadLog.{ThreadLog}
+use Rattle.rm_redo.specs.Logs.{Logs}
 use Rattle.rm_redo.specs.Online.{IsThread, IsLost}
 use Rattle.rm_site.specs.declared.database.Archived.{Archived}
-use Rattle.rm_site.specs.Parts.{Parts, now_of, redo_end, blocks_in, placed}
+use Rattle.rm_site.specs.Parts.{Parts, now_of, blocks_in}
 
 -- each incarnation lasts from its resetlogs SCN up to its end
 pub record AreIncarnations (tree : List Incarnation) : Type 0 where
@@ -38,13 +40,13 @@ pub record IsOnline (end : ℕ) (l : ThreadLog) : Type 0 where
   pub below : All (λ r. r.scn < end) l.records
 
 -- there is one for each redo thread
-pub record AreOnline (p : Parts) : Type 0 where
-  pub dbid : p.logs.dbid ≡ p.dbid
-  pub inc : IsThere p.world.tree p.logs.inc
-  pub some : 0 < p.world.threads
-  pub most : p.world.threads ≤ 4
-  pub threads : length p.logs.threads ≡ p.world.threads
-  pub logs : All (IsOnline (redo_end p)) p.logs.threads
+pub record AreOnline (number : ℕ) (w : World) (online : Logs) : Type 0 where
+  pub dbid : online.dbid ≡ number
+  pub inc : IsThere w.tree online.inc
+  pub some : 0 < w.threads
+  pub most : w.threads ≤ 4
+  pub threads : length online.threads ≡ w.threads
+  pub logs : All (IsOnline (end_of w.tree online.inc)) online.threads
 
 -- an archived log has an id below the next one, and ends where its incarnation does or before
 pub record IsArchived (tree : List Incarnation) (next_id : ℕ) (a : Archived) : Type 0 where
@@ -54,15 +56,16 @@ pub record IsArchived (tree : List Incarnation) (next_id : ℕ) (a : Archived) :
   pub begun : All (λ r. 0 < r.scn) a.log.records
 
 -- the archived logs have ids of their own; a save may draw 68 ids more
-pub record AreArchived (p : Parts) : Type 0 where
-  pub each : All (IsArchived p.world.tree p.next_id) p.archived
-  pub ids : AllPairs (λ a b. a.id < b.id) p.archived
-  pub room : p.next_id + 68 ≤ 4294967295
+pub record AreArchived (tree : List Incarnation) (next_id : ℕ) (archived : List Archived) : Type 0 where
+  pub each : All (IsArchived tree next_id) archived
+  pub ids : AllPairs (λ a b. a.id < b.id) archived
+  pub room : next_id + 68 ≤ 4294967295
 
 -- what stands in place of the datafile has its number and its blocks
 pub record IsPlaced (k : ℕ) (d : Datafile) (x : File) : Type 0 where
   pub file : x.file ≡ k + 1
   pub blocks : length x.rows ≡ d.blocks
+  pub order : IsInOrder x.rows
 
 pub record ArePlaced (w : World) (place : List (Option File)) : Type 0 where
   pub each : (k : ℕ) (d : Datafile) (x : File) → slice_get w.files k ≡ Some d → slice_get place k ≡ Some (Some x) → IsPlaced k d x
@@ -73,20 +76,22 @@ pub record IsOpen (p : Parts) : Type 0 where
   pub inc : p.logs.inc ≡ p.current
   pub found : (t : ℕ) → IsThread p.logs t → ¬ IsLost p.logs t
   pub point : p.point ≡ None
-  pub below : (f : ℕ) (x : File) → placed p f ≡ Some x → All (λ r. r.version < now_of p) x.rows
+  pub below : (k : ℕ) (x : File) → slice_get p.place k ≡ Some (Some x) → All (λ r. r.version < now_of p) x.rows
 
--- a point lies between the ends of the current incarnation
+-- A point lies between the resetlogs SCN and the end of the current incarnation, above each version
+-- of what exists there.
 pub record IsPoint (p : Parts) (s : ℕ) : Type 0 where
   pub low : reset_of p.world.tree p.current ≤ s
   pub high : s ≤ now_of p
+  pub below : (k : ℕ) (d : Datafile) (x : File) → slice_get p.world.files k ≡ Some d → exists p.world p.current s d ≡ true → slice_get p.place k ≡ Some (Some x) → All (λ r. r.version < s) x.rows
 
 pub record IsSound (p : Parts) : Type 0 where
   pub dbid : 0 < p.dbid
   pub incarnations : AreIncarnations p.world.tree
   pub there : IsThere p.world.tree p.current
   pub files : AreFiles p.world
-  pub online : AreOnline p
-  pub archived : AreArchived p
+  pub online : AreOnline p.dbid p.world p.logs
+  pub archived : AreArchived p.world.tree p.next_id p.archived
   pub placed : ArePlaced p.world p.place
   pub in_open : p.is_open ≡ true → IsOpen p
   pub point : (s : ℕ) → p.point ≡ Some s → IsPoint p s
