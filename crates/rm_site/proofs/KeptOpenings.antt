@@ -317,3 +317,59 @@ keeps-recovered p s h sound e k =
             rows = rows-states w h p.current s (1 + (f - 1)) 0 d.blocks;
           });
     }
+
+-- OPEN RESETLOGS
+
+fresh-there : (n k : ℕ) (l : ThreadLog) → k < n → slice_get (replicate n l) k ≡ Some l
+fresh-there zero k l inside = absurd (omega (arith, inside))
+fresh-there (suc n) zero l inside = refl
+fresh-there (suc n) (suc k) l inside = fresh-there n k l (omega (arith, inside))
+
+-- the log of a thread that begins at s
+fresh-log : (dbid inc threads s t : ℕ) → 0 < t → t ≤ threads → slice_get (fresh_logs dbid inc threads s).threads (t - 1) ≡ Some (fresh_log s)
+fresh-log dbid inc threads s t some inside = fresh-there threads (t - 1) (fresh_log s) (omega (arith, some, inside))
+
+fresh-agrees : (h : List Change) (dbid inc threads s t end : ℕ) → 0 < t → t ≤ threads → end ≡ s → LogAgrees h (log_of (log_file_of (fresh_logs dbid inc threads s) t end))
+fresh-agrees h dbid inc threads s t end some inside is =
+    let there = fresh-log dbid inc threads s t some inside in
+    let first = ap (λ o. option_map_or (λ (l : ThreadLog). l.first) o 0) there in
+    empty-agrees h (log_file_of (fresh_logs dbid inc threads s) t end) (ap (λ o. option_map_or (λ (l : ThreadLog). l.records) o []) there) (omega (arith, first, is))
+
+fresh-found : (dbid inc threads s t : ℕ) → 0 < t → t ≤ threads → ¬ IsLost (fresh_logs dbid inc threads s) t
+fresh-found dbid inc threads s t some inside lost =
+    false≢true (sym (ap (λ o. option_map_or (λ (l : ThreadLog). l.is_lost) o false) (fresh-log dbid inc threads s t some inside)) ∙ lost)
+
+-- where each log begins at the end, the archived ones tell all
+all-archived : (p q : Parts) (c : Change) → p.archived ≡ q.archived → first_of p.logs c.thread ≡ redo_end p → IsTold p c → IsTold q c
+all-archived p q c same begun (inl a) = inl (record { entry = a.entry; is = subst (λ l. Contains l a.entry) same a.is; holds = a.holds })
+all-archived p q c same begun (inr online) =
+    let range = in-range (online_log p c.thread) c online in
+    let low = range.0 in
+    let high = range.1 in
+    absurd (omega (arith, low, high, begun))
+
+-- a database that branches off at its point keeps its history: the new incarnation has no change yet
+pub keeps-branched : (p : Parts) (s : ℕ) (h : List Change) → IsSound p → p.is_open ≡ false → p.point ≡ Some s → length p.world.tree < 256 → ((t : ℕ) → IsThread p.logs t → first_of p.logs t ≡ redo_end p) → Keeps p h → Keeps (branched_off p s) h
+keeps-branched p s h sound shut at few begun k =
+    let q : Parts = branched_off p s in
+    let w : World = p.world in
+    let parents = sound.incarnations.shape.parents in
+    let end : now_of q ≡ s = end_of-branched w.tree p.current s in
+    let rows : (f : ℕ) (x : File) → placed q f ≡ Some x → RowsAre q.world h q.current (now_of q) x = λ f x is.
+        subst (λ n. RowsAre q.world h q.current n x) (sym end)
+        (All-weaker (λ (r : Row). r ≡ state w h p.current s x.file r.block) (λ (r : Row). r ≡ state q.world h q.current s x.file r.block)
+        (λ r same. same ∙ sym (state-branched w p.current s parents sound.there h s x.file r.block (omega arith))) x.rows (kept-rows p s h k at f x is)) in
+    record {
+      history = IsHistory-with_branch w p.current s parents sound.there h k.history;
+      below = all-held (λ (c : Change). c.scn < end_of q.world.tree c.inc) h (λ c is.
+        subst (λ n. c.scn < n) (sym (end_of-with_branch w.tree p.current s c.inc (k.history.changes c is).there))
+        (All-contains (λ (c : Change). c.scn < end_of w.tree c.inc) h c k.below is));
+      archived = k.archived;
+      online = λ t there. fresh-agrees h p.dbid (next_incarnation p) w.threads s t (redo_end q) there.0 there.1 end;
+      found = λ t there. fresh-found p.dbid (next_incarnation p) w.threads s t there.0 there.1;
+      told = all-held (IsTold q) h (λ c is.
+        all-archived p q c refl (begun c.thread (thread-of p c.thread sound (k.history.changes c is).thread)) (All-contains (IsTold p) h c k.told is));
+      place = λ f x is. rows-agree q.world h q.current (now_of q) x (rows f x is);
+      in_open = λ yes f x is. rows f x is;
+      point = λ n none. absurd (none-some n none);
+    }
