@@ -1,45 +1,39 @@
 -- A database keeps its history where its logs are archived, and where it is opened, recovered or branched off.
-use Rattle.std.proofs.Common.{◌≡◌, ◌≢◌, ◌<◌, ◌≤◌, ◌+◌, ◌-◌, ◌==◌, ◌&&◌, ◌++◌, ◌∙◌, ◌⊎◌, ℕ, zero, suc, List, [], ◌∷◌, Option, Some, None, Bool, true, false, cond, not, inl, inr, refl, ap, sym, subst, arith, eqb, nat_lt, nat_le, length, replicate, All, Contains, filter, slice_get, slice_index_or}
+use Rattle.std.proofs.Common.{◌≡◌, ◌≢◌, ◌<◌, ◌≤◌, ◌+◌, ◌-◌, ◌==◌, ◌&&◌, ◌∙◌, ◌⊎◌, ℕ, zero, suc, List, [], ◌∷◌, Option, Some, None, Bool, true, false, cond, not, inl, inr, refl, ap, sym, subst, arith, eqb, nat_lt, nat_le, length, replicate, All, Contains, filter, slice_get, slice_index_or}
 use Rattle.std.specs.List.{list_any}
-use Rattle.std.specs.Option.{option_map, option_map_or}
-use Rattle.std.proofs.lemmas.Bool.{false≢true, and_left, and_right, cases_eq, cases_lt, eqb-true, ne_eqb, leb-true, ltb-true, le-ltb, lt-leb}
+use Rattle.std.specs.Option.{option_map_or}
+use Rattle.std.proofs.lemmas.Bool.{false≢true, and_left, and_parts, and_right, cases_eq, cases_lt, eqb-true, ne_eqb, leb-true, ltb-true, le-ltb, lt-leb}
 use Rattle.std.proofs.lemmas.Option.{none-some, same_Some}
-use Rattle.std.proofs.lemmas.List.Elements.{All-nil, All-cons, All-push, All-contains, All-head, All-tail, All-weaker, Contains-append_left, Contains-get_or, Contains-push}
+use Rattle.std.proofs.lemmas.List.Elements.{All-nil, All-cons, All-push, All-contains, All-weaker, Contains-append_left, Contains-get_or, Contains-push}
 use Rattle.rm_base.specs.declared.block.Change.{Change}
 use Rattle.rm_base.specs.declared.block.Row.{Row}
 use Rattle.rm_base.specs.declared.refusal.Refusal.{Refusal}
 use Rattle.rm_base.specs.declared.refusal.Refusal.TheVariants.{Rm04, Rm10}
 use Rattle.rm_blocks.specs.File.{File}
-use Rattle.rm_history.specs.declared.tree.Incarnation.{Incarnation}
 use Rattle.rm_history.specs.declared.world.Datafile.{Datafile}
 use Rattle.rm_history.specs.declared.world.World.{World}
 use Rattle.rm_history.specs.Agrees.{BaseAgrees, LogAgrees, is_of}
 use Rattle.rm_history.specs.Artefacts.{Base, Log}
 use Rattle.rm_history.specs.State.{state, rows_from}
-use Rattle.rm_history.specs.Tree.{end_of, with_branch}
-use Rattle.rm_history.specs.World.{exists, file_of, with_tree}
-use Rattle.rm_history.specs.World.{IsThread as IsThreadIn}
+use Rattle.rm_history.specs.Tree.{end_of}
+use Rattle.rm_history.specs.World.{exists, file_of, IsThread as IsThreadIn}
 use Rattle.rm_history.proofs.Branches.{end_of-with_branch, end_of-branched}
 use Rattle.rm_history.proofs.Worlds.{IsHistory-with_branch, state-branched}
 use Rattle.rm_redo.specs.declared.log_file.LogFile.{LogFile}
 use Rattle.rm_redo.specs.declared.online.ThreadLog.{ThreadLog}
-use Rattle.rm_redo.specs.LogFile.{changes_in, changes_of, log_of, log_file_of}
+use Rattle.rm_redo.specs.LogFile.{changes_in, log_of, log_file_of}
 use Rattle.rm_redo.specs.Logs.{Logs}
-use Rattle.rm_redo.specs.Online.{IsThread, IsLost, first_of, fresh_log, fresh_logs, records_of, switched}
+use Rattle.rm_redo.specs.Online.{IsThread, IsLost, first_of, fresh_log, fresh_logs, switched}
 use Rattle.rm_redo.proofs.Logs.{IsLost-switched, around-switched, first_of-switched, other-switched, records_of-switched}
 use Rattle.rm_site.specs.declared.database.Archived.{Archived}
 use Rattle.rm_site.specs.Archiving.{is_due, is_lost, with_archived}
-use Rattle.rm_site.specs.Machine.{InArchive, IsTold, Keeps, RowsAre, StandsAt, held, online_log}
+use Rattle.rm_site.specs.Machine.{IsTold, Keeps, RowsAre, StandsAt, held, online_log}
 use Rattle.rm_site.specs.Modes.{when_mounted}
 use Rattle.rm_site.specs.Open.{branched_off, is_recovered, kept_in_place, next_incarnation, open_refusal, opened}
 use Rattle.rm_site.specs.Parts.{Parts, now_of, placed, redo_end}
 use Rattle.rm_site.specs.Recover.{or_else, put_over, recover_refusal, recovered}
-use Rattle.rm_site.specs.Recovery.{files_at, files_from, file_at}
+use Rattle.rm_site.specs.Recovery.{files_from, file_at}
 use Rattle.rm_site.specs.Sound.{IsSound}
-
-and-split : (a b : Bool) → (a && b) ≡ true → (a ≡ true) × (b ≡ true)
-and-split true b is = (refl, is)
-and-split false b is = absurd (false≢true is)
 
 -- what is true of each item that is there is true of all
 all-held : {X : Type 0} (P : X → Type 0) (xs : List X) → ((x : X) → Contains xs x → P x) → All P xs
@@ -69,8 +63,8 @@ empty-agrees h l none empty =
 in-range : (a : Log) (c : Change) → is_of a c ≡ true → (a.first ≤ c.scn) × (c.scn < a.next)
 in-range a c is =
     let front : Bool = (c.inc == a.inc) && (c.thread == a.thread) in
-    let both = and-split (front && nat_le a.first c.scn) (nat_lt c.scn a.next) is in
-    (leb-true a.first c.scn (and-split front (nat_le a.first c.scn) both.0).1, ltb-true c.scn a.next both.1)
+    let both = and_parts (front && nat_le a.first c.scn) (nat_lt c.scn a.next) is in
+    (leb-true a.first c.scn (and_parts front (nat_le a.first c.scn) both.0).1, ltb-true c.scn a.next both.1)
 
 -- a log as a file, by what stands at its thread's place
 abbrev file_by : ℕ → ℕ → ℕ → ℕ → Option ThreadLog → LogFile
@@ -90,7 +84,7 @@ log-other logs t u now next here there other =
 
 -- a thread that is due begins below the end
 due-first : (p : Parts) (t : ℕ) → is_due p t ≡ true → first_of p.logs t < redo_end p
-due-first p t due = ltb-true (first_of p.logs t) (redo_end p) (and-split (not (is_lost p.logs t)) (nat_lt (first_of p.logs t) (redo_end p)) due).1
+due-first p t due = ltb-true (first_of p.logs t) (redo_end p) (and_parts (not (is_lost p.logs t)) (nat_lt (first_of p.logs t) (redo_end p)) due).1
 
 -- a thread of the logs is one of the database, and the other way round
 thread-in : (p : Parts) (t : ℕ) → IsSound p → IsThread p.logs t → IsThreadIn p.world t
@@ -170,7 +164,7 @@ opens-at p e =
     let is : is_recovered p ≡ true = none-cond (is_recovered p) Rm10 (mounted-only p (cond (is_recovered p) None (Some Rm10)) e).1 in
     let at : Bool = option_map_or (λ s. s == now_of p) p.point false in
     let found : Bool = not (list_any (λ (l : ThreadLog). l.is_lost) p.logs.threads) in
-    point-at p.point (now_of p) (and-split at found (and-split (at && found) (p.logs.inc == p.current) is).0).0
+    point-at p.point (now_of p) (and_parts at found (and_parts (at && found) (p.logs.inc == p.current) is).0).0
 
 -- a datafile that is kept in place, and stands there
 record IsKept (w : World) (i s : ℕ) (ds : List Datafile) (place : List (Option File)) (k : ℕ) (x : File) : Type 0 where
@@ -356,19 +350,19 @@ keeps-branched p s h sound shut at few begun k =
     let parents = sound.incarnations.shape.parents in
     let end : now_of q ≡ s = end_of-branched w.tree p.current s in
     let rows : (f : ℕ) (x : File) → placed q f ≡ Some x → RowsAre q.world h q.current (now_of q) x = λ f x is.
-        subst (λ n. RowsAre q.world h q.current n x) (sym end)
-        (All-weaker (λ (r : Row). r ≡ state w h p.current s x.file r.block) (λ (r : Row). r ≡ state q.world h q.current s x.file r.block)
-        (λ r same. same ∙ sym (state-branched w p.current s parents sound.there h s x.file r.block (omega arith))) x.rows (kept-rows p s h k at f x is)) in
+    subst (λ n. RowsAre q.world h q.current n x) (sym end)
+    (All-weaker (λ (r : Row). r ≡ state w h p.current s x.file r.block) (λ (r : Row). r ≡ state q.world h q.current s x.file r.block)
+    (λ r same. same ∙ sym (state-branched w p.current s parents sound.there h s x.file r.block (omega arith))) x.rows (kept-rows p s h k at f x is)) in
     record {
       history = IsHistory-with_branch w p.current s parents sound.there h k.history;
       below = all-held (λ (c : Change). c.scn < end_of q.world.tree c.inc) h (λ c is.
-        subst (λ n. c.scn < n) (sym (end_of-with_branch w.tree p.current s c.inc (k.history.changes c is).there))
-        (All-contains (λ (c : Change). c.scn < end_of w.tree c.inc) h c k.below is));
+          subst (λ n. c.scn < n) (sym (end_of-with_branch w.tree p.current s c.inc (k.history.changes c is).there))
+          (All-contains (λ (c : Change). c.scn < end_of w.tree c.inc) h c k.below is));
       archived = k.archived;
       online = λ t there. fresh-agrees h p.dbid (next_incarnation p) w.threads s t (redo_end q) there.0 there.1 end;
       found = λ t there. fresh-found p.dbid (next_incarnation p) w.threads s t there.0 there.1;
       told = all-held (IsTold q) h (λ c is.
-        all-archived p q c refl (begun c.thread (thread-of p c.thread sound (k.history.changes c is).thread)) (All-contains (IsTold p) h c k.told is));
+          all-archived p q c refl (begun c.thread (thread-of p c.thread sound (k.history.changes c is).thread)) (All-contains (IsTold p) h c k.told is));
       place = λ f x is. rows-agree q.world h q.current (now_of q) x (rows f x is);
       in_open = λ yes f x is. rows f x is;
       point = λ n none. absurd (none-some n none);
