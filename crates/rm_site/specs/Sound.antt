@@ -1,7 +1,7 @@
 -- What is true of each database that the site holds.
 use Rattle.std.specs.Prelude.{ℕ, ◌≡◌, ◌<◌, ◌≤◌, ◌+◌, true, Option, Some, None, List, All, AllPairs, length, slice_get}
 use Rattle.rm_base.specs.Numbers.{last_scn}
-use Rattle.rm_blocks.specs.File.{File}
+use Rattle.rm_blocks.specs.File.{File, IsInOrder}
 use Rattle.rm_history.specs.declared.tree.Incarnation.{Incarnation}
 use Rattle.rm_history.specs.declared.world.Datafile.{Datafile}
 use Rattle.rm_history.specs.declared.world.World.{World}
@@ -59,10 +59,11 @@ pub record AreArchived (p : Parts) : Type 0 where
   pub ids : AllPairs (λ a b. a.id < b.id) p.archived
   pub room : p.next_id + 68 ≤ 4294967295
 
--- what stands in place of the datafile has its number and its blocks
+-- what stands in place of the datafile has its number and its blocks, in their order
 pub record IsPlaced (k : ℕ) (d : Datafile) (x : File) : Type 0 where
   pub file : x.file ≡ k + 1
   pub blocks : length x.rows ≡ d.blocks
+  pub order : IsInOrder x.rows
 
 pub record ArePlaced (w : World) (place : List (Option File)) : Type 0 where
   pub each : (k : ℕ) (d : Datafile) (x : File) → slice_get w.files k ≡ Some d → slice_get place k ≡ Some (Some x) → IsPlaced k d x
