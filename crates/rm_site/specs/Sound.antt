@@ -61,7 +61,7 @@ pub record AreArchived (tree : List Incarnation) (next_id : ℕ) (archived : Lis
   pub ids : AllPairs (λ a b. a.id < b.id) archived
   pub room : next_id + 68 ≤ 4294967295
 
--- what stands in place of the datafile has its number and its blocks
+-- what stands in place of the datafile has its number and its blocks, in their order
 pub record IsPlaced (k : ℕ) (d : Datafile) (x : File) : Type 0 where
   pub file : x.file ≡ k + 1
   pub blocks : length x.rows ≡ d.blocks

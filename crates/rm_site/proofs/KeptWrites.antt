@@ -1,0 +1,215 @@
+-- What CREATE DATABASE, RESET DATABASE, STARTUP MOUNT, CREATE DATAFILE and WRITE keep of the history.
+use Rattle.std.proofs.Common.{◌≡◌, ◌≢◌, ◌<◌, ◌≤◌, ◌+◌, ◌-◌, ◌∙◌, ◌⊎◌, ◌++◌, inl, inr, ℕ, zero, suc, List, [], ◌∷◌, Option, Some, None, Bool, true, false, cond, is_none, refl, ap, sym, subst, arith, length, All, Contains, slice_get, slice_index_or, replicate}
+use Rattle.std.specs.Option.{option_map_or}
+use Rattle.std.proofs.lemmas.List.Elements.{All-weaker, Contains-get_or}
+use Rattle.rm_base.specs.declared.block.Change.{Change}
+use Rattle.rm_base.specs.declared.refusal.Refusal.{Refusal}
+use Rattle.rm_base.specs.declared.refusal.Refusal.TheVariants.{Rm04}
+use Rattle.rm_blocks.specs.File.{File, created, created_row, standing}
+use Rattle.rm_history.specs.declared.world.Datafile.{Datafile}
+use Rattle.rm_history.specs.declared.world.World.{World}
+use Rattle.rm_history.specs.Agrees.{BaseAgrees}
+use Rattle.rm_history.specs.State.{state}
+use Rattle.rm_history.specs.Tree.{end_of, owner}
+use Rattle.rm_history.specs.World.{creation_of, file_of, exists}
+use Rattle.rm_history.proofs.Histories.{world-with_end, state-with_end, IsHistory-with_end, IsHistory-with_file}
+use Rattle.rm_history.proofs.Members.{none-in}
+use Rattle.rm_history.proofs.Owners.{owner-here}
+use Rattle.rm_history.proofs.Worlds.{state-kept}
+use Rattle.rm_redo.specs.declared.online.ThreadLog.{ThreadLog}
+use Rattle.rm_redo.specs.LogFile.{changes_in}
+use Rattle.rm_redo.specs.Online.{fresh_log}
+use Rattle.rm_site.specs.CreateDatabase.{fresh}
+use Rattle.rm_site.specs.CreateDatafile.{datafile_refusal, room_refusal, new_datafile, with_datafile}
+use Rattle.rm_site.specs.Machine.{InArchive, IsTold, Keeps, RowsAre, StandsAt, held, online_log}
+use Rattle.rm_site.specs.Mount.{lost_at, mounted}
+use Rattle.rm_site.specs.Parts.{Parts, now_of, redo_end, placed}
+use Rattle.rm_site.specs.ResetDatabase.{at_incarnation}
+use Rattle.rm_site.specs.Sound.{IsSound}
+use Rattle.rm_site.proofs.KeptChanges.{LieBelow, Further, agrees-further, below-risen, end-rises, end_of-risen, is_of-further, state-end, state-untouched}
+use Rattle.rm_site.proofs.KeptPlaces.{agrees-open, created-all, file_of-new, file-inside, file-there, held-open, held-closed, none-lost, placed-map, placed-mapped, placed-push, stands, stands-numbered}
+
+-- A new database
+
+-- what is true of a fresh log is true of each
+fresh-field : {X : Type 0} (field : ThreadLog → X) (none : X) (n k first : ℕ) → field (fresh_log first) ≡ none → option_map_or field (slice_get (replicate n (fresh_log first)) k) none ≡ none
+fresh-field field none zero k first same = refl
+fresh-field field none (suc n) zero first same = same
+fresh-field field none (suc n) (suc k) first same = fresh-field field none n k first same
+
+pub keeps-fresh : (dbid threads scn : ℕ) → Keeps (fresh dbid threads scn) []
+keeps-fresh dbid threads scn = record {
+  history = record {
+    changes = λ c held. absurd (none-in c held);
+    apart = λ i j d less inside. absurd (omega (arith, inside));
+  };
+  below = λ k d inside. absurd (omega (arith, inside));
+  archived = λ k d inside. absurd (omega (arith, inside));
+  online = λ t there. ap (changes_in 1 t) (fresh-field (λ l. l.records) [] threads (t - 1) scn refl);
+  found = λ t there lost. let both : true ≡ false = sym lost ∙ fresh-field (λ l. l.is_lost) false threads (t - 1) scn refl in absurd (cc);
+  told = λ k d inside. absurd (omega (arith, inside));
+  place = λ f x is. absurd (cc);
+  in_open = λ opened f x is. absurd (cc);
+  point = λ s is. absurd (cc);
+}
+
+-- RESET DATABASE and STARTUP MOUNT
+
+not-both : (b : Bool) → b ≡ false → ¬ (b ≡ true)
+not-both b off on = absurd (cc)
+
+-- a change stands in the archive of a database with the same one
+pub archived-still : (p q : Parts) (c : Change) → p.archived ≡ q.archived → InArchive p c → InArchive q c
+archived-still p q c same is = record { entry = is.entry; is = subst (λ xs. Contains xs is.entry) same is.is; holds = is.holds }
+
+pub keeps-at : (p : Parts) (i : ℕ) (h : List Change) → IsSound p → p.is_open ≡ false → Keeps p h → Keeps (at_incarnation p i) h
+keeps-at p i h s closed k = record {
+  history = k.history;
+  below = k.below;
+  archived = k.archived;
+  online = k.online;
+  found = k.found;
+  told = All-weaker (IsTold p) (IsTold (at_incarnation p i)) (λ c is. elim is [
+    | inl old ↦ inl (archived-still p (at_incarnation p i) c refl old)
+    | inr now ↦ inr now
+  ]) h k.told;
+  place = λ f x is. subst (BaseAgrees p.world h) (held-closed p x closed ∙ sym (held-closed (at_incarnation p i) x closed)) (k.place f x is);
+  in_open = λ opened. absurd (not-both p.is_open closed opened);
+  point = λ s is. absurd (cc);
+}
+
+point-is : (o : Option ℕ) (now s : ℕ) → cond (is_none o) (Some now) None ≡ Some s → (o ≡ None) × (now ≡ s)
+point-is None now s is = (refl, cc)
+point-is (Some f) now s is = absurd (cc)
+
+-- in a mounted database each datafile that exists at `now` stands there, where none is lost
+stands-mounted : (p : Parts) (h : List Change) → IsSound p → p.is_open ≡ true → Keeps p h → lost_at p (now_of p) ≡ None → (f : ℕ) (d : Datafile) → file_of p.world f ≡ Some d → exists p.world p.current (now_of p) d ≡ true → StandsAt (mounted p) h (now_of p) f
+stands-mounted p h s opened k none f d is here =
+    let there = file-there p.world f d is in
+    let found = none-lost p.world p.current (now_of p) 1 p.world.files p.place (f - 1) d s.placed.many none there.1 here in
+    record {
+      file = standing found.0 p.current (now_of p);
+      is = placed-mapped (λ x. standing x p.current (now_of p)) p.place (f - 1) found.0 found.1;
+      inc = refl;
+      checkpoint = refl;
+      rows = k.in_open opened f found.0 found.1;
+    }
+
+pub keeps-mounted : (p : Parts) (h : List Change) → IsSound p → p.is_open ≡ true → Keeps p h → Keeps (mounted p) h
+keeps-mounted p h s opened k =
+    let stand : File → File = λ x. standing x p.current (now_of p) in
+    record {
+      history = k.history;
+      below = k.below;
+      archived = k.archived;
+      online = k.online;
+      found = k.found;
+      told = All-weaker (IsTold p) (IsTold (mounted p)) (λ c is. elim is [
+        | inl old ↦ inl (archived-still p (mounted p) c refl old)
+        | inr now ↦ inr now
+      ]) h k.told;
+      place = λ f x is.
+          let old = placed-map stand p.place (f - 1) x is in
+          subst (λ y. BaseAgrees p.world h (held (mounted p) y)) old.2 (subst (BaseAgrees p.world h) (held-open p old.0 opened) (k.place f old.0 old.1));
+      in_open = λ never. absurd (not-both false refl never);
+      point = λ n is f d file here.
+          let both = point-is (lost_at p (now_of p)) (now_of p) n is in
+          subst (λ m. StandsAt (mounted p) h m f) both.1
+          (stands-mounted p h s opened k both.0 f d file (subst (λ m. exists p.world p.current m d ≡ true) (sym both.1) here));
+    }
+
+-- One SCN more
+
+-- the database, where the current incarnation ends one SCN further
+abbrev risen : Parts → World
+risen p = world-with_end p.world p.current (now_of p + 1)
+
+now-risen : (p : Parts) → IsSound p → end_of (risen p).tree p.current ≡ now_of p + 1
+now-risen p s = end_of-risen p.world.tree p.current (now_of p + 1) s.there
+
+-- the current incarnation owns `now`
+owns-now : (p : Parts) → IsSound p → owner p.world.tree p.current (now_of p) ≡ p.current
+owns-now p s = owner-here p.world.tree s.incarnations.shape.parents p.current (now_of p) s.there.0 (s.incarnations.range p.current s.there)
+
+-- no history has a change at `now`, so the states there stay
+state-risen : (p : Parts) (h : List Change) (f b : ℕ) → IsSound p → Keeps p h → state (risen p) h p.current (now_of p + 1) f b ≡ state p.world h p.current (now_of p) f b
+state-risen p h f b s k =
+    state-with_end p.world p.current (now_of p + 1) h p.current (now_of p + 1) f b s.there
+    ∙ state-end p.world h p.current f b (owns-now p s) k.below
+
+below-now : (p : Parts) (h : List Change) → IsSound p → Keeps p h → LieBelow (risen p).tree h
+below-now p h s k = below-risen p.world.tree p.current (now_of p + 1) h s.there (omega arith) (λ c held. (k.history.changes c held).there) k.below
+
+redo-risen : (p : Parts) → IsSound p → redo_end p ≤ end_of (risen p).tree p.logs.inc
+redo-risen p s = end-rises p.world.tree p.current (now_of p + 1) p.logs.inc s.there s.online.inc (omega arith)
+
+-- the changes of the logs' incarnation lie below what the online logs tell
+below-redo : (p : Parts) (h : List Change) → Keeps p h → All (λ c. c.inc ≡ p.logs.inc → c.scn < redo_end p) h
+below-redo p h k =
+    All-weaker (λ c. c.scn < end_of p.world.tree c.inc) (λ c. c.inc ≡ p.logs.inc → c.scn < redo_end p)
+    (λ c low same. subst (λ i. c.scn < end_of p.world.tree i) same low) h k.below
+
+when-open : (b : Bool) (r : Refusal) (other : Option Refusal) → cond b other (Some r) ≡ None → (b ≡ true) × (other ≡ None)
+when-open true r other is = (refl, is)
+when-open false r other is = absurd (cc)
+
+-- CREATE DATAFILE
+
+further-datafile : (p : Parts) (blocks t : ℕ) → IsSound p → Further (online_log p t) (online_log (with_datafile p blocks) t)
+further-datafile p blocks t s = record { inc = refl; thread = refl; first = refl; next = redo-risen p s }
+
+told-datafile : (p : Parts) (blocks : ℕ) (c : Change) → IsSound p → IsTold p c → IsTold (with_datafile p blocks) c
+told-datafile p blocks c s is = elim is [
+  | inl old ↦ inl (archived-still p (with_datafile p blocks) c refl old)
+  | inr now ↦ inr (is_of-further (online_log p c.thread) (online_log (with_datafile p blocks) c.thread) c (further-datafile p blocks c.thread s) now)
+]
+
+rows-other : (p : Parts) (blocks : ℕ) (h : List Change) (x : File) → IsSound p → Keeps p h → x.file ≤ length p.world.files → RowsAre p.world h p.current (now_of p) x → RowsAre (with_datafile p blocks).world h p.current (now_of p + 1) x
+rows-other p blocks h x s k inside rows =
+    let next = now_of p + 1 in
+    All-weaker (λ r. r ≡ state p.world h p.current (now_of p) x.file r.block) (λ r. r ≡ state (with_datafile p blocks).world h p.current next x.file r.block)
+    (λ r is. is ∙ sym (state-kept (risen p) (new_datafile p blocks) h p.current next x.file r.block inside ∙ state-risen p h x.file r.block s k))
+    x.rows rows
+
+-- no change is of the new datafile
+none-of-new : (p : Parts) (h : List Change) → Keeps p h → All (λ c. c.file ≢ length p.world.files + 1) h
+none-of-new p h k n d inside met =
+    let change = k.history.changes _ (Contains-get_or h n d inside) in
+    let within = file-inside p.world _ change.datafile change.is in
+    absurd (omega (arith, met, within))
+
+rows-new : (p : Parts) (blocks : ℕ) (h : List Change) → Keeps p h → RowsAre (with_datafile p blocks).world h p.current (now_of p + 1) (created (length p.world.files + 1) p.current (now_of p) blocks)
+rows-new p blocks h k =
+    let w = (with_datafile p blocks).world in
+    let f = length p.world.files + 1 in
+    let next = now_of p + 1 in
+    let creation : creation_of w f ≡ now_of p = ap (λ o. option_map_or (λ d. d.creation) o 0) (file_of-new (risen p) (new_datafile p blocks)) in
+    created-all (λ r. r ≡ state w h p.current next f r.block) (now_of p)
+    (λ b. sym (state-untouched w h p.current next f b (none-of-new p h k) ∙ ap (λ n. created_row n b) creation)) blocks
+
+rows-datafile : (p : Parts) (blocks : ℕ) (h : List Change) → IsSound p → Keeps p h → p.is_open ≡ true → (f : ℕ) (x : File) → placed (with_datafile p blocks) f ≡ Some x → RowsAre (with_datafile p blocks).world h p.current (now_of (with_datafile p blocks)) x
+rows-datafile p blocks h s k opened f x is =
+    let w = (with_datafile p blocks).world in
+    let new = created (length p.world.files + 1) p.current (now_of p) blocks in
+    subst (λ n. RowsAre w h p.current n x) (sym (now-risen p s)) (elim (placed-push p.place (Some new) (f - 1) x is) [
+      | inl old ↦
+          let inside = (stands-numbered p.world (f - 1) x (stands p.world p.place (f - 1) x s.placed old)).1 in
+          rows-other p blocks h x s k inside (k.in_open opened f x old)
+      | inr last ↦ let same : new ≡ x = cc in subst (RowsAre w h p.current (now_of p + 1)) same (rows-new p blocks h k)
+    ])
+
+pub keeps-datafile : (p : Parts) (blocks : ℕ) (h : List Change) → IsSound p → datafile_refusal p blocks ≡ None → Keeps p h → Keeps (with_datafile p blocks) h
+keeps-datafile p blocks h s accepted k =
+    let opened : p.is_open ≡ true = (when-open p.is_open (Rm04 true) (room_refusal p blocks) accepted).0 in
+    let q = with_datafile p blocks in
+    record {
+      history = IsHistory-with_file (risen p) (new_datafile p blocks) h (IsHistory-with_end p.world p.current (now_of p + 1) h s.there k.history);
+      below = below-now p h s k;
+      archived = k.archived;
+      online = λ t there. agrees-further h (online_log p t) (online_log q t) (further-datafile p blocks t s) refl (below-redo p h k) (k.online t there);
+      found = k.found;
+      told = All-weaker (IsTold p) (IsTold q) (λ c is. told-datafile p blocks c s is) h k.told;
+      place = λ f x is. agrees-open q h x opened (rows-datafile p blocks h s k opened f x is);
+      in_open = λ still f x is. rows-datafile p blocks h s k opened f x is;
+      point = λ n is. let none = (s.in_open opened).point in absurd (cc);
+    }
