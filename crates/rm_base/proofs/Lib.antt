@@ -1,4 +1,6 @@
+pub mod Answers
 pub mod Contents
+pub mod Names
 pub mod Sealing
 pub mod Streams
 pub mod Wide

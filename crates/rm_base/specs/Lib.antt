@@ -2,6 +2,8 @@ pub mod Content
 pub mod Failing
 pub mod MemSink
 pub mod MemSource
+pub mod MemStore
 pub mod Number
 pub mod Numbers
 pub mod Outside
+pub mod Store

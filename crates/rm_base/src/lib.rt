@@ -4,6 +4,7 @@
 pub mod block;
 pub mod faults;
 pub mod kinds;
+pub mod mem_store;
 pub mod memory;
 pub mod number;
 pub mod numbers;
@@ -11,16 +12,19 @@ pub mod outside;
 pub mod refusal;
 pub mod sealed;
 pub mod seq;
+pub mod store;
 pub mod text;
 
 pub use block::{Block, Change, Mark, Row};
 pub use faults::{Failed, FormatFault, NoMemory};
 pub use kinds::{Bad, Class, Kind, Policy, Status};
+pub use mem_store::{MemClock, MemStore, StoreFailing};
 pub use memory::{Failing, MemSink, MemSource};
 pub use numbers::{BlockNo, FileNo, IncNo, LAST_SCN, Moment, Scn, ThreadNo};
 pub use outside::{Sink, Source};
 pub use refusal::{Absent, Limit, Refusal, Unknown};
 pub use seq::Seq;
+pub use store::{Clock, Store, StoreFail};
 pub use text::Text;
 
 #[cfg(test)]

@@ -2,6 +2,7 @@
 use crate::number::{push_u32, push_u64, take_u32, take_u64};
 use crate::sealed::{digest_of, seal, unseal};
 use crate::*;
+use std::alloc::Global;
 use std::test::Fail;
 
 fn failing(rt: &HostRuntime, numbers: &[u64]) -> Result<Failing, Fail> {
@@ -121,5 +122,85 @@ fn lists_and_texts_are_given_back(rt: HostRuntime) -> Result<(), Fail> {
     assert_eq!(rt; text.as_bytes(), b"inc".as_slice());
     assert_eq!(rt; Text::from_string(text.into_string()).as_bytes().len(), 3);
     assert_eq!(rt; Text::new(rt.alloc()).as_str(), "");
+    Ok(())
+}
+
+// A store whose second get and put, and first remove and names, are to fail.
+fn failing_store(rt: &HostRuntime) -> Result<MemStore, Fail> {
+    let failing = StoreFailing {
+        gets: failing(rt, &[2])?,
+        puts: failing(rt, &[2])?,
+        removes: failing(rt, &[1])?,
+        names: failing(rt, &[1])?,
+    };
+    Ok(MemStore::new(rt.alloc(), failing))
+}
+
+// Whether these bytes stand under the name.
+fn stands<S: Store>(store: &mut S, name: &str, bytes: &[u8]) -> Result<bool, StoreFail> {
+    match store.get(name)? {
+        Some(found) => Ok(found.as_slice() == bytes),
+        None => Ok(false),
+    }
+}
+
+#[test]
+fn a_failing_put_leaves_the_first_half(rt: HostRuntime) -> Result<(), Fail> {
+    let mut store = failing_store(&rt)?;
+    assert_eq!(rt; store.put("b", b"12345"), Ok(()));
+    assert_eq!(rt; store.put("b", b"abcde"), Err(StoreFail::Failed));
+    assert_eq!(rt; stands(&mut store, "b", b"ab"), Ok(true));
+    assert_eq!(rt; stands(&mut store, "b", b"ab"), Err(StoreFail::Failed));
+    assert_eq!(rt; store.put("b", b""), Ok(()));
+    assert_eq!(rt; stands(&mut store, "b", b""), Ok(true));
+    assert_eq!(rt; stands(&mut store, "a", b""), Ok(false));
+    Ok(())
+}
+
+// The names, each with a blank behind it, or `failed`.
+fn listed<S: Store>(alloc: Global, store: &mut S) -> Result<String, NoMemory> {
+    let mut out = String::new(alloc);
+    match store.names() {
+        Ok(names) => {
+            for name in names.as_slice() {
+                write!(out, "{} ", name.as_str())?;
+            }
+        }
+        Err(_) => out.push_str("failed")?,
+    }
+    Ok(out)
+}
+
+#[test]
+fn names_ascend(rt: HostRuntime) -> Result<(), Fail> {
+    let mut store = failing_store(&rt)?;
+    store.put("log_2", b"x")?;
+    assert_eq!(rt; store.put("copy_1", b"x"), Err(StoreFail::Failed));
+    store.put("log_10", b"x")?;
+    assert_eq!(rt; listed(rt.alloc(), &mut store)?.as_str(), "failed");
+    assert_eq!(rt; store.remove("log_2"), Err(StoreFail::Failed));
+    assert_eq!(rt;
+        listed(rt.alloc(), &mut store)?.as_str(),
+        "copy_1 log_10 log_2 "
+    );
+    assert_eq!(rt; store.remove("log_2"), Ok(()));
+    assert_eq!(rt; store.remove("log_3"), Ok(()));
+    assert_eq!(rt; listed(rt.alloc(), &mut store)?.as_str(), "copy_1 log_10 ");
+    Ok(())
+}
+
+// Three answers of the clock.
+fn three_of<C: Clock>(clock: &mut C) -> [u64; 3] {
+    let first = clock.now();
+    let second = clock.now();
+    [first, second, clock.now()]
+}
+
+#[test]
+fn a_clock_repeats_its_last_answer(rt: HostRuntime) -> Result<(), Fail> {
+    let mut clock = MemClock::new(Vec::from_slice(rt.alloc(), &[7u64, 5])?);
+    assert_eq!(rt; three_of(&mut clock), [7, 5, 5]);
+    let mut silent = MemClock::new(Vec::new(rt.alloc()));
+    assert_eq!(rt; three_of(&mut silent), [0, 0, 0]);
     Ok(())
 }
