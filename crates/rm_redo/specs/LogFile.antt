@@ -1,6 +1,7 @@
 -- The logs that switches close, and what they tell.
 use Rattle.std.specs.Prelude.{ℕ, ◌==◌, Bool, List, map}
 use Rattle.rm_base.specs.declared.block.Change.{Change}
+use Rattle.rm_history.specs.Artefacts.{Log}
 use Rattle.rm_redo.specs.declared.log_file.LogFile.{LogFile}
 use Rattle.rm_redo.specs.Logs.{Logs}
 use Rattle.rm_redo.specs.Online.{first_of, records_of, sequence_of}
@@ -14,6 +15,10 @@ log_file_of logs t next =
 abbrev pub changes_of : LogFile → List Change
 changes_of l =
     map (λ r. record { inc = l.inc; thread = l.thread; scn = r.scn; file = r.file; block = r.block; content = r.content }) l.records
+
+-- the log as an artefact
+abbrev pub log_of : LogFile → Log
+log_of l = record { inc = l.inc; thread = l.thread; sequence = l.sequence; first = l.first; next = l.next; changes = changes_of l }
 
 -- the change is one of this thread
 abbrev pub is_of_thread : ℕ → Change → Bool
