@@ -3,12 +3,17 @@ use Rattle.std.specs.Prelude.{ℕ, zero, suc, ◌≡◌, ◌+◌, ◌<◌, List,
 use Rattle.rm_base.specs.Content.{zero_block}
 use Rattle.rm_base.specs.declared.block.Block.{Block}
 use Rattle.rm_base.specs.declared.block.Row.{Row}
+use Rattle.rm_history.specs.Artefacts.{Base}
 
 pub record File : Type 0 where
   pub file : ℕ
   pub inc : ℕ
   pub checkpoint : ℕ
   pub rows : List Row
+
+-- the datafile as a copy of itself
+abbrev pub base_of : File → Base
+base_of f = record { inc = f.inc; file = f.file; checkpoint = f.checkpoint; rows = f.rows }
 
 -- row k has block k
 abbrev pub IsInOrder : List Row → Type 0

@@ -2,6 +2,7 @@
 #![tactic(auto)]
 
 pub mod file;
+pub mod laws;
 
 pub use file::DataFile;
 

@@ -21,10 +21,10 @@ changes_in inc thread records =
 abbrev pub changes_of : LogFile → List Change
 changes_of l = changes_in l.inc l.thread l.records
 
+-- the log as an artefact
+abbrev pub log_of : LogFile → Log
+log_of l = record { inc = l.inc; thread = l.thread; sequence = l.sequence; first = l.first; next = l.next; changes = changes_of l }
+
 -- the change is one of this thread
 abbrev pub is_of_thread : ℕ → Change → Bool
 is_of_thread t c = c.thread == t
-
--- the log, as an artefact
-abbrev pub log_of : LogFile → Log
-log_of l = record { inc = l.inc; thread = l.thread; sequence = l.sequence; first = l.first; next = l.next; changes = changes_of l }

@@ -1,0 +1,7 @@
+pub mod Edges
+pub mod Files
+pub mod Seats
+pub mod Sound
+pub mod Steps
+pub mod Totals
+pub mod Turns

@@ -1,0 +1,114 @@
+-- A live database stays sound, and its threads stay there.
+use Rattle.std.proofs.Common.{Ok, Err, ◌≡◌, ◌≢◌, ◌<◌, ◌≤◌, ◌+◌, ◌-◌, ◌∙◌, ◌==◌, ◌++◌, ℕ, List, [], ◌∷◌, Option, Some, None, Bool, true, false, true≢false, cond, refl, ap, sym, subst, arith, eqb, length, All, slice_get, slice_set}
+use Rattle.std.specs.Option.{option_map_or}
+use Rattle.std.proofs.lemmas.Bool.{eqb-true, eq-eqb, ne_eqb}
+use Rattle.std.proofs.lemmas.List.Elements.{All-push, All-set, All-weaker, All-get_or}
+use Rattle.std.proofs.lemmas.Option.{get_or_from_slice_get, slice_get_within}
+use Rattle.rm_base.specs.Numbers.{last_scn}
+use Rattle.rm_base.specs.declared.block.Block.{Block}
+use Rattle.rm_base.specs.declared.block.Change.{Change}
+use Rattle.rm_base.specs.declared.block.Row.{Row}
+use Rattle.rm_blocks.specs.File.{File, written}
+use Rattle.rm_redo.specs.declared.online.LogRecord.{LogRecord}
+use Rattle.rm_redo.specs.declared.online.ThreadLog.{ThreadLog}
+use Rattle.rm_redo.specs.Logs.{Logs}
+use Rattle.rm_redo.specs.Online.{IsThread, IsLost, first_of, records_of, record_of, with_change, with_record}
+use Rattle.rm_redo.proofs.Logs.{IsThread-with_change, IsLost-with_change, inc-with_change}
+use Rattle.rm_live.specs.declared.history.Answer.{Answer}
+use Rattle.rm_live.specs.declared.history.Answer.TheVariants.{Found, Wrote}
+use Rattle.rm_live.specs.declared.history.Call.{Call}
+use Rattle.rm_live.specs.declared.history.Call.TheVariants.{Read, Write}
+use Rattle.rm_live.specs.declared.history.Event.{Event}
+use Rattle.rm_live.specs.declared.history.LiveFault.{LiveFault}
+use Rattle.rm_live.specs.declared.history.LiveFault.TheVariants.{NoBlock, Full, LastScn, NoMemory}
+use Rattle.rm_live.specs.Parts.{Parts, IsSound, refusal_by, refusal_of, row_at, with_row}
+use Rattle.rm_live.specs.History.{IsRight, IsLegal, after, fold_of, with_write}
+use Rattle.rm_live.proofs.Files.{All-with_row}
+
+not-eq : (m n : ℕ) → (m == n) ≡ false → m ≢ n
+not-eq m n is same = true≢false (sym (eq-eqb m n same) ∙ is)
+
+room-by : (full last : Bool) → cond full (Some Full) (cond last (Some LastScn) None) ≡ None → (full ≡ false) × (last ≡ false)
+room-by false false is = (refl, refl)
+room-by false true is = absurd (cc is)
+room-by true last is = absurd (cc is)
+
+room-for : (row : Option Row) (records now : ℕ) → refusal_by row records now ≡ None → (records ≢ 65536) × (now ≢ last_scn)
+room-for None records now is = absurd (cc is)
+room-for (Some row) records now is =
+    let both = room-by (records == 65536) (now == last_scn) is in
+    (not-eq records 65536 both.0, not-eq now last_scn both.1)
+
+-- a write that is not refused finds room in its log, and an SCN below the last
+pub allowed : (p : Parts) (t f b : ℕ) → refusal_of p t f b ≡ None → (length (records_of p.logs t) ≢ 65536) × (p.now ≢ last_scn)
+allowed p t f b is = room-for (row_at p.files f b) (length (records_of p.logs t)) p.now is
+
+holds-at : {X : Type 0} (P : X → Type 0) (xs : List X) (k : ℕ) (x : X) → slice_get xs k ≡ Some x → All P xs → P x
+holds-at P xs k x is all = subst P (get_or_from_slice_get xs k x x is) (All-get_or P xs k x (slice_get_within xs k x is) all)
+
+all-by : (P : ThreadLog → Type 0) (logs : Logs) (c : Change) (o : Option ThreadLog) → slice_get logs.threads (c.thread - 1) ≡ o → ((l : ThreadLog) → P l → P (with_record (record_of c) l)) → All P logs.threads
+    → All P (option_map_or (λ l. record logs { threads = slice_set logs.threads (c.thread - 1) (with_record (record_of c) l) }) o logs).threads
+all-by P logs c None is keeps all = all
+all-by P logs c (Some l) is keeps all =
+    All-set P logs.threads (c.thread - 1) (with_record (record_of c) l) (keeps l (holds-at P logs.threads (c.thread - 1) l is all)) all
+
+-- what is true of each log, and of one with the record more, is true of all after the change
+All-with_change : (P : ThreadLog → Type 0) (logs : Logs) (c : Change) → ((l : ThreadLog) → P l → P (with_record (record_of c) l)) → All P logs.threads → All P (with_change logs c).threads
+All-with_change P logs c keeps all = all-by P logs c (slice_get logs.threads (c.thread - 1)) refl keeps all
+
+row-below : (s : ℕ) (rows : List Row) (b : ℕ) (new : Row) → new.version < s → All (λ r. r.version < s) rows → All (λ r. r.version < s) (slice_set rows b new)
+row-below s rows b new low all = All-set (λ (r : Row). r.version < s) rows b new low all
+
+-- a write below the last SCN keeps the database sound
+write-sound : (p : Parts) (t f b : ℕ) (content : Block) → IsSound p → p.now ≢ last_scn → IsSound (with_write p t f b content p.now)
+write-sound p t f b content sound room =
+    let c : Change = record { inc = p.inc; thread = t; scn = p.now; file = f; block = b; content = content } in
+    let s = p.now + 1 in
+    let first = All-weaker (λ (l : ThreadLog). l.first ≤ p.now) (λ (l : ThreadLog). l.first ≤ s) (λ l le. omega (arith, le)) p.logs.threads sound.first in
+    let records = All-weaker (λ (l : ThreadLog). All (λ (r : LogRecord). r.scn < p.now) l.records) (λ (l : ThreadLog). All (λ (r : LogRecord). r.scn < s) l.records) (λ l all. All-weaker (λ (r : LogRecord). r.scn < p.now) (λ (r : LogRecord). r.scn < s) (λ r lt. omega (arith, lt)) l.records all) p.logs.threads sound.records in
+    let rows = All-weaker (λ (x : File). All (λ (r : Row). r.version < p.now) x.rows) (λ (x : File). All (λ (r : Row). r.version < s) x.rows) (λ x all. All-weaker (λ (r : Row). r.version < p.now) (λ (r : Row). r.version < s) (λ r lt. omega (arith, lt)) x.rows all) p.files sound.rows in
+    record {
+      inc = inc-with_change p.logs c ∙ sound.inc;
+      begun = omega (arith, sound.begun);
+      last = omega (arith, sound.last, room);
+      first = All-with_change (λ (l : ThreadLog). l.first ≤ s) p.logs c (λ l le. le) first;
+      rows = All-with_row (λ (x : File). All (λ (r : Row). r.version < s) x.rows) p.files f b p.now content (λ x all. row-below s x.rows b (record { block = b; version = p.now; content = content }) (omega arith) all) rows;
+      records = All-with_change (λ (l : ThreadLog). All (λ (r : LogRecord). r.scn < s) l.records) p.logs c (λ l all. All-push (λ (r : LogRecord). r.scn < s) l.records (record_of c) all (omega arith)) records;
+    }
+
+-- a call that is rightly answered keeps it so
+pub after-sound : (p : Parts) (c : Call) (a : Answer) → IsSound p → IsRight p c a → IsSound (after p c a)
+after-sound p (Read f b) a sound right = sound
+after-sound p (Write t f b content) (Found row) sound right = sound
+after-sound p (Write t f b content) (Wrote (Ok scn)) sound right =
+    subst (λ n. IsSound (with_write p t f b content n)) (sym right.1) (write-sound p t f b content sound (allowed p t f b right.0).1)
+after-sound p (Write t f b content) (Wrote (Err fault)) sound right = sound
+
+-- and so does a legal list of events
+pub fold-sound : (p : Parts) (log : List Event) → IsSound p → IsLegal p log → IsSound (fold_of p log)
+fold-sound p [] sound legal = sound
+fold-sound p (e ∷ es) sound legal = fold-sound (after p e.call e.answer) es (after-sound p e.call e.answer sound legal.0) legal.1
+
+after-thread : (p : Parts) (c : Call) (a : Answer) (t : ℕ) → IsThread p.logs t → IsThread (after p c a).logs t
+after-thread p (Read f b) a t is = is
+after-thread p (Write u f b content) (Found row) t is = is
+after-thread p (Write u f b content) (Wrote (Ok scn)) t is =
+    IsThread-with_change p.logs (record { inc = p.inc; thread = u; scn = scn; file = f; block = b; content = content }) t is
+after-thread p (Write u f b content) (Wrote (Err fault)) t is = is
+
+-- a thread that is there stays there
+pub fold-thread : (p : Parts) (log : List Event) (t : ℕ) → IsThread p.logs t → IsThread (fold_of p log).logs t
+fold-thread p [] t is = is
+fold-thread p (e ∷ es) t is = fold-thread (after p e.call e.answer) es t (after-thread p e.call e.answer t is)
+
+after-found : (p : Parts) (c : Call) (a : Answer) (t : ℕ) → ¬ IsLost p.logs t → ¬ IsLost (after p c a).logs t
+after-found p (Read f b) a t is = is
+after-found p (Write u f b content) (Found row) t is = is
+after-found p (Write u f b content) (Wrote (Ok scn)) t is =
+    IsLost-with_change p.logs (record { inc = p.inc; thread = u; scn = scn; file = f; block = b; content = content }) t is
+after-found p (Write u f b content) (Wrote (Err fault)) t is = is
+
+-- and one that is not lost is not lost later
+pub fold-found : (p : Parts) (log : List Event) (t : ℕ) → ¬ IsLost p.logs t → ¬ IsLost (fold_of p log).logs t
+fold-found p [] t is = is
+fold-found p (e ∷ es) t is = fold-found (after p e.call e.answer) es t (after-found p e.call e.answer t is)

@@ -1,0 +1,4 @@
+pub mod History
+pub mod Parts
+pub mod Passes
+pub mod Ruled

@@ -1,0 +1,14 @@
+//! A live database, which threads share under a lock, and the one history of all that they did.
+#![tactic(auto)]
+
+pub mod database;
+pub mod history;
+pub mod live;
+pub mod rule;
+
+pub use database::Database;
+pub use history::LiveFault;
+pub use live::{Live, Pass};
+
+#[cfg(test)]
+mod tests;
