@@ -2,6 +2,7 @@
 ghost use Rattle.std.specs.Prelude.{◌≡◌, ◌≤◌, ◌<◌, ◌+◌, ◌++◌, ◌∷◌, [], OnOk, IfOk, None, true};
 ghost use Rattle.rm_redo.specs.Online.{IsThread, sequence_of};
 ghost use Rattle.rm_site.specs.Archiving.{is_due, made_line, with_archived, after_thread, after_threads, after_all, told_lines, lines_of, archive_refusal, due_from, is_last_sequence};
+ghost use Rattle.rm_site.specs.Sound.{IsSound};
 
 use crate::database::{Archived, Database};
 use rm_base::{Limit, NoMemory, Refusal, Seq, ThreadNo};
@@ -22,6 +23,8 @@ impl Database {
         ensures value { result ≡ due_from self.now from count }
         ensures most { result ≤ count }
     {
+        let threads = self.threads();
+        prove!(threads <= 4);
         let mut due = 0;
         for thread in from..from + count {
             if self.is_due(thread) {
@@ -36,6 +39,8 @@ impl Database {
         requires threads { (0 < from) × (from + count ≤ self.now.world.threads + 1) }
         ensures { result ≡ is_last_sequence self.now from count }
     {
+        let threads = self.threads();
+        prove!(threads <= 4);
         for thread in from..from + count {
             if self.is_due(thread) && self.logs.sequence(thread) == u32::MAX {
                 return true;
@@ -116,6 +121,7 @@ impl Database {
     pub(crate) fn threads(&self) -> ThreadNo
         ensures value { result ≡ self.now.world.threads }
         ensures most { result ≤ 4 }
+        ensures sound { IsSound self.now }
     {
         self.world.threads
     }

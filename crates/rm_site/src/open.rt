@@ -18,7 +18,12 @@ impl Database {
     fn is_any_lost(&self) -> bool
         ensures { result ≡ list_any (λ l. l.is_lost) self.now.logs.threads }
     {
-        (1..=self.threads()).any(|thread| self.logs.is_lost(thread))
+        for thread in 1..=self.threads() {
+            if self.logs.is_lost(thread) {
+                return true;
+            }
+        }
+        false
     }
 
     // The database can be opened as it is.

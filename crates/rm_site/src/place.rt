@@ -1,12 +1,12 @@
 //! What stands in place of the datafiles.
-ghost use Rattle.std.specs.Prelude.{◌≡◌, ◌<◌, map, length, All};
+ghost use Rattle.std.specs.Prelude.{◌≡◌, ◌<◌, ◌≤◌, map, length, All, IfSome};
 ghost use Rattle.std.specs.Option.{option_map, option_copied};
 ghost use Rattle.rm_blocks.specs.File.{standing};
 ghost use Rattle.rm_history.specs.Tree.{IsThere};
 ghost use Rattle.rm_site.specs.Mount.{lost_at, first_lost};
 ghost use Rattle.rm_site.specs.Open.{kept_in_place};
 ghost use Rattle.rm_site.specs.Parts.{placed, on_path};
-ghost use Rattle.rm_site.specs.Recover.{put_over};
+ghost use Rattle.rm_site.specs.Recover.{or_else, put_over};
 
 use crate::database::Database;
 use rm_base::{FileNo, IncNo, Scn};
@@ -43,15 +43,22 @@ pub(crate) fn keep_in_place(
     }
 }
 
+// Puts a datafile in its place, where there is one.
+fn put(slot: &mut Option<DataFile>, file: Option<DataFile>)
+    ensures { slot.new ≡ or_else file slot.old }
+{
+    if file.is_some() {
+        *slot = file;
+    }
+}
+
 /// Puts datafiles in place of those that stood there.
-pub(crate) fn put_all(place: &mut Vec<Option<DataFile>>, files: Vec<Option<DataFile>>)
+pub(crate) fn put_all(place: &mut Vec<Option<DataFile>>, mut files: Vec<Option<DataFile>>)
     requires many { length files.items ≡ length place.old.items }
     ensures { place.new.items ≡ put_over files.items place.old.items }
 {
-    for (index, file) in files.into_iter().enumerate() {
-        if file.is_some() {
-            place[index] = file;
-        }
+    for index in 0..files.len() {
+        put(&mut place[index], files[index].take());
     }
 }
 
@@ -67,7 +74,9 @@ impl Database {
 
     /// The datafile of this number, where it is on the current path.
     pub(crate) fn on_path(&self, number: u64) -> Option<Datafile>
-        ensures { result ≡ on_path self.now number }
+        ensures value { result ≡ on_path self.now number }
+        ensures there { IfSome result (λ _. (0 < number) × (number ≤ 64)) }
+        ensures blocks { IfSome result (λ d. d.blocks ≤ 65536) }
     {
         let datafile = self.world.file(number)?;
         if self.world.exists(self.current, self.now(), &datafile) {

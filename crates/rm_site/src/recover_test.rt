@@ -1,5 +1,5 @@
 //! RECOVER DATABASE [UNTIL SCN s] [INCARNATION i] TEST
-ghost use Rattle.std.specs.Prelude.{◌≡◌, ◌≤◌, ◌<◌, ◌++◌, IfOk, IfErr, OnOk, Some, None, length};
+ghost use Rattle.std.specs.Prelude.{◌≡◌, ◌≤◌, ◌<◌, ◌++◌, ◌∷◌, [], All, IfOk, IfErr, IfSome, OnOk, Some, None, length};
 ghost use Rattle.rm_history.specs.Tree.{IsThere};
 ghost use Rattle.rm_lang.specs.declared.command.Command.TheVariants.{RecoverTest};
 ghost use Rattle.rm_site.specs.RecoverTest.{tested, test_target, test_refusal, block_lines, file_lines, files_lines, test_lines};
@@ -17,18 +17,26 @@ use rm_lang::Until;
 use rm_report::{Line, Reply};
 use std::alloc::Global;
 
+// Adds the line of a block, where it was written.
+fn push_block(lines: &mut Seq<Line>, creation: Scn, row: &Row) -> Result<(), NoMemory>
+    ensures { OnOk result (lines.new ≡ lines.old ++ block_lines creation (row.now ∷ [])) }
+{
+    if creation < row.version {
+        lines.push(Line::BlockIs {
+            block: row.block,
+            version: row.version,
+            content: row.content,
+        })?;
+    }
+    Ok(())
+}
+
 // Adds a line for each block that was written.
 fn push_blocks(lines: &mut Seq<Line>, creation: Scn, rows: &[Row]) -> Result<(), NoMemory>
     ensures { OnOk result (lines.new ≡ lines.old ++ block_lines creation rows.now) }
 {
     for row in rows {
-        if creation < row.version {
-            lines.push(Line::BlockIs {
-                block: row.block,
-                version: row.version,
-                content: row.content,
-            })?;
-        }
+        push_block(lines, creation, row)?;
     }
     Ok(())
 }
@@ -40,6 +48,7 @@ fn push_file(
     datafile: Datafile,
     file: &Option<DataFile>,
 ) -> Result<(), NoMemory>
+    requires rows { IfSome file.now (λ x. length x.rows ≤ 65536) }
     ensures { OnOk result (lines.new ≡ lines.old ++ file_lines number datafile file.now) }
 {
     let Some(file) = file else {
@@ -63,6 +72,7 @@ fn push_files(
 ) -> Result<(), NoMemory>
     requires many { length files.now ≡ length datafiles.now }
     requires few { length files.now ≤ 64 }
+    requires rows { All (λ file. IfSome file (λ x. length x.rows ≤ 65536)) files.now }
     ensures { OnOk result (lines.new ≡ lines.old ++ files_lines 1 datafiles.now files.now) }
 {
     for (index, datafile) in datafiles.iter().enumerate() {

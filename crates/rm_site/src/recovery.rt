@@ -1,8 +1,9 @@
 //! The datafiles that a recovery brings back, by all logs that there are.
-ghost use Rattle.std.specs.Prelude.{◌≡◌, ◌<◌, ◌≤◌, ◌++◌, ◌∷◌, [], All, IfOk, IfSome, OnOk, Some, None, length, count_by, flat_map};
+ghost use Rattle.std.specs.Prelude.{◌≡◌, ◌<◌, ◌≤◌, ◌++◌, ◌∷◌, [], All, IfOk, IfSome, OnOk, Some, None, length, count_by, flat_map, if◌then◌else◌};
 ghost use Rattle.rm_history.specs.World.{exists};
 ghost use Rattle.rm_blocks.specs.File.{IsInOrder};
 ghost use Rattle.rm_history.specs.Tree.{IsThere, end_of};
+ghost use Rattle.rm_redo.specs.Logs.{IsLogs};
 ghost use Rattle.rm_redo.specs.LogFile.{changes_in, changes_of};
 ghost use Rattle.rm_site.specs.Recovery.{target, until_refusal, file_at, files_at, told_online, told_by};
 ghost use Rattle.rm_site.specs.Sound.{IsSound};
@@ -85,6 +86,28 @@ fn file_at(
     Ok(DataFile::from_rows(file, i, s, Seq::from_vec(rows)))
 }
 
+// The datafile at the address (i, s), where it exists there.
+fn file_if(
+    alloc: Global,
+    world: &World,
+    history: &[Change],
+    i: IncNo,
+    s: Scn,
+    number: FileNo,
+    datafile: &Datafile,
+) -> Result<Option<DataFile>, NoMemory>
+    requires there { IsThere world.now.tree i }
+    requires scns { All (λ c. 0 < c.scn) history.now }
+    requires created { 0 < datafile.now.creation }
+    ensures { IfOk result (λ file. file ≡ (if exists world.now i s datafile.now then Some (file_at world.now history.now i s number datafile.now.blocks) else None)) }
+{
+    if !world.exists(i, s, datafile) {
+        return Ok(None);
+    }
+    let file = file_at(alloc, world, history, i, s, number, datafile.blocks)?;
+    Ok(Some(file))
+}
+
 // The datafiles of the database at the address (i, s), by a whole history.
 fn files_at(
     alloc: Global,
@@ -101,12 +124,7 @@ fn files_at(
 {
     let mut files = Vec::new(alloc);
     for (index, datafile) in world.files.as_slice().iter().enumerate() {
-        let file = if world.exists(i, s, datafile) {
-            Some(file_at(alloc, world, history, i, s, index as FileNo + 1, datafile.blocks)?)
-        } else {
-            None
-        };
-        files.push(file)?;
+        files.push(file_if(alloc, world, history, i, s, index as FileNo + 1, datafile)?)?;
     }
     Ok(files)
 }
@@ -125,9 +143,11 @@ impl Database {
 
     // What the online logs tell.
     fn push_online(&self, changes: &mut Vec<Change>) -> Result<(), NoMemory>
-        ensures { OnOk result (changes.new.items ≡ changes.old.items ++ told_online self.now 1 self.now.world.threads) }
+        ensures changes { OnOk result (changes.new.items ≡ changes.old.items ++ told_online self.now 1 self.now.world.threads) }
+        ensures logs { IsLogs self.now.logs }
+        ensures sound { IsSound self.now }
     {
-        for thread in 1..=self.threads() {
+        for thread in 1..=self.logs.threads() {
             push_changes(changes, self.logs.inc(), thread, self.logs.records(thread))?;
         }
         Ok(())

@@ -3,13 +3,14 @@ ghost use Rattle.std.specs.Prelude.{◌≡◌, ◌<◌, ◌≤◌, ◌-◌, IfOk
 ghost use Rattle.std.specs.Option.{option_map};
 ghost use Rattle.rm_blocks.specs.File.{written};
 ghost use Rattle.rm_lang.specs.declared.command.Command.TheVariants.{Write};
-ghost use Rattle.rm_site.specs.Write.{place_refusal, write_refusal, with_write};
+ghost use Rattle.rm_site.specs.Write.{block_refusal, place_refusal, write_refusal, with_write};
 ghost use Rattle.rm_site.specs.Step.{Steps};
 
 use crate::database::{Database, raise_end};
 use crate::site::{Stop, refusal_reply, reply_of};
 use rm_base::{Absent, Change, LAST_SCN, Limit, NoMemory, Refusal, Scn, ThreadNo};
 use rm_blocks::DataFile;
+use rm_history::Datafile;
 use rm_lang::WriteForm;
 use rm_report::{Line, Reply};
 use std::alloc::Global;
@@ -17,6 +18,7 @@ use std::alloc::Global;
 // Puts the change into its row in place.
 fn put_row(place: &mut Vec<Option<DataFile>>, form: &WriteForm, scn: Scn)
     requires file { 0 < form.now.file }
+    requires block { form.now.block < 65536 }
     requires above { IfSome (slice_index_or place.old.items (form.now.file - 1) None) (λ x. IfSome (slice_get x.rows form.now.block) (λ r. r.version < scn)) }
     ensures { place.new.items ≡ slice_set place.old.items (form.now.file - 1) (option_map (λ x. written x form.now.block scn form.now.content) (slice_index_or place.old.items (form.now.file - 1) None)) }
 {
@@ -26,18 +28,14 @@ fn put_row(place: &mut Vec<Option<DataFile>>, form: &WriteForm, scn: Scn)
 }
 
 impl Database {
-    // Why WRITE is refused in an open database, if it is.
-    fn place_refusal(&self, form: &WriteForm) -> Option<Refusal>
-        ensures value { result ≡ place_refusal self.now form.now }
-        ensures file { IfNone result (form.now.file ≤ 64) }
-        ensures block { IfNone result (form.now.block < 65536) }
+    // Why WRITE is refused where its thread and its datafile are there, if it is.
+    fn block_refusal(&self, form: &WriteForm, datafile: Datafile) -> Option<Refusal>
+        requires thread { (0 < form.now.thread) × (form.now.thread ≤ self.now.world.threads) }
+        requires few { form.now.thread ≤ 4 }
+        requires file { (0 < form.now.file) × (form.now.file ≤ 64) }
+        ensures value { result ≡ block_refusal self.now form.now datafile }
+        ensures block { IfNone result (form.now.block < datafile.blocks) }
     {
-        if form.thread == 0 || form.thread > u64::from(self.threads()) {
-            return Some(Refusal::Rm05(Absent::Thread(form.thread)));
-        }
-        let Some(datafile) = self.on_path(form.file) else {
-            return Some(Refusal::Rm05(Absent::File(form.file)));
-        };
         if form.block >= u64::from(datafile.blocks) {
             Some(Refusal::Rm05(Absent::Block {
                 block: form.block,
@@ -54,6 +52,21 @@ impl Database {
         } else {
             None
         }
+    }
+
+    // Why WRITE is refused in an open database, if it is.
+    fn place_refusal(&self, form: &WriteForm) -> Option<Refusal>
+        ensures value { result ≡ place_refusal self.now form.now }
+        ensures file { IfNone result (form.now.file ≤ 64) }
+        ensures block { IfNone result (form.now.block < 65536) }
+    {
+        if form.thread == 0 || form.thread > u64::from(self.threads()) {
+            return Some(Refusal::Rm05(Absent::Thread(form.thread)));
+        }
+        let Some(datafile) = self.on_path(form.file) else {
+            return Some(Refusal::Rm05(Absent::File(form.file)));
+        };
+        self.block_refusal(form, datafile)
     }
 
     // Why WRITE is refused, if it is.
