@@ -1,33 +1,49 @@
 -- What CREATE DATABASE, RESET DATABASE, STARTUP MOUNT, CREATE DATAFILE and WRITE keep of the history.
-use Rattle.std.proofs.Common.{◌≡◌, ◌≢◌, ◌<◌, ◌≤◌, ◌+◌, ◌-◌, ◌∙◌, ◌⊎◌, ◌++◌, inl, inr, ℕ, zero, suc, List, [], ◌∷◌, Option, Some, None, Bool, true, false, cond, is_none, refl, ap, sym, subst, arith, length, All, Contains, slice_get, slice_index_or, replicate}
-use Rattle.std.specs.Option.{option_map_or}
-use Rattle.std.proofs.lemmas.List.Elements.{All-weaker, Contains-get_or}
+use Rattle.std.proofs.Common.{◌≡◌, ◌≢◌, ◌<◌, ◌≤◌, ◌+◌, ◌-◌, ◌∙◌, ◌⊎◌, ◌++◌, ◌==◌, ◌||◌, ◌&&◌, nat_le, nat_lt, inl, inr, ℕ, zero, suc, List, [], ◌∷◌, Option, Some, None, Bool, true, false, cond, is_none, refl, ap, sym, subst, arith, length, All, Contains, map, slice_get, slice_set, slice_index_or, replicate}
+use Rattle.std.specs.Option.{option_map, option_map_or, option_and_then}
+use Rattle.std.proofs.lemmas.Bool.{cases_eq}
+use Rattle.std.proofs.lemmas.Bool.Decides.{nat_tests}
+use Rattle.std.proofs.lemmas.List.{map_push}
+use Rattle.std.proofs.lemmas.List.Elements.{All-push, All-weaker, All-contains, Contains-get_or}
+use Rattle.std.proofs.lemmas.Option.{cond_some, option_and_then_some, slice_get_within}
+use Rattle.rm_base.specs.Numbers.{last_scn}
 use Rattle.rm_base.specs.declared.block.Change.{Change}
 use Rattle.rm_base.specs.declared.refusal.Refusal.{Refusal}
-use Rattle.rm_base.specs.declared.refusal.Refusal.TheVariants.{Rm04}
-use Rattle.rm_blocks.specs.File.{File, created, created_row, standing}
+use Rattle.rm_base.specs.declared.refusal.Refusal.TheVariants.{Rm04, Rm05, Rm09, Rm11, Rm15}
+use Rattle.rm_base.specs.declared.refusal.Absent.TheVariants.{Thread, File as AbsentFile, Block}
+use Rattle.rm_base.specs.declared.refusal.Limit.TheVariants.{LogRecords}
+use Rattle.rm_base.specs.declared.block.Row.{Row}
+use Rattle.rm_blocks.specs.File.{File, created, created_row, standing, written}
 use Rattle.rm_history.specs.declared.world.Datafile.{Datafile}
 use Rattle.rm_history.specs.declared.world.World.{World}
-use Rattle.rm_history.specs.Agrees.{BaseAgrees}
-use Rattle.rm_history.specs.State.{state}
+use Rattle.rm_history.specs.Agrees.{BaseAgrees, LogAgrees, is_of}
+use Rattle.rm_history.specs.History.{IsChange, IsHistory, SamePlace}
+use Rattle.rm_history.specs.State.{concerns, state}
 use Rattle.rm_history.specs.Tree.{end_of, owner}
-use Rattle.rm_history.specs.World.{creation_of, file_of, exists}
-use Rattle.rm_history.proofs.Histories.{world-with_end, state-with_end, IsHistory-with_end, IsHistory-with_file}
+use Rattle.rm_history.specs.World.{IsThread, creation_of, file_of, exists}
+use Rattle.rm_history.proofs.Histories.{world-with_end, state-push_other, state-with_end, IsChange-with_end, IsHistory-push, IsHistory-with_end, IsHistory-with_file}
+use Rattle.rm_history.proofs.Ends.{owner-with_end}
+use Rattle.rm_history.proofs.Growth.{LogAgrees-grown, state-push_top}
 use Rattle.rm_history.proofs.Members.{none-in}
 use Rattle.rm_history.proofs.Owners.{owner-here}
+use Rattle.rm_history.proofs.States.{concerns-parts, concerns-from}
 use Rattle.rm_history.proofs.Worlds.{state-kept}
 use Rattle.rm_redo.specs.declared.online.ThreadLog.{ThreadLog}
-use Rattle.rm_redo.specs.LogFile.{changes_in}
-use Rattle.rm_redo.specs.Online.{fresh_log}
+use Rattle.rm_redo.specs.LogFile.{changes_in, log_of}
+use Rattle.rm_redo.specs.Online.{fresh_log, first_of, record_of, records_of, with_change}
+use Rattle.rm_redo.proofs.Logs.{IsLost-with_change, first_of-with_change, inc-with_change, records_of-with_change, records_of-with_change_other}
+use Rattle.rm_lang.specs.declared.command.WriteForm.{WriteForm}
+use Rattle.rm_site.specs.declared.database.Archived.{Archived}
 use Rattle.rm_site.specs.CreateDatabase.{fresh}
 use Rattle.rm_site.specs.CreateDatafile.{datafile_refusal, room_refusal, new_datafile, with_datafile}
 use Rattle.rm_site.specs.Machine.{InArchive, IsTold, Keeps, RowsAre, StandsAt, held, online_log}
 use Rattle.rm_site.specs.Mount.{lost_at, mounted}
-use Rattle.rm_site.specs.Parts.{Parts, now_of, redo_end, placed}
+use Rattle.rm_site.specs.Parts.{Parts, now_of, redo_end, on_path, placed}
 use Rattle.rm_site.specs.ResetDatabase.{at_incarnation}
-use Rattle.rm_site.specs.Sound.{IsSound}
-use Rattle.rm_site.proofs.KeptChanges.{LieBelow, Further, agrees-further, below-risen, end-rises, end_of-risen, is_of-further, state-end, state-untouched}
-use Rattle.rm_site.proofs.KeptPlaces.{agrees-open, created-all, file_of-new, file-inside, file-there, held-open, held-closed, none-lost, placed-map, placed-mapped, placed-push, stands, stands-numbered}
+use Rattle.rm_site.specs.Sound.{IsSound, IsArchived, IsOnline}
+use Rattle.rm_site.specs.Write.{block_refusal, place_refusal, write_refusal, change_of, with_write}
+use Rattle.rm_site.proofs.KeptChanges.{LieBelow, Further, IsOf, agrees-further, agrees-pushed, concerns-other_block, concerns-other_file, below-risen, end-rises, end_of-risen, is_of-from, is_of-further, is_of-not, state-end, state-untouched}
+use Rattle.rm_site.proofs.KeptPlaces.{agrees-open, created-all, file_of-new, file-inside, file-there, held-open, held-closed, none-lost, placed-map, placed-mapped, placed-push, placed-set, row-all, rows-set, stands, stands-numbered}
 
 -- A new database
 
@@ -212,4 +228,63 @@ keeps-datafile p blocks h s accepted k =
       place = λ f x is. agrees-open q h x opened (rows-datafile p blocks h s k opened f x is);
       in_open = λ still f x is. rows-datafile p blocks h s k opened f x is;
       point = λ n is. let none = (s.in_open opened).point in absurd (cc);
+    }
+
+-- WRITE
+
+-- a WRITE that is not refused: its thread, its datafile and its block are there
+pub record Accepted (p : Parts) (w : WriteForm) : Type 0 where
+  pub opened : p.is_open ≡ true
+  pub thread : IsThread p.world w.thread
+  pub datafile : Datafile
+  pub is : file_of p.world w.file ≡ Some datafile
+  pub here : exists p.world p.current (now_of p) datafile ≡ true
+  pub block : w.block < datafile.blocks
+  pub file : File
+  pub stands : placed p w.file ≡ Some file
+
+unless : (b : Bool) (r : Refusal) (other : Option Refusal) → cond b (Some r) other ≡ None → (b ≡ false) × (other ≡ None)
+unless true r other is = absurd (cc)
+unless false r other is = (refl, is)
+
+not-none : (o : Option File) → is_none o ≡ false → (x : File) × (o ≡ Some x)
+not-none (Some x) is = (x, refl)
+not-none None is = absurd (cc)
+
+inside-of : (a b : ℕ) → nat_le b a ≡ false → a < b
+inside-of a b is = grind (arith, nat_tests)
+
+found-by : (p : Parts) (w : WriteForm) (o : Option Datafile) → option_map_or (block_refusal p w) o (Some (Rm05 (AbsentFile w.file))) ≡ None → (d : Datafile) × (o ≡ Some d) × (block_refusal p w d ≡ None)
+found-by p w None is = absurd (cc)
+found-by p w (Some d) is = (d, refl, is)
+
+on-path : (p : Parts) (f : ℕ) (d : Datafile) → on_path p f ≡ Some d → (file_of p.world f ≡ Some d) × (exists p.world p.current (now_of p) d ≡ true)
+on-path p f d is =
+    option_and_then_some (λ e. cond (exists p.world p.current (now_of p) e) (Some e) None) (file_of p.world f) d is
+    (λ e known kept.
+        let both = cond_some (exists p.world p.current (now_of p) e) e d kept in
+        (known ∙ ap Some both.1, ap (exists p.world p.current (now_of p)) (sym both.1) ∙ both.0))
+
+thread-of : (n t : ℕ) → ((t == 0) || nat_lt n t) ≡ false → (0 < t) × (t ≤ n)
+thread-of n t is = (grind (arith, nat_tests), grind (arith, nat_tests))
+
+pub write-accepted : (p : Parts) (w : WriteForm) → write_refusal p w ≡ None → Accepted p w
+write-accepted p w is =
+    let mode = when-open p.is_open (Rm04 true) (place_refusal p w) is in
+    let threads = unless ((w.thread == 0) || nat_lt p.world.threads w.thread) (Rm05 (Thread w.thread)) (option_map_or (block_refusal p w) (on_path p w.file) (Some (Rm05 (AbsentFile w.file)))) mode.1 in
+    let found = found-by p w (on_path p w.file) threads.1 in
+    let d = found.0 in
+    let known = on-path p w.file d found.1 in
+    let rest = cond (nat_le 65536 (length (records_of p.logs w.thread))) (Some (Rm11 LogRecords)) (cond (nat_le last_scn (now_of p)) (Some Rm15) None) in
+    let blocks = unless (nat_le d.blocks w.block) (Rm05 (Block w.block w.file)) (cond (is_none (placed p w.file)) (Some (Rm09 w.file)) rest) found.2 in
+    let file = not-none (placed p w.file) (unless (is_none (placed p w.file)) (Rm09 w.file) rest blocks.1).0 in
+    record {
+      opened = mode.0;
+      thread = thread-of p.world.threads w.thread threads.0;
+      datafile = d;
+      is = known.0;
+      here = known.1;
+      block = inside-of w.block d.blocks blocks.0;
+      file = file.0;
+      stands = file.1;
     }
