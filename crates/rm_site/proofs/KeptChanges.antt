@@ -124,7 +124,7 @@ pub record IsOf (a : Log) (c : Change) : Type 0 where
   pub begun : a.first ≤ c.scn
   pub below : c.scn < a.next
 
-both-hold : (a b : Bool) → (a && b) ≡ true → (a ≡ true) × (b ≡ true)
+pub both-hold : (a b : Bool) → (a && b) ≡ true → (a ≡ true) × (b ≡ true)
 both-hold true b h = (refl, h)
 both-hold false b h = absurd (cc)
 
@@ -135,7 +135,7 @@ and-both false b first second = absurd (cc)
 le-holds : (a b : ℕ) → nat_le a b ≡ true → a ≤ b
 le-holds a b h = grind (arith, nat_tests)
 
-lt-holds : (a b : ℕ) → nat_lt a b ≡ true → a < b
+pub lt-holds : (a b : ℕ) → nat_lt a b ≡ true → a < b
 lt-holds a b h = grind (arith, nat_tests)
 
 holds-le : (a b : ℕ) → a ≤ b → nat_le a b ≡ true
