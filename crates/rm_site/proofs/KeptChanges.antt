@@ -1,7 +1,7 @@
 -- Histories whose changes lie below the ends of their incarnations.
 use Rattle.std.proofs.Common.{◌≡◌, ◌≢◌, ◌<◌, ◌≤◌, ◌+◌, ◌-◌, ◌∙◌, ◌==◌, ◌&&◌, inl, inr, nat_le, nat_lt, ℕ, zero, suc, List, [], ◌∷◌, ◌++◌, Option, Some, None, Bool, true, false, cond, refl, ap, sym, subst, arith, length, All, Contains, filter, get_or-set_same, get_or-set_other}
 use Rattle.std.specs.Option.{option_map_or}
-use Rattle.std.proofs.lemmas.Bool.{cases_eq, cases_lt, eqb-true, eq-eqb, ne_eqb}
+use Rattle.std.proofs.lemmas.Bool.{and_right, cases_eq, cases_lt, eqb-true, eq-eqb, ne_eqb}
 use Rattle.std.proofs.lemmas.Bool.Decides.{nat_tests}
 use Rattle.std.proofs.lemmas.List.Elements.{All-head, All-tail, All-weaker, Contains-get_or, filter-append}
 use Rattle.rm_base.specs.Content.{zero_block}
@@ -105,6 +105,11 @@ pub concerns-other_file : (w : World) (i s f b : ℕ) (c : Change) → c.file �
 concerns-other_file w i s f b c other =
     ap (λ t. t && (c.block == b) && nat_lt c.scn s && (owner w.tree i c.scn == c.inc)) (ne_eqb c.file f other)
 
+-- and a change of another block does not
+pub concerns-other_block : (w : World) (i s f b : ℕ) (c : Change) → c.block ≢ b → concerns w i s f b c ≡ false
+concerns-other_block w i s f b c other =
+    ap (λ t. t && nat_lt c.scn s && (owner w.tree i c.scn == c.inc)) (and_right (c.file == f) (c.block == b) (ne_eqb c.block b other))
+
 -- a block of a datafile that no change is of is as it was created
 pub state-untouched : (w : World) (h : List Change) (i s f b : ℕ) → All (λ c. c.file ≢ f) h → state w h i s f b ≡ record { block = b; version = creation_of w f; content = zero_block }
 state-untouched w h i s f b other =
@@ -119,7 +124,7 @@ pub record IsOf (a : Log) (c : Change) : Type 0 where
   pub begun : a.first ≤ c.scn
   pub below : c.scn < a.next
 
-both-hold : (a b : Bool) → (a && b) ≡ true → (a ≡ true) × (b ≡ true)
+pub both-hold : (a b : Bool) → (a && b) ≡ true → (a ≡ true) × (b ≡ true)
 both-hold true b h = (refl, h)
 both-hold false b h = absurd (cc)
 
@@ -130,7 +135,7 @@ and-both false b first second = absurd (cc)
 le-holds : (a b : ℕ) → nat_le a b ≡ true → a ≤ b
 le-holds a b h = grind (arith, nat_tests)
 
-lt-holds : (a b : ℕ) → nat_lt a b ≡ true → a < b
+pub lt-holds : (a b : ℕ) → nat_lt a b ≡ true → a < b
 lt-holds a b h = grind (arith, nat_tests)
 
 holds-le : (a b : ℕ) → a ≤ b → nat_le a b ≡ true

@@ -3,8 +3,8 @@ use Rattle.std.proofs.Common.{◌≡◌, ◌≢◌, ◌<◌, ◌≤◌, ◌+◌,
 use Rattle.std.specs.Option.{option_map}
 use Rattle.std.proofs.lemmas.Bool.{ne_eqb}
 use Rattle.std.proofs.lemmas.Bool.Decides.{nat_tests}
-use Rattle.std.proofs.lemmas.List.Elements.{All-nil, All-push, All-contains}
-use Rattle.std.proofs.lemmas.Option.{slice_get_cases, slice_get_within}
+use Rattle.std.proofs.lemmas.List.Elements.{All-nil, All-cons, All-push, All-get_or, All-contains}
+use Rattle.std.proofs.lemmas.Option.{get_or_from_slice_get, slice_get_cases, slice_get_within}
 use Rattle.rm_base.specs.declared.block.Change.{Change}
 use Rattle.rm_base.specs.declared.block.Row.{Row}
 use Rattle.rm_blocks.specs.File.{File, created_row, created_rows}
@@ -158,3 +158,19 @@ file_of-new w new =
     let back : length w.files + 1 - 1 ≡ length w.files = omega arith in
     ap (λ b. cond b None (slice_get (w.files ++ new ∷ []) (length w.files + 1 - 1))) (ne_eqb (length w.files + 1) 0 (λ e. omega (arith, e)))
     ∙ ap (slice_get (w.files ++ new ∷ [])) back ∙ slice_get-last w.files new
+
+-- what is true of all rows is true of one that is there
+pub row-all : (P : Row → Type 0) (rows : List Row) (k : ℕ) (r : Row) → All P rows → slice_get rows k ≡ Some r → P r
+row-all P rows k r all is = subst P (get_or_from_slice_get rows k r r is) (All-get_or P rows k r (slice_get_within rows k r is) all)
+
+rows-each : (P : Row → Type 0) (rows : List Row) → ((k : ℕ) (r : Row) → slice_get rows k ≡ Some r → P r) → All P rows
+rows-each P [] each = All-nil P
+rows-each P (r ∷ rows) each = All-cons P r rows (each 0 r refl) (rows-each P rows (λ k x is. each (suc k) x is))
+
+-- what is true of a new row, and of each row but the one that it replaces, is true of all rows after it
+pub rows-set : (P : Row → Type 0) (rows : List Row) (b : ℕ) (new : Row) → P new → ((k : ℕ) (r : Row) → slice_get rows k ≡ Some r → k ≢ b → P r) → All P (slice_set rows b new)
+rows-set P [] b new here each = All-nil P
+rows-set P (r ∷ rows) zero new here each = All-cons P new rows here (rows-each P rows (λ k x is. each (suc k) x is (λ e. absurd (omega (arith, e)))))
+rows-set P (r ∷ rows) (suc b) new here each =
+    All-cons P r (slice_set rows b new) (each 0 r refl (λ e. absurd (omega (arith, e))))
+    (rows-set P rows b new here (λ k x is other. each (suc k) x is (λ e. other (omega (arith, e)))))
