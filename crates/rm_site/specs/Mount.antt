@@ -22,13 +22,16 @@ first_lost w i s f (d ∷ ds) (x ∷ xs) = if exists w i s d && is_none x then S
 abbrev pub lost_at : Parts → ℕ → Option ℕ
 lost_at p s = first_lost p.world p.current s 1 p.world.files p.place
 
--- The mounted database: what stands in place stands at `now`. That is a point, where nothing on the
--- current path is lost.
+-- The point of an open database that is mounted: `now`, where nothing on the current path is lost.
+abbrev pub mount_point : Parts → Option ℕ
+mount_point p = if is_none (lost_at p (now_of p)) then Some (now_of p) else None
+
+-- the mounted database: what stands in place stands at `now`
 abbrev pub mounted : Parts → Parts
 mounted p =
     record p {
       is_open = false;
-      point = if is_none (lost_at p (now_of p)) then Some (now_of p) else None;
+      point = mount_point p;
       place = map (option_map (λ x. standing x p.current (now_of p))) p.place;
     }
 

@@ -1,25 +1,38 @@
 //! SHUTDOWN and STARTUP MOUNT
 ghost use Rattle.std.specs.Prelude.{◌≡◌, IfOk, Some, true};
 ghost use Rattle.rm_lang.specs.declared.command.Command.TheVariants.{Mount};
-ghost use Rattle.rm_site.specs.Mount.{mounted};
+ghost use Rattle.rm_site.specs.Mount.{mount_point, mounted};
 ghost use Rattle.rm_site.specs.Step.{Steps};
 
 use crate::database::Database;
 use crate::place::stand_all;
 use crate::site::{Stop, reply_of};
+use rm_base::Scn;
 use rm_report::{Line, Reply};
 use std::alloc::Global;
 
 impl Database {
+    // The point of the open database, where it is mounted.
+    fn mount_point(&self) -> Option<Scn>
+        ensures { result ≡ mount_point self.now }
+    {
+        let now = self.now();
+        if self.lost_at(now).is_none() {
+            Some(now)
+        } else {
+            None
+        }
+    }
+
     // Mounts the open database.
     fn mount(&mut self)
         requires { self.old.is_open ≡ true }
         ensures { self.new ≡ mounted self.old }
     {
         let now = self.now();
-        let lost = self.lost_at(now);
+        let point = self.mount_point();
         stand_all(&mut self.place, self.current, now);
-        self.point = if lost.is_none() { Some(now) } else { None };
+        self.point = point;
         self.is_open = false;
     }
 }

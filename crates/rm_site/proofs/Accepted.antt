@@ -1,0 +1,113 @@
+-- What is true where a statement is not refused.
+use Rattle.std.proofs.Common.{◌≡◌, ◌<◌, ◌≤◌, ◌+◌, ◌-◌, ◌∙◌, ◌==◌, ◌&&◌, ◌||◌, not, ℕ, suc, zero, List, [], ◌∷◌, Option, Some, None, Bool, true, false, cond, refl, ap, sym, subst, arith, length, nat_lt, nat_le, slice_get}
+use Rattle.std.specs.List.{list_any}
+use Rattle.std.specs.Option.{option_map_or}
+use Rattle.std.proofs.lemmas.Bool.{eqb-true}
+use Rattle.std.proofs.lemmas.Bool.Decides.{nat_tests}
+use Rattle.rm_base.specs.declared.refusal.Refusal.{Refusal}
+use Rattle.rm_base.specs.declared.refusal.Refusal.TheVariants.{Rm06, Rm10, Rm11}
+use Rattle.rm_base.specs.declared.refusal.Limit.TheVariants.{Incarnations, ObjectIds, Sequences}
+use Rattle.rm_history.specs.declared.tree.Incarnation.{Incarnation}
+use Rattle.rm_history.specs.Tree.{reset_of, end_of}
+use Rattle.rm_redo.specs.declared.online.ThreadLog.{ThreadLog}
+use Rattle.rm_redo.specs.Online.{IsThread, IsLost}
+use Rattle.rm_site.specs.Archiving.{archive_refusal}
+use Rattle.rm_site.specs.Open.{is_recovered, open_refusal, branch_refusal, resetlogs_refusal}
+use Rattle.rm_site.specs.Parts.{Parts, now_of}
+use Rattle.rm_site.specs.Recover.{recover_refusal, or_else}
+use Rattle.rm_site.specs.Recovery.{until_refusal}
+use Rattle.rm_site.proofs.Sound.{closed-accepted}
+
+-- a database that can be opened as it is
+pub record IsRecovered (p : Parts) : Type 0 where
+  pub closed : p.is_open ≡ false
+  pub point : p.point ≡ Some (now_of p)
+  pub found : (t : ℕ) → IsThread p.logs t → ¬ IsLost p.logs t
+  pub inc : p.logs.inc ≡ p.current
+
+both : (a b : Bool) → (a && b) ≡ true → (a ≡ true) × (b ≡ true)
+both true b e = (refl, e)
+both false b e = absurd (cc)
+
+not-true : (a : Bool) → not a ≡ true → a ≡ false
+not-true true e = absurd (cc)
+not-true false e = refl
+
+-- none is lost where not any is
+none-lost : (ls : List ThreadLog) (k : ℕ) → list_any (λ l. l.is_lost) ls ≡ false → ¬ (option_map_or (λ l. l.is_lost) (slice_get ls k) false ≡ true)
+none-lost [] k any e = absurd (cc)
+none-lost (l ∷ ls) zero any e = absurd (let head : l.is_lost ≡ true = e in clash l.is_lost (list_any (λ m. m.is_lost) ls) head any)
+  where
+    clash : (a b : Bool) → a ≡ true → (a || b) ≡ false → ⊥
+    clash true b t f = absurd (cc)
+    clash false b t f = absurd (cc)
+none-lost (l ∷ ls) (suc k) any e = none-lost ls k (rest l.is_lost (list_any (λ m. m.is_lost) ls) any) e
+  where
+    rest : (a b : Bool) → (a || b) ≡ false → b ≡ false
+    rest true b f = absurd (cc)
+    rest false b f = f
+
+at-now : (o : Option ℕ) (n : ℕ) → option_map_or (λ s. s == n) o false ≡ true → o ≡ Some n
+at-now None n e = absurd (cc)
+at-now (Some s) n e = ap Some (eqb-true s n e)
+
+recovered-by : (b : Bool) → cond b None (Some Rm10) ≡ None → b ≡ true
+recovered-by true e = refl
+recovered-by false e = absurd (cc)
+
+pub open-recovered : (p : Parts) → open_refusal p ≡ None → IsRecovered p
+open-recovered p e =
+    let mode = closed-accepted p (cond (is_recovered p) None (Some Rm10)) e in
+    let all = both (option_map_or (λ s. s == now_of p) p.point false && not (list_any (λ l. l.is_lost) p.logs.threads)) (p.logs.inc == p.current) (recovered-by (is_recovered p) mode.1) in
+    let two = both (option_map_or (λ s. s == now_of p) p.point false) (not (list_any (λ l. l.is_lost) p.logs.threads)) all.0 in
+    record {
+      closed = mode.0;
+      point = at-now p.point (now_of p) two.0;
+      found = λ t there. none-lost p.logs.threads (t - 1) (not-true (list_any (λ l. l.is_lost) p.logs.threads) two.1);
+      inc = eqb-true p.logs.inc p.current all.1;
+    }
+
+-- a target in range
+pub record InRange (p : Parts) (s : ℕ) : Type 0 where
+  pub closed : p.is_open ≡ false
+  pub low : reset_of p.world.tree p.current ≤ s
+  pub high : s ≤ now_of p
+
+first-none : (a b : Option Refusal) → or_else a b ≡ None → a ≡ None
+first-none None b e = refl
+first-none (Some r) b e = absurd (cc)
+
+range-by : (a b : Bool) (r : Refusal) → cond (a || b) (Some r) None ≡ None → (a ≡ false) × (b ≡ false)
+range-by true b r e = absurd (cc)
+range-by false true r e = absurd (cc)
+range-by false false r e = (refl, refl)
+
+not-lt : (a b : ℕ) → nat_lt a b ≡ false → b ≤ a
+not-lt a b e = grind (arith, nat_tests)
+
+pub recover-accepted : (p : Parts) (s : ℕ) → recover_refusal p s ≡ None → InRange p s
+recover-accepted p s e =
+    let mode = closed-accepted p _ e in
+    let until : until_refusal p.world.tree p.current s ≡ None = first-none _ _ mode.1 in
+    let range = range-by (nat_lt s (reset_of p.world.tree p.current)) (nat_lt (end_of p.world.tree p.current) s) _ until in
+    record { closed = mode.0; low = not-lt s (reset_of p.world.tree p.current) range.0; high = not-lt (end_of p.world.tree p.current) s range.1 }
+
+-- OPEN RESETLOGS at a point
+pub record CanBranch (p : Parts) (s : ℕ) : Type 0 where
+  pub closed : p.is_open ≡ false
+  pub few : length p.world.tree < 256
+  pub archive : archive_refusal p 1 p.world.threads ≡ None
+
+few-by : (b : Bool) (other : Option Refusal) → cond b (Some (Rm11 Incarnations)) other ≡ None → (b ≡ false) × (other ≡ None)
+few-by true other e = absurd (cc)
+few-by false other e = (refl, e)
+
+not-le : (a b : ℕ) → nat_le a b ≡ false → b < a
+not-le a b e = grind (arith, nat_tests)
+
+pub branch-accepted : (p : Parts) (s : ℕ) → p.point ≡ Some s → resetlogs_refusal p ≡ None → CanBranch p s
+branch-accepted p s at e =
+    let mode = closed-accepted p _ e in
+    let branch : branch_refusal p s ≡ None = subst (λ (o : Option ℕ). option_map_or (branch_refusal p) o (Some Rm10) ≡ None) at mode.1 in
+    let few = few-by (nat_le 256 (length p.world.tree)) (archive_refusal p 1 p.world.threads) branch in
+    record { closed = mode.0; few = not-le 256 (length p.world.tree) few.0; archive = few.1 }
