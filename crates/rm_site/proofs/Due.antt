@@ -2,7 +2,7 @@
 use Rattle.std.proofs.Common.{◌≡◌, ◌≢◌, ◌<◌, ◌≤◌, ◌+◌, ◌-◌, ◌∙◌, ◌&&◌, ◌||◌, ℕ, zero, suc, List, Some, None, true, false, Bool, cond, refl, ap, sym, subst, arith, leb, length, get_or, take, slice_get}
 use Rattle.std.specs.List.{list_any}
 use Rattle.std.specs.Option.{option_map_or}
-use Rattle.std.proofs.lemmas.List.Folds.{list_any_more}
+use Rattle.std.proofs.lemmas.List.Folds.{list_any_more, list_any_at}
 use Rattle.std.proofs.lemmas.Option.{slice_get-get_or}
 use Rattle.rm_redo.specs.declared.online.ThreadLog.{ThreadLog}
 use Rattle.rm_redo.specs.Logs.{Logs}
@@ -34,3 +34,11 @@ lost-more logs t d there here none =
     let e : i + 1 ≡ t = omega (arith, there.0) in
     subst (λ n. list_any (λ x. x.is_lost) (take n logs.threads) ≡ false) e
     (list_any_more (λ x. x.is_lost) logs.threads i d inside ∙ found-by (list_any (λ x. x.is_lost) (take i logs.threads)) l.is_lost kept none)
+
+-- a log that is lost is found
+pub lost-found : (logs : Logs) (t : ℕ) (d : ThreadLog) → IsThread logs t → IsLost logs t → list_any (λ l. l.is_lost) logs.threads ≡ true
+lost-found logs t d there lost =
+    let i = t - 1 in
+    let inside : i < length logs.threads = omega (arith, there.0, there.1) in
+    let at : slice_get logs.threads i ≡ Some (get_or logs.threads i d) = slice_get-get_or logs.threads i d inside in
+    list_any_at (λ l. l.is_lost) logs.threads i d inside (sym (ap (λ o. option_map_or (λ x. x.is_lost) o false) at) ∙ lost)

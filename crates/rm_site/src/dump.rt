@@ -22,7 +22,7 @@ impl Database {
         };
         if block >= u64::from(datafile.blocks) {
             Some(Refusal::Rm05(Absent::Block { block, file }))
-        } else if self.placed(file).is_none() {
+        } else if self.is_missing(file) {
             Some(Refusal::Rm09 { file: file as u32 })
         } else {
             None

@@ -1,5 +1,5 @@
 //! What stands in place of the datafiles.
-ghost use Rattle.std.specs.Prelude.{◌≡◌, ◌<◌, ◌≤◌, map, length, All, IfSome};
+ghost use Rattle.std.specs.Prelude.{◌≡◌, ◌<◌, ◌≤◌, map, length, is_none, All, IfSome};
 ghost use Rattle.std.specs.Option.{option_map, option_copied};
 ghost use Rattle.rm_blocks.specs.File.{standing};
 ghost use Rattle.rm_history.specs.Tree.{IsThere};
@@ -70,6 +70,14 @@ impl Database {
     {
         let index = usize::try_from(number - 1).ok()?;
         self.place.get(index)?.as_ref()
+    }
+
+    /// Whether nothing stands in place of the datafile of this number.
+    pub(crate) fn is_missing(&self, number: u64) -> bool
+        requires { 0 < number }
+        ensures { result ≡ is_none (placed self.now number) }
+    {
+        self.placed(number).is_none()
     }
 
     /// The datafile of this number, where it is on the current path.

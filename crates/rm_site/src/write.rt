@@ -15,6 +15,17 @@ use rm_lang::WriteForm;
 use rm_report::{Line, Reply};
 use std::alloc::Global;
 
+// Puts the change into its row of the datafile, where that is in place.
+fn write_row(slot: &mut Option<DataFile>, form: &WriteForm, scn: Scn)
+    requires block { form.now.block < 65536 }
+    requires above { IfSome slot.old (λ x. IfSome (slice_get x.rows form.now.block) (λ r. r.version < scn)) }
+    ensures { slot.new ≡ option_map (λ x. written x form.now.block scn form.now.content) slot.old }
+{
+    if let Some(file) = slot {
+        file.write(form.block as u32, scn, form.content);
+    }
+}
+
 // Puts the change into its row in place.
 fn put_row(place: &mut Vec<Option<DataFile>>, form: &WriteForm, scn: Scn)
     requires file { 0 < form.now.file }
@@ -22,8 +33,9 @@ fn put_row(place: &mut Vec<Option<DataFile>>, form: &WriteForm, scn: Scn)
     requires above { IfSome (slice_index_or place.old.items (form.now.file - 1) None) (λ x. IfSome (slice_get x.rows form.now.block) (λ r. r.version < scn)) }
     ensures { place.new.items ≡ slice_set place.old.items (form.now.file - 1) (option_map (λ x. written x form.now.block scn form.now.content) (slice_index_or place.old.items (form.now.file - 1) None)) }
 {
-    if let Some(Some(file)) = place.get_mut(form.file as usize - 1) {
-        file.write(form.block as u32, scn, form.content);
+    let index = form.file as usize - 1;
+    if index < place.len() {
+        write_row(&mut place[index], form, scn);
     }
 }
 
@@ -41,7 +53,7 @@ impl Database {
                 block: form.block,
                 file: form.file,
             }))
-        } else if self.placed(form.file).is_none() {
+        } else if self.is_missing(form.file) {
             Some(Refusal::Rm09 {
                 file: form.file as u32,
             })
