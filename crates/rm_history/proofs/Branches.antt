@@ -4,12 +4,8 @@ use Rattle.std.specs.Option.{option_map_or}
 use Rattle.std.proofs.lemmas.Bool.{ne_eqb, cases_lt}
 use Rattle.rm_history.specs.declared.tree.Incarnation.{Incarnation}
 use Rattle.rm_history.specs.Tree.{HasParentsBelow, IsThere, IsTree, incarnation, owner, parent_of, reset_of, end_of, branched, with_branch}
+use Rattle.rm_history.proofs.Members.{slice_get-front}
 use Rattle.rm_history.proofs.Owners.{parent-none, owner-none, owner-here, owner-above, owner-cases}
-
-slice_get-left : (xs : List Incarnation) (x : Incarnation) (k : ℕ) → k < length xs → slice_get (xs ++ x ∷ []) k ≡ slice_get xs k
-slice_get-left [] x k inside = absurd (omega arith)
-slice_get-left (y ∷ ys) x zero inside = refl
-slice_get-left (y ∷ ys) x (suc k) inside = slice_get-left ys x k (omega arith)
 
 slice_get-last : (xs : List Incarnation) (x : Incarnation) (k : ℕ) → k ≡ length xs → slice_get (xs ++ x ∷ []) k ≡ Some x
 slice_get-last [] x zero is = refl
@@ -26,7 +22,7 @@ length-with_branch tree p at = omega (arith, length-append tree (branched p at �
 -- those that were there stay
 pub incarnation-with_branch : (tree : List Incarnation) (p at i : ℕ) → IsThere tree i → incarnation (with_branch tree p at) i ≡ incarnation tree i
 incarnation-with_branch tree p at i there =
-    at-number (with_branch tree p at) i there.0 ∙ slice_get-left tree (branched p at) (i - 1) (omega arith) ∙ sym (at-number tree i there.0)
+    at-number (with_branch tree p at) i there.0 ∙ slice_get-front tree (branched p at) (i - 1) (omega arith) ∙ sym (at-number tree i there.0)
 
 -- the new one is the last
 pub incarnation-branched : (tree : List Incarnation) (p at : ℕ) → incarnation (with_branch tree p at) (length tree + 1) ≡ Some (branched p at)

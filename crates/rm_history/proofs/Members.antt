@@ -1,5 +1,5 @@
 -- Members of lists.
-use Rattle.std.proofs.Common.{◌≡◌, ◌⊎◌, ◌∙◌, inl, inr, zero, suc, List, [], ◌∷◌, ◌++◌, refl, subst, arith, length, length-append, slice_index_or, Contains, AllPairs}
+use Rattle.std.proofs.Common.{◌≡◌, ◌<◌, ◌⊎◌, ◌∙◌, inl, inr, ℕ, zero, suc, List, [], ◌∷◌, ◌++◌, refl, subst, arith, length, length-append, slice_get, slice_index_or, Contains, AllPairs}
 use Rattle.std.proofs.lemmas.List.{get_or_append_left}
 use Rattle.std.proofs.Math.Seq.{get_or-append_seam}
 use Rattle.std.proofs.lemmas.List.Elements.{Contains-append_right}
@@ -31,3 +31,9 @@ AllPairs-last R xs y x all (k, inside, is) =
     let long = length-append xs (y ∷ []) in
     subst (λ z. R z y) (get_or_append_left xs (y ∷ []) x k inside ∙ is)
     (subst (λ z. R (slice_index_or (xs ++ y ∷ []) k x) z) (get_or-append_seam xs y [] x) (all k (length xs) x inside (omega (arith, long))))
+
+-- an item more at the end leaves those in front
+pub slice_get-front : {X : Type 0} (xs : List X) (x : X) (k : ℕ) → k < length xs → slice_get (xs ++ x ∷ []) k ≡ slice_get xs k
+slice_get-front [] x k inside = absurd (omega arith)
+slice_get-front (y ∷ ys) x zero inside = refl
+slice_get-front (y ∷ ys) x (suc k) inside = slice_get-front ys x k (omega arith)

@@ -1,5 +1,5 @@
 -- What stays true where the tree gains an incarnation, an end rises, or a datafile is added.
-use Rattle.std.proofs.Common.{◌≡◌, ◌<◌, ◌≤◌, ◌+◌, ◌-◌, ◌∙◌, ◌&&◌, ◌==◌, inl, inr, nat_lt, ℕ, zero, suc, List, [], ◌∷◌, ◌++◌, Option, None, false, cond, refl, ap, sym, subst, arith, eqb, length, slice_get}
+use Rattle.std.proofs.Common.{◌≡◌, ◌<◌, ◌≤◌, ◌+◌, ◌-◌, ◌∙◌, ◌&&◌, ◌==◌, inl, inr, nat_lt, ℕ, zero, suc, List, Option, None, false, cond, refl, ap, sym, subst, arith, eqb, length}
 use Rattle.std.specs.Option.{option_map_or}
 use Rattle.std.proofs.lemmas.Bool.{and_left, and_right, cases_lt, le-ltb}
 use Rattle.rm_base.specs.Content.{zero_block}
@@ -16,6 +16,7 @@ use Rattle.rm_history.specs.Agrees.{BaseAgrees, Level1Agrees}
 use Rattle.rm_history.proofs.Branches.{IsThere-with_branch, reset_of-with_branch, owner-with_branch, owner-branched_below}
 use Rattle.rm_history.proofs.Ends.{owner-with_end}
 use Rattle.rm_history.proofs.Histories.{latest-same, state-with_end}
+use Rattle.rm_history.proofs.Members.{slice_get-front}
 
 -- what a last change makes of a block, with the creation of its file
 abbrev made_row : ℕ → Option Change → ℕ → Row
@@ -118,11 +119,6 @@ pub Level1Agrees-with_end : (w : World) (j end : ℕ) (h : List Change) (a : Lev
 Level1Agrees-with_end w j end h a there = Level1Agrees-alike (with_tree w (with_end w.tree j end)) w h a (λ s b. state-with_end w j end h a.inc s a.file b there) refl
 
 -- A datafile is added.
-slice_get-front : (xs : List Datafile) (x : Datafile) (k : ℕ) → k < length xs → slice_get (xs ++ x ∷ []) k ≡ slice_get xs k
-slice_get-front [] x k inside = absurd (omega arith)
-slice_get-front (y ∷ ys) x zero inside = refl
-slice_get-front (y ∷ ys) x (suc k) inside = slice_get-front ys x k (omega arith)
-
 pub file_of-kept : (w : World) (new : Datafile) (f : ℕ) → f ≤ length w.files → file_of (with_file w new) f ≡ file_of w f
 file_of-kept w new zero inside = refl
 file_of-kept w new (suc f) inside = ap (λ o. cond (eqb (suc f) 0) None o) (slice_get-front w.files new (suc f - 1) (omega arith))
