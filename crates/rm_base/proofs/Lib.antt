@@ -1,4 +1,4 @@
-pub mod Answers
+pub mod Clocks
 pub mod Contents
 pub mod Names
 pub mod Sealing

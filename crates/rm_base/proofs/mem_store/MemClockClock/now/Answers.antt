@@ -1,5 +1,5 @@
 use Rattle.std.proofs.Common.{rules}
-use Rattle.rm_base.proofs.Answers.{answers-later}
+use Rattle.rm_base.proofs.Clocks.{answers-later}
 use Rattle.rm_base.proofs.mem_store.MemClockClock.now.Goals as goal
 
 pub returns-then-self-len-clause-later : goal.returns-then-self-len-clause-later
