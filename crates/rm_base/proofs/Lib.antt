@@ -1,4 +1,5 @@
 pub mod Contents
+pub mod Items
 pub mod Sealing
 pub mod Streams
 pub mod Wide

@@ -1,7 +1,9 @@
 pub mod Content
 pub mod Failing
+pub mod Formats
 pub mod MemSink
 pub mod MemSource
 pub mod Number
 pub mod Numbers
 pub mod Outside
+pub mod Sealed

@@ -2,6 +2,7 @@
 #![tactic(auto)]
 
 pub mod block;
+pub mod bytes;
 pub mod faults;
 pub mod kinds;
 pub mod memory;
