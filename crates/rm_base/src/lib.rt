@@ -9,6 +9,7 @@ pub mod memory;
 pub mod number;
 pub mod numbers;
 pub mod outside;
+pub mod ranges;
 pub mod refusal;
 pub mod sealed;
 pub mod seq;

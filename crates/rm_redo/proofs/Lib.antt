@@ -1,1 +1,3 @@
+pub mod LogBodies
+pub mod LogFitting
 pub mod Logs
