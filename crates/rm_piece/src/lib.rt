@@ -13,3 +13,6 @@ pub use reading::decode_piece;
 pub use rows::{high_of, pick};
 pub use valid::is_valid;
 pub use writing::encode_piece;
+
+#[cfg(test)]
+mod tests;
