@@ -15,4 +15,6 @@ pub use log_writing::encode_log;
 pub use online::{LogFault, LogRecord, OnlineLogs, ThreadLog};
 
 #[cfg(test)]
+mod log_tests;
+#[cfg(test)]
 mod tests;
