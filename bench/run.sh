@@ -1,5 +1,22 @@
 #!/bin/sh
-# Proves and builds rm_bench, and tells the times of each kernel beside a plain loop.
+# Proves and builds rm_bench, and tells the times of each kernel beside a plain loop, and of the bytes
+# of a piece and a log beside SHA-256 alone. Then it tells the time of sha256sum on a file of the size
+# of the largest piece, read 20 times in one run.
 set -eu
 cd "$(dirname "$0")/../crates/rm_bench"
-exec rt run -- large
+rt run -- large
+
+size=4980818
+file=$(mktemp)
+trap 'rm -f "$file"' EXIT
+head -c "$size" /dev/urandom > "$file"
+files=
+for _ in 1 2 3 4 5 6 7 8 9 10 11 12 13 14 15 16 17 18 19 20; do
+    files="$files $file"
+done
+start=$(date +%s%N)
+# shellcheck disable=SC2086
+sha256sum $files > /dev/null
+end=$(date +%s%N)
+micros=$(((end - start) / 20000))
+echo "sha256sum: $size bytes, $micros us, $((size / micros)) MB/s"

@@ -1,5 +1,6 @@
 pub mod Clocks
 pub mod Contents
+pub mod Items
 pub mod Names
 pub mod Sealing
 pub mod Streams

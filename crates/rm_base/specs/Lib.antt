@@ -1,9 +1,11 @@
 pub mod Content
 pub mod Failing
+pub mod Formats
 pub mod MemSink
 pub mod MemSource
 pub mod MemStore
 pub mod Number
 pub mod Numbers
 pub mod Outside
+pub mod Sealed
 pub mod Store

@@ -2,6 +2,7 @@
 #![tactic(auto)]
 
 pub mod block;
+pub mod bytes;
 pub mod faults;
 pub mod kinds;
 pub mod mem_store;
@@ -9,6 +10,7 @@ pub mod memory;
 pub mod number;
 pub mod numbers;
 pub mod outside;
+pub mod ranges;
 pub mod refusal;
 pub mod sealed;
 pub mod seq;

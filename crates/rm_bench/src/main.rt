@@ -1,13 +1,18 @@
-//! Runs each kernel beside a plain loop: with no word it tells whether both gave the same, and
-//! with the word `large` it tells the time of both.
+//! Runs each kernel beside a plain loop, and makes and reads the bytes of a piece and of a log: with
+//! no word it tells whether both gave the same, and with the word `large` it tells the times.
 #![tactic(auto)]
 
+mod format;
+mod formats;
 mod kernel;
 mod kernels;
 mod plain;
 
+use format::Format;
 use kernel::Kernel;
 use kernels::{CountOnes, IsZero, NextSet, OrInto, Same};
+use rm_piece::Piece;
+use rm_redo::LogFile;
 use std::time::Instant;
 use std::{env, io};
 
@@ -20,7 +25,9 @@ fn main(rt: HostRuntime) -> io::Result<()> {
     run::<CountOnes>(&rt, "count_ones", large)?;
     run::<NextSet>(&rt, "next_set", large)?;
     run::<IsZero>(&rt, "is_zero", large)?;
-    run::<Same>(&rt, "same", large)
+    run::<Same>(&rt, "same", large)?;
+    run_format::<Piece>(&rt, "piece", large)?;
+    run_format::<LogFile>(&rt, "log", large)
 }
 
 fn run<K: Kernel>(rt: &HostRuntime, name: &str, large: bool) -> io::Result<()> {
@@ -28,6 +35,16 @@ fn run<K: Kernel>(rt: &HostRuntime, name: &str, large: bool) -> io::Result<()> {
         tell_times::<K>(rt, name)
     } else {
         tell_answers::<K>(rt, name)
+    }
+}
+
+fn run_format<F: Format>(rt: &HostRuntime, name: &str, large: bool) -> io::Result<()> {
+    if large {
+        formats::tell_speed::<F>(rt, name, 32768)?;
+        formats::tell_speed::<F>(rt, name, 65536)
+    } else {
+        let same = formats::comes_back::<F>(rt, 100)?;
+        tell(rt, name, same)
     }
 }
 

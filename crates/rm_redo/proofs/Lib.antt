@@ -1,2 +1,4 @@
 pub mod Changes
+pub mod LogBodies
+pub mod LogFitting
 pub mod Logs

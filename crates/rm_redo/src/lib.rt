@@ -2,10 +2,19 @@
 #![tactic(auto)]
 
 pub mod log_file;
+pub mod log_laws;
+pub mod log_reading;
+pub mod log_valid;
+pub mod log_writing;
 pub mod online;
 
 pub use log_file::LogFile;
+pub use log_reading::decode_log;
+pub use log_valid::is_valid_log;
+pub use log_writing::encode_log;
 pub use online::{LogFault, LogRecord, OnlineLogs, ThreadLog};
 
+#[cfg(test)]
+mod log_tests;
 #[cfg(test)]
 mod tests;
