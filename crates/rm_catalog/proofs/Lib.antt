@@ -1,6 +1,9 @@
 pub mod Counts
+pub mod Filters
 pub mod Firsts
 pub mod Found
 pub mod Owners
+pub mod Passing
+pub mod Stable
 pub mod Told
 pub mod Unique

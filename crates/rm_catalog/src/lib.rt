@@ -2,14 +2,17 @@
 #![tactic(auto)]
 
 pub mod catalog;
+mod edits;
 mod facts;
 mod find;
+pub mod keeper;
 mod objects;
 pub mod record;
 mod rules;
 mod saved;
 
 pub use catalog::{Catalog, CatalogFault};
+pub use keeper::{Keeper, KeeperFail, MemKeeper};
 pub use record::{
     BaseEntry, DatafileEntry, Edit, HeadEntry, IncarnationEntry, Key, LogEntry, MarkEntry,
     PartEntry, PieceEntry, Record,
