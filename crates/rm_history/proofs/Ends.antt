@@ -1,10 +1,10 @@
 -- Another end of an incarnation changes no parent, no resetlogs SCN and no owner.
-use Rattle.std.proofs.Common.{◌≡◌, ◌<◌, ◌-◌, ◌∙◌, nat_le, ℕ, zero, suc, List, [], ◌∷◌, Option, Some, None, Bool, true, false, cond, unwrap_or, find, refl, ap, sym, subst, arith, eqb, length, slice_get, slice_set}
+use Rattle.std.proofs.Common.{◌≡◌, ◌<◌, ◌≤◌, ◌-◌, ◌∙◌, nat_le, ℕ, zero, suc, List, [], ◌∷◌, Option, Some, None, Bool, true, false, cond, unwrap_or, find, refl, ap, sym, subst, arith, eqb, length, slice_get, slice_set}
 use Rattle.std.specs.Option.{option_map_or}
 use Rattle.std.proofs.lemmas.Bool.{ne_eqb}
 use Rattle.std.proofs.lemmas.List.{length-set}
 use Rattle.rm_history.specs.declared.tree.Incarnation.{Incarnation}
-use Rattle.rm_history.specs.Tree.{HasParentsBelow, IsThere, owner, ancestors, parent_of, reset_of, path, incarnation, with_end}
+use Rattle.rm_history.specs.Tree.{HasParentsBelow, IsThere, IsTree, owner, ancestors, parent_of, reset_of, path, incarnation, with_end}
 
 -- an item that is replaced by one with the same number leaves the numbers as they were
 set-alike : (number : Incarnation → ℕ) (tree : List Incarnation) (k i : ℕ) (new : Incarnation) → option_map_or number (slice_get tree k) 0 ≡ number new → option_map_or number (slice_get (slice_set tree k new) i) 0 ≡ option_map_or number (slice_get tree i) 0
@@ -40,6 +40,23 @@ IsThere-with_end tree j end i there =
 
 pub HasParentsBelow-with_end : (tree : List Incarnation) (j end : ℕ) → IsThere tree j → HasParentsBelow tree → HasParentsBelow (with_end tree j end)
 HasParentsBelow-with_end tree j end there below i h = subst (λ p. p < i) (sym (parent_of-with_end tree j end i there)) (below i h)
+
+-- and the tree stays one
+pub IsTree-with_end : (tree : List Incarnation) (j end : ℕ) → IsThere tree j → IsTree tree → IsTree (with_end tree j end)
+IsTree-with_end tree j end there is =
+    let long : length (with_end tree j end) ≡ length tree = length-set tree (j - 1) (record { parent = parent_of tree j; reset = reset_of tree j; end = end }) in
+    record {
+      some = let some = is.some in omega (arith, long, some);
+      few = let few = is.few in omega (arith, long, few);
+      parents = HasParentsBelow-with_end tree j end there is.parents;
+      rooted = λ i above inside. subst (λ p. 0 < p) (sym (parent_of-with_end tree j end i there)) (is.rooted i above (omega (arith, long)));
+      ascends = λ i at.
+          let inside = at.1 in
+          let parent = ap (reset_of (with_end tree j end)) (parent_of-with_end tree j end i there) ∙ reset_of-with_end tree j end (parent_of tree i) there in
+          let reset = reset_of-with_end tree j end i there in
+          let rising : reset_of tree (parent_of tree i) ≤ reset_of tree i = is.ascends i (at.0, omega (arith, long, inside)) in
+          omega (arith, parent, reset, rising);
+    }
 
 -- trees of the same parents have the same paths
 pub ancestors-same : (t u : List Incarnation) → ((i : ℕ) → parent_of t i ≡ parent_of u i) → (most i : ℕ) → ancestors most t i ≡ ancestors most u i

@@ -10,7 +10,7 @@ use Rattle.rm_base.specs.declared.block.Row.{Row}
 use Rattle.rm_history.specs.declared.world.Datafile.{Datafile}
 use Rattle.rm_history.specs.declared.world.World.{World}
 use Rattle.rm_history.specs.Tree.{IsThere, with_end}
-use Rattle.rm_history.specs.World.{file_of}
+use Rattle.rm_history.specs.World.{file_of, with_tree, with_file}
 use Rattle.rm_history.specs.History.{IsChange, IsHistory, SamePlace}
 use Rattle.rm_history.specs.State.{concerns, later, latest, state}
 use Rattle.rm_history.proofs.States.{row_of}
@@ -18,11 +18,11 @@ use Rattle.rm_history.proofs.Ends.{owner-with_end, reset_of-with_end, IsThere-wi
 
 -- the database with another end of an incarnation
 abbrev pub world-with_end : World → ℕ → ℕ → World
-world-with_end w j end = record w { tree = with_end w.tree j end }
+world-with_end w j end = with_tree w (with_end w.tree j end)
 
 -- the database with a datafile more
 abbrev pub world-with_file : World → Datafile → World
-world-with_file w d = record w { files = w.files ++ d ∷ [] }
+world-with_file w d = with_file w d
 
 slice_get-push : (xs : List Datafile) (y x : Datafile) (k : ℕ) → slice_get xs k ≡ Some x → slice_get (xs ++ y ∷ []) k ≡ Some x
 slice_get-push [] y x k is = absurd (cc)
@@ -91,7 +91,7 @@ pub IsHistory-push_above : (w : World) (h : List Change) (c : Change) → IsHist
 IsHistory-push_above w h c is new above =
     IsHistory-push w h c is new (λ d held same. let less : d.scn < c.scn = All-contains (λ d. d.scn < c.scn) h d above held in let met = same.scn in absurd (omega (arith, less, met)))
 
-latest-same : (p q : Change → Bool) → ((c : Change) → p c ≡ q c) → (h : List Change) → latest p h ≡ latest q h
+pub latest-same : (p q : Change → Bool) → ((c : Change) → p c ≡ q c) → (h : List Change) → latest p h ≡ latest q h
 latest-same p q same [] = refl
 latest-same p q same (c ∷ cs) =
     ap (λ b. cond b (Some (later c (latest p cs))) (latest p cs)) (same c)

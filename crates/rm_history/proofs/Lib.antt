@@ -1,4 +1,11 @@
+pub mod Branches
 pub mod Ends
+pub mod Growth
+pub mod Highs
 pub mod Histories
+pub mod Members
 pub mod Owners
+pub mod Paths
+pub mod Shared
 pub mod States
+pub mod Worlds

@@ -1,10 +1,9 @@
 -- The last change of a block, and what it makes of it.
-use Rattle.std.proofs.Common.{◌≡◌, ◌<◌, ◌≤◌, ◌∙◌, ◌==◌, ◌&&◌, ◌⊎◌, inl, inr, nat_lt, ℕ, zero, suc, List, [], ◌∷◌, ◌++◌, Option, Some, None, Bool, true, false, cond, refl, ap, sym, subst, arith, Contains, AllPairs, slice_index_or}
+use Rattle.std.proofs.Common.{◌≡◌, ◌<◌, ◌≤◌, ◌∙◌, ◌==◌, ◌&&◌, ◌⊎◌, ◌↔◌, inl, inr, nat_lt, ℕ, List, [], ◌∷◌, ◌++◌, Option, Some, None, Bool, true, false, cond, refl, ap, sym, subst, arith, Contains, AllPairs, slice_index_or}
 use Rattle.std.specs.Option.{option_map_or}
-use Rattle.std.proofs.lemmas.Bool.{eqb-true, cases_lt}
+use Rattle.std.proofs.lemmas.Bool.{eqb-true, eq-eqb, lt-ltb, cases_lt}
 use Rattle.std.proofs.lemmas.Bool.Decides.{nat_tests}
 use Rattle.std.proofs.lemmas.List.{get_or_default}
-use Rattle.std.proofs.lemmas.List.Elements.{Contains-append_right}
 use Rattle.rm_base.specs.Content.{zero_block}
 use Rattle.rm_base.specs.declared.block.Block.{Block}
 use Rattle.rm_base.specs.declared.block.Change.{Change}
@@ -13,7 +12,8 @@ use Rattle.rm_history.specs.declared.world.World.{World}
 use Rattle.rm_history.specs.Tree.{owner}
 use Rattle.rm_history.specs.World.{creation_of}
 use Rattle.rm_history.specs.History.{IsHistory, SamePlace}
-use Rattle.rm_history.specs.State.{concerns, later, latest, IsState}
+use Rattle.rm_history.specs.State.{concerns, later, latest, last_change, state, IsState}
+use Rattle.rm_history.proofs.Members.{in-front, behind, first-or-rest}
 
 -- a change of the list that passes, and above which none that passes lies
 pub record IsGreatest (p : Change → Bool) (h : List Change) (d : Change) : Type 0 where
@@ -25,17 +25,6 @@ pub record IsGreatest (p : Change → Bool) (h : List Change) (d : Change) : Typ
 abbrev pub IsLatest : (Change → Bool) → List Change → Option Change → Type 0
 IsLatest p h None = (c : Change) → Contains h c → ¬ (p c ≡ true)
 IsLatest p h (Some d) = IsGreatest p h d
-
-in-front : (c : Change) (cs : List Change) → Contains (c ∷ cs) c
-in-front c cs = (0, omega arith, refl)
-
-behind : (c : Change) (cs : List Change) (d : Change) → Contains cs d → Contains (c ∷ cs) d
-behind c cs d is = Contains-append_right (c ∷ []) cs d is
-
--- an item of a list is its first, or one of the rest
-first-or-rest : (c : Change) (cs : List Change) (d : Change) → Contains (c ∷ cs) d → (c ≡ d) ⊎ Contains cs d
-first-or-rest c cs d (zero, inside, is) = inl is
-first-or-rest c cs d (suc k, inside, is) = inr (k, omega arith, is)
 
 -- a change, after what was found of those behind it
 abbrev pub found : (Change → Bool) → Change → Option Change → Option Change
@@ -66,12 +55,12 @@ latest-cons p c cs None true t rest = record {
   passes = t;
   top = λ d is passes. elim (first-or-rest c cs d is) [
     | inl same ↦ subst (λ (x : Change). x.scn ≤ c.scn) same (omega arith)
-    | inr behind ↦ absurd (rest d behind passes)
+    | inr rest_held ↦ absurd (rest d rest_held passes)
   ];
 }
 latest-cons p c cs None false t rest = λ d is passes. elim (first-or-rest c cs d is) [
   | inl same ↦ let both : true ≡ false = sym passes ∙ ap p (sym same) ∙ t in absurd (cc)
-  | inr behind ↦ rest d behind passes
+  | inr rest_held ↦ rest d rest_held passes
 ]
 latest-cons p c cs (Some e) true t rest = elim (later-of-both c e (nat_lt e.scn c.scn) refl) [
   | inl first ↦ subst (IsGreatest p (c ∷ cs)) (sym first.0) (record {
@@ -79,7 +68,7 @@ latest-cons p c cs (Some e) true t rest = elim (later-of-both c e (nat_lt e.scn 
     passes = t;
     top = λ d is passes. elim (first-or-rest c cs d is) [
       | inl same ↦ subst (λ (x : Change). x.scn ≤ c.scn) same (omega arith)
-      | inr behind ↦ let below : d.scn ≤ e.scn = rest.top d behind passes in omega (arith, first.1, below)
+      | inr rest_held ↦ let below : d.scn ≤ e.scn = rest.top d rest_held passes in omega (arith, first.1, below)
     ];
   })
   | inr second ↦ subst (IsGreatest p (c ∷ cs)) (sym second.0) (record {
@@ -87,7 +76,7 @@ latest-cons p c cs (Some e) true t rest = elim (later-of-both c e (nat_lt e.scn 
     passes = rest.passes;
     top = λ d is passes. elim (first-or-rest c cs d is) [
       | inl same ↦ subst (λ (x : Change). x.scn ≤ e.scn) same second.1
-      | inr behind ↦ rest.top d behind passes
+      | inr rest_held ↦ rest.top d rest_held passes
     ];
   })
 ]
@@ -96,7 +85,7 @@ latest-cons p c cs (Some e) false t rest = record {
   passes = rest.passes;
   top = λ d is passes. elim (first-or-rest c cs d is) [
     | inl same ↦ let both : true ≡ false = sym passes ∙ ap p (sym same) ∙ t in absurd (cc)
-    | inr behind ↦ rest.top d behind passes
+    | inr rest_held ↦ rest.top d rest_held passes
   ];
 }
 
@@ -186,3 +175,49 @@ latest-one w h i s f r (Some d) history is greatest = elim is.held [
       row-same r d.scn d.content (made.version ∙ same) (made.content ∙ ap (λ (x : Change). x.content) one)
   | inr untouched ↦ absurd (untouched.none d greatest.held greatest.passes)
 ]
+
+-- the state of a block is a state
+pub state-held : (w : World) (h : List Change) (i s f b : ℕ) → IsState w h i s f (state w h i s f b)
+state-held w h i s f b = latest-held w h i s f b (last_change w h i s f b) (latest-is (concerns w i s f b) h)
+
+-- and there is no other
+pub state-one : (w : World) (h : List Change) (i s f : ℕ) (r : Row) → IsHistory w h → IsState w h i s f r → state w h i s f r.block ≡ r
+state-one w h i s f r history is = sym (latest-one w h i s f r (last_change w h i s f r.block) history is (latest-is (concerns w i s f r.block) h))
+
+and-both : (a b : Bool) → a ≡ true → b ≡ true → (a && b) ≡ true
+and-both true b first second = second
+and-both false b first second = absurd (cc)
+
+-- a change with these parts concerns the block
+pub concerns-from : (w : World) (i s f b : ℕ) (c : Change) → Concerns w i s f b c → concerns w i s f b c ≡ true
+concerns-from w i s f b c is =
+    and-both ((c.file == f) && (c.block == b) && nat_lt c.scn s) (owner w.tree i c.scn == c.inc)
+    (and-both ((c.file == f) && (c.block == b)) (nat_lt c.scn s)
+    (and-both (c.file == f) (c.block == b) (eq-eqb c.file f is.file) (eq-eqb c.block b is.block))
+    (lt-ltb c.scn s is.below))
+    (eq-eqb (owner w.tree i c.scn) c.inc is.owned)
+
+-- a change that concerns a block lies above its file's creation
+pub concerns-risen : (w : World) (h : List Change) (i s f b : ℕ) (c : Change) → IsHistory w h → Contains h c → concerns w i s f b c ≡ true → creation_of w f < c.scn
+concerns-risen w h i s f b c history held is =
+    let change = history.changes c held in
+    let known : creation_of w c.file ≡ change.datafile.creation = ap (λ o. option_map_or (λ d. d.creation) o 0) change.is in
+    subst (λ k. creation_of w k < c.scn) (concerns-parts w i s f b c is).file (let up = change.created in omega (arith, known, up))
+
+-- two lists of the same changes
+abbrev pub SameChanges : List Change → List Change → Type 0
+SameChanges h k = (c : Change) → Contains h c ↔ Contains k c
+
+IsState-members : (w : World) (h k : List Change) (i s f : ℕ) (r : Row) → SameChanges h k → IsState w h i s f r → IsState w k i s f r
+IsState-members w h k i s f r same is = record {
+  top = λ c held passes. is.top c ((same c).1 held) passes;
+  held = elim is.held [
+    | inl made ↦ inl (record { change = made.change; is = (same made.change).0 made.is; concerns = made.concerns; version = made.version; content = made.content })
+    | inr untouched ↦ inr (record { none = λ c held. untouched.none c ((same c).1 held); version = untouched.version; content = untouched.content })
+  ];
+}
+
+-- the state depends on the changes alone, and not on their order
+pub state-members : (w : World) (h k : List Change) (i s f b : ℕ) → IsHistory w k → ((c : Change) → Contains h c ↔ Contains k c) → state w h i s f b ≡ state w k i s f b
+state-members w h k i s f b history same =
+    sym (state-one w k i s f (state w h i s f b) history (IsState-members w h k i s f (state w h i s f b) same (state-held w h i s f b)))

@@ -1,3 +1,5 @@
+pub mod Agrees
+pub mod Artefacts
 pub mod History
 pub mod State
 pub mod Tree

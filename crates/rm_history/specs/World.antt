@@ -1,6 +1,7 @@
 -- A database as recovery knows it, and where its datafiles exist.
-use Rattle.std.specs.Prelude.{ℕ, ◌-◌, ◌<◌, ◌≤◌, ◌==◌, ◌&&◌, nat_lt, Bool, Option, None, if◌then◌else◌, slice_get}
+use Rattle.std.specs.Prelude.{ℕ, ◌-◌, ◌<◌, ◌≤◌, ◌==◌, ◌&&◌, nat_lt, Bool, Option, None, if◌then◌else◌, List, [], ◌∷◌, ◌++◌, slice_get}
 use Rattle.std.specs.Option.{option_map_or}
+use Rattle.rm_history.specs.declared.tree.Incarnation.{Incarnation}
 use Rattle.rm_history.specs.declared.world.Datafile.{Datafile}
 use Rattle.rm_history.specs.declared.world.World.{World}
 use Rattle.rm_history.specs.Tree.{owner}
@@ -12,6 +13,18 @@ file_of w f = if f == 0 then None else slice_get w.files (f - 1)
 -- the SCN at which it was created; 0 for one that is not there
 abbrev pub creation_of : World → ℕ → ℕ
 creation_of w f = option_map_or (λ d. d.creation) (file_of w f) 0
+
+-- how many blocks it has; 0 for one that is not there
+abbrev pub blocks_of : World → ℕ → ℕ
+blocks_of w f = option_map_or (λ d. d.blocks) (file_of w f) 0
+
+-- the database with another tree
+abbrev pub with_tree : World → List Incarnation → World
+with_tree w tree = record w { tree = tree }
+
+-- the database with a datafile more
+abbrev pub with_file : World → Datafile → World
+with_file w d = record w { files = w.files ++ d ∷ [] }
 
 -- the database has this redo thread
 abbrev pub IsThread : World → ℕ → Type 0

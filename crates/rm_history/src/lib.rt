@@ -5,7 +5,7 @@ pub mod laws;
 pub mod tree;
 pub mod world;
 
-pub use tree::{Incarnation, Tree};
+pub use tree::{Incarnation, Standing, Tree, TreeFault};
 pub use world::{Datafile, World};
 
 #[cfg(test)]
