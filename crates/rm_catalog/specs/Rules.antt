@@ -46,6 +46,11 @@ pub record IsOrderOf (s rs : List Record) : Type 0 where
   pub permutation : IsPermutation rs s
   pub order : InOrder s
 
+-- the records of a catalog
+pub record IsCatalog (rs : List Record) : Type 0 where
+  pub order : InOrder rs
+  pub valid : IsValid rs
+
 -- of a list in order: the first record that breaks a rule has this key
 pub record IsFirstBad (s : List Record) (told : Key) : Type 0 where
   pub front : List Record

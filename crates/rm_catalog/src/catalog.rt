@@ -1,14 +1,16 @@
 //! All records of a database.
-ghost use Rattle.std.specs.Prelude.{◌≡◌, ◌<◌, ◌^◌, List, IfOk, IfErr, IfSome, IfNone};
+ghost use Rattle.std.specs.Prelude.{◌≡◌, ◌<◌, ◌^◌, List, IfOk, IfErr, IfSome, IfNone, OnOk, OnErr};
 ghost use Rattle.std.specs.Option.{option_copied};
 ghost use Rattle.rm_catalog.specs.declared.record.Record.{Record};
 ghost use Rattle.rm_catalog.specs.declared.record.Key.{Key};
 ghost use Rattle.rm_catalog.specs.Keys.{place_of_key, InOrder, at};
 ghost use Rattle.rm_catalog.specs.Faults.{IsBadRow, IsTaken, IsTold};
-ghost use Rattle.rm_catalog.specs.Rules.{IsValid, IsOrderOf, IsFirstBad};
+ghost use Rattle.rm_catalog.specs.Rules.{IsValid, IsOrderOf, IsCatalog, IsFirstBad};
+ghost use Rattle.rm_catalog.specs.Edits.{after_edits};
 
+use crate::edits;
 use crate::find::find;
-use crate::record::{Key, Record};
+use crate::record::{Edit, Key, Record};
 use crate::rules::obeys;
 use rm_base::{NoMemory, Seq};
 use std::marker::Model;
@@ -30,13 +32,13 @@ pub struct Catalog {
 impl Model for Catalog {
     ghost use Rattle.std.specs.Prelude.{List};
     ghost use Rattle.rm_catalog.specs.declared.record.Record.{Record};
-    ghost use Rattle.rm_catalog.specs.Keys.{InOrder};
+    ghost use Rattle.rm_catalog.specs.Rules.{IsCatalog};
 
     ghost Value = { List Record };
 
     ghost view = { λ c. c.records.items };
 
-    ghost invariant = { λ c. InOrder c.records.items };
+    ghost invariant = { λ c. IsCatalog c.records.items };
 }
 
 fn in_order(mut records: Vec<Record>) -> Vec<Record>
@@ -79,7 +81,8 @@ impl Catalog {
 
     /// The records, ascending by kind and then id.
     pub fn records(&self) -> &[Record]
-        ensures { result.now ≡ self.now }
+        ensures records { result.now ≡ self.now }
+        ensures catalog { IsCatalog self.now }
     {
         &self.records
     }
@@ -89,5 +92,14 @@ impl Catalog {
         ensures { option_copied result ≡ at (place_of_key key) self.now }
     {
         find(&self.records, key.place())
+    }
+
+    /// Makes the edits in order, all of them or, without memory, none. The outcome is valid.
+    pub fn apply(&mut self, edits: &[Edit]) -> Result<(), NoMemory>
+        requires valid { IsValid (after_edits edits.now self.old) }
+        ensures ok { OnOk result (self.new ≡ after_edits edits.now self.old) }
+        ensures err { OnErr result (self.new ≡ self.old) }
+    {
+        edits::apply(&mut self.records, edits)
     }
 }
