@@ -4,7 +4,7 @@ use Rattle.std.specs.Prelude.{Contains, Option, Some, None}
 use Rattle.std.specs.List.{filter}
 use Rattle.std.proofs.lemmas.Bool.{lt-ltb, le-ltb, cases_lt, cases_eq}
 use Rattle.std.proofs.lemmas.List.{append-nil, append_assoc}
-use Rattle.std.proofs.lemmas.List.Elements.{All-nil, All-head, All-tail, All-cons, filter-append, filter_agree, All-contains}
+use Rattle.std.proofs.lemmas.List.Elements.{All-nil, All-head, All-tail, All-cons, All-append, filter-append, filter_agree, All-contains}
 use Rattle.rm_catalog.specs.declared.record.Record.{Record}
 use Rattle.rm_catalog.specs.declared.record.Edit.{Edit}
 use Rattle.rm_catalog.specs.declared.record.Edit.TheVariants.{Put, Drop}
@@ -176,6 +176,46 @@ left_at : (e : Edit) → AllAt (place_of_edit e) (left_by e)
 unfolding left_by
 left_at (Put r) = All-cons (λ (x : Record). place_of x ≡ place_of r) r [] refl (All-nil (λ (x : Record). place_of x ≡ place_of r))
 left_at (Drop key) = All-nil (λ (x : Record). place_of x ≡ place_of_key key)
+
+-- what stands below a place, where an edit below it is made there, and where one above it is made
+pub below_kept : (p : ℕ) (e : Edit) (rs : List Record) → place_of_edit e < p → below p (after_edit e rs) ≡ after_edit e (below p rs)
+unfolding put_at
+below_kept p e rs lt =
+    let q = place_of_edit e in
+    let n = left_by e in
+    ap (λ (x : List Record). below p x) (after_is e rs) ∙ low_part_up p q n rs (left_at e) lt
+    ∙ ap (λ (x : List Record). x ++ (n ++ below p (above q rs))) (sym (below_below p q rs lt))
+    ∙ ap (λ (x : List Record). below q (below p rs) ++ (n ++ x)) (sym (between p q rs))
+    ∙ sym (after_is e (below p rs))
+
+tests_same : (p q n : ℕ) → q ≤ p → cond (ltb n p) (ltb n q) false ≡ ltb n q
+tests_same p q n le = elim (cases_lt n p) [
+  | inl low ↦ ap (λ (b : Bool). cond b (ltb n q) false) (lt-ltb n p low)
+  | inr over ↦ ap (λ (b : Bool). cond b (ltb n q) false) (le-ltb n p over) ∙ sym (le-ltb n q (omega arith))
+]
+
+pub below_alone : (p : ℕ) (e : Edit) (rs : List Record) → p ≤ place_of_edit e → below p (after_edit e rs) ≡ below p rs
+unfolding put_at
+below_alone p e rs le =
+    let q = place_of_edit e in
+    let n = left_by e in
+    ap (λ (x : List Record). below p x) (after_is e rs) ∙ below_append p (below q rs) (n ++ above q rs)
+    ∙ ap (λ (x : List Record). below p (below q rs) ++ x) (below_none p (n ++ above q rs) (All-append (λ (r : Record). p ≤ place_of r) n (above q rs)
+        (λ k d l. let h = left_at e k d l in omega arith) (λ k d l. let h = above_high q rs k d l in omega arith)))
+    ∙ append-nil (below p (below q rs))
+    ∙ filter_twice (λ (r : Record). ltb (place_of r) q) (λ (r : Record). ltb (place_of r) p) (λ (r : Record). ltb (place_of r) p) (λ r. tests_same q p (place_of r) le) rs
+
+-- what stands below a place after edits is what the edits below it make
+pub below_after : (p : ℕ) (es : List Edit) (rs : List Record) → below p (after_edits es rs) ≡ after_edits (filter (λ e. ltb (place_of_edit e) p) es) (below p rs)
+below_after p [] rs = refl
+below_after p (e ∷ es) rs = elim (cases_lt (place_of_edit e) p) [
+  | inl lt ↦
+      below_after p es (after_edit e rs) ∙ ap (λ (x : List Record). after_edits (filter (λ (f : Edit). ltb (place_of_edit f) p) es) x) (below_kept p e rs lt)
+      ∙ sym (ap (λ (b : Bool). after_edits (cond b (e ∷ filter (λ (f : Edit). ltb (place_of_edit f) p) es) (filter (λ (f : Edit). ltb (place_of_edit f) p) es)) (below p rs)) (lt-ltb (place_of_edit e) p lt))
+  | inr le ↦
+      below_after p es (after_edit e rs) ∙ ap (λ (x : List Record). after_edits (filter (λ (f : Edit). ltb (place_of_edit f) p) es) x) (below_alone p e rs le)
+      ∙ sym (ap (λ (b : Bool). after_edits (cond b (e ∷ filter (λ (f : Edit). ltb (place_of_edit f) p) es) (filter (λ (f : Edit). ltb (place_of_edit f) p) es)) (below p rs)) (le-ltb (place_of_edit e) p le))
+]
 
 -- edits at different places may change their order
 pub after_swap : (e f : Edit) (rs : List Record) → (place_of_edit e ≡ place_of_edit f → ⊥) → after_edit e (after_edit f rs) ≡ after_edit f (after_edit e rs)

@@ -22,10 +22,10 @@ use Rattle.rm_catalog.proofs.Found.{differ}
 use Rattle.rm_catalog.proofs.Counts.{alike, alike_count}
 use Rattle.rm_catalog.proofs.Unique.{none_alike, head_or_tail, in_tail, middle}
 
-at_here : (r : Record) (rs : List Record) (q : ℕ) → place_of r ≡ q → at q (r ∷ rs) ≡ Some r
+pub at_here : (r : Record) (rs : List Record) (q : ℕ) → place_of r ≡ q → at q (r ∷ rs) ≡ Some r
 at_here r rs q e = ap (λ (b : Bool). cond b (Some r) (at q rs)) (eq-eqb (place_of r) q e)
 
-at_past : (r : Record) (rs : List Record) (q : ℕ) → (place_of r ≡ q → ⊥) → at q (r ∷ rs) ≡ at q rs
+pub at_past : (r : Record) (rs : List Record) (q : ℕ) → (place_of r ≡ q → ⊥) → at q (r ∷ rs) ≡ at q rs
 at_past r rs q n = ap (λ (b : Bool). cond b (Some r) (at q rs)) (differ (place_of r) q n)
 
 alike_here : (r : Record) (rs : List Record) (q : ℕ) → place_of r ≡ q → alike q (r ∷ rs) ≡ 1 + alike q rs
@@ -44,7 +44,7 @@ some_same : (x y : Record) → Some x ≡ Some y → x ≡ y
 some_same x y h = cc
 
 -- what is found at a place is there, at that place
-found_is : (rs : List Record) (q : ℕ) (x : Record) → at q rs ≡ Some x → Contains rs x × (place_of x ≡ q)
+pub found_is : (rs : List Record) (q : ℕ) (x : Record) → at q rs ≡ Some x → Contains rs x × (place_of x ≡ q)
 found_is [] q x h = absurd cc
 found_is (r ∷ rs) q x h = elim (cases_eq (place_of r) q) [
   | inl e ↦
@@ -56,7 +56,7 @@ found_is (r ∷ rs) q x h = elim (cases_eq (place_of r) q) [
 ]
 
 -- a record at a place is found there, or another one
-some_is : (rs : List Record) (q : ℕ) (x : Record) → Contains rs x → place_of x ≡ q → IsSome (at q rs)
+pub some_is : (rs : List Record) (q : ℕ) (x : Record) → Contains rs x → place_of x ≡ q → IsSome (at q rs)
 some_is [] q x has e = absurd (let lt = has.1 in omega arith)
 some_is (r ∷ rs) q x has e = elim (cases_eq (place_of r) q) [
   | inl here ↦ subst (λ (o : Option Record). IsSome o) (sym (at_here r rs q here)) refl
@@ -81,7 +81,7 @@ alone rs q (x) has e = elim (cases_eq (alike q rs) 0) [
 ]
 
 -- two records at one place where one alone stands are the same
-one_is : (rs : List Record) (q : ℕ) (x y : Record) → Contains rs x → Contains rs y → place_of x ≡ q → place_of y ≡ q → alike q rs ≤ 1 → x ≡ y
+pub one_is : (rs : List Record) (q : ℕ) (x y : Record) → Contains rs x → Contains rs y → place_of x ≡ q → place_of y ≡ q → alike q rs ≤ 1 → x ≡ y
 one_is [] q x y a b e f few = absurd (let lt = a.1 in omega arith)
 one_is (r ∷ rs) q x y a b e f few = elim (head_or_tail r rs x a) [
   | inl first ↦ elim (head_or_tail r rs y b) [

@@ -13,7 +13,7 @@ use Rattle.rm_catalog.proofs.Found.{differ}
 use Rattle.rm_catalog.proofs.Counts.{alike, alike_count}
 
 -- the places rise strictly from b on
-Rises : ℕ → List Record → Type 0
+unfoldable pub Rises : ℕ → List Record → Type 0
 Rises b [] = Unit {0}
 Rises b (r ∷ rs) = (b ≤ place_of r) × Rises (place_of r + 1) rs
 
@@ -53,7 +53,7 @@ rises_from b (r ∷ rs) low order once =
     strictly : (m n : ℕ) → m ≤ n → (m ≡ n → ⊥) → m + 1 ≤ n
     strictly m n le apart = grind arith
 
-all_above : (b : ℕ) (rs : List Record) → Rises b rs → (x : Record) → Contains rs x → b ≤ place_of x
+pub all_above : (b : ℕ) (rs : List Record) → Rises b rs → (x : Record) → Contains rs x → b ≤ place_of x
 unfolding Rises
 all_above b [] up x has = absurd (let lt = has.1 in omega arith)
 all_above b (r ∷ rs) up x (zero, lt, is) = let first = up.0 in let same = ap place_of is in omega arith
@@ -101,7 +101,7 @@ rises_same b (r ∷ rs) (q ∷ qs) up down there here =
     let rest : rs ≡ qs = rises_same (place_of r + 1) rs qs up.1 down' (tail_has b r q rs qs same up there) (tail_has b q r qs rs (sym same) down here) in
     cc
 
-rises_of : (s : List Record) → IsNonDecreasingBy place_of s → ((k : ℕ) (d : Record) → k < length s → alike (place_of (get_or s k d)) s ≡ 1) → Rises 0 s
+pub rises_of : (s : List Record) → IsNonDecreasingBy place_of s → ((k : ℕ) (d : Record) → k < length s → alike (place_of (get_or s k d)) s ≡ 1) → Rises 0 s
 rises_of s order once = rises_from 0 s (λ k d lt. omega arith) order once
 
 -- what has each key once has so in each order

@@ -1,5 +1,5 @@
 -- The records after edits.
-use Rattle.std.specs.Prelude.{ℕ, List, [], ◌∷◌, ◌++◌, nat_lt}
+use Rattle.std.specs.Prelude.{ℕ, Option, Some, None, List, [], ◌∷◌, ◌++◌, nat_lt}
 use Rattle.std.specs.List.{filter}
 use Rattle.rm_catalog.specs.declared.record.Record.{Record}
 use Rattle.rm_catalog.specs.declared.record.Edit.{Edit}
@@ -18,6 +18,11 @@ above p rs = filter (λ r. nat_lt p (place_of r)) rs
 abbrev pub place_of_edit : Edit → ℕ
 place_of_edit (Put r) = place_of r
 place_of_edit (Drop key) = place_of_key key
+
+-- the record that an edit puts
+abbrev pub put_by : Edit → Option Record
+put_by (Put r) = Some r
+put_by (Drop key) = None
 
 -- A Put replaces the record of its key, or is added at its place. A Drop takes away the record of
 -- its key, if one is there.

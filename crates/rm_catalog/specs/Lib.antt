@@ -7,3 +7,4 @@ pub mod Passes
 pub mod Facts
 pub mod Rules
 pub mod Saved
+pub mod Trees

@@ -27,14 +27,17 @@ pub record IsOnce (p : ℕ) (rs : List Record) : Type 0 where
 pub record IsAmongFirst (p : ℕ) (rs : List Record) : Type 0 where
   pub few : p < place 7 0 → count_by (λ r. nat_lt (place_of r) p) rs < 65536
 
+-- there are base facts
+abbrev pub HasDatabase : List Record → Type 0
+HasDatabase rs = IsThere 1 0 rs
+
 -- what a record obeys in a list
 pub record Obeys (rs : List Record) (r : Record) : Type 0 where
   -- no other record has its key
   pub once : IsOnce (place_of r) rs
   -- it is one of the first 65,536, where it is not of a saved site
   pub few : IsAmongFirst (place_of r) rs
-  -- there are base facts
-  pub base : IsThere 1 0 rs
+  pub base : HasDatabase rs
   pub own : OwnRule rs r
 
 -- each record obeys

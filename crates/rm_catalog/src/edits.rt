@@ -6,22 +6,11 @@ ghost use Rattle.rm_catalog.specs.Keys.{place_of, InOrder};
 ghost use Rattle.rm_catalog.specs.Edits.{place_of_edit, below, after_edit, after_edits};
 ghost use Rattle.rm_catalog.specs.Passes.{EditsInOrder, IsReady, HasMade};
 
+use crate::copies;
 use crate::find::count_before;
 use crate::record::{Edit, Record};
 use rm_base::NoMemory;
-use std::alloc::Global;
 use std::mem;
-
-// Equal edits.
-fn copies(alloc: Global, edits: &[Edit]) -> Result<Vec<Edit>, NoMemory>
-    ensures { IfOk result (λ es. es.items ≡ edits.now) }
-{
-    let mut made = Vec::with_capacity(alloc, edits.len())?;
-    for edit in edits {
-        made.push(edit.copy(alloc)?)?;
-    }
-    Ok(made)
-}
 
 // Edits with the same outcome, by place.
 fn by_place(mut edits: Vec<Edit>) -> Result<Vec<Edit>, NoMemory>
@@ -153,6 +142,6 @@ pub fn apply(records: &mut Vec<Record>, edits: &[Edit]) -> Result<(), NoMemory>
     ensures err { OnErr result (records.new.items ≡ records.old.items) }
     ensures order { InOrder records.new.items }
 {
-    let edits = copies(*records.allocator(), edits)?;
+    let edits = copies::edits(*records.allocator(), edits)?;
     make(records, edits)
 }

@@ -8,10 +8,10 @@ ghost use Rattle.rm_catalog.specs.Keys.{InOrder};
 ghost use Rattle.rm_catalog.specs.Edits.{after_edits};
 ghost use Rattle.rm_catalog.specs.Faults.{Answers};
 
+use crate::copies;
 use crate::edits;
 use crate::record::{Edit, Record};
 use rm_base::{Failing, NoMemory, Seq};
-use std::alloc::Global;
 
 /// Why a keeper did nothing.
 #[derive(Clone, Copy, Debug, PartialEq, Eq)]
@@ -77,17 +77,6 @@ fn puts(records: Vec<Record>) -> Result<Vec<Edit>, NoMemory>
     Ok(edits)
 }
 
-// Equal records.
-fn copies(alloc: Global, records: &[Record]) -> Result<Vec<Record>, NoMemory>
-    ensures { IfOk result (λ rs. rs.items ≡ records.now) }
-{
-    let mut made = Vec::with_capacity(alloc, records.len())?;
-    for row in records {
-        made.push(row.copy(alloc)?)?;
-    }
-    Ok(made)
-}
-
 impl MemKeeper {
     ghost use Rattle.rm_catalog.specs.MemKeeper.{records_of, loads_of, applies_of};
 
@@ -132,7 +121,7 @@ impl Keeper for MemKeeper {
             return Err(KeeperFail::Failed);
         }
         let alloc = *self.records.allocator();
-        Ok(Seq::from_vec(copies(alloc, &self.records)?))
+        Ok(Seq::from_vec(copies::records(alloc, &self.records)?))
     }
 
     fn apply(&mut self, edits: &[Edit]) -> Result<(), KeeperFail>

@@ -2,14 +2,17 @@
 #![tactic(auto)]
 
 pub mod catalog;
+mod copies;
 mod edits;
 mod facts;
 mod find;
 pub mod keeper;
 mod objects;
+pub mod laws;
 pub mod record;
 mod rules;
 mod saved;
+mod tree;
 
 pub use catalog::{Catalog, CatalogFault};
 pub use keeper::{Keeper, KeeperFail, MemKeeper};

@@ -1,4 +1,4 @@
-use Rattle.std.proofs.Common.{◌≡◌, List, sym, subst, rules}
+use Rattle.std.proofs.Common.{◌≡◌, ◌∙◌, List, sym, subst, rules}
 use Rattle.rm_catalog.specs.declared.record.Record.{Record}
 use Rattle.rm_catalog.specs.Keys.{InOrder}
 use Rattle.rm_catalog.specs.Rules.{IsOrderOf, IsFirstBad}
@@ -14,7 +14,7 @@ returns-in-Some-clause-only c s order valid =
     order valid
 
 pub returns-clause-only : goal.returns-clause-only
-returns-clause-only c s order valid = sym (one_order c.args.records s c.in_order-records.result.items order
+returns-clause-only c s order valid = c.in_ok-of_valid.ensures ∙ sym (one_order c.args.records s c.in_order-records.result.items order
     (subst (λ (x : List Record). IsOrderOf c.in_order-records.result.items x) c.into_vec.ensures c.in_order-records.ensures) valid)
 
 pub returns-in-Some-clause-told : goal.returns-in-Some-clause-told
