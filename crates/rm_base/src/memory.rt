@@ -31,8 +31,8 @@ impl Failing {
         }
     }
 
-    // Counts a call, and says whether it is to fail.
-    pub(crate) fn fails(&mut self) -> bool
+    /// Counts a call, and says whether it is to fail.
+    pub fn fails(&mut self) -> bool
         ensures failed { IsTrue result ↔ FailsNext self.old }
         ensures after { self.new ≡ after_call self.old result }
         ensures never_falls { faults_of self.old ≤ faults_of self.new }

@@ -1,0 +1,12 @@
+pub mod Counts
+pub mod Filters
+pub mod Firsts
+pub mod Found
+pub mod Lookups
+pub mod Numbering
+pub mod Owners
+pub mod Passing
+pub mod Stable
+pub mod Told
+pub mod Trees
+pub mod Unique

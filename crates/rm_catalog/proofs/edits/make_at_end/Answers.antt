@@ -1,0 +1,18 @@
+use Rattle.std.proofs.Common.{◌≡◌, ◌∙◌, [], ◌∷◌, ◌++◌, ℕ, List, ap, sym, subst}
+use Rattle.rm_catalog.specs.declared.record.Record.{Record}
+use Rattle.rm_catalog.specs.declared.record.Edit.{Edit}
+use Rattle.rm_catalog.specs.declared.record.Edit.TheVariants.{Put}
+use Rattle.rm_catalog.specs.Edits.{below}
+use Rattle.rm_catalog.proofs.Passing.{put_last, drop_last}
+use Rattle.rm_catalog.proofs.edits.make_at_end.Goals as goal
+
+pub returns-in-Put-clause-items : goal.returns-in-Put-clause-items
+returns-in-Put-clause-items c =
+    c.push.ensures.items ∙ ap (λ (x : List Record). x ++ c.in-Put.record ∷ []) c.cut_at.ensures.items
+    ∙ ap (λ (p : ℕ). below p c.args.records.now.items ++ c.in-Put.record ∷ []) c.place.ensures.is
+    ∙ put_last c.args.edit c.in-Put.record c.args.records.now.items c.in-Put.is c.requires.last
+
+pub returns-in_default-clause-items : goal.returns-in_default-clause-items
+returns-in_default-clause-items c =
+    c.cut_at.ensures.items ∙ ap (λ (p : ℕ). below p c.args.records.now.items) c.place.ensures.is
+    ∙ drop_last c.args.edit c.args.records.now.items (λ r is. absurd cc) c.requires.last

@@ -1,0 +1,10 @@
+pub mod Edits
+pub mod Faults
+pub mod Keys
+pub mod MemKeeper
+pub mod Objects
+pub mod Passes
+pub mod Facts
+pub mod Rules
+pub mod Saved
+pub mod Trees

@@ -1,0 +1,167 @@
+//! The rules of logs and pieces.
+ghost use Rattle.std.specs.Prelude.{◌≡◌, ◌<◌, ◌≤◌, IsTrue, IsSomeAnd, ◌↔◌};
+ghost use Rattle.std.specs.List.{list_all};
+ghost use Rattle.rm_catalog.specs.Keys.{InOrder, base, incarnation, datafile};
+ghost use Rattle.rm_catalog.specs.Objects.{IdRule, IsRange, LogRule, owner_in, FitsRows, FitsKind, FitsDatafile, is_tag_byte, IsTag, PieceRule};
+
+use crate::find::{base, datafile, incarnation, is_there};
+use crate::record::{DatafileEntry, LogEntry, PieceEntry, Record};
+use rm_base::{IncNo, Kind, Scn, ThreadNo};
+
+/// The most bytes of an object.
+pub const MOST_BYTES: u64 = 268_435_456;
+
+// Whether the id is below the next one.
+fn is_below_next(records: &[Record], id: u32) -> bool
+    requires { InOrder records.now }
+    ensures { IsTrue result ↔ IsSomeAnd (base records.now) (λ b. id < b.next_id) }
+{
+    match base(records) {
+        Some(b) => id < b.next_id,
+        None => false,
+    }
+}
+
+/// Whether an object id obeys. The other kinds of objects are `second` and `third`.
+pub fn id_obeys(records: &[Record], id: u32, second: u8, third: u8) -> bool
+    requires { InOrder records.now }
+    ensures { IsTrue result ↔ IdRule records.now id second third }
+{
+    1 <= id
+        && is_below_next(records, id)
+        && !is_there(records, second, id)
+        && !is_there(records, third, id)
+}
+
+/// Whether the number is not above that of the redo threads.
+pub fn has_thread(records: &[Record], thread: ThreadNo) -> bool
+    requires { InOrder records.now }
+    ensures { IsTrue result ↔ IsSomeAnd (base records.now) (λ b. thread ≤ b.threads) }
+{
+    match base(records) {
+        Some(b) => thread <= b.threads,
+        None => false,
+    }
+}
+
+// Whether the incarnation is there, and the log's SCNs are some of it.
+fn is_range(records: &[Record], l: &LogEntry) -> bool
+    requires { InOrder records.now }
+    ensures { IsTrue result ↔ IsSomeAnd (incarnation l.now.inc records.now) (IsRange l.now) }
+{
+    match incarnation(records, l.inc) {
+        Some(i) => i.reset <= l.first && l.first < l.next && l.next <= i.end,
+        None => false,
+    }
+}
+
+/// Whether the log obeys.
+pub fn log_obeys(records: &[Record], l: &LogEntry) -> bool
+    requires { InOrder records.now }
+    ensures { IsTrue result ↔ LogRule records.now l.now }
+{
+    id_obeys(records, l.id, 5, 7)
+        && l.size <= MOST_BYTES
+        && has_thread(records, l.thread)
+        && 1 <= l.sequence
+        && is_range(records, l)
+}
+
+// The incarnation that owns `g` on the path of `inc`, by at most so many steps.
+fn owner_in(records: &[Record], steps: u32, inc: IncNo, g: Scn) -> IncNo
+    requires { InOrder records.now }
+    ensures { result ≡ owner_in steps inc g records.now }
+{
+    let mut member = inc;
+    for step in 0..steps {
+        match incarnation(records, member) {
+            None => return 1,
+            Some(i) => {
+                if i.reset <= g {
+                    return member;
+                }
+                member = i.parent;
+            }
+        }
+    }
+    1
+}
+
+fn fits_rows(p: &PieceEntry, f: &DatafileEntry) -> bool
+    ensures { IsTrue result ↔ FitsRows p.now.kind p.now.rows f.now.blocks }
+{
+    match p.kind {
+        Kind::Level1 => p.rows <= f.blocks,
+        _ => p.rows == f.blocks,
+    }
+}
+
+// Whether the datafile is there, and the piece fits it.
+fn fits_datafile(records: &[Record], p: &PieceEntry) -> bool
+    requires { InOrder records.now }
+    ensures { IsTrue result ↔ IsSomeAnd (datafile p.now.file records.now) (FitsDatafile records.now p.now) }
+{
+    match datafile(records, p.file) {
+        Some(f) => owner_in(records, 256, p.inc, f.creation) == f.inc && fits_rows(p, &f),
+        None => false,
+    }
+}
+
+fn fits_kind(p: &PieceEntry) -> bool
+    ensures { IsTrue result ↔ FitsKind p.now.kind p.now }
+{
+    match p.kind {
+        Kind::Level1 => !p.copy && 1 <= p.from && p.from <= p.checkpoint,
+        Kind::Place => false,
+        _ => p.from == 0,
+    }
+}
+
+// Whether the incarnation is there, and the piece ends within it.
+fn ends_within(records: &[Record], p: &PieceEntry) -> bool
+    requires { InOrder records.now }
+    ensures { IsTrue result ↔ IsSomeAnd (incarnation p.now.inc records.now) (λ i. p.now.high ≤ i.end) }
+{
+    match incarnation(records, p.inc) {
+        Some(i) => p.high <= i.end,
+        None => false,
+    }
+}
+
+fn is_tag_byte(c: u8) -> bool
+    ensures { result ≡ is_tag_byte c }
+{
+    (48 <= c && c <= 57) || (65 <= c && c <= 90) || (97 <= c && c <= 122) || c == 95
+}
+
+fn are_tag_bytes(bytes: &[u8]) -> bool
+    ensures { IsTrue result ↔ IsTrue (list_all is_tag_byte bytes.now) }
+{
+    for c in bytes {
+        if !is_tag_byte(*c) {
+            return false;
+        }
+    }
+    true
+}
+
+fn is_tag(bytes: &[u8]) -> bool
+    ensures { IsTrue result ↔ IsTag bytes.now }
+{
+    1 <= bytes.len() && bytes.len() <= 30 && are_tag_bytes(bytes)
+}
+
+/// Whether the piece obeys.
+pub fn piece_obeys(records: &[Record], p: &PieceEntry) -> bool
+    requires { InOrder records.now }
+    ensures { IsTrue result ↔ PieceRule records.now p.now }
+{
+    id_obeys(records, p.id, 4, 7)
+        && p.size <= MOST_BYTES
+        && 1 <= p.checkpoint
+        && p.checkpoint <= p.high
+        && fits_kind(p)
+        && is_tag(p.tag.as_bytes())
+        && ends_within(records, p)
+        && fits_datafile(records, p)
+}
