@@ -1,5 +1,5 @@
 -- What a datafile as it was created says of a history.
-use Rattle.std.proofs.Common.{◌≡◌, ◌<◌, ◌≤◌, ◌+◌, ℕ, zero, suc, List, Option, Some, inr, refl, ap, subst, arith, true, All, Contains}
+use Rattle.std.proofs.Common.{◌≡◌, ◌+◌, ℕ, zero, suc, List, Some, inr, refl, ap, subst, arith, true, All, Contains}
 use Rattle.std.specs.Option.{option_map_or}
 use Rattle.std.proofs.lemmas.List.Elements.{All-nil, All-push, All-contains}
 use Rattle.rm_base.specs.declared.block.Change.{Change}

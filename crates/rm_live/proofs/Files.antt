@@ -1,9 +1,9 @@
 -- The datafile of a number: where it stands, what is read of it, and what a write makes of the others.
-use Rattle.std.proofs.Common.{◌≡◌, ◌<◌, ◌≤◌, ◌∙◌, ◌==◌, ◌↔◌, IsTrue, ℕ, zero, suc, List, [], ◌∷◌, Option, Some, None, ◌+◌, Bool, true, false, true≢false, not, cond, nat_lt, refl, ap, sym, subst, arith, length, All, slice_get, slice_set, position, ltb-true, ltb-false}
-use Rattle.std.specs.List.{find, position_or_len}
+use Rattle.std.proofs.Common.{◌≡◌, ◌<◌, ◌≤◌, ◌∙◌, ◌==◌, ◌↔◌, IsTrue, ℕ, zero, suc, List, [], ◌∷◌, Some, None, ◌+◌, Bool, true, false, true≢false, not, cond, nat_lt, refl, ap, sym, subst, arith, length, All, slice_get, slice_set, position, ltb-true, ltb-false}
+use Rattle.std.specs.List.{position_or_len}
 use Rattle.std.specs.Option.{option_map_or}
 use Rattle.std.proofs.lemmas.List.Folds.{find_at}
-use Rattle.std.proofs.lemmas.List.Elements.{All-nil, All-cons, All-head, All-tail}
+use Rattle.std.proofs.lemmas.List.Elements.{All-cons, All-head, All-tail}
 use Rattle.std.proofs.lemmas.Option.{slice_get_past}
 use Rattle.rm_base.specs.declared.block.Block.{Block}
 use Rattle.rm_base.specs.declared.block.Row.{Row}

@@ -8,9 +8,9 @@ use Rattle.atomic_table.proofs.Lists.{at_set, at_snoc, at_longer}
 use Rattle.rm_live.specs.declared.database.Database.{Database}
 use Rattle.rm_live.specs.declared.history.Event.{Event}
 use Rattle.rm_live.specs.declared.rule.View.{View}
-use Rattle.rm_live.specs.Parts.{Parts, parts_of}
-use Rattle.rm_live.specs.History.{after, IsLegal, fold_of, times, Foreign, Past}
-use Rattle.rm_live.specs.Ruled.{start, total, one_if, waiting, holding, Knows, SlotIs, Below, Ruled, half, keeps_half, gives_half, longer, merged, spent_view, met, Met}
+use Rattle.rm_live.specs.Parts.{Parts}
+use Rattle.rm_live.specs.History.{after, IsLegal, times, Foreign, Past}
+use Rattle.rm_live.specs.Ruled.{total, one_if, waiting, holding, Knows, SlotIs, Below, Ruled, half, keeps_half, gives_half, longer, merged, spent_view, met, Met}
 use Rattle.rm_live.proofs.Totals.{total_set, total_same, total_snoc, times_append, times_split, foreign_less, foreign_both, past_none, past_within}
 use Rattle.rm_live.proofs.Steps.{St, off, each_set, slot_same, apart_set}
 

@@ -13,10 +13,10 @@ use Rattle.rm_live.specs.declared.history.Answer.{Answer}
 use Rattle.rm_live.specs.declared.history.Event.{Event}
 use Rattle.rm_live.specs.declared.rule.View.{View}
 use Rattle.rm_live.specs.Parts.{IsSound, Parts, parts_of}
-use Rattle.rm_live.specs.History.{IsRight, after, IsLegal, fold_of, times, Foreign, Past}
+use Rattle.rm_live.specs.History.{IsRight, after, IsLegal, fold_of, times, Past}
 use Rattle.rm_live.specs.declared.history.Call.{Call}
 use Rattle.rm_live.specs.Passes.{HasTurn, IsTurn, first_of, event_of}
-use Rattle.rm_live.specs.Ruled.{big, start, Looked, Took, total, one_if, waiting, holding, once_below, Knows, SlotIs, Below, Ruled, Sat, drew, took, ended, Drew, Ended}
+use Rattle.rm_live.specs.Ruled.{big, start, Looked, total, one_if, waiting, holding, once_below, Knows, SlotIs, Below, Ruled, Sat, drew, took, ended, Drew, Ended}
 use Rattle.rm_live.proofs.Sound.{after-sound}
 use Rattle.rm_live.proofs.Totals.{total_set, total_same, total_one, total_two, total_le, legal_snoc, fold_snoc, below_snoc, past_snoc, past_none, past_self, past_length}
 

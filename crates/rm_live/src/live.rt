@@ -55,11 +55,7 @@ impl Model for Pass {
 
 impl Live {
     /// Opens a database for at most so many passes at once. Without memory the database is dropped.
-    pub fn open(
-        alloc: Global,
-        database: Database,
-        passes: usize,
-    ) -> Result<(Live, Pass), NoMemory>
+    pub fn open(alloc: Global, database: Database, passes: usize) -> Result<(Live, Pass), NoMemory>
         requires passes { 1 ≤ passes }
         requires numbered { IsNumbered (parts_of database).files }
         requires sound { IsSound (parts_of database) }

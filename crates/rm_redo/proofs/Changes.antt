@@ -7,7 +7,7 @@ use Rattle.rm_redo.specs.declared.online.LogRecord.{LogRecord}
 use Rattle.rm_redo.specs.Logs.{Logs}
 use Rattle.rm_redo.specs.Online.{IsThread, record_of, records_of, first_of, switched, with_change, with_changes}
 use Rattle.rm_redo.specs.LogFile.{changes_of, is_of_thread, log_file_of}
-use Rattle.rm_redo.proofs.Logs.{IsAround, around-with_change, around-switched, IsThread-around, IsThread-switched, IsThread-with_change, records_of-switched, records_of-with_change, records_of-with_change_other}
+use Rattle.rm_redo.proofs.Logs.{IsAround, around-with_change, around-switched, IsThread-switched, IsThread-with_change, records_of-switched, records_of-with_change, records_of-with_change_other}
 
 -- as many threads, of the same incarnation and database
 pub around-with_changes : (logs : Logs) (h : List Change) → IsAround logs (with_changes logs h)
@@ -72,6 +72,6 @@ log-holds logs t now next h there other all =
     let inc : last.inc ≡ logs.inc = (around-with_changes new h).inc ∙ (around-switched logs t now).inc in
     let incs : All (λ c. c.inc ≡ last.inc) h = All-weaker (λ c. IsThread logs c.thread × (c.inc ≡ logs.inc)) (λ c. c.inc ≡ last.inc) (λ c is. is.1 ∙ sym inc) h all in
     let records : records_of last t ≡ records_in t h =
-      records_of-with_changes new h t threads (IsThread-switched logs t t now there)
-      ∙ ap (λ xs. xs ++ records_in t h) (records_of-switched logs t now there other) in
+    records_of-with_changes new h t threads (IsThread-switched logs t t now there)
+    ∙ ap (λ xs. xs ++ records_in t h) (records_of-switched logs t now there other) in
     ap (map (told last.inc t)) records ∙ told-all last.inc t h incs

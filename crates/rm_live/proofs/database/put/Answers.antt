@@ -1,4 +1,4 @@
-use Rattle.std.proofs.Common.{◌≡◌, ◌∙◌, List, Some, None, Option, refl, ap, sym, get_or, slice_get, slice_set, position}
+use Rattle.std.proofs.Common.{◌≡◌, ◌∙◌, List, Some, ap, sym, get_or, slice_set, position}
 use Rattle.std.proofs.lemmas.Option.{slice_get-get_or}
 use Rattle.rm_blocks.specs.File.{File}
 use Rattle.rm_live.proofs.Files.{is_file, place-some, with_row-some, with_row-none, written-either}

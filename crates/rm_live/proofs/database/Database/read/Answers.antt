@@ -1,4 +1,4 @@
-use Rattle.std.proofs.Common.{◌≡◌, ◌∙◌, List, Some, None, Option, refl, ap, sym, length, slice_get, position}
+use Rattle.std.proofs.Common.{◌≡◌, ◌∙◌, List, Some, None, refl, ap, sym, length, position}
 use Rattle.std.proofs.lemmas.Option.{slice_get_read}
 use Rattle.rm_blocks.specs.File.{File}
 use Rattle.rm_live.proofs.Files.{is_file, place-some, row_at-some, row_at-none}

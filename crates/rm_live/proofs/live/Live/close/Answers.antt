@@ -1,4 +1,4 @@
-use Rattle.std.proofs.Common.{rules, length, ap, sym, ◌∙◌, arith, ◌≡◌, ◌<◌}
+use Rattle.std.proofs.Common.{length, ap, sym, ◌∙◌}
 use Rattle.rm_live.specs.History.{fold_of}
 use Rattle.rm_live.specs.Passes.{Standing}
 use Rattle.rm_live.proofs.Edges.{closes}

@@ -42,7 +42,7 @@ returns g c =
     let call : Call = Write c.args.thread c.args.file c.args.block c.args.content in
     let answer : Answer = Wrote c.write-answer.result in
     let all = subst (λ (p : Standing). IsAdded p (standing c.end_turn.new.place) call answer) c.pass.view_is
-      (adds c.pass.inside.place c.end_turn.new.place c.take_turn.new.place.me call answer c.slot_mut-database.result.now
-        c.take_turn.ensures.turn c.slot_mut-database.ensures.value c.write-answer.ensures.answer
-        (c.end_turn.ensures.table ∙ c.take_turn.ensures.table) c.end_turn.ensures.ended c.end_turn.ensures.number) in
+    (adds c.pass.inside.place c.end_turn.new.place c.take_turn.new.place.me call answer c.slot_mut-database.result.now
+    c.take_turn.ensures.turn c.slot_mut-database.ensures.value c.write-answer.ensures.answer
+    (c.end_turn.ensures.table ∙ c.take_turn.ensures.table) c.end_turn.ensures.ended c.end_turn.ensures.number) in
     record { stays = all.stays; legal = all.legal; below = all.below; adds = all.adds }

@@ -1,4 +1,4 @@
-use Rattle.std.proofs.Common.{sym, subst, arith, ap, length, replicate, All, ◌≡◌, ◌∙◌}
+use Rattle.std.proofs.Common.{sym, subst, arith, ap, length, All, ◌≡◌, ◌∙◌}
 use Rattle.std.proofs.lemmas.List.{length-replicate}
 use Rattle.std.proofs.lemmas.List.Elements.{All-replicate}
 use Rattle.rm_redo.specs.Logs.{IsLog}
