@@ -73,8 +73,8 @@ stays p t u here above =
     let same : redo_end (with_archived p t) ≡ end = ap (end_of p.world.tree) (around-switched p.logs t end).inc in
     record {
       due = ap (λ b. not b && ltb (first_of (switched p.logs t end) u) (redo_end (with_archived p t))) (is_lost-switched p.logs t u end)
-        ∙ ap (λ n. not (is_lost p.logs u) && ltb n (redo_end (with_archived p t))) (first_of-switched_other p.logs t u end here there other)
-        ∙ ap (λ n. not (is_lost p.logs u) && ltb (first_of p.logs u) n) same;
+          ∙ ap (λ n. not (is_lost p.logs u) && ltb n (redo_end (with_archived p t))) (first_of-switched_other p.logs t u end here there other)
+          ∙ ap (λ n. not (is_lost p.logs u) && ltb (first_of p.logs u) n) same;
       sequence = sequence_of-switched_other p.logs t u end here there other;
     }
 
@@ -125,13 +125,13 @@ pub record Goes (first p : Parts) (all : Bool) (told now : List Line) (t n : ℕ
 
 -- one thread more
 pub goes-next : (first p q : Parts) (all : Bool) (told now new : List Line) (t n : ℕ) → 0 < t → Goes first p all told now t (suc n) → q ≡ after_thread p t → new ≡ now ++ told_lines all p t → Goes first q all told new (t + 1) n
-goes-next first p q all told lines new t n here is next is_new =
+goes-next first p q all told now new t n here is next is_new =
     let to : Goes first (after_thread p t) all told new (t + 1) n = record {
       accepted = accepted-next p t n here is.accepted;
       threads = threads-by p t (is_due p t) ∙ is.threads;
       after = is.after;
       lines = ap (λ xs. xs ++ lines_of all (after_thread p t) (t + 1) n) is_new
-        ∙ append_assoc now (told_lines all p t) (lines_of all (after_thread p t) (t + 1) n)
-        ∙ is.lines;
+          ∙ append_assoc now (told_lines all p t) (lines_of all (after_thread p t) (t + 1) n)
+          ∙ is.lines;
     } in
     subst (λ (r : Parts). Goes first r all told new (t + 1) n) (sym next) to
