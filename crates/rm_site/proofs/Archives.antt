@@ -1,9 +1,8 @@
 -- Threads that are archived one after another: what is accepted for all is accepted for each in its turn.
-use Rattle.std.proofs.Common.{◌≡◌, ◌≢◌, ◌<◌, ◌≤◌, ◌+◌, ◌-◌, ◌∙◌, ◌++◌, ◌&&◌, ℕ, zero, suc, List, [], ◌∷◌, Option, Some, None, true, false, Bool, cond, not, refl, ap, sym, subst, arith, leb, ltb, append_assoc, length}
+use Rattle.std.proofs.Common.{◌≡◌, ◌≢◌, ◌<◌, ◌≤◌, ◌+◌, ◌∙◌, ◌++◌, ◌&&◌, ℕ, zero, suc, List, Some, None, true, false, Bool, cond, not, refl, ap, sym, subst, arith, leb, ltb, append_assoc, length}
 use Rattle.std.proofs.lemmas.Bool.{ltb-false, le-ltb, leb-false}
 use Rattle.rm_history.specs.Tree.{end_of}
-use Rattle.rm_redo.specs.Logs.{Logs}
-use Rattle.rm_redo.specs.Online.{IsThread, first_of, sequence_of, switched}
+use Rattle.rm_redo.specs.Online.{first_of, sequence_of, switched}
 use Rattle.rm_redo.proofs.Logs.{around-switched, first_of-switched_other, sequence_of-switched_other, is_lost-switched}
 use Rattle.rm_report.specs.declared.line.Line.{Line}
 use Rattle.rm_site.specs.Archiving.{is_lost, is_due, with_archived, after_thread, after_threads, after_all, told_lines, lines_of, due_from, is_last_sequence, archive_refusal}

@@ -1,5 +1,5 @@
 -- What the logs of a sound database tell has SCNs above 0.
-use Rattle.std.proofs.Common.{◌≡◌, ◌<◌, ◌≤◌, ◌+◌, ◌-◌, ◌++◌, ℕ, zero, suc, List, [], ◌∷◌, Option, Some, None, inl, inr, refl, ap, sym, subst, arith, length, get_or, flat_map, All, slice_get}
+use Rattle.std.proofs.Common.{◌≡◌, ◌<◌, ◌≤◌, ◌+◌, ◌-◌, ℕ, zero, suc, List, [], ◌∷◌, Option, Some, None, refl, subst, arith, flat_map, All, slice_get}
 use Rattle.std.specs.Option.{option_map_or}
 use Rattle.std.proofs.lemmas.List.Elements.{All-nil, All-append, All-get_or, All-head, All-tail, All-map, All-weaker}
 use Rattle.std.proofs.lemmas.Option.{get_or_from_slice_get, slice_get_within}
@@ -7,7 +7,7 @@ use Rattle.rm_base.specs.declared.block.Change.{Change}
 use Rattle.rm_history.specs.declared.tree.Incarnation.{Incarnation}
 use Rattle.rm_redo.specs.declared.online.LogRecord.{LogRecord}
 use Rattle.rm_redo.specs.declared.online.ThreadLog.{ThreadLog}
-use Rattle.rm_redo.specs.Logs.{Logs, IsLog, IsLogs}
+use Rattle.rm_redo.specs.Logs.{IsLog, IsLogs}
 use Rattle.rm_redo.specs.LogFile.{changes_in, changes_of, log_file_of}
 use Rattle.rm_redo.specs.Online.{records_of}
 use Rattle.rm_site.specs.declared.database.Archived.{Archived}

@@ -1,4 +1,4 @@
-use Rattle.std.proofs.Common.{◌≡◌, ◌<◌, ◌+◌, ◌∙◌, ◌++◌, List, Option, None, suc, true, false, subst, sym, ap, arith, length, get_or, take, drop}
+use Rattle.std.proofs.Common.{◌≡◌, ◌<◌, ◌+◌, ◌∙◌, ◌++◌, List, Option, None, suc, false, subst, sym, ap, arith, length, get_or, take, drop}
 use Rattle.std.proofs.Math.ListN.{set, length-set}
 use Rattle.rm_blocks.specs.File.{File}
 use Rattle.rm_history.specs.declared.world.Datafile.{Datafile}

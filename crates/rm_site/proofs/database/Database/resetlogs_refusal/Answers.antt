@@ -1,4 +1,4 @@
-use Rattle.std.proofs.Common.{◌≡◌, ◌∙◌, Some, None, false, ap, sym, subst, cond}
+use Rattle.std.proofs.Common.{◌≡◌, ◌∙◌, Some, false, ap, sym, subst, cond}
 use Rattle.std.specs.Option.{option_map_or}
 use Rattle.rm_base.specs.declared.refusal.Refusal.TheVariants.{Rm04, Rm10}
 use Rattle.rm_site.specs.Open.{branch_refusal}

@@ -1,4 +1,4 @@
-use Rattle.std.proofs.Common.{◌≡◌, ◌<◌, ◌∙◌, sym, subst, All, List, rules}
+use Rattle.std.proofs.Common.{◌≡◌, ◌<◌, sym, subst, All, List, rules}
 use Rattle.rm_base.specs.declared.block.Change.{Change}
 use Rattle.rm_site.specs.Recovery.{told_by}
 use Rattle.rm_site.proofs.Scns.{past-told}
