@@ -32,11 +32,11 @@ impl Database {
         ensures { result ≡ resetlogs_refusal self.now }
     {
         if self.is_open {
-            Some(Refusal::Rm04 { mounted: false })
-        } else if self.point.is_none() {
-            Some(Refusal::Rm10)
-        } else {
-            self.branch_refusal()
+            return Some(Refusal::Rm04 { mounted: false });
+        }
+        match self.point {
+            Some(_) => self.branch_refusal(),
+            None => Some(Refusal::Rm10),
         }
     }
 

@@ -25,12 +25,7 @@ pub(crate) fn stand_all(place: &mut Vec<Option<DataFile>>, inc: IncNo, checkpoin
 }
 
 /// Takes out of place what does not exist at the address (i, s).
-pub(crate) fn keep_in_place(
-    place: &mut Vec<Option<DataFile>>,
-    world: &World,
-    i: IncNo,
-    s: Scn,
-)
+pub(crate) fn keep_in_place(place: &mut Vec<Option<DataFile>>, world: &World, i: IncNo, s: Scn)
     requires there { IsThere world.now.tree i }
     requires created { All (λ d. 0 < d.creation) world.now.files }
     requires many { length place.old.items ≡ length world.now.files }
