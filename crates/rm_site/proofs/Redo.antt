@@ -1,5 +1,5 @@
 -- The records of the online logs.
-use Rattle.std.proofs.Common.{◌≡◌, ◌<◌, ◌≤◌, ◌-◌, ℕ, List, [], Option, Some, None, All, IfSome, tt, true, ap, refl, subst, sym, arith, slice_get, slice_index_or}
+use Rattle.std.proofs.Common.{◌≡◌, ◌<◌, ◌≤◌, ◌-◌, ℕ, List, [], Option, Some, None, All, IfSome, true, ap, refl, subst, sym, arith, slice_get, slice_index_or}
 use Rattle.std.specs.Option.{option_map_or}
 use Rattle.std.proofs.lemmas.List.Elements.{All-nil, All-weaker}
 use Rattle.rm_redo.specs.declared.online.LogRecord.{LogRecord}
