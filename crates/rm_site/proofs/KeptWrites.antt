@@ -79,8 +79,8 @@ not-both b off on = absurd (cc)
 pub archived-still : (p q : Parts) (c : Change) → p.archived ≡ q.archived → InArchive p c → InArchive q c
 archived-still p q c same is = record { entry = is.entry; is = subst (λ xs. Contains xs is.entry) same is.is; holds = is.holds }
 
-pub keeps-at : (p : Parts) (i : ℕ) (h : List Change) → IsSound p → p.is_open ≡ false → Keeps p h → Keeps (at_incarnation p i) h
-keeps-at p i h s closed k = record {
+pub keeps-at : (p : Parts) (i : ℕ) (h : List Change) → p.is_open ≡ false → Keeps p h → Keeps (at_incarnation p i) h
+keeps-at p i h closed k = record {
   history = k.history;
   below = k.below;
   archived = k.archived;
