@@ -12,5 +12,5 @@ returns c h k =
     let reply = c.in_ok-reply in
     let accepted : open_refusal p ≡ None = sym c.open_refusal.ensures ∙ c.in_default.is in
     steps-done (Some p) _ (Some (opened p (now_of p))) OpenPlain reply.reply h h (ap Some c.open.ensures) accepted
-    (rw (← c.now.ensures.value) reply.ensures, refl)
+    (rw (← c.now.ensures.value, ← c.database.view_is) reply.ensures, refl)
     (keeps-opened p h c.now.ensures.sound accepted k)
