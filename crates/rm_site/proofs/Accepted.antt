@@ -6,7 +6,8 @@ use Rattle.std.proofs.lemmas.Bool.{eqb-true}
 use Rattle.std.proofs.lemmas.Bool.Decides.{nat_tests}
 use Rattle.rm_base.specs.Numbers.{last_scn}
 use Rattle.rm_base.specs.declared.refusal.Refusal.{Refusal}
-use Rattle.rm_base.specs.declared.refusal.Refusal.TheVariants.{Rm06, Rm10, Rm11, Rm15}
+use Rattle.rm_base.specs.declared.refusal.Refusal.TheVariants.{Rm05, Rm06, Rm10, Rm11, Rm15}
+use Rattle.rm_base.specs.declared.refusal.Absent.TheVariants.{Thread}
 use Rattle.rm_base.specs.declared.refusal.Limit.TheVariants.{Files, FileBlocks, Blocks, Incarnations, ObjectIds, Sequences}
 use Rattle.rm_history.specs.declared.tree.Incarnation.{Incarnation}
 use Rattle.rm_history.specs.Tree.{reset_of, end_of}
@@ -18,6 +19,7 @@ use Rattle.rm_site.specs.CreateDatafile.{datafile_refusal, room_refusal}
 use Rattle.rm_site.specs.Parts.{Parts, now_of, blocks_in}
 use Rattle.rm_site.specs.Recover.{recover_refusal, or_else}
 use Rattle.rm_site.specs.Recovery.{until_refusal}
+use Rattle.rm_site.specs.SwitchLogfile.{switch_refusal}
 use Rattle.rm_site.proofs.Sound.{closed-accepted, open-accepted}
 
 -- a database that can be opened as it is
@@ -140,3 +142,17 @@ datafile-accepted p blocks e =
       fit = not-lt 131072 (blocks_in p.world.files + blocks) three.0;
       most = not-lt 65536 blocks two.0;
     }
+
+-- SWITCH LOGFILE
+pub record CanSwitch (p : Parts) (t : ℕ) : Type 0 where
+  pub some : 0 < t
+  pub most : t ≤ p.world.threads
+  pub archive : archive_refusal p t 1 ≡ None
+
+switch-by : (p : Parts) (t : ℕ) (a b : Bool) → (t == 0) ≡ a → nat_lt p.world.threads t ≡ b → cond (a || b) (Some (Rm05 (Thread t))) (archive_refusal p t 1) ≡ None → CanSwitch p t
+switch-by p t true b ea eb e = absurd (cc)
+switch-by p t false true ea eb e = absurd (cc)
+switch-by p t false false ea eb e = record { some = grind (arith, nat_tests); most = grind (arith, nat_tests); archive = e }
+
+pub switch-accepted : (p : Parts) (t : ℕ) → switch_refusal p t ≡ None → CanSwitch p t
+switch-accepted p t e = switch-by p t (t == 0) (nat_lt p.world.threads t) refl refl (open-accepted p _ e).1

@@ -1,5 +1,5 @@
 -- The records of the online logs.
-use Rattle.std.proofs.Common.{◌≡◌, ◌<◌, ◌≤◌, ◌-◌, ℕ, List, [], Option, Some, None, All, IfSome, true, ap, refl, subst, sym, arith, slice_get, slice_index_or}
+use Rattle.std.proofs.Common.{◌≡◌, ◌≢◌, zero, suc, ◌∷◌, length, ◌<◌, ◌≤◌, ◌-◌, ℕ, List, [], Option, Some, None, All, IfSome, true, ap, refl, subst, sym, arith, slice_get, slice_index_or}
 use Rattle.std.specs.Option.{option_map_or}
 use Rattle.std.proofs.lemmas.List.Elements.{All-nil, All-weaker}
 use Rattle.rm_redo.specs.declared.online.LogRecord.{LogRecord}
@@ -44,3 +44,16 @@ file-by n b (Some x) each = row-by n x.rows b (each x refl) (slice_get x.rows b)
 -- in an open database each version in place lies below `now`
 pub versions-below : (p : Parts) (f b : ℕ) → IsSound p → p.is_open ≡ true → IfSome (slice_index_or p.place (f - 1) None) (λ x. IfSome (slice_get x.rows b) (λ r. r.version < now_of p))
 versions-below p f b s mode = file-by (now_of p) b (slice_index_or p.place (f - 1) None) (λ x is. (s.in_open mode).below (f - 1) x (get-index p.place (f - 1) x is))
+
+slice_get-there : (ls : List ThreadLog) (k : ℕ) → k < length ls → slice_get ls k ≢ None
+slice_get-there [] k within is = omega (arith, within)
+slice_get-there (l ∷ ls) zero within is = (let e : Some l ≡ None = is in absurd (cc))
+slice_get-there (l ∷ ls) (suc k) within is = slice_get-there ls k (omega (arith, within)) is
+
+first-begun-by : (end : ℕ) (ls : List ThreadLog) (k : ℕ) → k < length ls → All (IsOnline end) ls → (o : Option ThreadLog) → slice_get ls k ≡ o → 0 < option_map_or (λ l. l.first) o 0
+first-begun-by end ls k within all None is = absurd (let there : slice_get ls k ≢ None = slice_get-there ls k within in there is)
+first-begun-by end ls k within all (Some l) is = (all-get (IsOnline end) ls k l is all).begun
+
+-- a thread's log begins above 0
+pub first-begun : (p : Parts) (t : ℕ) → IsSound p → IsThread p.logs t → 0 < first_of p.logs t
+first-begun p t s there = first-begun-by (redo_end p) p.logs.threads (t - 1) (omega (arith, there.0, there.1)) s.online.logs (slice_get p.logs.threads (t - 1)) refl
