@@ -17,7 +17,7 @@ impl Database {
         ensures value { result ≡ dump_refusal self.now file block }
         ensures file { IfNone result ((0 < file) × (file ≤ 64)) }
         ensures block { IfNone result (block < 65536) }
-        ensures sound { IsSound self.now }
+        ensures sound { IfNone result (IsSound self.now) }
     {
         let Some(datafile) = self.on_path(file) else {
             return Some(Refusal::Rm05(Absent::File(file)));

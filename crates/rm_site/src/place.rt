@@ -7,6 +7,7 @@ ghost use Rattle.rm_site.specs.Mount.{lost_at, first_lost};
 ghost use Rattle.rm_site.specs.Open.{kept_in_place};
 ghost use Rattle.rm_site.specs.Parts.{placed, on_path};
 ghost use Rattle.rm_site.specs.Recover.{or_else, put_over};
+ghost use Rattle.rm_site.specs.Sound.{IsSound};
 
 use crate::database::Database;
 use rm_base::{FileNo, IncNo, Scn};
@@ -80,6 +81,7 @@ impl Database {
         ensures value { result ≡ on_path self.now number }
         ensures there { IfSome result (λ _. (0 < number) × (number ≤ 64)) }
         ensures blocks { IfSome result (λ d. d.blocks ≤ 65536) }
+        ensures sound { IfSome result (λ _. IsSound self.now) }
     {
         let datafile = self.world.file(number)?;
         if self.world.exists(self.current, self.now(), &datafile) {
