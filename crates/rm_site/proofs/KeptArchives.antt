@@ -134,3 +134,16 @@ keeps-all p h accepted s k = keeps-threads p 1 p.world.threads h (omega arith) (
 -- after the archiving of one
 pub keeps-thread : (p : Parts) (t : ℕ) (h : List Change) → IsAccepted p t 1 → IsSound p → IsThread p.logs t → Keeps p h → Keeps (after_thread p t) h
 keeps-thread p t h accepted s there k = (sound-by p t 0 h (is_due p t) refl accepted s there k).1
+
+-- the archiving of threads leaves the rest as it is
+pub same-threads : (p : Parts) (t n : ℕ) → Same p (after_threads p t n)
+same-threads p t zero = same-by p t false
+same-threads p t (suc n) = same-then p (after_thread p t) (after_threads (after_thread p t) (t + 1) n) (same-by p t (is_due p t)) (same-threads (after_thread p t) (t + 1) n)
+
+pub same-all : (p : Parts) → Same p (after_all p)
+same-all p = same-threads p 1 p.world.threads
+
+-- each thread begins at the end of the redo then
+pub begins-at_end : (p q : Parts) (h : List Change) (t : ℕ) → Archived p q h (1 + p.world.threads) → IsSound p → IsThread q.logs t → first_of q.logs t ≡ redo_end q
+unfolding BeginAtEnd
+begins-at_end p q h t is s there = is.done t there.0 (omega (arith, there.1, is.same.threads, s.online.threads))

@@ -5,8 +5,8 @@ use Rattle.rm_site.specs.Open.{branch_refusal}
 use Rattle.rm_site.specs.Parts.{Parts}
 use Rattle.rm_site.proofs.database.Database.resetlogs_refusal.Goals as goal
 
-pub returns-in-Some : goal.returns-in-Some
-returns-in-Some c =
+pub returns-in-Some-clause-value : goal.returns-in-Some-clause-value
+returns-in-Some-clause-value c =
     let p = c.args.self.now in
     let s = c.in-Some.field-0 in
     let mounted : p.is_open ≡ false = subst (λ (q : Parts). q.is_open ≡ false) c.self.view_is c.if-self.false in
