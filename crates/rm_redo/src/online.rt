@@ -151,6 +151,7 @@ impl OnlineLogs {
         requires sequence { sequence_of self.old thread < 4294967295 }
         ensures none { IfOk result (λ log. (log ≡ None) ↔ (first_of self.old thread ≡ now)) }
         ensures log { IfOk result (λ log. IfSome log (λ l. l ≡ log_file_of self.old thread now)) }
+        ensures begun { IfOk result (λ log. IfSome log (λ l. All (λ r. 0 < r.scn) l.records)) }
         ensures after { OnOk result (self.new ≡ switched self.old thread now) }
         ensures err { OnErr result (self.new ≡ self.old) }
     {

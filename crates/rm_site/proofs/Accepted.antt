@@ -4,19 +4,23 @@ use Rattle.std.specs.List.{list_any}
 use Rattle.std.specs.Option.{option_map_or}
 use Rattle.std.proofs.lemmas.Bool.{eqb-true}
 use Rattle.std.proofs.lemmas.Bool.Decides.{nat_tests}
+use Rattle.rm_base.specs.Numbers.{last_scn}
 use Rattle.rm_base.specs.declared.refusal.Refusal.{Refusal}
-use Rattle.rm_base.specs.declared.refusal.Refusal.TheVariants.{Rm06, Rm10, Rm11}
-use Rattle.rm_base.specs.declared.refusal.Limit.TheVariants.{Incarnations, ObjectIds, Sequences}
+use Rattle.rm_base.specs.declared.refusal.Refusal.TheVariants.{Rm05, Rm06, Rm10, Rm11, Rm15}
+use Rattle.rm_base.specs.declared.refusal.Absent.TheVariants.{Thread}
+use Rattle.rm_base.specs.declared.refusal.Limit.TheVariants.{Files, FileBlocks, Blocks, Incarnations, ObjectIds, Sequences}
 use Rattle.rm_history.specs.declared.tree.Incarnation.{Incarnation}
 use Rattle.rm_history.specs.Tree.{reset_of, end_of}
 use Rattle.rm_redo.specs.declared.online.ThreadLog.{ThreadLog}
 use Rattle.rm_redo.specs.Online.{IsThread, IsLost}
 use Rattle.rm_site.specs.Archiving.{archive_refusal}
 use Rattle.rm_site.specs.Open.{is_recovered, open_refusal, branch_refusal, resetlogs_refusal}
-use Rattle.rm_site.specs.Parts.{Parts, now_of}
+use Rattle.rm_site.specs.CreateDatafile.{datafile_refusal, room_refusal}
+use Rattle.rm_site.specs.Parts.{Parts, now_of, blocks_in}
 use Rattle.rm_site.specs.Recover.{recover_refusal, or_else}
 use Rattle.rm_site.specs.Recovery.{until_refusal}
-use Rattle.rm_site.proofs.Sound.{closed-accepted}
+use Rattle.rm_site.specs.SwitchLogfile.{switch_refusal}
+use Rattle.rm_site.proofs.Sound.{closed-accepted, open-accepted}
 
 -- a database that can be opened as it is
 pub record IsRecovered (p : Parts) : Type 0 where
@@ -111,3 +115,44 @@ branch-accepted p s at e =
     let branch : branch_refusal p s ≡ None = subst (λ (o : Option ℕ). option_map_or (branch_refusal p) o (Some Rm10) ≡ None) at mode.1 in
     let few = few-by (nat_le 256 (length p.world.tree)) (archive_refusal p 1 p.world.threads) branch in
     record { closed = mode.0; few = not-le 256 (length p.world.tree) few.0; archive = few.1 }
+
+-- CREATE DATAFILE
+pub record HasRoom (p : Parts) (blocks : ℕ) : Type 0 where
+  pub opened : p.is_open ≡ true
+  pub below : now_of p < last_scn
+  pub few : length p.world.files < 64
+  pub fit : blocks_in p.world.files + blocks ≤ 131072
+  pub most : blocks ≤ 65536
+
+unless-some : (b : Bool) (r : Refusal) (other : Option Refusal) → cond b (Some r) other ≡ None → (b ≡ false) × (other ≡ None)
+unless-some true r other e = absurd (cc)
+unless-some false r other e = (refl, e)
+
+pub datafile-accepted : (p : Parts) (blocks : ℕ) → datafile_refusal p blocks ≡ None → HasRoom p blocks
+datafile-accepted p blocks e =
+    let mode = open-accepted p (room_refusal p blocks) e in
+    let one = unless-some (nat_le 64 (length p.world.files)) (Rm11 Files) _ mode.1 in
+    let two = unless-some (nat_lt 65536 blocks) (Rm11 FileBlocks) _ one.1 in
+    let three = unless-some (nat_lt 131072 (blocks_in p.world.files + blocks)) (Rm11 Blocks) _ two.1 in
+    let four = unless-some (nat_le last_scn (now_of p)) Rm15 None three.1 in
+    record {
+      opened = mode.0;
+      below = not-le last_scn (now_of p) four.0;
+      few = not-le 64 (length p.world.files) one.0;
+      fit = not-lt 131072 (blocks_in p.world.files + blocks) three.0;
+      most = not-lt 65536 blocks two.0;
+    }
+
+-- SWITCH LOGFILE
+pub record CanSwitch (p : Parts) (t : ℕ) : Type 0 where
+  pub some : 0 < t
+  pub most : t ≤ p.world.threads
+  pub archive : archive_refusal p t 1 ≡ None
+
+switch-by : (p : Parts) (t : ℕ) (a b : Bool) → (t == 0) ≡ a → nat_lt p.world.threads t ≡ b → cond (a || b) (Some (Rm05 (Thread t))) (archive_refusal p t 1) ≡ None → CanSwitch p t
+switch-by p t true b ea eb e = absurd (cc)
+switch-by p t false true ea eb e = absurd (cc)
+switch-by p t false false ea eb e = record { some = grind (arith, nat_tests); most = grind (arith, nat_tests); archive = e }
+
+pub switch-accepted : (p : Parts) (t : ℕ) → switch_refusal p t ≡ None → CanSwitch p t
+switch-accepted p t e = switch-by p t (t == 0) (nat_lt p.world.threads t) refl refl (open-accepted p _ e).1

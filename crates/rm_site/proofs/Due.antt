@@ -1,5 +1,5 @@
 -- The threads that have something to archive, one after another.
-use Rattle.std.proofs.Common.{◌≡◌, ◌≢◌, ◌<◌, ◌≤◌, ◌+◌, ◌-◌, ◌∙◌, ◌&&◌, ◌||◌, ℕ, zero, suc, List, Some, None, true, false, Bool, cond, refl, ap, sym, subst, arith, leb, length, get_or, take, slice_get}
+use Rattle.std.proofs.Common.{◌≡◌, ◌<◌, ◌+◌, ◌-◌, ◌∙◌, ◌&&◌, ◌||◌, ℕ, suc, Some, true, false, Bool, cond, refl, ap, sym, subst, arith, leb, length, get_or, take, slice_get}
 use Rattle.std.specs.List.{list_any}
 use Rattle.std.specs.Option.{option_map_or}
 use Rattle.std.proofs.lemmas.List.Folds.{list_any_more, list_any_at}

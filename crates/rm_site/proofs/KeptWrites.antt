@@ -79,8 +79,8 @@ not-both b off on = absurd (cc)
 pub archived-still : (p q : Parts) (c : Change) → p.archived ≡ q.archived → InArchive p c → InArchive q c
 archived-still p q c same is = record { entry = is.entry; is = subst (λ xs. Contains xs is.entry) same is.is; holds = is.holds }
 
-pub keeps-at : (p : Parts) (i : ℕ) (h : List Change) → IsSound p → p.is_open ≡ false → Keeps p h → Keeps (at_incarnation p i) h
-keeps-at p i h s closed k = record {
+pub keeps-at : (p : Parts) (i : ℕ) (h : List Change) → p.is_open ≡ false → Keeps p h → Keeps (at_incarnation p i) h
+keeps-at p i h closed k = record {
   history = k.history;
   below = k.below;
   archived = k.archived;
@@ -244,22 +244,22 @@ pub record Accepted (p : Parts) (w : WriteForm) : Type 0 where
   pub file : File
   pub stands : placed p w.file ≡ Some file
 
-unless : (b : Bool) (r : Refusal) (other : Option Refusal) → cond b (Some r) other ≡ None → (b ≡ false) × (other ≡ None)
+pub unless : (b : Bool) (r : Refusal) (other : Option Refusal) → cond b (Some r) other ≡ None → (b ≡ false) × (other ≡ None)
 unless true r other is = absurd (cc)
 unless false r other is = (refl, is)
 
-not-none : (o : Option File) → is_none o ≡ false → (x : File) × (o ≡ Some x)
+pub not-none : (o : Option File) → is_none o ≡ false → (x : File) × (o ≡ Some x)
 not-none (Some x) is = (x, refl)
 not-none None is = absurd (cc)
 
-inside-of : (a b : ℕ) → nat_le b a ≡ false → a < b
+pub inside-of : (a b : ℕ) → nat_le b a ≡ false → a < b
 inside-of a b is = grind (arith, nat_tests)
 
 found-by : (p : Parts) (w : WriteForm) (o : Option Datafile) → option_map_or (block_refusal p w) o (Some (Rm05 (AbsentFile w.file))) ≡ None → (d : Datafile) × (o ≡ Some d) × (block_refusal p w d ≡ None)
 found-by p w None is = absurd (cc)
 found-by p w (Some d) is = (d, refl, is)
 
-on-path : (p : Parts) (f : ℕ) (d : Datafile) → on_path p f ≡ Some d → (file_of p.world f ≡ Some d) × (exists p.world p.current (now_of p) d ≡ true)
+pub on-path : (p : Parts) (f : ℕ) (d : Datafile) → on_path p f ≡ Some d → (file_of p.world f ≡ Some d) × (exists p.world p.current (now_of p) d ≡ true)
 on-path p f d is =
     option_and_then_some (λ e. cond (exists p.world p.current (now_of p) e) (Some e) None) (file_of p.world f) d is
     (λ e known kept.

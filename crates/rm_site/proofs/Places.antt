@@ -1,8 +1,7 @@
 -- What stands in place, after the first k datafiles were looked at.
-use Rattle.std.proofs.Common.{◌≡◌, ◌≢◌, ◌<◌, ◌+◌, ◌∙◌, ◌++◌, ℕ, zero, suc, List, [], ◌∷◌, Option, Some, None, true, false, Bool, cond, refl, ap, sym, arith, length, get_or, take, drop, map, is_none, is_some, not, ◌&&◌}
+use Rattle.std.proofs.Common.{◌≡◌, ◌<◌, ◌+◌, ◌∙◌, ◌++◌, ℕ, zero, suc, List, [], ◌∷◌, Option, Some, None, true, false, Bool, cond, refl, ap, sym, arith, length, get_or, take, drop, map, is_none, is_some, not, ◌&&◌}
 use Rattle.std.proofs.Math.ListN.{set}
-use Rattle.std.specs.Option.{option_map}
-use Rattle.rm_blocks.specs.File.{File, standing}
+use Rattle.rm_blocks.specs.File.{File}
 use Rattle.rm_history.specs.declared.world.Datafile.{Datafile}
 use Rattle.rm_history.specs.declared.world.World.{World}
 use Rattle.rm_history.specs.World.{exists}
@@ -51,16 +50,9 @@ none-by false = refl
 pub held-by : (e : Bool) (o : Option File) (b : Bool) → is_some o ≡ not b → b ≡ false → (e && is_none o) ≡ false
 held-by e o b is held = ap (λ x. e && x) (is_none-by o b is ∙ held) ∙ none-by e
 
--- of two datafiles the search goes on to the next
+-- the search for one that is lost goes on to the next datafile
 pub lost-next : (w : World) (i s f : ℕ) (ds : List Datafile) (xs : List (Option File)) (k : ℕ) (d : Datafile) (x : Option File) → k < length ds → length xs ≡ length ds → (exists w i s (get_or ds k d) && is_none (get_or xs k x)) ≡ false → first_lost w i s f (drop k ds) (drop k xs) ≡ first_lost w i s (f + 1) (drop (suc k) ds) (drop (suc k) xs)
 lost-next w i s f [] xs k d x inside many found = absurd (omega arith)
 lost-next w i s f (e ∷ ds) [] k d x inside many found = absurd (omega arith)
 lost-next w i s f (e ∷ ds) (y ∷ ys) zero d x inside many found = ap (λ b. cond b (Some f) (first_lost w i s (f + 1) ds ys)) found
 lost-next w i s f (e ∷ ds) (y ∷ ys) (suc k) d x inside many found = lost-next w i s f ds ys k d x (omega arith) (omega arith) found
-
--- or it ends here
-pub lost-here : (w : World) (i s f : ℕ) (ds : List Datafile) (xs : List (Option File)) (k : ℕ) (d : Datafile) (x : Option File) → k < length ds → length xs ≡ length ds → (exists w i s (get_or ds k d) && is_none (get_or xs k x)) ≡ true → first_lost w i s f (drop k ds) (drop k xs) ≡ Some f
-lost-here w i s f [] xs k d x inside many found = absurd (omega arith)
-lost-here w i s f (e ∷ ds) [] k d x inside many found = absurd (omega arith)
-lost-here w i s f (e ∷ ds) (y ∷ ys) zero d x inside many found = ap (λ b. cond b (Some f) (first_lost w i s (f + 1) ds ys)) found
-lost-here w i s f (e ∷ ds) (y ∷ ys) (suc k) d x inside many found = lost-here w i s f ds ys k d x (omega arith) (omega arith) found

@@ -1,20 +1,14 @@
--- The rows of a datafile that a recovery brings back, or that a change was written to.
-use Rattle.std.proofs.Common.{◌≡◌, ◌<◌, ◌≤◌, ◌+◌, ◌∙◌, ℕ, zero, suc, List, [], ◌∷◌, Option, Some, None, Bool, true, false, cond, refl, ap, sym, subst, arith, length, All, IfSome, slice_get}
-use Rattle.std.proofs.lemmas.List.{set_past}
+-- The rows of the datafiles that a recovery brings back.
+use Rattle.std.proofs.Common.{◌≡◌, ◌≤◌, ◌+◌, ◌∙◌, ℕ, zero, suc, List, [], ◌∷◌, Option, Some, None, Bool, true, false, cond, refl, ap, sym, arith, length, All, IfSome, slice_get}
 use Rattle.std.proofs.lemmas.List.Elements.{All-nil, All-cons, All-head, All-tail}
-use Rattle.rm_base.specs.declared.block.Block.{Block}
 use Rattle.rm_base.specs.declared.block.Change.{Change}
 use Rattle.rm_base.specs.declared.block.Row.{Row}
-use Rattle.rm_blocks.specs.File.{File, IsInOrder, written}
+use Rattle.rm_blocks.specs.File.{File, IsInOrder}
 use Rattle.rm_history.specs.declared.world.Datafile.{Datafile}
 use Rattle.rm_history.specs.declared.world.World.{World}
 use Rattle.rm_history.specs.State.{rows_from, state, states}
 use Rattle.rm_history.specs.World.{exists}
 use Rattle.rm_site.specs.Recovery.{file_at, files_from}
-
--- a change of a block that is not there changes nothing
-pub written-outside : (x : File) (b scn : ℕ) (content : Block) → length x.rows ≤ b → written x b scn content ≡ x
-written-outside x b scn content past = ap (λ (rows : List Row). record x { rows = rows }) (set_past x.rows b (record { block = b; version = scn; content = content }) past)
 
 numbered : (row : ℕ → Row) → ((b : ℕ) → (row b).block ≡ b) → (b n k : ℕ) (r : Row) → slice_get (rows_from row b n) k ≡ Some r → r.block ≡ b + k
 numbered row is b zero k r at = absurd (cc)

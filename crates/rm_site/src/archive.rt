@@ -23,6 +23,7 @@ impl Database {
         ensures value { result ≡ due_from self.now from count }
         ensures most { result ≤ count }
     {
+        // There are few threads, so the end of the range fits.
         let threads = self.threads();
         prove!(threads <= 4);
         let mut due = 0;
@@ -39,6 +40,7 @@ impl Database {
         requires threads { (0 < from) × (from + count ≤ self.now.world.threads + 1) }
         ensures { result ≡ is_last_sequence self.now from count }
     {
+        // There are few threads, so the end of the range fits.
         let threads = self.threads();
         prove!(threads <= 4);
         for thread in from..from + count {

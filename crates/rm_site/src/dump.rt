@@ -2,6 +2,7 @@
 ghost use Rattle.std.specs.Prelude.{◌≡◌, ◌≤◌, ◌<◌, IfOk, IfNone, Some, None};
 ghost use Rattle.rm_lang.specs.declared.command.Command.TheVariants.{Dump};
 ghost use Rattle.rm_site.specs.Dump.{dump_refusal, placed_row};
+ghost use Rattle.rm_site.specs.Sound.{IsSound};
 ghost use Rattle.rm_site.specs.Step.{Steps};
 
 use crate::database::Database;
@@ -16,6 +17,7 @@ impl Database {
         ensures value { result ≡ dump_refusal self.now file block }
         ensures file { IfNone result ((0 < file) × (file ≤ 64)) }
         ensures block { IfNone result (block < 65536) }
+        ensures sound { IfNone result (IsSound self.now) }
     {
         let Some(datafile) = self.on_path(file) else {
             return Some(Refusal::Rm05(Absent::File(file)));

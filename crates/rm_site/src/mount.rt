@@ -2,6 +2,7 @@
 ghost use Rattle.std.specs.Prelude.{◌≡◌, IfOk, Some, true};
 ghost use Rattle.rm_lang.specs.declared.command.Command.TheVariants.{Mount};
 ghost use Rattle.rm_site.specs.Mount.{mount_point, mounted};
+ghost use Rattle.rm_site.specs.Sound.{IsSound};
 ghost use Rattle.rm_site.specs.Step.{Steps};
 
 use crate::database::Database;
@@ -27,7 +28,8 @@ impl Database {
     // Mounts the open database.
     fn mount(&mut self)
         requires { self.old.is_open ≡ true }
-        ensures { self.new ≡ mounted self.old }
+        ensures value { self.new ≡ mounted self.old }
+        ensures sound { IsSound self.old }
     {
         let now = self.now();
         let point = self.mount_point();

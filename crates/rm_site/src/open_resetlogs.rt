@@ -5,6 +5,7 @@ ghost use Rattle.rm_lang.specs.declared.command.Command.TheVariants.{OpenResetlo
 ghost use Rattle.rm_site.specs.Archiving.{after_all};
 ghost use Rattle.rm_site.specs.Open.{branch_refusal, resetlogs_refusal, next_incarnation, branched_off};
 ghost use Rattle.rm_site.specs.Parts.{now_of};
+ghost use Rattle.rm_site.specs.Sound.{IsSound};
 ghost use Rattle.rm_site.specs.Step.{Steps};
 
 use crate::database::Database;
@@ -29,14 +30,15 @@ impl Database {
 
     // Why OPEN RESETLOGS is refused, if it is.
     fn resetlogs_refusal(&self) -> Option<Refusal>
-        ensures { result ≡ resetlogs_refusal self.now }
+        ensures value { result ≡ resetlogs_refusal self.now }
+        ensures sound { IsSound self.now }
     {
         if self.is_open {
-            Some(Refusal::Rm04 { mounted: false })
-        } else if self.point.is_none() {
-            Some(Refusal::Rm10)
-        } else {
-            self.branch_refusal()
+            return Some(Refusal::Rm04 { mounted: false });
+        }
+        match self.point {
+            Some(_) => self.branch_refusal(),
+            None => Some(Refusal::Rm10),
         }
     }
 

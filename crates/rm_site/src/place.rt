@@ -7,6 +7,7 @@ ghost use Rattle.rm_site.specs.Mount.{lost_at, first_lost};
 ghost use Rattle.rm_site.specs.Open.{kept_in_place};
 ghost use Rattle.rm_site.specs.Parts.{placed, on_path};
 ghost use Rattle.rm_site.specs.Recover.{or_else, put_over};
+ghost use Rattle.rm_site.specs.Sound.{IsSound};
 
 use crate::database::Database;
 use rm_base::{FileNo, IncNo, Scn};
@@ -25,12 +26,7 @@ pub(crate) fn stand_all(place: &mut Vec<Option<DataFile>>, inc: IncNo, checkpoin
 }
 
 /// Takes out of place what does not exist at the address (i, s).
-pub(crate) fn keep_in_place(
-    place: &mut Vec<Option<DataFile>>,
-    world: &World,
-    i: IncNo,
-    s: Scn,
-)
+pub(crate) fn keep_in_place(place: &mut Vec<Option<DataFile>>, world: &World, i: IncNo, s: Scn)
     requires there { IsThere world.now.tree i }
     requires created { All (λ d. 0 < d.creation) world.now.files }
     requires many { length place.old.items ≡ length world.now.files }
@@ -85,6 +81,7 @@ impl Database {
         ensures value { result ≡ on_path self.now number }
         ensures there { IfSome result (λ _. (0 < number) × (number ≤ 64)) }
         ensures blocks { IfSome result (λ d. d.blocks ≤ 65536) }
+        ensures sound { IfSome result (λ _. IsSound self.now) }
     {
         let datafile = self.world.file(number)?;
         if self.world.exists(self.current, self.now(), &datafile) {

@@ -3,6 +3,7 @@ ghost use Rattle.std.specs.Prelude.{◌≡◌, ◌≤◌, IfOk, IfNone, OnOk, So
 ghost use Rattle.rm_lang.specs.declared.command.Command.TheVariants.{Recover};
 ghost use Rattle.rm_site.specs.Recover.{recover_refusal, recovered};
 ghost use Rattle.rm_site.specs.Recovery.{target, told_by};
+ghost use Rattle.rm_site.specs.Sound.{IsSound};
 ghost use Rattle.rm_site.specs.Step.{Steps};
 
 use crate::database::Database;
@@ -17,7 +18,8 @@ use std::alloc::Global;
 impl Database {
     // Why a recovery until `s` is refused, if it is.
     fn recover_refusal(&self, s: u64) -> Option<Refusal>
-        ensures { result ≡ recover_refusal self.now s }
+        ensures value { result ≡ recover_refusal self.now s }
+        ensures sound { IsSound self.now }
     {
         if self.is_open {
             return Some(Refusal::Rm04 { mounted: false });

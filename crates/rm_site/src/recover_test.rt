@@ -55,7 +55,10 @@ fn push_file(
         return Ok(());
     };
     let rows = file.rows();
-    let written = rows.iter().filter(|row| datafile.creation < row.version).count();
+    let written = rows
+        .iter()
+        .filter(|row| datafile.creation < row.version)
+        .count();
     lines.push(Line::FileIs {
         file: number,
         blocks: datafile.blocks,

@@ -132,7 +132,8 @@ fn files_at(
 impl Database {
     // What the archived logs tell.
     fn push_archived(&self, changes: &mut Vec<Change>) -> Result<(), NoMemory>
-        ensures { OnOk result (changes.new.items ≡ changes.old.items ++ flat_map (λ a. changes_of a.log) self.now.archived) }
+        ensures changes { OnOk result (changes.new.items ≡ changes.old.items ++ flat_map (λ a. changes_of a.log) self.now.archived) }
+        ensures sound { IsSound self.now }
     {
         for archived in self.archived.as_slice() {
             let log = &archived.log;
@@ -157,6 +158,7 @@ impl Database {
     fn told(&self, alloc: Global) -> Result<Vec<Change>, NoMemory>
         ensures changes { IfOk result (λ changes. changes.items ≡ told_by self.now) }
         ensures scns { IfOk result (λ changes. All (λ c. 0 < c.scn) changes.items) }
+        ensures sound { IsSound self.now }
     {
         let mut changes = Vec::new(alloc);
         self.push_archived(&mut changes)?;

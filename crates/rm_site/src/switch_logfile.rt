@@ -1,6 +1,7 @@
 //! ALTER SYSTEM SWITCH LOGFILE, and ALTER SYSTEM ARCHIVE LOG CURRENT
 ghost use Rattle.std.specs.Prelude.{◌≡◌, ◌≤◌, ◌<◌, IfOk, IfNone, Some};
 ghost use Rattle.rm_lang.specs.declared.command.Command.TheVariants.{SwitchLogfile, ArchiveLogCurrent};
+ghost use Rattle.rm_site.specs.Sound.{IsSound};
 ghost use Rattle.rm_site.specs.Step.{Steps};
 ghost use Rattle.rm_site.specs.SwitchLogfile.{switch_refusal, archive_all_refusal};
 
@@ -16,6 +17,7 @@ impl Database {
         ensures value { result ≡ switch_refusal self.now thread }
         ensures thread { IfNone result ((0 < thread) × (thread ≤ self.now.world.threads)) }
         ensures most { IfNone result (thread ≤ 4) }
+        ensures sound { IsSound self.now }
     {
         if !self.is_open {
             return Some(Refusal::Rm04 { mounted: true });
@@ -28,7 +30,8 @@ impl Database {
 
     // Why ARCHIVE LOG CURRENT is refused, if it is.
     fn archive_all_refusal(&self) -> Option<Refusal>
-        ensures { result ≡ archive_all_refusal self.now }
+        ensures value { result ≡ archive_all_refusal self.now }
+        ensures sound { IsSound self.now }
     {
         if !self.is_open {
             return Some(Refusal::Rm04 { mounted: true });

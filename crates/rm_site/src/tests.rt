@@ -1,4 +1,5 @@
-//! Two writes to one block, and what the test of a recovery tells of them.
+//! Two writes to one block and what the test of a recovery tells of them, and a full log.
+use crate::database::Database;
 use crate::{Site, refusal_reply};
 use rm_base::{Block, Refusal};
 use rm_lang::{Command, Until, WriteForm, is_command};
@@ -13,6 +14,13 @@ fn shows(rt: &impl Abort, alloc: Global, reply: &Reply, text: &str) -> Result<()
     assert_eq!(rt; bytes.as_slice(), text.as_bytes(), "{text}");
     Ok(())
 }
+
+// CREATE DATABASE.
+const CREATE: Command = Command::CreateDatabase {
+    dbid: 1,
+    threads: 1,
+    scn: 1,
+};
 
 // WRITE DATAFILE 1 BLOCK 0.
 fn write(content: Block) -> Command {
@@ -34,13 +42,8 @@ fn test_until(scn: u64) -> Command {
 
 #[test]
 fn two_writes(rt: HostRuntime) -> Result<(), Fail> {
-    let create = Command::CreateDatabase {
-        dbid: 1,
-        threads: 1,
-        scn: 1,
-    };
     let steps = [
-        (create, "database 1 incarnation 1 at 1\n"),
+        (CREATE, "database 1 incarnation 1 at 1\n"),
         (
             Command::CreateDatafile { blocks: 4 },
             "datafile 1 created at 1 with 4 blocks\n",
@@ -57,6 +60,38 @@ fn two_writes(rt: HostRuntime) -> Result<(), Fail> {
         assert!(rt; is_command(&command));
         shows(&rt, rt.alloc(), &site.step(&command)?, text)?;
     }
+    Ok(())
+}
+
+// A redo thread holds 65,536 changes. After a switch it takes more.
+#[test]
+fn a_full_log(rt: HostRuntime) -> Result<(), Fail> {
+    let alloc = rt.alloc();
+    let write = write(Block::padded(b"AA"));
+    let datafile = Command::CreateDatafile { blocks: 1 };
+    let switch = Command::SwitchLogfile { thread: 1 };
+    assert!(rt; is_command(&write) && is_command(&datafile) && is_command(&switch));
+    let mut site = Site::new(alloc);
+    site.step(&CREATE)?;
+    site.step(&datafile)?;
+    for _ in 0..65_535 {
+        site.step(&write)?;
+    }
+    shows(&rt, alloc, &site.step(&write)?, "scn 65537\n")?;
+    let full = "RM-11: limit log records 65536\n";
+    shows(&rt, alloc, &site.step(&write)?, full)?;
+    let archived = "log 1 thread 1 sequence 1 first 1 next 65538\n";
+    shows(&rt, alloc, &site.step(&switch)?, archived)?;
+    shows(&rt, alloc, &site.step(&write)?, "scn 65538\n")
+}
+
+#[test]
+fn a_new_database(rt: HostRuntime) -> Result<(), Fail> {
+    let database = Database::new(rt.alloc(), 1, 4, 9)?;
+    assert_eq!(rt; database.now(), 9);
+    assert_eq!(rt; database.redo_end(), 9);
+    assert_eq!(rt; database.files(), 0);
+    assert_eq!(rt; database.blocks(), 0);
     Ok(())
 }
 

@@ -4,11 +4,19 @@
 mod adapters;
 mod ends;
 #[cfg(test)]
+mod faults;
+#[cfg(test)]
+mod incarnations;
+#[cfg(test)]
+mod refusals;
+#[cfg(test)]
 mod rows;
 mod run;
 mod session;
 #[cfg(test)]
 mod tests;
+#[cfg(test)]
+mod trials;
 mod words;
 
 use adapters::{ReadSource, WriteSink};

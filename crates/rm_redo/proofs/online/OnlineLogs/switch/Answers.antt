@@ -1,4 +1,5 @@
-use Rattle.std.proofs.Common.{ℕ, ◌≡◌, ◌<◌, ◌≤◌, ◌-◌, ◌∙◌, List, [], Option, ap, sym, subst, arith, slice_set}
+use Rattle.std.proofs.Common.{ℕ, ◌≡◌, ◌<◌, ◌≤◌, ◌-◌, ◌∙◌, List, [], Option, Some, None, ap, sym, subst, arith, All, slice_get, slice_set}
+use Rattle.std.proofs.lemmas.List.Elements.{All-weaker}
 use Rattle.std.specs.Option.{option_map_or}
 use Rattle.rm_redo.specs.declared.log_file.LogFile.{LogFile}
 use Rattle.rm_redo.specs.declared.online.LogRecord.{LogRecord}
@@ -70,3 +71,13 @@ returns-clause-after c =
     ap written c.begin_anew-records.ensures.after
     ∙ switched-to logs c.args.thread c.args.now l is c.if-log-now.false
     ∙ ap (λ x. switched x c.args.thread c.args.now) c.self.view_is
+
+pub returns-clause-begun : goal.returns-clause-begun
+returns-clause-begun c =
+    let logs : Logs = record { dbid = c.self.inside.dbid; inc = c.self.inside.inc; threads = c.self.inside.threads.items } in
+    let l : ThreadLog = c.index_mut-log.result.now in
+    let there : IsThread logs c.args.thread = subst (λ x. IsThread x c.args.thread) (sym c.self.view_is) c.requires.thread in
+    let is = is_log-there logs c.args.thread l c.self.invariant (log-there logs c.args.thread l there c.index_mut-log.ensures.value) in
+    let begun = is.begun in
+    subst (λ (rs : List LogRecord). All (λ r. 0 < r.scn) rs) (sym c.begin_anew-records.ensures.records)
+    (All-weaker (λ (r : LogRecord). l.first ≤ r.scn) (λ (r : LogRecord). 0 < r.scn) (λ r from. omega (arith, from, begun)) l.records is.from)

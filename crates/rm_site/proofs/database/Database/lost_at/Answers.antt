@@ -22,7 +22,7 @@ loop-index-preserved c =
     let e : suc k ≡ k + 1 = omega arith in
     let many : length xs ≡ length w.files = c.self.invariant.placed.many in
     let on : (x : Option File) → (exists w i c.args.s (get_or w.files k any) && is_none (get_or xs k x)) ≡ false → first_lost w i c.args.s (k + 1) (drop k w.files) (drop k xs) ≡ first_lost w i c.args.s (k + 1 + 1) (drop (k + 1) w.files) (drop (k + 1) xs) = λ x found.
-      subst (λ n. first_lost w i c.args.s (k + 1) (drop k w.files) (drop k xs) ≡ first_lost w i c.args.s (k + 1 + 1) (drop n w.files) (drop n xs)) e (lost-next w i c.args.s (k + 1) w.files xs k any x inside many found) in
+    subst (λ n. first_lost w i c.args.s (k + 1) (drop k w.files) (drop k xs) ≡ first_lost w i c.args.s (k + 1 + 1) (drop n w.files) (drop n xs)) e (lost-next w i c.args.s (k + 1) w.files xs k any x inside many found) in
     let step : first_lost w i c.args.s (k + 1) (drop k w.files) (drop k xs) ≡ first_lost w i c.args.s (k + 1 + 1) (drop (k + 1) w.files) (drop (k + 1) xs) = elim c.else-exists.branch [
       | else-exists-via-then-exists+else-is_none w1 ↦
           let x = w1.index.result.now in
