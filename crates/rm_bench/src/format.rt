@@ -4,6 +4,7 @@ use std::alloc::{AllocError, Global};
 use std::io;
 
 /// What some runs gave, and how long the shortest of them took.
+#[derive(Drop)]
 pub struct Shortest<T> {
     pub made: T,
     pub micros: u128,

@@ -137,20 +137,38 @@ pub fn comes_back<F: Format>(rt: &HostRuntime, rows: u32) -> io::Result<bool> {
 /// shortest of 20 runs of each.
 pub fn tell_speed<F: Format>(rt: &HostRuntime, name: &str, rows: u32) -> io::Result<()> {
     let value = F::new(rt.alloc(), rows)?;
-    let encode = value.encode(rt, TIMES)?;
-    let Some(bytes) = encode.made else {
+    let Shortest {
+        made,
+        micros: encode,
+    } = value.encode(rt, TIMES)?;
+    let Some(bytes) = made else {
         return println!(rt; "{name}: no bytes");
     };
-    let decode = F::decode(rt, bytes.as_slice(), TIMES)?;
-    let digest = digest(rt, bytes.as_slice())?;
+    let Shortest {
+        made: value,
+        micros: decode,
+    } = F::decode(rt, bytes.as_slice(), TIMES)?;
+    let Shortest {
+        made: first,
+        micros: alone,
+    } = digest(rt, bytes.as_slice())?;
 
     let len = bytes.len();
-    let read = decode.made.is_some();
-    let first = digest.made;
-    println!(rt; "{name} of {rows}: {len} bytes, read: {read}, digest begins with {first}")?;
-    tell_share(rt, "encode", len, encode.micros, digest.micros)?;
-    tell_share(rt, "decode", len, decode.micros, digest.micros)?;
-    tell_share(rt, "SHA-256 alone", len, digest.micros, digest.micros)
+    tell_bytes(rt, name, rows, len, value.is_some(), first)?;
+    tell_share(rt, "encode", len, encode, alone)?;
+    tell_share(rt, "decode", len, decode, alone)?;
+    tell_share(rt, "SHA-256 alone", len, alone, alone)
+}
+
+fn tell_bytes(
+    rt: &HostRuntime,
+    name: &str,
+    rows: u32,
+    len: usize,
+    read: bool,
+    first: u8,
+) -> io::Result<()> {
+    println!(rt; "{name} of {rows}: {len} bytes, read: {read}, digest begins with {first}")
 }
 
 // The first byte of the digest.

@@ -7,7 +7,7 @@ abbrev pub high_of : ℕ → List Row → ℕ
 high_of checkpoint [] = checkpoint
 high_of checkpoint (r ∷ rs) = max (high_of checkpoint rs) (r.version + 1)
 
--- no number below h is both at or above the checkpoint and above each version, and h is
+-- h is the least number that is above each version and not below the checkpoint
 pub record IsHigh (checkpoint : ℕ) (rows : List Row) (h : ℕ) : Type 0 where
   pub reaches : checkpoint ≤ h
   pub above : All (λ r. r.version < h) rows

@@ -16,7 +16,7 @@ pub fn a_spelling_has_a_length()
     ensures { (p : Piece) → IsPiece p → length (spelling p) ≡ 82 + 76 * length p.rows }
 {}
 
-/// The high of rows is the least SCN that is not below the checkpoint and above each version.
+/// The high of rows is the least number that is above each version and not below the checkpoint.
 pub fn high_is_the_least()
     ensures is { (c : ℕ) (rows : List Row) → IsHigh c rows (high_of c rows) }
     ensures one { (c : ℕ) (rows : List Row) (high : ℕ) → IsHigh c rows high → high ≡ high_of c rows }
