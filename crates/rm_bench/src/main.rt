@@ -1,7 +1,8 @@
-//! Runs each kernel beside a plain loop: with no word it tells whether both gave the same, and
-//! with the word `large` it tells the time of both.
+//! Runs each kernel beside a plain loop, and a catalog's edits beside copies: with no word it tells
+//! whether both gave the same, and with the word `large` it tells the time of both.
 #![tactic(auto)]
 
+mod catalog;
 mod kernel;
 mod kernels;
 mod plain;
@@ -20,7 +21,8 @@ fn main(rt: HostRuntime) -> io::Result<()> {
     run::<CountOnes>(&rt, "count_ones", large)?;
     run::<NextSet>(&rt, "next_set", large)?;
     run::<IsZero>(&rt, "is_zero", large)?;
-    run::<Same>(&rt, "same", large)
+    run::<Same>(&rt, "same", large)?;
+    catalog::run(&rt, large)
 }
 
 fn run<K: Kernel>(rt: &HostRuntime, name: &str, large: bool) -> io::Result<()> {

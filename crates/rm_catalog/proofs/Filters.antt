@@ -32,7 +32,7 @@ both p q [] = refl
 both {X} p q (x ∷ xs) = step (p x) (q x) (both p q xs)
   where
     step : (a b : Bool) → filter q (filter p xs) ≡ filter (λ y. cond (p y) (q y) false) xs
-      → filter q (cond a (x ∷ filter p xs) (filter p xs)) ≡ cond (cond a (q x) false) (x ∷ filter (λ y. cond (p y) (q y) false) xs) (filter (λ y. cond (p y) (q y) false) xs)
+        → filter q (cond a (x ∷ filter p xs) (filter p xs)) ≡ cond (cond a (q x) false) (x ∷ filter (λ y. cond (p y) (q y) false) xs) (filter (λ y. cond (p y) (q y) false) xs)
     step true b h = ap (λ (ys : List X). cond (q x) (x ∷ ys) ys) h
     step false b h = h
 
@@ -117,8 +117,8 @@ low_part p q m rs all lt =
     below_append q (below p rs) (m ++ above p rs)
     ∙ ap (λ (x : List Record). x ++ below q (m ++ above p rs)) (below_below p q rs lt)
     ∙ ap (λ (x : List Record). below q rs ++ x) (below_append q m (above p rs)
-        ∙ ap (λ (x : List Record). x ++ below q (above p rs)) (below_none q m (λ k d l. let e = all k d l in omega arith))
-        ∙ below_none q (above p rs) (λ k d l. let e = above_high p rs k d l in omega arith))
+    ∙ ap (λ (x : List Record). x ++ below q (above p rs)) (below_none q m (λ k d l. let e = all k d l in omega arith))
+    ∙ below_none q (above p rs) (λ k d l. let e = above_high p rs k d l in omega arith))
     ∙ append-nil (below q rs)
 
 high_part : (p q : ℕ) (m rs : List Record) → AllAt p m → q < p → above q (put_at p m rs) ≡ above q (below p rs) ++ (m ++ above p rs)
@@ -126,8 +126,8 @@ unfolding put_at
 high_part p q m rs all lt =
     above_append q (below p rs) (m ++ above p rs)
     ∙ ap (λ (x : List Record). above q (below p rs) ++ x) (above_append q m (above p rs)
-        ∙ ap (λ (x : List Record). x ++ above q (above p rs)) (above_all q m (λ k d l. let e = all k d l in omega arith))
-        ∙ ap (λ (x : List Record). m ++ x) (above_all q (above p rs) (λ k d l. let e = above_high p rs k d l in omega arith)))
+    ∙ ap (λ (x : List Record). x ++ above q (above p rs)) (above_all q m (λ k d l. let e = all k d l in omega arith))
+    ∙ ap (λ (x : List Record). m ++ x) (above_all q (above p rs) (λ k d l. let e = above_high p rs k d l in omega arith)))
 
 low_part_up : (p q : ℕ) (n rs : List Record) → AllAt q n → q < p → below p (put_at q n rs) ≡ below q rs ++ (n ++ below p (above q rs))
 unfolding put_at
@@ -135,7 +135,7 @@ low_part_up p q n rs all lt =
     below_append p (below q rs) (n ++ above q rs)
     ∙ ap (λ (x : List Record). x ++ below p (n ++ above q rs)) (below_all p (below q rs) (λ k d l. let e = below_low q rs k d l in omega arith))
     ∙ ap (λ (x : List Record). below q rs ++ x) (below_append p n (above q rs)
-        ∙ ap (λ (x : List Record). x ++ below p (above q rs)) (below_all p n (λ k d l. let e = all k d l in omega arith)))
+    ∙ ap (λ (x : List Record). x ++ below p (above q rs)) (below_all p n (λ k d l. let e = all k d l in omega arith)))
 
 high_part_up : (p q : ℕ) (n rs : List Record) → AllAt q n → q < p → above p (put_at q n rs) ≡ above p rs
 unfolding put_at
@@ -155,11 +155,11 @@ put_lower p q m n rs all every lt =
     let high' = high_part_up p q n rs every lt in
     let mid = between p q rs in
     let left : put_at q n (put_at p m rs) ≡ below q rs ++ (n ++ (above q (below p rs) ++ (m ++ above p rs))) =
-        ap (λ (x : List Record). x ++ (n ++ above q (put_at p m rs))) low ∙ ap (λ (x : List Record). below q rs ++ (n ++ x)) high in
+    ap (λ (x : List Record). x ++ (n ++ above q (put_at p m rs))) low ∙ ap (λ (x : List Record). below q rs ++ (n ++ x)) high in
     let right : put_at p m (put_at q n rs) ≡ (below q rs ++ (n ++ below p (above q rs))) ++ (m ++ above p rs) =
-        ap (λ (x : List Record). x ++ (m ++ above p (put_at q n rs))) low' ∙ ap (λ (x : List Record). (below q rs ++ (n ++ below p (above q rs))) ++ (m ++ x)) high' in
+    ap (λ (x : List Record). x ++ (m ++ above p (put_at q n rs))) low' ∙ ap (λ (x : List Record). (below q rs ++ (n ++ below p (above q rs))) ++ (m ++ x)) high' in
     let moved : (below q rs ++ (n ++ below p (above q rs))) ++ (m ++ above p rs) ≡ below q rs ++ (n ++ (below p (above q rs) ++ (m ++ above p rs))) =
-        append_assoc (below q rs) (n ++ below p (above q rs)) (m ++ above p rs) ∙ ap (λ (x : List Record). below q rs ++ x) (append_assoc n (below p (above q rs)) (m ++ above p rs)) in
+    append_assoc (below q rs) (n ++ below p (above q rs)) (m ++ above p rs) ∙ ap (λ (x : List Record). below q rs ++ x) (append_assoc n (below p (above q rs)) (m ++ above p rs)) in
     left ∙ ap (λ (x : List Record). below q rs ++ (n ++ (x ++ (m ++ above p rs)))) mid ∙ sym moved ∙ sym right
 
 -- what an edit leaves at its place
@@ -201,7 +201,7 @@ below_alone p e rs le =
     let n = left_by e in
     ap (λ (x : List Record). below p x) (after_is e rs) ∙ below_append p (below q rs) (n ++ above q rs)
     ∙ ap (λ (x : List Record). below p (below q rs) ++ x) (below_none p (n ++ above q rs) (All-append (λ (r : Record). p ≤ place_of r) n (above q rs)
-        (λ k d l. let h = left_at e k d l in omega arith) (λ k d l. let h = above_high q rs k d l in omega arith)))
+    (λ k d l. let h = left_at e k d l in omega arith) (λ k d l. let h = above_high q rs k d l in omega arith)))
     ∙ append-nil (below p (below q rs))
     ∙ filter_twice (λ (r : Record). ltb (place_of r) q) (λ (r : Record). ltb (place_of r) p) (λ (r : Record). ltb (place_of r) p) (λ r. tests_same q p (place_of r) le) rs
 

@@ -40,7 +40,7 @@ record IsOf (y : Record) (n : ℕ) : Type 0 where
 
 placed : (y : Record) (n : ℕ) → n < 4294967295 → place_of y ≡ place 2 n → IsOf y n
 placed (records.Base b) n small h = absurd (omega arith)
-placed (records.Incarnation x) n small h = record { entry = x; is = refl; number = omega arith; }
+placed (records.Incarnation x) n small h = record { entry = x; is = refl; number = omega arith }
 placed (records.Datafile f) n small h = absurd (omega arith)
 placed (records.Log l) n small h = absurd (omega arith)
 placed (records.Piece p) n small h = absurd (omega arith)
@@ -150,6 +150,7 @@ number_rest rs front (r ∷ rest) n is c e = step (incarnation_in r) refl (numbe
   where
     moved : rs ≡ (front ++ r ∷ []) ++ rest
     moved = is ∙ sym (append_assoc front (r ∷ []) rest)
+
     step : (o : Option IncarnationEntry) → incarnation_in r ≡ o → ((m : ℕ) → rs ≡ (front ++ r ∷ []) ++ rest → IsCatalog rs → Ends (front ++ r ∷ []) m → Numbered m (entries rest)) → Numbered n (cons_option o (entries rest))
     step None none further = further n moved c (ends_other front n r none e)
     step (Some i) some further =

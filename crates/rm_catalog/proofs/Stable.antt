@@ -123,5 +123,6 @@ tie_is m n = elim (cases_eq n m) [
   where
     above : (m n : ℕ) → (n ≡ m → ⊥) → n ≤ m → n < m
     above m n apart le = grind arith
+
     tie : {a b : Ordering} → nat_cmp m n ≡ a → nat_cmp n m ≡ b → (not (is_lt (nat_cmp m n)) && not (is_lt (nat_cmp n m))) ≡ (not (is_lt a) && not (is_lt b))
     tie {a = a} one two = ap (λ (x : Ordering). not (is_lt x) && not (is_lt (nat_cmp n m))) one ∙ ap (λ (x : Ordering). not (is_lt a) && not (is_lt x)) two

@@ -199,10 +199,10 @@ own_moves s t (records.Incarnation i) there agree h = record {
 }
 own_moves s t (records.Datafile f) there agree h = record {
   number = h.number;
-  no_gap = record { no_gap = λ later. there_moves s t (place 3 (f.file - 1)) there (h.no_gap.no_gap later); };
+  no_gap = record { no_gap = λ later. there_moves s t (place 3 (f.file - 1)) there (h.no_gap.no_gap later) };
   creation = subst (λ (o : Option IncarnationEntry). IsSomeAnd o (IsCreatedOn f)) (incarnation_same s t _ f.inc agree (omega arith)) h.creation;
   blocks = h.blocks;
-  room = record { blocks = let same = sum_by-IsPermutation (blocks_to f.file) s t there in let all = h.room.blocks in omega arith; };
+  room = record { blocks = let same = sum_by-IsPermutation (blocks_to f.file) s t there in let all = h.room.blocks in omega arith };
 }
 own_moves s t (records.Log l) there agree h = record {
   id = id_moves s t l.id 5 7 there (base_same s t _ agree (omega arith)) h.id;
@@ -226,9 +226,11 @@ own_moves s t (records.Piece p) there agree h = record {
       path = sym (owner_same 256 p.inc f.creation s t (λ j. incarnation_same s t _ j agree (omega arith))) ∙ fit.path;
       rows = fit.rows;
     }
+
     both : (o : Option DatafileEntry) → IsSomeAnd o (FitsDatafile s p) → IsSomeAnd o (FitsDatafile t p)
     both (Some f) fit = path_same f fit
     both None fit = absurd fit
+
     fits : (o : Option DatafileEntry) → o ≡ datafile p.file s → IsSomeAnd (datafile p.file s) (FitsDatafile s p) → IsSomeAnd (datafile p.file t) (FitsDatafile t p)
     fits o e fit = subst (λ (o : Option DatafileEntry). IsSomeAnd o (FitsDatafile t p)) (datafile_same s t _ p.file agree (omega arith)) (both (datafile p.file s) fit)
 own_moves s t (records.Mark m) there agree h = record {
@@ -242,7 +244,7 @@ own_moves s t (records.Part p) there agree h = record {
   size = h.size;
   head = there_moves s t (place 8 0) there h.head;
   one = names (eqb p.file 0) h.one;
-  alone = record { alone = let same = sum_by-IsPermutation (λ (r : Record). cond (is_part_of p.file p.thread r) 1 0) s t there in let few = h.alone.alone in omega arith; };
+  alone = record { alone = let same = sum_by-IsPermutation (λ (r : Record). cond (is_part_of p.file p.thread r) 1 0) s t there in let few = h.alone.alone in omega arith };
 }
   where
     names : (b : Bool) → MatchBool b ((1 ≤ p.thread) × IsSomeAnd (base s) (λ (b : BaseEntry). p.thread ≤ b.threads)) ((p.thread ≡ 0) × IsThere 3 p.file s) → MatchBool b ((1 ≤ p.thread) × IsSomeAnd (base t) (λ (b : BaseEntry). p.thread ≤ b.threads)) ((p.thread ≡ 0) × IsThere 3 p.file t)
@@ -255,8 +257,8 @@ own_moves s t (records.Head h) there agree o = record {
 -- a record obeys in each order in which the places up to its own have the same
 obeys_moves : (s t : List Record) (r : Record) → IsPermutation s t → Agree s t (place_of r) → Obeys s r → Obeys t r
 obeys_moves s t r there agree h = record {
-  once = record { once = sum_by-IsPermutation (λ (q : Record). cond (eqb (place_of q) (place_of r)) 1 0) s t there ∙ h.once.once; };
-  few = record { few = λ low. let same = sum_by-IsPermutation (λ (q : Record). cond (ltb (place_of q) (place_of r)) 1 0) s t there in let few = h.few.few low in omega arith; };
+  once = record { once = sum_by-IsPermutation (λ (q : Record). cond (eqb (place_of q) (place_of r)) 1 0) s t there ∙ h.once.once };
+  few = record { few = λ low. let same = sum_by-IsPermutation (λ (q : Record). cond (ltb (place_of q) (place_of r)) 1 0) s t there in let few = h.few.few low in omega arith };
   base = there_moves s t (place 1 0) there h.base;
   own = own_moves s t r there agree h.own;
 }

@@ -129,6 +129,7 @@ paths_same rs c m zero g le there = at_zero m ∙ sym (owner-none (nodes rs) g)
     none : (o : Option IncarnationEntry) → incarnation 0 rs ≡ o → o ≡ None
     none None e = refl
     none (Some x) e = absurd (let h = number_there rs 0 x c e in let low = h.0 in omega arith)
+
     at_zero : (m : ℕ) → owner_in m 0 g rs ≡ 1
     at_zero zero = refl
     at_zero (suc m) = ap (λ (o : Option IncarnationEntry). option_map_or (λ (x : IncarnationEntry). cond (leb x.reset g) 0 (owner_in m x.parent g rs)) o 1) (none (incarnation 0 rs) refl)
@@ -137,6 +138,7 @@ paths_same rs c (suc m) (suc i) g le there = step (paths_same rs c m)
   where
     long : length (nodes rs) ≡ length (entries rs)
     long = length_nodes rs
+
     step : ((j g : ℕ) → j ≤ m → j ≤ length (nodes rs) → owner_in m j g rs ≡ owner (nodes rs) j g) → owner_in (suc m) (suc i) g rs ≡ owner (nodes rs) (suc i) g
     step lower =
         let lt : i < length (entries rs) = let same = long in omega arith in
@@ -215,7 +217,7 @@ parent_there rs k i c p some =
         let end : end_of (nodes (take k rs)) i.parent ≡ x.end = ap (λ (o : Option tree.Incarnation). option_map_or (λ (n : tree.Incarnation). n.end) o 0) node_is in
         let one = parent.reset in
         let two = parent.end in
-        record { there = (omega arith, omega arith); begins = (omega arith, omega arith); }
+        record { there = (omega arith, omega arith); begins = (omega arith, omega arith) }
 
 -- the incarnations of a catalog branch off in turn
 pub in_turn : (rs : List Record) → IsCatalog rs → BranchInTurn rs
@@ -307,6 +309,7 @@ some_node rs c database = decide (at (place 1 0) rs) refl database
         let lt = has.1 in
         let long = length_nodes rs in
         omega arith
+
     decide : (o : Option Record) → at (place 1 0) rs ≡ o → IsSome o → 0 < length (nodes rs)
     decide None e some = absurd (false≢true some)
     decide (Some y) e some =
