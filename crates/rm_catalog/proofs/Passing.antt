@@ -1,8 +1,7 @@
 -- One pass over records and edits.
-use Rattle.std.proofs.Common.{◌≡◌, ℕ, zero, suc, ◌+◌, ◌-◌, ◌<◌, ◌≤◌, Bool, ltb, List, [], ◌∷◌, ◌++◌, length, get_or, take, drop, reverse, refl, ap, sym, subst, ◌∙◌, arith, ◌⊎◌, inl, inr, All}
+use Rattle.std.proofs.Common.{◌≡◌, ℕ, zero, suc, ◌+◌, ◌-◌, ◌<◌, ◌≤◌, Bool, ltb, List, [], ◌∷◌, ◌++◌, length, get_or, take, drop, refl, ap, sym, subst, ◌∙◌, arith, ◌⊎◌, inl, inr, All}
 use Rattle.std.specs.Prelude.{Contains}
 use Rattle.std.specs.List.{filter}
-use Rattle.std.specs.List.Sorted.{IsNonDecreasingBy}
 use Rattle.std.proofs.lemmas.Bool.{cases_lt}
 use Rattle.std.proofs.lemmas.List.{get_or_default, get_or_at, get_or-append-add, append-nil, append_assoc, take-append-drop, get_or-take, get_or-drop, length-take, length-drop, length-append, get_or_append_left, get_or-append_right}
 use Rattle.std.proofs.lemmas.List.Elements.{All-contains, All-filter, All-contains_itself, Contains-append_cases, Contains-push_cases}

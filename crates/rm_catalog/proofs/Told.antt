@@ -1,7 +1,6 @@
 -- Whatever the order of the records, the first that breaks a rule has one place.
-use Rattle.std.proofs.Common.{◌≡◌, ℕ, zero, suc, ◌+◌, ◌-◌, ◌*◌, ◌<◌, ◌≤◌, Bool, true, false, eqb, leb, ltb, cond, List, [], ◌∷◌, ◌++◌, length, get_or, Option, Some, None, min, refl, ap, sym, subst, ◌∙◌, arith, eq-eqb, ◌⊎◌, inl, inr, All}
-use Rattle.std.specs.Prelude.{Contains, IsPermutation, count_by, sum_by, IsSome, IsTrue, IsSomeAnd, MatchBool, option_and_then}
-use Rattle.std.specs.List.{list_any}
+use Rattle.std.proofs.Common.{◌≡◌, ℕ, zero, suc, ◌+◌, ◌-◌, ◌<◌, ◌≤◌, Bool, true, false, eqb, leb, ltb, cond, List, [], ◌∷◌, length, get_or, Option, Some, None, refl, ap, sym, subst, ◌∙◌, arith, eq-eqb, ◌⊎◌, inl, inr}
+use Rattle.std.specs.Prelude.{Contains, IsPermutation, IsSome, IsTrue, IsSomeAnd, MatchBool, option_and_then}
 use Rattle.std.specs.Option.{option_map_or}
 use Rattle.std.proofs.lemmas.List.Sorted.{IsPermutation-sym, IsPermutation-trans, Contains-permutation, sum_by-IsPermutation, list_any-IsPermutation}
 use Rattle.std.proofs.lemmas.List.{get_or_append_left, get_or_at}
@@ -13,11 +12,11 @@ use Rattle.rm_catalog.specs.declared.record.BaseEntry.{BaseEntry}
 use Rattle.rm_catalog.specs.declared.record.IncarnationEntry.{IncarnationEntry}
 use Rattle.rm_catalog.specs.declared.record.DatafileEntry.{DatafileEntry}
 use Rattle.rm_catalog.specs.declared.record.MarkEntry.{MarkEntry}
-use Rattle.rm_catalog.specs.Keys.{place, place_of, place_of_key, key_of, at, InOrder, IsThere, base, incarnation, datafile, mark, base_in, incarnation_in, datafile_in, mark_in}
-use Rattle.rm_catalog.specs.Facts.{BeginsOn, IncarnationRule, is_mark_of, IsCreatedOn, blocks_to, DatafileRule, IsWithin, MarkRule, BaseRule}
-use Rattle.rm_catalog.specs.Objects.{IdRule, IsRange, LogRule, owner_in, FitsDatafile, PieceRule}
-use Rattle.rm_catalog.specs.Saved.{is_part_of, NamesOne, PartRule, HeadRule}
-use Rattle.rm_catalog.specs.Rules.{Obeys, OwnRule, IsOnce, IsAmongFirst, IsOrderOf, IsValid, IsFirstBad}
+use Rattle.rm_catalog.specs.Keys.{place, place_of, place_of_key, at, InOrder, IsThere, base, incarnation, datafile, mark, base_in, incarnation_in, datafile_in, mark_in}
+use Rattle.rm_catalog.specs.Facts.{BeginsOn, is_mark_of, IsCreatedOn, blocks_to, IsWithin}
+use Rattle.rm_catalog.specs.Objects.{IdRule, IsRange, owner_in, FitsDatafile}
+use Rattle.rm_catalog.specs.Saved.{is_part_of}
+use Rattle.rm_catalog.specs.Rules.{Obeys, OwnRule, IsOrderOf, IsFirstBad}
 use Rattle.rm_catalog.proofs.Found.{differ}
 use Rattle.rm_catalog.proofs.Counts.{alike, alike_count}
 use Rattle.rm_catalog.proofs.Unique.{none_alike, head_or_tail, in_tail, middle}

@@ -1,16 +1,16 @@
 -- The tree that the incarnations of a catalog make, and its paths.
-use Rattle.std.proofs.Common.{◌≡◌, ℕ, zero, suc, ◌+◌, ◌-◌, ◌<◌, ◌≤◌, Bool, true, false, leb, ltb, eqb, cond, List, [], ◌∷◌, ◌++◌, length, get_or, take, drop, map, Option, Some, None, refl, ap, sym, subst, ◌∙◌, arith, ◌⊎◌, inl, inr, All, slice_get}
-use Rattle.std.specs.Prelude.{Contains, IsSome, IsSomeAnd, option_and_then, option_to_list}
-use Rattle.std.specs.List.{filter_map, cons_option}
+use Rattle.std.proofs.Common.{◌≡◌, ℕ, zero, suc, ◌+◌, ◌-◌, ◌<◌, ◌≤◌, Bool, leb, cond, List, [], ◌∷◌, ◌++◌, length, get_or, take, drop, map, Option, Some, None, refl, ap, sym, subst, ◌∙◌, arith, inl, inr, slice_get}
+use Rattle.std.specs.Prelude.{Contains, IsSome, IsSomeAnd, option_to_list}
+use Rattle.std.specs.List.{cons_option}
 use Rattle.std.specs.Option.{option_map, option_map_or}
-use Rattle.std.proofs.lemmas.Bool.{cases_lt, cases_eq, false≢true, le-ltb, lt-ltb}
+use Rattle.std.proofs.lemmas.Bool.{cases_lt, false≢true, le-ltb, lt-ltb}
 use Rattle.std.proofs.lemmas.Option.{slice_get-get_or, slice_get_past}
-use Rattle.std.proofs.lemmas.List.{append_assoc, get_or_default, get_or_at, length-append, length-take, length-map, take-take, take-append-drop, get_or_append_left, get_or-take, drop_more, take_more, take_at}
+use Rattle.std.proofs.lemmas.List.{get_or_default, get_or_at, length-append, length-take, length-map, take-take, take-append-drop, get_or_append_left, get_or-take, drop_more, take_more}
 use Rattle.std.proofs.lemmas.List.Elements.{filter_map-append, All-contains}
 use Rattle.rm_history.specs.declared.tree.Incarnation as tree
 use Rattle.rm_history.specs.Tree.{HasParentsBelow, IsThere, owner, parent_of, reset_of, end_of}
 use Rattle.rm_history.specs.Tree.{incarnation as in_tree}
-use Rattle.rm_history.proofs.Owners.{owner-step, owner-none, incarnation-there}
+use Rattle.rm_history.proofs.Owners.{owner-step, owner-none}
 use Rattle.rm_catalog.specs.declared.record.BaseEntry.{BaseEntry}
 use Rattle.rm_catalog.specs.declared.record.IncarnationEntry.{IncarnationEntry}
 use Rattle.rm_catalog.specs.declared.record.Record.{Record}
@@ -18,7 +18,7 @@ use Rattle.rm_catalog.specs.declared.record.Record.TheVariants as records
 use Rattle.rm_catalog.specs.Keys.{place, place_of, at, InOrder, incarnation, incarnation_in}
 use Rattle.rm_catalog.specs.Facts.{BaseRule, IncarnationRule, BeginsOn}
 use Rattle.rm_catalog.specs.Objects.{owner_in}
-use Rattle.rm_catalog.specs.Rules.{Obeys, IsValid, IsCatalog, HasDatabase}
+use Rattle.rm_catalog.specs.Rules.{Obeys, IsCatalog, HasDatabase}
 use Rattle.rm_catalog.specs.Edits.{below}
 use Rattle.rm_catalog.specs.Trees.{node, node_in, nodes, as_tree, known_in, IsNext, BranchInTurn}
 use Rattle.rm_catalog.proofs.Found.{differ}

@@ -37,9 +37,17 @@ fn each_numbered_apply_fails_and_changes_nothing(rt: HostRuntime) -> Result<(), 
         let mut keeper = keeper(rt.alloc(), 0, failing)?;
         for call in 1..4u64 {
             let fails = call == failing;
-            assert_eq!(rt; keeper.apply(&edits).is_err(), fails, "apply {call} of {failing}");
+            assert_eq!(rt;
+                keeper.apply(&edits).is_err(),
+                fails,
+                "apply {call} of {failing}"
+            );
             let left = if fails && call == 1 { 12 } else { 11 };
-            assert_eq!(rt; count(&mut keeper), Ok(left), "after apply {call} of {failing}");
+            assert_eq!(rt;
+                count(&mut keeper),
+                Ok(left),
+                "after apply {call} of {failing}"
+            );
         }
     }
     Ok(())
