@@ -1,7 +1,9 @@
-//! Runs each kernel beside a plain loop, and makes and reads the bytes of a piece and of a log: with
-//! no word it tells whether both gave the same, and with the word `large` it tells the times.
+//! Runs each kernel beside a plain loop, makes and reads the bytes of a piece and of a log, and makes a
+//! catalog's edits beside copies: with no word it tells whether both gave the same, and with the word
+//! `large` it tells the times.
 #![tactic(auto)]
 
+mod catalog;
 mod format;
 mod formats;
 mod kernel;
@@ -27,7 +29,8 @@ fn main(rt: HostRuntime) -> io::Result<()> {
     run::<IsZero>(&rt, "is_zero", large)?;
     run::<Same>(&rt, "same", large)?;
     run_format::<Piece>(&rt, "piece", large)?;
-    run_format::<LogFile>(&rt, "log", large)
+    run_format::<LogFile>(&rt, "log", large)?;
+    catalog::run(&rt, large)
 }
 
 fn run<K: Kernel>(rt: &HostRuntime, name: &str, large: bool) -> io::Result<()> {

@@ -1,10 +1,9 @@
 -- Records below and above a place, and edits at different places.
-use Rattle.std.proofs.Common.{◌≡◌, ℕ, zero, suc, ◌+◌, ◌<◌, ◌≤◌, Bool, true, false, eqb, ltb, cond, List, [], ◌∷◌, ◌++◌, length, get_or, take, drop, refl, ap, sym, subst, ◌∙◌, arith, ◌⊎◌, inl, inr, All}
-use Rattle.std.specs.Prelude.{Contains, Option, Some, None}
+use Rattle.std.proofs.Common.{◌≡◌, ℕ, suc, ◌<◌, ◌≤◌, Bool, true, false, ltb, cond, List, [], ◌∷◌, ◌++◌, get_or, refl, ap, sym, subst, ◌∙◌, arith, inl, inr, All}
 use Rattle.std.specs.List.{filter}
-use Rattle.std.proofs.lemmas.Bool.{lt-ltb, le-ltb, cases_lt, cases_eq}
+use Rattle.std.proofs.lemmas.Bool.{lt-ltb, le-ltb, cases_lt}
 use Rattle.std.proofs.lemmas.List.{append-nil, append_assoc}
-use Rattle.std.proofs.lemmas.List.Elements.{All-nil, All-head, All-tail, All-cons, All-append, filter-append, filter_agree, All-contains}
+use Rattle.std.proofs.lemmas.List.Elements.{All-nil, All-cons, All-append, filter-append, filter_agree}
 use Rattle.rm_catalog.specs.declared.record.Record.{Record}
 use Rattle.rm_catalog.specs.declared.record.Edit.{Edit}
 use Rattle.rm_catalog.specs.declared.record.Edit.TheVariants.{Put, Drop}
@@ -32,7 +31,7 @@ both p q [] = refl
 both {X} p q (x ∷ xs) = step (p x) (q x) (both p q xs)
   where
     step : (a b : Bool) → filter q (filter p xs) ≡ filter (λ y. cond (p y) (q y) false) xs
-      → filter q (cond a (x ∷ filter p xs) (filter p xs)) ≡ cond (cond a (q x) false) (x ∷ filter (λ y. cond (p y) (q y) false) xs) (filter (λ y. cond (p y) (q y) false) xs)
+        → filter q (cond a (x ∷ filter p xs) (filter p xs)) ≡ cond (cond a (q x) false) (x ∷ filter (λ y. cond (p y) (q y) false) xs) (filter (λ y. cond (p y) (q y) false) xs)
     step true b h = ap (λ (ys : List X). cond (q x) (x ∷ ys) ys) h
     step false b h = h
 
@@ -117,8 +116,8 @@ low_part p q m rs all lt =
     below_append q (below p rs) (m ++ above p rs)
     ∙ ap (λ (x : List Record). x ++ below q (m ++ above p rs)) (below_below p q rs lt)
     ∙ ap (λ (x : List Record). below q rs ++ x) (below_append q m (above p rs)
-        ∙ ap (λ (x : List Record). x ++ below q (above p rs)) (below_none q m (λ k d l. let e = all k d l in omega arith))
-        ∙ below_none q (above p rs) (λ k d l. let e = above_high p rs k d l in omega arith))
+    ∙ ap (λ (x : List Record). x ++ below q (above p rs)) (below_none q m (λ k d l. let e = all k d l in omega arith))
+    ∙ below_none q (above p rs) (λ k d l. let e = above_high p rs k d l in omega arith))
     ∙ append-nil (below q rs)
 
 high_part : (p q : ℕ) (m rs : List Record) → AllAt p m → q < p → above q (put_at p m rs) ≡ above q (below p rs) ++ (m ++ above p rs)
@@ -126,8 +125,8 @@ unfolding put_at
 high_part p q m rs all lt =
     above_append q (below p rs) (m ++ above p rs)
     ∙ ap (λ (x : List Record). above q (below p rs) ++ x) (above_append q m (above p rs)
-        ∙ ap (λ (x : List Record). x ++ above q (above p rs)) (above_all q m (λ k d l. let e = all k d l in omega arith))
-        ∙ ap (λ (x : List Record). m ++ x) (above_all q (above p rs) (λ k d l. let e = above_high p rs k d l in omega arith)))
+    ∙ ap (λ (x : List Record). x ++ above q (above p rs)) (above_all q m (λ k d l. let e = all k d l in omega arith))
+    ∙ ap (λ (x : List Record). m ++ x) (above_all q (above p rs) (λ k d l. let e = above_high p rs k d l in omega arith)))
 
 low_part_up : (p q : ℕ) (n rs : List Record) → AllAt q n → q < p → below p (put_at q n rs) ≡ below q rs ++ (n ++ below p (above q rs))
 unfolding put_at
@@ -135,7 +134,7 @@ low_part_up p q n rs all lt =
     below_append p (below q rs) (n ++ above q rs)
     ∙ ap (λ (x : List Record). x ++ below p (n ++ above q rs)) (below_all p (below q rs) (λ k d l. let e = below_low q rs k d l in omega arith))
     ∙ ap (λ (x : List Record). below q rs ++ x) (below_append p n (above q rs)
-        ∙ ap (λ (x : List Record). x ++ below p (above q rs)) (below_all p n (λ k d l. let e = all k d l in omega arith)))
+    ∙ ap (λ (x : List Record). x ++ below p (above q rs)) (below_all p n (λ k d l. let e = all k d l in omega arith)))
 
 high_part_up : (p q : ℕ) (n rs : List Record) → AllAt q n → q < p → above p (put_at q n rs) ≡ above p rs
 unfolding put_at
@@ -155,11 +154,11 @@ put_lower p q m n rs all every lt =
     let high' = high_part_up p q n rs every lt in
     let mid = between p q rs in
     let left : put_at q n (put_at p m rs) ≡ below q rs ++ (n ++ (above q (below p rs) ++ (m ++ above p rs))) =
-        ap (λ (x : List Record). x ++ (n ++ above q (put_at p m rs))) low ∙ ap (λ (x : List Record). below q rs ++ (n ++ x)) high in
+    ap (λ (x : List Record). x ++ (n ++ above q (put_at p m rs))) low ∙ ap (λ (x : List Record). below q rs ++ (n ++ x)) high in
     let right : put_at p m (put_at q n rs) ≡ (below q rs ++ (n ++ below p (above q rs))) ++ (m ++ above p rs) =
-        ap (λ (x : List Record). x ++ (m ++ above p (put_at q n rs))) low' ∙ ap (λ (x : List Record). (below q rs ++ (n ++ below p (above q rs))) ++ (m ++ x)) high' in
+    ap (λ (x : List Record). x ++ (m ++ above p (put_at q n rs))) low' ∙ ap (λ (x : List Record). (below q rs ++ (n ++ below p (above q rs))) ++ (m ++ x)) high' in
     let moved : (below q rs ++ (n ++ below p (above q rs))) ++ (m ++ above p rs) ≡ below q rs ++ (n ++ (below p (above q rs) ++ (m ++ above p rs))) =
-        append_assoc (below q rs) (n ++ below p (above q rs)) (m ++ above p rs) ∙ ap (λ (x : List Record). below q rs ++ x) (append_assoc n (below p (above q rs)) (m ++ above p rs)) in
+    append_assoc (below q rs) (n ++ below p (above q rs)) (m ++ above p rs) ∙ ap (λ (x : List Record). below q rs ++ x) (append_assoc n (below p (above q rs)) (m ++ above p rs)) in
     left ∙ ap (λ (x : List Record). below q rs ++ (n ++ (x ++ (m ++ above p rs)))) mid ∙ sym moved ∙ sym right
 
 -- what an edit leaves at its place
@@ -201,7 +200,7 @@ below_alone p e rs le =
     let n = left_by e in
     ap (λ (x : List Record). below p x) (after_is e rs) ∙ below_append p (below q rs) (n ++ above q rs)
     ∙ ap (λ (x : List Record). below p (below q rs) ++ x) (below_none p (n ++ above q rs) (All-append (λ (r : Record). p ≤ place_of r) n (above q rs)
-        (λ k d l. let h = left_at e k d l in omega arith) (λ k d l. let h = above_high q rs k d l in omega arith)))
+    (λ k d l. let h = left_at e k d l in omega arith) (λ k d l. let h = above_high q rs k d l in omega arith)))
     ∙ append-nil (below p (below q rs))
     ∙ filter_twice (λ (r : Record). ltb (place_of r) q) (λ (r : Record). ltb (place_of r) p) (λ (r : Record). ltb (place_of r) p) (λ r. tests_same q p (place_of r) le) rs
 

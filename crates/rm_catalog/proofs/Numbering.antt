@@ -1,16 +1,16 @@
 -- The incarnations of a catalog stand in order, with the numbers 1, 2, 3 and so on.
-use Rattle.std.proofs.Common.{◌≡◌, ℕ, zero, suc, ◌+◌, ◌-◌, ◌<◌, ◌≤◌, Bool, true, false, List, [], ◌∷◌, ◌++◌, length, get_or, Option, Some, None, refl, ap, sym, subst, ◌∙◌, arith, ◌⊎◌, inl, inr, All}
+use Rattle.std.proofs.Common.{◌≡◌, ℕ, zero, suc, ◌+◌, ◌-◌, ◌<◌, ◌≤◌, List, [], ◌∷◌, ◌++◌, length, get_or, Option, Some, None, refl, ap, sym, subst, ◌∙◌, arith, ◌⊎◌, inl, inr}
 use Rattle.std.specs.Prelude.{Contains, IsSome, option_and_then}
 use Rattle.std.specs.List.{filter_map, cons_option}
-use Rattle.std.proofs.lemmas.Bool.{cases_lt, cases_eq, false≢true}
+use Rattle.std.proofs.lemmas.Bool.{cases_lt, false≢true}
 use Rattle.std.proofs.lemmas.List.{append_assoc, get_or_default}
 use Rattle.std.proofs.lemmas.List.Elements.{Contains-push_cases, Contains-append_cases, Contains-append_left, Contains-push, All-contains}
 use Rattle.rm_catalog.specs.declared.record.IncarnationEntry.{IncarnationEntry}
 use Rattle.rm_catalog.specs.declared.record.Record.{Record}
 use Rattle.rm_catalog.specs.declared.record.Record.TheVariants as records
-use Rattle.rm_catalog.specs.Keys.{place, place_of, at, InOrder, incarnation, incarnation_in}
+use Rattle.rm_catalog.specs.Keys.{place, place_of, at, incarnation, incarnation_in}
 use Rattle.rm_catalog.specs.Facts.{IncarnationRule}
-use Rattle.rm_catalog.specs.Rules.{Obeys, IsValid, IsCatalog}
+use Rattle.rm_catalog.specs.Rules.{Obeys, IsCatalog}
 use Rattle.rm_catalog.proofs.Counts.{alike, alike_count}
 use Rattle.rm_catalog.proofs.Unique.{Rises, rises_of, all_above, head_or_tail, middle}
 use Rattle.rm_catalog.proofs.Told.{found_is, some_is, one_is}
@@ -40,7 +40,7 @@ record IsOf (y : Record) (n : ℕ) : Type 0 where
 
 placed : (y : Record) (n : ℕ) → n < 4294967295 → place_of y ≡ place 2 n → IsOf y n
 placed (records.Base b) n small h = absurd (omega arith)
-placed (records.Incarnation x) n small h = record { entry = x; is = refl; number = omega arith; }
+placed (records.Incarnation x) n small h = record { entry = x; is = refl; number = omega arith }
 placed (records.Datafile f) n small h = absurd (omega arith)
 placed (records.Log l) n small h = absurd (omega arith)
 placed (records.Piece p) n small h = absurd (omega arith)
@@ -150,6 +150,7 @@ number_rest rs front (r ∷ rest) n is c e = step (incarnation_in r) refl (numbe
   where
     moved : rs ≡ (front ++ r ∷ []) ++ rest
     moved = is ∙ sym (append_assoc front (r ∷ []) rest)
+
     step : (o : Option IncarnationEntry) → incarnation_in r ≡ o → ((m : ℕ) → rs ≡ (front ++ r ∷ []) ++ rest → IsCatalog rs → Ends (front ++ r ∷ []) m → Numbered m (entries rest)) → Numbered n (cons_option o (entries rest))
     step None none further = further n moved c (ends_other front n r none e)
     step (Some i) some further =

@@ -1,8 +1,7 @@
 -- One pass over records and edits.
-use Rattle.std.proofs.Common.{◌≡◌, ℕ, zero, suc, ◌+◌, ◌-◌, ◌<◌, ◌≤◌, Bool, ltb, List, [], ◌∷◌, ◌++◌, length, get_or, take, drop, reverse, refl, ap, sym, subst, ◌∙◌, arith, ◌⊎◌, inl, inr, All}
+use Rattle.std.proofs.Common.{◌≡◌, ℕ, zero, suc, ◌+◌, ◌-◌, ◌<◌, ◌≤◌, Bool, ltb, List, [], ◌∷◌, ◌++◌, length, get_or, take, drop, refl, ap, sym, subst, ◌∙◌, arith, ◌⊎◌, inl, inr, All}
 use Rattle.std.specs.Prelude.{Contains}
 use Rattle.std.specs.List.{filter}
-use Rattle.std.specs.List.Sorted.{IsNonDecreasingBy}
 use Rattle.std.proofs.lemmas.Bool.{cases_lt}
 use Rattle.std.proofs.lemmas.List.{get_or_default, get_or_at, get_or-append-add, append-nil, append_assoc, take-append-drop, get_or-take, get_or-drop, length-take, length-drop, length-append, get_or_append_left, get_or-append_right}
 use Rattle.std.proofs.lemmas.List.Elements.{All-contains, All-filter, All-contains_itself, Contains-append_cases, Contains-push_cases}
@@ -23,7 +22,7 @@ take_below rs p i low high =
     let front : below p (take i rs) ≡ take i rs = below_all p (take i rs) (λ k d lt. let long = length-take i rs in let in_i : k < i = omega arith in let under = low k d in_i in let same = ap place_of (get_or-take i rs k d in_i) in omega arith) in
     let back : below p (drop i rs) ≡ [] = below_none p (drop i rs) (λ k d lt. let long = length-drop i rs in let over = high (i + k) d (omega arith) (omega arith) in let same = ap place_of (get_or-drop i rs k d) in omega arith) in
     sym (ap (λ (x : List Record). below p x) (sym (take-append-drop i rs)) ∙ below_append p (take i rs) (drop i rs)
-        ∙ ap (λ (x : List Record). x ++ below p (drop i rs)) front ∙ ap (λ (x : List Record). take i rs ++ x) back ∙ append-nil (take i rs))
+    ∙ ap (λ (x : List Record). x ++ below p (drop i rs)) front ∙ ap (λ (x : List Record). take i rs ++ x) back ∙ append-nil (take i rs))
 
 -- an edit where no record stands above its place
 pub put_last : (e : Edit) (r : Record) (rs : List Record) → e ≡ Put r → All (λ x. place_of x ≤ place_of_edit e) rs → below (place_of_edit e) rs ++ r ∷ [] ≡ after_edit e rs
@@ -66,7 +65,7 @@ order_after (Put r) rs order =
     order_append (below (place_of r) rs) (r ∷ above (place_of r) rs)
     (IsNonDecreasingBy-filter place_of (λ (x : Record). ltb (place_of x) (place_of r)) rs order)
     (order_append (r ∷ []) (above (place_of r) rs) (one r) (IsNonDecreasingBy-filter place_of (λ (x : Record). ltb (place_of r) (place_of x)) rs order)
-        (λ x y hx hy. let same : place_of r ≡ place_of x = ap place_of (only r x hx) in let over : place_of r < place_of y = All-contains (λ (z : Record). place_of r < place_of z) (above (place_of r) rs) y (above_high (place_of r) rs) hy in omega arith))
+    (λ x y hx hy. let same : place_of r ≡ place_of x = ap place_of (only r x hx) in let over : place_of r < place_of y = All-contains (λ (z : Record). place_of r < place_of z) (above (place_of r) rs) y (above_high (place_of r) rs) hy in omega arith))
     (λ x y hx hy.
     let low : place_of x < place_of r = All-contains (λ (z : Record). place_of z < place_of r) (below (place_of r) rs) x (below_low (place_of r) rs) hx in
     elim (head_or_tail r (above (place_of r) rs) y hy) [
@@ -78,6 +77,7 @@ order_after (Put r) rs order =
     one r zero zero d le lt = omega arith
     one r zero (suc j) d le lt = absurd (omega arith)
     one r (suc i) j d le lt = absurd (omega arith)
+
     only : (r x : Record) → Contains (r ∷ []) x → r ≡ x
     only r x (zero, lt, is) = is
     only r x (suc k, lt, is) = absurd (omega arith)
@@ -154,7 +154,7 @@ made_after p first made made' all left left' e is after low h = record {
     moves rest from = after_append e made rest (λ k d lt. let h = from k d lt in omega arith) ∙ ap (λ (x : List Record). x ++ rest) (sym after)
 
 pub made_none : (p : ℕ) (made : List Record) (left : List Edit) → HasMade p made left made left
-made_none p made left = record { same = λ rest from. refl; order = λ rest from order. order; }
+made_none p made left = record { same = λ rest from. refl; order = λ rest from order. order }
 
 -- all records left behind stand at or below the place of the next edit
 pub all_behind : (made : List Record) (left left' : List Edit) (e : Edit) → left ≡ e ∷ left' → IsReady made left → All (λ r. place_of r ≤ place_of_edit e) made
@@ -208,8 +208,10 @@ stands_more made made' made'' left left' all rest total r is pushed h ready over
   where
     order : InOrder (made ++ r ∷ rest)
     order = subst (λ (x : List Record). InOrder (made ++ x)) is stands.order
+
     from : AllFromPlace (place_of r) (r ∷ rest)
     from = from_order made r rest order
+
     order' : InOrder (made' ++ r ∷ rest)
     order' = h.order (r ∷ rest) from order
 

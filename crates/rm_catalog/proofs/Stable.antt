@@ -1,5 +1,5 @@
 -- Edits in another order, in which those of one place keep theirs, have the same outcome.
-use Rattle.std.proofs.Common.{◌≡◌, ℕ, zero, suc, ◌+◌, ◌<◌, ◌≤◌, Bool, true, false, eqb, ltb, cond, List, [], ◌∷◌, ◌++◌, length, get_or, refl, ap, sym, subst, ◌∙◌, arith, eq-eqb, ◌⊎◌, inl, inr, All}
+use Rattle.std.proofs.Common.{◌≡◌, ℕ, suc, ◌<◌, ◌≤◌, Bool, true, false, eqb, cond, List, [], ◌∷◌, ◌++◌, refl, ap, sym, subst, ◌∙◌, arith, eq-eqb, ◌⊎◌, inl, inr, All}
 use Rattle.std.specs.List.{filter}
 use Rattle.std.specs.Prelude.{not, ◌&&◌}
 use Rattle.std.specs.Ordering.{is_lt, nat_cmp}
@@ -7,7 +7,7 @@ use Rattle.std.specs.Cmp.{nat_cmp_is}
 use Rattle.std.specs.declared.cmp.Ordering.{Ordering}
 use Rattle.std.specs.declared.cmp.Ordering.TheVariants.{Less, Equal, Greater}
 use Rattle.std.proofs.lemmas.Bool.{cases_eq, cases_lt}
-use Rattle.std.proofs.lemmas.List.Elements.{All-nil, All-cons, filter-append, filter_agree}
+use Rattle.std.proofs.lemmas.List.Elements.{All-nil, All-cons, filter-append}
 use Rattle.rm_catalog.specs.declared.record.Record.{Record}
 use Rattle.rm_catalog.specs.declared.record.Edit.{Edit}
 use Rattle.rm_catalog.specs.Edits.{place_of_edit, after_edit, after_edits}
@@ -123,5 +123,6 @@ tie_is m n = elim (cases_eq n m) [
   where
     above : (m n : ℕ) → (n ≡ m → ⊥) → n ≤ m → n < m
     above m n apart le = grind arith
+
     tie : {a b : Ordering} → nat_cmp m n ≡ a → nat_cmp n m ≡ b → (not (is_lt (nat_cmp m n)) && not (is_lt (nat_cmp n m))) ≡ (not (is_lt a) && not (is_lt b))
     tie {a = a} one two = ap (λ (x : Ordering). not (is_lt x) && not (is_lt (nat_cmp n m))) one ∙ ap (λ (x : Ordering). not (is_lt a) && not (is_lt x)) two

@@ -1,7 +1,6 @@
 -- Whatever the order of the records, the first that breaks a rule has one place.
-use Rattle.std.proofs.Common.{◌≡◌, ℕ, zero, suc, ◌+◌, ◌-◌, ◌*◌, ◌<◌, ◌≤◌, Bool, true, false, eqb, leb, ltb, cond, List, [], ◌∷◌, ◌++◌, length, get_or, Option, Some, None, min, refl, ap, sym, subst, ◌∙◌, arith, eq-eqb, ◌⊎◌, inl, inr, All}
-use Rattle.std.specs.Prelude.{Contains, IsPermutation, count_by, sum_by, IsSome, IsTrue, IsSomeAnd, MatchBool, option_and_then}
-use Rattle.std.specs.List.{list_any}
+use Rattle.std.proofs.Common.{◌≡◌, ℕ, zero, suc, ◌+◌, ◌-◌, ◌<◌, ◌≤◌, Bool, true, false, eqb, leb, ltb, cond, List, [], ◌∷◌, length, get_or, Option, Some, None, refl, ap, sym, subst, ◌∙◌, arith, eq-eqb, ◌⊎◌, inl, inr}
+use Rattle.std.specs.Prelude.{Contains, IsPermutation, IsSome, IsTrue, IsSomeAnd, MatchBool, option_and_then}
 use Rattle.std.specs.Option.{option_map_or}
 use Rattle.std.proofs.lemmas.List.Sorted.{IsPermutation-sym, IsPermutation-trans, Contains-permutation, sum_by-IsPermutation, list_any-IsPermutation}
 use Rattle.std.proofs.lemmas.List.{get_or_append_left, get_or_at}
@@ -13,11 +12,11 @@ use Rattle.rm_catalog.specs.declared.record.BaseEntry.{BaseEntry}
 use Rattle.rm_catalog.specs.declared.record.IncarnationEntry.{IncarnationEntry}
 use Rattle.rm_catalog.specs.declared.record.DatafileEntry.{DatafileEntry}
 use Rattle.rm_catalog.specs.declared.record.MarkEntry.{MarkEntry}
-use Rattle.rm_catalog.specs.Keys.{place, place_of, place_of_key, key_of, at, InOrder, IsThere, base, incarnation, datafile, mark, base_in, incarnation_in, datafile_in, mark_in}
-use Rattle.rm_catalog.specs.Facts.{BeginsOn, IncarnationRule, is_mark_of, IsCreatedOn, blocks_to, DatafileRule, IsWithin, MarkRule, BaseRule}
-use Rattle.rm_catalog.specs.Objects.{IdRule, IsRange, LogRule, owner_in, FitsDatafile, PieceRule}
-use Rattle.rm_catalog.specs.Saved.{is_part_of, NamesOne, PartRule, HeadRule}
-use Rattle.rm_catalog.specs.Rules.{Obeys, OwnRule, IsOnce, IsAmongFirst, IsOrderOf, IsValid, IsFirstBad}
+use Rattle.rm_catalog.specs.Keys.{place, place_of, place_of_key, at, InOrder, IsThere, base, incarnation, datafile, mark, base_in, incarnation_in, datafile_in, mark_in}
+use Rattle.rm_catalog.specs.Facts.{BeginsOn, is_mark_of, IsCreatedOn, blocks_to, IsWithin}
+use Rattle.rm_catalog.specs.Objects.{IdRule, IsRange, owner_in, FitsDatafile}
+use Rattle.rm_catalog.specs.Saved.{is_part_of}
+use Rattle.rm_catalog.specs.Rules.{Obeys, OwnRule, IsOrderOf, IsFirstBad}
 use Rattle.rm_catalog.proofs.Found.{differ}
 use Rattle.rm_catalog.proofs.Counts.{alike, alike_count}
 use Rattle.rm_catalog.proofs.Unique.{none_alike, head_or_tail, in_tail, middle}
@@ -199,10 +198,10 @@ own_moves s t (records.Incarnation i) there agree h = record {
 }
 own_moves s t (records.Datafile f) there agree h = record {
   number = h.number;
-  no_gap = record { no_gap = λ later. there_moves s t (place 3 (f.file - 1)) there (h.no_gap.no_gap later); };
+  no_gap = record { no_gap = λ later. there_moves s t (place 3 (f.file - 1)) there (h.no_gap.no_gap later) };
   creation = subst (λ (o : Option IncarnationEntry). IsSomeAnd o (IsCreatedOn f)) (incarnation_same s t _ f.inc agree (omega arith)) h.creation;
   blocks = h.blocks;
-  room = record { blocks = let same = sum_by-IsPermutation (blocks_to f.file) s t there in let all = h.room.blocks in omega arith; };
+  room = record { blocks = let same = sum_by-IsPermutation (blocks_to f.file) s t there in let all = h.room.blocks in omega arith };
 }
 own_moves s t (records.Log l) there agree h = record {
   id = id_moves s t l.id 5 7 there (base_same s t _ agree (omega arith)) h.id;
@@ -226,9 +225,11 @@ own_moves s t (records.Piece p) there agree h = record {
       path = sym (owner_same 256 p.inc f.creation s t (λ j. incarnation_same s t _ j agree (omega arith))) ∙ fit.path;
       rows = fit.rows;
     }
+
     both : (o : Option DatafileEntry) → IsSomeAnd o (FitsDatafile s p) → IsSomeAnd o (FitsDatafile t p)
     both (Some f) fit = path_same f fit
     both None fit = absurd fit
+
     fits : (o : Option DatafileEntry) → o ≡ datafile p.file s → IsSomeAnd (datafile p.file s) (FitsDatafile s p) → IsSomeAnd (datafile p.file t) (FitsDatafile t p)
     fits o e fit = subst (λ (o : Option DatafileEntry). IsSomeAnd o (FitsDatafile t p)) (datafile_same s t _ p.file agree (omega arith)) (both (datafile p.file s) fit)
 own_moves s t (records.Mark m) there agree h = record {
@@ -242,7 +243,7 @@ own_moves s t (records.Part p) there agree h = record {
   size = h.size;
   head = there_moves s t (place 8 0) there h.head;
   one = names (eqb p.file 0) h.one;
-  alone = record { alone = let same = sum_by-IsPermutation (λ (r : Record). cond (is_part_of p.file p.thread r) 1 0) s t there in let few = h.alone.alone in omega arith; };
+  alone = record { alone = let same = sum_by-IsPermutation (λ (r : Record). cond (is_part_of p.file p.thread r) 1 0) s t there in let few = h.alone.alone in omega arith };
 }
   where
     names : (b : Bool) → MatchBool b ((1 ≤ p.thread) × IsSomeAnd (base s) (λ (b : BaseEntry). p.thread ≤ b.threads)) ((p.thread ≡ 0) × IsThere 3 p.file s) → MatchBool b ((1 ≤ p.thread) × IsSomeAnd (base t) (λ (b : BaseEntry). p.thread ≤ b.threads)) ((p.thread ≡ 0) × IsThere 3 p.file t)
@@ -255,8 +256,8 @@ own_moves s t (records.Head h) there agree o = record {
 -- a record obeys in each order in which the places up to its own have the same
 obeys_moves : (s t : List Record) (r : Record) → IsPermutation s t → Agree s t (place_of r) → Obeys s r → Obeys t r
 obeys_moves s t r there agree h = record {
-  once = record { once = sum_by-IsPermutation (λ (q : Record). cond (eqb (place_of q) (place_of r)) 1 0) s t there ∙ h.once.once; };
-  few = record { few = λ low. let same = sum_by-IsPermutation (λ (q : Record). cond (ltb (place_of q) (place_of r)) 1 0) s t there in let few = h.few.few low in omega arith; };
+  once = record { once = sum_by-IsPermutation (λ (q : Record). cond (eqb (place_of q) (place_of r)) 1 0) s t there ∙ h.once.once };
+  few = record { few = λ low. let same = sum_by-IsPermutation (λ (q : Record). cond (ltb (place_of q) (place_of r)) 1 0) s t there in let few = h.few.few low in omega arith };
   base = there_moves s t (place 1 0) there h.base;
   own = own_moves s t r there agree h.own;
 }

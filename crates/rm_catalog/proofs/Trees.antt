@@ -1,16 +1,16 @@
 -- The tree that the incarnations of a catalog make, and its paths.
-use Rattle.std.proofs.Common.{◌≡◌, ℕ, zero, suc, ◌+◌, ◌-◌, ◌<◌, ◌≤◌, Bool, true, false, leb, ltb, eqb, cond, List, [], ◌∷◌, ◌++◌, length, get_or, take, drop, map, Option, Some, None, refl, ap, sym, subst, ◌∙◌, arith, ◌⊎◌, inl, inr, All, slice_get}
-use Rattle.std.specs.Prelude.{Contains, IsSome, IsSomeAnd, option_and_then, option_to_list}
-use Rattle.std.specs.List.{filter_map, cons_option}
+use Rattle.std.proofs.Common.{◌≡◌, ℕ, zero, suc, ◌+◌, ◌-◌, ◌<◌, ◌≤◌, Bool, leb, cond, List, [], ◌∷◌, ◌++◌, length, get_or, take, drop, map, Option, Some, None, refl, ap, sym, subst, ◌∙◌, arith, inl, inr, slice_get}
+use Rattle.std.specs.Prelude.{Contains, IsSome, IsSomeAnd, option_to_list}
+use Rattle.std.specs.List.{cons_option}
 use Rattle.std.specs.Option.{option_map, option_map_or}
-use Rattle.std.proofs.lemmas.Bool.{cases_lt, cases_eq, false≢true, le-ltb, lt-ltb}
+use Rattle.std.proofs.lemmas.Bool.{cases_lt, false≢true, le-ltb, lt-ltb}
 use Rattle.std.proofs.lemmas.Option.{slice_get-get_or, slice_get_past}
-use Rattle.std.proofs.lemmas.List.{append_assoc, get_or_default, get_or_at, length-append, length-take, length-map, take-take, take-append-drop, get_or_append_left, get_or-take, drop_more, take_more, take_at}
+use Rattle.std.proofs.lemmas.List.{get_or_default, get_or_at, length-append, length-take, length-map, take-take, take-append-drop, get_or_append_left, get_or-take, drop_more, take_more}
 use Rattle.std.proofs.lemmas.List.Elements.{filter_map-append, All-contains}
 use Rattle.rm_history.specs.declared.tree.Incarnation as tree
 use Rattle.rm_history.specs.Tree.{HasParentsBelow, IsThere, owner, parent_of, reset_of, end_of}
 use Rattle.rm_history.specs.Tree.{incarnation as in_tree}
-use Rattle.rm_history.proofs.Owners.{owner-step, owner-none, incarnation-there}
+use Rattle.rm_history.proofs.Owners.{owner-step, owner-none}
 use Rattle.rm_catalog.specs.declared.record.BaseEntry.{BaseEntry}
 use Rattle.rm_catalog.specs.declared.record.IncarnationEntry.{IncarnationEntry}
 use Rattle.rm_catalog.specs.declared.record.Record.{Record}
@@ -18,7 +18,7 @@ use Rattle.rm_catalog.specs.declared.record.Record.TheVariants as records
 use Rattle.rm_catalog.specs.Keys.{place, place_of, at, InOrder, incarnation, incarnation_in}
 use Rattle.rm_catalog.specs.Facts.{BaseRule, IncarnationRule, BeginsOn}
 use Rattle.rm_catalog.specs.Objects.{owner_in}
-use Rattle.rm_catalog.specs.Rules.{Obeys, IsValid, IsCatalog, HasDatabase}
+use Rattle.rm_catalog.specs.Rules.{Obeys, IsCatalog, HasDatabase}
 use Rattle.rm_catalog.specs.Edits.{below}
 use Rattle.rm_catalog.specs.Trees.{node, node_in, nodes, as_tree, known_in, IsNext, BranchInTurn}
 use Rattle.rm_catalog.proofs.Found.{differ}
@@ -129,6 +129,7 @@ paths_same rs c m zero g le there = at_zero m ∙ sym (owner-none (nodes rs) g)
     none : (o : Option IncarnationEntry) → incarnation 0 rs ≡ o → o ≡ None
     none None e = refl
     none (Some x) e = absurd (let h = number_there rs 0 x c e in let low = h.0 in omega arith)
+
     at_zero : (m : ℕ) → owner_in m 0 g rs ≡ 1
     at_zero zero = refl
     at_zero (suc m) = ap (λ (o : Option IncarnationEntry). option_map_or (λ (x : IncarnationEntry). cond (leb x.reset g) 0 (owner_in m x.parent g rs)) o 1) (none (incarnation 0 rs) refl)
@@ -137,6 +138,7 @@ paths_same rs c (suc m) (suc i) g le there = step (paths_same rs c m)
   where
     long : length (nodes rs) ≡ length (entries rs)
     long = length_nodes rs
+
     step : ((j g : ℕ) → j ≤ m → j ≤ length (nodes rs) → owner_in m j g rs ≡ owner (nodes rs) j g) → owner_in (suc m) (suc i) g rs ≡ owner (nodes rs) (suc i) g
     step lower =
         let lt : i < length (entries rs) = let same = long in omega arith in
@@ -215,7 +217,7 @@ parent_there rs k i c p some =
         let end : end_of (nodes (take k rs)) i.parent ≡ x.end = ap (λ (o : Option tree.Incarnation). option_map_or (λ (n : tree.Incarnation). n.end) o 0) node_is in
         let one = parent.reset in
         let two = parent.end in
-        record { there = (omega arith, omega arith); begins = (omega arith, omega arith); }
+        record { there = (omega arith, omega arith); begins = (omega arith, omega arith) }
 
 -- the incarnations of a catalog branch off in turn
 pub in_turn : (rs : List Record) → IsCatalog rs → BranchInTurn rs
@@ -307,6 +309,7 @@ some_node rs c database = decide (at (place 1 0) rs) refl database
         let lt = has.1 in
         let long = length_nodes rs in
         omega arith
+
     decide : (o : Option Record) → at (place 1 0) rs ≡ o → IsSome o → 0 < length (nodes rs)
     decide None e some = absurd (false≢true some)
     decide (Some y) e some =

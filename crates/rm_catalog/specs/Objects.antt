@@ -3,7 +3,7 @@ use Rattle.std.specs.Prelude.{◌≡◌, ℕ, ◌<◌, ◌≤◌, ◌==◌, zero
 use Rattle.std.specs.List.{list_all}
 use Rattle.std.specs.Option.{option_map_or}
 use Rattle.rm_base.specs.declared.kinds.Kind.{Kind}
-use Rattle.rm_base.specs.declared.kinds.Kind.TheVariants.{Full, Level0, Level1, Place}
+use Rattle.rm_base.specs.declared.kinds.Kind.TheVariants.{Level1, Place}
 use Rattle.rm_catalog.specs.declared.record.IncarnationEntry.{IncarnationEntry}
 use Rattle.rm_catalog.specs.declared.record.DatafileEntry.{DatafileEntry}
 use Rattle.rm_catalog.specs.declared.record.LogEntry.{LogEntry}

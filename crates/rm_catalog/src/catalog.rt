@@ -9,12 +9,10 @@ ghost use Rattle.rm_catalog.specs.Rules.{HasDatabase, IsValid, IsOrderOf, IsCata
 ghost use Rattle.rm_catalog.specs.Trees.{nodes, as_tree};
 ghost use Rattle.rm_catalog.specs.Edits.{after_edits};
 
-use crate::copies;
-use crate::edits;
 use crate::find::{count_before, find};
 use crate::record::{Edit, Key, Record};
 use crate::rules::obeys;
-use crate::tree;
+use crate::{copies, edits, tree};
 use rm_base::{NoMemory, Seq};
 use rm_history::Tree;
 use std::alloc::Global;

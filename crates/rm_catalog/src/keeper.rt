@@ -8,9 +8,8 @@ ghost use Rattle.rm_catalog.specs.Keys.{InOrder};
 ghost use Rattle.rm_catalog.specs.Edits.{after_edits};
 ghost use Rattle.rm_catalog.specs.Faults.{Answers};
 
-use crate::copies;
-use crate::edits;
 use crate::record::{Edit, Record};
+use crate::{copies, edits};
 use rm_base::{Failing, NoMemory, Seq};
 
 /// Why a keeper did nothing.
@@ -81,7 +80,11 @@ impl MemKeeper {
     ghost use Rattle.rm_catalog.specs.MemKeeper.{records_of, loads_of, applies_of};
 
     /// A keeper of these records, of which the last of each key stays.
-    pub fn new(records: Seq<Record>, loads: Failing, applies: Failing) -> Result<MemKeeper, NoMemory>
+    pub fn new(
+        records: Seq<Record>,
+        loads: Failing,
+        applies: Failing,
+    ) -> Result<MemKeeper, NoMemory>
         ensures records { IfOk result (λ k. records_of k ≡ after_edits (map Put records) []) }
         ensures loads { IfOk result (λ k. loads_of k ≡ loads) }
         ensures applies { IfOk result (λ k. applies_of k ≡ applies) }

@@ -7,8 +7,8 @@ mod edits;
 mod facts;
 mod find;
 pub mod keeper;
-mod objects;
 pub mod laws;
+mod objects;
 pub mod record;
 mod rules;
 mod saved;
@@ -20,3 +20,6 @@ pub use record::{
     BaseEntry, DatafileEntry, Edit, HeadEntry, IncarnationEntry, Key, LogEntry, MarkEntry,
     PartEntry, PieceEntry, Record,
 };
+
+#[cfg(test)]
+mod tests;

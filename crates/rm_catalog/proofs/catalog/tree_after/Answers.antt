@@ -23,18 +23,18 @@ front_is rs front made es chosen p q n same low high front_of chosen_of made_of 
     ∙ sym (below_after p es rs) ∙ ap (λ (m : ℕ). below m (after_edits es rs)) same
 
 pub make-requires : goal.make-requires
-make-requires c = record { order = subst (λ (x : List Record). InOrder x) (sym c.in_ok-front.ensures) (IsNonDecreasingBy-take place_of c.count_before-n.result c.args.records.now c.requires.order); }
+make-requires c = record { order = subst (λ (x : List Record). InOrder x) (sym c.in_ok-front.ensures) (IsNonDecreasingBy-take place_of c.count_before-n.result c.args.records.now c.requires.order) }
 
 pub build-requires : goal.build-requires
 build-requires c =
     let rs = c.args.records.now in
     let made = front_is rs c.in_ok-front.front.items c.make.new.records.items c.args.edits.now c.in_ok-edits_below.field-0.items c.place-place.result _ c.count_before-n.result c.place-place.ensures.is
-        c.count_before-n.ensures.below c.count_before-n.ensures.above c.in_ok-front.ensures c.in_ok-edits_below.ensures c.in_ok-make.ensures.ok in
+    c.count_before-n.ensures.below c.count_before-n.ensures.above c.in_ok-front.ensures c.in_ok-edits_below.ensures c.in_ok-make.ensures.ok in
     subst (λ (x : List Record). BranchInTurn x) (sym (c.deref.ensures.value ∙ made)) (below_in_turn (after_edits c.args.edits.now rs) c.requires.catalog)
 
 pub returns : goal.returns
 returns c =
     let rs = c.args.records.now in
     let made = front_is rs c.in_ok-front.front.items c.make.new.records.items c.args.edits.now c.in_ok-edits_below.field-0.items c.place-place.result _ c.count_before-n.result c.place-place.ensures.is
-        c.count_before-n.ensures.below c.count_before-n.ensures.above c.in_ok-front.ensures c.in_ok-edits_below.ensures c.in_ok-make.ensures.ok in
+    c.count_before-n.ensures.below c.count_before-n.ensures.above c.in_ok-front.ensures c.in_ok-edits_below.ensures c.in_ok-make.ensures.ok in
     subst (λ (ns : List Incarnation). IfOk c.build.result (λ t. t ≡ as_tree ns)) (ap (λ (x : List Record). nodes x) (c.deref.ensures.value ∙ made) ∙ nodes_below (after_edits c.args.edits.now rs)) c.build.ensures

@@ -1,4 +1,4 @@
-use Rattle.std.proofs.Common.{◌≡◌, ◌∙◌, ℕ, List, take, ap, sym, subst}
+use Rattle.std.proofs.Common.{◌≡◌, ◌∙◌, ℕ, List, ap, sym, subst}
 use Rattle.std.specs.Prelude.{IfOk}
 use Rattle.rm_history.specs.declared.tree.Incarnation.{Incarnation}
 use Rattle.rm_catalog.specs.declared.record.Record.{Record}
@@ -12,7 +12,7 @@ pub build-requires : goal.build-requires
 build-requires c =
     let rs = c.args.records.now in
     let front = take_below rs c.place.result c.count_before-n.result c.count_before-n.ensures.below c.count_before-n.ensures.above ∙ ap (λ (p : ℕ). below p rs) c.place.ensures.is in
-    subst (λ (x : List Record). BranchInTurn x) (sym front) (below_in_turn rs (record { order = c.requires.order; valid = c.requires.valid; }))
+    subst (λ (x : List Record). BranchInTurn x) (sym front) (below_in_turn rs (record { order = c.requires.order; valid = c.requires.valid }))
 
 pub returns : goal.returns
 returns c =

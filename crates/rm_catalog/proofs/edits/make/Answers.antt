@@ -1,7 +1,6 @@
 use Rattle.std.proofs.Common.{◌≡◌, List, sym, subst, reverse}
 use Rattle.rm_catalog.specs.declared.record.Record.{Record}
 use Rattle.rm_catalog.specs.Keys.{InOrder}
-use Rattle.rm_catalog.specs.Edits.{after_edits}
 use Rattle.rm_catalog.proofs.Passing.{order_after_all}
 use Rattle.rm_catalog.proofs.edits.make.Goals as goal
 

@@ -1,4 +1,4 @@
-use Rattle.std.proofs.Common.{◌≡◌, ◌<◌, ◌≤◌, ◌+◌, arith, reverse}
+use Rattle.std.proofs.Common.{arith, reverse}
 use Rattle.rm_catalog.proofs.Passing.{all_behind, ready_after, made_after}
 use Rattle.rm_catalog.proofs.edits.make_below.Goals as goal
 

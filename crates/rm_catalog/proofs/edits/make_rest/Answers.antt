@@ -1,8 +1,8 @@
-use Rattle.std.proofs.Common.{◌≡◌, ◌∙◌, ◌<◌, ◌≤◌, ◌+◌, [], ◌∷◌, ◌++◌, List, ap, sym, arith, reverse}
+use Rattle.std.proofs.Common.{◌≡◌, ◌∙◌, [], ◌∷◌, ◌++◌, List, ap, sym, arith, reverse}
 use Rattle.std.proofs.lemmas.List.{reverse-append}
 use Rattle.rm_catalog.specs.declared.record.Record.{Record}
 use Rattle.rm_catalog.specs.declared.record.Edit.{Edit}
-use Rattle.rm_catalog.specs.Edits.{after_edit, after_edits}
+use Rattle.rm_catalog.specs.Edits.{after_edits}
 use Rattle.rm_catalog.proofs.Passing.{all_behind, ready_after}
 use Rattle.rm_catalog.proofs.edits.make_rest.Goals as goal
 

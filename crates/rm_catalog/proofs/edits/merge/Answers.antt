@@ -1,9 +1,7 @@
-use Rattle.std.proofs.Common.{◌≡◌, ◌∙◌, ℕ, ◌<◌, ◌≤◌, ◌+◌, [], ◌∷◌, ◌++◌, List, length, refl, ap, sym, subst, arith, reverse, All}
+use Rattle.std.proofs.Common.{◌≡◌, ◌∙◌, ℕ, ◌≤◌, ◌∷◌, length, ap, sym, subst, arith, reverse, All}
 use Rattle.std.specs.Vec.Iter.{into_iter_items}
-use Rattle.std.proofs.lemmas.List.{append-nil}
-use Rattle.rm_catalog.specs.declared.record.Record.{Record}
 use Rattle.rm_catalog.specs.declared.record.Edit.{Edit}
-use Rattle.rm_catalog.specs.Edits.{place_of_edit, after_edits}
+use Rattle.rm_catalog.specs.Edits.{place_of_edit}
 use Rattle.rm_catalog.specs.Passes.{HasMade}
 use Rattle.rm_catalog.proofs.Passing.{stands_more, stands_first, stands_last}
 use Rattle.rm_catalog.proofs.edits.merge.Goals as goal

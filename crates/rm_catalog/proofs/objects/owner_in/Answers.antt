@@ -1,4 +1,3 @@
-use Rattle.std.proofs.Common.{◌≡◌, ◌≤◌, ◌<◌, ◌-◌, ◌+◌}
 use Rattle.rm_catalog.proofs.Owners.{stops_none, stops_here, goes_on, ends}
 use Rattle.rm_catalog.proofs.objects.owner_in.Goals as goal
 

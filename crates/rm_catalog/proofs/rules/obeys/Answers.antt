@@ -1,6 +1,6 @@
-use Rattle.std.proofs.Common.{◌≡◌, ℕ, subst, sym}
+use Rattle.std.proofs.Common.{ℕ, subst, sym}
 use Rattle.std.specs.Prelude.{IsTrue}
-use Rattle.rm_catalog.specs.Rules.{IsOnce, IsAmongFirst, Obeys}
+use Rattle.rm_catalog.specs.Rules.{IsOnce, IsAmongFirst}
 use Rattle.rm_catalog.proofs.rules.obeys.Goals as goal
 
 pub returns-then-not-is_once : goal.returns-then-not-is_once
