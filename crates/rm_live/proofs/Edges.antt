@@ -1,7 +1,7 @@
 -- The rule at the opening and at the close.
-use Rattle.std.proofs.Common.{◌≡◌, ◌≢◌, ◌⊎◌, ℕ, zero, suc, ◌+◌, ◌%◌, ◌<◌, ◌≤◌, Bool, true, false, true≢false, List, [], ◌∷◌, ◌++◌, length, refl, sym, ap, ◌∙◌, subst, arith, inl, inr, append-nil, rules}
+use Rattle.std.proofs.Common.{Some, lt-ltb, ◌≡◌, ◌≢◌, ◌⊎◌, ℕ, zero, suc, ◌+◌, ◌%◌, ◌<◌, ◌≤◌, Bool, true, false, true≢false, List, [], ◌∷◌, ◌++◌, length, refl, sym, ap, ◌∙◌, subst, arith, inl, inr, append-nil, rules}
 use mathlib.Core.Logic.{dite}
-use mathlib.Core.Option.{some, none, some-ne-none, some-injective}
+use mathlib.Core.Option.{Option as Slot, some, none, some-ne-none, some-injective}
 use native.Mathlib.Decide.{ℕ_discrete}
 use lib.ListN.{get_elem?}
 use Rattle.atomic_table.specs.Table.{State, opening, Final, Seen}
@@ -11,11 +11,11 @@ use Rattle.rm_live.specs.declared.history.Event.{Event}
 use Rattle.rm_live.specs.declared.rule.View.{View}
 use Rattle.rm_live.specs.Parts.{IsSound, parts_of}
 use Rattle.rm_live.specs.History.{fold_of, times, Foreign}
-use Rattle.rm_live.specs.Ruled.{start, upto, resting, once_below, one_if, holding, Knows, SlotIs, Below, Ruled}
+use Rattle.rm_live.specs.Ruled.{big, start, upto, resting, once_below, one_if, holding, Knows, SlotIs, Below, Ruled}
 use Rattle.rm_live.proofs.Totals.{total_two, total_only, times_upto, length_upto, past_none, past_self, below_rest}
 use Rattle.rm_live.proofs.Steps.{off}
 
-pub begins : (k : Snapshot Database) (passes : ℕ) → passes < 18446744073709551616 → IsSound (parts_of k.value) → Ruled (opening (0 ∷ 0 ∷ []) (k.value ∷ []) (resting (Rattle.std.proofs.Common.Some k) passes (upto 0 passes) []))
+pub begins : (k : Snapshot Database) (passes : ℕ) → passes < big → IsSound (parts_of k.value) → Ruled (opening (0 ∷ 0 ∷ []) (k.value ∷ []) (resting (Some k) passes (upto 0 passes) []))
 begins k passes small sound = record {
   opening = parts_of k.value;
   passes = passes;
@@ -35,7 +35,7 @@ begins k passes small sound = record {
 }
   where
     first : View
-    first = resting (Rattle.std.proofs.Common.Some k) passes (upto 0 passes) []
+    first = resting (Some k) passes (upto 0 passes) []
 
     idle : (i : ℕ) (v : View) → get_elem? (first ∷ []) i ≡ some v → false ≡ v.waits
     idle zero v at = ap (λ (x : View). x.waits) (some-injective first v at)
@@ -75,7 +75,7 @@ whole s r id v at some_number all [] is foreign = is ∙ append-nil v.seen
 whole s r id v at some_number all (e ∷ rest) is foreign =
     let below = below_rest r.passes v.seen (e ∷ rest) (subst (Below r.passes) is r.below) in
     let mine = total_only (λ (x : View). times e.by x.numbers) s.views id v at (λ j u other there. none_in e.by u.numbers (alone s r id v at some_number all j u other there)) in
-    let once : once_below e.by r.passes ≡ 1 = ap one_if (Rattle.std.proofs.Common.lt-ltb e.by r.passes below.0) in
+    let once : once_below e.by r.passes ≡ 1 = ap one_if (lt-ltb e.by r.passes below.0) in
     let shares = r.shares e.by in
     let none_here = foreign.0 in
     absurd (omega arith)
@@ -94,7 +94,7 @@ closes ws xs id v d idle some_number all f taken = go f.1.0.slot
 
     go : SlotIs r.opening r.log s.homes s.views → parts_of d ≡ fold_of (start v.opening) v.seen
     go (inl h) =
-        let there : get_elem? xs 0 ≡ some h.0 = f.4 0 h.0 (ap (λ (hs : List (mathlib.Core.Option.Option Database)). get_elem? hs 0) h.1) in
+        let there : get_elem? xs 0 ≡ some h.0 = f.4 0 h.0 (ap (λ (hs : List (Slot Database)). get_elem? hs 0) h.1) in
         let same : d ≡ h.0 = some-injective d h.0 (sym taken ∙ there) in
         let mine = r.each id v at in
         let seen = whole s r id v at some_number all mine.past.0 mine.past.1 mine.past.2 in

@@ -1,6 +1,6 @@
 -- A seat is cut in two, two are made one, and the one learns what it was made of.
-use Rattle.std.proofs.Common.{◌≡◌, ◌≢◌, ◌⊎◌, ℕ, zero, suc, ◌+◌, ◌-◌, ◌/◌, ◌%◌, ◌<◌, ◌≤◌, Bool, true, false, List, [], ◌∷◌, ◌++◌, length, set, slice_index, nat_lt, if◌then◌else◌, take, drop, refl, sym, ap, ◌∙◌, subst, arith, length-append, length-take, length-drop, inl, inr, ⊎_elim, ltb-true, ltb-false}
-use mathlib.Core.Option.{some, none, some-ne-none, some-injective}
+use Rattle.std.proofs.Common.{take-append-drop, ◌≡◌, ◌≢◌, ◌⊎◌, ℕ, zero, suc, ◌+◌, ◌-◌, ◌/◌, ◌%◌, ◌<◌, ◌≤◌, Bool, true, false, List, [], ◌∷◌, ◌++◌, length, set, slice_index, nat_lt, if◌then◌else◌, take, drop, refl, sym, ap, ◌∙◌, subst, arith, length-append, length-take, length-drop, inl, inr, ⊎_elim, ltb-true, ltb-false}
+use mathlib.Core.Option.{Option as Slot, some, none, some-ne-none, some-injective}
 use lib.ListN.{get_elem?}
 use lib.Seq.{set-get_or}
 use Rattle.atomic_table.specs.Table.{step, keeps, Allows, Splits, Joins}
@@ -14,7 +14,7 @@ use Rattle.rm_live.specs.Ruled.{total, one_if, waiting, holding, Knows, SlotIs, 
 use Rattle.rm_live.proofs.Totals.{total_set, total_same, total_snoc, times_append, times_split, foreign_less, foreign_both, past_none, past_within}
 use Rattle.rm_live.proofs.Steps.{St, off, each_set, slot_same, apart_set}
 
-slot_snoc : (o : Parts) (log : List Event) (homes : List (mathlib.Core.Option.Option Database)) (views : List View) (w : View) → SlotIs o log homes views → SlotIs o log homes (views ++ w ∷ [])
+slot_snoc : (o : Parts) (log : List Event) (homes : List (Slot Database)) (views : List View) (w : View) → SlotIs o log homes views → SlotIs o log homes (views ++ w ∷ [])
 slot_snoc o log homes views w (inl h) = inl h
 slot_snoc o log homes views w (inr h) = inr (h.0, (h.1.0, h.1.1, at_longer views (w ∷ []) h.1.0 h.1.1 h.1.2, h.1.3))
 
@@ -86,7 +86,7 @@ splits id v idle still two s r at =
     }
   where
     sums : (ns : List ℕ) (k : ℕ) → length (take k ns) + length (drop k ns) ≡ length ns
-    sums ns k = sym (length-append (take k ns) (drop k ns)) ∙ ap length (Rattle.std.proofs.Common.take-append-drop k ns)
+    sums ns k = sym (length-append (take k ns) (drop k ns)) ∙ ap length (take-append-drop k ns)
 
     count_is : (n k a b t t' t'' p : ℕ) → 0 < n → a + b ≡ n → t' + n ≡ t + a → t'' ≡ t' + b → t ≡ p → t'' ≡ p
     count_is n k a b t t' t'' p pos ab e f g = omega arith

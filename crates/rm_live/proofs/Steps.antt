@@ -1,10 +1,10 @@
 -- Each step keeps the rule.
 use Rattle.std.proofs.Common.{◌≡◌, ◌≢◌, ◌⊎◌, ℕ, zero, suc, ◌+◌, ◌%◌, ◌<◌, ◌≤◌, Bool, true, false, true≢false, List, [], ◌∷◌, ◌++◌, length, set, slice_index, nat_lt, nat_eq, if◌then◌else◌, refl, sym, ap, ◌∙◌, subst, arith, append_assoc, length-append, inl, inr, ⊎_elim, eq-eqb}
 use mathlib.Core.Logic.{dite}
-use mathlib.Core.Option.{some, none, some-ne-none, some-injective}
+use mathlib.Core.Option.{Option as Slot, some, none, some-ne-none, some-injective}
 use native.Mathlib.Decide.{ℕ_discrete}
 use lib.ListN.{get_elem?}
-use Rattle.atomic_table.specs.Table.{State, Me, step, keeps, takes, gives, stepped, Allows}
+use Rattle.atomic_table.specs.Table.{State, Me, step, keeps, takes, gives, stepped, Allows, Act, Step, Valid, carried_after, put_back, rest}
 use Rattle.atomic_table.proofs.Lists.{at_set, set_again, one_turn, set_else}
 use Rattle.std.proofs.Math.Nat.{mod-add-mod}
 use lib.Seq.{set-get_or}
@@ -68,7 +68,7 @@ apart_set views id w old new i j v u at at' vw uw same =
     (at_set views id i w v at)
 
 pub draws : (slots id : ℕ) (v : View) (c : List (ℕ × Database)) → v.waits ≡ false → v.turn ≡ false → 0 < length v.numbers
-    → Allows Ruled slots id (v, c) 0 (λ n. (n + 1) % 18446744073709551616) (Drew (step slots 0 1 0 none) (v, c))
+    → Allows Ruled slots id (v, c) 0 (λ n. (n + 1) % big) (Drew (step slots 0 1 0 none) (v, c))
 draws slots id v c idle still some_number s r deep at fits =
     let t : ℕ = r.drawn in
     let w : View = drew v t in
@@ -128,7 +128,7 @@ draws slots id v c idle still some_number s r deep at fits =
 
 looks_at : (s : St) (r : Ruled s) (slots id : ℕ) (v : View) (c : List (ℕ × Database)) → get_elem? s.views id ≡ some v → v.waits ≡ true → v.turn ≡ false → v.ticket ≡ length r.log
     → SlotIs r.opening r.log s.homes s.views → (k : ℕ) → k ≡ v.ticket % big → slice_index s.words 1 ≡ k
-    → (w : View) × (a : Rattle.atomic_table.specs.Table.Act Database) × Rattle.atomic_table.specs.Table.Valid s.homes c a × Ruled (stepped s 1 k id c w a) × Looked (step slots 1 0 0 none) (v, c) k (w, Rattle.atomic_table.specs.Table.carried_after c a)
+    → (w : View) × (a : Act Database) × Valid s.homes c a × Ruled (stepped s 1 k id c w a) × Looked (step slots 1 0 0 none) (v, c) k (w, carried_after c a)
 looks_at s r slots id v c at waits still mine_next (inr h) k k_is found =
     let i : ℕ = h.1.0 in
     let u : View = h.1.1 in
@@ -143,7 +143,7 @@ looks_at s r slots id v c at waits still mine_next (inl h) k k_is found =
     let long = past_length v.numbers v.seen r.log mine.past in (
       w,
       takes 0 d,
-      ap (λ (hs : List (mathlib.Core.Option.Option Database)). get_elem? hs 0) h.1,
+      ap (λ (hs : List (Slot Database)). get_elem? hs 0) h.1,
       record {
         opening = r.opening;
         passes = r.passes;
@@ -173,7 +173,7 @@ looks_at s r slots id v c at waits still mine_next (inl h) k k_is found =
             })
             (λ j u other there. r.each j u there);
         apart = apart_set s.views id w r.apart (λ j u other there uw _ same. other (r.apart j id u v there at uw waits same));
-        slot = inr (ap (λ (hs : List (mathlib.Core.Option.Option Database)). set hs 0 none) h.1, (id, w, set_there s.views id v w at, refl));
+        slot = inr (ap (λ (hs : List (Slot Database)). set hs 0 none) h.1, (id, w, set_there s.views id v w at, refl));
       },
       record {
         hit = λ _. record {
@@ -247,7 +247,7 @@ is_below s r id v n at has =
 
 pub ends : (slots id : ℕ) (v : View) (c : List (ℕ × Database)) (y : Database) (e : Event) → v.turn ≡ true → c ≡ (0, y) ∷ [] → 0 < times e.by v.numbers
     → IsRight (fold_of (start v.opening) v.seen) e.call e.answer → parts_of y ≡ after (fold_of (start v.opening) v.seen) e.call e.answer
-    → Allows Ruled slots id (v, c) 1 (λ n. (n + 1) % 18446744073709551616) (Ended e (step slots 1 1 0 none) (v, c))
+    → Allows Ruled slots id (v, c) 1 (λ n. (n + 1) % big) (Ended e (step slots 1 1 0 none) (v, c))
 ends slots id v c y e turn carried has right state s r deep at fits =
     let w : View = ended v e in
     let mine = r.each id v at in
@@ -307,18 +307,18 @@ ends slots id v c y e turn carried has right state s r deep at fits =
         apart = apart_set s.views id w r.apart (λ j u other there uw ww _. off ww);
         slot = inl (y, homes_are s.homes c y carried r.slot, state ∙ ap (λ (o : Parts). after o e.call e.answer) same ∙ sym (fold_snoc r.opening r.log e));
       },
-      (ap (λ (l : List (ℕ × Database)). (w, Rattle.atomic_table.specs.Table.rest l)) carried, subst (λ (n : ℕ). e.by < n) (sym (mine.passes_is ((mine.ticketed now.0).2))) (is_below s r id v e.by at has)),
+      (ap (λ (l : List (ℕ × Database)). (w, rest l)) carried, subst (λ (n : ℕ). e.by < n) (sym (mine.passes_is ((mine.ticketed now.0).2))) (is_below s r id v e.by at has)),
     )
   where
     later : (n m t : ℕ) → m ≡ n + 1 → n ≤ t → ¬ (t ≡ n) → m ≤ t
     later n m t is le ne = omega arith
 
-    homes_are : (homes : List (mathlib.Core.Option.Option Database)) (c : List (ℕ × Database)) (y : Database) → c ≡ (0, y) ∷ [] → SlotIs r.opening r.log homes s.views → Rattle.atomic_table.specs.Table.put_back homes c ≡ some y ∷ []
-    homes_are homes c y is (inl h) = ap (λ (l : List (ℕ × Database)). Rattle.atomic_table.specs.Table.put_back homes l) is ∙ ap (λ (hs : List (mathlib.Core.Option.Option Database)). set hs 0 (some y)) h.1
-    homes_are homes c y is (inr h) = ap (λ (l : List (ℕ × Database)). Rattle.atomic_table.specs.Table.put_back homes l) is ∙ ap (λ (hs : List (mathlib.Core.Option.Option Database)). set hs 0 (some y)) h.0
+    homes_are : (homes : List (Slot Database)) (c : List (ℕ × Database)) (y : Database) → c ≡ (0, y) ∷ [] → SlotIs r.opening r.log homes s.views → put_back homes c ≡ some y ∷ []
+    homes_are homes c y is (inl h) = ap (λ (l : List (ℕ × Database)). put_back homes l) is ∙ ap (λ (hs : List (Slot Database)). set hs 0 (some y)) h.1
+    homes_are homes c y is (inr h) = ap (λ (l : List (ℕ × Database)). put_back homes l) is ∙ ap (λ (hs : List (Slot Database)). set hs 0 (some y)) h.0
 
 -- after a look that found the ticket
-pub turned : (st : Rattle.atomic_table.specs.Table.Step Database) (m n p : Sat) (t r : ℕ) → m.1 ≡ [] → n ≡ (drew m.0 t, []) → r ≡ t % big → Looked st n r p → HasTurn m p
+pub turned : (st : Step Database) (m n p : Sat) (t r : ℕ) → m.1 ≡ [] → n ≡ (drew m.0 t, []) → r ≡ t % big → Looked st n r p → HasTurn m p
 turned st m n p t r none_held is found look =
     let got = look.hit (found ∙ ap (λ (x : Sat). x.0.ticket % big) (sym is)) in
     let view = ap (λ (x : Sat). x.0) is in

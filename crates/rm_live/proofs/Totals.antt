@@ -1,5 +1,5 @@
 -- Sums over views, beginnings of a list, and the numbers of events.
-use Rattle.std.proofs.Common.{Ok, Err, ◌≡◌, ◌≢◌, ◌⊎◌, ℕ, zero, suc, ◌+◌, ◌<◌, ◌≤◌, Bool, true, false, List, [], ◌∷◌, ◌++◌, length, set, nat_lt, nat_eq, if◌then◌else◌, refl, sym, ap, ◌∙◌, subst, arith, append_assoc, length-append, inl, inr, ne_eqb, eq-eqb, ltb-true, ltb-false, take, drop, take-append-drop}
+use Rattle.std.proofs.Common.{append-nil, Ok, Err, ◌≡◌, ◌≢◌, ◌⊎◌, ℕ, zero, suc, ◌+◌, ◌<◌, ◌≤◌, Bool, true, false, List, [], ◌∷◌, ◌++◌, length, set, nat_lt, nat_eq, if◌then◌else◌, refl, sym, ap, ◌∙◌, subst, arith, append_assoc, length-append, inl, inr, ne_eqb, eq-eqb, ltb-true, ltb-false, take, drop, take-append-drop}
 use mathlib.Core.Option.{some, some-ne-none, some-injective}
 use lib.ListN.{get_elem?}
 use Rattle.rm_live.specs.declared.history.Event.{Event}
@@ -63,7 +63,7 @@ pub past_none : (log : List Event) → Past [] [] log
 past_none log = (log, refl, foreign_none log)
 
 pub past_self : (ns : List ℕ) (log : List Event) → Past ns log log
-past_self ns log = ([], sym (Rattle.std.proofs.Common.append-nil log), tt)
+past_self ns log = ([], sym (append-nil log), tt)
 
 -- the history grows by an event of another
 pub past_snoc : (ns : List ℕ) (seen log : List Event) (e : Event) → Past ns seen log → times e.by ns ≡ 0 → Past ns seen (log ++ e ∷ [])

@@ -1,6 +1,6 @@
 -- The rule of the lock, and what each step tells.
 use Rattle.std.specs.Prelude.{◌≡◌, ◌≢◌, ◌⊎◌, ℕ, zero, suc, ◌+◌, ◌-◌, ◌/◌, ◌%◌, take, drop, ◌<◌, ◌≤◌, Bool, true, false, Option, Some, None, List, [], ◌∷◌, ◌++◌, length, nat_lt, if◌then◌else◌}
-use mathlib.Core.Option.{some, none}
+use mathlib.Core.Option.{Option as Slot, some, none}
 use lib.ListN.{get_elem?}
 use Rattle.atomic_table.specs.Table.{State, Me, Step}
 use Rattle.std.specs.declared.snapshot.Snapshot.{Snapshot}
@@ -79,7 +79,7 @@ pub record Knows (opening : Parts) (passes : ℕ) (log : List Event) (drawn : �
   pub in_turn : v.turn ≡ true → (v.waits ≡ true) × (v.ticket ≡ length log) × (v.seen ≡ log)
 
 -- the slot is at home with the database after the events, or some view is in turn
-abbrev pub SlotIs : Parts → List Event → List (mathlib.Core.Option.Option Database) → List View → Type 0
+abbrev pub SlotIs : Parts → List Event → List (Slot Database) → List View → Type 0
 SlotIs opening log homes views =
     ((d : Database) × (homes ≡ some d ∷ []) × (parts_of d ≡ fold_of opening log))
     ⊎ ((homes ≡ none ∷ []) × ((i : ℕ) × (v : View) × (get_elem? views i ≡ some v) × (v.turn ≡ true)))

@@ -54,7 +54,10 @@ impl Model for Pass {
 }
 
 impl Live {
-    /// Opens a database for at most so many passes at once. Without memory the database is dropped.
+    /// Opens a database for so many passes at once, at least 1, and gives the first pass, which has all
+    /// their numbers. The datafiles have different numbers, the logs are of the database's incarnation
+    /// and begin at or below `now`, and each row and each record was written below it. Without memory
+    /// the database is dropped.
     pub fn open(alloc: Global, database: Database, passes: usize) -> Result<(Live, Pass), NoMemory>
         requires passes { 1 ≤ passes }
         requires numbered { IsNumbered (parts_of database).files }
@@ -104,7 +107,7 @@ impl Live {
         self.table.shared.fetch_add::<End<E>>(place, 1, 1);
     }
 
-    /// Reads a block, in a turn of its own. None where there is no such block.
+    /// Reads a block, in a turn of its own, for which it may wait. None where there is no such block.
     pub fn read<R: Wait>(
         &self,
         rt: &R,
@@ -129,9 +132,10 @@ impl Live {
         answer
     }
 
-    /// Writes a block by a redo thread, in a turn of its own, and gives the SCN of the change. It
-    /// answers `NoBlock` where there is no such block, else `Full` where the thread has 65,536 records,
-    /// else `LastScn` where `now` is the last SCN. A refusal changes no block and no log.
+    /// Writes a block by a redo thread, in a turn of its own, for which it may wait, and gives the SCN of
+    /// the change. The thread is there, and its log is not lost. It answers `NoBlock` where there is no
+    /// such block, else `Full` where the thread has 65,536 records, else `LastScn` where `now` is the
+    /// last SCN. A refusal changes no block and no log.
     pub fn write<R: Wait>(
         &self,
         rt: &R,
