@@ -10,14 +10,7 @@ use std::alloc::Global;
 impl World {
     // Takes note of a change, where it is one of this datafile below `s`, on the path of `i`, and is
     // later than what was noted of its block.
-    fn note(
-        &self,
-        last: &mut Vec<Option<Change>>,
-        i: IncNo,
-        s: Scn,
-        file: FileNo,
-        change: Change,
-    )
+    fn note(&self, last: &mut Vec<Option<Change>>, i: IncNo, s: Scn, file: FileNo, change: Change)
         requires there { IsThere self.now.tree i }
         requires scn { 0 < change.scn }
         ensures len { length last.new.items ≡ length last.old.items }

@@ -44,7 +44,14 @@ impl World {
     }
 
     // Whether a change is one of this block below `s`, at an address that the path of `i` owns.
-    pub(crate) fn concerns(&self, i: IncNo, s: Scn, file: FileNo, block: BlockNo, change: &Change) -> bool
+    pub(crate) fn concerns(
+        &self,
+        i: IncNo,
+        s: Scn,
+        file: FileNo,
+        block: BlockNo,
+        change: &Change,
+    ) -> bool
         requires there { IsThere self.now.tree i }
         requires scn { 0 < change.now.scn }
         ensures { result ≡ concerns self.now i s file block change.now }

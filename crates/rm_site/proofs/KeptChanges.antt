@@ -82,16 +82,16 @@ concerns-end w i f b c here low =
     let end = end_of w.tree i in
     same-tests (concerns w i (end + 1) f b c) (concerns w i end f b c)
     (λ is.
-        let parts = concerns-parts w i (end + 1) f b c is in
-        let until = parts.below in
-        elim (cases_lt c.scn end) [
-          | inl less ↦ concerns-from w i end f b c (record { file = parts.file; block = parts.block; below = less; owned = parts.owned })
-          | inr most ↦
-              let met : c.scn ≡ end = omega (arith, until, most) in
-              let own : c.inc ≡ i = sym parts.owned ∙ ap (owner w.tree i) met ∙ here in
-              let under : c.scn < end = subst (λ j. c.scn < end_of w.tree j) own low in
-              absurd (omega (arith, under, met))
-        ])
+    let parts = concerns-parts w i (end + 1) f b c is in
+    let until = parts.below in
+    elim (cases_lt c.scn end) [
+      | inl less ↦ concerns-from w i end f b c (record { file = parts.file; block = parts.block; below = less; owned = parts.owned })
+      | inr most ↦
+          let met : c.scn ≡ end = omega (arith, until, most) in
+          let own : c.inc ≡ i = sym parts.owned ∙ ap (owner w.tree i) met ∙ here in
+          let under : c.scn < end = subst (λ j. c.scn < end_of w.tree j) own low in
+          absurd (omega (arith, under, met))
+    ])
     (λ is. concerns-later w i end (end + 1) f b c (omega arith) is)
 
 -- so the state one SCN further is the same
@@ -188,9 +188,9 @@ is_of-further a b c more is =
 is_of-same : (a b : Log) (c : Change) → Further a b → (c.inc ≡ a.inc → c.scn < a.next) → is_of a c ≡ is_of b c
 is_of-same a b c more low =
     same-tests (is_of a c) (is_of b c) (λ is. is_of-further a b c more is) (λ is.
-        let now = is_of-parts b c is in
-        let own : c.inc ≡ a.inc = now.inc ∙ more.inc in
-        is_of-from a c (record { inc = own; thread = now.thread ∙ more.thread; begun = omega (arith, now.begun, more.first); below = low own }))
+    let now = is_of-parts b c is in
+    let own : c.inc ≡ a.inc = now.inc ∙ more.inc in
+    is_of-from a c (record { inc = own; thread = now.thread ∙ more.thread; begun = omega (arith, now.begun, more.first); below = low own }))
 
 filter-further : (h : List Change) (a b : Log) → Further a b → All (λ c. c.inc ≡ a.inc → c.scn < a.next) h → filter (is_of a) h ≡ filter (is_of b) h
 filter-further h a b more low =

@@ -263,8 +263,8 @@ pub on-path : (p : Parts) (f : ℕ) (d : Datafile) → on_path p f ≡ Some d �
 on-path p f d is =
     option_and_then_some (λ e. cond (exists p.world p.current (now_of p) e) (Some e) None) (file_of p.world f) d is
     (λ e known kept.
-        let both = cond_some (exists p.world p.current (now_of p) e) e d kept in
-        (known ∙ ap Some both.1, ap (exists p.world p.current (now_of p)) (sym both.1) ∙ both.0))
+    let both = cond_some (exists p.world p.current (now_of p) e) e d kept in
+    (known ∙ ap Some both.1, ap (exists p.world p.current (now_of p)) (sym both.1) ∙ both.0))
 
 thread-of : (n t : ℕ) → ((t == 0) || nat_lt n t) ≡ false → (0 < t) × (t ≤ n)
 thread-of n t is = (grind (arith, nat_tests), grind (arith, nat_tests))
@@ -312,10 +312,10 @@ history-write p w h s k a =
     (IsHistory-with_end p.world p.current (now_of p + 1) h s.there k.history)
     (IsChange-with_end p.world p.current (now_of p + 1) (change_of p w) s.there (change-is p w s a))
     (λ d held same.
-        let low : d.scn < end_of p.world.tree d.inc = All-contains (λ d. d.scn < end_of p.world.tree d.inc) h d k.below held in
-        let under : d.scn < now_of p = subst (λ i. d.scn < end_of p.world.tree i) same.inc low in
-        let met = same.scn in
-        absurd (omega (arith, under, met)))
+    let low : d.scn < end_of p.world.tree d.inc = All-contains (λ d. d.scn < end_of p.world.tree d.inc) h d k.below held in
+    let under : d.scn < now_of p = subst (λ i. d.scn < end_of p.world.tree i) same.inc low in
+    let met = same.scn in
+    absurd (omega (arith, under, met)))
 
 -- What the logs tell after it
 
@@ -393,9 +393,9 @@ online-write p w h s k a t there =
 archived-write : (p : Parts) (w : WriteForm) (h : List Change) (l : Archived) → IsArchived p.world.tree p.next_id l → LogAgrees h (log_of l.log) → LogAgrees (h ++ change_of p w ∷ []) (log_of l.log)
 archived-write p w h l is agrees =
     LogAgrees-grown h (change_of p w) (log_of l.log) agrees (is_of-not (log_of l.log) (change_of p w) (λ tells.
-        let low : l.log.next ≤ now_of p = subst (λ i. l.log.next ≤ end_of p.world.tree i) (sym tells.inc) is.next in
-        let until = tells.below in
-        absurd (omega (arith, low, until))))
+    let low : l.log.next ≤ now_of p = subst (λ i. l.log.next ≤ end_of p.world.tree i) (sym tells.inc) is.next in
+    let until = tells.below in
+    absurd (omega (arith, low, until))))
 
 -- What stands in place after it
 
@@ -428,8 +428,8 @@ rows-written p w h x s k a number order rows =
     rows-set (λ r. r ≡ state (risen p) (h ++ c ∷ []) p.current next x.file r.block) x.rows w.block new
     (subst (λ f. new ≡ state (risen p) (h ++ c ∷ []) p.current next f w.block) (sym number) (sym (written-row p w h s k a)))
     (λ n r is other.
-        row-all (λ r. r ≡ state p.world h p.current (now_of p) x.file r.block) x.rows n r rows is
-        ∙ sym (state-push_other (risen p) h c p.current next x.file r.block (concerns-other_block (risen p) p.current next x.file r.block c (λ e. other (sym (order n r is) ∙ sym e))) ∙ state-risen p h x.file r.block s k))
+    row-all (λ r. r ≡ state p.world h p.current (now_of p) x.file r.block) x.rows n r rows is
+    ∙ sym (state-push_other (risen p) h c p.current next x.file r.block (concerns-other_block (risen p) p.current next x.file r.block c (λ e. other (sym (order n r is) ∙ sym e))) ∙ state-risen p h x.file r.block s k))
 
 rows-write : (p : Parts) (w : WriteForm) (h : List Change) → IsSound p → Keeps p h → Accepted p w → (f : ℕ) (x : File) → placed (with_write p w) f ≡ Some x → RowsAre (risen p) (h ++ change_of p w ∷ []) p.current (now_of (with_write p w)) x
 rows-write p w h s k a f x is =

@@ -23,12 +23,7 @@ pub fn create_refusal(threads: u64) -> Option<Refusal>
 
 impl Database {
     /// A new database, open, with one incarnation and no datafile. Its first SCN is `scn`.
-    pub fn new(
-        alloc: Global,
-        dbid: u32,
-        threads: ThreadNo,
-        scn: Scn,
-    ) -> Result<Database, NoMemory>
+    pub fn new(alloc: Global, dbid: u32, threads: ThreadNo, scn: Scn) -> Result<Database, NoMemory>
         requires dbid { 1 ≤ dbid }
         requires threads { (1 ≤ threads) × (threads ≤ 4) }
         requires first { 1 ≤ scn }

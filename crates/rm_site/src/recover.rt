@@ -51,11 +51,7 @@ impl Database {
 
 /// RECOVER DATABASE: puts the datafiles of the target in place, as the history made them. A refusal
 /// changes nothing.
-pub fn recover(
-    alloc: Global,
-    database: &mut Database,
-    until: &Option<Until>,
-) -> Result<Reply, Stop>
+pub fn recover(alloc: Global, database: &mut Database, until: &Option<Until>) -> Result<Reply, Stop>
     ensures { IfOk result (Steps (Some database.old) (Some database.new) (Recover until.now)) }
 {
     let s = database.target(until);

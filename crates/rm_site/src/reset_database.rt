@@ -50,9 +50,10 @@ impl Database {
         ensures { OnOk result (lines.new ≡ lines.old ++ incarnation_line self.now.world.tree self.now.current inc ∷ []) }
     {
         let tree = &self.world.tree;
-        if let (Some(incarnation), Some(standing)) =
-            (tree.get(inc), tree.standing(inc, self.current))
-        {
+        if let (Some(incarnation), Some(standing)) = (
+            tree.get(inc),
+            tree.standing(inc, self.current),
+        ) {
             lines.push(Line::IncarnationIs {
                 inc,
                 parent: incarnation.parent,

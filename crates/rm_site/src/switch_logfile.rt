@@ -41,11 +41,7 @@ impl Database {
 }
 
 /// SWITCH LOGFILE: archives the online log of one thread. A refusal changes nothing.
-pub fn switch_logfile(
-    alloc: Global,
-    database: &mut Database,
-    thread: u64,
-) -> Result<Reply, Stop>
+pub fn switch_logfile(alloc: Global, database: &mut Database, thread: u64) -> Result<Reply, Stop>
     ensures { IfOk result (Steps (Some database.old) (Some database.new) (SwitchLogfile thread)) }
 {
     if let Some(refusal) = database.switch_refusal(thread) {

@@ -37,7 +37,7 @@ made_is p s inc threads tree logs place sound i n t l k =
     ∙ ap (λ x. made_of p (next_incarnation p) x logs place) t
     ∙ ap (λ x. made_of p (next_incarnation p) (with_branch p.world.tree p.current s) x place) (l ∙ ap (λ x. fresh_logs p.dbid x threads s) i ∙ ap (λ x. fresh_logs p.dbid (next_incarnation p) x s) n)
     ∙ ap (λ x. made_of p (next_incarnation p) (with_branch p.world.tree p.current s) (fresh_logs p.dbid (next_incarnation p) p.world.threads s) x)
-        (k ∙ ap (λ (x : List Incarnation). kept_in_place (record { tree = x; threads = p.world.threads; files = p.world.files }) p.current s p.world.files p.place) t ∙ kept-branched p s sound)
+    (k ∙ ap (λ (x : List Incarnation). kept_in_place (record { tree = x; threads = p.world.threads; files = p.world.files }) p.current s p.world.files p.place) t ∙ kept-branched p s sound)
 
 pub invariant_of-self-2 : goal.invariant_of-self-2
 unfolding made_of
