@@ -5,7 +5,7 @@ use Rattle.std.proofs.lemmas.Bool.{cases_eq}
 use Rattle.rm_base.specs.Numbers.{last_scn}
 use Rattle.rm_history.specs.declared.tree.Incarnation.{Incarnation}
 use Rattle.rm_history.specs.declared.world.Datafile.{Datafile}
-use Rattle.rm_history.specs.Tree.{IsThere, IsTree, end_of, parent_of, reset_of, with_end, with_branch}
+use Rattle.rm_history.specs.Tree.{IsThere, end_of, parent_of, reset_of, with_end, with_branch}
 use Rattle.rm_history.proofs.Branches.{length-with_branch, IsTree-with_branch, IsThere-with_branch, reset_of-with_branch, end_of-with_branch, reset_of-branched, end_of-branched}
 use Rattle.rm_history.proofs.Ends.{IsThere-with_end, IsTree-with_end, reset_of-with_end}
 use Rattle.rm_history.proofs.Owners.{incarnation-there}

@@ -1,17 +1,15 @@
 -- Threads that are archived one after another keep a sound database and its history.
-use Rattle.std.proofs.Common.{◌≡◌, ◌≢◌, ◌<◌, ◌≤◌, ◌+◌, ◌-◌, ◌∙◌, ◌++◌, ◌&&◌, ◌⊎◌, inl, inr, ℕ, zero, suc, List, [], ◌∷◌, Option, Some, None, true, false, Bool, cond, not, refl, ap, sym, subst, arith, length, map, filter, All, nat_lt}
+use Rattle.std.proofs.Common.{◌≡◌, ◌≢◌, ◌<◌, ◌≤◌, ◌+◌, ◌∙◌, ◌&&◌, inl, inr, ℕ, zero, suc, List, [], ◌∷◌, true, false, Bool, cond, not, refl, ap, sym, subst, arith, length, filter, All, nat_lt}
 use Rattle.std.proofs.lemmas.Bool.{cases_eq}
 use Rattle.std.proofs.lemmas.Bool.Decides.{nat_tests}
 use Rattle.std.proofs.lemmas.List.Elements.{All-nil, All-cons, All-head, All-tail}
 use Rattle.rm_base.specs.declared.block.Change.{Change}
-use Rattle.rm_blocks.specs.File.{File}
 use Rattle.rm_history.specs.Agrees.{is_of}
 use Rattle.rm_history.specs.Tree.{end_of}
-use Rattle.rm_history.specs.declared.world.World.{World}
 use Rattle.rm_history.specs.World.{IsThread as IsThreadOf}
 use Rattle.rm_redo.specs.declared.online.LogRecord.{LogRecord}
-use Rattle.rm_redo.specs.LogFile.{changes_in, log_file_of}
-use Rattle.rm_redo.specs.Online.{IsThread, IsLost, first_of, records_of, switched}
+use Rattle.rm_redo.specs.LogFile.{changes_in}
+use Rattle.rm_redo.specs.Online.{IsThread, first_of, records_of}
 use Rattle.rm_redo.proofs.Logs.{around-switched, first_of-switched, first_of-switched_other}
 use Rattle.rm_site.specs.Archiving.{is_lost, is_due, with_archived, after_thread, after_threads, after_all}
 use Rattle.rm_site.specs.Machine.{Keeps, online_log}

@@ -1,11 +1,11 @@
 -- What CREATE DATABASE, RESET DATABASE, STARTUP MOUNT, CREATE DATAFILE and WRITE keep of the history.
-use Rattle.std.proofs.Common.{◌≡◌, ◌≢◌, ◌<◌, ◌≤◌, ◌+◌, ◌-◌, ◌∙◌, ◌⊎◌, ◌++◌, ◌==◌, ◌||◌, ◌&&◌, nat_le, nat_lt, inl, inr, ℕ, zero, suc, List, [], ◌∷◌, Option, Some, None, Bool, true, false, cond, is_none, refl, ap, sym, subst, arith, length, All, Contains, map, slice_get, slice_set, slice_index_or, replicate}
-use Rattle.std.specs.Option.{option_map, option_map_or, option_and_then}
+use Rattle.std.proofs.Common.{◌≡◌, ◌≢◌, ◌<◌, ◌≤◌, ◌+◌, ◌-◌, ◌∙◌, ◌++◌, ◌==◌, ◌||◌, nat_le, nat_lt, inl, inr, ℕ, zero, suc, List, [], ◌∷◌, Option, Some, None, Bool, true, false, cond, is_none, refl, ap, sym, subst, arith, length, All, Contains, slice_get, replicate}
+use Rattle.std.specs.Option.{option_map, option_map_or}
 use Rattle.std.proofs.lemmas.Bool.{cases_eq, eqb-true}
 use Rattle.std.proofs.lemmas.Bool.Decides.{nat_tests}
 use Rattle.std.proofs.lemmas.List.{map_push}
 use Rattle.std.proofs.lemmas.List.Elements.{All-head, All-tail, All-push, All-weaker, All-contains, Contains-get_or}
-use Rattle.std.proofs.lemmas.Option.{cond_some, option_and_then_some, slice_get_within}
+use Rattle.std.proofs.lemmas.Option.{cond_some, option_and_then_some}
 use Rattle.rm_base.specs.Numbers.{last_scn}
 use Rattle.rm_base.specs.declared.block.Change.{Change}
 use Rattle.rm_base.specs.declared.refusal.Refusal.{Refusal}
@@ -17,8 +17,8 @@ use Rattle.rm_blocks.specs.File.{File, IsInOrder, created, created_row, standing
 use Rattle.rm_history.specs.declared.world.Datafile.{Datafile}
 use Rattle.rm_history.specs.declared.world.World.{World}
 use Rattle.rm_history.specs.Agrees.{BaseAgrees, LogAgrees, is_of}
-use Rattle.rm_history.specs.History.{IsChange, IsHistory, SamePlace}
-use Rattle.rm_history.specs.State.{concerns, state}
+use Rattle.rm_history.specs.History.{IsChange, IsHistory}
+use Rattle.rm_history.specs.State.{state}
 use Rattle.rm_history.specs.Tree.{end_of, owner}
 use Rattle.rm_history.specs.World.{IsThread, creation_of, file_of, exists}
 use Rattle.rm_history.proofs.Histories.{world-with_end, state-push_other, state-with_end, IsChange-with_end, IsHistory-push, IsHistory-with_end, IsHistory-with_file}
@@ -31,7 +31,7 @@ use Rattle.rm_history.proofs.Worlds.{state-kept}
 use Rattle.rm_redo.specs.declared.online.LogRecord.{LogRecord}
 use Rattle.rm_redo.specs.declared.online.ThreadLog.{ThreadLog}
 use Rattle.rm_redo.specs.LogFile.{changes_in, log_of}
-use Rattle.rm_redo.specs.Online.{fresh_log, first_of, record_of, records_of, with_change}
+use Rattle.rm_redo.specs.Online.{fresh_log, record_of, records_of, with_change}
 use Rattle.rm_redo.proofs.Logs.{IsLost-with_change, first_of-with_change, inc-with_change, records_of-with_change, records_of-with_change_other}
 use Rattle.rm_lang.specs.declared.command.WriteForm.{WriteForm}
 use Rattle.rm_site.specs.declared.database.Archived.{Archived}
@@ -43,7 +43,7 @@ use Rattle.rm_site.specs.Parts.{Parts, now_of, redo_end, on_path, placed}
 use Rattle.rm_site.specs.ResetDatabase.{at_incarnation}
 use Rattle.rm_site.specs.Sound.{IsSound, IsArchived, IsOnline}
 use Rattle.rm_site.specs.Write.{block_refusal, place_refusal, write_refusal, change_of, with_write}
-use Rattle.rm_site.proofs.KeptChanges.{LieBelow, Further, IsOf, agrees-further, agrees-pushed, both-hold, concerns-other_block, concerns-other_file, below-risen, end-rises, end_of-risen, is_of-from, is_of-further, is_of-not, lt-holds, state-end, state-untouched}
+use Rattle.rm_site.proofs.KeptChanges.{LieBelow, Further, agrees-further, agrees-pushed, both-hold, concerns-other_block, concerns-other_file, below-risen, end-rises, end_of-risen, is_of-from, is_of-further, is_of-not, lt-holds, state-end, state-untouched}
 use Rattle.rm_site.proofs.KeptPlaces.{agrees-open, created-all, file_of-new, file-inside, file-there, held-open, held-closed, none-lost, placed-map, placed-mapped, placed-push, placed-set, row-all, rows-set, stands, stands-numbered}
 
 -- A new database

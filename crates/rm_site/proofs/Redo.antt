@@ -1,10 +1,9 @@
 -- The records of the online logs.
-use Rattle.std.proofs.Common.{◌≡◌, ◌≢◌, zero, suc, ◌∷◌, length, ◌<◌, ◌≤◌, ◌-◌, ℕ, List, [], Option, Some, None, All, IfSome, true, ap, refl, subst, sym, arith, slice_get, slice_index_or}
+use Rattle.std.proofs.Common.{◌≡◌, ◌≢◌, zero, suc, ◌∷◌, length, ◌<◌, ◌≤◌, ◌-◌, ℕ, List, [], Option, Some, None, All, IfSome, true, ap, refl, arith, slice_get, slice_index_or}
 use Rattle.std.specs.Option.{option_map_or}
-use Rattle.std.proofs.lemmas.List.Elements.{All-nil, All-weaker}
+use Rattle.std.proofs.lemmas.List.Elements.{All-nil}
 use Rattle.rm_redo.specs.declared.online.LogRecord.{LogRecord}
 use Rattle.rm_redo.specs.declared.online.ThreadLog.{ThreadLog}
-use Rattle.rm_redo.specs.Logs.{IsLog, IsLogs}
 use Rattle.rm_base.specs.declared.block.Row.{Row}
 use Rattle.rm_blocks.specs.File.{File}
 use Rattle.rm_history.specs.Tree.{end_of}

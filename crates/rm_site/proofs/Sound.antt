@@ -1,33 +1,25 @@
 -- What statements make of a sound database is sound.
-use Rattle.std.proofs.Common.{◌≡◌, ◌≢◌, ◌<◌, ◌≤◌, ◌+◌, ◌-◌, ◌∙◌, ◌++◌, ◌⊎◌, inl, inr, ℕ, zero, suc, List, [], ◌∷◌, Option, Some, None, Bool, true, false, refl, ap, sym, subst, arith, length, All, AllPairs, map, slice_get, slice_set, slice_index_or, replicate, is_none, cond, ◌==◌, ◌||◌, nat_lt}
+use Rattle.std.proofs.Common.{◌≡◌, ◌<◌, ◌∙◌, ℕ, zero, suc, List, [], ◌∷◌, Option, Some, None, Bool, true, false, refl, ap, sym, subst, arith, length, All, map, slice_get, slice_index_or, is_none, cond, ◌==◌, ◌||◌, nat_lt}
 use Rattle.std.specs.Option.{option_map}
-use Rattle.std.proofs.lemmas.List.{length-append, length-map, length-set}
-use Rattle.std.proofs.lemmas.List.Sums.{sum_by-append}
-use Rattle.std.proofs.lemmas.List.Elements.{All-push, All-weaker, All-nil}
-use Rattle.std.proofs.lemmas.List.Quantifiers.{all_pairs_push}
-use Rattle.rm_base.specs.Numbers.{last_scn}
-use Rattle.rm_blocks.specs.File.{File, created, written, standing}
+use Rattle.std.proofs.lemmas.List.{length-map}
+use Rattle.rm_blocks.specs.File.{File, standing}
 use Rattle.rm_history.specs.declared.tree.Incarnation.{Incarnation}
 use Rattle.rm_history.specs.declared.world.Datafile.{Datafile}
 use Rattle.rm_history.specs.declared.world.World.{World}
-use Rattle.rm_history.specs.Tree.{IsThere, end_of, reset_of, with_end, with_branch}
-use Rattle.rm_redo.specs.declared.online.ThreadLog.{ThreadLog}
-use Rattle.rm_redo.specs.Logs.{Logs}
-use Rattle.rm_redo.specs.Online.{IsThread, IsLost, fresh_logs}
-use Rattle.rm_site.specs.declared.database.Archived.{Archived}
-use Rattle.rm_site.specs.Parts.{Parts, now_of, redo_end, blocks_in, placed}
-use Rattle.rm_site.specs.Sound.{IsSound, AreIncarnations, AreFiles, AreOnline, AreArchived, ArePlaced, IsOpen, IsPoint, IsCreated, IsOnline, IsArchived, IsPlaced}
+use Rattle.rm_history.specs.Tree.{IsThere}
+use Rattle.rm_redo.specs.Online.{IsThread, IsLost}
+use Rattle.rm_site.specs.Parts.{Parts, now_of}
+use Rattle.rm_site.specs.Sound.{IsSound, ArePlaced, IsPlaced}
 use Rattle.rm_base.specs.declared.refusal.Refusal.{Refusal}
 use Rattle.rm_base.specs.declared.refusal.Refusal.TheVariants.{Rm04, Rm07}
 use Rattle.std.proofs.lemmas.Bool.Decides.{nat_tests}
 use Rattle.rm_site.specs.Modes.{when_mounted, when_open}
 use Rattle.rm_site.specs.ResetDatabase.{at_incarnation, where_there, reset_refusal}
 use Rattle.rm_site.specs.Mount.{lost_at, mounted}
-use Rattle.rm_site.specs.Open.{kept_in_place, opened, branched_off, next_incarnation}
+use Rattle.rm_site.specs.Open.{kept_in_place, opened}
 use Rattle.rm_history.specs.World.{exists}
 use Rattle.std.proofs.lemmas.Option.{slice_get_within, slice_get-get_or}
-use Rattle.rm_site.proofs.Items.{get-set, get-push, get-index, index-get, get-map, all-get, all-with_log}
-use Rattle.rm_site.proofs.Growing.{Grows, grows-with_end, grows-with_branch, incarnations-with_end, incarnations-with_branch, created-grown, archived-grown, online-grown, end_of-with_end}
+use Rattle.rm_site.proofs.Items.{get-map}
 
 -- a mode is not the other one
 pub not-open : (b : Bool) → b ≡ false → b ≡ true → ⊥

@@ -1,36 +1,32 @@
 -- A new database is sound, and one whose logs are archived or begin anew.
-use Rattle.std.proofs.Common.{◌≡◌, ◌≢◌, ◌<◌, ◌≤◌, ◌+◌, ◌-◌, ◌∙◌, ◌++◌, ◌⊎◌, ◌==◌, ◌&&◌, inl, inr, ℕ, zero, suc, List, [], ◌∷◌, Option, Some, None, Bool, true, false, cond, not, refl, ap, sym, subst, arith, length, All, AllPairs, slice_get, slice_index_or, nat_lt, replicate}
+use Rattle.std.proofs.Common.{◌≡◌, ◌<◌, ◌≤◌, ◌+◌, ◌-◌, ◌∙◌, inl, inr, ℕ, zero, suc, List, [], ◌∷◌, Option, Some, None, true, false, refl, sym, subst, arith, length, All, slice_get, slice_index_or, replicate}
 use Rattle.std.specs.Option.{option_map_or}
-use Rattle.std.proofs.lemmas.List.{length-append, length-replicate}
+use Rattle.std.proofs.lemmas.List.{length-replicate}
 use Rattle.std.proofs.lemmas.List.Elements.{All-push, All-weaker, All-nil, All-replicate}
 use Rattle.std.proofs.lemmas.List.Quantifiers.{all_pairs_push}
-use Rattle.std.proofs.lemmas.Option.{slice_get_within, slice_get-get_or, slice_get_past}
+use Rattle.std.proofs.lemmas.Option.{slice_get_within, slice_get-get_or}
 use Rattle.rm_base.specs.Numbers.{last_scn}
-use Rattle.rm_base.specs.declared.block.Row.{Row}
-use Rattle.rm_blocks.specs.File.{File}
 use Rattle.rm_history.specs.declared.tree.Incarnation.{Incarnation}
 use Rattle.rm_history.specs.declared.world.Datafile.{Datafile}
-use Rattle.rm_history.specs.declared.world.World.{World}
 use Rattle.rm_history.specs.Tree.{IsThere, IsTree, end_of, parent_of, reset_of, with_branch}
 use Rattle.rm_history.proofs.Owners.{parent-none}
 use Rattle.std.proofs.lemmas.Bool.{cases_eq}
-use Rattle.rm_history.specs.World.{exists}
-use Rattle.rm_history.proofs.Branches.{IsThere-branched, reset_of-branched, end_of-branched}
+use Rattle.rm_history.proofs.Branches.{IsThere-branched, end_of-branched}
 use Rattle.rm_redo.specs.declared.online.LogRecord.{LogRecord}
 use Rattle.rm_redo.specs.declared.online.ThreadLog.{ThreadLog}
 use Rattle.rm_redo.specs.Logs.{Logs}
-use Rattle.rm_redo.specs.Online.{IsThread, IsLost, records_of, begun_anew, switched, first_of, fresh_log, fresh_logs, with_log}
+use Rattle.rm_redo.specs.Online.{IsLost, records_of, begun_anew, switched, fresh_log, fresh_logs}
 use Rattle.rm_redo.specs.LogFile.{log_file_of}
 use Rattle.rm_redo.proofs.Logs.{around-switched, switched-either, IsLost-switched}
 use Rattle.rm_site.specs.declared.database.Archived.{Archived}
 use Rattle.rm_site.specs.Archiving.{with_archived}
 use Rattle.rm_site.specs.CreateDatabase.{fresh}
 use Rattle.rm_site.specs.Open.{branched_off, next_incarnation, kept_in_place}
-use Rattle.rm_site.specs.Parts.{Parts, now_of, redo_end, blocks_in}
-use Rattle.rm_site.specs.Sound.{IsSound, AreIncarnations, AreFiles, AreOnline, AreArchived, ArePlaced, IsOpen, IsPoint, IsCreated, IsOnline, IsArchived, IsPlaced}
-use Rattle.rm_site.proofs.Growing.{Grows, grows-with_branch, incarnations-with_branch, created-grown, archived-grown, online-grown}
-use Rattle.rm_site.proofs.Items.{all-get, all-with_log}
-use Rattle.rm_site.proofs.Sound.{kept-get, kept-length, not-open}
+use Rattle.rm_site.specs.Parts.{Parts, redo_end}
+use Rattle.rm_site.specs.Sound.{IsSound, AreIncarnations, AreOnline, IsOpen, IsPoint, IsCreated, IsOnline, IsArchived}
+use Rattle.rm_site.proofs.Growing.{Grows, grows-with_branch, incarnations-with_branch, created-grown, archived-grown}
+use Rattle.rm_site.proofs.Items.{all-with_log}
+use Rattle.rm_site.proofs.Sound.{kept-get, kept-length}
 
 -- a log that tells up to the end may begin anew there
 anew-online : (end : ℕ) (l : ThreadLog) → IsOnline end l → IsOnline end (begun_anew end l)

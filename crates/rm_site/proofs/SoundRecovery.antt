@@ -1,26 +1,23 @@
 -- A recovered database is sound, and one that is opened as a new incarnation.
-use Rattle.std.proofs.Common.{◌≡◌, ◌≢◌, ◌<◌, ◌≤◌, ◌+◌, ◌-◌, ◌∙◌, ◌++◌, ◌⊎◌, ◌==◌, ◌&&◌, inl, inr, ℕ, zero, suc, List, [], ◌∷◌, Option, Some, None, Bool, true, false, cond, refl, ap, sym, subst, arith, length, All, slice_get, nat_lt, zero-add, replicate}
+use Rattle.std.proofs.Common.{◌≡◌, ◌<◌, ◌≤◌, ◌+◌, ◌-◌, ◌∙◌, ◌⊎◌, ◌==◌, ◌&&◌, inl, inr, ℕ, zero, suc, List, [], ◌∷◌, Option, Some, None, Bool, true, false, cond, refl, ap, sym, subst, arith, length, All, slice_get, nat_lt, zero-add}
 use Rattle.std.specs.Option.{option_map_or}
 use Rattle.std.proofs.lemmas.Bool.Decides.{nat_tests}
 use Rattle.std.proofs.lemmas.Bool.{ne_eqb}
-use Rattle.std.proofs.lemmas.List.{length-replicate}
 use Rattle.std.proofs.lemmas.List.Elements.{All-cons, All-nil}
-use Rattle.std.proofs.lemmas.Option.{slice_get_within, slice_get-get_or}
-use Rattle.rm_base.specs.Numbers.{last_scn}
+use Rattle.std.proofs.lemmas.Option.{slice_get_within}
 use Rattle.rm_base.specs.declared.block.Change.{Change}
 use Rattle.rm_base.specs.declared.block.Row.{Row}
-use Rattle.rm_blocks.specs.File.{File, IsInOrder}
+use Rattle.rm_blocks.specs.File.{File}
 use Rattle.rm_history.specs.declared.world.Datafile.{Datafile}
 use Rattle.rm_history.specs.declared.world.World.{World}
-use Rattle.rm_history.specs.State.{concerns, latest, last_change, row_of, state, states, rows_from}
-use Rattle.rm_history.specs.Tree.{IsThere, owner, reset_of, end_of, with_branch}
+use Rattle.rm_history.specs.State.{concerns, last_change, row_of, state, rows_from}
+use Rattle.rm_history.specs.Tree.{owner, reset_of}
 use Rattle.rm_history.specs.World.{file_of, creation_of, exists}
-use Rattle.rm_history.proofs.Branches.{IsThere-branched, reset_of-branched, end_of-branched}
 use Rattle.rm_history.proofs.States.{IsLatest, latest-is, concerns-parts}
 use Rattle.rm_site.specs.Parts.{Parts, now_of}
 use Rattle.rm_site.specs.Recover.{or_else, put_over}
 use Rattle.rm_site.specs.Recovery.{file_at, files_from, files_at}
-use Rattle.rm_site.specs.Sound.{IsSound, ArePlaced, IsPlaced, IsPoint}
+use Rattle.rm_site.specs.Sound.{IsSound, IsPlaced, IsPoint}
 use Rattle.rm_site.proofs.Sound.{not-open}
 
 -- a number of rows

@@ -1,37 +1,28 @@
 -- A database with more redo, or with a datafile more, is sound.
-use Rattle.std.proofs.Common.{◌≡◌, ◌≢◌, ◌<◌, ◌≤◌, ◌+◌, ◌-◌, ◌∙◌, ◌++◌, ◌⊎◌, ◌==◌, ◌&&◌, inl, inr, ℕ, zero, suc, List, [], ◌∷◌, Option, Some, None, Bool, true, false, cond, not, refl, ap, sym, subst, arith, length, All, AllPairs, slice_get, slice_set, slice_index_or, nat_lt, replicate}
+use Rattle.std.proofs.Common.{◌≡◌, ◌<◌, ◌≤◌, ◌+◌, ◌-◌, ◌∙◌, ◌++◌, inl, inr, ℕ, zero, suc, List, [], ◌∷◌, Option, Some, None, true, refl, ap, sym, subst, arith, length, All, slice_get}
 use Rattle.std.specs.Option.{option_map}
-use Rattle.std.proofs.lemmas.List.{length-append, length-set, length-replicate}
+use Rattle.std.proofs.lemmas.List.{length-append, length-set}
 use Rattle.std.proofs.lemmas.List.Sums.{sum_by-append}
-use Rattle.std.proofs.lemmas.List.Elements.{All-push, All-weaker, All-nil, All-set, All-replicate}
-use Rattle.std.proofs.lemmas.List.Quantifiers.{all_pairs_push}
+use Rattle.std.proofs.lemmas.List.Elements.{All-push, All-weaker, All-nil, All-set}
 use Rattle.std.proofs.lemmas.Option.{slice_get_within}
 use Rattle.rm_base.specs.Numbers.{last_scn}
 use Rattle.rm_base.specs.declared.block.Row.{Row}
 use Rattle.rm_base.specs.declared.block.Change.{Change}
 use Rattle.rm_blocks.specs.File.{File, created, created_row, created_rows, written}
-use Rattle.rm_blocks.proofs.Rows.{length-created, created-row, in_order-created, in_order-set}
+use Rattle.rm_blocks.proofs.Rows.{length-created, in_order-created, in_order-set}
 use Rattle.rm_history.specs.declared.tree.Incarnation.{Incarnation}
 use Rattle.rm_history.specs.declared.world.Datafile.{Datafile}
-use Rattle.rm_history.specs.declared.world.World.{World}
-use Rattle.rm_history.specs.Tree.{IsThere, end_of, reset_of, with_end}
-use Rattle.rm_history.specs.World.{exists}
+use Rattle.rm_history.specs.Tree.{IsThere, end_of, with_end}
 use Rattle.rm_lang.specs.declared.command.WriteForm.{WriteForm}
 use Rattle.rm_redo.specs.declared.online.LogRecord.{LogRecord}
-use Rattle.rm_redo.specs.declared.online.ThreadLog.{ThreadLog}
-use Rattle.rm_redo.specs.Logs.{Logs}
-use Rattle.rm_redo.specs.Online.{IsThread, IsLost, record_of, with_record, with_change, begun_anew, switched, first_of, fresh_log, fresh_logs}
-use Rattle.rm_redo.specs.LogFile.{log_file_of}
-use Rattle.rm_redo.proofs.Logs.{around-with_change, IsLost-with_change, around-switched, switched-either, IsLost-switched}
-use Rattle.rm_site.specs.declared.database.Archived.{Archived}
-use Rattle.rm_site.specs.Archiving.{with_archived}
-use Rattle.rm_site.specs.CreateDatabase.{fresh}
+use Rattle.rm_redo.specs.Online.{record_of, with_record, with_change}
+use Rattle.rm_redo.proofs.Logs.{around-with_change, IsLost-with_change}
 use Rattle.rm_site.specs.CreateDatafile.{new_datafile, with_datafile}
-use Rattle.rm_site.specs.Parts.{Parts, now_of, redo_end, blocks_in, placed}
-use Rattle.rm_site.specs.Sound.{IsSound, AreIncarnations, AreFiles, AreOnline, AreArchived, ArePlaced, IsOpen, IsPoint, IsCreated, IsOnline, IsArchived, IsPlaced}
+use Rattle.rm_site.specs.Parts.{Parts, now_of, blocks_in, placed}
+use Rattle.rm_site.specs.Sound.{IsSound, AreIncarnations, AreArchived, IsOpen, IsCreated, IsOnline, IsArchived, IsPlaced}
 use Rattle.rm_site.specs.Write.{change_of, with_write}
 use Rattle.rm_site.proofs.Growing.{Grows, grows-with_end, incarnations-with_end, created-grown, archived-grown, online-grown, end_of-with_end}
-use Rattle.rm_site.proofs.Items.{get-set, get-push, get-index, all-get, all-with_log}
+use Rattle.rm_site.proofs.Items.{get-set, get-push, get-index, all-with_log}
 
 -- the tree one SCN further
 more : Parts → List Incarnation

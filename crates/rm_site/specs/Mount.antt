@@ -1,5 +1,5 @@
 -- SHUTDOWN and STARTUP MOUNT
-use Rattle.std.specs.Prelude.{ℕ, ◌≡◌, ◌+◌, ◌&&◌, if◌then◌else◌, is_none, Bool, true, false, Option, Some, None, List, [], ◌∷◌, map}
+use Rattle.std.specs.Prelude.{ℕ, ◌≡◌, ◌+◌, ◌&&◌, if◌then◌else◌, is_none, false, Option, Some, None, List, [], ◌∷◌, map}
 use Rattle.std.specs.Option.{option_map}
 use Rattle.rm_base.specs.declared.block.Change.{Change}
 use Rattle.rm_blocks.specs.File.{File, standing}

@@ -1,7 +1,6 @@
 -- The datafiles that a recovery brings back.
-use Rattle.std.specs.Prelude.{ℕ, zero, suc, ◌≡◌, ◌+◌, ◌||◌, nat_lt, if◌then◌else◌, Option, Some, None, List, [], ◌∷◌, ◌++◌, flat_map}
+use Rattle.std.specs.Prelude.{ℕ, zero, suc, ◌+◌, ◌||◌, nat_lt, if◌then◌else◌, Option, Some, None, List, [], ◌∷◌, ◌++◌, flat_map}
 use Rattle.rm_base.specs.declared.block.Change.{Change}
-use Rattle.rm_base.specs.declared.block.Row.{Row}
 use Rattle.rm_base.specs.declared.refusal.Refusal.{Refusal}
 use Rattle.rm_base.specs.declared.refusal.Refusal.TheVariants.{Rm06}
 use Rattle.rm_blocks.specs.File.{File}

@@ -1,16 +1,13 @@
-use Rattle.std.proofs.Common.{◌≡◌, ◌<◌, ◌≤◌, ◌+◌, ◌∙◌, ◌++◌, ◌∷◌, [], ℕ, List, Option, Some, None, true, false, ap, arith, length, refl, subst, sym}
+use Rattle.std.proofs.Common.{◌≡◌, ◌<◌, ◌∙◌, ◌++◌, ◌∷◌, [], ℕ, List, Some, None, false, ap, length, refl, subst, sym}
 use Rattle.rm_history.specs.declared.world.World.{World}
 use Rattle.rm_lang.specs.declared.command.Command.TheVariants.{OpenResetlogs}
-use Rattle.rm_redo.specs.Online.{IsThread, first_of}
 use Rattle.rm_report.specs.declared.line.Line.{Line}
 use Rattle.rm_report.specs.declared.line.Line.TheVariants.{Opened}
-use Rattle.rm_report.specs.declared.line.Reply.{Reply}
 use Rattle.rm_report.specs.Reply.{said}
-use Rattle.rm_site.specs.Archiving.{after_all, archive_refusal, lines_of}
-use Rattle.rm_site.specs.Machine.{Machine, machine}
-use Rattle.rm_site.specs.Open.{resetlogs_refusal, next_incarnation, branched_off, OpensResetlogs}
-use Rattle.rm_site.specs.Parts.{Parts, redo_end}
-use Rattle.rm_site.specs.Step.{Done}
+use Rattle.rm_site.specs.Archiving.{after_all, lines_of}
+use Rattle.rm_site.specs.Machine.{machine}
+use Rattle.rm_site.specs.Open.{resetlogs_refusal, next_incarnation, branched_off}
+use Rattle.rm_site.specs.Parts.{Parts}
 use Rattle.rm_site.proofs.Accepted.{branch-accepted}
 use Rattle.rm_site.proofs.Archives.{accepted}
 use Rattle.rm_site.proofs.KeptArchives.{keeps-all, same-all, begins-at_end}

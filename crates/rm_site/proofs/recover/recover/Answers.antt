@@ -7,7 +7,7 @@ use Rattle.rm_report.specs.declared.line.Reply.{Reply}
 use Rattle.rm_report.specs.Reply.{said}
 use Rattle.rm_site.specs.Parts.{Parts}
 use Rattle.rm_site.specs.Recover.{recover_refusal, recovered, put_over}
-use Rattle.rm_site.specs.Recovery.{target, told_by, files_at}
+use Rattle.rm_site.specs.Recovery.{target, told_by}
 use Rattle.rm_site.proofs.KeptOpenings.{keeps-recovered}
 use Rattle.rm_site.proofs.Steps.{steps-done}
 use Rattle.rm_site.proofs.ToldBy.{told-files}

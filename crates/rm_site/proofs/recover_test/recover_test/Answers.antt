@@ -1,4 +1,4 @@
-use Rattle.std.proofs.Common.{◌≡◌, ◌∙◌, ◌∷◌, ℕ, List, Option, Some, None, ap, refl, sym, count_by}
+use Rattle.std.proofs.Common.{◌≡◌, ◌∙◌, ◌∷◌, ℕ, List, Option, Some, ap, refl, count_by}
 use Rattle.rm_blocks.specs.File.{File}
 use Rattle.rm_history.specs.World.{exists}
 use Rattle.rm_lang.specs.declared.command.Command.TheVariants.{RecoverTest}
@@ -6,8 +6,7 @@ use Rattle.rm_report.specs.declared.line.Line.{Line}
 use Rattle.rm_report.specs.declared.line.Line.TheVariants.{UntilIs}
 use Rattle.rm_report.specs.Reply.{said}
 use Rattle.rm_site.specs.Parts.{Parts}
-use Rattle.rm_site.specs.RecoverTest.{tested, test_target, test_refusal, test_lines, files_lines}
-use Rattle.rm_site.specs.Recovery.{told_by}
+use Rattle.rm_site.specs.RecoverTest.{tested, test_target, test_lines, files_lines}
 use Rattle.rm_site.proofs.Steps.{steps-done}
 use Rattle.rm_site.proofs.ToldBy.{told-files}
 use Rattle.rm_site.proofs.recover_test.recover_test.Goals as goal

@@ -1,9 +1,9 @@
-use Rattle.std.proofs.Common.{◌≡◌, ◌≤◌, ◌∙◌, ◌++◌, [], List, Option, Some, None, true, ap, arith, refl, sym}
+use Rattle.std.proofs.Common.{◌≡◌, ◌∙◌, ◌++◌, List, Some, None, true, ap, arith, refl, sym}
 use Rattle.rm_lang.specs.declared.command.Command.TheVariants.{SwitchLogfile}
 use Rattle.rm_redo.specs.Online.{IsThread}
 use Rattle.rm_report.specs.declared.line.Line.{Line}
 use Rattle.rm_report.specs.Reply.{said}
-use Rattle.rm_site.specs.Archiving.{after_thread, archive_refusal, told_lines}
+use Rattle.rm_site.specs.Archiving.{after_thread, told_lines}
 use Rattle.rm_site.specs.Parts.{Parts}
 use Rattle.rm_site.specs.SwitchLogfile.{switch_refusal}
 use Rattle.rm_site.proofs.Accepted.{switch-accepted}

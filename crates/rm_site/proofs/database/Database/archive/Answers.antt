@@ -1,11 +1,9 @@
-use Rattle.std.proofs.Common.{rules, ◌≡◌, ◌<◌, ◌≤◌, ◌+◌, ◌++◌, ◌∷◌, [], ◌∙◌, ℕ, List, Option, Some, None, All, ap, arith, refl, subst, sym, true}
-use Rattle.rm_redo.specs.declared.online.LogRecord.{LogRecord}
+use Rattle.std.proofs.Common.{rules, ◌≡◌, ◌<◌, ◌≤◌, ◌+◌, ◌++◌, ◌∷◌, [], ◌∙◌, List, All, ap, subst, sym}
 use Rattle.rm_redo.specs.declared.log_file.LogFile.{LogFile}
 use Rattle.rm_redo.specs.LogFile.{log_file_of}
 use Rattle.rm_redo.specs.Logs.{Logs}
 use Rattle.rm_redo.specs.Online.{IsThread, records_of, switched}
 use Rattle.rm_site.specs.declared.database.Archived.{Archived}
-use Rattle.rm_site.specs.Archiving.{with_archived}
 use Rattle.rm_site.specs.Parts.{Parts, redo_end}
 use Rattle.rm_site.specs.Sound.{IsSound}
 use Rattle.rm_site.proofs.SoundOpenings.{sound-switched, sound-archived}

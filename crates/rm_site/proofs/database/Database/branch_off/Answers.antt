@@ -1,7 +1,6 @@
-use Rattle.std.proofs.Common.{rules, ◌≡◌, ◌<◌, ◌≤◌, ◌+◌, ◌∙◌, ℕ, List, Option, Some, None, All, true, ap, length, subst, sym}
+use Rattle.std.proofs.Common.{rules, ◌≡◌, ◌<◌, ◌∙◌, ℕ, List, Option, Some, None, true, ap, length, subst, sym}
 use Rattle.rm_blocks.specs.File.{File}
 use Rattle.rm_history.specs.declared.tree.Incarnation.{Incarnation}
-use Rattle.rm_history.specs.declared.world.World.{World}
 use Rattle.rm_history.specs.Tree.{with_branch}
 use Rattle.rm_redo.specs.Logs.{Logs}
 use Rattle.rm_redo.specs.Online.{fresh_logs}

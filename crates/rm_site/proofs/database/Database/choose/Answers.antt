@@ -2,9 +2,6 @@ use Rattle.std.proofs.Common.{sym, subst, ◌≡◌, None}
 use Rattle.rm_site.specs.Parts.{Parts}
 use Rattle.rm_site.specs.ResetDatabase.{reset_refusal}
 use Rattle.rm_site.proofs.Sound.{sound-at, reset-accepted}
-use Rattle.rm_site.proofs.SoundRecovery.{sound-recovered}
-use Rattle.rm_site.proofs.SoundWrites.{sound-write}
-use Rattle.rm_site.proofs.SoundOpenings.{sound-branched}
 use Rattle.rm_site.proofs.database.Database.choose.Goals as goal
 
 pub invariant_of-self : goal.invariant_of-self

@@ -1,9 +1,6 @@
-use Rattle.std.proofs.Common.{◌≡◌, ◌∙◌, List, Option, Some, true, ap, map, subst, sym, ℕ}
-use Rattle.std.specs.Option.{option_map}
-use Rattle.rm_blocks.specs.File.{File, standing}
+use Rattle.std.proofs.Common.{◌≡◌, ◌∙◌, true, ap, subst, sym}
 use Rattle.rm_site.specs.Mount.{mount_point}
 use Rattle.rm_site.specs.Parts.{Parts, now_of}
-use Rattle.rm_site.specs.Sound.{IsSound}
 use Rattle.rm_site.proofs.Sound.{sound-mounted}
 use Rattle.rm_site.proofs.database.Database.mount.Goals as goal
 

@@ -1,4 +1,3 @@
-use Rattle.std.proofs.Common.{refl}
 use Rattle.rm_site.proofs.SoundOpenings.{sound-fresh}
 use Rattle.rm_site.proofs.database.Database.new.Goals as goal
 

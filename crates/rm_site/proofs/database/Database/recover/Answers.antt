@@ -1,6 +1,6 @@
-use Rattle.std.proofs.Common.{◌≡◌, ◌∙◌, List, Option, Some, None, ap, length, refl, subst, sym}
+use Rattle.std.proofs.Common.{◌≡◌, ◌∙◌, List, Option, Some, None, ap, length, subst, sym}
 use Rattle.rm_blocks.specs.File.{File}
-use Rattle.rm_site.specs.Parts.{Parts, now_of}
+use Rattle.rm_site.specs.Parts.{Parts}
 use Rattle.rm_site.specs.Recover.{recover_refusal, put_over}
 use Rattle.rm_site.specs.Recovery.{files_at, told_by}
 use Rattle.rm_site.specs.Sound.{IsSound}

@@ -1,4 +1,4 @@
-use Rattle.std.proofs.Common.{rules, ◌≡◌, ◌<◌, ◌≤◌, ◌+◌, ◌-◌, ◌∙◌, ℕ, List, Option, Some, None, All, IfSome, ap, arith, subst, sym, true, slice_get, slice_set, slice_index_or}
+use Rattle.std.proofs.Common.{rules, ◌≡◌, ◌<◌, ◌+◌, ◌-◌, ◌∙◌, ℕ, List, Option, None, All, IfSome, ap, arith, subst, sym, slice_get, slice_set, slice_index_or}
 use Rattle.std.specs.Option.{option_map}
 use Rattle.rm_base.specs.Numbers.{last_scn}
 use Rattle.rm_base.specs.declared.block.Change.{Change}
@@ -6,7 +6,7 @@ use Rattle.rm_blocks.specs.File.{File, written}
 use Rattle.rm_history.specs.declared.tree.Incarnation.{Incarnation}
 use Rattle.rm_history.specs.Tree.{with_end}
 use Rattle.rm_redo.specs.Logs.{Logs}
-use Rattle.rm_redo.specs.Online.{IsThread, first_of, records_of, with_change}
+use Rattle.rm_redo.specs.Online.{IsThread, records_of, with_change}
 use Rattle.rm_site.specs.Parts.{Parts, now_of, placed}
 use Rattle.rm_site.specs.Sound.{IsSound}
 use Rattle.rm_site.specs.Write.{write_refusal, change_of}
