@@ -20,7 +20,7 @@ pub fn run<R: Threads + Wait + Clock + Print + Sync>(
     alloc: Global,
     large: bool,
 ) -> io::Result<()> {
-    let count = if large { 20_000 } else { 100 };
+    let count = if large { 200_000 } else { 100 };
     let mut same = true;
     for threads in [1u32, 2, 4] {
         let Shortest { made, micros } = by_passes(rt, alloc, threads, count)?;
@@ -57,7 +57,7 @@ fn tell_turns<R: Print>(
         .unwrap_or(0);
     let percent = live.saturating_mul(100).checked_div(plain).unwrap_or(0);
     println!(rt;
-        "live on {threads} threads: {turns} turns {live} us, {of_live} a second, plain lock {plain} us, {of_plain} a second, live / plain lock {percent} %"
+        "live, threads {threads}: {turns} turns {live} us, {of_live} a second, plain lock {plain} us, {of_plain} a second, live / plain lock {percent} %"
     )
 }
 
