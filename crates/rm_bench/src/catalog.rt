@@ -1,5 +1,7 @@
 //! The records of a catalog: edits made in one pass beside copying the records, and a catalog of
 //! twice as many records beside one of so many.
+ghost use Rattle.std.specs.Prelude.{◌<◌};
+
 use rm_base::{Failing, Kind, NoMemory, Policy, Seq, Status, Text};
 use rm_catalog::{
     BaseEntry, Catalog, DatafileEntry, Edit, IncarnationEntry, Keeper, Key, LogEntry, MarkEntry,
@@ -11,14 +13,19 @@ use std::time::Instant;
 
 /// Tells whether edits and catalogs are what a plain loop gives, and for `large` the times as well.
 pub fn run(rt: &HostRuntime, large: bool) -> io::Result<()> {
-    let third = if large { 21_665 } else { 100 };
-    let step = if large { 21 } else { 7 };
-    tell_apply(rt, third, step, large)?;
-    tell_catalogs(rt, third / 2, large)
+    if large {
+        tell_apply(rt, 21_665, 21, true)?;
+        tell_catalogs(rt, 10_832, true)
+    } else {
+        tell_apply(rt, 100, 7, false)?;
+        tell_catalogs(rt, 50, false)
+    }
 }
 
 // An apply of Drops, each of every so many logs, beside copying the records.
-fn tell_apply(rt: &HostRuntime, third: u32, step: usize, large: bool) -> io::Result<()> {
+fn tell_apply(rt: &HostRuntime, third: u32, step: usize, large: bool) -> io::Result<()>
+    requires { 0 < step }
+{
     let alloc = rt.alloc();
     let records = kept(records_of(alloc, third))?;
     let drops = drops_of(alloc, third, step)?;
@@ -165,7 +172,9 @@ fn piece(alloc: Global, id: u32) -> Result<PieceEntry, NoMemory> {
 }
 
 // Drops of each so many-th log.
-fn drops_of(alloc: Global, third: u32, step: usize) -> Result<Vec<Edit>, AllocError> {
+fn drops_of(alloc: Global, third: u32, step: usize) -> Result<Vec<Edit>, AllocError>
+    requires { 0 < step }
+{
     let mut drops = Vec::new(alloc);
     for id in (1..third).step_by(step) {
         drops.push(Edit::Drop(Key { kind: 4, id }))?;

@@ -1,6 +1,6 @@
-//! Runs each kernel beside a plain loop, makes and reads the bytes of a piece and of a log, and makes a
-//! catalog's edits beside copies: with no word it tells whether both gave the same, and with the word
-//! `large` it tells the times.
+//! Runs each kernel beside a plain loop, makes and reads the bytes of a piece and of a log, makes a
+//! catalog's edits beside copies, and takes turns at a live database beside a plain lock: with no word
+//! it tells whether both gave the same, and with the word `large` it tells the times.
 #![tactic(auto)]
 
 mod catalog;
@@ -8,6 +8,7 @@ mod format;
 mod formats;
 mod kernel;
 mod kernels;
+mod live;
 mod plain;
 
 use format::Format;
@@ -30,7 +31,8 @@ fn main(rt: HostRuntime) -> io::Result<()> {
     run::<Same>(&rt, "same", large)?;
     run_format::<Piece>(&rt, "piece", large)?;
     run_format::<LogFile>(&rt, "log", large)?;
-    catalog::run(&rt, large)
+    catalog::run(&rt, large)?;
+    live::run(&rt, rt.alloc(), large)
 }
 
 fn run<K: Kernel>(rt: &HostRuntime, name: &str, large: bool) -> io::Result<()> {
