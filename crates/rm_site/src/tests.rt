@@ -15,12 +15,6 @@ fn shows(rt: &impl Abort, alloc: Global, reply: &Reply, text: &str) -> Result<()
     Ok(())
 }
 
-// A step of the site, and its reply.
-fn step(rt: &impl Abort, site: &mut Site, command: &Command) -> Result<Reply, Fail> {
-    assert!(rt; is_command(command));
-    Ok(site.step(command)?)
-}
-
 // CREATE DATABASE.
 const CREATE: Command = Command::CreateDatabase {
     dbid: 1,
@@ -63,8 +57,8 @@ fn two_writes(rt: HostRuntime) -> Result<(), Fail> {
     ];
     let mut site = Site::new(rt.alloc());
     for (command, text) in steps {
-        let reply = step(&rt, &mut site, &command)?;
-        shows(&rt, rt.alloc(), &reply, text)?;
+        assert!(rt; is_command(&command));
+        shows(&rt, rt.alloc(), &site.step(&command)?, text)?;
     }
     Ok(())
 }
@@ -72,25 +66,23 @@ fn two_writes(rt: HostRuntime) -> Result<(), Fail> {
 // A redo thread holds 65,536 changes. After a switch it takes more.
 #[test]
 fn a_full_log(rt: HostRuntime) -> Result<(), Fail> {
+    let alloc = rt.alloc();
     let write = write(Block::padded(b"AA"));
-    let mut site = Site::new(rt.alloc());
-    step(&rt, &mut site, &CREATE)?;
-    step(&rt, &mut site, &Command::CreateDatafile { blocks: 1 })?;
-    for _ in 0..65_535 {
-        step(&rt, &mut site, &write)?;
-    }
+    let datafile = Command::CreateDatafile { blocks: 1 };
     let switch = Command::SwitchLogfile { thread: 1 };
-    let table = [
-        (&write, "scn 65537\n"),
-        (&write, "RM-11: limit log records 65536\n"),
-        (&switch, "log 1 thread 1 sequence 1 first 1 next 65538\n"),
-        (&write, "scn 65538\n"),
-    ];
-    for (command, text) in table {
-        let reply = step(&rt, &mut site, command)?;
-        shows(&rt, rt.alloc(), &reply, text)?;
+    assert!(rt; is_command(&write) && is_command(&datafile) && is_command(&switch));
+    let mut site = Site::new(alloc);
+    site.step(&CREATE)?;
+    site.step(&datafile)?;
+    for _ in 0..65_535 {
+        site.step(&write)?;
     }
-    Ok(())
+    shows(&rt, alloc, &site.step(&write)?, "scn 65537\n")?;
+    let full = "RM-11: limit log records 65536\n";
+    shows(&rt, alloc, &site.step(&write)?, full)?;
+    let archived = "log 1 thread 1 sequence 1 first 1 next 65538\n";
+    shows(&rt, alloc, &site.step(&switch)?, archived)?;
+    shows(&rt, alloc, &site.step(&write)?, "scn 65538\n")
 }
 
 #[test]
