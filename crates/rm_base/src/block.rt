@@ -67,3 +67,11 @@ pub struct Mark {
     pub inc: IncNo,
     pub scn: Scn,
 }
+
+/// A block's new version and content, to put in the place of its row.
+#[derive(Clone, Copy, Debug, PartialEq, Eq)]
+pub struct Part {
+    pub block: BlockNo,
+    pub version: Scn,
+    pub content: Block,
+}

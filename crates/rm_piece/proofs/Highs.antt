@@ -3,23 +3,27 @@ use Rattle.std.proofs.Common.{◌≡◌, ◌∙◌, ◌+◌, ◌<◌, ◌≤◌,
 use Rattle.rm_base.specs.declared.block.Row.{Row}
 use Rattle.rm_base.proofs.Items.{All-tail}
 use Rattle.std.specs.List.{AllPairs}
-use Rattle.rm_piece.specs.Rows.{high_of, IsHigh}
+use Rattle.rm_history.specs.Artefacts.{high_of}
+use Rattle.rm_piece.specs.Rows.{IsHigh}
 use Rattle.rm_piece.specs.Valid.{IsBefore, IsRow}
 
-max_swap : (a m n : ℕ) → max (max a m) n ≡ max (max a n) m
+max_turn : (a m : ℕ) → max a m ≡ max m a
+max_turn a m = omega arith
+
+max_swap : (a m n : ℕ) → max a (max m n) ≡ max m (max a n)
 max_swap a m n = omega arith
 
-high_of-max : (c n : ℕ) (rows : List Row) → high_of (max c n) rows ≡ max (high_of c rows) n
-high_of-max c n [] = refl
-high_of-max c n (r ∷ rs) = ap (λ (h : ℕ). max h (r.version + 1)) (high_of-max c n rs) ∙ max_swap (high_of c rs) n (r.version + 1)
+high_of-max : (c n : ℕ) (rows : List Row) → high_of (max c n) rows ≡ max n (high_of c rows)
+high_of-max c n [] = max_turn c n
+high_of-max c n (r ∷ rs) = ap (max (r.version + 1)) (high_of-max c n rs) ∙ max_swap (r.version + 1) n (high_of c rs)
 
 pub high_of-step : (rows : List Row) (i h total : ℕ) (d : Row) → i < length rows → high_of h (drop i rows) ≡ total → high_of (max h ((get_or rows i d).version + 1)) (drop (i + 1) rows) ≡ total
 high_of-step rows i h total d inside so_far =
     let next : drop i rows ≡ get_or rows i d ∷ drop (i + 1) rows = rw add-one (drop-cons rows i d inside) in
-    let here : high_of h (drop i rows) ≡ max (high_of h (drop (i + 1) rows)) ((get_or rows i d).version + 1) = ap (high_of h) next in
+    let here : high_of h (drop i rows) ≡ max ((get_or rows i d).version + 1) (high_of h (drop (i + 1) rows)) = ap (high_of h) next in
     high_of-max h ((get_or rows i d).version + 1) (drop (i + 1) rows) ∙ sym here ∙ so_far
 
-above-cons : (h : ℕ) (r : Row) (rs : List Row) → All (λ s. s.version < h) rs → All (λ s. s.version < max h (r.version + 1)) (r ∷ rs)
+above-cons : (h : ℕ) (r : Row) (rs : List Row) → All (λ s. s.version < h) rs → All (λ s. s.version < max (r.version + 1) h) (r ∷ rs)
 above-cons h r rs below zero d inside = omega arith
 above-cons h r rs below (suc k) d inside = let less = below k d (omega arith) in omega (arith, less)
 
