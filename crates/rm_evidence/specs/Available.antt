@@ -1,0 +1,40 @@
+-- Which records have their artefact at hand, and why others have not.
+use Rattle.std.specs.Prelude.{◌≡◌, ℕ, List, Option, Some, None, Contains}
+use Rattle.rm_base.specs.Store.{Held}
+use Rattle.rm_base.specs.declared.kinds.Bad.{Bad}
+use Rattle.rm_base.specs.declared.kinds.Bad.TheVariants.{Missing, Damaged}
+use Rattle.rm_base.specs.declared.kinds.Status.TheVariants.{Available}
+use Rattle.rm_catalog.specs.declared.record.LogEntry.{LogEntry}
+use Rattle.rm_catalog.specs.declared.record.PieceEntry.{PieceEntry}
+use Rattle.rm_catalog.specs.declared.record.Record.{Record}
+use Rattle.rm_catalog.specs.declared.record.Record.TheVariants.{Log, Piece}
+use Rattle.rm_objects.specs.Names.{log_name, piece_name}
+use Rattle.rm_objects.specs.Objects.{IsLogObject, IsPieceObject}
+use Rattle.rm_piece.specs.declared.piece as artefact
+use Rattle.rm_redo.specs.declared.log_file.LogFile.{LogFile}
+
+-- the record is one of a log that counts as available, and the store has its log
+pub record HasLog (held : Held) (l : LogEntry) (a : LogFile) : Type 0 where
+  pub status : l.status ≡ Available
+  pub bytes : List ℕ
+  pub there : held (log_name l.id) ≡ Some bytes
+  pub object : IsLogObject l bytes a
+
+-- the record is one of a piece that counts as available, and the store has its piece
+pub record HasPiece (held : Held) (p : PieceEntry) (a : artefact.Piece.Piece) : Type 0 where
+  pub status : p.status ≡ Available
+  pub bytes : List ℕ
+  pub there : held (piece_name p.copy p.id) ≡ Some bytes
+  pub object : IsPieceObject p bytes a
+
+-- nothing stands under the name, or what stands there is no object of the record
+abbrev pub IsBad : (List ℕ → Type 0) → Option (List ℕ) → Bad → Type 0
+IsBad Is None Missing = Unit {0}
+IsBad Is None Damaged = ⊥
+IsBad Is (Some bytes) Missing = ⊥
+IsBad Is (Some bytes) Damaged = ¬ Is bytes
+
+-- the record of this id counts as available, but its artefact is not at hand
+pub data IsSkipped (held : Held) (rs : List Record) : ℕ → Bad → Type 0 where
+  a_log : (l : LogEntry) (bad : Bad) → Contains rs (Log l) → l.status ≡ Available → IsBad (λ bytes. (a : LogFile) × IsLogObject l bytes a) (held (log_name l.id)) bad → IsSkipped held rs l.id bad
+  a_piece : (p : PieceEntry) (bad : Bad) → Contains rs (Piece p) → p.status ≡ Available → IsBad (λ bytes. (a : artefact.Piece.Piece) × IsPieceObject p bytes a) (held (piece_name p.copy p.id)) bad → IsSkipped held rs p.id bad

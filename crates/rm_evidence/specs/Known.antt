@@ -1,0 +1,48 @@
+-- The artefacts of the evidence, and which evidence fits a database.
+use Rattle.std.specs.Prelude.{◌≡◌, ◌≢◌, ℕ, List, map, All}
+use Rattle.rm_base.specs.declared.kinds.Kind.TheVariants.{Level1}
+use Rattle.rm_evidence.specs.declared.evidence.Evidence.{Evidence}
+use Rattle.rm_history.specs.Artefacts as artefact
+use Rattle.rm_history.specs.declared.tree.Incarnation.{Incarnation}
+use Rattle.rm_history.specs.Tree.{IsThere}
+use Rattle.rm_known.specs.Evidence as known
+use Rattle.rm_piece.specs.declared.piece.Piece.{Piece}
+use Rattle.rm_piece.specs.Valid.{IsPiece}
+use Rattle.rm_redo.specs.declared.log_file.LogFile.{LogFile}
+use Rattle.rm_redo.specs.LogFile.{log_of}
+use Rattle.rm_redo.specs.LogFormat.{IsLogFile}
+
+-- a piece as a copy of its datafile
+abbrev pub base_of : Piece → artefact.Base
+base_of p = record { inc = p.inc; file = p.file; checkpoint = p.checkpoint; rows = p.rows }
+
+-- a piece as an increment
+abbrev pub level1_of : Piece → artefact.Level1
+level1_of p = record { inc = p.inc; file = p.file; from = p.from; checkpoint = p.checkpoint; rows = p.rows }
+
+-- the artefacts, without their ids
+abbrev pub known_of : Evidence → known.Evidence
+known_of e =
+    record {
+      bases = map (λ x. base_of x.1) e.bases;
+      level1s = map (λ x. level1_of x.1) e.level1s;
+      logs = map (λ x. log_of x.1) e.logs;
+    }
+
+-- the piece is valid, and its incarnation is there
+pub record FitsPiece (tree : List Incarnation) (a : Piece) : Type 0 where
+  pub valid : IsPiece a
+  pub inc : IsThere tree a.inc
+
+-- the log is valid, and its incarnation is there
+pub record FitsLog (tree : List Incarnation) (a : LogFile) : Type 0 where
+  pub valid : IsLogFile a
+  pub inc : IsThere tree a.inc
+
+-- each artefact is valid, of an incarnation of the tree, and stands among those of its kind
+pub record FitsTree (tree : List Incarnation) (e : Evidence) : Type 0 where
+  pub bases : All (λ x. FitsPiece tree x.1) e.bases
+  pub no_level1 : All (λ x. x.1.kind ≢ Level1) e.bases
+  pub level1s : All (λ x. FitsPiece tree x.1) e.level1s
+  pub all_level1 : All (λ x. x.1.kind ≡ Level1) e.level1s
+  pub logs : All (λ x. FitsLog tree x.1) e.logs

@@ -1,0 +1,3 @@
+pub mod Available
+pub mod Gathered
+pub mod Known

@@ -1,0 +1,6 @@
+//! The artefacts that are at hand.
+#![tactic(auto)]
+
+pub mod evidence;
+
+pub use evidence::{Evidence, InPlace};

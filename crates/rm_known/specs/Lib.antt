@@ -1,0 +1,5 @@
+pub mod Evidence
+pub mod Known
+pub mod FirstGap
+pub mod Unknown
+pub mod Growth

@@ -1,0 +1,32 @@
+//! What the evidence makes known, and what nobody could know from it.
+ghost use Rattle.std.specs.Prelude.{ℕ, ◌≡◌, ◌<◌, List, [], ◌∷◌, ◌++◌, Some};
+ghost use Rattle.rm_base.specs.declared.block.Block.{Block};
+ghost use Rattle.rm_base.specs.declared.block.Change.{Change};
+ghost use Rattle.rm_history.specs.declared.world.World.{World};
+ghost use Rattle.rm_history.specs.History.{IsHistory};
+ghost use Rattle.rm_known.specs.Evidence.{Evidence, Agrees};
+ghost use Rattle.rm_known.specs.Known.{Determined};
+ghost use Rattle.rm_known.specs.FirstGap.{IsTarget, HasGap, IsDetermined};
+ghost use Rattle.rm_known.specs.Unknown.{IsWorld, IsKnown, IsUnknown};
+ghost use Rattle.rm_known.specs.Growth.{IsPast};
+
+/// What is determined is so in every history that agrees with the evidence.
+pub fn told_is_true()
+    ensures { (w : World) (e : Evidence) (i s f b v : ℕ) (x : Block) → IsTarget w i s f b → Determined w e i s f b v x → IsKnown w e i s f b v x }
+{}
+
+/// Behind a gap stand two histories: in one the block is at the greatest version that is seen, in the
+/// other it was changed at the gap, to any content.
+pub fn nothing_more_could_be_known()
+    ensures { (w : World) (e : Evidence) (i s f b m g : ℕ) → IsWorld w → IsTarget w i s f b → HasGap w e i s f b m g → IsUnknown w e i s f b m g }
+{}
+
+/// A block that is determined has no gap.
+pub fn determined_has_no_gap()
+    ensures { (w : World) (e : Evidence) (i s f b m g : ℕ) → IsDetermined w e i s f b → ¬ HasGap w e i s f b m g }
+{}
+
+/// A history that grows by a change past the evidence goes on to agree with it.
+pub fn growth_past_the_evidence_keeps_agreement()
+    ensures { (w : World) (h : List Change) (e : Evidence) (c : Change) → IsWorld w → IsHistory w h → Agrees w h e → IsHistory w (h ++ c ∷ []) → IsPast w e c → Agrees w (h ++ c ∷ []) e }
+{}

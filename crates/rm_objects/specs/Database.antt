@@ -1,0 +1,25 @@
+-- The database of which records tell: its incarnations, threads and datafiles.
+use Rattle.std.specs.Prelude.{ℕ, List, Option}
+use Rattle.std.specs.List.{filter_map}
+use Rattle.std.specs.Option.{option_map, option_map_or}
+use Rattle.rm_history.specs.declared.world.Datafile.{Datafile}
+use Rattle.rm_history.specs.declared.world.World.{World}
+use Rattle.rm_catalog.specs.declared.record.DatafileEntry.{DatafileEntry}
+use Rattle.rm_catalog.specs.declared.record.Record.{Record}
+use Rattle.rm_catalog.specs.Keys.{base, datafile_in}
+use Rattle.rm_catalog.specs.Trees.{nodes}
+
+-- a datafile as its record tells it
+abbrev pub created_by : DatafileEntry → Datafile
+created_by f = record { inc = f.inc; creation = f.creation; blocks = f.blocks }
+
+-- the datafiles of the records, in order
+abbrev pub datafiles : List Record → List Datafile
+datafiles rs = filter_map (λ r. option_map created_by (datafile_in r)) rs
+
+-- how many redo threads there are
+abbrev pub threads_in : List Record → ℕ
+threads_in rs = option_map_or (λ b. b.threads) (base rs) 0
+
+abbrev pub world_of : List Record → World
+world_of rs = record { tree = nodes rs; threads = threads_in rs; files = datafiles rs }

@@ -1,0 +1,3 @@
+pub mod Database
+pub mod Names
+pub mod Objects
