@@ -1,0 +1,9 @@
+pub mod Facts
+pub mod Gaps
+pub mod Lists
+pub mod Logs
+pub mod Past
+pub mod Removal
+pub mod Sound
+pub mod States
+pub mod Unquiet
