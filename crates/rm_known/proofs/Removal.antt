@@ -9,16 +9,16 @@ use Rattle.rm_base.specs.declared.block.Row.{Row}
 use Rattle.rm_history.specs.declared.world.World.{World}
 use Rattle.rm_history.specs.Tree.{owner}
 use Rattle.rm_history.specs.History.{IsHistory, SamePlace}
-use Rattle.rm_history.specs.State.{concerns, state, IsState}
+use Rattle.rm_history.specs.State.{concerns}
 use Rattle.rm_history.specs.Artefacts.{Log}
 use Rattle.rm_history.specs.Agrees.{IsRow, IsBelow, LogAgrees, is_of}
-use Rattle.rm_history.proofs.States.{concerns-parts, state-held, state-one}
+use Rattle.rm_history.proofs.States.{concerns-parts, state-held}
 use Rattle.rm_known.specs.Evidence.{Evidence, Agrees}
 use Rattle.rm_known.specs.Known.{HasChange, HasRow, in_base, in_level1, Seen, by_row, by_log, IsGreatest}
 use Rattle.rm_known.specs.Unknown.{is_untold, without, IsPossible}
 use Rattle.rm_known.proofs.Lists.{filter-from, filter-to, filter-filter}
 use Rattle.rm_known.proofs.Logs.{is_of-parts, happened-listed}
-use Rattle.rm_known.proofs.States.{IsAt, IsTop, created-first, version-below}
+use Rattle.rm_known.proofs.States.{IsAt, IsTop, state-stays, created-first, version-below}
 use Rattle.rm_known.proofs.Sound.{row-block, row-state, row-is, seen-state}
 
 -- a change that is untold concerns the block, above v
@@ -87,25 +87,13 @@ module _ (w : World) (h : List Change) (e : Evidence) (history : IsHistory w h) 
   row-stays : (n o j k : ℕ) (r : Row) → HasRow e n o j k r → IsRow w less j n k r
   row-stays n o j k r has =
       let is = row-is w h e agrees n o j k r has in
-      let old = row-state w h j n k r is in
-      let new : IsState w less j is.position n r = record {
-        top = λ c held concerned. old.top c (less-from c held).0 concerned;
-        held = elim old.held [
-          | inl made ↦ inl (record {
-            change = made.change;
-            is = less-to made.change made.is (row-told n o j k r has is.position made.change made.concerns made.version);
-            concerns = made.concerns;
-            version = made.version;
-            content = made.content;
-          })
-          | inr untouched ↦ inr (record {
-            none = λ c held. untouched.none c (less-from c held).0;
-            version = untouched.version;
-            content = untouched.content;
-          })
-        ];
-      } in
-      record { position = is.position; after = is.after; is = state-one w less j is.position n r less-history new }
+      record {
+        position = is.position;
+        after = is.after;
+        is = state-stays w h less j is.position n r less-history (row-state w h j n k r is)
+            (λ c held concerned. (row-state w h j n k r is).top c (less-from c held).0 concerned)
+            (λ c held concerned version. less-to c held (row-told n o j k r has is.position c concerned version));
+      }
 
   -- a version stays below `from` where it was
   below-stays : (j n k from o : ℕ) → IsBelow w h j n k from o → IsBelow w less j n k from o
@@ -140,8 +128,13 @@ module _ (w : World) (h : List Change) (e : Evidence) (history : IsHistory w h) 
     logs = less-logs;
   }
 
-  pub less-top : IsTop w less i s f b v
+  less-top : IsTop w less i s f b v
   less-top c held concerned = told-below (concerns w i s f b c) v c.scn (less-from c held).1 concerned
+
+  -- no change that is left lies above v
+  pub removed-top : IsTop w (without w h i s f b v) i s f b v
+  unfolding less
+  removed-top = less-top
 
   -- without the untold changes the block is at version v
   pub removed : IsPossible w e i s f b (without w h i s f b v) v greatest.content

@@ -33,6 +33,13 @@ Happened w h f b m v x = HasChanged h f b m v x ⊎ ((v ≡ creation_of w f) × 
 abbrev pub IsTop : World → List Change → ℕ → ℕ → ℕ → ℕ → ℕ → Type 0
 IsTop w h i s f b v = (c : Change) → Contains h c → concerns w i s f b c ≡ true → c.scn ≤ v
 
+-- where that is its file's creation, none concerns it
+none-risen : (w : World) (h : List Change) (i s f b v : ℕ) → IsHistory w h → v ≡ creation_of w f → IsTop w h i s f b v → (c : Change) → Contains h c → ¬ (concerns w i s f b c ≡ true)
+none-risen w h i s f b v history created top c held concerned =
+    let risen = concerns-risen w h i s f b c history held concerned in
+    let low = top c held concerned in
+    omega (arith, created, risen, low)
+
 -- at the version of a state its content happened
 pub state-happened : (w : World) (h : List Change) (i s f : ℕ) (r : Row) → IsState w h i s f r → Happened w h f r.block (owner w.tree i r.version) r.version r.content
 state-happened w h i s f r is = elim is.held [
@@ -65,16 +72,32 @@ happened-state w h i s f b v x history below top happened =
               version = sym here;
               content = sym changed.content;
             })
-        | inr created ↦
-            let at = created.0 in
-            inr (record {
-              none = λ c held concerned.
-                  let risen = concerns-risen w h i s f b c history held concerned in
-                  let low = top c held concerned in
-                  omega (arith, at, risen, low);
-              version = at;
-              content = created.1;
-            })
+        | inr created ↦ inr (record {
+          none = none-risen w h i s f b v history created.0 top;
+          version = created.0;
+          content = created.1;
+        })
+      ];
+    })
+
+-- a state stays where the change that made it does, and none above it comes
+pub state-stays : (w : World) (h k : List Change) (i s f : ℕ) (r : Row) → IsHistory w k → IsState w h i s f r → IsTop w k i s f r.block r.version → ((c : Change) → Contains h c → concerns w i s f r.block c ≡ true → r.version ≡ c.scn → Contains k c) → state w k i s f r.block ≡ r
+state-stays w h k i s f r history old top stays =
+    state-one w k i s f r history (record {
+      top = top;
+      held = elim old.held [
+        | inl made ↦ inl (record {
+          change = made.change;
+          is = stays made.change made.is made.concerns made.version;
+          concerns = made.concerns;
+          version = made.version;
+          content = made.content;
+        })
+        | inr untouched ↦ inr (record {
+          none = none-risen w k i s f r.block r.version history untouched.version top;
+          version = untouched.version;
+          content = untouched.content;
+        })
       ];
     })
 
