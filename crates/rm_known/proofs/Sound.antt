@@ -1,7 +1,6 @@
 -- What the evidence tells is true of each history that agrees with it.
 use Rattle.std.proofs.Common.{◌≡◌, ◌<◌, ◌≤◌, ◌∙◌, ◌⊎◌, inl, inr, ℕ, List, false, true, refl, ap, sym, subst, arith, Contains}
 use Rattle.std.specs.Option.{option_map_or}
-use Rattle.std.proofs.lemmas.Bool.{cases_lt}
 use Rattle.rm_base.specs.declared.block.Block.{Block}
 use Rattle.rm_base.specs.declared.block.Change.{Change}
 use Rattle.rm_base.specs.declared.block.Row.{Row}
@@ -13,9 +12,7 @@ use Rattle.rm_history.specs.State.{concerns, state, IsState}
 use Rattle.rm_history.specs.Agrees.{IsRow, is_of}
 use Rattle.rm_history.proofs.States.{concerns-parts, concerns-from, state-held}
 use Rattle.rm_known.specs.Evidence.{Evidence, Agrees}
-use Rattle.rm_known.specs.Known.{HasRow, in_base, in_level1, Seen, by_row, by_log, by_creation, Quiet, by_absence, by_logs, Determined, HasChange}
-use Rattle.rm_known.specs.FirstGap.{IsTarget}
-use Rattle.rm_known.specs.Unknown.{IsKnown}
+use Rattle.rm_known.specs.Known.{HasRow, in_base, in_level1, Seen, by_row, by_log, by_creation, Quiet, by_absence, by_logs}
 use Rattle.rm_known.proofs.Logs.{is_of-parts, is_of-from, listed-happened, happened-listed}
 use Rattle.rm_known.proofs.States.{IsAt, Happened, IsTop, state-happened, happened-state}
 
@@ -98,20 +95,3 @@ module _ (w : World) (h : List Change) (e : Evidence) (agrees : Agrees w h e) wh
   pub seen-state : (i s f b v : ℕ) (x : Block) → IsHistory w h → v < s → IsTop w h i s f b v → Seen w e f b (owner w.tree i v) v x → state w h i s f b ≡ record { block = b; version = v; content = x }
   seen-state i s f b v x history below top seen =
       happened-state w h i s f b v x history below top (seen-happened f b (owner w.tree i v) v x seen)
-
-target-inside : (w : World) (i s f b : ℕ) → IsTarget w i s f b → b < blocks_of w f
-target-inside w i s f b target =
-    let inside = target.block in
-    let is : blocks_of w f ≡ target.datafile.blocks = ap (λ o. option_map_or (λ d. d.blocks) o 0) target.is in
-    omega (arith, inside, is)
-
--- what is determined is so in each history that agrees
-pub determined-known : (w : World) (e : Evidence) (i s f b v : ℕ) (x : Block) → IsTarget w i s f b → Determined w e i s f b v x → IsKnown w e i s f b v x
-determined-known w e i s f b v x target told h history agrees =
-    seen-state w h e agrees i s f b v x history told.greatest.below (λ c held concerned. elim (cases_lt v c.scn) [
-      | inr low ↦ low
-      | inl above ↦
-          let parts = concerns-parts w i s f b c concerned in
-          let at : IsAt f b (owner w.tree i c.scn) c.scn c = record { file = parts.file; block = parts.block; inc = sym parts.owned; scn = refl } in
-          absurd (quiet-still w h e agrees f b (owner w.tree i c.scn) c.scn history (target-inside w i s f b target) (told.quiet c.scn above parts.below) c held at)
-    ]) told.seen

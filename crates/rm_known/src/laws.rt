@@ -6,7 +6,7 @@ ghost use Rattle.rm_history.specs.declared.world.World.{World};
 ghost use Rattle.rm_history.specs.History.{IsHistory};
 ghost use Rattle.rm_known.specs.Evidence.{Evidence, Agrees};
 ghost use Rattle.rm_known.specs.Known.{Determined};
-ghost use Rattle.rm_known.specs.FirstGap.{IsTarget, HasGap, IsDetermined};
+ghost use Rattle.rm_known.specs.FirstGap.{IsTarget, IsDetermined, HasGap, IsRecoverable, IsFirstGap};
 ghost use Rattle.rm_known.specs.Unknown.{IsWorld, IsKnown, IsUnknown};
 ghost use Rattle.rm_known.specs.Growth.{IsPast};
 
@@ -24,6 +24,12 @@ pub fn nothing_more_could_be_known()
 /// A block that is determined has no gap.
 pub fn determined_has_no_gap()
     ensures { (w : World) (e : Evidence) (i s f b m g : ℕ) → IsDetermined w e i s f b → ¬ HasGap w e i s f b m g }
+{}
+
+/// There is one first gap at most, and where there is one not every block is determined.
+pub fn the_first_gap_is_one()
+    ensures one { (w : World) (e : Evidence) (i s f b m g c d n k : ℕ) → IsFirstGap w e i s f b m g → IsFirstGap w e i s c d n k → (f ≡ c) × (b ≡ d) × (m ≡ n) × (g ≡ k) }
+    ensures only { (w : World) (e : Evidence) (i s f b m g : ℕ) → IsFirstGap w e i s f b m g → ¬ IsRecoverable w e i s }
 {}
 
 /// A history that grows by a change past the evidence goes on to agree with it.
