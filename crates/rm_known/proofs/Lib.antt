@@ -1,3 +1,4 @@
+pub mod Example
 pub mod Facts
 pub mod Gaps
 pub mod Lists

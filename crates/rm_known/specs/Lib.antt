@@ -3,3 +3,4 @@ pub mod Known
 pub mod FirstGap
 pub mod Unknown
 pub mod Growth
+pub mod Example

@@ -1,5 +1,6 @@
 //! What the evidence makes known, and what nobody could know from it.
 ghost use Rattle.std.specs.Prelude.{ℕ, ◌≡◌, ◌<◌, List, [], ◌∷◌, ◌++◌, Some};
+ghost use Rattle.rm_base.specs.Content.{padded};
 ghost use Rattle.rm_base.specs.declared.block.Block.{Block};
 ghost use Rattle.rm_base.specs.declared.block.Change.{Change};
 ghost use Rattle.rm_history.specs.declared.world.World.{World};
@@ -9,6 +10,7 @@ ghost use Rattle.rm_known.specs.Known.{Determined};
 ghost use Rattle.rm_known.specs.FirstGap.{IsTarget, IsDetermined, HasGap, IsRecoverable, IsFirstGap};
 ghost use Rattle.rm_known.specs.Unknown.{IsWorld, IsKnown, IsUnknown};
 ghost use Rattle.rm_known.specs.Growth.{IsPast};
+ghost use Rattle.rm_known.specs.Example.{world, change, history, evidence};
 
 /// What is determined is so in every history that agrees with the evidence.
 pub fn told_is_true()
@@ -35,4 +37,17 @@ pub fn the_first_gap_is_one()
 /// A history that grows by a change past the evidence goes on to agree with it.
 pub fn growth_past_the_evidence_keeps_agreement()
     ensures { (w : World) (h : List Change) (e : Evidence) (c : Change) → IsWorld w → IsHistory w h → Agrees w h e → IsHistory w (h ++ c ∷ []) → IsPast w e c → Agrees w (h ++ c ∷ []) e }
+{}
+
+/// A database, its history and evidence that agrees with it meet all that the laws ask for: the block
+/// is determined at SCN 3, has a gap at SCN 4, and a change at 4 lies past the evidence.
+pub fn the_premises_can_be_met()
+    ensures world { IsWorld world }
+    ensures history { IsHistory world history }
+    ensures agrees { Agrees world history evidence }
+    ensures told { IsTarget world 1 3 1 0 × Determined world evidence 1 3 1 0 2 (padded (65 ∷ [])) }
+    ensures target { IsTarget world 1 4 1 0 }
+    ensures gap { HasGap world evidence 1 4 1 0 1 3 }
+    ensures longer { IsHistory world (history ++ change 2 4 67 ∷ []) }
+    ensures past { IsPast world evidence (change 2 4 67) }
 {}
