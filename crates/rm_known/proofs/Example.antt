@@ -1,5 +1,5 @@
 -- The premises of the laws can be met.
-use Rattle.std.proofs.Common.{rules, Bool, true, false, cond, Option, zero, suc, ◌-◌, ◌==◌, nat_lt, eqb, slice_get, ◌≡◌, ◌<◌, ◌≤◌, ◌∙◌, ◌⊎◌, inl, inr, ℕ, List, [], ◌∷◌, ◌++◌, Some, None, refl, ap, sym, subst, arith, Contains}
+use Rattle.std.proofs.Common.{rules, Bool, true, false, cond, Option, zero, suc, ◌-◌, ◌==◌, nat_lt, eqb, slice_get, ◌≡◌, ◌<◌, ◌≤◌, inl, inr, ℕ, [], ◌∷◌, ◌++◌, Some, None, refl, sym, subst, arith, Contains}
 use Rattle.std.proofs.lemmas.Bool.{and_from, lt-ltb, eq-eqb}
 use Rattle.std.proofs.lemmas.Grind.{common_steps}
 use Rattle.rm_base.specs.Content.{padded, zero_block}
@@ -7,19 +7,17 @@ use Rattle.rm_base.specs.declared.block.Block.{Block}
 use Rattle.rm_base.specs.declared.block.Change.{Change}
 use Rattle.rm_base.specs.declared.block.Row.{Row}
 use Rattle.rm_history.specs.declared.world.Datafile.{Datafile}
-use Rattle.rm_history.specs.Tree.{IsThere, IsTree, owner, parent_of, reset_of}
+use Rattle.rm_history.specs.Tree.{IsTree, owner, parent_of, reset_of}
 use Rattle.rm_history.specs.World.{file_of, IsThread}
-use Rattle.rm_history.specs.History.{IsChange, IsHistory, SamePlace}
-use Rattle.rm_history.specs.Artefacts.{Base, Log}
+use Rattle.rm_history.specs.History.{IsChange, IsHistory}
 use Rattle.rm_history.specs.Agrees.{IsRow, BaseAgrees, LogAgrees}
 use Rattle.rm_history.proofs.Histories.{IsHistory-push_above}
-use Rattle.rm_history.proofs.Members.{in-front, behind, none-in, first-or-rest}
-use Rattle.rm_history.proofs.Owners.{owner-first, parent-none}
+use Rattle.rm_history.proofs.Members.{in-front, none-in, first-or-rest}
+use Rattle.rm_history.proofs.Owners.{owner-first}
 use Rattle.rm_known.specs.Evidence.{Agrees}
-use Rattle.rm_known.specs.Known.{HasRow, in_base, in_level1, HasChange, Seen, by_row, by_log, by_creation, Holds, Quiet, by_absence, by_logs, IsGreatest, Determined, IsGap}
+use Rattle.rm_known.specs.Known.{HasRow, in_base, in_level1, Seen, by_row, by_log, by_creation, Quiet, by_absence, by_logs, IsGreatest, Determined}
 use Rattle.rm_known.specs.FirstGap.{IsTarget, HasGap}
 use Rattle.rm_known.specs.Unknown.{IsWorld}
-use Rattle.rm_known.specs.Growth.{IsPast}
 use Rattle.rm_known.specs.Example.{world, change, history, copy, log, evidence}
 
 -- what holds of the only item holds of each

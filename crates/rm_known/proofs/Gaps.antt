@@ -1,15 +1,14 @@
 -- The change that may stand at a gap, and the thread that may have made it.
-use Rattle.std.proofs.Common.{◌≡◌, ◌<◌, ◌≤◌, ◌∙◌, ◌⊎◌, ◌==◌, ◌&&◌, inl, inr, nat_lt, ℕ, zero, suc, List, [], ◌∷◌, ◌++◌, Bool, true, false, refl, ap, sym, subst, arith, Contains}
+use Rattle.std.proofs.Common.{◌≡◌, ◌<◌, ◌≤◌, ◌∙◌, ◌⊎◌, ◌==◌, ◌&&◌, inl, inr, nat_lt, ℕ, zero, suc, List, [], ◌∷◌, ◌++◌, true, false, refl, ap, sym, subst, arith, Contains}
 use Rattle.std.proofs.lemmas.Bool.{cases_Bool, cases_lt}
 use Rattle.std.proofs.lemmas.Bool.Decides.{nat_tests}
 use Rattle.rm_base.specs.Content.{zero_block}
 use Rattle.rm_base.specs.declared.block.Block.{Block}
 use Rattle.rm_base.specs.declared.block.Change.{Change}
-use Rattle.rm_history.specs.declared.world.Datafile.{Datafile}
 use Rattle.rm_history.specs.declared.world.World.{World}
 use Rattle.rm_history.specs.Artefacts.{Log}
 use Rattle.rm_history.specs.Tree.{IsThere, owner, reset_of}
-use Rattle.rm_history.specs.World.{exists, IsThread}
+use Rattle.rm_history.specs.World.{IsThread}
 use Rattle.rm_history.specs.History.{IsChange, IsHistory, SamePlace}
 use Rattle.rm_history.specs.State.{concerns}
 use Rattle.rm_history.specs.Agrees.{is_of}
@@ -155,8 +154,8 @@ module _ (w : World) (e : Evidence) (i s f b v m g : ℕ) (gap : IsGap w e i s f
             history = longer;
             agrees = unquiet-agrees w less e (new t x) longer first.agrees gap.unknown (of-none t x lacks);
             state_is = state-push_top w less (new t x) i s f b longer concerned (λ d held is.
-              let low : d.scn ≤ v = removed-top w h e history agrees i s f b v gap.greatest d held is in
-              omega (arith, low, above));
+                let low : d.scn ≤ v = removed-top w h e history agrees i s f b v gap.greatest d held is in
+                omega (arith, low, above));
           }
 
       pub could-be : CouldBe w h e i s f b v m g gap.greatest.content

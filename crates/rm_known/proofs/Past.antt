@@ -1,5 +1,5 @@
 -- A history that gains a change past the evidence.
-use Rattle.std.proofs.Common.{◌≡◌, ◌++◌, ◌∷◌, inl, inr, List, [], Bool, true, false, sym, Contains}
+use Rattle.std.proofs.Common.{◌≡◌, ◌++◌, ◌∷◌, inl, inr, List, [], false, sym, Contains}
 use Rattle.std.proofs.lemmas.Bool.{cases_Bool}
 use Rattle.rm_base.specs.declared.block.Change.{Change}
 use Rattle.rm_history.specs.declared.world.World.{World}

@@ -104,17 +104,17 @@ module _ (w : World) (h : List Change) (e : Evidence) (history : IsHistory w h) 
         position = is.position;
         after = is.after;
         below = version-below w less j is.position n o from (omega (arith, below, created)) (λ c held concerned.
-          let most = (state-held w h j is.position n o).top c (less-from c held).0 concerned in
-          omega (arith, most, below));
+            let most = (state-held w h j is.position n o).top c (less-from c held).0 concerned in
+            omega (arith, most, below));
       }
 
   less-logs : (a : Log) → Contains e.logs a → LogAgrees less a
   unfolding less
   less-logs a log =
       agrees.logs a log ∙ sym (filter-filter (is_of a) (λ c. not (is_untold w i s f b v c)) h (λ c held of.
-        let has : HasChange e c.file c.block a c = record { log = log; change = happened-listed h a c (agrees.logs a log) held of; file = refl; block = refl } in
-        let at : IsAt c.file c.block a.inc c.scn c = record { file = refl; block = refl; inc = (is_of-parts a c of).inc; scn = refl } in
-        ap not (seen-told c.file c.block a.inc c.scn c.content (by_log a c has) c at)))
+      let has : HasChange e c.file c.block a c = record { log = log; change = happened-listed h a c (agrees.logs a log) held of; file = refl; block = refl } in
+      let at : IsAt c.file c.block a.inc c.scn c = record { file = refl; block = refl; inc = (is_of-parts a c of).inc; scn = refl } in
+      ap not (seen-told c.file c.block a.inc c.scn c.content (by_log a c has) c at)))
 
   less-agrees : Agrees w less e
   less-agrees = record {

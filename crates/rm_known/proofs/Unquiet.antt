@@ -1,5 +1,5 @@
 -- A history that gains a change at an address that is not quiet.
-use Rattle.std.proofs.Common.{◌≡◌, ◌<◌, ◌≤◌, ◌∙◌, inl, inr, ℕ, List, [], ◌∷◌, ◌++◌, false, true, refl, ap, sym, subst, arith, Contains}
+use Rattle.std.proofs.Common.{◌≡◌, ◌<◌, ◌≤◌, ◌∙◌, inl, inr, ℕ, List, [], ◌∷◌, ◌++◌, false, refl, sym, subst, arith, Contains}
 use Rattle.std.proofs.lemmas.Bool.{cases_Bool, cases_lt}
 use Rattle.std.proofs.lemmas.List.Elements.{Contains-append_left, Contains-push_cases}
 use Rattle.rm_base.specs.declared.block.Change.{Change}
@@ -7,7 +7,7 @@ use Rattle.rm_base.specs.declared.block.Row.{Row}
 use Rattle.rm_history.specs.declared.world.World.{World}
 use Rattle.rm_history.specs.Tree.{owner}
 use Rattle.rm_history.specs.History.{IsHistory}
-use Rattle.rm_history.specs.State.{concerns, state}
+use Rattle.rm_history.specs.State.{concerns}
 use Rattle.rm_history.specs.Artefacts.{Level1, Log}
 use Rattle.rm_history.specs.Agrees.{IsRow, IsBelow, is_of, lists}
 use Rattle.rm_history.proofs.Growth.{IsHistory-front, row-grown, below-grown, LogAgrees-grown}

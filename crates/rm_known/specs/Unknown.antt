@@ -1,5 +1,5 @@
 -- The two histories behind a gap.
-use Rattle.std.specs.Prelude.{ℕ, ◌≡◌, ◌<◌, ◌≤◌, ◌&&◌, nat_lt, not, Bool, Some, List, [], ◌∷◌, ◌++◌, filter}
+use Rattle.std.specs.Prelude.{ℕ, ◌≡◌, ◌≤◌, ◌&&◌, nat_lt, not, Bool, Some, List, [], ◌∷◌, ◌++◌, filter}
 use Rattle.rm_base.specs.declared.block.Block.{Block}
 use Rattle.rm_base.specs.declared.block.Change.{Change}
 use Rattle.rm_history.specs.declared.world.Datafile.{Datafile}
@@ -9,7 +9,7 @@ use Rattle.rm_history.specs.State.{concerns, state}
 use Rattle.rm_history.specs.Tree.{IsTree, reset_of}
 use Rattle.rm_history.specs.World.{file_of, IsThread}
 use Rattle.rm_known.specs.Evidence.{Evidence, Agrees}
-use Rattle.rm_known.specs.Known.{HasLog, IsGap}
+use Rattle.rm_known.specs.Known.{HasLog}
 use Rattle.rm_known.specs.FirstGap.{HasGap}
 
 -- the incarnations are a tree, and each file was created at or above the resetlogs SCN of its incarnation
