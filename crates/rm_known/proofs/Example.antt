@@ -124,7 +124,7 @@ seen-by_log =
 
 greatest : (s : ℕ) → 2 < s → IsGreatest world evidence 1 s 1 0 2
 greatest s late = record {
-  below = late;
+  below = omega (arith, late);
   content = padded (65 ∷ []);
   seen = seen-by_log;
   most = λ u x below seen. seen-low (owner world.tree 1 u) u x seen;
