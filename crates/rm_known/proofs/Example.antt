@@ -16,7 +16,7 @@ use Rattle.rm_history.proofs.Members.{in-front, none-in, first-or-rest}
 use Rattle.rm_history.proofs.Owners.{owner-first}
 use Rattle.rm_known.specs.Evidence.{Agrees}
 use Rattle.rm_known.specs.Known.{HasRow, in_base, in_level1, Seen, by_row, by_log, by_creation, Quiet, by_absence, by_logs, IsGreatest, Determined}
-use Rattle.rm_known.specs.FirstGap.{IsTarget, HasGap}
+use Rattle.rm_known.specs.FirstGap.{IsTarget, HasGap, IsFirstGap}
 use Rattle.rm_known.specs.Unknown.{IsWorld}
 use Rattle.rm_known.specs.Example.{world, change, history, copy, log, evidence}
 
@@ -155,4 +155,17 @@ gap = record {
     unknown = not-quiet;
     least = λ g above below. absurd (omega arith);
   };
+}
+
+pub first-gap : IsFirstGap world evidence 1 4 1 0 1 3
+first-gap = record {
+  target = target 4 (omega arith);
+  gap = gap;
+  least = λ c d here before. elim before [
+    | inl less ↦
+        let none : c ≡ 0 = omega (arith, less) in
+        let is : None ≡ Some here.datafile = subst (λ f. file_of world f ≡ Some here.datafile) none here.is in
+        absurd (cc)
+    | inr same ↦ let less = same.1 in absurd (omega (arith, less))
+  ];
 }

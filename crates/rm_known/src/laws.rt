@@ -40,7 +40,7 @@ pub fn growth_past_the_evidence_keeps_agreement()
 {}
 
 /// A database, its history and evidence that agrees with it meet all that the laws ask for: the block
-/// is determined at SCN 3, has a gap at SCN 4, and a change at 4 lies past the evidence.
+/// is determined until SCN 3, until SCN 4 it has a gap at 3, and a change at 4 lies past the evidence.
 pub fn the_premises_can_be_met()
     ensures world { IsWorld world }
     ensures history { IsHistory world history }
@@ -48,6 +48,7 @@ pub fn the_premises_can_be_met()
     ensures told { IsTarget world 1 3 1 0 × Determined world evidence 1 3 1 0 2 (padded (65 ∷ [])) }
     ensures target { IsTarget world 1 4 1 0 }
     ensures gap { HasGap world evidence 1 4 1 0 1 3 }
+    ensures first { IsFirstGap world evidence 1 4 1 0 1 3 }
     ensures longer { IsHistory world (history ++ change 2 4 67 ∷ []) }
     ensures past { IsPast world evidence (change 2 4 67) }
 {}

@@ -1,5 +1,5 @@
 use Rattle.std.proofs.Common.{arith}
-use Rattle.rm_known.proofs.Example.{world-is, history-is, history-longer, evidence-agrees, target, told, gap}
+use Rattle.rm_known.proofs.Example.{world-is, history-is, history-longer, evidence-agrees, target, told, gap, first-gap}
 use Rattle.rm_known.proofs.laws.the_premises_can_be_met.Goals as goal
 
 pub returns-clause-world : goal.returns-clause-world
@@ -22,3 +22,6 @@ returns-clause-gap _ = gap
 
 pub returns-clause-longer : goal.returns-clause-longer
 returns-clause-longer _ = history-longer
+
+pub returns-clause-first : goal.returns-clause-first
+returns-clause-first _ = first-gap
