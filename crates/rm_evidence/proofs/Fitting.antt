@@ -1,10 +1,8 @@
 -- Evidence that fits a tree goes on to fit it.
-use Rattle.std.proofs.Common.{◌≡◌, ◌≢◌, ◌∙◌, ◌<◌, ℕ, List, [], ◌∷◌, ◌++◌, map, All, Contains, refl, ap, sym, subst, arith, suc, ◌≤◌, length, get_or}
-use Rattle.std.specs.Prelude.{IsSomeAnd}
+use Rattle.std.proofs.Common.{◌≡◌, ◌≢◌, ◌∙◌, ◌<◌, ℕ, List, [], ◌∷◌, ◌++◌, map, All, Contains, refl, sym, subst, arith, suc, ◌≤◌, length, get_or}
 use Rattle.std.proofs.lemmas.List.Elements.{All-cons, All-map, All-push}
 use Rattle.rm_base.specs.declared.kinds.Kind.{Kind}
 use Rattle.rm_base.specs.declared.kinds.Kind.TheVariants.{Full, Level0, Level1, Place}
-use Rattle.rm_blocks.specs.File.{File}
 use Rattle.rm_catalog.specs.declared.record.LogEntry.{LogEntry}
 use Rattle.rm_catalog.specs.declared.record.PieceEntry.{PieceEntry}
 use Rattle.rm_catalog.specs.declared.record.Record.{Record}

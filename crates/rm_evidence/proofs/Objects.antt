@@ -1,17 +1,14 @@
 -- What stands under a name spells one artefact, or it is bad for one reason.
-use Rattle.std.proofs.Common.{◌≡◌, ◌∙◌, ℕ, List, Option, Some, None, refl, ap, sym, subst}
+use Rattle.std.proofs.Common.{◌≡◌, ◌∙◌, ℕ, List, Option, Some, None, refl, sym, subst}
 use Rattle.std.specs.Prelude.{Ok, Err}
 use Rattle.std.proofs.lemmas.Option.{same_Some}
 use Rattle.rm_base.specs.declared.kinds.Bad.{Bad}
 use Rattle.rm_base.specs.declared.kinds.Bad.TheVariants.{Missing, Damaged}
 use Rattle.rm_catalog.specs.declared.record.LogEntry.{LogEntry}
 use Rattle.rm_catalog.specs.declared.record.PieceEntry.{PieceEntry}
-use Rattle.rm_evidence.specs.Available.{IsBad}
 use Rattle.rm_evidence.specs.Taking.{IsTold}
 use Rattle.rm_objects.specs.Objects.{IsLogObject, IsPieceObject}
-use Rattle.rm_piece.specs.declared.piece.Piece.{Piece}
 use Rattle.rm_piece.proofs.Fitting.{spelling_same as piece_same}
-use Rattle.rm_redo.specs.declared.log_file.LogFile.{LogFile}
 use Rattle.rm_redo.proofs.LogFitting.{spelling_same as log_same}
 
 -- bytes spell one artefact at most

@@ -120,12 +120,7 @@ fn fits_file(alloc: Global, tree: &Tree, dbid: u32, file: &DataFile) -> Result<b
     Ok(is_valid(&piece) && tree.get(piece.inc).is_some())
 }
 
-fn fit_files(
-    alloc: Global,
-    tree: &Tree,
-    dbid: u32,
-    files: &[DataFile],
-) -> Result<bool, NoMemory>
+fn fit_files(alloc: Global, tree: &Tree, dbid: u32, files: &[DataFile]) -> Result<bool, NoMemory>
     ensures { IfOk result (λ fits. IsTrue fits ↔ All (λ x. FitsPiece tree.now (placed_piece dbid x)) files.now) }
 {
     for file in files {

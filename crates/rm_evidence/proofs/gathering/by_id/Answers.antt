@@ -1,4 +1,4 @@
-use Rattle.std.proofs.Common.{◌≢◌, ◌<◌, ◌∙◌, AllPairs, List, ℕ, rules, sym, subst}
+use Rattle.std.proofs.Common.{◌<◌, AllPairs, List, ℕ, rules, sym, subst}
 use Rattle.std.specs.Prelude.{IsPermutation}
 use Rattle.std.proofs.lemmas.List.Sorted.{IsNonDecreasingBy-from_sort_by_key}
 use Rattle.rm_base.specs.declared.kinds.Bad.{Bad}

@@ -1,6 +1,6 @@
-use Rattle.std.proofs.Common.{◌≡◌, ◌∙◌, false, refl, rules, subst}
-use Rattle.std.specs.Prelude.{Ok, Err, Result, IfOk}
-use Rattle.std.proofs.lemmas.Option.{IfSome_then, MatchOption-at_some}
+use Rattle.std.proofs.Common.{◌≡◌, refl, rules, subst}
+use Rattle.std.specs.Prelude.{Result, IfOk}
+use Rattle.std.proofs.lemmas.Option.{IfSome_then}
 use Rattle.rm_base.specs.declared.kinds.Bad.{Bad}
 use Rattle.rm_base.specs.declared.kinds.Status.TheVariants.{Available}
 use Rattle.rm_catalog.specs.declared.record.LogEntry.{LogEntry}

@@ -1,7 +1,6 @@
-use Rattle.std.proofs.Common.{◌≡◌, ◌∙◌, [], ◌∷◌, refl, rules, subst, sym}
-use Rattle.std.specs.Prelude.{Ok, Err, Result, IfOk, IfSome}
+use Rattle.std.proofs.Common.{◌≡◌, [], ◌∷◌, refl, rules, subst, sym}
+use Rattle.std.specs.Prelude.{Result, IfOk, IfSome}
 use Rattle.std.proofs.lemmas.Option.{IfSome_then}
-use Rattle.rm_base.specs.Store.{Held}
 use Rattle.rm_base.specs.declared.kinds.Bad.{Bad}
 use Rattle.rm_base.specs.declared.kinds.Status.TheVariants.{Available}
 use Rattle.rm_catalog.specs.declared.record.PieceEntry.{PieceEntry}
