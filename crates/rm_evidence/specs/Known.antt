@@ -1,5 +1,5 @@
 -- The artefacts of the evidence, and which evidence fits a database.
-use Rattle.std.specs.Prelude.{◌≡◌, ◌≢◌, ℕ, List, map, All}
+use Rattle.std.specs.Prelude.{◌≡◌, ◌≢◌, List, map, All}
 use Rattle.rm_base.specs.declared.kinds.Kind.TheVariants.{Level1}
 use Rattle.rm_evidence.specs.declared.evidence.Evidence.{Evidence}
 use Rattle.rm_history.specs.Artefacts as artefact

@@ -1,0 +1,18 @@
+-- What is in place, as evidence, and where it fits a catalog.
+use Rattle.std.specs.Prelude.{ℕ, List, [], map, All}
+use Rattle.rm_catalog.specs.declared.record.Record.{Record}
+use Rattle.rm_catalog.specs.Trees.{nodes}
+use Rattle.rm_evidence.specs.declared.evidence.Evidence.{Evidence}
+use Rattle.rm_evidence.specs.declared.evidence.InPlace.{InPlace}
+use Rattle.rm_evidence.specs.Gathered.{dbid_in, placed, placed_piece}
+use Rattle.rm_evidence.specs.Known.{FitsPiece, FitsLog}
+
+-- each datafile and each log in place is valid, and of an incarnation that is there
+pub record FitsPlace (rs : List Record) (place : InPlace) : Type 0 where
+  pub files : All (λ x. FitsPiece (nodes rs) (placed_piece (dbid_in rs) x)) place.files
+  pub logs : All (FitsLog (nodes rs)) place.logs
+
+-- what is in place, alone
+abbrev pub placed_evidence : ℕ → InPlace → Evidence
+placed_evidence dbid place =
+    record { bases = placed (map (placed_piece dbid) place.files); level1s = []; logs = placed place.logs; skipped = [] }

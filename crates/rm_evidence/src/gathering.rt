@@ -1,0 +1,86 @@
+//! The evidence that a catalog, a store and what is in place give.
+ghost use Rattle.std.specs.Prelude.{◌≡◌, ◌≢◌, ◌≤◌, ◌<◌, IfOk, IfSome, IsErrOf, AllPairs, IsPermutation};
+ghost use Rattle.rm_base.specs.Outside.{Rose};
+ghost use Rattle.rm_catalog.specs.Rules.{HasDatabase};
+ghost use Rattle.rm_catalog.specs.Trees.{nodes};
+ghost use Rattle.rm_evidence.specs.Gathered.{IsGathered};
+ghost use Rattle.rm_evidence.specs.Known.{FitsTree};
+ghost use Rattle.rm_evidence.specs.Place.{FitsPlace};
+
+use crate::evidence::{Evidence, InPlace};
+use crate::place::{dbid_of, in_place};
+use crate::taking::take_record;
+use rm_base::{Bad, NoMemory, Seq, Store, StoreFail};
+use rm_catalog::Catalog;
+use std::alloc::Global;
+
+/// Why no evidence was gathered.
+#[derive(Clone, Copy, Debug, PartialEq, Eq)]
+pub enum EvidenceFault {
+    /// The store failed, and counted it.
+    StoreFault,
+    NoMemory,
+}
+
+impl From<NoMemory> for EvidenceFault {
+    ghost use Rattle.rm_evidence.specs.declared.gathering.EvidenceFault.TheVariants.{NoMemory as WithoutMemory};
+
+    ghost from_gives = { λ _ e. e ≡ WithoutMemory };
+
+    fn from(_: NoMemory) -> Self {
+        EvidenceFault::NoMemory
+    }
+}
+
+impl From<StoreFail> for EvidenceFault {
+    ghost use Rattle.rm_evidence.specs.Faults.{fault_of};
+
+    ghost from_gives = { λ fail e. e ≡ fault_of fail };
+
+    fn from(fail: StoreFail) -> Self {
+        match fail {
+            StoreFail::Failed => EvidenceFault::StoreFault,
+            StoreFail::NoMemory => EvidenceFault::NoMemory,
+        }
+    }
+}
+
+// The same records, by id.
+fn by_id(skipped: Seq<(u32, Bad)>) -> Seq<(u32, Bad)>
+    ensures same { IsPermutation skipped result }
+    ensures ascends { AllPairs (λ x y. x.0 ≢ y.0) skipped → AllPairs (λ x y. x.0 < y.0) result }
+{
+    let mut skipped = skipped.into_vec();
+    skipped.sort_unstable_by_key(|x| x.0);
+    Seq::from_vec(skipped)
+}
+
+/// The artefacts that are at hand: what is in place, and what the store has of the records that count
+/// as available. The records whose objects are missing or damaged are told as skipped.
+pub fn gather<D: Store>(
+    alloc: Global,
+    catalog: &Catalog,
+    store: &mut D,
+    place: &InPlace,
+) -> Result<Evidence, EvidenceFault>
+    requires database { HasDatabase catalog.now }
+    requires place { FitsPlace catalog.now place.now }
+    ensures gathered { IfOk result (λ e. IfSome (D.held store.old) (λ h. IsGathered h catalog.now place.now e)) }
+    ensures fits { IfOk result (λ e. FitsTree (nodes catalog.now) e) }
+    ensures same { D.held store.new ≡ D.held store.old }
+    ensures failed { IsErrOf result EvidenceFault.StoreFault → Rose (D.faults store.old) (D.faults store.new) }
+    ensures never_falls { D.faults store.old ≤ D.faults store.new }
+{
+    let mut evidence = in_place(alloc, dbid_of(catalog), place)?;
+    let records = catalog.records();
+    for row in records {
+        take_record(alloc, store, row, &mut evidence)?;
+    }
+    let skipped = by_id(evidence.skipped);
+    Ok(Evidence {
+        skipped,
+        bases: evidence.bases,
+        level1s: evidence.level1s,
+        logs: evidence.logs,
+    })
+}

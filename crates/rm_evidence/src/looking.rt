@@ -1,0 +1,62 @@
+//! What the store has of a record that counts as available.
+ghost use Rattle.std.specs.Prelude.{◌≡◌, ◌≤◌, IfOk, IfSome, IsErrOf};
+ghost use Rattle.rm_base.specs.Outside.{Rose};
+ghost use Rattle.rm_objects.specs.Names.{log_name, piece_name};
+ghost use Rattle.rm_objects.specs.Objects.{HasLogFields, HasPieceFields, IsLogObject, IsPieceObject};
+ghost use Rattle.rm_piece.specs.Valid.{IsPiece};
+ghost use Rattle.rm_redo.specs.LogFormat.{IsLogFile};
+ghost use Rattle.rm_evidence.specs.Taking.{IsTold};
+
+use crate::gathering::EvidenceFault;
+use rm_base::{Bad, Store};
+use rm_catalog::{LogEntry, PieceEntry};
+use rm_objects::{log_name, log_object, piece_name, piece_object};
+use rm_piece::Piece;
+use rm_redo::LogFile;
+use std::alloc::Global;
+
+/// The log of the record, or why it can't be used.
+pub(crate) fn look_for_log<D: Store>(
+    alloc: Global,
+    store: &mut D,
+    entry: &LogEntry,
+) -> Result<Result<LogFile, Bad>, EvidenceFault>
+    ensures told { IfOk result (λ told. IfSome (D.held store.old) (λ h. IsTold (IsLogObject entry.now) (h (log_name entry.now.id)) told)) }
+    ensures valid { IfOk result (λ told. IfOk told (λ log. IsLogFile log)) }
+    ensures fields { IfOk result (λ told. IfOk told (λ log. HasLogFields entry.now log)) }
+    ensures same { D.held store.new ≡ D.held store.old }
+    ensures failed { IsErrOf result EvidenceFault.StoreFault → Rose (D.faults store.old) (D.faults store.new) }
+    ensures never_falls { D.faults store.old ≤ D.faults store.new }
+{
+    let name = log_name(alloc, entry.id)?;
+    let Some(bytes) = store.get(name.as_str())? else {
+        return Ok(Err(Bad::Missing));
+    };
+    match log_object(alloc, entry, bytes.as_slice())? {
+        Some(log) => Ok(Ok(log)),
+        None => Ok(Err(Bad::Damaged)),
+    }
+}
+
+/// The piece of the record, or why it can't be used.
+pub(crate) fn look_for_piece<D: Store>(
+    alloc: Global,
+    store: &mut D,
+    entry: &PieceEntry,
+) -> Result<Result<Piece, Bad>, EvidenceFault>
+    ensures told { IfOk result (λ told. IfSome (D.held store.old) (λ h. IsTold (IsPieceObject entry.now) (h (piece_name entry.now.copy entry.now.id)) told)) }
+    ensures valid { IfOk result (λ told. IfOk told (λ piece. IsPiece piece)) }
+    ensures fields { IfOk result (λ told. IfOk told (λ piece. HasPieceFields entry.now piece)) }
+    ensures same { D.held store.new ≡ D.held store.old }
+    ensures failed { IsErrOf result EvidenceFault.StoreFault → Rose (D.faults store.old) (D.faults store.new) }
+    ensures never_falls { D.faults store.old ≤ D.faults store.new }
+{
+    let name = piece_name(alloc, entry.copy, entry.id)?;
+    let Some(bytes) = store.get(name.as_str())? else {
+        return Ok(Err(Bad::Missing));
+    };
+    match piece_object(alloc, entry, bytes.as_slice())? {
+        Some(piece) => Ok(Ok(piece)),
+        None => Ok(Err(Bad::Damaged)),
+    }
+}
