@@ -1,9 +1,12 @@
 -- The database of which records tell: its incarnations, threads and datafiles.
-use Rattle.std.specs.Prelude.{ℕ, List, Option}
+use Rattle.std.specs.Prelude.{◌≡◌, ℕ, ◌<◌, ◌≤◌, List, Some}
 use Rattle.std.specs.List.{filter_map}
 use Rattle.std.specs.Option.{option_map, option_map_or}
+use Rattle.rm_history.specs.declared.tree.Incarnation.{Incarnation}
 use Rattle.rm_history.specs.declared.world.Datafile.{Datafile}
 use Rattle.rm_history.specs.declared.world.World.{World}
+use Rattle.rm_history.specs.Tree.{IsThere, IsTree, reset_of}
+use Rattle.rm_history.specs.World.{file_of}
 use Rattle.rm_catalog.specs.declared.record.DatafileEntry.{DatafileEntry}
 use Rattle.rm_catalog.specs.declared.record.Record.{Record}
 use Rattle.rm_catalog.specs.Keys.{base, datafile_in}
@@ -23,3 +26,15 @@ threads_in rs = option_map_or (λ b. b.threads) (base rs) 0
 
 abbrev pub world_of : List Record → World
 world_of rs = record { tree = nodes rs; threads = threads_in rs; files = datafiles rs }
+
+-- what is true of a datafile: it was created on an incarnation that is there
+pub record IsCreated (tree : List Incarnation) (d : Datafile) : Type 0 where
+  pub inc : IsThere tree d.inc
+  pub reset : reset_of tree d.inc ≤ d.creation
+  pub creation : 0 < d.creation
+  pub blocks : (0 < d.blocks) × (d.blocks ≤ 65536)
+
+-- what is true of the database of a catalog
+pub record IsSoundWorld (w : World) : Type 0 where
+  pub tree : IsTree w.tree
+  pub files : (f : ℕ) (d : Datafile) → file_of w f ≡ Some d → IsCreated w.tree d

@@ -11,9 +11,9 @@ use Rattle.rm_redo.specs.LogFormat as log
 use Rattle.rm_redo.specs.LogFormat.{IsLogFile}
 
 -- the bytes have the size and the digest that were recorded
-pub record HasDigest (bytes : List ℕ) (size : ℕ) (sha : List ℕ) : Type 0 where
-  pub size : length bytes ≡ size
-  pub sha : sha256 bytes ≡ sha
+pub record HasDigest (bytes : List ℕ) (n : ℕ) (digest : List ℕ) : Type 0 where
+  pub size : length bytes ≡ n
+  pub sha : sha256 bytes ≡ digest
 
 -- the log has the fields that its record has
 pub record HasLogFields (l : LogEntry) (a : LogFile) : Type 0 where

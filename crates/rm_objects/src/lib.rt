@@ -1,2 +1,11 @@
 //! The objects that records name, and the database of which records tell.
 #![tactic(auto)]
+
+pub mod database;
+pub mod laws;
+pub mod naming;
+pub mod reading;
+
+pub use database::{base_of, datafile, threads};
+pub use naming::{log_name, piece_name, site_name};
+pub use reading::{has_digest, log_object, piece_object};

@@ -1,0 +1,54 @@
+//! The database of which the records of a catalog tell.
+ghost use Rattle.std.specs.Prelude.{◌≡◌};
+ghost use Rattle.rm_catalog.specs.Keys.{base, datafile as entry_of};
+ghost use Rattle.rm_catalog.specs.Rules.{IsCatalog};
+ghost use Rattle.rm_history.specs.World.{file_of};
+ghost use Rattle.rm_objects.specs.Database.{threads_in, world_of};
+
+use rm_base::{FileNo, ThreadNo};
+use rm_catalog::{BaseEntry, Catalog, DatafileEntry, Key, Record};
+use rm_history::Datafile;
+
+/// The base facts. None without a database.
+pub fn base_of(catalog: &Catalog) -> Option<BaseEntry>
+    ensures { result ≡ base catalog.now }
+{
+    match catalog.find(Key { kind: 1, id: 0 }) {
+        Some(Record::Base(entry)) => Some(*entry),
+        _ => None,
+    }
+}
+
+// What the record of a datafile says, where it is there.
+fn datafile_entry(catalog: &Catalog, file: FileNo) -> Option<DatafileEntry>
+    ensures { result ≡ entry_of file catalog.now }
+{
+    match catalog.find(Key { kind: 3, id: file }) {
+        Some(Record::Datafile(entry)) => Some(*entry),
+        _ => None,
+    }
+}
+
+/// The datafile of this number, as it was created. None where it is not there.
+pub fn datafile(catalog: &Catalog, file: FileNo) -> Option<Datafile>
+    ensures { result ≡ file_of (world_of catalog.now) file }
+{
+    // They are a catalog's, so the datafiles have the numbers 1, 2, 3 and so on.
+    let _ = catalog.records();
+    let entry = datafile_entry(catalog, file)?;
+    Some(Datafile {
+        inc: entry.inc,
+        creation: entry.creation,
+        blocks: entry.blocks,
+    })
+}
+
+/// How many redo threads there are; 0 without a database.
+pub fn threads(catalog: &Catalog) -> ThreadNo
+    ensures { result ≡ threads_in catalog.now }
+{
+    match base_of(catalog) {
+        Some(base) => base.threads,
+        None => 0,
+    }
+}
