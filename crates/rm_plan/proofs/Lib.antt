@@ -1,0 +1,7 @@
+pub mod Artefacts
+pub mod Conditions
+pub mod Members
+pub mod Parts
+pub mod Planned
+pub mod Quietness
+pub mod SeenFolds

@@ -1,1 +1,3 @@
+pub mod GreatestSeen
 pub mod Plan
+pub mod QuietTest
