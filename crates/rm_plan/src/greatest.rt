@@ -113,12 +113,7 @@ fn with_logs(tree: &Tree, logs: &[(u32, LogFile)], at: Target, told: Told) -> To
 
 // The greatest version below the target at which the block is seen on its path. It is seen as zero
 // bytes where its datafile was created.
-pub(crate) fn greatest_seen(
-    tree: &Tree,
-    evidence: &Evidence,
-    creation: Scn,
-    at: Target,
-) -> Told
+pub(crate) fn greatest_seen(tree: &Tree, evidence: &Evidence, creation: Scn, at: Target) -> Told
     requires placed { ArePlaced tree.now evidence.now }
     requires there { IsThere tree.now at.inc }
     ensures { result ≡ greatest tree.now evidence.now creation at.inc at.scn at.file at.block }

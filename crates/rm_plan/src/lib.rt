@@ -7,3 +7,6 @@ mod quiet;
 mod target;
 
 pub use plan::{Gap, PlanFault, Told};
+
+#[cfg(test)]
+mod tests;

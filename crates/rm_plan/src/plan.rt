@@ -89,12 +89,7 @@ fn first_open(
 }
 
 // What the evidence tells of a block whose datafile was created at `creation`, or the block's gap.
-fn tell(
-    evidence: &Evidence,
-    catalog: &Catalog,
-    creation: Scn,
-    at: Target,
-) -> Result<Told, Gap>
+fn tell(evidence: &Evidence, catalog: &Catalog, creation: Scn, at: Target) -> Result<Told, Gap>
     requires database { HasDatabase catalog.now }
     requires fits { FitsTree (nodes catalog.now) evidence.now }
     requires target { IsTarget (world_of catalog.now) at.inc at.scn at.file at.block }
@@ -163,9 +158,13 @@ pub fn plan_file(
     ensures parts { IfOk result (λ parts. AreParts (world_of catalog.now) (known_of evidence.now) i s file (blocks_of (world_of catalog.now) file) parts) }
     ensures gap { IfErr result (λ x. IsFileFault (world_of catalog.now) (known_of evidence.now) i s file x) }
 {
-    let Some(Datafile {
-        creation, blocks, ..
-    }) = datafile(catalog, file)
+    let Some(
+        Datafile {
+            creation,
+            blocks,
+            ..
+        },
+    ) = datafile(catalog, file)
     else {
         unreachable!()
     };

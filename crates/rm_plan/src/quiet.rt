@@ -33,8 +33,7 @@ fn is_listed(rows: &[Row], block: BlockNo) -> bool
 fn has_row_below(rows: &[Row], block: BlockNo, g: Scn) -> bool
     ensures { result ≡ list_any (row_below block g) rows.now }
 {
-    rows.iter()
-        .any(|row| row.block == block && row.version < g)
+    rows.iter().any(|row| row.block == block && row.version < g)
 }
 
 // Whether the piece speaks of the file at the address (m, g).
@@ -115,9 +114,7 @@ fn is_all_logged(logs: &[(u32, LogFile)], m: IncNo, g: Scn, threads: ThreadNo) -
 fn has_record(records: &[LogRecord], file: FileNo, block: BlockNo, g: Scn) -> bool
     ensures { result ≡ list_any (is_record file block g) records.now }
 {
-    records
-        .iter()
-        .any(|entry| entry.file == file && entry.block == block && entry.scn == g)
+    records.iter().any(|entry| entry.file == file && entry.block == block && entry.scn == g)
 }
 
 // Whether a log that holds (m, g) tells of a change of the block there.
