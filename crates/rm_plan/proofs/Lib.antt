@@ -1,5 +1,6 @@
 pub mod Artefacts
 pub mod Conditions
+pub mod Firsts
 pub mod Members
 pub mod Parts
 pub mod Planned

@@ -1,6 +1,7 @@
 //! What the evidence tells of blocks, or the first address of which it does not tell.
 #![tactic(auto)]
 
+pub mod first;
 mod greatest;
 pub mod plan;
 mod quiet;

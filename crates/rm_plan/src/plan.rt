@@ -16,7 +16,7 @@ use crate::target::Target;
 use rm_base::{Block, BlockNo, FileNo, IncNo, NoMemory, Part, Scn, Seq, ThreadNo};
 use rm_catalog::Catalog;
 use rm_evidence::Evidence;
-use rm_history::{Datafile, Tree};
+use rm_history::Tree;
 use rm_objects::{datafile, threads};
 use std::alloc::Global;
 
@@ -89,7 +89,7 @@ fn first_open(
 }
 
 // What the evidence tells of a block whose datafile was created at `creation`, or the block's gap.
-fn tell(evidence: &Evidence, catalog: &Catalog, creation: Scn, at: Target) -> Result<Told, Gap>
+pub(crate) fn tell(evidence: &Evidence, catalog: &Catalog, creation: Scn, at: Target) -> Result<Told, Gap>
     requires database { HasDatabase catalog.now }
     requires fits { FitsTree (nodes catalog.now) evidence.now }
     requires target { IsTarget (world_of catalog.now) at.inc at.scn at.file at.block }
@@ -158,25 +158,18 @@ pub fn plan_file(
     ensures parts { IfOk result (λ parts. AreParts (world_of catalog.now) (known_of evidence.now) i s file (blocks_of (world_of catalog.now) file) parts) }
     ensures gap { IfErr result (λ x. IsFileFault (world_of catalog.now) (known_of evidence.now) i s file x) }
 {
-    let Some(
-        Datafile {
-            creation,
-            blocks,
-            ..
-        },
-    ) = datafile(catalog, file)
-    else {
+    let Some(found) = datafile(catalog, file) else {
         unreachable!()
     };
     let mut parts = Seq::new(alloc);
-    for block in 0..blocks {
+    for block in 0..found.blocks {
         let at = Target {
             inc: i,
             scn: s,
             file,
             block,
         };
-        let Told { version, content } = tell(evidence, catalog, creation, at)?;
+        let Told { version, content } = tell(evidence, catalog, found.creation, at)?;
         parts.push(Part {
             block,
             version,

@@ -54,11 +54,17 @@ fn are_level1s(tree: &Tree, pieces: &[(u32, Piece)]) -> bool
     true
 }
 
+fn does_log_fit(tree: &Tree, log: &LogFile) -> bool
+    ensures { IsTrue result → FitsLog tree.now log.now }
+{
+    is_valid_log(log) && tree.get(log.inc).is_some()
+}
+
 fn are_logs(tree: &Tree, logs: &[(u32, LogFile)]) -> bool
     ensures { IsTrue result → All (λ x. FitsLog tree.now x.1) logs.now }
 {
     for (_, log) in logs {
-        if !is_valid_log(log) || tree.get(log.inc).is_none() {
+        if !does_log_fit(tree, log) {
             return false;
         }
     }
@@ -68,9 +74,13 @@ fn are_logs(tree: &Tree, logs: &[(u32, LogFile)]) -> bool
 fn is_fit(tree: &Tree, evidence: &Evidence) -> bool
     ensures { IsTrue result → FitsTree tree.now evidence.now }
 {
-    are_bases(tree, evidence.bases.as_slice())
-        && are_level1s(tree, evidence.level1s.as_slice())
-        && are_logs(tree, evidence.logs.as_slice())
+    if !are_bases(tree, evidence.bases.as_slice()) {
+        return false;
+    }
+    if !are_level1s(tree, evidence.level1s.as_slice()) {
+        return false;
+    }
+    are_logs(tree, evidence.logs.as_slice())
 }
 
 fn is_file(catalog: &Catalog, i: IncNo, s: Scn, file: FileNo) -> bool

@@ -5,7 +5,7 @@ ghost use Rattle.std.specs.Prelude.{◌≡◌, ◌<◌, All, IfOk, length};
 use super::made::{Value, block_of, log};
 use rm_base::{Change, NoMemory, Row, Scn, Seq, ThreadNo};
 use rm_history::{Datafile, Tree, World};
-use rm_redo::LogFile;
+use rm_redo::{LogFile, LogRecord};
 use std::alloc::Global;
 use std::test::Fail;
 
@@ -65,20 +65,20 @@ fn is_of(log: &LogFile, change: &Change) -> bool {
         && change.scn < log.next
 }
 
+fn has_change(log: &LogFile, entry: &LogRecord, history: &[Change]) -> bool {
+    history.iter().any(|change| {
+        is_of(log, change) && change.scn == entry.scn && change.content == entry.content
+    })
+}
+
 // Whether the log tells exactly of the history's changes of its incarnation, thread and range.
 fn does_agree(log: &LogFile, history: &[Change]) -> bool {
-    let mut records = log.records.as_slice().iter();
-    for change in history {
-        if is_of(log, change) {
-            let Some(entry) = records.next() else {
-                return false;
-            };
-            if entry.scn != change.scn || entry.content != change.content {
-                return false;
-            }
-        }
-    }
-    records.next().is_none()
+    let records = log.records.as_slice();
+    let told = history.iter().filter(|change| is_of(log, change)).count();
+    told == records.len()
+        && records
+            .iter()
+            .all(|entry| has_change(log, entry, history))
 }
 
 fn row(version: Scn, value: Value) -> Row {

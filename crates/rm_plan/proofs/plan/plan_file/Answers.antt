@@ -10,8 +10,8 @@ pub returns-in_err-version-clause-gap : goal.returns-in_err-version-clause-gap
 returns-in_err-version-clause-gap c =
     let w = world_of c.args.catalog.now in
     let e = known_of c.args.evidence.now in
-    let below : c.loop-block.block < c.in-Some.field-0.blocks = omega (arith, c.loop-block-test.true, c.in-Some.blocks-is) in
-    let within = within-file w c.args.file c.in-Some.field-0 (sym c.datafile.ensures ∙ c.in-Some.is) c.loop-block.block below in
+    let below : c.loop-block.block < c.in-Some.found.blocks = omega (arith, c.loop-block-test.true) in
+    let within = within-file w c.args.file c.in-Some.found (sym c.datafile.ensures ∙ c.in-Some.is) c.loop-block.block below in
     fault-of c.from_residual.result c.in_err-version.field-0.0 c.from_residual.ensures.1 (IsFileFault w e c.args.i c.args.s c.args.file)
     (first-gap w e c.args.i c.args.s c.args.file c.loop-block.block c.loop-block.parts c.in_err-version.field-0.0 c.loop-block.invariant.parts within c.in_err-version.ensures.gap)
 
