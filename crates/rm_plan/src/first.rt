@@ -62,13 +62,7 @@ fn first_of(
 }
 
 // The first gap of a datafile that exists at (i, s).
-fn file_gap(
-    evidence: &Evidence,
-    catalog: &Catalog,
-    i: IncNo,
-    s: Scn,
-    file: FileNo,
-) -> Option<Gap>
+fn file_gap(evidence: &Evidence, catalog: &Catalog, i: IncNo, s: Scn, file: FileNo) -> Option<Gap>
     requires database { HasDatabase catalog.now }
     requires fits { FitsTree (nodes catalog.now) evidence.now }
     requires there { IsThere (nodes catalog.now) i }

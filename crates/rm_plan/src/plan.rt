@@ -89,7 +89,12 @@ fn first_open(
 }
 
 // What the evidence tells of a block whose datafile was created at `creation`, or the block's gap.
-pub(crate) fn tell(evidence: &Evidence, catalog: &Catalog, creation: Scn, at: Target) -> Result<Told, Gap>
+pub(crate) fn tell(
+    evidence: &Evidence,
+    catalog: &Catalog,
+    creation: Scn,
+    at: Target,
+) -> Result<Told, Gap>
     requires database { HasDatabase catalog.now }
     requires fits { FitsTree (nodes catalog.now) evidence.now }
     requires target { IsTarget (world_of catalog.now) at.inc at.scn at.file at.block }

@@ -8,7 +8,8 @@ ghost use Rattle.rm_objects.specs.Database.{world_of};
 ghost use Rattle.rm_known.specs.FirstGap.{IsTarget};
 ghost use Rattle.rm_plan.specs.Plan.{IsFileTarget};
 
-use crate::plan::{PlanFault, Told, plan, plan_file};
+use crate::first::first_gap;
+use crate::plan::{Gap, PlanFault, Told, plan, plan_file};
 use rm_base::{BlockNo, FileNo, IncNo, Kind, Part, Scn, Seq};
 use rm_catalog::{Catalog, Key};
 use rm_evidence::Evidence;
@@ -140,4 +141,20 @@ pub fn asked_file(
         return None;
     }
     Some(plan_file(alloc, evidence, catalog, i, s, file))
+}
+
+/// What the planner answers of all datafiles; None where it may not be asked.
+pub fn asked_first(
+    evidence: &Evidence,
+    catalog: &Catalog,
+    i: IncNo,
+    s: Scn,
+) -> Option<Option<Gap>> {
+    if !has_database(catalog) || !is_fit(catalog.tree(), evidence) {
+        return None;
+    }
+    if catalog.tree().get(i).is_none() {
+        return None;
+    }
+    Some(first_gap(evidence, catalog, i, s))
 }

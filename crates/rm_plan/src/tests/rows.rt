@@ -1,5 +1,5 @@
 //! Worked rows: later-copy-tells, orphan-copy, missing-thread-log and failover.
-use super::asked::{asked, asked_file};
+use super::asked::{asked, asked_file, asked_first};
 use super::made::{Value, block_of, catalog, log, nothing, piece};
 use crate::plan::{Gap, PlanFault, Told};
 use rm_base::{BlockNo, Kind, NoMemory, Scn};
@@ -141,7 +141,7 @@ fn failover(rt: HostRuntime) -> Result<(), Fail> {
 }
 
 #[test]
-fn a_datafile_is_planned(rt: HostRuntime) -> Result<(), Fail> {
+fn datafiles_are_planned(rt: HostRuntime) -> Result<(), Fail> {
     let alloc = rt.alloc();
     let known = catalog(alloc, 1, 2, None)?;
     let e = pieces(alloc, false)?;
@@ -155,5 +155,7 @@ fn a_datafile_is_planned(rt: HostRuntime) -> Result<(), Fail> {
         panic!(rt; "there is a gap");
     };
     assert_eq!(rt; (gap.block, gap.inc, gap.scn), (0, 1, 4));
+    assert_eq!(rt; asked_first(&e, &known, 1, 4), Some(None));
+    assert_eq!(rt; asked_first(&e, &known, 1, 5), Some(Some(gap)));
     Ok(())
 }
