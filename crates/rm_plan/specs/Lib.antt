@@ -1,1 +1,4 @@
+pub mod FirstGap
+pub mod GreatestSeen
 pub mod Plan
+pub mod QuietTest
