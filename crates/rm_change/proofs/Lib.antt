@@ -1,0 +1,4 @@
+mod Carrying
+pub mod Named
+pub mod Standing
+mod Told

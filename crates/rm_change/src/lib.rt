@@ -1,0 +1,9 @@
+//! What a statement does outside the site.
+#![tactic(auto)]
+
+pub mod change;
+
+pub use change::{Change, Object, Stop, carry_out};
+
+#[cfg(test)]
+mod tests;

@@ -1,0 +1,13 @@
+pub mod Counted
+pub mod Following
+pub mod Fresh
+pub mod Keeping
+pub mod Lookups
+pub mod Objects
+pub mod Order
+pub mod Parts
+pub mod Paths
+pub mod Sections
+pub mod Things
+pub mod Trees
+pub mod Valid
