@@ -47,11 +47,20 @@ fn a_damaged_object_is_told(rt: HostRuntime) -> Result<(), Fail> {
     let mut changed = log_bytes(alloc, 3)?.into_vec();
     let other = log_bytes(alloc, 4)?;
     let piece = piece_bytes(alloc, Kind::Full, 0)?;
-    let cut = bytes.as_slice().split_last().map_or(b"".as_slice(), |(_, front)| front);
+    let cut = bytes
+        .as_slice()
+        .split_last()
+        .map_or(b"".as_slice(), |(_, front)| front);
     assert_eq!(rt; told(alloc, Status::Available, Some(cut))?, damaged);
     assert_eq!(rt; told(alloc, Status::Available, Some(b""))?, damaged);
-    assert_eq!(rt; told(alloc, Status::Available, Some(other.as_slice()))?, damaged);
-    assert_eq!(rt; told(alloc, Status::Available, Some(piece.as_slice()))?, damaged);
+    assert_eq!(rt;
+        told(alloc, Status::Available, Some(other.as_slice()))?,
+        damaged
+    );
+    assert_eq!(rt;
+        told(alloc, Status::Available, Some(piece.as_slice()))?,
+        damaged
+    );
     changed.push(0)?;
     assert_eq!(rt; told(alloc, Status::Available, Some(&changed))?, damaged);
     Ok(())

@@ -46,7 +46,13 @@ fn each_artefact_stands_among_those_of_its_kind(rt: HostRuntime) -> Result<(), F
     assert_eq!(rt; ids(alloc, found.level1s.as_slice())?.as_str(), "3 ");
     assert_eq!(rt; ids(alloc, found.logs.as_slice())?.as_str(), "0 1 ");
     assert_eq!(rt; ids(alloc, found.skipped.as_slice())?.as_str(), "5 6 ");
-    assert!(rt; found.bases.as_slice().first().is_some_and(|base| base.1.kind == Kind::Place));
+    assert!(rt;
+        found
+            .bases
+            .as_slice()
+            .first()
+            .is_some_and(|base| base.1.kind == Kind::Place)
+    );
     Ok(())
 }
 
