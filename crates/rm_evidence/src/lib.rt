@@ -10,3 +10,6 @@ mod taking;
 pub use evidence::{Evidence, InPlace};
 pub use gathering::{EvidenceFault, gather};
 pub use place::fits_place;
+
+#[cfg(test)]
+mod tests;

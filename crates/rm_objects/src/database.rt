@@ -1,13 +1,20 @@
 //! The database of which the records of a catalog tell.
-ghost use Rattle.std.specs.Prelude.{◌≡◌};
+ghost use Rattle.std.specs.Prelude.{◌≡◌, ◌↔◌, IsTrue};
 ghost use Rattle.rm_catalog.specs.Keys.{base, datafile as entry_of};
-ghost use Rattle.rm_catalog.specs.Rules.{IsCatalog};
+ghost use Rattle.rm_catalog.specs.Rules.{HasDatabase, IsCatalog};
 ghost use Rattle.rm_history.specs.World.{file_of};
 ghost use Rattle.rm_objects.specs.Database.{threads_in, world_of};
 
 use rm_base::{FileNo, ThreadNo};
 use rm_catalog::{BaseEntry, Catalog, DatafileEntry, Key, Record};
 use rm_history::Datafile;
+
+/// Whether there is a database.
+pub fn has_database(catalog: &Catalog) -> bool
+    ensures { IsTrue result ↔ HasDatabase catalog.now }
+{
+    catalog.find(Key { kind: 1, id: 0 }).is_some()
+}
 
 /// The base facts. None without a database.
 pub fn base_of(catalog: &Catalog) -> Option<BaseEntry>
