@@ -16,7 +16,7 @@ use Rattle.rm_history.proofs.Members.{in-front, behind, none-in, first-or-rest}
 use Rattle.rm_known.specs.Known.{Seen, by_row, by_log, by_creation, IsGreatest}
 use Rattle.rm_piece.specs.declared.piece.Piece.{Piece}
 use Rattle.rm_plan.specs.declared.plan.Told.{Told}
-use Rattle.rm_plan.specs.GreatestSeen.{later_of, row_counts, after_row, after_piece, after_pieces, record_counts, after_record, after_log, after_logs, fresh, greatest}
+use Rattle.rm_plan.specs.GreatestSeen.{later_of, row_counts, after_row, after_piece, after_pieces, record_counts, after_record, after_log, fresh, greatest}
 use Rattle.rm_plan.proofs.Artefacts.{IsAmong, PieceRow, LogRow, change_of, row-to, row-from, change-to, change-from}
 use Rattle.rm_plan.proofs.Conditions.{reaches-from, reaches-to, counts-from, counts-to, eq-from, eq-to}
 use Rattle.rm_redo.specs.declared.log_file.LogFile.{LogFile}
