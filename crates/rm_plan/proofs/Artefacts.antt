@@ -1,6 +1,5 @@
 -- Rows and records of the evidence, as rows and changes of its artefacts.
-use Rattle.std.proofs.Common.{◌≡◌, ◌⊎◌, ◌∙◌, inl, inr, ℕ, List, refl, sym, ap, subst, map, Contains}
-use Rattle.rm_base.specs.declared.block.Block.{Block}
+use Rattle.std.proofs.Common.{◌≡◌, ◌⊎◌, ◌∙◌, inl, inr, ℕ, sym, ap, subst, map, Contains}
 use Rattle.rm_base.specs.declared.block.Change.{Change}
 use Rattle.rm_base.specs.declared.block.Row.{Row}
 use Rattle.rm_evidence.specs.declared.evidence.Evidence.{Evidence}

@@ -6,3 +6,4 @@ pub mod Parts
 pub mod Planned
 pub mod Quietness
 pub mod SeenFolds
+pub mod Versions

@@ -1,7 +1,8 @@
 -- The planner's test of an address is Quiet.
-use Rattle.std.proofs.Common.{◌≡◌, ◌≢◌, ◌<◌, ◌≤◌, ◌⊎◌, ◌==◌, ◌&&◌, ◌||◌, ◌∙◌, not, nat_le, inl, inr, ℕ, zero, suc, List, Bool, true, false, refl, ap, sym, subst, arith, map, Contains}
+use Rattle.std.proofs.Common.{◌≡◌, ◌<◌, ◌≤◌, ◌⊎◌, ◌==◌, ◌&&◌, ◌||◌, ◌∙◌, not, nat_le, inl, inr, ℕ, zero, suc, Bool, true, false, refl, ap, sym, subst, arith, Contains}
 use Rattle.std.specs.List.{list_any}
 use Rattle.std.proofs.lemmas.Bool.Decides.{nat_tests}
+use Rattle.std.proofs.lemmas.Bool.{cases_lt}
 use Rattle.rm_base.specs.declared.block.Change.{Change}
 use Rattle.rm_base.specs.declared.block.Row.{Row}
 use Rattle.rm_evidence.specs.declared.evidence.Evidence.{Evidence}
@@ -14,7 +15,7 @@ use Rattle.rm_known.specs.Known.{Quiet, by_row, by_absence, by_logs, HasChange, 
 use Rattle.rm_piece.specs.declared.piece.Piece.{Piece}
 use Rattle.rm_plan.specs.QuietTest.{row_below, reaches, row_tells, absence_tells, holds, holds_for, all_logged, is_record, records_it, logs_tell, is_quiet_by}
 use Rattle.rm_plan.proofs.Artefacts.{IsAmong, PieceRow, LogRow, change_of, row-to, row-from, change-to, change-from}
-use Rattle.rm_plan.proofs.Conditions.{and-from, and-to, not-from, eq-from, eq-to, le-from, le-to, reaches-from, reaches-to, below-from, below-to, holds-from, holds-to, same-from, same-to, split}
+use Rattle.rm_plan.proofs.Conditions.{and-from, and-to, not-from, eq-from, eq-to, le-from, le-to, reaches-from, reaches-to, below-from, below-to, holds-from, holds-to, same-from, same-to}
 use Rattle.rm_plan.proofs.Members.{any-from, any-to, any-none, map-to, map-from}
 use Rattle.rm_redo.specs.declared.log_file.LogFile.{LogFile}
 use Rattle.rm_redo.specs.declared.online.LogRecord.{LogRecord}
@@ -49,7 +50,7 @@ module _ (e : Evidence) (f b m g : ℕ) where
 
   logged-at : (n t : ℕ) → 0 < t → all_logged e.logs m g n ≡ true → t ≤ n → HasLog (known_of e) m g t
   logged-at zero t pos all le = absurd (omega arith)
-  logged-at (suc n) t pos all le = logged-cases n t (logged-at n t pos) all le (split t (suc n))
+  logged-at (suc n) t pos all le = logged-cases n t (logged-at n t pos) all le (cases_lt t (suc n))
 
   logged-one : (t : ℕ) → HasLog (known_of e) m g t → list_any (holds_for m g t) e.logs ≡ true
   logged-one t l =

@@ -20,14 +20,16 @@ use rm_history::Tree;
 use rm_objects::{datafile, threads};
 use std::alloc::Global;
 
-/// What the evidence tells of a block.
+/// What the evidence tells of a block: its content, and the SCN of its last change, or else the SCN at
+/// which its datafile was created.
 #[derive(Clone, Copy, Debug, PartialEq, Eq)]
 pub struct Told {
     pub version: Scn,
     pub content: Block,
 }
 
-/// The first address of which nothing tells what a block was.
+/// The least address, above the greatest version of a block that is seen and below the target, at which
+/// nothing tells whether the block changed: the SCN `scn` of incarnation `inc`.
 #[derive(Clone, Copy, Debug, PartialEq, Eq)]
 pub struct Gap {
     pub file: FileNo,
@@ -36,10 +38,10 @@ pub struct Gap {
     pub scn: Scn,
 }
 
-/// Why blocks are not told.
+/// Why a block is not told.
 #[derive(Clone, Copy, Debug, PartialEq, Eq)]
 pub enum PlanFault {
-    /// Nothing more could be known of a block.
+    /// The block has a gap, behind which nothing more could be known of it.
     Gap(Gap),
     NoMemory,
 }
@@ -118,9 +120,10 @@ pub(crate) fn tell(
     }
 }
 
-/// What the evidence tells of a block at SCN `s` on the path of incarnation `i`: the version and
-/// content that it has in every history that agrees with the evidence. Else its gap, behind which
-/// nothing more could be known. This planner takes no memory and never answers `NoMemory`.
+/// What the evidence tells of a block of a datafile that exists at SCN `s` on the path of incarnation
+/// `i`: the version and content that it has below `s` in every history that agrees with the evidence.
+/// `Gap` where nothing tells that. This planner takes no memory, so it never answers `NoMemory`; it
+/// answers `PlanFault` as each planner does.
 pub fn plan(
     _alloc: Global,
     evidence: &Evidence,
@@ -147,8 +150,8 @@ pub fn plan(
     Ok(tell(evidence, catalog, creation, at)?)
 }
 
-/// What the evidence tells of each block of a datafile at SCN `s` on the path of incarnation `i`, in
-/// order. Else the gap of the least block of which it does not tell.
+/// What the evidence tells of each block of a datafile that exists at SCN `s` on the path of incarnation
+/// `i`, in order. `Gap` where a block is not told: that of the least such block.
 pub fn plan_file(
     alloc: Global,
     evidence: &Evidence,

@@ -1,4 +1,3 @@
-use Rattle.std.proofs.Common.{◌≡◌, ◌<◌, ℕ}
 use Rattle.rm_objects.specs.Database.{world_of}
 use Rattle.rm_plan.proofs.Planned.{below-target, tells-of, names-of, is-world}
 use Rattle.rm_plan.proofs.plan.tell.Goals as goal
