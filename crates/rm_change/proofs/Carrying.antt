@@ -1,5 +1,5 @@
 -- What the calls of a change leave, one after another.
-use Rattle.std.proofs.Common.{◌≡◌, ℕ, List, Option, Some, None, Result, Ok, Err, refl, ap, ◌∙◌, subst, sym}
+use Rattle.std.proofs.Common.{◌≡◌, List, Option, Some, Result, Ok, Err, refl, ap, ◌∙◌}
 use Rattle.std.specs.Prelude.{OnErr}
 use Rattle.std.specs.Option.{option_map}
 use Rattle.rm_base.specs.Store.{Held, Both}
@@ -8,7 +8,7 @@ use Rattle.rm_catalog.specs.declared.record.Edit.{Edit}
 use Rattle.rm_catalog.specs.Edits.{after_edits}
 use Rattle.rm_change.specs.declared.change.Change.{Change}
 use Rattle.rm_change.specs.Names.{HasPuts, SameBeyondPuts, HasRemoves, SameBeyondRemoves}
-use Rattle.rm_change.specs.Carrying.{Outside, Carried, Halted, before_the_edits, after_the_edits, Leads}
+use Rattle.rm_change.specs.Carrying.{Carried, Halted, before_the_edits, after_the_edits, Leads}
 use Rattle.rm_change.proofs.Told.{both-told}
 
 pub on-err : {T E : Type 0} (P : Type 0) (r : Result T E) → P → OnErr r P

