@@ -36,7 +36,7 @@ pub fn the_first_gap_is_one()
 
 /// A history that grows by a change past the evidence goes on to agree with it.
 pub fn growth_past_the_evidence_keeps_agreement()
-    ensures { (w : World) (h : List Change) (e : Evidence) (c : Change) → IsWorld w → IsHistory w h → Agrees w h e → IsHistory w (h ++ c ∷ []) → IsPast w e c → Agrees w (h ++ c ∷ []) e }
+    ensures { (w : World) (h : List Change) (e : Evidence) (c : Change) → Agrees w h e → IsHistory w (h ++ c ∷ []) → IsPast w e c → Agrees w (h ++ c ∷ []) e }
 {}
 
 /// A database, its history and evidence that agrees with it meet all that the laws ask for: the block
