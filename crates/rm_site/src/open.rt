@@ -1,75 +1,33 @@
-//! ALTER DATABASE OPEN
-ghost use Rattle.std.specs.Prelude.{◌≡◌, IfOk, Some, None, true};
-ghost use Rattle.std.specs.List.{list_any};
-ghost use Rattle.rm_lang.specs.declared.command.Command.TheVariants.{OpenPlain};
-ghost use Rattle.rm_site.specs.Open.{is_recovered, open_refusal, opened};
-ghost use Rattle.rm_site.specs.Parts.{now_of};
-ghost use Rattle.rm_site.specs.Step.{Steps};
+//! A site is opened over a store and a keeper.
+ghost use Rattle.std.specs.Prelude.{◌≡◌, ◌⊎◌, [], IfSome, IfNone};
+ghost use Rattle.rm_site.specs.Opens.{IsFirst, IsUpTo};
 
-use crate::database::Database;
-use crate::place::keep_in_place;
-use crate::site::{Stop, refusal_reply, reply_of};
-use rm_base::Refusal;
-use rm_report::{Line, Reply};
-use std::alloc::Global;
+use rm_catalog::{Key, Record};
 
-impl Database {
-    // An online log is lost.
-    fn is_any_lost(&self) -> bool
-        ensures { result ≡ list_any (λ l. l.is_lost) self.now.logs.threads }
-    {
-        for thread in 1..=self.threads() {
-            if self.logs.is_lost(thread) {
-                return true;
-            }
-        }
-        false
-    }
-
-    // The database can be opened as it is.
-    fn is_recovered(&self) -> bool
-        ensures { result ≡ is_recovered self.now }
-    {
-        self.point == Some(self.now()) && !self.is_any_lost() && self.logs.inc() == self.current
-    }
-
-    // Why OPEN is refused, if it is.
-    fn open_refusal(&self) -> Option<Refusal>
-        ensures { result ≡ open_refusal self.now }
-    {
-        if self.is_open {
-            Some(Refusal::Rm04 { mounted: false })
-        } else if self.is_recovered() {
-            None
-        } else {
-            Some(Refusal::Rm10)
-        }
-    }
-
-    // Opens the database at its end.
-    fn open(&mut self)
-        requires { open_refusal self.old ≡ None }
-        ensures { self.new ≡ opened self.old (now_of self.old) }
-    {
-        let now = self.now();
-        keep_in_place(&mut self.place, &self.world, self.current, now);
-        self.point = None;
-        self.is_open = true;
+// The first of two keys, by kind and then by id.
+fn first_of(key: Key, other: Key) -> Key
+    ensures one { (result ≡ key) ⊎ (result ≡ other) }
+    ensures up_to { IsUpTo result key }
+    ensures and_to { IsUpTo result other }
+{
+    if (other.kind, other.id) < (key.kind, key.id) {
+        other
+    } else {
+        key
     }
 }
 
-/// OPEN: opens the database as it was recovered, to its end. A refusal changes nothing.
-pub fn open(alloc: Global, database: &mut Database) -> Result<Reply, Stop>
-    ensures { IfOk result (Steps (Some database.old) (Some database.new) OpenPlain) }
+/// The key of the first record, by kind and then by id. None without any.
+pub(crate) fn first_key(records: &[Record]) -> Option<Key>
+    ensures none { IfNone result (records.now ≡ []) }
+    ensures some { IfSome result (IsFirst records.now) }
 {
-    if let Some(refusal) = database.open_refusal() {
-        return refusal_reply(alloc, refusal);
+    let mut first: Option<Key> = None;
+    for row in records {
+        first = match first {
+            Some(key) => Some(first_of(key, row.key())),
+            None => Some(row.key()),
+        };
     }
-    let line = Line::Opened {
-        inc: database.current,
-        scn: database.now(),
-    };
-    let reply = reply_of(alloc, line)?;
-    database.open();
-    Ok(reply)
+    first
 }

@@ -1,19 +1,11 @@
-//! Two writes to one block and what the test of a recovery tells of them, and a full log.
-use crate::database::Database;
-use crate::{Site, refusal_reply};
-use rm_base::{Block, Refusal};
-use rm_lang::{Command, Until, WriteForm, is_command};
-use rm_report::{Reply, bytes_of};
+//! A site over a store and a keeper in memory: what a script leaves in both, and what an opening answers.
+use crate::{OpenFault, Site, Stop};
+use rm_base::{Block, Failing, MemStore, NoMemory, Seq, Store, StoreFailing};
+use rm_catalog::{Keeper, MarkEntry, MemKeeper, Record};
+use rm_lang::{Command, WriteForm, is_command};
+use rm_report::bytes_of;
 use std::alloc::Global;
-use std::process::Abort;
 use std::test::Fail;
-
-// The reply has this text.
-fn shows(rt: &impl Abort, alloc: Global, reply: &Reply, text: &str) -> Result<(), Fail> {
-    let bytes = bytes_of(alloc, reply)?;
-    assert_eq!(rt; bytes.as_slice(), text.as_bytes(), "{text}");
-    Ok(())
-}
 
 // CREATE DATABASE.
 const CREATE: Command = Command::CreateDatabase {
@@ -22,82 +14,137 @@ const CREATE: Command = Command::CreateDatabase {
     scn: 1,
 };
 
-// WRITE DATAFILE 1 BLOCK 0.
-fn write(content: Block) -> Command {
+// The call of this number fails, and none for 0.
+fn failing(alloc: Global, number: u64) -> Result<Failing, NoMemory> {
+    Ok(Failing::new(vec![in alloc; number]?))
+}
+
+// An empty store whose put of this number fails.
+fn store(alloc: Global, put: u64) -> Result<MemStore, NoMemory> {
+    let failing = StoreFailing {
+        gets: failing(alloc, 0)?,
+        puts: failing(alloc, put)?,
+        removes: failing(alloc, 0)?,
+        names: failing(alloc, 0)?,
+    };
+    Ok(MemStore::new(alloc, failing))
+}
+
+// A keeper of these records whose apply of this number fails.
+fn keeper(alloc: Global, records: Seq<Record>, apply: u64) -> Result<MemKeeper, NoMemory> {
+    MemKeeper::new(records, failing(alloc, 0)?, failing(alloc, apply)?)
+}
+
+fn write(text: &[u8; 2]) -> Command {
     Command::Write(WriteForm {
         thread: 1,
         file: 1,
         block: 0,
-        content,
+        content: Block::padded(text),
     })
 }
 
-// RECOVER DATABASE UNTIL SCN s TEST.
-fn test_until(scn: u64) -> Command {
-    Command::RecoverTest {
-        until: Some(Until::Scn(scn)),
-        inc: None,
+// Steps the command, with the clock at 0. True where its reply is this text.
+fn is_answered(
+    alloc: Global,
+    site: &mut Site,
+    store: &mut MemStore,
+    keeper: &mut MemKeeper,
+    command: &Command,
+    text: &str,
+) -> Result<bool, Stop> {
+    if !site.live() || !is_command(command) {
+        return Ok(false);
     }
+    let reply = site.step(store, keeper, command, 0)?;
+    let bytes = bytes_of(alloc, &reply)?;
+    Ok(bytes.as_slice() == text.as_bytes())
 }
 
 #[test]
-fn two_writes(rt: HostRuntime) -> Result<(), Fail> {
+fn a_log_is_archived(rt: HostRuntime) -> Result<(), Fail> {
+    let alloc = rt.alloc();
+    let mut store = store(alloc, 0)?;
+    let mut keeper = keeper(alloc, Seq::new(alloc), 0)?;
+    let Ok(mut site) = Site::open(alloc, &mut keeper) else {
+        return Err("not opened".into());
+    };
     let steps = [
         (CREATE, "database 1 incarnation 1 at 1\n"),
         (
             Command::CreateDatafile { blocks: 4 },
             "datafile 1 created at 1 with 4 blocks\n",
         ),
-        (write(Block::padded(b"AA")), "scn 2\n"),
-        (write(Block::padded(b"BB")), "scn 3\n"),
+        (write(b"AA"), "scn 2\n"),
+        (write(b"BB"), "scn 3\n"),
         (
-            test_until(4),
-            "until 4 of incarnation 1: files 1\ndatafile 1: 4 blocks, 1 written\nblock 0 version 3 value 4242\n",
+            Command::ArchiveLogCurrent,
+            "log 1 thread 1 sequence 1 first 1 next 4\n",
         ),
+        (CREATE, "RM-03: a database is there\n"),
     ];
-    let mut site = Site::new(rt.alloc());
     for (command, text) in steps {
-        assert!(rt; is_command(&command));
-        shows(&rt, rt.alloc(), &site.step(&command)?, text)?;
+        let is = is_answered(alloc, &mut site, &mut store, &mut keeper, &command, text);
+        assert!(rt; matches!(is, Ok(true)), "{text}");
     }
+    let Ok(Some(bytes)) = store.get("log_1") else {
+        return Err("no log".into());
+    };
+    assert_eq!(rt; bytes.as_slice().len(), 230);
+    let Ok(records) = keeper.load() else {
+        return Err("no records".into());
+    };
+    // The base facts, an incarnation, a datafile, a log and a mark.
+    assert_eq!(rt; records.as_slice().len(), 5);
     Ok(())
 }
 
-// A redo thread holds 65,536 changes. After a switch it takes more.
 #[test]
-fn a_full_log(rt: HostRuntime) -> Result<(), Fail> {
+fn a_put_that_fails_stops(rt: HostRuntime) -> Result<(), Fail> {
     let alloc = rt.alloc();
-    let write = write(Block::padded(b"AA"));
-    let datafile = Command::CreateDatafile { blocks: 1 };
-    let switch = Command::SwitchLogfile { thread: 1 };
-    assert!(rt; is_command(&write) && is_command(&datafile) && is_command(&switch));
-    let mut site = Site::new(alloc);
-    site.step(&CREATE)?;
-    site.step(&datafile)?;
-    for _ in 0..65_535 {
-        site.step(&write)?;
+    let mut store = store(alloc, 1)?;
+    let mut keeper = keeper(alloc, Seq::new(alloc), 0)?;
+    let Ok(mut site) = Site::open(alloc, &mut keeper) else {
+        return Err("not opened".into());
+    };
+    for command in [CREATE, Command::CreateDatafile { blocks: 1 }] {
+        let is = is_answered(alloc, &mut site, &mut store, &mut keeper, &command, "");
+        assert!(rt; is.is_ok());
     }
-    shows(&rt, alloc, &site.step(&write)?, "scn 65537\n")?;
-    let full = "RM-11: limit log records 65536\n";
-    shows(&rt, alloc, &site.step(&write)?, full)?;
-    let archived = "log 1 thread 1 sequence 1 first 1 next 65538\n";
-    shows(&rt, alloc, &site.step(&switch)?, archived)?;
-    shows(&rt, alloc, &site.step(&write)?, "scn 65538\n")
-}
-
-#[test]
-fn a_new_database(rt: HostRuntime) -> Result<(), Fail> {
-    let database = Database::new(rt.alloc(), 1, 4, 9)?;
-    assert_eq!(rt; database.now(), 9);
-    assert_eq!(rt; database.redo_end(), 9);
-    assert_eq!(rt; database.files(), 0);
-    assert_eq!(rt; database.blocks(), 0);
+    let archive = Command::ArchiveLogCurrent;
+    let is = is_answered(alloc, &mut site, &mut store, &mut keeper, &archive, "");
+    assert!(rt; matches!(is, Err(Stop::StoreFault)));
+    assert!(rt; !site.live());
     Ok(())
 }
 
 #[test]
-fn a_refusal(rt: HostRuntime) -> Result<(), Fail> {
-    let reply = refusal_reply(rt.alloc(), Refusal::Rm15)?;
-    assert!(rt; reply.refused);
-    shows(&rt, rt.alloc(), &reply, "RM-15: last SCN\n")
+fn an_apply_that_fails_stops(rt: HostRuntime) -> Result<(), Fail> {
+    let alloc = rt.alloc();
+    let mut store = store(alloc, 0)?;
+    let mut keeper = keeper(alloc, Seq::new(alloc), 1)?;
+    let Ok(mut site) = Site::open(alloc, &mut keeper) else {
+        return Err("not opened".into());
+    };
+    let is = is_answered(alloc, &mut site, &mut store, &mut keeper, &CREATE, "");
+    assert!(rt; matches!(is, Err(Stop::KeeperFault)));
+    Ok(())
+}
+
+#[test]
+fn the_first_record_is_told(rt: HostRuntime) -> Result<(), Fail> {
+    let alloc = rt.alloc();
+    let mut records = Seq::new(alloc);
+    for id in [3, 2, 4] {
+        records.push(Record::Mark(MarkEntry {
+            id,
+            moment: 0,
+            inc: 1,
+            scn: 1,
+        }))?;
+    }
+    let mut keeper = keeper(alloc, records, 0)?;
+    let opened = Site::open(alloc, &mut keeper);
+    assert!(rt; matches!(opened, Err(OpenFault::BadRow(6, 2))));
+    Ok(())
 }

@@ -1,2 +1,4 @@
+pub mod Calls
 pub mod Runs
 pub mod Scripts
+pub mod Statements

@@ -1,37 +1,83 @@
 -- A run goes on by one statement.
-use Rattle.std.proofs.Common.{◌≡◌, ◌+◌, ◌∙◌, ◌++◌, ◌||◌, ℕ, List, [], ◌∷◌, Option, None, Bool, true, false, refl, ap, sym, subst, arith, take, drop, length}
+use Rattle.std.proofs.Common.{◌≡◌, ◌+◌, ◌∙◌, ◌++◌, ◌||◌, ℕ, zero, suc, List, [], ◌∷◌, Option, Some, None, IfSome, Bool, true, false, refl, ap, sym, subst, arith, take, drop, length}
 use Rattle.std.specs.List.{list_any}
 use Rattle.std.proofs.lemmas.Grind.{flat_map-append}
 use Rattle.std.proofs.lemmas.List.{length-append}
 use Rattle.std.proofs.Math.Seq.{take-add, take-append_seam, drop-append_seam}
-use Rattle.rm_base.specs.declared.block.Change.{Change}
 use Rattle.rm_base.specs.Outside.{Appends}
+use Rattle.rm_base.specs.Store.{Held, Answers, Both}
 use Rattle.rm_base.proofs.Streams.{appends-then, appends-nothing}
+use Rattle.rm_catalog.specs.declared.record.Record.{Record}
+use Rattle.rm_lang.specs.declared.command.Command.{Command}
+use Rattle.rm_lang.specs.Language.{command_at}
 use Rattle.rm_token.specs.declared.token.Token.{Token}
-use Rattle.rm_token.specs.Statements.{statements}
 use Rattle.rm_report.specs.declared.line.Reply.{Reply}
 use Rattle.rm_report.specs.Text.{reply_text}
-use Rattle.rm_site.specs.Parts.{Parts}
-use Rattle.rm_site.specs.Machine.{Machine, Holds, machine, nothing}
+use Rattle.rm_site.specs.Holds.{Holds}
+use Rattle.rm_site.specs.Machine.{Machine}
+use Rattle.rm_site.specs.View.{View, Stands}
 use Rattle.rm_tool.specs.Ends.{WritesFront}
-use Rattle.rm_tool.specs.Run.{StatementStep, Run}
-use Rattle.rm_tool.specs.Serving.{StatementSteps, Serves, Stays, Falls}
-use Rattle.rm_tool.specs.Session.{Script, Halts, at_statement, Falters, in_replies, replies_text}
+use Rattle.rm_tool.specs.Run.{StepOf, StatementStep, past, Run, AreToCome}
+use Rattle.rm_tool.specs.Serving.{IsPast, IsServed, Serves, Stays, Falls}
+use Rattle.rm_tool.specs.Session.{replies_text}
 
--- a run over these statements from no database on to this site, whose replies were written
-pub record Progress (ss : List (ℕ × List Token)) (site : Option Parts) (before now : Option (List ℕ)) (refused : Bool) : Type 0 where
+-- a run over these statements, from one machine on to another, as far as it came: each run that goes on from there
+-- is one from the beginning, at the answers of the clock
+abbrev pub Extends : Machine → Option Answers → List (ℕ × List Token) → List Reply → Machine → Option Answers → Type 0
+Extends first told ss rs mid now =
+    (answers : Answers) → AreToCome now answers → (ts : List (ℕ × List Token)) → (qs : List Reply) → (last : Machine) → Run mid answers ts qs last
+    → (all : Answers) × AreToCome told all × Run first all (ss ++ ts) (rs ++ qs) last
+
+-- a run over these statements from one machine on to one that the site stands for, whose replies were written
+pub record Progress (ss : List (ℕ × List Token)) (told now : Option Answers) (before written : Option (List ℕ)) (held : Option Held) (kept : Option (List Record)) (site : View) (refused : Bool) (first : Machine) : Type 0 where
   pub replies : List Reply
-  pub history : List Change
-  pub run : Run nothing ss replies (machine site history)
-  pub holds : Holds site history
-  pub written : Appends before now (replies_text replies)
+  pub mid : Machine
+  pub extends : Extends first told ss replies mid now
+  pub stands : Stands site mid
+  pub holds : Holds held kept mid
+  pub appends : Appends before written (replies_text replies)
   pub some : refused ≡ list_any (λ r. r.refused) replies
 
-run-push : (old mid new : Machine) (ss : List (ℕ × List Token)) (rs : List Reply) (s : ℕ × List Token) (r : Reply) → Run old ss rs mid → StatementStep mid s r new → Run old (ss ++ s ∷ []) (rs ++ r ∷ []) new
-run-push old mid new [] [] s r h step = (new, subst (λ (m : Machine). StatementStep m s r new) h step, refl)
-run-push old mid new (t ∷ ss) (q ∷ rs) s r h step = (h.0, h.1, run-push h.0 mid new ss rs s r h.2 step)
-run-push old mid new [] (q ∷ rs) s r h step = absurd h
-run-push old mid new (t ∷ ss) [] s r h step = absurd h
+-- an answer before others
+abbrev before_all : ℕ → Answers → Answers
+before_all a f zero = a
+before_all a f (suc i) = f i
+
+-- the answers from a statement on
+abbrev from : Option Command → ℕ → Answers → Answers
+from None a f = f
+from (Some c) a f = before_all a f
+
+step-from : (o : Option Command) (old new : Machine) (line a : ℕ) (f : Answers) (r : Reply) → StepOf o old line a r new → StepOf o old line (from o a f 0) r new
+step-from None old new line a f r h = h
+step-from (Some c) old new line a f r h = h
+
+past-from : (o : Option Command) (a : ℕ) (f : Answers) → past o (from o a f) ≡ f
+past-from None a f = refl
+past-from (Some c) a f = refl
+
+told-from : (o : Option Command) (a : ℕ) (f : Answers) (now later : Option Answers) → IfSome now (λ coming. a ≡ coming 0) → Both (IsPast o) now later → AreToCome later f → AreToCome now (from o a f)
+told-from o a f None later next passed told = tt
+told-from o a f (Some b) None next passed told = absurd passed
+told-from None a f (Some b) (Some l) next passed told = λ i. told i ∙ passed i
+told-from (Some c) a f (Some b) (Some l) next passed told = at
+  where
+    at : (i : ℕ) → before_all a f i ≡ b i
+    at zero = next
+    at (suc i) = told i ∙ passed i
+
+behind : {A : Type 0} (xs : List A) (x : A) (ys : List A) → xs ++ (x ∷ ys) ≡ (xs ++ x ∷ []) ++ ys
+behind [] x ys = refl
+behind (z ∷ xs) x ys = ap (λ zs. z ∷ zs) (behind xs x ys)
+
+-- one statement more
+extends-more : (first : Machine) (told now later : Option Answers) (ss : List (ℕ × List Token)) (rs : List Reply) (mid new : Machine) (s : ℕ × List Token) (r : Reply) (a : ℕ) → Extends first told ss rs mid now → IfSome now (λ coming. a ≡ coming 0) → Both (IsPast (command_at s.1)) now later → StatementStep mid s a r new → Extends first told (ss ++ s ∷ []) (rs ++ r ∷ []) new later
+extends-more first told now later ss rs mid new s r a extends next passed step = λ answers come ts qs last run.
+    let o : Option Command = command_at s.1 in
+    let rest : Run new (past o (from o a answers)) ts qs last = subst (λ (f : Answers). Run new f ts qs last) (sym (past-from o a answers)) run in
+    let all = extends (from o a answers) (told-from o a answers now later next passed come) (s ∷ ts) (r ∷ qs) last (new, step-from o mid new s.0 a answers r step, rest) in
+    let seamed : Run first all.0 ((ss ++ s ∷ []) ++ ts) (rs ++ (r ∷ qs)) last = subst (λ (us : List (ℕ × List Token)). Run first all.0 us (rs ++ (r ∷ qs)) last) (behind ss s ts) all.2 in
+    (all.0, all.1, subst (λ (us : List Reply). Run first all.0 ((ss ++ s ∷ []) ++ ts) us last) (behind rs r qs) seamed)
 
 any-push : (rs : List Reply) (r : Reply) → list_any (λ q. q.refused) (rs ++ r ∷ []) ≡ (list_any (λ q. q.refused) rs || r.refused)
 any-push [] r = or-false r.refused
@@ -45,7 +91,7 @@ any-push (q ∷ rs) r = ap (λ b. q.refused || b) (any-push rs r) ∙ or-assoc q
     or-assoc true b c = refl
     or-assoc false b c = refl
 
-nothing-behind : (xs : List ℕ) → xs ++ [] ≡ xs
+nothing-behind : {A : Type 0} (xs : List A) → xs ++ [] ≡ xs
 nothing-behind [] = refl
 nothing-behind (x ∷ xs) = ap (λ ys. x ∷ ys) (nothing-behind xs)
 
@@ -53,31 +99,81 @@ text-push : (rs : List Reply) (r : Reply) → replies_text (rs ++ r ∷ []) ≡ 
 text-push rs r = flat_map-append reply_text rs (r ∷ []) ∙ ap (λ t. replies_text rs ++ t) (nothing-behind (reply_text r))
 
 -- before the first statement
-pub progress-none : (o : Option (List ℕ)) → Progress [] None o o false
-progress-none o = record { replies = []; history = []; run = refl; holds = refl; written = appends-nothing o; some = refl }
+pub progress-none : (told : Option Answers) (o : Option (List ℕ)) (held : Option Held) (kept : Option (List Record)) (site : View) (first : Machine) → Stands site first → Holds held kept first → Progress [] told told o o held kept site false first
+progress-none told o held kept site first stands holds =
+    record {
+      replies = [];
+      mid = first;
+      extends = λ answers come ts qs last run. (answers, come, run);
+      stands = stands;
+      holds = holds;
+      appends = appends-nothing o;
+      some = refl;
+    }
 
--- one statement more, whose reply was written
-pub progress-more : (ss : List (ℕ × List Token)) (s : ℕ × List Token) (r : Reply) (old new : Option Parts) (before now after : Option (List ℕ)) (refused : Bool) → Progress ss old before now refused → StatementSteps old new s r → Appends now after (reply_text r) → Progress (ss ++ s ∷ []) new before after (refused || r.refused)
-progress-more ss s r old new before now after refused p steps grows =
-    let next = steps p.history p.holds in
+-- a statement was served, and its reply was not written yet
+pub record Reached (ss : List (ℕ × List Token)) (told now : Option Answers) (before written : Option (List ℕ)) (held : Option Held) (kept : Option (List Record)) (site : View) (refused : Bool) (r : Reply) (first : Machine) : Type 0 where
+  pub replies : List Reply
+  pub mid : Machine
+  pub extends : Extends first told ss (replies ++ r ∷ []) mid now
+  pub stands : Stands site mid
+  pub holds : Holds held kept mid
+  pub appends : Appends before written (replies_text replies)
+  pub some : refused ≡ list_any (λ q. q.refused) replies
+
+pub progress-reached : (ss : List (ℕ × List Token)) (told now later : Option Answers) (before written : Option (List ℕ)) (held held' : Option Held) (kept kept' : Option (List Record)) (site site' : View) (refused : Bool) (s : ℕ × List Token) (r : Reply) (first : Machine) → Progress ss told now before written held kept site refused first → IsServed held kept site now s r held' kept' site' later → Reached (ss ++ s ∷ []) told later before written held' kept' site' refused r first
+progress-reached ss told now later before written held held' kept kept' site site' refused s r first p served =
+    let next = served.steps p.mid p.stands p.holds in
+    record {
+      replies = p.replies;
+      mid = next.0;
+      extends = extends-more first told now later ss p.replies p.mid next.0 s r served.answer p.extends served.next served.past next.1;
+      stands = next.2;
+      holds = next.3;
+      appends = p.appends;
+      some = p.some;
+    }
+
+-- its reply was written
+pub reached-more : (ss : List (ℕ × List Token)) (told now : Option Answers) (before written after : Option (List ℕ)) (held : Option Held) (kept : Option (List Record)) (site : View) (refused : Bool) (r : Reply) (first : Machine) → Reached ss told now before written held kept site refused r first → Appends written after (reply_text r) → Progress ss told now before after held kept site (refused || r.refused) first
+reached-more ss told now before written after held kept site refused r first p grows =
     record {
       replies = p.replies ++ r ∷ [];
-      history = next.0;
-      run = run-push nothing (machine old p.history) (machine new next.0) ss p.replies s r p.run next.1;
-      holds = next.2;
-      written = subst (Appends before after) (sym (text-push p.replies r)) (appends-then before now after (replies_text p.replies) (reply_text r) p.written grows);
+      mid = p.mid;
+      extends = p.extends;
+      stands = p.stands;
+      holds = p.holds;
+      appends = subst (Appends before after) (sym (text-push p.replies r)) (appends-then before written after (replies_text p.replies) (reply_text r) p.appends grows);
       some = ap (λ b. b || r.refused) p.some ∙ sym (any-push p.replies r);
     }
 
--- all statements were served
-pub progress-serves : (ss : List (ℕ × List Token)) (site : Option Parts) (before now : Option (List ℕ)) (refused : Bool) → Progress ss site before now refused → Serves ss before now refused
-progress-serves ss site before now refused p =
-    record { replies = p.replies; last = machine site p.history; run = p.run; written = p.written; some = p.some }
+-- answers that a clock may give from here on
+abbrev pub answers_from : Option Answers → Answers
+answers_from None = λ i. 0
+answers_from (Some coming) = coming
 
--- memory was wanting at the statement i
-pub progress-stays : (ss : List (ℕ × List Token)) (i : ℕ) (site : Option Parts) (before now : Option (List ℕ)) (refused : Bool) → Progress (take i ss) site before now refused → Stays ss before now
-progress-stays ss i site before now refused p =
-    record { replies = p.replies; first = record { count = i; last = machine site p.history; run = p.run }; written = p.written }
+come-from : (now : Option Answers) → AreToCome now (answers_from now)
+come-from None = tt
+come-from (Some coming) = λ i. refl
+
+-- the run ends here
+extends-ends : (first : Machine) (told now : Option Answers) (ss : List (ℕ × List Token)) (rs : List Reply) (mid : Machine) → Extends first told ss rs mid now → (all : Answers) × AreToCome told all × Run first all ss rs mid
+extends-ends first told now ss rs mid extends =
+    let all = extends (answers_from now) (come-from now) [] [] mid refl in
+    let short : Run first all.0 ss (rs ++ []) mid = subst (λ (us : List (ℕ × List Token)). Run first all.0 us (rs ++ []) mid) (nothing-behind ss) all.2 in
+    (all.0, all.1, subst (λ (us : List Reply). Run first all.0 ss us mid) (nothing-behind rs) short)
+
+-- all statements were served
+pub progress-serves : (ss : List (ℕ × List Token)) (told now : Option Answers) (before written : Option (List ℕ)) (held : Option Held) (kept : Option (List Record)) (site : View) (refused : Bool) (first : Machine) → Progress ss told now before written held kept site refused first → Serves ss told before written held kept refused first
+progress-serves ss told now before written held kept site refused first p =
+    let all = extends-ends first told now ss p.replies p.mid p.extends in
+    record { answers = all.0; told = all.1; replies = p.replies; last = p.mid; run = all.2; holds = p.holds; written = p.appends; some = p.some }
+
+-- the statement i was not answered
+pub progress-stays : (ss : List (ℕ × List Token)) (i : ℕ) (told now : Option Answers) (before written : Option (List ℕ)) (held : Option Held) (kept : Option (List Record)) (site : View) (refused : Bool) (first : Machine) → Progress (take i ss) told now before written held kept site refused first → Stays ss told before written first
+progress-stays ss i told now before written held kept site refused first p =
+    let all = extends-ends first told now (take i ss) p.replies p.mid p.extends in
+    record { replies = p.replies; begun = record { answers = all.0; told = all.1; count = i; last = p.mid; run = all.2 }; written = p.appends }
 
 -- a front of a text behind another
 take-behind : (xs ys : List ℕ) (n : ℕ) → take (length xs + n) (xs ++ ys) ≡ xs ++ take n ys
@@ -90,22 +186,12 @@ front-behind before now after xs ys h (n, within, k) = (
   subst (Appends before after) (sym (take-behind xs ys n)) (appends-then before now after xs (take n ys) h k),
 )
 
--- the sink failed in the reply to the statement s
-pub progress-falls : (ss : List (ℕ × List Token)) (i : ℕ) (s : ℕ × List Token) (r : Reply) (old new : Option Parts) (before now after : Option (List ℕ)) (refused : Bool) → take (i + 1) ss ≡ take i ss ++ s ∷ [] → Progress (take i ss) old before now refused → StatementSteps old new s r → WritesFront now after (reply_text r) → Falls ss before after
-progress-falls ss i s r old new before now after refused more p steps front =
-    let next = steps p.history p.holds in
-    let run : Run nothing (take i ss ++ s ∷ []) (p.replies ++ r ∷ []) (machine new next.0) = run-push nothing (machine old p.history) (machine new next.0) (take i ss) p.replies s r p.run next.1 in
+-- the sink failed in the reply to a statement
+pub reached-falls : (ss : List (ℕ × List Token)) (n : ℕ) (told now : Option Answers) (before written after : Option (List ℕ)) (held : Option Held) (kept : Option (List Record)) (site : View) (refused : Bool) (r : Reply) (first : Machine) → Reached (take n ss) told now before written held kept site refused r first → WritesFront written after (reply_text r) → Falls ss told before after first
+reached-falls ss n told now before written after held kept site refused r first p front =
+    let all = extends-ends first told now (take n ss) (p.replies ++ r ∷ []) p.mid p.extends in
     record {
       replies = p.replies ++ r ∷ [];
-      first = record { count = i + 1; last = machine new next.0; run = subst (λ ts. Run nothing ts (p.replies ++ r ∷ []) (machine new next.0)) (sym more) run };
-      written = subst (WritesFront before after) (sym (text-push p.replies r)) (front-behind before now after (replies_text p.replies) (reply_text r) p.written front);
+      begun = record { answers = all.0; told = all.1; count = n; last = p.mid; run = all.2 };
+      written = subst (WritesFront before after) (sym (text-push p.replies r)) (front-behind before written after (replies_text p.replies) (reply_text r) p.appends front);
     }
-
--- what serving left, of the script that was read
-pub stays-halts : (left rest before now : Option (List ℕ)) (script : List ℕ) → Script left rest script → Stays (statements script) before now → Halts left rest before now
-stays-halts left rest before now script read s =
-    at_statement s.replies (record { script = script; read = read; count = s.first.count; last = s.first.last; run = s.first.run }) s.written
-
-pub falls-falters : (words : List (List ℕ)) (left rest before now : Option (List ℕ)) (script : List ℕ) → Script left rest script → Falls (statements script) before now → Falters words left rest before now
-falls-falters words left rest before now script read s =
-    in_replies s.replies (record { script = script; read = read; count = s.first.count; last = s.first.last; run = s.first.run }) s.written

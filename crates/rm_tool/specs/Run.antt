@@ -1,22 +1,38 @@
--- The machine's run over the statements of a script.
-use Rattle.std.specs.Prelude.{ℕ, ◌≡◌, MatchOption, List, [], ◌∷◌}
+-- The machine's run over the statements of a script, and the clock's answers to them.
+use Rattle.std.specs.Prelude.{ℕ, suc, ◌≡◌, Option, Some, None, IfSome, List, [], ◌∷◌}
+use Rattle.rm_base.specs.Store.{Answers}
 use Rattle.rm_base.specs.declared.refusal.Refusal.TheVariants.{Rm01}
 use Rattle.rm_token.specs.declared.token.Token.{Token}
+use Rattle.rm_lang.specs.declared.command.Command.{Command}
 use Rattle.rm_lang.specs.Language.{command_at}
 use Rattle.rm_report.specs.declared.line.Reply.{Reply}
 use Rattle.rm_report.specs.Reply.{refused_by}
 use Rattle.rm_site.specs.Machine.{Machine}
 use Rattle.rm_site.specs.Step.{Step}
 
--- A statement with the line of its first token: one that is not of the grammar is refused and changes
+-- A statement of this line, where the clock answers so: one that is no command is refused and changes
 -- nothing, and each other one is a step of the machine.
-abbrev pub StatementStep : Machine → ℕ × List Token → Reply → Machine → Type 0
-StatementStep old s reply new =
-    MatchOption (command_at s.1) ((reply ≡ refused_by (Rm01 s.0)) × (new ≡ old)) (λ c. Step old c reply new)
+abbrev pub StepOf : Option Command → Machine → ℕ → ℕ → Reply → Machine → Type 0
+StepOf None old line clock reply new = (reply ≡ refused_by (Rm01 line)) × (new ≡ old)
+StepOf (Some c) old line clock reply new = Step old c clock reply new
 
--- the machine gives these replies to these statements, one step after another
-abbrev pub Run : Machine → List (ℕ × List Token) → List Reply → Machine → Type 0
-Run old [] [] new = new ≡ old
-Run old (s ∷ ss) (r ∷ rs) new = (mid : Machine) × StatementStep old s r mid × Run mid ss rs new
-Run old [] (r ∷ rs) new = ⊥
-Run old (s ∷ ss) [] new = ⊥
+-- a statement with the line of its first token
+abbrev pub StatementStep : Machine → ℕ × List Token → ℕ → Reply → Machine → Type 0
+StatementStep old s clock reply new = StepOf (command_at s.1) old s.0 clock reply new
+
+-- the answers after a statement: a command uses one, and what is none uses none
+abbrev pub past : Option Command → Answers → Answers
+past None answers = answers
+past (Some c) answers = λ i. answers (suc i)
+
+-- the machine gives these replies to these statements, one step after another, where the clock gives these answers
+abbrev pub Run : Machine → Answers → List (ℕ × List Token) → List Reply → Machine → Type 0
+Run old answers [] [] new = new ≡ old
+Run old answers (s ∷ ss) (r ∷ rs) new =
+    (mid : Machine) × StatementStep old s (answers 0) r mid × Run mid (past (command_at s.1) answers) ss rs new
+Run old answers [] (r ∷ rs) new = ⊥
+Run old answers (s ∷ ss) [] new = ⊥
+
+-- where the clock tells its answers to come, they are these
+abbrev pub AreToCome : Option Answers → Answers → Type 0
+AreToCome told answers = IfSome told (λ coming. (i : ℕ) → answers i ≡ coming i)

@@ -1,43 +1,79 @@
 -- What serving the statements of a script leaves.
-use Rattle.std.specs.Prelude.{ℕ, ◌≡◌, Bool, Option, List, take}
+use Rattle.std.specs.Prelude.{ℕ, ◌≡◌, Bool, Option, IfSome, List, take}
 use Rattle.std.specs.List.{list_any}
-use Rattle.rm_base.specs.declared.block.Change.{Change}
 use Rattle.rm_base.specs.Outside.{Appends}
+use Rattle.rm_base.specs.Store.{Held, Answers, Both}
+use Rattle.rm_catalog.specs.declared.record.Record.{Record}
+use Rattle.rm_change.specs.declared.change.Stop.{Stop}
+use Rattle.rm_change.specs.declared.change.Stop.TheVariants as stop
+use Rattle.rm_lang.specs.declared.command.Command.{Command}
+use Rattle.rm_lang.specs.Language.{command_at}
 use Rattle.rm_token.specs.declared.token.Token.{Token}
 use Rattle.rm_report.specs.declared.line.Reply.{Reply}
-use Rattle.rm_site.specs.Machine.{Machine, Holds, machine, nothing}
-use Rattle.rm_site.specs.Parts.{Parts}
+use Rattle.rm_site.specs.Holds.{Holds}
+use Rattle.rm_site.specs.Machine.{Machine}
+use Rattle.rm_site.specs.View.{View, Stands}
+use Rattle.rm_tool.specs.declared.session.Halt.{Halt}
+use Rattle.rm_tool.specs.declared.session.Halt.TheVariants as halt
 use Rattle.rm_tool.specs.Ends.{WritesFront}
-use Rattle.rm_tool.specs.Run.{StatementStep, Run}
+use Rattle.rm_tool.specs.Run.{StatementStep, Run, past, AreToCome}
 use Rattle.rm_tool.specs.Session.{replies_text}
 
--- whatever history the site stands for, the step is the machine's, and the site stands for the history after it
-abbrev pub StatementSteps : Option Parts → Option Parts → ℕ × List Token → Reply → Type 0
-StatementSteps old new s reply =
-    (h : List Change) → Holds old h → (k : List Change) × StatementStep (machine old h) s reply (machine new k) × Holds new k
+-- what ends a session where the site was stopped
+abbrev pub halt_of : Stop → Halt
+halt_of stop.StoreFault = halt.Store
+halt_of stop.KeeperFault = halt.Keeper
+halt_of stop.NoMemory = halt.NoMemory
 
--- all replies were written, and `refused` says whether one is a refusal
-pub record Serves (ss : List (ℕ × List Token)) (before now : Option (List ℕ)) (refused : Bool) : Type 0 where
+-- the clock was asked once for a command, and not for what is none
+abbrev pub IsPast : Option Command → Answers → Answers → Type 0
+IsPast c before after = (i : ℕ) → after i ≡ past c before i
+
+-- Whatever machine the site stands for, the step is that machine's, where the clock answered so, and the site
+-- stands for the one after it.
+abbrev pub StatementSteps : Option Held → Option (List Record) → View → ℕ × List Token → ℕ → Reply → Option Held → Option (List Record) → View → Type 0
+StatementSteps held kept v s clock reply held' kept' v' =
+    (m : Machine) → Stands v m → Holds held kept m → (n : Machine) × StatementStep m s clock reply n × Stands v' n × Holds held' kept' n
+
+-- a step of the machine at the clock's next answer
+pub record IsServed (held : Option Held) (kept : Option (List Record)) (v : View) (clock : Option Answers) (s : ℕ × List Token) (reply : Reply) (held' : Option Held) (kept' : Option (List Record)) (v' : View) (clock' : Option Answers) : Type 0 where
+  pub answer : ℕ
+  pub next : IfSome clock (λ coming. answer ≡ coming 0)
+  pub past : Both (IsPast (command_at s.1)) clock clock'
+  pub steps : StatementSteps held kept v s answer reply held' kept' v'
+
+-- whatever machine the site stands for, this is so of it
+abbrev pub FromEach : Option Held → Option (List Record) → View → (Machine → Type 0) → Type 0
+FromEach held kept v Is = (m : Machine) → Stands v m → Holds held kept m → Is m
+
+-- From the machine `first` on all replies were written, and `refused` says whether one is a refusal. The store
+-- and the keeper hold what the machine has at the end.
+pub record Serves (ss : List (ℕ × List Token)) (clock : Option Answers) (before now : Option (List ℕ)) (held : Option Held) (kept : Option (List Record)) (refused : Bool) (first : Machine) : Type 0 where
+  pub answers : Answers
+  pub told : AreToCome clock answers
   pub replies : List Reply
   pub last : Machine
-  pub run : Run nothing ss replies last
+  pub run : Run first answers ss replies last
+  pub holds : Holds held kept last
   pub written : Appends before now (replies_text replies)
   pub some : refused ≡ list_any (λ r. r.refused) replies
 
 -- the machine gave these replies to the first statements
-pub record First (ss : List (ℕ × List Token)) (replies : List Reply) : Type 0 where
+pub record Begun (ss : List (ℕ × List Token)) (clock : Option Answers) (replies : List Reply) (first : Machine) : Type 0 where
+  pub answers : Answers
+  pub told : AreToCome clock answers
   pub count : ℕ
   pub last : Machine
-  pub run : Run nothing (take count ss) replies last
+  pub run : Run first answers (take count ss) replies last
 
 -- the replies to the first statements were written, and nothing else
-pub record Stays (ss : List (ℕ × List Token)) (before now : Option (List ℕ)) : Type 0 where
+pub record Stays (ss : List (ℕ × List Token)) (clock : Option Answers) (before now : Option (List ℕ)) (first : Machine) : Type 0 where
   pub replies : List Reply
-  pub first : First ss replies
+  pub begun : Begun ss clock replies first
   pub written : Appends before now (replies_text replies)
 
 -- a front of the replies to the first statements was written
-pub record Falls (ss : List (ℕ × List Token)) (before now : Option (List ℕ)) : Type 0 where
+pub record Falls (ss : List (ℕ × List Token)) (clock : Option Answers) (before now : Option (List ℕ)) (first : Machine) : Type 0 where
   pub replies : List Reply
-  pub first : First ss replies
+  pub begun : Begun ss clock replies first
   pub written : WritesFront before now (replies_text replies)

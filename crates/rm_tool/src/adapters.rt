@@ -1,8 +1,10 @@
-//! A reader as a source, and a writer as a sink. Contracts see nothing of their bytes.
+//! A reader as a source, a writer as a sink, and the machine's clock. Contracts see nothing of their bytes
+//! or of its answers.
 ghost use Rattle.std.specs.Prelude.{◌≡◌, false};
 
-use rm_base::{Failed, Sink, Source};
+use rm_base::{Clock, Failed, Sink, Source};
 use std::io::{Read, Write};
+use std::time::{SystemTime, UNIX_EPOCH};
 
 /// A reader as a source. Each error of the reader is a fault, an interrupted call too.
 #[derive(Drop)]
@@ -85,5 +87,35 @@ impl<W: Write + Drop> Sink for WriteSink<W> {
                 Err(Failed)
             }
         }
+    }
+}
+
+/// The machine's clock, in whole seconds since 1970-01-01 UTC. Where it can't be read it repeats its
+/// last answer, which is 0 at first.
+#[derive(Drop)]
+pub struct SystemClock<'a> {
+    rt: &'a HostRuntime,
+    last: u64,
+}
+
+impl<'a> SystemClock<'a> {
+    /// A clock that was not asked.
+    pub fn new(rt: &'a HostRuntime) -> Self {
+        SystemClock { rt, last: 0 }
+    }
+}
+
+impl Clock for SystemClock<'_> {
+    ghost use Rattle.std.specs.Prelude.{None};
+
+    ghost answers = { λ _. None };
+
+    fn now(&mut self) -> u64 {
+        if let Ok(now) = SystemTime::now(self.rt) {
+            if let Ok(since) = now.duration_since(UNIX_EPOCH) {
+                self.last = since.as_secs();
+            }
+        }
+        self.last
     }
 }

@@ -7,6 +7,7 @@ mod ends;
 mod faults;
 #[cfg(test)]
 mod incarnations;
+mod opening;
 #[cfg(test)]
 mod refusals;
 #[cfg(test)]
@@ -14,23 +15,57 @@ mod rows;
 mod run;
 mod session;
 #[cfg(test)]
+mod stops;
+#[cfg(test)]
 mod tests;
 #[cfg(test)]
 mod trials;
 mod words;
 
-use adapters::{ReadSource, WriteSink};
-use rm_base::Text;
+use adapters::{ReadSource, SystemClock, WriteSink};
+use rm_base::{Failing, MemStore, Seq, StoreFailing, Text};
+use rm_catalog::MemKeeper;
+use std::alloc::Global;
 use std::process::ExitCode;
 use std::{env, io};
 
+// None of the calls fails.
+fn never(alloc: Global) -> Failing {
+    Failing::new(Vec::new(alloc))
+}
+
+// A store that holds nothing.
+fn empty_store(alloc: Global) -> MemStore {
+    let failing = StoreFailing {
+        gets: never(alloc),
+        puts: never(alloc),
+        removes: never(alloc),
+        names: never(alloc),
+    };
+    MemStore::new(alloc, failing)
+}
+
 fn main(rt: HostRuntime) -> io::Result<ExitCode> {
-    let mut words = Vec::new(rt.alloc());
+    let alloc = rt.alloc();
+    let mut words = Vec::new(alloc);
     for word in env::args(&rt)?.skip(1) {
         words.push(Text::from_string(word))?;
     }
     let mut source = ReadSource::new(rt.reader());
     let mut sink = WriteSink::new(io::writer(&rt));
-    let status = run::run(rt.alloc(), &words, &mut source, &mut sink);
+    let mut store = empty_store(alloc);
+    let Ok(mut keeper) = MemKeeper::new(Seq::new(alloc), never(alloc), never(alloc)) else {
+        return Ok(ExitCode::from(7));
+    };
+    let mut clock = SystemClock::new(&rt);
+    let status = run::run(
+        alloc,
+        &words,
+        &mut source,
+        &mut sink,
+        &mut store,
+        &mut keeper,
+        &mut clock,
+    );
     Ok(ExitCode::from(status))
 }

@@ -1,30 +1,46 @@
 //! The whole run, from the words and the source to the sink.
-ghost use Rattle.std.specs.Prelude.{◌≡◌, ◌<◌, ◌⊎◌, ◌∷◌, [], Contains, IfSome, length, true, false};
+ghost use Rattle.std.specs.Prelude.{◌≡◌, ◌≢◌, ◌<◌, ◌⊎◌, ◌∷◌, [], Contains, IfSome, Some, List, ℕ, length, true, false};
 ghost use Rattle.rm_base.specs.Outside.{Appends, Rose};
+ghost use Rattle.rm_catalog.specs.declared.record.Record.{Record};
 ghost use Rattle.rm_tool.specs.Ends.{Counted, TakesMany};
-ghost use Rattle.rm_tool.specs.Session.{Finishes, Halts, Falters, IsDone, bad_words, over_long};
+ghost use Rattle.rm_tool.specs.Session.{Script, Finishes, Halts, HaltsBy, Falters, Tells, FromNone, IsDone, IsEarly, AreSame, bad_words, over_long};
 ghost use Rattle.rm_tool.specs.Words.{accepts};
 
 use crate::ends::{ReadFault, read_all, write_all};
+use crate::opening::{Unopened, open_site};
 use crate::session::{Halt, serve_all};
 use crate::words::accepts;
-use rm_base::{Sink, Source, Text};
+use rm_base::{Clock, Sink, Source, Store, Text};
+use rm_catalog::Keeper;
 use rm_token::statements;
 use std::alloc::Global;
 
-/// Runs a script against an empty site, and answers the status of the program.
+/// Runs a script against the site of a store and a keeper, and answers the status of the program.
 ///
-/// The words are read first, then the script to its end, then each statement is a step and its reply
-/// is written. The status is
+/// The words are read first, then the script to its end, then the site is opened, and then each
+/// statement is a step and its reply is written. The clock is asked once for each statement of the
+/// grammar. The status is
 /// - 0 where no reply is a refusal, 1 where one is,
 /// - 2 where the words are refused,
 /// - 3 where the source failed, 4 where the sink failed,
+/// - 5 where the store failed, 6 where the keeper failed,
 /// - 7 where memory was wanting,
-/// - 8 where the script has more than 4,194,304 bytes.
-pub fn run<S: Source, K: Sink>(alloc: Global, words: &[Text], source: &mut S, sink: &mut K) -> u8
+/// - 8 where the script has more than 4,194,304 bytes,
+/// - 9 where the keeper has a record, since a saved site can't be opened yet.
+pub fn run<S: Source, K: Sink, D: Store, C: Keeper, T: Clock>(
+    alloc: Global,
+    words: &[Text],
+    source: &mut S,
+    sink: &mut K,
+    store: &mut D,
+    keeper: &mut C,
+    clock: &mut T,
+) -> u8
     // 0 and 1: the headline.
-    ensures done { IsDone result → Finishes (S.left source.old) (S.left source.new) (K.contents sink.old) (K.contents sink.new) result }
+    ensures done { IsDone result → FromNone (D.held store.old) (C.kept keeper.old) (Finishes (S.left source.old) (S.left source.new) (T.answers clock.old) (K.contents sink.old) (K.contents sink.new) (D.held store.new) (C.kept keeper.new) result) }
     ensures ended { IsDone result → S.at_end source.new ≡ true }
+    ensures read { IsDone result → (script : List ℕ) × Script (S.left source.old) (S.left source.new) script }
+    ensures done_from { IsDone result → IfSome (C.kept keeper.old) (λ rs. rs ≡ []) }
 
     // 2: exactly where the words are refused, and their line was written.
     ensures words { result ≡ 2 → accepts words.now ≡ false }
@@ -36,10 +52,16 @@ pub fn run<S: Source, K: Sink>(alloc: Global, words: &[Text], source: &mut S, si
     ensures source { result ≡ 3 → Rose (S.faults source.old) (S.faults source.new) }
     ensures source_written { result ≡ 3 → K.contents sink.new ≡ K.contents sink.old }
     ensures sink { result ≡ 4 → Rose (K.faults sink.old) (K.faults sink.new) }
-    ensures sink_written { result ≡ 4 → Falters words.now (S.left source.old) (S.left source.new) (K.contents sink.old) (K.contents sink.new) }
+    ensures sink_written { result ≡ 4 → Falters words.now (S.left source.old) (S.left source.new) (T.answers clock.old) (K.contents sink.old) (K.contents sink.new) (D.held store.old) (C.kept keeper.old) }
+
+    // 5 and 6: only where the count of that object rose, and what was written then.
+    ensures store { result ≡ 5 → Rose (D.faults store.old) (D.faults store.new) }
+    ensures store_written { result ≡ 5 → FromNone (D.held store.old) (C.kept keeper.old) (Halts (S.left source.old) (S.left source.new) (T.answers clock.old) (K.contents sink.old) (K.contents sink.new)) }
+    ensures keeper { result ≡ 6 → Rose (C.faults keeper.old) (C.faults keeper.new) }
+    ensures keeper_written { result ≡ 6 → HaltsBy (S.left source.old) (S.left source.new) (T.answers clock.old) (K.contents sink.old) (K.contents sink.new) (D.held store.old) (C.kept keeper.old) (D.held store.new) (C.kept keeper.new) }
 
     // 7: what was written.
-    ensures memory_written { result ≡ 7 → Halts (S.left source.old) (S.left source.new) (K.contents sink.old) (K.contents sink.new) }
+    ensures memory_written { result ≡ 7 → HaltsBy (S.left source.old) (S.left source.new) (T.answers clock.old) (K.contents sink.old) (K.contents sink.new) (D.held store.old) (C.kept keeper.old) (D.held store.new) (C.kept keeper.new) }
 
     // 8: exactly where more than the limit was taken, and its line was written.
     ensures long { result ≡ 8 → Counted (S.taken source.old) → TakesMany (S.taken source.old) (S.taken source.new) }
@@ -47,9 +69,16 @@ pub fn run<S: Source, K: Sink>(alloc: Global, words: &[Text], source: &mut S, si
     ensures long_line { result ≡ 8 → Appends (K.contents sink.old) (K.contents sink.new) over_long }
     ensures long_only { Counted (S.taken source.old) → TakesMany (S.taken source.old) (S.taken source.new) → Contains (8 ∷ 4 ∷ 7 ∷ []) result }
 
+    // 9: exactly where the keeper has a record, and the line of the first was written.
+    ensures bad { result ≡ 9 → Tells (C.kept keeper.old) (K.contents sink.old) (K.contents sink.new) }
+    ensures bad_only { (rs : List Record) → accepts words.now ≡ true → Counted (S.taken source.old) → ¬ TakesMany (S.taken source.old) (S.taken source.new) → C.kept keeper.old ≡ Some rs → rs ≢ [] → Contains (9 ∷ 4 ∷ 3 ∷ 6 ∷ 7 ∷ []) result }
+
+    // At 2, 3, 8 and 9 no statement ran.
+    ensures same { IsEarly result → AreSame (D.held store.old) (C.kept keeper.old) (D.held store.new) (C.kept keeper.new) }
+
     // There is no other status, and without a cause there is 0, 1 or 7.
-    ensures statuses { Contains (0 ∷ 1 ∷ 2 ∷ 3 ∷ 4 ∷ 7 ∷ 8 ∷ []) result }
-    ensures complete { accepts words.now ≡ true → Counted (S.taken source.old) → ¬ TakesMany (S.taken source.old) (S.taken source.new) → ¬ Rose (S.faults source.old) (S.faults source.new) → ¬ Rose (K.faults sink.old) (K.faults sink.new) → Contains (0 ∷ 1 ∷ 7 ∷ []) result }
+    ensures statuses { Contains (0 ∷ 1 ∷ 2 ∷ 3 ∷ 4 ∷ 5 ∷ 6 ∷ 7 ∷ 8 ∷ 9 ∷ []) result }
+    ensures complete { accepts words.now ≡ true → Counted (S.taken source.old) → ¬ TakesMany (S.taken source.old) (S.taken source.new) → C.kept keeper.old ≡ Some [] → ¬ Rose (S.faults source.old) (S.faults source.new) → ¬ Rose (K.faults sink.old) (K.faults sink.new) → ¬ Rose (D.faults store.old) (D.faults store.new) → ¬ Rose (C.faults keeper.old) (C.faults keeper.new) → Contains (0 ∷ 1 ∷ 7 ∷ []) result }
 {
     if !accepts(words) {
         return match write_all(sink, b"rman: bad words\n") {
@@ -71,9 +100,18 @@ pub fn run<S: Source, K: Sink>(alloc: Global, words: &[Text], source: &mut S, si
     let Ok(found) = statements(alloc, &script) else {
         return 7;
     };
-    match serve_all(alloc, sink, found.as_slice()) {
+    let site = match open_site(alloc, sink, keeper) {
+        Ok(site) => site,
+        Err(Unopened::BadRecord) => return 9,
+        Err(Unopened::Sink) => return 4,
+        Err(Unopened::Keeper) => return 6,
+        Err(Unopened::NoMemory) => return 7,
+    };
+    match serve_all(alloc, sink, site, store, keeper, clock, found.as_slice()) {
         Ok(refused) => u8::from(refused),
         Err(Halt::Sink) => 4,
+        Err(Halt::Store) => 5,
+        Err(Halt::Keeper) => 6,
         Err(Halt::NoMemory) => 7,
     }
 }

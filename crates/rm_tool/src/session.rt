@@ -1,13 +1,17 @@
 //! A run over the statements of a script.
-ghost use Rattle.std.specs.Prelude.{◌≡◌, ◌≤◌, IfOk, IsErrOf};
+ghost use Rattle.std.specs.Prelude.{◌≡◌, ◌≤◌, true, IfOk, OnOk, IsErrOf};
 ghost use Rattle.rm_base.specs.Outside.{Rose};
-ghost use Rattle.rm_tool.specs.Serving.{StatementSteps, Serves, Falls, Stays};
+ghost use Rattle.rm_change.specs.declared.change.Stop.TheVariants.{StoreFault, KeeperFault};
+ghost use Rattle.rm_tool.specs.Serving.{IsServed, FromEach, Serves, Falls, Stays};
 
 use crate::ends::write_all;
-use rm_base::{Failed, NoMemory, Refusal, Seq, Sink};
+use rm_base::{Clock, Failed, NoMemory, Refusal, Seq, Sink, Store};
+use rm_catalog::Keeper;
+use rm_change::Stop;
+use rm_database::refusal_reply;
 use rm_lang::command_of;
 use rm_report::{Reply, bytes_of};
-use rm_site::{Site, Stop, refusal_reply};
+use rm_site::Site;
 use rm_token::Token;
 use std::alloc::Global;
 
@@ -15,6 +19,8 @@ use std::alloc::Global;
 #[derive(Clone, Copy, Debug, PartialEq, Eq)]
 pub enum Halt {
     Sink,
+    Store,
+    Keeper,
     NoMemory,
 }
 
@@ -29,12 +35,16 @@ impl From<NoMemory> for Halt {
 }
 
 impl From<Stop> for Halt {
-    ghost use Rattle.rm_tool.specs.declared.session.Halt.TheVariants.{NoMemory as WithoutMemory};
+    ghost use Rattle.rm_tool.specs.Serving.{halt_of};
 
-    ghost from_gives = { λ _ e. e ≡ WithoutMemory };
+    ghost from_gives = { λ stop e. e ≡ halt_of stop };
 
-    fn from(_: Stop) -> Self {
-        Halt::NoMemory
+    fn from(stop: Stop) -> Self {
+        match stop {
+            Stop::StoreFault => Halt::Store,
+            Stop::KeeperFault => Halt::Keeper,
+            Stop::NoMemory => Halt::NoMemory,
+        }
     }
 }
 
@@ -48,33 +58,73 @@ impl From<Failed> for Halt {
     }
 }
 
-// One statement: a step of the machine, or the refusal of one that is not of the grammar.
-fn serve(alloc: Global, site: &mut Site, line: u32, tokens: &[Token]) -> Result<Reply, Stop>
-    ensures { IfOk result (StatementSteps site.old site.new (line, tokens.now)) }
+// One statement: a step of the machine at the clock's next answer, or the refusal of one that is not
+// of the grammar, for which the clock is not asked.
+fn serve<D: Store, C: Keeper, T: Clock>(
+    alloc: Global,
+    site: &mut Site,
+    store: &mut D,
+    keeper: &mut C,
+    clock: &mut T,
+    line: u32,
+    tokens: &[Token],
+) -> Result<Reply, Stop>
+    requires live { site.old.live ≡ true }
+    ensures live { OnOk result (site.new.live ≡ true) }
+    ensures served { IfOk result (λ reply. IsServed (D.held store.old) (C.kept keeper.old) site.old (T.answers clock.old) (line, tokens.now) reply (D.held store.new) (C.kept keeper.new) site.new (T.answers clock.new)) }
+    ensures store { IsErrOf result StoreFault → Rose (D.faults store.old) (D.faults store.new) }
+    ensures keeper { IsErrOf result KeeperFault → Rose (C.faults keeper.old) (C.faults keeper.new) }
+    ensures store_never_falls { D.faults store.old ≤ D.faults store.new }
+    ensures keeper_never_falls { C.faults keeper.old ≤ C.faults keeper.new }
 {
-    match command_of(alloc, tokens)? {
-        Some(command) => site.step(&command),
-        None => refusal_reply(alloc, Refusal::Rm01 { line }),
-    }
+    let Some(command) = command_of(alloc, tokens)? else {
+        return Ok(refusal_reply(alloc, Refusal::Rm01 { line })?);
+    };
+    let answer = clock.now();
+    site.step(store, keeper, &command, answer)
 }
 
-/// All statements, from a site without a database, each reply written before the next statement.
-/// Answers whether one was refused.
-pub fn serve_all<K: Sink>(
+/// All statements over a live site, each reply written before the next statement. Answers whether one was refused.
+///
+/// An error ends the session: the sink failed, the site was stopped by its store or its keeper, or
+/// memory was wanting.
+pub fn serve_all<K: Sink, D: Store, C: Keeper, T: Clock>(
     alloc: Global,
     sink: &mut K,
+    mut site: Site,
+    store: &mut D,
+    keeper: &mut C,
+    clock: &mut T,
     statements: &[(u32, Seq<Token>)],
 ) -> Result<bool, Halt>
-    ensures ok { IfOk result (λ refused. Serves statements.now (K.contents sink.old) (K.contents sink.new) refused) }
-    ensures sink { IsErrOf result Halt.Sink → Falls statements.now (K.contents sink.old) (K.contents sink.new) }
-    ensures memory { IsErrOf result Halt.NoMemory → Stays statements.now (K.contents sink.old) (K.contents sink.new) }
-    ensures failed { IsErrOf result Halt.Sink → Rose (K.faults sink.old) (K.faults sink.new) }
-    ensures never_falls { K.faults sink.old ≤ K.faults sink.new }
+    requires live { site.live ≡ true }
+    ensures ok { IfOk result (λ refused. FromEach (D.held store.old) (C.kept keeper.old) site (Serves statements.now (T.answers clock.old) (K.contents sink.old) (K.contents sink.new) (D.held store.new) (C.kept keeper.new) refused)) }
+
+    // What was written where it ended early.
+    ensures sink { IsErrOf result Halt.Sink → FromEach (D.held store.old) (C.kept keeper.old) site (Falls statements.now (T.answers clock.old) (K.contents sink.old) (K.contents sink.new)) }
+    ensures store { IsErrOf result Halt.Store → FromEach (D.held store.old) (C.kept keeper.old) site (Stays statements.now (T.answers clock.old) (K.contents sink.old) (K.contents sink.new)) }
+    ensures keeper { IsErrOf result Halt.Keeper → FromEach (D.held store.old) (C.kept keeper.old) site (Stays statements.now (T.answers clock.old) (K.contents sink.old) (K.contents sink.new)) }
+    ensures memory { IsErrOf result Halt.NoMemory → FromEach (D.held store.old) (C.kept keeper.old) site (Stays statements.now (T.answers clock.old) (K.contents sink.old) (K.contents sink.new)) }
+
+    // Whose count rose.
+    ensures sink_failed { IsErrOf result Halt.Sink → Rose (K.faults sink.old) (K.faults sink.new) }
+    ensures store_failed { IsErrOf result Halt.Store → Rose (D.faults store.old) (D.faults store.new) }
+    ensures keeper_failed { IsErrOf result Halt.Keeper → Rose (C.faults keeper.old) (C.faults keeper.new) }
+    ensures sink_never_falls { K.faults sink.old ≤ K.faults sink.new }
+    ensures store_never_falls { D.faults store.old ≤ D.faults store.new }
+    ensures keeper_never_falls { C.faults keeper.old ≤ C.faults keeper.new }
 {
-    let mut site = Site::new(alloc);
     let mut refused = false;
     for (line, tokens) in statements {
-        let reply = serve(alloc, &mut site, *line, tokens.as_slice())?;
+        let reply = serve(
+            alloc,
+            &mut site,
+            store,
+            keeper,
+            clock,
+            *line,
+            tokens.as_slice(),
+        )?;
         let bytes = bytes_of(alloc, &reply)?;
         write_all(sink, bytes.as_slice())?;
         refused |= reply.refused;

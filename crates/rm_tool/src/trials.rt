@@ -1,6 +1,10 @@
 //! Scripts through `run`, for the tests.
 use crate::run::run;
-use rm_base::{Failing, MemSink, MemSource, NoMemory, Sink, Source, Text};
+use rm_base::{
+    Failing, MemClock, MemSink, MemSource, MemStore, NoMemory, Seq, Sink, Source, StoreFailing,
+    Text,
+};
+use rm_catalog::{MemKeeper, Record};
 use std::alloc::Global;
 use std::process::Abort;
 use std::test::Fail;
@@ -17,21 +21,57 @@ WRITE DATAFILE 1 BLOCK 0 VALUE 'BB';
 scn 3
 ";
 
-/// A run, in which want of memory is an error.
+/// A store that holds nothing, of which the puts with these numbers fail.
+pub fn store_of(alloc: Global, puts: &[u64]) -> Result<MemStore, NoMemory> {
+    let failing = StoreFailing {
+        gets: Failing::new(Vec::new(alloc)),
+        puts: Failing::new(Vec::from_slice(alloc, puts)?),
+        removes: Failing::new(Vec::new(alloc)),
+        names: Failing::new(Vec::new(alloc)),
+    };
+    Ok(MemStore::new(alloc, failing))
+}
+
+/// A keeper of these records, of which the applies with these numbers fail.
+pub fn keeper_of(
+    alloc: Global,
+    records: Seq<Record>,
+    applies: &[u64],
+) -> Result<MemKeeper, NoMemory> {
+    let failing = Failing::new(Vec::from_slice(alloc, applies)?);
+    MemKeeper::new(records, Failing::new(Vec::new(alloc)), failing)
+}
+
+/// A run over this store and this keeper, with a clock that answers 0, in which want of memory is an error.
+pub fn status_over<S: Source, K: Sink>(
+    alloc: Global,
+    words: &str,
+    source: &mut S,
+    sink: &mut K,
+    store: &mut MemStore,
+    keeper: &mut MemKeeper,
+) -> Result<u8, NoMemory> {
+    let mut all = Vec::new(alloc);
+    for word in words.split(' ') {
+        all.push(Text::from_string(String::from_str(alloc, word)?))?;
+    }
+    let mut clock = MemClock::new(Vec::new(alloc));
+    match run(alloc, &all, source, sink, store, keeper, &mut clock) {
+        7 => Err(NoMemory),
+        status => Ok(status),
+    }
+}
+
+/// A run over nothing, in which want of memory is an error.
 pub fn status_of<S: Source, K: Sink>(
     alloc: Global,
     words: &str,
     source: &mut S,
     sink: &mut K,
 ) -> Result<u8, NoMemory> {
-    let mut all = Vec::new(alloc);
-    for word in words.split(' ') {
-        all.push(Text::from_string(String::from_str(alloc, word)?))?;
-    }
-    match run(alloc, &all, source, sink) {
-        7 => Err(NoMemory),
-        status => Ok(status),
-    }
+    let mut store = store_of(alloc, &[])?;
+    let mut keeper = keeper_of(alloc, Seq::new(alloc), &[])?;
+    status_over(alloc, words, source, sink, &mut store, &mut keeper)
 }
 
 pub fn source_of(alloc: Global, script: &[u8], failing: &[u64]) -> Result<MemSource, NoMemory> {

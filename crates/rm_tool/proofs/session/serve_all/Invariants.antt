@@ -1,9 +1,18 @@
-use Rattle.std.proofs.Common.{◌≤◌, take}
+use Rattle.std.proofs.Common.{◌≡◌, ◌≤◌, take, true}
+use Rattle.rm_tool.specs.Serving.{FromEach}
 use Rattle.rm_tool.proofs.Runs.{Progress}
 use Rattle.rm_tool.proofs.session.serve_all.Given as goal
 
 abbrev pub invariant-loop-line : goal.invariant-loop-line
-invariant-loop-line g l = record {
-  progress : Progress (take l.line-index l.statements) l.site (g.K.Sink.contents l.fn.sink) (g.K.Sink.contents l.sink) l.refused;
-  faults : g.K.Sink.faults l.fn.sink ≤ g.K.Sink.faults l.sink;
-}
+invariant-loop-line g l =
+    let told = g.K.Sink.contents in
+    let held = g.D.Store.held in
+    let kept = g.C.Keeper.kept in
+    let answers = g.T.Clock.answers in
+    record {
+      progress : FromEach (held l.fn.store) (kept l.fn.keeper) l.fn.site (Progress (take l.line-index l.statements) (answers l.fn.clock) (answers l.clock) (told l.fn.sink) (told l.sink) (held l.store) (kept l.keeper) l.site l.refused);
+      live : l.site.live ≡ true;
+      sink : g.K.Sink.faults l.fn.sink ≤ g.K.Sink.faults l.sink;
+      store : g.D.Store.faults l.fn.store ≤ g.D.Store.faults l.store;
+      keeper : g.C.Keeper.faults l.fn.keeper ≤ g.C.Keeper.faults l.keeper;
+    }

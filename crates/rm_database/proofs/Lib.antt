@@ -1,0 +1,27 @@
+mod Conditions
+mod Datafiles
+mod Due
+mod Logged
+mod Places
+mod Rows
+mod Scns
+mod Turns
+pub mod Accepted
+pub mod Archives
+pub mod Branching
+pub mod Dumps
+pub mod Growing
+pub mod Items
+pub mod KeptArchives
+pub mod KeptChanges
+pub mod KeptOpenings
+pub mod KeptPlaces
+pub mod KeptWrites
+pub mod Redo
+pub mod Resetlogs
+pub mod Sound
+pub mod SoundOpenings
+pub mod SoundRecovery
+pub mod SoundWrites
+pub mod Steps
+pub mod ToldBy

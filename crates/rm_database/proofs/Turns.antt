@@ -1,0 +1,40 @@
+-- One turn of each loop that adds to a list: what was added, and what is left to add.
+use Rattle.std.proofs.Common.{◌≡◌, ◌<◌, ◌+◌, ◌∙◌, ◌++◌, ℕ, zero, suc, List, [], ◌∷◌, Option, refl, ap, sym, arith, append_assoc, length, get_or, drop}
+use Rattle.rm_base.specs.declared.block.Change.{Change}
+use Rattle.rm_blocks.specs.File.{File}
+use Rattle.rm_history.specs.declared.tree.Incarnation.{Incarnation}
+use Rattle.rm_history.specs.declared.world.Datafile.{Datafile}
+use Rattle.rm_redo.specs.LogFile.{changes_of, log_file_of}
+use Rattle.rm_report.specs.declared.line.Line.{Line}
+use Rattle.rm_database.specs.Parts.{Parts, redo_end}
+use Rattle.rm_database.specs.Recovery.{told_online}
+use Rattle.rm_database.specs.RecoverTest.{file_lines, files_lines}
+use Rattle.rm_database.specs.ResetDatabase.{incarnation_line, incarnation_lines}
+
+-- the online log of thread t
+pub online-next : (p : Parts) (t n m : ℕ) (old new : List Change) → n ≡ suc m → new ≡ old ++ changes_of (log_file_of p.logs t (redo_end p)) → new ++ told_online p (t + 1) m ≡ old ++ told_online p t n
+online-next p t n m old new e is =
+    ap (λ xs. xs ++ told_online p (t + 1) m) is
+    ∙ append_assoc old (changes_of (log_file_of p.logs t (redo_end p))) (told_online p (t + 1) m)
+    ∙ ap (λ k. old ++ told_online p t k) (sym e)
+
+-- the line of incarnation i
+pub incarnation-next : (tree : List Incarnation) (current i n m : ℕ) (old new : List Line) → n ≡ suc m → new ≡ old ++ incarnation_line tree current i ∷ [] → new ++ incarnation_lines tree current (i + 1) m ≡ old ++ incarnation_lines tree current i n
+incarnation-next tree current i n m old new e is =
+    ap (λ xs. xs ++ incarnation_lines tree current (i + 1) m) is
+    ∙ append_assoc old (incarnation_line tree current i ∷ []) (incarnation_lines tree current (i + 1) m)
+    ∙ ap (λ k. old ++ incarnation_lines tree current i k) (sym e)
+
+files-next : (f : ℕ) (ds : List Datafile) (xs : List (Option File)) (k : ℕ) (d : Datafile) (x : Option File) → k < length ds → length xs ≡ length ds → files_lines f (drop k ds) (drop k xs) ≡ file_lines f (get_or ds k d) (get_or xs k x) ++ files_lines (f + 1) (drop (suc k) ds) (drop (suc k) xs)
+files-next f [] xs k d x inside many = absurd (omega arith)
+files-next f (e ∷ ds) [] k d x inside many = absurd (omega arith)
+files-next f (e ∷ ds) (y ∷ ys) zero d x inside many = refl
+files-next f (e ∷ ds) (y ∷ ys) (suc k) d x inside many = files-next f ds ys k d x (omega arith) (omega arith)
+
+-- the lines of the datafile at place k
+pub file-next : (f : ℕ) (ds : List Datafile) (xs : List (Option File)) (k n : ℕ) (d : Datafile) (x : Option File) (old new : List Line) → n ≡ suc k → k < length ds → length xs ≡ length ds → new ≡ old ++ file_lines f (get_or ds k d) (get_or xs k x) → new ++ files_lines (f + 1) (drop n ds) (drop n xs) ≡ old ++ files_lines f (drop k ds) (drop k xs)
+file-next f ds xs k n d x old new e inside many is =
+    ap (λ m. new ++ files_lines (f + 1) (drop m ds) (drop m xs)) e
+    ∙ ap (λ ys. ys ++ files_lines (f + 1) (drop (suc k) ds) (drop (suc k) xs)) is
+    ∙ append_assoc old (file_lines f (get_or ds k d) (get_or xs k x)) (files_lines (f + 1) (drop (suc k) ds) (drop (suc k) xs))
+    ∙ ap (λ ys. old ++ ys) (sym (files-next f ds xs k d x inside many))

@@ -1,0 +1,17 @@
+pub mod Archiving
+pub mod CreateDatabase
+pub mod CreateDatafile
+pub mod Dump
+pub mod Machine
+pub mod Modes
+pub mod Mount
+pub mod Open
+pub mod Parts
+pub mod Recover
+pub mod RecoverTest
+pub mod Recovery
+pub mod ResetDatabase
+pub mod Sound
+pub mod Step
+pub mod SwitchLogfile
+pub mod Write

@@ -1,0 +1,55 @@
+-- One statement is served.
+use Rattle.std.proofs.Common.{◌≡◌, ◌+◌, ◌∙◌, ℕ, suc, List, Option, Some, None, Result, Ok, Err, IfOk, IfSome, refl, ap, sym, subst, arith}
+use Rattle.rm_base.specs.Store.{Held, Answers, Both, IsLater}
+use Rattle.rm_base.specs.declared.refusal.Refusal.TheVariants.{Rm01}
+use Rattle.rm_catalog.specs.declared.record.Record.{Record}
+use Rattle.rm_lang.specs.declared.command.Command.{Command}
+use Rattle.rm_lang.specs.Language.{command_at}
+use Rattle.rm_token.specs.declared.token.Token.{Token}
+use Rattle.rm_report.specs.declared.line.Reply.{Reply}
+use Rattle.rm_report.specs.Reply.{refused_by}
+use Rattle.rm_site.specs.Step.{Steps}
+use Rattle.rm_site.specs.View.{View}
+use Rattle.rm_tool.specs.Run.{StepOf}
+use Rattle.rm_tool.specs.Serving.{IsPast, IsServed}
+use Rattle.rm_tool.proofs.Runs.{answers_from}
+
+pub ok-map : {A E : Type 0} (P Q : A → Type 0) → ((a : A) → P a → Q a) → (r : Result A E) → IfOk r P → IfOk r Q
+ok-map P Q f (Ok a) h = f a h
+ok-map P Q f (Err e) h = h
+
+next-from : (o : Option Answers) → IfSome o (λ coming. answers_from o 0 ≡ coming 0)
+next-from None = tt
+next-from (Some coming) = refl
+
+stays : (o : Option Answers) → Both (IsPast None) o o
+stays None = refl
+stays (Some coming) = λ i. refl
+
+passes : (c : Command) (before after : Option Answers) → Both IsLater before after → Both (IsPast (Some c)) before after
+passes c None after h = h
+passes c (Some b) None h = absurd h
+passes c (Some b) (Some a) h = λ i. h i ∙ ap b (next i)
+  where
+    next : (i : ℕ) → i + 1 ≡ suc i
+    next i = omega arith
+
+-- a statement that is none is refused, and the clock is not asked
+pub served-refused : (held : Option Held) (kept : Option (List Record)) (v : View) (clock : Option Answers) (s : ℕ × List Token) (reply : Reply) → command_at s.1 ≡ None → reply ≡ refused_by (Rm01 s.0) → IsServed held kept v clock s reply held kept v clock
+served-refused held kept v clock s reply none is =
+    record {
+      answer = answers_from clock 0;
+      next = next-from clock;
+      past = subst (λ (o : Option Command). Both (IsPast o) clock clock) (sym none) (stays clock);
+      steps = λ m stands holds. (m, subst (λ (o : Option Command). StepOf o m s.0 (answers_from clock 0) reply m) (sym none) (is, refl), stands, holds);
+    }
+
+-- a command is a step of the site at the clock's answer
+pub served-step : (held held' : Option Held) (kept kept' : Option (List Record)) (v v' : View) (clock clock' : Option Answers) (s : ℕ × List Token) (c : Command) (answer : ℕ) (reply : Reply) → command_at s.1 ≡ Some c → IfSome clock (λ coming. answer ≡ coming 0) → Both IsLater clock clock' → Steps held kept v c answer reply held' kept' v' → IsServed held kept v clock s reply held' kept' v' clock'
+served-step held held' kept kept' v v' clock clock' s c answer reply some next later steps =
+    record {
+      answer = answer;
+      next = next;
+      past = subst (λ (o : Option Command). Both (IsPast o) clock clock') (sym some) (passes c clock clock' later);
+      steps = λ m stands holds. let n = steps m stands holds in (n.0, subst (λ (o : Option Command). StepOf o m s.0 answer reply n.0) (sym some) n.1, n.2, n.3);
+    }

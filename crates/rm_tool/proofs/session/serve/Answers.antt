@@ -1,0 +1,21 @@
+use Rattle.std.proofs.Common.{◌≡◌, ◌∙◌, None, ℕ, List, sym}
+use Rattle.rm_token.specs.declared.token.Token.{Token}
+use Rattle.rm_report.specs.declared.line.Reply.{Reply}
+use Rattle.rm_site.specs.Step.{Steps}
+use Rattle.rm_tool.specs.Serving.{IsServed}
+use Rattle.rm_tool.proofs.Statements.{ok-map, served-refused, served-step}
+use Rattle.rm_tool.proofs.session.serve.Goals as goal
+
+pub returns-in_default-clause-served : goal.returns-in_default-clause-served
+returns-in_default-clause-served g c =
+    let none : c.in_ok-command.field-0 ≡ None = c.in_default.is in
+    let s : ℕ × List Token = (c.args.line, c.args.tokens.now) in
+    served-refused (g.D.Store.held c.args.store.now) (g.C.Keeper.kept c.args.keeper.now) c.args.site.now (g.T.Clock.answers c.args.clock.now) s c.in_ok-refusal_reply.field-0 (sym c.in_ok-command.ensures.value ∙ none) c.in_ok-refusal_reply.ensures
+
+pub returns-clause-served : goal.returns-clause-served
+returns-clause-served g c =
+    let held = g.D.Store.held in
+    let kept = g.C.Keeper.kept in
+    let told = g.T.Clock.answers in
+    let s : ℕ × List Token = (c.args.line, c.args.tokens.now) in
+    ok-map (λ (reply : Reply). Steps (held c.args.store.now) (kept c.args.keeper.now) c.args.site.now c.in-Some.command c.now-answer.result reply (held c.step.new.store) (kept c.step.new.keeper) c.step.new.self) (λ (reply : Reply). IsServed (held c.args.store.now) (kept c.args.keeper.now) c.args.site.now (told c.args.clock.now) s reply (held c.step.new.store) (kept c.step.new.keeper) c.step.new.self (told c.now-answer.new.self)) (λ reply steps. served-step (held c.args.store.now) (held c.step.new.store) (kept c.args.keeper.now) (kept c.step.new.keeper) c.args.site.now c.step.new.self (told c.args.clock.now) (told c.now-answer.new.self) s c.in-Some.command c.now-answer.result reply (sym c.in_ok-command.ensures.value ∙ c.in-Some.is) c.now-answer.ensures.next c.now-answer.ensures.later steps) c.step.result c.step.ensures.step

@@ -1,0 +1,89 @@
+//! The site is opened, or the line of a record is written.
+ghost use Rattle.std.specs.Prelude.{◌≡◌, ◌≤◌, [], true, IfOk, OnOk, IsErrOf, IfSome, Option};
+ghost use Rattle.rm_base.specs.Outside.{Rose};
+ghost use Rattle.rm_base.specs.Store.{Held};
+ghost use Rattle.rm_site.specs.Opens.{Opens};
+ghost use Rattle.rm_tool.specs.Session.{Tells, FallsShort, bad_record};
+
+use crate::ends::write_all;
+use rm_base::{Failed, NoMemory, Sink, Text};
+use rm_catalog::{Keeper, Key};
+use rm_site::{OpenFault, Site};
+use std::alloc::Global;
+
+/// Why no statement could be stepped.
+#[derive(Clone, Copy, Debug, PartialEq, Eq)]
+pub enum Unopened {
+    /// The keeper has a record, and the line of the first was written.
+    BadRecord,
+    /// The sink failed in that line.
+    Sink,
+    /// The keeper failed, and counted it.
+    Keeper,
+    NoMemory,
+}
+
+impl From<NoMemory> for Unopened {
+    ghost use Rattle.rm_tool.specs.declared.opening.Unopened.TheVariants.{NoMemory as WithoutMemory};
+
+    ghost from_gives = { λ _ e. e ≡ WithoutMemory };
+
+    fn from(_: NoMemory) -> Self {
+        Unopened::NoMemory
+    }
+}
+
+impl From<Failed> for Unopened {
+    ghost use Rattle.rm_tool.specs.declared.opening.Unopened.TheVariants.{Sink as OfSink};
+
+    ghost from_gives = { λ _ e. e ≡ OfSink };
+
+    fn from(_: Failed) -> Self {
+        Unopened::Sink
+    }
+}
+
+// The line of status 9.
+fn bad_record(alloc: Global, key: Key) -> Result<Text, NoMemory>
+    ensures { IfOk result (λ line. line ≡ bad_record key) }
+{
+    let Key { kind, id } = key;
+    Ok(Text::from_string(format!(in alloc; "rman: bad record {kind} {id}\n")?))
+}
+
+/// Opens the site over the keeper. Where the keeper has a record, the line of the first is written, by
+/// kind and then by id; else nothing is.
+pub fn open_site<K: Sink, C: Keeper>(
+    alloc: Global,
+    sink: &mut K,
+    keeper: &mut C,
+) -> Result<Site, Unopened>
+    ensures opened { IfOk result (λ site. (held : Option Held) → Opens held (C.kept keeper.old) site) }
+    ensures live { IfOk result (λ site. site.live ≡ true) }
+    ensures empty { IfOk result (λ _. IfSome (C.kept keeper.old) (λ rs. rs ≡ [])) }
+    ensures kept { C.kept keeper.new ≡ C.kept keeper.old }
+
+    // What was written.
+    ensures ok { OnOk result (K.contents sink.new ≡ K.contents sink.old) }
+    ensures bad { IsErrOf result Unopened.BadRecord → Tells (C.kept keeper.old) (K.contents sink.old) (K.contents sink.new) }
+    ensures sink { IsErrOf result Unopened.Sink → FallsShort (C.kept keeper.old) (K.contents sink.old) (K.contents sink.new) }
+    ensures keeper { IsErrOf result Unopened.Keeper → K.contents sink.new ≡ K.contents sink.old }
+    ensures memory { IsErrOf result Unopened.NoMemory → K.contents sink.new ≡ K.contents sink.old }
+
+    // Whose count rose.
+    ensures sink_failed { IsErrOf result Unopened.Sink → Rose (K.faults sink.old) (K.faults sink.new) }
+    ensures keeper_failed { IsErrOf result Unopened.Keeper → Rose (C.faults keeper.old) (C.faults keeper.new) }
+    ensures sink_never_falls { K.faults sink.old ≤ K.faults sink.new }
+    ensures keeper_never_falls { C.faults keeper.old ≤ C.faults keeper.new }
+{
+    match Site::open(alloc, keeper) {
+        Ok(site) => Ok(site),
+        Err(OpenFault::KeeperFault) => Err(Unopened::Keeper),
+        Err(OpenFault::NoMemory) => Err(Unopened::NoMemory),
+        Err(OpenFault::BadRow(kind, id)) => {
+            let line = bad_record(alloc, Key { kind, id })?;
+            write_all(sink, line.as_bytes())?;
+            Err(Unopened::BadRecord)
+        }
+    }
+}
