@@ -7,3 +7,5 @@ pub mod Forms
 pub mod Spelled
 pub mod Statements
 pub mod Plain
+pub mod Capitals
+pub mod Listed

@@ -1,14 +1,13 @@
 //! Reading tokens from left to right. Each function takes from the front and gives the rest.
 ghost use Rattle.std.specs.Prelude.{◌≡◌, ◌≢◌, ◌≤◌, ◌++◌, IfOk, OnOk, IfErr, IsTrue, Some, None, if◌then◌else◌, length};
-ghost use Rattle.std.specs.List.{list_all};
-ghost use Rattle.rm_token.specs.Tokens.{is_word_byte};
 ghost use Rattle.rm_grammar.specs.declared.unread.Unread.TheVariants.{NoMemory as WithoutMemory};
-ghost use Rattle.rm_grammar.specs.Grammar.{any, in_range, is_tag};
+ghost use Rattle.rm_grammar.specs.Grammar.{any, in_range};
 ghost use Rattle.rm_grammar.specs.Reading.{Gives, begins_with, word_at, sign_at, finish_at, flag_at, number_at, number_or_at, string_at, tag_of, tag_at, more_at, numbers_at};
 
+use crate::tags::is_tag;
 use crate::unread::Unread;
 use rm_base::{Seq, Text};
-use rm_token::{Token, are_string_bytes, is_word_byte};
+use rm_token::{Token, are_string_bytes};
 use std::alloc::Global;
 
 /// The word stands first, in any case of its letters.
@@ -142,19 +141,6 @@ pub fn string(tokens: &[Token]) -> Result<(&[u8], &[Token]), Unread>
         }
         _ => Err(Unread::Other),
     }
-}
-
-fn are_word_bytes(bytes: &[u8]) -> bool
-    ensures { result ≡ list_all is_word_byte bytes.now }
-{
-    bytes.iter().all(|byte| is_word_byte(*byte))
-}
-
-// The bytes are a tag.
-fn is_tag(bytes: &[u8]) -> bool
-    ensures { result ≡ is_tag bytes.now }
-{
-    (1..=30).contains(&bytes.len()) && are_word_bytes(bytes)
 }
 
 // The tag in capitals.

@@ -1,10 +1,10 @@
 //! The tokens of a statement, from left to right.
-ghost use Rattle.std.specs.Prelude.{◌≡◌, ◌++◌, ◌∷◌, [], IsTrue, OnOk};
+ghost use Rattle.std.specs.Prelude.{◌≡◌, ◌++◌, ◌∷◌, [], codes, IsTrue, OnOk};
 ghost use Rattle.std.specs.List.{list_all};
 ghost use Rattle.rm_token.specs.declared.token.Token.TheVariants.{Word, Number, Quoted, Sign};
 ghost use Rattle.rm_token.specs.Spelling.{are_string_bytes, is_name, is_plain};
 ghost use Rattle.rm_token.specs.Tokens.{is_sign};
-ghost use Rattle.rm_grammar.specs.Spelling.{flag_spelled, number_or_spelled};
+ghost use Rattle.rm_grammar.specs.Spelling.{flag_spelled, number_or_spelled, more_spelled, numbers_spelled, is_capital_tag};
 
 use rm_base::{NoMemory, Seq, Text};
 use rm_token::Token;
@@ -91,6 +91,37 @@ impl Spelling {
     {
         let text = Text::from_ascii(self.alloc, bytes)?;
         self.tokens.push(Token::Quoted(text))?;
+        Ok(())
+    }
+
+    /// Adds the word TAG and a tag in quotes, whose letters are capitals.
+    pub fn tag(&mut self, name: &[u8]) -> Result<(), NoMemory>
+        requires { IsTrue (is_capital_tag name.now) }
+        ensures { OnOk result (self.new ≡ self.old ++ Word (codes "TAG") ∷ Quoted name.now ∷ []) }
+    {
+        self.word("TAG")?;
+        self.string(name)
+    }
+
+    /// Adds numbers with commas between.
+    pub fn numbers(&mut self, numbers: &[u64]) -> Result<(), NoMemory>
+        ensures { OnOk result (self.new ≡ self.old ++ numbers_spelled numbers.now) }
+    {
+        let [first, others @ ..] = numbers else {
+            return Ok(());
+        };
+        self.number(*first)?;
+        self.more_numbers(others)
+    }
+
+    // Adds each number behind a comma.
+    fn more_numbers(&mut self, numbers: &[u64]) -> Result<(), NoMemory>
+        ensures { OnOk result (self.new ≡ self.old ++ more_spelled numbers.now) }
+    {
+        for number in numbers {
+            self.sign(b',')?;
+            self.number(*number)?;
+        }
         Ok(())
     }
 

@@ -1,5 +1,5 @@
 -- What is read is exactly the grammar, and which commands it has.
-use Rattle.std.proofs.Common.{◌≡◌, refl, sym, subst, inl, inr, ◌==◌, ◌-◌, ◌^◌, ℕ, List, Option, Some, None, Bool, true, false, ◌&&◌, ◌||◌}
+use Rattle.std.proofs.Common.{◌≡◌, refl, ap, sym, subst, inl, inr, ◌==◌, ◌-◌, ◌^◌, ℕ, List, Option, Some, None, Bool, true, false, ◌&&◌, ◌||◌}
 use Rattle.std.specs.Prelude.{◌↔◌}
 use Rattle.std.specs.Option.{option_map}
 use Rattle.std.proofs.lemmas.Bool.{and_parts, and_from, eqb-true}
@@ -12,17 +12,19 @@ use Rattle.rm_grammar.proofs.Forms.{in_found, in_again, in_none, one_command}
 use Rattle.rm_grammar.proofs.Statements.{Passes, by_values, passes, AllPass}
 use Rattle.rm_lang.specs.declared.command.Until.{Until}
 use Rattle.rm_lang.specs.declared.command.Until.TheVariants.{Scn}
+use Rattle.rm_lang.specs.declared.command.BackupForm.{BackupForm}
 use Rattle.rm_lang.specs.declared.command.Command.{Command}
-use Rattle.rm_lang.specs.declared.command.Command.TheVariants.{CreateDatabase, CreateDatafile, Write, SwitchLogfile, ArchiveLogCurrent, Mount, OpenPlain, OpenResetlogs, ResetDatabase, Recover, RecoverTest, ListIncarnation, Dump}
-use Rattle.rm_lang.specs.Forms.{content, until_of, incarnation_of, until_line, incarnation_line, recover_line, opening, recovery, create_database, create_datafile, write, switch_logfile, archive_log, shutdown, startup, open_database, reset_database, recover, list_incarnation, dump}
+use Rattle.rm_lang.specs.declared.command.Command.TheVariants.{CreateDatabase, CreateDatafile, Write, SwitchLogfile, ArchiveLogCurrent, Mount, OpenPlain, OpenResetlogs, ResetDatabase, Recover, RecoverTest, Backup, ListIncarnation, Dump}
+use Rattle.rm_lang.specs.Forms.{content, until_of, incarnation_of, until_line, incarnation_line, recover_line, opening, recovery, create_database, create_datafile, write, switch_logfile, archive_log, shutdown, startup, open_database, reset_database, recover, backup, backup_of, list_incarnation, dump}
 use Rattle.rm_lang.specs.IsCommand.{is_command, IsSized}
-use Rattle.rm_lang.specs.Language.{forms, mode_forms, asking_forms, IsCommand, command_at, IsStatement}
-use Rattle.rm_lang.specs.Spelling.{until_values, incarnation_values, recover_spelled, tokens_of}
+use Rattle.rm_lang.specs.Language.{forms, mode_forms, backup_forms, asking_forms, IsCommand, command_at, IsStatement}
+use Rattle.rm_lang.specs.Spelling.{until_values, incarnation_values, recover_spelled, backup_values, tokens_of}
+use Rattle.rm_lang.proofs.Parts.{backup_again, backup_valid, backup_passes}
 use Rattle.rm_lang.proofs.Contents.{content-faithful, is_shown-content, content-string}
 
 -- no line of the grammar takes from another
 forms_apart : are_apart forms ≡ true
-unfolding forms mode_forms asking_forms create_database create_datafile write switch_logfile archive_log shutdown startup open_database reset_database recover list_incarnation dump
+unfolding forms mode_forms backup_forms asking_forms create_database create_datafile write switch_logfile archive_log shutdown startup open_database reset_database recover backup list_incarnation dump
 forms_apart = refl
 
 pub command_at-is : (ts : List Token) (c : Command) → command_at ts ≡ Some c → IsCommand ts c
@@ -90,7 +92,7 @@ opening_passes false = refl
 
 -- the tokens of a command that passes the test are the command
 pub tokens_of-is : (c : Command) → IsSized c → is_command c ≡ true → IsCommand (tokens_of c) c
-unfolding IsCommand forms mode_forms asking_forms create_database create_datafile write switch_logfile archive_log shutdown startup open_database reset_database recover list_incarnation dump
+unfolding IsCommand forms mode_forms backup_forms asking_forms create_database create_datafile write switch_logfile archive_log shutdown startup open_database reset_database recover backup list_incarnation dump
 tokens_of-is (CreateDatabase dbid threads scn) s h =
     let p = in_range 1 (2 ^ 32 - 1) in let q = in_range 1 (2 ^ 64 - 1) in let r = in_range 1 (2 ^ 48 - 1) in
     let b = and_parts (p dbid) (q threads && r scn) h in
@@ -115,8 +117,11 @@ tokens_of-is OpenResetlogs s h = inr (inr (inr (inr (inr (inr (inr (inl (by_valu
 tokens_of-is (ResetDatabase inc) s h = inr (inr (inr (inr (inr (inr (inr (inr (inl (by_values reset_database (inc, tt) (ResetDatabase inc) refl refl)))))))))
 tokens_of-is (Recover until) s h = inr (inr (inr (inr (inr (inr (inr (inr (inr (inl (recover_is until None false (Recover until) refl))))))))))
 tokens_of-is (RecoverTest until inc) s h = inr (inr (inr (inr (inr (inr (inr (inr (inr (inl (recover_is until inc true (RecoverTest until inc) refl))))))))))
-tokens_of-is ListIncarnation s h = inr (inr (inr (inr (inr (inr (inr (inr (inr (inr (inl (by_values list_incarnation tt ListIncarnation refl refl)))))))))))
-tokens_of-is (Dump file block) s h = inr (inr (inr (inr (inr (inr (inr (inr (inr (inr (inr (inl (by_values dump (file, (block, tt)) (Dump file block) refl refl))))))))))))
+tokens_of-is (Backup b) s h =
+    let same = ap (λ (d : BackupForm). Some (Backup d)) (backup_again b h) in
+    inr (inr (inr (inr (inr (inr (inr (inr (inr (inr (inl (by_values backup (backup_values b) (Backup b) (backup_valid b h) same)))))))))))
+tokens_of-is ListIncarnation s h = inr (inr (inr (inr (inr (inr (inr (inr (inr (inr (inr (inl (by_values list_incarnation tt ListIncarnation refl refl))))))))))))
+tokens_of-is (Dump file block) s h = inr (inr (inr (inr (inr (inr (inr (inr (inr (inr (inr (inr (inl (by_values dump (file, (block, tt)) (Dump file block) refl refl)))))))))))))
 
 -- the command that a form means passes the test
 by_meaning : (c d : Command) → is_command c ≡ true → Some c ≡ Some d → is_command d ≡ true
@@ -167,6 +172,17 @@ asking_pass = (
   (record { are_faithful = tt; passed = λ vs c v m. by_meaning (Dump vs.0 vs.1.0) c refl m }, tt),
 )
 
+backup_form_passes : Passes is_command backup
+unfolding backup
+backup_form_passes = record {
+  are_faithful = ((tt, tt, tt), (tt, (tt, tt, (tt, (tt, tt)))));
+  passed = λ vs c v m. by_meaning (Backup (backup_of vs)) c (backup_passes vs v) m;
+}
+
+backup_pass : AllPass is_command backup_forms
+unfolding backup_forms
+backup_pass = (backup_form_passes, asking_pass)
+
 open_database_passes : Passes is_command open_database
 unfolding open_database
 open_database_passes = record { are_faithful = tt; passed = λ vs c v m. by_meaning (opening vs.0) c (opening_passes vs.0) m }
@@ -179,7 +195,7 @@ mode_pass : AllPass is_command mode_forms
 unfolding mode_forms shutdown startup
 mode_pass = (
   record { are_faithful = tt; passed = λ vs c v m. by_meaning Mount c refl m },
-  (record { are_faithful = tt; passed = λ vs c v m. by_meaning Mount c refl m }, (open_database_passes, (reset_database_passes, (recover_passes, asking_pass)))),
+  (record { are_faithful = tt; passed = λ vs c v m. by_meaning Mount c refl m }, (open_database_passes, (reset_database_passes, (recover_passes, backup_pass)))),
 )
 
 switch_logfile_passes : Passes is_command switch_logfile

@@ -1,13 +1,17 @@
 -- The lines of the grammar, and the command that each one is.
-use Rattle.std.specs.Prelude.{◌-◌, ◌^◌, ℕ, Option, Some, None, Bool, true, false, codes}
+use Rattle.std.specs.Prelude.{◌-◌, ◌^◌, ℕ, List, Option, Some, None, Bool, true, false, codes}
 use Rattle.std.specs.Option.{option_map}
 use Rattle.rm_base.specs.Content.{padded, trimmed}
-use Rattle.rm_grammar.specs.Grammar.{◌▸◌, Grammar, Values, end, semicolon, word, flag, noise, number, number_or, optional, text, TextKind, any, in_range}
+use Rattle.rm_grammar.specs.Grammar.{◌▸◌, Grammar, Values, end, semicolon, word, flag, noise, number, number_or, optional, either, numbers, tag, Choice, first, second, text, TextKind, any, in_range}
 use Rattle.rm_grammar.specs.Forms.{Form}
 use Rattle.rm_lang.specs.declared.command.Until.{Until}
 use Rattle.rm_lang.specs.declared.command.Until.TheVariants.{Scn}
+use Rattle.rm_lang.specs.declared.backup.Kind.{Kind}
+use Rattle.rm_lang.specs.declared.backup.Kind.TheVariants.{Copy, Sets}
+use Rattle.rm_lang.specs.declared.command.BackupForm.{BackupForm}
 use Rattle.rm_lang.specs.declared.command.Command.{Command}
-use Rattle.rm_lang.specs.declared.command.Command.TheVariants.{CreateDatabase, CreateDatafile, Write, SwitchLogfile, ArchiveLogCurrent, Mount, OpenPlain, OpenResetlogs, ResetDatabase, Recover, RecoverTest, ListIncarnation, Dump}
+use Rattle.rm_lang.specs.declared.command.Command.TheVariants.{CreateDatabase, CreateDatafile, Write, SwitchLogfile, ArchiveLogCurrent, Mount, OpenPlain, OpenResetlogs, ResetDatabase, Recover, RecoverTest, Backup, ListIncarnation, Dump}
+use Rattle.rm_lang.specs.Files.{in_order}
 
 -- the content that a VALUE has, which is shown without the zero bytes at its end
 abbrev pub content : TextKind
@@ -109,6 +113,74 @@ recovery until (Some n) false = None
 
 unfoldable pub recover : Form Command
 recover = record { line = recover_line; meaning = λ v. recovery (option_map until_of v.0) (option_map incarnation_of v.1.0) v.1.1.0 }
+
+-- AS COPY or AS BACKUPSET
+abbrev pub as_line : Grammar
+as_line = word (codes "AS") ▸ either (word (codes "COPY") ▸ end) (word (codes "BACKUPSET") ▸ end) ▸ end
+
+abbrev pub kind_by : Choice (Unit {0}) (Unit {0}) → Kind
+kind_by (first v) = Copy
+kind_by (second v) = Sets
+
+abbrev pub kind_of : Values as_line → Kind
+kind_of v = kind_by v.0
+
+-- image copies are asked for
+abbrev pub is_copy : Option Kind → Bool
+is_copy (Some Copy) = true
+is_copy (Some Sets) = false
+is_copy None = false
+
+-- INCREMENTAL LEVEL 0
+abbrev pub level_line : Grammar
+level_line = word (codes "INCREMENTAL") ▸ word (codes "LEVEL") ▸ number (in_range 0 0) ▸ end
+
+abbrev pub level_of : Values level_line → ℕ
+level_of v = v.0
+
+-- DATABASE
+abbrev pub database_line : Grammar
+database_line = word (codes "DATABASE") ▸ end
+
+-- DATAFILE n {, n}*
+abbrev pub files_line : Grammar
+files_line = word (codes "DATAFILE") ▸ numbers ▸ end
+
+-- the datafiles that are named, ascending and each once; None is all
+abbrev pub files_of : Choice (Values database_line) (Values files_line) → Option (List ℕ)
+files_of (first v) = None
+files_of (second v) = Some (in_order v.0)
+
+-- TAG tag
+abbrev pub tag_line : Grammar
+tag_line = tag ▸ end
+
+abbrev pub tag_of : Values tag_line → List ℕ
+tag_of v = v.0
+
+-- KEEP FOREVER
+abbrev pub keep_line : Grammar
+keep_line = word (codes "KEEP") ▸ word (codes "FOREVER") ▸ end
+
+abbrev pub stands : Option (Values keep_line) → Bool
+stands (Some v) = true
+stands None = false
+
+-- BACKUP [AS COPY | AS BACKUPSET] [INCREMENTAL LEVEL 0] (DATABASE | DATAFILE n {, n}*) [TAG tag] [KEEP FOREVER]
+abbrev pub backup_line : Grammar
+backup_line = word (codes "BACKUP") ▸ optional as_line ▸ optional level_line ▸ either database_line files_line ▸ optional tag_line ▸ optional keep_line ▸ semicolon
+
+abbrev pub backup_of : Values backup_line → BackupForm
+backup_of v = record {
+  copy = is_copy (option_map kind_of v.0);
+  level = option_map level_of v.1.0;
+  files = files_of v.1.1.0;
+  tag = option_map tag_of v.1.1.1.0;
+  keep = stands v.1.1.1.1.0;
+}
+
+unfoldable pub backup : Form Command
+backup = record { line = backup_line; meaning = λ v. Some (Backup (backup_of v)) }
 
 -- LIST INCARNATION
 abbrev pub list_incarnation_line : Grammar

@@ -3,15 +3,19 @@ use Rattle.std.specs.Prelude.{List, [], ◌∷◌, Option}
 use Rattle.rm_token.specs.declared.token.Token.{Token}
 use Rattle.rm_grammar.specs.Forms.{Form, IsByOne, command_in}
 use Rattle.rm_lang.specs.declared.command.Command.{Command}
-use Rattle.rm_lang.specs.Forms.{create_database, create_datafile, write, switch_logfile, archive_log, shutdown, startup, open_database, reset_database, recover, list_incarnation, dump}
+use Rattle.rm_lang.specs.Forms.{create_database, create_datafile, write, switch_logfile, archive_log, shutdown, startup, open_database, reset_database, recover, backup, list_incarnation, dump}
 
 -- the forms that ask and answer
 unfoldable pub asking_forms : List (Form Command)
 asking_forms = list_incarnation ∷ dump ∷ []
 
+-- those of backups, and the ones above
+unfoldable pub backup_forms : List (Form Command)
+backup_forms = backup ∷ asking_forms
+
 -- those of modes and recovery, and the ones above
 unfoldable pub mode_forms : List (Form Command)
-mode_forms = shutdown ∷ startup ∷ open_database ∷ reset_database ∷ recover ∷ asking_forms
+mode_forms = shutdown ∷ startup ∷ open_database ∷ reset_database ∷ recover ∷ backup_forms
 
 -- the forms of statements: those that create and write, and the ones above
 unfoldable pub forms : List (Form Command)

@@ -1,3 +1,4 @@
+pub mod Files
 pub mod IsCommand
 pub mod Forms
 pub mod Language

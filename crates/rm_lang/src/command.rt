@@ -1,5 +1,5 @@
 //! What a statement says. Each form of statement has a variant; THREAD left out is thread 1.
-use rm_base::{Block, Scn};
+use rm_base::{Block, Scn, Seq, Text};
 
 /// Where a recovery stops: it holds every change below, and none at or above.
 #[derive(Clone, Copy, Debug, PartialEq, Eq)]
@@ -16,8 +16,22 @@ pub struct WriteForm {
     pub content: Block,
 }
 
+/// A backup of datafiles.
+#[derive(Debug, Drop)]
+pub struct BackupForm {
+    /// Image copies are made, and not pieces.
+    pub copy: bool,
+    /// 0, or none.
+    pub level: Option<u8>,
+    /// The datafiles, ascending and each once. None is all of them.
+    pub files: Option<Seq<u64>>,
+    /// In capitals. Where there is none, the moment of the statement makes one.
+    pub tag: Option<Text>,
+    pub keep: bool,
+}
+
 /// A statement. A number that may not fit its type is a `u64`.
-#[derive(Clone, Copy, Debug, PartialEq, Eq)]
+#[derive(Debug, Drop)]
 pub enum Command {
     CreateDatabase {
         dbid: u32,
@@ -46,6 +60,7 @@ pub enum Command {
         until: Option<Until>,
         inc: Option<u64>,
     },
+    Backup(BackupForm),
     ListIncarnation,
     Dump {
         file: u64,

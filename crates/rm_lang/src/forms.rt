@@ -7,8 +7,9 @@ ghost use Rattle.rm_lang.specs.declared.command.Command.{Command as CommandOf};
 ghost use Rattle.rm_lang.specs.Forms.{create_database, create_datafile, write, switch_logfile, archive_log, shutdown, startup, open_database, opening, reset_database, until_line, incarnation_line, recover, recovery, list_incarnation, dump};
 ghost use Rattle.rm_lang.specs.Spelling.{until_values, incarnation_values};
 ghost use Rattle.rm_lang.specs.IsCommand.{is_command};
-ghost use Rattle.rm_lang.specs.Language.{IsCommand, command_at, mode_forms, asking_forms};
+ghost use Rattle.rm_lang.specs.Language.{IsCommand, command_at, mode_forms, backup_forms, asking_forms};
 
+use crate::backup::backup;
 use crate::command::{Command, Until, WriteForm};
 use rm_base::{Block, LAST_SCN, NoMemory};
 use rm_grammar::Unread;
@@ -210,9 +211,21 @@ fn asking(tokens: &[Token]) -> Result<Command, Unread>
     dump(tokens)
 }
 
+// The command by the first of the forms of backups, or of those above.
+#[tactic(auto, unfolding(crate::specs::Language::backup_forms))]
+fn saving(alloc: Global, tokens: &[Token]) -> Result<Command, Unread>
+    ensures { Gives (λ x. x) result (command_in backup_forms tokens.now) }
+{
+    match backup(alloc, tokens) {
+        Err(Unread::Other) => {}
+        found => return found,
+    }
+    asking(tokens)
+}
+
 // The command by the first of the forms of modes and recovery, or of those above.
 #[tactic(auto, unfolding(crate::specs::Language::mode_forms))]
-fn mode(tokens: &[Token]) -> Result<Command, Unread>
+fn mode(alloc: Global, tokens: &[Token]) -> Result<Command, Unread>
     ensures { Gives (λ x. x) result (command_in mode_forms tokens.now) }
 {
     match shutdown(tokens) {
@@ -235,12 +248,12 @@ fn mode(tokens: &[Token]) -> Result<Command, Unread>
         Err(Unread::Other) => {}
         found => return found,
     }
-    asking(tokens)
+    saving(alloc, tokens)
 }
 
 // The command that the tokens are, by the first form that they have.
 #[tactic(auto, unfolding(crate::specs::Language::forms, crate::specs::Language::command_at))]
-fn command(tokens: &[Token]) -> Result<Command, Unread>
+fn command(alloc: Global, tokens: &[Token]) -> Result<Command, Unread>
     ensures { Gives (λ x. x) result (command_at tokens.now) }
 {
     match create_database(tokens) {
@@ -263,7 +276,7 @@ fn command(tokens: &[Token]) -> Result<Command, Unread>
         Err(Unread::Other) => {}
         found => return found,
     }
-    mode(tokens)
+    mode(alloc, tokens)
 }
 
 #[tactic(auto, using(crate::proofs::Language::read))]
@@ -274,7 +287,7 @@ pub fn command_of(alloc: Global, tokens: &[Token]) -> Result<Option<Command>, No
     ensures none { IfOk result (λ o. IfNone o ((c : CommandOf) → IsCommand tokens.now c → ⊥)) }
     ensures statement { IfOk result (λ o. IfSome o (λ c. IsTrue (is_command c))) }
 {
-    match command(tokens) {
+    match command(alloc, tokens) {
         Ok(found) => Ok(Some(found)),
         Err(Unread::Other) => Ok(None),
         Err(Unread::NoMemory) => Err(NoMemory),

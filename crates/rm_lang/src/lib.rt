@@ -1,13 +1,14 @@
 //! Statements: which tokens are which statement.
 #![tactic(auto)]
 
+mod backup;
 pub mod command;
 mod forms;
 pub mod laws;
 mod spelling;
 mod statement;
 
-pub use command::{Command, Until, WriteForm};
+pub use command::{BackupForm, Command, Until, WriteForm};
 pub use forms::command_of;
 pub use spelling::text_of;
 pub use statement::is_command;

@@ -5,14 +5,14 @@ ghost use Rattle.std.specs.List.{list_all};
 ghost use Rattle.rm_base.specs.Content.{trimmed};
 ghost use Rattle.rm_token.specs.Tokens.{is_string_byte, feeds};
 ghost use Rattle.rm_token.specs.Spelling.{is_statement};
-ghost use Rattle.rm_grammar.specs.Spelling.{spelled, maybe_spelled};
-ghost use Rattle.rm_lang.specs.Forms.{create_database_line, create_datafile_line, write_line, switch_logfile_line, archive_log_line, startup_line, open_database_line, reset_database_line, until_line, incarnation_line, list_incarnation_line, dump_line};
+ghost use Rattle.rm_grammar.specs.Spelling.{spelled, maybe_spelled, one_spelled, is_capital_tag, maybe_valid};
+ghost use Rattle.rm_lang.specs.Forms.{create_database_line, create_datafile_line, write_line, switch_logfile_line, archive_log_line, startup_line, open_database_line, reset_database_line, until_line, incarnation_line, as_line, level_line, database_line, files_line, tag_line, keep_line, backup_line, list_incarnation_line, dump_line};
 ghost use Rattle.rm_lang.specs.declared.command.Command.TheVariants.{Write};
-ghost use Rattle.rm_lang.specs.IsCommand.{is_command, IsSized};
-ghost use Rattle.rm_lang.specs.Spelling.{until_values, incarnation_values, recover_spelled, tokens_of, ReadsAs};
+ghost use Rattle.rm_lang.specs.IsCommand.{is_command, is_backup, IsSized};
+ghost use Rattle.rm_lang.specs.Spelling.{until_values, incarnation_values, recover_spelled, kind_values, kind_asked, level_values, files_values, tag_values, keep_values, backup_values, tokens_of, ReadsAs};
 
-use crate::command::{Command, Until, WriteForm};
-use rm_base::{NoMemory, Scn, Seq};
+use crate::command::{BackupForm, Command, Until, WriteForm};
+use rm_base::{NoMemory, Scn, Seq, Text};
 use rm_grammar::Spelling;
 use rm_token::text_of as text_of_tokens;
 use std::alloc::Global;
@@ -172,6 +172,80 @@ fn recover(
     Ok(spelling)
 }
 
+// Adds AS COPY, where copies are asked for.
+fn push_kind(spelling: &mut Spelling, copy: bool) -> Result<(), NoMemory>
+    ensures { OnOk result (spelling.new ≡ spelling.old ++ maybe_spelled (spelled as_line) (option_map kind_values (kind_asked copy))) }
+{
+    if copy {
+        spelling.word("AS")?;
+        spelling.word("COPY")?;
+    }
+    Ok(())
+}
+
+// Adds the level, if there is one.
+fn push_level(spelling: &mut Spelling, level: Option<u8>) -> Result<(), NoMemory>
+    ensures { OnOk result (spelling.new ≡ spelling.old ++ maybe_spelled (spelled level_line) (option_map level_values level)) }
+{
+    if let Some(level) = level {
+        spelling.word("INCREMENTAL")?;
+        spelling.word("LEVEL")?;
+        spelling.number(level as u64)?;
+    }
+    Ok(())
+}
+
+// Adds the datafiles, or DATABASE for all of them.
+fn push_files(spelling: &mut Spelling, files: &Option<Seq<u64>>) -> Result<(), NoMemory>
+    ensures { OnOk result (spelling.new ≡ spelling.old ++ one_spelled (spelled database_line) (spelled files_line) (files_values files.now)) }
+{
+    match files {
+        None => spelling.word("DATABASE"),
+        Some(files) => {
+            spelling.word("DATAFILE")?;
+            spelling.numbers(files.as_slice())
+        }
+    }
+}
+
+// Adds the tag, if there is one.
+fn push_tag(spelling: &mut Spelling, tag: &Option<Text>) -> Result<(), NoMemory>
+    requires { IsTrue (maybe_valid is_capital_tag tag.now) }
+    ensures { OnOk result (spelling.new ≡ spelling.old ++ maybe_spelled (spelled tag_line) (option_map tag_values tag.now)) }
+{
+    match tag {
+        None => Ok(()),
+        Some(tag) => spelling.tag(tag.as_bytes()),
+    }
+}
+
+// Adds KEEP FOREVER, where it is kept.
+fn push_keep(spelling: &mut Spelling, keep: bool) -> Result<(), NoMemory>
+    ensures { OnOk result (spelling.new ≡ spelling.old ++ maybe_spelled (spelled keep_line) (keep_values keep)) }
+{
+    if keep {
+        spelling.word("KEEP")?;
+        spelling.word("FOREVER")?;
+    }
+    Ok(())
+}
+
+fn backup(alloc: Global, form: &BackupForm) -> Result<Spelling, NoMemory>
+    requires { IsTrue (is_backup form.now) }
+    ensures tokens { IfOk result (λ ts. ts ≡ spelled backup_line (backup_values form.now)) }
+    ensures statement { IfOk result (λ ts. IsTrue (is_statement ts)) }
+{
+    let mut spelling = Spelling::new(alloc);
+    spelling.word("BACKUP")?;
+    push_kind(&mut spelling, form.copy)?;
+    push_level(&mut spelling, form.level)?;
+    push_files(&mut spelling, &form.files)?;
+    push_tag(&mut spelling, &form.tag)?;
+    push_keep(&mut spelling, form.keep)?;
+    spelling.sign(b';')?;
+    Ok(spelling)
+}
+
 fn list_incarnation(alloc: Global) -> Result<Spelling, NoMemory>
     ensures tokens { IfOk result (λ ts. ts ≡ spelled list_incarnation_line tt) }
     ensures statement { IfOk result (λ ts. IsTrue (is_statement ts)) }
@@ -218,6 +292,7 @@ fn spelling_of(alloc: Global, command: &Command) -> Result<Spelling, NoMemory>
         Command::ResetDatabase { inc } => reset_database(alloc, *inc),
         Command::Recover { until } => recover(alloc, *until, None, false),
         Command::RecoverTest { until, inc } => recover(alloc, *until, *inc, true),
+        Command::Backup(form) => backup(alloc, form),
         Command::ListIncarnation => list_incarnation(alloc),
         Command::Dump { file, block } => dump(alloc, *file, *block),
     }

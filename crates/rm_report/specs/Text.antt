@@ -14,8 +14,10 @@ use Rattle.rm_base.specs.declared.refusal.Refusal.{Refusal}
 use Rattle.rm_base.specs.declared.refusal.Refusal.TheVariants.{Rm01, Rm02, Rm03, Rm04, Rm05, Rm06, Rm07, Rm08, Rm09, Rm10, Rm11, Rm12, Rm13, Rm15}
 use Rattle.rm_history.specs.declared.tree.Standing.{Standing}
 use Rattle.rm_history.specs.declared.tree.Standing.TheVariants.{Current, Parent, Orphan}
+use Rattle.rm_report.specs.declared.line.Shape.{Shape}
+use Rattle.rm_report.specs.declared.line.Shape.TheVariants.{Full, Level0, Level1}
 use Rattle.rm_report.specs.declared.line.Line.{Line}
-use Rattle.rm_report.specs.declared.line.Line.TheVariants.{DatabaseAt, DatafileAt, Written, LogMade, NothingToArchive, Mounted, Opened, Chosen, Recovered, UntilIs, FileIs, BlockIs, IncarnationIs, Dumped, Refused}
+use Rattle.rm_report.specs.declared.line.Line.TheVariants.{DatabaseAt, DatafileAt, Written, LogMade, NothingToArchive, Mounted, Opened, Chosen, Recovered, UntilIs, FileIs, BlockIs, BackedUp, NothingToBackUp, IncarnationIs, Dumped, Refused}
 use Rattle.rm_report.specs.declared.line.Reply.{Reply}
 
 -- a byte's two digits in lower-case hexadecimal
@@ -89,6 +91,17 @@ standing_text Current = codes "current"
 standing_text Parent = codes "parent"
 standing_text Orphan = codes "orphan"
 
+-- what a backup is: a copy or a piece
+abbrev pub backup_text : Bool → List ℕ
+backup_text true = codes "copy"
+backup_text false = codes "piece"
+
+-- what a backup holds
+abbrev pub shape_text : Shape → List ℕ
+shape_text Full = codes "full"
+shape_text Level0 = codes "level 0"
+shape_text (Level1 from) = codes "level 1 from " ++ decimal from
+
 -- a line, without its line feed
 abbrev pub line_text : Line → List ℕ
 line_text (DatabaseAt dbid scn) = codes "database " ++ (decimal dbid ++ (codes " incarnation 1 at " ++ decimal scn))
@@ -103,18 +116,29 @@ line_text (Recovered until inc files) = codes "recovered until " ++ (decimal unt
 line_text (UntilIs until inc files) = codes "until " ++ (decimal until ++ (codes " of incarnation " ++ (decimal inc ++ (codes ": files " ++ decimal files))))
 line_text (FileIs file blocks written) = codes "datafile " ++ (decimal file ++ (codes ": " ++ (decimal blocks ++ (codes " blocks, " ++ (decimal written ++ codes " written")))))
 line_text (BlockIs block version content) = block_text block version content
+line_text (BackedUp copy id file shape checkpoint rows reads) = backup_text copy ++ (codes " " ++ (decimal id ++ (codes " datafile " ++ (decimal file ++ (codes " " ++ (shape_text shape ++ (codes " checkpoint " ++ (decimal checkpoint ++ (codes " rows " ++ (decimal rows ++ (codes " read " ++ decimal reads)))))))))))
+line_text NothingToBackUp = codes "nothing to back up"
 line_text (IncarnationIs inc parent reset end standing) = codes "incarnation " ++ (decimal inc ++ (codes " parent " ++ (decimal parent ++ (codes " reset at " ++ (decimal reset ++ (codes " end " ++ (decimal end ++ (codes " " ++ standing_text standing))))))))
 line_text (Dumped file block version content) = codes "datafile " ++ (decimal file ++ (codes " " ++ block_text block version content))
 line_text (Refused refusal) = refusal_text refusal
 
--- the line tells of a log, a file, a block or an incarnation
-abbrev pub tells : Line → Bool
-tells (LogMade id thread sequence from next) = true
-tells (FileIs file blocks written) = true
-tells (BlockIs block version content) = true
-tells (IncarnationIs inc parent reset end standing) = true
-tells (Dumped file block version content) = true
-tells line = false
+-- the line tells of a file's blocks
+abbrev pub tells_blocks : Line → Bool
+tells_blocks (FileIs file blocks written) = true
+tells_blocks (BlockIs block version content) = true
+tells_blocks (Dumped file block version content) = true
+tells_blocks line = false
+
+-- the line tells of a log or an incarnation
+abbrev pub tells_history : Line → Bool
+tells_history (LogMade id thread sequence from next) = true
+tells_history (IncarnationIs inc parent reset end standing) = true
+tells_history line = false
+
+-- the line tells of a backup
+abbrev pub tells_backup : Line → Bool
+tells_backup (BackedUp copy id file shape checkpoint rows reads) = true
+tells_backup line = false
 
 -- a line and one line feed
 abbrev pub full_line : Line → List ℕ

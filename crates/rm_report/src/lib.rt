@@ -5,7 +5,7 @@ pub mod laws;
 pub mod line;
 pub mod text;
 
-pub use line::{Line, Reply};
+pub use line::{Line, Reply, Shape};
 pub use text::bytes_of;
 
 #[cfg(test)]

@@ -2,6 +2,17 @@
 use rm_base::{Block, BlockNo, FileNo, IncNo, Refusal, Scn, Seq, ThreadNo};
 use rm_history::Standing;
 
+/// What a backup of a file holds.
+#[derive(Clone, Copy, Debug, PartialEq, Eq)]
+pub enum Shape {
+    /// Every block, and no level 1 builds on it.
+    Full,
+    /// Every block, and level 1 builds on it.
+    Level0,
+    /// The blocks whose version is at least `from`.
+    Level1 { from: Scn },
+}
+
 /// A line of a reply. Each form of line has a variant, whose fields are the numbers of its text.
 #[derive(Debug, Drop)]
 pub enum Line {
@@ -67,6 +78,19 @@ pub enum Line {
         version: Scn,
         content: Block,
     },
+    /// A file is backed up as a copy or a piece, as an object of this id: it holds every change below the
+    /// checkpoint, in `rows` blocks, for which `reads` blocks were read.
+    BackedUp {
+        copy: bool,
+        id: u32,
+        file: FileNo,
+        shape: Shape,
+        checkpoint: Scn,
+        rows: u32,
+        reads: u64,
+    },
+    /// No file is there to back up.
+    NothingToBackUp,
     /// An incarnation, its parent (0 for the first), and the SCNs at which it begins and ends.
     IncarnationIs {
         inc: IncNo,

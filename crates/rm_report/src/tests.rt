@@ -1,5 +1,5 @@
 //! The text of each line and of each refusal.
-use crate::{Line, Reply, bytes_of};
+use crate::{Line, Reply, Shape, bytes_of};
 use rm_base::{Absent, Block, IncNo, Limit, Refusal, Seq, Text, Unknown};
 use rm_history::Standing;
 use std::alloc::Global;
@@ -121,6 +121,46 @@ fn archived_and_opened(rt: HostRuntime) -> Result<(), Fail> {
             },
             "recovered until 4 of incarnation 1: files 2",
         ),
+    ];
+    for (line, text) in table {
+        shows(&rt, rt.alloc(), line, text)?;
+    }
+    Ok(())
+}
+
+// A backup of datafile 1 at checkpoint 5.
+fn backed_up(copy: bool, shape: Shape, reads: u64) -> Line {
+    Line::BackedUp {
+        copy,
+        id: 1,
+        file: 1,
+        shape,
+        checkpoint: 5,
+        rows: 2,
+        reads,
+    }
+}
+
+#[test]
+fn backups(rt: HostRuntime) -> Result<(), Fail> {
+    let table = [
+        (
+            backed_up(true, Shape::Full, 2),
+            "copy 1 datafile 1 full checkpoint 5 rows 2 read 2",
+        ),
+        (
+            backed_up(true, Shape::Level0, 2),
+            "copy 1 datafile 1 level 0 checkpoint 5 rows 2 read 2",
+        ),
+        (
+            backed_up(false, Shape::Full, 2),
+            "piece 1 datafile 1 full checkpoint 5 rows 2 read 2",
+        ),
+        (
+            backed_up(false, Shape::Level1 { from: 3 }, 18_446_744_073_709_551_615),
+            "piece 1 datafile 1 level 1 from 3 checkpoint 5 rows 2 read 18446744073709551615",
+        ),
+        (Line::NothingToBackUp, "nothing to back up"),
     ];
     for (line, text) in table {
         shows(&rt, rt.alloc(), line, text)?;

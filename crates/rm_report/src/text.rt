@@ -1,9 +1,9 @@
 //! The text of a reply.
 ghost use Rattle.std.specs.Prelude.{◌≡◌, ◌++◌, IfOk, OnOk, IsTrue};
 ghost use Rattle.std.specs.String.{string_bytes};
-ghost use Rattle.rm_report.specs.Text.{tells, line_text, block_text, standing_text, refusal_text, absent_text, unknown_text, limit_text, content_text, byte_text, reply_text};
+ghost use Rattle.rm_report.specs.Text.{tells_blocks, tells_history, tells_backup, line_text, block_text, backup_text, shape_text, standing_text, refusal_text, absent_text, unknown_text, limit_text, content_text, byte_text, reply_text};
 
-use crate::line::{Line, Reply};
+use crate::line::{Line, Reply, Shape};
 use rm_base::{Absent, Block, BlockNo, Limit, NoMemory, Refusal, Scn, Seq, Unknown};
 use rm_history::Standing;
 use std::alloc::{AllocError, Global};
@@ -30,7 +30,7 @@ fn push_line(out: &mut String, line: &Line) -> Result<(), AllocError>
             write!(out, "datafile {file} created at {scn} with {blocks} blocks")
         }
         Line::Written { scn } => write!(out, "scn {scn}"),
-        Line::LogMade { .. } => push_told(out, line),
+        Line::LogMade { .. } => push_history(out, line),
         Line::NothingToArchive { thread } => write!(out, "thread {thread} nothing to archive"),
         Line::Mounted => write!(out, "mounted"),
         Line::Opened { inc, scn } => write!(out, "opened incarnation {inc} at {scn}"),
@@ -44,17 +44,48 @@ fn push_line(out: &mut String, line: &Line) -> Result<(), AllocError>
         Line::UntilIs { until, inc, files } => {
             write!(out, "until {until} of incarnation {inc}: files {files}")
         }
-        Line::FileIs { .. } => push_told(out, line),
-        Line::BlockIs { .. } => push_told(out, line),
-        Line::IncarnationIs { .. } => push_told(out, line),
-        Line::Dumped { .. } => push_told(out, line),
+        Line::FileIs { .. } => push_blocks(out, line),
+        Line::BlockIs { .. } => push_blocks(out, line),
+        Line::BackedUp { .. } => push_backup(out, line),
+        Line::NothingToBackUp => write!(out, "nothing to back up"),
+        Line::IncarnationIs { .. } => push_history(out, line),
+        Line::Dumped { .. } => push_blocks(out, line),
         Line::Refused(refusal) => push_refusal(out, refusal),
     }
 }
 
-// Appends a line that tells of a log, a file, a block or an incarnation.
-fn push_told(out: &mut String, line: &Line) -> Result<(), AllocError>
-    requires { IsTrue (tells line.now) }
+// Appends a line that tells of a file's blocks.
+fn push_blocks(out: &mut String, line: &Line) -> Result<(), AllocError>
+    requires { IsTrue (tells_blocks line.now) }
+    ensures { OnOk result (string_bytes out.new ≡ string_bytes out.old ++ line_text line.now) }
+{
+    match line {
+        Line::FileIs {
+            file,
+            blocks,
+            written,
+        } => write!(out, "datafile {file}: {blocks} blocks, {written} written"),
+        Line::BlockIs {
+            block,
+            version,
+            content,
+        } => push_block(out, *block, *version, content),
+        Line::Dumped {
+            file,
+            block,
+            version,
+            content,
+        } => {
+            write!(out, "datafile {file} ")?;
+            push_block(out, *block, *version, content)
+        }
+        _ => unreachable!(),
+    }
+}
+
+// Appends a line that tells of a log or an incarnation.
+fn push_history(out: &mut String, line: &Line) -> Result<(), AllocError>
+    requires { IsTrue (tells_history line.now) }
     ensures { OnOk result (string_bytes out.new ≡ string_bytes out.old ++ line_text line.now) }
 {
     match line {
@@ -68,16 +99,6 @@ fn push_told(out: &mut String, line: &Line) -> Result<(), AllocError>
             out,
             "log {id} thread {thread} sequence {sequence} first {first} next {next}"
         ),
-        Line::FileIs {
-            file,
-            blocks,
-            written,
-        } => write!(out, "datafile {file}: {blocks} blocks, {written} written"),
-        Line::BlockIs {
-            block,
-            version,
-            content,
-        } => push_block(out, *block, *version, content),
         Line::IncarnationIs {
             inc,
             parent,
@@ -91,16 +112,48 @@ fn push_told(out: &mut String, line: &Line) -> Result<(), AllocError>
                 "incarnation {inc} parent {parent} reset at {reset} end {end} {standing}"
             )
         }
-        Line::Dumped {
+        _ => unreachable!(),
+    }
+}
+
+// Appends a line that tells of a backup.
+fn push_backup(out: &mut String, line: &Line) -> Result<(), AllocError>
+    requires { IsTrue (tells_backup line.now) }
+    ensures { OnOk result (string_bytes out.new ≡ string_bytes out.old ++ line_text line.now) }
+{
+    match line {
+        Line::BackedUp {
+            copy,
+            id,
             file,
-            block,
-            version,
-            content,
+            shape,
+            checkpoint,
+            rows,
+            reads,
         } => {
-            write!(out, "datafile {file} ")?;
-            push_block(out, *block, *version, content)
+            write!(out, "{} {id} datafile {file} ", backup_text(*copy))?;
+            push_shape(out, *shape)?;
+            write!(out, " checkpoint {checkpoint} rows {rows} read {reads}")
         }
         _ => unreachable!(),
+    }
+}
+
+// A copy or a piece.
+fn backup_text(copy: bool) -> &'static str
+    ensures { result.now ≡ backup_text copy }
+{
+    if copy { "copy" } else { "piece" }
+}
+
+// Appends what a backup holds.
+fn push_shape(out: &mut String, shape: Shape) -> Result<(), AllocError>
+    ensures { OnOk result (string_bytes out.new ≡ string_bytes out.old ++ shape_text shape) }
+{
+    match shape {
+        Shape::Full => write!(out, "full"),
+        Shape::Level0 => write!(out, "level 0"),
+        Shape::Level1 { from } => write!(out, "level 1 from {from}"),
     }
 }
 
