@@ -1,4 +1,5 @@
 pub mod Archiving
+pub mod Backup
 pub mod CreateDatabase
 pub mod CreateDatafile
 pub mod Dump

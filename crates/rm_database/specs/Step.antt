@@ -4,9 +4,10 @@ use Rattle.rm_base.specs.declared.block.Change.{Change}
 use Rattle.rm_base.specs.declared.refusal.Refusal.{Refusal}
 use Rattle.rm_base.specs.declared.refusal.Refusal.TheVariants.{Rm02, Rm03}
 use Rattle.rm_lang.specs.declared.command.Command.{Command}
-use Rattle.rm_lang.specs.declared.command.Command.TheVariants.{CreateDatabase, CreateDatafile, Write, SwitchLogfile, ArchiveLogCurrent, Mount, OpenPlain, OpenResetlogs, ResetDatabase, Recover, RecoverTest, ListIncarnation, Dump}
+use Rattle.rm_lang.specs.declared.command.Command.TheVariants.{CreateDatabase, CreateDatafile, Write, SwitchLogfile, ArchiveLogCurrent, Mount, OpenPlain, OpenResetlogs, ResetDatabase, Recover, RecoverTest, Backup, ListIncarnation, Dump}
 use Rattle.rm_report.specs.declared.line.Reply.{Reply}
 use Rattle.rm_report.specs.Reply.{refused_by}
+use Rattle.rm_database.specs.Backup.{backup_refusal, BacksUp}
 use Rattle.rm_database.specs.CreateDatabase.{create_refusal, CreatesDatabase}
 use Rattle.rm_database.specs.CreateDatafile.{datafile_refusal, CreatesDatafile}
 use Rattle.rm_database.specs.Dump.{dump_refusal, Dumps}
@@ -39,6 +40,7 @@ refusal_in p OpenResetlogs = resetlogs_refusal p
 refusal_in p (ResetDatabase inc) = reset_refusal p inc
 refusal_in p (Recover until) = recover_refusal p (target p.world.tree p.current until)
 refusal_in p (RecoverTest until inc) = test_refusal p until inc
+refusal_in p (Backup b) = backup_refusal p b
 refusal_in p ListIncarnation = None
 refusal_in p (Dump file block) = dump_refusal p file block
 
@@ -65,6 +67,7 @@ DoneIn p h OpenResetlogs reply new = IsSomeAnd p.point (λ s. OpensResetlogs p s
 DoneIn p h (ResetDatabase inc) reply new = Chooses p h inc reply new
 DoneIn p h (Recover until) reply new = Recovers p h (target p.world.tree p.current until) reply new
 DoneIn p h (RecoverTest until inc) reply new = Tests p h (tested p inc) (test_target p until inc) reply new
+DoneIn p h (Backup b) reply new = BacksUp p h b reply new
 DoneIn p h ListIncarnation reply new = ListsIncarnations p h reply new
 DoneIn p h (Dump file block) reply new = Dumps p h file block reply new
 

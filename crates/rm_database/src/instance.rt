@@ -6,6 +6,7 @@ ghost use Rattle.rm_lang.specs.declared.command.Command.TheVariants.{CreateDatab
 ghost use Rattle.rm_report.specs.Reply.{said, refused_by};
 ghost use Rattle.rm_database.specs.Step.{Steps, refusal_of};
 
+use crate::backup::backup;
 use crate::create_database::create_refusal;
 use crate::create_datafile::create_datafile;
 use crate::database::Database;
@@ -135,6 +136,7 @@ impl Instance {
             Command::ResetDatabase { inc } => reset_database(alloc, database, *inc),
             Command::Recover { until } => recover(alloc, database, until),
             Command::RecoverTest { until, inc } => recover_test(alloc, database, until, *inc),
+            Command::Backup(form) => backup(alloc, database, form),
             Command::ListIncarnation => list_incarnation(alloc, database),
             Command::Dump { file, block } => dump(alloc, database, *file, *block),
         }

@@ -2,11 +2,13 @@
 #![tactic(auto)]
 
 mod archive;
+pub mod backup;
 mod create_database;
 mod create_datafile;
 pub mod database;
 mod dump;
 pub mod instance;
+pub mod laws;
 mod mount;
 mod open;
 mod open_resetlogs;
@@ -19,6 +21,7 @@ mod reset_database;
 mod switch_logfile;
 mod write;
 
+pub use backup::NewPiece;
 pub use database::{Archived, Database};
 pub use instance::{Instance, refusal_reply};
 

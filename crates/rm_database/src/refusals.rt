@@ -42,6 +42,7 @@ impl Database {
             Command::ResetDatabase { inc } => self.reset_refusal(*inc),
             Command::Recover { until } => self.recover_refusal(self.target(until)),
             Command::RecoverTest { until, inc } => self.test_refusal(until, *inc),
+            Command::Backup(form) => self.backup_refusal(form),
             Command::ListIncarnation => None,
             Command::Dump { file, block } => self.dump_refusal(*file, *block),
         }

@@ -7,18 +7,11 @@ use Rattle.rm_history.specs.declared.tree.Incarnation.{Incarnation}
 use Rattle.rm_history.specs.Tree.{IsThere}
 use Rattle.rm_known.specs.Evidence as known
 use Rattle.rm_piece.specs.declared.piece.Piece.{Piece}
+use Rattle.rm_piece.specs.Artefacts.{base_of, level1_of}
 use Rattle.rm_piece.specs.Valid.{IsPiece}
 use Rattle.rm_redo.specs.declared.log_file.LogFile.{LogFile}
 use Rattle.rm_redo.specs.LogFile.{log_of}
 use Rattle.rm_redo.specs.LogFormat.{IsLogFile}
-
--- a piece as a copy of its datafile
-abbrev pub base_of : Piece → artefact.Base
-base_of p = record { inc = p.inc; file = p.file; checkpoint = p.checkpoint; rows = p.rows }
-
--- a piece as an increment
-abbrev pub level1_of : Piece → artefact.Level1
-level1_of p = record { inc = p.inc; file = p.file; from = p.from; checkpoint = p.checkpoint; rows = p.rows }
 
 -- the artefacts, without their ids
 abbrev pub known_of : Evidence → known.Evidence

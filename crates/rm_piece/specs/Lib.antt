@@ -1,3 +1,4 @@
+pub mod Artefacts
 pub mod Fits
 pub mod Rows
 pub mod Spelling
