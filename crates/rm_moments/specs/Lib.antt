@@ -1,4 +1,5 @@
 pub mod Fields
 pub mod Marks
 pub mod Meaning
+pub mod Tags
 pub mod Text

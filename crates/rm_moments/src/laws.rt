@@ -1,6 +1,7 @@
 //! What the definitions of texts and their moments mean.
-ghost use Rattle.std.specs.Prelude.{◌≡◌, ◌≤◌, ◌↔◌, List, ℕ};
-ghost use Rattle.rm_moments.specs.Text.{last_moment, IsText};
+ghost use Rattle.std.specs.Prelude.{◌≡◌, ◌≤◌, ◌↔◌, All, List, length, ℕ};
+ghost use Rattle.rm_moments.specs.Tags.{IsTagByte};
+ghost use Rattle.rm_moments.specs.Text.{last_moment, IsText, IsTag};
 ghost use Rattle.rm_moments.specs.Meaning.{MeansMoment};
 
 use crate::civil::civil_of;
@@ -28,4 +29,10 @@ pub fn a_text_is_read_back()
 /// No text means two moments.
 pub fn a_text_means_one_moment()
     ensures { (text : List ℕ) (now m n : ℕ) → MeansMoment text now m → MeansMoment text now n → m ≡ n }
+{}
+
+/// A tag is 18 digits and capital letters.
+pub fn a_tag_is_short()
+    ensures long { (moment : ℕ) (tag : List ℕ) → IsTag moment tag → length tag ≡ 18 }
+    ensures bytes { (moment : ℕ) (tag : List ℕ) → IsTag moment tag → All IsTagByte tag }
 {}

@@ -11,6 +11,7 @@ use Rattle.rm_history.proofs.Worlds.{BaseAgrees-with_branch, BaseAgrees-with_end
 use Rattle.rm_lang.specs.declared.command.Command.{Command}
 use Rattle.rm_lang.specs.declared.command.WriteForm.{WriteForm}
 use Rattle.rm_ledger.proofs.Trees.{Keeps as KeepsTree, grown_keeps}
+use Rattle.rm_piece.specs.Artefacts.{base_of}
 use Rattle.rm_redo.specs.LogFile.{log_of}
 use Rattle.rm_report.specs.declared.line.Reply.{Reply}
 use Rattle.rm_database.specs.CreateDatafile.{new_datafile, with_datafile}
@@ -22,7 +23,7 @@ use Rattle.rm_database.specs.Write.{change_of, with_write, write_refusal}
 use Rattle.rm_database.proofs.KeptChanges.{is_of-not}
 use Rattle.rm_database.proofs.KeptWrites.{keeps-write}
 use Rattle.rm_site.specs.Advances.{Advances}
-use Rattle.rm_site.specs.Holds.{Agrees, IsOfDatafile, IsWithin, base_of}
+use Rattle.rm_site.specs.Holds.{Agrees, IsOfDatafile, IsWithin}
 use Rattle.rm_site.specs.Machine.{Artefact, a_log, a_piece}
 use Rattle.rm_site.proofs.Fitting.{incarnations-of}
 use Rattle.rm_site.proofs.Leading.{Course, stays, adds, writes, branches_off, leads}

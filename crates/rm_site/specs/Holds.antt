@@ -11,13 +11,13 @@ use Rattle.rm_database.specs.declared.database.Archived.{Archived}
 use Rattle.rm_history.specs.declared.tree.Incarnation.{Incarnation}
 use Rattle.rm_history.specs.declared.world.World.{World}
 use Rattle.rm_history.specs.Agrees.{BaseAgrees, LogAgrees}
-use Rattle.rm_history.specs.Artefacts.{Base}
 use Rattle.rm_history.specs.Tree.{IsThere, end_of}
 use Rattle.rm_ledger.specs.Facts.{IsLedger}
 use Rattle.rm_ledger.specs.Ledger.{Ledger}
 use Rattle.rm_objects.specs.Names.{log_name, piece_name}
 use Rattle.rm_objects.specs.Objects.{IsLogObject, IsPieceObject}
 use Rattle.rm_piece.specs.declared.piece.Piece.{Piece}
+use Rattle.rm_piece.specs.Artefacts.{base_of}
 use Rattle.rm_piece.specs.Spelling as piece
 use Rattle.rm_redo.specs.declared.log_file.LogFile.{LogFile}
 use Rattle.rm_redo.specs.LogFile.{log_of}
@@ -32,10 +32,6 @@ pub record Mirrors (p : Parts) (l : Ledger) : Type 0 where
   pub next_id : l.base.next_id ≡ p.next_id
   pub tree : l.tree ≡ p.world.tree
   pub files : l.files ≡ p.world.files
-
--- a piece that has each block, as a copy of its datafile
-abbrev pub base_of : Piece → Base
-base_of a = record { inc = a.inc; file = a.file; checkpoint = a.checkpoint; rows = a.rows }
 
 -- the artefact agrees with the history
 abbrev pub Agrees : World → List Change → Artefact → Type 0

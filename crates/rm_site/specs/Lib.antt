@@ -6,5 +6,6 @@ pub mod Limits
 pub mod Machine
 pub mod Marks
 pub mod Opens
+pub mod Saves
 pub mod Step
 pub mod View

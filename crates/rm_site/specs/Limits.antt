@@ -7,10 +7,11 @@ use Rattle.rm_base.specs.declared.refusal.Refusal.TheVariants.{Rm08, Rm11, Rm12,
 use Rattle.rm_catalog.specs.Objects.{most_bytes}
 use Rattle.rm_catalog.specs.declared.record.Record.{Record}
 use Rattle.rm_catalog.specs.declared.record.Record.TheVariants as kind
+use Rattle.rm_database.specs.Backup.{taken, backup_bytes}
 use Rattle.rm_database.specs.Archiving.{due_from, bytes_due_from}
 use Rattle.rm_database.specs.Parts.{Parts}
 use Rattle.rm_lang.specs.declared.command.Command.{Command}
-use Rattle.rm_lang.specs.declared.command.Command.TheVariants.{CreateDatafile, SwitchLogfile, ArchiveLogCurrent, OpenResetlogs}
+use Rattle.rm_lang.specs.declared.command.Command.TheVariants.{CreateDatafile, SwitchLogfile, ArchiveLogCurrent, OpenResetlogs, Backup}
 use Rattle.rm_site.specs.Marks.{marked, is_branch, is_change}
 
 -- the bytes of the object of a log or piece; none of other records
@@ -37,6 +38,7 @@ made_by p (CreateDatafile blocks) = 1
 made_by p (SwitchLogfile thread) = due_of p thread
 made_by p ArchiveLogCurrent = due_from p 1 p.world.threads
 made_by p OpenResetlogs = 1 + due_from p 1 p.world.threads
+made_by p (Backup b) = length (taken p b)
 made_by p _ = 0
 
 -- how many marks it writes
@@ -52,6 +54,7 @@ abbrev pub bytes_added : Parts → Command → ℕ
 bytes_added p (SwitchLogfile thread) = bytes_due_of p thread
 bytes_added p ArchiveLogCurrent = bytes_due_from p 1 p.world.threads
 bytes_added p OpenResetlogs = bytes_due_from p 1 p.world.threads
+bytes_added p (Backup b) = backup_bytes p b
 bytes_added p _ = 0
 
 -- too many records, or too many bytes, where the statement adds some

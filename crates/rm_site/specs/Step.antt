@@ -19,6 +19,7 @@ use Rattle.rm_site.specs.Limits.{first_of, room_refusal}
 use Rattle.rm_site.specs.Machine.{Shown, Machine, records}
 use Rattle.rm_site.specs.Machine.{database as shown_in}
 use Rattle.rm_site.specs.Marks.{moment_of, mark_of}
+use Rattle.rm_site.specs.Saves.{Saved, Saves}
 use Rattle.rm_site.specs.View.{View, Stands}
 
 -- why a statement is refused in a site of this database and these records
@@ -52,11 +53,12 @@ abbrev pub Reads : Machine → Shown → Command → Reply → Machine → Type 
 Reads old s c reply new =
     database.Step (inner.machine (Some s.database) old.history) c reply (inner.machine (Some s.database) old.history) × (new ≡ old)
 
--- each other statement: the database goes on, and its records and objects follow
+-- each other statement: the database goes on, a backup saves its pieces, and records and objects follow
 abbrev pub Changes : Machine → Shown → Command → ℕ → Reply → Machine → Type 0
 Changes old s c moment reply new =
     (q : Parts) × (k : List Change) × database.Step (inner.machine (Some s.database) old.history) c reply (inner.machine (Some q) k)
-    × Follows old s q k (mark_of s.database (records old) c moment q) moment new
+    × (saved : List Saved) × Saves s.database c moment saved
+    × Follows old s q k saved (mark_of s.database (records old) c moment q) moment new
 
 -- a statement that only tells, or changes
 abbrev pub DoneBy : Bool → Machine → Shown → Command → ℕ → Reply → Machine → Type 0

@@ -1,5 +1,5 @@
 //! The records and objects of a statement that changed the database.
-ghost use Rattle.std.specs.Prelude.{◌≡◌, ◌≤◌, ◌<◌, [], All, IfOk, IsSome, length, map, count_by, drop};
+ghost use Rattle.std.specs.Prelude.{◌≡◌, ◌≤◌, ◌<◌, ◌++◌, [], All, IfOk, IsSome, length, map, count_by, drop};
 ghost use Rattle.rm_catalog.specs.Keys.{base};
 ghost use Rattle.rm_database.specs.Sound.{IsSound};
 ghost use Rattle.rm_ledger.specs.Growth.{Growth, edits_of};
@@ -9,6 +9,7 @@ ghost use Rattle.rm_site.specs.Follows.{log_entry, log_object, FollowsFrom, base
 ghost use Rattle.rm_site.specs.Marks.{early_mark as mark_of_change, late_mark, listed as list_of, is_mark};
 
 use crate::marks::{is_branch, is_change, is_later, mark_now};
+use crate::pieces::Pieces;
 use rm_base::sealed::digest_of;
 use rm_base::{Mark, Moment, NoMemory, Seq, Status};
 use rm_catalog::{BaseEntry, Catalog, LogEntry, Record};
@@ -157,6 +158,17 @@ fn listed(alloc: Global, mark: Option<Mark>) -> Result<Seq<Mark>, NoMemory>
     Ok(marks)
 }
 
+// All of these objects.
+fn joined(first: Seq<Object>, second: Seq<Object>) -> Result<Seq<Object>, NoMemory>
+    ensures { IfOk result (λ all. all ≡ first ++ second) }
+{
+    let mut all = first;
+    for object in second.into_vec() {
+        all.push(object)?;
+    }
+    Ok(all)
+}
+
 // The base facts after a statement.
 fn base_after(database: &Database, old: BaseEntry, moment: Moment) -> BaseEntry
     ensures { result ≡ base_of_after database.now old moment }
@@ -175,6 +187,7 @@ pub(crate) fn change_of(
     database: &Database,
     catalog: &Catalog,
     before: &Before,
+    pieces: Pieces,
     mark: Option<Mark>,
     moment: Moment,
 ) -> Result<Change, NoMemory>
@@ -182,8 +195,8 @@ pub(crate) fn change_of(
     requires files { before.now.files ≤ length database.now.world.files }
     requires logs { before.now.logs ≤ length database.now.archived }
     requires marks { before.now.marks ≤ 65536 }
-    ensures objects { IfOk result (λ c. c.objects ≡ map log_object (drop before.now.logs database.now.archived)) }
-    ensures edits { IfOk result (λ c. (l : Ledger) (g : Growth) → FollowsFrom catalog.now before.now database.now mark moment l g → c.edits ≡ edits_of l g) }
+    ensures objects { IfOk result (λ c. c.objects ≡ map log_object (drop before.now.logs database.now.archived) ++ pieces.objects) }
+    ensures edits { IfOk result (λ c. (l : Ledger) (g : Growth) → FollowsFrom catalog.now before.now database.now pieces.entries mark moment l g → c.edits ≡ edits_of l g) }
     ensures removes { IfOk result (λ c. c.removes ≡ []) }
 {
     let Some(old) = base_of(catalog) else {
@@ -198,12 +211,12 @@ pub(crate) fn change_of(
         tree: database.tree(),
         files: database.datafiles(),
         logs: entries.as_slice(),
-        pieces: &[],
+        pieces: pieces.entries.as_slice(),
         marks: marks.as_slice(),
     };
     Ok(Change {
-        objects,
         edits: edits(alloc, &view)?,
+        objects: joined(objects, pieces.objects)?,
         removes: Seq::new(alloc),
     })
 }

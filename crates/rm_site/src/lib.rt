@@ -5,6 +5,7 @@ mod follow;
 mod limits;
 mod marks;
 mod open;
+mod pieces;
 pub mod site;
 
 pub use rm_change::Stop;

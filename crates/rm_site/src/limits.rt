@@ -74,13 +74,14 @@ fn bytes_due_of(database: &Database, thread: u64) -> u64
 // How many records a statement makes, marks left aside.
 fn made_by(database: &Database, command: &Command) -> u64
     ensures value { result ≡ made_by database.now command.now }
-    ensures few { result ≤ 5 }
+    ensures few { result ≤ 64 }
 {
     match command {
         Command::CreateDatafile { .. } => 1,
         Command::SwitchLogfile { thread } => due_of(database, *thread),
         Command::ArchiveLogCurrent => database.logs_due(1, database.threads()),
         Command::OpenResetlogs => 1 + database.logs_due(1, database.threads()),
+        Command::Backup(form) => database.backup_count(form),
         _ => 0,
     }
 }
@@ -102,6 +103,7 @@ fn bytes_added(database: &Database, command: &Command) -> u64
         Command::ArchiveLogCurrent | Command::OpenResetlogs => {
             database.bytes_due(1, database.threads())
         }
+        Command::Backup(form) => database.backup_bytes(form),
         _ => 0,
     }
 }

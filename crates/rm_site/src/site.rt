@@ -17,6 +17,7 @@ use crate::follow::{Before, change_of, mark_of};
 use crate::limits::refusal_with_room;
 use crate::marks::moment_of;
 use crate::open::first_key;
+use crate::pieces::pieces_of;
 use rm_base::{Moment, NoMemory, Refusal, Seq, Store};
 use rm_catalog::{Catalog, CatalogFault, Keeper, KeeperFail};
 use rm_change::{Change, Stop, carry_out};
@@ -168,12 +169,13 @@ fn go_on<D: Store, C: Keeper>(
         unreachable!()
     };
     let before = Before::of(database, &state.catalog, command, moment);
+    let pieces = pieces_of(alloc, database, command, moment)?;
     let reply = state.instance.step(command)?;
     let Some(database) = state.instance.database() else {
         unreachable!()
     };
     let mark = mark_of(database, before.mark, command, moment);
-    let change = change_of(alloc, database, &state.catalog, &before, mark, moment)?;
+    let change = change_of(alloc, database, &state.catalog, &before, pieces, mark, moment)?;
     record_change(&mut state.catalog, store, keeper, &change)?;
     Ok(reply)
 }

@@ -2,6 +2,8 @@
 #![tactic(auto)]
 
 mod adapters;
+#[cfg(test)]
+mod backups;
 mod ends;
 #[cfg(test)]
 mod faults;
