@@ -8,6 +8,7 @@ mod Scns
 mod Turns
 pub mod Accepted
 pub mod Archives
+pub mod Backups
 pub mod Branching
 pub mod Dumps
 pub mod Growing

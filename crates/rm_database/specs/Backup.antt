@@ -59,7 +59,7 @@ ids_refusal p n = if nat_lt 4294967295 (p.next_id + n + 68) then Some (Rm11 Obje
 abbrev pub backup_refusal : Parts → BackupForm → Option Refusal
 backup_refusal p b =
     when_open p (option_map_or (λ f. Some (Rm05 (File f))) (absent p b)
-      (option_map_or (λ f. Some (Rm09 f)) (lost_taken p b) (ids_refusal p (length (taken p b)))))
+    (option_map_or (λ f. Some (Rm09 f)) (lost_taken p b) (ids_refusal p (length (taken p b)))))
 
 -- the rows that stand in place of a datafile
 abbrev pub rows_in : Parts → ℕ → List Row

@@ -94,12 +94,11 @@ impl Database {
     fn absent(&self, form: &BackupForm) -> Option<u64>
         ensures { result ≡ absent self.now form.now }
     {
-        let files = form.files.as_ref()?;
+        let files = form.files.as_ref()?.as_slice();
         files
-            .as_slice()
             .iter()
+            .find(|file| self.on_path(**file).is_none())
             .copied()
-            .find(|file| self.on_path(*file).is_none())
     }
 
     // The least datafile that would be backed up and that is lost.
@@ -155,9 +154,9 @@ impl Database {
         ensures value { result.now ≡ rows_in self.now file }
         ensures most { length result.now ≤ 65536 }
     {
-        match self.placed(u64::from(file)) {
-            Some(file) => file.rows(),
-            None => &[],
+        match self.place.get(file as usize - 1) {
+            Some(Some(file)) => file.rows(),
+            _ => &[],
         }
     }
 
@@ -190,8 +189,9 @@ impl Database {
     {
         let mut pieces = Seq::new(alloc);
         let mut id = self.next_id;
-        for file in self.taken(alloc, form)? {
-            let piece = self.piece_of(alloc, kind_of(form), file)?;
+        let files = self.taken(alloc, form)?;
+        for file in files.iter() {
+            let piece = self.piece_of(alloc, kind_of(form), *file)?;
             pieces.push(NewPiece { id, piece })?;
             id += 1;
         }
@@ -222,8 +222,9 @@ impl Database {
     {
         let mut lines = Seq::new(alloc);
         let mut id = self.next_id;
-        for file in self.taken(alloc, form)? {
-            lines.push(self.backup_line(form, id, file))?;
+        let files = self.taken(alloc, form)?;
+        for file in files.iter() {
+            lines.push(self.backup_line(form, id, *file))?;
             id += 1;
         }
         if lines.is_empty() {
@@ -244,11 +245,7 @@ impl Database {
 
 /// BACKUP: one piece of each datafile that it takes, as the datafile stands at `now`. The database stays
 /// but for the ids of the pieces, which are had by `new_pieces`. A refusal changes nothing.
-pub fn backup(
-    alloc: Global,
-    database: &mut Database,
-    form: &BackupForm,
-) -> Result<Reply, NoMemory>
+pub fn backup(alloc: Global, database: &mut Database, form: &BackupForm) -> Result<Reply, NoMemory>
     ensures { IfOk result (Steps (Some database.old) (Some database.new) (Backup form.now)) }
 {
     if let Some(refusal) = database.backup_refusal(form) {
