@@ -8,4 +8,5 @@ pub mod Marks
 pub mod Opens
 pub mod Saves
 pub mod Step
+pub mod Stopped
 pub mod View
