@@ -1,5 +1,5 @@
 -- CREATE DATABASE: the machine takes the step, and the site stands for the machine after it.
-use Rattle.std.proofs.Common.{◌≡◌, ◌≤◌, ◌∙◌, ℕ, List, [], Option, Some, None, Bool, true, false, cond, ltb, ◌&&◌, nat_le, refl, ap, sym, subst, arith, All}
+use Rattle.std.proofs.Common.{◌≡◌, ◌≤◌, ◌∙◌, inl, inr, ℕ, List, [], Option, Some, None, Bool, true, false, cond, ltb, ◌&&◌, nat_le, refl, ap, sym, subst, arith, All}
 use Rattle.std.specs.Prelude.{IsTrue}
 use Rattle.std.specs.Option.{option_map}
 use Rattle.std.proofs.lemmas.Bool.Decides.{nat_tests}
@@ -12,8 +12,9 @@ use Rattle.rm_catalog.specs.declared.record.Record.{Record}
 use Rattle.rm_catalog.specs.Edits.{after_edits}
 use Rattle.rm_catalog.specs.Rules.{IsValid}
 use Rattle.rm_change.specs.declared.change.Change.{Change}
-use Rattle.rm_change.specs.Carrying.{Carried, Leads}
-use Rattle.rm_change.specs.Names.{HasPuts}
+use Rattle.rm_change.specs.Carrying.{Outside, Carried, Halted, before_the_edits, after_the_edits, Leads}
+use Rattle.rm_change.specs.declared.change.Object.{Object}
+use Rattle.rm_change.specs.Names.{HasPuts, is_named, itself, name_of}
 use Rattle.rm_database.specs.CreateDatabase.{create_refusal}
 use Rattle.rm_database.specs.CreateDatabase.{fresh as new_database}
 use Rattle.rm_database.specs.Machine.{Keeps, machine}
@@ -31,7 +32,8 @@ use Rattle.rm_report.specs.declared.line.Reply.{Reply}
 use Rattle.rm_site.specs.Holds.{Agrees, HasLog, HasPiece, IsMade, IsOfDatafile, IsWithin, Mirrors, Sound, SoundBy}
 use Rattle.rm_site.specs.Machine.{Shown, Machine, records}
 use Rattle.rm_site.specs.Machine.{database as shown_in}
-use Rattle.rm_site.specs.Step.{StepBy, Done, Goes, refusal_of}
+use Rattle.rm_site.specs.Step.{StepAt, StepBy, Done, Goes, refusal_of}
+use Rattle.rm_site.specs.Stopped.{Stopped, StopsAt}
 use Rattle.rm_site.specs.View.{IsStanding}
 use Rattle.rm_site.proofs.Going.{puts-stand}
 
@@ -54,6 +56,10 @@ created o dbid threads scn reply steps none =
       keeps = subst (λ x. inner_machine.Holds x []) is (subst (inner_machine.Holds o) last s.2);
       step = subst (λ m. inner.Step (machine None []) (CreateDatabase dbid threads scn) reply m) same s.1;
     }
+
+no-shown : (x : Option Shown) → option_map (λ s. s.database) x ≡ None → x ≡ None
+no-shown None is = refl
+no-shown (Some s) is = absurd (cc)
 
 module _ (dbid threads scn : ℕ) (reply : Reply) (moment : ℕ) (change : Change) (o : Option Parts) (made : Created o dbid threads scn reply)
     (ledger : IsLedger (fresh dbid threads scn moment)) (accepted : create_refusal threads ≡ None)
@@ -94,6 +100,20 @@ module _ (dbid threads scn : ℕ) (reply : Reply) (moment : ℕ) (change : Chang
     archived = All-nil (IsMade m.made);
   }
 
+  -- the step, where the store has no new objects
+  step-founded : (m : Machine) (held : Held) → m.shown ≡ None → shown_in m ≡ None → SoundBy None m.history m.objects m.made → HasPuts change.objects m.objects held
+      → StepAt m (CreateDatabase dbid threads scn) moment reply (founded m held)
+  step-founded m held none shown sound puts =
+      let new = founded m held in
+      let same : HasPuts [] m.objects held = subst (λ xs. HasPuts xs m.objects held) objects puts in
+      let refused : refusal_of (shown_in m) (records m) (CreateDatabase dbid threads scn) moment ≡ None = ap (λ x. refusal_of x (records m) (CreateDatabase dbid threads scn) moment) shown ∙ accepted in
+      subst (λ x. StepBy x m (CreateDatabase dbid threads scn) moment reply new) (sym refused)
+      (subst (λ x. Done x m (CreateDatabase dbid threads scn) moment reply new) (sym none) (
+        p,
+        subst (λ h. inner.Step (machine None h) (CreateDatabase dbid threads scn) reply (machine (Some p) h)) (sym sound.0) made.step,
+        record { shown = refl; history = refl; objects = same; made = refl },
+      ))
+
   pub goes-created : (held held' : Option Held) (kept kept' : Option (List Record)) → Leads (Carried change) held kept held' kept'
       → Goes held kept None [] (CreateDatabase dbid threads scn) moment reply held' kept' o (after_edits change.edits [])
   goes-created held held' kept kept' leads m shown is holds =
@@ -101,16 +121,9 @@ module _ (dbid threads scn : ℕ) (reply : Reply) (moment : ℕ) (change : Chang
       let sound : SoundBy None m.history m.objects m.made = subst (λ x. SoundBy x m.history m.objects m.made) none holds.sound in
       let led = leads (record { objects = m.objects; records = records m }) (record { store = holds.store; keeper = holds.keeper }) in
       let after = led.0 in
-      let puts : HasPuts [] m.objects after.objects = subst (λ xs. HasPuts xs m.objects after.objects) objects (puts-stand change (record { objects = m.objects; records = records m }) after removes led.1) in
-      let new = founded m after.objects in
-      let refused : refusal_of (shown_in m) (records m) (CreateDatabase dbid threads scn) moment ≡ None = ap (λ x. refusal_of x (records m) (CreateDatabase dbid threads scn) moment) shown ∙ accepted in (
-        new,
-        subst (λ x. StepBy x m (CreateDatabase dbid threads scn) moment reply new) (sym refused)
-            (subst (λ x. Done x m (CreateDatabase dbid threads scn) moment reply new) (sym none) (
-              p,
-              subst (λ h. inner.Step (machine None h) (CreateDatabase dbid threads scn) reply (machine (Some p) h)) (sym sound.0) made.step,
-              record { shown = refl; history = refl; objects = puts; made = refl },
-            )),
+      let puts = puts-stand change (record { objects = m.objects; records = records m }) after removes led.1 in (
+        founded m after.objects,
+        step-founded m after.objects none shown sound puts,
         sym made.is,
         sym follows,
         record {
@@ -119,10 +132,29 @@ module _ (dbid threads scn : ℕ) (reply : Reply) (moment : ℕ) (change : Chang
           sound = sound-founded m after.objects sound;
         },
       )
-    where
-      no-shown : (x : Option Shown) → option_map (λ s. s.database) x ≡ None → x ≡ None
-      no-shown None is = refl
-      no-shown (Some s) is = absurd (cc)
+
+  -- what a stop leaves
+  stopped-created : (m : Machine) → m.shown ≡ None → shown_in m ≡ None → records m ≡ [] → SoundBy None m.history m.objects m.made → (left : Outside) → Halted change (record { objects = m.objects; records = records m }) left
+      → Stopped m (CreateDatabase dbid threads scn) moment left
+  stopped-created m none shown is sound left (before_the_edits b) =
+      (m, inl refl, record { records = b.records; objects = λ n named. b.objects n (ap (λ (xs : List Object). is_named name_of xs n) objects) })
+  stopped-created m none shown is sound left (after_the_edits a) = (
+    founded m a.put,
+    inr (reply, step-founded m a.put none shown sound a.puts),
+    record {
+      records = a.records ∙ ap (after_edits change.edits) is ∙ follows;
+      objects = λ n named. a.removes n (ap (λ (ns : List (List ℕ)). is_named itself ns n) removes);
+    },
+  )
+
+  -- a change that halted
+  pub halts-created : (held held' : Option Held) (kept kept' : Option (List Record)) → Leads (Halted change) held kept held' kept'
+      → StopsAt held kept None [] (CreateDatabase dbid threads scn) moment held' kept'
+  halts-created held held' kept kept' leads m shown is holds =
+      let none = no-shown m.shown shown in
+      let sound : SoundBy None m.history m.objects m.made = subst (λ x. SoundBy x m.history m.objects m.made) none holds.sound in
+      let led = leads (record { objects = m.objects; records = records m }) (record { store = holds.store; keeper = holds.keeper }) in
+      (led.0, stopped-created m none shown is sound led.0 led.1, led.2)
 
 in-ranges : (d t s : ℕ) → (nat_le 1 d && nat_le d 4294967295 && (nat_le 1 t && nat_le t 18446744073709551615 && (nat_le 1 s && nat_le s 281474976710655))) ≡ true → (1 ≤ d) × (1 ≤ t) × (1 ≤ s) × (s ≤ 281474976710655)
 in-ranges d t s is = grind (arith, nat_tests)

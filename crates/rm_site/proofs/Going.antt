@@ -196,14 +196,14 @@ module _ (m : Machine) (s : Shown) (shown : m.shown ≡ Some s) (q : Parts) (c :
   mark = mark_of p rs c moment q
 
   -- the new logs
-  are-new : AreNew p.next_id q.next_id (new_logs p q)
+  pub are-new : AreNew p.next_id q.next_id (new_logs p q)
   are-new = subst (AreNew p.next_id q.next_id) (sym (new-are p q g.advances)) (record {
     small = let room = w.new.archived.room in omega arith;
     ids = g.advances.ids;
     ascend = g.advances.ascend;
   })
 
-  old-ids : All (λ l. l.id < p.next_id) s.ledger.logs
+  pub old-ids : All (λ l. l.id < p.next_id) s.ledger.logs
   old-ids k d inside = subst (λ n. (get_or s.ledger.logs k d).id < n) sound.mirrors.next_id (sound.ledger.ids.logs k d inside).1
 
   pub sound-after : (objects : Held) → HasPuts (map log_object (new_logs p q)) m.objects objects → Sound (record { database = q; ledger = grown s.ledger (growth_of p q mark moment) }) g.did.history objects (m.made ++ map log_made (new_logs p q))

@@ -7,4 +7,5 @@ pub mod Machine
 pub mod Marks
 pub mod Opens
 pub mod Step
+pub mod Stopped
 pub mod View

@@ -5,12 +5,13 @@ ghost use Rattle.rm_change.specs.declared.change.Stop.TheVariants.{StoreFault, K
 ghost use Rattle.rm_lang.specs.IsCommand.{is_command};
 ghost use Rattle.rm_catalog.specs.Edits.{after_edits};
 ghost use Rattle.rm_catalog.specs.Rules.{IsValid};
-ghost use Rattle.rm_change.specs.Carrying.{Carried, Leads};
+ghost use Rattle.rm_change.specs.Carrying.{Carried, Halted, Leads};
 ghost use Rattle.rm_site.specs.Marks.{IsMomentOf};
 ghost use Rattle.rm_site.specs.Step.{Steps, Goes, refusal_of, is_reading};
 ghost use Rattle.rm_base.specs.Store.{Held};
 ghost use Rattle.rm_site.specs.Faults.{IsBadFirst};
 ghost use Rattle.rm_site.specs.Opens.{Opens};
+ghost use Rattle.rm_site.specs.Stopped.{StopsAt, Stops};
 ghost use Rattle.rm_site.specs.View.{IsStanding};
 
 use crate::follow::{Before, change_of, mark_of};
@@ -98,6 +99,7 @@ fn record_change<D: Store, C: Keeper>(
     requires valid { IsValid (after_edits change.now.edits catalog.old) }
     ensures catalog { OnOk result (catalog.new ≡ after_edits change.now.edits catalog.old) }
     ensures carried { OnOk result (Leads (Carried change.now) (D.held store.old) (C.kept keeper.old) (D.held store.new) (C.kept keeper.new)) }
+    ensures stopped { OnErr result (Leads (Halted change.now) (D.held store.old) (C.kept keeper.old) (D.held store.new) (C.kept keeper.new)) }
     ensures store { IsErrOf result StoreFault → Rose (D.faults store.old) (D.faults store.new) }
     ensures keeper { IsErrOf result KeeperFault → Rose (C.faults keeper.old) (C.faults keeper.new) }
     ensures store_never_falls { D.faults store.old ≤ D.faults store.new }
@@ -124,6 +126,7 @@ fn create<D: Store, C: Keeper>(
     requires accepted { refusal_of state.old.instance state.old.catalog command.now moment ≡ None }
     ensures standing { OnOk result (IsStanding state.new.instance state.new.catalog) }
     ensures step { IfOk result (λ reply. Goes (D.held store.old) (C.kept keeper.old) state.old.instance state.old.catalog command.now moment reply (D.held store.new) (C.kept keeper.new) state.new.instance state.new.catalog) }
+    ensures stopped { OnErr result (StopsAt (D.held store.old) (C.kept keeper.old) state.old.instance state.old.catalog command.now moment (D.held store.new) (C.kept keeper.new)) }
     ensures store { IsErrOf result StoreFault → Rose (D.faults store.old) (D.faults store.new) }
     ensures keeper { IsErrOf result KeeperFault → Rose (C.faults keeper.old) (C.faults keeper.new) }
     ensures store_never_falls { D.faults store.old ≤ D.faults store.new }
@@ -159,6 +162,7 @@ fn go_on<D: Store, C: Keeper>(
     requires accepted { refusal_of state.old.instance state.old.catalog command.now moment ≡ None }
     ensures standing { OnOk result (IsStanding state.new.instance state.new.catalog) }
     ensures step { IfOk result (λ reply. Goes (D.held store.old) (C.kept keeper.old) state.old.instance state.old.catalog command.now moment reply (D.held store.new) (C.kept keeper.new) state.new.instance state.new.catalog) }
+    ensures stopped { OnErr result (StopsAt (D.held store.old) (C.kept keeper.old) state.old.instance state.old.catalog command.now moment (D.held store.new) (C.kept keeper.new)) }
     ensures store { IsErrOf result StoreFault → Rose (D.faults store.old) (D.faults store.new) }
     ensures keeper { IsErrOf result KeeperFault → Rose (C.faults keeper.old) (C.faults keeper.new) }
     ensures store_never_falls { D.faults store.old ≤ D.faults store.new }
@@ -192,6 +196,7 @@ fn answer<D: Store, C: Keeper>(
     requires moment { IsMomentOf state.old.catalog moment }
     ensures standing { OnOk result (IsStanding state.new.instance state.new.catalog) }
     ensures step { IfOk result (λ reply. Goes (D.held store.old) (C.kept keeper.old) state.old.instance state.old.catalog command.now moment reply (D.held store.new) (C.kept keeper.new) state.new.instance state.new.catalog) }
+    ensures stopped { OnErr result (StopsAt (D.held store.old) (C.kept keeper.old) state.old.instance state.old.catalog command.now moment (D.held store.new) (C.kept keeper.new)) }
     ensures store { IsErrOf result StoreFault → Rose (D.faults store.old) (D.faults store.new) }
     ensures keeper { IsErrOf result KeeperFault → Rose (C.faults keeper.old) (C.faults keeper.new) }
     ensures store_never_falls { D.faults store.old ≤ D.faults store.new }
@@ -274,6 +279,9 @@ impl Site {
     ///
     /// New objects are put first, then all records are edited at once. An error is a stop, after which the
     /// site is spent: a fault of the store or the keeper, which that object counted, or want of memory.
+    ///
+    /// A stop leaves the records before the statement or those after it, whole, and each object that one of
+    /// them names. Other objects may hold anything.
     pub fn step<D: Store, C: Keeper>(
         &mut self,
         store: &mut D,
@@ -284,6 +292,7 @@ impl Site {
         requires live { self.old.live ≡ true }
         requires command { IsTrue (is_command command.now) }
         ensures step { IfOk result (λ reply. Steps (D.held store.old) (C.kept keeper.old) self.old command.now clock reply (D.held store.new) (C.kept keeper.new) self.new) }
+        ensures stopped { OnErr result (Stops (D.held store.old) (C.kept keeper.old) self.old command.now clock (D.held store.new) (C.kept keeper.new)) }
         ensures live { OnOk result (self.new.live ≡ true) }
         ensures spent { OnErr result (self.new.live ≡ false) }
         ensures store { IsErrOf result StoreFault → Rose (D.faults store.old) (D.faults store.new) }

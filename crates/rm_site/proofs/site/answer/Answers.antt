@@ -8,6 +8,7 @@ use Rattle.rm_site.specs.View.{IsStanding}
 use Rattle.rm_site.proofs.Going.{neither}
 use Rattle.rm_site.proofs.Reading.{goes-reading, stays}
 use Rattle.rm_site.proofs.Standing.{accepted-of, recorded, steps-of}
+use Rattle.rm_site.proofs.Stopping.{nothing-done, on-err}
 use Rattle.rm_site.proofs.site.answer.Goals as goal
 
 pub returns-then-is_reading-clause-standing : goal.returns-then-is_reading-clause-standing
@@ -36,3 +37,9 @@ returns-then-is_reading-clause-step g c =
     subst (λ (x : Option Parts). Goes held kept x rs k c.args.moment reply held kept c.step.new.self rs) (sym there)
     (goes-reading p c.step.new.self rs k reply c.args.moment held kept (recorded o p rs there c.requires.standing) (sym c.is_reading.ensures ∙ c.if-is_reading.true)
     (accepted-of o p rs k c.args.moment there (sym c.refusal.ensures ∙ c.in_default.is)) (steps-of o c.step.new.self p c.step.new.self k reply there refl c.in_ok-step.ensures.step))
+
+pub returns-in_err-refusal_reply-clause-stopped : goal.returns-in_err-refusal_reply-clause-stopped
+returns-in_err-refusal_reply-clause-stopped g c = on-err _ _ (nothing-done _ _ _ _ _ _)
+
+pub returns-in_err-step-clause-stopped : goal.returns-in_err-step-clause-stopped
+returns-in_err-step-clause-stopped g c = on-err _ _ (nothing-done _ _ _ _ _ _)
