@@ -1,6 +1,7 @@
 //! What the definitions of texts and their moments mean.
 ghost use Rattle.std.specs.Prelude.{◌≡◌, ◌≤◌, ◌↔◌, List, ℕ};
-ghost use Rattle.rm_moments.specs.Text.{last_moment, IsText};
+ghost use Rattle.rm_base.specs.Numbers.{last_moment};
+ghost use Rattle.rm_moments.specs.Text.{IsText};
 ghost use Rattle.rm_moments.specs.Meaning.{MeansMoment};
 
 use crate::civil::civil_of;

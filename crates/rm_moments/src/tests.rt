@@ -1,9 +1,9 @@
 //! Dates that a calendar tells, texts that mean no moment, and marks at and about a moment.
 ghost use Rattle.std.specs.Prelude.{◌≤◌};
-ghost use Rattle.rm_moments.specs.Text.{last_moment};
+ghost use Rattle.rm_base.specs.Numbers.{last_moment};
 
 use crate::*;
-use rm_base::{Mark, Moment};
+use rm_base::{LAST_MOMENT, Mark, Moment};
 use std::alloc::Global;
 use std::process::Abort;
 use std::test::Fail;
@@ -75,7 +75,7 @@ fn the_calendar_tells_the_text(rt: HostRuntime) -> Result<(), Fail> {
     is_shown(
         &rt,
         alloc,
-        253_402_300_799,
+        LAST_MOMENT,
         "9999-12-31 23:59:59",
         "TAG99991231T235959",
     )
@@ -115,7 +115,7 @@ fn other_texts_mean_no_moment(rt: HostRuntime) {
 #[test]
 fn sysdate_goes_back_by_days(rt: HostRuntime) {
     assert_eq!(rt; parse("SYSDATE", 5), Some(5));
-    assert_eq!(rt; parse("SysDate", 253_402_300_799), Some(253_402_300_799));
+    assert_eq!(rt; parse("SysDate", LAST_MOMENT), Some(LAST_MOMENT));
     assert_eq!(rt; parse("sysdate-0", 5), Some(5));
     assert_eq!(rt; parse("sYSDATE-1", 86_405), Some(5));
     assert_eq!(rt; parse("SYSDATE-36500", 3_153_600_005), Some(5));
