@@ -22,7 +22,7 @@ pub use faults::{Failed, FormatFault, NoMemory};
 pub use kinds::{Bad, Class, Kind, Policy, Status};
 pub use mem_store::{MemClock, MemStore, StoreFailing};
 pub use memory::{Failing, MemSink, MemSource};
-pub use numbers::{BlockNo, FileNo, IncNo, LAST_SCN, Moment, Scn, ThreadNo};
+pub use numbers::{BlockNo, FileNo, IncNo, LAST_MOMENT, LAST_SCN, Moment, Scn, ThreadNo};
 pub use outside::{Sink, Source};
 pub use refusal::{Absent, Limit, Refusal, Unknown};
 pub use seq::Seq;

@@ -15,8 +15,11 @@ pub type BlockNo = u32;
 /// A redo thread: 1 to 4.
 pub type ThreadNo = u8;
 
-/// Seconds since 1970-01-01 UTC: at most 253,402,300,799.
+/// Seconds since 1970-01-01 UTC: at most [`LAST_MOMENT`].
 pub type Moment = u64;
 
 /// The greatest SCN, 2^48 - 1.
 pub const LAST_SCN: Scn = 281_474_976_710_655;
+
+/// The last moment, 23:59:59 on the last day of 9999.
+pub const LAST_MOMENT: Moment = 253_402_300_799;

@@ -1,7 +1,7 @@
 -- What the base facts, an incarnation, a datafile and a mark obey in a list of records.
 use Rattle.std.specs.Prelude.{◌≡◌, ℕ, ◌-◌, ◌<◌, ◌≤◌, ◌==◌, Bool, false, IsTrue, List, IsSomeAnd, nat_le, sum_by, if◌then◌else◌}
 use Rattle.std.specs.List.{list_any}
-use Rattle.rm_base.specs.Numbers.{last_scn}
+use Rattle.rm_base.specs.Numbers.{last_scn, last_moment}
 use Rattle.rm_base.specs.declared.kinds.Policy.{Policy}
 use Rattle.rm_base.specs.declared.kinds.Policy.TheVariants.{Window, Redundancy, Nothing}
 use Rattle.rm_catalog.specs.declared.record.BaseEntry.{BaseEntry}
@@ -24,7 +24,7 @@ pub record BaseRule (rs : List Record) (b : BaseEntry) : Type 0 where
   pub threads : (1 ≤ b.threads) × (b.threads ≤ 4)
   pub current : IsThere 2 b.current rs
   pub next_id : 1 ≤ b.next_id
-  pub moment : b.moment ≤ 253402300799
+  pub moment : b.moment ≤ last_moment
   pub policy : IsPolicy b.policy
   pub parallelism : (1 ≤ b.parallelism) × (b.parallelism ≤ 16)
 

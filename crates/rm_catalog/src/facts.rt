@@ -6,7 +6,7 @@ ghost use Rattle.rm_catalog.specs.Facts.{IsPolicy, BaseRule, BeginsOn, BranchRul
 
 use crate::find::{base, incarnation, is_there, mark};
 use crate::record::{BaseEntry, DatafileEntry, IncarnationEntry, MarkEntry, Record};
-use rm_base::{FileNo, IncNo, LAST_SCN, Policy};
+use rm_base::{FileNo, IncNo, LAST_MOMENT, LAST_SCN, Policy};
 
 fn is_policy(policy: Policy) -> bool
     ensures { IsTrue result ↔ IsPolicy policy }
@@ -27,7 +27,7 @@ pub fn base_obeys(records: &[Record], b: &BaseEntry) -> bool
         && 1 <= b.threads
         && b.threads <= 4
         && 1 <= b.next_id
-        && b.moment <= 253402300799
+        && b.moment <= LAST_MOMENT
         && 1 <= b.parallelism
         && b.parallelism <= 16
         && is_policy(b.policy)

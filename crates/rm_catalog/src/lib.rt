@@ -16,10 +16,12 @@ mod tree;
 
 pub use catalog::{Catalog, CatalogFault};
 pub use keeper::{Keeper, KeeperFail, MemKeeper};
+pub use objects::MOST_BYTES;
 pub use record::{
     BaseEntry, DatafileEntry, Edit, HeadEntry, IncarnationEntry, Key, LogEntry, MarkEntry,
     PartEntry, PieceEntry, Record,
 };
+pub use rules::MOST_RECORDS;
 
 #[cfg(test)]
 mod tests;

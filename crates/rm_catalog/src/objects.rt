@@ -8,7 +8,7 @@ use crate::find::{base, datafile, incarnation, is_there};
 use crate::record::{DatafileEntry, LogEntry, PieceEntry, Record};
 use rm_base::{IncNo, Kind, Scn, ThreadNo};
 
-/// The most bytes of an object.
+/// The most bytes of an object, 2^28.
 pub const MOST_BYTES: u64 = 268_435_456;
 
 // Whether the id is below the next one.

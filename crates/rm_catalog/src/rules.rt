@@ -9,6 +9,9 @@ use crate::objects::{log_obeys, piece_obeys};
 use crate::record::{Key, Record};
 use crate::saved::{head_obeys, part_obeys};
 
+/// The most records that are not of a saved site.
+pub const MOST_RECORDS: u64 = 65_536;
+
 fn obeys_own(records: &[Record], r: &Record) -> bool
     requires { InOrder records.now }
     ensures { IsTrue result ↔ OwnRule records.now r.now }
@@ -58,7 +61,7 @@ fn is_among_first(records: &[Record], place: u64) -> bool
 {
     let saved = Key { kind: 7, id: 0 }.place();
     if place < saved {
-        count_under(records, place) < 65536
+        (count_under(records, place) as u64) < MOST_RECORDS
     } else {
         true
     }

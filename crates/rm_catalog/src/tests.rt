@@ -1,7 +1,7 @@
 //! A small catalog, each of its records at each limit of each rule, and each public call once.
 
 use crate::*;
-use rm_base::{Failing, Kind, NoMemory, Policy, Seq, Status, Text};
+use rm_base::{Failing, Kind, LAST_MOMENT, NoMemory, Policy, Seq, Status, Text};
 use std::alloc::Global;
 use std::test::Fail;
 

@@ -1,14 +1,12 @@
 -- A tree that grows: incarnations stay, and their ends rise.
-use Rattle.std.proofs.Common.{◌≡◌, ◌≢◌, ◌<◌, ◌≤◌, ◌+◌, ◌-◌, ◌∙◌, ◌⊎◌, inl, inr, ℕ, List, Option, ap, sym, subst, arith, length, All, get_or-set_same, get_or-set_other}
-use Rattle.std.specs.Option.{option_map_or}
+use Rattle.std.proofs.Common.{◌≡◌, ◌<◌, ◌≤◌, ◌+◌, ◌-◌, ◌⊎◌, inl, inr, ℕ, List, sym, subst, arith, length, All}
 use Rattle.std.proofs.lemmas.Bool.{cases_eq}
 use Rattle.rm_base.specs.Numbers.{last_scn}
 use Rattle.rm_history.specs.declared.tree.Incarnation.{Incarnation}
 use Rattle.rm_history.specs.declared.world.Datafile.{Datafile}
 use Rattle.rm_history.specs.Tree.{IsThere, end_of, parent_of, reset_of, with_end, with_branch, IsTree}
 use Rattle.rm_history.proofs.Branches.{length-with_branch, IsTree-with_branch, IsThere-with_branch, parent_of-with_branch, reset_of-with_branch, end_of-with_branch, parent_of-branched, reset_of-branched, end_of-branched}
-use Rattle.rm_history.proofs.Ends.{IsThere-with_end, IsTree-with_end, parent_of-with_end, reset_of-with_end}
-use Rattle.rm_history.proofs.Owners.{incarnation-there}
+use Rattle.rm_history.proofs.Ends.{IsThere-with_end, IsTree-with_end, parent_of-with_end, reset_of-with_end, end_of-with_end, end_of-with_end_other}
 use Rattle.rm_redo.specs.declared.online.ThreadLog.{ThreadLog}
 use Rattle.rm_redo.specs.declared.online.LogRecord.{LogRecord}
 use Rattle.std.proofs.lemmas.List.{length-set}
@@ -20,21 +18,6 @@ pub record Grows (t u : List Incarnation) : Type 0 where
   pub there : (i : ℕ) → IsThere t i → IsThere u i
   pub ends : (i : ℕ) → IsThere t i → end_of t i ≤ end_of u i
   pub resets : (i : ℕ) → IsThere t i → reset_of u i ≡ reset_of t i
-
--- the end is the new one
-pub end_of-with_end : (tree : List Incarnation) (i end : ℕ) → IsThere tree i → end_of (with_end tree i end) i ≡ end
-end_of-with_end tree i end there =
-    let new : Incarnation = record { parent = parent_of tree i; reset = reset_of tree i; end = end } in
-    ap (λ (o : Option Incarnation). option_map_or (λ n. n.end) o 0) (incarnation-there (with_end tree i end) i new (IsThere-with_end tree i end i there))
-    ∙ ap (λ (n : Incarnation). n.end) (get_or-set_same tree (i - 1) new new (omega (arith, there.0, there.1)))
-
--- the other ends stay
-pub end_of-with_end_other : (tree : List Incarnation) (j end i : ℕ) → IsThere tree j → IsThere tree i → i ≢ j → end_of (with_end tree j end) i ≡ end_of tree i
-end_of-with_end_other tree j end i tj ti ne =
-    let new : Incarnation = record { parent = parent_of tree j; reset = reset_of tree j; end = end } in
-    ap (λ (o : Option Incarnation). option_map_or (λ n. n.end) o 0) (incarnation-there (with_end tree j end) i new (IsThere-with_end tree j end i ti))
-    ∙ ap (λ (n : Incarnation). n.end) (get_or-set_other tree (j - 1) (i - 1) new new (λ e. ne (omega (arith, e, tj.0, ti.0))))
-    ∙ sym (ap (λ (o : Option Incarnation). option_map_or (λ n. n.end) o 0) (incarnation-there tree i new ti))
 
 -- the numbers of incarnations that are there after another end
 there-back : (tree : List Incarnation) (j end i : ℕ) → IsThere (with_end tree j end) i → IsThere tree i

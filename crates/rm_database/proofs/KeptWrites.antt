@@ -21,7 +21,7 @@ use Rattle.rm_history.specs.State.{state}
 use Rattle.rm_history.specs.Tree.{end_of, owner}
 use Rattle.rm_history.specs.World.{IsThread, creation_of, file_of, exists}
 use Rattle.rm_history.proofs.Histories.{world-with_end, state-push_other, state-with_end, IsChange-with_end, IsHistory-push, IsHistory-with_end, IsHistory-with_file}
-use Rattle.rm_history.proofs.Ends.{owner-with_end}
+use Rattle.rm_history.proofs.Ends.{end_of-with_end, owner-with_end}
 use Rattle.rm_history.proofs.Growth.{LogAgrees-grown, state-push_top}
 use Rattle.rm_history.proofs.Members.{none-in}
 use Rattle.rm_history.proofs.Owners.{owner-here}
@@ -44,7 +44,7 @@ use Rattle.rm_database.specs.Sound.{IsSound, IsArchived, IsChanged, IsCreated, I
 use Rattle.rm_database.specs.Write.{block_refusal, place_refusal, write_refusal, change_of, with_write}
 use Rattle.rm_database.proofs.Conditions.{unless}
 use Rattle.rm_database.proofs.Datafiles.{file-there}
-use Rattle.rm_database.proofs.Growing.{grows-with_end, end_of-with_end}
+use Rattle.rm_database.proofs.Growing.{grows-with_end}
 use Rattle.rm_database.proofs.KeptChanges.{LieBelow, Further, agrees-further, agrees-pushed, concerns-other_block, concerns-other_file, below-risen, is_of-from, is_of-further, is_of-not, state-end, state-untouched}
 use Rattle.rm_database.proofs.Items.{all-get}
 use Rattle.rm_database.proofs.KeptPlaces.{agrees-open, created-all, file_of-new, file-inside, held-open, held-closed, none-lost, placed-map, placed-mapped, placed-push, placed-set, rows-set, stands, stands-numbered}

@@ -13,6 +13,7 @@ use Rattle.rm_blocks.proofs.Rows.{length-created, in_order-created, in_order-set
 use Rattle.rm_history.specs.declared.tree.Incarnation.{Incarnation}
 use Rattle.rm_history.specs.declared.world.Datafile.{Datafile}
 use Rattle.rm_history.specs.Tree.{IsThere, end_of, reset_of, with_end}
+use Rattle.rm_history.proofs.Ends.{end_of-with_end}
 use Rattle.rm_lang.specs.declared.command.WriteForm.{WriteForm}
 use Rattle.rm_redo.specs.declared.online.LogRecord.{LogRecord}
 use Rattle.rm_redo.specs.declared.online.ThreadLog.{ThreadLog}
@@ -22,7 +23,7 @@ use Rattle.rm_database.specs.CreateDatafile.{new_datafile, with_datafile}
 use Rattle.rm_database.specs.Parts.{Parts, now_of, redo_end, blocks_in, placed}
 use Rattle.rm_database.specs.Sound.{IsSound, AreIncarnations, AreArchived, IsOpen, IsCreated, IsChanged, IsOnline, IsWritten, IsArchived, IsPlaced}
 use Rattle.rm_database.specs.Write.{change_of, with_write}
-use Rattle.rm_database.proofs.Growing.{Grows, grows-with_end, incarnations-with_end, created-grown, archived-grown, online-grown, written-grown, end_of-with_end}
+use Rattle.rm_database.proofs.Growing.{Grows, grows-with_end, incarnations-with_end, created-grown, archived-grown, online-grown, written-grown}
 use Rattle.rm_database.proofs.Logged.{written-more}
 use Rattle.rm_database.proofs.Redo.{redo-now}
 use Rattle.rm_database.proofs.Items.{all-get, get-set, get-push, get-index, all-with_log}

@@ -1,10 +1,11 @@
--- Another end of an incarnation changes no parent, no resetlogs SCN and no owner.
-use Rattle.std.proofs.Common.{◌≡◌, ◌<◌, ◌≤◌, ◌-◌, ◌∙◌, nat_le, ℕ, zero, suc, List, [], ◌∷◌, Option, Some, None, Bool, true, false, cond, unwrap_or, find, refl, ap, sym, subst, arith, eqb, length, slice_get, slice_set}
+-- Another end of an incarnation is its end from then on, and changes no parent, no resetlogs SCN, no other end and no owner.
+use Rattle.std.proofs.Common.{◌≡◌, ◌≢◌, ◌<◌, ◌≤◌, ◌-◌, ◌∙◌, nat_le, ℕ, zero, suc, List, [], ◌∷◌, Option, Some, None, Bool, true, false, cond, unwrap_or, find, refl, ap, sym, subst, arith, eqb, length, slice_get, slice_set, get_or-set_same, get_or-set_other}
 use Rattle.std.specs.Option.{option_map_or}
 use Rattle.std.proofs.lemmas.Bool.{ne_eqb}
 use Rattle.std.proofs.lemmas.List.{length-set}
 use Rattle.rm_history.specs.declared.tree.Incarnation.{Incarnation}
-use Rattle.rm_history.specs.Tree.{HasParentsBelow, IsThere, IsTree, owner, ancestors, parent_of, reset_of, path, incarnation, with_end}
+use Rattle.rm_history.specs.Tree.{HasParentsBelow, IsThere, IsTree, owner, ancestors, parent_of, reset_of, end_of, path, incarnation, with_end}
+use Rattle.rm_history.proofs.Owners.{incarnation-there}
 
 -- an item that is replaced by one with the same number leaves the numbers as they were
 set-alike : (number : Incarnation → ℕ) (tree : List Incarnation) (k i : ℕ) (new : Incarnation) → option_map_or number (slice_get tree k) 0 ≡ number new → option_map_or number (slice_get (slice_set tree k new) i) 0 ≡ option_map_or number (slice_get tree i) 0
@@ -37,6 +38,21 @@ pub IsThere-with_end : (tree : List Incarnation) (j end i : ℕ) → IsThere tre
 IsThere-with_end tree j end i there =
     let same : length (with_end tree j end) ≡ length tree = length-set tree (j - 1) (record { parent = parent_of tree j; reset = reset_of tree j; end = end }) in
     (there.0, omega (arith, same))
+
+-- the end is the new one
+pub end_of-with_end : (tree : List Incarnation) (i end : ℕ) → IsThere tree i → end_of (with_end tree i end) i ≡ end
+end_of-with_end tree i end there =
+    let new : Incarnation = record { parent = parent_of tree i; reset = reset_of tree i; end = end } in
+    ap (λ (o : Option Incarnation). option_map_or (λ n. n.end) o 0) (incarnation-there (with_end tree i end) i new (IsThere-with_end tree i end i there))
+    ∙ ap (λ (n : Incarnation). n.end) (get_or-set_same tree (i - 1) new new (omega (arith, there.0, there.1)))
+
+-- the other ends stay
+pub end_of-with_end_other : (tree : List Incarnation) (j end i : ℕ) → IsThere tree j → IsThere tree i → i ≢ j → end_of (with_end tree j end) i ≡ end_of tree i
+end_of-with_end_other tree j end i tj ti ne =
+    let new : Incarnation = record { parent = parent_of tree j; reset = reset_of tree j; end = end } in
+    ap (λ (o : Option Incarnation). option_map_or (λ n. n.end) o 0) (incarnation-there (with_end tree j end) i new (IsThere-with_end tree j end i ti))
+    ∙ ap (λ (n : Incarnation). n.end) (get_or-set_other tree (j - 1) (i - 1) new new (λ e. ne (omega (arith, e, tj.0, ti.0))))
+    ∙ sym (ap (λ (o : Option Incarnation). option_map_or (λ n. n.end) o 0) (incarnation-there tree i new ti))
 
 pub HasParentsBelow-with_end : (tree : List Incarnation) (j end : ℕ) → IsThere tree j → HasParentsBelow tree → HasParentsBelow (with_end tree j end)
 HasParentsBelow-with_end tree j end there below i h = subst (λ p. p < i) (sym (parent_of-with_end tree j end i there)) (below i h)

@@ -2,13 +2,13 @@
 use Rattle.std.proofs.Common.{◌≡◌, ℕ, ◌<◌, ◌≤◌, [], ◌∷◌, refl, subst, sym, arith}
 use Rattle.std.specs.List.{AllPairs}
 use Rattle.std.proofs.lemmas.List.Elements.{All-nil, All-cons}
-use Rattle.rm_base.specs.Numbers.{last_scn}
+use Rattle.rm_base.specs.Numbers.{last_scn, last_moment}
 use Rattle.rm_base.specs.declared.block.Mark.{Mark}
 use Rattle.rm_catalog.specs.declared.record.LogEntry.{LogEntry}
 use Rattle.rm_catalog.specs.declared.record.PieceEntry.{PieceEntry}
 use Rattle.rm_history.specs.Tree.{IsThere, reset_of, end_of, branched}
 use Rattle.rm_history.proofs.Members.{none-in, in-front}
-use Rattle.rm_ledger.specs.Facts.{last_moment, IsLedger, AreIncarnations, IsCreated, IsLogEntry, IsPieceEntry, AreMarks, IsMark}
+use Rattle.rm_ledger.specs.Facts.{IsLedger, AreIncarnations, IsCreated, IsLogEntry, IsPieceEntry, AreMarks, IsMark}
 use Rattle.rm_ledger.specs.Growth.{fresh}
 
 -- only the first incarnation is there

@@ -1,13 +1,12 @@
 -- A tree that grows keeps what it says of the incarnations that were there.
-use Rattle.std.proofs.Common.{◌≡◌, ◌≢◌, ◌∙◌, ℕ, ◌+◌, ◌-◌, ◌<◌, ◌≤◌, inl, inr, List, [], ◌∷◌, ◌++◌, Option, length, length-append, slice_set, ap, sym, subst, arith, get_or-set_same, get_or-set_other}
-use Rattle.std.specs.Option.{option_map_or}
+use Rattle.std.proofs.Common.{◌≡◌, ◌∙◌, ℕ, ◌+◌, ◌-◌, ◌<◌, ◌≤◌, inl, inr, List, [], ◌∷◌, ◌++◌, length, length-append, slice_set, ap, sym, subst, arith}
 use Rattle.std.proofs.Math.Seq.{set-append_seam}
 use Rattle.std.proofs.lemmas.Bool.{cases_eq, cases_lt}
 use Rattle.rm_history.specs.declared.tree.Incarnation.{Incarnation}
 use Rattle.rm_history.specs.Tree.{HasParentsBelow, IsThere, owner, parent_of, reset_of, end_of, with_end, with_branch, branched}
 use Rattle.rm_history.proofs.Branches.{IsThere-with_branch, IsThere-branched, owner-with_branch, reset_of-with_branch, end_of-with_branch, parent_of-branched, reset_of-branched, end_of-branched}
-use Rattle.rm_history.proofs.Ends.{IsThere-with_end, owner-with_end, parent_of-with_end, reset_of-with_end}
-use Rattle.rm_history.proofs.Owners.{incarnation-there, parent-none}
+use Rattle.rm_history.proofs.Ends.{IsThere-with_end, owner-with_end, parent_of-with_end, reset_of-with_end, end_of-with_end, end_of-with_end_other}
+use Rattle.rm_history.proofs.Owners.{parent-none}
 use Rattle.rm_ledger.specs.Facts.{AreIncarnations}
 use Rattle.rm_ledger.specs.Growth.{TreeGrows}
 
@@ -17,21 +16,6 @@ pub record Keeps (old new : List Incarnation) : Type 0 where
   pub reset : (i : ℕ) → IsThere old i → reset_of new i ≡ reset_of old i
   pub end : (i : ℕ) → IsThere old i → end_of old i ≤ end_of new i
   pub owners : (i g : ℕ) → IsThere old i → owner new i g ≡ owner old i g
-
--- the new end
-pub end_of-with_end : (tree : List Incarnation) (i end : ℕ) → IsThere tree i → end_of (with_end tree i end) i ≡ end
-end_of-with_end tree i end there =
-    let new : Incarnation = record { parent = parent_of tree i; reset = reset_of tree i; end = end } in
-    ap (λ (o : Option Incarnation). option_map_or (λ n. n.end) o 0) (incarnation-there (with_end tree i end) i new (IsThere-with_end tree i end i there))
-    ∙ ap (λ (n : Incarnation). n.end) (get_or-set_same tree (i - 1) new new (omega (arith, there.0, there.1)))
-
--- the other ends stay
-end_of-with_end_other : (tree : List Incarnation) (j end i : ℕ) → IsThere tree j → IsThere tree i → i ≢ j → end_of (with_end tree j end) i ≡ end_of tree i
-end_of-with_end_other tree j end i there is other =
-    let new : Incarnation = record { parent = parent_of tree j; reset = reset_of tree j; end = end } in
-    ap (λ (o : Option Incarnation). option_map_or (λ n. n.end) o 0) (incarnation-there (with_end tree j end) i new (IsThere-with_end tree j end i is))
-    ∙ ap (λ (n : Incarnation). n.end) (get_or-set_other tree (j - 1) (i - 1) new new (λ e. other (omega (arith, e, there.0, is.0))))
-    ∙ sym (ap (λ (o : Option Incarnation). option_map_or (λ n. n.end) o 0) (incarnation-there tree i new is))
 
 keeps_end : (tree : List Incarnation) (j end : ℕ) → IsThere tree j → end_of tree j ≤ end → Keeps tree (with_end tree j end)
 keeps_end tree j end there up = record {

@@ -1,6 +1,6 @@
 -- What is true of each ledger: its records are valid, and these are the rules in its own words.
 use Rattle.std.specs.Prelude.{◌≡◌, ◌≢◌, ℕ, ◌-◌, ◌<◌, ◌≤◌, Some, List, All, AllPairs, Contains, length, slice_get, sum_by}
-use Rattle.rm_base.specs.Numbers.{last_scn}
+use Rattle.rm_base.specs.Numbers.{last_scn, last_moment}
 use Rattle.rm_base.specs.declared.block.Mark.{Mark}
 use Rattle.rm_catalog.specs.declared.record.BaseEntry.{BaseEntry}
 use Rattle.rm_catalog.specs.declared.record.LogEntry.{LogEntry}
@@ -11,10 +11,6 @@ use Rattle.rm_history.specs.declared.tree.Incarnation.{Incarnation}
 use Rattle.rm_history.specs.declared.world.Datafile.{Datafile}
 use Rattle.rm_history.specs.Tree.{IsThere, parent_of, reset_of, end_of, owner}
 use Rattle.rm_ledger.specs.Ledger.{Ledger, records_of}
-
--- the latest moment of a record, 23:59:59 on the last day of 9999
-abbrev pub last_moment : ℕ
-last_moment = 253402300799
 
 -- the base facts, the current incarnation left aside
 pub record IsBase (b : BaseEntry) : Type 0 where

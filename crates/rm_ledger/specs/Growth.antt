@@ -1,5 +1,6 @@
 -- How a ledger grows by one statement, and the edits that make its records follow.
 use Rattle.std.specs.Prelude.{◌≡◌, ℕ, ◌+◌, ◌<◌, ◌≤◌, ◌⊎◌, false, List, [], ◌∷◌, ◌++◌, All, length, drop, map}
+use Rattle.rm_base.specs.Numbers.{last_moment}
 use Rattle.rm_base.specs.declared.block.Mark.{Mark}
 use Rattle.rm_base.specs.declared.kinds.Policy.TheVariants.{Redundancy}
 use Rattle.rm_catalog.specs.declared.record.Edit.{Edit}
@@ -12,7 +13,7 @@ use Rattle.rm_history.specs.declared.tree.Incarnation.{Incarnation}
 use Rattle.rm_history.specs.declared.world.Datafile.{Datafile}
 use Rattle.rm_history.specs.Tree.{IsThere, parent_of, reset_of, end_of, with_end, branched}
 use Rattle.rm_ledger.specs.declared.edits.View.{View}
-use Rattle.rm_ledger.specs.Facts.{last_moment, AreIncarnations, AreDatafiles, IsLogEntry, IsPieceEntry, AreIds, IsMark, Rise, HasMark}
+use Rattle.rm_ledger.specs.Facts.{AreIncarnations, AreDatafiles, IsLogEntry, IsPieceEntry, AreIds, IsMark, Rise, HasMark}
 use Rattle.rm_ledger.specs.Ledger.{Ledger, records_of, incarnation_record, datafile_record, mark_record, numbered}
 
 -- what a statement leaves: the base facts that it changes, the incarnations and datafiles, and the new

@@ -1,9 +1,9 @@
 //! What the definitions of a ledger mean.
 ghost use Rattle.std.specs.Prelude.{ℕ, ◌≡◌, ◌≤◌, []};
-ghost use Rattle.rm_base.specs.Numbers.{last_scn};
+ghost use Rattle.rm_base.specs.Numbers.{last_scn, last_moment};
 ghost use Rattle.rm_catalog.specs.Edits.{after_edits};
 ghost use Rattle.rm_catalog.specs.Rules.{IsCatalog};
-ghost use Rattle.rm_ledger.specs.Facts.{IsLedger, last_moment};
+ghost use Rattle.rm_ledger.specs.Facts.{IsLedger};
 ghost use Rattle.rm_ledger.specs.Growth.{Growth, Fits, grown, edits_of, fresh, fresh_edits};
 ghost use Rattle.rm_ledger.specs.Ledger.{Ledger, records_of};
 

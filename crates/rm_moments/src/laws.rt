@@ -1,7 +1,8 @@
 //! What the definitions of texts and their moments mean.
 ghost use Rattle.std.specs.Prelude.{◌≡◌, ◌≤◌, ◌↔◌, All, List, length, ℕ};
+ghost use Rattle.rm_base.specs.Numbers.{last_moment};
 ghost use Rattle.rm_moments.specs.Tags.{IsTagByte};
-ghost use Rattle.rm_moments.specs.Text.{last_moment, IsText, IsTag};
+ghost use Rattle.rm_moments.specs.Text.{IsText, IsTag};
 ghost use Rattle.rm_moments.specs.Meaning.{MeansMoment};
 
 use crate::civil::civil_of;

@@ -1,7 +1,8 @@
 //! Moments as text.
 ghost use Rattle.std.specs.Prelude.{◌≡◌, ◌≤◌, ◌<◌, ◌++◌, ◌∷◌, IfOk, OnOk, unsigned_abs};
 ghost use Rattle.std.specs.String.{string_bytes};
-ghost use Rattle.rm_moments.specs.Text.{last_moment, two, year_text, IsText, IsTag};
+ghost use Rattle.rm_base.specs.Numbers.{last_moment};
+ghost use Rattle.rm_moments.specs.Text.{two, year_text, IsText, IsTag};
 
 use crate::civil::civil_of;
 use jiff::civil::Date;

@@ -5,6 +5,7 @@ use Rattle.std.specs.Option.{option_map}
 use Rattle.std.proofs.lemmas.Bool.Decides.{nat_tests}
 use Rattle.std.proofs.lemmas.Bool.{ltb-false}
 use Rattle.std.proofs.lemmas.List.Elements.{All-nil}
+use Rattle.rm_base.specs.Numbers.{last_moment}
 use Rattle.rm_base.specs.Store.{Held}
 use Rattle.rm_base.specs.declared.refusal.Refusal.TheVariants.{Rm11}
 use Rattle.rm_base.specs.declared.refusal.Limit.TheVariants.{Threads}
@@ -23,7 +24,7 @@ use Rattle.rm_database.specs.Parts.{Parts}
 use Rattle.rm_database.specs.Step as inner
 use Rattle.rm_lang.specs.IsCommand.{is_command}
 use Rattle.rm_lang.specs.declared.command.Command.TheVariants.{CreateDatabase}
-use Rattle.rm_ledger.specs.Facts.{IsLedger, last_moment}
+use Rattle.rm_ledger.specs.Facts.{IsLedger}
 use Rattle.rm_ledger.specs.Growth.{fresh, fresh_edits}
 use Rattle.rm_ledger.specs.Ledger.{Ledger, records_of}
 use Rattle.rm_ledger.proofs.Fresh.{fresh_is_ledger}

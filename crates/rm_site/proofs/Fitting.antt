@@ -4,6 +4,7 @@ use Rattle.std.specs.Prelude.{AllPairs}
 use Rattle.std.proofs.Math.Seq.{drop-append_seam}
 use Rattle.std.proofs.lemmas.List.{length-append, length-map, get_or-map, get_or-append-add}
 use Rattle.std.proofs.lemmas.List.Elements.{All-nil, All-map}
+use Rattle.rm_base.specs.Numbers.{last_moment}
 use Rattle.rm_base.specs.declared.block.Mark.{Mark}
 use Rattle.rm_base.proofs.Sealing.{length-sealed}
 use Rattle.rm_catalog.specs.declared.record.LogEntry.{LogEntry}
@@ -18,7 +19,7 @@ use Rattle.rm_history.specs.declared.tree.Incarnation.{Incarnation}
 use Rattle.rm_history.specs.declared.world.World.{World}
 use Rattle.rm_history.specs.Tree.{parent_of}
 use Rattle.rm_lang.specs.declared.command.Command.{Command}
-use Rattle.rm_ledger.specs.Facts.{last_moment, AreIncarnations, AreDatafiles, IsLogEntry, IsPieceEntry, AreIds, IsMark, Rise, HasMark, IsLedger}
+use Rattle.rm_ledger.specs.Facts.{AreIncarnations, AreDatafiles, IsLogEntry, IsPieceEntry, AreIds, IsMark, Rise, HasMark, IsLedger}
 use Rattle.rm_ledger.specs.Growth.{Fits, TreeGrows, FilesGrow, grown}
 use Rattle.rm_ledger.specs.Ledger.{Ledger, records_of, incarnation_record, datafile_record, mark_record}
 use Rattle.rm_ledger.proofs.Order.{length-numbered, incarnations_of, datafiles_of, logs_of, pieces_of, marks_of}

@@ -5,15 +5,9 @@ ghost use Rattle.rm_site.specs.Limits.{size_of, made_by, marks_by, bytes_added, 
 
 use crate::marks::{is_branch, is_change, is_later};
 use rm_base::{Limit, Moment, Refusal, ThreadNo};
-use rm_catalog::Record;
+use rm_catalog::{MOST_BYTES, MOST_RECORDS, Record};
 use rm_database::Database;
 use rm_lang::Command;
-
-/// The most bytes of all objects of logs and pieces.
-const MOST_BYTES: u64 = 268_435_456;
-
-/// The most records.
-const MOST_RECORDS: u64 = 65_536;
 
 // The bytes of the object of a log or piece; none of other records.
 fn size_of(row: &Record) -> u64

@@ -4,14 +4,11 @@ ghost use Rattle.rm_database.specs.Parts.{now_of};
 ghost use Rattle.rm_database.specs.Sound.{IsSound};
 ghost use Rattle.rm_site.specs.Marks.{moment_of, last_marked, mark_at, is_change, is_branch};
 
-use rm_base::{Mark, Moment};
+use rm_base::{LAST_MOMENT, Mark, Moment};
 use rm_catalog::{Catalog, Record};
 use rm_database::Database;
 use rm_lang::Command;
 use rm_objects::base_of;
-
-/// The last moment there is: 23:59:59 on the last day of 9999.
-const LAST_MOMENT: Moment = 253_402_300_799;
 
 /// The moment of a statement, where the clock answered so.
 pub(crate) fn moment_of(catalog: &Catalog, clock: Moment) -> Moment

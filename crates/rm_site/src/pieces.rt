@@ -1,6 +1,6 @@
 //! The records and the objects of the pieces that a backup makes.
 ghost use Rattle.std.specs.Prelude.{◌≡◌, ◌≤◌, IfOk, All, List, map};
-ghost use Rattle.rm_ledger.specs.Facts.{last_moment};
+ghost use Rattle.rm_base.specs.Numbers.{last_moment};
 ghost use Rattle.rm_database.specs.Step.{refusal_in};
 ghost use Rattle.rm_piece.specs.Spelling.{spelling};
 ghost use Rattle.rm_piece.specs.Valid.{IsPiece};

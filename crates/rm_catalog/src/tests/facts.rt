@@ -40,7 +40,7 @@ fn numbers_of_base_facts(rt: HostRuntime) -> Result<(), Fail> {
 #[test]
 fn moment_and_policy_of_base_facts(rt: HostRuntime) -> Result<(), Fail> {
     let bad = Some((1, 0));
-    for (moment, want) in [(253_402_300_799, None), (253_402_300_800, bad)] {
+    for (moment, want) in [(LAST_MOMENT, None), (LAST_MOMENT + 1, bad)] {
         assert_eq!(rt; with_base(rt.alloc(), BaseEntry { moment, ..BASE })?, want);
     }
     for (days, want) in [(0, bad), (1, None), (36_500, None), (36_501, bad)] {

@@ -80,6 +80,12 @@ fn numbers_of_pieces(rt: HostRuntime) -> Result<(), Fail> {
         };
         assert_eq!(rt; with_piece(rt.alloc(), entry)?, want);
     }
+    Ok(())
+}
+
+#[test]
+fn checkpoints_of_pieces(rt: HostRuntime) -> Result<(), Fail> {
+    let bad = Some((5, 4));
     for (checkpoint, high, want) in [(0, 16, bad), (1, 16, None), (15, 14, bad), (15, 15, None)] {
         let entry = PieceEntry {
             checkpoint,
@@ -114,6 +120,22 @@ fn kinds_of_pieces(rt: HostRuntime) -> Result<(), Fail> {
         };
         assert_eq!(rt; with_piece(rt.alloc(), entry)?, want);
     }
+    let copied = PieceEntry {
+        copy: true,
+        ..piece(rt.alloc())?
+    };
+    assert_eq!(rt; with_piece(rt.alloc(), copied)?, None);
+    let begun = PieceEntry {
+        from: 1,
+        ..piece(rt.alloc())?
+    };
+    assert_eq!(rt; with_piece(rt.alloc(), begun)?, bad);
+    Ok(())
+}
+
+#[test]
+fn pieces_of_level_1(rt: HostRuntime) -> Result<(), Fail> {
+    let bad = Some((5, 4));
     let kind = Kind::Level1;
     for (from, rows, want) in [
         (0, 4, bad),
@@ -137,16 +159,6 @@ fn kinds_of_pieces(rt: HostRuntime) -> Result<(), Fail> {
         ..piece(rt.alloc())?
     };
     assert_eq!(rt; with_piece(rt.alloc(), copied)?, bad);
-    let copied = PieceEntry {
-        copy: true,
-        ..piece(rt.alloc())?
-    };
-    assert_eq!(rt; with_piece(rt.alloc(), copied)?, None);
-    let begun = PieceEntry {
-        from: 1,
-        ..piece(rt.alloc())?
-    };
-    assert_eq!(rt; with_piece(rt.alloc(), begun)?, bad);
     Ok(())
 }
 
