@@ -18,6 +18,7 @@ pub mod KeptChanges
 pub mod KeptOpenings
 pub mod KeptPlaces
 pub mod KeptWrites
+pub mod Pieces
 pub mod Redo
 pub mod Resetlogs
 pub mod Sound

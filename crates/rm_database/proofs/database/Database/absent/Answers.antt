@@ -2,14 +2,13 @@ use Rattle.std.proofs.Common.{rules, tests, ◌≡◌, ◌∙◌, List, Option, 
 use Rattle.std.specs.Option.{option_and_then, option_map}
 use Rattle.std.proofs.lemmas.Iterator.{YieldsList-from_slice}
 use Rattle.std.proofs.lemmas.Iterator.Search.{find_from_yields_List}
-use Rattle.rm_database.specs.Parts.{Parts, on_path}
+use Rattle.rm_database.specs.Parts.{on_path}
 use Rattle.rm_database.proofs.database.Database.absent.Goals as goal
 
 pub returns : goal.returns
 returns c =
-    let p : Parts = c.args.self.now in
-    let fs : List ℕ = c.as_slice-files.result.now in
-    let files : c.args.form.now.files ≡ Some fs = search rules in
-    let found = find_from_yields_List (λ f. is_none (on_path p f)) _ _ c.find.result c.find.ensures.ran (YieldsList-from_slice fs cc) (λ x r q k. search (rules, tests)) in
+    let files : c.args.form.now.files ≡ Some c.as_slice-files.result.now = search rules in
     let copied : c.copied.result ≡ option_map (λ x. x.now) c.find.result = search rules in
-    copied ∙ found ∙ ap (λ (o : Option (List ℕ)). option_and_then (λ ns. find (λ f. is_none (on_path p f)) ns) o) (sym files)
+    copied
+    ∙ find_from_yields_List (λ f. is_none (on_path c.args.self.now f)) _ _ c.find.result c.find.ensures.ran (YieldsList-from_slice c.as_slice-files.result.now cc) (λ x r q k. search (rules, tests))
+    ∙ ap (λ (o : Option (List ℕ)). option_and_then (λ ns. find (λ f. is_none (on_path c.args.self.now f)) ns) o) (sym files)
