@@ -61,7 +61,7 @@ log-stays low next logs before after i is puts lower = other-stays logs before a
 pub piece-stays : (logs : List Archived) (before after : Held) (copy : Bool) (i : ℕ) → HasPuts (map log_object logs) before after → after (piece_name copy i) ≡ before (piece_name copy i)
 piece-stays logs before after copy i puts = other-stays logs before after (piece_name copy i) puts (λ k d inside same. log-no-piece (get_or logs k d).id copy i (sym same))
 
-log-kept : (objects objects' : Held) (made more : List Made) (l : LogEntry) → objects' (log_name l.id) ≡ objects (log_name l.id) → HasLog objects made l → HasLog objects' (made ++ more) l
+pub log-kept : (objects objects' : Held) (made more : List Made) (l : LogEntry) → objects' (log_name l.id) ≡ objects (log_name l.id) → HasLog objects made l → HasLog objects' (made ++ more) l
 log-kept objects objects' made more l same has = record {
   artefact = has.artefact;
   is = Contains-append_left made more _ has.is;
@@ -69,7 +69,7 @@ log-kept objects objects' made more l same has = record {
   object = has.object;
 }
 
-piece-kept : (objects objects' : Held) (made more : List Made) (p : PieceEntry) → objects' (piece_name p.copy p.id) ≡ objects (piece_name p.copy p.id) → HasPiece objects made p → HasPiece objects' (made ++ more) p
+pub piece-kept : (objects objects' : Held) (made more : List Made) (p : PieceEntry) → objects' (piece_name p.copy p.id) ≡ objects (piece_name p.copy p.id) → HasPiece objects made p → HasPiece objects' (made ++ more) p
 piece-kept objects objects' made more p same has = record {
   artefact = has.artefact;
   is = Contains-append_left made more _ has.is;
@@ -90,7 +90,7 @@ pieces-kept logs objects objects' made more ps puts has k d inside =
     let p = get_or ps k d in
     piece-kept objects objects' made more p (piece-stays logs objects objects' p.copy p.id puts) (has k d inside)
 
-has-made : {X Y : Type 0} (f : X → Y) (xs : List X) (k : ℕ) (d : X) → k < length xs → Contains (map f xs) (f (get_or xs k d))
+pub has-made : {X Y : Type 0} (f : X → Y) (xs : List X) (k : ℕ) (d : X) → k < length xs → Contains (map f xs) (f (get_or xs k d))
 has-made f xs k d inside = (k, omega (arith, length-map xs f), get_or-map f xs k d (f (get_or xs k d)) inside)
 
 -- each new log was made

@@ -162,11 +162,9 @@ fn listed(alloc: Global, mark: Option<Mark>) -> Result<Seq<Mark>, NoMemory>
 fn joined(first: Seq<Object>, second: Seq<Object>) -> Result<Seq<Object>, NoMemory>
     ensures { IfOk result (λ all. all ≡ first ++ second) }
 {
-    let mut all = first;
-    for object in second.into_vec() {
-        all.push(object)?;
-    }
-    Ok(all)
+    let mut all = first.into_vec();
+    all.append(&mut second.into_vec())?;
+    Ok(Seq::from_vec(all))
 }
 
 // The base facts after a statement.
