@@ -251,7 +251,7 @@ module _ (m : Machine) (s : Shown) (shown : m.shown ≡ Some s) (q : Parts) (c :
             (logs-past-pieces saved mid objects some (map piece_made saved) (s.ledger.logs ++ map log_entry logs) split.2
             (logs-grown p.next_id q.next_id logs m.objects mid m.made s.ledger.logs are-new (new-valid p q w.new) split.1 old-ids sound.logs));
         pieces = subst (λ xs. All (HasPiece objects xs) (s.ledger.pieces ++ map (λ x. x.entry) saved)) joined
-            (pieces-grown p.next_id q.next_id saved mid objects some s.ledger.pieces are-new.small g.pieces.ids g.pieces.ascend g.pieces.objects split.2 old-pieces
+            (pieces-grown p.next_id q.next_id saved are-new.small g.pieces.ids g.pieces.ascend mid objects some s.ledger.pieces g.pieces.objects split.2 old-pieces
             (pieces-kept logs m.objects mid m.made (map log_made logs) s.ledger.pieces split.1 sound.pieces));
         agree = made-all (λ a. Agrees q.world g.did.history a.artefact)
             (λ k d inside. agrees-on p q m.history g.did.history c reply w.old sound.keeps none.0 g.did.done (get_or m.made k d).artefact (sound.within k d inside) (sound.of k d inside) (sound.agree k d inside))

@@ -2,10 +2,12 @@ use Rattle.std.proofs.Common.{◌≡◌, ◌∙◌, List, Option, Some, None, ap
 use Rattle.std.specs.Option.{option_copied}
 use Rattle.rm_catalog.specs.declared.record.Record.{Record}
 use Rattle.rm_database.specs.Parts.{Parts}
+use Rattle.rm_database.specs.Step.{refusal_in}
+use Rattle.rm_site.specs.Limits.{room_refusal}
 use Rattle.rm_site.specs.Step.{Goes}
 use Rattle.rm_site.specs.Stopped.{StopsAt}
 use Rattle.rm_site.specs.View.{IsStanding}
-use Rattle.rm_site.proofs.Going.{goes, stands-on, valid-on, Went}
+use Rattle.rm_site.proofs.Going.{goes, neither, stands-on, valid-on, Went}
 use Rattle.rm_site.proofs.Standing.{accepted-of, advanced, are-valid, files-more, logs-more, none-after, recorded, steps-of, went}
 use Rattle.rm_site.proofs.Stopping.{halts, nothing-done, on-err}
 use Rattle.rm_site.proofs.site.go_on.Goals as goal
@@ -18,6 +20,13 @@ unreachable-requires-in_default-database g c =
     let to : c.step.new.self ≡ None = sym c.database-2.ensures ∙ ap option_copied c.in_default-database.is in
     none-after p rs c.args.command.now c.in_ok-reply.reply c.args.moment (recorded _ p rs from c.requires.standing)
     (steps-of _ _ p None c.args.command.now c.in_ok-reply.reply from to c.in_ok-reply.ensures.step) (accepted-of _ p rs c.args.command.now c.args.moment from c.requires.accepted)
+
+pub pieces_of-requires-clause-accepted : goal.pieces_of-requires-clause-accepted
+pieces_of-requires-clause-accepted g c =
+    let rs = c.args.state.now.catalog in
+    let p = c.in-Some.database.now in
+    let from : c.args.state.now.instance ≡ Some p = sym c.database.ensures ∙ ap option_copied c.in-Some.is in
+    (neither (refusal_in p c.args.command.now) (room_refusal p rs c.args.command.now c.args.moment) (accepted-of _ p rs c.args.command.now c.args.moment from c.requires.accepted)).0
 
 pub pieces_of-requires-clause-valid : goal.pieces_of-requires-clause-valid
 pieces_of-requires-clause-valid g c =
