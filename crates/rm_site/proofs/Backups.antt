@@ -43,55 +43,8 @@ use Rattle.rm_database.proofs.Pieces.{HasDatafile, new-agree, new-ascend, new-co
 use Rattle.rm_site.specs.Holds.{IsOfDatafile, IsWithin}
 use Rattle.rm_site.specs.Machine.{a_piece}
 use Rattle.rm_site.specs.Saves.{IsTagBy, Saved, Saves, piece_entry, saved_as}
+use Rattle.rm_site.proofs.Tags.{tag-fits}
 use Rattle.rm_site.proofs.Saving.{AreSaved, saved_by}
-
--- The tag
-
--- a byte of a word
-abbrev in_word : ℕ → Bool
-in_word c = is_ascii_alphanumeric c || (c == 95)
-
--- 1 to 30 of them, in capitals
-abbrev is_name : List ℕ → Bool
-is_name w = nat_le 1 (length w) && nat_le (length w) 30 && list_all in_word w && bytes_eq w (map to_ascii_uppercase w)
-
-word-tag : (c : ℕ) → in_word c ≡ true → is_tag_byte c ≡ true
-word-tag c is = grind (arith, nat_tests)
-
-words-tag : (w : List ℕ) → list_all in_word w ≡ true → list_all is_tag_byte w ≡ true
-words-tag [] is = refl
-words-tag (c ∷ cs) is =
-    let both = and_parts (in_word c) (list_all in_word cs) is in
-    and_from (is_tag_byte c) (list_all is_tag_byte cs) (word-tag c both.0) (words-tag cs both.1)
-
-named-tag : (w : List ℕ) → is_name w ≡ true → IsTag w
-named-tag w is =
-    let both = and_parts (nat_le 1 (length w) && nat_le (length w) 30 && list_all in_word w) (bytes_eq w (map to_ascii_uppercase w)) is in
-    let parts = and_parts (nat_le 1 (length w) && nat_le (length w) 30) (list_all in_word w) both.0 in
-    let long = and_parts (nat_le 1 (length w)) (nat_le (length w) 30) parts.0 in
-    record { some = leb-true 1 (length w) long.0; few = leb-true (length w) 30 long.1; bytes = words-tag w parts.1 }
-
-digit-tag : (c : ℕ) → IsTagByte c → is_tag_byte c ≡ true
-digit-tag c (inl is) = let low = is.0 in let high = is.1 in grind (arith, nat_tests)
-digit-tag c (inr is) = let low = is.0 in let high = is.1 in grind (arith, nat_tests)
-
-digits-tag : (tag : List ℕ) → All IsTagByte tag → list_all is_tag_byte tag ≡ true
-digits-tag [] all = refl
-digits-tag (c ∷ cs) all = and_from (is_tag_byte c) (list_all is_tag_byte cs) (digit-tag c (All-head IsTagByte c cs all)) (digits-tag cs (All-tail IsTagByte c cs all))
-
-moment-tag : (moment : ℕ) (tag : List ℕ) → text.IsTag moment tag → IsTag tag
-moment-tag moment tag is =
-    let long = tag-long moment tag is in
-    record { some = omega (arith, long); few = omega (arith, long); bytes = digits-tag tag (tag-bytes moment tag is) }
-
-tag-by : (copy keep : Bool) (level : Option ℕ) (files : Option (List ℕ)) (named : Option (List ℕ)) (moment : ℕ) (tag : List ℕ)
-    → is_backup (record { copy = copy; level = level; files = files; tag = named; keep = keep }) ≡ true → IsTagBy named moment tag → IsTag tag
-tag-by copy keep level files None moment tag valid is = moment-tag moment tag is
-tag-by copy keep level files (Some name) moment tag valid is = subst IsTag (sym is) (named-tag name (and_parts _ _ (and_parts _ _ valid).1).1)
-
--- the tag of a backup keeps the rule of records
-pub tag-fits : (b : BackupForm) (moment : ℕ) (tag : List ℕ) → is_backup b ≡ true → IsTagBy b.tag moment tag → IsTag tag
-tag-fits b moment tag valid is = tag-by b.copy b.keep b.level b.files b.tag moment tag valid is
 
 -- The record
 

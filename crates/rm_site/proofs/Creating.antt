@@ -12,8 +12,8 @@ use Rattle.rm_catalog.specs.declared.record.Record.{Record}
 use Rattle.rm_catalog.specs.Edits.{after_edits}
 use Rattle.rm_catalog.specs.Rules.{IsValid}
 use Rattle.rm_change.specs.declared.change.Change.{Change}
-use Rattle.rm_change.specs.declared.change.Object.{Object}
 use Rattle.rm_change.specs.Carrying.{Outside, Carried, Halted, before_the_edits, after_the_edits, Leads}
+use Rattle.rm_change.specs.declared.change.Object.{Object}
 use Rattle.rm_change.specs.Names.{HasPuts, is_named, itself, name_of}
 use Rattle.rm_database.specs.CreateDatabase.{create_refusal}
 use Rattle.rm_database.specs.CreateDatabase.{fresh as new_database}

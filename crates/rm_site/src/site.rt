@@ -108,10 +108,6 @@ fn record_change<D: Store, C: Keeper>(
 {
     carry_out(store, keeper, change)?;
     catalog.apply(change.edits.as_slice())?;
-    if let Some(object) = change.objects.as_slice().first() {
-        store.remove(object.name.as_str())?;
-        return Err(Stop::NoMemory);
-    }
     Ok(())
 }
 

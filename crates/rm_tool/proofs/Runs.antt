@@ -1,8 +1,10 @@
 -- A run goes on by one statement.
-use Rattle.std.proofs.Common.{◌≡◌, ◌+◌, ◌∙◌, ◌++◌, ◌||◌, ℕ, zero, suc, List, [], ◌∷◌, Option, Some, None, IfSome, Bool, true, false, refl, ap, sym, subst, arith, take, drop, length}
+use Rattle.std.proofs.Common.{◌≡◌, ◌+◌, ◌∙◌, ◌++◌, ◌||◌, ℕ, zero, suc, List, [], ◌∷◌, Option, Some, None, IfSome, Bool, false, refl, ap, sym, subst, arith, append-nil, append_assoc, take, drop, length}
 use Rattle.std.specs.List.{list_any}
 use Rattle.std.proofs.lemmas.Grind.{flat_map-append}
 use Rattle.std.proofs.lemmas.List.{length-append}
+use Rattle.std.proofs.lemmas.List.Folds.{list_any-append}
+use Rattle.std.proofs.Math.Bool.{or-false}
 use Rattle.std.proofs.Math.Seq.{take-add, take-append_seam, drop-append_seam}
 use Rattle.rm_base.specs.Outside.{Appends}
 use Rattle.rm_base.specs.Store.{Held, Answers, Both}
@@ -66,37 +68,20 @@ told-from (Some c) a f (Some b) (Some l) next passed told = at
     at zero = next
     at (suc i) = told i ∙ passed i
 
-behind : {A : Type 0} (xs : List A) (x : A) (ys : List A) → xs ++ (x ∷ ys) ≡ (xs ++ x ∷ []) ++ ys
-behind [] x ys = refl
-behind (z ∷ xs) x ys = ap (λ zs. z ∷ zs) (behind xs x ys)
-
 -- one statement more
 extends-more : (first : Machine) (told now later : Option Answers) (ss : List (ℕ × List Token)) (rs : List Reply) (mid new : Machine) (s : ℕ × List Token) (r : Reply) (a : ℕ) → Extends first told ss rs mid now → IfSome now (λ coming. a ≡ coming 0) → Both (IsPast (command_at s.1)) now later → StatementStep mid s a r new → Extends first told (ss ++ s ∷ []) (rs ++ r ∷ []) new later
 extends-more first told now later ss rs mid new s r a extends next passed step = λ answers come ts qs last run.
     let o : Option Command = command_at s.1 in
     let rest : Run new (past o (from o a answers)) ts qs last = subst (λ (f : Answers). Run new f ts qs last) (sym (past-from o a answers)) run in
     let all = extends (from o a answers) (told-from o a answers now later next passed come) (s ∷ ts) (r ∷ qs) last (new, step-from o mid new s.0 a answers r step, rest) in
-    let seamed : Run first all.0 ((ss ++ s ∷ []) ++ ts) (rs ++ (r ∷ qs)) last = subst (λ (us : List (ℕ × List Token)). Run first all.0 us (rs ++ (r ∷ qs)) last) (behind ss s ts) all.2 in
-    (all.0, all.1, subst (λ (us : List Reply). Run first all.0 ((ss ++ s ∷ []) ++ ts) us last) (behind rs r qs) seamed)
+    let seamed : Run first all.0 ((ss ++ s ∷ []) ++ ts) (rs ++ (r ∷ qs)) last = subst (λ (us : List (ℕ × List Token)). Run first all.0 us (rs ++ (r ∷ qs)) last) (sym (append_assoc ss (s ∷ []) ts)) all.2 in
+    (all.0, all.1, subst (λ (us : List Reply). Run first all.0 ((ss ++ s ∷ []) ++ ts) us last) (sym (append_assoc rs (r ∷ []) qs)) seamed)
 
 any-push : (rs : List Reply) (r : Reply) → list_any (λ q. q.refused) (rs ++ r ∷ []) ≡ (list_any (λ q. q.refused) rs || r.refused)
-any-push [] r = or-false r.refused
-  where
-    or-false : (b : Bool) → (b || false) ≡ b
-    or-false true = refl
-    or-false false = refl
-any-push (q ∷ rs) r = ap (λ b. q.refused || b) (any-push rs r) ∙ or-assoc q.refused (list_any (λ q. q.refused) rs) r.refused
-  where
-    or-assoc : (a b c : Bool) → (a || (b || c)) ≡ ((a || b) || c)
-    or-assoc true b c = refl
-    or-assoc false b c = refl
-
-nothing-behind : {A : Type 0} (xs : List A) → xs ++ [] ≡ xs
-nothing-behind [] = refl
-nothing-behind (x ∷ xs) = ap (λ ys. x ∷ ys) (nothing-behind xs)
+any-push rs r = list_any-append (λ (q : Reply). q.refused) rs (r ∷ []) ∙ ap (λ b. list_any (λ (q : Reply). q.refused) rs || b) (or-false r.refused)
 
 text-push : (rs : List Reply) (r : Reply) → replies_text (rs ++ r ∷ []) ≡ replies_text rs ++ reply_text r
-text-push rs r = flat_map-append reply_text rs (r ∷ []) ∙ ap (λ t. replies_text rs ++ t) (nothing-behind (reply_text r))
+text-push rs r = flat_map-append reply_text rs (r ∷ []) ∙ ap (λ t. replies_text rs ++ t) (append-nil (reply_text r))
 
 -- before the first statement
 pub progress-none : (told : Option Answers) (o : Option (List ℕ)) (held : Option Held) (kept : Option (List Record)) (site : View) (first : Machine) → Stands site first → Holds held kept first → Progress [] told told o o held kept site false first
@@ -160,8 +145,8 @@ come-from (Some coming) = λ i. refl
 extends-ends : (first : Machine) (told now : Option Answers) (ss : List (ℕ × List Token)) (rs : List Reply) (mid : Machine) → Extends first told ss rs mid now → (all : Answers) × AreToCome told all × Run first all ss rs mid
 extends-ends first told now ss rs mid extends =
     let all = extends (answers_from now) (come-from now) [] [] mid refl in
-    let short : Run first all.0 ss (rs ++ []) mid = subst (λ (us : List (ℕ × List Token)). Run first all.0 us (rs ++ []) mid) (nothing-behind ss) all.2 in
-    (all.0, all.1, subst (λ (us : List Reply). Run first all.0 ss us mid) (nothing-behind rs) short)
+    let short : Run first all.0 ss (rs ++ []) mid = subst (λ (us : List (ℕ × List Token)). Run first all.0 us (rs ++ []) mid) (append-nil ss) all.2 in
+    (all.0, all.1, subst (λ (us : List Reply). Run first all.0 ss us mid) (append-nil rs) short)
 
 -- all statements were served
 pub progress-serves : (ss : List (ℕ × List Token)) (told now : Option Answers) (before written : Option (List ℕ)) (held : Option Held) (kept : Option (List Record)) (site : View) (refused : Bool) (first : Machine) → Progress ss told now before written held kept site refused first → Serves ss told before written held kept refused first
