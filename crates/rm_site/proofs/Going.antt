@@ -50,7 +50,7 @@ use Rattle.rm_site.proofs.Fitting.{fits, new-are}
 use Rattle.rm_site.proofs.New.{new-agree, new-within, new-valid}
 use Rattle.rm_site.proofs.Putting.{AreNew, logs-grown, pieces-kept, archived-grown, archived-kept}
 use Rattle.rm_site.proofs.PuttingPieces.{split-puts, logs-past-pieces, pieces-grown}
-use Rattle.rm_site.proofs.Saving.{AreSaved, saved_by}
+use Rattle.rm_site.proofs.Saving.{AreSaved}
 
 -- of two refusals neither is there
 pub neither : (a b : Option Refusal) → first_of a b ≡ None → (a ≡ None) × (b ≡ None)

@@ -32,7 +32,7 @@ use Rattle.rm_site.specs.Follows.{FollowsFrom, log_entry, log_object, growth_of}
 use Rattle.rm_site.specs.Holds.{Mirrors}
 use Rattle.rm_site.specs.Limits.{room_refusal}
 use Rattle.rm_site.specs.Marks.{IsMomentOf, early_mark, late_mark, listed, mark_of, is_mark}
-use Rattle.rm_site.specs.Saves.{Saved, Saves, AreOf, AreValid, piece_object}
+use Rattle.rm_site.specs.Saves.{Saved, Saves, AreOf, AreValid}
 use Rattle.rm_site.specs.Step.{refusal_of, is_reading}
 use Rattle.rm_site.specs.View.{IsRecorded, IsStanding}
 use Rattle.rm_site.proofs.Advancing.{advances}
