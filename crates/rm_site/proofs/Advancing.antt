@@ -19,6 +19,7 @@ use Rattle.rm_site.specs.Advances.{Advances, Branches, GrowsBy}
 use Rattle.rm_site.specs.Limits.{made_by}
 use Rattle.rm_site.proofs.Archiving.{Archives, archived-more}
 use Rattle.rm_site.proofs.Leading.{archived_by, Course, stays, adds, writes, branches_off, Led, leads}
+use Rattle.rm_site.proofs.Saving.{saved_by}
 use Rattle.rm_site.proofs.Trees.{length-with_end, tree-rises, tree-stays}
 
 threads-stay : (p q : Parts) (h k : List Change) (c : Command) → Course p q h k c → q.world.threads ≡ p.world.threads
@@ -68,7 +69,7 @@ advances-by p q h k c s after is =
     record {
       dbid = is.dbid;
       threads = threads-stay p q h k c is.course;
-      next_id = omega (arith, a.next_id);
+      next_id = a.next_id;
       tree = tree-grows p q h k c s is.course;
       files = files-grow p q h k c is.course;
       archived = a.archived;
@@ -98,12 +99,12 @@ branches p q h k c reply s accepted d = branches-by p q h k c (leads p q h k c r
 
 -- How many records there are more
 
-grows-with : (p q : Parts) (c : Command) (m : ℕ) → Archives p q (archived_by p c) → length q.world.tree + length q.world.files ≡ length p.world.tree + length p.world.files + m → made_by p c ≡ m + archived_by p c → GrowsBy p q (made_by p c)
+grows-with : (p q : Parts) (c : Command) (m : ℕ) → Archives p q (archived_by p c) → length q.world.tree + length q.world.files ≡ length p.world.tree + length p.world.files + m → made_by p c ≡ m + archived_by p c + saved_by p c → GrowsBy p q (saved_by p c) (made_by p c)
 grows-with p q c m archives world many =
     let logs = archived-more p q (archived_by p c) archives in
     omega (arith, logs, world, many)
 
-grows-done : (p q : Parts) (h k : List Change) (c : Command) → Led p q h k c → GrowsBy p q (made_by p c)
+grows-done : (p q : Parts) (h k : List Change) (c : Command) → Led p q h k c → GrowsBy p q (saved_by p c) (made_by p c)
 grows-done p q h k c is =
     let tree = p.world.tree in
     let now = now_of p + 1 in
@@ -113,14 +114,14 @@ grows-done p q h k c is =
       | adds blocks it world current history ↦
           let more = length-append p.world.files (new_datafile p blocks ∷ []) in
           let all : length q.world.tree + length q.world.files ≡ length (with_end tree p.current now) + length (p.world.files ++ new_datafile p blocks ∷ []) = ap size world in
-          grows-with p q c 1 is.archives (omega (arith, all, length-with_end tree p.current now, more)) (subst (λ (d : Command). made_by p d ≡ 1 + archived_by p d) it refl)
+          grows-with p q c 1 is.archives (omega (arith, all, length-with_end tree p.current now, more)) (subst (λ (d : Command). made_by p d ≡ 1 + archived_by p d + saved_by p d) it refl)
       | writes w it world current history ↦
           let all : length q.world.tree + length q.world.files ≡ length (with_end tree p.current now) + length p.world.files = ap size world in
-          grows-with p q c 0 is.archives (omega (arith, all, length-with_end tree p.current now)) (subst (λ (d : Command). made_by p d ≡ 0 + archived_by p d) it refl)
+          grows-with p q c 0 is.archives (omega (arith, all, length-with_end tree p.current now)) (subst (λ (d : Command). made_by p d ≡ 0 + archived_by p d + saved_by p d) it refl)
       | branches_off s it world current history ↦
           let all : length q.world.tree + length q.world.files ≡ length (with_branch tree p.current s) + length p.world.files = ap size world in
-          grows-with p q c 1 is.archives (omega (arith, all, length-with_branch tree p.current s)) (subst (λ (d : Command). made_by p d ≡ 1 + archived_by p d) it refl)
+          grows-with p q c 1 is.archives (omega (arith, all, length-with_branch tree p.current s)) (subst (λ (d : Command). made_by p d ≡ 1 + archived_by p d + saved_by p d) it (omega arith))
     ]
 
-pub grows-by : (p q : Parts) (h k : List Change) (c : Command) (reply : Reply) → IsSound p → refusal_in p c ≡ None → DoneIn p h c reply (machine (Some q) k) → GrowsBy p q (made_by p c)
+pub grows-by : (p q : Parts) (h k : List Change) (c : Command) (reply : Reply) → IsSound p → refusal_in p c ≡ None → DoneIn p h c reply (machine (Some q) k) → GrowsBy p q (saved_by p c) (made_by p c)
 grows-by p q h k c reply s accepted d = grows-done p q h k c (leads p q h k c reply s accepted d)

@@ -10,15 +10,15 @@ use Rattle.rm_database.proofs.Archives.{due_from-stays}
 
 -- What the archiving of n logs adds: they stand behind the others, under ids that were not drawn before.
 pub record Archives (p q : Parts) (n : ℕ) : Type 0 where
-  pub next_id : q.next_id ≡ p.next_id + n
+  pub next_id : p.next_id ≤ q.next_id
   pub archived : List Archived
   pub more : q.archived ≡ p.archived ++ archived
   pub many : length archived ≡ n
   pub above : All (λ a. p.next_id ≤ a.id) archived
 
-pub archives-none : (p q : Parts) → q.next_id ≡ p.next_id → q.archived ≡ p.archived → Archives p q 0
+pub archives-none : (p q : Parts) → p.next_id ≤ q.next_id → q.archived ≡ p.archived → Archives p q 0
 archives-none p q next_id same = record {
-  next_id = omega (arith, next_id);
+  next_id = next_id;
   archived = [];
   more = same ∙ sym (append-nil p.archived);
   many = refl;
@@ -29,7 +29,7 @@ archives-one : (p : Parts) (t : ℕ) → Archives p (with_archived p t) 1
 archives-one p t =
     let a : Archived = record { id = p.next_id; log = log_file_of p.logs t (redo_end p) } in
     record {
-      next_id = refl;
+      next_id = omega arith;
       archived = a ∷ [];
       more = refl;
       many = refl;
@@ -48,7 +48,7 @@ archives-then p q r m n a b = record {
 
 archives-by : (p : Parts) (t : ℕ) (b : Bool) → Archives p (cond b (with_archived p t) p) (cond b 1 0)
 archives-by p t true = archives-one p t
-archives-by p t false = archives-none p p refl refl
+archives-by p t false = archives-none p p (omega arith) refl
 
 due-by : (p : Parts) (t n : ℕ) (b : Bool) → 0 < t → due_from (cond b (with_archived p t) p) (t + 1) n ≡ due_from p (t + 1) n
 due-by p t n true here = due_from-stays p t (t + 1) n here (omega arith)
@@ -56,7 +56,7 @@ due-by p t n false here = refl
 
 -- of n threads from t on the logs that are due are archived
 pub archives-threads : (p : Parts) (t n : ℕ) → 0 < t → Archives p (after_threads p t n) (due_from p t n)
-archives-threads p t zero here = archives-none p p refl refl
+archives-threads p t zero here = archives-none p p (omega arith) refl
 archives-threads p t (suc n) here =
     let q : Parts = after_thread p t in
     let last : Parts = after_threads q (t + 1) n in

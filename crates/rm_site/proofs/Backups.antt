@@ -44,6 +44,7 @@ use Rattle.rm_site.specs.Holds.{IsOfDatafile, IsWithin}
 use Rattle.rm_site.specs.Machine.{a_piece}
 use Rattle.rm_site.specs.Saves.{IsTagBy, Saved, Saves, piece_entry, saved_as}
 use Rattle.rm_site.proofs.Tags.{tag-fits}
+use Rattle.rm_site.proofs.Fitting.{pairs-map}
 use Rattle.rm_site.proofs.Saving.{AreSaved, saved_by}
 
 -- The record
@@ -127,14 +128,6 @@ of-by p n is =
     omega (arith, some, inside)
 
 -- The list of them
-
-pairs-map : {X Y : Type 0} (R : Y → Y → Type 0) (f : X → Y) (xs : List X) → AllPairs (λ a b. R (f a) (f b)) xs → AllPairs R (map f xs)
-pairs-map R f [] up i j d less inside = absurd (omega (arith, inside))
-pairs-map R f (x ∷ xs) up i j d less inside =
-    let within : j < length (x ∷ xs) = (let long = length-map (x ∷ xs) f in omega (arith, inside)) in
-    let one = get_or-map f (x ∷ xs) i x d (omega (arith, less, within)) in
-    let two = get_or-map f (x ∷ xs) j x d within in
-    subst (λ u. R u (get_or (map f (x ∷ xs)) j d)) (sym one) (subst (R (f (get_or (x ∷ xs) i x))) (sym two) (up i j x less within))
 
 new-are : (p : Parts) (h : List Change) (b : BackupForm) → IsSound p → Keeps p h → backup_refusal p b ≡ None → All (IsNew p b) (new_pieces p b)
 new-are p h b s keeps accepted k d inside =

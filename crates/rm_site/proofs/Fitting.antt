@@ -1,10 +1,11 @@
 -- The records grow so as the rules ask, where the database goes on.
-use Rattle.std.proofs.Common.{◌≡◌, ◌<◌, ◌≤◌, ◌+◌, ◌∙◌, inl, inr, ℕ, zero, suc, List, [], ◌∷◌, ◌++◌, Option, Some, None, Bool, true, false, cond, ltb, refl, ap, sym, subst, arith, All, length, drop, map, get_or}
-use Rattle.std.specs.Prelude.{AllPairs}
+use Rattle.std.proofs.Common.{◌≡◌, ◌≢◌, ◌<◌, ◌≤◌, ◌+◌, ◌∙◌, ◌⊎◌, inl, inr, ℕ, zero, suc, List, [], ◌∷◌, ◌++◌, Option, Some, None, Bool, true, false, cond, ltb, refl, ap, sym, subst, arith, All, length, drop, map, get_or}
+use Rattle.std.specs.Prelude.{AllPairs, Contains}
 use Rattle.std.proofs.Math.Seq.{drop-append_seam}
 use Rattle.std.proofs.lemmas.List.{length-append, length-map, get_or-map, get_or-append-add}
 use Rattle.std.proofs.lemmas.List.Elements.{All-nil, All-map}
 use Rattle.rm_base.specs.Numbers.{last_moment}
+use Rattle.rm_base.specs.declared.block.Change.{Change}
 use Rattle.rm_base.specs.declared.block.Mark.{Mark}
 use Rattle.rm_base.proofs.Sealing.{length-sealed}
 use Rattle.rm_catalog.specs.declared.record.LogEntry.{LogEntry}
@@ -31,6 +32,8 @@ use Rattle.rm_site.specs.Advances.{Advances, Branches, GrowsBy}
 use Rattle.rm_site.specs.Follows.{new_logs, log_entry, growth_of}
 use Rattle.rm_site.specs.Holds.{Mirrors}
 use Rattle.rm_site.specs.Marks.{mark_at, mark_of, listed, last_marked, is_branch, is_change}
+use Rattle.rm_site.specs.Saves.{Saved}
+use Rattle.rm_site.proofs.Saving.{AreSaved, saved_by}
 
 -- the incarnations of a sound database keep the rules of records
 pub incarnations-of : (tree : List Incarnation) → sound.AreIncarnations tree → AreIncarnations tree
@@ -63,7 +66,7 @@ new-are p q a = ap (drop (length p.archived)) a.more ∙ drop-append_seam p.arch
 behind : {X : Type 0} (P : X → Type 0) (xs ys : List X) → All P (xs ++ ys) → All P ys
 behind P xs ys all k d lt = subst P (get_or-append-add xs ys k d) (all (length xs + k) d (let both = length-append xs ys in omega (arith, lt)))
 
-pairs-map : {X Y : Type 0} (R : Y → Y → Type 0) (f : X → Y) (xs : List X) → AllPairs (λ a b. R (f a) (f b)) xs → AllPairs R (map f xs)
+pub pairs-map : {X Y : Type 0} (R : Y → Y → Type 0) (f : X → Y) (xs : List X) → AllPairs (λ a b. R (f a) (f b)) xs → AllPairs R (map f xs)
 pairs-map R f [] up i j d less inside = absurd (omega (arith, inside))
 pairs-map R f (x ∷ xs) up i j d less inside =
     let within : j < length (x ∷ xs) = (let long = length-map (x ∷ xs) f in omega (arith, inside)) in
@@ -85,6 +88,10 @@ log-entry-fits tree threads next a is =
       size = omega (arith, body, whole, few);
     }
 
+-- an empty list contains nothing
+holds-none : {X : Type 0} (xs : List X) (x : X) → xs ≡ [] → Contains xs x → ⊥
+holds-none xs x none has = let inside = has.1 in let long : length xs ≡ 0 = ap length none in omega (arith, inside, long)
+
 module _ (p q : Parts) (sound : IsSound q) (a : Advances p q) where
   -- the facts of the new logs
   new-archived : All (IsArchived q.world.tree q.world.threads q.next_id) a.archived
@@ -93,14 +100,22 @@ module _ (p q : Parts) (sound : IsSound q) (a : Advances p q) where
   pub new-entries : All (IsLogEntry q.world.tree q.world.threads) (map log_entry a.archived)
   new-entries = All-map (IsLogEntry q.world.tree q.world.threads) log_entry a.archived (λ k d lt. log-entry-fits q.world.tree q.world.threads q.next_id (get_or a.archived k d) (new-archived k d lt))
 
-  pub new-ids : AreIds p.next_id q.next_id (map log_entry a.archived) []
-  new-ids = record {
+  pub new-ids : (k : List Change) (c : Command) (saved : List Saved) → AreSaved p q k c saved → AreIds p.next_id q.next_id (map log_entry a.archived) (map (λ s. s.entry) saved)
+  new-ids k c saved are = record {
     logs = All-map (λ (e : LogEntry). (p.next_id ≤ e.id) × (e.id < q.next_id)) log_entry a.archived a.ids;
-    pieces = All-nil (λ (e : PieceEntry). (p.next_id ≤ e.id) × (e.id < q.next_id));
+    pieces = All-map (λ (e : PieceEntry). (p.next_id ≤ e.id) × (e.id < q.next_id)) (λ s. s.entry) saved are.ids;
     logs_ascend = pairs-map (λ (e f : LogEntry). e.id < f.id) log_entry a.archived a.ascend;
-    pieces_ascend = λ i j d less inside. absurd (omega (arith, inside));
-    apart = λ l e is none. absurd (let lt = none.1 in omega (arith, lt));
+    pieces_ascend = pairs-map (λ (e f : PieceEntry). e.id < f.id) (λ s. s.entry) saved are.ascend;
+    apart = apart-by (new-alone are.alone);
   }
+    where
+      new-alone : (saved ≡ []) ⊎ (new_logs p q ≡ []) → (saved ≡ []) ⊎ (a.archived ≡ [])
+      new-alone (inl none) = inl none
+      new-alone (inr none) = inr (sym (new-are p q a) ∙ none)
+
+      apart-by : (saved ≡ []) ⊎ (a.archived ≡ []) → (l : LogEntry) (e : PieceEntry) → Contains (map log_entry a.archived) l → Contains (map (λ s. s.entry) saved) e → l.id ≢ e.id
+      apart-by (inl none) l e logs pieces = absurd (holds-none (map (λ s. s.entry) saved) e (ap (map (λ s. s.entry)) none) pieces)
+      apart-by (inr none) l e logs pieces = absurd (holds-none (map log_entry a.archived) l (ap (map log_entry) none) logs)
 
 all-one : {X : Type 0} (P : X → Type 0) (x : X) → P x → All P (x ∷ [])
 all-one P x is zero d lt = is
@@ -172,12 +187,12 @@ length-records l =
     omega (arith, tree, files, logs, pieces, marks, one, two, three, four)
 
 -- The growth keeps the rules, where so many records more have room.
-pub fits : (p q : Parts) (l : Ledger) (c : Command) (moment n : ℕ) → IsSound p → IsSound q → Mirrors p l → IsLedger l → l.base.moment ≤ moment → moment ≤ last_moment
-    → Advances p q → Branches p c q → GrowsBy p q n → length (records_of l) + n + length (listed (mark_of p (records_of l) c moment q)) ≤ 65536
-    → Fits l (growth_of p q (mark_of p (records_of l) c moment q) moment)
-fits p q l c moment n old new mirrors is kept last a branches grows room =
+pub fits : (p q : Parts) (l : Ledger) (h : List Change) (c : Command) (moment n : ℕ) (saved : List Saved) → AreSaved p q h c saved → IsSound p → IsSound q → Mirrors p l → IsLedger l → l.base.moment ≤ moment → moment ≤ last_moment
+    → Advances p q → Branches p c q → GrowsBy p q (saved_by p c) n → length (records_of l) + n + length (listed (mark_of p (records_of l) c moment q)) ≤ 65536
+    → Fits l (growth_of p q saved (mark_of p (records_of l) c moment q) moment)
+fits p q l h c moment n saved pieces old new mirrors is kept last a branches grows room =
     let m = mark_of p (records_of l) c moment q in
-    let g = growth_of p q m moment in
+    let g = growth_of p q saved m moment in
     let are = new-are p q a in
     let tree = incarnations-of q.world.tree new.incarnations in
     let keeps : Keeps l.tree q.world.tree = grown_keeps l.tree q.current q.world.tree is.incarnations tree (subst (λ t. TreeGrows t q.current q.world.tree) (sym mirrors.tree) a.tree) in
@@ -191,8 +206,8 @@ fits p q l c moment n old new mirrors is kept last a branches grows room =
       files = subst (λ fs. FilesGrow fs q.world.files) (sym mirrors.files) a.files;
       datafiles = datafiles-of q.world new.files;
       logs = subst (λ k. All (IsLogEntry q.world.tree k) (map log_entry (new_logs p q))) (sym threads) (subst (λ xs. All (IsLogEntry q.world.tree q.world.threads) (map log_entry xs)) (sym are) (new-entries p q new a));
-      pieces = All-nil (IsPieceEntry q.world.tree q.world.files);
-      ids = subst (λ k. AreIds k q.next_id (map log_entry (new_logs p q)) []) (sym mirrors.next_id) (subst (λ xs. AreIds p.next_id q.next_id (map log_entry xs) []) (sym are) (new-ids p q new a));
+      pieces = All-map (IsPieceEntry q.world.tree q.world.files) (λ s. s.entry) saved pieces.entries;
+      ids = subst (λ k. AreIds k q.next_id (map log_entry (new_logs p q)) (map (λ s. s.entry) saved)) (sym mirrors.next_id) (subst (λ xs. AreIds p.next_id q.next_id (map log_entry xs) (map (λ s. s.entry) saved)) (sym are) (new-ids p q new a h c saved pieces));
       marks = marks-fit p q (records_of l) c moment old new old-keeps;
       rise = marks-rise m;
       later = later-by l moment m is kept (moments-are p q (records_of l) c moment);
@@ -202,9 +217,9 @@ fits p q l c moment n old new mirrors is kept last a branches grows room =
           let after = length-records (grown l g) in
           let logs : length (l.logs ++ map log_entry (new_logs p q)) ≡ length l.logs + length a.archived = length-append l.logs (map log_entry (new_logs p q)) ∙ ap (λ k. length l.logs + k) (length-map (new_logs p q) log_entry ∙ ap length are) in
           let more : length q.archived ≡ length p.archived + length a.archived = ap length a.more ∙ length-append p.archived a.archived in
-          let pieces = length-append l.pieces [] in
+          let made : length (l.pieces ++ map (λ s. s.entry) saved) ≡ length l.pieces + saved_by p c = length-append l.pieces (map (λ s. s.entry) saved) ∙ ap (λ k. length l.pieces + k) (length-map saved (λ s. s.entry) ∙ pieces.many) in
           let marks = length-append l.marks (listed m) in
           let t : length l.tree ≡ length p.world.tree = ap length mirrors.tree in
           let f : length l.files ≡ length p.world.files = ap length mirrors.files in
-          omega (arith, before, after, logs, more, pieces, marks, t, f, grows, room);
+          omega (arith, before, after, logs, more, made, marks, t, f, grows, room);
     }

@@ -9,7 +9,7 @@ use Rattle.rm_database.specs.Parts.{Parts}
 use Rattle.rm_database.specs.Step.{DoneIn, refusal_in}
 use Rattle.rm_database.specs.Step as inner
 use Rattle.rm_lang.specs.declared.command.Command.{Command}
-use Rattle.rm_lang.specs.declared.command.Command.TheVariants.{CreateDatabase, CreateDatafile, Write, SwitchLogfile, ArchiveLogCurrent, Mount, OpenPlain, OpenResetlogs, ResetDatabase, Recover, RecoverTest, ListIncarnation, Dump}
+use Rattle.rm_lang.specs.declared.command.Command.TheVariants.{CreateDatabase, CreateDatafile, Write, SwitchLogfile, ArchiveLogCurrent, Mount, OpenPlain, OpenResetlogs, ResetDatabase, Recover, RecoverTest, Backup, ListIncarnation, Dump}
 use Rattle.rm_report.specs.declared.line.Reply.{Reply}
 use Rattle.rm_site.specs.Holds.{Sound, SoundBy}
 use Rattle.rm_site.specs.Limits.{room_refusal}
@@ -31,6 +31,7 @@ told-only p o h k OpenPlain reply reads d = absurd (cc)
 told-only p o h k OpenResetlogs reply reads d = absurd (cc)
 told-only p o h k (ResetDatabase inc) reply reads d = absurd (cc)
 told-only p o h k (Recover until) reply reads d = absurd (cc)
+told-only p o h k (Backup b) reply reads d = absurd (cc)
 told-only p o h k (RecoverTest until inc) reply reads d = d.1
 told-only p o h k ListIncarnation reply reads d = d.1
 told-only p o h k (Dump file block) reply reads d = d.3

@@ -1,5 +1,5 @@
 -- What is known of a statement, from what the calls of the database and of the change tell.
-use Rattle.std.proofs.Common.{◌≡◌, ◌≤◌, ◌+◌, ◌∙◌, ◌++◌, ◌∷◌, inl, inr, ℕ, List, [], Option, Some, None, false, cond, refl, ap, sym, subst, arith, length, map, drop}
+use Rattle.std.proofs.Common.{◌≡◌, ◌≤◌, ◌+◌, ◌∙◌, ◌++◌, ◌∷◌, inl, inr, ℕ, List, [], Option, Some, None, false, cond, IsTrue, refl, ap, sym, subst, arith, length, map, drop}
 use Rattle.std.specs.Prelude.{count_by, IsSomeAnd}
 use Rattle.std.proofs.lemmas.List.{length-append}
 use Rattle.std.proofs.lemmas.List.Sums.{sum_by-cons, sum_by-append}
@@ -16,19 +16,23 @@ use Rattle.rm_database.specs.Parts.{Parts}
 use Rattle.rm_database.specs.Sound.{IsSound}
 use Rattle.rm_database.specs.Step.{DoneIn, refusal_in}
 use Rattle.rm_database.specs.Step as inner
+use Rattle.rm_database.proofs.Pieces.{new-valid}
 use Rattle.rm_lang.specs.declared.command.Command.{Command}
-use Rattle.rm_lang.specs.declared.command.Command.TheVariants.{CreateDatabase, CreateDatafile, Write, SwitchLogfile, ArchiveLogCurrent, Mount, OpenPlain, OpenResetlogs, ResetDatabase, Recover, RecoverTest, ListIncarnation, Dump}
+use Rattle.rm_lang.specs.IsCommand.{is_command}
+use Rattle.rm_lang.specs.declared.command.Command.TheVariants.{CreateDatabase, CreateDatafile, Write, SwitchLogfile, ArchiveLogCurrent, Mount, OpenPlain, OpenResetlogs, ResetDatabase, Recover, RecoverTest, Backup, ListIncarnation, Dump}
 use Rattle.rm_ledger.specs.Growth.{Growth, edits_of}
 use Rattle.rm_ledger.specs.Ledger.{Ledger, records_of, numbered, incarnation_record, datafile_record, mark_record}
 use Rattle.rm_ledger.proofs.Lookups.{base-found}
 use Rattle.rm_ledger.proofs.Order.{marks-few, incarnations_of, datafiles_of, logs_of, pieces_of, marks_of}
 use Rattle.rm_report.specs.declared.line.Reply.{Reply}
 use Rattle.rm_site.specs.declared.follow.Before.{Before}
+use Rattle.rm_site.specs.declared.pieces.Pieces.{Pieces}
 use Rattle.rm_site.specs.Advances.{Advances}
 use Rattle.rm_site.specs.Follows.{FollowsFrom, log_entry, log_object, growth_of}
 use Rattle.rm_site.specs.Holds.{Mirrors}
 use Rattle.rm_site.specs.Limits.{room_refusal}
 use Rattle.rm_site.specs.Marks.{IsMomentOf, early_mark, late_mark, listed, mark_of, is_mark}
+use Rattle.rm_site.specs.Saves.{Saved, Saves, AreOf, AreValid}
 use Rattle.rm_site.specs.Step.{refusal_of, is_reading}
 use Rattle.rm_site.specs.View.{IsRecorded, IsStanding}
 use Rattle.rm_site.proofs.Advancing.{advances}
@@ -54,6 +58,7 @@ stays-there p h k OpenResetlogs reply d = resetlogs-none p p.point h k reply d
 stays-there p h k (ResetDatabase inc) reply d = gone None h k _ d.1
 stays-there p h k (Recover until) reply d = gone None h k _ d.1
 stays-there p h k (RecoverTest until inc) reply d = gone None h k _ d.1
+stays-there p h k (Backup b) reply d = gone None h k _ d.1
 stays-there p h k ListIncarnation reply d = gone None h k _ d.1
 stays-there p h k (Dump file block) reply d = gone None h k _ d.3
 
@@ -62,6 +67,14 @@ none-after p rs c reply moment is steps accepted =
     let none = (neither (refusal_in p c) (room_refusal p rs c moment) accepted).0 in
     let s = steps is.history is.keeps in
     stays-there p is.history s.0 c reply (subst (λ o. inner.StepBy o (machine (Some p) is.history) c reply (machine None s.0)) none s.1)
+
+-- each piece that a statement makes can be written
+valid-by : (p : Parts) (h : List Written) (c : Command) → IsSound p → Keeps p h → refusal_in p c ≡ None → AreValid p c
+valid-by p h (Backup b) sound keeps accepted = new-valid p h b sound keeps accepted
+valid-by p h _ sound keeps accepted = tt
+
+pub are-valid : (p : Parts) (rs : List Record) (c : Command) (moment : ℕ) → IsSound p → IsRecorded p rs → refusal_of (Some p) rs c moment ≡ None → AreValid p c
+are-valid p rs c moment sound is accepted = valid-by p is.history c sound is.keeps (neither (refusal_in p c) (room_refusal p rs c moment) accepted).0
 
 -- it goes on
 pub advanced : (p q : Parts) (rs : List Record) (c : Command) (reply : Reply) (moment : ℕ) → IsSound p → IsSound q → IsRecorded p rs → inner.Steps (Some p) (Some q) c reply → refusal_of (Some p) rs c moment ≡ None → Advances p q
@@ -135,9 +148,9 @@ pub record Began (p : Parts) (rs : List Record) (c : Command) (moment : ℕ) (b 
   pub marks : b.marks ≡ count_by is_mark rs
   pub mark : b.mark ≡ early_mark p rs c moment
 
-follows-from : (p q : Parts) (rs : List Record) (c : Command) (moment : ℕ) (b : Before) (l : Ledger) → Began p rs c moment b → rs ≡ records_of l → Mirrors p l
-    → FollowsFrom rs b q (late_mark q b.mark c moment) moment l (growth_of p q (mark_of p rs c moment q) moment)
-follows-from p q rs c moment b l began is mirrors = record {
+follows-from : (p q : Parts) (rs : List Record) (c : Command) (moment : ℕ) (b : Before) (saved : List Saved) (ps : Pieces) (l : Ledger) → Began p rs c moment b → AreOf saved ps → rs ≡ records_of l → Mirrors p l
+    → FollowsFrom rs b q ps.entries (late_mark q b.mark c moment) moment l (growth_of p q saved (mark_of p rs c moment q) moment)
+follows-from p q rs c moment b saved ps l began of is mirrors = record {
   files = ap length mirrors.files ∙ sym began.files;
   marks = sym (began.marks ∙ ap (count_by is_mark) is ∙ marks-counted l);
   base = ap base is ∙ base-found l;
@@ -147,25 +160,27 @@ follows-from p q rs c moment b l began is mirrors = record {
   tree = refl;
   new_files = refl;
   logs = ap (λ n. map log_entry (drop n q.archived)) (sym began.logs);
-  pieces = refl;
+  pieces = sym of.entries;
   new_marks = ap (λ m. listed (late_mark q m c moment)) (sym began.mark);
 }
 
 -- all that is known of it
-pub went : (p q : Parts) (rs : List Record) (c : Command) (reply : Reply) (moment : ℕ) (change : Change) (b : Before) (m : Option Mark) → IsSound p → IsSound q → inner.Steps (Some p) (Some q) c reply
-    → refusal_of (Some p) rs c moment ≡ None → is_reading c ≡ false → IsMomentOf rs moment → Began p rs c moment b → m ≡ late_mark q b.mark c moment
-    → change.objects ≡ map log_object (drop b.logs q.archived) → ((l : Ledger) (g : Growth) → FollowsFrom rs b q m moment l g → change.edits ≡ edits_of l g) → change.removes ≡ []
-    → Went p q rs c reply moment change
-went p q rs c reply moment change b m old new steps accepted reading at began mark objects edits removes = record {
+pub went : (p q : Parts) (rs : List Record) (c : Command) (reply : Reply) (moment : ℕ) (saved : List Saved) (ps : Pieces) (change : Change) (b : Before) (m : Option Mark) → IsSound p → IsSound q → inner.Steps (Some p) (Some q) c reply
+    → IsTrue (is_command c) → refusal_of (Some p) rs c moment ≡ None → is_reading c ≡ false → IsMomentOf rs moment → Began p rs c moment b → m ≡ late_mark q b.mark c moment → Saves p c moment saved → AreOf saved ps
+    → change.objects ≡ map log_object (drop b.logs q.archived) ++ ps.objects → ((l : Ledger) (g : Growth) → FollowsFrom rs b q ps.entries m moment l g → change.edits ≡ edits_of l g) → change.removes ≡ []
+    → Went p q rs c reply moment saved change
+went p q rs c reply moment saved ps change b m old new steps command accepted reading at began mark saves of objects edits removes = record {
   old = old;
   new = new;
   steps = steps;
+  command = command;
   accepted = accepted;
   reading = reading;
   moment_is = at;
-  objects = objects ∙ ap (λ n. map log_object (drop n q.archived)) began.logs;
-  edits = λ l is valid mirrors. edits l (growth_of p q (mark_of p rs c moment q) moment)
-      (subst (λ x. FollowsFrom rs b q x moment l (growth_of p q (mark_of p rs c moment q) moment)) (sym mark) (follows-from p q rs c moment b l began is mirrors));
+  saves = saves;
+  objects = objects ∙ ap (λ n. map log_object (drop n q.archived) ++ ps.objects) began.logs ∙ ap (λ xs. map log_object (drop (length p.archived) q.archived) ++ xs) of.objects;
+  edits = λ l is valid mirrors. edits l (growth_of p q saved (mark_of p rs c moment q) moment)
+      (subst (λ x. FollowsFrom rs b q ps.entries x moment l (growth_of p q saved (mark_of p rs c moment q) moment)) (sym mark) (follows-from p q rs c moment b saved ps l began of is mirrors));
   removes = removes;
 }
 

@@ -24,7 +24,7 @@ Branches p c q =
     (length q.world.tree ≡ length p.world.tree)
     ⊎ ((c ≡ OpenResetlogs) × (length q.world.tree ≡ length p.world.tree + 1) × (q.current ≡ length p.world.tree + 1))
 
--- how many records there are more, marks left aside
-abbrev pub GrowsBy : Parts → Parts → ℕ → Type 0
-GrowsBy p q n =
-    length q.world.tree + length q.world.files + length q.archived ≡ length p.world.tree + length p.world.files + length p.archived + n
+-- with so many pieces there are n records more, marks left aside
+abbrev pub GrowsBy : Parts → Parts → (pieces n : ℕ) → Type 0
+GrowsBy p q pieces n =
+    length q.world.tree + length q.world.files + length q.archived + pieces ≡ length p.world.tree + length p.world.files + length p.archived + n
