@@ -61,10 +61,10 @@ module _ (low next : ℕ) (saved : List Saved) (small : next ≤ 4294967295) (id
   piece-past : (objects objects' : Held) (made more : List Made) (p : PieceEntry) → HasPuts (map piece_object saved) objects objects' → p.id < low → HasPiece objects made p → HasPiece objects' (made ++ more) p
   piece-past objects objects' made more p puts lower has =
       piece-kept objects objects' made more p (other-stays saved objects objects' (piece_name p.copy p.id) puts (λ k d inside same.
-          let s = get_or saved k d in
-          let here = ids k d inside in
-          let told : p.id ≡ s.entry.id = (piece-name-tells p.copy s.entry.copy p.id s.entry.id (omega (arith, lower, here, small)) (omega (arith, here, small)) same).1 in
-          absurd (omega (arith, lower, here, told)))) has
+      let s = get_or saved k d in
+      let here = ids k d inside in
+      let told : p.id ≡ s.entry.id = (piece-name-tells p.copy s.entry.copy p.id s.entry.id (omega (arith, lower, here, small)) (omega (arith, here, small)) same).1 in
+      absurd (omega (arith, lower, here, told)))) has
 
   -- the records of pieces, those before and the new ones
   pub pieces-grown : (objects objects' : Held) (made : List Made) (ps : List PieceEntry) → All (λ s. IsPieceObject s.entry (spelling s.piece) s.piece) saved → HasPuts (map piece_object saved) objects objects'

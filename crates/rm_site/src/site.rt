@@ -179,7 +179,15 @@ fn go_on<D: Store, C: Keeper>(
         unreachable!()
     };
     let mark = mark_of(database, before.mark, command, moment);
-    let change = change_of(alloc, database, &state.catalog, &before, pieces, mark, moment)?;
+    let change = change_of(
+        alloc,
+        database,
+        &state.catalog,
+        &before,
+        pieces,
+        mark,
+        moment,
+    )?;
     record_change(&mut state.catalog, store, keeper, &change)?;
     Ok(reply)
 }
