@@ -17,7 +17,7 @@ not-equal n m true e apart = absurd (apart (same-name n m e))
 not-equal n m false e apart = refl
 
 -- a name that is none of theirs is not named
-unnamed : {X : Type 0} (name : X → List ℕ) (xs : List X) (n : List ℕ) → All (λ x. n ≢ name x) xs → is_named name xs n ≡ false
+pub unnamed : {X : Type 0} (name : X → List ℕ) (xs : List X) (n : List ℕ) → All (λ x. n ≢ name x) xs → is_named name xs n ≡ false
 unnamed name [] n apart = refl
 unnamed name (x ∷ xs) n apart =
     let here : bytes_eq n (name x) ≡ false = not-equal n (name x) (bytes_eq n (name x)) refl (All-head (λ x. n ≢ name x) x xs apart) in

@@ -11,7 +11,8 @@ use Rattle.rm_change.specs.declared.change.Change.{Change}
 use Rattle.rm_change.specs.declared.change.Object.{Object}
 use Rattle.rm_change.specs.Carrying.{Outside, Tells, Carried, Halted, before_the_edits, after_the_edits, Leads}
 use Rattle.rm_change.specs.Names.{HasPuts, SameBeyondRemoves, is_named, name_of, itself, nothing}
-use Rattle.rm_change.proofs.Named.{same-name, unnamed-stays}
+use Rattle.rm_change.proofs.Named.{unnamed-stays}
+use Rattle.rm_change.proofs.Standing.{unnamed}
 use Rattle.rm_database.specs.declared.database.Archived.{Archived}
 use Rattle.rm_database.specs.Parts.{Parts}
 use Rattle.rm_lang.specs.declared.command.Command.{Command}
@@ -51,17 +52,6 @@ carried-halts change held held' kept kept' leads w tells =
       led.2,
     )
 
-other-of : (n m : List ℕ) (b : Bool) → bytes_eq n m ≡ b → n ≢ m → b ≡ false
-other-of n m true e other = absurd (other (same-name n m e))
-other-of n m false e other = refl
-
--- a name that none of the objects has
-unnamed : (xs : List Object) (n : List ℕ) → All (λ x. n ≢ x.name) xs → is_named name_of xs n ≡ false
-unnamed [] n apart = refl
-unnamed (x ∷ xs) n apart =
-    let here : bytes_eq n x.name ≡ false = other-of n x.name (bytes_eq n x.name) refl (apart zero x (omega arith)) in
-    ap (λ b. b || is_named name_of xs n) here ∙ unnamed xs n (λ k d inside. apart (suc k) d (omega (arith, inside)))
-
 module _ (m : Machine) (s : Shown) (shown : m.shown ≡ Some s) (q : Parts) (c : Command) (reply : Reply) (moment : ℕ) (saved : List Saved) (change : Change)
     (w : Went s.database q (records m) c reply moment saved change) (sound : Sound s m.history m.objects m.made) where
   abbrev logs : List Archived
@@ -96,8 +86,8 @@ module _ (m : Machine) (s : Shown) (shown : m.shown ≡ Some s) (q : Parts) (c :
       id-apart e.id new.id low up.0 up.1 (λ small_a small_b. (piece-name-tells e.copy new.copy e.id new.id small_a small_b same).1)))
 
   named-apart : (n : List ℕ) → IsNamed s.ledger n → is_named name_of change.objects n ≡ false
-  named-apart _ (of_log e has) = ap (λ (xs : List Object). is_named name_of xs (log_name e.id)) w.objects ∙ unnamed (new_objects s.database q saved) (log_name e.id) (log-apart e has)
-  named-apart _ (of_piece e has) = ap (λ (xs : List Object). is_named name_of xs (piece_name e.copy e.id)) w.objects ∙ unnamed (new_objects s.database q saved) (piece_name e.copy e.id) (piece-apart e has)
+  named-apart _ (of_log e has) = ap (λ (xs : List Object). is_named name_of xs (log_name e.id)) w.objects ∙ unnamed name_of (new_objects s.database q saved) (log_name e.id) (log-apart e has)
+  named-apart _ (of_piece e has) = ap (λ (xs : List Object). is_named name_of xs (piece_name e.copy e.id)) w.objects ∙ unnamed name_of (new_objects s.database q saved) (piece_name e.copy e.id) (piece-apart e has)
 
   removes-none : (put after : Held) → SameBeyondRemoves change.removes put after → (n : List ℕ) → after n ≡ put n
   removes-none put after same n = same n (ap (λ (ns : List (List ℕ)). is_named itself ns n) w.removes)
