@@ -1,12 +1,9 @@
 -- What is known of the pieces that a backup makes.
-use Rattle.std.proofs.Common.{◌≡◌, ◌<◌, ◌≤◌, ◌+◌, ◌-◌, ◌*◌, ◌∙◌, ◌==◌, ◌&&◌, ◌||◌, inl, inr, ℕ, List, [], ◌∷◌, Option, Some, None, Bool, true, false, cond, refl, ap, sym, subst, arith, All, AllPairs, length, map, get_or, is_none, nat_lt, nat_le, bytes_eq}
+use Rattle.std.proofs.Common.{◌≡◌, ◌<◌, ◌≤◌, ◌+◌, ◌-◌, ◌*◌, ◌∙◌, ◌==◌, ◌&&◌, inl, inr, ℕ, List, [], Some, None, Bool, true, false, cond, refl, ap, sym, subst, arith, All, length, map, get_or, is_none, nat_lt}
 use Rattle.std.specs.Prelude.{IsTrue}
-use Rattle.std.specs.Char.{is_ascii_alphanumeric, to_ascii_uppercase}
-use Rattle.std.specs.List.{list_all}
-use Rattle.std.proofs.lemmas.Bool.{and_parts, and_from, leb-true, eqb-true}
-use Rattle.std.proofs.lemmas.Bool.Decides.{nat_tests}
-use Rattle.std.proofs.lemmas.List.{length-map, get_or-map, drop_all}
-use Rattle.std.proofs.lemmas.List.Elements.{All-nil, All-head, All-tail, All-map}
+use Rattle.std.proofs.lemmas.Bool.{and_parts, eqb-true}
+use Rattle.std.proofs.lemmas.List.{length-map, drop_all}
+use Rattle.std.proofs.lemmas.List.Elements.{All-nil, All-map}
 use Rattle.std.proofs.lemmas.Option.{slice_get_within}
 use Rattle.rm_base.specs.declared.block.Change.{Change}
 use Rattle.rm_base.specs.declared.kinds.Kind.{Kind}
@@ -15,7 +12,7 @@ use Rattle.rm_base.proofs.Sealing.{length-sealed}
 use Rattle.rm_lang.specs.declared.command.BackupForm.{BackupForm}
 use Rattle.rm_lang.specs.declared.command.Command.{Command}
 use Rattle.rm_lang.specs.declared.command.Command.TheVariants.{CreateDatabase, CreateDatafile, Write, SwitchLogfile, ArchiveLogCurrent, Mount, OpenPlain, OpenResetlogs, ResetDatabase, Recover, RecoverTest, Backup, ListIncarnation, Dump}
-use Rattle.rm_lang.specs.IsCommand.{is_command, is_backup}
+use Rattle.rm_lang.specs.IsCommand.{is_command}
 use Rattle.rm_history.specs.declared.tree.Incarnation.{Incarnation}
 use Rattle.rm_history.specs.Agrees.{BaseAgrees}
 use Rattle.rm_history.specs.Tree.{IsThere, end_of, owner}
@@ -26,10 +23,7 @@ use Rattle.rm_piece.specs.Valid.{IsPiece}
 use Rattle.rm_piece.proofs.Bodies.{length-body}
 use Rattle.rm_piece.proofs.Fitting.{few_rows, fits}
 use Rattle.rm_catalog.specs.declared.record.PieceEntry.{PieceEntry}
-use Rattle.rm_catalog.specs.Objects.{FitsKind, FitsRows, IsTag, is_tag_byte}
-use Rattle.rm_moments.specs.Tags.{IsTagByte}
-use Rattle.rm_moments.specs.Text as text
-use Rattle.rm_moments.proofs.Tags.{tag-long, tag-bytes}
+use Rattle.rm_catalog.specs.Objects.{FitsKind, FitsRows, IsTag}
 use Rattle.rm_objects.specs.Objects.{IsPieceObject}
 use Rattle.rm_ledger.specs.Facts.{IsPieceEntry}
 use Rattle.rm_report.specs.declared.line.Reply.{Reply}
@@ -42,7 +36,7 @@ use Rattle.rm_database.specs.Step.{DoneIn, refusal_in}
 use Rattle.rm_database.proofs.Pieces.{HasDatafile, new-agree, new-ascend, new-count, new-fields, new-files, new-high, new-ids, new-kinds, new-valid}
 use Rattle.rm_site.specs.Holds.{IsOfDatafile, IsWithin}
 use Rattle.rm_site.specs.Machine.{a_piece}
-use Rattle.rm_site.specs.Saves.{IsTagBy, Saved, Saves, piece_entry, saved_as}
+use Rattle.rm_site.specs.Saves.{Saved, Saves, piece_entry, saved_as}
 use Rattle.rm_site.proofs.Tags.{tag-fits}
 use Rattle.rm_site.proofs.Fitting.{pairs-map}
 use Rattle.rm_site.proofs.Saving.{AreSaved, saved_by}

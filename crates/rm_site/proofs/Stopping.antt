@@ -1,7 +1,6 @@
 -- What a stop leaves, wherever it came.
-use Rattle.std.proofs.Common.{◌≡◌, ◌≢◌, ◌<◌, ◌≤◌, ◌^◌, ◌∙◌, ◌||◌, inl, inr, ℕ, zero, suc, List, [], ◌∷◌, Option, Some, Result, Ok, Err, Bool, true, false, refl, ap, sym, subst, arith, All, get_or, map}
+use Rattle.std.proofs.Common.{◌≡◌, ◌≢◌, ◌<◌, ◌≤◌, ◌^◌, ◌∙◌, inl, inr, ℕ, List, Option, Some, Result, Ok, Err, false, refl, ap, sym, subst, arith, All, get_or, map}
 use Rattle.std.specs.Prelude.{Contains, OnErr}
-use Rattle.std.specs.Str.{bytes_eq}
 use Rattle.std.proofs.lemmas.List.Elements.{All-append, All-contains, All-map}
 use Rattle.rm_base.specs.Store.{Held}
 use Rattle.rm_catalog.specs.declared.record.LogEntry.{LogEntry}

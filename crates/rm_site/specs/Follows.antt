@@ -1,5 +1,5 @@
 -- What a statement that changes the database leaves of the machine: its records and objects follow.
-use Rattle.std.specs.Prelude.{◌≡◌, ℕ, true, false, Option, Some, List, [], ◌++◌, length, drop, map}
+use Rattle.std.specs.Prelude.{◌≡◌, ℕ, true, false, Option, Some, List, ◌++◌, length, drop, map}
 use Rattle.sha2.specs.Sha256.{sha256}
 use Rattle.rm_base.specs.declared.block.Change.{Change}
 use Rattle.rm_base.specs.declared.block.Mark.{Mark}
