@@ -60,6 +60,8 @@ impl Model for Site {
 pub enum OpenFault {
     /// The kind and the id of the first record. A saved site can't be opened yet.
     BadRow(u8, u32),
+    /// The store failed, and counted it.
+    StoreFault,
     /// The keeper failed, and counted it.
     KeeperFault,
     NoMemory,
@@ -251,16 +253,23 @@ impl From<CatalogFault> for OpenFault {
 }
 
 impl Site {
-    /// Opens the site over a keeper. `BadRow` exactly where the keeper has a record: it tells the first
-    /// by kind and then by id, since a saved site can't be opened yet.
-    pub fn open<C: Keeper>(alloc: Global, keeper: &mut C) -> Result<Site, OpenFault>
-        ensures opened { IfOk result (λ site. (held : Option Held) → Opens held (C.kept keeper.old) site) }
+    /// Opens the site over a store and a keeper. `BadRow` exactly where the keeper has a record: it tells the
+    /// first by kind and then by id, since a saved site can't be opened yet. So the store is not read.
+    pub fn open<D: Store, C: Keeper>(
+        alloc: Global,
+        store: &mut D,
+        keeper: &mut C,
+    ) -> Result<Site, OpenFault>
+        ensures opened { IfOk result (Opens (D.held store.old) (C.kept keeper.old)) }
         ensures live { IfOk result (λ site. site.live ≡ true) }
         ensures empty { IfOk result (λ _. IfSome (C.kept keeper.old) (λ rs. rs ≡ [])) }
         ensures bad { IfErr result (λ fault. IfSome (C.kept keeper.old) (IsBadFirst fault)) }
-        ensures same { C.kept keeper.new ≡ C.kept keeper.old }
+        ensures held { D.held store.new ≡ D.held store.old }
+        ensures kept { C.kept keeper.new ≡ C.kept keeper.old }
+        ensures store { IsErrOf result OpenFault.StoreFault → Rose (D.faults store.old) (D.faults store.new) }
         ensures keeper { IsErrOf result OpenFault.KeeperFault → Rose (C.faults keeper.old) (C.faults keeper.new) }
-        ensures never_falls { C.faults keeper.old ≤ C.faults keeper.new }
+        ensures store_never_falls { D.faults store.old ≤ D.faults store.new }
+        ensures keeper_never_falls { C.faults keeper.old ≤ C.faults keeper.new }
     {
         let records = keeper.load()?;
         if let Some(key) = first_key(records.as_slice()) {

@@ -66,7 +66,7 @@ fn a_log_is_archived(rt: HostRuntime) -> Result<(), Fail> {
     let alloc = rt.alloc();
     let mut store = store(alloc, 0)?;
     let mut keeper = keeper(alloc, Seq::new(alloc), 0)?;
-    let Ok(mut site) = Site::open(alloc, &mut keeper) else {
+    let Ok(mut site) = Site::open(alloc, &mut store, &mut keeper) else {
         return Err("not opened".into());
     };
     let steps = [
@@ -104,7 +104,7 @@ fn a_put_that_fails_stops(rt: HostRuntime) -> Result<(), Fail> {
     let alloc = rt.alloc();
     let mut store = store(alloc, 1)?;
     let mut keeper = keeper(alloc, Seq::new(alloc), 0)?;
-    let Ok(mut site) = Site::open(alloc, &mut keeper) else {
+    let Ok(mut site) = Site::open(alloc, &mut store, &mut keeper) else {
         return Err("not opened".into());
     };
     for command in [CREATE, Command::CreateDatafile { blocks: 1 }] {
@@ -123,7 +123,7 @@ fn an_apply_that_fails_stops(rt: HostRuntime) -> Result<(), Fail> {
     let alloc = rt.alloc();
     let mut store = store(alloc, 0)?;
     let mut keeper = keeper(alloc, Seq::new(alloc), 1)?;
-    let Ok(mut site) = Site::open(alloc, &mut keeper) else {
+    let Ok(mut site) = Site::open(alloc, &mut store, &mut keeper) else {
         return Err("not opened".into());
     };
     let is = is_answered(alloc, &mut site, &mut store, &mut keeper, &CREATE, "");
@@ -144,7 +144,7 @@ fn the_first_record_is_told(rt: HostRuntime) -> Result<(), Fail> {
         }))?;
     }
     let mut keeper = keeper(alloc, records, 0)?;
-    let opened = Site::open(alloc, &mut keeper);
+    let opened = Site::open(alloc, &mut store, &mut keeper);
     assert!(rt; matches!(opened, Err(OpenFault::BadRow(6, 2))));
     Ok(())
 }

@@ -1,12 +1,11 @@
 //! The site is opened, or the line of a record is written.
-ghost use Rattle.std.specs.Prelude.{◌≡◌, ◌≤◌, [], true, IfOk, OnOk, IsErrOf, IfSome, Option};
+ghost use Rattle.std.specs.Prelude.{◌≡◌, ◌≤◌, [], true, IfOk, OnOk, IsErrOf, IfSome};
 ghost use Rattle.rm_base.specs.Outside.{Rose};
-ghost use Rattle.rm_base.specs.Store.{Held};
 ghost use Rattle.rm_site.specs.Opens.{Opens};
 ghost use Rattle.rm_tool.specs.Session.{Tells, FallsShort, bad_record};
 
 use crate::ends::write_all;
-use rm_base::{Failed, NoMemory, Sink, Text};
+use rm_base::{Failed, NoMemory, Sink, Store, Text};
 use rm_catalog::{Keeper, Key};
 use rm_site::{OpenFault, Site};
 use std::alloc::Global;
@@ -18,6 +17,8 @@ pub enum Unopened {
     BadRecord,
     /// The sink failed in that line.
     Sink,
+    /// The store failed, and counted it.
+    Store,
     /// The keeper failed, and counted it.
     Keeper,
     NoMemory,
@@ -51,33 +52,40 @@ fn bad_record(alloc: Global, key: Key) -> Result<Text, NoMemory>
     Ok(Text::from_string(format!(in alloc; "rman: bad record {kind} {id}\n")?))
 }
 
-/// Opens the site over the keeper. Where the keeper has a record, the line of the first is written, by
-/// kind and then by id; else nothing is.
-pub fn open_site<K: Sink, C: Keeper>(
+/// Opens the site over the store and the keeper. Where the keeper has a record, the line of the first is
+/// written, by kind and then by id; else nothing is.
+pub fn open_site<K: Sink, D: Store, C: Keeper>(
     alloc: Global,
     sink: &mut K,
+    store: &mut D,
     keeper: &mut C,
 ) -> Result<Site, Unopened>
-    ensures opened { IfOk result (λ site. (held : Option Held) → Opens held (C.kept keeper.old) site) }
+    ensures opened { IfOk result (Opens (D.held store.old) (C.kept keeper.old)) }
     ensures live { IfOk result (λ site. site.live ≡ true) }
     ensures empty { IfOk result (λ _. IfSome (C.kept keeper.old) (λ rs. rs ≡ [])) }
+    ensures held { D.held store.new ≡ D.held store.old }
     ensures kept { C.kept keeper.new ≡ C.kept keeper.old }
 
     // What was written.
     ensures ok { OnOk result (K.contents sink.new ≡ K.contents sink.old) }
     ensures bad { IsErrOf result Unopened.BadRecord → Tells (C.kept keeper.old) (K.contents sink.old) (K.contents sink.new) }
     ensures sink { IsErrOf result Unopened.Sink → FallsShort (C.kept keeper.old) (K.contents sink.old) (K.contents sink.new) }
+    ensures store { IsErrOf result Unopened.Store → K.contents sink.new ≡ K.contents sink.old }
     ensures keeper { IsErrOf result Unopened.Keeper → K.contents sink.new ≡ K.contents sink.old }
     ensures memory { IsErrOf result Unopened.NoMemory → K.contents sink.new ≡ K.contents sink.old }
 
-    // Whose count rose.
+    // Whose count rose. The store fails only where the keeper has no record.
+    ensures store_empty { IsErrOf result Unopened.Store → IfSome (C.kept keeper.old) (λ rs. rs ≡ []) }
     ensures sink_failed { IsErrOf result Unopened.Sink → Rose (K.faults sink.old) (K.faults sink.new) }
+    ensures store_failed { IsErrOf result Unopened.Store → Rose (D.faults store.old) (D.faults store.new) }
     ensures keeper_failed { IsErrOf result Unopened.Keeper → Rose (C.faults keeper.old) (C.faults keeper.new) }
     ensures sink_never_falls { K.faults sink.old ≤ K.faults sink.new }
+    ensures store_never_falls { D.faults store.old ≤ D.faults store.new }
     ensures keeper_never_falls { C.faults keeper.old ≤ C.faults keeper.new }
 {
-    match Site::open(alloc, keeper) {
+    match Site::open(alloc, store, keeper) {
         Ok(site) => Ok(site),
+        Err(OpenFault::StoreFault) => Err(Unopened::Store),
         Err(OpenFault::KeeperFault) => Err(Unopened::Keeper),
         Err(OpenFault::NoMemory) => Err(Unopened::NoMemory),
         Err(OpenFault::BadRow(kind, id)) => {

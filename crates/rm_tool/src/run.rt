@@ -100,10 +100,11 @@ pub fn run<S: Source, K: Sink, D: Store, C: Keeper, T: Clock>(
     let Ok(found) = statements(alloc, &script) else {
         return 7;
     };
-    let site = match open_site(alloc, sink, keeper) {
+    let site = match open_site(alloc, sink, store, keeper) {
         Ok(site) => site,
         Err(Unopened::BadRecord) => return 9,
         Err(Unopened::Sink) => return 4,
+        Err(Unopened::Store) => return 5,
         Err(Unopened::Keeper) => return 6,
         Err(Unopened::NoMemory) => return 7,
     };
