@@ -134,6 +134,7 @@ fn an_apply_that_fails_stops(rt: HostRuntime) -> Result<(), Fail> {
 #[test]
 fn the_first_record_is_told(rt: HostRuntime) -> Result<(), Fail> {
     let alloc = rt.alloc();
+    let mut store = store(alloc, 0)?;
     let mut records = Seq::new(alloc);
     for id in [3, 2, 4] {
         records.push(Record::Mark(MarkEntry {
