@@ -1,6 +1,9 @@
+pub mod Choices
 pub mod Clocks
 pub mod Contents
 pub mod Items
+pub mod Lists
+pub mod Members
 pub mod Names
 pub mod Sealing
 pub mod Streams

@@ -1,3 +1,4 @@
+pub mod Choice
 pub mod Content
 pub mod Failing
 pub mod Formats

@@ -23,7 +23,7 @@ use Rattle.rm_history.specs.World.{IsThread, creation_of, file_of, exists}
 use Rattle.rm_history.proofs.Histories.{world-with_end, state-push_other, state-with_end, IsChange-with_end, IsHistory-push, IsHistory-with_end, IsHistory-with_file}
 use Rattle.rm_history.proofs.Ends.{end_of-with_end, owner-with_end}
 use Rattle.rm_history.proofs.Growth.{LogAgrees-grown, state-push_top}
-use Rattle.rm_history.proofs.Members.{none-in}
+use Rattle.rm_base.proofs.Members.{none-in}
 use Rattle.rm_history.proofs.Owners.{owner-here}
 use Rattle.rm_history.proofs.States.{concerns-parts, concerns-from}
 use Rattle.rm_history.proofs.Worlds.{state-kept}

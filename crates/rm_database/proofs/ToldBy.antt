@@ -10,7 +10,7 @@ use Rattle.rm_history.specs.declared.world.World.{World}
 use Rattle.rm_history.specs.Agrees.{LogAgrees, is_of}
 use Rattle.rm_history.specs.State.{state, rows_from}
 use Rattle.rm_history.specs.World.{IsThread, exists}
-use Rattle.rm_history.proofs.Members.{in-front, behind, none-in, first-or-rest}
+use Rattle.rm_base.proofs.Members.{in-front, behind, none-in, first-or-rest}
 use Rattle.rm_history.proofs.States.{state-members}
 use Rattle.rm_redo.specs.LogFile.{changes_of, log_of, log_file_of}
 use Rattle.rm_redo.specs.declared.log_file.LogFile.{LogFile}

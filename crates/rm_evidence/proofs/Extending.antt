@@ -4,7 +4,7 @@ use Rattle.std.specs.Prelude.{◌↔◌}
 use Rattle.std.proofs.lemmas.List.{append-nil, append_assoc}
 use Rattle.std.proofs.lemmas.List.Elements.{Contains-append_cases, Contains-append_left, Contains-append_right, Contains-get_or}
 use Rattle.std.proofs.lemmas.List.Kept.{AllPairs-cons}
-use Rattle.rm_history.proofs.Members.{in-front, behind, none-in, first-or-rest}
+use Rattle.rm_base.proofs.Members.{in-front, behind, none-in, first-or-rest}
 use Rattle.rm_evidence.specs.Taking.{Extends}
 
 pub only-in : {X : Type 0} (x y : X) → Contains (x ∷ []) y → x ≡ y

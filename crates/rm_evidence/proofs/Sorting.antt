@@ -6,7 +6,7 @@ use Rattle.std.proofs.lemmas.Bool.Decides.{nat_tests}
 use Rattle.std.proofs.lemmas.List.Elements.{Contains-get_or}
 use Rattle.std.proofs.lemmas.List.Kept.{AllPairs-cons}
 use Rattle.std.proofs.lemmas.Map.Keys.{IsDistinct-IsPermutation}
-use Rattle.rm_history.proofs.Members.{in-front, behind, none-in, first-or-rest}
+use Rattle.rm_base.proofs.Members.{in-front, behind, none-in, first-or-rest}
 use Rattle.rm_evidence.proofs.Extending.{pairs-head, pairs-tail}
 
 by-recursion : {X : Type 0} (P : X → Type 0) (xs : List X) → ((x : X) → Contains xs x → P x) → AllByRecursion P xs

@@ -11,7 +11,7 @@ use Rattle.rm_history.specs.History.{IsHistory, SamePlace}
 use Rattle.rm_history.specs.State.{concerns, state, IsState}
 use Rattle.rm_history.specs.Artefacts.{Base, Level1, Log}
 use Rattle.rm_history.specs.Agrees.{IsRow, IsBelow, BaseAgrees, Level1Agrees, LogAgrees, is_of}
-use Rattle.rm_history.proofs.Members.{AllPairs-front, AllPairs-last}
+use Rattle.rm_base.proofs.Members.{AllPairs-front, AllPairs-last}
 use Rattle.rm_history.proofs.States.{concerns-parts, concerns-from, concerns-one_place, concerns-risen, state-held, state-one}
 use Rattle.rm_history.proofs.Histories.{state-push_other}
 

@@ -3,7 +3,7 @@ use Rattle.std.proofs.Common.{◌≡◌, ◌<◌, ◌≤◌, ◌+◌, ◌⊎◌,
 use Rattle.std.proofs.lemmas.Bool.{cases_lt}
 use Rattle.rm_base.specs.declared.block.Row.{Row}
 use Rattle.rm_history.specs.Artefacts.{high_of}
-use Rattle.rm_history.proofs.Members.{in-front, behind, none-in, first-or-rest}
+use Rattle.rm_base.proofs.Members.{in-front, behind, none-in, first-or-rest}
 
 -- it is the checkpoint at least
 pub high-least : (checkpoint : ℕ) (rows : List Row) → checkpoint ≤ high_of checkpoint rows

@@ -4,9 +4,9 @@ pub mod Ends
 pub mod Growth
 pub mod Highs
 pub mod Histories
-pub mod Members
 pub mod Owners
 pub mod Paths
+pub mod Segments
 pub mod Shared
 pub mod States
 pub mod Worlds

@@ -5,7 +5,7 @@ use Rattle.std.proofs.lemmas.Bool.{eq-eqb, ne_eqb, cases_eq, cases_Bool, both_wa
 use Rattle.rm_history.specs.declared.tree.Incarnation.{Incarnation}
 use Rattle.rm_history.specs.declared.tree.Standing.TheVariants.{Current, Parent, Orphan}
 use Rattle.rm_history.specs.Tree.{HasParentsBelow, IsProperAncestor, ancestors, parent_of, reset_of, path, is_on_path, item_before, segment_end, standing}
-use Rattle.rm_history.proofs.Members.{in-front, behind, none-in, first-or-rest}
+use Rattle.rm_base.proofs.Members.{in-front, behind, none-in, first-or-rest}
 use Rattle.rm_history.proofs.Owners.{path-step}
 
 ancestors-below : (tree : List Incarnation) → HasParentsBelow tree → (most i j : ℕ) → Contains (ancestors most tree i) j → (0 < j) × (j ≤ i)

@@ -13,7 +13,7 @@ use Rattle.rm_history.specs.Tree.{owner}
 use Rattle.rm_history.specs.World.{creation_of}
 use Rattle.rm_history.specs.History.{IsHistory, SamePlace}
 use Rattle.rm_history.specs.State.{concerns, later, latest, last_change, row_of, state, IsState}
-use Rattle.rm_history.proofs.Members.{in-front, behind, first-or-rest}
+use Rattle.rm_base.proofs.Members.{in-front, behind, first-or-rest}
 
 -- a change of the list that passes, and above which none that passes lies
 pub record IsGreatest (p : Change → Bool) (h : List Change) (d : Change) : Type 0 where
@@ -100,7 +100,7 @@ pub record Concerns (w : World) (i s f b : ℕ) (c : Change) : Type 0 where
   pub below : c.scn < s
   pub owned : owner w.tree i c.scn ≡ c.inc
 
-both-hold : (a b : Bool) → (a && b) ≡ true → (a ≡ true) × (b ≡ true)
+pub both-hold : (a b : Bool) → (a && b) ≡ true → (a ≡ true) × (b ≡ true)
 both-hold true b h = (refl, h)
 both-hold false b h = absurd (cc)
 

@@ -16,7 +16,7 @@ use Rattle.rm_history.specs.Agrees.{BaseAgrees, Level1Agrees}
 use Rattle.rm_history.proofs.Branches.{IsThere-with_branch, reset_of-with_branch, owner-with_branch, owner-branched_below}
 use Rattle.rm_history.proofs.Ends.{owner-with_end}
 use Rattle.rm_history.proofs.Histories.{latest-same, state-with_end}
-use Rattle.rm_history.proofs.Members.{slice_get-front}
+use Rattle.rm_base.proofs.Members.{slice_get-front}
 
 -- what a last change makes of a block, with the creation of its file
 abbrev made_row : ℕ → Option Change → ℕ → Row

@@ -1,5 +1,5 @@
 -- The tree of incarnations: a list in which incarnation 1 stands first.
-use Rattle.std.specs.Prelude.{ℕ, zero, suc, ◌≡◌, ◌≢◌, ◌-◌, ◌<◌, ◌≤◌, ◌==◌, nat_le, if◌then◌else◌, Bool, Option, None, Some, unwrap_or, List, [], ◌∷◌, ◌++◌, length, find, slice_get, slice_set, Contains}
+use Rattle.std.specs.Prelude.{ℕ, zero, suc, ◌≡◌, ◌≢◌, ◌-◌, ◌<◌, ◌≤◌, ◌==◌, ◌&&◌, nat_le, if◌then◌else◌, Bool, true, Option, None, Some, unwrap_or, List, [], ◌∷◌, ◌++◌, length, find, slice_get, slice_set, Contains}
 use Rattle.std.specs.List.{list_any}
 use Rattle.std.specs.Option.{option_map, option_map_or}
 use Rattle.rm_base.specs.Numbers.{last_scn}
@@ -78,6 +78,11 @@ segment_end tree j i = option_map (reset_of tree) (item_before j (path tree i))
 -- j is on i's path
 unfoldable pub is_on_path : List Incarnation → ℕ → ℕ → Bool
 is_on_path tree j i = list_any (λ k. k == j) (path tree i)
+
+-- What an artefact of j tells below `high` holds on i's path: j is on it, and `high` is within j's segment,
+-- if that ends.
+abbrev pub is_within : List Incarnation → ℕ → ℕ → ℕ → Bool
+is_within tree j i high = is_on_path tree j i && option_map_or (λ end. nat_le high end) (segment_end tree j i) true
 
 -- how i stands to the current incarnation: it is that one, an ancestor of it, or neither
 unfoldable pub standing : List Incarnation → ℕ → ℕ → Standing

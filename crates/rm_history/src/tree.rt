@@ -1,6 +1,6 @@
 //! The incarnations of a database, and which of them owns an SCN.
 ghost use Rattle.std.specs.Prelude.{◌≡◌, ◌<◌, ◌≤◌, ◌↔◌, ◌⊎◌, ◌∷◌, [], ◌+◌, ◌-◌, length, IsTrue, IsSome, IfSome, IfOk, OnOk, OnErr, IsErrOf, false};
-ghost use Rattle.rm_history.specs.Tree.{IsThere, IsTree, HasParentsBelow, IsProperAncestor, IsShared, is_on_path as path_has, owner, incarnation, reset_of, end_of, with_end, with_branch, segment_end, standing};
+ghost use Rattle.rm_history.specs.Tree.{IsThere, IsTree, HasParentsBelow, IsProperAncestor, IsShared, is_on_path as path_has, owner, incarnation, reset_of, end_of, with_end, with_branch, segment_end, standing, is_within};
 
 use rm_base::{IncNo, LAST_SCN, NoMemory, Scn};
 use std::alloc::{AllocFailed, Global};
@@ -249,6 +249,18 @@ impl Tree {
             return None;
         }
         end_of_segment(&self.incarnations, j, i)
+    }
+
+    /// Whether what an artefact of `j` tells below `high` holds on the path of `i`: `j` is on that path,
+    /// and `high` is within its segment there, if that ends.
+    pub fn is_within(&self, j: IncNo, i: IncNo, high: Scn) -> bool
+        requires there { IsThere self.now i }
+        ensures { result ≡ is_within self.now j i high }
+    {
+        match self.segment_end(j, i) {
+            Some(end) => high <= end,
+            None => j == i,
+        }
     }
 
     /// The incarnation to which the SCN `g` belongs on the path of `i`. None where `i` is not there

@@ -12,7 +12,7 @@ use Rattle.rm_history.specs.World.{file_of, IsThread}
 use Rattle.rm_history.specs.History.{IsChange, IsHistory}
 use Rattle.rm_history.specs.Agrees.{IsRow, BaseAgrees, LogAgrees}
 use Rattle.rm_history.proofs.Histories.{IsHistory-push_above}
-use Rattle.rm_history.proofs.Members.{in-front, none-in, first-or-rest}
+use Rattle.rm_base.proofs.Members.{in-front, none-in, first-or-rest}
 use Rattle.rm_history.proofs.Owners.{owner-first}
 use Rattle.rm_known.specs.Evidence.{Agrees}
 use Rattle.rm_known.specs.Known.{HasRow, in_base, in_level1, Seen, by_row, by_log, by_creation, Quiet, by_absence, by_logs, IsGreatest, Determined}

@@ -20,7 +20,7 @@ use Rattle.rm_known.specs.Evidence.{Evidence, Agrees}
 use Rattle.rm_known.specs.Known.{HasChange, Seen, by_log, by_creation, Holds, HasLog, Quiet, by_logs, IsGap}
 use Rattle.rm_known.specs.FirstGap.{IsTarget}
 use Rattle.rm_known.specs.Unknown.{IsWorld, without, changed, IsPossible, LacksLog, CouldBe}
-use Rattle.rm_known.proofs.Lists.{find-passing}
+use Rattle.rm_base.proofs.Lists.{find_passing}
 use Rattle.rm_known.proofs.Logs.{is_of-parts, is_of-from}
 use Rattle.rm_known.proofs.Removal.{removed, removed-top}
 use Rattle.rm_known.proofs.Unquiet.{unquiet-agrees}
@@ -57,7 +57,7 @@ module _ (w : World) (e : Evidence) (i s f b v m g : ℕ) (gap : IsGap w e i s f
   all-or-one zero = inl (λ t up low. absurd (omega arith))
   all-or-one (suc n) = elim (all-or-one n) [
     | inr one ↦ let low = one.2 in inr (one.0, one.1, omega (arith, low), one.3)
-    | inl all ↦ elim (find-passing (λ a. is_of a (new (suc n) zero_block)) e.logs) [
+    | inl all ↦ elim (find_passing (λ a. is_of a (new (suc n) zero_block)) e.logs) [
       | inr none ↦ inr (suc n, omega arith, omega arith, λ has. none has.log has.holds.log (held-log (suc n) zero_block has))
       | inl found ↦ inl (λ t up low. elim (cases_lt t (suc n)) [
         | inl less ↦ all t up (omega arith)

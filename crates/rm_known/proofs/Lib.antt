@@ -1,7 +1,6 @@
 pub mod Example
 pub mod Facts
 pub mod Gaps
-pub mod Lists
 pub mod Logs
 pub mod Past
 pub mod Removal

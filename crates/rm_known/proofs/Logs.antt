@@ -4,7 +4,7 @@ use Rattle.std.proofs.lemmas.Bool.Decides.{nat_tests}
 use Rattle.rm_base.specs.declared.block.Change.{Change}
 use Rattle.rm_history.specs.Artefacts.{Log}
 use Rattle.rm_history.specs.Agrees.{LogAgrees, is_of}
-use Rattle.rm_known.proofs.Lists.{filter-from, filter-to}
+use Rattle.rm_base.proofs.Lists.{filter_from, filter_to}
 
 -- a change of the log's incarnation, thread and range, by its parts
 pub record IsOf (a : Log) (c : Change) : Type 0 where
@@ -29,8 +29,8 @@ is_of-from a c is = of-from c.inc a.inc c.thread a.thread a.first c.scn a.next i
 
 -- what the log lists happened, and is of it
 pub listed-happened : (h : List Change) (a : Log) (c : Change) → LogAgrees h a → Contains a.changes c → Contains h c × (is_of a c ≡ true)
-listed-happened h a c agrees held = filter-from (is_of a) h c (subst (λ cs. Contains cs c) agrees held)
+listed-happened h a c agrees held = filter_from (is_of a) h c (subst (λ cs. Contains cs c) agrees held)
 
 -- what happened and is of the log it lists
 pub happened-listed : (h : List Change) (a : Log) (c : Change) → LogAgrees h a → Contains h c → is_of a c ≡ true → Contains a.changes c
-happened-listed h a c agrees held is = subst (λ cs. Contains cs c) (sym agrees) (filter-to (is_of a) h c held is)
+happened-listed h a c agrees held is = subst (λ cs. Contains cs c) (sym agrees) (filter_to (is_of a) h c held is)

@@ -16,7 +16,7 @@ use Rattle.rm_history.proofs.States.{concerns-parts, state-held}
 use Rattle.rm_known.specs.Evidence.{Evidence, Agrees}
 use Rattle.rm_known.specs.Known.{HasChange, HasRow, in_base, in_level1, Seen, by_row, by_log, IsGreatest}
 use Rattle.rm_known.specs.Unknown.{is_untold, without, IsPossible}
-use Rattle.rm_known.proofs.Lists.{filter-from, filter-to, filter-filter}
+use Rattle.rm_base.proofs.Lists.{filter_from, filter_to, filter_filter}
 use Rattle.rm_known.proofs.Logs.{is_of-parts, happened-listed}
 use Rattle.rm_known.proofs.States.{IsAt, IsTop, state-stays, created-first, version-below}
 use Rattle.rm_known.proofs.Sound.{row-block, row-state, row-is, seen-state}
@@ -58,12 +58,12 @@ module _ (w : World) (h : List Change) (e : Evidence) (history : IsHistory w h) 
   less-from : (c : Change) → Contains less c → Contains h c × (is_untold w i s f b v c ≡ false)
   unfolding less
   less-from c held =
-      let was = filter-from (λ c. not (is_untold w i s f b v c)) h c held in
+      let was = filter_from (λ c. not (is_untold w i s f b v c)) h c held in
       (was.0, not-true (is_untold w i s f b v c) was.1)
 
   less-to : (c : Change) → Contains h c → is_untold w i s f b v c ≡ false → Contains less c
   unfolding less
-  less-to c held told = filter-to (λ c. not (is_untold w i s f b v c)) h c held (ap not told)
+  less-to c held told = filter_to (λ c. not (is_untold w i s f b v c)) h c held (ap not told)
 
   less-history : IsHistory w less
   unfolding less
@@ -111,7 +111,7 @@ module _ (w : World) (h : List Change) (e : Evidence) (history : IsHistory w h) 
   less-logs : (a : Log) → Contains e.logs a → LogAgrees less a
   unfolding less
   less-logs a log =
-      agrees.logs a log ∙ sym (filter-filter (is_of a) (λ c. not (is_untold w i s f b v c)) h (λ c held of.
+      agrees.logs a log ∙ sym (filter_filter (is_of a) (λ c. not (is_untold w i s f b v c)) h (λ c held of.
       let has : HasChange e c.file c.block a c = record { log = log; change = happened-listed h a c (agrees.logs a log) held of; file = refl; block = refl } in
       let at : IsAt c.file c.block a.inc c.scn c = record { file = refl; block = refl; inc = (is_of-parts a c of).inc; scn = refl } in
       ap not (seen-told c.file c.block a.inc c.scn c.content (by_log a c has) c at)))

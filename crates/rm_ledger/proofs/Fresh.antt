@@ -7,7 +7,7 @@ use Rattle.rm_base.specs.declared.block.Mark.{Mark}
 use Rattle.rm_catalog.specs.declared.record.LogEntry.{LogEntry}
 use Rattle.rm_catalog.specs.declared.record.PieceEntry.{PieceEntry}
 use Rattle.rm_history.specs.Tree.{IsThere, reset_of, end_of, branched}
-use Rattle.rm_history.proofs.Members.{none-in, in-front}
+use Rattle.rm_base.proofs.Members.{none-in, in-front}
 use Rattle.rm_ledger.specs.Facts.{IsLedger, AreIncarnations, IsCreated, IsLogEntry, IsPieceEntry, AreMarks, IsMark}
 use Rattle.rm_ledger.specs.Growth.{fresh}
 

@@ -12,7 +12,7 @@ use Rattle.rm_catalog.specs.declared.record.PieceEntry.{PieceEntry}
 use Rattle.rm_history.specs.declared.tree.Incarnation.{Incarnation}
 use Rattle.rm_history.specs.declared.world.Datafile.{Datafile}
 use Rattle.rm_history.specs.Tree.{IsThere}
-use Rattle.rm_history.proofs.Members.{slice_get-front}
+use Rattle.rm_base.proofs.Members.{slice_get-front}
 use Rattle.rm_ledger.specs.Facts.{IsLedger, IsBase, IsLogEntry, IsPieceEntry, AreIds, AreMarks, IsMark, HasMark}
 use Rattle.rm_ledger.specs.Growth.{Growth, Fits, FilesGrow, grown}
 use Rattle.rm_ledger.specs.Ledger.{Ledger}
