@@ -5,7 +5,8 @@ use Rattle.rm_base.proofs.Sealing.{sealed_same}
 use Rattle.rm_redo.specs.declared.log_file.LogFile.{LogFile}
 use Rattle.rm_redo.specs.declared.online.LogRecord.{LogRecord}
 use Rattle.rm_redo.specs.LogFits.{Fits, RecordFits}
-use Rattle.rm_redo.specs.LogFormat.{spelling, IsLogFile, IsLogRecord, IsBefore}
+use Rattle.rm_redo.specs.LogFormat.{spelling, IsLogFile, IsLogRecord}
+use Rattle.rm_redo.specs.Logs.{IsBefore}
 use Rattle.rm_redo.proofs.LogBodies.{body_same}
 
 record_fits : (r : LogRecord) (first next : ℕ) → next ≤ last_scn → IsLogRecord first next r → RecordFits r

@@ -1,14 +1,16 @@
 -- What a change more, a switch and a loss make of the logs, and what they leave as it was.
-use Rattle.std.proofs.Common.{◌≡◌, ◌<◌, ◌+◌, ◌-◌, ◌∙◌, ◌≢◌, ◌==◌, inl, inr, ℕ, zero, suc, List, [], ◌∷◌, ◌++◌, Option, Some, None, true, false, cond, refl, ap, sym, subst, arith, length, get_or, All, slice_get, slice_set}
+use Rattle.std.proofs.Common.{◌≡◌, ◌<◌, ◌≤◌, ◌+◌, ◌-◌, ◌∙◌, ◌≢◌, ◌==◌, inl, inr, ℕ, zero, suc, List, [], ◌∷◌, ◌++◌, Option, Some, None, true, false, cond, refl, ap, sym, subst, arith, length, get_or, All, slice_get, slice_set}
 use Rattle.std.specs.Option.{option_map_or}
 use Rattle.std.proofs.lemmas.Bool.{cases_eq, eq-eqb, ne_eqb}
 use Rattle.std.proofs.lemmas.List.{length-set, set-get_or}
 use Rattle.std.proofs.lemmas.List.Elements.{All-nil, All-get_or, All-push, All-set}
+use Rattle.std.proofs.lemmas.List.Quantifiers.{all_pairs_push}
+use Rattle.std.proofs.lemmas.List.{length-append}
 use Rattle.std.proofs.lemmas.Option.{get_or_from_slice_get, slice_get_cases, slice_get_read, slice_get_within}
 use Rattle.rm_base.specs.declared.block.Change.{Change}
 use Rattle.rm_redo.specs.declared.online.LogRecord.{LogRecord}
 use Rattle.rm_redo.specs.declared.online.ThreadLog.{ThreadLog}
-use Rattle.rm_redo.specs.Logs.{Logs, IsLog, IsLogs}
+use Rattle.rm_redo.specs.Logs.{Logs, IsBefore, IsLog, IsLogs}
 use Rattle.rm_redo.specs.Online.{IsThread, IsLost, record_of, records_of, first_of, sequence_of, with_log, with_record, with_change, begun_anew, switched, with_loss, fresh_log}
 
 pub fresh-is_log : (first : ℕ) → 0 < first → IsLog (fresh_log first)
@@ -100,17 +102,21 @@ IsThread-around old new t around there = let same = around.threads in (there.0, 
 all-get : (P : ThreadLog → Type 0) (logs : List ThreadLog) (k : ℕ) (l : ThreadLog) → slice_get logs k ≡ Some l → All P logs → P l
 all-get P logs k l is all = subst P (get_or_from_slice_get logs k l l is) (All-get_or P logs k l (slice_get_within logs k l is) all)
 
-logs-by : (f : ThreadLog → ThreadLog) → ((l : ThreadLog) → IsLog l → IsLog (f l)) → (logs : Logs) (t : ℕ) (o : Option ThreadLog) → slice_get logs.threads (t - 1) ≡ o → IsLogs logs → IsLogs (changed f logs t o)
-logs-by f keeps logs t None is sound = sound
-logs-by f keeps logs t (Some l) is sound =
+-- logs stay logs where one that is there stays one
+pub IsLogs-with_one : (f : ThreadLog → ThreadLog) (logs : Logs) (t : ℕ) (l : ThreadLog) → slice_get logs.threads (t - 1) ≡ Some l → IsLog (f l) → IsLogs logs → IsLogs (record logs { threads = slice_set logs.threads (t - 1) (f l) })
+IsLogs-with_one f logs t l is new sound =
     let same = length-set logs.threads (t - 1) (f l) in
     record {
       dbid = sound.dbid;
       inc = sound.inc;
       some = omega (arith, same, sound.some);
       most = omega (arith, same, sound.most);
-      each = All-set IsLog logs.threads (t - 1) (f l) (keeps l (all-get IsLog logs.threads (t - 1) l is sound.each)) sound.each;
+      each = All-set IsLog logs.threads (t - 1) (f l) new sound.each;
     }
+
+logs-by : (f : ThreadLog → ThreadLog) → ((l : ThreadLog) → IsLog l → IsLog (f l)) → (logs : Logs) (t : ℕ) (o : Option ThreadLog) → slice_get logs.threads (t - 1) ≡ o → IsLogs logs → IsLogs (changed f logs t o)
+logs-by f keeps logs t None is sound = sound
+logs-by f keeps logs t (Some l) is sound = IsLogs-with_one f logs t l is (keeps l (all-get IsLog logs.threads (t - 1) l is sound.each)) sound
 
 -- logs stay logs where each stays one
 pub IsLogs-with_log : (f : ThreadLog → ThreadLog) → ((l : ThreadLog) → IsLog l → IsLog (f l)) → (logs : Logs) (t : ℕ) → IsLogs logs → IsLogs (with_log f logs t)
@@ -125,6 +131,16 @@ pub is_log-there : (logs : Logs) (t : ℕ) (l : ThreadLog) → IsLogs logs → s
 is_log-there logs t l sound is = all-get IsLog logs.threads (t - 1) l is sound.each
 
 -- A change more
+
+-- a log stays one with a record above all of its records
+pub with_record-is_log : (r : LogRecord) (l : ThreadLog) → IsLog l → l.first ≤ r.scn → All (λ s. s.scn < r.scn) l.records → length l.records ≢ 65536 → IsLog (with_record r l)
+with_record-is_log r l is from above few = record {
+  numbered = is.numbered;
+  begun = is.begun;
+  from = All-push (λ (s : LogRecord). l.first ≤ s.scn) l.records r is.from from;
+  ascends = all_pairs_push IsBefore l.records r is.ascends (λ k d within. inl (above k d within));
+  few = let more = length-append l.records (r ∷ []) in let most = is.few in omega (arith, more, most, few);
+}
 
 -- no log begins elsewhere
 pub first_of-with_change : (logs : Logs) (c : Change) (t : ℕ) → first_of (with_change logs c) t ≡ first_of logs t

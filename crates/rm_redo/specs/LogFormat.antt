@@ -1,11 +1,12 @@
 -- Which logs are valid, and the one spelling of each.
-use Rattle.std.specs.Prelude.{ℕ, ◌≡◌, ◌⊎◌, ◌<◌, ◌≤◌, ◌^◌, List, [], ◌∷◌, ◌++◌, length, All, codes}
+use Rattle.std.specs.Prelude.{ℕ, ◌≡◌, ◌<◌, ◌≤◌, ◌^◌, List, [], ◌∷◌, ◌++◌, length, All, codes}
 use Rattle.std.specs.List.{flat_map, AllPairs}
 use Rattle.rm_base.specs.Number.{four, eight}
 use Rattle.rm_base.specs.Numbers.{last_scn}
 use Rattle.rm_base.specs.Sealed.{sealed}
 use Rattle.rm_redo.specs.declared.log_file.LogFile.{LogFile}
 use Rattle.rm_redo.specs.declared.online.LogRecord.{LogRecord}
+use Rattle.rm_redo.specs.Logs.{IsBefore}
 
 -- the SCN lies from `first` up to, and without, `next`; the datafile and block are of the range, and the content has 64 bytes
 pub record IsLogRecord (first next : ℕ) (r : LogRecord) : Type 0 where
@@ -13,10 +14,6 @@ pub record IsLogRecord (first next : ℕ) (r : LogRecord) : Type 0 where
   pub file : (1 ≤ r.file) × (r.file ≤ 64)
   pub block : r.block ≤ 65535
   pub content : length r.content.0 ≡ 64
-
--- the order of records in a log: by SCN, then by datafile, then by block
-abbrev pub IsBefore : LogRecord → LogRecord → Type 0
-IsBefore r s = (r.scn < s.scn) ⊎ ((r.scn ≡ s.scn) × ((r.file < s.file) ⊎ ((r.file ≡ s.file) × (r.block < s.block))))
 
 pub record IsLogFile (l : LogFile) : Type 0 where
   pub dbid : (1 ≤ l.dbid) × (l.dbid < 2 ^ 32)

@@ -21,7 +21,7 @@ pub struct LogRecord {
 }
 
 /// The online log of one thread: its sequence number, the SCN from which on it tells, and its records
-/// by ascending SCN.
+/// by ascending SCN, datafile and block.
 #[derive(Drop)]
 pub struct ThreadLog {
     pub sequence: u32,
@@ -190,7 +190,7 @@ impl OnlineLogs {
         log.is_lost
     }
 
-    /// The records of a thread, by ascending SCN.
+    /// The records of a thread, by ascending SCN, datafile and block.
     pub fn records(&self, thread: ThreadNo) -> &[LogRecord]
         requires { IsThread self.now thread }
         ensures { result.now ≡ records_of self.now thread }

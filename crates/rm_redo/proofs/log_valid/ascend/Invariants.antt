@@ -1,5 +1,5 @@
 use Rattle.std.specs.List.{AllAdjacentBelow}
-use Rattle.rm_redo.specs.LogFormat.{IsBefore}
+use Rattle.rm_redo.specs.Logs.{IsBefore}
 use Rattle.rm_redo.proofs.log_valid.ascend.Given as goal
 
 abbrev pub invariant-loop-i : goal.invariant-loop-i
