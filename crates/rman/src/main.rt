@@ -1,32 +1,10 @@
 //! Recovers a database as its script says.
 #![tactic(auto)]
 
-mod adapters;
-#[cfg(test)]
-mod backups;
-mod ends;
-#[cfg(test)]
-mod faults;
-#[cfg(test)]
-mod incarnations;
-mod opening;
-#[cfg(test)]
-mod refusals;
-#[cfg(test)]
-mod rows;
-mod run;
-mod session;
-#[cfg(test)]
-mod stops;
-#[cfg(test)]
-mod tests;
-#[cfg(test)]
-mod trials;
-mod words;
-
-use adapters::{ReadSource, SystemClock, WriteSink};
 use rm_base::{Failing, MemStore, Seq, StoreFailing, Text};
 use rm_catalog::MemKeeper;
+use rm_tool::run::run;
+use rm_tool::{ReadSource, SystemClock, WriteSink};
 use std::alloc::Global;
 use std::process::ExitCode;
 use std::{env, io};
@@ -60,7 +38,7 @@ fn main(rt: HostRuntime) -> io::Result<ExitCode> {
         return Ok(ExitCode::from(7));
     };
     let mut clock = SystemClock::new(&rt);
-    let status = run::run(
+    let status = run(
         alloc,
         &words,
         &mut source,
