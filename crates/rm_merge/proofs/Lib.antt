@@ -1,0 +1,4 @@
+pub mod Agreement
+pub mod Merged
+pub mod Places
+pub mod Reaching
