@@ -1,0 +1,89 @@
+-- The ids of obsolete records, one record after the other, and in order.
+use Rattle.std.proofs.Common.{◌≡◌, ◌≢◌, ◌<◌, ◌≤◌, ◌+◌, eqb, ◌∙◌, ◌∷◌, ◌++◌, [], ℕ, List, inl, inr, take, length, get_or, AllPairs, Contains, refl, ap, sym, subst, arith}
+use Rattle.std.specs.Bool.{Decides}
+use Rattle.std.specs.List.Sorted.{IsNonDecreasingBy, IsPermutation}
+use Rattle.std.proofs.lemmas.Bool.Decides.{Decides-eqb, nat_tests}
+use Rattle.std.proofs.lemmas.Map.Keys.{IsDistinct-IsPermutation}
+use Rattle.std.proofs.lemmas.Map.Made.{AllPairs-from_IsDistinct, IsDistinct-from_AllPairs}
+use Rattle.rm_catalog.specs.declared.record.Record.{Record}
+use Rattle.rm_catalog.specs.declared.record.Record.TheVariants as records
+use Rattle.rm_catalog.specs.Keys.{key_of}
+use Rattle.rm_base.proofs.Lists.{at_end, front_or_end, in_front_part, take_more}
+use Rattle.rm_base.proofs.Members.{none-in}
+use Rattle.rm_evidence.proofs.Extending.{pairs-append}
+use Rattle.rm_evidence.proofs.Runs.{IsAhead}
+use Rattle.rm_retain.specs.Chosen.{Retention}
+use Rattle.rm_retain.specs.Catalogued.{IsObsoleteRecord, AreObsolete}
+
+-- no records, no ids
+pub exactly_none : (r : Retention) → AreObsolete [] r []
+exactly_none r id = (λ held. absurd (none-in id held), λ is. absurd (none-in is.row is.held))
+
+-- a record more that is obsolete
+pub exactly_more : (r : Retention) (rs : List Record) (row : Record) (ids : List ℕ) → AreObsolete rs r ids → IsObsoleteRecord r row → AreObsolete (rs ++ row ∷ []) r (ids ++ (key_of row).id ∷ [])
+exactly_more r rs row ids all is id = (
+  λ held. elim (front_or_end ids (key_of row).id id held) [
+    | inl before ↦ let x = (all id).0 before in record { row = x.row; held = in_front_part rs row x.row x.held; is = x.is; number = x.number }
+    | inr last ↦ record { row = row; held = at_end rs row; is = is; number = last }
+  ],
+  λ x. elim (front_or_end rs row x.row x.held) [
+    | inl before ↦ in_front_part ids (key_of row).id id ((all id).1 (record { row = x.row; held = before; is = x.is; number = x.number }))
+    | inr last ↦
+        let number : (key_of row).id ≡ id = ap (λ (y : Record). (key_of y).id) last ∙ x.number in
+        subst (Contains (ids ++ (key_of row).id ∷ [])) number (at_end ids (key_of row).id)
+  ],
+)
+
+-- a record more that is not
+pub exactly_same : (r : Retention) (rs : List Record) (row : Record) (ids : List ℕ) → AreObsolete rs r ids → ¬ IsObsoleteRecord r row → AreObsolete (rs ++ row ∷ []) r ids
+exactly_same r rs row ids all off id = (
+  λ held. let x = (all id).0 held in record { row = x.row; held = in_front_part rs row x.row x.held; is = x.is; number = x.number },
+  λ x. elim (front_or_end rs row x.row x.held) [
+    | inl before ↦ (all id).1 (record { row = x.row; held = before; is = x.is; number = x.number })
+    | inr last ↦ absurd (off (subst (IsObsoleteRecord r) (sym last) x.is))
+  ],
+)
+
+-- a record before has another id
+other_id : (r : Retention) (xs : List Record) (s row : Record) → IsAhead xs row → Contains xs s → IsObsoleteRecord r s → IsObsoleteRecord r row → (key_of s).id ≢ (key_of row).id
+other_id r xs (records.Log l) (records.Log m) ahead held a b = λ same. let less = ahead.logs l m held refl in absurd (omega (arith, less, same))
+other_id r xs (records.Log l) (records.Piece q) ahead held a b = ahead.log_piece l q held refl
+other_id r xs (records.Piece p) (records.Log m) ahead held a b = ahead.piece_log p m held refl
+other_id r xs (records.Piece p) (records.Piece q) ahead held a b = λ same. let less = ahead.pieces p q held refl in absurd (omega (arith, less, same))
+other_id r xs (records.Log l) _ ahead held a b = absurd b
+other_id r xs (records.Piece l) _ ahead held a b = absurd b
+other_id r xs _ _ ahead held a b = absurd a
+
+-- one row more of a list that is read in order
+pub exactly_taken : (r : Retention) (xs : List Record) (i : ℕ) (row : Record) (ids : List ℕ) → i < length xs → row ≡ get_or xs i row → AreObsolete (take i xs) r ids → IsObsoleteRecord r row → AreObsolete (take (i + 1) xs) r (ids ++ (key_of row).id ∷ [])
+exactly_taken r xs i row ids inside is all gone =
+    subst (λ ys. AreObsolete ys r (ids ++ (key_of row).id ∷ [])) (sym (take_more xs i row inside is)) (exactly_more r (take i xs) row ids all gone)
+
+pub exactly_passed : (r : Retention) (xs : List Record) (i : ℕ) (row : Record) (ids : List ℕ) → i < length xs → row ≡ get_or xs i row → AreObsolete (take i xs) r ids → ¬ IsObsoleteRecord r row → AreObsolete (take (i + 1) xs) r ids
+exactly_passed r xs i row ids inside is all off =
+    subst (λ ys. AreObsolete ys r ids) (sym (take_more xs i row inside is)) (exactly_same r (take i xs) row ids all off)
+
+-- its id is another than those before
+pub apart_taken : (r : Retention) (xs : List Record) (i : ℕ) (row : Record) (ids : List ℕ) → IsAhead (take i xs) row → AreObsolete (take i xs) r ids → IsObsoleteRecord r row → AllPairs (λ i j. i ≢ j) ids → AllPairs (λ i j. i ≢ j) (ids ++ (key_of row).id ∷ [])
+apart_taken r xs i row ids ahead all gone apart =
+    pairs-append (λ (i j : ℕ). i ≢ j) ids ((key_of row).id ∷ []) apart (λ j k d less inside. absurd (omega arith))
+    (λ x y held one.
+    let before = (all x).0 held in
+    let number = before.number in
+    let last : (key_of row).id ≡ y = elim (front_or_end [] (key_of row).id y one) [ inl none ↦ absurd (none-in y none) | inr same ↦ same ] in
+    λ same. other_id r (take i xs) before.row row ahead before.held before.is gone (number ∙ same ∙ sym last))
+
+decides : (a b : ℕ) → Decides (eqb a b) (a ≡ b)
+decides a b = Decides-eqb a b
+
+flips : (m n : ℕ) → eqb m n ≡ eqb n m
+flips m n = grind (arith, nat_tests)
+
+strictly : (m n : ℕ) → m ≤ n → m ≢ n → m < n
+strictly m n le differ = grind arith
+
+-- ids that are apart ascend strictly once they are sorted
+pub sorted_ascends : (xs ys : List ℕ) → AllPairs (λ i j. i ≢ j) xs → IsPermutation xs ys → IsNonDecreasingBy (λ x. x) ys → AllPairs (λ i j. i < j) ys
+sorted_ascends xs ys differ moved order =
+    let differing = AllPairs-from_IsDistinct {eq = eqb} decides ys (IsDistinct-IsPermutation eqb flips xs ys moved (IsDistinct-from_AllPairs {eq = eqb} decides xs differ)) in
+    λ i j d less inside. strictly (get_or ys i d) (get_or ys j d) (order i j d (omega arith) inside) (differing i j d less inside)

@@ -1,0 +1,13 @@
+pub mod AboveFloor
+pub mod Artefacts
+pub mod Clearing
+pub mod CopiesLeft
+pub mod Decisions
+pub mod FloorCopies
+pub mod Ids
+pub mod Needed
+pub mod Ranks
+pub mod Safe
+pub mod SecondTime
+pub mod StaysTold
+pub mod WholeCopies

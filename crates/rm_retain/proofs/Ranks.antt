@@ -1,0 +1,118 @@
+-- Lists that ascend by id, and how many come before one.
+use Rattle.std.proofs.Common.{◌≡◌, ◌<◌, ◌≤◌, ◌∙◌, ◌==◌, inl, inr, ℕ, List, [], ◌∷◌, Bool, true, false, cond, not, refl, ap, sym, subst, arith, filter, length, Contains}
+use Rattle.std.proofs.lemmas.Bool.{ne_eqb, eq-eqb, false_from_ne_true}
+use Rattle.std.proofs.lemmas.List.Sums.{length-filter, count_by-le-length}
+use Rattle.rm_base.proofs.Members.{in-front, behind, none-in, first-or-rest}
+use Rattle.rm_base.proofs.Lists.{filter_from, filter_to}
+use Rattle.rm_evidence.proofs.Extending.{pairs-head, pairs-tail}
+use Rattle.rm_retain.specs.declared.copies.Backup.{Backup}
+use Rattle.rm_retain.specs.Remaining.{AscendById}
+
+-- each id lies below those behind it
+abbrev pub IsRising : List Backup → Type 0
+IsRising [] = Unit {0}
+IsRising (x ∷ xs) = ((y : Backup) → Contains xs y → x.id < y.id) × IsRising xs
+
+pub rising_from : (xs : List Backup) → AscendById xs → IsRising xs
+rising_from [] ascend = tt
+rising_from (x ∷ xs) ascend =
+    (λ y held. pairs-head (λ (x y : Backup). x.id < y.id) x xs y ascend held, rising_from xs (pairs-tail (λ (x y : Backup). x.id < y.id) x xs ascend))
+
+rising_kept : (p : Backup → Bool) (x : Backup) (xs : List Backup) (b : Bool) → ((y : Backup) → Contains xs y → x.id < y.id) → IsRising (filter p xs) → IsRising (cond b (x ∷ filter p xs) (filter p xs))
+rising_kept p x xs true first rest = (λ y held. first y (filter_from p xs y held).0, rest)
+rising_kept p x xs false first rest = rest
+
+pub rising_filter : (p : Backup → Bool) (xs : List Backup) → IsRising xs → IsRising (filter p xs)
+rising_filter p [] is = tt
+rising_filter p (x ∷ xs) is = rising_kept p x xs (p x) is.0 (rising_filter p xs is.1)
+
+-- what is a member of one is a member of the other
+abbrev pub SameItems : List Backup → List Backup → Type 0
+SameItems xs ys = ((x : Backup) → Contains xs x → Contains ys x) × ((x : Backup) → Contains ys x → Contains xs x)
+
+drop_first : (x : Backup) (xs ys : List Backup) → IsRising (x ∷ xs) → ((z : Backup) → Contains (x ∷ xs) z → Contains (x ∷ ys) z) → (z : Backup) → Contains xs z → Contains ys z
+drop_first x xs ys rise to z held = elim (first-or-rest x ys z (to z (behind x xs z held))) [
+  | inr rest ↦ rest
+  | inl same ↦ let up : x.id < z.id = rise.0 z held in let one : x.id ≡ z.id = ap (λ (y : Backup). y.id) same in absurd (omega (arith, up, one))
+]
+
+heads_same : (x y : Backup) (xs ys : List Backup) → IsRising (x ∷ xs) → IsRising (y ∷ ys) → SameItems (x ∷ xs) (y ∷ ys) → x ≡ y
+heads_same x y xs ys first second same = elim (first-or-rest y ys x (same.0 x (in-front x xs))) [
+  | inl is ↦ sym is
+  | inr later ↦ elim (first-or-rest x xs y (same.1 y (in-front y ys))) [
+    | inl is ↦ is
+    | inr behind_x ↦
+        let up : y.id < x.id = second.0 x later in
+        let down : x.id < y.id = first.0 y behind_x in
+        absurd (omega (arith, up, down))
+  ]
+]
+
+-- lists that ascend and have the same members are one
+pub rising_same : (xs ys : List Backup) → IsRising xs → IsRising ys → SameItems xs ys → xs ≡ ys
+rising_same [] [] first second same = refl
+rising_same [] (y ∷ ys) first second same = absurd (none-in y (same.1 y (in-front y ys)))
+rising_same (x ∷ xs) [] first second same = absurd (none-in x (same.0 x (in-front x xs)))
+rising_same (x ∷ xs) (y ∷ ys) first second same =
+    let head = heads_same x y xs ys first second same in
+    let moved : SameItems (x ∷ xs) (x ∷ ys) = subst (λ z. SameItems (x ∷ xs) (z ∷ ys)) (sym head) same in
+    let rise : IsRising (x ∷ ys) = subst (λ z. IsRising (z ∷ ys)) (sym head) second in
+    let rest = rising_same xs ys first.1 second.1 (drop_first x xs ys first moved.0, drop_first x ys xs rise moved.1) in
+    ap (λ zs. x ∷ zs) rest ∙ ap (λ z. z ∷ ys) head
+
+pub after_first : (x : Backup) (xs ys : List Backup) (y : Backup) → IsRising (x ∷ xs) → y.id < x.id → ((z : Backup) → Contains (x ∷ xs) z → Contains (y ∷ ys) z) → (z : Backup) → Contains (x ∷ xs) z → Contains ys z
+after_first x xs ys y rise less to z held = elim (first-or-rest y ys z (to z held)) [
+  | inr rest ↦ rest
+  | inl same ↦
+      let one : y.id ≡ z.id = ap (λ (k : Backup). k.id) same in
+      elim (first-or-rest x xs z held) [
+        | inl here ↦ let id : x.id ≡ z.id = ap (λ (k : Backup). k.id) here in absurd (omega (arith, less, one, id))
+        | inr later ↦ let up : x.id < z.id = rise.0 z later in absurd (omega (arith, less, one, up))
+      ]
+]
+
+-- a part of a list that ascends has no more items
+pub part_length : (xs ys : List Backup) → IsRising xs → IsRising ys → ((z : Backup) → Contains xs z → Contains ys z) → length xs ≤ length ys
+part_length [] ys first second to = omega arith
+part_length (x ∷ xs) [] first second to = absurd (none-in x (to x (in-front x xs)))
+part_length (x ∷ xs) (y ∷ ys) first second to = elim (first-or-rest y ys x (to x (in-front x xs))) [
+  | inl same ↦
+      let rest = part_length xs ys first.1 second.1 (drop_first x xs ys first (subst (λ (k : Backup). (z : Backup) → Contains (x ∷ xs) z → Contains (k ∷ ys) z) same to)) in
+      omega (arith, rest)
+  | inr later ↦
+      let rest = part_length (x ∷ xs) ys first second.1 (after_first x xs ys y first (second.0 x later) to) in
+      omega (arith, rest)
+]
+
+other_id : (m n : ℕ) → (m ≡ n → ⊥) → not (m == n) ≡ true
+other_id m n differ = ap not (ne_eqb m n differ)
+
+same_id : (m n : ℕ) → m ≡ n → not (m == n) ≡ true → ⊥
+same_id m n same h = let both : false ≡ true = sym (ap not (eq-eqb m n same)) ∙ h in absurd (cc)
+
+-- a filter that drops an item leaves fewer
+filter_most : (p : Backup → Bool) (xs : List Backup) → length (filter p xs) ≤ length xs
+filter_most p xs = let is = length-filter p xs in let most = count_by-le-length p xs in omega (arith, is, most)
+
+shorter_cond : (p : Backup → Bool) (x : Backup) (xs : List Backup) (b : Bool) → length (filter p xs) < length xs → length (cond b (x ∷ filter p xs) (filter p xs)) < length (x ∷ xs)
+shorter_cond p x xs true less = omega (arith, less)
+shorter_cond p x xs false less = omega (arith, less)
+
+pub filter_shorter : (p : Backup → Bool) (xs : List Backup) (y : Backup) → Contains xs y → ¬ (p y ≡ true) → length (filter p xs) < length xs
+filter_shorter p [] y held fails = absurd (none-in y held)
+filter_shorter p (x ∷ xs) y held fails = elim (first-or-rest x xs y held) [
+  | inr rest ↦ shorter_cond p x xs (p x) (filter_shorter p xs y rest fails)
+  | inl same ↦
+      let off : p x ≡ false = false_from_ne_true (p x) (λ passes. fails (subst (λ (k : Backup). p k ≡ true) same passes)) in
+      let most = filter_most p xs in
+      let is : length (filter p (x ∷ xs)) ≡ length (filter p xs) = ap (λ b. length (cond b (x ∷ filter p xs) (filter p xs))) off in
+      omega (arith, is, most)
+]
+
+-- a part without one of the items has fewer
+pub part_shorter : (xs ys : List Backup) (y : Backup) → IsRising xs → IsRising ys → ((z : Backup) → Contains xs z → Contains ys z) → Contains ys y → ((z : Backup) → Contains xs z → z.id ≡ y.id → ⊥) → length xs < length ys
+part_shorter xs ys y first second to held out =
+    let p : Backup → Bool = λ z. not (z.id == y.id) in
+    let some = part_length xs (filter p ys) first (rising_filter p ys second) (λ z has. filter_to p ys z (to z has) (other_id z.id y.id (out z has))) in
+    let less = filter_shorter p ys y held (λ passes. same_id y.id y.id refl passes) in
+    omega (arith, some, less)

@@ -1,0 +1,7 @@
+use Rattle.std.proofs.Common.{◌≡◌, take}
+use Rattle.std.specs.List.{filter}
+use Rattle.rm_retain.specs.Chosen.{is_candidate}
+use Rattle.rm_retain.proofs.copies.candidates.Given as goal
+
+abbrev pub invariant-loop-copy : goal.invariant-loop-copy
+invariant-loop-copy l = l.found.items ≡ filter (is_candidate l.tree l.current l.policy l.start l.file) (take l.copy-index l.copies)

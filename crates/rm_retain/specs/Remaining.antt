@@ -1,0 +1,20 @@
+-- Retention by the copies that remain.
+use Rattle.std.specs.Prelude.{◌<◌, ◌⊎◌, List, AllPairs, Contains}
+use Rattle.rm_retain.specs.declared.copies.Backup.{Backup}
+use Rattle.rm_retain.specs.Chosen.{Retention}
+use Rattle.rm_retain.specs.Obsolete.{IsNeedlessBackup}
+
+-- the copies ascend by id
+abbrev pub AscendById : List Backup → Type 0
+AscendById xs = AllPairs (λ x y. x.id < y.id) xs
+
+-- retention by other copies
+abbrev pub with_copies : Retention → List Backup → Retention
+with_copies r left = record r { copies = left }
+
+-- `left` is what remains of the copies when some needless ones went
+pub record AreRemaining (r : Retention) (left : List Backup) : Type 0 where
+  pub ascend : AscendById r.copies
+  pub ascend_left : AscendById left
+  pub had : (x : Backup) → Contains left x → Contains r.copies x
+  pub stays : (x : Backup) → Contains r.copies x → Contains left x ⊎ IsNeedlessBackup r x

@@ -1,0 +1,146 @@
+//! Which records the policy does not need.
+ghost use Rattle.std.specs.Prelude.{◌≡◌, ◌≢◌, ◌<◌, ◌↔◌, ◌==◌, ℕ, false, AllPairs, Contains, IfOk, IsTrue};
+ghost use Rattle.std.specs.List.{list_any};
+ghost use Rattle.rm_base.specs.declared.kinds.Policy.TheVariants.{Nothing as OfNothing};
+ghost use Rattle.rm_catalog.specs.Rules.{HasDatabase};
+ghost use Rattle.rm_catalog.specs.Trees.{nodes};
+ghost use Rattle.rm_evidence.specs.Taking.{HasIncarnation};
+ghost use Rattle.rm_history.specs.Tree.{IsThere};
+ghost use Rattle.rm_retain.specs.Catalogued.{backup_in, by_records, AreObsolete, IsObsoleteRecord};
+ghost use Rattle.rm_retain.specs.Needs.{needed_by, needs_backup, needs_clip, AreNeeds};
+ghost use Rattle.rm_retain.specs.Obsolete.{IsClip, IsObsoleteBackup, IsObsoleteLog};
+
+use crate::needs::{FileNeed, Needs, needs_of};
+use rm_base::{FileNo, IncNo, NoMemory, Policy, Scn};
+use rm_catalog::{Catalog, LogEntry, PieceEntry, Record};
+use rm_evidence::Evidence;
+use rm_history::Tree;
+use std::alloc::Global;
+
+// The SCN below which lies all of the current path that an incarnation may tell below `high`.
+fn clip(tree: &Tree, current: IncNo, inc: IncNo, high: Scn) -> Scn
+    requires current { IsThere tree.now current }
+    requires there { IsThere tree.now inc }
+    ensures { IsClip tree.now current inc high result }
+{
+    if inc == current {
+        return high;
+    }
+    match tree.shared(inc, current) {
+        Some(shared) => high.min(shared),
+        None => unreachable!(),
+    }
+}
+
+// Whether some datafile needs a log with this clip.
+fn needs_log(files: &[FileNeed], clip: Scn) -> bool
+    ensures { result ≡ list_any (needs_clip clip) files.now }
+{
+    files.iter().any(|need| need.floor < clip)
+}
+
+fn is_chosen(chosen: &[u32], id: u32) -> bool
+    ensures { result ≡ list_any (λ y. y == id) chosen.now }
+{
+    chosen.iter().any(|y| *y == id)
+}
+
+fn does_need(need: &FileNeed, file: FileNo, id: u32, clip: Scn) -> bool
+    ensures { result ≡ needs_backup file id clip need.now }
+{
+    need.file == file && (need.floor < clip || is_chosen(&need.chosen, id))
+}
+
+// Whether its datafile needs a backup with this id and clip.
+fn needs_backup(files: &[FileNeed], file: FileNo, id: u32, clip: Scn) -> bool
+    ensures { result ≡ list_any (needs_backup file id clip) files.now }
+{
+    for need in files {
+        if does_need(need, file, id, clip) {
+            return true;
+        }
+    }
+    false
+}
+
+// Whether the policy lets records go, and this is none to be kept.
+fn may_go(policy: Policy, keep: bool) -> bool
+    ensures { IsTrue result ↔ ((policy ≢ OfNothing) × (keep ≡ false)) }
+{
+    match policy {
+        Policy::Window(_) | Policy::Redundancy(_) => !keep,
+        Policy::Nothing => false,
+    }
+}
+
+fn is_obsolete_log(catalog: &Catalog, needs: &Needs, log: &LogEntry) -> bool
+    requires needs { AreNeeds catalog.now needs.now }
+    requires there { IsThere (nodes catalog.now) log.now.inc }
+    ensures { IsTrue result ↔ IsObsoleteLog (needed_by catalog.now needs.now) log.now.inc log.now.next log.now.keep }
+{
+    let clip = clip(catalog.tree(), needs.current, log.inc, log.next);
+    may_go(needs.policy, log.keep) && !needs_log(&needs.files, clip)
+}
+
+fn is_obsolete_piece(catalog: &Catalog, needs: &Needs, piece: &PieceEntry) -> bool
+    requires needs { AreNeeds catalog.now needs.now }
+    requires there { IsThere (nodes catalog.now) piece.now.inc }
+    ensures { IsTrue result ↔ IsObsoleteBackup (needed_by catalog.now needs.now) (backup_in piece.now) piece.now.keep }
+{
+    let clip = clip(catalog.tree(), needs.current, piece.inc, piece.high);
+    may_go(needs.policy, piece.keep) && !needs_backup(&needs.files, piece.file, piece.id, clip)
+}
+
+// Whether the record is one of a log or a piece, and is obsolete.
+fn is_obsolete(catalog: &Catalog, needs: &Needs, row: &Record) -> bool
+    requires needs { AreNeeds catalog.now needs.now }
+    requires there { HasIncarnation (nodes catalog.now) row.now }
+    ensures { IsTrue result ↔ IsObsoleteRecord (needed_by catalog.now needs.now) row.now }
+{
+    match row {
+        Record::Log(log) => is_obsolete_log(catalog, needs, log),
+        Record::Piece(piece) => is_obsolete_piece(catalog, needs, piece),
+        _ => false,
+    }
+}
+
+// The ids of the records that are obsolete.
+fn obsolete_ids(alloc: Global, catalog: &Catalog, needs: &Needs) -> Result<Vec<u32>, NoMemory>
+    requires needs { AreNeeds catalog.now needs.now }
+    ensures exact { IfOk result (λ ids. AreObsolete catalog.now (needed_by catalog.now needs.now) ids.items) }
+    ensures apart { IfOk result (λ ids. AllPairs (λ i j. i ≢ j) ids.items) }
+{
+    let mut ids = Vec::new(alloc);
+    let records = catalog.records();
+    for row in records {
+        if is_obsolete(catalog, needs, row) {
+            ids.push(row.key().id)?;
+        }
+    }
+    Ok(ids)
+}
+
+// The same ids, ascending.
+fn in_order(mut ids: Vec<u32>) -> Vec<u32>
+    ensures same { (id : ℕ) → Contains result.items id ↔ Contains ids.items id }
+    ensures ascends { AllPairs (λ i j. i ≢ j) ids.items → AllPairs (λ i j. i < j) result.items }
+{
+    ids.sort_unstable();
+    ids
+}
+
+/// The ids of the obsolete records, ascending. `start` is the SCN at which the window of the policy begins.
+pub fn obsolete(
+    alloc: Global,
+    catalog: &Catalog,
+    evidence: &Evidence,
+    policy: Policy,
+    start: Scn,
+) -> Result<Vec<u32>, NoMemory>
+    requires database { HasDatabase catalog.now }
+    ensures exact { IfOk result (λ ids. AreObsolete catalog.now (by_records catalog.now evidence.now policy start) ids.items) }
+    ensures ascends { IfOk result (λ ids. AllPairs (λ i j. i < j) ids.items) }
+{
+    let needs = needs_of(alloc, catalog, evidence, policy, start)?;
+    Ok(in_order(obsolete_ids(alloc, catalog, &needs)?))
+}

@@ -1,0 +1,54 @@
+//! Why no target of the window is lost with the records that the policy does not need.
+ghost use Rattle.std.specs.Prelude.{ℕ, ◌≡◌, List};
+ghost use Rattle.rm_base.specs.declared.block.Block.{Block};
+ghost use Rattle.rm_base.specs.declared.block.Change.{Change};
+ghost use Rattle.rm_base.specs.declared.kinds.Policy.{Policy};
+ghost use Rattle.rm_base.specs.declared.kinds.Policy.TheVariants.{Window};
+ghost use Rattle.rm_base.specs.Store.{Held};
+ghost use Rattle.rm_catalog.specs.declared.record.Record.{Record};
+ghost use Rattle.rm_catalog.specs.Rules.{HasDatabase, IsCatalog};
+ghost use Rattle.rm_evidence.specs.declared.evidence.Evidence.{Evidence as Gathered};
+ghost use Rattle.rm_evidence.specs.declared.evidence.InPlace.{InPlace};
+ghost use Rattle.rm_evidence.specs.Gathered.{IsGathered};
+ghost use Rattle.rm_evidence.specs.Known.{known_of};
+ghost use Rattle.rm_history.specs.History.{IsHistory};
+ghost use Rattle.rm_known.specs.Evidence.{Evidence, Agrees};
+ghost use Rattle.rm_known.specs.Known.{Determined};
+ghost use Rattle.rm_known.specs.FirstGap.{IsTarget, IsRecoverable};
+ghost use Rattle.rm_objects.specs.Database.{current_in, world_of};
+ghost use Rattle.rm_retain.specs.Catalogued.{by_records, IsObsoleteRecord};
+ghost use Rattle.rm_retain.specs.Chosen.{Retention, IsChosen, floor};
+ghost use Rattle.rm_retain.specs.Cleared.{IsCleared};
+ghost use Rattle.rm_retain.specs.declared.copies.Backup.{Backup};
+ghost use Rattle.rm_retain.specs.Losing.{FitsHistory, LosesNeedless};
+ghost use Rattle.rm_retain.specs.Obsolete.{IsOnPath, IsNeedlessBackup, IsNeedlessLog};
+ghost use Rattle.rm_retain.specs.Remaining.{AreRemaining, with_copies};
+ghost use Rattle.rm_retain.specs.Window.{IsInWindow};
+
+/// Whatever the evidence tells of a block at a target of the window, it tells when needless records are
+/// gone: a target that was recoverable stays so.
+pub fn safe_retention()
+    ensures told { (h : List Change) (r : Retention) (old new : Evidence) (days i s f b v : ℕ) (x : Block) → r.policy ≡ Window days → FitsHistory h r old → LosesNeedless r old new → IsInWindow r i s → IsTarget r.world i s f b → Determined r.world old i s f b v x → Determined r.world new i s f b v x }
+    ensures recoverable { (h : List Change) (r : Retention) (old new : Evidence) (days i s : ℕ) → r.policy ≡ Window days → FitsHistory h r old → LosesNeedless r old new → IsInWindow r i s → IsRecoverable r.world old i s → IsRecoverable r.world new i s }
+{}
+
+/// The same of the records of a catalog and the objects of a store.
+pub fn safe_deletion()
+    ensures told { (h : List Change) (held now : Held) (rs left : List Record) (place : InPlace) (old new : Gathered) (days start i s f b v : ℕ) (x : Block) → IsCatalog rs → HasDatabase rs → IsGathered held rs place old → IsGathered now left place new → IsHistory (world_of rs) h → Agrees (world_of rs) h (known_of old) → IsCleared (by_records rs old (Window days) start) rs left held now → IsInWindow (by_records rs old (Window days) start) i s → IsTarget (world_of rs) i s f b → Determined (world_of rs) (known_of old) i s f b v x → Determined (world_of rs) (known_of new) i s f b v x }
+    ensures recoverable { (h : List Change) (held now : Held) (rs left : List Record) (place : InPlace) (old new : Gathered) (days start i s : ℕ) → IsCatalog rs → HasDatabase rs → IsGathered held rs place old → IsGathered now left place new → IsHistory (world_of rs) h → Agrees (world_of rs) h (known_of old) → IsCleared (by_records rs old (Window days) start) rs left held now → IsInWindow (by_records rs old (Window days) start) i s → IsRecoverable (world_of rs) (known_of old) i s → IsRecoverable (world_of rs) (known_of new) i s }
+{}
+
+/// When needless copies went, the floors are what they were, what was chosen is chosen, and only what
+/// was needless before is needless: a second time nothing goes.
+pub fn nothing_goes_twice()
+    ensures floor { (r : Retention) (left : List Backup) (f : ℕ) → AreRemaining r left → IsOnPath r f → floor (with_copies r left) f ≡ floor r f }
+    ensures chosen { (r : Retention) (left : List Backup) (f id : ℕ) → AreRemaining r left → IsOnPath r f → IsChosen r f id → IsChosen (with_copies r left) f id }
+    ensures backup { (r : Retention) (left : List Backup) (x : Backup) → AreRemaining r left → IsNeedlessBackup (with_copies r left) x → IsNeedlessBackup r x }
+    ensures log { (r : Retention) (left : List Backup) (inc next : ℕ) → AreRemaining r left → IsNeedlessLog (with_copies r left) inc next → IsNeedlessLog r inc next }
+{}
+
+/// Of the records that are left none is obsolete that was not: where all obsolete ones went, a second
+/// deletion at the same moment finds none.
+pub fn deletion_leaves_nothing_obsolete()
+    ensures { (held now : Held) (rs left : List Record) (place : InPlace) (old new : Gathered) (policy : Policy) (start : ℕ) (row : Record) → IsGathered held rs place old → IsGathered now left place new → IsCleared (by_records rs old policy start) rs left held now → world_of left ≡ world_of rs → current_in left ≡ current_in rs → IsObsoleteRecord (by_records left new policy start) row → IsObsoleteRecord (by_records rs old policy start) row }
+{}
