@@ -4,3 +4,4 @@ pub mod Fitting
 pub mod Objects
 pub mod Runs
 pub mod Sorting
+pub mod Worlds

@@ -1,3 +1,4 @@
+pub mod Current
 pub mod Files
 pub mod Found
 pub mod Telling

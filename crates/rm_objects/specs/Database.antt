@@ -2,10 +2,11 @@
 use Rattle.std.specs.Prelude.{◌≡◌, ℕ, ◌<◌, ◌≤◌, List, Some}
 use Rattle.std.specs.List.{filter_map}
 use Rattle.std.specs.Option.{option_map, option_map_or}
+use Rattle.rm_base.specs.Numbers.{last_scn}
 use Rattle.rm_history.specs.declared.tree.Incarnation.{Incarnation}
 use Rattle.rm_history.specs.declared.world.Datafile.{Datafile}
 use Rattle.rm_history.specs.declared.world.World.{World}
-use Rattle.rm_history.specs.Tree.{IsThere, IsTree, reset_of}
+use Rattle.rm_history.specs.Tree.{IsThere, IsTree, end_of, reset_of}
 use Rattle.rm_history.specs.World.{file_of}
 use Rattle.rm_catalog.specs.declared.record.DatafileEntry.{DatafileEntry}
 use Rattle.rm_catalog.specs.declared.record.Record.{Record}
@@ -24,6 +25,10 @@ datafiles rs = filter_map (λ r. option_map created_by (datafile_in r)) rs
 abbrev pub threads_in : List Record → ℕ
 threads_in rs = option_map_or (λ b. b.threads) (base rs) 0
 
+-- the current incarnation; 0 without a database
+abbrev pub current_in : List Record → ℕ
+current_in rs = option_map_or (λ b. b.current) (base rs) 0
+
 abbrev pub world_of : List Record → World
 world_of rs = record { tree = nodes rs; threads = threads_in rs; files = datafiles rs }
 
@@ -38,3 +43,8 @@ pub record IsCreated (tree : List Incarnation) (d : Datafile) : Type 0 where
 pub record IsSoundWorld (w : World) : Type 0 where
   pub tree : IsTree w.tree
   pub files : (f : ℕ) (d : Datafile) → file_of w f ≡ Some d → IsCreated w.tree d
+
+-- what is true of the current incarnation of a catalog
+pub record IsCurrent (rs : List Record) (n : ℕ) : Type 0 where
+  pub there : IsThere (nodes rs) n
+  pub end : end_of (nodes rs) n ≤ last_scn

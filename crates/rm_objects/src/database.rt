@@ -2,10 +2,12 @@
 ghost use Rattle.std.specs.Prelude.{◌≡◌, ◌↔◌, IsTrue};
 ghost use Rattle.rm_catalog.specs.Keys.{base, datafile as entry_of};
 ghost use Rattle.rm_catalog.specs.Rules.{HasDatabase, IsCatalog};
+ghost use Rattle.rm_catalog.specs.Trees.{nodes};
+ghost use Rattle.rm_history.specs.Tree.{IsThere};
 ghost use Rattle.rm_history.specs.World.{file_of};
-ghost use Rattle.rm_objects.specs.Database.{threads_in, world_of};
+ghost use Rattle.rm_objects.specs.Database.{current_in, threads_in, world_of};
 
-use rm_base::{FileNo, ThreadNo};
+use rm_base::{FileNo, IncNo, ThreadNo};
 use rm_catalog::{BaseEntry, Catalog, DatafileEntry, Key, Record};
 use rm_history::Datafile;
 
@@ -57,5 +59,19 @@ pub fn threads(catalog: &Catalog) -> ThreadNo
     match base_of(catalog) {
         Some(base) => base.threads,
         None => 0,
+    }
+}
+
+/// The current incarnation.
+pub fn current_of(catalog: &Catalog) -> IncNo
+    requires database { HasDatabase catalog.now }
+    ensures is { result ≡ current_in catalog.now }
+    ensures there { IsThere (nodes catalog.now) result }
+{
+    // They are a catalog's, so their current incarnation is there.
+    let _ = catalog.records();
+    match base_of(catalog) {
+        Some(base) => base.current,
+        None => unreachable!(),
     }
 }

@@ -6,7 +6,7 @@ pub mod laws;
 pub mod naming;
 pub mod reading;
 
-pub use database::{base_of, datafile, has_database, threads};
+pub use database::{base_of, current_of, datafile, has_database, threads};
 pub use naming::{log_name, piece_name, site_name};
 pub use reading::{has_digest, log_object, piece_object};
 
