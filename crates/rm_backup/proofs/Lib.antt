@@ -1,0 +1,4 @@
+pub mod AtHand
+pub mod Chained
+pub mod Choices
+pub mod Kept

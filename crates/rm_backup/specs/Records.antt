@@ -1,0 +1,35 @@
+-- The records of a datafile's backups, and which of them hold on the current path.
+use Rattle.std.specs.Prelude.{ℕ, ◌≡◌, ◌<◌, ◌≤◌, ◌⊎◌, IsTrue, Option, Some, None, List, option_and_then}
+use Rattle.std.specs.List.{filter_map}
+use Rattle.rm_base.specs.declared.kinds.Status.TheVariants.{Available}
+use Rattle.rm_catalog.specs.declared.record.PieceEntry.{PieceEntry}
+use Rattle.rm_catalog.specs.declared.record.Record.{Record}
+use Rattle.rm_catalog.specs.declared.record.Record.TheVariants.{Piece}
+use Rattle.rm_catalog.specs.Keys.{at, place}
+use Rattle.rm_catalog.specs.Trees.{nodes}
+use Rattle.rm_history.specs.Tree.{is_within}
+use Rattle.rm_objects.specs.Database.{current_in}
+
+-- what a record of kind 5 says
+abbrev pub piece_in : Record → Option PieceEntry
+piece_in (Piece p) = Some p
+piece_in _ = None
+
+-- the backups of datafiles, in order
+abbrev pub pieces : List Record → List PieceEntry
+pieces rs = filter_map piece_in rs
+
+-- the backup of this id
+abbrev pub piece : ℕ → List Record → Option PieceEntry
+piece id rs = option_and_then piece_in (at (place 5 id) rs)
+
+-- A record of the datafile with status AVAILABLE, whose incarnation is on the current path and whose
+-- high is at most its segment end there, if that ends.
+pub record IsOnPath (rs : List Record) (f : ℕ) (p : PieceEntry) : Type 0 where
+  pub file : p.file ≡ f
+  pub status : p.status ≡ Available
+  pub within : IsTrue (is_within (nodes rs) p.inc (current_in rs) p.high)
+
+-- p has a greater checkpoint than q, or the same and no lesser id
+abbrev pub ComesFirst : PieceEntry → PieceEntry → Type 0
+ComesFirst p q = (q.checkpoint < p.checkpoint) ⊎ ((q.checkpoint ≡ p.checkpoint) × (q.id ≤ p.id))

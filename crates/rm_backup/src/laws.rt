@@ -1,0 +1,21 @@
+//! What a copy tells that took over level 1s.
+ghost use Rattle.std.specs.Prelude.{ℕ, ◌≡◌, List, All, Contains};
+ghost use Rattle.rm_base.specs.declared.block.Change.{Change};
+ghost use Rattle.rm_catalog.specs.declared.record.Record.{Record};
+ghost use Rattle.rm_catalog.specs.Trees.{nodes};
+ghost use Rattle.rm_evidence.specs.Known.{FitsPiece};
+ghost use Rattle.rm_history.specs.declared.world.World.{World};
+ghost use Rattle.rm_history.specs.Agrees.{BaseAgrees, Level1Agrees};
+ghost use Rattle.rm_history.specs.History.{IsHistory};
+ghost use Rattle.rm_history.specs.Tree.{IsTree};
+ghost use Rattle.rm_piece.specs.declared.piece.Piece.{Piece};
+ghost use Rattle.rm_piece.specs.Artefacts.{base_of, level1_of};
+ghost use Rattle.rm_piece.specs.Valid.{IsPiece};
+ghost use Rattle.rm_backup.specs.Level1s.{IsReached};
+
+/// However many level 1s a copy takes over, it is valid, and agrees with each history of the database that
+/// it and all of them agree with.
+pub fn a_chain_of_merges_keeps_agreement()
+    ensures valid { (rs : List Record) (f : ℕ) (tag : List ℕ) (s : ℕ) (level1s : List (ℕ × Piece)) (copy last : Piece) → All (λ x. FitsPiece (nodes rs) x.1) level1s → IsPiece copy → IsReached rs f tag s level1s copy last → IsPiece last }
+    ensures agrees { (w : World) (h : List Change) (rs : List Record) (f : ℕ) (tag : List ℕ) (s : ℕ) (level1s : List (ℕ × Piece)) (copy last : Piece) → w.tree ≡ nodes rs → IsTree w.tree → IsHistory w h → All (λ x. FitsPiece (nodes rs) x.1) level1s → ((x : ℕ × Piece) → Contains level1s x → Level1Agrees w h (level1_of x.1)) → IsPiece copy → BaseAgrees w h (base_of copy) → IsReached rs f tag s level1s copy last → BaseAgrees w h (base_of last) }
+{}
