@@ -1,9 +1,11 @@
+pub mod Agreeing
 pub mod Artefacts
 pub mod Conditions
+pub mod Determining
+pub mod Faults
 pub mod Firsts
-pub mod Members
+pub mod Listed
 pub mod Parts
-pub mod Planned
-pub mod Quietness
-pub mod SeenFolds
-pub mod Versions
+pub mod Spans
+pub mod Steps
+pub mod Worlds

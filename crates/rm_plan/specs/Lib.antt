@@ -1,4 +1,7 @@
+pub mod Covers
+pub mod Entries
 pub mod FirstGap
-pub mod GreatestSeen
 pub mod Plan
-pub mod QuietTest
+pub mod Spans
+pub mod Survey
+pub mod Ways

@@ -1,13 +1,15 @@
 //! What the evidence tells of blocks, or the first address of which it does not tell.
 #![tactic(auto)]
 
+mod cover;
+mod entry;
 pub mod first;
-mod greatest;
+pub mod laws;
 pub mod plan;
-mod quiet;
+mod span;
+mod survey;
 mod target;
+mod ways;
 
-pub use plan::{Gap, PlanFault, Told};
-
-#[cfg(test)]
-mod tests;
+pub use first::first_gap;
+pub use plan::{Gap, PlanFault, Told, plan_file};

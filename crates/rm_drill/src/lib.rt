@@ -1,0 +1,8 @@
+//! The script of the drill, which one number makes.
+#![tactic(auto)]
+
+mod draw;
+mod round;
+pub mod script;
+
+pub use script::drill_script;

@@ -1,0 +1,12 @@
+-- The database of a catalog is a world.
+use Rattle.std.specs.Prelude.{List}
+use Rattle.rm_catalog.specs.declared.record.Record.{Record}
+use Rattle.rm_catalog.specs.Rules.{HasDatabase, IsCatalog}
+use Rattle.rm_known.specs.Unknown.{IsWorld}
+use Rattle.rm_objects.specs.Database.{world_of}
+use Rattle.rm_objects.proofs.Worlds.{is-sound}
+
+pub is_world : (rs : List Record) → IsCatalog rs → HasDatabase rs → IsWorld (world_of rs)
+is_world rs catalog database =
+    let sound = is-sound rs catalog database in
+    record { tree = sound.tree; files = λ f d is. (sound.files f d is).reset }

@@ -1,0 +1,10 @@
+use Rattle.std.proofs.Common.{◌≡◌, ℕ}
+use Rattle.rm_plan.specs.Covers.{threads_cover}
+use Rattle.rm_plan.specs.Spans.{AreApart, covers}
+use Rattle.rm_plan.proofs.cover.log_cover.Given as goal
+
+abbrev pub invariant-loop-thread : goal.invariant-loop-thread
+invariant-loop-thread l = record {
+  same : (g : ℕ) → covers l.cover.items g ≡ threads_cover l.ways l.logs l.s g l.thread;
+  apart : AreApart l.cover.items;
+}
