@@ -12,3 +12,4 @@ pub mod Takes
 pub mod Things
 pub mod Told
 pub mod Wholes
+pub mod Valid

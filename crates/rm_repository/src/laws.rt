@@ -23,3 +23,8 @@ pub fn records_have_what_stands()
     ensures logs { (r : Repository) (e : LogEntry) → IsRepository r → Contains (records_of r) (kind.Log e) ↔ Contains r.ledger.logs e }
     ensures pieces { (r : Repository) (e : PieceEntry) → IsRepository r → Contains (records_of r) (kind.Piece e) ↔ Contains r.ledger.pieces e }
 {}
+
+/// The records of a repository are a catalog's.
+pub fn a_repository_is_valid()
+    ensures { (r : Repository) → IsRepository r → IsCatalog (records_of r) }
+{}
