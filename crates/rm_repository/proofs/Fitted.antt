@@ -17,7 +17,7 @@ use Rattle.rm_history.specs.declared.world.Datafile.{Datafile}
 use Rattle.rm_history.specs.Tree.{IsThere, parent_of, reset_of, end_of, with_branch, with_end}
 use Rattle.rm_history.proofs.Branches.{IsThere-with_branch, IsThere-branched, end_of-branched, end_of-with_branch, length-with_branch, parent_of-branched, parent_of-with_branch, reset_of-branched, reset_of-with_branch}
 use Rattle.rm_history.proofs.Ends.{parent_of-with_end, reset_of-with_end, end_of-with_end, end_of-with_end_other}
-use Rattle.rm_history.proofs.Members.{in-front}
+use Rattle.rm_base.proofs.Members.{in-front}
 use Rattle.rm_ledger.specs.Facts.{AreIncarnations, AreMarks, HasMark, IsBranch, IsCreated, IsLedger, IsLogEntry, IsMark, IsPieceEntry}
 use Rattle.rm_ledger.specs.Ledger.{Ledger, incarnation_record, datafile_record, mark_record}
 use Rattle.rm_ledger.specs.Ledger.{records_of as ledger_records}

@@ -24,7 +24,7 @@ use Rattle.rm_catalog.specs.Rules.{IsAmongFirst, IsCatalog, IsOnce, Obeys, OwnRu
 use Rattle.rm_catalog.specs.Saved.{HeadRule, NamesOne, PartRule, is_part_of}
 use Rattle.rm_catalog.proofs.Counts.{alike_count}
 use Rattle.rm_catalog.proofs.Told.{at_here, at_past, found_is}
-use Rattle.rm_history.proofs.Members.{behind, in-front}
+use Rattle.rm_base.proofs.Members.{behind, in-front}
 use Rattle.rm_history.specs.Tree.{IsThere}
 use Rattle.rm_ledger.specs.Ledger.{Ledger}
 use Rattle.rm_ledger.specs.Ledger.{records_of as ledger_records}

@@ -10,5 +10,6 @@ mod log_ids;
 mod objects;
 mod piece_ids;
 mod saved;
+mod telling;
 
 pub use catalog::{Catalog, Saved};
