@@ -147,6 +147,16 @@ impl Catalog {
         }
     }
 
+    /// The records, ascending by kind and then id, and the tree, where there is a database.
+    pub fn into_parts(self) -> (Seq<Record>, Option<Tree>)
+        ensures records { result.0 ≡ self }
+        ensures catalog { IsCatalog self }
+        ensures tree { result.1 ≡ as_tree (nodes self) }
+    {
+        let Catalog { records, tree } = self;
+        (Seq::from_vec(records), tree)
+    }
+
     /// The record of this key. None where it is not there.
     pub fn find(&self, key: Key) -> Option<&Record>
         ensures { option_copied result ≡ at (place_of_key key) self.now }

@@ -29,7 +29,7 @@ none-below low p (r ∷ rs) lt up =
     ap (λ (b : Bool). cond b (1 + alike p rs) (alike p rs)) (differ (place_of r) p (λ e. omega arith)) ∙ none-below (place_of r + 1) p rs (omega arith) up.1
 
 -- where records rise, each stands alone at its place
-rises-once : (low : ℕ) (rs : List Record) (x : Record) → Rises low rs → Contains rs x → alike (place_of x) rs ≡ 1
+pub rises-once : (low : ℕ) (rs : List Record) (x : Record) → Rises low rs → Contains rs x → alike (place_of x) rs ≡ 1
 unfolding Rises alike
 rises-once low [] x up has = absurd (let lt = has.1 in omega arith)
 rises-once low (r ∷ rs) x up (zero, lt, is) =
@@ -85,7 +85,7 @@ sum-none f make n (x ∷ xs) none =
     let split = sum_by-cons (blocks_to f) (make n x) (numbered make (n + 1) xs) in
     omega arith
 
-sum-none-map : {X : Type 0} (f : ℕ) (make : X → Record) (xs : List X) → ((x : X) → blocks_to f (make x) ≡ 0) → sum_by (blocks_to f) (map make xs) ≡ 0
+pub sum-none-map : {X : Type 0} (f : ℕ) (make : X → Record) (xs : List X) → ((x : X) → blocks_to f (make x) ≡ 0) → sum_by (blocks_to f) (map make xs) ≡ 0
 sum-none-map f make [] none = refl
 sum-none-map f make (x ∷ xs) none =
     let here = none x in

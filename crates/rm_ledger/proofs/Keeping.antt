@@ -19,7 +19,7 @@ use Rattle.rm_ledger.specs.Ledger.{Ledger}
 use Rattle.rm_ledger.proofs.Trees.{Keeps, grown_keeps, current_there}
 
 -- a log's entry keeps its facts
-log_kept : (old new : List Incarnation) (threads : ℕ) → Keeps old new → (e : LogEntry) → IsLogEntry old threads e → IsLogEntry new threads e
+pub log_kept : (old new : List Incarnation) (threads : ℕ) → Keeps old new → (e : LogEntry) → IsLogEntry old threads e → IsLogEntry new threads e
 log_kept old new threads keeps e is =
     let reset = keeps.reset e.inc is.there in
     let end = keeps.end e.inc is.there in
@@ -38,7 +38,7 @@ file_kept old new k d (inl same) is = ap (λ (x : List Datafile). slice_get x k)
 file_kept old new k d (inr more) is = ap (λ (x : List Datafile). slice_get x k) more.1 ∙ slice_get-front old more.0 k (slice_get_within old k d is) ∙ is
 
 -- a piece's entry keeps its facts
-piece_kept : (old new : List Incarnation) (files more : List Datafile) → Keeps old new → FilesGrow files more → (p : PieceEntry) → IsPieceEntry old files p → IsPieceEntry new more p
+pub piece_kept : (old new : List Incarnation) (files more : List Datafile) → Keeps old new → FilesGrow files more → (p : PieceEntry) → IsPieceEntry old files p → IsPieceEntry new more p
 piece_kept old new files more keeps grows p is =
     let end = keeps.end p.inc is.there in
     let high = is.high in
@@ -59,7 +59,7 @@ piece_kept old new files more keeps grows p is =
       size = is.size;
     }
 
-mark_kept : (old new : List Incarnation) (before after : ℕ) → Keeps old new → before ≤ after → (m : Mark) → IsMark old before m → IsMark new after m
+pub mark_kept : (old new : List Incarnation) (before after : ℕ) → Keeps old new → before ≤ after → (m : Mark) → IsMark old before m → IsMark new after m
 mark_kept old new before after keeps le m is =
     let reset = keeps.reset m.inc is.there in
     let end = keeps.end m.inc is.there in
@@ -68,7 +68,7 @@ mark_kept old new before after keeps le m is =
     record { there = keeps.there m.inc is.there; scn = (omega arith, omega arith); moment = omega arith }
 
 -- what holds in both lists, and of each of the first with each of the second, holds of all pairs
-pairs_append : {A : Type 0} (R : A → A → Type 0) (xs ys : List A) → AllPairs R xs → AllPairs R ys → ((x y : A) → Contains xs x → Contains ys y → R x y) → AllPairs R (xs ++ ys)
+pub pairs_append : {A : Type 0} (R : A → A → Type 0) (xs ys : List A) → AllPairs R xs → AllPairs R ys → ((x y : A) → Contains xs x → Contains ys y → R x y) → AllPairs R (xs ++ ys)
 pairs_append R xs ys front back across i j d less inside =
     let long = length-append xs ys in
     elim (cases_lt j (length xs)) [

@@ -201,7 +201,7 @@ pub mark-found : (l : Ledger) (k : ℕ) (m : Mark) → IsLedger l → slice_get 
 mark-found l k m is there = ap (option_and_then mark_in) (record-found l (mark_record (1 + k) m) is (has-mark l k m there))
 
 -- a key at whose place no record stands is not there
-none-there : (l : Ledger) (of id : ℕ) → ((r : Record) → Contains (records_of l) r → place_of r ≢ place of id) → ¬ HasKey of id (records_of l)
+pub none-there : (l : Ledger) (of id : ℕ) → ((r : Record) → Contains (records_of l) r → place_of r ≢ place of id) → ¬ HasKey of id (records_of l)
 none-there l of id apart some = decide (at (place of id) (records_of l)) refl some
   where
     decide : (o : Option Record) → at (place of id) (records_of l) ≡ o → IsSome o → ⊥

@@ -64,7 +64,7 @@ puts_after low old (r ∷ rs) up =
     ∙ puts_after low (old ++ r ∷ []) rs (subst (λ (x : List Record). Rises low x) (sym moved) up)
     ∙ moved
 
-after_both : (es fs : List Edit) (rs : List Record) → after_edits (es ++ fs) rs ≡ after_edits fs (after_edits es rs)
+pub after_both : (es fs : List Edit) (rs : List Record) → after_edits (es ++ fs) rs ≡ after_edits fs (after_edits es rs)
 after_both [] fs rs = refl
 after_both (e ∷ es) fs rs = after_both es fs (after_edit e rs)
 

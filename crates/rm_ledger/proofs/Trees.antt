@@ -17,7 +17,7 @@ pub record Keeps (old new : List Incarnation) : Type 0 where
   pub end : (i : ℕ) → IsThere old i → end_of old i ≤ end_of new i
   pub owners : (i g : ℕ) → IsThere old i → owner new i g ≡ owner old i g
 
-keeps_end : (tree : List Incarnation) (j end : ℕ) → IsThere tree j → end_of tree j ≤ end → Keeps tree (with_end tree j end)
+pub keeps_end : (tree : List Incarnation) (j end : ℕ) → IsThere tree j → end_of tree j ≤ end → Keeps tree (with_end tree j end)
 keeps_end tree j end there up = record {
   there = λ i is. IsThere-with_end tree j end i is;
   reset = λ i is. reset_of-with_end tree j end i there;
@@ -28,7 +28,7 @@ keeps_end tree j end there up = record {
   owners = λ i g is. owner-with_end tree j end i g there;
 }
 
-keeps_branch : (tree : List Incarnation) (p at : ℕ) → HasParentsBelow tree → IsThere tree p → Keeps tree (with_branch tree p at)
+pub keeps_branch : (tree : List Incarnation) (p at : ℕ) → HasParentsBelow tree → IsThere tree p → Keeps tree (with_branch tree p at)
 keeps_branch tree p at below there = record {
   there = λ i is. IsThere-with_branch tree p at i is;
   reset = λ i is. reset_of-with_branch tree p at i is;

@@ -69,7 +69,7 @@ datafiles-are (r ∷ rs) = step (datafile_in r) (datafiles-are rs)
     step (Some f) h = ap (λ (x : List Datafile). created_by f ∷ x) h
 
 -- the entry behind k others is what the record of k + 1 says
-entry-is : (rs : List Record) (k n : ℕ) → IsCatalog rs → n ≡ k + 1 → slice_get (entries rs) k ≡ datafile n rs
+pub entry-is : (rs : List Record) (k n : ℕ) → IsCatalog rs → n ≡ k + 1 → slice_get (entries rs) k ≡ datafile n rs
 entry-is rs k n c next = decide (slice_get (entries rs) k) refl
   where
     none : (o : Option DatafileEntry) → slice_get (entries rs) k ≡ None → datafile n rs ≡ o → None ≡ o

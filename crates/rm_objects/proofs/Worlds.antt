@@ -38,14 +38,14 @@ some-there rs n P c some = decide (incarnation n rs) refl some
     decide None e some = absurd some
     decide (Some i) e some = found-there rs n i c e
 
-reset-is : (rs : List Record) (n : ℕ) (i : IncarnationEntry) → IsCatalog rs → incarnation n rs ≡ Some i → reset_of (nodes rs) n ≡ i.reset
+pub reset-is : (rs : List Record) (n : ℕ) (i : IncarnationEntry) → IsCatalog rs → incarnation n rs ≡ Some i → reset_of (nodes rs) n ≡ i.reset
 reset-is rs n i c h = ap (λ (o : Option tree.Incarnation). option_map_or (λ (x : tree.Incarnation). x.reset) o 0) (in_tree_is rs n i c h)
 
-parent-is : (rs : List Record) (n : ℕ) (i : IncarnationEntry) → IsCatalog rs → incarnation n rs ≡ Some i → parent_of (nodes rs) n ≡ i.parent
+pub parent-is : (rs : List Record) (n : ℕ) (i : IncarnationEntry) → IsCatalog rs → incarnation n rs ≡ Some i → parent_of (nodes rs) n ≡ i.parent
 parent-is rs n i c h = ap (λ (o : Option tree.Incarnation). option_map_or (λ (x : tree.Incarnation). x.parent) o 0) (in_tree_is rs n i c h)
 
 -- the record of an incarnation that is there
-record HasEntry (rs : List Record) (n : ℕ) : Type 0 where
+pub record HasEntry (rs : List Record) (n : ℕ) : Type 0 where
   pub entry : IncarnationEntry
   pub found : incarnation n rs ≡ Some entry
   pub number : entry.inc ≡ n
@@ -55,7 +55,7 @@ some-entry : (xs : List IncarnationEntry) (n : ℕ) → n < length xs → Incarn
 some-entry [] n inside = absurd (omega arith)
 some-entry (x ∷ xs) n inside = x
 
-entry-of : (rs : List Record) (n : ℕ) → IsCatalog rs → IsThere (nodes rs) n → HasEntry rs n
+pub entry-of : (rs : List Record) (n : ℕ) → IsCatalog rs → IsThere (nodes rs) n → HasEntry rs n
 entry-of rs n c there =
     let long = length_nodes rs in
     let low = there.0 in
@@ -72,11 +72,11 @@ entry-of rs n c there =
     }
 
 -- the parent of each but the first is there, and did not begin later
-record HasParent (rs : List Record) (n : ℕ) : Type 0 where
+pub record HasParent (rs : List Record) (n : ℕ) : Type 0 where
   pub some : 0 < parent_of (nodes rs) n
   pub begins : reset_of (nodes rs) (parent_of (nodes rs) n) ≤ reset_of (nodes rs) n
 
-parent-there : (rs : List Record) (n : ℕ) → IsCatalog rs → IsThere (nodes rs) n → 1 < n → HasParent rs n
+pub parent-there : (rs : List Record) (n : ℕ) → IsCatalog rs → IsThere (nodes rs) n → 1 < n → HasParent rs n
 parent-there rs n c there more =
     let e = entry-of rs n c there in
     let number = e.number in

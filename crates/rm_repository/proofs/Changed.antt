@@ -1,0 +1,387 @@
+-- The edit of each change makes the records follow.
+use Rattle.std.proofs.Common.{◌≡◌, ◌∙◌, ℕ, ◌+◌, ◌-◌, ◌<◌, ◌≤◌, inl, inr, Bool, cond, List, [], ◌∷◌, ◌++◌, Option, Some, None, refl, ap, sym, subst, arith, length, map, All, Contains}
+use Rattle.std.specs.Prelude.{IfSome}
+use Rattle.std.proofs.lemmas.Bool.{cases_lt, lt-ltb, le-ltb}
+use Rattle.std.proofs.lemmas.List.{append_assoc, length-append, map-append}
+use Rattle.std.proofs.lemmas.List.Elements.{All-contains, All-nil, All-cons, All-head, All-tail, Contains-append_right}
+use Rattle.rm_base.specs.declared.block.Mark.{Mark}
+use Rattle.rm_base.proofs.Members.{in-front}
+use Rattle.rm_history.specs.declared.tree.Incarnation.{Incarnation}
+use Rattle.rm_history.specs.declared.world.Datafile.{Datafile}
+use Rattle.rm_history.specs.Tree.{IsThere, branched, parent_of, reset_of, end_of}
+use Rattle.rm_catalog.specs.declared.record.BaseEntry.{BaseEntry}
+use Rattle.rm_catalog.specs.declared.record.Edit.{Edit}
+use Rattle.rm_catalog.specs.declared.record.Edit.TheVariants.{Put, Drop}
+use Rattle.rm_catalog.specs.declared.record.HeadEntry.{HeadEntry}
+use Rattle.rm_catalog.specs.declared.record.Key.{Key}
+use Rattle.rm_catalog.specs.declared.record.LogEntry.{LogEntry}
+use Rattle.rm_catalog.specs.declared.record.PartEntry.{PartEntry}
+use Rattle.rm_catalog.specs.declared.record.PieceEntry.{PieceEntry}
+use Rattle.rm_catalog.specs.declared.record.Record.{Record}
+use Rattle.rm_catalog.specs.declared.record.Record.TheVariants as kind
+use Rattle.rm_catalog.specs.Edits.{above, after_edit, after_edits, below, place_of_edit}
+use Rattle.rm_catalog.specs.Keys.{place, place_of, place_of_key}
+use Rattle.rm_catalog.proofs.Filters.{above_all, above_append, above_none, below_none}
+use Rattle.rm_ledger.specs.Ledger.{incarnation_record, datafile_record, mark_record}
+use Rattle.rm_ledger.proofs.Order.{Runs, incarnations_of, datafiles_of, logs_of, pieces_of, marks_of, incarnations-run, datafiles-run, logs-run, pieces-run, marks-run, marks-few, runs-append, runs-lower, runs-objects, runs-within}
+use Rattle.rm_ledger.proofs.Parts.{IsPart, after_both, more_part, part_then, put_part}
+use Rattle.rm_ledger.proofs.Sections.{numbered_part, replaced}
+use Rattle.rm_repository.specs.Changes.{EditsFollow, higher, lower, with_base, with_end_at, with_file, with_incarnation, with_log, with_mark, with_one, with_piece, without_log, without_piece, part_drop, saved_edits, unsaved_edits, with_saved, without_saved}
+use Rattle.rm_base.specs.Numbers.{last_scn}
+use Rattle.rm_repository.specs.Facts.{IsRepository, IsSaved}
+use Rattle.rm_repository.specs.Fitting.{FitsBranch, FitsFile, FitsLog, FitsMark, FitsPiece}
+use Rattle.rm_repository.specs.Repository.{Repository, Saved, records_of, saved_records}
+use Rattle.rm_repository.proofs.Fitted.{branch_fits, end_fits, file_fits, log_fits, mark_fits, no_log_fits, no_piece_fits, piece_fits}
+
+-- a part without edits
+same_part : (low high : ℕ) (rs : List Record) → Runs low high rs → IsPart low high [] rs rs
+same_part low high rs up = record {
+  from = All-nil (λ (e : Edit). low ≤ place_of_edit e);
+  upto = All-nil (λ (e : Edit). place_of_edit e < high);
+  old_from = λ k d lt. (runs-within low high rs up k d lt).0;
+  new_upto = λ k d lt. (runs-within low high rs up k d lt).1;
+  same = refl;
+}
+
+drop_part : (low high : ℕ) (key : Key) (old new : List Record) → (low ≤ place_of_key key) × (place_of_key key < high) → Runs low high old → Runs low high new → after_edit (Drop key) old ≡ new → IsPart low high (Drop key ∷ []) old new
+drop_part low high key old new within up down same = record {
+  from = All-cons (λ (e : Edit). low ≤ place_of_edit e) (Drop key) [] within.0 (All-nil (λ (e : Edit). low ≤ place_of_edit e));
+  upto = All-cons (λ (e : Edit). place_of_edit e < high) (Drop key) [] within.1 (All-nil (λ (e : Edit). place_of_edit e < high));
+  old_from = λ k d lt. (runs-within low high old up k d lt).0;
+  new_upto = λ k d lt. (runs-within low high new down k d lt).1;
+  same = same;
+}
+
+-- the records of a saved site run on behind all others
+pub saved-run : (r : Repository) → IsRepository r → Runs (place 7 0) (place 9 0) (saved_records r.saved)
+unfolding Runs
+saved-run r is = decide r.saved is.saved
+  where
+    decide : (o : Option Saved) → IfSome o (IsSaved r.ledger) → Runs (place 7 0) (place 9 0) (saved_records o)
+    decide None none = omega arith
+    decide (Some s) fits =
+        let next = is.ledger.base.next_id.1 in
+        let parts = runs-objects kind.Part (λ p. p.id) 7 1 s.parts (λ p. refl) (λ k d lt. let e = (fits.parts k d lt).id in let high = e.1 in (e.0, omega (arith, high, next))) (λ i j d less lt. (fits.apart i j d less lt).ids) in
+        runs-lower (place 7 0) (place 7 1) (place 9 0) (map kind.Part s.parts ++ kind.Head s.head ∷ []) (omega arith)
+        (runs-append (place 7 1) (place 8 0) (place 9 0) (map kind.Part s.parts) (kind.Head s.head ∷ []) parts (omega arith, omega arith))
+
+abbrev base_of : Repository → List Record
+base_of r = kind.Base r.ledger.base ∷ []
+
+-- edits kind by kind
+by-parts : (r s : Repository) (b t f l p m x : List Edit)
+    → IsPart (place 1 0) (place 2 0) b (base_of r) (base_of s) → IsPart (place 2 1) (place 3 0) t (incarnations_of r.ledger) (incarnations_of s.ledger)
+    → IsPart (place 3 1) (place 4 0) f (datafiles_of r.ledger) (datafiles_of s.ledger) → IsPart (place 4 1) (place 5 0) l (logs_of r.ledger) (logs_of s.ledger)
+    → IsPart (place 5 1) (place 6 0) p (pieces_of r.ledger) (pieces_of s.ledger) → IsPart (place 6 1) (place 7 0) m (marks_of r.ledger) (marks_of s.ledger)
+    → IsPart (place 7 0) (place 9 0) x (saved_records r.saved) (saved_records s.saved)
+    → after_edits ((b ++ ((((t ++ f) ++ l) ++ p) ++ m)) ++ x) (records_of r) ≡ records_of s
+by-parts r s b t f l p m x of-b of-t of-f of-l of-p of-m of-x =
+    let two = part_then (place 2 1) (place 3 0) (place 3 1) (place 4 0) _ _ _ _ _ _ (omega arith) (omega arith) (omega arith) of-t of-f in
+    let three = part_then (place 2 1) (place 4 0) (place 4 1) (place 5 0) _ _ _ _ _ _ (omega arith) (omega arith) (omega arith) two of-l in
+    let four = part_then (place 2 1) (place 5 0) (place 5 1) (place 6 0) _ _ _ _ _ _ (omega arith) (omega arith) (omega arith) three of-p in
+    let five = part_then (place 2 1) (place 6 0) (place 6 1) (place 7 0) _ _ _ _ _ _ (omega arith) (omega arith) (omega arith) four of-m in
+    let six = part_then (place 1 0) (place 2 0) (place 2 1) (place 7 0) _ _ _ _ _ _ (omega arith) (omega arith) (omega arith) of-b five in
+    let all = part_then (place 1 0) (place 7 0) (place 7 0) (place 9 0) _ _ _ _ _ _ (omega arith) (omega arith) (omega arith) six of-x in
+    all.same
+
+base-run : (b : BaseEntry) → Runs (place 1 0) (place 2 0) (kind.Base b ∷ [])
+unfolding Runs
+base-run b = (omega arith, omega arith)
+
+-- the first mark of a new incarnation
+abbrev first_mark : Repository → ℕ → ℕ → Mark
+first_mark r at moment = record { moment = moment; inc = length r.ledger.tree + 1; scn = at }
+
+-- what stays
+module _ (r : Repository) (is : IsRepository r) where
+  keep-b : IsPart (place 1 0) (place 2 0) [] (base_of r) (base_of r)
+  keep-b = same_part (place 1 0) (place 2 0) (base_of r) (base-run r.ledger.base)
+
+  keep-t : IsPart (place 2 1) (place 3 0) [] (incarnations_of r.ledger) (incarnations_of r.ledger)
+  keep-t = same_part (place 2 1) (place 3 0) (incarnations_of r.ledger) (incarnations-run r.ledger is.ledger)
+
+  keep-f : IsPart (place 3 1) (place 4 0) [] (datafiles_of r.ledger) (datafiles_of r.ledger)
+  keep-f = same_part (place 3 1) (place 4 0) (datafiles_of r.ledger) (datafiles-run r.ledger is.ledger)
+
+  keep-l : IsPart (place 4 1) (place 5 0) [] (logs_of r.ledger) (logs_of r.ledger)
+  keep-l = same_part (place 4 1) (place 5 0) (logs_of r.ledger) (logs-run r.ledger is.ledger)
+
+  keep-p : IsPart (place 5 1) (place 6 0) [] (pieces_of r.ledger) (pieces_of r.ledger)
+  keep-p = same_part (place 5 1) (place 6 0) (pieces_of r.ledger) (pieces-run r.ledger is.ledger)
+
+  keep-m : IsPart (place 6 1) (place 7 0) [] (marks_of r.ledger) (marks_of r.ledger)
+  keep-m = same_part (place 6 1) (place 7 0) (marks_of r.ledger) (marks-run r.ledger is.ledger)
+
+  keep-x : IsPart (place 7 0) (place 9 0) [] (saved_records r.saved) (saved_records r.saved)
+  keep-x = same_part (place 7 0) (place 9 0) (saved_records r.saved) (saved-run r is)
+
+  pub base-follows : (b : BaseEntry) → after_edits (Put (kind.Base b) ∷ []) (records_of r) ≡ records_of (with_base r b)
+  base-follows b =
+      by-parts r (with_base r b) (Put (kind.Base b) ∷ []) [] [] [] [] [] []
+      (put_part (place 1 0) (place 2 0) (kind.Base b) (base_of r) (kind.Base b ∷ []) (omega arith, omega arith) (base-run r.ledger.base) (base-run b) refl)
+      keep-t keep-f keep-l keep-p keep-m keep-x
+
+  pub end-follows : (i end : ℕ) → IsThere r.ledger.tree i → IsRepository (with_end_at r i end)
+      → after_edits (Put (incarnation_record i (record { parent = parent_of r.ledger.tree i; reset = reset_of r.ledger.tree i; end = end })) ∷ []) (records_of r) ≡ records_of (with_end_at r i end)
+  end-follows i end there is' =
+      let n : Incarnation = record { parent = parent_of r.ledger.tree i; reset = reset_of r.ledger.tree i; end = end } in
+      let low = there.0 in
+      let high = there.1 in
+      let few = is.ledger.incarnations.few in
+      by-parts r (with_end_at r i end) [] (Put (incarnation_record i n) ∷ []) [] [] [] [] []
+      keep-b
+      (put_part (place 2 1) (place 3 0) (incarnation_record i n) (incarnations_of r.ledger) (incarnations_of (with_end_at r i end).ledger) (omega (arith, low, high, few), omega (arith, high, few))
+      (incarnations-run r.ledger is.ledger) (incarnations-run (with_end_at r i end).ledger is'.ledger)
+      (replaced n r.ledger.tree 1 (i - 1) i (omega (arith, low)) (omega (arith, low, high)) (omega (arith, few))))
+      keep-f keep-l keep-p keep-m keep-x
+
+  pub file-follows : (d : Datafile) → IsRepository (with_file r d) → after_edits (Put (datafile_record (length r.ledger.files + 1) d) ∷ []) (records_of r) ≡ records_of (with_file r d)
+  file-follows d is' =
+      let few = is'.ledger.datafiles.few in
+      by-parts r (with_file r d) [] [] (Put (datafile_record (length r.ledger.files + 1) d) ∷ []) [] [] [] []
+      keep-b keep-t
+      (numbered_part datafile_record 3 r.ledger.files (d ∷ []) (λ k x. refl) (omega (arith, few)))
+      keep-l keep-p keep-m keep-x
+
+  pub mark-follows : (m : Mark) → IsRepository (with_mark r m) → after_edits (Put (mark_record (length r.ledger.marks + 1) m) ∷ []) (records_of r) ≡ records_of (with_mark r m)
+  mark-follows m is' =
+      let few = is'.ledger.few in
+      let most = marks-few (with_mark r m).ledger in
+      by-parts r (with_mark r m) [] [] [] [] [] (Put (mark_record (length r.ledger.marks + 1) m) ∷ []) []
+      keep-b keep-t keep-f keep-l keep-p
+      (numbered_part mark_record 6 r.ledger.marks (m ∷ []) (λ k x. refl) (omega (arith, few, most)))
+      keep-x
+
+  pub incarnation-follows : (parent at moment : ℕ) → IsRepository (with_incarnation r parent at moment)
+      → after_edits (Put (incarnation_record (length r.ledger.tree + 1) (branched parent at)) ∷ Put (mark_record (length r.ledger.marks + 1) (first_mark r at moment)) ∷ []) (records_of r) ≡ records_of (with_incarnation r parent at moment)
+  incarnation-follows parent at moment is' =
+      let n = branched parent at in
+      let m = first_mark r at moment in
+      let few = is'.ledger.few in
+      let most = marks-few (with_incarnation r parent at moment).ledger in
+      let trees = is'.ledger.incarnations.few in
+      by-parts r (with_incarnation r parent at moment) [] (Put (incarnation_record (length r.ledger.tree + 1) n) ∷ []) [] [] [] (Put (mark_record (length r.ledger.marks + 1) m) ∷ []) []
+      keep-b
+      (numbered_part incarnation_record 2 r.ledger.tree (n ∷ []) (λ k x. refl) (omega (arith, trees)))
+      keep-f keep-l keep-p
+      (numbered_part mark_record 6 r.ledger.marks (m ∷ []) (λ k x. refl) (omega (arith, few, most)))
+      keep-x
+
+-- Objects whose ids ascend: what stands below the place of an id, and above it.
+module _ {A : Type 0} (make : A → Record) (id : A → ℕ) (of n : ℕ) (is-at : (x : A) → place_of (make x) ≡ place of (id x)) (small : n ≤ 4294967295) where
+  below-is : (xs : List A) → All (λ y. id y < 4294967295) xs → below (place of n) (map make xs) ≡ map make (lower id n xs)
+  below-is [] few = refl
+  below-is (x ∷ xs) few =
+      let first : id x < 4294967295 = All-head (λ y. id y < 4294967295) x xs few in
+      let back = below-is xs (All-tail (λ y. id y < 4294967295) x xs few) in
+      let here = is-at x in
+      elim (cases_lt (id x) n) [
+        | inl less ↦
+            ap (λ (b : Bool). cond b (make x ∷ below (place of n) (map make xs)) (below (place of n) (map make xs))) (lt-ltb (place_of (make x)) (place of n) (omega (arith, here, less, first, small)))
+            ∙ ap (λ rs. make x ∷ rs) back
+            ∙ sym (ap (λ (b : Bool). map make (cond b (x ∷ lower id n xs) (lower id n xs))) (lt-ltb (id x) n less))
+        | inr le ↦
+            ap (λ (b : Bool). cond b (make x ∷ below (place of n) (map make xs)) (below (place of n) (map make xs))) (le-ltb (place_of (make x)) (place of n) (omega (arith, here, le, first, small)))
+            ∙ back
+            ∙ sym (ap (λ (b : Bool). map make (cond b (x ∷ lower id n xs) (lower id n xs))) (le-ltb (id x) n le))
+      ]
+
+  above-is : (xs : List A) → All (λ y. id y < 4294967295) xs → above (place of n) (map make xs) ≡ map make (higher id n xs)
+  above-is [] few = refl
+  above-is (x ∷ xs) few =
+      let first : id x < 4294967295 = All-head (λ y. id y < 4294967295) x xs few in
+      let back = above-is xs (All-tail (λ y. id y < 4294967295) x xs few) in
+      let here = is-at x in
+      elim (cases_lt n (id x)) [
+        | inl less ↦
+            ap (λ (b : Bool). cond b (make x ∷ above (place of n) (map make xs)) (above (place of n) (map make xs))) (lt-ltb (place of n) (place_of (make x)) (omega (arith, here, less, first, small)))
+            ∙ ap (λ rs. make x ∷ rs) back
+            ∙ sym (ap (λ (b : Bool). map make (cond b (x ∷ higher id n xs) (higher id n xs))) (lt-ltb n (id x) less))
+        | inr le ↦
+            ap (λ (b : Bool). cond b (make x ∷ above (place of n) (map make xs)) (above (place of n) (map make xs))) (le-ltb (place of n) (place_of (make x)) (omega (arith, here, le, first, small)))
+            ∙ back
+            ∙ sym (ap (λ (b : Bool). map make (cond b (x ∷ higher id n xs) (higher id n xs))) (le-ltb n (id x) le))
+      ]
+
+  put-one : (x : A) → id x ≡ n → (xs : List A) → All (λ y. id y < 4294967295) xs → after_edit (Put (make x)) (map make xs) ≡ map make (lower id n xs ++ x ∷ higher id n xs)
+  put-one x same xs few =
+      let at : place_of (make x) ≡ place of n = is-at x ∙ ap (place of) same in
+      ap (λ p. below p (map make xs) ++ make x ∷ above p (map make xs)) at
+      ∙ ap (λ rs. rs ++ make x ∷ above (place of n) (map make xs)) (below-is xs few)
+      ∙ ap (λ rs. map make (lower id n xs) ++ make x ∷ rs) (above-is xs few)
+      ∙ sym (map-append make (lower id n xs) (x ∷ higher id n xs))
+
+  drop-one : (key : Key) → place_of_key key ≡ place of n → (xs : List A) → All (λ y. id y < 4294967295) xs → after_edit (Drop key) (map make xs) ≡ map make (lower id n xs ++ higher id n xs)
+  drop-one key at xs few =
+      ap (λ p. below p (map make xs) ++ above p (map make xs)) at
+      ∙ ap (λ rs. rs ++ above (place of n) (map make xs)) (below-is xs few)
+      ∙ ap (λ rs. map make (lower id n xs) ++ rs) (above-is xs few)
+      ∙ sym (map-append make (lower id n xs) (higher id n xs))
+
+-- the one that was put is among them
+one-in : {A : Type 0} (xs ys : List A) (x : A) → Contains (xs ++ x ∷ ys) x
+one-in xs ys x = Contains-append_right xs (x ∷ ys) x (in-front x ys)
+
+module _ (r : Repository) (is : IsRepository r) where
+  logs-small : All (λ y. y.id < 4294967295) r.ledger.logs
+  logs-small k d lt = let next = is.ledger.base.next_id.1 in let h = (is.ledger.ids.logs k d lt).1 in omega (arith, next, h)
+
+  pieces-small : All (λ y. y.id < 4294967295) r.ledger.pieces
+  pieces-small k d lt = let next = is.ledger.base.next_id.1 in let h = (is.ledger.ids.pieces k d lt).1 in omega (arith, next, h)
+
+  pub log-follows : (e : LogEntry) → IsRepository (with_log r e) → after_edits (Put (kind.Log e) ∷ []) (records_of r) ≡ records_of (with_log r e)
+  log-follows e is' =
+      let next = is'.ledger.base.next_id.1 in
+      let own = All-contains (λ (x : LogEntry). (1 ≤ x.id) × (x.id < r.ledger.base.next_id)) (with_one (λ x. x.id) e r.ledger.logs) e is'.ledger.ids.logs (one-in (lower (λ x. x.id) e.id r.ledger.logs) (higher (λ x. x.id) e.id r.ledger.logs) e) in
+      let low = own.0 in
+      let high = own.1 in
+      by-parts r (with_log r e) [] [] [] (Put (kind.Log e) ∷ []) [] [] []
+      (keep-b r is) (keep-t r is) (keep-f r is)
+      (put_part (place 4 1) (place 5 0) (kind.Log e) (logs_of r.ledger) (logs_of (with_log r e).ledger) (omega (arith, low, high, next), omega (arith, high, next)) (logs-run r.ledger is.ledger) (logs-run (with_log r e).ledger is'.ledger)
+      (put-one kind.Log (λ x. x.id) 4 e.id (λ x. refl) (omega (arith, high, next)) e refl r.ledger.logs logs-small))
+      (keep-p r is) (keep-m r is) (keep-x r is)
+
+  pub piece-follows : (e : PieceEntry) → IsRepository (with_piece r e) → after_edits (Put (kind.Piece e) ∷ []) (records_of r) ≡ records_of (with_piece r e)
+  piece-follows e is' =
+      let next = is'.ledger.base.next_id.1 in
+      let own = All-contains (λ (x : PieceEntry). (1 ≤ x.id) × (x.id < r.ledger.base.next_id)) (with_one (λ x. x.id) e r.ledger.pieces) e is'.ledger.ids.pieces (one-in (lower (λ x. x.id) e.id r.ledger.pieces) (higher (λ x. x.id) e.id r.ledger.pieces) e) in
+      let low = own.0 in
+      let high = own.1 in
+      by-parts r (with_piece r e) [] [] [] [] (Put (kind.Piece e) ∷ []) [] []
+      (keep-b r is) (keep-t r is) (keep-f r is) (keep-l r is)
+      (put_part (place 5 1) (place 6 0) (kind.Piece e) (pieces_of r.ledger) (pieces_of (with_piece r e).ledger) (omega (arith, low, high, next), omega (arith, high, next)) (pieces-run r.ledger is.ledger) (pieces-run (with_piece r e).ledger is'.ledger)
+      (put-one kind.Piece (λ x. x.id) 5 e.id (λ x. refl) (omega (arith, high, next)) e refl r.ledger.pieces pieces-small))
+      (keep-m r is) (keep-x r is)
+
+  pub log-dropped : (n : ℕ) → 1 ≤ n → n ≤ 4294967295 → IsRepository (without_log r n) → after_edits (Drop (record { kind = 4; id = n }) ∷ []) (records_of r) ≡ records_of (without_log r n)
+  log-dropped n low small is' =
+      by-parts r (without_log r n) [] [] [] (Drop (record { kind = 4; id = n }) ∷ []) [] [] []
+      (keep-b r is) (keep-t r is) (keep-f r is)
+      (drop_part (place 4 1) (place 5 0) (record { kind = 4; id = n }) (logs_of r.ledger) (logs_of (without_log r n).ledger) (omega (arith, low, small), omega (arith, small)) (logs-run r.ledger is.ledger) (logs-run (without_log r n).ledger is'.ledger)
+      (drop-one kind.Log (λ x. x.id) 4 n (λ x. refl) small (record { kind = 4; id = n }) refl r.ledger.logs logs-small))
+      (keep-p r is) (keep-m r is) (keep-x r is)
+
+  pub piece-dropped : (n : ℕ) → 1 ≤ n → n ≤ 4294967295 → IsRepository (without_piece r n) → after_edits (Drop (record { kind = 5; id = n }) ∷ []) (records_of r) ≡ records_of (without_piece r n)
+  piece-dropped n low small is' =
+      by-parts r (without_piece r n) [] [] [] [] (Drop (record { kind = 5; id = n }) ∷ []) [] []
+      (keep-b r is) (keep-t r is) (keep-f r is) (keep-l r is)
+      (drop_part (place 5 1) (place 6 0) (record { kind = 5; id = n }) (pieces_of r.ledger) (pieces_of (without_piece r n).ledger) (omega (arith, low, small), omega (arith, small)) (pieces-run r.ledger is.ledger) (pieces-run (without_piece r n).ledger is'.ledger)
+      (drop-one kind.Piece (λ x. x.id) 5 n (λ x. refl) small (record { kind = 5; id = n }) refl r.ledger.pieces pieces-small))
+      (keep-m r is) (keep-x r is)
+
+-- what is added to edits
+follows-of : (old new es : List Edit) (r s t : Repository) → new ≡ old ++ es → after_edits es (records_of r) ≡ records_of s → t ≡ s → EditsFollow old new r t
+follows-of old new es r s t is same out = record {
+  lead = λ rs from. ap (λ (x : List Edit). after_edits x rs) is ∙ after_both old es rs ∙ ap (after_edits es) from ∙ same ∙ ap (λ (x : Repository). records_of x) (sym out);
+}
+
+pub follows_base : (old new : List Edit) (r t : Repository) (b : BaseEntry) → IsRepository r → new ≡ old ++ Put (kind.Base b) ∷ [] → t ≡ with_base r b → EditsFollow old new r t
+follows_base old new r t b is more out = follows-of old new (Put (kind.Base b) ∷ []) r (with_base r b) t more (base-follows r is b) out
+
+pub follows_end : (old new : List Edit) (r t : Repository) (i end : ℕ) → IsRepository r → IsThere r.ledger.tree i → end_of r.ledger.tree i ≤ end → end ≤ last_scn
+    → new ≡ old ++ Put (incarnation_record i (record { parent = parent_of r.ledger.tree i; reset = reset_of r.ledger.tree i; end = end })) ∷ [] → t ≡ with_end_at r i end → EditsFollow old new r t
+follows_end old new r t i end is there up last more out = follows-of old new (Put (incarnation_record i (record { parent = parent_of r.ledger.tree i; reset = reset_of r.ledger.tree i; end = end })) ∷ []) r (with_end_at r i end) t more (end-follows r is i end there (end_fits r i end is there up last)) out
+
+pub follows_file : (old new : List Edit) (r t : Repository) (d : Datafile) → IsRepository r → FitsFile r d → new ≡ old ++ Put (datafile_record (length r.ledger.files + 1) d) ∷ [] → t ≡ with_file r d → EditsFollow old new r t
+follows_file old new r t d is fits more out = follows-of old new (Put (datafile_record (length r.ledger.files + 1) d) ∷ []) r (with_file r d) t more (file-follows r is d (file_fits r d is fits)) out
+
+pub follows_mark : (old new : List Edit) (r t : Repository) (m : Mark) → IsRepository r → FitsMark r m → new ≡ old ++ Put (mark_record (length r.ledger.marks + 1) m) ∷ [] → t ≡ with_mark r m → EditsFollow old new r t
+follows_mark old new r t m is fits more out = follows-of old new (Put (mark_record (length r.ledger.marks + 1) m) ∷ []) r (with_mark r m) t more (mark-follows r is m (mark_fits r m is fits)) out
+
+pub follows_branch : (old new : List Edit) (r t : Repository) (parent at moment : ℕ) → IsRepository r → FitsBranch r parent at moment
+    → new ≡ old ++ Put (incarnation_record (length r.ledger.tree + 1) (branched parent at)) ∷ Put (mark_record (length r.ledger.marks + 1) (first_mark r at moment)) ∷ [] → t ≡ with_incarnation r parent at moment → EditsFollow old new r t
+follows_branch old new r t parent at moment is fits more out =
+    follows-of old new (Put (incarnation_record (length r.ledger.tree + 1) (branched parent at)) ∷ Put (mark_record (length r.ledger.marks + 1) (first_mark r at moment)) ∷ []) r (with_incarnation r parent at moment) t more
+    (incarnation-follows r is parent at moment (branch_fits r parent at moment is fits)) out
+
+pub follows_log : (old new : List Edit) (r t : Repository) (e : LogEntry) → IsRepository r → FitsLog r e → new ≡ old ++ Put (kind.Log e) ∷ [] → t ≡ with_log r e → EditsFollow old new r t
+follows_log old new r t e is fits more out = follows-of old new (Put (kind.Log e) ∷ []) r (with_log r e) t more (log-follows r is e (log_fits r e is fits)) out
+
+pub follows_no_log : (old new : List Edit) (r t : Repository) (n : ℕ) → IsRepository r → 1 ≤ n → n < 4294967296 → new ≡ old ++ Drop (record { kind = 4; id = n }) ∷ [] → t ≡ without_log r n → EditsFollow old new r t
+follows_no_log old new r t n is low small more out = follows-of old new (Drop (record { kind = 4; id = n }) ∷ []) r (without_log r n) t more (log-dropped r is n low (omega (arith, small)) (no_log_fits r n is)) out
+
+pub follows_piece : (old new : List Edit) (r t : Repository) (e : PieceEntry) → IsRepository r → FitsPiece r e → new ≡ old ++ Put (kind.Piece e) ∷ [] → t ≡ with_piece r e → EditsFollow old new r t
+follows_piece old new r t e is fits more out = follows-of old new (Put (kind.Piece e) ∷ []) r (with_piece r e) t more (piece-follows r is e (piece_fits r e is fits)) out
+
+pub follows_no_piece : (old new : List Edit) (r t : Repository) (n : ℕ) → IsRepository r → 1 ≤ n → n < 4294967296 → new ≡ old ++ Drop (record { kind = 5; id = n }) ∷ [] → t ≡ without_piece r n → EditsFollow old new r t
+follows_no_piece old new r t n is low small more out = follows-of old new (Drop (record { kind = 5; id = n }) ∷ []) r (without_piece r n) t more (piece-dropped r is n low (omega (arith, small)) (no_piece_fits r n is)) out
+
+-- taking away what stands first
+drop-first : (key : Key) (r : Record) (rs : List Record) → place_of r ≡ place_of_key key → All (λ x. place_of_key key < place_of x) rs → after_edit (Drop key) (r ∷ rs) ≡ rs
+drop-first key r rs same high =
+    let p = place_of_key key in
+    let from = All-cons (λ (x : Record). p ≤ place_of x) r rs (omega (arith, same)) (λ k d lt. let h = high k d lt in omega (arith, h)) in
+    let upto = All-cons (λ (x : Record). place_of x ≤ p) r [] (omega (arith, same)) (All-nil (λ (x : Record). place_of x ≤ p)) in
+    let low : below p (r ∷ rs) ≡ [] = below_none p (r ∷ rs) from in
+    let high_ : above p (r ∷ rs) ≡ rs = above_append p (r ∷ []) rs ∙ ap (λ (x : List Record). x ++ above p rs) (above_none p (r ∷ []) upto) ∙ above_all p rs high in
+    ap (λ (x : List Record). x ++ above p (r ∷ rs)) low ∙ high_
+
+all-dropped : (ps : List PartEntry) (h : HeadEntry) (low : ℕ) → Runs low (place 9 0) (map kind.Part ps ++ kind.Head h ∷ []) → after_edits (map part_drop ps ++ Drop (record { kind = 8; id = 0 }) ∷ []) (map kind.Part ps ++ kind.Head h ∷ []) ≡ []
+unfolding Runs
+all-dropped [] h low up = drop-first (record { kind = 8; id = 0 }) (kind.Head h) [] refl (All-nil (λ (x : Record). place 8 0 < place_of x))
+all-dropped (p ∷ ps) h low up =
+    let rest = map kind.Part ps ++ kind.Head h ∷ [] in
+    let over : All (λ x. place 7 p.id < place_of x) rest = λ k d lt. let w = (runs-within (place_of (kind.Part p) + 1) (place 9 0) rest up.1 k d lt).0 in omega (arith, w) in
+    ap (after_edits (map part_drop ps ++ Drop (record { kind = 8; id = 0 }) ∷ [])) (drop-first (record { kind = 7; id = p.id }) (kind.Part p) rest refl over)
+    ∙ all-dropped ps h (place_of (kind.Part p) + 1) up.1
+
+drops-within : (ps : List PartEntry) → All (λ e. (place 7 0 ≤ place_of_edit e) × (place_of_edit e < place 9 0)) (map part_drop ps ++ Drop (record { kind = 8; id = 0 }) ∷ [])
+drops-within [] = All-cons (λ e. (place 7 0 ≤ place_of_edit e) × (place_of_edit e < place 9 0)) (Drop (record { kind = 8; id = 0 })) [] (omega arith, omega arith) (All-nil (λ e. (place 7 0 ≤ place_of_edit e) × (place_of_edit e < place 9 0)))
+drops-within (p ∷ ps) = All-cons (λ e. (place 7 0 ≤ place_of_edit e) × (place_of_edit e < place 9 0)) (part_drop p) (map part_drop ps ++ Drop (record { kind = 8; id = 0 }) ∷ []) (omega arith, omega arith) (drops-within ps)
+
+unsaved-part : (r : Repository) → IsRepository r → IsPart (place 7 0) (place 9 0) (unsaved_edits r.saved) (saved_records r.saved) []
+unsaved-part r is = decide r.saved (saved-run r is)
+  where
+    decide : (o : Option Saved) → Runs (place 7 0) (place 9 0) (saved_records o) → IsPart (place 7 0) (place 9 0) (unsaved_edits o) (saved_records o) []
+    decide None up = same_part (place 7 0) (place 9 0) [] up
+    decide (Some s) up = record {
+      from = λ k d lt. (drops-within s.parts k d lt).0;
+      upto = λ k d lt. (drops-within s.parts k d lt).1;
+      old_from = λ k d lt. (runs-within (place 7 0) (place 9 0) (saved_records (Some s)) up k d lt).0;
+      new_upto = All-nil (λ (x : Record). place_of x < place 9 0);
+      same = all-dropped s.parts s.head (place 7 0) up;
+    }
+
+pub unsaved-follows : (r : Repository) → IsRepository r → after_edits (unsaved_edits r.saved) (records_of r) ≡ records_of (without_saved r)
+unsaved-follows r is = by-parts r (without_saved r) [] [] [] [] [] [] (unsaved_edits r.saved) (keep-b r is) (keep-t r is) (keep-f r is) (keep-l r is) (keep-p r is) (keep-m r is) (unsaved-part r is)
+
+no-run : Runs (place 7 0) (place 9 0) []
+unfolding Runs
+no-run = omega arith
+
+-- a repository without its saved site, and with one
+pub unsaved_fits : (r : Repository) → IsRepository r → IsRepository (without_saved r)
+unsaved_fits r is = record { ledger = is.ledger; saved = tt }
+
+pub saved_fits : (r : Repository) (s : Saved) → IsRepository r → IsSaved r.ledger s → IsRepository (with_saved r s)
+saved_fits r s is fits = record { ledger = is.ledger; saved = fits }
+
+pub saved-follows : (r : Repository) (s : Saved) → IsRepository r → r.saved ≡ None → IsRepository (with_saved r s) → after_edits (saved_edits s) (records_of r) ≡ records_of (with_saved r s)
+saved-follows r s is none is' =
+    by-parts r (with_saved r s) [] [] [] [] [] [] (saved_edits s) (keep-b r is) (keep-t r is) (keep-f r is) (keep-l r is) (keep-p r is) (keep-m r is)
+    (subst (λ (o : Option Saved). IsPart (place 7 0) (place 9 0) (saved_edits s) (saved_records o) (saved_records (Some s))) (sym none)
+    (more_part (place 7 0) (place 9 0) [] (saved_records (Some s)) no-run (saved-run (with_saved r s) is')))
+
+pub follows_unsaved : (old new : List Edit) (r t : Repository) → IsRepository r → new ≡ old ++ unsaved_edits r.saved → t ≡ without_saved r → EditsFollow old new r t
+follows_unsaved old new r t is more out = follows-of old new (unsaved_edits r.saved) r (without_saved r) t more (unsaved-follows r is) out
+
+pub follows_saved : (old new : List Edit) (r t : Repository) (s : Saved) → IsRepository r → r.saved ≡ None → IsSaved r.ledger s → new ≡ old ++ saved_edits s → t ≡ with_saved r s → EditsFollow old new r t
+follows_saved old new r t s is none fits more out = follows-of old new (saved_edits s) r (with_saved r s) t more (saved-follows r s is none (saved_fits r s is fits)) out
+
+-- the number of a mark more fits into 32 bits
+pub marks_few : (r : Repository) → IsRepository r → length r.ledger.marks ≤ 65536
+marks_few r is = let few = is.ledger.few in let most = marks-few r.ledger in omega (arith, few, most)
+
+-- two edits one after the other
+pub both_more : (es fs gs : List Edit) (e f : Edit) → fs ≡ es ++ e ∷ [] → gs ≡ fs ++ f ∷ [] → gs ≡ es ++ e ∷ f ∷ []
+both_more es fs gs e f one two = two ∙ ap (λ (x : List Edit). x ++ f ∷ []) one ∙ append_assoc es (e ∷ []) (f ∷ [])
+
+both-maps : (ps : List PartEntry) → map (λ p. Put (kind.Part p)) ps ≡ map Put (map kind.Part ps)
+both-maps [] = refl
+both-maps (p ∷ ps) = ap (λ (es : List Edit). Put (kind.Part p) ∷ es) (both-maps ps)
+
+-- the edits of a saved site, its parts first
+pub site_more : (es fs gs : List Edit) (s : Saved) → fs ≡ es ++ map (λ p. Put (kind.Part p)) s.parts → gs ≡ fs ++ Put (kind.Head s.head) ∷ [] → gs ≡ es ++ saved_edits s
+site_more es fs gs s one two =
+    two ∙ ap (λ (x : List Edit). x ++ Put (kind.Head s.head) ∷ []) one ∙ append_assoc es (map (λ p. Put (kind.Part p)) s.parts) (Put (kind.Head s.head) ∷ [])
+    ∙ ap (λ (x : List Edit). es ++ (x ++ Put (kind.Head s.head) ∷ [])) (both-maps s.parts) ∙ ap (λ (x : List Edit). es ++ x) (sym (map-append Put (map kind.Part s.parts) (kind.Head s.head ∷ [])))

@@ -1,0 +1,552 @@
+-- A change that fits keeps the rules.
+use Rattle.std.proofs.Common.{◌≡◌, ◌∙◌, ℕ, ◌+◌, ◌-◌, ◌<◌, ◌≤◌, ◌⊎◌, inl, inr, List, [], ◌∷◌, ◌++◌, Option, Some, None, refl, ap, sym, subst, arith, length, length-append, All, AllPairs, Contains}
+use Rattle.std.specs.Prelude.{IfSome, sum_by}
+use Rattle.std.proofs.lemmas.Bool.{cases_eq}
+use Rattle.std.proofs.lemmas.List.{length-map, length-set}
+use Rattle.std.proofs.lemmas.List.Elements.{All-append, All-contains, All-cons, All-nil, All-push, All-weaker, Contains-append_left, Contains-append_right, Contains-get_or}
+use Rattle.std.proofs.lemmas.List.Sums.{sum_by-append, sum_by-cons}
+use Rattle.rm_base.specs.Numbers.{last_moment, last_scn}
+use Rattle.rm_base.specs.declared.block.Mark.{Mark}
+use Rattle.rm_catalog.specs.declared.record.BaseEntry.{BaseEntry}
+use Rattle.rm_catalog.specs.declared.record.LogEntry.{LogEntry}
+use Rattle.rm_catalog.specs.declared.record.PartEntry.{PartEntry}
+use Rattle.rm_catalog.specs.declared.record.PieceEntry.{PieceEntry}
+use Rattle.rm_catalog.specs.declared.record.Record.TheVariants as kind
+use Rattle.rm_history.specs.declared.tree.Incarnation.{Incarnation}
+use Rattle.rm_history.specs.declared.world.Datafile.{Datafile}
+use Rattle.rm_history.specs.Tree.{IsThere, parent_of, reset_of, end_of, with_branch, with_end}
+use Rattle.rm_history.proofs.Branches.{IsThere-with_branch, IsThere-branched, end_of-branched, end_of-with_branch, length-with_branch, parent_of-branched, parent_of-with_branch, reset_of-branched, reset_of-with_branch}
+use Rattle.rm_history.proofs.Ends.{parent_of-with_end, reset_of-with_end, end_of-with_end, end_of-with_end_other}
+use Rattle.rm_base.proofs.Members.{in-front}
+use Rattle.rm_ledger.specs.Facts.{AreIncarnations, AreMarks, HasMark, IsBranch, IsCreated, IsLedger, IsLogEntry, IsMark, IsPieceEntry}
+use Rattle.rm_ledger.specs.Ledger.{Ledger, incarnation_record, datafile_record, mark_record}
+use Rattle.rm_ledger.specs.Ledger.{records_of as ledger_records}
+use Rattle.rm_ledger.proofs.Keeping.{log_kept, mark_kept, pairs_append, piece_kept}
+use Rattle.rm_ledger.proofs.Order.{incarnations_of, datafiles_of, logs_of, pieces_of, marks_of, length-numbered}
+use Rattle.rm_ledger.proofs.Trees.{Keeps, keeps_branch, keeps_end, parents_below}
+use Rattle.rm_repository.specs.Changes.{with_base, with_end_at, with_file, with_incarnation, with_log, with_mark, with_moment, with_one, with_piece, without_log, without_one, without_piece}
+use Rattle.rm_repository.specs.Facts.{IsPartEntry, IsRepository, IsSaved}
+use Rattle.rm_repository.specs.Fitting.{FitsBase, FitsBranch, FitsFile, FitsLog, FitsMark, FitsPiece, HasId, HasRoomFor, IsNextMoment, LacksId}
+use Rattle.rm_repository.specs.Repository.{Repository, Saved}
+use Rattle.rm_repository.proofs.Ones.{all-with, all-without, ascend-with, ascend-without, contains-with, contains-without, length-replaced, length-with, length-without}
+
+-- a ledger has the threads, datafiles, incarnations and ids that another has
+record HasAll (l m : Ledger) : Type 0 where
+  pub ids : l.base.next_id ≤ m.base.next_id
+  pub threads : l.base.threads ≤ m.base.threads
+  pub files : length l.files ≤ length m.files
+  pub there : (i : ℕ) → IsThere l.tree i → IsThere m.tree i
+
+-- so a saved site of the one is one of the other, if no object has the id of a part
+site_kept : (l m : Ledger) (s : Saved) → HasAll l m → IsSaved l s → ((e : LogEntry) (p : PartEntry) → Contains m.logs e → Contains s.parts p → e.id ≡ p.id → ⊥) → ((e : PieceEntry) (p : PartEntry) → Contains m.pieces e → Contains s.parts p → e.id ≡ p.id → ⊥) → IsSaved m s
+site_kept l m s has is logs pieces =
+    let ids = has.ids in
+    let threads = has.threads in
+    let files = has.files in
+    record {
+      parts = All-weaker (IsPartEntry l) (IsPartEntry m) (λ (p : PartEntry) was. let id = was.id.1 in record {
+        id = (was.id.0, omega (arith, id, ids));
+        size = was.size;
+        thread = λ none. let t = (was.thread none).1 in ((was.thread none).0, omega (arith, t, threads));
+        file = λ some. let f = (was.file some).1 in ((was.file some).0, omega (arith, f, files));
+      }) s.parts is.parts;
+      apart = is.apart;
+      logs = logs;
+      pieces = pieces;
+      point = λ some. has.there s.head.inc (is.point some);
+    }
+
+saved_kept : (l m : Ledger) → HasAll l m → m.logs ≡ l.logs → m.pieces ≡ l.pieces → (o : Option Saved) → IfSome o (IsSaved l) → IfSome o (IsSaved m)
+saved_kept l m has logs pieces None none = tt
+saved_kept l m has logs pieces (Some s) is =
+    site_kept l m s has is
+    (λ e p one other. is.logs e p (subst (λ (x : List LogEntry). Contains x e) logs one) other)
+    (λ e p one other. is.pieces e p (subst (λ (x : List PieceEntry). Contains x e) pieces one) other)
+
+-- so many records
+many : (l : Ledger) → length (ledger_records l) ≡ 1 + length l.tree + length l.files + length l.logs + length l.pieces + length l.marks
+many l =
+    let five = length-append (incarnations_of l ++ datafiles_of l ++ logs_of l ++ pieces_of l) (marks_of l) in
+    let four = length-append (incarnations_of l ++ datafiles_of l ++ logs_of l) (pieces_of l) in
+    let three = length-append (incarnations_of l ++ datafiles_of l) (logs_of l) in
+    let two = length-append (incarnations_of l) (datafiles_of l) in
+    let tree = length-numbered incarnation_record 1 l.tree in
+    let files = length-numbered datafile_record 1 l.files in
+    let logs = length-map l.logs (λ e. kind.Log e) in
+    let pieces = length-map l.pieces (λ e. kind.Piece e) in
+    let marks = length-numbered mark_record 1 l.marks in
+    omega (arith, five, four, three, two, tree, files, logs, pieces, marks)
+
+-- other base facts
+pub base_fits : (r : Repository) (b : BaseEntry) → IsRepository r → FitsBase r b → IsRepository (with_base r b)
+base_fits r b rules fits =
+    let is = rules.ledger in
+    let l = r.ledger in
+    let m = (with_base r b).ledger in
+    let next = fits.next_id in
+    let later = fits.moment in
+    let threads = fits.threads in
+    record {
+      ledger = record {
+        base = fits.facts;
+        current = fits.current;
+        incarnations = is.incarnations;
+        datafiles = is.datafiles;
+        logs = subst (λ (n : ℕ). All (IsLogEntry l.tree n) l.logs) (sym threads) is.logs;
+        pieces = is.pieces;
+        ids = record {
+          logs = All-weaker (λ (e : LogEntry). (1 ≤ e.id) × (e.id < l.base.next_id)) (λ (e : LogEntry). (1 ≤ e.id) × (e.id < b.next_id)) (λ e was. let high = was.1 in (was.0, omega (arith, high, next))) l.logs is.ids.logs;
+          pieces = All-weaker (λ (e : PieceEntry). (1 ≤ e.id) × (e.id < l.base.next_id)) (λ (e : PieceEntry). (1 ≤ e.id) × (e.id < b.next_id)) (λ e was. let high = was.1 in (was.0, omega (arith, high, next))) l.pieces is.ids.pieces;
+          logs_ascend = is.ids.logs_ascend;
+          pieces_ascend = is.ids.pieces_ascend;
+          apart = is.ids.apart;
+        };
+        marks = record {
+          each = All-weaker (IsMark l.tree l.base.moment) (IsMark l.tree b.moment) (λ (m : Mark) was. let low = was.moment in record { there = was.there; scn = was.scn; moment = omega (arith, low, later) }) l.marks is.marks.each;
+          rise = is.marks.rise;
+          some = is.marks.some;
+        };
+        few = is.few;
+      };
+      saved = saved_kept l m (record { ids = next; threads = omega (arith, threads); files = omega arith; there = λ i there. there }) refl refl r.saved rules.saved;
+    }
+
+-- a later moment
+pub moment_fits : (r : Repository) (moment : ℕ) → IsRepository r → r.ledger.base.moment ≤ moment → moment ≤ last_moment → FitsBase r (record r.ledger.base { moment = moment })
+moment_fits r moment rules kept last =
+    let is = rules.ledger in
+    record {
+      facts = record { dbid = is.base.dbid; threads = is.base.threads; next_id = is.base.next_id; moment = last; policy = is.base.policy; parallelism = is.base.parallelism };
+      current = is.current;
+      threads = refl;
+      next_id = omega arith;
+      moment = kept;
+    }
+
+-- the ends of a tree in which one rose
+ends-up : (tree : List Incarnation) (j end : ℕ) → IsThere tree j → end_of tree j ≤ end → (i : ℕ) → IsThere tree i → end_of tree i ≤ end_of (with_end tree j end) i
+ends-up tree j end there up i is = elim (cases_eq i j) [
+  | inl same ↦ subst (λ k. end_of tree k ≤ end_of (with_end tree j end) k) (sym same) (let e = end_of-with_end tree j end there in omega (arith, up, e))
+  | inr other ↦ let e = end_of-with_end_other tree j end i there is other in omega (arith, e)
+]
+
+last-end : (tree : List Incarnation) (j end last : ℕ) → IsThere tree j → end ≤ last → (i : ℕ) → IsThere tree i → end_of tree i ≤ last → end_of (with_end tree j end) i ≤ last
+last-end tree j end last there low i is was = elim (cases_eq i j) [
+  | inl same ↦ subst (λ k. end_of (with_end tree j end) k ≤ last) (sym same) (let e = end_of-with_end tree j end there in omega (arith, low, e))
+  | inr other ↦ let e = end_of-with_end_other tree j end i there is other in omega (arith, e, was)
+]
+
+trees-same : (tree : List Incarnation) (j end : ℕ) → length (with_end tree j end) ≡ length tree
+trees-same tree j end = length-set tree (j - 1) (record { parent = parent_of tree j; reset = reset_of tree j; end = end })
+
+incarnations_kept : (tree : List Incarnation) (j end : ℕ) → AreIncarnations tree → IsThere tree j → end_of tree j ≤ end → end ≤ last_scn → AreIncarnations (with_end tree j end)
+incarnations_kept tree j end is there up last =
+    let long = trees-same tree j end in
+    let some = is.some in
+    let few = is.few in
+    record {
+      some = omega (arith, long, some);
+      few = omega (arith, long, few);
+      first = parent_of-with_end tree j end 1 there ∙ is.first;
+      branches = λ i later high.
+          let within : i ≤ length tree = omega (arith, long, high) in
+          let b = is.branches i later within in
+          let p = parent_of tree i in
+          let parent : parent_of (with_end tree j end) i ≡ p = parent_of-with_end tree j end i there in
+          let low = b.parent.0 in
+          let under = b.parent.1 in
+          let reset = b.reset in
+          let ends = b.end in
+          let own = reset_of-with_end tree j end i there in
+          let from = ap (reset_of (with_end tree j end)) parent ∙ reset_of-with_end tree j end p there in
+          let to = ap (end_of (with_end tree j end)) parent in
+          let more = ends-up tree j end there up p (low, omega (arith, under, within)) in
+          record { parent = (omega (arith, parent, low), omega (arith, parent, under)); reset = omega (arith, from, own, reset); end = omega (arith, own, to, more, ends) };
+      ranges = λ i has.
+          let was : IsThere tree i = (has.0, (let high = has.1 in omega (arith, long, high))) in
+          let range = is.ranges i was in
+          let one = range.0 in
+          let two = range.1 in
+          let reset = reset_of-with_end tree j end i there in
+          let more = ends-up tree j end there up i was in
+          (omega (arith, one, reset), omega (arith, two, reset, more), last-end tree j end last_scn there last i was range.2);
+    }
+
+-- a datafile stays one that was created
+created-kept : (old new : List Incarnation) → Keeps old new → (d : Datafile) → IsCreated old d → IsCreated new d
+created-kept old new keeps d was =
+    let reset = keeps.reset d.inc was.there in
+    let more = keeps.end d.inc was.there in
+    let low = was.creation.0 in
+    let high = was.creation.1 in
+    record { there = keeps.there d.inc was.there; creation = (omega (arith, reset, low), omega (arith, more, high)); blocks = was.blocks }
+
+-- a higher end
+pub end_fits : (r : Repository) (i end : ℕ) → IsRepository r → IsThere r.ledger.tree i → end_of r.ledger.tree i ≤ end → end ≤ last_scn → IsRepository (with_end_at r i end)
+end_fits r i end rules there up last =
+    let is = rules.ledger in
+    let l = r.ledger in
+    let m = (with_end_at r i end).ledger in
+    let keeps = keeps_end l.tree i end there up in
+    let long = trees-same l.tree i end in
+    let old = many l in
+    let new = many m in
+    let few = is.few in
+    record {
+      ledger = record {
+        base = is.base;
+        current = keeps.there l.base.current is.current;
+        incarnations = incarnations_kept l.tree i end is.incarnations there up last;
+        datafiles = record {
+          each = All-weaker (IsCreated l.tree) (IsCreated m.tree) (created-kept l.tree m.tree keeps) l.files is.datafiles.each;
+          few = is.datafiles.few;
+          room = is.datafiles.room;
+        };
+        logs = All-weaker (IsLogEntry l.tree l.base.threads) (IsLogEntry m.tree l.base.threads) (log_kept l.tree m.tree l.base.threads keeps) l.logs is.logs;
+        pieces = All-weaker (IsPieceEntry l.tree l.files) (IsPieceEntry m.tree l.files) (piece_kept l.tree m.tree l.files l.files keeps (inl refl)) l.pieces is.pieces;
+        ids = is.ids;
+        marks = record {
+          each = All-weaker (IsMark l.tree l.base.moment) (IsMark m.tree l.base.moment) (mark_kept l.tree m.tree l.base.moment l.base.moment keeps (omega arith)) l.marks is.marks.each;
+          rise = is.marks.rise;
+          some = λ k has. is.marks.some k (has.0, (let high = has.1 in omega (arith, long, high)));
+        };
+        few = omega (arith, old, new, few, long);
+      };
+      saved = saved_kept l m (record { ids = omega arith; threads = omega arith; files = omega arith; there = λ k has. keeps.there k has }) refl refl r.saved rules.saved;
+    }
+
+-- one datafile more
+pub file_fits : (r : Repository) (d : Datafile) → IsRepository r → FitsFile r d → IsRepository (with_file r d)
+file_fits r d rules fits =
+    let is = rules.ledger in
+    let l = r.ledger in
+    let m = (with_file r d).ledger in
+    let long = length-append l.files (d ∷ []) in
+    let few = fits.few in
+    let sum = sum_by-append (λ (f : Datafile). f.blocks) l.files (d ∷ []) in
+    let one = sum_by-cons (λ (f : Datafile). f.blocks) d [] in
+    let blocks = fits.blocks in
+    let room = fits.room in
+    let old = many l in
+    let new = many m in
+    record {
+      ledger = record {
+        base = is.base;
+        current = is.current;
+        incarnations = is.incarnations;
+        datafiles = record { each = All-push (IsCreated l.tree) l.files d is.datafiles.each fits.created; few = omega (arith, long, few); room = omega (arith, sum, one, blocks) };
+        logs = is.logs;
+        pieces = All-weaker (IsPieceEntry l.tree l.files) (IsPieceEntry l.tree m.files) (piece_kept l.tree l.tree l.files m.files (same-tree l.tree) (inr (d, refl))) l.pieces is.pieces;
+        ids = is.ids;
+        marks = is.marks;
+        few = omega (arith, old, new, long, room);
+      };
+      saved = saved_kept l m (record { ids = omega arith; threads = omega arith; files = omega (arith, long); there = λ i there. there }) refl refl r.saved rules.saved;
+    }
+  where
+    same-tree : (tree : List Incarnation) → Keeps tree tree
+    same-tree tree = record { there = λ i is. is; reset = λ i is. refl; end = λ i is. omega arith; owners = λ i g is. refl }
+
+-- one mark more among the marks of a tree
+marks-more : (tree : List Incarnation) (latest : ℕ) (marks : List Mark) (m : Mark) → All (IsMark tree latest) marks → All (λ n. n.moment ≤ m.moment) marks → IsMark tree latest m
+    → AllPairs (λ x y. x.moment ≤ y.moment) marks → ((i : ℕ) → IsThere tree i → HasMark (marks ++ m ∷ []) i) → AreMarks tree latest (marks ++ m ∷ [])
+marks-more tree latest marks m each before is rise some = record {
+  each = All-push (IsMark tree latest) marks m each is;
+  rise = pairs_append (λ (x y : Mark). x.moment ≤ y.moment) marks (m ∷ []) rise (λ i j d less lt. absurd (omega (arith, less, lt)))
+      (λ x y has one. All-contains (λ (z : Mark). x.moment ≤ z.moment) (m ∷ []) y (All-cons (λ (z : Mark). x.moment ≤ z.moment) m [] (All-contains (λ (z : Mark). z.moment ≤ m.moment) marks x before has) (All-nil (λ (z : Mark). x.moment ≤ z.moment))) one);
+  some = some;
+}
+
+-- one mark more
+pub mark_fits : (r : Repository) (m : Mark) → IsRepository r → FitsMark r m → IsRepository (with_mark r m)
+mark_fits r n rules fits =
+    let is = rules.ledger in
+    let l = r.ledger in
+    let m = (with_mark r n).ledger in
+    let long = length-append l.marks (n ∷ []) in
+    let room = fits.room in
+    let old = many l in
+    let new = many m in
+    record {
+      ledger = record {
+        base = is.base;
+        current = is.current;
+        incarnations = is.incarnations;
+        datafiles = is.datafiles;
+        logs = is.logs;
+        pieces = is.pieces;
+        ids = is.ids;
+        marks = marks-more l.tree l.base.moment l.marks n is.marks.each fits.moment.0 fits.mark is.marks.rise
+            (λ i there. let h = is.marks.some i there in (h.0, Contains-append_left l.marks (n ∷ []) h.0 h.1, h.2));
+        few = omega (arith, old, new, long, room);
+      };
+      saved = saved_kept l m (record { ids = omega arith; threads = omega arith; files = omega arith; there = λ i there. there }) refl refl r.saved rules.saved;
+    }
+
+-- an incarnation of a tree with one more was there, or is the new one
+old-or-new : (tree : List Incarnation) (p at i : ℕ) → IsThere (with_branch tree p at) i → IsThere tree i ⊎ (i ≡ length tree + 1)
+old-or-new tree p at i there =
+    let low = there.0 in
+    let high = there.1 in
+    let long = length-with_branch tree p at in
+    elim (cases_eq i (length tree + 1)) [ | inl new ↦ inr new | inr other ↦ inl (low, omega (arith, high, long, other)) ]
+
+branched-branch : (tree : List Incarnation) (p at i : ℕ) → AreIncarnations tree → IsThere tree p → reset_of tree p ≤ at → at ≤ end_of tree p → 1 < i → IsThere tree i ⊎ (i ≡ length tree + 1) → IsBranch (with_branch tree p at) i
+branched-branch tree p at i is there low high later (inl was) =
+    let b = is.branches i later was.1 in
+    let parent = parent_of-with_branch tree p at i was in
+    let q = parent_of tree i in
+    let inside = was.1 in
+    let some = b.parent.0 in
+    let under = b.parent.1 in
+    let q_there : IsThere tree q = (some, omega (arith, under, inside)) in
+    let reset = b.reset in
+    let end = b.end in
+    let own = reset_of-with_branch tree p at i was in
+    let from = ap (reset_of (with_branch tree p at)) parent ∙ reset_of-with_branch tree p at q q_there in
+    let to = ap (end_of (with_branch tree p at)) parent ∙ end_of-with_branch tree p at q q_there in
+    record { parent = (omega (arith, parent, some), omega (arith, parent, under)); reset = omega (arith, from, own, reset); end = omega (arith, to, own, end) }
+branched-branch tree p at i is there low high later (inr new) =
+    let n = length tree + 1 in
+    let parent = parent_of-branched tree p at in
+    let one = there.0 in
+    let inside = there.1 in
+    let own = reset_of-branched tree p at in
+    let from = ap (reset_of (with_branch tree p at)) parent ∙ reset_of-with_branch tree p at p there in
+    let to = ap (end_of (with_branch tree p at)) parent ∙ end_of-with_branch tree p at p there in
+    subst (λ (k : ℕ). IsBranch (with_branch tree p at) k) (sym new)
+    (record { parent = (omega (arith, parent, one), omega (arith, parent, inside)); reset = omega (arith, from, own, low); end = omega (arith, to, own, high) })
+
+abbrev IsRange : List Incarnation → ℕ → Type 0
+IsRange tree i = (1 ≤ reset_of tree i) × (reset_of tree i ≤ end_of tree i) × (end_of tree i ≤ last_scn)
+
+branched-range : (tree : List Incarnation) (p at i : ℕ) → AreIncarnations tree → IsThere tree p → reset_of tree p ≤ at → at ≤ end_of tree p → IsThere tree i ⊎ (i ≡ length tree + 1) → IsRange (with_branch tree p at) i
+branched-range tree p at i is there low high (inl was) =
+    let range = is.ranges i was in
+    let one = range.0 in
+    let two = range.1 in
+    let three = range.2 in
+    let reset = reset_of-with_branch tree p at i was in
+    let end = end_of-with_branch tree p at i was in
+    (omega (arith, reset, one), omega (arith, reset, end, two), omega (arith, end, three))
+branched-range tree p at i is there low high (inr new) =
+    let range = is.ranges p there in
+    let one = range.0 in
+    let three = range.2 in
+    let reset = reset_of-branched tree p at in
+    let end = end_of-branched tree p at in
+    subst (IsRange (with_branch tree p at)) (sym new) (omega (arith, reset, one, low), omega (arith, reset, end), omega (arith, end, three, high))
+
+branched-incarnations : (tree : List Incarnation) (p at : ℕ) → AreIncarnations tree → length tree < 256 → IsThere tree p → reset_of tree p ≤ at → at ≤ end_of tree p → AreIncarnations (with_branch tree p at)
+branched-incarnations tree p at is few there low high =
+    let long = length-with_branch tree p at in
+    let some = is.some in
+    record {
+      some = omega (arith, long);
+      few = omega (arith, long, few);
+      first = parent_of-with_branch tree p at 1 (omega arith, omega (arith, some)) ∙ is.first;
+      branches = λ i later inside. branched-branch tree p at i is there low high later (old-or-new tree p at i (omega (arith, later), inside));
+      ranges = λ i has. branched-range tree p at i is there low high (old-or-new tree p at i has);
+    }
+
+-- one incarnation more, with its first mark
+pub branch_fits : (r : Repository) (parent at moment : ℕ) → IsRepository r → FitsBranch r parent at moment → IsRepository (with_incarnation r parent at moment)
+branch_fits r parent at moment rules fits =
+    let is = rules.ledger in
+    let l = r.ledger in
+    let m = (with_incarnation r parent at moment).ledger in
+    let n : Mark = record { moment = moment; inc = length l.tree + 1; scn = at } in
+    let there = fits.there in
+    let keeps = keeps_branch l.tree parent at (parents_below l.tree is.incarnations) there in
+    let long = length-append l.marks (n ∷ []) in
+    let deep = length-with_branch l.tree parent at in
+    let room = fits.room in
+    let old = many l in
+    let new = many m in
+    let reset = reset_of-branched l.tree parent at in
+    let end = end_of-branched l.tree parent at in
+    record {
+      ledger = record {
+        base = is.base;
+        current = keeps.there l.base.current is.current;
+        incarnations = branched-incarnations l.tree parent at is.incarnations fits.few there fits.begins.0 fits.begins.1;
+        datafiles = record { each = All-weaker (IsCreated l.tree) (IsCreated m.tree) (created-kept l.tree m.tree keeps) l.files is.datafiles.each; few = is.datafiles.few; room = is.datafiles.room };
+        logs = All-weaker (IsLogEntry l.tree l.base.threads) (IsLogEntry m.tree l.base.threads) (log_kept l.tree m.tree l.base.threads keeps) l.logs is.logs;
+        pieces = All-weaker (IsPieceEntry l.tree l.files) (IsPieceEntry m.tree l.files) (piece_kept l.tree m.tree l.files l.files keeps (inl refl)) l.pieces is.pieces;
+        ids = is.ids;
+        marks = marks-more m.tree l.base.moment l.marks n
+            (All-weaker (IsMark l.tree l.base.moment) (IsMark m.tree l.base.moment) (mark_kept l.tree m.tree l.base.moment l.base.moment keeps (omega arith)) l.marks is.marks.each)
+            fits.next.0 (record { there = IsThere-branched l.tree parent at; scn = (omega (arith, reset), omega (arith, end)); moment = fits.next.1 }) is.marks.rise
+            (λ i has. first-mark i (old-or-new l.tree parent at i has));
+        few = omega (arith, old, new, long, deep, room);
+      };
+      saved = saved_kept l m (record { ids = omega arith; threads = omega arith; files = omega arith; there = λ i has. keeps.there i has }) refl refl r.saved rules.saved;
+    }
+  where
+    first-mark : (i : ℕ) → IsThere r.ledger.tree i ⊎ (i ≡ length r.ledger.tree + 1) → HasMark (r.ledger.marks ++ record { moment = moment; inc = length r.ledger.tree + 1; scn = at } ∷ []) i
+    first-mark i (inl was) =
+        let n : Mark = record { moment = moment; inc = length r.ledger.tree + 1; scn = at } in
+        let h = rules.ledger.marks.some i was in
+        (h.0, Contains-append_left r.ledger.marks (n ∷ []) h.0 h.1, h.2)
+    first-mark i (inr new) =
+        let n : Mark = record { moment = moment; inc = length r.ledger.tree + 1; scn = at } in
+        (n, Contains-append_right r.ledger.marks (n ∷ []) n (in-front n []), sym new)
+
+-- a log, put
+pub log_fits : (r : Repository) (e : LogEntry) → IsRepository r → FitsLog r e → IsRepository (with_log r e)
+log_fits r e rules fits =
+    let is = rules.ledger in
+    let l = r.ledger in
+    let m = (with_log r e).ledger in
+    let old = many l in
+    let new = many m in
+    let few = is.few in
+    record {
+      ledger = record {
+        base = is.base;
+        current = is.current;
+        incarnations = is.incarnations;
+        datafiles = is.datafiles;
+        logs = all-with (λ x. x.id) (IsLogEntry l.tree l.base.threads) e l.logs is.logs fits.log;
+        pieces = is.pieces;
+        ids = record {
+          logs = all-with (λ x. x.id) (λ (x : LogEntry). (1 ≤ x.id) × (x.id < l.base.next_id)) e l.logs is.ids.logs fits.id.range;
+          pieces = is.ids.pieces;
+          logs_ascend = ascend-with (λ x. x.id) e l.logs is.ids.logs_ascend;
+          pieces_ascend = is.ids.pieces_ascend;
+          apart = λ x p has other.
+              contains-with (λ x. x.id) (λ (x : LogEntry). x.id ≡ p.id → ⊥) e l.logs (λ y was. is.ids.apart y p was other)
+              (λ same. All-contains (λ (q : PieceEntry). q.id ≡ e.id → ⊥) l.pieces p fits.other other (sym same)) x has;
+        };
+        marks = is.marks;
+        few = elim fits.room [
+          | inl was ↦ let short = length-replaced (λ x. x.id) e l.logs was in omega (arith, old, new, few, short)
+          | inr room ↦ let short = length-with (λ x. x.id) e l.logs in omega (arith, old, new, room, short)
+        ];
+      };
+      saved = saved_with r.saved rules.saved fits.id.parts;
+    }
+  where
+    saved_with : (o : Option Saved) → IfSome o (IsSaved r.ledger) → IfSome o (λ s. LacksId (λ p. p.id) e.id s.parts) → IfSome o (IsSaved (with_log r e).ledger)
+    saved_with None none lacks = tt
+    saved_with (Some s) is lacks =
+        site_kept r.ledger (with_log r e).ledger s (record { ids = omega arith; threads = omega arith; files = omega arith; there = λ i there. there }) is
+        (λ x p has other. contains-with (λ x. x.id) (λ (x : LogEntry). x.id ≡ p.id → ⊥) e r.ledger.logs (λ y was. is.logs y p was other)
+        (λ same. All-contains (λ (q : PartEntry). q.id ≡ e.id → ⊥) s.parts p lacks other (sym same)) x has)
+        is.pieces
+
+-- a piece, put
+pub piece_fits : (r : Repository) (e : PieceEntry) → IsRepository r → FitsPiece r e → IsRepository (with_piece r e)
+piece_fits r e rules fits =
+    let is = rules.ledger in
+    let l = r.ledger in
+    let m = (with_piece r e).ledger in
+    let old = many l in
+    let new = many m in
+    let few = is.few in
+    record {
+      ledger = record {
+        base = is.base;
+        current = is.current;
+        incarnations = is.incarnations;
+        datafiles = is.datafiles;
+        logs = is.logs;
+        pieces = all-with (λ x. x.id) (IsPieceEntry l.tree l.files) e l.pieces is.pieces fits.piece;
+        ids = record {
+          logs = is.ids.logs;
+          pieces = all-with (λ x. x.id) (λ (x : PieceEntry). (1 ≤ x.id) × (x.id < l.base.next_id)) e l.pieces is.ids.pieces fits.id.range;
+          logs_ascend = is.ids.logs_ascend;
+          pieces_ascend = ascend-with (λ x. x.id) e l.pieces is.ids.pieces_ascend;
+          apart = λ x p has other.
+              contains-with (λ x. x.id) (λ (y : PieceEntry). x.id ≡ y.id → ⊥) e l.pieces (λ y was. is.ids.apart x y has was)
+              (λ same. All-contains (λ (q : LogEntry). q.id ≡ e.id → ⊥) l.logs x fits.other has same) p other;
+        };
+        marks = is.marks;
+        few = elim fits.room [
+          | inl was ↦ let short = length-replaced (λ x. x.id) e l.pieces was in omega (arith, old, new, few, short)
+          | inr room ↦ let short = length-with (λ x. x.id) e l.pieces in omega (arith, old, new, room, short)
+        ];
+      };
+      saved = saved_with r.saved rules.saved fits.id.parts;
+    }
+  where
+    saved_with : (o : Option Saved) → IfSome o (IsSaved r.ledger) → IfSome o (λ s. LacksId (λ p. p.id) e.id s.parts) → IfSome o (IsSaved (with_piece r e).ledger)
+    saved_with None none lacks = tt
+    saved_with (Some s) is lacks =
+        site_kept r.ledger (with_piece r e).ledger s (record { ids = omega arith; threads = omega arith; files = omega arith; there = λ i there. there }) is
+        is.logs
+        (λ x p has other. contains-with (λ x. x.id) (λ (x : PieceEntry). x.id ≡ p.id → ⊥) e r.ledger.pieces (λ y was. is.pieces y p was other)
+        (λ same. All-contains (λ (q : PartEntry). q.id ≡ e.id → ⊥) s.parts p lacks other (sym same)) x has)
+
+-- a log or a piece, dropped
+pub no_log_fits : (r : Repository) (n : ℕ) → IsRepository r → IsRepository (without_log r n)
+no_log_fits r n rules =
+    let is = rules.ledger in
+    let l = r.ledger in
+    let m = (without_log r n).ledger in
+    let old = many l in
+    let new = many m in
+    let few = is.few in
+    let short = length-without (λ x. x.id) n l.logs in
+    record {
+      ledger = record {
+        base = is.base;
+        current = is.current;
+        incarnations = is.incarnations;
+        datafiles = is.datafiles;
+        logs = all-without (λ x. x.id) (IsLogEntry l.tree l.base.threads) n l.logs is.logs;
+        pieces = is.pieces;
+        ids = record {
+          logs = all-without (λ x. x.id) (λ (x : LogEntry). (1 ≤ x.id) × (x.id < l.base.next_id)) n l.logs is.ids.logs;
+          pieces = is.ids.pieces;
+          logs_ascend = ascend-without (λ x. x.id) n l.logs is.ids.logs_ascend;
+          pieces_ascend = is.ids.pieces_ascend;
+          apart = λ x p has other. contains-without (λ x. x.id) (λ (x : LogEntry). x.id ≡ p.id → ⊥) n l.logs (λ y was. is.ids.apart y p was other) x has;
+        };
+        marks = is.marks;
+        few = omega (arith, old, new, few, short);
+      };
+      saved = saved_without r.saved rules.saved;
+    }
+  where
+    saved_without : (o : Option Saved) → IfSome o (IsSaved r.ledger) → IfSome o (IsSaved (without_log r n).ledger)
+    saved_without None none = tt
+    saved_without (Some s) is =
+        site_kept r.ledger (without_log r n).ledger s (record { ids = omega arith; threads = omega arith; files = omega arith; there = λ i there. there }) is
+        (λ x p has other. contains-without (λ x. x.id) (λ (x : LogEntry). x.id ≡ p.id → ⊥) n r.ledger.logs (λ y was. is.logs y p was other) x has) is.pieces
+
+pub no_piece_fits : (r : Repository) (n : ℕ) → IsRepository r → IsRepository (without_piece r n)
+no_piece_fits r n rules =
+    let is = rules.ledger in
+    let l = r.ledger in
+    let m = (without_piece r n).ledger in
+    let old = many l in
+    let new = many m in
+    let few = is.few in
+    let short = length-without (λ x. x.id) n l.pieces in
+    record {
+      ledger = record {
+        base = is.base;
+        current = is.current;
+        incarnations = is.incarnations;
+        datafiles = is.datafiles;
+        logs = is.logs;
+        pieces = all-without (λ x. x.id) (IsPieceEntry l.tree l.files) n l.pieces is.pieces;
+        ids = record {
+          logs = is.ids.logs;
+          pieces = all-without (λ x. x.id) (λ (x : PieceEntry). (1 ≤ x.id) × (x.id < l.base.next_id)) n l.pieces is.ids.pieces;
+          logs_ascend = is.ids.logs_ascend;
+          pieces_ascend = ascend-without (λ x. x.id) n l.pieces is.ids.pieces_ascend;
+          apart = λ x p has other. contains-without (λ x. x.id) (λ (y : PieceEntry). x.id ≡ y.id → ⊥) n l.pieces (λ y was. is.ids.apart x y has was) p other;
+        };
+        marks = is.marks;
+        few = omega (arith, old, new, few, short);
+      };
+      saved = saved_without r.saved rules.saved;
+    }
+  where
+    saved_without : (o : Option Saved) → IfSome o (IsSaved r.ledger) → IfSome o (IsSaved (without_piece r n).ledger)
+    saved_without None none = tt
+    saved_without (Some s) is =
+        site_kept r.ledger (without_piece r n).ledger s (record { ids = omega arith; threads = omega arith; files = omega arith; there = λ i there. there }) is
+        is.logs (λ x p has other. contains-without (λ x. x.id) (λ (x : PieceEntry). x.id ≡ p.id → ⊥) n r.ledger.pieces (λ y was. is.pieces y p was other) x has)

@@ -1,0 +1,15 @@
+pub mod ByKind
+pub mod Changed
+pub mod Splits
+pub mod Fitted
+pub mod Ledgers
+pub mod Loads
+pub mod Marks
+pub mod Members
+pub mod Ones
+pub mod Saves
+pub mod Takes
+pub mod Things
+pub mod Told
+pub mod Wholes
+pub mod Valid

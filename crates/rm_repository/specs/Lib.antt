@@ -1,0 +1,6 @@
+pub mod Changes
+pub mod Facts
+pub mod Fitting
+pub mod Kinds
+pub mod Loading
+pub mod Repository

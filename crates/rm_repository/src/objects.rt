@@ -1,0 +1,77 @@
+//! Changes of logs and pieces. Each adds the edit that makes the records follow.
+ghost use Rattle.std.specs.Prelude.{◌≡◌, ◌≤◌, OnOk, OnErr};
+ghost use Rattle.rm_repository.specs.Changes.{EditsFollow, with_log, with_piece, without_log, without_piece};
+ghost use Rattle.rm_repository.specs.Fitting.{FitsLog, FitsPiece};
+
+use crate::catalog::Catalog;
+use crate::edits::push;
+use crate::{log_ids, piece_ids};
+use rm_base::NoMemory;
+use rm_catalog::{Edit, Key, LogEntry, PieceEntry, Record};
+use std::alloc::Global;
+
+impl Catalog {
+    /// Puts a log in place of that of its id, or at its place.
+    #[tactic(auto, using(crate::proofs::Changed::follows_log, crate::proofs::Fitted::log_fits))]
+    pub fn put_log(&mut self, edits: &mut Vec<Edit>, log: LogEntry) -> Result<(), NoMemory>
+        requires fits { FitsLog self.old log }
+        ensures after { OnOk result (self.new ≡ with_log self.old log) }
+        ensures edits { OnOk result (EditsFollow edits.old.items edits.new.items self.old self.new) }
+        ensures same { OnErr result (self.new ≡ self.old) }
+        ensures unedited { OnErr result (edits.new.items ≡ edits.old.items) }
+    {
+        edits.reserve(1)?;
+        log_ids::put_log(&mut self.logs, log)?;
+        push(edits, Edit::Put(Record::Log(log)));
+        Ok(())
+    }
+
+    /// Takes away the log of an id, at least 1, if it is there.
+    #[tactic(auto, using(crate::proofs::Fitted::no_log_fits))]
+    pub fn drop_log(&mut self, edits: &mut Vec<Edit>, id: u32) -> Result<(), NoMemory>
+        requires some { 1 ≤ id }
+        ensures after { OnOk result (self.new ≡ without_log self.old id) }
+        ensures edits { OnOk result (EditsFollow edits.old.items edits.new.items self.old self.new) }
+        ensures same { OnErr result (self.new ≡ self.old) }
+        ensures unedited { OnErr result (edits.new.items ≡ edits.old.items) }
+    {
+        edits.push(Edit::Drop(Key { kind: 4, id }))?;
+        log_ids::drop_log(&mut self.logs, id);
+        Ok(())
+    }
+
+    /// Puts a piece in place of that of its id, or at its place.
+    #[tactic(auto, using(crate::proofs::Changed::follows_piece, crate::proofs::Fitted::piece_fits))]
+    pub fn put_piece(
+        &mut self,
+        alloc: Global,
+        edits: &mut Vec<Edit>,
+        piece: PieceEntry,
+    ) -> Result<(), NoMemory>
+        requires fits { FitsPiece self.old piece }
+        ensures after { OnOk result (self.new ≡ with_piece self.old piece) }
+        ensures edits { OnOk result (EditsFollow edits.old.items edits.new.items self.old self.new) }
+        ensures same { OnErr result (self.new ≡ self.old) }
+        ensures unedited { OnErr result (edits.new.items ≡ edits.old.items) }
+    {
+        edits.reserve(1)?;
+        let copy = piece.copy(alloc)?;
+        piece_ids::put_piece(&mut self.pieces, piece)?;
+        push(edits, Edit::Put(Record::Piece(copy)));
+        Ok(())
+    }
+
+    /// Takes away the piece of an id, at least 1, if it is there.
+    #[tactic(auto, using(crate::proofs::Fitted::no_piece_fits))]
+    pub fn drop_piece(&mut self, edits: &mut Vec<Edit>, id: u32) -> Result<(), NoMemory>
+        requires some { 1 ≤ id }
+        ensures after { OnOk result (self.new ≡ without_piece self.old id) }
+        ensures edits { OnOk result (EditsFollow edits.old.items edits.new.items self.old self.new) }
+        ensures same { OnErr result (self.new ≡ self.old) }
+        ensures unedited { OnErr result (edits.new.items ≡ edits.old.items) }
+    {
+        edits.push(Edit::Drop(Key { kind: 5, id }))?;
+        piece_ids::drop_piece(&mut self.pieces, id);
+        Ok(())
+    }
+}
