@@ -22,6 +22,7 @@ pub type Logged = (u32, IncNo, Scn, Scn);
 
 /// What a row has. Incarnation 1 goes from 1 to 9. Where there is a branch, incarnation 2 is the current
 /// one, from there to 9.
+#[derive(Clone, Copy)]
 pub struct Made<'a> {
     pub branch: Option<Scn>,
     pub files: &'a [Created],
@@ -34,6 +35,7 @@ pub struct Made<'a> {
 }
 
 /// A database and what is at hand of it.
+#[derive(Drop)]
 pub struct Site {
     catalog: Catalog,
     evidence: Evidence,
@@ -189,7 +191,7 @@ fn evidence(alloc: Global, made: &Made) -> Result<Evidence, NoMemory> {
 }
 
 /// The database of a row.
-pub fn site(alloc: Global, made: &Made) -> Result<Site, Fail> {
+pub fn site_of(alloc: Global, made: &Made) -> Result<Site, Fail> {
     let evidence = evidence(alloc, made)?;
     match Catalog::from_records(records(alloc, made)?) {
         Ok(catalog) => Ok(Site { catalog, evidence }),

@@ -1,5 +1,5 @@
 //! What keeps a record, and what lets it go.
-use super::made::{Made, are_chosen, are_obsolete, site};
+use super::made::{Made, are_chosen, are_obsolete, site_of};
 use rm_base::{Policy, Scn};
 use std::alloc::Global;
 use std::test::Fail;
@@ -9,14 +9,8 @@ const ONE: Policy = Policy::Redundancy(1);
 const WEEK: Policy = Policy::Window(7);
 
 // Whether exactly these records of the row are obsolete.
-fn go(
-    alloc: Global,
-    made: &Made,
-    policy: Policy,
-    start: Scn,
-    ids: &[u32],
-) -> Result<bool, Fail> {
-    are_obsolete(alloc, &site(alloc, made)?, policy, start, ids)
+fn go(alloc: Global, made: &Made, policy: Policy, start: Scn, ids: &[u32]) -> Result<bool, Fail> {
+    are_obsolete(alloc, &site_of(alloc, made)?, policy, start, ids)
 }
 
 const PLAIN: Made<'static> = Made {
@@ -103,7 +97,7 @@ fn without_a_candidate_all_since_the_creation_stays(rt: HostRuntime) -> Result<(
         ..PLAIN
     };
     assert!(rt; go(rt.alloc(), &made, WEEK, 4, &[1])?);
-    assert!(rt; are_chosen(rt.alloc(), &site(rt.alloc(), &made)?, WEEK, 4, &[])?);
+    assert!(rt; are_chosen(rt.alloc(), &site_of(rt.alloc(), &made)?, WEEK, 4, &[])?);
     Ok(())
 }
 
@@ -113,7 +107,7 @@ fn of_equal_checkpoints_the_greatest_id_is_chosen(rt: HostRuntime) -> Result<(),
         pieces: &[(1, 1, 1, 4, 4), (2, 1, 1, 4, 4), (7, 1, 1, 3, 3)],
         ..PLAIN
     };
-    let site = site(rt.alloc(), &made)?;
+    let site = site_of(rt.alloc(), &made)?;
     assert!(rt; are_chosen(rt.alloc(), &site, ONE, 0, &[2])?);
     assert!(rt; are_chosen(rt.alloc(), &site, WEEK, 4, &[2])?);
     assert!(rt; are_chosen(rt.alloc(), &site, Policy::Redundancy(2), 0, &[1, 2])?);

@@ -25,13 +25,7 @@ fn tree(alloc: Global) -> Result<Tree, Fail> {
 }
 
 // Where a window of so many days starts, if the incarnation is there.
-fn start(
-    tree: &Tree,
-    current: IncNo,
-    days: u32,
-    moment: Moment,
-    marks: &[Mark],
-) -> Option<Scn> {
+fn start(tree: &Tree, current: IncNo, days: u32, moment: Moment, marks: &[Mark]) -> Option<Scn> {
     if tree.get(current).is_none() {
         return None;
     }
@@ -64,7 +58,12 @@ fn or_else_the_first_one(rt: HostRuntime) -> Result<(), Fail> {
 #[test]
 fn only_marks_on_the_current_path(rt: HostRuntime) -> Result<(), Fail> {
     let tree = tree(rt.alloc())?;
-    let marks = [mark(0, 1, 6), mark(0, 1, 2), mark(DAY, 1, 6), mark(5 * DAY, 2, 4)];
+    let marks = [
+        mark(0, 1, 6),
+        mark(0, 1, 2),
+        mark(DAY, 1, 6),
+        mark(5 * DAY, 2, 4),
+    ];
     assert_eq!(rt; start(&tree, 2, 3, 9 * DAY, &marks), Some(4));
     assert_eq!(rt; start(&tree, 2, 7, 9 * DAY, &marks), Some(2));
     assert_eq!(rt; start(&tree, 2, 7, DAY, &marks), Some(2));
