@@ -5,7 +5,9 @@ pub mod copies;
 pub mod deciding;
 pub mod laws;
 pub mod needs;
+pub mod window;
 
 pub use copies::Backup;
 pub use deciding::obsolete;
 pub use needs::chosen;
+pub use window::window_start;

@@ -1,0 +1,6 @@
+//! Worked rows, over made records and artefacts.
+
+mod made;
+mod rows;
+mod table;
+mod windows;
