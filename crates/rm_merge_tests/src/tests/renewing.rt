@@ -49,7 +49,7 @@ fn entry(
         from: piece.from,
         checkpoint: piece.checkpoint,
         high: piece.high,
-        rows: piece.rows.len() as u32,
+        rows: u32::try_from(piece.rows.len()).unwrap_or(0),
         size: bytes.len() as u64,
         sha: digest_of(bytes),
         status,
