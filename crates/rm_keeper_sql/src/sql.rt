@@ -1,11 +1,14 @@
 //! The four texts, and what is asked of a connection.
-ghost use Rattle.std.specs.Prelude.{◌≡◌, [], ◌∷◌, pos, IsTrue, IfOk, OnOk, OnErr};
+ghost use Rattle.std.specs.Prelude.{◌≡◌, [], ◌∷◌, pos, map, All, IsTrue, IfOk, OnOk, OnErr};
 ghost use Rattle.sqlite_value.specs.declared.value.Value.TheVariants.{Int, Blob};
 ghost use Rattle.sqlite.specs.State.{HasCleanDisk, Shown};
 ghost use Rattle.sqlite.specs.Held.{state};
-ghost use Rattle.rm_keeper_sql.specs.Applies.{create_text, select_text, upsert_text, delete_text, text_of, params_of, Ran, MakesAll, Applies, Keeps, Goes};
-
-
+ghost use Rattle.rm_catalog.specs.Keys.{key_of};
+ghost use Rattle.rm_record_bytes.specs.Spelling.{body_of};
+ghost use Rattle.rm_record_bytes.specs.Fits.{Fits};
+ghost use Rattle.rm_keeper_sql.specs.Texts.{create_text, select_text, upsert_text, delete_text, text_of, params_of};
+ghost use Rattle.rm_keeper_sql.specs.Applies.{Ran, MakesAll, Begins, Applies, Keeps, Goes};
+ghost use Rattle.rm_keeper_sql.specs.Loads.{columns, row_of, AreRows, Selects, Loads};
 
 use rm_base::{FormatFault, Seq};
 use rm_catalog::{Edit, KeeperFail, Key, Record};
@@ -30,7 +33,8 @@ const SELECT: &str = "SELECT kind, id, body FROM record WHERE number = ?1 ORDER 
 // The number under which the records stand.
 const NUMBER: u32 = 0;
 
-fn fail_of(error: Error) -> KeeperFail {
+/// Want of memory is no failure.
+pub(crate) fn fail_of(error: Error) -> KeeperFail {
     match error {
         Error::SqliteFailure(ErrorCode::OutOfMemory) => KeeperFail::NoMemory,
         _ => KeeperFail::Failed,
@@ -72,6 +76,7 @@ fn delete<S: Alter>(tx: &mut Transaction<'_, S>, key: Key) -> Result<(), KeeperF
 
 fn select<S: Alter>(tx: &mut Transaction<'_, S>) -> Result<Vec<Row>, KeeperFail>
     ensures same_reference { tx.new.conn.ghost_name ≡ tx.old.conn.ghost_name }
+    ensures clean { HasCleanDisk (state S.Store tx.new.conn.now) → HasCleanDisk (state S.Store tx.old.conn.now) }
     ensures shown { HasCleanDisk (state S.Store tx.new.conn.now) → IfOk result (λ rows. Shown select_text (Int (pos 0) ∷ []) (state S.Store tx.old.conn.now) (state S.Store tx.new.conn.now) rows.items) }
 {
     match tx.query_all(SELECT, params![NUMBER]) {
@@ -80,20 +85,19 @@ fn select<S: Alter>(tx: &mut Transaction<'_, S>) -> Result<Vec<Row>, KeeperFail>
     }
 }
 
-fn commit<S: Alter>(tx: Transaction<'_, S>) -> Result<(), KeeperFail> {
-    let ended = tx.commit();
-    match ended {
-        Ok(()) => Ok(()),
-        Err(error) => Err(fail_of(error)),
-    }
-}
-
-fn fields_of(row: &Row) -> Result<(u32, u32, Vec<u8>), Error> {
+fn fields_of(row: &Row) -> Result<(u32, u32, Vec<u8>), Error>
+    ensures { IfOk result (λ f. columns row.now ≡ Int (pos f.0) ∷ Int (pos f.1) ∷ Blob f.2.items ∷ []) }
+{
     Ok((row.get(0)?, row.get(1)?, row.get(2)?))
 }
 
 // The record of a kind, an id and bytes.
-fn spelled(alloc: Global, kind: u32, id: u32, body: &[u8]) -> Result<Record, KeeperFail> {
+fn spelled(alloc: Global, kind: u32, id: u32, body: &[u8]) -> Result<Record, KeeperFail>
+    ensures kind { IfOk result (λ r. (key_of r).kind ≡ kind) }
+    ensures id { IfOk result (λ r. (key_of r).id ≡ id) }
+    ensures body { IfOk result (λ r. body_of r ≡ body.now) }
+    ensures fits { IfOk result Fits }
+{
     let Ok(kind) = u8::try_from(kind) else {
         return Err(KeeperFail::Failed);
     };
@@ -105,14 +109,19 @@ fn spelled(alloc: Global, kind: u32, id: u32, body: &[u8]) -> Result<Record, Kee
 }
 
 // The record of a row.
-fn record_of(alloc: Global, row: &Row) -> Result<Record, KeeperFail> {
+fn record_of(alloc: Global, row: &Row) -> Result<Record, KeeperFail>
+    ensures row { IfOk result (λ r. columns row.now ≡ row_of r) }
+    ensures fits { IfOk result Fits }
+{
     match fields_of(row) {
         Ok((kind, id, body)) => spelled(alloc, kind, id, &body),
         Err(error) => Err(fail_of(error)),
     }
 }
 
-fn records_of(alloc: Global, rows: &[Row]) -> Result<Seq<Record>, KeeperFail> {
+fn records_of(alloc: Global, rows: &[Row]) -> Result<Seq<Record>, KeeperFail>
+    ensures { IfOk result (λ rs. AreRows rs rows.now) }
+{
     let mut records = Seq::new(alloc);
     for row in rows {
         records.push(record_of(alloc, row)?)?;
@@ -172,22 +181,29 @@ pub(crate) fn apply_to<S: Alter>(
     }
 }
 
-fn rows_in<S: Alter>(conn: &mut Connection<S>) -> Result<Vec<Row>, KeeperFail> {
+// The rows of the table, which one transaction makes where it is missing.
+fn rows_in<S: Alter>(conn: &mut Connection<S>) -> Result<Vec<Row>, KeeperFail>
+    ensures { HasCleanDisk (state S.Store conn.new) → IfOk result (λ rows. Selects S.Store rows.items conn.old (state S.Store conn.new).committed) }
+{
     if !conn.is_autocommit() {
         return Err(KeeperFail::Failed);
     }
     let mut tx = conn.transaction();
     create(&mut tx)?;
     let rows = select(&mut tx)?;
-    commit(tx)?;
-    Ok(rows)
+    match tx.commit() {
+        Ok(()) => Ok(rows),
+        Err(cause) => Err(fail_of(cause)),
+    }
 }
 
-/// The records that the table has, read in one transaction.
+/// The records of the table's rows, read in one transaction, which makes the table where it is missing.
 pub(crate) fn load_from<S: Alter>(
     conn: &mut Connection<S>,
     alloc: Global,
-) -> Result<Seq<Record>, KeeperFail> {
+) -> Result<Seq<Record>, KeeperFail>
+    ensures { HasCleanDisk (state S.Store conn.new) → IfOk result (λ rs. Loads S.Store rs conn.old (state S.Store conn.new).committed) }
+{
     let rows = rows_in(conn)?;
     records_of(alloc, &rows)
 }

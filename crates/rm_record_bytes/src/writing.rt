@@ -162,11 +162,11 @@ fn push_head(out: &mut Vec<u8>, r: &HeadEntry) -> Result<(), NoMemory>
 }
 
 /// The fields of a record without its key.
-pub fn encode_record(alloc: Global, record: &Record) -> Result<Seq<u8>, NoMemory>
-    ensures { IfOk result (λ bytes. bytes ≡ body_of record.now) }
+pub fn encode_record(alloc: Global, entry: &Record) -> Result<Seq<u8>, NoMemory>
+    ensures { IfOk result (λ bytes. bytes ≡ body_of entry.now) }
 {
     let mut out = Vec::new(alloc);
-    match record {
+    match entry {
         Record::Base(r) => push_base(&mut out, r)?,
         Record::Incarnation(r) => push_incarnation(&mut out, r)?,
         Record::Datafile(r) => push_datafile(&mut out, r)?,
