@@ -1,0 +1,10 @@
+//! A store of objects over a directory.
+#![tactic(auto)]
+
+pub mod dir;
+pub mod folder;
+pub mod store;
+
+pub use dir::Dir;
+pub use folder::{Folder, put_whole};
+pub use store::DirStore;

@@ -1,0 +1,34 @@
+-- The four texts that a keeper runs, and what it gives to each.
+use Rattle.std.specs.Prelude.{ℕ, pos, codes, List, [], ◌∷◌}
+use Rattle.sqlite_value.specs.declared.value.Value.TheVariants.{Int, Blob}
+use Rattle.sqlite_value.specs.Order.{Row}
+use Rattle.rm_catalog.specs.declared.record.Edit.{Edit}
+use Rattle.rm_catalog.specs.declared.record.Edit.TheVariants.{Put, Drop}
+use Rattle.rm_catalog.specs.Keys.{key_of}
+use Rattle.rm_record_bytes.specs.Spelling.{body_of}
+
+-- makes the table where it is missing
+abbrev pub create_text : List ℕ
+create_text = codes "CREATE TABLE IF NOT EXISTS record (number INTEGER NOT NULL, kind INTEGER NOT NULL, id INTEGER NOT NULL, body BLOB NOT NULL, PRIMARY KEY (number, kind, id)) STRICT"
+
+-- puts the bytes of a record under its key
+abbrev pub upsert_text : List ℕ
+upsert_text = codes "INSERT INTO record (number, kind, id, body) VALUES (?1, ?2, ?3, ?4) ON CONFLICT (number, kind, id) DO UPDATE SET body = excluded.body"
+
+-- takes away what stands under a key
+abbrev pub delete_text : List ℕ
+delete_text = codes "DELETE FROM record WHERE number = ?1 AND kind = ?2 AND id = ?3"
+
+-- the rows of one number
+abbrev pub select_text : List ℕ
+select_text = codes "SELECT kind, id, body FROM record WHERE number = ?1 ORDER BY kind, id"
+
+-- the text of an edit
+abbrev pub text_of : Edit → List ℕ
+text_of (Put r) = upsert_text
+text_of (Drop k) = delete_text
+
+-- what is given to it: number 0, the key, and the bytes of a record
+abbrev pub params_of : Edit → Row
+params_of (Put r) = Int (pos 0) ∷ Int (pos (key_of r).kind) ∷ Int (pos (key_of r).id) ∷ Blob (body_of r) ∷ []
+params_of (Drop k) = Int (pos 0) ∷ Int (pos k.kind) ∷ Int (pos k.id) ∷ []

@@ -1,0 +1,6 @@
+pub mod Wide
+pub mod Bodies
+pub mod Told
+pub mod Fronts
+pub mod Pieces
+pub mod Records

@@ -1,0 +1,10 @@
+//! The fields of a record as bytes, as the catalog keeps them beside the record's key.
+#![tactic(auto)]
+
+pub mod laws;
+mod numbers;
+pub mod reading;
+pub mod writing;
+
+pub use reading::decode_record;
+pub use writing::encode_record;
