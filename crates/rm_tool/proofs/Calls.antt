@@ -1,8 +1,6 @@
 -- What serving left, of the script that was read and the site that was opened.
-use Rattle.std.proofs.Common.{◌≡◌, ℕ, Bool, List, [], Option, Some, None, refl, sym, subst, ap, ◌∙◌, if◌then◌else◌}
-use Rattle.rm_base.specs.Outside.{Appends}
+use Rattle.std.proofs.Common.{◌≡◌, ℕ, Bool, List, Option, sym, subst}
 use Rattle.rm_base.specs.Store.{Held, Answers}
-use Rattle.rm_base.proofs.Streams.{appends-nothing}
 use Rattle.rm_catalog.specs.declared.record.Record.{Record}
 use Rattle.rm_token.specs.declared.token.Token.{Token}
 use Rattle.rm_token.specs.Statements.{statements}
@@ -10,9 +8,8 @@ use Rattle.rm_site.specs.Holds.{Holds}
 use Rattle.rm_site.specs.Machine.{Machine, nothing}
 use Rattle.rm_site.specs.Opens.{Opens}
 use Rattle.rm_site.specs.View.{View}
-use Rattle.rm_tool.specs.Run.{AreToCome}
-use Rattle.rm_tool.specs.Serving.{FromEach, Serves, Stays, Falls}
-use Rattle.rm_tool.specs.Session.{Script, FromNone, Finishes, Halts, Breaks}
+use Rattle.rm_tool.specs.Serving.{FromEach, Serves, EndsAtStatement, EndsInReplies}
+use Rattle.rm_tool.specs.Session.{Script, FromNone, OfScript}
 
 -- what is so of each machine that the opened site stands for is so of the one without a database
 from-opening : (held held' : Option Held) (kept kept' : Option (List Record)) (v : View) (Is : Machine → Type 0) → held' ≡ held → kept' ≡ kept → Opens held kept v → FromEach held' kept' v Is → FromNone held kept (λ objects. Is (nothing objects))
@@ -21,44 +18,30 @@ from-opening held held' kept kept' v Is held_same kept_same opens each objects h
     each (nothing objects) o.0
     (subst (λ (h : Option Held). Holds h kept' (nothing objects)) (sym held_same) (subst (λ (k : Option (List Record)). Holds held k (nothing objects)) (sym kept_same) o.1))
 
--- nothing was answered yet
-pub nothing-answered : (left rest : Option (List ℕ)) (clock : Option Answers) (before now : Option (List ℕ)) (script : List ℕ) (objects : Held) → Script left rest script → now ≡ before → Halts left rest clock before now objects
-nothing-answered left rest clock before now script objects read silent =
-    let to-come = answers-of clock in
+-- What is so of the statements and each machine that the opened site stands for is so of the script, from no
+-- database on. The script was read and cut into statements, and the site was opened over what there was, without
+-- a word to the sink: P speaks of what the sink held.
+of-script : (P : Option (List ℕ) → List (ℕ × List Token) → Machine → Type 0) (left rest : Option (List ℕ)) (before mid : Option (List ℕ)) (held held' : Option Held) (kept kept' : Option (List Record)) (v : View) (ss : List (ℕ × List Token)) (script : List ℕ)
+    → Script left rest script → ss ≡ statements script → mid ≡ before → held' ≡ held → kept' ≡ kept → Opens held kept v
+    → FromEach held' kept' v (P mid ss) → FromNone held kept (OfScript left rest (P before))
+of-script P left rest before mid held held' kept kept' v ss script read cut silent held_same kept_same opens each objects held_is kept_is =
     record {
-      replies = [];
-      answered = record { script = script; read = read; answers = to-come.0; told = to-come.1; count = 0; last = nothing objects; run = refl };
-      written = subst (λ o. Appends before o []) (sym silent) (appends-nothing before);
+      script = script;
+      read = read;
+      is =
+          subst (λ (b : Option (List ℕ)). P b (statements script) (nothing objects)) silent
+          (subst (λ (ts : List (ℕ × List Token)). P mid ts (nothing objects)) cut
+          (from-opening held held' kept kept' v (P mid ss) held_same kept_same opens each objects held_is kept_is));
     }
-  where
-    answers-of : (told : Option Answers) → (answers : Answers) × AreToCome told answers
-    answers-of None = ((λ i. 0), tt)
-    answers-of (Some coming) = (coming, λ i. refl)
 
--- The script was read and cut into statements, and the site was opened over what there was, without a word
--- to the sink.
-module _ (left rest : Option (List ℕ)) (clock : Option Answers) (before mid now : Option (List ℕ)) (held held' : Option Held) (kept kept' : Option (List Record)) (v : View) (ss : List (ℕ × List Token)) (script : List ℕ)
+-- The same of what serving the statements leaves.
+module _ (left rest : Option (List ℕ)) (clock : Option Answers) (before mid now : Option (List ℕ)) (held held' last_held : Option Held) (kept kept' last_kept : Option (List Record)) (v : View) (ss : List (ℕ × List Token)) (script : List ℕ)
     (read : Script left rest script) (cut : ss ≡ statements script) (silent : mid ≡ before) (held_same : held' ≡ held) (kept_same : kept' ≡ kept) (opens : Opens held kept v) where
-  -- what serving left of the statements, as of the script
-  of-script : (P : List (ℕ × List Token) → Option (List ℕ) → Type 0) → P ss mid → P (statements script) before
-  of-script P p = subst (P (statements script)) silent (subst (λ ts. P ts mid) cut p)
+  pub serves-script : (refused : Bool) → FromEach held' kept' v (Serves clock mid now last_held last_kept refused ss) → FromNone held kept (OfScript left rest (Serves clock before now last_held last_kept refused))
+  serves-script refused = of-script (λ b. Serves clock b now last_held last_kept refused) left rest before mid held held' kept kept' v ss script read cut silent held_same kept_same opens
 
-  pub finishes-at : {status : ℕ} (last_held : Option Held) (last_kept : Option (List Record)) (refused : Bool) → status ≡ (if refused then 1 else 0)
-      → FromEach held' kept' v (Serves ss clock mid now last_held last_kept refused) → FromNone held kept (Finishes left rest clock before now last_held last_kept status)
-  finishes-at last_held last_kept refused status each objects held_is kept_is =
-      let t : Serves (statements script) clock before now last_held last_kept refused (nothing objects) =
-      of-script (λ ts b. Serves ts clock b now last_held last_kept refused (nothing objects))
-      (from-opening held held' kept kept' v (Serves ss clock mid now last_held last_kept refused) held_same kept_same opens each objects held_is kept_is) in
-      record { script = script; read = read; answers = t.answers; told = t.told; replies = t.replies; last = t.last; run = t.run; written = t.written; tells = status ∙ ap (λ (b : Bool). if b then 1 else 0) t.some; holds = t.holds }
+  pub ends-at-statement : FromEach held' kept' v (EndsAtStatement clock mid now last_held last_kept ss) → FromNone held kept (OfScript left rest (EndsAtStatement clock before now last_held last_kept))
+  ends-at-statement = of-script (λ b. EndsAtStatement clock b now last_held last_kept) left rest before mid held held' kept kept' v ss script read cut silent held_same kept_same opens
 
-  pub halts-at : FromEach held' kept' v (Stays ss clock mid now) → FromNone held kept (Halts left rest clock before now)
-  halts-at each objects held_is kept_is =
-      let t : Stays (statements script) clock before now (nothing objects) =
-      of-script (λ ts b. Stays ts clock b now (nothing objects)) (from-opening held held' kept kept' v (Stays ss clock mid now) held_same kept_same opens each objects held_is kept_is) in
-      record { replies = t.replies; answered = record { script = script; read = read; answers = t.begun.answers; told = t.begun.told; count = t.begun.count; last = t.begun.last; run = t.begun.run }; written = t.written }
-
-  pub breaks-at : FromEach held' kept' v (Falls ss clock mid now) → FromNone held kept (Breaks left rest clock before now)
-  breaks-at each objects held_is kept_is =
-      let t : Falls (statements script) clock before now (nothing objects) =
-      of-script (λ ts b. Falls ts clock b now (nothing objects)) (from-opening held held' kept kept' v (Falls ss clock mid now) held_same kept_same opens each objects held_is kept_is) in
-      record { replies = t.replies; answered = record { script = script; read = read; answers = t.begun.answers; told = t.begun.told; count = t.begun.count; last = t.begun.last; run = t.begun.run }; written = t.written }
+  pub ends-in-replies : FromEach held' kept' v (EndsInReplies clock mid now last_held last_kept ss) → FromNone held kept (OfScript left rest (EndsInReplies clock before now last_held last_kept))
+  ends-in-replies = of-script (λ b. EndsInReplies clock b now last_held last_kept) left rest before mid held held' kept kept' v ss script read cut silent held_same kept_same opens

@@ -1,5 +1,5 @@
 -- A run goes on by one statement.
-use Rattle.std.proofs.Common.{◌≡◌, ◌+◌, ◌∙◌, ◌++◌, ◌||◌, ℕ, zero, suc, List, [], ◌∷◌, Option, Some, None, IfSome, Bool, false, refl, ap, sym, subst, arith, append-nil, append_assoc, take, drop, length}
+use Rattle.std.proofs.Common.{◌≡◌, ◌+◌, ◌∙◌, ◌++◌, ◌||◌, ℕ, zero, suc, List, [], ◌∷◌, Option, Some, None, IfSome, Bool, false, refl, ap, sym, subst, arith, append-nil, append_assoc, slice_get, take, drop, length}
 use Rattle.std.specs.List.{list_any}
 use Rattle.std.proofs.lemmas.Grind.{flat_map-append}
 use Rattle.std.proofs.lemmas.List.{length-append}
@@ -19,16 +19,15 @@ use Rattle.rm_site.specs.Holds.{Holds}
 use Rattle.rm_site.specs.Machine.{Machine}
 use Rattle.rm_site.specs.View.{View, Stands}
 use Rattle.rm_tool.specs.Ends.{WritesFront}
-use Rattle.rm_tool.specs.Run.{StepOf, StatementStep, past, Run, AreToCome}
-use Rattle.rm_tool.specs.Serving.{IsPast, IsServed, Serves, Stays, Falls}
-use Rattle.rm_tool.specs.Session.{replies_text}
+use Rattle.rm_tool.specs.Run.{StepOf, StatementStep, past, behind, Run, AreToCome, replies_text}
+use Rattle.rm_tool.specs.Serving.{IsPast, IsServed, IsCut, IsCutShort, Serves, EndsAtStatement, EndsInReplies}
 
 -- a run over these statements, from one machine on to another, as far as it came: each run that goes on from there
 -- is one from the beginning, at the answers of the clock
 abbrev pub Extends : Machine → Option Answers → List (ℕ × List Token) → List Reply → Machine → Option Answers → Type 0
 Extends first told ss rs mid now =
     (answers : Answers) → AreToCome now answers → (ts : List (ℕ × List Token)) → (qs : List Reply) → (last : Machine) → Run mid answers ts qs last
-    → (all : Answers) × AreToCome told all × Run first all (ss ++ ts) (rs ++ qs) last
+    → (all : Answers) × AreToCome told all × Run first all (ss ++ ts) (rs ++ qs) last × (behind ss all ≡ answers)
 
 -- a run over these statements from one machine on to one that the site stands for, whose replies were written
 pub record Progress (ss : List (ℕ × List Token)) (told now : Option Answers) (before written : Option (List ℕ)) (held : Option Held) (kept : Option (List Record)) (site : View) (refused : Bool) (first : Machine) : Type 0 where
@@ -68,14 +67,23 @@ told-from (Some c) a f (Some b) (Some l) next passed told = at
     at zero = next
     at (suc i) = told i ∙ passed i
 
+-- the answers behind two lists of statements
+behind-both : (ss ts : List (ℕ × List Token)) (f : Answers) → behind (ss ++ ts) f ≡ behind ts (behind ss f)
+behind-both [] ts f = refl
+behind-both (s ∷ ss) ts f = behind-both ss ts (past (command_at s.1) f)
+
 -- one statement more
 extends-more : (first : Machine) (told now later : Option Answers) (ss : List (ℕ × List Token)) (rs : List Reply) (mid new : Machine) (s : ℕ × List Token) (r : Reply) (a : ℕ) → Extends first told ss rs mid now → IfSome now (λ coming. a ≡ coming 0) → Both (IsPast (command_at s.1)) now later → StatementStep mid s a r new → Extends first told (ss ++ s ∷ []) (rs ++ r ∷ []) new later
 extends-more first told now later ss rs mid new s r a extends next passed step = λ answers come ts qs last run.
     let o : Option Command = command_at s.1 in
     let rest : Run new (past o (from o a answers)) ts qs last = subst (λ (f : Answers). Run new f ts qs last) (sym (past-from o a answers)) run in
     let all = extends (from o a answers) (told-from o a answers now later next passed come) (s ∷ ts) (r ∷ qs) last (new, step-from o mid new s.0 a answers r step, rest) in
-    let seamed : Run first all.0 ((ss ++ s ∷ []) ++ ts) (rs ++ (r ∷ qs)) last = subst (λ (us : List (ℕ × List Token)). Run first all.0 us (rs ++ (r ∷ qs)) last) (sym (append_assoc ss (s ∷ []) ts)) all.2 in
-    (all.0, all.1, subst (λ (us : List Reply). Run first all.0 ((ss ++ s ∷ []) ++ ts) us last) (sym (append_assoc rs (r ∷ []) qs)) seamed)
+    let seamed : Run first all.0 ((ss ++ s ∷ []) ++ ts) (rs ++ (r ∷ qs)) last = subst (λ (us : List (ℕ × List Token)). Run first all.0 us (rs ++ (r ∷ qs)) last) (sym (append_assoc ss (s ∷ []) ts)) all.2 in (
+      all.0,
+      all.1,
+      subst (λ (us : List Reply). Run first all.0 ((ss ++ s ∷ []) ++ ts) us last) (sym (append_assoc rs (r ∷ []) qs)) seamed,
+      behind-both ss (s ∷ []) all.0 ∙ ap (past o) all.3 ∙ past-from o a answers,
+    )
 
 any-push : (rs : List Reply) (r : Reply) → list_any (λ q. q.refused) (rs ++ r ∷ []) ≡ (list_any (λ q. q.refused) rs || r.refused)
 any-push rs r = list_any-append (λ (q : Reply). q.refused) rs (r ∷ []) ∙ ap (λ b. list_any (λ (q : Reply). q.refused) rs || b) (or-false r.refused)
@@ -89,7 +97,7 @@ progress-none told o held kept site first stands holds =
     record {
       replies = [];
       mid = first;
-      extends = λ answers come ts qs last run. (answers, come, run);
+      extends = λ answers come ts qs last run. (answers, come, run, refl);
       stands = stands;
       holds = holds;
       appends = appends-nothing o;
@@ -141,24 +149,38 @@ come-from : (now : Option Answers) → AreToCome now (answers_from now)
 come-from None = tt
 come-from (Some coming) = λ i. refl
 
--- the run ends here
-extends-ends : (first : Machine) (told now : Option Answers) (ss : List (ℕ × List Token)) (rs : List Reply) (mid : Machine) → Extends first told ss rs mid now → (all : Answers) × AreToCome told all × Run first all ss rs mid
-extends-ends first told now ss rs mid extends =
-    let all = extends (answers_from now) (come-from now) [] [] mid refl in
+-- answers that a clock may give from here on, of which this is the next
+answers-with : (now : Option Answers) (a : ℕ) → IfSome now (λ coming. a ≡ coming 0) → (f : Answers) × AreToCome now f × (f 0 ≡ a)
+answers-with None a next = ((λ i. a), tt, refl)
+answers-with (Some coming) a next = (coming, (λ i. refl), sym next)
+
+-- the run ends here, where the clock may give these answers
+extends-ends : (first : Machine) (told now : Option Answers) (ss : List (ℕ × List Token)) (rs : List Reply) (mid : Machine) (answers : Answers) → AreToCome now answers → Extends first told ss rs mid now → (all : Answers) × AreToCome told all × Run first all ss rs mid × (behind ss all ≡ answers)
+extends-ends first told now ss rs mid answers come extends =
+    let all = extends answers come [] [] mid refl in
     let short : Run first all.0 ss (rs ++ []) mid = subst (λ (us : List (ℕ × List Token)). Run first all.0 us (rs ++ []) mid) (append-nil ss) all.2 in
-    (all.0, all.1, subst (λ (us : List Reply). Run first all.0 ss us mid) (append-nil rs) short)
+    (all.0, all.1, subst (λ (us : List Reply). Run first all.0 ss us mid) (append-nil rs) short, all.3)
 
 -- all statements were served
-pub progress-serves : (ss : List (ℕ × List Token)) (told now : Option Answers) (before written : Option (List ℕ)) (held : Option Held) (kept : Option (List Record)) (site : View) (refused : Bool) (first : Machine) → Progress ss told now before written held kept site refused first → Serves ss told before written held kept refused first
+pub progress-serves : (ss : List (ℕ × List Token)) (told now : Option Answers) (before written : Option (List ℕ)) (held : Option Held) (kept : Option (List Record)) (site : View) (refused : Bool) (first : Machine) → Progress ss told now before written held kept site refused first → Serves told before written held kept refused ss first
 progress-serves ss told now before written held kept site refused first p =
-    let all = extends-ends first told now ss p.replies p.mid p.extends in
+    let all = extends-ends first told now ss p.replies p.mid (answers_from now) (come-from now) p.extends in
     record { answers = all.0; told = all.1; replies = p.replies; last = p.mid; run = all.2; holds = p.holds; written = p.appends; some = p.some }
 
--- the statement i was not answered
-pub progress-stays : (ss : List (ℕ × List Token)) (i : ℕ) (told now : Option Answers) (before written : Option (List ℕ)) (held : Option Held) (kept : Option (List Record)) (site : View) (refused : Bool) (first : Machine) → Progress (take i ss) told now before written held kept site refused first → Stays ss told before written first
-progress-stays ss i told now before written held kept site refused first p =
-    let all = extends-ends first told now (take i ss) p.replies p.mid p.extends in
-    record { replies = p.replies; begun = record { answers = all.0; told = all.1; count = i; last = p.mid; run = all.2 }; written = p.appends }
+-- the statement i was cut short
+pub progress-cut : (ss : List (ℕ × List Token)) (i : ℕ) (s : ℕ × List Token) (told now : Option Answers) (before written : Option (List ℕ)) (held held' : Option Held) (kept kept' : Option (List Record)) (site : View) (refused : Bool) (first : Machine) → slice_get ss i ≡ Some s → Progress (take i ss) told now before written held kept site refused first → IsCutShort held kept site now s held' kept' → EndsAtStatement told before written held' kept' ss first
+progress-cut ss i s told now before written held held' kept kept' site refused first there p short =
+    let f = answers-with now short.answer short.next in
+    let all = extends-ends first told now (take i ss) p.replies p.mid f.0 f.1 p.extends in
+    record {
+      replies = p.replies;
+      last = p.mid;
+      begun = record { answers = all.0; told = all.1; count = i; run = all.2 };
+      written = p.appends;
+      statement = s;
+      next = there;
+      cut = subst (λ (a : ℕ). IsCut p.mid s a held' kept') (sym (ap (λ (g : Answers). g 0) all.3 ∙ f.2)) (short.cut p.mid p.stands p.holds);
+    }
 
 -- a front of a text behind another
 take-behind : (xs ys : List ℕ) (n : ℕ) → take (length xs + n) (xs ++ ys) ≡ xs ++ take n ys
@@ -172,11 +194,13 @@ front-behind before now after xs ys h (n, within, k) = (
 )
 
 -- the sink failed in the reply to a statement
-pub reached-falls : (ss : List (ℕ × List Token)) (n : ℕ) (told now : Option Answers) (before written after : Option (List ℕ)) (held : Option Held) (kept : Option (List Record)) (site : View) (refused : Bool) (r : Reply) (first : Machine) → Reached (take n ss) told now before written held kept site refused r first → WritesFront written after (reply_text r) → Falls ss told before after first
-reached-falls ss n told now before written after held kept site refused r first p front =
-    let all = extends-ends first told now (take n ss) (p.replies ++ r ∷ []) p.mid p.extends in
+pub reached-ends : (ss : List (ℕ × List Token)) (n : ℕ) (told now : Option Answers) (before written after : Option (List ℕ)) (held : Option Held) (kept : Option (List Record)) (site : View) (refused : Bool) (r : Reply) (first : Machine) → Reached (take n ss) told now before written held kept site refused r first → WritesFront written after (reply_text r) → EndsInReplies told before after held kept ss first
+reached-ends ss n told now before written after held kept site refused r first p front =
+    let all = extends-ends first told now (take n ss) (p.replies ++ r ∷ []) p.mid (answers_from now) (come-from now) p.extends in
     record {
       replies = p.replies ++ r ∷ [];
-      begun = record { answers = all.0; told = all.1; count = n; last = p.mid; run = all.2 };
+      last = p.mid;
+      begun = record { answers = all.0; told = all.1; count = n; run = all.2 };
       written = subst (WritesFront before after) (sym (text-push p.replies r)) (front-behind before written after (replies_text p.replies) (reply_text r) p.appends front);
+      holds = p.holds;
     }

@@ -1,5 +1,6 @@
 -- The machine's run over the statements of a script, and the clock's answers to them.
 use Rattle.std.specs.Prelude.{ℕ, suc, ◌≡◌, Option, Some, None, IfSome, List, [], ◌∷◌}
+use Rattle.std.specs.List.{flat_map}
 use Rattle.rm_base.specs.Store.{Answers}
 use Rattle.rm_base.specs.declared.refusal.Refusal.TheVariants.{Rm01}
 use Rattle.rm_token.specs.declared.token.Token.{Token}
@@ -7,6 +8,7 @@ use Rattle.rm_lang.specs.declared.command.Command.{Command}
 use Rattle.rm_lang.specs.Language.{command_at}
 use Rattle.rm_report.specs.declared.line.Reply.{Reply}
 use Rattle.rm_report.specs.Reply.{refused_by}
+use Rattle.rm_report.specs.Text.{reply_text}
 use Rattle.rm_site.specs.Machine.{Machine}
 use Rattle.rm_site.specs.Step.{Step}
 
@@ -33,6 +35,15 @@ Run old answers (s ∷ ss) (r ∷ rs) new =
 Run old answers [] (r ∷ rs) new = ⊥
 Run old answers (s ∷ ss) [] new = ⊥
 
+-- the answers behind those that these statements use
+abbrev pub behind : List (ℕ × List Token) → Answers → Answers
+behind [] answers = answers
+behind (s ∷ ss) answers = behind ss (past (command_at s.1) answers)
+
 -- where the clock tells its answers to come, they are these
 abbrev pub AreToCome : Option Answers → Answers → Type 0
 AreToCome told answers = IfSome told (λ coming. (i : ℕ) → answers i ≡ coming i)
+
+-- the texts of the replies, one after another
+abbrev pub replies_text : List Reply → List ℕ
+replies_text replies = flat_map reply_text replies

@@ -2,7 +2,7 @@
 ghost use Rattle.std.specs.Prelude.{◌≡◌, ◌≤◌, [], true, IfOk, OnOk, IsErrOf, IfSome};
 ghost use Rattle.rm_base.specs.Outside.{Rose};
 ghost use Rattle.rm_site.specs.Opens.{Opens};
-ghost use Rattle.rm_tool.specs.Session.{Tells, FallsShort, bad_record};
+ghost use Rattle.rm_tool.specs.Session.{WritesBadRecord, BeginsBadRecord, bad_record};
 
 use crate::ends::write_all;
 use rm_base::{Failed, NoMemory, Sink, Store, Text};
@@ -68,8 +68,8 @@ pub fn open_site<K: Sink, D: Store, C: Keeper>(
 
     // What was written.
     ensures ok { OnOk result (K.contents sink.new ≡ K.contents sink.old) }
-    ensures bad { IsErrOf result Unopened.BadRecord → Tells (C.kept keeper.old) (K.contents sink.old) (K.contents sink.new) }
-    ensures sink { IsErrOf result Unopened.Sink → FallsShort (C.kept keeper.old) (K.contents sink.old) (K.contents sink.new) }
+    ensures bad { IsErrOf result Unopened.BadRecord → WritesBadRecord (C.kept keeper.old) (K.contents sink.old) (K.contents sink.new) }
+    ensures sink { IsErrOf result Unopened.Sink → BeginsBadRecord (C.kept keeper.old) (K.contents sink.old) (K.contents sink.new) }
     ensures store { IsErrOf result Unopened.Store → K.contents sink.new ≡ K.contents sink.old }
     ensures keeper { IsErrOf result Unopened.Keeper → K.contents sink.new ≡ K.contents sink.old }
     ensures memory { IsErrOf result Unopened.NoMemory → K.contents sink.new ≡ K.contents sink.old }

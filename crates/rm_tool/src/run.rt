@@ -3,7 +3,7 @@ ghost use Rattle.std.specs.Prelude.{◌≡◌, ◌≢◌, ◌<◌, ◌⊎◌, �
 ghost use Rattle.rm_base.specs.Outside.{Appends, Rose};
 ghost use Rattle.rm_catalog.specs.declared.record.Record.{Record};
 ghost use Rattle.rm_tool.specs.Ends.{Counted, TakesMany};
-ghost use Rattle.rm_tool.specs.Session.{Script, Finishes, Halts, HaltsBy, Falters, Tells, FromNone, IsDone, IsEarly, AreSame, bad_words, over_long};
+ghost use Rattle.rm_tool.specs.Session.{Script, Finishes, EndsEarly, WritesPart, WritesBadRecord, FromNone, IsDone, IsEarly, AreSame, bad_words, over_long};
 ghost use Rattle.rm_tool.specs.Words.{accepts};
 
 use crate::ends::{ReadFault, read_all, write_all};
@@ -48,20 +48,20 @@ pub fn run<S: Source, K: Sink, D: Store, C: Keeper, T: Clock>(
     ensures words_only { accepts words.now ≡ false → (result ≡ 2) ⊎ (result ≡ 4) }
     ensures words_first { accepts words.now ≡ false → source.new ≡ source.old }
 
-    // 3 and 4: only where the count of that object rose, and what was written then.
+    // 3 and 4: only where the count of that object rose, and what was written and done then.
     ensures source { result ≡ 3 → Rose (S.faults source.old) (S.faults source.new) }
     ensures source_written { result ≡ 3 → K.contents sink.new ≡ K.contents sink.old }
     ensures sink { result ≡ 4 → Rose (K.faults sink.old) (K.faults sink.new) }
-    ensures sink_written { result ≡ 4 → Falters words.now (S.left source.old) (S.left source.new) (T.answers clock.old) (K.contents sink.old) (K.contents sink.new) (D.held store.old) (C.kept keeper.old) }
+    ensures sink_written { result ≡ 4 → WritesPart words.now (S.left source.old) (S.left source.new) (T.answers clock.old) (K.contents sink.old) (K.contents sink.new) (D.held store.old) (C.kept keeper.old) (D.held store.new) (C.kept keeper.new) }
 
-    // 5 and 6: only where the count of that object rose, and what was written then.
+    // 5 and 6: only where the count of that object rose, and what was written and done then.
     ensures store { result ≡ 5 → Rose (D.faults store.old) (D.faults store.new) }
-    ensures store_written { result ≡ 5 → FromNone (D.held store.old) (C.kept keeper.old) (Halts (S.left source.old) (S.left source.new) (T.answers clock.old) (K.contents sink.old) (K.contents sink.new)) }
+    ensures store_written { result ≡ 5 → EndsEarly (S.left source.old) (S.left source.new) (T.answers clock.old) (K.contents sink.old) (K.contents sink.new) (D.held store.old) (C.kept keeper.old) (D.held store.new) (C.kept keeper.new) }
     ensures keeper { result ≡ 6 → Rose (C.faults keeper.old) (C.faults keeper.new) }
-    ensures keeper_written { result ≡ 6 → HaltsBy (S.left source.old) (S.left source.new) (T.answers clock.old) (K.contents sink.old) (K.contents sink.new) (D.held store.old) (C.kept keeper.old) (D.held store.new) (C.kept keeper.new) }
+    ensures keeper_written { result ≡ 6 → EndsEarly (S.left source.old) (S.left source.new) (T.answers clock.old) (K.contents sink.old) (K.contents sink.new) (D.held store.old) (C.kept keeper.old) (D.held store.new) (C.kept keeper.new) }
 
-    // 7: what was written.
-    ensures memory_written { result ≡ 7 → HaltsBy (S.left source.old) (S.left source.new) (T.answers clock.old) (K.contents sink.old) (K.contents sink.new) (D.held store.old) (C.kept keeper.old) (D.held store.new) (C.kept keeper.new) }
+    // 7: what was written and done.
+    ensures memory_written { result ≡ 7 → EndsEarly (S.left source.old) (S.left source.new) (T.answers clock.old) (K.contents sink.old) (K.contents sink.new) (D.held store.old) (C.kept keeper.old) (D.held store.new) (C.kept keeper.new) }
 
     // 8: exactly where more than the limit was taken, and its line was written.
     ensures long { result ≡ 8 → Counted (S.taken source.old) → TakesMany (S.taken source.old) (S.taken source.new) }
@@ -70,7 +70,7 @@ pub fn run<S: Source, K: Sink, D: Store, C: Keeper, T: Clock>(
     ensures long_only { Counted (S.taken source.old) → TakesMany (S.taken source.old) (S.taken source.new) → Contains (8 ∷ 4 ∷ 7 ∷ []) result }
 
     // 9: exactly where the keeper has a record, and the line of the first was written.
-    ensures bad { result ≡ 9 → Tells (C.kept keeper.old) (K.contents sink.old) (K.contents sink.new) }
+    ensures bad { result ≡ 9 → WritesBadRecord (C.kept keeper.old) (K.contents sink.old) (K.contents sink.new) }
     ensures bad_only { (rs : List Record) → accepts words.now ≡ true → Counted (S.taken source.old) → ¬ TakesMany (S.taken source.old) (S.taken source.new) → C.kept keeper.old ≡ Some rs → rs ≢ [] → Contains (9 ∷ 4 ∷ 3 ∷ 6 ∷ 7 ∷ []) result }
 
     // At 2, 3, 8 and 9 no statement ran.

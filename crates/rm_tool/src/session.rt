@@ -1,8 +1,8 @@
 //! A run over the statements of a script.
-ghost use Rattle.std.specs.Prelude.{◌≡◌, ◌≤◌, true, IfOk, OnOk, IsErrOf};
+ghost use Rattle.std.specs.Prelude.{◌≡◌, ◌≤◌, true, IfOk, OnOk, OnErr, IsErrOf};
 ghost use Rattle.rm_base.specs.Outside.{Rose};
 ghost use Rattle.rm_change.specs.declared.change.Stop.TheVariants.{StoreFault, KeeperFault};
-ghost use Rattle.rm_tool.specs.Serving.{IsServed, FromEach, Serves, Falls, Stays};
+ghost use Rattle.rm_tool.specs.Serving.{IsServed, IsCutShort, FromEach, Serves, EndsAtStatement, EndsInReplies};
 
 use crate::ends::write_all;
 use rm_base::{Clock, Failed, NoMemory, Refusal, Seq, Sink, Store};
@@ -72,6 +72,7 @@ fn serve<D: Store, C: Keeper, T: Clock>(
     requires live { site.old.live ≡ true }
     ensures live { OnOk result (site.new.live ≡ true) }
     ensures served { IfOk result (λ reply. IsServed (D.held store.old) (C.kept keeper.old) site.old (T.answers clock.old) (line, tokens.now) reply (D.held store.new) (C.kept keeper.new) site.new (T.answers clock.new)) }
+    ensures cut { OnErr result (IsCutShort (D.held store.old) (C.kept keeper.old) site.old (T.answers clock.old) (line, tokens.now) (D.held store.new) (C.kept keeper.new)) }
     ensures store { IsErrOf result StoreFault → Rose (D.faults store.old) (D.faults store.new) }
     ensures keeper { IsErrOf result KeeperFault → Rose (C.faults keeper.old) (C.faults keeper.new) }
     ensures store_never_falls { D.faults store.old ≤ D.faults store.new }
@@ -98,13 +99,13 @@ pub fn serve_all<K: Sink, D: Store, C: Keeper, T: Clock>(
     statements: &[(u32, Seq<Token>)],
 ) -> Result<bool, Halt>
     requires live { site.live ≡ true }
-    ensures ok { IfOk result (λ refused. FromEach (D.held store.old) (C.kept keeper.old) site (Serves statements.now (T.answers clock.old) (K.contents sink.old) (K.contents sink.new) (D.held store.new) (C.kept keeper.new) refused)) }
+    ensures ok { IfOk result (λ refused. FromEach (D.held store.old) (C.kept keeper.old) site (Serves (T.answers clock.old) (K.contents sink.old) (K.contents sink.new) (D.held store.new) (C.kept keeper.new) refused statements.now)) }
 
-    // What was written where it ended early.
-    ensures sink { IsErrOf result Halt.Sink → FromEach (D.held store.old) (C.kept keeper.old) site (Falls statements.now (T.answers clock.old) (K.contents sink.old) (K.contents sink.new)) }
-    ensures store { IsErrOf result Halt.Store → FromEach (D.held store.old) (C.kept keeper.old) site (Stays statements.now (T.answers clock.old) (K.contents sink.old) (K.contents sink.new)) }
-    ensures keeper { IsErrOf result Halt.Keeper → FromEach (D.held store.old) (C.kept keeper.old) site (Stays statements.now (T.answers clock.old) (K.contents sink.old) (K.contents sink.new)) }
-    ensures memory { IsErrOf result Halt.NoMemory → FromEach (D.held store.old) (C.kept keeper.old) site (Stays statements.now (T.answers clock.old) (K.contents sink.old) (K.contents sink.new)) }
+    // What was written where it ended early, and what the store and the keeper hold.
+    ensures sink { IsErrOf result Halt.Sink → FromEach (D.held store.old) (C.kept keeper.old) site (EndsInReplies (T.answers clock.old) (K.contents sink.old) (K.contents sink.new) (D.held store.new) (C.kept keeper.new) statements.now) }
+    ensures store { IsErrOf result Halt.Store → FromEach (D.held store.old) (C.kept keeper.old) site (EndsAtStatement (T.answers clock.old) (K.contents sink.old) (K.contents sink.new) (D.held store.new) (C.kept keeper.new) statements.now) }
+    ensures keeper { IsErrOf result Halt.Keeper → FromEach (D.held store.old) (C.kept keeper.old) site (EndsAtStatement (T.answers clock.old) (K.contents sink.old) (K.contents sink.new) (D.held store.new) (C.kept keeper.new) statements.now) }
+    ensures memory { IsErrOf result Halt.NoMemory → FromEach (D.held store.old) (C.kept keeper.old) site (EndsAtStatement (T.answers clock.old) (K.contents sink.old) (K.contents sink.new) (D.held store.new) (C.kept keeper.new) statements.now) }
 
     // Whose count rose.
     ensures sink_failed { IsErrOf result Halt.Sink → Rose (K.faults sink.old) (K.faults sink.new) }

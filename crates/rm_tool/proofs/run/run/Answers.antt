@@ -3,7 +3,7 @@ use Rattle.rm_catalog.specs.declared.record.Record.{Record}
 use Rattle.rm_token.specs.Statements.{statements}
 use Rattle.rm_token.proofs.Reading.{feeds_within}
 use Rattle.rm_tool.specs.Session.{in_replies, at_statement}
-use Rattle.rm_tool.proofs.Calls.{nothing-answered, finishes-at, halts-at, breaks-at}
+use Rattle.rm_tool.proofs.Calls.{serves-script, ends-at-statement, ends-in-replies}
 use Rattle.rm_tool.proofs.run.run.Goals as goal
 
 pub statements-requires : goal.statements-requires
@@ -85,30 +85,34 @@ pub returns-clause-complete : goal.returns-clause-complete
 returns-clause-complete g c = λ words counted few kept source sink store keeper. (2, lit< tt, refl)
 
 pub returns-in-Ok-serve_all-clause-done : goal.returns-in-Ok-serve_all-clause-done
-returns-in-Ok-serve_all-clause-done g c = λ is.
-    finishes-at _ _ _ _ _ _ _ _ _ _ _ _ c.in-Ok-read_all.script.items (record { taken = c.in-Ok-read_all.ensures.taken; whole = c.in-Ok-read_all.ensures.whole })
-    (c.as_slice.ensures ∙ c.in-Ok-statements.ensures ∙ ap statements c.deref.ensures.value) c.in-Ok-open_site.ensures.ok c.in-Ok-open_site.ensures.held c.in-Ok-open_site.ensures.kept c.in-Ok-open_site.ensures.opened _ _ c.in-Ok-serve_all.refused (search rules) c.in-Ok-serve_all.ensures.ok
+returns-in-Ok-serve_all-clause-done g c = λ is objects held_is kept_is.
+    record {
+      refused = c.in-Ok-serve_all.refused;
+      serves = serves-script _ _ _ _ _ _ _ _ _ _ _ _ _ _ c.in-Ok-read_all.script.items
+          (record { taken = c.in-Ok-read_all.ensures.taken; whole = c.in-Ok-read_all.ensures.whole }) (c.as_slice.ensures ∙ c.in-Ok-statements.ensures ∙ ap statements c.deref.ensures.value) c.in-Ok-open_site.ensures.ok c.in-Ok-open_site.ensures.held c.in-Ok-open_site.ensures.kept c.in-Ok-open_site.ensures.opened _ c.in-Ok-serve_all.ensures.ok objects held_is kept_is;
+      tells = search rules;
+    }
 
 pub returns-in-Err-Sink-serve_all-clause-sink_written : goal.returns-in-Err-Sink-serve_all-clause-sink_written
 returns-in-Err-Sink-serve_all-clause-sink_written g c = λ is.
-    in_replies (breaks-at _ _ _ _ _ _ _ _ _ _ _ _ c.in-Ok-read_all.script.items (record { taken = c.in-Ok-read_all.ensures.taken; whole = c.in-Ok-read_all.ensures.whole })
-    (c.as_slice.ensures ∙ c.in-Ok-statements.ensures ∙ ap statements c.deref.ensures.value) c.in-Ok-open_site.ensures.ok c.in-Ok-open_site.ensures.held c.in-Ok-open_site.ensures.kept c.in-Ok-open_site.ensures.opened (c.in-Err-Sink-serve_all.ensures.sink (ap Err c.in-Err-Sink-serve_all.field-0-is)))
-
-pub returns-in-Err-Store-clause-store_written : goal.returns-in-Err-Store-clause-store_written
-returns-in-Err-Store-clause-store_written g c = λ is objects held_is kept_is.
-    nothing-answered _ _ _ _ _ c.in-Ok-read_all.script.items objects (record { taken = c.in-Ok-read_all.ensures.taken; whole = c.in-Ok-read_all.ensures.whole }) (c.in-Err-Store.ensures.store (ap Err c.in-Err-Store.field-0-is))
+    in_replies c.in-Ok-open_site.ensures.empty
+    (ends-in-replies _ _ _ _ _ _ _ _ _ _ _ _ _ _ c.in-Ok-read_all.script.items
+    (record { taken = c.in-Ok-read_all.ensures.taken; whole = c.in-Ok-read_all.ensures.whole }) (c.as_slice.ensures ∙ c.in-Ok-statements.ensures ∙ ap statements c.deref.ensures.value) c.in-Ok-open_site.ensures.ok c.in-Ok-open_site.ensures.held c.in-Ok-open_site.ensures.kept c.in-Ok-open_site.ensures.opened (c.in-Err-Sink-serve_all.ensures.sink (ap Err c.in-Err-Sink-serve_all.field-0-is)))
 
 pub returns-in-Err-Store-serve_all-clause-store_written : goal.returns-in-Err-Store-serve_all-clause-store_written
 returns-in-Err-Store-serve_all-clause-store_written g c = λ is.
-    halts-at _ _ _ _ _ _ _ _ _ _ _ _ c.in-Ok-read_all.script.items (record { taken = c.in-Ok-read_all.ensures.taken; whole = c.in-Ok-read_all.ensures.whole })
-    (c.as_slice.ensures ∙ c.in-Ok-statements.ensures ∙ ap statements c.deref.ensures.value) c.in-Ok-open_site.ensures.ok c.in-Ok-open_site.ensures.held c.in-Ok-open_site.ensures.kept c.in-Ok-open_site.ensures.opened (c.in-Err-Store-serve_all.ensures.store (ap Err c.in-Err-Store-serve_all.field-0-is))
+    at_statement c.in-Ok-open_site.ensures.empty
+    (ends-at-statement _ _ _ _ _ _ _ _ _ _ _ _ _ _ c.in-Ok-read_all.script.items
+    (record { taken = c.in-Ok-read_all.ensures.taken; whole = c.in-Ok-read_all.ensures.whole }) (c.as_slice.ensures ∙ c.in-Ok-statements.ensures ∙ ap statements c.deref.ensures.value) c.in-Ok-open_site.ensures.ok c.in-Ok-open_site.ensures.held c.in-Ok-open_site.ensures.kept c.in-Ok-open_site.ensures.opened (c.in-Err-Store-serve_all.ensures.store (ap Err c.in-Err-Store-serve_all.field-0-is)))
 
 pub returns-in-Err-Keeper-serve_all-clause-keeper_written : goal.returns-in-Err-Keeper-serve_all-clause-keeper_written
 returns-in-Err-Keeper-serve_all-clause-keeper_written g c = λ is.
-    at_statement (halts-at _ _ _ _ _ _ _ _ _ _ _ _ c.in-Ok-read_all.script.items (record { taken = c.in-Ok-read_all.ensures.taken; whole = c.in-Ok-read_all.ensures.whole })
-    (c.as_slice.ensures ∙ c.in-Ok-statements.ensures ∙ ap statements c.deref.ensures.value) c.in-Ok-open_site.ensures.ok c.in-Ok-open_site.ensures.held c.in-Ok-open_site.ensures.kept c.in-Ok-open_site.ensures.opened (c.in-Err-Keeper-serve_all.ensures.keeper (ap Err c.in-Err-Keeper-serve_all.field-0-is)))
+    at_statement c.in-Ok-open_site.ensures.empty
+    (ends-at-statement _ _ _ _ _ _ _ _ _ _ _ _ _ _ c.in-Ok-read_all.script.items
+    (record { taken = c.in-Ok-read_all.ensures.taken; whole = c.in-Ok-read_all.ensures.whole }) (c.as_slice.ensures ∙ c.in-Ok-statements.ensures ∙ ap statements c.deref.ensures.value) c.in-Ok-open_site.ensures.ok c.in-Ok-open_site.ensures.held c.in-Ok-open_site.ensures.kept c.in-Ok-open_site.ensures.opened (c.in-Err-Keeper-serve_all.ensures.keeper (ap Err c.in-Err-Keeper-serve_all.field-0-is)))
 
 pub returns-clause-memory_written : goal.returns-clause-memory_written
 returns-clause-memory_written g c = λ is.
-    at_statement (halts-at _ _ _ _ _ _ _ _ _ _ _ _ c.in-Ok-read_all.script.items (record { taken = c.in-Ok-read_all.ensures.taken; whole = c.in-Ok-read_all.ensures.whole })
-    (c.as_slice.ensures ∙ c.in-Ok-statements.ensures ∙ ap statements c.deref.ensures.value) c.in-Ok-open_site.ensures.ok c.in-Ok-open_site.ensures.held c.in-Ok-open_site.ensures.kept c.in-Ok-open_site.ensures.opened (c.in-Err-NoMemory-serve_all.ensures.memory (ap Err c.in-Err-NoMemory-serve_all.field-0-is)))
+    at_statement c.in-Ok-open_site.ensures.empty
+    (ends-at-statement _ _ _ _ _ _ _ _ _ _ _ _ _ _ c.in-Ok-read_all.script.items
+    (record { taken = c.in-Ok-read_all.ensures.taken; whole = c.in-Ok-read_all.ensures.whole }) (c.as_slice.ensures ∙ c.in-Ok-statements.ensures ∙ ap statements c.deref.ensures.value) c.in-Ok-open_site.ensures.ok c.in-Ok-open_site.ensures.held c.in-Ok-open_site.ensures.kept c.in-Ok-open_site.ensures.opened (c.in-Err-NoMemory-serve_all.ensures.memory (ap Err c.in-Err-NoMemory-serve_all.field-0-is)))
