@@ -2,26 +2,14 @@
 #![tactic(auto)]
 
 mod adapters;
-#[cfg(test)]
-mod backups;
 mod ends;
-#[cfg(test)]
-mod faults;
-#[cfg(test)]
-mod incarnations;
 mod opening;
-#[cfg(test)]
-mod refusals;
-#[cfg(test)]
-mod rows;
 pub mod run;
+#[cfg(test)]
+mod runs;
 mod session;
 #[cfg(test)]
-mod stops;
-#[cfg(test)]
 mod tests;
-#[cfg(test)]
-mod trials;
 mod words;
 
 pub use adapters::{ReadSource, SystemClock, WriteSink};

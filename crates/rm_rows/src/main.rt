@@ -1,0 +1,75 @@
+//! Runs the worked rows of `data/` through the program's `run`, over objects in memory, and prints a line
+//! for each: its name and `ok`, or the first thing that differs.
+//!
+//! A row is a file `NAME.row`, read from above:
+//!
+//! | Line | Says |
+//! |---|---|
+//! | `> TEXT` | a line of the script |
+//! | `# TEXT`, or nothing | a word for the reader |
+//! | `-- status N` | what stands above is run: the status is N, and all lines below are written |
+//! | any other | a line that is written, below the statement that it answers |
+//!
+//! `-- status N lines M` and `-- status N bytes M` say that only so much of the lines is written. Each run
+//! begins with an empty store and an empty keeper. Other lines with `--`:
+//!
+//! | Line | Says |
+//! |---|---|
+//! | `-- fail CALL N ..` | in the next run these calls fail, counted from 1: `read`, `write`, `get`, `put`, `remove`, `names`, `load` or `apply` |
+//! | `-- room N` | in the next run the sink has room for N bytes |
+//! | `-- clock N ..` | the clock's answers, of which the last is repeated |
+//! | `-- words WORD ..` | the program's words, which else are `--store DIR --catalog FILE` |
+//! | `-- channels N` | the words `--channels N` follow the others |
+//! | `-- session` | another script begins, over the store and the keeper that the last run left, whose calls go on to count |
+//! | `-- object NAME N HEX` | the last run left an object of this name of N bytes, which begin so |
+#![tactic(auto)]
+
+mod calls;
+mod row;
+mod trial;
+
+use row::{Fault, Row};
+use std::alloc::Global;
+use std::path::Path;
+use std::process::ExitCode;
+use std::{fs, io};
+
+// The names of the files of rows, ascending.
+fn names(rt: &HostRuntime) -> io::Result<Vec<String>> {
+    let mut names = Vec::new(rt.alloc());
+    for entry in Path::new(".").read_dir(rt)? {
+        let entry = entry?;
+        if let Some(name) = entry.file_name().strip_suffix(".row") {
+            names.push(String::from_str(rt.alloc(), name)?)?;
+        }
+    }
+    names.sort()?;
+    Ok(names)
+}
+
+// What the row of this text comes to, in words.
+fn outcome(alloc: Global, text: &str) -> Result<String, Fault> {
+    let mut row = Row::new(alloc)?;
+    let mut number = 0u64;
+    for line in text.lines() {
+        number = number.saturating_add(1);
+        match row.read(line) {
+            Ok(()) => {}
+            Err(Fault::Differs(what)) => return Ok(format!(in alloc; "line {number}: {what}")?),
+            Err(Fault::NoMemory) => return Err(Fault::NoMemory),
+        }
+    }
+    Ok(String::from_str(alloc, "ok")?)
+}
+
+fn main(rt: HostRuntime) -> io::Result<ExitCode> {
+    for name in &names(&rt)? {
+        let file = format!(in rt.alloc(); "{name}.row")?;
+        let text = fs::read_to_string(&rt, file.as_str())?;
+        let Ok(outcome) = outcome(rt.alloc(), text.as_str()) else {
+            return Ok(ExitCode::from(7));
+        };
+        println!(rt; "{name} {outcome}")?;
+    }
+    Ok(ExitCode::SUCCESS)
+}

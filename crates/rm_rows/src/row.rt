@@ -1,0 +1,188 @@
+//! A row, read line by line.
+use crate::calls::{Calls, call_of};
+use crate::trial::{ROOM, Trial, object};
+use rm_base::{MemStore, NoMemory, Text};
+use rm_catalog::MemKeeper;
+use std::alloc::{AllocError, AllocFailed, Global};
+
+/// Why a row did not come out as it says.
+#[derive(Drop)]
+pub enum Fault {
+    /// What is not so.
+    Differs(String),
+    NoMemory,
+}
+
+impl From<NoMemory> for Fault {
+    fn from(_: NoMemory) -> Self {
+        Fault::NoMemory
+    }
+}
+
+impl From<AllocError> for Fault {
+    fn from(_: AllocError) -> Self {
+        Fault::NoMemory
+    }
+}
+
+impl<T: Drop> From<AllocFailed<T>> for Fault {
+    fn from(_: AllocFailed<T>) -> Self {
+        Fault::NoMemory
+    }
+}
+
+/// What the lines of a row have said so far.
+#[derive(Drop)]
+pub struct Row {
+    alloc: Global,
+    script: String,
+    written: String,
+    words: Vec<Text>,
+    clock: Vec<u64>,
+    failing: Calls,
+    room: usize,
+    site: Option<(MemStore, MemKeeper)>,
+    goes_on: bool,
+}
+
+impl Row {
+    /// Nothing was said yet.
+    pub fn new(alloc: Global) -> Result<Row, Fault> {
+        let mut row = Row {
+            alloc,
+            script: String::new(alloc),
+            written: String::new(alloc),
+            words: Vec::new(alloc),
+            clock: Vec::new(alloc),
+            failing: Calls::new(alloc),
+            room: ROOM,
+            site: None,
+            goes_on: false,
+        };
+        row.add_words(&["--store", "DIR", "--catalog", "FILE"])?;
+        Ok(row)
+    }
+
+    /// The next line of the file. A run that it asks for is made.
+    pub fn read(&mut self, line: &str) -> Result<(), Fault> {
+        if let Some(text) = line.strip_prefix("> ") {
+            writeln!(self.script, "{text}")?;
+        } else if let Some(words) = line.strip_prefix("-- ") {
+            let words: Vec<&str> = words.split(' ').collect(self.alloc)?;
+            return self.obey(&words);
+        } else if !line.is_empty() && !line.starts_with("#") {
+            writeln!(self.written, "{line}")?;
+        }
+        Ok(())
+    }
+
+    // A line with `--`.
+    fn obey(&mut self, words: &[&str]) -> Result<(), Fault> {
+        match words {
+            ["status", status] => self.run(status, self.written.len()),
+            ["status", status, "lines", count] => self.run(status, self.len_of_lines(count)?),
+            ["status", status, "bytes", count] => self.run(status, self.size(count)?),
+            ["object", name, len, head] => self.look(name, self.size(len)?, head),
+            ["fail", name, numbers @ ..] => self.fail(name, numbers),
+            ["room", room] => self.set_room(room),
+            ["clock", answers @ ..] => self.set_clock(answers),
+            ["words", words @ ..] => {
+                self.words.clear();
+                self.add_words(words)
+            }
+            ["channels", count] => self.add_words(&["--channels", count]),
+            ["session"] => {
+                self.script.clear();
+                self.written.clear();
+                self.goes_on = true;
+                Ok(())
+            }
+            _ => self.differs("not a line of a row"),
+        }
+    }
+
+    fn differs<T>(&self, what: &str) -> Result<T, Fault> {
+        Err(Fault::Differs(String::from_str(self.alloc, what)?))
+    }
+
+    fn number(&self, text: &str) -> Result<u64, Fault> {
+        match text.parse::<u64>() {
+            Ok(number) => Ok(number),
+            Err(_) => self.differs("not a number"),
+        }
+    }
+
+    fn size(&self, text: &str) -> Result<usize, Fault> {
+        Ok(self.number(text)? as usize)
+    }
+
+    fn add_words(&mut self, words: &[&str]) -> Result<(), Fault> {
+        for word in words {
+            let word = String::from_str(self.alloc, word)?;
+            self.words.push(Text::from_string(word))?;
+        }
+        Ok(())
+    }
+
+    fn fail(&mut self, name: &str, numbers: &[&str]) -> Result<(), Fault> {
+        let Some(call) = call_of(name) else {
+            return self.differs("not a call");
+        };
+        for number in numbers {
+            self.failing.add(call, self.number(number)?)?;
+        }
+        Ok(())
+    }
+
+    fn set_room(&mut self, room: &str) -> Result<(), Fault> {
+        self.room = self.size(room)?;
+        Ok(())
+    }
+
+    fn set_clock(&mut self, answers: &[&str]) -> Result<(), Fault> {
+        self.clock.clear();
+        for answer in answers {
+            self.clock.push(self.number(answer)?)?;
+        }
+        Ok(())
+    }
+
+    // The bytes of the first so many lines of what is written.
+    fn len_of_lines(&self, count: &str) -> Result<usize, Fault> {
+        let mut len = 0usize;
+        for line in self.written.as_str().lines().take(self.size(count)?) {
+            len = len.saturating_add(line.len()).saturating_add(1);
+        }
+        Ok(len)
+    }
+
+    // A run gives this status and writes the first `len` bytes of what is written.
+    fn run(&mut self, status: &str, len: usize) -> Result<(), Fault> {
+        let status = self.number(status)?;
+        let (mut store, mut keeper) = match self.site.take() {
+            Some(site) if self.goes_on => site,
+            _ => self.failing.site()?,
+        };
+        let trial = Trial {
+            alloc: self.alloc,
+            words: &self.words,
+            script: self.script.as_bytes(),
+            clock: &self.clock,
+            failing: &self.failing,
+            room: self.room,
+        };
+        trial.gives(&mut store, &mut keeper, status, self.written.as_str(), len)?;
+        self.site = Some((store, keeper));
+        self.failing = Calls::new(self.alloc);
+        self.room = ROOM;
+        Ok(())
+    }
+
+    // The last run left an object of this name of `len` bytes, which begin so.
+    fn look(&mut self, name: &str, len: usize, head: &str) -> Result<(), Fault> {
+        match &mut self.site {
+            Some((store, _)) => object(self.alloc, store, name, len, head),
+            None => self.differs("no run before"),
+        }
+    }
+}

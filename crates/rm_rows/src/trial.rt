@@ -1,0 +1,90 @@
+//! One run of the program, and whether it gives what a row says.
+use crate::calls::{Call, Calls};
+use crate::row::Fault;
+use rm_base::{MemClock, MemSink, MemSource, MemStore, Store, Text};
+use rm_catalog::MemKeeper;
+use rm_tool::run::run;
+use std::alloc::Global;
+
+/// The room of a sink, where a row names no other.
+pub const ROOM: usize = 65_536;
+
+/// What a run is given, beside its store and its keeper.
+#[derive(Drop)]
+pub struct Trial<'a> {
+    pub alloc: Global,
+    pub words: &'a [Text],
+    pub script: &'a [u8],
+    pub clock: &'a [u64],
+    pub failing: &'a Calls,
+    pub room: usize,
+}
+
+impl Trial<'_> {
+    /// The run gives this status and writes the first `len` bytes of the text.
+    pub fn gives(
+        &self,
+        store: &mut MemStore,
+        keeper: &mut MemKeeper,
+        status: u64,
+        text: &str,
+        len: usize,
+    ) -> Result<(), Fault> {
+        let alloc = self.alloc;
+        let script = Vec::from_slice(alloc, self.script)?;
+        let mut source = MemSource::new(script, 64, self.failing.of(Call::Read)?);
+        let mut sink = MemSink::new(alloc, self.room, 16, self.failing.of(Call::Write)?)?;
+        let mut clock = MemClock::new(Vec::from_slice(alloc, self.clock)?);
+        let answer = run(
+            alloc,
+            self.words,
+            &mut source,
+            &mut sink,
+            store,
+            keeper,
+            &mut clock,
+        );
+        if u64::from(answer) != status {
+            return Err(Fault::Differs(format!(in alloc; "status {answer}")?));
+        }
+        compare(alloc, sink.bytes(), text, len)
+    }
+}
+
+// The bytes are the first `len` of the text.
+fn compare(alloc: Global, bytes: &[u8], text: &str, len: usize) -> Result<(), Fault> {
+    if text.as_bytes().get(..len) == Some(bytes) {
+        return Ok(());
+    }
+    if let Ok(written) = str::from_utf8(bytes) {
+        for (line, wanted) in written.lines().zip(text.lines()) {
+            if line != wanted {
+                return Err(Fault::Differs(format!(in alloc; "wrote {line}")?));
+            }
+        }
+    }
+    let written = bytes.len();
+    Err(Fault::Differs(format!(in alloc; "wrote {written} bytes")?))
+}
+
+/// The store has an object of this name of `len` bytes, which begin with these digits.
+pub fn object(
+    alloc: Global,
+    store: &mut MemStore,
+    name: &str,
+    len: usize,
+    head: &str,
+) -> Result<(), Fault> {
+    let mut digits = String::new(alloc);
+    let mut bytes_there = 0;
+    if let Ok(Some(bytes)) = store.get(name) {
+        bytes_there = bytes.len();
+        for byte in bytes.as_slice() {
+            write!(digits, "{byte:02x}")?;
+        }
+    }
+    if bytes_there == len && digits.as_str().starts_with(head) {
+        return Ok(());
+    }
+    Err(Fault::Differs(format!(in alloc; "{bytes_there} bytes {digits}")?))
+}
