@@ -8,7 +8,8 @@ use Rattle.rm_base.proofs.Members.{none-in}
 use Rattle.rm_ledger.proofs.Fresh.{fresh_is_ledger}
 use Rattle.rm_redo.specs.declared.online.ThreadLog.{ThreadLog}
 use Rattle.rm_redo.specs.LogFile.{changes_in}
-use Rattle.rm_redo.specs.LogFormat.{IsBefore, IsLogRecord}
+use Rattle.rm_redo.specs.LogFormat.{IsLogRecord}
+use Rattle.rm_redo.specs.Logs.{IsBefore}
 use Rattle.rm_redo.specs.Online.{fresh_log}
 use Rattle.rm_machine.specs.CreateDatabase.{fresh_machine, fresh_state}
 use Rattle.rm_machine.specs.Machine.{HistoryFits, IsSoundMachine}

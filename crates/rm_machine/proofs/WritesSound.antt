@@ -28,7 +28,8 @@ use Rattle.rm_repository.proofs.Fitted.{end_fits, mark_fits}
 use Rattle.rm_ledger.specs.Ledger.{Ledger, records_of}
 use Rattle.rm_redo.specs.declared.log_file.LogFile.{LogFile}
 use Rattle.rm_redo.specs.declared.online.LogRecord.{LogRecord}
-use Rattle.rm_redo.specs.LogFormat.{IsBefore, IsLogFile, IsLogRecord}
+use Rattle.rm_redo.specs.LogFormat.{IsLogFile, IsLogRecord}
+use Rattle.rm_redo.specs.Logs.{IsBefore}
 use Rattle.rm_redo.specs.Online.{record_of}
 use Rattle.rm_redo.proofs.Logs.{around-with_change, first_of-with_change, sequence_of-with_change, inc-with_change, is_lost-with_change, records_of-with_change, records_of-with_change_other}
 use Rattle.rm_history.proofs.Worlds.{file-there}
