@@ -1,10 +1,12 @@
 pub mod Choices
 pub mod Clocks
+pub mod Conditions
 pub mod Contents
 pub mod Items
 pub mod Lists
 pub mod Members
 pub mod Names
 pub mod Sealing
+pub mod Slots
 pub mod Streams
 pub mod Wide

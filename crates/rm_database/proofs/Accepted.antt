@@ -19,7 +19,7 @@ use Rattle.rm_database.specs.Parts.{Parts, now_of, blocks_in}
 use Rattle.rm_database.specs.Recover.{recover_refusal, or_else}
 use Rattle.rm_database.specs.Recovery.{until_refusal}
 use Rattle.rm_database.specs.SwitchLogfile.{switch_refusal}
-use Rattle.rm_database.proofs.Conditions.{only-where, unless}
+use Rattle.rm_base.proofs.Conditions.{only-where, unless}
 use Rattle.rm_database.proofs.Sound.{closed-accepted, open-accepted}
 
 -- a database that can be opened as it is

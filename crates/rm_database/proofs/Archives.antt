@@ -10,7 +10,7 @@ use Rattle.rm_redo.proofs.Logs.{around-switched, first_of-switched_other, sequen
 use Rattle.rm_report.specs.declared.line.Line.{Line}
 use Rattle.rm_database.specs.Archiving.{is_lost, is_due, with_archived, after_thread, after_threads, after_all, told_lines, lines_of, due_from, is_last_sequence, archive_refusal}
 use Rattle.rm_database.specs.Parts.{Parts, redo_end}
-use Rattle.rm_database.proofs.Conditions.{unless}
+use Rattle.rm_base.proofs.Conditions.{unless}
 
 -- What an accepted archiving of n threads from t on says: there are ids enough, and sequence numbers.
 pub record IsAccepted (p : Parts) (t n : ℕ) : Type 0 where

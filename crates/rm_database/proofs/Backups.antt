@@ -25,10 +25,10 @@ use Rattle.rm_database.specs.Backup.{absent, backed_up, backup_line, backup_refu
 use Rattle.rm_database.specs.Machine.{IsTold, Keeps}
 use Rattle.rm_database.specs.Parts.{Parts, now_of, placed}
 use Rattle.rm_database.specs.Sound.{IsSound, IsCreated}
-use Rattle.rm_database.proofs.Items.{all-get, get-index}
+use Rattle.rm_base.proofs.Slots.{all-get, get-index}
 use Rattle.rm_database.proofs.KeptPlaces.{stands}
 use Rattle.rm_database.proofs.KeptWrites.{archived-still}
-use Rattle.rm_database.proofs.Conditions.{unless}
+use Rattle.rm_base.proofs.Conditions.{unless}
 use Rattle.rm_database.proofs.Sound.{open-accepted}
 
 -- the datafiles that are taken, from the one at place k on

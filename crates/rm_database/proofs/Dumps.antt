@@ -11,10 +11,10 @@ use Rattle.rm_history.specs.declared.world.Datafile.{Datafile}
 use Rattle.rm_database.specs.Dump.{row_refusal, dump_refusal, placed_row}
 use Rattle.rm_database.specs.Parts.{Parts, on_path, placed}
 use Rattle.rm_database.specs.Sound.{IsSound}
-use Rattle.rm_database.proofs.Items.{get-index}
-use Rattle.rm_database.proofs.Datafiles.{file-there}
-use Rattle.rm_database.proofs.Conditions.{unless}
-use Rattle.rm_database.proofs.KeptWrites.{not-none, on-path}
+use Rattle.rm_base.proofs.Slots.{get-index}
+use Rattle.rm_history.proofs.Worlds.{file-there}
+use Rattle.rm_base.proofs.Conditions.{not-none, unless}
+use Rattle.rm_database.proofs.KeptWrites.{on-path}
 
 found-by : (p : Parts) (f b : ℕ) (o : Option Datafile) → option_map_or (row_refusal p f b) o (Some (Rm05 (AbsentFile f))) ≡ None → (d : Datafile) × (o ≡ Some d) × (row_refusal p f b d ≡ None)
 found-by p f b None is = absurd (cc)

@@ -1,65 +1,11 @@
--- Items of lists that are changed.
-use Rattle.std.proofs.Common.{◌≡◌, ◌≢◌, ◌-◌, ◌∙◌, ◌++◌, ◌⊎◌, inl, inr, ℕ, zero, suc, List, [], ◌∷◌, Option, Some, None, refl, ap, subst, arith, length, map, All, slice_get, slice_set, slice_index_or}
-use Rattle.std.specs.Option.{option_map, option_map_or}
-use Rattle.std.proofs.lemmas.Option.{slice_get_within, get_or_from_slice_get}
-use Rattle.std.proofs.lemmas.List.Elements.{All-get_or, All-set}
+-- The logs of threads, one of which is changed.
+use Rattle.std.proofs.Common.{◌≡◌, ◌-◌, ℕ, Option, Some, None, refl, All, slice_get, slice_set}
+use Rattle.std.specs.Option.{option_map_or}
+use Rattle.std.proofs.lemmas.List.Elements.{All-set}
+use Rattle.rm_base.proofs.Slots.{all-get}
 use Rattle.rm_redo.specs.declared.online.ThreadLog.{ThreadLog}
 use Rattle.rm_redo.specs.Logs.{Logs}
 use Rattle.rm_redo.specs.Online.{with_log}
-
--- an item after another was set: the one that was set, or another that was there
-pub get-set : {X : Type 0} (xs : List X) (k j : ℕ) (v y : X) → slice_get (slice_set xs k v) j ≡ Some y → ((j ≡ k) × (v ≡ y)) ⊎ ((j ≢ k) × (slice_get xs j ≡ Some y))
-get-set [] k j v y is = absurd (cc)
-get-set (x ∷ xs) zero zero v y is = inl (refl, (let e : Some v ≡ Some y = is in cc))
-get-set (x ∷ xs) zero (suc j) v y is = inr ((λ e. absurd (omega (arith, e))), is)
-get-set (x ∷ xs) (suc k) zero v y is = inr ((λ e. absurd (omega (arith, e))), is)
-get-set (x ∷ xs) (suc k) (suc j) v y is = elim (get-set xs k j v y is) [
-  | inl new ↦ inl (ap (λ n. suc n) new.0, new.1)
-  | inr old ↦ inr ((λ e. old.0 (omega (arith, e))), old.1)
-]
-
--- an item after one more was added: the new one, or one that was there
-pub get-push : {X : Type 0} (xs : List X) (v y : X) (j : ℕ) → slice_get (xs ++ v ∷ []) j ≡ Some y → ((j ≡ length xs) × (v ≡ y)) ⊎ (slice_get xs j ≡ Some y)
-get-push [] v y zero is = inl (refl, (let e : Some v ≡ Some y = is in cc))
-get-push [] v y (suc j) is = absurd (cc)
-get-push (x ∷ xs) v y zero is = inr is
-get-push (x ∷ xs) v y (suc j) is = elim (get-push xs v y j is) [
-  | inl new ↦ inl (ap (λ n. suc n) new.0 ∙ omega arith, new.1)
-  | inr old ↦ inr old
-]
-
--- what is read with none for a default is there
-pub get-index : {X : Type 0} (xs : List (Option X)) (k : ℕ) (x : X) → slice_index_or xs k None ≡ Some x → slice_get xs k ≡ Some (Some x)
-get-index [] k x is = absurd (cc)
-get-index (y ∷ ys) zero x is = ap Some is
-get-index (y ∷ ys) (suc k) x is = get-index ys k x is
-
--- and the other way round
-pub index-get : {X : Type 0} (xs : List (Option X)) (k : ℕ) (x : X) → slice_get xs k ≡ Some (Some x) → slice_index_or xs k None ≡ Some x
-index-get [] k x is = absurd (cc)
-index-get (y ∷ ys) zero x is = (let e : Some y ≡ Some (Some x) = is in cc)
-index-get (y ∷ ys) (suc k) x is = index-get ys k x is
-
--- an item of a map
-get-map : {X Y : Type 0} (f : X → Y) (xs : List X) (k : ℕ) (y : Y) → slice_get (map f xs) k ≡ Some y → (x : X) × (slice_get xs k ≡ Some x) × (f x ≡ y)
-get-map f [] k y is = absurd (cc)
-get-map f (x ∷ xs) zero y is = (x, refl, (let e : Some (f x) ≡ Some y = is in cc))
-get-map f (x ∷ xs) (suc k) y is = get-map f xs k y is
-
-mapped-by : {X Y : Type 0} (f : X → Y) (o : Option X) (y : Y) → option_map f o ≡ Some y → (x : X) × (o ≡ Some x) × (f x ≡ y)
-mapped-by f None y is = absurd (cc)
-mapped-by f (Some x) y is = (x, refl, (let e : Some (f x) ≡ Some y = is in cc))
-
--- what stands at a place after each that stood at one was changed
-pub get-mapped : {X Y : Type 0} (f : X → Y) (xs : List (Option X)) (k : ℕ) (y : Y) → slice_get (map (option_map f) xs) k ≡ Some (Some y) → (x : X) × (slice_get xs k ≡ Some (Some x)) × (f x ≡ y)
-get-mapped f xs k y is =
-    let found = get-map (option_map f) xs k (Some y) is in
-    let by = mapped-by f found.0 y found.2 in
-    (by.0, found.1 ∙ ap Some by.1, by.2)
-
--- what is true of each item is true of one that is there
-pub all-get : {X : Type 0} (P : X → Type 0) (xs : List X) (k : ℕ) (x : X) → slice_get xs k ≡ Some x → All P xs → P x
-all-get P xs k x is all = subst P (get_or_from_slice_get xs k x x is) (All-get_or P xs k x (slice_get_within xs k x is) all)
 
 -- the logs, where the one of thread t is what f makes of it, if it is there
 changed : (ThreadLog → ThreadLog) → Logs → ℕ → Option ThreadLog → Logs

@@ -31,8 +31,8 @@ use Rattle.rm_database.specs.Recover.{or_else, put_over, recover_refusal, recove
 use Rattle.rm_database.specs.Recovery.{files_from, file_at}
 use Rattle.rm_database.specs.Sound.{IsSound}
 use Rattle.rm_database.proofs.Accepted.{open-recovered}
-use Rattle.rm_database.proofs.Conditions.{given-where}
-use Rattle.rm_database.proofs.Datafiles.{file-there}
+use Rattle.rm_base.proofs.Conditions.{given-where}
+use Rattle.rm_history.proofs.Worlds.{file-there}
 use Rattle.rm_database.proofs.KeptPlaces.{held-closed}
 use Rattle.rm_database.proofs.Sound.{closed-accepted}
 use Rattle.rm_database.proofs.SoundOpenings.{due-first, fresh-found}

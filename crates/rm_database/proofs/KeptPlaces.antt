@@ -17,9 +17,9 @@ use Rattle.rm_database.specs.Machine.{RowsAre, held}
 use Rattle.rm_database.specs.Mount.{first_lost}
 use Rattle.rm_database.specs.Parts.{Parts, now_of}
 use Rattle.rm_database.specs.Sound.{ArePlaced, IsPlaced}
-use Rattle.rm_database.proofs.Conditions.{unless}
-use Rattle.rm_database.proofs.Datafiles.{file-there}
-use Rattle.rm_database.proofs.Items.{get-index, index-get, get-mapped, get-push, get-set}
+use Rattle.rm_base.proofs.Conditions.{unless}
+use Rattle.rm_history.proofs.Worlds.{file-there}
+use Rattle.rm_base.proofs.Slots.{get-index, index-get, get-mapped, get-push, get-set}
 
 -- what stands in place after each that stood there was changed
 pub placed-map : (f : File → File) (place : List (Option File)) (k : ℕ) (x : File) → slice_index_or (map (option_map f) place) k None ≡ Some x → (y : File) × (slice_index_or place k None ≡ Some y) × (f y ≡ x)
@@ -99,13 +99,6 @@ placed-push place new k x is = elim (get-push place new (Some x) k (get-index (p
   | inr old ↦ inl (index-get place k x old)
 ]
 
--- what stands in place after one was changed
-pub placed-set : (place : List (Option File)) (m k : ℕ) (new : Option File) (x : File) → slice_index_or (slice_set place m new) k None ≡ Some x → ((k ≡ m) × (new ≡ Some x)) ⊎ ((k ≢ m) × (slice_index_or place k None ≡ Some x))
-placed-set place m k new x is = elim (get-set place m k new (Some x) (get-index (slice_set place m new) k x is)) [
-  | inl same ↦ inl same
-  | inr other ↦ inr (other.0, index-get place k x other.1)
-]
-
 -- what is true of the row of each block is true of all rows of a new datafile
 pub created-all : (P : Row → Type 0) (creation : ℕ) → ((b : ℕ) → P (created_row creation b)) → (blocks : ℕ) → All P (created_rows creation blocks)
 created-all P creation each zero = All-nil P
@@ -130,15 +123,3 @@ file_of-new w new =
     let back : length w.files + 1 - 1 ≡ length w.files = omega arith in
     ap (λ b. cond b None (slice_get (w.files ++ new ∷ []) (length w.files + 1 - 1))) (ne_eqb (length w.files + 1) 0 (λ e. omega (arith, e)))
     ∙ ap (slice_get (w.files ++ new ∷ [])) back ∙ slice_get-last w.files new
-
-rows-each : (P : Row → Type 0) (rows : List Row) → ((k : ℕ) (r : Row) → slice_get rows k ≡ Some r → P r) → All P rows
-rows-each P [] each = All-nil P
-rows-each P (r ∷ rows) each = All-cons P r rows (each 0 r refl) (rows-each P rows (λ k x is. each (suc k) x is))
-
--- what is true of a new row, and of each row but the one that it replaces, is true of all rows after it
-pub rows-set : (P : Row → Type 0) (rows : List Row) (b : ℕ) (new : Row) → P new → ((k : ℕ) (r : Row) → slice_get rows k ≡ Some r → k ≢ b → P r) → All P (slice_set rows b new)
-rows-set P [] b new here each = All-nil P
-rows-set P (r ∷ rows) zero new here each = All-cons P new rows here (rows-each P rows (λ k x is. each (suc k) x is (λ e. absurd (omega (arith, e)))))
-rows-set P (r ∷ rows) (suc b) new here each =
-    All-cons P r (slice_set rows b new) (each 0 r refl (λ e. absurd (omega (arith, e))))
-    (rows-set P rows b new here (λ k x is other. each (suc k) x is (λ e. other (omega (arith, e)))))

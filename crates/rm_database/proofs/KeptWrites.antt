@@ -42,12 +42,12 @@ use Rattle.rm_database.specs.Parts.{Parts, now_of, redo_end, on_path, placed}
 use Rattle.rm_database.specs.ResetDatabase.{at_incarnation}
 use Rattle.rm_database.specs.Sound.{IsSound, IsArchived, IsChanged, IsCreated, IsOnline}
 use Rattle.rm_database.specs.Write.{block_refusal, place_refusal, write_refusal, change_of, with_write}
-use Rattle.rm_database.proofs.Conditions.{unless}
-use Rattle.rm_database.proofs.Datafiles.{file-there}
+use Rattle.rm_base.proofs.Conditions.{not-none, unless}
+use Rattle.rm_history.proofs.Worlds.{file-there}
 use Rattle.rm_database.proofs.Growing.{grows-with_end}
-use Rattle.rm_database.proofs.KeptChanges.{LieBelow, Further, agrees-further, agrees-pushed, concerns-other_block, concerns-other_file, below-risen, is_of-from, is_of-further, is_of-not, state-end, state-untouched}
-use Rattle.rm_database.proofs.Items.{all-get}
-use Rattle.rm_database.proofs.KeptPlaces.{agrees-open, created-all, file_of-new, file-inside, held-open, held-closed, none-lost, placed-map, placed-mapped, placed-push, placed-set, rows-set, stands, stands-numbered}
+use Rattle.rm_history.proofs.Below.{LieBelow, Further, agrees-further, agrees-pushed, concerns-other_block, concerns-other_file, below-risen, is_of-from, is_of-further, is_of-not, state-end, state-untouched}
+use Rattle.rm_base.proofs.Slots.{all-get, index-set, all-set_others}
+use Rattle.rm_database.proofs.KeptPlaces.{agrees-open, created-all, file_of-new, file-inside, held-open, held-closed, none-lost, placed-map, placed-mapped, placed-push, stands, stands-numbered}
 use Rattle.rm_database.proofs.Sound.{open-accepted}
 
 -- A new database
@@ -242,10 +242,6 @@ pub record Accepted (p : Parts) (w : WriteForm) : Type 0 where
   pub stands : placed p w.file ≡ Some file
   pub room : length (records_of p.logs w.thread) < 65536
 
-pub not-none : (o : Option File) → is_none o ≡ false → (x : File) × (o ≡ Some x)
-not-none (Some x) is = (x, refl)
-not-none None is = absurd (cc)
-
 found-by : (p : Parts) (w : WriteForm) (o : Option Datafile) → option_map_or (block_refusal p w) o (Some (Rm05 (AbsentFile w.file))) ≡ None → (d : Datafile) × (o ≡ Some d) × (block_refusal p w d ≡ None)
 found-by p w None is = absurd (cc)
 found-by p w (Some d) is = (d, refl, is)
@@ -430,7 +426,7 @@ rows-written p w h x s k a number order rows =
     let c = change_of p w in
     let next = now_of p + 1 in
     let new : Row = record { block = w.block; version = now_of p; content = w.content } in
-    rows-set (λ r. r ≡ state (risen p) (h ++ c ∷ []) p.current next x.file r.block) x.rows w.block new
+    all-set_others (λ r. r ≡ state (risen p) (h ++ c ∷ []) p.current next x.file r.block) x.rows w.block new
     (subst (λ f. new ≡ state (risen p) (h ++ c ∷ []) p.current next f w.block) (sym number) (sym (written-row p w h s k a)))
     (λ n r is other.
     all-get (λ (y : Row). y ≡ state p.world h p.current (now_of p) x.file y.block) x.rows n r is rows
@@ -440,7 +436,7 @@ rows-write : (p : Parts) (w : WriteForm) (h : List Change) → IsSound p → Kee
 rows-write p w h s k a f x is =
     let write : File → File = λ y. written y w.block (now_of p) w.content in
     let after : ℕ → File → Type 0 = λ n y. RowsAre (risen p) (h ++ change_of p w ∷ []) p.current n y in
-    subst (λ n. after n x) (sym (now-risen p s)) (elim (placed-set p.place (w.file - 1) (f - 1) (option_map write (placed p w.file)) x is) [
+    subst (λ n. after n x) (sym (now-risen p s)) (elim (index-set p.place (w.file - 1) (f - 1) (option_map write (placed p w.file)) x is) [
       | inl same ↦
           let it = (stands p.world p.place (w.file - 1) a.file s.placed a.stands).placed in
           let number : a.file.file ≡ w.file = omega (arith, it.file, (file-there p.world w.file a.datafile a.is).0) in

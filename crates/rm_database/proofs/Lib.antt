@@ -1,4 +1,3 @@
-mod Conditions
 mod Datafiles
 mod Due
 mod Logged
@@ -14,7 +13,6 @@ pub mod Dumps
 pub mod Growing
 pub mod Items
 pub mod KeptArchives
-pub mod KeptChanges
 pub mod KeptOpenings
 pub mod KeptPlaces
 pub mod KeptWrites

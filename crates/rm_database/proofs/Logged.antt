@@ -16,7 +16,7 @@ use Rattle.rm_redo.specs.LogFormat.{IsLogFile}
 use Rattle.rm_redo.specs.Online.{IsThread, begun_anew, fresh_log, with_record}
 use Rattle.rm_database.specs.Parts.{Parts, redo_end}
 use Rattle.rm_database.specs.Sound.{IsSound, IsChanged, IsOnline, IsWritten}
-use Rattle.rm_database.proofs.Items.{all-get}
+use Rattle.rm_base.proofs.Slots.{all-get}
 
 no-pairs : AllPairs (λ (r s : LogRecord). r.scn < s.scn) []
 no-pairs i j d lt within = absurd (omega (arith, within))

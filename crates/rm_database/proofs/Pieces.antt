@@ -32,11 +32,10 @@ use Rattle.rm_database.specs.Machine.{IsTold, Keeps}
 use Rattle.rm_database.specs.Parts.{Parts, now_of, placed, redo_end}
 use Rattle.rm_database.specs.Sound.{IsArchived, IsCreated, IsPlaced, IsSound}
 use Rattle.rm_database.proofs.Backups.{backup-accepted, bytes-of, file-at, rows-below}
-use Rattle.rm_database.proofs.Conditions.{unless}
+use Rattle.rm_base.proofs.Conditions.{not-none, unless}
 use Rattle.rm_database.proofs.Datafiles.{begun}
-use Rattle.rm_database.proofs.Items.{all-get}
+use Rattle.rm_base.proofs.Slots.{all-get}
 use Rattle.rm_database.proofs.KeptPlaces.{held-open, stands}
-use Rattle.rm_database.proofs.KeptWrites.{not-none}
 use Rattle.rm_database.proofs.Logged.{valid-log}
 use Rattle.rm_database.proofs.ToldBy.{log-holds}
 

@@ -10,7 +10,7 @@ use Rattle.rm_history.specs.Tree.{end_of}
 use Rattle.rm_redo.specs.Online.{IsThread, records_of, first_of}
 use Rattle.rm_database.specs.Parts.{Parts, now_of, redo_end}
 use Rattle.rm_database.specs.Sound.{IsSound, IsOnline}
-use Rattle.rm_database.proofs.Items.{all-get, get-index}
+use Rattle.rm_base.proofs.Slots.{all-get, get-index}
 
 by-log : (P : LogRecord → Type 0) (Q : ThreadLog → Type 0) (ls : List ThreadLog) (k : ℕ) → ((l : ThreadLog) → Q l → All P l.records) → All Q ls → (o : Option ThreadLog) → slice_get ls k ≡ o → All P (option_map_or (λ l. l.records) o [])
 by-log P Q ls k each all None is = All-nil P

@@ -20,8 +20,8 @@ use Rattle.rm_database.specs.Open.{kept_in_place, opened}
 use Rattle.rm_history.specs.World.{exists}
 use Rattle.std.proofs.lemmas.Bool.{both_ways}
 use Rattle.std.proofs.lemmas.Option.{cond_some, slice_get_within, slice_get-get_or}
-use Rattle.rm_database.proofs.Conditions.{given-where, only-where, unless}
-use Rattle.rm_database.proofs.Items.{get-mapped}
+use Rattle.rm_base.proofs.Conditions.{given-where, only-where, unless}
+use Rattle.rm_base.proofs.Slots.{get-mapped}
 
 -- RESET DATABASE
 pub sound-at : (p : Parts) (i : ℕ) → IsSound p → p.is_open ≡ false → IsThere p.world.tree i → IsSound (at_incarnation p i)

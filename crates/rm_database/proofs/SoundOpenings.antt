@@ -26,7 +26,8 @@ use Rattle.rm_database.specs.Open.{branched_off, next_incarnation, kept_in_place
 use Rattle.rm_database.specs.Parts.{Parts, redo_end}
 use Rattle.rm_database.specs.Sound.{IsSound, AreIncarnations, AreOnline, IsOpen, IsPoint, IsCreated, IsOnline, IsWritten, IsArchived}
 use Rattle.rm_database.proofs.Growing.{Grows, grows-with_branch, incarnations-with_branch, created-grown, archived-grown}
-use Rattle.rm_database.proofs.Items.{all-get, all-with_log}
+use Rattle.rm_base.proofs.Slots.{all-get}
+use Rattle.rm_database.proofs.Items.{all-with_log}
 use Rattle.rm_database.proofs.Logged.{all-fresh, log-of-thread, valid-log, written-anew}
 use Rattle.rm_database.proofs.Sound.{kept-get, kept-length}
 

@@ -18,7 +18,7 @@ use Rattle.rm_database.specs.Recover.{or_else, put_over}
 use Rattle.rm_database.specs.Recovery.{file_at, files_from, files_at}
 use Rattle.rm_database.specs.Sound.{IsSound, IsPlaced, IsPoint}
 use Rattle.rm_database.proofs.Rows.{in_order-states, length-rows_from, length-files_from}
-use Rattle.rm_database.proofs.Conditions.{unless}
+use Rattle.rm_base.proofs.Conditions.{unless}
 
 -- what is true of each row is true of all
 pub all-rows_from : (P : Row → Type 0) (row : ℕ → Row) (b n : ℕ) → ((k : ℕ) → P (row k)) → All P (rows_from row b n)

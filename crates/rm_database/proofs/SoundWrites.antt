@@ -26,7 +26,8 @@ use Rattle.rm_database.specs.Write.{change_of, with_write}
 use Rattle.rm_database.proofs.Growing.{Grows, grows-with_end, incarnations-with_end, created-grown, archived-grown, online-grown, written-grown}
 use Rattle.rm_database.proofs.Logged.{written-more}
 use Rattle.rm_database.proofs.Redo.{redo-now}
-use Rattle.rm_database.proofs.Items.{all-get, get-set, get-push, get-index, all-with_log}
+use Rattle.rm_base.proofs.Slots.{all-get, get-set, get-push, get-index}
+use Rattle.rm_database.proofs.Items.{all-with_log}
 
 -- the tree one SCN further
 more : Parts → List Incarnation

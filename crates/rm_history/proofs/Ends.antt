@@ -1,7 +1,7 @@
 -- Another end of an incarnation is its end from then on, and changes no parent, no resetlogs SCN, no other end and no owner.
-use Rattle.std.proofs.Common.{◌≡◌, ◌≢◌, ◌<◌, ◌≤◌, ◌-◌, ◌∙◌, nat_le, ℕ, zero, suc, List, [], ◌∷◌, Option, Some, None, Bool, true, false, cond, unwrap_or, find, refl, ap, sym, subst, arith, eqb, length, slice_get, slice_set, get_or-set_same, get_or-set_other}
+use Rattle.std.proofs.Common.{◌≡◌, ◌≢◌, ◌<◌, ◌≤◌, ◌-◌, ◌∙◌, nat_le, inl, inr, ℕ, zero, suc, List, [], ◌∷◌, Option, Some, None, Bool, true, false, cond, unwrap_or, find, refl, ap, sym, subst, arith, eqb, length, slice_get, slice_set, get_or-set_same, get_or-set_other}
 use Rattle.std.specs.Option.{option_map_or}
-use Rattle.std.proofs.lemmas.Bool.{ne_eqb}
+use Rattle.std.proofs.lemmas.Bool.{cases_eq, ne_eqb}
 use Rattle.std.proofs.lemmas.List.{length-set}
 use Rattle.rm_history.specs.declared.tree.Incarnation.{Incarnation}
 use Rattle.rm_history.specs.Tree.{HasParentsBelow, IsThere, IsTree, owner, ancestors, parent_of, reset_of, end_of, path, incarnation, with_end}
@@ -95,3 +95,10 @@ owner-same t u parents resets i g =
 pub owner-with_end : (tree : List Incarnation) (j end i g : ℕ) → IsThere tree j → owner (with_end tree j end) i g ≡ owner tree i g
 owner-with_end tree j end i g there =
     owner-same (with_end tree j end) tree (λ k. parent_of-with_end tree j end k there) (λ k. reset_of-with_end tree j end k there) i g
+
+-- where one end rises, none falls
+pub ends-risen : (tree : List Incarnation) (j end i : ℕ) → IsThere tree j → end_of tree j ≤ end → IsThere tree i → end_of tree i ≤ end_of (with_end tree j end) i
+ends-risen tree j end i there up is = elim (cases_eq i j) [
+  | inl same ↦ subst (λ k. end_of tree k ≤ end_of (with_end tree j end) k) (sym same) (omega (arith, up, end_of-with_end tree j end there))
+  | inr other ↦ omega (arith, end_of-with_end_other tree j end i there is other)
+]

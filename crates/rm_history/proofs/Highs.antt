@@ -30,3 +30,11 @@ high-held checkpoint (x ∷ xs) = elim (cases_lt x.version (high_of checkpoint x
         | inr held ↦ inr (held.0, behind x xs held.0 held.1, omega (arith, same, held.2))
       ]
 ]
+
+-- a bound of all versions and of the checkpoint is one of it
+pub high-bound : (checkpoint most : ℕ) (rows : List Row) → checkpoint ≤ most → ((r : Row) → Contains rows r → r.version < most) → high_of checkpoint rows ≤ most
+high-bound checkpoint most [] low all = low
+high-bound checkpoint most (r ∷ rs) low all =
+    let rest = high-bound checkpoint most rs low (λ x has. all x (behind r rs x has)) in
+    let first = all r (in-front r rs) in
+    omega (arith, rest, first)

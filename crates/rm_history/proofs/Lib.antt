@@ -1,4 +1,5 @@
 pub mod BlockRows
+pub mod Below
 pub mod Branches
 pub mod Ends
 pub mod Growth

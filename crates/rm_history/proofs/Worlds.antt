@@ -1,7 +1,7 @@
 -- What stays true where the tree gains an incarnation, an end rises, or a datafile is added.
-use Rattle.std.proofs.Common.{◌≡◌, ◌<◌, ◌≤◌, ◌+◌, ◌-◌, ◌∙◌, ◌&&◌, ◌==◌, inl, inr, nat_lt, ℕ, zero, suc, List, Option, None, false, cond, refl, ap, sym, subst, arith, eqb, length}
+use Rattle.std.proofs.Common.{◌≡◌, ◌<◌, ◌≤◌, ◌+◌, ◌-◌, ◌∙◌, ◌&&◌, ◌==◌, inl, inr, nat_lt, ℕ, zero, suc, List, Option, Some, None, false, cond, refl, ap, sym, subst, arith, eqb, length, slice_get}
 use Rattle.std.specs.Option.{option_map_or}
-use Rattle.std.proofs.lemmas.Bool.{and_left, and_right, cases_lt, le-ltb}
+use Rattle.std.proofs.lemmas.Bool.{and_left, and_right, cases_eq, cases_lt, eq-eqb, le-ltb, ne_eqb}
 use Rattle.rm_base.specs.Content.{zero_block}
 use Rattle.rm_base.specs.declared.block.Change.{Change}
 use Rattle.rm_base.specs.declared.block.Row.{Row}
@@ -133,3 +133,10 @@ BaseAgrees-with_file w new h a inside = BaseAgrees-alike (with_file w new) w h a
 pub Level1Agrees-with_file : (w : World) (new : Datafile) (h : List Change) (a : Level1) → a.file ≤ length w.files → Level1Agrees w h a → Level1Agrees (with_file w new) h a
 Level1Agrees-with_file w new h a inside =
     Level1Agrees-alike (with_file w new) w h a (λ s b. state-kept w new h a.inc s a.file b inside) (ap (λ o. option_map_or (λ d. d.blocks) o 0) (file_of-kept w new a.file inside))
+
+-- a datafile that is there has a number, and its place in the list
+pub file-there : (w : World) (f : ℕ) (d : Datafile) → file_of w f ≡ Some d → (0 < f) × (slice_get w.files (f - 1) ≡ Some d)
+file-there w f d is = elim (cases_eq f 0) [
+  | inl none ↦ let both : Some d ≡ None = sym is ∙ ap (λ b. cond b None (slice_get w.files (f - 1))) (eq-eqb f 0 none) in absurd (cc)
+  | inr some ↦ (omega (arith, some), sym (sym is ∙ ap (λ b. cond b None (slice_get w.files (f - 1))) (ne_eqb f 0 some)))
+]

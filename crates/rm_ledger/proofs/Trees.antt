@@ -1,12 +1,12 @@
 -- A tree that grows keeps what it says of the incarnations that were there.
-use Rattle.std.proofs.Common.{◌≡◌, ◌∙◌, ℕ, ◌+◌, ◌-◌, ◌<◌, ◌≤◌, inl, inr, List, [], ◌∷◌, ◌++◌, length, length-append, slice_set, ap, sym, subst, arith}
+use Rattle.std.proofs.Common.{◌≡◌, ◌∙◌, ℕ, zero, suc, ◌+◌, ◌-◌, ◌<◌, ◌≤◌, inl, inr, List, [], ◌∷◌, ◌++◌, length, length-append, slice_set, ap, sym, subst, arith}
 use Rattle.std.proofs.Math.Seq.{set-append_seam}
 use Rattle.std.proofs.lemmas.Bool.{cases_eq, cases_lt}
 use Rattle.rm_history.specs.declared.tree.Incarnation.{Incarnation}
 use Rattle.rm_history.specs.Tree.{HasParentsBelow, IsThere, owner, parent_of, reset_of, end_of, with_end, with_branch, branched}
 use Rattle.rm_history.proofs.Branches.{IsThere-with_branch, IsThere-branched, owner-with_branch, reset_of-with_branch, end_of-with_branch, parent_of-branched, reset_of-branched, end_of-branched}
 use Rattle.rm_history.proofs.Ends.{IsThere-with_end, owner-with_end, parent_of-with_end, reset_of-with_end, end_of-with_end, end_of-with_end_other}
-use Rattle.rm_history.proofs.Owners.{parent-none}
+use Rattle.rm_history.proofs.Owners.{owner-cases, owner-first, parent-none}
 use Rattle.rm_ledger.specs.Facts.{AreIncarnations}
 use Rattle.rm_ledger.specs.Growth.{TreeGrows}
 
@@ -111,3 +111,29 @@ grown_keeps old current new are after (inr more) =
 pub current_there : (old : List Incarnation) (current : ℕ) (new : List Incarnation) → TreeGrows old current new → IsThere new current
 current_there old current new (inl end) = subst (λ (u : List Incarnation). IsThere u current) (sym end.2) (IsThere-with_end old current (end_of new current) current end.0)
 current_there old current new (inr more) = let long = length-append old (more.1.0 ∷ []) in let same = ap length more.1.1 in let is = more.0 in (omega arith, omega arith)
+
+-- No path but its own owns the end of an incarnation: what branched off it began at or below there.
+own-by : (tree : List Incarnation) (j : ℕ) → AreIncarnations tree → (most i : ℕ) → i ≤ most → IsThere tree i → owner tree i (end_of tree j) ≡ j → i ≡ j
+own-by tree j are zero i few there own = (let some = there.0 in absurd (omega (arith, some, few)))
+own-by tree j are (suc most) i few there own =
+    let end = end_of tree j in
+    elim (owner-cases tree (parents_below tree are) i end there.0) [
+      | inl here ↦ sym here.1 ∙ own
+      | inr above ↦ elim (cases_lt 1 i) [
+        | inl second ↦
+            let less : parent_of tree i < i = parents_below tree are i there.0 in
+            let inside = there.1 in
+            let parent : parent_of tree i ≡ j =
+            own-by tree j are most (parent_of tree i) (omega (arith, less, few)) ((are.branches i second inside).parent.0, omega (arith, less, inside)) (sym above.1 ∙ own) in
+            let low : reset_of tree i ≤ end = subst (λ n. reset_of tree i ≤ end_of tree n) parent ((are.branches i second inside).end) in
+            let high = above.0 in
+            absurd (omega (arith, low, high))
+        | inr first ↦
+            let some = there.0 in
+            let one : i ≡ 1 = omega (arith, first, some) in
+            one ∙ sym (owner-first tree end) ∙ ap (λ n. owner tree n end) (sym one) ∙ own
+      ]
+    ]
+
+pub own-at_end : (tree : List Incarnation) (i j : ℕ) → AreIncarnations tree → IsThere tree i → owner tree i (end_of tree j) ≡ j → i ≡ j
+own-at_end tree i j are there own = own-by tree j are i i (omega arith) there own

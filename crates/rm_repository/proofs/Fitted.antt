@@ -1,9 +1,9 @@
 -- A change that fits keeps the rules.
 use Rattle.std.proofs.Common.{◌≡◌, ◌∙◌, ℕ, ◌+◌, ◌-◌, ◌<◌, ◌≤◌, ◌⊎◌, inl, inr, List, [], ◌∷◌, ◌++◌, Option, Some, None, refl, ap, sym, subst, arith, length, length-append, All, AllPairs, Contains}
-use Rattle.std.specs.Prelude.{IfSome, sum_by}
+use Rattle.std.specs.Prelude.{IfSome}
 use Rattle.std.proofs.lemmas.Bool.{cases_eq}
 use Rattle.std.proofs.lemmas.List.{length-map, length-set}
-use Rattle.std.proofs.lemmas.List.Elements.{All-append, All-contains, All-cons, All-nil, All-push, All-weaker, Contains-append_left, Contains-append_right, Contains-get_or}
+use Rattle.std.proofs.lemmas.List.Elements.{All-contains, All-cons, All-nil, All-push, All-weaker, Contains-append_left, Contains-append_right}
 use Rattle.std.proofs.lemmas.List.Sums.{sum_by-append, sum_by-cons}
 use Rattle.rm_base.specs.Numbers.{last_moment, last_scn}
 use Rattle.rm_base.specs.declared.block.Mark.{Mark}
@@ -15,18 +15,18 @@ use Rattle.rm_catalog.specs.declared.record.Record.TheVariants as kind
 use Rattle.rm_history.specs.declared.tree.Incarnation.{Incarnation}
 use Rattle.rm_history.specs.declared.world.Datafile.{Datafile}
 use Rattle.rm_history.specs.Tree.{IsThere, parent_of, reset_of, end_of, with_branch, with_end}
-use Rattle.rm_history.proofs.Branches.{IsThere-with_branch, IsThere-branched, end_of-branched, end_of-with_branch, length-with_branch, parent_of-branched, parent_of-with_branch, reset_of-branched, reset_of-with_branch}
+use Rattle.rm_history.proofs.Branches.{IsThere-branched, end_of-branched, end_of-with_branch, length-with_branch, parent_of-branched, parent_of-with_branch, reset_of-branched, reset_of-with_branch}
 use Rattle.rm_history.proofs.Ends.{parent_of-with_end, reset_of-with_end, end_of-with_end, end_of-with_end_other}
 use Rattle.rm_base.proofs.Members.{in-front}
-use Rattle.rm_ledger.specs.Facts.{AreIncarnations, AreMarks, HasMark, IsBranch, IsCreated, IsLedger, IsLogEntry, IsMark, IsPieceEntry}
+use Rattle.rm_ledger.specs.Facts.{AreIncarnations, AreMarks, HasMark, IsBranch, IsCreated, IsLogEntry, IsMark, IsPieceEntry}
 use Rattle.rm_ledger.specs.Ledger.{Ledger, incarnation_record, datafile_record, mark_record}
 use Rattle.rm_ledger.specs.Ledger.{records_of as ledger_records}
 use Rattle.rm_ledger.proofs.Keeping.{log_kept, mark_kept, pairs_append, piece_kept}
 use Rattle.rm_ledger.proofs.Order.{incarnations_of, datafiles_of, logs_of, pieces_of, marks_of, length-numbered}
 use Rattle.rm_ledger.proofs.Trees.{Keeps, keeps_branch, keeps_end, parents_below}
-use Rattle.rm_repository.specs.Changes.{with_base, with_end_at, with_file, with_incarnation, with_log, with_mark, with_moment, with_one, with_piece, without_log, without_one, without_piece}
+use Rattle.rm_repository.specs.Changes.{with_base, with_end_at, with_file, with_incarnation, with_log, with_mark, with_piece, without_log, without_piece}
 use Rattle.rm_repository.specs.Facts.{IsPartEntry, IsRepository, IsSaved}
-use Rattle.rm_repository.specs.Fitting.{FitsBase, FitsBranch, FitsFile, FitsLog, FitsMark, FitsPiece, HasId, HasRoomFor, IsNextMoment, LacksId}
+use Rattle.rm_repository.specs.Fitting.{FitsBase, FitsBranch, FitsFile, FitsLog, FitsMark, FitsPiece, LacksId}
 use Rattle.rm_repository.specs.Repository.{Repository, Saved}
 use Rattle.rm_repository.proofs.Ones.{all-with, all-without, ascend-with, ascend-without, contains-with, contains-without, length-replaced, length-with, length-without}
 
@@ -289,7 +289,7 @@ old-or-new tree p at i there =
     let low = there.0 in
     let high = there.1 in
     let long = length-with_branch tree p at in
-    elim (cases_eq i (length tree + 1)) [ | inl new ↦ inr new | inr other ↦ inl (low, omega (arith, high, long, other)) ]
+    elim (cases_eq i (length tree + 1)) [ inl new ↦ inr new | inr other ↦ inl (low, omega (arith, high, long, other)) ]
 
 branched-branch : (tree : List Incarnation) (p at i : ℕ) → AreIncarnations tree → IsThere tree p → reset_of tree p ≤ at → at ≤ end_of tree p → 1 < i → IsThere tree i ⊎ (i ≡ length tree + 1) → IsBranch (with_branch tree p at) i
 branched-branch tree p at i is there low high later (inl was) =

@@ -1,5 +1,5 @@
 -- What holds of objects that ascend by id, after one is put among them or taken away.
-use Rattle.std.proofs.Common.{◌≡◌, ◌∙◌, ℕ, zero, suc, ◌+◌, ◌<◌, ◌≤◌, inl, inr, List, [], ◌∷◌, ◌++◌, ap, sym, subst, arith, get_or, length, length-append, All, AllPairs, Contains}
+use Rattle.std.proofs.Common.{◌≡◌, ◌∙◌, ℕ, zero, suc, ◌+◌, ◌<◌, ◌≤◌, inl, inr, List, [], ◌∷◌, ap, sym, subst, arith, get_or, length, length-append, All, AllPairs, Contains}
 use Rattle.std.specs.Prelude.{nat_lt}
 use Rattle.std.proofs.lemmas.Bool.{cases_lt}
 use Rattle.std.proofs.lemmas.List.Elements.{All-append, All-cons, All-contains, All-filter, All-nil, Contains-get_or}
@@ -51,8 +51,8 @@ module _ {A : Type 0} (id : A → ℕ) where
       let high = higher id (id x) xs in
       let from : All (λ z. id x < id z) high = higher-over (id x) xs in
       let behind : AllPairs (λ y z. id y < id z) (x ∷ high) =
-          pairs_append Ascend (x ∷ []) high (λ i j d less lt. absurd (omega (arith, less, lt))) (AllPairs-filter Ascend (λ y. nat_lt (id x) (id y)) xs up)
-          (λ y z one more. All-contains (λ (w : A). id w < id z) (x ∷ []) y (All-cons (λ (w : A). id w < id z) x [] (All-contains (λ (w : A). id x < id w) high z from more) (All-nil (λ (w : A). id w < id z))) one)
+      pairs_append Ascend (x ∷ []) high (λ i j d less lt. absurd (omega (arith, less, lt))) (AllPairs-filter Ascend (λ y. nat_lt (id x) (id y)) xs up)
+      (λ y z one more. All-contains (λ (w : A). id w < id z) (x ∷ []) y (All-cons (λ (w : A). id w < id z) x [] (All-contains (λ (w : A). id x < id w) high z from more) (All-nil (λ (w : A). id w < id z))) one)
       in
       let upto : All (λ z. id x ≤ id z) (x ∷ high) = All-cons (λ (z : A). id x ≤ id z) x high (omega arith) (λ k d lt. let h = from k d lt in omega (arith, h)) in
       pairs_append Ascend low (x ∷ high) (AllPairs-filter Ascend (λ y. nat_lt (id y) (id x)) xs up) behind

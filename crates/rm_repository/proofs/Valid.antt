@@ -1,6 +1,6 @@
 -- The records of a repository are valid: those of a saved site stand behind all others, of which each rule holds as before.
-use Rattle.std.proofs.Common.{◌≡◌, ◌≢◌, ◌∙◌, ℕ, zero, suc, ◌+◌, ◌-◌, ◌<◌, ◌≤◌, ◌==◌, inl, inr, Bool, true, false, cond, leb, List, [], ◌∷◌, ◌++◌, map, get_or, length, Option, Some, None, refl, ap, sym, subst, arith, All, AllPairs, Contains, eq-eqb, le-ltb}
-use Rattle.std.specs.Prelude.{IfSome, IsSome, IsSomeAnd, IsTrue, MatchBool, ◌||◌, ◌&&◌, count_by, nat_lt, option_and_then, sum_by}
+use Rattle.std.proofs.Common.{◌≡◌, ◌∙◌, ℕ, zero, suc, ◌+◌, ◌-◌, ◌<◌, ◌≤◌, ◌==◌, inl, inr, Bool, false, cond, leb, List, [], ◌∷◌, ◌++◌, map, get_or, length, Option, Some, None, refl, ap, sym, subst, arith, All, AllPairs, Contains, eq-eqb, le-ltb}
+use Rattle.std.specs.Prelude.{IfSome, IsSome, IsSomeAnd, MatchBool, ◌||◌, ◌&&◌, count_by, nat_lt, option_and_then, sum_by}
 use Rattle.std.specs.List.{list_any}
 use Rattle.std.specs.Option.{option_map_or}
 use Rattle.std.proofs.lemmas.Bool.{cases_eq, false≢true, ne_eqb}
@@ -8,7 +8,6 @@ use Rattle.std.proofs.lemmas.List.Elements.{All-contains, All-map, All-nil, All-
 use Rattle.std.proofs.lemmas.List.Folds.{list_any-append}
 use Rattle.std.proofs.lemmas.List.Sums.{sum_by-append, sum_by-cons}
 use Rattle.rm_catalog.specs.declared.record.DatafileEntry.{DatafileEntry}
-use Rattle.rm_catalog.specs.declared.record.HeadEntry.{HeadEntry}
 use Rattle.rm_catalog.specs.declared.record.IncarnationEntry.{IncarnationEntry}
 use Rattle.rm_catalog.specs.declared.record.LogEntry.{LogEntry}
 use Rattle.rm_catalog.specs.declared.record.MarkEntry.{MarkEntry}
@@ -16,20 +15,19 @@ use Rattle.rm_catalog.specs.declared.record.PartEntry.{PartEntry}
 use Rattle.rm_catalog.specs.declared.record.PieceEntry.{PieceEntry}
 use Rattle.rm_catalog.specs.declared.record.Record.{Record}
 use Rattle.rm_catalog.specs.declared.record.Record.TheVariants as kind
-use Rattle.rm_catalog.specs.Facts.{BeginsOn, BranchRule, IsCreatedOn, IsWithin, blocks_to, is_mark_of}
+use Rattle.rm_catalog.specs.Facts.{BeginsOn, IsCreatedOn, IsWithin, blocks_to, is_mark_of}
 use Rattle.rm_catalog.specs.Keys.{place, place_of, at, datafile, datafile_in, incarnation, incarnation_in, mark, mark_in}
 use Rattle.rm_catalog.specs.Keys.{IsThere as HasKey}
 use Rattle.rm_catalog.specs.Objects.{FitsDatafile, IsRange, owner_in}
-use Rattle.rm_catalog.specs.Rules.{IsAmongFirst, IsCatalog, IsOnce, Obeys, OwnRule}
+use Rattle.rm_catalog.specs.Rules.{IsAmongFirst, IsCatalog, Obeys, OwnRule}
 use Rattle.rm_catalog.specs.Saved.{HeadRule, NamesOne, PartRule, is_part_of}
 use Rattle.rm_catalog.proofs.Counts.{alike_count}
 use Rattle.rm_catalog.proofs.Told.{at_here, at_past, found_is}
 use Rattle.rm_base.proofs.Members.{behind, in-front}
-use Rattle.rm_history.specs.Tree.{IsThere}
 use Rattle.rm_ledger.specs.Ledger.{Ledger}
 use Rattle.rm_ledger.specs.Ledger.{records_of as ledger_records}
 use Rattle.rm_ledger.proofs.Counted.{rises-once, sum-none-map}
-use Rattle.rm_ledger.proofs.Lookups.{IsOf, datafile-at, has-log, incarnation-there, item-at, log-id-within, log-told, none-there, of_base, of_datafile, of_incarnation, of_log, of_mark, of_piece, piece-id-within, piece-told, record-is}
+use Rattle.rm_ledger.proofs.Lookups.{IsOf, datafile-at, incarnation-there, item-at, log-id-within, log-told, none-there, of_base, of_datafile, of_incarnation, of_log, of_mark, of_piece, piece-id-within, piece-told, record-is}
 use Rattle.rm_ledger.proofs.Order.{Runs, records-run, rises-found, rises-order, runs-append, runs-rise, runs-within}
 use Rattle.rm_ledger.proofs.Valid.{ledger-valid}
 use Rattle.rm_repository.specs.Facts.{AreApart, IsPartEntry, IsRepository, IsSaved}

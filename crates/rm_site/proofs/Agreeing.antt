@@ -20,14 +20,15 @@ use Rattle.rm_database.specs.Parts.{Parts, now_of}
 use Rattle.rm_database.specs.Sound.{IsSound}
 use Rattle.rm_database.specs.Step.{DoneIn, refusal_in}
 use Rattle.rm_database.specs.Write.{change_of, with_write, write_refusal}
-use Rattle.rm_database.proofs.KeptChanges.{is_of-not}
+use Rattle.rm_history.proofs.Below.{is_of-not}
 use Rattle.rm_database.proofs.KeptWrites.{keeps-write}
 use Rattle.rm_site.specs.Advances.{Advances}
 use Rattle.rm_site.specs.Holds.{Agrees, IsOfDatafile, IsWithin}
 use Rattle.rm_site.specs.Machine.{Artefact, a_log, a_piece}
 use Rattle.rm_site.proofs.Fitting.{incarnations-of}
 use Rattle.rm_site.proofs.Leading.{Course, stays, adds, writes, branches_off, leads}
-use Rattle.rm_site.proofs.Paths.{own-at_end}
+use Rattle.rm_ledger.proofs.Trees.{own-at_end}
+use Rattle.rm_site.proofs.Fitting.{incarnations-of}
 
 -- CREATE DATAFILE
 agrees-added : (p : Parts) (blocks : ℕ) (h : List Change) (a : Artefact) → IsSound p → IsOfDatafile p.world a → Agrees p.world h a → Agrees (with_datafile p blocks).world h a
@@ -49,7 +50,7 @@ agrees-written p w h (a_piece a) s accepted k within agrees =
     BaseAgrees-grown (with_tree p.world (with_end tree p.current (now + 1))) h (change_of p w) (keeps-write p w h s accepted k).history (base_of a)
     (BaseAgrees-with_end p.world p.current (now + 1) h (base_of a) s.there agrees)
     (λ own.
-    let same : a.inc ≡ p.current = own-at_end tree a.inc p.current s.incarnations within.0 (sym (owner-with_end tree p.current (now + 1) a.inc now s.there) ∙ own) in
+    let same : a.inc ≡ p.current = own-at_end tree a.inc p.current (incarnations-of tree s.incarnations) within.0 (sym (owner-with_end tree p.current (now + 1) a.inc now s.there) ∙ own) in
     let high = within.1 in
     let end : end_of tree a.inc ≡ now = ap (end_of tree) same in
     omega (arith, high, end))

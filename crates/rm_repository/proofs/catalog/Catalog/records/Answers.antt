@@ -1,4 +1,4 @@
-use Rattle.std.proofs.Common.{arith, length}
+use Rattle.std.proofs.Common.{arith}
 use Rattle.rm_repository.proofs.Changed.{marks_few}
 use Rattle.rm_repository.proofs.catalog.Catalog.records.Goals as goal
 

@@ -11,9 +11,9 @@ use Rattle.rm_history.specs.Artefacts.{Log}
 use Rattle.rm_history.specs.State.{concerns, later, latest, row_of, state}
 use Rattle.rm_history.specs.Tree.{IsThere, end_of, owner, with_end}
 use Rattle.rm_history.specs.World.{creation_of}
+use Rattle.rm_history.proofs.Ends.{ends-risen}
 use Rattle.rm_history.proofs.Growth.{concerns-later}
 use Rattle.rm_history.proofs.States.{concerns-parts, concerns-from}
-use Rattle.rm_database.proofs.Growing.{grows-with_end}
 
 -- each change lies below the end of its incarnation
 abbrev pub LieBelow : List Incarnation → List Change → Type 0
@@ -22,7 +22,7 @@ LieBelow tree h = All (λ c. c.scn < end_of tree c.inc) h
 pub below-risen : (tree : List Incarnation) (j end : ℕ) (h : List Change) → IsThere tree j → end_of tree j ≤ end → ((c : Change) → Contains h c → IsThere tree c.inc) → LieBelow tree h → LieBelow (with_end tree j end) h
 below-risen tree j end h there up known below k d inside =
     let low = below k d inside in
-    let rises = (grows-with_end tree j end there up).ends _ (known _ (Contains-get_or h k d inside)) in
+    let rises = ends-risen tree j end _ there up (known _ (Contains-get_or h k d inside)) in
     omega (arith, low, rises)
 
 -- Tests that agree on a history find the same in it.

@@ -1,0 +1,9 @@
+pub mod Creating
+pub mod Kept
+pub mod Later
+pub mod Leading
+pub mod Places
+pub mod Writes
+pub mod WritesKeep
+pub mod WritesSound
+pub mod Writing

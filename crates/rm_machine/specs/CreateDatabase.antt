@@ -1,0 +1,20 @@
+-- CREATE DATABASE DBID d THREADS n SCN s
+use Rattle.std.specs.Prelude.{ℕ, true, Some, None, []}
+use Rattle.rm_base.specs.Store.{Held}
+use Rattle.rm_ledger.specs.Growth.{fresh}
+use Rattle.rm_redo.specs.Online.{fresh_logs}
+use Rattle.rm_machine.specs.Machine.{Machine}
+use Rattle.rm_machine.specs.State.{State}
+
+-- a new database, which is open
+abbrev pub fresh_state : (dbid threads scn moment : ℕ) → State
+fresh_state dbid threads scn moment =
+    record {
+      catalog = record { ledger = fresh dbid threads scn moment; saved = None };
+      instance = record { is_open = true; point = None; place = []; logs = fresh_logs dbid 1 threads scn };
+    }
+
+-- the machine of it: nothing was written or recorded
+abbrev pub fresh_machine : Held → (dbid threads scn moment : ℕ) → Machine
+fresh_machine objects dbid threads scn moment =
+    record { state = Some (fresh_state dbid threads scn moment); history = []; objects = objects; made = []; touched = [] }

@@ -1,0 +1,10 @@
+pub mod CreateDatabase
+pub mod Effect
+pub mod Laws
+pub mod Machine
+pub mod Marks
+pub mod Names
+pub mod Sound
+pub mod State
+pub mod Step
+pub mod Write

@@ -1,0 +1,146 @@
+-- The machine: a database, and what nobody sees of it.
+use Rattle.std.specs.Prelude.{ℕ, ◌≡◌, ◌⊎◌, ◌≤◌, ◌<◌, true, false, Option, Some, None, List, [], All, Contains, length, slice_get}
+use Rattle.rm_base.specs.Store.{Held}
+use Rattle.rm_base.specs.declared.block.Change.{Change}
+use Rattle.rm_base.specs.declared.kinds.Kind.{Kind}
+use Rattle.rm_base.specs.declared.kinds.Kind.TheVariants.{Level1}
+use Rattle.rm_blocks.specs.File.{File, base_of}
+use Rattle.rm_catalog.specs.declared.record.LogEntry.{LogEntry}
+use Rattle.rm_catalog.specs.declared.record.PieceEntry.{PieceEntry}
+use Rattle.rm_history.specs.declared.tree.Incarnation.{Incarnation}
+use Rattle.rm_history.specs.declared.world.Datafile.{Datafile}
+use Rattle.rm_history.specs.declared.world.World.{World}
+use Rattle.rm_history.specs.Agrees.{BaseAgrees, Level1Agrees, LogAgrees}
+use Rattle.rm_history.specs.History.{IsHistory}
+use Rattle.rm_history.specs.State.{state}
+use Rattle.rm_history.specs.Tree.{IsThere, end_of}
+use Rattle.rm_history.specs.World.{exists}
+use Rattle.rm_ledger.specs.Ledger.{Ledger}
+use Rattle.rm_objects.specs.Names.{log_name, piece_name}
+use Rattle.rm_objects.specs.Objects.{HasDigest, HasLogFields, HasPieceFields}
+use Rattle.rm_piece.specs.declared.piece.Piece.{Piece}
+use Rattle.rm_piece.specs.Artefacts as piece
+use Rattle.rm_piece.specs.Spelling as piece_format
+use Rattle.rm_piece.specs.Valid.{IsPiece}
+use Rattle.rm_redo.specs.declared.log_file.LogFile.{LogFile}
+use Rattle.rm_redo.specs.LogFile.{log_of}
+use Rattle.rm_redo.specs.LogFormat as log_format
+use Rattle.rm_redo.specs.LogFormat.{IsLogFile}
+use Rattle.rm_machine.specs.Effect.{Artefact, a_log, a_piece, Made}
+use Rattle.rm_machine.specs.Sound.{IsSound}
+use Rattle.rm_machine.specs.State.{State, ledger, tree, world, current_of, now_of, placed, counted, online, is_lost}
+
+pub record Machine : Type 0 where
+  -- the database, where there is one
+  pub state : Option State
+  -- each change that was ever made, in their order
+  pub history : List Change
+  -- the bytes under each name of the store
+  pub objects : Held
+  -- all artefacts that finished statements ever recorded
+  pub made : List Made
+  -- the names that HOST statements gave
+  pub touched : List (List ℕ)
+
+-- a piece agrees as a level 1, or else as a copy
+abbrev pub PieceAgrees : World → List Change → Kind → Piece → Type 0
+PieceAgrees w h Level1 a = Level1Agrees w h (piece.level1_of a)
+PieceAgrees w h _ a = BaseAgrees w h (piece.base_of a)
+
+-- the artefact agrees with the history
+abbrev pub ArtefactAgrees : World → List Change → Artefact → Type 0
+ArtefactAgrees w h (a_log a) = LogAgrees h (log_of a)
+ArtefactAgrees w h (a_piece a) = PieceAgrees w h a.kind a
+
+-- it is valid
+abbrev pub IsValidArtefact : Artefact → Type 0
+IsValidArtefact (a_log a) = IsLogFile a
+IsValidArtefact (a_piece a) = IsPiece a
+
+-- it is of an incarnation that is there, up to its end
+abbrev pub EndsWithin : List Incarnation → Artefact → Type 0
+EndsWithin tree (a_log a) = IsThere tree a.inc × (a.next ≤ end_of tree a.inc)
+EndsWithin tree (a_piece a) = IsThere tree a.inc × (a.checkpoint ≤ a.high) × (a.high ≤ end_of tree a.inc)
+
+-- a piece is of a datafile that is there
+abbrev pub IsOfDatafile : World → Artefact → Type 0
+IsOfDatafile w (a_log a) = Unit {0}
+IsOfDatafile w (a_piece a) = a.file ≤ length w.files
+
+-- what is true of each artefact that was ever recorded
+pub record IsTrueArtefact (w : World) (h : List Change) (a : Artefact) : Type 0 where
+  pub agrees : ArtefactAgrees w h a
+  pub valid : IsValidArtefact a
+  pub within : EndsWithin w.tree a
+  pub of : IsOfDatafile w a
+
+-- what stands under a name is the spelling of the artefact, unless HOST touched the name
+abbrev pub HoldsUnder : Held → List (List ℕ) → List ℕ → List ℕ → Type 0
+HoldsUnder objects touched name bytes = Contains touched name ⊎ (objects name ≡ Some bytes)
+
+-- the record is that of an artefact, which stands under its name
+pub record HasLogArtefact (objects : Held) (made : List Made) (touched : List (List ℕ)) (l : LogEntry) : Type 0 where
+  pub artefact : LogFile
+  pub is : Contains made (record { name = log_name l.id; artefact = a_log artefact })
+  pub fields : HasLogFields l artefact
+  pub digest : HasDigest (log_format.spelling artefact) l.size l.sha
+  pub there : HoldsUnder objects touched (log_name l.id) (log_format.spelling artefact)
+
+pub record HasPieceArtefact (objects : Held) (made : List Made) (touched : List (List ℕ)) (p : PieceEntry) : Type 0 where
+  pub artefact : Piece
+  pub is : Contains made (record { name = piece_name p.copy p.id; artefact = a_piece artefact })
+  pub fields : HasPieceFields p artefact
+  pub digest : HasDigest (piece_format.spelling artefact) p.size p.sha
+  pub there : HoldsUnder objects touched (piece_name p.copy p.id) (piece_format.spelling artefact)
+
+-- each record has its artefact
+pub record HaveArtefacts (objects : Held) (made : List Made) (touched : List (List ℕ)) (l : Ledger) : Type 0 where
+  pub logs : (e : LogEntry) → Contains l.logs e → HasLogArtefact objects made touched e
+  pub pieces : (e : PieceEntry) → Contains l.pieces e → HasPieceArtefact objects made touched e
+
+-- each row is the state of its block at (i, s)
+abbrev pub RowsAre : World → List Change → ℕ → ℕ → File → Type 0
+RowsAre w h i s x = All (λ r. r ≡ state w h i s x.file r.block) x.rows
+
+-- the history and what is in place go together
+pub record HistoryFits (s : State) (h : List Change) : Type 0 where
+  pub history : IsHistory (world s) h
+  -- each change lies below the end of its incarnation
+  pub below : All (λ c. c.scn < end_of (tree s) c.inc) h
+  -- each online log that is not lost agrees, and so does each datafile in place
+  pub online : (t : ℕ) → 0 < t → t ≤ (ledger s).base.threads → is_lost s.instance.logs t ≡ false → LogAgrees h (log_of (online s t))
+  pub place : (f : ℕ) (x : File) → placed s f ≡ Some x → BaseAgrees (world s) h (base_of (counted s x))
+  -- in an open database it has the state at `now`
+  pub in_open : s.instance.is_open ≡ true → (f : ℕ) (x : File) → placed s f ≡ Some x → RowsAre (world s) h (current_of s) (now_of s) x
+  -- and what stands at the point has the state there
+  pub point : (at : ℕ) → s.instance.point ≡ Some at → (k : ℕ) (d : Datafile) (x : File) → slice_get (ledger s).files k ≡ Some d → exists (world s) (current_of s) at d ≡ true → slice_get s.instance.place k ≡ Some (Some x) → RowsAre (world s) h (current_of s) at x
+
+-- the state is borne out by all that nobody sees: the history, the objects, and what was ever made
+pub record IsBorneOut (s : State) (h : List Change) (objects : Held) (made : List Made) (touched : List (List ℕ)) : Type 0 where
+  pub state : IsSound s
+  pub keeps : HistoryFits s h
+  pub artefacts : (a : Made) → Contains made a → IsTrueArtefact (world s) h a.artefact
+  pub records : HaveArtefacts objects made touched (ledger s)
+
+-- a database is borne out; without one nothing was ever written or recorded
+abbrev pub IsSoundBy : Option State → List Change → Held → List Made → List (List ℕ) → Type 0
+IsSoundBy None h objects made touched = (h ≡ []) × (made ≡ [])
+IsSoundBy (Some s) h objects made touched = IsBorneOut s h objects made touched
+
+abbrev pub IsSoundMachine : Machine → Type 0
+IsSoundMachine m = IsSoundBy m.state m.history m.objects m.made m.touched
+
+-- Digests tell: bytes under the name of a record that have its size and SHA-256 are those that it was made
+-- for.
+pub record DigestsTellFor (objects : Held) (made : List Made) (l : Ledger) : Type 0 where
+  pub logs : (e : LogEntry) (a : LogFile) (bytes : List ℕ) → Contains l.logs e → Contains made (record { name = log_name e.id; artefact = a_log a }) → HasDigest (log_format.spelling a) e.size e.sha
+      → objects (log_name e.id) ≡ Some bytes → HasDigest bytes e.size e.sha → bytes ≡ log_format.spelling a
+  pub pieces : (e : PieceEntry) (a : Piece) (bytes : List ℕ) → Contains l.pieces e → Contains made (record { name = piece_name e.copy e.id; artefact = a_piece a }) → HasDigest (piece_format.spelling a) e.size e.sha
+      → objects (piece_name e.copy e.id) ≡ Some bytes → HasDigest bytes e.size e.sha → bytes ≡ piece_format.spelling a
+
+abbrev pub TellBy : Option State → Held → List Made → Type 0
+TellBy None objects made = Unit {0}
+TellBy (Some s) objects made = DigestsTellFor objects made (ledger s)
+
+abbrev pub DigestsTell : Machine → Type 0
+DigestsTell m = TellBy m.state m.objects m.made

@@ -1,0 +1,47 @@
+-- The marks that statements write, and the room for records, bytes and ids.
+use Rattle.std.specs.Prelude.{ℕ, ◌+◌, ◌&&◌, ◌++◌, nat_lt, if◌then◌else◌, Bool, Option, Some, None, List, [], ◌∷◌, length, sum_by}
+use Rattle.rm_base.specs.declared.block.Mark.{Mark}
+use Rattle.rm_base.specs.declared.refusal.Refusal.{Refusal}
+use Rattle.rm_base.specs.declared.refusal.Refusal.TheVariants.{Rm11}
+use Rattle.rm_base.specs.declared.refusal.Limit.TheVariants.{ObjectIds}
+use Rattle.rm_catalog.specs.Objects.{most_bytes}
+use Rattle.rm_ledger.specs.Ledger.{Ledger, records_of}
+use Rattle.rm_repository.specs.Repository.{Repository}
+use Rattle.rm_machine.specs.State.{State, ledger, current_of, now_of}
+
+-- the moment of the last mark, 0 before the first
+abbrev pub last_marked : ℕ → List Mark → ℕ
+last_marked moment [] = moment
+last_marked moment (m ∷ ms) = last_marked m.moment ms
+
+-- a mark of `now`, at the moment of the statement
+abbrev pub mark_now : State → Mark
+mark_now s = record { moment = (ledger s).base.moment; inc = current_of s; scn = now_of s }
+
+-- the mark before a change: `now`, where the moment of the statement is later than the last mark's
+abbrev pub marks_before : State → List Mark
+marks_before s = if nat_lt (last_marked 0 (ledger s).marks) (ledger s).base.moment then mark_now s ∷ [] else []
+
+-- with these marks more
+abbrev pub with_marks : Repository → List Mark → Repository
+with_marks r marks = record r { ledger = record r.ledger { marks = r.ledger.marks ++ marks } }
+
+-- n records more would be too many
+abbrev pub lacks_room : State → ℕ → Bool
+lacks_room s n = nat_lt 0 n && nat_lt 65536 (length (records_of (ledger s)) + n)
+
+-- the sizes that stand in records
+abbrev pub bytes_in : Ledger → ℕ
+bytes_in l = sum_by (λ e. e.size) l.logs + sum_by (λ p. p.size) l.pieces
+
+-- n bytes more would be too many
+abbrev pub lacks_bytes : State → ℕ → Bool
+lacks_bytes s n = nat_lt 0 n && nat_lt most_bytes (bytes_in (ledger s) + n)
+
+-- too few ids are left for n objects: a save may draw 68 ids more
+abbrev pub lacks_ids : State → ℕ → Bool
+lacks_ids s n = nat_lt 4294967295 ((ledger s).base.next_id + n + 68)
+
+-- each statement that changes something needs the ids of a save left
+abbrev pub ids_refusal : State → Option Refusal
+ids_refusal s = if lacks_ids s 0 then Some (Rm11 ObjectIds) else None

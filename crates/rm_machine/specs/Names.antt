@@ -1,0 +1,11 @@
+-- The names of the objects of which records tell.
+use Rattle.std.specs.Prelude.{ℕ, List, Contains}
+use Rattle.rm_catalog.specs.declared.record.LogEntry.{LogEntry}
+use Rattle.rm_catalog.specs.declared.record.PieceEntry.{PieceEntry}
+use Rattle.rm_ledger.specs.Ledger.{Ledger}
+use Rattle.rm_objects.specs.Names.{log_name, piece_name}
+
+-- the object of one of the records has this name
+pub data IsObjectName (l : Ledger) : List ℕ → Type 0 where
+  of_log : (e : LogEntry) → Contains l.logs e → IsObjectName l (log_name e.id)
+  of_piece : (e : PieceEntry) → Contains l.pieces e → IsObjectName l (piece_name e.copy e.id)

@@ -1,0 +1,82 @@
+-- A database as it is at hand: its catalog, and what runs. Nothing stands in both.
+use Rattle.std.specs.Prelude.{ℕ, ◌-◌, if◌then◌else◌, Bool, false, Option, Some, None, List, slice_get, slice_index_or}
+use Rattle.std.specs.Option.{option_and_then, option_map_or}
+use Rattle.rm_blocks.specs.File.{File, standing}
+use Rattle.rm_history.specs.declared.tree.Incarnation.{Incarnation}
+use Rattle.rm_history.specs.declared.world.Datafile.{Datafile}
+use Rattle.rm_history.specs.declared.world.World.{World}
+use Rattle.rm_history.specs.Tree.{end_of}
+use Rattle.rm_history.specs.World.{file_of, exists}
+use Rattle.rm_ledger.specs.Ledger.{Ledger}
+use Rattle.rm_redo.specs.declared.log_file.LogFile.{LogFile}
+use Rattle.rm_redo.specs.LogFile.{log_file_of}
+use Rattle.rm_redo.specs.Logs.{Logs}
+use Rattle.rm_repository.specs.Repository.{Repository}
+use Rattle.rm_repository.specs.Changes.{with_moment, without_saved}
+
+-- what runs: nothing of it stands in the catalog
+pub record Instance : Type 0 where
+  -- its mode: open, or mounted
+  pub is_open : Bool
+  -- The SCN of the current incarnation at which each datafile that exists there stands in place, where
+  -- one is known.
+  pub point : Option ℕ
+  -- what stands in place of datafiles 1, 2, 3 and so on; none where one is lost
+  pub place : List (Option File)
+  -- the online logs; each may be lost
+  pub logs : Logs
+
+pub record State : Type 0 where
+  pub catalog : Repository
+  pub instance : Instance
+
+-- the records of its database, a saved site left aside
+abbrev pub ledger : State → Ledger
+ledger s = s.catalog.ledger
+
+-- its incarnations
+abbrev pub tree : State → List Incarnation
+tree s = s.catalog.ledger.tree
+
+-- the database as recovery knows it
+abbrev pub world_of : Ledger → World
+world_of l = record { tree = l.tree; threads = l.base.threads; files = l.files }
+
+abbrev pub world : State → World
+world s = world_of (ledger s)
+
+-- the current incarnation
+abbrev pub current_of : State → ℕ
+current_of s = s.catalog.ledger.base.current
+
+-- the SCN that the next change takes
+abbrev pub now_of : State → ℕ
+now_of s = end_of (tree s) (current_of s)
+
+-- the SCN up to which the online logs tell
+abbrev pub redo_end : State → ℕ
+redo_end s = end_of (tree s) s.instance.logs.inc
+
+-- what stands in place of the datafile of this number
+abbrev pub placed : State → ℕ → Option File
+placed s f = slice_index_or s.instance.place (f - 1) None
+
+-- as what it counts: in an open database as one of the current incarnation at `now`
+abbrev pub counted : State → File → File
+counted s x = if s.instance.is_open then standing x (current_of s) (now_of s) else x
+
+-- the online log of a thread, which tells up to the end of its incarnation
+abbrev pub online : State → ℕ → LogFile
+online s t = log_file_of s.instance.logs t (redo_end s)
+
+-- the log of the thread is lost
+abbrev pub is_lost : Logs → ℕ → Bool
+is_lost logs t = option_map_or (λ l. l.is_lost) (slice_get logs.threads (t - 1)) false
+
+-- the datafile of this number, where it is on the current path
+abbrev pub on_path : State → ℕ → Option Datafile
+on_path s f = option_and_then (λ d. if exists (world s) (current_of s) (now_of s) d then Some d else None) (file_of (world s) f)
+
+-- The state on which a statement acts: its moment is kept, and no site is saved any longer.
+abbrev pub at_moment : State → ℕ → State
+at_moment s moment = record s { catalog = without_saved (with_moment s.catalog moment) }

@@ -1,0 +1,28 @@
+//! What the machine does.
+ghost use Rattle.std.specs.Prelude.{ℕ, ◌<◌, ◌≤◌, ◌^◌};
+ghost use Rattle.rm_base.specs.Numbers.{last_moment, last_scn};
+ghost use Rattle.rm_base.specs.Store.{Held};
+ghost use Rattle.rm_lang.specs.declared.command.WriteForm.{WriteForm};
+ghost use Rattle.rm_machine.specs.CreateDatabase.{fresh_machine};
+ghost use Rattle.rm_machine.specs.Laws.{IsMomentOf, LeadsOn, StaysSound};
+ghost use Rattle.rm_machine.specs.Machine.{IsSoundMachine};
+ghost use Rattle.rm_machine.specs.Sound.{IsSound};
+ghost use Rattle.rm_machine.specs.State.{State, at_moment};
+ghost use Rattle.rm_machine.specs.Step.{write};
+
+/// There are sound machines: that of a new database is one.
+pub fn a_new_database_is_sound()
+    ensures { (objects : Held) (dbid threads scn moment : ℕ) → 1 ≤ dbid → dbid < 2 ^ 32 → 1 ≤ threads → threads ≤ 4 → 1 ≤ scn → scn ≤ last_scn → moment ≤ last_moment → IsSoundMachine (fresh_machine objects dbid threads scn moment) }
+{}
+
+/// A state stays sound when a later moment is kept and its saved site goes.
+pub fn a_moment_keeps_a_state_sound()
+    ensures { (s : State) (moment : ℕ) → IsSound s → IsMomentOf s moment → IsSound (at_moment s moment) }
+{}
+
+/// WRITE: where digests tell it is a step from a sound machine to a sound one, and whatever the devices
+/// hold it leaves a sound state.
+pub fn a_write_leads_on()
+    ensures leads { (w : WriteForm) → LeadsOn (write w) }
+    ensures stays { (w : WriteForm) → StaysSound (write w) }
+{}

@@ -1,0 +1,4 @@
+//! The machine: what a statement does to a database, by what is at hand, and the history behind it.
+#![tactic(auto)]
+
+pub mod laws;
