@@ -21,7 +21,7 @@ use Rattle.rm_known.specs.Unknown.{IsWorld}
 use Rattle.rm_known.specs.Example.{world, change, history, copy, log, evidence}
 
 -- what holds of the only item holds of each
-only : {X : Type 0} (P : X → Type 0) (x : X) → P x → (y : X) → Contains (x ∷ []) y → P y
+pub only : {X : Type 0} (P : X → Type 0) (x : X) → P x → (y : X) → Contains (x ∷ []) y → P y
 only P x here y held = elim (first-or-rest x [] y held) [
   | inl same ↦ subst P same here
   | inr rest ↦ absurd (none-in y rest)
@@ -37,7 +37,7 @@ tree = record {
 }
 
 -- the file, and its first row
-abbrev file : Datafile
+abbrev pub file : Datafile
 file = record { inc = 1; creation = 1; blocks = 1 }
 
 abbrev row : Row
@@ -51,7 +51,7 @@ only-file : (d : Datafile) (n : ℕ) → slice_get (file ∷ []) n ≡ Some d �
 only-file d zero is = cc
 only-file d (suc n) is = absurd (cc)
 
-file-is : (f : ℕ) (d : Datafile) → file_of world f ≡ Some d → file ≡ d
+pub file-is : (f : ℕ) (d : Datafile) → file_of world f ≡ Some d → file ≡ d
 file-is f d is = only-file d (f - 1) (not-none (eqb f 0) (slice_get (file ∷ []) (f - 1)) d is)
 
 pub world-is : IsWorld world

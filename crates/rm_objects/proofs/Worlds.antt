@@ -15,7 +15,7 @@ use Rattle.rm_catalog.proofs.Numbering.{entries, entry_at, number_is, number_the
 use Rattle.rm_catalog.proofs.Trees.{length_nodes, parents_below, some_node, few_nodes, in_tree_is}
 use Rattle.rm_history.specs.declared.tree.Incarnation as tree
 use Rattle.rm_history.specs.declared.world.Datafile.{Datafile}
-use Rattle.rm_history.specs.Tree.{IsThere, IsTree, parent_of, reset_of}
+use Rattle.rm_history.specs.Tree.{IsThere, IsTree, end_of, parent_of, reset_of}
 use Rattle.rm_history.specs.World.{file_of}
 use Rattle.rm_objects.specs.Database.{created_by, world_of, IsCreated, IsSoundWorld}
 use Rattle.rm_objects.proofs.Files.{file_of-is}
@@ -44,6 +44,9 @@ reset-is rs n i c h = ap (λ (o : Option tree.Incarnation). option_map_or (λ (x
 pub parent-is : (rs : List Record) (n : ℕ) (i : IncarnationEntry) → IsCatalog rs → incarnation n rs ≡ Some i → parent_of (nodes rs) n ≡ i.parent
 parent-is rs n i c h = ap (λ (o : Option tree.Incarnation). option_map_or (λ (x : tree.Incarnation). x.parent) o 0) (in_tree_is rs n i c h)
 
+end-is : (rs : List Record) (n : ℕ) (i : IncarnationEntry) → IsCatalog rs → incarnation n rs ≡ Some i → end_of (nodes rs) n ≡ i.end
+end-is rs n i c h = ap (λ (o : Option tree.Incarnation). option_map_or (λ (x : tree.Incarnation). x.end) o 0) (in_tree_is rs n i c h)
+
 -- the record of an incarnation that is there
 pub record HasEntry (rs : List Record) (n : ℕ) : Type 0 where
   pub entry : IncarnationEntry
@@ -71,10 +74,11 @@ entry-of rs n c there =
       rule = incarnation-rule rs n (get_or (entries rs) (n - 1) d) c found;
     }
 
--- the parent of each but the first is there, and did not begin later
+-- the parent of each but the first is there, did not begin later, and did not end earlier
 pub record HasParent (rs : List Record) (n : ℕ) : Type 0 where
   pub some : 0 < parent_of (nodes rs) n
   pub begins : reset_of (nodes rs) (parent_of (nodes rs) n) ≤ reset_of (nodes rs) n
+  pub within : reset_of (nodes rs) n ≤ end_of (nodes rs) (parent_of (nodes rs) n)
 
 pub parent-there : (rs : List Record) (n : ℕ) → IsCatalog rs → IsThere (nodes rs) n → 1 < n → HasParent rs n
 parent-there rs n c there more =
@@ -89,8 +93,10 @@ parent-there rs n c there more =
         let low = (number_there rs e.entry.parent p c some).0 in
         let from = ap (λ (m : ℕ). reset_of (nodes rs) m) parent ∙ reset-is rs e.entry.parent p c some in
         let to = reset-is rs n e.entry c e.found in
+        let until = ap (λ (m : ℕ). end_of (nodes rs) m) parent ∙ end-is rs e.entry.parent p c some in
         let less = begins.reset in
-        record { some = omega arith; begins = omega arith }
+        let inside = begins.end in
+        record { some = omega arith; begins = omega arith; within = omega arith }
 
 first-parent : (rs : List Record) (n : ℕ) → IsCatalog rs → IsThere (nodes rs) n → n ≡ 1 → reset_of (nodes rs) (parent_of (nodes rs) n) ≤ reset_of (nodes rs) n
 first-parent rs n c there one =
@@ -104,6 +110,10 @@ ascends rs n c there = elim (cases_lt 1 n) [
   | inl more ↦ (parent-there rs n c there more).begins
   | inr le ↦ let low = there.0 in first-parent rs n c there (omega arith)
 ]
+
+-- and began at or below the end of its parent
+pub branch_within : (rs : List Record) (n : ℕ) → IsCatalog rs → IsThere (nodes rs) n → 1 < n → reset_of (nodes rs) n ≤ end_of (nodes rs) (parent_of (nodes rs) n)
+branch_within rs n c there more = (parent-there rs n c there more).within
 
 pub is-tree : (rs : List Record) → IsCatalog rs → HasDatabase rs → IsTree (nodes rs)
 is-tree rs c database = record {

@@ -3,6 +3,7 @@ pub mod Artefacts
 pub mod Clearing
 pub mod CopiesLeft
 pub mod Decisions
+pub mod Example
 pub mod FloorCopies
 pub mod Ids
 pub mod Needed
@@ -10,4 +11,5 @@ pub mod Ranks
 pub mod Safe
 pub mod SecondTime
 pub mod StaysTold
+pub mod Targets
 pub mod WholeCopies

@@ -1,6 +1,7 @@
 pub mod Catalogued
 pub mod Chosen
 pub mod Cleared
+pub mod Example
 pub mod Losing
 pub mod Needs
 pub mod Obsolete

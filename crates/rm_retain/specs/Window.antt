@@ -33,11 +33,12 @@ pub record IsInWindow (r : Retention) (i s : ℕ) : Type 0 where
   pub last : s ≤ end_of r.world.tree r.current
   pub owned : owner r.world.tree r.current s ≡ i
 
--- The target (i, s) is one of i: its SCN is one of i, and up to there the path of i is the current one.
--- Below where the current incarnation began, i is an ancestor, to which the database can be reset.
-pub record IsTargetOf (tree : List Incarnation) (current start i s : ℕ) : Type 0 where
+-- The target (i, s) is one of i: s lies from where i began up to its end, and up to there the path of i has
+-- the owners of the current one. Below where the current incarnation began, i is an ancestor, to which the
+-- database can be reset.
+pub record IsTargetOf (tree : List Incarnation) (current i s : ℕ) : Type 0 where
   pub there : IsThere tree i
-  pub begun : reset_of tree 1 ≤ start → reset_of tree i ≤ s
+  pub begun : reset_of tree i ≤ s
   pub ended : s ≤ end_of tree i
   pub alike : (g : ℕ) → g ≤ s → owner tree i g ≡ owner tree current g
   pub ancestor : s < reset_of tree current → IsProperAncestor tree i current

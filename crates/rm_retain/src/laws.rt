@@ -1,5 +1,6 @@
 //! Why no target of the window is lost with the records that the policy does not need.
-ghost use Rattle.std.specs.Prelude.{ℕ, ◌≡◌, List};
+ghost use Rattle.std.specs.Prelude.{ℕ, ◌≡◌, ◌≤◌, List, [], ◌∷◌};
+ghost use Rattle.rm_base.specs.Content.{padded};
 ghost use Rattle.rm_base.specs.declared.block.Block.{Block};
 ghost use Rattle.rm_base.specs.declared.block.Change.{Change};
 ghost use Rattle.rm_base.specs.declared.kinds.Policy.{Policy};
@@ -7,23 +8,26 @@ ghost use Rattle.rm_base.specs.declared.kinds.Policy.TheVariants.{Window};
 ghost use Rattle.rm_base.specs.Store.{Held};
 ghost use Rattle.rm_catalog.specs.declared.record.Record.{Record};
 ghost use Rattle.rm_catalog.specs.Rules.{HasDatabase, IsCatalog};
+ghost use Rattle.rm_catalog.specs.Trees.{nodes};
 ghost use Rattle.rm_evidence.specs.declared.evidence.Evidence.{Evidence as Gathered};
 ghost use Rattle.rm_evidence.specs.declared.evidence.InPlace.{InPlace};
 ghost use Rattle.rm_evidence.specs.Gathered.{IsGathered};
 ghost use Rattle.rm_evidence.specs.Known.{known_of};
 ghost use Rattle.rm_history.specs.History.{IsHistory};
+ghost use Rattle.rm_history.specs.Tree.{reset_of};
 ghost use Rattle.rm_known.specs.Evidence.{Evidence, Agrees};
 ghost use Rattle.rm_known.specs.Known.{Determined};
-ghost use Rattle.rm_known.specs.FirstGap.{IsTarget, IsRecoverable};
+ghost use Rattle.rm_known.specs.FirstGap.{IsTarget, IsDetermined, IsRecoverable};
 ghost use Rattle.rm_objects.specs.Database.{current_in, world_of};
 ghost use Rattle.rm_retain.specs.Catalogued.{by_records, IsObsoleteRecord};
 ghost use Rattle.rm_retain.specs.Chosen.{Retention, IsChosen, floor};
 ghost use Rattle.rm_retain.specs.Cleared.{IsCleared};
 ghost use Rattle.rm_retain.specs.declared.copies.Backup.{Backup};
+ghost use Rattle.rm_retain.specs.Example.{world, history, second, late, before, after, backup, window};
 ghost use Rattle.rm_retain.specs.Losing.{FitsHistory, LosesNeedless};
 ghost use Rattle.rm_retain.specs.Obsolete.{IsOnPath, IsNeedlessBackup, IsNeedlessLog};
 ghost use Rattle.rm_retain.specs.Remaining.{AreRemaining, with_copies};
-ghost use Rattle.rm_retain.specs.Window.{IsInWindow};
+ghost use Rattle.rm_retain.specs.Window.{IsInWindow, IsTargetOf};
 
 /// Whatever the evidence tells of a block at a target of the window, it tells when needless records are
 /// gone: a target that was recoverable stays so.
@@ -51,4 +55,34 @@ pub fn nothing_goes_twice()
 /// deletion at the same moment finds none.
 pub fn deletion_leaves_nothing_obsolete()
     ensures { (held now : Held) (rs left : List Record) (place : InPlace) (old new : Gathered) (policy : Policy) (start : ℕ) (row : Record) → IsGathered held rs place old → IsGathered now left place new → IsCleared (by_records rs old policy start) rs left held now → world_of left ≡ world_of rs → current_in left ≡ current_in rs → IsObsoleteRecord (by_records left new policy start) row → IsObsoleteRecord (by_records rs old policy start) row }
+{}
+
+/// Each target of the window is one of the incarnation that owns it, where the window starts no earlier
+/// than the first incarnation.
+pub fn targets_are_of_their_owners()
+    ensures { (rs : List Record) (e : Gathered) (policy : Policy) (start i s : ℕ) → IsCatalog rs → HasDatabase rs → reset_of (nodes rs) 1 ≤ start → IsInWindow (by_records rs e policy start) i s → IsTargetOf (nodes rs) (current_in rs) i s }
+{}
+
+/// A database, its history and a window of which a backup and a log fall out meet all that the law asks
+/// for: the block is told at SCN 4, where the window starts.
+pub fn the_premises_can_be_met()
+    ensures fits { FitsHistory history (window 4) (before second) }
+    ensures loses { LosesNeedless (window 4) (before second) (after second) }
+    ensures target { IsInWindow (window 4) 1 4 }
+    ensures block { IsTarget world 1 4 1 0 }
+    ensures told { Determined world (before second) 1 4 1 0 2 (padded (65 ∷ [])) }
+{}
+
+/// Where a backup was made while the database went on writing, its checkpoint does not do in place of
+/// `high`: by a record that says so, the first backup and the log are needless, and without them what was
+/// told at SCN 4 is lost. By the true `high` the first backup is chosen.
+pub fn a_checkpoint_is_not_enough()
+    ensures fits { FitsHistory history (window 4) (before late) }
+    ensures backup { IsNeedlessBackup (window 4) (backup 1 3 3) }
+    ensures log { IsNeedlessLog (window 4) 1 4 }
+    ensures target { IsInWindow (window 4) 1 4 }
+    ensures block { IsTarget world 1 4 1 0 }
+    ensures told { Determined world (before late) 1 4 1 0 2 (padded (65 ∷ [])) }
+    ensures lost { ¬ IsDetermined world (after late) 1 4 1 0 }
+    ensures chosen { IsChosen (window 5) 1 1 }
 {}

@@ -1,0 +1,10 @@
+use Rattle.rm_catalog.specs.Trees.{nodes}
+use Rattle.rm_objects.specs.Database.{current_in}
+use Rattle.rm_objects.proofs.Current.{current_is}
+use Rattle.rm_objects.proofs.Worlds.{branch_within, is-tree}
+use Rattle.rm_retain.proofs.Targets.{target_of}
+use Rattle.rm_retain.proofs.laws.targets_are_of_their_owners.Goals as goal
+
+pub returns : goal.returns
+returns c rs e policy start i s catalog database low target =
+    target_of (nodes rs) (is-tree rs catalog database) (λ n more there. branch_within rs n catalog there more) (current_in rs) start i s (current_is rs catalog database).there low target.first target.last target.owned
