@@ -1,18 +1,93 @@
--- The copy that is found among those at hand fits the catalog.
-use Rattle.std.proofs.Common.{◌≡◌, ◌∙◌, inl, inr, ℕ, List, Option, Some, None, ap, sym, subst, eqb, find, All, Contains}
+-- What is at hand, by the evidence.
+use Rattle.std.proofs.Common.{◌≡◌, ◌≢◌, ◌↔◌, ◌≤◌, ◌∙◌, inl, inr, ℕ, List, Option, Some, None, refl, ap, sym, subst, arith, eqb, map, All, Contains}
+use Rattle.std.specs.Prelude.{option_and_then}
 use Rattle.std.specs.Option.{option_map}
-use Rattle.std.proofs.lemmas.List.Elements.{All-contains}
+use Rattle.std.proofs.lemmas.Bool.{eqb-true, eq-eqb}
+use Rattle.std.proofs.lemmas.List.Elements.{All-contains, Contains-append_cases, Contains-append_right}
 use Rattle.std.proofs.lemmas.Option.{same_Some}
-use Rattle.rm_base.proofs.Lists.{find_cases}
+use Rattle.rm_base.proofs.Lists.{find_cases, find_none, map_from}
+use Rattle.rm_base.specs.Store.{Held}
+use Rattle.rm_base.specs.declared.kinds.Kind.TheVariants.{Level1}
+use Rattle.rm_catalog.specs.declared.record.PieceEntry.{PieceEntry}
+use Rattle.rm_catalog.specs.declared.record.Record.{Record}
+use Rattle.rm_catalog.specs.declared.record.Record.TheVariants as records
+use Rattle.rm_catalog.specs.Keys.{at, place}
+use Rattle.rm_catalog.specs.Rules.{IsCatalog}
+use Rattle.rm_evidence.specs.declared.evidence.Evidence.{Evidence}
+use Rattle.rm_evidence.specs.declared.evidence.InPlace.{InPlace}
+use Rattle.rm_evidence.specs.Available.{HasPiece}
+use Rattle.rm_evidence.specs.Gathered.{IsGathered, placed, placed_piece, dbid_in}
 use Rattle.rm_evidence.specs.Known.{FitsPiece}
 use Rattle.rm_history.specs.declared.tree.Incarnation.{Incarnation}
+use Rattle.rm_merge.proofs.Keyed.{same_item}
+use Rattle.rm_objects.proofs.Found.{at-is, obeys}
 use Rattle.rm_piece.specs.declared.piece.Piece.{Piece}
+use Rattle.rm_backup.specs.Records.{piece_in}
 use Rattle.rm_backup.specs.Renewed.{copy_at}
 
-pub copy_fits : (tree : List Incarnation) (bases : List (ℕ × Piece)) (id : ℕ) (a : Piece) → All (λ x. FitsPiece tree x.1) bases → copy_at bases id ≡ Some a → FitsPiece tree a
-copy_fits tree bases id a all is = elim (find_cases (λ (x : ℕ × Piece). eqb x.0 id) bases) [
+-- a copy that is found is one of those at hand, with this id
+copy_held : (bases : List (ℕ × Piece)) (id : ℕ) (a : Piece) → copy_at bases id ≡ Some a → Contains bases (id, a)
+copy_held bases id a is = elim (find_cases (λ (x : ℕ × Piece). eqb x.0 id) bases) [
   | inl none ↦ let both : None ≡ Some a = sym (ap (λ (o : Option (ℕ × Piece)). option_map (λ x. x.1) o) none) ∙ is in absurd (cc)
   | inr found ↦
       let same = same_Some found.item.1 a (sym (ap (λ (o : Option (ℕ × Piece)). option_map (λ x. x.1) o) found.is) ∙ is) in
-      subst (FitsPiece tree) same (All-contains (λ (x : ℕ × Piece). FitsPiece tree x.1) bases found.item all found.held)
+      subst (λ (n : ℕ). Contains bases (n, a)) (eqb-true found.item.0 id found.passes)
+      (subst (λ (b : Piece). Contains bases (found.item.0, b)) same found.held)
 ]
+
+-- it fits the catalog
+pub copy_fits : (tree : List Incarnation) (bases : List (ℕ × Piece)) (id : ℕ) (a : Piece) → All (λ x. FitsPiece tree x.1) bases → copy_at bases id ≡ Some a → FitsPiece tree a
+copy_fits tree bases id a all is = All-contains (λ (x : ℕ × Piece). FitsPiece tree x.1) bases (id, a) all (copy_held bases id a is)
+
+-- a catalog has one piece of each id
+same_piece : (rs : List Record) (p q : PieceEntry) → IsCatalog rs → Contains rs (records.Piece p) → Contains rs (records.Piece q) → q.id ≡ p.id → q ≡ p
+same_piece rs p q catalog has_p has_q same =
+    let both = sym (at-is rs (records.Piece q) catalog has_q) ∙ ap (λ (n : ℕ). at (place 5 n) rs) same ∙ at-is rs (records.Piece p) catalog has_p in
+    same_Some q p (ap (λ (o : Option Record). option_and_then piece_in o) both)
+
+-- what stands in place has the id 0
+in_place : (xs : List Piece) (id : ℕ) (a : Piece) → 1 ≤ id → ¬ Contains (placed xs) (id, a)
+in_place xs id a some held =
+    let source = map_from (λ (b : Piece). (0, b)) xs (id, a) held in
+    let zero : 0 ≡ id = ap (λ (x : ℕ × Piece). x.0) source.is in
+    absurd (omega (arith, zero, some))
+
+module _ (held : Held) (rs : List Record) (place : InPlace) (e : Evidence) (p : PieceEntry) (a : Piece) (catalog : IsCatalog rs) (gathered : IsGathered held rs place e) (has : Contains rs (records.Piece p)) where
+  some_id : 1 ≤ p.id
+  some_id = (obeys rs (records.Piece p) catalog has).own.id.number
+
+  pub level1_at_hand : p.kind ≡ Level1 → Contains e.level1s (p.id, a) ↔ HasPiece held p a
+  level1_at_hand kind =
+      let all = gathered.level1s in (
+        λ at_hand.
+            let from = (all.exact p.id a).0 (subst (λ (xs : List (ℕ × Piece)). Contains xs (p.id, a)) all.list at_hand) in
+            subst (λ (q : PieceEntry). HasPiece held q a) (same_piece rs p from.0 catalog has from.1 from.2) from.4,
+        λ available. subst (λ (xs : List (ℕ × Piece)). Contains xs (p.id, a)) (sym all.list) ((all.exact p.id a).1 (p, has, refl, kind, available)),
+      )
+
+  -- a base of this id at hand is one of the store
+  stored : (b : Piece) → Contains e.bases (p.id, b) → Contains gathered.bases.rest (p.id, b)
+  stored b at_hand = elim (Contains-append_cases (placed (map (placed_piece (dbid_in rs)) place.files)) gathered.bases.rest (p.id, b) (subst (λ (xs : List (ℕ × Piece)). Contains xs (p.id, b)) gathered.bases.list at_hand)) [
+    | inl there ↦ absurd (in_place (map (placed_piece (dbid_in rs)) place.files) p.id b some_id there)
+    | inr rest ↦ rest
+  ]
+
+  -- and it is the only one
+  found_one : (b : Piece) → Contains e.bases (p.id, b) → copy_at e.bases p.id ≡ Some b
+  found_one b at_hand = elim (find_cases (λ (x : ℕ × Piece). eqb x.0 p.id) e.bases) [
+    | inl none ↦ absurd (find_none (λ (x : ℕ × Piece). eqb x.0 p.id) e.bases (p.id, b) none at_hand (eq-eqb p.id p.id refl))
+    | inr found ↦
+        let number = eqb-true found.item.0 p.id found.passes in
+        let other = subst (λ (n : ℕ). Contains e.bases (n, found.item.1)) number found.held in
+        let one = same_item (λ (x : ℕ × Piece). x.0) gathered.bases.rest gathered.bases.ascends (p.id, found.item.1) (p.id, b) (stored found.item.1 other) (stored b at_hand) refl in
+        ap (λ (o : Option (ℕ × Piece)). option_map (λ x. x.1) o) found.is ∙ ap (λ (x : ℕ × Piece). Some x.1) one
+  ]
+
+  pub copy_at_hand : p.kind ≢ Level1 → (copy_at e.bases p.id ≡ Some a) ↔ HasPiece held p a
+  copy_at_hand kind = (
+    λ is.
+        let from = (gathered.bases.exact p.id a).0 (stored a (copy_held e.bases p.id a is)) in
+        subst (λ (q : PieceEntry). HasPiece held q a) (same_piece rs p from.0 catalog has from.1 from.2) from.4,
+    λ available. found_one a (subst (λ (xs : List (ℕ × Piece)). Contains xs (p.id, a)) (sym gathered.bases.list)
+        (Contains-append_right (placed (map (placed_piece (dbid_in rs)) place.files)) gathered.bases.rest (p.id, a) ((gathered.bases.exact p.id a).1 (p, has, refl, kind, available)))),
+  )

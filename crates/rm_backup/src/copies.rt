@@ -22,8 +22,9 @@ fn image_copy<'a>(
 {
     match row {
         Record::Piece(piece)
-            if piece.copy && piece.tag.as_str() == tag && is_on_path(catalog, file, piece) =>
-            { Some(piece) }
+            if piece.copy && piece.tag.as_str() == tag && is_on_path(catalog, file, piece) => {
+            Some(piece)
+        }
         _ => None,
     }
 }
@@ -31,11 +32,7 @@ fn image_copy<'a>(
 /// The record of the image copy of a datafile that takes over level 1s with the tag: of the available
 /// copies with it that hold on the current path the one of the greatest checkpoint, ties by the greatest
 /// id. None where there is none.
-pub(crate) fn last_copy<'a>(
-    catalog: &'a Catalog,
-    file: FileNo,
-    tag: &str,
-) -> Option<&'a PieceEntry>
+pub(crate) fn last_copy<'a>(catalog: &'a Catalog, file: FileNo, tag: &str) -> Option<&'a PieceEntry>
     requires database { HasDatabase catalog.now }
     ensures { IsTaken catalog.now file tag.now (option_copied result) }
 {

@@ -1,4 +1,5 @@
 pub mod Agreement
+pub mod Keyed
 pub mod Merged
 pub mod Places
 pub mod Reaching

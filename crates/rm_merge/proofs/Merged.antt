@@ -1,7 +1,6 @@
 -- A merged copy agrees with what both of its parts agree with, and is valid.
-use Rattle.std.proofs.Common.{◌≡◌, ◌≢◌, ◌⊎◌, ◌<◌, ◌≤◌, ◌∙◌, ◌&&◌, inl, inr, nat_lt, nat_le, ℕ, List, Option, None, Bool, true, false, cond, refl, ap, sym, subst, arith, length, get_or, eqb, All, Contains}
+use Rattle.std.proofs.Common.{◌≡◌, ◌≢◌, ◌⊎◌, ◌<◌, ◌≤◌, ◌∙◌, inl, inr, nat_lt, ℕ, List, Option, None, Bool, true, false, cond, refl, ap, sym, subst, arith, length, get_or, eqb, All, Contains}
 use Rattle.std.specs.List.{AllPairs}
-use Rattle.std.specs.Option.{option_map_or}
 use Rattle.std.proofs.lemmas.Bool.{eqb-true, false_from_ne_true}
 use Rattle.std.proofs.lemmas.Bool.Decides.{nat_tests}
 use Rattle.std.proofs.lemmas.List.{get_or-map, get_or_default, length-map}
@@ -18,7 +17,7 @@ use Rattle.rm_history.specs.declared.world.World.{World}
 use Rattle.rm_history.specs.Agrees.{IsRow, BaseAgrees, Level1Agrees, lists}
 use Rattle.rm_history.specs.Artefacts.{high_of}
 use Rattle.rm_history.specs.History.{IsHistory}
-use Rattle.rm_history.specs.Tree.{IsThere, IsTree, owner, is_on_path, segment_end}
+use Rattle.rm_history.specs.Tree.{IsThere, IsTree}
 use Rattle.rm_history.proofs.Highs.{high-least, high-above}
 use Rattle.rm_history.proofs.Segments.{is_within_alike}
 use Rattle.rm_piece.specs.declared.piece.Piece.{Piece}

@@ -1,5 +1,5 @@
 -- Rows that stand at the places of their blocks, and one row more of the level 1.
-use Rattle.std.proofs.Common.{◌≡◌, ◌≢◌, ◌<◌, ◌≤◌, ◌+◌, ◌-◌, ◌∙◌, ◌∷◌, [], inl, inr, ℕ, zero, suc, List, Option, Some, None, Bool, false, cond, refl, ap, sym, arith, length, find, take, get_or, set, All, eqb, get_or-set_same, get_or-set_other, length-set}
+use Rattle.std.proofs.Common.{◌≡◌, ◌≢◌, ◌<◌, ◌∙◌, ◌∷◌, [], inl, inr, ℕ, suc, List, Option, Some, None, Bool, false, cond, refl, ap, sym, arith, length, find, take, get_or, set, All, eqb, get_or-set_same, get_or-set_other, length-set}
 use Rattle.std.specs.List.{AllPairs}
 use Rattle.std.specs.Option.{option_or}
 use Rattle.std.proofs.Math.Seq.{take-suc}

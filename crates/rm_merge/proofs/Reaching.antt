@@ -2,7 +2,7 @@
 use Rattle.std.proofs.Common.{◌≡◌, ◌<◌, ◌≤◌, ◌∙◌, ◌&&◌, inl, inr, nat_le, nat_lt, ℕ, List, Option, Some, Bool, true, false, cond, max, refl, ap, sym, subst, arith, length, get_or, eqb, All, Contains}
 use Rattle.std.specs.List.{AllPairs}
 use Rattle.std.specs.Option.{option_map_or}
-use Rattle.std.proofs.lemmas.Bool.{cases_lt, eqb-true, eq-eqb}
+use Rattle.std.proofs.lemmas.Bool.{eqb-true, eq-eqb}
 use Rattle.std.proofs.lemmas.Bool.Decides.{nat_tests}
 use Rattle.std.proofs.lemmas.List.{get_or_default, get_or-map, length-map}
 use Rattle.std.proofs.lemmas.List.Elements.{All-map, All-contains}
@@ -19,6 +19,7 @@ use Rattle.rm_piece.specs.Valid.{IsPiece, IsBefore}
 use Rattle.rm_piece.proofs.Highs.{high_of-is, IsHigh-one}
 use Rattle.rm_piece.proofs.Whole.{placed}
 use Rattle.rm_merge.specs.Merge.{AreOf, Meets, row_at, greater, merged, merged_rows}
+use Rattle.rm_merge.proofs.Keyed.{same_item}
 use Rattle.rm_merge.proofs.Merged.{listed, no_level1}
 
 -- neither row is above the one that is kept, and it is below what both are below
@@ -43,31 +44,11 @@ new_under level1 r m k low all = elim (find_cases (λ x. eqb x.block r.block) le
   | inr found ↦ subst (λ (o : Option Row). (greater r o).version < max m k) (sym found.is) (under_both r found.item (nat_lt found.item.version r.version) m k low (All-contains (λ (x : Row). x.version < k) level1 found.item all found.held))
 ]
 
--- rows that ascend have one of each block at most
-same_row : (rows : List Row) → AllPairs IsBefore rows → (x y : Row) → Contains rows x → Contains rows y → x.block ≡ y.block → x ≡ y
-same_row rows up x y (i, inside_x, is_x) (j, inside_y, is_y) same =
-    let read_y : get_or rows j x ≡ y = get_or_default rows j x y inside_y ∙ is_y in
-    elim (cases_lt i j) [
-      | inl less ↦
-          let below : (get_or rows i x).block < (get_or rows j x).block = up i j x less inside_y in
-          let one : (get_or rows i x).block ≡ x.block = ap (λ (r : Row). r.block) is_x in
-          let two : (get_or rows j x).block ≡ y.block = ap (λ (r : Row). r.block) read_y in
-          absurd (omega (arith, below, one, two, same))
-      | inr most ↦ elim (cases_lt j i) [
-        | inl less ↦
-            let below : (get_or rows j x).block < (get_or rows i x).block = up j i x less inside_x in
-            let one : (get_or rows i x).block ≡ x.block = ap (λ (r : Row). r.block) is_x in
-            let two : (get_or rows j x).block ≡ y.block = ap (λ (r : Row). r.block) read_y in
-            absurd (omega (arith, below, one, two, same))
-        | inr least ↦ let met : i ≡ j = omega (arith, most, least) in sym is_x ∙ ap (λ (k : ℕ). get_or rows k x) met ∙ read_y
-      ]
-    ]
-
 -- a row of the level 1 is found at its block
 found_there : (level1 : List Row) → AllPairs IsBefore level1 → (x : Row) → Contains level1 x → row_at level1 x.block ≡ Some x
 found_there level1 up x held = elim (find_cases (λ r. eqb r.block x.block) level1) [
   | inl none ↦ absurd (find_none (λ r. eqb r.block x.block) level1 x none held (eq-eqb x.block x.block refl))
-  | inr found ↦ found.is ∙ ap (λ (r : Row). Some r) (same_row level1 up found.item x found.held held (eqb-true found.item.block x.block found.passes))
+  | inr found ↦ found.is ∙ ap (λ (r : Row). Some r) (same_item (λ (r : Row). r.block) level1 up found.item x found.held held (eqb-true found.item.block x.block found.passes))
 ]
 
 -- it is not above the one in the place of its block

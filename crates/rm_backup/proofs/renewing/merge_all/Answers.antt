@@ -1,8 +1,4 @@
-use Rattle.std.proofs.Common.{◌≡◌, sym, subst}
-use Rattle.std.proofs.lemmas.List.Elements.{All-contains}
-use Rattle.rm_catalog.specs.Trees.{nodes}
-use Rattle.rm_evidence.specs.Known.{FitsPiece}
-use Rattle.rm_piece.specs.declared.piece.Piece.{Piece}
+use Rattle.std.proofs.Common.{sym, subst}
 use Rattle.rm_backup.specs.Level1s.{IsReached, start, next}
 use Rattle.rm_backup.proofs.Chained.{reached_risen}
 use Rattle.rm_backup.proofs.renewing.merge_all.Goals as goal
