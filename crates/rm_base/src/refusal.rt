@@ -1,5 +1,5 @@
 //! Why a statement is refused. A refusal is one line of the reply, and changes nothing.
-use crate::numbers::{BlockNo, FileNo, IncNo, Scn};
+use crate::numbers::{BlockNo, FileNo, IncNo, Moment, Scn};
 use crate::text::Text;
 
 /// A limit of the database.
@@ -38,7 +38,7 @@ pub enum Unknown {
     Byte { at: u64, name: Text },
 }
 
-/// Why a statement is refused, by the number of its line. (RM-14 comes with the moments.)
+/// Why a statement is refused, by the number of its line.
 #[derive(Debug, Drop)]
 pub enum Refusal {
     /// The statement, whose first token stands on this line, is not of the grammar.
@@ -85,6 +85,10 @@ pub enum Refusal {
     /// The name of the new object is taken.
     Rm13 {
         name: Text,
+    },
+    /// No mark on the path is at or before this moment.
+    Rm14 {
+        moment: Moment,
     },
     /// No SCN is left.
     Rm15,

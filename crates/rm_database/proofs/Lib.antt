@@ -9,6 +9,7 @@ pub mod Accepted
 pub mod Archives
 pub mod Backups
 pub mod Branching
+pub mod Dates
 pub mod Dumps
 pub mod Growing
 pub mod Items

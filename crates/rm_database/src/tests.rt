@@ -3,13 +3,14 @@ use crate::database::Database;
 use crate::{Instance, refusal_reply};
 use rm_base::{Block, Refusal};
 use rm_lang::{Command, Until, WriteForm, is_command};
-use rm_report::{Reply, bytes_of};
+use rm_report::{Reply, bytes_of, has_dates};
 use std::alloc::Global;
 use std::process::Abort;
 use std::test::Fail;
 
 // The reply has this text.
 fn shows(rt: &impl Abort, alloc: Global, reply: &Reply, text: &str) -> Result<(), Fail> {
+    assert!(rt; has_dates(reply));
     let bytes = bytes_of(alloc, reply)?;
     assert_eq!(rt; bytes.as_slice(), text.as_bytes(), "{text}");
     Ok(())

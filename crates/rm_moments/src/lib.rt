@@ -7,10 +7,9 @@ pub mod laws;
 mod marks;
 mod meaning;
 mod spelling;
+mod times;
 
 pub use marks::{at_or_after, at_or_before};
 pub use meaning::parse;
 pub use spelling::{tag, text};
-
-#[cfg(test)]
-mod tests;
+pub use times::is_time;

@@ -11,13 +11,22 @@ use Rattle.rm_base.specs.declared.refusal.Limit.TheVariants.{Threads, Files, Fil
 use Rattle.rm_base.specs.declared.refusal.Unknown.{Unknown}
 use Rattle.rm_base.specs.declared.refusal.Unknown.TheVariants.{Entry, Tag, Log, Object, Byte}
 use Rattle.rm_base.specs.declared.refusal.Refusal.{Refusal}
-use Rattle.rm_base.specs.declared.refusal.Refusal.TheVariants.{Rm01, Rm02, Rm03, Rm04, Rm05, Rm06, Rm07, Rm08, Rm09, Rm10, Rm11, Rm12, Rm13, Rm15}
+use Rattle.rm_base.specs.declared.refusal.Refusal.TheVariants.{Rm01, Rm02, Rm03, Rm04, Rm05, Rm06, Rm07, Rm08, Rm09, Rm10, Rm11, Rm12, Rm13, Rm14, Rm15}
+use Rattle.rm_moments.specs.Shown.{moment_text}
 use Rattle.rm_history.specs.declared.tree.Standing.{Standing}
 use Rattle.rm_history.specs.declared.tree.Standing.TheVariants.{Current, Parent, Orphan}
 use Rattle.rm_report.specs.declared.line.Shape.{Shape}
 use Rattle.rm_report.specs.declared.line.Shape.TheVariants.{Full, Level0, Level1}
+use Rattle.rm_base.specs.declared.kinds.Bad.{Bad}
+use Rattle.rm_base.specs.declared.kinds.Bad.TheVariants.{Missing, Damaged as DamagedObject}
+use Rattle.rm_base.specs.declared.kinds.Status.{Status}
+use Rattle.rm_base.specs.declared.kinds.Status.TheVariants.{Available, Unavailable, Expired}
+use Rattle.rm_base.specs.declared.kinds.Policy.{Policy}
+use Rattle.rm_base.specs.declared.kinds.Policy.TheVariants.{Window, Redundancy as RedundancyPolicy, Nothing}
+use Rattle.rm_report.specs.declared.line.SchemaPlace.{SchemaPlace}
+use Rattle.rm_report.specs.declared.line.SchemaPlace.TheVariants.{At, Lost, OffPath}
 use Rattle.rm_report.specs.declared.line.Line.{Line}
-use Rattle.rm_report.specs.declared.line.Line.TheVariants.{DatabaseAt, DatafileAt, Written, LogMade, NothingToArchive, Mounted, Opened, Chosen, Recovered, UntilIs, FileIs, BlockIs, BackedUp, NothingToBackUp, IncarnationIs, Dumped, Refused}
+use Rattle.rm_report.specs.declared.line.Line.TheVariants.{DatabaseAt, DatafileAt, Written, LogMade, NothingToArchive, Mounted, Opened, Chosen, Recovered, UntilIs, FileIs, BlockIs, BackedUp, NothingToBackUp, IncarnationIs, Dumped, Tracking, Skipped, RestoredFrom, CreatedEmpty, Complete, GapIn, Merged, Stays, StartsAbove, ThreadScn, StatusOf, BadOf, Checked, Uncatalogued, Kept, NotKept, Deleted, DeletedCount, Obsolete, ObsoleteCount, NeedsBackup, NeedCount, Parallelism, Catalogued, FileLost, LogLost, Removed, Damaged, Cut, Renamed, UntilSet, ChannelAllocated, Schema, PieceIs, LogIs, Retention, Refused}
 use Rattle.rm_report.specs.declared.line.Reply.{Reply}
 
 -- a byte's two digits in lower-case hexadecimal
@@ -79,6 +88,7 @@ refusal_text Rm10 = codes "RM-10: recovery isn't done for this opening"
 refusal_text (Rm11 limit) = codes "RM-11: limit " ++ limit_text limit
 refusal_text (Rm12 unknown) = unknown_text unknown
 refusal_text (Rm13 name) = codes "RM-13: name " ++ (name ++ codes " is taken")
+refusal_text (Rm14 moment) = codes "RM-14: no mark at or before " ++ moment_text moment
 refusal_text Rm15 = codes "RM-15: last SCN"
 
 -- a block's number, version and content
@@ -102,6 +112,39 @@ shape_text Full = codes "full"
 shape_text Level0 = codes "level 0"
 shape_text (Level1 from) = codes "level 1 from " ++ decimal from
 
+-- on or off
+abbrev pub on_text : Bool → List ℕ
+on_text true = codes "on"
+on_text false = codes "off"
+
+-- what is wrong with an object
+abbrev pub bad_text : Bad → List ℕ
+bad_text Missing = codes "missing"
+bad_text DamagedObject = codes "damaged"
+
+-- the status of a record
+abbrev pub status_text : Status → List ℕ
+status_text Available = codes "available"
+status_text Unavailable = codes "unavailable"
+status_text Expired = codes "expired"
+
+-- whether a record is kept
+abbrev pub keep_text : Bool → List ℕ
+keep_text true = codes " keep"
+keep_text false = codes ""
+
+-- where a datafile stands
+abbrev pub place_text : SchemaPlace → List ℕ
+place_text (At checkpoint) = codes " in place at " ++ decimal checkpoint
+place_text Lost = codes " lost"
+place_text OffPath = codes " off path"
+
+-- which backups are kept
+abbrev pub policy_text : Policy → List ℕ
+policy_text (Window days) = codes "retention window " ++ decimal days
+policy_text (RedundancyPolicy count) = codes "retention redundancy " ++ decimal count
+policy_text Nothing = codes "retention none"
+
 -- a line, without its line feed
 abbrev pub line_text : Line → List ℕ
 line_text (DatabaseAt dbid scn) = codes "database " ++ (decimal dbid ++ (codes " incarnation 1 at " ++ decimal scn))
@@ -120,6 +163,42 @@ line_text (BackedUp copy id file shape checkpoint rows reads) = backup_text copy
 line_text NothingToBackUp = codes "nothing to back up"
 line_text (IncarnationIs inc parent reset end standing) = codes "incarnation " ++ (decimal inc ++ (codes " parent " ++ (decimal parent ++ (codes " reset at " ++ (decimal reset ++ (codes " end " ++ (decimal end ++ (codes " " ++ standing_text standing))))))))
 line_text (Dumped file block version content) = codes "datafile " ++ (decimal file ++ (codes " " ++ block_text block version content))
+line_text (Tracking on) = codes "tracking " ++ on_text on
+line_text (Skipped id bad) = codes "skipped " ++ (decimal id ++ (codes " " ++ bad_text bad))
+line_text (RestoredFrom file id checkpoint) = codes "datafile " ++ (decimal file ++ (codes " from " ++ (decimal id ++ (codes " at " ++ decimal checkpoint))))
+line_text (CreatedEmpty file) = codes "datafile " ++ (decimal file ++ codes " created empty")
+line_text Complete = codes "complete"
+line_text (GapIn file block scn inc) = codes "gap in datafile " ++ (decimal file ++ (codes " block " ++ (decimal block ++ (codes " at " ++ (decimal scn ++ (codes " of incarnation " ++ decimal inc))))))
+line_text (Merged id file checkpoint) = codes "copy " ++ (decimal id ++ (codes " datafile " ++ (decimal file ++ (codes " merged to checkpoint " ++ decimal checkpoint))))
+line_text (Stays id file checkpoint) = codes "copy " ++ (decimal id ++ (codes " datafile " ++ (decimal file ++ (codes " stays at checkpoint " ++ decimal checkpoint))))
+line_text (StartsAbove id from checkpoint) = codes "level 1 " ++ (decimal id ++ (codes " from " ++ (decimal from ++ (codes " starts above checkpoint " ++ decimal checkpoint))))
+line_text (ThreadScn thread scn) = codes "thread " ++ (decimal thread ++ (codes " scn " ++ decimal scn))
+line_text (StatusOf id status) = decimal id ++ (codes " " ++ status_text status)
+line_text (BadOf id bad) = decimal id ++ (codes " " ++ bad_text bad)
+line_text (Checked count bad) = decimal count ++ (codes " checked, " ++ (decimal bad ++ codes " bad"))
+line_text (Uncatalogued id) = decimal id ++ codes " uncatalogued"
+line_text (Kept id) = decimal id ++ codes " kept"
+line_text (NotKept id) = decimal id ++ codes " not kept"
+line_text (Deleted id) = codes "deleted " ++ decimal id
+line_text (DeletedCount count) = decimal count ++ codes " deleted"
+line_text (Obsolete id) = codes "obsolete " ++ decimal id
+line_text (ObsoleteCount count) = decimal count ++ codes " obsolete"
+line_text (NeedsBackup file) = codes "datafile " ++ (decimal file ++ codes " needs backup")
+line_text (NeedCount count) = decimal count ++ codes " need backup"
+line_text (Parallelism channels) = codes "parallelism " ++ decimal channels
+line_text (Catalogued id) = decimal id ++ codes " catalogued"
+line_text (FileLost file) = codes "datafile " ++ (decimal file ++ codes " lost")
+line_text (LogLost thread) = codes "log of thread " ++ (decimal thread ++ codes " lost")
+line_text Removed = codes "removed"
+line_text Damaged = codes "damaged"
+line_text Cut = codes "cut"
+line_text Renamed = codes "renamed"
+line_text UntilSet = codes "until set"
+line_text ChannelAllocated = codes "channel allocated"
+line_text (Schema file blocks scn inc place) = codes "datafile " ++ (decimal file ++ (codes " blocks " ++ (decimal blocks ++ (codes " created at " ++ (decimal scn ++ (codes " of incarnation " ++ (decimal inc ++ place_text place)))))))
+line_text (PieceIs copy id file shape checkpoint high status tag keep) = backup_text copy ++ (codes " " ++ (decimal id ++ (codes " datafile " ++ (decimal file ++ (codes " " ++ (shape_text shape ++ (codes " checkpoint " ++ (decimal checkpoint ++ (codes " high " ++ (decimal high ++ (codes " " ++ (status_text status ++ (codes " tag " ++ (tag ++ keep_text keep))))))))))))))
+line_text (LogIs id thread sequence from next inc status keep) = codes "log " ++ (decimal id ++ (codes " thread " ++ (decimal thread ++ (codes " sequence " ++ (decimal sequence ++ (codes " first " ++ (decimal from ++ (codes " next " ++ (decimal next ++ (codes " of incarnation " ++ (decimal inc ++ (codes " " ++ (status_text status ++ keep_text keep)))))))))))))
+line_text (Retention policy) = policy_text policy
 line_text (Refused refusal) = refusal_text refusal
 
 -- the line tells of a file's blocks
@@ -139,6 +218,12 @@ tells_history line = false
 abbrev pub tells_backup : Line → Bool
 tells_backup (BackedUp copy id file shape checkpoint rows reads) = true
 tells_backup line = false
+
+-- the line tells of a record
+abbrev pub tells_record : Line → Bool
+tells_record (PieceIs copy id file shape checkpoint high status tag keep) = true
+tells_record (LogIs id thread sequence from next inc status keep) = true
+tells_record line = false
 
 -- a line and one line feed
 abbrev pub full_line : Line → List ℕ

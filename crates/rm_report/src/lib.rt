@@ -1,12 +1,12 @@
 //! Replies, and their text.
 #![tactic(auto)]
 
+mod dates;
 pub mod laws;
 pub mod line;
+mod lines;
 pub mod text;
 
-pub use line::{Line, Reply, Shape};
+pub use dates::has_dates;
+pub use line::{Line, Reply, SchemaPlace, Shape};
 pub use text::bytes_of;
-
-#[cfg(test)]
-mod tests;

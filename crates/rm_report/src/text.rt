@@ -1,27 +1,39 @@
 //! The text of a reply.
-ghost use Rattle.std.specs.Prelude.{◌≡◌, ◌++◌, IfOk, OnOk, IsTrue};
+ghost use Rattle.std.specs.Prelude.{◌≡◌, ◌≤◌, ◌++◌, IfOk, OnOk, IsTrue};
 ghost use Rattle.std.specs.String.{string_bytes};
+ghost use Rattle.rm_base.specs.Numbers.{last_moment};
+ghost use Rattle.rm_base.specs.declared.refusal.Refusal.TheVariants.{Rm14};
+ghost use Rattle.rm_report.specs.Reply.{HasDate, LineHasDate, HasDates};
 ghost use Rattle.rm_report.specs.Text.{tells_blocks, tells_history, tells_backup, line_text, block_text, backup_text, shape_text, standing_text, refusal_text, absent_text, unknown_text, limit_text, content_text, byte_text, reply_text};
 
 use crate::line::{Line, Reply, Shape};
-use rm_base::{Absent, Block, BlockNo, Limit, NoMemory, Refusal, Scn, Seq, Unknown};
+use crate::lines::{
+    push_bad_of, push_checked, push_gap_in, push_merged, push_policy, push_record,
+    push_restored_from, push_schema, push_skipped, push_starts_above, push_status_of, push_stays,
+    push_thread_scn, push_tracking,
+};
+use rm_base::{Absent, Block, BlockNo, Limit, Moment, NoMemory, Refusal, Scn, Seq, Unknown};
 use rm_history::Standing;
+use rm_moments::text;
 use std::alloc::{AllocError, Global};
 
-/// The text of a reply: each line in order, with a line feed at its end.
+/// The text of a reply: each line in order, with a line feed at its end. The moment of each RM-14 in
+/// it is at most the last of the year 9999.
 pub fn bytes_of(alloc: Global, reply: &Reply) -> Result<Seq<u8>, NoMemory>
+    requires dates { HasDates reply.now }
     ensures { IfOk result (λ bytes. bytes ≡ reply_text reply.now) }
 {
     let mut out = String::new(alloc);
     for line in reply.lines.as_slice() {
-        push_line(&mut out, line)?;
+        push_line(alloc, &mut out, line)?;
         out.push_str("\n")?;
     }
     Ok(Seq::from_vec(out.into_bytes()))
 }
 
 // Appends the line, without a line feed.
-fn push_line(out: &mut String, line: &Line) -> Result<(), AllocError>
+fn push_line(alloc: Global, out: &mut String, line: &Line) -> Result<(), AllocError>
+    requires { LineHasDate line.now }
     ensures { OnOk result (string_bytes out.new ≡ string_bytes out.old ++ line_text line.now) }
 {
     match line {
@@ -50,7 +62,70 @@ fn push_line(out: &mut String, line: &Line) -> Result<(), AllocError>
         Line::NothingToBackUp => write!(out, "nothing to back up"),
         Line::IncarnationIs { .. } => push_history(out, line),
         Line::Dumped { .. } => push_blocks(out, line),
-        Line::Refused(refusal) => push_refusal(out, refusal),
+        Line::Tracking { on } => push_tracking(out, *on),
+        Line::Skipped { id, bad } => push_skipped(out, *id, *bad),
+        Line::RestoredFrom {
+            file,
+            id,
+            checkpoint,
+        } => push_restored_from(out, *file, *id, *checkpoint),
+        Line::CreatedEmpty { file } => write!(out, "datafile {file} created empty"),
+        Line::Complete => write!(out, "complete"),
+        Line::GapIn {
+            file,
+            block,
+            scn,
+            inc,
+        } => push_gap_in(out, *file, *block, *scn, *inc),
+        Line::Merged {
+            id,
+            file,
+            checkpoint,
+        } => push_merged(out, *id, *file, *checkpoint),
+        Line::Stays {
+            id,
+            file,
+            checkpoint,
+        } => push_stays(out, *id, *file, *checkpoint),
+        Line::StartsAbove {
+            id,
+            from,
+            checkpoint,
+        } => push_starts_above(out, *id, *from, *checkpoint),
+        Line::ThreadScn { thread, scn } => push_thread_scn(out, *thread, *scn),
+        Line::StatusOf { id, status } => push_status_of(out, *id, *status),
+        Line::BadOf { id, bad } => push_bad_of(out, *id, *bad),
+        Line::Checked { count, bad } => push_checked(out, *count, *bad),
+        Line::Uncatalogued { id } => write!(out, "{id} uncatalogued"),
+        Line::Kept { id } => write!(out, "{id} kept"),
+        Line::NotKept { id } => write!(out, "{id} not kept"),
+        Line::Deleted { id } => write!(out, "deleted {id}"),
+        Line::DeletedCount { count } => write!(out, "{count} deleted"),
+        Line::Obsolete { id } => write!(out, "obsolete {id}"),
+        Line::ObsoleteCount { count } => write!(out, "{count} obsolete"),
+        Line::NeedsBackup { file } => write!(out, "datafile {file} needs backup"),
+        Line::NeedCount { count } => write!(out, "{count} need backup"),
+        Line::Parallelism { channels } => write!(out, "parallelism {channels}"),
+        Line::Catalogued { id } => write!(out, "{id} catalogued"),
+        Line::FileLost { file } => write!(out, "datafile {file} lost"),
+        Line::LogLost { thread } => write!(out, "log of thread {thread} lost"),
+        Line::Removed => write!(out, "removed"),
+        Line::Damaged => write!(out, "damaged"),
+        Line::Cut => write!(out, "cut"),
+        Line::Renamed => write!(out, "renamed"),
+        Line::UntilSet => write!(out, "until set"),
+        Line::ChannelAllocated => write!(out, "channel allocated"),
+        Line::Schema {
+            file,
+            blocks,
+            scn,
+            inc,
+            place,
+        } => push_schema(out, *file, *blocks, *scn, *inc, *place),
+        Line::PieceIs { .. } => push_record(out, line),
+        Line::LogIs { .. } => push_record(out, line),
+        Line::Retention { policy } => push_policy(out, *policy),
+        Line::Refused(refusal) => push_refusal(alloc, out, refusal),
     }
 }
 
@@ -139,15 +214,15 @@ fn push_backup(out: &mut String, line: &Line) -> Result<(), AllocError>
     }
 }
 
-// A copy or a piece.
-fn backup_text(copy: bool) -> &'static str
+/// A copy or a piece.
+pub fn backup_text(copy: bool) -> &'static str
     ensures { result.now ≡ backup_text copy }
 {
     if copy { "copy" } else { "piece" }
 }
 
-// Appends what a backup holds.
-fn push_shape(out: &mut String, shape: Shape) -> Result<(), AllocError>
+/// Appends what a backup holds.
+pub fn push_shape(out: &mut String, shape: Shape) -> Result<(), AllocError>
     ensures { OnOk result (string_bytes out.new ≡ string_bytes out.old ++ shape_text shape) }
 {
     match shape {
@@ -203,7 +278,8 @@ fn push_byte(out: &mut String, byte: u8) -> Result<(), AllocError>
 }
 
 // Appends the line of a refusal.
-fn push_refusal(out: &mut String, refusal: &Refusal) -> Result<(), AllocError>
+fn push_refusal(alloc: Global, out: &mut String, refusal: &Refusal) -> Result<(), AllocError>
+    requires { HasDate refusal.now }
     ensures { OnOk result (string_bytes out.new ≡ string_bytes out.old ++ refusal_text refusal.now) }
 {
     match refusal {
@@ -231,8 +307,20 @@ fn push_refusal(out: &mut String, refusal: &Refusal) -> Result<(), AllocError>
         Refusal::Rm11(limit) => write!(out, "RM-11: limit {}", limit_text(*limit)),
         Refusal::Rm12(unknown) => push_unknown(out, unknown),
         Refusal::Rm13 { name } => write!(out, "RM-13: name {} is taken", name.as_str()),
+        Refusal::Rm14 { moment } => push_unmarked(alloc, out, *moment),
         Refusal::Rm15 => write!(out, "RM-15: last SCN"),
     }
+}
+
+// Appends the line for a moment that no mark is at or before.
+fn push_unmarked(alloc: Global, out: &mut String, moment: Moment) -> Result<(), AllocError>
+    requires { moment ≤ last_moment }
+    ensures { OnOk result (string_bytes out.new ≡ string_bytes out.old ++ refusal_text (Rm14 moment)) }
+{
+    let Ok(shown) = text(alloc, moment) else {
+        return Err(AllocError);
+    };
+    write!(out, "RM-14: no mark at or before {}", shown.as_str())
 }
 
 // Appends the line for a thread, a file or a block that is not there.

@@ -3,7 +3,7 @@ use Rattle.std.specs.Prelude.{ℕ, ◌+◌, ◌==◌, ◌&&◌, not, nat_le, nat
 use Rattle.rm_base.specs.declared.refusal.Limit.{Limit}
 use Rattle.rm_base.specs.declared.refusal.Limit.TheVariants.{Threads, Files, FileBlocks, Blocks, Channels, Incarnations, Records, Bytes}
 use Rattle.rm_base.specs.declared.refusal.Refusal.{Refusal}
-use Rattle.rm_base.specs.declared.refusal.Refusal.TheVariants.{Rm08, Rm11, Rm12, Rm13, Rm15}
+use Rattle.rm_base.specs.declared.refusal.Refusal.TheVariants.{Rm08, Rm11, Rm12, Rm13, Rm14, Rm15}
 use Rattle.rm_catalog.specs.Objects.{most_bytes}
 use Rattle.rm_catalog.specs.declared.record.Record.{Record}
 use Rattle.rm_catalog.specs.declared.record.Record.TheVariants as kind
@@ -81,6 +81,7 @@ is_early (Rm11 limit) = is_early_limit limit
 is_early (Rm08 file block scn inc) = false
 is_early (Rm12 unknown) = false
 is_early (Rm13 name) = false
+is_early (Rm14 moment) = false
 is_early Rm15 = false
 is_early _ = true
 

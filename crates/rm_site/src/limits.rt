@@ -143,7 +143,11 @@ fn is_early(refusal: &Refusal) -> bool
 {
     match refusal {
         Refusal::Rm11(limit) => is_early_limit(*limit),
-        Refusal::Rm08 { .. } | Refusal::Rm12(_) | Refusal::Rm13 { .. } | Refusal::Rm15 => false,
+        Refusal::Rm08 { .. }
+        | Refusal::Rm12(_)
+        | Refusal::Rm13 { .. }
+        | Refusal::Rm14 { .. }
+        | Refusal::Rm15 => false,
         _ => true,
     }
 }

@@ -3,6 +3,7 @@ ghost use Rattle.std.specs.Prelude.{◌≡◌, ◌≤◌, true, false, [], None,
 ghost use Rattle.rm_base.specs.Outside.{Rose};
 ghost use Rattle.rm_change.specs.declared.change.Stop.TheVariants.{StoreFault, KeeperFault};
 ghost use Rattle.rm_lang.specs.IsCommand.{is_command};
+ghost use Rattle.rm_report.specs.Reply.{HasDates};
 ghost use Rattle.rm_catalog.specs.Edits.{after_edits};
 ghost use Rattle.rm_catalog.specs.Rules.{IsValid};
 ghost use Rattle.rm_change.specs.Carrying.{Carried, Halted, Leads};
@@ -129,6 +130,7 @@ fn create<D: Store, C: Keeper>(
     requires accepted { refusal_of state.old.instance state.old.catalog command.now moment ≡ None }
     ensures standing { OnOk result (IsStanding state.new.instance state.new.catalog) }
     ensures step { IfOk result (λ reply. Goes (D.held store.old) (C.kept keeper.old) state.old.instance state.old.catalog command.now moment reply (D.held store.new) (C.kept keeper.new) state.new.instance state.new.catalog) }
+    ensures dates { IfOk result HasDates }
     ensures stopped { OnErr result (StopsAt (D.held store.old) (C.kept keeper.old) state.old.instance state.old.catalog command.now moment (D.held store.new) (C.kept keeper.new)) }
     ensures store { IsErrOf result StoreFault → Rose (D.faults store.old) (D.faults store.new) }
     ensures keeper { IsErrOf result KeeperFault → Rose (C.faults keeper.old) (C.faults keeper.new) }
@@ -165,6 +167,7 @@ fn go_on<D: Store, C: Keeper>(
     requires accepted { refusal_of state.old.instance state.old.catalog command.now moment ≡ None }
     ensures standing { OnOk result (IsStanding state.new.instance state.new.catalog) }
     ensures step { IfOk result (λ reply. Goes (D.held store.old) (C.kept keeper.old) state.old.instance state.old.catalog command.now moment reply (D.held store.new) (C.kept keeper.new) state.new.instance state.new.catalog) }
+    ensures dates { IfOk result HasDates }
     ensures stopped { OnErr result (StopsAt (D.held store.old) (C.kept keeper.old) state.old.instance state.old.catalog command.now moment (D.held store.new) (C.kept keeper.new)) }
     ensures store { IsErrOf result StoreFault → Rose (D.faults store.old) (D.faults store.new) }
     ensures keeper { IsErrOf result KeeperFault → Rose (C.faults keeper.old) (C.faults keeper.new) }
@@ -208,6 +211,7 @@ fn answer<D: Store, C: Keeper>(
     requires moment { IsMomentOf state.old.catalog moment }
     ensures standing { OnOk result (IsStanding state.new.instance state.new.catalog) }
     ensures step { IfOk result (λ reply. Goes (D.held store.old) (C.kept keeper.old) state.old.instance state.old.catalog command.now moment reply (D.held store.new) (C.kept keeper.new) state.new.instance state.new.catalog) }
+    ensures dates { IfOk result HasDates }
     ensures stopped { OnErr result (StopsAt (D.held store.old) (C.kept keeper.old) state.old.instance state.old.catalog command.now moment (D.held store.new) (C.kept keeper.new)) }
     ensures store { IsErrOf result StoreFault → Rose (D.faults store.old) (D.faults store.new) }
     ensures keeper { IsErrOf result KeeperFault → Rose (C.faults keeper.old) (C.faults keeper.new) }
@@ -296,6 +300,8 @@ impl Site {
     /// One step of the machine: the reply to a statement, where the clock answered `clock`. A refusal is a
     /// reply too, and changes nothing.
     ///
+    /// Each line of the reply has a text.
+    ///
     /// New objects are put first, then all records are edited at once. An error is a stop, after which the
     /// site is spent: a fault of the store or the keeper, which that object counted, or want of memory.
     ///
@@ -311,6 +317,7 @@ impl Site {
         requires live { self.old.live ≡ true }
         requires command { IsTrue (is_command command.now) }
         ensures step { IfOk result (λ reply. Steps (D.held store.old) (C.kept keeper.old) self.old command.now clock reply (D.held store.new) (C.kept keeper.new) self.new) }
+        ensures dates { IfOk result HasDates }
         ensures stopped { OnErr result (Stops (D.held store.old) (C.kept keeper.old) self.old command.now clock (D.held store.new) (C.kept keeper.new)) }
         ensures live { OnOk result (self.new.live ≡ true) }
         ensures spent { OnErr result (self.new.live ≡ false) }

@@ -2,6 +2,7 @@
 ghost use Rattle.std.specs.Prelude.{◌≡◌, ◌≤◌, true, IfOk, OnOk, OnErr, IsErrOf};
 ghost use Rattle.rm_base.specs.Outside.{Rose};
 ghost use Rattle.rm_change.specs.declared.change.Stop.TheVariants.{StoreFault, KeeperFault};
+ghost use Rattle.rm_report.specs.Reply.{HasDates};
 ghost use Rattle.rm_tool.specs.Serving.{IsServed, IsCutShort, FromEach, Serves, EndsAtStatement, EndsInReplies};
 
 use crate::ends::write_all;
@@ -73,6 +74,7 @@ fn serve<D: Store, C: Keeper, T: Clock>(
     ensures live { OnOk result (site.new.live ≡ true) }
     ensures served { IfOk result (λ reply. IsServed (D.held store.old) (C.kept keeper.old) site.old (T.answers clock.old) (line, tokens.now) reply (D.held store.new) (C.kept keeper.new) site.new (T.answers clock.new)) }
     ensures cut { OnErr result (IsCutShort (D.held store.old) (C.kept keeper.old) site.old (T.answers clock.old) (line, tokens.now) (D.held store.new) (C.kept keeper.new)) }
+    ensures dates { IfOk result HasDates }
     ensures store { IsErrOf result StoreFault → Rose (D.faults store.old) (D.faults store.new) }
     ensures keeper { IsErrOf result KeeperFault → Rose (C.faults keeper.old) (C.faults keeper.new) }
     ensures store_never_falls { D.faults store.old ≤ D.faults store.new }

@@ -2,13 +2,15 @@ use Rattle.std.proofs.Common.{◌≡◌, ◌∙◌, Option, Some, refl, sym, sub
 use Rattle.std.specs.Option.{option_copied}
 use Rattle.rm_database.specs.Parts.{Parts}
 use Rattle.rm_database.specs.Step.{refusal_in}
+use Rattle.rm_database.proofs.Dates.{refused_dated}
 use Rattle.rm_site.specs.Limits.{room_refusal}
-use Rattle.rm_site.specs.Step.{Goes}
+use Rattle.rm_site.specs.Step.{Goes, refusal_of}
 use Rattle.rm_site.specs.View.{IsStanding}
 use Rattle.rm_site.proofs.Going.{neither}
 use Rattle.rm_site.proofs.Reading.{goes-reading, stays}
 use Rattle.rm_site.proofs.Standing.{accepted-of, recorded, steps-of}
 use Rattle.rm_site.proofs.Stopping.{nothing-done, on-err}
+use Rattle.rm_site.proofs.Dates.{steps_dated, site_dated}
 use Rattle.rm_site.proofs.site.answer.Goals as goal
 
 pub returns-then-is_reading-clause-standing : goal.returns-then-is_reading-clause-standing
@@ -43,3 +45,14 @@ returns-in_err-refusal_reply-clause-stopped g c = on-err _ _ (nothing-done _ _ _
 
 pub returns-in_err-step-clause-stopped : goal.returns-in_err-step-clause-stopped
 returns-in_err-step-clause-stopped g c = on-err _ _ (nothing-done _ _ _ _ _ _)
+
+pub returns-then-is_reading-clause-dates : goal.returns-then-is_reading-clause-dates
+returns-then-is_reading-clause-dates g c =
+    steps_dated c.args.state.now.instance c.step.new.self c.args.state.now.catalog c.args.command.now c.in_ok-step.field-0 c.requires.standing c.in_ok-step.ensures.step
+
+pub returns-in-Some-clause-dates : goal.returns-in-Some-clause-dates
+returns-in-Some-clause-dates g c =
+    let o = c.args.state.now.instance in
+    let rs = c.args.state.now.catalog in
+    let k = c.args.command.now in
+    refused_dated (refusal_of o rs k c.args.moment) c.in-Some.refusal c.in_ok-refusal_reply.field-0 (site_dated o rs k c.args.moment) (sym c.refusal.ensures ∙ c.in-Some.is) c.in_ok-refusal_reply.ensures

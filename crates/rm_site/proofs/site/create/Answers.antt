@@ -17,6 +17,7 @@ use Rattle.rm_site.specs.Stopped.{StopsAt}
 use Rattle.rm_site.specs.View.{IsStanding}
 use Rattle.rm_site.proofs.Creating.{created, goes-created, halts-created, of-command, stands, valid}
 use Rattle.rm_site.proofs.Stopping.{nothing-done, on-err}
+use Rattle.rm_site.proofs.Dates.{steps_dated}
 use Rattle.rm_site.proofs.site.create.Goals as goal
 
 pub record_change-requires : goal.record_change-requires
@@ -100,3 +101,7 @@ returns-in_err-record_change-clause-stopped g c =
     (subst (λ (k : Command). StopsAt held kept None c.args.state.now.catalog k c.args.moment held' kept') (sym c.in-CreateDatabase.is)
     (subst (λ (rs : List Record). StopsAt held kept None rs (CreateDatabase dbid threads scn) c.args.moment held' kept') (sym empty)
     (halts-created dbid threads scn reply c.args.moment change c.step.new.self made ledger accepted c.new.ensures c.in_ok-fresh_edits.ensures c.new-2.ensures held held' kept kept' c.in_err-record_change.ensures.stopped))))
+
+pub returns-clause-dates : goal.returns-clause-dates
+returns-clause-dates g c =
+    steps_dated c.args.state.now.instance c.step.new.self c.args.state.now.catalog c.args.command.now c.in_ok-reply.reply c.requires.standing c.in_ok-reply.ensures.step

@@ -10,6 +10,7 @@ use Rattle.rm_site.specs.View.{IsStanding}
 use Rattle.rm_site.proofs.Going.{goes, neither, stands-on, valid-on, Went}
 use Rattle.rm_site.proofs.Standing.{accepted-of, advanced, are-valid, files-more, logs-more, none-after, recorded, steps-of, went}
 use Rattle.rm_site.proofs.Stopping.{halts, nothing-done, on-err}
+use Rattle.rm_site.proofs.Dates.{steps_dated}
 use Rattle.rm_site.proofs.site.go_on.Goals as goal
 
 pub unreachable-requires-in_default-database : goal.unreachable-requires-in_default-database
@@ -138,3 +139,7 @@ returns-in_err-record_change-clause-stopped g c =
     on-err _ _
     (subst (λ (x : Option Parts). StopsAt (g.D.Store.held c.args.store.now) (g.C.Keeper.kept c.args.keeper.now) x rs c.args.command.now c.args.moment (g.D.Store.held c.record_change.new.store) (g.C.Keeper.kept c.record_change.new.keeper)) (sym from)
     (halts p q rs c.args.command.now c.in_ok-reply.reply c.args.moment saves.0 c.in_ok-change.change _ _ _ _ w c.in_err-record_change.ensures.stopped))
+
+pub returns-clause-dates : goal.returns-clause-dates
+returns-clause-dates g c =
+    steps_dated c.args.state.now.instance c.step.new.self c.args.state.now.catalog c.args.command.now c.in_ok-reply.reply c.requires.standing c.in_ok-reply.ensures.step
