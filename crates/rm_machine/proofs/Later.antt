@@ -36,3 +36,13 @@ borne-later s h objects after made touched touched' moment is next stand = recor
   records = kept-on objects after made made touched touched' (ledger s) (ledger (at_moment s moment))
       (λ name bytes names names' was. stand name bytes names (names-of (ledger s) (ledger (at_moment s moment)) (λ e has. has) (λ e has. has) name names') was) (λ a has. has) (λ e has. inl has) (λ e has. inl has) is.records;
 }
+
+-- other objects under names that the records do not tell of
+pub borne-beside : (s : State) (h : List Change) (objects after : Held) (made : List Made) (touched touched' : List (List ℕ))
+    → IsBorneOut s h objects made touched → StandOn objects after touched touched' (ledger s) (ledger s) → IsBorneOut s h after made touched'
+borne-beside s h objects after made touched touched' is stand = record {
+  state = is.state;
+  keeps = is.keeps;
+  artefacts = is.artefacts;
+  records = kept-on objects after made made touched touched' (ledger s) (ledger s) stand (λ a has. has) (λ e has. inl has) (λ e has. inl has) is.records;
+}

@@ -1,8 +1,15 @@
+pub mod Choosing
+pub mod CountedLogs
 pub mod Creating
 pub mod Kept
 pub mod Later
 pub mod Leading
+pub mod Mounting
+pub mod Opened
+pub mod Opening
 pub mod Places
+pub mod Quiet
+pub mod Switching
 pub mod Writes
 pub mod WritesKeep
 pub mod WritesSound

@@ -1,11 +1,12 @@
 -- What is in place, and as what it counts.
-use Rattle.std.proofs.Common.{◌≡◌, ◌+◌, inl, inr, ℕ, Some, None, true, false, cond, ap, subst, arith, slice_index_or}
+use Rattle.std.proofs.Common.{◌≡◌, ◌+◌, inl, inr, ℕ, zero, suc, List, [], ◌∷◌, Option, Some, None, true, false, cond, ap, subst, arith, map, slice_index_or}
+use Rattle.std.specs.Option.{option_map}
 use Rattle.std.proofs.lemmas.Option.{slice_get_within}
 use Rattle.std.proofs.lemmas.Bool.{cases_Bool}
 use Rattle.rm_blocks.specs.File.{File, IsInOrder, standing}
 use Rattle.rm_history.specs.declared.world.Datafile.{Datafile}
 use Rattle.rm_ledger.proofs.Lookups.{item-at}
-use Rattle.rm_base.proofs.Slots.{get-index}
+use Rattle.rm_base.proofs.Slots.{get-index, get-mapped, index-get}
 use Rattle.rm_machine.specs.Sound.{ArePlaced, IsPlaced}
 use Rattle.rm_machine.specs.State.{State, current_of, now_of, counted}
 
@@ -35,3 +36,15 @@ placed-is s k x are is =
     let many = are.many in
     let file = item-at s.catalog.ledger.files k (omega (arith, inside, many)) in
     as-placed s k file.0 x (are.each k file.0 x file.1 at)
+
+-- what stands in place after each that stood there was changed
+pub placed-map : (f : File → File) (place : List (Option File)) (k : ℕ) (x : File) → slice_index_or (map (option_map f) place) k None ≡ Some x → (y : File) × (slice_index_or place k None ≡ Some y) × (f y ≡ x)
+placed-map f place k x is =
+    let found = get-mapped f place k x (get-index (map (option_map f) place) k x is) in
+    (found.0, index-get place k found.0 found.1, found.2)
+
+-- and the other way
+pub placed-mapped : (f : File → File) (place : List (Option File)) (k : ℕ) (x : File) → slice_index_or place k None ≡ Some x → slice_index_or (map (option_map f) place) k None ≡ Some (f x)
+placed-mapped f [] k x is = absurd (cc)
+placed-mapped f (o ∷ place) zero x is = ap (option_map f) is
+placed-mapped f (o ∷ place) (suc k) x is = placed-mapped f place k x is

@@ -3,8 +3,12 @@ pub mod Effect
 pub mod Laws
 pub mod Machine
 pub mod Marks
+pub mod Mount
 pub mod Names
+pub mod Open
+pub mod ResetDatabase
 pub mod Sound
 pub mod State
 pub mod Step
+pub mod SwitchLogfile
 pub mod Write

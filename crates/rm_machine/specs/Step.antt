@@ -7,24 +7,42 @@ use Rattle.rm_lang.specs.declared.command.WriteForm.{WriteForm}
 use Rattle.rm_report.specs.declared.line.Line.{Line}
 use Rattle.rm_machine.specs.Effect.{Effect, LeavesObjects, Outcome, refused, done}
 use Rattle.rm_machine.specs.Machine.{Machine, DigestsTell}
+use Rattle.rm_machine.specs.Marks.{ids_refusal}
+use Rattle.rm_machine.specs.Mount.{IsMountOutcome}
+use Rattle.rm_machine.specs.Open.{open_refusal, IsOpenOutcome}
+use Rattle.rm_machine.specs.ResetDatabase.{reset_refusal, IsResetOutcome}
 use Rattle.rm_machine.specs.State.{State, at_moment}
+use Rattle.rm_machine.specs.SwitchLogfile.{switch_refusal, IsSwitchOutcome}
 use Rattle.rm_machine.specs.Write.{write_refusal, IsWriteOutcome}
 
 -- the statements that are built here
 pub data Statement : Type 0 where
   write : WriteForm → Statement
+  switch_logfile : (thread : ℕ) → Statement
+  mount : Statement
+  open_database : Statement
+  reset_database : (inc : ℕ) → Statement
 
 -- a content has 64 bytes
 abbrev pub IsStatement : Statement → Type 0
 IsStatement (write w) = length w.content.0 ≡ 64
+IsStatement _ = Unit {0}
 
 -- why the state alone refuses it
 abbrev pub refusal_of : State → Statement → Option Refusal
 refusal_of s (write w) = write_refusal s w
+refusal_of s (switch_logfile t) = switch_refusal s t
+refusal_of s mount = ids_refusal s
+refusal_of s open_database = open_refusal s
+refusal_of s (reset_database i) = reset_refusal s i
 
 -- what it comes to otherwise, by what the store holds
 abbrev pub IsDone : State → Held → Statement → Outcome → Type 0
 IsDone s held (write w) o = IsWriteOutcome s w o
+IsDone s held (switch_logfile t) o = IsSwitchOutcome s t o
+IsDone s held mount o = IsMountOutcome s o
+IsDone s held open_database o = IsOpenOutcome s o
+IsDone s held (reset_database i) o = IsResetOutcome s i o
 
 abbrev pub IsOutcomeBy : Option Refusal → State → Held → Statement → Outcome → Type 0
 IsOutcomeBy (Some r) s held c o = o ≡ refused r
@@ -37,7 +55,7 @@ IsOutcome s held c o = IsOutcomeBy (refusal_of s c) s held c o
 
 -- the names that a HOST statement gives
 abbrev pub names_in : Statement → List (List ℕ)
-names_in (write w) = []
+names_in _ = []
 
 -- the machine went on by this effect to the state t
 pub record MachineFollows (m : Machine) (c : Statement) (effect : Effect) (t : State) (n : Machine) : Type 0 where

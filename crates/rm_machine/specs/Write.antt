@@ -56,4 +56,4 @@ with_write s w =
 -- it makes the change
 abbrev pub IsWriteOutcome : State → WriteForm → Outcome → Type 0
 IsWriteOutcome s w o =
-    o ≡ done ((Written (now_of s)) ∷ []) (record no_effect { changes = change_of s w ∷ [] }) (with_write s w)
+    o ≡ done (Written (now_of s) ∷ []) (record no_effect { changes = change_of s w ∷ [] }) (with_write s w)

@@ -8,7 +8,7 @@ ghost use Rattle.rm_machine.specs.Laws.{IsMomentOf, LeadsOn, StaysSound};
 ghost use Rattle.rm_machine.specs.Machine.{IsSoundMachine};
 ghost use Rattle.rm_machine.specs.Sound.{IsSound};
 ghost use Rattle.rm_machine.specs.State.{State, at_moment};
-ghost use Rattle.rm_machine.specs.Step.{write};
+ghost use Rattle.rm_machine.specs.Step.{mount, open_database, reset_database, switch_logfile, write};
 
 /// There are sound machines: that of a new database is one.
 pub fn a_new_database_is_sound()
@@ -25,4 +25,28 @@ pub fn a_moment_keeps_a_state_sound()
 pub fn a_write_leads_on()
     ensures leads { (w : WriteForm) → LeadsOn (write w) }
     ensures stays { (w : WriteForm) → StaysSound (write w) }
+{}
+
+/// SWITCH LOGFILE, likewise: the log of a thread becomes an archived one.
+pub fn a_switch_leads_on()
+    ensures leads { (thread : ℕ) → LeadsOn (switch_logfile thread) }
+    ensures stays { (thread : ℕ) → StaysSound (switch_logfile thread) }
+{}
+
+/// SHUTDOWN and STARTUP MOUNT, likewise: what is in place stands at `now`.
+pub fn a_mount_leads_on()
+    ensures leads { LeadsOn mount }
+    ensures stays { StaysSound mount }
+{}
+
+/// ALTER DATABASE OPEN, likewise: the database goes on at its end.
+pub fn an_opening_leads_on()
+    ensures leads { LeadsOn open_database }
+    ensures stays { StaysSound open_database }
+{}
+
+/// RESET DATABASE, likewise: another incarnation is the current one.
+pub fn a_reset_leads_on()
+    ensures leads { (inc : ℕ) → LeadsOn (reset_database inc) }
+    ensures stays { (inc : ℕ) → StaysSound (reset_database inc) }
 {}

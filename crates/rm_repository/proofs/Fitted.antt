@@ -24,11 +24,11 @@ use Rattle.rm_ledger.specs.Ledger.{records_of as ledger_records}
 use Rattle.rm_ledger.proofs.Keeping.{log_kept, mark_kept, pairs_append, piece_kept}
 use Rattle.rm_ledger.proofs.Order.{incarnations_of, datafiles_of, logs_of, pieces_of, marks_of, length-numbered}
 use Rattle.rm_ledger.proofs.Trees.{Keeps, keeps_branch, keeps_end, parents_below}
-use Rattle.rm_repository.specs.Changes.{with_base, with_end_at, with_file, with_incarnation, with_log, with_mark, with_piece, without_log, without_piece}
+use Rattle.rm_repository.specs.Changes.{with_base, with_end_at, with_file, with_incarnation, with_log, with_mark, with_new_log, with_piece, without_log, without_piece}
 use Rattle.rm_repository.specs.Facts.{IsPartEntry, IsRepository, IsSaved}
-use Rattle.rm_repository.specs.Fitting.{FitsBase, FitsBranch, FitsFile, FitsLog, FitsMark, FitsPiece, LacksId}
+use Rattle.rm_repository.specs.Fitting.{FitsBase, FitsBranch, FitsFile, FitsLog, FitsMark, FitsPiece, HasRoomFor, LacksId}
 use Rattle.rm_repository.specs.Repository.{Repository, Saved}
-use Rattle.rm_repository.proofs.Ones.{all-with, all-without, ascend-with, ascend-without, contains-with, contains-without, length-replaced, length-with, length-without}
+use Rattle.rm_repository.proofs.Ones.{all-with, all-without, ascend-with, ascend-without, contains-with, contains-without, length-replaced, length-with, length-without, with-last}
 
 -- a ledger has the threads, datafiles, incarnations and ids that another has
 record HasAll (l m : Ledger) : Type 0 where
@@ -550,3 +550,46 @@ no_piece_fits r n rules =
     saved_without (Some s) is =
         site_kept r.ledger (without_piece r n).ledger s (record { ids = omega arith; threads = omega arith; files = omega arith; there = λ i there. there }) is
         is.logs (λ x p has other. contains-without (λ x. x.id) (λ (x : PieceEntry). x.id ≡ p.id → ⊥) n r.ledger.pieces (λ y was. is.pieces y p was other) x has)
+
+-- A new object takes the next id.
+
+-- with a higher next id
+pub with_next : Repository → ℕ → Repository
+with_next r n = with_base r (record r.ledger.base { next_id = n })
+
+next_fits : (r : Repository) (n : ℕ) → IsRepository r → r.ledger.base.next_id ≤ n → n ≤ 4294967295 → IsRepository (with_next r n)
+unfolding with_next
+next_fits r n rules up most =
+    let is = rules.ledger in
+    let some = is.base.next_id.0 in
+    base_fits r (record r.ledger.base { next_id = n }) rules (record {
+      facts = record { dbid = is.base.dbid; threads = is.base.threads; next_id = (omega (arith, some, up), most); moment = is.base.moment; policy = is.base.policy; parallelism = is.base.parallelism };
+      current = is.current;
+      threads = refl;
+      next_id = up;
+      moment = omega arith;
+    })
+
+-- no part of a saved site has the next id
+parts-lack : (l : Ledger) (o : Option Saved) → IfSome o (IsSaved l) → IfSome o (λ s. LacksId (λ p. p.id) l.base.next_id s.parts)
+parts-lack l None none = tt
+parts-lack l (Some s) is = All-weaker (IsPartEntry l) (λ p. p.id ≡ l.base.next_id → ⊥) (λ p was same. let high = was.id.1 in omega (arith, high, same)) s.parts is.parts
+
+-- a new log
+pub new_log_fits : (r : Repository) (e : LogEntry) → IsRepository r → e.id ≡ r.ledger.base.next_id → e.id + 1 ≤ 4294967295 → IsLogEntry r.ledger.tree r.ledger.base.threads e → HasRoomFor r 1
+    → IsRepository (with_new_log r e)
+unfolding with_next
+new_log_fits r e rules id most fits room =
+    let is = rules.ledger in
+    let l = r.ledger in
+    let n = l.base.next_id in
+    let some = is.base.next_id.0 in
+    let next : IsRepository (with_next r (n + 1)) = next_fits r (n + 1) rules (omega arith) (omega (arith, id, most)) in
+    let behind : All (λ x. x.id < e.id) l.logs = All-weaker (λ (x : LogEntry). (1 ≤ x.id) × (x.id < n)) (λ x. x.id < e.id) (λ x was. let high = was.1 in omega (arith, high, id)) l.logs is.ids.logs in
+    let after : IsRepository (with_log (with_next r (n + 1)) e) = log_fits (with_next r (n + 1)) e next (record {
+      log = fits;
+      id = record { range = (omega (arith, id, some), omega (arith, id)); parts = subst (λ (k : ℕ). IfSome r.saved (λ s. LacksId (λ p. p.id) k s.parts)) (sym id) (parts-lack l r.saved rules.saved) };
+      other = All-weaker (λ (x : PieceEntry). (1 ≤ x.id) × (x.id < n)) (λ (x : PieceEntry). x.id ≡ e.id → ⊥) (λ x was same. let high = was.1 in omega (arith, high, id, same)) l.pieces is.ids.pieces;
+      room = inr room;
+    }) in
+    subst (λ (logs : List LogEntry). IsRepository (record r { ledger = record l { base = record l.base { next_id = n + 1 }; logs = logs } })) (with-last (λ x. x.id) e l.logs behind) after

@@ -1,13 +1,14 @@
 -- What holds of objects that ascend by id, after one is put among them or taken away.
-use Rattle.std.proofs.Common.{◌≡◌, ◌∙◌, ℕ, zero, suc, ◌+◌, ◌<◌, ◌≤◌, inl, inr, List, [], ◌∷◌, ap, sym, subst, arith, get_or, length, length-append, All, AllPairs, Contains}
+use Rattle.std.proofs.Common.{◌++◌, ◌≡◌, ◌∙◌, ℕ, zero, suc, ◌+◌, ◌<◌, ◌≤◌, inl, inr, List, [], ◌∷◌, ap, sym, subst, arith, get_or, length, length-append, All, AllPairs, Contains}
 use Rattle.std.specs.Prelude.{nat_lt}
 use Rattle.std.proofs.lemmas.Bool.{cases_lt}
 use Rattle.std.proofs.lemmas.List.Elements.{All-append, All-cons, All-contains, All-filter, All-nil, Contains-get_or}
+use Rattle.std.proofs.lemmas.List.Edits.{insert_end}
 use Rattle.std.proofs.lemmas.List.Kept.{AllPairs-filter}
 use Rattle.rm_ledger.proofs.Keeping.{pairs_append}
 use Rattle.rm_repository.specs.Changes.{higher, lower, with_one, without_one}
 use Rattle.rm_repository.specs.Fitting.{HasId}
-use Rattle.rm_repository.proofs.Splits.{higher-skip, higher-some, lower-skip, lower-some}
+use Rattle.rm_repository.proofs.Splits.{higher-skip, higher-some, lower-skip, lower-some, over-end, split-insert}
 
 module _ {A : Type 0} (id : A → ℕ) where
   -- those of lower ids have them, and so have those of higher ids
@@ -108,3 +109,7 @@ module _ {A : Type 0} (id : A → ℕ) where
 
   pub length-without : (n : ℕ) (xs : List A) → length (without_one id n xs) ≤ length xs
   length-without n xs = let h = short n xs in let l = length-append (lower id n xs) (higher id n xs) in omega (arith, h, l)
+
+  -- one of a higher id than all comes last
+  pub with-last : (x : A) (xs : List A) → All (λ y. id y < id x) xs → with_one id x xs ≡ xs ++ x ∷ []
+  with-last x xs low = split-insert id (id x) xs (length xs) x (omega arith) (λ k d lt. low k d lt) (over-end id (id x) xs (length xs) (omega arith)) ∙ insert_end xs x

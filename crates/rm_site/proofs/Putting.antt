@@ -14,7 +14,7 @@ use Rattle.rm_redo.specs.LogFormat.{IsLogFile, spelling}
 use Rattle.rm_site.specs.Follows.{log_object, log_entry, log_made}
 use Rattle.rm_site.specs.Holds.{HasLog, HasPiece, IsMade}
 use Rattle.rm_site.specs.Machine.{Made}
-use Rattle.rm_site.proofs.Names.{log-name-tells, log-no-piece}
+use Rattle.rm_objects.proofs.Names.{log-name-tells, log-no-piece}
 
 -- new logs: their ids ascend, from `low` up to, and without, `next`
 pub record AreNew (low next : ℕ) (logs : List Archived) : Type 0 where

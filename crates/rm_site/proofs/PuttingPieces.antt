@@ -15,7 +15,7 @@ use Rattle.rm_piece.specs.Spelling.{spelling}
 use Rattle.rm_site.specs.Holds.{HasLog, HasPiece}
 use Rattle.rm_site.specs.Machine.{Made}
 use Rattle.rm_site.specs.Saves.{Saved, piece_made, piece_object}
-use Rattle.rm_site.proofs.Names.{log-no-piece, piece-name-tells}
+use Rattle.rm_objects.proofs.Names.{log-no-piece, piece-name-tells}
 use Rattle.rm_site.proofs.Putting.{has-made, log-kept, piece-kept}
 
 -- the name of its object

@@ -25,7 +25,7 @@ use Rattle.rm_site.specs.Saves.{Saved, piece_object}
 use Rattle.rm_site.specs.Stopped.{IsNamed, of_log, of_piece, Names, Stopped, StopsAt, Stops}
 use Rattle.rm_site.specs.View.{View}
 use Rattle.rm_site.proofs.Going.{Went, Grew, g, next, shown-of, step-taken, are-new, old-ids, old-pieces}
-use Rattle.rm_site.proofs.Names.{log-name-tells, log-no-piece, piece-name-tells}
+use Rattle.rm_objects.proofs.Names.{log-name-tells, log-no-piece, piece-name-tells}
 use Rattle.rm_site.proofs.Putting.{AreNew}
 
 pub on-err : {T E : Type 0} (P : Type 0) (r : Result T E) → P → OnErr r P

@@ -1,0 +1,93 @@
+-- RESET DATABASE leads on: another incarnation is chosen.
+use Rattle.std.proofs.Common.{◌≡◌, ◌<◌, ◌≤◌, ◌∙◌, ◌==◌, ◌||◌, nat_lt, inl, ℕ, List, Some, None, false, refl, sym, subst, arith, length}
+use Rattle.std.proofs.lemmas.Bool.{false≢true}
+use Rattle.std.proofs.lemmas.Bool.Decides.{nat_tests}
+use Rattle.rm_base.specs.Store.{Held}
+use Rattle.rm_base.specs.declared.block.Change.{Change}
+use Rattle.rm_base.specs.declared.refusal.Refusal.TheVariants.{Rm04, Rm07}
+use Rattle.rm_blocks.specs.File.{base_of}
+use Rattle.rm_history.specs.Agrees.{BaseAgrees}
+use Rattle.rm_history.specs.Tree.{IsThere}
+use Rattle.rm_repository.specs.Facts.{IsRepository}
+use Rattle.rm_repository.proofs.Fitted.{base_fits}
+use Rattle.rm_machine.specs.Effect.{Made}
+use Rattle.rm_machine.specs.Machine.{HistoryFits, IsBorneOut}
+use Rattle.rm_machine.specs.Marks.{ids_refusal}
+use Rattle.rm_machine.specs.ResetDatabase.{at_incarnation, reset_refusal}
+use Rattle.rm_machine.specs.Sound.{IsPlaced, IsSound}
+use Rattle.rm_machine.specs.State.{State, ledger, world}
+use Rattle.rm_machine.specs.Step.{reset_database}
+use Rattle.rm_base.proofs.Conditions.{unless}
+use Rattle.rm_machine.proofs.CountedLogs.{counted-agree, counted-online}
+use Rattle.rm_machine.proofs.Kept.{kept-on, stand-same}
+use Rattle.rm_machine.proofs.Leading.{LeadsOnBy, StaysBy}
+use Rattle.rm_machine.proofs.Places.{counted-closed}
+use Rattle.rm_machine.proofs.Quiet.{quiet-on, quiet-stays}
+
+record CanChoose (s : State) (i : ℕ) : Type 0 where
+  shut : s.instance.is_open ≡ false
+  there : IsThere s.catalog.ledger.tree i
+
+there-of : (n i : ℕ) → ((i == 0) || nat_lt n i) ≡ false → (0 < i) × (i ≤ n)
+there-of n i is = (grind (arith, nat_tests), grind (arith, nat_tests))
+
+can-choose : (s : State) (i : ℕ) → reset_refusal s i ≡ None → CanChoose s i
+can-choose s i is =
+    let mode = unless s.instance.is_open (Rm04 false) _ is in
+    let there = unless ((i == 0) || nat_lt (length s.catalog.ledger.tree) i) (Rm07 i) (ids_refusal s) mode.1 in
+    record { shut = mode.0; there = there-of (length s.catalog.ledger.tree) i there.0 }
+
+module _ (s : State) (i : ℕ) (sound : IsSound s) (can : CanChoose s i) where
+  abbrev q : State
+  q = at_incarnation s i
+
+  catalog-after : IsRepository q.catalog
+  catalog-after =
+      let is = sound.catalog.ledger.base in
+      base_fits s.catalog (record s.catalog.ledger.base { current = i }) sound.catalog (record {
+        facts = record { dbid = is.dbid; threads = is.threads; next_id = is.next_id; moment = is.moment; policy = is.policy; parallelism = is.parallelism };
+        current = can.there;
+        threads = refl;
+        next_id = omega arith;
+        moment = omega arith;
+      })
+
+  sound-chosen : IsSound q
+  sound-chosen =
+      let logs = counted-online s i can.there sound.logs in
+      record {
+        catalog = catalog-after;
+        dbid = sound.dbid;
+        place = record {
+          many = sound.place.many;
+          each = λ k d x file held. subst (IsPlaced s.catalog.ledger.tree k d) (counted-closed s x can.shut ∙ sym (counted-closed q x can.shut)) (sound.place.each k d x file held);
+        };
+        logs = record { dbid = logs.dbid; there = logs.there; threads = logs.threads; each = logs.each };
+        in_open = λ mode. absurd (false≢true (sym can.shut ∙ mode));
+        point = λ at is. absurd (let e : None ≡ Some at = is in cc);
+      }
+
+  keeps-chosen : (h : List Change) → HistoryFits s h → HistoryFits q h
+  keeps-chosen h keeps = record {
+    history = keeps.history;
+    below = keeps.below;
+    online = counted-agree s i h sound.logs keeps.online;
+    place = λ f x is. subst (λ y. BaseAgrees (world s) h (base_of y)) (counted-closed s x can.shut ∙ sym (counted-closed q x can.shut)) (keeps.place f x is);
+    in_open = λ mode. absurd (false≢true (sym can.shut ∙ mode));
+    point = λ at is. absurd (let e : None ≡ Some at = is in cc);
+  }
+
+  stands-chosen : (h : List Change) (objects : Held) (made : List Made) (touched : List (List ℕ)) → IsBorneOut s h objects made touched → IsBorneOut q h objects made touched
+  stands-chosen h objects made touched stands = record {
+    state = sound-chosen;
+    keeps = keeps-chosen h stands.keeps;
+    artefacts = stands.artefacts;
+    records = kept-on objects objects made made touched touched (ledger s) (ledger q) (stand-same objects objects touched (ledger s) (ledger q) (λ n. refl)) (λ a has. has) (λ e has. inl has) (λ e has. inl has) stands.records;
+  }
+
+pub choose-on : (i : ℕ) → LeadsOnBy (reset_database i)
+choose-on i s h objects made touched said e t after well stands tell none does effect =
+    quiet-on (at_incarnation s i) h objects made touched _ said e t after does effect (stands-chosen s i stands.state (can-choose s i none) h objects made touched stands)
+
+pub choose-stays : (i : ℕ) → StaysBy (reset_database i)
+choose-stays i s objects said e t well sound none accepted does = quiet-stays (at_incarnation s i) _ said e t does (sound-chosen s i sound (can-choose s i accepted)) none

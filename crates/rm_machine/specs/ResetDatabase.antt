@@ -1,0 +1,33 @@
+-- RESET DATABASE TO INCARNATION n
+use Rattle.std.specs.Prelude.{ℕ, ◌≡◌, ◌==◌, ◌||◌, nat_lt, if◌then◌else◌, false, Option, Some, None, [], ◌∷◌, length}
+use Rattle.std.specs.List.{list_all}
+use Rattle.rm_base.specs.declared.refusal.Refusal.{Refusal}
+use Rattle.rm_base.specs.declared.refusal.Refusal.TheVariants.{Rm04, Rm07}
+use Rattle.rm_redo.specs.Logs.{Logs}
+use Rattle.rm_report.specs.declared.line.Line.TheVariants.{Chosen}
+use Rattle.rm_repository.specs.Changes.{with_base}
+use Rattle.rm_machine.specs.Effect.{Outcome, done, no_effect}
+use Rattle.rm_machine.specs.Marks.{ids_refusal}
+use Rattle.rm_machine.specs.State.{State, ledger, tree}
+
+-- where all online logs are lost, they count as logs of this incarnation
+abbrev pub counted_as : Logs → ℕ → Logs
+counted_as logs i = if list_all (λ l. l.is_lost) logs.threads then record logs { inc = i } else logs
+
+-- why it is refused: the database is open, or the incarnation is not there
+abbrev pub reset_refusal : State → ℕ → Option Refusal
+reset_refusal s i =
+    if s.instance.is_open then Some (Rm04 false)
+    else if (i == 0) || nat_lt (length (tree s)) i then Some (Rm07 i)
+    else ids_refusal s
+
+-- the database at another incarnation, where no point is known
+abbrev pub at_incarnation : State → ℕ → State
+at_incarnation s i =
+    record {
+      catalog = with_base s.catalog (record (ledger s).base { current = i });
+      instance = record s.instance { point = None; logs = counted_as s.instance.logs i };
+    }
+
+abbrev pub IsResetOutcome : State → ℕ → Outcome → Type 0
+IsResetOutcome s i o = o ≡ done (Chosen i ∷ []) no_effect (at_incarnation s i)
