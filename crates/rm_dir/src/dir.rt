@@ -3,6 +3,7 @@ ghost use Rattle.std.specs.Prelude.{IfOk};
 ghost use Rattle.rm_base.specs.Store.{Ascends};
 
 use crate::folder::Folder;
+use crate::names::is_object;
 use rm_base::{Seq, Text};
 use std::alloc::AllocError;
 use std::collections::BTreeMap;
@@ -15,16 +16,6 @@ use std::os::unix::fs::{DirBuilderExt, OpenOptionsExt};
 pub struct Dir<'a> {
     rt: &'a HostRuntime,
     path: String,
-}
-
-/// Whether the name is 1 to 64 letters, digits and `_`.
-pub fn is_name(name: &str) -> bool {
-    let bytes = name.as_bytes();
-    !bytes.is_empty()
-        && bytes.len() <= 64
-        && bytes
-            .iter()
-            .all(|b| b.is_ascii_alphanumeric() || *b == b'_')
 }
 
 impl<'a> Dir<'a> {
@@ -43,41 +34,10 @@ impl<'a> Dir<'a> {
         Ok(path)
     }
 
-    /// The bytes of the file of this name; None where nothing stands there. A link is an error, and so is
-    /// each thing but a file.
-    pub fn read(&self, name: &str) -> io::Result<Option<Seq<u8>>> {
-        let path = self.path_of(name)?;
-        let found = match fs::symlink_metadata(self.rt, path.as_str()) {
-            Ok(found) => found,
-            Err(error) if error.kind() == ErrorKind::NotFound => return self.nothing(),
-            Err(error) => return Err(error),
-        };
-        if !found.is_file() {
-            return Err(io::Error::from(ErrorKind::InvalidFilename));
-        }
-        let len = usize::try_from(found.len()).unwrap_or(0);
-        let mut bytes = Vec::with_capacity(self.rt.alloc(), len)?;
-        File::open(self.rt, path.as_str())?.read_to_end(&mut bytes)?;
-        Ok(Some(Seq::from_vec(bytes)))
-    }
-
     // Nothing stands there, if the directory is there.
     fn nothing(&self) -> io::Result<Option<Seq<u8>>> {
         let _ = fs::metadata(self.rt, self.path.as_str())?;
         Ok(None)
-    }
-
-    /// The names of the files that are objects, ascending.
-    pub fn names(&self) -> io::Result<Seq<Text>>
-        ensures { IfOk result (λ names. Ascends names) }
-    {
-        let mut names = BTreeMap::new(self.rt.alloc());
-        for entry in fs::read_dir(self.rt, self.path.as_str())? {
-            if let Some(name) = listed(self.rt, entry)? {
-                names.insert(name, ())?;
-            }
-        }
-        Ok(texts(self.rt, &names)?)
     }
 }
 
@@ -92,7 +52,7 @@ fn listed(
         Err(error) if error.kind() == ErrorKind::InvalidFilename => return Ok(None),
         Err(error) => return Err(error),
     };
-    if is_name(entry.file_name()) && entry.file_type()?.is_file() {
+    if is_object(entry.file_name().as_bytes()) && entry.file_type()?.is_file() {
         return Ok(Some(String::from_str(rt.alloc(), entry.file_name())?));
     }
     Ok(None)
@@ -109,10 +69,43 @@ fn texts(rt: &HostRuntime, names: &BTreeMap<String, ()>) -> Result<Seq<Text>, Al
     Ok(Seq::from_vec(texts))
 }
 
+fn sorted_names(rt: &HostRuntime, path: &str) -> io::Result<Seq<Text>>
+    ensures { IfOk result (λ names. Ascends names) }
+{
+    let mut names = BTreeMap::new(rt.alloc());
+    for entry in fs::read_dir(rt, path)? {
+        if let Some(name) = listed(rt, entry)? {
+            names.insert(name, ())?;
+        }
+    }
+    Ok(texts(rt, &names)?)
+}
+
 impl Folder for Dir<'_> {
     ghost use Rattle.std.specs.Prelude.{None};
 
     ghost files = { λ _. None };
+
+    // A link is an error, and so is each thing but a file.
+    fn read(&self, name: &str) -> io::Result<Option<Seq<u8>>> {
+        let path = self.path_of(name)?;
+        let found = match fs::symlink_metadata(self.rt, path.as_str()) {
+            Ok(found) => found,
+            Err(error) if error.kind() == ErrorKind::NotFound => return self.nothing(),
+            Err(error) => return Err(error),
+        };
+        if !found.is_file() {
+            return Err(io::Error::from(ErrorKind::InvalidFilename));
+        }
+        let len = usize::try_from(found.len()).unwrap_or(0);
+        let mut bytes = Vec::with_capacity(self.rt.alloc(), len)?;
+        File::open(self.rt, path.as_str())?.read_to_end(&mut bytes)?;
+        Ok(Some(Seq::from_vec(bytes)))
+    }
+
+    fn names(&self) -> io::Result<Seq<Text>> {
+        sorted_names(self.rt, self.path.as_str())
+    }
 
     // The file is its owner's alone. That it is new leaves no stale one, whose rights it would have, and
     // follows no link.

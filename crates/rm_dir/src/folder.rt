@@ -1,8 +1,10 @@
 //! How an object gets its name: written beside it, and then renamed.
-ghost use Rattle.std.specs.Prelude.{◌≡◌, ◌≢◌, Some, None, OnOk, OnErr};
-ghost use Rattle.rm_base.specs.Store.{Held, Both, HasNow, SameBut};
+ghost use Rattle.std.specs.Prelude.{◌≡◌, ◌≢◌, Some, None, IfOk, IfSome, OnOk, OnErr};
+ghost use Rattle.rm_base.specs.Store.{Held, Both, HasNow, SameBut, Ascends, AreTheNames};
+ghost use Rattle.rm_dir.specs.DirStore.{objects_of};
 ghost use Rattle.rm_dir.specs.Folder.{SameButBoth, IsWhole, IsMoved};
 
+use rm_base::{Seq, Text};
 use std::io;
 
 /// Files under names. A machine that stops keeps what the last `sync` saw of the names, and the bytes
@@ -12,6 +14,15 @@ pub trait Folder {
 
     /// The bytes under each name, where the folder tells it.
     ghost files: { Self → Option Held };
+
+    /// The bytes of the file of this name; None where nothing stands there.
+    fn read(&self, name: &str) -> io::Result<Option<Seq<u8>>>
+        ensures { IfOk result (λ found. IfSome (files self.now) (λ h. h name.now ≡ found)) };
+
+    /// The names of the files that are objects, ascending by their bytes.
+    fn names(&self) -> io::Result<Seq<Text>>
+        ensures ascending { IfOk result (λ names. Ascends names) }
+        ensures exact { IfOk result (λ names. IfSome (files self.now) (λ h. AreTheNames names (objects_of h))) };
 
     /// Writes a file under a name where nothing stands, and makes its bytes durable. A call that fails may
     /// leave any bytes there.

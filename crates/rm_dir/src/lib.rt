@@ -3,8 +3,10 @@
 
 pub mod dir;
 pub mod folder;
+pub mod names;
 pub mod store;
 
 pub use dir::Dir;
 pub use folder::{Folder, put_whole};
+pub use names::is_object;
 pub use store::DirStore;

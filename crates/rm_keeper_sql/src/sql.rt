@@ -193,7 +193,7 @@ fn rows_in<S: Alter>(conn: &mut Connection<S>) -> Result<Vec<Row>, KeeperFail>
     let rows = select(&mut tx)?;
     match tx.commit() {
         Ok(()) => Ok(rows),
-        Err(cause) => Err(fail_of(cause)),
+        Err(fault) => Err(fail_of(fault)),
     }
 }
 
