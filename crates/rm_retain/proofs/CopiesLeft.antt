@@ -17,20 +17,14 @@ use Rattle.rm_base.proofs.Lists.{front_or_end, filter_from, filter_to, map_from,
 use Rattle.rm_objects.specs.Database.{current_in, world_of}
 use Rattle.rm_piece.specs.declared.piece.Piece.{Piece}
 use Rattle.rm_retain.specs.declared.copies.Backup.{Backup}
-use Rattle.rm_retain.specs.Chosen.{Retention}
+use Rattle.rm_retain.specs.Chosen.{Retention, AscendById}
 use Rattle.rm_retain.specs.Obsolete.{IsNeedlessBackup}
 use Rattle.rm_retain.specs.Catalogued.{backup_of, backup_in, copies_in, by_records, IsObsoleteRecord}
 use Rattle.rm_retain.specs.Cleared.{IsCleared}
-use Rattle.rm_retain.specs.Remaining.{AscendById, AreRemaining, with_copies}
+use Rattle.rm_retain.specs.Remaining.{AreRemaining, with_copies}
+use Rattle.rm_retain.proofs.Ranks.{none_kept}
 use Rattle.rm_retain.proofs.Clearing.{base_had, piece_kept, piece_described, same_backup, placed_number}
 use Rattle.rm_retain.proofs.SecondTime.{backup_again, log_again}
-
-none_kept : {X : Type 0} (p : X → Bool) (xs : List X) → ((x : X) → Contains xs x → ¬ (p x ≡ true)) → filter p xs ≡ []
-none_kept p [] none = refl
-none_kept p (x ∷ xs) none = elim (cases_Bool (p x)) [
-  | inl passes ↦ absurd (none x (in-front x xs) passes)
-  | inr fails ↦ ap (λ b. cond b (x ∷ filter p xs) (filter p xs)) fails ∙ none_kept p xs (λ y held. none y (behind x xs y held))
-]
 
 ascend_copies : (xs : List (ℕ × Piece)) → AllPairs (λ x y. x.0 < y.0) xs → AscendById (map backup_of xs)
 ascend_copies [] ascend = λ i j d less inside. absurd (omega arith)

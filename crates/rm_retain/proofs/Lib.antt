@@ -1,5 +1,6 @@
 pub mod AboveFloor
 pub mod Artefacts
+pub mod ByAge
 pub mod Clearing
 pub mod CopiesLeft
 pub mod Decisions
@@ -11,5 +12,6 @@ pub mod Ranks
 pub mod Safe
 pub mod SecondTime
 pub mod StaysTold
+pub mod Taking
 pub mod Targets
 pub mod WholeCopies

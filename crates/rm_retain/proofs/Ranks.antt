@@ -1,12 +1,13 @@
 -- Lists that ascend by id, and how many come before one.
 use Rattle.std.proofs.Common.{◌≡◌, ◌<◌, ◌≤◌, ◌∙◌, ◌==◌, inl, inr, ℕ, List, [], ◌∷◌, Bool, true, false, cond, not, refl, ap, sym, subst, arith, filter, length, Contains}
-use Rattle.std.proofs.lemmas.Bool.{ne_eqb, eq-eqb, false_from_ne_true}
+use Rattle.std.proofs.lemmas.Bool.{cases_Bool, ne_eqb, eq-eqb, false_from_ne_true}
+use Rattle.std.proofs.lemmas.List.Kept.{AllPairs-filter}
 use Rattle.std.proofs.lemmas.List.Sums.{length-filter, count_by-le-length}
 use Rattle.rm_base.proofs.Members.{in-front, behind, none-in, first-or-rest}
 use Rattle.rm_base.proofs.Lists.{filter_from, filter_to}
 use Rattle.rm_evidence.proofs.Extending.{pairs-head, pairs-tail}
 use Rattle.rm_retain.specs.declared.copies.Backup.{Backup}
-use Rattle.rm_retain.specs.Remaining.{AscendById}
+use Rattle.rm_retain.specs.Chosen.{AscendById}
 
 -- each id lies below those behind it
 abbrev pub IsRising : List Backup → Type 0
@@ -17,6 +18,14 @@ pub rising_from : (xs : List Backup) → AscendById xs → IsRising xs
 rising_from [] ascend = tt
 rising_from (x ∷ xs) ascend =
     (λ y held. pairs-head (λ (x y : Backup). x.id < y.id) x xs y ascend held, rising_from xs (pairs-tail (λ (x y : Backup). x.id < y.id) x xs ascend))
+
+-- a filter that nothing passes
+pub none_kept : {X : Type 0} (p : X → Bool) (xs : List X) → ((x : X) → Contains xs x → ¬ (p x ≡ true)) → filter p xs ≡ []
+none_kept p [] none = refl
+none_kept p (x ∷ xs) none = elim (cases_Bool (p x)) [
+  | inl passes ↦ absurd (none x (in-front x xs) passes)
+  | inr fails ↦ ap (λ b. cond b (x ∷ filter p xs) (filter p xs)) fails ∙ none_kept p xs (λ y held. none y (behind x xs y held))
+]
 
 rising_kept : (p : Backup → Bool) (x : Backup) (xs : List Backup) (b : Bool) → ((y : Backup) → Contains xs y → x.id < y.id) → IsRising (filter p xs) → IsRising (cond b (x ∷ filter p xs) (filter p xs))
 rising_kept p x xs true first rest = (λ y held. first y (filter_from p xs y held).0, rest)
@@ -116,3 +125,6 @@ part_shorter xs ys y first second to held out =
     let some = part_length xs (filter p ys) first (rising_filter p ys second) (λ z has. filter_to p ys z (to z has) (other_id z.id y.id (out z has))) in
     let less = filter_shorter p ys y held (λ passes. same_id y.id y.id refl passes) in
     omega (arith, some, less)
+
+pub ascend_filter : (p : Backup → Bool) (xs : List Backup) → AscendById xs → AscendById (filter p xs)
+ascend_filter p xs ascend = AllPairs-filter (λ (x y : Backup). x.id < y.id) p xs ascend

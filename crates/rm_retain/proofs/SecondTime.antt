@@ -17,10 +17,10 @@ use Rattle.rm_retain.proofs.Ranks.{IsRising, rising_filter, rising_from, part_le
 trans_of : (a b c i j k : ℕ) → (nat_lt b a || ((a == b) && nat_lt j i)) ≡ true → (nat_lt c b || ((b == c) && nat_lt k j)) ≡ true → (nat_lt c a || ((a == c) && nat_lt k i)) ≡ true
 trans_of a b c i j k first second = grind (arith, nat_tests)
 
-never_of : (a i : ℕ) → (nat_lt a a || ((a == a) && nat_lt i i)) ≡ true → ⊥
+pub never_of : (a i : ℕ) → (nat_lt a a || ((a == a) && nat_lt i i)) ≡ true → ⊥
 never_of a i h = grind (arith, nat_tests)
 
-above_of : (a b i j : ℕ) → b < a → (nat_lt b a || ((a == b) && nat_lt j i)) ≡ true
+pub above_of : (a b i j : ℕ) → b < a → (nat_lt b a || ((a == b) && nat_lt j i)) ≡ true
 above_of a b i j h = grind (arith, nat_tests)
 
 before_then : (x y z : Backup) → is_newer x y ≡ true → is_newer y z ≡ true → is_newer x z ≡ true
@@ -35,7 +35,7 @@ total x y = elim (cases_order x.checkpoint y.checkpoint) [
 ]
 
 -- in a list that ascends each id is of one item
-rising_one : (xs : List Backup) (a b : Backup) → IsRising xs → Contains xs a → Contains xs b → a.id ≡ b.id → a ≡ b
+pub rising_one : (xs : List Backup) (a b : Backup) → IsRising xs → Contains xs a → Contains xs b → a.id ≡ b.id → a ≡ b
 rising_one [] a b rise first second same = absurd (omega (arith, first.1))
 rising_one (x ∷ xs) a b rise first second same = elim (first-or-rest x xs a first) [
   | inl here ↦ elim (first-or-rest x xs b second) [
@@ -51,7 +51,7 @@ rising_one (x ∷ xs) a b rise first second same = elim (first-or-rest x xs a fi
 -- of the candidates cs the rest ds has all that are among the first n
 module _ (cs ds : List Backup) (n : ℕ) (rise : IsRising cs) (rise_left : IsRising ds) (had : (z : Backup) → Contains ds z → Contains cs z) (low : (z : Backup) → Contains cs z → rank cs z < n → Contains ds z) where
   -- what comes before x ranks lower
-  rank_rises : (y x : Backup) → Contains cs y → is_newer y x ≡ true → rank cs y < rank cs x
+  pub rank_rises : (y x : Backup) → Contains cs y → is_newer y x ≡ true → rank cs y < rank cs x
   rank_rises y x held before =
       let p : Backup → Bool = λ z. is_newer z y in
       let q : Backup → Bool = λ z. is_newer z x in

@@ -1,5 +1,5 @@
 -- Which copies of a datafile the policy chooses, and the floor of the datafile.
-use Rattle.std.specs.Prelude.{ℕ, ◌+◌, ◌==◌, ◌&&◌, ◌||◌, nat_le, nat_lt, Bool, true, Option, List, map, filter, find, count_by, Contains}
+use Rattle.std.specs.Prelude.{ℕ, ◌≡◌, ◌<◌, ◌+◌, ◌==◌, ◌&&◌, ◌||◌, nat_le, nat_lt, not, Bool, true, Option, Some, None, List, map, filter, find, count_by, AllPairs, Contains}
 use Rattle.std.specs.Option.{option_map_or}
 use Rattle.rm_base.specs.declared.kinds.Policy.{Policy}
 use Rattle.rm_base.specs.declared.kinds.Policy.TheVariants.{Window, Redundancy, Nothing}
@@ -36,6 +36,10 @@ candidates r f = filter (is_candidate r.world.tree r.current r.policy r.start f)
 abbrev pub is_newer : Backup → Backup → Bool
 is_newer x y = nat_lt y.checkpoint x.checkpoint || ((x.checkpoint == y.checkpoint) && nat_lt y.id x.id)
 
+-- the copies ascend by id
+abbrev pub AscendById : List Backup → Type 0
+AscendById xs = AllPairs (λ x y. x.id < y.id) xs
+
 -- how many copies are newer than x
 abbrev pub rank : List Backup → Backup → ℕ
 rank xs x = count_by (λ y. is_newer y x) xs
@@ -47,6 +51,15 @@ newest n xs = filter (λ x. nat_lt (rank xs x) n) xs
 -- the n-th newest copy
 abbrev pub nth_newest : ℕ → List Backup → Option Backup
 nth_newest n xs = find (λ x. rank xs x + 1 == n) xs
+
+-- each copy is older than those behind it
+abbrev pub IsByAge : List Backup → Type 0
+IsByAge xs = AllPairs (λ x y. is_newer y x ≡ true) xs
+
+-- x is among the n newest, of which this is the n-th where there are as many
+abbrev pub is_among : Option Backup → Backup → Bool
+is_among None x = true
+is_among (Some last) x = not (is_newer last x)
 
 -- how many copies of each datafile the policy wants
 abbrev pub wanted : Policy → ℕ

@@ -1,12 +1,8 @@
 -- Retention by the copies that remain.
-use Rattle.std.specs.Prelude.{◌<◌, ◌⊎◌, List, AllPairs, Contains}
+use Rattle.std.specs.Prelude.{◌⊎◌, List, Contains}
 use Rattle.rm_retain.specs.declared.copies.Backup.{Backup}
-use Rattle.rm_retain.specs.Chosen.{Retention}
+use Rattle.rm_retain.specs.Chosen.{Retention, AscendById}
 use Rattle.rm_retain.specs.Obsolete.{IsNeedlessBackup}
-
--- the copies ascend by id
-abbrev pub AscendById : List Backup → Type 0
-AscendById xs = AllPairs (λ x y. x.id < y.id) xs
 
 -- retention by other copies
 abbrev pub with_copies : Retention → List Backup → Retention

@@ -1,7 +1,7 @@
 //! Which copies of a datafile the policy chooses, and which of them its floor stands on.
-ghost use Rattle.std.specs.Prelude.{◌≡◌, ◌+◌, ◌<◌, ◌≤◌, ◌==◌, ◌^◌, length, count_by, filter, find, map, nat_lt, IfOk};
+ghost use Rattle.std.specs.Prelude.{◌≡◌, ◌-◌, ◌<◌, ◌≤◌, ◌⊎◌, Some, length, filter, map, slice_get, Contains, IfOk, IfSome, IfNone, IsPermutation};
 ghost use Rattle.rm_history.specs.Tree.{IsThere};
-ghost use Rattle.rm_retain.specs.Chosen.{is_before_window, is_candidate, is_newer, rank, newest, nth_newest, wanted};
+ghost use Rattle.rm_retain.specs.Chosen.{is_among, is_before_window, is_candidate, is_newer, newest, nth_newest, wanted, AscendById, IsByAge};
 
 use rm_base::{FileNo, IncNo, NoMemory, Policy, Scn};
 use rm_history::Tree;
@@ -73,18 +73,58 @@ fn is_newer(x: &Backup, y: &Backup) -> bool
     y.checkpoint < x.checkpoint || (x.checkpoint == y.checkpoint && y.id < x.id)
 }
 
-// How many copies are newer than x.
-fn rank(copies: &[Backup], x: &Backup) -> usize
-    ensures rank { result ≡ rank copies.now x.now }
-    ensures few { result ≤ length copies.now }
+fn copied(alloc: Global, copies: &[Backup]) -> Result<Vec<Backup>, NoMemory>
+    ensures { IfOk result (λ xs. xs.items ≡ copies.now) }
 {
-    let mut newer = 0;
-    for y in copies {
-        if is_newer(y, x) {
-            newer += 1;
-        }
+    Ok(copies.iter().copied().collect(alloc)?)
+}
+
+// The same copies, each older than those behind it.
+fn oldest_first(alloc: Global, copies: &[Backup]) -> Result<Vec<Backup>, NoMemory>
+    requires ascend { AscendById copies.now }
+    ensures same { IfOk result (λ xs. IsPermutation copies.now xs.items) }
+    ensures none_new { IfOk result (λ xs. (x : Backup) → Contains xs.items x → Contains copies.now x) }
+    ensures order { IfOk result (λ xs. IsByAge xs.items) }
+{
+    let mut sorted = copied(alloc, copies)?;
+    // They ascend by id, and those of one checkpoint go on to do so.
+    sorted.sort_by_key(|copy| copy.checkpoint)?;
+    Ok(sorted)
+}
+
+// The n-th copy from the end.
+fn nth_last(copies: &[Backup], n: usize) -> Option<Backup>
+    ensures none { IfNone result ((n ≡ 0) ⊎ (length copies.now < n)) }
+    ensures some { IfSome result (λ x. (0 < n) × (n ≤ length copies.now) × (slice_get copies.now (length copies.now - n) ≡ Some x)) }
+{
+    if n == 0 || copies.len() < n {
+        return None;
     }
-    newer
+    Some(copies[copies.len() - n])
+}
+
+/// The last of the newest copies, where there are as many as are wanted.
+pub(crate) fn nth_newest(
+    alloc: Global,
+    copies: &[Backup],
+    wanted: usize,
+) -> Result<Option<Backup>, NoMemory>
+    requires ascend { AscendById copies.now }
+    ensures exact { IfOk result (λ o. o ≡ nth_newest wanted copies.now) }
+    ensures few { IfOk result (λ o. IfNone o ((wanted ≡ 0) ⊎ (length copies.now < wanted))) }
+{
+    let sorted = oldest_first(alloc, copies)?;
+    Ok(nth_last(&sorted, wanted))
+}
+
+// Whether x is among the newest copies, of which this is the last where there are as many as are wanted.
+fn is_among(last: Option<Backup>, x: &Backup) -> bool
+    ensures { result ≡ is_among last x.now }
+{
+    match last {
+        Some(last) => !is_newer(&last, x),
+        None => true,
+    }
 }
 
 /// The ids of the newest copies, as many as are wanted.
@@ -93,27 +133,20 @@ pub(crate) fn newest_ids(
     copies: &[Backup],
     wanted: usize,
 ) -> Result<Vec<u32>, NoMemory>
+    requires ascend { AscendById copies.now }
     ensures { IfOk result (λ ids. ids.items ≡ map (λ x. x.id) (newest wanted copies.now)) }
 {
     let mut ids = Vec::new(alloc);
+    if wanted == 0 {
+        return Ok(ids);
+    }
+    let last = nth_newest(alloc, copies, wanted)?;
     for x in copies {
-        if rank(copies, x) < wanted {
+        if is_among(last, x) {
             ids.push(x.id)?;
         }
     }
     Ok(ids)
-}
-
-/// The last of the newest copies, where there are as many as are wanted.
-pub(crate) fn nth_newest(copies: &[Backup], wanted: usize) -> Option<Backup>
-    ensures { result ≡ nth_newest wanted copies.now }
-{
-    for x in copies {
-        if rank(copies, x) + 1 == wanted {
-            return Some(*x);
-        }
-    }
-    None
 }
 
 /// How many copies of each datafile the policy wants.

@@ -6,7 +6,8 @@ ghost use Rattle.rm_catalog.specs.Rules.{HasDatabase};
 ghost use Rattle.rm_catalog.specs.Trees.{nodes};
 ghost use Rattle.rm_evidence.specs.Taking.{HasIncarnation};
 ghost use Rattle.rm_history.specs.Tree.{IsThere};
-ghost use Rattle.rm_retain.specs.Catalogued.{backup_in, by_records, AreObsolete, IsObsoleteRecord};
+ghost use Rattle.rm_retain.specs.Catalogued.{backup_in, by_records, copies_in, AreObsolete, IsObsoleteRecord};
+ghost use Rattle.rm_retain.specs.Chosen.{AscendById};
 ghost use Rattle.rm_retain.specs.Needs.{needed_by, needs_backup, needs_clip, AreNeeds};
 ghost use Rattle.rm_retain.specs.Obsolete.{IsClip, IsObsoleteBackup, IsObsoleteLog};
 
@@ -138,6 +139,7 @@ pub fn obsolete(
     start: Scn,
 ) -> Result<Vec<u32>, NoMemory>
     requires database { HasDatabase catalog.now }
+    requires ascend { AscendById (copies_in evidence.now) }
     ensures exact { IfOk result (λ ids. AreObsolete catalog.now (by_records catalog.now evidence.now policy start) ids.items) }
     ensures ascends { IfOk result (λ ids. AllPairs (λ i j. i < j) ids.items) }
 {

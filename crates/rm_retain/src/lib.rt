@@ -9,5 +9,5 @@ pub mod window;
 
 pub use copies::Backup;
 pub use deciding::obsolete;
-pub use needs::chosen;
+pub use needs::{chosen, do_ascend};
 pub use window::window_start;

@@ -1,5 +1,5 @@
 //! What the policy needs of each datafile on the current path.
-ghost use Rattle.std.specs.Prelude.{◌≡◌, ◌<◌, IfOk, IfSome, IfNone, map, nat_lt};
+ghost use Rattle.std.specs.Prelude.{◌≡◌, ◌<◌, IfOk, IfSome, IfNone, IsTrue, map, nat_lt};
 ghost use Rattle.std.specs.Option.{option_map_or};
 ghost use Rattle.rm_catalog.specs.Rules.{HasDatabase};
 ghost use Rattle.rm_catalog.specs.Trees.{nodes};
@@ -7,7 +7,7 @@ ghost use Rattle.rm_history.specs.Tree.{IsThere, end_of};
 ghost use Rattle.rm_history.specs.World.{exists, creation_of};
 ghost use Rattle.rm_objects.specs.Database.{world_of};
 ghost use Rattle.rm_retain.specs.Catalogued.{backup_of, by_records, copies_in, on_copies};
-ghost use Rattle.rm_retain.specs.Chosen.{nth_newest, wanted, chosen as chosen_of};
+ghost use Rattle.rm_retain.specs.Chosen.{nth_newest, wanted, chosen as chosen_of, AscendById};
 ghost use Rattle.rm_retain.specs.Needs.{AreFileNeeds, AreNeeds, HaveFileNeeds, IsFileNeed, needed_by};
 ghost use Rattle.rm_retain.specs.Obsolete.{IsOnPath};
 
@@ -72,6 +72,21 @@ fn copies(alloc: Global, evidence: &Evidence) -> Result<Vec<Backup>, NoMemory>
     Ok(found)
 }
 
+/// Whether the copies at hand ascend by id, as those do that are gathered.
+pub fn do_ascend(evidence: &Evidence) -> bool
+    ensures { IsTrue result → AscendById (copies_in evidence.now) }
+{
+    let mut last = 0;
+    let bases = evidence.bases.as_slice();
+    for piece in bases {
+        if has_record(piece) && piece.0 <= last {
+            return false;
+        }
+        last = last.max(piece.0);
+    }
+    true
+}
+
 // Whether the datafile is on the current path.
 fn is_on_path(catalog: &Catalog, current: IncNo, found: Datafile) -> bool
     requires database { HasDatabase catalog.now }
@@ -90,10 +105,17 @@ fn is_on_path(catalog: &Catalog, current: IncNo, found: Datafile) -> bool
 }
 
 // The checkpoint of the last copy that is wanted, or else the creation.
-fn floor_on(copies: &[Backup], policy: Policy, creation: Scn) -> Scn
-    ensures { result ≡ option_map_or (λ x. x.checkpoint) (nth_newest (wanted policy) copies.now) creation }
+fn floor_on(
+    alloc: Global,
+    copies: &[Backup],
+    policy: Policy,
+    creation: Scn,
+) -> Result<Scn, NoMemory>
+    requires ascend { AscendById copies.now }
+    ensures { IfOk result (λ n. n ≡ option_map_or (λ x. x.checkpoint) (nth_newest (wanted policy) copies.now) creation) }
 {
-    nth_newest(copies, wanted(policy)).map_or(creation, |copy| copy.checkpoint)
+    let last = nth_newest(alloc, copies, wanted(policy))?;
+    Ok(last.map_or(creation, |copy| copy.checkpoint))
 }
 
 // What is needed of a datafile that was created at this SCN.
@@ -107,6 +129,7 @@ fn need_on(
     creation: Scn,
 ) -> Result<FileNeed, NoMemory>
     requires database { HasDatabase catalog.now }
+    requires ascend { AscendById copies.now }
     requires creation { creation ≡ creation_of (world_of catalog.now) file }
     ensures { IfOk result (λ x. IsFileNeed (on_copies catalog.now policy start copies.now) file x) }
 {
@@ -114,7 +137,7 @@ fn need_on(
     let among = candidates(alloc, catalog.tree(), current, policy, start, file, copies)?;
     Ok(FileNeed {
         file,
-        floor: floor_on(&among, policy, creation),
+        floor: floor_on(alloc, &among, policy, creation)?,
         chosen: newest_ids(alloc, &among, wanted(policy))?,
     })
 }
@@ -129,6 +152,7 @@ fn need_of(
     file: FileNo,
 ) -> Result<Option<FileNeed>, NoMemory>
     requires database { HasDatabase catalog.now }
+    requires ascend { AscendById copies.now }
     ensures some { IfOk result (λ o. IfSome o (λ x. IsOnPath (on_copies catalog.now policy start copies.now) file × IsFileNeed (on_copies catalog.now policy start copies.now) file x)) }
     ensures none { IfOk result (λ o. IfNone o (¬ IsOnPath (on_copies catalog.now policy start copies.now) file)) }
 {
@@ -152,6 +176,7 @@ fn file_needs(
     start: Scn,
 ) -> Result<Vec<FileNeed>, NoMemory>
     requires database { HasDatabase catalog.now }
+    requires ascend { AscendById copies.now }
     ensures sound { IfOk result (λ xs. AreFileNeeds (on_copies catalog.now policy start copies.now) xs.items) }
     ensures complete { IfOk result (λ xs. HaveFileNeeds (on_copies catalog.now policy start copies.now) 65 xs.items) }
 {
@@ -173,6 +198,7 @@ pub(crate) fn needs_of(
     start: Scn,
 ) -> Result<Needs, NoMemory>
     requires database { HasDatabase catalog.now }
+    requires ascend { AscendById (copies_in evidence.now) }
     ensures are { IfOk result (λ x. AreNeeds catalog.now x) }
     ensures by { IfOk result (λ x. needed_by catalog.now x ≡ by_records catalog.now evidence.now policy start) }
 {
@@ -200,6 +226,7 @@ pub fn chosen(
     file: FileNo,
 ) -> Result<Vec<u32>, NoMemory>
     requires database { HasDatabase catalog.now }
+    requires ascend { AscendById (copies_in evidence.now) }
     ensures { IfOk result (λ ids. ids.items ≡ map (λ x. x.id) (chosen_of (by_records catalog.now evidence.now policy start) file)) }
 {
     let copies = copies(alloc, evidence)?;

@@ -7,7 +7,7 @@ use rm_catalog::{
 use rm_evidence::Evidence;
 use rm_objects::has_database;
 use rm_piece::Piece;
-use rm_retain::{chosen, obsolete};
+use rm_retain::{chosen, do_ascend, obsolete};
 use std::alloc::Global;
 use std::test::Fail;
 
@@ -208,8 +208,8 @@ pub fn are_obsolete(
     start: Scn,
     ids: &[u32],
 ) -> Result<bool, Fail> {
-    if !has_database(&site.catalog) {
-        return Err("no database".into());
+    if !has_database(&site.catalog) || !do_ascend(&site.evidence) {
+        return Err("not as they are gathered".into());
     }
     let found = obsolete(alloc, &site.catalog, &site.evidence, policy, start)?;
     Ok(found.as_slice() == ids)
@@ -223,8 +223,8 @@ pub fn are_chosen(
     start: Scn,
     ids: &[u32],
 ) -> Result<bool, Fail> {
-    if !has_database(&site.catalog) {
-        return Err("no database".into());
+    if !has_database(&site.catalog) || !do_ascend(&site.evidence) {
+        return Err("not as they are gathered".into());
     }
     let found = chosen(alloc, &site.catalog, &site.evidence, policy, start, 1)?;
     Ok(found.as_slice() == ids)
