@@ -1,6 +1,6 @@
 -- The copies that are gathered before and after needless records went.
-use Rattle.std.proofs.Common.{◌≡◌, ◌<◌, ◌∙◌, ◌++◌, inl, inr, nat_lt, ℕ, List, [], ◌∷◌, Bool, true, cond, refl, ap, sym, subst, arith, map, filter, AllPairs, Contains}
-use Rattle.std.proofs.lemmas.Bool.{cases_Bool, lt-ltb, ltb-true}
+use Rattle.std.proofs.Common.{◌≡◌, ◌<◌, ◌∙◌, ◌++◌, inl, inr, nat_lt, ℕ, List, [], ◌∷◌, Bool, ap, sym, subst, arith, map, filter, AllPairs, Contains}
+use Rattle.std.proofs.lemmas.Bool.{lt-ltb, ltb-true}
 use Rattle.std.proofs.lemmas.List.Elements.{Contains-append_right, Contains-append_cases, filter-append}
 use Rattle.std.proofs.lemmas.List.Kept.{AllPairs-filter}
 use Rattle.rm_base.specs.Store.{Held}
@@ -12,7 +12,7 @@ use Rattle.rm_evidence.specs.declared.evidence.InPlace.{InPlace}
 use Rattle.rm_evidence.specs.Gathered.{IsGathered, IsBaseOf, placed, placed_piece, dbid_in}
 use Rattle.rm_evidence.proofs.Extending.{pairs-append, pairs-head, pairs-tail}
 use Rattle.rm_history.specs.declared.world.World.{World}
-use Rattle.rm_base.proofs.Members.{in-front, behind, none-in}
+use Rattle.rm_base.proofs.Members.{none-in}
 use Rattle.rm_base.proofs.Lists.{front_or_end, filter_from, filter_to, map_from, map_to}
 use Rattle.rm_objects.specs.Database.{current_in, world_of}
 use Rattle.rm_piece.specs.declared.piece.Piece.{Piece}

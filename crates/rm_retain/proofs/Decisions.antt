@@ -8,7 +8,7 @@ use Rattle.rm_catalog.specs.Trees.{nodes}
 use Rattle.rm_history.specs.declared.tree.Incarnation.{Incarnation}
 use Rattle.rm_history.specs.Tree.{IsShared}
 use Rattle.rm_retain.specs.declared.copies.Backup.{Backup}
-use Rattle.rm_retain.specs.declared.needs.FileNeed.{FileNeed}
+use Rattle.rm_retain.specs.declared.file_need.FileNeed.{FileNeed}
 use Rattle.rm_retain.specs.declared.needs.Needs.{Needs}
 use Rattle.rm_retain.specs.Chosen.{IsChosen, chosen, floor}
 use Rattle.rm_retain.specs.Obsolete.{IsClip, of_current, of_other, ClipsTo, IsOnPath, IsObsoleteBackup, IsObsoleteLog}

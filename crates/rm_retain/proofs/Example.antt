@@ -1,16 +1,15 @@
 -- The premises of the law can be met where something goes, and with checkpoints in place of `high` the law
 -- would not hold.
-use Rattle.std.proofs.Common.{rules, Bool, true, false, cond, Option, zero, suc, ◌-◌, ◌==◌, ◌⊎◌, ◌∙◌, nat_lt, eqb, slice_get, ◌≡◌, ◌<◌, ◌≤◌, inl, inr, ℕ, List, [], ◌∷◌, ◌++◌, Some, None, refl, ap, sym, subst, arith, map, Contains}
-use Rattle.std.proofs.lemmas.Bool.{and_from, lt-ltb, eq-eqb}
+use Rattle.std.proofs.Common.{rules, Bool, true, false, cond, Option, zero, suc, ◌-◌, eqb, slice_get, ◌≡◌, ◌<◌, ◌≤◌, inl, inr, ℕ, [], ◌∷◌, Some, None, refl, sym, subst, arith, map, Contains}
 use Rattle.rm_base.specs.Content.{padded}
 use Rattle.rm_base.specs.declared.block.Block.{Block}
 use Rattle.rm_base.specs.declared.block.Change.{Change}
 use Rattle.rm_base.specs.declared.block.Row.{Row}
 use Rattle.rm_base.proofs.Members.{in-front, behind, none-in, first-or-rest}
 use Rattle.rm_history.specs.declared.world.Datafile.{Datafile}
-use Rattle.rm_history.specs.Artefacts.{Base, Level1, Log}
+use Rattle.rm_history.specs.Artefacts.{Base}
 use Rattle.rm_history.specs.Tree.{owner, segment_end, is_on_path}
-use Rattle.rm_history.specs.World.{file_of, blocks_of, IsThread}
+use Rattle.rm_history.specs.World.{file_of}
 use Rattle.rm_history.specs.History.{IsChange, IsHistory}
 use Rattle.rm_history.specs.Agrees.{IsRow, BaseAgrees, LogAgrees}
 use Rattle.rm_history.proofs.Histories.{IsHistory-push_above}
@@ -21,10 +20,10 @@ use Rattle.rm_known.specs.FirstGap.{IsTarget, IsDetermined}
 use Rattle.rm_known.specs.Unknown.{IsWorld}
 use Rattle.rm_known.proofs.Example as known
 use Rattle.rm_retain.specs.declared.copies.Backup.{Backup}
-use Rattle.rm_retain.specs.Chosen.{Retention, IsChosen, chosen, floor}
+use Rattle.rm_retain.specs.Chosen.{IsChosen, chosen, floor}
 use Rattle.rm_retain.specs.Example.{world, change, history, row, first, second, late, log, before, after, backup, window}
 use Rattle.rm_retain.specs.Losing.{IsWhole, HasCopy, IsGone, LosesNeedless, FitsHistory}
-use Rattle.rm_retain.specs.Obsolete.{of_current, ClipsTo, IsOnPath, IsNeedlessBackup, IsNeedlessLog}
+use Rattle.rm_retain.specs.Obsolete.{of_current, ClipsTo, IsNeedlessBackup, IsNeedlessLog}
 use Rattle.rm_retain.specs.Window.{IsInWindow}
 
 -- the tree and the datafile are those of the other example

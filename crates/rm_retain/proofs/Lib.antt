@@ -10,6 +10,7 @@ pub mod Ids
 pub mod Needed
 pub mod Ranks
 pub mod Safe
+pub mod Searched
 pub mod SecondTime
 pub mod StaysTold
 pub mod Taking

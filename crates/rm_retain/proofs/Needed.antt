@@ -7,7 +7,7 @@ use Rattle.rm_catalog.specs.Rules.{IsCatalog}
 use Rattle.rm_history.specs.World.{file_of}
 use Rattle.rm_objects.specs.Database.{world_of}
 use Rattle.rm_objects.proofs.Current.{file_number}
-use Rattle.rm_retain.specs.declared.needs.FileNeed.{FileNeed}
+use Rattle.rm_retain.specs.declared.file_need.FileNeed.{FileNeed}
 use Rattle.rm_retain.specs.Chosen.{Retention}
 use Rattle.rm_retain.specs.Needs.{IsFileNeed, AreFileNeeds, HaveFileNeeds}
 use Rattle.rm_retain.specs.Obsolete.{IsOnPath}

@@ -1,10 +1,11 @@
 -- Lists that ascend by id, and how many come before one.
-use Rattle.std.proofs.Common.{◌≡◌, ◌<◌, ◌≤◌, ◌∙◌, ◌==◌, inl, inr, ℕ, List, [], ◌∷◌, Bool, true, false, cond, not, refl, ap, sym, subst, arith, filter, length, Contains}
+use Rattle.std.proofs.Common.{◌≡◌, ◌<◌, ◌≤◌, ◌∙◌, ◌==◌, inl, inr, ℕ, List, [], ◌∷◌, Bool, true, false, cond, not, refl, ap, sym, subst, arith, filter, length, Contains, map, get_or, AllPairs}
 use Rattle.std.proofs.lemmas.Bool.{cases_Bool, ne_eqb, eq-eqb, false_from_ne_true}
-use Rattle.std.proofs.lemmas.List.Kept.{AllPairs-filter}
+use Rattle.std.proofs.lemmas.List.Elements.{Contains-get_or}
+use Rattle.std.proofs.lemmas.List.Kept.{AllPairs-cons, AllPairs-filter}
 use Rattle.std.proofs.lemmas.List.Sums.{length-filter, count_by-le-length}
 use Rattle.rm_base.proofs.Members.{in-front, behind, none-in, first-or-rest}
-use Rattle.rm_base.proofs.Lists.{filter_from, filter_to}
+use Rattle.rm_base.proofs.Lists.{filter_from, filter_to, map_from}
 use Rattle.rm_evidence.proofs.Extending.{pairs-head, pairs-tail}
 use Rattle.rm_retain.specs.declared.copies.Backup.{Backup}
 use Rattle.rm_retain.specs.Chosen.{AscendById}
@@ -128,3 +129,14 @@ part_shorter xs ys y first second to held out =
 
 pub ascend_filter : (p : Backup → Bool) (xs : List Backup) → AscendById xs → AscendById (filter p xs)
 ascend_filter p xs ascend = AllPairs-filter (λ (x y : Backup). x.id < y.id) p xs ascend
+
+pub ids_ascend : (xs : List Backup) → AscendById xs → AllPairs (λ i j. i < j) (map (λ x. x.id) xs)
+ids_ascend [] ascend = λ i j d less inside. absurd (omega arith)
+ids_ascend (x ∷ xs) ascend =
+    let ids = map (λ (y : Backup). y.id) xs in
+    AllPairs-cons (λ (i j : ℕ). i < j) x.id ids
+    (λ k d inside.
+    let s = map_from (λ (y : Backup). y.id) xs (get_or ids k d) (Contains-get_or ids k d inside) in
+    let less : x.id < s.item.id = pairs-head (λ (x y : Backup). x.id < y.id) x xs s.item ascend s.held in
+    subst (λ n. x.id < n) s.is less)
+    (ids_ascend xs (pairs-tail (λ (x y : Backup). x.id < y.id) x xs ascend))

@@ -1,8 +1,8 @@
 -- The copies among the pieces at hand, one piece after the other.
-use Rattle.std.proofs.Common.{◌≡◌, ◌<◌, ◌≤◌, ◌+◌, ◌∙◌, ◌⊎◌, inl, inr, max, nat_lt, ℕ, List, [], ◌∷◌, ◌++◌, Bool, true, false, cond, refl, ap, sym, subst, arith, map, filter, take, get_or, length, Contains}
+use Rattle.std.proofs.Common.{◌≡◌, ◌<◌, ◌≤◌, ◌+◌, ◌∙◌, inl, inr, max, nat_lt, ℕ, List, [], ◌∷◌, ◌++◌, Bool, true, false, cond, refl, ap, sym, subst, arith, map, filter, take, get_or, length, Contains}
 use Rattle.std.proofs.lemmas.List.{append-nil, map-append}
 use Rattle.std.proofs.lemmas.List.Elements.{filter-append}
-use Rattle.rm_base.proofs.Lists.{at_end, front_or_end, in_front_part, take_more}
+use Rattle.rm_base.proofs.Lists.{front_or_end, take_more}
 use Rattle.rm_base.proofs.Members.{none-in}
 use Rattle.rm_evidence.proofs.Extending.{pairs-append}
 use Rattle.rm_piece.specs.declared.piece.Piece.{Piece}

@@ -1,10 +1,10 @@
 -- A target of the window is one of the incarnation that owns it.
-use Rattle.std.proofs.Common.{◌≡◌, ◌≢◌, ◌<◌, ◌≤◌, ◌∙◌, ◌∷◌, inl, inr, ℕ, zero, suc, List, refl, ap, sym, subst, arith, Contains}
+use Rattle.std.proofs.Common.{◌≡◌, ◌<◌, ◌≤◌, ◌∙◌, inl, inr, ℕ, zero, suc, List, ap, sym, subst, arith, Contains}
 use Rattle.std.proofs.lemmas.Bool.{cases_lt}
 use Rattle.rm_base.proofs.Members.{in-front, behind}
 use Rattle.rm_history.specs.declared.tree.Incarnation.{Incarnation}
-use Rattle.rm_history.specs.Tree.{IsTree, IsThere, IsProperAncestor, owner, parent_of, reset_of, end_of, path}
-use Rattle.rm_history.proofs.Owners.{path-step, owner-first, owner-none, owner-here, owner-above, owner-below, owner-cases, owner-there, owner-owner, owner-begun}
+use Rattle.rm_history.specs.Tree.{IsTree, IsThere, owner, parent_of, reset_of, end_of, path}
+use Rattle.rm_history.proofs.Owners.{path-step, owner-first, owner-cases, owner-there, owner-owner, owner-begun}
 use Rattle.rm_retain.specs.Window.{IsTargetOf}
 
 -- each incarnation but the first began at or below the end of its parent

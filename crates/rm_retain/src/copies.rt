@@ -1,5 +1,5 @@
 //! Which copies of a datafile the policy chooses, and which of them its floor stands on.
-ghost use Rattle.std.specs.Prelude.{◌≡◌, ◌-◌, ◌<◌, ◌≤◌, ◌⊎◌, Some, length, filter, map, slice_get, Contains, IfOk, IfSome, IfNone, IsPermutation};
+ghost use Rattle.std.specs.Prelude.{◌≡◌, ◌-◌, ◌<◌, ◌≤◌, ◌⊎◌, Some, length, filter, map, slice_get, AllPairs, Contains, IfOk, IfSome, IfNone, IsPermutation};
 ghost use Rattle.rm_history.specs.Tree.{IsThere};
 ghost use Rattle.rm_retain.specs.Chosen.{is_among, is_before_window, is_candidate, is_newer, newest, nth_newest, wanted, AscendById, IsByAge};
 
@@ -134,7 +134,8 @@ pub(crate) fn newest_ids(
     wanted: usize,
 ) -> Result<Vec<u32>, NoMemory>
     requires ascend { AscendById copies.now }
-    ensures { IfOk result (λ ids. ids.items ≡ map (λ x. x.id) (newest wanted copies.now)) }
+    ensures exact { IfOk result (λ ids. ids.items ≡ map (λ x. x.id) (newest wanted copies.now)) }
+    ensures ascends { IfOk result (λ ids. AllPairs (λ i j. i < j) ids.items) }
 {
     let mut ids = Vec::new(alloc);
     if wanted == 0 {

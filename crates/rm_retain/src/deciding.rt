@@ -11,7 +11,8 @@ ghost use Rattle.rm_retain.specs.Chosen.{AscendById};
 ghost use Rattle.rm_retain.specs.Needs.{needed_by, needs_backup, needs_clip, AreNeeds};
 ghost use Rattle.rm_retain.specs.Obsolete.{IsClip, IsObsoleteBackup, IsObsoleteLog};
 
-use crate::needs::{FileNeed, Needs, needs_of};
+use crate::file_need::FileNeed;
+use crate::needs::{Needs, needs_of};
 use rm_base::{FileNo, IncNo, NoMemory, Policy, Scn};
 use rm_catalog::{Catalog, LogEntry, PieceEntry, Record};
 use rm_evidence::Evidence;
@@ -41,9 +42,13 @@ fn needs_log(files: &[FileNeed], clip: Scn) -> bool
 }
 
 fn is_chosen(chosen: &[u32], id: u32) -> bool
+    requires { AllPairs (λ i j. i < j) chosen.now }
     ensures { result ≡ list_any (λ y. y == id) chosen.now }
 {
-    chosen.iter().any(|y| *y == id)
+    match chosen.binary_search(&id) {
+        Ok(_) => true,
+        Err(_) => false,
+    }
 }
 
 fn does_need(need: &FileNeed, file: FileNo, id: u32, clip: Scn) -> bool

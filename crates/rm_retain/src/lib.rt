@@ -3,6 +3,7 @@
 
 pub mod copies;
 pub mod deciding;
+pub mod file_need;
 pub mod laws;
 pub mod needs;
 pub mod window;

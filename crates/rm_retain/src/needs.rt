@@ -1,5 +1,5 @@
 //! What the policy needs of each datafile on the current path.
-ghost use Rattle.std.specs.Prelude.{◌≡◌, ◌<◌, IfOk, IfSome, IfNone, IsTrue, map, nat_lt};
+ghost use Rattle.std.specs.Prelude.{◌≡◌, ◌<◌, AllPairs, IfOk, IfSome, IfNone, IsTrue, map, nat_lt};
 ghost use Rattle.std.specs.Option.{option_map_or};
 ghost use Rattle.rm_catalog.specs.Rules.{HasDatabase};
 ghost use Rattle.rm_catalog.specs.Trees.{nodes};
@@ -12,6 +12,7 @@ ghost use Rattle.rm_retain.specs.Needs.{AreFileNeeds, AreNeeds, HaveFileNeeds, I
 ghost use Rattle.rm_retain.specs.Obsolete.{IsOnPath};
 
 use crate::copies::{Backup, candidates, newest_ids, nth_newest, wanted};
+use crate::file_need::FileNeed;
 use rm_base::{FileNo, IncNo, NoMemory, Policy, Scn};
 use rm_catalog::Catalog;
 use rm_evidence::Evidence;
@@ -19,14 +20,6 @@ use rm_history::Datafile;
 use rm_objects::{current_of, datafile};
 use rm_piece::Piece;
 use std::alloc::Global;
-
-/// The floor of a datafile on the current path, and the ids of its copies that are chosen.
-#[derive(Drop)]
-pub struct FileNeed {
-    pub file: FileNo,
-    pub floor: Scn,
-    pub chosen: Vec<u32>,
-}
 
 /// What the policy needs of each datafile on the current path, and what that follows from.
 #[derive(Drop)]
@@ -215,8 +208,7 @@ pub(crate) fn needs_of(
     })
 }
 
-/// The ids of the copies of a datafile that the policy chooses, in the order of the evidence: none
-/// without a policy. `start` is the SCN at which the window of the policy begins.
+/// The ids of the copies of a datafile that the policy chooses, ascending: none without a policy. `start` is the SCN at which the window of the policy begins.
 pub fn chosen(
     alloc: Global,
     catalog: &Catalog,
@@ -227,7 +219,8 @@ pub fn chosen(
 ) -> Result<Vec<u32>, NoMemory>
     requires database { HasDatabase catalog.now }
     requires ascend { AscendById (copies_in evidence.now) }
-    ensures { IfOk result (λ ids. ids.items ≡ map (λ x. x.id) (chosen_of (by_records catalog.now evidence.now policy start) file)) }
+    ensures exact { IfOk result (λ ids. ids.items ≡ map (λ x. x.id) (chosen_of (by_records catalog.now evidence.now policy start) file)) }
+    ensures ascends { IfOk result (λ ids. AllPairs (λ i j. i < j) ids.items) }
 {
     let copies = copies(alloc, evidence)?;
     let current = current_of(catalog);

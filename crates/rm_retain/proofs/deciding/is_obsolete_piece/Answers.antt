@@ -1,7 +1,7 @@
 use Rattle.std.proofs.Common.{◌∙◌, List, sym, subst, ap}
 use Rattle.std.specs.List.{list_any}
 use Rattle.rm_history.specs.declared.tree.Incarnation.{Incarnation}
-use Rattle.rm_retain.specs.declared.needs.FileNeed.{FileNeed}
+use Rattle.rm_retain.specs.declared.file_need.FileNeed.{FileNeed}
 use Rattle.rm_retain.specs.Catalogued.{backup_in}
 use Rattle.rm_retain.specs.Obsolete.{IsClip}
 use Rattle.rm_retain.specs.Needs.{needs_backup}

@@ -1,6 +1,5 @@
 use Rattle.std.proofs.Common.{◌∙◌, List, sym, subst}
 use Rattle.rm_retain.specs.declared.copies.Backup.{Backup}
-use Rattle.rm_retain.specs.Catalogued.{copies_in}
 use Rattle.rm_retain.specs.Chosen.{is_candidate, AscendById}
 use Rattle.rm_retain.proofs.Ranks.{ascend_filter}
 use Rattle.rm_retain.proofs.needs.chosen.Goals as goal

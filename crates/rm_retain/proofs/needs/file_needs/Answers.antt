@@ -1,6 +1,6 @@
-use Rattle.std.proofs.Common.{◌≡◌, ◌∙◌, ◌+◌, ◌∷◌, ◌++◌, [], List, Option, Vec, Global, sym, subst, ap}
+use Rattle.std.proofs.Common.{◌≡◌, ◌∙◌, ◌+◌, ◌∷◌, ◌++◌, [], List, Option, Vec, Global, sym, subst, ap, arith}
 use Rattle.std.specs.Prelude.{IfSome, IfNone}
-use Rattle.rm_retain.specs.declared.needs.FileNeed.{FileNeed}
+use Rattle.rm_retain.specs.declared.file_need.FileNeed.{FileNeed}
 use Rattle.rm_retain.specs.Obsolete.{IsOnPath}
 use Rattle.rm_retain.specs.Catalogued.{on_copies}
 use Rattle.rm_retain.specs.Needs.{IsFileNeed, AreFileNeeds, HaveFileNeeds}
@@ -30,3 +30,8 @@ loop-file-preserved c =
             complete = subst (λ (ys : List FileNeed). HaveFileNeeds r (file + 1) ys) (sym items) (none_complete r file xs c.loop-file.invariant.complete off);
           }
     ]
+
+pub returns-clause-complete : goal.returns-clause-complete
+returns-clause-complete c f below path =
+    let end = c.loop-file-test.false in
+    c.loop-file.invariant.complete f (omega (arith, below, end)) path
