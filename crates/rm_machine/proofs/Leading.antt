@@ -5,7 +5,7 @@ use Rattle.rm_base.specs.declared.block.Change.{Change}
 use Rattle.rm_base.specs.declared.refusal.Refusal.{Refusal}
 use Rattle.rm_machine.specs.Effect.{Effect, LeavesObjects, Made, done}
 use Rattle.rm_report.specs.declared.line.Line.{Line}
-use Rattle.rm_machine.specs.Laws.{IsMomentOf, LeadsOn, StaysSound}
+use Rattle.rm_machine.specs.Laws.{LeadsOn, StaysSound}
 use Rattle.rm_machine.specs.Machine.{Machine, IsSoundBy, IsBorneOut, DigestsTellFor, TellBy}
 use Rattle.rm_machine.specs.Sound.{IsSound}
 use Rattle.rm_machine.specs.State.{State, ledger, at_moment}

@@ -1,3 +1,5 @@
+pub mod Archives
+pub mod ArchivingAll
 pub mod Choosing
 pub mod CountedLogs
 pub mod Creating

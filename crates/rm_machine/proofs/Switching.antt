@@ -1,25 +1,22 @@
 -- SWITCH LOGFILE leads on: a record is added with its artefact and its object.
-use Rattle.std.proofs.Common.{◌≡◌, ◌≢◌, ◌<◌, ◌≤◌, ◌+◌, ◌-◌, ◌^◌, ◌∙◌, ◌++◌, ◌==◌, ◌||◌, ◌&&◌, not, nat_le, nat_lt, inl, inr, ℕ, List, [], ◌∷◌, Option, Some, None, Bool, true, false, cond, refl, ap, sym, subst, arith, length, length-append, filter, All, AllPairs, get_or, slice_get}
+use Rattle.std.proofs.Common.{◌≡◌, ◌≢◌, ◌<◌, ◌≤◌, ◌+◌, ◌-◌, ◌^◌, ◌∙◌, ◌++◌, ◌==◌, ◌||◌, ◌&&◌, not, nat_le, nat_lt, inl, inr, ℕ, List, [], ◌∷◌, Option, Some, None, Bool, true, false, cond, refl, ap, sym, subst, arith, length, filter, All, AllPairs, slice_get}
 use Rattle.std.specs.Option.{option_map_or}
 use Rattle.std.specs.Str.{bytes_eq}
 use Rattle.std.proofs.lemmas.Bool.{and_left, and_parts, and_right, cases_Bool, cases_eq, cases_lt, le-ltb, leb-false, lt-leb, ltb-true}
 use Rattle.std.proofs.lemmas.Bool.Decides.{nat_tests}
 use Rattle.std.proofs.lemmas.List.{append-nil}
-use Rattle.std.proofs.lemmas.List.Elements.{All-cons, All-nil, Contains-append_left, Contains-push, Contains-push_cases}
+use Rattle.std.proofs.lemmas.List.Elements.{All-nil, Contains-append_left, Contains-push, Contains-push_cases}
 use Rattle.std.proofs.lemmas.Slice.Eq.{bytes_eq-Decides}
 use Rattle.rm_base.specs.Store.{Held}
 use Rattle.rm_base.specs.declared.block.Change.{Change}
-use Rattle.rm_base.specs.declared.block.Mark.{Mark}
 use Rattle.rm_base.specs.declared.refusal.Refusal.{Refusal}
 use Rattle.rm_base.specs.declared.refusal.Refusal.TheVariants.{Rm04, Rm05, Rm11}
 use Rattle.rm_base.specs.declared.refusal.Absent.TheVariants.{Thread}
 use Rattle.rm_base.specs.declared.refusal.Limit.TheVariants.{Records, Bytes, ObjectIds, Sequences}
 use Rattle.rm_catalog.specs.declared.record.LogEntry.{LogEntry}
-use Rattle.rm_catalog.specs.declared.record.PieceEntry.{PieceEntry}
 use Rattle.rm_history.specs.Agrees.{LogAgrees, is_of}
 use Rattle.rm_history.specs.Artefacts.{Log}
 use Rattle.rm_history.specs.Tree.{IsThere, end_of, reset_of}
-use Rattle.rm_base.proofs.Members.{none-in}
 use Rattle.rm_ledger.specs.Facts.{IsLedger, IsLogEntry}
 use Rattle.rm_repository.specs.Facts.{IsRepository}
 use Rattle.rm_repository.proofs.Fitted.{new_log_fits}
@@ -42,7 +39,7 @@ use Rattle.rm_machine.specs.Names.{IsObjectName, of_log, of_piece}
 use Rattle.rm_machine.specs.Machine.{HasLogArtefact, IsTrueArtefact, HistoryFits, IsBorneOut}
 use Rattle.rm_machine.specs.Marks.{ids_refusal, lacks_bytes, lacks_ids, lacks_room}
 use Rattle.rm_machine.specs.Sound.{IsOnline, IsSound}
-use Rattle.rm_machine.specs.State.{State, ledger, current_of, is_lost, online, redo_end, world}
+use Rattle.rm_machine.specs.State.{State, ledger, is_lost, online, redo_end, world}
 use Rattle.rm_machine.specs.Step.{switch_logfile}
 use Rattle.rm_machine.specs.SwitchLogfile.{archive_refusal, archived, is_due, log_bytes, log_entry, made_lines, none_lines, switch_refusal, with_archived}
 use Rattle.rm_base.proofs.Conditions.{unless}
@@ -186,7 +183,7 @@ module _ (s : State) (t : ℕ) (sound : IsSound s) (low : 0 < t) (high : t ≤ s
   catalog-after =
       let ids = a.ids in
       new_log_fits s.catalog entry sound.catalog refl (omega (arith, ids)) entry-is
-      (elim (roomy-either 1 (length (records_of l) + 1) a.roomy) [ | inl none ↦ absurd (omega (arith, none)) | inr room ↦ room ])
+      (elim (roomy-either 1 (length (records_of l) + 1) a.roomy) [ inl none ↦ absurd (omega (arith, none)) | inr room ↦ room ])
 
   redo-after : redo_end q ≡ redo_end s
   redo-after = ap (end_of l.tree) (around-switched s.instance.logs t (redo_end s)).inc

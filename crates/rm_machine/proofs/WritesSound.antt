@@ -1,18 +1,15 @@
 -- A WRITE leaves a sound state.
-use Rattle.std.proofs.Common.{◌≡◌, ◌<◌, ◌≤◌, ◌+◌, ◌-◌, ◌∙◌, ◌++◌, ◌&&◌, ◌⊎◌, ◌^◌, nat_lt, inl, inr, ℕ, List, [], ◌∷◌, Option, Some, None, Bool, true, false, cond, refl, ap, sym, subst, arith, length, length-append, map, All, AllPairs, Contains, get_or, slice_get, slice_set}
+use Rattle.std.proofs.Common.{◌≡◌, ◌<◌, ◌≤◌, ◌+◌, ◌-◌, ◌∙◌, ◌++◌, ◌&&◌, ◌⊎◌, ◌^◌, nat_lt, inl, inr, ℕ, List, [], ◌∷◌, Option, Some, None, Bool, true, false, cond, refl, ap, sym, subst, arith, length, length-append, All, AllPairs, Contains, get_or, slice_get, slice_set}
 use Rattle.std.specs.Option.{option_map}
 use Rattle.std.proofs.lemmas.Bool.{and_from, cases_eq, cases_lt, lt-ltb}
-use Rattle.std.proofs.lemmas.List.{append-nil, length-map, length-set}
-use Rattle.std.proofs.lemmas.List.Elements.{All-cons, All-contains, All-nil, All-push, All-set, All-weaker, Contains-get_or}
+use Rattle.std.proofs.lemmas.List.{append-nil, length-set}
+use Rattle.std.proofs.lemmas.List.Elements.{All-contains, All-push, All-set, All-weaker, Contains-get_or}
 use Rattle.std.proofs.lemmas.Option.{slice_get_within}
 use Rattle.rm_base.specs.Numbers.{last_scn}
 use Rattle.rm_base.specs.declared.block.Change.{Change}
 use Rattle.rm_base.specs.declared.block.Mark.{Mark}
 use Rattle.rm_base.specs.declared.block.Row.{Row}
 use Rattle.rm_blocks.specs.File.{File, standing, written}
-use Rattle.rm_catalog.specs.declared.record.LogEntry.{LogEntry}
-use Rattle.rm_catalog.specs.declared.record.PieceEntry.{PieceEntry}
-use Rattle.rm_catalog.specs.declared.record.Record.TheVariants as kind
 use Rattle.rm_history.specs.declared.tree.Incarnation.{Incarnation}
 use Rattle.rm_history.specs.declared.world.Datafile.{Datafile}
 use Rattle.rm_history.specs.Artefacts.{high_of}
@@ -154,7 +151,7 @@ module _ (s : State) (w : WriteForm) (sound : IsSound s) (a : Accepted s w) (ful
       mark_fits s.catalog (mark_now s) sound.catalog (record {
         mark = record { there = there; scn = (range, omega arith); moment = omega arith };
         moment = (All-weaker (IsMark l.tree moment) (λ m. m.moment ≤ moment) (λ m is. is.moment) l.marks sound.catalog.ledger.marks.each, omega arith);
-        room = elim (roomy-either 1 (length (records_of l) + 1) roomy) [ | inl none ↦ absurd (omega (arith, none)) | inr room ↦ room ];
+        room = elim (roomy-either 1 (length (records_of l) + 1) roomy) [ inl none ↦ absurd (omega (arith, none)) | inr room ↦ room ];
       })
   mark-fits false later roomy = subst (λ (ms : List Mark). IsRepository (record s.catalog { ledger = record l { marks = ms } })) (sym (append-nil l.marks)) sound.catalog
 

@@ -1,3 +1,4 @@
+pub mod Archive
 pub mod CreateDatabase
 pub mod Effect
 pub mod Laws

@@ -5,6 +5,7 @@ use Rattle.rm_base.specs.declared.refusal.Refusal.{Refusal}
 use Rattle.rm_base.specs.declared.refusal.Refusal.TheVariants.{Rm02}
 use Rattle.rm_lang.specs.declared.command.WriteForm.{WriteForm}
 use Rattle.rm_report.specs.declared.line.Line.{Line}
+use Rattle.rm_machine.specs.Archive.{archive_all_refusal, IsArchiveOutcome}
 use Rattle.rm_machine.specs.Effect.{Effect, LeavesObjects, Outcome, refused, done}
 use Rattle.rm_machine.specs.Machine.{Machine, DigestsTell}
 use Rattle.rm_machine.specs.Marks.{ids_refusal}
@@ -19,6 +20,7 @@ use Rattle.rm_machine.specs.Write.{write_refusal, IsWriteOutcome}
 pub data Statement : Type 0 where
   write : WriteForm → Statement
   switch_logfile : (thread : ℕ) → Statement
+  archive_log_current : Statement
   mount : Statement
   open_database : Statement
   reset_database : (inc : ℕ) → Statement
@@ -32,6 +34,7 @@ IsStatement _ = Unit {0}
 abbrev pub refusal_of : State → Statement → Option Refusal
 refusal_of s (write w) = write_refusal s w
 refusal_of s (switch_logfile t) = switch_refusal s t
+refusal_of s archive_log_current = archive_all_refusal s
 refusal_of s mount = ids_refusal s
 refusal_of s open_database = open_refusal s
 refusal_of s (reset_database i) = reset_refusal s i
@@ -40,6 +43,7 @@ refusal_of s (reset_database i) = reset_refusal s i
 abbrev pub IsDone : State → Held → Statement → Outcome → Type 0
 IsDone s held (write w) o = IsWriteOutcome s w o
 IsDone s held (switch_logfile t) o = IsSwitchOutcome s t o
+IsDone s held archive_log_current o = IsArchiveOutcome s o
 IsDone s held mount o = IsMountOutcome s o
 IsDone s held open_database o = IsOpenOutcome s o
 IsDone s held (reset_database i) o = IsResetOutcome s i o

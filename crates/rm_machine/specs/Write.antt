@@ -1,5 +1,5 @@
 -- WRITE [THREAD t] DATAFILE f BLOCK b VALUE 'v'
-use Rattle.std.specs.Prelude.{◌≡◌, ◌+◌, ◌-◌, ◌==◌, ◌||◌, nat_lt, nat_le, if◌then◌else◌, is_none, true, Option, Some, None, [], ◌∷◌, ◌++◌, length, slice_set}
+use Rattle.std.specs.Prelude.{◌≡◌, ◌+◌, ◌-◌, ◌==◌, ◌||◌, nat_lt, nat_le, if◌then◌else◌, is_none, true, Option, Some, None, [], ◌∷◌, length, slice_set}
 use Rattle.std.specs.Option.{option_map, option_map_or}
 use Rattle.rm_base.specs.Numbers.{last_scn}
 use Rattle.rm_base.specs.declared.block.Change.{Change}

@@ -8,7 +8,7 @@ ghost use Rattle.rm_machine.specs.Laws.{IsMomentOf, LeadsOn, StaysSound};
 ghost use Rattle.rm_machine.specs.Machine.{IsSoundMachine};
 ghost use Rattle.rm_machine.specs.Sound.{IsSound};
 ghost use Rattle.rm_machine.specs.State.{State, at_moment};
-ghost use Rattle.rm_machine.specs.Step.{mount, open_database, reset_database, switch_logfile, write};
+ghost use Rattle.rm_machine.specs.Step.{archive_log_current, mount, open_database, reset_database, switch_logfile, write};
 
 /// There are sound machines: that of a new database is one.
 pub fn a_new_database_is_sound()
@@ -31,6 +31,12 @@ pub fn a_write_leads_on()
 pub fn a_switch_leads_on()
     ensures leads { (thread : ℕ) → LeadsOn (switch_logfile thread) }
     ensures stays { (thread : ℕ) → StaysSound (switch_logfile thread) }
+{}
+
+/// ARCHIVE LOG CURRENT, likewise: the log of each thread that has something to archive.
+pub fn archiving_leads_on()
+    ensures leads { LeadsOn archive_log_current }
+    ensures stays { StaysSound archive_log_current }
 {}
 
 /// SHUTDOWN and STARTUP MOUNT, likewise: what is in place stands at `now`.

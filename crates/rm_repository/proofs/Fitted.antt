@@ -64,7 +64,7 @@ saved_kept l m has logs pieces (Some s) is =
     (λ e p one other. is.pieces e p (subst (λ (x : List PieceEntry). Contains x e) pieces one) other)
 
 -- so many records
-many : (l : Ledger) → length (ledger_records l) ≡ 1 + length l.tree + length l.files + length l.logs + length l.pieces + length l.marks
+pub many : (l : Ledger) → length (ledger_records l) ≡ 1 + length l.tree + length l.files + length l.logs + length l.pieces + length l.marks
 many l =
     let five = length-append (incarnations_of l ++ datafiles_of l ++ logs_of l ++ pieces_of l) (marks_of l) in
     let four = length-append (incarnations_of l ++ datafiles_of l ++ logs_of l) (pieces_of l) in

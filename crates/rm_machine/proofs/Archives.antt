@@ -1,0 +1,199 @@
+-- Archiving threads one after another.
+use Rattle.std.proofs.Common.{◌≡◌, ◌<◌, ◌≤◌, ◌+◌, ◌∙◌, ◌++◌, ◌&&◌, nat_le, nat_lt, inl, inr, ℕ, zero, suc, List, [], ◌∷◌, Option, Some, None, Bool, true, false, cond, refl, ap, sym, subst, arith, length, length-append}
+use Rattle.std.specs.Str.{bytes_eq}
+use Rattle.std.proofs.lemmas.Bool.{and_right, le-ltb, leb-false}
+use Rattle.std.proofs.lemmas.List.{append-nil, append_assoc}
+use Rattle.rm_base.specs.Store.{Held}
+use Rattle.rm_base.specs.declared.block.Change.{Change}
+use Rattle.rm_base.specs.declared.refusal.Refusal.TheVariants.{Rm11}
+use Rattle.rm_base.specs.declared.refusal.Limit.TheVariants.{Records, Bytes, ObjectIds, Sequences}
+use Rattle.rm_change.specs.declared.change.Object.{Object}
+use Rattle.rm_change.specs.Names.{HasPuts, after_all as all_after, bytes_of, name_of}
+use Rattle.rm_ledger.specs.Ledger.{records_of}
+use Rattle.rm_redo.specs.Online.{sequence_of}
+use Rattle.rm_machine.specs.Archive.{after_thread, after_threads, archiving_refusal, bytes_from, due_from, is_last_sequence, made_by, made_from, puts_by, puts_from}
+use Rattle.rm_machine.specs.Effect.{Made}
+use Rattle.rm_machine.specs.Machine.{IsBorneOut}
+use Rattle.rm_machine.specs.Marks.{lacks_bytes, lacks_ids, lacks_room}
+use Rattle.rm_machine.specs.Sound.{IsSound}
+use Rattle.rm_machine.specs.State.{State, ledger, online}
+use Rattle.rm_machine.specs.SwitchLogfile.{archived, is_due, log_entry, with_archived}
+use Rattle.rm_base.proofs.Conditions.{unless}
+use Rattle.rm_machine.proofs.Kept.{stand-same}
+use Rattle.rm_machine.proofs.Later.{borne-beside}
+use Rattle.rm_machine.proofs.Switching.{CanArchive, due-parts, not-above, sound-after, switched-by}
+use Rattle.rm_machine.proofs.WritesSound.{roomy-either}
+use Rattle.rm_repository.proofs.Fitted.{many}
+
+-- What is put in two parts
+
+after-append : {X : Type 0} (name : X → List ℕ) (value : X → Option (List ℕ)) (xs ys : List X) (n : List ℕ) (old : Option (List ℕ))
+    → all_after name value (xs ++ ys) n old ≡ all_after name value ys n (all_after name value xs n old)
+after-append name value [] ys n old = refl
+after-append name value (x ∷ xs) ys n old = after-append name value xs ys n (cond (bytes_eq n (name x)) (value x) old)
+
+-- the objects, where these stand under their names
+abbrev pub with_puts : List Object → Held → Held
+with_puts xs objects n = all_after name_of bytes_of xs n (objects n)
+
+-- the rest comes after the first
+pub puts-rest : (xs ys : List Object) (before after : Held) → HasPuts (xs ++ ys) before after → HasPuts ys (with_puts xs before) after
+puts-rest xs ys before after has n = has n ∙ after-append name_of bytes_of xs ys n (before n)
+
+-- Room
+
+-- n threads from t on can be archived, and so many records more fit
+pub record HasRoom (s : State) (t n more : ℕ) : Type 0 where
+  pub records : length (records_of (ledger s)) + due_from s t n + more ≤ 65536
+  pub ids : s.catalog.ledger.base.next_id + due_from s t n + 68 ≤ 4294967295
+  pub sequences : is_last_sequence s t n ≡ false
+
+pub room-accepted : (s : State) (more : ℕ) → length (records_of (ledger s)) ≤ 65536 → archiving_refusal s more ≡ None → HasRoom s 1 s.catalog.ledger.base.threads more
+room-accepted s more few is =
+    let n = s.catalog.ledger.base.threads in
+    let last = cond (is_last_sequence s 1 n) (Some (Rm11 Sequences)) None in
+    let ids = cond (lacks_ids s (due_from s 1 n)) (Some (Rm11 ObjectIds)) last in
+    let bytes = cond (lacks_bytes s (bytes_from s 1 n)) (Some (Rm11 Bytes)) ids in
+    let a = unless (lacks_room s (due_from s 1 n + more)) (Rm11 Records) bytes is in
+    let b = unless (lacks_bytes s (bytes_from s 1 n)) (Rm11 Bytes) ids a.1 in
+    let c = unless (lacks_ids s (due_from s 1 n)) (Rm11 ObjectIds) last b.1 in
+    let d = unless (is_last_sequence s 1 n) (Rm11 Sequences) None c.1 in
+    record {
+      records = elim (roomy-either (due_from s 1 n + more) (length (records_of (ledger s)) + (due_from s 1 n + more)) a.0) [
+        | inl none ↦ omega (arith, none, few)
+        | inr room ↦ omega (arith, room)
+      ];
+      ids = not-above 4294967295 (s.catalog.ledger.base.next_id + due_from s 1 n + 68) c.0;
+      sequences = d.0;
+    }
+
+-- one record more where a thread was archived
+count-archived : (s : State) (t : ℕ) → length (records_of (ledger (with_archived s t))) ≡ length (records_of (ledger s)) + 1
+count-archived s t =
+    let old = many (ledger s) in
+    let new = many (ledger (with_archived s t)) in
+    let logs = length-append s.catalog.ledger.logs (log_entry s.catalog.ledger.base.next_id (online s t) ∷ []) in
+    omega (arith, old, new, logs)
+
+roomy : (s : State) → length (records_of (ledger s)) + 1 ≤ 65536 → lacks_room s 1 ≡ false
+roomy s room = and_right (nat_lt 0 1) (nat_lt 65536 (length (records_of (ledger s)) + 1)) (le-ltb 65536 (length (records_of (ledger s)) + 1) room)
+
+not-last : (b c rest : Bool) → b ≡ true → cond (b && c) true rest ≡ false → (c ≡ false) × (rest ≡ false)
+not-last true true rest due is = absurd (let e : true ≡ false = is in cc)
+not-last true false rest due is = (refl, is)
+not-last false c rest due is = absurd (let e : false ≡ true = due in cc)
+
+not-due : (b c rest : Bool) → b ≡ false → cond (b && c) true rest ≡ false → rest ≡ false
+not-due true c rest due is = absurd (let e : true ≡ false = due in cc)
+not-due false c rest due is = is
+
+-- One thread
+
+thread-either : (P : State → Type 0) (s : State) (t : ℕ) (b : Bool) → (b ≡ true → P (with_archived s t)) → (b ≡ false → P s) → P (cond b (with_archived s t) s)
+thread-either P s t true there other = there refl
+thread-either P s t false there other = other refl
+
+-- what archiving leaves as it was
+pub record Beside (s q : State) : Type 0 where
+  pub threads : q.catalog.ledger.base.threads ≡ s.catalog.ledger.base.threads
+  pub tree : q.catalog.ledger.tree ≡ s.catalog.ledger.tree
+  pub mode : q.instance.is_open ≡ s.instance.is_open
+  pub point : q.instance.point ≡ s.instance.point
+  pub saved : q.catalog.saved ≡ s.catalog.saved
+
+beside-itself : (s : State) → Beside s s
+beside-itself s = record { threads = refl; tree = refl; mode = refl; point = refl; saved = refl }
+
+beside-on : (s q r : State) → Beside s q → Beside q r → Beside s r
+beside-on s q r a b = record { threads = b.threads ∙ a.threads; tree = b.tree ∙ a.tree; mode = b.mode ∙ a.mode; point = b.point ∙ a.point; saved = b.saved ∙ a.saved }
+
+beside-thread : (s : State) (t : ℕ) → Beside s (after_thread s t)
+beside-thread s t = thread-either (Beside s) s t (is_due s t) (λ _. record { threads = refl; tree = refl; mode = refl; point = refl; saved = refl }) (λ _. beside-itself s)
+
+can-thread : (s : State) (t n more : ℕ) → is_due s t ≡ true → HasRoom s t (suc n) more → CanArchive s t
+can-thread s t n more due room =
+    let parts = due-parts s t due in
+    let taken : Bool → ℕ = λ b. cond b 1 0 in
+    let one : taken (is_due s t) ≡ taken true = ap taken due in
+    let rest : ℕ = due_from (after_thread s t) (t + 1) n in
+    let records : length (records_of (ledger s)) + (cond (is_due s t) 1 0 + rest) + more ≤ 65536 = room.records in
+    let ids : s.catalog.ledger.base.next_id + (cond (is_due s t) 1 0 + rest) + 68 ≤ 4294967295 = room.ids in
+    let last = not-last (is_due s t) (nat_le 4294967295 (sequence_of s.instance.logs t)) (is_last_sequence (after_thread s t) (t + 1) n) due room.sequences in
+    record {
+      roomy = roomy s (omega (arith, one, records));
+      ids = omega (arith, one, ids);
+      sequence = leb-false 4294967295 (sequence_of s.instance.logs t) last.0;
+      found = parts.0;
+      some = parts.1;
+    }
+
+next-sequences : (b c rest : Bool) → cond (b && c) true rest ≡ false → rest ≡ false
+next-sequences true true rest is = absurd (let e : true ≡ false = is in cc)
+next-sequences true false rest is = is
+next-sequences false c rest is = is
+
+-- how much was taken by a thread
+pub record Took (s q : State) (n : ℕ) : Type 0 where
+  pub records : length (records_of (ledger q)) ≡ length (records_of (ledger s)) + n
+  pub ids : q.catalog.ledger.base.next_id ≡ s.catalog.ledger.base.next_id + n
+
+pub took-thread : (s : State) (t : ℕ) (b : Bool) → Took s (cond b (with_archived s t) s) (cond b 1 0)
+took-thread s t true = record { records = count-archived s t; ids = refl }
+took-thread s t false = record { records = omega arith; ids = omega arith }
+
+pub next-room : (s : State) (t n more : ℕ) → HasRoom s t (suc n) more → HasRoom (after_thread s t) (t + 1) n more
+next-room s t n more room =
+    let took : Took s (after_thread s t) (cond (is_due s t) 1 0) = took-thread s t (is_due s t) in
+    let rest : ℕ = due_from (after_thread s t) (t + 1) n in
+    let records : length (records_of (ledger s)) + (cond (is_due s t) 1 0 + rest) + more ≤ 65536 = room.records in
+    let ids : s.catalog.ledger.base.next_id + (cond (is_due s t) 1 0 + rest) + 68 ≤ 4294967295 = room.ids in
+    let a = took.records in
+    let b = took.ids in
+    record {
+      records = omega (arith, records, a);
+      ids = omega (arith, ids, b);
+      sequences = next-sequences (is_due s t) (nat_le 4294967295 (sequence_of s.instance.logs t)) (is_last_sequence (after_thread s t) (t + 1) n) room.sequences;
+    }
+
+sound-thread : (s : State) (t n more : ℕ) → IsSound s → 0 < t → t ≤ s.catalog.ledger.base.threads → HasRoom s t (suc n) more → IsSound (after_thread s t)
+sound-thread s t n more sound low high room =
+    thread-either IsSound s t (is_due s t) (λ due. sound-after s t sound low high (can-thread s t n more due room)) (λ _. sound)
+
+-- the database after all of them
+pub record AfterAll (s q : State) (more : ℕ) : Type 0 where
+  pub sound : IsSound q
+  pub beside : Beside s q
+  pub room : length (records_of (ledger q)) + more ≤ 65536
+
+pub threads-sound : (n t : ℕ) (s : State) (more : ℕ) → IsSound s → 0 < t → t + n ≤ s.catalog.ledger.base.threads + 1 → HasRoom s t n more → AfterAll s (after_threads s t n) more
+threads-sound zero t s more sound low high room = record { sound = sound; beside = beside-itself s; room = (let fits : length (records_of (ledger s)) + 0 + more ≤ 65536 = room.records in omega (arith, fits)) }
+threads-sound (suc n) t s more sound low high room =
+    let q : State = after_thread s t in
+    let beside = beside-thread s t in
+    let same = beside.threads in
+    let rest = threads-sound n (t + 1) q more (sound-thread s t n more sound low (omega (arith, high)) room) (omega arith) (omega (arith, high, same)) (next-room s t n more room) in
+    record { sound = rest.sound; beside = beside-on s q (after_threads q (t + 1) n) beside rest.beside; room = rest.room }
+
+-- What stands after it
+
+thread-stand : (b : Bool) (s : State) (t : ℕ) (h : List Change) (objects : Held) (made : List Made) (touched : List (List ℕ)) → (b ≡ true → CanArchive s t) → 0 < t → t ≤ s.catalog.ledger.base.threads → IsBorneOut s h objects made touched
+    → IsBorneOut (cond b (with_archived s t) s) h (with_puts (cond b (archived s.catalog.ledger.base.next_id (online s t)).puts []) objects) (made ++ cond b (archived s.catalog.ledger.base.next_id (online s t)).made []) touched
+thread-stand true s t h objects made touched can low high stands =
+    let puts = (archived s.catalog.ledger.base.next_id (online s t)).puts in
+    switched-by s t h objects made touched (with_puts puts objects) stands low high (can refl) (record { put = with_puts puts objects; puts = λ n. refl; removes = λ n. refl })
+thread-stand false s t h objects made touched can low high stands =
+    subst (λ k. IsBorneOut s h (with_puts [] objects) k touched) (sym (append-nil made))
+    (borne-beside s h objects (with_puts [] objects) made touched touched stands (stand-same objects (with_puts [] objects) touched (ledger s) (ledger s) (λ n. refl)))
+
+pub threads-stand : (n t : ℕ) (s : State) (h : List Change) (objects : Held) (made : List Made) (touched : List (List ℕ)) (after : Held) (more : ℕ) → 0 < t → t + n ≤ s.catalog.ledger.base.threads + 1 → HasRoom s t n more → IsBorneOut s h objects made touched
+    → HasPuts (puts_from s t n) objects after → IsBorneOut (after_threads s t n) h after (made ++ made_from s t n) touched
+threads-stand zero t s h objects made touched after more low high room stands puts =
+    subst (λ k. IsBorneOut s h after k touched) (sym (append-nil made))
+    (borne-beside s h objects after made touched touched stands (stand-same objects after touched (ledger s) (ledger s) puts))
+threads-stand (suc n) t s h objects made touched after more low high room stands puts =
+    let q : State = after_thread s t in
+    let mid : Held = with_puts (puts_by s t) objects in
+    let same = (beside-thread s t).threads in
+    let one : IsBorneOut q h mid (made ++ made_by s t) touched = thread-stand (is_due s t) s t h objects made touched (λ due. can-thread s t n more due room) low (omega (arith, high)) stands in
+    let rest = threads-stand n (t + 1) q h mid (made ++ made_by s t) touched after more (omega arith) (omega (arith, high, same)) (next-room s t n more room) one (puts-rest (puts_by s t) (puts_from q (t + 1) n) objects after puts) in
+    subst (λ k. IsBorneOut (after_threads q (t + 1) n) h after k touched) (append_assoc made (made_by s t) (made_from q (t + 1) n)) rest
