@@ -79,10 +79,22 @@ impl Row {
     // A line with `--`.
     fn obey(&mut self, words: &[&str]) -> Result<(), Fault> {
         match words {
-            ["status", status] => self.run(status, self.written.len()),
-            ["status", status, "lines", count] => self.run(status, self.len_of_lines(count)?),
-            ["status", status, "bytes", count] => self.run(status, self.size(count)?),
-            ["object", name, len, head] => self.look(name, self.size(len)?, head),
+            ["status", status] => {
+                let len = self.written.len();
+                self.run(status, len)
+            }
+            ["status", status, "lines", count] => {
+                let len = self.len_of_lines(count)?;
+                self.run(status, len)
+            }
+            ["status", status, "bytes", count] => {
+                let len = self.size(count)?;
+                self.run(status, len)
+            }
+            ["object", name, len, head] => {
+                let len = self.size(len)?;
+                self.look(name, len, head)
+            }
             ["fail", name, numbers @ ..] => self.fail(name, numbers),
             ["room", room] => self.set_room(room),
             ["clock", answers @ ..] => self.set_clock(answers),
@@ -129,7 +141,8 @@ impl Row {
             return self.differs("not a call");
         };
         for number in numbers {
-            self.failing.add(call, self.number(number)?)?;
+            let number = self.number(number)?;
+            self.failing.add(call, number)?;
         }
         Ok(())
     }
@@ -142,7 +155,8 @@ impl Row {
     fn set_clock(&mut self, answers: &[&str]) -> Result<(), Fault> {
         self.clock.clear();
         for answer in answers {
-            self.clock.push(self.number(answer)?)?;
+            let answer = self.number(answer)?;
+            self.clock.push(answer)?;
         }
         Ok(())
     }

@@ -51,20 +51,24 @@ impl Trial<'_> {
     }
 }
 
-// The bytes are the first `len` of the text.
+// The bytes are the first `len` of the text. Else they are told, from the first line that differs.
 fn compare(alloc: Global, bytes: &[u8], text: &str, len: usize) -> Result<(), Fault> {
-    if text.as_bytes().get(..len) == Some(bytes) {
+    let text = text.as_bytes();
+    if text.get(..len) == Some(bytes) {
         return Ok(());
     }
-    if let Ok(written) = str::from_utf8(bytes) {
-        for (line, wanted) in written.lines().zip(text.lines()) {
-            if line != wanted {
-                return Err(Fault::Differs(format!(in alloc; "wrote {line}")?));
-            }
+    let mut start = 0usize;
+    for (at, (byte, wanted)) in bytes.iter().zip(text).enumerate() {
+        if byte != wanted {
+            break;
+        }
+        if *byte == b'\n' {
+            start = at.saturating_add(1);
         }
     }
+    let other = String::from_utf8_lossy(alloc, bytes.get(start..).unwrap_or(&[]))?;
     let written = bytes.len();
-    Err(Fault::Differs(format!(in alloc; "wrote {written} bytes")?))
+    Err(Fault::Differs(format!(in alloc; "wrote {written} bytes, and here {other}")?))
 }
 
 /// The store has an object of this name of `len` bytes, which begin with these digits.
