@@ -8,8 +8,8 @@ use Rattle.rm_database.specs.Machine as inner_machine
 use Rattle.rm_database.specs.Parts.{Parts}
 use Rattle.rm_database.specs.Step.{DoneIn, refusal_in}
 use Rattle.rm_database.specs.Step as inner
-use Rattle.rm_lang.specs.declared.command.Command.{Command}
-use Rattle.rm_lang.specs.declared.command.Command.TheVariants.{CreateDatabase, CreateDatafile, Write, SwitchLogfile, ArchiveLogCurrent, Mount, OpenPlain, OpenResetlogs, ResetDatabase, Recover, RecoverTest, Backup, ListIncarnation, Dump}
+use Rattle.rm_command.specs.declared.command.Command.{Command}
+use Rattle.rm_command.specs.declared.command.Command.TheVariants.{CreateDatabase, CreateDatafile, Write, SwitchLogfile, ArchiveLogCurrent, Mount, OpenPlain, OpenResetlogs, ResetDatabase, Recover, RecoverTest, Backup, ListIncarnation, Dump}
 use Rattle.rm_report.specs.declared.line.Reply.{Reply}
 use Rattle.rm_site.specs.Holds.{Sound, SoundBy}
 use Rattle.rm_site.specs.Limits.{room_refusal}

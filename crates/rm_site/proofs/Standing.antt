@@ -17,9 +17,9 @@ use Rattle.rm_database.specs.Sound.{IsSound}
 use Rattle.rm_database.specs.Step.{DoneIn, refusal_in}
 use Rattle.rm_database.specs.Step as inner
 use Rattle.rm_database.proofs.Pieces.{new-valid}
-use Rattle.rm_lang.specs.declared.command.Command.{Command}
+use Rattle.rm_command.specs.declared.command.Command.{Command}
 use Rattle.rm_lang.specs.IsCommand.{is_command}
-use Rattle.rm_lang.specs.declared.command.Command.TheVariants.{CreateDatabase, CreateDatafile, Write, SwitchLogfile, ArchiveLogCurrent, Mount, OpenPlain, OpenResetlogs, ResetDatabase, Recover, RecoverTest, Backup, ListIncarnation, Dump}
+use Rattle.rm_command.specs.declared.command.Command.TheVariants.{CreateDatabase, CreateDatafile, Write, SwitchLogfile, ArchiveLogCurrent, Mount, OpenPlain, OpenResetlogs, ResetDatabase, Recover, RecoverTest, Backup, ListIncarnation, Dump}
 use Rattle.rm_ledger.specs.Growth.{Growth, edits_of}
 use Rattle.rm_ledger.specs.Ledger.{Ledger, records_of, numbered, incarnation_record, datafile_record, mark_record}
 use Rattle.rm_ledger.proofs.Lookups.{base-found}
