@@ -195,3 +195,4 @@ saved-are p q h k (Backup b) reply moment saved old new keeps valid accepted d i
     (subst (AreSaved p (backed_up p b) h (Backup b)) (sym is.2) (backup-saved p h b moment is.0 old keeps tagged accepted)))
 saved-are p q h k ListIncarnation reply moment saved old new keeps valid accepted d is = none-saved p q k ListIncarnation saved refl is
 saved-are p q h k (Dump file block) reply moment saved old new keeps valid accepted d is = none-saved p q k (Dump file block) saved refl is
+saved-are p q h k c reply moment saved old new keeps valid accepted d is = elim d [ ]

@@ -143,3 +143,4 @@ leads p q h k ListIncarnation reply s accepted d =
     leads-to p p q h h k ListIncarnation d.1 (leads-same p h ListIncarnation s refl refl)
 leads p q h k (Dump file block) reply s accepted d =
     leads-to p p q h h k (Dump file block) d.3 (leads-same p h (Dump file block) s refl refl)
+leads p q h k c reply s accepted d = absurd d

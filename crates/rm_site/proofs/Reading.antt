@@ -35,6 +35,7 @@ told-only p o h k (Backup b) reply reads d = absurd (cc)
 told-only p o h k (RecoverTest until inc) reply reads d = d.1
 told-only p o h k ListIncarnation reply reads d = d.1
 told-only p o h k (Dump file block) reply reads d = d.3
+told-only p o h k c reply reads d = elim d [ ]
 
 -- what it leaves, for each history that the database stands for
 pub told-step : (p : Parts) (o : Option Parts) (c : Command) (reply : Reply) → is_reading c ≡ true → refusal_in p c ≡ None → inner.Steps (Some p) o c reply → (h : List Written) → Keeps p h

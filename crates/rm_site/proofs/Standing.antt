@@ -61,6 +61,7 @@ stays-there p h k (RecoverTest until inc) reply d = gone None h k _ d.1
 stays-there p h k (Backup b) reply d = gone None h k _ d.1
 stays-there p h k ListIncarnation reply d = gone None h k _ d.1
 stays-there p h k (Dump file block) reply d = gone None h k _ d.3
+stays-there p h k c reply d = d
 
 pub none-after : (p : Parts) (rs : List Record) (c : Command) (reply : Reply) (moment : ℕ) → IsRecorded p rs → inner.Steps (Some p) None c reply → refusal_of (Some p) rs c moment ≡ None → ⊥
 none-after p rs c reply moment is steps accepted =

@@ -49,4 +49,4 @@ tag-by None moment tag valid is = moment-tag moment tag is
 tag-by (Some name) moment tag valid is = subst IsTag (sym is) (named-tag name valid)
 
 pub tag-fits : (b : BackupForm) (moment : ℕ) (tag : List ℕ) → is_backup b ≡ true → IsTagBy b.tag moment tag → IsTag tag
-tag-fits b moment tag valid is = tag-by b.tag moment tag (and_parts _ _ (and_parts _ _ valid).1).1 is
+tag-fits b moment tag valid is = tag-by b.tag moment tag (and_parts _ _ (and_parts _ _ (and_parts _ _ (and_parts _ _ valid).0).1).1).0 is
