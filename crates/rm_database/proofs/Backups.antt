@@ -16,7 +16,7 @@ use Rattle.rm_history.specs.declared.world.World.{World}
 use Rattle.rm_history.specs.World.{file_of}
 use Rattle.rm_piece.specs.declared.piece.Piece.{Piece}
 use Rattle.rm_history.specs.declared.world.Datafile.{Datafile}
-use Rattle.rm_lang.specs.declared.command.BackupForm.{BackupForm}
+use Rattle.rm_command.specs.declared.command.BackupForm.{BackupForm}
 use Rattle.rm_report.specs.declared.line.Line.{Line}
 use Rattle.std.specs.Option.{option_map_or}
 use Rattle.rm_base.specs.declared.refusal.Refusal.{Refusal}

@@ -10,9 +10,9 @@ use Rattle.rm_base.specs.declared.refusal.Refusal.TheVariants.{Rm09}
 use Rattle.rm_blocks.specs.File.{File}
 use Rattle.rm_history.specs.declared.tree.Incarnation.{Incarnation}
 use Rattle.rm_history.specs.declared.world.Datafile.{Datafile}
-use Rattle.rm_lang.specs.declared.command.BackupForm.{BackupForm}
-use Rattle.rm_lang.specs.declared.command.Command.{Command}
-use Rattle.rm_lang.specs.declared.command.Command.TheVariants.{CreateDatabase, CreateDatafile, Write, SwitchLogfile, ArchiveLogCurrent, Mount, OpenPlain, OpenResetlogs, ResetDatabase, Recover, RecoverTest, Backup, ListIncarnation, Dump}
+use Rattle.rm_command.specs.declared.command.BackupForm.{BackupForm}
+use Rattle.rm_command.specs.declared.command.Command.{Command}
+use Rattle.rm_command.specs.declared.command.Command.TheVariants.{CreateDatabase, CreateDatafile, Write, SwitchLogfile, ArchiveLogCurrent, Mount, OpenPlain, OpenResetlogs, ResetDatabase, Recover, RecoverTest, Backup, ListIncarnation, Dump}
 use Rattle.rm_report.specs.declared.line.Line.{Line}
 use Rattle.rm_report.specs.declared.line.Line.TheVariants.{NothingToArchive, Opened, Refused}
 use Rattle.rm_report.specs.declared.line.Reply.{Reply}
@@ -81,6 +81,7 @@ refusal_dated (Some p) (RecoverTest until inc) = search dated depth 12
 refusal_dated (Some p) (Backup b) = backup_dated p b
 refusal_dated (Some p) ListIncarnation = no
 refusal_dated (Some p) (Dump file block) = search dated depth 12
+refusal_dated (Some p) c = no
 
 -- none of the lines is of RM-14
 record Lines (lines : List Line) : Type 0 where
@@ -159,6 +160,7 @@ done_dated p h (RecoverTest until inc) reply new d =
 done_dated p h (Backup b) reply new d = reply_dated _ reply d.0 (told_dated _ (pieces b (new_pieces p b)))
 done_dated p h ListIncarnation reply new d = reply_dated _ reply d.0 (incarnations p.world.tree p.current 1 (length p.world.tree))
 done_dated p h (Dump file block) reply new d = reply_dated _ reply d.2 (one _ tt)
+done_dated p h c reply new d = elim d [ ]
 
 all_dated : (o : Option Parts) (h : List Change) (c : Command) (reply : Reply) (new : Machine) → Done o h c reply new → HasDates reply
 all_dated None h (CreateDatabase dbid threads scn) reply new d = reply_dated _ reply d.0 (one _ tt)

@@ -32,7 +32,7 @@ use Rattle.rm_redo.specs.declared.online.ThreadLog.{ThreadLog}
 use Rattle.rm_redo.specs.LogFile.{changes_in, log_of}
 use Rattle.rm_redo.specs.Online.{fresh_log, record_of, records_of, with_change}
 use Rattle.rm_redo.proofs.Logs.{IsLost-with_change, first_of-with_change, inc-with_change, records_of-with_change, records_of-with_change_other}
-use Rattle.rm_lang.specs.declared.command.WriteForm.{WriteForm}
+use Rattle.rm_command.specs.declared.command.WriteForm.{WriteForm}
 use Rattle.rm_database.specs.declared.database.Archived.{Archived}
 use Rattle.rm_database.specs.CreateDatabase.{fresh}
 use Rattle.rm_database.specs.CreateDatafile.{datafile_refusal, room_refusal, new_datafile, with_datafile}

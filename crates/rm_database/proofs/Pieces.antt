@@ -17,7 +17,7 @@ use Rattle.rm_history.specs.Artefacts.{Base, high_of}
 use Rattle.rm_history.specs.State.{IsState, state}
 use Rattle.rm_history.specs.World.{creation_of, exists, file_of}
 use Rattle.rm_history.proofs.States.{state-held}
-use Rattle.rm_lang.specs.declared.command.BackupForm.{BackupForm}
+use Rattle.rm_command.specs.declared.command.BackupForm.{BackupForm}
 use Rattle.rm_piece.specs.declared.piece.Piece.{Piece}
 use Rattle.rm_piece.specs.Artefacts.{base_of}
 use Rattle.rm_piece.specs.Valid.{FitsKind, IsBefore, IsPiece, IsRow}

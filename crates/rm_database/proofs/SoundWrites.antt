@@ -14,7 +14,7 @@ use Rattle.rm_history.specs.declared.tree.Incarnation.{Incarnation}
 use Rattle.rm_history.specs.declared.world.Datafile.{Datafile}
 use Rattle.rm_history.specs.Tree.{IsThere, end_of, reset_of, with_end}
 use Rattle.rm_history.proofs.Ends.{end_of-with_end}
-use Rattle.rm_lang.specs.declared.command.WriteForm.{WriteForm}
+use Rattle.rm_command.specs.declared.command.WriteForm.{WriteForm}
 use Rattle.rm_redo.specs.declared.online.LogRecord.{LogRecord}
 use Rattle.rm_redo.specs.declared.online.ThreadLog.{ThreadLog}
 use Rattle.rm_redo.specs.Online.{record_of, records_of, with_record, with_change}

@@ -13,7 +13,7 @@ use Rattle.rm_base.specs.declared.refusal.Refusal.TheVariants.{Rm05, Rm09, Rm11}
 use Rattle.rm_history.specs.declared.world.Datafile.{Datafile}
 use Rattle.rm_history.specs.Artefacts.{high_of}
 use Rattle.rm_history.specs.World.{file_of, exists}
-use Rattle.rm_lang.specs.declared.command.BackupForm.{BackupForm}
+use Rattle.rm_command.specs.declared.command.BackupForm.{BackupForm}
 use Rattle.rm_piece.specs.declared.piece.Piece.{Piece}
 use Rattle.rm_report.specs.declared.line.Line.{Line}
 use Rattle.rm_report.specs.declared.line.Line.TheVariants.{BackedUp, NothingToBackUp}

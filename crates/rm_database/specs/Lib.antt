@@ -1,5 +1,6 @@
 pub mod Archiving
 pub mod Backup
+pub mod Built
 pub mod CreateDatabase
 pub mod CreateDatafile
 pub mod Dump

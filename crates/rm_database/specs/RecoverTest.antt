@@ -7,7 +7,7 @@ use Rattle.rm_blocks.specs.File.{File}
 use Rattle.rm_history.specs.declared.world.Datafile.{Datafile}
 use Rattle.rm_history.specs.declared.world.World.{World}
 use Rattle.rm_history.specs.World.{exists}
-use Rattle.rm_lang.specs.declared.command.Until.{Until}
+use Rattle.rm_command.specs.declared.command.Until.{Until}
 use Rattle.rm_report.specs.declared.line.Line.{Line}
 use Rattle.rm_report.specs.declared.line.Line.TheVariants.{UntilIs, FileIs, BlockIs}
 use Rattle.rm_report.specs.declared.line.Reply.{Reply}

@@ -10,15 +10,16 @@ use Rattle.rm_history.specs.declared.world.World.{World}
 use Rattle.rm_history.specs.Tree.{reset_of, end_of}
 use Rattle.rm_history.specs.World.{exists}
 use Rattle.rm_history.specs.State.{states}
-use Rattle.rm_lang.specs.declared.command.Until.{Until}
-use Rattle.rm_lang.specs.declared.command.Until.TheVariants.{Scn}
+use Rattle.rm_command.specs.declared.command.Until.{Until}
+use Rattle.rm_command.specs.declared.command.Until.TheVariants.{Scn}
 use Rattle.rm_redo.specs.LogFile.{changes_of, log_file_of}
 use Rattle.rm_database.specs.Parts.{Parts, redo_end}
 
--- the SCN at which a recovery of i stops: its UNTIL, or the end
+-- the SCN at which a recovery of i stops: its UNTIL, or the end. (Another UNTIL is not built.)
 abbrev pub target : List Incarnation → ℕ → Option Until → ℕ
 target tree i None = end_of tree i
 target tree i (Some (Scn s)) = s
+target tree i (Some _) = 0
 
 -- why the target (i, s) is refused: it is below the resetlogs SCN of i, or above its end
 abbrev pub until_refusal : List Incarnation → ℕ → ℕ → Option Refusal

@@ -3,8 +3,8 @@ use Rattle.std.specs.Prelude.{◌≡◌, Option, Some, None, IsSomeAnd, List}
 use Rattle.rm_base.specs.declared.block.Change.{Change}
 use Rattle.rm_base.specs.declared.refusal.Refusal.{Refusal}
 use Rattle.rm_base.specs.declared.refusal.Refusal.TheVariants.{Rm02, Rm03}
-use Rattle.rm_lang.specs.declared.command.Command.{Command}
-use Rattle.rm_lang.specs.declared.command.Command.TheVariants.{CreateDatabase, CreateDatafile, Write, SwitchLogfile, ArchiveLogCurrent, Mount, OpenPlain, OpenResetlogs, ResetDatabase, Recover, RecoverTest, Backup, ListIncarnation, Dump}
+use Rattle.rm_command.specs.declared.command.Command.{Command}
+use Rattle.rm_command.specs.declared.command.Command.TheVariants.{CreateDatabase, CreateDatafile, Write, SwitchLogfile, ArchiveLogCurrent, Mount, OpenPlain, OpenResetlogs, ResetDatabase, Recover, RecoverTest, Backup, ListIncarnation, Dump}
 use Rattle.rm_report.specs.declared.line.Reply.{Reply}
 use Rattle.rm_report.specs.Reply.{refused_by}
 use Rattle.rm_database.specs.Backup.{backup_refusal, BacksUp}
@@ -27,7 +27,7 @@ abbrev pub refusal_without : Command → Option Refusal
 refusal_without (CreateDatabase dbid threads scn) = create_refusal threads
 refusal_without _ = Some Rm02
 
--- why a statement is refused where there is a database
+-- why a statement that is built is refused where there is a database
 abbrev pub refusal_in : Parts → Command → Option Refusal
 refusal_in p (CreateDatabase dbid threads scn) = Some Rm03
 refusal_in p (CreateDatafile blocks) = datafile_refusal p blocks
@@ -43,6 +43,7 @@ refusal_in p (RecoverTest until inc) = test_refusal p until inc
 refusal_in p (Backup b) = backup_refusal p b
 refusal_in p ListIncarnation = None
 refusal_in p (Dump file block) = dump_refusal p file block
+refusal_in p _ = None
 
 -- why a statement is refused, if it is
 abbrev pub refusal_of : Option Parts → Command → Option Refusal
@@ -54,7 +55,7 @@ abbrev pub DoneWithout : List Change → Command → Reply → Machine → Type 
 DoneWithout h (CreateDatabase dbid threads scn) reply new = CreatesDatabase h dbid threads scn reply new
 DoneWithout h _ reply new = ⊥
 
--- what a statement does that is not refused, where there is a database
+-- what a statement that is built does where there is a database and it is not refused
 abbrev pub DoneIn : Parts → List Change → Command → Reply → Machine → Type 0
 DoneIn p h (CreateDatabase dbid threads scn) reply new = ⊥
 DoneIn p h (CreateDatafile blocks) reply new = CreatesDatafile p h blocks reply new
@@ -70,6 +71,7 @@ DoneIn p h (RecoverTest until inc) reply new = Tests p h (tested p inc) (test_ta
 DoneIn p h (Backup b) reply new = BacksUp p h b reply new
 DoneIn p h ListIncarnation reply new = ListsIncarnations p h reply new
 DoneIn p h (Dump file block) reply new = Dumps p h file block reply new
+DoneIn p h _ reply new = ⊥
 
 -- a statement that is not refused
 abbrev pub Done : Option Parts → List Change → Command → Reply → Machine → Type 0

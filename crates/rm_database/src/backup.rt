@@ -1,6 +1,6 @@
 //! BACKUP of datafiles
 ghost use Rattle.std.specs.Prelude.{◌≡◌, ◌<◌, ◌≤◌, ◌*◌, IfOk, IfNone, Some, None, true, length};
-ghost use Rattle.rm_lang.specs.declared.command.Command.TheVariants.{Backup};
+ghost use Rattle.rm_command.specs.declared.command.Command.TheVariants.{Backup};
 ghost use Rattle.rm_database.specs.Backup.{asks_for, is_taken, taken, absent, lost_taken, backup_refusal, rows_in, kind_of, shape_of, piece_of, new_pieces, backup_bytes, backup_line, backup_lines, backed_up};
 ghost use Rattle.rm_database.specs.Sound.{IsSound};
 ghost use Rattle.rm_database.specs.Step.{Steps};

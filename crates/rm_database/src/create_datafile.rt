@@ -1,7 +1,7 @@
 //! CREATE DATAFILE BLOCKS n
 ghost use Rattle.std.specs.Prelude.{◌≡◌, ◌<◌, ◌≤◌, IfOk, IfNone, OnOk, None, true};
 ghost use Rattle.rm_base.specs.Numbers.{last_scn};
-ghost use Rattle.rm_lang.specs.declared.command.Command.TheVariants.{CreateDatafile};
+ghost use Rattle.rm_command.specs.declared.command.Command.TheVariants.{CreateDatafile};
 ghost use Rattle.rm_database.specs.CreateDatafile.{room_refusal, datafile_refusal, with_datafile};
 ghost use Rattle.rm_database.specs.Step.{Steps};
 

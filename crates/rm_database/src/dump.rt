@@ -1,6 +1,6 @@
 //! DUMP DATAFILE f BLOCK b
 ghost use Rattle.std.specs.Prelude.{◌≡◌, ◌≤◌, ◌<◌, IfOk, IfNone, Some, None};
-ghost use Rattle.rm_lang.specs.declared.command.Command.TheVariants.{Dump};
+ghost use Rattle.rm_command.specs.declared.command.Command.TheVariants.{Dump};
 ghost use Rattle.rm_database.specs.Dump.{dump_refusal, placed_row};
 ghost use Rattle.rm_database.specs.Sound.{IsSound};
 ghost use Rattle.rm_database.specs.Step.{Steps};

@@ -2,8 +2,9 @@
 ghost use Rattle.std.specs.Prelude.{◌≡◌, ◌∷◌, [], IfOk, IsTrue, None};
 ghost use Rattle.std.specs.Option.{option_copied};
 ghost use Rattle.rm_lang.specs.IsCommand.{is_command};
-ghost use Rattle.rm_lang.specs.declared.command.Command.TheVariants.{CreateDatabase};
+ghost use Rattle.rm_command.specs.declared.command.Command.TheVariants.{CreateDatabase};
 ghost use Rattle.rm_report.specs.Reply.{said, refused_by};
+ghost use Rattle.rm_database.specs.Built.{is_built};
 ghost use Rattle.rm_database.specs.Step.{Steps, refusal_of};
 
 use crate::backup::backup;
@@ -113,6 +114,7 @@ impl Instance {
     /// Where it answers `NoMemory`, nothing is said of the instance after it.
     pub fn step(&mut self, command: &Command) -> Result<Reply, NoMemory>
         requires command { IsTrue (is_command command.now) }
+        requires built { IsTrue (is_built command.now) }
         ensures step { IfOk result (Steps self.old self.new command.now) }
     {
         let alloc = self.alloc;
@@ -139,6 +141,7 @@ impl Instance {
             Command::Backup(form) => backup(alloc, database, form),
             Command::ListIncarnation => list_incarnation(alloc, database),
             Command::Dump { file, block } => dump(alloc, database, *file, *block),
+            _ => unreachable!(),
         }
     }
 }

@@ -2,8 +2,8 @@
 ghost use Rattle.std.specs.Prelude.{◌≡◌, None, List, All};
 ghost use Rattle.rm_base.specs.declared.block.Change.{Change};
 ghost use Rattle.rm_history.specs.Agrees.{BaseAgrees};
-ghost use Rattle.rm_lang.specs.declared.command.BackupForm.{BackupForm};
-ghost use Rattle.rm_lang.specs.declared.command.Command.{Command};
+ghost use Rattle.rm_command.specs.declared.command.BackupForm.{BackupForm};
+ghost use Rattle.rm_command.specs.declared.command.Command.{Command};
 ghost use Rattle.rm_report.specs.Reply.{HasDates};
 ghost use Rattle.rm_report.specs.declared.line.Reply.{Reply as ReplyOf};
 ghost use Rattle.rm_piece.specs.Artefacts.{base_of};

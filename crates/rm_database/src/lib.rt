@@ -3,6 +3,7 @@
 
 mod archive;
 pub mod backup;
+mod built;
 mod create_database;
 mod create_datafile;
 pub mod database;
@@ -22,6 +23,7 @@ mod switch_logfile;
 mod write;
 
 pub use backup::NewPiece;
+pub use built::is_built;
 pub use database::{Archived, Database};
 pub use instance::{Instance, refusal_reply};
 

@@ -1,6 +1,6 @@
 //! SHUTDOWN and STARTUP MOUNT
 ghost use Rattle.std.specs.Prelude.{◌≡◌, IfOk, Some, true};
-ghost use Rattle.rm_lang.specs.declared.command.Command.TheVariants.{Mount};
+ghost use Rattle.rm_command.specs.declared.command.Command.TheVariants.{Mount};
 ghost use Rattle.rm_database.specs.Mount.{mount_point, mounted};
 ghost use Rattle.rm_database.specs.Sound.{IsSound};
 ghost use Rattle.rm_database.specs.Step.{Steps};

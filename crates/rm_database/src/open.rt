@@ -1,7 +1,7 @@
 //! ALTER DATABASE OPEN
 ghost use Rattle.std.specs.Prelude.{◌≡◌, IfOk, Some, None, true};
 ghost use Rattle.std.specs.List.{list_any};
-ghost use Rattle.rm_lang.specs.declared.command.Command.TheVariants.{OpenPlain};
+ghost use Rattle.rm_command.specs.declared.command.Command.TheVariants.{OpenPlain};
 ghost use Rattle.rm_database.specs.Open.{is_recovered, open_refusal, opened};
 ghost use Rattle.rm_database.specs.Parts.{now_of};
 ghost use Rattle.rm_database.specs.Step.{Steps};

@@ -1,7 +1,7 @@
 //! ALTER DATABASE OPEN RESETLOGS
 ghost use Rattle.std.specs.Prelude.{ℕ, ◌≡◌, ◌≤◌, ◌<◌, ◌+◌, IfOk, OnOk, Some, None, true, false, length};
 ghost use Rattle.rm_history.specs.Tree.{reset_of};
-ghost use Rattle.rm_lang.specs.declared.command.Command.TheVariants.{OpenResetlogs};
+ghost use Rattle.rm_command.specs.declared.command.Command.TheVariants.{OpenResetlogs};
 ghost use Rattle.rm_database.specs.Archiving.{after_all};
 ghost use Rattle.rm_database.specs.Open.{branch_refusal, resetlogs_refusal, next_incarnation, branched_off};
 ghost use Rattle.rm_database.specs.Parts.{now_of};

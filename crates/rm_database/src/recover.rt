@@ -1,6 +1,6 @@
 //! RECOVER DATABASE [UNTIL SCN s]
 ghost use Rattle.std.specs.Prelude.{◌≡◌, ◌≤◌, IfOk, IfNone, OnOk, Some, None};
-ghost use Rattle.rm_lang.specs.declared.command.Command.TheVariants.{Recover};
+ghost use Rattle.rm_command.specs.declared.command.Command.TheVariants.{Recover};
 ghost use Rattle.rm_database.specs.Recover.{recover_refusal, recovered};
 ghost use Rattle.rm_database.specs.Recovery.{target, told_by};
 ghost use Rattle.rm_database.specs.Sound.{IsSound};

@@ -1,7 +1,7 @@
 //! RECOVER DATABASE [UNTIL SCN s] [INCARNATION i] TEST
 ghost use Rattle.std.specs.Prelude.{◌≡◌, ◌≤◌, ◌<◌, ◌++◌, ◌∷◌, [], All, IfOk, IfErr, IfSome, OnOk, Some, None, length};
 ghost use Rattle.rm_history.specs.Tree.{IsThere};
-ghost use Rattle.rm_lang.specs.declared.command.Command.TheVariants.{RecoverTest};
+ghost use Rattle.rm_command.specs.declared.command.Command.TheVariants.{RecoverTest};
 ghost use Rattle.rm_database.specs.RecoverTest.{tested, test_target, test_refusal, block_lines, file_lines, files_lines, test_lines};
 ghost use Rattle.rm_database.specs.Recovery.{told_by};
 ghost use Rattle.rm_database.specs.Sound.{IsSound};

@@ -16,13 +16,14 @@ use rm_lang::Until;
 use rm_redo::LogRecord;
 use std::alloc::Global;
 
-/// The SCN at which a recovery of an incarnation stops.
+/// The SCN at which a recovery of an incarnation stops. (Another UNTIL than of an SCN is not built.)
 pub(crate) fn target(tree: &Tree, i: IncNo, until: &Option<Until>) -> u64
     requires there { IsThere tree.now i }
     ensures { result ≡ target tree.now i until.now }
 {
     match until {
         Some(Until::Scn(s)) => *s,
+        Some(_) => 0,
         None => match tree.get(i) {
             Some(incarnation) => incarnation.end,
             None => unreachable!(),

@@ -45,6 +45,7 @@ impl Database {
             Command::Backup(form) => self.backup_refusal(form),
             Command::ListIncarnation => None,
             Command::Dump { file, block } => self.dump_refusal(*file, *block),
+            _ => None,
         }
     }
 }

@@ -1,7 +1,7 @@
 //! RESET DATABASE TO INCARNATION n, and LIST INCARNATION
 ghost use Rattle.std.specs.Prelude.{◌≡◌, ◌≤◌, ◌<◌, ◌++◌, ◌∷◌, ◌↔◌, [], IfOk, IfNone, OnOk, IsTrue, Some, None, length};
 ghost use Rattle.rm_history.specs.Tree.{IsThere};
-ghost use Rattle.rm_lang.specs.declared.command.Command.TheVariants.{ResetDatabase, ListIncarnation};
+ghost use Rattle.rm_command.specs.declared.command.Command.TheVariants.{ResetDatabase, ListIncarnation};
 ghost use Rattle.rm_database.specs.ResetDatabase.{where_there, reset_refusal, at_incarnation, incarnation_line, incarnation_lines};
 ghost use Rattle.rm_database.specs.Step.{Steps};
 

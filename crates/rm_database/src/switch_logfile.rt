@@ -1,6 +1,6 @@
 //! ALTER SYSTEM SWITCH LOGFILE, and ALTER SYSTEM ARCHIVE LOG CURRENT
 ghost use Rattle.std.specs.Prelude.{◌≡◌, ◌≤◌, ◌<◌, IfOk, IfNone, Some};
-ghost use Rattle.rm_lang.specs.declared.command.Command.TheVariants.{SwitchLogfile, ArchiveLogCurrent};
+ghost use Rattle.rm_command.specs.declared.command.Command.TheVariants.{SwitchLogfile, ArchiveLogCurrent};
 ghost use Rattle.rm_database.specs.Sound.{IsSound};
 ghost use Rattle.rm_database.specs.Step.{Steps};
 ghost use Rattle.rm_database.specs.SwitchLogfile.{switch_refusal, archive_all_refusal};

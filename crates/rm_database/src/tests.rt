@@ -1,6 +1,6 @@
 //! Two writes to one block and what the test of a recovery tells of them, and a full log.
 use crate::database::Database;
-use crate::{Instance, refusal_reply};
+use crate::{Instance, is_built, refusal_reply};
 use rm_base::{Block, Refusal};
 use rm_lang::{Command, Until, WriteForm, is_command};
 use rm_report::{Reply, bytes_of, has_dates};
@@ -58,7 +58,7 @@ fn two_writes(rt: HostRuntime) -> Result<(), Fail> {
     ];
     let mut instance = Instance::new(rt.alloc());
     for (command, text) in steps {
-        assert!(rt; is_command(&command));
+        assert!(rt; is_command(&command) && is_built(&command));
         shows(&rt, rt.alloc(), &instance.step(&command)?, text)?;
     }
     Ok(())
@@ -72,6 +72,7 @@ fn a_full_log(rt: HostRuntime) -> Result<(), Fail> {
     let datafile = Command::CreateDatafile { blocks: 1 };
     let switch = Command::SwitchLogfile { thread: 1 };
     assert!(rt; is_command(&write) && is_command(&datafile) && is_command(&switch));
+    assert!(rt; is_built(&write) && is_built(&datafile) && is_built(&switch));
     let mut instance = Instance::new(alloc);
     instance.step(&CREATE)?;
     instance.step(&datafile)?;
@@ -126,6 +127,7 @@ fn what_is_due(rt: HostRuntime) -> Result<(), Fail> {
     let write = write(Block::padded(b"AA"));
     let datafile = Command::CreateDatafile { blocks: 1 };
     assert!(rt; is_command(&write) && is_command(&datafile));
+    assert!(rt; is_built(&write) && is_built(&datafile));
     let mut instance = Instance::new(alloc);
     assert!(rt; instance.database().is_none());
     assert!(rt; matches!(instance.refusal(&write), Some(Refusal::Rm02)));

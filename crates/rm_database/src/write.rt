@@ -2,7 +2,7 @@
 ghost use Rattle.std.specs.Prelude.{◌≡◌, ◌<◌, ◌≤◌, ◌-◌, IfOk, IfNone, IfSome, OnOk, Some, None, true, slice_get, slice_set, slice_index_or};
 ghost use Rattle.std.specs.Option.{option_map};
 ghost use Rattle.rm_blocks.specs.File.{written};
-ghost use Rattle.rm_lang.specs.declared.command.Command.TheVariants.{Write};
+ghost use Rattle.rm_command.specs.declared.command.Command.TheVariants.{Write};
 ghost use Rattle.rm_database.specs.Write.{block_refusal, place_refusal, write_refusal, with_write};
 ghost use Rattle.rm_database.specs.Step.{Steps};
 

@@ -10,7 +10,7 @@ use Rattle.rm_token.specs.Spelling.{are_string_bytes}
 use Rattle.rm_grammar.specs.Grammar.{kept_of}
 use Rattle.rm_grammar.specs.Spelling.{IsFaithful, is_shown}
 use Rattle.rm_grammar.proofs.Spelled.{same_keeps, keeps_same}
-use Rattle.rm_lang.specs.Forms.{content}
+use Rattle.rm_command.specs.Texts.{content}
 
 trimmed-zeros : (n : ℕ) → trimmed (replicate n 0) ≡ []
 trimmed-zeros zero = refl
@@ -103,3 +103,17 @@ same_test xs n = rw (le-leb (length (trimmed xs)) 64 (subst (λ m. length (trimm
 pub is_shown-content : (xs : List ℕ) → length xs ≡ 64 → list_all is_string_byte (trimmed xs) ≡ true → is_shown content xs ≡ true
 is_shown-content xs n h =
     same_keeps (kept_of content.read (trimmed xs)) xs (rw (string_content xs n h) (ap (λ (ys : List ℕ). Some ys) (padded-trimmed xs n)))
+
+-- what is shown can stand between quotes
+pub shown_string : (xs : List ℕ) → is_shown content xs ≡ true → are_string_bytes (trimmed xs) ≡ true
+shown_string xs h = (kept_parts (are_string_bytes (trimmed xs)) (trimmed xs) xs (keeps_same (kept_of content.read (trimmed xs)) xs h)).0
+
+-- a content of 64 bytes is shown where it is a string
+pub shown-value : (xs : List ℕ) → length xs ≡ 64 → are_string_bytes (trimmed xs) ≡ is_shown content xs
+shown-value xs n = both (are_string_bytes (trimmed xs)) (is_shown content xs)
+    (λ h. is_shown-content xs n (and_parts (nat_le (length (trimmed xs)) 64) (list_all is_string_byte (trimmed xs)) h).1) (λ h. shown_string xs h)
+  where
+    both : (a b : Bool) → (a ≡ true → b ≡ true) → (b ≡ true → a ≡ true) → a ≡ b
+    both true b f g = sym (f refl)
+    both false true f g = g refl
+    both false false f g = refl

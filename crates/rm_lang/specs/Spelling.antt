@@ -1,83 +1,102 @@
--- The tokens that spell a command, and text that is read back.
-use Rattle.std.specs.Prelude.{◌≡◌, ℕ, List, [], ◌∷◌, Option, Some, None, Bool, true, false}
+-- The tokens that spell a statement, and text that is read back.
+use Rattle.std.specs.Prelude.{◌≡◌, ℕ, List, [], ◌∷◌, ◌++◌, Option, Some, None, Bool, true, false, codes, map}
+use Rattle.std.specs.List.{flat_map}
 use Rattle.std.specs.Option.{option_map}
+use Rattle.rm_base.specs.declared.kinds.Class.{Class}
+use Rattle.rm_base.specs.declared.kinds.Class.TheVariants.{Backup as BackupClass, Copy as CopyClass, Archived}
 use Rattle.rm_token.specs.declared.token.Token.{Token}
+use Rattle.rm_token.specs.declared.token.Token.TheVariants.{Word, Sign}
 use Rattle.rm_token.specs.Statements.{statements}
 use Rattle.rm_grammar.specs.Grammar.{Values, Choice, first, second}
 use Rattle.rm_grammar.specs.Spelling.{spelled}
-use Rattle.rm_lang.specs.declared.command.Until.{Until}
-use Rattle.rm_lang.specs.declared.command.Until.TheVariants.{Scn}
-use Rattle.rm_lang.specs.declared.backup.Kind.{Kind}
-use Rattle.rm_lang.specs.declared.backup.Kind.TheVariants.{Copy, Sets}
-use Rattle.rm_lang.specs.declared.command.BackupForm.{BackupForm}
-use Rattle.rm_lang.specs.declared.command.Command.{Command}
-use Rattle.rm_lang.specs.declared.command.Command.TheVariants.{CreateDatabase, CreateDatafile, Write, SwitchLogfile, ArchiveLogCurrent, Mount, OpenPlain, OpenResetlogs, ResetDatabase, Recover, RecoverTest, Backup, ListIncarnation, Dump}
-use Rattle.rm_lang.specs.Forms.{create_database_line, create_datafile_line, write_line, switch_logfile_line, archive_log_line, startup_line, open_database_line, reset_database_line, until_line, incarnation_line, recover_line, as_line, level_line, database_line, files_line, tag_line, keep_line, backup_line, list_incarnation_line, dump_line}
-use Rattle.rm_lang.specs.Language.{IsCommand}
-
--- what an UNTIL says
-abbrev pub until_values : Until → Values until_line
-until_values (Scn n) = (n, tt)
-
--- what an INCARNATION says
-abbrev pub incarnation_values : ℕ → Values incarnation_line
-incarnation_values n = (n, tt)
-
--- a RECOVER of these parts
-abbrev pub recover_spelled : Option Until → Option ℕ → Bool → List Token
-recover_spelled until inc test = spelled recover_line (option_map until_values until, (option_map incarnation_values inc, (test, tt)))
-
--- what an AS says
-abbrev pub kind_values : Kind → Values as_line
-kind_values Copy = (first tt, tt)
-kind_values Sets = (second tt, tt)
-
--- what asks for image copies, or for what is made anyway
-abbrev pub kind_asked : Bool → Option Kind
-kind_asked true = Some Copy
-kind_asked false = None
-
--- what an INCREMENTAL says
-abbrev pub level_values : ℕ → Values level_line
-level_values n = (n, tt)
-
--- what DATABASE or a list of datafiles says
-abbrev pub files_values : Option (List ℕ) → Choice (Values database_line) (Values files_line)
-files_values None = first tt
-files_values (Some ns) = second (ns, tt)
-
--- what a TAG says
-abbrev pub tag_values : List ℕ → Values tag_line
-tag_values w = (w, tt)
-
--- what a KEEP says
-abbrev pub keep_values : Bool → Option (Values keep_line)
-keep_values true = Some tt
-keep_values false = None
-
--- what a BACKUP says
-abbrev pub backup_values : BackupForm → Values backup_line
-backup_values b = (option_map kind_values (kind_asked b.copy), (option_map level_values b.level, (files_values b.files, (option_map tag_values b.tag, (keep_values b.keep, tt)))))
+use Rattle.rm_command.specs.declared.backup.Kind.{Kind}
+use Rattle.rm_command.specs.declared.backup.Kind.TheVariants.{Copy, Sets}
+use Rattle.rm_command.specs.declared.backup.Level.{Level}
+use Rattle.rm_command.specs.declared.upkeep.Deletion.{Deletion}
+use Rattle.rm_command.specs.declared.upkeep.Deletion.TheVariants.{Obsolete, One, Expired}
+use Rattle.rm_command.specs.declared.command.Until.{Until}
+use Rattle.rm_command.specs.declared.command.Until.TheVariants.{Scn, Sequence, Time}
+use Rattle.rm_command.specs.declared.command.WriteForm.{WriteForm}
+use Rattle.rm_command.specs.declared.command.BackupForm.{BackupForm}
+use Rattle.rm_command.specs.declared.command.ChangeTo.{ChangeTo}
+use Rattle.rm_command.specs.declared.command.ChangeTo.TheVariants.{Available, Unavailable, Uncatalog, Keep, NoKeep}
+use Rattle.rm_command.specs.declared.command.RetentionForm.{RetentionForm}
+use Rattle.rm_command.specs.declared.command.RetentionForm.TheVariants.{Window, Redundancy, Nothing, Clear}
+use Rattle.rm_command.specs.declared.command.Command.{Command}
+use Rattle.rm_command.specs.declared.command.Command.TheVariants.{CreateDatabase, CreateDatafile, Write, SwitchLogfile, ArchiveLogCurrent, Mount, OpenPlain, OpenResetlogs, Tracking, ResetDatabase, Restore, Preview, Recover, RecoverTest, RecoverCopy, Backup, BackupLogs, Crosscheck, ValidateAll, ChangeBackup, DeleteObsolete, DeleteBackup, DeleteExpired, ReportObsolete, ReportNeedBackup, ReportSchema, ListIncarnation, ListBackup, ListCopy, ListArchived, ShowAll, Dump, Retention, Parallelism, CatalogName, LoseDatafile, LoseLog, Remove, Damage, Cut, Rename}
+use Rattle.rm_command.specs.declared.command.Inner.{Inner}
+use Rattle.rm_command.specs.declared.command.Inner.TheVariants.{SetUntil, AllocateChannel, Plain as PlainInner}
+use Rattle.rm_command.specs.declared.command.Statement.{Statement}
+use Rattle.rm_command.specs.declared.command.Statement.TheVariants.{Plain, Run}
+use Rattle.rm_command.specs.Creating.{create_database_line, write_part, write_line, create_datafile_line, switch_logfile_line, archive_log_line, track_line, untrack_line}
+use Rattle.rm_command.specs.Modes.{startup_line, reset_database_line, open_database_line}
+use Rattle.rm_command.specs.Recovering.{scn_part, log_or_time, until_line, incarnation_line, restore_line, restore_datafile_line, recover_line, recover_copy_line}
+use Rattle.rm_command.specs.Backups.{as_line, level_line, merge_line, database_line, files_line, tag_line, keep_line, during_line, backup_line, backup_logs_line}
+use Rattle.rm_command.specs.Upkeep.{copy_or_archived, withdrawing, one_or_expired, crosscheck_line, validate_line, change_line, delete_line}
+use Rattle.rm_command.specs.Asking.{report_obsolete_line, report_need_backup_line, report_schema_line, list_incarnation_line, list_backup_line, list_copy_line, list_archived_line, show_line, dump_line}
+use Rattle.rm_command.specs.Settings.{policy_part, retention_line, parallelism_line, catalog_line}
+use Rattle.rm_command.specs.Drills.{lose_datafile_line, lose_log_line, remove_line, damage_line, cut_line, rename_line}
+use Rattle.rm_command.specs.Language.{set_until_line, allocate_line, IsStatement}
+use Rattle.rm_command.specs.Values.{write_values, until_choice, until_values, incarnation_values, kind_values, kind_asked, level_values, level_asked, merge_values, files_values, tag_values, keep_values, during_values, backup_values, class_choice, change_choice, deletion_choice, retention_choice}
 
 -- the tokens that spell the command
 abbrev pub tokens_of : Command → List Token
 tokens_of (CreateDatabase dbid threads scn) = spelled create_database_line (dbid, (threads, (scn, tt)))
 tokens_of (CreateDatafile blocks) = spelled create_datafile_line (blocks, tt)
-tokens_of (Write w) = spelled write_line (w.thread, (w.file, (w.block, (w.content.0, tt))))
+tokens_of (Write w) = spelled write_line (write_values w)
 tokens_of (SwitchLogfile thread) = spelled switch_logfile_line (thread, tt)
 tokens_of ArchiveLogCurrent = spelled archive_log_line tt
 tokens_of Mount = spelled startup_line tt
 tokens_of OpenPlain = spelled open_database_line (false, tt)
 tokens_of OpenResetlogs = spelled open_database_line (true, tt)
+tokens_of (Tracking true) = spelled track_line tt
+tokens_of (Tracking false) = spelled untrack_line tt
 tokens_of (ResetDatabase inc) = spelled reset_database_line (inc, tt)
-tokens_of (Recover until) = recover_spelled until None false
-tokens_of (RecoverTest until inc) = recover_spelled until inc true
+tokens_of (Restore None until) = spelled restore_line (option_map until_values until, (false, tt))
+tokens_of (Restore (Some file) until) = spelled restore_datafile_line (file, (option_map until_values until, tt))
+tokens_of (Preview until) = spelled restore_line (option_map until_values until, (true, tt))
+tokens_of (Recover until) = spelled recover_line (option_map until_values until, (None, (false, tt)))
+tokens_of (RecoverTest until inc) = spelled recover_line (option_map until_values until, (option_map incarnation_values inc, (true, tt)))
+tokens_of (RecoverCopy tag until) = spelled recover_copy_line (tag, (option_map until_values until, tt))
 tokens_of (Backup b) = spelled backup_line (backup_values b)
+tokens_of BackupLogs = spelled backup_logs_line tt
+tokens_of (Crosscheck class) = spelled crosscheck_line (class_choice class, tt)
+tokens_of ValidateAll = spelled validate_line tt
+tokens_of (ChangeBackup id to) = spelled change_line (id, (change_choice to, tt))
+tokens_of DeleteObsolete = spelled delete_line (deletion_choice Obsolete, tt)
+tokens_of (DeleteBackup id) = spelled delete_line (deletion_choice (One id), tt)
+tokens_of (DeleteExpired class) = spelled delete_line (deletion_choice (Expired class), tt)
+tokens_of ReportObsolete = spelled report_obsolete_line tt
+tokens_of ReportNeedBackup = spelled report_need_backup_line tt
+tokens_of ReportSchema = spelled report_schema_line tt
 tokens_of ListIncarnation = spelled list_incarnation_line tt
+tokens_of ListBackup = spelled list_backup_line tt
+tokens_of ListCopy = spelled list_copy_line tt
+tokens_of ListArchived = spelled list_archived_line tt
+tokens_of ShowAll = spelled show_line tt
 tokens_of (Dump file block) = spelled dump_line (file, (block, tt))
+tokens_of (Retention form) = spelled retention_line (retention_choice form, tt)
+tokens_of (Parallelism channels) = spelled parallelism_line (channels, tt)
+tokens_of (CatalogName name) = spelled catalog_line (name, tt)
+tokens_of (LoseDatafile file) = spelled lose_datafile_line (file, tt)
+tokens_of (LoseLog thread) = spelled lose_log_line (thread, tt)
+tokens_of (Remove name) = spelled remove_line (name, tt)
+tokens_of (Damage name at) = spelled damage_line (name, (at, tt))
+tokens_of (Cut name to) = spelled cut_line (name, (to, tt))
+tokens_of (Rename old new_name) = spelled rename_line (old, (new_name, tt))
 
--- the bytes are one statement, which is this command
-pub record ReadsAs (bytes : List ℕ) (c : Command) : Type 0 where
+abbrev pub inner_tokens : Inner → List Token
+inner_tokens (PlainInner c) = tokens_of c
+inner_tokens (SetUntil until) = spelled set_until_line (until_values until)
+inner_tokens AllocateChannel = spelled allocate_line tt
+
+-- the tokens that spell the statement
+abbrev pub statement_tokens : Statement → List Token
+statement_tokens (Plain c) = tokens_of c
+statement_tokens (Run inner) = Word (codes "RUN") ∷ Sign 123 ∷ (flat_map inner_tokens inner ++ Sign 125 ∷ [])
+
+-- the bytes are one statement, which is this one
+pub record ReadsAs (bytes : List ℕ) (s : Statement) : Type 0 where
   pub tokens : List Token
   pub alone : statements bytes ≡ (1, tokens) ∷ []
-  pub command : IsCommand tokens c
+  pub statement : IsStatement tokens s

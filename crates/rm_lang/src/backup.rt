@@ -1,117 +1,168 @@
-//! BACKUP, which has many parts.
-ghost use Rattle.std.specs.Prelude.{◌≡◌};
+//! The tokens of a write and of a backup.
+ghost use Rattle.std.specs.Prelude.{◌≡◌, ◌++◌, codes, IfOk, OnOk, IsTrue, map};
 ghost use Rattle.std.specs.Option.{option_map};
-ghost use Rattle.rm_grammar.specs.Reading.{Gives, read, maybe, one_of, begins};
-ghost use Rattle.rm_grammar.specs.Forms.{command_by};
-ghost use Rattle.rm_lang.specs.Files.{in_order};
-ghost use Rattle.rm_lang.specs.Forms.{as_line, is_copy, level_line, database_line, files_line, tag_line, keep_line, backup};
-ghost use Rattle.rm_lang.specs.Spelling.{kind_values, level_values, files_values, tag_values, keep_values};
+ghost use Rattle.std.specs.List.{list_all};
+ghost use Rattle.rm_grammar.specs.Spelling.{spelled, maybe_spelled, one_spelled, many_spelled, is_capital_tag, maybe_valid};
+ghost use Rattle.rm_command.specs.Creating.{write_part, write_line};
+ghost use Rattle.rm_command.specs.Backups.{as_line, level_line, merge_line, database_line, files_line, tag_line, keep_line, during_line, backup_line};
+ghost use Rattle.rm_lang.specs.IsCommand.{is_write, is_backup};
+ghost use Rattle.rm_command.specs.Values.{write_values, kind_values, kind_asked, level_values, level_asked, merge_values, files_values, tag_values, keep_values, during_values, backup_values};
 
-use crate::command::{BackupForm, Command};
-use rm_base::{Seq, Text};
-use rm_grammar::Unread;
-use rm_grammar::reading::{begins_with, finish, number_in, numbers, semicolon, tag, word};
-use rm_token::Token;
+use rm_command::{BackupForm, WriteForm};
+use rm_base::{NoMemory, Seq, Text};
+use rm_grammar::Spelling;
 use std::alloc::Global;
 
-// What an AS asks for.
-#[derive(Clone, Copy, Debug, PartialEq, Eq)]
-enum Kind {
-    Copy,
-    Sets,
+// What stands behind the WRITE.
+#[tactic(auto, using(crate::proofs::Contents::shown_string))]
+fn write_part(alloc: Global, form: WriteForm) -> Result<Spelling, NoMemory>
+    requires { IsTrue (is_write form) }
+    ensures { IfOk result (λ ts. ts ≡ spelled write_part (write_values form)) }
+{
+    let mut spelling = Spelling::new(alloc);
+    spelling.number_or("THREAD", 1, form.thread)?;
+    spelling.word("DATAFILE")?;
+    spelling.number(form.file)?;
+    spelling.word("BLOCK")?;
+    spelling.number(form.block)?;
+    spelling.word("VALUE")?;
+    spelling.string(form.content.trimmed())?;
+    spelling.sign(b';')?;
+    Ok(spelling)
 }
 
-// AS COPY or AS BACKUPSET, or nothing.
-fn optional_kind(tokens: &[Token]) -> Result<(Option<Kind>, &[Token]), Unread>
-    ensures { Gives (λ x. (option_map kind_values x.0, x.1.now)) result (maybe (begins as_line tokens.now) (read as_line tokens.now) tokens.now) }
+pub fn write(alloc: Global, form: WriteForm) -> Result<Spelling, NoMemory>
+    requires { IsTrue (is_write form) }
+    ensures { IfOk result (λ ts. ts ≡ spelled write_line (write_values form)) }
 {
-    if !begins_with(tokens, b"AS") {
-        return Ok((None, tokens));
+    let mut spelling = Spelling::new(alloc);
+    spelling.word("WRITE")?;
+    spelling.append(write_part(alloc, form)?)?;
+    Ok(spelling)
+}
+
+// AS COPY, where copies are asked for.
+fn kind(alloc: Global, copy: bool) -> Result<Spelling, NoMemory>
+    ensures { IfOk result (λ ts. ts ≡ maybe_spelled (spelled as_line) (option_map kind_values (kind_asked copy))) }
+{
+    let mut spelling = Spelling::new(alloc);
+    if copy {
+        spelling.word("AS")?;
+        spelling.word("COPY")?;
     }
-    let rest = word(tokens, b"AS")?;
-    if begins_with(rest, b"COPY") {
-        return Ok((Some(Kind::Copy), word(rest, b"COPY")?));
+    Ok(spelling)
+}
+
+// The level, if there is one.
+fn level(alloc: Global, level: Option<u8>, cumulative: bool) -> Result<Spelling, NoMemory>
+    ensures { IfOk result (λ ts. ts ≡ maybe_spelled (spelled level_line) (option_map level_values (option_map (level_asked cumulative) level))) }
+{
+    let mut spelling = Spelling::new(alloc);
+    if let Some(level) = level {
+        spelling.word("INCREMENTAL")?;
+        spelling.word("LEVEL")?;
+        spelling.number(level as u64)?;
+        spelling.flag("CUMULATIVE", cumulative)?;
     }
-    Ok((Some(Kind::Sets), word(rest, b"BACKUPSET")?))
+    Ok(spelling)
 }
 
-// AS BACKUPSET asks for what is made anyway.
-fn is_copy(kind: Option<Kind>) -> bool
-    ensures { result ≡ is_copy kind }
+// FOR RECOVER OF COPY WITH the tag, if there is one.
+fn merge(alloc: Global, tag: &Option<Text>) -> Result<Spelling, NoMemory>
+    requires { IsTrue (maybe_valid is_capital_tag tag.now) }
+    ensures { IfOk result (λ ts. ts ≡ maybe_spelled (spelled merge_line) (option_map merge_values tag.now)) }
 {
-    matches!(kind, Some(Kind::Copy))
-}
-
-// INCREMENTAL LEVEL 0, or nothing.
-fn optional_level(tokens: &[Token]) -> Result<(Option<u8>, &[Token]), Unread>
-    ensures { Gives (λ x. (option_map level_values x.0, x.1.now)) result (maybe (begins level_line tokens.now) (read level_line tokens.now) tokens.now) }
-{
-    if !begins_with(tokens, b"INCREMENTAL") {
-        return Ok((None, tokens));
+    let mut spelling = Spelling::new(alloc);
+    if let Some(tag) = tag {
+        spelling.word("FOR")?;
+        spelling.word("RECOVER")?;
+        spelling.word("OF")?;
+        spelling.word("COPY")?;
+        spelling.word("WITH")?;
+        spelling.tag(tag.as_bytes())?;
     }
-    let rest = word(word(tokens, b"INCREMENTAL")?, b"LEVEL")?;
-    let (level, rest) = number_in(rest, 0, 0)?;
-    Ok((Some(level as u8), rest))
+    Ok(spelling)
 }
 
-// DATABASE, or the datafiles as they stand.
-fn named_files(alloc: Global, tokens: &[Token]) -> Result<(Option<Seq<u64>>, &[Token]), Unread>
-    ensures { Gives (λ x. (files_values x.0, x.1.now)) result (one_of (begins database_line tokens.now) (read database_line tokens.now) (read files_line tokens.now)) }
+// The datafiles, or DATABASE for all of them.
+fn files(alloc: Global, files: &Option<Seq<u64>>) -> Result<Spelling, NoMemory>
+    ensures { IfOk result (λ ts. ts ≡ one_spelled (spelled database_line) (spelled files_line) (files_values files.now)) }
 {
-    if begins_with(tokens, b"DATABASE") {
-        return Ok((None, word(tokens, b"DATABASE")?));
+    let mut spelling = Spelling::new(alloc);
+    match files {
+        None => spelling.word("DATABASE")?,
+        Some(files) => {
+            spelling.word("DATAFILE")?;
+            spelling.numbers(files.as_slice())?;
+        }
     }
-    let (files, rest) = numbers(alloc, word(tokens, b"DATAFILE")?)?;
-    Ok((Some(files), rest))
+    Ok(spelling)
 }
 
-// The numbers, ascending and each once. It takes no memory.
-fn in_order(numbers: Seq<u64>) -> Seq<u64>
-    ensures { result ≡ in_order numbers }
+// The tag, if there is one.
+fn tag(alloc: Global, tag: &Option<Text>) -> Result<Spelling, NoMemory>
+    requires { IsTrue (maybe_valid is_capital_tag tag.now) }
+    ensures { IfOk result (λ ts. ts ≡ maybe_spelled (spelled tag_line) (option_map tag_values tag.now)) }
 {
-    let mut numbers = numbers.into_vec();
-    numbers.sort_unstable();
-    numbers.dedup();
-    Seq::from_vec(numbers)
-}
-
-// TAG tag, or nothing.
-fn optional_tag(alloc: Global, tokens: &[Token]) -> Result<(Option<Text>, &[Token]), Unread>
-    ensures { Gives (λ x. (option_map tag_values x.0, x.1.now)) result (maybe (begins tag_line tokens.now) (read tag_line tokens.now) tokens.now) }
-{
-    if !begins_with(tokens, b"TAG") {
-        return Ok((None, tokens));
+    let mut spelling = Spelling::new(alloc);
+    if let Some(tag) = tag {
+        spelling.tag(tag.as_bytes())?;
     }
-    let (name, rest) = tag(alloc, tokens)?;
-    Ok((Some(name), rest))
+    Ok(spelling)
 }
 
-// KEEP FOREVER, or nothing.
-fn optional_keep(tokens: &[Token]) -> Result<(bool, &[Token]), Unread>
-    ensures { Gives (λ x. (keep_values x.0, x.1.now)) result (maybe (begins keep_line tokens.now) (read keep_line tokens.now) tokens.now) }
+// KEEP FOREVER, where it is kept.
+fn keep(alloc: Global, keep: bool) -> Result<Spelling, NoMemory>
+    ensures { IfOk result (λ ts. ts ≡ maybe_spelled (spelled keep_line) (keep_values keep)) }
 {
-    if !begins_with(tokens, b"KEEP") {
-        return Ok((false, tokens));
+    let mut spelling = Spelling::new(alloc);
+    if keep {
+        spelling.word("KEEP")?;
+        spelling.word("FOREVER")?;
     }
-    let rest = word(word(tokens, b"KEEP")?, b"FOREVER")?;
-    Ok((true, rest))
+    Ok(spelling)
 }
 
-#[tactic(auto, using(crate::proofs::Parts::parts), unfolding(crate::specs::Forms::backup))]
-pub fn backup(alloc: Global, tokens: &[Token]) -> Result<Command, Unread>
-    ensures { Gives (λ x. x) result (command_by backup tokens.now) }
+// The writes, one behind the other.
+fn writes(alloc: Global, writes: &[WriteForm]) -> Result<Spelling, NoMemory>
+    requires { IsTrue (list_all is_write writes.now) }
+    ensures { IfOk result (λ ts. ts ≡ many_spelled (codes "WRITE") (spelled write_part) (map write_values writes.now)) }
 {
-    let (kind, rest) = optional_kind(word(tokens, b"BACKUP")?)?;
-    let (level, rest) = optional_level(rest)?;
-    let (files, rest) = named_files(alloc, rest)?;
-    let (tag, rest) = optional_tag(alloc, rest)?;
-    let (keep, rest) = optional_keep(rest)?;
-    finish(semicolon(rest)?)?;
-    Ok(Command::Backup(BackupForm {
-        copy: is_copy(kind),
-        level,
-        files: files.map(in_order),
-        tag,
-        keep,
-    }))
+    let mut spelling = Spelling::new(alloc);
+    for form in writes {
+        spelling.append(write(alloc, *form)?)?;
+    }
+    Ok(spelling)
+}
+
+// DURING and the writes, if it stands there.
+fn during(alloc: Global, during: &Option<Seq<WriteForm>>) -> Result<Spelling, NoMemory>
+    requires { IsTrue (maybe_valid (list_all is_write) during.now) }
+    ensures { IfOk result (λ ts. ts ≡ maybe_spelled (spelled during_line) (option_map during_values during.now)) }
+{
+    let mut spelling = Spelling::new(alloc);
+    if let Some(forms) = during {
+        spelling.word("DURING")?;
+        spelling.sign(b'{')?;
+        spelling.append(writes(alloc, forms.as_slice())?)?;
+        spelling.sign(b'}')?;
+    }
+    Ok(spelling)
+}
+
+pub fn backup(alloc: Global, form: &BackupForm) -> Result<Spelling, NoMemory>
+    requires { IsTrue (is_backup form.now) }
+    ensures { IfOk result (λ ts. ts ≡ spelled backup_line (backup_values form.now)) }
+{
+    let mut spelling = Spelling::new(alloc);
+    spelling.word("BACKUP")?;
+    spelling.append(kind(alloc, form.copy)?)?;
+    spelling.append(level(alloc, form.level, form.cumulative)?)?;
+    spelling.append(merge(alloc, &form.merge_tag)?)?;
+    spelling.append(files(alloc, &form.files)?)?;
+    spelling.append(tag(alloc, &form.tag)?)?;
+    spelling.append(keep(alloc, form.keep)?)?;
+    spelling.append(during(alloc, &form.during)?)?;
+    spelling.sign(b';')?;
+    Ok(spelling)
 }

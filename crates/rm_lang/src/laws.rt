@@ -1,15 +1,15 @@
 //! What reading a statement means.
 ghost use Rattle.std.specs.Prelude.{◌≡◌, ◌↔◌, List, Some};
 ghost use Rattle.rm_token.specs.declared.token.Token.{Token as TokenOf};
-ghost use Rattle.rm_lang.specs.declared.command.Command.{Command as CommandOf};
-ghost use Rattle.rm_lang.specs.Language.{IsCommand, command_at};
+ghost use Rattle.rm_command.specs.declared.command.Statement.{Statement as StatementOf};
+ghost use Rattle.rm_command.specs.Language.{IsStatement, statement_at};
 
 /// What is read is what the grammar has.
-pub fn what_is_read_is_the_command()
-    ensures { (ts : List TokenOf) (c : CommandOf) → (command_at ts ≡ Some c) ↔ IsCommand ts c }
+pub fn what_is_read_is_the_statement()
+    ensures { (ts : List TokenOf) (s : StatementOf) → (statement_at ts ≡ Some s) ↔ IsStatement ts s }
 {}
 
-/// A token list is one command at most.
-pub fn one_command()
-    ensures { (ts : List TokenOf) (c d : CommandOf) → IsCommand ts c → IsCommand ts d → c ≡ d }
+/// A token list is one statement at most.
+pub fn one_statement()
+    ensures { (ts : List TokenOf) (s z : StatementOf) → IsStatement ts s → IsStatement ts z → s ≡ z }
 {}

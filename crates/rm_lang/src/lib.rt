@@ -1,17 +1,19 @@
-//! Statements: which tokens are which statement.
+//! Statements: which tokens are which statement, and statements as text.
 #![tactic(auto)]
 
 mod backup;
-pub mod command;
-mod forms;
 pub mod laws;
+mod parts;
+mod plain;
+mod reading;
 mod spelling;
-mod statement;
+mod valid;
+mod with_parts;
 
-pub use command::{BackupForm, Command, Until, WriteForm};
-pub use forms::command_of;
+pub use reading::statement_of;
+pub use rm_command::{
+    BackupForm, ChangeTo, Command, Inner, RetentionForm, Statement, Until, WriteForm,
+};
+pub use rm_token::{Token, statements};
 pub use spelling::text_of;
-pub use statement::is_command;
-
-#[cfg(test)]
-mod tests;
+pub use valid::{is_command, is_statement};

@@ -3,7 +3,11 @@
 
 mod moments;
 mod replies;
+mod statements;
 mod table;
+#[cfg(test)]
+mod tests;
+mod words;
 
 ghost use Rattle.std.specs.Prelude.{IfOk, IfSome};
 ghost use Rattle.rm_report.specs.Reply.{LineHasDate};
@@ -78,5 +82,8 @@ fn main(rt: HostRuntime) -> io::Result<()> {
     print_named(&rt)?;
     Table::Times.print(&rt)?;
     Table::Moments.print(&rt)?;
-    Table::Marks.print(&rt)
+    Table::Marks.print(&rt)?;
+    Table::Statements.print(&rt)?;
+    Table::Refused.print(&rt)?;
+    Table::Words.print(&rt)
 }

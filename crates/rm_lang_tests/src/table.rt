@@ -1,5 +1,7 @@
 //! The tables of `data/`: a file for each, and a line for each case, `GIVEN # WANTED`.
 use crate::moments::{marks, shown, time};
+use crate::statements::{texts, texts_again};
+use crate::words::said;
 use rm_base::NoMemory;
 use std::alloc::Global;
 use std::{fs, io};
@@ -10,6 +12,9 @@ pub enum Table {
     Times,
     Moments,
     Marks,
+    Statements,
+    Refused,
+    Words,
 }
 
 impl Table {
@@ -18,6 +23,9 @@ impl Table {
             Table::Times => "times",
             Table::Moments => "moments",
             Table::Marks => "marks",
+            Table::Statements => "statements",
+            Table::Refused => "refused",
+            Table::Words => "words",
         }
     }
 
@@ -27,6 +35,9 @@ impl Table {
             Table::Times => time(alloc, given),
             Table::Moments => shown(alloc, given),
             Table::Marks => marks(alloc, given),
+            Table::Statements => texts_again(alloc, given),
+            Table::Refused => texts(alloc, given),
+            Table::Words => said(alloc, given),
         }
     }
 

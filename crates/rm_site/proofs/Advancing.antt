@@ -6,7 +6,7 @@ use Rattle.rm_base.specs.declared.block.Change.{Change}
 use Rattle.rm_history.specs.declared.world.World.{World}
 use Rattle.rm_history.specs.Tree.{branched, with_branch, with_end}
 use Rattle.rm_history.proofs.Branches.{length-with_branch}
-use Rattle.rm_lang.specs.declared.command.Command.{Command}
+use Rattle.rm_command.specs.declared.command.Command.{Command}
 use Rattle.rm_ledger.specs.Growth.{TreeGrows, FilesGrow}
 use Rattle.rm_report.specs.declared.line.Reply.{Reply}
 use Rattle.rm_database.specs.declared.database.Archived.{Archived}

@@ -8,8 +8,8 @@ use Rattle.rm_history.specs.World.{with_tree}
 use Rattle.rm_history.proofs.Ends.{owner-with_end}
 use Rattle.rm_history.proofs.Growth.{BaseAgrees-grown, LogAgrees-grown}
 use Rattle.rm_history.proofs.Worlds.{BaseAgrees-with_branch, BaseAgrees-with_end, BaseAgrees-with_file}
-use Rattle.rm_lang.specs.declared.command.Command.{Command}
-use Rattle.rm_lang.specs.declared.command.WriteForm.{WriteForm}
+use Rattle.rm_command.specs.declared.command.Command.{Command}
+use Rattle.rm_command.specs.declared.command.WriteForm.{WriteForm}
 use Rattle.rm_ledger.proofs.Trees.{Keeps as KeepsTree, grown_keeps}
 use Rattle.rm_piece.specs.Artefacts.{base_of}
 use Rattle.rm_redo.specs.LogFile.{log_of}

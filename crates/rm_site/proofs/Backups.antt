@@ -9,9 +9,9 @@ use Rattle.rm_base.specs.declared.block.Change.{Change}
 use Rattle.rm_base.specs.declared.kinds.Kind.{Kind}
 use Rattle.rm_base.specs.declared.kinds.Kind.TheVariants.{Full, Level0}
 use Rattle.rm_base.proofs.Sealing.{length-sealed}
-use Rattle.rm_lang.specs.declared.command.BackupForm.{BackupForm}
-use Rattle.rm_lang.specs.declared.command.Command.{Command}
-use Rattle.rm_lang.specs.declared.command.Command.TheVariants.{CreateDatabase, CreateDatafile, Write, SwitchLogfile, ArchiveLogCurrent, Mount, OpenPlain, OpenResetlogs, ResetDatabase, Recover, RecoverTest, Backup, ListIncarnation, Dump}
+use Rattle.rm_command.specs.declared.command.BackupForm.{BackupForm}
+use Rattle.rm_command.specs.declared.command.Command.{Command}
+use Rattle.rm_command.specs.declared.command.Command.TheVariants.{CreateDatabase, CreateDatafile, Write, SwitchLogfile, ArchiveLogCurrent, Mount, OpenPlain, OpenResetlogs, ResetDatabase, Recover, RecoverTest, Backup, ListIncarnation, Dump}
 use Rattle.rm_lang.specs.IsCommand.{is_command}
 use Rattle.rm_history.specs.declared.tree.Incarnation.{Incarnation}
 use Rattle.rm_history.specs.Agrees.{BaseAgrees}
@@ -195,3 +195,4 @@ saved-are p q h k (Backup b) reply moment saved old new keeps valid accepted d i
     (subst (AreSaved p (backed_up p b) h (Backup b)) (sym is.2) (backup-saved p h b moment is.0 old keeps tagged accepted)))
 saved-are p q h k ListIncarnation reply moment saved old new keeps valid accepted d is = none-saved p q k ListIncarnation saved refl is
 saved-are p q h k (Dump file block) reply moment saved old new keeps valid accepted d is = none-saved p q k (Dump file block) saved refl is
+saved-are p q h k c reply moment saved old new keeps valid accepted d is = elim d [ ]

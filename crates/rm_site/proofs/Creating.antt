@@ -23,7 +23,7 @@ use Rattle.rm_database.specs.Machine as inner_machine
 use Rattle.rm_database.specs.Parts.{Parts}
 use Rattle.rm_database.specs.Step as inner
 use Rattle.rm_lang.specs.IsCommand.{is_command}
-use Rattle.rm_lang.specs.declared.command.Command.TheVariants.{CreateDatabase}
+use Rattle.rm_command.specs.declared.command.Command.TheVariants.{CreateDatabase}
 use Rattle.rm_ledger.specs.Facts.{IsLedger}
 use Rattle.rm_ledger.specs.Growth.{fresh, fresh_edits}
 use Rattle.rm_ledger.specs.Ledger.{Ledger, records_of}

@@ -7,7 +7,7 @@ use Rattle.rm_database.specs.Machine as inner
 use Rattle.rm_database.specs.Parts.{Parts}
 use Rattle.rm_database.specs.Step as database
 use Rattle.rm_database.proofs.Dates.{Dated, no, so, by, refusal_dated, step_dated}
-use Rattle.rm_lang.specs.declared.command.Command.{Command}
+use Rattle.rm_command.specs.declared.command.Command.{Command}
 use Rattle.rm_report.specs.declared.line.Reply.{Reply}
 use Rattle.rm_report.specs.Reply.{HasDates}
 use Rattle.rm_site.specs.Limits.{first_of, is_early, room_refusal}

@@ -19,7 +19,7 @@ use Rattle.rm_database.specs.Sound.{IsSound, IsArchived}
 use Rattle.rm_history.specs.declared.tree.Incarnation.{Incarnation}
 use Rattle.rm_history.specs.declared.world.World.{World}
 use Rattle.rm_history.specs.Tree.{parent_of}
-use Rattle.rm_lang.specs.declared.command.Command.{Command}
+use Rattle.rm_command.specs.declared.command.Command.{Command}
 use Rattle.rm_ledger.specs.Facts.{AreIncarnations, AreDatafiles, IsLogEntry, IsPieceEntry, AreIds, IsMark, Rise, HasMark, IsLedger}
 use Rattle.rm_ledger.specs.Growth.{Fits, TreeGrows, FilesGrow, grown}
 use Rattle.rm_ledger.specs.Ledger.{Ledger, records_of, incarnation_record, datafile_record, mark_record}

@@ -23,7 +23,7 @@ use Rattle.rm_database.specs.Parts.{Parts}
 use Rattle.rm_database.specs.Sound.{IsSound}
 use Rattle.rm_database.specs.Step.{DoneIn, refusal_in}
 use Rattle.rm_database.specs.Step as inner
-use Rattle.rm_lang.specs.declared.command.Command.{Command}
+use Rattle.rm_command.specs.declared.command.Command.{Command}
 use Rattle.rm_lang.specs.IsCommand.{is_command}
 use Rattle.rm_ledger.specs.Facts.{IsLedger}
 use Rattle.rm_ledger.specs.Growth.{Fits, grown, edits_of}

@@ -5,9 +5,9 @@ use Rattle.rm_base.specs.declared.block.Change.{Change}
 use Rattle.rm_history.specs.declared.world.World.{World}
 use Rattle.rm_history.specs.Tree.{IsThere, with_branch}
 use Rattle.rm_history.specs.World.{with_tree}
-use Rattle.rm_lang.specs.declared.command.Command.{Command}
-use Rattle.rm_lang.specs.declared.command.Command.TheVariants.{CreateDatabase, CreateDatafile, Write, SwitchLogfile, ArchiveLogCurrent, Mount, OpenPlain, OpenResetlogs, ResetDatabase, Recover, RecoverTest, Backup, ListIncarnation, Dump}
-use Rattle.rm_lang.specs.declared.command.WriteForm.{WriteForm}
+use Rattle.rm_command.specs.declared.command.Command.{Command}
+use Rattle.rm_command.specs.declared.command.Command.TheVariants.{CreateDatabase, CreateDatafile, Write, SwitchLogfile, ArchiveLogCurrent, Mount, OpenPlain, OpenResetlogs, ResetDatabase, Recover, RecoverTest, Backup, ListIncarnation, Dump}
+use Rattle.rm_command.specs.declared.command.WriteForm.{WriteForm}
 use Rattle.rm_report.specs.declared.line.Reply.{Reply}
 use Rattle.rm_database.specs.Archiving.{after_thread, after_all, due_from}
 use Rattle.rm_database.specs.Backup.{backed_up}
@@ -143,3 +143,4 @@ leads p q h k ListIncarnation reply s accepted d =
     leads-to p p q h h k ListIncarnation d.1 (leads-same p h ListIncarnation s refl refl)
 leads p q h k (Dump file block) reply s accepted d =
     leads-to p p q h h k (Dump file block) d.3 (leads-same p h (Dump file block) s refl refl)
+leads p q h k c reply s accepted d = absurd d

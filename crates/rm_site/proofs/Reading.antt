@@ -8,8 +8,8 @@ use Rattle.rm_database.specs.Machine as inner_machine
 use Rattle.rm_database.specs.Parts.{Parts}
 use Rattle.rm_database.specs.Step.{DoneIn, refusal_in}
 use Rattle.rm_database.specs.Step as inner
-use Rattle.rm_lang.specs.declared.command.Command.{Command}
-use Rattle.rm_lang.specs.declared.command.Command.TheVariants.{CreateDatabase, CreateDatafile, Write, SwitchLogfile, ArchiveLogCurrent, Mount, OpenPlain, OpenResetlogs, ResetDatabase, Recover, RecoverTest, Backup, ListIncarnation, Dump}
+use Rattle.rm_command.specs.declared.command.Command.{Command}
+use Rattle.rm_command.specs.declared.command.Command.TheVariants.{CreateDatabase, CreateDatafile, Write, SwitchLogfile, ArchiveLogCurrent, Mount, OpenPlain, OpenResetlogs, ResetDatabase, Recover, RecoverTest, Backup, ListIncarnation, Dump}
 use Rattle.rm_report.specs.declared.line.Reply.{Reply}
 use Rattle.rm_site.specs.Holds.{Sound, SoundBy}
 use Rattle.rm_site.specs.Limits.{room_refusal}
@@ -35,6 +35,7 @@ told-only p o h k (Backup b) reply reads d = absurd (cc)
 told-only p o h k (RecoverTest until inc) reply reads d = d.1
 told-only p o h k ListIncarnation reply reads d = d.1
 told-only p o h k (Dump file block) reply reads d = d.3
+told-only p o h k c reply reads d = elim d [ ]
 
 -- what it leaves, for each history that the database stands for
 pub told-step : (p : Parts) (o : Option Parts) (c : Command) (reply : Reply) → is_reading c ≡ true → refusal_in p c ≡ None → inner.Steps (Some p) o c reply → (h : List Written) → Keeps p h

@@ -2,8 +2,8 @@
 use Rattle.std.specs.Prelude.{◌≡◌, ◌≤◌, ◌<◌, ◌⊎◌, ℕ, List, [], All, AllPairs, length}
 use Rattle.rm_base.specs.declared.block.Change.{Change}
 use Rattle.rm_history.specs.Agrees.{BaseAgrees}
-use Rattle.rm_lang.specs.declared.command.Command.{Command}
-use Rattle.rm_lang.specs.declared.command.Command.TheVariants.{Backup}
+use Rattle.rm_command.specs.declared.command.Command.{Command}
+use Rattle.rm_command.specs.declared.command.Command.TheVariants.{Backup}
 use Rattle.rm_ledger.specs.Facts.{IsPieceEntry}
 use Rattle.rm_objects.specs.Objects.{IsPieceObject}
 use Rattle.rm_piece.specs.Artefacts.{base_of}

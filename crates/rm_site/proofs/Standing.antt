@@ -17,9 +17,9 @@ use Rattle.rm_database.specs.Sound.{IsSound}
 use Rattle.rm_database.specs.Step.{DoneIn, refusal_in}
 use Rattle.rm_database.specs.Step as inner
 use Rattle.rm_database.proofs.Pieces.{new-valid}
-use Rattle.rm_lang.specs.declared.command.Command.{Command}
+use Rattle.rm_command.specs.declared.command.Command.{Command}
 use Rattle.rm_lang.specs.IsCommand.{is_command}
-use Rattle.rm_lang.specs.declared.command.Command.TheVariants.{CreateDatabase, CreateDatafile, Write, SwitchLogfile, ArchiveLogCurrent, Mount, OpenPlain, OpenResetlogs, ResetDatabase, Recover, RecoverTest, Backup, ListIncarnation, Dump}
+use Rattle.rm_command.specs.declared.command.Command.TheVariants.{CreateDatabase, CreateDatafile, Write, SwitchLogfile, ArchiveLogCurrent, Mount, OpenPlain, OpenResetlogs, ResetDatabase, Recover, RecoverTest, Backup, ListIncarnation, Dump}
 use Rattle.rm_ledger.specs.Growth.{Growth, edits_of}
 use Rattle.rm_ledger.specs.Ledger.{Ledger, records_of, numbered, incarnation_record, datafile_record, mark_record}
 use Rattle.rm_ledger.proofs.Lookups.{base-found}
@@ -61,6 +61,7 @@ stays-there p h k (RecoverTest until inc) reply d = gone None h k _ d.1
 stays-there p h k (Backup b) reply d = gone None h k _ d.1
 stays-there p h k ListIncarnation reply d = gone None h k _ d.1
 stays-there p h k (Dump file block) reply d = gone None h k _ d.3
+stays-there p h k c reply d = d
 
 pub none-after : (p : Parts) (rs : List Record) (c : Command) (reply : Reply) (moment : ℕ) → IsRecorded p rs → inner.Steps (Some p) None c reply → refusal_of (Some p) rs c moment ≡ None → ⊥
 none-after p rs c reply moment is steps accepted =

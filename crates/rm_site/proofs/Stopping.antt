@@ -14,7 +14,7 @@ use Rattle.rm_change.proofs.Named.{unnamed-stays}
 use Rattle.rm_change.proofs.Standing.{unnamed}
 use Rattle.rm_database.specs.declared.database.Archived.{Archived}
 use Rattle.rm_database.specs.Parts.{Parts}
-use Rattle.rm_lang.specs.declared.command.Command.{Command}
+use Rattle.rm_command.specs.declared.command.Command.{Command}
 use Rattle.rm_objects.specs.Names.{log_name, piece_name}
 use Rattle.rm_report.specs.declared.line.Reply.{Reply}
 use Rattle.rm_site.specs.Follows.{new_logs, new_objects, log_object}

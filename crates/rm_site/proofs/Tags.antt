@@ -7,7 +7,7 @@ use Rattle.std.proofs.lemmas.List.Elements.{All-head, All-tail}
 use Rattle.rm_token.specs.Tokens.{is_word_byte}
 use Rattle.rm_grammar.specs.Grammar.{capitals, is_tag}
 use Rattle.rm_grammar.specs.Spelling.{is_capital_tag, maybe_valid}
-use Rattle.rm_lang.specs.declared.command.BackupForm.{BackupForm}
+use Rattle.rm_command.specs.declared.command.BackupForm.{BackupForm}
 use Rattle.rm_lang.specs.IsCommand.{is_backup}
 use Rattle.rm_catalog.specs.Objects.{IsTag, is_tag_byte}
 use Rattle.rm_moments.specs.Tags.{IsTagByte}
@@ -49,4 +49,4 @@ tag-by None moment tag valid is = moment-tag moment tag is
 tag-by (Some name) moment tag valid is = subst IsTag (sym is) (named-tag name valid)
 
 pub tag-fits : (b : BackupForm) (moment : ℕ) (tag : List ℕ) → is_backup b ≡ true → IsTagBy b.tag moment tag → IsTag tag
-tag-fits b moment tag valid is = tag-by b.tag moment tag (and_parts _ _ (and_parts _ _ valid).1).1 is
+tag-fits b moment tag valid is = tag-by b.tag moment tag (and_parts _ _ (and_parts _ _ (and_parts _ _ (and_parts _ _ valid).0).1).1).0 is

@@ -2,8 +2,8 @@
 use Rattle.std.specs.Prelude.{◌≡◌, ℕ, ◌+◌, ◌<◌, ◌≤◌, ◌⊎◌, List, ◌++◌, All, AllPairs, length}
 use Rattle.rm_database.specs.declared.database.Archived.{Archived}
 use Rattle.rm_database.specs.Parts.{Parts}
-use Rattle.rm_lang.specs.declared.command.Command.{Command}
-use Rattle.rm_lang.specs.declared.command.Command.TheVariants.{OpenResetlogs}
+use Rattle.rm_command.specs.declared.command.Command.{Command}
+use Rattle.rm_command.specs.declared.command.Command.TheVariants.{OpenResetlogs}
 use Rattle.rm_ledger.specs.Growth.{TreeGrows, FilesGrow}
 
 pub record Advances (p q : Parts) : Type 0 where

@@ -10,8 +10,8 @@ use Rattle.rm_catalog.specs.declared.record.Record.TheVariants as kind
 use Rattle.rm_database.specs.Backup.{taken, backup_bytes}
 use Rattle.rm_database.specs.Archiving.{due_from, bytes_due_from}
 use Rattle.rm_database.specs.Parts.{Parts}
-use Rattle.rm_lang.specs.declared.command.Command.{Command}
-use Rattle.rm_lang.specs.declared.command.Command.TheVariants.{CreateDatafile, SwitchLogfile, ArchiveLogCurrent, OpenResetlogs, Backup}
+use Rattle.rm_command.specs.declared.command.Command.{Command}
+use Rattle.rm_command.specs.declared.command.Command.TheVariants.{CreateDatafile, SwitchLogfile, ArchiveLogCurrent, OpenResetlogs, Backup}
 use Rattle.rm_site.specs.Marks.{marked, is_branch, is_change}
 
 -- the bytes of the object of a log or piece; none of other records

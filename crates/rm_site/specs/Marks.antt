@@ -6,8 +6,8 @@ use Rattle.rm_catalog.specs.declared.record.Record.{Record}
 use Rattle.rm_catalog.specs.declared.record.Record.TheVariants as kind
 use Rattle.rm_catalog.specs.Keys.{base}
 use Rattle.rm_database.specs.Parts.{Parts, now_of}
-use Rattle.rm_lang.specs.declared.command.Command.{Command}
-use Rattle.rm_lang.specs.declared.command.Command.TheVariants.{CreateDatafile, Write, OpenResetlogs}
+use Rattle.rm_command.specs.declared.command.Command.{Command}
+use Rattle.rm_command.specs.declared.command.Command.TheVariants.{CreateDatafile, Write, OpenResetlogs}
 use Rattle.rm_base.specs.Numbers.{last_moment}
 
 -- The moment of a statement: the clock's answer, or the latest moment that was kept, if that is later. No

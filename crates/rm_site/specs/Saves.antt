@@ -7,9 +7,9 @@ use Rattle.rm_change.specs.declared.change.Object.{Object}
 use Rattle.rm_database.specs.declared.backup.NewPiece.{NewPiece}
 use Rattle.rm_database.specs.Backup.{new_pieces}
 use Rattle.rm_database.specs.Parts.{Parts}
-use Rattle.rm_lang.specs.declared.command.BackupForm.{BackupForm}
-use Rattle.rm_lang.specs.declared.command.Command.{Command}
-use Rattle.rm_lang.specs.declared.command.Command.TheVariants.{Backup}
+use Rattle.rm_command.specs.declared.command.BackupForm.{BackupForm}
+use Rattle.rm_command.specs.declared.command.Command.{Command}
+use Rattle.rm_command.specs.declared.command.Command.TheVariants.{Backup}
 use Rattle.rm_moments.specs.Text.{IsTag}
 use Rattle.rm_objects.specs.Names.{piece_name}
 use Rattle.rm_piece.specs.declared.piece.Piece.{Piece}

@@ -7,8 +7,8 @@ use Rattle.rm_catalog.specs.declared.record.Record.{Record}
 use Rattle.rm_database.specs.Machine as inner
 use Rattle.rm_database.specs.Parts.{Parts}
 use Rattle.rm_database.specs.Step as database
-use Rattle.rm_lang.specs.declared.command.Command.{Command}
-use Rattle.rm_lang.specs.declared.command.Command.TheVariants.{CreateDatabase, RecoverTest, ListIncarnation, Dump}
+use Rattle.rm_command.specs.declared.command.Command.{Command}
+use Rattle.rm_command.specs.declared.command.Command.TheVariants.{CreateDatabase, RecoverTest, ListIncarnation, Dump}
 use Rattle.rm_ledger.specs.Growth.{fresh}
 use Rattle.rm_ledger.specs.Ledger.{Ledger}
 use Rattle.rm_report.specs.declared.line.Reply.{Reply}

@@ -6,7 +6,7 @@ use Rattle.rm_catalog.specs.declared.record.PieceEntry.{PieceEntry}
 use Rattle.rm_catalog.specs.declared.record.Record.{Record}
 use Rattle.rm_change.specs.Carrying.{Outside, Tells}
 use Rattle.rm_database.specs.Parts.{Parts}
-use Rattle.rm_lang.specs.declared.command.Command.{Command}
+use Rattle.rm_command.specs.declared.command.Command.{Command}
 use Rattle.rm_ledger.specs.Ledger.{Ledger}
 use Rattle.rm_objects.specs.Names.{log_name, piece_name}
 use Rattle.rm_report.specs.declared.line.Reply.{Reply}

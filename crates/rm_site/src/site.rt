@@ -3,6 +3,7 @@ ghost use Rattle.std.specs.Prelude.{◌≡◌, ◌≤◌, true, false, [], None,
 ghost use Rattle.rm_base.specs.Outside.{Rose};
 ghost use Rattle.rm_change.specs.declared.change.Stop.TheVariants.{StoreFault, KeeperFault};
 ghost use Rattle.rm_lang.specs.IsCommand.{is_command};
+ghost use Rattle.rm_database.specs.Built.{is_built};
 ghost use Rattle.rm_report.specs.Reply.{HasDates};
 ghost use Rattle.rm_catalog.specs.Edits.{after_edits};
 ghost use Rattle.rm_catalog.specs.Rules.{IsValid};
@@ -124,6 +125,7 @@ fn create<D: Store, C: Keeper>(
     moment: Moment,
 ) -> Result<Reply, Stop>
     requires command { IsTrue (is_command command.now) }
+    requires built { IsTrue (is_built command.now) }
     requires none { state.old.instance ≡ None }
     requires standing { IsStanding state.old.instance state.old.catalog }
     requires moment { IsMomentOf state.old.catalog moment }
@@ -160,6 +162,7 @@ fn go_on<D: Store, C: Keeper>(
     moment: Moment,
 ) -> Result<Reply, Stop>
     requires command { IsTrue (is_command command.now) }
+    requires built { IsTrue (is_built command.now) }
     requires there { IsSome state.old.instance }
     requires standing { IsStanding state.old.instance state.old.catalog }
     requires moment { IsMomentOf state.old.catalog moment }
@@ -207,6 +210,7 @@ fn answer<D: Store, C: Keeper>(
     moment: Moment,
 ) -> Result<Reply, Stop>
     requires command { IsTrue (is_command command.now) }
+    requires built { IsTrue (is_built command.now) }
     requires standing { IsStanding state.old.instance state.old.catalog }
     requires moment { IsMomentOf state.old.catalog moment }
     ensures standing { OnOk result (IsStanding state.new.instance state.new.catalog) }
@@ -316,6 +320,7 @@ impl Site {
     ) -> Result<Reply, Stop>
         requires live { self.old.live ≡ true }
         requires command { IsTrue (is_command command.now) }
+        requires built { IsTrue (is_built command.now) }
         ensures step { IfOk result (λ reply. Steps (D.held store.old) (C.kept keeper.old) self.old command.now clock reply (D.held store.new) (C.kept keeper.new) self.new) }
         ensures dates { IfOk result HasDates }
         ensures stopped { OnErr result (Stops (D.held store.old) (C.kept keeper.old) self.old command.now clock (D.held store.new) (C.kept keeper.new)) }

@@ -2,6 +2,7 @@
 use crate::{OpenFault, Site, Stop};
 use rm_base::{Block, Failing, MemStore, NoMemory, Seq, Store, StoreFailing};
 use rm_catalog::{Keeper, MarkEntry, MemKeeper, Record};
+use rm_database::is_built;
 use rm_lang::{Command, WriteForm, is_command};
 use rm_report::bytes_of;
 use std::alloc::Global;
@@ -53,7 +54,7 @@ fn is_answered(
     command: &Command,
     text: &str,
 ) -> Result<bool, Stop> {
-    if !site.live() || !is_command(command) {
+    if !site.live() || !is_command(command) || !is_built(command) {
         return Ok(false);
     }
     let reply = site.step(store, keeper, command, 0)?;

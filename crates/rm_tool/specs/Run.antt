@@ -4,16 +4,16 @@ use Rattle.std.specs.List.{flat_map}
 use Rattle.rm_base.specs.Store.{Answers}
 use Rattle.rm_base.specs.declared.refusal.Refusal.TheVariants.{Rm01}
 use Rattle.rm_token.specs.declared.token.Token.{Token}
-use Rattle.rm_lang.specs.declared.command.Command.{Command}
-use Rattle.rm_lang.specs.Language.{command_at}
+use Rattle.rm_command.specs.declared.command.Command.{Command}
+use Rattle.rm_tool.specs.Built.{command_at}
 use Rattle.rm_report.specs.declared.line.Reply.{Reply}
 use Rattle.rm_report.specs.Reply.{refused_by}
 use Rattle.rm_report.specs.Text.{reply_text}
 use Rattle.rm_site.specs.Machine.{Machine}
 use Rattle.rm_site.specs.Step.{Step}
 
--- A statement of this line, where the clock answers so: one that is no command is refused and changes
--- nothing, and each other one is a step of the machine.
+-- A statement of this line, where the clock answers so: one that is not of the grammar, or not built, is refused
+-- and changes nothing, and each other one is a step of the machine.
 abbrev pub StepOf : Option Command → Machine → ℕ → ℕ → Reply → Machine → Type 0
 StepOf None old line clock reply new = (reply ≡ refused_by (Rm01 line)) × (new ≡ old)
 StepOf (Some c) old line clock reply new = Step old c clock reply new

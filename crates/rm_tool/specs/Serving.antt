@@ -7,8 +7,8 @@ use Rattle.rm_catalog.specs.declared.record.Record.{Record}
 use Rattle.rm_change.specs.Carrying.{Outside, Tells}
 use Rattle.rm_change.specs.declared.change.Stop.{Stop}
 use Rattle.rm_change.specs.declared.change.Stop.TheVariants as stop
-use Rattle.rm_lang.specs.declared.command.Command.{Command}
-use Rattle.rm_lang.specs.Language.{command_at}
+use Rattle.rm_command.specs.declared.command.Command.{Command}
+use Rattle.rm_tool.specs.Built.{command_at}
 use Rattle.rm_token.specs.declared.token.Token.{Token}
 use Rattle.rm_report.specs.declared.line.Reply.{Reply}
 use Rattle.rm_site.specs.Holds.{Holds}

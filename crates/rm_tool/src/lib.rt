@@ -2,6 +2,7 @@
 #![tactic(auto)]
 
 mod adapters;
+mod built;
 mod ends;
 mod opening;
 pub mod run;

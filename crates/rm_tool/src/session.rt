@@ -5,12 +5,12 @@ ghost use Rattle.rm_change.specs.declared.change.Stop.TheVariants.{StoreFault, K
 ghost use Rattle.rm_report.specs.Reply.{HasDates};
 ghost use Rattle.rm_tool.specs.Serving.{IsServed, IsCutShort, FromEach, Serves, EndsAtStatement, EndsInReplies};
 
+use crate::built::command_of;
 use crate::ends::write_all;
 use rm_base::{Clock, Failed, NoMemory, Refusal, Seq, Sink, Store};
 use rm_catalog::Keeper;
 use rm_change::Stop;
 use rm_database::refusal_reply;
-use rm_lang::command_of;
 use rm_report::{Reply, bytes_of};
 use rm_site::Site;
 use rm_token::Token;
@@ -60,7 +60,7 @@ impl From<Failed> for Halt {
 }
 
 // One statement: a step of the machine at the clock's next answer, or the refusal of one that is not
-// of the grammar, for which the clock is not asked.
+// of the grammar or not built, for which the clock is not asked.
 fn serve<D: Store, C: Keeper, T: Clock>(
     alloc: Global,
     site: &mut Site,

@@ -1,5 +1,5 @@
 use Rattle.std.proofs.Common.{◌≡◌, ◌∙◌, Some, None, ap, refl, sym}
-use Rattle.rm_lang.specs.declared.command.Command.TheVariants.{Backup}
+use Rattle.rm_command.specs.declared.command.Command.TheVariants.{Backup}
 use Rattle.rm_report.specs.Reply.{said}
 use Rattle.rm_database.specs.Backup.{backed_up, backup_refusal}
 use Rattle.rm_database.specs.Parts.{Parts}

@@ -1,5 +1,5 @@
 use Rattle.std.proofs.Common.{◌∙◌, sym, ap, refl, Some}
-use Rattle.rm_lang.specs.declared.command.Command.TheVariants.{CreateDatafile}
+use Rattle.rm_command.specs.declared.command.Command.TheVariants.{CreateDatafile}
 use Rattle.rm_database.specs.Parts.{Parts}
 use Rattle.rm_database.specs.CreateDatafile.{with_datafile}
 use Rattle.rm_database.proofs.KeptWrites.{keeps-datafile}

@@ -1,5 +1,5 @@
 use Rattle.std.proofs.Common.{◌≡◌, ◌∙◌, Option, Some, true, false, Bool, ap, sym, subst, refl, cond}
-use Rattle.rm_lang.specs.declared.command.Command.TheVariants.{Mount}
+use Rattle.rm_command.specs.declared.command.Command.TheVariants.{Mount}
 use Rattle.rm_database.specs.Machine.{machine}
 use Rattle.rm_database.specs.Mount.{mounted}
 use Rattle.rm_database.specs.Parts.{Parts}

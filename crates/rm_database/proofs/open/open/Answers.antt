@@ -1,5 +1,5 @@
 use Rattle.std.proofs.Common.{◌∙◌, ◌≡◌, sym, ap, refl, Some, None}
-use Rattle.rm_lang.specs.declared.command.Command.TheVariants.{OpenPlain}
+use Rattle.rm_command.specs.declared.command.Command.TheVariants.{OpenPlain}
 use Rattle.rm_database.specs.Open.{open_refusal, opened}
 use Rattle.rm_database.specs.Parts.{Parts, now_of}
 use Rattle.rm_database.proofs.KeptOpenings.{keeps-opened}

@@ -1,6 +1,6 @@
 use Rattle.std.proofs.Common.{◌≡◌, ◌<◌, ◌∙◌, ◌++◌, ◌∷◌, [], ℕ, List, Some, None, false, ap, length, refl, subst, sym}
 use Rattle.rm_history.specs.declared.world.World.{World}
-use Rattle.rm_lang.specs.declared.command.Command.TheVariants.{OpenResetlogs}
+use Rattle.rm_command.specs.declared.command.Command.TheVariants.{OpenResetlogs}
 use Rattle.rm_report.specs.declared.line.Line.{Line}
 use Rattle.rm_report.specs.declared.line.Line.TheVariants.{Opened}
 use Rattle.rm_report.specs.Reply.{said}

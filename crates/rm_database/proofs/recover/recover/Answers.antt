@@ -1,7 +1,7 @@
 use Rattle.std.proofs.Common.{◌≡◌, ◌∙◌, ◌∷◌, [], ℕ, List, Option, Some, None, ap, refl, sym, count_by}
 use Rattle.rm_blocks.specs.File.{File}
 use Rattle.rm_history.specs.World.{exists}
-use Rattle.rm_lang.specs.declared.command.Command.TheVariants.{Recover}
+use Rattle.rm_command.specs.declared.command.Command.TheVariants.{Recover}
 use Rattle.rm_report.specs.declared.line.Line.TheVariants.{Recovered}
 use Rattle.rm_report.specs.declared.line.Reply.{Reply}
 use Rattle.rm_report.specs.Reply.{said}

@@ -1,7 +1,7 @@
 use Rattle.std.proofs.Common.{◌≡◌, ◌∙◌, ◌∷◌, ℕ, List, Option, Some, ap, refl, count_by}
 use Rattle.rm_blocks.specs.File.{File}
 use Rattle.rm_history.specs.World.{exists}
-use Rattle.rm_lang.specs.declared.command.Command.TheVariants.{RecoverTest}
+use Rattle.rm_command.specs.declared.command.Command.TheVariants.{RecoverTest}
 use Rattle.rm_report.specs.declared.line.Line.{Line}
 use Rattle.rm_report.specs.declared.line.Line.TheVariants.{UntilIs}
 use Rattle.rm_report.specs.Reply.{said}

@@ -1,5 +1,5 @@
 use Rattle.std.proofs.Common.{ap, refl, Some}
-use Rattle.rm_lang.specs.declared.command.Command.TheVariants.{ListIncarnation}
+use Rattle.rm_command.specs.declared.command.Command.TheVariants.{ListIncarnation}
 use Rattle.rm_report.specs.Reply.{said}
 use Rattle.rm_database.specs.Parts.{Parts}
 use Rattle.rm_database.proofs.Steps.{steps-done}

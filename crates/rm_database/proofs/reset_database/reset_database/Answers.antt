@@ -1,5 +1,5 @@
 use Rattle.std.proofs.Common.{◌∙◌, ◌≡◌, sym, ap, refl, Some, None}
-use Rattle.rm_lang.specs.declared.command.Command.TheVariants.{ResetDatabase}
+use Rattle.rm_command.specs.declared.command.Command.TheVariants.{ResetDatabase}
 use Rattle.rm_database.specs.Parts.{Parts}
 use Rattle.rm_database.specs.ResetDatabase.{at_incarnation, reset_refusal}
 use Rattle.rm_database.proofs.KeptWrites.{keeps-at}

@@ -1,5 +1,5 @@
 use Rattle.std.proofs.Common.{◌≡◌, ◌∙◌, ◌++◌, List, Some, None, true, ap, refl, sym}
-use Rattle.rm_lang.specs.declared.command.Command.TheVariants.{ArchiveLogCurrent}
+use Rattle.rm_command.specs.declared.command.Command.TheVariants.{ArchiveLogCurrent}
 use Rattle.rm_report.specs.declared.line.Line.{Line}
 use Rattle.rm_report.specs.Reply.{said}
 use Rattle.rm_database.specs.Archiving.{after_all, archive_refusal, lines_of}

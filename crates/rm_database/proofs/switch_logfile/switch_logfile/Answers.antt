@@ -1,5 +1,5 @@
 use Rattle.std.proofs.Common.{◌≡◌, ◌∙◌, ◌++◌, List, Some, None, true, ap, arith, refl, sym}
-use Rattle.rm_lang.specs.declared.command.Command.TheVariants.{SwitchLogfile}
+use Rattle.rm_command.specs.declared.command.Command.TheVariants.{SwitchLogfile}
 use Rattle.rm_redo.specs.Online.{IsThread}
 use Rattle.rm_report.specs.declared.line.Line.{Line}
 use Rattle.rm_report.specs.Reply.{said}

@@ -1,5 +1,5 @@
 use Rattle.std.proofs.Common.{◌++◌, ◌∷◌, [], ◌∙◌, ◌≡◌, sym, ap, refl, Some, None}
-use Rattle.rm_lang.specs.declared.command.Command.TheVariants.{Write}
+use Rattle.rm_command.specs.declared.command.Command.TheVariants.{Write}
 use Rattle.rm_database.specs.Parts.{Parts}
 use Rattle.rm_database.specs.Write.{change_of, with_write, write_refusal}
 use Rattle.rm_database.proofs.KeptWrites.{keeps-write}

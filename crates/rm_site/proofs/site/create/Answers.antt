@@ -7,8 +7,8 @@ use Rattle.rm_change.specs.declared.change.Change.{Change}
 use Rattle.rm_database.specs.CreateDatabase.{create_refusal}
 use Rattle.rm_database.specs.Parts.{Parts}
 use Rattle.rm_database.specs.Step as inner
-use Rattle.rm_lang.specs.declared.command.Command.{Command}
-use Rattle.rm_lang.specs.declared.command.Command.TheVariants.{CreateDatabase}
+use Rattle.rm_command.specs.declared.command.Command.{Command}
+use Rattle.rm_command.specs.declared.command.Command.TheVariants.{CreateDatabase}
 use Rattle.rm_lang.specs.IsCommand.{is_command}
 use Rattle.rm_ledger.specs.Facts.{IsLedger}
 use Rattle.rm_ledger.specs.Growth.{fresh}

@@ -1,7 +1,7 @@
 use Rattle.std.proofs.Common.{◌≡◌, ◌∙◌, List, [], Option, Some, None, sym, subst, ap, refl}
 use Rattle.rm_base.specs.declared.block.Change.{Change}
-use Rattle.rm_lang.specs.declared.command.Command.{Command}
-use Rattle.rm_lang.specs.declared.command.Command.TheVariants.{CreateDatabase}
+use Rattle.rm_command.specs.declared.command.Command.{Command}
+use Rattle.rm_command.specs.declared.command.Command.TheVariants.{CreateDatabase}
 use Rattle.rm_report.specs.declared.line.Reply.{Reply}
 use Rattle.rm_database.specs.Parts.{Parts}
 use Rattle.rm_database.specs.Machine.{Holds, Keeps, machine}

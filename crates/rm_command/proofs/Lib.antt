@@ -1,0 +1,4 @@
+pub mod InOrder
+pub mod Inside
+pub mod Language
+pub mod Parts

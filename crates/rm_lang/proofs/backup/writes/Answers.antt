@@ -1,0 +1,12 @@
+use Rattle.std.proofs.Common.{◌<◌, ◌∙◌, sym, length, arith, codes}
+use Rattle.rm_grammar.specs.Spelling.{spelled}
+use Rattle.rm_command.specs.Creating.{write_part}
+use Rattle.rm_command.specs.Values.{write_values}
+use Rattle.rm_lang.proofs.Listed.{many_push}
+use Rattle.rm_lang.proofs.backup.writes.Goals as goal
+
+pub loop-form-preserved : goal.loop-form-preserved
+loop-form-preserved c =
+    let here : c.loop-form.form-index < length c.args.writes.now = omega arith in
+    let told = rw c.loop-form.invariant at (rw c.in_ok-write.ensures at c.in_ok-append.ensures) in
+    told ∙ sym (many_push (codes "WRITE") (spelled write_part) write_values c.args.writes.now c.loop-form.form-index _ here)

@@ -1,0 +1,8 @@
+use Rattle.std.proofs.Common.{◌≡◌, codes, map, take}
+use Rattle.rm_grammar.specs.Spelling.{spelled, many_spelled}
+use Rattle.rm_command.specs.Creating.{write_part}
+use Rattle.rm_command.specs.Values.{write_values}
+use Rattle.rm_lang.proofs.backup.writes.Given as goal
+
+abbrev pub invariant-loop-form : goal.invariant-loop-form
+invariant-loop-form l = l.spelling ≡ many_spelled (codes "WRITE") (spelled write_part) (map write_values (take l.form-index l.writes))

@@ -1,0 +1,172 @@
+//! The tokens of the statements that have parts.
+ghost use Rattle.std.specs.Prelude.{◌≡◌, IfOk, IsTrue, Some, None, true, false};
+ghost use Rattle.std.specs.Option.{option_map};
+ghost use Rattle.rm_grammar.specs.Spelling.{spelled, is_capital_tag};
+ghost use Rattle.rm_command.specs.Recovering.{restore_line, restore_datafile_line, recover_line, recover_copy_line};
+ghost use Rattle.rm_command.specs.Upkeep.{crosscheck_line, change_line, delete_line};
+ghost use Rattle.rm_command.specs.Settings.{retention_line};
+ghost use Rattle.rm_command.specs.Language.{set_until_line};
+ghost use Rattle.rm_lang.specs.IsCommand.{is_until, is_until_or_none};
+ghost use Rattle.rm_command.specs.declared.upkeep.Deletion.TheVariants.{Obsolete, One, Expired};
+ghost use Rattle.rm_command.specs.Values.{until_values, incarnation_values, class_choice, change_choice, deletion_choice, retention_choice};
+
+use rm_command::{ChangeTo, RetentionForm, Until};
+use crate::parts::{change_to, class, optional_incarnation, optional_until, point, policy};
+use rm_base::{Class, NoMemory, Text};
+use rm_grammar::Spelling;
+use std::alloc::Global;
+
+pub fn restore(alloc: Global, until: &Option<Until>, preview: bool) -> Result<Spelling, NoMemory>
+    requires { IsTrue (is_until_or_none until.now) }
+    ensures { IfOk result (λ ts. ts ≡ spelled restore_line (option_map until_values until.now, (preview, tt))) }
+{
+    let mut spelling = Spelling::new(alloc);
+    spelling.word("RESTORE")?;
+    spelling.word("DATABASE")?;
+    spelling.append(optional_until(alloc, until)?)?;
+    spelling.flag("PREVIEW", preview)?;
+    spelling.sign(b';')?;
+    Ok(spelling)
+}
+
+pub fn restore_datafile(
+    alloc: Global,
+    file: u64,
+    until: &Option<Until>,
+) -> Result<Spelling, NoMemory>
+    requires { IsTrue (is_until_or_none until.now) }
+    ensures { IfOk result (λ ts. ts ≡ spelled restore_datafile_line (file, (option_map until_values until.now, tt))) }
+{
+    let mut spelling = Spelling::new(alloc);
+    spelling.word("RESTORE")?;
+    spelling.word("DATAFILE")?;
+    spelling.number(file)?;
+    spelling.append(optional_until(alloc, until)?)?;
+    spelling.sign(b';')?;
+    Ok(spelling)
+}
+
+pub fn recover(alloc: Global, until: &Option<Until>) -> Result<Spelling, NoMemory>
+    requires { IsTrue (is_until_or_none until.now) }
+    ensures { IfOk result (λ ts. ts ≡ spelled recover_line (option_map until_values until.now, (None, (false, tt)))) }
+{
+    let mut spelling = Spelling::new(alloc);
+    spelling.word("RECOVER")?;
+    spelling.word("DATABASE")?;
+    spelling.append(optional_until(alloc, until)?)?;
+    spelling.sign(b';')?;
+    Ok(spelling)
+}
+
+pub fn recover_test(
+    alloc: Global,
+    until: &Option<Until>,
+    inc: Option<u64>,
+) -> Result<Spelling, NoMemory>
+    requires { IsTrue (is_until_or_none until.now) }
+    ensures { IfOk result (λ ts. ts ≡ spelled recover_line (option_map until_values until.now, (option_map incarnation_values inc, (true, tt)))) }
+{
+    let mut spelling = Spelling::new(alloc);
+    spelling.word("RECOVER")?;
+    spelling.word("DATABASE")?;
+    spelling.append(optional_until(alloc, until)?)?;
+    spelling.append(optional_incarnation(alloc, inc)?)?;
+    spelling.word("TEST")?;
+    spelling.sign(b';')?;
+    Ok(spelling)
+}
+
+pub fn recover_copy(alloc: Global, tag: &Text, until: &Option<Until>) -> Result<Spelling, NoMemory>
+    requires tag { IsTrue (is_capital_tag tag.now) }
+    requires until { IsTrue (is_until_or_none until.now) }
+    ensures { IfOk result (λ ts. ts ≡ spelled recover_copy_line (tag.now, (option_map until_values until.now, tt))) }
+{
+    let mut spelling = Spelling::new(alloc);
+    spelling.word("RECOVER")?;
+    spelling.word("COPY")?;
+    spelling.word("OF")?;
+    spelling.word("DATABASE")?;
+    spelling.word("WITH")?;
+    spelling.tag(tag.as_bytes())?;
+    spelling.append(optional_until(alloc, until)?)?;
+    spelling.sign(b';')?;
+    Ok(spelling)
+}
+
+pub fn crosscheck(alloc: Global, class_of: Class) -> Result<Spelling, NoMemory>
+    ensures { IfOk result (λ ts. ts ≡ spelled crosscheck_line (class_choice class_of, tt)) }
+{
+    let mut spelling = Spelling::new(alloc);
+    spelling.word("CROSSCHECK")?;
+    spelling.append(class(alloc, class_of)?)?;
+    spelling.sign(b';')?;
+    Ok(spelling)
+}
+
+pub fn change(alloc: Global, id: u64, to: ChangeTo) -> Result<Spelling, NoMemory>
+    ensures { IfOk result (λ ts. ts ≡ spelled change_line (id, (change_choice to, tt))) }
+{
+    let mut spelling = Spelling::new(alloc);
+    spelling.word("CHANGE")?;
+    spelling.word("BACKUP")?;
+    spelling.number(id)?;
+    spelling.append(change_to(alloc, to)?)?;
+    spelling.sign(b';')?;
+    Ok(spelling)
+}
+
+pub fn delete_obsolete(alloc: Global) -> Result<Spelling, NoMemory>
+    ensures { IfOk result (λ ts. ts ≡ spelled delete_line (deletion_choice Obsolete, tt)) }
+{
+    let mut spelling = Spelling::new(alloc);
+    spelling.word("DELETE")?;
+    spelling.word("OBSOLETE")?;
+    spelling.sign(b';')?;
+    Ok(spelling)
+}
+
+pub fn delete_backup(alloc: Global, id: u64) -> Result<Spelling, NoMemory>
+    ensures { IfOk result (λ ts. ts ≡ spelled delete_line (deletion_choice (One id), tt)) }
+{
+    let mut spelling = Spelling::new(alloc);
+    spelling.word("DELETE")?;
+    spelling.word("BACKUP")?;
+    spelling.number(id)?;
+    spelling.sign(b';')?;
+    Ok(spelling)
+}
+
+pub fn delete_expired(alloc: Global, class_of: Class) -> Result<Spelling, NoMemory>
+    ensures { IfOk result (λ ts. ts ≡ spelled delete_line (deletion_choice (Expired class_of), tt)) }
+{
+    let mut spelling = Spelling::new(alloc);
+    spelling.word("DELETE")?;
+    spelling.word("EXPIRED")?;
+    spelling.append(class(alloc, class_of)?)?;
+    spelling.sign(b';')?;
+    Ok(spelling)
+}
+
+pub fn retention(alloc: Global, form: RetentionForm) -> Result<Spelling, NoMemory>
+    ensures { IfOk result (λ ts. ts ≡ spelled retention_line (retention_choice form, tt)) }
+{
+    let mut spelling = Spelling::new(alloc);
+    spelling.word("CONFIGURE")?;
+    spelling.word("RETENTION")?;
+    spelling.word("POLICY")?;
+    spelling.append(policy(alloc, form)?)?;
+    spelling.sign(b';')?;
+    Ok(spelling)
+}
+
+pub fn set_until(alloc: Global, until: &Until) -> Result<Spelling, NoMemory>
+    requires { IsTrue (is_until until.now) }
+    ensures { IfOk result (λ ts. ts ≡ spelled set_until_line (until_values until.now)) }
+{
+    let mut spelling = Spelling::new(alloc);
+    spelling.word("SET")?;
+    spelling.word("UNTIL")?;
+    spelling.append(point(alloc, until)?)?;
+    spelling.sign(b';')?;
+    Ok(spelling)
+}
