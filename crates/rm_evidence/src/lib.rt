@@ -10,6 +10,3 @@ mod taking;
 pub use evidence::{Evidence, InPlace};
 pub use gathering::{EvidenceFault, gather};
 pub use place::fits_place;
-
-#[cfg(test)]
-mod tests;

@@ -1,5 +1,4 @@
 //! A catalog with logs and pieces, and objects that are there, missing or damaged.
-use crate::*;
 use rm_base::sealed::digest_of;
 use rm_base::{
     Bad, Block, Failing, Kind, MemStore, NoMemory, Policy, Row, Seq, Status, Store, StoreFailing,
@@ -10,6 +9,7 @@ use rm_catalog::{
     BaseEntry, Catalog, CatalogFault, DatafileEntry, IncarnationEntry, LogEntry, MarkEntry,
     PieceEntry, Record,
 };
+use rm_evidence::{Evidence, EvidenceFault, InPlace, fits_place, gather};
 use rm_objects::has_database;
 use rm_piece::{Piece, encode_piece, is_valid};
 use rm_redo::{LogFile, encode_log, is_valid_log};

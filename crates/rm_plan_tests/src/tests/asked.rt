@@ -1,0 +1,155 @@
+//! The planner, where what it requires was tested.
+ghost use Rattle.std.specs.Prelude.{◌≡◌, ◌≢◌, ◌<◌, All, IsTrue};
+ghost use Rattle.rm_base.specs.declared.kinds.Kind.TheVariants.{Level1 as AnIncrement};
+ghost use Rattle.rm_catalog.specs.Rules.{HasDatabase};
+ghost use Rattle.rm_evidence.specs.Known.{FitsLog, FitsPiece, FitsTree};
+ghost use Rattle.rm_history.specs.World.{blocks_of};
+ghost use Rattle.rm_objects.specs.Database.{world_of};
+ghost use Rattle.rm_known.specs.FirstGap.{IsTarget};
+ghost use Rattle.rm_plan.specs.Plan.{IsFileTarget};
+
+use rm_base::{BlockNo, FileNo, IncNo, Kind, NoMemory, Part, Scn, Seq};
+use rm_catalog::Catalog;
+use rm_evidence::Evidence;
+use rm_history::Tree;
+use rm_objects::{datafile, has_database};
+use rm_piece::{Piece, is_valid};
+use rm_plan::plan::{plan, plan_file};
+use rm_plan::{Gap, PlanFault, Told, first_gap};
+use rm_redo::{LogFile, is_valid_log};
+use std::alloc::Global;
+
+fn does_fit(tree: &Tree, piece: &Piece) -> bool
+    ensures { IsTrue result → FitsPiece tree.now piece.now }
+{
+    is_valid(piece) && tree.get(piece.inc).is_some()
+}
+
+fn are_bases(tree: &Tree, pieces: &[(u32, Piece)]) -> bool
+    ensures fit { IsTrue result → All (λ x. FitsPiece tree.now x.1) pieces.now }
+    ensures kind { IsTrue result → All (λ x. x.1.kind ≢ AnIncrement) pieces.now }
+{
+    for (_, piece) in pieces {
+        if !does_fit(tree, piece) || piece.kind == Kind::Level1 {
+            return false;
+        }
+    }
+    true
+}
+
+fn are_level1s(tree: &Tree, pieces: &[(u32, Piece)]) -> bool
+    ensures fit { IsTrue result → All (λ x. FitsPiece tree.now x.1) pieces.now }
+    ensures kind { IsTrue result → All (λ x. x.1.kind ≡ AnIncrement) pieces.now }
+{
+    for (_, piece) in pieces {
+        if !does_fit(tree, piece) || piece.kind != Kind::Level1 {
+            return false;
+        }
+    }
+    true
+}
+
+fn does_log_fit(tree: &Tree, log: &LogFile) -> bool
+    ensures { IsTrue result → FitsLog tree.now log.now }
+{
+    is_valid_log(log) && tree.get(log.inc).is_some()
+}
+
+fn are_logs(tree: &Tree, logs: &[(u32, LogFile)]) -> bool
+    ensures { IsTrue result → All (λ x. FitsLog tree.now x.1) logs.now }
+{
+    for (_, log) in logs {
+        if !does_log_fit(tree, log) {
+            return false;
+        }
+    }
+    true
+}
+
+fn is_fit(tree: &Tree, evidence: &Evidence) -> bool
+    ensures { IsTrue result → FitsTree tree.now evidence.now }
+{
+    if !are_bases(tree, evidence.bases.as_slice()) {
+        return false;
+    }
+    if !are_level1s(tree, evidence.level1s.as_slice()) {
+        return false;
+    }
+    are_logs(tree, evidence.logs.as_slice())
+}
+
+fn is_file(catalog: &Catalog, i: IncNo, s: Scn, file: FileNo) -> bool
+    requires { HasDatabase catalog.now }
+    ensures { IsTrue result → IsFileTarget (world_of catalog.now) i s file }
+{
+    let tree = catalog.tree();
+    match datafile(catalog, file) {
+        Some(found) => {
+            tree.get(i).is_some()
+                && found.creation < s
+                && tree.owner(i, found.creation) == Some(found.inc)
+        }
+        None => false,
+    }
+}
+
+fn has_block(catalog: &Catalog, file: FileNo, block: BlockNo) -> bool
+    requires { HasDatabase catalog.now }
+    ensures { IsTrue result → block < blocks_of (world_of catalog.now) file }
+{
+    datafile(catalog, file).is_some_and(|found| block < found.blocks)
+}
+
+/// What the planner answers of a block; None where it may not be asked.
+pub fn asked(
+    alloc: Global,
+    evidence: &Evidence,
+    catalog: &Catalog,
+    i: IncNo,
+    s: Scn,
+    file: FileNo,
+    block: BlockNo,
+) -> Option<Result<Told, PlanFault>> {
+    if !has_database(catalog) || !is_fit(catalog.tree(), evidence) {
+        return None;
+    }
+    if !is_file(catalog, i, s, file) || !has_block(catalog, file, block) {
+        return None;
+    }
+    Some(plan(alloc, evidence, catalog, i, s, file, block))
+}
+
+/// What the planner answers of a datafile; None where it may not be asked.
+pub fn asked_file(
+    alloc: Global,
+    evidence: &Evidence,
+    catalog: &Catalog,
+    i: IncNo,
+    s: Scn,
+    file: FileNo,
+) -> Option<Result<Seq<Part>, PlanFault>> {
+    if !has_database(catalog)
+        || !is_fit(catalog.tree(), evidence)
+        || !is_file(catalog, i, s, file)
+    {
+        return None;
+    }
+    Some(plan_file(alloc, evidence, catalog, i, s, file))
+}
+
+/// What the planner answers of all datafiles; None where it may not be asked.
+pub fn asked_first(
+    alloc: Global,
+    evidence: &Evidence,
+    catalog: &Catalog,
+    i: IncNo,
+    s: Scn,
+) -> Option<Result<Option<Gap>, NoMemory>> {
+    if !has_database(catalog) || !is_fit(catalog.tree(), evidence) {
+        return None;
+    }
+    if catalog.tree().get(i).is_none() {
+        return None;
+    }
+    Some(first_gap(alloc, evidence, catalog, i, s))
+}
