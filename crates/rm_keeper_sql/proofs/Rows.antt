@@ -1,5 +1,5 @@
 -- The rows that were read so far.
-use Rattle.std.proofs.Common.{◌≡◌, ◌∙◌, ap₂, sym, List, [], ◌∷◌, ◌++◌, map}
+use Rattle.std.proofs.Common.{◌≡◌, ◌∙◌, ap₂, sym, List, [], ◌∷◌, ◌++◌}
 use Rattle.std.proofs.lemmas.List.{map-append}
 use Rattle.std.proofs.lemmas.List.Elements.{All-push}
 use Rattle.sqlite_value.specs.Order.{Row}

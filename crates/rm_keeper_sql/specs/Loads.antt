@@ -1,5 +1,5 @@
 -- What a load reads of a connection: the records of the rows, within one transaction.
-use Rattle.std.specs.Prelude.{◌≡◌, ℕ, pos, List, [], ◌∷◌, All, map}
+use Rattle.std.specs.Prelude.{◌≡◌, pos, List, [], ◌∷◌, All, map}
 use Rattle.sqlite_value.specs.declared.value.Value.TheVariants.{Int, Blob}
 use Rattle.sqlite_value.specs.Order.{Row, column}
 use Rattle.sqlite_trees.specs.declared.store.Store.{Ghosts}

@@ -1,7 +1,7 @@
 -- A piece with its tag.
-use Rattle.std.proofs.Common.{◌≡◌, ◌∙◌, ◌+◌, ◌^◌, ◌<◌, ℕ, Bool, List, [], ◌∷◌, ◌++◌, length, refl, sym, ap, arith, append_assoc}
+use Rattle.std.proofs.Common.{◌≡◌, ◌∙◌, ◌+◌, ◌^◌, ◌<◌, ℕ, Bool, List, [], ◌++◌, length, refl, sym, ap, arith, append_assoc}
 use Rattle.std.proofs.lemmas.List.{length-append}
-use Rattle.rm_base.specs.Number.{four, eight}
+use Rattle.rm_base.specs.Number.{eight}
 use Rattle.rm_base.proofs.Wide.{length-eight, fronts_same, eight_same}
 use Rattle.rm_base.specs.declared.kinds.Kind.{Kind}
 use Rattle.rm_base.specs.declared.kinds.Status.{Status}

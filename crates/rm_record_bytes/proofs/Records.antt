@@ -1,24 +1,11 @@
 -- A record's key and bytes tell it.
-use Rattle.std.proofs.Common.{◌≡◌, ◌∙◌, ℕ, List, [], ◌++◌, length, refl, sym, ap, arith, append_assoc}
-use Rattle.std.proofs.lemmas.List.{length-append}
-use Rattle.rm_base.specs.Number.{eight}
-use Rattle.rm_base.proofs.Wide.{length-eight, fronts_same, eight_same}
-use Rattle.rm_base.specs.declared.kinds.Kind.{Kind}
-use Rattle.rm_base.specs.declared.kinds.Status.{Status}
+use Rattle.std.proofs.Common.{◌≡◌, ◌∙◌, ℕ, refl, sym, ap, arith}
 use Rattle.rm_catalog.specs.declared.record.Key.{Key}
-use Rattle.rm_catalog.specs.declared.record.BaseEntry.{BaseEntry}
-use Rattle.rm_catalog.specs.declared.record.IncarnationEntry.{IncarnationEntry}
-use Rattle.rm_catalog.specs.declared.record.DatafileEntry.{DatafileEntry}
-use Rattle.rm_catalog.specs.declared.record.LogEntry.{LogEntry}
-use Rattle.rm_catalog.specs.declared.record.PieceEntry.{PieceEntry}
-use Rattle.rm_catalog.specs.declared.record.MarkEntry.{MarkEntry}
-use Rattle.rm_catalog.specs.declared.record.PartEntry.{PartEntry}
-use Rattle.rm_catalog.specs.declared.record.HeadEntry.{HeadEntry}
 use Rattle.rm_catalog.specs.declared.record.Record.{Record}
 use Rattle.rm_catalog.specs.declared.record.Record.TheVariants.{Base, Incarnation, Datafile, Log, Piece, Mark, Part, Head}
 use Rattle.rm_catalog.specs.Keys.{key_of}
-use Rattle.rm_record_bytes.specs.Fits.{BaseFits, IncarnationFits, DatafileFits, LogFits, PieceFits, MarkFits, PartFits, HeadFits, Fits}
-use Rattle.rm_record_bytes.specs.Spelling.{base_bytes, incarnation_bytes, datafile_bytes, log_bytes, piece_bytes, mark_bytes, part_bytes, head_bytes, body_of}
+use Rattle.rm_record_bytes.specs.Fits.{Fits}
+use Rattle.rm_record_bytes.specs.Spelling.{body_of}
 use Rattle.rm_record_bytes.proofs.Told.{base_same, incarnation_same, datafile_same, log_same, mark_same, part_same, head_same}
 use Rattle.rm_record_bytes.proofs.Pieces.{piece_same}
 

@@ -1,4 +1,4 @@
-use Rattle.std.proofs.Common.{◌≡◌, ◌∙◌, sym}
+use Rattle.std.proofs.Common.{◌∙◌, sym}
 use Rattle.rm_catalog.specs.declared.record.Record.TheVariants.{Base, Incarnation, Datafile, Log, Mark, Part, Head}
 use Rattle.rm_record_bytes.proofs.Records.{record_same, key_made}
 use Rattle.rm_record_bytes.proofs.reading.decode_record.Goals as goal

@@ -1,11 +1,10 @@
-use Rattle.std.proofs.Common.{◌≡◌, ◌∙◌, ◌++◌, ◌-◌, ◌<◌, ◌^◌, All, List, ℕ, length, take, drop, ap, ap₂, sym, subst, arith}
+use Rattle.std.proofs.Common.{◌≡◌, ◌∙◌, ◌++◌, ◌<◌, ◌^◌, All, List, ℕ, length, take, drop, ap, ap₂, sym, subst, arith}
 use Rattle.std.proofs.lemmas.List.{take-append-drop}
 use Rattle.rm_base.specs.Number.{eight}
-use Rattle.rm_catalog.specs.declared.record.PieceEntry.{PieceEntry}
 use Rattle.rm_record_bytes.specs.Fits.{PieceFits}
 use Rattle.rm_record_bytes.specs.Spelling.{piece_bytes}
 use Rattle.rm_record_bytes.proofs.Fronts.{whole}
-use Rattle.rm_record_bytes.proofs.Pieces.{apart, length-piece_bytes, piece_same, with_tag, made_of, made_fits, tail_told, letters_told, length-tail}
+use Rattle.rm_record_bytes.proofs.Pieces.{length-piece_bytes, piece_same, with_tag, made_of, made_fits, tail_told, letters_told, length-tail}
 use Rattle.rm_record_bytes.proofs.reading.piece_of.Goals as goal
 
 parted : (n : ℕ) (xs a b : List ℕ) → a ≡ take n xs → b ≡ drop n xs → xs ≡ a ++ b

@@ -1,7 +1,7 @@
-use Rattle.std.proofs.Common.{◌≡◌, ◌++◌, ◌∷◌, List, ℕ, sym, arith}
+use Rattle.std.proofs.Common.{◌≡◌, ◌++◌, ◌∷◌, sym, arith}
 use Rattle.rm_base.specs.Number.{four, eight}
 use Rattle.rm_record_bytes.specs.Spelling.{base_bytes}
-use Rattle.rm_record_bytes.proofs.Told.{base_told, BaseTold, base_same, log_same, mark_same, part_same, head_same, incarnation_same, datafile_same}
+use Rattle.rm_record_bytes.proofs.Told.{base_told}
 use Rattle.rm_record_bytes.proofs.reading.take_base.Goals as goal
 
 pub returns-in_default-clause-none : goal.returns-in_default-clause-none

@@ -1,7 +1,7 @@
-use Rattle.std.proofs.Common.{◌≡◌, ◌++◌, ◌∷◌, List, ℕ, sym, arith}
+use Rattle.std.proofs.Common.{◌≡◌, ◌++◌, ◌∷◌, sym, arith}
 use Rattle.rm_base.specs.Number.{four, eight}
 use Rattle.rm_record_bytes.specs.Spelling.{head_bytes}
-use Rattle.rm_record_bytes.proofs.Told.{head_told, HeadTold}
+use Rattle.rm_record_bytes.proofs.Told.{head_told}
 use Rattle.rm_record_bytes.proofs.reading.take_head.Goals as goal
 
 pub returns-in_default-clause-none : goal.returns-in_default-clause-none

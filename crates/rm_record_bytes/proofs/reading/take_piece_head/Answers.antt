@@ -1,7 +1,7 @@
-use Rattle.std.proofs.Common.{◌≡◌, ◌++◌, ◌∷◌, List, ℕ, sym, arith}
+use Rattle.std.proofs.Common.{◌≡◌, ◌++◌, ◌∷◌, sym, arith}
 use Rattle.rm_base.specs.Number.{four, eight}
 use Rattle.rm_record_bytes.specs.Spelling.{piece_head}
-use Rattle.rm_record_bytes.proofs.Told.{piece_told, PieceTold}
+use Rattle.rm_record_bytes.proofs.Told.{piece_told}
 use Rattle.rm_record_bytes.proofs.reading.take_piece_head.Goals as goal
 
 pub returns-in_default-clause-none : goal.returns-in_default-clause-none
