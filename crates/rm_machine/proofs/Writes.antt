@@ -12,7 +12,7 @@ use Rattle.rm_base.specs.declared.refusal.Limit.TheVariants.{Records, ObjectIds,
 use Rattle.rm_blocks.specs.File.{File}
 use Rattle.rm_history.specs.declared.world.Datafile.{Datafile}
 use Rattle.rm_history.specs.World.{exists, file_of}
-use Rattle.rm_lang.specs.declared.command.WriteForm.{WriteForm}
+use Rattle.rm_command.specs.declared.command.WriteForm.{WriteForm}
 use Rattle.rm_redo.specs.Online.{records_of}
 use Rattle.rm_base.proofs.Conditions.{unless}
 use Rattle.rm_base.proofs.Conditions.{not-none}

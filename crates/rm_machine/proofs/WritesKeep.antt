@@ -21,7 +21,7 @@ use Rattle.rm_history.proofs.Histories.{world-with_end, state-push_other, state-
 use Rattle.rm_history.proofs.Owners.{owner-here}
 use Rattle.rm_history.proofs.States.{concerns-parts, concerns-from}
 use Rattle.rm_history.proofs.Worlds.{BaseAgrees-with_end, Level1Agrees-with_end}
-use Rattle.rm_lang.specs.declared.command.WriteForm.{WriteForm}
+use Rattle.rm_command.specs.declared.command.WriteForm.{WriteForm}
 use Rattle.rm_ledger.proofs.Trees.{parents_below}
 use Rattle.rm_piece.specs.declared.piece.Piece.{Piece}
 use Rattle.rm_piece.specs.Artefacts as piece

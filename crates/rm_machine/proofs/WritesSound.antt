@@ -18,7 +18,7 @@ use Rattle.rm_history.proofs.Ends.{end_of-with_end}
 use Rattle.rm_history.proofs.Highs.{high-above}
 use Rattle.rm_base.proofs.Members.{none-in, first-or-rest}
 use Rattle.rm_ledger.proofs.Keeping.{pairs_append}
-use Rattle.rm_lang.specs.declared.command.WriteForm.{WriteForm}
+use Rattle.rm_command.specs.declared.command.WriteForm.{WriteForm}
 use Rattle.rm_ledger.specs.Facts.{IsCreated, IsMark}
 use Rattle.rm_repository.specs.Facts.{IsRepository}
 use Rattle.rm_repository.proofs.Fitted.{end_fits, mark_fits}

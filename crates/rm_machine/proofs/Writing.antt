@@ -1,7 +1,7 @@
 -- WRITE leads on: the history grows, and each artefact goes on to agree.
 use Rattle.std.proofs.Common.{◌≡◌, ◌∙◌, ◌++◌, inl, [], ◌∷◌, ap, sym, subst}
 use Rattle.std.proofs.lemmas.List.{append-nil}
-use Rattle.rm_lang.specs.declared.command.WriteForm.{WriteForm}
+use Rattle.rm_command.specs.declared.command.WriteForm.{WriteForm}
 use Rattle.rm_machine.specs.Effect.{Effect, LeavesObjects, no_effect}
 use Rattle.rm_machine.specs.Machine.{IsBorneOut}
 use Rattle.rm_machine.specs.Sound.{IsSound}

@@ -2,7 +2,7 @@
 ghost use Rattle.std.specs.Prelude.{ℕ, ◌<◌, ◌≤◌, ◌^◌};
 ghost use Rattle.rm_base.specs.Numbers.{last_moment, last_scn};
 ghost use Rattle.rm_base.specs.Store.{Held};
-ghost use Rattle.rm_lang.specs.declared.command.WriteForm.{WriteForm};
+ghost use Rattle.rm_command.specs.declared.command.WriteForm.{WriteForm};
 ghost use Rattle.rm_machine.specs.CreateDatabase.{fresh_machine};
 ghost use Rattle.rm_machine.specs.Laws.{IsMomentOf, LeadsOn, StaysSound};
 ghost use Rattle.rm_machine.specs.Machine.{IsSoundMachine};
