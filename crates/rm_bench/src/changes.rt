@@ -9,8 +9,8 @@ use std::time::{Duration, Instant};
 /// Tells whether the changes of many WRITEs leave what they should, and for `large` the times as well.
 pub fn run(rt: &HostRuntime, large: bool) -> io::Result<()> {
     let (writes, logs) = if large { (20_000, 16_000) } else { (20, 100) };
-    let none = measured(rt, 0, writes)?;
-    let many = measured(rt, logs, writes)?;
+    let none = time_of(rt, 0, writes)?;
+    let many = time_of(rt, logs, writes)?;
     if large {
         let (first, second) = (none.time.as_micros(), many.time.as_micros());
         let percent = second
@@ -30,13 +30,14 @@ pub fn run(rt: &HostRuntime, large: bool) -> io::Result<()> {
 }
 
 // How long the changes took, and whether they left what they should.
+#[derive(Drop)]
 struct Measured {
     time: Duration,
     same: bool,
 }
 
 // So many WRITEs over a catalog of so many logs.
-fn measured(rt: &HostRuntime, logs: u32, writes: u64) -> io::Result<Measured> {
+fn time_of(rt: &HostRuntime, logs: u32, writes: u64) -> io::Result<Measured> {
     let alloc = rt.alloc();
     let loaded = Catalog::from_records(records_of(alloc, logs).map_err(|_| AllocError)?);
     let start = Instant::now(rt)?;
