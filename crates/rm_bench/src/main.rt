@@ -1,11 +1,9 @@
 //! Runs each kernel beside a plain loop, makes and reads the bytes of a piece and of a log, makes a
-//! catalog's edits beside copies, makes the changes of WRITEs over few and over many records, and takes
-//! turns at a live database beside a plain lock: with no word it tells whether both gave the same, and
-//! with the word `large` it tells the times.
+//! catalog's edits beside copies, and takes turns at a live database beside a plain lock: with no word
+//! it tells whether both gave the same, and with the word `large` it tells the times.
 #![tactic(auto)]
 
 mod catalog;
-mod changes;
 mod format;
 mod formats;
 mod kernel;
@@ -34,7 +32,6 @@ fn main(rt: HostRuntime) -> io::Result<()> {
     run_format::<Piece>(&rt, "piece", large)?;
     run_format::<LogFile>(&rt, "log", large)?;
     catalog::run(&rt, large)?;
-    changes::run(&rt, large)?;
     live::run(&rt, rt.alloc(), large)
 }
 
