@@ -11,7 +11,7 @@ use Rattle.rm_base.specs.declared.kinds.Kind.TheVariants.{Level1}
 use Rattle.rm_catalog.specs.declared.record.PieceEntry.{PieceEntry}
 use Rattle.rm_catalog.specs.declared.record.Record.{Record}
 use Rattle.rm_catalog.specs.declared.record.Record.TheVariants as records
-use Rattle.rm_catalog.specs.Keys.{at, place}
+use Rattle.rm_catalog.specs.Keys.{at, piece_in, place}
 use Rattle.rm_catalog.specs.Rules.{IsCatalog}
 use Rattle.rm_evidence.specs.declared.evidence.Evidence.{Evidence}
 use Rattle.rm_evidence.specs.declared.evidence.InPlace.{InPlace}
@@ -22,7 +22,6 @@ use Rattle.rm_history.specs.declared.tree.Incarnation.{Incarnation}
 use Rattle.rm_merge.proofs.Keyed.{same_item}
 use Rattle.rm_objects.proofs.Found.{at-is, obeys}
 use Rattle.rm_piece.specs.declared.piece.Piece.{Piece}
-use Rattle.rm_backup.specs.Records.{piece_in}
 use Rattle.rm_backup.specs.Renewed.{copy_at}
 
 -- a copy that is found is one of those at hand, with this id

@@ -4,13 +4,14 @@ use Rattle.std.specs.List.{cons_option}
 use Rattle.std.proofs.lemmas.Bool.{cases_lt}
 use Rattle.std.proofs.lemmas.List.{append-nil}
 use Rattle.std.proofs.lemmas.List.Elements.{filter_map-append}
+use Rattle.rm_catalog.specs.Keys.{piece_in}
 use Rattle.rm_base.specs.Choice.{IsChoice}
 use Rattle.rm_base.proofs.Choices.{choice_passed, choice_only, choice_taken, choice_stays}
 use Rattle.rm_catalog.specs.declared.record.PieceEntry.{PieceEntry}
 use Rattle.rm_catalog.specs.declared.record.Record.{Record}
 use Rattle.rm_catalog.specs.declared.record.Record.TheVariants.{Base, Incarnation, Datafile, Log, Piece, Mark, Part, Head}
 use Rattle.rm_backup.specs.Looking.{IsFirstOf, IsPassing}
-use Rattle.rm_backup.specs.Records.{ComesFirst, piece_in, pieces}
+use Rattle.rm_backup.specs.Records.{ComesFirst, pieces}
 
 itself : (x : PieceEntry) → ComesFirst x x
 itself x = inr (refl, omega arith)

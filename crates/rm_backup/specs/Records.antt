@@ -4,16 +4,10 @@ use Rattle.std.specs.List.{filter_map}
 use Rattle.rm_base.specs.declared.kinds.Status.TheVariants.{Available}
 use Rattle.rm_catalog.specs.declared.record.PieceEntry.{PieceEntry}
 use Rattle.rm_catalog.specs.declared.record.Record.{Record}
-use Rattle.rm_catalog.specs.declared.record.Record.TheVariants.{Piece}
-use Rattle.rm_catalog.specs.Keys.{at, place}
+use Rattle.rm_catalog.specs.Keys.{at, piece_in, place}
 use Rattle.rm_catalog.specs.Trees.{nodes}
 use Rattle.rm_history.specs.Tree.{is_within}
 use Rattle.rm_objects.specs.Database.{current_in}
-
--- what a record of kind 5 says
-abbrev pub piece_in : Record → Option PieceEntry
-piece_in (Piece p) = Some p
-piece_in _ = None
 
 -- the backups of datafiles, in order
 abbrev pub pieces : List Record → List PieceEntry

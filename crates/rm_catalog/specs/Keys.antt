@@ -5,7 +5,11 @@ use Rattle.rm_catalog.specs.declared.record.Key.{Key}
 use Rattle.rm_catalog.specs.declared.record.BaseEntry.{BaseEntry}
 use Rattle.rm_catalog.specs.declared.record.IncarnationEntry.{IncarnationEntry}
 use Rattle.rm_catalog.specs.declared.record.DatafileEntry.{DatafileEntry}
+use Rattle.rm_catalog.specs.declared.record.LogEntry.{LogEntry}
+use Rattle.rm_catalog.specs.declared.record.PieceEntry.{PieceEntry}
 use Rattle.rm_catalog.specs.declared.record.MarkEntry.{MarkEntry}
+use Rattle.rm_catalog.specs.declared.record.PartEntry.{PartEntry}
+use Rattle.rm_catalog.specs.declared.record.HeadEntry.{HeadEntry}
 use Rattle.rm_catalog.specs.declared.record.Record.{Record}
 use Rattle.rm_catalog.specs.declared.record.Record.TheVariants.{Base, Incarnation, Datafile, Log, Piece, Mark, Part, Head}
 
@@ -64,6 +68,23 @@ datafile_in _ = None
 abbrev pub mark_in : Record → Option MarkEntry
 mark_in (Mark m) = Some m
 mark_in _ = None
+
+-- what records of kind 4, 5, 7 and 8 say
+abbrev pub log_in : Record → Option LogEntry
+log_in (Log e) = Some e
+log_in _ = None
+
+abbrev pub piece_in : Record → Option PieceEntry
+piece_in (Piece e) = Some e
+piece_in _ = None
+
+abbrev pub part_in : Record → Option PartEntry
+part_in (Part e) = Some e
+part_in _ = None
+
+abbrev pub head_in : Record → Option HeadEntry
+head_in (Head e) = Some e
+head_in _ = None
 
 -- the base facts
 abbrev pub base : List Record → Option BaseEntry
