@@ -8,8 +8,8 @@ ghost use Rattle.rm_command.specs.Backups.{as_line, level_line, merge_line, data
 ghost use Rattle.rm_lang.specs.IsCommand.{is_write, is_backup};
 ghost use Rattle.rm_command.specs.Values.{write_values, kind_values, kind_asked, level_values, level_asked, merge_values, files_values, tag_values, keep_values, during_values, backup_values};
 
-use rm_command::{BackupForm, WriteForm};
 use rm_base::{NoMemory, Seq, Text};
+use rm_command::{BackupForm, WriteForm};
 use rm_grammar::Spelling;
 use std::alloc::Global;
 

@@ -5,19 +5,19 @@ ghost use Rattle.rm_token.specs.Tokens.{feeds};
 ghost use Rattle.rm_lang.specs.IsCommand.{is_command, is_inner, is_statement};
 ghost use Rattle.rm_lang.specs.Spelling.{tokens_of, inner_tokens, statement_tokens, ReadsAs};
 
-use rm_command::{Command, Inner, Statement};
 use crate::backup::{backup, write};
-use crate::with_parts::{
-    change, crosscheck, delete_backup, delete_expired, delete_obsolete, recover, recover_copy,
-    recover_test, restore, restore_datafile, retention, set_until,
-};
 use crate::plain::{
     allocate, archive_log, backup_logs, catalog, create_database, create_datafile, cut, damage,
     dump, list_archived, list_backup, list_copy, list_incarnation, lose_datafile, lose_log,
     open_database, parallelism, remove, rename, report_need_backup, report_obsolete, report_schema,
     reset_database, show, startup, switch_logfile, track, untrack, validate,
 };
+use crate::with_parts::{
+    change, crosscheck, delete_backup, delete_expired, delete_obsolete, recover, recover_copy,
+    recover_test, restore, restore_datafile, retention, set_until,
+};
 use rm_base::{NoMemory, Seq};
+use rm_command::{Command, Inner, Statement};
 use rm_grammar::Spelling;
 use rm_token::text_of as text_of_tokens;
 use std::alloc::Global;

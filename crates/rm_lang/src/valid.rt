@@ -8,10 +8,10 @@ ghost use Rattle.rm_moments.specs.Times.{is_time_text};
 ghost use Rattle.rm_lang.specs.IsCommand.{is_until, is_until_or_none, is_write, is_backup, is_retention, is_command, is_inner, is_statement};
 ghost use Rattle.rm_command.specs.Language.{IsSpelled};
 
-use rm_command::agrees;
-use rm_command::{BackupForm, Command, Inner, RetentionForm, Statement, Until, WriteForm};
-use rm_command::is_new_name;
 use rm_base::{Block, LAST_SCN, Text};
+use rm_command::{
+    BackupForm, Command, Inner, RetentionForm, Statement, Until, WriteForm, agrees, is_new_name,
+};
 use rm_grammar::is_capital_tag;
 use rm_moments::is_time;
 use rm_token::are_string_bytes;

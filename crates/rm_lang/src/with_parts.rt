@@ -10,9 +10,9 @@ ghost use Rattle.rm_lang.specs.IsCommand.{is_until, is_until_or_none};
 ghost use Rattle.rm_command.specs.declared.upkeep.Deletion.TheVariants.{Obsolete, One, Expired};
 ghost use Rattle.rm_command.specs.Values.{until_values, incarnation_values, class_choice, change_choice, deletion_choice, retention_choice};
 
-use rm_command::{ChangeTo, RetentionForm, Until};
 use crate::parts::{change_to, class, optional_incarnation, optional_until, point, policy};
 use rm_base::{Class, NoMemory, Text};
+use rm_command::{ChangeTo, RetentionForm, Until};
 use rm_grammar::Spelling;
 use std::alloc::Global;
 

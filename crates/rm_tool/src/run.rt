@@ -1,5 +1,5 @@
 //! The whole run, from the words and the source to the sink.
-ghost use Rattle.std.specs.Prelude.{◌≡◌, ◌≢◌, ◌<◌, ◌⊎◌, ◌∷◌, [], Contains, IfSome, Some, List, ℕ, length, true, false};
+ghost use Rattle.std.specs.Prelude.{◌≡◌, ◌≢◌, ◌<◌, ◌∷◌, [], Contains, IfSome, Some, List, ℕ, length, true, false};
 ghost use Rattle.rm_base.specs.Outside.{Appends, Rose};
 ghost use Rattle.rm_catalog.specs.declared.record.Record.{Record};
 ghost use Rattle.rm_tool.specs.Ends.{Counted, TakesMany};
@@ -9,7 +9,7 @@ ghost use Rattle.rm_tool.specs.Words.{accepts};
 use crate::ends::{ReadFault, read_all, write_all};
 use crate::opening::{Unopened, open_site};
 use crate::session::{Halt, serve_all};
-use crate::words::accepts;
+use crate::words::{Look, look_at};
 use rm_base::{Clock, Sink, Source, Store, Text};
 use rm_catalog::Keeper;
 use rm_token::statements;
@@ -45,7 +45,7 @@ pub fn run<S: Source, K: Sink, D: Store, C: Keeper, T: Clock>(
     // 2: exactly where the words are refused, and their line was written.
     ensures words { result ≡ 2 → accepts words.now ≡ false }
     ensures words_line { result ≡ 2 → Appends (K.contents sink.old) (K.contents sink.new) bad_words }
-    ensures words_only { accepts words.now ≡ false → (result ≡ 2) ⊎ (result ≡ 4) }
+    ensures words_only { accepts words.now ≡ false → Contains (2 ∷ 4 ∷ 7 ∷ []) result }
     ensures words_first { accepts words.now ≡ false → source.new ≡ source.old }
 
     // 3 and 4: only where the count of that object rose, and what was written and done then.
@@ -80,11 +80,15 @@ pub fn run<S: Source, K: Sink, D: Store, C: Keeper, T: Clock>(
     ensures statuses { Contains (0 ∷ 1 ∷ 2 ∷ 3 ∷ 4 ∷ 5 ∷ 6 ∷ 7 ∷ 8 ∷ 9 ∷ []) result }
     ensures complete { accepts words.now ≡ true → Counted (S.taken source.old) → ¬ TakesMany (S.taken source.old) (S.taken source.new) → C.kept keeper.old ≡ Some [] → ¬ Rose (S.faults source.old) (S.faults source.new) → ¬ Rose (K.faults sink.old) (K.faults sink.new) → ¬ Rose (D.faults store.old) (D.faults store.new) → ¬ Rose (C.faults keeper.old) (C.faults keeper.new) → Contains (0 ∷ 1 ∷ 7 ∷ []) result }
 {
-    if !accepts(words) {
-        return match write_all(sink, b"rman: bad words\n") {
-            Ok(()) => 2,
-            Err(_) => 4,
-        };
+    match look_at(alloc, words) {
+        Look::Accepted => {}
+        Look::Refused => {
+            return match write_all(sink, b"rman: bad words\n") {
+                Ok(()) => 2,
+                Err(_) => 4,
+            };
+        }
+        Look::NoMemory => return 7,
     }
     let script = match read_all(alloc, source) {
         Ok(script) => script,

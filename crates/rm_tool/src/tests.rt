@@ -1,8 +1,7 @@
 //! Sources and sinks to their end, at the limit of a script, and failing in mid-stream.
 use crate::adapters::{ReadSource, WriteSink};
 use crate::ends::{MOST_BYTES, ReadFault, read_all, write_all};
-use crate::words::accepts;
-use rm_base::{Failed, Failing, MemSink, MemSource, Sink, Source, Text};
+use rm_base::{Failed, Failing, MemSink, MemSource, Sink, Source};
 use std::io;
 use std::io::{Cursor, Read, Write};
 use std::test::Fail;
@@ -45,28 +44,6 @@ impl Write for Broken {
     fn flush(&mut self) -> io::Result<()> {
         Ok(())
     }
-}
-
-#[test]
-fn words(rt: HostRuntime) -> Result<(), Fail> {
-    let table = [
-        ("--store DIR --catalog FILE", true),
-        ("--store  --catalog ", true),
-        ("--catalog FILE --store DIR", false),
-        ("--store DIR --catalog", false),
-        ("--store DIR --catalog FILE FILE", false),
-        ("--store -d --catalog FILE", false),
-        ("--store DIR --catalog -", false),
-        ("", false),
-    ];
-    for (line, accepted) in table {
-        let mut words = Vec::new(rt.alloc());
-        for word in line.split(' ') {
-            words.push(Text::from_string(String::from_str(rt.alloc(), word)?))?;
-        }
-        assert_eq!(rt; accepts(&words), accepted, "{line}");
-    }
-    Ok(())
 }
 
 #[test]

@@ -1,30 +1,28 @@
 //! The words of the program.
-ghost use Rattle.std.specs.Prelude.{◌≡◌};
-ghost use Rattle.rm_tool.specs.Words.{accepts, is_value};
+ghost use Rattle.std.specs.Prelude.{◌≡◌, true, false};
+ghost use Rattle.rm_tool.specs.Words.{accepts};
+ghost use Rattle.rm_tool.specs.declared.words.Look.TheVariants.{Accepted, Refused};
 
 use rm_base::Text;
+use rm_words::{WordsFault, read_words};
+use std::alloc::Global;
 
-/// Whether these are the words `--store DIR --catalog FILE`, in this order. A value is any text
-/// that does not begin with `-`; it may be empty.
-pub fn accepts(words: &[Text]) -> bool
-    ensures { result ≡ accepts words.now }
-{
-    match words {
-        [store, directory, catalog, file] => {
-            store.as_str() == "--store"
-                && is_value(directory)
-                && catalog.as_str() == "--catalog"
-                && is_value(file)
-        }
-        _ => false,
-    }
+/// What a look at the words gives.
+#[derive(Clone, Copy, Debug, PartialEq, Eq)]
+pub enum Look {
+    Accepted,
+    Refused,
+    NoMemory,
 }
 
-fn is_value(word: &Text) -> bool
-    ensures { result ≡ is_value word.now }
+/// Looks at the words of the program. (The channels that they say have no effect as yet.)
+pub fn look_at(alloc: Global, words: &[Text]) -> Look
+    ensures accepted { result ≡ Accepted → accepts words.now ≡ true }
+    ensures refused { result ≡ Refused → accepts words.now ≡ false }
 {
-    match word.as_bytes() {
-        [first, ..] => *first != b'-',
-        [] => true,
+    match read_words(alloc, words) {
+        Ok(_) => Look::Accepted,
+        Err(WordsFault::Bad) => Look::Refused,
+        Err(WordsFault::NoMemory) => Look::NoMemory,
     }
 }

@@ -116,3 +116,27 @@ returns-clause-memory_written g c = λ is.
     at_statement c.in-Ok-open_site.ensures.empty
     (ends-at-statement _ _ _ _ _ _ _ _ _ _ _ _ _ _ c.in-Ok-read_all.script.items
     (record { taken = c.in-Ok-read_all.ensures.taken; whole = c.in-Ok-read_all.ensures.whole }) (c.as_slice.ensures ∙ c.in-Ok-statements.ensures ∙ ap statements c.deref.ensures.value) c.in-Ok-open_site.ensures.ok c.in-Ok-open_site.ensures.held c.in-Ok-open_site.ensures.kept c.in-Ok-open_site.ensures.opened (c.in-Err-NoMemory-serve_all.ensures.memory (ap Err c.in-Err-NoMemory-serve_all.field-0-is)))
+
+pub returns-in-NoMemory-clause-statuses : goal.returns-in-NoMemory-clause-statuses
+returns-in-NoMemory-clause-statuses g c = (7, lit< tt, refl)
+
+pub returns-in-NoMemory-clause-bad_only : goal.returns-in-NoMemory-clause-bad_only
+returns-in-NoMemory-clause-bad_only g c = λ rs words counted few is some. (4, lit< tt, refl)
+
+pub returns-in-NoMemory-clause-complete : goal.returns-in-NoMemory-clause-complete
+returns-in-NoMemory-clause-complete g c = λ words counted few kept source sink store keeper. (2, lit< tt, refl)
+
+pub returns-in-Err-NoMemory-clause-long_only : goal.returns-in-Err-NoMemory-clause-long_only
+returns-in-Err-NoMemory-clause-long_only g c = λ counted many. (2, lit< tt, refl)
+
+pub returns-in-Err-NoMemory-clause-bad_only : goal.returns-in-Err-NoMemory-clause-bad_only
+returns-in-Err-NoMemory-clause-bad_only g c = λ rs words counted few is some. (4, lit< tt, refl)
+
+pub returns-in-Err-NoMemory-clause-complete : goal.returns-in-Err-NoMemory-clause-complete
+returns-in-Err-NoMemory-clause-complete g c = λ words counted few kept source sink store keeper. (2, lit< tt, refl)
+
+pub returns-in_default-clause-bad_only : goal.returns-in_default-clause-bad_only
+returns-in_default-clause-bad_only g c = λ rs words counted few is some. (4, lit< tt, refl)
+
+pub returns-in_default-clause-complete : goal.returns-in_default-clause-complete
+returns-in_default-clause-complete g c = λ words counted few kept source sink store keeper. (2, lit< tt, refl)
