@@ -1,7 +1,11 @@
 //! Two writes to one block and what the test of a recovery tells of them, and a full log.
+ghost use Rattle.std.specs.Prelude.{IsTrue};
+ghost use Rattle.rm_lang.specs.IsCommand.{is_command};
+ghost use Rattle.rm_database.specs.Built.{is_built};
+
 use crate::database::Database;
 use crate::{Instance, is_built, refusal_reply};
-use rm_base::{Block, Refusal};
+use rm_base::{Block, NoMemory, Refusal};
 use rm_lang::{Command, Until, WriteForm, is_command};
 use rm_report::{Reply, bytes_of, has_dates};
 use std::alloc::Global;
@@ -16,6 +20,19 @@ fn shows(rt: &impl Abort, alloc: Global, reply: &Reply, text: &str) -> Result<()
     Ok(())
 }
 
+// The command, which is of the grammar and built, is answered so.
+fn says(
+    rt: &impl Abort,
+    alloc: Global,
+    instance: &mut Instance,
+    command: Command,
+    text: &str,
+) -> Result<(), Fail> {
+    assert!(rt; is_command(&command) && is_built(&command));
+    let reply = instance.step(&command)?;
+    shows(rt, alloc, &reply, text)
+}
+
 // CREATE DATABASE.
 const CREATE: Command = Command::CreateDatabase {
     dbid: 1,
@@ -23,13 +40,21 @@ const CREATE: Command = Command::CreateDatabase {
     scn: 1,
 };
 
+// ALTER SYSTEM SWITCH LOGFILE.
+const SWITCH: Command = Command::SwitchLogfile { thread: 1 };
+
+// CREATE DATAFILE.
+fn datafile(blocks: u64) -> Command {
+    Command::CreateDatafile { blocks }
+}
+
 // WRITE DATAFILE 1 BLOCK 0.
-fn write(content: Block) -> Command {
+fn write(text: &[u8; 2]) -> Command {
     Command::Write(WriteForm {
         thread: 1,
         file: 1,
         block: 0,
-        content,
+        content: Block::padded(text),
     })
 }
 
@@ -43,48 +68,53 @@ fn test_until(scn: u64) -> Command {
 
 #[test]
 fn two_writes(rt: HostRuntime) -> Result<(), Fail> {
-    let steps = [
-        (CREATE, "database 1 incarnation 1 at 1\n"),
-        (
-            Command::CreateDatafile { blocks: 4 },
-            "datafile 1 created at 1 with 4 blocks\n",
-        ),
-        (write(Block::padded(b"AA")), "scn 2\n"),
-        (write(Block::padded(b"BB")), "scn 3\n"),
-        (
-            test_until(4),
-            "until 4 of incarnation 1: files 1\ndatafile 1: 4 blocks, 1 written\nblock 0 version 3 value 4242\n",
-        ),
-    ];
-    let mut instance = Instance::new(rt.alloc());
-    for (command, text) in steps {
-        assert!(rt; is_command(&command) && is_built(&command));
-        shows(&rt, rt.alloc(), &instance.step(&command)?, text)?;
+    let alloc = rt.alloc();
+    let mut instance = Instance::new(alloc);
+    let made = "database 1 incarnation 1 at 1\n";
+    says(&rt, alloc, &mut instance, CREATE, made)?;
+    let created = "datafile 1 created at 1 with 4 blocks\n";
+    says(&rt, alloc, &mut instance, datafile(4), created)?;
+    says(&rt, alloc, &mut instance, write(b"AA"), "scn 2\n")?;
+    says(&rt, alloc, &mut instance, write(b"BB"), "scn 3\n")?;
+    let tested =
+        "until 4 of incarnation 1: files 1\ndatafile 1: 4 blocks, 1 written\nblock 0 version 3 value 4242\n";
+    says(&rt, alloc, &mut instance, test_until(4), tested)
+}
+
+// Steps the command 65,535 times.
+fn step_often(instance: &mut Instance, command: &Command) -> Result<(), NoMemory>
+    requires command { IsTrue (is_command command.now) }
+    requires built { IsTrue (is_built command.now) }
+{
+    for _ in 0..65_535 {
+        instance.step(command)?;
     }
     Ok(())
+}
+
+// Fills all of a log but the last place.
+fn fill(rt: &impl Abort, instance: &mut Instance) -> Result<(), Fail> {
+    let command = write(b"AA");
+    assert!(rt; is_command(&command) && is_built(&command));
+    Ok(step_often(instance, &command)?)
 }
 
 // A redo thread holds 65,536 changes. After a switch it takes more.
 #[test]
 fn a_full_log(rt: HostRuntime) -> Result<(), Fail> {
     let alloc = rt.alloc();
-    let write = write(Block::padded(b"AA"));
-    let datafile = Command::CreateDatafile { blocks: 1 };
-    let switch = Command::SwitchLogfile { thread: 1 };
-    assert!(rt; is_command(&write) && is_command(&datafile) && is_command(&switch));
-    assert!(rt; is_built(&write) && is_built(&datafile) && is_built(&switch));
     let mut instance = Instance::new(alloc);
-    instance.step(&CREATE)?;
-    instance.step(&datafile)?;
-    for _ in 0..65_535 {
-        instance.step(&write)?;
-    }
-    shows(&rt, alloc, &instance.step(&write)?, "scn 65537\n")?;
+    let made = "database 1 incarnation 1 at 1\n";
+    says(&rt, alloc, &mut instance, CREATE, made)?;
+    let created = "datafile 1 created at 1 with 1 blocks\n";
+    says(&rt, alloc, &mut instance, datafile(1), created)?;
+    fill(&rt, &mut instance)?;
+    says(&rt, alloc, &mut instance, write(b"AA"), "scn 65537\n")?;
     let full = "RM-11: limit log records 65536\n";
-    shows(&rt, alloc, &instance.step(&write)?, full)?;
+    says(&rt, alloc, &mut instance, write(b"AA"), full)?;
     let archived = "log 1 thread 1 sequence 1 first 1 next 65538\n";
-    shows(&rt, alloc, &instance.step(&switch)?, archived)?;
-    shows(&rt, alloc, &instance.step(&write)?, "scn 65538\n")
+    says(&rt, alloc, &mut instance, SWITCH, archived)?;
+    says(&rt, alloc, &mut instance, write(b"AA"), "scn 65538\n")
 }
 
 #[test]
@@ -120,21 +150,24 @@ fn due(database: Option<&Database>) -> (u64, u64) {
     )
 }
 
+// A write has no database.
+fn has_no_database(instance: &Instance) -> bool {
+    matches!(instance.refusal(&write(b"AA")), Some(Refusal::Rm02))
+}
+
 // A log of one record has 150 bytes.
 #[test]
 fn what_is_due(rt: HostRuntime) -> Result<(), Fail> {
     let alloc = rt.alloc();
-    let write = write(Block::padded(b"AA"));
-    let datafile = Command::CreateDatafile { blocks: 1 };
-    assert!(rt; is_command(&write) && is_command(&datafile));
-    assert!(rt; is_built(&write) && is_built(&datafile));
     let mut instance = Instance::new(alloc);
     assert!(rt; instance.database().is_none());
-    assert!(rt; matches!(instance.refusal(&write), Some(Refusal::Rm02)));
-    instance.step(&CREATE)?;
-    instance.step(&datafile)?;
-    instance.step(&write)?;
-    assert!(rt; instance.refusal(&write).is_none());
+    assert!(rt; has_no_database(&instance));
+    let made = "database 1 incarnation 1 at 1\n";
+    says(&rt, alloc, &mut instance, CREATE, made)?;
+    let created = "datafile 1 created at 1 with 1 blocks\n";
+    says(&rt, alloc, &mut instance, datafile(1), created)?;
+    says(&rt, alloc, &mut instance, write(b"AA"), "scn 2\n")?;
+    assert!(rt; !has_no_database(&instance));
     assert!(rt; due(instance.database()) == (1, 150));
     Ok(())
 }
