@@ -1,8 +1,8 @@
 #!/bin/sh
 # Proves and builds rm_bench, and tells the times of each kernel beside a plain loop, of the bytes of a
-# piece and a log beside SHA-256 alone, of edits and catalogs beside copies, and of turns of a live
-# database beside a plain lock. Then it tells the time of sha256sum on a file of the size of the largest
-# piece, read 20 times in one run.
+# piece and a log beside SHA-256 alone, of edits and catalogs beside copies, of planning a datafile and of
+# gathering what tells of it, and of turns of a live database beside a plain lock. Then it tells the time
+# of sha256sum on a file of the size of the largest piece, read 20 times in one run.
 set -eu
 cd "$(dirname "$0")/../crates/rm_bench"
 rt run -- large

@@ -80,8 +80,8 @@ fn tell_catalogs(rt: &HostRuntime, third: u32, large: bool) -> io::Result<()> {
     tell(rt, "from_records", same)
 }
 
-// What a call gave, or want of memory.
-fn kept<T>(outcome: Result<T, NoMemory>) -> Result<T, AllocError> {
+/// What a call gave, or want of memory.
+pub fn kept<T>(outcome: Result<T, NoMemory>) -> Result<T, AllocError> {
     outcome.map_err(|_| AllocError)
 }
 

@@ -10,9 +10,9 @@ use std::time::Instant;
 
 const TIMES: u32 = 20;
 
-// A content that differs from block to block.
-fn content_of(block: u32) -> Block {
-    Block([(block % 251) as u8; 64])
+/// A content that differs from number to number.
+pub fn content_of(number: u64) -> Block {
+    Block([(number % 251) as u8; 64])
 }
 
 impl Format for Piece {
@@ -22,7 +22,7 @@ impl Format for Piece {
             list.push(Row {
                 block,
                 version: 7,
-                content: content_of(block),
+                content: content_of(u64::from(block)),
             })?;
         }
         Ok(Piece {
@@ -73,7 +73,7 @@ impl Format for LogFile {
                 scn: 7,
                 file: 1,
                 block,
-                content: content_of(block),
+                content: content_of(u64::from(block)),
             })?;
         }
         Ok(LogFile {
@@ -114,7 +114,8 @@ impl Format for LogFile {
     }
 }
 
-fn micros_since(rt: &HostRuntime, start: Instant) -> io::Result<u128> {
+/// How many microseconds went by.
+pub fn micros_since(rt: &HostRuntime, start: Instant) -> io::Result<u128> {
     Ok(Instant::now(rt)?.duration_since(start).as_micros())
 }
 

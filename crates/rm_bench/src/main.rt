@@ -1,6 +1,6 @@
 //! Runs each kernel beside a plain loop, makes and reads the bytes of a piece and of a log, makes a
-//! catalog's edits beside copies, and takes turns at a live database beside a plain lock: with no word
-//! it tells whether both gave the same, and with the word `large` it tells the times.
+//! catalog's edits beside copies, plans made datafiles, and takes turns at a live database beside a plain
+//! lock: with no word it tells whether both gave the same, and with the word `large` it tells the times.
 #![tactic(auto)]
 
 mod catalog;
@@ -9,7 +9,9 @@ mod formats;
 mod kernel;
 mod kernels;
 mod live;
+mod made;
 mod plain;
+mod planning;
 
 use format::Format;
 use kernel::Kernel;
@@ -32,6 +34,7 @@ fn main(rt: HostRuntime) -> io::Result<()> {
     run_format::<Piece>(&rt, "piece", large)?;
     run_format::<LogFile>(&rt, "log", large)?;
     catalog::run(&rt, large)?;
+    planning::run(&rt, large)?;
     live::run(&rt, rt.alloc(), large)
 }
 
