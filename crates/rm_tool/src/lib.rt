@@ -6,11 +6,11 @@ mod built;
 mod ends;
 mod opening;
 pub mod run;
-#[cfg(test)]
-mod runs;
 mod session;
 #[cfg(test)]
 mod tests;
+#[cfg(test)]
+mod whole_runs;
 mod words;
 
 pub use adapters::{ReadSource, SystemClock, WriteSink};
