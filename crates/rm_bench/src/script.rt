@@ -10,7 +10,9 @@ use std::io;
 use std::time::Instant;
 
 const LINE: &[u8] = b"WRITE DATAFILE 1 BLOCK 0 VALUE 'AA';\n";
+
 const MIB: usize = 1_048_576;
+
 const TIMES: u32 = 5;
 
 /// Tells how many statements of a script are read, and for `large` the times as well, each for a
