@@ -1,6 +1,7 @@
 //! Runs each kernel beside a plain loop, makes and reads the bytes of a piece and of a log, makes a
-//! catalog's edits beside copies, plans made datafiles, and takes turns at a live database beside a plain
-//! lock: with no word it tells whether both gave the same, and with the word `large` it tells the times.
+//! catalog's edits beside copies, plans made datafiles, reads scripts, and takes turns at a live database
+//! beside a plain lock: with no word it tells whether both gave the same, and with the word `large` it
+//! tells the times.
 #![tactic(auto)]
 
 mod catalog;
@@ -12,6 +13,7 @@ mod live;
 mod made;
 mod plain;
 mod planning;
+mod script;
 
 use format::Format;
 use kernel::Kernel;
@@ -35,6 +37,7 @@ fn main(rt: HostRuntime) -> io::Result<()> {
     run_format::<LogFile>(&rt, "log", large)?;
     catalog::run(&rt, large)?;
     planning::run(&rt, large)?;
+    script::run(&rt, large)?;
     live::run(&rt, rt.alloc(), large)
 }
 
