@@ -1,6 +1,6 @@
 //! Values from outside, each public call once, and calls that fail by their numbers.
 use crate::number::{push_u32, push_u64, take_u32, take_u64};
-use crate::sealed::{digest_of, seal, unseal};
+use crate::sealed::{digest_of, seal_with_digest, unseal};
 use crate::*;
 use std::alloc::Global;
 use std::test::Fail;
@@ -84,8 +84,9 @@ fn bytes_are_sealed(rt: HostRuntime) -> Result<(), Fail> {
     let digest = digest_of(b"abc");
     assert_eq!(rt; &digest[..4], [0xba, 0x78, 0x16, 0xbf].as_slice());
     let mut bytes = Vec::from_slice(rt.alloc(), b"abc")?;
-    seal(&mut bytes)?;
+    let whole = seal_with_digest(&mut bytes)?;
     assert_eq!(rt; bytes.len(), 35);
+    assert_eq!(rt; whole.as_slice(), digest_of(&bytes).as_slice());
     assert_eq!(rt; sealed_len(&bytes), Some(3));
     bytes.truncate(34);
     assert_eq!(rt; sealed_len(&bytes), None);
