@@ -9,9 +9,9 @@ pub mod log_writing;
 pub mod online;
 
 pub use log_file::LogFile;
-pub use log_reading::decode_log;
+pub use log_reading::{decode_log, log_of_body};
 pub use log_valid::is_valid_log;
-pub use log_writing::encode_log;
+pub use log_writing::{encode_log, encode_log_with_digest};
 pub use online::{LogFault, LogRecord, OnlineLogs, ThreadLog};
 
 #[cfg(test)]

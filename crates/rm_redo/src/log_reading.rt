@@ -95,7 +95,7 @@ fn take_head(alloc: Global, bytes: &[u8]) -> Option<(LogFile, u32, &[u8])>
     Some((head, count, rest))
 }
 
-// The log whose bytes before the digest are these, valid or not.
+// The log whose bytes before the seal are these, valid or not.
 fn log_of(alloc: Global, body: &[u8]) -> Result<LogFile, FormatFault>
     ensures fits { IfOk result (λ l. Fits l) }
     ensures found { IfOk result (λ l. body.now ≡ body_of l) }
@@ -114,6 +114,26 @@ fn log_of(alloc: Global, body: &[u8]) -> Result<LogFile, FormatFault>
     Ok(LogFile { records, ..head })
 }
 
+/// The log whose bytes before the seal are these. `Bad` exactly where they are of no valid log.
+pub fn log_of_body(alloc: Global, body: &[u8]) -> Result<LogFile, FormatFault>
+    // What is read is valid, and has this body.
+    ensures found { IfOk result (λ log. body.now ≡ body_of log) }
+    ensures valid { IfOk result (λ log. IsLogFile log) }
+    // A valid log of this body is read, unless memory runs out.
+    ensures only { (log : LogFile) → IsLogFile log → body.now ≡ body_of log → Reads result log }
+{
+    match log_of(alloc, body) {
+        Ok(log) => {
+            if is_valid_log(&log) {
+                Ok(log)
+            } else {
+                Err(FormatFault::Bad)
+            }
+        }
+        Err(fault) => Err(fault),
+    }
+}
+
 /// The log that the bytes spell. `Bad` exactly where they spell no valid log.
 pub fn decode_log(alloc: Global, bytes: &[u8]) -> Result<LogFile, FormatFault>
     // What is read is valid, and spelled so.
@@ -125,14 +145,5 @@ pub fn decode_log(alloc: Global, bytes: &[u8]) -> Result<LogFile, FormatFault>
     let Some(body) = unseal(bytes) else {
         return Err(FormatFault::Bad);
     };
-    match log_of(alloc, body) {
-        Ok(log) => {
-            if is_valid_log(&log) {
-                Ok(log)
-            } else {
-                Err(FormatFault::Bad)
-            }
-        }
-        Err(fault) => Err(fault),
-    }
+    log_of_body(alloc, body)
 }

@@ -1,12 +1,13 @@
 //! A log as bytes.
 ghost use Rattle.std.specs.Prelude.{◌≡◌, ◌<◌, ◌^◌, ◌++◌, length, OnOk, IfOk};
 ghost use Rattle.std.specs.List.{flat_map};
+ghost use Rattle.sha2.specs.Sha256.{sha256};
 ghost use Rattle.rm_redo.specs.LogFormat.{head_bytes, record_bytes, spelling, IsLogFile};
 
 use crate::log_file::LogFile;
 use crate::online::LogRecord;
 use rm_base::number::{push_u32, push_u64};
-use rm_base::sealed::seal;
+use rm_base::sealed::{Encoded, seal_with_digest};
 use rm_base::{NoMemory, Seq};
 use std::alloc::Global;
 
@@ -46,14 +47,26 @@ fn push_records(out: &mut Vec<u8>, records: &[LogRecord]) -> Result<(), NoMemory
     Ok(())
 }
 
+/// The spelling of a valid log, and its SHA-256.
+pub fn encode_log_with_digest(alloc: Global, log: &LogFile) -> Result<Encoded, NoMemory>
+    requires { IsLogFile log.now }
+    ensures bytes { IfOk result (λ encoded. encoded.bytes ≡ spelling log.now) }
+    ensures digest { IfOk result (λ encoded. encoded.digest ≡ sha256 (spelling log.now)) }
+{
+    let mut out = Vec::with_capacity(alloc, 70 + 80 * log.records.len())?;
+    push_head(&mut out, log)?;
+    push_records(&mut out, log.records.as_slice())?;
+    let digest = seal_with_digest(&mut out)?;
+    Ok(Encoded {
+        bytes: Seq::from_vec(out),
+        digest,
+    })
+}
+
 /// The spelling of a valid log.
 pub fn encode_log(alloc: Global, log: &LogFile) -> Result<Seq<u8>, NoMemory>
     requires { IsLogFile log.now }
     ensures { IfOk result (λ bytes. bytes ≡ spelling log.now) }
 {
-    let mut out = Vec::with_capacity(alloc, 70 + 80 * log.records.len())?;
-    push_head(&mut out, log)?;
-    push_records(&mut out, log.records.as_slice())?;
-    seal(&mut out)?;
-    Ok(Seq::from_vec(out))
+    Ok(encode_log_with_digest(alloc, log)?.bytes)
 }

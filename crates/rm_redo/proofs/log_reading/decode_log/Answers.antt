@@ -1,19 +1,6 @@
-use Rattle.std.proofs.Common.{◌∙◌, sym, subst}
-use Rattle.std.specs.Prelude.{IsTrue}
+use Rattle.std.proofs.Common.{◌∙◌, sym}
 use Rattle.rm_base.proofs.Sealing.{sealed_same}
-use Rattle.rm_redo.specs.LogFormat.{IsLogFile}
-use Rattle.rm_redo.proofs.LogFitting.{fits}
 use Rattle.rm_redo.proofs.log_reading.decode_log.Goals as goal
 
-pub returns-then-is_valid_log-clause-only : goal.returns-then-is_valid_log-clause-only
-returns-then-is_valid_log-clause-only c p valid same = c.in-Ok.ensures.only p (fits p valid) (sealed_same _ _ (sym c.in-Some.ensures.sealed ∙ same))
-
-pub returns-else-is_valid_log-clause-only : goal.returns-else-is_valid_log-clause-only
-returns-else-is_valid_log-clause-only c p valid same =
-    let told = c.in-Ok.ensures.only p (fits p valid) (sealed_same _ _ (sym c.in-Some.ensures.sealed ∙ same)) in
-    let yes : IsTrue c.is_valid_log.result = c.is_valid_log.ensures.1 (subst IsLogFile (sym told) valid) in
-    let no = c.if-is_valid_log.false in
-    absurd cc
-
-pub returns-in-Err-clause-only : goal.returns-in-Err-clause-only
-returns-in-Err-clause-only c p valid same = c.in-Err.ensures.only p (fits p valid) (sealed_same _ _ (sym c.in-Some.ensures.sealed ∙ same))
+pub returns-clause-only : goal.returns-clause-only
+returns-clause-only c p valid same = c.log_of_body.ensures.only p valid (sealed_same _ _ (sym c.in-Some.ensures.sealed ∙ same))
