@@ -1,21 +1,33 @@
 //! Objects from their bytes.
-ghost use Rattle.std.specs.Prelude.{◌≡◌, ◌↔◌, IfNone, IfOk, IfSome, IsTrue};
+ghost use Rattle.std.specs.Prelude.{◌≡◌, ◌≢◌, ◌↔◌, List, ℕ, IfNone, IfOk, IfSome, IsTrue};
+ghost use Rattle.rm_base.specs.Sealed.{sealed};
 ghost use Rattle.rm_piece.specs.declared.piece.Piece.{Piece};
 ghost use Rattle.rm_redo.specs.declared.log_file.LogFile.{LogFile};
 ghost use Rattle.rm_objects.specs.Objects.{HasDigest, HasLogFields, HasPieceFields, IsLogObject, IsPieceObject};
 
-use rm_base::sealed::digest_of;
+use rm_base::sealed::unseal_with_digest;
 use rm_base::{FormatFault, NoMemory};
 use rm_catalog::{LogEntry, PieceEntry};
-use rm_piece::{Piece, decode_piece};
-use rm_redo::{LogFile, decode_log};
+use rm_piece::{Piece, piece_of_body};
+use rm_redo::{LogFile, log_of_body};
 use std::alloc::Global;
 
-/// Whether there are so many bytes, with this SHA-256.
-pub fn has_digest(bytes: &[u8], size: u64, sha: &[u8; 32]) -> bool
-    ensures { IsTrue result ↔ HasDigest bytes.now size sha.now }
+// What stands before the seal, where the bytes are sealed and have this size and SHA-256. They are hashed once, and not
+// at all where the size is another.
+fn recorded_body<'a>(bytes: &'a [u8], size: u64, sha: &[u8; 32]) -> Option<&'a [u8]>
+    ensures sealed { IfSome result (λ body. bytes.now ≡ sealed body.now) }
+    ensures digest { IfSome result (λ _. HasDigest bytes.now size sha.now) }
+    ensures none { IfNone result (HasDigest bytes.now size sha.now → (body : List ℕ) → bytes.now ≢ sealed body) }
 {
-    bytes.len() as u64 == size && digest_of(bytes).as_slice() == sha.as_slice()
+    if bytes.len() as u64 != size {
+        return None;
+    }
+    let (body, digest) = unseal_with_digest(bytes)?;
+    if digest.as_slice() == sha.as_slice() {
+        Some(body)
+    } else {
+        None
+    }
 }
 
 // Whether the log has the fields that its record has.
@@ -38,10 +50,10 @@ pub fn log_object(
     ensures some { IfOk result (λ found. IfSome found (λ log. IsLogObject entry.now bytes.now log)) }
     ensures none { IfOk result (λ found. IfNone found ((log : LogFile) → ¬ IsLogObject entry.now bytes.now log)) }
 {
-    if !has_digest(bytes, entry.size, &entry.sha) {
+    let Some(body) = recorded_body(bytes, entry.size, &entry.sha) else {
         return Ok(None);
-    }
-    match decode_log(alloc, bytes) {
+    };
+    match log_of_body(alloc, body) {
         Ok(log) => {
             if has_log_fields(entry, &log) {
                 Ok(Some(log))
@@ -76,10 +88,10 @@ pub fn piece_object(
     ensures some { IfOk result (λ found. IfSome found (λ piece. IsPieceObject entry.now bytes.now piece)) }
     ensures none { IfOk result (λ found. IfNone found ((piece : Piece) → ¬ IsPieceObject entry.now bytes.now piece)) }
 {
-    if !has_digest(bytes, entry.size, &entry.sha) {
+    let Some(body) = recorded_body(bytes, entry.size, &entry.sha) else {
         return Ok(None);
-    }
-    match decode_piece(alloc, bytes) {
+    };
+    match piece_of_body(alloc, body) {
         Ok(piece) => {
             if has_piece_fields(entry, &piece) {
                 Ok(Some(piece))

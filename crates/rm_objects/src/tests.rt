@@ -107,20 +107,6 @@ fn no_record_tells_no_database(rt: HostRuntime) -> Result<(), Fail> {
     }
 }
 
-// The SHA-256 of no bytes, by another program.
-const OF_NONE: [u8; 32] = [
-    0xe3, 0xb0, 0xc4, 0x42, 0x98, 0xfc, 0x1c, 0x14, 0x9a, 0xfb, 0xf4, 0xc8, 0x99, 0x6f, 0xb9, 0x24,
-    0x27, 0xae, 0x41, 0xe4, 0x64, 0x9b, 0x93, 0x4c, 0xa4, 0x95, 0x99, 0x1b, 0x78, 0x52, 0xb8, 0x55,
-];
-
-#[test]
-fn a_digest_is_that_of_the_bytes(rt: HostRuntime) -> Result<(), Fail> {
-    assert!(rt; has_digest(b"", 0, &OF_NONE));
-    assert!(rt; !has_digest(b"", 1, &OF_NONE));
-    assert!(rt; !has_digest(b"a", 1, &OF_NONE));
-    Ok(())
-}
-
 fn log(alloc: Global) -> LogFile {
     LogFile {
         dbid: 7,
