@@ -19,7 +19,7 @@ use Rattle.rm_evidence.specs.Available.{HasPiece}
 use Rattle.rm_evidence.specs.Gathered.{IsGathered, placed, placed_piece, dbid_in}
 use Rattle.rm_evidence.specs.Known.{FitsPiece}
 use Rattle.rm_history.specs.declared.tree.Incarnation.{Incarnation}
-use Rattle.rm_merge.proofs.Keyed.{same_item}
+use Rattle.rm_base.proofs.Keyed.{same_item}
 use Rattle.rm_objects.proofs.Found.{at-is, obeys}
 use Rattle.rm_piece.specs.declared.piece.Piece.{Piece}
 use Rattle.rm_backup.specs.Renewed.{copy_at}

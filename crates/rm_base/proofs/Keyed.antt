@@ -1,8 +1,9 @@
--- Items that ascend by a number: there is one at most of each.
+-- Items that ascend by a number.
 use Rattle.std.proofs.Common.{◌≡◌, ◌<◌, ◌∙◌, inl, inr, ℕ, List, ap, sym, arith, get_or, Contains, AllPairs}
 use Rattle.std.proofs.lemmas.Bool.{cases_lt}
 use Rattle.std.proofs.lemmas.List.{get_or_default}
 
+-- there is one at most of each number
 pub same_item : {X : Type 0} (number : X → ℕ) (xs : List X) → AllPairs (λ x y. number x < number y) xs → (x y : X) → Contains xs x → Contains xs y → number x ≡ number y → x ≡ y
 same_item number xs up x y (i, inside_x, is_x) (j, inside_y, is_y) same =
     let read_y = get_or_default xs j x y inside_y ∙ is_y in

@@ -3,6 +3,7 @@ pub mod Clocks
 pub mod Conditions
 pub mod Contents
 pub mod Items
+pub mod Keyed
 pub mod Lists
 pub mod Members
 pub mod Names

@@ -4,6 +4,7 @@ use Rattle.std.specs.Prelude.{nat_le}
 use Rattle.std.specs.List.{list_all}
 use Rattle.std.proofs.lemmas.Bool.{and_parts, and_from, cond_both, le-leb, eqb-true}
 use Rattle.std.proofs.lemmas.Bool.Decides.{nat_tests}
+use Rattle.std.proofs.lemmas.Option.{same_Some}
 use Rattle.rm_base.specs.Content.{onto, padded, trimmed}
 use Rattle.rm_token.specs.Tokens.{is_string_byte}
 use Rattle.rm_token.specs.Spelling.{are_string_bytes}
@@ -30,11 +31,8 @@ trimmed-string (x ∷ xs) n h =
     let b = and_parts (is_string_byte x) (list_all is_string_byte xs) h in
     ap (onto x) (trimmed-string xs n b.1) ∙ onto-string x xs b.0
 
-some_same : {x y : List ℕ} → Some x ≡ Some y → x ≡ y
-some_same e = cc
-
 kept_parts : (b : Bool) (w v : List ℕ) → cond b (content.read w) None ≡ Some v → (b ≡ true) × (v ≡ (padded w).0)
-kept_parts true w v e = (refl, sym (some_same e))
+kept_parts true w v e = (refl, sym (same_Some _ _ e))
 kept_parts false w v e = absurd (cc)
 
 -- what is shown of a content is read as the content

@@ -3,7 +3,7 @@ use Rattle.std.proofs.Common.{◌≡◌, ◌≢◌, ◌∙◌, Bool, cond, ℕ, 
 use Rattle.std.specs.Prelude.{Contains, IsSome, option_and_then}
 use Rattle.std.specs.Option.{option_map_or}
 use Rattle.std.proofs.lemmas.Bool.{false≢true, ne_eqb}
-use Rattle.std.proofs.lemmas.Option.{slice_get_within}
+use Rattle.std.proofs.lemmas.Option.{same_Some, slice_get_within}
 use Rattle.std.proofs.lemmas.List.Elements.{All-nil, All-cons, All-append, All-map, All-contains, Contains-get_or, Contains-append_left, Contains-append_right}
 use Rattle.rm_base.specs.declared.block.Mark.{Mark}
 use Rattle.rm_history.specs.declared.tree.Incarnation.{Incarnation}
@@ -23,14 +23,11 @@ use Rattle.rm_ledger.specs.Ledger.{Ledger, records_of, numbered, incarnation_rec
 use Rattle.rm_ledger.specs.Facts.{IsLedger}
 use Rattle.rm_ledger.proofs.Order.{incarnations_of, datafiles_of, logs_of, pieces_of, marks_of, record-found, records-run, runs-within}
 
-some_same : {X : Type 0} (x y : X) → Some x ≡ Some y → x ≡ y
-some_same x y e = cc
-
 -- things that are numbered from n on have their records
 in-numbered : {X : Type 0} (make : ℕ → X → Record) (n : ℕ) (xs : List X) (k : ℕ) (x : X) → slice_get xs k ≡ Some x → Contains (numbered make n xs) (make (n + k) x)
 in-numbered make n [] k x is = absurd cc
 in-numbered make n (y ∷ ys) zero x is =
-    let same : y ≡ x = some_same y x is in
+    let same : y ≡ x = same_Some y x is in
     let number : n ≡ n + 0 = omega arith in
     (0, omega arith, ap (λ m. make m y) number ∙ ap (make (n + 0)) same)
 in-numbered make n (y ∷ ys) (suc k) x is =

@@ -19,7 +19,7 @@ use Rattle.rm_piece.specs.Valid.{IsPiece, IsBefore}
 use Rattle.rm_piece.proofs.Highs.{high_of-is, IsHigh-one}
 use Rattle.rm_piece.proofs.Whole.{placed}
 use Rattle.rm_merge.specs.Merge.{AreOf, Meets, row_at, greater, merged, merged_rows}
-use Rattle.rm_merge.proofs.Keyed.{same_item}
+use Rattle.rm_base.proofs.Keyed.{same_item}
 use Rattle.rm_merge.proofs.Merged.{listed, no_level1}
 
 -- neither row is above the one that is kept, and it is below what both are below

@@ -8,4 +8,3 @@ pub mod Listed
 pub mod Parts
 pub mod Spans
 pub mod Steps
-pub mod Worlds

@@ -1,5 +1,6 @@
 //! The records and objects of a statement that changed the database.
 ghost use Rattle.std.specs.Prelude.{◌≡◌, ◌≤◌, ◌<◌, ◌++◌, [], All, IfOk, IsSome, length, map, count_by, drop};
+ghost use Rattle.sha2.specs.Sha256.{sha256};
 ghost use Rattle.rm_catalog.specs.Keys.{base};
 ghost use Rattle.rm_database.specs.Sound.{IsSound};
 ghost use Rattle.rm_ledger.specs.Growth.{Growth, edits_of};
@@ -10,7 +11,7 @@ ghost use Rattle.rm_site.specs.Marks.{early_mark as mark_of_change, late_mark, l
 
 use crate::marks::{is_branch, is_change, is_later, mark_now};
 use crate::pieces::Pieces;
-use rm_base::sealed::digest_of;
+use rm_base::sealed::Encoded;
 use rm_base::{Mark, Moment, NoMemory, Seq, Status};
 use rm_catalog::{BaseEntry, Catalog, LogEntry, Record};
 use rm_change::{Change, Object};
@@ -18,7 +19,7 @@ use rm_database::{Archived, Database};
 use rm_lang::Command;
 use rm_ledger::edits::{View, edits};
 use rm_objects::{base_of, log_name};
-use rm_redo::encode_log;
+use rm_redo::encode_log_with_digest;
 use std::alloc::Global;
 
 /// The records and the objects of archived logs.
@@ -28,20 +29,21 @@ pub(crate) struct Logs {
     pub objects: Seq<Object>,
 }
 
-// The object of an archived log.
-fn object_of(alloc: Global, archived: &Archived) -> Result<Object, NoMemory>
-    requires { IsLogFile archived.now.log }
+// The object of an archived log, with these bytes.
+fn object_of(alloc: Global, archived: &Archived, bytes: Seq<u8>) -> Result<Object, NoMemory>
+    requires { bytes ≡ spelling archived.now.log }
     ensures { IfOk result (λ x. x ≡ log_object archived.now) }
 {
     Ok(Object {
         name: log_name(alloc, archived.id)?,
-        bytes: encode_log(alloc, &archived.log)?,
+        bytes,
     })
 }
 
 // The record of an archived log, whose object has these bytes.
-fn entry_of(archived: &Archived, bytes: &[u8]) -> LogEntry
-    requires { bytes.now ≡ spelling archived.now.log }
+fn entry_of(archived: &Archived, encoded: &Encoded) -> LogEntry
+    requires bytes { encoded.now.bytes ≡ spelling archived.now.log }
+    requires digest { encoded.now.digest ≡ sha256 (spelling archived.now.log) }
     ensures { result ≡ log_entry archived.now }
 {
     let log = &archived.log;
@@ -53,8 +55,8 @@ fn entry_of(archived: &Archived, bytes: &[u8]) -> LogEntry
         sequence: log.sequence,
         first: log.first,
         next: log.next,
-        size: bytes.len() as u64,
-        sha: digest_of(bytes),
+        size: encoded.bytes.len() as u64,
+        sha: encoded.digest,
         status: Status::Available,
         keep: false,
     }
@@ -69,9 +71,9 @@ pub(crate) fn logs_of(alloc: Global, archived: &[Archived]) -> Result<Logs, NoMe
     let mut entries = Vec::new(alloc);
     let mut objects = Vec::new(alloc);
     for log in archived {
-        let object = object_of(alloc, log)?;
-        entries.push(entry_of(log, object.bytes.as_slice()))?;
-        objects.push(object)?;
+        let encoded = encode_log_with_digest(alloc, &log.log)?;
+        entries.push(entry_of(log, &encoded))?;
+        objects.push(object_of(alloc, log, encoded.bytes)?)?;
     }
     Ok(Logs {
         entries: Seq::from_vec(entries),

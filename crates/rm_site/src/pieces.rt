@@ -1,12 +1,13 @@
 //! The records and the objects of the pieces that a backup makes.
 ghost use Rattle.std.specs.Prelude.{◌≡◌, ◌≤◌, IfOk, All, List, map};
+ghost use Rattle.sha2.specs.Sha256.{sha256};
 ghost use Rattle.rm_base.specs.Numbers.{last_moment};
 ghost use Rattle.rm_database.specs.Step.{refusal_in};
 ghost use Rattle.rm_piece.specs.Spelling.{spelling};
 ghost use Rattle.rm_piece.specs.Valid.{IsPiece};
 ghost use Rattle.rm_site.specs.Saves.{Saved, IsTagBy, piece_entry, saved_as, Saves, AreOf, AreValid};
 
-use rm_base::sealed::digest_of;
+use rm_base::sealed::Encoded;
 use rm_base::{Moment, NoMemory, Seq, Status, Text};
 use rm_catalog::PieceEntry;
 use rm_change::Object;
@@ -14,7 +15,7 @@ use rm_database::{Database, NewPiece};
 use rm_lang::{BackupForm, Command};
 use rm_moments::tag;
 use rm_objects::piece_name;
-use rm_piece::encode_piece;
+use rm_piece::encode_piece_with_digest;
 use std::alloc::Global;
 
 /// The records and the objects of new pieces.
@@ -49,10 +50,11 @@ fn entry_of(
     tag: &Text,
     moment: Moment,
     new: &NewPiece,
-    bytes: &[u8],
+    encoded: &Encoded,
 ) -> Result<PieceEntry, NoMemory>
     requires valid { IsPiece new.now.piece }
-    requires bytes { bytes.now ≡ spelling new.now.piece }
+    requires bytes { encoded.now.bytes ≡ spelling new.now.piece }
+    requires digest { encoded.now.digest ≡ sha256 (spelling new.now.piece) }
     ensures { IfOk result (λ entry. entry ≡ piece_entry form.now tag.now moment new.now) }
 {
     let piece = &new.piece;
@@ -66,8 +68,8 @@ fn entry_of(
         checkpoint: piece.checkpoint,
         high: piece.high,
         rows: piece.rows.len() as u32,
-        size: bytes.len() as u64,
-        sha: digest_of(bytes),
+        size: encoded.bytes.len() as u64,
+        sha: encoded.digest,
         status: Status::Available,
         keep: form.keep,
         tag: copied(alloc, tag)?,
@@ -89,10 +91,12 @@ fn saved(
     let mut entries = Vec::new(alloc);
     let mut objects = Vec::new(alloc);
     for piece in pieces {
-        let bytes = encode_piece(alloc, &piece.piece)?;
-        entries.push(entry_of(alloc, form, tag, moment, piece, bytes.as_slice())?)?;
-        let name = piece_name(alloc, form.copy, piece.id)?;
-        objects.push(Object { name, bytes })?;
+        let encoded = encode_piece_with_digest(alloc, &piece.piece)?;
+        entries.push(entry_of(alloc, form, tag, moment, piece, &encoded)?)?;
+        objects.push(Object {
+            name: piece_name(alloc, form.copy, piece.id)?,
+            bytes: encoded.bytes,
+        })?;
     }
     Ok(Pieces {
         entries: Seq::from_vec(entries),
