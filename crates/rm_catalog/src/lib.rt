@@ -22,6 +22,3 @@ pub use record::{
     PartEntry, PieceEntry, Record,
 };
 pub use rules::MOST_RECORDS;
-
-#[cfg(test)]
-mod tests;

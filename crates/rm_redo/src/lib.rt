@@ -13,8 +13,3 @@ pub use log_reading::{decode_log, log_of_body};
 pub use log_valid::is_valid_log;
 pub use log_writing::{encode_log, encode_log_with_digest};
 pub use online::{LogFault, LogRecord, OnlineLogs, ThreadLog};
-
-#[cfg(test)]
-mod log_tests;
-#[cfg(test)]
-mod tests;
