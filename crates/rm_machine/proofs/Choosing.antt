@@ -15,8 +15,9 @@ use Rattle.rm_machine.specs.Machine.{HistoryFits, IsBorneOut}
 use Rattle.rm_machine.specs.Marks.{ids_refusal}
 use Rattle.rm_machine.specs.ResetDatabase.{at_incarnation, reset_refusal}
 use Rattle.rm_machine.specs.Sound.{IsPlaced, IsSound}
-use Rattle.rm_machine.specs.State.{State, ledger, world}
-use Rattle.rm_machine.specs.Step.{reset_database}
+use Rattle.rm_machine.specs.declared.state.State.{State}
+use Rattle.rm_machine.specs.State.{ledger, world}
+use Rattle.rm_command.specs.declared.command.Command.TheVariants.{ResetDatabase}
 use Rattle.rm_base.proofs.Conditions.{unless}
 use Rattle.rm_machine.proofs.CountedLogs.{counted-agree, counted-online}
 use Rattle.rm_machine.proofs.Kept.{kept-on, stand-same}
@@ -85,9 +86,9 @@ module _ (s : State) (i : ℕ) (sound : IsSound s) (can : CanChoose s i) where
     records = kept-on objects objects made made touched touched (ledger s) (ledger q) (stand-same objects objects touched (ledger s) (ledger q) (λ n. refl)) (λ a has. has) (λ e has. inl has) (λ e has. inl has) stands.records;
   }
 
-pub choose-on : (i : ℕ) → LeadsOnBy (reset_database i)
+pub choose-on : (i : ℕ) → LeadsOnBy (ResetDatabase i)
 choose-on i s h objects made touched said e t after well stands tell none does effect =
     quiet-on (at_incarnation s i) h objects made touched _ said e t after does effect (stands-chosen s i stands.state (can-choose s i none) h objects made touched stands)
 
-pub choose-stays : (i : ℕ) → StaysBy (reset_database i)
+pub choose-stays : (i : ℕ) → StaysBy (ResetDatabase i)
 choose-stays i s objects said e t well sound none accepted does = quiet-stays (at_incarnation s i) _ said e t does (sound-chosen s i sound (can-choose s i accepted)) none

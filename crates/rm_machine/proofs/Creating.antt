@@ -14,7 +14,8 @@ use Rattle.rm_redo.specs.Online.{fresh_log}
 use Rattle.rm_machine.specs.CreateDatabase.{fresh_machine, fresh_state}
 use Rattle.rm_machine.specs.Machine.{HistoryFits, IsSoundMachine}
 use Rattle.rm_machine.specs.Sound.{IsOnline, IsSound}
-use Rattle.rm_machine.specs.State.{State, online}
+use Rattle.rm_machine.specs.declared.state.State.{State}
+use Rattle.rm_machine.specs.State.{online}
 
 pub get-replicate : {X : Type 0} (n k : ℕ) (x : X) → k < n → slice_get (replicate n x) k ≡ Some x
 get-replicate zero k x lt = absurd (omega (arith, lt))

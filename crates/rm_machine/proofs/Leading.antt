@@ -4,30 +4,32 @@ use Rattle.rm_base.specs.Store.{Held}
 use Rattle.rm_base.specs.declared.block.Change.{Change}
 use Rattle.rm_base.specs.declared.refusal.Refusal.{Refusal}
 use Rattle.rm_machine.specs.Effect.{Effect, LeavesObjects, Made, done}
+use Rattle.rm_command.specs.declared.command.Command.{Command}
 use Rattle.rm_report.specs.declared.line.Line.{Line}
 use Rattle.rm_machine.specs.Laws.{LeadsOn, StaysSound}
 use Rattle.rm_machine.specs.Machine.{Machine, IsSoundBy, IsBorneOut, DigestsTellFor, TellBy}
 use Rattle.rm_machine.specs.Sound.{IsSound}
-use Rattle.rm_machine.specs.State.{State, ledger, at_moment}
-use Rattle.rm_machine.specs.Step.{Statement, IsStatement, IsDone, IsOutcomeBy, names_in, refusal_of}
+use Rattle.rm_machine.specs.declared.state.State.{State}
+use Rattle.rm_machine.specs.State.{ledger, at_moment}
+use Rattle.rm_machine.specs.Step.{IsStatement, IsDone, IsOutcomeBy, names_in, refusal_of}
 use Rattle.rm_machine.proofs.Kept.{stand-same}
 use Rattle.rm_machine.proofs.Later.{borne-later, sound-later}
 
 -- what was done was not refused
-pub done-by : (r : Option Refusal) (s : State) (held : Held) (c : Statement) (said : List Line) (e : Effect) (t : State)
+pub done-by : (r : Option Refusal) (s : State) (held : Held) (c : Command) (said : List Line) (e : Effect) (t : State)
     → IsOutcomeBy r s held c (done said e t) → (r ≡ None) × IsDone s held c (done said e t)
 done-by (Some r) s held c said e t is = absurd (cc)
 done-by None s held c said e t is = (refl, is)
 
 -- what is to be shown of a statement
-abbrev pub LeadsOnBy : Statement → Type 0
+abbrev pub LeadsOnBy : Command → Type 0
 LeadsOnBy c =
     (s : State) (h : List Change) (objects : Held) (made : List Made) (touched : List (List ℕ)) (said : List Line) (e : Effect) (t : State) (after : Held)
     → IsStatement c → IsBorneOut s h objects made touched → DigestsTellFor objects made (ledger s)
     → refusal_of s c ≡ None → IsDone s objects c (done said e t) → LeavesObjects e objects after
     → IsBorneOut t (h ++ e.changes) after (made ++ e.made) (names_in c ++ touched)
 
-pub leads : (c : Statement) → LeadsOnBy c → LeadsOn c
+pub leads : (c : Command) → LeadsOnBy c → LeadsOn c
 leads c law m s moment said e t after well is sound tell at goes effect =
     let was : IsBorneOut s m.history m.objects m.made m.touched = subst (λ o. IsSoundBy o m.history m.objects m.made m.touched) is sound in
     let begun : State = at_moment s moment in
@@ -40,12 +42,12 @@ leads c law m s moment said e t after well is sound tell at goes effect =
     (n, (refl, record { state = refl; history = refl; objects = effect; made = refl; touched = refl }), refl, on)
 
 -- and that it leaves a sound state, from a sound one
-abbrev pub StaysBy : Statement → Type 0
+abbrev pub StaysBy : Command → Type 0
 StaysBy c =
     (s : State) (objects : Held) (said : List Line) (e : Effect) (t : State)
     → IsStatement c → IsSound s → s.catalog.saved ≡ None → refusal_of s c ≡ None → IsDone s objects c (done said e t) → IsSound t × (t.catalog.saved ≡ None)
 
-pub stays : (c : Statement) → StaysBy c → StaysSound c
+pub stays : (c : Command) → StaysBy c → StaysSound c
 stays c law s held moment said e t well is at goes =
     let begun : State = at_moment s moment in
     let both = done-by (refusal_of begun c) begun held c said e t goes in

@@ -39,8 +39,9 @@ use Rattle.rm_machine.specs.Names.{IsObjectName, of_log, of_piece}
 use Rattle.rm_machine.specs.Machine.{HasLogArtefact, IsTrueArtefact, HistoryFits, IsBorneOut}
 use Rattle.rm_machine.specs.Marks.{ids_refusal, lacks_bytes, lacks_ids, lacks_room}
 use Rattle.rm_machine.specs.Sound.{IsOnline, IsSound}
-use Rattle.rm_machine.specs.State.{State, ledger, is_lost, online, redo_end, world}
-use Rattle.rm_machine.specs.Step.{switch_logfile}
+use Rattle.rm_machine.specs.declared.state.State.{State}
+use Rattle.rm_machine.specs.State.{ledger, is_lost, online, redo_end, world}
+use Rattle.rm_command.specs.declared.command.Command.TheVariants.{SwitchLogfile}
 use Rattle.rm_machine.specs.SwitchLogfile.{archive_refusal, archived, is_due, log_bytes, log_entry, made_lines, none_lines, switch_refusal, with_archived}
 use Rattle.rm_base.proofs.Conditions.{unless}
 use Rattle.rm_machine.proofs.Kept.{StandOn, kept-on, no-effect, stand-same}
@@ -351,7 +352,7 @@ switch-by false s t h objects made touched said e q after due stands can is effe
     (subst (λ (x : Effect). IsBorneOut s (h ++ x.changes) after (made ++ x.made) touched) is_effect
     (subst (λ k. IsBorneOut s k after (made ++ []) touched) (sym (append-nil h)) (subst (λ k. IsBorneOut s h after k touched) (sym (append-nil made)) on)))
 
-pub switch-on : (t : ℕ) → LeadsOnBy (switch_logfile t)
+pub switch-on : (t : ℕ) → LeadsOnBy (SwitchLogfile t)
 switch-on t s h objects made touched said e q after well stands tell none does effect =
     switch-by (is_due s t) s t h objects made touched said e q after refl stands (can-switch s t none) does effect
 
@@ -364,5 +365,5 @@ stays-by false s t said e q due sound none can is =
     let same : s ≡ q = cc in
     (subst IsSound same sound, sym (ap (λ (x : State). x.catalog.saved) same) ∙ none)
 
-pub switch-stays : (t : ℕ) → StaysBy (switch_logfile t)
+pub switch-stays : (t : ℕ) → StaysBy (SwitchLogfile t)
 switch-stays t s objects said e q well sound none accepted does = stays-by (is_due s t) s t said e q refl sound none (can-switch s t accepted) does

@@ -17,7 +17,8 @@ use Rattle.rm_redo.specs.Online.{records_of}
 use Rattle.rm_base.proofs.Conditions.{unless}
 use Rattle.rm_base.proofs.Conditions.{not-none}
 use Rattle.rm_machine.specs.Marks.{lacks_ids, lacks_room, marks_before}
-use Rattle.rm_machine.specs.State.{State, world, current_of, now_of, on_path, placed}
+use Rattle.rm_machine.specs.declared.state.State.{State}
+use Rattle.rm_machine.specs.State.{world, current_of, now_of, on_path, placed}
 use Rattle.rm_machine.specs.Write.{block_refusal, place_refusal, write_refusal}
 
 pub record Accepted (s : State) (w : WriteForm) : Type 0 where

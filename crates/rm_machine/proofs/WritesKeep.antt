@@ -38,7 +38,8 @@ use Rattle.rm_ledger.proofs.Trees.{own-at_end}
 use Rattle.rm_machine.specs.Effect.{Artefact, a_log, a_piece}
 use Rattle.rm_machine.specs.Machine.{HistoryFits, IsTrueArtefact, IsOfDatafile, EndsWithin, ArtefactAgrees, PieceAgrees, RowsAre}
 use Rattle.rm_machine.specs.Sound.{IsSound}
-use Rattle.rm_machine.specs.State.{State, world, current_of, now_of, redo_end, placed, counted, online, is_lost}
+use Rattle.rm_machine.specs.declared.state.State.{State}
+use Rattle.rm_machine.specs.State.{world, current_of, now_of, redo_end, placed, counted, online, is_lost}
 use Rattle.rm_machine.specs.Write.{change_of, with_write}
 use Rattle.rm_machine.proofs.Places.{counted-open, placed-is}
 use Rattle.rm_machine.proofs.Writes.{Accepted}

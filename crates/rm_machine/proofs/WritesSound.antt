@@ -35,7 +35,8 @@ use Rattle.rm_base.proofs.Slots.{all-get, get-index, get-set}
 use Rattle.rm_blocks.proofs.Rows.{in_order-set}
 use Rattle.rm_machine.specs.Marks.{lacks_room, last_marked, mark_now, marks_before, with_marks}
 use Rattle.rm_machine.specs.Sound.{IsSound, IsPlaced, IsPlacedRow, IsOnline}
-use Rattle.rm_machine.specs.State.{State, world, current_of, now_of, redo_end, placed, online, is_lost}
+use Rattle.rm_machine.specs.declared.state.State.{State}
+use Rattle.rm_machine.specs.State.{world, current_of, now_of, redo_end, placed, online, is_lost}
 use Rattle.rm_machine.specs.Write.{change_of, with_write}
 use Rattle.rm_history.proofs.Highs.{high-bound}
 use Rattle.rm_machine.proofs.Places.{counted-open}

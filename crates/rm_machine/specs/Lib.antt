@@ -1,6 +1,7 @@
 pub mod Archive
 pub mod CreateDatabase
 pub mod Effect
+pub mod Hands
 pub mod Laws
 pub mod Machine
 pub mod Marks

@@ -7,7 +7,8 @@ use Rattle.rm_base.specs.declared.refusal.Limit.TheVariants.{ObjectIds}
 use Rattle.rm_catalog.specs.Objects.{most_bytes}
 use Rattle.rm_ledger.specs.Ledger.{Ledger, records_of}
 use Rattle.rm_repository.specs.Repository.{Repository}
-use Rattle.rm_machine.specs.State.{State, ledger, current_of, now_of}
+use Rattle.rm_machine.specs.declared.state.State.{State}
+use Rattle.rm_machine.specs.State.{ledger, current_of, now_of}
 
 -- the moment of the last mark, 0 before the first
 abbrev pub last_marked : ℕ → List Mark → ℕ

@@ -8,7 +8,8 @@ use Rattle.rm_report.specs.declared.line.Line.TheVariants.{Chosen}
 use Rattle.rm_repository.specs.Changes.{with_base}
 use Rattle.rm_machine.specs.Effect.{Outcome, done, no_effect}
 use Rattle.rm_machine.specs.Marks.{ids_refusal}
-use Rattle.rm_machine.specs.State.{State, ledger, tree}
+use Rattle.rm_machine.specs.declared.state.State.{State}
+use Rattle.rm_machine.specs.State.{ledger, tree}
 
 -- where all online logs are lost, they count as logs of this incarnation
 abbrev pub counted_as : Logs → ℕ → Logs

@@ -15,7 +15,8 @@ use Rattle.rm_report.specs.declared.line.Line.TheVariants.{Written}
 use Rattle.rm_repository.specs.Changes.{with_end_at}
 use Rattle.rm_machine.specs.Effect.{Outcome, done, no_effect}
 use Rattle.rm_machine.specs.Marks.{lacks_ids, lacks_room, marks_before, with_marks}
-use Rattle.rm_machine.specs.State.{State, ledger, current_of, now_of, on_path, placed}
+use Rattle.rm_machine.specs.declared.state.State.{State}
+use Rattle.rm_machine.specs.State.{ledger, current_of, now_of, on_path, placed}
 
 -- why it is refused, where its thread and its datafile are there
 abbrev pub block_refusal : State → WriteForm → Datafile → Option Refusal

@@ -7,8 +7,9 @@ ghost use Rattle.rm_machine.specs.CreateDatabase.{fresh_machine};
 ghost use Rattle.rm_machine.specs.Laws.{IsMomentOf, LeadsOn, StaysSound};
 ghost use Rattle.rm_machine.specs.Machine.{IsSoundMachine};
 ghost use Rattle.rm_machine.specs.Sound.{IsSound};
-ghost use Rattle.rm_machine.specs.State.{State, at_moment};
-ghost use Rattle.rm_machine.specs.Step.{archive_log_current, mount, open_database, reset_database, switch_logfile, write};
+ghost use Rattle.rm_machine.specs.declared.state.State.{State};
+ghost use Rattle.rm_machine.specs.State.{at_moment};
+ghost use Rattle.rm_command.specs.declared.command.Command.TheVariants.{ArchiveLogCurrent, Mount, OpenPlain, ResetDatabase, SwitchLogfile, Write};
 
 /// There are sound machines: that of a new database is one.
 pub fn a_new_database_is_sound()
@@ -23,36 +24,36 @@ pub fn a_moment_keeps_a_state_sound()
 /// WRITE: where digests tell it is a step from a sound machine to a sound one, and whatever the devices
 /// hold it leaves a sound state.
 pub fn a_write_leads_on()
-    ensures leads { (w : WriteForm) → LeadsOn (write w) }
-    ensures stays { (w : WriteForm) → StaysSound (write w) }
+    ensures leads { (w : WriteForm) → LeadsOn (Write w) }
+    ensures stays { (w : WriteForm) → StaysSound (Write w) }
 {}
 
 /// SWITCH LOGFILE, likewise: the log of a thread becomes an archived one.
 pub fn a_switch_leads_on()
-    ensures leads { (thread : ℕ) → LeadsOn (switch_logfile thread) }
-    ensures stays { (thread : ℕ) → StaysSound (switch_logfile thread) }
+    ensures leads { (thread : ℕ) → LeadsOn (SwitchLogfile thread) }
+    ensures stays { (thread : ℕ) → StaysSound (SwitchLogfile thread) }
 {}
 
 /// ARCHIVE LOG CURRENT, likewise: the log of each thread that has something to archive.
 pub fn archiving_leads_on()
-    ensures leads { LeadsOn archive_log_current }
-    ensures stays { StaysSound archive_log_current }
+    ensures leads { LeadsOn ArchiveLogCurrent }
+    ensures stays { StaysSound ArchiveLogCurrent }
 {}
 
 /// SHUTDOWN and STARTUP MOUNT, likewise: what is in place stands at `now`.
 pub fn a_mount_leads_on()
-    ensures leads { LeadsOn mount }
-    ensures stays { StaysSound mount }
+    ensures leads { LeadsOn Mount }
+    ensures stays { StaysSound Mount }
 {}
 
 /// ALTER DATABASE OPEN, likewise: the database goes on at its end.
 pub fn an_opening_leads_on()
-    ensures leads { LeadsOn open_database }
-    ensures stays { StaysSound open_database }
+    ensures leads { LeadsOn OpenPlain }
+    ensures stays { StaysSound OpenPlain }
 {}
 
 /// RESET DATABASE, likewise: another incarnation is the current one.
 pub fn a_reset_leads_on()
-    ensures leads { (inc : ℕ) → LeadsOn (reset_database inc) }
-    ensures stays { (inc : ℕ) → StaysSound (reset_database inc) }
+    ensures leads { (inc : ℕ) → LeadsOn (ResetDatabase inc) }
+    ensures stays { (inc : ℕ) → StaysSound (ResetDatabase inc) }
 {}

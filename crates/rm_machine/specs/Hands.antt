@@ -1,0 +1,16 @@
+-- What a statement hands out, to be carried out.
+use Rattle.std.specs.Prelude.{◌≡◌, Option, Some}
+use Rattle.rm_base.specs.Store.{Held}
+use Rattle.rm_command.specs.declared.command.Command.{Command}
+use Rattle.rm_machine.specs.Effect.{Effect, done}
+use Rattle.rm_machine.specs.Step.{IsDone}
+use Rattle.rm_machine.specs.declared.handed.Handed.{Handed}
+use Rattle.rm_machine.specs.declared.state.State.{State}
+
+-- Where the store tells what it holds, the statement comes to these lines, this effect and the state t; the
+-- objects that come and go are those of the effect.
+pub record Hands (held : Option Held) (s : State) (c : Command) (x : Handed) (t : State) : Type 0 where
+  pub effect : Effect
+  pub comes : (objects : Held) → held ≡ Some objects → IsDone s objects c (done x.lines effect t)
+  pub puts : x.objects ≡ effect.puts
+  pub removes : x.removes ≡ effect.removes
