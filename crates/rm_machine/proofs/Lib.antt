@@ -4,13 +4,16 @@ pub mod Choosing
 pub mod CountedLogs
 pub mod Creating
 pub mod Kept
+pub mod LastMarks
 pub mod Later
 pub mod Leading
+pub mod Losses
 pub mod Mounting
 pub mod Opened
 pub mod Opening
 pub mod Places
 pub mod Quiet
+pub mod Sizes
 pub mod Switching
 pub mod Writes
 pub mod WritesKeep
