@@ -1,5 +1,5 @@
 -- CREATE DATAFILE leads on: one SCN further, a datafile is added.
-use Rattle.std.proofs.Common.{◌≡◌, ◌≢◌, ◌<◌, ◌≤◌, ◌+◌, ◌-◌, ◌∙◌, ◌++◌, ◌⊎◌, ◌^◌, nat_lt, nat_le, inl, inr, ℕ, zero, suc, List, [], ◌∷◌, Option, Some, None, true, false, cond, refl, ap, sym, subst, arith, length, length-append, All, Contains, slice_get, slice_index_or, sum_by}
+use Rattle.std.proofs.Common.{◌≡◌, ◌≢◌, ◌<◌, ◌≤◌, ◌+◌, ◌-◌, ◌∙◌, ◌++◌, ◌⊎◌, ◌^◌, nat_lt, nat_le, inl, inr, ℕ, zero, suc, List, [], ◌∷◌, Option, Some, None, true, cond, refl, ap, sym, subst, arith, length, length-append, All, Contains, slice_get, slice_index_or, sum_by}
 use Rattle.std.specs.Option.{option_map_or}
 use Rattle.std.proofs.lemmas.Bool.{and_parts, leb-false, leb-true, ne_eqb}
 use Rattle.std.proofs.lemmas.List.{length-set}

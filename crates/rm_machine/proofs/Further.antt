@@ -1,5 +1,5 @@
 -- One SCN further: the current incarnation of an open database ends one SCN later, behind the mark of `now`.
-use Rattle.std.proofs.Common.{◌≡◌, ◌<◌, ◌≤◌, ◌+◌, ◌∙◌, ◌&&◌, ◌⊎◌, nat_lt, inl, inr, ℕ, List, [], ◌∷◌, Some, None, Bool, true, false, cond, refl, ap, sym, subst, arith, length, All, slice_get}
+use Rattle.std.proofs.Common.{◌≡◌, ◌<◌, ◌≤◌, ◌+◌, ◌∙◌, ◌&&◌, ◌⊎◌, nat_lt, inl, inr, ℕ, List, [], ◌∷◌, Some, Bool, true, false, cond, refl, ap, sym, subst, arith, length, All}
 use Rattle.std.proofs.lemmas.Bool.{and_from, cases_lt, lt-ltb}
 use Rattle.std.proofs.lemmas.List.{append-nil}
 use Rattle.std.proofs.lemmas.List.Elements.{All-weaker}
@@ -12,7 +12,7 @@ use Rattle.rm_history.specs.declared.tree.Incarnation.{Incarnation}
 use Rattle.rm_history.specs.declared.world.Datafile.{Datafile}
 use Rattle.rm_history.specs.State.{state}
 use Rattle.rm_history.specs.Tree.{IsThere, end_of, owner, reset_of}
-use Rattle.rm_history.proofs.Below.{Further, LieBelow, agrees-further, below-risen, state-end}
+use Rattle.rm_history.proofs.Below.{Further, agrees-further, below-risen, state-end}
 use Rattle.rm_history.proofs.Ends.{end_of-with_end}
 use Rattle.rm_history.proofs.Highs.{high-above, high-bound}
 use Rattle.rm_history.proofs.Histories.{IsHistory-with_end, state-with_end}
@@ -25,7 +25,7 @@ use Rattle.rm_redo.specs.LogFile.{log_of}
 use Rattle.rm_repository.specs.Facts.{IsRepository}
 use Rattle.rm_repository.proofs.Fitted.{end_fits, mark_fits}
 use Rattle.rm_machine.specs.Machine.{HistoryFits, RowsAre}
-use Rattle.rm_machine.specs.Marks.{lacks_room, last_marked, mark_now, marks_before, one_further, with_marks}
+use Rattle.rm_machine.specs.Marks.{last_marked, mark_now, marks_before, one_further, with_marks}
 use Rattle.rm_machine.specs.Sound.{IsOnline, IsPlaced, IsSound}
 use Rattle.rm_machine.specs.declared.state.State.{State}
 use Rattle.rm_machine.specs.State.{ledger, world, current_of, now_of, redo_end, placed, online, is_lost}

@@ -1,11 +1,10 @@
 -- A WRITE that was not refused.
-use Rattle.std.proofs.Common.{◌≡◌, ◌<◌, ◌≤◌, ◌+◌, ◌∙◌, inl, inr, ◌==◌, ◌||◌, nat_lt, nat_le, ℕ, Option, Some, None, Bool, true, false, cond, is_none, refl, ap, sym, arith, length}
+use Rattle.std.proofs.Common.{◌≡◌, ◌<◌, ◌≤◌, ◌+◌, ◌∙◌, inl, inr, ◌==◌, ◌||◌, nat_lt, nat_le, ℕ, Option, Some, None, true, false, cond, is_none, refl, ap, sym, arith, length}
 use Rattle.std.specs.Option.{option_map_or}
 use Rattle.std.proofs.lemmas.Bool.{leb-false}
 use Rattle.std.proofs.lemmas.Bool.Decides.{nat_tests}
 use Rattle.std.proofs.lemmas.Option.{cond_some, option_and_then_some}
 use Rattle.rm_base.specs.Numbers.{last_scn}
-use Rattle.rm_base.specs.declared.refusal.Refusal.{Refusal}
 use Rattle.rm_base.specs.declared.refusal.Refusal.TheVariants.{Rm04, Rm05, Rm09, Rm11, Rm15}
 use Rattle.rm_base.specs.declared.refusal.Absent.TheVariants.{Thread, File as AbsentFile, Block}
 use Rattle.rm_base.specs.declared.refusal.Limit.TheVariants.{Records, ObjectIds, LogRecords}

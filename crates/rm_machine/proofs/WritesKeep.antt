@@ -1,5 +1,5 @@
 -- What a WRITE keeps of the history: one SCN further, its change is the last one.
-use Rattle.std.proofs.Common.{◌≡◌, ◌≢◌, ◌<◌, ◌≤◌, ◌+◌, ◌-◌, ◌∙◌, ◌++◌, ◌==◌, nat_lt, inl, inr, ℕ, List, [], ◌∷◌, Some, None, true, false, refl, ap, sym, subst, arith, All}
+use Rattle.std.proofs.Common.{◌≡◌, ◌≢◌, ◌<◌, ◌≤◌, ◌+◌, ◌-◌, ◌∙◌, ◌++◌, ◌==◌, nat_lt, inl, inr, ℕ, List, [], ◌∷◌, Some, true, false, refl, ap, sym, subst, arith, All}
 use Rattle.std.specs.Option.{option_map}
 use Rattle.std.proofs.lemmas.Bool.{and_parts, cases_eq, eqb-true, ltb-true}
 use Rattle.std.proofs.lemmas.List.{map_push}
@@ -16,7 +16,7 @@ use Rattle.rm_history.specs.declared.world.World.{World}
 use Rattle.rm_history.specs.Agrees.{BaseAgrees, LogAgrees, is_of}
 use Rattle.rm_history.specs.History.{IsChange, IsHistory}
 use Rattle.rm_history.specs.State.{state}
-use Rattle.rm_history.specs.Tree.{IsThere, end_of, owner, reset_of}
+use Rattle.rm_history.specs.Tree.{IsThere, end_of, owner}
 use Rattle.rm_history.proofs.Below.{Further, agrees-further, agrees-pushed, concerns-other_block, concerns-other_file, is_of-from, is_of-not}
 use Rattle.rm_history.proofs.Ends.{owner-with_end}
 use Rattle.rm_history.proofs.Growth.{BaseAgrees-grown, Level1Agrees-grown, LogAgrees-grown, state-push_top}

@@ -1,5 +1,5 @@
 -- A WRITE leaves a sound state: one SCN further, its change is in its row and in the log of its thread.
-use Rattle.std.proofs.Common.{◌≡◌, ◌<◌, ◌≤◌, ◌+◌, ◌-◌, ◌∙◌, ◌++◌, ◌⊎◌, inl, inr, ℕ, List, [], ◌∷◌, Option, Some, None, false, refl, ap, sym, subst, arith, length, All, Contains, slice_get, slice_set}
+use Rattle.std.proofs.Common.{◌≡◌, ◌<◌, ◌≤◌, ◌+◌, ◌-◌, ◌∙◌, ◌⊎◌, inl, inr, ℕ, List, Option, Some, None, false, refl, ap, sym, subst, arith, length, All, Contains, slice_get, slice_set}
 use Rattle.std.specs.Option.{option_map}
 use Rattle.std.proofs.lemmas.Bool.{cases_eq}
 use Rattle.std.proofs.lemmas.List.{length-set}
@@ -11,7 +11,6 @@ use Rattle.rm_base.proofs.Slots.{all-get, get-index, get-set}
 use Rattle.rm_blocks.specs.File.{File, standing, written}
 use Rattle.rm_blocks.proofs.Rows.{in_order-set}
 use Rattle.rm_command.specs.declared.command.WriteForm.{WriteForm}
-use Rattle.rm_history.specs.Artefacts.{high_of}
 use Rattle.rm_history.specs.declared.tree.Incarnation.{Incarnation}
 use Rattle.rm_history.specs.declared.world.Datafile.{Datafile}
 use Rattle.rm_history.specs.Tree.{IsThere, end_of, reset_of}
