@@ -1,8 +1,14 @@
+pub mod AddingDatafile
 pub mod Archives
 pub mod ArchivingAll
 pub mod Choosing
 pub mod CountedLogs
 pub mod Creating
+pub mod Dumping
+pub mod Further
+pub mod FurtherLogs
+pub mod Grown
+pub mod Handing
 pub mod Kept
 pub mod LastMarks
 pub mod Later
@@ -15,6 +21,7 @@ pub mod Places
 pub mod Quiet
 pub mod Sizes
 pub mod Switching
+pub mod Telling
 pub mod Writes
 pub mod WritesKeep
 pub mod WritesSound

@@ -1,5 +1,7 @@
 pub mod Archive
 pub mod CreateDatabase
+pub mod CreateDatafile
+pub mod Dump
 pub mod Effect
 pub mod Hands
 pub mod Laws

@@ -4,12 +4,14 @@ use Rattle.rm_base.specs.Store.{Held}
 use Rattle.rm_base.specs.declared.refusal.Refusal.{Refusal}
 use Rattle.rm_base.specs.declared.refusal.Refusal.TheVariants.{Rm02, Rm03}
 use Rattle.rm_command.specs.declared.command.Command.{Command}
-use Rattle.rm_command.specs.declared.command.Command.TheVariants.{ArchiveLogCurrent, CreateDatabase, Mount, OpenPlain, ResetDatabase, SwitchLogfile, Write}
+use Rattle.rm_command.specs.declared.command.Command.TheVariants.{ArchiveLogCurrent, CreateDatabase, CreateDatafile, Dump, Mount, OpenPlain, ResetDatabase, SwitchLogfile, Write}
 use Rattle.rm_lang.specs.IsCommand.{is_command}
 use Rattle.rm_report.specs.Reply as reply
 use Rattle.rm_report.specs.declared.line.Reply.{Reply}
 use Rattle.rm_machine.specs.Archive.{archive_all_refusal, IsArchiveOutcome}
 use Rattle.rm_machine.specs.CreateDatabase.{IsCreateOutcome}
+use Rattle.rm_machine.specs.CreateDatafile.{datafile_refusal, IsDatafileOutcome}
+use Rattle.rm_machine.specs.Dump.{dump_refusal, IsDumpOutcome}
 use Rattle.rm_machine.specs.Effect.{Effect, LeavesObjects, Outcome, refused, told, done}
 use Rattle.rm_machine.specs.Machine.{Machine, DigestsTell}
 use Rattle.rm_machine.specs.Marks.{ids_refusal}
@@ -33,6 +35,8 @@ IsStatement c = (is_command c ≡ true) × HasContent c
 -- why the state alone refuses it
 abbrev pub refusal_of : State → Command → Option Refusal
 refusal_of s (CreateDatabase dbid threads scn) = Some Rm03
+refusal_of s (CreateDatafile blocks) = datafile_refusal s blocks
+refusal_of s (Dump f b) = dump_refusal s f b
 refusal_of s (Write w) = write_refusal s w
 refusal_of s (SwitchLogfile t) = switch_refusal s t
 refusal_of s ArchiveLogCurrent = archive_all_refusal s
@@ -43,6 +47,8 @@ refusal_of s _ = None
 
 -- what it comes to otherwise, by what the store holds
 abbrev pub IsDone : State → Held → Command → Outcome → Type 0
+IsDone s held (CreateDatafile blocks) o = IsDatafileOutcome s blocks o
+IsDone s held (Dump f b) o = IsDumpOutcome s f b o
 IsDone s held (Write w) o = IsWriteOutcome s w o
 IsDone s held (SwitchLogfile t) o = IsSwitchOutcome s t o
 IsDone s held ArchiveLogCurrent o = IsArchiveOutcome s o

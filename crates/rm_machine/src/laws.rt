@@ -9,7 +9,7 @@ ghost use Rattle.rm_machine.specs.Machine.{IsSoundMachine};
 ghost use Rattle.rm_machine.specs.Sound.{IsSound};
 ghost use Rattle.rm_machine.specs.declared.state.State.{State};
 ghost use Rattle.rm_machine.specs.State.{at_moment};
-ghost use Rattle.rm_command.specs.declared.command.Command.TheVariants.{ArchiveLogCurrent, Mount, OpenPlain, ResetDatabase, SwitchLogfile, Write};
+ghost use Rattle.rm_command.specs.declared.command.Command.TheVariants.{ArchiveLogCurrent, CreateDatafile, Dump, Mount, OpenPlain, ResetDatabase, SwitchLogfile, Write};
 
 /// There are sound machines: that of a new database is one.
 pub fn a_new_database_is_sound()
@@ -26,6 +26,18 @@ pub fn a_moment_keeps_a_state_sound()
 pub fn a_write_leads_on()
     ensures leads { (w : WriteForm) → LeadsOn (Write w) }
     ensures stays { (w : WriteForm) → StaysSound (Write w) }
+{}
+
+/// CREATE DATAFILE, likewise: a datafile is added.
+pub fn a_new_datafile_leads_on()
+    ensures leads { (blocks : ℕ) → LeadsOn (CreateDatafile blocks) }
+    ensures stays { (blocks : ℕ) → StaysSound (CreateDatafile blocks) }
+{}
+
+/// DUMP, likewise, since it only tells.
+pub fn a_dump_leads_on()
+    ensures leads { (file block : ℕ) → LeadsOn (Dump file block) }
+    ensures stays { (file block : ℕ) → StaysSound (Dump file block) }
 {}
 
 /// SWITCH LOGFILE, likewise: the log of a thread becomes an archived one.
