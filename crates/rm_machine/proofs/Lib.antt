@@ -1,8 +1,14 @@
 pub mod Archives
 pub mod ArchivingAll
+pub mod BranchesSound
+pub mod Branching
 pub mod Choosing
 pub mod CountedLogs
 pub mod Creating
+pub mod Current
+pub mod FreshLogs
+pub mod Grown
+pub mod Handing
 pub mod Kept
 pub mod Later
 pub mod Leading
@@ -12,6 +18,7 @@ pub mod Opening
 pub mod Places
 pub mod Quiet
 pub mod Switching
+pub mod Telling
 pub mod Writes
 pub mod WritesKeep
 pub mod WritesSound
