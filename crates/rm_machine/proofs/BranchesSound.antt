@@ -1,5 +1,5 @@
 -- A database that branches off at its point is sound.
-use Rattle.std.proofs.Common.{◌≡◌, ◌<◌, ◌≤◌, ◌+◌, ◌∙◌, ℕ, List, Some, None, false, refl, ap, sym, subst, arith, length, slice_get}
+use Rattle.std.proofs.Common.{◌≡◌, ◌<◌, ◌≤◌, ◌∙◌, ℕ, List, Some, None, false, refl, ap, sym, subst, arith, length, slice_get}
 use Rattle.std.proofs.lemmas.List.Elements.{All-weaker}
 use Rattle.rm_base.specs.declared.block.Mark.{Mark}
 use Rattle.rm_blocks.specs.File.{File, standing}

@@ -1,5 +1,5 @@
 -- OPEN RESETLOGS leads on: logs are archived, and the tree gains an incarnation.
-use Rattle.std.proofs.Common.{◌≡◌, ◌<◌, ◌≤◌, ◌-◌, ◌∙◌, ◌++◌, inl, ℕ, List, Option, Some, None, IsSomeAnd, false, refl, ap, sym, subst, arith, length, get_or}
+use Rattle.std.proofs.Common.{◌≡◌, ◌<◌, ◌≤◌, ◌∙◌, ◌++◌, inl, ℕ, List, Option, Some, None, IsSomeAnd, false, refl, ap, sym, subst, arith, length, get_or}
 use Rattle.std.specs.Option.{option_map_or}
 use Rattle.std.proofs.lemmas.Bool.{leb-false}
 use Rattle.std.proofs.lemmas.List.{append-nil}
@@ -15,7 +15,7 @@ use Rattle.rm_blocks.specs.File.{File, base_of}
 use Rattle.rm_command.specs.declared.command.Command.TheVariants.{OpenResetlogs}
 use Rattle.rm_history.specs.Agrees.{BaseAgrees, LogAgrees}
 use Rattle.rm_history.specs.State.{state}
-use Rattle.rm_history.specs.Tree.{HasParentsBelow, end_of}
+use Rattle.rm_history.specs.Tree.{HasParentsBelow}
 use Rattle.rm_history.proofs.Branches.{end_of-with_branch}
 use Rattle.rm_history.proofs.Worlds.{BaseAgrees-with_branch, IsHistory-with_branch, Level1Agrees-with_branch, state-branched}
 use Rattle.rm_ledger.proofs.Trees.{keeps_branch, parents_below}
@@ -154,8 +154,7 @@ resets-stays s objects said e t well sound none accepted does =
     let can = can-reset s sound accepted in
     let is = after-archiving s sound can in
     let by = came s can.at said e t can.here does in
-    let is_state : branched_off (after_all s) can.at ≡ t = cc in
-    (
+    let is_state : branched_off (after_all s) can.at ≡ t = cc in (
       subst IsSound is_state (sound-branched (after_all s) can.at is.sound (can-after s can is)),
       sym (ap (λ (x : State). x.catalog.saved) is_state) ∙ is.beside.saved ∙ none,
     )

@@ -10,8 +10,8 @@ use Rattle.rm_history.specs.Tree.{reset_of}
 use Rattle.rm_redo.specs.declared.log_file.LogFile.{LogFile}
 use Rattle.rm_redo.specs.declared.online.ThreadLog.{ThreadLog}
 use Rattle.rm_redo.specs.LogFile.{log_file_of}
-use Rattle.rm_redo.specs.LogFormat.{IsBefore, IsLogRecord}
-use Rattle.rm_redo.specs.Logs.{Logs}
+use Rattle.rm_redo.specs.LogFormat.{IsLogRecord}
+use Rattle.rm_redo.specs.Logs.{IsBefore, Logs}
 use Rattle.rm_redo.specs.Online.{fresh_log, fresh_logs}
 use Rattle.rm_machine.specs.Sound.{IsOnline}
 use Rattle.rm_machine.specs.State.{is_lost}
