@@ -1,12 +1,16 @@
 pub mod AddingDatafile
 pub mod Archives
 pub mod ArchivingAll
+pub mod BranchesSound
+pub mod Branching
 pub mod Choosing
 pub mod CountedLogs
 pub mod Creating
 pub mod Dumping
 pub mod Further
 pub mod FurtherLogs
+pub mod Current
+pub mod FreshLogs
 pub mod Grown
 pub mod Handing
 pub mod Kept

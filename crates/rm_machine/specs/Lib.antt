@@ -5,11 +5,13 @@ pub mod Dump
 pub mod Effect
 pub mod Hands
 pub mod Laws
+pub mod ListIncarnation
 pub mod Machine
 pub mod Marks
 pub mod Mount
 pub mod Names
 pub mod Open
+pub mod OpenResetlogs
 pub mod ResetDatabase
 pub mod Sound
 pub mod State

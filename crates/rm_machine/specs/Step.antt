@@ -4,7 +4,7 @@ use Rattle.rm_base.specs.Store.{Held}
 use Rattle.rm_base.specs.declared.refusal.Refusal.{Refusal}
 use Rattle.rm_base.specs.declared.refusal.Refusal.TheVariants.{Rm02, Rm03}
 use Rattle.rm_command.specs.declared.command.Command.{Command}
-use Rattle.rm_command.specs.declared.command.Command.TheVariants.{ArchiveLogCurrent, CreateDatabase, CreateDatafile, Dump, Mount, OpenPlain, ResetDatabase, SwitchLogfile, Write}
+use Rattle.rm_command.specs.declared.command.Command.TheVariants.{ArchiveLogCurrent, CreateDatabase, CreateDatafile, Dump, ListIncarnation, Mount, OpenPlain, OpenResetlogs, ResetDatabase, SwitchLogfile, Write}
 use Rattle.rm_lang.specs.IsCommand.{is_command}
 use Rattle.rm_report.specs.Reply as reply
 use Rattle.rm_report.specs.declared.line.Reply.{Reply}
@@ -13,10 +13,12 @@ use Rattle.rm_machine.specs.CreateDatabase.{IsCreateOutcome}
 use Rattle.rm_machine.specs.CreateDatafile.{datafile_refusal, IsDatafileOutcome}
 use Rattle.rm_machine.specs.Dump.{dump_refusal, IsDumpOutcome}
 use Rattle.rm_machine.specs.Effect.{Effect, LeavesObjects, Outcome, refused, told, done}
+use Rattle.rm_machine.specs.ListIncarnation.{IsListIncarnationOutcome}
 use Rattle.rm_machine.specs.Machine.{Machine, DigestsTell}
 use Rattle.rm_machine.specs.Marks.{ids_refusal}
 use Rattle.rm_machine.specs.Mount.{IsMountOutcome}
 use Rattle.rm_machine.specs.Open.{open_refusal, IsOpenOutcome}
+use Rattle.rm_machine.specs.OpenResetlogs.{resetlogs_refusal, IsResetlogsOutcome}
 use Rattle.rm_machine.specs.ResetDatabase.{reset_refusal, IsResetOutcome}
 use Rattle.rm_machine.specs.declared.state.State.{State}
 use Rattle.rm_machine.specs.State.{at_moment}
@@ -42,6 +44,7 @@ refusal_of s (SwitchLogfile t) = switch_refusal s t
 refusal_of s ArchiveLogCurrent = archive_all_refusal s
 refusal_of s Mount = ids_refusal s
 refusal_of s OpenPlain = open_refusal s
+refusal_of s OpenResetlogs = resetlogs_refusal s
 refusal_of s (ResetDatabase i) = reset_refusal s i
 refusal_of s _ = None
 
@@ -54,7 +57,9 @@ IsDone s held (SwitchLogfile t) o = IsSwitchOutcome s t o
 IsDone s held ArchiveLogCurrent o = IsArchiveOutcome s o
 IsDone s held Mount o = IsMountOutcome s o
 IsDone s held OpenPlain o = IsOpenOutcome s o
+IsDone s held OpenResetlogs o = IsResetlogsOutcome s o
 IsDone s held (ResetDatabase i) o = IsResetOutcome s i o
+IsDone s held ListIncarnation o = IsListIncarnationOutcome s o
 IsDone s held _ o = ⊥
 
 abbrev pub IsOutcomeBy : Option Refusal → State → Held → Command → Outcome → Type 0

@@ -9,7 +9,7 @@ ghost use Rattle.rm_machine.specs.Machine.{IsSoundMachine};
 ghost use Rattle.rm_machine.specs.Sound.{IsSound};
 ghost use Rattle.rm_machine.specs.declared.state.State.{State};
 ghost use Rattle.rm_machine.specs.State.{at_moment};
-ghost use Rattle.rm_command.specs.declared.command.Command.TheVariants.{ArchiveLogCurrent, CreateDatafile, Dump, Mount, OpenPlain, ResetDatabase, SwitchLogfile, Write};
+ghost use Rattle.rm_command.specs.declared.command.Command.TheVariants.{ArchiveLogCurrent, CreateDatafile, Dump, ListIncarnation, Mount, OpenPlain, OpenResetlogs, ResetDatabase, SwitchLogfile, Write};
 
 /// There are sound machines: that of a new database is one.
 pub fn a_new_database_is_sound()
@@ -64,8 +64,20 @@ pub fn an_opening_leads_on()
     ensures stays { StaysSound OpenPlain }
 {}
 
+/// OPEN RESETLOGS, likewise: the logs are archived, and a new incarnation begins at the point.
+pub fn an_opening_with_resetlogs_leads_on()
+    ensures leads { LeadsOn OpenResetlogs }
+    ensures stays { StaysSound OpenResetlogs }
+{}
+
 /// RESET DATABASE, likewise: another incarnation is the current one.
 pub fn a_reset_leads_on()
     ensures leads { (inc : ℕ) → LeadsOn (ResetDatabase inc) }
     ensures stays { (inc : ℕ) → StaysSound (ResetDatabase inc) }
+{}
+
+/// LIST INCARNATION, likewise, since it only tells.
+pub fn a_list_of_incarnations_leads_on()
+    ensures leads { LeadsOn ListIncarnation }
+    ensures stays { StaysSound ListIncarnation }
 {}
