@@ -8,6 +8,9 @@ pub mod Marks
 pub mod Mount
 pub mod Names
 pub mod Open
+pub mod Recover
+pub mod RecoverTest
+pub mod Recovery
 pub mod ResetDatabase
 pub mod Sound
 pub mod State
