@@ -13,7 +13,6 @@ use Rattle.rm_evidence.specs.Available.{HasLog, HasPiece}
 use Rattle.rm_evidence.specs.Known.{known_of}
 use Rattle.rm_history.specs.declared.world.World.{World}
 use Rattle.rm_history.specs.Agrees.{BaseAgrees, Level1Agrees, LogAgrees}
-use Rattle.rm_history.specs.Artefacts as artefact
 use Rattle.rm_known.specs.Evidence as known
 use Rattle.rm_objects.specs.Names.{log_name, piece_name}
 use Rattle.rm_piece.specs.declared.piece.Piece.{Piece}

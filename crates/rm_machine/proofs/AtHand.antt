@@ -1,5 +1,5 @@
 -- Where what is at hand comes from: each artefact is in place, or the one of a record.
-use Rattle.std.proofs.Common.{◌≡◌, ◌≢◌, ◌<◌, ◌≤◌, ◌+◌, ◌∙◌, ◌++◌, inl, inr, ℕ, zero, suc, List, [], ◌∷◌, Option, Some, Bool, true, false, cond, refl, ap, sym, subst, arith, map, Contains, slice_get}
+use Rattle.std.proofs.Common.{◌≡◌, ◌≢◌, ◌<◌, ◌≤◌, ◌+◌, ◌∙◌, inl, inr, ℕ, zero, suc, List, [], ◌∷◌, Some, Bool, true, false, cond, refl, ap, subst, arith, map, Contains, slice_get}
 use Rattle.std.specs.List.{filter_map}
 use Rattle.std.proofs.lemmas.List.Elements.{Contains-append_cases}
 use Rattle.rm_base.specs.Store.{Held}
@@ -14,6 +14,7 @@ use Rattle.rm_evidence.specs.Available.{HasLog, HasPiece}
 use Rattle.rm_evidence.specs.Gathered.{IsBaseOf, IsLevel1Of, IsLogOf, placed, placed_piece}
 use Rattle.rm_piece.specs.declared.piece.Piece.{Piece}
 use Rattle.rm_redo.specs.declared.log_file.LogFile.{LogFile}
+use Rattle.rm_repository.specs.Repository.{records_of}
 use Rattle.rm_repository.proofs.Members.{log-in, piece-in}
 use Rattle.rm_machine.specs.Recovery.{IsAtHand, in_place, online_logs}
 use Rattle.rm_machine.specs.Sound.{IsSound}
@@ -39,12 +40,12 @@ pub record Level1From (s : State) (held : Held) (a : Piece) : Type 0 where
   pub has : HasPiece held entry a
 
 -- the log of a thread that is not lost, among n threads from t on
-record IsOnlineOf (s : State) (t n : ℕ) (a : LogFile) : Type 0 where
-  thread : ℕ
-  low : t ≤ thread
-  high : thread < t + n
-  found : is_lost s.instance.logs thread ≡ false
-  is : online s thread ≡ a
+pub record IsOnlineOf (s : State) (t n : ℕ) (a : LogFile) : Type 0 where
+  pub thread : ℕ
+  pub low : t ≤ thread
+  pub high : thread < t + n
+  pub found : is_lost s.instance.logs thread ≡ false
+  pub is : online s thread ≡ a
 
 by-lost : (b : Bool) (x a : LogFile) → Contains (cond b [] (x ∷ [])) a → (b ≡ false) × (x ≡ a)
 by-lost true x a has = absurd (none-in a has)
@@ -53,7 +54,7 @@ by-lost false x a has = elim (first-or-rest x [] a has) [
   | inr rest ↦ absurd (none-in a rest)
 ]
 
-online-in : (s : State) (t n : ℕ) (a : LogFile) → Contains (online_logs s t n) a → IsOnlineOf s t n a
+pub online-in : (s : State) (t n : ℕ) (a : LogFile) → Contains (online_logs s t n) a → IsOnlineOf s t n a
 online-in s t zero a has = absurd (none-in a has)
 online-in s t (suc n) a has = elim (Contains-append_cases (cond (is_lost s.instance.logs t) [] (online s t ∷ [])) (online_logs s (t + 1) n) a has) [
   | inl here ↦ let both = by-lost (is_lost s.instance.logs t) (online s t) a here in record { thread = t; low = omega arith; high = omega arith; found = both.0; is = both.1 }
@@ -89,7 +90,7 @@ module _ (s : State) (held : Held) (sound : IsSound s) (e : Evidence) (gathered 
   log-from id a has = elim (Contains-append_cases (placed (in_place s).logs) gathered.logs.rest (id, a) (subst (λ xs. Contains xs (id, a)) gathered.logs.list has)) [
     | inl here ↦ placed-log a (placed-from (in_place s).logs id a here)
     | inr rest ↦
-        let is : IsLogOf held _ id a = (gathered.logs.exact id a).0 rest in
+        let is : IsLogOf held (records_of s.catalog) id a = (gathered.logs.exact id a).0 rest in
         from_log is.0 a (log-in s.catalog is.0 sound.catalog is.1) is.3
   ]
 
@@ -97,11 +98,11 @@ module _ (s : State) (held : Held) (sound : IsSound s) (e : Evidence) (gathered 
   base-from id a has = elim (Contains-append_cases (placed (map (placed_piece (ledger s).base.dbid) (in_place s).files)) gathered.bases.rest (id, a) (subst (λ xs. Contains xs (id, a)) gathered.bases.list has)) [
     | inl here ↦ placed-file a (placed-from (map (placed_piece (ledger s).base.dbid) (in_place s).files) id a here)
     | inr rest ↦
-        let is : IsBaseOf held _ id a = (gathered.bases.exact id a).0 rest in
+        let is : IsBaseOf held (records_of s.catalog) id a = (gathered.bases.exact id a).0 rest in
         from_copy is.0 a (piece-in s.catalog is.0 sound.catalog is.1) is.3 is.4
   ]
 
   pub level1-from : (id : ℕ) (a : Piece) → Contains e.level1s (id, a) → Level1From s held a
   level1-from id a has =
-      let is : IsLevel1Of held _ id a = (gathered.level1s.exact id a).0 (subst (λ xs. Contains xs (id, a)) gathered.level1s.list has) in
+      let is : IsLevel1Of held (records_of s.catalog) id a = (gathered.level1s.exact id a).0 (subst (λ xs. Contains xs (id, a)) gathered.level1s.list has) in
       record { entry = is.0; recorded = piece-in s.catalog is.0 sound.catalog is.1; kind = is.3; has = is.4 }

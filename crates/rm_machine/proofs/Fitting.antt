@@ -1,37 +1,36 @@
 -- What is at hand fits the tree: each artefact is valid, and of an incarnation that is there.
-use Rattle.std.proofs.Common.{◌≡◌, ◌≢◌, ◌<◌, ◌≤◌, ◌+◌, ◌∙◌, ◌^◌, ℕ, List, Option, Some, refl, sym, subst, arith, All, AllPairs, Contains, length, get_or, slice_get}
+use Rattle.std.proofs.Common.{◌≡◌, ◌≢◌, ◌<◌, ◌≤◌, ◌∙◌, ℕ, List, Some, false, refl, sym, subst, arith, All, AllPairs, Contains, length, get_or, slice_get}
+use Rattle.std.specs.List.{filter_map}
 use Rattle.std.proofs.lemmas.List.Elements.{All-contains}
 use Rattle.std.proofs.lemmas.Option.{slice_get-get_or, slice_get_within}
-use Rattle.rm_base.specs.Numbers.{last_scn}
 use Rattle.rm_base.specs.Store.{Held}
 use Rattle.rm_base.specs.declared.block.Row.{Row}
 use Rattle.rm_base.specs.declared.kinds.Kind.TheVariants.{Level1}
+use Rattle.rm_base.proofs.Lists.{map_from}
 use Rattle.rm_base.proofs.Slots.{all-get}
 use Rattle.rm_blocks.specs.File.{File, IsInOrder}
-use Rattle.rm_catalog.specs.declared.record.LogEntry.{LogEntry}
 use Rattle.rm_catalog.specs.declared.record.PieceEntry.{PieceEntry}
 use Rattle.rm_evidence.specs.declared.evidence.Evidence.{Evidence}
-use Rattle.rm_evidence.specs.Available.{HasLog, HasPiece}
+use Rattle.rm_evidence.specs.Available.{HasPiece}
 use Rattle.rm_evidence.specs.Gathered.{placed_piece}
 use Rattle.rm_evidence.specs.Known.{FitsLog, FitsPiece, FitsTree}
 use Rattle.rm_evidence.specs.Place.{FitsPlace}
-use Rattle.rm_catalog.specs.Trees.{nodes}
-use Rattle.rm_history.specs.declared.tree.Incarnation.{Incarnation}
 use Rattle.rm_history.specs.declared.world.Datafile.{Datafile}
-use Rattle.rm_history.specs.Tree.{IsThere, end_of}
+use Rattle.rm_history.specs.Tree.{IsThere}
 use Rattle.rm_history.proofs.Highs.{high-above, high-least}
 use Rattle.rm_ledger.specs.Facts.{IsCreated, IsLogEntry, IsPieceEntry}
 use Rattle.rm_ledger.proofs.Lookups.{item-at}
 use Rattle.rm_piece.specs.declared.piece.Piece.{Piece}
-use Rattle.rm_piece.specs.Valid.{IsBefore, IsPiece, IsRow}
+use Rattle.rm_piece.specs.Valid.{IsBefore, IsRow}
 use Rattle.rm_redo.specs.declared.log_file.LogFile.{LogFile}
 use Rattle.rm_repository.specs.Repository.{records_of}
 use Rattle.rm_machine.specs.Recovery.{IsAtHand, in_place}
 use Rattle.rm_machine.specs.Sound.{IsPlaced, IsPlacedRow, IsSound}
 use Rattle.rm_machine.specs.declared.state.State.{State}
 use Rattle.rm_machine.specs.State.{ledger, tree, counted, online, is_lost}
-use Rattle.rm_machine.proofs.AtHand.{BaseFrom, Level1From, LogFrom, base-from, from_copy, from_log, from_online, from_place, level1-from, log-from}
-use Rattle.rm_machine.proofs.Standing.{at-place, each-in}
+use Rattle.rm_machine.proofs.AtHand.{BaseFrom, LogFrom, base-from, from_copy, from_log, from_online, from_place, level1-from, log-from, online-in}
+use Rattle.rm_machine.proofs.Records.{tree-told}
+use Rattle.rm_machine.proofs.Standing.{at-place, each-in, present-in}
 
 -- blocks in order ascend
 ascends : (rows : List Row) → IsInOrder rows → AllPairs IsBefore rows
@@ -119,3 +118,19 @@ module _ (s : State) (sound : IsSound s) where
           let from = level1-from s held sound e gathered x.0 x.1 has in from.has.object.fields.kind ∙ from.kind);
       logs = each-in (λ (x : ℕ × LogFile). FitsLog (tree s) x.1) e.logs (λ x has. log-fits x.1 (log-from s held sound e gathered x.0 x.1 has));
     }
+
+-- what is in place fits the records
+pub place-fits : (s : State) → IsSound s → FitsPlace (records_of s.catalog) (in_place s)
+place-fits s sound = record {
+  files = subst (λ ns. All (λ x. FitsPiece ns (placed_piece (ledger s).base.dbid x)) (in_place s).files) (sym (tree-told s.catalog))
+      (each-in (λ x. FitsPiece (tree s) (placed_piece (ledger s).base.dbid x)) (in_place s).files (λ x has.
+      let file = map_from (counted s) (filter_map (λ o. o) s.instance.place) x has in
+      let at = present-in s.instance.place file.item file.held in
+      subst (λ y. FitsPiece (tree s) (placed_piece (ledger s).base.dbid y)) file.is (stands-valid s sound at.0 file.item at.1)));
+  logs = subst (λ ns. All (FitsLog ns) (in_place s).logs) (sym (tree-told s.catalog))
+      (each-in (FitsLog (tree s)) (in_place s).logs (λ a has.
+      let found = online-in s 1 (ledger s).base.threads a has in
+      let low = found.low in
+      let high = found.high in
+      subst (FitsLog (tree s)) found.is (online-valid s sound found.thread (omega (arith, low)) (omega (arith, high)) found.found)));
+}

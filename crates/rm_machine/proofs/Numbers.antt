@@ -1,5 +1,5 @@
 -- The datafiles of a database, by their numbers.
-use Rattle.std.proofs.Common.{◌≡◌, ◌<◌, ◌≤◌, ◌+◌, ◌-◌, ◌∙◌, ◌==◌, inl, inr, ℕ, Option, Some, None, true, false, cond, eq-eqb, ap, sym, subst, arith, slice_get}
+use Rattle.std.proofs.Common.{◌≡◌, ◌+◌, ◌-◌, ◌∙◌, ◌==◌, inl, inr, ℕ, Option, Some, None, true, false, cond, eq-eqb, ap, sym, arith, slice_get}
 use Rattle.std.specs.Option.{option_map_or}
 use Rattle.std.proofs.lemmas.Bool.{cases_Bool, ne_eqb}
 use Rattle.rm_history.specs.declared.world.Datafile.{Datafile}

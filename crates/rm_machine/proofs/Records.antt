@@ -7,12 +7,12 @@ use Rattle.std.proofs.lemmas.List.Elements.{filter_map-append}
 use Rattle.rm_catalog.specs.declared.record.Record.{Record}
 use Rattle.rm_catalog.specs.declared.record.Record.TheVariants as kind
 use Rattle.rm_catalog.specs.Keys.{datafile_in}
+use Rattle.rm_catalog.specs.Rules.{HasDatabase}
 use Rattle.rm_catalog.specs.Trees.{node_in, nodes}
 use Rattle.rm_history.specs.declared.tree.Incarnation.{Incarnation}
 use Rattle.rm_history.specs.declared.world.Datafile.{Datafile}
 use Rattle.rm_history.specs.declared.world.World.{World}
-use Rattle.rm_ledger.specs.Ledger.{Ledger, datafile_record, incarnation_record, mark_record, numbered}
-use Rattle.rm_ledger.specs.Ledger.{records_of as ledger_records}
+use Rattle.rm_ledger.specs.Ledger.{datafile_record, incarnation_record, mark_record, numbered}
 use Rattle.rm_objects.specs.Database.{created_by, datafiles}
 use Rattle.rm_objects.specs.Database.{world_of as told_world}
 use Rattle.rm_repository.specs.Repository.{Repository, Saved, records_of, saved_records}
@@ -82,3 +82,6 @@ pub world-told : (r : Repository) → told_world (records_of r) ≡ world_of r.l
 world-told r =
     let make : List Incarnation → List Datafile → World = λ ns ds. record { tree = ns; threads = r.ledger.base.threads; files = ds } in
     ap (λ ns. make ns (datafiles (records_of r))) (tree-told r) ∙ ap (make r.ledger.tree) (files-told r)
+
+pub database-told : (r : Repository) → HasDatabase (records_of r)
+database-told r = refl

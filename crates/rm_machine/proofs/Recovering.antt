@@ -1,9 +1,8 @@
 -- A database that was recovered by what is at hand is sound.
-use Rattle.std.proofs.Common.{◌≡◌, ◌<◌, ◌≤◌, ◌+◌, ◌∙◌, ◌⊎◌, ◌==◌, ◌||◌, nat_lt, inl, inr, ℕ, zero, suc, List, [], ◌∷◌, Option, Some, None, Bool, true, false, cond, refl, ap, sym, subst, arith, length, slice_get}
+use Rattle.std.proofs.Common.{◌≡◌, ◌<◌, ◌≤◌, ◌+◌, ◌∙◌, ◌==◌, ◌||◌, nat_lt, inl, inr, ℕ, zero, suc, List, [], ◌∷◌, Option, Some, None, Bool, true, false, cond, refl, ap, sym, subst, arith, length, slice_get}
 use Rattle.std.specs.Option.{option_and_then}
 use Rattle.std.proofs.lemmas.Bool.{and_parts, both_ways, cases_Bool, eqb-true, ltb-true}
 use Rattle.std.proofs.lemmas.Bool.Decides.{nat_tests}
-use Rattle.std.proofs.lemmas.Option.{slice_get_within}
 use Rattle.rm_base.specs.declared.block.Row.{Row}
 use Rattle.rm_base.specs.declared.refusal.Refusal.{Refusal}
 use Rattle.rm_base.specs.declared.refusal.Refusal.TheVariants.{Rm04, Rm06}
@@ -23,7 +22,6 @@ use Rattle.rm_history.proofs.Highs.{high-bound}
 use Rattle.rm_known.specs.Evidence as known
 use Rattle.rm_known.specs.Known.{Seen, by_creation}
 use Rattle.rm_ledger.specs.Facts.{IsCreated}
-use Rattle.rm_ledger.proofs.Lookups.{item-at}
 use Rattle.rm_machine.specs.Recover.{or_else, put_over, recovered, recover_refusal, recover_target, target_refusal}
 use Rattle.rm_machine.specs.Recovery.{AreTold, IsTold, range_refusal}
 use Rattle.rm_machine.specs.Sound.{IsPlaced, IsPlacedRow, IsPoint, IsSound}
@@ -142,9 +140,9 @@ module _ (s : State) (e : Evidence) (at : ℕ) (files : List (Option File)) (sou
           checkpoint = omega (arith, stood, low, first);
           high = subst (λ j. high_of x.checkpoint x.rows ≤ end_of (tree s) j) (sym is.inc)
               (high-bound x.checkpoint (now_of s) x.rows (omega (arith, stood, high)) (λ r has.
-                  let row = at-place x.rows r has in
-                  let less = version-below row.0 r row.1 in
-                  omega (arith, less, high)));
+              let row = at-place x.rows r has in
+              let less = version-below row.0 r row.1 in
+              omega (arith, less, high)));
         }
 
   pub sound-recovered : IsSound after

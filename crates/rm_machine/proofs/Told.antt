@@ -1,5 +1,5 @@
 -- The datafiles that the evidence tells: each block of them is determined, and so they are those of the history.
-use Rattle.std.proofs.Common.{◌≡◌, ◌<◌, ◌≤◌, ◌+◌, ◌∙◌, inl, inr, ℕ, zero, suc, List, [], ◌∷◌, Option, Some, None, true, false, cond, refl, ap, sym, subst, arith, length, slice_get}
+use Rattle.std.proofs.Common.{◌≡◌, ◌<◌, ◌+◌, ◌∙◌, inl, inr, ℕ, zero, suc, List, [], ◌∷◌, Option, Some, None, true, cond, refl, ap, sym, subst, arith, length, slice_get}
 use Rattle.std.specs.Option.{option_map}
 use Rattle.std.proofs.lemmas.Bool.{cases_Bool}
 use Rattle.std.proofs.lemmas.Option.{slice_get_past, slice_get_within}
@@ -11,14 +11,15 @@ use Rattle.rm_history.specs.declared.world.World.{World}
 use Rattle.rm_history.specs.History.{IsHistory}
 use Rattle.rm_history.specs.State.{rows_from, state, states}
 use Rattle.rm_history.specs.Tree.{IsThere}
-use Rattle.rm_history.specs.World.{blocks_of, exists}
+use Rattle.rm_history.specs.World.{exists}
 use Rattle.rm_known.specs.Evidence.{Agrees, Evidence}
 use Rattle.rm_known.specs.FirstGap.{IsDetermined, IsRecoverable, IsTarget}
 use Rattle.rm_known.proofs.Facts.{told-is-true}
 use Rattle.rm_ledger.proofs.Lookups.{item-at}
+use Rattle.rm_machine.specs.Machine.{RowsAre}
 use Rattle.rm_machine.specs.Recovery.{AreTold, IsTold, file_at, files_at, files_from}
 use Rattle.rm_machine.proofs.Numbers.{blocks-at, file-at, file-place}
-use Rattle.rm_machine.proofs.Standing.{past-end, same-places}
+use Rattle.rm_machine.proofs.Standing.{each-get, past-end, same-places}
 
 -- a list whose item k has the row of block b + k
 rows-are : (row : ℕ → Row) (b n : ℕ) (rows : List Row) → length rows ≡ n → ((k : ℕ) (r : Row) → slice_get rows k ≡ Some r → row (b + k) ≡ r) → rows ≡ rows_from row b n
@@ -29,7 +30,7 @@ rows-are row b (suc n) (x ∷ xs) many each =
     let start : b + 0 ≡ b = omega arith in
     let first : row b ≡ x = subst (λ m. row m ≡ x) start (each 0 x refl) in
     let rest : xs ≡ rows_from row (b + 1) n = rows-are row (b + 1) n xs (omega (arith, many)) (λ k r is.
-        let next : b + suc k ≡ b + 1 + k = omega arith in subst (λ m. row m ≡ r) next (each (suc k) r is)) in
+    let next : b + suc k ≡ b + 1 + k = omega arith in subst (λ m. row m ≡ r) next (each (suc k) r is)) in
     ap (λ (y : Row). y ∷ xs) (sym first) ∙ ap (λ ys. row b ∷ ys) rest
 
 -- a datafile of the same fields
@@ -50,6 +51,14 @@ files-get w h i at f (d ∷ ds) (suc k) =
     let next : f + 1 + k ≡ f + suc k = omega arith in
     files-get w h i at (f + 1) ds k ∙ ap (λ n. option_map (λ d. cond (exists w i at d) (Some (file_at w h i at n d.blocks)) None) (slice_get ds k)) next
 
+-- each block of a datafile that is told is determined
+pub block-determined : (w : World) (e : Evidence) (i at k : ℕ) (d : Datafile) (x : File) → slice_get w.files k ≡ Some d → IsTold w e i at (1 + k) x → (b : ℕ) → b < d.blocks → IsDetermined w e i at (1 + k) b
+block-determined w e i at k d x is told b inside =
+    let long = told.blocks in
+    let many = blocks-at w k d is in
+    let row = item-at x.rows b (omega (arith, long, many, inside)) in
+    record { version = row.0.version; content = row.0.content; is = (told.rows b row.0 row.1).1 }
+
 module _ (w : World) (e : Evidence) (i at : ℕ) (there : IsThere w.tree i) where
   -- a block of a datafile that exists is a target
   target-of : (k : ℕ) (d : Datafile) (b : ℕ) → slice_get w.files k ≡ Some d → exists w i at d ≡ true → b < d.blocks → IsTarget w i at (1 + k) b
@@ -61,11 +70,7 @@ module _ (w : World) (e : Evidence) (i at : ℕ) (there : IsThere w.tree i) wher
     told-recoverable f b target =
         let place = file-place w f target.datafile target.is in
         let file = told.told place.place target.datafile place.is target.exists in
-        let long = file.2.blocks in
-        let many = blocks-at w place.place target.datafile place.is in
-        let inside = target.block in
-        let row = item-at file.0.rows b (omega (arith, long, many, inside)) in
-        subst (λ n. IsDetermined w e i at n b) place.number (record { version = row.0.version; content = row.0.content; is = (file.2.rows b row.0 row.1).1 })
+        subst (λ n. IsDetermined w e i at n b) place.number (block-determined w e i at place.place target.datafile file.0 place.is file.2 b target.block)
 
     module _ (h : List Change) (history : IsHistory w h) (agrees : Agrees w h e) where
       -- each row of a datafile that is told is the state of its block
@@ -79,12 +84,17 @@ module _ (w : World) (e : Evidence) (i at : ℕ) (there : IsThere w.tree i) wher
           let make : ℕ → Row = λ n. record { block = n; version = r.version; content = r.content } in
           told-is-true w e i at (1 + k) b r.version r.content target found.1 h history agrees ∙ ap make (sym found.0)
 
+      pub told-states : (k : ℕ) (d : Datafile) (x : File) → slice_get w.files k ≡ Some d → exists w i at d ≡ true → IsTold w e i at (1 + k) x → RowsAre w h i at x
+      told-states k d x is here file = each-get (λ r. r ≡ state w h i at x.file r.block) x.rows (λ b r row.
+          let block = (file.rows b r row).0 in
+          sym (subst (λ f. state w h i at f r.block ≡ r) (sym file.file) (subst (λ n. state w h i at (1 + k) n ≡ r) (sym block) (row-is k d x is here file b r row))))
+
       -- it is that of the history
       file-is : (k : ℕ) (d : Datafile) (x : File) → slice_get w.files k ≡ Some d → exists w i at d ≡ true → IsTold w e i at (1 + k) x → x ≡ file_at w h i at (1 + k) d.blocks
       file-is k d x is here file =
           same-file x (1 + k) i at (states w h i at (1 + k) d.blocks) file.file file.inc file.checkpoint
           (rows-are (state w h i at (1 + k)) 0 d.blocks x.rows (file.blocks ∙ blocks-at w k d is) (λ b r row.
-              let start : 0 + b ≡ b = omega arith in subst (λ n. state w h i at (1 + k) n ≡ r) (sym start) (row-is k d x is here file b r row)))
+          let start : 0 + b ≡ b = omega arith in subst (λ n. state w h i at (1 + k) n ≡ r) (sym start) (row-is k d x is here file b r row)))
 
       -- what stands at a place is what the history made
       stands-by : (k : ℕ) (d : Datafile) → slice_get w.files k ≡ Some d → slice_get files k ≡ Some (cond (exists w i at d) (Some (file_at w h i at (1 + k) d.blocks)) None)

@@ -1,5 +1,5 @@
 -- What a recovery may take into account, and what it brings back.
-use Rattle.std.specs.Prelude.{ℕ, zero, suc, ◌≡◌, ◌+◌, ◌||◌, ◌⊎◌, nat_lt, if◌then◌else◌, true, false, Option, Some, None, List, [], ◌∷◌, ◌++◌, count_by, length, map, slice_get}
+use Rattle.std.specs.Prelude.{ℕ, zero, suc, ◌≡◌, ◌+◌, ◌||◌, ◌⊎◌, nat_lt, if◌then◌else◌, Bool, true, false, Option, Some, None, List, [], ◌∷◌, ◌++◌, count_by, length, map, slice_get}
 use Rattle.std.specs.List.{filter_map}
 use Rattle.rm_base.specs.Store.{Held}
 use Rattle.rm_base.specs.declared.block.Change.{Change}
@@ -30,6 +30,12 @@ use Rattle.rm_repository.specs.Repository.{records_of}
 use Rattle.rm_machine.specs.Effect.{Outcome, refused}
 use Rattle.rm_machine.specs.declared.state.State.{State}
 use Rattle.rm_machine.specs.State.{ledger, world, counted, online, is_lost}
+
+-- no UNTIL, or one that is built
+abbrev pub is_built_until : Option Until → Bool
+is_built_until None = true
+is_built_until (Some (Scn at)) = true
+is_built_until (Some _) = false
 
 -- The SCN at which a recovery of incarnation i stops: its UNTIL, or the end. None where the UNTIL is one that
 -- is not built.
