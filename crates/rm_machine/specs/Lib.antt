@@ -12,6 +12,9 @@ pub mod Mount
 pub mod Names
 pub mod Open
 pub mod OpenResetlogs
+pub mod Recover
+pub mod RecoverTest
+pub mod Recovery
 pub mod ResetDatabase
 pub mod Sound
 pub mod State
