@@ -22,9 +22,9 @@ use Rattle.rm_frame.specs.Loose.{StaysLoose}
 
 -- the numbers of a new database, which the grammar and the refusal leave
 pub record AreNumbers (dbid threads scn : ℕ) : Type 0 where
-  pub dbid : (1 ≤ dbid) × (dbid < 2 ^ 32)
-  pub threads : (1 ≤ threads) × (threads ≤ 4)
-  pub scn : (1 ≤ scn) × (scn ≤ last_scn)
+  pub number : (1 ≤ dbid) × (dbid < 2 ^ 32)
+  pub some : (1 ≤ threads) × (threads ≤ 4)
+  pub first : (1 ≤ scn) × (scn ≤ last_scn)
 
 in-ranges : (d t s : ℕ) → (nat_le 1 d && nat_le d 4294967295 && (nat_le 1 t && nat_le t 18446744073709551615 && (nat_le 1 s && nat_le s 281474976710655))) ≡ true
     → (1 ≤ d) × (d ≤ 4294967295) × (1 ≤ t) × (1 ≤ s) × (s ≤ 281474976710655)
@@ -34,7 +34,7 @@ pub numbers-of : (dbid threads scn : ℕ) → is_command (CreateDatabase dbid th
 numbers-of dbid threads scn command few =
     let ranges = in-ranges dbid threads scn command in
     let high = ranges.1 in
-    record { dbid = (ranges.0, omega (arith, high)); threads = (ranges.2, few); scn = (ranges.3, ranges.4) }
+    record { number = (ranges.0, omega (arith, high)); some = (ranges.2, few); first = (ranges.3, ranges.4) }
 
 -- what CREATE DATABASE came to, where it is done
 record IsFounded (dbid threads scn moment : ℕ) (lines : List Line) (effect : Effect) (t : State) : Type 0 where
@@ -58,7 +58,7 @@ founded-quiet dbid threads scn moment lines effect t comes =
 founded-sound : (dbid threads scn moment : ℕ) (objects : Held) (touched : List (List ℕ)) → AreNumbers dbid threads scn → moment ≤ last_moment
     → IsBorneOut (fresh_state dbid threads scn moment) [] objects [] touched
 founded-sound dbid threads scn moment objects touched is late =
-    let sound : IsSoundMachine (fresh_machine objects dbid threads scn moment) = fresh-sound dbid threads scn moment is.dbid.0 is.dbid.1 is.threads.0 is.threads.1 is.scn.0 is.scn.1 late objects in
+    let sound : IsSoundMachine (fresh_machine objects dbid threads scn moment) = fresh-sound dbid threads scn moment is.number.0 is.number.1 is.some.0 is.some.1 is.first.0 is.first.1 late objects in
     record {
       state = sound.state;
       keeps = sound.keeps;

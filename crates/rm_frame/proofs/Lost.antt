@@ -15,12 +15,16 @@ use Rattle.rm_machine.proofs.Creating.{get-replicate, length-replicated}
 use Rattle.rm_frame.specs.Holds.{records_in}
 use Rattle.rm_frame.specs.Stopped.{all_lost, ended, lost_log}
 
-none-there : {X : Type 0} (n k : ℕ) (x : X) → slice_get (replicate n (None {A = X})) k ≡ Some (Some x) → ⊥
+-- nothing in n places
+abbrev empty : ℕ → List (Option File)
+empty n = replicate n None
+
+none-there : (n k : ℕ) (x : File) → slice_get (empty n) k ≡ Some (Some x) → ⊥
 none-there zero k x is = absurd cc
 none-there (suc n) zero x is = absurd cc
 none-there (suc n) (suc k) x is = none-there n k x is
 
-none-placed : {X : Type 0} (n k : ℕ) → slice_index_or (replicate n (None {A = X})) k None ≡ None
+none-placed : (n k : ℕ) → slice_index_or (empty n) k None ≡ None
 none-placed zero k = refl
 none-placed (suc n) zero = refl
 none-placed (suc n) (suc k) = none-placed n k

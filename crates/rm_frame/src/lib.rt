@@ -2,4 +2,13 @@
 //! whole machine.
 #![tactic(auto)]
 
+mod create;
 pub mod laws;
+mod moment;
+pub mod open;
+pub mod site;
+mod statement;
+
+pub use open::OpenFault;
+pub use rm_change::Stop;
+pub use site::Site;

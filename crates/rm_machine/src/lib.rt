@@ -1,9 +1,11 @@
 //! The machine: what a statement does to a database, by what is at hand, and the history behind it.
 #![tactic(auto)]
 
+mod built;
 pub mod handed;
 pub mod laws;
 pub mod state;
 
+pub use built::is_built;
 pub use handed::Handed;
 pub use state::{Instance, State};
