@@ -1,6 +1,7 @@
 //! The machine: what a statement does to a database, by what is at hand, and the history behind it.
 #![tactic(auto)]
 
+pub mod built;
 pub mod facts;
 pub mod handed;
 pub mod laws;
@@ -8,5 +9,6 @@ pub mod marks;
 pub mod room;
 pub mod state;
 
+pub use built::is_built;
 pub use handed::Handed;
 pub use state::{Instance, State};
