@@ -6,9 +6,11 @@ pub mod facts;
 pub mod handed;
 pub mod laws;
 pub mod marks;
+pub mod replies;
 pub mod room;
 pub mod state;
 
 pub use built::is_built;
 pub use handed::Handed;
+pub use replies::refusal_reply;
 pub use state::{Instance, State};
