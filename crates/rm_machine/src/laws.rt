@@ -103,6 +103,7 @@ pub fn a_test_of_a_recovery_tells()
     ensures tells { (until : Option Until) (inc : Option ℕ) → TellsOn (RecoverTest until inc) }
     ensures leads { (until : Option Until) (inc : Option ℕ) → LeadsOn (RecoverTest until inc) }
     ensures stays { (until : Option Until) (inc : Option ℕ) → StaysSound (RecoverTest until inc) }
+{}
 
 /// Behind the gap with which a recovery is refused stand two histories, whichever history agrees with what is
 /// at hand: in one the block is at the greatest version that is seen, in the other it was changed at the gap, to
@@ -110,6 +111,7 @@ pub fn a_test_of_a_recovery_tells()
 pub fn behind_a_gap_stand_two_histories()
     ensures unknown { (s : State) (held : Held) (i at : ℕ) (o : Outcome) (gap : FindsGap s held i at o) → IsSound s → IsUnknown (world s) (known_of gap.evidence) i at gap.file gap.block gap.inc gap.scn }
     ensures agrees { (s : State) (h : List Change) (objects : Held) (made : List Made) (touched : List (List ℕ)) → IsBorneOut s h objects made touched → DigestsTellFor objects made (ledger s) → (e : Evidence) → IsAtHand s objects e → Agrees (world s) h (known_of e) }
+{}
 
 /// What is at hand decides: where it leaves a gap, not each block is told.
 pub fn a_gap_and_a_recovery_exclude_each_other()
