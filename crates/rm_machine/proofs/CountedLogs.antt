@@ -9,9 +9,10 @@ use Rattle.rm_history.specs.Tree.{IsThere}
 use Rattle.rm_redo.specs.declared.online.ThreadLog.{ThreadLog}
 use Rattle.rm_redo.specs.LogFile.{log_of}
 use Rattle.rm_redo.specs.Logs.{Logs}
-use Rattle.rm_machine.specs.ResetDatabase.{counted_as}
+use Rattle.rm_redo.specs.Online.{counted_as}
 use Rattle.rm_machine.specs.Sound.{AreOnline}
-use Rattle.rm_machine.specs.State.{State, is_lost, online}
+use Rattle.rm_machine.specs.declared.state.State.{State}
+use Rattle.rm_machine.specs.State.{is_lost, online}
 
 all-lost : (ls : List ThreadLog) (k : ℕ) → k < length ls → list_all (λ l. l.is_lost) ls ≡ true → option_map_or (λ l. l.is_lost) (slice_get ls k) false ≡ true
 all-lost [] k inside all = absurd (omega (arith, inside))

@@ -9,7 +9,8 @@ use Rattle.rm_machine.specs.Effect.{Made}
 use Rattle.rm_machine.specs.Laws.{IsMomentOf}
 use Rattle.rm_machine.specs.Machine.{IsBorneOut, HistoryFits}
 use Rattle.rm_machine.specs.Sound.{IsSound}
-use Rattle.rm_machine.specs.State.{State, ledger, at_moment}
+use Rattle.rm_machine.specs.declared.state.State.{State}
+use Rattle.rm_machine.specs.State.{ledger, at_moment}
 use Rattle.rm_machine.proofs.Kept.{StandOn, kept-on, names-of}
 
 -- what runs stays sound

@@ -17,8 +17,9 @@ use Rattle.rm_machine.specs.Effect.{Made}
 use Rattle.rm_machine.specs.Machine.{HistoryFits, RowsAre, IsBorneOut}
 use Rattle.rm_machine.specs.Mount.{as_mounted, first_lost, mount_point, mounted}
 use Rattle.rm_machine.specs.Sound.{IsPlaced, IsPoint, IsSound, StandsAt}
-use Rattle.rm_machine.specs.State.{State, ledger, world, current_of, now_of, placed, counted}
-use Rattle.rm_machine.specs.Step.{mount}
+use Rattle.rm_machine.specs.declared.state.State.{State}
+use Rattle.rm_machine.specs.State.{ledger, world, current_of, now_of, placed, counted}
+use Rattle.rm_command.specs.declared.command.Command.TheVariants.{Mount}
 use Rattle.rm_base.proofs.Conditions.{given-where, unless}
 use Rattle.rm_machine.proofs.Kept.{kept-on, stand-same}
 use Rattle.rm_machine.proofs.Leading.{LeadsOnBy, StaysBy}
@@ -152,12 +153,12 @@ closed-as_mounted s = closed-by s.instance.is_open refl
     closed-by true is = ap (λ c. (cond c (mounted s) s).instance.is_open) is
     closed-by false is = ap (λ c. (cond c (mounted s) s).instance.is_open) is ∙ is
 
-pub mount-on : LeadsOnBy mount
+pub mount-on : LeadsOnBy Mount
 mount-on s h objects made touched said e t after well stands tell none does effect =
     quiet-on (as_mounted s) h objects made touched _ said e t after does effect (stands-as_mounted s h objects made touched stands)
 
 none-mounted : (s : State) → s.catalog.saved ≡ None → (as_mounted s).catalog.saved ≡ None
 none-mounted s none = mode-either (λ q. q.catalog.saved ≡ None) s s.instance.is_open (λ opened. none) none
 
-pub mount-stays : StaysBy mount
+pub mount-stays : StaysBy Mount
 mount-stays s objects said e t well sound none accepted does = quiet-stays (as_mounted s) _ said e t does (sound-as_mounted s sound) (none-mounted s none)

@@ -15,8 +15,9 @@ use Rattle.rm_machine.specs.Machine.{HistoryFits, RowsAre, IsBorneOut}
 use Rattle.rm_machine.specs.Marks.{ids_refusal}
 use Rattle.rm_machine.specs.Open.{is_recovered, open_refusal, opened}
 use Rattle.rm_machine.specs.Sound.{IsPlaced, IsSound}
-use Rattle.rm_machine.specs.State.{State, ledger, world, current_of, now_of, placed, counted, is_lost}
-use Rattle.rm_machine.specs.Step.{open_database}
+use Rattle.rm_machine.specs.declared.state.State.{State}
+use Rattle.rm_machine.specs.State.{ledger, world, current_of, now_of, placed, counted, is_lost}
+use Rattle.rm_command.specs.declared.command.Command.TheVariants.{OpenPlain}
 use Rattle.rm_machine.proofs.Opened.{below-point, kept-get, kept-length, kept-rows, placed-standing, rows-agree}
 use Rattle.rm_base.proofs.Conditions.{only-where, unless}
 use Rattle.rm_machine.proofs.Kept.{kept-on, stand-same}
@@ -109,9 +110,9 @@ module _ (s : State) (sound : IsSound s) (can : CanOpen s) where
     records = kept-on objects objects made made touched touched (ledger s) (ledger q) (stand-same objects objects touched (ledger s) (ledger q) (λ n. refl)) (λ a has. has) (λ e has. inl has) (λ e has. inl has) stands.records;
   }
 
-pub open-on : LeadsOnBy open_database
+pub open-on : LeadsOnBy OpenPlain
 open-on s h objects made touched said e t after well stands tell none does effect =
     quiet-on (opened s (now_of s)) h objects made touched _ said e t after does effect (stands-opened s stands.state (can-open s none) h objects made touched stands)
 
-pub open-stays : StaysBy open_database
+pub open-stays : StaysBy OpenPlain
 open-stays s objects said e t well sound none accepted does = quiet-stays (opened s (now_of s)) _ said e t does (sound-opened s sound (can-open s accepted)) none

@@ -8,7 +8,8 @@ use Rattle.rm_history.specs.declared.world.Datafile.{Datafile}
 use Rattle.rm_ledger.proofs.Lookups.{item-at}
 use Rattle.rm_base.proofs.Slots.{get-index, get-mapped, index-get}
 use Rattle.rm_machine.specs.Sound.{ArePlaced, IsPlaced}
-use Rattle.rm_machine.specs.State.{State, current_of, now_of, counted}
+use Rattle.rm_machine.specs.declared.state.State.{State}
+use Rattle.rm_machine.specs.State.{current_of, now_of, counted}
 
 -- in an open database what is in place counts as of `now`
 pub counted-open : (s : State) (x : File) → s.instance.is_open ≡ true → counted s x ≡ standing x (current_of s) (now_of s)

@@ -7,7 +7,8 @@ use Rattle.rm_machine.specs.Effect.{Effect, LeavesObjects, Made, done, no_effect
 use Rattle.rm_report.specs.declared.line.Line.{Line}
 use Rattle.rm_machine.specs.Machine.{IsBorneOut}
 use Rattle.rm_machine.specs.Sound.{IsSound}
-use Rattle.rm_machine.specs.State.{State, ledger}
+use Rattle.rm_machine.specs.declared.state.State.{State}
+use Rattle.rm_machine.specs.State.{ledger}
 use Rattle.rm_machine.proofs.Kept.{no-effect, stand-same}
 use Rattle.rm_machine.proofs.Later.{borne-beside}
 

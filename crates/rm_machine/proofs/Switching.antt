@@ -39,15 +39,16 @@ use Rattle.rm_machine.specs.Names.{IsObjectName, of_log, of_piece}
 use Rattle.rm_machine.specs.Machine.{HasLogArtefact, IsTrueArtefact, HistoryFits, IsBorneOut}
 use Rattle.rm_machine.specs.Marks.{ids_refusal, lacks_bytes, lacks_ids, lacks_room}
 use Rattle.rm_machine.specs.Sound.{IsOnline, IsSound}
-use Rattle.rm_machine.specs.State.{State, ledger, is_lost, online, redo_end, world}
-use Rattle.rm_machine.specs.Step.{switch_logfile}
+use Rattle.rm_machine.specs.declared.state.State.{State}
+use Rattle.rm_machine.specs.State.{ledger, is_lost, online, redo_end, world}
+use Rattle.rm_command.specs.declared.command.Command.TheVariants.{SwitchLogfile}
 use Rattle.rm_machine.specs.SwitchLogfile.{archive_refusal, archived, is_due, log_bytes, log_entry, made_lines, none_lines, switch_refusal, with_archived}
 use Rattle.rm_base.proofs.Conditions.{unless}
 use Rattle.rm_machine.proofs.Kept.{StandOn, kept-on, no-effect, stand-same}
 use Rattle.rm_machine.proofs.Later.{borne-beside}
 use Rattle.rm_machine.proofs.Leading.{LeadsOnBy, StaysBy}
 use Rattle.rm_objects.proofs.Names.{log-name-tells, log-no-piece}
-use Rattle.rm_machine.proofs.WritesSound.{roomy-either}
+use Rattle.rm_machine.proofs.Further.{roomy-either}
 
 -- An empty log
 
@@ -182,8 +183,12 @@ module _ (s : State) (t : ℕ) (sound : IsSound s) (low : 0 < t) (high : t ≤ s
   catalog-after : IsRepository q.catalog
   catalog-after =
       let ids = a.ids in
-      new_log_fits s.catalog entry sound.catalog refl (omega (arith, ids)) entry-is
-      (elim (roomy-either 1 (length (records_of l) + 1) a.roomy) [ inl none ↦ absurd (omega (arith, none)) | inr room ↦ room ])
+      new_log_fits s.catalog entry sound.catalog (record {
+        log = entry-is;
+        id = refl;
+        last = omega (arith, ids);
+        room = elim (roomy-either 1 (length (records_of l) + 1) a.roomy) [ inl none ↦ absurd (omega (arith, none)) | inr room ↦ room ];
+      })
 
   redo-after : redo_end q ≡ redo_end s
   redo-after = ap (end_of l.tree) (around-switched s.instance.logs t (redo_end s)).inc
@@ -351,7 +356,7 @@ switch-by false s t h objects made touched said e q after due stands can is effe
     (subst (λ (x : Effect). IsBorneOut s (h ++ x.changes) after (made ++ x.made) touched) is_effect
     (subst (λ k. IsBorneOut s k after (made ++ []) touched) (sym (append-nil h)) (subst (λ k. IsBorneOut s h after k touched) (sym (append-nil made)) on)))
 
-pub switch-on : (t : ℕ) → LeadsOnBy (switch_logfile t)
+pub switch-on : (t : ℕ) → LeadsOnBy (SwitchLogfile t)
 switch-on t s h objects made touched said e q after well stands tell none does effect =
     switch-by (is_due s t) s t h objects made touched said e q after refl stands (can-switch s t none) does effect
 
@@ -364,5 +369,5 @@ stays-by false s t said e q due sound none can is =
     let same : s ≡ q = cc in
     (subst IsSound same sound, sym (ap (λ (x : State). x.catalog.saved) same) ∙ none)
 
-pub switch-stays : (t : ℕ) → StaysBy (switch_logfile t)
+pub switch-stays : (t : ℕ) → StaysBy (SwitchLogfile t)
 switch-stays t s objects said e q well sound none accepted does = stays-by (is_due s t) s t said e q refl sound none (can-switch s t accepted) does

@@ -8,7 +8,8 @@ use Rattle.rm_redo.specs.Online.{sequence_of}
 use Rattle.rm_machine.specs.Effect.{Effect, Made, Outcome, done, no_effect}
 use Rattle.rm_report.specs.declared.line.Line.{Line}
 use Rattle.rm_machine.specs.Marks.{lacks_bytes, lacks_ids, lacks_room}
-use Rattle.rm_machine.specs.State.{State, ledger, online}
+use Rattle.rm_machine.specs.declared.state.State.{State}
+use Rattle.rm_machine.specs.State.{ledger, online}
 use Rattle.rm_machine.specs.SwitchLogfile.{archived, is_due, log_bytes, made_lines, none_lines, with_archived}
 
 -- what the thread makes: its log as an artefact, and the object of that, where it has something to archive

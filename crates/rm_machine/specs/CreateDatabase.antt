@@ -1,10 +1,14 @@
 -- CREATE DATABASE DBID d THREADS n SCN s
-use Rattle.std.specs.Prelude.{ℕ, true, Some, None, []}
+use Rattle.std.specs.Prelude.{ℕ, ◌≡◌, nat_lt, if◌then◌else◌, true, Some, None, [], ◌∷◌}
 use Rattle.rm_base.specs.Store.{Held}
+use Rattle.rm_base.specs.declared.refusal.Refusal.TheVariants.{Rm11}
+use Rattle.rm_base.specs.declared.refusal.Limit.TheVariants.{Threads}
 use Rattle.rm_ledger.specs.Growth.{fresh}
 use Rattle.rm_redo.specs.Online.{fresh_logs}
+use Rattle.rm_report.specs.declared.line.Line.TheVariants.{DatabaseAt}
+use Rattle.rm_machine.specs.Effect.{Outcome, refused, done, no_effect}
 use Rattle.rm_machine.specs.Machine.{Machine}
-use Rattle.rm_machine.specs.State.{State}
+use Rattle.rm_machine.specs.declared.state.State.{State}
 
 -- a new database, which is open
 abbrev pub fresh_state : (dbid threads scn moment : ℕ) → State
@@ -18,3 +22,8 @@ fresh_state dbid threads scn moment =
 abbrev pub fresh_machine : Held → (dbid threads scn moment : ℕ) → Machine
 fresh_machine objects dbid threads scn moment =
     record { state = Some (fresh_state dbid threads scn moment); history = []; objects = objects; made = []; touched = [] }
+
+-- it makes the database, where that has four threads at most
+abbrev pub IsCreateOutcome : (dbid threads scn moment : ℕ) → Outcome → Type 0
+IsCreateOutcome dbid threads scn moment o =
+    o ≡ (if nat_lt 4 threads then refused (Rm11 Threads) else done (DatabaseAt dbid scn ∷ []) no_effect (fresh_state dbid threads scn moment))

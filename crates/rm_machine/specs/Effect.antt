@@ -8,7 +8,7 @@ use Rattle.rm_change.specs.Names.{HasPuts, HasRemoves}
 use Rattle.rm_piece.specs.declared.piece.Piece.{Piece}
 use Rattle.rm_redo.specs.declared.log_file.LogFile.{LogFile}
 use Rattle.rm_report.specs.declared.line.Line.{Line}
-use Rattle.rm_machine.specs.State.{State}
+use Rattle.rm_machine.specs.declared.state.State.{State}
 
 -- what a backup or an archiving makes
 pub data Artefact : Type 0 where
@@ -38,7 +38,9 @@ pub record LeavesObjects (e : Effect) (before after : Held) : Type 0 where
   pub puts : HasPuts e.puts before put
   pub removes : HasRemoves e.removes put after
 
--- A refusal is one line and changes nothing; what is done has its lines, its effect and the state after it.
+-- A refusal changes nothing, and so does what only tells; what is done has its lines, its effect and the state
+-- after it.
 pub data Outcome : Type 0 where
   refused : Refusal → Outcome
+  told : List Line → Outcome
   done : List Line → Effect → State → Outcome

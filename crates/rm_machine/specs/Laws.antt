@@ -2,12 +2,15 @@
 use Rattle.std.specs.Prelude.{ℕ, ◌≡◌, ◌≤◌, Some, None, List}
 use Rattle.rm_base.specs.Numbers.{last_moment}
 use Rattle.rm_base.specs.Store.{Held}
+use Rattle.rm_command.specs.declared.command.Command.{Command}
 use Rattle.rm_report.specs.declared.line.Line.{Line}
-use Rattle.rm_machine.specs.Effect.{Effect, LeavesObjects, done}
+use Rattle.rm_report.specs.Reply.{said}
+use Rattle.rm_machine.specs.Effect.{Effect, LeavesObjects, done, told}
 use Rattle.rm_machine.specs.Machine.{Machine, IsSoundMachine, DigestsTell}
 use Rattle.rm_machine.specs.Sound.{IsSound}
-use Rattle.rm_machine.specs.State.{State, ledger, at_moment}
-use Rattle.rm_machine.specs.Step.{Statement, IsStatement, IsOutcome, StepBy, lines}
+use Rattle.rm_machine.specs.declared.state.State.{State}
+use Rattle.rm_machine.specs.State.{ledger, at_moment}
+use Rattle.rm_machine.specs.Step.{IsStatement, IsOutcome, StepBy}
 
 -- the moment is one of a statement: none that was kept is later, and it is not past the last
 pub record IsMomentOf (s : State) (moment : ℕ) : Type 0 where
@@ -15,16 +18,23 @@ pub record IsMomentOf (s : State) (moment : ℕ) : Type 0 where
   pub last : moment ≤ last_moment
 
 -- Where digests tell, what is at hand is a step of the machine: from a sound one to a sound one.
-abbrev pub LeadsOn : Statement → Type 0
+abbrev pub LeadsOn : Command → Type 0
 LeadsOn c =
-    (m : Machine) (s : State) (moment : ℕ) (said : List Line) (effect : Effect) (t : State) (after : Held)
+    (m : Machine) (s : State) (moment : ℕ) (lines : List Line) (effect : Effect) (t : State) (after : Held)
     → IsStatement c → m.state ≡ Some s → IsSoundMachine m → DigestsTell m → IsMomentOf s moment
-    → IsOutcome (at_moment s moment) m.objects c (done said effect t) → LeavesObjects effect m.objects after
-    → (n : Machine) × StepBy m c (done said effect t) (lines said) n × (n.objects ≡ after) × IsSoundMachine n
+    → IsOutcome (at_moment s moment) m.objects c (done lines effect t) → LeavesObjects effect m.objects after
+    → (n : Machine) × StepBy m c (done lines effect t) (said lines) n × (n.objects ≡ after) × IsSoundMachine n
+
+-- Where digests tell, what a statement tells is a step of the machine, from a sound one to itself.
+abbrev pub TellsOn : Command → Type 0
+TellsOn c =
+    (m : Machine) (s : State) (moment : ℕ) (lines : List Line)
+    → IsStatement c → m.state ≡ Some s → IsSoundMachine m → DigestsTell m → IsMomentOf s moment
+    → IsOutcome (at_moment s moment) m.objects c (told lines) → StepBy m c (told lines) (said lines) m
 
 -- Whatever the devices hold, and whatever was ever written, the statement leaves a sound state, and no saved site.
-abbrev pub StaysSound : Statement → Type 0
+abbrev pub StaysSound : Command → Type 0
 StaysSound c =
-    (s : State) (held : Held) (moment : ℕ) (said : List Line) (effect : Effect) (t : State)
-    → IsStatement c → IsSound s → IsMomentOf s moment → IsOutcome (at_moment s moment) held c (done said effect t)
+    (s : State) (held : Held) (moment : ℕ) (lines : List Line) (effect : Effect) (t : State)
+    → IsStatement c → IsSound s → IsMomentOf s moment → IsOutcome (at_moment s moment) held c (done lines effect t)
     → IsSound t × (t.catalog.saved ≡ None)

@@ -28,7 +28,8 @@ use Rattle.rm_redo.specs.LogFormat as log_format
 use Rattle.rm_redo.specs.LogFormat.{IsLogFile}
 use Rattle.rm_machine.specs.Effect.{Artefact, a_log, a_piece, Made}
 use Rattle.rm_machine.specs.Sound.{IsSound}
-use Rattle.rm_machine.specs.State.{State, ledger, tree, world, current_of, now_of, placed, counted, online, is_lost}
+use Rattle.rm_machine.specs.declared.state.State.{State}
+use Rattle.rm_machine.specs.State.{ledger, tree, world, current_of, now_of, placed, counted, online, is_lost}
 
 pub record Machine : Type 0 where
   -- the database, where there is one

@@ -7,7 +7,8 @@ use Rattle.rm_history.specs.declared.world.World.{World}
 use Rattle.rm_history.specs.World.{exists}
 use Rattle.rm_report.specs.declared.line.Line.TheVariants.{Mounted}
 use Rattle.rm_machine.specs.Effect.{Outcome, done, no_effect}
-use Rattle.rm_machine.specs.State.{State, ledger, world, current_of, now_of}
+use Rattle.rm_machine.specs.declared.state.State.{State}
+use Rattle.rm_machine.specs.State.{ledger, world, current_of, now_of}
 
 -- of the datafiles from f on, the first that exists at (i, s) and is lost
 abbrev pub first_lost : World → ℕ → ℕ → ℕ → List Datafile → List (Option File) → Option ℕ

@@ -11,7 +11,8 @@ use Rattle.rm_history.specs.World.{exists}
 use Rattle.rm_report.specs.declared.line.Line.TheVariants.{Opened}
 use Rattle.rm_machine.specs.Effect.{Outcome, done, no_effect}
 use Rattle.rm_machine.specs.Marks.{ids_refusal}
-use Rattle.rm_machine.specs.State.{State, ledger, world, current_of, now_of}
+use Rattle.rm_machine.specs.declared.state.State.{State}
+use Rattle.rm_machine.specs.State.{ledger, world, current_of, now_of}
 
 -- what stands in place, without the datafiles that do not exist at (i, s)
 abbrev pub kept_in_place : World → ℕ → ℕ → List Datafile → List (Option File) → List (Option File)

@@ -10,7 +10,8 @@ use Rattle.rm_history.specs.World.{exists}
 use Rattle.rm_redo.specs.declared.log_file.LogFile.{LogFile}
 use Rattle.rm_redo.specs.LogFormat.{IsLogFile}
 use Rattle.rm_repository.specs.Facts.{IsRepository}
-use Rattle.rm_machine.specs.State.{State, ledger, tree, world, current_of, now_of, counted, online, is_lost}
+use Rattle.rm_machine.specs.declared.state.State.{State}
+use Rattle.rm_machine.specs.State.{ledger, tree, world, current_of, now_of, counted, online, is_lost}
 
 -- the version is that of a change, and the content has 64 bytes
 pub record IsPlacedRow (r : Row) : Type 0 where

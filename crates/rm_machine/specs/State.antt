@@ -1,4 +1,4 @@
--- A database as it is at hand: its catalog, and what runs. Nothing stands in both.
+-- What a database at hand shows: its incarnations, what stands in place, and its logs.
 use Rattle.std.specs.Prelude.{ℕ, ◌-◌, if◌then◌else◌, Bool, false, Option, Some, None, List, slice_get, slice_index_or}
 use Rattle.std.specs.Option.{option_and_then, option_map_or}
 use Rattle.rm_blocks.specs.File.{File, standing}
@@ -11,24 +11,8 @@ use Rattle.rm_ledger.specs.Ledger.{Ledger}
 use Rattle.rm_redo.specs.declared.log_file.LogFile.{LogFile}
 use Rattle.rm_redo.specs.LogFile.{log_file_of}
 use Rattle.rm_redo.specs.Logs.{Logs}
-use Rattle.rm_repository.specs.Repository.{Repository}
+use Rattle.rm_machine.specs.declared.state.State.{State}
 use Rattle.rm_repository.specs.Changes.{with_moment, without_saved}
-
--- what runs: nothing of it stands in the catalog
-pub record Instance : Type 0 where
-  -- its mode: open, or mounted
-  pub is_open : Bool
-  -- The SCN of the current incarnation at which each datafile that exists there stands in place, where
-  -- one is known.
-  pub point : Option ℕ
-  -- what stands in place of datafiles 1, 2, 3 and so on; none where one is lost
-  pub place : List (Option File)
-  -- the online logs; each may be lost
-  pub logs : Logs
-
-pub record State : Type 0 where
-  pub catalog : Repository
-  pub instance : Instance
 
 -- the records of its database, a saved site left aside
 abbrev pub ledger : State → Ledger

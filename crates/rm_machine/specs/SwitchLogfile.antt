@@ -16,7 +16,8 @@ use Rattle.rm_repository.specs.Changes.{with_new_log}
 use Rattle.rm_machine.specs.Effect.{Outcome, done, a_log, Effect, no_effect}
 use Rattle.rm_report.specs.declared.line.Line.{Line}
 use Rattle.rm_machine.specs.Marks.{ids_refusal, lacks_bytes, lacks_ids, lacks_room}
-use Rattle.rm_machine.specs.State.{State, ledger, redo_end, online, is_lost}
+use Rattle.rm_machine.specs.declared.state.State.{State}
+use Rattle.rm_machine.specs.State.{ledger, redo_end, online, is_lost}
 
 -- the thread has something to archive: its log is there, and its range is not empty
 abbrev pub is_due : State → ℕ → Bool

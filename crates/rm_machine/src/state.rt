@@ -1,0 +1,26 @@
+//! A database as it is at hand: its catalog, and what runs. Nothing stands in both.
+use rm_base::{Scn, Seq};
+use rm_blocks::DataFile;
+use rm_redo::OnlineLogs;
+use rm_repository::Catalog;
+
+/// What runs: nothing of it stands in the catalog.
+#[derive(Drop)]
+pub struct Instance {
+    /// Its mode: open, or mounted.
+    pub is_open: bool,
+    /// The SCN of the current incarnation at which each datafile that exists there stands in place, where
+    /// one is known.
+    pub point: Option<Scn>,
+    /// What stands in place of datafiles 1, 2, 3 and so on; none where one is lost.
+    pub place: Seq<Option<DataFile>>,
+    /// The online logs; each may be lost.
+    pub logs: OnlineLogs,
+}
+
+/// A database.
+#[derive(Drop)]
+pub struct State {
+    pub catalog: Catalog,
+    pub instance: Instance,
+}
