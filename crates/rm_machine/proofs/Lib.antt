@@ -1,5 +1,7 @@
 pub mod Archives
 pub mod ArchivingAll
+pub mod BackingUp
+pub mod Backups
 pub mod Choosing
 pub mod CountedLogs
 pub mod Creating
@@ -9,9 +11,11 @@ pub mod Leading
 pub mod Mounting
 pub mod Opened
 pub mod Opening
+pub mod Pieces
 pub mod Places
 pub mod Quiet
 pub mod Switching
+pub mod Tags
 pub mod Writes
 pub mod WritesKeep
 pub mod WritesSound

@@ -2,6 +2,7 @@
 ghost use Rattle.std.specs.Prelude.{ℕ, ◌<◌, ◌≤◌, ◌^◌};
 ghost use Rattle.rm_base.specs.Numbers.{last_moment, last_scn};
 ghost use Rattle.rm_base.specs.Store.{Held};
+ghost use Rattle.rm_command.specs.declared.command.BackupForm.{BackupForm};
 ghost use Rattle.rm_command.specs.declared.command.WriteForm.{WriteForm};
 ghost use Rattle.rm_machine.specs.CreateDatabase.{fresh_machine};
 ghost use Rattle.rm_machine.specs.Laws.{IsMomentOf, LeadsOn, StaysSound};
@@ -9,7 +10,7 @@ ghost use Rattle.rm_machine.specs.Machine.{IsSoundMachine};
 ghost use Rattle.rm_machine.specs.Sound.{IsSound};
 ghost use Rattle.rm_machine.specs.declared.state.State.{State};
 ghost use Rattle.rm_machine.specs.State.{at_moment};
-ghost use Rattle.rm_command.specs.declared.command.Command.TheVariants.{ArchiveLogCurrent, Mount, OpenPlain, ResetDatabase, SwitchLogfile, Write};
+ghost use Rattle.rm_command.specs.declared.command.Command.TheVariants.{ArchiveLogCurrent, Backup, Mount, OpenPlain, ResetDatabase, SwitchLogfile, Write};
 
 /// There are sound machines: that of a new database is one.
 pub fn a_new_database_is_sound()
@@ -38,6 +39,12 @@ pub fn a_switch_leads_on()
 pub fn archiving_leads_on()
     ensures leads { LeadsOn ArchiveLogCurrent }
     ensures stays { StaysSound ArchiveLogCurrent }
+{}
+
+/// BACKUP of datafiles, likewise: its pieces agree with the history.
+pub fn a_backup_leads_on()
+    ensures leads { (form : BackupForm) → LeadsOn (Backup form) }
+    ensures stays { (form : BackupForm) → StaysSound (Backup form) }
 {}
 
 /// SHUTDOWN and STARTUP MOUNT, likewise: what is in place stands at `now`.

@@ -1,13 +1,13 @@
 //! Changes of logs and pieces. Each adds the edit that makes the records follow.
 ghost use Rattle.std.specs.Prelude.{◌≡◌, ◌≤◌, OnOk, OnErr};
-ghost use Rattle.rm_repository.specs.Changes.{EditsFollow, with_log, with_piece, without_log, without_piece};
-ghost use Rattle.rm_repository.specs.Fitting.{FitsLog, FitsPiece};
+ghost use Rattle.rm_repository.specs.Changes.{EditsFollow, with_log, with_new_piece, with_piece, without_log, without_piece};
+ghost use Rattle.rm_repository.specs.Fitting.{FitsLog, FitsNewPiece, FitsPiece};
 
 use crate::catalog::Catalog;
-use crate::edits::push;
+use crate::edits::{push, push_both};
 use crate::{log_ids, piece_ids};
 use rm_base::NoMemory;
-use rm_catalog::{Edit, Key, LogEntry, PieceEntry, Record};
+use rm_catalog::{BaseEntry, Edit, Key, LogEntry, PieceEntry, Record};
 use std::alloc::Global;
 
 impl Catalog {
@@ -58,6 +58,36 @@ impl Catalog {
         let copy = piece.copy(alloc)?;
         piece_ids::put_piece(&mut self.pieces, piece)?;
         push(edits, Edit::Put(Record::Piece(copy)));
+        Ok(())
+    }
+
+    /// Adds a piece, which takes the next id, below 4,294,967,295.
+    #[tactic(auto, using(crate::proofs::Changed::follows_new_piece, crate::proofs::Fitted::new_piece_fits))]
+    pub fn add_piece(
+        &mut self,
+        alloc: Global,
+        edits: &mut Vec<Edit>,
+        piece: PieceEntry,
+    ) -> Result<(), NoMemory>
+        requires fits { FitsNewPiece self.old piece }
+        ensures after { OnOk result (self.new ≡ with_new_piece self.old piece) }
+        ensures edits { OnOk result (EditsFollow edits.old.items edits.new.items self.old self.new) }
+        ensures same { OnErr result (self.new ≡ self.old) }
+        ensures unedited { OnErr result (edits.new.items ≡ edits.old.items) }
+    {
+        edits.reserve(2)?;
+        let copy = piece.copy(alloc)?;
+        let base = BaseEntry {
+            next_id: piece.id + 1,
+            ..self.base
+        };
+        self.pieces.push(piece)?;
+        self.base = base;
+        push_both(
+            edits,
+            Edit::Put(Record::Base(base)),
+            Edit::Put(Record::Piece(copy)),
+        );
         Ok(())
     }
 
