@@ -1,5 +1,6 @@
 -- What the calls of the online logs do.
-use Rattle.std.specs.Prelude.{ℕ, ◌+◌, ◌-◌, ◌==◌, if◌then◌else◌, ◌<◌, ◌≤◌, ◌≡◌, ◌++◌, List, [], ◌∷◌, length, replicate, true, false, slice_get, slice_set}
+use Rattle.std.specs.Prelude.{ℕ, Bool, ◌+◌, ◌-◌, ◌==◌, if◌then◌else◌, ◌<◌, ◌≤◌, ◌≡◌, ◌++◌, List, [], ◌∷◌, length, replicate, true, false, slice_get, slice_set}
+use Rattle.std.specs.List.{list_all}
 use Rattle.std.specs.Option.{option_map_or}
 use Rattle.rm_base.specs.declared.block.Change.{Change}
 use Rattle.rm_redo.specs.declared.online.LogRecord.{LogRecord}
@@ -59,6 +60,14 @@ switched logs t now = if first_of logs t == now then logs else with_log (begun_a
 -- the logs, where the log of one thread is lost
 abbrev pub with_loss : Logs → ℕ → Logs
 with_loss logs t = with_log (λ l. record l { is_lost = true }) logs t
+
+-- all of them are lost
+abbrev pub are_lost : List ThreadLog → Bool
+are_lost threads = list_all (λ l. l.is_lost) threads
+
+-- where all logs are lost, they count as logs of this incarnation
+abbrev pub counted_as : Logs → ℕ → Logs
+counted_as logs i = if are_lost logs.threads then record logs { inc = i } else logs
 
 -- an empty log with sequence 1
 abbrev pub fresh_log : ℕ → ThreadLog

@@ -3,7 +3,7 @@ ghost use Rattle.std.specs.Prelude.{◌≡◌, ◌+◌, ◌<◌, ◌≤◌, ◌�
 ghost use Rattle.rm_base.specs.Numbers.{last_scn};
 ghost use Rattle.rm_redo.specs.Logs.{IsLogs};
 ghost use Rattle.rm_redo.specs.LogFile.{log_file_of};
-ghost use Rattle.rm_redo.specs.Online.{IsThread, IsLost, begun_anew, fresh_logs, with_change, with_loss, switched, records_of, first_of, sequence_of};
+ghost use Rattle.rm_redo.specs.Online.{IsThread, IsLost, are_lost, begun_anew, counted_as, fresh_logs, with_change, with_loss, switched, records_of, first_of, sequence_of};
 
 use crate::log_file::LogFile;
 use rm_base::{Block, BlockNo, Change, FileNo, IncNo, NoMemory, Scn, Seq, ThreadNo};
@@ -63,6 +63,13 @@ impl From<NoMemory> for LogFault {
 
 /// The most records of one thread's online log.
 pub const MOST_RECORDS: usize = 65_536;
+
+// Whether all of the logs are lost.
+fn are_lost(threads: &[ThreadLog]) -> bool
+    ensures { result ≡ are_lost threads.now }
+{
+    threads.iter().all(|log| log.is_lost)
+}
 
 /// The online logs of the threads 1, 2, 3 and so on, all of one incarnation.
 #[derive(Drop)]
@@ -179,6 +186,16 @@ impl OnlineLogs {
         ensures { self.new ≡ with_loss self.old thread }
     {
         self.threads[thread as usize - 1].is_lost = true;
+    }
+
+    /// Where all logs are lost, they count as logs of this incarnation. Else nothing changes.
+    pub fn count_as(&mut self, inc: IncNo)
+        requires { 1 ≤ inc }
+        ensures { self.new ≡ counted_as self.old inc }
+    {
+        if are_lost(&self.threads) {
+            self.inc = inc;
+        }
     }
 
     /// Whether the log of a thread is lost.

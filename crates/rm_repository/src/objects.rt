@@ -1,7 +1,7 @@
 //! Changes of logs and pieces. Each adds the edit that makes the records follow.
 ghost use Rattle.std.specs.Prelude.{◌≡◌, ◌≤◌, OnOk, OnErr};
-ghost use Rattle.rm_repository.specs.Changes.{EditsFollow, with_log, with_new_piece, with_piece, without_log, without_piece};
-ghost use Rattle.rm_repository.specs.Fitting.{FitsLog, FitsNewPiece, FitsPiece};
+ghost use Rattle.rm_repository.specs.Changes.{EditsFollow, with_log, with_new_log, with_new_piece, with_piece, without_log, without_piece};
+ghost use Rattle.rm_repository.specs.Fitting.{FitsLog, FitsNewLog, FitsNewPiece, FitsPiece};
 
 use crate::catalog::Catalog;
 use crate::edits::{push, push_both};
@@ -23,6 +23,28 @@ impl Catalog {
         edits.reserve(1)?;
         log_ids::put_log(&mut self.logs, log)?;
         push(edits, Edit::Put(Record::Log(log)));
+        Ok(())
+    }
+
+    /// Adds a log under the next id, which is below 4,294,967,295 and is raised.
+    pub fn add_log(&mut self, edits: &mut Vec<Edit>, log: LogEntry) -> Result<(), NoMemory>
+        requires fits { FitsNewLog self.old log }
+        ensures after { OnOk result (self.new ≡ with_new_log self.old log) }
+        ensures edits { OnOk result (EditsFollow edits.old.items edits.new.items self.old self.new) }
+        ensures same { OnErr result (self.new ≡ self.old) }
+        ensures unedited { OnErr result (edits.new.items ≡ edits.old.items) }
+    {
+        edits.reserve(2)?;
+        self.logs.push(log)?;
+        self.base = BaseEntry {
+            next_id: self.base.next_id + 1,
+            ..self.base
+        };
+        push_both(
+            edits,
+            Edit::Put(Record::Base(self.base)),
+            Edit::Put(Record::Log(log)),
+        );
         Ok(())
     }
 
@@ -61,8 +83,7 @@ impl Catalog {
         Ok(())
     }
 
-    /// Adds a piece, which takes the next id, below 4,294,967,295.
-    #[tactic(auto, using(crate::proofs::Changed::follows_new_piece, crate::proofs::Fitted::new_piece_fits))]
+    /// Adds a piece under the next id, which is below 4,294,967,295 and is raised.
     pub fn add_piece(
         &mut self,
         alloc: Global,
@@ -77,15 +98,15 @@ impl Catalog {
     {
         edits.reserve(2)?;
         let copy = piece.copy(alloc)?;
-        let base = BaseEntry {
-            next_id: piece.id + 1,
+        let next_id = piece.id + 1;
+        self.pieces.push(piece)?;
+        self.base = BaseEntry {
+            next_id,
             ..self.base
         };
-        self.pieces.push(piece)?;
-        self.base = base;
         push_both(
             edits,
-            Edit::Put(Record::Base(base)),
+            Edit::Put(Record::Base(self.base)),
             Edit::Put(Record::Piece(copy)),
         );
         Ok(())
