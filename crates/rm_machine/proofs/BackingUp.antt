@@ -31,7 +31,7 @@ use Rattle.rm_machine.proofs.Leading.{LeadsOnBy, StaysBy}
 use Rattle.rm_machine.proofs.Pieces.{borne-recorded, count-recorded, sound-recorded}
 use Rattle.rm_machine.proofs.Switching.{not-above}
 use Rattle.rm_machine.proofs.Tags.{tag-fits}
-use Rattle.rm_machine.proofs.WritesSound.{roomy-either}
+use Rattle.rm_machine.proofs.Further.{roomy-either}
 
 -- so many pieces can be made
 pub record HasRoom (s : State) (n : ℕ) : Type 0 where
