@@ -9,8 +9,8 @@ ghost use Rattle.rm_repository.specs.Changes.{EditsFollow};
 use rm_base::NoMemory;
 use rm_catalog::Edit;
 use rm_machine::State;
-use crate::facts::now;
-use crate::marks::{add_marks_before, marks_before};
+use rm_machine::facts::now;
+use rm_machine::marks::{add_marks_before, marks_before};
 
 /// How many marks come before a change: 1 or none.
 pub(crate) fn mark_count(state: &State) -> u64

@@ -2,11 +2,11 @@
 //! DATAFILE and DUMP.
 #![tactic(auto)]
 
-pub mod create_datafile;
-pub mod dump;
-mod facts;
+mod creating;
+mod dumping;
 mod further;
-mod handing;
-mod marks;
-mod room;
-pub mod write;
+mod writing;
+
+pub use creating::{create_datafile, datafile_refusal};
+pub use dumping::{dump, dump_refusal};
+pub use writing::{write, write_refusal};

@@ -1,5 +1,5 @@
 //! DUMP DATAFILE f BLOCK b
-ghost use Rattle.std.specs.Prelude.{◌≡◌, IfOk, Option, None};
+ghost use Rattle.std.specs.Prelude.{◌≡◌, ◌<◌, IfOk, Option, None};
 ghost use Rattle.rm_base.specs.Store.{Held};
 ghost use Rattle.rm_command.specs.declared.command.Command.TheVariants.{Dump};
 ghost use Rattle.rm_machine.specs.Dump.{dump_refusal, placed_row};
@@ -8,7 +8,7 @@ ghost use Rattle.rm_machine.specs.Sound.{IsSound};
 
 use rm_base::{Absent, BlockNo, FileNo, NoMemory, Refusal, Row, Seq};
 use rm_machine::State;
-use crate::facts::{on_path, placed};
+use rm_machine::facts::{on_path, placed};
 use rm_report::Line;
 use std::alloc::Global;
 
@@ -32,8 +32,8 @@ pub fn dump_refusal(state: &State, file: u64, block: u64) -> Option<Refusal>
 
 // The row of the block in place.
 fn placed_row(state: &State, file: u64, block: BlockNo) -> Option<Row>
-    requires sound { IsSound state.now }
-    ensures value { result ≡ placed_row state.now file block }
+    requires { 0 < file }
+    ensures { result ≡ placed_row state.now file block }
 {
     placed(state, file)?.read(block)
 }
