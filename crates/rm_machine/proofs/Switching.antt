@@ -48,7 +48,7 @@ use Rattle.rm_machine.proofs.Kept.{StandOn, kept-on, no-effect, stand-same}
 use Rattle.rm_machine.proofs.Later.{borne-beside}
 use Rattle.rm_machine.proofs.Leading.{LeadsOnBy, StaysBy}
 use Rattle.rm_objects.proofs.Names.{log-name-tells, log-no-piece}
-use Rattle.rm_machine.proofs.WritesSound.{roomy-either}
+use Rattle.rm_machine.proofs.Further.{roomy-either}
 
 -- An empty log
 
