@@ -1,4 +1,5 @@
 pub mod Carried
+pub mod Firsts
 pub mod Founding
 pub mod Halting
 pub mod LooseNew

@@ -4,8 +4,10 @@
 mod built;
 pub mod handed;
 pub mod laws;
+mod replies;
 pub mod state;
 
 pub use built::is_built;
 pub use handed::Handed;
+pub use replies::refusal_reply;
 pub use state::{Instance, State};

@@ -2,8 +2,8 @@
 ghost use Rattle.std.specs.Prelude.{◌≡◌, IfOk};
 ghost use Rattle.rm_report.specs.Reply.{refused_by};
 
-use crate::line::{Line, Reply};
 use rm_base::{NoMemory, Refusal, Seq};
+use rm_report::{Line, Reply};
 use std::alloc::Global;
 
 /// The reply of a refusal: its one line. An error is want of memory.
