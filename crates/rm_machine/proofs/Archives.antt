@@ -23,7 +23,7 @@ use Rattle.rm_base.proofs.Conditions.{unless}
 use Rattle.rm_machine.proofs.Kept.{stand-same}
 use Rattle.rm_machine.proofs.Later.{borne-beside}
 use Rattle.rm_machine.proofs.Switching.{CanArchive, due-parts, not-above, sound-after, switched-by}
-use Rattle.rm_machine.proofs.WritesSound.{roomy-either}
+use Rattle.rm_machine.proofs.Further.{roomy-either}
 use Rattle.rm_repository.proofs.Fitted.{many}
 
 -- What is put in two parts

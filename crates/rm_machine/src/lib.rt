@@ -1,10 +1,13 @@
 //! The machine: what a statement does to a database, by what is at hand, and the history behind it.
 #![tactic(auto)]
 
-mod built;
+pub mod built;
+pub mod facts;
 pub mod handed;
 pub mod laws;
-mod replies;
+pub mod marks;
+pub mod replies;
+pub mod room;
 pub mod state;
 
 pub use built::is_built;
