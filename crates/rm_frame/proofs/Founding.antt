@@ -17,6 +17,7 @@ use Rattle.rm_machine.specs.Laws.{LeadsOn}
 use Rattle.rm_machine.specs.Machine.{IsBorneOut, IsSoundBy, IsSoundMachine, Machine}
 use Rattle.rm_machine.specs.declared.state.State.{State}
 use Rattle.rm_machine.proofs.Creating.{fresh-sound}
+use Rattle.rm_machine.specs.Step.{Means}
 use Rattle.rm_frame.specs.Carries.{LeadsOnWithout}
 use Rattle.rm_frame.specs.Loose.{StaysLoose}
 
@@ -73,7 +74,11 @@ creating-leads dbid threads scn m moment lines effect t after well none sound la
     let founded = founded-sound dbid threads scn moment after m.touched (numbers-of dbid threads scn well.0 is.few) late in
     let n : Machine = record { state = Some t; history = m.history ++ effect.changes; objects = after; made = m.made ++ effect.made; touched = m.touched } in (
       n,
-      (refl, record { state = refl; history = refl; objects = leaves; made = refl; touched = refl }),
+      (
+        refl,
+        record { state = refl; history = refl; objects = leaves; made = refl; touched = refl },
+        subst (λ o. Means o m.history (CreateDatabase dbid threads scn) (done lines effect t)) (sym none) tt,
+      ),
       refl,
       subst (λ (e : Effect). IsBorneOut t (m.history ++ e.changes) after (m.made ++ e.made) m.touched) is.effect_is
       (subst (λ h. IsBorneOut t (h ++ []) after (m.made ++ []) m.touched) (sym was.0)
