@@ -8,6 +8,7 @@ mod moment;
 pub mod open;
 pub mod site;
 mod statement;
+mod step;
 
 pub use open::OpenFault;
 pub use rm_change::Stop;
