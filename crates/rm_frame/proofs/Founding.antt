@@ -1,5 +1,5 @@
 -- CREATE DATABASE, and other statements where there is no database.
-use Rattle.std.proofs.Common.{◌≡◌, ◌<◌, ◌≤◌, ◌^◌, ◌-◌, ◌∙◌, ◌++◌, ◌∷◌, ◌&&◌, nat_lt, nat_le, ℕ, List, [], Option, Some, None, Bool, true, false, cond, refl, ap, sym, subst, arith}
+use Rattle.std.proofs.Common.{◌≡◌, ◌<◌, ◌≤◌, ◌^◌, ◌++◌, ◌∷◌, ◌&&◌, nat_lt, nat_le, ℕ, List, [], Some, None, Bool, true, false, cond, refl, ap, sym, subst, arith}
 use Rattle.std.proofs.lemmas.Bool.Decides.{nat_tests}
 use Rattle.rm_base.specs.Numbers.{last_moment, last_scn}
 use Rattle.rm_base.specs.Store.{Held}
@@ -12,7 +12,7 @@ use Rattle.rm_lang.specs.IsCommand.{is_command}
 use Rattle.rm_report.specs.declared.line.Line.{Line}
 use Rattle.rm_report.specs.declared.line.Line.TheVariants.{DatabaseAt}
 use Rattle.rm_machine.specs.CreateDatabase.{IsCreateOutcome, fresh_machine, fresh_state}
-use Rattle.rm_machine.specs.Effect.{Effect, LeavesObjects, Made, Outcome, done, no_effect, refused}
+use Rattle.rm_machine.specs.Effect.{Effect, done, no_effect, refused}
 use Rattle.rm_machine.specs.Laws.{LeadsOn}
 use Rattle.rm_machine.specs.Machine.{IsBorneOut, IsSoundBy, IsSoundMachine, Machine}
 use Rattle.rm_machine.specs.declared.state.State.{State}
@@ -81,9 +81,9 @@ creating-leads dbid threads scn m moment lines effect t after well none sound la
       ),
       refl,
       subst (λ (e : Effect). IsBorneOut t (m.history ++ e.changes) after (m.made ++ e.made) m.touched) is.effect_is
-      (subst (λ h. IsBorneOut t (h ++ []) after (m.made ++ []) m.touched) (sym was.0)
-      (subst (λ made. IsBorneOut t ([] ++ []) after (made ++ []) m.touched) (sym was.1)
-      (subst (λ s. IsBorneOut s [] after [] m.touched) is.state_is founded))),
+          (subst (λ h. IsBorneOut t (h ++ []) after (m.made ++ []) m.touched) (sym was.0)
+          (subst (λ made. IsBorneOut t ([] ++ []) after (made ++ []) m.touched) (sym was.1)
+          (subst (λ s. IsBorneOut s [] after [] m.touched) is.state_is founded))),
     )
 
 -- no other statement is done there

@@ -1,4 +1,3 @@
-pub mod Answering
 pub mod Carried
 pub mod Every
 pub mod Firsts

@@ -1,5 +1,5 @@
 -- Statements that put nothing and take nothing away.
-use Rattle.std.proofs.Common.{◌≡◌, ℕ, List, [], Option, Some, None, inl, inr, ap, sym}
+use Rattle.std.proofs.Common.{◌≡◌, ℕ, List, [], Option, Some, None, inl, inr}
 use Rattle.rm_base.specs.Store.{Held}
 use Rattle.rm_command.specs.declared.command.Command.{Command}
 use Rattle.rm_command.specs.declared.command.Command.TheVariants.{CreateDatafile, Dump, ListIncarnation, Mount, OpenPlain, Recover, RecoverTest, ResetDatabase, Write}
@@ -15,7 +15,6 @@ use Rattle.rm_machine.specs.State.{now_of}
 use Rattle.rm_machine.specs.CreateDatafile.{with_datafile}
 use Rattle.rm_machine.specs.Recover.{RecoversTo, recover_target, recovered}
 use Rattle.rm_machine.specs.Step.{refusal_of}
-use Rattle.rm_machine.specs.Write.{change_of, with_write}
 use Rattle.rm_machine.proofs.Dumping.{dump-never}
 use Rattle.rm_machine.proofs.Leading.{done-by}
 use Rattle.rm_machine.proofs.Recovered.{test-never}
