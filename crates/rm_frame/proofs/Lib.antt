@@ -1,4 +1,6 @@
 pub mod Carried
+pub mod Every
+pub mod Firsts
 pub mod Founding
 pub mod Halting
 pub mod LooseNew
