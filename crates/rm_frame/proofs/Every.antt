@@ -1,9 +1,10 @@
 -- The laws of every statement. One that is not in the machine yet comes to nothing.
 use Rattle.rm_command.specs.declared.command.Command.{Command}
-use Rattle.rm_command.specs.declared.command.Command.TheVariants.{ArchiveLogCurrent, CreateDatabase, CreateDatafile, Dump, ListIncarnation, Mount, OpenPlain, OpenResetlogs, Recover, RecoverTest, ResetDatabase, SwitchLogfile, Write}
+use Rattle.rm_command.specs.declared.command.Command.TheVariants.{ArchiveLogCurrent, Backup, CreateDatabase, CreateDatafile, Dump, ListIncarnation, Mount, OpenPlain, OpenResetlogs, Recover, RecoverTest, ResetDatabase, SwitchLogfile, Write}
 use Rattle.rm_machine.specs.Laws.{LeadsOn, TellsOn}
 use Rattle.rm_machine.proofs.AddingDatafile.{create-on}
 use Rattle.rm_machine.proofs.ArchivingAll.{all-on}
+use Rattle.rm_machine.proofs.BackingUp.{backup-on}
 use Rattle.rm_machine.proofs.Branching.{resets-on}
 use Rattle.rm_machine.proofs.Choosing.{choose-on}
 use Rattle.rm_machine.proofs.Dumping.{dump-never}
@@ -16,6 +17,7 @@ use Rattle.rm_machine.proofs.Telling.{tells-on}
 use Rattle.rm_machine.proofs.Writing.{write-on}
 use Rattle.rm_frame.specs.Loose.{StaysLoose}
 use Rattle.rm_frame.proofs.Founding.{never-again, never-loose}
+use Rattle.rm_frame.proofs.LooseBackup.{backup-loose}
 use Rattle.rm_frame.proofs.LooseNew.{archive-loose, branch-loose, switch-loose}
 use Rattle.rm_frame.proofs.LooseQuiet.{choose-loose, create-loose, dump-loose, list-loose, list-never, mount-loose, open-loose, recover-loose, test-loose, write-loose}
 
@@ -29,6 +31,7 @@ every-leads Mount = leads Mount mount-on
 every-leads OpenPlain = leads OpenPlain open-on
 every-leads OpenResetlogs = leads OpenResetlogs resets-on
 every-leads (ResetDatabase i) = leads (ResetDatabase i) (choose-on i)
+every-leads (Backup b) = leads (Backup b) (backup-on b)
 every-leads (Recover until) = leads (Recover until) (recover-on until)
 every-leads (RecoverTest until inc) = leads (RecoverTest until inc) (tells-on (RecoverTest until inc) (test-never until inc))
 every-leads ListIncarnation = leads ListIncarnation (tells-on ListIncarnation list-never)
@@ -52,6 +55,7 @@ every-loose Mount = mount-loose
 every-loose OpenPlain = open-loose
 every-loose OpenResetlogs = branch-loose
 every-loose (ResetDatabase i) = choose-loose i
+every-loose (Backup b) = backup-loose b
 every-loose (Recover until) = recover-loose until
 every-loose (RecoverTest until inc) = test-loose until inc
 every-loose ListIncarnation = list-loose
