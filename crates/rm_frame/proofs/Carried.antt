@@ -12,7 +12,7 @@ use Rattle.rm_report.specs.Reply.{refused_by, said}
 use Rattle.rm_report.specs.declared.line.Line.{Line}
 use Rattle.rm_report.specs.declared.line.Reply.{Reply}
 use Rattle.rm_machine.specs.Effect.{Effect, LeavesObjects, Outcome, done, refused, told}
-use Rattle.rm_machine.specs.Laws.{LeadsOn}
+use Rattle.rm_machine.specs.Laws.{LeadsOn, TellsOn}
 use Rattle.rm_machine.specs.Machine.{DigestsTell, IsSoundMachine, Machine}
 use Rattle.rm_machine.specs.declared.state.State.{State}
 use Rattle.rm_machine.specs.Step.{IsStatement, Step, StepBy, StepIn}
@@ -87,7 +87,8 @@ pub refused-step : (held : Option Held) (kept : Option (List Record)) (o : Optio
 refused-step held kept o c moment r comes m is holds tell =
     (m, step-in o m c moment (refused r) (refused_by r) m is (comes m.objects holds.store) (refl, refl), is, holds)
 
-pub told-step : (held : Option Held) (kept : Option (List Record)) (o : Option State) (c : Command) (moment : ℕ) (lines : List Line)
-    → ((objects : Held) → held ≡ Some objects → IsOutcomeIn o objects c moment (told lines)) → StepsAt held kept o c moment (said lines) held kept o
-told-step held kept o c moment lines comes m is holds tell =
-    (m, step-in o m c moment (told lines) (said lines) m is (comes m.objects holds.store) (refl, refl), is, holds)
+pub told-step : (held : Option Held) (kept : Option (List Record)) (s : State) (c : Command) (moment : ℕ) (lines : List Line) → TellsOn c → IsStatement c → IsMomentIn (Some s) moment
+    → ((objects : Held) → held ≡ Some objects → IsOutcomeIn (Some s) objects c moment (told lines)) → StepsAt held kept (Some s) c moment (said lines) held kept (Some s)
+told-step held kept s c moment lines law well at comes m is holds tell =
+    let come = comes m.objects holds.store in
+    (m, step-in (Some s) m c moment (told lines) (said lines) m is come (law m s moment lines well is holds.sound tell (record { kept = at.kept; last = at.last }) come), is, holds)

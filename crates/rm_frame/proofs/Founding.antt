@@ -1,5 +1,5 @@
 -- CREATE DATABASE, and other statements where there is no database.
-use Rattle.std.proofs.Common.{◌≡◌, ◌<◌, ◌≤◌, ◌^◌, ◌-◌, ◌∙◌, ◌++◌, ◌∷◌, ◌&&◌, nat_lt, nat_le, ℕ, List, [], Option, Some, None, Bool, true, false, cond, refl, ap, sym, subst, arith}
+use Rattle.std.proofs.Common.{◌≡◌, ◌<◌, ◌≤◌, ◌^◌, ◌++◌, ◌∷◌, ◌&&◌, nat_lt, nat_le, ℕ, List, [], Some, None, Bool, true, false, cond, refl, ap, sym, subst, arith}
 use Rattle.std.proofs.lemmas.Bool.Decides.{nat_tests}
 use Rattle.rm_base.specs.Numbers.{last_moment, last_scn}
 use Rattle.rm_base.specs.Store.{Held}
@@ -12,11 +12,12 @@ use Rattle.rm_lang.specs.IsCommand.{is_command}
 use Rattle.rm_report.specs.declared.line.Line.{Line}
 use Rattle.rm_report.specs.declared.line.Line.TheVariants.{DatabaseAt}
 use Rattle.rm_machine.specs.CreateDatabase.{IsCreateOutcome, fresh_machine, fresh_state}
-use Rattle.rm_machine.specs.Effect.{Effect, LeavesObjects, Made, Outcome, done, no_effect, refused}
+use Rattle.rm_machine.specs.Effect.{Effect, done, no_effect, refused}
 use Rattle.rm_machine.specs.Laws.{LeadsOn}
 use Rattle.rm_machine.specs.Machine.{IsBorneOut, IsSoundBy, IsSoundMachine, Machine}
 use Rattle.rm_machine.specs.declared.state.State.{State}
 use Rattle.rm_machine.proofs.Creating.{fresh-sound}
+use Rattle.rm_machine.specs.Step.{Means}
 use Rattle.rm_frame.specs.Carries.{LeadsOnWithout}
 use Rattle.rm_frame.specs.Loose.{StaysLoose}
 
@@ -73,12 +74,16 @@ creating-leads dbid threads scn m moment lines effect t after well none sound la
     let founded = founded-sound dbid threads scn moment after m.touched (numbers-of dbid threads scn well.0 is.few) late in
     let n : Machine = record { state = Some t; history = m.history ++ effect.changes; objects = after; made = m.made ++ effect.made; touched = m.touched } in (
       n,
-      (refl, record { state = refl; history = refl; objects = leaves; made = refl; touched = refl }),
+      (
+        refl,
+        record { state = refl; history = refl; objects = leaves; made = refl; touched = refl },
+        subst (λ o. Means o m.history (CreateDatabase dbid threads scn) (done lines effect t)) (sym none) tt,
+      ),
       refl,
       subst (λ (e : Effect). IsBorneOut t (m.history ++ e.changes) after (m.made ++ e.made) m.touched) is.effect_is
-      (subst (λ h. IsBorneOut t (h ++ []) after (m.made ++ []) m.touched) (sym was.0)
-      (subst (λ made. IsBorneOut t ([] ++ []) after (made ++ []) m.touched) (sym was.1)
-      (subst (λ s. IsBorneOut s [] after [] m.touched) is.state_is founded))),
+          (subst (λ h. IsBorneOut t (h ++ []) after (m.made ++ []) m.touched) (sym was.0)
+          (subst (λ made. IsBorneOut t ([] ++ []) after (made ++ []) m.touched) (sym was.1)
+          (subst (λ s. IsBorneOut s [] after [] m.touched) is.state_is founded))),
     )
 
 -- no other statement is done there

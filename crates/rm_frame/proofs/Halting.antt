@@ -11,10 +11,9 @@ use Rattle.rm_change.specs.Carrying.{Halted, Leads, Outside, Tells, after_the_ed
 use Rattle.rm_change.specs.Names.{SameBeyondPuts, after_all, is_named, itself, name_of, nothing}
 use Rattle.rm_change.proofs.Named.{unnamed-stays}
 use Rattle.rm_command.specs.declared.command.Command.{Command}
-use Rattle.rm_ledger.specs.Ledger.{Ledger}
 use Rattle.rm_report.specs.Reply.{said}
 use Rattle.rm_report.specs.declared.line.Line.{Line}
-use Rattle.rm_machine.specs.Effect.{Effect, Made, done}
+use Rattle.rm_machine.specs.Effect.{Made}
 use Rattle.rm_machine.specs.Laws.{LeadsOn}
 use Rattle.rm_machine.specs.Machine.{DigestsTell, IsSoundBy, IsSoundMachine, Machine}
 use Rattle.rm_machine.specs.declared.state.State.{State}
@@ -22,8 +21,8 @@ use Rattle.rm_machine.specs.State.{ledger}
 use Rattle.rm_machine.specs.Step.{IsStatement, names_in}
 use Rattle.rm_machine.proofs.Kept.{StandOn}
 use Rattle.rm_machine.proofs.Later.{borne-beside}
-use Rattle.rm_frame.specs.Carries.{IsHanded, IsOutcomeIn}
-use Rattle.rm_frame.specs.Holds.{Holds, records, records_in}
+use Rattle.rm_frame.specs.Carries.{IsHanded}
+use Rattle.rm_frame.specs.Holds.{Holds, records}
 use Rattle.rm_frame.specs.Loose.{IsLoose, IsNamedIn, StaysLoose, of_object}
 use Rattle.rm_frame.specs.Moments.{IsMomentIn}
 use Rattle.rm_frame.specs.Stopped.{IsLeft, Stopped, StopsAt, ended}

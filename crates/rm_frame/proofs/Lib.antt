@@ -1,6 +1,9 @@
 pub mod Carried
+pub mod Every
+pub mod Firsts
 pub mod Founding
 pub mod Halting
+pub mod LooseBackup
 pub mod LooseNew
 pub mod LooseQuiet
 pub mod Loosening

@@ -1,11 +1,12 @@
 -- New objects bear no name of a record.
-use Rattle.std.proofs.Common.{◌≡◌, ◌≢◌, ◌<◌, ◌≤◌, ◌+◌, ◌∙◌, ◌++◌, ◌∷◌, ℕ, zero, suc, List, [], Some, Bool, true, false, cond, refl, ap, sym, subst, arith, All}
+use Rattle.std.proofs.Common.{◌≡◌, ◌≢◌, ◌≤◌, ◌+◌, ◌∙◌, ◌∷◌, ℕ, zero, suc, List, [], Option, Some, None, Bool, true, false, cond, refl, ap, sym, subst, arith, All}
+use Rattle.std.specs.Prelude.{IsSomeAnd}
 use Rattle.std.proofs.lemmas.List.Elements.{All-append, All-cons, All-nil}
 use Rattle.rm_change.specs.declared.change.Object.{Object}
 use Rattle.rm_change.specs.Names.{is_named, itself, name_of}
 use Rattle.rm_change.proofs.Standing.{unnamed}
 use Rattle.rm_command.specs.declared.command.Command.{Command}
-use Rattle.rm_command.specs.declared.command.Command.TheVariants.{ArchiveLogCurrent, SwitchLogfile}
+use Rattle.rm_command.specs.declared.command.Command.TheVariants.{ArchiveLogCurrent, OpenResetlogs, SwitchLogfile}
 use Rattle.rm_ledger.specs.Facts.{IsLedger}
 use Rattle.rm_ledger.specs.Ledger.{Ledger}
 use Rattle.rm_ledger.proofs.Lookups.{log-id-within, piece-id-within}
@@ -13,9 +14,10 @@ use Rattle.rm_objects.specs.Names.{log_name, piece_name, site_name}
 use Rattle.rm_objects.proofs.Names.{log-name-tells, log-no-piece, log-no-site, piece-name-tells, piece-no-site}
 use Rattle.rm_redo.specs.LogFormat.{spelling}
 use Rattle.rm_report.specs.declared.line.Line.{Line}
-use Rattle.rm_machine.specs.Archive.{after_thread, archiving, puts_from}
+use Rattle.rm_machine.specs.Archive.{after_all, after_thread, archiving, puts_from}
 use Rattle.rm_machine.specs.Effect.{Effect, done, no_effect}
 use Rattle.rm_machine.specs.Names.{IsObjectName, of_log, of_piece}
+use Rattle.rm_machine.specs.OpenResetlogs.{branched_off, resetlogs_lines}
 use Rattle.rm_machine.specs.Sound.{IsSound}
 use Rattle.rm_machine.specs.declared.state.State.{State}
 use Rattle.rm_machine.specs.State.{ledger, online}
@@ -23,6 +25,7 @@ use Rattle.rm_machine.specs.Step.{refusal_of}
 use Rattle.rm_machine.specs.SwitchLogfile.{archived, is_due, made_lines, none_lines, with_archived}
 use Rattle.rm_machine.proofs.Archives.{HasRoom, Took, next-room, took-thread}
 use Rattle.rm_machine.proofs.ArchivingAll.{room}
+use Rattle.rm_machine.proofs.Branching.{can-reset}
 use Rattle.rm_machine.proofs.Leading.{done-by}
 use Rattle.rm_machine.proofs.Switching.{CanSwitch, can-archive, can-switch}
 use Rattle.rm_frame.specs.Loose.{IsLoose, IsNamedBy, StaysLoose, of_object, of_part}
@@ -126,3 +129,17 @@ archive-loose s held lines e t sound comes =
     let is : archiving s ≡ e = (let one = both.1 in cc) in
     subst (λ x. IsLoose (Some s) ArchiveLogCurrent x t) is
     (new-loose s ArchiveLogCurrent (archiving s) t refl (threads-new (ledger s).base.threads 1 s 0 s sound (omega arith) (room s sound both.0)))
+
+-- OPEN RESETLOGS
+
+branch-by : (o : Option ℕ) (s : State) (lines : List Line) (e : Effect) (t : State) → IsSomeAnd o (λ at. done lines e t ≡ done (resetlogs_lines s at) (archiving s) (branched_off (after_all s) at)) → archiving s ≡ e
+branch-by None s lines e t is = absurd is
+branch-by (Some at) s lines e t is = cc
+
+pub branch-loose : StaysLoose OpenResetlogs
+branch-loose s held lines e t sound comes =
+    let both = done-by (refusal_of s OpenResetlogs) s held OpenResetlogs lines e t comes in
+    let can = can-reset s sound both.0 in
+    let is = branch-by s.instance.point s lines e t both.1 in
+    subst (λ x. IsLoose (Some s) OpenResetlogs x t) is
+    (new-loose s OpenResetlogs (archiving s) t refl (threads-new (ledger s).base.threads 1 s 2 s sound (omega arith) can.room))

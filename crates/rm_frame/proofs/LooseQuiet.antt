@@ -1,7 +1,9 @@
 -- Statements that put nothing and take nothing away.
-use Rattle.std.proofs.Common.{◌≡◌, ℕ, List, [], Some, ap, sym}
+use Rattle.std.proofs.Common.{◌≡◌, ℕ, List, [], Option, Some, None, inl, inr}
+use Rattle.rm_base.specs.Store.{Held}
 use Rattle.rm_command.specs.declared.command.Command.{Command}
-use Rattle.rm_command.specs.declared.command.Command.TheVariants.{Mount, OpenPlain, ResetDatabase, Write}
+use Rattle.rm_command.specs.declared.command.Command.TheVariants.{CreateDatafile, Dump, ListIncarnation, Mount, OpenPlain, Recover, RecoverTest, ResetDatabase, Write}
+use Rattle.rm_command.specs.declared.command.Until.{Until}
 use Rattle.rm_command.specs.declared.command.WriteForm.{WriteForm}
 use Rattle.rm_report.specs.declared.line.Line.{Line}
 use Rattle.rm_machine.specs.Effect.{Effect, done, no_effect}
@@ -10,9 +12,13 @@ use Rattle.rm_machine.specs.Open.{opened}
 use Rattle.rm_machine.specs.ResetDatabase.{at_incarnation}
 use Rattle.rm_machine.specs.declared.state.State.{State}
 use Rattle.rm_machine.specs.State.{now_of}
+use Rattle.rm_machine.specs.CreateDatafile.{with_datafile}
+use Rattle.rm_machine.specs.Recover.{RecoversTo, recover_target, recovered}
 use Rattle.rm_machine.specs.Step.{refusal_of}
-use Rattle.rm_machine.specs.Write.{change_of, with_write}
+use Rattle.rm_machine.proofs.Dumping.{dump-never}
 use Rattle.rm_machine.proofs.Leading.{done-by}
+use Rattle.rm_machine.proofs.Recovered.{test-never}
+use Rattle.rm_machine.proofs.Telling.{IsNeverDone}
 use Rattle.rm_frame.specs.Loose.{IsLoose, StaysLoose}
 use Rattle.rm_frame.proofs.Loosening.{nothing-named}
 
@@ -32,3 +38,32 @@ open-loose s held lines e t sound comes = quiet-loose s OpenPlain lines _ e (ope
 
 pub choose-loose : (i : ℕ) → StaysLoose (ResetDatabase i)
 choose-loose i s held lines e t sound comes = quiet-loose s (ResetDatabase i) lines _ e (at_incarnation s i) t (done-by (refusal_of s (ResetDatabase i)) s held (ResetDatabase i) lines e t comes).1
+
+pub create-loose : (blocks : ℕ) → StaysLoose (CreateDatafile blocks)
+create-loose blocks s held lines e t sound comes =
+    quiet-loose s (CreateDatafile blocks) lines _ e (with_datafile s blocks) t (done-by (refusal_of s (CreateDatafile blocks)) s held (CreateDatafile blocks) lines e t comes).1
+
+recover-by : (o : Option ℕ) (until : Option Until) (s : State) (held : Held) (lines : List Line) (e : Effect) (t : State) → RecoversTo s held o (done lines e t) → IsLoose (Some s) (Recover until) e t
+recover-by None until s held lines e t does = absurd does
+recover-by (Some at) until s held lines e t (inl gap) = absurd (let clash = gap.is in cc)
+recover-by (Some at) until s held lines e t (inr back) = quiet-loose s (Recover until) lines _ e (recovered s at back.files) t back.is
+
+pub recover-loose : (until : Option Until) → StaysLoose (Recover until)
+recover-loose until s held lines e t sound comes =
+    recover-by (recover_target s until) until s held lines e t (done-by (refusal_of s (Recover until)) s held (Recover until) lines e t comes).1
+
+-- what only tells is never done
+never-loose : (c : Command) → IsNeverDone c → StaysLoose c
+never-loose c never s held lines e t sound comes = absurd (never s held lines e t (done-by (refusal_of s c) s held c lines e t comes).1)
+
+pub test-loose : (until : Option Until) (inc : Option ℕ) → StaysLoose (RecoverTest until inc)
+test-loose until inc = never-loose (RecoverTest until inc) (test-never until inc)
+
+pub dump-loose : (file block : ℕ) → StaysLoose (Dump file block)
+dump-loose file block = never-loose (Dump file block) (dump-never file block)
+
+pub list-never : IsNeverDone ListIncarnation
+list-never s held lines e t is = absurd (cc)
+
+pub list-loose : StaysLoose ListIncarnation
+list-loose = never-loose ListIncarnation list-never

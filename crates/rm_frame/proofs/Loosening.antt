@@ -1,6 +1,5 @@
 -- What a statement touches, from a database at its moment or from none.
 use Rattle.std.proofs.Common.{◌≡◌, ◌∙◌, ℕ, List, [], Option, Some, None, true, false, ap, sym, subst, Contains}
-use Rattle.rm_base.specs.Store.{Held}
 use Rattle.rm_change.specs.Names.{is_named, itself, name_of}
 use Rattle.rm_command.specs.declared.command.Command.{Command}
 use Rattle.rm_command.specs.declared.command.Command.TheVariants.{CreateDatabase}
@@ -14,7 +13,7 @@ use Rattle.rm_machine.specs.Step.{IsOutcomeWithout, names_in}
 use Rattle.rm_machine.proofs.Kept.{names-of}
 use Rattle.rm_machine.proofs.Later.{sound-later}
 use Rattle.rm_frame.specs.Carries.{IsOutcomeIn}
-use Rattle.rm_frame.specs.Loose.{IsLoose, IsNamedBy, IsNamedIn, StaysLoose, of_object, of_part}
+use Rattle.rm_frame.specs.Loose.{IsLoose, IsNamedIn, StaysLoose, of_object, of_part}
 use Rattle.rm_frame.specs.Moments.{IsMomentIn}
 use Rattle.rm_frame.proofs.Founding.{founded-quiet}
 

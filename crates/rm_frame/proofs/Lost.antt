@@ -2,18 +2,24 @@
 use Rattle.std.proofs.Common.{◌≡◌, ◌<◌, ◌≤◌, ◌-◌, ◌∙◌, ℕ, zero, suc, List, Option, Some, None, true, false, refl, ap, sym, arith, replicate, slice_get, slice_index_or}
 use Rattle.std.specs.Option.{option_map, option_map_or}
 use Rattle.std.proofs.lemmas.Bool.{false≢true}
+use Rattle.std.proofs.lemmas.List.{get_or-replicate, length-replicate}
+use Rattle.std.proofs.lemmas.Option.{slice_get-get_or}
 use Rattle.rm_base.specs.Store.{Held}
 use Rattle.rm_base.specs.declared.block.Change.{Change}
 use Rattle.rm_blocks.specs.File.{File}
-use Rattle.rm_repository.specs.Repository.{Repository, Saved, records_of}
+use Rattle.rm_repository.specs.Repository.{Saved, records_of}
 use Rattle.rm_machine.specs.Effect.{Made}
 use Rattle.rm_machine.specs.Machine.{HistoryFits, IsBorneOut}
 use Rattle.rm_machine.specs.Sound.{IsSound}
 use Rattle.rm_machine.specs.declared.state.State.{State}
 use Rattle.rm_machine.specs.State.{ledger, is_lost, now_of, placed}
-use Rattle.rm_machine.proofs.Creating.{get-replicate, length-replicated}
 use Rattle.rm_frame.specs.Holds.{records_in}
 use Rattle.rm_frame.specs.Stopped.{all_lost, ended, lost_log}
+
+get-replicate : {X : Type 0} (n k : ℕ) (x : X) → k < n → slice_get (replicate n x) k ≡ Some x
+get-replicate n k x low =
+    let many = length-replicate n x in
+    slice_get-get_or (replicate n x) k x (omega (arith, low, many)) ∙ ap Some (get_or-replicate n k x x low)
 
 -- nothing in n places
 abbrev empty : ℕ → List (Option File)
@@ -48,11 +54,11 @@ module _ (s : State) where
   sound-lost is = record {
     catalog = is.catalog;
     dbid = is.dbid;
-    place = record { many = length-replicated _ None; each = λ k d x file held. absurd (none-there _ k x held) };
+    place = record { many = length-replicate _ None; each = λ k d x file held. absurd (none-there _ k x held) };
     logs = record {
       dbid = refl;
       there = is.catalog.ledger.current;
-      threads = length-replicated n (lost_log (now_of s));
+      threads = length-replicate n (lost_log (now_of s));
       each = λ t low high found. absurd (lost t low high found);
     };
     in_open = λ opened. absurd (false≢true opened);

@@ -1,0 +1,63 @@
+-- The laws of every statement. One that is not in the machine yet comes to nothing.
+use Rattle.rm_command.specs.declared.command.Command.{Command}
+use Rattle.rm_command.specs.declared.command.Command.TheVariants.{ArchiveLogCurrent, Backup, CreateDatabase, CreateDatafile, Dump, ListIncarnation, Mount, OpenPlain, OpenResetlogs, Recover, RecoverTest, ResetDatabase, SwitchLogfile, Write}
+use Rattle.rm_machine.specs.Laws.{LeadsOn, TellsOn}
+use Rattle.rm_machine.proofs.AddingDatafile.{create-on}
+use Rattle.rm_machine.proofs.ArchivingAll.{all-on}
+use Rattle.rm_machine.proofs.BackingUp.{backup-on}
+use Rattle.rm_machine.proofs.Branching.{resets-on}
+use Rattle.rm_machine.proofs.Choosing.{choose-on}
+use Rattle.rm_machine.proofs.Dumping.{dump-never}
+use Rattle.rm_machine.proofs.Leading.{TellsOnBy, leads, tells}
+use Rattle.rm_machine.proofs.Mounting.{mount-on}
+use Rattle.rm_machine.proofs.Opening.{open-on}
+use Rattle.rm_machine.proofs.Recovered.{recover-on, test-never, test-tells}
+use Rattle.rm_machine.proofs.Switching.{switch-on}
+use Rattle.rm_machine.proofs.Telling.{tells-on}
+use Rattle.rm_machine.proofs.Writing.{write-on}
+use Rattle.rm_frame.specs.Loose.{StaysLoose}
+use Rattle.rm_frame.proofs.Founding.{never-again, never-loose}
+use Rattle.rm_frame.proofs.LooseBackup.{backup-loose}
+use Rattle.rm_frame.proofs.LooseNew.{archive-loose, branch-loose, switch-loose}
+use Rattle.rm_frame.proofs.LooseQuiet.{choose-loose, create-loose, dump-loose, list-loose, list-never, mount-loose, open-loose, recover-loose, test-loose, write-loose}
+
+pub every-leads : (c : Command) → LeadsOn c
+every-leads (CreateDatabase dbid threads scn) = never-again dbid threads scn
+every-leads (CreateDatafile blocks) = leads (CreateDatafile blocks) (create-on blocks)
+every-leads (Write w) = leads (Write w) (write-on w)
+every-leads (SwitchLogfile t) = leads (SwitchLogfile t) (switch-on t)
+every-leads ArchiveLogCurrent = leads ArchiveLogCurrent all-on
+every-leads Mount = leads Mount mount-on
+every-leads OpenPlain = leads OpenPlain open-on
+every-leads OpenResetlogs = leads OpenResetlogs resets-on
+every-leads (ResetDatabase i) = leads (ResetDatabase i) (choose-on i)
+every-leads (Backup b) = leads (Backup b) (backup-on b)
+every-leads (Recover until) = leads (Recover until) (recover-on until)
+every-leads (RecoverTest until inc) = leads (RecoverTest until inc) (tells-on (RecoverTest until inc) (test-never until inc))
+every-leads ListIncarnation = leads ListIncarnation (tells-on ListIncarnation list-never)
+every-leads (Dump file block) = leads (Dump file block) (tells-on (Dump file block) (dump-never file block))
+every-leads c = λ m s moment lines effect t after well is sound tell at comes leaves. absurd comes
+
+every-tells-by : (c : Command) → TellsOnBy c
+every-tells-by (RecoverTest until inc) = test-tells until inc
+every-tells-by c = λ s h objects made touched lines well borne tell none does. tt
+
+pub every-tells : (c : Command) → TellsOn c
+every-tells c = tells c (every-tells-by c)
+
+pub every-loose : (c : Command) → StaysLoose c
+every-loose (CreateDatabase dbid threads scn) = never-loose dbid threads scn
+every-loose (CreateDatafile blocks) = create-loose blocks
+every-loose (Write w) = write-loose w
+every-loose (SwitchLogfile t) = switch-loose t
+every-loose ArchiveLogCurrent = archive-loose
+every-loose Mount = mount-loose
+every-loose OpenPlain = open-loose
+every-loose OpenResetlogs = branch-loose
+every-loose (ResetDatabase i) = choose-loose i
+every-loose (Backup b) = backup-loose b
+every-loose (Recover until) = recover-loose until
+every-loose (RecoverTest until inc) = test-loose until inc
+every-loose ListIncarnation = list-loose
+every-loose (Dump file block) = dump-loose file block
+every-loose c = λ s held lines e t sound comes. absurd comes
