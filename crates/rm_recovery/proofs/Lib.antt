@@ -1,3 +1,0 @@
-pub mod Hand
-pub mod Rows
-pub mod Telling
