@@ -158,7 +158,7 @@ module _ (s : State) (blocks : ℕ) (sound : IsSound s) (a : HasRoom s blocks) (
       let room = a.room in
       omega (arith, old, new, long, marks, room)
 
-  datafile-fits : FitsFile (one_further s) d
+  pub datafile-fits : FitsFile (one_further s) d
   datafile-fits =
       let next = end in
       let reset = begun.1 in
