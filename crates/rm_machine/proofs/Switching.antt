@@ -167,7 +167,7 @@ module _ (s : State) (t : ℕ) (sound : IsSound s) (low : 0 < t) (high : t ≤ s
   there : IsThread s.instance.logs t
   there = let many = sound.logs.threads in (low, omega (arith, many, high))
 
-  entry-is : IsLogEntry l.tree l.base.threads entry
+  pub entry-is : IsLogEntry l.tree l.base.threads entry
   entry-is =
       let body = length-body log (fits-log log log-is.valid) in
       let whole = length-sealed (body_of log) in
