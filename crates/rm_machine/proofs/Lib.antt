@@ -3,6 +3,8 @@ pub mod Agreeing
 pub mod Archives
 pub mod ArchivingAll
 pub mod AtHand
+pub mod BackingUp
+pub mod Backups
 pub mod BranchesSound
 pub mod Branching
 pub mod Choosing
@@ -27,6 +29,7 @@ pub mod Mounting
 pub mod Numbers
 pub mod Opened
 pub mod Opening
+pub mod Pieces
 pub mod Places
 pub mod Quiet
 pub mod Records
@@ -35,6 +38,7 @@ pub mod Recovering
 pub mod Sizes
 pub mod Standing
 pub mod Switching
+pub mod Tags
 pub mod Telling
 pub mod Told
 pub mod Unique

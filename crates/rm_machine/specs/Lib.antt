@@ -1,4 +1,5 @@
 pub mod Archive
+pub mod Backup
 pub mod Built
 pub mod CreateDatabase
 pub mod CreateDatafile

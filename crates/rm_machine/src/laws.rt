@@ -6,6 +6,7 @@ ghost use Rattle.rm_base.specs.declared.block.Change.{Change};
 ghost use Rattle.rm_base.specs.declared.kinds.Bad.{Bad};
 ghost use Rattle.rm_blocks.specs.File.{File};
 ghost use Rattle.rm_command.specs.declared.command.Until.{Until};
+ghost use Rattle.rm_command.specs.declared.command.BackupForm.{BackupForm};
 ghost use Rattle.rm_command.specs.declared.command.WriteForm.{WriteForm};
 ghost use Rattle.rm_evidence.specs.declared.evidence.Evidence.{Evidence};
 ghost use Rattle.rm_evidence.specs.Known.{known_of};
@@ -19,7 +20,7 @@ ghost use Rattle.rm_machine.specs.Recovery.{FindsGap, IsAtHand, TellsAll};
 ghost use Rattle.rm_machine.specs.Sound.{IsSound};
 ghost use Rattle.rm_machine.specs.declared.state.State.{State};
 ghost use Rattle.rm_machine.specs.State.{at_moment, ledger, world};
-ghost use Rattle.rm_command.specs.declared.command.Command.TheVariants.{ArchiveLogCurrent, CreateDatafile, Dump, ListIncarnation, Mount, OpenPlain, OpenResetlogs, Recover, RecoverTest, ResetDatabase, SwitchLogfile, Write};
+ghost use Rattle.rm_command.specs.declared.command.Command.TheVariants.{ArchiveLogCurrent, Backup, CreateDatafile, Dump, ListIncarnation, Mount, OpenPlain, OpenResetlogs, Recover, RecoverTest, ResetDatabase, SwitchLogfile, Write};
 
 /// There are sound machines: that of a new database is one.
 pub fn a_new_database_is_sound()
@@ -60,6 +61,12 @@ pub fn a_switch_leads_on()
 pub fn archiving_leads_on()
     ensures leads { LeadsOn ArchiveLogCurrent }
     ensures stays { StaysSound ArchiveLogCurrent }
+{}
+
+/// BACKUP of datafiles, likewise: its pieces agree with the history.
+pub fn a_backup_leads_on()
+    ensures leads { (form : BackupForm) → LeadsOn (Backup form) }
+    ensures stays { (form : BackupForm) → StaysSound (Backup form) }
 {}
 
 /// SHUTDOWN and STARTUP MOUNT, likewise: what is in place stands at `now`.
