@@ -2,16 +2,16 @@
 //! RESET DATABASE; and LIST INCARNATION.
 #![tactic(auto)]
 
+mod branching;
 mod facts;
 mod handing;
-mod list_incarnation;
-mod mount;
-mod open;
-mod open_resetlogs;
+mod listing;
+mod mounting;
+mod opening;
 mod place;
-mod reset_database;
+mod resetting;
 
-pub use list_incarnation::list_incarnation;
-pub use mount::mount;
-pub use open::{open, open_refusal};
-pub use reset_database::{reset_database, reset_refusal};
+pub use listing::list_incarnation;
+pub use mounting::mount;
+pub use opening::{open, open_refusal};
+pub use resetting::{reset_database, reset_refusal};

@@ -1,6 +1,6 @@
 use Rattle.std.proofs.Common.{◌≡◌, ◌++◌, ◌+◌, ◌-◌, length}
 use Rattle.rm_machine.specs.ListIncarnation.{incarnation_lines}
-use Rattle.rm_modes.proofs.list_incarnation.lines_of_all.Given as goal
+use Rattle.rm_modes.proofs.listing.lines_of_all.Given as goal
 
 abbrev pub invariant-loop-inc : goal.invariant-loop-inc
 invariant-loop-inc l =

@@ -9,7 +9,7 @@ ghost use Rattle.rm_machine.specs.State.{tree};
 ghost use Rattle.rm_repository.specs.Changes.{EditsFollow};
 ghost use Rattle.rm_repository.specs.Fitting.{HasRoomFor};
 
-use crate::open::open_at;
+use crate::opening::open_at;
 use rm_base::{Limit, NoMemory, Refusal, Scn};
 use rm_catalog::{BaseEntry, Edit};
 use rm_machine::{Handed, State};

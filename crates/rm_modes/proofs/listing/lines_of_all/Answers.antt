@@ -1,6 +1,6 @@
 use Rattle.std.proofs.Common.{◌≡◌, ◌+◌, ◌-◌, ◌∙◌, suc, arith, length}
 use Rattle.rm_modes.proofs.Lines.{lines-next}
-use Rattle.rm_modes.proofs.list_incarnation.lines_of_all.Goals as goal
+use Rattle.rm_modes.proofs.listing.lines_of_all.Goals as goal
 
 pub loop-inc-preserved : goal.loop-inc-preserved
 loop-inc-preserved c =
