@@ -10,13 +10,16 @@ pub mod FreshLogs
 pub mod Grown
 pub mod Handing
 pub mod Kept
+pub mod LastMarks
 pub mod Later
 pub mod Leading
+pub mod Losses
 pub mod Mounting
 pub mod Opened
 pub mod Opening
 pub mod Places
 pub mod Quiet
+pub mod Sizes
 pub mod Switching
 pub mod Telling
 pub mod Writes

@@ -183,8 +183,12 @@ module _ (s : State) (t : ℕ) (sound : IsSound s) (low : 0 < t) (high : t ≤ s
   catalog-after : IsRepository q.catalog
   catalog-after =
       let ids = a.ids in
-      new_log_fits s.catalog entry sound.catalog refl (omega (arith, ids)) entry-is
-      (elim (roomy-either 1 (length (records_of l) + 1) a.roomy) [ inl none ↦ absurd (omega (arith, none)) | inr room ↦ room ])
+      new_log_fits s.catalog entry sound.catalog (record {
+        log = entry-is;
+        id = refl;
+        last = omega (arith, ids);
+        room = elim (roomy-either 1 (length (records_of l) + 1) a.roomy) [ inl none ↦ absurd (omega (arith, none)) | inr room ↦ room ];
+      })
 
   redo-after : redo_end q ≡ redo_end s
   redo-after = ap (end_of l.tree) (around-switched s.instance.logs t (redo_end s)).inc

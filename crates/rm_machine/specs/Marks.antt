@@ -23,6 +23,11 @@ mark_now s = record { moment = (ledger s).base.moment; inc = current_of s; scn =
 abbrev pub marks_before : State → List Mark
 marks_before s = if nat_lt (last_marked 0 (ledger s).marks) (ledger s).base.moment then mark_now s ∷ [] else []
 
+-- a mark, if there is one, as a list
+abbrev pub listed : Option Mark → List Mark
+listed None = []
+listed (Some m) = m ∷ []
+
 -- with these marks more
 abbrev pub with_marks : Repository → List Mark → Repository
 with_marks r marks = record r { ledger = record r.ledger { marks = r.ledger.marks ++ marks } }
