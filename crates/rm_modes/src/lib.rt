@@ -2,8 +2,8 @@
 //! RESET DATABASE; and LIST INCARNATION.
 #![tactic(auto)]
 
+mod archives;
 mod branching;
-mod facts;
 mod handing;
 mod listing;
 mod mounting;
@@ -11,6 +11,7 @@ mod opening;
 mod place;
 mod resetting;
 
+pub use branching::{open_resetlogs, resetlogs_refusal};
 pub use listing::list_incarnation;
 pub use mounting::mount;
 pub use opening::{open, open_refusal};

@@ -7,10 +7,11 @@ ghost use Rattle.rm_machine.specs.Hands.{Hands};
 ghost use Rattle.rm_machine.specs.Open.{is_recovered, open_refusal, opened};
 ghost use Rattle.rm_machine.specs.Sound.{IsSound};
 
-use crate::facts::{ids_refusal, now};
 use crate::handing::of_line;
 use crate::place::keep_in_place;
 use rm_base::{NoMemory, Refusal, Scn, Seq};
+use rm_machine::facts::now;
+use rm_machine::room::ids_refusal;
 use rm_machine::{Handed, State};
 use rm_redo::OnlineLogs;
 use rm_report::Line;
@@ -62,7 +63,7 @@ pub(crate) fn open_at(alloc: Global, state: &mut State, at: Scn)
 {
     let current = state.catalog.base().current;
     let mut place = mem::replace(&mut state.instance.place, Seq::new(alloc)).into_vec();
-    keep_in_place(&state.catalog, &mut place, current, at);
+    keep_in_place(state, &mut place, current, at);
     state.instance.place = Seq::from_vec(place);
     state.instance.point = None;
     state.instance.is_open = true;

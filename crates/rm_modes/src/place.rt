@@ -3,14 +3,13 @@ ghost use Rattle.std.specs.Prelude.{◌≡◌, ◌<◌, map, length, All};
 ghost use Rattle.std.specs.Option.{option_map};
 ghost use Rattle.rm_blocks.specs.File.{standing};
 ghost use Rattle.rm_history.specs.Tree.{IsThere};
-ghost use Rattle.rm_history.specs.World.{exists};
 ghost use Rattle.rm_machine.specs.Open.{kept_in_place};
-ghost use Rattle.rm_machine.specs.State.{world_of};
+ghost use Rattle.rm_machine.specs.State.{ledger, tree, world};
 
 use rm_base::{IncNo, Scn};
 use rm_blocks::DataFile;
-use rm_history::Datafile;
-use rm_repository::Catalog;
+use rm_machine::State;
+use rm_machine::facts::exists;
 
 /// Lets each datafile in place stand at a checkpoint of an incarnation.
 pub(crate) fn stand_all(place: &mut Vec<Option<DataFile>>, inc: IncNo, checkpoint: Scn)
@@ -23,24 +22,15 @@ pub(crate) fn stand_all(place: &mut Vec<Option<DataFile>>, inc: IncNo, checkpoin
     }
 }
 
-// Whether a datafile exists at the address (i, s): it was created below `s`, on the path of `i`.
-pub(crate) fn exists(catalog: &Catalog, i: IncNo, s: Scn, datafile: &Datafile) -> bool
-    requires there { IsThere catalog.now.ledger.tree i }
-    requires created { 0 < datafile.now.creation }
-    ensures { result ≡ exists (world_of catalog.now.ledger) i s datafile.now }
-{
-    datafile.creation < s && catalog.tree().owner(i, datafile.creation) == Some(datafile.inc)
-}
-
 /// Takes out of place what does not exist at the address (i, s).
-pub(crate) fn keep_in_place(catalog: &Catalog, place: &mut Vec<Option<DataFile>>, i: IncNo, s: Scn)
-    requires there { IsThere catalog.now.ledger.tree i }
-    requires created { All (λ d. 0 < d.creation) catalog.now.ledger.files }
-    requires many { length place.old.items ≡ length catalog.now.ledger.files }
-    ensures { place.new.items ≡ kept_in_place (world_of catalog.now.ledger) i s catalog.now.ledger.files place.old.items }
+pub(crate) fn keep_in_place(state: &State, place: &mut Vec<Option<DataFile>>, i: IncNo, s: Scn)
+    requires there { IsThere (tree state.now) i }
+    requires created { All (λ d. 0 < d.creation) (ledger state.now).files }
+    requires many { length place.old.items ≡ length (ledger state.now).files }
+    ensures { place.new.items ≡ kept_in_place (world state.now) i s (ledger state.now).files place.old.items }
 {
-    for (index, datafile) in catalog.files().iter().enumerate() {
-        if !exists(catalog, i, s, datafile) {
+    for (index, datafile) in state.catalog.files().iter().enumerate() {
+        if !exists(state, i, s, datafile) {
             place[index] = None;
         }
     }

@@ -5,7 +5,7 @@ use Rattle.rm_history.specs.declared.world.Datafile.{Datafile}
 use Rattle.rm_history.specs.declared.world.World.{World}
 use Rattle.rm_history.specs.World.{exists}
 use Rattle.rm_machine.specs.Open.{kept_in_place}
-use Rattle.rm_machine.specs.State.{world_of}
+use Rattle.rm_machine.specs.State.{world}
 use Rattle.rm_modes.proofs.Places.{kept-stays, kept-goes}
 use Rattle.rm_modes.proofs.place.keep_in_place.Goals as goal
 use Rattle.rm_modes.proofs.place.keep_in_place.Goals.{then-not-exists+in-Some-1, then-not-exists+in-None-1, else-not-exists}
@@ -15,7 +15,7 @@ any = record { inc = 0; creation = 0; blocks = 0 }
 
 pub loop-index-preserved : goal.loop-index-preserved
 loop-index-preserved c =
-    let w : World = world_of c.args.catalog.now.ledger in
+    let w : World = world c.args.state.now in
     let i = c.args.i in
     let s = c.args.s in
     let xs = c.loop-index.place.items in
