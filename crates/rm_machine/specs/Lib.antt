@@ -1,5 +1,9 @@
 pub mod Archive
+pub mod Backup
+pub mod Built
 pub mod CreateDatabase
+pub mod CreateDatafile
+pub mod Dump
 pub mod Effect
 pub mod Hands
 pub mod Laws
@@ -10,6 +14,9 @@ pub mod Mount
 pub mod Names
 pub mod Open
 pub mod OpenResetlogs
+pub mod Recover
+pub mod RecoverTest
+pub mod Recovery
 pub mod ResetDatabase
 pub mod Sound
 pub mod State

@@ -80,3 +80,10 @@ pub record FitsPiece (r : Repository) (p : PieceEntry) : Type 0 where
   pub id : IsObjectId r p.id
   pub other : LacksId (λ e. e.id) p.id r.ledger.logs
   pub room : HasId (λ x. x.id) p.id r.ledger.pieces ⊎ HasRoomFor r 1
+
+-- a piece more, which takes the next id
+pub record FitsNewPiece (r : Repository) (p : PieceEntry) : Type 0 where
+  pub piece : IsPieceEntry r.ledger.tree r.ledger.files p
+  pub id : p.id ≡ r.ledger.base.next_id
+  pub last : p.id < 4294967295
+  pub room : HasRoomFor r 1
