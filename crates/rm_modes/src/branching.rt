@@ -9,8 +9,8 @@ ghost use Rattle.rm_machine.specs.State.{tree};
 ghost use Rattle.rm_repository.specs.Changes.{EditsFollow};
 ghost use Rattle.rm_repository.specs.Fitting.{HasRoomFor};
 
-use crate::archives::{archive_all, archiving_refusal};
 use crate::opening::open_at;
+use rm_archiving::{archive_all, archiving_refusal};
 use rm_base::{Limit, NoMemory, Refusal, Scn, Seq};
 use rm_catalog::{BaseEntry, Edit};
 use rm_machine::{Handed, State};

@@ -2,9 +2,7 @@
 //! RESET DATABASE; and LIST INCARNATION.
 #![tactic(auto)]
 
-mod archives;
 mod branching;
-mod handing;
 mod listing;
 mod mounting;
 mod opening;

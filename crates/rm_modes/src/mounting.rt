@@ -7,10 +7,10 @@ ghost use Rattle.rm_machine.specs.Marks.{ids_refusal};
 ghost use Rattle.rm_machine.specs.Mount.{as_mounted, mount_point, mounted};
 ghost use Rattle.rm_machine.specs.Sound.{IsSound};
 
-use crate::handing::of_line;
 use crate::place::stand_all;
 use rm_base::{NoMemory, Scn, Seq};
 use rm_machine::facts::{first_lost, now};
+use rm_machine::handed::of_line;
 use rm_machine::{Handed, State};
 use rm_report::Line;
 use std::alloc::Global;

@@ -7,10 +7,10 @@ ghost use Rattle.rm_machine.specs.Hands.{Hands};
 ghost use Rattle.rm_machine.specs.Open.{is_recovered, open_refusal, opened};
 ghost use Rattle.rm_machine.specs.Sound.{IsSound};
 
-use crate::handing::of_line;
 use crate::place::keep_in_place;
 use rm_base::{NoMemory, Refusal, Scn, Seq};
 use rm_machine::facts::now;
+use rm_machine::handed::of_line;
 use rm_machine::room::ids_refusal;
 use rm_machine::{Handed, State};
 use rm_redo::OnlineLogs;

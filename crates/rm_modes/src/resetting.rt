@@ -7,9 +7,9 @@ ghost use Rattle.rm_machine.specs.ResetDatabase.{reset_refusal};
 ghost use Rattle.rm_machine.specs.Sound.{IsSound};
 ghost use Rattle.rm_repository.specs.Changes.{EditsFollow};
 
-use crate::handing::of_line;
 use rm_base::{IncNo, NoMemory, Refusal};
 use rm_catalog::{BaseEntry, Edit};
+use rm_machine::handed::of_line;
 use rm_machine::room::ids_refusal;
 use rm_machine::{Handed, State};
 use rm_report::Line;
