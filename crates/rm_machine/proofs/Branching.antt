@@ -102,6 +102,7 @@ pub record CanReset (s : State) : Type 0 where
   pub at : ℕ
   pub here : s.instance.point ≡ Some at
   pub few : length s.catalog.ledger.tree < 256
+  pub archives : archiving_refusal s 2 ≡ None
   pub room : HasRoom s 1 s.catalog.ledger.base.threads 2
 
 point-of : {X : Type 0} (r : Option Refusal) (x : Refusal) (o : Option X) → option_map_or (λ (y : X). r) o (Some x) ≡ None → (y : X) × (o ≡ Some y) × (r ≡ None)
@@ -113,7 +114,7 @@ can-reset s sound is =
     let mode = unless s.instance.is_open (Rm04 false) (option_map_or (λ (n : ℕ). branch_refusal s) s.instance.point (Some Rm10)) is in
     let point = point-of (branch_refusal s) Rm10 s.instance.point mode.1 in
     let few = unless _ (Rm11 Incarnations) (archiving_refusal s 2) point.2 in
-    record { shut = mode.0; at = point.0; here = point.1; few = leb-false 256 (length s.catalog.ledger.tree) few.0; room = room-accepted s 2 sound.catalog.ledger.few few.1 }
+    record { shut = mode.0; at = point.0; here = point.1; few = leb-false 256 (length s.catalog.ledger.tree) few.0; archives = few.1; room = room-accepted s 2 sound.catalog.ledger.few few.1 }
 
 -- the point at which it opens
 came : (s : State) (at : ℕ) (said : List Line) (e : Effect) (t : State) → s.instance.point ≡ Some at → IsSomeAnd s.instance.point (λ n. done said e t ≡ done (resetlogs_lines s n) (archiving s) (branched_off (after_all s) n))

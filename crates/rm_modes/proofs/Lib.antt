@@ -1,3 +1,4 @@
+pub mod Fewer
 pub mod Lines
 pub mod LostLogs
 pub mod Places
