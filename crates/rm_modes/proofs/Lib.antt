@@ -1,4 +1,3 @@
-pub mod Fewer
 pub mod Lines
 pub mod LostLogs
 pub mod Places

@@ -1,4 +1,4 @@
-use Rattle.std.proofs.Common.{rules, ◌≡◌, ◌∙◌, None, refl, ap}
+use Rattle.std.proofs.Common.{rules, refl}
 use Rattle.rm_command.specs.declared.command.Command.TheVariants.{ResetDatabase}
 use Rattle.rm_report.specs.declared.line.Line.TheVariants.{Chosen}
 use Rattle.std.specs.Prelude.{[], ◌∷◌}
