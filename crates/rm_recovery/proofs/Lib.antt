@@ -1,3 +1,4 @@
-pub mod Hand
+pub mod FileLines
+pub mod FilesTold
+pub mod InPlace
 pub mod Rows
-pub mod Telling

@@ -1,5 +1,5 @@
 -- What is told of one datafile after the other, and of all.
-use Rattle.std.specs.Prelude.{ℕ, ◌≡◌, true, false, Option, Some, None, List, IfSome, length, slice_get}
+use Rattle.std.specs.Prelude.{ℕ, ◌≡◌, ◌+◌, true, false, Option, Some, None, List, IfSome, length, slice_get}
 use Rattle.rm_base.specs.Store.{Held}
 use Rattle.rm_base.specs.declared.block.Part.{Part}
 use Rattle.rm_base.specs.declared.block.Row.{Row}
@@ -45,6 +45,11 @@ abbrev pub IsFirstFault : World → known.Evidence → ℕ → ℕ → PlanFault
 IsFirstFault w e i at (fault.Gap x) = IsFirstGap w e i at x.file x.block x.inc x.scn
 IsFirstFault w e i at fault.NoMemory = Unit {0}
 
+-- where the fault is a gap, the refusal names it
+abbrev pub NamesFault : PlanFault → Refusal → Type 0
+NamesFault (fault.Gap x) r = r ≡ Rm08 x.file x.block x.scn x.inc
+NamesFault fault.NoMemory r = ⊥
+
 -- the evidence is what is at hand, where the store tells what it holds
 pub record IsEvidence (held : Option Held) (s : State) (e : Evidence) : Type 0 where
   pub at_hand : IfSome held (λ h. IsAtHand s h e)
@@ -54,7 +59,7 @@ pub record IsEvidence (held : Option Held) (s : State) (e : Evidence) : Type 0 w
 pub record IsToldBy (held : Option Held) (s : State) (i at : ℕ) (t : Told) : Type 0 where
   pub evidence : Evidence
   pub is : IsEvidence held s evidence
-  pub files : AreTold (world s) (known_of evidence) i at t.files.items
+  pub files : AreTold (world s) (known_of evidence) i at t.files
   pub skipped : t.skipped ≡ evidence.skipped
 
 -- what is at hand leaves a gap, and the refusal names the first one

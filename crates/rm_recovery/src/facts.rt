@@ -1,15 +1,23 @@
 //! Facts of a state (a stand-in for rm_machine's).
-ghost use Rattle.std.specs.Prelude.{◌≡◌};
+ghost use Rattle.std.specs.Prelude.{◌≡◌, ◌<◌};
 ghost use Rattle.rm_history.specs.Tree.{IsThere};
 ghost use Rattle.rm_history.specs.World.{exists};
 ghost use Rattle.rm_machine.specs.Marks.{ids_refusal, lacks_ids};
 ghost use Rattle.rm_machine.specs.Mount.{first_lost};
 ghost use Rattle.rm_machine.specs.Sound.{IsSound};
-ghost use Rattle.rm_machine.specs.State.{ledger, redo_end, tree, world};
+ghost use Rattle.rm_machine.specs.State.{ledger, now_of, redo_end, tree, world};
 
 use rm_base::{FileNo, IncNo, Limit, Refusal, Scn};
 use rm_history::Datafile;
 use rm_machine::State;
+
+/// The SCN that the next change takes.
+pub(crate) fn now(state: &State) -> Scn
+    ensures { result ≡ now_of state.now }
+{
+    let current = state.catalog.base().current;
+    state.catalog.tree().get(current).map_or(0, |node| node.end)
+}
 
 /// The SCN up to which the online logs tell.
 pub(crate) fn redo_end(state: &State) -> Scn

@@ -1,5 +1,5 @@
 //! The datafiles that the evidence tells.
-ghost use Rattle.std.specs.Prelude.{◌≡◌, ◌<◌, ◌≤◌, ◌+◌, IfErr, IfOk, Some, map, slice_get};
+ghost use Rattle.std.specs.Prelude.{◌≡◌, ◌<◌, ◌≤◌, ◌+◌, ◌-◌, IfErr, IfOk, Some, map, slice_get};
 ghost use Rattle.rm_evidence.specs.Known.{FitsTree, known_of};
 ghost use Rattle.rm_history.specs.Tree.{IsThere};
 ghost use Rattle.rm_machine.specs.Recovery.{AreTold};
@@ -42,6 +42,7 @@ fn tell_file(
     number: FileNo,
     datafile: &Datafile,
 ) -> Result<Option<DataFile>, PlanFault>
+    requires sound { IsSound state.now }
     requires records { hand.now.records ≡ records_of state.now.catalog }
     requires fits { FitsTree (tree state.now) hand.now.evidence }
     requires there { IsThere (tree state.now) i }
@@ -66,15 +67,15 @@ pub(crate) fn tell_files(
     hand: &AtHand,
     i: IncNo,
     at: Scn,
-) -> Result<Vec<Option<DataFile>>, PlanFault>
+) -> Result<Seq<Option<DataFile>>, PlanFault>
     requires sound { IsSound state.now }
     requires records { hand.now.records ≡ records_of state.now.catalog }
     requires fits { FitsTree (tree state.now) hand.now.evidence }
     requires there { IsThere (tree state.now) i }
-    ensures told { IfOk result (λ files. AreTold (world state.now) (known_of hand.now.evidence) i at files.items) }
+    ensures told { IfOk result (λ files. AreTold (world state.now) (known_of hand.now.evidence) i at files) }
     ensures gap { IfErr result (λ x. IsFirstFault (world state.now) (known_of hand.now.evidence) i at x) }
 {
-    let mut files = Vec::new(alloc);
+    let mut files = Seq::new(alloc);
     for (index, datafile) in state.catalog.files().iter().enumerate() {
         let number = index as FileNo + 1;
         files.push(tell_file(alloc, state, hand, i, at, number, datafile)?)?;

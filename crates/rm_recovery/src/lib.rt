@@ -6,11 +6,11 @@ mod facts;
 mod files;
 mod hand;
 mod lines;
-mod recover;
-mod recover_test;
+mod recovery;
+mod recovery_test;
 mod target;
 mod telling;
 
-pub use recover::{recover, recover_refusal};
-pub use recover_test::{recover_test, test_refusal};
+pub use recovery::{recover, recover_refusal};
+pub use recovery_test::{recover_test, test_refusal};
 pub use target::is_built_until;

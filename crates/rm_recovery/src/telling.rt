@@ -4,15 +4,15 @@ ghost use Rattle.rm_base.specs.Outside.{Rose};
 ghost use Rattle.rm_history.specs.Tree.{IsThere};
 ghost use Rattle.rm_machine.specs.Sound.{IsSound};
 ghost use Rattle.rm_machine.specs.State.{tree};
-ghost use Rattle.rm_recovery.specs.Telling.{IsToldBy, IsGapBy};
+ghost use Rattle.rm_recovery.specs.Telling.{IsGapBy, IsToldBy, NamesFault};
 
 use crate::files::tell_files;
 use crate::hand::at_hand;
-use rm_base::{Bad, IncNo, Refusal, Scn, Seq, Store};
+use rm_base::{Bad, IncNo, NoMemory, Refusal, Scn, Seq, Store};
 use rm_blocks::DataFile;
 use rm_evidence::EvidenceFault;
 use rm_machine::State;
-use rm_plan::{Gap, PlanFault};
+use rm_plan::PlanFault;
 use std::alloc::Global;
 
 /// What is at hand tells of a target.
@@ -21,7 +21,22 @@ pub(crate) struct Told {
     /// The records that count as available, but whose objects are missing or damaged, ascending by id.
     pub skipped: Seq<(u32, Bad)>,
     /// The datafiles 1, 2, 3 and so on, where they exist at the target.
-    pub files: Vec<Option<DataFile>>,
+    pub files: Seq<Option<DataFile>>,
+}
+
+// The refusal that names a gap.
+fn refusal_of(fault: PlanFault) -> Result<Refusal, NoMemory>
+    ensures { IfOk result (λ refusal. NamesFault fault refusal) }
+{
+    match fault {
+        PlanFault::Gap(gap) => Ok(Refusal::Rm08 {
+            file: gap.file,
+            block: gap.block,
+            scn: gap.scn,
+            inc: gap.inc,
+        }),
+        PlanFault::NoMemory => Err(NoMemory),
+    }
 }
 
 /// The datafiles at (i, at) by what is at hand; or the refusal that names the first gap. Each object that counts
@@ -43,21 +58,13 @@ pub(crate) fn tell<D: Store>(
 {
     let hand = at_hand(alloc, state, store)?;
     match tell_files(alloc, state, &hand, i, at) {
-        Ok(files) => Ok(Ok(Told {
-            skipped: hand.evidence.skipped,
-            files,
-        })),
-        Err(PlanFault::Gap(Gap {
-            file,
-            block,
-            inc,
-            scn,
-        })) => Ok(Err(Refusal::Rm08 {
-            file,
-            block,
-            scn,
-            inc,
-        })),
-        Err(PlanFault::NoMemory) => Err(EvidenceFault::NoMemory),
+        Ok(files) => {
+            let evidence = hand.evidence;
+            Ok(Ok(Told {
+                skipped: evidence.skipped,
+                files,
+            }))
+        }
+        Err(fault) => Ok(Err(refusal_of(fault)?)),
     }
 }

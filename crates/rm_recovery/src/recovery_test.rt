@@ -68,6 +68,6 @@ pub fn recover_test<D: Store>(
         Err(refusal) => return Ok(Err(refusal)),
     };
     let mut lines = skipped_lines(alloc, skipped.as_slice())?;
-    push_test(&mut lines, state, inc, at, &files)?;
+    push_test(&mut lines, state, inc, at, files.as_slice())?;
     Ok(Ok(lines))
 }

@@ -98,12 +98,12 @@ fn put_all(place: &mut Vec<Option<DataFile>>, mut files: Vec<Option<DataFile>>)
 }
 
 // Lets the database stand at the target, with these datafiles in place. Takes no memory.
-fn bring_back(alloc: Global, state: &mut State, files: Vec<Option<DataFile>>, at: Scn)
-    requires many { length files.items ≡ length state.old.instance.place }
-    ensures { state.new ≡ recovered state.old at files.items }
+fn bring_back(alloc: Global, state: &mut State, files: Seq<Option<DataFile>>, at: Scn)
+    requires many { length files ≡ length state.old.instance.place }
+    ensures { state.new ≡ recovered state.old at files }
 {
     let mut place = mem::replace(&mut state.instance.place, Seq::new(alloc)).into_vec();
-    put_all(&mut place, files);
+    put_all(&mut place, files.into_vec());
     state.instance.place = Seq::from_vec(place);
     state.instance.point = Some(at);
 }
