@@ -1,5 +1,4 @@
 pub mod Carries
-pub mod Comes
 pub mod Faults
 pub mod Holds
 pub mod Loose

