@@ -1,4 +1,5 @@
 pub mod Carries
+pub mod Comes
 pub mod Faults
 pub mod Holds
 pub mod Loose

@@ -2,9 +2,13 @@
 //! whole machine.
 #![tactic(auto)]
 
+mod create;
 pub mod laws;
+mod moment;
 pub mod open;
 pub mod site;
+mod statement;
+mod step;
 
 pub use open::OpenFault;
 pub use rm_change::Stop;
