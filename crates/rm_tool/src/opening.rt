@@ -1,13 +1,13 @@
 //! The site is opened, or the line of a record is written.
 ghost use Rattle.std.specs.Prelude.{◌≡◌, ◌≤◌, [], true, IfOk, OnOk, IsErrOf, IfSome};
 ghost use Rattle.rm_base.specs.Outside.{Rose};
-ghost use Rattle.rm_site.specs.Opens.{Opens};
+ghost use Rattle.rm_frame.specs.Opens.{Opens};
 ghost use Rattle.rm_tool.specs.Session.{WritesBadRecord, BeginsBadRecord, bad_record};
 
 use crate::ends::write_all;
 use rm_base::{Failed, NoMemory, Sink, Store, Text};
 use rm_catalog::{Keeper, Key};
-use rm_site::{OpenFault, Site};
+use rm_frame::{OpenFault, Site};
 use std::alloc::Global;
 
 /// Why no statement could be stepped.
