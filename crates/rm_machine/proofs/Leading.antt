@@ -1,17 +1,18 @@
 -- From what stands after a statement to the machine after it.
-use Rattle.std.proofs.Common.{◌≡◌, ◌++◌, ℕ, List, Option, Some, None, refl, subst}
+use Rattle.std.proofs.Common.{◌≡◌, ◌++◌, ℕ, List, Option, Some, None, refl, sym, subst}
 use Rattle.rm_base.specs.Store.{Held}
 use Rattle.rm_base.specs.declared.block.Change.{Change}
 use Rattle.rm_base.specs.declared.refusal.Refusal.{Refusal}
-use Rattle.rm_machine.specs.Effect.{Effect, LeavesObjects, Made, done}
+use Rattle.rm_machine.specs.Effect.{Effect, LeavesObjects, Made, Outcome, done, told}
 use Rattle.rm_command.specs.declared.command.Command.{Command}
+use Rattle.rm_command.specs.declared.command.Command.TheVariants.{Recover, RecoverTest}
 use Rattle.rm_report.specs.declared.line.Line.{Line}
-use Rattle.rm_machine.specs.Laws.{LeadsOn, StaysSound}
+use Rattle.rm_machine.specs.Laws.{LeadsOn, StaysSound, TellsOn}
 use Rattle.rm_machine.specs.Machine.{Machine, IsSoundBy, IsBorneOut, DigestsTellFor, TellBy}
 use Rattle.rm_machine.specs.Sound.{IsSound}
 use Rattle.rm_machine.specs.declared.state.State.{State}
 use Rattle.rm_machine.specs.State.{ledger, at_moment}
-use Rattle.rm_machine.specs.Step.{IsStatement, IsDone, IsOutcomeBy, names_in, refusal_of}
+use Rattle.rm_machine.specs.Step.{IsStatement, IsDone, IsOutcomeBy, Means, names_in, refusal_of}
 use Rattle.rm_machine.proofs.Kept.{stand-same}
 use Rattle.rm_machine.proofs.Later.{borne-later, sound-later}
 
@@ -21,13 +22,29 @@ pub done-by : (r : Option Refusal) (s : State) (held : Held) (c : Command) (said
 done-by (Some r) s held c said e t is = absurd (cc)
 done-by None s held c said e t is = (refl, is)
 
--- what is to be shown of a statement
+-- what is to be shown of a statement, and, of one of which the history says more, that too
+abbrev pub ShownBy : Command → Type 0 → Type 0 → Type 0
+ShownBy (Recover until) stands means = stands × means
+ShownBy _ stands means = stands
+
 abbrev pub LeadsOnBy : Command → Type 0
 LeadsOnBy c =
     (s : State) (h : List Change) (objects : Held) (made : List Made) (touched : List (List ℕ)) (said : List Line) (e : Effect) (t : State) (after : Held)
     → IsStatement c → IsBorneOut s h objects made touched → DigestsTellFor objects made (ledger s)
     → refusal_of s c ≡ None → IsDone s objects c (done said e t) → LeavesObjects e objects after
-    → IsBorneOut t (h ++ e.changes) after (made ++ e.made) (names_in c ++ touched)
+    → ShownBy c (IsBorneOut t (h ++ e.changes) after (made ++ e.made) (names_in c ++ touched)) (Means (Some s) h c (done said e t))
+
+-- both, of each statement
+shown : (c : Command) (o : Option State) (h : List Change) (said : List Line) (e : Effect) (t : State) (stands : Type 0) → ShownBy c stands (Means o h c (done said e t)) → stands × Means o h c (done said e t)
+shown (Recover until) o h said e t stands both = both
+shown _ None h said e t stands is = (is, tt)
+shown _ (Some s) h said e t stands is = (is, tt)
+
+-- what the history says of the database at its moment it says of it before
+means-later : (c : Command) (s : State) (moment : ℕ) (h : List Change) (o : Outcome) → Means (Some (at_moment s moment)) h c o → Means (Some s) h c o
+means-later (Recover until) s moment h (done said e t) means = means
+means-later (RecoverTest until inc) s moment h (told lines) means = means
+means-later _ s moment h o means = tt
 
 pub leads : (c : Command) → LeadsOnBy c → LeadsOn c
 leads c law m s moment said e t after well is sound tell at goes effect =
@@ -37,9 +54,33 @@ leads c law m s moment said e t after well is sound tell at goes effect =
     let told : DigestsTellFor m.objects m.made (ledger s) = subst (λ o. TellBy o m.objects m.made) is tell in
     let tells : DigestsTellFor m.objects m.made (ledger begun) = record { logs = told.logs; pieces = told.pieces } in
     let both = done-by (refusal_of begun c) begun m.objects c said e t goes in
-    let on = law begun m.history m.objects m.made m.touched said e t after well stands tells both.0 both.1 effect in
     let n : Machine = record { state = Some t; history = m.history ++ e.changes; objects = after; made = m.made ++ e.made; touched = names_in c ++ m.touched } in
-    (n, (refl, record { state = refl; history = refl; objects = effect; made = refl; touched = refl }), refl, on)
+    let on = shown c (Some begun) m.history said e t (IsBorneOut t n.history n.objects n.made n.touched) (law begun m.history m.objects m.made m.touched said e t after well stands tells both.0 both.1 effect) in
+    let means : Means m.state m.history c (done said e t) = subst (λ o. Means o m.history c (done said e t)) (sym is) (means-later c s moment m.history (done said e t) on.1) in
+    (n, (refl, record { state = refl; history = refl; objects = effect; made = refl; touched = refl }, means), refl, on.0)
+
+-- what tells was not refused
+told-by : (r : Option Refusal) (s : State) (held : Held) (c : Command) (lines : List Line) → IsOutcomeBy r s held c (told lines) → (r ≡ None) × IsDone s held c (told lines)
+told-by (Some r) s held c lines is = absurd (cc)
+told-by None s held c lines is = (refl, is)
+
+-- what is to be shown of a statement that tells
+abbrev pub TellsOnBy : Command → Type 0
+TellsOnBy c =
+    (s : State) (h : List Change) (objects : Held) (made : List Made) (touched : List (List ℕ)) (lines : List Line)
+    → IsStatement c → IsBorneOut s h objects made touched → DigestsTellFor objects made (ledger s)
+    → refusal_of s c ≡ None → IsDone s objects c (told lines) → Means (Some s) h c (told lines)
+
+pub tells : (c : Command) → TellsOnBy c → TellsOn c
+tells c law m s moment lines well is sound tell at goes =
+    let was : IsBorneOut s m.history m.objects m.made m.touched = subst (λ o. IsSoundBy o m.history m.objects m.made m.touched) is sound in
+    let begun : State = at_moment s moment in
+    let stands : IsBorneOut begun m.history m.objects m.made m.touched = borne-later s m.history m.objects m.objects m.made m.touched m.touched moment was at (stand-same m.objects m.objects m.touched (ledger s) (ledger s) (λ n. refl)) in
+    let known : DigestsTellFor m.objects m.made (ledger s) = subst (λ o. TellBy o m.objects m.made) is tell in
+    let knows : DigestsTellFor m.objects m.made (ledger begun) = record { logs = known.logs; pieces = known.pieces } in
+    let both = told-by (refusal_of begun c) begun m.objects c lines goes in
+    let means = law begun m.history m.objects m.made m.touched lines well stands knows both.0 both.1 in
+    (refl, refl, subst (λ o. Means o m.history c (told lines)) (sym is) (means-later c s moment m.history (told lines) means))
 
 -- and that it leaves a sound state, from a sound one
 abbrev pub StaysBy : Command → Type 0

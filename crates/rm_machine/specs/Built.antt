@@ -1,24 +1,9 @@
 -- The statements that are built.
-use Rattle.std.specs.Prelude.{ℕ, ◌==◌, ◌&&◌, Bool, true, false, is_none, Option, Some, None}
-use Rattle.rm_command.specs.declared.command.BackupForm.{BackupForm}
+use Rattle.std.specs.Prelude.{Bool, true, false}
 use Rattle.rm_command.specs.declared.command.Command.{Command}
 use Rattle.rm_command.specs.declared.command.Command.TheVariants.{CreateDatabase, CreateDatafile, Write, SwitchLogfile, ArchiveLogCurrent, Mount, OpenPlain, OpenResetlogs, ResetDatabase, Recover, RecoverTest, Backup, ListIncarnation, Dump}
-use Rattle.rm_command.specs.declared.command.Until.{Until}
-use Rattle.rm_command.specs.declared.command.Until.TheVariants.{Scn}
-
--- no UNTIL, or one that names an SCN
-abbrev pub is_scn : Option Until → Bool
-is_scn None = true
-is_scn (Some (Scn s)) = true
-is_scn (Some _) = false
-
--- a full backup or one of level 0, without writes meanwhile
-abbrev pub is_plain_level : Option ℕ → Bool
-is_plain_level None = true
-is_plain_level (Some n) = n == 0
-
-abbrev pub is_built_backup : BackupForm → Bool
-is_built_backup b = is_plain_level b.level && is_none b.during
+use Rattle.rm_machine.specs.Backup.{is_built_backup}
+use Rattle.rm_machine.specs.Recovery.{is_built_until}
 
 -- The machine has a step for the statement.
 abbrev pub is_built : Command → Bool
@@ -31,8 +16,8 @@ is_built Mount = true
 is_built OpenPlain = true
 is_built OpenResetlogs = true
 is_built (ResetDatabase inc) = true
-is_built (Recover until) = is_scn until
-is_built (RecoverTest until inc) = is_scn until
+is_built (Recover until) = is_built_until until
+is_built (RecoverTest until inc) = is_built_until until
 is_built (Backup b) = is_built_backup b
 is_built ListIncarnation = true
 is_built (Dump file block) = true

@@ -5,7 +5,7 @@ use Rattle.rm_base.specs.Store.{Held}
 use Rattle.rm_command.specs.declared.command.Command.{Command}
 use Rattle.rm_report.specs.declared.line.Line.{Line}
 use Rattle.rm_report.specs.Reply.{said}
-use Rattle.rm_machine.specs.Effect.{Effect, LeavesObjects, done}
+use Rattle.rm_machine.specs.Effect.{Effect, LeavesObjects, done, told}
 use Rattle.rm_machine.specs.Machine.{Machine, IsSoundMachine, DigestsTell}
 use Rattle.rm_machine.specs.Sound.{IsSound}
 use Rattle.rm_machine.specs.declared.state.State.{State}
@@ -24,6 +24,13 @@ LeadsOn c =
     → IsStatement c → m.state ≡ Some s → IsSoundMachine m → DigestsTell m → IsMomentOf s moment
     → IsOutcome (at_moment s moment) m.objects c (done lines effect t) → LeavesObjects effect m.objects after
     → (n : Machine) × StepBy m c (done lines effect t) (said lines) n × (n.objects ≡ after) × IsSoundMachine n
+
+-- Where digests tell, what a statement tells is a step of the machine, from a sound one to itself.
+abbrev pub TellsOn : Command → Type 0
+TellsOn c =
+    (m : Machine) (s : State) (moment : ℕ) (lines : List Line)
+    → IsStatement c → m.state ≡ Some s → IsSoundMachine m → DigestsTell m → IsMomentOf s moment
+    → IsOutcome (at_moment s moment) m.objects c (told lines) → StepBy m c (told lines) (said lines) m
 
 -- Whatever the devices hold, and whatever was ever written, the statement leaves a sound state, and no saved site.
 abbrev pub StaysSound : Command → Type 0

@@ -1,20 +1,28 @@
 -- One step of the machine, and runs.
 use Rattle.std.specs.Prelude.{ℕ, ◌≡◌, true, Option, Some, None, List, [], ◌∷◌, ◌++◌, length}
 use Rattle.rm_base.specs.Store.{Held}
+use Rattle.rm_base.specs.declared.block.Change.{Change}
 use Rattle.rm_base.specs.declared.refusal.Refusal.{Refusal}
 use Rattle.rm_base.specs.declared.refusal.Refusal.TheVariants.{Rm02, Rm03}
 use Rattle.rm_command.specs.declared.command.Command.{Command}
-use Rattle.rm_command.specs.declared.command.Command.TheVariants.{ArchiveLogCurrent, CreateDatabase, Mount, OpenPlain, ResetDatabase, SwitchLogfile, Write}
+use Rattle.rm_command.specs.declared.command.Command.TheVariants.{ArchiveLogCurrent, Backup, CreateDatabase, CreateDatafile, Dump, ListIncarnation, Mount, OpenPlain, OpenResetlogs, Recover, RecoverTest, ResetDatabase, SwitchLogfile, Write}
 use Rattle.rm_lang.specs.IsCommand.{is_command}
 use Rattle.rm_report.specs.Reply as reply
 use Rattle.rm_report.specs.declared.line.Reply.{Reply}
 use Rattle.rm_machine.specs.Archive.{archive_all_refusal, IsArchiveOutcome}
+use Rattle.rm_machine.specs.Backup.{backup_refusal, IsBackupOutcome}
 use Rattle.rm_machine.specs.CreateDatabase.{IsCreateOutcome}
+use Rattle.rm_machine.specs.CreateDatafile.{datafile_refusal, IsDatafileOutcome}
+use Rattle.rm_machine.specs.Dump.{dump_refusal, IsDumpOutcome}
 use Rattle.rm_machine.specs.Effect.{Effect, LeavesObjects, Outcome, refused, told, done}
+use Rattle.rm_machine.specs.ListIncarnation.{IsListIncarnationOutcome}
 use Rattle.rm_machine.specs.Machine.{Machine, DigestsTell}
 use Rattle.rm_machine.specs.Marks.{ids_refusal}
 use Rattle.rm_machine.specs.Mount.{IsMountOutcome}
 use Rattle.rm_machine.specs.Open.{open_refusal, IsOpenOutcome}
+use Rattle.rm_machine.specs.OpenResetlogs.{resetlogs_refusal, IsResetlogsOutcome}
+use Rattle.rm_machine.specs.Recover.{BringsTruly, IsRecoverOutcome, recover_refusal}
+use Rattle.rm_machine.specs.RecoverTest.{IsTestOutcome, TellsTruly, test_refusal}
 use Rattle.rm_machine.specs.ResetDatabase.{reset_refusal, IsResetOutcome}
 use Rattle.rm_machine.specs.declared.state.State.{State}
 use Rattle.rm_machine.specs.State.{at_moment}
@@ -33,22 +41,35 @@ IsStatement c = (is_command c ≡ true) × HasContent c
 -- why the state alone refuses it
 abbrev pub refusal_of : State → Command → Option Refusal
 refusal_of s (CreateDatabase dbid threads scn) = Some Rm03
+refusal_of s (CreateDatafile blocks) = datafile_refusal s blocks
+refusal_of s (Dump f b) = dump_refusal s f b
 refusal_of s (Write w) = write_refusal s w
 refusal_of s (SwitchLogfile t) = switch_refusal s t
 refusal_of s ArchiveLogCurrent = archive_all_refusal s
+refusal_of s (Backup b) = backup_refusal s b
 refusal_of s Mount = ids_refusal s
 refusal_of s OpenPlain = open_refusal s
+refusal_of s OpenResetlogs = resetlogs_refusal s
+refusal_of s (Recover until) = recover_refusal s until
+refusal_of s (RecoverTest until inc) = test_refusal s until inc
 refusal_of s (ResetDatabase i) = reset_refusal s i
 refusal_of s _ = None
 
 -- what it comes to otherwise, by what the store holds
 abbrev pub IsDone : State → Held → Command → Outcome → Type 0
+IsDone s held (CreateDatafile blocks) o = IsDatafileOutcome s blocks o
+IsDone s held (Dump f b) o = IsDumpOutcome s f b o
 IsDone s held (Write w) o = IsWriteOutcome s w o
 IsDone s held (SwitchLogfile t) o = IsSwitchOutcome s t o
 IsDone s held ArchiveLogCurrent o = IsArchiveOutcome s o
+IsDone s held (Backup b) o = IsBackupOutcome s b o
 IsDone s held Mount o = IsMountOutcome s o
 IsDone s held OpenPlain o = IsOpenOutcome s o
+IsDone s held OpenResetlogs o = IsResetlogsOutcome s o
+IsDone s held (Recover until) o = IsRecoverOutcome s held until o
+IsDone s held (RecoverTest until inc) o = IsTestOutcome s held until inc o
 IsDone s held (ResetDatabase i) o = IsResetOutcome s i o
+IsDone s held ListIncarnation o = IsListIncarnationOutcome s o
 IsDone s held _ o = ⊥
 
 abbrev pub IsOutcomeBy : Option Refusal → State → Held → Command → Outcome → Type 0
@@ -69,6 +90,12 @@ IsOutcomeWithout _ moment o = o ≡ refused Rm02
 abbrev pub names_in : Command → List (List ℕ)
 names_in _ = []
 
+-- what the history says beyond that of an outcome: what a recovery brings back or tells is what the history made
+abbrev pub Means : Option State → List Change → Command → Outcome → Type 0
+Means (Some s) h (Recover until) (done lines effect t) = BringsTruly h s until t
+Means (Some s) h (RecoverTest until inc) (told lines) = TellsTruly h s until inc lines
+Means _ h _ _ = Unit {0}
+
 -- the machine went on by this effect to the state t
 pub record MachineFollows (m : Machine) (c : Command) (effect : Effect) (t : State) (n : Machine) : Type 0 where
   pub state : n.state ≡ Some t
@@ -80,8 +107,8 @@ pub record MachineFollows (m : Machine) (c : Command) (effect : Effect) (t : Sta
 -- a refusal is one line; it and what only tells change nothing
 abbrev pub StepBy : Machine → Command → Outcome → Reply → Machine → Type 0
 StepBy m c (refused r) said n = (said ≡ reply.refused_by r) × (n ≡ m)
-StepBy m c (told lines) said n = (said ≡ reply.said lines) × (n ≡ m)
-StepBy m c (done lines effect t) said n = (said ≡ reply.said lines) × MachineFollows m c effect t n
+StepBy m c (told lines) said n = (said ≡ reply.said lines) × (n ≡ m) × Means m.state m.history c (told lines)
+StepBy m c (done lines effect t) said n = (said ≡ reply.said lines) × MachineFollows m c effect t n × Means m.state m.history c (done lines effect t)
 
 abbrev pub StepIn : Option State → Machine → Command → ℕ → Reply → Machine → Type 0
 StepIn None m c moment said n = (o : Outcome) × IsOutcomeWithout c moment o × StepBy m c o said n

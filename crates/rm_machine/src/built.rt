@@ -1,11 +1,13 @@
 //! The statements that are built.
 ghost use Rattle.std.specs.Prelude.{◌≡◌};
-ghost use Rattle.rm_machine.specs.Built.{is_scn, is_built_backup, is_built};
+ghost use Rattle.rm_machine.specs.Backup.{is_built_backup};
+ghost use Rattle.rm_machine.specs.Built.{is_built};
+ghost use Rattle.rm_machine.specs.Recovery.{is_built_until};
 
 use rm_command::{BackupForm, Command, Until};
 
-fn is_scn(until: &Option<Until>) -> bool
-    ensures { result ≡ is_scn until.now }
+fn is_built_until(until: &Option<Until>) -> bool
+    ensures { result ≡ is_built_until until.now }
 {
     match until {
         None | Some(Until::Scn(_)) => true,
@@ -24,8 +26,8 @@ pub fn is_built(command: &Command) -> bool
     ensures { result ≡ is_built command.now }
 {
     match command {
-        Command::Recover { until } => is_scn(until),
-        Command::RecoverTest { until, .. } => is_scn(until),
+        Command::Recover { until } => is_built_until(until),
+        Command::RecoverTest { until, .. } => is_built_until(until),
         Command::Backup(form) => is_built_backup(form),
         Command::CreateDatabase { .. } => true,
         Command::CreateDatafile { .. } => true,

@@ -1,15 +1,26 @@
 //! What the machine does.
-ghost use Rattle.std.specs.Prelude.{ℕ, ◌<◌, ◌≤◌, ◌^◌};
+ghost use Rattle.std.specs.Prelude.{ℕ, ◌<◌, ◌≤◌, ◌^◌, List, Option};
 ghost use Rattle.rm_base.specs.Numbers.{last_moment, last_scn};
 ghost use Rattle.rm_base.specs.Store.{Held};
+ghost use Rattle.rm_base.specs.declared.block.Change.{Change};
+ghost use Rattle.rm_base.specs.declared.kinds.Bad.{Bad};
+ghost use Rattle.rm_blocks.specs.File.{File};
+ghost use Rattle.rm_command.specs.declared.command.Until.{Until};
+ghost use Rattle.rm_command.specs.declared.command.BackupForm.{BackupForm};
 ghost use Rattle.rm_command.specs.declared.command.WriteForm.{WriteForm};
+ghost use Rattle.rm_evidence.specs.declared.evidence.Evidence.{Evidence};
+ghost use Rattle.rm_evidence.specs.Known.{known_of};
+ghost use Rattle.rm_known.specs.Evidence.{Agrees};
+ghost use Rattle.rm_known.specs.Unknown.{IsUnknown};
 ghost use Rattle.rm_machine.specs.CreateDatabase.{fresh_machine};
-ghost use Rattle.rm_machine.specs.Laws.{IsMomentOf, LeadsOn, StaysSound};
-ghost use Rattle.rm_machine.specs.Machine.{IsSoundMachine};
+ghost use Rattle.rm_machine.specs.Effect.{Made, Outcome};
+ghost use Rattle.rm_machine.specs.Laws.{IsMomentOf, LeadsOn, StaysSound, TellsOn};
+ghost use Rattle.rm_machine.specs.Machine.{DigestsTellFor, IsBorneOut, IsSoundMachine};
+ghost use Rattle.rm_machine.specs.Recovery.{FindsGap, IsAtHand, TellsAll};
 ghost use Rattle.rm_machine.specs.Sound.{IsSound};
 ghost use Rattle.rm_machine.specs.declared.state.State.{State};
-ghost use Rattle.rm_machine.specs.State.{at_moment};
-ghost use Rattle.rm_command.specs.declared.command.Command.TheVariants.{ArchiveLogCurrent, Mount, OpenPlain, ResetDatabase, SwitchLogfile, Write};
+ghost use Rattle.rm_machine.specs.State.{at_moment, ledger, world};
+ghost use Rattle.rm_command.specs.declared.command.Command.TheVariants.{ArchiveLogCurrent, Backup, CreateDatafile, Dump, ListIncarnation, Mount, OpenPlain, OpenResetlogs, Recover, RecoverTest, ResetDatabase, SwitchLogfile, Write};
 
 /// There are sound machines: that of a new database is one.
 pub fn a_new_database_is_sound()
@@ -28,6 +39,18 @@ pub fn a_write_leads_on()
     ensures stays { (w : WriteForm) → StaysSound (Write w) }
 {}
 
+/// CREATE DATAFILE, likewise: a datafile is added.
+pub fn a_new_datafile_leads_on()
+    ensures leads { (blocks : ℕ) → LeadsOn (CreateDatafile blocks) }
+    ensures stays { (blocks : ℕ) → StaysSound (CreateDatafile blocks) }
+{}
+
+/// DUMP, likewise, since it only tells.
+pub fn a_dump_leads_on()
+    ensures leads { (file block : ℕ) → LeadsOn (Dump file block) }
+    ensures stays { (file block : ℕ) → StaysSound (Dump file block) }
+{}
+
 /// SWITCH LOGFILE, likewise: the log of a thread becomes an archived one.
 pub fn a_switch_leads_on()
     ensures leads { (thread : ℕ) → LeadsOn (SwitchLogfile thread) }
@@ -38,6 +61,12 @@ pub fn a_switch_leads_on()
 pub fn archiving_leads_on()
     ensures leads { LeadsOn ArchiveLogCurrent }
     ensures stays { StaysSound ArchiveLogCurrent }
+{}
+
+/// BACKUP of datafiles, likewise: its pieces agree with the history.
+pub fn a_backup_leads_on()
+    ensures leads { (form : BackupForm) → LeadsOn (Backup form) }
+    ensures stays { (form : BackupForm) → StaysSound (Backup form) }
 {}
 
 /// SHUTDOWN and STARTUP MOUNT, likewise: what is in place stands at `now`.
@@ -52,8 +81,46 @@ pub fn an_opening_leads_on()
     ensures stays { StaysSound OpenPlain }
 {}
 
+/// OPEN RESETLOGS, likewise: the logs are archived, and a new incarnation begins at the point.
+pub fn an_opening_with_resetlogs_leads_on()
+    ensures leads { LeadsOn OpenResetlogs }
+    ensures stays { StaysSound OpenResetlogs }
+{}
+
 /// RESET DATABASE, likewise: another incarnation is the current one.
 pub fn a_reset_leads_on()
     ensures leads { (inc : ℕ) → LeadsOn (ResetDatabase inc) }
     ensures stays { (inc : ℕ) → StaysSound (ResetDatabase inc) }
+{}
+
+/// LIST INCARNATION, likewise, since it only tells.
+pub fn a_list_of_incarnations_leads_on()
+    ensures leads { LeadsOn ListIncarnation }
+    ensures stays { StaysSound ListIncarnation }
+{}
+
+/// RECOVER DATABASE, likewise: each datafile of the target comes to stand in place as the history made it there.
+pub fn a_recovery_leads_on()
+    ensures leads { (until : Option Until) → LeadsOn (Recover until) }
+    ensures stays { (until : Option Until) → StaysSound (Recover until) }
+{}
+
+/// RECOVER DATABASE TEST tells what the history made, and is never done.
+pub fn a_test_of_a_recovery_tells()
+    ensures tells { (until : Option Until) (inc : Option ℕ) → TellsOn (RecoverTest until inc) }
+    ensures leads { (until : Option Until) (inc : Option ℕ) → LeadsOn (RecoverTest until inc) }
+    ensures stays { (until : Option Until) (inc : Option ℕ) → StaysSound (RecoverTest until inc) }
+{}
+
+/// Behind the gap with which a recovery is refused stand two histories, whichever history agrees with what is
+/// at hand: in one the block is at the greatest version that is seen, in the other it was changed at the gap, to
+/// any content. The history of a machine agrees with what is at hand there, where digests tell.
+pub fn behind_a_gap_stand_two_histories()
+    ensures unknown { (s : State) (held : Held) (i at : ℕ) (o : Outcome) (gap : FindsGap s held i at o) → IsSound s → IsUnknown (world s) (known_of gap.evidence) i at gap.file gap.block gap.inc gap.scn }
+    ensures agrees { (s : State) (h : List Change) (objects : Held) (made : List Made) (touched : List (List ℕ)) → IsBorneOut s h objects made touched → DigestsTellFor objects made (ledger s) → (e : Evidence) → IsAtHand s objects e → Agrees (world s) h (known_of e) }
+{}
+
+/// What is at hand decides: where it leaves a gap, not each block is told.
+pub fn a_gap_and_a_recovery_exclude_each_other()
+    ensures { (s : State) (held : Held) (i at : ℕ) (come : List (ℕ × Bad) → List (Option File) → Outcome) (o p : Outcome) → FindsGap s held i at o → TellsAll s held i at come p → ⊥ }
 {}

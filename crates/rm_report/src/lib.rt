@@ -5,10 +5,8 @@ mod dates;
 pub mod laws;
 pub mod line;
 mod lines;
-mod replies;
 pub mod text;
 
 pub use dates::has_dates;
 pub use line::{Line, Reply, SchemaPlace, Shape};
-pub use replies::refusal_reply;
 pub use text::bytes_of;

@@ -1,0 +1,136 @@
+-- What is at hand fits the tree: each artefact is valid, and of an incarnation that is there.
+use Rattle.std.proofs.Common.{◌≡◌, ◌≢◌, ◌<◌, ◌≤◌, ◌∙◌, ℕ, List, Some, false, refl, sym, subst, arith, All, AllPairs, Contains, length, get_or, slice_get}
+use Rattle.std.specs.List.{filter_map}
+use Rattle.std.proofs.lemmas.List.Elements.{All-contains}
+use Rattle.std.proofs.lemmas.Option.{slice_get-get_or, slice_get_within}
+use Rattle.rm_base.specs.Store.{Held}
+use Rattle.rm_base.specs.declared.block.Row.{Row}
+use Rattle.rm_base.specs.declared.kinds.Kind.TheVariants.{Level1}
+use Rattle.rm_base.proofs.Lists.{map_from}
+use Rattle.rm_base.proofs.Slots.{all-get}
+use Rattle.rm_blocks.specs.File.{File, IsInOrder}
+use Rattle.rm_catalog.specs.declared.record.PieceEntry.{PieceEntry}
+use Rattle.rm_evidence.specs.declared.evidence.Evidence.{Evidence}
+use Rattle.rm_evidence.specs.Available.{HasPiece}
+use Rattle.rm_evidence.specs.Gathered.{placed_piece}
+use Rattle.rm_evidence.specs.Known.{FitsLog, FitsPiece, FitsTree}
+use Rattle.rm_evidence.specs.Place.{FitsPlace}
+use Rattle.rm_history.specs.declared.world.Datafile.{Datafile}
+use Rattle.rm_history.specs.Tree.{IsThere}
+use Rattle.rm_history.proofs.Highs.{high-above, high-least}
+use Rattle.rm_ledger.specs.Facts.{IsCreated, IsLogEntry, IsPieceEntry}
+use Rattle.rm_ledger.proofs.Lookups.{item-at}
+use Rattle.rm_piece.specs.declared.piece.Piece.{Piece}
+use Rattle.rm_piece.specs.Valid.{IsBefore, IsRow}
+use Rattle.rm_redo.specs.declared.log_file.LogFile.{LogFile}
+use Rattle.rm_repository.specs.Repository.{records_of}
+use Rattle.rm_machine.specs.Recovery.{IsAtHand, in_place}
+use Rattle.rm_machine.specs.Sound.{IsPlaced, IsPlacedRow, IsSound}
+use Rattle.rm_machine.specs.declared.state.State.{State}
+use Rattle.rm_machine.specs.State.{ledger, tree, counted, online, is_lost}
+use Rattle.rm_machine.proofs.AtHand.{BaseFrom, LogFrom, base-from, from_copy, from_log, from_online, from_place, level1-from, log-from, online-in}
+use Rattle.rm_machine.proofs.Records.{tree-told}
+use Rattle.rm_machine.proofs.Standing.{at-place, each-in, present-in}
+
+-- blocks in order ascend
+ascends : (rows : List Row) → IsInOrder rows → AllPairs IsBefore rows
+ascends rows order i j d less inside =
+    let first = order i (get_or rows i d) (slice_get-get_or rows i d (omega (arith, less, inside))) in
+    let second = order j (get_or rows j d) (slice_get-get_or rows j d inside) in
+    omega (arith, first, second, less)
+
+module _ (s : State) (sound : IsSound s) where
+  -- a whole copy of a datafile is a valid piece
+  placed-valid : (k : ℕ) (d : Datafile) (x : File) → slice_get (ledger s).files k ≡ Some d → IsPlaced (tree s) k d x → FitsPiece (tree s) (placed_piece (ledger s).base.dbid x)
+  placed-valid k d x file is =
+      let rules = sound.catalog.ledger in
+      let made = all-get (IsCreated (tree s)) (ledger s).files k d file rules.datafiles.each in
+      let inside = slice_get_within (ledger s).files k d file in
+      let few = rules.datafiles.few in
+      let branches = rules.incarnations.few in
+      let number = is.file in
+      let long = is.blocks in
+      let there = is.there in
+      let low = is.checkpoint in
+      let least = high-least x.checkpoint x.rows in
+      let high = is.high in
+      let last = (rules.incarnations.ranges x.inc is.there).2 in
+      record {
+        valid = record {
+          dbid = (rules.base.dbid, sound.dbid);
+          inc = (omega (arith, there.0), omega (arith, there.1, branches));
+          file = (omega (arith, number), omega (arith, number, inside, few));
+          blocks = (omega (arith, long, made.blocks.0), omega (arith, long, made.blocks.1));
+          checkpoint = (low, omega (arith, least, high, last));
+          kind = (refl, refl);
+          ascend = ascends x.rows is.order;
+          rows = each-in (IsRow (length x.rows) 0) x.rows (λ r has.
+              let at = at-place x.rows r has in
+              let block = is.order at.0 r at.1 in
+              let within = slice_get_within x.rows at.0 r at.1 in
+              let row = All-contains IsPlacedRow x.rows r is.rows has in
+              let above = high-above x.checkpoint x.rows r has in
+              record {
+                block = omega (arith, block, within);
+                version = (row.version, omega (arith, above, high, last));
+                from = omega arith;
+                content = row.content;
+              });
+          high = refl;
+        };
+        inc = is.there;
+      }
+
+  stands-valid : (k : ℕ) (x : File) → slice_get s.instance.place k ≡ Some (Some x) → FitsPiece (tree s) (placed_piece (ledger s).base.dbid (counted s x))
+  stands-valid k x at =
+      let inside = slice_get_within s.instance.place k (Some x) at in
+      let many = sound.place.many in
+      let file = item-at (ledger s).files k (omega (arith, inside, many)) in
+      placed-valid k file.0 (counted s x) file.1 (sound.place.each k file.0 x file.1 at)
+
+  online-valid : (t : ℕ) → 0 < t → t ≤ (ledger s).base.threads → is_lost s.instance.logs t ≡ false → FitsLog (tree s) (online s t)
+  online-valid t low high found = record { valid = (sound.logs.each t low high found).valid; inc = sound.logs.there }
+
+  module _ (held : Held) where
+    log-fits : (a : LogFile) → LogFrom s held a → FitsLog (tree s) a
+    log-fits _ (from_online t low high found) = online-valid t low high found
+    log-fits _ (from_log e a has there) =
+        let rule = All-contains (IsLogEntry (tree s) (ledger s).base.threads) (ledger s).logs e sound.catalog.ledger.logs has in
+        record { valid = there.object.valid; inc = subst (IsThere (tree s)) (sym there.object.fields.inc) rule.there }
+
+    piece-fits : (p : PieceEntry) (a : Piece) → Contains (ledger s).pieces p → HasPiece held p a → FitsPiece (tree s) a
+    piece-fits p a has there =
+        let rule = All-contains (IsPieceEntry (tree s) (ledger s).files) (ledger s).pieces p sound.catalog.ledger.pieces has in
+        record { valid = there.object.valid; inc = subst (IsThere (tree s)) (sym there.object.fields.inc) rule.there }
+
+    base-fits : (a : Piece) → BaseFrom s held a → FitsPiece (tree s) a × (a.kind ≢ Level1)
+    base-fits _ (from_place k x at) = (stands-valid k x at, λ e. absurd (cc))
+    base-fits _ (from_copy p a has kind there) = (piece-fits p a has there, λ e. kind (sym there.object.fields.kind ∙ e))
+
+    -- all that is at hand fits
+    pub evidence-fits : (e : Evidence) → IsAtHand s held e → FitsTree (tree s) e
+    evidence-fits e gathered = record {
+      bases = each-in (λ (x : ℕ × Piece). FitsPiece (tree s) x.1) e.bases (λ x has. (base-fits x.1 (base-from s held sound e gathered x.0 x.1 has)).0);
+      no_level1 = each-in (λ (x : ℕ × Piece). x.1.kind ≢ Level1) e.bases (λ x has. (base-fits x.1 (base-from s held sound e gathered x.0 x.1 has)).1);
+      level1s = each-in (λ (x : ℕ × Piece). FitsPiece (tree s) x.1) e.level1s (λ x has.
+          let from = level1-from s held sound e gathered x.0 x.1 has in piece-fits from.entry x.1 from.recorded from.has);
+      all_level1 = each-in (λ (x : ℕ × Piece). x.1.kind ≡ Level1) e.level1s (λ x has.
+          let from = level1-from s held sound e gathered x.0 x.1 has in from.has.object.fields.kind ∙ from.kind);
+      logs = each-in (λ (x : ℕ × LogFile). FitsLog (tree s) x.1) e.logs (λ x has. log-fits x.1 (log-from s held sound e gathered x.0 x.1 has));
+    }
+
+-- what is in place fits the records
+pub place-fits : (s : State) → IsSound s → FitsPlace (records_of s.catalog) (in_place s)
+place-fits s sound = record {
+  files = subst (λ ns. All (λ x. FitsPiece ns (placed_piece (ledger s).base.dbid x)) (in_place s).files) (sym (tree-told s.catalog))
+      (each-in (λ x. FitsPiece (tree s) (placed_piece (ledger s).base.dbid x)) (in_place s).files (λ x has.
+      let file = map_from (counted s) (filter_map (λ o. o) s.instance.place) x has in
+      let at = present-in s.instance.place file.item file.held in
+      subst (λ y. FitsPiece (tree s) (placed_piece (ledger s).base.dbid y)) file.is (stands-valid s sound at.0 file.item at.1)));
+  logs = subst (λ ns. All (FitsLog ns) (in_place s).logs) (sym (tree-told s.catalog))
+      (each-in (FitsLog (tree s)) (in_place s).logs (λ a has.
+      let found = online-in s 1 (ledger s).base.threads a has in
+      let low = found.low in
+      let high = found.high in
+      subst (FitsLog (tree s)) found.is (online-valid s sound found.thread (omega (arith, low)) (omega (arith, high)) found.found)));
+}

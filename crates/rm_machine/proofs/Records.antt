@@ -1,0 +1,87 @@
+-- The records of a catalog tell its database.
+use Rattle.std.proofs.Common.{◌≡◌, ◌∙◌, ◌+◌, ◌++◌, ℕ, List, [], ◌∷◌, Option, Some, None, refl, ap, map}
+use Rattle.std.specs.List.{filter_map, cons_option}
+use Rattle.std.specs.Option.{option_map}
+use Rattle.std.proofs.lemmas.List.{append-nil}
+use Rattle.std.proofs.lemmas.List.Elements.{filter_map-append}
+use Rattle.rm_catalog.specs.declared.record.Record.{Record}
+use Rattle.rm_catalog.specs.declared.record.Record.TheVariants as kind
+use Rattle.rm_catalog.specs.Keys.{datafile_in}
+use Rattle.rm_catalog.specs.Rules.{HasDatabase}
+use Rattle.rm_catalog.specs.Trees.{node_in, nodes}
+use Rattle.rm_history.specs.declared.tree.Incarnation.{Incarnation}
+use Rattle.rm_history.specs.declared.world.Datafile.{Datafile}
+use Rattle.rm_history.specs.declared.world.World.{World}
+use Rattle.rm_ledger.specs.Ledger.{datafile_record, incarnation_record, mark_record, numbered}
+use Rattle.rm_objects.specs.Database.{created_by, datafiles}
+use Rattle.rm_objects.specs.Database.{world_of as told_world}
+use Rattle.rm_repository.specs.Repository.{Repository, Saved, records_of, saved_records}
+use Rattle.rm_machine.specs.State.{world_of}
+
+module _ {B : Type 0} (tell : Record → Option B) where
+  -- each of these records tells its thing
+  told-numbered : (make : ℕ → B → Record) → ((k : ℕ) (x : B) → tell (make k x) ≡ Some x) → (k : ℕ) (xs : List B) → filter_map tell (numbered make k xs) ≡ xs
+  told-numbered make tells k [] = refl
+  told-numbered make tells k (x ∷ xs) =
+      ap (λ o. cons_option o (filter_map tell (numbered make (k + 1) xs))) (tells k x) ∙ ap (λ ys. x ∷ ys) (told-numbered make tells (k + 1) xs)
+
+  -- none of these tells anything
+  none-numbered : {A : Type 0} (make : ℕ → A → Record) → ((k : ℕ) (x : A) → tell (make k x) ≡ None) → (k : ℕ) (xs : List A) → filter_map tell (numbered make k xs) ≡ []
+  none-numbered make none k [] = refl
+  none-numbered make none k (x ∷ xs) =
+      ap (λ o. cons_option o (filter_map tell (numbered make (k + 1) xs))) (none k x) ∙ none-numbered make none (k + 1) xs
+
+  none-mapped : {A : Type 0} (make : A → Record) → ((x : A) → tell (make x) ≡ None) → (xs : List A) → filter_map tell (map make xs) ≡ []
+  none-mapped make none [] = refl
+  none-mapped make none (x ∷ xs) = ap (λ o. cons_option o (filter_map tell (map make xs))) (none x) ∙ none-mapped make none xs
+
+  -- a list of six parts
+  of-parts : (a b c d e f : List Record) → filter_map tell (a ++ b ++ c ++ d ++ e ++ f) ≡ filter_map tell a ++ filter_map tell b ++ filter_map tell c ++ filter_map tell d ++ filter_map tell e ++ filter_map tell f
+  of-parts a b c d e f = simp (filter_map-append {X = Record} {Y = B})
+
+-- a saved site tells neither
+saved-nodes : (saved : Option Saved) → nodes (saved_records saved) ≡ []
+saved-nodes None = refl
+saved-nodes (Some s) = filter_map-append node_in (map kind.Part s.parts) (kind.Head s.head ∷ []) ∙ append-nil (nodes (map kind.Part s.parts)) ∙ none-mapped node_in kind.Part (λ p. refl) s.parts
+
+saved-files : (saved : Option Saved) → datafiles (saved_records saved) ≡ []
+saved-files None = refl
+saved-files (Some s) =
+    filter_map-append (λ r. option_map created_by (datafile_in r)) (map kind.Part s.parts) (kind.Head s.head ∷ [])
+    ∙ append-nil (datafiles (map kind.Part s.parts)) ∙ none-mapped (λ r. option_map created_by (datafile_in r)) kind.Part (λ p. refl) s.parts
+
+-- the incarnations
+pub tree-told : (r : Repository) → nodes (records_of r) ≡ r.ledger.tree
+tree-told r =
+    let l = r.ledger in
+    let tree : nodes (kind.Base l.base ∷ numbered incarnation_record 1 l.tree) ≡ l.tree = told-numbered node_in incarnation_record (λ k n. refl) 1 l.tree in
+    let files : nodes (numbered datafile_record 1 l.files) ≡ [] = none-numbered node_in datafile_record (λ k d. refl) 1 l.files in
+    let logs : nodes (map kind.Log l.logs) ≡ [] = none-mapped node_in kind.Log (λ e. refl) l.logs in
+    let pieces : nodes (map kind.Piece l.pieces) ≡ [] = none-mapped node_in kind.Piece (λ e. refl) l.pieces in
+    let marks : nodes (numbered mark_record 1 l.marks) ≡ [] = none-numbered node_in mark_record (λ k m. refl) 1 l.marks in
+    let saved : nodes (saved_records r.saved) ≡ [] = saved-nodes r.saved in
+    of-parts node_in (kind.Base l.base ∷ numbered incarnation_record 1 l.tree) (numbered datafile_record 1 l.files) (map kind.Log l.logs) (map kind.Piece l.pieces) (numbered mark_record 1 l.marks) (saved_records r.saved)
+    ∙ simp (tree, files, logs, pieces, marks, saved, append-nil)
+
+-- the datafiles
+pub files-told : (r : Repository) → datafiles (records_of r) ≡ r.ledger.files
+files-told r =
+    let l = r.ledger in
+    let tell : Record → Option Datafile = λ r. option_map created_by (datafile_in r) in
+    let tree : datafiles (kind.Base l.base ∷ numbered incarnation_record 1 l.tree) ≡ [] = none-numbered tell incarnation_record (λ k n. refl) 1 l.tree in
+    let files : datafiles (numbered datafile_record 1 l.files) ≡ l.files = told-numbered tell datafile_record (λ k d. refl) 1 l.files in
+    let logs : datafiles (map kind.Log l.logs) ≡ [] = none-mapped tell kind.Log (λ e. refl) l.logs in
+    let pieces : datafiles (map kind.Piece l.pieces) ≡ [] = none-mapped tell kind.Piece (λ e. refl) l.pieces in
+    let marks : datafiles (numbered mark_record 1 l.marks) ≡ [] = none-numbered tell mark_record (λ k m. refl) 1 l.marks in
+    let saved : datafiles (saved_records r.saved) ≡ [] = saved-files r.saved in
+    of-parts tell (kind.Base l.base ∷ numbered incarnation_record 1 l.tree) (numbered datafile_record 1 l.files) (map kind.Log l.logs) (map kind.Piece l.pieces) (numbered mark_record 1 l.marks) (saved_records r.saved)
+    ∙ simp (tree, files, logs, pieces, marks, saved, append-nil)
+
+-- and so the database, whose threads stand in the base facts
+pub world-told : (r : Repository) → told_world (records_of r) ≡ world_of r.ledger
+world-told r =
+    let make : List Incarnation → List Datafile → World = λ ns ds. record { tree = ns; threads = r.ledger.base.threads; files = ds } in
+    ap (λ ns. make ns (datafiles (records_of r))) (tree-told r) ∙ ap (make r.ledger.tree) (files-told r)
+
+pub database-told : (r : Repository) → HasDatabase (records_of r)
+database-told r = refl

@@ -1,0 +1,69 @@
+-- RECOVER DATABASE [UNTIL SCN s]
+use Rattle.std.specs.Prelude.{ℕ, ◌≡◌, if◌then◌else◌, false, Option, Some, None, List, [], ◌∷◌, ◌++◌}
+use Rattle.std.specs.Option.{option_and_then, option_map}
+use Rattle.rm_base.specs.Store.{Held}
+use Rattle.rm_base.specs.declared.block.Change.{Change}
+use Rattle.rm_base.specs.declared.kinds.Bad.{Bad}
+use Rattle.rm_base.specs.declared.refusal.Refusal.{Refusal}
+use Rattle.rm_base.specs.declared.refusal.Refusal.TheVariants.{Rm04, Rm09}
+use Rattle.rm_blocks.specs.File.{File}
+use Rattle.rm_command.specs.declared.command.Until.{Until}
+use Rattle.rm_report.specs.declared.line.Line.TheVariants.{Recovered}
+use Rattle.rm_machine.specs.Effect.{Outcome, done, no_effect}
+use Rattle.rm_machine.specs.Marks.{ids_refusal}
+use Rattle.rm_machine.specs.Mount.{first_lost}
+use Rattle.rm_machine.specs.Recovery.{IsRecoveryOutcome, count_at, files_at, range_refusal, skipped_lines, target_of}
+use Rattle.rm_machine.specs.declared.state.State.{State}
+use Rattle.rm_machine.specs.State.{ledger, tree, world, current_of}
+
+-- the first option that has a value
+abbrev pub or_else : {X : Type 0} → Option X → Option X → Option X
+or_else None o = o
+or_else (Some x) o = Some x
+
+-- the SCN at which it stops
+abbrev pub recover_target : State → Option Until → Option ℕ
+recover_target s until = target_of (tree s) (current_of s) until
+
+-- a datafile of the target is lost: the first one
+abbrev pub lost_refusal : State → ℕ → Option Refusal
+lost_refusal s at = option_map (λ f. Rm09 f) (first_lost (world s) (current_of s) at 1 (ledger s).files s.instance.place)
+
+-- why the target is refused: it is out of range, or a datafile of it is lost, or no ids are left
+abbrev pub target_refusal : State → ℕ → Option Refusal
+target_refusal s at = or_else (range_refusal (tree s) (current_of s) at) (or_else (lost_refusal s at) (ids_refusal s))
+
+-- why it is refused
+abbrev pub recover_refusal : State → Option Until → Option Refusal
+recover_refusal s until = if s.instance.is_open then Some (Rm04 false) else option_and_then (target_refusal s) (recover_target s until)
+
+-- these datafiles, in place of what stood there
+abbrev pub put_over : List (Option File) → List (Option File) → List (Option File)
+put_over [] place = place
+put_over (x ∷ xs) [] = []
+put_over (x ∷ xs) (y ∷ ys) = or_else x y ∷ put_over xs ys
+
+-- the database with these datafiles in place, and the target as its point
+abbrev pub recovered : State → ℕ → List (Option File) → State
+recovered s at files = record s { instance = record s.instance { point = Some at; place = put_over files s.instance.place } }
+
+-- what it comes to where each block is told
+abbrev pub brings_back : State → ℕ → List (ℕ × Bad) → List (Option File) → Outcome
+brings_back s at skipped files =
+    done (skipped_lines skipped ++ Recovered at (current_of s) (count_at s (current_of s) at) ∷ []) no_effect (recovered s at files)
+
+abbrev pub RecoversTo : State → Held → Option ℕ → Outcome → Type 0
+RecoversTo s held None o = ⊥
+RecoversTo s held (Some at) o = IsRecoveryOutcome s held (current_of s) at (brings_back s at) o
+
+-- each datafile of the target comes to stand in place as it is told, or the first gap is
+abbrev pub IsRecoverOutcome : State → Held → Option Until → Outcome → Type 0
+IsRecoverOutcome s held until o = RecoversTo s held (recover_target s until) o
+
+abbrev pub BringsTo : List Change → State → Option ℕ → State → Type 0
+BringsTo h s None t = ⊥
+BringsTo h s (Some at) t = t.instance.place ≡ put_over (files_at (world s) h (current_of s) at) s.instance.place
+
+-- what the history says of it: each datafile of the target came to stand in place as the history made it there
+abbrev pub BringsTruly : List Change → State → Option Until → State → Type 0
+BringsTruly h s until t = BringsTo h s (recover_target s until) t

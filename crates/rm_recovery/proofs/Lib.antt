@@ -1,0 +1,3 @@
+pub mod Hand
+pub mod Rows
+pub mod Telling

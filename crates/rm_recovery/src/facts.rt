@@ -1,0 +1,57 @@
+//! Facts of a state (a stand-in for rm_machine's).
+ghost use Rattle.std.specs.Prelude.{◌≡◌};
+ghost use Rattle.rm_history.specs.Tree.{IsThere};
+ghost use Rattle.rm_history.specs.World.{exists};
+ghost use Rattle.rm_machine.specs.Marks.{ids_refusal, lacks_ids};
+ghost use Rattle.rm_machine.specs.Mount.{first_lost};
+ghost use Rattle.rm_machine.specs.Sound.{IsSound};
+ghost use Rattle.rm_machine.specs.State.{ledger, redo_end, tree, world};
+
+use rm_base::{FileNo, IncNo, Limit, Refusal, Scn};
+use rm_history::Datafile;
+use rm_machine::State;
+
+/// The SCN up to which the online logs tell.
+pub(crate) fn redo_end(state: &State) -> Scn
+    requires sound { IsSound state.now }
+    ensures value { result ≡ redo_end state.now }
+{
+    match state.catalog.tree().get(state.instance.logs.inc()) {
+        Some(incarnation) => incarnation.end,
+        None => 0,
+    }
+}
+
+/// Whether a datafile exists at the address (i, s).
+pub(crate) fn exists(state: &State, i: IncNo, s: Scn, datafile: &Datafile) -> bool
+    requires there { IsThere (tree state.now) i }
+    requires created { 0 < datafile.now.creation }
+    ensures { result ≡ exists (world state.now) i s datafile.now }
+{
+    datafile.creation < s && state.catalog.tree().owner(i, datafile.creation) == Some(datafile.inc)
+}
+
+pub(crate) fn ids_refusal(state: &State) -> Option<Refusal>
+    requires sound { IsSound state.now }
+    ensures value { result ≡ ids_refusal state.now }
+{
+    if u64::from(state.catalog.base().next_id) + 68 > 4_294_967_295 {
+        Some(Refusal::Rm11(Limit::ObjectIds))
+    } else {
+        None
+    }
+}
+
+pub(crate) fn first_lost(state: &State, i: IncNo, s: Scn) -> Option<FileNo>
+    requires sound { IsSound state.now }
+    requires there { IsThere (tree state.now) i }
+    ensures value { result ≡ first_lost (world state.now) i s 1 (ledger state.now).files state.now.instance.place }
+{
+    let place = state.instance.place.as_slice();
+    for (index, datafile) in state.catalog.files().iter().enumerate() {
+        if exists(state, i, s, datafile) && place[index].is_none() {
+            return Some(index as FileNo + 1);
+        }
+    }
+    None
+}
