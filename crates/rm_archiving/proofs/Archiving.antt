@@ -1,23 +1,21 @@
 -- Archiving as code: one thread, several threads, and what a statement hands out.
-use Rattle.std.proofs.Common.{◌≡◌, ◌∙◌, ◌++◌, ◌+◌, ◌<◌, ◌≤◌, ℕ, zero, suc, List, [], ◌∷◌, Option, Some, None, Bool, true, false, cond, refl, ap, sym, subst, arith}
+use Rattle.std.proofs.Common.{◌≡◌, ◌∙◌, ◌++◌, ◌+◌, ◌-◌, ◌<◌, ◌≤◌, ℕ, suc, List, [], Option, Bool, true, false, cond, refl, ap, sym, subst, arith}
 use Rattle.std.proofs.lemmas.List.{append-nil, append_assoc}
 use Rattle.rm_base.specs.Store.{Held}
 use Rattle.rm_catalog.specs.declared.record.Edit.{Edit}
 use Rattle.rm_change.specs.declared.change.Object.{Object}
 use Rattle.rm_command.specs.declared.command.Command.TheVariants.{ArchiveLogCurrent, SwitchLogfile}
-use Rattle.rm_redo.specs.Logs.{Logs}
-use Rattle.rm_redo.specs.Online.{switched}
 use Rattle.rm_report.specs.declared.line.Line.{Line}
-use Rattle.rm_repository.specs.Changes.{EditsFollow, with_new_log}
+use Rattle.rm_repository.specs.Changes.{EditsFollow}
 use Rattle.rm_repository.specs.Repository.{Repository}
 use Rattle.rm_machine.specs.Archive.{after_all, after_thread, after_threads, archiving, lines_from, puts_by, puts_from, thread_lines}
-use Rattle.rm_machine.specs.Effect.{Outcome, done, no_effect}
+use Rattle.rm_machine.specs.Effect.{done, no_effect}
 use Rattle.rm_machine.specs.Hands.{Hands}
 use Rattle.rm_machine.specs.declared.handed.Handed.{Handed}
 use Rattle.rm_machine.specs.declared.state.State.{State}
-use Rattle.rm_machine.specs.State.{ledger, online, redo_end}
+use Rattle.rm_machine.specs.State.{online}
 use Rattle.rm_machine.specs.Sound.{IsSound}
-use Rattle.rm_machine.specs.SwitchLogfile.{archived, is_due, log_entry, made_lines, none_lines, with_archived}
+use Rattle.rm_machine.specs.SwitchLogfile.{archived, is_due, made_lines, none_lines, with_archived}
 use Rattle.rm_machine.proofs.Archives.{HasRoom, beside-thread, next-room, sound-thread}
 
 pub edits-on : (a b c : List Edit) (r s t : Repository) → EditsFollow a b r s → EditsFollow b c s t → EditsFollow a c r t
@@ -26,41 +24,74 @@ edits-on a b c r s t first next = record { lead = λ rs from. next.lead rs (firs
 pub edits-none : (a : List Edit) (r : Repository) → EditsFollow a a r r
 edits-none a r = record { lead = λ rs from. from }
 
--- How far the archiving of all threads has come from `first`: n threads from t on are left.
-pub record Goes (first s : State) (all : Bool) (told now : List Line) (put held : List Object) (before after : List Edit) (t n : ℕ) : Type 0 where
-  pub sound : IsSound s
-  pub room : HasRoom s t n 0
-  pub threads : s.catalog.ledger.base.threads ≡ first.catalog.ledger.base.threads
-  pub state : after_threads s t n ≡ after_all first
-  pub lines : now ++ lines_from all s t n ≡ told ++ lines_from all first 1 first.catalog.ledger.base.threads
-  pub objects : held ++ puts_from s t n ≡ put ++ puts_from first 1 first.catalog.ledger.base.threads
-  pub edits : EditsFollow before after first.catalog s.catalog
+-- what archiving has before it, or has reached
+pub record Reached : Type 0 where
+  pub state : State
+  pub lines : List Line
+  pub objects : List Object
+  pub edits : List Edit
 
--- it begins
-pub goes-first : (first : State) (all : Bool) (told : List Line) (put : List Object) (before : List Edit) → IsSound first → HasRoom first 1 first.catalog.ledger.base.threads 0 → Goes first first all told told put put before before 1 first.catalog.ledger.base.threads
-goes-first first all told put before sound room = record { sound = sound; room = room; threads = refl; state = refl; lines = refl; objects = refl; edits = edits-none before first.catalog }
+-- a thread was archived, where it had something to archive
+pub record IsTurn (all : Bool) (old new : Reached) (t : ℕ) : Type 0 where
+  pub after : new.state ≡ after_thread old.state t
+  pub told : new.lines ≡ old.lines ++ thread_lines all old.state t
+  pub put : new.objects ≡ old.objects ++ puts_by old.state t
+  pub follow : EditsFollow old.edits new.edits old.state.catalog new.state.catalog
 
--- one thread more
-pub goes-next : (first s q : State) (all : Bool) (told now new : List Line) (put held more : List Object) (before after latest : List Edit) (t n : ℕ)
-    → 0 < t → t ≤ first.catalog.ledger.base.threads → Goes first s all told now put held before after t (suc n)
-    → q ≡ after_thread s t → new ≡ now ++ thread_lines all s t → more ≡ held ++ puts_by s t → EditsFollow after latest s.catalog q.catalog
-    → Goes first q all told new put more before latest (t + 1) n
-goes-next first s q all told now new put held more before after latest t n low high goes is is_new is_more edits =
+-- How far the archiving of all threads has come: n threads from t on are left.
+pub record Goes (all : Bool) (first now : Reached) (t n : ℕ) : Type 0 where
+  pub sound : IsSound now.state
+  pub room : HasRoom now.state t n 0
+  pub threads : now.state.catalog.ledger.base.threads ≡ first.state.catalog.ledger.base.threads
+  pub after : after_threads now.state t n ≡ after_all first.state
+  pub told : now.lines ++ lines_from all now.state t n ≡ first.lines ++ lines_from all first.state 1 first.state.catalog.ledger.base.threads
+  pub put : now.objects ++ puts_from now.state t n ≡ first.objects ++ puts_from first.state 1 first.state.catalog.ledger.base.threads
+  pub follow : EditsFollow first.edits now.edits first.state.catalog now.state.catalog
+
+-- all were archived
+pub record Went (all : Bool) (first now : Reached) : Type 0 where
+  pub sound : IsSound now.state
+  pub after : now.state ≡ after_all first.state
+  pub told : now.lines ≡ first.lines ++ lines_from all first.state 1 first.state.catalog.ledger.base.threads
+  pub put : now.objects ≡ first.objects ++ puts_from first.state 1 first.state.catalog.ledger.base.threads
+  pub follow : EditsFollow first.edits now.edits first.state.catalog now.state.catalog
+
+goes-next : (all : Bool) (first now new : Reached) (t n : ℕ) → 0 < t → t ≤ first.state.catalog.ledger.base.threads → Goes all first now t (suc n) → IsTurn all now new t → Goes all first new (t + 1) n
+goes-next all first now new t n low high goes turn =
+    let s : State = now.state in
     let threads = goes.threads in
-    let to : Goes first (after_thread s t) all told new put more before latest (t + 1) n = record {
+    let at : State → Reached = λ q. record { state = q; lines = new.lines; objects = new.objects; edits = new.edits } in
+    let to : Goes all first (at (after_thread s t)) (t + 1) n = record {
       sound = sound-thread s t n 0 goes.sound low (omega (arith, high, threads)) goes.room;
       room = next-room s t n 0 goes.room;
       threads = (beside-thread s t).threads ∙ threads;
-      state = goes.state;
-      lines = ap (λ xs. xs ++ lines_from all (after_thread s t) (t + 1) n) is_new
-          ∙ append_assoc now (thread_lines all s t) (lines_from all (after_thread s t) (t + 1) n)
-          ∙ goes.lines;
-      objects = ap (λ xs. xs ++ puts_from (after_thread s t) (t + 1) n) is_more
-          ∙ append_assoc held (puts_by s t) (puts_from (after_thread s t) (t + 1) n)
-          ∙ goes.objects;
-      edits = edits-on before after latest first.catalog s.catalog (after_thread s t).catalog goes.edits (subst (λ (x : State). EditsFollow after latest s.catalog x.catalog) is edits);
+      after = goes.after;
+      told = ap (λ xs. xs ++ lines_from all (after_thread s t) (t + 1) n) turn.told
+          ∙ append_assoc now.lines (thread_lines all s t) (lines_from all (after_thread s t) (t + 1) n)
+          ∙ goes.told;
+      put = ap (λ xs. xs ++ puts_from (after_thread s t) (t + 1) n) turn.put
+          ∙ append_assoc now.objects (puts_by s t) (puts_from (after_thread s t) (t + 1) n)
+          ∙ goes.put;
+      follow = edits-on first.edits now.edits new.edits first.state.catalog s.catalog (after_thread s t).catalog goes.follow
+          (subst (λ (x : State). EditsFollow now.edits new.edits s.catalog x.catalog) turn.after turn.follow);
     } in
-    subst (λ (x : State). Goes first x all told new put more before latest (t + 1) n) (sym is) to
+    subst (λ (q : State). Goes all first (at q) (t + 1) n) (sym turn.after) to
+
+-- one turn of the loop
+pub goes-turn : (all : Bool) (first now new : Reached) (t : ℕ) → 0 < t → t ≤ first.state.catalog.ledger.base.threads → Goes all first now t (first.state.catalog.ledger.base.threads + 1 - t) → IsTurn all now new t
+    → Goes all first new (t + 1) (first.state.catalog.ledger.base.threads + 1 - (t + 1))
+goes-turn all first now new t low high goes turn =
+    let n = first.state.catalog.ledger.base.threads in
+    let e : n + 1 - t ≡ suc (n + 1 - (t + 1)) = omega (arith, low, high) in
+    goes-next all first now new t (n + 1 - (t + 1)) low high (subst (λ k. Goes all first now t k) e goes) turn
+
+-- after the last of them
+pub goes-last : (all : Bool) (first now new : Reached) (t : ℕ) → 0 < t → t ≡ first.state.catalog.ledger.base.threads → Goes all first now t (first.state.catalog.ledger.base.threads + 1 - t) → IsTurn all now new t → Went all first new
+goes-last all first now new t low last goes turn =
+    let n = first.state.catalog.ledger.base.threads in
+    let end : n + 1 - (t + 1) ≡ 0 = omega (arith, last) in
+    let done : Goes all first new (t + 1) 0 = subst (λ k. Goes all first new (t + 1) k) end (goes-turn all first now new t low (omega (arith, last)) goes turn) in
+    record { sound = done.sound; after = done.after; told = sym (append-nil new.lines) ∙ done.told; put = sym (append-nil new.objects) ∙ done.put; follow = done.follow }
 
 -- What statements hand out
 
@@ -94,10 +125,3 @@ hands_all s q x is lines objects removes held = record {
   puts = objects;
   removes = removes;
 }
-
--- The state after one thread, by its parts
-pub archived-state : (s : State) (t : ℕ) (catalog : Repository) (logs : Logs) → catalog ≡ with_new_log s.catalog (log_entry s.catalog.ledger.base.next_id (online s t)) → logs ≡ switched s.instance.logs t (redo_end s)
-    → ◌≡◌ {A = State} (record { catalog = catalog; instance = record s.instance { logs = logs } }) (with_archived s t)
-archived-state s t catalog logs is_catalog is_logs =
-    let made : Repository → Logs → State = λ c l. record { catalog = c; instance = record s.instance { logs = l } } in
-    ap (λ (c : Repository). made c logs) is_catalog ∙ ap (λ (l : Logs). made (with_new_log s.catalog (log_entry s.catalog.ledger.base.next_id (online s t))) l) is_logs

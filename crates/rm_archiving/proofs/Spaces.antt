@@ -1,5 +1,5 @@
 -- Where there is space for a log more.
-use Rattle.std.proofs.Common.{◌≡◌, ◌∙◌, ◌+◌, ◌<◌, ◌≤◌, ◌&&◌, nat_lt, inl, inr, ℕ, suc, Option, None, Some, true, false, cond, arith, length}
+use Rattle.std.proofs.Common.{◌≡◌, ◌∙◌, ◌+◌, ◌&&◌, nat_lt, inl, inr, ℕ, suc, Option, None, Some, true, false, cond, arith, length}
 use Rattle.std.proofs.lemmas.Bool.{and_left, and_right, cond-false, le-ltb}
 use Rattle.rm_base.specs.declared.refusal.Refusal.{Refusal}
 use Rattle.rm_base.specs.declared.refusal.Refusal.TheVariants.{Rm11}
@@ -10,10 +10,10 @@ use Rattle.rm_machine.specs.Archive.{archiving_refusal, bytes_from, due_from, is
 use Rattle.rm_machine.specs.Marks.{lacks_bytes, lacks_ids, lacks_room}
 use Rattle.rm_machine.specs.declared.state.State.{State}
 use Rattle.rm_machine.specs.State.{ledger}
-use Rattle.rm_machine.specs.SwitchLogfile.{archive_refusal, is_due, switch_refusal}
+use Rattle.rm_machine.specs.SwitchLogfile.{is_due}
 use Rattle.rm_machine.proofs.Archives.{HasRoom, can-thread}
-use Rattle.rm_machine.proofs.Switching.{CanArchive, can-archive, can-switch, due-parts}
-use Rattle.rm_machine.proofs.WritesSound.{roomy-either}
+use Rattle.rm_machine.proofs.Switching.{CanArchive, due-parts}
+use Rattle.rm_machine.proofs.Further.{roomy-either}
 use Rattle.rm_archiving.specs.Space.{HasSpace}
 
 pub space-can : (s : State) (t : ℕ) → CanArchive s t → HasSpace s t
@@ -34,10 +34,7 @@ can-space s t due space =
       some = parts.1;
     }
 
--- for the log of SWITCH LOGFILE, and for the first of several threads
-pub space-switch : (s : State) (t : ℕ) → switch_refusal s t ≡ None → is_due s t ≡ true → HasSpace s t
-space-switch s t none due = space-can s t (can-archive s t due ((can-switch s t none).due due))
-
+-- for the first of several threads
 pub space-first : (s : State) (t n more : ℕ) → HasRoom s t (suc n) more → is_due s t ≡ true → HasSpace s t
 space-first s t n more room due = space-can s t (can-thread s t n more due room)
 

@@ -92,3 +92,22 @@ pub last-next : (s : State) (t n m : ℕ) (b : Bool) → 0 < t → n ≡ suc m �
 last-next s t n m b low e is =
     ap (is_last_sequence s t) e ∙ ap (λ x. cond x true (is_last_sequence (after_thread s t) (t + 1) m)) is
     ∙ ap (λ x. cond b true x) (last-alike m (t + 1) s (after_thread s t) (omega arith) (alike-thread s t low))
+
+-- One turn of a loop over the threads
+
+pub due-turn : (s : State) (t n old new total : ℕ) (b : Bool) → 0 < t → t ≤ n → is_due s t ≡ b → old + due_from s t (n + 1 - t) ≡ total → new ≡ old + cond b 1 0 → new + due_from s (t + 1) (n + 1 - (t + 1)) ≡ total
+due-turn s t n old new total b low high is was now =
+    let e : n + 1 - t ≡ suc (n + 1 - (t + 1)) = omega (arith, low, high) in
+    let next = due-next s t (n + 1 - t) (n + 1 - (t + 1)) b low e is in
+    omega (arith, was, now, next)
+
+pub bytes-turn : (s : State) (t n old new total : ℕ) (b : Bool) → 0 < t → t ≤ n → is_due s t ≡ b → old + bytes_from s t (n + 1 - t) ≡ total → new ≡ old + cond b (log_bytes s t) 0 → new + bytes_from s (t + 1) (n + 1 - (t + 1)) ≡ total
+bytes-turn s t n old new total b low high is was now =
+    let e : n + 1 - t ≡ suc (n + 1 - (t + 1)) = omega (arith, low, high) in
+    let next = bytes-next s t (n + 1 - t) (n + 1 - (t + 1)) b low e is in
+    omega (arith, was, now, next)
+
+pub last-turn : (s : State) (t n : ℕ) (total b : Bool) → 0 < t → t ≤ n → (is_due s t && nat_le 4294967295 (sequence_of s.instance.logs t)) ≡ b → is_last_sequence s t (n + 1 - t) ≡ total → cond b true (is_last_sequence s (t + 1) (n + 1 - (t + 1))) ≡ total
+last-turn s t n total b low high is was =
+    let e : n + 1 - t ≡ suc (n + 1 - (t + 1)) = omega (arith, low, high) in
+    sym (last-next s t (n + 1 - t) (n + 1 - (t + 1)) b low e is) ∙ was
