@@ -22,8 +22,11 @@ use Rattle.rm_machine.proofs.Told.{block-determined}
 use Rattle.rm_recovery.specs.Telling.{AreToldBelow, IsFaultOfFile, IsFirstFault, IsToldFile}
 
 -- a datafile that exists is a target
-pub file-target : (w : World) (i at k : ℕ) (d : Datafile) → IsThere w.tree i → slice_get w.files k ≡ Some d → exists w i at d ≡ true → IsFileTarget w i at (1 + k)
+file-target : (w : World) (i at k : ℕ) (d : Datafile) → IsThere w.tree i → slice_get w.files k ≡ Some d → exists w i at d ≡ true → IsFileTarget w i at (1 + k)
 file-target w i at k d there is here = record { there = there; datafile = d; is = file-at w k d is; exists = here }
+
+pub number-target : (w : World) (i at f : ℕ) (d : Datafile) → IsThere w.tree i → 0 < f → slice_get w.files (f - 1) ≡ Some d → exists w i at d ≡ true → IsFileTarget w i at f
+number-target w i at f d there some is here = let back : 1 + (f - 1) ≡ f = omega (arith, some) in subst (IsFileTarget w i at) back (file-target w i at (f - 1) d there is here)
 
 -- where the fault of a plan is a gap, it is the datafile's
 pub fault-of-file : (w : World) (e : Evidence) (i at f : ℕ) (x : PlanFault) → IsFileTarget w i at f → IsFileFault w e i at f x → IsFaultOfFile w e i at f x

@@ -2,6 +2,7 @@
 ghost use Rattle.std.specs.Prelude.{◌≡◌, ◌≤◌, ◌<◌, ◌∷◌, ◌++◌, [], IfOk, IfSome, IsErrOf, OnOk, map, cond};
 ghost use Rattle.std.specs.List.{filter_map};
 ghost use Rattle.rm_base.specs.Outside.{Rose};
+ghost use Rattle.rm_catalog.specs.Rules.{IsCatalog};
 ghost use Rattle.rm_evidence.specs.Known.{FitsTree};
 ghost use Rattle.rm_machine.specs.Recovery.{IsAtHand, in_place, online_logs};
 ghost use Rattle.rm_machine.specs.Sound.{IsSound};
@@ -12,7 +13,7 @@ ghost use Rattle.rm_repository.specs.Repository.{records_of};
 use crate::facts::{now, redo_end};
 use rm_base::{NoMemory, Scn, Seq, Store, ThreadNo};
 use rm_blocks::DataFile;
-use rm_catalog::{Catalog as Records, CatalogFault};
+use rm_catalog::{Catalog as Records, CatalogFault, Record};
 use rm_evidence::{Evidence, EvidenceFault, InPlace, gather};
 use rm_machine::State;
 use rm_redo::LogFile;
@@ -115,15 +116,25 @@ fn in_place(alloc: Global, state: &State) -> Result<InPlace, NoMemory>
     })
 }
 
-// The records of a catalog, as a list.
-fn records_of(alloc: Global, catalog: &Catalog) -> Result<Records, NoMemory>
-    ensures { IfOk result (λ records. records ≡ records_of catalog.now) }
+// Valid records in order, as a list.
+fn as_records(records: Seq<Record>) -> Result<Records, NoMemory>
+    requires { IsCatalog records }
+    ensures { IfOk result (λ list. list ≡ records) }
 {
-    match Records::from_records(catalog.records(alloc)?) {
+    match Records::from_records(records) {
         Ok(records) => Ok(records),
         Err(CatalogFault::NoMemory) => Err(NoMemory),
         Err(CatalogFault::BadRow(..)) => unreachable!(),
     }
+}
+
+// The records of a catalog, as a list.
+fn records_of(alloc: Global, catalog: &Catalog) -> Result<Records, NoMemory>
+    ensures { IfOk result (λ records. records ≡ records_of catalog.now) }
+{
+    // The catalog keeps the rules.
+    let _ = catalog.base();
+    as_records(catalog.records(alloc)?)
 }
 
 /// What is at hand: what the store has of the records that count as available, and what is in place.
