@@ -23,7 +23,7 @@ use Rattle.rm_base.proofs.Conditions.{unless}
 use Rattle.rm_machine.proofs.Kept.{stand-same}
 use Rattle.rm_machine.proofs.Later.{borne-beside}
 use Rattle.rm_machine.proofs.Switching.{CanArchive, due-parts, not-above, sound-after, switched-by}
-use Rattle.rm_machine.proofs.WritesSound.{roomy-either}
+use Rattle.rm_machine.proofs.Further.{roomy-either}
 use Rattle.rm_repository.proofs.Fitted.{many}
 
 -- What is put in two parts
@@ -90,7 +90,7 @@ not-due false c rest due is = is
 
 -- One thread
 
-thread-either : (P : State → Type 0) (s : State) (t : ℕ) (b : Bool) → (b ≡ true → P (with_archived s t)) → (b ≡ false → P s) → P (cond b (with_archived s t) s)
+pub thread-either : (P : State → Type 0) (s : State) (t : ℕ) (b : Bool) → (b ≡ true → P (with_archived s t)) → (b ≡ false → P s) → P (cond b (with_archived s t) s)
 thread-either P s t true there other = there refl
 thread-either P s t false there other = other refl
 
@@ -108,10 +108,10 @@ beside-itself s = record { threads = refl; tree = refl; mode = refl; point = ref
 beside-on : (s q r : State) → Beside s q → Beside q r → Beside s r
 beside-on s q r a b = record { threads = b.threads ∙ a.threads; tree = b.tree ∙ a.tree; mode = b.mode ∙ a.mode; point = b.point ∙ a.point; saved = b.saved ∙ a.saved }
 
-beside-thread : (s : State) (t : ℕ) → Beside s (after_thread s t)
+pub beside-thread : (s : State) (t : ℕ) → Beside s (after_thread s t)
 beside-thread s t = thread-either (Beside s) s t (is_due s t) (λ _. record { threads = refl; tree = refl; mode = refl; point = refl; saved = refl }) (λ _. beside-itself s)
 
-can-thread : (s : State) (t n more : ℕ) → is_due s t ≡ true → HasRoom s t (suc n) more → CanArchive s t
+pub can-thread : (s : State) (t n more : ℕ) → is_due s t ≡ true → HasRoom s t (suc n) more → CanArchive s t
 can-thread s t n more due room =
     let parts = due-parts s t due in
     let taken : Bool → ℕ = λ b. cond b 1 0 in
@@ -156,7 +156,7 @@ next-room s t n more room =
       sequences = next-sequences (is_due s t) (nat_le 4294967295 (sequence_of s.instance.logs t)) (is_last_sequence (after_thread s t) (t + 1) n) room.sequences;
     }
 
-sound-thread : (s : State) (t n more : ℕ) → IsSound s → 0 < t → t ≤ s.catalog.ledger.base.threads → HasRoom s t (suc n) more → IsSound (after_thread s t)
+pub sound-thread : (s : State) (t n more : ℕ) → IsSound s → 0 < t → t ≤ s.catalog.ledger.base.threads → HasRoom s t (suc n) more → IsSound (after_thread s t)
 sound-thread s t n more sound low high room =
     thread-either IsSound s t (is_due s t) (λ due. sound-after s t sound low high (can-thread s t n more due room)) (λ _. sound)
 

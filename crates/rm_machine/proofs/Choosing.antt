@@ -9,7 +9,6 @@ use Rattle.rm_blocks.specs.File.{base_of}
 use Rattle.rm_history.specs.Agrees.{BaseAgrees}
 use Rattle.rm_history.specs.Tree.{IsThere}
 use Rattle.rm_repository.specs.Facts.{IsRepository}
-use Rattle.rm_repository.proofs.Fitted.{base_fits}
 use Rattle.rm_machine.specs.Effect.{Made}
 use Rattle.rm_machine.specs.Machine.{HistoryFits, IsBorneOut}
 use Rattle.rm_machine.specs.Marks.{ids_refusal}
@@ -20,19 +19,20 @@ use Rattle.rm_machine.specs.State.{ledger, world}
 use Rattle.rm_command.specs.declared.command.Command.TheVariants.{ResetDatabase}
 use Rattle.rm_base.proofs.Conditions.{unless}
 use Rattle.rm_machine.proofs.CountedLogs.{counted-agree, counted-online}
+use Rattle.rm_machine.proofs.Current.{current-kept}
 use Rattle.rm_machine.proofs.Kept.{kept-on, stand-same}
 use Rattle.rm_machine.proofs.Leading.{LeadsOnBy, StaysBy}
 use Rattle.rm_machine.proofs.Places.{counted-closed}
 use Rattle.rm_machine.proofs.Quiet.{quiet-on, quiet-stays}
 
-record CanChoose (s : State) (i : ℕ) : Type 0 where
-  shut : s.instance.is_open ≡ false
-  there : IsThere s.catalog.ledger.tree i
+pub record CanChoose (s : State) (i : ℕ) : Type 0 where
+  pub shut : s.instance.is_open ≡ false
+  pub there : IsThere s.catalog.ledger.tree i
 
 there-of : (n i : ℕ) → ((i == 0) || nat_lt n i) ≡ false → (0 < i) × (i ≤ n)
 there-of n i is = (grind (arith, nat_tests), grind (arith, nat_tests))
 
-can-choose : (s : State) (i : ℕ) → reset_refusal s i ≡ None → CanChoose s i
+pub can-choose : (s : State) (i : ℕ) → reset_refusal s i ≡ None → CanChoose s i
 can-choose s i is =
     let mode = unless s.instance.is_open (Rm04 false) _ is in
     let there = unless ((i == 0) || nat_lt (length s.catalog.ledger.tree) i) (Rm07 i) (ids_refusal s) mode.1 in
@@ -43,15 +43,7 @@ module _ (s : State) (i : ℕ) (sound : IsSound s) (can : CanChoose s i) where
   q = at_incarnation s i
 
   catalog-after : IsRepository q.catalog
-  catalog-after =
-      let is = sound.catalog.ledger.base in
-      base_fits s.catalog (record s.catalog.ledger.base { current = i }) sound.catalog (record {
-        facts = record { dbid = is.dbid; threads = is.threads; next_id = is.next_id; moment = is.moment; policy = is.policy; parallelism = is.parallelism };
-        current = can.there;
-        threads = refl;
-        next_id = omega arith;
-        moment = omega arith;
-      })
+  catalog-after = current-kept s.catalog i sound.catalog can.there
 
   sound-chosen : IsSound q
   sound-chosen =

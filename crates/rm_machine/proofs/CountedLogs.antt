@@ -9,7 +9,7 @@ use Rattle.rm_history.specs.Tree.{IsThere}
 use Rattle.rm_redo.specs.declared.online.ThreadLog.{ThreadLog}
 use Rattle.rm_redo.specs.LogFile.{log_of}
 use Rattle.rm_redo.specs.Logs.{Logs}
-use Rattle.rm_machine.specs.ResetDatabase.{counted_as}
+use Rattle.rm_redo.specs.Online.{counted_as}
 use Rattle.rm_machine.specs.Sound.{AreOnline}
 use Rattle.rm_machine.specs.declared.state.State.{State}
 use Rattle.rm_machine.specs.State.{is_lost, online}

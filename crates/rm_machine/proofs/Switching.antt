@@ -48,7 +48,7 @@ use Rattle.rm_machine.proofs.Kept.{StandOn, kept-on, no-effect, stand-same}
 use Rattle.rm_machine.proofs.Later.{borne-beside}
 use Rattle.rm_machine.proofs.Leading.{LeadsOnBy, StaysBy}
 use Rattle.rm_objects.proofs.Names.{log-name-tells, log-no-piece}
-use Rattle.rm_machine.proofs.WritesSound.{roomy-either}
+use Rattle.rm_machine.proofs.Further.{roomy-either}
 
 -- An empty log
 
@@ -167,7 +167,7 @@ module _ (s : State) (t : ℕ) (sound : IsSound s) (low : 0 < t) (high : t ≤ s
   there : IsThread s.instance.logs t
   there = let many = sound.logs.threads in (low, omega (arith, many, high))
 
-  entry-is : IsLogEntry l.tree l.base.threads entry
+  pub entry-is : IsLogEntry l.tree l.base.threads entry
   entry-is =
       let body = length-body log (fits-log log log-is.valid) in
       let whole = length-sealed (body_of log) in
@@ -183,8 +183,12 @@ module _ (s : State) (t : ℕ) (sound : IsSound s) (low : 0 < t) (high : t ≤ s
   catalog-after : IsRepository q.catalog
   catalog-after =
       let ids = a.ids in
-      new_log_fits s.catalog entry sound.catalog refl (omega (arith, ids)) entry-is
-      (elim (roomy-either 1 (length (records_of l) + 1) a.roomy) [ inl none ↦ absurd (omega (arith, none)) | inr room ↦ room ])
+      new_log_fits s.catalog entry sound.catalog (record {
+        log = entry-is;
+        id = refl;
+        last = omega (arith, ids);
+        room = elim (roomy-either 1 (length (records_of l) + 1) a.roomy) [ inl none ↦ absurd (omega (arith, none)) | inr room ↦ room ];
+      })
 
   redo-after : redo_end q ≡ redo_end s
   redo-after = ap (end_of l.tree) (around-switched s.instance.logs t (redo_end s)).inc

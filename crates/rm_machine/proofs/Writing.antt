@@ -20,7 +20,7 @@ changed s w = record no_effect { changes = change_of s w ∷ [] }
 
 pub write-on : (w : WriteForm) → LeadsOnBy (Write w)
 write-on w s h objects made touched said e t after well stands tell none does effect =
-    let a = write-accepted s w none in
+    let a = write-accepted s w stands.state none in
     let q : State = with_write s w in
     let is_effect : changed s w ≡ e = cc in
     let is_state : q ≡ t = cc in
@@ -39,6 +39,6 @@ pub write-stays : (w : WriteForm) → StaysBy (Write w)
 write-stays w s objects said e t well sound none accepted does =
     let q : State = with_write s w in
     let is_state : q ≡ t = cc in (
-      subst IsSound is_state (sound-write s w sound (write-accepted s w accepted) well.1),
+      subst IsSound is_state (sound-write s w sound (write-accepted s w sound accepted) well.1),
       sym (ap (λ (x : State). x.catalog.saved) is_state) ∙ none,
     )

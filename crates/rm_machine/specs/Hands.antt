@@ -3,9 +3,8 @@ use Rattle.std.specs.Prelude.{◌≡◌, Option, Some, List}
 use Rattle.rm_base.specs.Store.{Held}
 use Rattle.rm_command.specs.declared.command.Command.{Command}
 use Rattle.rm_report.specs.declared.line.Line.{Line}
-use Rattle.rm_machine.specs.Effect.{Effect, done, told}
+use Rattle.rm_machine.specs.Effect.{Effect, done, refused, told}
 use Rattle.rm_base.specs.declared.refusal.Refusal.{Refusal}
-use Rattle.rm_machine.specs.Effect.{refused}
 use Rattle.rm_machine.specs.Step.{IsDone}
 use Rattle.rm_machine.specs.declared.handed.Handed.{Handed}
 use Rattle.rm_machine.specs.declared.state.State.{State}

@@ -6,6 +6,7 @@ use Rattle.rm_base.specs.declared.refusal.Refusal.TheVariants.{Rm11}
 use Rattle.rm_base.specs.declared.refusal.Limit.TheVariants.{ObjectIds}
 use Rattle.rm_catalog.specs.Objects.{most_bytes}
 use Rattle.rm_ledger.specs.Ledger.{Ledger, records_of}
+use Rattle.rm_repository.specs.Changes.{with_end_at}
 use Rattle.rm_repository.specs.Repository.{Repository}
 use Rattle.rm_machine.specs.declared.state.State.{State}
 use Rattle.rm_machine.specs.State.{ledger, current_of, now_of}
@@ -23,9 +24,18 @@ mark_now s = record { moment = (ledger s).base.moment; inc = current_of s; scn =
 abbrev pub marks_before : State → List Mark
 marks_before s = if nat_lt (last_marked 0 (ledger s).marks) (ledger s).base.moment then mark_now s ∷ [] else []
 
+-- a mark, if there is one, as a list
+abbrev pub listed : Option Mark → List Mark
+listed None = []
+listed (Some m) = m ∷ []
+
 -- with these marks more
 abbrev pub with_marks : Repository → List Mark → Repository
 with_marks r marks = record r { ledger = record r.ledger { marks = r.ledger.marks ++ marks } }
+
+-- the catalog with the mark before a change, and one SCN further
+abbrev pub one_further : State → Repository
+one_further s = with_end_at (with_marks s.catalog (marks_before s)) (current_of s) (now_of s + 1)
 
 -- n records more would be too many
 abbrev pub lacks_room : State → ℕ → Bool

@@ -1,19 +1,14 @@
 -- RESET DATABASE TO INCARNATION n
 use Rattle.std.specs.Prelude.{ℕ, ◌≡◌, ◌==◌, ◌||◌, nat_lt, if◌then◌else◌, false, Option, Some, None, [], ◌∷◌, length}
-use Rattle.std.specs.List.{list_all}
 use Rattle.rm_base.specs.declared.refusal.Refusal.{Refusal}
 use Rattle.rm_base.specs.declared.refusal.Refusal.TheVariants.{Rm04, Rm07}
-use Rattle.rm_redo.specs.Logs.{Logs}
+use Rattle.rm_redo.specs.Online.{counted_as}
 use Rattle.rm_report.specs.declared.line.Line.TheVariants.{Chosen}
 use Rattle.rm_repository.specs.Changes.{with_base}
 use Rattle.rm_machine.specs.Effect.{Outcome, done, no_effect}
 use Rattle.rm_machine.specs.Marks.{ids_refusal}
 use Rattle.rm_machine.specs.declared.state.State.{State}
 use Rattle.rm_machine.specs.State.{ledger, tree}
-
--- where all online logs are lost, they count as logs of this incarnation
-abbrev pub counted_as : Logs → ℕ → Logs
-counted_as logs i = if list_all (λ l. l.is_lost) logs.threads then record logs { inc = i } else logs
 
 -- why it is refused: the database is open, or the incarnation is not there
 abbrev pub reset_refusal : State → ℕ → Option Refusal

@@ -5,17 +5,22 @@ use Rattle.rm_base.specs.declared.block.Change.{Change}
 use Rattle.rm_base.specs.declared.refusal.Refusal.{Refusal}
 use Rattle.rm_base.specs.declared.refusal.Refusal.TheVariants.{Rm02, Rm03}
 use Rattle.rm_command.specs.declared.command.Command.{Command}
-use Rattle.rm_command.specs.declared.command.Command.TheVariants.{ArchiveLogCurrent, CreateDatabase, Mount, OpenPlain, Recover, RecoverTest, ResetDatabase, SwitchLogfile, Write}
+use Rattle.rm_command.specs.declared.command.Command.TheVariants.{ArchiveLogCurrent, Backup, CreateDatabase, CreateDatafile, Dump, ListIncarnation, Mount, OpenPlain, OpenResetlogs, Recover, RecoverTest, ResetDatabase, SwitchLogfile, Write}
 use Rattle.rm_lang.specs.IsCommand.{is_command}
 use Rattle.rm_report.specs.Reply as reply
 use Rattle.rm_report.specs.declared.line.Reply.{Reply}
 use Rattle.rm_machine.specs.Archive.{archive_all_refusal, IsArchiveOutcome}
+use Rattle.rm_machine.specs.Backup.{backup_refusal, IsBackupOutcome}
 use Rattle.rm_machine.specs.CreateDatabase.{IsCreateOutcome}
+use Rattle.rm_machine.specs.CreateDatafile.{datafile_refusal, IsDatafileOutcome}
+use Rattle.rm_machine.specs.Dump.{dump_refusal, IsDumpOutcome}
 use Rattle.rm_machine.specs.Effect.{Effect, LeavesObjects, Outcome, refused, told, done}
+use Rattle.rm_machine.specs.ListIncarnation.{IsListIncarnationOutcome}
 use Rattle.rm_machine.specs.Machine.{Machine, DigestsTell}
 use Rattle.rm_machine.specs.Marks.{ids_refusal}
 use Rattle.rm_machine.specs.Mount.{IsMountOutcome}
 use Rattle.rm_machine.specs.Open.{open_refusal, IsOpenOutcome}
+use Rattle.rm_machine.specs.OpenResetlogs.{resetlogs_refusal, IsResetlogsOutcome}
 use Rattle.rm_machine.specs.Recover.{BringsTruly, IsRecoverOutcome, recover_refusal}
 use Rattle.rm_machine.specs.RecoverTest.{IsTestOutcome, TellsTruly, test_refusal}
 use Rattle.rm_machine.specs.ResetDatabase.{reset_refusal, IsResetOutcome}
@@ -36,11 +41,15 @@ IsStatement c = (is_command c ≡ true) × HasContent c
 -- why the state alone refuses it
 abbrev pub refusal_of : State → Command → Option Refusal
 refusal_of s (CreateDatabase dbid threads scn) = Some Rm03
+refusal_of s (CreateDatafile blocks) = datafile_refusal s blocks
+refusal_of s (Dump f b) = dump_refusal s f b
 refusal_of s (Write w) = write_refusal s w
 refusal_of s (SwitchLogfile t) = switch_refusal s t
 refusal_of s ArchiveLogCurrent = archive_all_refusal s
+refusal_of s (Backup b) = backup_refusal s b
 refusal_of s Mount = ids_refusal s
 refusal_of s OpenPlain = open_refusal s
+refusal_of s OpenResetlogs = resetlogs_refusal s
 refusal_of s (Recover until) = recover_refusal s until
 refusal_of s (RecoverTest until inc) = test_refusal s until inc
 refusal_of s (ResetDatabase i) = reset_refusal s i
@@ -48,14 +57,19 @@ refusal_of s _ = None
 
 -- what it comes to otherwise, by what the store holds
 abbrev pub IsDone : State → Held → Command → Outcome → Type 0
+IsDone s held (CreateDatafile blocks) o = IsDatafileOutcome s blocks o
+IsDone s held (Dump f b) o = IsDumpOutcome s f b o
 IsDone s held (Write w) o = IsWriteOutcome s w o
 IsDone s held (SwitchLogfile t) o = IsSwitchOutcome s t o
 IsDone s held ArchiveLogCurrent o = IsArchiveOutcome s o
+IsDone s held (Backup b) o = IsBackupOutcome s b o
 IsDone s held Mount o = IsMountOutcome s o
 IsDone s held OpenPlain o = IsOpenOutcome s o
+IsDone s held OpenResetlogs o = IsResetlogsOutcome s o
 IsDone s held (Recover until) o = IsRecoverOutcome s held until o
 IsDone s held (RecoverTest until inc) o = IsTestOutcome s held until inc o
 IsDone s held (ResetDatabase i) o = IsResetOutcome s i o
+IsDone s held ListIncarnation o = IsListIncarnationOutcome s o
 IsDone s held _ o = ⊥
 
 abbrev pub IsOutcomeBy : Option Refusal → State → Held → Command → Outcome → Type 0

@@ -1,5 +1,5 @@
 -- WRITE [THREAD t] DATAFILE f BLOCK b VALUE 'v'
-use Rattle.std.specs.Prelude.{◌≡◌, ◌+◌, ◌-◌, ◌==◌, ◌||◌, nat_lt, nat_le, if◌then◌else◌, is_none, true, Option, Some, None, [], ◌∷◌, length, slice_set}
+use Rattle.std.specs.Prelude.{◌≡◌, ◌-◌, ◌==◌, ◌||◌, nat_lt, nat_le, if◌then◌else◌, is_none, true, Option, Some, None, [], ◌∷◌, length, slice_set}
 use Rattle.std.specs.Option.{option_map, option_map_or}
 use Rattle.rm_base.specs.Numbers.{last_scn}
 use Rattle.rm_base.specs.declared.block.Change.{Change}
@@ -12,9 +12,8 @@ use Rattle.rm_history.specs.declared.world.Datafile.{Datafile}
 use Rattle.rm_redo.specs.Online.{records_of, with_change}
 use Rattle.rm_command.specs.declared.command.WriteForm.{WriteForm}
 use Rattle.rm_report.specs.declared.line.Line.TheVariants.{Written}
-use Rattle.rm_repository.specs.Changes.{with_end_at}
 use Rattle.rm_machine.specs.Effect.{Outcome, done, no_effect}
-use Rattle.rm_machine.specs.Marks.{lacks_ids, lacks_room, marks_before, with_marks}
+use Rattle.rm_machine.specs.Marks.{lacks_ids, lacks_room, marks_before, one_further}
 use Rattle.rm_machine.specs.declared.state.State.{State}
 use Rattle.rm_machine.specs.State.{ledger, current_of, now_of, on_path, placed}
 
@@ -47,7 +46,7 @@ change_of s w = record { inc = current_of s; thread = w.thread; scn = now_of s; 
 abbrev pub with_write : State → WriteForm → State
 with_write s w =
     record {
-      catalog = with_end_at (with_marks s.catalog (marks_before s)) (current_of s) (now_of s + 1);
+      catalog = one_further s;
       instance = record s.instance {
         logs = with_change s.instance.logs (change_of s w);
         place = slice_set s.instance.place (w.file - 1) (option_map (λ x. written x w.block (now_of s) w.content) (placed s w.file));

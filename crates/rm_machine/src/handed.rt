@@ -1,7 +1,10 @@
 //! What a statement hands out.
-use rm_base::{Seq, Text};
+ghost use Rattle.std.specs.Prelude.{◌≡◌, [], ◌∷◌, IfOk};
+
+use rm_base::{NoMemory, Seq, Text};
 use rm_change::Object;
 use rm_report::Line;
+use std::alloc::Global;
 
 /// What a statement hands out: the lines of its reply, the objects that it makes, and the names from which
 /// objects go. Its edits stand beside it.
@@ -10,4 +13,19 @@ pub struct Handed {
     pub lines: Seq<Line>,
     pub objects: Seq<Object>,
     pub removes: Seq<Text>,
+}
+
+/// One line, of a statement that makes and removes no object. An error is want of memory.
+pub fn of_line(alloc: Global, line: Line) -> Result<Handed, NoMemory>
+    ensures lines { IfOk result (λ x. x.lines ≡ line ∷ []) }
+    ensures objects { IfOk result (λ x. x.objects ≡ []) }
+    ensures removes { IfOk result (λ x. x.removes ≡ []) }
+{
+    let mut lines = Seq::new(alloc);
+    lines.push(line)?;
+    Ok(Handed {
+        lines,
+        objects: Seq::new(alloc),
+        removes: Seq::new(alloc),
+    })
 }

@@ -6,6 +6,7 @@ ghost use Rattle.rm_base.specs.declared.block.Change.{Change};
 ghost use Rattle.rm_base.specs.declared.kinds.Bad.{Bad};
 ghost use Rattle.rm_blocks.specs.File.{File};
 ghost use Rattle.rm_command.specs.declared.command.Until.{Until};
+ghost use Rattle.rm_command.specs.declared.command.BackupForm.{BackupForm};
 ghost use Rattle.rm_command.specs.declared.command.WriteForm.{WriteForm};
 ghost use Rattle.rm_evidence.specs.declared.evidence.Evidence.{Evidence};
 ghost use Rattle.rm_evidence.specs.Known.{known_of};
@@ -19,7 +20,7 @@ ghost use Rattle.rm_machine.specs.Recovery.{FindsGap, IsAtHand, TellsAll};
 ghost use Rattle.rm_machine.specs.Sound.{IsSound};
 ghost use Rattle.rm_machine.specs.declared.state.State.{State};
 ghost use Rattle.rm_machine.specs.State.{at_moment, ledger, world};
-ghost use Rattle.rm_command.specs.declared.command.Command.TheVariants.{ArchiveLogCurrent, Mount, OpenPlain, Recover, RecoverTest, ResetDatabase, SwitchLogfile, Write};
+ghost use Rattle.rm_command.specs.declared.command.Command.TheVariants.{ArchiveLogCurrent, Backup, CreateDatafile, Dump, ListIncarnation, Mount, OpenPlain, OpenResetlogs, Recover, RecoverTest, ResetDatabase, SwitchLogfile, Write};
 
 /// There are sound machines: that of a new database is one.
 pub fn a_new_database_is_sound()
@@ -38,6 +39,18 @@ pub fn a_write_leads_on()
     ensures stays { (w : WriteForm) → StaysSound (Write w) }
 {}
 
+/// CREATE DATAFILE, likewise: a datafile is added.
+pub fn a_new_datafile_leads_on()
+    ensures leads { (blocks : ℕ) → LeadsOn (CreateDatafile blocks) }
+    ensures stays { (blocks : ℕ) → StaysSound (CreateDatafile blocks) }
+{}
+
+/// DUMP, likewise, since it only tells.
+pub fn a_dump_leads_on()
+    ensures leads { (file block : ℕ) → LeadsOn (Dump file block) }
+    ensures stays { (file block : ℕ) → StaysSound (Dump file block) }
+{}
+
 /// SWITCH LOGFILE, likewise: the log of a thread becomes an archived one.
 pub fn a_switch_leads_on()
     ensures leads { (thread : ℕ) → LeadsOn (SwitchLogfile thread) }
@@ -48,6 +61,12 @@ pub fn a_switch_leads_on()
 pub fn archiving_leads_on()
     ensures leads { LeadsOn ArchiveLogCurrent }
     ensures stays { StaysSound ArchiveLogCurrent }
+{}
+
+/// BACKUP of datafiles, likewise: its pieces agree with the history.
+pub fn a_backup_leads_on()
+    ensures leads { (form : BackupForm) → LeadsOn (Backup form) }
+    ensures stays { (form : BackupForm) → StaysSound (Backup form) }
 {}
 
 /// SHUTDOWN and STARTUP MOUNT, likewise: what is in place stands at `now`.
@@ -62,10 +81,22 @@ pub fn an_opening_leads_on()
     ensures stays { StaysSound OpenPlain }
 {}
 
+/// OPEN RESETLOGS, likewise: the logs are archived, and a new incarnation begins at the point.
+pub fn an_opening_with_resetlogs_leads_on()
+    ensures leads { LeadsOn OpenResetlogs }
+    ensures stays { StaysSound OpenResetlogs }
+{}
+
 /// RESET DATABASE, likewise: another incarnation is the current one.
 pub fn a_reset_leads_on()
     ensures leads { (inc : ℕ) → LeadsOn (ResetDatabase inc) }
     ensures stays { (inc : ℕ) → StaysSound (ResetDatabase inc) }
+{}
+
+/// LIST INCARNATION, likewise, since it only tells.
+pub fn a_list_of_incarnations_leads_on()
+    ensures leads { LeadsOn ListIncarnation }
+    ensures stays { StaysSound ListIncarnation }
 {}
 
 /// RECOVER DATABASE, likewise: each datafile of the target comes to stand in place as the history made it there.

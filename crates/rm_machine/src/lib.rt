@@ -1,9 +1,16 @@
 //! The machine: what a statement does to a database, by what is at hand, and the history behind it.
 #![tactic(auto)]
 
+pub mod built;
+pub mod facts;
 pub mod handed;
 pub mod laws;
+pub mod marks;
+pub mod replies;
+pub mod room;
 pub mod state;
 
+pub use built::is_built;
 pub use handed::Handed;
+pub use replies::refusal_reply;
 pub use state::{Instance, State};

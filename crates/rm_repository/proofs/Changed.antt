@@ -26,12 +26,13 @@ use Rattle.rm_ledger.specs.Ledger.{incarnation_record, datafile_record, mark_rec
 use Rattle.rm_ledger.proofs.Order.{Runs, incarnations_of, datafiles_of, logs_of, pieces_of, marks_of, incarnations-run, datafiles-run, logs-run, pieces-run, marks-run, marks-few, runs-append, runs-lower, runs-objects, runs-within}
 use Rattle.rm_ledger.proofs.Parts.{IsPart, after_both, more_part, part_then, put_part}
 use Rattle.rm_ledger.proofs.Sections.{numbered_part, replaced}
-use Rattle.rm_repository.specs.Changes.{EditsFollow, higher, lower, with_base, with_end_at, with_file, with_incarnation, with_log, with_mark, with_one, with_piece, without_log, without_piece, part_drop, saved_edits, unsaved_edits, with_saved, without_saved}
+use Rattle.rm_repository.specs.Changes.{EditsFollow, higher, lower, with_base, with_end_at, with_file, with_incarnation, with_log, with_mark, with_new_log, with_new_piece, with_one, with_piece, without_log, without_piece, part_drop, saved_edits, unsaved_edits, with_saved, without_saved}
 use Rattle.rm_base.specs.Numbers.{last_scn}
 use Rattle.rm_repository.specs.Facts.{IsRepository, IsSaved}
-use Rattle.rm_repository.specs.Fitting.{FitsBranch, FitsFile, FitsLog, FitsMark, FitsPiece}
+use Rattle.rm_repository.specs.Fitting.{FitsBranch, FitsFile, FitsLog, FitsMark, FitsNewLog, FitsNewPiece, FitsPiece}
 use Rattle.rm_repository.specs.Repository.{Repository, Saved, records_of, saved_records}
-use Rattle.rm_repository.proofs.Fitted.{branch_fits, end_fits, file_fits, log_fits, mark_fits, no_log_fits, no_piece_fits, piece_fits}
+use Rattle.rm_repository.proofs.Fitted.{branch_fits, drawn-piece, end_fits, file_fits, log_fits, mark_fits, new_log_fits, next_fits, no_log_fits, no_piece_fits, piece-last, piece_fits, with_next}
+use Rattle.rm_repository.proofs.Ones.{with-last}
 
 -- a part without edits
 same_part : (low high : ℕ) (rs : List Record) → Runs low high rs → IsPart low high [] rs rs
@@ -241,6 +242,19 @@ module _ (r : Repository) (is : IsRepository r) where
       (put-one kind.Log (λ x. x.id) 4 e.id (λ x. refl) (omega (arith, high, next)) e refl r.ledger.logs logs-small))
       (keep-p r is) (keep-m r is) (keep-x r is)
 
+  pub new-log-follows : (e : LogEntry) → FitsNewLog r e → IsRepository (with_new_log r e) → after_edits (Put (kind.Base (with_new_log r e).ledger.base) ∷ Put (kind.Log e) ∷ []) (records_of r) ≡ records_of (with_new_log r e)
+  new-log-follows e fits is' =
+      let some = is.ledger.base.next_id.0 in
+      let id = fits.id in
+      let last = fits.last in
+      let behind : All (λ x. x.id < e.id) r.ledger.logs = λ k d lt. let h = (is.ledger.ids.logs k d lt).1 in omega (arith, h, id) in
+      by-parts r (with_new_log r e) (Put (kind.Base (with_new_log r e).ledger.base) ∷ []) [] [] (Put (kind.Log e) ∷ []) [] [] []
+      (put_part (place 1 0) (place 2 0) (kind.Base (with_new_log r e).ledger.base) (base_of r) (base_of (with_new_log r e)) (omega arith, omega arith) (base-run r.ledger.base) (base-run (with_new_log r e).ledger.base) refl)
+      (keep-t r is) (keep-f r is)
+      (put_part (place 4 1) (place 5 0) (kind.Log e) (logs_of r.ledger) (logs_of (with_new_log r e).ledger) (omega (arith, some, id), omega (arith, last)) (logs-run r.ledger is.ledger) (logs-run (with_new_log r e).ledger is'.ledger)
+      (put-one kind.Log (λ x. x.id) 4 e.id (λ x. refl) (omega (arith, last)) e refl r.ledger.logs logs-small ∙ ap (map kind.Log) (with-last (λ x. x.id) e r.ledger.logs behind)))
+      (keep-p r is) (keep-m r is) (keep-x r is)
+
   pub piece-follows : (e : PieceEntry) → IsRepository (with_piece r e) → after_edits (Put (kind.Piece e) ∷ []) (records_of r) ≡ records_of (with_piece r e)
   piece-follows e is' =
       let next = is'.ledger.base.next_id.1 in
@@ -297,6 +311,11 @@ follows_branch old new r t parent at moment is fits more out =
 pub follows_log : (old new : List Edit) (r t : Repository) (e : LogEntry) → IsRepository r → FitsLog r e → new ≡ old ++ Put (kind.Log e) ∷ [] → t ≡ with_log r e → EditsFollow old new r t
 follows_log old new r t e is fits more out = follows-of old new (Put (kind.Log e) ∷ []) r (with_log r e) t more (log-follows r is e (log_fits r e is fits)) out
 
+pub follows_new_log : (old new : List Edit) (r t : Repository) (e : LogEntry) → IsRepository r → FitsNewLog r e → new ≡ old ++ Put (kind.Base (with_new_log r e).ledger.base) ∷ Put (kind.Log e) ∷ [] → t ≡ with_new_log r e → EditsFollow old new r t
+follows_new_log old new r t e is fits more out =
+    follows-of old new (Put (kind.Base (with_new_log r e).ledger.base) ∷ Put (kind.Log e) ∷ []) r (with_new_log r e) t more
+    (new-log-follows r is e fits (new_log_fits r e is fits)) out
+
 pub follows_no_log : (old new : List Edit) (r t : Repository) (n : ℕ) → IsRepository r → 1 ≤ n → n < 4294967296 → new ≡ old ++ Drop (record { kind = 4; id = n }) ∷ [] → t ≡ without_log r n → EditsFollow old new r t
 follows_no_log old new r t n is low small more out = follows-of old new (Drop (record { kind = 4; id = n }) ∷ []) r (without_log r n) t more (log-dropped r is n low (omega (arith, small)) (no_log_fits r n is)) out
 
@@ -305,6 +324,24 @@ follows_piece old new r t e is fits more out = follows-of old new (Put (kind.Pie
 
 pub follows_no_piece : (old new : List Edit) (r t : Repository) (n : ℕ) → IsRepository r → 1 ≤ n → n < 4294967296 → new ≡ old ++ Drop (record { kind = 5; id = n }) ∷ [] → t ≡ without_piece r n → EditsFollow old new r t
 follows_no_piece old new r t n is low small more out = follows-of old new (Drop (record { kind = 5; id = n }) ∷ []) r (without_piece r n) t more (piece-dropped r is n low (omega (arith, small)) (no_piece_fits r n is)) out
+
+-- a change after another one
+pub follows-then : (old mid new : List Edit) (r s t : Repository) → EditsFollow old mid r s → EditsFollow mid new s t → EditsFollow old new r t
+follows-then old mid new r s t first then = record { lead = λ rs from. then.lead rs (first.lead rs from) }
+
+pub follows_new_piece : (old new : List Edit) (r t : Repository) (e : PieceEntry) → IsRepository r → FitsNewPiece r e
+    → new ≡ old ++ Put (kind.Base (record r.ledger.base { next_id = r.ledger.base.next_id + 1 })) ∷ Put (kind.Piece e) ∷ [] → t ≡ with_new_piece r e → EditsFollow old new r t
+unfolding with_next
+follows_new_piece old new r t e is fits more out =
+    let n = r.ledger.base.next_id in
+    let same = fits.id in
+    let last = fits.last in
+    let base : BaseEntry = record r.ledger.base { next_id = n + 1 } in
+    let mid = old ++ Put (kind.Base base) ∷ [] in
+    let next = next_fits r (n + 1) is (omega arith) (omega (arith, same, last)) in
+    follows-then old mid new r (with_next r (n + 1)) t
+    (follows_base old mid r (with_next r (n + 1)) base is refl refl)
+    (follows_piece mid new (with_next r (n + 1)) t e next (drawn-piece r e is fits) (more ∙ sym (append_assoc old (Put (kind.Base base) ∷ []) (Put (kind.Piece e) ∷ []))) (out ∙ sym (piece-last r e is fits)))
 
 -- taking away what stands first
 drop-first : (key : Key) (r : Record) (rs : List Record) → place_of r ≡ place_of_key key → All (λ x. place_of_key key < place_of x) rs → after_edit (Drop key) (r ∷ rs) ≡ rs

@@ -24,9 +24,9 @@ use Rattle.rm_ledger.specs.Ledger.{records_of as ledger_records}
 use Rattle.rm_ledger.proofs.Keeping.{log_kept, mark_kept, pairs_append, piece_kept}
 use Rattle.rm_ledger.proofs.Order.{incarnations_of, datafiles_of, logs_of, pieces_of, marks_of, length-numbered}
 use Rattle.rm_ledger.proofs.Trees.{Keeps, keeps_branch, keeps_end, parents_below}
-use Rattle.rm_repository.specs.Changes.{with_base, with_end_at, with_file, with_incarnation, with_log, with_mark, with_new_log, with_piece, without_log, without_piece}
+use Rattle.rm_repository.specs.Changes.{with_base, with_end_at, with_file, with_incarnation, with_log, with_mark, with_new_log, with_new_piece, with_piece, without_log, without_piece}
 use Rattle.rm_repository.specs.Facts.{IsPartEntry, IsRepository, IsSaved}
-use Rattle.rm_repository.specs.Fitting.{FitsBase, FitsBranch, FitsFile, FitsLog, FitsMark, FitsPiece, HasRoomFor, LacksId}
+use Rattle.rm_repository.specs.Fitting.{FitsBase, FitsBranch, FitsFile, FitsLog, FitsMark, FitsNewLog, FitsNewPiece, FitsPiece, LacksId}
 use Rattle.rm_repository.specs.Repository.{Repository, Saved}
 use Rattle.rm_repository.proofs.Ones.{all-with, all-without, ascend-with, ascend-without, contains-with, contains-without, length-replaced, length-with, length-without, with-last}
 
@@ -554,10 +554,10 @@ no_piece_fits r n rules =
 -- A new object takes the next id.
 
 -- with a higher next id
-pub with_next : Repository → ℕ → Repository
+unfoldable pub with_next : Repository → ℕ → Repository
 with_next r n = with_base r (record r.ledger.base { next_id = n })
 
-next_fits : (r : Repository) (n : ℕ) → IsRepository r → r.ledger.base.next_id ≤ n → n ≤ 4294967295 → IsRepository (with_next r n)
+pub next_fits : (r : Repository) (n : ℕ) → IsRepository r → r.ledger.base.next_id ≤ n → n ≤ 4294967295 → IsRepository (with_next r n)
 unfolding with_next
 next_fits r n rules up most =
     let is = rules.ledger in
@@ -576,20 +576,55 @@ parts-lack l None none = tt
 parts-lack l (Some s) is = All-weaker (IsPartEntry l) (λ p. p.id ≡ l.base.next_id → ⊥) (λ p was same. let high = was.id.1 in omega (arith, high, same)) s.parts is.parts
 
 -- a new log
-pub new_log_fits : (r : Repository) (e : LogEntry) → IsRepository r → e.id ≡ r.ledger.base.next_id → e.id + 1 ≤ 4294967295 → IsLogEntry r.ledger.tree r.ledger.base.threads e → HasRoomFor r 1
-    → IsRepository (with_new_log r e)
+pub new_log_fits : (r : Repository) (e : LogEntry) → IsRepository r → FitsNewLog r e → IsRepository (with_new_log r e)
 unfolding with_next
-new_log_fits r e rules id most fits room =
+new_log_fits r e rules fits =
     let is = rules.ledger in
     let l = r.ledger in
     let n = l.base.next_id in
+    let id = fits.id in
+    let last = fits.last in
     let some = is.base.next_id.0 in
-    let next : IsRepository (with_next r (n + 1)) = next_fits r (n + 1) rules (omega arith) (omega (arith, id, most)) in
+    let next : IsRepository (with_next r (n + 1)) = next_fits r (n + 1) rules (omega arith) (omega (arith, id, last)) in
     let behind : All (λ x. x.id < e.id) l.logs = All-weaker (λ (x : LogEntry). (1 ≤ x.id) × (x.id < n)) (λ x. x.id < e.id) (λ x was. let high = was.1 in omega (arith, high, id)) l.logs is.ids.logs in
     let after : IsRepository (with_log (with_next r (n + 1)) e) = log_fits (with_next r (n + 1)) e next (record {
-      log = fits;
+      log = fits.log;
       id = record { range = (omega (arith, id, some), omega (arith, id)); parts = subst (λ (k : ℕ). IfSome r.saved (λ s. LacksId (λ p. p.id) k s.parts)) (sym id) (parts-lack l r.saved rules.saved) };
       other = All-weaker (λ (x : PieceEntry). (1 ≤ x.id) × (x.id < n)) (λ (x : PieceEntry). x.id ≡ e.id → ⊥) (λ x was same. let high = was.1 in omega (arith, high, id, same)) l.pieces is.ids.pieces;
-      room = inr room;
+      room = inr fits.room;
     }) in
     subst (λ (logs : List LogEntry). IsRepository (record r { ledger = record l { base = record l.base { next_id = n + 1 }; logs = logs } })) (with-last (λ x. x.id) e l.logs behind) after
+
+-- a new piece fits where its id was drawn
+pub drawn-piece : (r : Repository) (e : PieceEntry) → IsRepository r → FitsNewPiece r e → FitsPiece (with_next r (r.ledger.base.next_id + 1)) e
+unfolding with_next
+drawn-piece r e rules fits =
+    let is = rules.ledger in
+    let n = r.ledger.base.next_id in
+    let some = is.base.next_id.0 in
+    let same = fits.id in
+    record {
+      piece = fits.piece;
+      id = record { range = (omega (arith, same, some), omega (arith, same)); parts = subst (λ (k : ℕ). IfSome r.saved (λ s. LacksId (λ p. p.id) k s.parts)) (sym same) (parts-lack r.ledger r.saved rules.saved) };
+      other = All-weaker (λ (x : LogEntry). (1 ≤ x.id) × (x.id < n)) (λ (x : LogEntry). x.id ≡ e.id → ⊥) (λ x was clash. let high = was.1 in omega (arith, high, same, clash)) r.ledger.logs is.ids.logs;
+      room = inr fits.room;
+    }
+
+-- and then it stands behind all others
+pub piece-last : (r : Repository) (e : PieceEntry) → IsRepository r → FitsNewPiece r e → with_piece (with_next r (r.ledger.base.next_id + 1)) e ≡ with_new_piece r e
+unfolding with_next
+piece-last r e rules fits =
+    let l = r.ledger in
+    let n = l.base.next_id in
+    let same = fits.id in
+    ap (λ (pieces : List PieceEntry). record r { ledger = record l { base = record l.base { next_id = n + 1 }; pieces = pieces } })
+    (with-last (λ x. x.id) e l.pieces (All-weaker (λ (x : PieceEntry). (1 ≤ x.id) × (x.id < n)) (λ x. x.id < e.id) (λ x was. let high = was.1 in omega (arith, high, same)) l.pieces rules.ledger.ids.pieces))
+
+-- a new piece
+pub new_piece_fits : (r : Repository) (e : PieceEntry) → IsRepository r → FitsNewPiece r e → IsRepository (with_new_piece r e)
+new_piece_fits r e rules fits =
+    let n = r.ledger.base.next_id in
+    let same = fits.id in
+    let last = fits.last in
+    let next = next_fits r (n + 1) rules (omega arith) (omega (arith, same, last)) in
+    subst IsRepository (piece-last r e rules fits) (piece_fits (with_next r (n + 1)) e next (drawn-piece r e rules fits))

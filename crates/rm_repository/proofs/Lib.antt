@@ -1,6 +1,5 @@
 pub mod ByKind
 pub mod Changed
-pub mod Splits
 pub mod Fitted
 pub mod Ledgers
 pub mod Loads
@@ -8,8 +7,9 @@ pub mod Marks
 pub mod Members
 pub mod Ones
 pub mod Saves
+pub mod Splits
 pub mod Takes
 pub mod Things
 pub mod Told
-pub mod Wholes
 pub mod Valid
+pub mod Wholes

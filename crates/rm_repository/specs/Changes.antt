@@ -70,6 +70,10 @@ with_piece r e = with_ledger r (record r.ledger { pieces = with_one (λ x. x.id)
 abbrev pub with_new_log : Repository → LogEntry → Repository
 with_new_log r e = with_ledger r (record r.ledger { base = record r.ledger.base { next_id = r.ledger.base.next_id + 1 }; logs = r.ledger.logs ++ e ∷ [] })
 
+-- with a piece more, which takes the next id
+abbrev pub with_new_piece : Repository → PieceEntry → Repository
+with_new_piece r e = with_ledger r (record r.ledger { base = record r.ledger.base { next_id = r.ledger.base.next_id + 1 }; pieces = r.ledger.pieces ++ e ∷ [] })
+
 -- without the log or the piece of this id
 abbrev pub without_log : Repository → ℕ → Repository
 without_log r n = with_ledger r (record r.ledger { logs = without_one (λ x. x.id) n r.ledger.logs })

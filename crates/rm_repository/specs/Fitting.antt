@@ -67,9 +67,23 @@ pub record FitsLog (r : Repository) (e : LogEntry) : Type 0 where
   pub other : LacksId (λ p. p.id) e.id r.ledger.pieces
   pub room : HasId (λ x. x.id) e.id r.ledger.logs ⊎ HasRoomFor r 1
 
--- a piece likewise
+-- a log more, which takes the next id
+pub record FitsNewLog (r : Repository) (e : LogEntry) : Type 0 where
+  pub log : IsLogEntry r.ledger.tree r.ledger.base.threads e
+  pub id : e.id ≡ r.ledger.base.next_id
+  pub last : e.id < 4294967295
+  pub room : HasRoomFor r 1
+
+-- a piece, which comes in place of that of its id, or for which there is room
 pub record FitsPiece (r : Repository) (p : PieceEntry) : Type 0 where
   pub piece : IsPieceEntry r.ledger.tree r.ledger.files p
   pub id : IsObjectId r p.id
   pub other : LacksId (λ e. e.id) p.id r.ledger.logs
   pub room : HasId (λ x. x.id) p.id r.ledger.pieces ⊎ HasRoomFor r 1
+
+-- a piece more, which takes the next id
+pub record FitsNewPiece (r : Repository) (p : PieceEntry) : Type 0 where
+  pub piece : IsPieceEntry r.ledger.tree r.ledger.files p
+  pub id : p.id ≡ r.ledger.base.next_id
+  pub last : p.id < 4294967295
+  pub room : HasRoomFor r 1

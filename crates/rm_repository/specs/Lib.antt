@@ -4,3 +4,4 @@ pub mod Fitting
 pub mod Kinds
 pub mod Loading
 pub mod Repository
+pub mod Starting

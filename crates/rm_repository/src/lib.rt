@@ -10,6 +10,8 @@ mod log_ids;
 mod objects;
 mod piece_ids;
 mod saved;
+mod starting;
 mod telling;
 
 pub use catalog::{Catalog, Saved};
+pub use starting::Earlier;

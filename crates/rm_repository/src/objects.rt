@@ -1,13 +1,13 @@
 //! Changes of logs and pieces. Each adds the edit that makes the records follow.
 ghost use Rattle.std.specs.Prelude.{◌≡◌, ◌≤◌, OnOk, OnErr};
-ghost use Rattle.rm_repository.specs.Changes.{EditsFollow, with_log, with_piece, without_log, without_piece};
-ghost use Rattle.rm_repository.specs.Fitting.{FitsLog, FitsPiece};
+ghost use Rattle.rm_repository.specs.Changes.{EditsFollow, with_log, with_new_log, with_new_piece, with_piece, without_log, without_piece};
+ghost use Rattle.rm_repository.specs.Fitting.{FitsLog, FitsNewLog, FitsNewPiece, FitsPiece};
 
 use crate::catalog::Catalog;
-use crate::edits::push;
+use crate::edits::{push, push_both};
 use crate::{log_ids, piece_ids};
 use rm_base::NoMemory;
-use rm_catalog::{Edit, Key, LogEntry, PieceEntry, Record};
+use rm_catalog::{BaseEntry, Edit, Key, LogEntry, PieceEntry, Record};
 use std::alloc::Global;
 
 impl Catalog {
@@ -23,6 +23,28 @@ impl Catalog {
         edits.reserve(1)?;
         log_ids::put_log(&mut self.logs, log)?;
         push(edits, Edit::Put(Record::Log(log)));
+        Ok(())
+    }
+
+    /// Adds a log under the next id, which is below 4,294,967,295 and is raised.
+    pub fn add_log(&mut self, edits: &mut Vec<Edit>, log: LogEntry) -> Result<(), NoMemory>
+        requires fits { FitsNewLog self.old log }
+        ensures after { OnOk result (self.new ≡ with_new_log self.old log) }
+        ensures edits { OnOk result (EditsFollow edits.old.items edits.new.items self.old self.new) }
+        ensures same { OnErr result (self.new ≡ self.old) }
+        ensures unedited { OnErr result (edits.new.items ≡ edits.old.items) }
+    {
+        edits.reserve(2)?;
+        self.logs.push(log)?;
+        self.base = BaseEntry {
+            next_id: self.base.next_id + 1,
+            ..self.base
+        };
+        push_both(
+            edits,
+            Edit::Put(Record::Base(self.base)),
+            Edit::Put(Record::Log(log)),
+        );
         Ok(())
     }
 
@@ -58,6 +80,35 @@ impl Catalog {
         let copy = piece.copy(alloc)?;
         piece_ids::put_piece(&mut self.pieces, piece)?;
         push(edits, Edit::Put(Record::Piece(copy)));
+        Ok(())
+    }
+
+    /// Adds a piece under the next id, which is below 4,294,967,295 and is raised.
+    pub fn add_piece(
+        &mut self,
+        alloc: Global,
+        edits: &mut Vec<Edit>,
+        piece: PieceEntry,
+    ) -> Result<(), NoMemory>
+        requires fits { FitsNewPiece self.old piece }
+        ensures after { OnOk result (self.new ≡ with_new_piece self.old piece) }
+        ensures edits { OnOk result (EditsFollow edits.old.items edits.new.items self.old self.new) }
+        ensures same { OnErr result (self.new ≡ self.old) }
+        ensures unedited { OnErr result (edits.new.items ≡ edits.old.items) }
+    {
+        edits.reserve(2)?;
+        let copy = piece.copy(alloc)?;
+        let next_id = piece.id + 1;
+        self.pieces.push(piece)?;
+        self.base = BaseEntry {
+            next_id,
+            ..self.base
+        };
+        push_both(
+            edits,
+            Edit::Put(Record::Base(self.base)),
+            Edit::Put(Record::Piece(copy)),
+        );
         Ok(())
     }
 

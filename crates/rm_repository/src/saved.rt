@@ -21,7 +21,7 @@ fn put_site(edits: &mut Vec<Edit>, saved: &Saved) -> Result<(), NoMemory>
 }
 
 // Drops a saved site, if there is one.
-fn drop_site(edits: &mut Vec<Edit>, saved: &Option<Saved>) -> Result<(), NoMemory>
+pub(crate) fn drop_site(edits: &mut Vec<Edit>, saved: &Option<Saved>) -> Result<(), NoMemory>
     ensures items { OnOk result (edits.new.items ≡ edits.old.items ++ unsaved_edits saved.now) }
     ensures unedited { OnErr result (edits.new.items ≡ edits.old.items) }
 {

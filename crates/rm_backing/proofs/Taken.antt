@@ -1,0 +1,72 @@
+-- The datafiles that a backup takes, one after another.
+use Rattle.std.proofs.Common.{◌≡◌, ◌<◌, ◌≤◌, ◌+◌, ◌-◌, ◌*◌, ◌∙◌, ℕ, zero, suc, List, [], ◌∷◌, Some, None, Bool, true, false, cond, ap, arith, length, get_or, drop, sum_by, slice_get}
+use Rattle.std.specs.Option.{option_map_or}
+use Rattle.std.proofs.lemmas.Bool.{ne_eqb}
+use Rattle.std.proofs.lemmas.List.Elements.{All-get_or}
+use Rattle.std.proofs.lemmas.List.Sums.{sum_by-cons}
+use Rattle.std.proofs.lemmas.Option.{slice_get-get_or}
+use Rattle.rm_command.specs.declared.command.BackupForm.{BackupForm}
+use Rattle.rm_history.specs.declared.world.Datafile.{Datafile}
+use Rattle.rm_history.specs.declared.world.World.{World}
+use Rattle.rm_history.specs.World.{file_of}
+use Rattle.rm_ledger.specs.Facts.{IsCreated}
+use Rattle.rm_machine.specs.Backup.{is_taken, piece_bytes, taken_from}
+use Rattle.rm_machine.specs.Sound.{IsSound}
+use Rattle.rm_machine.specs.declared.state.State.{State}
+use Rattle.rm_machine.specs.State.{ledger, tree, world}
+
+-- those from the datafile at place k on
+taken-at : (s : State) (b : BackupForm) (f : ℕ) (ds : List Datafile) (k : ℕ) (d : Datafile) (t : Bool) → k < length ds → is_taken s b f (get_or ds k d) ≡ t → taken_from s b f (drop k ds) ≡ cond t (f ∷ taken_from s b (f + 1) (drop (suc k) ds)) (taken_from s b (f + 1) (drop (suc k) ds))
+taken-at s b f [] k d t inside is = absurd (omega (arith, inside))
+taken-at s b f (e ∷ ds) zero d t inside is = ap (λ x. cond x (f ∷ taken_from s b (f + 1) ds) (taken_from s b (f + 1) ds)) is
+taken-at s b f (e ∷ ds) (suc k) d t inside is = taken-at s b f ds k d t (omega (arith, inside)) is
+
+pub taken-next : (s : State) (b : BackupForm) (f : ℕ) (ds : List Datafile) (k : ℕ) (d : Datafile) (t : Bool) → k < length ds → is_taken s b f (get_or ds k d) ≡ t → taken_from s b f (drop k ds) ≡ cond t (f ∷ taken_from s b (f + 1) (drop (k + 1) ds)) (taken_from s b (f + 1) (drop (k + 1) ds))
+taken-next s b f ds k d t inside is =
+    let e : suc k ≡ k + 1 = omega arith in
+    taken-at s b f ds k d t inside is ∙ ap (λ n. cond t (f ∷ taken_from s b (f + 1) (drop n ds)) (taken_from s b (f + 1) (drop n ds))) e
+
+-- What they take
+
+abbrev pub no_datafile : Datafile
+no_datafile = record { inc = 0; creation = 0; blocks = 0 }
+
+-- the datafile at place k has the number k + 1
+file-at : (w : World) (k : ℕ) (d : Datafile) → slice_get w.files k ≡ Some d → file_of w (k + 1) ≡ Some d
+file-at w k d is =
+    let back : k + 1 - 1 ≡ k = omega arith in
+    ap (λ t. cond t None (slice_get w.files (k + 1 - 1))) (ne_eqb (k + 1) 0 (λ e. omega (arith, e))) ∙ ap (slice_get w.files) back ∙ is
+
+-- the size of the piece of the datafile at place k
+bytes-at : (s : State) (k : ℕ) (d : Datafile) → k < length (ledger s).files → piece_bytes s (k + 1) ≡ 82 + 76 * (get_or (ledger s).files k d).blocks
+bytes-at s k d inside =
+    ap (λ o. 82 + 76 * option_map_or (λ (x : Datafile). x.blocks) o 0)
+    (file-at (world s) k (get_or (ledger s).files k d) (slice_get-get_or (ledger s).files k d inside))
+
+-- the sum of their sizes, one datafile on
+pub bytes-next : (s : State) (b : BackupForm) (k : ℕ) (d : Datafile) (t : Bool) → k < length (ledger s).files → is_taken s b (k + 1) (get_or (ledger s).files k d) ≡ t
+    → sum_by (piece_bytes s) (taken_from s b (k + 1) (drop k (ledger s).files)) ≡ cond t (82 + 76 * (get_or (ledger s).files k d).blocks) 0 + sum_by (piece_bytes s) (taken_from s b (k + 1 + 1) (drop (k + 1) (ledger s).files))
+bytes-next s b k d t inside is = ap (sum_by (piece_bytes s)) (taken-next s b (k + 1) (ledger s).files k d t inside is) ∙ by t
+  where
+    rest : List ℕ
+    rest = taken_from s b (k + 1 + 1) (drop (k + 1) (ledger s).files)
+
+    by : (t : Bool) → sum_by (piece_bytes s) (cond t ((k + 1) ∷ rest) rest) ≡ cond t (82 + 76 * (get_or (ledger s).files k d).blocks) 0 + sum_by (piece_bytes s) rest
+    by true = sum_by-cons (piece_bytes s) (k + 1) rest ∙ ap (λ n. n + sum_by (piece_bytes s) rest) (bytes-at s k d inside)
+    by false = omega arith
+
+-- each datafile has 65,536 blocks at most
+created-at : (s : State) (k : ℕ) (d : Datafile) → IsSound s → k < length (ledger s).files → IsCreated (tree s) (get_or (ledger s).files k d)
+created-at s k d sound inside = All-get_or (IsCreated (tree s)) (ledger s).files k d inside sound.catalog.ledger.datafiles.each
+
+pub blocks-few : (s : State) (k : ℕ) (d : Datafile) → IsSound s → k < length (ledger s).files → (get_or (ledger s).files k d).blocks ≤ 65536
+blocks-few s k d sound inside = (created-at s k d sound inside).blocks.1
+
+-- and was created at an SCN
+pub creation-some : (s : State) (k : ℕ) (d : Datafile) → IsSound s → k < length (ledger s).files → 0 < (get_or (ledger s).files k d).creation
+creation-some s k d sound inside =
+    let at = created-at s k d sound inside in
+    let range = sound.catalog.ledger.incarnations.ranges (get_or (ledger s).files k d).inc at.there in
+    let low = range.0 in
+    let from = at.creation.0 in
+    omega (arith, low, from)

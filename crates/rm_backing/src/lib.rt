@@ -1,0 +1,10 @@
+//! BACKUP of datafiles, over the state of a database.
+#![tactic(auto)]
+
+mod datafiles;
+mod pieces;
+pub mod refusing;
+pub mod statement;
+
+pub use refusing::backup_refusal;
+pub use statement::backup;

@@ -1,0 +1,93 @@
+-- What is handed out and carried out is a step.
+use Rattle.std.proofs.Common.{◌≡◌, ◌∙◌, ℕ, List, Option, Some, None, refl, ap, sym, subst}
+use Rattle.rm_base.specs.Store.{Held}
+use Rattle.rm_base.specs.declared.refusal.Refusal.{Refusal}
+use Rattle.rm_catalog.specs.declared.record.Record.{Record}
+use Rattle.rm_catalog.specs.Edits.{after_edits}
+use Rattle.rm_change.specs.declared.change.Change.{Change}
+use Rattle.rm_change.specs.Carrying.{Carried, Leads, Outside}
+use Rattle.rm_change.specs.Names.{HasPuts, HasRemoves}
+use Rattle.rm_command.specs.declared.command.Command.{Command}
+use Rattle.rm_report.specs.Reply.{refused_by, said}
+use Rattle.rm_report.specs.declared.line.Line.{Line}
+use Rattle.rm_report.specs.declared.line.Reply.{Reply}
+use Rattle.rm_machine.specs.Effect.{Effect, LeavesObjects, Outcome, done, refused, told}
+use Rattle.rm_machine.specs.Laws.{LeadsOn}
+use Rattle.rm_machine.specs.Machine.{DigestsTell, IsSoundMachine, Machine}
+use Rattle.rm_machine.specs.declared.state.State.{State}
+use Rattle.rm_machine.specs.Step.{IsStatement, Step, StepBy, StepIn}
+use Rattle.rm_frame.specs.Carries.{IsHanded, IsOutcomeIn}
+use Rattle.rm_frame.specs.Holds.{Holds, records, records_in}
+use Rattle.rm_frame.specs.Moments.{IsMomentIn}
+use Rattle.rm_frame.specs.Steps.{StepsAt}
+use Rattle.rm_frame.proofs.Founding.{without-leads}
+
+-- what is at hand leads a sound machine on to a sound one, from a database or none
+abbrev pub LeadsFrom : Option State → Command → Type 0
+LeadsFrom o c =
+    (m : Machine) (moment : ℕ) (lines : List Line) (effect : Effect) (t : State) (after : Held)
+    → IsStatement c → m.state ≡ o → IsSoundMachine m → DigestsTell m → IsMomentIn o moment
+    → IsOutcomeIn o m.objects c moment (done lines effect t) → LeavesObjects effect m.objects after
+    → (n : Machine) × StepBy m c (done lines effect t) (said lines) n × (n.objects ≡ after) × IsSoundMachine n
+
+pub leads-from : (c : Command) → LeadsOn c → (o : Option State) → LeadsFrom o c
+leads-from c law None = λ m moment lines effect t after well is sound tell at comes leaves. without-leads c m moment lines effect t after well is sound at.last comes leaves
+leads-from c law (Some s) = λ m moment lines effect t after well is sound tell at comes leaves.
+    law m s moment lines effect t after well is sound tell (record { kept = at.kept; last = at.last }) comes leaves
+
+-- what a statement comes to is its step
+pub step-in : (o : Option State) (m : Machine) (c : Command) (moment : ℕ) (r : Outcome) (reply : Reply) (n : Machine) → m.state ≡ o → IsOutcomeIn o m.objects c moment r → StepBy m c r reply n → Step m c moment reply n
+step-in None m c moment r reply n is comes by = subst (λ x. StepIn x m c moment reply n) (sym is) (r, comes, by)
+step-in (Some s) m c moment r reply n is comes by = subst (λ x. StepIn x m c moment reply n) (sym is) (r, comes, by)
+
+-- the machine after the whole of it
+pub record IsFinished (m : Machine) (c : Command) (moment : ℕ) (lines : List Line) (t : State) (objects : Held) : Type 0 where
+  pub machine : Machine
+  pub step : Step m c moment (said lines) machine
+  pub state : machine.state ≡ Some t
+  pub objects_are : machine.objects ≡ objects
+  pub sound : IsSoundMachine machine
+
+module _ (c : Command) (law : LeadsOn c) (held : Option Held) (kept : Option (List Record)) (o : Option State) (moment : ℕ) (lines : List Line) (x : Change) (t : State)
+    (well : IsStatement c) (at : IsMomentIn o moment) (handed : IsHanded held o c moment lines x t) where
+  pub finished : (m : Machine) → m.state ≡ o → Holds held kept m → DigestsTell m → (put objects : Held) → HasPuts x.objects m.objects put → HasRemoves x.removes put objects
+      → IsFinished m c moment lines t objects
+  finished m is holds tell put objects puts removes =
+      let comes = handed.comes m.objects holds.store in
+      let leaves : LeavesObjects handed.effect m.objects objects = record {
+        put = put;
+        puts = subst (λ y. HasPuts y m.objects put) handed.puts puts;
+        removes = subst (λ y. HasRemoves y put objects) handed.removes removes;
+      } in
+      let on = leads-from c law o m moment lines handed.effect t objects well is holds.sound tell at comes leaves in
+      record { machine = on.0; step = step-in o m c moment (done lines handed.effect t) (said lines) on.0 is comes on.1; state = on.1.1.state; objects_are = on.2; sound = on.3 }
+
+  -- the records after it
+  pub edited : (m n : Machine) (rs : List Record) → m.state ≡ o → n.state ≡ Some t → rs ≡ after_edits x.edits (records m) → rs ≡ records n
+  edited m n rs is to made = made ∙ ap (λ (y : Option State). after_edits x.edits (records_in y)) is ∙ handed.edits ∙ sym (ap records_in to)
+
+  pub carried-on : (held' : Option Held) (kept' : Option (List Record)) → Leads (Carried x) held kept held' kept' → StepsAt held kept o c moment (said lines) held' kept' (Some t)
+  carried-on held' kept' leads m is holds tell =
+      let before : Outside = record { objects = m.objects; records = records m } in
+      let all = leads before (record { store = holds.store; keeper = holds.keeper }) in
+      let last = finished m is holds tell all.1.put all.0.objects all.1.puts all.1.removes in (
+        last.machine,
+        last.step,
+        last.state,
+        record {
+          store = all.2.store ∙ ap Some (sym last.objects_are);
+          keeper = all.2.keeper ∙ ap Some (edited m last.machine all.0.records is last.state all.1.records);
+          sound = last.sound;
+        },
+      )
+
+-- a refusal is a step to the same machine, and so is what only tells
+pub refused-step : (held : Option Held) (kept : Option (List Record)) (o : Option State) (c : Command) (moment : ℕ) (r : Refusal)
+    → ((objects : Held) → held ≡ Some objects → IsOutcomeIn o objects c moment (refused r)) → StepsAt held kept o c moment (refused_by r) held kept o
+refused-step held kept o c moment r comes m is holds tell =
+    (m, step-in o m c moment (refused r) (refused_by r) m is (comes m.objects holds.store) (refl, refl), is, holds)
+
+pub told-step : (held : Option Held) (kept : Option (List Record)) (o : Option State) (c : Command) (moment : ℕ) (lines : List Line)
+    → ((objects : Held) → held ≡ Some objects → IsOutcomeIn o objects c moment (told lines)) → StepsAt held kept o c moment (said lines) held kept o
+told-step held kept o c moment lines comes m is holds tell =
+    (m, step-in o m c moment (told lines) (said lines) m is (comes m.objects holds.store) (refl, refl), is, holds)

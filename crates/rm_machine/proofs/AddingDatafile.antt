@@ -1,0 +1,298 @@
+-- CREATE DATAFILE leads on: one SCN further, a datafile is added.
+use Rattle.std.proofs.Common.{◌≡◌, ◌≢◌, ◌<◌, ◌≤◌, ◌+◌, ◌-◌, ◌∙◌, ◌++◌, ◌⊎◌, ◌^◌, nat_lt, nat_le, inl, inr, ℕ, zero, suc, List, [], ◌∷◌, Option, Some, None, true, cond, refl, ap, sym, subst, arith, length, length-append, All, Contains, slice_get, slice_index_or, sum_by}
+use Rattle.std.specs.Option.{option_map_or}
+use Rattle.std.proofs.lemmas.Bool.{and_parts, leb-false, leb-true, ne_eqb}
+use Rattle.std.proofs.lemmas.List.{length-set}
+use Rattle.std.proofs.lemmas.List.Elements.{All-contains, All-contains_itself, All-nil, All-push, All-weaker}
+use Rattle.std.proofs.lemmas.Option.{slice_get_within}
+use Rattle.rm_base.specs.Numbers.{last_scn}
+use Rattle.rm_base.specs.Store.{Held}
+use Rattle.rm_base.specs.declared.block.Change.{Change}
+use Rattle.rm_base.specs.declared.block.Row.{Row}
+use Rattle.rm_base.specs.declared.refusal.Refusal.TheVariants.{Rm04, Rm11, Rm15}
+use Rattle.rm_base.specs.declared.refusal.Limit.TheVariants.{Files, FileBlocks, Blocks, Records, ObjectIds}
+use Rattle.rm_base.proofs.Conditions.{only-where, unless}
+use Rattle.rm_base.proofs.Slots.{get-index, get-push, index-get}
+use Rattle.rm_blocks.specs.File.{File, base_of, created, created_row, created_rows, standing}
+use Rattle.rm_blocks.proofs.Rows.{in_order-created, length-created}
+use Rattle.rm_command.specs.declared.command.Command.TheVariants.{CreateDatafile}
+use Rattle.rm_history.specs.Agrees.{BaseAgrees}
+use Rattle.rm_history.specs.declared.tree.Incarnation.{Incarnation}
+use Rattle.rm_history.specs.declared.world.Datafile.{Datafile}
+use Rattle.rm_history.specs.declared.world.World.{World}
+use Rattle.rm_history.specs.State.{state}
+use Rattle.rm_history.specs.Tree.{IsThere, reset_of}
+use Rattle.rm_history.specs.World.{creation_of, file_of, with_file}
+use Rattle.rm_history.proofs.Below.{state-untouched}
+use Rattle.rm_history.proofs.Highs.{high-bound}
+use Rattle.rm_history.proofs.Histories.{IsHistory-with_file}
+use Rattle.rm_history.proofs.Worlds.{BaseAgrees-with_file, Level1Agrees-with_file, file-there, state-kept}
+use Rattle.rm_lang.specs.IsCommand.{is_command}
+use Rattle.rm_ledger.specs.Ledger.{records_of}
+use Rattle.rm_repository.specs.Fitting.{FitsFile, HasRoomFor}
+use Rattle.rm_repository.proofs.Fitted.{file_fits, many}
+use Rattle.rm_machine.specs.CreateDatafile.{datafile_refusal, new_datafile, room_refusal, with_datafile}
+use Rattle.rm_machine.specs.Effect.{Made}
+use Rattle.rm_machine.specs.Machine.{HistoryFits, IsBorneOut, RowsAre}
+use Rattle.rm_machine.specs.Marks.{lacks_ids, lacks_room, marks_before, one_further}
+use Rattle.rm_machine.specs.Sound.{IsPlaced, IsPlacedRow, IsSound}
+use Rattle.rm_machine.specs.declared.state.State.{State}
+use Rattle.rm_machine.specs.State.{ledger, world, current_of, now_of, placed}
+use Rattle.rm_machine.proofs.Further.{GoesOn, catalog-further, fits-further, further, keeps-further, now-further, roomy-either, rows-further, same-further, sound-further}
+use Rattle.rm_machine.proofs.Grown.{SameHistory, true-on}
+use Rattle.rm_machine.proofs.Kept.{kept-on, stand-same}
+use Rattle.rm_machine.proofs.Leading.{LeadsOnBy, StaysBy}
+use Rattle.rm_machine.proofs.Opened.{rows-agree}
+use Rattle.rm_machine.proofs.Places.{counted-open, placed-is}
+use Rattle.rm_machine.proofs.Quiet.{quiet-on, quiet-stays}
+use Rattle.rm_machine.proofs.Switching.{not-above}
+
+-- A CREATE DATAFILE that was not refused
+
+pub record HasRoom (s : State) (blocks : ℕ) : Type 0 where
+  pub on : GoesOn s
+  pub few : length (ledger s).files < 64
+  pub most : blocks ≤ 65536
+  pub fit : sum_by (λ d. d.blocks) (ledger s).files + blocks ≤ 131072
+  pub room : length (records_of (ledger s)) + (length (marks_before s) + 1) ≤ 65536
+
+pub has-room : (s : State) (blocks : ℕ) → datafile_refusal s blocks ≡ None → HasRoom s blocks
+has-room s blocks is =
+    let n = length (marks_before s) + 1 in
+    let mode = only-where s.instance.is_open (room_refusal s blocks) (Rm04 true) is in
+    let few = unless (nat_le 64 (length (ledger s).files)) (Rm11 Files) _ mode.1 in
+    let most = unless (nat_lt 65536 blocks) (Rm11 FileBlocks) _ few.1 in
+    let fit = unless (nat_lt 131072 (sum_by (λ d. d.blocks) (ledger s).files + blocks)) (Rm11 Blocks) _ most.1 in
+    let room = unless (lacks_room s n) (Rm11 Records) _ fit.1 in
+    let ids = unless (lacks_ids s 0) (Rm11 ObjectIds) _ room.1 in
+    let scn = unless (nat_le last_scn (now_of s)) Rm15 None ids.1 in
+    let roomy : length (records_of (ledger s)) + n ≤ 65536 = elim (roomy-either n (length (records_of (ledger s)) + n) room.0) [
+      | inl none ↦ absurd (omega (arith, none))
+      | inr some ↦ some
+    ] in
+    record {
+      on = record { opened = mode.0; room = omega (arith, roomy); below = leb-false last_scn (now_of s) scn.0 };
+      few = leb-false 64 (length (ledger s).files) few.0;
+      most = not-above 65536 blocks most.0;
+      fit = not-above 131072 (sum_by (λ d. d.blocks) (ledger s).files + blocks) fit.0;
+      room = roomy;
+    }
+
+-- A new datafile
+
+-- what is true of the row of each block is true of all rows of a new datafile
+created-all : (P : Row → Type 0) (creation : ℕ) → ((b : ℕ) → P (created_row creation b)) → (blocks : ℕ) → All P (created_rows creation blocks)
+created-all P creation each zero = All-nil P
+created-all P creation each (suc b) = All-push P (created_rows creation b) (created_row creation b) (created-all P creation each b) (each b)
+
+get-last : (xs : List Datafile) (y : Datafile) → slice_get (xs ++ y ∷ []) (length xs) ≡ Some y
+get-last [] y = refl
+get-last (x ∷ xs) y = get-last xs y
+
+-- it has the next number
+file_of-new : (w : World) (new : Datafile) → file_of (with_file w new) (length w.files + 1) ≡ Some new
+file_of-new w new =
+    let back : length w.files + 1 - 1 ≡ length w.files = omega arith in
+    ap (λ b. cond b None (slice_get (w.files ++ new ∷ []) (length w.files + 1 - 1))) (ne_eqb (length w.files + 1) 0 (λ e. omega (arith, e)))
+    ∙ ap (slice_get (w.files ++ new ∷ [])) back ∙ get-last w.files new
+
+-- a datafile that is there has no higher number
+file-inside : (w : World) (f : ℕ) (d : Datafile) → file_of w f ≡ Some d → f ≤ length w.files
+file-inside w f d is =
+    let there = file-there w f d is in
+    let inside = slice_get_within w.files (f - 1) d there.1 in
+    omega (arith, there.0, inside)
+
+-- what stands in place after one more was put there
+placed-push : (place : List (Option File)) (new : Option File) (k : ℕ) (x : File) → slice_index_or (place ++ new ∷ []) k None ≡ Some x → (slice_index_or place k None ≡ Some x) ⊎ (new ≡ Some x)
+placed-push place new k x is = elim (get-push place new (Some x) k (get-index (place ++ new ∷ []) k x is)) [
+  | inl last ↦ inr last.1
+  | inr old ↦ inl (index-get place k x old)
+]
+
+module _ (s : State) (blocks : ℕ) (sound : IsSound s) (a : HasRoom s blocks) (some : 1 ≤ blocks) where
+  abbrev i : ℕ
+  i = current_of s
+
+  abbrev now : ℕ
+  now = now_of s
+
+  abbrev p : State
+  p = further s
+
+  abbrev q : State
+  q = with_datafile s blocks
+
+  abbrev tree : List Incarnation
+  tree = q.catalog.ledger.tree
+
+  abbrev files : List Datafile
+  files = s.catalog.ledger.files
+
+  abbrev d : Datafile
+  d = new_datafile s blocks
+
+  abbrev file : File
+  file = created (length files + 1) i now blocks
+
+  there : IsThere s.catalog.ledger.tree i
+  there = sound.catalog.ledger.current
+
+  end : now_of p ≡ now + 1
+  end = now-further s sound a.on
+
+  begun : (1 ≤ now) × (reset_of tree i ≤ now)
+  begun =
+      let range = sound.catalog.ledger.incarnations.ranges i there in
+      let first = range.0 in
+      let mid = range.1 in
+      let reset = (keeps-further s sound a.on).reset i there in
+      (omega (arith, first, mid), omega (arith, mid, reset))
+
+  room-for : HasRoomFor (one_further s) 1
+  room-for =
+      let old = many s.catalog.ledger in
+      let new = many p.catalog.ledger in
+      let long : length tree ≡ length s.catalog.ledger.tree = length-set s.catalog.ledger.tree (i - 1) _ in
+      let marks = length-append s.catalog.ledger.marks (marks_before s) in
+      let room = a.room in
+      omega (arith, old, new, long, marks, room)
+
+  datafile-fits : FitsFile (one_further s) d
+  datafile-fits =
+      let next = end in
+      let reset = begun.1 in
+      record {
+        created = record { there = (keeps-further s sound a.on).there i there; creation = (reset, omega (arith, next)); blocks = (some, a.most) };
+        few = a.few;
+        blocks = a.fit;
+        room = room-for;
+      }
+
+  -- What is in place
+
+  place-new : IsPlaced tree (length files) d (standing file i (now_of p))
+  place-new =
+      let next = end in
+      let low = begun.0 in
+      record {
+        file = refl;
+        blocks = length-created now blocks;
+        order = in_order-created now blocks;
+        rows = created-all IsPlacedRow now (λ b. record { version = low; content = refl }) blocks;
+        there = (keeps-further s sound a.on).there i there;
+        checkpoint = omega (arith, next);
+        high = high-bound (now_of p) (now_of p) (created_rows now blocks) (omega arith)
+            (λ r has. All-contains (λ (r : Row). r.version < now_of p) (created_rows now blocks) r (created-all (λ r. r.version < now_of p) now (λ b. omega (arith, next)) blocks) has);
+      }
+
+  place-after : (k : ℕ) (e : Datafile) (x : File) → slice_get q.catalog.ledger.files k ≡ Some e → slice_get q.instance.place k ≡ Some (Some x) → IsPlaced tree k e (standing x i (now_of p))
+  place-after k e x at held =
+      let many = sound.place.many in
+      elim (get-push files d e k at) [
+        | inl new ↦ elim (get-push s.instance.place (Some file) (Some x) k held) [
+          | inl put ↦
+              let same : file ≡ x = (let f : Some file ≡ Some x = put.1 in cc) in
+              subst (λ m. IsPlaced tree m e (standing x i (now_of p))) (sym new.0) (subst (λ g. IsPlaced tree (length files) g (standing x i (now_of p))) new.1 (subst (λ y. IsPlaced tree (length files) d (standing y i (now_of p))) same place-new))
+          | inr old ↦ absurd (let inside = slice_get_within s.instance.place k (Some x) old in let is = new.0 in omega (arith, is, inside, many))
+        ]
+        | inr old ↦ elim (get-push s.instance.place (Some file) (Some x) k held) [
+          | inl put ↦ absurd (let inside = slice_get_within files k e old in let is = put.0 in omega (arith, is, inside, many))
+          | inr kept ↦ subst (IsPlaced tree k e) (counted-open p x a.on.opened) ((sound-further s sound a.on).place.each k e x old kept)
+        ]
+      ]
+
+  pub sound-created : IsSound q
+  sound-created =
+      let was = sound-further s sound a.on in
+      let opened = was.in_open a.on.opened in
+      let many = sound.place.many in
+      record {
+        catalog = file_fits (one_further s) d (catalog-further s sound a.on) datafile-fits;
+        dbid = sound.dbid;
+        place = record {
+          many = (let x = length-append s.instance.place (Some file ∷ []) in let y = length-append files (d ∷ []) in omega (arith, x, y, many));
+          each = λ k e x at held. subst (IsPlaced tree k e) (sym (counted-open q x a.on.opened)) (place-after k e x at held);
+        };
+        logs = record { dbid = was.logs.dbid; there = was.logs.there; threads = was.logs.threads; each = was.logs.each };
+        in_open = λ _. record { inc = opened.inc; found = opened.found; point = opened.point };
+        point = λ n is. absurd (let none = opened.point in cc);
+      }
+
+  -- What the history tells
+
+  module _ (h : List Change) (keeps : HistoryFits s h) where
+    fits : HistoryFits p h
+    fits = fits-further s sound a.on h keeps
+
+    -- no change is of the new datafile
+    none-of-new : All (λ c. c.file ≢ length files + 1) h
+    none-of-new =
+        All-weaker (Contains h) (λ (c : Change). c.file ≢ length files + 1)
+        (λ c has met.
+        let change = keeps.history.changes c has in
+        let within = file-inside (world s) c.file change.datafile change.is in
+        absurd (omega (arith, met, within)))
+        h (All-contains_itself h)
+
+    rows-new : RowsAre (world q) h i (now_of p) file
+    rows-new =
+        let f = length files + 1 in
+        let creation : creation_of (world q) f ≡ now = ap (λ o. option_map_or (λ (e : Datafile). e.creation) o 0) (file_of-new (world p) d) in
+        created-all (λ r. r ≡ state (world q) h i (now_of p) f r.block) now
+        (λ b. sym (state-untouched (world q) h i (now_of p) f b none-of-new ∙ ap (λ n. created_row n b) creation)) blocks
+
+    -- the rows of the others are as they were
+    rows-old : (f : ℕ) (x : File) → placed s f ≡ Some x → RowsAre (world q) h i (now_of p) x
+    rows-old f x is =
+        let number = (placed-is s (f - 1) x sound.place is).file in
+        let inside = slice_get_within s.instance.place (f - 1) (Some x) (get-index s.instance.place (f - 1) x is) in
+        let many = sound.place.many in
+        All-weaker (λ r. r ≡ state (world p) h i (now_of p) x.file r.block) (λ r. r ≡ state (world q) h i (now_of p) x.file r.block)
+        (λ r was. was ∙ sym (state-kept (world p) d h i (now_of p) x.file r.block (omega (arith, number, inside, many))))
+        x.rows (rows-further s sound a.on h keeps f x is)
+
+    rows : (f : ℕ) (x : File) → placed q f ≡ Some x → RowsAre (world q) h i (now_of p) x
+    rows f x is = elim (placed-push s.instance.place (Some file) (f - 1) x is) [
+      | inl old ↦ rows-old f x old
+      | inr new ↦ let same : file ≡ x = (let e : Some file ≡ Some x = new in cc) in subst (RowsAre (world q) h i (now_of p)) same rows-new
+    ]
+
+    fits-created : HistoryFits q h
+    fits-created = record {
+      history = IsHistory-with_file (world p) d h fits.history;
+      below = fits.below;
+      online = fits.online;
+      place = λ f x is. subst (λ y. BaseAgrees (world q) h (base_of y)) (sym (counted-open q x a.on.opened)) (rows-agree (world q) h i (now_of p) x (rows f x is));
+      in_open = λ _ f x is. rows f x is;
+      point = λ n is. absurd (let none = (sound.in_open a.on.opened).point in cc);
+    }
+
+    same-created : SameHistory (world p) (world q) h
+    same-created = record {
+      keeps = record { there = λ j is. is; reset = λ j is. refl; end = λ j is. omega arith; owners = λ j g is. refl };
+      files = (let more = length-append files (d ∷ []) in omega (arith, more));
+      base = λ b known inside agrees. BaseAgrees-with_file (world p) d h b inside agrees;
+      level1 = λ b known inside agrees. Level1Agrees-with_file (world p) d h b inside agrees;
+    }
+
+  borne-created : (h : List Change) (objects : Held) (made : List Made) (touched : List (List ℕ)) → IsBorneOut s h objects made touched → IsBorneOut q h objects made touched
+  borne-created h objects made touched stands = record {
+    state = sound-created;
+    keeps = fits-created h stands.keeps;
+    artefacts = λ x has. true-on (world p) (world q) h (same-created h stands.keeps) x.artefact (true-on (world s) (world p) h (same-further s sound a.on h) x.artefact (stands.artefacts x has));
+    records = kept-on objects objects made made touched touched (ledger s) (ledger q) (stand-same objects objects touched (ledger s) (ledger q) (λ n. refl)) (λ x has. has) (λ e has. inl has) (λ e has. inl has) stands.records;
+  }
+
+-- a CREATE DATAFILE of the grammar asks for a block
+some-blocks : (blocks : ℕ) → is_command (CreateDatafile blocks) ≡ true → 1 ≤ blocks
+some-blocks blocks is = leb-true 1 blocks (and_parts (nat_le 1 blocks) (nat_le blocks (2 ^ 64 - 1)) is).0
+
+pub create-on : (blocks : ℕ) → LeadsOnBy (CreateDatafile blocks)
+create-on blocks s h objects made touched said e t after well stands tell none does effect =
+    quiet-on (with_datafile s blocks) h objects made touched _ said e t after does effect
+    (borne-created s blocks stands.state (has-room s blocks none) (some-blocks blocks well.0) h objects made touched stands)
+
+pub create-stays : (blocks : ℕ) → StaysBy (CreateDatafile blocks)
+create-stays blocks s objects said e t well sound none accepted does =
+    quiet-stays (with_datafile s blocks) _ said e t does (sound-created s blocks sound (has-room s blocks accepted) (some-blocks blocks well.0)) none

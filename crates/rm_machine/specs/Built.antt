@@ -1,0 +1,24 @@
+-- The statements that are built.
+use Rattle.std.specs.Prelude.{Bool, true, false}
+use Rattle.rm_command.specs.declared.command.Command.{Command}
+use Rattle.rm_command.specs.declared.command.Command.TheVariants.{CreateDatabase, CreateDatafile, Write, SwitchLogfile, ArchiveLogCurrent, Mount, OpenPlain, OpenResetlogs, ResetDatabase, Recover, RecoverTest, Backup, ListIncarnation, Dump}
+use Rattle.rm_machine.specs.Backup.{is_built_backup}
+use Rattle.rm_machine.specs.Recovery.{is_built_until}
+
+-- The machine has a step for the statement.
+abbrev pub is_built : Command → Bool
+is_built (CreateDatabase dbid threads scn) = true
+is_built (CreateDatafile blocks) = true
+is_built (Write w) = true
+is_built (SwitchLogfile thread) = true
+is_built ArchiveLogCurrent = true
+is_built Mount = true
+is_built OpenPlain = true
+is_built OpenResetlogs = true
+is_built (ResetDatabase inc) = true
+is_built (Recover until) = is_built_until until
+is_built (RecoverTest until inc) = is_built_until until
+is_built (Backup b) = is_built_backup b
+is_built ListIncarnation = true
+is_built (Dump file block) = true
+is_built _ = false

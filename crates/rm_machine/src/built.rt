@@ -1,0 +1,45 @@
+//! The statements that are built.
+ghost use Rattle.std.specs.Prelude.{◌≡◌};
+ghost use Rattle.rm_machine.specs.Backup.{is_built_backup};
+ghost use Rattle.rm_machine.specs.Built.{is_built};
+ghost use Rattle.rm_machine.specs.Recovery.{is_built_until};
+
+use rm_command::{BackupForm, Command, Until};
+
+fn is_built_until(until: &Option<Until>) -> bool
+    ensures { result ≡ is_built_until until.now }
+{
+    match until {
+        None | Some(Until::Scn(_)) => true,
+        Some(_) => false,
+    }
+}
+
+fn is_built_backup(form: &BackupForm) -> bool
+    ensures { result ≡ is_built_backup form.now }
+{
+    form.level.is_none_or(|level| level == 0) && form.during.is_none()
+}
+
+/// The statement is built, and so can be stepped. It takes no memory.
+pub fn is_built(command: &Command) -> bool
+    ensures { result ≡ is_built command.now }
+{
+    match command {
+        Command::Recover { until } => is_built_until(until),
+        Command::RecoverTest { until, .. } => is_built_until(until),
+        Command::Backup(form) => is_built_backup(form),
+        Command::CreateDatabase { .. } => true,
+        Command::CreateDatafile { .. } => true,
+        Command::Write(_) => true,
+        Command::SwitchLogfile { .. } => true,
+        Command::ArchiveLogCurrent => true,
+        Command::Mount => true,
+        Command::OpenPlain => true,
+        Command::OpenResetlogs => true,
+        Command::ResetDatabase { .. } => true,
+        Command::ListIncarnation => true,
+        Command::Dump { .. } => true,
+        _ => false,
+    }
+}
