@@ -79,7 +79,7 @@ module _ (held : Option Held) (s : State) (until : Option Until) (at : ℕ) (tar
     effect = no_effect;
     comes = λ objects is. subst (λ o. RecoversTo s objects o (done x.lines no_effect q)) (sym target)
         (inr (tells-all held s (current_of s) at objects t (brings_back s at) (done x.lines no_effect q) is by
-            (ap (λ ls. done ls no_effect q) lines ∙ ap (done (skipped_lines t.skipped ++ Recovered at (current_of s) (count_at s (current_of s) at) ∷ []) no_effect) state)));
+        (ap (λ ls. done ls no_effect q) lines ∙ ap (done (skipped_lines t.skipped ++ Recovered at (current_of s) (count_at s (current_of s) at) ∷ []) no_effect) state)));
     puts = puts;
     removes = removes;
   }

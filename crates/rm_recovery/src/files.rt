@@ -8,12 +8,12 @@ ghost use Rattle.rm_machine.specs.State.{ledger, tree, world};
 ghost use Rattle.rm_recovery.specs.Telling.{IsFaultOfFile, IsFirstFault, IsToldFile, row_of};
 ghost use Rattle.rm_repository.specs.Repository.{records_of};
 
-use crate::facts::exists;
 use crate::hand::AtHand;
 use rm_base::{FileNo, IncNo, NoMemory, Part, Row, Scn, Seq};
 use rm_blocks::DataFile;
 use rm_history::Datafile;
 use rm_machine::State;
+use rm_machine::facts::exists;
 use rm_plan::{PlanFault, plan_file};
 use std::alloc::Global;
 

@@ -10,12 +10,12 @@ ghost use Rattle.rm_machine.specs.State.{counted, current_of, is_lost, ledger, n
 ghost use Rattle.rm_redo.specs.LogFile.{log_file_of};
 ghost use Rattle.rm_repository.specs.Repository.{records_of};
 
-use crate::facts::{now, redo_end};
 use rm_base::{NoMemory, Scn, Seq, Store, ThreadNo};
 use rm_blocks::DataFile;
 use rm_catalog::{Catalog as Records, CatalogFault, Record};
 use rm_evidence::{Evidence, EvidenceFault, InPlace, gather};
 use rm_machine::State;
+use rm_machine::facts::{now, redo_end, threads};
 use rm_redo::LogFile;
 use rm_repository::Catalog;
 use std::alloc::Global;
@@ -99,7 +99,7 @@ fn logs_in_place(alloc: Global, state: &State) -> Result<Seq<LogFile>, NoMemory>
     ensures { IfOk result (λ logs. logs ≡ online_logs state.now 1 (ledger state.now).base.threads) }
 {
     let mut logs = Seq::new(alloc);
-    for index in 0..state.catalog.base().threads {
+    for index in 0..threads(state) {
         push_online(alloc, state, &mut logs, index + 1)?;
     }
     Ok(logs)

@@ -2,7 +2,6 @@
 //! place. Each either comes to exactly what was made of each block, or names the first gap.
 #![tactic(auto)]
 
-mod facts;
 mod files;
 mod hand;
 mod lines;
@@ -13,4 +12,3 @@ mod telling;
 
 pub use recovery::{recover, recover_refusal};
 pub use recovery_test::{recover_test, test_refusal};
-pub use target::is_built_until;

@@ -6,11 +6,11 @@ ghost use Rattle.rm_machine.specs.Recovery.{count_at, skipped_lines};
 ghost use Rattle.rm_machine.specs.Sound.{IsSound};
 ghost use Rattle.rm_machine.specs.State.{ledger, tree};
 
-use crate::facts::exists;
 use rm_base::{Bad, FileNo, IncNo, NoMemory, Row, Scn, Seq};
 use rm_blocks::DataFile;
 use rm_history::Datafile;
 use rm_machine::State;
+use rm_machine::facts::exists;
 use rm_report::Line;
 use std::alloc::Global;
 
@@ -25,10 +25,7 @@ pub(crate) fn count_at(state: &State, i: IncNo, at: Scn) -> u32
 }
 
 /// A line for each record that was skipped.
-pub(crate) fn skipped_lines(
-    alloc: Global,
-    skipped: &[(u32, Bad)],
-) -> Result<Seq<Line>, NoMemory>
+pub(crate) fn skipped_lines(alloc: Global, skipped: &[(u32, Bad)]) -> Result<Seq<Line>, NoMemory>
     ensures { IfOk result (λ lines. lines ≡ skipped_lines skipped.now) }
 {
     let mut lines = Seq::new(alloc);

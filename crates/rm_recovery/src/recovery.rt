@@ -9,7 +9,6 @@ ghost use Rattle.rm_machine.specs.Sound.{IsSound};
 ghost use Rattle.rm_machine.specs.State.{current_of};
 ghost use Rattle.rm_report.specs.declared.line.Line.TheVariants.{Recovered};
 
-use crate::facts::{first_lost, ids_refusal};
 use crate::lines::{count_at, skipped_lines};
 use crate::target::{range_refusal, target_of};
 use crate::telling::{Told, tell};
@@ -17,6 +16,8 @@ use rm_base::{Bad, NoMemory, Refusal, Scn, Seq, Store};
 use rm_blocks::DataFile;
 use rm_command::Until;
 use rm_evidence::EvidenceFault;
+use rm_machine::facts::first_lost;
+use rm_machine::room::ids_refusal;
 use rm_machine::{Handed, State};
 use rm_report::Line;
 use std::alloc::Global;

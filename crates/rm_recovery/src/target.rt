@@ -1,18 +1,11 @@
 //! The SCN at which a recovery stops, and its range.
-ghost use Rattle.std.specs.Prelude.{◌≡◌, true, Some};
-ghost use Rattle.rm_history.specs.Tree.{IsThere, end_of};
-ghost use Rattle.rm_machine.specs.Recovery.{is_built_until, range_refusal, target_of};
+ghost use Rattle.std.specs.Prelude.{◌≡◌};
+ghost use Rattle.rm_history.specs.Tree.{IsThere};
+ghost use Rattle.rm_machine.specs.Recovery.{range_refusal, target_of};
 
 use rm_base::{IncNo, Refusal};
 use rm_command::Until;
 use rm_history::Tree;
-
-/// Whether a recovery can be asked to stop there: at an SCN, or at the end.
-pub fn is_built_until(until: &Option<Until>) -> bool
-    ensures { result ≡ is_built_until until.now }
-{
-    matches!(until, None | Some(Until::Scn(_)))
-}
 
 /// The SCN at which a recovery of an incarnation stops. None where the UNTIL is one that is not built.
 pub(crate) fn target_of(tree: &Tree, i: IncNo, until: &Option<Until>) -> Option<u64>
