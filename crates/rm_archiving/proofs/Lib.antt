@@ -1,0 +1,3 @@
+pub mod Archiving
+pub mod Spaces
+pub mod Turns

@@ -1,0 +1,13 @@
+use Rattle.std.proofs.Common.{rules, ◌≡◌, ◌∙◌, ap, sym, subst}
+use Rattle.rm_catalog.specs.declared.record.Edit.{Edit}
+use Rattle.rm_repository.specs.Changes.{EditsFollow}
+use Rattle.rm_repository.specs.Repository.{Repository, records_of}
+use Rattle.rm_machine.specs.declared.state.State.{State}
+use Rattle.rm_modes.proofs.branching.branch_off.Goals as goal
+
+pub returns-clause-edits : goal.returns-clause-edits
+returns-clause-edits c =
+    let same : c.open_at.new.state.catalog ≡ c.args.state.now.catalog = ap (λ (s : State). s.catalog) c.open_at.ensures.value in
+    let first = c.in_ok-branch.ensures.edits in
+    let second = c.in_ok-set_base.ensures.edits in
+    record { lead = λ rs is. second.lead rs (first.lead rs (is ∙ ap (λ (r : Repository). records_of r) (sym same))) }
