@@ -1,10 +1,11 @@
 -- What is at hand agrees with the history, where digests tell.
-use Rattle.std.proofs.Common.{◌≡◌, ◌≢◌, ◌-◌, ◌∙◌, ℕ, suc, List, None, refl, ap, sym, subst, arith, Contains, slice_index_or}
+use Rattle.std.proofs.Common.{◌≡◌, ◌≢◌, ◌-◌, ◌∙◌, ◌⊎◌, inl, inr, ℕ, suc, List, [], Option, Some, None, refl, ap, sym, subst, arith, Contains, slice_index_or}
 use Rattle.rm_base.specs.Store.{Held}
 use Rattle.rm_base.specs.declared.block.Change.{Change}
 use Rattle.rm_base.specs.declared.kinds.Kind.{Kind}
 use Rattle.rm_base.specs.declared.kinds.Kind.TheVariants.{Full, Level0, Level1, Place}
 use Rattle.rm_base.proofs.Lists.{map_from}
+use Rattle.rm_base.proofs.Members.{none-in}
 use Rattle.rm_base.proofs.Slots.{index-get}
 use Rattle.rm_catalog.specs.declared.record.LogEntry.{LogEntry}
 use Rattle.rm_catalog.specs.declared.record.PieceEntry.{PieceEntry}
@@ -17,12 +18,14 @@ use Rattle.rm_known.specs.Evidence as known
 use Rattle.rm_objects.specs.Names.{log_name, piece_name}
 use Rattle.rm_piece.specs.declared.piece.Piece.{Piece}
 use Rattle.rm_piece.specs.Artefacts.{base_of, level1_of}
+use Rattle.rm_piece.specs.Spelling as piece_format
 use Rattle.rm_piece.proofs.Fitting.{spelling_same as piece_same}
 use Rattle.rm_redo.specs.declared.log_file.LogFile.{LogFile}
 use Rattle.rm_redo.specs.LogFile.{log_of}
+use Rattle.rm_redo.specs.LogFormat as log_format
 use Rattle.rm_redo.proofs.LogFitting.{spelling_same as log_same}
 use Rattle.rm_machine.specs.Effect.{Made, a_log, a_piece}
-use Rattle.rm_machine.specs.Machine.{DigestsTellFor, IsBorneOut, IsTrueArtefact, PieceAgrees}
+use Rattle.rm_machine.specs.Machine.{DigestsTell, DigestsTellFor, IsBorneOut, IsTrueArtefact, Machine, PieceAgrees, TellBy}
 use Rattle.rm_machine.specs.Recovery.{IsAtHand}
 use Rattle.rm_machine.specs.declared.state.State.{State}
 use Rattle.rm_machine.specs.State.{ledger, world}
@@ -35,14 +38,17 @@ as-base w h Level0 a not agrees = agrees
 as-base w h Level1 a not agrees = absurd (not refl)
 as-base w h Place a not agrees = agrees
 
-module _ (s : State) (h : List Change) (objects : Held) (made : List Made) (touched : List (List ℕ)) (borne : IsBorneOut s h objects made touched) (tells : DigestsTellFor objects made (ledger s)) where
+module _ (s : State) (h : List Change) (objects : Held) (made : List Made) (touched : List (List ℕ)) (borne : IsBorneOut s h objects made touched) (tells : DigestsTellFor objects made touched (ledger s)) where
   -- an available log is the one that was recorded
   log-agrees : (l : LogEntry) (a : LogFile) → Contains (ledger s).logs l → HasLog objects l a → LogAgrees h (log_of a)
   log-agrees l a has there =
       let kept = borne.records.logs l has in
       let was : Made = record { name = log_name l.id; artefact = a_log kept.artefact } in
       let is : IsTrueArtefact (world s) h (a_log kept.artefact) = borne.artefacts was kept.is in
-      let bytes = tells.logs l kept.artefact there.bytes has kept.is kept.digest there.there there.object.digest in
+      let bytes : there.bytes ≡ log_format.spelling kept.artefact = elim kept.there [
+        | inl given ↦ tells.logs l kept.artefact there.bytes given has kept.is kept.digest there.there there.object.digest
+        | inr stands ↦ let one : Some there.bytes ≡ Some (log_format.spelling kept.artefact) = sym there.there ∙ stands in cc
+      ] in
       let same : kept.artefact ≡ a = log_same kept.artefact a is.valid there.object.valid (sym bytes ∙ there.object.spelled) in
       subst (λ x. LogAgrees h (log_of x)) same is.agrees
 
@@ -52,7 +58,10 @@ module _ (s : State) (h : List Change) (objects : Held) (made : List Made) (touc
       let kept = borne.records.pieces p has in
       let was : Made = record { name = piece_name p.copy p.id; artefact = a_piece kept.artefact } in
       let is : IsTrueArtefact (world s) h (a_piece kept.artefact) = borne.artefacts was kept.is in
-      let bytes = tells.pieces p kept.artefact there.bytes has kept.is kept.digest there.there there.object.digest in
+      let bytes : there.bytes ≡ piece_format.spelling kept.artefact = elim kept.there [
+        | inl given ↦ tells.pieces p kept.artefact there.bytes given has kept.is kept.digest there.there there.object.digest
+        | inr stands ↦ let one : Some there.bytes ≡ Some (piece_format.spelling kept.artefact) = sym there.there ∙ stands in cc
+      ] in
       let same : kept.artefact ≡ a = piece_same kept.artefact a is.valid there.object.valid (sym bytes ∙ there.object.spelled) in
       subst (λ (x : Piece). PieceAgrees (world s) h x.kind x) same is.agrees
 
@@ -84,3 +93,14 @@ module _ (s : State) (h : List Change) (objects : Held) (made : List Made) (touc
         let found = map_from (λ (x : ℕ × LogFile). log_of x.1) e.logs a has in
         subst (LogAgrees h) found.is (log-by found.item.1 (log-from s objects borne.state e gathered found.item.0 found.item.1 found.held));
   }
+
+-- where HOST touched no name, digests tell
+untouched-by : (o : Option State) (objects : Held) (made : List Made) → TellBy o objects made []
+untouched-by None objects made = tt
+untouched-by (Some s) objects made = record {
+  logs = λ e a bytes given. absurd (none-in (log_name e.id) given);
+  pieces = λ e a bytes given. absurd (none-in (piece_name e.copy e.id) given);
+}
+
+pub untouched-tell : (m : Machine) → m.touched ≡ [] → DigestsTell m
+untouched-tell m none = subst (TellBy m.state m.objects m.made) (sym none) (untouched-by m.state m.objects m.made)

@@ -30,7 +30,7 @@ ShownBy _ stands means = stands
 abbrev pub LeadsOnBy : Command → Type 0
 LeadsOnBy c =
     (s : State) (h : List Change) (objects : Held) (made : List Made) (touched : List (List ℕ)) (said : List Line) (e : Effect) (t : State) (after : Held)
-    → IsStatement c → IsBorneOut s h objects made touched → DigestsTellFor objects made (ledger s)
+    → IsStatement c → IsBorneOut s h objects made touched → DigestsTellFor objects made touched (ledger s)
     → refusal_of s c ≡ None → IsDone s objects c (done said e t) → LeavesObjects e objects after
     → ShownBy c (IsBorneOut t (h ++ e.changes) after (made ++ e.made) (names_in c ++ touched)) (Means (Some s) h c (done said e t))
 
@@ -51,8 +51,8 @@ leads c law m s moment said e t after well is sound tell at goes effect =
     let was : IsBorneOut s m.history m.objects m.made m.touched = subst (λ o. IsSoundBy o m.history m.objects m.made m.touched) is sound in
     let begun : State = at_moment s moment in
     let stands : IsBorneOut begun m.history m.objects m.made m.touched = borne-later s m.history m.objects m.objects m.made m.touched m.touched moment was at (stand-same m.objects m.objects m.touched (ledger s) (ledger s) (λ n. refl)) in
-    let told : DigestsTellFor m.objects m.made (ledger s) = subst (λ o. TellBy o m.objects m.made) is tell in
-    let tells : DigestsTellFor m.objects m.made (ledger begun) = record { logs = told.logs; pieces = told.pieces } in
+    let told : DigestsTellFor m.objects m.made m.touched (ledger s) = subst (λ o. TellBy o m.objects m.made m.touched) is tell in
+    let tells : DigestsTellFor m.objects m.made m.touched (ledger begun) = record { logs = told.logs; pieces = told.pieces } in
     let both = done-by (refusal_of begun c) begun m.objects c said e t goes in
     let n : Machine = record { state = Some t; history = m.history ++ e.changes; objects = after; made = m.made ++ e.made; touched = names_in c ++ m.touched } in
     let on = shown c (Some begun) m.history said e t (IsBorneOut t n.history n.objects n.made n.touched) (law begun m.history m.objects m.made m.touched said e t after well stands tells both.0 both.1 effect) in
@@ -68,7 +68,7 @@ told-by None s held c lines is = (refl, is)
 abbrev pub TellsOnBy : Command → Type 0
 TellsOnBy c =
     (s : State) (h : List Change) (objects : Held) (made : List Made) (touched : List (List ℕ)) (lines : List Line)
-    → IsStatement c → IsBorneOut s h objects made touched → DigestsTellFor objects made (ledger s)
+    → IsStatement c → IsBorneOut s h objects made touched → DigestsTellFor objects made touched (ledger s)
     → refusal_of s c ≡ None → IsDone s objects c (told lines) → Means (Some s) h c (told lines)
 
 pub tells : (c : Command) → TellsOnBy c → TellsOn c
@@ -76,8 +76,8 @@ tells c law m s moment lines well is sound tell at goes =
     let was : IsBorneOut s m.history m.objects m.made m.touched = subst (λ o. IsSoundBy o m.history m.objects m.made m.touched) is sound in
     let begun : State = at_moment s moment in
     let stands : IsBorneOut begun m.history m.objects m.made m.touched = borne-later s m.history m.objects m.objects m.made m.touched m.touched moment was at (stand-same m.objects m.objects m.touched (ledger s) (ledger s) (λ n. refl)) in
-    let known : DigestsTellFor m.objects m.made (ledger s) = subst (λ o. TellBy o m.objects m.made) is tell in
-    let knows : DigestsTellFor m.objects m.made (ledger begun) = record { logs = known.logs; pieces = known.pieces } in
+    let known : DigestsTellFor m.objects m.made m.touched (ledger s) = subst (λ o. TellBy o m.objects m.made m.touched) is tell in
+    let knows : DigestsTellFor m.objects m.made m.touched (ledger begun) = record { logs = known.logs; pieces = known.pieces } in
     let both = told-by (refusal_of begun c) begun m.objects c lines goes in
     let means = law begun m.history m.objects m.made m.touched lines well stands knows both.0 both.1 in
     (refl, refl, subst (λ o. Means o m.history c (told lines)) (sym is) (means-later c s moment m.history (told lines) means))

@@ -85,7 +85,7 @@ module _ (s : State) (h : List Change) (e : Evidence) (at : ℕ) (files : List (
 
 -- RECOVER DATABASE: what comes to stand in place is what the history made, and what stands after it is borne out
 recover-by : (o : Option ℕ) (until : Option Until) (s : State) (h : List Change) (objects : Held) (made : List Made) (touched : List (List ℕ)) (said : List Line) (e : Effect) (t : State) (after : Held)
-    → recover_target s until ≡ o → IsBorneOut s h objects made touched → DigestsTellFor objects made (ledger s) → recover_refusal s until ≡ None
+    → recover_target s until ≡ o → IsBorneOut s h objects made touched → DigestsTellFor objects made touched (ledger s) → recover_refusal s until ≡ None
     → RecoversTo s objects o (done said e t) → LeavesObjects e objects after
     → IsBorneOut t (h ++ e.changes) after (made ++ e.made) touched × BringsTo h s o t
 recover-by None until s h objects made touched said e t after is borne tell none does effect = absurd does
@@ -136,7 +136,7 @@ tested-there s until inc none =
 
 -- the lines are those of what the history made
 test-by : (o : Option ℕ) (i : ℕ) (s : State) (h : List Change) (objects : Held) (made : List Made) (touched : List (List ℕ)) (lines : List Line)
-    → IsThere (tree s) i → IsBorneOut s h objects made touched → DigestsTellFor objects made (ledger s) → TestsTo s objects i o (told lines) → TellsTo h s i o lines
+    → IsThere (tree s) i → IsBorneOut s h objects made touched → DigestsTellFor objects made touched (ledger s) → TestsTo s objects i o (told lines) → TellsTo h s i o lines
 test-by None i s h objects made touched lines there borne tell does = does
 test-by (Some at) i s h objects made touched lines there borne tell (inl gap) = absurd (let clash = gap.is in cc)
 test-by (Some at) i s h objects made touched lines there borne tell (inr all) =

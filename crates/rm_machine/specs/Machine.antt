@@ -131,17 +131,17 @@ IsSoundBy (Some s) h objects made touched = IsBorneOut s h objects made touched
 abbrev pub IsSoundMachine : Machine → Type 0
 IsSoundMachine m = IsSoundBy m.state m.history m.objects m.made m.touched
 
--- Digests tell: bytes under the name of a record that have its size and SHA-256 are those that it was made
--- for.
-pub record DigestsTellFor (objects : Held) (made : List Made) (l : Ledger) : Type 0 where
-  pub logs : (e : LogEntry) (a : LogFile) (bytes : List ℕ) → Contains l.logs e → Contains made (record { name = log_name e.id; artefact = a_log a }) → HasDigest (log_format.spelling a) e.size e.sha
+-- Digests tell: where HOST touched the name of a record, bytes under it that have the record's size and SHA-256
+-- are those that it was made for.
+pub record DigestsTellFor (objects : Held) (made : List Made) (touched : List (List ℕ)) (l : Ledger) : Type 0 where
+  pub logs : (e : LogEntry) (a : LogFile) (bytes : List ℕ) → Contains touched (log_name e.id) → Contains l.logs e → Contains made (record { name = log_name e.id; artefact = a_log a }) → HasDigest (log_format.spelling a) e.size e.sha
       → objects (log_name e.id) ≡ Some bytes → HasDigest bytes e.size e.sha → bytes ≡ log_format.spelling a
-  pub pieces : (e : PieceEntry) (a : Piece) (bytes : List ℕ) → Contains l.pieces e → Contains made (record { name = piece_name e.copy e.id; artefact = a_piece a }) → HasDigest (piece_format.spelling a) e.size e.sha
+  pub pieces : (e : PieceEntry) (a : Piece) (bytes : List ℕ) → Contains touched (piece_name e.copy e.id) → Contains l.pieces e → Contains made (record { name = piece_name e.copy e.id; artefact = a_piece a }) → HasDigest (piece_format.spelling a) e.size e.sha
       → objects (piece_name e.copy e.id) ≡ Some bytes → HasDigest bytes e.size e.sha → bytes ≡ piece_format.spelling a
 
-abbrev pub TellBy : Option State → Held → List Made → Type 0
-TellBy None objects made = Unit {0}
-TellBy (Some s) objects made = DigestsTellFor objects made (ledger s)
+abbrev pub TellBy : Option State → Held → List Made → List (List ℕ) → Type 0
+TellBy None objects made touched = Unit {0}
+TellBy (Some s) objects made touched = DigestsTellFor objects made touched (ledger s)
 
 abbrev pub DigestsTell : Machine → Type 0
-DigestsTell m = TellBy m.state m.objects m.made
+DigestsTell m = TellBy m.state m.objects m.made m.touched

@@ -1,5 +1,5 @@
 //! What the machine does.
-ghost use Rattle.std.specs.Prelude.{ℕ, ◌<◌, ◌≤◌, ◌^◌, List, Option};
+ghost use Rattle.std.specs.Prelude.{ℕ, ◌≡◌, [], ◌<◌, ◌≤◌, ◌^◌, List, Option};
 ghost use Rattle.rm_base.specs.Numbers.{last_moment, last_scn};
 ghost use Rattle.rm_base.specs.Store.{Held};
 ghost use Rattle.rm_base.specs.declared.block.Change.{Change};
@@ -15,7 +15,7 @@ ghost use Rattle.rm_known.specs.Unknown.{IsUnknown};
 ghost use Rattle.rm_machine.specs.CreateDatabase.{fresh_machine};
 ghost use Rattle.rm_machine.specs.Effect.{Made, Outcome};
 ghost use Rattle.rm_machine.specs.Laws.{IsMomentOf, LeadsOn, StaysSound, TellsOn};
-ghost use Rattle.rm_machine.specs.Machine.{DigestsTellFor, IsBorneOut, IsSoundMachine};
+ghost use Rattle.rm_machine.specs.Machine.{DigestsTell, DigestsTellFor, IsBorneOut, IsSoundMachine, Machine};
 ghost use Rattle.rm_machine.specs.Recovery.{FindsGap, IsAtHand, TellsAll};
 ghost use Rattle.rm_machine.specs.Sound.{IsSound};
 ghost use Rattle.rm_machine.specs.declared.state.State.{State};
@@ -117,7 +117,12 @@ pub fn a_test_of_a_recovery_tells()
 /// any content. The history of a machine agrees with what is at hand there, where digests tell.
 pub fn behind_a_gap_stand_two_histories()
     ensures unknown { (s : State) (held : Held) (i at : ℕ) (o : Outcome) (gap : FindsGap s held i at o) → IsSound s → IsUnknown (world s) (known_of gap.evidence) i at gap.file gap.block gap.inc gap.scn }
-    ensures agrees { (s : State) (h : List Change) (objects : Held) (made : List Made) (touched : List (List ℕ)) → IsBorneOut s h objects made touched → DigestsTellFor objects made (ledger s) → (e : Evidence) → IsAtHand s objects e → Agrees (world s) h (known_of e) }
+    ensures agrees { (s : State) (h : List Change) (objects : Held) (made : List Made) (touched : List (List ℕ)) → IsBorneOut s h objects made touched → DigestsTellFor objects made touched (ledger s) → (e : Evidence) → IsAtHand s objects e → Agrees (world s) h (known_of e) }
+{}
+
+/// Where HOST touched no name, no premise about digests is left.
+pub fn digests_tell_of_what_nobody_touched()
+    ensures { (m : Machine) → m.touched ≡ [] → DigestsTell m }
 {}
 
 /// What is at hand decides: where it leaves a gap, not each block is told.
