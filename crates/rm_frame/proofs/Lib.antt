@@ -1,6 +1,5 @@
 pub mod Carried
 pub mod Every
-pub mod Firsts
 pub mod Founding
 pub mod Halting
 pub mod LooseBackup

@@ -1,9 +1,7 @@
 pub mod Carries
-pub mod Faults
 pub mod Holds
 pub mod Loose
 pub mod Moments
-pub mod Opens
 pub mod Refused
 pub mod Steps
 pub mod Stopped

@@ -24,3 +24,7 @@ abbrev pub Steps : Option Held → Option (List Record) → View → Command →
 Steps held kept v c clock reply held' kept' v' =
     (m : Machine) → Stands v m → Holds held kept m → DigestsTell m
     → (n : Machine) × Step m c (moment_of m.state clock) reply n × Stands v' n × Holds held' kept' n
+
+-- StepsAt as a word of its own, which a proof opens where it needs it
+unfoldable pub IsStepAt : Option Held → Option (List Record) → Option State → Command → ℕ → Reply → Option Held → Option (List Record) → Option State → Type 0
+IsStepAt held kept o c moment reply held' kept' o' = StepsAt held kept o c moment reply held' kept' o'

@@ -60,3 +60,7 @@ StopsAt held kept o c moment held' kept' =
 abbrev pub Stops : Option Held → Option (List Record) → View → Command → ℕ → Option Held → Option (List Record) → Type 0
 Stops held kept v c clock held' kept' =
     (m : Machine) → Stands v m → Holds held kept m → DigestsTell m → (n : Machine) × Stopped m c (moment_of m.state clock) n × Holds held' kept' n
+
+-- StopsAt as a word of its own
+unfoldable pub IsStopAt : Option Held → Option (List Record) → Option State → Command → ℕ → Option Held → Option (List Record) → Type 0
+IsStopAt held kept o c moment held' kept' = StopsAt held kept o c moment held' kept'

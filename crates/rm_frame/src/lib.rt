@@ -3,9 +3,3 @@
 #![tactic(auto)]
 
 pub mod laws;
-pub mod open;
-pub mod site;
-
-pub use open::OpenFault;
-pub use rm_change::Stop;
-pub use site::Site;

@@ -1,5 +1,4 @@
 pub mod Counted
-pub mod Following
 pub mod Fresh
 pub mod Keeping
 pub mod Lookups

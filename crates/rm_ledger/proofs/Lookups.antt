@@ -164,10 +164,6 @@ module _ (l : Ledger) where
   pub has-mark : (k : ℕ) (m : Mark) → slice_get l.marks k ≡ Some m → Contains (records_of l) (mark_record (1 + k) m)
   has-mark k m is = let r = mark_record (1 + k) m in in-rest r (Contains-append_right (incarnations_of l ++ datafiles_of l ++ logs_of l ++ pieces_of l) (marks_of l) r (in-numbered mark_record 1 l.marks k m is))
 
--- what is found at each place, kind by kind
-pub base-found : (l : Ledger) → base (records_of l) ≡ Some l.base
-base-found l = refl
-
 pub has-database : (l : Ledger) → HasKey 1 0 (records_of l)
 has-database l = refl
 
@@ -186,12 +182,6 @@ datafile-at l k d is there = record-found l (datafile_record (1 + k) d) is (has-
 pub datafile-found : (l : Ledger) (k : ℕ) (d : Datafile) → IsLedger l → slice_get l.files k ≡ Some d
     → datafile (1 + k) (records_of l) ≡ Some (record { file = 1 + k; inc = d.inc; creation = d.creation; blocks = d.blocks })
 datafile-found l k d is there = ap (option_and_then datafile_in) (datafile-at l k d is there)
-
-pub log-at : (l : Ledger) (e : LogEntry) → IsLedger l → Contains l.logs e → at (place 4 e.id) (records_of l) ≡ Some (kind.Log e)
-log-at l e is has = record-found l (kind.Log e) is (has-log l e has)
-
-pub piece-at : (l : Ledger) (p : PieceEntry) → IsLedger l → Contains l.pieces p → at (place 5 p.id) (records_of l) ≡ Some (kind.Piece p)
-piece-at l p is has = record-found l (kind.Piece p) is (has-piece l p has)
 
 pub mark-found : (l : Ledger) (k : ℕ) (m : Mark) → IsLedger l → slice_get l.marks k ≡ Some m
     → mark (1 + k) (records_of l) ≡ Some (record { id = 1 + k; moment = m.moment; inc = m.inc; scn = m.scn })

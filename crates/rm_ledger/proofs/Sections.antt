@@ -32,18 +32,6 @@ numbered_part make of old new is few =
     (runs-numbered make of 1 old is (omega arith))
     (subst (λ (x : List Record). Runs (place of 1) (place (of + 1) 0) x) more all))
 
-map_twice : {A : Type 0} (make : A → Record) (xs : List A) → map (λ x. Put (make x)) xs ≡ map Put (map make xs)
-map_twice make [] = refl
-map_twice make (x ∷ xs) = ap (λ (es : List Edit). Put (make x) ∷ es) (map_twice make xs)
-
--- more objects of a kind
-pub objects_part : {A : Type 0} (make : A → Record) (low high : ℕ) (old new : List A) → Runs low high (map make old) → Runs low high (map make (old ++ new)) → IsPart low high (map (λ x. Put (make x)) new) (map make old) (map make (old ++ new))
-objects_part make low high old new up down =
-    let more = map-append make old new in
-    subst (λ (es : List Edit). IsPart low high es (map make old) (map make (old ++ new))) (sym (map_twice make new))
-    (subst (λ (x : List Record). IsPart low high (map Put (map make new)) (map make old) x) (sym more)
-    (more_part low high (map make old) (map make new) up (subst (λ (x : List Record). Runs low high x) more down)))
-
 -- the incarnation of number i is replaced
 pub replaced : (n : Incarnation) (xs : List Incarnation) (k j i : ℕ) → i ≡ k + j → j < length xs → k + length xs ≤ 4294967295 → after_edit (Put (incarnation_record i n)) (numbered incarnation_record k xs) ≡ numbered incarnation_record k (slice_set xs j n)
 replaced n [] k j i is lt few = absurd (omega arith)

@@ -1,6 +1,5 @@
 -- A tree that grows keeps what it says of the incarnations that were there.
 use Rattle.std.proofs.Common.{◌≡◌, ◌∙◌, ℕ, zero, suc, ◌+◌, ◌-◌, ◌<◌, ◌≤◌, inl, inr, List, [], ◌∷◌, ◌++◌, length, length-append, slice_set, ap, sym, subst, arith}
-use Rattle.std.proofs.Math.Seq.{set-append_seam}
 use Rattle.std.proofs.lemmas.Bool.{cases_eq, cases_lt}
 use Rattle.rm_history.specs.declared.tree.Incarnation.{Incarnation}
 use Rattle.rm_history.specs.Tree.{HasParentsBelow, IsThere, owner, parent_of, reset_of, end_of, with_end, with_branch, branched}
@@ -8,7 +7,6 @@ use Rattle.rm_history.proofs.Branches.{IsThere-with_branch, IsThere-branched, ow
 use Rattle.rm_history.proofs.Ends.{IsThere-with_end, owner-with_end, parent_of-with_end, reset_of-with_end, end_of-with_end, end_of-with_end_other}
 use Rattle.rm_history.proofs.Owners.{owner-cases, owner-first, parent-none}
 use Rattle.rm_ledger.specs.Facts.{AreIncarnations}
-use Rattle.rm_ledger.specs.Growth.{TreeGrows}
 
 -- each incarnation that was there is there, with its resetlogs SCN, its owners, and an end that did not fall
 pub record Keeps (old new : List Incarnation) : Type 0 where
@@ -36,27 +34,6 @@ keeps_branch tree p at below there = record {
   owners = λ i g is. owner-with_branch tree p at i g below there is;
 }
 
-keeps_both : (a b c : List Incarnation) → Keeps a b → Keeps b c → Keeps a c
-keeps_both a b c first second = record {
-  there = λ i is. second.there i (first.there i is);
-  reset = λ i is. second.reset i (first.there i is) ∙ first.reset i is;
-  end = λ i is. omega (arith, first.end i is, second.end i (first.there i is));
-  owners = λ i g is. second.owners i g (first.there i is) ∙ first.owners i g is;
-}
-
--- an incarnation more is a branch with another end
-is_branch : (tree : List Incarnation) (n : Incarnation) → tree ++ n ∷ [] ≡ with_end (with_branch tree n.parent n.reset) (length tree + 1) n.end
-is_branch tree n =
-    let t = with_branch tree n.parent n.reset in
-    let parent : parent_of t (length tree + 1) ≡ n.parent = parent_of-branched tree n.parent n.reset in
-    let reset : reset_of t (length tree + 1) ≡ n.reset = reset_of-branched tree n.parent n.reset in
-    let place : length tree + 1 - 1 ≡ length tree = omega arith in
-    sym (
-    ap (λ (k : ℕ). slice_set t k (record { parent = parent_of t (length tree + 1); reset = reset_of t (length tree + 1); end = n.end })) place
-    ∙ ap (λ (k : ℕ). slice_set t (length tree) (record { parent = k; reset = reset_of t (length tree + 1); end = n.end })) parent
-    ∙ ap (λ (k : ℕ). slice_set t (length tree) (record { parent = n.parent; reset = k; end = n.end })) reset
-    ∙ set-append_seam tree (branched n.parent n.reset) [] n)
-
 -- parents lie below
 pub parents_below : (tree : List Incarnation) → AreIncarnations tree → HasParentsBelow tree
 parents_below tree are i some = elim (cases_lt (length tree) i) [
@@ -66,51 +43,6 @@ parents_below tree are i some = elim (cases_lt (length tree) i) [
     | inr first ↦ let is : i ≡ 1 = omega arith in subst (λ (k : ℕ). parent_of tree k < k) (sym is) (let none = are.first in omega arith)
   ]
 ]
-
--- the new incarnation has its own parent, resetlogs SCN and end
-pub record IsNew (tree : List Incarnation) (n : Incarnation) : Type 0 where
-  pub parent : parent_of (tree ++ n ∷ []) (length tree + 1) ≡ n.parent
-  pub reset : reset_of (tree ++ n ∷ []) (length tree + 1) ≡ n.reset
-  pub end : end_of (tree ++ n ∷ []) (length tree + 1) ≡ n.end
-
-pub new_is : (tree : List Incarnation) (n : Incarnation) → IsNew tree n
-new_is tree n =
-    let t = with_branch tree n.parent n.reset in
-    let i = length tree + 1 in
-    let there : IsThere t i = IsThere-branched tree n.parent n.reset in
-    let is = is_branch tree n in
-    record {
-      parent = ap (λ (u : List Incarnation). parent_of u i) is ∙ parent_of-with_end t i n.end i there ∙ parent_of-branched tree n.parent n.reset;
-      reset = ap (λ (u : List Incarnation). reset_of u i) is ∙ reset_of-with_end t i n.end i there ∙ reset_of-branched tree n.parent n.reset;
-      end = ap (λ (u : List Incarnation). end_of u i) is ∙ end_of-with_end t i n.end there;
-    }
-
-keeps_new : (tree : List Incarnation) (n : Incarnation) → AreIncarnations tree → AreIncarnations (tree ++ n ∷ []) → Keeps tree (tree ++ n ∷ [])
-keeps_new tree n are new =
-    let t = with_branch tree n.parent n.reset in
-    let i = length tree + 1 in
-    let long = length-append tree (n ∷ []) in
-    let facts = new_is tree n in
-    let some = are.some in
-    let branch = new.branches i (omega arith) (omega arith) in
-    let range = new.ranges i (omega arith, omega arith) in
-    let parent : IsThere tree n.parent = (let h = branch.parent in let e = facts.parent in (omega arith, omega arith)) in
-    let risen : end_of t i ≤ n.end = (let e = end_of-branched tree n.parent n.reset in let r = facts.reset in let f = facts.end in omega arith) in
-    subst (λ (u : List Incarnation). Keeps tree u) (sym (is_branch tree n))
-    (keeps_both tree t (with_end t i n.end) (keeps_branch tree n.parent n.reset (parents_below tree are) parent) (keeps_end t i n.end (IsThere-branched tree n.parent n.reset) risen))
-
--- a tree that grows keeps all that was there
-pub grown_keeps : (old : List Incarnation) (current : ℕ) (new : List Incarnation) → AreIncarnations old → AreIncarnations new → TreeGrows old current new → Keeps old new
-grown_keeps old current new are after (inl end) = subst (λ (u : List Incarnation). Keeps old u) (sym end.2) (keeps_end old current (end_of new current) end.0 end.1)
-grown_keeps old current new are after (inr more) =
-    let n = more.1.0 in
-    let is = more.1.1 in
-    subst (λ (u : List Incarnation). Keeps old u) (sym is) (keeps_new old n are (subst (λ (u : List Incarnation). AreIncarnations u) is after))
-
--- the current incarnation is there
-pub current_there : (old : List Incarnation) (current : ℕ) (new : List Incarnation) → TreeGrows old current new → IsThere new current
-current_there old current new (inl end) = subst (λ (u : List Incarnation). IsThere u current) (sym end.2) (IsThere-with_end old current (end_of new current) current end.0)
-current_there old current new (inr more) = let long = length-append old (more.1.0 ∷ []) in let same = ap length more.1.1 in let is = more.0 in (omega arith, omega arith)
 
 -- No path but its own owns the end of an incarnation: what branched off it began at or below there.
 own-by : (tree : List Incarnation) (j : ℕ) → AreIncarnations tree → (most i : ℕ) → i ≤ most → IsThere tree i → owner tree i (end_of tree j) ≡ j → i ≡ j

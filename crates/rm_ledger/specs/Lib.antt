@@ -1,3 +1,3 @@
 pub mod Facts
-pub mod Growth
+pub mod Fresh
 pub mod Ledger

@@ -4,22 +4,12 @@ ghost use Rattle.rm_base.specs.Numbers.{last_scn, last_moment};
 ghost use Rattle.rm_catalog.specs.Edits.{after_edits};
 ghost use Rattle.rm_catalog.specs.Rules.{IsCatalog};
 ghost use Rattle.rm_ledger.specs.Facts.{IsLedger};
-ghost use Rattle.rm_ledger.specs.Growth.{Growth, Fits, grown, edits_of, fresh, fresh_edits};
+ghost use Rattle.rm_ledger.specs.Fresh.{fresh, fresh_edits};
 ghost use Rattle.rm_ledger.specs.Ledger.{Ledger, records_of};
 
 /// The records of a ledger are a catalog's.
 pub fn a_ledger_is_valid()
     ensures { (l : Ledger) → IsLedger l → IsCatalog (records_of l) }
-{}
-
-/// The edits of a growth make the records those of the grown ledger.
-pub fn edits_follow_growth()
-    ensures { (l : Ledger) (g : Growth) → IsLedger l → Fits l g → after_edits (edits_of l g) (records_of l) ≡ records_of (grown l g) }
-{}
-
-/// A growth that fits leaves a ledger.
-pub fn growth_keeps_a_ledger()
-    ensures { (l : Ledger) (g : Growth) → IsLedger l → Fits l g → IsLedger (grown l g) }
 {}
 
 /// A new database has a ledger, and the edits of its records make them.

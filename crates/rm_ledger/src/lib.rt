@@ -1,7 +1,7 @@
-//! The records of a database, kind by kind, and the edits that follow it.
+//! The records of a database, kind by kind, and what is true of them.
 #![tactic(auto)]
 
-pub mod edits;
+pub mod founding;
 pub mod laws;
-#[cfg(test)]
-mod tests;
+
+pub use founding::fresh_edits;

@@ -1,7 +1,7 @@
 //! A new catalog, and a catalog at the moment of a statement.
 ghost use Rattle.std.specs.Prelude.{◌≡◌, ◌≤◌, IfOk, OnOk, None};
 ghost use Rattle.rm_base.specs.Numbers.{last_moment, last_scn};
-ghost use Rattle.rm_ledger.specs.Growth.{fresh};
+ghost use Rattle.rm_ledger.specs.Fresh.{fresh};
 ghost use Rattle.rm_repository.specs.Changes.{EditsFollow, with_moment, without_saved};
 ghost use Rattle.rm_repository.specs.Facts.{IsRepository};
 ghost use Rattle.rm_repository.specs.Starting.{with_earlier};

@@ -1,15 +1,11 @@
 -- The first of records, by kind and then by id.
-use Rattle.std.proofs.Common.{◌≡◌, ◌∙◌, ◌++◌, ◌∷◌, ◌⊎◌, inl, inr, ℕ, zero, List, [], Option, Some, None, refl, sym, subst, arith}
-use Rattle.std.specs.Prelude.{Contains, IsPermutation, IfSome, IfErr, IsErrAnd, Result, Ok, Err}
-use Rattle.std.proofs.lemmas.List.Elements.{Contains-append_left, Contains-append_right, Contains-push, Contains-push_cases}
+use Rattle.std.proofs.Common.{◌≡◌, ◌∙◌, ◌++◌, ◌∷◌, ◌⊎◌, inl, inr, zero, List, [], Option, Some, None, refl, sym, subst, arith}
+use Rattle.std.specs.Prelude.{Contains, IsPermutation, IfSome}
+use Rattle.std.proofs.lemmas.List.Elements.{Contains-append_left, Contains-push, Contains-push_cases}
 use Rattle.std.proofs.lemmas.List.Sorted.{Contains-permutation, IsPermutation-sym}
-use Rattle.rm_catalog.specs.declared.catalog.CatalogFault.{CatalogFault}
-use Rattle.rm_catalog.specs.declared.catalog.CatalogFault.TheVariants.{BadRow, NoMemory}
 use Rattle.rm_catalog.specs.declared.record.Key.{Key}
 use Rattle.rm_catalog.specs.declared.record.Record.{Record}
-use Rattle.rm_catalog.specs.Faults.{IsBadRow}
 use Rattle.rm_catalog.specs.Keys.{key_of}
-use Rattle.rm_site.specs.Faults.{IsBadFirst, of_catalog}
 use Rattle.rm_site.specs.Opens.{IsFirst, IsUpTo}
 
 -- the first of these, or none of none
@@ -65,17 +61,6 @@ first-any ks rs key same is = record {
   least = λ r has. is.least r (Contains-permutation ks rs r same has);
 }
 
--- no record is the first bad one of none
-pub none-bad : (rs : List Record) (kind id : ℕ) → rs ≡ [] → IsBadRow rs (BadRow kind id) → ⊥
-none-bad rs kind id empty bad =
-    let order : IsPermutation rs bad.0 = bad.1.permutation in
-    let first = bad.2 in
-    let within : Contains bad.0 first.bad = subst (λ xs. Contains xs first.bad) (sym first.list) (Contains-append_right first.front (first.bad ∷ first.rest) first.bad (zero, omega arith, refl)) in
-    let old : Contains rs first.bad = Contains-permutation bad.0 rs first.bad (IsPermutation-sym rs bad.0 order) within in
-    let none : Contains [] first.bad = subst (λ xs. Contains xs first.bad) empty old in
-    let lt = none.1 in
-    omega (arith, lt)
-
 -- the order of none is none
 pub none-in-order : (ks rs : List Record) → IsPermutation ks rs → rs ≡ [] → ks ≡ []
 none-in-order [] rs same empty = refl
@@ -89,13 +74,3 @@ none-in-order (k ∷ ks) rs same empty =
 pub told-map : {X : Type 0} (P Q : X → Type 0) (o : Option X) → ((x : X) → P x → Q x) → IfSome o P → IfSome o Q
 told-map P Q None f is = tt
 told-map P Q (Some x) f is = f x is
-
--- a catalog of no records answers no bad one
-pub fault-first : (rs : List Record) (ks : Option (List Record)) (fault : CatalogFault) → rs ≡ [] → IsBadRow rs fault → IfSome ks (IsBadFirst (of_catalog fault))
-fault-first rs ks (BadRow kind id) empty bad = absurd (none-bad rs kind id empty bad)
-fault-first rs None NoMemory empty bad = tt
-fault-first rs (Some xs) NoMemory empty bad = tt
-
-pub on-fault : {T E : Type 0} (Q : E → Type 0) (r : Result T E) (f : E) → IsErrAnd r (λ e. e ≡ f) → Q f → IfErr r Q
-on-fault Q (Ok x) f is q = tt
-on-fault Q (Err e) f is q = subst Q (sym is) q

@@ -1,23 +1,16 @@
 -- Which fault a failed call makes of the opening of a site.
 use Rattle.std.specs.Prelude.{◌≡◌, List, []}
-use Rattle.rm_catalog.specs.declared.catalog.CatalogFault.{CatalogFault}
-use Rattle.rm_catalog.specs.declared.catalog.CatalogFault.TheVariants as catalog
 use Rattle.rm_catalog.specs.declared.keeper.KeeperFail.{KeeperFail}
 use Rattle.rm_catalog.specs.declared.keeper.KeeperFail.TheVariants as keeper
 use Rattle.rm_catalog.specs.declared.record.Record.{Record}
-use Rattle.rm_site.specs.declared.site.OpenFault.{OpenFault}
-use Rattle.rm_site.specs.declared.site.OpenFault.TheVariants.{BadRow, StoreFault, KeeperFault, NoMemory}
+use Rattle.rm_site.specs.declared.open.OpenFault.{OpenFault}
+use Rattle.rm_site.specs.declared.open.OpenFault.TheVariants.{BadRow, StoreFault, KeeperFault, NoMemory}
 use Rattle.rm_site.specs.Opens.{IsFirst}
 
 -- a fault of the keeper, or no memory
 abbrev pub fault_of : KeeperFail → OpenFault
 fault_of keeper.Failed = KeeperFault
 fault_of keeper.NoMemory = NoMemory
-
--- a record that is told, or no memory
-abbrev pub of_catalog : CatalogFault → OpenFault
-of_catalog (catalog.BadRow kind id) = BadRow kind id
-of_catalog catalog.NoMemory = NoMemory
 
 -- where a record is told, it is the first of these; the store fails only where there is none
 abbrev pub IsBadFirst : OpenFault → List Record → Type 0

@@ -1,12 +1,3 @@
-pub mod Advances
+pub mod Comes
 pub mod Faults
-pub mod Follows
-pub mod Holds
-pub mod Limits
-pub mod Machine
-pub mod Marks
 pub mod Opens
-pub mod Saves
-pub mod Step
-pub mod Stopped
-pub mod View

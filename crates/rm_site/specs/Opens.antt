@@ -4,9 +4,7 @@ use Rattle.rm_base.specs.Store.{Held}
 use Rattle.rm_catalog.specs.declared.record.Key.{Key}
 use Rattle.rm_catalog.specs.declared.record.Record.{Record}
 use Rattle.rm_catalog.specs.Keys.{key_of}
-use Rattle.rm_site.specs.Holds.{Holds}
-use Rattle.rm_site.specs.Machine.{nothing}
-use Rattle.rm_site.specs.View.{View, Stands}
+use Rattle.rm_frame.specs.Holds.{Holds, Stands, View, nothing}
 
 -- a key comes before another, by kind and then by id, or is the same
 abbrev pub IsUpTo : Key → Key → Type 0

@@ -1,15 +1,13 @@
-//! The site: a database over a store of objects and a catalog of records, one step at a time.
+//! The site: a database or none, over a store of objects and a keeper of records.
 #![tactic(auto)]
 
-mod follow;
-mod limits;
-mod marks;
-mod open;
-mod pieces;
+mod create;
+mod moment;
+pub mod open;
 pub mod site;
+mod statement;
+mod step;
 
+pub use open::OpenFault;
 pub use rm_change::Stop;
-pub use site::{OpenFault, Site};
-
-#[cfg(test)]
-mod tests;
+pub use site::Site;

@@ -4,10 +4,9 @@ use Rattle.rm_base.specs.Store.{Held, Answers}
 use Rattle.rm_catalog.specs.declared.record.Record.{Record}
 use Rattle.rm_token.specs.declared.token.Token.{Token}
 use Rattle.rm_token.specs.Statements.{statements}
-use Rattle.rm_site.specs.Holds.{Holds}
-use Rattle.rm_site.specs.Machine.{Machine, nothing}
+use Rattle.rm_machine.specs.Machine.{Machine}
+use Rattle.rm_frame.specs.Holds.{Holds, View, nothing}
 use Rattle.rm_site.specs.Opens.{Opens}
-use Rattle.rm_site.specs.View.{View}
 use Rattle.rm_tool.specs.Serving.{FromEach, Serves, EndsAtStatement, EndsInReplies}
 use Rattle.rm_tool.specs.Session.{Script, FromNone, OfScript}
 

@@ -1,11 +1,12 @@
 -- A run goes on by one statement.
-use Rattle.std.proofs.Common.{◌≡◌, ◌+◌, ◌∙◌, ◌++◌, ◌||◌, ℕ, zero, suc, List, [], ◌∷◌, Option, Some, None, IfSome, Bool, false, refl, ap, sym, subst, arith, append-nil, append_assoc, slice_get, take, drop, length}
+use Rattle.std.proofs.Common.{◌≡◌, ◌+◌, ◌≤◌, ◌∙◌, ◌++◌, ◌||◌, ℕ, zero, suc, List, [], ◌∷◌, Option, Some, None, IfSome, Bool, false, inl, inr, refl, ap, sym, subst, arith, append-nil, slice_get, take, length}
 use Rattle.std.specs.List.{list_any}
+use Rattle.std.proofs.lemmas.Bool.{cases_lt}
 use Rattle.std.proofs.lemmas.Grind.{flat_map-append}
-use Rattle.std.proofs.lemmas.List.{length-append}
+use Rattle.std.proofs.lemmas.List.{length-append, length-take-le, length_push, take-append-le, take_all}
 use Rattle.std.proofs.lemmas.List.Folds.{list_any-append}
 use Rattle.std.proofs.Math.Bool.{or-false}
-use Rattle.std.proofs.Math.Seq.{take-add, take-append_seam, drop-append_seam}
+use Rattle.std.proofs.Math.Seq.{take-append-add, take-append_seam, take-length}
 use Rattle.rm_base.specs.Outside.{Appends}
 use Rattle.rm_base.specs.Store.{Held, Answers, Both}
 use Rattle.rm_base.proofs.Streams.{appends-then, appends-nothing}
@@ -15,29 +16,36 @@ use Rattle.rm_tool.specs.Built.{command_at}
 use Rattle.rm_token.specs.declared.token.Token.{Token}
 use Rattle.rm_report.specs.declared.line.Reply.{Reply}
 use Rattle.rm_report.specs.Text.{reply_text}
-use Rattle.rm_site.specs.Holds.{Holds}
-use Rattle.rm_site.specs.Machine.{Machine}
-use Rattle.rm_site.specs.View.{View, Stands}
+use Rattle.rm_machine.specs.Machine.{Machine, DigestsTell}
+use Rattle.rm_frame.specs.Holds.{Holds, Stands, View}
 use Rattle.rm_tool.specs.Ends.{WritesFront}
-use Rattle.rm_tool.specs.Run.{StepOf, StatementStep, past, behind, Run, AreToCome, replies_text}
+use Rattle.rm_tool.specs.Run.{StepOf, StatementStep, past, behind, Run, DigestsTellAlong, RunsTo, AreToCome, replies_text}
 use Rattle.rm_tool.specs.Serving.{IsPast, IsServed, IsCut, IsCutShort, Serves, EndsAtStatement, EndsInReplies}
 
--- a run over these statements, from one machine on to another, as far as it came: each run that goes on from there
--- is one from the beginning, at the answers of the clock
-abbrev pub Extends : Machine → Option Answers → List (ℕ × List Token) → List Reply → Machine → Option Answers → Type 0
-Extends first told ss rs mid now =
-    (answers : Answers) → AreToCome now answers → (ts : List (ℕ × List Token)) → (qs : List Reply) → (last : Machine) → Run mid answers ts qs last
-    → (all : Answers) × AreToCome told all × Run first all (ss ++ ts) (rs ++ qs) last × (behind ss all ≡ answers)
+-- The machine's run over these statements, with these replies, as far as it came: each course of the clock from
+-- here on is that of a whole one, and where digests tell along the run, this is so of the machine at its end.
+abbrev pub Extends : Machine → Option Answers → List (ℕ × List Token) → List Reply → Option Answers → (Machine → Type 0) → Type 0
+Extends first told ss rs now Is = (answers : Answers) → AreToCome now answers → (all : Answers) × AreToCome told all × (behind ss all ≡ answers) × RunsTo first all ss rs Is
+
+-- the site stands for the machine, which the store and the keeper hold
+abbrev pub IsAt : View → Option Held → Option (List Record) → Machine → Type 0
+IsAt site held kept m = Stands site m × Holds held kept m
 
 -- a run over these statements from one machine on to one that the site stands for, whose replies were written
 pub record Progress (ss : List (ℕ × List Token)) (told now : Option Answers) (before written : Option (List ℕ)) (held : Option Held) (kept : Option (List Record)) (site : View) (refused : Bool) (first : Machine) : Type 0 where
   pub replies : List Reply
-  pub mid : Machine
-  pub extends : Extends first told ss replies mid now
-  pub stands : Stands site mid
-  pub holds : Holds held kept mid
+  pub many : length replies ≡ length ss
   pub appends : Appends before written (replies_text replies)
   pub some : refused ≡ list_any (λ r. r.refused) replies
+  pub extends : Extends first told ss replies now (IsAt site held kept)
+
+-- a statement was served, and its reply was not written yet
+pub record Reached (ss : List (ℕ × List Token)) (told now : Option Answers) (before written : Option (List ℕ)) (held : Option Held) (kept : Option (List Record)) (site : View) (refused : Bool) (r : Reply) (first : Machine) : Type 0 where
+  pub replies : List Reply
+  pub many : length replies + 1 ≡ length ss
+  pub appends : Appends before written (replies_text replies)
+  pub some : refused ≡ list_any (λ q. q.refused) replies
+  pub extends : Extends first told ss (replies ++ r ∷ []) now (IsAt site held kept)
 
 -- an answer before others
 abbrev before_all : ℕ → Answers → Answers
@@ -72,18 +80,58 @@ behind-both : (ss ts : List (ℕ × List Token)) (f : Answers) → behind (ss ++
 behind-both [] ts f = refl
 behind-both (s ∷ ss) ts f = behind-both ss ts (past (command_at s.1) f)
 
+-- a run, and the step of the statement after it
+run-more : (ss : List (ℕ × List Token)) (rs : List Reply) (first mid new : Machine) (all : Answers) (s : ℕ × List Token) (r : Reply)
+    → Run first all ss rs mid → StatementStep mid s (behind ss all 0) r new → Run first all (ss ++ s ∷ []) (rs ++ r ∷ []) new
+run-more [] [] first mid new all s r run step = (new, subst (λ (m : Machine). StatementStep m s (all 0) r new) run step, refl)
+run-more [] (q ∷ qs) first mid new all s r run step = absurd run
+run-more (t ∷ ts) [] first mid new all s r run step = absurd run
+run-more (t ∷ ts) (q ∷ qs) first mid new all s r run step = (run.0, run.1, run-more ts qs run.0 mid new (past (command_at t.1) all) s r run.2 step)
+
+-- the first of xs are the first of xs and more
+first-of : {A : Type 0} (xs ys : List A) (n k : ℕ) → length xs ≡ n → k ≤ n → take k (xs ++ ys) ≡ take k xs
+first-of xs ys n k long low = take-append-le k xs ys (omega (arith, long, low))
+
+all-of : {A : Type 0} (xs ys : List A) (n : ℕ) → length xs ≡ n → take n (xs ++ ys) ≡ xs
+all-of xs ys n long = ap (λ (k : ℕ). take k (xs ++ ys)) (sym long) ∙ take-append_seam xs ys
+
+module _ (first : Machine) (all : Answers) (ss : List (ℕ × List Token)) (rs : List Reply) (s : ℕ × List Token) (r : Reply) (many : length rs ≡ length ss)
+    (tells : DigestsTellAlong first all (ss ++ s ∷ []) (rs ++ r ∷ [])) where
+  abbrev Goes : List (ℕ × List Token) → List Reply → Machine → Type 0
+  Goes ts qs m = Run first all ts qs m
+
+  go-on : (k : ℕ) (ts : List (ℕ × List Token)) (qs : List Reply) (m : Machine) → take k (ss ++ s ∷ []) ≡ ts → take k (rs ++ r ∷ []) ≡ qs → Goes ts qs m → DigestsTell m
+  go-on k ts qs m those these run =
+      tells k m
+      (subst (λ (us : List (ℕ × List Token)). Goes us (take k (rs ++ r ∷ [])) m) (sym those) (subst (λ (us : List Reply). Goes ts us m) (sym these) run))
+
+  -- digests tell before the last statement
+  tell-here : (m : Machine) → Goes ss rs m → DigestsTell m
+  tell-here m run = go-on (length ss) ss rs m (all-of ss (s ∷ []) (length ss) refl) (all-of rs (r ∷ []) (length ss) many) run
+
+  -- and all along the run up to it
+  tell-before : DigestsTellAlong first all ss rs
+  tell-before k m run = elim (cases_lt k (length ss)) [
+    | inl low ↦ go-on k (take k ss) (take k rs) m (first-of ss (s ∷ []) (length ss) k refl (omega (arith, low))) (first-of rs (r ∷ []) (length ss) k many (omega (arith, low))) run
+    | inr high ↦
+        let whole : Goes (take k ss) rs m = subst (λ (us : List Reply). Goes (take k ss) us m) (take_all k rs (omega (arith, many, high))) run in
+        tell-here m (subst (λ (us : List (ℕ × List Token)). Goes us rs m) (take_all k ss high) whole)
+  ]
+
 -- one statement more
-extends-more : (first : Machine) (told now later : Option Answers) (ss : List (ℕ × List Token)) (rs : List Reply) (mid new : Machine) (s : ℕ × List Token) (r : Reply) (a : ℕ) → Extends first told ss rs mid now → IfSome now (λ coming. a ≡ coming 0) → Both (IsPast (command_at s.1)) now later → StatementStep mid s a r new → Extends first told (ss ++ s ∷ []) (rs ++ r ∷ []) new later
-extends-more first told now later ss rs mid new s r a extends next passed step = λ answers come ts qs last run.
+extends-more : (first : Machine) (told now later : Option Answers) (ss : List (ℕ × List Token)) (rs : List Reply) (s : ℕ × List Token) (r : Reply) (a : ℕ) (Is Becomes : Machine → Type 0)
+    → length rs ≡ length ss → IfSome now (λ coming. a ≡ coming 0) → Both (IsPast (command_at s.1)) now later
+    → ((m : Machine) → Is m → DigestsTell m → (n : Machine) × StatementStep m s a r n × Becomes n)
+    → Extends first told ss rs now Is → Extends first told (ss ++ s ∷ []) (rs ++ r ∷ []) later Becomes
+extends-more first told now later ss rs s r a Is Becomes many next passed step extends = λ answers come.
     let o : Option Command = command_at s.1 in
-    let rest : Run new (past o (from o a answers)) ts qs last = subst (λ (f : Answers). Run new f ts qs last) (sym (past-from o a answers)) run in
-    let all = extends (from o a answers) (told-from o a answers now later next passed come) (s ∷ ts) (r ∷ qs) last (new, step-from o mid new s.0 a answers r step, rest) in
-    let seamed : Run first all.0 ((ss ++ s ∷ []) ++ ts) (rs ++ (r ∷ qs)) last = subst (λ (us : List (ℕ × List Token)). Run first all.0 us (rs ++ (r ∷ qs)) last) (sym (append_assoc ss (s ∷ []) ts)) all.2 in (
-      all.0,
-      all.1,
-      subst (λ (us : List Reply). Run first all.0 ((ss ++ s ∷ []) ++ ts) us last) (sym (append_assoc rs (r ∷ []) qs)) seamed,
-      behind-both ss (s ∷ []) all.0 ∙ ap (past o) all.3 ∙ past-from o a answers,
-    )
+    let all = extends (from o a answers) (told-from o a answers now later next passed come) in
+    let goes : RunsTo first all.0 (ss ++ s ∷ []) (rs ++ r ∷ []) Becomes = λ tells.
+        let mid = all.3 (tell-before first all.0 ss rs s r many tells) in
+        let n = step mid.0 mid.2 (tell-here first all.0 ss rs s r many tells mid.0 mid.1) in
+        let at : StatementStep mid.0 s (behind ss all.0 0) r n.0 = subst (λ (f : Answers). StatementStep mid.0 s (f 0) r n.0) (sym all.2) (step-from o mid.0 n.0 s.0 a answers r n.1) in
+        (n.0, run-more ss rs first mid.0 n.0 all.0 s r mid.1 at, n.2) in
+    (all.0, all.1, behind-both ss (s ∷ []) all.0 ∙ ap (past o) all.2 ∙ past-from o a answers, goes)
 
 any-push : (rs : List Reply) (r : Reply) → list_any (λ q. q.refused) (rs ++ r ∷ []) ≡ (list_any (λ q. q.refused) rs || r.refused)
 any-push rs r = list_any-append (λ (q : Reply). q.refused) rs (r ∷ []) ∙ ap (λ b. list_any (λ (q : Reply). q.refused) rs || b) (or-false r.refused)
@@ -96,35 +144,23 @@ pub progress-none : (told : Option Answers) (o : Option (List ℕ)) (held : Opti
 progress-none told o held kept site first stands holds =
     record {
       replies = [];
-      mid = first;
-      extends = λ answers come ts qs last run. (answers, come, run, refl);
-      stands = stands;
-      holds = holds;
+      many = refl;
       appends = appends-nothing o;
       some = refl;
+      extends = λ answers come. (answers, come, refl, λ tells. (first, refl, (stands, holds)));
     }
 
--- a statement was served, and its reply was not written yet
-pub record Reached (ss : List (ℕ × List Token)) (told now : Option Answers) (before written : Option (List ℕ)) (held : Option Held) (kept : Option (List Record)) (site : View) (refused : Bool) (r : Reply) (first : Machine) : Type 0 where
-  pub replies : List Reply
-  pub mid : Machine
-  pub extends : Extends first told ss (replies ++ r ∷ []) mid now
-  pub stands : Stands site mid
-  pub holds : Holds held kept mid
-  pub appends : Appends before written (replies_text replies)
-  pub some : refused ≡ list_any (λ q. q.refused) replies
-
+-- a statement is served
 pub progress-reached : (ss : List (ℕ × List Token)) (told now later : Option Answers) (before written : Option (List ℕ)) (held held' : Option Held) (kept kept' : Option (List Record)) (site site' : View) (refused : Bool) (s : ℕ × List Token) (r : Reply) (first : Machine) → Progress ss told now before written held kept site refused first → IsServed held kept site now s r held' kept' site' later → Reached (ss ++ s ∷ []) told later before written held' kept' site' refused r first
 progress-reached ss told now later before written held held' kept kept' site site' refused s r first p served =
-    let next = served.steps p.mid p.stands p.holds in
     record {
       replies = p.replies;
-      mid = next.0;
-      extends = extends-more first told now later ss p.replies p.mid next.0 s r served.answer p.extends served.next served.past next.1;
-      stands = next.2;
-      holds = next.3;
+      many = omega (arith, p.many, length_push ss s);
       appends = p.appends;
       some = p.some;
+      extends =
+          extends-more first told now later ss p.replies s r served.answer (IsAt site held kept) (IsAt site' held' kept') p.many served.next served.past
+          (λ m is tell. let n = served.steps m is.0 is.1 tell in (n.0, n.1, (n.2, n.3))) p.extends;
     }
 
 -- its reply was written
@@ -132,12 +168,10 @@ pub reached-more : (ss : List (ℕ × List Token)) (told now : Option Answers) (
 reached-more ss told now before written after held kept site refused r first p grows =
     record {
       replies = p.replies ++ r ∷ [];
-      mid = p.mid;
-      extends = p.extends;
-      stands = p.stands;
-      holds = p.holds;
+      many = length_push p.replies r ∙ p.many;
       appends = subst (Appends before after) (sym (text-push p.replies r)) (appends-then before written after (replies_text p.replies) (reply_text r) p.appends grows);
       some = ap (λ b. b || r.refused) p.some ∙ sym (any-push p.replies r);
+      extends = p.extends;
     }
 
 -- answers that a clock may give from here on
@@ -154,53 +188,65 @@ answers-with : (now : Option Answers) (a : ℕ) → IfSome now (λ coming. a ≡
 answers-with None a next = ((λ i. a), tt, refl)
 answers-with (Some coming) a next = (coming, (λ i. refl), sym next)
 
--- the run ends here, where the clock may give these answers
-extends-ends : (first : Machine) (told now : Option Answers) (ss : List (ℕ × List Token)) (rs : List Reply) (mid : Machine) (answers : Answers) → AreToCome now answers → Extends first told ss rs mid now → (all : Answers) × AreToCome told all × Run first all ss rs mid × (behind ss all ≡ answers)
-extends-ends first told now ss rs mid answers come extends =
-    let all = extends answers come [] [] mid refl in
-    let short : Run first all.0 ss (rs ++ []) mid = subst (λ (us : List (ℕ × List Token)). Run first all.0 us (rs ++ []) mid) (append-nil ss) all.2 in
-    (all.0, all.1, subst (λ (us : List Reply). Run first all.0 ss us mid) (append-nil rs) short, all.3)
-
 -- all statements were served
 pub progress-serves : (ss : List (ℕ × List Token)) (told now : Option Answers) (before written : Option (List ℕ)) (held : Option Held) (kept : Option (List Record)) (site : View) (refused : Bool) (first : Machine) → Progress ss told now before written held kept site refused first → Serves told before written held kept refused ss first
 progress-serves ss told now before written held kept site refused first p =
-    let all = extends-ends first told now ss p.replies p.mid (answers_from now) (come-from now) p.extends in
-    record { answers = all.0; told = all.1; replies = p.replies; last = p.mid; run = all.2; holds = p.holds; written = p.appends; some = p.some }
-
--- the statement i was cut short
-pub progress-cut : (ss : List (ℕ × List Token)) (i : ℕ) (s : ℕ × List Token) (told now : Option Answers) (before written : Option (List ℕ)) (held held' : Option Held) (kept kept' : Option (List Record)) (site : View) (refused : Bool) (first : Machine) → slice_get ss i ≡ Some s → Progress (take i ss) told now before written held kept site refused first → IsCutShort held kept site now s held' kept' → EndsAtStatement told before written held' kept' ss first
-progress-cut ss i s told now before written held held' kept kept' site refused first there p short =
-    let f = answers-with now short.answer short.next in
-    let all = extends-ends first told now (take i ss) p.replies p.mid f.0 f.1 p.extends in
+    let all = p.extends (answers_from now) (come-from now) in
     record {
+      answers = all.0;
+      told = all.1;
       replies = p.replies;
-      last = p.mid;
-      begun = record { answers = all.0; told = all.1; count = i; run = all.2 };
+      many = p.many;
       written = p.appends;
-      statement = s;
-      next = there;
-      cut = subst (λ (a : ℕ). IsCut p.mid s a held' kept') (sym (ap (λ (g : Answers). g 0) all.3 ∙ f.2)) (short.cut p.mid p.stands p.holds);
+      some = p.some;
+      run = λ tells. let last = all.3 tells in (last.0, last.1, last.2.1);
     }
 
--- a front of a text behind another
-take-behind : (xs ys : List ℕ) (n : ℕ) → take (length xs + n) (xs ++ ys) ≡ xs ++ take n ys
-take-behind xs ys n = take-add (length xs) n (xs ++ ys) ∙ ap (λ zs. zs ++ take n (drop (length xs) (xs ++ ys))) (take-append_seam xs ys) ∙ ap (λ zs. xs ++ take n zs) (drop-append_seam xs ys)
+-- the whole of a run is a front of it
+whole-run : (first : Machine) (all : Answers) (ss : List (ℕ × List Token)) (rs : List Reply) (m : Machine) → length rs ≡ length ss → Run first all ss rs m → Run first all (take (length ss) ss) (take (length ss) rs) m
+whole-run first all ss rs m many run =
+    let those : take (length ss) rs ≡ rs = ap (λ (k : ℕ). take k rs) (sym many) ∙ take-length rs in
+    subst (λ (ts : List (ℕ × List Token)). Run first all ts (take (length ss) rs) m) (sym (take-length ss)) (subst (λ (qs : List Reply). Run first all ss qs m) (sym those) run)
+
+-- the statement i was cut short
+pub progress-cut : (ss : List (ℕ × List Token)) (i : ℕ) (s : ℕ × List Token) (told now : Option Answers) (before written : Option (List ℕ)) (held held' : Option Held) (kept kept' : Option (List Record)) (site : View) (refused : Bool) (first : Machine) → i ≤ length ss → slice_get ss i ≡ Some s → Progress (take i ss) told now before written held kept site refused first → IsCutShort held kept site now s held' kept' → EndsAtStatement told before written held' kept' ss first
+progress-cut ss i s told now before written held held' kept kept' site refused first low there p short =
+    let f = answers-with now short.answer short.next in
+    let all = p.extends f.0 f.1 in
+    let count : length p.replies ≡ i = p.many ∙ length-take-le i ss low in
+    let cut : RunsTo first all.0 (take i ss) p.replies (λ m. IsCut m s (behind (take i ss) all.0 0) held' kept') = λ tells.
+        let last = all.3 tells in
+        let here : DigestsTell last.0 = tells (length (take i ss)) last.0 (whole-run first all.0 (take i ss) p.replies last.0 p.many last.1) in
+        (last.0, last.1, subst (λ (a : ℕ). IsCut last.0 s a held' kept') (sym (ap (λ (g : Answers). g 0) all.2 ∙ f.2)) (short.cut last.0 last.2.0 last.2.1 here)) in
+    record {
+      answers = all.0;
+      told = all.1;
+      replies = p.replies;
+      written = p.appends;
+      statement = s;
+      next = subst (λ (n : ℕ). slice_get ss n ≡ Some s) (sym count) there;
+      run = subst (λ (n : ℕ). RunsTo first all.0 (take n ss) p.replies (λ m. IsCut m s (behind (take n ss) all.0 0) held' kept')) (sym count) cut;
+    }
 
 front-behind : (before now after : Option (List ℕ)) (xs ys : List ℕ) → Appends before now xs → WritesFront now after ys → WritesFront before after (xs ++ ys)
 front-behind before now after xs ys h (n, within, k) = (
   length xs + n,
   omega (arith, within, length-append xs ys),
-  subst (Appends before after) (sym (take-behind xs ys n)) (appends-then before now after xs (take n ys) h k),
+  subst (Appends before after) (sym (take-append-add xs ys n)) (appends-then before now after xs (take n ys) h k),
 )
 
--- the sink failed in the reply to a statement
-pub reached-ends : (ss : List (ℕ × List Token)) (n : ℕ) (told now : Option Answers) (before written after : Option (List ℕ)) (held : Option Held) (kept : Option (List Record)) (site : View) (refused : Bool) (r : Reply) (first : Machine) → Reached (take n ss) told now before written held kept site refused r first → WritesFront written after (reply_text r) → EndsInReplies told before after held kept ss first
-reached-ends ss n told now before written after held kept site refused r first p front =
-    let all = extends-ends first told now (take n ss) (p.replies ++ r ∷ []) p.mid (answers_from now) (come-from now) p.extends in
+-- the sink failed in the reply to the statement before n
+pub reached-ends : (ss : List (ℕ × List Token)) (n : ℕ) (told now : Option Answers) (before written after : Option (List ℕ)) (held : Option Held) (kept : Option (List Record)) (site : View) (refused : Bool) (r : Reply) (first : Machine) → n ≤ length ss → Reached (take n ss) told now before written held kept site refused r first → WritesFront written after (reply_text r) → EndsInReplies told before after held kept ss first
+reached-ends ss n told now before written after held kept site refused r first low p front =
+    let replies : List Reply = p.replies ++ r ∷ [] in
+    let all = p.extends (answers_from now) (come-from now) in
+    let count : length replies ≡ n = length_push p.replies r ∙ p.many ∙ length-take-le n ss low in
+    let run : RunsTo first all.0 (take n ss) replies (Holds held kept) = λ tells. let last = all.3 tells in (last.0, last.1, last.2.1) in
     record {
-      replies = p.replies ++ r ∷ [];
-      last = p.mid;
-      begun = record { answers = all.0; told = all.1; count = n; run = all.2 };
+      answers = all.0;
+      told = all.1;
+      replies = replies;
+      many = omega (arith, count, low);
       written = subst (WritesFront before after) (sym (text-push p.replies r)) (front-behind before written after (replies_text p.replies) (reply_text r) p.appends front);
-      holds = p.holds;
+      run = subst (λ (k : ℕ). RunsTo first all.0 (take k ss) replies (Holds held kept)) (sym count) run;
     }

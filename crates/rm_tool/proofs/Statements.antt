@@ -8,11 +8,11 @@ use Rattle.rm_tool.specs.Built.{command_at}
 use Rattle.rm_token.specs.declared.token.Token.{Token}
 use Rattle.rm_report.specs.declared.line.Reply.{Reply}
 use Rattle.rm_report.specs.Reply.{refused_by}
-use Rattle.rm_site.specs.Holds.{Holds}
-use Rattle.rm_site.specs.Machine.{Machine, records}
-use Rattle.rm_site.specs.Step.{Steps}
-use Rattle.rm_site.specs.Stopped.{Stops}
-use Rattle.rm_site.specs.View.{View}
+use Rattle.rm_machine.specs.Machine.{Machine}
+use Rattle.rm_frame.specs.Holds.{Holds, View}
+use Rattle.rm_frame.specs.Steps.{Steps}
+use Rattle.rm_frame.specs.Stopped.{Stops}
+use Rattle.rm_frame.proofs.Halting.{ends-here}
 use Rattle.rm_tool.specs.Run.{StepOf}
 use Rattle.rm_tool.specs.Serving.{IsPast, IsServed, IsCut, untouched, stopped, IsCutShort}
 use Rattle.rm_tool.proofs.Runs.{answers_from}
@@ -20,6 +20,14 @@ use Rattle.rm_tool.proofs.Runs.{answers_from}
 pub ok-map : {A E : Type 0} (P Q : A → Type 0) → ((a : A) → P a → Q a) → (r : Result A E) → IfOk r P → IfOk r Q
 ok-map P Q f (Ok a) h = f a h
 ok-map P Q f (Err e) h = h
+
+pub on-err : {A E : Type 0} (P : Type 0) (r : Result A E) → P → OnErr r P
+on-err P (Ok a) p = tt
+on-err P (Err e) p = p
+
+pub err-map : {A E : Type 0} (P Q : Type 0) → (P → Q) → (r : Result A E) → OnErr r P → OnErr r Q
+err-map P Q f (Ok a) h = h
+err-map P Q f (Err e) h = f h
 
 next-from : (o : Option Answers) → IfSome o (λ coming. answers_from o 0 ≡ coming 0)
 next-from None = tt
@@ -44,7 +52,7 @@ served-refused held kept v clock s reply none is =
       answer = answers_from clock 0;
       next = next-from clock;
       past = subst (λ (o : Option Command). Both (IsPast o) clock clock) (sym none) (stays clock);
-      steps = λ m stands holds. (m, subst (λ (o : Option Command). StepOf o m s.0 (answers_from clock 0) reply m) (sym none) (is, refl), stands, holds);
+      steps = λ m stands holds tell. (m, subst (λ (o : Option Command). StepOf o m s.0 (answers_from clock 0) reply m) (sym none) (is, refl), stands, holds);
     }
 
 -- a command is a step of the site at the clock's answer
@@ -54,28 +62,23 @@ served-step held held' kept kept' v v' clock clock' s c answer reply some next l
       answer = answer;
       next = next;
       past = subst (λ (o : Option Command). Both (IsPast o) clock clock') (sym some) (passes c clock clock' later);
-      steps = λ m stands holds. let n = steps m stands holds in (n.0, subst (λ (o : Option Command). StepOf o m s.0 answer reply n.0) (sym some) n.1, n.2, n.3);
+      steps = λ m stands holds tell. let n = steps m stands holds tell in (n.0, subst (λ (o : Option Command). StepOf o m s.0 answer reply n.0) (sym some) n.1, n.2, n.3);
     }
-
-pub err-map : {A E : Type 0} (P Q : Type 0) → (P → Q) → (r : Result A E) → OnErr r P → OnErr r Q
-err-map P Q f (Ok a) h = h
-err-map P Q f (Err e) h = f h
 
 -- nothing was done
 pub cut-before : (held : Option Held) (kept : Option (List Record)) (v : View) (clock : Option Answers) (s : ℕ × List Token) → IsCutShort held kept v clock s held kept
-cut-before held kept v clock s = record { answer = answers_from clock 0; next = next-from clock; cut = λ m stands holds. untouched holds }
+cut-before held kept v clock s = record { answer = answers_from clock 0; next = next-from clock; cut = λ m stands holds tell. untouched holds }
 
 -- the site stopped the command
 pub cut-step : (held held' : Option Held) (kept kept' : Option (List Record)) (v : View) (clock : Option Answers) (s : ℕ × List Token) (c : Command) (answer : ℕ) → command_at s.1 ≡ Some c → IfSome clock (λ coming. answer ≡ coming 0) → Stops held kept v c answer held' kept' → IsCutShort held kept v clock s held' kept'
 cut-step held held' kept kept' v clock s c answer some next stops =
-    record { answer = answer; next = next; cut = λ m stands holds. let left = stops m stands holds in stopped c left.0 some left.1 left.2 }
+    record { answer = answer; next = next; cut = λ m stands holds tell. let left = stops m stands holds tell in stopped c left.0 some left.1 left.2 }
 
 cut-by : (o : Option Command) (m n : Machine) (s : ℕ × List Token) (answer : ℕ) (reply : Reply) (held : Option Held) (kept : Option (List Record)) → command_at s.1 ≡ o → StepOf o m s.0 answer reply n → Holds held kept n → IsCut m s answer held kept
 cut-by None m n s answer reply held kept none step holds = untouched (subst (Holds held kept) step.1 holds)
 cut-by (Some c) m n s answer reply held kept some step holds =
-    stopped c (record { objects = n.objects; records = records n }) some
-    (n, inr (reply, step), record { records = refl; objects = λ name named. refl })
-    (record { store = holds.store; keeper = holds.keeper })
+    let left = ends-here held kept c n holds in
+    stopped c left.0 some (record { machine = n; one = inr (reply, step); left = left.1 }) left.2
 
 -- the statement was served, and no word of its reply was written
 pub cut-served : (held held' : Option Held) (kept kept' : Option (List Record)) (v v' : View) (clock clock' : Option Answers) (s : ℕ × List Token) (reply : Reply) → IsServed held kept v clock s reply held' kept' v' clock' → IsCutShort held kept v clock s held' kept'
@@ -83,5 +86,5 @@ cut-served held held' kept kept' v v' clock clock' s reply served =
     record {
       answer = served.answer;
       next = served.next;
-      cut = λ m stands holds. let n = served.steps m stands holds in cut-by (command_at s.1) m n.0 s served.answer reply held' kept' refl n.1 n.3;
+      cut = λ m stands holds tell. let n = served.steps m stands holds tell in cut-by (command_at s.1) m n.0 s served.answer reply held' kept' refl n.1 n.3;
     }

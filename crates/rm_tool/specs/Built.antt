@@ -4,7 +4,7 @@ use Rattle.rm_command.specs.declared.command.Command.{Command}
 use Rattle.rm_command.specs.declared.command.Statement.{Statement}
 use Rattle.rm_command.specs.declared.command.Statement.TheVariants.{Plain, Run}
 use Rattle.rm_command.specs.Language.{statement_at}
-use Rattle.rm_database.specs.Built.{is_built}
+use Rattle.rm_machine.specs.Built.{is_built}
 use Rattle.rm_token.specs.declared.token.Token.{Token}
 
 -- the command of a statement that is built; a RUN is not

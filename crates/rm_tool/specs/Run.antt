@@ -1,5 +1,5 @@
 -- The machine's run over the statements of a script, and the clock's answers to them.
-use Rattle.std.specs.Prelude.{ℕ, suc, ◌≡◌, Option, Some, None, IfSome, List, [], ◌∷◌}
+use Rattle.std.specs.Prelude.{ℕ, suc, ◌≡◌, Option, Some, None, IfSome, List, [], ◌∷◌, take}
 use Rattle.std.specs.List.{flat_map}
 use Rattle.rm_base.specs.Store.{Answers}
 use Rattle.rm_base.specs.declared.refusal.Refusal.TheVariants.{Rm01}
@@ -9,14 +9,15 @@ use Rattle.rm_tool.specs.Built.{command_at}
 use Rattle.rm_report.specs.declared.line.Reply.{Reply}
 use Rattle.rm_report.specs.Reply.{refused_by}
 use Rattle.rm_report.specs.Text.{reply_text}
-use Rattle.rm_site.specs.Machine.{Machine}
-use Rattle.rm_site.specs.Step.{Step}
+use Rattle.rm_machine.specs.Machine.{Machine, DigestsTell}
+use Rattle.rm_machine.specs.Step.{Step}
+use Rattle.rm_frame.specs.Moments.{moment_of}
 
 -- A statement of this line, where the clock answers so: one that is not of the grammar, or not built, is refused
--- and changes nothing, and each other one is a step of the machine.
+-- and changes nothing, and each other one is a step of the machine at its moment.
 abbrev pub StepOf : Option Command → Machine → ℕ → ℕ → Reply → Machine → Type 0
 StepOf None old line clock reply new = (reply ≡ refused_by (Rm01 line)) × (new ≡ old)
-StepOf (Some c) old line clock reply new = Step old c clock reply new
+StepOf (Some c) old line clock reply new = Step old c (moment_of old.state clock) reply new
 
 -- a statement with the line of its first token
 abbrev pub StatementStep : Machine → ℕ × List Token → ℕ → Reply → Machine → Type 0
@@ -34,6 +35,17 @@ Run old answers (s ∷ ss) (r ∷ rs) new =
     (mid : Machine) × StatementStep old s (answers 0) r mid × Run mid (past (command_at s.1) answers) ss rs new
 Run old answers [] (r ∷ rs) new = ⊥
 Run old answers (s ∷ ss) [] new = ⊥
+
+-- Digests tell along a run: at each machine to which the first of these statements lead, where the clock gives
+-- these answers and the machine these replies.
+abbrev pub DigestsTellAlong : Machine → Answers → List (ℕ × List Token) → List Reply → Type 0
+DigestsTellAlong first answers ss replies = (k : ℕ) (m : Machine) → Run first answers (take k ss) (take k replies) m → DigestsTell m
+
+-- Where digests tell along it, the machine has a run over these statements with these replies, and this is so of
+-- the machine at its end.
+abbrev pub RunsTo : Machine → Answers → List (ℕ × List Token) → List Reply → (Machine → Type 0) → Type 0
+RunsTo first answers ss replies Is =
+    DigestsTellAlong first answers ss replies → (last : Machine) × Run first answers ss replies last × Is last
 
 -- the answers behind those that these statements use
 abbrev pub behind : List (ℕ × List Token) → Answers → Answers

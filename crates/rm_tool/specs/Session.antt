@@ -7,7 +7,8 @@ use Rattle.rm_catalog.specs.declared.record.Key.{Key}
 use Rattle.rm_catalog.specs.declared.record.Record.{Record}
 use Rattle.rm_token.specs.Statements.{statements}
 use Rattle.rm_token.specs.declared.token.Token.{Token}
-use Rattle.rm_site.specs.Machine.{Machine, nothing}
+use Rattle.rm_machine.specs.Machine.{Machine}
+use Rattle.rm_frame.specs.Holds.{nothing}
 use Rattle.rm_site.specs.Opens.{IsFirst}
 use Rattle.rm_tool.specs.Ends.{WritesFront}
 use Rattle.rm_tool.specs.Serving.{Serves, EndsAtStatement, EndsInReplies}
@@ -52,9 +53,9 @@ pub record OfScript (left rest : Option (List ℕ)) (Is : List (ℕ × List Toke
   pub read : Script left rest script
   pub is : Is (statements script) (nothing objects)
 
--- Status 0 and 1: from no database the machine ran over the statements of the script with the clock's answers,
--- and what was written are exactly its replies. The status tells whether one of them is a refusal, and the store
--- and the keeper hold what the machine has at the end.
+-- Status 0 and 1: what was written are exactly the replies to the statements of the script, and the status tells
+-- whether one of them is a refusal. Where digests tell, they are those of the machine's run from no database on
+-- with the clock's answers, and the store and the keeper hold what the machine has at the end.
 pub record Finishes (left rest : Option (List ℕ)) (clock : Option Answers) (before now : Option (List ℕ)) (held : Option Held) (kept : Option (List Record)) (status : ℕ) (objects : Held) : Type 0 where
   pub refused : Bool
   pub serves : OfScript left rest (Serves clock before now held kept refused) objects
@@ -65,7 +66,8 @@ abbrev pub TellsNone : Option (List Record) → Type 0
 TellsNone kept = IfSome kept (λ rs. rs ≡ [])
 
 -- Status 5, 6 and 7: the call ended before the first statement, with nothing written and nothing done; or at a
--- statement, and what was written are exactly the replies to those before it.
+-- statement, and what was written are exactly the replies to those before it. Where digests tell, the store and
+-- the keeper hold what a stop of that statement leaves.
 pub data EndsEarly (left rest : Option (List ℕ)) (clock : Option Answers) (before now : Option (List ℕ)) (held : Option Held) (kept : Option (List Record)) (held' : Option Held) (kept' : Option (List Record)) : Type 0 where
   before_statements : now ≡ before → AreSame held kept held' kept' → EndsEarly left rest clock before now held kept held' kept'
   at_statement : TellsNone kept → FromNone held kept (OfScript left rest (EndsAtStatement clock before now held' kept')) → EndsEarly left rest clock before now held kept held' kept'

@@ -1,12 +1,12 @@
 //! The statements that the program answers by a step.
 ghost use Rattle.std.specs.Prelude.{◌≡◌, IfOk, IfSome, IsTrue};
 ghost use Rattle.rm_lang.specs.IsCommand.{is_command};
-ghost use Rattle.rm_database.specs.Built.{is_built};
+ghost use Rattle.rm_machine.specs.Built.{is_built};
 ghost use Rattle.rm_tool.specs.Built.{command_at};
 
 use rm_base::NoMemory;
-use rm_database::is_built;
 use rm_lang::{Command, Statement, statement_of};
+use rm_machine::is_built;
 use rm_token::Token;
 use std::alloc::Global;
 

@@ -10,9 +10,9 @@ use crate::ends::write_all;
 use rm_base::{Clock, Failed, NoMemory, Refusal, Seq, Sink, Store};
 use rm_catalog::Keeper;
 use rm_change::Stop;
-use rm_database::refusal_reply;
-use rm_report::{Reply, bytes_of};
 use rm_site::Site;
+use rm_machine::refusal_reply;
+use rm_report::{Reply, bytes_of};
 use rm_token::Token;
 use std::alloc::Global;
 

@@ -2,7 +2,7 @@ use Rattle.std.proofs.Common.{◌∙◌, IfSome, refl, subst}
 use Rattle.rm_base.specs.Outside.{Appends}
 use Rattle.rm_catalog.specs.declared.record.Key.{Key}
 use Rattle.rm_site.specs.Faults.{IsBadFirst}
-use Rattle.rm_site.specs.declared.site.OpenFault.{OpenFault}
+use Rattle.rm_site.specs.declared.open.OpenFault.{OpenFault}
 use Rattle.rm_tool.specs.Ends.{WritesFront}
 use Rattle.rm_tool.specs.Session.{bad_record}
 use Rattle.rm_tool.proofs.opening.open_site.Goals as goal

@@ -1,11 +1,10 @@
 use Rattle.std.proofs.Common.{◌≡◌, ◌∙◌, None, ℕ, List, sym}
 use Rattle.rm_token.specs.declared.token.Token.{Token}
 use Rattle.rm_report.specs.declared.line.Reply.{Reply}
-use Rattle.rm_site.specs.Step.{Steps}
-use Rattle.rm_site.specs.Stopped.{Stops}
-use Rattle.rm_site.proofs.Stopping.{on-err}
+use Rattle.rm_frame.specs.Steps.{Steps}
+use Rattle.rm_frame.specs.Stopped.{Stops}
 use Rattle.rm_tool.specs.Serving.{IsServed, IsCutShort}
-use Rattle.rm_tool.proofs.Statements.{ok-map, err-map, served-refused, served-step, cut-before, cut-step}
+use Rattle.rm_tool.proofs.Statements.{ok-map, err-map, on-err, served-refused, served-step, cut-before, cut-step}
 use Rattle.rm_tool.proofs.session.serve.Goals as goal
 
 pub returns-in_default-clause-served : goal.returns-in_default-clause-served

@@ -3,7 +3,7 @@ use Rattle.std.proofs.Math.Seq.{take-length}
 use Rattle.std.proofs.lemmas.List.{take_more}
 use Rattle.std.proofs.lemmas.Option.{slice_get_read}
 use Rattle.rm_base.specs.Outside.{Appends}
-use Rattle.rm_site.specs.Machine.{Machine}
+use Rattle.rm_machine.specs.Machine.{Machine}
 use Rattle.rm_token.specs.declared.token.Token.{Token}
 use Rattle.rm_report.specs.Text.{reply_text}
 use Rattle.rm_tool.specs.Ends.{WritesFront}
@@ -35,7 +35,7 @@ returns-in_err-reply-clause-store g c = λ is m stands holds.
     let short : IsCutShort (held c.loop-line.store) (kept c.loop-line.keeper) c.loop-line.site (answers c.loop-line.clock) s (held c.serve.new.store) (kept c.serve.new.keeper) =
     subst (λ (ts : List Token). IsCutShort (held c.loop-line.store) (kept c.loop-line.keeper) c.loop-line.site (answers c.loop-line.clock) (s.0, ts) (held c.serve.new.store) (kept c.serve.new.keeper)) c.as_slice.ensures c.in_err-reply.ensures.cut in
     let there : slice_get ss i ≡ Some s = slice_get_read ss (length ss) i s refl c.loop-line-test.true c.loop-line-item.is in
-    progress-cut ss i s (answers c.args.clock.now) (answers c.loop-line.clock) (told c.args.sink.now) (told c.loop-line.sink) (held c.loop-line.store) (held c.serve.new.store) (kept c.loop-line.keeper) (kept c.serve.new.keeper) c.loop-line.site c.loop-line.refused m there (c.loop-line.invariant.progress m stands holds) short
+    progress-cut ss i s (answers c.args.clock.now) (answers c.loop-line.clock) (told c.args.sink.now) (told c.loop-line.sink) (held c.loop-line.store) (held c.serve.new.store) (kept c.loop-line.keeper) (kept c.serve.new.keeper) c.loop-line.site c.loop-line.refused m (omega (arith, c.loop-line-test.true)) there (c.loop-line.invariant.progress m stands holds) short
 
 pub returns-in_err-reply-clause-keeper : goal.returns-in_err-reply-clause-keeper
 returns-in_err-reply-clause-keeper g c = λ is m stands holds.
@@ -49,7 +49,7 @@ returns-in_err-reply-clause-keeper g c = λ is m stands holds.
     let short : IsCutShort (held c.loop-line.store) (kept c.loop-line.keeper) c.loop-line.site (answers c.loop-line.clock) s (held c.serve.new.store) (kept c.serve.new.keeper) =
     subst (λ (ts : List Token). IsCutShort (held c.loop-line.store) (kept c.loop-line.keeper) c.loop-line.site (answers c.loop-line.clock) (s.0, ts) (held c.serve.new.store) (kept c.serve.new.keeper)) c.as_slice.ensures c.in_err-reply.ensures.cut in
     let there : slice_get ss i ≡ Some s = slice_get_read ss (length ss) i s refl c.loop-line-test.true c.loop-line-item.is in
-    progress-cut ss i s (answers c.args.clock.now) (answers c.loop-line.clock) (told c.args.sink.now) (told c.loop-line.sink) (held c.loop-line.store) (held c.serve.new.store) (kept c.loop-line.keeper) (kept c.serve.new.keeper) c.loop-line.site c.loop-line.refused m there (c.loop-line.invariant.progress m stands holds) short
+    progress-cut ss i s (answers c.args.clock.now) (answers c.loop-line.clock) (told c.args.sink.now) (told c.loop-line.sink) (held c.loop-line.store) (held c.serve.new.store) (kept c.loop-line.keeper) (kept c.serve.new.keeper) c.loop-line.site c.loop-line.refused m (omega (arith, c.loop-line-test.true)) there (c.loop-line.invariant.progress m stands holds) short
 
 pub returns-in_err-reply-clause-memory : goal.returns-in_err-reply-clause-memory
 returns-in_err-reply-clause-memory g c = λ is m stands holds.
@@ -63,7 +63,7 @@ returns-in_err-reply-clause-memory g c = λ is m stands holds.
     let short : IsCutShort (held c.loop-line.store) (kept c.loop-line.keeper) c.loop-line.site (answers c.loop-line.clock) s (held c.serve.new.store) (kept c.serve.new.keeper) =
     subst (λ (ts : List Token). IsCutShort (held c.loop-line.store) (kept c.loop-line.keeper) c.loop-line.site (answers c.loop-line.clock) (s.0, ts) (held c.serve.new.store) (kept c.serve.new.keeper)) c.as_slice.ensures c.in_err-reply.ensures.cut in
     let there : slice_get ss i ≡ Some s = slice_get_read ss (length ss) i s refl c.loop-line-test.true c.loop-line-item.is in
-    progress-cut ss i s (answers c.args.clock.now) (answers c.loop-line.clock) (told c.args.sink.now) (told c.loop-line.sink) (held c.loop-line.store) (held c.serve.new.store) (kept c.loop-line.keeper) (kept c.serve.new.keeper) c.loop-line.site c.loop-line.refused m there (c.loop-line.invariant.progress m stands holds) short
+    progress-cut ss i s (answers c.args.clock.now) (answers c.loop-line.clock) (told c.args.sink.now) (told c.loop-line.sink) (held c.loop-line.store) (held c.serve.new.store) (kept c.loop-line.keeper) (kept c.serve.new.keeper) c.loop-line.site c.loop-line.refused m (omega (arith, c.loop-line-test.true)) there (c.loop-line.invariant.progress m stands holds) short
 
 pub returns-in_err-bytes-clause-memory : goal.returns-in_err-bytes-clause-memory
 returns-in_err-bytes-clause-memory g c = λ is m stands holds.
@@ -79,7 +79,7 @@ returns-in_err-bytes-clause-memory g c = λ is m stands holds.
     subst (λ (ts : List Token). IsServed (held c.loop-line.store) (kept c.loop-line.keeper) c.loop-line.site (answers c.loop-line.clock) (s.0, ts) reply (held c.serve.new.store) (kept c.serve.new.keeper) c.serve.new.site (answers c.serve.new.clock)) c.as_slice.ensures c.in_ok-reply.ensures.served in
     let short = cut-served (held c.loop-line.store) (held c.serve.new.store) (kept c.loop-line.keeper) (kept c.serve.new.keeper) c.loop-line.site c.serve.new.site (answers c.loop-line.clock) (answers c.serve.new.clock) s reply served in
     let there : slice_get ss i ≡ Some s = slice_get_read ss (length ss) i s refl c.loop-line-test.true c.loop-line-item.is in
-    progress-cut ss i s (answers c.args.clock.now) (answers c.loop-line.clock) (told c.args.sink.now) (told c.loop-line.sink) (held c.loop-line.store) (held c.serve.new.store) (kept c.loop-line.keeper) (kept c.serve.new.keeper) c.loop-line.site c.loop-line.refused m there (c.loop-line.invariant.progress m stands holds) short
+    progress-cut ss i s (answers c.args.clock.now) (answers c.loop-line.clock) (told c.args.sink.now) (told c.loop-line.sink) (held c.loop-line.store) (held c.serve.new.store) (kept c.loop-line.keeper) (kept c.serve.new.keeper) c.loop-line.site c.loop-line.refused m (omega (arith, c.loop-line-test.true)) there (c.loop-line.invariant.progress m stands holds) short
 
 pub returns-in_err-write_all-clause-sink : goal.returns-in_err-write_all-clause-sink
 returns-in_err-write_all-clause-sink g c = λ is m stands holds.
@@ -98,7 +98,7 @@ returns-in_err-write_all-clause-sink g c = λ is m stands holds.
     λ m p. subst (λ (ts : List (ℕ × List Token)). Reached ts (answers c.args.clock.now) (answers c.serve.new.clock) (told c.args.sink.now) (told c.loop-line.sink) (held c.serve.new.store) (kept c.serve.new.keeper) c.serve.new.site c.loop-line.refused reply m) (sym more) (progress-reached (take i ss) (answers c.args.clock.now) (answers c.loop-line.clock) (answers c.serve.new.clock) (told c.args.sink.now) (told c.loop-line.sink) (held c.loop-line.store) (held c.serve.new.store) (kept c.loop-line.keeper) (kept c.serve.new.keeper) c.loop-line.site c.serve.new.site c.loop-line.refused s reply m p served) in
     let front : WritesFront (told c.loop-line.sink) (told c.write_all.new.sink) (reply_text reply) =
     subst (WritesFront (told c.loop-line.sink) (told c.write_all.new.sink)) (c.as_slice-in-loop-line.ensures ∙ c.in_ok-bytes.ensures) c.in_err-write_all.ensures.prefix in
-    reached-ends ss (i + 1) (answers c.args.clock.now) (answers c.serve.new.clock) (told c.args.sink.now) (told c.loop-line.sink) (told c.write_all.new.sink) (held c.serve.new.store) (kept c.serve.new.keeper) c.serve.new.site c.loop-line.refused reply m (reached m (c.loop-line.invariant.progress m stands holds)) front
+    reached-ends ss (i + 1) (answers c.args.clock.now) (answers c.serve.new.clock) (told c.args.sink.now) (told c.loop-line.sink) (told c.write_all.new.sink) (held c.serve.new.store) (kept c.serve.new.keeper) c.serve.new.site c.loop-line.refused reply m (omega (arith, c.loop-line-test.true)) (reached m (c.loop-line.invariant.progress m stands holds)) front
 
 pub loop-line-preserved : goal.loop-line-preserved
 loop-line-preserved g c =

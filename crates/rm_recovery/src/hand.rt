@@ -1,0 +1,158 @@
+//! What is at hand: what is in place, and what the store has of the records.
+ghost use Rattle.std.specs.Prelude.{◌≡◌, ◌≤◌, ◌<◌, ◌∷◌, ◌++◌, [], IfOk, IfSome, IsErrOf, OnOk, map, cond};
+ghost use Rattle.std.specs.List.{filter_map};
+ghost use Rattle.rm_base.specs.Outside.{Rose};
+ghost use Rattle.rm_catalog.specs.Rules.{IsCatalog};
+ghost use Rattle.rm_evidence.specs.Known.{FitsTree};
+ghost use Rattle.rm_machine.specs.Recovery.{IsAtHand, in_place, online_logs};
+ghost use Rattle.rm_machine.specs.Sound.{IsSound};
+ghost use Rattle.rm_machine.specs.State.{counted, current_of, is_lost, ledger, now_of, online, tree};
+ghost use Rattle.rm_redo.specs.LogFile.{log_file_of};
+ghost use Rattle.rm_repository.specs.Repository.{records_of};
+
+use rm_base::{NoMemory, Scn, Seq, Store, ThreadNo};
+use rm_blocks::DataFile;
+use rm_catalog::{Catalog as Records, CatalogFault, Record};
+use rm_evidence::{Evidence, EvidenceFault, InPlace, gather};
+use rm_machine::State;
+use rm_machine::facts::{now, redo_end, threads};
+use rm_redo::LogFile;
+use rm_repository::Catalog;
+use std::alloc::Global;
+
+/// What a recovery rests on.
+#[derive(Drop)]
+pub(crate) struct AtHand {
+    /// The records of the catalog.
+    pub records: Records,
+    /// What is in place, and what the store has of these records.
+    pub evidence: Evidence,
+}
+
+// An equal datafile; in an open database as one of the current incarnation at `now`.
+fn counted_copy(alloc: Global, state: &State, file: &DataFile) -> Result<DataFile, NoMemory>
+    requires sound { IsSound state.now }
+    ensures { IfOk result (λ x. x ≡ counted state.now file.now) }
+{
+    let rows = Seq::from_vec(Vec::from_slice(alloc, file.rows())?);
+    let mut copy = DataFile::from_rows(file.file(), file.inc(), file.checkpoint(), rows);
+    if state.instance.is_open {
+        copy.stand(state.catalog.base().current, now(state));
+    }
+    Ok(copy)
+}
+
+// The datafiles in place that are not lost, as what they count.
+fn files_in_place(alloc: Global, state: &State) -> Result<Seq<DataFile>, NoMemory>
+    requires sound { IsSound state.now }
+    ensures { IfOk result (λ files. files ≡ map (counted state.now) (filter_map (λ o. o) state.now.instance.place)) }
+{
+    let mut files = Seq::new(alloc);
+    for placed in state.instance.place.as_slice() {
+        if let Some(file) = placed {
+            files.push(counted_copy(alloc, state, file)?)?;
+        }
+    }
+    Ok(files)
+}
+
+// The online log of a thread, up to the end of its incarnation.
+fn online_copy(alloc: Global, state: &State, thread: ThreadNo) -> Result<LogFile, NoMemory>
+    requires sound { IsSound state.now }
+    requires some { 0 < thread }
+    requires there { thread ≤ (ledger state.now).base.threads }
+    ensures { IfOk result (λ log. log ≡ online state.now thread) }
+{
+    let logs = &state.instance.logs;
+    Ok(LogFile {
+        records: Seq::from_vec(Vec::from_slice(alloc, logs.records(thread))?),
+        dbid: state.catalog.base().dbid,
+        inc: logs.inc(),
+        thread,
+        sequence: logs.sequence(thread),
+        first: logs.first(thread),
+        next: redo_end(state),
+    })
+}
+
+// Adds the online log of a thread, where it is not lost.
+fn push_online(
+    alloc: Global,
+    state: &State,
+    logs: &mut Seq<LogFile>,
+    thread: ThreadNo,
+) -> Result<(), NoMemory>
+    requires sound { IsSound state.now }
+    requires some { 0 < thread }
+    requires there { thread ≤ (ledger state.now).base.threads }
+    ensures { OnOk result (logs.new ≡ logs.old ++ cond (is_lost state.now.instance.logs thread) [] (online state.now thread ∷ [])) }
+{
+    if !state.instance.logs.is_lost(thread) {
+        logs.push(online_copy(alloc, state, thread)?)?;
+    }
+    Ok(())
+}
+
+// The online logs that are not lost.
+fn logs_in_place(alloc: Global, state: &State) -> Result<Seq<LogFile>, NoMemory>
+    requires sound { IsSound state.now }
+    ensures { IfOk result (λ logs. logs ≡ online_logs state.now 1 (ledger state.now).base.threads) }
+{
+    let mut logs = Seq::new(alloc);
+    for index in 0..threads(state) {
+        push_online(alloc, state, &mut logs, index + 1)?;
+    }
+    Ok(logs)
+}
+
+// What is in place, and not lost.
+fn in_place(alloc: Global, state: &State) -> Result<InPlace, NoMemory>
+    requires sound { IsSound state.now }
+    ensures { IfOk result (λ place. place ≡ in_place state.now) }
+{
+    Ok(InPlace {
+        files: files_in_place(alloc, state)?,
+        logs: logs_in_place(alloc, state)?,
+    })
+}
+
+// Valid records in order, as a list.
+fn as_records(records: Seq<Record>) -> Result<Records, NoMemory>
+    requires { IsCatalog records }
+    ensures { IfOk result (λ list. list ≡ records) }
+{
+    match Records::from_records(records) {
+        Ok(records) => Ok(records),
+        Err(CatalogFault::NoMemory) => Err(NoMemory),
+        Err(CatalogFault::BadRow(..)) => unreachable!(),
+    }
+}
+
+// The records of a catalog, as a list.
+fn records_of(alloc: Global, catalog: &Catalog) -> Result<Records, NoMemory>
+    ensures { IfOk result (λ records. records ≡ records_of catalog.now) }
+{
+    // The catalog keeps the rules.
+    let _ = catalog.base();
+    as_records(catalog.records(alloc)?)
+}
+
+/// What is at hand: what the store has of the records that count as available, and what is in place.
+pub(crate) fn at_hand<D: Store>(
+    alloc: Global,
+    state: &State,
+    store: &mut D,
+) -> Result<AtHand, EvidenceFault>
+    requires sound { IsSound state.now }
+    ensures records { IfOk result (λ hand. hand.records ≡ records_of state.now.catalog) }
+    ensures evidence { IfOk result (λ hand. IfSome (D.held store.old) (λ h. IsAtHand state.now h hand.evidence)) }
+    ensures fits { IfOk result (λ hand. FitsTree (tree state.now) hand.evidence) }
+    ensures same { D.held store.new ≡ D.held store.old }
+    ensures failed { IsErrOf result EvidenceFault.StoreFault → Rose (D.faults store.old) (D.faults store.new) }
+    ensures never_falls { D.faults store.old ≤ D.faults store.new }
+{
+    let records = records_of(alloc, &state.catalog)?;
+    let place = in_place(alloc, state)?;
+    let evidence = gather(alloc, &records, store, &place)?;
+    Ok(AtHand { records, evidence })
+}

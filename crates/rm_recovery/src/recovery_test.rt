@@ -1,0 +1,73 @@
+//! RECOVER DATABASE [UNTIL SCN s] [INCARNATION i] TEST
+ghost use Rattle.std.specs.Prelude.{◌≡◌, ◌≤◌, IfErr, IfOk, IsErrOf, None, true};
+ghost use Rattle.rm_base.specs.Outside.{Rose};
+ghost use Rattle.rm_command.specs.declared.command.Command.TheVariants.{RecoverTest};
+ghost use Rattle.rm_history.specs.Tree.{IsThere};
+ghost use Rattle.rm_machine.specs.Hands.{Refuses, Tells};
+ghost use Rattle.rm_machine.specs.RecoverTest.{test_refusal, test_target, tested};
+ghost use Rattle.rm_machine.specs.Recovery.{is_built_until};
+ghost use Rattle.rm_machine.specs.Sound.{IsSound};
+ghost use Rattle.rm_machine.specs.State.{tree};
+
+use crate::lines::{push_test, skipped_lines};
+use crate::target::{range_refusal, target_of};
+use crate::telling::{Told, tell};
+use rm_base::{IncNo, Refusal, Seq, Store};
+use rm_command::Until;
+use rm_evidence::EvidenceFault;
+use rm_machine::State;
+use rm_report::Line;
+use std::alloc::Global;
+
+// The incarnation that is looked at: the one that is named, or the current one.
+fn tested(state: &State, inc: Option<u64>) -> u64
+    ensures { result ≡ tested state.now inc }
+{
+    inc.unwrap_or(u64::from(state.catalog.base().current))
+}
+
+/// Why RECOVER DATABASE TEST is refused by the state alone, if it is: the target is out of the range of its
+/// incarnation (RM-06), or that is not there (RM-07).
+pub fn test_refusal(state: &State, until: &Option<Until>, inc: Option<u64>) -> Option<Refusal>
+    ensures value { result ≡ test_refusal state.now until.now inc }
+{
+    let tree = state.catalog.tree();
+    let inc = tested(state, inc);
+    if inc == 0 || u64::from(tree.count()) < inc {
+        return Some(Refusal::Rm07 { inc });
+    }
+    let at = target_of(tree, inc as IncNo, until)?;
+    range_refusal(tree, inc as IncNo, at)
+}
+
+/// RECOVER DATABASE TEST, which the state alone does not refuse: tells of each datafile that exists at the target
+/// each block that was written, as what is at hand tells it, or the first gap (RM-08). Nothing changes. An error
+/// is a fault of the store, which is counted, or want of memory.
+pub fn recover_test<D: Store>(
+    alloc: Global,
+    state: &State,
+    store: &mut D,
+    until: &Option<Until>,
+    inc: Option<u64>,
+) -> Result<Result<Seq<Line>, Refusal>, EvidenceFault>
+    requires sound { IsSound state.now }
+    requires built { is_built_until until.now ≡ true }
+    requires accepted { test_refusal state.now until.now inc ≡ None }
+    ensures tells { IfOk result (λ x. IfOk x (λ lines. Tells (D.held store.old) state.now (RecoverTest until.now inc) lines)) }
+    ensures refuses { IfOk result (λ x. IfErr x (λ refusal. Refuses (D.held store.old) state.now (RecoverTest until.now inc) refusal)) }
+    ensures same { D.held store.new ≡ D.held store.old }
+    ensures store { IsErrOf result EvidenceFault.StoreFault → Rose (D.faults store.old) (D.faults store.new) }
+    ensures never_falls { D.faults store.old ≤ D.faults store.new }
+{
+    let inc = tested(state, inc) as IncNo;
+    let Some(at) = target_of(state.catalog.tree(), inc, until) else {
+        unreachable!()
+    };
+    let Told { skipped, files } = match tell(alloc, state, store, inc, at)? {
+        Ok(told) => told,
+        Err(refusal) => return Ok(Err(refusal)),
+    };
+    let mut lines = skipped_lines(alloc, skipped.as_slice())?;
+    push_test(&mut lines, state, inc, at, files.as_slice())?;
+    Ok(Ok(lines))
+}

@@ -1,0 +1,33 @@
+-- What a statement comes to, where there is a database.
+use Rattle.std.specs.Prelude.{◌≡◌, true, Option, Some, None, All}
+use Rattle.rm_base.specs.Store.{Held}
+use Rattle.rm_base.specs.declared.refusal.Refusal.{Refusal}
+use Rattle.rm_command.specs.declared.command.Command.{Command}
+use Rattle.rm_report.specs.Reply.{LineHasDate, HasDate}
+use Rattle.rm_machine.specs.Effect.{refused, told}
+use Rattle.rm_machine.specs.Hands.{Hands}
+use Rattle.rm_machine.specs.declared.state.State.{State}
+use Rattle.rm_machine.specs.Step.{IsOutcome, refusal_of}
+use Rattle.rm_site.specs.declared.statement.Answer.{Answer}
+use Rattle.rm_site.specs.declared.statement.Answer.TheVariants.{Refused, Told, Done}
+use Rattle.rm_frame.specs.Refused.{looks_at_objects}
+
+-- From the state s the statement is refused, or it only tells: then nothing changed. Or it is done, and leaves the
+-- state t.
+abbrev pub ComesTo : Option Held → State → Command → Answer → State → Type 0
+ComesTo held s c (Refused r) t = (t ≡ s) × ((objects : Held) → held ≡ Some objects → IsOutcome s objects c (refused r))
+ComesTo held s c (Told lines) t = (t ≡ s) × ((objects : Held) → held ≡ Some objects → IsOutcome s objects c (told lines))
+ComesTo held s c (Done x) t = (refusal_of s c ≡ None) × Hands held s c x t
+
+-- it is refused exactly where the state refuses it, or by what the objects hold
+abbrev pub IsRefusedBy : Option Refusal → Command → Answer → Type 0
+IsRefusedBy (Some r) c a = a ≡ Refused r
+IsRefusedBy None c (Refused r) = looks_at_objects c ≡ true
+IsRefusedBy None c (Told lines) = Unit {0}
+IsRefusedBy None c (Done x) = Unit {0}
+
+-- the moment of each RM-14 is at most the last
+abbrev pub AnswerHasDates : Answer → Type 0
+AnswerHasDates (Refused r) = HasDate r
+AnswerHasDates (Told lines) = All LineHasDate lines
+AnswerHasDates (Done x) = All LineHasDate x.lines

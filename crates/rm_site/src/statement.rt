@@ -1,0 +1,54 @@
+//! What a statement comes to, where there is a database.
+ghost use Rattle.std.specs.Prelude.{◌≡◌, ◌≤◌, Option, None, IfOk, IsTrue, IsErrOf, OnOk};
+ghost use Rattle.rm_base.specs.Outside.{Rose};
+ghost use Rattle.rm_base.specs.Store.{Held};
+ghost use Rattle.rm_change.specs.declared.change.Stop.TheVariants.{StoreFault, KeeperFault};
+ghost use Rattle.rm_repository.specs.Changes.{EditsFollow};
+ghost use Rattle.rm_machine.specs.Built.{is_built};
+ghost use Rattle.rm_machine.specs.Sound.{IsSound};
+ghost use Rattle.rm_machine.specs.Step.{IsStatement, refusal_of};
+ghost use Rattle.rm_site.specs.Comes.{AnswerHasDates, ComesTo, IsRefusedBy};
+
+use rm_base::{Refusal, Seq, Store};
+use rm_catalog::Edit;
+use rm_change::Stop;
+use rm_command::Command;
+use rm_machine::{Handed, State};
+use rm_report::Line;
+use std::alloc::Global;
+
+/// What a statement comes to.
+#[derive(Drop)]
+pub(crate) enum Answer {
+    /// It is refused, and nothing changed.
+    Refused(Refusal),
+    /// It only tells, and nothing changed.
+    Told(Seq<Line>),
+    /// It is done, but for what is carried out.
+    Done(Handed),
+}
+
+/// What a statement comes to. After an error, which is a stop, nothing is said of the state and the edits.
+pub(crate) fn come_to<D: Store>(
+    alloc: Global,
+    state: &mut State,
+    store: &mut D,
+    edits: &mut Vec<Edit>,
+    command: &Command,
+) -> Result<Answer, Stop>
+    requires command { IsStatement command.now }
+    requires built { IsTrue (is_built command.now) }
+    requires sound { IsSound state.old }
+    requires unsaved { state.old.catalog.saved ≡ None }
+    ensures comes { IfOk result (λ a. ComesTo (D.held store.old) state.old command.now a state.new) }
+    ensures refused { IfOk result (IsRefusedBy (refusal_of state.old command.now) command.now) }
+    ensures edits { OnOk result (EditsFollow edits.old.items edits.new.items state.old.catalog state.new.catalog) }
+    ensures sound { OnOk result (IsSound state.new) }
+    ensures dates { IfOk result AnswerHasDates }
+    ensures held { D.held store.new ≡ D.held store.old }
+    ensures store { IsErrOf result StoreFault → Rose (D.faults store.old) (D.faults store.new) }
+    ensures keeper { ¬ IsErrOf result KeeperFault }
+    ensures never_falls { D.faults store.old ≤ D.faults store.new }
+{
+    Err(Stop::NoMemory)
+}

@@ -1,0 +1,198 @@
+//! The steps of a site.
+ghost use Rattle.std.specs.Prelude.{◌≡◌, ◌≤◌, true, false, None, Some, IfOk, IfSome, IsTrue, OnOk, OnErr, IsErrOf};
+ghost use Rattle.rm_base.specs.Outside.{Rose};
+ghost use Rattle.rm_change.specs.declared.change.Stop.TheVariants.{StoreFault, KeeperFault};
+ghost use Rattle.rm_lang.specs.IsCommand.{is_command};
+ghost use Rattle.rm_report.specs.Reply.{HasDates};
+ghost use Rattle.rm_machine.specs.Built.{is_built};
+ghost use Rattle.rm_machine.specs.Sound.{IsSound};
+ghost use Rattle.rm_machine.specs.Step.{IsStatement};
+ghost use Rattle.rm_frame.specs.Moments.{IsMomentIn, moment_of};
+ghost use Rattle.rm_frame.specs.Refused.{AnsweredBy, refusal_in};
+ghost use Rattle.rm_frame.specs.Steps.{Steps, IsStepAt};
+ghost use Rattle.rm_frame.specs.Stopped.{Stops, IsStopAt};
+
+use crate::create::{first_records, lines_of, new_database, refusal_without};
+use crate::moment::moment_of;
+use crate::site::Site;
+use crate::statement::{Answer, come_to};
+use rm_base::{Moment, Seq, Store};
+use rm_catalog::Keeper;
+use rm_change::{Change, Stop, carry_out};
+use rm_command::Command;
+use rm_machine::{Handed, State, refusal_reply};
+use rm_report::{Line, Reply};
+use std::alloc::Global;
+use std::mem;
+
+// A reply that is no refusal.
+fn reply_of(lines: Seq<Line>) -> Reply
+    ensures lines { result.lines ≡ lines }
+    ensures refused { result.refused ≡ false }
+{
+    Reply {
+        lines,
+        refused: false,
+    }
+}
+
+// The answer to a statement where there is no database: CREATE DATABASE makes one.
+fn answer_without<D: Store, C: Keeper>(
+    alloc: Global,
+    store: &mut D,
+    keeper: &mut C,
+    command: &Command,
+    moment: Moment,
+) -> Result<(Option<State>, Reply), Stop>
+    requires command { IsStatement command.now }
+    requires moment { IsMomentIn None moment }
+    ensures sound { IfOk result (λ x. IfSome x.0 IsSound) }
+    ensures step { IfOk result (λ x. IsStepAt (D.held store.old) (C.kept keeper.old) None command.now moment x.1 (D.held store.new) (C.kept keeper.new) x.0) }
+    ensures answered { IfOk result (λ x. AnsweredBy (refusal_in None command.now moment) command.now x.1 None x.0) }
+    ensures dates { IfOk result (λ x. HasDates x.1) }
+    ensures stopped { OnErr result (IsStopAt (D.held store.old) (C.kept keeper.old) None command.now moment (D.held store.new) (C.kept keeper.new)) }
+    ensures store { IsErrOf result StoreFault → Rose (D.faults store.old) (D.faults store.new) }
+    ensures keeper { IsErrOf result KeeperFault → Rose (C.faults keeper.old) (C.faults keeper.new) }
+    ensures store_never_falls { D.faults store.old ≤ D.faults store.new }
+    ensures keeper_never_falls { C.faults keeper.old ≤ C.faults keeper.new }
+{
+    if let Some(refusal) = refusal_without(command) {
+        return Ok((None, refusal_reply(alloc, refusal)?));
+    }
+    let Command::CreateDatabase { dbid, threads, scn } = command else {
+        unreachable!()
+    };
+    let state = new_database(alloc, *dbid, *threads, *scn, moment)?;
+    let change = first_records(alloc, *dbid, *threads, *scn, moment)?;
+    let lines = lines_of(alloc, *dbid, *scn)?;
+    carry_out(store, keeper, &change)?;
+    Ok((Some(state), reply_of(lines)))
+}
+
+// The answer to a statement where there is a database. After a stop nothing is said of the state.
+fn answer_in<D: Store, C: Keeper>(
+    alloc: Global,
+    state: &mut State,
+    store: &mut D,
+    keeper: &mut C,
+    command: &Command,
+    moment: Moment,
+) -> Result<Reply, Stop>
+    requires command { IsStatement command.now }
+    requires built { IsTrue (is_built command.now) }
+    requires sound { IsSound state.old }
+    requires moment { IsMomentIn (Some state.old) moment }
+    ensures sound { OnOk result (IsSound state.new) }
+    ensures step { IfOk result (λ reply. IsStepAt (D.held store.old) (C.kept keeper.old) (Some state.old) command.now moment reply (D.held store.new) (C.kept keeper.new) (Some state.new)) }
+    ensures answered { IfOk result (λ reply. AnsweredBy (refusal_in (Some state.old) command.now moment) command.now reply (Some state.old) (Some state.new)) }
+    ensures dates { IfOk result HasDates }
+    ensures stopped { OnErr result (IsStopAt (D.held store.old) (C.kept keeper.old) (Some state.old) command.now moment (D.held store.new) (C.kept keeper.new)) }
+    ensures store { IsErrOf result StoreFault → Rose (D.faults store.old) (D.faults store.new) }
+    ensures keeper { IsErrOf result KeeperFault → Rose (C.faults keeper.old) (C.faults keeper.new) }
+    ensures store_never_falls { D.faults store.old ≤ D.faults store.new }
+    ensures keeper_never_falls { C.faults keeper.old ≤ C.faults keeper.new }
+{
+    let mut edits = Vec::new(alloc);
+    let earlier = state.catalog.begin(&mut edits, moment)?;
+    match come_to(alloc, state, store, &mut edits, command)? {
+        Answer::Refused(refusal) => {
+            state.catalog.put_back(earlier);
+            Ok(refusal_reply(alloc, refusal)?)
+        }
+        Answer::Told(lines) => {
+            state.catalog.put_back(earlier);
+            Ok(reply_of(lines))
+        }
+        Answer::Done(handed) => {
+            let Handed {
+                lines,
+                objects,
+                removes,
+            } = handed;
+            let change = Change {
+                objects,
+                edits: Seq::from_vec(edits),
+                removes,
+            };
+            carry_out(store, keeper, &change)?;
+            Ok(reply_of(lines))
+        }
+    }
+}
+
+// The answer to a statement, and the database after it.
+fn answer<D: Store, C: Keeper>(
+    alloc: Global,
+    state: Option<State>,
+    store: &mut D,
+    keeper: &mut C,
+    command: &Command,
+    moment: Moment,
+) -> Result<(Option<State>, Reply), Stop>
+    requires command { IsStatement command.now }
+    requires built { IsTrue (is_built command.now) }
+    requires sound { IfSome state IsSound }
+    requires moment { IsMomentIn state moment }
+    ensures sound { IfOk result (λ x. IfSome x.0 IsSound) }
+    ensures step { IfOk result (λ x. IsStepAt (D.held store.old) (C.kept keeper.old) state command.now moment x.1 (D.held store.new) (C.kept keeper.new) x.0) }
+    ensures answered { IfOk result (λ x. AnsweredBy (refusal_in state command.now moment) command.now x.1 state x.0) }
+    ensures dates { IfOk result (λ x. HasDates x.1) }
+    ensures stopped { OnErr result (IsStopAt (D.held store.old) (C.kept keeper.old) state command.now moment (D.held store.new) (C.kept keeper.new)) }
+    ensures store { IsErrOf result StoreFault → Rose (D.faults store.old) (D.faults store.new) }
+    ensures keeper { IsErrOf result KeeperFault → Rose (C.faults keeper.old) (C.faults keeper.new) }
+    ensures store_never_falls { D.faults store.old ≤ D.faults store.new }
+    ensures keeper_never_falls { C.faults keeper.old ≤ C.faults keeper.new }
+{
+    match state {
+        None => answer_without(alloc, store, keeper, command, moment),
+        Some(state) => {
+            let mut state = state;
+            let reply = answer_in(alloc, &mut state, store, keeper, command, moment)?;
+            Ok((Some(state), reply))
+        }
+    }
+}
+
+impl Site {
+    /// One step of the machine: the reply to a statement, where the clock answered `clock`. A refusal is a
+    /// reply too, and changes nothing. A refusal that the state decides is answered exactly where the state
+    /// decides so, whatever the store and the keeper hold.
+    ///
+    /// Each line of the reply has a text.
+    ///
+    /// New objects are put first, then all records are edited at once, then objects go that no record names.
+    /// An error is a stop, after which the site is spent and has no database any more: a fault of the store
+    /// or the keeper, which that object counted, or want of memory.
+    ///
+    /// A stop leaves the records before the statement or those after it, whole, and each object that one of
+    /// them names. Other objects may hold anything.
+    pub fn step<D: Store, C: Keeper>(
+        &mut self,
+        store: &mut D,
+        keeper: &mut C,
+        command: &Command,
+        clock: Moment,
+    ) -> Result<Reply, Stop>
+        requires live { self.old.live ≡ true }
+        requires command { IsTrue (is_command command.now) }
+        requires built { IsTrue (is_built command.now) }
+        ensures step { IfOk result (λ reply. Steps (D.held store.old) (C.kept keeper.old) self.old command.now clock reply (D.held store.new) (C.kept keeper.new) self.new) }
+        ensures answered { IfOk result (λ reply. AnsweredBy (refusal_in self.old.state command.now (moment_of self.old.state clock)) command.now reply self.old self.new) }
+        ensures dates { IfOk result HasDates }
+        ensures stopped { OnErr result (Stops (D.held store.old) (C.kept keeper.old) self.old command.now clock (D.held store.new) (C.kept keeper.new)) }
+        ensures live { OnOk result (self.new.live ≡ true) }
+        ensures spent { OnErr result (self.new ≡ record { state = None; live = false }) }
+        ensures store { IsErrOf result StoreFault → Rose (D.faults store.old) (D.faults store.new) }
+        ensures keeper { IsErrOf result KeeperFault → Rose (C.faults keeper.old) (C.faults keeper.new) }
+        ensures store_never_falls { D.faults store.old ≤ D.faults store.new }
+        ensures keeper_never_falls { C.faults keeper.old ≤ C.faults keeper.new }
+    {
+        self.live = false;
+        let state = mem::replace(&mut self.state, None);
+        let moment = moment_of(&state, clock);
+        let (state, reply) = answer(self.alloc, state, store, keeper, command, moment)?;
+        self.state = state;
+        self.live = true;
+        Ok(reply)
+    }
+}
