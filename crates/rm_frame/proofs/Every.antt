@@ -2,19 +2,19 @@
 use Rattle.rm_command.specs.declared.command.Command.{Command}
 use Rattle.rm_command.specs.declared.command.Command.TheVariants.{ArchiveLogCurrent, Backup, CreateDatabase, CreateDatafile, Dump, ListIncarnation, Mount, OpenPlain, OpenResetlogs, Recover, RecoverTest, ResetDatabase, SwitchLogfile, Write}
 use Rattle.rm_machine.specs.Laws.{LeadsOn, TellsOn}
-use Rattle.rm_machine.proofs.AddingDatafile.{create-on}
-use Rattle.rm_machine.proofs.ArchivingAll.{all-on}
-use Rattle.rm_machine.proofs.BackingUp.{backup-on}
-use Rattle.rm_machine.proofs.Branching.{resets-on}
-use Rattle.rm_machine.proofs.Choosing.{choose-on}
+use Rattle.rm_machine.proofs.AddingDatafile.{create-on, create-stays}
+use Rattle.rm_machine.proofs.ArchivingAll.{all-on, all-stays}
+use Rattle.rm_machine.proofs.BackingUp.{backup-on, backup-stays}
+use Rattle.rm_machine.proofs.Branching.{resets-on, resets-stays}
+use Rattle.rm_machine.proofs.Choosing.{choose-on, choose-stays}
 use Rattle.rm_machine.proofs.Dumping.{dump-never}
-use Rattle.rm_machine.proofs.Leading.{TellsOnBy, leads, tells}
-use Rattle.rm_machine.proofs.Mounting.{mount-on}
-use Rattle.rm_machine.proofs.Opening.{open-on}
-use Rattle.rm_machine.proofs.Recovered.{recover-on, test-never, test-tells}
-use Rattle.rm_machine.proofs.Switching.{switch-on}
-use Rattle.rm_machine.proofs.Telling.{tells-on}
-use Rattle.rm_machine.proofs.Writing.{write-on}
+use Rattle.rm_machine.proofs.Leading.{StaysBy, TellsOnBy, leads, tells}
+use Rattle.rm_machine.proofs.Mounting.{mount-on, mount-stays}
+use Rattle.rm_machine.proofs.Opening.{open-on, open-stays}
+use Rattle.rm_machine.proofs.Recovered.{recover-on, recover-stays, test-never, test-tells}
+use Rattle.rm_machine.proofs.Switching.{switch-on, switch-stays}
+use Rattle.rm_machine.proofs.Telling.{tells-on, tells-stays}
+use Rattle.rm_machine.proofs.Writing.{write-on, write-stays}
 use Rattle.rm_frame.specs.Loose.{StaysLoose}
 use Rattle.rm_frame.proofs.Founding.{never-again, never-loose}
 use Rattle.rm_frame.proofs.LooseBackup.{backup-loose}
@@ -61,3 +61,20 @@ every-loose (RecoverTest until inc) = test-loose until inc
 every-loose ListIncarnation = list-loose
 every-loose (Dump file block) = dump-loose file block
 every-loose c = λ s held lines e t sound comes. absurd comes
+
+pub every-stays : (c : Command) → StaysBy c
+every-stays (CreateDatabase dbid threads scn) = λ s objects said e t well sound unsaved none does. absurd (let clash = none in cc)
+every-stays (CreateDatafile blocks) = create-stays blocks
+every-stays (Write w) = write-stays w
+every-stays (SwitchLogfile t) = switch-stays t
+every-stays ArchiveLogCurrent = all-stays
+every-stays Mount = mount-stays
+every-stays OpenPlain = open-stays
+every-stays OpenResetlogs = resets-stays
+every-stays (ResetDatabase i) = choose-stays i
+every-stays (Backup b) = backup-stays b
+every-stays (Recover until) = recover-stays until
+every-stays (RecoverTest until inc) = tells-stays (RecoverTest until inc) (test-never until inc)
+every-stays ListIncarnation = tells-stays ListIncarnation list-never
+every-stays (Dump file block) = tells-stays (Dump file block) (dump-never file block)
+every-stays c = λ s objects said e t well sound unsaved none does. absurd does

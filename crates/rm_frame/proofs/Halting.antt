@@ -96,9 +96,15 @@ module _ (c : Command) (law : LeadsOn c) (loose : StaysLoose c) (held : Option H
       let w = leads (record { objects = m.objects; records = records m }) (record { store = holds.store; keeper = holds.keeper }) in
       halted m is holds tell held' kept' w.0 w.1 w.2
 
+-- what the store and the keeper hold of a machine they hold of the one that the next session finds
+pub ends-here : (held : Option Held) (kept : Option (List Record)) (c : Command) (n : Machine) → Holds held kept n → (n' : Machine) × IsLeft c n n' × Holds held kept n'
+ends-here held kept c n holds =
+    let same : StaysUnder c n.state n.objects n.objects = λ name names. inr refl in
+    let w : Outside = record { objects = n.objects; records = records n } in
+    (left c n n.objects, is-left c n n.objects same, left-holds c n w held kept holds.sound refl same (record { store = holds.store; keeper = holds.keeper }))
+
 -- where nothing was done yet
 pub nothing-done : (held : Option Held) (kept : Option (List Record)) (o : Option State) (c : Command) (moment : ℕ) → StopsAt held kept o c moment held kept
 nothing-done held kept o c moment m is holds tell =
-    let same : StaysUnder c m.state m.objects m.objects = λ name names. inr refl in
-    let w : Outside = record { objects = m.objects; records = records m } in
-    (left c m m.objects, record { machine = m; one = inl refl; left = is-left c m m.objects same }, left-holds c m w held kept holds.sound refl same (record { store = holds.store; keeper = holds.keeper }))
+    let left = ends-here held kept c m holds in
+    (left.0, record { machine = m; one = inl refl; left = left.1 }, left.2)

@@ -2,7 +2,7 @@
 ghost use Rattle.std.specs.Prelude.{ℕ};
 ghost use Rattle.rm_command.specs.declared.command.Command.{Command};
 ghost use Rattle.rm_command.specs.declared.command.Command.TheVariants.{CreateDatabase};
-ghost use Rattle.rm_machine.specs.Laws.{LeadsOn};
+ghost use Rattle.rm_machine.specs.Laws.{LeadsOn, StaysSound};
 ghost use Rattle.rm_frame.specs.Carries.{CarriesOn, LeadsOnWithout, StopsWell};
 ghost use Rattle.rm_frame.specs.Loose.{StaysLoose};
 
@@ -28,4 +28,9 @@ pub fn names_of_records_stay()
 pub fn each_statement_is_carried_on()
     ensures carries { (c : Command) → CarriesOn c }
     ensures stops { (c : Command) → StopsWell c }
+{}
+
+/// Whatever the devices hold, and whatever was ever written, each statement leaves a sound state.
+pub fn each_statement_keeps_a_state_sound()
+    ensures { (c : Command) → StaysSound c }
 {}
