@@ -4,6 +4,7 @@
 mod create;
 mod moment;
 pub mod open;
+mod refusing;
 pub mod site;
 mod statement;
 mod step;

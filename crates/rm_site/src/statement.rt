@@ -28,7 +28,8 @@ pub(crate) enum Answer {
     Done(Handed),
 }
 
-/// What a statement comes to. After an error, which is a stop, nothing is said of the state and the edits.
+/// What a statement comes to. It begins at its moment, and no site is saved. The state refuses it exactly where
+/// `refusal_of` says so. After an error, which is a stop, nothing is said of the state and the edits.
 pub(crate) fn come_to<D: Store>(
     alloc: Global,
     state: &mut State,
