@@ -1,5 +1,5 @@
 -- What is told, as what the statements come to.
-use Rattle.std.proofs.Common.{◌≡◌, ◌∙◌, ◌++◌, inl, inr, ℕ, List, [], ◌∷◌, Option, Some, None, Bool, true, IfSome, refl, ap, sym, subst}
+use Rattle.std.proofs.Common.{◌≡◌, ◌∙◌, ◌++◌, inl, inr, ℕ, List, [], ◌∷◌, Option, Some, None, Bool, true, IfSome, IfOk, IfErr, Result, Ok, Err, refl, ap, sym, subst}
 use Rattle.rm_base.specs.Store.{Held}
 use Rattle.rm_base.specs.declared.kinds.Bad.{Bad}
 use Rattle.rm_base.specs.declared.refusal.Refusal.{Refusal}
@@ -40,6 +40,13 @@ built-target ns i (Some (Time text)) built none = absurd (cc)
 pub gap-by : (held : Option Held) (s : State) (i at : ℕ) (e : Evidence) (x : PlanFault) (r : Refusal) → IsEvidence held s e → IsFirstFault (world s) (known_of e) i at x → NamesFault x r → IsGapBy held s i at r
 gap-by held s i at e (fault.Gap x) r is first names = record { evidence = e; is = is; file = x.file; block = x.block; inc = x.inc; scn = x.scn; first = first; names = names }
 gap-by held s i at e fault.NoMemory r is first names = absurd names
+
+-- what was told, or the gap, under the names that a statement has for them
+pub told-at : (held : Option Held) (s : State) (i j at : ℕ) (x : Result Told Refusal) (t : Told) → i ≡ j → x ≡ Ok t → IfOk x (λ u. IsToldBy held s i at u) → IsToldBy held s j at t
+told-at held s i j at x t same is by = subst (λ n. IsToldBy held s n at t) same (subst (λ y. IfOk y (λ u. IsToldBy held s i at u)) is by)
+
+pub gap-at : (held : Option Held) (s : State) (i j at : ℕ) (x : Result Told Refusal) (r : Refusal) → i ≡ j → x ≡ Err r → IfErr x (λ q. IsGapBy held s i at q) → IsGapBy held s j at r
+gap-at held s i j at x r same is by = subst (λ n. IsGapBy held s n at r) same (subst (λ y. IfErr y (λ q. IsGapBy held s i at q)) is by)
 
 module _ (held : Option Held) (s : State) (i at : ℕ) where
   at-hand : (objects : Held) (e : Evidence) → held ≡ Some objects → IsEvidence held s e → IsAtHand s objects e
