@@ -41,7 +41,7 @@ on-err P (Err e) p = p
 -- the edits of the moment, and then those of the statement, lead to the records after it
 pub edits-lead : (first all : List Edit) (s : State) (moment : ℕ) (t : State) → EditsFollow [] first s.catalog (at_moment s moment).catalog → EditsFollow first all (at_moment s moment).catalog t.catalog
     → after_edits all (records_in (Some s)) ≡ records_in (Some t)
-edits-lead first all s moment t begun done = done.lead (records_of s.catalog) (begun.lead (records_of s.catalog) refl)
+edits-lead first all s moment t begun went = went.lead (records_of s.catalog) (begun.lead (records_of s.catalog) refl)
 
 -- what a statement hands out, as the frame carries it out
 pub handed-in : (held : Option Held) (s : State) (c : Command) (moment : ℕ) (x : Handed) (edits : List Edit) (t : State) → refusal_of (at_moment s moment) c ≡ None → Hands held (at_moment s moment) c x t
@@ -107,6 +107,11 @@ module _ (held : Option Held) (kept : Option (List Record)) (c : Command) (momen
       → IsStatement c → IsMomentIn o moment → IsHanded held o c moment lines x t → Leads (Halted x) held kept held' kept' → IsStopAt held kept o c moment held' kept'
   unfolding IsStopAt
   is-halted o lines x t held' kept' well at handed leads = halts c (every-leads c) (every-loose c) held kept o moment lines x t well at handed held' kept' leads
+
+  -- where nothing was done yet
+  pub untouched : {T E : Type 0} (r : Result T E) (o : Option State) → OnErr r (IsStopAt held kept o c moment held kept)
+  unfolding IsStopAt
+  untouched r o = on-err (StopsAt held kept o c moment held kept) r (nothing-done held kept o c moment)
 
   pub is-untouched : (o : Option State) (held' : Option Held) (kept' : Option (List Record)) → held' ≡ held → kept' ≡ kept → IsStopAt held kept o c moment held' kept'
   unfolding IsStopAt
