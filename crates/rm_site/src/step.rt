@@ -70,6 +70,7 @@ fn answer_without<D: Store, C: Keeper>(
 }
 
 // The answer to a statement where there is a database. After a stop nothing is said of the state.
+#[tactic(auto, using(crate::proofs::Answering::untouched))]
 fn answer_in<D: Store, C: Keeper>(
     alloc: Global,
     state: &mut State,
