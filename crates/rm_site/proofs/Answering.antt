@@ -1,5 +1,5 @@
 -- How a statement is answered where there is a database, and over the site.
-use Rattle.std.proofs.Common.{◌≡◌, ◌∙◌, ℕ, List, [], Option, Some, None, true, refl, ap, sym, subst}
+use Rattle.std.proofs.Common.{◌≡◌, ◌∙◌, ℕ, Bool, List, [], Option, Some, None, true, refl, ap, sym, subst}
 use Rattle.std.specs.Prelude.{Result, Ok, Err, OnErr}
 use Rattle.rm_base.specs.Store.{Held}
 use Rattle.rm_base.specs.declared.refusal.Refusal.{Refusal}
@@ -26,7 +26,7 @@ use Rattle.rm_machine.proofs.Later.{sound-later}
 use Rattle.rm_frame.specs.Carries.{IsHanded, IsOutcomeIn}
 use Rattle.rm_frame.specs.Holds.{View, records_in}
 use Rattle.rm_frame.specs.Moments.{IsMomentIn, moment_of}
-use Rattle.rm_frame.specs.Refused.{AnsweredBy}
+use Rattle.rm_frame.specs.Refused.{AnsweredBy, refusal_in}
 use Rattle.rm_frame.specs.Steps.{IsStepAt, Steps, StepsAt}
 use Rattle.rm_frame.specs.Stopped.{IsStopAt, Stopped, Stops, StopsAt}
 use Rattle.rm_frame.proofs.Carried.{carried-on, refused-step, told-step}
@@ -156,20 +156,35 @@ module _ {s : State} {moment : ℕ} {r : Repository} {earlier : ℕ} {saved : Op
         (subst (λ (y : State). IsRefusedBy (refusal_of y c) c (Refused q)) at-moment (subst (λ (x : Answer). IsRefusedBy (refusal_of b c) c x) is by)) said_is
         (ap Some (back-again t u (quiet-refused q is) back))
 
--- and over the site
+-- and over the site, which shows v; its database is o
 
-pub steps-of : (held held' : Option Held) (kept kept' : Option (List Record)) (v v' : View) (c : Command) (clock moment : ℕ) (reply : Reply) → moment ≡ moment_of v.state clock
-    → IsStepAt held kept v.state c moment reply held' kept' v'.state → Steps held kept v c clock reply held' kept' v'
-unfolding IsStepAt
-steps-of held held' kept kept' v v' c clock moment reply is step m stands holds tell =
-    let same : moment ≡ moment_of m.state clock = is ∙ ap (λ (o : Option State). moment_of o clock) (sym stands) in
-    let on = step m stands holds tell in
-    (on.0, subst (λ n. Step m c n reply on.0) same on.1, on.2, on.3)
+module _ (o : Option State) (v : View) (c : Command) (clock moment : ℕ) (from : o ≡ v.state) (is : moment ≡ moment_of o clock) where
+  same-moment : (p : Option State) → p ≡ v.state → moment ≡ moment_of p clock
+  same-moment p stands = is ∙ ap (λ (x : Option State). moment_of x clock) (from ∙ sym stands)
 
-pub stops-of : (held held' : Option Held) (kept kept' : Option (List Record)) (v : View) (c : Command) (clock moment : ℕ) → moment ≡ moment_of v.state clock
-    → IsStopAt held kept v.state c moment held' kept' → Stops held kept v c clock held' kept'
-unfolding IsStopAt
-stops-of held held' kept kept' v c clock moment is stop m stands holds tell =
-    let same : moment ≡ moment_of m.state clock = is ∙ ap (λ (o : Option State). moment_of o clock) (sym stands) in
-    let on = stop m stands holds tell in
-    (on.0, subst (λ n. Stopped m c n on.0) same on.1, on.2)
+  pub steps-of : (held held' : Option Held) (kept kept' : Option (List Record)) (reply : Reply) (p : Option State) → IsStepAt held kept o c moment reply held' kept' p
+      → Steps held kept v c clock reply held' kept' (record { state = p; live = true })
+  unfolding IsStepAt
+  steps-of held held' kept kept' reply p step m stands holds tell =
+      let on = step m (stands ∙ sym from) holds tell in
+      (on.0, subst (λ n. Step m c n reply on.0) (same-moment m.state stands) on.1, on.2, on.3)
+
+  pub stops-of : {T E : Type 0} (r : Result T E) (held held' : Option Held) (kept kept' : Option (List Record)) → IsStopAt held kept o c moment held' kept' → OnErr r (Stops held kept v c clock held' kept')
+  unfolding IsStopAt
+  stops-of (Ok x) held held' kept kept' stop = tt
+  stops-of (Err e) held held' kept kept' stop = λ m stands holds tell.
+      let on = stop m (stands ∙ sym from) holds tell in
+      (on.0, subst (λ n. Stopped m c n on.0) (same-moment m.state stands) on.1, on.2)
+
+  shown : (p : Option State) → v.live ≡ true → p ≡ o → record { state = p; live = true } ≡ v
+  shown p live same = ap (λ (x : Option State). record { state = x; live = true }) (same ∙ from) ∙ ap (λ (b : Bool). record { state = v.state; live = b }) (sym live)
+
+  answered-by-view : (r : Option Refusal) (reply : Reply) (p : Option State) → v.live ≡ true → AnsweredBy r c reply o p → AnsweredBy r c reply v (record { state = p; live = true })
+  answered-by-view (Some q) reply p live by = (by.0, shown p live by.1)
+  answered-by-view None reply p live by = record { objects = by.objects; same = λ said_no. shown p live (by.same said_no) }
+
+  pub answered-of : (reply : Reply) (p : Option State) → v.live ≡ true → AnsweredBy (refusal_in o c moment) c reply o p
+      → AnsweredBy (refusal_in v.state c (moment_of v.state clock)) c reply v (record { state = p; live = true })
+  answered-of reply p live by =
+      subst (λ (r : Option Refusal). AnsweredBy r c reply v (record { state = p; live = true })) (ap (refusal_in o c) is ∙ ap (λ (x : Option State). refusal_in x c (moment_of x clock)) from)
+      (answered-by-view (refusal_in o c moment) reply p live by)
