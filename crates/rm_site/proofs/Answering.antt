@@ -1,36 +1,38 @@
--- How a statement is answered where there is a database.
-use Rattle.std.proofs.Common.{◌≡◌, ◌∙◌, ℕ, List, [], Option, Some, None, true, false, refl, ap, sym, subst}
+-- How a statement is answered where there is a database, and over the site.
+use Rattle.std.proofs.Common.{◌≡◌, ◌∙◌, ℕ, Bool, List, [], Option, Some, None, true, refl, ap, sym, subst}
 use Rattle.std.specs.Prelude.{Result, Ok, Err, OnErr}
 use Rattle.rm_base.specs.Store.{Held}
 use Rattle.rm_base.specs.declared.refusal.Refusal.{Refusal}
 use Rattle.rm_catalog.specs.Edits.{after_edits}
+use Rattle.rm_catalog.specs.declared.record.Edit.{Edit}
 use Rattle.rm_catalog.specs.declared.record.Record.{Record}
 use Rattle.rm_change.specs.declared.change.Change.{Change}
 use Rattle.rm_change.specs.Carrying.{Carried, Halted, Leads}
-use Rattle.rm_catalog.specs.declared.record.Edit.{Edit}
 use Rattle.rm_command.specs.declared.command.Command.{Command}
 use Rattle.rm_report.specs.Reply.{refused_by, said}
 use Rattle.rm_report.specs.declared.line.Line.{Line}
 use Rattle.rm_report.specs.declared.line.Reply.{Reply}
-use Rattle.rm_repository.specs.Changes.{EditsFollow}
+use Rattle.rm_repository.specs.Changes.{EditsFollow, with_moment, without_saved}
+use Rattle.rm_repository.specs.Facts.{IsRepository}
 use Rattle.rm_repository.specs.Repository.{Repository, Saved, records_of}
 use Rattle.rm_repository.specs.Starting.{with_earlier}
 use Rattle.rm_machine.specs.Effect.{done, refused, told}
-use Rattle.rm_machine.specs.Hands.{Hands}
+use Rattle.rm_machine.specs.Sound.{IsSound}
 use Rattle.rm_machine.specs.declared.handed.Handed.{Handed}
 use Rattle.rm_machine.specs.declared.state.State.{State}
 use Rattle.rm_machine.specs.State.{at_moment, ledger}
-use Rattle.rm_machine.specs.Step.{IsOutcomeBy, IsStatement, Step, refusal_of}
+use Rattle.rm_machine.specs.Step.{IsOutcome, IsOutcomeBy, IsStatement, Step, refusal_of}
+use Rattle.rm_machine.proofs.Later.{sound-later}
 use Rattle.rm_frame.specs.Carries.{IsHanded, IsOutcomeIn}
-use Rattle.rm_site.specs.Comes.{IsRefusedBy}
 use Rattle.rm_frame.specs.Holds.{View, records_in}
 use Rattle.rm_frame.specs.Moments.{IsMomentIn, moment_of}
-use Rattle.rm_frame.specs.Refused.{AnsweredBy}
+use Rattle.rm_frame.specs.Refused.{AnsweredBy, refusal_in}
 use Rattle.rm_frame.specs.Steps.{IsStepAt, Steps, StepsAt}
 use Rattle.rm_frame.specs.Stopped.{IsStopAt, Stopped, Stops, StopsAt}
 use Rattle.rm_frame.proofs.Carried.{carried-on, refused-step, told-step}
 use Rattle.rm_frame.proofs.Every.{every-leads, every-loose, every-tells}
 use Rattle.rm_frame.proofs.Halting.{halts, nothing-done}
+use Rattle.rm_site.specs.Comes.{ComesTo, IsRefusedBy}
 use Rattle.rm_site.specs.declared.statement.Answer.{Answer}
 use Rattle.rm_site.specs.declared.statement.Answer.TheVariants.{Refused, Told, Done}
 
@@ -38,95 +40,151 @@ pub on-err : {T E : Type 0} (P : Type 0) (r : Result T E) → P → OnErr r P
 on-err P (Ok x) p = tt
 on-err P (Err e) p = p
 
--- the edits of the moment, and then those of the statement, lead to the records after it
-pub edits-lead : (first all : List Edit) (s : State) (moment : ℕ) (t : State) → EditsFollow [] first s.catalog (at_moment s moment).catalog → EditsFollow first all (at_moment s moment).catalog t.catalog
-    → after_edits all (records_in (Some s)) ≡ records_in (Some t)
-edits-lead first all s moment t begun done = done.lead (records_of s.catalog) (begun.lead (records_of s.catalog) refl)
-
--- what a statement hands out, as the frame carries it out
-pub handed-in : (held : Option Held) (s : State) (c : Command) (moment : ℕ) (x : Handed) (edits : List Edit) (t : State) → refusal_of (at_moment s moment) c ≡ None → Hands held (at_moment s moment) c x t
-    → after_edits edits (records_in (Some s)) ≡ records_in (Some t) → IsHanded held (Some s) c moment x.lines (record { objects = x.objects; edits = edits; removes = x.removes }) t
-handed-in held s c moment x edits t accepted hands edited = record {
-  effect = hands.effect;
-  comes = λ objects told. subst (λ r. IsOutcomeBy r (at_moment s moment) objects c (done x.lines hands.effect t)) (sym accepted) (hands.comes objects told);
-  puts = hands.puts;
-  removes = hands.removes;
-  edits = edited;
-}
-
--- what stood in the catalog before the statement stands there again
-pub back-again : (s t : State) (moment earlier : ℕ) (saved : Option Saved) (r : Repository) → t ≡ at_moment s moment → earlier ≡ (ledger s).base.moment → saved ≡ s.catalog.saved
-    → r ≡ with_earlier t.catalog earlier saved → record t { catalog = r } ≡ s
-back-again s t moment earlier saved r same one two is =
-    ap (λ (x : Repository). record t { catalog = x }) is
-    ∙ ap (λ (y : State). record y { catalog = with_earlier y.catalog earlier saved }) same
-    ∙ ap (λ (n : ℕ). record s { catalog = with_earlier (at_moment s moment).catalog n saved }) one
-    ∙ ap (λ (o : Option Saved). record s { catalog = with_earlier (at_moment s moment).catalog (ledger s).base.moment o }) two
-
 -- a refusal is the one of the state, or one by what the objects hold
-pub answered-refused : (o : Option Refusal) (c : Command) (r : Refusal) (reply : Reply) (s t : Option State) → IsRefusedBy o c (Refused r) → reply ≡ refused_by r → t ≡ s → AnsweredBy o c reply s t
-answered-refused (Some q) c r reply s t is said same = (let one : r ≡ q = cc in said ∙ ap refused_by one, same)
-answered-refused None c r reply s t is said same = record { objects = λ _. is; same = λ _. same }
-
-pub answered-told : (o : Option Refusal) (c : Command) (lines : List Line) (reply : Reply) (s t : Option State) → IsRefusedBy o c (Told lines) → reply.refused ≡ false → AnsweredBy o c reply s t
-answered-told (Some q) c lines reply s t is none = absurd (cc)
-answered-told None c lines reply s t is none = record { objects = λ some. absurd (cc); same = λ some. absurd (cc) }
-
-pub answered-done : (o : Option Refusal) (c : Command) (x : Handed) (reply : Reply) (s t : Option State) → IsRefusedBy o c (Done x) → reply.refused ≡ false → AnsweredBy o c reply s t
-answered-done (Some q) c x reply s t is none = absurd (cc)
-answered-done None c x reply s t is none = record { objects = λ some. absurd (cc); same = λ some. absurd (cc) }
+answered-by : (o : Option Refusal) (c : Command) (r : Refusal) (reply : Reply) (s t : Option State) → IsRefusedBy o c (Refused r) → reply ≡ refused_by r → t ≡ s → AnsweredBy o c reply s t
+answered-by (Some q) c r reply s t is said_is same = (let one : r ≡ q = cc in said_is ∙ ap refused_by one, same)
+answered-by None c r reply s t is said_is same = record { objects = λ _. is; same = λ _. same }
 
 -- The steps and stops, as words of their own
 
 module _ (held : Option Held) (kept : Option (List Record)) (c : Command) (moment : ℕ) where
-  pub is-refused : (o p : Option State) (r : Refusal) (reply : Reply) (held' : Option Held) (kept' : Option (List Record)) → p ≡ o → held' ≡ held → kept' ≡ kept → reply ≡ refused_by r
-      → ((objects : Held) → held ≡ Some objects → IsOutcomeIn o objects c moment (refused r)) → IsStepAt held kept o c moment reply held' kept' p
+  pub is-refused : (o p : Option State) (r : Refusal) (reply : Reply) (held' : Option Held) → p ≡ o → held' ≡ held → reply ≡ refused_by r
+      → ((objects : Held) → held ≡ Some objects → IsOutcomeIn o objects c moment (refused r)) → IsStepAt held kept o c moment reply held' kept p
   unfolding IsStepAt
-  is-refused o p r reply held' kept' same one two said_is comes =
-      subst (λ (x : Option State). StepsAt held kept o c moment reply held' kept' x) (sym same)
-      (subst (λ (x : Option Held). StepsAt held kept o c moment reply x kept' o) (sym one)
-      (subst (λ (x : Option (List Record)). StepsAt held kept o c moment reply held x o) (sym two)
-      (subst (λ (x : Reply). StepsAt held kept o c moment x held kept o) (sym said_is) (refused-step held kept o c moment r comes))))
+  is-refused o p r reply held' same stays said_is comes =
+      subst (λ (x : Option State). StepsAt held kept o c moment reply held' kept x) (sym same)
+      (subst (λ (x : Option Held). StepsAt held kept o c moment reply x kept o) (sym stays)
+      (subst (λ (x : Reply). StepsAt held kept o c moment x held kept o) (sym said_is) (refused-step held kept o c moment r comes)))
 
-  pub is-told : (s : State) (p : Option State) (lines : List Line) (reply : Reply) (held' : Option Held) (kept' : Option (List Record)) → p ≡ Some s → held' ≡ held → kept' ≡ kept → reply ≡ said lines
-      → IsStatement c → IsMomentIn (Some s) moment → ((objects : Held) → held ≡ Some objects → IsOutcomeIn (Some s) objects c moment (told lines)) → IsStepAt held kept (Some s) c moment reply held' kept' p
+  is-told : (s : State) (p : Option State) (lines : List Line) (reply : Reply) (held' : Option Held) → p ≡ Some s → held' ≡ held → reply ≡ said lines
+      → IsStatement c → IsMomentIn (Some s) moment → ((objects : Held) → held ≡ Some objects → IsOutcomeIn (Some s) objects c moment (told lines)) → IsStepAt held kept (Some s) c moment reply held' kept p
   unfolding IsStepAt
-  is-told s p lines reply held' kept' same one two said_is well at comes =
-      subst (λ (x : Option State). StepsAt held kept (Some s) c moment reply held' kept' x) (sym same)
-      (subst (λ (x : Option Held). StepsAt held kept (Some s) c moment reply x kept' (Some s)) (sym one)
-      (subst (λ (x : Option (List Record)). StepsAt held kept (Some s) c moment reply held x (Some s)) (sym two)
-      (subst (λ (x : Reply). StepsAt held kept (Some s) c moment x held kept (Some s)) (sym said_is) (told-step held kept s c moment lines (every-tells c) well at comes))))
+  is-told s p lines reply held' same stays said_is well at comes =
+      subst (λ (x : Option State). StepsAt held kept (Some s) c moment reply held' kept x) (sym same)
+      (subst (λ (x : Option Held). StepsAt held kept (Some s) c moment reply x kept (Some s)) (sym stays)
+      (subst (λ (x : Reply). StepsAt held kept (Some s) c moment x held kept (Some s)) (sym said_is) (told-step held kept s c moment lines (every-tells c) well at comes)))
 
-  pub is-carried : (o : Option State) (lines : List Line) (x : Change) (t : State) (reply : Reply) (held' : Option Held) (kept' : Option (List Record)) → reply ≡ said lines
-      → IsStatement c → IsMomentIn o moment → IsHanded held o c moment lines x t → Leads (Carried x) held kept held' kept' → IsStepAt held kept o c moment reply held' kept' (Some t)
+  pub is-carried : (before : Option Held) (o : Option State) (lines : List Line) (x : Change) (t : State) (reply : Reply) (held' : Option Held) (kept' : Option (List Record)) → before ≡ held → reply ≡ said lines
+      → IsStatement c → IsMomentIn o moment → IsHanded held o c moment lines x t → Leads (Carried x) before kept held' kept' → IsStepAt held kept o c moment reply held' kept' (Some t)
   unfolding IsStepAt
-  is-carried o lines x t reply held' kept' said_is well at handed leads =
-      subst (λ (r : Reply). StepsAt held kept o c moment r held' kept' (Some t)) (sym said_is) (carried-on c (every-leads c) held kept o moment lines x t well at handed held' kept' leads)
+  is-carried before o lines x t reply held' kept' stays said_is well at handed leads =
+      let on = subst (λ (h : Option Held). Leads (Carried x) h kept held' kept') stays leads in
+      subst (λ (r : Reply). StepsAt held kept o c moment r held' kept' (Some t)) (sym said_is) (carried-on c (every-leads c) held kept o moment lines x t well at handed held' kept' on)
 
-  pub is-halted : (o : Option State) (lines : List Line) (x : Change) (t : State) (held' : Option Held) (kept' : Option (List Record))
-      → IsStatement c → IsMomentIn o moment → IsHanded held o c moment lines x t → Leads (Halted x) held kept held' kept' → IsStopAt held kept o c moment held' kept'
+  pub is-halted : {T E : Type 0} (r : Result T E) (before : Option Held) (o : Option State) (lines : List Line) (x : Change) (t : State) (held' : Option Held) (kept' : Option (List Record)) → before ≡ held
+      → IsStatement c → IsMomentIn o moment → IsHanded held o c moment lines x t → Leads (Halted x) before kept held' kept' → OnErr r (IsStopAt held kept o c moment held' kept')
   unfolding IsStopAt
-  is-halted o lines x t held' kept' well at handed leads = halts c (every-leads c) (every-loose c) held kept o moment lines x t well at handed held' kept' leads
+  is-halted r before o lines x t held' kept' stays well at handed leads =
+      let on = subst (λ (h : Option Held). Leads (Halted x) h kept held' kept') stays leads in
+      on-err (StopsAt held kept o c moment held' kept') r (halts c (every-leads c) (every-loose c) held kept o moment lines x t well at handed held' kept' on)
 
-  pub is-untouched : (o : Option State) (held' : Option Held) (kept' : Option (List Record)) → held' ≡ held → kept' ≡ kept → IsStopAt held kept o c moment held' kept'
+  -- where nothing was done yet
+  pub untouched : {T E : Type 0} (r : Result T E) (o : Option State) (held' : Option Held) → held' ≡ held → OnErr r (IsStopAt held kept o c moment held' kept)
   unfolding IsStopAt
-  is-untouched o held' kept' one two =
-      subst (λ (x : Option Held). StopsAt held kept o c moment x kept') (sym one) (subst (λ (x : Option (List Record)). StopsAt held kept o c moment held x) (sym two) (nothing-done held kept o c moment))
+  untouched r o held' stays = on-err (StopsAt held kept o c moment held' kept) r (subst (λ (h : Option Held). StopsAt held kept o c moment h kept) (sym stays) (nothing-done held kept o c moment))
 
--- and over the site
+-- A statement begins on the state s: its catalog is then r, and these stood there before.
+pub record Begins (s : State) (moment : ℕ) (r : Repository) (earlier : ℕ) (saved : Option Saved) : Type 0 where
+  pub after : r ≡ without_saved (with_moment s.catalog moment)
+  pub moment_is : earlier ≡ (ledger s).base.moment
+  pub saved_is : saved ≡ s.catalog.saved
 
-pub steps-of : (held held' : Option Held) (kept kept' : Option (List Record)) (v v' : View) (c : Command) (clock moment : ℕ) (reply : Reply) → moment ≡ moment_of v.state clock
-    → IsStepAt held kept v.state c moment reply held' kept' v'.state → Steps held kept v c clock reply held' kept' v'
-unfolding IsStepAt
-steps-of held held' kept kept' v v' c clock moment reply is step m stands holds tell =
-    let same : moment ≡ moment_of m.state clock = is ∙ ap (λ (o : Option State). moment_of o clock) (sym stands) in
-    let on = step m stands holds tell in
-    (on.0, subst (λ n. Step m c n reply on.0) same on.1, on.2, on.3)
+module _ {s : State} {moment : ℕ} {r : Repository} {earlier : ℕ} {saved : Option Saved} (begins : Begins s moment r earlier saved) where
+  -- the state on which it acts
+  abbrev b : State
+  b = record s { catalog = r }
 
-pub stops-of : (held held' : Option Held) (kept kept' : Option (List Record)) (v : View) (c : Command) (clock moment : ℕ) → moment ≡ moment_of v.state clock
-    → IsStopAt held kept v.state c moment held' kept' → Stops held kept v c clock held' kept'
-unfolding IsStopAt
-stops-of held held' kept kept' v c clock moment is stop m stands holds tell =
-    let same : moment ≡ moment_of m.state clock = is ∙ ap (λ (o : Option State). moment_of o clock) (sym stands) in
-    let on = stop m stands holds tell in
-    (on.0, subst (λ n. Stopped m c n on.0) same on.1, on.2)
+  at-moment : b ≡ at_moment s moment
+  at-moment = ap (λ (x : Repository). record s { catalog = x }) begins.after
+
+  pub begins-sound : IsSound s → IsMomentIn (Some s) moment → IsSound b
+  begins-sound is at = subst IsSound (sym at-moment) (sound-later s moment is (record { kept = at.kept; last = at.last }))
+
+  -- what stood in the catalog before the statement stands there again
+  again : (t : State) → t ≡ b → with_earlier t.catalog earlier saved ≡ s.catalog
+  again t same =
+      ap (λ (y : State). with_earlier y.catalog earlier saved) (same ∙ at-moment)
+      ∙ ap (λ (n : ℕ). with_earlier (at_moment s moment).catalog n saved) begins.moment_is
+      ∙ ap (λ (o : Option Saved). with_earlier (at_moment s moment).catalog (ledger s).base.moment o) begins.saved_is
+
+  pub valid-again : (t : State) → t ≡ b → IsSound s → IsRepository (with_earlier t.catalog earlier saved)
+  valid-again t same is = subst IsRepository (sym (again t same)) is.catalog
+
+  pub back-again : (t : State) (u : Repository) → t ≡ b → u ≡ with_earlier t.catalog earlier saved → record t { catalog = u } ≡ s
+  back-again t u same is = ap (λ (x : Repository). record t { catalog = x }) (is ∙ again t same) ∙ ap (λ (y : State). record y { catalog = s.catalog }) same
+
+  module _ (held : Option Held) (c : Command) (a : Answer) (t : State) (comes : ComesTo held b c a t) where
+    -- a refusal and what only tells change nothing
+    pub quiet-refused : (q : Refusal) → a ≡ Refused q → t ≡ b
+    quiet-refused q is = (subst (λ (x : Answer). ComesTo held b c x t) is comes).0
+
+    pub quiet-told : (lines : List Line) → a ≡ Told lines → t ≡ b
+    quiet-told lines is = (subst (λ (x : Answer). ComesTo held b c x t) is comes).0
+
+    pub refused-in : (kept : Option (List Record)) (q : Refusal) (u : Repository) (reply : Reply) (held' : Option Held) → a ≡ Refused q → u ≡ with_earlier t.catalog earlier saved → held' ≡ held → reply ≡ refused_by q
+        → IsStepAt held kept (Some s) c moment reply held' kept (Some (record t { catalog = u }))
+    refused-in kept q u reply held' is back stays said_is =
+        let this = subst (λ (x : Answer). ComesTo held b c x t) is comes in
+        is-refused held kept c moment (Some s) (Some (record t { catalog = u })) q reply held' (ap Some (back-again t u this.0 back)) stays said_is
+        (λ objects tells. subst (λ (x : State). IsOutcome x objects c (refused q)) at-moment (this.1 objects tells))
+
+    pub told-in : (kept : Option (List Record)) (lines : List Line) (u : Repository) (reply : Reply) (held' : Option Held) → a ≡ Told lines → u ≡ with_earlier t.catalog earlier saved → held' ≡ held → reply ≡ said lines
+        → IsStatement c → IsMomentIn (Some s) moment → IsStepAt held kept (Some s) c moment reply held' kept (Some (record t { catalog = u }))
+    told-in kept lines u reply held' is back stays said_is well at =
+        let this = subst (λ (x : Answer). ComesTo held b c x t) is comes in
+        is-told held kept c moment s (Some (record t { catalog = u })) lines reply held' (ap Some (back-again t u this.0 back)) stays said_is well at
+        (λ objects tells. subst (λ (x : State). IsOutcome x objects c (told lines)) at-moment (this.1 objects tells))
+
+    -- what is done is handed out, with the edits of the moment and then its own
+    pub handed-in : (x : Handed) (none first all edits : List Edit) → a ≡ Done x → none ≡ [] → EditsFollow none first s.catalog r → EditsFollow first all r t.catalog → edits ≡ all
+        → IsHanded held (Some s) c moment x.lines (record { objects = x.objects; edits = edits; removes = x.removes }) t
+    handed-in x none first all edits is empty one two same =
+        let this = subst (λ (y : State). ComesTo held y c (Done x) t) at-moment (subst (λ (y : Answer). ComesTo held b c y t) is comes) in
+        let lead = two.lead (records_of s.catalog) (one.lead (records_of s.catalog) (ap (λ (es : List Edit). after_edits es (records_of s.catalog)) empty)) in
+        record {
+          effect = this.1.effect;
+          comes = λ objects tells. subst (λ o. IsOutcomeBy o (at_moment s moment) objects c (done x.lines this.1.effect t)) (sym this.0) (this.1.comes objects tells);
+          puts = this.1.puts;
+          removes = this.1.removes;
+          edits = ap (λ (es : List Edit). after_edits es (records_in (Some s))) same ∙ lead;
+        }
+
+    pub answered-in : (q : Refusal) (u : Repository) (reply : Reply) → a ≡ Refused q → u ≡ with_earlier t.catalog earlier saved → IsRefusedBy (refusal_of b c) c a → reply ≡ refused_by q
+        → AnsweredBy (refusal_of (at_moment s moment) c) c reply (Some s) (Some (record t { catalog = u }))
+    answered-in q u reply is back by said_is =
+        answered-by (refusal_of (at_moment s moment) c) c q reply (Some s) (Some (record t { catalog = u }))
+        (subst (λ (y : State). IsRefusedBy (refusal_of y c) c (Refused q)) at-moment (subst (λ (x : Answer). IsRefusedBy (refusal_of b c) c x) is by)) said_is
+        (ap Some (back-again t u (quiet-refused q is) back))
+
+-- and over the site, which shows v; its database is o
+
+module _ (o : Option State) (v : View) (c : Command) (clock moment : ℕ) (from : o ≡ v.state) (is : moment ≡ moment_of o clock) where
+  same-moment : (p : Option State) → p ≡ v.state → moment ≡ moment_of p clock
+  same-moment p stands = is ∙ ap (λ (x : Option State). moment_of x clock) (from ∙ sym stands)
+
+  pub steps-of : (held held' : Option Held) (kept kept' : Option (List Record)) (reply : Reply) (p : Option State) → IsStepAt held kept o c moment reply held' kept' p
+      → Steps held kept v c clock reply held' kept' (record { state = p; live = true })
+  unfolding IsStepAt
+  steps-of held held' kept kept' reply p step m stands holds tell =
+      let on = step m (stands ∙ sym from) holds tell in
+      (on.0, subst (λ n. Step m c n reply on.0) (same-moment m.state stands) on.1, on.2, on.3)
+
+  pub stops-of : {T E : Type 0} (r : Result T E) (held held' : Option Held) (kept kept' : Option (List Record)) → IsStopAt held kept o c moment held' kept' → OnErr r (Stops held kept v c clock held' kept')
+  unfolding IsStopAt
+  stops-of (Ok x) held held' kept kept' stop = tt
+  stops-of (Err e) held held' kept kept' stop = λ m stands holds tell.
+      let on = stop m (stands ∙ sym from) holds tell in
+      (on.0, subst (λ n. Stopped m c n on.0) (same-moment m.state stands) on.1, on.2)
+
+  shown : (p : Option State) → v.live ≡ true → p ≡ o → record { state = p; live = true } ≡ v
+  shown p live same = ap (λ (x : Option State). record { state = x; live = true }) (same ∙ from) ∙ ap (λ (b : Bool). record { state = v.state; live = b }) (sym live)
+
+  answered-by-view : (r : Option Refusal) (reply : Reply) (p : Option State) → v.live ≡ true → AnsweredBy r c reply o p → AnsweredBy r c reply v (record { state = p; live = true })
+  answered-by-view (Some q) reply p live by = (by.0, shown p live by.1)
+  answered-by-view None reply p live by = record { objects = by.objects; same = λ said_no. shown p live (by.same said_no) }
+
+  pub answered-of : (reply : Reply) (p : Option State) → v.live ≡ true → AnsweredBy (refusal_in o c moment) c reply o p
+      → AnsweredBy (refusal_in v.state c (moment_of v.state clock)) c reply v (record { state = p; live = true })
+  answered-of reply p live by =
+      subst (λ (r : Option Refusal). AnsweredBy r c reply v (record { state = p; live = true })) (ap (refusal_in o c) is ∙ ap (λ (x : Option State). refusal_in x c (moment_of x clock)) from)
+      (answered-by-view (refusal_in o c moment) reply p live by)

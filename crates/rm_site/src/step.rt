@@ -3,7 +3,7 @@ ghost use Rattle.std.specs.Prelude.{◌≡◌, ◌≤◌, true, false, None, Som
 ghost use Rattle.rm_base.specs.Outside.{Rose};
 ghost use Rattle.rm_change.specs.declared.change.Stop.TheVariants.{StoreFault, KeeperFault};
 ghost use Rattle.rm_lang.specs.IsCommand.{is_command};
-ghost use Rattle.rm_report.specs.Reply.{HasDates};
+ghost use Rattle.rm_report.specs.Reply.{HasDates, said};
 ghost use Rattle.rm_machine.specs.Built.{is_built};
 ghost use Rattle.rm_machine.specs.Sound.{IsSound};
 ghost use Rattle.rm_machine.specs.Step.{IsStatement};
@@ -27,8 +27,7 @@ use std::mem;
 
 // A reply that is no refusal.
 fn reply_of(lines: Seq<Line>) -> Reply
-    ensures lines { result.lines ≡ lines }
-    ensures refused { result.refused ≡ false }
+    ensures { result ≡ said lines }
 {
     Reply {
         lines,
@@ -37,6 +36,7 @@ fn reply_of(lines: Seq<Line>) -> Reply
 }
 
 // The answer to a statement where there is no database: CREATE DATABASE makes one.
+#[tactic(auto, using(crate::proofs::Answering::untouched))]
 fn answer_without<D: Store, C: Keeper>(
     alloc: Global,
     store: &mut D,
@@ -70,6 +70,7 @@ fn answer_without<D: Store, C: Keeper>(
 }
 
 // The answer to a statement where there is a database. After a stop nothing is said of the state.
+#[tactic(auto, using(crate::proofs::Answering::untouched))]
 fn answer_in<D: Store, C: Keeper>(
     alloc: Global,
     state: &mut State,

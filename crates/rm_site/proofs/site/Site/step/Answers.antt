@@ -1,0 +1,19 @@
+use Rattle.std.proofs.Common.{◌∙◌, ap}
+use Rattle.rm_frame.specs.Holds.{View}
+use Rattle.rm_site.proofs.Answering.{answered-of, steps-of, stops-of}
+use Rattle.rm_site.proofs.site.Site.step.Goals as goal
+
+pub returns-clause-step : goal.returns-clause-step
+returns-clause-step g c =
+    let from = c.replace-state.ensures.value ∙ ap (λ (v : View). v.state) c.self.view_is in
+    steps-of c.replace-state.result c.args.self.now _ c.args.clock _ from c.moment_of-moment.ensures.value _ _ _ _ _ _ c.in_ok-state.ensures.step
+
+pub returns-in_err-state-clause-stopped : goal.returns-in_err-state-clause-stopped
+returns-in_err-state-clause-stopped g c =
+    let from = c.replace-state.ensures.value ∙ ap (λ (v : View). v.state) c.self.view_is in
+    stops-of c.replace-state.result c.args.self.now _ c.args.clock _ from c.moment_of-moment.ensures.value _ _ _ _ _ c.in_err-state.ensures.stopped
+
+pub returns-clause-answered : goal.returns-clause-answered
+returns-clause-answered g c =
+    let from = c.replace-state.ensures.value ∙ ap (λ (v : View). v.state) c.self.view_is in
+    answered-of c.replace-state.result c.args.self.now _ c.args.clock _ from c.moment_of-moment.ensures.value _ _ c.requires.live c.in_ok-state.ensures.answered

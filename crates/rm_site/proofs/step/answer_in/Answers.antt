@@ -1,0 +1,69 @@
+use Rattle.std.proofs.Common.{◌≡◌, sym, subst}
+use Rattle.rm_machine.specs.Sound.{IsSound}
+use Rattle.rm_machine.specs.declared.state.State.{State}
+use Rattle.rm_repository.specs.Repository.{Repository}
+use Rattle.rm_site.proofs.Answering.{Begins, answered-in, back-again, begins-sound, handed-in, is-carried, is-halted, quiet-refused, quiet-told, refused-in, told-in, valid-again}
+use Rattle.rm_site.proofs.step.answer_in.Goals as goal
+
+pub come_to-requires-clause-sound : goal.come_to-requires-clause-sound
+come_to-requires-clause-sound g c =
+    let was = c.in_ok-earlier.ensures in
+    let begins : Begins c.args.state.now c.args.moment c.begin.new.self c.in_ok-earlier.earlier.moment c.in_ok-earlier.earlier.saved = record { after = was.after; moment_is = was.moment; saved_is = was.saved } in
+    begins-sound begins c.requires.sound c.requires.moment
+
+pub put_back-requires : goal.put_back-requires
+put_back-requires g c =
+    let was = c.in_ok-earlier.ensures in
+    let begins : Begins c.args.state.now c.args.moment c.begin.new.self c.in_ok-earlier.earlier.moment c.in_ok-earlier.earlier.saved = record { after = was.after; moment_is = was.moment; saved_is = was.saved } in
+    valid-again begins c.come_to.new.state (quiet-refused begins (g.D.Store.held c.args.store.now) c.args.command.now c.in_ok-refusal.field-0 c.come_to.new.state c.in_ok-refusal.ensures.comes c.in-Refused.refusal c.in-Refused.is) c.requires.sound
+
+pub returns-in_ok-refusal_reply-in-Refused-clause-sound : goal.returns-in_ok-refusal_reply-in-Refused-clause-sound
+returns-in_ok-refusal_reply-in-Refused-clause-sound g c =
+    let was = c.in_ok-earlier.ensures in
+    let begins : Begins c.args.state.now c.args.moment c.begin.new.self c.in_ok-earlier.earlier.moment c.in_ok-earlier.earlier.saved = record { after = was.after; moment_is = was.moment; saved_is = was.saved } in
+    subst IsSound (sym (back-again begins c.come_to.new.state c.put_back.new.self (quiet-refused begins (g.D.Store.held c.args.store.now) c.args.command.now c.in_ok-refusal.field-0 c.come_to.new.state c.in_ok-refusal.ensures.comes c.in-Refused.refusal c.in-Refused.is) c.put_back.ensures)) c.requires.sound
+
+pub returns-in_ok-refusal_reply-in-Refused-clause-step : goal.returns-in_ok-refusal_reply-in-Refused-clause-step
+returns-in_ok-refusal_reply-in-Refused-clause-step g c =
+    let was = c.in_ok-earlier.ensures in
+    let begins : Begins c.args.state.now c.args.moment c.begin.new.self c.in_ok-earlier.earlier.moment c.in_ok-earlier.earlier.saved = record { after = was.after; moment_is = was.moment; saved_is = was.saved } in
+    refused-in begins (g.D.Store.held c.args.store.now) c.args.command.now c.in_ok-refusal.field-0 c.come_to.new.state c.in_ok-refusal.ensures.comes (g.C.Keeper.kept c.args.keeper.now)
+    c.in-Refused.refusal c.put_back.new.self _ _ c.in-Refused.is c.put_back.ensures c.in_ok-refusal.ensures.held c.in_ok-refusal_reply-in-Refused.ensures
+
+pub returns-in_ok-refusal_reply-in-Refused-clause-answered : goal.returns-in_ok-refusal_reply-in-Refused-clause-answered
+returns-in_ok-refusal_reply-in-Refused-clause-answered g c =
+    let was = c.in_ok-earlier.ensures in
+    let begins : Begins c.args.state.now c.args.moment c.begin.new.self c.in_ok-earlier.earlier.moment c.in_ok-earlier.earlier.saved = record { after = was.after; moment_is = was.moment; saved_is = was.saved } in
+    answered-in begins (g.D.Store.held c.args.store.now) c.args.command.now c.in_ok-refusal.field-0 c.come_to.new.state c.in_ok-refusal.ensures.comes
+    c.in-Refused.refusal c.put_back.new.self _ c.in-Refused.is c.put_back.ensures c.in_ok-refusal.ensures.refused c.in_ok-refusal_reply-in-Refused.ensures
+
+pub returns-in-Told-clause-sound : goal.returns-in-Told-clause-sound
+returns-in-Told-clause-sound g c =
+    let was = c.in_ok-earlier.ensures in
+    let begins : Begins c.args.state.now c.args.moment c.begin.new.self c.in_ok-earlier.earlier.moment c.in_ok-earlier.earlier.saved = record { after = was.after; moment_is = was.moment; saved_is = was.saved } in
+    subst IsSound (sym (back-again begins c.come_to.new.state c.put_back-in-Told.new.self (quiet-told begins (g.D.Store.held c.args.store.now) c.args.command.now c.in_ok-refusal.field-0 c.come_to.new.state c.in_ok-refusal.ensures.comes c.in-Told.lines c.in-Told.is) c.put_back-in-Told.ensures)) c.requires.sound
+
+pub returns-in-Told-clause-step : goal.returns-in-Told-clause-step
+returns-in-Told-clause-step g c =
+    let was = c.in_ok-earlier.ensures in
+    let begins : Begins c.args.state.now c.args.moment c.begin.new.self c.in_ok-earlier.earlier.moment c.in_ok-earlier.earlier.saved = record { after = was.after; moment_is = was.moment; saved_is = was.saved } in
+    told-in begins (g.D.Store.held c.args.store.now) c.args.command.now c.in_ok-refusal.field-0 c.come_to.new.state c.in_ok-refusal.ensures.comes (g.C.Keeper.kept c.args.keeper.now)
+    c.in-Told.lines c.put_back-in-Told.new.self _ _ c.in-Told.is c.put_back-in-Told.ensures c.in_ok-refusal.ensures.held c.reply_of.ensures c.requires.command c.requires.moment
+
+pub returns-in_ok-carry_out-in-Done-clause-step : goal.returns-in_ok-carry_out-in-Done-clause-step
+returns-in_ok-carry_out-in-Done-clause-step g c =
+    let was = c.in_ok-earlier.ensures in
+    let begins : Begins c.args.state.now c.args.moment c.begin.new.self c.in_ok-earlier.earlier.moment c.in_ok-earlier.earlier.saved = record { after = was.after; moment_is = was.moment; saved_is = was.saved } in
+    let handed = handed-in begins (g.D.Store.held c.args.store.now) c.args.command.now c.in_ok-refusal.field-0 c.come_to.new.state c.in_ok-refusal.ensures.comes
+    c.in-Done.handed _ _ _ _ c.in-Done.is c.new-edits.ensures.items was.edits c.in_ok-refusal.ensures.edits c.from_vec.ensures in
+    is-carried (g.D.Store.held c.args.store.now) _ c.args.command.now c.args.moment _ _ c.in-Done.handed.lines _ c.come_to.new.state _ _ _
+    c.in_ok-refusal.ensures.held c.reply_of-in-Done.ensures c.requires.command c.requires.moment handed c.in_ok-carry_out-in-Done.ensures.carried
+
+pub returns-in_err-carry_out-in-Done-clause-stopped : goal.returns-in_err-carry_out-in-Done-clause-stopped
+returns-in_err-carry_out-in-Done-clause-stopped g c =
+    let was = c.in_ok-earlier.ensures in
+    let begins : Begins c.args.state.now c.args.moment c.begin.new.self c.in_ok-earlier.earlier.moment c.in_ok-earlier.earlier.saved = record { after = was.after; moment_is = was.moment; saved_is = was.saved } in
+    let handed = handed-in begins (g.D.Store.held c.args.store.now) c.args.command.now c.in_ok-refusal.field-0 c.come_to.new.state c.in_ok-refusal.ensures.comes
+    c.in-Done.handed _ _ _ _ c.in-Done.is c.new-edits.ensures.items was.edits c.in_ok-refusal.ensures.edits c.from_vec.ensures in
+    is-halted (g.D.Store.held c.args.store.now) _ c.args.command.now c.args.moment _ _ _ c.in-Done.handed.lines _ c.come_to.new.state _ _
+    c.in_ok-refusal.ensures.held c.requires.command c.requires.moment handed c.in_err-carry_out-in-Done.ensures.stopped

@@ -1,0 +1,32 @@
+use Rattle.std.proofs.Common.{◌≡◌, ◌∙◌, None, Some, refl, sym}
+use Rattle.rm_frame.specs.Refused.{refusal_without}
+use Rattle.rm_site.proofs.Answering.{is-carried, is-halted, is-refused}
+use Rattle.rm_site.proofs.Creating.{comes-refused, founded, founded-sound}
+use Rattle.rm_site.proofs.step.answer_without.Goals as goal
+
+pub returns-in-Some-clause-step : goal.returns-in-Some-clause-step
+returns-in-Some-clause-step g c =
+    let refusal : refusal_without c.args.command.now ≡ Some c.in-Some.refusal = sym c.refusal_without.ensures ∙ c.in-Some.is in
+    is-refused _ _ c.args.command.now c.args.moment None None c.in-Some.refusal _ _ refl refl c.in_ok-refusal_reply.ensures
+    (λ objects told. comes-refused c.args.command.now c.args.moment c.in-Some.refusal refusal)
+
+pub returns-clause-sound : goal.returns-clause-sound
+returns-clause-sound g c =
+    let k = c.in-CreateDatabase in
+    founded-sound c.args.command.now k.dbid k.threads k.scn c.args.moment k.is c.requires.command.0 (sym c.refusal_without.ensures ∙ c.in_default.is) c.requires.moment.last c.in_ok-state.state c.in_ok-state.ensures
+
+pub returns-clause-step : goal.returns-clause-step
+returns-clause-step g c =
+    let k = c.in-CreateDatabase in
+    let was = c.in_ok-change.ensures in
+    let handed = founded c.args.command.now k.dbid k.threads k.scn c.args.moment k.is c.requires.command.0 (sym c.refusal_without.ensures ∙ c.in_default.is) c.requires.moment.last
+    (g.D.Store.held c.args.store.now) c.in_ok-change.change c.in_ok-state.state c.in_ok-lines.lines was.objects was.edits was.removes c.in_ok-state.ensures c.in_ok-lines.ensures in
+    is-carried _ _ c.args.command.now c.args.moment _ None c.in_ok-lines.lines c.in_ok-change.change c.in_ok-state.state _ _ _ refl c.reply_of.ensures c.requires.command c.requires.moment handed c.in_ok-carry_out.ensures.carried
+
+pub returns-in_err-carry_out-clause-stopped : goal.returns-in_err-carry_out-clause-stopped
+returns-in_err-carry_out-clause-stopped g c =
+    let k = c.in-CreateDatabase in
+    let was = c.in_ok-change.ensures in
+    let handed = founded c.args.command.now k.dbid k.threads k.scn c.args.moment k.is c.requires.command.0 (sym c.refusal_without.ensures ∙ c.in_default.is) c.requires.moment.last
+    (g.D.Store.held c.args.store.now) c.in_ok-change.change c.in_ok-state.state c.in_ok-lines.lines was.objects was.edits was.removes c.in_ok-state.ensures c.in_ok-lines.ensures in
+    is-halted _ _ c.args.command.now c.args.moment _ _ None c.in_ok-lines.lines c.in_ok-change.change c.in_ok-state.state _ _ refl c.requires.command c.requires.moment handed c.in_err-carry_out.ensures.stopped
