@@ -7,17 +7,17 @@ use Rattle.rm_blocks.specs.File.{File}
 use Rattle.rm_history.specs.declared.world.Datafile.{Datafile}
 use Rattle.rm_history.specs.declared.world.World.{World}
 use Rattle.rm_history.specs.Tree.{IsThere}
-use Rattle.rm_history.specs.World.{exists, file_of}
+use Rattle.rm_history.specs.World.{exists}
 use Rattle.rm_known.specs.Evidence.{Evidence}
 use Rattle.rm_known.specs.FirstGap.{IsDetermined}
 use Rattle.rm_ledger.specs.Facts.{IsCreated}
 use Rattle.rm_ledger.proofs.Lookups.{item-at}
-use Rattle.rm_plan.specs.FirstGap.{FileDetermined, FilesBelow}
+use Rattle.rm_plan.specs.FirstGap.{FilesBelow}
 use Rattle.rm_plan.specs.Plan.{IsFileFault, IsFileTarget}
 use Rattle.rm_plan.specs.declared.plan.PlanFault.{PlanFault}
 use Rattle.rm_plan.specs.declared.plan.PlanFault.TheVariants as fault
 use Rattle.rm_plan.proofs.Firsts.{first_of_all, gap_of_file}
-use Rattle.rm_machine.specs.Recovery.{AreTold, HasTold, IsTold}
+use Rattle.rm_machine.specs.Recovery.{AreTold, HasTold}
 use Rattle.rm_machine.specs.Sound.{IsSound}
 use Rattle.rm_machine.specs.declared.state.State.{State}
 use Rattle.rm_machine.specs.State.{tree, world}

@@ -1,9 +1,8 @@
 -- What is told, as what the statements come to.
-use Rattle.std.proofs.Common.{◌≡◌, ◌∙◌, ◌++◌, inl, inr, ℕ, List, [], ◌∷◌, Option, Some, None, Bool, true, IfSome, IfOk, IfErr, Result, Ok, Err, refl, ap, sym, subst}
+use Rattle.std.proofs.Common.{◌≡◌, ◌∙◌, ◌++◌, inl, inr, ℕ, List, [], ◌∷◌, Option, Some, None, true, IfSome, IfOk, IfErr, Result, Ok, Err, ap, sym, subst}
 use Rattle.rm_base.specs.Store.{Held}
 use Rattle.rm_base.specs.declared.kinds.Bad.{Bad}
 use Rattle.rm_base.specs.declared.refusal.Refusal.{Refusal}
-use Rattle.rm_base.specs.declared.refusal.Refusal.TheVariants.{Rm08}
 use Rattle.rm_blocks.specs.File.{File}
 use Rattle.rm_command.specs.declared.command.Command.TheVariants.{Recover, RecoverTest}
 use Rattle.rm_command.specs.declared.command.Until.{Until}
@@ -22,8 +21,8 @@ use Rattle.rm_machine.specs.RecoverTest.{TestsTo, test_lines, test_target, teste
 use Rattle.rm_machine.specs.Recovery.{FindsGap, IsAtHand, TellsAll, count_at, is_built_until, skipped_lines, target_of}
 use Rattle.rm_machine.specs.Sound.{IsSound}
 use Rattle.rm_machine.specs.declared.state.State.{State}
-use Rattle.rm_machine.specs.State.{current_of}
-use Rattle.rm_machine.proofs.Recovering.{CanRecover, can-recover, sound-recovered}
+use Rattle.rm_machine.specs.State.{current_of, tree}
+use Rattle.rm_machine.proofs.Recovering.{can-recover, sound-recovered}
 use Rattle.rm_recovery.specs.declared.telling.Told.{Told}
 use Rattle.rm_recovery.specs.Telling.{IsEvidence, IsFirstFault, IsGapBy, IsToldBy, NamesFault}
 use Rattle.rm_machine.specs.State.{world}
@@ -95,6 +94,20 @@ module _ (held : Option Held) (s : State) (until : Option Until) (at : ℕ) (tar
   recover-sound t sound accepted by = sound-recovered s by.evidence at t.files sound by.is.fits (can-recover s until at target accepted) by.files
 
 -- RECOVER DATABASE TEST
+
+-- its target, under the names that it has for it
+pub test-at : (s : State) (until : Option Until) (inc : Option ℕ) (ns : List Incarnation) (i at : ℕ) (o : Option ℕ) → ns ≡ tree s → i ≡ tested s inc → o ≡ target_of ns i until → o ≡ Some at → test_target s until inc ≡ Some at
+test-at s until inc ns i at o tree inc_is is some = subst (λ ms. target_of ms (tested s inc) until ≡ Some at) tree (subst (λ n. target_of ns n until ≡ Some at) inc_is (sym is ∙ some))
+
+-- the lines of its reply, under the names that it has for them
+pub test-lines : (s : State) (i j at : ℕ) (skipped seen : List (ℕ × Bad)) (files listed : List (Option File)) (old new : List Line)
+    → i ≡ j → seen ≡ skipped → listed ≡ files → old ≡ skipped_lines seen → new ≡ old ++ test_lines s i at listed → new ≡ skipped_lines skipped ++ test_lines s j at files
+test-lines s i j at skipped seen files listed old new inc same all before is =
+    is
+    ∙ ap (λ ls. ls ++ test_lines s i at listed) (before ∙ ap skipped_lines same)
+    ∙ ap (λ n. skipped_lines skipped ++ test_lines s n at listed) inc
+    ∙ ap (λ os. skipped_lines skipped ++ test_lines s j at os) all
+
 module _ (held : Option Held) (s : State) (until : Option Until) (inc : Option ℕ) (at : ℕ) (target : test_target s until inc ≡ Some at) where
   pub test-refuses : (r : Refusal) → IsGapBy held s (tested s inc) at r → Refuses held s (RecoverTest until inc) r
   test-refuses r by objects is = subst (λ o. TestsTo s objects (tested s inc) o (refused r)) (sym target) (inl (finds-gap held s (tested s inc) at objects r is by))

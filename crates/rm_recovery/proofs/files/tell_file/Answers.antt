@@ -1,15 +1,14 @@
-use Rattle.std.proofs.Common.{◌≡◌, ◌∙◌, List, Some, map, refl, sym, ap, subst}
+use Rattle.std.proofs.Common.{◌≡◌, ◌∙◌, List, map, sym, ap, subst}
 use Rattle.rm_base.specs.declared.block.Part.{Part}
 use Rattle.rm_base.specs.declared.block.Row.{Row}
 use Rattle.rm_blocks.specs.File.{File, IsInOrder}
 use Rattle.rm_evidence.specs.Known.{FitsTree, known_of}
-use Rattle.rm_history.specs.World.{exists, blocks_of}
 use Rattle.rm_machine.specs.Recovery.{IsTold}
 use Rattle.rm_machine.specs.State.{world}
 use Rattle.rm_objects.specs.Database.{world_of}
 use Rattle.rm_plan.proofs.Faults.{handed_on}
-use Rattle.rm_plan.specs.Plan.{AreParts, IsFileFault, IsFileTarget}
-use Rattle.rm_recovery.specs.Telling.{IsFaultOfFile, IsToldFile, row_of}
+use Rattle.rm_plan.specs.Plan.{IsFileFault, IsFileTarget}
+use Rattle.rm_recovery.specs.Telling.{IsFaultOfFile, row_of}
 use Rattle.rm_recovery.proofs.FilesTold.{fault-of-file, number-target}
 use Rattle.rm_recovery.proofs.Records.{same-tree, same-world}
 use Rattle.rm_recovery.proofs.Rows.{rows-in-order, rows-told}
@@ -47,8 +46,7 @@ returns-clause-told c =
     let at = c.args.at in
     let f = c.args.number in
     let file : List Row → File = λ rows. record { file = f; inc = i; checkpoint = at; rows = rows } in
-    let is : c.from_rows.result ≡ file (map row_of c.in_ok-parts.parts) = c.from_rows.ensures ∙ ap file (c.in_ok-rows.ensures ∙ ap (λ (ps : List Part). map row_of ps) c.as_slice.ensures) in
-    (
+    let is : c.from_rows.result ≡ file (map row_of c.in_ok-parts.parts) = c.from_rows.ensures ∙ ap file (c.in_ok-rows.ensures ∙ ap (λ (ps : List Part). map row_of ps) c.as_slice.ensures) in (
       sym c.if-not-exists.ensures,
       subst (IsTold (world s) e i at f) (sym is) (subst (λ w. IsTold w e i at f (file (map row_of c.in_ok-parts.parts))) (same-world s c.args.hand.now.records c.requires.records) (rows-told v e i at f c.in_ok-parts.parts c.in_ok-parts.ensures.parts)),
     )

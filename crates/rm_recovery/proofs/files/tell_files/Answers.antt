@@ -1,10 +1,10 @@
-use Rattle.std.proofs.Common.{◌≡◌, ◌<◌, ◌≤◌, ◌+◌, ◌-◌, ◌∙◌, List, Some, arith, ap, subst, sym, length, get_or, slice_get}
+use Rattle.std.proofs.Common.{◌≡◌, ◌+◌, ◌-◌, ◌∙◌, List, arith, ap, subst, sym, length, get_or, slice_get}
 use Rattle.std.proofs.lemmas.Option.{slice_get-get_or}
 use Rattle.rm_evidence.specs.Known.{known_of}
 use Rattle.rm_history.specs.declared.world.Datafile.{Datafile}
 use Rattle.rm_machine.specs.State.{ledger, world}
 use Rattle.rm_plan.proofs.Faults.{handed_on}
-use Rattle.rm_recovery.specs.Telling.{AreToldBelow, IsFaultOfFile, IsFirstFault, IsToldFile}
+use Rattle.rm_recovery.specs.Telling.{AreToldBelow, IsFirstFault, IsToldFile}
 use Rattle.rm_recovery.proofs.FilesTold.{all-told, first-fault, grown, none-yet}
 use Rattle.rm_recovery.proofs.files.tell_files.Goals as goal
 

@@ -1,11 +1,11 @@
-use Rattle.std.proofs.Common.{◌≡◌, ◌∙◌, ◌++◌, ◌∷◌, [], ℕ, List, ap, refl, sym, subst}
+use Rattle.std.proofs.Common.{◌∙◌, ◌++◌, ◌∷◌, [], ℕ, List, ap, refl, sym, subst}
 use Rattle.rm_base.specs.declared.kinds.Bad.{Bad}
 use Rattle.rm_catalog.specs.declared.record.BaseEntry.{BaseEntry}
 use Rattle.rm_machine.specs.Recovery.{count_at, skipped_lines}
 use Rattle.rm_machine.specs.Sound.{IsSound}
 use Rattle.rm_machine.specs.State.{current_of, tree}
 use Rattle.rm_report.specs.declared.line.Line.TheVariants.{Recovered}
-use Rattle.rm_recovery.proofs.Handing.{built-target, gap-at, recover-hands, recover-refuses, recover-sound, told-at}
+use Rattle.rm_recovery.proofs.Handing.{built-target, recover-hands, recover-sound, told-at}
 use Rattle.rm_recovery.proofs.recovery.recover.Goals as goal
 
 pub unreachable-requires : goal.unreachable-requires
