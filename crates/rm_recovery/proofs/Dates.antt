@@ -1,21 +1,18 @@
--- No line of a recovery tells a moment, and no gap does.
+-- No line of a recovery tells a moment.
 use Rattle.std.proofs.Common.{◌≡◌, ◌++◌, ◌∷◌, ◌+◌, ℕ, Bool, true, false, List, [], Option, Some, None, sym, subst}
 use Rattle.std.specs.Prelude.{All, if◌then◌else◌}
 use Rattle.std.proofs.lemmas.List.Elements.{All-append, All-cons, All-nil}
-use Rattle.rm_base.specs.Store.{Held}
 use Rattle.rm_base.specs.declared.block.Row.{Row}
 use Rattle.rm_base.specs.declared.kinds.Bad.{Bad}
-use Rattle.rm_base.specs.declared.refusal.Refusal.{Refusal}
 use Rattle.rm_blocks.specs.File.{File}
 use Rattle.rm_history.specs.declared.world.Datafile.{Datafile}
-use Rattle.rm_report.specs.Reply.{HasDate, LineHasDate}
+use Rattle.rm_report.specs.Reply.{LineHasDate}
 use Rattle.rm_report.specs.declared.line.Line.{Line}
-use Rattle.rm_report.specs.declared.line.Line.TheVariants.{BlockIs, FileIs, Recovered, Skipped, UntilIs}
+use Rattle.rm_report.specs.declared.line.Line.TheVariants.{BlockIs, Recovered, Skipped, UntilIs}
 use Rattle.rm_machine.specs.Recovery.{count_at, skipped_lines}
 use Rattle.rm_machine.specs.RecoverTest.{block_lines, file_lines, files_lines, is_written, test_lines}
 use Rattle.rm_machine.specs.State.{ledger}
 use Rattle.rm_machine.specs.declared.state.State.{State}
-use Rattle.rm_recovery.specs.Telling.{IsGapBy}
 
 abbrev AreDated : List Line → Type 0
 AreDated lines = All LineHasDate lines
@@ -51,6 +48,3 @@ pub tested-dated : (before lines : List Line) (skipped : List (ℕ × Bad)) (s :
 tested-dated before lines skipped s i at files first is =
     subst AreDated (sym is) (All-append LineHasDate before (test_lines s i at files) (subst AreDated (sym first) (skipped-dated skipped))
     (All-cons LineHasDate (UntilIs at i (count_at s i at)) (files_lines 1 (ledger s).files files) tt (files-dated 1 (ledger s).files files)))
-
-pub gap-dated : (held : Option Held) (s : State) (i at : ℕ) (r : Refusal) → IsGapBy held s i at r → HasDate r
-gap-dated held s i at r gap = subst HasDate (sym gap.names) tt
