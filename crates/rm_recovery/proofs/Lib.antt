@@ -1,3 +1,4 @@
+pub mod Dates
 pub mod FileLines
 pub mod FilesTold
 pub mod Handing

@@ -1,5 +1,5 @@
 //! RECOVER DATABASE [UNTIL SCN s]
-ghost use Rattle.std.specs.Prelude.{◌≡◌, ◌≤◌, ◌++◌, ◌∷◌, [], IfErr, IfOk, IsErrOf, None, OnOk, length, true};
+ghost use Rattle.std.specs.Prelude.{◌≡◌, ◌≤◌, ◌++◌, ◌∷◌, [], All, IfErr, IfOk, IsErrOf, None, OnOk, length, true};
 ghost use Rattle.rm_base.specs.Outside.{Rose};
 ghost use Rattle.rm_command.specs.declared.command.Command.TheVariants.{Recover};
 ghost use Rattle.rm_machine.specs.Hands.{Hands, Refuses};
@@ -7,6 +7,7 @@ ghost use Rattle.rm_machine.specs.Recover.{or_else, put_over, recover_refusal, r
 ghost use Rattle.rm_machine.specs.Recovery.{count_at, is_built_until, skipped_lines};
 ghost use Rattle.rm_machine.specs.Sound.{IsSound};
 ghost use Rattle.rm_machine.specs.State.{current_of};
+ghost use Rattle.rm_report.specs.Reply.{HasDate, LineHasDate};
 ghost use Rattle.rm_report.specs.declared.line.Line.TheVariants.{Recovered};
 
 use crate::lines::{count_at, skipped_lines};
@@ -128,6 +129,8 @@ pub fn recover<D: Store>(
     ensures refused { IfOk result (λ x. IfErr x (λ _. state.new ≡ state.old)) }
     ensures failed { IfErr result (λ _. state.new ≡ state.old) }
     ensures catalog { state.new.catalog ≡ state.old.catalog }
+    ensures dates { IfOk result (λ x. IfOk x (λ handed. All LineHasDate handed.lines)) }
+    ensures date { IfOk result (λ x. IfErr x HasDate) }
     ensures same { D.held store.new ≡ D.held store.old }
     ensures store { IsErrOf result EvidenceFault.StoreFault → Rose (D.faults store.old) (D.faults store.new) }
     ensures never_falls { D.faults store.old ≤ D.faults store.new }

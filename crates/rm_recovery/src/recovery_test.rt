@@ -1,5 +1,5 @@
 //! RECOVER DATABASE [UNTIL SCN s] [INCARNATION i] TEST
-ghost use Rattle.std.specs.Prelude.{◌≡◌, ◌≤◌, IfErr, IfOk, IsErrOf, None, true};
+ghost use Rattle.std.specs.Prelude.{◌≡◌, ◌≤◌, All, IfErr, IfOk, IsErrOf, None, true};
 ghost use Rattle.rm_base.specs.Outside.{Rose};
 ghost use Rattle.rm_command.specs.declared.command.Command.TheVariants.{RecoverTest};
 ghost use Rattle.rm_history.specs.Tree.{IsThere};
@@ -8,6 +8,7 @@ ghost use Rattle.rm_machine.specs.RecoverTest.{test_refusal, test_target, tested
 ghost use Rattle.rm_machine.specs.Recovery.{is_built_until};
 ghost use Rattle.rm_machine.specs.Sound.{IsSound};
 ghost use Rattle.rm_machine.specs.State.{tree};
+ghost use Rattle.rm_report.specs.Reply.{HasDate, LineHasDate};
 
 use crate::lines::{push_test, skipped_lines};
 use crate::target::{range_refusal, target_of};
@@ -55,6 +56,8 @@ pub fn recover_test<D: Store>(
     requires accepted { test_refusal state.now until.now inc ≡ None }
     ensures tells { IfOk result (λ x. IfOk x (λ lines. Tells (D.held store.old) state.now (RecoverTest until.now inc) lines)) }
     ensures refuses { IfOk result (λ x. IfErr x (λ refusal. Refuses (D.held store.old) state.now (RecoverTest until.now inc) refusal)) }
+    ensures dates { IfOk result (λ x. IfOk x (All LineHasDate)) }
+    ensures date { IfOk result (λ x. IfErr x HasDate) }
     ensures same { D.held store.new ≡ D.held store.old }
     ensures store { IsErrOf result EvidenceFault.StoreFault → Rose (D.faults store.old) (D.faults store.new) }
     ensures never_falls { D.faults store.old ≤ D.faults store.new }

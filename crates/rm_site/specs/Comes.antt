@@ -1,11 +1,13 @@
 -- What a statement comes to, where there is a database.
-use Rattle.std.specs.Prelude.{◌≡◌, true, Option, Some, None, All}
+use Rattle.std.specs.Prelude.{◌≡◌, Bool, true, false, Option, Some, None, All}
 use Rattle.rm_base.specs.Store.{Held}
 use Rattle.rm_base.specs.declared.refusal.Refusal.{Refusal}
 use Rattle.rm_command.specs.declared.command.Command.{Command}
+use Rattle.rm_command.specs.declared.command.Command.TheVariants.{Dump, ListIncarnation, Recover, RecoverTest}
 use Rattle.rm_report.specs.Reply.{LineHasDate, HasDate}
 use Rattle.rm_machine.specs.Effect.{refused, told}
 use Rattle.rm_machine.specs.Hands.{Hands}
+use Rattle.rm_machine.specs.Sound.{IsSound}
 use Rattle.rm_machine.specs.declared.state.State.{State}
 use Rattle.rm_machine.specs.Step.{IsOutcome, refusal_of}
 use Rattle.rm_site.specs.declared.statement.Answer.{Answer}
@@ -31,3 +33,18 @@ abbrev pub AnswerHasDates : Answer → Type 0
 AnswerHasDates (Refused r) = HasDate r
 AnswerHasDates (Told lines) = All LineHasDate lines
 AnswerHasDates (Done x) = All LineHasDate x.lines
+
+-- the statement changes the state, and looks at nothing else
+abbrev pub is_change : Command → Bool
+is_change (Recover until) = false
+is_change (RecoverTest until inc) = false
+is_change ListIncarnation = false
+is_change (Dump file block) = false
+is_change _ = true
+
+-- what is known of an answer
+pub record IsAnswer (held : Option Held) (s : State) (c : Command) (a : Answer) (t : State) : Type 0 where
+  pub comes : ComesTo held s c a t
+  pub refused : IsRefusedBy (refusal_of s c) c a
+  pub sound : IsSound t
+  pub dates : AnswerHasDates a

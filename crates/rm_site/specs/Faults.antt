@@ -1,8 +1,12 @@
--- Which fault a failed call makes of the opening of a site.
+-- Which fault a failed call makes of the opening of a site, and which stop of a statement.
 use Rattle.std.specs.Prelude.{◌≡◌, List, []}
 use Rattle.rm_catalog.specs.declared.keeper.KeeperFail.{KeeperFail}
 use Rattle.rm_catalog.specs.declared.keeper.KeeperFail.TheVariants as keeper
 use Rattle.rm_catalog.specs.declared.record.Record.{Record}
+use Rattle.rm_change.specs.declared.change.Stop.{Stop}
+use Rattle.rm_change.specs.declared.change.Stop.TheVariants as stop
+use Rattle.rm_evidence.specs.declared.gathering.EvidenceFault.{EvidenceFault}
+use Rattle.rm_evidence.specs.declared.gathering.EvidenceFault.TheVariants as evidence
 use Rattle.rm_site.specs.declared.open.OpenFault.{OpenFault}
 use Rattle.rm_site.specs.declared.open.OpenFault.TheVariants.{BadRow, StoreFault, KeeperFault, NoMemory}
 use Rattle.rm_site.specs.Opens.{IsFirst}
@@ -18,3 +22,8 @@ IsBadFirst (BadRow kind id) rs = IsFirst rs (record { kind = kind; id = id })
 IsBadFirst StoreFault rs = rs ≡ []
 IsBadFirst KeeperFault rs = Unit {0}
 IsBadFirst NoMemory rs = Unit {0}
+
+-- a fault at what the store holds is one of the store, or no memory
+abbrev pub stop_of : EvidenceFault → Stop
+stop_of evidence.StoreFault = stop.StoreFault
+stop_of evidence.NoMemory = stop.NoMemory

@@ -1,9 +1,11 @@
 //! The site: a database or none, over a store of objects and a keeper of records.
 #![tactic(auto)]
 
+mod changing;
 mod create;
 mod moment;
 pub mod open;
+mod recovering;
 mod refusing;
 pub mod site;
 mod statement;

@@ -7,14 +7,19 @@ ghost use Rattle.rm_repository.specs.Changes.{EditsFollow};
 ghost use Rattle.rm_machine.specs.Built.{is_built};
 ghost use Rattle.rm_machine.specs.Sound.{IsSound};
 ghost use Rattle.rm_machine.specs.Step.{IsStatement, refusal_of};
-ghost use Rattle.rm_site.specs.Comes.{AnswerHasDates, ComesTo, IsRefusedBy};
+ghost use Rattle.rm_site.specs.Comes.{AnswerHasDates, ComesTo, IsAnswer, IsRefusedBy};
 
+use crate::changing::change;
+use crate::recovering::{bring_back, test};
+use crate::refusing::refusal_of;
 use rm_base::{Refusal, Seq, Store};
 use rm_catalog::Edit;
 use rm_change::Stop;
 use rm_command::Command;
 use rm_machine::{Handed, State};
+use rm_modes::list_incarnation;
 use rm_report::Line;
+use rm_writing::dump;
 use std::alloc::Global;
 
 /// What a statement comes to.
@@ -26,6 +31,35 @@ pub(crate) enum Answer {
     Told(Seq<Line>),
     /// It is done, but for what is carried out.
     Done(Handed),
+}
+
+// What a statement comes to that the state does not refuse.
+fn accepted<D: Store>(
+    alloc: Global,
+    state: &mut State,
+    store: &mut D,
+    edits: &mut Vec<Edit>,
+    command: &Command,
+) -> Result<Answer, Stop>
+    requires command { IsStatement command.now }
+    requires built { IsTrue (is_built command.now) }
+    requires sound { IsSound state.old }
+    requires unsaved { state.old.catalog.saved ≡ None }
+    requires accepted { refusal_of state.old command.now ≡ None }
+    ensures answer { IfOk result (λ a. IsAnswer (D.held store.old) state.old command.now a state.new) }
+    ensures edits { OnOk result (EditsFollow edits.old.items edits.new.items state.old.catalog state.new.catalog) }
+    ensures held { D.held store.new ≡ D.held store.old }
+    ensures store { IsErrOf result StoreFault → Rose (D.faults store.old) (D.faults store.new) }
+    ensures keeper { ¬ IsErrOf result KeeperFault }
+    ensures never_falls { D.faults store.old ≤ D.faults store.new }
+{
+    match command {
+        Command::Recover { until } => bring_back(alloc, state, store, until),
+        Command::RecoverTest { until, inc } => test(alloc, state, store, until, *inc),
+        Command::ListIncarnation => Ok(Answer::Told(list_incarnation(alloc, state)?)),
+        Command::Dump { file, block } => Ok(Answer::Told(dump(alloc, state, *file, *block)?)),
+        _ => Ok(Answer::Done(change(alloc, state, edits, command)?)),
+    }
 }
 
 /// What a statement comes to. It begins at its moment, and no site is saved. The state refuses it exactly where
@@ -51,5 +85,8 @@ pub(crate) fn come_to<D: Store>(
     ensures keeper { ¬ IsErrOf result KeeperFault }
     ensures never_falls { D.faults store.old ≤ D.faults store.new }
 {
-    Err(Stop::NoMemory)
+    if let Some(refusal) = refusal_of(state, command) {
+        return Ok(Answer::Refused(refusal));
+    }
+    accepted(alloc, state, store, edits, command)
 }

@@ -5,6 +5,7 @@ use Rattle.rm_machine.specs.Recovery.{count_at, skipped_lines}
 use Rattle.rm_machine.specs.Sound.{IsSound}
 use Rattle.rm_machine.specs.State.{current_of, tree}
 use Rattle.rm_report.specs.declared.line.Line.TheVariants.{Recovered}
+use Rattle.rm_recovery.proofs.Dates.{recovered-dated}
 use Rattle.rm_recovery.proofs.Handing.{built-target, recover-hands, recover-sound, told-at}
 use Rattle.rm_recovery.proofs.recovery.recover.Goals as goal
 
@@ -40,3 +41,6 @@ returns-clause-sound g c =
     let current = ap (λ (b : BaseEntry). b.current) c.base-current.ensures.value in
     let by = told-at held s c.base-current.result.current (current_of s) at c.in_ok-told.field-0 t current c.in-Ok.is c.in_ok-told.ensures.told in
     subst IsSound (sym c.bring_back.ensures) (recover-sound held s c.args.until.now at (sym c.recover_target.ensures ∙ c.in-Some.is) t c.requires.sound c.requires.accepted by)
+
+pub returns-clause-dates : goal.returns-clause-dates
+returns-clause-dates g c = recovered-dated c.in_ok-lines.lines c.as_slice.result.now c.in-Some.at _ _ c.in_ok-lines.ensures

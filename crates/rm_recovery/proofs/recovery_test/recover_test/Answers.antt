@@ -2,6 +2,7 @@ use Rattle.std.proofs.Common.{◌≡◌, ◌≤◌, ◌∙◌, List, Option, All
 use Rattle.rm_blocks.specs.File.{File}
 use Rattle.rm_evidence.specs.Known.{known_of}
 use Rattle.rm_machine.specs.RecoverTest.{tested}
+use Rattle.rm_recovery.proofs.Dates.{tested-dated}
 use Rattle.rm_recovery.proofs.FilesTold.{told-few}
 use Rattle.rm_recovery.proofs.Handing.{built-target, test-at, test-lines, test-tells, told-at}
 use Rattle.rm_recovery.proofs.recovery_test.recover_test.Goals as goal
@@ -30,3 +31,8 @@ returns-clause-tells g c =
     let target = test-at s until c.args.inc c.tree.result.now i at c.target_of.result c.tree.ensures is c.target_of.ensures c.in-Some.is in
     test-tells held s until c.args.inc at target t c.push_test.new.lines by
     (test-lines s i (tested s c.args.inc) at t.skipped c.as_slice.result.now t.files c.as_slice-2.result.now c.in_ok-lines.lines c.push_test.new.lines is c.as_slice.ensures c.as_slice-2.ensures c.in_ok-lines.ensures c.in_ok-push_test.ensures)
+
+pub returns-clause-dates : goal.returns-clause-dates
+returns-clause-dates g c =
+    tested-dated c.in_ok-lines.lines c.push_test.new.lines c.as_slice.result.now c.args.state.now c.tested-inc.result c.in-Some.at c.as_slice-2.result.now c.in_ok-lines.ensures
+    c.in_ok-push_test.ensures

@@ -1,0 +1,43 @@
+-- What is known of an answer where the state did not refuse the statement.
+use Rattle.std.proofs.Common.{◌≡◌, true, List, Option, Some, None, refl, sym, subst}
+use Rattle.std.specs.Prelude.{All}
+use Rattle.rm_base.specs.Store.{Held}
+use Rattle.rm_command.specs.declared.command.Command.{Command}
+use Rattle.rm_report.specs.Reply.{LineHasDate}
+use Rattle.rm_report.specs.declared.line.Line.{Line}
+use Rattle.rm_machine.specs.Effect.{told}
+use Rattle.rm_machine.specs.Hands.{Hands, Tells}
+use Rattle.rm_machine.specs.declared.handed.Handed.{Handed}
+use Rattle.rm_machine.specs.declared.state.State.{State}
+use Rattle.rm_machine.specs.Sound.{IsSound}
+use Rattle.rm_machine.specs.Step.{IsDone, IsOutcomeBy, IsStatement, refusal_of}
+use Rattle.rm_frame.proofs.Every.{every-stays}
+use Rattle.rm_site.specs.Comes.{IsAnswer, IsRefusedBy, is_change}
+use Rattle.rm_site.specs.declared.statement.Answer.TheVariants.{Told, Done}
+use Rattle.rm_site.proofs.DatedLines.{change-dated}
+
+-- a store that holds nothing: what is so of every store is so of it
+nothing : Held
+nothing name = None
+
+module _ (held : Option Held) (s : State) (c : Command) (accepted : refusal_of s c ≡ None) (sound : IsSound s) where
+  -- it tells, and no store says anything of it
+  pub it-tells : (lines : List Line) → ((h : Option Held) → Tells h s c lines) → ((objects : Held) → IsDone s objects c (told lines) → All LineHasDate lines) → IsAnswer held s c (Told lines) s
+  it-tells lines tells dated = record {
+    comes = (refl, λ objects at. subst (λ o. IsOutcomeBy o s objects c (told lines)) (sym accepted) (tells held objects at));
+    refused = subst (λ o. IsRefusedBy o c (Told lines)) (sym accepted) tt;
+    sound = sound;
+    dates = dated nothing (tells (Some nothing) nothing refl);
+  }
+
+  -- it is a change, and no store says anything of it
+  pub it-changes : (x : Handed) (t : State) → IsStatement c → is_change c ≡ true → s.catalog.saved ≡ None → ((h : Option Held) → Hands h s c x t) → IsAnswer held s c (Done x) t
+  it-changes x t well change unsaved hands =
+      let to = hands (Some nothing) in
+      let does = to.comes nothing refl in
+      record {
+        comes = (accepted, hands held);
+        refused = subst (λ o. IsRefusedBy o c (Done x)) (sym accepted) tt;
+        sound = (every-stays c s nothing x.lines to.effect t well sound unsaved accepted does).0;
+        dates = change-dated c s nothing x.lines to.effect t change does;
+      }

@@ -1,0 +1,107 @@
+-- No line of what a statement comes to tells a moment.
+use Rattle.std.proofs.Common.{◌≡◌, ◌++◌, ◌∷◌, ◌+◌, ℕ, zero, suc, Bool, true, false, List, [], Option, Some, None, length, sym, subst}
+use Rattle.std.specs.Prelude.{All, IsSomeAnd, if◌then◌else◌}
+use Rattle.std.proofs.lemmas.List.Elements.{All-append, All-cons, All-nil}
+use Rattle.rm_base.specs.Store.{Held}
+use Rattle.rm_command.specs.declared.command.BackupForm.{BackupForm}
+use Rattle.rm_command.specs.declared.command.Command.{Command}
+use Rattle.rm_command.specs.declared.command.Command.TheVariants.{ArchiveLogCurrent, Backup, CreateDatabase, CreateDatafile, Dump, ListIncarnation, Mount, OpenPlain, OpenResetlogs, Recover, RecoverTest, ResetDatabase, SwitchLogfile, Write}
+use Rattle.rm_history.specs.declared.tree.Incarnation.{Incarnation}
+use Rattle.rm_report.specs.Reply.{HasDate, LineHasDate}
+use Rattle.rm_report.specs.declared.line.Line.{Line}
+use Rattle.rm_machine.specs.Archive.{after_thread, lines_from, thread_lines}
+use Rattle.rm_machine.specs.Backup.{after_file, lines_of, or_nothing, taken}
+use Rattle.rm_machine.specs.Effect.{Effect, Outcome, done, no_effect, refused, told}
+use Rattle.rm_machine.specs.ListIncarnation.{incarnation_lines}
+use Rattle.rm_machine.specs.State.{current_of, ledger, online, tree}
+use Rattle.rm_machine.specs.Step.{IsDone}
+use Rattle.rm_machine.specs.SwitchLogfile.{archived, is_due, made_lines, none_lines, with_archived}
+use Rattle.rm_machine.specs.declared.state.State.{State}
+use Rattle.rm_site.specs.Comes.{is_change}
+
+-- the moment of each RM-14 among the lines is at most the last
+record AreDated (lines : List Line) : Type 0 where
+  dates : All LineHasDate lines
+
+none-dated : AreDated []
+none-dated = record { dates = All-nil LineHasDate }
+
+more-dated : (line : Line) (lines : List Line) → LineHasDate line → AreDated lines → AreDated (line ∷ lines)
+more-dated line lines one two = record { dates = All-cons LineHasDate line lines one two.dates }
+
+one-dated : (line : Line) → LineHasDate line → AreDated (line ∷ [])
+one-dated line one = more-dated line [] one none-dated
+
+join-dated : (xs ys : List Line) → AreDated xs → AreDated ys → AreDated (xs ++ ys)
+join-dated xs ys one two = record { dates = All-append LineHasDate xs ys one.dates two.dates }
+
+if-dated : (b : Bool) (xs ys : List Line) → AreDated xs → AreDated ys → AreDated (if b then xs else ys)
+if-dated true xs ys one two = one
+if-dated false xs ys one two = two
+
+-- The lines of archiving, of a backup and of incarnations
+
+thread-dated : (all : Bool) (s : State) (t : ℕ) → AreDated (thread_lines all s t)
+thread-dated all s t = search (if-dated, one-dated, none-dated)
+
+archived-dated : (all : Bool) (s : State) (t n : ℕ) → AreDated (lines_from all s t n)
+archived-dated all s t zero = none-dated
+archived-dated all s t (suc n) = join-dated (thread_lines all s t) (lines_from all (after_thread s t) (t + 1) n) (thread-dated all s t) (archived-dated all (after_thread s t) (t + 1) n)
+
+pieces-dated : (s : State) (b : BackupForm) (tag : List ℕ) (fs : List ℕ) → AreDated (lines_of s b tag fs)
+pieces-dated s b tag [] = none-dated
+pieces-dated s b tag (f ∷ fs) = more-dated _ _ tt (pieces-dated (after_file s b tag f) b tag fs)
+
+nothing-dated : (lines : List Line) → AreDated lines → AreDated (or_nothing lines)
+nothing-dated [] dated = one-dated _ tt
+nothing-dated (line ∷ lines) dated = dated
+
+incarnations-dated : (ns : List Incarnation) (current i n : ℕ) → AreDated (incarnation_lines ns current i n)
+incarnations-dated ns current i zero = none-dated
+incarnations-dated ns current i (suc n) = more-dated _ _ tt (incarnations-dated ns current (i + 1) n)
+
+-- The lines of an outcome
+
+abbrev IsDated : Outcome → Type 0
+IsDated (refused r) = HasDate r
+IsDated (told lines) = AreDated lines
+IsDated (done lines e t) = AreDated lines
+
+by : (o p : Outcome) → o ≡ p → IsDated p → IsDated o
+by o p is dated = subst IsDated (sym is) dated
+
+if-by : (b : Bool) (o p : Outcome) → IsDated o → IsDated p → IsDated (if b then o else p)
+if-by true o p one two = one
+if-by false o p one two = two
+
+some-by : (at : Option ℕ) (f : ℕ → Outcome) (o : Outcome) → IsSomeAnd at (λ n. o ≡ f n) → ((n : ℕ) → IsDated (f n)) → IsDated o
+some-by None f o is dated = absurd is
+some-by (Some n) f o is dated = by o (f n) is (dated n)
+
+every-dated : (c : Command) (s : State) (objects : Held) (o : Outcome) → is_change c ≡ true → IsDone s objects c o → IsDated o
+every-dated (CreateDatabase dbid threads scn) s objects o change is = absurd is
+every-dated (CreateDatafile blocks) s objects o change is = by o _ is (one-dated _ tt)
+every-dated (Write w) s objects o change is = by o _ is (one-dated _ tt)
+every-dated (SwitchLogfile t) s objects o change is = by o _ is (if-by (is_due s t) (done (made_lines s t) (archived (ledger s).base.next_id (online s t)) (with_archived s t)) (done (none_lines t) no_effect s) (one-dated _ tt) (one-dated _ tt))
+every-dated ArchiveLogCurrent s objects o change is = by o _ is (archived-dated true s 1 (ledger s).base.threads)
+every-dated (Backup b) s objects o change is = by o _ is.is (nothing-dated _ (pieces-dated s b is.tag (taken s b)))
+every-dated Mount s objects o change is = by o _ is (one-dated _ tt)
+every-dated OpenPlain s objects o change is = by o _ is (one-dated _ tt)
+every-dated OpenResetlogs s objects o change is = some-by s.instance.point _ o is (λ at. join-dated _ _ (archived-dated false s 1 (ledger s).base.threads) (one-dated _ tt))
+every-dated (ResetDatabase i) s objects o change is = by o _ is (one-dated _ tt)
+every-dated (Recover until) s objects o change is = absurd (cc)
+every-dated (RecoverTest until inc) s objects o change is = absurd (cc)
+every-dated ListIncarnation s objects o change is = absurd (cc)
+every-dated (Dump file block) s objects o change is = absurd (cc)
+every-dated c s objects o change is = absurd is
+
+-- what a change says
+pub change-dated : (c : Command) (s : State) (objects : Held) (lines : List Line) (e : Effect) (t : State) → is_change c ≡ true → IsDone s objects c (done lines e t) → All LineHasDate lines
+change-dated c s objects lines e t change is = (every-dated c s objects (done lines e t) change is).dates
+
+-- what LIST INCARNATION and DUMP tell
+pub list-dated : (s : State) (lines : List Line) (objects : Held) → IsDone s objects ListIncarnation (told lines) → All LineHasDate lines
+list-dated s lines objects is = (by (told lines) _ is (incarnations-dated (tree s) (current_of s) 1 (length (tree s)))).dates
+
+pub dump-dated : (file block : ℕ) (s : State) (lines : List Line) (objects : Held) → IsDone s objects (Dump file block) (told lines) → All LineHasDate lines
+dump-dated file block s lines objects is = (by (told lines) _ is.2 (one-dated _ tt)).dates

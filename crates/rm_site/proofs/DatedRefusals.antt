@@ -1,0 +1,124 @@
+-- No refusal of the state tells a moment.
+use Rattle.std.proofs.Common.{◌≡◌, ℕ, Bool, true, false, Option, Some, None, sym, subst}
+use Rattle.std.specs.Prelude.{IfSome, if◌then◌else◌}
+use Rattle.std.specs.Option.{option_and_then, option_map, option_map_or}
+use Rattle.rm_base.specs.declared.refusal.Refusal.{Refusal}
+use Rattle.rm_command.specs.declared.command.BackupForm.{BackupForm}
+use Rattle.rm_command.specs.declared.command.Command.{Command}
+use Rattle.rm_command.specs.declared.command.Command.TheVariants.{ArchiveLogCurrent, Backup, CreateDatabase, CreateDatafile, Dump, Mount, OpenPlain, OpenResetlogs, Recover, RecoverTest, ResetDatabase, SwitchLogfile, Write}
+use Rattle.rm_command.specs.declared.command.Until.{Until}
+use Rattle.rm_command.specs.declared.command.WriteForm.{WriteForm}
+use Rattle.rm_history.specs.declared.world.Datafile.{Datafile}
+use Rattle.rm_report.specs.Reply.{HasDate}
+use Rattle.rm_machine.specs.Archive.{archive_all_refusal, archiving_refusal}
+use Rattle.rm_machine.specs.Backup.{backup_refusal}
+use Rattle.rm_machine.specs.CreateDatafile.{datafile_refusal}
+use Rattle.rm_machine.specs.Dump.{dump_refusal}
+use Rattle.rm_machine.specs.Marks.{ids_refusal}
+use Rattle.rm_machine.specs.Open.{open_refusal}
+use Rattle.rm_machine.specs.OpenResetlogs.{resetlogs_refusal}
+use Rattle.rm_machine.specs.Recover.{or_else, recover_refusal, target_refusal}
+use Rattle.rm_machine.specs.RecoverTest.{test_refusal}
+use Rattle.rm_machine.specs.ResetDatabase.{reset_refusal}
+use Rattle.rm_machine.specs.Step.{refusal_of}
+use Rattle.rm_machine.specs.SwitchLogfile.{switch_refusal}
+use Rattle.rm_machine.specs.Write.{block_refusal, write_refusal}
+use Rattle.rm_machine.specs.declared.state.State.{State}
+
+-- where it refuses, it tells no moment past the last
+record IsDated (o : Option Refusal) : Type 0 where
+  date : IfSome o HasDate
+
+never : IsDated None
+never = record { date = tt }
+
+once : (r : Refusal) → HasDate r → IsDated (Some r)
+once r date = record { date = date }
+
+if-dated : (b : Bool) (x y : Option Refusal) → IsDated x → IsDated y → IsDated (if b then x else y)
+if-dated true x y one two = one
+if-dated false x y one two = two
+
+unless-dated : (b : Bool) (r : Refusal) (y : Option Refusal) → HasDate r → IsDated y → IsDated (if b then Some r else y)
+unless-dated true r y date two = once r date
+unless-dated false r y date two = two
+
+or-dated : {X : Type 0} (f : X → Option Refusal) (o : Option X) (d : Option Refusal) → ((x : X) → IsDated (f x)) → IsDated d → IsDated (option_map_or f o d)
+or-dated f None d one two = two
+or-dated f (Some x) d one two = one x
+
+then-dated : {X : Type 0} (f : X → Option Refusal) (o : Option X) → ((x : X) → IsDated (f x)) → IsDated (option_and_then f o)
+then-dated f None one = never
+then-dated f (Some x) one = one x
+
+map-dated : {X : Type 0} (f : X → Refusal) (o : Option X) → ((x : X) → HasDate (f x)) → IsDated (option_map f o)
+map-dated f None one = never
+map-dated f (Some x) one = once (f x) (one x)
+
+else-dated : (x y : Option Refusal) → IsDated x → IsDated y → IsDated (or_else x y)
+else-dated None y one two = two
+else-dated (Some r) y one two = one
+
+ids-dated : (s : State) → IsDated (ids_refusal s)
+ids-dated s = search (unless-dated, never)
+
+datafile-dated : (s : State) (blocks : ℕ) → IsDated (datafile_refusal s blocks)
+datafile-dated s blocks = search (if-dated, unless-dated, never, once) depth 9
+
+block-dated : (s : State) (w : WriteForm) (d : Datafile) → IsDated (block_refusal s w d)
+block-dated s w d = search (unless-dated, never) depth 9
+
+write-dated : (s : State) (w : WriteForm) → IsDated (write_refusal s w)
+write-dated s w = search (if-dated, unless-dated, or-dated, block-dated, once)
+
+dump-dated : (s : State) (f b : ℕ) → IsDated (dump_refusal s f b)
+dump-dated s f b = search (unless-dated, or-dated, never, once)
+
+switch-dated : (s : State) (t : ℕ) → IsDated (switch_refusal s t)
+switch-dated s t = search (if-dated, unless-dated, ids-dated, never, once) depth 9
+
+archiving-dated : (s : State) (more : ℕ) → IsDated (archiving_refusal s more)
+archiving-dated s more = search (unless-dated, never)
+
+archive-dated : (s : State) → IsDated (archive_all_refusal s)
+archive-dated s = search (if-dated, archiving-dated, once)
+
+backup-dated : (s : State) (b : BackupForm) → IsDated (backup_refusal s b)
+backup-dated s b = search (if-dated, unless-dated, or-dated, never, once) depth 9
+
+open-dated : (s : State) → IsDated (open_refusal s)
+open-dated s = search (if-dated, unless-dated, ids-dated, once)
+
+resetlogs-dated : (s : State) → IsDated (resetlogs_refusal s)
+resetlogs-dated s = search (unless-dated, or-dated, archiving-dated, once)
+
+reset-dated : (s : State) (i : ℕ) → IsDated (reset_refusal s i)
+reset-dated s i = search (unless-dated, ids-dated)
+
+target-dated : (s : State) (at : ℕ) → IsDated (target_refusal s at)
+target-dated s at = search (unless-dated, map-dated, else-dated, ids-dated, never)
+
+recover-dated : (s : State) (until : Option Until) → IsDated (recover_refusal s until)
+recover-dated s until = search (unless-dated, then-dated, target-dated)
+
+test-dated : (s : State) (until : Option Until) (inc : Option ℕ) → IsDated (test_refusal s until inc)
+test-dated s until inc = search (unless-dated, then-dated, never)
+
+every-refusal-dated : (s : State) (c : Command) → IsDated (refusal_of s c)
+every-refusal-dated s (CreateDatabase dbid threads scn) = once _ tt
+every-refusal-dated s (CreateDatafile blocks) = datafile-dated s blocks
+every-refusal-dated s (Dump f b) = dump-dated s f b
+every-refusal-dated s (Write w) = write-dated s w
+every-refusal-dated s (SwitchLogfile t) = switch-dated s t
+every-refusal-dated s ArchiveLogCurrent = archive-dated s
+every-refusal-dated s (Backup b) = backup-dated s b
+every-refusal-dated s Mount = ids-dated s
+every-refusal-dated s OpenPlain = open-dated s
+every-refusal-dated s OpenResetlogs = resetlogs-dated s
+every-refusal-dated s (Recover until) = recover-dated s until
+every-refusal-dated s (RecoverTest until inc) = test-dated s until inc
+every-refusal-dated s (ResetDatabase i) = reset-dated s i
+every-refusal-dated s _ = never
+
+pub refusal-dated : (s : State) (c : Command) (r : Refusal) → Some r ≡ refusal_of s c → HasDate r
+refusal-dated s c r is = (subst IsDated (sym is) (every-refusal-dated s c)).date

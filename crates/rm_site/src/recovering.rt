@@ -1,0 +1,79 @@
+//! RECOVER DATABASE and its test: they look at what the store holds.
+ghost use Rattle.std.specs.Prelude.{◌≡◌, ◌≤◌, None, true, IfOk, IsErrOf};
+ghost use Rattle.rm_base.specs.Outside.{Rose};
+ghost use Rattle.rm_change.specs.declared.change.Stop.TheVariants.{StoreFault, KeeperFault};
+ghost use Rattle.rm_command.specs.declared.command.Command.TheVariants.{Recover, RecoverTest};
+ghost use Rattle.rm_machine.specs.Recover.{recover_refusal};
+ghost use Rattle.rm_machine.specs.RecoverTest.{test_refusal};
+ghost use Rattle.rm_machine.specs.Recovery.{is_built_until};
+ghost use Rattle.rm_machine.specs.Sound.{IsSound};
+ghost use Rattle.rm_site.specs.Comes.{IsAnswer};
+ghost use Rattle.rm_site.specs.Faults.{stop_of};
+
+use crate::statement::Answer;
+use rm_base::Store;
+use rm_change::Stop;
+use rm_command::Until;
+use rm_evidence::EvidenceFault;
+use rm_machine::State;
+use rm_recovery::{recover, recover_test};
+use std::alloc::Global;
+
+// The stop that a fault at what the store holds makes.
+fn stop_of(fault: EvidenceFault) -> Stop
+    ensures { result ≡ stop_of fault }
+{
+    match fault {
+        EvidenceFault::StoreFault => Stop::StoreFault,
+        EvidenceFault::NoMemory => Stop::NoMemory,
+    }
+}
+
+/// What RECOVER DATABASE comes to that the state does not refuse: it is done, or refused with the first gap. The
+/// catalog stays. After an error, which is a stop, nothing changed.
+pub(crate) fn bring_back<D: Store>(
+    alloc: Global,
+    state: &mut State,
+    store: &mut D,
+    until: &Option<Until>,
+) -> Result<Answer, Stop>
+    requires built { is_built_until until.now ≡ true }
+    requires sound { IsSound state.old }
+    requires accepted { recover_refusal state.old until.now ≡ None }
+    ensures answer { IfOk result (λ a. IsAnswer (D.held store.old) state.old (Recover until.now) a state.new) }
+    ensures catalog { state.new.catalog ≡ state.old.catalog }
+    ensures held { D.held store.new ≡ D.held store.old }
+    ensures store { IsErrOf result StoreFault → Rose (D.faults store.old) (D.faults store.new) }
+    ensures keeper { ¬ IsErrOf result KeeperFault }
+    ensures never_falls { D.faults store.old ≤ D.faults store.new }
+{
+    match recover(alloc, state, store, until) {
+        Ok(Ok(handed)) => Ok(Answer::Done(handed)),
+        Ok(Err(refusal)) => Ok(Answer::Refused(refusal)),
+        Err(fault) => Err(stop_of(fault)),
+    }
+}
+
+/// What RECOVER DATABASE TEST comes to that the state does not refuse: it tells, or is refused with the first gap.
+pub(crate) fn test<D: Store>(
+    alloc: Global,
+    state: &State,
+    store: &mut D,
+    until: &Option<Until>,
+    inc: Option<u64>,
+) -> Result<Answer, Stop>
+    requires built { is_built_until until.now ≡ true }
+    requires sound { IsSound state.now }
+    requires accepted { test_refusal state.now until.now inc ≡ None }
+    ensures answer { IfOk result (λ a. IsAnswer (D.held store.old) state.now (RecoverTest until.now inc) a state.now) }
+    ensures held { D.held store.new ≡ D.held store.old }
+    ensures store { IsErrOf result StoreFault → Rose (D.faults store.old) (D.faults store.new) }
+    ensures keeper { ¬ IsErrOf result KeeperFault }
+    ensures never_falls { D.faults store.old ≤ D.faults store.new }
+{
+    match recover_test(alloc, state, store, until, inc) {
+        Ok(Ok(lines)) => Ok(Answer::Told(lines)),
+        Ok(Err(refusal)) => Ok(Answer::Refused(refusal)),
+        Err(fault) => Err(stop_of(fault)),
+    }
+}
