@@ -55,7 +55,8 @@ module _ (w : World) (e : Evidence) (i at : ℕ) where
     ];
   }
 
-  pub grown : (n : ℕ) (d : Datafile) (files new : List (Option File)) (o : Option File) → new ≡ files ++ o ∷ [] → AreToldBelow w e i at n files → slice_get w.files n ≡ Some d → IsToldFile w e i at (1 + n) d o → AreToldBelow w e i at (n + 1) new
+  pub grown : (n : ℕ) (d : Datafile) (files new : List (Option File)) (o : Option File)
+      → new ≡ files ++ o ∷ [] → AreToldBelow w e i at n files → slice_get w.files n ≡ Some d → IsToldFile w e i at (1 + n) d o → AreToldBelow w e i at (n + 1) new
   grown n d files new o list are is told = subst (AreToldBelow w e i at (n + 1)) (sym list) (one-more n d files o are is told)
 
   module _ (n : ℕ) (files : List (Option File)) (are : AreToldBelow w e i at n files) where

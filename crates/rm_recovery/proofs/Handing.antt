@@ -96,7 +96,8 @@ module _ (held : Option Held) (s : State) (until : Option Until) (at : ℕ) (tar
 -- RECOVER DATABASE TEST
 
 -- its target, under the names that it has for it
-pub test-at : (s : State) (until : Option Until) (inc : Option ℕ) (ns : List Incarnation) (i at : ℕ) (o : Option ℕ) → ns ≡ tree s → i ≡ tested s inc → o ≡ target_of ns i until → o ≡ Some at → test_target s until inc ≡ Some at
+pub test-at : (s : State) (until : Option Until) (inc : Option ℕ) (ns : List Incarnation) (i at : ℕ) (o : Option ℕ)
+    → ns ≡ tree s → i ≡ tested s inc → o ≡ target_of ns i until → o ≡ Some at → test_target s until inc ≡ Some at
 test-at s until inc ns i at o tree inc_is is some = subst (λ ms. target_of ms (tested s inc) until ≡ Some at) tree (subst (λ n. target_of ns n until ≡ Some at) inc_is (sym is ∙ some))
 
 -- the lines of its reply, under the names that it has for them

@@ -14,8 +14,8 @@ present-more : {X Y : Type 0} (f : X → Y) (os : List (Option X)) (o : Option X
 present-more f os o = ap (map f) (filter_map-append (λ p. p) os (o ∷ [])) ∙ map-append f (filter_map (λ p. p) os) (filter_map (λ p. p) (o ∷ []))
 
 -- the next of a list
-pub present-next : {X Y : Type 0} (f : X → Y) (os : List (Option X)) (k : ℕ) (d o : Option X) (old new : List Y) → k < length os → d ≡ get_or os k d → d ≡ o → old ≡ map f (filter_map (λ p. p) (take k os)) → new ≡ old ++ map f (filter_map (λ p. p) (o ∷ []))
-    → new ≡ map f (filter_map (λ p. p) (take (k + 1) os))
+pub present-next : {X Y : Type 0} (f : X → Y) (os : List (Option X)) (k : ℕ) (d o : Option X) (old new : List Y) → k < length os → d ≡ get_or os k d → d ≡ o
+    → old ≡ map f (filter_map (λ p. p) (take k os)) → new ≡ old ++ map f (filter_map (λ p. p) (o ∷ [])) → new ≡ map f (filter_map (λ p. p) (take (k + 1) os))
 present-next f os k d o old new inside at is before more =
     more
     ∙ ap (λ ys. ys ++ map f (filter_map (λ p. p) (o ∷ []))) before

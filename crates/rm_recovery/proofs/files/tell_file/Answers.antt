@@ -45,8 +45,9 @@ returns-clause-told c =
     let i = c.args.i in
     let at = c.args.at in
     let f = c.args.number in
+    let parts = c.in_ok-parts.parts in
     let file : List Row → File = λ rows. record { file = f; inc = i; checkpoint = at; rows = rows } in
-    let is : c.from_rows.result ≡ file (map row_of c.in_ok-parts.parts) = c.from_rows.ensures ∙ ap file (c.in_ok-rows.ensures ∙ ap (λ (ps : List Part). map row_of ps) c.as_slice.ensures) in (
+    let is : c.from_rows.result ≡ file (map row_of parts) = c.from_rows.ensures ∙ ap file (c.in_ok-rows.ensures ∙ ap (λ (ps : List Part). map row_of ps) c.as_slice.ensures) in (
       sym c.if-not-exists.ensures,
-      subst (IsTold (world s) e i at f) (sym is) (subst (λ w. IsTold w e i at f (file (map row_of c.in_ok-parts.parts))) (same-world s c.args.hand.now.records c.requires.records) (rows-told v e i at f c.in_ok-parts.parts c.in_ok-parts.ensures.parts)),
+      subst (IsTold (world s) e i at f) (sym is) (subst (λ w. IsTold w e i at f (file (map row_of parts))) (same-world s c.args.hand.now.records c.requires.records) (rows-told v e i at f parts c.in_ok-parts.ensures.parts)),
     )
