@@ -127,10 +127,10 @@ extends-more first told now later ss rs s r a Is Becomes many next passed step e
     let o : Option Command = command_at s.1 in
     let all = extends (from o a answers) (told-from o a answers now later next passed come) in
     let goes : RunsWhereTold first all.0 (ss ++ s ∷ []) (rs ++ r ∷ []) Becomes = λ tells.
-        let mid = all.3 (tell-before first all.0 ss rs s r many tells) in
-        let n = step mid.0 mid.2 (tell-here first all.0 ss rs s r many tells mid.0 mid.1) in
-        let at : StatementStep mid.0 s (behind ss all.0 0) r n.0 = subst (λ (f : Answers). StatementStep mid.0 s (f 0) r n.0) (sym all.2) (step-from o mid.0 n.0 s.0 a answers r n.1) in
-        (n.0, run-more ss rs first mid.0 n.0 all.0 s r mid.1 at, n.2) in
+    let mid = all.3 (tell-before first all.0 ss rs s r many tells) in
+    let n = step mid.0 mid.2 (tell-here first all.0 ss rs s r many tells mid.0 mid.1) in
+    let at : StatementStep mid.0 s (behind ss all.0 0) r n.0 = subst (λ (f : Answers). StatementStep mid.0 s (f 0) r n.0) (sym all.2) (step-from o mid.0 n.0 s.0 a answers r n.1) in
+    (n.0, run-more ss rs first mid.0 n.0 all.0 s r mid.1 at, n.2) in
     (all.0, all.1, behind-both ss (s ∷ []) all.0 ∙ ap (past o) all.2 ∙ past-from o a answers, goes)
 
 any-push : (rs : List Reply) (r : Reply) → list_any (λ q. q.refused) (rs ++ r ∷ []) ≡ (list_any (λ q. q.refused) rs || r.refused)
@@ -215,9 +215,9 @@ progress-cut ss i s told now before written held held' kept kept' site refused f
     let all = p.extends f.0 f.1 in
     let count : length p.replies ≡ i = p.many ∙ length-take-le i ss low in
     let cut : RunsWhereTold first all.0 (take i ss) p.replies (λ m. IsCut m s (behind (take i ss) all.0 0) held' kept') = λ tells.
-        let last = all.3 tells in
-        let here : DigestsTell last.0 = tells (length (take i ss)) last.0 (whole-run first all.0 (take i ss) p.replies last.0 p.many last.1) in
-        (last.0, last.1, subst (λ (a : ℕ). IsCut last.0 s a held' kept') (sym (ap (λ (g : Answers). g 0) all.2 ∙ f.2)) (short.cut last.0 last.2.0 last.2.1 here)) in
+    let last = all.3 tells in
+    let here : DigestsTell last.0 = tells (length (take i ss)) last.0 (whole-run first all.0 (take i ss) p.replies last.0 p.many last.1) in
+    (last.0, last.1, subst (λ (a : ℕ). IsCut last.0 s a held' kept') (sym (ap (λ (g : Answers). g 0) all.2 ∙ f.2)) (short.cut last.0 last.2.0 last.2.1 here)) in
     record {
       answers = all.0;
       told = all.1;

@@ -88,7 +88,7 @@ pub returns-in-Ok-serve_all-clause-done : goal.returns-in-Ok-serve_all-clause-do
 returns-in-Ok-serve_all-clause-done g c = λ is objects held_is kept_is.
     record {
       refused = c.in-Ok-serve_all.refused;
-      serves = serves-script _ _ _ _ _ _ _ _ _ _ _ _ _ _ c.in-Ok-read_all.script.items
+      serves = serves-script _ _ _ _ _ _ _ _ _ _ _ _ c.in-Ok-open_site.site _ c.in-Ok-read_all.script.items
           (record { taken = c.in-Ok-read_all.ensures.taken; whole = c.in-Ok-read_all.ensures.whole }) (c.as_slice.ensures ∙ c.in-Ok-statements.ensures ∙ ap statements c.deref.ensures.value) c.in-Ok-open_site.ensures.ok c.in-Ok-open_site.ensures.held c.in-Ok-open_site.ensures.kept c.in-Ok-open_site.ensures.opened _ c.in-Ok-serve_all.ensures.ok objects held_is kept_is;
       tells = search rules;
     }
@@ -96,25 +96,25 @@ returns-in-Ok-serve_all-clause-done g c = λ is objects held_is kept_is.
 pub returns-in-Err-Sink-serve_all-clause-sink_written : goal.returns-in-Err-Sink-serve_all-clause-sink_written
 returns-in-Err-Sink-serve_all-clause-sink_written g c = λ is.
     in_replies c.in-Ok-open_site.ensures.empty
-    (ends-in-replies _ _ _ _ _ _ _ _ _ _ _ _ _ _ c.in-Ok-read_all.script.items
+    (ends-in-replies _ _ _ _ _ _ _ _ _ _ _ _ c.in-Ok-open_site.site _ c.in-Ok-read_all.script.items
     (record { taken = c.in-Ok-read_all.ensures.taken; whole = c.in-Ok-read_all.ensures.whole }) (c.as_slice.ensures ∙ c.in-Ok-statements.ensures ∙ ap statements c.deref.ensures.value) c.in-Ok-open_site.ensures.ok c.in-Ok-open_site.ensures.held c.in-Ok-open_site.ensures.kept c.in-Ok-open_site.ensures.opened (c.in-Err-Sink-serve_all.ensures.sink (ap Err c.in-Err-Sink-serve_all.field-0-is)))
 
 pub returns-in-Err-Store-serve_all-clause-store_written : goal.returns-in-Err-Store-serve_all-clause-store_written
 returns-in-Err-Store-serve_all-clause-store_written g c = λ is.
     at_statement c.in-Ok-open_site.ensures.empty
-    (ends-at-statement _ _ _ _ _ _ _ _ _ _ _ _ _ _ c.in-Ok-read_all.script.items
+    (ends-at-statement _ _ _ _ _ _ _ _ _ _ _ _ c.in-Ok-open_site.site _ c.in-Ok-read_all.script.items
     (record { taken = c.in-Ok-read_all.ensures.taken; whole = c.in-Ok-read_all.ensures.whole }) (c.as_slice.ensures ∙ c.in-Ok-statements.ensures ∙ ap statements c.deref.ensures.value) c.in-Ok-open_site.ensures.ok c.in-Ok-open_site.ensures.held c.in-Ok-open_site.ensures.kept c.in-Ok-open_site.ensures.opened (c.in-Err-Store-serve_all.ensures.store (ap Err c.in-Err-Store-serve_all.field-0-is)))
 
 pub returns-in-Err-Keeper-serve_all-clause-keeper_written : goal.returns-in-Err-Keeper-serve_all-clause-keeper_written
 returns-in-Err-Keeper-serve_all-clause-keeper_written g c = λ is.
     at_statement c.in-Ok-open_site.ensures.empty
-    (ends-at-statement _ _ _ _ _ _ _ _ _ _ _ _ _ _ c.in-Ok-read_all.script.items
+    (ends-at-statement _ _ _ _ _ _ _ _ _ _ _ _ c.in-Ok-open_site.site _ c.in-Ok-read_all.script.items
     (record { taken = c.in-Ok-read_all.ensures.taken; whole = c.in-Ok-read_all.ensures.whole }) (c.as_slice.ensures ∙ c.in-Ok-statements.ensures ∙ ap statements c.deref.ensures.value) c.in-Ok-open_site.ensures.ok c.in-Ok-open_site.ensures.held c.in-Ok-open_site.ensures.kept c.in-Ok-open_site.ensures.opened (c.in-Err-Keeper-serve_all.ensures.keeper (ap Err c.in-Err-Keeper-serve_all.field-0-is)))
 
 pub returns-clause-memory_written : goal.returns-clause-memory_written
 returns-clause-memory_written g c = λ is.
     at_statement c.in-Ok-open_site.ensures.empty
-    (ends-at-statement _ _ _ _ _ _ _ _ _ _ _ _ _ _ c.in-Ok-read_all.script.items
+    (ends-at-statement _ _ _ _ _ _ _ _ _ _ _ _ c.in-Ok-open_site.site _ c.in-Ok-read_all.script.items
     (record { taken = c.in-Ok-read_all.ensures.taken; whole = c.in-Ok-read_all.ensures.whole }) (c.as_slice.ensures ∙ c.in-Ok-statements.ensures ∙ ap statements c.deref.ensures.value) c.in-Ok-open_site.ensures.ok c.in-Ok-open_site.ensures.held c.in-Ok-open_site.ensures.kept c.in-Ok-open_site.ensures.opened (c.in-Err-NoMemory-serve_all.ensures.memory (ap Err c.in-Err-NoMemory-serve_all.field-0-is)))
 
 pub returns-in-NoMemory-clause-statuses : goal.returns-in-NoMemory-clause-statuses
