@@ -71,10 +71,10 @@ of-script P Q freely left rest before mid held held' kept kept' v ss script read
     }
 
 -- The same of what serving the statements leaves.
-module _ (left rest : Option (List ℕ)) (clock : Option Answers) (before mid now : Option (List ℕ)) (held held' last_held : Option Held) (kept kept' last_kept : Option (List Record)) (v : View) (ss : List (ℕ × List Token)) (script : List ℕ)
+module _ {left rest : Option (List ℕ)} {clock : Option Answers} {before mid now : Option (List ℕ)} {held held' last_held : Option Held} {kept kept' last_kept : Option (List Record)} {ss : List (ℕ × List Token)} {script : List ℕ} (v : View)
     (read : Script left rest script) (cut : ss ≡ statements script) (silent : mid ≡ before) (held_same : held' ≡ held) (kept_same : kept' ≡ kept) (opens : Opens held kept v) where
-  pub serves-script : (refused : Bool) → FromEach held' kept' v (Serves RunsWhereTold clock mid now last_held last_kept refused ss) → FromNone held kept (OfScript left rest (Serves RunsTo clock before now last_held last_kept refused))
-  serves-script refused =
+  pub serves-script : {refused : Bool} → FromEach held' kept' v (Serves RunsWhereTold clock mid now last_held last_kept refused ss) → FromNone held kept (OfScript left rest (Serves RunsTo clock before now last_held last_kept refused))
+  serves-script {refused = refused} =
       of-script (λ b. Serves RunsWhereTold clock b now last_held last_kept refused) (λ b. Serves RunsTo clock b now last_held last_kept refused)
       (λ b ts objects. serves-freely clock b now last_held last_kept ts objects refused) left rest before mid held held' kept kept' v ss script read cut silent held_same kept_same opens
 

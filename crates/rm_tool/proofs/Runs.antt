@@ -5,10 +5,12 @@ use Rattle.std.proofs.lemmas.Bool.{cases_lt}
 use Rattle.std.proofs.lemmas.Grind.{flat_map-append}
 use Rattle.std.proofs.lemmas.List.{length-append, length-take-le, length_push, take-append-le, take_all}
 use Rattle.std.proofs.lemmas.List.Folds.{list_any-append}
+use Rattle.std.proofs.lemmas.Option.{get_or_from_slice_get, slice_get_within}
 use Rattle.std.proofs.Math.Bool.{or-false}
 use Rattle.std.proofs.Math.Seq.{take-append-add, take-append_seam, take-length}
 use Rattle.rm_base.specs.Outside.{Appends}
 use Rattle.rm_base.specs.Store.{Held, Answers, Both}
+use Rattle.rm_base.proofs.Lists.{take_more}
 use Rattle.rm_base.proofs.Streams.{appends-then, appends-nothing}
 use Rattle.rm_catalog.specs.declared.record.Record.{Record}
 use Rattle.rm_command.specs.declared.command.Command.{Command}
@@ -127,10 +129,10 @@ extends-more first told now later ss rs s r a Is Becomes many next passed step e
     let o : Option Command = command_at s.1 in
     let all = extends (from o a answers) (told-from o a answers now later next passed come) in
     let goes : RunsWhereTold first all.0 (ss ++ s ∷ []) (rs ++ r ∷ []) Becomes = λ tells.
-        let mid = all.3 (tell-before first all.0 ss rs s r many tells) in
-        let n = step mid.0 mid.2 (tell-here first all.0 ss rs s r many tells mid.0 mid.1) in
-        let at : StatementStep mid.0 s (behind ss all.0 0) r n.0 = subst (λ (f : Answers). StatementStep mid.0 s (f 0) r n.0) (sym all.2) (step-from o mid.0 n.0 s.0 a answers r n.1) in
-        (n.0, run-more ss rs first mid.0 n.0 all.0 s r mid.1 at, n.2) in
+    let mid = all.3 (tell-before first all.0 ss rs s r many tells) in
+    let n = step mid.0 mid.2 (tell-here first all.0 ss rs s r many tells mid.0 mid.1) in
+    let at : StatementStep mid.0 s (behind ss all.0 0) r n.0 = subst (λ (f : Answers). StatementStep mid.0 s (f 0) r n.0) (sym all.2) (step-from o mid.0 n.0 s.0 a answers r n.1) in
+    (n.0, run-more ss rs first mid.0 n.0 all.0 s r mid.1 at, n.2) in
     (all.0, all.1, behind-both ss (s ∷ []) all.0 ∙ ap (past o) all.2 ∙ past-from o a answers, goes)
 
 any-push : (rs : List Reply) (r : Reply) → list_any (λ q. q.refused) (rs ++ r ∷ []) ≡ (list_any (λ q. q.refused) rs || r.refused)
@@ -140,38 +142,14 @@ text-push : (rs : List Reply) (r : Reply) → replies_text (rs ++ r ∷ []) ≡ 
 text-push rs r = flat_map-append reply_text rs (r ∷ []) ∙ ap (λ t. replies_text rs ++ t) (append-nil (reply_text r))
 
 -- before the first statement
-pub progress-none : (told : Option Answers) (o : Option (List ℕ)) (held : Option Held) (kept : Option (List Record)) (site : View) (first : Machine) → Stands site first → Holds held kept first → Progress [] told told o o held kept site false first
-progress-none told o held kept site first stands holds =
+pub progress-none : {told : Option Answers} {o : Option (List ℕ)} {held : Option Held} {kept : Option (List Record)} {site : View} {first : Machine} → Stands site first → Holds held kept first → Progress [] told told o o held kept site false first
+progress-none stands holds =
     record {
       replies = [];
       many = refl;
-      appends = appends-nothing o;
+      appends = appends-nothing _;
       some = refl;
-      extends = λ answers come. (answers, come, refl, λ tells. (first, refl, (stands, holds)));
-    }
-
--- a statement is served
-pub progress-reached : (ss : List (ℕ × List Token)) (told now later : Option Answers) (before written : Option (List ℕ)) (held held' : Option Held) (kept kept' : Option (List Record)) (site site' : View) (refused : Bool) (s : ℕ × List Token) (r : Reply) (first : Machine) → Progress ss told now before written held kept site refused first → IsServed held kept site now s r held' kept' site' later → Reached (ss ++ s ∷ []) told later before written held' kept' site' refused r first
-progress-reached ss told now later before written held held' kept kept' site site' refused s r first p served =
-    record {
-      replies = p.replies;
-      many = omega (arith, p.many, length_push ss s);
-      appends = p.appends;
-      some = p.some;
-      extends =
-          extends-more first told now later ss p.replies s r served.answer (IsAt site held kept) (IsAt site' held' kept') p.many served.next served.past
-          (λ m is tell. let n = served.steps m is.0 is.1 tell in (n.0, n.1, (n.2, n.3))) p.extends;
-    }
-
--- its reply was written
-pub reached-more : (ss : List (ℕ × List Token)) (told now : Option Answers) (before written after : Option (List ℕ)) (held : Option Held) (kept : Option (List Record)) (site : View) (refused : Bool) (r : Reply) (first : Machine) → Reached ss told now before written held kept site refused r first → Appends written after (reply_text r) → Progress ss told now before after held kept site (refused || r.refused) first
-reached-more ss told now before written after held kept site refused r first p grows =
-    record {
-      replies = p.replies ++ r ∷ [];
-      many = length_push p.replies r ∙ p.many;
-      appends = subst (Appends before after) (sym (text-push p.replies r)) (appends-then before written after (replies_text p.replies) (reply_text r) p.appends grows);
-      some = ap (λ b. b || r.refused) p.some ∙ sym (any-push p.replies r);
-      extends = p.extends;
+      extends = λ answers come. (answers, come, refl, λ tells. (_, refl, (stands, holds)));
     }
 
 -- answers that a clock may give from here on
@@ -188,45 +166,11 @@ answers-with : (now : Option Answers) (a : ℕ) → IfSome now (λ coming. a ≡
 answers-with None a next = ((λ i. a), tt, refl)
 answers-with (Some coming) a next = (coming, (λ i. refl), sym next)
 
--- all statements were served
-pub progress-serves : (ss : List (ℕ × List Token)) (told now : Option Answers) (before written : Option (List ℕ)) (held : Option Held) (kept : Option (List Record)) (site : View) (refused : Bool) (first : Machine) → Progress ss told now before written held kept site refused first → Serves RunsWhereTold told before written held kept refused ss first
-progress-serves ss told now before written held kept site refused first p =
-    let all = p.extends (answers_from now) (come-from now) in
-    record {
-      answers = all.0;
-      told = all.1;
-      replies = p.replies;
-      many = p.many;
-      written = p.appends;
-      some = p.some;
-      run = λ tells. let last = all.3 tells in (last.0, last.1, last.2.1);
-    }
-
 -- the whole of a run is a front of it
 whole-run : (first : Machine) (all : Answers) (ss : List (ℕ × List Token)) (rs : List Reply) (m : Machine) → length rs ≡ length ss → Run first all ss rs m → Run first all (take (length ss) ss) (take (length ss) rs) m
 whole-run first all ss rs m many run =
     let those : take (length ss) rs ≡ rs = ap (λ (k : ℕ). take k rs) (sym many) ∙ take-length rs in
     subst (λ (ts : List (ℕ × List Token)). Run first all ts (take (length ss) rs) m) (sym (take-length ss)) (subst (λ (qs : List Reply). Run first all ss qs m) (sym those) run)
-
--- the statement i was cut short
-pub progress-cut : (ss : List (ℕ × List Token)) (i : ℕ) (s : ℕ × List Token) (told now : Option Answers) (before written : Option (List ℕ)) (held held' : Option Held) (kept kept' : Option (List Record)) (site : View) (refused : Bool) (first : Machine) → i ≤ length ss → slice_get ss i ≡ Some s → Progress (take i ss) told now before written held kept site refused first → IsCutShort held kept site now s held' kept' → EndsAtStatement RunsWhereTold told before written held' kept' ss first
-progress-cut ss i s told now before written held held' kept kept' site refused first low there p short =
-    let f = answers-with now short.answer short.next in
-    let all = p.extends f.0 f.1 in
-    let count : length p.replies ≡ i = p.many ∙ length-take-le i ss low in
-    let cut : RunsWhereTold first all.0 (take i ss) p.replies (λ m. IsCut m s (behind (take i ss) all.0 0) held' kept') = λ tells.
-        let last = all.3 tells in
-        let here : DigestsTell last.0 = tells (length (take i ss)) last.0 (whole-run first all.0 (take i ss) p.replies last.0 p.many last.1) in
-        (last.0, last.1, subst (λ (a : ℕ). IsCut last.0 s a held' kept') (sym (ap (λ (g : Answers). g 0) all.2 ∙ f.2)) (short.cut last.0 last.2.0 last.2.1 here)) in
-    record {
-      answers = all.0;
-      told = all.1;
-      replies = p.replies;
-      written = p.appends;
-      statement = s;
-      next = subst (λ (n : ℕ). slice_get ss n ≡ Some s) (sym count) there;
-      run = subst (λ (n : ℕ). RunsWhereTold first all.0 (take n ss) p.replies (λ m. IsCut m s (behind (take n ss) all.0 0) held' kept')) (sym count) cut;
-    }
 
 front-behind : (before now after : Option (List ℕ)) (xs ys : List ℕ) → Appends before now xs → WritesFront now after ys → WritesFront before after (xs ++ ys)
 front-behind before now after xs ys h (n, within, k) = (
@@ -235,18 +179,82 @@ front-behind before now after xs ys h (n, within, k) = (
   subst (Appends before after) (sym (take-append-add xs ys n)) (appends-then before now after xs (take n ys) h k),
 )
 
--- the sink failed in the reply to the statement before n
-pub reached-ends : (ss : List (ℕ × List Token)) (n : ℕ) (told now : Option Answers) (before written after : Option (List ℕ)) (held : Option Held) (kept : Option (List Record)) (site : View) (refused : Bool) (r : Reply) (first : Machine) → n ≤ length ss → Reached (take n ss) told now before written held kept site refused r first → WritesFront written after (reply_text r) → EndsInReplies RunsWhereTold told before after held kept ss first
-reached-ends ss n told now before written after held kept site refused r first low p front =
-    let replies : List Reply = p.replies ++ r ∷ [] in
-    let all = p.extends (answers_from now) (come-from now) in
-    let count : length replies ≡ n = length_push p.replies r ∙ p.many ∙ length-take-le n ss low in
-    let run : RunsWhereTold first all.0 (take n ss) replies (Holds held kept) = λ tells. let last = all.3 tells in (last.0, last.1, last.2.1) in
-    record {
-      answers = all.0;
-      told = all.1;
-      replies = replies;
-      many = omega (arith, count, low);
-      written = subst (WritesFront before after) (sym (text-push p.replies r)) (front-behind before written after (replies_text p.replies) (reply_text r) p.appends front);
-      run = subst (λ (k : ℕ). RunsWhereTold first all.0 (take k ss) replies (Holds held kept)) (sym count) run;
-    }
+-- From one point of a session on
+module _ {told now : Option Answers} {before written : Option (List ℕ)} {held : Option Held} {kept : Option (List Record)} {site : View} {refused : Bool} {first : Machine} (ss : List (ℕ × List Token)) where
+  -- all statements were served
+  pub progress-serves : Progress ss told now before written held kept site refused first → Serves RunsWhereTold told before written held kept refused ss first
+  progress-serves p =
+      let all = p.extends (answers_from now) (come-from now) in
+      record {
+        answers = all.0;
+        told = all.1;
+        replies = p.replies;
+        many = p.many;
+        written = p.appends;
+        some = p.some;
+        run = λ tells. let last = all.3 tells in (last.0, last.1, last.2.1);
+      }
+
+  -- the statement i is served
+  pub progress-reached : {held' : Option Held} {kept' : Option (List Record)} {site' : View} {later : Option Answers} {s : ℕ × List Token} {r : Reply} (i : ℕ) → slice_get ss i ≡ Some s
+      → Progress (take i ss) told now before written held kept site refused first → IsServed held kept site now s r held' kept' site' later → Reached (take (i + 1) ss) told later before written held' kept' site' refused r first
+  progress-reached {held' = held'} {kept' = kept'} {site' = site'} {later = later} {s = s} {r = r} i there p served =
+      let more : take (i + 1) ss ≡ take i ss ++ s ∷ [] = take_more ss i s (slice_get_within ss i s there) (sym (get_or_from_slice_get ss i s s there)) in
+      subst (λ (ts : List (ℕ × List Token)). Reached ts told later before written held' kept' site' refused r first) (sym more)
+      (record {
+        replies = p.replies;
+        many = omega (arith, p.many, length_push (take i ss) s);
+        appends = p.appends;
+        some = p.some;
+        extends =
+            extends-more first told now later (take i ss) p.replies s r served.answer (IsAt site held kept) (IsAt site' held' kept') p.many served.next served.past
+            (λ m is tell. let n = served.steps m is.0 is.1 tell in (n.0, n.1, (n.2, n.3))) p.extends;
+      })
+
+  -- the statement i was cut short
+  pub progress-cut : {held' : Option Held} {kept' : Option (List Record)} {s : ℕ × List Token} (i : ℕ) → slice_get ss i ≡ Some s
+      → Progress (take i ss) told now before written held kept site refused first → IsCutShort held kept site now s held' kept' → EndsAtStatement RunsWhereTold told before written held' kept' ss first
+  progress-cut {held' = held'} {kept' = kept'} {s = s} i there p short =
+      let f = answers-with now short.answer short.next in
+      let all = p.extends f.0 f.1 in
+      let count : length p.replies ≡ i = p.many ∙ length-take-le i ss (omega (arith, slice_get_within ss i s there)) in
+      let cut : RunsWhereTold first all.0 (take i ss) p.replies (λ m. IsCut m s (behind (take i ss) all.0 0) held' kept') = λ tells.
+      let last = all.3 tells in
+      let here : DigestsTell last.0 = tells (length (take i ss)) last.0 (whole-run first all.0 (take i ss) p.replies last.0 p.many last.1) in
+      (last.0, last.1, subst (λ (a : ℕ). IsCut last.0 s a held' kept') (sym (ap (λ (g : Answers). g 0) all.2 ∙ f.2)) (short.cut last.0 last.2.0 last.2.1 here)) in
+      record {
+        answers = all.0;
+        told = all.1;
+        replies = p.replies;
+        written = p.appends;
+        statement = s;
+        next = subst (λ (n : ℕ). slice_get ss n ≡ Some s) (sym count) there;
+        run = subst (λ (n : ℕ). RunsWhereTold first all.0 (take n ss) p.replies (λ m. IsCut m s (behind (take n ss) all.0 0) held' kept')) (sym count) cut;
+      }
+
+  -- the reply to the last statement was written
+  pub reached-more : {after : Option (List ℕ)} {r : Reply} → Reached ss told now before written held kept site refused r first → Appends written after (reply_text r) → Progress ss told now before after held kept site (refused || r.refused) first
+  reached-more {after = after} {r = r} p grows =
+      record {
+        replies = p.replies ++ r ∷ [];
+        many = length_push p.replies r ∙ p.many;
+        appends = subst (Appends before after) (sym (text-push p.replies r)) (appends-then before written after (replies_text p.replies) (reply_text r) p.appends grows);
+        some = ap (λ b. b || r.refused) p.some ∙ sym (any-push p.replies r);
+        extends = p.extends;
+      }
+
+  -- the sink failed in the reply to the statement before n
+  pub reached-ends : {after : Option (List ℕ)} {r : Reply} (n : ℕ) → n ≤ length ss → Reached (take n ss) told now before written held kept site refused r first → WritesFront written after (reply_text r) → EndsInReplies RunsWhereTold told before after held kept ss first
+  reached-ends {after = after} {r = r} n low p front =
+      let replies : List Reply = p.replies ++ r ∷ [] in
+      let all = p.extends (answers_from now) (come-from now) in
+      let count : length replies ≡ n = length_push p.replies r ∙ p.many ∙ length-take-le n ss low in
+      let run : RunsWhereTold first all.0 (take n ss) replies (Holds held kept) = λ tells. let last = all.3 tells in (last.0, last.1, last.2.1) in
+      record {
+        answers = all.0;
+        told = all.1;
+        replies = replies;
+        many = omega (arith, count, low);
+        written = subst (WritesFront before after) (sym (text-push p.replies r)) (front-behind before written after (replies_text p.replies) (reply_text r) p.appends front);
+        run = subst (λ (k : ℕ). RunsWhereTold first all.0 (take k ss) replies (Holds held kept)) (sym count) run;
+      }

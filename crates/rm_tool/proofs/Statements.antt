@@ -45,34 +45,34 @@ passes c (Some b) (Some a) h = λ i. h i ∙ ap b (next i)
     next : (i : ℕ) → i + 1 ≡ suc i
     next i = omega arith
 
--- a statement that is none is refused, and the clock is not asked
-pub served-refused : (held : Option Held) (kept : Option (List Record)) (v : View) (clock : Option Answers) (s : ℕ × List Token) (reply : Reply) → command_at s.1 ≡ None → reply ≡ refused_by (Rm01 s.0) → IsServed held kept v clock s reply held kept v clock
-served-refused held kept v clock s reply none is =
-    record {
-      answer = answers_from clock 0;
-      next = next-from clock;
-      past = subst (λ (o : Option Command). Both (IsPast o) clock clock) (sym none) (stays clock);
-      steps = λ m stands holds tell. (m, subst (λ (o : Option Command). StepOf o m s.0 (answers_from clock 0) reply m) (sym none) (is, refl), stands, holds);
-    }
+module _ {held : Option Held} {kept : Option (List Record)} {v : View} {clock : Option Answers} {s : ℕ × List Token} where
+  -- a statement that is none is refused, and the clock is not asked
+  pub served-refused : {reply : Reply} → command_at s.1 ≡ None → reply ≡ refused_by (Rm01 s.0) → IsServed held kept v clock s reply held kept v clock
+  served-refused {reply = reply} none is =
+      record {
+        answer = answers_from clock 0;
+        next = next-from clock;
+        past = subst (λ (o : Option Command). Both (IsPast o) clock clock) (sym none) (stays clock);
+        steps = λ m stands holds tell. (m, subst (λ (o : Option Command). StepOf o m s.0 (answers_from clock 0) reply m) (sym none) (is, refl), stands, holds);
+      }
 
--- a command is a step of the site at the clock's answer
-pub served-step : (held held' : Option Held) (kept kept' : Option (List Record)) (v v' : View) (clock clock' : Option Answers) (s : ℕ × List Token) (c : Command) (answer : ℕ) (reply : Reply) → command_at s.1 ≡ Some c → IfSome clock (λ coming. answer ≡ coming 0) → Both IsLater clock clock' → Steps held kept v c answer reply held' kept' v' → IsServed held kept v clock s reply held' kept' v' clock'
-served-step held held' kept kept' v v' clock clock' s c answer reply some next later steps =
-    record {
-      answer = answer;
-      next = next;
-      past = subst (λ (o : Option Command). Both (IsPast o) clock clock') (sym some) (passes c clock clock' later);
-      steps = λ m stands holds tell. let n = steps m stands holds tell in (n.0, subst (λ (o : Option Command). StepOf o m s.0 answer reply n.0) (sym some) n.1, n.2, n.3);
-    }
+  -- nothing was done
+  pub cut-before : IsCutShort held kept v clock s held kept
+  cut-before = record { answer = answers_from clock 0; next = next-from clock; cut = λ m stands holds tell. untouched holds }
 
--- nothing was done
-pub cut-before : (held : Option Held) (kept : Option (List Record)) (v : View) (clock : Option Answers) (s : ℕ × List Token) → IsCutShort held kept v clock s held kept
-cut-before held kept v clock s = record { answer = answers_from clock 0; next = next-from clock; cut = λ m stands holds tell. untouched holds }
+  -- A command is a step of the site at the clock's answer, or the site stopped it.
+  module _ {c : Command} {held' : Option Held} {kept' : Option (List Record)} (answer : ℕ) (some : command_at s.1 ≡ Some c) (next : IfSome clock (λ coming. answer ≡ coming 0)) where
+    pub served-step : {v' : View} {clock' : Option Answers} (reply : Reply) → Both IsLater clock clock' → Steps held kept v c answer reply held' kept' v' → IsServed held kept v clock s reply held' kept' v' clock'
+    served-step {clock' = clock'} reply later steps =
+        record {
+          answer = answer;
+          next = next;
+          past = subst (λ (o : Option Command). Both (IsPast o) clock clock') (sym some) (passes c clock clock' later);
+          steps = λ m stands holds tell. let n = steps m stands holds tell in (n.0, subst (λ (o : Option Command). StepOf o m s.0 answer reply n.0) (sym some) n.1, n.2, n.3);
+        }
 
--- the site stopped the command
-pub cut-step : (held held' : Option Held) (kept kept' : Option (List Record)) (v : View) (clock : Option Answers) (s : ℕ × List Token) (c : Command) (answer : ℕ) → command_at s.1 ≡ Some c → IfSome clock (λ coming. answer ≡ coming 0) → Stops held kept v c answer held' kept' → IsCutShort held kept v clock s held' kept'
-cut-step held held' kept kept' v clock s c answer some next stops =
-    record { answer = answer; next = next; cut = λ m stands holds tell. let left = stops m stands holds tell in stopped c left.0 some left.1 left.2 }
+    pub cut-step : Stops held kept v c answer held' kept' → IsCutShort held kept v clock s held' kept'
+    cut-step stops = record { answer = answer; next = next; cut = λ m stands holds tell. let left = stops m stands holds tell in stopped c left.0 some left.1 left.2 }
 
 cut-by : (o : Option Command) (m n : Machine) (s : ℕ × List Token) (answer : ℕ) (reply : Reply) (held : Option Held) (kept : Option (List Record)) → command_at s.1 ≡ o → StepOf o m s.0 answer reply n → Holds held kept n → IsCut m s answer held kept
 cut-by None m n s answer reply held kept none step holds = untouched (subst (Holds held kept) step.1 holds)
@@ -81,8 +81,8 @@ cut-by (Some c) m n s answer reply held kept some step holds =
     stopped c left.0 some (record { machine = n; one = inr (reply, step); left = left.1 }) left.2
 
 -- the statement was served, and no word of its reply was written
-pub cut-served : (held held' : Option Held) (kept kept' : Option (List Record)) (v v' : View) (clock clock' : Option Answers) (s : ℕ × List Token) (reply : Reply) → IsServed held kept v clock s reply held' kept' v' clock' → IsCutShort held kept v clock s held' kept'
-cut-served held held' kept kept' v v' clock clock' s reply served =
+pub cut-served : {held held' : Option Held} {kept kept' : Option (List Record)} {v v' : View} {clock clock' : Option Answers} {s : ℕ × List Token} {reply : Reply} → IsServed held kept v clock s reply held' kept' v' clock' → IsCutShort held kept v clock s held' kept'
+cut-served {held' = held'} {kept' = kept'} {s = s} {reply = reply} served =
     record {
       answer = served.answer;
       next = served.next;

@@ -11,6 +11,50 @@ statements-requires g c =
     let lines = feeds_within c.in-Ok-read_all.script.items in
     rw c.deref.ensures.value (omega (arith, lines, c.in-Ok-read_all.ensures.within))
 
+pub returns-in-Ok-serve_all-clause-done : goal.returns-in-Ok-serve_all-clause-done
+returns-in-Ok-serve_all-clause-done g c = λ is objects held_is kept_is.
+    let opened = c.in-Ok-open_site.ensures in
+    let read = c.in-Ok-read_all.ensures in
+    record {
+      refused = c.in-Ok-serve_all.refused;
+      serves =
+          serves-script c.in-Ok-open_site.site (record { taken = read.taken; whole = read.whole }) (c.as_slice.ensures ∙ c.in-Ok-statements.ensures ∙ ap statements c.deref.ensures.value)
+          opened.ok opened.held opened.kept opened.opened c.in-Ok-serve_all.ensures.ok objects held_is kept_is;
+      tells = search rules;
+    }
+
+pub returns-in-Err-Sink-serve_all-clause-sink_written : goal.returns-in-Err-Sink-serve_all-clause-sink_written
+returns-in-Err-Sink-serve_all-clause-sink_written g c = λ is.
+    let opened = c.in-Ok-open_site.ensures in
+    let read = c.in-Ok-read_all.ensures in
+    in_replies opened.empty
+    (ends-in-replies c.in-Ok-open_site.site (record { taken = read.taken; whole = read.whole }) (c.as_slice.ensures ∙ c.in-Ok-statements.ensures ∙ ap statements c.deref.ensures.value)
+    opened.ok opened.held opened.kept opened.opened (c.in-Err-Sink-serve_all.ensures.sink (ap Err c.in-Err-Sink-serve_all.field-0-is)))
+
+pub returns-in-Err-Store-serve_all-clause-store_written : goal.returns-in-Err-Store-serve_all-clause-store_written
+returns-in-Err-Store-serve_all-clause-store_written g c = λ is.
+    let opened = c.in-Ok-open_site.ensures in
+    let read = c.in-Ok-read_all.ensures in
+    at_statement opened.empty
+    (ends-at-statement c.in-Ok-open_site.site (record { taken = read.taken; whole = read.whole }) (c.as_slice.ensures ∙ c.in-Ok-statements.ensures ∙ ap statements c.deref.ensures.value)
+    opened.ok opened.held opened.kept opened.opened (c.in-Err-Store-serve_all.ensures.store (ap Err c.in-Err-Store-serve_all.field-0-is)))
+
+pub returns-in-Err-Keeper-serve_all-clause-keeper_written : goal.returns-in-Err-Keeper-serve_all-clause-keeper_written
+returns-in-Err-Keeper-serve_all-clause-keeper_written g c = λ is.
+    let opened = c.in-Ok-open_site.ensures in
+    let read = c.in-Ok-read_all.ensures in
+    at_statement opened.empty
+    (ends-at-statement c.in-Ok-open_site.site (record { taken = read.taken; whole = read.whole }) (c.as_slice.ensures ∙ c.in-Ok-statements.ensures ∙ ap statements c.deref.ensures.value)
+    opened.ok opened.held opened.kept opened.opened (c.in-Err-Keeper-serve_all.ensures.keeper (ap Err c.in-Err-Keeper-serve_all.field-0-is)))
+
+pub returns-clause-memory_written : goal.returns-clause-memory_written
+returns-clause-memory_written g c = λ is.
+    let opened = c.in-Ok-open_site.ensures in
+    let read = c.in-Ok-read_all.ensures in
+    at_statement opened.empty
+    (ends-at-statement c.in-Ok-open_site.site (record { taken = read.taken; whole = read.whole }) (c.as_slice.ensures ∙ c.in-Ok-statements.ensures ∙ ap statements c.deref.ensures.value)
+    opened.ok opened.held opened.kept opened.opened (c.in-Err-NoMemory-serve_all.ensures.memory (ap Err c.in-Err-NoMemory-serve_all.field-0-is)))
+
 pub returns-in-Ok-clause-statuses : goal.returns-in-Ok-clause-statuses
 returns-in-Ok-clause-statuses g c = (2, lit< tt, refl)
 
@@ -59,6 +103,9 @@ returns-in-Err-Keeper-serve_all-clause-statuses g c = (6, lit< tt, refl)
 pub returns-clause-statuses : goal.returns-clause-statuses
 returns-clause-statuses g c = (7, lit< tt, refl)
 
+pub returns-in-NoMemory-clause-statuses : goal.returns-in-NoMemory-clause-statuses
+returns-in-NoMemory-clause-statuses g c = (7, lit< tt, refl)
+
 pub returns-in-Err-Failed-clause-bad_only : goal.returns-in-Err-Failed-clause-bad_only
 returns-in-Err-Failed-clause-bad_only g c = λ rs words counted few is some. (2, lit< tt, refl)
 
@@ -75,8 +122,20 @@ returns-in-Err-Keeper-clause-bad_only g c = λ rs words counted few is some. (3,
 pub returns-in-Err-NoMemory-open_site-clause-bad_only : goal.returns-in-Err-NoMemory-open_site-clause-bad_only
 returns-in-Err-NoMemory-open_site-clause-bad_only g c = λ rs words counted few is some. (4, lit< tt, refl)
 
+pub returns-in-NoMemory-clause-bad_only : goal.returns-in-NoMemory-clause-bad_only
+returns-in-NoMemory-clause-bad_only g c = λ rs words counted few is some. (4, lit< tt, refl)
+
+pub returns-in-Err-NoMemory-clause-bad_only : goal.returns-in-Err-NoMemory-clause-bad_only
+returns-in-Err-NoMemory-clause-bad_only g c = λ rs words counted few is some. (4, lit< tt, refl)
+
+pub returns-in_default-clause-bad_only : goal.returns-in_default-clause-bad_only
+returns-in_default-clause-bad_only g c = λ rs words counted few is some. (4, lit< tt, refl)
+
 pub returns-in-Err-write_all-clause-long_only : goal.returns-in-Err-write_all-clause-long_only
 returns-in-Err-write_all-clause-long_only g c = λ counted many. (1, lit< tt, refl)
+
+pub returns-in-Err-NoMemory-clause-long_only : goal.returns-in-Err-NoMemory-clause-long_only
+returns-in-Err-NoMemory-clause-long_only g c = λ counted many. (2, lit< tt, refl)
 
 pub returns-in-Err-NoMemory-open_site-clause-complete : goal.returns-in-Err-NoMemory-open_site-clause-complete
 returns-in-Err-NoMemory-open_site-clause-complete g c = λ words counted few kept source sink store keeper. (2, lit< tt, refl)
@@ -84,59 +143,11 @@ returns-in-Err-NoMemory-open_site-clause-complete g c = λ words counted few kep
 pub returns-clause-complete : goal.returns-clause-complete
 returns-clause-complete g c = λ words counted few kept source sink store keeper. (2, lit< tt, refl)
 
-pub returns-in-Ok-serve_all-clause-done : goal.returns-in-Ok-serve_all-clause-done
-returns-in-Ok-serve_all-clause-done g c = λ is objects held_is kept_is.
-    record {
-      refused = c.in-Ok-serve_all.refused;
-      serves = serves-script _ _ _ _ _ _ _ _ _ _ _ _ _ _ c.in-Ok-read_all.script.items
-          (record { taken = c.in-Ok-read_all.ensures.taken; whole = c.in-Ok-read_all.ensures.whole }) (c.as_slice.ensures ∙ c.in-Ok-statements.ensures ∙ ap statements c.deref.ensures.value) c.in-Ok-open_site.ensures.ok c.in-Ok-open_site.ensures.held c.in-Ok-open_site.ensures.kept c.in-Ok-open_site.ensures.opened _ c.in-Ok-serve_all.ensures.ok objects held_is kept_is;
-      tells = search rules;
-    }
-
-pub returns-in-Err-Sink-serve_all-clause-sink_written : goal.returns-in-Err-Sink-serve_all-clause-sink_written
-returns-in-Err-Sink-serve_all-clause-sink_written g c = λ is.
-    in_replies c.in-Ok-open_site.ensures.empty
-    (ends-in-replies _ _ _ _ _ _ _ _ _ _ _ _ _ _ c.in-Ok-read_all.script.items
-    (record { taken = c.in-Ok-read_all.ensures.taken; whole = c.in-Ok-read_all.ensures.whole }) (c.as_slice.ensures ∙ c.in-Ok-statements.ensures ∙ ap statements c.deref.ensures.value) c.in-Ok-open_site.ensures.ok c.in-Ok-open_site.ensures.held c.in-Ok-open_site.ensures.kept c.in-Ok-open_site.ensures.opened (c.in-Err-Sink-serve_all.ensures.sink (ap Err c.in-Err-Sink-serve_all.field-0-is)))
-
-pub returns-in-Err-Store-serve_all-clause-store_written : goal.returns-in-Err-Store-serve_all-clause-store_written
-returns-in-Err-Store-serve_all-clause-store_written g c = λ is.
-    at_statement c.in-Ok-open_site.ensures.empty
-    (ends-at-statement _ _ _ _ _ _ _ _ _ _ _ _ _ _ c.in-Ok-read_all.script.items
-    (record { taken = c.in-Ok-read_all.ensures.taken; whole = c.in-Ok-read_all.ensures.whole }) (c.as_slice.ensures ∙ c.in-Ok-statements.ensures ∙ ap statements c.deref.ensures.value) c.in-Ok-open_site.ensures.ok c.in-Ok-open_site.ensures.held c.in-Ok-open_site.ensures.kept c.in-Ok-open_site.ensures.opened (c.in-Err-Store-serve_all.ensures.store (ap Err c.in-Err-Store-serve_all.field-0-is)))
-
-pub returns-in-Err-Keeper-serve_all-clause-keeper_written : goal.returns-in-Err-Keeper-serve_all-clause-keeper_written
-returns-in-Err-Keeper-serve_all-clause-keeper_written g c = λ is.
-    at_statement c.in-Ok-open_site.ensures.empty
-    (ends-at-statement _ _ _ _ _ _ _ _ _ _ _ _ _ _ c.in-Ok-read_all.script.items
-    (record { taken = c.in-Ok-read_all.ensures.taken; whole = c.in-Ok-read_all.ensures.whole }) (c.as_slice.ensures ∙ c.in-Ok-statements.ensures ∙ ap statements c.deref.ensures.value) c.in-Ok-open_site.ensures.ok c.in-Ok-open_site.ensures.held c.in-Ok-open_site.ensures.kept c.in-Ok-open_site.ensures.opened (c.in-Err-Keeper-serve_all.ensures.keeper (ap Err c.in-Err-Keeper-serve_all.field-0-is)))
-
-pub returns-clause-memory_written : goal.returns-clause-memory_written
-returns-clause-memory_written g c = λ is.
-    at_statement c.in-Ok-open_site.ensures.empty
-    (ends-at-statement _ _ _ _ _ _ _ _ _ _ _ _ _ _ c.in-Ok-read_all.script.items
-    (record { taken = c.in-Ok-read_all.ensures.taken; whole = c.in-Ok-read_all.ensures.whole }) (c.as_slice.ensures ∙ c.in-Ok-statements.ensures ∙ ap statements c.deref.ensures.value) c.in-Ok-open_site.ensures.ok c.in-Ok-open_site.ensures.held c.in-Ok-open_site.ensures.kept c.in-Ok-open_site.ensures.opened (c.in-Err-NoMemory-serve_all.ensures.memory (ap Err c.in-Err-NoMemory-serve_all.field-0-is)))
-
-pub returns-in-NoMemory-clause-statuses : goal.returns-in-NoMemory-clause-statuses
-returns-in-NoMemory-clause-statuses g c = (7, lit< tt, refl)
-
-pub returns-in-NoMemory-clause-bad_only : goal.returns-in-NoMemory-clause-bad_only
-returns-in-NoMemory-clause-bad_only g c = λ rs words counted few is some. (4, lit< tt, refl)
-
 pub returns-in-NoMemory-clause-complete : goal.returns-in-NoMemory-clause-complete
 returns-in-NoMemory-clause-complete g c = λ words counted few kept source sink store keeper. (2, lit< tt, refl)
 
-pub returns-in-Err-NoMemory-clause-long_only : goal.returns-in-Err-NoMemory-clause-long_only
-returns-in-Err-NoMemory-clause-long_only g c = λ counted many. (2, lit< tt, refl)
-
-pub returns-in-Err-NoMemory-clause-bad_only : goal.returns-in-Err-NoMemory-clause-bad_only
-returns-in-Err-NoMemory-clause-bad_only g c = λ rs words counted few is some. (4, lit< tt, refl)
-
 pub returns-in-Err-NoMemory-clause-complete : goal.returns-in-Err-NoMemory-clause-complete
 returns-in-Err-NoMemory-clause-complete g c = λ words counted few kept source sink store keeper. (2, lit< tt, refl)
-
-pub returns-in_default-clause-bad_only : goal.returns-in_default-clause-bad_only
-returns-in_default-clause-bad_only g c = λ rs words counted few is some. (4, lit< tt, refl)
 
 pub returns-in_default-clause-complete : goal.returns-in_default-clause-complete
 returns-in_default-clause-complete g c = λ words counted few kept source sink store keeper. (2, lit< tt, refl)
