@@ -6,7 +6,7 @@ use Rattle.rm_machine.specs.declared.state.State.{State}
 use Rattle.rm_machine.specs.Step.{refusal_of}
 use Rattle.rm_site.specs.Comes.{IsAnswer, is_change}
 use Rattle.rm_site.specs.declared.statement.Answer.TheVariants.{Told}
-use Rattle.rm_site.proofs.Answers.{it-changes, it-tells}
+use Rattle.rm_site.proofs.Accepted.{it-changes, it-tells}
 use Rattle.rm_site.proofs.DatedLines.{dump-dated, list-dated}
 use Rattle.rm_site.proofs.statement.accepted.Goals as goal
 

@@ -1,4 +1,4 @@
--- What is known of an answer where the state did not refuse the statement.
+-- What a statement comes to that the state does not refuse.
 use Rattle.std.proofs.Common.{◌≡◌, true, List, Option, Some, None, refl, sym, subst}
 use Rattle.std.specs.Prelude.{All}
 use Rattle.rm_base.specs.Store.{Held}
