@@ -6,11 +6,10 @@ ghost use Rattle.rm_catalog.specs.Rules.{IsCatalog};
 ghost use Rattle.rm_evidence.specs.Known.{FitsTree};
 ghost use Rattle.rm_machine.specs.Recovery.{IsAtHand, in_place, online_logs};
 ghost use Rattle.rm_machine.specs.Sound.{IsSound};
-ghost use Rattle.rm_machine.specs.State.{counted, current_of, is_lost, ledger, now_of, online, tree};
-ghost use Rattle.rm_redo.specs.LogFile.{log_file_of};
+ghost use Rattle.rm_machine.specs.State.{counted, is_lost, ledger, online, tree};
 ghost use Rattle.rm_repository.specs.Repository.{records_of};
 
-use rm_base::{NoMemory, Scn, Seq, Store, ThreadNo};
+use rm_base::{NoMemory, Seq, Store, ThreadNo};
 use rm_blocks::DataFile;
 use rm_catalog::{Catalog as Records, CatalogFault, Record};
 use rm_evidence::{Evidence, EvidenceFault, InPlace, gather};

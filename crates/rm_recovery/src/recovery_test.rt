@@ -2,9 +2,8 @@
 ghost use Rattle.std.specs.Prelude.{◌≡◌, ◌≤◌, All, IfErr, IfOk, IsErrOf, None, true};
 ghost use Rattle.rm_base.specs.Outside.{Rose};
 ghost use Rattle.rm_command.specs.declared.command.Command.TheVariants.{RecoverTest};
-ghost use Rattle.rm_history.specs.Tree.{IsThere};
 ghost use Rattle.rm_machine.specs.Hands.{Refuses, Tells};
-ghost use Rattle.rm_machine.specs.RecoverTest.{test_refusal, test_target, tested};
+ghost use Rattle.rm_machine.specs.RecoverTest.{test_refusal, tested};
 ghost use Rattle.rm_machine.specs.Recovery.{is_built_until};
 ghost use Rattle.rm_machine.specs.Sound.{IsSound};
 ghost use Rattle.rm_machine.specs.State.{tree};

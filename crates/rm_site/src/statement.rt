@@ -1,7 +1,6 @@
 //! What a statement comes to, where there is a database.
-ghost use Rattle.std.specs.Prelude.{◌≡◌, ◌≤◌, Option, None, IfOk, IsTrue, IsErrOf, OnOk};
+ghost use Rattle.std.specs.Prelude.{◌≡◌, ◌≤◌, None, IfOk, IsTrue, IsErrOf, OnOk};
 ghost use Rattle.rm_base.specs.Outside.{Rose};
-ghost use Rattle.rm_base.specs.Store.{Held};
 ghost use Rattle.rm_change.specs.declared.change.Stop.TheVariants.{StoreFault, KeeperFault};
 ghost use Rattle.rm_repository.specs.Changes.{EditsFollow};
 ghost use Rattle.rm_machine.specs.Built.{is_built};

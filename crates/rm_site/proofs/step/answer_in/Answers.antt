@@ -1,7 +1,5 @@
 use Rattle.std.proofs.Common.{◌≡◌, sym, subst}
 use Rattle.rm_machine.specs.Sound.{IsSound}
-use Rattle.rm_machine.specs.declared.state.State.{State}
-use Rattle.rm_repository.specs.Repository.{Repository}
 use Rattle.rm_site.proofs.Answering.{Begins, answered-in, back-again, begins-sound, handed-in, is-carried, is-halted, quiet-refused, quiet-told, refused-in, told-in, valid-again}
 use Rattle.rm_site.proofs.step.answer_in.Goals as goal
 
