@@ -9,33 +9,24 @@ ghost use Rattle.rm_objects.specs.Names.{log_name};
 ghost use Rattle.rm_redo.specs.LogFormat.{IsLogFile, spelling};
 ghost use Rattle.rm_redo.specs.Online.{IsThread};
 ghost use Rattle.rm_repository.specs.Changes.{EditsFollow};
+ghost use Rattle.sha2.specs.Sha256.{sha256};
 
 use crate::due::is_due;
-use rm_base::sealed::digest_of;
+use rm_base::sealed::Encoded;
 use rm_base::{NoMemory, Seq, Status, ThreadNo};
 use rm_catalog::{Edit, LogEntry};
 use rm_change::Object;
 use rm_machine::State;
 use rm_machine::facts::{redo_end, threads};
 use rm_objects::log_name;
-use rm_redo::{LogFile, encode_log};
+use rm_redo::{LogFile, encode_log_with_digest};
 use rm_report::Line;
 use std::alloc::Global;
 
-// The object of an archived log.
-fn object_of(alloc: Global, id: u32, log: &LogFile) -> Result<Object, NoMemory>
-    requires { IsLogFile log.now }
-    ensures { IfOk result (λ x. x ≡ record { name = log_name id; bytes = spelling log.now }) }
-{
-    Ok(Object {
-        name: log_name(alloc, id)?,
-        bytes: encode_log(alloc, log)?,
-    })
-}
-
-// The record of an archived log, whose object has these bytes.
-fn entry_of(id: u32, log: &LogFile, bytes: &[u8]) -> LogEntry
-    requires { bytes.now ≡ spelling log.now }
+// The record of an archived log, whose object has these bytes and this digest.
+fn entry_of(id: u32, log: &LogFile, encoded: &Encoded) -> LogEntry
+    requires bytes { encoded.now.bytes ≡ spelling log.now }
+    requires digest { encoded.now.digest ≡ sha256 (spelling log.now) }
     ensures { result ≡ log_entry id log.now }
 {
     LogEntry {
@@ -46,8 +37,8 @@ fn entry_of(id: u32, log: &LogFile, bytes: &[u8]) -> LogEntry
         sequence: log.sequence,
         first: log.first,
         next: log.next,
-        size: bytes.len() as u64,
-        sha: digest_of(bytes),
+        size: encoded.bytes.len() as u64,
+        sha: encoded.digest,
         status: Status::Available,
         keep: false,
     }
@@ -73,10 +64,12 @@ fn archive(
     let Some(log) = state.instance.logs.switch(thread, end)? else {
         unreachable!()
     };
-    let object = object_of(alloc, id, &log)?;
-    let entry = entry_of(id, &log, object.bytes.as_slice());
-    state.catalog.add_log(edits, entry)?;
-    Ok(object)
+    let encoded = encode_log_with_digest(alloc, &log)?;
+    state.catalog.add_log(edits, entry_of(id, &log, &encoded))?;
+    Ok(Object {
+        name: log_name(alloc, id)?,
+        bytes: encoded.bytes,
+    })
 }
 
 // The line of the thread's log, if it is archived now.

@@ -8,8 +8,9 @@ ghost use Rattle.rm_piece.specs.Spelling.{spelling};
 ghost use Rattle.rm_piece.specs.Valid.{IsPiece};
 ghost use Rattle.rm_repository.specs.Changes.{EditsFollow};
 ghost use Rattle.rm_repository.specs.Fitting.{FitsNewPiece};
+ghost use Rattle.sha2.specs.Sha256.{sha256};
 
-use rm_base::sealed::digest_of;
+use rm_base::sealed::Encoded;
 use rm_base::{FileNo, Kind, Moment, NoMemory, Row, Seq, Status, Text};
 use rm_catalog::{Edit, PieceEntry};
 use rm_change::Object;
@@ -17,7 +18,7 @@ use rm_command::BackupForm;
 use rm_machine::facts::{now, placed};
 use rm_machine::{Handed, State};
 use rm_objects::piece_name;
-use rm_piece::{Piece, encode_piece, high_of};
+use rm_piece::{Piece, encode_piece_with_digest, high_of};
 use rm_report::{Line, Shape};
 use std::alloc::Global;
 
@@ -95,17 +96,18 @@ fn piece_of(alloc: Global, state: &State, kind: Kind, file: FileNo) -> Result<Pi
     })
 }
 
-// The record of a piece under the next id, whose object has these bytes.
+// The record of a piece under the next id, whose object has these bytes and this digest.
 fn entry_of(
     alloc: Global,
     state: &State,
     form: &BackupForm,
     tag: &Text,
     piece: &Piece,
-    bytes: &[u8],
+    encoded: &Encoded,
 ) -> Result<PieceEntry, NoMemory>
     requires valid { IsPiece piece.now }
-    requires bytes { bytes.now ≡ spelling piece.now }
+    requires bytes { encoded.now.bytes ≡ spelling piece.now }
+    requires digest { encoded.now.digest ≡ sha256 (spelling piece.now) }
     ensures { IfOk result (λ entry. entry ≡ piece_entry form.now tag.now (ledger state.now).base.moment (ledger state.now).base.next_id piece.now) }
 {
     let base = state.catalog.base();
@@ -119,8 +121,8 @@ fn entry_of(
         checkpoint: piece.checkpoint,
         high: piece.high,
         rows: piece.rows.len() as u32,
-        size: bytes.len() as u64,
-        sha: digest_of(bytes),
+        size: encoded.bytes.len() as u64,
+        sha: encoded.digest,
         status: Status::Available,
         keep: form.keep,
         tag: copied(alloc, tag)?,
@@ -167,10 +169,13 @@ pub(crate) fn back_up(
     ensures removes { OnOk result (handed.new.removes ≡ handed.old.removes) }
 {
     let piece = piece_of(alloc, state, kind_of(form), file)?;
-    let bytes = encode_piece(alloc, &piece)?;
-    let entry = entry_of(alloc, state, form, tag, &piece, bytes.as_slice())?;
-    let name = piece_name(alloc, form.copy, entry.id)?;
+    let encoded = encode_piece_with_digest(alloc, &piece)?;
+    let entry = entry_of(alloc, state, form, tag, &piece, &encoded)?;
+    let object = Object {
+        name: piece_name(alloc, form.copy, entry.id)?,
+        bytes: encoded.bytes,
+    };
     handed.lines.push(piece_line(state, form, file))?;
-    handed.objects.push(Object { name, bytes })?;
+    handed.objects.push(object)?;
     state.catalog.add_piece(alloc, edits, entry)
 }

@@ -9,7 +9,7 @@ use Rattle.rm_catalog.specs.declared.record.PieceEntry.{PieceEntry}
 use Rattle.rm_history.specs.Tree.{IsThere, reset_of, end_of, branched}
 use Rattle.rm_base.proofs.Members.{none-in, in-front}
 use Rattle.rm_ledger.specs.Facts.{IsLedger, AreIncarnations, IsCreated, IsLogEntry, IsPieceEntry, AreMarks, IsMark}
-use Rattle.rm_ledger.specs.Growth.{fresh}
+use Rattle.rm_ledger.specs.Fresh.{fresh}
 
 -- only the first incarnation is there
 only_first : (scn i : ℕ) → IsThere (branched 0 scn ∷ []) i → i ≡ 1

@@ -15,7 +15,7 @@ use Rattle.rm_catalog.specs.declared.record.LogEntry.{LogEntry}
 use Rattle.rm_catalog.specs.declared.record.PieceEntry.{PieceEntry}
 use Rattle.rm_catalog.specs.declared.record.Record.{Record}
 use Rattle.rm_catalog.specs.declared.record.Record.TheVariants as kind
-use Rattle.rm_catalog.specs.Keys.{place, place_of, at, base, incarnation, datafile, mark, incarnation_in, datafile_in, mark_in}
+use Rattle.rm_catalog.specs.Keys.{place, place_of, at, incarnation, datafile, mark, incarnation_in, datafile_in, mark_in}
 use Rattle.rm_catalog.specs.Keys.{IsThere as HasKey}
 use Rattle.rm_catalog.proofs.Told.{found_is}
 use Rattle.rm_catalog.proofs.Unique.{in_tail}

@@ -1,9 +1,8 @@
 -- The edits of each kind of record.
 use Rattle.std.proofs.Common.{◌≡◌, ◌∙◌, ℕ, zero, suc, ◌+◌, ◌<◌, ◌≤◌, List, [], ◌∷◌, ◌++◌, length, map, refl, ap, sym, subst, arith, All}
 use Rattle.std.specs.Prelude.{slice_set}
-use Rattle.std.proofs.lemmas.List.{map-append, length-append}
+use Rattle.std.proofs.lemmas.List.{length-append}
 use Rattle.rm_catalog.specs.declared.record.Record.{Record}
-use Rattle.rm_catalog.specs.declared.record.Edit.{Edit}
 use Rattle.rm_catalog.specs.declared.record.Edit.TheVariants.{Put}
 use Rattle.rm_catalog.specs.Keys.{place, place_of}
 use Rattle.rm_catalog.specs.Edits.{after_edit}

@@ -1,10 +1,10 @@
 -- A tree that grows keeps what it says of the incarnations that were there.
-use Rattle.std.proofs.Common.{◌≡◌, ◌∙◌, ℕ, zero, suc, ◌+◌, ◌-◌, ◌<◌, ◌≤◌, inl, inr, List, [], ◌∷◌, ◌++◌, length, length-append, slice_set, ap, sym, subst, arith}
+use Rattle.std.proofs.Common.{◌≡◌, ◌∙◌, ℕ, zero, suc, ◌<◌, ◌≤◌, inl, inr, List, length, ap, sym, subst, arith}
 use Rattle.std.proofs.lemmas.Bool.{cases_eq, cases_lt}
 use Rattle.rm_history.specs.declared.tree.Incarnation.{Incarnation}
-use Rattle.rm_history.specs.Tree.{HasParentsBelow, IsThere, owner, parent_of, reset_of, end_of, with_end, with_branch, branched}
-use Rattle.rm_history.proofs.Branches.{IsThere-with_branch, IsThere-branched, owner-with_branch, reset_of-with_branch, end_of-with_branch, parent_of-branched, reset_of-branched, end_of-branched}
-use Rattle.rm_history.proofs.Ends.{IsThere-with_end, owner-with_end, parent_of-with_end, reset_of-with_end, end_of-with_end, end_of-with_end_other}
+use Rattle.rm_history.specs.Tree.{HasParentsBelow, IsThere, owner, parent_of, reset_of, end_of, with_end, with_branch}
+use Rattle.rm_history.proofs.Branches.{IsThere-with_branch, owner-with_branch, reset_of-with_branch, end_of-with_branch}
+use Rattle.rm_history.proofs.Ends.{IsThere-with_end, owner-with_end, reset_of-with_end, end_of-with_end, end_of-with_end_other}
 use Rattle.rm_history.proofs.Owners.{owner-cases, owner-first, parent-none}
 use Rattle.rm_ledger.specs.Facts.{AreIncarnations}
 

@@ -1,5 +1,5 @@
 -- A new database, and its records.
-use Rattle.std.specs.Prelude.{ℕ, List, [], ◌∷◌, map}
+use Rattle.std.specs.Prelude.{ℕ, false, List, [], ◌∷◌, map}
 use Rattle.rm_base.specs.declared.kinds.Policy.TheVariants.{Redundancy}
 use Rattle.rm_catalog.specs.declared.record.Edit.{Edit}
 use Rattle.rm_catalog.specs.declared.record.Edit.TheVariants.{Put}

@@ -1,3 +1,4 @@
+pub mod Accepted
 pub mod Lines
 pub mod LostLogs
 pub mod Places

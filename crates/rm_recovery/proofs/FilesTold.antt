@@ -1,23 +1,28 @@
 -- One datafile after the other is told.
-use Rattle.std.proofs.Common.{◌≡◌, ◌<◌, ◌≤◌, ◌+◌, ◌-◌, ◌∙◌, ◌++◌, inl, inr, ℕ, List, [], ◌∷◌, Option, Some, None, true, false, refl, sym, ap, subst, arith, length, length-append, slice_get}
-use Rattle.std.proofs.lemmas.Bool.{both_ways}
+use Rattle.std.proofs.Common.{◌≡◌, ◌<◌, ◌≤◌, ◌+◌, ◌-◌, ◌∙◌, ◌++◌, inl, inr, ℕ, List, [], ◌∷◌, Option, Some, None, true, false, refl, sym, ap, subst, arith, length, length-append, slice_get, All, IfSome}
+use Rattle.std.proofs.lemmas.Bool.{both_ways, cases_Bool}
 use Rattle.std.proofs.lemmas.Option.{slice_get_within}
-use Rattle.rm_base.proofs.Slots.{get-push}
+use Rattle.rm_base.proofs.Slots.{all-get, get-push}
 use Rattle.rm_blocks.specs.File.{File}
 use Rattle.rm_history.specs.declared.world.Datafile.{Datafile}
 use Rattle.rm_history.specs.declared.world.World.{World}
 use Rattle.rm_history.specs.Tree.{IsThere}
-use Rattle.rm_history.specs.World.{exists, file_of}
+use Rattle.rm_history.specs.World.{exists}
 use Rattle.rm_known.specs.Evidence.{Evidence}
 use Rattle.rm_known.specs.FirstGap.{IsDetermined}
+use Rattle.rm_ledger.specs.Facts.{IsCreated}
 use Rattle.rm_ledger.proofs.Lookups.{item-at}
-use Rattle.rm_plan.specs.FirstGap.{FileDetermined, FilesBelow}
+use Rattle.rm_plan.specs.FirstGap.{FilesBelow}
 use Rattle.rm_plan.specs.Plan.{IsFileFault, IsFileTarget}
 use Rattle.rm_plan.specs.declared.plan.PlanFault.{PlanFault}
 use Rattle.rm_plan.specs.declared.plan.PlanFault.TheVariants as fault
 use Rattle.rm_plan.proofs.Firsts.{first_of_all, gap_of_file}
-use Rattle.rm_machine.specs.Recovery.{AreTold, HasTold, IsTold}
-use Rattle.rm_machine.proofs.Numbers.{file-at, file-place}
+use Rattle.rm_machine.specs.Recovery.{AreTold, HasTold}
+use Rattle.rm_machine.specs.Sound.{IsSound}
+use Rattle.rm_machine.specs.declared.state.State.{State}
+use Rattle.rm_machine.specs.State.{tree, world}
+use Rattle.rm_machine.proofs.Numbers.{blocks-at, file-at, file-place}
+use Rattle.rm_machine.proofs.Standing.{each-get}
 use Rattle.rm_machine.proofs.Told.{block-determined}
 use Rattle.rm_recovery.specs.Telling.{AreToldBelow, IsFaultOfFile, IsFirstFault, IsToldFile}
 
@@ -50,7 +55,8 @@ module _ (w : World) (e : Evidence) (i at : ℕ) where
     ];
   }
 
-  pub grown : (n : ℕ) (d : Datafile) (files new : List (Option File)) (o : Option File) → new ≡ files ++ o ∷ [] → AreToldBelow w e i at n files → slice_get w.files n ≡ Some d → IsToldFile w e i at (1 + n) d o → AreToldBelow w e i at (n + 1) new
+  pub grown : (n : ℕ) (d : Datafile) (files new : List (Option File)) (o : Option File)
+      → new ≡ files ++ o ∷ [] → AreToldBelow w e i at n files → slice_get w.files n ≡ Some d → IsToldFile w e i at (1 + n) d o → AreToldBelow w e i at (n + 1) new
   grown n d files new o list are is told = subst (AreToldBelow w e i at (n + 1)) (sym list) (one-more n d files o are is told)
 
   module _ (n : ℕ) (files : List (Option File)) (are : AreToldBelow w e i at n files) where
@@ -93,3 +99,23 @@ module _ (w : World) (e : Evidence) (i at : ℕ) where
     pub first-fault : (x : PlanFault) → IsFaultOfFile w e i at (n + 1) x → IsFirstFault w e i at x
     first-fault (fault.Gap x) gap = first_of_all w e i at (n + 1) x below gap
     first-fault fault.NoMemory gap = tt
+
+-- none has more blocks than a datafile may have
+pub told-few : (s : State) (e : Evidence) (i at : ℕ) (files : List (Option File)) → IsSound s → AreTold (world s) e i at files → All (λ o. IfSome o (λ x. length x.rows ≤ 65536)) files
+told-few s e i at files sound told = each-get (λ o. IfSome o (λ x. length x.rows ≤ 65536)) files (λ k o is.
+    let w = world s in
+    let inside = slice_get_within files k o is in
+    let many = told.many in
+    let d = item-at w.files k (omega (arith, inside, many)) in
+    elim (cases_Bool (exists w i at d.0)) [
+      | inl here ↦
+          let x = told.told k d.0 d.1 here in
+          let long = x.2.blocks in
+          let size = blocks-at w k d.0 d.1 in
+          let most = (all-get (IsCreated (tree s)) w.files k d.0 d.1 sound.catalog.ledger.datafiles.each).blocks.1 in
+          let same : Some x.0 ≡ o = (let one : Some (Some x.0) ≡ Some o = sym x.1 ∙ is in cc) in
+          subst (λ (p : Option File). IfSome p (λ x. length x.rows ≤ 65536)) same (omega (arith, long, size, most))
+      | inr gone ↦
+          let same : None ≡ o = (let one : Some None ≡ Some o = sym (told.none k d.0 d.1 gone) ∙ is in cc) in
+          subst (λ (p : Option File). IfSome p (λ x. length x.rows ≤ 65536)) same tt
+    ])

@@ -1,9 +1,8 @@
 -- What is told, as what the statements come to.
-use Rattle.std.proofs.Common.{◌≡◌, ◌∙◌, ◌++◌, inl, inr, ℕ, List, [], ◌∷◌, Option, Some, None, Bool, true, IfSome, refl, ap, sym, subst}
+use Rattle.std.proofs.Common.{◌≡◌, ◌∙◌, ◌++◌, inl, inr, ℕ, List, [], ◌∷◌, Option, Some, None, true, IfSome, IfOk, IfErr, Result, Ok, Err, ap, sym, subst}
 use Rattle.rm_base.specs.Store.{Held}
 use Rattle.rm_base.specs.declared.kinds.Bad.{Bad}
 use Rattle.rm_base.specs.declared.refusal.Refusal.{Refusal}
-use Rattle.rm_base.specs.declared.refusal.Refusal.TheVariants.{Rm08}
 use Rattle.rm_blocks.specs.File.{File}
 use Rattle.rm_command.specs.declared.command.Command.TheVariants.{Recover, RecoverTest}
 use Rattle.rm_command.specs.declared.command.Until.{Until}
@@ -22,8 +21,8 @@ use Rattle.rm_machine.specs.RecoverTest.{TestsTo, test_lines, test_target, teste
 use Rattle.rm_machine.specs.Recovery.{FindsGap, IsAtHand, TellsAll, count_at, is_built_until, skipped_lines, target_of}
 use Rattle.rm_machine.specs.Sound.{IsSound}
 use Rattle.rm_machine.specs.declared.state.State.{State}
-use Rattle.rm_machine.specs.State.{current_of}
-use Rattle.rm_machine.proofs.Recovering.{CanRecover, can-recover, sound-recovered}
+use Rattle.rm_machine.specs.State.{current_of, tree}
+use Rattle.rm_machine.proofs.Recovering.{can-recover, sound-recovered}
 use Rattle.rm_recovery.specs.declared.telling.Told.{Told}
 use Rattle.rm_recovery.specs.Telling.{IsEvidence, IsFirstFault, IsGapBy, IsToldBy, NamesFault}
 use Rattle.rm_machine.specs.State.{world}
@@ -40,6 +39,13 @@ built-target ns i (Some (Time text)) built none = absurd (cc)
 pub gap-by : (held : Option Held) (s : State) (i at : ℕ) (e : Evidence) (x : PlanFault) (r : Refusal) → IsEvidence held s e → IsFirstFault (world s) (known_of e) i at x → NamesFault x r → IsGapBy held s i at r
 gap-by held s i at e (fault.Gap x) r is first names = record { evidence = e; is = is; file = x.file; block = x.block; inc = x.inc; scn = x.scn; first = first; names = names }
 gap-by held s i at e fault.NoMemory r is first names = absurd names
+
+-- what was told, or the gap, under the names that a statement has for them
+pub told-at : (held : Option Held) (s : State) (i j at : ℕ) (x : Result Told Refusal) (t : Told) → i ≡ j → x ≡ Ok t → IfOk x (λ u. IsToldBy held s i at u) → IsToldBy held s j at t
+told-at held s i j at x t same is by = subst (λ n. IsToldBy held s n at t) same (subst (λ y. IfOk y (λ u. IsToldBy held s i at u)) is by)
+
+pub gap-at : (held : Option Held) (s : State) (i j at : ℕ) (x : Result Told Refusal) (r : Refusal) → i ≡ j → x ≡ Err r → IfErr x (λ q. IsGapBy held s i at q) → IsGapBy held s j at r
+gap-at held s i j at x r same is by = subst (λ n. IsGapBy held s n at r) same (subst (λ y. IfErr y (λ q. IsGapBy held s i at q)) is by)
 
 module _ (held : Option Held) (s : State) (i at : ℕ) where
   at-hand : (objects : Held) (e : Evidence) → held ≡ Some objects → IsEvidence held s e → IsAtHand s objects e
@@ -88,6 +94,21 @@ module _ (held : Option Held) (s : State) (until : Option Until) (at : ℕ) (tar
   recover-sound t sound accepted by = sound-recovered s by.evidence at t.files sound by.is.fits (can-recover s until at target accepted) by.files
 
 -- RECOVER DATABASE TEST
+
+-- its target, under the names that it has for it
+pub test-at : (s : State) (until : Option Until) (inc : Option ℕ) (ns : List Incarnation) (i at : ℕ) (o : Option ℕ)
+    → ns ≡ tree s → i ≡ tested s inc → o ≡ target_of ns i until → o ≡ Some at → test_target s until inc ≡ Some at
+test-at s until inc ns i at o tree inc_is is some = subst (λ ms. target_of ms (tested s inc) until ≡ Some at) tree (subst (λ n. target_of ns n until ≡ Some at) inc_is (sym is ∙ some))
+
+-- the lines of its reply, under the names that it has for them
+pub test-lines : (s : State) (i j at : ℕ) (skipped seen : List (ℕ × Bad)) (files listed : List (Option File)) (old new : List Line)
+    → i ≡ j → seen ≡ skipped → listed ≡ files → old ≡ skipped_lines seen → new ≡ old ++ test_lines s i at listed → new ≡ skipped_lines skipped ++ test_lines s j at files
+test-lines s i j at skipped seen files listed old new inc same all before is =
+    is
+    ∙ ap (λ ls. ls ++ test_lines s i at listed) (before ∙ ap skipped_lines same)
+    ∙ ap (λ n. skipped_lines skipped ++ test_lines s n at listed) inc
+    ∙ ap (λ os. skipped_lines skipped ++ test_lines s j at os) all
+
 module _ (held : Option Held) (s : State) (until : Option Until) (inc : Option ℕ) (at : ℕ) (target : test_target s until inc ≡ Some at) where
   pub test-refuses : (r : Refusal) → IsGapBy held s (tested s inc) at r → Refuses held s (RecoverTest until inc) r
   test-refuses r by objects is = subst (λ o. TestsTo s objects (tested s inc) o (refused r)) (sym target) (inl (finds-gap held s (tested s inc) at objects r is by))

@@ -1,5 +1,5 @@
 -- The parts of a plan, as the rows of a datafile.
-use Rattle.std.proofs.Common.{◌≡◌, ◌∙◌, ℕ, zero, suc, List, [], ◌∷◌, Some, length, map, slice_get, refl, sym, ap, subst}
+use Rattle.std.proofs.Common.{◌≡◌, ◌∙◌, ℕ, zero, suc, List, [], ◌∷◌, Some, map, slice_get, refl, sym, ap, subst}
 use Rattle.std.proofs.lemmas.List.{length-map}
 use Rattle.rm_base.specs.declared.block.Part.{Part}
 use Rattle.rm_base.specs.declared.block.Row.{Row}

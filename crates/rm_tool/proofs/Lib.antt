@@ -2,3 +2,4 @@ pub mod Calls
 pub mod Runs
 pub mod Scripts
 pub mod Statements
+pub mod Telling

@@ -19,13 +19,13 @@ use Rattle.rm_report.specs.Text.{reply_text}
 use Rattle.rm_machine.specs.Machine.{Machine, DigestsTell}
 use Rattle.rm_frame.specs.Holds.{Holds, Stands, View}
 use Rattle.rm_tool.specs.Ends.{WritesFront}
-use Rattle.rm_tool.specs.Run.{StepOf, StatementStep, past, behind, Run, DigestsTellAlong, RunsTo, AreToCome, replies_text}
+use Rattle.rm_tool.specs.Run.{StepOf, StatementStep, past, behind, Run, DigestsTellAlong, RunsWhereTold, AreToCome, replies_text}
 use Rattle.rm_tool.specs.Serving.{IsPast, IsServed, IsCut, IsCutShort, Serves, EndsAtStatement, EndsInReplies}
 
 -- The machine's run over these statements, with these replies, as far as it came: each course of the clock from
 -- here on is that of a whole one, and where digests tell along the run, this is so of the machine at its end.
 abbrev pub Extends : Machine → Option Answers → List (ℕ × List Token) → List Reply → Option Answers → (Machine → Type 0) → Type 0
-Extends first told ss rs now Is = (answers : Answers) → AreToCome now answers → (all : Answers) × AreToCome told all × (behind ss all ≡ answers) × RunsTo first all ss rs Is
+Extends first told ss rs now Is = (answers : Answers) → AreToCome now answers → (all : Answers) × AreToCome told all × (behind ss all ≡ answers) × RunsWhereTold first all ss rs Is
 
 -- the site stands for the machine, which the store and the keeper hold
 abbrev pub IsAt : View → Option Held → Option (List Record) → Machine → Type 0
@@ -126,7 +126,7 @@ extends-more : (first : Machine) (told now later : Option Answers) (ss : List (�
 extends-more first told now later ss rs s r a Is Becomes many next passed step extends = λ answers come.
     let o : Option Command = command_at s.1 in
     let all = extends (from o a answers) (told-from o a answers now later next passed come) in
-    let goes : RunsTo first all.0 (ss ++ s ∷ []) (rs ++ r ∷ []) Becomes = λ tells.
+    let goes : RunsWhereTold first all.0 (ss ++ s ∷ []) (rs ++ r ∷ []) Becomes = λ tells.
         let mid = all.3 (tell-before first all.0 ss rs s r many tells) in
         let n = step mid.0 mid.2 (tell-here first all.0 ss rs s r many tells mid.0 mid.1) in
         let at : StatementStep mid.0 s (behind ss all.0 0) r n.0 = subst (λ (f : Answers). StatementStep mid.0 s (f 0) r n.0) (sym all.2) (step-from o mid.0 n.0 s.0 a answers r n.1) in
@@ -189,7 +189,7 @@ answers-with None a next = ((λ i. a), tt, refl)
 answers-with (Some coming) a next = (coming, (λ i. refl), sym next)
 
 -- all statements were served
-pub progress-serves : (ss : List (ℕ × List Token)) (told now : Option Answers) (before written : Option (List ℕ)) (held : Option Held) (kept : Option (List Record)) (site : View) (refused : Bool) (first : Machine) → Progress ss told now before written held kept site refused first → Serves told before written held kept refused ss first
+pub progress-serves : (ss : List (ℕ × List Token)) (told now : Option Answers) (before written : Option (List ℕ)) (held : Option Held) (kept : Option (List Record)) (site : View) (refused : Bool) (first : Machine) → Progress ss told now before written held kept site refused first → Serves RunsWhereTold told before written held kept refused ss first
 progress-serves ss told now before written held kept site refused first p =
     let all = p.extends (answers_from now) (come-from now) in
     record {
@@ -209,12 +209,12 @@ whole-run first all ss rs m many run =
     subst (λ (ts : List (ℕ × List Token)). Run first all ts (take (length ss) rs) m) (sym (take-length ss)) (subst (λ (qs : List Reply). Run first all ss qs m) (sym those) run)
 
 -- the statement i was cut short
-pub progress-cut : (ss : List (ℕ × List Token)) (i : ℕ) (s : ℕ × List Token) (told now : Option Answers) (before written : Option (List ℕ)) (held held' : Option Held) (kept kept' : Option (List Record)) (site : View) (refused : Bool) (first : Machine) → i ≤ length ss → slice_get ss i ≡ Some s → Progress (take i ss) told now before written held kept site refused first → IsCutShort held kept site now s held' kept' → EndsAtStatement told before written held' kept' ss first
+pub progress-cut : (ss : List (ℕ × List Token)) (i : ℕ) (s : ℕ × List Token) (told now : Option Answers) (before written : Option (List ℕ)) (held held' : Option Held) (kept kept' : Option (List Record)) (site : View) (refused : Bool) (first : Machine) → i ≤ length ss → slice_get ss i ≡ Some s → Progress (take i ss) told now before written held kept site refused first → IsCutShort held kept site now s held' kept' → EndsAtStatement RunsWhereTold told before written held' kept' ss first
 progress-cut ss i s told now before written held held' kept kept' site refused first low there p short =
     let f = answers-with now short.answer short.next in
     let all = p.extends f.0 f.1 in
     let count : length p.replies ≡ i = p.many ∙ length-take-le i ss low in
-    let cut : RunsTo first all.0 (take i ss) p.replies (λ m. IsCut m s (behind (take i ss) all.0 0) held' kept') = λ tells.
+    let cut : RunsWhereTold first all.0 (take i ss) p.replies (λ m. IsCut m s (behind (take i ss) all.0 0) held' kept') = λ tells.
         let last = all.3 tells in
         let here : DigestsTell last.0 = tells (length (take i ss)) last.0 (whole-run first all.0 (take i ss) p.replies last.0 p.many last.1) in
         (last.0, last.1, subst (λ (a : ℕ). IsCut last.0 s a held' kept') (sym (ap (λ (g : Answers). g 0) all.2 ∙ f.2)) (short.cut last.0 last.2.0 last.2.1 here)) in
@@ -225,7 +225,7 @@ progress-cut ss i s told now before written held held' kept kept' site refused f
       written = p.appends;
       statement = s;
       next = subst (λ (n : ℕ). slice_get ss n ≡ Some s) (sym count) there;
-      run = subst (λ (n : ℕ). RunsTo first all.0 (take n ss) p.replies (λ m. IsCut m s (behind (take n ss) all.0 0) held' kept')) (sym count) cut;
+      run = subst (λ (n : ℕ). RunsWhereTold first all.0 (take n ss) p.replies (λ m. IsCut m s (behind (take n ss) all.0 0) held' kept')) (sym count) cut;
     }
 
 front-behind : (before now after : Option (List ℕ)) (xs ys : List ℕ) → Appends before now xs → WritesFront now after ys → WritesFront before after (xs ++ ys)
@@ -236,17 +236,17 @@ front-behind before now after xs ys h (n, within, k) = (
 )
 
 -- the sink failed in the reply to the statement before n
-pub reached-ends : (ss : List (ℕ × List Token)) (n : ℕ) (told now : Option Answers) (before written after : Option (List ℕ)) (held : Option Held) (kept : Option (List Record)) (site : View) (refused : Bool) (r : Reply) (first : Machine) → n ≤ length ss → Reached (take n ss) told now before written held kept site refused r first → WritesFront written after (reply_text r) → EndsInReplies told before after held kept ss first
+pub reached-ends : (ss : List (ℕ × List Token)) (n : ℕ) (told now : Option Answers) (before written after : Option (List ℕ)) (held : Option Held) (kept : Option (List Record)) (site : View) (refused : Bool) (r : Reply) (first : Machine) → n ≤ length ss → Reached (take n ss) told now before written held kept site refused r first → WritesFront written after (reply_text r) → EndsInReplies RunsWhereTold told before after held kept ss first
 reached-ends ss n told now before written after held kept site refused r first low p front =
     let replies : List Reply = p.replies ++ r ∷ [] in
     let all = p.extends (answers_from now) (come-from now) in
     let count : length replies ≡ n = length_push p.replies r ∙ p.many ∙ length-take-le n ss low in
-    let run : RunsTo first all.0 (take n ss) replies (Holds held kept) = λ tells. let last = all.3 tells in (last.0, last.1, last.2.1) in
+    let run : RunsWhereTold first all.0 (take n ss) replies (Holds held kept) = λ tells. let last = all.3 tells in (last.0, last.1, last.2.1) in
     record {
       answers = all.0;
       told = all.1;
       replies = replies;
       many = omega (arith, count, low);
       written = subst (WritesFront before after) (sym (text-push p.replies r)) (front-behind before written after (replies_text p.replies) (reply_text r) p.appends front);
-      run = subst (λ (k : ℕ). RunsTo first all.0 (take k ss) replies (Holds held kept)) (sym count) run;
+      run = subst (λ (k : ℕ). RunsWhereTold first all.0 (take k ss) replies (Holds held kept)) (sym count) run;
     }

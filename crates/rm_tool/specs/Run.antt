@@ -41,11 +41,17 @@ Run old answers (s ∷ ss) [] new = ⊥
 abbrev pub DigestsTellAlong : Machine → Answers → List (ℕ × List Token) → List Reply → Type 0
 DigestsTellAlong first answers ss replies = (k : ℕ) (m : Machine) → Run first answers (take k ss) (take k replies) m → DigestsTell m
 
--- Where digests tell along it, the machine has a run over these statements with these replies, and this is so of
--- the machine at its end.
-abbrev pub RunsTo : Machine → Answers → List (ℕ × List Token) → List Reply → (Machine → Type 0) → Type 0
-RunsTo first answers ss replies Is =
-    DigestsTellAlong first answers ss replies → (last : Machine) × Run first answers ss replies last × Is last
+-- a word on the machine at the end of its run over these statements with these replies
+abbrev pub OnRuns : Type 1
+OnRuns = Machine → Answers → List (ℕ × List Token) → List Reply → (Machine → Type 0) → Type 0
+
+-- The machine has a run over these statements with these replies, and this is so of the machine at its end.
+abbrev pub RunsTo : OnRuns
+RunsTo first answers ss replies Is = (last : Machine) × Run first answers ss replies last × Is last
+
+-- the same where digests tell along it
+abbrev pub RunsWhereTold : OnRuns
+RunsWhereTold first answers ss replies Is = DigestsTellAlong first answers ss replies → RunsTo first answers ss replies Is
 
 -- the answers behind those that these statements use
 abbrev pub behind : List (ℕ × List Token) → Answers → Answers

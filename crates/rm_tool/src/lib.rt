@@ -4,6 +4,7 @@
 mod adapters;
 mod built;
 mod ends;
+pub mod laws;
 mod opening;
 pub mod run;
 mod session;

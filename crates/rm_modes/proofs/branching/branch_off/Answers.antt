@@ -1,6 +1,4 @@
-use Rattle.std.proofs.Common.{rules, ◌≡◌, ◌∙◌, ap, sym, subst}
-use Rattle.rm_catalog.specs.declared.record.Edit.{Edit}
-use Rattle.rm_repository.specs.Changes.{EditsFollow}
+use Rattle.std.proofs.Common.{◌≡◌, ◌∙◌, ap, sym}
 use Rattle.rm_repository.specs.Repository.{Repository, records_of}
 use Rattle.rm_machine.specs.declared.state.State.{State}
 use Rattle.rm_modes.proofs.branching.branch_off.Goals as goal

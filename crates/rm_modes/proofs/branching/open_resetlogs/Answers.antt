@@ -13,13 +13,13 @@ use Rattle.rm_repository.specs.Fitting.{HasRoomFor}
 use Rattle.rm_machine.proofs.Branching.{after-archiving, can-after, can-reset}
 use Rattle.rm_machine.proofs.Handing.{hands-by}
 use Rattle.rm_archiving.proofs.Spaces.{accepted-alone}
+use Rattle.rm_modes.proofs.Accepted.{archiving-accepted}
 use Rattle.rm_modes.proofs.branching.open_resetlogs.Goals as goal
 
 pub archive_all-requires-clause-accepted : goal.archive_all-requires-clause-accepted
 archive_all-requires-clause-accepted c =
     let s : State = c.args.state.now in
-    let sound = c.requires.sound in
-    accepted-alone s 2 (can-reset s sound c.requires.accepted).archives
+    accepted-alone s 2 (archiving-accepted s c.requires.accepted)
 
 pub branch_off-requires-clause-point : goal.branch_off-requires-clause-point
 branch_off-requires-clause-point c =

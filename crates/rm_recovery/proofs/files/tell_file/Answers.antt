@@ -1,12 +1,14 @@
-use Rattle.std.proofs.Common.{◌≡◌, ◌∙◌, List, Some, map, refl, sym, ap, subst}
+use Rattle.std.proofs.Common.{◌≡◌, ◌∙◌, List, map, sym, ap, subst}
+use Rattle.rm_base.specs.declared.block.Part.{Part}
 use Rattle.rm_base.specs.declared.block.Row.{Row}
 use Rattle.rm_blocks.specs.File.{File, IsInOrder}
 use Rattle.rm_evidence.specs.Known.{FitsTree, known_of}
-use Rattle.rm_history.specs.World.{exists, blocks_of}
+use Rattle.rm_machine.specs.Recovery.{IsTold}
 use Rattle.rm_machine.specs.State.{world}
+use Rattle.rm_objects.specs.Database.{world_of}
 use Rattle.rm_plan.proofs.Faults.{handed_on}
-use Rattle.rm_plan.specs.Plan.{AreParts, IsFileFault, IsFileTarget}
-use Rattle.rm_recovery.specs.Telling.{IsFaultOfFile, IsToldFile, row_of}
+use Rattle.rm_plan.specs.Plan.{IsFileFault, IsFileTarget}
+use Rattle.rm_recovery.specs.Telling.{IsFaultOfFile, row_of}
 use Rattle.rm_recovery.proofs.FilesTold.{fault-of-file, number-target}
 use Rattle.rm_recovery.proofs.Records.{same-tree, same-world}
 use Rattle.rm_recovery.proofs.Rows.{rows-in-order, rows-told}
@@ -31,7 +33,21 @@ returns-in_err-parts-clause-gap c =
     handed_on c.from_residual.result x c.from_residual.ensures.1 (IsFaultOfFile w e c.args.i c.args.at c.args.number) (fault-of-file w e c.args.i c.args.at c.args.number x target names)
 
 pub from_rows-requires : goal.from_rows-requires
-from_rows-requires c = ?
+from_rows-requires c =
+    let rows = c.in_ok-rows.ensures ∙ ap (λ (ps : List Part). map row_of ps) c.as_slice.ensures in
+    subst IsInOrder (sym rows) (rows-in-order (world_of c.args.hand.now.records) (known_of c.args.hand.now.evidence) c.args.i c.args.at c.args.number c.in_ok-parts.parts c.in_ok-parts.ensures.parts)
 
 pub returns-clause-told : goal.returns-clause-told
-returns-clause-told c = ?
+returns-clause-told c =
+    let s = c.args.state.now in
+    let e = known_of c.args.hand.now.evidence in
+    let v = world_of c.args.hand.now.records in
+    let i = c.args.i in
+    let at = c.args.at in
+    let f = c.args.number in
+    let parts = c.in_ok-parts.parts in
+    let file : List Row → File = λ rows. record { file = f; inc = i; checkpoint = at; rows = rows } in
+    let is : c.from_rows.result ≡ file (map row_of parts) = c.from_rows.ensures ∙ ap file (c.in_ok-rows.ensures ∙ ap (λ (ps : List Part). map row_of ps) c.as_slice.ensures) in (
+      sym c.if-not-exists.ensures,
+      subst (IsTold (world s) e i at f) (sym is) (subst (λ w. IsTold w e i at f (file (map row_of parts))) (same-world s c.args.hand.now.records c.requires.records) (rows-told v e i at f parts c.in_ok-parts.ensures.parts)),
+    )

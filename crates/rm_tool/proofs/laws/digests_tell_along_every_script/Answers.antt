@@ -1,0 +1,10 @@
+use Rattle.std.proofs.Common.{refl}
+use Rattle.rm_frame.specs.Holds.{nothing}
+use Rattle.rm_tool.proofs.Telling.{tell-along}
+use Rattle.rm_tool.proofs.laws.digests_tell_along_every_script.Goals as goal
+
+pub returns-clause-untouched : goal.returns-clause-untouched
+returns-clause-untouched c = tell-along
+
+pub returns-clause-script : goal.returns-clause-script
+returns-clause-script c = λ objects. tell-along (nothing objects) refl
