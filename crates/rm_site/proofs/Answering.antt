@@ -1,5 +1,5 @@
 -- How a statement is answered where there is a database, and over the site.
-use Rattle.std.proofs.Common.{◌≡◌, ◌∙◌, ℕ, Bool, List, [], Option, Some, None, true, refl, ap, sym, subst}
+use Rattle.std.proofs.Common.{◌≡◌, ◌∙◌, ℕ, Bool, List, [], Option, Some, None, true, ap, sym, subst}
 use Rattle.std.specs.Prelude.{Result, Ok, Err, OnErr}
 use Rattle.rm_base.specs.Store.{Held}
 use Rattle.rm_base.specs.declared.refusal.Refusal.{Refusal}
@@ -110,8 +110,11 @@ module _ {s : State} {moment : ℕ} {r : Repository} {earlier : ℕ} {saved : Op
   pub valid-again : (t : State) → t ≡ b → IsSound s → IsRepository (with_earlier t.catalog earlier saved)
   valid-again t same is = subst IsRepository (sym (again t same)) is.catalog
 
-  pub back-again : (t : State) (u : Repository) → t ≡ b → u ≡ with_earlier t.catalog earlier saved → record t { catalog = u } ≡ s
+  back-again : (t : State) (u : Repository) → t ≡ b → u ≡ with_earlier t.catalog earlier saved → record t { catalog = u } ≡ s
   back-again t u same is = ap (λ (x : Repository). record t { catalog = x }) (is ∙ again t same) ∙ ap (λ (y : State). record y { catalog = s.catalog }) same
+
+  pub sound-again : (t : State) (u : Repository) → t ≡ b → u ≡ with_earlier t.catalog earlier saved → IsSound s → IsSound (record t { catalog = u })
+  sound-again t u same is sound = subst IsSound (sym (back-again t u same is)) sound
 
   module _ (held : Option Held) (c : Command) (a : Answer) (t : State) (comes : ComesTo held b c a t) where
     -- a refusal and what only tells change nothing

@@ -1,6 +1,4 @@
-use Rattle.std.proofs.Common.{◌≡◌, sym, subst}
-use Rattle.rm_machine.specs.Sound.{IsSound}
-use Rattle.rm_site.proofs.Answering.{Begins, answered-in, back-again, begins-sound, handed-in, is-carried, is-halted, quiet-refused, quiet-told, refused-in, told-in, valid-again}
+use Rattle.rm_site.proofs.Answering.{Begins, answered-in, begins-sound, handed-in, is-carried, is-halted, quiet-refused, quiet-told, refused-in, sound-again, told-in, valid-again}
 use Rattle.rm_site.proofs.step.answer_in.Goals as goal
 
 pub come_to-requires-clause-sound : goal.come_to-requires-clause-sound
@@ -13,13 +11,15 @@ pub put_back-requires : goal.put_back-requires
 put_back-requires g c =
     let was = c.in_ok-earlier.ensures in
     let begins : Begins c.args.state.now c.args.moment c.begin.new.self c.in_ok-earlier.earlier.moment c.in_ok-earlier.earlier.saved = record { after = was.after; moment_is = was.moment; saved_is = was.saved } in
-    valid-again begins c.come_to.new.state (quiet-refused begins (g.D.Store.held c.args.store.now) c.args.command.now c.in_ok-refusal.field-0 c.come_to.new.state c.in_ok-refusal.ensures.comes c.in-Refused.refusal c.in-Refused.is) c.requires.sound
+    let same = quiet-refused begins (g.D.Store.held c.args.store.now) c.args.command.now c.in_ok-refusal.field-0 c.come_to.new.state c.in_ok-refusal.ensures.comes c.in-Refused.refusal c.in-Refused.is in
+    valid-again begins c.come_to.new.state same c.requires.sound
 
 pub returns-in_ok-refusal_reply-in-Refused-clause-sound : goal.returns-in_ok-refusal_reply-in-Refused-clause-sound
 returns-in_ok-refusal_reply-in-Refused-clause-sound g c =
     let was = c.in_ok-earlier.ensures in
     let begins : Begins c.args.state.now c.args.moment c.begin.new.self c.in_ok-earlier.earlier.moment c.in_ok-earlier.earlier.saved = record { after = was.after; moment_is = was.moment; saved_is = was.saved } in
-    subst IsSound (sym (back-again begins c.come_to.new.state c.put_back.new.self (quiet-refused begins (g.D.Store.held c.args.store.now) c.args.command.now c.in_ok-refusal.field-0 c.come_to.new.state c.in_ok-refusal.ensures.comes c.in-Refused.refusal c.in-Refused.is) c.put_back.ensures)) c.requires.sound
+    let same = quiet-refused begins (g.D.Store.held c.args.store.now) c.args.command.now c.in_ok-refusal.field-0 c.come_to.new.state c.in_ok-refusal.ensures.comes c.in-Refused.refusal c.in-Refused.is in
+    sound-again begins c.come_to.new.state c.put_back.new.self same c.put_back.ensures c.requires.sound
 
 pub returns-in_ok-refusal_reply-in-Refused-clause-step : goal.returns-in_ok-refusal_reply-in-Refused-clause-step
 returns-in_ok-refusal_reply-in-Refused-clause-step g c =
@@ -39,7 +39,8 @@ pub returns-in-Told-clause-sound : goal.returns-in-Told-clause-sound
 returns-in-Told-clause-sound g c =
     let was = c.in_ok-earlier.ensures in
     let begins : Begins c.args.state.now c.args.moment c.begin.new.self c.in_ok-earlier.earlier.moment c.in_ok-earlier.earlier.saved = record { after = was.after; moment_is = was.moment; saved_is = was.saved } in
-    subst IsSound (sym (back-again begins c.come_to.new.state c.put_back-in-Told.new.self (quiet-told begins (g.D.Store.held c.args.store.now) c.args.command.now c.in_ok-refusal.field-0 c.come_to.new.state c.in_ok-refusal.ensures.comes c.in-Told.lines c.in-Told.is) c.put_back-in-Told.ensures)) c.requires.sound
+    let same = quiet-told begins (g.D.Store.held c.args.store.now) c.args.command.now c.in_ok-refusal.field-0 c.come_to.new.state c.in_ok-refusal.ensures.comes c.in-Told.lines c.in-Told.is in
+    sound-again begins c.come_to.new.state c.put_back-in-Told.new.self same c.put_back-in-Told.ensures c.requires.sound
 
 pub returns-in-Told-clause-step : goal.returns-in-Told-clause-step
 returns-in-Told-clause-step g c =
