@@ -15,6 +15,7 @@ use Rattle.rm_machine.specs.Backup.{backup_refusal}
 use Rattle.rm_machine.specs.CreateDatafile.{datafile_refusal}
 use Rattle.rm_machine.specs.Dump.{dump_refusal}
 use Rattle.rm_machine.specs.Marks.{ids_refusal}
+use Rattle.rm_machine.specs.Open.{open_refusal}
 use Rattle.rm_machine.specs.OpenResetlogs.{resetlogs_refusal}
 use Rattle.rm_machine.specs.Recover.{or_else, recover_refusal, target_refusal}
 use Rattle.rm_machine.specs.RecoverTest.{test_refusal}
