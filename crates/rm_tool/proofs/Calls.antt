@@ -13,7 +13,8 @@ use Rattle.rm_tool.specs.Session.{Script, FromNone, OfScript}
 use Rattle.rm_tool.proofs.Telling.{tell-along}
 
 -- what is so of each machine that the opened site stands for is so of the one without a database
-from-opening : (held held' : Option Held) (kept kept' : Option (List Record)) (v : View) (Is : Machine → Type 0) → held' ≡ held → kept' ≡ kept → Opens held kept v → FromEach held' kept' v Is → FromNone held kept (λ objects. Is (nothing objects))
+from-opening : (held held' : Option Held) (kept kept' : Option (List Record)) (v : View) (Is : Machine → Type 0) → held' ≡ held → kept' ≡ kept → Opens held kept v
+    → FromEach held' kept' v Is → FromNone held kept (λ objects. Is (nothing objects))
 from-opening held held' kept kept' v Is held_same kept_same opens each objects held_is kept_is =
     let o = opens objects held_is kept_is in
     each (nothing objects) o.0

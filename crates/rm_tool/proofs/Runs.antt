@@ -233,7 +233,8 @@ module _ {told now : Option Answers} {before written : Option (List ℕ)} {held 
       }
 
   -- the reply to the last statement was written
-  pub reached-more : {after : Option (List ℕ)} {r : Reply} → Reached ss told now before written held kept site refused r first → Appends written after (reply_text r) → Progress ss told now before after held kept site (refused || r.refused) first
+  pub reached-more : {after : Option (List ℕ)} {r : Reply} → Reached ss told now before written held kept site refused r first → Appends written after (reply_text r)
+      → Progress ss told now before after held kept site (refused || r.refused) first
   reached-more {after = after} {r = r} p grows =
       record {
         replies = p.replies ++ r ∷ [];
@@ -244,7 +245,8 @@ module _ {told now : Option Answers} {before written : Option (List ℕ)} {held 
       }
 
   -- the sink failed in the reply to the statement before n
-  pub reached-ends : {after : Option (List ℕ)} {r : Reply} (n : ℕ) → n ≤ length ss → Reached (take n ss) told now before written held kept site refused r first → WritesFront written after (reply_text r) → EndsInReplies RunsWhereTold told before after held kept ss first
+  pub reached-ends : {after : Option (List ℕ)} {r : Reply} (n : ℕ) → n ≤ length ss → Reached (take n ss) told now before written held kept site refused r first → WritesFront written after (reply_text r)
+      → EndsInReplies RunsWhereTold told before after held kept ss first
   reached-ends {after = after} {r = r} n low p front =
       let replies : List Reply = p.replies ++ r ∷ [] in
       let all = p.extends (answers_from now) (come-from now) in

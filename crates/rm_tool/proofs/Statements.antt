@@ -74,14 +74,16 @@ module _ {held : Option Held} {kept : Option (List Record)} {v : View} {clock : 
     pub cut-step : Stops held kept v c answer held' kept' → IsCutShort held kept v clock s held' kept'
     cut-step stops = record { answer = answer; next = next; cut = λ m stands holds tell. let left = stops m stands holds tell in stopped c left.0 some left.1 left.2 }
 
-cut-by : (o : Option Command) (m n : Machine) (s : ℕ × List Token) (answer : ℕ) (reply : Reply) (held : Option Held) (kept : Option (List Record)) → command_at s.1 ≡ o → StepOf o m s.0 answer reply n → Holds held kept n → IsCut m s answer held kept
+cut-by : (o : Option Command) (m n : Machine) (s : ℕ × List Token) (answer : ℕ) (reply : Reply) (held : Option Held) (kept : Option (List Record))
+    → command_at s.1 ≡ o → StepOf o m s.0 answer reply n → Holds held kept n → IsCut m s answer held kept
 cut-by None m n s answer reply held kept none step holds = untouched (subst (Holds held kept) step.1 holds)
 cut-by (Some c) m n s answer reply held kept some step holds =
     let left = ends-here held kept c n holds in
     stopped c left.0 some (record { machine = n; one = inr (reply, step); left = left.1 }) left.2
 
 -- the statement was served, and no word of its reply was written
-pub cut-served : {held held' : Option Held} {kept kept' : Option (List Record)} {v v' : View} {clock clock' : Option Answers} {s : ℕ × List Token} {reply : Reply} → IsServed held kept v clock s reply held' kept' v' clock' → IsCutShort held kept v clock s held' kept'
+pub cut-served : {held held' : Option Held} {kept kept' : Option (List Record)} {v v' : View} {clock clock' : Option Answers} {s : ℕ × List Token} {reply : Reply}
+    → IsServed held kept v clock s reply held' kept' v' clock' → IsCutShort held kept v clock s held' kept'
 cut-served {held' = held'} {kept' = kept'} {s = s} {reply = reply} served =
     record {
       answer = served.answer;
