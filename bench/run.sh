@@ -21,3 +21,6 @@ sha256sum $files > /dev/null
 end=$(date +%s%N)
 micros=$(((end - start) / 20000))
 echo "sha256sum: $size bytes, $micros us, $((size / micros)) MB/s"
+
+# Scripts from end to end.
+../../bench/scripts.sh

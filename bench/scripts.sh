@@ -31,17 +31,6 @@ database() {
     echo 'CREATE DATABASE; CREATE DATAFILE BLOCKS 65536; CREATE DATAFILE BLOCKS 65536;'
 }
 
-# So many archived logs of one change each, and then so many WRITEs.
-writes() {
-    echo 'CREATE DATABASE; CREATE DATAFILE BLOCKS 1;'
-    for ((i = 0; i < $1; i++)); do
-        echo "WRITE DATAFILE 1 BLOCK 0 VALUE 'A'; ALTER SYSTEM SWITCH LOGFILE;"
-    done
-    for ((i = 0; i < $2; i++)); do
-        echo "WRITE DATAFILE 1 BLOCK 0 VALUE 'A';"
-    done
-}
-
 database > "$room/none"
 (database && echo 'BACKUP DATABASE;') > "$room/backup"
 (database && echo 'BACKUP DATABASE; SHUTDOWN; RECOVER DATABASE;') > "$room/recover"
@@ -52,14 +41,3 @@ recover=$(shortest run_script "$room/recover")
 digest=$(shortest sha256sum "$room/bytes")
 echo "backup: 131072 blocks in $((backup - none)) us, sha256sum of 9961636 bytes $digest us, $(((backup - none) * 100 / digest)) %"
 echo "recover: 131072 blocks in $((recover - backup)) us, sha256sum of 9961636 bytes $digest us, $(((recover - backup) * 100 / digest)) %"
-
-first=
-for logs in 0 1000 16000; do
-    writes $logs 0 > "$room/before"
-    writes $logs 2000 > "$room/after"
-    before=$(shortest run_script "$room/before")
-    after=$(shortest run_script "$room/after")
-    micros=$((after - before))
-    first=${first:-$micros}
-    echo "writes: 2000 WRITEs over $logs logs $micros us, beside over none $((micros * 100 / first)) %"
-done
