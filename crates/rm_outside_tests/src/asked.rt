@@ -75,14 +75,22 @@ fn bare_three<S: Alter>(connection: &mut Connection<S>, i: u32) -> Result<(), Er
     transaction.commit()
 }
 
-fn bare_times(rt: &HostRuntime, path: &str, times: u32) -> Result<(), Error> {
-    let mut connection = Connection::open(rt, path)?;
+fn bare_each<S: Alter>(
+    rt: &HostRuntime,
+    connection: &mut Connection<S>,
+    times: u32,
+) -> Result<(), Error> {
     connection.execute(TABLE, &[])?;
     for i in 0..times {
-        bare_three(&mut connection, i)?;
+        bare_three(connection, i)?;
         let _ = rt.println(format_args!("applied {i}"));
     }
     Ok(())
+}
+
+fn bare_times(rt: &HostRuntime, path: &str, times: u32) -> Result<(), Error> {
+    let mut connection = Connection::open(rt, path)?;
+    bare_each(rt, &mut connection, times)
 }
 
 fn bare(rt: &HostRuntime, path: &str, times: u32) -> io::Result<()> {

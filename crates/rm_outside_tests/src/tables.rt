@@ -4,7 +4,7 @@ use crate::records::{apply, clear, word_of};
 use rm_base::Policy;
 use rm_catalog::Keeper;
 use rm_keeper_sql::CatalogFile;
-use sqlite::{Connection, Error};
+use sqlite::{Alter, Connection, Error};
 use std::os::unix::fs::MetadataExt;
 use std::{fs, io};
 
@@ -67,11 +67,14 @@ const FILES: [(&str, &str); 7] = [
     ("a file that is missing", "place/new"),
 ];
 
+fn fill<S: Alter>(connection: &mut Connection<S>, table: &str, row: &str) -> Result<(), Error> {
+    connection.execute_batch(table)?;
+    connection.execute_batch(row)
+}
+
 fn make_table(rt: &HostRuntime, path: &str, table: &str, row: &str) -> Result<(), Error> {
     let mut connection = Connection::open(rt, path)?;
-    connection.execute_batch(table)?;
-    connection.execute_batch(row)?;
-    connection.close()
+    fill(&mut connection, table, row)
 }
 
 // Loads and applies, and tells what came of each call.
