@@ -1,7 +1,7 @@
 //! Runs each kernel beside a plain loop, makes and reads the bytes of a piece and of a log, makes a
-//! catalog's edits beside copies, plans made datafiles, reads scripts, and takes turns at a live database
-//! beside a plain lock: with no word it tells whether both gave the same, and with the word `large` it
-//! tells the times.
+//! catalog's edits beside copies, plans made datafiles, reads scripts, steps WRITEs over no record and over
+//! many, and takes turns at a live database beside a plain lock: with no word it tells whether both gave the
+//! same, and with the word `large` it tells the times.
 #![tactic(auto)]
 
 mod catalog;
@@ -14,6 +14,7 @@ mod made;
 mod plain;
 mod planning;
 mod script;
+mod writes;
 
 use format::Format;
 use kernel::Kernel;
@@ -38,6 +39,7 @@ fn main(rt: HostRuntime) -> io::Result<()> {
     catalog::run(&rt, large)?;
     planning::run(&rt, large)?;
     script::run(&rt, large)?;
+    writes::run(&rt, large)?;
     live::run(&rt, rt.alloc(), large)
 }
 

@@ -1,0 +1,132 @@
+//! WRITEs through a site over no record of an object and over many: what one costs does not depend on them.
+use crate::formats::micros_since;
+use rm_base::{Block, Failing, MemStore, Seq, StoreFailing};
+use rm_catalog::{Edit, Keeper, KeeperFail, Record};
+use rm_command::{Command, WriteForm};
+use rm_lang::is_command;
+use rm_machine::is_built;
+use rm_site::Site;
+use std::alloc::Global;
+use std::io;
+use std::time::Instant;
+
+/// Tells whether many WRITEs are done over no log and over many, and for `large` the times as well.
+pub fn run(rt: &HostRuntime, large: bool) -> io::Result<()> {
+    let (writes, logs) = if large { (20_000, 16_000) } else { (20, 10) };
+    let none = time_of(rt, 0, writes)?;
+    let many = time_of(rt, logs, writes)?;
+    if let (Some(first), Some(second)) = (none, many) {
+        if large {
+            let percent = second
+                .saturating_mul(100)
+                .checked_div(first)
+                .unwrap_or(0);
+            println!(rt;
+                "writes: {writes} WRITEs over no log {first} us, over {logs} logs {second} us, second / first {percent} %"
+            )?;
+        }
+        println!(rt; "writes: {writes} done over no log and over {logs}")
+    } else {
+        println!(rt; "writes: NOT DONE")
+    }
+}
+
+// How many microseconds so many WRITEs take over a database with so many archived logs; none where one is refused.
+fn time_of(rt: &HostRuntime, logs: u32, writes: u32) -> io::Result<Option<u128>> {
+    let Some(mut bench) = Bench::new(rt.alloc()) else {
+        return Ok(None);
+    };
+    let mut done = bench.begin();
+    for _ in 0..logs {
+        done = done && bench.archive();
+    }
+    let start = Instant::now(rt)?;
+    for _ in 0..writes {
+        done = done && bench.step(&WRITE);
+    }
+    let time = micros_since(rt, start)?;
+    Ok(if done { Some(time) } else { None })
+}
+
+const WRITE: Command = Command::Write(WriteForm {
+    thread: 1,
+    file: 1,
+    block: 0,
+    content: Block([65; 64]),
+});
+
+// A keeper that keeps nothing and tells nothing: what is measured is the statement.
+#[derive(Drop)]
+struct Forgetful {
+    alloc: Global,
+}
+
+impl Keeper for Forgetful {
+    ghost use Rattle.std.specs.Prelude.{None};
+
+    ghost kept = { λ _. None };
+    ghost faults = { λ _. 0 };
+
+    fn load(&mut self) -> Result<Seq<Record>, KeeperFail> {
+        Ok(Seq::new(self.alloc))
+    }
+
+    fn apply(&mut self, _: &[Edit]) -> Result<(), KeeperFail> {
+        Ok(())
+    }
+}
+
+#[derive(Drop)]
+struct Bench {
+    site: Site,
+    store: MemStore,
+    keeper: Forgetful,
+}
+
+impl Bench {
+    fn new(alloc: Global) -> Option<Bench> {
+        let never = StoreFailing {
+            gets: Failing::new(Vec::new(alloc)),
+            puts: Failing::new(Vec::new(alloc)),
+            removes: Failing::new(Vec::new(alloc)),
+            names: Failing::new(Vec::new(alloc)),
+        };
+        let mut store = MemStore::new(alloc, never);
+        let mut keeper = Forgetful { alloc };
+        let site = Site::open(alloc, &mut store, &mut keeper).ok()?;
+        Some(Bench {
+            site,
+            store,
+            keeper,
+        })
+    }
+
+    // A database with one datafile.
+    fn begin(&mut self) -> bool {
+        self.step(&Command::CreateDatabase {
+            dbid: 1,
+            threads: 1,
+            scn: 1,
+        }) && self.step(&Command::CreateDatafile { blocks: 1 })
+    }
+
+    // One more archived log, of one change.
+    fn archive(&mut self) -> bool {
+        self.step(&WRITE) && self.step(&Command::SwitchLogfile { thread: 1 })
+    }
+
+    // One statement; whether it is done.
+    fn step(&mut self, command: &Command) -> bool {
+        if !self.site.live() || !is_command(command) || !is_built(command) {
+            return false;
+        }
+        let moment = 1;
+        match self
+            .site
+            .step(&mut self.store, &mut self.keeper, command, moment)
+        {
+            Ok(reply) => !reply.refused,
+            Err(_) => false,
+        }
+    }
+}
