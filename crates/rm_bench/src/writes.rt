@@ -5,6 +5,7 @@ use rm_catalog::{Edit, Keeper, KeeperFail, Record};
 use rm_command::{Command, WriteForm};
 use rm_lang::is_command;
 use rm_machine::is_built;
+use rm_report::bytes_of;
 use rm_site::Site;
 use std::alloc::Global;
 use std::io;
@@ -17,18 +18,35 @@ pub fn run(rt: &HostRuntime, large: bool) -> io::Result<()> {
     let many = time_of(rt, logs, writes)?;
     if let (Some(first), Some(second)) = (none, many) {
         if large {
-            let percent = second
-                .saturating_mul(100)
-                .checked_div(first)
-                .unwrap_or(0);
+            let percent = second.saturating_mul(100).checked_div(first).unwrap_or(0);
             println!(rt;
                 "writes: {writes} WRITEs over no log {first} us, over {logs} logs {second} us, second / first {percent} %"
             )?;
         }
-        println!(rt; "writes: {writes} done over no log and over {logs}")
+        println!(rt; "writes: {writes} done over no log and over {logs}")?;
     } else {
-        println!(rt; "writes: NOT DONE")
+        println!(rt; "writes: NOT DONE")?;
     }
+    let full = if fills_a_log(rt.alloc()) {
+        "65536 changes fill a log"
+    } else {
+        "A FULL LOG IS NOT TOLD"
+    };
+    println!(rt; "writes: {full}")
+}
+
+// Whether a log takes 65,536 changes and no more, and after a switch it takes more.
+fn fills_a_log(alloc: Global) -> bool {
+    let Some(mut bench) = Bench::new(alloc) else {
+        return false;
+    };
+    let mut done = bench.begin();
+    for _ in 0..65_536u32 {
+        done = done && bench.step(&WRITE);
+    }
+    done && bench.says(&WRITE, b"RM-11: limit log records 65536\n")
+        && bench.says(&SWITCH, b"log 1 thread 1 sequence 1 first 1 next 65538\n")
+        && bench.says(&WRITE, b"scn 65538\n")
 }
 
 // How many microseconds so many WRITEs take over a database with so many archived logs; none where one is refused.
@@ -55,6 +73,8 @@ const WRITE: Command = Command::Write(WriteForm {
     content: Block([65; 64]),
 });
 
+const SWITCH: Command = Command::SwitchLogfile { thread: 1 };
+
 // A keeper that keeps nothing and tells nothing: what is measured is the statement.
 #[derive(Drop)]
 struct Forgetful {
@@ -65,6 +85,7 @@ impl Keeper for Forgetful {
     ghost use Rattle.std.specs.Prelude.{None};
 
     ghost kept = { λ _. None };
+
     ghost faults = { λ _. 0 };
 
     fn load(&mut self) -> Result<Seq<Record>, KeeperFail> {
@@ -112,7 +133,23 @@ impl Bench {
 
     // One more archived log, of one change.
     fn archive(&mut self) -> bool {
-        self.step(&WRITE) && self.step(&Command::SwitchLogfile { thread: 1 })
+        self.step(&WRITE) && self.step(&SWITCH)
+    }
+
+    // One statement; whether it is answered so.
+    fn says(&mut self, command: &Command, text: &[u8]) -> bool {
+        if !self.site.live() || !is_command(command) || !is_built(command) {
+            return false;
+        }
+        let alloc = self.keeper.alloc;
+        let moment = 1;
+        match self
+            .site
+            .step(&mut self.store, &mut self.keeper, command, moment)
+        {
+            Ok(reply) => bytes_of(alloc, &reply).is_ok_and(|bytes| bytes.as_slice() == text),
+            Err(_) => false,
+        }
     }
 
     // One statement; whether it is done.
