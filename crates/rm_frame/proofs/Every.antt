@@ -1,14 +1,17 @@
 -- The laws of every statement. One that is not in the machine yet comes to nothing.
 use Rattle.rm_command.specs.declared.command.Command.{Command}
-use Rattle.rm_command.specs.declared.command.Command.TheVariants.{ArchiveLogCurrent, Backup, CreateDatabase, CreateDatafile, Dump, ListIncarnation, Mount, OpenPlain, OpenResetlogs, Recover, RecoverTest, ResetDatabase, SwitchLogfile, Write}
+use Rattle.rm_command.specs.declared.command.Command.TheVariants.{ArchiveLogCurrent, Backup, CreateDatabase, CreateDatafile, Cut, Damage, Dump, ListIncarnation, LoseDatafile, LoseLog, Mount, OpenPlain, OpenResetlogs, Recover, RecoverTest, Remove, Rename, ResetDatabase, SwitchLogfile, Write}
 use Rattle.rm_machine.specs.Laws.{LeadsOn, TellsOn}
 use Rattle.rm_machine.proofs.AddingDatafile.{create-on, create-stays}
 use Rattle.rm_machine.proofs.ArchivingAll.{all-on, all-stays}
 use Rattle.rm_machine.proofs.BackingUp.{backup-on, backup-stays}
 use Rattle.rm_machine.proofs.Branching.{resets-on, resets-stays}
 use Rattle.rm_machine.proofs.Choosing.{choose-on, choose-stays}
+use Rattle.rm_machine.proofs.Drilling.{cut-on, cut-stays, damage-on, damage-stays, remove-on, remove-stays, rename-on, rename-stays}
 use Rattle.rm_machine.proofs.Dumping.{dump-never}
 use Rattle.rm_machine.proofs.Leading.{StaysBy, TellsOnBy, leads, tells}
+use Rattle.rm_machine.proofs.Losing.{lose-on, lose-stays}
+use Rattle.rm_machine.proofs.LosingLog.{lose_log-on, lose_log-stays}
 use Rattle.rm_machine.proofs.Mounting.{mount-on, mount-stays}
 use Rattle.rm_machine.proofs.Opening.{open-on, open-stays}
 use Rattle.rm_machine.proofs.Recovered.{recover-on, recover-stays, test-never, test-tells}
@@ -18,8 +21,9 @@ use Rattle.rm_machine.proofs.Writing.{write-on, write-stays}
 use Rattle.rm_frame.specs.Loose.{StaysLoose}
 use Rattle.rm_frame.proofs.Founding.{never-again, never-loose}
 use Rattle.rm_frame.proofs.LooseBackup.{backup-loose}
+use Rattle.rm_frame.proofs.LooseDrills.{cut-loose, damage-loose, remove-loose, rename-loose}
 use Rattle.rm_frame.proofs.LooseNew.{archive-loose, branch-loose, switch-loose}
-use Rattle.rm_frame.proofs.LooseQuiet.{choose-loose, create-loose, dump-loose, list-loose, list-never, mount-loose, open-loose, recover-loose, test-loose, write-loose}
+use Rattle.rm_frame.proofs.LooseQuiet.{choose-loose, create-loose, dump-loose, list-loose, list-never, lose-loose, lose_log-loose, mount-loose, open-loose, recover-loose, test-loose, write-loose}
 
 pub every-leads : (c : Command) → LeadsOn c
 every-leads (CreateDatabase dbid threads scn) = never-again dbid threads scn
@@ -36,6 +40,12 @@ every-leads (Recover until) = leads (Recover until) (recover-on until)
 every-leads (RecoverTest until inc) = leads (RecoverTest until inc) (tells-on (RecoverTest until inc) (test-never until inc))
 every-leads ListIncarnation = leads ListIncarnation (tells-on ListIncarnation list-never)
 every-leads (Dump file block) = leads (Dump file block) (tells-on (Dump file block) (dump-never file block))
+every-leads (LoseDatafile file) = leads (LoseDatafile file) (lose-on file)
+every-leads (LoseLog thread) = leads (LoseLog thread) (lose_log-on thread)
+every-leads (Remove name) = leads (Remove name) (remove-on name)
+every-leads (Damage name at) = leads (Damage name at) (damage-on name at)
+every-leads (Cut name to) = leads (Cut name to) (cut-on name to)
+every-leads (Rename old new) = leads (Rename old new) (rename-on old new)
 every-leads c = λ m s moment lines effect t after well is sound tell at comes leaves. absurd comes
 
 every-tells-by : (c : Command) → TellsOnBy c
@@ -60,6 +70,12 @@ every-loose (Recover until) = recover-loose until
 every-loose (RecoverTest until inc) = test-loose until inc
 every-loose ListIncarnation = list-loose
 every-loose (Dump file block) = dump-loose file block
+every-loose (LoseDatafile file) = lose-loose file
+every-loose (LoseLog thread) = lose_log-loose thread
+every-loose (Remove name) = remove-loose name
+every-loose (Damage name at) = damage-loose name at
+every-loose (Cut name to) = cut-loose name to
+every-loose (Rename old new) = rename-loose old new
 every-loose c = λ s held lines e t sound comes. absurd comes
 
 pub every-stays : (c : Command) → StaysBy c
@@ -77,4 +93,10 @@ every-stays (Recover until) = recover-stays until
 every-stays (RecoverTest until inc) = tells-stays (RecoverTest until inc) (test-never until inc)
 every-stays ListIncarnation = tells-stays ListIncarnation list-never
 every-stays (Dump file block) = tells-stays (Dump file block) (dump-never file block)
+every-stays (LoseDatafile file) = lose-stays file
+every-stays (LoseLog thread) = lose_log-stays thread
+every-stays (Remove name) = remove-stays name
+every-stays (Damage name at) = damage-stays name at
+every-stays (Cut name to) = cut-stays name to
+every-stays (Rename old new) = rename-stays old new
 every-stays c = λ s objects said e t well sound unsaved none does. absurd does

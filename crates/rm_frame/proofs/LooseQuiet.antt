@@ -2,11 +2,13 @@
 use Rattle.std.proofs.Common.{◌≡◌, ℕ, List, [], Option, Some, None, inl, inr}
 use Rattle.rm_base.specs.Store.{Held}
 use Rattle.rm_command.specs.declared.command.Command.{Command}
-use Rattle.rm_command.specs.declared.command.Command.TheVariants.{CreateDatafile, Dump, ListIncarnation, Mount, OpenPlain, Recover, RecoverTest, ResetDatabase, Write}
+use Rattle.rm_command.specs.declared.command.Command.TheVariants.{CreateDatafile, Dump, ListIncarnation, LoseDatafile, LoseLog, Mount, OpenPlain, Recover, RecoverTest, ResetDatabase, Write}
 use Rattle.rm_command.specs.declared.command.Until.{Until}
 use Rattle.rm_command.specs.declared.command.WriteForm.{WriteForm}
 use Rattle.rm_report.specs.declared.line.Line.{Line}
 use Rattle.rm_machine.specs.Effect.{Effect, done, no_effect}
+use Rattle.rm_machine.specs.LoseDatafile.{without_file}
+use Rattle.rm_machine.specs.LoseLog.{without_log}
 use Rattle.rm_machine.specs.Mount.{as_mounted}
 use Rattle.rm_machine.specs.Open.{opened}
 use Rattle.rm_machine.specs.ResetDatabase.{at_incarnation}
@@ -42,6 +44,13 @@ choose-loose i s held lines e t sound comes = quiet-loose s (ResetDatabase i) li
 pub create-loose : (blocks : ℕ) → StaysLoose (CreateDatafile blocks)
 create-loose blocks s held lines e t sound comes =
     quiet-loose s (CreateDatafile blocks) lines _ e (with_datafile s blocks) t (done-by (refusal_of s (CreateDatafile blocks)) s held (CreateDatafile blocks) lines e t comes).1
+
+pub lose-loose : (f : ℕ) → StaysLoose (LoseDatafile f)
+lose-loose f s held lines e t sound comes = quiet-loose s (LoseDatafile f) lines _ e (without_file s f) t (done-by (refusal_of s (LoseDatafile f)) s held (LoseDatafile f) lines e t comes).1
+
+pub lose_log-loose : (thread : ℕ) → StaysLoose (LoseLog thread)
+lose_log-loose thread s held lines e t sound comes =
+    quiet-loose s (LoseLog thread) lines _ e (without_log (as_mounted s) thread) t (done-by (refusal_of s (LoseLog thread)) s held (LoseLog thread) lines e t comes).1
 
 recover-by : (o : Option ℕ) (until : Option Until) (s : State) (held : Held) (lines : List Line) (e : Effect) (t : State) → RecoversTo s held o (done lines e t) → IsLoose (Some s) (Recover until) e t
 recover-by None until s held lines e t does = absurd does

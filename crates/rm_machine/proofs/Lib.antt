@@ -12,6 +12,7 @@ pub mod Contents
 pub mod CountedLogs
 pub mod Creating
 pub mod Current
+pub mod Drilling
 pub mod Dumping
 pub mod Fitting
 pub mod FreshLogs
@@ -24,6 +25,8 @@ pub mod Kept
 pub mod LastMarks
 pub mod Later
 pub mod Leading
+pub mod Losing
+pub mod LosingLog
 pub mod Losses
 pub mod Mounting
 pub mod Numbers

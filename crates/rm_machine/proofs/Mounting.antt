@@ -157,7 +157,7 @@ pub mount-on : LeadsOnBy Mount
 mount-on s h objects made touched said e t after well stands tell none does effect =
     quiet-on (as_mounted s) h objects made touched _ said e t after does effect (stands-as_mounted s h objects made touched stands)
 
-none-mounted : (s : State) → s.catalog.saved ≡ None → (as_mounted s).catalog.saved ≡ None
+pub none-mounted : (s : State) → s.catalog.saved ≡ None → (as_mounted s).catalog.saved ≡ None
 none-mounted s none = mode-either (λ q. q.catalog.saved ≡ None) s s.instance.is_open (λ opened. none) none
 
 pub mount-stays : StaysBy Mount

@@ -1,7 +1,7 @@
 -- The statements that are built.
 use Rattle.std.specs.Prelude.{Bool, true, false}
 use Rattle.rm_command.specs.declared.command.Command.{Command}
-use Rattle.rm_command.specs.declared.command.Command.TheVariants.{CreateDatabase, CreateDatafile, Write, SwitchLogfile, ArchiveLogCurrent, Mount, OpenPlain, OpenResetlogs, ResetDatabase, Recover, RecoverTest, Backup, ListIncarnation, Dump}
+use Rattle.rm_command.specs.declared.command.Command.TheVariants.{CreateDatabase, CreateDatafile, Write, SwitchLogfile, ArchiveLogCurrent, Mount, OpenPlain, OpenResetlogs, ResetDatabase, Recover, RecoverTest, Backup, ListIncarnation, Dump, LoseDatafile, LoseLog, Remove, Damage, Cut, Rename}
 use Rattle.rm_machine.specs.Backup.{is_built_backup}
 use Rattle.rm_machine.specs.Recovery.{is_built_until}
 
@@ -21,4 +21,10 @@ is_built (RecoverTest until inc) = is_built_until until
 is_built (Backup b) = is_built_backup b
 is_built ListIncarnation = true
 is_built (Dump file block) = true
+is_built (LoseDatafile file) = true
+is_built (LoseLog thread) = true
+is_built (Remove name) = true
+is_built (Damage name at) = true
+is_built (Cut name to) = true
+is_built (Rename old new) = true
 is_built _ = false

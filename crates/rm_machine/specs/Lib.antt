@@ -3,11 +3,14 @@ pub mod Backup
 pub mod Built
 pub mod CreateDatabase
 pub mod CreateDatafile
+pub mod Drills
 pub mod Dump
 pub mod Effect
 pub mod Hands
 pub mod Laws
 pub mod ListIncarnation
+pub mod LoseDatafile
+pub mod LoseLog
 pub mod Machine
 pub mod Marks
 pub mod Mount

@@ -5,7 +5,7 @@ use Rattle.rm_base.specs.declared.block.Change.{Change}
 use Rattle.rm_base.specs.declared.refusal.Refusal.{Refusal}
 use Rattle.rm_base.specs.declared.refusal.Refusal.TheVariants.{Rm02, Rm03}
 use Rattle.rm_command.specs.declared.command.Command.{Command}
-use Rattle.rm_command.specs.declared.command.Command.TheVariants.{ArchiveLogCurrent, Backup, CreateDatabase, CreateDatafile, Dump, ListIncarnation, Mount, OpenPlain, OpenResetlogs, Recover, RecoverTest, ResetDatabase, SwitchLogfile, Write}
+use Rattle.rm_command.specs.declared.command.Command.TheVariants.{ArchiveLogCurrent, Backup, CreateDatabase, CreateDatafile, Cut, Damage, Dump, ListIncarnation, LoseDatafile, LoseLog, Mount, OpenPlain, OpenResetlogs, Recover, RecoverTest, Remove, Rename, ResetDatabase, SwitchLogfile, Write}
 use Rattle.rm_lang.specs.IsCommand.{is_command}
 use Rattle.rm_report.specs.Reply as reply
 use Rattle.rm_report.specs.declared.line.Reply.{Reply}
@@ -13,9 +13,12 @@ use Rattle.rm_machine.specs.Archive.{archive_all_refusal, IsArchiveOutcome}
 use Rattle.rm_machine.specs.Backup.{backup_refusal, IsBackupOutcome}
 use Rattle.rm_machine.specs.CreateDatabase.{IsCreateOutcome}
 use Rattle.rm_machine.specs.CreateDatafile.{datafile_refusal, IsDatafileOutcome}
+use Rattle.rm_machine.specs.Drills.{IsCutOutcome, IsDamageOutcome, IsRemoveOutcome, IsRenameOutcome}
 use Rattle.rm_machine.specs.Dump.{dump_refusal, IsDumpOutcome}
 use Rattle.rm_machine.specs.Effect.{Effect, LeavesObjects, Outcome, refused, told, done}
 use Rattle.rm_machine.specs.ListIncarnation.{IsListIncarnationOutcome}
+use Rattle.rm_machine.specs.LoseDatafile.{lose_refusal, IsLoseOutcome}
+use Rattle.rm_machine.specs.LoseLog.{lose_log_refusal, IsLoseLogOutcome}
 use Rattle.rm_machine.specs.Machine.{Machine, DigestsTell}
 use Rattle.rm_machine.specs.Marks.{ids_refusal}
 use Rattle.rm_machine.specs.Mount.{IsMountOutcome}
@@ -53,6 +56,12 @@ refusal_of s OpenResetlogs = resetlogs_refusal s
 refusal_of s (Recover until) = recover_refusal s until
 refusal_of s (RecoverTest until inc) = test_refusal s until inc
 refusal_of s (ResetDatabase i) = reset_refusal s i
+refusal_of s (LoseDatafile f) = lose_refusal s f
+refusal_of s (LoseLog t) = lose_log_refusal s t
+refusal_of s (Remove name) = ids_refusal s
+refusal_of s (Damage name at) = ids_refusal s
+refusal_of s (Cut name to) = ids_refusal s
+refusal_of s (Rename old new) = ids_refusal s
 refusal_of s _ = None
 
 -- what it comes to otherwise, by what the store holds
@@ -70,6 +79,12 @@ IsDone s held (Recover until) o = IsRecoverOutcome s held until o
 IsDone s held (RecoverTest until inc) o = IsTestOutcome s held until inc o
 IsDone s held (ResetDatabase i) o = IsResetOutcome s i o
 IsDone s held ListIncarnation o = IsListIncarnationOutcome s o
+IsDone s held (LoseDatafile f) o = IsLoseOutcome s f o
+IsDone s held (LoseLog t) o = IsLoseLogOutcome s t o
+IsDone s held (Remove name) o = IsRemoveOutcome s held name o
+IsDone s held (Damage name at) o = IsDamageOutcome s held name at o
+IsDone s held (Cut name to) o = IsCutOutcome s held name to o
+IsDone s held (Rename old new) o = IsRenameOutcome s held old new o
 IsDone s held _ o = ⊥
 
 abbrev pub IsOutcomeBy : Option Refusal → State → Held → Command → Outcome → Type 0
@@ -86,8 +101,12 @@ abbrev pub IsOutcomeWithout : Command → ℕ → Outcome → Type 0
 IsOutcomeWithout (CreateDatabase dbid threads scn) moment o = IsCreateOutcome dbid threads scn moment o
 IsOutcomeWithout _ moment o = o ≡ refused Rm02
 
--- the names that a HOST statement gives
+-- the names of objects that a HOST statement gives
 abbrev pub names_in : Command → List (List ℕ)
+names_in (Remove name) = name ∷ []
+names_in (Damage name at) = name ∷ []
+names_in (Cut name to) = name ∷ []
+names_in (Rename old new) = old ∷ new ∷ []
 names_in _ = []
 
 -- what the history says beyond that of an outcome: what a recovery brings back or tells is what the history made

@@ -40,6 +40,12 @@ pub fn is_built(command: &Command) -> bool
         Command::ResetDatabase { .. } => true,
         Command::ListIncarnation => true,
         Command::Dump { .. } => true,
+        Command::LoseDatafile { .. } => true,
+        Command::LoseLog { .. } => true,
+        Command::Remove { .. } => true,
+        Command::Damage { .. } => true,
+        Command::Cut { .. } => true,
+        Command::Rename { .. } => true,
         _ => false,
     }
 }

@@ -20,7 +20,7 @@ ghost use Rattle.rm_machine.specs.Recovery.{FindsGap, IsAtHand, TellsAll};
 ghost use Rattle.rm_machine.specs.Sound.{IsSound};
 ghost use Rattle.rm_machine.specs.declared.state.State.{State};
 ghost use Rattle.rm_machine.specs.State.{at_moment, ledger, world};
-ghost use Rattle.rm_command.specs.declared.command.Command.TheVariants.{ArchiveLogCurrent, Backup, CreateDatafile, Dump, ListIncarnation, Mount, OpenPlain, OpenResetlogs, Recover, RecoverTest, ResetDatabase, SwitchLogfile, Write};
+ghost use Rattle.rm_command.specs.declared.command.Command.TheVariants.{ArchiveLogCurrent, Backup, CreateDatafile, Cut, Damage, Dump, ListIncarnation, LoseDatafile, LoseLog, Mount, OpenPlain, OpenResetlogs, Recover, RecoverTest, Remove, Rename, ResetDatabase, SwitchLogfile, Write};
 
 /// There are sound machines: that of a new database is one.
 pub fn a_new_database_is_sound()
@@ -110,6 +110,31 @@ pub fn a_test_of_a_recovery_tells()
     ensures tells { (until : Option Until) (inc : Option ℕ) → TellsOn (RecoverTest until inc) }
     ensures leads { (until : Option Until) (inc : Option ℕ) → LeadsOn (RecoverTest until inc) }
     ensures stays { (until : Option Until) (inc : Option ℕ) → StaysSound (RecoverTest until inc) }
+{}
+
+/// HOST LOSE DATAFILE, likewise: what stood in place is lost, and the rest stays as it is.
+pub fn a_lost_datafile_leads_on()
+    ensures leads { (file : ℕ) → LeadsOn (LoseDatafile file) }
+    ensures stays { (file : ℕ) → StaysSound (LoseDatafile file) }
+{}
+
+/// HOST LOSE LOG, likewise: an open database is mounted, and the log of the thread is lost.
+pub fn a_lost_log_leads_on()
+    ensures leads { (thread : ℕ) → LeadsOn (LoseLog thread) }
+    ensures stays { (thread : ℕ) → StaysSound (LoseLog thread) }
+{}
+
+/// HOST REMOVE, DAMAGE, CUT and RENAME, likewise: no record and nothing in place changes, the names count as
+/// touched, and each other object stays.
+pub fn a_drill_of_objects_leads_on()
+    ensures removes { (name : List ℕ) → LeadsOn (Remove name) }
+    ensures damages { (name : List ℕ) (at : ℕ) → LeadsOn (Damage name at) }
+    ensures cuts { (name : List ℕ) (to : ℕ) → LeadsOn (Cut name to) }
+    ensures renames { (old new : List ℕ) → LeadsOn (Rename old new) }
+    ensures remove_stays { (name : List ℕ) → StaysSound (Remove name) }
+    ensures damage_stays { (name : List ℕ) (at : ℕ) → StaysSound (Damage name at) }
+    ensures cut_stays { (name : List ℕ) (to : ℕ) → StaysSound (Cut name to) }
+    ensures rename_stays { (old new : List ℕ) → StaysSound (Rename old new) }
 {}
 
 /// Behind the gap with which a recovery is refused stand two histories, whichever history agrees with what is

@@ -11,6 +11,6 @@ mod resetting;
 
 pub use branching::{open_resetlogs, resetlogs_refusal};
 pub use listing::list_incarnation;
-pub use mounting::mount;
+pub use mounting::{become_mounted, mount};
 pub use opening::{open, open_refusal};
 pub use resetting::{reset_database, reset_refusal};

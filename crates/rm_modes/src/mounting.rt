@@ -44,6 +44,16 @@ fn mount_open(alloc: Global, state: &mut State)
     state.instance.is_open = false;
 }
 
+/// Mounts an open database: what is in place stands at `now`. A mounted one stays as it is. It takes no memory.
+pub fn become_mounted(alloc: Global, state: &mut State)
+    requires sound { IsSound state.old }
+    ensures value { state.new ≡ as_mounted state.old }
+{
+    if state.instance.is_open {
+        mount_open(alloc, state);
+    }
+}
+
 /// SHUTDOWN and STARTUP MOUNT: an open database is mounted, and what is in place stands at `now`; a mounted one
 /// stays as it is. The catalog stays. An error is want of memory; then nothing changes.
 pub fn mount(alloc: Global, state: &mut State) -> Result<Handed, NoMemory>
@@ -53,8 +63,6 @@ pub fn mount(alloc: Global, state: &mut State) -> Result<Handed, NoMemory>
     ensures catalog { OnOk result (state.new.catalog ≡ state.old.catalog) }
 {
     let handed = of_line(alloc, Line::Mounted)?;
-    if state.instance.is_open {
-        mount_open(alloc, state);
-    }
+    become_mounted(alloc, state);
     Ok(handed)
 }

@@ -5,7 +5,7 @@ use Rattle.std.proofs.lemmas.List.Elements.{All-append, All-cons, All-nil}
 use Rattle.rm_base.specs.Store.{Held}
 use Rattle.rm_command.specs.declared.command.BackupForm.{BackupForm}
 use Rattle.rm_command.specs.declared.command.Command.{Command}
-use Rattle.rm_command.specs.declared.command.Command.TheVariants.{ArchiveLogCurrent, Backup, CreateDatabase, CreateDatafile, Dump, ListIncarnation, Mount, OpenPlain, OpenResetlogs, Recover, RecoverTest, ResetDatabase, SwitchLogfile, Write}
+use Rattle.rm_command.specs.declared.command.Command.TheVariants.{ArchiveLogCurrent, Backup, CreateDatabase, CreateDatafile, Cut, Damage, Dump, ListIncarnation, LoseDatafile, LoseLog, Mount, OpenPlain, OpenResetlogs, Recover, RecoverTest, Remove, Rename, ResetDatabase, SwitchLogfile, Write}
 use Rattle.rm_history.specs.declared.tree.Incarnation.{Incarnation}
 use Rattle.rm_report.specs.Reply.{HasDate, LineHasDate}
 use Rattle.rm_report.specs.declared.line.Line.{Line}
@@ -93,6 +93,12 @@ every-dated (Recover until) s objects o change is = absurd (cc)
 every-dated (RecoverTest until inc) s objects o change is = absurd (cc)
 every-dated ListIncarnation s objects o change is = absurd (cc)
 every-dated (Dump file block) s objects o change is = absurd (cc)
+every-dated (LoseDatafile file) s objects o change is = by o _ is (one-dated _ tt)
+every-dated (LoseLog thread) s objects o change is = by o _ is (one-dated _ tt)
+every-dated (Remove name) s objects o change is = absurd (cc)
+every-dated (Damage name at) s objects o change is = absurd (cc)
+every-dated (Cut name to) s objects o change is = absurd (cc)
+every-dated (Rename old new) s objects o change is = absurd (cc)
 every-dated c s objects o change is = absurd is
 
 -- what a change says

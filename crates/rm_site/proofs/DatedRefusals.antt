@@ -5,7 +5,7 @@ use Rattle.std.specs.Option.{option_and_then, option_map, option_map_or}
 use Rattle.rm_base.specs.declared.refusal.Refusal.{Refusal}
 use Rattle.rm_command.specs.declared.command.BackupForm.{BackupForm}
 use Rattle.rm_command.specs.declared.command.Command.{Command}
-use Rattle.rm_command.specs.declared.command.Command.TheVariants.{ArchiveLogCurrent, Backup, CreateDatabase, CreateDatafile, Dump, Mount, OpenPlain, OpenResetlogs, Recover, RecoverTest, ResetDatabase, SwitchLogfile, Write}
+use Rattle.rm_command.specs.declared.command.Command.TheVariants.{ArchiveLogCurrent, Backup, CreateDatabase, CreateDatafile, Cut, Damage, Dump, LoseDatafile, LoseLog, Mount, OpenPlain, OpenResetlogs, Recover, RecoverTest, Remove, Rename, ResetDatabase, SwitchLogfile, Write}
 use Rattle.rm_command.specs.declared.command.Until.{Until}
 use Rattle.rm_command.specs.declared.command.WriteForm.{WriteForm}
 use Rattle.rm_history.specs.declared.world.Datafile.{Datafile}
@@ -14,6 +14,8 @@ use Rattle.rm_machine.specs.Archive.{archive_all_refusal, archiving_refusal}
 use Rattle.rm_machine.specs.Backup.{backup_refusal}
 use Rattle.rm_machine.specs.CreateDatafile.{datafile_refusal}
 use Rattle.rm_machine.specs.Dump.{dump_refusal}
+use Rattle.rm_machine.specs.LoseDatafile.{lose_refusal}
+use Rattle.rm_machine.specs.LoseLog.{lose_log_refusal}
 use Rattle.rm_machine.specs.Marks.{ids_refusal}
 use Rattle.rm_machine.specs.Open.{open_refusal}
 use Rattle.rm_machine.specs.OpenResetlogs.{resetlogs_refusal}
@@ -104,6 +106,12 @@ recover-dated s until = search (unless-dated, then-dated, target-dated)
 test-dated : (s : State) (until : Option Until) (inc : Option ℕ) → IsDated (test_refusal s until inc)
 test-dated s until inc = search (unless-dated, then-dated, never)
 
+lose-dated : (s : State) (f : ℕ) → IsDated (lose_refusal s f)
+lose-dated s f = search (unless-dated, ids-dated)
+
+lose_log-dated : (s : State) (t : ℕ) → IsDated (lose_log_refusal s t)
+lose_log-dated s t = search (unless-dated, ids-dated)
+
 every-refusal-dated : (s : State) (c : Command) → IsDated (refusal_of s c)
 every-refusal-dated s (CreateDatabase dbid threads scn) = once _ tt
 every-refusal-dated s (CreateDatafile blocks) = datafile-dated s blocks
@@ -118,6 +126,12 @@ every-refusal-dated s OpenResetlogs = resetlogs-dated s
 every-refusal-dated s (Recover until) = recover-dated s until
 every-refusal-dated s (RecoverTest until inc) = test-dated s until inc
 every-refusal-dated s (ResetDatabase i) = reset-dated s i
+every-refusal-dated s (LoseDatafile f) = lose-dated s f
+every-refusal-dated s (LoseLog t) = lose_log-dated s t
+every-refusal-dated s (Remove name) = ids-dated s
+every-refusal-dated s (Damage name at) = ids-dated s
+every-refusal-dated s (Cut name to) = ids-dated s
+every-refusal-dated s (Rename old new) = ids-dated s
 every-refusal-dated s _ = never
 
 pub refusal-dated : (s : State) (c : Command) (r : Refusal) → Some r ≡ refusal_of s c → HasDate r

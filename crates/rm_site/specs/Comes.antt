@@ -3,7 +3,7 @@ use Rattle.std.specs.Prelude.{◌≡◌, Bool, true, false, Option, Some, None, 
 use Rattle.rm_base.specs.Store.{Held}
 use Rattle.rm_base.specs.declared.refusal.Refusal.{Refusal}
 use Rattle.rm_command.specs.declared.command.Command.{Command}
-use Rattle.rm_command.specs.declared.command.Command.TheVariants.{Dump, ListIncarnation, Recover, RecoverTest}
+use Rattle.rm_command.specs.declared.command.Command.TheVariants.{Cut, Damage, Dump, ListIncarnation, Recover, RecoverTest, Remove, Rename}
 use Rattle.rm_report.specs.Reply.{LineHasDate, HasDate}
 use Rattle.rm_machine.specs.Effect.{refused, told}
 use Rattle.rm_machine.specs.Hands.{Hands}
@@ -34,12 +34,24 @@ AnswerHasDates (Refused r) = HasDate r
 AnswerHasDates (Told lines) = All LineHasDate lines
 AnswerHasDates (Done x) = All LineHasDate x.lines
 
+-- the statement changes an object, and looks at what the store holds
+abbrev pub is_drill : Command → Bool
+is_drill (Remove name) = true
+is_drill (Damage name at) = true
+is_drill (Cut name to) = true
+is_drill (Rename old new) = true
+is_drill _ = false
+
 -- the statement changes the state, and looks at nothing else
 abbrev pub is_change : Command → Bool
 is_change (Recover until) = false
 is_change (RecoverTest until inc) = false
 is_change ListIncarnation = false
 is_change (Dump file block) = false
+is_change (Remove name) = false
+is_change (Damage name at) = false
+is_change (Cut name to) = false
+is_change (Rename old new) = false
 is_change _ = true
 
 -- what is known of an answer

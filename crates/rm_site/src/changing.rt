@@ -13,6 +13,7 @@ use rm_backing::backup;
 use rm_base::NoMemory;
 use rm_catalog::Edit;
 use rm_command::Command;
+use rm_host::{lose_datafile, lose_log};
 use rm_machine::{Handed, State};
 use rm_modes::{mount, open, open_resetlogs, reset_database};
 use rm_writing::{create_datafile, write};
@@ -44,6 +45,8 @@ pub(crate) fn change(
         Command::OpenPlain => open(alloc, state),
         Command::OpenResetlogs => open_resetlogs(alloc, state, edits),
         Command::ResetDatabase { inc } => reset_database(alloc, state, edits, *inc),
+        Command::LoseDatafile { file } => lose_datafile(alloc, state, *file),
+        Command::LoseLog { thread } => lose_log(alloc, state, *thread),
         _ => unreachable!(),
     }
 }

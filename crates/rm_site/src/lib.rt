@@ -3,6 +3,7 @@
 
 mod changing;
 mod create;
+mod drilling;
 mod moment;
 pub mod open;
 mod recovering;

@@ -7,6 +7,7 @@ use rm_archiving::{archive_all_refusal, switch_refusal};
 use rm_backing::backup_refusal;
 use rm_base::Refusal;
 use rm_command::Command;
+use rm_host::{lose_log_refusal, lose_refusal};
 use rm_machine::State;
 use rm_machine::room::ids_refusal;
 use rm_modes::{open_refusal, reset_refusal, resetlogs_refusal};
@@ -32,6 +33,12 @@ pub(crate) fn refusal_of(state: &State, command: &Command) -> Option<Refusal>
         Command::ResetDatabase { inc } => reset_refusal(state, *inc),
         Command::Recover { until } => recover_refusal(state, until),
         Command::RecoverTest { until, inc } => test_refusal(state, until, *inc),
+        Command::LoseDatafile { file } => lose_refusal(state, *file),
+        Command::LoseLog { thread } => lose_log_refusal(state, *thread),
+        Command::Remove { .. } => ids_refusal(state),
+        Command::Damage { .. } => ids_refusal(state),
+        Command::Cut { .. } => ids_refusal(state),
+        Command::Rename { .. } => ids_refusal(state),
         _ => None,
     }
 }

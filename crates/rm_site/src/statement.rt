@@ -9,6 +9,7 @@ ghost use Rattle.rm_machine.specs.Step.{IsStatement, refusal_of};
 ghost use Rattle.rm_site.specs.Comes.{AnswerHasDates, ComesTo, IsAnswer, IsRefusedBy};
 
 use crate::changing::change;
+use crate::drilling::drill;
 use crate::recovering::{bring_back, test};
 use crate::refusing::refusal_of;
 use rm_base::{Refusal, Seq, Store};
@@ -57,6 +58,10 @@ fn accepted<D: Store>(
         Command::RecoverTest { until, inc } => test(alloc, state, store, until, *inc),
         Command::ListIncarnation => Ok(Answer::Told(list_incarnation(alloc, state)?)),
         Command::Dump { file, block } => Ok(Answer::Told(dump(alloc, state, *file, *block)?)),
+        Command::Remove { .. } => drill(alloc, state, store, command),
+        Command::Damage { .. } => drill(alloc, state, store, command),
+        Command::Cut { .. } => drill(alloc, state, store, command),
+        Command::Rename { .. } => drill(alloc, state, store, command),
         _ => Ok(Answer::Done(change(alloc, state, edits, command)?)),
     }
 }

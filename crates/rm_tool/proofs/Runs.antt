@@ -182,7 +182,7 @@ front-behind before now after xs ys h (n, within, k) = (
 -- From one point of a session on
 module _ {told now : Option Answers} {before written : Option (List ℕ)} {held : Option Held} {kept : Option (List Record)} {site : View} {refused : Bool} {first : Machine} (ss : List (ℕ × List Token)) where
   -- all statements were served
-  pub progress-serves : Progress ss told now before written held kept site refused first → Serves RunsWhereTold told before written held kept refused ss first
+  pub progress-serves : Progress ss told now before written held kept site refused first → Serves told before written held kept refused ss first
   progress-serves p =
       let all = p.extends (answers_from now) (come-from now) in
       record {
@@ -213,7 +213,7 @@ module _ {told now : Option Answers} {before written : Option (List ℕ)} {held 
 
   -- the statement i was cut short
   pub progress-cut : {held' : Option Held} {kept' : Option (List Record)} {s : ℕ × List Token} (i : ℕ) → slice_get ss i ≡ Some s
-      → Progress (take i ss) told now before written held kept site refused first → IsCutShort held kept site now s held' kept' → EndsAtStatement RunsWhereTold told before written held' kept' ss first
+      → Progress (take i ss) told now before written held kept site refused first → IsCutShort held kept site now s held' kept' → EndsAtStatement told before written held' kept' ss first
   progress-cut {held' = held'} {kept' = kept'} {s = s} i there p short =
       let f = answers-with now short.answer short.next in
       let all = p.extends f.0 f.1 in
@@ -246,7 +246,7 @@ module _ {told now : Option Answers} {before written : Option (List ℕ)} {held 
 
   -- the sink failed in the reply to the statement before n
   pub reached-ends : {after : Option (List ℕ)} {r : Reply} (n : ℕ) → n ≤ length ss → Reached (take n ss) told now before written held kept site refused r first → WritesFront written after (reply_text r)
-      → EndsInReplies RunsWhereTold told before after held kept ss first
+      → EndsInReplies told before after held kept ss first
   reached-ends {after = after} {r = r} n low p front =
       let replies : List Reply = p.replies ++ r ∷ [] in
       let all = p.extends (answers_from now) (come-from now) in

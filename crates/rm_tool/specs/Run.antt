@@ -1,6 +1,7 @@
 -- The machine's run over the statements of a script, and the clock's answers to them.
 use Rattle.std.specs.Prelude.{ℕ, suc, ◌≡◌, Option, Some, None, IfSome, List, [], ◌∷◌, take}
 use Rattle.std.specs.List.{flat_map}
+use Rattle.std.specs.Option.{option_map_or}
 use Rattle.rm_base.specs.Store.{Answers}
 use Rattle.rm_base.specs.declared.refusal.Refusal.TheVariants.{Rm01}
 use Rattle.rm_token.specs.declared.token.Token.{Token}
@@ -10,7 +11,7 @@ use Rattle.rm_report.specs.declared.line.Reply.{Reply}
 use Rattle.rm_report.specs.Reply.{refused_by}
 use Rattle.rm_report.specs.Text.{reply_text}
 use Rattle.rm_machine.specs.Machine.{Machine, DigestsTell}
-use Rattle.rm_machine.specs.Step.{Step}
+use Rattle.rm_machine.specs.Step.{Step, names_in}
 use Rattle.rm_frame.specs.Moments.{moment_of}
 
 -- A statement of this line, where the clock answers so: one that is not of the grammar, or not built, is refused
@@ -41,17 +42,15 @@ Run old answers (s ∷ ss) [] new = ⊥
 abbrev pub DigestsTellAlong : Machine → Answers → List (ℕ × List Token) → List Reply → Type 0
 DigestsTellAlong first answers ss replies = (k : ℕ) (m : Machine) → Run first answers (take k ss) (take k replies) m → DigestsTell m
 
--- a word on the machine at the end of its run over these statements with these replies
-abbrev pub OnRuns : Type 1
-OnRuns = Machine → Answers → List (ℕ × List Token) → List Reply → (Machine → Type 0) → Type 0
+-- none of these statements gives a name of an object
+abbrev pub GiveNoName : List (ℕ × List Token) → Type 0
+GiveNoName [] = Unit {0}
+GiveNoName (s ∷ ss) = (option_map_or names_in (command_at s.1) [] ≡ []) × GiveNoName ss
 
--- The machine has a run over these statements with these replies, and this is so of the machine at its end.
-abbrev pub RunsTo : OnRuns
-RunsTo first answers ss replies Is = (last : Machine) × Run first answers ss replies last × Is last
-
--- the same where digests tell along it
-abbrev pub RunsWhereTold : OnRuns
-RunsWhereTold first answers ss replies Is = DigestsTellAlong first answers ss replies → RunsTo first answers ss replies Is
+-- Where digests tell along it, the machine has a run over these statements with these replies, and this is so of the
+-- machine at its end.
+abbrev pub RunsWhereTold : Machine → Answers → List (ℕ × List Token) → List Reply → (Machine → Type 0) → Type 0
+RunsWhereTold first answers ss replies Is = DigestsTellAlong first answers ss replies → (last : Machine) × Run first answers ss replies last × Is last
 
 -- the answers behind those that these statements use
 abbrev pub behind : List (ℕ × List Token) → Answers → Answers

@@ -17,7 +17,7 @@ use Rattle.rm_frame.specs.Stopped.{Stopped}
 use Rattle.rm_tool.specs.declared.session.Halt.{Halt}
 use Rattle.rm_tool.specs.declared.session.Halt.TheVariants as halt
 use Rattle.rm_tool.specs.Ends.{WritesFront}
-use Rattle.rm_tool.specs.Run.{StatementStep, OnRuns, past, behind, AreToCome, replies_text}
+use Rattle.rm_tool.specs.Run.{StatementStep, RunsWhereTold, past, behind, AreToCome, replies_text}
 
 -- what ends a session where the site was stopped
 abbrev pub halt_of : Stop → Halt
@@ -60,34 +60,33 @@ abbrev pub FromEach : Option Held → Option (List Record) → View → (Machine
 FromEach held kept v Is = (m : Machine) → Stands v m → Holds held kept m → Is m
 
 -- All replies were written, and `refused` says whether one is a refusal. They are those of a run from the machine
--- `first` on, which is there (`Goes` is RunsTo) or is there where digests tell (RunsWhereTold), and the store and the
--- keeper hold what the machine has at its end.
-pub record Serves (Goes : OnRuns) (clock : Option Answers) (before now : Option (List ℕ)) (held : Option Held) (kept : Option (List Record)) (refused : Bool) (ss : List (ℕ × List Token)) (first : Machine) : Type 0 where
+-- `first` on, and the store and the keeper hold what the machine has at its end.
+pub record Serves (clock : Option Answers) (before now : Option (List ℕ)) (held : Option Held) (kept : Option (List Record)) (refused : Bool) (ss : List (ℕ × List Token)) (first : Machine) : Type 0 where
   pub answers : Answers
   pub told : AreToCome clock answers
   pub replies : List Reply
   pub many : length replies ≡ length ss
   pub written : Appends before now (replies_text replies)
   pub some : refused ≡ list_any (λ r. r.refused) replies
-  pub run : Goes first answers ss replies (Holds held kept)
+  pub run : RunsWhereTold first answers ss replies (Holds held kept)
 
 -- The replies to the first statements were written, and nothing else. They are those of a run from the machine
 -- `first` on. The statement after them was cut short, and the store and the keeper hold what is left.
-pub record EndsAtStatement (Goes : OnRuns) (clock : Option Answers) (before now : Option (List ℕ)) (held : Option Held) (kept : Option (List Record)) (ss : List (ℕ × List Token)) (first : Machine) : Type 0 where
+pub record EndsAtStatement (clock : Option Answers) (before now : Option (List ℕ)) (held : Option Held) (kept : Option (List Record)) (ss : List (ℕ × List Token)) (first : Machine) : Type 0 where
   pub answers : Answers
   pub told : AreToCome clock answers
   pub replies : List Reply
   pub written : Appends before now (replies_text replies)
   pub statement : ℕ × List Token
   pub next : slice_get ss (length replies) ≡ Some statement
-  pub run : Goes first answers (take (length replies) ss) replies (λ m. IsCut m statement (behind (take (length replies) ss) answers 0) held kept)
+  pub run : RunsWhereTold first answers (take (length replies) ss) replies (λ m. IsCut m statement (behind (take (length replies) ss) answers 0) held kept)
 
 -- A front of the replies to the first statements was written. They are those of a run from the machine `first` on,
 -- and the store and the keeper hold what the machine has after these statements.
-pub record EndsInReplies (Goes : OnRuns) (clock : Option Answers) (before now : Option (List ℕ)) (held : Option Held) (kept : Option (List Record)) (ss : List (ℕ × List Token)) (first : Machine) : Type 0 where
+pub record EndsInReplies (clock : Option Answers) (before now : Option (List ℕ)) (held : Option Held) (kept : Option (List Record)) (ss : List (ℕ × List Token)) (first : Machine) : Type 0 where
   pub answers : Answers
   pub told : AreToCome clock answers
   pub replies : List Reply
   pub many : length replies ≤ length ss
   pub written : WritesFront before now (replies_text replies)
-  pub run : Goes first answers (take (length replies) ss) replies (Holds held kept)
+  pub run : RunsWhereTold first answers (take (length replies) ss) replies (Holds held kept)

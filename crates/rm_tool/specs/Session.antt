@@ -11,7 +11,6 @@ use Rattle.rm_machine.specs.Machine.{Machine}
 use Rattle.rm_frame.specs.Holds.{nothing}
 use Rattle.rm_site.specs.Opens.{IsFirst}
 use Rattle.rm_tool.specs.Ends.{WritesFront}
-use Rattle.rm_tool.specs.Run.{RunsTo}
 use Rattle.rm_tool.specs.Serving.{Serves, EndsAtStatement, EndsInReplies}
 use Rattle.rm_tool.specs.Words.{accepts}
 
@@ -59,7 +58,7 @@ pub record OfScript (left rest : Option (List ℕ)) (Is : List (ℕ × List Toke
 -- and the keeper hold what the machine has at the end.
 pub record Finishes (left rest : Option (List ℕ)) (clock : Option Answers) (before now : Option (List ℕ)) (held : Option Held) (kept : Option (List Record)) (status : ℕ) (objects : Held) : Type 0 where
   pub refused : Bool
-  pub serves : OfScript left rest (Serves RunsTo clock before now held kept refused) objects
+  pub serves : OfScript left rest (Serves clock before now held kept refused) objects
   pub tells : status ≡ (if refused then 1 else 0)
 
 -- the keeper tells no record
@@ -71,7 +70,7 @@ TellsNone kept = IfSome kept (λ rs. rs ≡ [])
 -- left of that statement.
 pub data EndsEarly (left rest : Option (List ℕ)) (clock : Option Answers) (before now : Option (List ℕ)) (held : Option Held) (kept : Option (List Record)) (held' : Option Held) (kept' : Option (List Record)) : Type 0 where
   before_statements : now ≡ before → AreSame held kept held' kept' → EndsEarly left rest clock before now held kept held' kept'
-  at_statement : TellsNone kept → FromNone held kept (OfScript left rest (EndsAtStatement RunsTo clock before now held' kept')) → EndsEarly left rest clock before now held kept held' kept'
+  at_statement : TellsNone kept → FromNone held kept (OfScript left rest (EndsAtStatement clock before now held' kept')) → EndsEarly left rest clock before now held kept held' kept'
 
 -- the line of the first record that the keeper has, where it tells them
 pub record IsBadRecord (kept : Option (List Record)) (line : List ℕ) : Type 0 where
@@ -96,4 +95,4 @@ pub data WritesPart (words : List (List ℕ)) (left rest : Option (List ℕ)) (c
   in_bad_words : accepts words ≡ false → AreSame held kept held' kept' → WritesFront before now bad_words → WritesPart words left rest clock before now held kept held' kept'
   in_over_long : IfSome left (λ bytes. 4194304 < length bytes) → AreSame held kept held' kept' → WritesFront before now over_long → WritesPart words left rest clock before now held kept held' kept'
   in_bad_record : AreSame held kept held' kept' → BeginsBadRecord kept before now → WritesPart words left rest clock before now held kept held' kept'
-  in_replies : TellsNone kept → FromNone held kept (OfScript left rest (EndsInReplies RunsTo clock before now held' kept')) → WritesPart words left rest clock before now held kept held' kept'
+  in_replies : TellsNone kept → FromNone held kept (OfScript left rest (EndsInReplies clock before now held' kept')) → WritesPart words left rest clock before now held kept held' kept'

@@ -3,7 +3,6 @@ ghost use Rattle.std.specs.Prelude.{◌≡◌, ◌≤◌, true, IfOk, OnOk, OnEr
 ghost use Rattle.rm_base.specs.Outside.{Rose};
 ghost use Rattle.rm_change.specs.declared.change.Stop.TheVariants.{StoreFault, KeeperFault};
 ghost use Rattle.rm_report.specs.Reply.{HasDates};
-ghost use Rattle.rm_tool.specs.Run.{RunsWhereTold};
 ghost use Rattle.rm_tool.specs.Serving.{IsServed, IsCutShort, FromEach, Serves, EndsAtStatement, EndsInReplies};
 
 use crate::built::command_of;
@@ -102,13 +101,13 @@ pub fn serve_all<K: Sink, D: Store, C: Keeper, T: Clock>(
     statements: &[(u32, Seq<Token>)],
 ) -> Result<bool, Halt>
     requires live { site.live ≡ true }
-    ensures ok { IfOk result (λ refused. FromEach (D.held store.old) (C.kept keeper.old) site (Serves RunsWhereTold (T.answers clock.old) (K.contents sink.old) (K.contents sink.new) (D.held store.new) (C.kept keeper.new) refused statements.now)) }
+    ensures ok { IfOk result (λ refused. FromEach (D.held store.old) (C.kept keeper.old) site (Serves (T.answers clock.old) (K.contents sink.old) (K.contents sink.new) (D.held store.new) (C.kept keeper.new) refused statements.now)) }
 
     // What was written where it ended early, and what the store and the keeper hold.
-    ensures sink { IsErrOf result Halt.Sink → FromEach (D.held store.old) (C.kept keeper.old) site (EndsInReplies RunsWhereTold (T.answers clock.old) (K.contents sink.old) (K.contents sink.new) (D.held store.new) (C.kept keeper.new) statements.now) }
-    ensures store { IsErrOf result Halt.Store → FromEach (D.held store.old) (C.kept keeper.old) site (EndsAtStatement RunsWhereTold (T.answers clock.old) (K.contents sink.old) (K.contents sink.new) (D.held store.new) (C.kept keeper.new) statements.now) }
-    ensures keeper { IsErrOf result Halt.Keeper → FromEach (D.held store.old) (C.kept keeper.old) site (EndsAtStatement RunsWhereTold (T.answers clock.old) (K.contents sink.old) (K.contents sink.new) (D.held store.new) (C.kept keeper.new) statements.now) }
-    ensures memory { IsErrOf result Halt.NoMemory → FromEach (D.held store.old) (C.kept keeper.old) site (EndsAtStatement RunsWhereTold (T.answers clock.old) (K.contents sink.old) (K.contents sink.new) (D.held store.new) (C.kept keeper.new) statements.now) }
+    ensures sink { IsErrOf result Halt.Sink → FromEach (D.held store.old) (C.kept keeper.old) site (EndsInReplies (T.answers clock.old) (K.contents sink.old) (K.contents sink.new) (D.held store.new) (C.kept keeper.new) statements.now) }
+    ensures store { IsErrOf result Halt.Store → FromEach (D.held store.old) (C.kept keeper.old) site (EndsAtStatement (T.answers clock.old) (K.contents sink.old) (K.contents sink.new) (D.held store.new) (C.kept keeper.new) statements.now) }
+    ensures keeper { IsErrOf result Halt.Keeper → FromEach (D.held store.old) (C.kept keeper.old) site (EndsAtStatement (T.answers clock.old) (K.contents sink.old) (K.contents sink.new) (D.held store.new) (C.kept keeper.new) statements.now) }
+    ensures memory { IsErrOf result Halt.NoMemory → FromEach (D.held store.old) (C.kept keeper.old) site (EndsAtStatement (T.answers clock.old) (K.contents sink.old) (K.contents sink.new) (D.held store.new) (C.kept keeper.new) statements.now) }
 
     // Whose count rose.
     ensures sink_failed { IsErrOf result Halt.Sink → Rose (K.faults sink.old) (K.faults sink.new) }

@@ -1,7 +1,7 @@
 use Rattle.std.proofs.Common.{refl}
 use Rattle.rm_frame.specs.Holds.{nothing}
 use Rattle.rm_tool.proofs.Telling.{tell-along}
-use Rattle.rm_tool.proofs.laws.digests_tell_along_every_script.Goals as goal
+use Rattle.rm_tool.proofs.laws.digests_tell_where_no_name_is_given.Goals as goal
 
 pub returns-clause-untouched : goal.returns-clause-untouched
 returns-clause-untouched c = tell-along

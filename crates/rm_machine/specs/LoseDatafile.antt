@@ -1,0 +1,22 @@
+-- HOST LOSE DATAFILE f
+use Rattle.std.specs.Prelude.{ℕ, ◌≡◌, ◌-◌, is_none, if◌then◌else◌, Option, Some, None, [], ◌∷◌, slice_set}
+use Rattle.rm_base.specs.declared.refusal.Refusal.{Refusal}
+use Rattle.rm_base.specs.declared.refusal.Refusal.TheVariants.{Rm05}
+use Rattle.rm_base.specs.declared.refusal.Absent.TheVariants.{File}
+use Rattle.rm_report.specs.declared.line.Line.TheVariants.{FileLost}
+use Rattle.rm_machine.specs.Effect.{Outcome, done, no_effect}
+use Rattle.rm_machine.specs.Marks.{ids_refusal}
+use Rattle.rm_machine.specs.declared.state.State.{State}
+use Rattle.rm_machine.specs.State.{on_path}
+
+-- why it is refused: the datafile is not on the current path
+abbrev pub lose_refusal : State → ℕ → Option Refusal
+lose_refusal s f = if is_none (on_path s f) then Some (Rm05 (File f)) else ids_refusal s
+
+-- the database without what stood in place of the datafile; it stands at no point then
+abbrev pub without_file : State → ℕ → State
+without_file s f = record s { instance = record s.instance { point = None; place = slice_set s.instance.place (f - 1) None } }
+
+-- the datafile in place is lost, if it was not
+abbrev pub IsLoseOutcome : State → ℕ → Outcome → Type 0
+IsLoseOutcome s f o = o ≡ done (FileLost f ∷ []) no_effect (without_file s f)
