@@ -4,7 +4,7 @@ use Rattle.std.proofs.lemmas.List.{append-nil, append_assoc}
 use Rattle.rm_base.specs.Store.{Held}
 use Rattle.rm_catalog.specs.declared.record.Edit.{Edit}
 use Rattle.rm_change.specs.declared.change.Object.{Object}
-use Rattle.rm_command.specs.declared.command.Command.TheVariants.{ArchiveLogCurrent, SwitchLogfile}
+use Rattle.rm_statement.specs.declared.command.Command.TheVariants.{ArchiveLogCurrent, SwitchLogfile}
 use Rattle.rm_report.specs.declared.line.Line.{Line}
 use Rattle.rm_repository.specs.Changes.{EditsFollow}
 use Rattle.rm_repository.specs.Repository.{Repository}

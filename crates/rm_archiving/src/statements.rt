@@ -1,7 +1,7 @@
 //! ALTER SYSTEM SWITCH LOGFILE, and ALTER SYSTEM ARCHIVE LOG CURRENT
 ghost use Rattle.std.specs.Prelude.{◌≡◌, IfOk, OnOk, Option, None};
 ghost use Rattle.rm_base.specs.Store.{Held};
-ghost use Rattle.rm_command.specs.declared.command.Command.TheVariants.{ArchiveLogCurrent, SwitchLogfile};
+ghost use Rattle.rm_statement.specs.declared.command.Command.TheVariants.{ArchiveLogCurrent, SwitchLogfile};
 ghost use Rattle.rm_machine.specs.Archive.{archive_all_refusal};
 ghost use Rattle.rm_machine.specs.Hands.{Hands};
 ghost use Rattle.rm_machine.specs.Sound.{IsSound};

@@ -5,7 +5,7 @@ ghost use Rattle.rm_machine.specs.Sound.{IsSound};
 ghost use Rattle.rm_machine.specs.State.{placed};
 
 use rm_base::{FileNo, NoMemory};
-use rm_command::BackupForm;
+use rm_statement::BackupForm;
 use rm_history::Datafile;
 use rm_machine::State;
 use rm_machine::facts::{exists, now, placed};

@@ -14,7 +14,7 @@ use rm_base::sealed::Encoded;
 use rm_base::{FileNo, Kind, Moment, NoMemory, Row, Seq, Status, Text};
 use rm_catalog::{Edit, PieceEntry};
 use rm_change::Object;
-use rm_command::BackupForm;
+use rm_statement::BackupForm;
 use rm_machine::facts::{now, placed};
 use rm_machine::{Handed, State};
 use rm_objects::piece_name;

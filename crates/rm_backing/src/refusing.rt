@@ -5,7 +5,7 @@ ghost use Rattle.rm_machine.specs.Sound.{IsSound};
 
 use crate::datafiles::{lost_taken, taken_bytes, taken_count};
 use rm_base::{Absent, Limit, Refusal};
-use rm_command::BackupForm;
+use rm_statement::BackupForm;
 use rm_machine::State;
 use rm_machine::facts::on_path;
 use rm_machine::room::{lacks_bytes, lacks_ids, lacks_room};

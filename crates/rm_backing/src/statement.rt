@@ -2,7 +2,7 @@
 ghost use Rattle.std.specs.Prelude.{◌≡◌, Option, None, [], IfOk, IsTrue, OnOk};
 ghost use Rattle.rm_base.specs.Store.{Held};
 ghost use Rattle.rm_catalog.specs.Objects.{IsTag};
-ghost use Rattle.rm_command.specs.declared.command.Command.TheVariants.{Backup};
+ghost use Rattle.rm_statement.specs.declared.command.Command.TheVariants.{Backup};
 ghost use Rattle.rm_machine.specs.Backup.{after_files, backup_refusal, is_built_backup, lines_of, or_nothing, puts_of, taken};
 ghost use Rattle.rm_machine.specs.Hands.{Hands};
 ghost use Rattle.rm_machine.specs.Sound.{IsSound};
@@ -13,7 +13,7 @@ use crate::datafiles::taken;
 use crate::pieces::{back_up, tag_of};
 use rm_base::{FileNo, NoMemory, Seq, Text};
 use rm_catalog::Edit;
-use rm_command::BackupForm;
+use rm_statement::BackupForm;
 use rm_machine::{Handed, State};
 use rm_report::Line;
 use std::alloc::Global;

@@ -11,7 +11,7 @@ use Rattle.std.proofs.lemmas.List.Kept.{Contains-dedup_nat, Contains-from_dedup}
 use Rattle.std.proofs.lemmas.List.Sorted.{Contains-permutation, IsPermutation-sym}
 use Rattle.std.proofs.lemmas.Map.Keys.{IsStrictlyIncreasing-dedup, sorted_from_strictly_increasing, sorted_tail, below_from_sorted}
 use Rattle.rm_grammar.specs.Spelling.{is_some_list}
-use Rattle.rm_command.specs.Files.{placed, in_order, ascend_above, are_files}
+use Rattle.rm_statement.specs.Files.{placed, in_order, ascend_above, are_files}
 
 -- x is one of the numbers
 abbrev Has : List ℕ → ℕ → Type 0

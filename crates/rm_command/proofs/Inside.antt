@@ -4,7 +4,7 @@ use Rattle.rm_token.specs.declared.token.Token.{Token}
 use Rattle.rm_grammar.specs.Reading.{◌>>=◌}
 use Rattle.rm_grammar.specs.Forms.{as_form, command_in}
 use Rattle.rm_grammar.proofs.Within.{within, in_as}
-use Rattle.rm_command.specs.declared.command.Inner.TheVariants.{Plain}
+use Rattle.rm_statement.specs.declared.command.Inner.TheVariants.{Plain}
 use Rattle.rm_command.specs.Language.{forms}
 
 -- a command, as a statement inside

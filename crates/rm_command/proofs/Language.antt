@@ -8,10 +8,10 @@ use Rattle.rm_grammar.proofs.Found.{bind_some, some_same}
 use Rattle.rm_grammar.proofs.Forms.{in_found, in_again}
 use Rattle.rm_grammar.proofs.Blocks.{block_found, block_again}
 use Rattle.rm_grammar.proofs.Within.{are_unlike, none_begins}
-use Rattle.rm_command.specs.declared.command.Command.{Command}
-use Rattle.rm_command.specs.declared.command.Inner.{Inner}
-use Rattle.rm_command.specs.declared.command.Statement.{Statement}
-use Rattle.rm_command.specs.declared.command.Statement.TheVariants.{Plain, Run}
+use Rattle.rm_statement.specs.declared.command.Command.{Command}
+use Rattle.rm_statement.specs.declared.command.Inner.{Inner}
+use Rattle.rm_statement.specs.declared.command.Statement.{Statement}
+use Rattle.rm_statement.specs.declared.command.Statement.TheVariants.{Plain, Run}
 use Rattle.rm_command.specs.Language.{drill_forms, setting_forms, asking_forms, upkeep_forms, backup_forms, recovery_forms, mode_forms, forms, set_until, allocate, inner_forms, IsStatement, statement_at}
 use Rattle.rm_command.specs.Creating.{create_database, write, create_datafile, switch_logfile, archive_log, track, untrack}
 use Rattle.rm_command.specs.Modes.{shutdown, startup, reset_database, open_database}

@@ -8,14 +8,14 @@ use Rattle.rm_command.specs.declared.backup.Kind.TheVariants.{Copy, Sets}
 use Rattle.rm_command.specs.declared.backup.Level.{Level}
 use Rattle.rm_command.specs.declared.upkeep.Deletion.{Deletion}
 use Rattle.rm_command.specs.declared.upkeep.Deletion.TheVariants.{Obsolete, One, Expired}
-use Rattle.rm_command.specs.declared.command.Until.{Until}
-use Rattle.rm_command.specs.declared.command.Until.TheVariants.{Scn, Sequence, Time}
-use Rattle.rm_command.specs.declared.command.WriteForm.{WriteForm}
-use Rattle.rm_command.specs.declared.command.ChangeTo.{ChangeTo}
-use Rattle.rm_command.specs.declared.command.ChangeTo.TheVariants.{Available, Unavailable, Uncatalog, Keep, NoKeep}
-use Rattle.rm_command.specs.declared.command.RetentionForm.{RetentionForm}
-use Rattle.rm_command.specs.declared.command.RetentionForm.TheVariants.{Window, Redundancy, Nothing, Clear}
-use Rattle.rm_command.specs.Files.{in_order}
+use Rattle.rm_statement.specs.declared.command.Until.{Until}
+use Rattle.rm_statement.specs.declared.command.Until.TheVariants.{Scn, Sequence, Time}
+use Rattle.rm_statement.specs.declared.command.WriteForm.{WriteForm}
+use Rattle.rm_statement.specs.declared.command.ChangeTo.{ChangeTo}
+use Rattle.rm_statement.specs.declared.command.ChangeTo.TheVariants.{Available, Unavailable, Uncatalog, Keep, NoKeep}
+use Rattle.rm_statement.specs.declared.command.RetentionForm.{RetentionForm}
+use Rattle.rm_statement.specs.declared.command.RetentionForm.TheVariants.{Window, Redundancy, Nothing, Clear}
+use Rattle.rm_statement.specs.Files.{in_order}
 use Rattle.rm_command.specs.Creating.{written}
 use Rattle.rm_command.specs.Recovering.{until_by, until_of, incarnation_of}
 use Rattle.rm_command.specs.Backups.{kind_of, is_copy, level_of, merge_tag_of, files_of, tag_of, stands, during_of}

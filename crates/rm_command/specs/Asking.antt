@@ -2,8 +2,8 @@
 use Rattle.std.specs.Prelude.{Some, codes}
 use Rattle.rm_grammar.specs.Grammar.{◌▸◌, Grammar, semicolon, word, number, any}
 use Rattle.rm_grammar.specs.Forms.{Form}
-use Rattle.rm_command.specs.declared.command.Command.{Command}
-use Rattle.rm_command.specs.declared.command.Command.TheVariants.{ReportObsolete, ReportNeedBackup, ReportSchema, ListIncarnation, ListBackup, ListCopy, ListArchived, ShowAll, Dump}
+use Rattle.rm_statement.specs.declared.command.Command.{Command}
+use Rattle.rm_statement.specs.declared.command.Command.TheVariants.{ReportObsolete, ReportNeedBackup, ReportSchema, ListIncarnation, ListBackup, ListCopy, ListArchived, ShowAll, Dump}
 
 -- REPORT OBSOLETE
 abbrev pub report_obsolete_line : Grammar

@@ -8,12 +8,13 @@ use Rattle.rm_grammar.specs.Forms.{Form}
 use Rattle.rm_command.specs.declared.backup.Kind.{Kind}
 use Rattle.rm_command.specs.declared.backup.Kind.TheVariants.{Copy, Sets}
 use Rattle.rm_command.specs.declared.backup.Level.{Level}
-use Rattle.rm_command.specs.declared.command.WriteForm.{WriteForm}
-use Rattle.rm_command.specs.declared.command.BackupForm.{BackupForm}
-use Rattle.rm_command.specs.declared.command.Command.{Command}
-use Rattle.rm_command.specs.declared.command.Command.TheVariants.{Backup, BackupLogs}
-use Rattle.rm_command.specs.Files.{in_order}
+use Rattle.rm_statement.specs.declared.command.WriteForm.{WriteForm}
+use Rattle.rm_statement.specs.declared.command.BackupForm.{BackupForm}
+use Rattle.rm_statement.specs.declared.command.Command.{Command}
+use Rattle.rm_statement.specs.declared.command.Command.TheVariants.{Backup, BackupLogs}
+use Rattle.rm_statement.specs.Files.{in_order}
 use Rattle.rm_command.specs.Creating.{write_part, written}
+use Rattle.rm_statement.specs.Agreed.{agrees}
 
 -- AS COPY or AS BACKUPSET
 abbrev pub as_line : Grammar
@@ -108,22 +109,6 @@ backup_of v = record {
   keep = stands v.1.1.1.1.1.0;
   during = option_map during_of v.1.1.1.1.1.1.0;
 }
-
-abbrev pub is_one : Option ℕ → Bool
-is_one (Some n) = n == 1
-is_one None = false
-
--- CUMULATIVE stands with LEVEL 1 only, and AS COPY without it
-abbrev pub agrees_in_level : BackupForm → Bool
-agrees_in_level b = (not b.cumulative || is_one b.level) && not (b.copy && is_one b.level)
-
--- FOR RECOVER OF COPY stands with LEVEL 1 only, and without an AS, CUMULATIVE and TAG
-abbrev pub agrees_in_merge : Bool → BackupForm → Bool
-agrees_in_merge with_as b = not (is_some b.merge_tag) || (is_one b.level && not with_as && not b.cumulative && not (is_some b.tag))
-
--- the parts, of which one may be an AS, can stand together
-abbrev pub agrees : Bool → BackupForm → Bool
-agrees with_as b = agrees_in_level b && agrees_in_merge with_as b
 
 -- a backup, where its parts can stand together
 abbrev pub agreed : Bool → BackupForm → Option Command

@@ -2,10 +2,10 @@
 use Rattle.std.specs.Prelude.{◌-◌, ◌^◌, Some, codes, true, false}
 use Rattle.rm_grammar.specs.Grammar.{◌▸◌, Grammar, Values, semicolon, word, number, number_or, text, any, in_range}
 use Rattle.rm_grammar.specs.Forms.{Form}
-use Rattle.rm_command.specs.declared.command.WriteForm.{WriteForm}
-use Rattle.rm_command.specs.declared.command.Command.{Command}
-use Rattle.rm_command.specs.declared.command.Command.TheVariants.{CreateDatabase, CreateDatafile, Write, SwitchLogfile, ArchiveLogCurrent, Tracking}
-use Rattle.rm_command.specs.Texts.{content}
+use Rattle.rm_statement.specs.declared.command.WriteForm.{WriteForm}
+use Rattle.rm_statement.specs.declared.command.Command.{Command}
+use Rattle.rm_statement.specs.declared.command.Command.TheVariants.{CreateDatabase, CreateDatafile, Write, SwitchLogfile, ArchiveLogCurrent, Tracking}
+use Rattle.rm_statement.specs.Texts.{content}
 
 -- CREATE DATABASE [DBID n] [THREADS n] [SCN n]
 abbrev pub create_database_line : Grammar

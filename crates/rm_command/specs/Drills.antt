@@ -2,9 +2,9 @@
 use Rattle.std.specs.Prelude.{Some, codes}
 use Rattle.rm_grammar.specs.Grammar.{◌▸◌, Grammar, semicolon, word, number, text, any}
 use Rattle.rm_grammar.specs.Forms.{Form}
-use Rattle.rm_command.specs.declared.command.Command.{Command}
-use Rattle.rm_command.specs.declared.command.Command.TheVariants.{LoseDatafile, LoseLog, Remove, Damage, Cut, Rename}
-use Rattle.rm_command.specs.Texts.{plain, new_name}
+use Rattle.rm_statement.specs.declared.command.Command.{Command}
+use Rattle.rm_statement.specs.declared.command.Command.TheVariants.{LoseDatafile, LoseLog, Remove, Damage, Cut, Rename}
+use Rattle.rm_statement.specs.Texts.{plain, new_name}
 
 -- HOST LOSE DATAFILE n
 abbrev pub lose_datafile_line : Grammar

@@ -5,11 +5,11 @@ use Rattle.rm_grammar.specs.Grammar.{◌▸◌, Grammar, semicolon, word, named}
 use Rattle.rm_grammar.specs.Reading.{◌>>=◌, begins_with, finish_at}
 use Rattle.rm_grammar.specs.Forms.{Form, IsByOne, command_in, as_form}
 use Rattle.rm_grammar.specs.Blocks.{IsBlock, block_at}
-use Rattle.rm_command.specs.declared.command.Command.{Command}
-use Rattle.rm_command.specs.declared.command.Inner.{Inner}
-use Rattle.rm_command.specs.declared.command.Inner.TheVariants.{SetUntil, AllocateChannel, Plain as PlainInner}
-use Rattle.rm_command.specs.declared.command.Statement.{Statement}
-use Rattle.rm_command.specs.declared.command.Statement.TheVariants.{Plain, Run}
+use Rattle.rm_statement.specs.declared.command.Command.{Command}
+use Rattle.rm_statement.specs.declared.command.Inner.{Inner}
+use Rattle.rm_statement.specs.declared.command.Inner.TheVariants.{SetUntil, AllocateChannel, Plain as PlainInner}
+use Rattle.rm_statement.specs.declared.command.Statement.{Statement}
+use Rattle.rm_statement.specs.declared.command.Statement.TheVariants.{Plain, Run}
 use Rattle.rm_command.specs.Creating.{create_database, write, create_datafile, switch_logfile, archive_log, track, untrack}
 use Rattle.rm_command.specs.Modes.{shutdown, startup, reset_database, open_database}
 use Rattle.rm_command.specs.Recovering.{until, until_by, restore, restore_datafile, recover, recover_copy}

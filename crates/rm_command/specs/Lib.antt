@@ -2,11 +2,9 @@ pub mod Asking
 pub mod Backups
 pub mod Creating
 pub mod Drills
-pub mod Files
 pub mod Language
 pub mod Modes
 pub mod Recovering
 pub mod Settings
-pub mod Texts
 pub mod Upkeep
 pub mod Values

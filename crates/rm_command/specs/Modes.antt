@@ -2,8 +2,8 @@
 use Rattle.std.specs.Prelude.{Bool, true, false, Some, codes}
 use Rattle.rm_grammar.specs.Grammar.{◌▸◌, Grammar, semicolon, word, flag, noise, number, any}
 use Rattle.rm_grammar.specs.Forms.{Form}
-use Rattle.rm_command.specs.declared.command.Command.{Command}
-use Rattle.rm_command.specs.declared.command.Command.TheVariants.{Mount, OpenPlain, OpenResetlogs, ResetDatabase}
+use Rattle.rm_statement.specs.declared.command.Command.{Command}
+use Rattle.rm_statement.specs.declared.command.Command.TheVariants.{Mount, OpenPlain, OpenResetlogs, ResetDatabase}
 
 -- SHUTDOWN [IMMEDIATE]
 abbrev pub shutdown_line : Grammar

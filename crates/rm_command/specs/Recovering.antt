@@ -3,11 +3,11 @@ use Rattle.std.specs.Prelude.{ℕ, Bool, true, false, Option, Some, None, codes}
 use Rattle.std.specs.Option.{option_map}
 use Rattle.rm_grammar.specs.Grammar.{◌▸◌, Grammar, Values, Choice, first, second, end, semicolon, word, flag, number, number_or, text, tag, optional, either, any}
 use Rattle.rm_grammar.specs.Forms.{Form}
-use Rattle.rm_command.specs.declared.command.Until.{Until}
-use Rattle.rm_command.specs.declared.command.Until.TheVariants.{Scn, Sequence, Time}
-use Rattle.rm_command.specs.declared.command.Command.{Command}
-use Rattle.rm_command.specs.declared.command.Command.TheVariants.{Restore, Preview, Recover, RecoverTest, RecoverCopy}
-use Rattle.rm_command.specs.Texts.{time}
+use Rattle.rm_statement.specs.declared.command.Until.{Until}
+use Rattle.rm_statement.specs.declared.command.Until.TheVariants.{Scn, Sequence, Time}
+use Rattle.rm_statement.specs.declared.command.Command.{Command}
+use Rattle.rm_statement.specs.declared.command.Command.TheVariants.{Restore, Preview, Recover, RecoverTest, RecoverCopy}
+use Rattle.rm_statement.specs.Texts.{time}
 
 -- SCN n
 abbrev pub scn_part : Grammar

@@ -6,10 +6,10 @@ use Rattle.rm_grammar.specs.Grammar.{◌▸◌, Grammar, Values, Choice, first, 
 use Rattle.rm_grammar.specs.Forms.{Form}
 use Rattle.rm_command.specs.declared.upkeep.Deletion.{Deletion}
 use Rattle.rm_command.specs.declared.upkeep.Deletion.TheVariants.{Obsolete, One, Expired}
-use Rattle.rm_command.specs.declared.command.ChangeTo.{ChangeTo}
-use Rattle.rm_command.specs.declared.command.ChangeTo.TheVariants.{Available, Unavailable, Uncatalog, Keep, NoKeep}
-use Rattle.rm_command.specs.declared.command.Command.{Command}
-use Rattle.rm_command.specs.declared.command.Command.TheVariants.{Crosscheck, ValidateAll, ChangeBackup, DeleteObsolete, DeleteBackup, DeleteExpired}
+use Rattle.rm_statement.specs.declared.command.ChangeTo.{ChangeTo}
+use Rattle.rm_statement.specs.declared.command.ChangeTo.TheVariants.{Available, Unavailable, Uncatalog, Keep, NoKeep}
+use Rattle.rm_statement.specs.declared.command.Command.{Command}
+use Rattle.rm_statement.specs.declared.command.Command.TheVariants.{Crosscheck, ValidateAll, ChangeBackup, DeleteObsolete, DeleteBackup, DeleteExpired}
 
 -- BACKUP, COPY or ARCHIVELOG ALL
 abbrev pub copy_or_archived : Grammar

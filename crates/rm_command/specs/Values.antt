@@ -14,20 +14,20 @@ use Rattle.rm_command.specs.declared.backup.Kind.TheVariants.{Copy, Sets}
 use Rattle.rm_command.specs.declared.backup.Level.{Level}
 use Rattle.rm_command.specs.declared.upkeep.Deletion.{Deletion}
 use Rattle.rm_command.specs.declared.upkeep.Deletion.TheVariants.{Obsolete, One, Expired}
-use Rattle.rm_command.specs.declared.command.Until.{Until}
-use Rattle.rm_command.specs.declared.command.Until.TheVariants.{Scn, Sequence, Time}
-use Rattle.rm_command.specs.declared.command.WriteForm.{WriteForm}
-use Rattle.rm_command.specs.declared.command.BackupForm.{BackupForm}
-use Rattle.rm_command.specs.declared.command.ChangeTo.{ChangeTo}
-use Rattle.rm_command.specs.declared.command.ChangeTo.TheVariants.{Available, Unavailable, Uncatalog, Keep, NoKeep}
-use Rattle.rm_command.specs.declared.command.RetentionForm.{RetentionForm}
-use Rattle.rm_command.specs.declared.command.RetentionForm.TheVariants.{Window, Redundancy, Nothing, Clear}
-use Rattle.rm_command.specs.declared.command.Command.{Command}
-use Rattle.rm_command.specs.declared.command.Command.TheVariants.{CreateDatabase, CreateDatafile, Write, SwitchLogfile, ArchiveLogCurrent, Mount, OpenPlain, OpenResetlogs, Tracking, ResetDatabase, Restore, Preview, Recover, RecoverTest, RecoverCopy, Backup, BackupLogs, Crosscheck, ValidateAll, ChangeBackup, DeleteObsolete, DeleteBackup, DeleteExpired, ReportObsolete, ReportNeedBackup, ReportSchema, ListIncarnation, ListBackup, ListCopy, ListArchived, ShowAll, Dump, Retention, Parallelism, CatalogName, LoseDatafile, LoseLog, Remove, Damage, Cut, Rename}
-use Rattle.rm_command.specs.declared.command.Inner.{Inner}
-use Rattle.rm_command.specs.declared.command.Inner.TheVariants.{SetUntil, AllocateChannel, Plain as PlainInner}
-use Rattle.rm_command.specs.declared.command.Statement.{Statement}
-use Rattle.rm_command.specs.declared.command.Statement.TheVariants.{Plain, Run}
+use Rattle.rm_statement.specs.declared.command.Until.{Until}
+use Rattle.rm_statement.specs.declared.command.Until.TheVariants.{Scn, Sequence, Time}
+use Rattle.rm_statement.specs.declared.command.WriteForm.{WriteForm}
+use Rattle.rm_statement.specs.declared.command.BackupForm.{BackupForm}
+use Rattle.rm_statement.specs.declared.command.ChangeTo.{ChangeTo}
+use Rattle.rm_statement.specs.declared.command.ChangeTo.TheVariants.{Available, Unavailable, Uncatalog, Keep, NoKeep}
+use Rattle.rm_statement.specs.declared.command.RetentionForm.{RetentionForm}
+use Rattle.rm_statement.specs.declared.command.RetentionForm.TheVariants.{Window, Redundancy, Nothing, Clear}
+use Rattle.rm_statement.specs.declared.command.Command.{Command}
+use Rattle.rm_statement.specs.declared.command.Command.TheVariants.{CreateDatabase, CreateDatafile, Write, SwitchLogfile, ArchiveLogCurrent, Mount, OpenPlain, OpenResetlogs, Tracking, ResetDatabase, Restore, Preview, Recover, RecoverTest, RecoverCopy, Backup, BackupLogs, Crosscheck, ValidateAll, ChangeBackup, DeleteObsolete, DeleteBackup, DeleteExpired, ReportObsolete, ReportNeedBackup, ReportSchema, ListIncarnation, ListBackup, ListCopy, ListArchived, ShowAll, Dump, Retention, Parallelism, CatalogName, LoseDatafile, LoseLog, Remove, Damage, Cut, Rename}
+use Rattle.rm_statement.specs.declared.command.Inner.{Inner}
+use Rattle.rm_statement.specs.declared.command.Inner.TheVariants.{SetUntil, AllocateChannel, Plain as PlainInner}
+use Rattle.rm_statement.specs.declared.command.Statement.{Statement}
+use Rattle.rm_statement.specs.declared.command.Statement.TheVariants.{Plain, Run}
 use Rattle.rm_command.specs.Creating.{create_database_line, write_part, write_line, create_datafile_line, switch_logfile_line, archive_log_line, track_line, untrack_line}
 use Rattle.rm_command.specs.Modes.{startup_line, reset_database_line, open_database_line}
 use Rattle.rm_command.specs.Recovering.{scn_part, log_or_time, until_line, incarnation_line, restore_line, restore_datafile_line, recover_line, recover_copy_line}

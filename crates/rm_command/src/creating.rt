@@ -6,7 +6,7 @@ ghost use Rattle.rm_command.specs.Creating.{create_database, write_part, write, 
 ghost use Rattle.rm_command.specs.Values.{write_values};
 ghost use Rattle.rm_command.specs.Language.{forms};
 
-use crate::command::{Command, WriteForm};
+use rm_statement::{Command, WriteForm};
 use crate::modes::mode;
 use rm_base::{Block, LAST_SCN};
 use rm_grammar::Unread;

@@ -5,7 +5,7 @@ ghost use Rattle.rm_grammar.specs.Forms.{command_by, command_in};
 ghost use Rattle.rm_command.specs.Drills.{lose_datafile, lose_log, remove, damage, cut, rename};
 ghost use Rattle.rm_command.specs.Language.{drill_forms};
 
-use crate::command::Command;
+use rm_statement::Command;
 use crate::texts::{new_name, plain};
 use rm_grammar::Unread;
 use rm_grammar::reading::{number, semicolon, word};

@@ -5,7 +5,7 @@ ghost use Rattle.rm_grammar.specs.Forms.{command_by, command_in};
 ghost use Rattle.rm_command.specs.Modes.{shutdown, startup, reset_database, open_database, opening};
 ghost use Rattle.rm_command.specs.Language.{mode_forms};
 
-use crate::command::Command;
+use rm_statement::Command;
 use crate::recovering::recovering;
 use rm_grammar::Unread;
 use rm_grammar::reading::{flag, noise, number, semicolon, word};

@@ -2,7 +2,7 @@
 ghost use Rattle.rm_grammar.specs.Reading.{Gives};
 ghost use Rattle.rm_command.specs.Language.{statement_at};
 
-use crate::command::Statement;
+use rm_statement::Statement;
 use crate::creating::creating;
 use crate::run::run;
 use rm_grammar::Unread;

@@ -8,7 +8,7 @@ ghost use Rattle.rm_command.specs.Values.{until_choice, until_values, incarnatio
 ghost use Rattle.rm_command.specs.Language.{recovery_forms};
 
 use crate::backup::saving;
-use crate::command::{Command, Until};
+use rm_statement::{Command, Until};
 use crate::texts::time;
 use rm_grammar::Unread;
 use rm_grammar::reading::{begins_with, flag, number, number_or, semicolon, tag, word};

@@ -8,7 +8,7 @@ ghost use Rattle.rm_grammar.specs.Grammar.{◌▸◌, word as word_part, end};
 ghost use Rattle.std.specs.Prelude.{codes};
 ghost use Rattle.rm_command.specs.Language.{setting_forms};
 
-use crate::command::{Command, RetentionForm};
+use rm_statement::{Command, RetentionForm};
 use crate::drills::drill;
 use crate::texts::plain;
 use rm_grammar::Unread;

@@ -1,7 +1,7 @@
 //! The kinds of strings that statements have.
 ghost use Rattle.std.specs.Prelude.{◌≡◌};
 ghost use Rattle.rm_grammar.specs.Reading.{Gives, text_at};
-ghost use Rattle.rm_command.specs.Texts.{plain, new_name, time, is_new_name};
+ghost use Rattle.rm_statement.specs.Texts.{plain, new_name, time, is_new_name};
 
 use rm_base::Text;
 use rm_grammar::Unread;

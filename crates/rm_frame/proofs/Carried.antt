@@ -7,7 +7,7 @@ use Rattle.rm_catalog.specs.Edits.{after_edits}
 use Rattle.rm_change.specs.declared.change.Change.{Change}
 use Rattle.rm_change.specs.Carrying.{Carried, Leads, Outside}
 use Rattle.rm_change.specs.Names.{HasPuts, HasRemoves}
-use Rattle.rm_command.specs.declared.command.Command.{Command}
+use Rattle.rm_statement.specs.declared.command.Command.{Command}
 use Rattle.rm_report.specs.Reply.{refused_by, said}
 use Rattle.rm_report.specs.declared.line.Line.{Line}
 use Rattle.rm_report.specs.declared.line.Reply.{Reply}

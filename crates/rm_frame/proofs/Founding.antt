@@ -6,9 +6,9 @@ use Rattle.rm_base.specs.Store.{Held}
 use Rattle.rm_base.specs.declared.refusal.Refusal.TheVariants.{Rm03, Rm11}
 use Rattle.rm_base.specs.declared.refusal.Limit.TheVariants.{Threads}
 use Rattle.rm_base.proofs.Members.{none-in}
-use Rattle.rm_command.specs.declared.command.Command.{Command}
-use Rattle.rm_command.specs.declared.command.Command.TheVariants.{CreateDatabase}
-use Rattle.rm_lang.specs.IsCommand.{is_command}
+use Rattle.rm_statement.specs.declared.command.Command.{Command}
+use Rattle.rm_statement.specs.declared.command.Command.TheVariants.{CreateDatabase}
+use Rattle.rm_statement.specs.IsCommand.{is_command}
 use Rattle.rm_report.specs.declared.line.Line.{Line}
 use Rattle.rm_report.specs.declared.line.Line.TheVariants.{DatabaseAt}
 use Rattle.rm_machine.specs.CreateDatabase.{IsCreateOutcome, fresh_machine, fresh_state}

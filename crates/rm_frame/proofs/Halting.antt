@@ -10,7 +10,7 @@ use Rattle.rm_change.specs.declared.change.Change.{Change}
 use Rattle.rm_change.specs.Carrying.{Halted, Leads, Outside, Tells, after_the_edits, before_the_edits}
 use Rattle.rm_change.specs.Names.{SameBeyondPuts, after_all, is_named, itself, name_of, nothing}
 use Rattle.rm_change.proofs.Named.{unnamed-stays}
-use Rattle.rm_command.specs.declared.command.Command.{Command}
+use Rattle.rm_statement.specs.declared.command.Command.{Command}
 use Rattle.rm_report.specs.Reply.{said}
 use Rattle.rm_report.specs.declared.line.Line.{Line}
 use Rattle.rm_machine.specs.Effect.{Made}

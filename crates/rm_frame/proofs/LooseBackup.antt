@@ -2,8 +2,8 @@
 use Rattle.std.proofs.Common.{◌≡◌, ◌≤◌, ◌+◌, ◌∷◌, ℕ, suc, List, [], Some, length, refl, subst, arith, All}
 use Rattle.std.proofs.lemmas.List.Elements.{All-cons, All-nil}
 use Rattle.rm_change.specs.declared.change.Object.{Object}
-use Rattle.rm_command.specs.declared.command.BackupForm.{BackupForm}
-use Rattle.rm_command.specs.declared.command.Command.TheVariants.{Backup}
+use Rattle.rm_statement.specs.declared.command.BackupForm.{BackupForm}
+use Rattle.rm_statement.specs.declared.command.Command.TheVariants.{Backup}
 use Rattle.rm_machine.specs.Backup.{after_file, backing, piece_object, puts_of, taken}
 use Rattle.rm_machine.specs.Effect.{Effect}
 use Rattle.rm_machine.specs.Sound.{IsSound}

@@ -6,7 +6,7 @@ use Rattle.std.proofs.lemmas.List.Elements.{Contains-append_left}
 use Rattle.rm_base.specs.Store.{Held}
 use Rattle.rm_base.proofs.Members.{behind, in-front}
 use Rattle.rm_change.proofs.Named.{same-name}
-use Rattle.rm_command.specs.declared.command.Command.TheVariants.{Cut, Damage, Remove, Rename}
+use Rattle.rm_statement.specs.declared.command.Command.TheVariants.{Cut, Damage, Remove, Rename}
 use Rattle.rm_objects.specs.Names.{site_name}
 use Rattle.rm_report.specs.declared.line.Line.{Line}
 use Rattle.rm_machine.specs.Drills.{removal, renaming, replacement}

@@ -5,8 +5,8 @@ use Rattle.std.proofs.lemmas.List.Elements.{All-append, All-cons, All-nil}
 use Rattle.rm_change.specs.declared.change.Object.{Object}
 use Rattle.rm_change.specs.Names.{is_named, itself, name_of}
 use Rattle.rm_change.proofs.Standing.{unnamed}
-use Rattle.rm_command.specs.declared.command.Command.{Command}
-use Rattle.rm_command.specs.declared.command.Command.TheVariants.{ArchiveLogCurrent, OpenResetlogs, SwitchLogfile}
+use Rattle.rm_statement.specs.declared.command.Command.{Command}
+use Rattle.rm_statement.specs.declared.command.Command.TheVariants.{ArchiveLogCurrent, OpenResetlogs, SwitchLogfile}
 use Rattle.rm_ledger.specs.Facts.{IsLedger}
 use Rattle.rm_ledger.specs.Ledger.{Ledger}
 use Rattle.rm_ledger.proofs.Lookups.{log-id-within, piece-id-within}

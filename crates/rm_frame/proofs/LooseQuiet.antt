@@ -1,10 +1,10 @@
 -- Statements that put nothing and take nothing away.
 use Rattle.std.proofs.Common.{◌≡◌, ℕ, List, [], Option, Some, None, inl, inr}
 use Rattle.rm_base.specs.Store.{Held}
-use Rattle.rm_command.specs.declared.command.Command.{Command}
-use Rattle.rm_command.specs.declared.command.Command.TheVariants.{CreateDatafile, Dump, ListIncarnation, LoseDatafile, LoseLog, Mount, OpenPlain, Recover, RecoverTest, ResetDatabase, Write}
-use Rattle.rm_command.specs.declared.command.Until.{Until}
-use Rattle.rm_command.specs.declared.command.WriteForm.{WriteForm}
+use Rattle.rm_statement.specs.declared.command.Command.{Command}
+use Rattle.rm_statement.specs.declared.command.Command.TheVariants.{CreateDatafile, Dump, ListIncarnation, LoseDatafile, LoseLog, Mount, OpenPlain, Recover, RecoverTest, ResetDatabase, Write}
+use Rattle.rm_statement.specs.declared.command.Until.{Until}
+use Rattle.rm_statement.specs.declared.command.WriteForm.{WriteForm}
 use Rattle.rm_report.specs.declared.line.Line.{Line}
 use Rattle.rm_machine.specs.Effect.{Effect, done, no_effect}
 use Rattle.rm_machine.specs.LoseDatafile.{without_file}

@@ -1,8 +1,8 @@
 -- What a statement touches, from a database at its moment or from none.
 use Rattle.std.proofs.Common.{◌≡◌, ◌∙◌, ℕ, List, [], Option, Some, None, true, false, ap, sym, subst, Contains}
 use Rattle.rm_change.specs.Names.{is_named, itself, name_of}
-use Rattle.rm_command.specs.declared.command.Command.{Command}
-use Rattle.rm_command.specs.declared.command.Command.TheVariants.{CreateDatabase}
+use Rattle.rm_statement.specs.declared.command.Command.{Command}
+use Rattle.rm_statement.specs.declared.command.Command.TheVariants.{CreateDatabase}
 use Rattle.rm_report.specs.declared.line.Line.{Line}
 use Rattle.rm_machine.specs.Effect.{Effect, done, refused}
 use Rattle.rm_machine.specs.Laws.{IsMomentOf}

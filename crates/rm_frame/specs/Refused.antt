@@ -3,8 +3,8 @@ use Rattle.std.specs.Prelude.{ℕ, ◌≡◌, nat_lt, if◌then◌else◌, Bool,
 use Rattle.rm_base.specs.declared.refusal.Refusal.{Refusal}
 use Rattle.rm_base.specs.declared.refusal.Refusal.TheVariants.{Rm02, Rm11}
 use Rattle.rm_base.specs.declared.refusal.Limit.TheVariants.{Threads}
-use Rattle.rm_command.specs.declared.command.Command.{Command}
-use Rattle.rm_command.specs.declared.command.Command.TheVariants.{CreateDatabase, Cut, Damage, Recover, RecoverTest, Remove, Rename}
+use Rattle.rm_statement.specs.declared.command.Command.{Command}
+use Rattle.rm_statement.specs.declared.command.Command.TheVariants.{CreateDatabase, Cut, Damage, Recover, RecoverTest, Remove, Rename}
 use Rattle.rm_report.specs.Reply.{refused_by}
 use Rattle.rm_report.specs.declared.line.Reply.{Reply}
 use Rattle.rm_machine.specs.declared.state.State.{State}

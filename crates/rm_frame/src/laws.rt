@@ -1,7 +1,7 @@
 //! What the frame makes of a statement.
 ghost use Rattle.std.specs.Prelude.{ℕ};
-ghost use Rattle.rm_command.specs.declared.command.Command.{Command};
-ghost use Rattle.rm_command.specs.declared.command.Command.TheVariants.{CreateDatabase};
+ghost use Rattle.rm_statement.specs.declared.command.Command.{Command};
+ghost use Rattle.rm_statement.specs.declared.command.Command.TheVariants.{CreateDatabase};
 ghost use Rattle.rm_machine.specs.Laws.{LeadsOn, StaysSound};
 ghost use Rattle.rm_frame.specs.Carries.{CarriesOn, LeadsOnWithout, StopsWell};
 ghost use Rattle.rm_frame.specs.Loose.{StaysLoose};

@@ -1,7 +1,7 @@
 //! HOST LOSE DATAFILE n and HOST LOSE LOG THREAD n
 ghost use Rattle.std.specs.Prelude.{◌≡◌, ◌-◌, ◌<◌, IfOk, None, OnOk, Option, length, slice_set};
 ghost use Rattle.rm_base.specs.Store.{Held};
-ghost use Rattle.rm_command.specs.declared.command.Command.TheVariants.{LoseDatafile, LoseLog};
+ghost use Rattle.rm_statement.specs.declared.command.Command.TheVariants.{LoseDatafile, LoseLog};
 ghost use Rattle.rm_machine.specs.Hands.{Hands};
 ghost use Rattle.rm_machine.specs.LoseDatafile.{lose_refusal, without_file};
 ghost use Rattle.rm_machine.specs.LoseLog.{lose_log_refusal, without_log};

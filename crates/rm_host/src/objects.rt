@@ -4,7 +4,7 @@ ghost use Rattle.rm_base.specs.Outside.{Rose};
 ghost use Rattle.rm_base.specs.declared.refusal.Refusal.TheVariants as refusal;
 ghost use Rattle.rm_base.specs.declared.refusal.Unknown.TheVariants.{Byte, Object as NoObject};
 ghost use Rattle.rm_base.specs.declared.store.StoreFail.TheVariants.{Failed};
-ghost use Rattle.rm_command.specs.declared.command.Command.TheVariants.{Cut, Damage, Remove, Rename};
+ghost use Rattle.rm_statement.specs.declared.command.Command.TheVariants.{Cut, Damage, Remove, Rename};
 ghost use Rattle.rm_machine.specs.Drills.{damaged};
 ghost use Rattle.rm_machine.specs.Hands.{Hands, Refuses};
 ghost use Rattle.rm_report.specs.Reply.{HasDate, LineHasDate};

@@ -9,15 +9,16 @@ use Rattle.rm_grammar.specs.Spelling.{is_capital_tag, is_shown, is_some_list, ma
 use Rattle.rm_grammar.proofs.Found.{some_same}
 use Rattle.rm_command.specs.declared.backup.Kind.{Kind}
 use Rattle.rm_command.specs.declared.backup.Kind.TheVariants.{Copy, Sets}
-use Rattle.rm_command.specs.declared.command.WriteForm.{WriteForm}
-use Rattle.rm_command.specs.declared.command.BackupForm.{BackupForm}
-use Rattle.rm_command.specs.declared.command.Command.{Command}
-use Rattle.rm_command.specs.declared.command.Command.TheVariants.{Backup}
-use Rattle.rm_command.specs.Files.{in_order, are_files}
-use Rattle.rm_command.specs.Texts.{content}
+use Rattle.rm_statement.specs.declared.command.WriteForm.{WriteForm}
+use Rattle.rm_statement.specs.declared.command.BackupForm.{BackupForm}
+use Rattle.rm_statement.specs.declared.command.Command.{Command}
+use Rattle.rm_statement.specs.declared.command.Command.TheVariants.{Backup}
+use Rattle.rm_statement.specs.Files.{in_order, are_files}
+use Rattle.rm_statement.specs.Texts.{content}
 use Rattle.rm_command.specs.Creating.{write_part, written}
-use Rattle.rm_command.specs.Backups.{as_line, kind_of, is_copy, level_line, level_of, number_of, is_cumulative, merge_line, merge_tag_of, database_line, files_line, files_of, tag_line, tag_of, keep_line, during_line, during_of, backup_line, backup_of, is_one, agrees_in_level, agrees_in_merge, agrees, agreed}
-use Rattle.rm_lang.specs.IsCommand.{is_write, is_backup}
+use Rattle.rm_command.specs.Backups.{as_line, kind_of, is_copy, level_line, level_of, number_of, is_cumulative, merge_line, merge_tag_of, database_line, files_line, files_of, tag_line, tag_of, keep_line, during_line, during_of, backup_line, backup_of, agreed}
+use Rattle.rm_statement.specs.Agreed.{is_one, agrees_in_level, agrees_in_merge, agrees}
+use Rattle.rm_statement.specs.IsCommand.{is_write, is_backup}
 use Rattle.rm_command.specs.Values.{write_values, kind_values, kind_asked, level_values, level_asked, merge_values, files_values, tag_values, keep_values, during_values, backup_values}
 use Rattle.rm_command.proofs.InOrder.{in_order-files, files-in_order}
 use Rattle.rm_command.proofs.Parts.{copy_again, merge_again, files_again, tag_again, keep_again, during_again}

@@ -11,7 +11,7 @@ use Rattle.rm_token.specs.Spelling.{are_string_bytes}
 use Rattle.rm_grammar.specs.Grammar.{kept_of}
 use Rattle.rm_grammar.specs.Spelling.{IsFaithful, is_shown}
 use Rattle.rm_grammar.proofs.Spelled.{same_keeps, keeps_same}
-use Rattle.rm_command.specs.Texts.{content}
+use Rattle.rm_statement.specs.Texts.{content}
 
 trimmed-zeros : (n : ℕ) → trimmed (replicate n 0) ≡ []
 trimmed-zeros zero = refl

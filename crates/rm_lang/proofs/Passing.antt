@@ -9,12 +9,12 @@ use Rattle.rm_grammar.proofs.Statements.{Passes, AllPass}
 use Rattle.rm_moments.specs.Times.{is_time_text}
 use Rattle.rm_command.specs.declared.upkeep.Deletion.{Deletion}
 use Rattle.rm_command.specs.declared.upkeep.Deletion.TheVariants.{Obsolete, One, Expired}
-use Rattle.rm_command.specs.declared.command.Until.{Until}
-use Rattle.rm_command.specs.declared.command.Command.{Command}
-use Rattle.rm_command.specs.declared.command.Command.TheVariants.{CreateDatabase, CreateDatafile, Write, SwitchLogfile, ArchiveLogCurrent, Mount, Tracking, ResetDatabase, Restore, RecoverCopy, BackupLogs, Crosscheck, ValidateAll, ChangeBackup, ReportObsolete, ReportNeedBackup, ReportSchema, ListIncarnation, ListBackup, ListCopy, ListArchived, ShowAll, Dump, Retention, Parallelism, CatalogName, LoseDatafile, LoseLog, Remove, Damage, Cut, Rename}
-use Rattle.rm_lang.specs.IsCommand.{is_command, is_until_or_none, is_retention}
+use Rattle.rm_statement.specs.declared.command.Until.{Until}
+use Rattle.rm_statement.specs.declared.command.Command.{Command}
+use Rattle.rm_statement.specs.declared.command.Command.TheVariants.{CreateDatabase, CreateDatafile, Write, SwitchLogfile, ArchiveLogCurrent, Mount, Tracking, ResetDatabase, Restore, RecoverCopy, BackupLogs, Crosscheck, ValidateAll, ChangeBackup, ReportObsolete, ReportNeedBackup, ReportSchema, ListIncarnation, ListBackup, ListCopy, ListArchived, ShowAll, Dump, Retention, Parallelism, CatalogName, LoseDatafile, LoseLog, Remove, Damage, Cut, Rename}
+use Rattle.rm_statement.specs.IsCommand.{is_command, is_until_or_none, is_retention}
 use Rattle.rm_command.specs.Language.{drill_forms, setting_forms, asking_forms, upkeep_forms, backup_forms, recovery_forms, mode_forms, forms}
-use Rattle.rm_command.specs.Texts.{content, anything, plain, is_new_name, new_name, is_text}
+use Rattle.rm_statement.specs.Texts.{content, anything, plain, is_new_name, new_name, is_text}
 use Rattle.rm_command.specs.Creating.{create_database, write, written, create_datafile, switch_logfile, archive_log, track, untrack}
 use Rattle.rm_command.specs.Modes.{shutdown, startup, reset_database, open_database, opening}
 use Rattle.rm_command.specs.Recovering.{until_line, until_of, incarnation_line, incarnation_of, restoring, restore, restore_datafile, recovery, recover, recover_copy}

@@ -11,17 +11,17 @@ use Rattle.rm_grammar.specs.Spelling.{is_shown, is_capital_tag, maybe_valid, val
 use Rattle.rm_grammar.proofs.Statements.{by_values}
 use Rattle.rm_command.specs.declared.upkeep.Deletion.{Deletion}
 use Rattle.rm_command.specs.declared.upkeep.Deletion.TheVariants.{Obsolete, One, Expired}
-use Rattle.rm_command.specs.declared.command.ChangeTo.{ChangeTo}
-use Rattle.rm_command.specs.declared.command.ChangeTo.TheVariants.{Available, Unavailable, Uncatalog, Keep, NoKeep}
-use Rattle.rm_command.specs.declared.command.RetentionForm.{RetentionForm}
-use Rattle.rm_command.specs.declared.command.RetentionForm.TheVariants.{Window, Redundancy, Nothing, Clear}
-use Rattle.rm_command.specs.declared.command.Command.{Command}
-use Rattle.rm_command.specs.declared.command.Command.TheVariants.{CreateDatabase, CreateDatafile, Write, SwitchLogfile, ArchiveLogCurrent, Mount, OpenPlain, OpenResetlogs, Tracking, ResetDatabase, Restore, Preview, Recover, RecoverTest, RecoverCopy, Backup, BackupLogs, Crosscheck, ValidateAll, ChangeBackup, DeleteObsolete, DeleteBackup, DeleteExpired, ReportObsolete, ReportNeedBackup, ReportSchema, ListIncarnation, ListBackup, ListCopy, ListArchived, ShowAll, Dump, Retention, Parallelism, CatalogName, LoseDatafile, LoseLog, Remove, Damage, Cut, Rename}
-use Rattle.rm_lang.specs.IsCommand.{is_command, is_until_or_none, is_retention}
+use Rattle.rm_statement.specs.declared.command.ChangeTo.{ChangeTo}
+use Rattle.rm_statement.specs.declared.command.ChangeTo.TheVariants.{Available, Unavailable, Uncatalog, Keep, NoKeep}
+use Rattle.rm_statement.specs.declared.command.RetentionForm.{RetentionForm}
+use Rattle.rm_statement.specs.declared.command.RetentionForm.TheVariants.{Window, Redundancy, Nothing, Clear}
+use Rattle.rm_statement.specs.declared.command.Command.{Command}
+use Rattle.rm_statement.specs.declared.command.Command.TheVariants.{CreateDatabase, CreateDatafile, Write, SwitchLogfile, ArchiveLogCurrent, Mount, OpenPlain, OpenResetlogs, Tracking, ResetDatabase, Restore, Preview, Recover, RecoverTest, RecoverCopy, Backup, BackupLogs, Crosscheck, ValidateAll, ChangeBackup, DeleteObsolete, DeleteBackup, DeleteExpired, ReportObsolete, ReportNeedBackup, ReportSchema, ListIncarnation, ListBackup, ListCopy, ListArchived, ShowAll, Dump, Retention, Parallelism, CatalogName, LoseDatafile, LoseLog, Remove, Damage, Cut, Rename}
+use Rattle.rm_statement.specs.IsCommand.{is_command, is_until_or_none, is_retention}
 use Rattle.rm_command.specs.Language.{drill_forms, setting_forms, asking_forms, upkeep_forms, backup_forms, recovery_forms, mode_forms, forms}
 use Rattle.rm_command.specs.Values.{write_values, until_values, incarnation_values, backup_values, class_choice, change_choice, deletion_choice, retention_choice}
 use Rattle.rm_lang.specs.Spelling.{tokens_of}
-use Rattle.rm_command.specs.Texts.{content, anything, plain, is_new_name, new_name, is_text}
+use Rattle.rm_statement.specs.Texts.{content, anything, plain, is_new_name, new_name, is_text}
 use Rattle.rm_command.specs.Creating.{create_database, write, create_datafile, switch_logfile, archive_log, track, untrack}
 use Rattle.rm_command.specs.Modes.{shutdown, startup, reset_database, open_database}
 use Rattle.rm_command.specs.Recovering.{until_line, restore, restore_datafile, recover, recover_copy}

@@ -14,12 +14,12 @@ use Rattle.rm_grammar.specs.Forms.{IsByOne}
 use Rattle.rm_grammar.proofs.Statements.{by_values, passes, Passes, AllPass}
 use Rattle.rm_grammar.proofs.Within.{one_as, pass_as}
 use Rattle.rm_grammar.proofs.Endings.{arrives, join, quiet_arrives, line_statement, is_one_statement}
-use Rattle.rm_command.specs.declared.command.Until.{Until}
-use Rattle.rm_command.specs.declared.command.Inner.{Inner}
-use Rattle.rm_command.specs.declared.command.Inner.TheVariants.{SetUntil, AllocateChannel, Plain as PlainInner}
-use Rattle.rm_command.specs.declared.command.Statement.{Statement}
-use Rattle.rm_command.specs.declared.command.Statement.TheVariants.{Plain, Run}
-use Rattle.rm_lang.specs.IsCommand.{is_command, is_inner, is_statement}
+use Rattle.rm_statement.specs.declared.command.Until.{Until}
+use Rattle.rm_statement.specs.declared.command.Inner.{Inner}
+use Rattle.rm_statement.specs.declared.command.Inner.TheVariants.{SetUntil, AllocateChannel, Plain as PlainInner}
+use Rattle.rm_statement.specs.declared.command.Statement.{Statement}
+use Rattle.rm_statement.specs.declared.command.Statement.TheVariants.{Plain, Run}
+use Rattle.rm_statement.specs.IsCommand.{is_command, is_inner, is_statement}
 use Rattle.rm_command.specs.Recovering.{scn_part, log_or_time}
 use Rattle.rm_command.specs.Language.{forms, set_until, set_until_line, allocate, allocate_line, inner_forms, IsStatement, IsSpelled, statement_at}
 use Rattle.rm_command.specs.Values.{until_choice, until_values}

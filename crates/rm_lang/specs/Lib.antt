@@ -1,2 +1,1 @@
-pub mod IsCommand
 pub mod Spelling

@@ -1,7 +1,7 @@
 //! What reading a statement means.
 ghost use Rattle.std.specs.Prelude.{◌≡◌, ◌↔◌, List, Some};
 ghost use Rattle.rm_token.specs.declared.token.Token.{Token as TokenOf};
-ghost use Rattle.rm_command.specs.declared.command.Statement.{Statement as StatementOf};
+ghost use Rattle.rm_statement.specs.declared.command.Statement.{Statement as StatementOf};
 ghost use Rattle.rm_command.specs.Language.{IsStatement, statement_at};
 
 /// What is read is what the grammar has.

@@ -11,7 +11,7 @@ mod valid;
 mod with_parts;
 
 pub use reading::statement_of;
-pub use rm_command::{
+pub use rm_statement::{
     BackupForm, ChangeTo, Command, Inner, RetentionForm, Statement, Until, WriteForm,
 };
 pub use rm_token::{Token, statements};

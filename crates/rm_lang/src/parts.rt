@@ -8,11 +8,11 @@ ghost use Rattle.rm_command.specs.Creating.{write_part};
 ghost use Rattle.rm_command.specs.Recovering.{scn_part, log_or_time, until_line, incarnation_line};
 ghost use Rattle.rm_command.specs.Upkeep.{copy_or_archived, withdrawing};
 ghost use Rattle.rm_command.specs.Settings.{policy_part};
-ghost use Rattle.rm_lang.specs.IsCommand.{is_until, is_until_or_none};
+ghost use Rattle.rm_statement.specs.IsCommand.{is_until, is_until_or_none};
 ghost use Rattle.rm_command.specs.Values.{until_choice, until_values, incarnation_values, class_choice, change_choice, retention_choice};
 
 use rm_base::{Class, NoMemory};
-use rm_command::{ChangeTo, RetentionForm, Until};
+use rm_statement::{ChangeTo, RetentionForm, Until};
 use rm_grammar::Spelling;
 use std::alloc::Global;
 

@@ -1,12 +1,13 @@
 //! The statement that tokens are.
 ghost use Rattle.std.specs.Prelude.{◌≡◌, IfOk, IfSome, IfNone, IsTrue};
-ghost use Rattle.rm_command.specs.declared.command.Statement.{Statement as StatementOf};
+ghost use Rattle.rm_statement.specs.declared.command.Statement.{Statement as StatementOf};
 ghost use Rattle.rm_command.specs.Language.{IsStatement, statement_at};
-ghost use Rattle.rm_lang.specs.IsCommand.{is_statement};
+ghost use Rattle.rm_statement.specs.IsCommand.{is_statement};
 
 use rm_base::NoMemory;
-use rm_command::{Statement, read_statement};
+use rm_command::read_statement;
 use rm_grammar::Unread;
+use rm_statement::Statement;
 use rm_token::Token;
 use std::alloc::Global;
 

@@ -6,13 +6,13 @@ ghost use Rattle.rm_command.specs.Recovering.{restore_line, restore_datafile_lin
 ghost use Rattle.rm_command.specs.Upkeep.{crosscheck_line, change_line, delete_line};
 ghost use Rattle.rm_command.specs.Settings.{retention_line};
 ghost use Rattle.rm_command.specs.Language.{set_until_line};
-ghost use Rattle.rm_lang.specs.IsCommand.{is_until, is_until_or_none};
+ghost use Rattle.rm_statement.specs.IsCommand.{is_until, is_until_or_none};
 ghost use Rattle.rm_command.specs.declared.upkeep.Deletion.TheVariants.{Obsolete, One, Expired};
 ghost use Rattle.rm_command.specs.Values.{until_values, incarnation_values, class_choice, change_choice, deletion_choice, retention_choice};
 
 use crate::parts::{change_to, class, optional_incarnation, optional_until, point, policy};
 use rm_base::{Class, NoMemory, Text};
-use rm_command::{ChangeTo, RetentionForm, Until};
+use rm_statement::{ChangeTo, RetentionForm, Until};
 use rm_grammar::Spelling;
 use std::alloc::Global;
 

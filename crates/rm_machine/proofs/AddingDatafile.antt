@@ -15,7 +15,7 @@ use Rattle.rm_base.proofs.Conditions.{only-where, unless}
 use Rattle.rm_base.proofs.Slots.{get-index, get-push, index-get}
 use Rattle.rm_blocks.specs.File.{File, base_of, created, created_row, created_rows, standing}
 use Rattle.rm_blocks.proofs.Rows.{in_order-created, length-created}
-use Rattle.rm_command.specs.declared.command.Command.TheVariants.{CreateDatafile}
+use Rattle.rm_statement.specs.declared.command.Command.TheVariants.{CreateDatafile}
 use Rattle.rm_history.specs.Agrees.{BaseAgrees}
 use Rattle.rm_history.specs.declared.tree.Incarnation.{Incarnation}
 use Rattle.rm_history.specs.declared.world.Datafile.{Datafile}
@@ -27,7 +27,7 @@ use Rattle.rm_history.proofs.Below.{state-untouched}
 use Rattle.rm_history.proofs.Highs.{high-bound}
 use Rattle.rm_history.proofs.Histories.{IsHistory-with_file}
 use Rattle.rm_history.proofs.Worlds.{BaseAgrees-with_file, Level1Agrees-with_file, file-there, state-kept}
-use Rattle.rm_lang.specs.IsCommand.{is_command}
+use Rattle.rm_statement.specs.IsCommand.{is_command}
 use Rattle.rm_ledger.specs.Ledger.{records_of}
 use Rattle.rm_repository.specs.Fitting.{FitsFile, HasRoomFor}
 use Rattle.rm_repository.proofs.Fitted.{file_fits, many}

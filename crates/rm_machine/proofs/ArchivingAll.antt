@@ -8,7 +8,7 @@ use Rattle.rm_machine.specs.Machine.{IsBorneOut}
 use Rattle.rm_machine.specs.declared.state.State.{State}
 use Rattle.rm_machine.specs.State.{ledger}
 use Rattle.rm_machine.specs.Sound.{IsSound}
-use Rattle.rm_command.specs.declared.command.Command.TheVariants.{ArchiveLogCurrent}
+use Rattle.rm_statement.specs.declared.command.Command.TheVariants.{ArchiveLogCurrent}
 use Rattle.rm_machine.proofs.Archives.{HasRoom, room-accepted, threads-sound, threads-stand}
 use Rattle.rm_base.proofs.Conditions.{only-where}
 use Rattle.rm_machine.proofs.Leading.{LeadsOnBy, StaysBy}

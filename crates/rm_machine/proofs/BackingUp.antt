@@ -12,8 +12,8 @@ use Rattle.rm_base.specs.declared.refusal.Refusal.TheVariants.{Rm04, Rm05, Rm09,
 use Rattle.rm_base.proofs.Conditions.{only-where, unless}
 use Rattle.rm_catalog.specs.Objects.{IsTag}
 use Rattle.rm_change.specs.Names.{HasPuts}
-use Rattle.rm_command.specs.declared.command.BackupForm.{BackupForm}
-use Rattle.rm_command.specs.declared.command.Command.TheVariants.{Backup}
+use Rattle.rm_statement.specs.declared.command.BackupForm.{BackupForm}
+use Rattle.rm_statement.specs.declared.command.Command.TheVariants.{Backup}
 use Rattle.rm_ledger.specs.Ledger.{records_of}
 use Rattle.rm_repository.specs.Fitting.{FitsNewPiece}
 use Rattle.rm_machine.specs.Backup.{absent, after_file, after_files, backing, backup_refusal, entry_of, kind_of, lost_taken, made_of, made_piece, piece_bytes, piece_object, piece_of, pieces_refusal, puts_of, taken}

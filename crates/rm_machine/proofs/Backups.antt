@@ -13,7 +13,7 @@ use Rattle.rm_base.proofs.Slots.{all-get, get-index}
 use Rattle.rm_blocks.specs.File.{File, IsInOrder, standing}
 use Rattle.rm_catalog.specs.declared.record.PieceEntry.{PieceEntry}
 use Rattle.rm_catalog.specs.Objects.{FitsKind as FitsEntry, FitsRows, IsTag}
-use Rattle.rm_command.specs.declared.command.BackupForm.{BackupForm}
+use Rattle.rm_statement.specs.declared.command.BackupForm.{BackupForm}
 use Rattle.rm_history.specs.Agrees.{BaseAgrees}
 use Rattle.rm_history.specs.Artefacts.{high_of}
 use Rattle.rm_history.specs.declared.world.Datafile.{Datafile}

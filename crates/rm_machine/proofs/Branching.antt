@@ -12,7 +12,7 @@ use Rattle.rm_base.specs.declared.refusal.Refusal.TheVariants.{Rm04, Rm10, Rm11}
 use Rattle.rm_base.specs.declared.refusal.Limit.TheVariants.{Incarnations}
 use Rattle.rm_base.proofs.Conditions.{unless}
 use Rattle.rm_blocks.specs.File.{File, base_of}
-use Rattle.rm_command.specs.declared.command.Command.TheVariants.{OpenResetlogs}
+use Rattle.rm_statement.specs.declared.command.Command.TheVariants.{OpenResetlogs}
 use Rattle.rm_history.specs.Agrees.{BaseAgrees, LogAgrees}
 use Rattle.rm_history.specs.State.{state}
 use Rattle.rm_history.specs.Tree.{HasParentsBelow}

@@ -16,7 +16,7 @@ use Rattle.rm_machine.specs.ResetDatabase.{at_incarnation, reset_refusal}
 use Rattle.rm_machine.specs.Sound.{IsPlaced, IsSound}
 use Rattle.rm_machine.specs.declared.state.State.{State}
 use Rattle.rm_machine.specs.State.{ledger, world}
-use Rattle.rm_command.specs.declared.command.Command.TheVariants.{ResetDatabase}
+use Rattle.rm_statement.specs.declared.command.Command.TheVariants.{ResetDatabase}
 use Rattle.rm_base.proofs.Conditions.{unless}
 use Rattle.rm_machine.proofs.CountedLogs.{counted-agree, counted-online}
 use Rattle.rm_machine.proofs.Current.{current-kept}

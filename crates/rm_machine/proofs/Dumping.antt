@@ -1,6 +1,6 @@
 -- DUMP only tells.
 use Rattle.std.proofs.Common.{ℕ}
-use Rattle.rm_command.specs.declared.command.Command.TheVariants.{Dump}
+use Rattle.rm_statement.specs.declared.command.Command.TheVariants.{Dump}
 use Rattle.rm_machine.proofs.Telling.{IsNeverDone}
 
 pub dump-never : (file block : ℕ) → IsNeverDone (Dump file block)

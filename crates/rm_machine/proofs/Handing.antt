@@ -1,7 +1,7 @@
 -- What a statement hands out is what it comes to.
 use Rattle.std.proofs.Common.{◌≡◌, List, Option, Some, sym, subst}
 use Rattle.rm_base.specs.Store.{Held}
-use Rattle.rm_command.specs.declared.command.Command.{Command}
+use Rattle.rm_statement.specs.declared.command.Command.{Command}
 use Rattle.rm_report.specs.declared.line.Line.{Line}
 use Rattle.rm_machine.specs.Effect.{Effect, done}
 use Rattle.rm_machine.specs.Hands.{Hands}

@@ -4,8 +4,8 @@ use Rattle.rm_base.specs.Store.{Held}
 use Rattle.rm_base.specs.declared.block.Change.{Change}
 use Rattle.rm_base.specs.declared.refusal.Refusal.{Refusal}
 use Rattle.rm_machine.specs.Effect.{Effect, LeavesObjects, Made, Outcome, done, told}
-use Rattle.rm_command.specs.declared.command.Command.{Command}
-use Rattle.rm_command.specs.declared.command.Command.TheVariants.{Recover, RecoverTest}
+use Rattle.rm_statement.specs.declared.command.Command.{Command}
+use Rattle.rm_statement.specs.declared.command.Command.TheVariants.{Recover, RecoverTest}
 use Rattle.rm_report.specs.declared.line.Line.{Line}
 use Rattle.rm_machine.specs.Laws.{LeadsOn, StaysSound, TellsOn}
 use Rattle.rm_machine.specs.Machine.{Machine, IsSoundBy, IsBorneOut, DigestsTellFor, TellBy}

@@ -5,7 +5,7 @@ use Rattle.rm_base.specs.Store.{Held}
 use Rattle.rm_base.specs.declared.block.Change.{Change}
 use Rattle.rm_base.proofs.Slots.{get-set, index-set}
 use Rattle.rm_blocks.specs.File.{File}
-use Rattle.rm_command.specs.declared.command.Command.TheVariants.{LoseDatafile}
+use Rattle.rm_statement.specs.declared.command.Command.TheVariants.{LoseDatafile}
 use Rattle.rm_machine.specs.Effect.{Made}
 use Rattle.rm_machine.specs.LoseDatafile.{without_file}
 use Rattle.rm_machine.specs.Machine.{HistoryFits, IsBorneOut}

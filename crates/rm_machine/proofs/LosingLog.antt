@@ -7,7 +7,7 @@ use Rattle.rm_base.specs.declared.block.Change.{Change}
 use Rattle.rm_base.specs.declared.refusal.Refusal.TheVariants.{Rm05}
 use Rattle.rm_base.specs.declared.refusal.Absent.TheVariants.{Thread}
 use Rattle.rm_base.proofs.Conditions.{unless}
-use Rattle.rm_command.specs.declared.command.Command.TheVariants.{LoseLog}
+use Rattle.rm_statement.specs.declared.command.Command.TheVariants.{LoseLog}
 use Rattle.rm_history.specs.Agrees.{LogAgrees}
 use Rattle.rm_history.specs.Tree.{IsThere, end_of}
 use Rattle.rm_redo.specs.declared.log_file.LogFile.{LogFile}

@@ -19,7 +19,7 @@ use Rattle.rm_machine.specs.Mount.{as_mounted, first_lost, mount_point, mounted}
 use Rattle.rm_machine.specs.Sound.{IsPlaced, IsPoint, IsSound, StandsAt}
 use Rattle.rm_machine.specs.declared.state.State.{State}
 use Rattle.rm_machine.specs.State.{ledger, world, current_of, now_of, placed, counted}
-use Rattle.rm_command.specs.declared.command.Command.TheVariants.{Mount}
+use Rattle.rm_statement.specs.declared.command.Command.TheVariants.{Mount}
 use Rattle.rm_base.proofs.Conditions.{given-where, unless}
 use Rattle.rm_machine.proofs.Kept.{kept-on, stand-same}
 use Rattle.rm_machine.proofs.Leading.{LeadsOnBy, StaysBy}

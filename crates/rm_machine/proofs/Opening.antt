@@ -17,7 +17,7 @@ use Rattle.rm_machine.specs.Open.{is_recovered, open_refusal, opened}
 use Rattle.rm_machine.specs.Sound.{IsPlaced, IsSound}
 use Rattle.rm_machine.specs.declared.state.State.{State}
 use Rattle.rm_machine.specs.State.{ledger, world, current_of, now_of, placed, counted, is_lost}
-use Rattle.rm_command.specs.declared.command.Command.TheVariants.{OpenPlain}
+use Rattle.rm_statement.specs.declared.command.Command.TheVariants.{OpenPlain}
 use Rattle.rm_machine.proofs.Opened.{below-point, kept-get, kept-length, kept-rows, placed-standing, rows-agree}
 use Rattle.rm_base.proofs.Conditions.{only-where, unless}
 use Rattle.rm_machine.proofs.Kept.{kept-on, stand-same}

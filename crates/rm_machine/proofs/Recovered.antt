@@ -10,8 +10,8 @@ use Rattle.rm_base.specs.declared.refusal.Refusal.TheVariants.{Rm07}
 use Rattle.rm_base.proofs.Conditions.{unless}
 use Rattle.rm_base.proofs.Slots.{get-index, index-get}
 use Rattle.rm_blocks.specs.File.{File, base_of}
-use Rattle.rm_command.specs.declared.command.Command.TheVariants.{Recover, RecoverTest}
-use Rattle.rm_command.specs.declared.command.Until.{Until}
+use Rattle.rm_statement.specs.declared.command.Command.TheVariants.{Recover, RecoverTest}
+use Rattle.rm_statement.specs.declared.command.Until.{Until}
 use Rattle.rm_evidence.specs.declared.evidence.Evidence.{Evidence}
 use Rattle.rm_evidence.specs.Known.{FitsTree, known_of}
 use Rattle.rm_history.specs.declared.world.Datafile.{Datafile}

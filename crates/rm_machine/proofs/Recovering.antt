@@ -10,7 +10,7 @@ use Rattle.rm_base.specs.Content.{zero_block}
 use Rattle.rm_base.proofs.Slots.{all-get}
 use Rattle.rm_base.proofs.Conditions.{unless}
 use Rattle.rm_blocks.specs.File.{File}
-use Rattle.rm_command.specs.declared.command.Until.{Until}
+use Rattle.rm_statement.specs.declared.command.Until.{Until}
 use Rattle.rm_evidence.specs.declared.evidence.Evidence.{Evidence}
 use Rattle.rm_evidence.specs.Known.{FitsTree, known_of}
 use Rattle.rm_history.specs.declared.world.Datafile.{Datafile}

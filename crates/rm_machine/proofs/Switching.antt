@@ -41,7 +41,7 @@ use Rattle.rm_machine.specs.Marks.{ids_refusal, lacks_bytes, lacks_ids, lacks_ro
 use Rattle.rm_machine.specs.Sound.{IsOnline, IsSound}
 use Rattle.rm_machine.specs.declared.state.State.{State}
 use Rattle.rm_machine.specs.State.{ledger, is_lost, online, redo_end, world}
-use Rattle.rm_command.specs.declared.command.Command.TheVariants.{SwitchLogfile}
+use Rattle.rm_statement.specs.declared.command.Command.TheVariants.{SwitchLogfile}
 use Rattle.rm_machine.specs.SwitchLogfile.{archive_refusal, archived, is_due, log_bytes, log_entry, made_lines, none_lines, switch_refusal, with_archived}
 use Rattle.rm_base.proofs.Conditions.{unless}
 use Rattle.rm_machine.proofs.Kept.{StandOn, kept-on, no-effect, stand-same}

@@ -7,8 +7,8 @@ use Rattle.std.proofs.lemmas.List.Elements.{All-head, All-tail}
 use Rattle.rm_token.specs.Tokens.{is_word_byte}
 use Rattle.rm_grammar.specs.Grammar.{capitals, is_tag}
 use Rattle.rm_grammar.specs.Spelling.{is_capital_tag, maybe_valid}
-use Rattle.rm_command.specs.declared.command.BackupForm.{BackupForm}
-use Rattle.rm_lang.specs.IsCommand.{is_backup}
+use Rattle.rm_statement.specs.declared.command.BackupForm.{BackupForm}
+use Rattle.rm_statement.specs.IsCommand.{is_backup}
 use Rattle.rm_catalog.specs.Objects.{IsTag, is_tag_byte}
 use Rattle.rm_moments.specs.Tags.{IsTagByte}
 use Rattle.rm_moments.specs.Text as text

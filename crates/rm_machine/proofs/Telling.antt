@@ -1,7 +1,7 @@
 -- A statement that only tells is never done: nothing is to be shown of what it leaves.
 use Rattle.std.proofs.Common.{List}
 use Rattle.rm_base.specs.Store.{Held}
-use Rattle.rm_command.specs.declared.command.Command.{Command}
+use Rattle.rm_statement.specs.declared.command.Command.{Command}
 use Rattle.rm_report.specs.declared.line.Line.{Line}
 use Rattle.rm_machine.specs.Effect.{Effect, done}
 use Rattle.rm_machine.specs.declared.state.State.{State}

@@ -11,7 +11,7 @@ use Rattle.rm_base.specs.declared.refusal.Limit.TheVariants.{Records, ObjectIds,
 use Rattle.rm_blocks.specs.File.{File}
 use Rattle.rm_history.specs.declared.world.Datafile.{Datafile}
 use Rattle.rm_history.specs.World.{exists, file_of}
-use Rattle.rm_command.specs.declared.command.WriteForm.{WriteForm}
+use Rattle.rm_statement.specs.declared.command.WriteForm.{WriteForm}
 use Rattle.rm_redo.specs.Online.{records_of}
 use Rattle.rm_base.proofs.Conditions.{not-none, only-where, unless}
 use Rattle.rm_ledger.specs.Ledger.{records_of as ledger_records}

@@ -10,7 +10,7 @@ use Rattle.rm_base.specs.declared.kinds.Kind.{Kind}
 use Rattle.rm_base.specs.declared.kinds.Kind.TheVariants.{Full, Level0, Level1, Place}
 use Rattle.rm_base.proofs.Slots.{all-get, all-set_others, index-set}
 use Rattle.rm_blocks.specs.File.{File, IsInOrder, base_of, written}
-use Rattle.rm_command.specs.declared.command.WriteForm.{WriteForm}
+use Rattle.rm_statement.specs.declared.command.WriteForm.{WriteForm}
 use Rattle.rm_history.specs.declared.tree.Incarnation.{Incarnation}
 use Rattle.rm_history.specs.declared.world.World.{World}
 use Rattle.rm_history.specs.Agrees.{BaseAgrees, LogAgrees, is_of}

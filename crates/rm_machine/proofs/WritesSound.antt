@@ -10,7 +10,7 @@ use Rattle.rm_base.specs.declared.block.Row.{Row}
 use Rattle.rm_base.proofs.Slots.{all-get, get-index, get-set}
 use Rattle.rm_blocks.specs.File.{File, standing, written}
 use Rattle.rm_blocks.proofs.Rows.{in_order-set}
-use Rattle.rm_command.specs.declared.command.WriteForm.{WriteForm}
+use Rattle.rm_statement.specs.declared.command.WriteForm.{WriteForm}
 use Rattle.rm_history.specs.declared.tree.Incarnation.{Incarnation}
 use Rattle.rm_history.specs.declared.world.Datafile.{Datafile}
 use Rattle.rm_history.specs.Tree.{IsThere, end_of, reset_of}

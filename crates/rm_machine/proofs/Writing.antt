@@ -1,13 +1,13 @@
 -- WRITE leads on: the history grows, and each artefact goes on to agree.
 use Rattle.std.proofs.Common.{◌≡◌, ◌∙◌, ◌++◌, inl, [], ◌∷◌, ap, sym, subst}
 use Rattle.std.proofs.lemmas.List.{append-nil}
-use Rattle.rm_command.specs.declared.command.WriteForm.{WriteForm}
+use Rattle.rm_statement.specs.declared.command.WriteForm.{WriteForm}
 use Rattle.rm_machine.specs.Effect.{Effect, LeavesObjects, no_effect}
 use Rattle.rm_machine.specs.Machine.{IsBorneOut}
 use Rattle.rm_machine.specs.Sound.{IsSound}
 use Rattle.rm_machine.specs.declared.state.State.{State}
 use Rattle.rm_machine.specs.State.{ledger}
-use Rattle.rm_command.specs.declared.command.Command.TheVariants.{Write}
+use Rattle.rm_statement.specs.declared.command.Command.TheVariants.{Write}
 use Rattle.rm_machine.specs.Write.{change_of, with_write}
 use Rattle.rm_machine.proofs.Kept.{kept-on, stand-same}
 use Rattle.rm_machine.proofs.Leading.{LeadsOnBy, StaysBy}

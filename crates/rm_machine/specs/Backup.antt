@@ -13,7 +13,7 @@ use Rattle.rm_base.specs.declared.refusal.Refusal.{Refusal}
 use Rattle.rm_base.specs.declared.refusal.Refusal.TheVariants.{Rm04, Rm05, Rm09, Rm11}
 use Rattle.rm_catalog.specs.declared.record.PieceEntry.{PieceEntry}
 use Rattle.rm_change.specs.declared.change.Object.{Object}
-use Rattle.rm_command.specs.declared.command.BackupForm.{BackupForm}
+use Rattle.rm_statement.specs.declared.command.BackupForm.{BackupForm}
 use Rattle.rm_history.specs.Artefacts.{high_of}
 use Rattle.rm_history.specs.declared.world.Datafile.{Datafile}
 use Rattle.rm_history.specs.World.{exists, file_of}

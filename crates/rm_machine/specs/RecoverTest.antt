@@ -8,7 +8,7 @@ use Rattle.rm_base.specs.declared.kinds.Bad.{Bad}
 use Rattle.rm_base.specs.declared.refusal.Refusal.{Refusal}
 use Rattle.rm_base.specs.declared.refusal.Refusal.TheVariants.{Rm07}
 use Rattle.rm_blocks.specs.File.{File}
-use Rattle.rm_command.specs.declared.command.Until.{Until}
+use Rattle.rm_statement.specs.declared.command.Until.{Until}
 use Rattle.rm_history.specs.declared.world.Datafile.{Datafile}
 use Rattle.rm_report.specs.declared.line.Line.{Line}
 use Rattle.rm_report.specs.declared.line.Line.TheVariants.{UntilIs, FileIs, BlockIs}

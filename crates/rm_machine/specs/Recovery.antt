@@ -8,8 +8,8 @@ use Rattle.rm_base.specs.declared.kinds.Bad.{Bad}
 use Rattle.rm_base.specs.declared.refusal.Refusal.{Refusal}
 use Rattle.rm_base.specs.declared.refusal.Refusal.TheVariants.{Rm06, Rm08}
 use Rattle.rm_blocks.specs.File.{File}
-use Rattle.rm_command.specs.declared.command.Until.{Until}
-use Rattle.rm_command.specs.declared.command.Until.TheVariants.{Scn}
+use Rattle.rm_statement.specs.declared.command.Until.{Until}
+use Rattle.rm_statement.specs.declared.command.Until.TheVariants.{Scn}
 use Rattle.rm_evidence.specs.declared.evidence.Evidence.{Evidence}
 use Rattle.rm_evidence.specs.declared.evidence.InPlace.{InPlace}
 use Rattle.rm_evidence.specs.Gathered.{IsGathered}

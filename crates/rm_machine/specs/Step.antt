@@ -4,9 +4,9 @@ use Rattle.rm_base.specs.Store.{Held}
 use Rattle.rm_base.specs.declared.block.Change.{Change}
 use Rattle.rm_base.specs.declared.refusal.Refusal.{Refusal}
 use Rattle.rm_base.specs.declared.refusal.Refusal.TheVariants.{Rm02, Rm03}
-use Rattle.rm_command.specs.declared.command.Command.{Command}
-use Rattle.rm_command.specs.declared.command.Command.TheVariants.{ArchiveLogCurrent, Backup, CreateDatabase, CreateDatafile, Cut, Damage, Dump, ListIncarnation, LoseDatafile, LoseLog, Mount, OpenPlain, OpenResetlogs, Recover, RecoverTest, Remove, Rename, ResetDatabase, SwitchLogfile, Write}
-use Rattle.rm_lang.specs.IsCommand.{is_command}
+use Rattle.rm_statement.specs.declared.command.Command.{Command}
+use Rattle.rm_statement.specs.declared.command.Command.TheVariants.{ArchiveLogCurrent, Backup, CreateDatabase, CreateDatafile, Cut, Damage, Dump, ListIncarnation, LoseDatafile, LoseLog, Mount, OpenPlain, OpenResetlogs, Recover, RecoverTest, Remove, Rename, ResetDatabase, SwitchLogfile, Write}
+use Rattle.rm_statement.specs.IsCommand.{is_command}
 use Rattle.rm_report.specs.Reply as reply
 use Rattle.rm_report.specs.declared.line.Reply.{Reply}
 use Rattle.rm_machine.specs.Archive.{archive_all_refusal, IsArchiveOutcome}

@@ -10,7 +10,7 @@ use Rattle.rm_base.specs.declared.refusal.Limit.TheVariants.{Records, ObjectIds,
 use Rattle.rm_blocks.specs.File.{written}
 use Rattle.rm_history.specs.declared.world.Datafile.{Datafile}
 use Rattle.rm_redo.specs.Online.{records_of, with_change}
-use Rattle.rm_command.specs.declared.command.WriteForm.{WriteForm}
+use Rattle.rm_statement.specs.declared.command.WriteForm.{WriteForm}
 use Rattle.rm_report.specs.declared.line.Line.TheVariants.{Written}
 use Rattle.rm_machine.specs.Effect.{Outcome, done, no_effect}
 use Rattle.rm_machine.specs.Marks.{lacks_ids, lacks_room, marks_before, one_further}

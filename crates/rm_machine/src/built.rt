@@ -4,7 +4,7 @@ ghost use Rattle.rm_machine.specs.Backup.{is_built_backup};
 ghost use Rattle.rm_machine.specs.Built.{is_built};
 ghost use Rattle.rm_machine.specs.Recovery.{is_built_until};
 
-use rm_command::{BackupForm, Command, Until};
+use rm_statement::{BackupForm, Command, Until};
 
 fn is_built_until(until: &Option<Until>) -> bool
     ensures { result ≡ is_built_until until.now }

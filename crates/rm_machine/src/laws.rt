@@ -5,9 +5,9 @@ ghost use Rattle.rm_base.specs.Store.{Held};
 ghost use Rattle.rm_base.specs.declared.block.Change.{Change};
 ghost use Rattle.rm_base.specs.declared.kinds.Bad.{Bad};
 ghost use Rattle.rm_blocks.specs.File.{File};
-ghost use Rattle.rm_command.specs.declared.command.Until.{Until};
-ghost use Rattle.rm_command.specs.declared.command.BackupForm.{BackupForm};
-ghost use Rattle.rm_command.specs.declared.command.WriteForm.{WriteForm};
+ghost use Rattle.rm_statement.specs.declared.command.Until.{Until};
+ghost use Rattle.rm_statement.specs.declared.command.BackupForm.{BackupForm};
+ghost use Rattle.rm_statement.specs.declared.command.WriteForm.{WriteForm};
 ghost use Rattle.rm_evidence.specs.declared.evidence.Evidence.{Evidence};
 ghost use Rattle.rm_evidence.specs.Known.{known_of};
 ghost use Rattle.rm_known.specs.Evidence.{Agrees};
@@ -20,7 +20,7 @@ ghost use Rattle.rm_machine.specs.Recovery.{FindsGap, IsAtHand, TellsAll};
 ghost use Rattle.rm_machine.specs.Sound.{IsSound};
 ghost use Rattle.rm_machine.specs.declared.state.State.{State};
 ghost use Rattle.rm_machine.specs.State.{at_moment, ledger, world};
-ghost use Rattle.rm_command.specs.declared.command.Command.TheVariants.{ArchiveLogCurrent, Backup, CreateDatafile, Cut, Damage, Dump, ListIncarnation, LoseDatafile, LoseLog, Mount, OpenPlain, OpenResetlogs, Recover, RecoverTest, Remove, Rename, ResetDatabase, SwitchLogfile, Write};
+ghost use Rattle.rm_statement.specs.declared.command.Command.TheVariants.{ArchiveLogCurrent, Backup, CreateDatafile, Cut, Damage, Dump, ListIncarnation, LoseDatafile, LoseLog, Mount, OpenPlain, OpenResetlogs, Recover, RecoverTest, Remove, Rename, ResetDatabase, SwitchLogfile, Write};
 
 /// There are sound machines: that of a new database is one.
 pub fn a_new_database_is_sound()

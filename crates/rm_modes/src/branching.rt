@@ -1,7 +1,7 @@
 //! ALTER DATABASE OPEN RESETLOGS
 ghost use Rattle.std.specs.Prelude.{◌≡◌, ◌<◌, length, IfOk, None, OnOk, Option, Some};
 ghost use Rattle.rm_base.specs.Store.{Held};
-ghost use Rattle.rm_command.specs.declared.command.Command.TheVariants.{OpenResetlogs};
+ghost use Rattle.rm_statement.specs.declared.command.Command.TheVariants.{OpenResetlogs};
 ghost use Rattle.rm_machine.specs.Hands.{Hands};
 ghost use Rattle.rm_machine.specs.OpenResetlogs.{branch_refusal, branched_off, resetlogs_refusal};
 ghost use Rattle.rm_machine.specs.Sound.{IsSound};

@@ -1,7 +1,7 @@
 //! LIST INCARNATION
 ghost use Rattle.std.specs.Prelude.{◌≡◌, ◌++◌, ◌∷◌, [], IfOk, OnOk, Option, length};
 ghost use Rattle.rm_base.specs.Store.{Held};
-ghost use Rattle.rm_command.specs.declared.command.Command.TheVariants.{ListIncarnation};
+ghost use Rattle.rm_statement.specs.declared.command.Command.TheVariants.{ListIncarnation};
 ghost use Rattle.rm_history.specs.Tree.{IsThere};
 ghost use Rattle.rm_machine.specs.Hands.{Tells};
 ghost use Rattle.rm_machine.specs.ListIncarnation.{incarnation_line, incarnation_lines};

@@ -1,7 +1,7 @@
 //! SHUTDOWN and STARTUP MOUNT
 ghost use Rattle.std.specs.Prelude.{◌≡◌, IfOk, None, OnOk, Option, true};
 ghost use Rattle.rm_base.specs.Store.{Held};
-ghost use Rattle.rm_command.specs.declared.command.Command.TheVariants.{Mount};
+ghost use Rattle.rm_statement.specs.declared.command.Command.TheVariants.{Mount};
 ghost use Rattle.rm_machine.specs.Hands.{Hands};
 ghost use Rattle.rm_machine.specs.Marks.{ids_refusal};
 ghost use Rattle.rm_machine.specs.Mount.{as_mounted, mount_point, mounted};

@@ -2,7 +2,7 @@
 ghost use Rattle.std.specs.Prelude.{◌≡◌, IfOk, None, OnOk, Option};
 ghost use Rattle.std.specs.List.{list_any};
 ghost use Rattle.rm_base.specs.Store.{Held};
-ghost use Rattle.rm_command.specs.declared.command.Command.TheVariants.{OpenPlain};
+ghost use Rattle.rm_statement.specs.declared.command.Command.TheVariants.{OpenPlain};
 ghost use Rattle.rm_machine.specs.Hands.{Hands};
 ghost use Rattle.rm_machine.specs.Open.{is_recovered, open_refusal, opened};
 ghost use Rattle.rm_machine.specs.Sound.{IsSound};

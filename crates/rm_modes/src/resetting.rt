@@ -1,7 +1,7 @@
 //! RESET DATABASE TO INCARNATION n
 ghost use Rattle.std.specs.Prelude.{◌≡◌, IfOk, None, OnOk, Option};
 ghost use Rattle.rm_base.specs.Store.{Held};
-ghost use Rattle.rm_command.specs.declared.command.Command.TheVariants.{ResetDatabase};
+ghost use Rattle.rm_statement.specs.declared.command.Command.TheVariants.{ResetDatabase};
 ghost use Rattle.rm_machine.specs.Hands.{Hands};
 ghost use Rattle.rm_machine.specs.ResetDatabase.{reset_refusal};
 ghost use Rattle.rm_machine.specs.Sound.{IsSound};

@@ -4,9 +4,9 @@ use Rattle.rm_base.specs.Store.{Held}
 use Rattle.rm_base.specs.declared.kinds.Bad.{Bad}
 use Rattle.rm_base.specs.declared.refusal.Refusal.{Refusal}
 use Rattle.rm_blocks.specs.File.{File}
-use Rattle.rm_command.specs.declared.command.Command.TheVariants.{Recover, RecoverTest}
-use Rattle.rm_command.specs.declared.command.Until.{Until}
-use Rattle.rm_command.specs.declared.command.Until.TheVariants.{Scn, Sequence, Time}
+use Rattle.rm_statement.specs.declared.command.Command.TheVariants.{Recover, RecoverTest}
+use Rattle.rm_statement.specs.declared.command.Until.{Until}
+use Rattle.rm_statement.specs.declared.command.Until.TheVariants.{Scn, Sequence, Time}
 use Rattle.rm_evidence.specs.declared.evidence.Evidence.{Evidence}
 use Rattle.rm_history.specs.declared.tree.Incarnation.{Incarnation}
 use Rattle.rm_plan.specs.declared.plan.PlanFault.{PlanFault}

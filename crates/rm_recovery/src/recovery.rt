@@ -1,7 +1,7 @@
 //! RECOVER DATABASE [UNTIL SCN s]
 ghost use Rattle.std.specs.Prelude.{◌≡◌, ◌≤◌, ◌++◌, ◌∷◌, [], All, IfErr, IfOk, IsErrOf, None, OnOk, length, true};
 ghost use Rattle.rm_base.specs.Outside.{Rose};
-ghost use Rattle.rm_command.specs.declared.command.Command.TheVariants.{Recover};
+ghost use Rattle.rm_statement.specs.declared.command.Command.TheVariants.{Recover};
 ghost use Rattle.rm_machine.specs.Hands.{Hands, Refuses};
 ghost use Rattle.rm_machine.specs.Recover.{or_else, put_over, recover_refusal, recover_target, recovered, target_refusal};
 ghost use Rattle.rm_machine.specs.Recovery.{count_at, is_built_until, skipped_lines};
@@ -15,7 +15,7 @@ use crate::target::{range_refusal, target_of};
 use crate::telling::{Told, tell};
 use rm_base::{Bad, NoMemory, Refusal, Scn, Seq, Store};
 use rm_blocks::DataFile;
-use rm_command::Until;
+use rm_statement::Until;
 use rm_evidence::EvidenceFault;
 use rm_machine::facts::first_lost;
 use rm_machine::room::ids_refusal;

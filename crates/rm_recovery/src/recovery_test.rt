@@ -1,7 +1,7 @@
 //! RECOVER DATABASE [UNTIL SCN s] [INCARNATION i] TEST
 ghost use Rattle.std.specs.Prelude.{◌≡◌, ◌≤◌, All, IfErr, IfOk, IsErrOf, None, true};
 ghost use Rattle.rm_base.specs.Outside.{Rose};
-ghost use Rattle.rm_command.specs.declared.command.Command.TheVariants.{RecoverTest};
+ghost use Rattle.rm_statement.specs.declared.command.Command.TheVariants.{RecoverTest};
 ghost use Rattle.rm_machine.specs.Hands.{Refuses, Tells};
 ghost use Rattle.rm_machine.specs.RecoverTest.{test_refusal, tested};
 ghost use Rattle.rm_machine.specs.Recovery.{is_built_until};
@@ -13,7 +13,7 @@ use crate::lines::{push_test, skipped_lines};
 use crate::target::{range_refusal, target_of};
 use crate::telling::{Told, tell};
 use rm_base::{IncNo, Refusal, Seq, Store};
-use rm_command::Until;
+use rm_statement::Until;
 use rm_evidence::EvidenceFault;
 use rm_machine::State;
 use rm_report::Line;

@@ -4,7 +4,7 @@ ghost use Rattle.rm_history.specs.Tree.{IsThere};
 ghost use Rattle.rm_machine.specs.Recovery.{range_refusal, target_of};
 
 use rm_base::{IncNo, Refusal};
-use rm_command::Until;
+use rm_statement::Until;
 use rm_history::Tree;
 
 /// The SCN at which a recovery of an incarnation stops. None where the UNTIL is one that is not built.

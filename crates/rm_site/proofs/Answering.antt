@@ -8,7 +8,7 @@ use Rattle.rm_catalog.specs.declared.record.Edit.{Edit}
 use Rattle.rm_catalog.specs.declared.record.Record.{Record}
 use Rattle.rm_change.specs.declared.change.Change.{Change}
 use Rattle.rm_change.specs.Carrying.{Carried, Halted, Leads}
-use Rattle.rm_command.specs.declared.command.Command.{Command}
+use Rattle.rm_statement.specs.declared.command.Command.{Command}
 use Rattle.rm_report.specs.Reply.{refused_by, said}
 use Rattle.rm_report.specs.declared.line.Line.{Line}
 use Rattle.rm_report.specs.declared.line.Reply.{Reply}

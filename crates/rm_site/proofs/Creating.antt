@@ -9,9 +9,9 @@ use Rattle.rm_base.specs.declared.refusal.Refusal.TheVariants.{Rm02, Rm11}
 use Rattle.rm_catalog.specs.Edits.{after_edits}
 use Rattle.rm_catalog.specs.declared.record.Edit.{Edit}
 use Rattle.rm_change.specs.declared.change.Change.{Change}
-use Rattle.rm_command.specs.declared.command.Command.{Command}
-use Rattle.rm_command.specs.declared.command.Command.TheVariants.{CreateDatabase}
-use Rattle.rm_lang.specs.IsCommand.{is_command}
+use Rattle.rm_statement.specs.declared.command.Command.{Command}
+use Rattle.rm_statement.specs.declared.command.Command.TheVariants.{CreateDatabase}
+use Rattle.rm_statement.specs.IsCommand.{is_command}
 use Rattle.rm_ledger.specs.Fresh.{fresh, fresh_edits}
 use Rattle.rm_report.specs.declared.line.Line.{Line}
 use Rattle.rm_report.specs.declared.line.Line.TheVariants.{DatabaseAt}

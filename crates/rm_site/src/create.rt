@@ -1,8 +1,8 @@
 //! CREATE DATABASE, where there is no database.
 ghost use Rattle.std.specs.Prelude.{◌≡◌, ◌≤◌, [], ◌∷◌, IfOk, IfNone, IsTrue};
 ghost use Rattle.rm_base.specs.Numbers.{last_moment};
-ghost use Rattle.rm_command.specs.declared.command.Command.TheVariants.{CreateDatabase};
-ghost use Rattle.rm_lang.specs.IsCommand.{is_command};
+ghost use Rattle.rm_statement.specs.declared.command.Command.TheVariants.{CreateDatabase};
+ghost use Rattle.rm_statement.specs.IsCommand.{is_command};
 ghost use Rattle.rm_ledger.specs.Fresh.{fresh, fresh_edits as edits_of_fresh};
 ghost use Rattle.rm_report.specs.declared.line.Line.TheVariants.{DatabaseAt};
 ghost use Rattle.rm_machine.specs.CreateDatabase.{fresh_state};
@@ -10,7 +10,7 @@ ghost use Rattle.rm_frame.specs.Refused.{create_refusal, refusal_without};
 
 use rm_base::{Limit, Moment, NoMemory, Refusal, Scn, Seq, ThreadNo};
 use rm_change::Change;
-use rm_command::Command;
+use rm_statement::Command;
 use rm_ledger::fresh_edits;
 use rm_machine::{Instance, State};
 use rm_redo::OnlineLogs;

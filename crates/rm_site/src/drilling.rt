@@ -9,7 +9,7 @@ ghost use Rattle.rm_site.specs.Comes.{IsAnswer, is_drill};
 use crate::statement::Answer;
 use rm_base::Store;
 use rm_change::Stop;
-use rm_command::Command;
+use rm_statement::Command;
 use rm_host::{cut, damage, remove, rename};
 use rm_machine::State;
 use std::alloc::Global;

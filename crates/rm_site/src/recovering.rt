@@ -2,7 +2,7 @@
 ghost use Rattle.std.specs.Prelude.{◌≡◌, ◌≤◌, None, true, IfOk, IsErrOf};
 ghost use Rattle.rm_base.specs.Outside.{Rose};
 ghost use Rattle.rm_change.specs.declared.change.Stop.TheVariants.{StoreFault, KeeperFault};
-ghost use Rattle.rm_command.specs.declared.command.Command.TheVariants.{Recover, RecoverTest};
+ghost use Rattle.rm_statement.specs.declared.command.Command.TheVariants.{Recover, RecoverTest};
 ghost use Rattle.rm_machine.specs.Recover.{recover_refusal};
 ghost use Rattle.rm_machine.specs.RecoverTest.{test_refusal};
 ghost use Rattle.rm_machine.specs.Recovery.{is_built_until};
@@ -13,7 +13,7 @@ ghost use Rattle.rm_site.specs.Faults.{stop_of};
 use crate::statement::Answer;
 use rm_base::Store;
 use rm_change::Stop;
-use rm_command::Until;
+use rm_statement::Until;
 use rm_evidence::EvidenceFault;
 use rm_machine::State;
 use rm_recovery::{recover, recover_test};

@@ -6,7 +6,7 @@ ghost use Rattle.rm_machine.specs.Step.{refusal_of};
 use rm_archiving::{archive_all_refusal, switch_refusal};
 use rm_backing::backup_refusal;
 use rm_base::Refusal;
-use rm_command::Command;
+use rm_statement::Command;
 use rm_host::{lose_log_refusal, lose_refusal};
 use rm_machine::State;
 use rm_machine::room::ids_refusal;

@@ -2,7 +2,7 @@
 ghost use Rattle.std.specs.Prelude.{◌≡◌, ◌≤◌, true, false, None, Some, IfOk, IfSome, IsTrue, OnOk, OnErr, IsErrOf};
 ghost use Rattle.rm_base.specs.Outside.{Rose};
 ghost use Rattle.rm_change.specs.declared.change.Stop.TheVariants.{StoreFault, KeeperFault};
-ghost use Rattle.rm_lang.specs.IsCommand.{is_command};
+ghost use Rattle.rm_statement.specs.IsCommand.{is_command};
 ghost use Rattle.rm_report.specs.Reply.{HasDates, said};
 ghost use Rattle.rm_machine.specs.Built.{is_built};
 ghost use Rattle.rm_machine.specs.Sound.{IsSound};
@@ -19,7 +19,7 @@ use crate::statement::{Answer, come_to};
 use rm_base::{Moment, Seq, Store};
 use rm_catalog::Keeper;
 use rm_change::{Change, Stop, carry_out};
-use rm_command::Command;
+use rm_statement::Command;
 use rm_machine::{Handed, State, refusal_reply};
 use rm_report::{Line, Reply};
 use std::alloc::Global;

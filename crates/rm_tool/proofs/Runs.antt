@@ -13,7 +13,7 @@ use Rattle.rm_base.specs.Store.{Held, Answers, Both}
 use Rattle.rm_base.proofs.Lists.{take_more}
 use Rattle.rm_base.proofs.Streams.{appends-then, appends-nothing}
 use Rattle.rm_catalog.specs.declared.record.Record.{Record}
-use Rattle.rm_command.specs.declared.command.Command.{Command}
+use Rattle.rm_statement.specs.declared.command.Command.{Command}
 use Rattle.rm_tool.specs.Built.{command_at}
 use Rattle.rm_token.specs.declared.token.Token.{Token}
 use Rattle.rm_report.specs.declared.line.Reply.{Reply}

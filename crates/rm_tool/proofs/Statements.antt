@@ -3,7 +3,7 @@ use Rattle.std.proofs.Common.{◌≡◌, ◌+◌, ◌∙◌, ℕ, suc, List, Opt
 use Rattle.rm_base.specs.Store.{Held, Answers, Both, IsLater}
 use Rattle.rm_base.specs.declared.refusal.Refusal.TheVariants.{Rm01}
 use Rattle.rm_catalog.specs.declared.record.Record.{Record}
-use Rattle.rm_command.specs.declared.command.Command.{Command}
+use Rattle.rm_statement.specs.declared.command.Command.{Command}
 use Rattle.rm_tool.specs.Built.{command_at}
 use Rattle.rm_token.specs.declared.token.Token.{Token}
 use Rattle.rm_report.specs.declared.line.Reply.{Reply}

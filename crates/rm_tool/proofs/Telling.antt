@@ -2,7 +2,7 @@
 use Rattle.std.proofs.Common.{◌≡◌, ◌∙◌, ℕ, List, [], ◌∷◌, ◌++◌, Option, Some, None, zero, suc, ap, take}
 use Rattle.std.specs.Option.{option_map_or}
 use Rattle.rm_base.specs.Store.{Answers}
-use Rattle.rm_command.specs.declared.command.Command.{Command}
+use Rattle.rm_statement.specs.declared.command.Command.{Command}
 use Rattle.rm_report.specs.declared.line.Reply.{Reply}
 use Rattle.rm_token.specs.declared.token.Token.{Token}
 use Rattle.rm_machine.specs.Effect.{Outcome, refused, told, done}

@@ -1,8 +1,8 @@
 -- The statements that the program answers by a step.
 use Rattle.std.specs.Prelude.{if◌then◌else◌, Option, Some, None, List}
-use Rattle.rm_command.specs.declared.command.Command.{Command}
-use Rattle.rm_command.specs.declared.command.Statement.{Statement}
-use Rattle.rm_command.specs.declared.command.Statement.TheVariants.{Plain, Run}
+use Rattle.rm_statement.specs.declared.command.Command.{Command}
+use Rattle.rm_statement.specs.declared.command.Statement.{Statement}
+use Rattle.rm_statement.specs.declared.command.Statement.TheVariants.{Plain, Run}
 use Rattle.rm_command.specs.Language.{statement_at}
 use Rattle.rm_machine.specs.Built.{is_built}
 use Rattle.rm_token.specs.declared.token.Token.{Token}

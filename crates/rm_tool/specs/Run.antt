@@ -5,7 +5,7 @@ use Rattle.std.specs.Option.{option_map_or}
 use Rattle.rm_base.specs.Store.{Answers}
 use Rattle.rm_base.specs.declared.refusal.Refusal.TheVariants.{Rm01}
 use Rattle.rm_token.specs.declared.token.Token.{Token}
-use Rattle.rm_command.specs.declared.command.Command.{Command}
+use Rattle.rm_statement.specs.declared.command.Command.{Command}
 use Rattle.rm_tool.specs.Built.{command_at}
 use Rattle.rm_report.specs.declared.line.Reply.{Reply}
 use Rattle.rm_report.specs.Reply.{refused_by}

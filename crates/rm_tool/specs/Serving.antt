@@ -6,7 +6,7 @@ use Rattle.rm_base.specs.Store.{Held, Answers, Both}
 use Rattle.rm_catalog.specs.declared.record.Record.{Record}
 use Rattle.rm_change.specs.declared.change.Stop.{Stop}
 use Rattle.rm_change.specs.declared.change.Stop.TheVariants as stop
-use Rattle.rm_command.specs.declared.command.Command.{Command}
+use Rattle.rm_statement.specs.declared.command.Command.{Command}
 use Rattle.rm_tool.specs.Built.{command_at}
 use Rattle.rm_token.specs.declared.token.Token.{Token}
 use Rattle.rm_report.specs.declared.line.Reply.{Reply}

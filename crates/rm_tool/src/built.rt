@@ -1,6 +1,6 @@
 //! The statements that the program answers by a step.
 ghost use Rattle.std.specs.Prelude.{◌≡◌, IfOk, IfSome, IsTrue};
-ghost use Rattle.rm_lang.specs.IsCommand.{is_command};
+ghost use Rattle.rm_statement.specs.IsCommand.{is_command};
 ghost use Rattle.rm_machine.specs.Built.{is_built};
 ghost use Rattle.rm_tool.specs.Built.{command_at};
 

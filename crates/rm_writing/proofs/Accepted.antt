@@ -11,7 +11,7 @@ use Rattle.rm_base.specs.declared.refusal.Absent.TheVariants.{File as AbsentFile
 use Rattle.rm_base.proofs.Conditions.{not-none, unless}
 use Rattle.rm_base.proofs.Slots.{all-get, get-index}
 use Rattle.rm_blocks.specs.File.{File}
-use Rattle.rm_command.specs.declared.command.WriteForm.{WriteForm}
+use Rattle.rm_statement.specs.declared.command.WriteForm.{WriteForm}
 use Rattle.rm_history.specs.declared.world.Datafile.{Datafile}
 use Rattle.rm_history.proofs.Highs.{high-above}
 use Rattle.rm_history.proofs.Worlds.{file-there}

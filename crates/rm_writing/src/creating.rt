@@ -1,7 +1,7 @@
 //! CREATE DATAFILE BLOCKS n
 ghost use Rattle.std.specs.Prelude.{◌≡◌, ◌≤◌, ◌+◌, IfOk, OnOk, Option, None, length, sum_by};
 ghost use Rattle.rm_base.specs.Store.{Held};
-ghost use Rattle.rm_command.specs.declared.command.Command.TheVariants.{CreateDatafile};
+ghost use Rattle.rm_statement.specs.declared.command.Command.TheVariants.{CreateDatafile};
 ghost use Rattle.rm_machine.specs.CreateDatafile.{datafile_refusal, new_datafile, next_file, room_refusal};
 ghost use Rattle.rm_machine.specs.Hands.{Hands};
 ghost use Rattle.rm_machine.specs.Sound.{IsSound};

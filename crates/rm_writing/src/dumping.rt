@@ -1,7 +1,7 @@
 //! DUMP DATAFILE f BLOCK b
 ghost use Rattle.std.specs.Prelude.{◌≡◌, ◌<◌, IfOk, Option, None};
 ghost use Rattle.rm_base.specs.Store.{Held};
-ghost use Rattle.rm_command.specs.declared.command.Command.TheVariants.{Dump};
+ghost use Rattle.rm_statement.specs.declared.command.Command.TheVariants.{Dump};
 ghost use Rattle.rm_machine.specs.Dump.{dump_refusal, placed_row};
 ghost use Rattle.rm_machine.specs.Hands.{Tells};
 ghost use Rattle.rm_machine.specs.Sound.{IsSound};

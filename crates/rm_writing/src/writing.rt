@@ -3,7 +3,7 @@ ghost use Rattle.std.specs.Prelude.{◌≡◌, ◌<◌, ◌≤◌, ◌-◌, IfOk
 ghost use Rattle.std.specs.Option.{option_map};
 ghost use Rattle.rm_base.specs.Store.{Held};
 ghost use Rattle.rm_blocks.specs.File.{written};
-ghost use Rattle.rm_command.specs.declared.command.Command.TheVariants.{Write};
+ghost use Rattle.rm_statement.specs.declared.command.Command.TheVariants.{Write};
 ghost use Rattle.rm_machine.specs.Hands.{Hands};
 ghost use Rattle.rm_machine.specs.Sound.{IsSound};
 ghost use Rattle.rm_machine.specs.State.{ledger};
@@ -15,7 +15,7 @@ use crate::further::{go_further, mark_count};
 use rm_base::{Absent, Change, LAST_SCN, Limit, NoMemory, Refusal, Seq, ThreadNo};
 use rm_blocks::DataFile;
 use rm_catalog::Edit;
-use rm_command::WriteForm;
+use rm_statement::WriteForm;
 use rm_history::Datafile;
 use rm_machine::facts::{is_thread, now, on_path, placed};
 use rm_machine::handed::of_line;

@@ -1,6 +1,6 @@
 use Rattle.rm_machine.proofs.Leading.{leads, stays}
 use Rattle.rm_machine.proofs.Drilling.{cut-on, cut-stays, damage-on, damage-stays, remove-on, remove-stays, rename-on, rename-stays}
-use Rattle.rm_command.specs.declared.command.Command.TheVariants.{Cut, Damage, Remove, Rename}
+use Rattle.rm_statement.specs.declared.command.Command.TheVariants.{Cut, Damage, Remove, Rename}
 use Rattle.rm_machine.proofs.laws.a_drill_of_objects_leads_on.Goals as goal
 
 pub returns-clause-removes : goal.returns-clause-removes

@@ -1,7 +1,7 @@
 use Rattle.rm_machine.proofs.Leading.{leads, stays}
 use Rattle.rm_machine.proofs.Dumping.{dump-never}
 use Rattle.rm_machine.proofs.Telling.{tells-on, tells-stays}
-use Rattle.rm_command.specs.declared.command.Command.TheVariants.{Dump}
+use Rattle.rm_statement.specs.declared.command.Command.TheVariants.{Dump}
 use Rattle.rm_machine.proofs.laws.a_dump_leads_on.Goals as goal
 
 pub returns-clause-leads : goal.returns-clause-leads

@@ -1,6 +1,6 @@
 use Rattle.rm_machine.proofs.Leading.{leads, stays}
 use Rattle.rm_machine.proofs.Losing.{lose-on, lose-stays}
-use Rattle.rm_command.specs.declared.command.Command.TheVariants.{LoseDatafile}
+use Rattle.rm_statement.specs.declared.command.Command.TheVariants.{LoseDatafile}
 use Rattle.rm_machine.proofs.laws.a_lost_datafile_leads_on.Goals as goal
 
 pub returns-clause-leads : goal.returns-clause-leads

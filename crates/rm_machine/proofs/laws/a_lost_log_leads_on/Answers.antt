@@ -1,6 +1,6 @@
 use Rattle.rm_machine.proofs.Leading.{leads, stays}
 use Rattle.rm_machine.proofs.LosingLog.{lose_log-on, lose_log-stays}
-use Rattle.rm_command.specs.declared.command.Command.TheVariants.{LoseLog}
+use Rattle.rm_statement.specs.declared.command.Command.TheVariants.{LoseLog}
 use Rattle.rm_machine.proofs.laws.a_lost_log_leads_on.Goals as goal
 
 pub returns-clause-leads : goal.returns-clause-leads

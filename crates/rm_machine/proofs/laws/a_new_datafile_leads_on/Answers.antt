@@ -1,6 +1,6 @@
 use Rattle.rm_machine.proofs.Leading.{leads, stays}
 use Rattle.rm_machine.proofs.AddingDatafile.{create-on, create-stays}
-use Rattle.rm_command.specs.declared.command.Command.TheVariants.{CreateDatafile}
+use Rattle.rm_statement.specs.declared.command.Command.TheVariants.{CreateDatafile}
 use Rattle.rm_machine.proofs.laws.a_new_datafile_leads_on.Goals as goal
 
 pub returns-clause-leads : goal.returns-clause-leads

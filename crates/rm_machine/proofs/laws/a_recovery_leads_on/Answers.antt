@@ -1,6 +1,6 @@
 use Rattle.rm_machine.proofs.Leading.{leads, stays}
 use Rattle.rm_machine.proofs.Recovered.{recover-on, recover-stays}
-use Rattle.rm_command.specs.declared.command.Command.TheVariants.{Recover}
+use Rattle.rm_statement.specs.declared.command.Command.TheVariants.{Recover}
 use Rattle.rm_machine.proofs.laws.a_recovery_leads_on.Goals as goal
 
 pub returns-clause-leads : goal.returns-clause-leads

@@ -1,6 +1,6 @@
 use Rattle.rm_machine.proofs.Leading.{leads, stays}
 use Rattle.rm_machine.proofs.Choosing.{choose-on, choose-stays}
-use Rattle.rm_command.specs.declared.command.Command.TheVariants.{ResetDatabase}
+use Rattle.rm_statement.specs.declared.command.Command.TheVariants.{ResetDatabase}
 use Rattle.rm_machine.proofs.laws.a_reset_leads_on.Goals as goal
 
 pub returns-clause-leads : goal.returns-clause-leads

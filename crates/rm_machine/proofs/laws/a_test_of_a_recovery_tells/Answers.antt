@@ -1,6 +1,6 @@
 use Rattle.rm_machine.proofs.Leading.{leads, stays, tells}
 use Rattle.rm_machine.proofs.Recovered.{test-never, test-tells}
-use Rattle.rm_command.specs.declared.command.Command.TheVariants.{RecoverTest}
+use Rattle.rm_statement.specs.declared.command.Command.TheVariants.{RecoverTest}
 use Rattle.rm_machine.proofs.laws.a_test_of_a_recovery_tells.Goals as goal
 
 pub returns-clause-tells : goal.returns-clause-tells

@@ -1,6 +1,6 @@
 use Rattle.rm_machine.proofs.Leading.{leads, stays}
 use Rattle.rm_machine.proofs.Opening.{open-on, open-stays}
-use Rattle.rm_command.specs.declared.command.Command.TheVariants.{OpenPlain}
+use Rattle.rm_statement.specs.declared.command.Command.TheVariants.{OpenPlain}
 use Rattle.rm_machine.proofs.laws.an_opening_leads_on.Goals as goal
 
 pub returns-clause-leads : goal.returns-clause-leads

@@ -1,6 +1,6 @@
 use Rattle.rm_machine.proofs.Leading.{leads, stays}
 use Rattle.rm_machine.proofs.Branching.{resets-on, resets-stays}
-use Rattle.rm_command.specs.declared.command.Command.TheVariants.{OpenResetlogs}
+use Rattle.rm_statement.specs.declared.command.Command.TheVariants.{OpenResetlogs}
 use Rattle.rm_machine.proofs.laws.an_opening_with_resetlogs_leads_on.Goals as goal
 
 pub returns-clause-leads : goal.returns-clause-leads

@@ -1,5 +1,5 @@
 use Rattle.std.proofs.Common.{rules, ◌≡◌, ◌∙◌, ◌<◌, ◌+◌, ◌++◌, [], ◌∷◌, ℕ, List, Option, IsSomeAnd, false, ap, sym, subst, refl, length}
-use Rattle.rm_command.specs.declared.command.Command.TheVariants.{OpenResetlogs}
+use Rattle.rm_statement.specs.declared.command.Command.TheVariants.{OpenResetlogs}
 use Rattle.rm_history.specs.declared.tree.Incarnation.{Incarnation}
 use Rattle.rm_change.specs.declared.change.Object.{Object}
 use Rattle.rm_report.specs.declared.line.Line.{Line}

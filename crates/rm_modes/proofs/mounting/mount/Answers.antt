@@ -1,5 +1,5 @@
 use Rattle.std.proofs.Common.{◌≡◌, ◌∙◌, [], ◌∷◌, ap, refl, sym, cond}
-use Rattle.rm_command.specs.declared.command.Command.TheVariants.{Mount}
+use Rattle.rm_statement.specs.declared.command.Command.TheVariants.{Mount}
 use Rattle.rm_report.specs.declared.line.Line.TheVariants.{Mounted}
 use Rattle.rm_machine.specs.Effect.{no_effect}
 use Rattle.rm_machine.specs.Mount.{as_mounted, mounted}

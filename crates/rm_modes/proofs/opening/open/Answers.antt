@@ -1,5 +1,5 @@
 use Rattle.std.proofs.Common.{rules, ◌≡◌, [], ◌∷◌, refl}
-use Rattle.rm_command.specs.declared.command.Command.TheVariants.{OpenPlain}
+use Rattle.rm_statement.specs.declared.command.Command.TheVariants.{OpenPlain}
 use Rattle.rm_report.specs.declared.line.Line.TheVariants.{Opened}
 use Rattle.rm_machine.specs.Effect.{no_effect}
 use Rattle.rm_machine.specs.Open.{opened}

@@ -1,5 +1,5 @@
 use Rattle.std.proofs.Common.{rules, refl}
-use Rattle.rm_command.specs.declared.command.Command.TheVariants.{ResetDatabase}
+use Rattle.rm_statement.specs.declared.command.Command.TheVariants.{ResetDatabase}
 use Rattle.rm_report.specs.declared.line.Line.TheVariants.{Chosen}
 use Rattle.std.specs.Prelude.{[], ◌∷◌}
 use Rattle.rm_machine.specs.Effect.{no_effect}

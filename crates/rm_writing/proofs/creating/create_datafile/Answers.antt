@@ -1,6 +1,6 @@
 use Rattle.std.proofs.Common.{ℕ, ◌≡◌, ◌∙◌, [], ◌∷◌, ap, refl, sym, subst}
 use Rattle.rm_blocks.specs.File.{created}
-use Rattle.rm_command.specs.declared.command.Command.TheVariants.{CreateDatafile}
+use Rattle.rm_statement.specs.declared.command.Command.TheVariants.{CreateDatafile}
 use Rattle.rm_history.specs.declared.world.Datafile.{Datafile}
 use Rattle.rm_repository.specs.Fitting.{FitsFile}
 use Rattle.rm_repository.specs.Changes.{with_file}

@@ -2,7 +2,7 @@ use Rattle.std.proofs.Common.{◌<◌, ◌-◌, ◌∙◌, List, [], ◌∷◌, 
 use Rattle.std.specs.Prelude.{IfSome}
 use Rattle.rm_base.specs.declared.block.Change.{Change}
 use Rattle.rm_blocks.specs.File.{File}
-use Rattle.rm_command.specs.declared.command.Command.TheVariants.{Write}
+use Rattle.rm_statement.specs.declared.command.Command.TheVariants.{Write}
 use Rattle.rm_machine.specs.Effect.{no_effect}
 use Rattle.rm_machine.specs.declared.state.Instance.{Instance}
 use Rattle.rm_machine.specs.declared.state.State.{State}

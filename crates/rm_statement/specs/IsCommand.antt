@@ -3,21 +3,21 @@ use Rattle.std.specs.Prelude.{◌-◌, ◌^◌, ◌&&◌, Bool, true, Option}
 use Rattle.std.specs.List.{list_all}
 use Rattle.rm_grammar.specs.Grammar.{in_range}
 use Rattle.rm_grammar.specs.Spelling.{is_capital_tag, is_shown, maybe_valid}
-use Rattle.rm_command.specs.declared.command.Until.{Until}
-use Rattle.rm_command.specs.declared.command.Until.TheVariants.{Scn, Sequence, Time}
-use Rattle.rm_command.specs.declared.command.WriteForm.{WriteForm}
-use Rattle.rm_command.specs.declared.command.BackupForm.{BackupForm}
-use Rattle.rm_command.specs.declared.command.RetentionForm.{RetentionForm}
-use Rattle.rm_command.specs.declared.command.RetentionForm.TheVariants.{Window, Redundancy, Nothing, Clear}
-use Rattle.rm_command.specs.declared.command.Command.{Command}
-use Rattle.rm_command.specs.declared.command.Command.TheVariants.{CreateDatabase, CreateDatafile, Write, SwitchLogfile, ArchiveLogCurrent, Mount, OpenPlain, OpenResetlogs, Tracking, ResetDatabase, Restore, Preview, Recover, RecoverTest, RecoverCopy, Backup, BackupLogs, Crosscheck, ValidateAll, ChangeBackup, DeleteObsolete, DeleteBackup, DeleteExpired, ReportObsolete, ReportNeedBackup, ReportSchema, ListIncarnation, ListBackup, ListCopy, ListArchived, ShowAll, Dump, Retention, Parallelism, CatalogName, LoseDatafile, LoseLog, Remove, Damage, Cut, Rename}
-use Rattle.rm_command.specs.declared.command.Inner.{Inner}
-use Rattle.rm_command.specs.declared.command.Inner.TheVariants.{SetUntil, AllocateChannel, Plain as PlainInner}
-use Rattle.rm_command.specs.declared.command.Statement.{Statement}
-use Rattle.rm_command.specs.declared.command.Statement.TheVariants.{Plain, Run}
-use Rattle.rm_command.specs.Files.{are_files}
-use Rattle.rm_command.specs.Texts.{content, anything, is_new_name, is_text}
-use Rattle.rm_command.specs.Backups.{agrees}
+use Rattle.rm_statement.specs.declared.command.Until.{Until}
+use Rattle.rm_statement.specs.declared.command.Until.TheVariants.{Scn, Sequence, Time}
+use Rattle.rm_statement.specs.declared.command.WriteForm.{WriteForm}
+use Rattle.rm_statement.specs.declared.command.BackupForm.{BackupForm}
+use Rattle.rm_statement.specs.declared.command.RetentionForm.{RetentionForm}
+use Rattle.rm_statement.specs.declared.command.RetentionForm.TheVariants.{Window, Redundancy, Nothing, Clear}
+use Rattle.rm_statement.specs.declared.command.Command.{Command}
+use Rattle.rm_statement.specs.declared.command.Command.TheVariants.{CreateDatabase, CreateDatafile, Write, SwitchLogfile, ArchiveLogCurrent, Mount, OpenPlain, OpenResetlogs, Tracking, ResetDatabase, Restore, Preview, Recover, RecoverTest, RecoverCopy, Backup, BackupLogs, Crosscheck, ValidateAll, ChangeBackup, DeleteObsolete, DeleteBackup, DeleteExpired, ReportObsolete, ReportNeedBackup, ReportSchema, ListIncarnation, ListBackup, ListCopy, ListArchived, ShowAll, Dump, Retention, Parallelism, CatalogName, LoseDatafile, LoseLog, Remove, Damage, Cut, Rename}
+use Rattle.rm_statement.specs.declared.command.Inner.{Inner}
+use Rattle.rm_statement.specs.declared.command.Inner.TheVariants.{SetUntil, AllocateChannel, Plain as PlainInner}
+use Rattle.rm_statement.specs.declared.command.Statement.{Statement}
+use Rattle.rm_statement.specs.declared.command.Statement.TheVariants.{Plain, Run}
+use Rattle.rm_statement.specs.Files.{are_files}
+use Rattle.rm_statement.specs.Texts.{content, anything, is_new_name, is_text}
+use Rattle.rm_statement.specs.Agreed.{agrees}
 use Rattle.rm_moments.specs.Times.{is_time_text}
 
 -- a text that is kept means a moment

@@ -1,0 +1,4 @@
+pub mod Agreed
+pub mod Files
+pub mod IsCommand
+pub mod Texts

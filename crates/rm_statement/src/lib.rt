@@ -1,0 +1,8 @@
+//! What a statement says: its types, and which of them are statements of the grammar.
+#![tactic(auto)]
+
+pub mod command;
+
+pub use command::{
+    BackupForm, ChangeTo, Command, Inner, RetentionForm, Statement, Until, WriteForm,
+};
