@@ -1,7 +1,7 @@
 -- Objects that ascend by id: where a search finds one, and where one is put.
-use Rattle.std.proofs.Common.{◌≡◌, ◌∙◌, ℕ, zero, suc, ◌+◌, ◌<◌, ◌≤◌, ◌==◌, Some, None, Result, Ok, Err, slice_get, eq-eqb, inl, inr, Bool, true, false, List, [], ◌∷◌, ◌++◌, refl, ap, sym, subst, arith, length, get_or, take, drop, All, AllPairs, length-take, length-drop}
-use Rattle.std.specs.Prelude.{IfErr, IfOk, find, nat_lt}
-use Rattle.std.specs.List.{filter, insert, remove}
+use Rattle.std.proofs.Common.{◌≡◌, ◌∙◌, ℕ, suc, ◌+◌, ◌<◌, ◌≤◌, ◌==◌, Some, Result, Ok, Err, eq-eqb, inl, inr, Bool, true, false, List, [], ◌∷◌, ◌++◌, refl, ap, sym, subst, arith, length, get_or, take, drop, All, AllPairs, length-take, length-drop}
+use Rattle.std.specs.Prelude.{MatchResult, find, nat_lt}
+use Rattle.std.specs.List.{filter}
 use Rattle.std.specs.List.Sorted.{IsBinarySearchResult, IsNonDecreasingBy, IsSearchInRange}
 use Rattle.std.specs.Ordering.{nat_cmp, ordering_index}
 use Rattle.std.specs.declared.cmp.Ordering.TheVariants.{Equal, Greater, Less}
@@ -13,7 +13,7 @@ use Rattle.std.proofs.lemmas.List.Elements.{All-cons, All-push, All-weaker, filt
 use Rattle.std.proofs.lemmas.Option.{slice_get-get_or, slice_get_cases}
 use Rattle.std.proofs.Math.Seq.{drop-cons, take-suc}
 use Rattle.rm_catalog.proofs.Filters.{filter_all, filter_none}
-use Rattle.rm_repository.specs.Changes.{higher, lower, with_one, without_one}
+use Rattle.rm_repository.specs.Changes.{higher, lower}
 use Rattle.rm_repository.specs.Places.{IsAt, IsGap}
 
 -- what holds of each before a place, and from it on
@@ -92,17 +92,11 @@ module _ {A : Type 0} (id : A → ℕ) (n : ℕ) (xs : List A) where
       grind (arith, nat_tests)
 
   -- what a binary search finds
-  pub searched : (r : Result ℕ ℕ) → AllPairs (λ x y. id x < id y) xs → IsSearchInRange r (length xs) → IsBinarySearchResult (λ x. nat_cmp (id x) n) xs r → IfOk r (IsAt id n xs) × IfErr r (IsGap id n xs)
-  searched (Ok i) up lt equal = (
-    elim (slice_get_cases xs i).1 [
-      | inl some ↦ place-of-one i some.0 up lt (ranked (id (get_or xs i some.0)) n Equal (sym (equal some.0)))
-      | inr past ↦ absurd (omega arith)
-    ],
-    tt,
-  )
-  searched (Err i) up le parted = (
-    tt,
-    gap-for-one i le
-        (in-front (λ x. id x < n) xs i le (λ k d lt. ranked (id (get_or xs k d)) n Less (sym ((parted (rise up)).0 k d (omega arith) lt))))
-        (from-there (λ x. n < id x) xs i (λ k d low lt. ranked (id (get_or xs k d)) n Greater (sym ((parted (rise up)).1 k d low lt)))),
-  )
+  pub searched : (r : Result ℕ ℕ) → AllPairs (λ x y. id x < id y) xs → IsSearchInRange r (length xs) → IsBinarySearchResult (λ x. nat_cmp (id x) n) xs r → MatchResult r (IsAt id n xs) (IsGap id n xs)
+  searched (Ok i) up lt equal = elim (slice_get_cases xs i).1 [
+    | inl some ↦ place-of-one i some.0 up lt (ranked (id (get_or xs i some.0)) n Equal (sym (equal some.0)))
+    | inr past ↦ absurd (omega arith)
+  ]
+  searched (Err i) up le parted = gap-for-one i le
+      (in-front (λ x. id x < n) xs i le (λ k d lt. ranked (id (get_or xs k d)) n Less (sym ((parted (rise up)).0 k d (omega arith) lt))))
+      (from-there (λ x. n < id x) xs i (λ k d low lt. ranked (id (get_or xs k d)) n Greater (sym ((parted (rise up)).1 k d low lt))))

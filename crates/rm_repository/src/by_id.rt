@@ -1,5 +1,5 @@
 //! Logs and pieces, which ascend by id: one is found, put or taken away.
-ghost use Rattle.std.specs.Prelude.{ℕ, ◌≡◌, ◌<◌, ◌==◌, AllPairs, find, IfOk, IfErr, OnOk, OnErr};
+ghost use Rattle.std.specs.Prelude.{ℕ, ◌≡◌, ◌<◌, ◌==◌, AllPairs, MatchResult, find, OnOk, OnErr};
 ghost use Rattle.std.specs.Option.{option_copied};
 ghost use Rattle.rm_repository.specs.Changes.{with_one, without_one};
 ghost use Rattle.rm_repository.specs.Places.{IsAt, IsGap};
@@ -34,8 +34,7 @@ impl Entry for PieceEntry {
 // Where the one of this id stands, or else where one of this id would stand.
 fn seek<T: Entry>(items: &[T], id: u32) -> Result<usize, usize>
     requires { AllPairs (λ x y. T.number x < T.number y) items.now }
-    ensures found { IfOk result (IsAt T.number id items.now) }
-    ensures missing { IfErr result (IsGap T.number id items.now) }
+    ensures { MatchResult result (IsAt T.number id items.now) (IsGap T.number id items.now) }
 {
     items.binary_search_by_key(&id, |item| item.id())
 }
