@@ -1,11 +1,10 @@
 -- The edit of each change makes the records follow.
-use Rattle.std.proofs.Common.{◌≡◌, ◌∙◌, ℕ, ◌+◌, ◌-◌, ◌<◌, ◌≤◌, inl, inr, Bool, cond, List, [], ◌∷◌, ◌++◌, Option, Some, None, refl, ap, sym, subst, arith, length, map, All, Contains}
+use Rattle.std.proofs.Common.{◌≡◌, ◌∙◌, ℕ, ◌+◌, ◌-◌, ◌<◌, ◌≤◌, inl, inr, Bool, cond, List, [], ◌∷◌, ◌++◌, Option, Some, None, refl, ap, sym, subst, arith, length, map, All}
 use Rattle.std.specs.Prelude.{IfSome}
 use Rattle.std.proofs.lemmas.Bool.{cases_lt, lt-ltb, le-ltb}
 use Rattle.std.proofs.lemmas.List.{append_assoc, map-append}
-use Rattle.std.proofs.lemmas.List.Elements.{All-contains, All-nil, All-cons, All-head, All-tail, Contains-append_right}
+use Rattle.std.proofs.lemmas.List.Elements.{All-nil, All-cons, All-head, All-tail, All-weaker}
 use Rattle.rm_base.specs.declared.block.Mark.{Mark}
-use Rattle.rm_base.proofs.Members.{in-front}
 use Rattle.rm_history.specs.declared.tree.Incarnation.{Incarnation}
 use Rattle.rm_history.specs.declared.world.Datafile.{Datafile}
 use Rattle.rm_history.specs.Tree.{IsThere, branched, parent_of, reset_of, end_of}
@@ -26,13 +25,12 @@ use Rattle.rm_ledger.specs.Ledger.{incarnation_record, datafile_record, mark_rec
 use Rattle.rm_ledger.proofs.Order.{Runs, incarnations_of, datafiles_of, logs_of, pieces_of, marks_of, incarnations-run, datafiles-run, logs-run, pieces-run, marks-run, marks-few, runs-append, runs-lower, runs-objects, runs-within}
 use Rattle.rm_ledger.proofs.Parts.{IsPart, after_both, more_part, part_then, put_part}
 use Rattle.rm_ledger.proofs.Sections.{numbered_part, replaced}
-use Rattle.rm_repository.specs.Changes.{EditsFollow, higher, lower, with_base, with_end_at, with_file, with_incarnation, with_log, with_mark, with_new_log, with_new_piece, with_one, with_piece, without_log, without_piece, part_drop, saved_edits, unsaved_edits, with_saved, without_saved}
+use Rattle.rm_repository.specs.Changes.{EditsFollow, higher, lower, with_base, with_end_at, with_file, with_incarnation, with_log, with_mark, with_new_log, with_new_piece, with_piece, without_log, without_piece, part_drop, saved_edits, unsaved_edits, with_saved, without_saved}
 use Rattle.rm_base.specs.Numbers.{last_scn}
 use Rattle.rm_repository.specs.Facts.{IsRepository, IsSaved}
 use Rattle.rm_repository.specs.Fitting.{FitsBranch, FitsFile, FitsLog, FitsMark, FitsNewLog, FitsNewPiece, FitsPiece}
 use Rattle.rm_repository.specs.Repository.{Repository, Saved, records_of, saved_records}
-use Rattle.rm_repository.proofs.Fitted.{branch_fits, drawn-piece, end_fits, file_fits, log_fits, mark_fits, new_log_fits, next_fits, no_log_fits, no_piece_fits, piece-last, piece_fits, with_next}
-use Rattle.rm_repository.proofs.Ones.{with-last}
+use Rattle.rm_repository.proofs.Fitted.{branch_fits, drawn-log, drawn-piece, end_fits, file_fits, log-last, log_fits, mark_fits, next_fits, no_log_fits, no_piece_fits, piece-last, piece_fits, with_next}
 
 -- a part without edits
 same_part : (low high : ℕ) (rs : List Record) → Runs low high rs → IsPart low high [] rs rs
@@ -61,8 +59,7 @@ saved-run r is = decide r.saved is.saved
     decide : (o : Option Saved) → IfSome o (IsSaved r.ledger) → Runs (place 7 0) (place 9 0) (saved_records o)
     decide None none = omega arith
     decide (Some s) fits =
-        let next = is.ledger.base.next_id.1 in
-        let parts = runs-objects kind.Part (λ p. p.id) 7 1 s.parts (λ p. refl) (λ k d lt. let e = (fits.parts k d lt).id in let high = e.1 in (e.0, omega (arith, high, next))) (λ i j d less lt. (fits.apart i j d less lt).ids) in
+        let parts = runs-objects kind.Part (λ p. p.id) 7 1 s.parts (λ p. refl) (λ k d lt. let e = (fits.parts k d lt).id in let high = e.1 in (e.0, omega arith)) (λ i j d less lt. (fits.apart i j d less lt).ids) in
         runs-lower (place 7 0) (place 7 1) (place 9 0) (map kind.Part s.parts ++ kind.Head s.head ∷ []) (omega arith)
         (runs-append (place 7 1) (place 8 0) (place 9 0) (map kind.Part s.parts) (kind.Head s.head ∷ []) parts (omega arith, omega arith))
 
@@ -126,31 +123,26 @@ module _ (r : Repository) (is : IsRepository r) where
       → after_edits (Put (incarnation_record i (record { parent = parent_of r.ledger.tree i; reset = reset_of r.ledger.tree i; end = end })) ∷ []) (records_of r) ≡ records_of (with_end_at r i end)
   end-follows i end there is' =
       let n : Incarnation = record { parent = parent_of r.ledger.tree i; reset = reset_of r.ledger.tree i; end = end } in
-      let low = there.0 in
-      let high = there.1 in
-      let few = is.ledger.incarnations.few in
       by-parts r (with_end_at r i end) [] (Put (incarnation_record i n) ∷ []) [] [] [] [] []
       keep-b
-      (put_part (place 2 1) (place 3 0) (incarnation_record i n) (incarnations_of r.ledger) (incarnations_of (with_end_at r i end).ledger) (omega (arith, low, high, few), omega (arith, high, few))
+      (put_part (place 2 1) (place 3 0) (incarnation_record i n) (incarnations_of r.ledger) (incarnations_of (with_end_at r i end).ledger) (omega arith, omega arith)
       (incarnations-run r.ledger is.ledger) (incarnations-run (with_end_at r i end).ledger is'.ledger)
-      (replaced n r.ledger.tree 1 (i - 1) i (omega (arith, low)) (omega (arith, low, high)) (omega (arith, few))))
+      (replaced n r.ledger.tree 1 (i - 1) i (omega arith) (omega arith) (omega arith)))
       keep-f keep-l keep-p keep-m keep-x
 
   pub file-follows : (d : Datafile) → IsRepository (with_file r d) → after_edits (Put (datafile_record (length r.ledger.files + 1) d) ∷ []) (records_of r) ≡ records_of (with_file r d)
   file-follows d is' =
-      let few = is'.ledger.datafiles.few in
       by-parts r (with_file r d) [] [] (Put (datafile_record (length r.ledger.files + 1) d) ∷ []) [] [] [] []
       keep-b keep-t
-      (numbered_part datafile_record 3 r.ledger.files (d ∷ []) (λ k x. refl) (omega (arith, few)))
+      (numbered_part datafile_record 3 r.ledger.files (d ∷ []) (λ k x. refl) (omega arith))
       keep-l keep-p keep-m keep-x
 
   pub mark-follows : (m : Mark) → IsRepository (with_mark r m) → after_edits (Put (mark_record (length r.ledger.marks + 1) m) ∷ []) (records_of r) ≡ records_of (with_mark r m)
   mark-follows m is' =
-      let few = is'.ledger.few in
       let most = marks-few (with_mark r m).ledger in
       by-parts r (with_mark r m) [] [] [] [] [] (Put (mark_record (length r.ledger.marks + 1) m) ∷ []) []
       keep-b keep-t keep-f keep-l keep-p
-      (numbered_part mark_record 6 r.ledger.marks (m ∷ []) (λ k x. refl) (omega (arith, few, most)))
+      (numbered_part mark_record 6 r.ledger.marks (m ∷ []) (λ k x. refl) (omega arith))
       keep-x
 
   pub incarnation-follows : (parent at moment : ℕ) → IsRepository (with_incarnation r parent at moment)
@@ -158,14 +150,12 @@ module _ (r : Repository) (is : IsRepository r) where
   incarnation-follows parent at moment is' =
       let n = branched parent at in
       let m = first_mark r at moment in
-      let few = is'.ledger.few in
       let most = marks-few (with_incarnation r parent at moment).ledger in
-      let trees = is'.ledger.incarnations.few in
       by-parts r (with_incarnation r parent at moment) [] (Put (incarnation_record (length r.ledger.tree + 1) n) ∷ []) [] [] [] (Put (mark_record (length r.ledger.marks + 1) m) ∷ []) []
       keep-b
-      (numbered_part incarnation_record 2 r.ledger.tree (n ∷ []) (λ k x. refl) (omega (arith, trees)))
+      (numbered_part incarnation_record 2 r.ledger.tree (n ∷ []) (λ k x. refl) (omega arith))
       keep-f keep-l keep-p
-      (numbered_part mark_record 6 r.ledger.marks (m ∷ []) (λ k x. refl) (omega (arith, few, most)))
+      (numbered_part mark_record 6 r.ledger.marks (m ∷ []) (λ k x. refl) (omega arith))
       keep-x
 
 -- Objects whose ids ascend: what stands below the place of an id, and above it.
@@ -178,11 +168,11 @@ module _ {A : Type 0} (make : A → Record) (id : A → ℕ) (of n : ℕ) (is-at
       let here = is-at x in
       elim (cases_lt (id x) n) [
         | inl less ↦
-            ap (λ (b : Bool). cond b (make x ∷ below (place of n) (map make xs)) (below (place of n) (map make xs))) (lt-ltb (place_of (make x)) (place of n) (omega (arith, here, less, first, small)))
+            ap (λ (b : Bool). cond b (make x ∷ below (place of n) (map make xs)) (below (place of n) (map make xs))) (lt-ltb (place_of (make x)) (place of n) (omega arith))
             ∙ ap (λ rs. make x ∷ rs) back
             ∙ sym (ap (λ (b : Bool). map make (cond b (x ∷ lower id n xs) (lower id n xs))) (lt-ltb (id x) n less))
         | inr le ↦
-            ap (λ (b : Bool). cond b (make x ∷ below (place of n) (map make xs)) (below (place of n) (map make xs))) (le-ltb (place_of (make x)) (place of n) (omega (arith, here, le, first, small)))
+            ap (λ (b : Bool). cond b (make x ∷ below (place of n) (map make xs)) (below (place of n) (map make xs))) (le-ltb (place_of (make x)) (place of n) (omega arith))
             ∙ back
             ∙ sym (ap (λ (b : Bool). map make (cond b (x ∷ lower id n xs) (lower id n xs))) (le-ltb (id x) n le))
       ]
@@ -195,11 +185,11 @@ module _ {A : Type 0} (make : A → Record) (id : A → ℕ) (of n : ℕ) (is-at
       let here = is-at x in
       elim (cases_lt n (id x)) [
         | inl less ↦
-            ap (λ (b : Bool). cond b (make x ∷ above (place of n) (map make xs)) (above (place of n) (map make xs))) (lt-ltb (place of n) (place_of (make x)) (omega (arith, here, less, first, small)))
+            ap (λ (b : Bool). cond b (make x ∷ above (place of n) (map make xs)) (above (place of n) (map make xs))) (lt-ltb (place of n) (place_of (make x)) (omega arith))
             ∙ ap (λ rs. make x ∷ rs) back
             ∙ sym (ap (λ (b : Bool). map make (cond b (x ∷ higher id n xs) (higher id n xs))) (lt-ltb n (id x) less))
         | inr le ↦
-            ap (λ (b : Bool). cond b (make x ∷ above (place of n) (map make xs)) (above (place of n) (map make xs))) (le-ltb (place of n) (place_of (make x)) (omega (arith, here, le, first, small)))
+            ap (λ (b : Bool). cond b (make x ∷ above (place of n) (map make xs)) (above (place of n) (map make xs))) (le-ltb (place of n) (place_of (make x)) (omega arith))
             ∙ back
             ∙ sym (ap (λ (b : Bool). map make (cond b (x ∷ higher id n xs) (higher id n xs))) (le-ltb n (id x) le))
       ]
@@ -219,67 +209,41 @@ module _ {A : Type 0} (make : A → Record) (id : A → ℕ) (of n : ℕ) (is-at
       ∙ ap (λ rs. map make (lower id n xs) ++ rs) (above-is xs few)
       ∙ sym (map-append make (lower id n xs) (higher id n xs))
 
--- the one that was put is among them
-one-in : {A : Type 0} (xs ys : List A) (x : A) → Contains (xs ++ x ∷ ys) x
-one-in xs ys x = Contains-append_right xs (x ∷ ys) x (in-front x ys)
-
 module _ (r : Repository) (is : IsRepository r) where
+  abbrev IsId : ℕ → Type 0
+  IsId n = (1 ≤ n) × (n < r.ledger.base.next_id)
+
   logs-small : All (λ y. y.id < 4294967295) r.ledger.logs
-  logs-small k d lt = let next = is.ledger.base.next_id.1 in let h = (is.ledger.ids.logs k d lt).1 in omega (arith, next, h)
+  logs-small = All-weaker (λ y. IsId y.id) (λ y. y.id < 4294967295) (λ y id. omega arith) r.ledger.logs is.ledger.ids.logs
 
   pieces-small : All (λ y. y.id < 4294967295) r.ledger.pieces
-  pieces-small k d lt = let next = is.ledger.base.next_id.1 in let h = (is.ledger.ids.pieces k d lt).1 in omega (arith, next, h)
+  pieces-small = All-weaker (λ y. IsId y.id) (λ y. y.id < 4294967295) (λ y id. omega arith) r.ledger.pieces is.ledger.ids.pieces
 
-  pub log-follows : (e : LogEntry) → IsRepository (with_log r e) → after_edits (Put (kind.Log e) ∷ []) (records_of r) ≡ records_of (with_log r e)
-  log-follows e is' =
-      let next = is'.ledger.base.next_id.1 in
-      let own = All-contains (λ (x : LogEntry). (1 ≤ x.id) × (x.id < r.ledger.base.next_id)) (with_one (λ x. x.id) e r.ledger.logs) e is'.ledger.ids.logs (one-in (lower (λ x. x.id) e.id r.ledger.logs) (higher (λ x. x.id) e.id r.ledger.logs) e) in
-      let low = own.0 in
-      let high = own.1 in
-      by-parts r (with_log r e) [] [] [] (Put (kind.Log e) ∷ []) [] [] []
-      (keep-b r is) (keep-t r is) (keep-f r is)
-      (put_part (place 4 1) (place 5 0) (kind.Log e) (logs_of r.ledger) (logs_of (with_log r e).ledger) (omega (arith, low, high, next), omega (arith, high, next)) (logs-run r.ledger is.ledger) (logs-run (with_log r e).ledger is'.ledger)
-      (put-one kind.Log (λ x. x.id) 4 e.id (λ x. refl) (omega (arith, high, next)) e refl r.ledger.logs logs-small))
+  pub log-follows : (e : LogEntry) → IsId e.id → IsRepository (with_log r e) → after_edits (Put (kind.Log e) ∷ []) (records_of r) ≡ records_of (with_log r e)
+  log-follows e id is' =
+      by-parts r (with_log r e) [] [] [] (Put (kind.Log e) ∷ []) [] [] [] (keep-b r is) (keep-t r is) (keep-f r is)
+      (put_part (place 4 1) (place 5 0) (kind.Log e) (logs_of r.ledger) (logs_of (with_log r e).ledger) (omega arith, omega arith) (logs-run r.ledger is.ledger) (logs-run (with_log r e).ledger is'.ledger)
+      (put-one kind.Log (λ x. x.id) 4 e.id (λ x. refl) (omega arith) e refl r.ledger.logs logs-small))
       (keep-p r is) (keep-m r is) (keep-x r is)
 
-  pub new-log-follows : (e : LogEntry) → FitsNewLog r e → IsRepository (with_new_log r e) → after_edits (Put (kind.Base (with_new_log r e).ledger.base) ∷ Put (kind.Log e) ∷ []) (records_of r) ≡ records_of (with_new_log r e)
-  new-log-follows e fits is' =
-      let some = is.ledger.base.next_id.0 in
-      let id = fits.id in
-      let last = fits.last in
-      let behind : All (λ x. x.id < e.id) r.ledger.logs = λ k d lt. let h = (is.ledger.ids.logs k d lt).1 in omega (arith, h, id) in
-      by-parts r (with_new_log r e) (Put (kind.Base (with_new_log r e).ledger.base) ∷ []) [] [] (Put (kind.Log e) ∷ []) [] [] []
-      (put_part (place 1 0) (place 2 0) (kind.Base (with_new_log r e).ledger.base) (base_of r) (base_of (with_new_log r e)) (omega arith, omega arith) (base-run r.ledger.base) (base-run (with_new_log r e).ledger.base) refl)
-      (keep-t r is) (keep-f r is)
-      (put_part (place 4 1) (place 5 0) (kind.Log e) (logs_of r.ledger) (logs_of (with_new_log r e).ledger) (omega (arith, some, id), omega (arith, last)) (logs-run r.ledger is.ledger) (logs-run (with_new_log r e).ledger is'.ledger)
-      (put-one kind.Log (λ x. x.id) 4 e.id (λ x. refl) (omega (arith, last)) e refl r.ledger.logs logs-small ∙ ap (map kind.Log) (with-last (λ x. x.id) e r.ledger.logs behind)))
-      (keep-p r is) (keep-m r is) (keep-x r is)
-
-  pub piece-follows : (e : PieceEntry) → IsRepository (with_piece r e) → after_edits (Put (kind.Piece e) ∷ []) (records_of r) ≡ records_of (with_piece r e)
-  piece-follows e is' =
-      let next = is'.ledger.base.next_id.1 in
-      let own = All-contains (λ (x : PieceEntry). (1 ≤ x.id) × (x.id < r.ledger.base.next_id)) (with_one (λ x. x.id) e r.ledger.pieces) e is'.ledger.ids.pieces (one-in (lower (λ x. x.id) e.id r.ledger.pieces) (higher (λ x. x.id) e.id r.ledger.pieces) e) in
-      let low = own.0 in
-      let high = own.1 in
-      by-parts r (with_piece r e) [] [] [] [] (Put (kind.Piece e) ∷ []) [] []
-      (keep-b r is) (keep-t r is) (keep-f r is) (keep-l r is)
-      (put_part (place 5 1) (place 6 0) (kind.Piece e) (pieces_of r.ledger) (pieces_of (with_piece r e).ledger) (omega (arith, low, high, next), omega (arith, high, next)) (pieces-run r.ledger is.ledger) (pieces-run (with_piece r e).ledger is'.ledger)
-      (put-one kind.Piece (λ x. x.id) 5 e.id (λ x. refl) (omega (arith, high, next)) e refl r.ledger.pieces pieces-small))
+  pub piece-follows : (e : PieceEntry) → IsId e.id → IsRepository (with_piece r e) → after_edits (Put (kind.Piece e) ∷ []) (records_of r) ≡ records_of (with_piece r e)
+  piece-follows e id is' =
+      by-parts r (with_piece r e) [] [] [] [] (Put (kind.Piece e) ∷ []) [] [] (keep-b r is) (keep-t r is) (keep-f r is) (keep-l r is)
+      (put_part (place 5 1) (place 6 0) (kind.Piece e) (pieces_of r.ledger) (pieces_of (with_piece r e).ledger) (omega arith, omega arith) (pieces-run r.ledger is.ledger) (pieces-run (with_piece r e).ledger is'.ledger)
+      (put-one kind.Piece (λ x. x.id) 5 e.id (λ x. refl) (omega arith) e refl r.ledger.pieces pieces-small))
       (keep-m r is) (keep-x r is)
 
   pub log-dropped : (n : ℕ) → 1 ≤ n → n ≤ 4294967295 → IsRepository (without_log r n) → after_edits (Drop (record { kind = 4; id = n }) ∷ []) (records_of r) ≡ records_of (without_log r n)
   log-dropped n low small is' =
-      by-parts r (without_log r n) [] [] [] (Drop (record { kind = 4; id = n }) ∷ []) [] [] []
-      (keep-b r is) (keep-t r is) (keep-f r is)
-      (drop_part (place 4 1) (place 5 0) (record { kind = 4; id = n }) (logs_of r.ledger) (logs_of (without_log r n).ledger) (omega (arith, low, small), omega (arith, small)) (logs-run r.ledger is.ledger) (logs-run (without_log r n).ledger is'.ledger)
+      by-parts r (without_log r n) [] [] [] (Drop (record { kind = 4; id = n }) ∷ []) [] [] [] (keep-b r is) (keep-t r is) (keep-f r is)
+      (drop_part (place 4 1) (place 5 0) (record { kind = 4; id = n }) (logs_of r.ledger) (logs_of (without_log r n).ledger) (omega arith, omega arith) (logs-run r.ledger is.ledger) (logs-run (without_log r n).ledger is'.ledger)
       (drop-one kind.Log (λ x. x.id) 4 n (λ x. refl) small (record { kind = 4; id = n }) refl r.ledger.logs logs-small))
       (keep-p r is) (keep-m r is) (keep-x r is)
 
   pub piece-dropped : (n : ℕ) → 1 ≤ n → n ≤ 4294967295 → IsRepository (without_piece r n) → after_edits (Drop (record { kind = 5; id = n }) ∷ []) (records_of r) ≡ records_of (without_piece r n)
   piece-dropped n low small is' =
-      by-parts r (without_piece r n) [] [] [] [] (Drop (record { kind = 5; id = n }) ∷ []) [] []
-      (keep-b r is) (keep-t r is) (keep-f r is) (keep-l r is)
-      (drop_part (place 5 1) (place 6 0) (record { kind = 5; id = n }) (pieces_of r.ledger) (pieces_of (without_piece r n).ledger) (omega (arith, low, small), omega (arith, small)) (pieces-run r.ledger is.ledger) (pieces-run (without_piece r n).ledger is'.ledger)
+      by-parts r (without_piece r n) [] [] [] [] (Drop (record { kind = 5; id = n }) ∷ []) [] [] (keep-b r is) (keep-t r is) (keep-f r is) (keep-l r is)
+      (drop_part (place 5 1) (place 6 0) (record { kind = 5; id = n }) (pieces_of r.ledger) (pieces_of (without_piece r n).ledger) (omega arith, omega arith) (pieces-run r.ledger is.ledger) (pieces-run (without_piece r n).ledger is'.ledger)
       (drop-one kind.Piece (λ x. x.id) 5 n (λ x. refl) small (record { kind = 5; id = n }) refl r.ledger.pieces pieces-small))
       (keep-m r is) (keep-x r is)
 
@@ -309,46 +273,51 @@ follows_branch old new r t parent at moment is fits more out =
     (incarnation-follows r is parent at moment (branch_fits r parent at moment is fits)) out
 
 pub follows_log : (old new : List Edit) (r t : Repository) (e : LogEntry) → IsRepository r → FitsLog r e → new ≡ old ++ Put (kind.Log e) ∷ [] → t ≡ with_log r e → EditsFollow old new r t
-follows_log old new r t e is fits more out = follows-of old new (Put (kind.Log e) ∷ []) r (with_log r e) t more (log-follows r is e (log_fits r e is fits)) out
-
-pub follows_new_log : (old new : List Edit) (r t : Repository) (e : LogEntry) → IsRepository r → FitsNewLog r e → new ≡ old ++ Put (kind.Base (with_new_log r e).ledger.base) ∷ Put (kind.Log e) ∷ [] → t ≡ with_new_log r e → EditsFollow old new r t
-follows_new_log old new r t e is fits more out =
-    follows-of old new (Put (kind.Base (with_new_log r e).ledger.base) ∷ Put (kind.Log e) ∷ []) r (with_new_log r e) t more
-    (new-log-follows r is e fits (new_log_fits r e is fits)) out
+follows_log old new r t e is fits more out = follows-of old new (Put (kind.Log e) ∷ []) r (with_log r e) t more (log-follows r is e fits.id.range (log_fits r e is fits)) out
 
 pub follows_no_log : (old new : List Edit) (r t : Repository) (n : ℕ) → IsRepository r → 1 ≤ n → n < 4294967296 → new ≡ old ++ Drop (record { kind = 4; id = n }) ∷ [] → t ≡ without_log r n → EditsFollow old new r t
-follows_no_log old new r t n is low small more out = follows-of old new (Drop (record { kind = 4; id = n }) ∷ []) r (without_log r n) t more (log-dropped r is n low (omega (arith, small)) (no_log_fits r n is)) out
+follows_no_log old new r t n is low small more out = follows-of old new (Drop (record { kind = 4; id = n }) ∷ []) r (without_log r n) t more (log-dropped r is n low (omega arith) (no_log_fits r n is)) out
 
 pub follows_piece : (old new : List Edit) (r t : Repository) (e : PieceEntry) → IsRepository r → FitsPiece r e → new ≡ old ++ Put (kind.Piece e) ∷ [] → t ≡ with_piece r e → EditsFollow old new r t
-follows_piece old new r t e is fits more out = follows-of old new (Put (kind.Piece e) ∷ []) r (with_piece r e) t more (piece-follows r is e (piece_fits r e is fits)) out
+follows_piece old new r t e is fits more out = follows-of old new (Put (kind.Piece e) ∷ []) r (with_piece r e) t more (piece-follows r is e fits.id.range (piece_fits r e is fits)) out
 
 pub follows_no_piece : (old new : List Edit) (r t : Repository) (n : ℕ) → IsRepository r → 1 ≤ n → n < 4294967296 → new ≡ old ++ Drop (record { kind = 5; id = n }) ∷ [] → t ≡ without_piece r n → EditsFollow old new r t
-follows_no_piece old new r t n is low small more out = follows-of old new (Drop (record { kind = 5; id = n }) ∷ []) r (without_piece r n) t more (piece-dropped r is n low (omega (arith, small)) (no_piece_fits r n is)) out
+follows_no_piece old new r t n is low small more out = follows-of old new (Drop (record { kind = 5; id = n }) ∷ []) r (without_piece r n) t more (piece-dropped r is n low (omega arith) (no_piece_fits r n is)) out
 
 -- a change after another one
 pub follows-then : (old mid new : List Edit) (r s t : Repository) → EditsFollow old mid r s → EditsFollow mid new s t → EditsFollow old new r t
 follows-then old mid new r s t first then = record { lead = λ rs from. then.lead rs (first.lead rs from) }
 
-pub follows_new_piece : (old new : List Edit) (r t : Repository) (e : PieceEntry) → IsRepository r → FitsNewPiece r e
-    → new ≡ old ++ Put (kind.Base (record r.ledger.base { next_id = r.ledger.base.next_id + 1 })) ∷ Put (kind.Piece e) ∷ [] → t ≡ with_new_piece r e → EditsFollow old new r t
-unfolding with_next
-follows_new_piece old new r t e is fits more out =
-    let n = r.ledger.base.next_id in
-    let same = fits.id in
-    let last = fits.last in
-    let base : BaseEntry = record r.ledger.base { next_id = n + 1 } in
-    let mid = old ++ Put (kind.Base base) ∷ [] in
-    let next = next_fits r (n + 1) is (omega arith) (omega (arith, same, last)) in
-    follows-then old mid new r (with_next r (n + 1)) t
-    (follows_base old mid r (with_next r (n + 1)) base is refl refl)
-    (follows_piece mid new (with_next r (n + 1)) t e next (drawn-piece r e is fits) (more ∙ sym (append_assoc old (Put (kind.Base base) ∷ []) (Put (kind.Piece e) ∷ []))) (out ∙ sym (piece-last r e is fits)))
+-- a new object after the id that it takes
+module _ (old new : List Edit) (r t : Repository) (is : IsRepository r) where
+  abbrev drawn : BaseEntry
+  drawn = record r.ledger.base { next_id = r.ledger.base.next_id + 1 }
+
+  follows-drawn : (e : Edit) → new ≡ old ++ Put (kind.Base drawn) ∷ e ∷ [] → (new ≡ (old ++ Put (kind.Base drawn) ∷ []) ++ e ∷ [] → EditsFollow (old ++ Put (kind.Base drawn) ∷ []) new (with_base r drawn) t) → EditsFollow old new r t
+  follows-drawn e more then =
+      let mid = old ++ Put (kind.Base drawn) ∷ [] in
+      follows-then old mid new r (with_base r drawn) t (follows_base old mid r (with_base r drawn) drawn is refl refl) (then (more ∙ sym (append_assoc old (Put (kind.Base drawn) ∷ []) (e ∷ []))))
+
+  pub follows_new_log : (e : LogEntry) → FitsNewLog r e → new ≡ old ++ Put (kind.Base drawn) ∷ Put (kind.Log e) ∷ [] → t ≡ with_new_log r e → EditsFollow old new r t
+  unfolding with_next
+  follows_new_log e fits more out =
+      let n = r.ledger.base.next_id + 1 in
+      follows-drawn (Put (kind.Log e)) more
+      (λ then. follows_log (old ++ Put (kind.Base drawn) ∷ []) new (with_next r n) t e (next_fits r n is (omega arith) (omega arith)) (drawn-log r is e fits) then (out ∙ sym (log-last r is e fits)))
+
+  pub follows_new_piece : (e : PieceEntry) → FitsNewPiece r e → new ≡ old ++ Put (kind.Base drawn) ∷ Put (kind.Piece e) ∷ [] → t ≡ with_new_piece r e → EditsFollow old new r t
+  unfolding with_next
+  follows_new_piece e fits more out =
+      let n = r.ledger.base.next_id + 1 in
+      follows-drawn (Put (kind.Piece e)) more
+      (λ then. follows_piece (old ++ Put (kind.Base drawn) ∷ []) new (with_next r n) t e (next_fits r n is (omega arith) (omega arith)) (drawn-piece r is e fits) then (out ∙ sym (piece-last r is e fits)))
 
 -- taking away what stands first
 drop-first : (key : Key) (r : Record) (rs : List Record) → place_of r ≡ place_of_key key → All (λ x. place_of_key key < place_of x) rs → after_edit (Drop key) (r ∷ rs) ≡ rs
 drop-first key r rs same high =
     let p = place_of_key key in
-    let from = All-cons (λ (x : Record). p ≤ place_of x) r rs (omega (arith, same)) (λ k d lt. let h = high k d lt in omega (arith, h)) in
-    let upto = All-cons (λ (x : Record). place_of x ≤ p) r [] (omega (arith, same)) (All-nil (λ (x : Record). place_of x ≤ p)) in
+    let from = All-cons (λ (x : Record). p ≤ place_of x) r rs (omega arith) (λ k d lt. let h = high k d lt in omega arith) in
+    let upto = All-cons (λ (x : Record). place_of x ≤ p) r [] (omega arith) (All-nil (λ (x : Record). place_of x ≤ p)) in
     let low : below p (r ∷ rs) ≡ [] = below_none p (r ∷ rs) from in
     let high_ : above p (r ∷ rs) ≡ rs = above_append p (r ∷ []) rs ∙ ap (λ (x : List Record). x ++ above p rs) (above_none p (r ∷ []) upto) ∙ above_all p rs high in
     ap (λ (x : List Record). x ++ above p (r ∷ rs)) low ∙ high_
@@ -358,7 +327,7 @@ unfolding Runs
 all-dropped [] h low up = drop-first (record { kind = 8; id = 0 }) (kind.Head h) [] refl (All-nil (λ (x : Record). place 8 0 < place_of x))
 all-dropped (p ∷ ps) h low up =
     let rest = map kind.Part ps ++ kind.Head h ∷ [] in
-    let over : All (λ x. place 7 p.id < place_of x) rest = λ k d lt. let w = (runs-within (place_of (kind.Part p) + 1) (place 9 0) rest up.1 k d lt).0 in omega (arith, w) in
+    let over : All (λ x. place 7 p.id < place_of x) rest = λ k d lt. let w = (runs-within (place_of (kind.Part p) + 1) (place 9 0) rest up.1 k d lt).0 in omega arith in
     ap (after_edits (map part_drop ps ++ Drop (record { kind = 8; id = 0 }) ∷ [])) (drop-first (record { kind = 7; id = p.id }) (kind.Part p) rest refl over)
     ∙ all-dropped ps h (place_of (kind.Part p) + 1) up.1
 
@@ -407,7 +376,7 @@ follows_saved old new r t s is none fits more out = follows-of old new (saved_ed
 
 -- the number of a mark more fits into 32 bits
 pub marks_few : (r : Repository) → IsRepository r → length r.ledger.marks ≤ 65536
-marks_few r is = let few = is.ledger.few in let most = marks-few r.ledger in omega (arith, few, most)
+marks_few r is = let few = is.ledger.few in let most = marks-few r.ledger in omega arith
 
 -- two edits one after the other
 pub both_more : (es fs gs : List Edit) (e f : Edit) → fs ≡ es ++ e ∷ [] → gs ≡ fs ++ f ∷ [] → gs ≡ es ++ e ∷ f ∷ []

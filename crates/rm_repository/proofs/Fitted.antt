@@ -18,15 +18,15 @@ use Rattle.rm_history.specs.Tree.{IsThere, parent_of, reset_of, end_of, with_bra
 use Rattle.rm_history.proofs.Branches.{IsThere-branched, end_of-branched, end_of-with_branch, length-with_branch, parent_of-branched, parent_of-with_branch, reset_of-branched, reset_of-with_branch}
 use Rattle.rm_history.proofs.Ends.{parent_of-with_end, reset_of-with_end, end_of-with_end, end_of-with_end_other}
 use Rattle.rm_base.proofs.Members.{in-front}
-use Rattle.rm_ledger.specs.Facts.{AreIncarnations, AreMarks, HasMark, IsBranch, IsCreated, IsLogEntry, IsMark, IsPieceEntry}
+use Rattle.rm_ledger.specs.Facts.{AreIds, AreIncarnations, AreMarks, HasMark, IsBranch, IsCreated, IsLogEntry, IsMark, IsPieceEntry}
 use Rattle.rm_ledger.specs.Ledger.{Ledger, incarnation_record, datafile_record, mark_record}
 use Rattle.rm_ledger.specs.Ledger.{records_of as ledger_records}
 use Rattle.rm_ledger.proofs.Keeping.{log_kept, mark_kept, pairs_append, piece_kept}
 use Rattle.rm_ledger.proofs.Order.{incarnations_of, datafiles_of, logs_of, pieces_of, marks_of, length-numbered}
 use Rattle.rm_ledger.proofs.Trees.{Keeps, keeps_branch, keeps_end, parents_below}
-use Rattle.rm_repository.specs.Changes.{with_base, with_end_at, with_file, with_incarnation, with_log, with_mark, with_new_log, with_new_piece, with_piece, without_log, without_piece}
+use Rattle.rm_repository.specs.Changes.{with_base, with_end_at, with_file, with_incarnation, with_log, with_mark, with_new_log, with_new_piece, with_one, with_piece, without_log, without_one, without_piece}
 use Rattle.rm_repository.specs.Facts.{IsPartEntry, IsRepository, IsSaved}
-use Rattle.rm_repository.specs.Fitting.{FitsBase, FitsBranch, FitsFile, FitsLog, FitsMark, FitsNewLog, FitsNewPiece, FitsPiece, LacksId}
+use Rattle.rm_repository.specs.Fitting.{FitsBase, FitsBranch, FitsFile, FitsLog, FitsMark, FitsNewLog, FitsNewPiece, FitsPiece, IsObjectId, LacksId}
 use Rattle.rm_repository.specs.Repository.{Repository, Saved}
 use Rattle.rm_repository.proofs.Ones.{all-with, all-without, ascend-with, ascend-without, contains-with, contains-without, length-replaced, length-with, length-without, with-last}
 
@@ -40,15 +40,12 @@ record HasAll (l m : Ledger) : Type 0 where
 -- so a saved site of the one is one of the other, if no object has the id of a part
 site_kept : (l m : Ledger) (s : Saved) → HasAll l m → IsSaved l s → ((e : LogEntry) (p : PartEntry) → Contains m.logs e → Contains s.parts p → e.id ≡ p.id → ⊥) → ((e : PieceEntry) (p : PartEntry) → Contains m.pieces e → Contains s.parts p → e.id ≡ p.id → ⊥) → IsSaved m s
 site_kept l m s has is logs pieces =
-    let ids = has.ids in
-    let threads = has.threads in
-    let files = has.files in
     record {
       parts = All-weaker (IsPartEntry l) (IsPartEntry m) (λ (p : PartEntry) was. let id = was.id.1 in record {
-        id = (was.id.0, omega (arith, id, ids));
+        id = (was.id.0, omega arith);
         size = was.size;
-        thread = λ none. let t = (was.thread none).1 in ((was.thread none).0, omega (arith, t, threads));
-        file = λ some. let f = (was.file some).1 in ((was.file some).0, omega (arith, f, files));
+        thread = λ none. let t = (was.thread none).1 in ((was.thread none).0, omega arith);
+        file = λ some. let f = (was.file some).1 in ((was.file some).0, omega arith);
       }) s.parts is.parts;
       apart = is.apart;
       logs = logs;
@@ -75,7 +72,7 @@ many l =
     let logs = length-map l.logs (λ e. kind.Log e) in
     let pieces = length-map l.pieces (λ e. kind.Piece e) in
     let marks = length-numbered mark_record 1 l.marks in
-    omega (arith, five, four, three, two, tree, files, logs, pieces, marks)
+    omega arith
 
 -- other base facts
 pub base_fits : (r : Repository) (b : BaseEntry) → IsRepository r → FitsBase r b → IsRepository (with_base r b)
@@ -84,7 +81,6 @@ base_fits r b rules fits =
     let l = r.ledger in
     let m = (with_base r b).ledger in
     let next = fits.next_id in
-    let later = fits.moment in
     let threads = fits.threads in
     record {
       ledger = record {
@@ -95,20 +91,20 @@ base_fits r b rules fits =
         logs = subst (λ (n : ℕ). All (IsLogEntry l.tree n) l.logs) (sym threads) is.logs;
         pieces = is.pieces;
         ids = record {
-          logs = All-weaker (λ (e : LogEntry). (1 ≤ e.id) × (e.id < l.base.next_id)) (λ (e : LogEntry). (1 ≤ e.id) × (e.id < b.next_id)) (λ e was. let high = was.1 in (was.0, omega (arith, high, next))) l.logs is.ids.logs;
-          pieces = All-weaker (λ (e : PieceEntry). (1 ≤ e.id) × (e.id < l.base.next_id)) (λ (e : PieceEntry). (1 ≤ e.id) × (e.id < b.next_id)) (λ e was. let high = was.1 in (was.0, omega (arith, high, next))) l.pieces is.ids.pieces;
+          logs = All-weaker (λ (e : LogEntry). (1 ≤ e.id) × (e.id < l.base.next_id)) (λ (e : LogEntry). (1 ≤ e.id) × (e.id < b.next_id)) (λ e was. let high = was.1 in (was.0, omega arith)) l.logs is.ids.logs;
+          pieces = All-weaker (λ (e : PieceEntry). (1 ≤ e.id) × (e.id < l.base.next_id)) (λ (e : PieceEntry). (1 ≤ e.id) × (e.id < b.next_id)) (λ e was. let high = was.1 in (was.0, omega arith)) l.pieces is.ids.pieces;
           logs_ascend = is.ids.logs_ascend;
           pieces_ascend = is.ids.pieces_ascend;
           apart = is.ids.apart;
         };
         marks = record {
-          each = All-weaker (IsMark l.tree l.base.moment) (IsMark l.tree b.moment) (λ (m : Mark) was. let low = was.moment in record { there = was.there; scn = was.scn; moment = omega (arith, low, later) }) l.marks is.marks.each;
+          each = All-weaker (IsMark l.tree l.base.moment) (IsMark l.tree b.moment) (λ (m : Mark) was. let low = was.moment in record { there = was.there; scn = was.scn; moment = omega arith }) l.marks is.marks.each;
           rise = is.marks.rise;
           some = is.marks.some;
         };
         few = is.few;
       };
-      saved = saved_kept l m (record { ids = next; threads = omega (arith, threads); files = omega arith; there = λ i there. there }) refl refl r.saved rules.saved;
+      saved = saved_kept l m (record { ids = next; threads = omega arith; files = omega arith; there = λ i there. there }) refl refl r.saved rules.saved;
     }
 
 -- a later moment
@@ -126,14 +122,14 @@ moment_fits r moment rules kept last =
 -- the ends of a tree in which one rose
 ends-up : (tree : List Incarnation) (j end : ℕ) → IsThere tree j → end_of tree j ≤ end → (i : ℕ) → IsThere tree i → end_of tree i ≤ end_of (with_end tree j end) i
 ends-up tree j end there up i is = elim (cases_eq i j) [
-  | inl same ↦ subst (λ k. end_of tree k ≤ end_of (with_end tree j end) k) (sym same) (let e = end_of-with_end tree j end there in omega (arith, up, e))
-  | inr other ↦ let e = end_of-with_end_other tree j end i there is other in omega (arith, e)
+  | inl same ↦ subst (λ k. end_of tree k ≤ end_of (with_end tree j end) k) (sym same) (let e = end_of-with_end tree j end there in omega arith)
+  | inr other ↦ let e = end_of-with_end_other tree j end i there is other in omega arith
 ]
 
 last-end : (tree : List Incarnation) (j end last : ℕ) → IsThere tree j → end ≤ last → (i : ℕ) → IsThere tree i → end_of tree i ≤ last → end_of (with_end tree j end) i ≤ last
 last-end tree j end last there low i is was = elim (cases_eq i j) [
-  | inl same ↦ subst (λ k. end_of (with_end tree j end) k ≤ last) (sym same) (let e = end_of-with_end tree j end there in omega (arith, low, e))
-  | inr other ↦ let e = end_of-with_end_other tree j end i there is other in omega (arith, e, was)
+  | inl same ↦ subst (λ k. end_of (with_end tree j end) k ≤ last) (sym same) (let e = end_of-with_end tree j end there in omega arith)
+  | inr other ↦ let e = end_of-with_end_other tree j end i there is other in omega arith
 ]
 
 trees-same : (tree : List Incarnation) (j end : ℕ) → length (with_end tree j end) ≡ length tree
@@ -142,34 +138,27 @@ trees-same tree j end = length-set tree (j - 1) (record { parent = parent_of tre
 incarnations_kept : (tree : List Incarnation) (j end : ℕ) → AreIncarnations tree → IsThere tree j → end_of tree j ≤ end → end ≤ last_scn → AreIncarnations (with_end tree j end)
 incarnations_kept tree j end is there up last =
     let long = trees-same tree j end in
-    let some = is.some in
-    let few = is.few in
     record {
-      some = omega (arith, long, some);
-      few = omega (arith, long, few);
+      some = omega arith;
+      few = omega arith;
       first = parent_of-with_end tree j end 1 there ∙ is.first;
       branches = λ i later high.
-          let within : i ≤ length tree = omega (arith, long, high) in
+          let within : i ≤ length tree = omega arith in
           let b = is.branches i later within in
           let p = parent_of tree i in
           let parent : parent_of (with_end tree j end) i ≡ p = parent_of-with_end tree j end i there in
           let low = b.parent.0 in
-          let under = b.parent.1 in
-          let reset = b.reset in
-          let ends = b.end in
           let own = reset_of-with_end tree j end i there in
           let from = ap (reset_of (with_end tree j end)) parent ∙ reset_of-with_end tree j end p there in
           let to = ap (end_of (with_end tree j end)) parent in
-          let more = ends-up tree j end there up p (low, omega (arith, under, within)) in
-          record { parent = (omega (arith, parent, low), omega (arith, parent, under)); reset = omega (arith, from, own, reset); end = omega (arith, own, to, more, ends) };
+          let more = ends-up tree j end there up p (low, omega arith) in
+          record { parent = (omega arith, omega arith); reset = omega arith; end = omega arith };
       ranges = λ i has.
-          let was : IsThere tree i = (has.0, (let high = has.1 in omega (arith, long, high))) in
+          let was : IsThere tree i = (has.0, (omega arith)) in
           let range = is.ranges i was in
-          let one = range.0 in
-          let two = range.1 in
           let reset = reset_of-with_end tree j end i there in
           let more = ends-up tree j end there up i was in
-          (omega (arith, one, reset), omega (arith, two, reset, more), last-end tree j end last_scn there last i was range.2);
+          (omega arith, omega arith, last-end tree j end last_scn there last i was range.2);
     }
 
 -- a datafile stays one that was created
@@ -177,9 +166,7 @@ created-kept : (old new : List Incarnation) → Keeps old new → (d : Datafile)
 created-kept old new keeps d was =
     let reset = keeps.reset d.inc was.there in
     let more = keeps.end d.inc was.there in
-    let low = was.creation.0 in
-    let high = was.creation.1 in
-    record { there = keeps.there d.inc was.there; creation = (omega (arith, reset, low), omega (arith, more, high)); blocks = was.blocks }
+    record { there = keeps.there d.inc was.there; creation = (omega arith, omega arith); blocks = was.blocks }
 
 -- a higher end
 pub end_fits : (r : Repository) (i end : ℕ) → IsRepository r → IsThere r.ledger.tree i → end_of r.ledger.tree i ≤ end → end ≤ last_scn → IsRepository (with_end_at r i end)
@@ -191,7 +178,6 @@ end_fits r i end rules there up last =
     let long = trees-same l.tree i end in
     let old = many l in
     let new = many m in
-    let few = is.few in
     record {
       ledger = record {
         base = is.base;
@@ -208,9 +194,9 @@ end_fits r i end rules there up last =
         marks = record {
           each = All-weaker (IsMark l.tree l.base.moment) (IsMark m.tree l.base.moment) (mark_kept l.tree m.tree l.base.moment l.base.moment keeps (omega arith)) l.marks is.marks.each;
           rise = is.marks.rise;
-          some = λ k has. is.marks.some k (has.0, (let high = has.1 in omega (arith, long, high)));
+          some = λ k has. is.marks.some k (has.0, (omega arith));
         };
-        few = omega (arith, old, new, few, long);
+        few = omega arith;
       };
       saved = saved_kept l m (record { ids = omega arith; threads = omega arith; files = omega arith; there = λ k has. keeps.there k has }) refl refl r.saved rules.saved;
     }
@@ -222,11 +208,8 @@ file_fits r d rules fits =
     let l = r.ledger in
     let m = (with_file r d).ledger in
     let long = length-append l.files (d ∷ []) in
-    let few = fits.few in
     let sum = sum_by-append (λ (f : Datafile). f.blocks) l.files (d ∷ []) in
     let one = sum_by-cons (λ (f : Datafile). f.blocks) d [] in
-    let blocks = fits.blocks in
-    let room = fits.room in
     let old = many l in
     let new = many m in
     record {
@@ -234,14 +217,14 @@ file_fits r d rules fits =
         base = is.base;
         current = is.current;
         incarnations = is.incarnations;
-        datafiles = record { each = All-push (IsCreated l.tree) l.files d is.datafiles.each fits.created; few = omega (arith, long, few); room = omega (arith, sum, one, blocks) };
+        datafiles = record { each = All-push (IsCreated l.tree) l.files d is.datafiles.each fits.created; few = omega arith; room = omega arith };
         logs = is.logs;
         pieces = All-weaker (IsPieceEntry l.tree l.files) (IsPieceEntry l.tree m.files) (piece_kept l.tree l.tree l.files m.files (same-tree l.tree) (inr (d, refl))) l.pieces is.pieces;
         ids = is.ids;
         marks = is.marks;
-        few = omega (arith, old, new, long, room);
+        few = omega arith;
       };
-      saved = saved_kept l m (record { ids = omega arith; threads = omega arith; files = omega (arith, long); there = λ i there. there }) refl refl r.saved rules.saved;
+      saved = saved_kept l m (record { ids = omega arith; threads = omega arith; files = omega arith; there = λ i there. there }) refl refl r.saved rules.saved;
     }
   where
     same-tree : (tree : List Incarnation) → Keeps tree tree
@@ -252,7 +235,7 @@ marks-more : (tree : List Incarnation) (latest : ℕ) (marks : List Mark) (m : M
     → AllPairs (λ x y. x.moment ≤ y.moment) marks → ((i : ℕ) → IsThere tree i → HasMark (marks ++ m ∷ []) i) → AreMarks tree latest (marks ++ m ∷ [])
 marks-more tree latest marks m each before is rise some = record {
   each = All-push (IsMark tree latest) marks m each is;
-  rise = pairs_append (λ (x y : Mark). x.moment ≤ y.moment) marks (m ∷ []) rise (λ i j d less lt. absurd (omega (arith, less, lt)))
+  rise = pairs_append (λ (x y : Mark). x.moment ≤ y.moment) marks (m ∷ []) rise (λ i j d less lt. absurd (omega arith))
       (λ x y has one. All-contains (λ (z : Mark). x.moment ≤ z.moment) (m ∷ []) y (All-cons (λ (z : Mark). x.moment ≤ z.moment) m [] (All-contains (λ (z : Mark). z.moment ≤ m.moment) marks x before has) (All-nil (λ (z : Mark). x.moment ≤ z.moment))) one);
   some = some;
 }
@@ -264,7 +247,6 @@ mark_fits r n rules fits =
     let l = r.ledger in
     let m = (with_mark r n).ledger in
     let long = length-append l.marks (n ∷ []) in
-    let room = fits.room in
     let old = many l in
     let new = many m in
     record {
@@ -278,7 +260,7 @@ mark_fits r n rules fits =
         ids = is.ids;
         marks = marks-more l.tree l.base.moment l.marks n is.marks.each fits.moment.0 fits.mark is.marks.rise
             (λ i there. let h = is.marks.some i there in (h.0, Contains-append_left l.marks (n ∷ []) h.0 h.1, h.2));
-        few = omega (arith, old, new, long, room);
+        few = omega arith;
       };
       saved = saved_kept l m (record { ids = omega arith; threads = omega arith; files = omega arith; there = λ i there. there }) refl refl r.saved rules.saved;
     }
@@ -287,35 +269,28 @@ mark_fits r n rules fits =
 old-or-new : (tree : List Incarnation) (p at i : ℕ) → IsThere (with_branch tree p at) i → IsThere tree i ⊎ (i ≡ length tree + 1)
 old-or-new tree p at i there =
     let low = there.0 in
-    let high = there.1 in
     let long = length-with_branch tree p at in
-    elim (cases_eq i (length tree + 1)) [ inl new ↦ inr new | inr other ↦ inl (low, omega (arith, high, long, other)) ]
+    elim (cases_eq i (length tree + 1)) [ inl new ↦ inr new | inr other ↦ inl (low, omega arith) ]
 
 branched-branch : (tree : List Incarnation) (p at i : ℕ) → AreIncarnations tree → IsThere tree p → reset_of tree p ≤ at → at ≤ end_of tree p → 1 < i → IsThere tree i ⊎ (i ≡ length tree + 1) → IsBranch (with_branch tree p at) i
 branched-branch tree p at i is there low high later (inl was) =
     let b = is.branches i later was.1 in
     let parent = parent_of-with_branch tree p at i was in
     let q = parent_of tree i in
-    let inside = was.1 in
     let some = b.parent.0 in
-    let under = b.parent.1 in
-    let q_there : IsThere tree q = (some, omega (arith, under, inside)) in
-    let reset = b.reset in
-    let end = b.end in
+    let q_there : IsThere tree q = (some, omega arith) in
     let own = reset_of-with_branch tree p at i was in
     let from = ap (reset_of (with_branch tree p at)) parent ∙ reset_of-with_branch tree p at q q_there in
     let to = ap (end_of (with_branch tree p at)) parent ∙ end_of-with_branch tree p at q q_there in
-    record { parent = (omega (arith, parent, some), omega (arith, parent, under)); reset = omega (arith, from, own, reset); end = omega (arith, to, own, end) }
+    record { parent = (omega arith, omega arith); reset = omega arith; end = omega arith }
 branched-branch tree p at i is there low high later (inr new) =
     let n = length tree + 1 in
     let parent = parent_of-branched tree p at in
-    let one = there.0 in
-    let inside = there.1 in
     let own = reset_of-branched tree p at in
     let from = ap (reset_of (with_branch tree p at)) parent ∙ reset_of-with_branch tree p at p there in
     let to = ap (end_of (with_branch tree p at)) parent ∙ end_of-with_branch tree p at p there in
     subst (λ (k : ℕ). IsBranch (with_branch tree p at) k) (sym new)
-    (record { parent = (omega (arith, parent, one), omega (arith, parent, inside)); reset = omega (arith, from, own, low); end = omega (arith, to, own, high) })
+    (record { parent = (omega arith, omega arith); reset = omega arith; end = omega arith })
 
 abbrev IsRange : List Incarnation → ℕ → Type 0
 IsRange tree i = (1 ≤ reset_of tree i) × (reset_of tree i ≤ end_of tree i) × (end_of tree i ≤ last_scn)
@@ -323,29 +298,23 @@ IsRange tree i = (1 ≤ reset_of tree i) × (reset_of tree i ≤ end_of tree i) 
 branched-range : (tree : List Incarnation) (p at i : ℕ) → AreIncarnations tree → IsThere tree p → reset_of tree p ≤ at → at ≤ end_of tree p → IsThere tree i ⊎ (i ≡ length tree + 1) → IsRange (with_branch tree p at) i
 branched-range tree p at i is there low high (inl was) =
     let range = is.ranges i was in
-    let one = range.0 in
-    let two = range.1 in
-    let three = range.2 in
     let reset = reset_of-with_branch tree p at i was in
     let end = end_of-with_branch tree p at i was in
-    (omega (arith, reset, one), omega (arith, reset, end, two), omega (arith, end, three))
+    (omega arith, omega arith, omega arith)
 branched-range tree p at i is there low high (inr new) =
     let range = is.ranges p there in
-    let one = range.0 in
-    let three = range.2 in
     let reset = reset_of-branched tree p at in
     let end = end_of-branched tree p at in
-    subst (IsRange (with_branch tree p at)) (sym new) (omega (arith, reset, one, low), omega (arith, reset, end), omega (arith, end, three, high))
+    subst (IsRange (with_branch tree p at)) (sym new) (omega arith, omega arith, omega arith)
 
 branched-incarnations : (tree : List Incarnation) (p at : ℕ) → AreIncarnations tree → length tree < 256 → IsThere tree p → reset_of tree p ≤ at → at ≤ end_of tree p → AreIncarnations (with_branch tree p at)
 branched-incarnations tree p at is few there low high =
     let long = length-with_branch tree p at in
-    let some = is.some in
     record {
-      some = omega (arith, long);
-      few = omega (arith, long, few);
-      first = parent_of-with_branch tree p at 1 (omega arith, omega (arith, some)) ∙ is.first;
-      branches = λ i later inside. branched-branch tree p at i is there low high later (old-or-new tree p at i (omega (arith, later), inside));
+      some = omega arith;
+      few = omega arith;
+      first = parent_of-with_branch tree p at 1 (omega arith, omega arith) ∙ is.first;
+      branches = λ i later inside. branched-branch tree p at i is there low high later (old-or-new tree p at i (omega arith, inside));
       ranges = λ i has. branched-range tree p at i is there low high (old-or-new tree p at i has);
     }
 
@@ -360,7 +329,6 @@ branch_fits r parent at moment rules fits =
     let keeps = keeps_branch l.tree parent at (parents_below l.tree is.incarnations) there in
     let long = length-append l.marks (n ∷ []) in
     let deep = length-with_branch l.tree parent at in
-    let room = fits.room in
     let old = many l in
     let new = many m in
     let reset = reset_of-branched l.tree parent at in
@@ -376,9 +344,9 @@ branch_fits r parent at moment rules fits =
         ids = is.ids;
         marks = marks-more m.tree l.base.moment l.marks n
             (All-weaker (IsMark l.tree l.base.moment) (IsMark m.tree l.base.moment) (mark_kept l.tree m.tree l.base.moment l.base.moment keeps (omega arith)) l.marks is.marks.each)
-            fits.next.0 (record { there = IsThere-branched l.tree parent at; scn = (omega (arith, reset), omega (arith, end)); moment = fits.next.1 }) is.marks.rise
+            fits.next.0 (record { there = IsThere-branched l.tree parent at; scn = (omega arith, omega arith); moment = fits.next.1 }) is.marks.rise
             (λ i has. first-mark i (old-or-new l.tree parent at i has));
-        few = omega (arith, old, new, long, deep, room);
+        few = omega arith;
       };
       saved = saved_kept l m (record { ids = omega arith; threads = omega arith; files = omega arith; there = λ i has. keeps.there i has }) refl refl r.saved rules.saved;
     }
@@ -392,164 +360,107 @@ branch_fits r parent at moment rules fits =
         let n : Mark = record { moment = moment; inc = length r.ledger.tree + 1; scn = at } in
         (n, Contains-append_right r.ledger.marks (n ∷ []) n (in-front n []), sym new)
 
+-- the ids of a saved site's parts are not those of objects
+abbrev AreFree : Saved → List LogEntry → List PieceEntry → Type 0
+AreFree s logs pieces = ((e : LogEntry) (p : PartEntry) → Contains logs e → Contains s.parts p → e.id ≡ p.id → ⊥) × ((e : PieceEntry) (p : PartEntry) → Contains pieces e → Contains s.parts p → e.id ≡ p.id → ⊥)
+
+-- other logs and pieces
+refit : (r : Repository) (logs : List LogEntry) (pieces : List PieceEntry) → IsRepository r → All (IsLogEntry r.ledger.tree r.ledger.base.threads) logs → All (IsPieceEntry r.ledger.tree r.ledger.files) pieces → AreIds 1 r.ledger.base.next_id logs pieces
+    → length (ledger_records r.ledger) + length logs + length pieces ≤ 65536 + length r.ledger.logs + length r.ledger.pieces → ((s : Saved) → r.saved ≡ Some s → IsSaved r.ledger s → AreFree s logs pieces)
+    → IsRepository (record r { ledger = record r.ledger { logs = logs; pieces = pieces } })
+refit r logs pieces rules of-logs of-pieces ids room free =
+    let is = rules.ledger in
+    let old = many r.ledger in
+    let new = many (record r.ledger { logs = logs; pieces = pieces }) in
+    record {
+      ledger = record { base = is.base; current = is.current; incarnations = is.incarnations; datafiles = is.datafiles; logs = of-logs; pieces = of-pieces; ids = ids; marks = is.marks; few = omega arith };
+      saved = decide r.saved rules.saved (λ s some. free s some);
+    }
+  where
+    decide : (o : Option Saved) → IfSome o (IsSaved r.ledger) → ((s : Saved) → o ≡ Some s → IsSaved r.ledger s → AreFree s logs pieces) → IfSome o (IsSaved (record r.ledger { logs = logs; pieces = pieces }))
+    decide None none free = tt
+    decide (Some s) is free =
+        site_kept r.ledger (record r.ledger { logs = logs; pieces = pieces }) s (record { ids = omega arith; threads = omega arith; files = omega arith; there = λ i there. there }) is (free s refl is).0 (free s refl is).1
+
+-- none of those that lack an id has it
+other-id : {A : Type 0} (id : A → ℕ) (n : ℕ) (xs : List A) (x : A) → LacksId id n xs → Contains xs x → n ≡ id x → ⊥
+other-id id n xs x lacks has same = All-contains (λ y. id y ≡ n → ⊥) xs x lacks has (sym same)
+
+no-part-has : (r : Repository) (n : ℕ) (s : Saved) (p : PartEntry) → IsObjectId r n → r.saved ≡ Some s → Contains s.parts p → n ≡ p.id → ⊥
+no-part-has r n s p is some has = other-id (λ q. q.id) n s.parts p (subst (λ (o : Option Saved). IfSome o (λ s. LacksId (λ q. q.id) n s.parts)) some is.parts) has
+
 -- a log, put
 pub log_fits : (r : Repository) (e : LogEntry) → IsRepository r → FitsLog r e → IsRepository (with_log r e)
 log_fits r e rules fits =
     let is = rules.ledger in
     let l = r.ledger in
-    let m = (with_log r e).ledger in
-    let old = many l in
-    let new = many m in
-    let few = is.few in
-    record {
-      ledger = record {
-        base = is.base;
-        current = is.current;
-        incarnations = is.incarnations;
-        datafiles = is.datafiles;
-        logs = all-with (λ x. x.id) (IsLogEntry l.tree l.base.threads) e l.logs is.logs fits.log;
-        pieces = is.pieces;
-        ids = record {
-          logs = all-with (λ x. x.id) (λ (x : LogEntry). (1 ≤ x.id) × (x.id < l.base.next_id)) e l.logs is.ids.logs fits.id.range;
-          pieces = is.ids.pieces;
-          logs_ascend = ascend-with (λ x. x.id) e l.logs is.ids.logs_ascend;
-          pieces_ascend = is.ids.pieces_ascend;
-          apart = λ x p has other.
-              contains-with (λ x. x.id) (λ (x : LogEntry). x.id ≡ p.id → ⊥) e l.logs (λ y was. is.ids.apart y p was other)
-              (λ same. All-contains (λ (q : PieceEntry). q.id ≡ e.id → ⊥) l.pieces p fits.other other (sym same)) x has;
-        };
-        marks = is.marks;
-        few = elim fits.room [
-          | inl was ↦ let short = length-replaced (λ x. x.id) e l.logs was in omega (arith, old, new, few, short)
-          | inr room ↦ let short = length-with (λ x. x.id) e l.logs in omega (arith, old, new, room, short)
-        ];
-      };
-      saved = saved_with r.saved rules.saved fits.id.parts;
-    }
-  where
-    saved_with : (o : Option Saved) → IfSome o (IsSaved r.ledger) → IfSome o (λ s. LacksId (λ p. p.id) e.id s.parts) → IfSome o (IsSaved (with_log r e).ledger)
-    saved_with None none lacks = tt
-    saved_with (Some s) is lacks =
-        site_kept r.ledger (with_log r e).ledger s (record { ids = omega arith; threads = omega arith; files = omega arith; there = λ i there. there }) is
-        (λ x p has other. contains-with (λ x. x.id) (λ (x : LogEntry). x.id ≡ p.id → ⊥) e r.ledger.logs (λ y was. is.logs y p was other)
-        (λ same. All-contains (λ (q : PartEntry). q.id ≡ e.id → ⊥) s.parts p lacks other (sym same)) x has)
-        is.pieces
+    let id = λ (x : LogEntry). x.id in
+    refit r (with_one id e l.logs) l.pieces rules (all-with id (IsLogEntry l.tree l.base.threads) e l.logs is.logs fits.log) is.pieces
+    (record {
+      logs = all-with id (λ x. (1 ≤ x.id) × (x.id < l.base.next_id)) e l.logs is.ids.logs fits.id.range;
+      pieces = is.ids.pieces;
+      logs_ascend = ascend-with id e l.logs is.ids.logs_ascend;
+      pieces_ascend = is.ids.pieces_ascend;
+      apart = λ x p has other. contains-with id (λ x. x.id ≡ p.id → ⊥) e l.logs (λ y was. is.ids.apart y p was other) (other-id (λ q. q.id) e.id l.pieces p fits.other other) x has;
+    })
+    (elim fits.room [
+      | inl was ↦ let short = length-replaced id e l.logs is.ids.logs_ascend was in omega arith
+      | inr room ↦ let short = length-with id e l.logs in omega arith
+    ])
+    (λ s some saved. (λ x p has other. contains-with id (λ x. x.id ≡ p.id → ⊥) e l.logs (λ y was. saved.logs y p was other) (no-part-has r e.id s p fits.id some other) x has, saved.pieces))
 
 -- a piece, put
 pub piece_fits : (r : Repository) (e : PieceEntry) → IsRepository r → FitsPiece r e → IsRepository (with_piece r e)
 piece_fits r e rules fits =
     let is = rules.ledger in
     let l = r.ledger in
-    let m = (with_piece r e).ledger in
-    let old = many l in
-    let new = many m in
-    let few = is.few in
-    record {
-      ledger = record {
-        base = is.base;
-        current = is.current;
-        incarnations = is.incarnations;
-        datafiles = is.datafiles;
-        logs = is.logs;
-        pieces = all-with (λ x. x.id) (IsPieceEntry l.tree l.files) e l.pieces is.pieces fits.piece;
-        ids = record {
-          logs = is.ids.logs;
-          pieces = all-with (λ x. x.id) (λ (x : PieceEntry). (1 ≤ x.id) × (x.id < l.base.next_id)) e l.pieces is.ids.pieces fits.id.range;
-          logs_ascend = is.ids.logs_ascend;
-          pieces_ascend = ascend-with (λ x. x.id) e l.pieces is.ids.pieces_ascend;
-          apart = λ x p has other.
-              contains-with (λ x. x.id) (λ (y : PieceEntry). x.id ≡ y.id → ⊥) e l.pieces (λ y was. is.ids.apart x y has was)
-              (λ same. All-contains (λ (q : LogEntry). q.id ≡ e.id → ⊥) l.logs x fits.other has same) p other;
-        };
-        marks = is.marks;
-        few = elim fits.room [
-          | inl was ↦ let short = length-replaced (λ x. x.id) e l.pieces was in omega (arith, old, new, few, short)
-          | inr room ↦ let short = length-with (λ x. x.id) e l.pieces in omega (arith, old, new, room, short)
-        ];
-      };
-      saved = saved_with r.saved rules.saved fits.id.parts;
-    }
-  where
-    saved_with : (o : Option Saved) → IfSome o (IsSaved r.ledger) → IfSome o (λ s. LacksId (λ p. p.id) e.id s.parts) → IfSome o (IsSaved (with_piece r e).ledger)
-    saved_with None none lacks = tt
-    saved_with (Some s) is lacks =
-        site_kept r.ledger (with_piece r e).ledger s (record { ids = omega arith; threads = omega arith; files = omega arith; there = λ i there. there }) is
-        is.logs
-        (λ x p has other. contains-with (λ x. x.id) (λ (x : PieceEntry). x.id ≡ p.id → ⊥) e r.ledger.pieces (λ y was. is.pieces y p was other)
-        (λ same. All-contains (λ (q : PartEntry). q.id ≡ e.id → ⊥) s.parts p lacks other (sym same)) x has)
+    let id = λ (x : PieceEntry). x.id in
+    refit r l.logs (with_one id e l.pieces) rules is.logs (all-with id (IsPieceEntry l.tree l.files) e l.pieces is.pieces fits.piece)
+    (record {
+      logs = is.ids.logs;
+      pieces = all-with id (λ x. (1 ≤ x.id) × (x.id < l.base.next_id)) e l.pieces is.ids.pieces fits.id.range;
+      logs_ascend = is.ids.logs_ascend;
+      pieces_ascend = ascend-with id e l.pieces is.ids.pieces_ascend;
+      apart = λ x p has other same. contains-with id (λ y. y.id ≡ x.id → ⊥) e l.pieces (λ y was alike. is.ids.apart x y has was (sym alike)) (other-id (λ q. q.id) e.id l.logs x fits.other has) p other (sym same);
+    })
+    (elim fits.room [
+      | inl was ↦ let short = length-replaced id e l.pieces is.ids.pieces_ascend was in omega arith
+      | inr room ↦ let short = length-with id e l.pieces in omega arith
+    ])
+    (λ s some saved. (saved.logs, λ x p has other. contains-with id (λ x. x.id ≡ p.id → ⊥) e l.pieces (λ y was. saved.pieces y p was other) (no-part-has r e.id s p fits.id some other) x has))
 
 -- a log or a piece, dropped
 pub no_log_fits : (r : Repository) (n : ℕ) → IsRepository r → IsRepository (without_log r n)
 no_log_fits r n rules =
     let is = rules.ledger in
     let l = r.ledger in
-    let m = (without_log r n).ledger in
-    let old = many l in
-    let new = many m in
-    let few = is.few in
-    let short = length-without (λ x. x.id) n l.logs in
-    record {
-      ledger = record {
-        base = is.base;
-        current = is.current;
-        incarnations = is.incarnations;
-        datafiles = is.datafiles;
-        logs = all-without (λ x. x.id) (IsLogEntry l.tree l.base.threads) n l.logs is.logs;
-        pieces = is.pieces;
-        ids = record {
-          logs = all-without (λ x. x.id) (λ (x : LogEntry). (1 ≤ x.id) × (x.id < l.base.next_id)) n l.logs is.ids.logs;
-          pieces = is.ids.pieces;
-          logs_ascend = ascend-without (λ x. x.id) n l.logs is.ids.logs_ascend;
-          pieces_ascend = is.ids.pieces_ascend;
-          apart = λ x p has other. contains-without (λ x. x.id) (λ (x : LogEntry). x.id ≡ p.id → ⊥) n l.logs (λ y was. is.ids.apart y p was other) x has;
-        };
-        marks = is.marks;
-        few = omega (arith, old, new, few, short);
-      };
-      saved = saved_without r.saved rules.saved;
-    }
-  where
-    saved_without : (o : Option Saved) → IfSome o (IsSaved r.ledger) → IfSome o (IsSaved (without_log r n).ledger)
-    saved_without None none = tt
-    saved_without (Some s) is =
-        site_kept r.ledger (without_log r n).ledger s (record { ids = omega arith; threads = omega arith; files = omega arith; there = λ i there. there }) is
-        (λ x p has other. contains-without (λ x. x.id) (λ (x : LogEntry). x.id ≡ p.id → ⊥) n r.ledger.logs (λ y was. is.logs y p was other) x has) is.pieces
+    let id = λ (x : LogEntry). x.id in
+    let short = length-without id n l.logs in
+    refit r (without_one id n l.logs) l.pieces rules (all-without id (IsLogEntry l.tree l.base.threads) n l.logs is.logs) is.pieces
+    (record {
+      logs = all-without id (λ x. (1 ≤ x.id) × (x.id < l.base.next_id)) n l.logs is.ids.logs;
+      pieces = is.ids.pieces;
+      logs_ascend = ascend-without id n l.logs is.ids.logs_ascend;
+      pieces_ascend = is.ids.pieces_ascend;
+      apart = λ x p has other. contains-without id (λ x. x.id ≡ p.id → ⊥) n l.logs (λ y was. is.ids.apart y p was other) x has;
+    })
+    (omega arith) (λ s some saved. (λ x p has other. contains-without id (λ x. x.id ≡ p.id → ⊥) n l.logs (λ y was. saved.logs y p was other) x has, saved.pieces))
 
 pub no_piece_fits : (r : Repository) (n : ℕ) → IsRepository r → IsRepository (without_piece r n)
 no_piece_fits r n rules =
     let is = rules.ledger in
     let l = r.ledger in
-    let m = (without_piece r n).ledger in
-    let old = many l in
-    let new = many m in
-    let few = is.few in
-    let short = length-without (λ x. x.id) n l.pieces in
-    record {
-      ledger = record {
-        base = is.base;
-        current = is.current;
-        incarnations = is.incarnations;
-        datafiles = is.datafiles;
-        logs = is.logs;
-        pieces = all-without (λ x. x.id) (IsPieceEntry l.tree l.files) n l.pieces is.pieces;
-        ids = record {
-          logs = is.ids.logs;
-          pieces = all-without (λ x. x.id) (λ (x : PieceEntry). (1 ≤ x.id) × (x.id < l.base.next_id)) n l.pieces is.ids.pieces;
-          logs_ascend = is.ids.logs_ascend;
-          pieces_ascend = ascend-without (λ x. x.id) n l.pieces is.ids.pieces_ascend;
-          apart = λ x p has other. contains-without (λ x. x.id) (λ (y : PieceEntry). x.id ≡ y.id → ⊥) n l.pieces (λ y was. is.ids.apart x y has was) p other;
-        };
-        marks = is.marks;
-        few = omega (arith, old, new, few, short);
-      };
-      saved = saved_without r.saved rules.saved;
-    }
-  where
-    saved_without : (o : Option Saved) → IfSome o (IsSaved r.ledger) → IfSome o (IsSaved (without_piece r n).ledger)
-    saved_without None none = tt
-    saved_without (Some s) is =
-        site_kept r.ledger (without_piece r n).ledger s (record { ids = omega arith; threads = omega arith; files = omega arith; there = λ i there. there }) is
-        is.logs (λ x p has other. contains-without (λ x. x.id) (λ (x : PieceEntry). x.id ≡ p.id → ⊥) n r.ledger.pieces (λ y was. is.pieces y p was other) x has)
+    let id = λ (x : PieceEntry). x.id in
+    let short = length-without id n l.pieces in
+    refit r l.logs (without_one id n l.pieces) rules is.logs (all-without id (IsPieceEntry l.tree l.files) n l.pieces is.pieces)
+    (record {
+      logs = is.ids.logs;
+      pieces = all-without id (λ x. (1 ≤ x.id) × (x.id < l.base.next_id)) n l.pieces is.ids.pieces;
+      logs_ascend = is.ids.logs_ascend;
+      pieces_ascend = ascend-without id n l.pieces is.ids.pieces_ascend;
+      apart = λ x p has other. contains-without id (λ y. x.id ≡ y.id → ⊥) n l.pieces (λ y was. is.ids.apart x y has was) p other;
+    })
+    (omega arith) (λ s some saved. (saved.logs, λ x p has other. contains-without id (λ x. x.id ≡ p.id → ⊥) n l.pieces (λ y was. saved.pieces y p was other) x has))
 
 -- A new object takes the next id.
 
@@ -561,70 +472,61 @@ pub next_fits : (r : Repository) (n : ℕ) → IsRepository r → r.ledger.base.
 unfolding with_next
 next_fits r n rules up most =
     let is = rules.ledger in
-    let some = is.base.next_id.0 in
     base_fits r (record r.ledger.base { next_id = n }) rules (record {
-      facts = record { dbid = is.base.dbid; threads = is.base.threads; next_id = (omega (arith, some, up), most); moment = is.base.moment; policy = is.base.policy; parallelism = is.base.parallelism };
+      facts = record { dbid = is.base.dbid; threads = is.base.threads; next_id = (omega arith, most); moment = is.base.moment; policy = is.base.policy; parallelism = is.base.parallelism };
       current = is.current;
       threads = refl;
       next_id = up;
       moment = omega arith;
     })
 
--- no part of a saved site has the next id
-parts-lack : (l : Ledger) (o : Option Saved) → IfSome o (IsSaved l) → IfSome o (λ s. LacksId (λ p. p.id) l.base.next_id s.parts)
-parts-lack l None none = tt
-parts-lack l (Some s) is = All-weaker (IsPartEntry l) (λ p. p.id ≡ l.base.next_id → ⊥) (λ p was same. let high = was.id.1 in omega (arith, high, same)) s.parts is.parts
+-- it is the id of no object, and of no part of a saved site
+lacks-next : {A : Type 0} (id : A → ℕ) (n k : ℕ) (xs : List A) → k ≡ n → All (λ x. (1 ≤ id x) × (id x < n)) xs → LacksId id k xs
+lacks-next id n k xs same ids = All-weaker (λ x. (1 ≤ id x) × (id x < n)) (λ x. id x ≡ k → ⊥) (λ x was clash. omega arith) xs ids
 
--- a new log
+below-next : {A : Type 0} (id : A → ℕ) (n k : ℕ) (xs : List A) → k ≡ n → All (λ x. (1 ≤ id x) × (id x < n)) xs → All (λ x. id x < k) xs
+below-next id n k xs same ids = All-weaker (λ x. (1 ≤ id x) × (id x < n)) (λ x. id x < k) (λ x was. omega arith) xs ids
+
+next-id : (r : Repository) (k : ℕ) → IsRepository r → k ≡ r.ledger.base.next_id → IsObjectId (with_next r (r.ledger.base.next_id + 1)) k
+unfolding with_next
+next-id r k rules same = let some = rules.ledger.base.next_id.0 in record { range = (omega arith, omega arith); parts = decide r.saved rules.saved }
+  where
+    decide : (o : Option Saved) → IfSome o (IsSaved r.ledger) → IfSome o (λ s. LacksId (λ p. p.id) k s.parts)
+    decide None none = tt
+    decide (Some s) is = lacks-next (λ p. p.id) r.ledger.base.next_id k s.parts same (All-weaker (IsPartEntry r.ledger) (λ p. (1 ≤ p.id) × (p.id < r.ledger.base.next_id)) (λ p was. was.id) s.parts is.parts)
+
+module _ (r : Repository) (rules : IsRepository r) where
+  abbrev next : ℕ
+  next = r.ledger.base.next_id
+
+  -- a new object fits where its id was drawn, and then stands behind all others
+  pub drawn-log : (e : LogEntry) → FitsNewLog r e → FitsLog (with_next r (next + 1)) e
+  unfolding with_next
+  drawn-log e fits = record { log = fits.log; id = next-id r e.id rules fits.id; other = lacks-next (λ p. p.id) next e.id r.ledger.pieces fits.id rules.ledger.ids.pieces; room = inr fits.room }
+
+  pub log-last : (e : LogEntry) → FitsNewLog r e → with_log (with_next r (next + 1)) e ≡ with_new_log r e
+  unfolding with_next
+  log-last e fits =
+      ap (λ (logs : List LogEntry). record r { ledger = record r.ledger { base = record r.ledger.base { next_id = next + 1 }; logs = logs } })
+      (with-last (λ x. x.id) e r.ledger.logs (below-next (λ x. x.id) next e.id r.ledger.logs fits.id rules.ledger.ids.logs))
+
+  pub drawn-piece : (e : PieceEntry) → FitsNewPiece r e → FitsPiece (with_next r (next + 1)) e
+  unfolding with_next
+  drawn-piece e fits = record { piece = fits.piece; id = next-id r e.id rules fits.id; other = lacks-next (λ x. x.id) next e.id r.ledger.logs fits.id rules.ledger.ids.logs; room = inr fits.room }
+
+  pub piece-last : (e : PieceEntry) → FitsNewPiece r e → with_piece (with_next r (next + 1)) e ≡ with_new_piece r e
+  unfolding with_next
+  piece-last e fits =
+      ap (λ (pieces : List PieceEntry). record r { ledger = record r.ledger { base = record r.ledger.base { next_id = next + 1 }; pieces = pieces } })
+      (with-last (λ x. x.id) e r.ledger.pieces (below-next (λ x. x.id) next e.id r.ledger.pieces fits.id rules.ledger.ids.pieces))
+
+-- a new log or piece
 pub new_log_fits : (r : Repository) (e : LogEntry) → IsRepository r → FitsNewLog r e → IsRepository (with_new_log r e)
-unfolding with_next
 new_log_fits r e rules fits =
-    let is = rules.ledger in
-    let l = r.ledger in
-    let n = l.base.next_id in
-    let id = fits.id in
-    let last = fits.last in
-    let some = is.base.next_id.0 in
-    let next : IsRepository (with_next r (n + 1)) = next_fits r (n + 1) rules (omega arith) (omega (arith, id, last)) in
-    let behind : All (λ x. x.id < e.id) l.logs = All-weaker (λ (x : LogEntry). (1 ≤ x.id) × (x.id < n)) (λ x. x.id < e.id) (λ x was. let high = was.1 in omega (arith, high, id)) l.logs is.ids.logs in
-    let after : IsRepository (with_log (with_next r (n + 1)) e) = log_fits (with_next r (n + 1)) e next (record {
-      log = fits.log;
-      id = record { range = (omega (arith, id, some), omega (arith, id)); parts = subst (λ (k : ℕ). IfSome r.saved (λ s. LacksId (λ p. p.id) k s.parts)) (sym id) (parts-lack l r.saved rules.saved) };
-      other = All-weaker (λ (x : PieceEntry). (1 ≤ x.id) × (x.id < n)) (λ (x : PieceEntry). x.id ≡ e.id → ⊥) (λ x was same. let high = was.1 in omega (arith, high, id, same)) l.pieces is.ids.pieces;
-      room = inr fits.room;
-    }) in
-    subst (λ (logs : List LogEntry). IsRepository (record r { ledger = record l { base = record l.base { next_id = n + 1 }; logs = logs } })) (with-last (λ x. x.id) e l.logs behind) after
-
--- a new piece fits where its id was drawn
-pub drawn-piece : (r : Repository) (e : PieceEntry) → IsRepository r → FitsNewPiece r e → FitsPiece (with_next r (r.ledger.base.next_id + 1)) e
-unfolding with_next
-drawn-piece r e rules fits =
-    let is = rules.ledger in
     let n = r.ledger.base.next_id in
-    let some = is.base.next_id.0 in
-    let same = fits.id in
-    record {
-      piece = fits.piece;
-      id = record { range = (omega (arith, same, some), omega (arith, same)); parts = subst (λ (k : ℕ). IfSome r.saved (λ s. LacksId (λ p. p.id) k s.parts)) (sym same) (parts-lack r.ledger r.saved rules.saved) };
-      other = All-weaker (λ (x : LogEntry). (1 ≤ x.id) × (x.id < n)) (λ (x : LogEntry). x.id ≡ e.id → ⊥) (λ x was clash. let high = was.1 in omega (arith, high, same, clash)) r.ledger.logs is.ids.logs;
-      room = inr fits.room;
-    }
+    subst IsRepository (log-last r rules e fits) (log_fits (with_next r (n + 1)) e (next_fits r (n + 1) rules (omega arith) (omega arith)) (drawn-log r rules e fits))
 
--- and then it stands behind all others
-pub piece-last : (r : Repository) (e : PieceEntry) → IsRepository r → FitsNewPiece r e → with_piece (with_next r (r.ledger.base.next_id + 1)) e ≡ with_new_piece r e
-unfolding with_next
-piece-last r e rules fits =
-    let l = r.ledger in
-    let n = l.base.next_id in
-    let same = fits.id in
-    ap (λ (pieces : List PieceEntry). record r { ledger = record l { base = record l.base { next_id = n + 1 }; pieces = pieces } })
-    (with-last (λ x. x.id) e l.pieces (All-weaker (λ (x : PieceEntry). (1 ≤ x.id) × (x.id < n)) (λ x. x.id < e.id) (λ x was. let high = was.1 in omega (arith, high, same)) l.pieces rules.ledger.ids.pieces))
-
--- a new piece
 pub new_piece_fits : (r : Repository) (e : PieceEntry) → IsRepository r → FitsNewPiece r e → IsRepository (with_new_piece r e)
 new_piece_fits r e rules fits =
     let n = r.ledger.base.next_id in
-    let same = fits.id in
-    let last = fits.last in
-    let next = next_fits r (n + 1) rules (omega arith) (omega (arith, same, last)) in
-    subst IsRepository (piece-last r e rules fits) (piece_fits (with_next r (n + 1)) e next (drawn-piece r e rules fits))
+    subst IsRepository (piece-last r rules e fits) (piece_fits (with_next r (n + 1)) e (next_fits r (n + 1) rules (omega arith) (omega arith)) (drawn-piece r rules e fits))

@@ -1,200 +1,102 @@
--- Objects that ascend by id: where one stands, goes or is put.
-use Rattle.std.proofs.Common.{◌≡◌, ◌≢◌, ◌∙◌, ℕ, zero, suc, ◌+◌, ◌<◌, ◌≤◌, ◌==◌, Some, None, slice_get, eq-eqb, inl, inr, Bool, cond, List, [], ◌∷◌, ◌++◌, refl, ap, sym, arith, length, get_or, slice_set, AllPairs}
-use Rattle.std.specs.Prelude.{find}
-use Rattle.std.specs.List.{insert, remove}
-use Rattle.std.proofs.lemmas.Bool.{cases_lt, lt-ltb, le-ltb, ne_eqb}
-use Rattle.std.proofs.lemmas.List.{get_or_default}
-use Rattle.rm_repository.specs.Changes.{higher, lower, with_one, without_one}
+-- Objects that ascend by id: where a search finds one, and where one is put.
+use Rattle.std.proofs.Common.{◌≡◌, ◌∙◌, ℕ, suc, ◌+◌, ◌<◌, ◌≤◌, ◌==◌, Some, Result, Ok, Err, eq-eqb, inl, inr, Bool, true, false, List, [], ◌∷◌, ◌++◌, refl, ap, sym, subst, arith, length, get_or, take, drop, All, AllPairs, length-take, length-drop}
+use Rattle.std.specs.Prelude.{MatchResult, find, nat_lt}
+use Rattle.std.specs.List.{filter}
+use Rattle.std.specs.List.Sorted.{IsBinarySearchResult, IsNonDecreasingBy, IsSearchInRange}
+use Rattle.std.specs.Ordering.{nat_cmp, ordering_index}
+use Rattle.std.specs.declared.cmp.Ordering.TheVariants.{Equal, Greater, Less}
+use Rattle.std.proofs.lemmas.Bool.{cond-false, cond-true, le-ltb, lt-ltb, ne_eqb}
+use Rattle.std.proofs.lemmas.Bool.Decides.{nat_tests}
+use Rattle.std.proofs.lemmas.Cmp.{ranked}
+use Rattle.std.proofs.lemmas.List.{append-nil, get_or-drop, get_or_default, get_or-take, set_split, take-append-drop}
+use Rattle.std.proofs.lemmas.List.Elements.{All-cons, All-push, All-weaker, filter-append}
+use Rattle.std.proofs.lemmas.Option.{slice_get-get_or, slice_get_cases}
+use Rattle.std.proofs.Math.Seq.{drop-cons, take-suc}
+use Rattle.rm_catalog.proofs.Filters.{filter_all, filter_none}
+use Rattle.rm_repository.specs.Changes.{higher, lower}
+use Rattle.rm_repository.specs.Places.{IsAt, IsGap}
 
-module _ {A : Type 0} (id : A → ℕ) (n : ℕ) where
-  abbrev Under : List A → ℕ → Type 0
-  Under xs i = (k : ℕ) (d : A) → k < i → id (get_or xs k d) < n
+-- what holds of each before a place, and from it on
+in-front : {A : Type 0} (P : A → Type 0) (xs : List A) (i : ℕ) → i ≤ length xs → ((k : ℕ) (d : A) → k < i → P (get_or xs k d)) → All P (take i xs)
+in-front P xs i le each k d lt = let n = length-take i xs in subst P (sym (get_or-take i xs k d (omega arith))) (each k d (omega arith))
 
-  abbrev Over : List A → ℕ → Type 0
-  Over xs i = (k : ℕ) (d : A) → i ≤ k → k < length xs → n < id (get_or xs k d)
+from-there : {A : Type 0} (P : A → Type 0) (xs : List A) (i : ℕ) → ((k : ℕ) (d : A) → i ≤ k → k < length xs → P (get_or xs k d)) → All P (drop i xs)
+from-there P xs i each k d lt = let n = length-drop i xs in subst P (sym (get_or-drop i xs k d)) (each (i + k) d (omega arith) (omega arith))
 
-  pub lower-some : (y : A) (ys : List A) → id y < n → lower id n (y ∷ ys) ≡ y ∷ lower id n ys
-  lower-some y ys less = ap (λ (b : Bool). cond b (y ∷ lower id n ys) (lower id n ys)) (lt-ltb (id y) n less)
+module _ {A : Type 0} (p : A → Bool) where
+  -- a test that the first i pass alone keeps these, and one that they alone fail keeps the others
+  kept-front : (xs : List A) (i : ℕ) → All (λ x. p x ≡ true) (take i xs) → All (λ x. p x ≡ false) (drop i xs) → filter p xs ≡ take i xs
+  kept-front xs i pass fail =
+      ap (filter p) (sym (take-append-drop i xs)) ∙ filter-append p (take i xs) (drop i xs)
+      ∙ ap (λ ys. ys ++ filter p (drop i xs)) (filter_all p (take i xs) pass) ∙ ap (λ ys. take i xs ++ ys) (filter_none p (drop i xs) fail) ∙ append-nil (take i xs)
 
-  pub lower-skip : (y : A) (ys : List A) → n ≤ id y → lower id n (y ∷ ys) ≡ lower id n ys
-  lower-skip y ys le = ap (λ (b : Bool). cond b (y ∷ lower id n ys) (lower id n ys)) (le-ltb (id y) n le)
+  kept-behind : (xs : List A) (i : ℕ) → All (λ x. p x ≡ false) (take i xs) → All (λ x. p x ≡ true) (drop i xs) → filter p xs ≡ drop i xs
+  kept-behind xs i fail pass =
+      ap (filter p) (sym (take-append-drop i xs)) ∙ filter-append p (take i xs) (drop i xs)
+      ∙ ap (λ ys. ys ++ filter p (drop i xs)) (filter_none p (take i xs) fail) ∙ filter_all p (drop i xs) pass
 
-  pub higher-some : (y : A) (ys : List A) → n < id y → higher id n (y ∷ ys) ≡ y ∷ higher id n ys
-  higher-some y ys less = ap (λ (b : Bool). cond b (y ∷ higher id n ys) (higher id n ys)) (lt-ltb n (id y) less)
+  -- a search goes past those that fail
+  find-past : (xs ys : List A) → All (λ x. p x ≡ false) xs → find p (xs ++ ys) ≡ find p ys
+  find-past [] ys fail = refl
+  find-past (x ∷ xs) ys fail = cond-false (p x) (Some x) (find p (xs ++ ys)) (fail 0 x (omega arith)) ∙ find-past xs ys (λ k d lt. fail (suc k) d (omega arith))
 
-  pub higher-skip : (y : A) (ys : List A) → id y ≤ n → higher id n (y ∷ ys) ≡ higher id n ys
-  higher-skip y ys le = ap (λ (b : Bool). cond b (y ∷ higher id n ys) (higher id n ys)) (le-ltb n (id y) le)
+module _ {A : Type 0} (id : A → ℕ) (n : ℕ) (xs : List A) where
+  lower-is : (i : ℕ) → All (λ x. id x < n) (take i xs) → All (λ x. n ≤ id x) (drop i xs) → lower id n xs ≡ take i xs
+  lower-is i low high =
+      kept-front (λ x. nat_lt (id x) n) xs i (All-weaker (λ x. id x < n) (λ x. nat_lt (id x) n ≡ true) (λ x. lt-ltb (id x) n) (take i xs) low)
+      (All-weaker (λ x. n ≤ id x) (λ x. nat_lt (id x) n ≡ false) (λ x. le-ltb (id x) n) (drop i xs) high)
 
-  lower-none : (xs : List A) → Over xs 0 → lower id n xs ≡ []
-  lower-none [] over = refl
-  lower-none (y ∷ ys) over = let h = over 0 y (omega arith) (omega arith) in lower-skip y ys (omega (arith, h)) ∙ lower-none ys (λ k d le lt. over (suc k) d (omega arith) (omega (arith, lt)))
+  higher-is : (i : ℕ) → All (λ x. id x ≤ n) (take i xs) → All (λ x. n < id x) (drop i xs) → higher id n xs ≡ drop i xs
+  higher-is i low high =
+      kept-behind (λ x. nat_lt n (id x)) xs i (All-weaker (λ x. id x ≤ n) (λ x. nat_lt n (id x) ≡ false) (λ x. le-ltb n (id x)) (take i xs) low)
+      (All-weaker (λ x. n < id x) (λ x. nat_lt n (id x) ≡ true) (λ x. lt-ltb n (id x)) (drop i xs) high)
 
-  higher-all : (xs : List A) → Over xs 0 → higher id n xs ≡ xs
-  higher-all [] over = refl
-  higher-all (y ∷ ys) over = let h = over 0 y (omega arith) (omega arith) in higher-some y ys h ∙ ap (λ zs. y ∷ zs) (higher-all ys (λ k d le lt. over (suc k) d (omega arith) (omega (arith, lt))))
+  -- those of other ids are passed by
+  past-lower : (i : ℕ) → All (λ x. id x < n) (take i xs) → find (λ x. id x == n) xs ≡ find (λ x. id x == n) (drop i xs)
+  past-lower i low =
+      ap (find (λ x. id x == n)) (sym (take-append-drop i xs))
+      ∙ find-past (λ x. id x == n) (take i xs) (drop i xs) (All-weaker (λ x. id x < n) (λ x. (id x == n) ≡ false) (λ x less. ne_eqb (id x) n (λ e. omega arith)) (take i xs) low)
 
-  pub split-insert : (xs : List A) (i : ℕ) (x : A) → i ≤ length xs → Under xs i → Over xs i → lower id n xs ++ x ∷ higher id n xs ≡ insert xs i x
-  split-insert [] zero x le under over = refl
-  split-insert [] (suc i) x le under over = absurd (omega (arith, le))
-  split-insert (y ∷ ys) zero x le under over = ap (λ zs. zs ++ x ∷ higher id n (y ∷ ys)) (lower-none (y ∷ ys) over) ∙ ap (λ zs. x ∷ zs) (higher-all (y ∷ ys) over)
-  split-insert (y ∷ ys) (suc i) x le under over =
-      let h = under 0 y (omega arith) in
-      ap (λ zs. zs ++ x ∷ higher id n (y ∷ ys)) (lower-some y ys h)
-      ∙ ap (λ zs. y ∷ (lower id n ys ++ x ∷ zs)) (higher-skip y ys (omega (arith, h)))
-      ∙ ap (λ zs. y ∷ zs) (split-insert ys i x (omega (arith, le)) (λ k d lt. under (suc k) d (omega (arith, lt))) (λ k d low lt. over (suc k) d (omega (arith, low)) (omega (arith, lt))))
+  -- the one that stands between the lower and the higher ones
+  pub place-of-one : (i : ℕ) (d : A) → AllPairs (λ x y. id x < id y) xs → i < length xs → id (get_or xs i d) ≡ n → IsAt id n xs i
+  place-of-one i d up lt own =
+      let x = get_or xs i d in
+      let low : All (λ y. id y < n) (take i xs) = in-front (λ y. id y < n) xs i (omega arith) (λ k e less. let step = up k i d less lt in omega (arith, ap id (get_or_default xs k d e (omega arith)))) in
+      let high : All (λ y. n < id y) (drop (suc i) xs) = from-there (λ y. n < id y) xs (suc i) (λ k e less inside. let step = up i k d (omega arith) inside in omega (arith, ap id (get_or_default xs k d e inside))) in
+      let l = lower-is i low (subst (All (λ y. n ≤ id y)) (sym (drop-cons xs i d lt)) (All-cons (λ y. n ≤ id y) x (drop (suc i) xs) (omega arith) (All-weaker (λ y. n < id y) (λ y. n ≤ id y) (λ y h. omega arith) (drop (suc i) xs) high))) in
+      let h = higher-is (suc i) (subst (All (λ y. id y ≤ n)) (sym (take-suc xs i d lt)) (All-push (λ y. id y ≤ n) (take i xs) x (All-weaker (λ y. id y < n) (λ y. id y ≤ n) (λ y h. omega arith) (take i xs) low) (omega arith))) high in
+      record {
+        inside = lt;
+        set = λ y same. rw (same, l, h) (set_split xs i y lt);
+        gone = rw (l, h);
+        found = past-lower i low ∙ ap (find (λ y. id y == n)) (drop-cons xs i d lt) ∙ cond-true (id x == n) (Some x) (find (λ y. id y == n) (drop (suc i) xs)) (eq-eqb (id x) n own) ∙ sym (slice_get-get_or xs i d lt);
+      }
 
-  pub split-set : (xs : List A) (i : ℕ) (x : A) → i < length xs → Under xs i → id (get_or xs i x) ≡ n → Over xs (suc i) → lower id n xs ++ x ∷ higher id n xs ≡ slice_set xs i x
-  split-set [] i x lt under here over = absurd (omega (arith, lt))
-  split-set (y ∷ ys) zero x lt under here over =
-      let rest : Over ys 0 = λ k d le less. over (suc k) d (omega arith) (omega (arith, less)) in
-      ap (λ zs. zs ++ x ∷ higher id n (y ∷ ys)) (lower-skip y ys (omega (arith, here)) ∙ lower-none ys rest)
-      ∙ ap (λ zs. x ∷ zs) (higher-skip y ys (omega (arith, here)) ∙ higher-all ys rest)
-  split-set (y ∷ ys) (suc i) x lt under here over =
-      let h = under 0 y (omega arith) in
-      ap (λ zs. zs ++ x ∷ higher id n (y ∷ ys)) (lower-some y ys h)
-      ∙ ap (λ zs. y ∷ (lower id n ys ++ x ∷ zs)) (higher-skip y ys (omega (arith, h)))
-      ∙ ap (λ zs. y ∷ zs) (split-set ys i x (omega (arith, lt)) (λ k d less. under (suc k) d (omega (arith, less))) here (λ k d low less. over (suc k) d (omega (arith, low)) (omega (arith, less))))
+  -- or the gap between them
+  pub gap-for-one : (i : ℕ) → i ≤ length xs → All (λ x. id x < n) (take i xs) → All (λ x. n < id x) (drop i xs) → IsGap id n xs i
+  gap-for-one i le low high =
+      let l = lower-is i low (All-weaker (λ y. n < id y) (λ y. n ≤ id y) (λ y h. omega arith) (drop i xs) high) in
+      let h = higher-is i (All-weaker (λ y. id y < n) (λ y. id y ≤ n) (λ y h. omega arith) (take i xs) low) high in
+      record {
+        inside = le;
+        put = λ y same. rw (same, l, h);
+        none = rw (l, h) (sym (take-append-drop i xs));
+        missing = past-lower i low ∙ ap (find (λ y. id y == n)) (sym (append-nil (drop i xs)))
+            ∙ find-past (λ y. id y == n) (drop i xs) [] (All-weaker (λ y. n < id y) (λ y. (id y == n) ≡ false) (λ y less. ne_eqb (id y) n (λ e. omega arith)) (drop i xs) high);
+      }
 
-  pub split-remove : (xs : List A) (i : ℕ) (x : A) → i < length xs → Under xs i → id (get_or xs i x) ≡ n → Over xs (suc i) → lower id n xs ++ higher id n xs ≡ remove xs i
-  split-remove [] i x lt under here over = absurd (omega (arith, lt))
-  split-remove (y ∷ ys) zero x lt under here over =
-      let rest : Over ys 0 = λ k d le less. over (suc k) d (omega arith) (omega (arith, less)) in
-      ap (λ zs. zs ++ higher id n (y ∷ ys)) (lower-skip y ys (omega (arith, here)) ∙ lower-none ys rest)
-      ∙ (higher-skip y ys (omega (arith, here)) ∙ higher-all ys rest)
-  split-remove (y ∷ ys) (suc i) x lt under here over =
-      let h = under 0 y (omega arith) in
-      ap (λ zs. zs ++ higher id n (y ∷ ys)) (lower-some y ys h)
-      ∙ ap (λ zs. y ∷ (lower id n ys ++ zs)) (higher-skip y ys (omega (arith, h)))
-      ∙ ap (λ zs. y ∷ zs) (split-remove ys i x (omega (arith, lt)) (λ k d less. under (suc k) d (omega (arith, less))) here (λ k d low less. over (suc k) d (omega (arith, low)) (omega (arith, less))))
+  -- how the ids stand to n rises, as a binary search asks
+  rise : AllPairs (λ x y. id x < id y) xs → IsNonDecreasingBy (λ x. ordering_index (nat_cmp (id x) n)) xs
+  rise up i j d le lt =
+      let ids : id (get_or xs i d) ≤ id (get_or xs j d) = grind (arith, up i j d, λ (same : i ≡ j). ap (λ k. id (get_or xs k d)) same) in
+      grind (arith, nat_tests)
 
-  -- none of this id
-  pub split-none : (xs : List A) (i : ℕ) → i ≤ length xs → Under xs i → Over xs i → lower id n xs ++ higher id n xs ≡ xs
-  split-none [] i le under over = refl
-  split-none (y ∷ ys) zero le under over = ap (λ zs. zs ++ higher id n (y ∷ ys)) (lower-none (y ∷ ys) over) ∙ higher-all (y ∷ ys) over
-  split-none (y ∷ ys) (suc i) le under over =
-      let h = under 0 y (omega arith) in
-      ap (λ zs. zs ++ higher id n (y ∷ ys)) (lower-some y ys h)
-      ∙ ap (λ zs. y ∷ (lower id n ys ++ zs)) (higher-skip y ys (omega (arith, h)))
-      ∙ ap (λ zs. y ∷ zs) (split-none ys i (omega (arith, le)) (λ k d less. under (suc k) d (omega (arith, less))) (λ k d low less. over (suc k) d (omega (arith, low)) (omega (arith, less))))
-
-  -- what a look at one tells of those before it and behind it
-  pub all-lower : (xs : List A) (m : ℕ) (x : A) → AllPairs (λ y z. id y < id z) xs → m < length xs → x ≡ get_or xs m x → id x < n → (k : ℕ) (d : A) → k < m + 1 → id (get_or xs k d) < n
-  all-lower xs m x up lt is under k d before = elim (cases_lt k m) [
-    | inl less ↦
-        let step = up k m x less lt in
-        let here = ap id is in
-        let there = ap id (get_or_default xs k d x (omega (arith, less, lt))) in
-        omega (arith, step, here, there, under)
-    | inr same ↦
-        let one : k ≡ m = omega (arith, same, before) in
-        let here = ap id is in
-        let there = ap id (get_or_default xs k d x (omega (arith, one, lt))) in
-        let at = ap (λ j. id (get_or xs j x)) one in
-        omega (arith, here, there, at, under)
+  -- what a binary search finds
+  pub searched : (r : Result ℕ ℕ) → AllPairs (λ x y. id x < id y) xs → IsSearchInRange r (length xs) → IsBinarySearchResult (λ x. nat_cmp (id x) n) xs r → MatchResult r (IsAt id n xs) (IsGap id n xs)
+  searched (Ok i) up lt equal = elim (slice_get_cases xs i).1 [
+    | inl some ↦ place-of-one i some.0 up lt (ranked (id (get_or xs i some.0)) n Equal (sym (equal some.0)))
+    | inr past ↦ absurd (omega arith)
   ]
-
-  pub all-upper : (xs : List A) (m : ℕ) (x : A) → AllPairs (λ y z. id y < id z) xs → m < length xs → x ≡ get_or xs m x → n ≤ id x → (k : ℕ) (d : A) → m ≤ k → k < length xs → n ≤ id (get_or xs k d)
-  all-upper xs m x up lt is over k d behind within = elim (cases_lt m k) [
-    | inl less ↦
-        let step = up m k x less within in
-        let here = ap id is in
-        let there = ap id (get_or_default xs k d x within) in
-        omega (arith, step, here, there, over)
-    | inr same ↦
-        let one : k ≡ m = omega (arith, same, behind) in
-        let here = ap id is in
-        let there = ap id (get_or_default xs k d x within) in
-        let at = ap (λ j. id (get_or xs j x)) one in
-        omega (arith, here, there, at, over)
-  ]
-
-  -- behind one of this id, or where the one there has another id, all ids are higher
-  pub over-next : (xs : List A) (i : ℕ) (x : A) → AllPairs (λ y z. id y < id z) xs → i < length xs → x ≡ get_or xs i x → id x ≡ n → Over xs (suc i)
-  over-next xs i x up lt is same k d low within =
-      let step = up i k x (omega (arith, low)) within in
-      let here = ap id is in
-      let there = ap id (get_or_default xs k d x within) in
-      omega (arith, step, here, there, same)
-
-  -- where the one there has a higher id, so have all behind it; and none stands behind the end
-  pub over-other : (xs : List A) (i : ℕ) (x : A) → AllPairs (λ y z. id y < id z) xs → i < length xs → x ≡ get_or xs i x → n ≤ id x → id x ≢ n → Over xs i
-  over-other xs i x up lt is le other k d low within = elim (cases_lt i k) [
-    | inl less ↦
-        let step = up i k x less within in
-        let here = ap id is in
-        let there = ap id (get_or_default xs k d x within) in
-        omega (arith, step, here, there, le)
-    | inr same ↦
-        let one : k ≡ i = omega (arith, same, low) in
-        let here = ap id is in
-        let there = ap id (get_or_default xs k d x within) in
-        let at = ap (λ j. id (get_or xs j x)) one in
-        omega (arith, here, there, at, le, other)
-  ]
-
-  pub over-end : (xs : List A) (i : ℕ) → length xs ≤ i → Over xs i
-  over-end xs i end k d low within = absurd (omega (arith, end, low, within))
-
-  -- the same for a look at a place
-  pub lower-at : (xs : List A) (m : ℕ) (e : A) → AllPairs (λ y z. id y < id z) xs → m < length xs → id (get_or xs m e) < n → (k : ℕ) (d : A) → k < m + 1 → id (get_or xs k d) < n
-  lower-at xs m e up lt less = all-lower xs m (get_or xs m e) up lt (get_or_default xs m e (get_or xs m e) lt) less
-
-  pub upper-at : (xs : List A) (m : ℕ) (e : A) → AllPairs (λ y z. id y < id z) xs → m < length xs → n ≤ id (get_or xs m e) → (k : ℕ) (d : A) → m ≤ k → k < length xs → n ≤ id (get_or xs k d)
-  upper-at xs m e up lt le = all-upper xs m (get_or xs m e) up lt (get_or_default xs m e (get_or xs m e) lt) le
-
-  -- what a search leaves
-  pub found-set : (xs : List A) (i : ℕ) (y x : A) → AllPairs (λ y z. id y < id z) xs → Under xs i → i < length xs → y ≡ get_or xs i y → id y ≡ n → id x ≡ n → slice_set xs i x ≡ with_one id x xs
-  found-set xs i y x up under lt here same own =
-      let at : id (get_or xs i x) ≡ n = ap id (get_or_default xs i x y lt ∙ sym here) ∙ same in
-      sym (split-set xs i x lt under at (over-next xs i y up lt here same)) ∙ ap (λ m. lower id m xs ++ x ∷ higher id m xs) (sym own)
-
-  pub found-gone : (xs : List A) (i : ℕ) (y : A) → AllPairs (λ y z. id y < id z) xs → Under xs i → i < length xs → y ≡ get_or xs i y → id y ≡ n → remove xs i ≡ without_one id n xs
-  found-gone xs i y up under lt here same =
-      sym (split-remove xs i y lt under (ap id (sym here) ∙ same) (over-next xs i y up lt here same))
-
-  over-missing : (xs : List A) (i : ℕ) (y : A) → AllPairs (λ y z. id y < id z) xs → ((k : ℕ) (d : A) → i ≤ k → k < length xs → n ≤ id (get_or xs k d)) → i < length xs → y ≡ get_or xs i y → id y ≢ n → Over xs i
-  over-missing xs i y up from lt here other =
-      let le = from i y (omega arith) lt in
-      let same = ap id here in
-      over-other xs i y up lt here (omega (arith, le, same)) other
-
-  pub missing-put : (xs : List A) (i : ℕ) (y x : A) → AllPairs (λ y z. id y < id z) xs → i ≤ length xs → Under xs i → ((k : ℕ) (d : A) → i ≤ k → k < length xs → n ≤ id (get_or xs k d)) → i < length xs → y ≡ get_or xs i y → id y ≢ n → id x ≡ n → insert xs i x ≡ with_one id x xs
-  missing-put xs i y x up le under from lt here other own = sym (split-insert xs i x le under (over-missing xs i y up from lt here other)) ∙ ap (λ m. lower id m xs ++ x ∷ higher id m xs) (sym own)
-
-  pub missing-none : (xs : List A) (i : ℕ) (y : A) → AllPairs (λ y z. id y < id z) xs → i ≤ length xs → Under xs i → ((k : ℕ) (d : A) → i ≤ k → k < length xs → n ≤ id (get_or xs k d)) → i < length xs → y ≡ get_or xs i y → id y ≢ n → xs ≡ without_one id n xs
-  missing-none xs i y up le under from lt here other = sym (split-none xs i le under (over-missing xs i y up from lt here other))
-
-  pub end-put : (xs : List A) (i : ℕ) (x : A) → i ≤ length xs → Under xs i → length xs ≤ i → id x ≡ n → insert xs i x ≡ with_one id x xs
-  end-put xs i x le under past own = sym (split-insert xs i x le under (over-end xs i past)) ∙ ap (λ m. lower id m xs ++ x ∷ higher id m xs) (sym own)
-
-  pub end-none : (xs : List A) (i : ℕ) → i ≤ length xs → Under xs i → length xs ≤ i → xs ≡ without_one id n xs
-  end-none xs i le under past = sym (split-none xs i le under (over-end xs i past))
-
-  -- what find finds
-  find-here : (y : A) (ys : List A) → id y ≡ n → find (λ z. id z == n) (y ∷ ys) ≡ Some y
-  find-here y ys same = ap (λ (b : Bool). cond b (Some y) (find (λ z. id z == n) ys)) (eq-eqb (id y) n same)
-
-  find-past : (y : A) (ys : List A) → id y ≢ n → find (λ z. id z == n) (y ∷ ys) ≡ find (λ z. id z == n) ys
-  find-past y ys other = ap (λ (b : Bool). cond b (Some y) (find (λ z. id z == n) ys)) (ne_eqb (id y) n other)
-
-  pub found-at : (xs : List A) (i : ℕ) (y : A) → Under xs i → i < length xs → y ≡ get_or xs i y → id y ≡ n → find (λ z. id z == n) xs ≡ slice_get xs i
-  found-at [] i y under lt here same = absurd (omega (arith, lt))
-  found-at (x ∷ xs) zero y under lt here same = find-here x xs (ap id (sym here) ∙ same)
-  found-at (x ∷ xs) (suc i) y under lt here same =
-      let h = under 0 x (omega arith) in
-      find-past x xs (λ e. absurd (omega (arith, e, h))) ∙ found-at xs i y (λ k d less. under (suc k) d (omega (arith, less))) (omega (arith, lt)) here same
-
-  none-found : (xs : List A) (i : ℕ) → i ≤ length xs → Under xs i → Over xs i → find (λ z. id z == n) xs ≡ None
-  none-found [] i le under over = refl
-  none-found (x ∷ xs) zero le under over =
-      let h = over 0 x (omega arith) (omega arith) in
-      find-past x xs (λ e. absurd (omega (arith, e, h))) ∙ none-found xs zero (omega arith) (λ k d less. absurd (omega (arith, less))) (λ k d low less. over (suc k) d (omega arith) (omega (arith, less)))
-  none-found (x ∷ xs) (suc i) le under over =
-      let h = under 0 x (omega arith) in
-      find-past x xs (λ e. absurd (omega (arith, e, h))) ∙ none-found xs i (omega (arith, le)) (λ k d less. under (suc k) d (omega (arith, less))) (λ k d low less. over (suc k) d (omega (arith, low)) (omega (arith, less)))
-
-  pub end-missing : (xs : List A) (i : ℕ) → i ≤ length xs → Under xs i → length xs ≤ i → find (λ z. id z == n) xs ≡ None
-  end-missing xs i le under past = none-found xs i le under (over-end xs i past)
-
-  pub other-missing : (xs : List A) (i : ℕ) (y : A) → AllPairs (λ y z. id y < id z) xs → i ≤ length xs → Under xs i → ((k : ℕ) (d : A) → i ≤ k → k < length xs → n ≤ id (get_or xs k d)) → i < length xs → y ≡ get_or xs i y → id y ≢ n → find (λ z. id z == n) xs ≡ None
-  other-missing xs i y up le under from lt here other = none-found xs i le under (over-missing xs i y up from lt here other)
+  searched (Err i) up le parted = gap-for-one i le
+      (in-front (λ x. id x < n) xs i le (λ k d lt. ranked (id (get_or xs k d)) n Less (sym ((parted (rise up)).0 k d (omega arith) lt))))
+      (from-there (λ x. n < id x) xs i (λ k d low lt. ranked (id (get_or xs k d)) n Greater (sym ((parted (rise up)).1 k d low lt))))

@@ -1,12 +1,12 @@
 -- The records of a repository are valid: those of a saved site stand behind all others, of which each rule holds as before.
-use Rattle.std.proofs.Common.{◌≡◌, ◌∙◌, ℕ, zero, suc, ◌+◌, ◌-◌, ◌<◌, ◌≤◌, ◌==◌, inl, inr, Bool, false, cond, leb, List, [], ◌∷◌, ◌++◌, map, get_or, length, Option, Some, None, refl, ap, sym, subst, arith, All, AllPairs, Contains, eq-eqb, le-ltb}
-use Rattle.std.specs.Prelude.{IfSome, IsSome, IsSomeAnd, MatchBool, ◌||◌, ◌&&◌, count_by, nat_lt, option_and_then, sum_by}
+use Rattle.std.proofs.Common.{◌≡◌, ◌∙◌, ℕ, zero, suc, ◌+◌, ◌-◌, ◌<◌, ◌≤◌, ◌==◌, inl, inr, Bool, false, true, cond, leb, List, [], ◌∷◌, ◌++◌, map, get_or, length, Option, Some, None, refl, ap, sym, subst, arith, All, AllPairs, Contains, eq-eqb, le-ltb}
+use Rattle.std.specs.Prelude.{IfSome, IsSome, IsSomeAnd, MatchBool, ◌||◌, count_by, nat_lt, option_and_then, sum_by}
 use Rattle.std.specs.List.{list_any}
 use Rattle.std.specs.Option.{option_map_or}
-use Rattle.std.proofs.lemmas.Bool.{cases_eq, false≢true, ne_eqb}
-use Rattle.std.proofs.lemmas.List.Elements.{All-contains, All-map, All-nil, All-cons, Contains-append_cases, Contains-append_left, Contains-append_right, Contains-get_or}
+use Rattle.std.proofs.lemmas.Bool.{and_parts, cases_Bool, cases_eq, eqb-true, false_from_ne_true, ne_eqb}
+use Rattle.std.proofs.lemmas.List.Elements.{All-contains, All-map, Contains-append_cases, Contains-append_left, Contains-append_right, Contains-get_or, Contains-push_cases}
 use Rattle.std.proofs.lemmas.List.Folds.{list_any-append}
-use Rattle.std.proofs.lemmas.List.Sums.{sum_by-append, sum_by-cons}
+use Rattle.std.proofs.lemmas.List.Sums.{length-filter, sum_by-append, sum_by-cons}
 use Rattle.rm_catalog.specs.declared.record.DatafileEntry.{DatafileEntry}
 use Rattle.rm_catalog.specs.declared.record.IncarnationEntry.{IncarnationEntry}
 use Rattle.rm_catalog.specs.declared.record.LogEntry.{LogEntry}
@@ -16,29 +16,31 @@ use Rattle.rm_catalog.specs.declared.record.PieceEntry.{PieceEntry}
 use Rattle.rm_catalog.specs.declared.record.Record.{Record}
 use Rattle.rm_catalog.specs.declared.record.Record.TheVariants as kind
 use Rattle.rm_catalog.specs.Facts.{BeginsOn, IsCreatedOn, IsWithin, blocks_to, is_mark_of}
-use Rattle.rm_catalog.specs.Keys.{place, place_of, at, datafile, datafile_in, incarnation, incarnation_in, mark, mark_in}
+use Rattle.rm_catalog.specs.Keys.{place, place_of, at, datafile, datafile_in, incarnation, incarnation_in, mark, mark_in, part_in}
 use Rattle.rm_catalog.specs.Keys.{IsThere as HasKey}
 use Rattle.rm_catalog.specs.Objects.{FitsDatafile, IsRange, owner_in}
 use Rattle.rm_catalog.specs.Rules.{IsAmongFirst, IsCatalog, Obeys, OwnRule}
 use Rattle.rm_catalog.specs.Saved.{HeadRule, NamesOne, PartRule, is_part_of}
 use Rattle.rm_catalog.proofs.Counts.{alike_count}
-use Rattle.rm_catalog.proofs.Told.{at_here, at_past, found_is}
-use Rattle.rm_base.proofs.Members.{behind, in-front}
-use Rattle.rm_ledger.specs.Ledger.{Ledger}
+use Rattle.rm_catalog.proofs.Filters.{filter_none}
+use Rattle.rm_catalog.proofs.Told.{at_here, at_past}
+use Rattle.rm_base.proofs.Members.{in-front, none-in}
+use Rattle.rm_base.proofs.Lists.{map_from}
 use Rattle.rm_ledger.specs.Ledger.{records_of as ledger_records}
 use Rattle.rm_ledger.proofs.Counted.{rises-once, sum-none-map}
-use Rattle.rm_ledger.proofs.Lookups.{IsOf, datafile-at, incarnation-there, item-at, log-id-within, log-told, none-there, of_base, of_datafile, of_incarnation, of_log, of_mark, of_piece, piece-id-within, piece-told, record-is}
+use Rattle.rm_ledger.proofs.Lookups.{datafile-at, incarnation-there, item-at, log-id-within, log-told, none-there, piece-id-within, piece-told, record-is}
 use Rattle.rm_ledger.proofs.Order.{Runs, records-run, rises-found, rises-order, runs-append, runs-rise, runs-within}
 use Rattle.rm_ledger.proofs.Valid.{ledger-valid}
 use Rattle.rm_repository.specs.Facts.{AreApart, IsPartEntry, IsRepository, IsSaved}
 use Rattle.rm_repository.specs.Repository.{Repository, Saved, records_of, saved_records}
+use Rattle.rm_repository.proofs.ByKind.{is-part, placed}
 use Rattle.rm_repository.proofs.Changed.{saved-run}
 use Rattle.rm_repository.proofs.Members.{log-in, piece-in}
 
 -- what stands above a place is not found there
 none-at : (p : ℕ) (rs : List Record) → All (λ x. p < place_of x) rs → at p rs ≡ None
 none-at p [] high = refl
-none-at p (r ∷ rs) high = let first = high 0 r (omega arith) in at_past r rs p (λ e. omega (arith, first, e)) ∙ none-at p rs (λ k d lt. high (suc k) d (omega (arith, lt)))
+none-at p (r ∷ rs) high = let first = high 0 r (omega arith) in at_past r rs p (λ e. omega arith) ∙ none-at p rs (λ k d lt. high (suc k) d (omega arith))
 
 -- so records above a place may follow
 at-front : (p : ℕ) (rs qs : List Record) → All (λ x. p < place_of x) qs → at p (rs ++ qs) ≡ at p rs
@@ -50,78 +52,48 @@ at-front p (r ∷ rs) qs high = elim (cases_eq (place_of r) p) [
 
 -- where none passes a test, none is counted
 count-none : {X : Type 0} (p : X → Bool) (xs : List X) → All (λ x. p x ≡ false) xs → count_by p xs ≡ 0
-count-none p [] none = refl
-count-none p (x ∷ xs) none =
-    let split = sum_by-cons (λ z. cond (p z) 1 0) x xs in
-    let first = ap {B = ℕ} (λ (b : Bool). cond b 1 0) (none 0 x (omega arith)) in
-    let back = count-none p xs (λ k d lt. none (suc k) d (omega (arith, lt))) in
-    omega (arith, split, first, back)
+count-none p xs none = sym (length-filter p xs) ∙ ap length (filter_none p xs none)
+
+-- where no two pass it, one at most is counted
+count-few : {X Y : Type 0} (p : Y → Bool) (make : X → Y) (xs : List X) → AllPairs (λ x y. p (make x) ≡ true → p (make y) ≡ false) xs → count_by p (map make xs) ≤ 1
+count-few p make [] apart = omega arith
+count-few p make (x ∷ xs) apart =
+    let split = sum_by-cons (λ z. cond (p z) 1 0) (make x) (map make xs) in
+    elim (cases_Bool (p (make x))) [
+      | inl passes ↦
+          let none = count-none p (map make xs) (All-map (λ y. p y ≡ false) make xs (λ k d lt. apart 0 (suc k) d (omega arith) (omega arith) passes)) in
+          let one = ap {B = ℕ} (λ (b : Bool). cond b 1 0) passes in
+          omega arith
+      | inr fails ↦
+          let back = count-few p make xs (λ i j d less lt. apart (suc i) (suc j) d (omega arith) (omega arith)) in
+          let none = ap {B = ℕ} (λ (b : Bool). cond b 1 0) fails in
+          omega arith
+    ]
 
 -- no two parts are of the same
+other-part : (file thread : ℕ) (p q : PartEntry) → AreApart p q → is_part_of file thread (kind.Part p) ≡ true → is_part_of file thread (kind.Part q) ≡ false
+other-part file thread p q apart one = false_from_ne_true (is_part_of file thread (kind.Part q)) (λ two.
+    let a = and_parts (p.file == file) (p.thread == thread) one in
+    let b = and_parts (q.file == file) (q.thread == thread) two in
+    apart.things (eqb-true p.file file a.0 ∙ sym (eqb-true q.file file b.0)) (eqb-true p.thread thread a.1 ∙ sym (eqb-true q.thread thread b.1)))
+
 parts-few : (file thread : ℕ) (ps : List PartEntry) → AllPairs AreApart ps → count_by (is_part_of file thread) (map kind.Part ps) ≤ 1
-parts-few file thread [] apart = omega arith
-parts-few file thread (p ∷ ps) apart =
-    let split = sum_by-cons (λ z. cond (is_part_of file thread z) 1 0) (kind.Part p) (map kind.Part ps) in
-    let back = parts-few file thread ps (λ i j d less lt. apart (suc i) (suc j) d (omega (arith, less)) (omega (arith, lt))) in
-    elim (cases_eq p.file file) [
-      | inr other ↦
-          let first = ap {B = ℕ} (λ (b : Bool). cond (b && (p.thread == thread)) 1 0) (ne_eqb p.file file other) in
-          omega (arith, split, back, first)
-      | inl file_is ↦ elim (cases_eq p.thread thread) [
-        | inr other ↦
-            let first = ap {B = ℕ} (λ (b : Bool). cond (b && (p.thread == thread)) 1 0) (eq-eqb p.file file file_is) ∙ ap {B = ℕ} (λ (b : Bool). cond b 1 0) (ne_eqb p.thread thread other) in
-            omega (arith, split, back, first)
-        | inl thread_is ↦
-            let first = ap {B = ℕ} (λ (b : Bool). cond (b && (p.thread == thread)) 1 0) (eq-eqb p.file file file_is) ∙ ap {B = ℕ} (λ (b : Bool). cond b 1 0) (eq-eqb p.thread thread thread_is) in
-            let none = count-none (is_part_of file thread) (map kind.Part ps) (others ps (λ k d lt. apart 0 (suc k) d (omega arith) (omega (arith, lt))) file_is thread_is) in
-            omega (arith, split, none, first)
-      ]
-    ]
-  where
-    others : (qs : List PartEntry) → ((k : ℕ) (d : PartEntry) → k < length qs → AreApart p (get_or qs k d)) → p.file ≡ file → p.thread ≡ thread → All (λ x. is_part_of file thread x ≡ false) (map kind.Part qs)
-    others [] each file_is thread_is = All-nil (λ x. is_part_of file thread x ≡ false)
-    others (q ∷ qs) each file_is thread_is =
-        All-cons (λ x. is_part_of file thread x ≡ false) (kind.Part q) (map kind.Part qs)
-        (elim (cases_eq q.file file) [
-          | inr other ↦ ap (λ (b : Bool). b && (q.thread == thread)) (ne_eqb q.file file other)
-          | inl same ↦
-              let apart_from = (each 0 q (omega arith)).things (file_is ∙ sym same) in
-              ap (λ (b : Bool). b && (q.thread == thread)) (eq-eqb q.file file same) ∙ ne_eqb q.thread thread (λ e. apart_from (thread_is ∙ sym e))
-        ])
-        (others qs (λ k d lt. each (suc k) d (omega (arith, lt))) file_is thread_is)
+parts-few file thread ps apart = count-few (is_part_of file thread) kind.Part ps (λ i j d less lt. other-part file thread (get_or ps i d) (get_or ps j d) (apart i j d less lt))
 
--- no record of a ledger is a part
-no-parts : (l : Ledger) (file thread : ℕ) → All (λ x. is_part_of file thread x ≡ false) (ledger_records l)
-no-parts l file thread k d lt = none (get_or (ledger_records l) k d) (record-is l (get_or (ledger_records l) k d) (Contains-get_or (ledger_records l) k d lt))
-  where
-    none : (x : Record) → IsOf l x → is_part_of file thread x ≡ false
-    none x (of_base q) = ap (is_part_of file thread) q
-    none x (of_incarnation i there q) = ap (is_part_of file thread) q
-    none x (of_datafile j f there q) = ap (is_part_of file thread) q
-    none x (of_log e there q) = ap (is_part_of file thread) q
-    none x (of_piece p there q) = ap (is_part_of file thread) q
-    none x (of_mark j m there q) = ap (is_part_of file thread) q
-
--- a part of a saved site, among its records
-record HasPart (o : Option Saved) (x : Record) : Type 0 where
+-- a part among the records of a saved site
+record HasPart (o : Option Saved) (p : PartEntry) : Type 0 where
   pub site : Saved
   pub is : o ≡ Some site
-  pub part : PartEntry
-  pub has : Contains site.parts part
-  pub same : x ≡ kind.Part part
+  pub has : Contains site.parts p
 
-abbrev IsPartOf : Saved → Record → Type 0
-IsPartOf s x = (p : PartEntry) × Contains s.parts p × (x ≡ kind.Part p)
-
-part-at : (o : Option Saved) (x : Record) (id : ℕ) → Contains (saved_records o) x → place_of x ≡ place 7 id → HasPart o x
-part-at None x id has here = absurd (let lt = has.1 in omega (arith, lt))
-part-at (Some s) x id has here = elim (Contains-append_cases (map kind.Part s.parts) (kind.Head s.head ∷ []) x has) [
+part-of : (o : Option Saved) (p : PartEntry) → Contains (saved_records o) (kind.Part p) → HasPart o p
+part-of None p has = absurd (none-in (kind.Part p) has)
+part-of (Some s) p has = elim (Contains-push_cases (map kind.Part s.parts) (kind.Head s.head) (kind.Part p) has) [
   | inl among ↦
-      let from = All-contains (IsPartOf s) (map kind.Part s.parts) x (All-map (IsPartOf s) kind.Part s.parts (λ k d lt. (get_or s.parts k d, Contains-get_or s.parts k d lt, refl))) among in
-      record { site = s; is = refl; part = from.0; has = from.1; same = from.2 }
-  | inr last ↦
-      let at_ = All-contains (λ (y : Record). place_of y ≡ place 8 0) (kind.Head s.head ∷ []) x (All-cons (λ (y : Record). place_of y ≡ place 8 0) (kind.Head s.head) [] refl (All-nil (λ (y : Record). place_of y ≡ place 8 0))) last in
-      absurd (omega (arith, at_, here))
+      let from = map_from kind.Part s.parts (kind.Part p) among in
+      let same : from.item ≡ p = cc in
+      record { site = s; is = refl; has = subst (Contains s.parts) same from.held }
+  | inr head ↦ absurd (cc)
 ]
 
 module _ (r : Repository) (is : IsRepository r) where
@@ -132,7 +104,18 @@ module _ (r : Repository) (is : IsRepository r) where
   rear = saved_records r.saved
 
   high : (p : ℕ) → p < place 7 0 → All (λ x. p < place_of x) rear
-  high p low k d lt = let w = (runs-within (place 7 0) (place 9 0) rear (saved-run r is) k d lt).0 in omega (arith, low, w)
+  high p low k d lt = let w = (runs-within (place 7 0) (place 9 0) rear (saved-run r is) k d lt).0 in omega arith
+
+  front-low : (x : Record) → Contains front x → place_of x < place 7 0
+  front-low x has = (All-contains (λ y. (place 1 0 ≤ place_of y) × (place_of y < place 7 0)) front x (runs-within (place 1 0) (place 7 0) front (records-run r.ledger is.ledger)) has).1
+
+  -- no record of the ledger is a part
+  no-parts : (file thread : ℕ) → All (λ x. is_part_of file thread x ≡ false) front
+  no-parts file thread k d lt = none (get_or front k d) (front-low (get_or front k d) (Contains-get_or front k d lt))
+    where
+      none : (x : Record) → place_of x < place 7 0 → is_part_of file thread x ≡ false
+      none (kind.Part p) low = absurd (omega arith)
+      none x low = refl
 
   rises : Runs (place 1 0) (place 9 0) (records_of r)
   rises = runs-append (place 1 0) (place 7 0) (place 9 0) front rear (records-run r.ledger is.ledger) (saved-run r is)
@@ -148,10 +131,10 @@ module _ (r : Repository) (is : IsRepository r) where
   same-key of id low has = subst (λ (o : Option Record). IsSome o) (sym (same-at (place of id) (low-place of id low))) has
     where
       low-place : (of id : ℕ) → of ≤ 6 → place of id < place 7 0
-      low-place of id low = omega (arith, low)
+      low-place of id low = omega arith
 
   no-key : (of id : ℕ) → of ≤ 6 → (HasKey of id front → ⊥) → HasKey of id (records_of r) → ⊥
-  no-key of id low none has = none (subst (λ (o : Option Record). IsSome o) (same-at (place of id) (omega (arith, low))) has)
+  no-key of id low none has = none (subst (λ (o : Option Record). IsSome o) (same-at (place of id) (omega arith)) has)
 
   on-incarnation : (n : ℕ) (P : IncarnationEntry → Type 0) → IsSomeAnd (incarnation n front) P → IsSomeAnd (incarnation n (records_of r)) P
   on-incarnation n P was = subst (λ (o : Option Record). IsSomeAnd (option_and_then incarnation_in o) P) (sym (same-at (place 2 n) (omega arith))) was
@@ -189,43 +172,32 @@ module _ (r : Repository) (is : IsRepository r) where
           let both = sum_by-append (blocks_to f) (map kind.Part s.parts) (kind.Head s.head ∷ []) in
           let parts = sum-none-map f kind.Part s.parts (λ p. refl) in
           let last = sum_by-cons (blocks_to f) (kind.Head s.head) [] in
-          omega (arith, both, parts, last)
+          omega arith
 
   is_saved : (s : Saved) → r.saved ≡ Some s → IsSaved r.ledger s
   is_saved s some = subst (λ (o : Option Saved). IfSome o (IsSaved r.ledger)) some is.saved
 
   -- an id that no part has
   no-part : (id : ℕ) → id < 4294967295 → ((s : Saved) (p : PartEntry) → r.saved ≡ Some s → Contains s.parts p → id ≡ p.id → ⊥) → HasKey 7 id (records_of r) → ⊥
-  no-part id small apart some = decide (at (place 7 id) (records_of r)) refl some
-    where
-      in-rear : (x : Record) → place_of x ≡ place 7 id → Contains (records_of r) x → Contains rear x
-      in-rear x here has = elim (Contains-append_cases front rear x has) [
-        | inr behind ↦ behind
-        | inl low ↦ let w = (All-contains (λ (y : Record). (place 1 0 ≤ place_of y) × (place_of y < place 7 0)) front x (runs-within (place 1 0) (place 7 0) front (records-run r.ledger is.ledger)) low).1 in absurd (omega (arith, w, here))
+  no-part id small apart some =
+      let p = placed kind.Part part_in 7 is-part (records_of r) id some in
+      elim (Contains-append_cases front rear (kind.Part p.entry) p.has) [
+        | inl low ↦ let under = front-low (kind.Part p.entry) low in absurd (omega arith)
+        | inr late ↦
+            let of = part-of r.saved p.entry late in
+            let own = (All-contains (IsPartEntry r.ledger) of.site.parts p.entry (is_saved of.site of.is).parts of.has).id in
+            apart of.site p.entry of.is of.has (omega arith)
       ]
-
-      decide : (o : Option Record) → at (place 7 id) (records_of r) ≡ o → IsSome o → ⊥
-      decide None e some = false≢true some
-      decide (Some x) e some =
-          let there = found_is (records_of r) (place 7 id) x e in
-          let p = part-at r.saved x id (in-rear x there.1 there.0) there.1 in
-          let next = is.ledger.base.next_id.1 in
-          let own = (All-contains (IsPartEntry r.ledger) p.site.parts p.part (is_saved p.site p.is).parts p.has).id.1 in
-          let here = ap place_of p.same in
-          let at_ = there.1 in
-          apart p.site p.part p.is p.has (omega (arith, here, at_, own, next, small))
 
   no-part-of_log : (e : LogEntry) → Contains r.ledger.logs e → HasKey 7 e.id (records_of r) → ⊥
   no-part-of_log e has =
       let high = (log-id-within r.ledger e is.ledger has).1 in
-      let next = is.ledger.base.next_id.1 in
-      no-part e.id (omega (arith, high, next)) (λ s p some other. (is_saved s some).logs e p has other)
+      no-part e.id (omega arith) (λ s p some other. (is_saved s some).logs e p has other)
 
   no-part-of_piece : (e : PieceEntry) → Contains r.ledger.pieces e → HasKey 7 e.id (records_of r) → ⊥
   no-part-of_piece e has =
       let high = (piece-id-within r.ledger e is.ledger has).1 in
-      let next = is.ledger.base.next_id.1 in
-      no-part e.id (omega (arith, high, next)) (λ s p some other. (is_saved s some).pieces e p has other)
+      no-part e.id (omega arith) (λ s p some other. (is_saved s some).pieces e p has other)
 
   piece-file : (p : PieceEntry) (o : Option DatafileEntry) → IsSomeAnd o (FitsDatafile front p) → IsSomeAnd o (FitsDatafile (records_of r) p)
   piece-file p None some = absurd some
@@ -248,7 +220,7 @@ module _ (r : Repository) (is : IsRepository r) where
     no_gap = record { no_gap = λ later. same-key 3 (f.file - 1) (omega arith) (was.no_gap.no_gap later) };
     creation = on-incarnation f.inc (IsCreatedOn f) was.creation;
     blocks = was.blocks;
-    room = record { blocks = let both = sum_by-append (blocks_to f.file) front rear in let none = no-blocks f.file in let low = was.room.blocks in omega (arith, both, none, low) };
+    room = record { blocks = let both = sum_by-append (blocks_to f.file) front rear in let none = no-blocks f.file in let low = was.room.blocks in omega arith };
   }
   lifted (kind.Log e) has was = record {
     id = record { number = was.id.number; below = was.id.below; not_second = no-key 5 e.id (omega arith) was.id.not_second; not_third = no-part-of_log e (log-in r e is (Contains-append_left front rear (kind.Log e) has)) };
@@ -272,19 +244,18 @@ module _ (r : Repository) (is : IsRepository r) where
     scn = on-incarnation m.inc (IsWithin m.scn) was.scn;
     moment = was.moment;
   }
-  lifted (kind.Part p) has was = absurd (let w = (All-contains (λ (x : Record). (place 1 0 ≤ place_of x) × (place_of x < place 7 0)) front (kind.Part p) (runs-within (place 1 0) (place 7 0) front (records-run r.ledger is.ledger)) has).1 in omega (arith, w))
-  lifted (kind.Head h) has was = absurd (let w = (All-contains (λ (x : Record). (place 1 0 ≤ place_of x) × (place_of x < place 7 0)) front (kind.Head h) (runs-within (place 1 0) (place 7 0) front (records-run r.ledger is.ledger)) has).1 in omega (arith, w))
+  lifted (kind.Part p) has was = let low = front-low (kind.Part p) has in absurd (omega arith)
+  lifted (kind.Head h) has was = let low = front-low (kind.Head h) has in absurd (omega arith)
 
   -- a part
   names-one : (s : Saved) (p : PartEntry) → IsPartEntry r.ledger p → NamesOne (records_of r) p
   names-one s p fits = elim (cases_eq p.file 0) [
     | inl none ↦ subst (λ (b : Bool). MatchBool b ((1 ≤ p.thread) × (p.thread ≤ r.ledger.base.threads)) ((p.thread ≡ 0) × HasKey 3 p.file (records_of r))) (sym (eq-eqb p.file 0 none)) (fits.thread none)
     | inr other ↦
-        let some : 0 < p.file = omega (arith, other) in
+        let some : 0 < p.file = omega arith in
         let named = fits.file some in
-        let high = named.1 in
-        let d = item-at r.ledger.files (p.file - 1) (omega (arith, high, some)) in
-        let number : 1 + (p.file - 1) ≡ p.file = omega (arith, some) in
+        let d = item-at r.ledger.files (p.file - 1) (omega arith) in
+        let number : 1 + (p.file - 1) ≡ p.file = omega arith in
         let there : HasKey 3 p.file front = subst (λ (n : ℕ). HasKey 3 n front) number (subst (λ (o : Option Record). IsSome o) (sym (datafile-at r.ledger (p.file - 1) d.0 is.ledger d.1)) refl) in
         subst (λ (b : Bool). MatchBool b ((1 ≤ p.thread) × (p.thread ≤ r.ledger.base.threads)) ((p.thread ≡ 0) × HasKey 3 p.file (records_of r))) (sym (ne_eqb p.file 0 other)) (named.0, same-key 3 p.file (omega arith) there)
   ]
@@ -296,10 +267,8 @@ module _ (r : Repository) (is : IsRepository r) where
   part-rule s p some has =
       let saved = is_saved s some in
       let fits = All-contains (IsPartEntry r.ledger) s.parts p saved.parts has in
-      let high = fits.id.1 in
-      let next = is.ledger.base.next_id.1 in
       let both = sum_by-append (λ z. cond (is_part_of p.file p.thread z) 1 0) front rear in
-      let none = count-none (is_part_of p.file p.thread) front (no-parts r.ledger p.file p.thread) in
+      let none = count-none (is_part_of p.file p.thread) front (no-parts p.file p.thread) in
       let site = ap (λ (o : Option Saved). count_by (is_part_of p.file p.thread) (saved_records o)) some in
       let split = sum_by-append (λ z. cond (is_part_of p.file p.thread z) 1 0) (map kind.Part s.parts) (kind.Head s.head ∷ []) in
       let last = sum_by-cons (λ z. cond (is_part_of p.file p.thread z) 1 0) (kind.Head s.head) [] in
@@ -312,31 +281,27 @@ module _ (r : Repository) (is : IsRepository r) where
               let e = log-told r.ledger x p.id (record-is r.ledger x there) same in
               let here = ap place_of e.2 in
               let own = (log-id-within r.ledger e.0 is.ledger e.1).1 in
-              saved.logs e.0 p e.1 has (omega (arith, here, same, own, high, next))));
+              saved.logs e.0 p e.1 has (omega arith)));
           not_third = no-key 5 p.id (omega arith) (none-there r.ledger 5 p.id (λ x there same.
               let e = piece-told r.ledger x p.id (record-is r.ledger x there) same in
               let here = ap place_of e.2 in
               let own = (piece-id-within r.ledger e.0 is.ledger e.1).1 in
-              saved.pieces e.0 p e.1 has (omega (arith, here, same, own, high, next))));
+              saved.pieces e.0 p e.1 has (omega arith)));
         };
         size = fits.size;
         head = subst (λ (o : Option Record). IsSome o) (sym (found (kind.Head s.head) (in-rear s (kind.Head s.head) some (Contains-append_right (map kind.Part s.parts) (kind.Head s.head ∷ []) (kind.Head s.head) (in-front (kind.Head s.head) []))))) refl;
         one = names-one s p fits;
-        alone = record { alone = omega (arith, both, none, site, split, last, few) };
+        alone = record { alone = omega arith };
       }
 
   head-rule : (s : Saved) → r.saved ≡ Some s → HeadRule (records_of r) s.head
   head-rule s some = record { point = λ has. same-key 2 s.head.inc (omega arith) (incarnation-there r.ledger s.head.inc is.ledger ((is_saved s some).point has)) }
 
   site-rule : (o : Option Saved) (x : Record) → r.saved ≡ o → Contains (saved_records o) x → OwnRule (records_of r) x
-  site-rule None x none has = absurd (let lt = has.1 in omega (arith, lt))
-  site-rule (Some s) x some has = elim (Contains-append_cases (map kind.Part s.parts) (kind.Head s.head ∷ []) x has) [
-    | inl among ↦
-        let from = All-contains (IsPartOf s) (map kind.Part s.parts) x (All-map (IsPartOf s) kind.Part s.parts (λ k d lt. (get_or s.parts k d, Contains-get_or s.parts k d lt, refl))) among in
-        subst (OwnRule (records_of r)) (sym from.2) (part-rule s from.0 some from.1)
-    | inr last ↦
-        let same = All-contains (λ (y : Record). y ≡ kind.Head s.head) (kind.Head s.head ∷ []) x (All-cons (λ (y : Record). y ≡ kind.Head s.head) (kind.Head s.head) [] refl (All-nil (λ (y : Record). y ≡ kind.Head s.head))) last in
-        subst (OwnRule (records_of r)) (sym same) (head-rule s some)
+  site-rule None x none has = absurd (none-in x has)
+  site-rule (Some s) x some has = elim (Contains-push_cases (map kind.Part s.parts) (kind.Head s.head) x has) [
+    | inl among ↦ let from = map_from kind.Part s.parts x among in subst (OwnRule (records_of r)) from.is (part-rule s from.item some from.held)
+    | inr same ↦ subst (OwnRule (records_of r)) same (head-rule s some)
   ]
 
   own : (x : Record) → Contains (records_of r) x → OwnRule (records_of r) x
@@ -352,9 +317,9 @@ module _ (r : Repository) (is : IsRepository r) where
           let p = place_of x in
           let short = (All-contains (Obeys front) front x (ledger-valid r.ledger is.ledger).valid here).few.few low in
           let both = sum_by-append (λ q. cond (nat_lt (place_of q) p) 1 0) front rear in
-          let none = count-none (λ q. nat_lt (place_of q) p) rear (λ k d lt. let over = high p low k d lt in le-ltb (place_of (get_or rear k d)) p (omega (arith, over))) in
-          omega (arith, short, both, none)
-      | inr late ↦ let w = (All-contains (λ (y : Record). (place 7 0 ≤ place_of y) × (place_of y < place 9 0)) rear x (runs-within (place 7 0) (place 9 0) rear (saved-run r is)) late).0 in absurd (omega (arith, w, low))
+          let none = count-none (λ q. nat_lt (place_of q) p) rear (λ k d lt. let over = high p low k d lt in le-ltb (place_of (get_or rear k d)) p (omega arith)) in
+          omega arith
+      | inr late ↦ let w = (All-contains (λ (y : Record). (place 7 0 ≤ place_of y) × (place_of y < place 9 0)) rear x (runs-within (place 7 0) (place 9 0) rear (saved-run r is)) late).0 in absurd (omega arith)
     ];
   }
 

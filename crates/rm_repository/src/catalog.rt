@@ -3,7 +3,7 @@ ghost use Rattle.std.specs.Prelude.{◌≡◌, ◌==◌, find};
 ghost use Rattle.std.specs.Option.{option_copied};
 ghost use Rattle.rm_repository.specs.Facts.{IsRepository};
 
-use crate::{log_ids, piece_ids};
+use crate::by_id;
 use rm_base::{Mark, Seq};
 use rm_catalog::{BaseEntry, HeadEntry, LogEntry, PartEntry, PieceEntry};
 use rm_history::{Datafile, Tree};
@@ -129,13 +129,13 @@ impl Catalog {
     pub fn log(&self, id: u32) -> Option<&LogEntry>
         ensures { option_copied result ≡ find (λ x. x.id == id) self.now.ledger.logs }
     {
-        log_ids::find_log(&self.logs, id)
+        by_id::get(&self.logs, id)
     }
 
     /// The piece of an id.
     pub fn piece(&self, id: u32) -> Option<&PieceEntry>
         ensures { option_copied result ≡ find (λ x. x.id == id) self.now.ledger.pieces }
     {
-        piece_ids::find_piece(&self.pieces, id)
+        by_id::get(&self.pieces, id)
     }
 }

@@ -1,14 +1,13 @@
 //! The records of a database, kind by kind, in memory.
 #![tactic(auto)]
 
+mod by_id;
 pub mod catalog;
 mod changes;
 mod edits;
 pub mod laws;
 mod loading;
-mod log_ids;
 mod objects;
-mod piece_ids;
 mod saved;
 mod starting;
 mod telling;

@@ -3,9 +3,9 @@ ghost use Rattle.std.specs.Prelude.{◌≡◌, ◌≤◌, OnOk, OnErr};
 ghost use Rattle.rm_repository.specs.Changes.{EditsFollow, with_log, with_new_log, with_new_piece, with_piece, without_log, without_piece};
 ghost use Rattle.rm_repository.specs.Fitting.{FitsLog, FitsNewLog, FitsNewPiece, FitsPiece};
 
+use crate::by_id;
 use crate::catalog::Catalog;
 use crate::edits::{push, push_both};
-use crate::{log_ids, piece_ids};
 use rm_base::NoMemory;
 use rm_catalog::{BaseEntry, Edit, Key, LogEntry, PieceEntry, Record};
 use std::alloc::Global;
@@ -21,7 +21,7 @@ impl Catalog {
         ensures unedited { OnErr result (edits.new.items ≡ edits.old.items) }
     {
         edits.reserve(1)?;
-        log_ids::put_log(&mut self.logs, log)?;
+        by_id::put(&mut self.logs, log)?;
         push(edits, Edit::Put(Record::Log(log)));
         Ok(())
     }
@@ -58,7 +58,7 @@ impl Catalog {
         ensures unedited { OnErr result (edits.new.items ≡ edits.old.items) }
     {
         edits.push(Edit::Drop(Key { kind: 4, id }))?;
-        log_ids::drop_log(&mut self.logs, id);
+        by_id::remove(&mut self.logs, id);
         Ok(())
     }
 
@@ -78,7 +78,7 @@ impl Catalog {
     {
         edits.reserve(1)?;
         let copy = piece.copy(alloc)?;
-        piece_ids::put_piece(&mut self.pieces, piece)?;
+        by_id::put(&mut self.pieces, piece)?;
         push(edits, Edit::Put(Record::Piece(copy)));
         Ok(())
     }
@@ -122,7 +122,7 @@ impl Catalog {
         ensures unedited { OnErr result (edits.new.items ≡ edits.old.items) }
     {
         edits.push(Edit::Drop(Key { kind: 5, id }))?;
-        piece_ids::drop_piece(&mut self.pieces, id);
+        by_id::remove(&mut self.pieces, id);
         Ok(())
     }
 }

@@ -29,6 +29,6 @@ pub returns-clause-edits : goal.returns-clause-edits
 returns-clause-edits c =
     let f : List LogEntry → Repository = λ logs. record { ledger = record { base = record c.self.inside.base { next_id = c.self.inside.base.next_id + 1 }; tree = c.self.inside.tree; files = c.self.inside.files.items; logs = logs; pieces = c.self.inside.pieces.items; marks = c.self.inside.marks.items }; saved = c.self.inside.saved } in
     let logs : c.push.new.self.items ≡ c.self.inside.logs.items ++ c.args.log ∷ [] = search rules in
-    follows_new_log c.args.edits.now.items c.push_both.new.edits.items c.args.self.now _ c.args.log (subst IsRepository c.self.view_is c.self.invariant) c.requires.fits
+    follows_new_log c.args.edits.now.items c.push_both.new.edits.items c.args.self.now _ (subst IsRepository c.self.view_is c.self.invariant) c.args.log c.requires.fits
     (search rules)
     (ap f logs ∙ ap (λ (r : Repository). with_new_log r c.args.log) c.self.view_is)

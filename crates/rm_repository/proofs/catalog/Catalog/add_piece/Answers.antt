@@ -30,7 +30,7 @@ returns-clause-edits c =
     let base : BaseEntry → ℕ → BaseEntry = λ b n. record b { next_id = n + 1 } in
     let both : List Edit → BaseEntry → PieceEntry → List Edit = λ es b p. es ++ Put (Base b) ∷ Put (Piece p) ∷ [] in
     let es = c.args.edits.now.items in
-    follows_new_piece es c.push_both.new.edits.items c.args.self.now _ c.args.piece (subst IsRepository c.self.view_is c.self.invariant) c.requires.fits
+    follows_new_piece es c.push_both.new.edits.items c.args.self.now _ (subst IsRepository c.self.view_is c.self.invariant) c.args.piece c.requires.fits
     (c.push_both.ensures
     ∙ ap (λ (xs : List Edit). both xs (base c.self.inside.base c.args.piece.id) c.in_ok-copy.copy) c.in_ok-reserve.ensures.items
     ∙ ap (both es (base c.self.inside.base c.args.piece.id)) c.in_ok-copy.ensures

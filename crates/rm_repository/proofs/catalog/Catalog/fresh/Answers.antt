@@ -1,4 +1,4 @@
-use Rattle.std.proofs.Common.{◌≡◌, List, [], ◌∷◌, None, rules, subst, sym}
+use Rattle.std.proofs.Common.{◌≡◌, List, None, rules, subst, sym}
 use Rattle.rm_base.specs.declared.block.Mark.{Mark}
 use Rattle.rm_catalog.specs.declared.record.LogEntry.{LogEntry}
 use Rattle.rm_catalog.specs.declared.record.PieceEntry.{PieceEntry}
