@@ -3,14 +3,14 @@ ghost use Rattle.std.specs.Prelude.{◌≡◌, ◌≤◌, ◌<◌, ◌∷◌, []
 ghost use Rattle.rm_base.specs.Outside.{Rose};
 ghost use Rattle.rm_base.specs.declared.refusal.Refusal.TheVariants as refusal;
 ghost use Rattle.rm_base.specs.declared.refusal.Unknown.TheVariants.{Byte, Object as NoObject};
-ghost use Rattle.rm_base.specs.declared.store.StoreFail.TheVariants.{Failed};
+ghost use Rattle.rm_change.specs.declared.change.Stop.TheVariants.{KeeperFault, StoreFault};
 ghost use Rattle.rm_statement.specs.declared.command.Command.TheVariants.{Cut, Damage, Remove, Rename};
 ghost use Rattle.rm_machine.specs.Drills.{damaged};
 ghost use Rattle.rm_machine.specs.Hands.{Hands, Refuses};
 ghost use Rattle.rm_report.specs.Reply.{HasDate, LineHasDate};
 
-use rm_base::{NoMemory, Refusal, Seq, Store, StoreFail, Text, Unknown};
-use rm_change::Object;
+use rm_base::{NoMemory, Refusal, Seq, Store, Text, Unknown};
+use rm_change::{Object, Stop};
 use rm_machine::handed::of_line;
 use rm_machine::{Handed, State};
 use rm_report::Line;
@@ -50,20 +50,21 @@ fn put(alloc: Global, line: Line, name: &Text, bytes: Seq<u8>) -> Result<Handed,
     Ok(handed)
 }
 
-/// HOST REMOVE: the object goes. Where there is none it is refused (RM-12). An error is a fault of the store, which is
-/// counted, or want of memory.
+/// HOST REMOVE: the object goes. Where there is none it is refused (RM-12). An error is a stop: a fault of the store,
+/// which is counted, or want of memory.
 pub fn remove<D: Store>(
     alloc: Global,
     state: &State,
     store: &mut D,
     name: &Text,
-) -> Result<Result<Handed, Refusal>, StoreFail>
+) -> Result<Result<Handed, Refusal>, Stop>
     ensures hands { IfOk result (λ x. IfOk x (λ handed. Hands (D.held store.old) state.now (Remove name.now) handed state.now)) }
     ensures refuses { IfOk result (λ x. IfErr x (λ refusal. Refuses (D.held store.old) state.now (Remove name.now) refusal)) }
     ensures dates { IfOk result (λ x. IfOk x (λ handed. All LineHasDate handed.lines)) }
     ensures date { IfOk result (λ x. IfErr x HasDate) }
     ensures same { D.held store.new ≡ D.held store.old }
-    ensures store { IsErrOf result Failed → Rose (D.faults store.old) (D.faults store.new) }
+    ensures store { IsErrOf result StoreFault → Rose (D.faults store.old) (D.faults store.new) }
+    ensures keeper { ¬ IsErrOf result KeeperFault }
     ensures never_falls { D.faults store.old ≤ D.faults store.new }
 {
     if store.get(name.as_str())?.is_none() {
@@ -85,20 +86,21 @@ fn damaged(bytes: Seq<u8>, at: usize) -> Seq<u8>
 }
 
 /// HOST DAMAGE: the byte at the position becomes its exclusive or with 255. It is refused where there is no object, or
-/// no byte at the position (RM-12). An error is a fault of the store, which is counted, or want of memory.
+/// no byte at the position (RM-12). An error is a stop, as for REMOVE.
 pub fn damage<D: Store>(
     alloc: Global,
     state: &State,
     store: &mut D,
     name: &Text,
     at: u64,
-) -> Result<Result<Handed, Refusal>, StoreFail>
+) -> Result<Result<Handed, Refusal>, Stop>
     ensures hands { IfOk result (λ x. IfOk x (λ handed. Hands (D.held store.old) state.now (Damage name.now at) handed state.now)) }
     ensures refuses { IfOk result (λ x. IfErr x (λ refusal. Refuses (D.held store.old) state.now (Damage name.now at) refusal)) }
     ensures dates { IfOk result (λ x. IfOk x (λ handed. All LineHasDate handed.lines)) }
     ensures date { IfOk result (λ x. IfErr x HasDate) }
     ensures same { D.held store.new ≡ D.held store.old }
-    ensures store { IsErrOf result Failed → Rose (D.faults store.old) (D.faults store.new) }
+    ensures store { IsErrOf result StoreFault → Rose (D.faults store.old) (D.faults store.new) }
+    ensures keeper { ¬ IsErrOf result KeeperFault }
     ensures never_falls { D.faults store.old ≤ D.faults store.new }
 {
     let Some(bytes) = store.get(name.as_str())? else {
@@ -122,20 +124,21 @@ fn first(bytes: Seq<u8>, count: usize) -> Seq<u8>
 }
 
 /// HOST CUT: the first bytes of the object stay. It is refused where there is no object, or where it has no more bytes
-/// than that (RM-12). An error is a fault of the store, which is counted, or want of memory.
+/// than that (RM-12). An error is a stop, as for REMOVE.
 pub fn cut<D: Store>(
     alloc: Global,
     state: &State,
     store: &mut D,
     name: &Text,
     to: u64,
-) -> Result<Result<Handed, Refusal>, StoreFail>
+) -> Result<Result<Handed, Refusal>, Stop>
     ensures hands { IfOk result (λ x. IfOk x (λ handed. Hands (D.held store.old) state.now (Cut name.now to) handed state.now)) }
     ensures refuses { IfOk result (λ x. IfErr x (λ refusal. Refuses (D.held store.old) state.now (Cut name.now to) refusal)) }
     ensures dates { IfOk result (λ x. IfOk x (λ handed. All LineHasDate handed.lines)) }
     ensures date { IfOk result (λ x. IfErr x HasDate) }
     ensures same { D.held store.new ≡ D.held store.old }
-    ensures store { IsErrOf result Failed → Rose (D.faults store.old) (D.faults store.new) }
+    ensures store { IsErrOf result StoreFault → Rose (D.faults store.old) (D.faults store.new) }
+    ensures keeper { ¬ IsErrOf result KeeperFault }
     ensures never_falls { D.faults store.old ≤ D.faults store.new }
 {
     let Some(bytes) = store.get(name.as_str())? else {
@@ -149,21 +152,21 @@ pub fn cut<D: Store>(
 }
 
 /// HOST RENAME: what stands under the old name comes to stand under the new one. It is refused where there is no object
-/// (RM-12), or where the new name is taken (RM-13). An error is a fault of the store, which is counted, or want of
-/// memory.
+/// (RM-12), or where the new name is taken (RM-13). An error is a stop, as for REMOVE.
 pub fn rename<D: Store>(
     alloc: Global,
     state: &State,
     store: &mut D,
     old: &Text,
     new_name: &Text,
-) -> Result<Result<Handed, Refusal>, StoreFail>
+) -> Result<Result<Handed, Refusal>, Stop>
     ensures hands { IfOk result (λ x. IfOk x (λ handed. Hands (D.held store.old) state.now (Rename old.now new_name.now) handed state.now)) }
     ensures refuses { IfOk result (λ x. IfErr x (λ refusal. Refuses (D.held store.old) state.now (Rename old.now new_name.now) refusal)) }
     ensures dates { IfOk result (λ x. IfOk x (λ handed. All LineHasDate handed.lines)) }
     ensures date { IfOk result (λ x. IfErr x HasDate) }
     ensures same { D.held store.new ≡ D.held store.old }
-    ensures store { IsErrOf result Failed → Rose (D.faults store.old) (D.faults store.new) }
+    ensures store { IsErrOf result StoreFault → Rose (D.faults store.old) (D.faults store.new) }
+    ensures keeper { ¬ IsErrOf result KeeperFault }
     ensures never_falls { D.faults store.old ≤ D.faults store.new }
 {
     let Some(bytes) = store.get(old.as_str())? else {
