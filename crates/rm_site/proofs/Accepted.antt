@@ -2,20 +2,18 @@
 use Rattle.std.proofs.Common.{◌≡◌, true, List, Option, Some, None, refl, sym, subst}
 use Rattle.std.specs.Prelude.{All}
 use Rattle.rm_base.specs.Store.{Held}
-use Rattle.rm_base.specs.declared.refusal.Refusal.{Refusal}
 use Rattle.rm_statement.specs.declared.command.Command.{Command}
-use Rattle.rm_report.specs.Reply.{HasDate, LineHasDate}
+use Rattle.rm_report.specs.Reply.{LineHasDate}
 use Rattle.rm_report.specs.declared.line.Line.{Line}
-use Rattle.rm_machine.specs.Effect.{refused, told}
-use Rattle.rm_machine.specs.Hands.{Hands, Refuses, Tells}
+use Rattle.rm_machine.specs.Effect.{told}
+use Rattle.rm_machine.specs.Hands.{Hands, Tells}
 use Rattle.rm_machine.specs.declared.handed.Handed.{Handed}
 use Rattle.rm_machine.specs.declared.state.State.{State}
 use Rattle.rm_machine.specs.Sound.{IsSound}
 use Rattle.rm_machine.specs.Step.{IsDone, IsOutcomeBy, IsStatement, refusal_of}
-use Rattle.rm_frame.specs.Refused.{looks_at_objects}
 use Rattle.rm_frame.proofs.Every.{every-stays}
 use Rattle.rm_site.specs.Comes.{IsAnswer, IsRefusedBy, is_change}
-use Rattle.rm_site.specs.declared.statement.Answer.TheVariants.{Refused, Told, Done}
+use Rattle.rm_site.specs.declared.statement.Answer.TheVariants.{Told, Done}
 use Rattle.rm_site.proofs.DatedLines.{change-dated}
 
 -- a store that holds nothing: what is so of every store is so of it
@@ -43,21 +41,3 @@ module _ (held : Option Held) (s : State) (c : Command) (accepted : refusal_of s
         sound = (every-stays c s nothing x.lines to.effect t well sound unsaved accepted does).0;
         dates = change-dated c s nothing x.lines to.effect t change does;
       }
-
-  -- it is done by what the store holds, and the state stays
-  pub it-drills : (x : Handed) → Hands held s c x s → All LineHasDate x.lines → IsAnswer held s c (Done x) s
-  it-drills x hands dated = record {
-    comes = (accepted, hands);
-    refused = subst (λ o. IsRefusedBy o c (Done x)) (sym accepted) tt;
-    sound = sound;
-    dates = dated;
-  }
-
-  -- it is refused by what the store holds
-  pub it-refuses : (r : Refusal) → looks_at_objects c ≡ true → Refuses held s c r → HasDate r → IsAnswer held s c (Refused r) s
-  it-refuses r looks refuses date = record {
-    comes = (refl, λ objects at. subst (λ o. IsOutcomeBy o s objects c (refused r)) (sym accepted) (refuses objects at));
-    refused = subst (λ o. IsRefusedBy o c (Refused r)) (sym accepted) looks;
-    sound = sound;
-    dates = date;
-  }
