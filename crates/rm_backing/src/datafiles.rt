@@ -5,10 +5,10 @@ ghost use Rattle.rm_machine.specs.Sound.{IsSound};
 ghost use Rattle.rm_machine.specs.State.{placed};
 
 use rm_base::{FileNo, NoMemory};
-use rm_statement::BackupForm;
 use rm_history::Datafile;
 use rm_machine::State;
 use rm_machine::facts::{exists, now, placed};
+use rm_statement::BackupForm;
 use std::alloc::Global;
 
 // Whether the backup asks for the datafile of this number.

@@ -14,12 +14,12 @@ use rm_base::sealed::Encoded;
 use rm_base::{FileNo, Kind, Moment, NoMemory, Row, Seq, Status, Text};
 use rm_catalog::{Edit, PieceEntry};
 use rm_change::Object;
-use rm_statement::BackupForm;
 use rm_machine::facts::{now, placed};
 use rm_machine::{Handed, State};
 use rm_objects::piece_name;
 use rm_piece::{Piece, encode_piece_with_digest, high_of};
 use rm_report::{Line, Shape};
+use rm_statement::BackupForm;
 use std::alloc::Global;
 
 // What the backup makes.

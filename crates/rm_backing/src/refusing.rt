@@ -5,10 +5,10 @@ ghost use Rattle.rm_machine.specs.Sound.{IsSound};
 
 use crate::datafiles::{lost_taken, taken_bytes, taken_count};
 use rm_base::{Absent, Limit, Refusal};
-use rm_statement::BackupForm;
 use rm_machine::State;
 use rm_machine::facts::on_path;
 use rm_machine::room::{lacks_bytes, lacks_ids, lacks_room};
+use rm_statement::BackupForm;
 
 // The first datafile that the backup names and that is not on the current path.
 fn absent(state: &State, form: &BackupForm) -> Option<u64>

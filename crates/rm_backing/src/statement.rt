@@ -13,9 +13,9 @@ use crate::datafiles::taken;
 use crate::pieces::{back_up, tag_of};
 use rm_base::{FileNo, NoMemory, Seq, Text};
 use rm_catalog::Edit;
-use rm_statement::BackupForm;
 use rm_machine::{Handed, State};
 use rm_report::Line;
+use rm_statement::BackupForm;
 use std::alloc::Global;
 
 // Backs up these datafiles, one after another.

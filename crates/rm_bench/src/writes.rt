@@ -2,11 +2,11 @@
 use crate::formats::micros_since;
 use rm_base::{Block, Failing, MemStore, Seq, StoreFailing};
 use rm_catalog::{Edit, Keeper, KeeperFail, Record};
-use rm_statement::{Command, WriteForm};
 use rm_lang::is_command;
 use rm_machine::is_built;
 use rm_report::bytes_of;
 use rm_site::Site;
+use rm_statement::{Command, WriteForm};
 use std::alloc::Global;
 use std::io;
 use std::time::Instant;

@@ -5,10 +5,10 @@ ghost use Rattle.rm_grammar.specs.Forms.{command_by, command_in};
 ghost use Rattle.rm_command.specs.Asking.{report_obsolete, report_need_backup, report_schema, list_incarnation, list_backup, list_copy, list_archived, show, dump};
 ghost use Rattle.rm_command.specs.Language.{asking_forms};
 
-use rm_statement::Command;
 use crate::settings::setting;
 use rm_grammar::Unread;
 use rm_grammar::reading::{number, semicolon, word};
+use rm_statement::Command;
 use rm_token::Token;
 use std::alloc::Global;
 

@@ -10,12 +10,12 @@ ghost use Rattle.rm_statement.specs.Agreed.{agrees_in_level, agrees_in_merge, ag
 ghost use Rattle.rm_command.specs.Values.{write_values, kind_values, level_values, merge_values, files_values, tag_values, keep_values, during_values};
 ghost use Rattle.rm_command.specs.Language.{backup_forms};
 
-use rm_statement::{BackupForm, Command, WriteForm};
 use crate::creating::write_part;
 use crate::upkeep::upkeep;
 use rm_base::{Seq, Text};
 use rm_grammar::Unread;
 use rm_grammar::reading::{begins_with, flag, number_in, numbers, semicolon, sign, tag, word};
+use rm_statement::{BackupForm, Command, WriteForm};
 use rm_token::Token;
 use std::alloc::Global;
 

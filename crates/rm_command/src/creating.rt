@@ -6,11 +6,11 @@ ghost use Rattle.rm_command.specs.Creating.{create_database, write_part, write, 
 ghost use Rattle.rm_command.specs.Values.{write_values};
 ghost use Rattle.rm_command.specs.Language.{forms};
 
-use rm_statement::{Command, WriteForm};
 use crate::modes::mode;
 use rm_base::{Block, LAST_SCN};
 use rm_grammar::Unread;
 use rm_grammar::reading::{number, number_in, number_in_or, number_or, semicolon, string, word};
+use rm_statement::{Command, WriteForm};
 use rm_token::Token;
 use std::alloc::Global;
 

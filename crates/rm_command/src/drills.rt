@@ -5,10 +5,10 @@ ghost use Rattle.rm_grammar.specs.Forms.{command_by, command_in};
 ghost use Rattle.rm_command.specs.Drills.{lose_datafile, lose_log, remove, damage, cut, rename};
 ghost use Rattle.rm_command.specs.Language.{drill_forms};
 
-use rm_statement::Command;
 use crate::texts::{new_name, plain};
 use rm_grammar::Unread;
 use rm_grammar::reading::{number, semicolon, word};
+use rm_statement::Command;
 use rm_token::Token;
 use std::alloc::Global;
 

@@ -5,10 +5,10 @@ ghost use Rattle.rm_grammar.specs.Forms.{command_by, command_in};
 ghost use Rattle.rm_command.specs.Modes.{shutdown, startup, reset_database, open_database, opening};
 ghost use Rattle.rm_command.specs.Language.{mode_forms};
 
-use rm_statement::Command;
 use crate::recovering::recovering;
 use rm_grammar::Unread;
 use rm_grammar::reading::{flag, noise, number, semicolon, word};
+use rm_statement::Command;
 use rm_token::Token;
 use std::alloc::Global;
 

@@ -2,11 +2,11 @@
 ghost use Rattle.rm_grammar.specs.Reading.{Gives};
 ghost use Rattle.rm_command.specs.Language.{statement_at};
 
-use rm_statement::Statement;
 use crate::creating::creating;
 use crate::run::run;
 use rm_grammar::Unread;
 use rm_grammar::reading::{begins_with, finish};
+use rm_statement::Statement;
 use rm_token::Token;
 use std::alloc::Global;
 

@@ -8,10 +8,10 @@ ghost use Rattle.rm_command.specs.Values.{until_choice, until_values, incarnatio
 ghost use Rattle.rm_command.specs.Language.{recovery_forms};
 
 use crate::backup::saving;
-use rm_statement::{Command, Until};
 use crate::texts::time;
 use rm_grammar::Unread;
 use rm_grammar::reading::{begins_with, flag, number, number_or, semicolon, tag, word};
+use rm_statement::{Command, Until};
 use rm_token::Token;
 use std::alloc::Global;
 

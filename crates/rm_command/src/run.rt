@@ -5,12 +5,12 @@ ghost use Rattle.rm_grammar.specs.Forms.{command_by, command_in};
 ghost use Rattle.rm_grammar.specs.Blocks.{goes_on, commands_in, block_at};
 ghost use Rattle.rm_command.specs.Language.{set_until, allocate, inner_forms};
 
-use rm_statement::Inner;
 use crate::creating::creating;
 use crate::recovering::point;
 use rm_base::Seq;
 use rm_grammar::Unread;
 use rm_grammar::reading::{named, semicolon, sign, word};
+use rm_statement::Inner;
 use rm_token::Token;
 use std::alloc::Global;
 

@@ -8,11 +8,11 @@ ghost use Rattle.rm_grammar.specs.Grammar.{◌▸◌, word as word_part, end};
 ghost use Rattle.std.specs.Prelude.{codes};
 ghost use Rattle.rm_command.specs.Language.{setting_forms};
 
-use rm_statement::{Command, RetentionForm};
 use crate::drills::drill;
 use crate::texts::plain;
 use rm_grammar::Unread;
 use rm_grammar::reading::{begins_with, number_in, semicolon, word};
+use rm_statement::{Command, RetentionForm};
 use rm_token::Token;
 use std::alloc::Global;
 

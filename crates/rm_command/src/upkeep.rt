@@ -9,10 +9,10 @@ ghost use Rattle.rm_command.specs.Values.{class_choice, change_choice, deletion_
 ghost use Rattle.rm_command.specs.Language.{upkeep_forms};
 
 use crate::asking::asking;
-use rm_statement::{ChangeTo, Command};
 use rm_base::Class;
 use rm_grammar::Unread;
 use rm_grammar::reading::{begins_with, noise, number, semicolon, word};
+use rm_statement::{ChangeTo, Command};
 use rm_token::Token;
 use std::alloc::Global;
 

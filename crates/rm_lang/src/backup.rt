@@ -9,8 +9,8 @@ ghost use Rattle.rm_statement.specs.IsCommand.{is_write, is_backup};
 ghost use Rattle.rm_command.specs.Values.{write_values, kind_values, kind_asked, level_values, level_asked, merge_values, files_values, tag_values, keep_values, during_values, backup_values};
 
 use rm_base::{NoMemory, Seq, Text};
-use rm_statement::{BackupForm, WriteForm};
 use rm_grammar::Spelling;
+use rm_statement::{BackupForm, WriteForm};
 use std::alloc::Global;
 
 // What stands behind the WRITE.

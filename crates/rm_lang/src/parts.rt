@@ -12,8 +12,8 @@ ghost use Rattle.rm_statement.specs.IsCommand.{is_until, is_until_or_none};
 ghost use Rattle.rm_command.specs.Values.{until_choice, until_values, incarnation_values, class_choice, change_choice, retention_choice};
 
 use rm_base::{Class, NoMemory};
-use rm_statement::{ChangeTo, RetentionForm, Until};
 use rm_grammar::Spelling;
+use rm_statement::{ChangeTo, RetentionForm, Until};
 use std::alloc::Global;
 
 /// What stands behind an UNTIL.

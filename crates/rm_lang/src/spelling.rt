@@ -17,8 +17,8 @@ use crate::with_parts::{
     recover_test, restore, restore_datafile, retention, set_until,
 };
 use rm_base::{NoMemory, Seq};
-use rm_statement::{Command, Inner, Statement};
 use rm_grammar::Spelling;
+use rm_statement::{Command, Inner, Statement};
 use rm_token::text_of as text_of_tokens;
 use std::alloc::Global;
 

@@ -12,9 +12,7 @@ use rm_base::{Block, LAST_SCN, Text};
 use rm_command::{agrees, is_new_name};
 use rm_grammar::is_capital_tag;
 use rm_moments::is_time;
-use rm_statement::{
-    BackupForm, Command, Inner, RetentionForm, Statement, Until, WriteForm,
-};
+use rm_statement::{BackupForm, Command, Inner, RetentionForm, Statement, Until, WriteForm};
 use rm_token::are_string_bytes;
 
 // The content is one that a VALUE has.

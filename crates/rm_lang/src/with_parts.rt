@@ -12,8 +12,8 @@ ghost use Rattle.rm_command.specs.Values.{until_values, incarnation_values, clas
 
 use crate::parts::{change_to, class, optional_incarnation, optional_until, point, policy};
 use rm_base::{Class, NoMemory, Text};
-use rm_statement::{ChangeTo, RetentionForm, Until};
 use rm_grammar::Spelling;
+use rm_statement::{ChangeTo, RetentionForm, Until};
 use std::alloc::Global;
 
 pub fn restore(alloc: Global, until: &Option<Until>, preview: bool) -> Result<Spelling, NoMemory>

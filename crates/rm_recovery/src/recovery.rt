@@ -15,12 +15,12 @@ use crate::target::{range_refusal, target_of};
 use crate::telling::{Told, tell};
 use rm_base::{Bad, NoMemory, Refusal, Scn, Seq, Store};
 use rm_blocks::DataFile;
-use rm_statement::Until;
 use rm_evidence::EvidenceFault;
 use rm_machine::facts::first_lost;
 use rm_machine::room::ids_refusal;
 use rm_machine::{Handed, State};
 use rm_report::Line;
+use rm_statement::Until;
 use std::alloc::Global;
 use std::mem;
 

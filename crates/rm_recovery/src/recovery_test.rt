@@ -13,10 +13,10 @@ use crate::lines::{push_test, skipped_lines};
 use crate::target::{range_refusal, target_of};
 use crate::telling::{Told, tell};
 use rm_base::{IncNo, Refusal, Seq, Store};
-use rm_statement::Until;
 use rm_evidence::EvidenceFault;
 use rm_machine::State;
 use rm_report::Line;
+use rm_statement::Until;
 use std::alloc::Global;
 
 // The incarnation that is looked at: the one that is named, or the current one.

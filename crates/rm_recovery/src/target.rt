@@ -4,8 +4,8 @@ ghost use Rattle.rm_history.specs.Tree.{IsThere};
 ghost use Rattle.rm_machine.specs.Recovery.{range_refusal, target_of};
 
 use rm_base::{IncNo, Refusal};
-use rm_statement::Until;
 use rm_history::Tree;
+use rm_statement::Until;
 
 /// The SCN at which a recovery of an incarnation stops. None where the UNTIL is one that is not built.
 pub(crate) fn target_of(tree: &Tree, i: IncNo, until: &Option<Until>) -> Option<u64>

@@ -12,10 +12,10 @@ use rm_archiving::{archive_log_current, switch_logfile};
 use rm_backing::backup;
 use rm_base::NoMemory;
 use rm_catalog::Edit;
-use rm_statement::Command;
 use rm_host::{lose_datafile, lose_log};
 use rm_machine::{Handed, State};
 use rm_modes::{mount, open, open_resetlogs, reset_database};
+use rm_statement::Command;
 use rm_writing::{create_datafile, write};
 use std::alloc::Global;
 

@@ -10,12 +10,12 @@ ghost use Rattle.rm_frame.specs.Refused.{create_refusal, refusal_without};
 
 use rm_base::{Limit, Moment, NoMemory, Refusal, Scn, Seq, ThreadNo};
 use rm_change::Change;
-use rm_statement::Command;
 use rm_ledger::fresh_edits;
 use rm_machine::{Instance, State};
 use rm_redo::OnlineLogs;
 use rm_report::Line;
 use rm_repository::Catalog;
+use rm_statement::Command;
 use std::alloc::Global;
 
 // Why CREATE DATABASE is refused where there is no database: it wants more than 4 redo threads.

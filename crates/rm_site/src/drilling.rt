@@ -9,9 +9,9 @@ ghost use Rattle.rm_site.specs.Comes.{IsAnswer, is_drill};
 use crate::statement::Answer;
 use rm_base::Store;
 use rm_change::Stop;
-use rm_statement::Command;
 use rm_host::{cut, damage, remove, rename};
 use rm_machine::State;
+use rm_statement::Command;
 use std::alloc::Global;
 
 /// What a drill of an object comes to that the state does not refuse: it is done, or refused by what the store holds.

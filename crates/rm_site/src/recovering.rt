@@ -13,10 +13,10 @@ ghost use Rattle.rm_site.specs.Faults.{stop_of};
 use crate::statement::Answer;
 use rm_base::Store;
 use rm_change::Stop;
-use rm_statement::Until;
 use rm_evidence::EvidenceFault;
 use rm_machine::State;
 use rm_recovery::{recover, recover_test};
+use rm_statement::Until;
 use std::alloc::Global;
 
 // The stop that a fault at what the store holds makes.

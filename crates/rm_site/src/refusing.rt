@@ -6,12 +6,12 @@ ghost use Rattle.rm_machine.specs.Step.{refusal_of};
 use rm_archiving::{archive_all_refusal, switch_refusal};
 use rm_backing::backup_refusal;
 use rm_base::Refusal;
-use rm_statement::Command;
 use rm_host::{lose_log_refusal, lose_refusal};
 use rm_machine::State;
 use rm_machine::room::ids_refusal;
 use rm_modes::{open_refusal, reset_refusal, resetlogs_refusal};
 use rm_recovery::{recover_refusal, test_refusal};
+use rm_statement::Command;
 use rm_writing::{datafile_refusal, dump_refusal, write_refusal};
 
 /// Why the state alone refuses a statement, if it does. It takes no memory.

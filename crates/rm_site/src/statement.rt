@@ -15,10 +15,10 @@ use crate::refusing::refusal_of;
 use rm_base::{Refusal, Seq, Store};
 use rm_catalog::Edit;
 use rm_change::Stop;
-use rm_statement::Command;
 use rm_machine::{Handed, State};
 use rm_modes::list_incarnation;
 use rm_report::Line;
+use rm_statement::Command;
 use rm_writing::dump;
 use std::alloc::Global;
 

@@ -19,9 +19,9 @@ use crate::statement::{Answer, come_to};
 use rm_base::{Moment, Seq, Store};
 use rm_catalog::Keeper;
 use rm_change::{Change, Stop, carry_out};
-use rm_statement::Command;
 use rm_machine::{Handed, State, refusal_reply};
 use rm_report::{Line, Reply};
+use rm_statement::Command;
 use std::alloc::Global;
 use std::mem;
 

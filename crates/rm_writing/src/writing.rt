@@ -15,13 +15,13 @@ use crate::further::{go_further, mark_count};
 use rm_base::{Absent, Change, LAST_SCN, Limit, NoMemory, Refusal, Seq, ThreadNo};
 use rm_blocks::DataFile;
 use rm_catalog::Edit;
-use rm_statement::WriteForm;
 use rm_history::Datafile;
 use rm_machine::facts::{is_thread, now, on_path, placed};
 use rm_machine::handed::of_line;
 use rm_machine::room::{lacks_ids, lacks_room};
 use rm_machine::{Handed, State};
 use rm_report::Line;
+use rm_statement::WriteForm;
 use std::alloc::Global;
 use std::mem;
 
