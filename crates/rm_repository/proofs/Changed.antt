@@ -1,9 +1,10 @@
 -- The edit of each change makes the records follow.
-use Rattle.std.proofs.Common.{◌≡◌, ◌∙◌, ℕ, ◌+◌, ◌-◌, ◌<◌, ◌≤◌, inl, inr, Bool, cond, List, [], ◌∷◌, ◌++◌, Option, Some, None, refl, ap, sym, subst, arith, length, map, All}
-use Rattle.std.specs.Prelude.{IfSome}
+use Rattle.std.proofs.Common.{◌≡◌, ◌∙◌, ℕ, ◌+◌, ◌-◌, ◌<◌, ◌≤◌, inl, inr, suc, Bool, true, false, cond, get_or, List, [], ◌∷◌, ◌++◌, Option, Some, None, refl, ap, sym, subst, arith, length, map, All}
+use Rattle.std.specs.Prelude.{IfSome, nat_lt}
+use Rattle.std.specs.List.{filter}
 use Rattle.std.proofs.lemmas.Bool.{cases_lt, lt-ltb, le-ltb}
 use Rattle.std.proofs.lemmas.List.{append_assoc, map-append}
-use Rattle.std.proofs.lemmas.List.Elements.{All-nil, All-cons, All-head, All-tail, All-weaker}
+use Rattle.std.proofs.lemmas.List.Elements.{All-nil, All-cons, All-map, All-push, All-weaker}
 use Rattle.rm_base.specs.declared.block.Mark.{Mark}
 use Rattle.rm_history.specs.declared.tree.Incarnation.{Incarnation}
 use Rattle.rm_history.specs.declared.world.Datafile.{Datafile}
@@ -113,86 +114,28 @@ module _ (r : Repository) (is : IsRepository r) where
   keep-x : IsPart (place 7 0) (place 9 0) [] (saved_records r.saved) (saved_records r.saved)
   keep-x = same_part (place 7 0) (place 9 0) (saved_records r.saved) (saved-run r is)
 
-  pub base-follows : (b : BaseEntry) → after_edits (Put (kind.Base b) ∷ []) (records_of r) ≡ records_of (with_base r b)
-  base-follows b =
-      by-parts r (with_base r b) (Put (kind.Base b) ∷ []) [] [] [] [] [] []
-      (put_part (place 1 0) (place 2 0) (kind.Base b) (base_of r) (kind.Base b ∷ []) (omega arith, omega arith) (base-run r.ledger.base) (base-run b) refl)
-      keep-t keep-f keep-l keep-p keep-m keep-x
-
-  pub end-follows : (i end : ℕ) → IsThere r.ledger.tree i → IsRepository (with_end_at r i end)
-      → after_edits (Put (incarnation_record i (record { parent = parent_of r.ledger.tree i; reset = reset_of r.ledger.tree i; end = end })) ∷ []) (records_of r) ≡ records_of (with_end_at r i end)
-  end-follows i end there is' =
-      let n : Incarnation = record { parent = parent_of r.ledger.tree i; reset = reset_of r.ledger.tree i; end = end } in
-      by-parts r (with_end_at r i end) [] (Put (incarnation_record i n) ∷ []) [] [] [] [] []
-      keep-b
-      (put_part (place 2 1) (place 3 0) (incarnation_record i n) (incarnations_of r.ledger) (incarnations_of (with_end_at r i end).ledger) (omega arith, omega arith)
-      (incarnations-run r.ledger is.ledger) (incarnations-run (with_end_at r i end).ledger is'.ledger)
-      (replaced n r.ledger.tree 1 (i - 1) i (omega arith) (omega arith) (omega arith)))
-      keep-f keep-l keep-p keep-m keep-x
-
-  pub file-follows : (d : Datafile) → IsRepository (with_file r d) → after_edits (Put (datafile_record (length r.ledger.files + 1) d) ∷ []) (records_of r) ≡ records_of (with_file r d)
-  file-follows d is' =
-      by-parts r (with_file r d) [] [] (Put (datafile_record (length r.ledger.files + 1) d) ∷ []) [] [] [] []
-      keep-b keep-t
-      (numbered_part datafile_record 3 r.ledger.files (d ∷ []) (λ k x. refl) (omega arith))
-      keep-l keep-p keep-m keep-x
-
-  pub mark-follows : (m : Mark) → IsRepository (with_mark r m) → after_edits (Put (mark_record (length r.ledger.marks + 1) m) ∷ []) (records_of r) ≡ records_of (with_mark r m)
-  mark-follows m is' =
-      let most = marks-few (with_mark r m).ledger in
-      by-parts r (with_mark r m) [] [] [] [] [] (Put (mark_record (length r.ledger.marks + 1) m) ∷ []) []
-      keep-b keep-t keep-f keep-l keep-p
-      (numbered_part mark_record 6 r.ledger.marks (m ∷ []) (λ k x. refl) (omega arith))
-      keep-x
-
-  pub incarnation-follows : (parent at moment : ℕ) → IsRepository (with_incarnation r parent at moment)
-      → after_edits (Put (incarnation_record (length r.ledger.tree + 1) (branched parent at)) ∷ Put (mark_record (length r.ledger.marks + 1) (first_mark r at moment)) ∷ []) (records_of r) ≡ records_of (with_incarnation r parent at moment)
-  incarnation-follows parent at moment is' =
-      let n = branched parent at in
-      let m = first_mark r at moment in
-      let most = marks-few (with_incarnation r parent at moment).ledger in
-      by-parts r (with_incarnation r parent at moment) [] (Put (incarnation_record (length r.ledger.tree + 1) n) ∷ []) [] [] [] (Put (mark_record (length r.ledger.marks + 1) m) ∷ []) []
-      keep-b
-      (numbered_part incarnation_record 2 r.ledger.tree (n ∷ []) (λ k x. refl) (omega arith))
-      keep-f keep-l keep-p
-      (numbered_part mark_record 6 r.ledger.marks (m ∷ []) (λ k x. refl) (omega arith))
-      keep-x
+same-order : (a b c d : ℕ) → (a < b → c < d) → (b ≤ a → d ≤ c) → nat_lt a b ≡ nat_lt c d
+same-order a b c d up down = elim (cases_lt a b) [ inl less ↦ lt-ltb a b less ∙ sym (lt-ltb c d (up less)) | inr le ↦ le-ltb a b le ∙ sym (le-ltb c d (down le)) ]
 
 -- Objects whose ids ascend: what stands below the place of an id, and above it.
 module _ {A : Type 0} (make : A → Record) (id : A → ℕ) (of n : ℕ) (is-at : (x : A) → place_of (make x) ≡ place of (id x)) (small : n ≤ 4294967295) where
+  -- two tests that agree keep the same
+  filter-made : (p : Record → Bool) (q : A → Bool) (xs : List A) → All (λ x. p (make x) ≡ q x) xs → filter p (map make xs) ≡ map make (filter q xs)
+  filter-made p q [] same = refl
+  filter-made p q (x ∷ xs) same = decide (p (make x)) (q x) (same 0 x (omega arith)) (filter-made p q xs (λ k d lt. same (suc k) d (omega arith)))
+    where
+      decide : (a b : Bool) → a ≡ b → filter p (map make xs) ≡ map make (filter q xs) → cond a (make x ∷ filter p (map make xs)) (filter p (map make xs)) ≡ map make (cond b (x ∷ filter q xs) (filter q xs))
+      decide true true e back = ap (λ rs. make x ∷ rs) back
+      decide false false e back = back
+      decide a b e back = absurd (cc)
+
   below-is : (xs : List A) → All (λ y. id y < 4294967295) xs → below (place of n) (map make xs) ≡ map make (lower id n xs)
-  below-is [] few = refl
-  below-is (x ∷ xs) few =
-      let first : id x < 4294967295 = All-head (λ y. id y < 4294967295) x xs few in
-      let back = below-is xs (All-tail (λ y. id y < 4294967295) x xs few) in
-      let here = is-at x in
-      elim (cases_lt (id x) n) [
-        | inl less ↦
-            ap (λ (b : Bool). cond b (make x ∷ below (place of n) (map make xs)) (below (place of n) (map make xs))) (lt-ltb (place_of (make x)) (place of n) (omega arith))
-            ∙ ap (λ rs. make x ∷ rs) back
-            ∙ sym (ap (λ (b : Bool). map make (cond b (x ∷ lower id n xs) (lower id n xs))) (lt-ltb (id x) n less))
-        | inr le ↦
-            ap (λ (b : Bool). cond b (make x ∷ below (place of n) (map make xs)) (below (place of n) (map make xs))) (le-ltb (place_of (make x)) (place of n) (omega arith))
-            ∙ back
-            ∙ sym (ap (λ (b : Bool). map make (cond b (x ∷ lower id n xs) (lower id n xs))) (le-ltb (id x) n le))
-      ]
+  below-is xs few = filter-made (λ r. nat_lt (place_of r) (place of n)) (λ y. nat_lt (id y) n) xs (λ k d lt.
+      let here = is-at (get_or xs k d) in let fits = few k d lt in same-order (place_of (make (get_or xs k d))) (place of n) (id (get_or xs k d)) n (λ less. omega arith) (λ le. omega arith))
 
   above-is : (xs : List A) → All (λ y. id y < 4294967295) xs → above (place of n) (map make xs) ≡ map make (higher id n xs)
-  above-is [] few = refl
-  above-is (x ∷ xs) few =
-      let first : id x < 4294967295 = All-head (λ y. id y < 4294967295) x xs few in
-      let back = above-is xs (All-tail (λ y. id y < 4294967295) x xs few) in
-      let here = is-at x in
-      elim (cases_lt n (id x)) [
-        | inl less ↦
-            ap (λ (b : Bool). cond b (make x ∷ above (place of n) (map make xs)) (above (place of n) (map make xs))) (lt-ltb (place of n) (place_of (make x)) (omega arith))
-            ∙ ap (λ rs. make x ∷ rs) back
-            ∙ sym (ap (λ (b : Bool). map make (cond b (x ∷ higher id n xs) (higher id n xs))) (lt-ltb n (id x) less))
-        | inr le ↦
-            ap (λ (b : Bool). cond b (make x ∷ above (place of n) (map make xs)) (above (place of n) (map make xs))) (le-ltb (place of n) (place_of (make x)) (omega arith))
-            ∙ back
-            ∙ sym (ap (λ (b : Bool). map make (cond b (x ∷ higher id n xs) (higher id n xs))) (le-ltb n (id x) le))
-      ]
+  above-is xs few = filter-made (λ r. nat_lt (place of n) (place_of r)) (λ y. nat_lt n (id y)) xs (λ k d lt.
+      let here = is-at (get_or xs k d) in let fits = few k d lt in same-order (place of n) (place_of (make (get_or xs k d))) n (id (get_or xs k d)) (λ less. omega arith) (λ le. omega arith))
 
   put-one : (x : A) → id x ≡ n → (xs : List A) → All (λ y. id y < 4294967295) xs → after_edit (Put (make x)) (map make xs) ≡ map make (lower id n xs ++ x ∷ higher id n xs)
   put-one x same xs few =
@@ -209,84 +152,99 @@ module _ {A : Type 0} (make : A → Record) (id : A → ℕ) (of n : ℕ) (is-at
       ∙ ap (λ rs. map make (lower id n xs) ++ rs) (above-is xs few)
       ∙ sym (map-append make (lower id n xs) (higher id n xs))
 
-module _ (r : Repository) (is : IsRepository r) where
-  abbrev IsId : ℕ → Type 0
-  IsId n = (1 ≤ n) × (n < r.ledger.base.next_id)
-
-  logs-small : All (λ y. y.id < 4294967295) r.ledger.logs
-  logs-small = All-weaker (λ y. IsId y.id) (λ y. y.id < 4294967295) (λ y id. omega arith) r.ledger.logs is.ledger.ids.logs
-
-  pieces-small : All (λ y. y.id < 4294967295) r.ledger.pieces
-  pieces-small = All-weaker (λ y. IsId y.id) (λ y. y.id < 4294967295) (λ y id. omega arith) r.ledger.pieces is.ledger.ids.pieces
-
-  pub log-follows : (e : LogEntry) → IsId e.id → IsRepository (with_log r e) → after_edits (Put (kind.Log e) ∷ []) (records_of r) ≡ records_of (with_log r e)
-  log-follows e id is' =
-      by-parts r (with_log r e) [] [] [] (Put (kind.Log e) ∷ []) [] [] [] (keep-b r is) (keep-t r is) (keep-f r is)
-      (put_part (place 4 1) (place 5 0) (kind.Log e) (logs_of r.ledger) (logs_of (with_log r e).ledger) (omega arith, omega arith) (logs-run r.ledger is.ledger) (logs-run (with_log r e).ledger is'.ledger)
-      (put-one kind.Log (λ x. x.id) 4 e.id (λ x. refl) (omega arith) e refl r.ledger.logs logs-small))
-      (keep-p r is) (keep-m r is) (keep-x r is)
-
-  pub piece-follows : (e : PieceEntry) → IsId e.id → IsRepository (with_piece r e) → after_edits (Put (kind.Piece e) ∷ []) (records_of r) ≡ records_of (with_piece r e)
-  piece-follows e id is' =
-      by-parts r (with_piece r e) [] [] [] [] (Put (kind.Piece e) ∷ []) [] [] (keep-b r is) (keep-t r is) (keep-f r is) (keep-l r is)
-      (put_part (place 5 1) (place 6 0) (kind.Piece e) (pieces_of r.ledger) (pieces_of (with_piece r e).ledger) (omega arith, omega arith) (pieces-run r.ledger is.ledger) (pieces-run (with_piece r e).ledger is'.ledger)
-      (put-one kind.Piece (λ x. x.id) 5 e.id (λ x. refl) (omega arith) e refl r.ledger.pieces pieces-small))
-      (keep-m r is) (keep-x r is)
-
-  pub log-dropped : (n : ℕ) → 1 ≤ n → n ≤ 4294967295 → IsRepository (without_log r n) → after_edits (Drop (record { kind = 4; id = n }) ∷ []) (records_of r) ≡ records_of (without_log r n)
-  log-dropped n low small is' =
-      by-parts r (without_log r n) [] [] [] (Drop (record { kind = 4; id = n }) ∷ []) [] [] [] (keep-b r is) (keep-t r is) (keep-f r is)
-      (drop_part (place 4 1) (place 5 0) (record { kind = 4; id = n }) (logs_of r.ledger) (logs_of (without_log r n).ledger) (omega arith, omega arith) (logs-run r.ledger is.ledger) (logs-run (without_log r n).ledger is'.ledger)
-      (drop-one kind.Log (λ x. x.id) 4 n (λ x. refl) small (record { kind = 4; id = n }) refl r.ledger.logs logs-small))
-      (keep-p r is) (keep-m r is) (keep-x r is)
-
-  pub piece-dropped : (n : ℕ) → 1 ≤ n → n ≤ 4294967295 → IsRepository (without_piece r n) → after_edits (Drop (record { kind = 5; id = n }) ∷ []) (records_of r) ≡ records_of (without_piece r n)
-  piece-dropped n low small is' =
-      by-parts r (without_piece r n) [] [] [] [] (Drop (record { kind = 5; id = n }) ∷ []) [] [] (keep-b r is) (keep-t r is) (keep-f r is) (keep-l r is)
-      (drop_part (place 5 1) (place 6 0) (record { kind = 5; id = n }) (pieces_of r.ledger) (pieces_of (without_piece r n).ledger) (omega arith, omega arith) (pieces-run r.ledger is.ledger) (pieces-run (without_piece r n).ledger is'.ledger)
-      (drop-one kind.Piece (λ x. x.id) 5 n (λ x. refl) small (record { kind = 5; id = n }) refl r.ledger.pieces pieces-small))
-      (keep-m r is) (keep-x r is)
-
 -- what is added to edits
 follows-of : (old new es : List Edit) (r s t : Repository) → new ≡ old ++ es → after_edits es (records_of r) ≡ records_of s → t ≡ s → EditsFollow old new r t
 follows-of old new es r s t is same out = record {
   lead = λ rs from. ap (λ (x : List Edit). after_edits x rs) is ∙ after_both old es rs ∙ ap (after_edits es) from ∙ same ∙ ap (λ (x : Repository). records_of x) (sym out);
 }
 
-pub follows_base : (old new : List Edit) (r t : Repository) (b : BaseEntry) → IsRepository r → new ≡ old ++ Put (kind.Base b) ∷ [] → t ≡ with_base r b → EditsFollow old new r t
-follows_base old new r t b is more out = follows-of old new (Put (kind.Base b) ∷ []) r (with_base r b) t more (base-follows r is b) out
-
-pub follows_end : (old new : List Edit) (r t : Repository) (i end : ℕ) → IsRepository r → IsThere r.ledger.tree i → end_of r.ledger.tree i ≤ end → end ≤ last_scn
-    → new ≡ old ++ Put (incarnation_record i (record { parent = parent_of r.ledger.tree i; reset = reset_of r.ledger.tree i; end = end })) ∷ [] → t ≡ with_end_at r i end → EditsFollow old new r t
-follows_end old new r t i end is there up last more out = follows-of old new (Put (incarnation_record i (record { parent = parent_of r.ledger.tree i; reset = reset_of r.ledger.tree i; end = end })) ∷ []) r (with_end_at r i end) t more (end-follows r is i end there (end_fits r i end is there up last)) out
-
-pub follows_file : (old new : List Edit) (r t : Repository) (d : Datafile) → IsRepository r → FitsFile r d → new ≡ old ++ Put (datafile_record (length r.ledger.files + 1) d) ∷ [] → t ≡ with_file r d → EditsFollow old new r t
-follows_file old new r t d is fits more out = follows-of old new (Put (datafile_record (length r.ledger.files + 1) d) ∷ []) r (with_file r d) t more (file-follows r is d (file_fits r d is fits)) out
-
-pub follows_mark : (old new : List Edit) (r t : Repository) (m : Mark) → IsRepository r → FitsMark r m → new ≡ old ++ Put (mark_record (length r.ledger.marks + 1) m) ∷ [] → t ≡ with_mark r m → EditsFollow old new r t
-follows_mark old new r t m is fits more out = follows-of old new (Put (mark_record (length r.ledger.marks + 1) m) ∷ []) r (with_mark r m) t more (mark-follows r is m (mark_fits r m is fits)) out
-
-pub follows_branch : (old new : List Edit) (r t : Repository) (parent at moment : ℕ) → IsRepository r → FitsBranch r parent at moment
-    → new ≡ old ++ Put (incarnation_record (length r.ledger.tree + 1) (branched parent at)) ∷ Put (mark_record (length r.ledger.marks + 1) (first_mark r at moment)) ∷ [] → t ≡ with_incarnation r parent at moment → EditsFollow old new r t
-follows_branch old new r t parent at moment is fits more out =
-    follows-of old new (Put (incarnation_record (length r.ledger.tree + 1) (branched parent at)) ∷ Put (mark_record (length r.ledger.marks + 1) (first_mark r at moment)) ∷ []) r (with_incarnation r parent at moment) t more
-    (incarnation-follows r is parent at moment (branch_fits r parent at moment is fits)) out
-
-pub follows_log : (old new : List Edit) (r t : Repository) (e : LogEntry) → IsRepository r → FitsLog r e → new ≡ old ++ Put (kind.Log e) ∷ [] → t ≡ with_log r e → EditsFollow old new r t
-follows_log old new r t e is fits more out = follows-of old new (Put (kind.Log e) ∷ []) r (with_log r e) t more (log-follows r is e fits.id.range (log_fits r e is fits)) out
-
-pub follows_no_log : (old new : List Edit) (r t : Repository) (n : ℕ) → IsRepository r → 1 ≤ n → n < 4294967296 → new ≡ old ++ Drop (record { kind = 4; id = n }) ∷ [] → t ≡ without_log r n → EditsFollow old new r t
-follows_no_log old new r t n is low small more out = follows-of old new (Drop (record { kind = 4; id = n }) ∷ []) r (without_log r n) t more (log-dropped r is n low (omega arith) (no_log_fits r n is)) out
-
-pub follows_piece : (old new : List Edit) (r t : Repository) (e : PieceEntry) → IsRepository r → FitsPiece r e → new ≡ old ++ Put (kind.Piece e) ∷ [] → t ≡ with_piece r e → EditsFollow old new r t
-follows_piece old new r t e is fits more out = follows-of old new (Put (kind.Piece e) ∷ []) r (with_piece r e) t more (piece-follows r is e fits.id.range (piece_fits r e is fits)) out
-
-pub follows_no_piece : (old new : List Edit) (r t : Repository) (n : ℕ) → IsRepository r → 1 ≤ n → n < 4294967296 → new ≡ old ++ Drop (record { kind = 5; id = n }) ∷ [] → t ≡ without_piece r n → EditsFollow old new r t
-follows_no_piece old new r t n is low small more out = follows-of old new (Drop (record { kind = 5; id = n }) ∷ []) r (without_piece r n) t more (piece-dropped r is n low (omega arith) (no_piece_fits r n is)) out
-
 -- a change after another one
 pub follows-then : (old mid new : List Edit) (r s t : Repository) → EditsFollow old mid r s → EditsFollow mid new s t → EditsFollow old new r t
 follows-then old mid new r s t first then = record { lead = λ rs from. then.lead rs (first.lead rs from) }
+
+-- the edits of each change
+module _ (old new : List Edit) (r t : Repository) (is : IsRepository r) where
+  pub follows_base : (b : BaseEntry) → new ≡ old ++ Put (kind.Base b) ∷ [] → t ≡ with_base r b → EditsFollow old new r t
+  follows_base b more out =
+      follows-of old new (Put (kind.Base b) ∷ []) r (with_base r b) t more (by-parts r (with_base r b) (Put (kind.Base b) ∷ []) [] [] [] [] [] []
+      (put_part (place 1 0) (place 2 0) (kind.Base b) (base_of r) (kind.Base b ∷ []) (omega arith, omega arith) (base-run r.ledger.base) (base-run b) refl)
+      (keep-t r is) (keep-f r is) (keep-l r is) (keep-p r is) (keep-m r is) (keep-x r is)) out
+
+  pub follows_end : (i end : ℕ) → IsThere r.ledger.tree i → end_of r.ledger.tree i ≤ end → end ≤ last_scn
+      → new ≡ old ++ Put (incarnation_record i (record { parent = parent_of r.ledger.tree i; reset = reset_of r.ledger.tree i; end = end })) ∷ [] → t ≡ with_end_at r i end → EditsFollow old new r t
+  follows_end i end there up last more out =
+      let n : Incarnation = record { parent = parent_of r.ledger.tree i; reset = reset_of r.ledger.tree i; end = end } in
+      let after = end_fits r i end is there up last in
+      follows-of old new (Put (incarnation_record i n) ∷ []) r (with_end_at r i end) t more (by-parts r (with_end_at r i end) [] (Put (incarnation_record i n) ∷ []) [] [] [] [] [] (keep-b r is)
+      (put_part (place 2 1) (place 3 0) (incarnation_record i n) (incarnations_of r.ledger) (incarnations_of (with_end_at r i end).ledger) (omega arith, omega arith) (incarnations-run r.ledger is.ledger) (incarnations-run (with_end_at r i end).ledger after.ledger)
+      (replaced n r.ledger.tree 1 (i - 1) i (omega arith) (omega arith) (omega arith)))
+      (keep-f r is) (keep-l r is) (keep-p r is) (keep-m r is) (keep-x r is)) out
+
+  pub follows_file : (d : Datafile) → FitsFile r d → new ≡ old ++ Put (datafile_record (length r.ledger.files + 1) d) ∷ [] → t ≡ with_file r d → EditsFollow old new r t
+  follows_file d fits more out =
+      let after = file_fits r d is fits in
+      follows-of old new (Put (datafile_record (length r.ledger.files + 1) d) ∷ []) r (with_file r d) t more (by-parts r (with_file r d) [] [] (Put (datafile_record (length r.ledger.files + 1) d) ∷ []) [] [] [] []
+      (keep-b r is) (keep-t r is) (numbered_part datafile_record 3 r.ledger.files (d ∷ []) (λ k x. refl) (omega arith)) (keep-l r is) (keep-p r is) (keep-m r is) (keep-x r is)) out
+
+  pub follows_mark : (m : Mark) → FitsMark r m → new ≡ old ++ Put (mark_record (length r.ledger.marks + 1) m) ∷ [] → t ≡ with_mark r m → EditsFollow old new r t
+  follows_mark m fits more out =
+      let after = mark_fits r m is fits in
+      let most = marks-few (with_mark r m).ledger in
+      follows-of old new (Put (mark_record (length r.ledger.marks + 1) m) ∷ []) r (with_mark r m) t more (by-parts r (with_mark r m) [] [] [] [] [] (Put (mark_record (length r.ledger.marks + 1) m) ∷ []) []
+      (keep-b r is) (keep-t r is) (keep-f r is) (keep-l r is) (keep-p r is) (numbered_part mark_record 6 r.ledger.marks (m ∷ []) (λ k x. refl) (omega arith)) (keep-x r is)) out
+
+  pub follows_branch : (parent at moment : ℕ) → FitsBranch r parent at moment
+      → new ≡ old ++ Put (incarnation_record (length r.ledger.tree + 1) (branched parent at)) ∷ Put (mark_record (length r.ledger.marks + 1) (first_mark r at moment)) ∷ [] → t ≡ with_incarnation r parent at moment → EditsFollow old new r t
+  follows_branch parent at moment fits more out =
+      let n = Put (incarnation_record (length r.ledger.tree + 1) (branched parent at)) in
+      let m = Put (mark_record (length r.ledger.marks + 1) (first_mark r at moment)) in
+      let after = branch_fits r parent at moment is fits in
+      let most = marks-few (with_incarnation r parent at moment).ledger in
+      follows-of old new (n ∷ m ∷ []) r (with_incarnation r parent at moment) t more (by-parts r (with_incarnation r parent at moment) [] (n ∷ []) [] [] [] (m ∷ []) []
+      (keep-b r is) (numbered_part incarnation_record 2 r.ledger.tree (branched parent at ∷ []) (λ k x. refl) (omega arith)) (keep-f r is) (keep-l r is) (keep-p r is)
+      (numbered_part mark_record 6 r.ledger.marks (first_mark r at moment ∷ []) (λ k x. refl) (omega arith)) (keep-x r is)) out
+
+  logs-small : All (λ y. y.id < 4294967295) r.ledger.logs
+  logs-small = All-weaker (λ y. (1 ≤ y.id) × (y.id < r.ledger.base.next_id)) (λ y. y.id < 4294967295) (λ y id. omega arith) r.ledger.logs is.ledger.ids.logs
+
+  pieces-small : All (λ y. y.id < 4294967295) r.ledger.pieces
+  pieces-small = All-weaker (λ y. (1 ≤ y.id) × (y.id < r.ledger.base.next_id)) (λ y. y.id < 4294967295) (λ y id. omega arith) r.ledger.pieces is.ledger.ids.pieces
+
+  logs-follow : (e : Edit) (logs : List LogEntry) → IsPart (place 4 1) (place 5 0) (e ∷ []) (logs_of r.ledger) (map kind.Log logs) → new ≡ old ++ e ∷ [] → t ≡ record r { ledger = record r.ledger { logs = logs } } → EditsFollow old new r t
+  logs-follow e logs part more out =
+      let s = record r { ledger = record r.ledger { logs = logs } } in
+      follows-of old new (e ∷ []) r s t more (by-parts r s [] [] [] (e ∷ []) [] [] [] (keep-b r is) (keep-t r is) (keep-f r is) part (keep-p r is) (keep-m r is) (keep-x r is)) out
+
+  pieces-follow : (e : Edit) (pieces : List PieceEntry) → IsPart (place 5 1) (place 6 0) (e ∷ []) (pieces_of r.ledger) (map kind.Piece pieces) → new ≡ old ++ e ∷ [] → t ≡ record r { ledger = record r.ledger { pieces = pieces } } → EditsFollow old new r t
+  pieces-follow e pieces part more out =
+      let s = record r { ledger = record r.ledger { pieces = pieces } } in
+      follows-of old new (e ∷ []) r s t more (by-parts r s [] [] [] [] (e ∷ []) [] [] (keep-b r is) (keep-t r is) (keep-f r is) (keep-l r is) part (keep-m r is) (keep-x r is)) out
+
+  pub follows_log : (e : LogEntry) → FitsLog r e → new ≡ old ++ Put (kind.Log e) ∷ [] → t ≡ with_log r e → EditsFollow old new r t
+  follows_log e fits =
+      let range = fits.id.range in
+      logs-follow (Put (kind.Log e)) (with_log r e).ledger.logs
+      (put_part (place 4 1) (place 5 0) (kind.Log e) (logs_of r.ledger) (logs_of (with_log r e).ledger) (omega arith, omega arith) (logs-run r.ledger is.ledger) (logs-run (with_log r e).ledger (log_fits r e is fits).ledger)
+      (put-one kind.Log (λ x. x.id) 4 e.id (λ x. refl) (omega arith) e refl r.ledger.logs logs-small))
+
+  pub follows_no_log : (n : ℕ) → 1 ≤ n → n < 4294967296 → new ≡ old ++ Drop (record { kind = 4; id = n }) ∷ [] → t ≡ without_log r n → EditsFollow old new r t
+  follows_no_log n low small =
+      logs-follow (Drop (record { kind = 4; id = n })) (without_log r n).ledger.logs
+      (drop_part (place 4 1) (place 5 0) (record { kind = 4; id = n }) (logs_of r.ledger) (logs_of (without_log r n).ledger) (omega arith, omega arith) (logs-run r.ledger is.ledger) (logs-run (without_log r n).ledger (no_log_fits r n is).ledger)
+      (drop-one kind.Log (λ x. x.id) 4 n (λ x. refl) (omega arith) (record { kind = 4; id = n }) refl r.ledger.logs logs-small))
+
+  pub follows_piece : (e : PieceEntry) → FitsPiece r e → new ≡ old ++ Put (kind.Piece e) ∷ [] → t ≡ with_piece r e → EditsFollow old new r t
+  follows_piece e fits =
+      let range = fits.id.range in
+      pieces-follow (Put (kind.Piece e)) (with_piece r e).ledger.pieces
+      (put_part (place 5 1) (place 6 0) (kind.Piece e) (pieces_of r.ledger) (pieces_of (with_piece r e).ledger) (omega arith, omega arith) (pieces-run r.ledger is.ledger) (pieces-run (with_piece r e).ledger (piece_fits r e is fits).ledger)
+      (put-one kind.Piece (λ x. x.id) 5 e.id (λ x. refl) (omega arith) e refl r.ledger.pieces pieces-small))
+
+  pub follows_no_piece : (n : ℕ) → 1 ≤ n → n < 4294967296 → new ≡ old ++ Drop (record { kind = 5; id = n }) ∷ [] → t ≡ without_piece r n → EditsFollow old new r t
+  follows_no_piece n low small =
+      pieces-follow (Drop (record { kind = 5; id = n })) (without_piece r n).ledger.pieces
+      (drop_part (place 5 1) (place 6 0) (record { kind = 5; id = n }) (pieces_of r.ledger) (pieces_of (without_piece r n).ledger) (omega arith, omega arith) (pieces-run r.ledger is.ledger) (pieces-run (without_piece r n).ledger (no_piece_fits r n is).ledger)
+      (drop-one kind.Piece (λ x. x.id) 5 n (λ x. refl) (omega arith) (record { kind = 5; id = n }) refl r.ledger.pieces pieces-small))
 
 -- a new object after the id that it takes
 module _ (old new : List Edit) (r t : Repository) (is : IsRepository r) where
@@ -296,21 +254,21 @@ module _ (old new : List Edit) (r t : Repository) (is : IsRepository r) where
   follows-drawn : (e : Edit) → new ≡ old ++ Put (kind.Base drawn) ∷ e ∷ [] → (new ≡ (old ++ Put (kind.Base drawn) ∷ []) ++ e ∷ [] → EditsFollow (old ++ Put (kind.Base drawn) ∷ []) new (with_base r drawn) t) → EditsFollow old new r t
   follows-drawn e more then =
       let mid = old ++ Put (kind.Base drawn) ∷ [] in
-      follows-then old mid new r (with_base r drawn) t (follows_base old mid r (with_base r drawn) drawn is refl refl) (then (more ∙ sym (append_assoc old (Put (kind.Base drawn) ∷ []) (e ∷ []))))
+      follows-then old mid new r (with_base r drawn) t (follows_base old mid r (with_base r drawn) is drawn refl refl) (then (more ∙ sym (append_assoc old (Put (kind.Base drawn) ∷ []) (e ∷ []))))
 
   pub follows_new_log : (e : LogEntry) → FitsNewLog r e → new ≡ old ++ Put (kind.Base drawn) ∷ Put (kind.Log e) ∷ [] → t ≡ with_new_log r e → EditsFollow old new r t
   unfolding with_next
   follows_new_log e fits more out =
       let n = r.ledger.base.next_id + 1 in
       follows-drawn (Put (kind.Log e)) more
-      (λ then. follows_log (old ++ Put (kind.Base drawn) ∷ []) new (with_next r n) t e (next_fits r n is (omega arith) (omega arith)) (drawn-log r is e fits) then (out ∙ sym (log-last r is e fits)))
+      (λ then. follows_log (old ++ Put (kind.Base drawn) ∷ []) new (with_next r n) t (next_fits r n is (omega arith) (omega arith)) e (drawn-log r is e fits) then (out ∙ sym (log-last r is e fits)))
 
   pub follows_new_piece : (e : PieceEntry) → FitsNewPiece r e → new ≡ old ++ Put (kind.Base drawn) ∷ Put (kind.Piece e) ∷ [] → t ≡ with_new_piece r e → EditsFollow old new r t
   unfolding with_next
   follows_new_piece e fits more out =
       let n = r.ledger.base.next_id + 1 in
       follows-drawn (Put (kind.Piece e)) more
-      (λ then. follows_piece (old ++ Put (kind.Base drawn) ∷ []) new (with_next r n) t e (next_fits r n is (omega arith) (omega arith)) (drawn-piece r is e fits) then (out ∙ sym (piece-last r is e fits)))
+      (λ then. follows_piece (old ++ Put (kind.Base drawn) ∷ []) new (with_next r n) t (next_fits r n is (omega arith) (omega arith)) e (drawn-piece r is e fits) then (out ∙ sym (piece-last r is e fits)))
 
 -- taking away what stands first
 drop-first : (key : Key) (r : Record) (rs : List Record) → place_of r ≡ place_of_key key → All (λ x. place_of_key key < place_of x) rs → after_edit (Drop key) (r ∷ rs) ≡ rs
@@ -332,8 +290,9 @@ all-dropped (p ∷ ps) h low up =
     ∙ all-dropped ps h (place_of (kind.Part p) + 1) up.1
 
 drops-within : (ps : List PartEntry) → All (λ e. (place 7 0 ≤ place_of_edit e) × (place_of_edit e < place 9 0)) (map part_drop ps ++ Drop (record { kind = 8; id = 0 }) ∷ [])
-drops-within [] = All-cons (λ e. (place 7 0 ≤ place_of_edit e) × (place_of_edit e < place 9 0)) (Drop (record { kind = 8; id = 0 })) [] (omega arith, omega arith) (All-nil (λ e. (place 7 0 ≤ place_of_edit e) × (place_of_edit e < place 9 0)))
-drops-within (p ∷ ps) = All-cons (λ e. (place 7 0 ≤ place_of_edit e) × (place_of_edit e < place 9 0)) (part_drop p) (map part_drop ps ++ Drop (record { kind = 8; id = 0 }) ∷ []) (omega arith, omega arith) (drops-within ps)
+drops-within ps =
+    let Within : Edit → Type 0 = λ e. (place 7 0 ≤ place_of_edit e) × (place_of_edit e < place 9 0) in
+    All-push Within (map part_drop ps) (Drop (record { kind = 8; id = 0 })) (All-map Within part_drop ps (λ k d lt. (omega arith, omega arith))) (omega arith, omega arith)
 
 unsaved-part : (r : Repository) → IsRepository r → IsPart (place 7 0) (place 9 0) (unsaved_edits r.saved) (saved_records r.saved) []
 unsaved-part r is = decide r.saved (saved-run r is)
@@ -348,9 +307,6 @@ unsaved-part r is = decide r.saved (saved-run r is)
       same = all-dropped s.parts s.head (place 7 0) up;
     }
 
-pub unsaved-follows : (r : Repository) → IsRepository r → after_edits (unsaved_edits r.saved) (records_of r) ≡ records_of (without_saved r)
-unsaved-follows r is = by-parts r (without_saved r) [] [] [] [] [] [] (unsaved_edits r.saved) (keep-b r is) (keep-t r is) (keep-f r is) (keep-l r is) (keep-p r is) (keep-m r is) (unsaved-part r is)
-
 no-run : Runs (place 7 0) (place 9 0) []
 unfolding Runs
 no-run = omega arith
@@ -362,17 +318,17 @@ unsaved_fits r is = record { ledger = is.ledger; saved = tt }
 pub saved_fits : (r : Repository) (s : Saved) → IsRepository r → IsSaved r.ledger s → IsRepository (with_saved r s)
 saved_fits r s is fits = record { ledger = is.ledger; saved = fits }
 
-pub saved-follows : (r : Repository) (s : Saved) → IsRepository r → r.saved ≡ None → IsRepository (with_saved r s) → after_edits (saved_edits s) (records_of r) ≡ records_of (with_saved r s)
-saved-follows r s is none is' =
-    by-parts r (with_saved r s) [] [] [] [] [] [] (saved_edits s) (keep-b r is) (keep-t r is) (keep-f r is) (keep-l r is) (keep-p r is) (keep-m r is)
-    (subst (λ (o : Option Saved). IsPart (place 7 0) (place 9 0) (saved_edits s) (saved_records o) (saved_records (Some s))) (sym none)
-    (more_part (place 7 0) (place 9 0) [] (saved_records (Some s)) no-run (saved-run (with_saved r s) is')))
+module _ (old new : List Edit) (r t : Repository) (is : IsRepository r) where
+  pub follows_unsaved : new ≡ old ++ unsaved_edits r.saved → t ≡ without_saved r → EditsFollow old new r t
+  follows_unsaved more out =
+      follows-of old new (unsaved_edits r.saved) r (without_saved r) t more
+      (by-parts r (without_saved r) [] [] [] [] [] [] (unsaved_edits r.saved) (keep-b r is) (keep-t r is) (keep-f r is) (keep-l r is) (keep-p r is) (keep-m r is) (unsaved-part r is)) out
 
-pub follows_unsaved : (old new : List Edit) (r t : Repository) → IsRepository r → new ≡ old ++ unsaved_edits r.saved → t ≡ without_saved r → EditsFollow old new r t
-follows_unsaved old new r t is more out = follows-of old new (unsaved_edits r.saved) r (without_saved r) t more (unsaved-follows r is) out
-
-pub follows_saved : (old new : List Edit) (r t : Repository) (s : Saved) → IsRepository r → r.saved ≡ None → IsSaved r.ledger s → new ≡ old ++ saved_edits s → t ≡ with_saved r s → EditsFollow old new r t
-follows_saved old new r t s is none fits more out = follows-of old new (saved_edits s) r (with_saved r s) t more (saved-follows r s is none (saved_fits r s is fits)) out
+  pub follows_saved : (s : Saved) → r.saved ≡ None → IsSaved r.ledger s → new ≡ old ++ saved_edits s → t ≡ with_saved r s → EditsFollow old new r t
+  follows_saved s none fits more out =
+      follows-of old new (saved_edits s) r (with_saved r s) t more (by-parts r (with_saved r s) [] [] [] [] [] [] (saved_edits s) (keep-b r is) (keep-t r is) (keep-f r is) (keep-l r is) (keep-p r is) (keep-m r is)
+      (subst (λ (o : Option Saved). IsPart (place 7 0) (place 9 0) (saved_edits s) (saved_records o) (saved_records (Some s))) (sym none)
+      (more_part (place 7 0) (place 9 0) [] (saved_records (Some s)) no-run (saved-run (with_saved r s) (saved_fits r s is fits))))) out
 
 -- the number of a mark more fits into 32 bits
 pub marks_few : (r : Repository) → IsRepository r → length r.ledger.marks ≤ 65536

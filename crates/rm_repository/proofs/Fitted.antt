@@ -3,7 +3,8 @@ use Rattle.std.proofs.Common.{◌≡◌, ◌∙◌, ℕ, ◌+◌, ◌-◌, ◌<�
 use Rattle.std.specs.Prelude.{IfSome}
 use Rattle.std.proofs.lemmas.Bool.{cases_eq}
 use Rattle.std.proofs.lemmas.List.{length-map, length-set}
-use Rattle.std.proofs.lemmas.List.Elements.{All-contains, All-cons, All-nil, All-push, All-weaker, Contains-append_left, Contains-append_right}
+use Rattle.std.proofs.lemmas.List.Elements.{All-contains, All-push, All-weaker, Contains-append_left, Contains-push}
+use Rattle.std.proofs.lemmas.List.Quantifiers.{all_pairs_push}
 use Rattle.std.proofs.lemmas.List.Sums.{sum_by-append, sum_by-cons}
 use Rattle.rm_base.specs.Numbers.{last_moment, last_scn}
 use Rattle.rm_base.specs.declared.block.Mark.{Mark}
@@ -16,12 +17,11 @@ use Rattle.rm_history.specs.declared.tree.Incarnation.{Incarnation}
 use Rattle.rm_history.specs.declared.world.Datafile.{Datafile}
 use Rattle.rm_history.specs.Tree.{IsThere, parent_of, reset_of, end_of, with_branch, with_end}
 use Rattle.rm_history.proofs.Branches.{IsThere-branched, end_of-branched, end_of-with_branch, length-with_branch, parent_of-branched, parent_of-with_branch, reset_of-branched, reset_of-with_branch}
-use Rattle.rm_history.proofs.Ends.{parent_of-with_end, reset_of-with_end, end_of-with_end, end_of-with_end_other}
-use Rattle.rm_base.proofs.Members.{in-front}
-use Rattle.rm_ledger.specs.Facts.{AreIds, AreIncarnations, AreMarks, HasMark, IsBranch, IsCreated, IsLogEntry, IsMark, IsPieceEntry}
+use Rattle.rm_history.proofs.Ends.{parent_of-with_end, end_of-with_end, end_of-with_end_other}
+use Rattle.rm_ledger.specs.Facts.{AreDatafiles, AreIds, AreIncarnations, AreMarks, HasMark, IsBranch, IsCreated, IsLogEntry, IsMark, IsPieceEntry}
 use Rattle.rm_ledger.specs.Ledger.{Ledger, incarnation_record, datafile_record, mark_record}
 use Rattle.rm_ledger.specs.Ledger.{records_of as ledger_records}
-use Rattle.rm_ledger.proofs.Keeping.{log_kept, mark_kept, pairs_append, piece_kept}
+use Rattle.rm_ledger.proofs.Keeping.{FilesGrow, log_kept, mark_kept, piece_kept}
 use Rattle.rm_ledger.proofs.Order.{incarnations_of, datafiles_of, logs_of, pieces_of, marks_of, length-numbered}
 use Rattle.rm_ledger.proofs.Trees.{Keeps, keeps_branch, keeps_end, parents_below}
 use Rattle.rm_repository.specs.Changes.{with_base, with_end_at, with_file, with_incarnation, with_log, with_mark, with_new_log, with_new_piece, with_one, with_piece, without_log, without_one, without_piece}
@@ -41,7 +41,7 @@ record HasAll (l m : Ledger) : Type 0 where
 site_kept : (l m : Ledger) (s : Saved) → HasAll l m → IsSaved l s → ((e : LogEntry) (p : PartEntry) → Contains m.logs e → Contains s.parts p → e.id ≡ p.id → ⊥) → ((e : PieceEntry) (p : PartEntry) → Contains m.pieces e → Contains s.parts p → e.id ≡ p.id → ⊥) → IsSaved m s
 site_kept l m s has is logs pieces =
     record {
-      parts = All-weaker (IsPartEntry l) (IsPartEntry m) (λ (p : PartEntry) was. let id = was.id.1 in record {
+      parts = All-weaker (IsPartEntry l) (IsPartEntry m) (λ (p : PartEntry) was. record {
         id = (was.id.0, omega arith);
         size = was.size;
         thread = λ none. let t = (was.thread none).1 in ((was.thread none).0, omega arith);
@@ -91,14 +91,14 @@ base_fits r b rules fits =
         logs = subst (λ (n : ℕ). All (IsLogEntry l.tree n) l.logs) (sym threads) is.logs;
         pieces = is.pieces;
         ids = record {
-          logs = All-weaker (λ (e : LogEntry). (1 ≤ e.id) × (e.id < l.base.next_id)) (λ (e : LogEntry). (1 ≤ e.id) × (e.id < b.next_id)) (λ e was. let high = was.1 in (was.0, omega arith)) l.logs is.ids.logs;
-          pieces = All-weaker (λ (e : PieceEntry). (1 ≤ e.id) × (e.id < l.base.next_id)) (λ (e : PieceEntry). (1 ≤ e.id) × (e.id < b.next_id)) (λ e was. let high = was.1 in (was.0, omega arith)) l.pieces is.ids.pieces;
+          logs = All-weaker (λ (e : LogEntry). (1 ≤ e.id) × (e.id < l.base.next_id)) (λ (e : LogEntry). (1 ≤ e.id) × (e.id < b.next_id)) (λ e was. (was.0, omega arith)) l.logs is.ids.logs;
+          pieces = All-weaker (λ (e : PieceEntry). (1 ≤ e.id) × (e.id < l.base.next_id)) (λ (e : PieceEntry). (1 ≤ e.id) × (e.id < b.next_id)) (λ e was. (was.0, omega arith)) l.pieces is.ids.pieces;
           logs_ascend = is.ids.logs_ascend;
           pieces_ascend = is.ids.pieces_ascend;
           apart = is.ids.apart;
         };
         marks = record {
-          each = All-weaker (IsMark l.tree l.base.moment) (IsMark l.tree b.moment) (λ (m : Mark) was. let low = was.moment in record { there = was.there; scn = was.scn; moment = omega arith }) l.marks is.marks.each;
+          each = All-weaker (IsMark l.tree l.base.moment) (IsMark l.tree b.moment) (λ (m : Mark) was. record { there = was.there; scn = was.scn; moment = omega arith }) l.marks is.marks.each;
           rise = is.marks.rise;
           some = is.marks.some;
         };
@@ -119,13 +119,23 @@ moment_fits r moment rules kept last =
       moment = kept;
     }
 
--- the ends of a tree in which one rose
-ends-up : (tree : List Incarnation) (j end : ℕ) → IsThere tree j → end_of tree j ≤ end → (i : ℕ) → IsThere tree i → end_of tree i ≤ end_of (with_end tree j end) i
-ends-up tree j end there up i is = elim (cases_eq i j) [
-  | inl same ↦ subst (λ k. end_of tree k ≤ end_of (with_end tree j end) k) (sym same) (let e = end_of-with_end tree j end there in omega arith)
-  | inr other ↦ let e = end_of-with_end_other tree j end i there is other in omega arith
-]
+-- a branch of a tree, and its range, in a tree that keeps it
+branch-kept : (old new : List Incarnation) (i : ℕ) → Keeps old new → parent_of new i ≡ parent_of old i → IsThere old i → IsBranch old i → IsBranch new i
+branch-kept old new i keeps parent there b =
+    let below : IsThere old (parent_of old i) = (b.parent.0, omega arith) in
+    let own = keeps.reset i there in
+    let from = ap (reset_of new) parent ∙ keeps.reset (parent_of old i) below in
+    let to = ap (end_of new) parent in
+    let more = keeps.end (parent_of old i) below in
+    record { parent = (omega arith, omega arith); reset = omega arith; end = omega arith }
 
+abbrev IsRange : List Incarnation → ℕ → Type 0
+IsRange tree i = (1 ≤ reset_of tree i) × (reset_of tree i ≤ end_of tree i) × (end_of tree i ≤ last_scn)
+
+range-kept : (old new : List Incarnation) (i : ℕ) → Keeps old new → IsThere old i → IsRange old i → end_of new i ≤ last_scn → IsRange new i
+range-kept old new i keeps there range last = let reset = keeps.reset i there in let more = keeps.end i there in (omega arith, omega arith, last)
+
+-- a tree in which one end rose
 last-end : (tree : List Incarnation) (j end last : ℕ) → IsThere tree j → end ≤ last → (i : ℕ) → IsThere tree i → end_of tree i ≤ last → end_of (with_end tree j end) i ≤ last
 last-end tree j end last there low i is was = elim (cases_eq i j) [
   | inl same ↦ subst (λ k. end_of (with_end tree j end) k ≤ last) (sym same) (let e = end_of-with_end tree j end there in omega arith)
@@ -137,28 +147,17 @@ trees-same tree j end = length-set tree (j - 1) (record { parent = parent_of tre
 
 incarnations_kept : (tree : List Incarnation) (j end : ℕ) → AreIncarnations tree → IsThere tree j → end_of tree j ≤ end → end ≤ last_scn → AreIncarnations (with_end tree j end)
 incarnations_kept tree j end is there up last =
+    let keeps = keeps_end tree j end there up in
     let long = trees-same tree j end in
     record {
       some = omega arith;
       few = omega arith;
       first = parent_of-with_end tree j end 1 there ∙ is.first;
-      branches = λ i later high.
-          let within : i ≤ length tree = omega arith in
-          let b = is.branches i later within in
-          let p = parent_of tree i in
-          let parent : parent_of (with_end tree j end) i ≡ p = parent_of-with_end tree j end i there in
-          let low = b.parent.0 in
-          let own = reset_of-with_end tree j end i there in
-          let from = ap (reset_of (with_end tree j end)) parent ∙ reset_of-with_end tree j end p there in
-          let to = ap (end_of (with_end tree j end)) parent in
-          let more = ends-up tree j end there up p (low, omega arith) in
-          record { parent = (omega arith, omega arith); reset = omega arith; end = omega arith };
+      branches = λ i later high. branch-kept tree (with_end tree j end) i keeps (parent_of-with_end tree j end i there) (omega arith, omega arith) (is.branches i later (omega arith));
       ranges = λ i has.
-          let was : IsThere tree i = (has.0, (omega arith)) in
+          let was : IsThere tree i = (has.0, omega arith) in
           let range = is.ranges i was in
-          let reset = reset_of-with_end tree j end i there in
-          let more = ends-up tree j end there up i was in
-          (omega arith, omega arith, last-end tree j end last_scn there last i was range.2);
+          range-kept tree (with_end tree j end) i keeps was range (last-end tree j end last_scn there last i was range.2);
     }
 
 -- a datafile stays one that was created
@@ -168,197 +167,148 @@ created-kept old new keeps d was =
     let more = keeps.end d.inc was.there in
     record { there = keeps.there d.inc was.there; creation = (omega arith, omega arith); blocks = was.blocks }
 
--- a higher end
-pub end_fits : (r : Repository) (i end : ℕ) → IsRepository r → IsThere r.ledger.tree i → end_of r.ledger.tree i ≤ end → end ≤ last_scn → IsRepository (with_end_at r i end)
-end_fits r i end rules there up last =
+datafiles-kept : (old new : List Incarnation) (files : List Datafile) → Keeps old new → AreDatafiles old files → AreDatafiles new files
+datafiles-kept old new files keeps is = record { each = All-weaker (IsCreated old) (IsCreated new) (created-kept old new keeps) files is.each; few = is.few; room = is.room }
+
+files-grow : (old new : List Datafile) → FilesGrow old new → length old ≤ length new
+files-grow old new (inl same) = let long = ap length same in omega arith
+files-grow old new (inr more) = let long = ap length more.1 in let all = length-append old (more.0 ∷ []) in omega arith
+
+-- a tree that keeps what was, with datafiles and marks
+regrown : (r : Repository) (tree : List Incarnation) (files : List Datafile) (marks : List Mark) → IsRepository r → Keeps r.ledger.tree tree → FilesGrow r.ledger.files files
+    → AreIncarnations tree → AreDatafiles tree files → AreMarks tree r.ledger.base.moment marks
+    → length (ledger_records r.ledger) + length tree + length files + length marks ≤ 65536 + length r.ledger.tree + length r.ledger.files + length r.ledger.marks
+    → IsRepository (record r { ledger = record r.ledger { tree = tree; files = files; marks = marks } })
+regrown r tree files marks rules keeps grows of-tree of-files of-marks room =
     let is = rules.ledger in
     let l = r.ledger in
-    let m = (with_end_at r i end).ledger in
-    let keeps = keeps_end l.tree i end there up in
-    let long = trees-same l.tree i end in
+    let m = record r.ledger { tree = tree; files = files; marks = marks } in
     let old = many l in
     let new = many m in
     record {
       ledger = record {
         base = is.base;
         current = keeps.there l.base.current is.current;
-        incarnations = incarnations_kept l.tree i end is.incarnations there up last;
-        datafiles = record {
-          each = All-weaker (IsCreated l.tree) (IsCreated m.tree) (created-kept l.tree m.tree keeps) l.files is.datafiles.each;
-          few = is.datafiles.few;
-          room = is.datafiles.room;
-        };
-        logs = All-weaker (IsLogEntry l.tree l.base.threads) (IsLogEntry m.tree l.base.threads) (log_kept l.tree m.tree l.base.threads keeps) l.logs is.logs;
-        pieces = All-weaker (IsPieceEntry l.tree l.files) (IsPieceEntry m.tree l.files) (piece_kept l.tree m.tree l.files l.files keeps (inl refl)) l.pieces is.pieces;
+        incarnations = of-tree;
+        datafiles = of-files;
+        logs = All-weaker (IsLogEntry l.tree l.base.threads) (IsLogEntry tree l.base.threads) (log_kept l.tree tree l.base.threads keeps) l.logs is.logs;
+        pieces = All-weaker (IsPieceEntry l.tree l.files) (IsPieceEntry tree files) (piece_kept l.tree tree l.files files keeps grows) l.pieces is.pieces;
         ids = is.ids;
-        marks = record {
-          each = All-weaker (IsMark l.tree l.base.moment) (IsMark m.tree l.base.moment) (mark_kept l.tree m.tree l.base.moment l.base.moment keeps (omega arith)) l.marks is.marks.each;
-          rise = is.marks.rise;
-          some = λ k has. is.marks.some k (has.0, (omega arith));
-        };
+        marks = of-marks;
         few = omega arith;
       };
-      saved = saved_kept l m (record { ids = omega arith; threads = omega arith; files = omega arith; there = λ k has. keeps.there k has }) refl refl r.saved rules.saved;
+      saved = saved_kept l m (record { ids = omega arith; threads = omega arith; files = files-grow l.files files grows; there = λ i there. keeps.there i there }) refl refl r.saved rules.saved;
     }
+
+same-tree : (tree : List Incarnation) → Keeps tree tree
+same-tree tree = record { there = λ i is. is; reset = λ i is. refl; end = λ i is. omega arith; owners = λ i g is. refl }
+
+-- a higher end
+pub end_fits : (r : Repository) (i end : ℕ) → IsRepository r → IsThere r.ledger.tree i → end_of r.ledger.tree i ≤ end → end ≤ last_scn → IsRepository (with_end_at r i end)
+end_fits r i end rules there up last =
+    let is = rules.ledger in
+    let l = r.ledger in
+    let tree = with_end l.tree i end in
+    let keeps = keeps_end l.tree i end there up in
+    let long = trees-same l.tree i end in
+    regrown r tree l.files l.marks rules keeps (inl refl) (incarnations_kept l.tree i end is.incarnations there up last) (datafiles-kept l.tree tree l.files keeps is.datafiles)
+    (record {
+      each = All-weaker (IsMark l.tree l.base.moment) (IsMark tree l.base.moment) (mark_kept l.tree tree l.base.moment l.base.moment keeps (omega arith)) l.marks is.marks.each;
+      rise = is.marks.rise;
+      some = λ k has. is.marks.some k (has.0, omega arith);
+    }) (omega (arith, is.few))
 
 -- one datafile more
 pub file_fits : (r : Repository) (d : Datafile) → IsRepository r → FitsFile r d → IsRepository (with_file r d)
 file_fits r d rules fits =
     let is = rules.ledger in
     let l = r.ledger in
-    let m = (with_file r d).ledger in
     let long = length-append l.files (d ∷ []) in
     let sum = sum_by-append (λ (f : Datafile). f.blocks) l.files (d ∷ []) in
     let one = sum_by-cons (λ (f : Datafile). f.blocks) d [] in
-    let old = many l in
-    let new = many m in
-    record {
-      ledger = record {
-        base = is.base;
-        current = is.current;
-        incarnations = is.incarnations;
-        datafiles = record { each = All-push (IsCreated l.tree) l.files d is.datafiles.each fits.created; few = omega arith; room = omega arith };
-        logs = is.logs;
-        pieces = All-weaker (IsPieceEntry l.tree l.files) (IsPieceEntry l.tree m.files) (piece_kept l.tree l.tree l.files m.files (same-tree l.tree) (inr (d, refl))) l.pieces is.pieces;
-        ids = is.ids;
-        marks = is.marks;
-        few = omega arith;
-      };
-      saved = saved_kept l m (record { ids = omega arith; threads = omega arith; files = omega arith; there = λ i there. there }) refl refl r.saved rules.saved;
-    }
-  where
-    same-tree : (tree : List Incarnation) → Keeps tree tree
-    same-tree tree = record { there = λ i is. is; reset = λ i is. refl; end = λ i is. omega arith; owners = λ i g is. refl }
+    regrown r l.tree (l.files ++ d ∷ []) l.marks rules (same-tree l.tree) (inr (d, refl)) is.incarnations
+    (record { each = All-push (IsCreated l.tree) l.files d is.datafiles.each fits.created; few = omega arith; room = omega arith }) is.marks (omega arith)
 
 -- one mark more among the marks of a tree
 marks-more : (tree : List Incarnation) (latest : ℕ) (marks : List Mark) (m : Mark) → All (IsMark tree latest) marks → All (λ n. n.moment ≤ m.moment) marks → IsMark tree latest m
     → AllPairs (λ x y. x.moment ≤ y.moment) marks → ((i : ℕ) → IsThere tree i → HasMark (marks ++ m ∷ []) i) → AreMarks tree latest (marks ++ m ∷ [])
-marks-more tree latest marks m each before is rise some = record {
-  each = All-push (IsMark tree latest) marks m each is;
-  rise = pairs_append (λ (x y : Mark). x.moment ≤ y.moment) marks (m ∷ []) rise (λ i j d less lt. absurd (omega arith))
-      (λ x y has one. All-contains (λ (z : Mark). x.moment ≤ z.moment) (m ∷ []) y (All-cons (λ (z : Mark). x.moment ≤ z.moment) m [] (All-contains (λ (z : Mark). z.moment ≤ m.moment) marks x before has) (All-nil (λ (z : Mark). x.moment ≤ z.moment))) one);
-  some = some;
-}
+marks-more tree latest marks m each before is rise some =
+    record { each = All-push (IsMark tree latest) marks m each is; rise = all_pairs_push (λ (x y : Mark). x.moment ≤ y.moment) marks m rise before; some = some }
+
+old-mark : (r : Repository) (n : Mark) (i : ℕ) → IsRepository r → IsThere r.ledger.tree i → HasMark (r.ledger.marks ++ n ∷ []) i
+old-mark r n i rules there = let h = rules.ledger.marks.some i there in (h.0, Contains-append_left r.ledger.marks (n ∷ []) h.0 h.1, h.2)
 
 -- one mark more
 pub mark_fits : (r : Repository) (m : Mark) → IsRepository r → FitsMark r m → IsRepository (with_mark r m)
 mark_fits r n rules fits =
     let is = rules.ledger in
     let l = r.ledger in
-    let m = (with_mark r n).ledger in
     let long = length-append l.marks (n ∷ []) in
-    let old = many l in
-    let new = many m in
-    record {
-      ledger = record {
-        base = is.base;
-        current = is.current;
-        incarnations = is.incarnations;
-        datafiles = is.datafiles;
-        logs = is.logs;
-        pieces = is.pieces;
-        ids = is.ids;
-        marks = marks-more l.tree l.base.moment l.marks n is.marks.each fits.moment.0 fits.mark is.marks.rise
-            (λ i there. let h = is.marks.some i there in (h.0, Contains-append_left l.marks (n ∷ []) h.0 h.1, h.2));
-        few = omega arith;
-      };
-      saved = saved_kept l m (record { ids = omega arith; threads = omega arith; files = omega arith; there = λ i there. there }) refl refl r.saved rules.saved;
-    }
+    regrown r l.tree l.files (l.marks ++ n ∷ []) rules (same-tree l.tree) (inl refl) is.incarnations is.datafiles
+    (marks-more l.tree l.base.moment l.marks n is.marks.each fits.moment.0 fits.mark is.marks.rise (λ i there. old-mark r n i rules there)) (omega arith)
 
 -- an incarnation of a tree with one more was there, or is the new one
 old-or-new : (tree : List Incarnation) (p at i : ℕ) → IsThere (with_branch tree p at) i → IsThere tree i ⊎ (i ≡ length tree + 1)
 old-or-new tree p at i there =
-    let low = there.0 in
     let long = length-with_branch tree p at in
-    elim (cases_eq i (length tree + 1)) [ inl new ↦ inr new | inr other ↦ inl (low, omega arith) ]
+    elim (cases_eq i (length tree + 1)) [ inl new ↦ inr new | inr other ↦ inl (there.0, omega arith) ]
 
-branched-branch : (tree : List Incarnation) (p at i : ℕ) → AreIncarnations tree → IsThere tree p → reset_of tree p ≤ at → at ≤ end_of tree p → 1 < i → IsThere tree i ⊎ (i ≡ length tree + 1) → IsBranch (with_branch tree p at) i
-branched-branch tree p at i is there low high later (inl was) =
-    let b = is.branches i later was.1 in
-    let parent = parent_of-with_branch tree p at i was in
-    let q = parent_of tree i in
-    let some = b.parent.0 in
-    let q_there : IsThere tree q = (some, omega arith) in
-    let own = reset_of-with_branch tree p at i was in
-    let from = ap (reset_of (with_branch tree p at)) parent ∙ reset_of-with_branch tree p at q q_there in
-    let to = ap (end_of (with_branch tree p at)) parent ∙ end_of-with_branch tree p at q q_there in
-    record { parent = (omega arith, omega arith); reset = omega arith; end = omega arith }
-branched-branch tree p at i is there low high later (inr new) =
-    let n = length tree + 1 in
-    let parent = parent_of-branched tree p at in
-    let own = reset_of-branched tree p at in
-    let from = ap (reset_of (with_branch tree p at)) parent ∙ reset_of-with_branch tree p at p there in
-    let to = ap (end_of (with_branch tree p at)) parent ∙ end_of-with_branch tree p at p there in
-    subst (λ (k : ℕ). IsBranch (with_branch tree p at) k) (sym new)
-    (record { parent = (omega arith, omega arith); reset = omega arith; end = omega arith })
+module _ (tree : List Incarnation) (p at : ℕ) (is : AreIncarnations tree) (there : IsThere tree p) (low : reset_of tree p ≤ at) (high : at ≤ end_of tree p) where
+  abbrev more : List Incarnation
+  more = with_branch tree p at
 
-abbrev IsRange : List Incarnation → ℕ → Type 0
-IsRange tree i = (1 ≤ reset_of tree i) × (reset_of tree i ≤ end_of tree i) × (end_of tree i ≤ last_scn)
+  keeps-all : Keeps tree more
+  keeps-all = keeps_branch tree p at (parents_below tree is) there
 
-branched-range : (tree : List Incarnation) (p at i : ℕ) → AreIncarnations tree → IsThere tree p → reset_of tree p ≤ at → at ≤ end_of tree p → IsThere tree i ⊎ (i ≡ length tree + 1) → IsRange (with_branch tree p at) i
-branched-range tree p at i is there low high (inl was) =
-    let range = is.ranges i was in
-    let reset = reset_of-with_branch tree p at i was in
-    let end = end_of-with_branch tree p at i was in
-    (omega arith, omega arith, omega arith)
-branched-range tree p at i is there low high (inr new) =
-    let range = is.ranges p there in
-    let reset = reset_of-branched tree p at in
-    let end = end_of-branched tree p at in
-    subst (IsRange (with_branch tree p at)) (sym new) (omega arith, omega arith, omega arith)
+  branched-branch : (i : ℕ) → 1 < i → IsThere tree i ⊎ (i ≡ length tree + 1) → IsBranch more i
+  branched-branch i later (inl was) = branch-kept tree more i keeps-all (parent_of-with_branch tree p at i was) was (is.branches i later was.1)
+  branched-branch i later (inr new) =
+      let parent = parent_of-branched tree p at in
+      let own = reset_of-branched tree p at in
+      let from = ap (reset_of more) parent ∙ reset_of-with_branch tree p at p there in
+      let to = ap (end_of more) parent ∙ end_of-with_branch tree p at p there in
+      subst (IsBranch more) (sym new) (record { parent = (omega arith, omega arith); reset = omega arith; end = omega arith })
 
-branched-incarnations : (tree : List Incarnation) (p at : ℕ) → AreIncarnations tree → length tree < 256 → IsThere tree p → reset_of tree p ≤ at → at ≤ end_of tree p → AreIncarnations (with_branch tree p at)
-branched-incarnations tree p at is few there low high =
-    let long = length-with_branch tree p at in
-    record {
-      some = omega arith;
-      few = omega arith;
-      first = parent_of-with_branch tree p at 1 (omega arith, omega arith) ∙ is.first;
-      branches = λ i later inside. branched-branch tree p at i is there low high later (old-or-new tree p at i (omega arith, inside));
-      ranges = λ i has. branched-range tree p at i is there low high (old-or-new tree p at i has);
-    }
+  branched-range : (i : ℕ) → IsThere tree i ⊎ (i ≡ length tree + 1) → IsRange more i
+  branched-range i (inl was) = let range = is.ranges i was in let end = end_of-with_branch tree p at i was in range-kept tree more i keeps-all was range (omega arith)
+  branched-range i (inr new) =
+      let range = is.ranges p there in
+      let reset = reset_of-branched tree p at in
+      let end = end_of-branched tree p at in
+      subst (IsRange more) (sym new) (omega arith, omega arith, omega arith)
+
+  branched-incarnations : length tree < 256 → AreIncarnations more
+  branched-incarnations few =
+      let long = length-with_branch tree p at in
+      record {
+        some = omega arith;
+        few = omega arith;
+        first = parent_of-with_branch tree p at 1 (omega arith, omega arith) ∙ is.first;
+        branches = λ i later inside. branched-branch i later (old-or-new tree p at i (omega arith, inside));
+        ranges = λ i has. branched-range i (old-or-new tree p at i has);
+      }
 
 -- one incarnation more, with its first mark
 pub branch_fits : (r : Repository) (parent at moment : ℕ) → IsRepository r → FitsBranch r parent at moment → IsRepository (with_incarnation r parent at moment)
 branch_fits r parent at moment rules fits =
     let is = rules.ledger in
     let l = r.ledger in
-    let m = (with_incarnation r parent at moment).ledger in
+    let tree = with_branch l.tree parent at in
     let n : Mark = record { moment = moment; inc = length l.tree + 1; scn = at } in
-    let there = fits.there in
-    let keeps = keeps_branch l.tree parent at (parents_below l.tree is.incarnations) there in
+    let keeps = keeps_branch l.tree parent at (parents_below l.tree is.incarnations) fits.there in
     let long = length-append l.marks (n ∷ []) in
     let deep = length-with_branch l.tree parent at in
-    let old = many l in
-    let new = many m in
     let reset = reset_of-branched l.tree parent at in
     let end = end_of-branched l.tree parent at in
-    record {
-      ledger = record {
-        base = is.base;
-        current = keeps.there l.base.current is.current;
-        incarnations = branched-incarnations l.tree parent at is.incarnations fits.few there fits.begins.0 fits.begins.1;
-        datafiles = record { each = All-weaker (IsCreated l.tree) (IsCreated m.tree) (created-kept l.tree m.tree keeps) l.files is.datafiles.each; few = is.datafiles.few; room = is.datafiles.room };
-        logs = All-weaker (IsLogEntry l.tree l.base.threads) (IsLogEntry m.tree l.base.threads) (log_kept l.tree m.tree l.base.threads keeps) l.logs is.logs;
-        pieces = All-weaker (IsPieceEntry l.tree l.files) (IsPieceEntry m.tree l.files) (piece_kept l.tree m.tree l.files l.files keeps (inl refl)) l.pieces is.pieces;
-        ids = is.ids;
-        marks = marks-more m.tree l.base.moment l.marks n
-            (All-weaker (IsMark l.tree l.base.moment) (IsMark m.tree l.base.moment) (mark_kept l.tree m.tree l.base.moment l.base.moment keeps (omega arith)) l.marks is.marks.each)
-            fits.next.0 (record { there = IsThere-branched l.tree parent at; scn = (omega arith, omega arith); moment = fits.next.1 }) is.marks.rise
-            (λ i has. first-mark i (old-or-new l.tree parent at i has));
-        few = omega arith;
-      };
-      saved = saved_kept l m (record { ids = omega arith; threads = omega arith; files = omega arith; there = λ i has. keeps.there i has }) refl refl r.saved rules.saved;
-    }
-  where
-    first-mark : (i : ℕ) → IsThere r.ledger.tree i ⊎ (i ≡ length r.ledger.tree + 1) → HasMark (r.ledger.marks ++ record { moment = moment; inc = length r.ledger.tree + 1; scn = at } ∷ []) i
-    first-mark i (inl was) =
-        let n : Mark = record { moment = moment; inc = length r.ledger.tree + 1; scn = at } in
-        let h = rules.ledger.marks.some i was in
-        (h.0, Contains-append_left r.ledger.marks (n ∷ []) h.0 h.1, h.2)
-    first-mark i (inr new) =
-        let n : Mark = record { moment = moment; inc = length r.ledger.tree + 1; scn = at } in
-        (n, Contains-append_right r.ledger.marks (n ∷ []) n (in-front n []), sym new)
+    let first-mark : (i : ℕ) → IsThere l.tree i ⊎ (i ≡ length l.tree + 1) → HasMark (l.marks ++ n ∷ []) i = λ i which. elim which [
+      | inl was ↦ old-mark r n i rules was
+      | inr new ↦ (n, Contains-push l.marks n, sym new)
+    ] in
+    regrown r tree l.files (l.marks ++ n ∷ []) rules keeps (inl refl) (branched-incarnations l.tree parent at is.incarnations fits.there fits.begins.0 fits.begins.1 fits.few) (datafiles-kept l.tree tree l.files keeps is.datafiles)
+    (marks-more tree l.base.moment l.marks n
+    (All-weaker (IsMark l.tree l.base.moment) (IsMark tree l.base.moment) (mark_kept l.tree tree l.base.moment l.base.moment keeps (omega arith)) l.marks is.marks.each)
+    fits.next.0 (record { there = IsThere-branched l.tree parent at; scn = (omega arith, omega arith); moment = fits.next.1 }) is.marks.rise (λ i has. first-mark i (old-or-new l.tree parent at i has)))
+    (omega arith)
 
 -- the ids of a saved site's parts are not those of objects
 abbrev AreFree : Saved → List LogEntry → List PieceEntry → Type 0

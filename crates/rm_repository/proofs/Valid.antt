@@ -10,13 +10,12 @@ use Rattle.std.proofs.lemmas.List.Sums.{length-filter, sum_by-append, sum_by-con
 use Rattle.rm_catalog.specs.declared.record.DatafileEntry.{DatafileEntry}
 use Rattle.rm_catalog.specs.declared.record.IncarnationEntry.{IncarnationEntry}
 use Rattle.rm_catalog.specs.declared.record.LogEntry.{LogEntry}
-use Rattle.rm_catalog.specs.declared.record.MarkEntry.{MarkEntry}
 use Rattle.rm_catalog.specs.declared.record.PartEntry.{PartEntry}
 use Rattle.rm_catalog.specs.declared.record.PieceEntry.{PieceEntry}
 use Rattle.rm_catalog.specs.declared.record.Record.{Record}
 use Rattle.rm_catalog.specs.declared.record.Record.TheVariants as kind
 use Rattle.rm_catalog.specs.Facts.{BeginsOn, IsCreatedOn, IsWithin, blocks_to, is_mark_of}
-use Rattle.rm_catalog.specs.Keys.{place, place_of, at, datafile, datafile_in, incarnation, incarnation_in, mark, mark_in, part_in}
+use Rattle.rm_catalog.specs.Keys.{place, place_of, at, datafile, datafile_in, incarnation, incarnation_in, mark_in, part_in}
 use Rattle.rm_catalog.specs.Keys.{IsThere as HasKey}
 use Rattle.rm_catalog.specs.Objects.{FitsDatafile, IsRange, owner_in}
 use Rattle.rm_catalog.specs.Rules.{IsAmongFirst, IsCatalog, Obeys, OwnRule}
@@ -128,22 +127,13 @@ module _ (r : Repository) (is : IsRepository r) where
   same-at p low = at-front p front rear (high p low)
 
   same-key : (of id : ℕ) → of ≤ 6 → HasKey of id front → HasKey of id (records_of r)
-  same-key of id low has = subst (λ (o : Option Record). IsSome o) (sym (same-at (place of id) (low-place of id low))) has
-    where
-      low-place : (of id : ℕ) → of ≤ 6 → place of id < place 7 0
-      low-place of id low = omega arith
+  same-key of id low has = subst (λ (o : Option Record). IsSome o) (sym (same-at (place of id) (omega arith))) has
 
   no-key : (of id : ℕ) → of ≤ 6 → (HasKey of id front → ⊥) → HasKey of id (records_of r) → ⊥
   no-key of id low none has = none (subst (λ (o : Option Record). IsSome o) (same-at (place of id) (omega arith)) has)
 
-  on-incarnation : (n : ℕ) (P : IncarnationEntry → Type 0) → IsSomeAnd (incarnation n front) P → IsSomeAnd (incarnation n (records_of r)) P
-  on-incarnation n P was = subst (λ (o : Option Record). IsSomeAnd (option_and_then incarnation_in o) P) (sym (same-at (place 2 n) (omega arith))) was
-
-  on-datafile : (n : ℕ) (P : DatafileEntry → Type 0) → IsSomeAnd (datafile n front) P → IsSomeAnd (datafile n (records_of r)) P
-  on-datafile n P was = subst (λ (o : Option Record). IsSomeAnd (option_and_then datafile_in o) P) (sym (same-at (place 3 n) (omega arith))) was
-
-  on-mark : (n : ℕ) (P : MarkEntry → Type 0) → IsSomeAnd (mark n front) P → IsSomeAnd (mark n (records_of r)) P
-  on-mark n P was = subst (λ (o : Option Record). IsSomeAnd (option_and_then mark_in o) P) (sym (same-at (place 6 n) (omega arith))) was
+  on-told : {A : Type 0} (tell : Record → Option A) (p : ℕ) → p < place 7 0 → (P : A → Type 0) → IsSomeAnd (option_and_then tell (at p front)) P → IsSomeAnd (option_and_then tell (at p (records_of r))) P
+  on-told tell p low P was = subst (λ (o : Option Record). IsSomeAnd (option_and_then tell o) P) (sym (same-at p low)) was
 
   -- the path stays
   abbrev owner_by : (n i g : ℕ) → List Record → Option IncarnationEntry → ℕ
@@ -210,7 +200,7 @@ module _ (r : Repository) (is : IsRepository r) where
     number = was.number;
     origin = record {
       first = was.origin.first;
-      branch = λ later. let b = was.origin.branch later in record { no_gap = same-key 2 (i.inc - 1) (omega arith) b.no_gap; below = b.below; parent = on-incarnation i.parent (BeginsOn i) b.parent };
+      branch = λ later. let b = was.origin.branch later in record { no_gap = same-key 2 (i.inc - 1) (omega arith) b.no_gap; below = b.below; parent = on-told incarnation_in (place 2 i.parent) (omega arith) (BeginsOn i) b.parent };
     };
     range = was.range;
     mark = list_any-append (is_mark_of i.inc) front rear ∙ ap (λ (b : Bool). b || list_any (is_mark_of i.inc) rear) was.mark;
@@ -218,7 +208,7 @@ module _ (r : Repository) (is : IsRepository r) where
   lifted (kind.Datafile f) has was = record {
     number = was.number;
     no_gap = record { no_gap = λ later. same-key 3 (f.file - 1) (omega arith) (was.no_gap.no_gap later) };
-    creation = on-incarnation f.inc (IsCreatedOn f) was.creation;
+    creation = on-told incarnation_in (place 2 f.inc) (omega arith) (IsCreatedOn f) was.creation;
     blocks = was.blocks;
     room = record { blocks = let both = sum_by-append (blocks_to f.file) front rear in let none = no-blocks f.file in let low = was.room.blocks in omega arith };
   }
@@ -227,21 +217,21 @@ module _ (r : Repository) (is : IsRepository r) where
     size = was.size;
     thread = was.thread;
     sequence = was.sequence;
-    range = on-incarnation e.inc (IsRange e) was.range;
+    range = on-told incarnation_in (place 2 e.inc) (omega arith) (IsRange e) was.range;
   }
   lifted (kind.Piece p) has was = record {
     id = record { number = was.id.number; below = was.id.below; not_second = no-key 4 p.id (omega arith) was.id.not_second; not_third = no-part-of_piece p (piece-in r p is (Contains-append_left front rear (kind.Piece p) has)) };
     size = was.size;
-    end = on-incarnation p.inc (λ i. p.high ≤ i.end) was.end;
-    file = on-datafile p.file (FitsDatafile (records_of r) p) (piece-file p (datafile p.file front) was.file);
+    end = on-told incarnation_in (place 2 p.inc) (omega arith) (λ i. p.high ≤ i.end) was.end;
+    file = on-told datafile_in (place 3 p.file) (omega arith) (FitsDatafile (records_of r) p) (piece-file p (datafile p.file front) was.file);
     checkpoint = was.checkpoint;
     kind = was.kind;
     tag = was.tag;
   }
   lifted (kind.Mark m) has was = record {
     number = was.number;
-    before = λ later. on-mark (m.id - 1) (λ q. q.moment ≤ m.moment) (was.before later);
-    scn = on-incarnation m.inc (IsWithin m.scn) was.scn;
+    before = λ later. on-told mark_in (place 6 (m.id - 1)) (omega arith) (λ q. q.moment ≤ m.moment) (was.before later);
+    scn = on-told incarnation_in (place 2 m.inc) (omega arith) (IsWithin m.scn) was.scn;
     moment = was.moment;
   }
   lifted (kind.Part p) has was = let low = front-low (kind.Part p) has in absurd (omega arith)

@@ -1,17 +1,13 @@
-use Rattle.std.proofs.Common.{◌≡◌, ◌∙◌, ℕ, zero, suc, ◌+◌, ◌-◌, List, [], ◌∷◌, ◌++◌, Bool, Some, None, cond, ap, arith, drop, slice_get, sym}
+use Rattle.std.proofs.Common.{◌≡◌, ◌∙◌, ℕ, suc, ◌+◌, ◌-◌, List, [], ◌∷◌, ◌++◌, Bool, Some, None, cond, ap, arith, drop, slice_get, sym}
 use Rattle.std.proofs.lemmas.Bool.{ne_eqb}
 use Rattle.std.proofs.lemmas.List.{append_assoc}
-use Rattle.std.proofs.lemmas.Option.{same_Some}
+use Rattle.std.proofs.lemmas.Option.{get_or_from_slice_get, slice_get_within}
+use Rattle.std.proofs.Math.Seq.{drop-cons}
 use Rattle.rm_catalog.specs.declared.record.Record.{Record}
 use Rattle.rm_history.specs.declared.tree.Incarnation.{Incarnation}
 use Rattle.rm_history.specs.Tree.{incarnation}
 use Rattle.rm_ledger.specs.Ledger.{incarnation_record, numbered}
 use Rattle.rm_repository.proofs.telling.tell_incarnations.Goals as goal
-
-drop-at : (xs : List Incarnation) (k : ℕ) (x : Incarnation) → slice_get xs k ≡ Some x → drop k xs ≡ x ∷ drop (suc k) xs
-drop-at [] k x is = absurd cc
-drop-at (y ∷ ys) zero x is = ap (λ z. z ∷ ys) (same_Some y x is)
-drop-at (y ∷ ys) (suc k) x is = drop-at ys k x is
 
 -- what is told next
 told-next : (tree : List Incarnation) (k : ℕ) (n : Incarnation) → incarnation tree (k + 1) ≡ Some n → numbered incarnation_record (k + 1) (drop k tree) ≡ incarnation_record (k + 1) n ∷ numbered incarnation_record (k + 1 + 1) (drop (k + 1) tree)
@@ -20,7 +16,8 @@ told-next tree k n is =
     let place : (k + 1) - 1 ≡ k = omega arith in
     let next : suc k ≡ k + 1 = omega arith in
     let at : slice_get tree k ≡ Some n = sym (ap (λ (b : Bool). cond b None (slice_get tree ((k + 1) - 1))) ne ∙ ap (slice_get tree) place) ∙ is in
-    ap (numbered incarnation_record (k + 1)) (drop-at tree k n at) ∙ ap (λ (j : ℕ). incarnation_record (k + 1) n ∷ numbered incarnation_record (k + 1 + 1) (drop j tree)) next
+    let rest : drop k tree ≡ n ∷ drop (suc k) tree = drop-cons tree k n (slice_get_within tree k n at) ∙ ap (λ x. x ∷ drop (suc k) tree) (get_or_from_slice_get tree k n n at) in
+    ap (numbered incarnation_record (k + 1)) rest ∙ ap (λ (j : ℕ). incarnation_record (k + 1) n ∷ numbered incarnation_record (k + 1 + 1) (drop j tree)) next
 
 pub loop-k-preserved : goal.loop-k-preserved
 loop-k-preserved c =
