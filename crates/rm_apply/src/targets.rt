@@ -15,7 +15,7 @@ use rm_objects::datafile;
 use std::alloc::Global;
 
 /// A datafile, by its number and as it was created.
-#[derive(Clone, Copy, Debug, PartialEq, Eq)]
+#[derive(Clone, Copy)]
 pub(crate) struct TargetFile {
     pub number: FileNo,
     pub datafile: Datafile,
