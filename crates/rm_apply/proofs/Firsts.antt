@@ -1,11 +1,11 @@
 -- The first fault of all datafiles: each block of the datafiles before it is determined.
-use Rattle.std.proofs.Common.{◌≡◌, ◌<◌, ◌≤◌, ◌∙◌, inl, inr, ℕ, List, Option, Some, None, Contains, length, map, take, get_or, slice_get, sym, subst, arith}
+use Rattle.std.proofs.Common.{◌≡◌, ◌<◌, ◌≤◌, ◌∙◌, inl, inr, ℕ, List, Option, Some, None, IfNone, IfSome, Contains, length, map, take, get_or, slice_get, sym, subst, arith}
 use Rattle.std.proofs.lemmas.Bool.{cases_lt}
 use Rattle.std.proofs.lemmas.List.{get_or-take, length-take-le}
 use Rattle.std.proofs.lemmas.Option.{get_or_from_slice_get, slice_get_within}
 use Rattle.rm_history.specs.declared.world.World.{World}
 use Rattle.rm_known.specs.Evidence.{Evidence}
-use Rattle.rm_known.specs.FirstGap.{IsTarget}
+use Rattle.rm_known.specs.FirstGap.{IsFirstGap, IsRecoverable, IsTarget}
 use Rattle.rm_known.specs.Unknown.{IsUnknown}
 use Rattle.rm_plan.specs.declared.plan.Gap.{Gap}
 use Rattle.rm_plan.specs.declared.plan.PlanFault.{PlanFault}
@@ -16,7 +16,7 @@ use Rattle.rm_plan.proofs.Firsts.{first_of_all, gap_of_file}
 use Rattle.rm_apply.specs.declared.plans.Plan.{Plan}
 use Rattle.rm_apply.specs.Applying.{ArePlanned, applied}
 use Rattle.rm_apply.specs.Files.{AreExactly}
-use Rattle.rm_apply.specs.Told.{IsFaultOfAll}
+use Rattle.rm_apply.specs.Told.{IsFaultOfAll, IsGapOrNone}
 use Rattle.rm_apply.proofs.Rows.{applied-numbers, applied-told, member-determined}
 
 -- in a list that ascends, a lower number than that of a place stands before the place
@@ -55,3 +55,10 @@ module _ (w : World) (e : Evidence) (i s : ℕ) (ns : List ℕ) (exact : AreExac
         unknown = subst (λ f. IsUnknown w e i s f x.block x.inc x.scn) same names.names.unknown;
       }
   first-fault planned.NoMemory target names = tt
+
+-- what a planner finds of all datafiles
+pub gap_or_none : (w : World) (e : Evidence) (i s : ℕ) (o : Option Gap)
+    → IfNone o (IsRecoverable w e i s) → IfSome o (λ x. IsFirstGap w e i s x.file x.block x.inc x.scn) → IfSome o (λ x. IsUnknown w e i s x.file x.block x.inc x.scn)
+    → IsGapOrNone w e i s o
+gap_or_none w e i s None none first unknown = none
+gap_or_none w e i s (Some x) none first unknown = record { first = first; unknown = unknown }

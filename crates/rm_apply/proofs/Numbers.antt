@@ -16,6 +16,17 @@ use Rattle.rm_plan.specs.Plan.{IsFileTarget}
 use Rattle.rm_apply.specs.declared.targets.TargetFile.{TargetFile}
 use Rattle.rm_apply.specs.Files.{AreExactly, IsWanted}
 
+abbrev pub number : TargetFile → ℕ
+number t = t.number
+
+-- what stands past the end of a list
+abbrev pub no_file : TargetFile
+no_file = record { number = 0; datafile = record { inc = 0; creation = 0; blocks = 0 } }
+
+-- the numbers of the first k + 1 datafiles
+pub numbers_more : (ts : List TargetFile) (k : ℕ) → k < length ts → map number (take (k + 1) ts) ≡ map number (take k ts) ++ (get_or ts k no_file).number ∷ []
+numbers_more ts k inside = ap (λ (xs : List TargetFile). map number xs) (take_more ts k no_file inside) ∙ map-append number (take k ts) (get_or ts k no_file ∷ [])
+
 -- a number below n that is wanted
 abbrev pub Below : (ℕ → Type 0) → ℕ → ℕ → Type 0
 Below W n f = (f < n) × W f
@@ -72,13 +83,12 @@ module _ (w : World) (i s : ℕ) where
       absurd (cc)
 
   -- where none is named, all that exist are wanted
-  pub unnamed : (ns : List ℕ) → AreExactly (IsWanted w i s None) ns → AreExactly (IsFileTarget w i s) ns
-  unnamed ns are = record { ascends = are.ascends; exact = λ f. ((λ has. ((are.exact f).0 has).0), (λ target. (are.exact f).1 (target, tt))) }
+  pub unnamed : (ts us : List TargetFile) → us ≡ ts → AreExactly (IsWanted w i s None) (map number ts) → AreExactly (IsFileTarget w i s) (map number us)
+  unnamed ts us same are = subst (λ xs. AreExactly (IsFileTarget w i s) (map number xs)) (sym same) (record {
+    ascends = are.ascends;
+    exact = λ f. ((λ has. ((are.exact f).0 has).0), (λ target. (are.exact f).1 (target, tt)));
+  })
 
 -- none has a greater number than 64
 pub wanted_below : (rs : List Record) (i s n : ℕ) (only : Option ℕ) → IsCatalog rs → 64 < n → (f : ℕ) → IsWanted (world_of rs) i s only f → f < n
 wanted_below rs i s n only catalog past f wanted = let most = (file_number rs f wanted.0.datafile catalog wanted.0.is).1 in omega (arith, most, past)
-
--- the numbers of the first k + 1 datafiles
-pub numbers_more : (ts : List TargetFile) (k : ℕ) (d : TargetFile) → k < length ts → map (λ (t : TargetFile). t.number) (take (k + 1) ts) ≡ map (λ (t : TargetFile). t.number) (take k ts) ++ (get_or ts k d).number ∷ []
-numbers_more ts k d inside = ap (λ (xs : List TargetFile). map (λ (t : TargetFile). t.number) xs) (take_more ts k d inside) ∙ map-append (λ (t : TargetFile). t.number) (take k ts) (get_or ts k d ∷ [])

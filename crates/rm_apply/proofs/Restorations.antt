@@ -1,5 +1,5 @@
 -- Datafiles that are restored, one after the other.
-use Rattle.std.proofs.Common.{◌≡◌, ◌≢◌, ◌<◌, ◌∙◌, ℕ, List, [], ◌∷◌, ◌++◌, Option, Some, None, Contains, map, slice_get, refl, sym, ap, subst, arith}
+use Rattle.std.proofs.Common.{◌≡◌, ◌≢◌, ◌<◌, ◌+◌, ◌∙◌, ℕ, List, [], ◌∷◌, ◌++◌, Option, Some, None, Contains, get_or, length, map, slice_get, take, refl, sym, ap, subst, arith}
 use Rattle.std.specs.Prelude.{IsSomeAnd}
 use Rattle.std.specs.Option.{option_map}
 use Rattle.std.proofs.lemmas.List.{map-append}
@@ -27,13 +27,11 @@ use Rattle.rm_objects.proofs.Found.{datafile-rule, datafile-there, incarnation-r
 use Rattle.rm_piece.specs.declared.piece.Piece.{Piece}
 use Rattle.rm_piece.proofs.Whole.{placed}
 use Rattle.rm_apply.specs.declared.origin.Origin.{Origin}
+use Rattle.rm_apply.specs.declared.targets.TargetFile.{TargetFile}
 use Rattle.rm_apply.specs.Restore.{AreRestored, IsBackupFor, IsRestoration, Restoration, file_by, origin_by, origin_of, restored}
+use Rattle.rm_apply.proofs.Numbers.{no_file, number, numbers_more}
 
 module _ (w : World) (bases : List (ℕ × Piece)) (i s : ℕ) where
-  -- none yet
-  pub none_restored : (files : List File) (origins : List Origin) → files ≡ [] → origins ≡ [] → AreRestored w bases i s [] files origins
-  none_restored files origins no_files no_origins = record { restorations = []; numbers = refl; each = All-nil (IsRestoration w bases i s); are = no_files; from = no_origins }
-
   -- one of a number
   pub one_restored : (f : ℕ) (d : Datafile) (o : Option (ℕ × Piece)) → file_of w f ≡ Some d → IsBackupFor w.tree bases i s f o → AreRestored w bases i s (f ∷ []) (file_by f d o ∷ []) (origin_by o ∷ [])
   one_restored f d o is chosen =
@@ -46,15 +44,24 @@ module _ (w : World) (bases : List (ℕ × Piece)) (i s : ℕ) where
         from = refl;
       }
 
-  -- some, and then some more
-  pub restored_then : (ns ms : List ℕ) (xs ys : List File) (os ps : List Origin) → AreRestored w bases i s ns xs os → AreRestored w bases i s ms ys ps → AreRestored w bases i s (ns ++ ms) (xs ++ ys) (os ++ ps)
-  restored_then ns ms xs ys os ps a b = record {
-    restorations = a.restorations ++ b.restorations;
-    numbers = map-append (λ (r : Restoration). r.number) a.restorations b.restorations ∙ ap (λ zs. zs ++ map (λ (r : Restoration). r.number) b.restorations) a.numbers ∙ ap (λ zs. ns ++ zs) b.numbers;
-    each = All-append (IsRestoration w bases i s) a.restorations b.restorations a.each b.each;
-    are = ap (λ zs. zs ++ ys) a.are ∙ ap (λ zs. map restored a.restorations ++ zs) b.are ∙ sym (map-append restored a.restorations b.restorations);
-    from = ap (λ zs. zs ++ ps) a.from ∙ ap (λ zs. map origin_of a.restorations ++ zs) b.from ∙ sym (map-append origin_of a.restorations b.restorations);
-  }
+  -- that of the next datafile comes to those before it
+  pub next_restored : (ts : List TargetFile) (k : ℕ) (xs ys new : List File) (os ps next : List Origin)
+      → k < length ts → new ≡ xs ++ ys → next ≡ os ++ ps
+      → AreRestored w bases i s (map number (take k ts)) xs os → AreRestored w bases i s ((get_or ts k no_file).number ∷ []) ys ps
+      → AreRestored w bases i s (map number (take (k + 1) ts)) new next
+  next_restored ts k xs ys new os ps next inside files origins a b =
+      let of : Restoration → ℕ = λ r. r.number in
+      record {
+        restorations = a.restorations ++ b.restorations;
+        numbers = map-append of a.restorations b.restorations ∙ ap (λ ns. ns ++ map of b.restorations) a.numbers ∙ ap (λ ns. map number (take k ts) ++ ns) b.numbers ∙ sym (numbers_more ts k inside);
+        each = All-append (IsRestoration w bases i s) a.restorations b.restorations a.each b.each;
+        are = files ∙ ap (λ zs. zs ++ ys) a.are ∙ ap (λ zs. map restored a.restorations ++ zs) b.are ∙ sym (map-append restored a.restorations b.restorations);
+        from = origins ∙ ap (λ zs. zs ++ ps) a.from ∙ ap (λ zs. map origin_of a.restorations ++ zs) b.from ∙ sym (map-append origin_of a.restorations b.restorations);
+      }
+
+-- the choice is that of an equal tree among equal bases
+pub same_choice : (tree same : List Incarnation) (bases all : List (ℕ × Piece)) (i s f : ℕ) (o : Option (ℕ × Piece)) → tree ≡ same → bases ≡ all → IsBackupFor tree bases i s f o → IsBackupFor same all i s f o
+same_choice tree same bases all i s f o one other is = subst (λ (xs : List (ℕ × Piece)). IsBackupFor same xs i s f o) other (subst (λ (ns : List Incarnation). IsBackupFor ns bases i s f o) one is)
 
 -- each row of a backup stands at the place of its block
 pub base_in_order : (tree : List Incarnation) (e : Evidence) (x : ℕ × Piece) → FitsTree tree e → Contains e.bases x → IsInOrder x.1.rows

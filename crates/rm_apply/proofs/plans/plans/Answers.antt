@@ -11,14 +11,8 @@ use Rattle.rm_apply.specs.declared.targets.TargetFile.{TargetFile}
 use Rattle.rm_apply.specs.Applying.{ArePlanned, IsPlanned}
 use Rattle.rm_apply.specs.Told.{IsFaultOfAll}
 use Rattle.rm_apply.proofs.Firsts.{first-fault}
-use Rattle.rm_apply.proofs.Numbers.{numbers_more}
+use Rattle.rm_apply.proofs.Numbers.{no_file, number, numbers_more}
 use Rattle.rm_apply.proofs.plans.plans.Goals as goal
-
-abbrev any : TargetFile
-any = record { number = 0; datafile = record { inc = 0; creation = 0; blocks = 0 } }
-
-abbrev number : TargetFile → ℕ
-number x = x.number
 
 pub returns-in_err-file_plan-clause-gap : goal.returns-in_err-file_plan-clause-gap
 returns-in_err-file_plan-clause-gap c =
@@ -28,10 +22,10 @@ returns-in_err-file_plan-clause-gap c =
     let ts = c.args.targets.now in
     let inside = c.loop-target-test.true in
     let x = c.in_err-file_plan.field-0.0 in
-    let is : slice_get (map number ts) k ≡ Some (get_or ts k any).number = slice_get-map number ts k ∙ ap (option_map number) (slice_get-get_or ts k any inside) in
+    let is : slice_get (map number ts) k ≡ Some (get_or ts k no_file).number = slice_get-map number ts k ∙ ap (option_map number) (slice_get-get_or ts k no_file inside) in
     let are = subst (λ ns. ArePlanned w e c.args.i c.args.s ns c.loop-target.plans) (sym (take-map number k ts)) c.loop-target.invariant in
     handed_on c.from_residual.result x c.from_residual.ensures.1 (IsFaultOfAll w e c.args.i c.args.s)
-    (first-fault w e c.args.i c.args.s (map number ts) c.requires.numbers k (get_or ts k any).number is c.loop-target.plans are x (c.requires.each k any inside).1 c.in_err-file_plan.ensures.gap)
+    (first-fault w e c.args.i c.args.s (map number ts) c.requires.numbers k (get_or ts k no_file).number is c.loop-target.plans are x (c.requires.each k no_file inside).1 c.in_err-file_plan.ensures.gap)
 
 pub loop-target-preserved : goal.loop-target-preserved
 loop-target-preserved c =
@@ -50,6 +44,6 @@ loop-target-preserved c =
           ∙ map-append of_plan old (p ∷ [])
           ∙ ap (λ (ns : List ℕ). ns ++ p.number ∷ []) c.loop-target.invariant.numbers
           ∙ ap (λ n. map number (take k ts) ++ n ∷ []) c.in_ok-file_plan.ensures.number
-          ∙ sym (numbers_more ts k any c.loop-target-test.true);
+          ∙ sym (numbers_more ts k c.loop-target-test.true);
       each = All-same (IsPlanned w e c.args.i c.args.s) new (old ++ p ∷ []) is (All-push (IsPlanned w e c.args.i c.args.s) old p c.loop-target.invariant.each c.in_ok-file_plan.ensures.planned);
     }

@@ -5,12 +5,9 @@ use Rattle.rm_objects.specs.Database.{world_of}
 use Rattle.rm_history.specs.declared.world.Datafile.{Datafile}
 use Rattle.rm_apply.specs.declared.targets.TargetFile.{TargetFile}
 use Rattle.rm_apply.specs.Files.{AreExactly, IsTargetFile, IsWanted}
-use Rattle.rm_apply.proofs.Numbers.{Below, all_numbers, one_more, one_past, wanted_below}
+use Rattle.rm_apply.proofs.Numbers.{Below, all_numbers, number, one_more, one_past, wanted_below}
 use Rattle.rm_apply.proofs.targets.targets.Goals as goal
 use Rattle.rm_apply.proofs.targets.targets.Goals.{in-Some+in_ok-push, in_default}
-
-abbrev number : TargetFile → ℕ
-number x = x.number
 
 pub loop-number-preserved : goal.loop-number-preserved
 loop-number-preserved c =
