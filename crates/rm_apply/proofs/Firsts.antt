@@ -1,11 +1,11 @@
 -- The first fault of all datafiles: each block of the datafiles before it is determined.
-use Rattle.std.proofs.Common.{◌≡◌, ◌<◌, ◌≤◌, ◌∙◌, inl, inr, ℕ, List, Option, Some, None, IfNone, IfSome, Contains, length, map, take, get_or, slice_get, sym, subst, arith}
+use Rattle.std.proofs.Common.{◌≡◌, ◌<◌, ◌∙◌, inl, inr, ℕ, List, Option, Some, None, IfNone, IfSome, Contains, map, take, get_or, slice_get, sym, subst, arith}
 use Rattle.std.proofs.lemmas.Bool.{cases_lt}
 use Rattle.std.proofs.lemmas.List.{get_or-take, length-take-le}
 use Rattle.std.proofs.lemmas.Option.{get_or_from_slice_get, slice_get_within}
 use Rattle.rm_history.specs.declared.world.World.{World}
 use Rattle.rm_known.specs.Evidence.{Evidence}
-use Rattle.rm_known.specs.FirstGap.{IsFirstGap, IsRecoverable, IsTarget}
+use Rattle.rm_known.specs.FirstGap.{IsFirstGap, IsRecoverable}
 use Rattle.rm_known.specs.Unknown.{IsUnknown}
 use Rattle.rm_plan.specs.declared.plan.Gap.{Gap}
 use Rattle.rm_plan.specs.declared.plan.PlanFault.{PlanFault}

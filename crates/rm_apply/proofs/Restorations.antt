@@ -1,5 +1,5 @@
 -- Datafiles that are restored, one after the other.
-use Rattle.std.proofs.Common.{◌≡◌, ◌≢◌, ◌<◌, ◌+◌, ◌∙◌, ℕ, List, [], ◌∷◌, ◌++◌, Option, Some, None, Contains, get_or, length, map, slice_get, take, refl, sym, ap, subst, arith}
+use Rattle.std.proofs.Common.{◌≡◌, ◌≢◌, ◌<◌, ◌≤◌, ◌+◌, ◌∙◌, ℕ, List, [], ◌∷◌, ◌++◌, Option, Some, None, Contains, get_or, length, map, take, refl, sym, ap, subst, arith}
 use Rattle.std.specs.Prelude.{IsSomeAnd}
 use Rattle.std.specs.Option.{option_map}
 use Rattle.std.proofs.lemmas.List.{map-append}
@@ -14,7 +14,7 @@ use Rattle.rm_catalog.specs.declared.record.IncarnationEntry.{IncarnationEntry}
 use Rattle.rm_catalog.specs.declared.record.Record.{Record}
 use Rattle.rm_catalog.specs.Facts.{IsCreatedOn}
 use Rattle.rm_catalog.specs.Keys.{datafile, incarnation}
-use Rattle.rm_catalog.specs.Rules.{IsCatalog}
+use Rattle.rm_catalog.specs.Rules.{HasDatabase, IsCatalog}
 use Rattle.rm_evidence.specs.declared.evidence.Evidence.{Evidence}
 use Rattle.rm_evidence.specs.Known.{FitsPiece, FitsTree}
 use Rattle.rm_history.specs.declared.tree.Incarnation.{Incarnation}
@@ -24,6 +24,7 @@ use Rattle.rm_history.specs.World.{file_of}
 use Rattle.rm_objects.specs.Database.{created_by, world_of}
 use Rattle.rm_objects.proofs.Files.{file_of-is}
 use Rattle.rm_objects.proofs.Found.{datafile-rule, datafile-there, incarnation-rule}
+use Rattle.rm_objects.proofs.Worlds.{is-sound}
 use Rattle.rm_piece.specs.declared.piece.Piece.{Piece}
 use Rattle.rm_piece.proofs.Whole.{placed}
 use Rattle.rm_apply.specs.declared.origin.Origin.{Origin}
@@ -84,3 +85,7 @@ created_below rs f d catalog is = by (datafile f rs) refl (sym (file_of-is rs f 
         let there = datafile-there rs f entry catalog e in
         let same : created_by entry ≡ d = cc in
         subst (λ (z : Datafile). z.creation < last_scn) same (below_end rs entry (incarnation entry.inc rs) catalog refl (datafile-rule rs entry catalog there.0).creation)
+
+-- and with as many blocks as a datafile may have
+pub created_with : (rs : List Record) (f : ℕ) (d : Datafile) → IsCatalog rs → HasDatabase rs → file_of (world_of rs) f ≡ Some d → (1 ≤ d.blocks) × (d.blocks ≤ 65536)
+created_with rs f d catalog database is = ((is-sound rs catalog database).files f d is).blocks

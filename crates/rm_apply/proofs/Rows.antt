@@ -1,5 +1,5 @@
 -- The parts of a plan, as the rows of a datafile that is told.
-use Rattle.std.proofs.Common.{◌≡◌, ◌∙◌, ℕ, zero, suc, List, [], ◌∷◌, Option, Some, Contains, length, map, slice_get, get_or, refl, sym, ap, subst, arith}
+use Rattle.std.proofs.Common.{◌≡◌, ◌∙◌, ℕ, zero, suc, List, [], ◌∷◌, Option, Some, Contains, map, slice_get, get_or, refl, sym, ap, subst, arith}
 use Rattle.std.specs.Option.{option_map_or}
 use Rattle.std.proofs.lemmas.List.{length-map}
 use Rattle.std.proofs.lemmas.List.Elements.{All-contains, All-map, All-weaker}
@@ -15,7 +15,7 @@ use Rattle.rm_history.specs.declared.world.Datafile.{Datafile}
 use Rattle.rm_history.specs.declared.world.World.{World}
 use Rattle.rm_history.specs.World.{blocks_of}
 use Rattle.rm_known.specs.Evidence.{Evidence}
-use Rattle.rm_known.specs.FirstGap.{IsDetermined, IsRecoverable}
+use Rattle.rm_known.specs.FirstGap.{IsRecoverable}
 use Rattle.rm_known.specs.Known.{Determined}
 use Rattle.rm_plan.specs.FirstGap.{FileDetermined}
 use Rattle.rm_plan.specs.Plan.{AreParts, IsFileTarget}

@@ -61,12 +61,7 @@ fn apply(plan: Plan, i: IncNo, s: Scn) -> DataFile
 }
 
 /// The datafiles at (i, s), in the order of their plans. They come into `files`, where there is room.
-pub(crate) fn apply_all(
-    plans: Vec<Plan>,
-    files: Vec<DataFile>,
-    i: IncNo,
-    s: Scn,
-) -> Vec<DataFile>
+pub(crate) fn apply_all(plans: Vec<Plan>, files: Vec<DataFile>, i: IncNo, s: Scn) -> Vec<DataFile>
     requires ready { All IsReady plans.items }
     requires empty { files.items ≡ [] }
     requires room { vec_len files + length plans.items ≤ vec_capacity files }

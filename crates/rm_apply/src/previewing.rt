@@ -28,7 +28,13 @@ fn origin(evidence: &Evidence, catalog: &Catalog, i: IncNo, s: Scn, target: Targ
     requires target { IsTargetFile (world_of catalog.now) i s target }
     ensures { AreOrigins (world_of catalog.now) evidence.now.bases i s (target.number ∷ []) (result ∷ []) }
 {
-    match choose(catalog.tree(), evidence.bases.as_slice(), i, s, target.number) {
+    match choose(
+        catalog.tree(),
+        evidence.bases.as_slice(),
+        i,
+        s,
+        target.number,
+    ) {
         Some((id, piece)) => Origin::Backup(*id, piece.checkpoint),
         None => Origin::Created,
     }

@@ -1,5 +1,5 @@
 //! Restores, from backups or else as datafiles were created.
-ghost use Rattle.std.specs.Prelude.{◌≡◌, ◌≤◌, ◌∷◌, [], All, IfErr, IfOk, IfSome, IsErrOf, map};
+ghost use Rattle.std.specs.Prelude.{◌≡◌, ◌≤◌, ◌∷◌, [], All, IfErr, IfOk, IsErrOf, map};
 ghost use Rattle.rm_base.specs.Outside.{Rose};
 ghost use Rattle.rm_blocks.specs.File.{IsInOrder};
 ghost use Rattle.rm_catalog.specs.Rules.{HasDatabase};
@@ -8,7 +8,6 @@ ghost use Rattle.rm_evidence.specs.Known.{FitsTree};
 ghost use Rattle.rm_evidence.specs.Place.{FitsPlace};
 ghost use Rattle.rm_history.specs.Tree.{IsThere};
 ghost use Rattle.rm_objects.specs.Database.{world_of};
-ghost use Rattle.rm_plan.specs.Plan.{IsFileTarget};
 ghost use Rattle.rm_apply.specs.Files.{IsTargetFile};
 ghost use Rattle.rm_apply.specs.Recover.{IfGap, outside, until_of};
 ghost use Rattle.rm_apply.specs.Restore.{AreRestored, Restores, backed_up};
@@ -58,7 +57,13 @@ fn restore_file(
             Origin::Backup(*id, piece.checkpoint),
         )),
         None => Ok((
-            DataFile::empty(alloc, number, datafile.inc, datafile.creation, datafile.blocks)?,
+            DataFile::empty(
+                alloc,
+                number,
+                datafile.inc,
+                datafile.creation,
+                datafile.blocks,
+            )?,
             Origin::Created,
         )),
     }
@@ -88,9 +93,10 @@ fn restore_files(
     Ok((files, origins))
 }
 
-/// The datafiles that exist at SCN `s` on the path of incarnation `i`, or the one that is named, each from
-/// its available backup on that path of the greatest checkpoint up to `s`, ties by the greatest id, or else
-/// as it was created; and these origins, in the same order. `Until` where `s` lies outside the incarnation.
+/// The datafiles that exist at SCN `s` on the path of incarnation `i`, or of these the one that is named, each
+/// from its available backup on that path of the greatest checkpoint up to `s`, ties by the greatest id, or
+/// else as it was created; and these origins, in the same order. `Until` where `s` lies outside the
+/// incarnation.
 pub fn restore<D: Store>(
     alloc: Global,
     catalog: &Catalog,
@@ -103,7 +109,6 @@ pub fn restore<D: Store>(
     requires database { HasDatabase catalog.now }
     requires place { FitsPlace catalog.now place.now }
     requires there { IsThere (nodes catalog.now) i }
-    requires named { IfSome file (IsFileTarget (world_of catalog.now) i s) }
     ensures until { until_of result ≡ outside (nodes catalog.now) i s }
     ensures restored { IfOk result (λ x. Restores (D.held store.old) catalog.now place.now i s file x.0 x.1) }
     ensures no_gap { IfErr result (λ x. IfGap x (λ _. ⊥)) }

@@ -1,4 +1,4 @@
-use Rattle.std.proofs.Common.{◌≡◌, ◌∙◌, rules, arith, subst, sym}
+use Rattle.std.proofs.Common.{arith}
 use Rattle.rm_evidence.specs.Known.{known_of}
 use Rattle.rm_objects.specs.Database.{world_of}
 use Rattle.rm_apply.proofs.Rows.{rows-in-order}

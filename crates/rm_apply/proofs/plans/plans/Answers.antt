@@ -1,4 +1,4 @@
-use Rattle.std.proofs.Common.{◌≡◌, ◌∙◌, ◌+◌, ◌∷◌, ◌++◌, [], ℕ, List, Some, get_or, map, slice_get, take, sym, ap, subst}
+use Rattle.std.proofs.Common.{◌≡◌, ◌∙◌, ◌∷◌, ◌++◌, [], ℕ, List, Some, get_or, map, slice_get, take, sym, ap, subst}
 use Rattle.std.specs.Option.{option_map}
 use Rattle.std.proofs.lemmas.List.{map-append, take-map}
 use Rattle.std.proofs.lemmas.List.Elements.{All-push, All-same}
@@ -7,7 +7,6 @@ use Rattle.rm_evidence.specs.Known.{known_of}
 use Rattle.rm_objects.specs.Database.{world_of}
 use Rattle.rm_plan.proofs.Faults.{handed_on}
 use Rattle.rm_apply.specs.declared.plans.Plan.{Plan}
-use Rattle.rm_apply.specs.declared.targets.TargetFile.{TargetFile}
 use Rattle.rm_apply.specs.Applying.{ArePlanned, IsPlanned}
 use Rattle.rm_apply.specs.Told.{IsFaultOfAll}
 use Rattle.rm_apply.proofs.Firsts.{first-fault}

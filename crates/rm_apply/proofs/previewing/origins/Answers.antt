@@ -9,6 +9,6 @@ loop-target-preserved c =
     let one = c.origin.ensures in (
       was.0 ++ one.0,
       next_restored (world_of c.args.catalog.now) c.args.evidence.now.bases c.args.i c.args.s c.args.targets.now c.loop-target.target-index
-      was.0 one.0 (was.0 ++ one.0) c.loop-target.origins (c.origin.result ∷ []) c.push.new.self
-      c.loop-target-test.true refl c.in_ok-push.ensures.ok was.1 one.1,
+          was.0 one.0 (was.0 ++ one.0) c.loop-target.origins (c.origin.result ∷ []) c.push.new.self
+          c.loop-target-test.true refl c.in_ok-push.ensures.ok was.1 one.1,
     )

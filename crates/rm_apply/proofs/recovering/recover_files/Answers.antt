@@ -20,4 +20,4 @@ returns-clause-files c =
     let is : c.from_vec.result ≡ map (applied c.args.i c.args.s) plans = c.from_vec.ensures ∙ c.apply_all.ensures ∙ ap (λ (ps : List Plan). map (applied c.args.i c.args.s) ps) c.into_vec.ensures in
     subst (λ (files : List File). AreFilesAt w e c.args.i c.args.s files) (sym is)
     (files-at w e c.args.i c.args.s (map number c.as_slice.result.now) plans c.in_ok-plans.ensures.plans
-        (unnamed w c.args.i c.args.s c.in_ok-targets.targets c.as_slice.result.now c.as_slice.ensures c.in_ok-targets.ensures.numbers))
+    (unnamed w c.args.i c.args.s c.in_ok-targets.targets c.as_slice.result.now c.as_slice.ensures c.in_ok-targets.ensures.numbers))

@@ -1,12 +1,10 @@
-use Rattle.std.proofs.Common.{◌≡◌, ◌∷◌, [], ℕ, List, Some, None, Contains, sym, subst}
+use Rattle.std.proofs.Common.{◌∷◌, [], ℕ, List, Some, None, Contains, sym, subst}
 use Rattle.rm_blocks.specs.File.{File}
 use Rattle.rm_catalog.specs.Trees.{nodes}
-use Rattle.rm_history.specs.declared.tree.Incarnation.{Incarnation}
 use Rattle.rm_objects.specs.Database.{world_of}
-use Rattle.rm_objects.proofs.Worlds.{is-sound}
 use Rattle.rm_piece.specs.declared.piece.Piece.{Piece}
-use Rattle.rm_apply.specs.Restore.{AreRestored, IsBackupFor, origin_by}
-use Rattle.rm_apply.proofs.Restorations.{base_in_order, created_below, one_restored, same_choice}
+use Rattle.rm_apply.specs.Restore.{AreRestored, origin_by}
+use Rattle.rm_apply.proofs.Restorations.{base_in_order, created_below, created_with, one_restored, same_choice}
 use Rattle.rm_apply.proofs.restoring.restore_file.Goals as goal
 
 pub backed_up-requires : goal.backed_up-requires
@@ -18,7 +16,7 @@ pub empty-requires-clause-creation : goal.empty-requires-clause-creation
 empty-requires-clause-creation c = created_below c.args.catalog.now c.args.target.number c.args.target.datafile c.records.ensures.catalog c.requires.target.0
 
 pub empty-requires-clause-blocks : goal.empty-requires-clause-blocks
-empty-requires-clause-blocks c = ((is-sound c.args.catalog.now c.records.ensures.catalog c.requires.database).files c.args.target.number c.args.target.datafile c.requires.target.0).blocks
+empty-requires-clause-blocks c = created_with c.args.catalog.now c.args.target.number c.args.target.datafile c.records.ensures.catalog c.requires.database c.requires.target.0
 
 pub returns-in_ok-backed_up-in-Some : goal.returns-in_ok-backed_up-in-Some
 returns-in_ok-backed_up-in-Some c =
