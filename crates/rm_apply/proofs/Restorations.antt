@@ -1,5 +1,5 @@
 -- Datafiles that are restored, one after the other.
-use Rattle.std.proofs.Common.{◌≡◌, ◌≢◌, ◌<◌, ◌≤◌, ◌+◌, ◌∙◌, ℕ, List, [], ◌∷◌, ◌++◌, Option, Some, None, Contains, get_or, length, map, take, refl, sym, ap, subst, arith}
+use Rattle.std.proofs.Common.{◌≡◌, ◌≢◌, ◌<◌, ◌≤◌, ◌+◌, ◌∙◌, ℕ, List, [], ◌∷◌, ◌++◌, Option, Some, None, IfSome, get_or, length, map, take, refl, sym, ap, subst, arith}
 use Rattle.std.specs.Prelude.{IsSomeAnd}
 use Rattle.std.specs.Option.{option_map}
 use Rattle.std.proofs.lemmas.List.{map-append}
@@ -64,11 +64,12 @@ module _ (w : World) (bases : List (ℕ × Piece)) (i s : ℕ) where
 pub same_choice : (tree same : List Incarnation) (bases all : List (ℕ × Piece)) (i s f : ℕ) (o : Option (ℕ × Piece)) → tree ≡ same → bases ≡ all → IsBackupFor tree bases i s f o → IsBackupFor same all i s f o
 same_choice tree same bases all i s f o one other is = subst (λ (xs : List (ℕ × Piece)). IsBackupFor same xs i s f o) other (subst (λ (ns : List Incarnation). IsBackupFor ns bases i s f o) one is)
 
--- each row of a backup stands at the place of its block
-pub base_in_order : (tree : List Incarnation) (e : Evidence) (x : ℕ × Piece) → FitsTree tree e → Contains e.bases x → IsInOrder x.1.rows
-base_in_order tree e x fits has k r is =
-    let valid = (All-contains (λ (y : ℕ × Piece). FitsPiece tree y.1) e.bases x fits.bases has).valid in
-    let other : x.1.kind ≢ Level1 = All-contains (λ (y : ℕ × Piece). y.1.kind ≢ Level1) e.bases x fits.no_level1 has in
+-- each row of the backup that is chosen stands at the place of its block
+pub chosen_in_order : (tree : List Incarnation) (e : Evidence) (i s f : ℕ) (o : Option (ℕ × Piece)) → FitsTree tree e → IsBackupFor tree e.bases i s f o → IfSome o (λ x. IsInOrder x.1.rows)
+chosen_in_order tree e i s f None fits chosen = tt
+chosen_in_order tree e i s f (Some x) fits chosen = λ k r is.
+    let valid = (All-contains (λ (y : ℕ × Piece). FitsPiece tree y.1) e.bases x fits.bases chosen.held).valid in
+    let other : x.1.kind ≢ Level1 = All-contains (λ (y : ℕ × Piece). y.1.kind ≢ Level1) e.bases x fits.no_level1 chosen.held in
     ap (λ (z : Row). z.block) (sym (get_or_from_slice_get x.1.rows k r r is)) ∙ placed x.1 valid other k r (slice_get_within x.1.rows k r is)
 
 below_end : (rs : List Record) (f : DatafileEntry) (o : Option IncarnationEntry) → IsCatalog rs → incarnation f.inc rs ≡ o → IsSomeAnd o (IsCreatedOn f) → f.creation < last_scn

@@ -1,9 +1,10 @@
-//! The backup from which a datafile is restored.
+//! The backup from which a datafile is restored, and its origin.
 ghost use Rattle.std.specs.Prelude.{◌≡◌, ◌↔◌, IsTrue};
 ghost use Rattle.std.specs.Option.{option_copied};
 ghost use Rattle.rm_history.specs.Tree.{IsThere};
-ghost use Rattle.rm_apply.specs.Restore.{ComesFirst, IsBackupFor, MayRestore};
+ghost use Rattle.rm_apply.specs.Restore.{ComesFirst, IsBackupFor, MayRestore, origin_by};
 
+use crate::origin::Origin;
 use rm_base::{FileNo, IncNo, Scn};
 use rm_history::Tree;
 use rm_piece::Piece;
@@ -48,4 +49,14 @@ pub(crate) fn choose<'a>(
         }
     }
     best
+}
+
+/// From where the datafile is restored.
+pub(crate) fn origin_by(backup: Option<&(u32, Piece)>) -> Origin
+    ensures { result ≡ origin_by (option_copied backup.entry) }
+{
+    match backup {
+        Some((id, piece)) => Origin::Backup(*id, piece.checkpoint),
+        None => Origin::Created,
+    }
 }

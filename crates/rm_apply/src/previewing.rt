@@ -10,7 +10,7 @@ ghost use Rattle.rm_apply.specs.Files.{IsTargetFile};
 ghost use Rattle.rm_apply.specs.Preview.{AreOrigins, Previews};
 ghost use Rattle.rm_apply.specs.Recover.{IfGap, outside, until_of};
 
-use crate::choice::choose;
+use crate::choice::{choose, origin_by};
 use crate::fault::RecoverFault;
 use crate::origin::Origin;
 use crate::range::outside;
@@ -28,16 +28,9 @@ fn origin(evidence: &Evidence, catalog: &Catalog, i: IncNo, s: Scn, target: Targ
     requires target { IsTargetFile (world_of catalog.now) i s target }
     ensures { AreOrigins (world_of catalog.now) evidence.now.bases i s (target.number ∷ []) (result ∷ []) }
 {
-    match choose(
-        catalog.tree(),
-        evidence.bases.as_slice(),
-        i,
-        s,
-        target.number,
-    ) {
-        Some((id, piece)) => Origin::Backup(*id, piece.checkpoint),
-        None => Origin::Created,
-    }
+    let bases = evidence.bases.as_slice();
+    let backup = choose(catalog.tree(), bases, i, s, target.number);
+    origin_by(backup)
 }
 
 // The origins of the datafiles, in order.

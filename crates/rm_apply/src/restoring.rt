@@ -1,5 +1,7 @@
 //! Restores, from backups or else as datafiles were created.
-ghost use Rattle.std.specs.Prelude.{◌≡◌, ◌≤◌, ◌∷◌, [], All, IfErr, IfOk, IsErrOf, map};
+ghost use Rattle.std.specs.Prelude.{◌≡◌, ◌<◌, ◌≤◌, ◌∷◌, [], All, IfErr, IfOk, IfSome, IsErrOf, map};
+ghost use Rattle.std.specs.Option.{option_copied};
+ghost use Rattle.rm_base.specs.Numbers.{last_scn};
 ghost use Rattle.rm_base.specs.Outside.{Rose};
 ghost use Rattle.rm_blocks.specs.File.{IsInOrder};
 ghost use Rattle.rm_catalog.specs.Rules.{HasDatabase};
@@ -10,9 +12,9 @@ ghost use Rattle.rm_history.specs.Tree.{IsThere};
 ghost use Rattle.rm_objects.specs.Database.{world_of};
 ghost use Rattle.rm_apply.specs.Files.{IsTargetFile};
 ghost use Rattle.rm_apply.specs.Recover.{IfGap, outside, until_of};
-ghost use Rattle.rm_apply.specs.Restore.{AreRestored, Restores, backed_up};
+ghost use Rattle.rm_apply.specs.Restore.{AreRestored, Restores, backed_up, file_by};
 
-use crate::choice::choose;
+use crate::choice::{choose, origin_by};
 use crate::fault::RecoverFault;
 use crate::origin::Origin;
 use crate::range::outside;
@@ -22,6 +24,7 @@ use rm_base::{FileNo, IncNo, NoMemory, Scn, Seq, Store};
 use rm_blocks::DataFile;
 use rm_catalog::Catalog;
 use rm_evidence::{Evidence, InPlace, gather};
+use rm_history::Datafile;
 use rm_piece::Piece;
 use std::alloc::Global;
 
@@ -34,7 +37,30 @@ fn backed_up(alloc: Global, piece: &Piece) -> Result<DataFile, NoMemory>
     Ok(DataFile::from_rows(piece.file, piece.inc, piece.checkpoint, rows))
 }
 
-// The datafile from its backup, or else as it was created.
+// The datafile as it stood in its backup, or else as it was created.
+fn file_by(
+    alloc: Global,
+    target: TargetFile,
+    backup: Option<&(u32, Piece)>,
+) -> Result<DataFile, NoMemory>
+    requires creation { target.datafile.creation < last_scn }
+    requires blocks { (1 ≤ target.datafile.blocks) × (target.datafile.blocks ≤ 65536) }
+    requires order { IfSome (option_copied backup) (λ x. IsInOrder x.1.rows) }
+    ensures { IfOk result (λ x. x ≡ file_by target.number target.datafile (option_copied backup.entry)) }
+{
+    let TargetFile { number, datafile } = target;
+    let Datafile {
+        inc,
+        creation,
+        blocks,
+    } = datafile;
+    match backup {
+        Some((_, piece)) => backed_up(alloc, piece),
+        None => DataFile::empty(alloc, number, inc, creation, blocks),
+    }
+}
+
+// The datafile from its backup, or else as it was created, and its origin.
 fn restore_file(
     alloc: Global,
     evidence: &Evidence,
@@ -50,23 +76,10 @@ fn restore_file(
 {
     // They are a catalog's, so the datafile was created below the end of its incarnation.
     let _ = catalog.records();
-    let TargetFile { number, datafile } = target;
-    match choose(catalog.tree(), evidence.bases.as_slice(), i, s, number) {
-        Some((id, piece)) => Ok((
-            backed_up(alloc, piece)?,
-            Origin::Backup(*id, piece.checkpoint),
-        )),
-        None => Ok((
-            DataFile::empty(
-                alloc,
-                number,
-                datafile.inc,
-                datafile.creation,
-                datafile.blocks,
-            )?,
-            Origin::Created,
-        )),
-    }
+    let bases = evidence.bases.as_slice();
+    let backup = choose(catalog.tree(), bases, i, s, target.number);
+    let file = file_by(alloc, target, backup)?;
+    Ok((file, origin_by(backup)))
 }
 
 // The datafiles, in order, and their origins.
