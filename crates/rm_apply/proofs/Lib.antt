@@ -1,3 +1,4 @@
+pub mod Agreeing
 pub mod Backups
 pub mod Firsts
 pub mod Numbers

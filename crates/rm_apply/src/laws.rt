@@ -2,13 +2,14 @@
 ghost use Rattle.std.specs.Prelude.{ℕ, ◌≡◌, ◌<◌, ◌↔◌, Option, Some, List, Contains};
 ghost use Rattle.rm_base.specs.Store.{Held};
 ghost use Rattle.rm_base.specs.declared.block.Change.{Change};
-ghost use Rattle.rm_blocks.specs.File.{File};
+ghost use Rattle.rm_blocks.specs.File.{File, base_of};
 ghost use Rattle.rm_catalog.specs.declared.record.Record.{Record};
 ghost use Rattle.rm_catalog.specs.Rules.{IsCatalog};
 ghost use Rattle.rm_evidence.specs.declared.evidence.Evidence.{Evidence};
 ghost use Rattle.rm_evidence.specs.declared.evidence.InPlace.{InPlace};
 ghost use Rattle.rm_evidence.specs.Gathered.{IsBaseOf, IsGathered};
 ghost use Rattle.rm_evidence.specs.Known.{known_of};
+ghost use Rattle.rm_history.specs.Agrees.{BaseAgrees};
 ghost use Rattle.rm_history.specs.History.{IsHistory};
 ghost use Rattle.rm_history.specs.State.{states};
 ghost use Rattle.rm_history.specs.World.{blocks_of};
@@ -16,12 +17,19 @@ ghost use Rattle.rm_known.specs.Evidence.{Agrees};
 ghost use Rattle.rm_objects.specs.Database.{world_of};
 ghost use Rattle.rm_piece.specs.declared.piece.Piece.{Piece};
 ghost use Rattle.rm_plan.specs.declared.plan.Gap.{Gap};
+ghost use Rattle.rm_apply.specs.declared.origin.Origin.{Origin};
 ghost use Rattle.rm_apply.specs.declared.recovering.Recovered.{Recovered};
 ghost use Rattle.rm_apply.specs.Recover.{FindsGap, TellsAll};
+ghost use Rattle.rm_apply.specs.Restore.{Restores};
 
 /// What recovery brings back is what the history made of each block, where what is at hand agrees with it.
 pub fn what_comes_back_is_true()
     ensures { (held : Option Held) (rs : List Record) (place : InPlace) (i s : ℕ) (r : Recovered) (tells : TellsAll held rs place i s r) (h : List Change) (x : File) → IsHistory (world_of rs) h → Agrees (world_of rs) h (known_of tells.evidence) → Contains r.files x → x.rows ≡ states (world_of rs) h i s x.file (blocks_of (world_of rs) x.file) }
+{}
+
+/// What a restore puts in place agrees with each history with which what is at hand agrees.
+pub fn what_is_restored_agrees()
+    ensures { (held : Option Held) (rs : List Record) (place : InPlace) (i s : ℕ) (only : Option ℕ) (r : Recovered) (origins : List Origin) (back : Restores held rs place i s only r origins) (h : List Change) (x : File) → IsHistory (world_of rs) h → Agrees (world_of rs) h (known_of back.evidence) → Contains r.files x → BaseAgrees (world_of rs) h (base_of x) }
 {}
 
 /// What is at hand is one, and it decides between the two answers: where it leaves a gap, nothing comes back.
