@@ -1,20 +1,18 @@
 -- Numbers that are exactly those that are wanted, one after the other.
-use Rattle.std.proofs.Common.{◌≡◌, ◌<◌, ◌+◌, ◌∙◌, inl, inr, ℕ, List, [], ◌∷◌, ◌++◌, Option, None, Some, Contains, get_or, length, map, take, ap, sym, subst, arith}
+use Rattle.std.proofs.Common.{◌≡◌, ◌<◌, ◌+◌, ◌∙◌, inl, inr, ℕ, List, [], ◌∷◌, ◌++◌, Option, None, Contains, get_or, length, map, take, ap, sym, subst, arith}
 use Rattle.std.proofs.lemmas.Bool.{cases_lt}
 use Rattle.std.proofs.lemmas.List.{map-append, take_more}
 use Rattle.std.proofs.lemmas.List.Elements.{Contains-get_or}
 use Rattle.std.proofs.lemmas.List.Quantifiers.{all_pairs_push}
 use Rattle.rm_base.proofs.Lists.{at_end, front_or_end, in_front_part}
-use Rattle.rm_base.proofs.Members.{none-in}
 use Rattle.rm_catalog.specs.declared.record.Record.{Record}
 use Rattle.rm_catalog.specs.Rules.{IsCatalog}
 use Rattle.rm_history.specs.declared.world.World.{World}
-use Rattle.rm_history.specs.World.{file_of}
 use Rattle.rm_objects.specs.Database.{world_of}
 use Rattle.rm_objects.proofs.Current.{file_number}
 use Rattle.rm_plan.specs.Plan.{IsFileTarget}
 use Rattle.rm_apply.specs.declared.targets.TargetFile.{TargetFile}
-use Rattle.rm_apply.specs.Files.{AreExactly, IsWanted}
+use Rattle.rm_apply.specs.Files.{AreExactly, IsAsked}
 
 abbrev pub number : TargetFile → ℕ
 number t = t.number
@@ -32,12 +30,6 @@ abbrev pub Below : (ℕ → Type 0) → ℕ → ℕ → Type 0
 Below W n f = (f < n) × W f
 
 module _ (W : ℕ → Type 0) (n : ℕ) where
-  pub none_below : ((f : ℕ) → f < n → ¬ W f) → AreExactly (Below W n) []
-  none_below none = record {
-    ascends = λ i j d less inside. absurd (omega arith);
-    exact = λ f. ((λ has. absurd (none-in f has)), (λ wanted. absurd (none f wanted.0 wanted.1)));
-  }
-
   -- the next number is not wanted
   pub one_past : (ns : List ℕ) → AreExactly (Below W n) ns → ¬ W n → AreExactly (Below W (n + 1)) ns
   one_past ns are not_wanted = record {
@@ -75,20 +67,13 @@ module _ (W : ℕ → Type 0) (n : ℕ) where
   }
 
 module _ (w : World) (i s : ℕ) where
-  -- no datafile has the number 0
-  pub none_wanted : (only : Option ℕ) (f : ℕ) → f < 1 → ¬ IsWanted w i s only f
-  none_wanted only f less wanted =
-      let is : 0 ≡ f = omega arith in
-      let clash : None ≡ Some wanted.0.datafile = ap (file_of w) is ∙ wanted.0.is in
-      absurd (cc)
-
   -- where none is named, all that exist are wanted
-  pub unnamed : (ts us : List TargetFile) → us ≡ ts → AreExactly (IsWanted w i s None) (map number ts) → AreExactly (IsFileTarget w i s) (map number us)
+  pub unnamed : (ts us : List TargetFile) → us ≡ ts → AreExactly (IsAsked w i s None) (map number ts) → AreExactly (IsFileTarget w i s) (map number us)
   unnamed ts us same are = subst (λ xs. AreExactly (IsFileTarget w i s) (map number xs)) (sym same) (record {
     ascends = are.ascends;
     exact = λ f. ((λ has. ((are.exact f).0 has).0), (λ target. (are.exact f).1 (target, tt)));
   })
 
 -- none has a greater number than 64
-pub wanted_below : (rs : List Record) (i s n : ℕ) (only : Option ℕ) → IsCatalog rs → 64 < n → (f : ℕ) → IsWanted (world_of rs) i s only f → f < n
-wanted_below rs i s n only catalog past f wanted = let most = (file_number rs f wanted.0.datafile catalog wanted.0.is).1 in omega (arith, most, past)
+pub asked_below : (rs : List Record) (i s n : ℕ) (only : Option ℕ) → IsCatalog rs → 64 < n → (f : ℕ) → IsAsked (world_of rs) i s only f → f < n
+asked_below rs i s n only catalog past f wanted = let most = (file_number rs f wanted.0.datafile catalog wanted.0.is).1 in omega (arith, most, past)

@@ -6,10 +6,10 @@ use Rattle.rm_history.specs.World.{file_of}
 use Rattle.rm_plan.specs.Plan.{IsFileTarget}
 use Rattle.rm_apply.specs.declared.targets.TargetFile.{TargetFile}
 
--- the numbers ascend, and are exactly those that are wanted
-pub record AreExactly (Wanted : ℕ → Type 0) (ns : List ℕ) : Type 0 where
+-- the numbers ascend, and are exactly those of which this is true
+pub record AreExactly (Is : ℕ → Type 0) (ns : List ℕ) : Type 0 where
   pub ascends : AllPairs (λ m n. m < n) ns
-  pub exact : (n : ℕ) → Contains ns n ↔ Wanted n
+  pub exact : (n : ℕ) → Contains ns n ↔ Is n
 
 -- the number is the one that is named, if one is
 abbrev pub IsNamed : Option ℕ → ℕ → Type 0
@@ -17,8 +17,8 @@ IsNamed None f = Unit {0}
 IsNamed (Some n) f = n ≡ f
 
 -- datafile f exists at (i, s), and is the one that is named, if one is
-abbrev pub IsWanted : World → ℕ → ℕ → Option ℕ → ℕ → Type 0
-IsWanted w i s only f = IsFileTarget w i s f × IsNamed only f
+abbrev pub IsAsked : World → ℕ → ℕ → Option ℕ → ℕ → Type 0
+IsAsked w i s only f = IsFileTarget w i s f × IsNamed only f
 
 -- datafile f was created so, and exists at (i, s)
 abbrev pub IsCreatedSo : World → ℕ → ℕ → ℕ → Datafile → Type 0

@@ -16,7 +16,7 @@ use Rattle.rm_piece.specs.declared.piece.Piece.{Piece}
 use Rattle.rm_apply.specs.declared.origin.Origin.{Origin}
 use Rattle.rm_apply.specs.declared.origin.Origin.TheVariants.{Backup, Created}
 use Rattle.rm_apply.specs.declared.recovering.Recovered.{Recovered}
-use Rattle.rm_apply.specs.Files.{AreExactly, IsWanted}
+use Rattle.rm_apply.specs.Files.{AreExactly, IsAsked}
 use Rattle.rm_apply.specs.Recover.{IsEvidence}
 
 -- A backup of datafile f whose incarnation is on the path of i, whose high is at most its segment end there, if
@@ -81,6 +81,6 @@ pub record Restores (held : Option Held) (rs : List Record) (place : InPlace) (i
   pub evidence : Evidence
   pub is : IsEvidence held rs place evidence
   pub numbers : List ℕ
-  pub wanted : AreExactly (IsWanted (world_of rs) i s only) numbers
+  pub asked : AreExactly (IsAsked (world_of rs) i s only) numbers
   pub restored : AreRestored (world_of rs) evidence.bases i s numbers r.files origins
   pub skipped : r.skipped ≡ evidence.skipped

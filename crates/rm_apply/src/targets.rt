@@ -6,7 +6,7 @@ ghost use Rattle.rm_history.specs.Tree.{IsThere};
 ghost use Rattle.rm_history.specs.World.{exists};
 ghost use Rattle.rm_objects.specs.Database.{world_of};
 ghost use Rattle.rm_plan.specs.Plan.{IsFileTarget};
-ghost use Rattle.rm_apply.specs.Files.{AreExactly, IsCreatedSo, IsNamed, IsTargetFile, IsWanted};
+ghost use Rattle.rm_apply.specs.Files.{AreExactly, IsCreatedSo, IsNamed, IsTargetFile, IsAsked};
 
 use rm_base::{FileNo, IncNo, NoMemory, Scn, Seq};
 use rm_catalog::Catalog;
@@ -60,7 +60,7 @@ fn is_named(only: Option<FileNo>, number: FileNo) -> bool
 }
 
 // The datafile of this number, where it exists at (i, s) and is the one that is named, if one is.
-fn wanted(
+fn asked(
     catalog: &Catalog,
     i: IncNo,
     s: Scn,
@@ -70,7 +70,7 @@ fn wanted(
     requires database { HasDatabase catalog.now }
     requires there { IsThere (nodes catalog.now) i }
     ensures some { IfSome result (λ d. IsCreatedSo (world_of catalog.now) i s number d × IsNamed only number) }
-    ensures none { IfNone result (¬ IsWanted (world_of catalog.now) i s only number) }
+    ensures none { IfNone result (¬ IsAsked (world_of catalog.now) i s only number) }
 {
     if is_named(only, number) {
         target(catalog, i, s, number)
@@ -89,14 +89,14 @@ pub(crate) fn targets(
 ) -> Result<Seq<TargetFile>, NoMemory>
     requires database { HasDatabase catalog.now }
     requires there { IsThere (nodes catalog.now) i }
-    ensures numbers { IfOk result (λ xs. AreExactly (IsWanted (world_of catalog.now) i s only) (map (λ x. x.number) xs)) }
+    ensures numbers { IfOk result (λ xs. AreExactly (IsAsked (world_of catalog.now) i s only) (map (λ x. x.number) xs)) }
     ensures each { IfOk result (All (IsTargetFile (world_of catalog.now) i s)) }
 {
     // They are a catalog's, so no datafile has a greater number.
     let _ = catalog.records();
     let mut found = Seq::new(alloc);
     for number in 1..LAST_FILE + 1 {
-        if let Some(datafile) = wanted(catalog, i, s, only, number) {
+        if let Some(datafile) = asked(catalog, i, s, only, number) {
             found.push(TargetFile { number, datafile })?;
         }
     }

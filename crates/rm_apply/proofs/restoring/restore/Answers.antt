@@ -12,7 +12,7 @@ returns-clause-restored g c =
       evidence = e;
       is = record { at_hand = c.in_ok-evidence.ensures.gathered; fits = c.in_ok-evidence.ensures.fits };
       numbers = map number c.in_ok-targets.targets;
-      wanted = c.in_ok-targets.ensures.numbers;
+      asked = c.in_ok-targets.ensures.numbers;
       restored = subst (λ (ts : List TargetFile). AreRestored (world_of c.args.catalog.now) e.bases c.args.i c.args.s (map number ts) c.in_ok-files.files c.in_ok-files.origins) c.as_slice.ensures c.in_ok-files.ensures;
       skipped = refl;
     }

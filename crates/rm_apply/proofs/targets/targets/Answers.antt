@@ -4,20 +4,20 @@ use Rattle.std.proofs.lemmas.List.Elements.{All-push, All-same}
 use Rattle.rm_objects.specs.Database.{world_of}
 use Rattle.rm_history.specs.declared.world.Datafile.{Datafile}
 use Rattle.rm_apply.specs.declared.targets.TargetFile.{TargetFile}
-use Rattle.rm_apply.specs.Files.{AreExactly, IsTargetFile, IsWanted}
-use Rattle.rm_apply.proofs.Numbers.{Below, all_numbers, number, one_more, one_past, wanted_below}
+use Rattle.rm_apply.specs.Files.{AreExactly, IsTargetFile, IsAsked}
+use Rattle.rm_apply.proofs.Numbers.{Below, all_numbers, number, one_more, one_past, asked_below}
 use Rattle.rm_apply.proofs.targets.targets.Goals as goal
 use Rattle.rm_apply.proofs.targets.targets.Goals.{in-Some+in_ok-push, in_default}
 
 pub loop-number-preserved : goal.loop-number-preserved
 loop-number-preserved c =
     let w = world_of c.args.catalog.now in
-    let W = IsWanted w c.args.i c.args.s c.args.only in
+    let W = IsAsked w c.args.i c.args.s c.args.only in
     let n = c.loop-number.number in
     let xs = c.loop-number.found in
-    let new = c.match-wanted.found in
+    let new = c.match-asked.found in
     let was = c.loop-number.invariant in
-    elim c.match-wanted.branch [
+    elim c.match-asked.branch [
       | in-Some+in_ok-push b ↦
           let x : TargetFile = record { number = n; datafile = b.in-Some.datafile } in
           let some = b.in-Some.ensures.some in
@@ -27,7 +27,7 @@ loop-number-preserved c =
             each = All-same (λ (y : TargetFile). IsTargetFile w c.args.i c.args.s y) new (xs ++ x ∷ []) is (All-push (λ (y : TargetFile). IsTargetFile w c.args.i c.args.s y) xs x was.each some.0);
           }
       | in_default b ↦
-          let none = subst (λ (o : Option Datafile). IfNone o (¬ W n)) b.in_default.is c.wanted.ensures.none in
+          let none = subst (λ (o : Option Datafile). IfNone o (¬ W n)) b.in_default.is c.asked.ensures.none in
           record {
             numbers = subst (AreExactly (Below W (n + 1))) (sym (ap (λ (ys : List TargetFile). map number ys) b.found-is)) (one_past W n (map number xs) was.numbers none);
             each = All-same (λ (y : TargetFile). IsTargetFile w c.args.i c.args.s y) new xs b.found-is was.each;
@@ -38,5 +38,5 @@ pub returns-clause-numbers : goal.returns-clause-numbers
 returns-clause-numbers c =
     let n = c.loop-number.number in
     let past : 64 < n = omega (arith, c.loop-number-test.false) in
-    all_numbers (IsWanted (world_of c.args.catalog.now) c.args.i c.args.s c.args.only) n (map number c.loop-number.found)
-    (wanted_below c.args.catalog.now c.args.i c.args.s n c.args.only c.records.ensures.catalog past) c.loop-number.invariant.numbers
+    all_numbers (IsAsked (world_of c.args.catalog.now) c.args.i c.args.s c.args.only) n (map number c.loop-number.found)
+    (asked_below c.args.catalog.now c.args.i c.args.s n c.args.only c.records.ensures.catalog past) c.loop-number.invariant.numbers
