@@ -1,0 +1,9 @@
+pub mod Agreeing
+pub mod Backups
+pub mod Firsts
+pub mod Numbers
+pub mod Orders
+pub mod Restorations
+pub mod Rows
+pub mod States
+pub mod Unique

@@ -1,0 +1,19 @@
+use Rattle.std.proofs.Common.{◌∷◌, [], sym, subst}
+use Rattle.std.specs.Option.{option_copied}
+use Rattle.rm_objects.specs.Database.{world_of}
+use Rattle.rm_apply.specs.declared.origin.Origin.{Origin}
+use Rattle.rm_apply.specs.Restore.{AreRestored, file_by}
+use Rattle.rm_apply.proofs.Restorations.{one_restored, same_choice}
+use Rattle.rm_apply.proofs.previewing.origin.Goals as goal
+
+pub returns : goal.returns
+returns c =
+    let w = world_of c.args.catalog.now in
+    let bases = c.args.evidence.now.bases in
+    let f = c.args.target.number in
+    let d = c.args.target.datafile in
+    let o = option_copied c.choose-backup.result in
+    let chosen = same_choice c.tree.result.now w.tree c.as_slice-bases.result.now bases c.args.i c.args.s f o c.tree.ensures c.as_slice-bases.ensures c.choose-backup.ensures in (
+      file_by f d o ∷ [],
+      subst (λ (x : Origin). AreRestored w bases c.args.i c.args.s (f ∷ []) (file_by f d o ∷ []) (x ∷ [])) (sym c.origin_by.ensures) (one_restored w bases c.args.i c.args.s f d o c.requires.target.0 chosen),
+    )

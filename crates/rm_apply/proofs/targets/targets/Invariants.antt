@@ -1,0 +1,11 @@
+use Rattle.std.proofs.Common.{All, map}
+use Rattle.rm_objects.specs.Database.{world_of}
+use Rattle.rm_apply.specs.Files.{AreExactly, IsTargetFile, IsAsked}
+use Rattle.rm_apply.proofs.Numbers.{Below}
+use Rattle.rm_apply.proofs.targets.targets.Given as goal
+
+abbrev pub invariant-loop-number : goal.invariant-loop-number
+invariant-loop-number l = record {
+  numbers : AreExactly (Below (IsAsked (world_of l.catalog) l.i l.s l.only) l.number) (map (λ x. x.number) l.found);
+  each : All (IsTargetFile (world_of l.catalog) l.i l.s) l.found;
+}

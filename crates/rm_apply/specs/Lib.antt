@@ -1,0 +1,7 @@
+pub mod Applying
+pub mod Faults
+pub mod Files
+pub mod Preview
+pub mod Recover
+pub mod Restore
+pub mod Told

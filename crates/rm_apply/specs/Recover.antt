@@ -1,0 +1,54 @@
+-- What a recovery answers.
+use Rattle.std.specs.Prelude.{ℕ, ◌≡◌, ◌||◌, nat_lt, if◌then◌else◌, Option, Some, None, List, Result, Ok, Err, IfSome}
+use Rattle.rm_base.specs.Store.{Held}
+use Rattle.rm_catalog.specs.declared.record.Record.{Record}
+use Rattle.rm_catalog.specs.Trees.{nodes}
+use Rattle.rm_evidence.specs.declared.evidence.Evidence.{Evidence}
+use Rattle.rm_evidence.specs.declared.evidence.InPlace.{InPlace}
+use Rattle.rm_evidence.specs.Gathered.{IsGathered}
+use Rattle.rm_evidence.specs.Known.{FitsTree, known_of}
+use Rattle.rm_history.specs.declared.tree.Incarnation.{Incarnation}
+use Rattle.rm_history.specs.Tree.{reset_of, end_of}
+use Rattle.rm_objects.specs.Database.{world_of}
+use Rattle.rm_plan.specs.declared.plan.Gap.{Gap}
+use Rattle.rm_apply.specs.declared.fault.RecoverFault.{RecoverFault}
+use Rattle.rm_apply.specs.declared.fault.RecoverFault.TheVariants as fault
+use Rattle.rm_apply.specs.declared.recovering.Recovered.{Recovered}
+use Rattle.rm_apply.specs.Told.{AreFilesAt, IsGapOfAll}
+
+-- the resetlogs SCN of incarnation i and its end, where s is below the one or above the other
+abbrev pub outside : List Incarnation → ℕ → ℕ → Option (ℕ × ℕ)
+outside tree i s = if nat_lt s (reset_of tree i) || nat_lt (end_of tree i) s then Some (reset_of tree i, end_of tree i) else None
+
+-- the range that a fault tells
+abbrev pub until_in : RecoverFault → Option (ℕ × ℕ)
+until_in (fault.Until low high) = Some (low, high)
+until_in _ = None
+
+-- the range that an answer tells
+abbrev pub until_of : {A : Type 0} → Result A RecoverFault → Option (ℕ × ℕ)
+until_of (Ok r) = None
+until_of (Err x) = until_in x
+
+-- what is true of the gap, where the fault is one
+abbrev pub IfGap : RecoverFault → (Gap → Type 0) → Type 0
+IfGap (fault.Gap x) P = P x
+IfGap _ P = Unit {0}
+
+-- the evidence is what is at hand, where the store tells what it holds
+pub record IsEvidence (held : Option Held) (rs : List Record) (place : InPlace) (e : Evidence) : Type 0 where
+  pub at_hand : IfSome held (λ h. IsGathered h rs place e)
+  pub fits : FitsTree (nodes rs) e
+
+-- what is at hand tells each block of the target: the datafiles are these, and these records were skipped
+pub record TellsAll (held : Option Held) (rs : List Record) (place : InPlace) (i s : ℕ) (r : Recovered) : Type 0 where
+  pub evidence : Evidence
+  pub is : IsEvidence held rs place evidence
+  pub files : AreFilesAt (world_of rs) (known_of evidence) i s r.files
+  pub skipped : r.skipped ≡ evidence.skipped
+
+-- what is at hand leaves a gap, and this is the first one
+pub record FindsGap (held : Option Held) (rs : List Record) (place : InPlace) (i s : ℕ) (x : Gap) : Type 0 where
+  pub evidence : Evidence
+  pub is : IsEvidence held rs place evidence
+  pub gap : IsGapOfAll (world_of rs) (known_of evidence) i s x

@@ -1,0 +1,62 @@
+//! The backup from which a datafile is restored, and its origin.
+ghost use Rattle.std.specs.Prelude.{◌≡◌, ◌↔◌, IsTrue};
+ghost use Rattle.std.specs.Option.{option_copied};
+ghost use Rattle.rm_history.specs.Tree.{IsThere};
+ghost use Rattle.rm_apply.specs.Restore.{ComesFirst, IsBackupFor, MayRestore, origin_by};
+
+use crate::origin::Origin;
+use rm_base::{FileNo, IncNo, Scn};
+use rm_history::Tree;
+use rm_piece::Piece;
+
+// Whether the datafile may be restored from this base to (i, s).
+fn may_restore(tree: &Tree, i: IncNo, s: Scn, number: FileNo, base: &(u32, Piece)) -> bool
+    requires { IsThere tree.now i }
+    ensures { IsTrue result ↔ MayRestore tree.now i s number base.now }
+{
+    base.0 > 0
+        && base.1.file == number
+        && base.1.checkpoint <= s
+        && tree.is_within(base.1.inc, i, base.1.high)
+}
+
+// Whether x has a greater checkpoint than y, or the same and no lesser id.
+fn comes_first(x: &(u32, Piece), y: &(u32, Piece)) -> bool
+    ensures { IsTrue result ↔ ComesFirst x.now y.now }
+{
+    y.1.checkpoint < x.1.checkpoint || (y.1.checkpoint == x.1.checkpoint && y.0 <= x.0)
+}
+
+/// The backup from which the datafile is restored to (i, s): of those from which it may be the one of the
+/// greatest checkpoint, ties by the greatest id. None where there is none.
+pub(crate) fn choose<'a>(
+    tree: &Tree,
+    bases: &'a [(u32, Piece)],
+    i: IncNo,
+    s: Scn,
+    number: FileNo,
+) -> Option<&'a (u32, Piece)>
+    requires { IsThere tree.now i }
+    ensures { IsBackupFor tree.now bases.now i s number (option_copied result) }
+{
+    let mut best: Option<&'a (u32, Piece)> = None;
+    for base in bases {
+        if may_restore(tree, i, s, number, base) {
+            best = match best {
+                Some(first) if comes_first(first, base) => Some(first),
+                _ => Some(base),
+            };
+        }
+    }
+    best
+}
+
+/// From where the datafile is restored.
+pub(crate) fn origin_by(backup: Option<&(u32, Piece)>) -> Origin
+    ensures { result ≡ origin_by (option_copied backup.entry) }
+{
+    match backup {
+        Some((id, piece)) => Origin::Backup(*id, piece.checkpoint),
+        None => Origin::Created,
+    }
+}

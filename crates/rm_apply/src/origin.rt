@@ -1,0 +1,11 @@
+//! From where a datafile is restored.
+use rm_base::Scn;
+
+/// From where a datafile is restored.
+#[derive(Clone, Copy, Debug, PartialEq, Eq)]
+pub enum Origin {
+    /// The backup of this id, with its checkpoint.
+    Backup(u32, Scn),
+    /// As it was created: there is no backup of it.
+    Created,
+}

@@ -1,0 +1,84 @@
+//! Recovery from all that is at hand.
+ghost use Rattle.std.specs.Prelude.{◌≡◌, ◌≤◌, IfErr, IfOk, IsErrOf};
+ghost use Rattle.rm_base.specs.Outside.{Rose};
+ghost use Rattle.rm_catalog.specs.Rules.{HasDatabase};
+ghost use Rattle.rm_catalog.specs.Trees.{nodes};
+ghost use Rattle.rm_evidence.specs.Known.{FitsTree, known_of};
+ghost use Rattle.rm_evidence.specs.Place.{FitsPlace};
+ghost use Rattle.rm_history.specs.Tree.{IsThere};
+ghost use Rattle.rm_objects.specs.Database.{world_of};
+ghost use Rattle.rm_apply.specs.Recover.{FindsGap, IfGap, TellsAll, outside, until_of};
+ghost use Rattle.rm_apply.specs.Told.{AreFilesAt, IsFaultOfAll};
+
+use crate::applying::{apply_all, room};
+use crate::fault::RecoverFault;
+use crate::plans::plans;
+use crate::range::outside;
+use crate::targets::targets;
+use rm_base::{Bad, IncNo, Scn, Seq, Store};
+use rm_blocks::DataFile;
+use rm_catalog::Catalog;
+use rm_evidence::{Evidence, InPlace, gather};
+use rm_plan::PlanFault;
+use std::alloc::Global;
+
+/// What is brought back, ascending by number, and the records that count as available but whose objects are
+/// missing or damaged, ascending by id.
+#[derive(Drop)]
+pub struct Recovered {
+    pub files: Seq<DataFile>,
+    pub skipped: Seq<(u32, Bad)>,
+}
+
+// The datafiles that exist at (i, s). All memory is taken before the first part is applied.
+fn recover_files(
+    alloc: Global,
+    evidence: &Evidence,
+    catalog: &Catalog,
+    i: IncNo,
+    s: Scn,
+) -> Result<Seq<DataFile>, PlanFault>
+    requires database { HasDatabase catalog.now }
+    requires fits { FitsTree (nodes catalog.now) evidence.now }
+    requires there { IsThere (nodes catalog.now) i }
+    ensures files { IfOk result (AreFilesAt (world_of catalog.now) (known_of evidence.now) i s) }
+    ensures gap { IfErr result (IsFaultOfAll (world_of catalog.now) (known_of evidence.now) i s) }
+{
+    let targets = targets(alloc, catalog, i, s, None)?;
+    let plans = plans(alloc, evidence, catalog, i, s, targets.as_slice())?;
+    let files = room(alloc, plans.len())?;
+    Ok(Seq::from_vec(apply_all(plans.into_vec(), files, i, s)))
+}
+
+/// The datafiles that exist at SCN `s` on the path of incarnation `i`, by all that is at hand: each holds
+/// every change below `s` and none at or above it. `Until` where `s` lies outside the incarnation. `Gap`
+/// where a block is not told: that of the least datafile and block, behind which nothing more could be
+/// known. All memory is taken before the first part is applied.
+pub fn recover<D: Store>(
+    alloc: Global,
+    catalog: &Catalog,
+    store: &mut D,
+    place: &InPlace,
+    i: IncNo,
+    s: Scn,
+) -> Result<Recovered, RecoverFault>
+    requires database { HasDatabase catalog.now }
+    requires place { FitsPlace catalog.now place.now }
+    requires there { IsThere (nodes catalog.now) i }
+    ensures until { until_of result ≡ outside (nodes catalog.now) i s }
+    ensures files { IfOk result (TellsAll (D.held store.old) catalog.now place.now i s) }
+    ensures gap { IfErr result (λ x. IfGap x (FindsGap (D.held store.old) catalog.now place.now i s)) }
+    ensures same { D.held store.new ≡ D.held store.old }
+    ensures failed { IsErrOf result RecoverFault.StoreFault → Rose (D.faults store.old) (D.faults store.new) }
+    ensures never_falls { D.faults store.old ≤ D.faults store.new }
+{
+    if let Some((low, high)) = outside(catalog, i, s) {
+        return Err(RecoverFault::Until(low, high));
+    }
+    let evidence = gather(alloc, catalog, store, place)?;
+    let files = recover_files(alloc, &evidence, catalog, i, s)?;
+    Ok(Recovered {
+        files,
+        skipped: evidence.skipped,
+    })
+}
