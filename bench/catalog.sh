@@ -34,9 +34,12 @@ ratio() { awk -v a="$1" -v b="$2" 'BEGIN {printf "%.2f\n", a / b}'; }
 median() { sort -n "$1" | sed -n 3p; }
 timed() { local start end; start=$(date +%s%N); "$@"; end=$(date +%s%N); echo $(((end - start) / 1000)); }
 
-# A call that is to succeed: what it writes stands in the file out.
+# What the program writes stands in the file out.
+call() { "$program" "$@" > out; }
+
+# A call that is to succeed.
 done_by() {
-    "$program" "$@" > out
+    call "$@"
     grep -q '^done in' out || { echo "FAILED: $*"; cat out; exit 1; }
 }
 
@@ -58,7 +61,7 @@ echo '-- 1,000 edits in one apply, beside sqlite3 with the text of the same rows
 : > wholes
 for _ in 1 2 3 4 5; do
     rm -f one.db* two.db*
-    whole=$(timed done_by logs one.db 1000 x)
+    whole=$(timed call logs one.db 1000 x)
     ours=$(micros out)
     {
         echo 'pragma journal_mode = wal; pragma synchronous = full; begin;'
