@@ -1,0 +1,167 @@
+//! Records of each kind.
+use rm_base::{Kind, NoMemory, Policy, Status, Text};
+use rm_catalog::{
+    BaseEntry, DatafileEntry, Edit, HeadEntry, IncarnationEntry, LogEntry, MarkEntry, PartEntry,
+    PieceEntry, Record,
+};
+use std::alloc::Global;
+
+// The pieces: their id, kind, from, checkpoint, and how many letters the tag has.
+const PIECES: [(u32, Kind, u64, u64, u32); 6] = [
+    (1, Kind::Level0, 0, 3, 0),
+    (2, Kind::Level1, 3, 4, 1),
+    (3, Kind::Level0, 0, 4, 30),
+    (4, Kind::Level1, 4, 5, 20),
+    (8, Kind::Full, 0, 5, 2),
+    (9, Kind::Place, 0, 5, 2),
+];
+
+// The logs: their id, whether they are archived, and their status.
+const LOGS: [(u32, bool, Status); 3] = [
+    (5, true, Status::Available),
+    (6, false, Status::Unavailable),
+    (7, true, Status::Expired),
+];
+
+/// The base facts.
+pub fn base(next_id: u32, policy: Policy) -> Record {
+    Record::Base(BaseEntry {
+        dbid: 1,
+        threads: 1,
+        current: 1,
+        next_id,
+        moment: 253_402_300_799,
+        policy,
+        parallelism: 16,
+        tracking: true,
+    })
+}
+
+/// A log.
+pub fn log(id: u32, archived: bool, status: Status) -> Record {
+    Record::Log(LogEntry {
+        id,
+        archived,
+        inc: 1,
+        thread: 1,
+        sequence: 1,
+        first: 1,
+        next: 5,
+        size: 310,
+        sha: [171; 32],
+        status,
+        keep: !archived,
+    })
+}
+
+// A tag of so many letters.
+fn tag(alloc: Global, letters: u32) -> Result<Text, NoMemory> {
+    let mut tag = String::new(alloc);
+    for _ in 0..letters {
+        tag.push('T')?;
+    }
+    Ok(Text::from_string(tag))
+}
+
+fn piece(id: u32, kind: Kind, from: u64, checkpoint: u64, tag: Text) -> Record {
+    Record::Piece(PieceEntry {
+        id,
+        copy: kind == Kind::Place,
+        kind,
+        inc: 1,
+        file: 1,
+        from,
+        checkpoint,
+        high: checkpoint,
+        rows: 2,
+        size: 268_435_456,
+        sha: [255; 32],
+        status: Status::Available,
+        keep: false,
+        tag,
+        moment: 50,
+    })
+}
+
+/// A mark.
+pub fn mark(id: u32) -> Record {
+    Record::Mark(MarkEntry {
+        id,
+        moment: 6,
+        inc: 256,
+        scn: 281_474_976_710_655,
+    })
+}
+
+fn incarnation() -> Record {
+    Record::Incarnation(IncarnationEntry {
+        inc: 1,
+        parent: 0,
+        reset: 1,
+        end: 5,
+    })
+}
+
+fn datafile() -> Record {
+    Record::Datafile(DatafileEntry {
+        file: 1,
+        inc: 1,
+        creation: 1,
+        blocks: 4,
+    })
+}
+
+fn part(id: u32, file: u32, thread: u8) -> Record {
+    Record::Part(PartEntry {
+        id,
+        file,
+        thread,
+        size: 200,
+        sha: [1; 32],
+    })
+}
+
+/// Where the database stood.
+pub fn head() -> Record {
+    Record::Head(HeadEntry {
+        opened: true,
+        inc: 0,
+        scn: 0,
+    })
+}
+
+/// A put of one record.
+pub fn one(alloc: Global, record: Record) -> Result<Vec<Edit>, NoMemory> {
+    let mut edits = Vec::new(alloc);
+    edits.push(Edit::Put(record))?;
+    Ok(edits)
+}
+
+fn put_pieces(alloc: Global, edits: &mut Vec<Edit>) -> Result<(), NoMemory> {
+    for (id, kind, from, checkpoint, letters) in PIECES {
+        let tag = tag(alloc, letters)?;
+        edits.push(Edit::Put(piece(id, kind, from, checkpoint, tag)))?;
+    }
+    Ok(())
+}
+
+fn put_logs(edits: &mut Vec<Edit>) -> Result<(), NoMemory> {
+    for (id, archived, status) in LOGS {
+        edits.push(Edit::Put(log(id, archived, status)))?;
+    }
+    Ok(())
+}
+
+/// Puts of records of each kind: each kind of piece, each status, and tags of 0 to 30 letters.
+pub fn all(alloc: Global) -> Result<Vec<Edit>, NoMemory> {
+    let mut edits = one(alloc, base(14, Policy::Redundancy(1)))?;
+    edits.push(Edit::Put(incarnation()))?;
+    edits.push(Edit::Put(datafile()))?;
+    put_pieces(alloc, &mut edits)?;
+    put_logs(&mut edits)?;
+    edits.push(Edit::Put(mark(1)))?;
+    edits.push(Edit::Put(part(12, 1, 0)))?;
+    edits.push(Edit::Put(part(13, 0, 1)))?;
+    edits.push(Edit::Put(head()))?;
+    Ok(edits)
+}

@@ -1,0 +1,145 @@
+//! Records that go into a file and come back.
+use crate::made;
+use rm_base::{NoMemory, Policy};
+use rm_catalog::{Edit, Keeper, KeeperFail, Key, Record};
+use rm_keeper_sql::CatalogFile;
+use rm_record_bytes::encode_record;
+use std::alloc::Global;
+use std::{fs, io};
+
+/// Takes away a catalog, and what stands beside it.
+pub fn clear(rt: &HostRuntime, path: &str) -> io::Result<()> {
+    let mut beside = String::from_str(rt.alloc(), path)?;
+    beside.push_str("-wal")?;
+    let _ = fs::remove_file(rt, path);
+    let _ = fs::remove_file(rt, beside.as_str());
+    Ok(())
+}
+
+/// What came of a call.
+pub fn word_of<T: Drop>(done: Result<T, KeeperFail>) -> &'static str {
+    match done {
+        Ok(_) => "done",
+        Err(KeeperFail::Failed) => "failed",
+        Err(KeeperFail::NoMemory) => "no memory",
+    }
+}
+
+/// Applies the edits.
+pub fn apply(
+    keeper: &mut CatalogFile,
+    edits: Result<Vec<Edit>, NoMemory>,
+) -> Result<(), KeeperFail> {
+    match edits {
+        Ok(edits) => keeper.apply(&edits),
+        Err(_) => Err(KeeperFail::NoMemory),
+    }
+}
+
+/// Ends a line with the bytes.
+pub fn tell_bytes(rt: &HostRuntime, bytes: &[u8]) -> io::Result<()> {
+    for byte in bytes {
+        rt.print(format_args!("{byte:02x}"))?;
+    }
+    rt.println("")
+}
+
+// A line of the kind, the id, and the bytes.
+fn tell_record(rt: &HostRuntime, row: &Record) -> io::Result<()> {
+    let Ok(bytes) = encode_record(rt.alloc(), row) else {
+        return rt.println("no memory");
+    };
+    let key = row.key();
+    rt.print(format_args!("{} {} ", key.kind, key.id))?;
+    tell_bytes(rt, bytes.as_slice())
+}
+
+fn tell_all(rt: &HostRuntime, keeper: &mut CatalogFile) -> io::Result<()> {
+    let Ok(records) = keeper.load() else {
+        return rt.println("no records");
+    };
+    for row in records.as_slice() {
+        tell_record(rt, row)?;
+    }
+    Ok(())
+}
+
+// The faults of a keeper, and what comes of closing it.
+fn close(rt: &HostRuntime, keeper: CatalogFile) -> io::Result<()> {
+    rt.println(format_args!("faults {}", keeper.faults()))?;
+    rt.println(word_of(keeper.close()))
+}
+
+fn policies(rt: &HostRuntime, keeper: &mut CatalogFile) -> io::Result<()> {
+    for policy in [
+        Policy::Window(36_500),
+        Policy::Redundancy(2),
+        Policy::Nothing,
+    ] {
+        let edits = made::one(rt.alloc(), made::base(14, policy));
+        rt.println(word_of(apply(keeper, edits)))?;
+        tell_all(rt, keeper)?;
+    }
+    Ok(())
+}
+
+// Puts all, and tries a second keeper while the first has the file open.
+fn first_session(rt: &HostRuntime, path: &str) -> io::Result<()> {
+    let mut keeper = CatalogFile::open(rt, path);
+    rt.println(word_of(apply(&mut keeper, made::all(rt.alloc()))))?;
+    let mut other = CatalogFile::open(rt, path);
+    rt.println(format_args!("beside it {}", word_of(other.load())))?;
+    close(rt, other)?;
+    close(rt, keeper)
+}
+
+// A put and a drop of one mark, in either order.
+fn in_order(alloc: Global) -> Result<Vec<Edit>, NoMemory> {
+    let mut edits = made::one(alloc, made::mark(2))?;
+    edits.push(Edit::Drop(Key { kind: 6, id: 2 }))?;
+    edits.push(Edit::Drop(Key { kind: 6, id: 3 }))?;
+    edits.push(Edit::Put(made::mark(3)))?;
+    Ok(edits)
+}
+
+// Drops pieces, and some that are not there.
+fn drops(rt: &HostRuntime, keeper: &mut CatalogFile) -> io::Result<()> {
+    for id in 1..8u32 {
+        let edits = [Edit::Drop(Key { kind: 5, id })];
+        rt.println(format_args!("drop {id} {}", word_of(keeper.apply(&edits))))?;
+    }
+    Ok(())
+}
+
+fn second_session(rt: &HostRuntime, path: &str) -> io::Result<()> {
+    let mut keeper = CatalogFile::open(rt, path);
+    tell_all(rt, &mut keeper)?;
+    drops(rt, &mut keeper)?;
+    rt.println(word_of(apply(&mut keeper, in_order(rt.alloc()))))?;
+    rt.println(word_of(keeper.apply(&[])))?;
+    close(rt, keeper)
+}
+
+fn last_session(rt: &HostRuntime, path: &str) -> io::Result<()> {
+    let mut keeper = CatalogFile::open(rt, path);
+    tell_all(rt, &mut keeper)?;
+    close(rt, keeper)
+}
+
+// What is applied is there for the next one, though its keeper is not closed.
+fn unclosed_session(rt: &HostRuntime, path: &str) -> io::Result<()> {
+    let mut keeper = CatalogFile::open(rt, path);
+    policies(rt, &mut keeper)
+}
+
+/// All kinds through one file in three sessions, and each policy through another in two.
+pub fn run(rt: &HostRuntime) -> io::Result<()> {
+    clear(rt, "records.db")?;
+    first_session(rt, "records.db")?;
+    second_session(rt, "records.db")?;
+    last_session(rt, "records.db")?;
+    clear(rt, "records.db")?;
+    unclosed_session(rt, "records.db")?;
+    last_session(rt, "records.db")?;
+    clear(rt, "records.db")
+}
