@@ -16,30 +16,30 @@ use Rattle.rm_tool.specs.Run.{DigestsTellAlong, GiveNoName, Run, StepOf, past}
 
 -- a step touches no name but those that its statement gives
 by-outcome : (m n : Machine) (c : Command) (o : Outcome) (r : Reply) → names_in c ≡ [] → m.touched ≡ [] → StepBy m c o r n → n.touched ≡ []
-by-outcome m n c (refused why) r no none step = ap (λ (x : Machine). x.touched) step.1 ∙ none
-by-outcome m n c (told lines) r no none step = ap (λ (x : Machine). x.touched) step.1 ∙ none
-by-outcome m n c (done lines effect t) r no none step = step.1.touched ∙ ap (λ (names : List (List ℕ)). names ++ m.touched) no ∙ none
+by-outcome m n c (refused why) r free none step = ap (λ (x : Machine). x.touched) step.1 ∙ none
+by-outcome m n c (told lines) r free none step = ap (λ (x : Machine). x.touched) step.1 ∙ none
+by-outcome m n c (done lines effect t) r free none step = step.1.touched ∙ ap (λ (names : List (List ℕ)). names ++ m.touched) free ∙ none
 
 by-step : (o : Option State) (m n : Machine) (c : Command) (moment : ℕ) (r : Reply) → names_in c ≡ [] → m.touched ≡ [] → StepIn o m c moment r n → n.touched ≡ []
-by-step None m n c moment r no none step = by-outcome m n c step.0 r no none step.2
-by-step (Some s) m n c moment r no none step = by-outcome m n c step.0 r no none step.2
+by-step None m n c moment r free none step = by-outcome m n c step.0 r free none step.2
+by-step (Some s) m n c moment r free none step = by-outcome m n c step.0 r free none step.2
 
 by-statement : (o : Option Command) (m n : Machine) (line clock : ℕ) (r : Reply) → option_map_or names_in o [] ≡ [] → m.touched ≡ [] → StepOf o m line clock r n → n.touched ≡ []
-by-statement None m n line clock r no none step = ap (λ (x : Machine). x.touched) step.1 ∙ none
-by-statement (Some c) m n line clock r no none step = by-step m.state m n c (moment_of m.state clock) r no none step
+by-statement None m n line clock r free none step = ap (λ (x : Machine). x.touched) step.1 ∙ none
+by-statement (Some c) m n line clock r free none step = by-step m.state m n c (moment_of m.state clock) r free none step
 
 -- and so does a run
 by-run : (ss : List (ℕ × List Token)) (rs : List Reply) (first last : Machine) (answers : Answers) → GiveNoName ss → first.touched ≡ [] → Run first answers ss rs last → last.touched ≡ []
-by-run [] [] first last answers no none run = ap (λ (x : Machine). x.touched) run ∙ none
-by-run [] (r ∷ rs) first last answers no none run = absurd run
-by-run (s ∷ ss) [] first last answers no none run = absurd run
-by-run (s ∷ ss) (r ∷ rs) first last answers no none run =
-    by-run ss rs run.0 last (past (command_at s.1) answers) no.1 (by-statement (command_at s.1) first run.0 s.0 (answers 0) r no.0 none run.1) run.2
+by-run [] [] first last answers free none run = ap (λ (x : Machine). x.touched) run ∙ none
+by-run [] (r ∷ rs) first last answers free none run = absurd run
+by-run (s ∷ ss) [] first last answers free none run = absurd run
+by-run (s ∷ ss) (r ∷ rs) first last answers free none run =
+    by-run ss rs run.0 last (past (command_at s.1) answers) free.1 (by-statement (command_at s.1) first run.0 s.0 (answers 0) r free.0 none run.1) run.2
 
 first-ones : (k : ℕ) (ss : List (ℕ × List Token)) → GiveNoName ss → GiveNoName (take k ss)
-first-ones zero ss no = tt
-first-ones (suc k) [] no = tt
-first-ones (suc k) (s ∷ ss) no = (no.0, first-ones k ss no.1)
+first-ones zero ss free = tt
+first-ones (suc k) [] free = tt
+first-ones (suc k) (s ∷ ss) free = (free.0, first-ones k ss free.1)
 
 pub tell-along : (first : Machine) → first.touched ≡ [] → (answers : Answers) (ss : List (ℕ × List Token)) (replies : List Reply) → GiveNoName ss → DigestsTellAlong first answers ss replies
-tell-along first none answers ss replies no k m run = untouched-tell m (by-run (take k ss) (take k replies) first m answers (first-ones k ss no) none run)
+tell-along first none answers ss replies free k m run = untouched-tell m (by-run (take k ss) (take k replies) first m answers (first-ones k ss free) none run)
