@@ -1,7 +1,7 @@
 -- The statements that are built.
 use Rattle.std.specs.Prelude.{Bool, true, false}
 use Rattle.rm_statement.specs.declared.command.Command.{Command}
-use Rattle.rm_statement.specs.declared.command.Command.TheVariants.{CreateDatabase, CreateDatafile, Write, SwitchLogfile, ArchiveLogCurrent, Mount, OpenPlain, OpenResetlogs, ResetDatabase, Recover, RecoverTest, Backup, ListIncarnation, Dump, LoseDatafile, LoseLog, Remove, Damage, Cut, Rename}
+use Rattle.rm_statement.specs.declared.command.Command.TheVariants.{CreateDatabase, CreateDatafile, Write, SwitchLogfile, ArchiveLogCurrent, Mount, OpenPlain, OpenResetlogs, ResetDatabase, Restore, Preview, Recover, RecoverTest, Backup, ListIncarnation, Dump, LoseDatafile, LoseLog, Remove, Damage, Cut, Rename}
 use Rattle.rm_machine.specs.Backup.{is_built_backup}
 use Rattle.rm_machine.specs.Recovery.{is_built_until}
 
@@ -16,6 +16,8 @@ is_built Mount = true
 is_built OpenPlain = true
 is_built OpenResetlogs = true
 is_built (ResetDatabase inc) = true
+is_built (Restore file until) = is_built_until until
+is_built (Preview until) = is_built_until until
 is_built (Recover until) = is_built_until until
 is_built (RecoverTest until inc) = is_built_until until
 is_built (Backup b) = is_built_backup b

@@ -21,6 +21,7 @@ pub mod Recover
 pub mod RecoverTest
 pub mod Recovery
 pub mod ResetDatabase
+pub mod Restore
 pub mod Sound
 pub mod State
 pub mod Step

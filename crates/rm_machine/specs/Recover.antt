@@ -1,18 +1,18 @@
 -- RECOVER DATABASE [UNTIL SCN s]
-use Rattle.std.specs.Prelude.{ℕ, ◌≡◌, if◌then◌else◌, false, Option, Some, None, List, [], ◌∷◌, ◌++◌}
+use Rattle.std.specs.Prelude.{ℕ, ◌≡◌, if◌then◌else◌, false, Option, Some, None, List, [], ◌∷◌, ◌++◌, length}
 use Rattle.std.specs.Option.{option_and_then, option_map}
 use Rattle.rm_base.specs.Store.{Held}
 use Rattle.rm_base.specs.declared.block.Change.{Change}
-use Rattle.rm_base.specs.declared.kinds.Bad.{Bad}
 use Rattle.rm_base.specs.declared.refusal.Refusal.{Refusal}
 use Rattle.rm_base.specs.declared.refusal.Refusal.TheVariants.{Rm04, Rm09}
 use Rattle.rm_blocks.specs.File.{File}
 use Rattle.rm_statement.specs.declared.command.Until.{Until}
-use Rattle.rm_report.specs.declared.line.Line.TheVariants.{Recovered}
+use Rattle.rm_apply.specs.declared.recovering.Recovered.{Recovered}
+use Rattle.rm_report.specs.declared.line.Line.TheVariants.{Recovered as recovered_line}
 use Rattle.rm_machine.specs.Effect.{Outcome, done, no_effect}
 use Rattle.rm_machine.specs.Marks.{ids_refusal}
 use Rattle.rm_machine.specs.Mount.{first_lost}
-use Rattle.rm_machine.specs.Recovery.{IsRecoveryOutcome, count_at, files_at, range_refusal, skipped_lines, target_of}
+use Rattle.rm_machine.specs.Recovery.{AreMadeAt, IsRecoveryOutcome, put_over, range_refusal, skipped_lines, target_of}
 use Rattle.rm_machine.specs.declared.state.State.{State}
 use Rattle.rm_machine.specs.State.{ledger, tree, world, current_of}
 
@@ -37,20 +37,14 @@ target_refusal s at = or_else (range_refusal (tree s) (current_of s) at) (or_els
 abbrev pub recover_refusal : State → Option Until → Option Refusal
 recover_refusal s until = if s.instance.is_open then Some (Rm04 false) else option_and_then (target_refusal s) (recover_target s until)
 
--- these datafiles, in place of what stood there
-abbrev pub put_over : List (Option File) → List (Option File) → List (Option File)
-put_over [] place = place
-put_over (x ∷ xs) [] = []
-put_over (x ∷ xs) (y ∷ ys) = or_else x y ∷ put_over xs ys
-
 -- the database with these datafiles in place, and the target as its point
-abbrev pub recovered : State → ℕ → List (Option File) → State
+abbrev pub recovered : State → ℕ → List File → State
 recovered s at files = record s { instance = record s.instance { point = Some at; place = put_over files s.instance.place } }
 
 -- what it comes to where each block is told
-abbrev pub brings_back : State → ℕ → List (ℕ × Bad) → List (Option File) → Outcome
-brings_back s at skipped files =
-    done (skipped_lines skipped ++ Recovered at (current_of s) (count_at s (current_of s) at) ∷ []) no_effect (recovered s at files)
+abbrev pub brings_back : State → ℕ → Recovered → Outcome
+brings_back s at back =
+    done (skipped_lines back.skipped ++ recovered_line at (current_of s) (length back.files) ∷ []) no_effect (recovered s at back.files)
 
 abbrev pub RecoversTo : State → Held → Option ℕ → Outcome → Type 0
 RecoversTo s held None o = ⊥
@@ -62,7 +56,7 @@ IsRecoverOutcome s held until o = RecoversTo s held (recover_target s until) o
 
 abbrev pub BringsTo : List Change → State → Option ℕ → State → Type 0
 BringsTo h s None t = ⊥
-BringsTo h s (Some at) t = t.instance.place ≡ put_over (files_at (world s) h (current_of s) at) s.instance.place
+BringsTo h s (Some at) t = (files : List File) × AreMadeAt (world s) h (current_of s) at files × (t.instance.place ≡ put_over files s.instance.place)
 
 -- what the history says of it: each datafile of the target came to stand in place as the history made it there
 abbrev pub BringsTruly : List Change → State → Option Until → State → Type 0

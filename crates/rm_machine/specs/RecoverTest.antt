@@ -1,5 +1,5 @@
 -- RECOVER DATABASE [UNTIL SCN s] [INCARNATION i] TEST
-use Rattle.std.specs.Prelude.{ℕ, ◌≡◌, ◌+◌, ◌==◌, ◌||◌, nat_lt, if◌then◌else◌, Bool, Option, Some, None, List, [], ◌∷◌, ◌++◌, count_by, length, unwrap_or}
+use Rattle.std.specs.Prelude.{ℕ, ◌≡◌, ◌==◌, ◌||◌, nat_lt, if◌then◌else◌, Bool, Option, Some, None, List, [], ◌∷◌, ◌++◌, count_by, length, unwrap_or}
 use Rattle.std.specs.Option.{option_and_then}
 use Rattle.rm_base.specs.Store.{Held}
 use Rattle.rm_base.specs.declared.block.Change.{Change}
@@ -9,13 +9,15 @@ use Rattle.rm_base.specs.declared.refusal.Refusal.{Refusal}
 use Rattle.rm_base.specs.declared.refusal.Refusal.TheVariants.{Rm07}
 use Rattle.rm_blocks.specs.File.{File}
 use Rattle.rm_statement.specs.declared.command.Until.{Until}
-use Rattle.rm_history.specs.declared.world.Datafile.{Datafile}
+use Rattle.rm_apply.specs.declared.recovering.Recovered.{Recovered}
+use Rattle.rm_history.specs.declared.world.World.{World}
+use Rattle.rm_history.specs.World.{creation_of}
 use Rattle.rm_report.specs.declared.line.Line.{Line}
 use Rattle.rm_report.specs.declared.line.Line.TheVariants.{UntilIs, FileIs, BlockIs}
 use Rattle.rm_machine.specs.Effect.{Outcome, told}
-use Rattle.rm_machine.specs.Recovery.{IsRecoveryOutcome, count_at, files_at, range_refusal, skipped_lines, target_of}
+use Rattle.rm_machine.specs.Recovery.{AreMadeAt, IsRecoveryOutcome, range_refusal, skipped_lines, target_of}
 use Rattle.rm_machine.specs.declared.state.State.{State}
-use Rattle.rm_machine.specs.State.{ledger, tree, world, current_of}
+use Rattle.rm_machine.specs.State.{tree, world, current_of}
 
 -- the incarnation that it looks at: the one that it names, or the current one
 abbrev pub tested : State → Option ℕ → ℕ
@@ -40,24 +42,22 @@ abbrev pub block_lines : ℕ → List Row → List Line
 block_lines creation [] = []
 block_lines creation (r ∷ rs) = if is_written creation r then BlockIs r.block r.version r.content ∷ block_lines creation rs else block_lines creation rs
 
--- the lines of a datafile, where it exists at the target
-abbrev pub file_lines : ℕ → Datafile → Option File → List Line
-file_lines f d None = []
-file_lines f d (Some x) = FileIs f d.blocks (count_by (is_written d.creation) x.rows) ∷ block_lines d.creation x.rows
+-- the lines of a datafile that was created there
+abbrev pub file_lines : ℕ → File → List Line
+file_lines creation x = FileIs x.file (length x.rows) (count_by (is_written creation) x.rows) ∷ block_lines creation x.rows
 
--- the lines of the datafiles from f on
-abbrev pub files_lines : ℕ → List Datafile → List (Option File) → List Line
-files_lines f [] files = []
-files_lines f (d ∷ ds) [] = []
-files_lines f (d ∷ ds) (x ∷ xs) = file_lines f d x ++ files_lines (f + 1) ds xs
+-- the lines of these datafiles
+abbrev pub files_lines : World → List File → List Line
+files_lines w [] = []
+files_lines w (x ∷ xs) = file_lines (creation_of w x.file) x ++ files_lines w xs
 
 -- the lines of these datafiles at (i, at)
-abbrev pub test_lines : State → ℕ → ℕ → List (Option File) → List Line
-test_lines s i at files = UntilIs at i (count_at s i at) ∷ files_lines 1 (ledger s).files files
+abbrev pub test_lines : World → ℕ → ℕ → List File → List Line
+test_lines w i at files = UntilIs at i (length files) ∷ files_lines w files
 
 -- what it comes to where each block is told
-abbrev pub tells_test : State → ℕ → ℕ → List (ℕ × Bad) → List (Option File) → Outcome
-tells_test s i at skipped files = told (skipped_lines skipped ++ test_lines s i at files)
+abbrev pub tells_test : State → ℕ → ℕ → Recovered → Outcome
+tells_test s i at back = told (skipped_lines back.skipped ++ test_lines (world s) i at back.files)
 
 abbrev pub TestsTo : State → Held → ℕ → Option ℕ → Outcome → Type 0
 TestsTo s held i None o = ⊥
@@ -67,9 +67,16 @@ TestsTo s held i (Some at) o = IsRecoveryOutcome s held i at (tells_test s i at)
 abbrev pub IsTestOutcome : State → Held → Option Until → Option ℕ → Outcome → Type 0
 IsTestOutcome s held until inc o = TestsTo s held (tested s inc) (test_target s until inc) o
 
+-- the lines of skipped records, and behind them those of what the history made
+pub record AreTrueLines (h : List Change) (s : State) (i at : ℕ) (lines : List Line) : Type 0 where
+  pub skipped : List (ℕ × Bad)
+  pub files : List File
+  pub made : AreMadeAt (world s) h i at files
+  pub are : lines ≡ skipped_lines skipped ++ test_lines (world s) i at files
+
 abbrev pub TellsTo : List Change → State → ℕ → Option ℕ → List Line → Type 0
 TellsTo h s i None lines = ⊥
-TellsTo h s i (Some at) lines = (skipped : List (ℕ × Bad)) × (lines ≡ skipped_lines skipped ++ test_lines s i at (files_at (world s) h i at))
+TellsTo h s i (Some at) lines = AreTrueLines h s i at lines
 
 -- what the history says of it: behind the lines of skipped records come those of what the history made
 abbrev pub TellsTruly : List Change → State → Option Until → Option ℕ → List Line → Type 0

@@ -57,9 +57,13 @@ online s t = log_file_of s.instance.logs t (redo_end s)
 abbrev pub is_lost : Logs → ℕ → Bool
 is_lost logs t = option_map_or (λ l. l.is_lost) (slice_get logs.threads (t - 1)) false
 
+-- the datafile of this number, where it exists at (i, at)
+abbrev pub datafile_at : State → ℕ → ℕ → ℕ → Option Datafile
+datafile_at s i at f = option_and_then (λ d. if exists (world s) i at d then Some d else None) (file_of (world s) f)
+
 -- the datafile of this number, where it is on the current path
 abbrev pub on_path : State → ℕ → Option Datafile
-on_path s f = option_and_then (λ d. if exists (world s) (current_of s) (now_of s) d then Some d else None) (file_of (world s) f)
+on_path s f = datafile_at s (current_of s) (now_of s) f
 
 -- The state on which a statement acts: its moment is kept, and no site is saved any longer.
 abbrev pub at_moment : State → ℕ → State

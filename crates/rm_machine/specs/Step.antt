@@ -5,7 +5,7 @@ use Rattle.rm_base.specs.declared.block.Change.{Change}
 use Rattle.rm_base.specs.declared.refusal.Refusal.{Refusal}
 use Rattle.rm_base.specs.declared.refusal.Refusal.TheVariants.{Rm02, Rm03}
 use Rattle.rm_statement.specs.declared.command.Command.{Command}
-use Rattle.rm_statement.specs.declared.command.Command.TheVariants.{ArchiveLogCurrent, Backup, CreateDatabase, CreateDatafile, Cut, Damage, Dump, ListIncarnation, LoseDatafile, LoseLog, Mount, OpenPlain, OpenResetlogs, Recover, RecoverTest, Remove, Rename, ResetDatabase, SwitchLogfile, Write}
+use Rattle.rm_statement.specs.declared.command.Command.TheVariants.{ArchiveLogCurrent, Backup, CreateDatabase, CreateDatafile, Cut, Damage, Dump, ListIncarnation, LoseDatafile, LoseLog, Mount, OpenPlain, OpenResetlogs, Preview, Recover, RecoverTest, Remove, Rename, ResetDatabase, Restore, SwitchLogfile, Write}
 use Rattle.rm_statement.specs.IsCommand.{is_command}
 use Rattle.rm_report.specs.Reply as reply
 use Rattle.rm_report.specs.declared.line.Reply.{Reply}
@@ -27,6 +27,7 @@ use Rattle.rm_machine.specs.OpenResetlogs.{resetlogs_refusal, IsResetlogsOutcome
 use Rattle.rm_machine.specs.Recover.{BringsTruly, IsRecoverOutcome, recover_refusal}
 use Rattle.rm_machine.specs.RecoverTest.{IsTestOutcome, TellsTruly, test_refusal}
 use Rattle.rm_machine.specs.ResetDatabase.{reset_refusal, IsResetOutcome}
+use Rattle.rm_machine.specs.Restore.{preview_refusal, restore_refusal, IsPreviewOutcome, IsRestoreOutcome}
 use Rattle.rm_machine.specs.declared.state.State.{State}
 use Rattle.rm_machine.specs.State.{at_moment}
 use Rattle.rm_machine.specs.SwitchLogfile.{switch_refusal, IsSwitchOutcome}
@@ -53,6 +54,8 @@ refusal_of s (Backup b) = backup_refusal s b
 refusal_of s Mount = ids_refusal s
 refusal_of s OpenPlain = open_refusal s
 refusal_of s OpenResetlogs = resetlogs_refusal s
+refusal_of s (Restore file until) = restore_refusal s file until
+refusal_of s (Preview until) = preview_refusal s until
 refusal_of s (Recover until) = recover_refusal s until
 refusal_of s (RecoverTest until inc) = test_refusal s until inc
 refusal_of s (ResetDatabase i) = reset_refusal s i
@@ -75,6 +78,8 @@ IsDone s held (Backup b) o = IsBackupOutcome s b o
 IsDone s held Mount o = IsMountOutcome s o
 IsDone s held OpenPlain o = IsOpenOutcome s o
 IsDone s held OpenResetlogs o = IsResetlogsOutcome s o
+IsDone s held (Restore file until) o = IsRestoreOutcome s held file until o
+IsDone s held (Preview until) o = IsPreviewOutcome s held until o
 IsDone s held (Recover until) o = IsRecoverOutcome s held until o
 IsDone s held (RecoverTest until inc) o = IsTestOutcome s held until inc o
 IsDone s held (ResetDatabase i) o = IsResetOutcome s i o

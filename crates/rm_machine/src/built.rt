@@ -26,6 +26,8 @@ pub fn is_built(command: &Command) -> bool
     ensures { result ≡ is_built command.now }
 {
     match command {
+        Command::Restore { until, .. } => is_built_until(until),
+        Command::Preview { until } => is_built_until(until),
         Command::Recover { until } => is_built_until(until),
         Command::RecoverTest { until, .. } => is_built_until(until),
         Command::Backup(form) => is_built_backup(form),

@@ -3,8 +3,6 @@ ghost use Rattle.std.specs.Prelude.{ℕ, ◌≡◌, [], ◌<◌, ◌≤◌, ◌^
 ghost use Rattle.rm_base.specs.Numbers.{last_moment, last_scn};
 ghost use Rattle.rm_base.specs.Store.{Held};
 ghost use Rattle.rm_base.specs.declared.block.Change.{Change};
-ghost use Rattle.rm_base.specs.declared.kinds.Bad.{Bad};
-ghost use Rattle.rm_blocks.specs.File.{File};
 ghost use Rattle.rm_statement.specs.declared.command.Until.{Until};
 ghost use Rattle.rm_statement.specs.declared.command.BackupForm.{BackupForm};
 ghost use Rattle.rm_statement.specs.declared.command.WriteForm.{WriteForm};
@@ -12,15 +10,16 @@ ghost use Rattle.rm_evidence.specs.declared.evidence.Evidence.{Evidence};
 ghost use Rattle.rm_evidence.specs.Known.{known_of};
 ghost use Rattle.rm_known.specs.Evidence.{Agrees};
 ghost use Rattle.rm_known.specs.Unknown.{IsUnknown};
+ghost use Rattle.rm_apply.specs.declared.recovering.Recovered.{Recovered};
 ghost use Rattle.rm_machine.specs.CreateDatabase.{fresh_machine};
 ghost use Rattle.rm_machine.specs.Effect.{Made, Outcome};
 ghost use Rattle.rm_machine.specs.Laws.{IsMomentOf, LeadsOn, StaysSound, TellsOn};
 ghost use Rattle.rm_machine.specs.Machine.{DigestsTell, DigestsTellFor, IsBorneOut, IsSoundMachine, Machine};
-ghost use Rattle.rm_machine.specs.Recovery.{FindsGap, IsAtHand, TellsAll};
+ghost use Rattle.rm_machine.specs.Recovery.{IsAtHand, IsGapOutcome, IsToldOutcome};
 ghost use Rattle.rm_machine.specs.Sound.{IsSound};
 ghost use Rattle.rm_machine.specs.declared.state.State.{State};
 ghost use Rattle.rm_machine.specs.State.{at_moment, ledger, world};
-ghost use Rattle.rm_statement.specs.declared.command.Command.TheVariants.{ArchiveLogCurrent, Backup, CreateDatafile, Cut, Damage, Dump, ListIncarnation, LoseDatafile, LoseLog, Mount, OpenPlain, OpenResetlogs, Recover, RecoverTest, Remove, Rename, ResetDatabase, SwitchLogfile, Write};
+ghost use Rattle.rm_statement.specs.declared.command.Command.TheVariants.{ArchiveLogCurrent, Backup, CreateDatafile, Cut, Damage, Dump, ListIncarnation, LoseDatafile, LoseLog, Mount, OpenPlain, OpenResetlogs, Preview, Recover, RecoverTest, Remove, Rename, ResetDatabase, Restore, SwitchLogfile, Write};
 
 /// There are sound machines: that of a new database is one.
 pub fn a_new_database_is_sound()
@@ -112,6 +111,20 @@ pub fn a_test_of_a_recovery_tells()
     ensures stays { (until : Option Until) (inc : Option ℕ) → StaysSound (RecoverTest until inc) }
 {}
 
+/// RESTORE, likewise: each datafile of the target comes to stand in place as a backup has it, or as it was
+/// created.
+pub fn a_restore_leads_on()
+    ensures leads { (file : Option ℕ) (until : Option Until) → LeadsOn (Restore file until) }
+    ensures stays { (file : Option ℕ) (until : Option Until) → StaysSound (Restore file until) }
+{}
+
+/// RESTORE PREVIEW only tells, and is never done.
+pub fn a_preview_tells()
+    ensures tells { (until : Option Until) → TellsOn (Preview until) }
+    ensures leads { (until : Option Until) → LeadsOn (Preview until) }
+    ensures stays { (until : Option Until) → StaysSound (Preview until) }
+{}
+
 /// HOST LOSE DATAFILE, likewise: what stood in place is lost, and the rest stays as it is.
 pub fn a_lost_datafile_leads_on()
     ensures leads { (file : ℕ) → LeadsOn (LoseDatafile file) }
@@ -141,7 +154,7 @@ pub fn a_drill_of_objects_leads_on()
 /// at hand: in one the block is at the greatest version that is seen, in the other it was changed at the gap, to
 /// any content. The history of a machine agrees with what is at hand there, where digests tell.
 pub fn behind_a_gap_stand_two_histories()
-    ensures unknown { (s : State) (held : Held) (i at : ℕ) (o : Outcome) (gap : FindsGap s held i at o) → IsSound s → IsUnknown (world s) (known_of gap.evidence) i at gap.file gap.block gap.inc gap.scn }
+    ensures unknown { (s : State) (held : Held) (i at : ℕ) (o : Outcome) (found : IsGapOutcome s held i at o) → IsUnknown (world s) (known_of found.first.evidence) i at found.gap.file found.gap.block found.gap.inc found.gap.scn }
     ensures agrees { (s : State) (h : List Change) (objects : Held) (made : List Made) (touched : List (List ℕ)) → IsBorneOut s h objects made touched → DigestsTellFor objects made touched (ledger s) → (e : Evidence) → IsAtHand s objects e → Agrees (world s) h (known_of e) }
 {}
 
@@ -152,5 +165,5 @@ pub fn digests_tell_of_what_nobody_touched()
 
 /// What is at hand decides: where it leaves a gap, not each block is told.
 pub fn a_gap_and_a_recovery_exclude_each_other()
-    ensures { (s : State) (held : Held) (i at : ℕ) (come : List (ℕ × Bad) → List (Option File) → Outcome) (o p : Outcome) → FindsGap s held i at o → TellsAll s held i at come p → ⊥ }
+    ensures { (s : State) (held : Held) (i at : ℕ) (come : Recovered → Outcome) (o p : Outcome) → IsGapOutcome s held i at o → ¬ IsToldOutcome s held i at come p }
 {}

@@ -1,0 +1,98 @@
+-- RESTORE (DATABASE | DATAFILE f) [UNTIL SCN s], and RESTORE DATABASE [UNTIL SCN s] PREVIEW
+use Rattle.std.specs.Prelude.{ℕ, ◌≡◌, is_none, if◌then◌else◌, false, Option, Some, None, List, [], ◌∷◌, ◌++◌, map}
+use Rattle.std.specs.Option.{option_and_then}
+use Rattle.rm_base.specs.Store.{Held}
+use Rattle.rm_base.specs.declared.kinds.Bad.{Bad}
+use Rattle.rm_base.specs.declared.refusal.Refusal.{Refusal}
+use Rattle.rm_base.specs.declared.refusal.Refusal.TheVariants.{Rm04, Rm05}
+use Rattle.rm_base.specs.declared.refusal.Absent.TheVariants as absent
+use Rattle.rm_blocks.specs.File.{File}
+use Rattle.rm_statement.specs.declared.command.Until.{Until}
+use Rattle.rm_plan.specs.declared.plan.Gap.{Gap}
+use Rattle.rm_plan.specs.Plan.{IsFileTarget}
+use Rattle.rm_apply.specs.declared.origin.Origin.{Origin}
+use Rattle.rm_apply.specs.declared.origin.Origin.TheVariants.{Backup, Created}
+use Rattle.rm_apply.specs.declared.recovering.Recovered.{Recovered}
+use Rattle.rm_apply.specs.Files.{AreExactly}
+use Rattle.rm_apply.specs.Preview.{Previews}
+use Rattle.rm_apply.specs.Restore.{Restores}
+use Rattle.rm_report.specs.declared.line.Line.{Line}
+use Rattle.rm_report.specs.declared.line.Line.TheVariants.{Complete, CreatedEmpty, GapIn, RestoredFrom}
+use Rattle.rm_repository.specs.Repository.{records_of}
+use Rattle.rm_machine.specs.Effect.{Outcome, done, no_effect, told}
+use Rattle.rm_machine.specs.Marks.{ids_refusal}
+use Rattle.rm_machine.specs.Recover.{or_else, recover_target}
+use Rattle.rm_machine.specs.Recovery.{in_place, put_over, range_refusal, skipped_lines}
+use Rattle.rm_machine.specs.declared.state.State.{State}
+use Rattle.rm_machine.specs.State.{datafile_at, tree, world, current_of}
+
+-- why a datafile is refused that is named: it does not exist at the target
+abbrev pub absent_refusal : State → ℕ → Option ℕ → Option Refusal
+absent_refusal s at None = None
+absent_refusal s at (Some f) = if is_none (datafile_at s (current_of s) at f) then Some (Rm05 (absent.File f)) else None
+
+-- why the target is refused: the datafile does not exist there, or it is out of range, or no ids are left
+abbrev pub place_refusal : State → Option ℕ → ℕ → Option Refusal
+place_refusal s file at = or_else (absent_refusal s at file) (or_else (range_refusal (tree s) (current_of s) at) (ids_refusal s))
+
+-- why RESTORE is refused
+abbrev pub restore_refusal : State → Option ℕ → Option Until → Option Refusal
+restore_refusal s file until = if s.instance.is_open then Some (Rm04 false) else option_and_then (place_refusal s file) (recover_target s until)
+
+-- why PREVIEW is refused: the target is out of range
+abbrev pub preview_refusal : State → Option Until → Option Refusal
+preview_refusal s until = option_and_then (range_refusal (tree s) (current_of s)) (recover_target s until)
+
+-- from where a datafile is restored
+abbrev pub origin_line : ℕ → Origin → Line
+origin_line f (Backup id at) = RestoredFrom f id at
+origin_line f Created = CreatedEmpty f
+
+-- from where these datafiles are restored
+abbrev pub origin_lines : List ℕ → List Origin → List Line
+origin_lines [] origins = []
+origin_lines (f ∷ fs) [] = []
+origin_lines (f ∷ fs) (o ∷ os) = origin_line f o ∷ origin_lines fs os
+
+-- the database with these datafiles in place; it stands at no point then
+abbrev pub restored : State → List File → State
+restored s files = record s { instance = record s.instance { point = None; place = put_over files s.instance.place } }
+
+-- By what is at hand, the datafiles of the target, or the one that is named, come to stand in place, each from
+-- its backup or else as it was created.
+pub record RestoresAt (s : State) (held : Held) (file : Option ℕ) (at : ℕ) (o : Outcome) : Type 0 where
+  pub back : Recovered
+  pub origins : List Origin
+  pub restores : Restores (Some held) (records_of s.catalog) (in_place s) (current_of s) at file back origins
+  pub is : o ≡ done (skipped_lines back.skipped ++ origin_lines (map (λ x. x.file) back.files) origins) no_effect (restored s back.files)
+
+abbrev pub RestoresTo : State → Held → Option ℕ → Option ℕ → Outcome → Type 0
+RestoresTo s held file None o = ⊥
+RestoresTo s held file (Some at) o = RestoresAt s held file at o
+
+-- what RESTORE comes to
+abbrev pub IsRestoreOutcome : State → Held → Option ℕ → Option Until → Outcome → Type 0
+IsRestoreOutcome s held file until o = RestoresTo s held file (recover_target s until) o
+
+-- whether a recovery would come to the target, or else its first gap
+abbrev pub gap_line : Option Gap → Line
+gap_line None = Complete
+gap_line (Some x) = GapIn x.file x.block x.scn x.inc
+
+-- by what is at hand, from where the datafiles of the target would be restored, and whether a recovery would come there
+pub record PreviewsAt (s : State) (held : Held) (at : ℕ) (o : Outcome) : Type 0 where
+  pub numbers : List ℕ
+  pub origins : List Origin
+  pub gap : Option Gap
+  pub skipped : List (ℕ × Bad)
+  pub exact : AreExactly (IsFileTarget (world s) (current_of s) at) numbers
+  pub previews : Previews (Some held) (records_of s.catalog) (in_place s) (current_of s) at origins gap skipped
+  pub is : o ≡ told (skipped_lines skipped ++ origin_lines numbers origins ++ gap_line gap ∷ [])
+
+abbrev pub PreviewsTo : State → Held → Option ℕ → Outcome → Type 0
+PreviewsTo s held None o = ⊥
+PreviewsTo s held (Some at) o = PreviewsAt s held at o
+
+-- what PREVIEW comes to
+abbrev pub IsPreviewOutcome : State → Held → Option Until → Outcome → Type 0
+IsPreviewOutcome s held until o = PreviewsTo s held (recover_target s until) o
