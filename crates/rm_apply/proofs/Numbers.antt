@@ -1,12 +1,14 @@
 -- Numbers that are exactly those that are wanted, one after the other.
-use Rattle.std.proofs.Common.{◌≡◌, ◌<◌, ◌+◌, ◌∙◌, inl, inr, ℕ, List, [], ◌∷◌, ◌++◌, Option, None, Contains, get_or, length, map, take, ap, sym, subst, arith}
+use Rattle.std.proofs.Common.{◌≡◌, ◌<◌, ◌≤◌, ◌+◌, ◌∙◌, inl, inr, ℕ, zero, suc, List, [], ◌∷◌, ◌++◌, All, AllPairs, Option, None, Contains, get_or, length, map, take, ap, sym, subst, arith}
 use Rattle.std.proofs.lemmas.Bool.{cases_lt}
 use Rattle.std.proofs.lemmas.List.{map-append, take_more}
 use Rattle.std.proofs.lemmas.List.Elements.{Contains-get_or}
 use Rattle.std.proofs.lemmas.List.Quantifiers.{all_pairs_push}
 use Rattle.rm_base.proofs.Lists.{at_end, front_or_end, in_front_part}
+use Rattle.rm_base.proofs.Members.{behind, in-front}
 use Rattle.rm_catalog.specs.declared.record.Record.{Record}
 use Rattle.rm_catalog.specs.Rules.{IsCatalog}
+use Rattle.rm_evidence.proofs.Extending.{pairs-head, pairs-tail}
 use Rattle.rm_history.specs.declared.world.World.{World}
 use Rattle.rm_objects.specs.Database.{world_of}
 use Rattle.rm_objects.proofs.Current.{file_number}
@@ -77,3 +79,22 @@ module _ (w : World) (i s : ℕ) where
 -- none has a greater number than 64
 pub asked_below : (rs : List Record) (i s n : ℕ) (only : Option ℕ) → IsCatalog rs → 64 < n → (f : ℕ) → IsAsked (world_of rs) i s only f → f < n
 asked_below rs i s n only catalog past f wanted = let most = (file_number rs f wanted.0.datafile catalog wanted.0.is).1 in omega (arith, most, past)
+
+-- numbers that ascend from `low` on, below low + n, are at most n
+few-between : (ns : List ℕ) (low n : ℕ) → AllPairs (λ (a b : ℕ). a < b) ns → ((m : ℕ) → Contains ns m → (low ≤ m) × (m < low + n)) → length ns ≤ n
+few-between [] low n up each = omega arith
+few-between (m ∷ ms) low zero up each = let first = each m (in-front m ms) in absurd (omega (arith, first.0, first.1))
+few-between (m ∷ ms) low (suc n) up each =
+    let first = each m (in-front m ms) in
+    let rest = few-between ms (low + 1) n (pairs-tail (λ (a b : ℕ). a < b) m ms up) (λ x has.
+    let more = pairs-head (λ (a b : ℕ). a < b) m ms x up has in
+    let most = (each x (behind m ms x has)).1 in
+    (omega (arith, more, first.0), omega (arith, most))) in
+    omega (arith, rest)
+
+-- datafiles of a catalog are at most 64
+pub few-targets : (rs : List Record) (i s : ℕ) (ns : List ℕ) → IsCatalog rs → AreExactly (IsFileTarget (world_of rs) i s) ns → length ns ≤ 64
+few-targets rs i s ns catalog are = few-between ns 1 64 are.ascends (λ m has.
+    let target = (are.exact m).0 has in
+    let number = file_number rs m target.datafile catalog target.is in
+    (number.0, (let most = number.1 in omega (arith, most))))

@@ -8,13 +8,15 @@ pub mod laws;
 pub mod origin;
 mod plans;
 pub mod previewing;
-mod range;
+pub mod range;
 pub mod recovering;
 pub mod restoring;
-mod targets;
+pub mod targets;
 
 pub use fault::RecoverFault;
 pub use origin::Origin;
 pub use previewing::preview;
+pub use range::outside;
 pub use recovering::{Recovered, recover};
 pub use restoring::restore;
+pub use targets::{TargetFile, datafiles_at};

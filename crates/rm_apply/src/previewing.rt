@@ -14,7 +14,7 @@ use crate::choice::{choose, origin_by};
 use crate::fault::RecoverFault;
 use crate::origin::Origin;
 use crate::range::outside;
-use crate::targets::{TargetFile, targets};
+use crate::targets::{TargetFile, datafiles_at};
 use rm_base::{Bad, IncNo, NoMemory, Scn, Seq, Store};
 use rm_catalog::Catalog;
 use rm_evidence::{Evidence, InPlace, gather};
@@ -76,11 +76,11 @@ pub fn preview<D: Store>(
     ensures failed { IsErrOf result RecoverFault.StoreFault → Rose (D.faults store.old) (D.faults store.new) }
     ensures never_falls { D.faults store.old ≤ D.faults store.new }
 {
-    if let Some((low, high)) = outside(catalog, i, s) {
+    if let Some((low, high)) = outside(catalog.tree(), i, s) {
         return Err(RecoverFault::Until(low, high));
     }
     let evidence = gather(alloc, catalog, store, place)?;
-    let targets = targets(alloc, catalog, i, s, None)?;
+    let targets = datafiles_at(alloc, catalog, i, s, None)?;
     let origins = origins(alloc, &evidence, catalog, i, s, targets.as_slice())?;
     let gap = first_gap(alloc, &evidence, catalog, i, s)?;
     Ok((origins, gap, evidence.skipped))

@@ -1,5 +1,5 @@
 //! Recovery from all that is at hand.
-ghost use Rattle.std.specs.Prelude.{◌≡◌, ◌≤◌, IfErr, IfOk, IsErrOf};
+ghost use Rattle.std.specs.Prelude.{◌≡◌, ◌≤◌, IfErr, IfOk, IsErrOf, length};
 ghost use Rattle.rm_base.specs.Outside.{Rose};
 ghost use Rattle.rm_catalog.specs.Rules.{HasDatabase};
 ghost use Rattle.rm_catalog.specs.Trees.{nodes};
@@ -14,7 +14,7 @@ use crate::applying::{apply_all, room};
 use crate::fault::RecoverFault;
 use crate::plans::plans;
 use crate::range::outside;
-use crate::targets::targets;
+use crate::targets::datafiles_at;
 use rm_base::{Bad, IncNo, Scn, Seq, Store};
 use rm_blocks::DataFile;
 use rm_catalog::Catalog;
@@ -42,9 +42,12 @@ fn recover_files(
     requires fits { FitsTree (nodes catalog.now) evidence.now }
     requires there { IsThere (nodes catalog.now) i }
     ensures files { IfOk result (AreFilesAt (world_of catalog.now) (known_of evidence.now) i s) }
+    ensures few { IfOk result (λ files. length files ≤ 64) }
     ensures gap { IfErr result (IsFaultOfAll (world_of catalog.now) (known_of evidence.now) i s) }
 {
-    let targets = targets(alloc, catalog, i, s, None)?;
+    // They are a catalog's, so there are at most 64.
+    let _ = catalog.records();
+    let targets = datafiles_at(alloc, catalog, i, s, None)?;
     let plans = plans(alloc, evidence, catalog, i, s, targets.as_slice())?;
     let files = room(alloc, plans.len())?;
     Ok(Seq::from_vec(apply_all(plans.into_vec(), files, i, s)))
@@ -67,12 +70,13 @@ pub fn recover<D: Store>(
     requires there { IsThere (nodes catalog.now) i }
     ensures until { until_of result ≡ outside (nodes catalog.now) i s }
     ensures files { IfOk result (TellsAll (D.held store.old) catalog.now place.now i s) }
+    ensures few { IfOk result (λ recovered. length recovered.files ≤ 64) }
     ensures gap { IfErr result (λ x. IfGap x (FindsGap (D.held store.old) catalog.now place.now i s)) }
     ensures same { D.held store.new ≡ D.held store.old }
     ensures failed { IsErrOf result RecoverFault.StoreFault → Rose (D.faults store.old) (D.faults store.new) }
     ensures never_falls { D.faults store.old ≤ D.faults store.new }
 {
-    if let Some((low, high)) = outside(catalog, i, s) {
+    if let Some((low, high)) = outside(catalog.tree(), i, s) {
         return Err(RecoverFault::Until(low, high));
     }
     let evidence = gather(alloc, catalog, store, place)?;

@@ -19,7 +19,7 @@ use crate::fault::RecoverFault;
 use crate::origin::Origin;
 use crate::range::outside;
 use crate::recovering::Recovered;
-use crate::targets::{TargetFile, targets};
+use crate::targets::{TargetFile, datafiles_at};
 use rm_base::{FileNo, IncNo, NoMemory, Scn, Seq, Store};
 use rm_blocks::DataFile;
 use rm_catalog::Catalog;
@@ -129,11 +129,11 @@ pub fn restore<D: Store>(
     ensures failed { IsErrOf result RecoverFault.StoreFault → Rose (D.faults store.old) (D.faults store.new) }
     ensures never_falls { D.faults store.old ≤ D.faults store.new }
 {
-    if let Some((low, high)) = outside(catalog, i, s) {
+    if let Some((low, high)) = outside(catalog.tree(), i, s) {
         return Err(RecoverFault::Until(low, high));
     }
     let evidence = gather(alloc, catalog, store, place)?;
-    let targets = targets(alloc, catalog, i, s, file)?;
+    let targets = datafiles_at(alloc, catalog, i, s, file)?;
     let (files, origins) = restore_files(alloc, &evidence, catalog, i, s, targets.as_slice())?;
     let recovered = Recovered {
         files,

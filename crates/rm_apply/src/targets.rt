@@ -16,7 +16,7 @@ use std::alloc::Global;
 
 /// A datafile, by its number and as it was created.
 #[derive(Clone, Copy)]
-pub(crate) struct TargetFile {
+pub struct TargetFile {
     pub number: FileNo,
     pub datafile: Datafile,
 }
@@ -79,8 +79,9 @@ fn asked(
     }
 }
 
-/// The datafiles that exist at (i, s), or the one that is named, ascending by number.
-pub(crate) fn targets(
+/// The datafiles that exist at SCN `s` on the path of incarnation `i`, or of these the one that is named,
+/// ascending by number.
+pub fn datafiles_at(
     alloc: Global,
     catalog: &Catalog,
     i: IncNo,

@@ -1,16 +1,24 @@
-use Rattle.std.proofs.Common.{◌≡◌, ◌∙◌, List, map, sym, ap, subst}
+use Rattle.std.proofs.Common.{◌≡◌, ◌∙◌, List, arith, length, map, sym, ap, subst}
+use Rattle.std.proofs.lemmas.List.{length-map}
 use Rattle.rm_blocks.specs.File.{File}
 use Rattle.rm_evidence.specs.Known.{known_of}
 use Rattle.rm_objects.specs.Database.{world_of}
 use Rattle.rm_apply.specs.declared.plans.Plan.{Plan}
 use Rattle.rm_apply.specs.Applying.{applied}
 use Rattle.rm_apply.specs.Told.{AreFilesAt}
-use Rattle.rm_apply.proofs.Numbers.{number, unnamed}
+use Rattle.rm_apply.proofs.Numbers.{few-targets, number, unnamed}
 use Rattle.rm_apply.proofs.Rows.{files-at}
 use Rattle.rm_apply.proofs.recovering.recover_files.Goals as goal
 
 pub plans-requires-clause-numbers : goal.plans-requires-clause-numbers
 plans-requires-clause-numbers c = unnamed (world_of c.args.catalog.now) c.args.i c.args.s c.in_ok-targets.targets c.as_slice.result.now c.as_slice.ensures c.in_ok-targets.ensures.numbers
+
+pub returns-clause-few : goal.returns-clause-few
+returns-clause-few c =
+    let files = returns-clause-files c in
+    let few = few-targets c.args.catalog.now c.args.i c.args.s (map (λ (x : File). x.file) c.from_vec.result) c.records.ensures.catalog files.numbers in
+    let same = length-map c.from_vec.result (λ (x : File). x.file) in
+    omega (arith, few, same)
 
 pub returns-clause-files : goal.returns-clause-files
 returns-clause-files c =

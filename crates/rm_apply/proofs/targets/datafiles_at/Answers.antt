@@ -6,8 +6,8 @@ use Rattle.rm_history.specs.declared.world.Datafile.{Datafile}
 use Rattle.rm_apply.specs.declared.targets.TargetFile.{TargetFile}
 use Rattle.rm_apply.specs.Files.{AreExactly, IsTargetFile, IsAsked}
 use Rattle.rm_apply.proofs.Numbers.{Below, all_numbers, number, one_more, one_past, asked_below}
-use Rattle.rm_apply.proofs.targets.targets.Goals as goal
-use Rattle.rm_apply.proofs.targets.targets.Goals.{in-Some+in_ok-push, in_default}
+use Rattle.rm_apply.proofs.targets.datafiles_at.Goals as goal
+use Rattle.rm_apply.proofs.targets.datafiles_at.Goals.{in-Some+in_ok-push, in_default}
 
 pub loop-number-preserved : goal.loop-number-preserved
 loop-number-preserved c =
