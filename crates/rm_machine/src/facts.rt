@@ -6,7 +6,7 @@ ghost use Rattle.rm_history.specs.Tree.{IsThere, end_of};
 ghost use Rattle.rm_history.specs.World.{exists, file_of};
 ghost use Rattle.rm_machine.specs.Mount.{first_lost};
 ghost use Rattle.rm_machine.specs.Sound.{IsSound};
-ghost use Rattle.rm_machine.specs.State.{current_of, ledger, now_of, on_path, placed, redo_end, tree, world};
+ghost use Rattle.rm_machine.specs.State.{current_of, datafile_at, ledger, now_of, on_path, placed, redo_end, tree, world};
 
 use crate::state::State;
 use rm_base::{FileNo, IncNo, Scn, ThreadNo};
@@ -51,18 +51,28 @@ fn file(state: &State, number: u64) -> Option<Datafile>
     state.catalog.files().get(index).copied()
 }
 
+/// The datafile of this number, where it exists at the address (i, s).
+pub fn datafile_at(state: &State, i: IncNo, s: Scn, number: u64) -> Option<Datafile>
+    requires sound { IsSound state.now }
+    requires inc { IsThere (tree state.now) i }
+    ensures value { result ≡ datafile_at state.now i s number }
+    ensures there { IfSome result (λ _. (0 < number) × (number ≤ 64)) }
+{
+    let datafile = file(state, number)?;
+    if exists(state, i, s, &datafile) {
+        Some(datafile)
+    } else {
+        None
+    }
+}
+
 /// The datafile of this number, where it is on the current path.
 pub fn on_path(state: &State, number: u64) -> Option<Datafile>
     requires { IsSound state.now }
     ensures value { result ≡ on_path state.now number }
     ensures there { IfSome result (λ _. (0 < number) × (number ≤ 64)) }
 {
-    let datafile = file(state, number)?;
-    if exists(state, state.catalog.base().current, now(state), &datafile) {
-        Some(datafile)
-    } else {
-        None
-    }
+    datafile_at(state, state.catalog.base().current, now(state), number)
 }
 
 /// What stands in place of the datafile of this number, at least 1.
