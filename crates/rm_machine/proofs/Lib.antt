@@ -14,6 +14,7 @@ pub mod Creating
 pub mod Current
 pub mod Drilling
 pub mod Dumping
+pub mod Exchanging
 pub mod Fitting
 pub mod FreshLogs
 pub mod Further
@@ -34,17 +35,18 @@ pub mod Opened
 pub mod Opening
 pub mod Pieces
 pub mod Places
+pub mod Placing
 pub mod Quiet
 pub mod Records
 pub mod Recovered
 pub mod Recovering
+pub mod Restoring
 pub mod Sizes
 pub mod Standing
 pub mod Switching
 pub mod Tags
 pub mod Telling
 pub mod Told
-pub mod Unique
 pub mod Writes
 pub mod WritesKeep
 pub mod WritesSound
