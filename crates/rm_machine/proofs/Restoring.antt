@@ -17,10 +17,9 @@ use Rattle.rm_apply.specs.declared.recovering.Recovered.{Recovered}
 use Rattle.rm_apply.specs.Recover.{IsEvidence}
 use Rattle.rm_apply.specs.Restore.{AreRestored, IsBackupFor, IsRestoration, Restores, backed_up, file_by, restored as file_of_restoration}
 use Rattle.rm_apply.proofs.Agreeing.{restored-agrees}
-use Rattle.rm_apply.proofs.Backups.{backups}
 use Rattle.rm_apply.proofs.Restorations.{chosen_in_order}
 use Rattle.rm_evidence.specs.declared.evidence.Evidence.{Evidence}
-use Rattle.rm_evidence.specs.Known.{FitsTree}
+use Rattle.rm_evidence.specs.Known.{FitsPiece, FitsTree, IsRecorded}
 use Rattle.rm_history.specs.declared.tree.Incarnation.{Incarnation}
 use Rattle.rm_history.specs.declared.world.Datafile.{Datafile}
 use Rattle.rm_history.specs.declared.world.World.{World}
@@ -35,7 +34,6 @@ use Rattle.rm_piece.specs.Valid.{IsRow}
 use Rattle.rm_report.specs.declared.line.Line.{Line}
 use Rattle.rm_repository.specs.Repository.{records_of}
 use Rattle.rm_repository.proofs.Members.{piece-in}
-use Rattle.rm_repository.proofs.Valid.{repository-valid}
 use Rattle.rm_statement.specs.declared.command.Command.TheVariants.{Preview, Restore}
 use Rattle.rm_statement.specs.declared.command.Until.{Until}
 use Rattle.rm_machine.specs.Effect.{Effect, LeavesObjects, Made, done}
@@ -84,15 +82,17 @@ module _ (s : State) (sound : IsSound s) (k : ℕ) (d : Datafile) (file : slice_
             (λ r has. let row = at-place rows r has in subst (λ (x : Row). x.version < end_of (tree s) d.inc) (created-row d.creation d.blocks row.0 r row.1) high);
       }
 
-  module _ (held : Held) (e : Evidence) (hand : IsEvidence (Some held) (records_of s.catalog) (in_place s) e) (i at : ℕ) where
+  module _ (held : Option Held) (e : Evidence) (hand : IsEvidence held (records_of s.catalog) (in_place s) e) (i at : ℕ) where
     -- a backup could
     backup-placed : (x : ℕ × Piece) → IsBackupFor (tree s) e.bases i at (1 + k) (Some x) → IsPlaced (tree s) k d (backed_up x.1)
     backup-placed x chosen =
         let a = x.1 in
-        let is = (backups held (records_of s.catalog) (in_place s) e x.0 a (repository-valid s.catalog sound.catalog) hand.at_hand).0 (chosen.passes.backup, chosen.held) in
+        let fits : FitsTree (tree s) e = subst (λ (ns : List Incarnation). FitsTree ns e) (tree-told s.catalog) hand.fits in
+        let valid = (All-contains (λ (y : ℕ × Piece). FitsPiece (tree s) y.1) e.bases x fits.bases chosen.held).valid in
+        let whole = All-contains (λ (y : ℕ × Piece). y.1.kind ≢ Level1) e.bases x fits.no_level1 chosen.held in
+        let is = All-contains (λ (y : ℕ × Piece). 0 < y.0 → IsRecorded (records_of s.catalog) y) e.bases x hand.recorded chosen.held chosen.passes.backup in
         let p = is.0 in
-        let object = is.4.object in
-        let fields = object.fields in
+        let fields = is.3 in
         let entry = All-contains (IsPieceEntry (tree s) (ledger s).files) (ledger s).pieces p sound.catalog.ledger.pieces (piece-in s.catalog p sound.catalog is.1) in
         let number_is = chosen.passes.file in
         let same_number = fields.file in
@@ -101,14 +101,14 @@ module _ (s : State) (sound : IsSound s) (k : ℕ) (d : Datafile) (file : slice_
         let same : entry.file.datafile ≡ d = cc in
         let stood = fields.checkpoint in
         let begun = entry.checkpoint.0 in
-        let top = object.valid.high in
+        let top = valid.high in
         let told = fields.high in
         let end = entry.high in
         record {
           file = omega (arith, number_is);
-          blocks = fields.rows ∙ entry-rows p.kind p.rows entry.file.datafile.blocks is.3 entry.file.rows ∙ ap (λ (y : Datafile). y.blocks) same;
-          order = chosen_in_order (tree s) e i at (1 + k) (Some x) (subst (λ (ns : List Incarnation). FitsTree ns e) (tree-told s.catalog) hand.fits) chosen;
-          rows = All-weaker (IsRow a.blocks a.from) IsPlacedRow (λ r row. record { version = row.version.0; content = row.content }) a.rows object.valid.rows;
+          blocks = fields.rows ∙ entry-rows p.kind p.rows entry.file.datafile.blocks (λ level. whole (fields.kind ∙ level)) entry.file.rows ∙ ap (λ (y : Datafile). y.blocks) same;
+          order = chosen_in_order (tree s) e i at (1 + k) (Some x) fits chosen;
+          rows = All-weaker (IsRow a.blocks a.from) IsPlacedRow (λ r row. record { version = row.version.0; content = row.content }) a.rows valid.rows;
           there = subst (IsThere (tree s)) (sym fields.inc) entry.there;
           checkpoint = omega (arith, begun, stood);
           high = subst (λ j. high_of a.checkpoint a.rows ≤ end_of (tree s) j) (sym fields.inc) (omega (arith, top, told, end));
@@ -123,7 +123,7 @@ file-number : (ns : List Incarnation) (bases : List (ℕ × Piece)) (i at f : �
 file-number ns bases i at f d None chosen = refl
 file-number ns bases i at f d (Some x) chosen = chosen.passes.file
 
-module _ (s : State) (held : Held) (i at : ℕ) (only : Option ℕ) (back : Recovered) (origins : List Origin) (sound : IsSound s) (restores : Restores (Some held) (records_of s.catalog) (in_place s) i at only back origins) where
+module _ (s : State) (held : Option Held) (i at : ℕ) (only : Option ℕ) (back : Recovered) (origins : List Origin) (sound : IsSound s) (restores : Restores held (records_of s.catalog) (in_place s) i at only back origins) where
   are-restored : AreRestored (world s) restores.evidence.bases i at restores.numbers back.files origins
   are-restored = subst (λ (w : World). AreRestored w restores.evidence.bases i at restores.numbers back.files origins) (world-told s.catalog) restores.restored
 
@@ -165,9 +165,9 @@ restore-by (Some at) file s h objects made touched said e t after borne tell clo
     let evidence = does.restores.evidence in
     let files = does.back.files in
     let agrees = evidence-agrees s h objects made touched borne tell evidence does.restores.is.at_hand in
-    let are = are-restored s objects (current_of s) at file does.back does.origins borne.state does.restores in
+    let are = are-restored s (Some objects) (current_of s) at file does.back does.origins borne.state does.restores in
     quiet-on (restored s files) h objects made touched _ said e t after does.is effect (record {
-      state = sound-restored s objects (current_of s) at file does.back does.origins borne.state does.restores closed;
+      state = sound-restored s (Some objects) (current_of s) at file does.back does.origins borne.state does.restores closed;
       keeps = fits-exchanged s None (put_over files s.instance.place) borne.state closed (over-length files s.instance.place) h borne.keeps
           (λ k d x datafile is. elim (over-cases files s.instance.place k x is) [
             | inr old ↦ inl old
@@ -186,7 +186,7 @@ restore-stays-by : (o file : Option ℕ) (s : State) (objects : Held) (said : Li
     → RestoresTo s objects file o (done said e t) → IsSound t × (t.catalog.saved ≡ None)
 restore-stays-by None file s objects said e t sound unsaved closed does = absurd does
 restore-stays-by (Some at) file s objects said e t sound unsaved closed does =
-    quiet-stays (restored s does.back.files) _ said e t does.is (sound-restored s objects (current_of s) at file does.back does.origins sound does.restores closed) unsaved
+    quiet-stays (restored s does.back.files) _ said e t does.is (sound-restored s (Some objects) (current_of s) at file does.back does.origins sound does.restores closed) unsaved
 
 pub restore-stays : (file : Option ℕ) (until : Option Until) → StaysBy (Restore file until)
 restore-stays file until s objects said e t well sound unsaved none does = restore-stays-by (recover_target s until) file s objects said e t sound unsaved (can-restore s file until none) does
