@@ -4,7 +4,7 @@ ghost use Rattle.rm_base.specs.Outside.{Rose};
 ghost use Rattle.rm_catalog.specs.Rules.{HasDatabase};
 ghost use Rattle.rm_catalog.specs.Trees.{nodes};
 ghost use Rattle.rm_evidence.specs.Gathered.{IsGathered};
-ghost use Rattle.rm_evidence.specs.Known.{FitsTree};
+ghost use Rattle.rm_evidence.specs.Known.{AreRecorded, FitsTree};
 ghost use Rattle.rm_evidence.specs.Place.{FitsPlace};
 
 use crate::evidence::{Evidence, InPlace};
@@ -67,6 +67,7 @@ pub fn gather<D: Store>(
     requires place { FitsPlace catalog.now place.now }
     ensures gathered { IfOk result (λ e. IfSome (D.held store.old) (λ h. IsGathered h catalog.now place.now e)) }
     ensures fits { IfOk result (λ e. FitsTree (nodes catalog.now) e) }
+    ensures recorded { IfOk result (λ e. AreRecorded catalog.now e) }
     ensures same { D.held store.new ≡ D.held store.old }
     ensures failed { IsErrOf result EvidenceFault.StoreFault → Rose (D.faults store.old) (D.faults store.new) }
     ensures never_falls { D.faults store.old ≤ D.faults store.new }
