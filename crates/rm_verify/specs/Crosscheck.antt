@@ -21,7 +21,7 @@ stands_in held name = is_some (held name)
 
 -- whether the name is one of these
 abbrev pub is_among : List (List ℕ) → List ℕ → Bool
-is_among names name = list_any (λ n. bytes_eq n name) names
+is_among names name = list_any (bytes_eq name) names
 
 -- of a record of the class, its id and the status that it gets
 abbrev pub checked : (List ℕ → Bool) → Class → Record → Option (ℕ × Status)

@@ -44,15 +44,15 @@ fn check(
     alloc: Global,
     names: &[Text],
     class: Class,
-    record: &Record,
+    row: &Record,
 ) -> Result<Option<(u32, Status)>, NoMemory>
     requires { Ascends names.now }
-    ensures { IfOk result (λ found. found ≡ checked (is_among names.now) class record.now) }
+    ensures { IfOk result (λ found. found ≡ checked (is_among names.now) class row.now) }
 {
-    if !is_of(class, record) {
+    if !is_of(class, row) {
         return Ok(None);
     }
-    let Some(object) = object_in(alloc, record)? else {
+    let Some(object) = object_in(alloc, row)? else {
         return Ok(None);
     };
     let stands = is_among(names, object.name.as_str());
@@ -70,7 +70,8 @@ fn statuses(
     ensures { IfOk result (λ list. Lists StatusOf [] (IsChecked (is_among names.now) catalog.now class) list) }
 {
     let mut list = Seq::new(alloc);
-    for row in catalog.records() {
+    let records = catalog.records();
+    for row in records {
         let found = check(alloc, names, class, row)?;
         add(&mut list, found)?;
     }

@@ -5,7 +5,10 @@ ghost use Rattle.rm_verify.specs.Told.{with_found};
 use rm_base::{NoMemory, Seq};
 
 // Adds what was found, if anything was.
-pub(crate) fn add<T: Drop>(list: &mut Seq<(u32, T)>, found: Option<(u32, T)>) -> Result<(), NoMemory>
+pub(crate) fn add<T: Drop>(
+    list: &mut Seq<(u32, T)>,
+    found: Option<(u32, T)>,
+) -> Result<(), NoMemory>
     ensures { OnOk result (list.new ≡ with_found list.old found) }
 {
     match found {

@@ -17,10 +17,10 @@ pub struct Object {
 }
 
 // Whether the record is of the class: a backup is a piece that is no image copy, or a log that is not an archived one.
-pub(crate) fn is_of(class: Class, record: &Record) -> bool
-    ensures { result ≡ is_of class record.now }
+pub(crate) fn is_of(class: Class, row: &Record) -> bool
+    ensures { result ≡ is_of class row.now }
 {
-    match record {
+    match row {
         Record::Log(log) => match class {
             Class::Backup => !log.archived,
             Class::Copy => false,
@@ -36,10 +36,10 @@ pub(crate) fn is_of(class: Class, record: &Record) -> bool
 }
 
 // What the record says of its object. None where it is of no log and no piece.
-pub(crate) fn object_in(alloc: Global, record: &Record) -> Result<Option<Object>, NoMemory>
-    ensures { IfOk result (λ object. object ≡ object_in record.now) }
+pub(crate) fn object_in(alloc: Global, row: &Record) -> Result<Option<Object>, NoMemory>
+    ensures { IfOk result (λ object. object ≡ object_in row.now) }
 {
-    match record {
+    match row {
         Record::Log(log) => Ok(Some(Object {
             name: log_name(alloc, log.id)?,
             id: log.id,

@@ -58,14 +58,14 @@ fn bad_piece<D: Store>(
 fn bad_record<D: Store>(
     alloc: Global,
     store: &mut D,
-    record: &Record,
+    row: &Record,
 ) -> Result<Option<(u32, Bad)>, VerifyFault>
-    ensures told { IfOk result (λ found. IfSome (D.held store.old) (λ h. Tells (IsSkipped h (record.now ∷ [])) found)) }
+    ensures told { IfOk result (λ found. IfSome (D.held store.old) (λ h. Tells (IsSkipped h (row.now ∷ [])) found)) }
     ensures same { D.held store.new ≡ D.held store.old }
     ensures failed { IsErrOf result VerifyFault.StoreFault → Rose (D.faults store.old) (D.faults store.new) }
     ensures never_falls { D.faults store.old ≤ D.faults store.new }
 {
-    match record {
+    match row {
         Record::Log(entry) => bad_log(alloc, store, entry),
         Record::Piece(entry) => bad_piece(alloc, store, entry),
         _ => Ok(None),
@@ -86,7 +86,8 @@ pub fn validate<D: Store>(
     ensures never_falls { D.faults store.old ≤ D.faults store.new }
 {
     let mut list = Seq::new(alloc);
-    for row in catalog.records() {
+    let records = catalog.records();
+    for row in records {
         let found = bad_record(alloc, store, row)?;
         add(&mut list, found)?;
     }
