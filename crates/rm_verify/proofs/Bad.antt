@@ -81,10 +81,6 @@ module _ (held : Held) where
     number = λ r id bad is. number-of r id bad (only-bad r id bad is);
   }
 
-  -- nothing is told of a record that is not bad
-  pub tells-none : (r : Record) → ((id : ℕ) (bad : Bad) → ¬ IsBadRecord held r id bad) → Tells (IsSkipped held (r ∷ [])) None
-  tells-none r none = λ id bad. (λ no. absurd cc, λ is. absurd (none id bad (only-bad r id bad is)))
-
   -- the reason that is found is told
   tells : (r : Record) (n : ℕ) (found : Option Bad) → ((bad : Bad) → found ≡ Some bad → IsBadRecord held r n bad) → ((id : ℕ) (bad : Bad) → IsBadRecord held r id bad → (n ≡ id) × (found ≡ Some bad))
       → Tells (IsSkipped held (r ∷ [])) (option_map (with-id n) found)

@@ -57,6 +57,7 @@ module _ (held : Held) (class : Class) where
   missing Is None = (λ is. refl, λ is. tt)
   missing Is (Some bytes) = (λ is. absurd is, λ is. absurd cc)
 
+  -- of a record that counts as available
   is-missing : (r : Record) (x : Object) → object_in r ≡ Some x → x.status ≡ Available → IsBadRecord held r x.id Missing ↔ (held x.name ≡ None)
   is-missing (Base b) x is status = absurd cc
   is-missing (Incarnation i) x is status = absurd cc

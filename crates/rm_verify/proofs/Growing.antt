@@ -6,7 +6,6 @@ use Rattle.std.proofs.lemmas.List.{take_more}
 use Rattle.std.proofs.lemmas.List.Elements.{Contains-append_cases, Contains-append_left, Contains-append_right}
 use Rattle.std.proofs.lemmas.List.Sorted.{Contains-permutation, IsPermutation-sym}
 use Rattle.std.proofs.lemmas.Option.{same_Some}
-use Rattle.rm_base.proofs.Members.{none-in}
 use Rattle.rm_catalog.specs.declared.record.LogEntry.{LogEntry}
 use Rattle.rm_catalog.specs.declared.record.PieceEntry.{PieceEntry}
 use Rattle.rm_catalog.specs.declared.record.Record.{Record}
@@ -65,10 +64,6 @@ module _ (A : Type 0) (P : List Record → ℕ → A → Type 0) (single : IsOfO
   added r old new (Some x) tells same =
       extends-one (λ i j. i ≢ j) (P (r ∷ [])) old new x.0 x.1 same ((tells x.0 x.1).0 refl)
       (λ j b is. let one : x ≡ (j, b) = same_Some x (j, b) ((tells j b).1 is) in (ap (λ (y : ℕ × A). y.0) one, ap (λ (y : ℕ × A). y.1) one))
-
-  -- no record
-  pub start : Has A (P []) []
-  start = extends-none (λ i j. i ≢ j) (P []) [] [] refl (λ id a is. let o = single.one [] id a is in none-in o.0 o.1)
 
   -- one record more
   pub next : (xs rs : List Record) (i : ℕ) (r : Record) (old new : List (ℕ × A)) (found : Option (ℕ × A)) → xs ≡ rs → IsCatalog rs → i < length xs → r ≡ get_or xs i r

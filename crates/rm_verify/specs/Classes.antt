@@ -7,7 +7,7 @@ use Rattle.rm_catalog.specs.declared.record.Record.TheVariants.{Log, Piece}
 use Rattle.rm_objects.specs.Names.{log_name, piece_name}
 use Rattle.rm_verify.specs.declared.object.Object.{Object}
 
--- backups are pieces that are no image copies, and logs that are not archived ones
+-- backups are pieces that are no image copies, and backups of logs; copies are image copies; then there are archived logs
 abbrev pub is_of : Class → Record → Bool
 is_of Backup (Piece p) = not p.copy
 is_of Backup (Log l) = not l.archived

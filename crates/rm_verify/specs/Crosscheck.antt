@@ -10,7 +10,7 @@ use Rattle.rm_base.specs.declared.kinds.Status.TheVariants.{Available, Unavailab
 use Rattle.rm_catalog.specs.declared.record.Record.{Record}
 use Rattle.rm_verify.specs.Classes.{is_of, object_in}
 
--- what is set aside stays so, and else it is available where an object stands under its name, and expired where none does
+-- UNAVAILABLE stays so; else it is AVAILABLE where an object stands under the name, and EXPIRED where none does
 abbrev pub status_after : Status → Bool → Status
 status_after Unavailable stands = Unavailable
 status_after _ stands = if stands then Available else Expired

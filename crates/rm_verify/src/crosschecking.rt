@@ -79,8 +79,9 @@ fn statuses(
 }
 
 /// Of each record of the class its id and the status that it gets, ascending by id: UNAVAILABLE stays so; else it is
-/// AVAILABLE where an object stands under its name, and EXPIRED where none does. Whatever stands there, each record of
-/// the class is listed, and no other. No object is read.
+/// AVAILABLE where an object stands under its name, and EXPIRED where none does. A backup is a piece that is no image
+/// copy, or a backup of a log. Also of a store that tells nothing each record of the class is listed, and no other. The
+/// store is asked for its names once, and no object is read. `StoreFault` where it failed, and counted it.
 pub fn crosscheck<D: Store>(
     alloc: Global,
     catalog: &Catalog,

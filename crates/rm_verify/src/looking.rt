@@ -13,7 +13,7 @@ use rm_catalog::{LogEntry, PieceEntry};
 use rm_objects::{log_name, log_object, piece_name, piece_object};
 use std::alloc::Global;
 
-/// Why the object of the log's record can't be used. None where it can.
+// Why the object of the log's record can't be used. None where it can.
 pub(crate) fn look_at_log<D: Store>(
     alloc: Global,
     store: &mut D,
@@ -34,7 +34,7 @@ pub(crate) fn look_at_log<D: Store>(
     }
 }
 
-/// Why the object of the piece's record can't be used. None where it can.
+// Why the object of the piece's record can't be used. None where it can.
 pub(crate) fn look_at_piece<D: Store>(
     alloc: Global,
     store: &mut D,

@@ -16,7 +16,7 @@ pub struct Object {
     pub name: Text,
 }
 
-// Whether the record is of the class: a backup is a piece that is no image copy, or a log that is not an archived one.
+// Whether the record is of the class. A log that is no archived one is a backup of one.
 pub(crate) fn is_of(class: Class, row: &Record) -> bool
     ensures { result ≡ is_of class row.now }
 {

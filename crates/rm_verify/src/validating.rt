@@ -74,7 +74,8 @@ fn bad_record<D: Store>(
 
 /// The id of each record that counts as available and whose object is missing or damaged, and which of the two,
 /// ascending by id. An object is damaged where its bytes have not the size and the SHA-256 of the record, or spell
-/// nothing with the record's fields. Each is read and let go before the next.
+/// nothing with the record's fields. Each is read and let go before the next. `StoreFault` where the store failed, and
+/// counted it.
 pub fn validate<D: Store>(
     alloc: Global,
     catalog: &Catalog,
