@@ -13,7 +13,6 @@ pub mod CountedLogs
 pub mod Creating
 pub mod Current
 pub mod Drilling
-pub mod Dumping
 pub mod Exchanging
 pub mod Fitting
 pub mod FreshLogs

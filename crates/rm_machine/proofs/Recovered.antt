@@ -29,7 +29,6 @@ use Rattle.rm_machine.specs.Recovery.{put_over}
 use Rattle.rm_machine.specs.Sound.{IsSound}
 use Rattle.rm_machine.specs.declared.state.State.{State}
 use Rattle.rm_machine.specs.State.{ledger, tree, world, current_of}
-use Rattle.rm_machine.specs.Step.{IsDone}
 use Rattle.rm_machine.proofs.Agreeing.{evidence-agrees}
 use Rattle.rm_machine.proofs.Exchanging.{fits-exchanged}
 use Rattle.rm_machine.proofs.Leading.{LeadsOnBy, StaysBy, TellsOnBy}
@@ -138,12 +137,3 @@ test-by (Some at) i s h objects made touched lines borne tell (inr all) =
 
 pub test-tells : (until : Option Until) (inc : Option ℕ) → TellsOnBy (RecoverTest until inc)
 test-tells until inc s h objects made touched lines well borne tell none does = test-by (test_target s until inc) (tested s inc) s h objects made touched lines borne tell does
-
--- it is never done
-never-by : (o : Option ℕ) (i : ℕ) (s : State) (objects : Held) (said : List Line) (e : Effect) (t : State) → TestsTo s objects i o (done said e t) → ⊥
-never-by None i s objects said e t does = does
-never-by (Some at) i s objects said e t (inl found) = absurd (let clash = found.is in cc)
-never-by (Some at) i s objects said e t (inr all) = absurd (let clash = all.is in cc)
-
-pub test-never : (until : Option Until) (inc : Option ℕ) (s : State) (objects : Held) (said : List Line) (e : Effect) (t : State) → IsDone s objects (RecoverTest until inc) (done said e t) → ⊥
-test-never until inc s objects said e t does = never-by (test_target s until inc) (tested s inc) s objects said e t does

@@ -34,17 +34,16 @@ use Rattle.rm_piece.specs.Valid.{IsRow}
 use Rattle.rm_report.specs.declared.line.Line.{Line}
 use Rattle.rm_repository.specs.Repository.{records_of}
 use Rattle.rm_repository.proofs.Members.{piece-in}
-use Rattle.rm_statement.specs.declared.command.Command.TheVariants.{Preview, Restore}
+use Rattle.rm_statement.specs.declared.command.Command.TheVariants.{Restore}
 use Rattle.rm_statement.specs.declared.command.Until.{Until}
 use Rattle.rm_machine.specs.Effect.{Effect, LeavesObjects, Made, done}
 use Rattle.rm_machine.specs.Machine.{DigestsTellFor, IsBorneOut}
 use Rattle.rm_machine.specs.Recover.{recover_target}
 use Rattle.rm_machine.specs.Recovery.{in_place, put_over}
-use Rattle.rm_machine.specs.Restore.{PreviewsTo, RestoresTo, place_refusal, restore_refusal, restored}
+use Rattle.rm_machine.specs.Restore.{RestoresTo, place_refusal, restore_refusal, restored}
 use Rattle.rm_machine.specs.Sound.{IsPlaced, IsPlacedRow, IsSound}
 use Rattle.rm_machine.specs.declared.state.State.{State}
 use Rattle.rm_machine.specs.State.{current_of, ledger, tree, world}
-use Rattle.rm_machine.specs.Step.{IsDone}
 use Rattle.rm_machine.proofs.Agreeing.{evidence-agrees}
 use Rattle.rm_machine.proofs.Exchanging.{fits-exchanged, sound-exchanged}
 use Rattle.rm_machine.proofs.Leading.{LeadsOnBy, StaysBy}
@@ -190,11 +189,3 @@ restore-stays-by (Some at) file s objects said e t sound unsaved closed does =
 
 pub restore-stays : (file : Option ℕ) (until : Option Until) → StaysBy (Restore file until)
 restore-stays file until s objects said e t well sound unsaved none does = restore-stays-by (recover_target s until) file s objects said e t sound unsaved (can-restore s file until none) does
-
--- PREVIEW is never done
-preview-by : (o : Option ℕ) (s : State) (objects : Held) (said : List Line) (e : Effect) (t : State) → PreviewsTo s objects o (done said e t) → ⊥
-preview-by None s objects said e t does = does
-preview-by (Some at) s objects said e t does = absurd (let clash = does.is in cc)
-
-pub preview-never : (until : Option Until) (s : State) (objects : Held) (said : List Line) (e : Effect) (t : State) → IsDone s objects (Preview until) (done said e t) → ⊥
-preview-never until s objects said e t does = preview-by (recover_target s until) s objects said e t does
