@@ -1,6 +1,7 @@
 -- The laws of every statement. One that is not in the machine yet comes to nothing.
+use Rattle.std.proofs.Common.{refl}
 use Rattle.rm_statement.specs.declared.command.Command.{Command}
-use Rattle.rm_statement.specs.declared.command.Command.TheVariants.{ArchiveLogCurrent, Backup, CreateDatabase, CreateDatafile, Cut, Damage, Dump, ListIncarnation, LoseDatafile, LoseLog, Mount, OpenPlain, OpenResetlogs, Preview, Recover, RecoverTest, Remove, Rename, ResetDatabase, Restore, SwitchLogfile, Write}
+use Rattle.rm_statement.specs.declared.command.Command.TheVariants.{ArchiveLogCurrent, Backup, CreateDatabase, CreateDatafile, Cut, Damage, Dump, ListArchived, ListBackup, ListCopy, ListIncarnation, LoseDatafile, LoseLog, Mount, OpenPlain, OpenResetlogs, Preview, Recover, RecoverTest, Remove, Rename, ReportSchema, ResetDatabase, Restore, ShowAll, SwitchLogfile, ValidateAll, Write}
 use Rattle.rm_machine.specs.Laws.{LeadsOn, TellsOn}
 use Rattle.rm_machine.proofs.AddingDatafile.{create-on, create-stays}
 use Rattle.rm_machine.proofs.ArchivingAll.{all-on, all-stays}
@@ -8,23 +9,22 @@ use Rattle.rm_machine.proofs.BackingUp.{backup-on, backup-stays}
 use Rattle.rm_machine.proofs.Branching.{resets-on, resets-stays}
 use Rattle.rm_machine.proofs.Choosing.{choose-on, choose-stays}
 use Rattle.rm_machine.proofs.Drilling.{cut-on, cut-stays, damage-on, damage-stays, remove-on, remove-stays, rename-on, rename-stays}
-use Rattle.rm_machine.proofs.Dumping.{dump-never}
-use Rattle.rm_machine.proofs.Leading.{StaysBy, TellsOnBy, leads, tells}
+use Rattle.rm_machine.proofs.Leading.{StaysBy, leads, tells}
 use Rattle.rm_machine.proofs.Losing.{lose-on, lose-stays}
 use Rattle.rm_machine.proofs.LosingLog.{lose_log-on, lose_log-stays}
 use Rattle.rm_machine.proofs.Mounting.{mount-on, mount-stays}
 use Rattle.rm_machine.proofs.Opening.{open-on, open-stays}
-use Rattle.rm_machine.proofs.Recovered.{recover-on, recover-stays, test-never, test-tells}
-use Rattle.rm_machine.proofs.Restoring.{preview-never, restore-on, restore-stays}
+use Rattle.rm_machine.proofs.Recovered.{recover-on, recover-stays}
+use Rattle.rm_machine.proofs.Restoring.{restore-on, restore-stays}
 use Rattle.rm_machine.proofs.Switching.{switch-on, switch-stays}
-use Rattle.rm_machine.proofs.Telling.{tells-on, tells-stays}
+use Rattle.rm_machine.proofs.Telling.{every-tells-by, tells-on, tells-stays}
 use Rattle.rm_machine.proofs.Writing.{write-on, write-stays}
 use Rattle.rm_frame.specs.Loose.{StaysLoose}
 use Rattle.rm_frame.proofs.Founding.{never-again, never-loose}
 use Rattle.rm_frame.proofs.LooseBackup.{backup-loose}
 use Rattle.rm_frame.proofs.LooseDrills.{cut-loose, damage-loose, remove-loose, rename-loose}
 use Rattle.rm_frame.proofs.LooseNew.{archive-loose, branch-loose, switch-loose}
-use Rattle.rm_frame.proofs.LooseQuiet.{choose-loose, create-loose, dump-loose, list-loose, list-never, lose-loose, lose_log-loose, mount-loose, open-loose, preview-loose, recover-loose, restore-loose, test-loose, write-loose}
+use Rattle.rm_frame.proofs.LooseQuiet.{choose-loose, create-loose, lose-loose, lose_log-loose, mount-loose, open-loose, recover-loose, restore-loose, told-loose, write-loose}
 
 pub every-leads : (c : Command) → LeadsOn c
 every-leads (CreateDatabase dbid threads scn) = never-again dbid threads scn
@@ -38,11 +38,17 @@ every-leads OpenResetlogs = leads OpenResetlogs resets-on
 every-leads (ResetDatabase i) = leads (ResetDatabase i) (choose-on i)
 every-leads (Backup b) = leads (Backup b) (backup-on b)
 every-leads (Restore file until) = leads (Restore file until) (restore-on file until)
-every-leads (Preview until) = leads (Preview until) (tells-on (Preview until) (preview-never until))
 every-leads (Recover until) = leads (Recover until) (recover-on until)
-every-leads (RecoverTest until inc) = leads (RecoverTest until inc) (tells-on (RecoverTest until inc) (test-never until inc))
-every-leads ListIncarnation = leads ListIncarnation (tells-on ListIncarnation list-never)
-every-leads (Dump file block) = leads (Dump file block) (tells-on (Dump file block) (dump-never file block))
+every-leads (RecoverTest until inc) = leads (RecoverTest until inc) (tells-on (RecoverTest until inc) refl)
+every-leads (Preview until) = leads (Preview until) (tells-on (Preview until) refl)
+every-leads (Dump file block) = leads (Dump file block) (tells-on (Dump file block) refl)
+every-leads ListIncarnation = leads ListIncarnation (tells-on ListIncarnation refl)
+every-leads ListBackup = leads ListBackup (tells-on ListBackup refl)
+every-leads ListCopy = leads ListCopy (tells-on ListCopy refl)
+every-leads ListArchived = leads ListArchived (tells-on ListArchived refl)
+every-leads ReportSchema = leads ReportSchema (tells-on ReportSchema refl)
+every-leads ShowAll = leads ShowAll (tells-on ShowAll refl)
+every-leads ValidateAll = leads ValidateAll (tells-on ValidateAll refl)
 every-leads (LoseDatafile file) = leads (LoseDatafile file) (lose-on file)
 every-leads (LoseLog thread) = leads (LoseLog thread) (lose_log-on thread)
 every-leads (Remove name) = leads (Remove name) (remove-on name)
@@ -50,10 +56,6 @@ every-leads (Damage name at) = leads (Damage name at) (damage-on name at)
 every-leads (Cut name to) = leads (Cut name to) (cut-on name to)
 every-leads (Rename old new) = leads (Rename old new) (rename-on old new)
 every-leads c = λ m s moment lines effect t after well is sound tell at comes leaves. absurd comes
-
-every-tells-by : (c : Command) → TellsOnBy c
-every-tells-by (RecoverTest until inc) = test-tells until inc
-every-tells-by c = λ s h objects made touched lines well borne tell none does. tt
 
 pub every-tells : (c : Command) → TellsOn c
 every-tells c = tells c (every-tells-by c)
@@ -70,11 +72,17 @@ every-loose OpenResetlogs = branch-loose
 every-loose (ResetDatabase i) = choose-loose i
 every-loose (Backup b) = backup-loose b
 every-loose (Restore file until) = restore-loose file until
-every-loose (Preview until) = preview-loose until
 every-loose (Recover until) = recover-loose until
-every-loose (RecoverTest until inc) = test-loose until inc
-every-loose ListIncarnation = list-loose
-every-loose (Dump file block) = dump-loose file block
+every-loose (RecoverTest until inc) = told-loose (RecoverTest until inc) refl
+every-loose (Preview until) = told-loose (Preview until) refl
+every-loose (Dump file block) = told-loose (Dump file block) refl
+every-loose ListIncarnation = told-loose ListIncarnation refl
+every-loose ListBackup = told-loose ListBackup refl
+every-loose ListCopy = told-loose ListCopy refl
+every-loose ListArchived = told-loose ListArchived refl
+every-loose ReportSchema = told-loose ReportSchema refl
+every-loose ShowAll = told-loose ShowAll refl
+every-loose ValidateAll = told-loose ValidateAll refl
 every-loose (LoseDatafile file) = lose-loose file
 every-loose (LoseLog thread) = lose_log-loose thread
 every-loose (Remove name) = remove-loose name
@@ -95,11 +103,17 @@ every-stays OpenResetlogs = resets-stays
 every-stays (ResetDatabase i) = choose-stays i
 every-stays (Backup b) = backup-stays b
 every-stays (Restore file until) = restore-stays file until
-every-stays (Preview until) = tells-stays (Preview until) (preview-never until)
 every-stays (Recover until) = recover-stays until
-every-stays (RecoverTest until inc) = tells-stays (RecoverTest until inc) (test-never until inc)
-every-stays ListIncarnation = tells-stays ListIncarnation list-never
-every-stays (Dump file block) = tells-stays (Dump file block) (dump-never file block)
+every-stays (RecoverTest until inc) = tells-stays (RecoverTest until inc) refl
+every-stays (Preview until) = tells-stays (Preview until) refl
+every-stays (Dump file block) = tells-stays (Dump file block) refl
+every-stays ListIncarnation = tells-stays ListIncarnation refl
+every-stays ListBackup = tells-stays ListBackup refl
+every-stays ListCopy = tells-stays ListCopy refl
+every-stays ListArchived = tells-stays ListArchived refl
+every-stays ReportSchema = tells-stays ReportSchema refl
+every-stays ShowAll = tells-stays ShowAll refl
+every-stays ValidateAll = tells-stays ValidateAll refl
 every-stays (LoseDatafile file) = lose-stays file
 every-stays (LoseLog thread) = lose_log-stays thread
 every-stays (Remove name) = remove-stays name

@@ -1,12 +1,13 @@
 -- Statements that put nothing and take nothing away.
-use Rattle.std.proofs.Common.{◌≡◌, ℕ, List, [], Option, Some, None, inl, inr}
+use Rattle.std.proofs.Common.{◌≡◌, ℕ, List, [], Option, Some, None, true, inl, inr}
 use Rattle.rm_base.specs.Store.{Held}
 use Rattle.rm_statement.specs.declared.command.Command.{Command}
-use Rattle.rm_statement.specs.declared.command.Command.TheVariants.{CreateDatafile, Dump, ListIncarnation, LoseDatafile, LoseLog, Mount, OpenPlain, Preview, Recover, RecoverTest, ResetDatabase, Restore, Write}
+use Rattle.rm_statement.specs.declared.command.Command.TheVariants.{CreateDatafile, LoseDatafile, LoseLog, Mount, OpenPlain, Recover, ResetDatabase, Restore, Write}
 use Rattle.rm_statement.specs.declared.command.Until.{Until}
 use Rattle.rm_statement.specs.declared.command.WriteForm.{WriteForm}
 use Rattle.rm_report.specs.declared.line.Line.{Line}
 use Rattle.rm_machine.specs.Effect.{Effect, done, no_effect}
+use Rattle.rm_machine.specs.Laws.{only_tells}
 use Rattle.rm_machine.specs.LoseDatafile.{without_file}
 use Rattle.rm_machine.specs.LoseLog.{without_log}
 use Rattle.rm_machine.specs.Mount.{as_mounted}
@@ -18,11 +19,8 @@ use Rattle.rm_machine.specs.CreateDatafile.{with_datafile}
 use Rattle.rm_machine.specs.Recover.{RecoversTo, recover_target, recovered}
 use Rattle.rm_machine.specs.Restore.{RestoresTo, restored}
 use Rattle.rm_machine.specs.Step.{refusal_of}
-use Rattle.rm_machine.proofs.Dumping.{dump-never}
 use Rattle.rm_machine.proofs.Leading.{done-by}
-use Rattle.rm_machine.proofs.Recovered.{test-never}
-use Rattle.rm_machine.proofs.Restoring.{preview-never}
-use Rattle.rm_machine.proofs.Telling.{IsNeverDone}
+use Rattle.rm_machine.proofs.Telling.{never-done}
 use Rattle.rm_frame.specs.Loose.{IsLoose, StaysLoose}
 use Rattle.rm_frame.proofs.Loosening.{nothing-named}
 
@@ -72,20 +70,5 @@ restore-loose file until s held lines e t sound comes =
     restore-by (recover_target s until) file until s held lines e t (done-by (refusal_of s (Restore file until)) s held (Restore file until) lines e t comes).1
 
 -- what only tells is never done
-never-loose : (c : Command) → IsNeverDone c → StaysLoose c
-never-loose c never s held lines e t sound comes = absurd (never s held lines e t (done-by (refusal_of s c) s held c lines e t comes).1)
-
-pub test-loose : (until : Option Until) (inc : Option ℕ) → StaysLoose (RecoverTest until inc)
-test-loose until inc = never-loose (RecoverTest until inc) (test-never until inc)
-
-pub preview-loose : (until : Option Until) → StaysLoose (Preview until)
-preview-loose until = never-loose (Preview until) (preview-never until)
-
-pub dump-loose : (file block : ℕ) → StaysLoose (Dump file block)
-dump-loose file block = never-loose (Dump file block) (dump-never file block)
-
-pub list-never : IsNeverDone ListIncarnation
-list-never s held lines e t is = absurd (cc)
-
-pub list-loose : StaysLoose ListIncarnation
-list-loose = never-loose ListIncarnation list-never
+pub told-loose : (c : Command) → only_tells c ≡ true → StaysLoose c
+told-loose c only s held lines e t sound comes = absurd (never-done c only s held lines e t (done-by (refusal_of s c) s held c lines e t comes).1)

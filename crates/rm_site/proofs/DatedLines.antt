@@ -5,7 +5,7 @@ use Rattle.std.proofs.lemmas.List.Elements.{All-append, All-cons, All-nil}
 use Rattle.rm_base.specs.Store.{Held}
 use Rattle.rm_statement.specs.declared.command.BackupForm.{BackupForm}
 use Rattle.rm_statement.specs.declared.command.Command.{Command}
-use Rattle.rm_statement.specs.declared.command.Command.TheVariants.{ArchiveLogCurrent, Backup, CreateDatabase, CreateDatafile, Cut, Damage, Dump, ListIncarnation, LoseDatafile, LoseLog, Mount, OpenPlain, OpenResetlogs, Preview, Recover, RecoverTest, Remove, Rename, ResetDatabase, Restore, SwitchLogfile, Write}
+use Rattle.rm_statement.specs.declared.command.Command.TheVariants.{ArchiveLogCurrent, Backup, CreateDatabase, CreateDatafile, Cut, Damage, Dump, ListArchived, ListBackup, ListCopy, ListIncarnation, LoseDatafile, LoseLog, Mount, OpenPlain, OpenResetlogs, Preview, Recover, RecoverTest, Remove, Rename, ReportSchema, ResetDatabase, Restore, ShowAll, SwitchLogfile, ValidateAll, Write}
 use Rattle.rm_history.specs.declared.tree.Incarnation.{Incarnation}
 use Rattle.rm_report.specs.Reply.{HasDate, LineHasDate}
 use Rattle.rm_report.specs.declared.line.Line.{Line}
@@ -94,6 +94,12 @@ every-dated (Preview until) s objects o change is = absurd (cc)
 every-dated (Recover until) s objects o change is = absurd (cc)
 every-dated (RecoverTest until inc) s objects o change is = absurd (cc)
 every-dated ListIncarnation s objects o change is = absurd (cc)
+every-dated ListBackup s objects o change is = absurd (cc)
+every-dated ListCopy s objects o change is = absurd (cc)
+every-dated ListArchived s objects o change is = absurd (cc)
+every-dated ReportSchema s objects o change is = absurd (cc)
+every-dated ShowAll s objects o change is = absurd (cc)
+every-dated ValidateAll s objects o change is = absurd (cc)
 every-dated (Dump file block) s objects o change is = absurd (cc)
 every-dated (LoseDatafile file) s objects o change is = by o _ is (one-dated _ tt)
 every-dated (LoseLog thread) s objects o change is = by o _ is (one-dated _ tt)
