@@ -10,24 +10,24 @@ use Rattle.rm_machine.specs.Hands.{Hands, Tells}
 use Rattle.rm_machine.specs.declared.handed.Handed.{Handed}
 use Rattle.rm_machine.specs.declared.state.State.{State}
 use Rattle.rm_machine.specs.Sound.{IsSound}
-use Rattle.rm_machine.specs.Step.{IsDone, IsOutcomeBy, IsStatement, refusal_of}
+use Rattle.rm_machine.specs.Step.{IsOutcomeBy, IsStatement, refusal_of}
 use Rattle.rm_frame.proofs.Every.{every-stays}
 use Rattle.rm_site.specs.Comes.{IsAnswer, IsRefusedBy, is_change}
 use Rattle.rm_site.specs.declared.statement.Answer.TheVariants.{Told, Done}
 use Rattle.rm_site.proofs.DatedLines.{change-dated}
 
 -- a store that holds nothing: what is so of every store is so of it
-nothing : Held
+pub nothing : Held
 nothing name = None
 
 module _ (held : Option Held) (s : State) (c : Command) (accepted : refusal_of s c ≡ None) (sound : IsSound s) where
-  -- it tells, and no store says anything of it
-  pub it-tells : (lines : List Line) → ((h : Option Held) → Tells h s c lines) → ((objects : Held) → IsDone s objects c (told lines) → All LineHasDate lines) → IsAnswer held s c (Told lines) s
-  it-tells lines tells dated = record {
+  -- it tells, by what is told of every store
+  pub it-tells : (lines : List Line) → ((h : Option Held) → Tells h s c lines) → All LineHasDate lines → IsAnswer held s c (Told lines) s
+  it-tells lines tells dates = record {
     comes = (refl, λ objects at. subst (λ o. IsOutcomeBy o s objects c (told lines)) (sym accepted) (tells held objects at));
     refused = subst (λ o. IsRefusedBy o c (Told lines)) (sym accepted) tt;
     sound = sound;
-    dates = dated nothing (tells (Some nothing) nothing refl);
+    dates = dates;
   }
 
   -- it is a change, and no store says anything of it

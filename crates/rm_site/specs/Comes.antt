@@ -42,6 +42,17 @@ is_drill (Cut name to) = true
 is_drill (Rename old new) = true
 is_drill _ = false
 
+-- the statement tells of the state alone
+abbrev pub tells_state : Command → Bool
+tells_state (Dump file block) = true
+tells_state ListIncarnation = true
+tells_state ListBackup = true
+tells_state ListCopy = true
+tells_state ListArchived = true
+tells_state ReportSchema = true
+tells_state ShowAll = true
+tells_state _ = false
+
 -- the statement changes the state, and looks at nothing else
 abbrev pub is_change : Command → Bool
 is_change (Restore file until) = false

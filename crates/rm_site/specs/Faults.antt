@@ -7,6 +7,8 @@ use Rattle.rm_change.specs.declared.change.Stop.{Stop}
 use Rattle.rm_change.specs.declared.change.Stop.TheVariants as stop
 use Rattle.rm_evidence.specs.declared.gathering.EvidenceFault.{EvidenceFault}
 use Rattle.rm_evidence.specs.declared.gathering.EvidenceFault.TheVariants as evidence
+use Rattle.rm_verify.specs.declared.fault.VerifyFault.{VerifyFault}
+use Rattle.rm_verify.specs.declared.fault.VerifyFault.TheVariants as verify
 use Rattle.rm_site.specs.declared.open.OpenFault.{OpenFault}
 use Rattle.rm_site.specs.declared.open.OpenFault.TheVariants.{BadRow, StoreFault, KeeperFault, NoMemory}
 use Rattle.rm_site.specs.Opens.{IsFirst}
@@ -27,3 +29,8 @@ IsBadFirst NoMemory rs = Unit {0}
 abbrev pub stop_of : EvidenceFault → Stop
 stop_of evidence.StoreFault = stop.StoreFault
 stop_of evidence.NoMemory = stop.NoMemory
+
+-- and so is one at the objects that are looked at one by one
+abbrev pub stop_at : VerifyFault → Stop
+stop_at verify.StoreFault = stop.StoreFault
+stop_at verify.NoMemory = stop.NoMemory

@@ -11,6 +11,7 @@ mod refusing;
 pub mod site;
 mod statement;
 mod step;
+mod telling;
 
 pub use open::OpenFault;
 pub use rm_change::Stop;

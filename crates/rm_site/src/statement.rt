@@ -12,14 +12,13 @@ use crate::changing::change;
 use crate::drilling::drill;
 use crate::recovering::{bring_back, preview, put_back, test};
 use crate::refusing::refusal_of;
+use crate::telling::{tell, validate};
 use rm_base::{Refusal, Seq, Store};
 use rm_catalog::Edit;
 use rm_change::Stop;
 use rm_machine::{Handed, State};
-use rm_modes::list_incarnation;
 use rm_report::Line;
 use rm_statement::Command;
-use rm_writing::dump;
 use std::alloc::Global;
 
 /// What a statement comes to.
@@ -58,8 +57,14 @@ fn accepted<D: Store>(
         Command::Preview { until } => preview(alloc, state, store, until),
         Command::Recover { until } => bring_back(alloc, state, store, until),
         Command::RecoverTest { until, inc } => test(alloc, state, store, until, *inc),
-        Command::ListIncarnation => Ok(Answer::Told(list_incarnation(alloc, state)?)),
-        Command::Dump { file, block } => Ok(Answer::Told(dump(alloc, state, *file, *block)?)),
+        Command::ValidateAll => validate(alloc, state, store),
+        Command::Dump { .. } => Ok(tell(alloc, state, command)?),
+        Command::ListIncarnation => Ok(tell(alloc, state, command)?),
+        Command::ListBackup => Ok(tell(alloc, state, command)?),
+        Command::ListCopy => Ok(tell(alloc, state, command)?),
+        Command::ListArchived => Ok(tell(alloc, state, command)?),
+        Command::ReportSchema => Ok(tell(alloc, state, command)?),
+        Command::ShowAll => Ok(tell(alloc, state, command)?),
         Command::Remove { .. } => drill(alloc, state, store, command),
         Command::Damage { .. } => drill(alloc, state, store, command),
         Command::Cut { .. } => drill(alloc, state, store, command),
