@@ -69,14 +69,14 @@ module _ (r : Repository) (n : ℕ) (rules : IsRepository r) where
   small-log e has =
       let range = All-contains (λ (x : LogEntry). (1 ≤ x.id) × (x.id < r.ledger.base.next_id)) r.ledger.logs e rules.ledger.ids.logs has in
       let below = range.1 in
-      let most = rules.ledger.base.next_id in
+      let most = rules.ledger.base.next_id.1 in
       omega (arith, below, most)
 
   small-piece : (p : PieceEntry) → Contains r.ledger.pieces p → p.id < 2 ^ 64
   small-piece p has =
       let range = All-contains (λ (x : PieceEntry). (1 ≤ x.id) × (x.id < r.ledger.base.next_id)) r.ledger.pieces p rules.ledger.ids.pieces has in
       let below = range.1 in
-      let most = rules.ledger.base.next_id in
+      let most = rules.ledger.base.next_id.1 in
       omega (arith, below, most)
 
   left-log : (e : LogEntry) → Contains (without_record n r).ledger.logs e → Contains r.ledger.logs e × (e.id ≢ n)
