@@ -6,10 +6,13 @@ use Rattle.std.proofs.lemmas.Bool.{eqb-true}
 use Rattle.std.proofs.lemmas.List.Elements.{All-contains, Contains-get_or}
 use Rattle.rm_base.specs.Store.{Held}
 use Rattle.rm_base.specs.declared.block.Change.{Change}
+use Rattle.rm_base.specs.declared.kinds.Kind.{Kind}
+use Rattle.rm_base.specs.declared.kinds.Kind.TheVariants.{Full, Level0, Level1, Place}
 use Rattle.rm_base.specs.declared.kinds.Status.{Status}
 use Rattle.rm_base.proofs.Lists.{IsFound, find_cases}
 use Rattle.rm_catalog.specs.declared.record.LogEntry.{LogEntry}
 use Rattle.rm_catalog.specs.declared.record.PieceEntry.{PieceEntry}
+use Rattle.rm_catalog.specs.Objects.{FitsKind}
 use Rattle.rm_ledger.specs.Facts.{IsLogEntry, IsPieceEntry}
 use Rattle.rm_ledger.specs.Ledger.{Ledger}
 use Rattle.rm_objects.specs.Names.{log_name, piece_name}
@@ -65,6 +68,13 @@ log_as st keep e = record e { status = st; keep = keep }
 abbrev pub piece_as : Status → Bool → PieceEntry → PieceEntry
 piece_as st keep p = record p { status = st; keep = keep }
 
+-- it is of its kind as before
+kind-as : (st : Status) (keep : Bool) (k : Kind) (p : PieceEntry) → FitsKind k p → FitsKind k (piece_as st keep p)
+kind-as st keep Full p is = is
+kind-as st keep Level0 p is = is
+kind-as st keep Level1 p is = is
+kind-as st keep Place p is = is
+
 -- what is shown of a catalog that follows another in a state
 pub record GoesOn (s : State) (r : Repository) : Type 0 where
   pub sound : IsSound s → IsSound (with_catalog s r)
@@ -95,7 +105,7 @@ module _ (s : State) (sound : IsSound s) (st : Status) (keep : Bool) where
       let rules : IsRepository (with_log s.catalog new) = log_fits s.catalog new sound.catalog (record {
         log = record { there = rule.there; thread = rule.thread; sequence = rule.sequence; range = rule.range; size = rule.size };
         id = record { range = All-contains (λ (x : LogEntry). (1 ≤ x.id) × (x.id < l.base.next_id)) l.logs e is.ids.logs has; parts = log-no-part l s.catalog.saved e sound.catalog.saved has };
-        other = λ k d inside same. is.ids.apart e _ has (k, inside, refl) (sym same);
+        other = λ k d inside same. is.ids.apart e (get_or l.pieces k d) has (Contains-get_or l.pieces k d inside) (sym same);
         room = inl (e, has, refl);
       }) in
       record {
@@ -126,12 +136,12 @@ module _ (s : State) (sound : IsSound s) (st : Status) (keep : Bool) where
           file = record { number = rule.file.number; datafile = rule.file.datafile; is = rule.file.is; path = rule.file.path; rows = rule.file.rows };
           checkpoint = rule.checkpoint;
           high = rule.high;
-          kind = rule.kind;
+          kind = kind-as st keep p.kind p rule.kind;
           tag = rule.tag;
           size = rule.size;
         };
         id = record { range = All-contains (λ (x : PieceEntry). (1 ≤ x.id) × (x.id < l.base.next_id)) l.pieces p is.ids.pieces has; parts = piece-no-part l s.catalog.saved p sound.catalog.saved has };
-        other = λ k d inside same. is.ids.apart _ p (k, inside, refl) has same;
+        other = λ k d inside same. is.ids.apart (get_or l.logs k d) p (Contains-get_or l.logs k d inside) has same;
         room = inl (p, has, refl);
       }) in
       record {
