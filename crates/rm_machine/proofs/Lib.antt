@@ -12,7 +12,9 @@ pub mod Contents
 pub mod CountedLogs
 pub mod Creating
 pub mod Current
+pub mod Deleting
 pub mod Drilling
+pub mod Entries
 pub mod Exchanging
 pub mod Fitting
 pub mod FreshLogs
@@ -46,6 +48,7 @@ pub mod Switching
 pub mod Tags
 pub mod Telling
 pub mod Told
+pub mod Upkeep
 pub mod Writes
 pub mod WritesKeep
 pub mod WritesSound

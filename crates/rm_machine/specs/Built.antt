@@ -1,7 +1,7 @@
 -- The statements that are built.
 use Rattle.std.specs.Prelude.{Bool, true, false}
 use Rattle.rm_statement.specs.declared.command.Command.{Command}
-use Rattle.rm_statement.specs.declared.command.Command.TheVariants.{CreateDatabase, CreateDatafile, Write, SwitchLogfile, ArchiveLogCurrent, Mount, OpenPlain, OpenResetlogs, ResetDatabase, Restore, Preview, Recover, RecoverTest, Backup, ListIncarnation, ListBackup, ListCopy, ListArchived, ReportSchema, ShowAll, ValidateAll, Dump, LoseDatafile, LoseLog, Remove, Damage, Cut, Rename}
+use Rattle.rm_statement.specs.declared.command.Command.TheVariants.{ChangeBackup, CreateDatabase, CreateDatafile, Crosscheck, DeleteBackup, DeleteExpired, Write, SwitchLogfile, ArchiveLogCurrent, Mount, OpenPlain, OpenResetlogs, ResetDatabase, Restore, Preview, Recover, RecoverTest, Backup, ListIncarnation, ListBackup, ListCopy, ListArchived, ReportSchema, ShowAll, ValidateAll, Dump, LoseDatafile, LoseLog, Remove, Damage, Cut, Rename}
 use Rattle.rm_machine.specs.Backup.{is_built_backup}
 use Rattle.rm_machine.specs.Recovery.{is_built_until}
 
@@ -28,6 +28,10 @@ is_built ListArchived = true
 is_built ReportSchema = true
 is_built ShowAll = true
 is_built ValidateAll = true
+is_built (Crosscheck class) = true
+is_built (ChangeBackup id to) = true
+is_built (DeleteBackup id) = true
+is_built (DeleteExpired class) = true
 is_built (Dump file block) = true
 is_built (LoseDatafile file) = true
 is_built (LoseLog thread) = true

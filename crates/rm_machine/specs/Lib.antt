@@ -28,5 +28,6 @@ pub mod Sound
 pub mod State
 pub mod Step
 pub mod SwitchLogfile
+pub mod Upkeep
 pub mod Validate
 pub mod Write

@@ -6,7 +6,7 @@ use Rattle.rm_base.specs.declared.kinds.Class.TheVariants as class
 use Rattle.rm_base.specs.declared.refusal.Refusal.{Refusal}
 use Rattle.rm_base.specs.declared.refusal.Refusal.TheVariants.{Rm02, Rm03}
 use Rattle.rm_statement.specs.declared.command.Command.{Command}
-use Rattle.rm_statement.specs.declared.command.Command.TheVariants.{ArchiveLogCurrent, Backup, CreateDatabase, CreateDatafile, Cut, Damage, Dump, ListArchived, ListBackup, ListCopy, ListIncarnation, LoseDatafile, LoseLog, Mount, OpenPlain, OpenResetlogs, Preview, Recover, RecoverTest, Remove, Rename, ReportSchema, ResetDatabase, Restore, ShowAll, SwitchLogfile, ValidateAll, Write}
+use Rattle.rm_statement.specs.declared.command.Command.TheVariants.{ArchiveLogCurrent, Backup, ChangeBackup, CreateDatabase, CreateDatafile, Crosscheck, Cut, Damage, DeleteBackup, DeleteExpired, Dump, ListArchived, ListBackup, ListCopy, ListIncarnation, LoseDatafile, LoseLog, Mount, OpenPlain, OpenResetlogs, Preview, Recover, RecoverTest, Remove, Rename, ReportSchema, ResetDatabase, Restore, ShowAll, SwitchLogfile, ValidateAll, Write}
 use Rattle.rm_statement.specs.IsCommand.{is_command}
 use Rattle.rm_report.specs.Reply as reply
 use Rattle.rm_report.specs.declared.line.Reply.{Reply}
@@ -34,6 +34,7 @@ use Rattle.rm_machine.specs.Shown.{IsSchemaOutcome, IsShowOutcome}
 use Rattle.rm_machine.specs.declared.state.State.{State}
 use Rattle.rm_machine.specs.State.{at_moment}
 use Rattle.rm_machine.specs.SwitchLogfile.{switch_refusal, IsSwitchOutcome}
+use Rattle.rm_machine.specs.Upkeep.{record_refusal, IsChangeOutcome, IsCrosscheckOutcome, IsDeleteExpiredOutcome, IsDeleteOutcome}
 use Rattle.rm_machine.specs.Validate.{IsValidateOutcome}
 use Rattle.rm_machine.specs.Write.{write_refusal, IsWriteOutcome}
 
@@ -63,6 +64,10 @@ refusal_of s (Preview until) = preview_refusal s until
 refusal_of s (Recover until) = recover_refusal s until
 refusal_of s (RecoverTest until inc) = test_refusal s until inc
 refusal_of s (ResetDatabase i) = reset_refusal s i
+refusal_of s (Crosscheck class) = ids_refusal s
+refusal_of s (ChangeBackup n to) = record_refusal s n
+refusal_of s (DeleteBackup n) = record_refusal s n
+refusal_of s (DeleteExpired class) = ids_refusal s
 refusal_of s (LoseDatafile f) = lose_refusal s f
 refusal_of s (LoseLog t) = lose_log_refusal s t
 refusal_of s (Remove name) = ids_refusal s
@@ -87,6 +92,10 @@ IsDone s held (Preview until) o = IsPreviewOutcome s held until o
 IsDone s held (Recover until) o = IsRecoverOutcome s held until o
 IsDone s held (RecoverTest until inc) o = IsTestOutcome s held until inc o
 IsDone s held (ResetDatabase i) o = IsResetOutcome s i o
+IsDone s held (Crosscheck class) o = IsCrosscheckOutcome s held class o
+IsDone s held (ChangeBackup n to) o = IsChangeOutcome s n to o
+IsDone s held (DeleteBackup n) o = IsDeleteOutcome s n o
+IsDone s held (DeleteExpired class) o = IsDeleteExpiredOutcome s class o
 IsDone s held ValidateAll o = IsValidateOutcome s held o
 IsDone s held ListIncarnation o = IsListIncarnationOutcome s o
 IsDone s held ListBackup o = IsListOutcome s class.Backup o

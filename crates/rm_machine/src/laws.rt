@@ -3,7 +3,9 @@ ghost use Rattle.std.specs.Prelude.{ℕ, ◌≡◌, [], ◌<◌, ◌≤◌, ◌^
 ghost use Rattle.rm_base.specs.Numbers.{last_moment, last_scn};
 ghost use Rattle.rm_base.specs.Store.{Held};
 ghost use Rattle.rm_base.specs.declared.block.Change.{Change};
+ghost use Rattle.rm_base.specs.declared.kinds.Class.{Class};
 ghost use Rattle.rm_report.specs.declared.line.Line.{Line};
+ghost use Rattle.rm_statement.specs.declared.command.ChangeTo.{ChangeTo};
 ghost use Rattle.rm_statement.specs.declared.command.Command.{Command};
 ghost use Rattle.rm_statement.specs.declared.command.Until.{Until};
 ghost use Rattle.rm_statement.specs.declared.command.BackupForm.{BackupForm};
@@ -22,7 +24,7 @@ ghost use Rattle.rm_machine.specs.Sound.{IsSound};
 ghost use Rattle.rm_machine.specs.Step.{IsDone};
 ghost use Rattle.rm_machine.specs.declared.state.State.{State};
 ghost use Rattle.rm_machine.specs.State.{at_moment, ledger, world};
-ghost use Rattle.rm_statement.specs.declared.command.Command.TheVariants.{ArchiveLogCurrent, Backup, CreateDatafile, Cut, Damage, LoseDatafile, LoseLog, Mount, OpenPlain, OpenResetlogs, Recover, RecoverTest, Remove, Rename, ResetDatabase, Restore, SwitchLogfile, Write};
+ghost use Rattle.rm_statement.specs.declared.command.Command.TheVariants.{ArchiveLogCurrent, Backup, ChangeBackup, CreateDatafile, Crosscheck, Cut, Damage, DeleteBackup, DeleteExpired, LoseDatafile, LoseLog, Mount, OpenPlain, OpenResetlogs, Recover, RecoverTest, Remove, Rename, ResetDatabase, Restore, SwitchLogfile, Write};
 
 /// There are sound machines: that of a new database is one.
 pub fn a_new_database_is_sound()
@@ -114,6 +116,19 @@ pub fn what_only_tells_leads_on()
 pub fn a_restore_leads_on()
     ensures leads { (file : Option ℕ) (until : Option Until) → LeadsOn (Restore file until) }
     ensures stays { (file : Option ℕ) (until : Option Until) → StaysSound (Restore file until) }
+{}
+
+/// CHANGE BACKUP, DELETE BACKUP, CROSSCHECK and DELETE EXPIRED, likewise: of records of logs and pieces the status or
+/// the keep changes, or they go; each record that stays keeps its artefact.
+pub fn upkeep_leads_on()
+    ensures changes { (id : ℕ) (to : ChangeTo) → LeadsOn (ChangeBackup id to) }
+    ensures deletes { (id : ℕ) → LeadsOn (DeleteBackup id) }
+    ensures checks { (class : Class) → LeadsOn (Crosscheck class) }
+    ensures expires { (class : Class) → LeadsOn (DeleteExpired class) }
+    ensures change_stays { (id : ℕ) (to : ChangeTo) → StaysSound (ChangeBackup id to) }
+    ensures delete_stays { (id : ℕ) → StaysSound (DeleteBackup id) }
+    ensures check_stays { (class : Class) → StaysSound (Crosscheck class) }
+    ensures expire_stays { (class : Class) → StaysSound (DeleteExpired class) }
 {}
 
 /// HOST LOSE DATAFILE, likewise: what stood in place is lost, and the rest stays as it is.
