@@ -1,13 +1,14 @@
 -- The laws of every statement. One that is not in the machine yet comes to nothing.
 use Rattle.std.proofs.Common.{refl}
 use Rattle.rm_statement.specs.declared.command.Command.{Command}
-use Rattle.rm_statement.specs.declared.command.Command.TheVariants.{ArchiveLogCurrent, Backup, CreateDatabase, CreateDatafile, Cut, Damage, Dump, ListArchived, ListBackup, ListCopy, ListIncarnation, LoseDatafile, LoseLog, Mount, OpenPlain, OpenResetlogs, Preview, Recover, RecoverTest, Remove, Rename, ReportSchema, ResetDatabase, Restore, ShowAll, SwitchLogfile, ValidateAll, Write}
+use Rattle.rm_statement.specs.declared.command.Command.TheVariants.{ArchiveLogCurrent, Backup, ChangeBackup, CreateDatabase, CreateDatafile, Crosscheck, Cut, Damage, DeleteBackup, DeleteExpired, Dump, ListArchived, ListBackup, ListCopy, ListIncarnation, LoseDatafile, LoseLog, Mount, OpenPlain, OpenResetlogs, Preview, Recover, RecoverTest, Remove, Rename, ReportSchema, ResetDatabase, Restore, ShowAll, SwitchLogfile, ValidateAll, Write}
 use Rattle.rm_machine.specs.Laws.{LeadsOn, TellsOn}
 use Rattle.rm_machine.proofs.AddingDatafile.{create-on, create-stays}
 use Rattle.rm_machine.proofs.ArchivingAll.{all-on, all-stays}
 use Rattle.rm_machine.proofs.BackingUp.{backup-on, backup-stays}
 use Rattle.rm_machine.proofs.Branching.{resets-on, resets-stays}
 use Rattle.rm_machine.proofs.Choosing.{choose-on, choose-stays}
+use Rattle.rm_machine.proofs.Deleting.{delete-on, delete-stays}
 use Rattle.rm_machine.proofs.Drilling.{cut-on, cut-stays, damage-on, damage-stays, remove-on, remove-stays, rename-on, rename-stays}
 use Rattle.rm_machine.proofs.Leading.{StaysBy, leads, tells}
 use Rattle.rm_machine.proofs.Losing.{lose-on, lose-stays}
@@ -18,12 +19,14 @@ use Rattle.rm_machine.proofs.Recovered.{recover-on, recover-stays}
 use Rattle.rm_machine.proofs.Restoring.{restore-on, restore-stays}
 use Rattle.rm_machine.proofs.Switching.{switch-on, switch-stays}
 use Rattle.rm_machine.proofs.Telling.{every-tells-by, tells-on, tells-stays}
+use Rattle.rm_machine.proofs.Upkeep.{changed-on, changed-stays, checked-on, checked-stays, expired-on, expired-stays}
 use Rattle.rm_machine.proofs.Writing.{write-on, write-stays}
 use Rattle.rm_frame.specs.Loose.{StaysLoose}
 use Rattle.rm_frame.proofs.Founding.{never-again, never-loose}
 use Rattle.rm_frame.proofs.LooseBackup.{backup-loose}
 use Rattle.rm_frame.proofs.LooseDrills.{cut-loose, damage-loose, remove-loose, rename-loose}
 use Rattle.rm_frame.proofs.LooseNew.{archive-loose, branch-loose, switch-loose}
+use Rattle.rm_frame.proofs.LooseUpkeep.{change-loose, check-loose, delete-loose, expire-loose}
 use Rattle.rm_frame.proofs.LooseQuiet.{choose-loose, create-loose, lose-loose, lose_log-loose, mount-loose, open-loose, recover-loose, restore-loose, told-loose, write-loose}
 
 pub every-leads : (c : Command) → LeadsOn c
@@ -49,6 +52,10 @@ every-leads ListArchived = leads ListArchived (tells-on ListArchived refl)
 every-leads ReportSchema = leads ReportSchema (tells-on ReportSchema refl)
 every-leads ShowAll = leads ShowAll (tells-on ShowAll refl)
 every-leads ValidateAll = leads ValidateAll (tells-on ValidateAll refl)
+every-leads (Crosscheck class) = leads (Crosscheck class) (checked-on class)
+every-leads (ChangeBackup id to) = leads (ChangeBackup id to) (changed-on id to)
+every-leads (DeleteBackup id) = leads (DeleteBackup id) (delete-on id)
+every-leads (DeleteExpired class) = leads (DeleteExpired class) (expired-on class)
 every-leads (LoseDatafile file) = leads (LoseDatafile file) (lose-on file)
 every-leads (LoseLog thread) = leads (LoseLog thread) (lose_log-on thread)
 every-leads (Remove name) = leads (Remove name) (remove-on name)
@@ -83,6 +90,10 @@ every-loose ListArchived = told-loose ListArchived refl
 every-loose ReportSchema = told-loose ReportSchema refl
 every-loose ShowAll = told-loose ShowAll refl
 every-loose ValidateAll = told-loose ValidateAll refl
+every-loose (Crosscheck class) = check-loose class
+every-loose (ChangeBackup id to) = change-loose id to
+every-loose (DeleteBackup id) = delete-loose id
+every-loose (DeleteExpired class) = expire-loose class
 every-loose (LoseDatafile file) = lose-loose file
 every-loose (LoseLog thread) = lose_log-loose thread
 every-loose (Remove name) = remove-loose name
@@ -114,6 +125,10 @@ every-stays ListArchived = tells-stays ListArchived refl
 every-stays ReportSchema = tells-stays ReportSchema refl
 every-stays ShowAll = tells-stays ShowAll refl
 every-stays ValidateAll = tells-stays ValidateAll refl
+every-stays (Crosscheck class) = checked-stays class
+every-stays (ChangeBackup id to) = changed-stays id to
+every-stays (DeleteBackup id) = delete-stays id
+every-stays (DeleteExpired class) = expired-stays class
 every-stays (LoseDatafile file) = lose-stays file
 every-stays (LoseLog thread) = lose_log-stays thread
 every-stays (Remove name) = remove-stays name
