@@ -6,5 +6,6 @@ pub mod LooseBackup
 pub mod LooseDrills
 pub mod LooseNew
 pub mod LooseQuiet
+pub mod LooseUpkeep
 pub mod Loosening
 pub mod Lost
