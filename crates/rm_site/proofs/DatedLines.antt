@@ -1,14 +1,17 @@
 -- No line of what a statement comes to tells a moment.
-use Rattle.std.proofs.Common.{◌≡◌, ◌++◌, ◌∷◌, ◌+◌, ℕ, zero, suc, Bool, true, false, List, [], Option, Some, None, length, sym, subst}
+use Rattle.std.proofs.Common.{◌≡◌, ◌++◌, ◌∷◌, ◌+◌, ℕ, zero, suc, Bool, true, false, List, [], Option, Some, None, length, map, sym, subst}
 use Rattle.std.specs.Prelude.{All, IsSomeAnd, if◌then◌else◌}
 use Rattle.std.proofs.lemmas.List.Elements.{All-append, All-cons, All-nil}
 use Rattle.rm_base.specs.Store.{Held}
 use Rattle.rm_statement.specs.declared.command.BackupForm.{BackupForm}
 use Rattle.rm_statement.specs.declared.command.Command.{Command}
-use Rattle.rm_statement.specs.declared.command.Command.TheVariants.{ArchiveLogCurrent, Backup, CreateDatabase, CreateDatafile, Cut, Damage, Dump, ListArchived, ListBackup, ListCopy, ListIncarnation, LoseDatafile, LoseLog, Mount, OpenPlain, OpenResetlogs, Preview, Recover, RecoverTest, Remove, Rename, ReportSchema, ResetDatabase, Restore, ShowAll, SwitchLogfile, ValidateAll, Write}
+use Rattle.rm_statement.specs.declared.command.Command.TheVariants.{ArchiveLogCurrent, Backup, ChangeBackup, CreateDatabase, CreateDatafile, Crosscheck, Cut, Damage, DeleteBackup, DeleteExpired, Dump, ListArchived, ListBackup, ListCopy, ListIncarnation, LoseDatafile, LoseLog, Mount, OpenPlain, OpenResetlogs, Preview, Recover, RecoverTest, Remove, Rename, ReportSchema, ResetDatabase, Restore, ShowAll, SwitchLogfile, ValidateAll, Write}
 use Rattle.rm_history.specs.declared.tree.Incarnation.{Incarnation}
 use Rattle.rm_report.specs.Reply.{HasDate, LineHasDate}
 use Rattle.rm_report.specs.declared.line.Line.{Line}
+use Rattle.rm_report.specs.declared.line.Line.TheVariants.{Deleted}
+use Rattle.rm_statement.specs.declared.command.ChangeTo.{ChangeTo}
+use Rattle.rm_statement.specs.declared.command.ChangeTo.TheVariants.{Available, Keep, NoKeep, Unavailable, Uncatalog}
 use Rattle.rm_machine.specs.Archive.{after_thread, lines_from, thread_lines}
 use Rattle.rm_machine.specs.Backup.{after_file, lines_of, or_nothing, taken}
 use Rattle.rm_machine.specs.Effect.{Effect, Outcome, done, no_effect, refused, told}
@@ -16,6 +19,7 @@ use Rattle.rm_machine.specs.ListIncarnation.{incarnation_lines}
 use Rattle.rm_machine.specs.State.{current_of, ledger, online, tree}
 use Rattle.rm_machine.specs.Step.{IsDone}
 use Rattle.rm_machine.specs.SwitchLogfile.{archived, is_due, made_lines, none_lines, with_archived}
+use Rattle.rm_machine.specs.Upkeep.{change_line}
 use Rattle.rm_machine.specs.declared.state.State.{State}
 use Rattle.rm_site.specs.Comes.{is_change}
 
@@ -60,6 +64,19 @@ incarnations-dated : (ns : List Incarnation) (current i n : ℕ) → AreDated (i
 incarnations-dated ns current i zero = none-dated
 incarnations-dated ns current i (suc n) = more-dated _ _ tt (incarnations-dated ns current (i + 1) n)
 
+-- The lines of upkeep
+
+change-dated_line : (to : ChangeTo) (n : ℕ) → LineHasDate (change_line to n)
+change-dated_line Available n = tt
+change-dated_line Unavailable n = tt
+change-dated_line Uncatalog n = tt
+change-dated_line Keep n = tt
+change-dated_line NoKeep n = tt
+
+deleted-dated : (ids : List ℕ) → AreDated (map Deleted ids)
+deleted-dated [] = none-dated
+deleted-dated (id ∷ ids) = more-dated (Deleted id) (map Deleted ids) tt (deleted-dated ids)
+
 -- The lines of an outcome
 
 abbrev IsDated : Outcome → Type 0
@@ -101,6 +118,10 @@ every-dated ReportSchema s objects o change is = absurd (cc)
 every-dated ShowAll s objects o change is = absurd (cc)
 every-dated ValidateAll s objects o change is = absurd (cc)
 every-dated (Dump file block) s objects o change is = absurd (cc)
+every-dated (Crosscheck class) s objects o change is = absurd (cc)
+every-dated (ChangeBackup n to) s objects o change is = by o _ is (one-dated (change_line to n) (change-dated_line to n))
+every-dated (DeleteBackup n) s objects o change is = by o _ is (more-dated _ _ tt (one-dated _ tt))
+every-dated (DeleteExpired class) s objects o change is = by o _ is.is (join-dated _ _ (deleted-dated is.ids) (one-dated _ tt))
 every-dated (LoseDatafile file) s objects o change is = by o _ is (one-dated _ tt)
 every-dated (LoseLog thread) s objects o change is = by o _ is (one-dated _ tt)
 every-dated (Remove name) s objects o change is = absurd (cc)

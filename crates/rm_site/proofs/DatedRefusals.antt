@@ -5,7 +5,7 @@ use Rattle.std.specs.Option.{option_and_then, option_map, option_map_or}
 use Rattle.rm_base.specs.declared.refusal.Refusal.{Refusal}
 use Rattle.rm_statement.specs.declared.command.BackupForm.{BackupForm}
 use Rattle.rm_statement.specs.declared.command.Command.{Command}
-use Rattle.rm_statement.specs.declared.command.Command.TheVariants.{ArchiveLogCurrent, Backup, CreateDatabase, CreateDatafile, Cut, Damage, Dump, LoseDatafile, LoseLog, Mount, OpenPlain, OpenResetlogs, Preview, Recover, RecoverTest, Remove, Rename, ResetDatabase, Restore, SwitchLogfile, Write}
+use Rattle.rm_statement.specs.declared.command.Command.TheVariants.{ArchiveLogCurrent, Backup, ChangeBackup, CreateDatabase, CreateDatafile, Crosscheck, Cut, Damage, DeleteBackup, DeleteExpired, Dump, LoseDatafile, LoseLog, Mount, OpenPlain, OpenResetlogs, Preview, Recover, RecoverTest, Remove, Rename, ResetDatabase, Restore, SwitchLogfile, Write}
 use Rattle.rm_statement.specs.declared.command.Until.{Until}
 use Rattle.rm_statement.specs.declared.command.WriteForm.{WriteForm}
 use Rattle.rm_history.specs.declared.world.Datafile.{Datafile}
@@ -25,6 +25,7 @@ use Rattle.rm_machine.specs.ResetDatabase.{reset_refusal}
 use Rattle.rm_machine.specs.Restore.{absent_refusal, place_refusal, preview_refusal, restore_refusal}
 use Rattle.rm_machine.specs.Step.{refusal_of}
 use Rattle.rm_machine.specs.SwitchLogfile.{switch_refusal}
+use Rattle.rm_machine.specs.Upkeep.{record_refusal}
 use Rattle.rm_machine.specs.Write.{block_refusal, write_refusal}
 use Rattle.rm_machine.specs.declared.state.State.{State}
 
@@ -126,6 +127,9 @@ lose-dated s f = search (unless-dated, ids-dated)
 lose_log-dated : (s : State) (t : ℕ) → IsDated (lose_log_refusal s t)
 lose_log-dated s t = search (unless-dated, ids-dated)
 
+record-dated : (s : State) (n : ℕ) → IsDated (record_refusal s n)
+record-dated s n = search (unless-dated, never)
+
 every-refusal-dated : (s : State) (c : Command) → IsDated (refusal_of s c)
 every-refusal-dated s (CreateDatabase dbid threads scn) = once _ tt
 every-refusal-dated s (CreateDatafile blocks) = datafile-dated s blocks
@@ -142,6 +146,10 @@ every-refusal-dated s (Preview until) = preview-dated s until
 every-refusal-dated s (Recover until) = recover-dated s until
 every-refusal-dated s (RecoverTest until inc) = test-dated s until inc
 every-refusal-dated s (ResetDatabase i) = reset-dated s i
+every-refusal-dated s (Crosscheck class) = ids-dated s
+every-refusal-dated s (ChangeBackup n to) = record-dated s n
+every-refusal-dated s (DeleteBackup n) = record-dated s n
+every-refusal-dated s (DeleteExpired class) = ids-dated s
 every-refusal-dated s (LoseDatafile f) = lose-dated s f
 every-refusal-dated s (LoseLog t) = lose_log-dated s t
 every-refusal-dated s (Remove name) = ids-dated s

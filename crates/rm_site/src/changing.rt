@@ -16,6 +16,7 @@ use rm_host::{lose_datafile, lose_log};
 use rm_machine::{Handed, State};
 use rm_modes::{mount, open, open_resetlogs, reset_database};
 use rm_statement::Command;
+use rm_upkeep::{change_backup, delete_backup, delete_expired};
 use rm_writing::{create_datafile, write};
 use std::alloc::Global;
 
@@ -45,6 +46,9 @@ pub(crate) fn change(
         Command::OpenPlain => open(alloc, state),
         Command::OpenResetlogs => open_resetlogs(alloc, state, edits),
         Command::ResetDatabase { inc } => reset_database(alloc, state, edits, *inc),
+        Command::ChangeBackup { id, to } => change_backup(alloc, state, edits, *id, *to),
+        Command::DeleteBackup { id } => delete_backup(alloc, state, edits, *id),
+        Command::DeleteExpired { class } => delete_expired(alloc, state, edits, *class),
         Command::LoseDatafile { file } => lose_datafile(alloc, state, *file),
         Command::LoseLog { thread } => lose_log(alloc, state, *thread),
         _ => unreachable!(),

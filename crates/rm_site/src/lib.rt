@@ -2,6 +2,7 @@
 #![tactic(auto)]
 
 mod changing;
+mod checking;
 mod create;
 mod drilling;
 mod moment;

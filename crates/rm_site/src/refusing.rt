@@ -12,6 +12,7 @@ use rm_machine::room::ids_refusal;
 use rm_modes::{open_refusal, reset_refusal, resetlogs_refusal};
 use rm_recovery::{preview_refusal, recover_refusal, restore_refusal, test_refusal};
 use rm_statement::Command;
+use rm_upkeep::record_refusal;
 use rm_writing::{datafile_refusal, dump_refusal, write_refusal};
 
 /// Why the state alone refuses a statement, if it does. It takes no memory.
@@ -35,6 +36,10 @@ pub(crate) fn refusal_of(state: &State, command: &Command) -> Option<Refusal>
         Command::Preview { until } => preview_refusal(state, until),
         Command::Recover { until } => recover_refusal(state, until),
         Command::RecoverTest { until, inc } => test_refusal(state, until, *inc),
+        Command::Crosscheck { .. } => ids_refusal(state),
+        Command::ChangeBackup { id, .. } => record_refusal(state, *id),
+        Command::DeleteBackup { id } => record_refusal(state, *id),
+        Command::DeleteExpired { .. } => ids_refusal(state),
         Command::LoseDatafile { file } => lose_refusal(state, *file),
         Command::LoseLog { thread } => lose_log_refusal(state, *thread),
         Command::Remove { .. } => ids_refusal(state),

@@ -9,10 +9,11 @@ ghost use Rattle.rm_machine.specs.Step.{IsStatement, refusal_of};
 ghost use Rattle.rm_site.specs.Comes.{AnswerHasDates, ComesTo, IsAnswer, IsRefusedBy};
 
 use crate::changing::change;
+use crate::checking::{check, validate};
 use crate::drilling::drill;
 use crate::recovering::{bring_back, preview, put_back, test};
 use crate::refusing::refusal_of;
-use crate::telling::{tell, validate};
+use crate::telling::tell;
 use rm_base::{Refusal, Seq, Store};
 use rm_catalog::Edit;
 use rm_change::Stop;
@@ -58,6 +59,7 @@ fn accepted<D: Store>(
         Command::Recover { until } => bring_back(alloc, state, store, until),
         Command::RecoverTest { until, inc } => test(alloc, state, store, until, *inc),
         Command::ValidateAll => validate(alloc, state, store),
+        Command::Crosscheck { class } => check(alloc, state, store, edits, *class),
         Command::Dump { .. } => Ok(tell(alloc, state, command)?),
         Command::ListIncarnation => Ok(tell(alloc, state, command)?),
         Command::ListBackup => Ok(tell(alloc, state, command)?),

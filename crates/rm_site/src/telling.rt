@@ -1,25 +1,19 @@
-//! The statements that only tell: of the state alone, and VALIDATE ALL of what the store holds.
-ghost use Rattle.std.specs.Prelude.{◌≡◌, ◌≤◌, Option, None, true, All, IfOk, IsErrOf};
-ghost use Rattle.rm_base.specs.Outside.{Rose};
+//! The statements that tell of the state alone.
+ghost use Rattle.std.specs.Prelude.{◌≡◌, Option, None, true, All, IfOk};
 ghost use Rattle.rm_base.specs.Store.{Held};
-ghost use Rattle.rm_change.specs.declared.change.Stop.TheVariants.{StoreFault, KeeperFault};
 ghost use Rattle.rm_machine.specs.Hands.{Tells};
 ghost use Rattle.rm_machine.specs.Sound.{IsSound};
 ghost use Rattle.rm_machine.specs.Step.{refusal_of};
 ghost use Rattle.rm_report.specs.Reply.{LineHasDate};
 ghost use Rattle.rm_site.specs.Comes.{IsAnswer, tells_state};
-ghost use Rattle.rm_site.specs.Faults.{stop_at};
-ghost use Rattle.rm_statement.specs.declared.command.Command.TheVariants.{ValidateAll};
 
 use crate::statement::Answer;
-use rm_base::{Class, NoMemory, Seq, Store};
-use rm_change::Stop;
-use rm_listing::{list, report_schema, show_all, validate_all};
+use rm_base::{Class, NoMemory, Seq};
+use rm_listing::{list, report_schema, show_all};
 use rm_machine::State;
 use rm_modes::list_incarnation;
 use rm_report::Line;
 use rm_statement::Command;
-use rm_verify::VerifyFault;
 use rm_writing::dump;
 use std::alloc::Global;
 
@@ -52,33 +46,4 @@ pub(crate) fn tell(alloc: Global, state: &State, command: &Command) -> Result<An
     ensures answer { IfOk result (λ a. (held : Option Held) → IsAnswer held state.now command.now a state.now) }
 {
     Ok(Answer::Told(lines_of(alloc, state, command)?))
-}
-
-// The stop that a fault at what the store holds makes.
-fn stop_at(fault: VerifyFault) -> Stop
-    ensures { result ≡ stop_at fault }
-{
-    match fault {
-        VerifyFault::StoreFault => Stop::StoreFault,
-        VerifyFault::NoMemory => Stop::NoMemory,
-    }
-}
-
-/// What VALIDATE ALL comes to: it tells. An error is a stop.
-pub(crate) fn validate<D: Store>(
-    alloc: Global,
-    state: &State,
-    store: &mut D,
-) -> Result<Answer, Stop>
-    requires sound { IsSound state.now }
-    ensures answer { IfOk result (λ a. IsAnswer (D.held store.old) state.now ValidateAll a state.now) }
-    ensures held { D.held store.new ≡ D.held store.old }
-    ensures store { IsErrOf result StoreFault → Rose (D.faults store.old) (D.faults store.new) }
-    ensures keeper { ¬ IsErrOf result KeeperFault }
-    ensures never_falls { D.faults store.old ≤ D.faults store.new }
-{
-    match validate_all(alloc, state, store) {
-        Ok(lines) => Ok(Answer::Told(lines)),
-        Err(fault) => Err(stop_at(fault)),
-    }
 }
