@@ -1,7 +1,9 @@
 #!/usr/bin/env bash
 # Tells the time of scripts from end to end: the shortest of five runs of each script, less the shortest of the same
 # script without the statements that are measured. Beside BACKUP and RECOVER of a database of 8 MB stands the shortest
-# of five runs of sha256sum on a file as long as the two pieces.
+# of five runs of sha256sum on a file as long as the two pieces. Then the database is lost: beside its RESTORE and
+# RECOVER, from a level 0 and a log of 65,536 records, stands sha256sum of these objects, and at last RECOVER from 1, 4
+# and 16 logs of 4,096 records each.
 set -euo pipefail
 cd "$(dirname "$0")/.."
 room=$(mktemp -d)
@@ -41,3 +43,39 @@ recover=$(shortest run_script "$room/recover")
 digest=$(shortest sha256sum "$room/bytes")
 echo "backup: 131072 blocks in $((backup - none)) us, sha256sum of 9961636 bytes $digest us, $(((backup - none) * 100 / digest)) %"
 echo "recover: 131072 blocks in $((recover - backup)) us, sha256sum of 9961636 bytes $digest us, $(((recover - backup) * 100 / digest)) %"
+
+# Writes number $1 to $2 - 1, over both datafiles.
+writes() {
+    awk -v from="$1" -v to="$2" 'BEGIN {
+        for (i = from; i < to; i++)
+            printf "WRITE DATAFILE %d BLOCK %d VALUE '\''%d'\'';\n", i % 2 + 1, i * 40503 % 65536, i
+    }'
+}
+
+lose() {
+    echo 'HOST LOSE DATAFILE 1; HOST LOSE DATAFILE 2; STARTUP FORCE MOUNT;'
+}
+
+(database && echo 'BACKUP INCREMENTAL LEVEL 0 DATABASE;' && writes 0 65536 && echo 'ALTER SYSTEM ARCHIVE LOG CURRENT;' && lose) > "$room/lost"
+(cat "$room/lost" && echo 'RESTORE DATABASE;') > "$room/restored"
+(cat "$room/restored" && echo 'RECOVER DATABASE;') > "$room/recovered"
+head -c 15204586 /dev/urandom > "$room/bytes"
+lost=$(shortest run_script "$room/lost")
+restored=$(shortest run_script "$room/restored")
+recovered=$(shortest run_script "$room/recovered")
+digest=$(shortest sha256sum "$room/bytes")
+echo "restore of a lost database: $((restored - lost)) us, sha256sum of 15204586 bytes $digest us, $(((restored - lost) * 100 / digest)) %"
+echo "recover of a lost database: $((recovered - restored)) us, sha256sum of 15204586 bytes $digest us, $(((recovered - restored) * 100 / digest)) %"
+
+for logs in 1 4 16; do
+    (database && echo 'BACKUP DATABASE;'
+        for k in $(seq 0 $((logs - 1))); do
+            writes $((k * 4096)) $((k * 4096 + 4096))
+            echo 'ALTER SYSTEM SWITCH LOGFILE;'
+        done
+        lose && echo 'RESTORE DATABASE;') > "$room/restored"
+    (cat "$room/restored" && echo 'RECOVER DATABASE;') > "$room/recovered"
+    restored=$(shortest run_script "$room/restored")
+    recovered=$(shortest run_script "$room/recovered")
+    echo "recover from $logs logs of 4096 records: $((recovered - restored)) us"
+done

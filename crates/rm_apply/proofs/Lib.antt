@@ -1,5 +1,6 @@
 pub mod Agreeing
 pub mod Backups
+pub mod Deciding
 pub mod Firsts
 pub mod Numbers
 pub mod Orders

@@ -30,7 +30,7 @@ rows-are row b (suc n) (x ∷ xs) many each =
 
 module _ (w : World) (e : Evidence) (i s f : ℕ) (h : List Change) (x : File) (history : IsHistory w h) (agrees : Agrees w h e) (target : IsFileTarget w i s f) (told : IsTold w e i s f x) where
   -- each row of a datafile that is told is the state of its block
-  row-is : (k : ℕ) (r : Row) → slice_get x.rows k ≡ Some r → state w h i s f k ≡ r
+  pub row-is : (k : ℕ) (r : Row) → slice_get x.rows k ≡ Some r → state w h i s f k ≡ r
   row-is k r is =
       let size : blocks_of w f ≡ target.datafile.blocks = ap (λ (o : Option Datafile). option_map_or (λ d. d.blocks) o 0) target.is in
       let within : k < length x.rows = slice_get_within x.rows k r is in

@@ -22,7 +22,7 @@ use Rattle.rm_redo.specs.LogFormat.{IsLogFile}
 use Rattle.rm_evidence.specs.declared.evidence.Evidence.{Evidence}
 use Rattle.rm_evidence.specs.declared.evidence.InPlace.{InPlace}
 use Rattle.rm_evidence.specs.Gathered.{dbid_in, placed, placed_piece}
-use Rattle.rm_evidence.specs.Known.{FitsLog, FitsPiece, FitsTree}
+use Rattle.rm_evidence.specs.Known.{AreRecorded, FitsLog, FitsPiece, FitsTree, IsRecorded}
 use Rattle.rm_evidence.specs.Place.{FitsPlace, placed_evidence}
 use Rattle.rm_evidence.specs.Taking.{HasIncarnation, with_piece, with_piece_of}
 
@@ -65,6 +65,19 @@ fits-piece tree p a old valid fields there fits = step a.kind refl (record { val
     step Level1 is one = with-level1 tree p.id a old one is fits
     step Place is one = with-base tree p.id a old one (λ e. absurd (let no : Place ≡ Level1 = sym is ∙ e in cc)) fits
 
+-- a piece more of a record
+pub recorded-piece : (rs : List Record) (p : PieceEntry) (a : Piece) (old : Evidence) → Contains rs (kind.Piece p) → HasPieceFields p a → AreRecorded rs old → AreRecorded rs (with_piece old p.id a)
+recorded-piece rs p a old has fields are = step a.kind
+  where
+    more : All (λ x. 0 < x.0 → IsRecorded rs x) (old.bases ++ (p.id, a) ∷ [])
+    more = All-push (λ (x : ℕ × Piece). 0 < x.0 → IsRecorded rs x) old.bases (p.id, a) are (λ above. (p, has, refl, fields))
+
+    step : (k : Kind) → AreRecorded rs (with_piece_of k old p.id a)
+    step Full = more
+    step Level0 = more
+    step Level1 = are
+    step Place = more
+
 -- the incarnation of each record of a catalog is there
 pub incarnations-there : (rs : List Record) (r : Record) → IsCatalog rs → Contains rs r → HasIncarnation (nodes rs) r
 incarnations-there rs (kind.Base b) c has = tt
@@ -93,10 +106,22 @@ fits-placed rs place fits =
       logs = all-placed (FitsLog (nodes rs)) place.logs fits.logs;
     }
 
+-- and has the id 0
+pub recorded-placed : (rs : List Record) (place : InPlace) → AreRecorded rs (placed_evidence (dbid_in rs) place)
+recorded-placed rs place = no-id (map (placed_piece (dbid_in rs)) place.files)
+  where
+    no-id : (pieces : List Piece) → All (λ x. 0 < x.0 → IsRecorded rs x) (placed pieces)
+    no-id [] = λ k d inside. absurd (omega arith)
+    no-id (a ∷ rest) = All-cons (λ (x : ℕ × Piece). 0 < x.0 → IsRecorded rs x) (0, a) (placed rest) (λ above. absurd (omega (arith, above))) (no-id rest)
+
 -- each of them is valid
 pub valid-placed : (rs : List Record) (place : InPlace) → FitsPlace rs place → All (λ x. IsPiece (placed_piece (dbid_in rs) x)) place.files
 valid-placed rs place fits = λ k d inside. (fits.files k d inside).valid
 
--- so is that of each item of the list of records
+-- each item of the list of records is one of them
+pub item-in : (xs rs : List Record) (i : ℕ) (r : Record) → xs ≡ rs → i < length xs → r ≡ get_or xs i r → Contains rs r
+item-in xs rs i r same inside is = subst (λ (ys : List Record). Contains ys r) same (i, inside, sym is)
+
+-- so its incarnation is there
 pub item-there : (xs rs : List Record) (i : ℕ) (r : Record) → xs ≡ rs → IsCatalog rs → i < length xs → r ≡ get_or xs i r → HasIncarnation (nodes rs) r
-item-there xs rs i r same c inside is = incarnations-there rs r c (subst (λ (ys : List Record). Contains ys r) same (i, inside, sym is))
+item-there xs rs i r same c inside is = incarnations-there rs r c (item-in xs rs i r same inside is)

@@ -9,6 +9,10 @@ use Rattle.std.proofs.lemmas.Map.Keys.{IsDistinct-IsPermutation}
 use Rattle.rm_base.proofs.Members.{in-front, behind, none-in, first-or-rest}
 use Rattle.rm_evidence.proofs.Extending.{pairs-head, pairs-tail}
 
+-- the id
+abbrev pub id-of : {A : Type 0} → ℕ × A → ℕ
+id-of x = x.0
+
 by-recursion : {X : Type 0} (P : X → Type 0) (xs : List X) → ((x : X) → Contains xs x → P x) → AllByRecursion P xs
 by-recursion P [] all = tt
 by-recursion P (x ∷ xs) all = (all x (in-front x xs), by-recursion P xs (λ y has. all y (behind x xs y has)))

@@ -1,10 +1,14 @@
 -- The artefacts of the evidence, and which evidence fits a database.
-use Rattle.std.specs.Prelude.{◌≡◌, ◌≢◌, List, map, All}
+use Rattle.std.specs.Prelude.{ℕ, ◌≡◌, ◌≢◌, ◌<◌, List, map, All, Contains}
 use Rattle.rm_base.specs.declared.kinds.Kind.TheVariants.{Level1}
+use Rattle.rm_catalog.specs.declared.record.PieceEntry.{PieceEntry}
+use Rattle.rm_catalog.specs.declared.record.Record.{Record}
+use Rattle.rm_catalog.specs.declared.record.Record.TheVariants as kind
 use Rattle.rm_evidence.specs.declared.evidence.Evidence.{Evidence}
 use Rattle.rm_history.specs.declared.tree.Incarnation.{Incarnation}
 use Rattle.rm_history.specs.Tree.{IsThere}
 use Rattle.rm_known.specs.Evidence as known
+use Rattle.rm_objects.specs.Objects.{HasPieceFields}
 use Rattle.rm_piece.specs.declared.piece.Piece.{Piece}
 use Rattle.rm_piece.specs.Artefacts.{base_of, level1_of}
 use Rattle.rm_piece.specs.Valid.{IsPiece}
@@ -38,3 +42,11 @@ pub record FitsTree (tree : List Incarnation) (e : Evidence) : Type 0 where
   pub level1s : All (λ x. FitsPiece tree x.1) e.level1s
   pub all_level1 : All (λ x. x.1.kind ≡ Level1) e.level1s
   pub logs : All (λ x. FitsLog tree x.1) e.logs
+
+-- the piece has the fields of a record of this id
+abbrev pub IsRecorded : List Record → ℕ × Piece → Type 0
+IsRecorded rs x = (p : PieceEntry) × Contains rs (kind.Piece p) × (p.id ≡ x.0) × HasPieceFields p x.1
+
+-- each copy that is not in place has the fields of its record, whatever the store tells
+abbrev pub AreRecorded : List Record → Evidence → Type 0
+AreRecorded rs e = All (λ x. 0 < x.0 → IsRecorded rs x) e.bases

@@ -1,16 +1,17 @@
 //! The evidence that a catalog, a store and what is in place give.
-ghost use Rattle.std.specs.Prelude.{◌≡◌, ◌≢◌, ◌≤◌, ◌<◌, IfOk, IfSome, IsErrOf, AllPairs, IsPermutation};
+ghost use Rattle.std.specs.Prelude.{◌≡◌, ◌≤◌, IfOk, IfSome, IsErrOf};
 ghost use Rattle.rm_base.specs.Outside.{Rose};
 ghost use Rattle.rm_catalog.specs.Rules.{HasDatabase};
 ghost use Rattle.rm_catalog.specs.Trees.{nodes};
 ghost use Rattle.rm_evidence.specs.Gathered.{IsGathered};
-ghost use Rattle.rm_evidence.specs.Known.{FitsTree};
+ghost use Rattle.rm_evidence.specs.Known.{AreRecorded, FitsTree};
 ghost use Rattle.rm_evidence.specs.Place.{FitsPlace};
 
 use crate::evidence::{Evidence, InPlace};
+use crate::order::by_id;
 use crate::place::{dbid_of, in_place};
 use crate::taking::take_record;
-use rm_base::{Bad, NoMemory, Seq, Store, StoreFail};
+use rm_base::{NoMemory, Store, StoreFail};
 use rm_catalog::Catalog;
 use std::alloc::Global;
 
@@ -45,16 +46,6 @@ impl From<StoreFail> for EvidenceFault {
     }
 }
 
-// The same records, by id.
-fn by_id(skipped: Seq<(u32, Bad)>) -> Seq<(u32, Bad)>
-    ensures same { IsPermutation skipped result }
-    ensures ascends { AllPairs (λ x y. x.0 ≢ y.0) skipped → AllPairs (λ x y. x.0 < y.0) result }
-{
-    let mut skipped = skipped.into_vec();
-    skipped.sort_unstable_by_key(|x| x.0);
-    Seq::from_vec(skipped)
-}
-
 /// The artefacts that are at hand: what is in place, and what the store has of the records that count
 /// as available. The records whose objects are missing or damaged are told as skipped.
 pub fn gather<D: Store>(
@@ -67,6 +58,7 @@ pub fn gather<D: Store>(
     requires place { FitsPlace catalog.now place.now }
     ensures gathered { IfOk result (λ e. IfSome (D.held store.old) (λ h. IsGathered h catalog.now place.now e)) }
     ensures fits { IfOk result (λ e. FitsTree (nodes catalog.now) e) }
+    ensures recorded { IfOk result (λ e. AreRecorded catalog.now e) }
     ensures same { D.held store.new ≡ D.held store.old }
     ensures failed { IsErrOf result EvidenceFault.StoreFault → Rose (D.faults store.old) (D.faults store.new) }
     ensures never_falls { D.faults store.old ≤ D.faults store.new }

@@ -15,8 +15,10 @@ use rm_piece::Piece;
 use rm_redo::LogFile;
 use std::alloc::Global;
 
-/// The log of the record, or why it can't be used.
-pub(crate) fn look_for_log<D: Store>(
+/// The log of the record as the store has it, or why it can't be used: nothing stands under its name, or what stands there
+/// has not its size and SHA-256, or spells no log with its fields. An error is a fault of the store, which is counted, or
+/// want of memory.
+pub fn look_for_log<D: Store>(
     alloc: Global,
     store: &mut D,
     entry: &LogEntry,
@@ -38,8 +40,8 @@ pub(crate) fn look_for_log<D: Store>(
     }
 }
 
-/// The piece of the record, or why it can't be used.
-pub(crate) fn look_for_piece<D: Store>(
+/// The piece of the record, likewise.
+pub fn look_for_piece<D: Store>(
     alloc: Global,
     store: &mut D,
     entry: &PieceEntry,

@@ -1,6 +1,6 @@
 -- The laws of every statement. One that is not in the machine yet comes to nothing.
 use Rattle.rm_statement.specs.declared.command.Command.{Command}
-use Rattle.rm_statement.specs.declared.command.Command.TheVariants.{ArchiveLogCurrent, Backup, CreateDatabase, CreateDatafile, Cut, Damage, Dump, ListIncarnation, LoseDatafile, LoseLog, Mount, OpenPlain, OpenResetlogs, Recover, RecoverTest, Remove, Rename, ResetDatabase, SwitchLogfile, Write}
+use Rattle.rm_statement.specs.declared.command.Command.TheVariants.{ArchiveLogCurrent, Backup, CreateDatabase, CreateDatafile, Cut, Damage, Dump, ListIncarnation, LoseDatafile, LoseLog, Mount, OpenPlain, OpenResetlogs, Preview, Recover, RecoverTest, Remove, Rename, ResetDatabase, Restore, SwitchLogfile, Write}
 use Rattle.rm_machine.specs.Laws.{LeadsOn, TellsOn}
 use Rattle.rm_machine.proofs.AddingDatafile.{create-on, create-stays}
 use Rattle.rm_machine.proofs.ArchivingAll.{all-on, all-stays}
@@ -15,6 +15,7 @@ use Rattle.rm_machine.proofs.LosingLog.{lose_log-on, lose_log-stays}
 use Rattle.rm_machine.proofs.Mounting.{mount-on, mount-stays}
 use Rattle.rm_machine.proofs.Opening.{open-on, open-stays}
 use Rattle.rm_machine.proofs.Recovered.{recover-on, recover-stays, test-never, test-tells}
+use Rattle.rm_machine.proofs.Restoring.{preview-never, restore-on, restore-stays}
 use Rattle.rm_machine.proofs.Switching.{switch-on, switch-stays}
 use Rattle.rm_machine.proofs.Telling.{tells-on, tells-stays}
 use Rattle.rm_machine.proofs.Writing.{write-on, write-stays}
@@ -23,7 +24,7 @@ use Rattle.rm_frame.proofs.Founding.{never-again, never-loose}
 use Rattle.rm_frame.proofs.LooseBackup.{backup-loose}
 use Rattle.rm_frame.proofs.LooseDrills.{cut-loose, damage-loose, remove-loose, rename-loose}
 use Rattle.rm_frame.proofs.LooseNew.{archive-loose, branch-loose, switch-loose}
-use Rattle.rm_frame.proofs.LooseQuiet.{choose-loose, create-loose, dump-loose, list-loose, list-never, lose-loose, lose_log-loose, mount-loose, open-loose, recover-loose, test-loose, write-loose}
+use Rattle.rm_frame.proofs.LooseQuiet.{choose-loose, create-loose, dump-loose, list-loose, list-never, lose-loose, lose_log-loose, mount-loose, open-loose, preview-loose, recover-loose, restore-loose, test-loose, write-loose}
 
 pub every-leads : (c : Command) → LeadsOn c
 every-leads (CreateDatabase dbid threads scn) = never-again dbid threads scn
@@ -36,6 +37,8 @@ every-leads OpenPlain = leads OpenPlain open-on
 every-leads OpenResetlogs = leads OpenResetlogs resets-on
 every-leads (ResetDatabase i) = leads (ResetDatabase i) (choose-on i)
 every-leads (Backup b) = leads (Backup b) (backup-on b)
+every-leads (Restore file until) = leads (Restore file until) (restore-on file until)
+every-leads (Preview until) = leads (Preview until) (tells-on (Preview until) (preview-never until))
 every-leads (Recover until) = leads (Recover until) (recover-on until)
 every-leads (RecoverTest until inc) = leads (RecoverTest until inc) (tells-on (RecoverTest until inc) (test-never until inc))
 every-leads ListIncarnation = leads ListIncarnation (tells-on ListIncarnation list-never)
@@ -66,6 +69,8 @@ every-loose OpenPlain = open-loose
 every-loose OpenResetlogs = branch-loose
 every-loose (ResetDatabase i) = choose-loose i
 every-loose (Backup b) = backup-loose b
+every-loose (Restore file until) = restore-loose file until
+every-loose (Preview until) = preview-loose until
 every-loose (Recover until) = recover-loose until
 every-loose (RecoverTest until inc) = test-loose until inc
 every-loose ListIncarnation = list-loose
@@ -89,6 +94,8 @@ every-stays OpenPlain = open-stays
 every-stays OpenResetlogs = resets-stays
 every-stays (ResetDatabase i) = choose-stays i
 every-stays (Backup b) = backup-stays b
+every-stays (Restore file until) = restore-stays file until
+every-stays (Preview until) = tells-stays (Preview until) (preview-never until)
 every-stays (Recover until) = recover-stays until
 every-stays (RecoverTest until inc) = tells-stays (RecoverTest until inc) (test-never until inc)
 every-stays ListIncarnation = tells-stays ListIncarnation list-never

@@ -2,7 +2,7 @@
 use Rattle.std.proofs.Common.{◌≡◌, ℕ, List, [], Option, Some, None, inl, inr}
 use Rattle.rm_base.specs.Store.{Held}
 use Rattle.rm_statement.specs.declared.command.Command.{Command}
-use Rattle.rm_statement.specs.declared.command.Command.TheVariants.{CreateDatafile, Dump, ListIncarnation, LoseDatafile, LoseLog, Mount, OpenPlain, Recover, RecoverTest, ResetDatabase, Write}
+use Rattle.rm_statement.specs.declared.command.Command.TheVariants.{CreateDatafile, Dump, ListIncarnation, LoseDatafile, LoseLog, Mount, OpenPlain, Preview, Recover, RecoverTest, ResetDatabase, Restore, Write}
 use Rattle.rm_statement.specs.declared.command.Until.{Until}
 use Rattle.rm_statement.specs.declared.command.WriteForm.{WriteForm}
 use Rattle.rm_report.specs.declared.line.Line.{Line}
@@ -16,10 +16,12 @@ use Rattle.rm_machine.specs.declared.state.State.{State}
 use Rattle.rm_machine.specs.State.{now_of}
 use Rattle.rm_machine.specs.CreateDatafile.{with_datafile}
 use Rattle.rm_machine.specs.Recover.{RecoversTo, recover_target, recovered}
+use Rattle.rm_machine.specs.Restore.{RestoresTo, restored}
 use Rattle.rm_machine.specs.Step.{refusal_of}
 use Rattle.rm_machine.proofs.Dumping.{dump-never}
 use Rattle.rm_machine.proofs.Leading.{done-by}
 use Rattle.rm_machine.proofs.Recovered.{test-never}
+use Rattle.rm_machine.proofs.Restoring.{preview-never}
 use Rattle.rm_machine.proofs.Telling.{IsNeverDone}
 use Rattle.rm_frame.specs.Loose.{IsLoose, StaysLoose}
 use Rattle.rm_frame.proofs.Loosening.{nothing-named}
@@ -54,12 +56,20 @@ lose_log-loose thread s held lines e t sound comes =
 
 recover-by : (o : Option ℕ) (until : Option Until) (s : State) (held : Held) (lines : List Line) (e : Effect) (t : State) → RecoversTo s held o (done lines e t) → IsLoose (Some s) (Recover until) e t
 recover-by None until s held lines e t does = absurd does
-recover-by (Some at) until s held lines e t (inl gap) = absurd (let clash = gap.is in cc)
-recover-by (Some at) until s held lines e t (inr back) = quiet-loose s (Recover until) lines _ e (recovered s at back.files) t back.is
+recover-by (Some at) until s held lines e t (inl found) = absurd (let clash = found.is in cc)
+recover-by (Some at) until s held lines e t (inr all) = quiet-loose s (Recover until) lines _ e (recovered s at all.back.files) t all.is
 
 pub recover-loose : (until : Option Until) → StaysLoose (Recover until)
 recover-loose until s held lines e t sound comes =
     recover-by (recover_target s until) until s held lines e t (done-by (refusal_of s (Recover until)) s held (Recover until) lines e t comes).1
+
+restore-by : (o file : Option ℕ) (until : Option Until) (s : State) (held : Held) (lines : List Line) (e : Effect) (t : State) → RestoresTo s held file o (done lines e t) → IsLoose (Some s) (Restore file until) e t
+restore-by None file until s held lines e t does = absurd does
+restore-by (Some at) file until s held lines e t does = quiet-loose s (Restore file until) lines _ e (restored s does.back.files) t does.is
+
+pub restore-loose : (file : Option ℕ) (until : Option Until) → StaysLoose (Restore file until)
+restore-loose file until s held lines e t sound comes =
+    restore-by (recover_target s until) file until s held lines e t (done-by (refusal_of s (Restore file until)) s held (Restore file until) lines e t comes).1
 
 -- what only tells is never done
 never-loose : (c : Command) → IsNeverDone c → StaysLoose c
@@ -67,6 +77,9 @@ never-loose c never s held lines e t sound comes = absurd (never s held lines e 
 
 pub test-loose : (until : Option Until) (inc : Option ℕ) → StaysLoose (RecoverTest until inc)
 test-loose until inc = never-loose (RecoverTest until inc) (test-never until inc)
+
+pub preview-loose : (until : Option Until) → StaysLoose (Preview until)
+preview-loose until = never-loose (Preview until) (preview-never until)
 
 pub dump-loose : (file block : ℕ) → StaysLoose (Dump file block)
 dump-loose file block = never-loose (Dump file block) (dump-never file block)

@@ -1,34 +1,29 @@
--- What is at hand fits the tree: each artefact is valid, and of an incarnation that is there.
-use Rattle.std.proofs.Common.{◌≡◌, ◌≢◌, ◌<◌, ◌≤◌, ◌∙◌, ℕ, List, Some, false, refl, sym, subst, arith, All, AllPairs, Contains, length, get_or, slice_get}
+-- What is in place fits the records: each is valid, and of an incarnation that is there.
+use Rattle.std.proofs.Common.{◌≡◌, ◌<◌, ◌≤◌, ◌∙◌, ℕ, List, Some, false, refl, sym, subst, arith, All, AllPairs, Contains, length, get_or, slice_get}
 use Rattle.std.specs.List.{filter_map}
 use Rattle.std.proofs.lemmas.List.Elements.{All-contains}
 use Rattle.std.proofs.lemmas.Option.{slice_get-get_or, slice_get_within}
-use Rattle.rm_base.specs.Store.{Held}
 use Rattle.rm_base.specs.declared.block.Row.{Row}
-use Rattle.rm_base.specs.declared.kinds.Kind.TheVariants.{Level1}
 use Rattle.rm_base.proofs.Lists.{map_from}
 use Rattle.rm_base.proofs.Slots.{all-get}
 use Rattle.rm_blocks.specs.File.{File, IsInOrder}
-use Rattle.rm_catalog.specs.declared.record.PieceEntry.{PieceEntry}
-use Rattle.rm_evidence.specs.declared.evidence.Evidence.{Evidence}
-use Rattle.rm_evidence.specs.Available.{HasPiece}
 use Rattle.rm_evidence.specs.Gathered.{placed_piece}
-use Rattle.rm_evidence.specs.Known.{FitsLog, FitsPiece, FitsTree}
+use Rattle.rm_evidence.specs.Known.{FitsLog, FitsPiece}
 use Rattle.rm_evidence.specs.Place.{FitsPlace}
 use Rattle.rm_history.specs.declared.world.Datafile.{Datafile}
 use Rattle.rm_history.specs.Tree.{IsThere}
 use Rattle.rm_history.proofs.Highs.{high-above, high-least}
-use Rattle.rm_ledger.specs.Facts.{IsCreated, IsLogEntry, IsPieceEntry}
+use Rattle.rm_ledger.specs.Facts.{IsCreated}
 use Rattle.rm_ledger.proofs.Lookups.{item-at}
 use Rattle.rm_piece.specs.declared.piece.Piece.{Piece}
 use Rattle.rm_piece.specs.Valid.{IsBefore, IsRow}
 use Rattle.rm_redo.specs.declared.log_file.LogFile.{LogFile}
 use Rattle.rm_repository.specs.Repository.{records_of}
-use Rattle.rm_machine.specs.Recovery.{IsAtHand, in_place}
+use Rattle.rm_machine.specs.Recovery.{in_place}
 use Rattle.rm_machine.specs.Sound.{IsPlaced, IsPlacedRow, IsSound}
 use Rattle.rm_machine.specs.declared.state.State.{State}
 use Rattle.rm_machine.specs.State.{ledger, tree, counted, online, is_lost}
-use Rattle.rm_machine.proofs.AtHand.{BaseFrom, LogFrom, base-from, from_copy, from_log, from_online, from_place, level1-from, log-from, online-in}
+use Rattle.rm_machine.proofs.AtHand.{online-in}
 use Rattle.rm_machine.proofs.Records.{tree-told}
 use Rattle.rm_machine.proofs.Standing.{at-place, each-in, present-in}
 
@@ -90,34 +85,6 @@ module _ (s : State) (sound : IsSound s) where
 
   online-valid : (t : ℕ) → 0 < t → t ≤ (ledger s).base.threads → is_lost s.instance.logs t ≡ false → FitsLog (tree s) (online s t)
   online-valid t low high found = record { valid = (sound.logs.each t low high found).valid; inc = sound.logs.there }
-
-  module _ (held : Held) where
-    log-fits : (a : LogFile) → LogFrom s held a → FitsLog (tree s) a
-    log-fits _ (from_online t low high found) = online-valid t low high found
-    log-fits _ (from_log e a has there) =
-        let rule = All-contains (IsLogEntry (tree s) (ledger s).base.threads) (ledger s).logs e sound.catalog.ledger.logs has in
-        record { valid = there.object.valid; inc = subst (IsThere (tree s)) (sym there.object.fields.inc) rule.there }
-
-    piece-fits : (p : PieceEntry) (a : Piece) → Contains (ledger s).pieces p → HasPiece held p a → FitsPiece (tree s) a
-    piece-fits p a has there =
-        let rule = All-contains (IsPieceEntry (tree s) (ledger s).files) (ledger s).pieces p sound.catalog.ledger.pieces has in
-        record { valid = there.object.valid; inc = subst (IsThere (tree s)) (sym there.object.fields.inc) rule.there }
-
-    base-fits : (a : Piece) → BaseFrom s held a → FitsPiece (tree s) a × (a.kind ≢ Level1)
-    base-fits _ (from_place k x at) = (stands-valid k x at, λ e. absurd (cc))
-    base-fits _ (from_copy p a has kind there) = (piece-fits p a has there, λ e. kind (sym there.object.fields.kind ∙ e))
-
-    -- all that is at hand fits
-    pub evidence-fits : (e : Evidence) → IsAtHand s held e → FitsTree (tree s) e
-    evidence-fits e gathered = record {
-      bases = each-in (λ (x : ℕ × Piece). FitsPiece (tree s) x.1) e.bases (λ x has. (base-fits x.1 (base-from s held sound e gathered x.0 x.1 has)).0);
-      no_level1 = each-in (λ (x : ℕ × Piece). x.1.kind ≢ Level1) e.bases (λ x has. (base-fits x.1 (base-from s held sound e gathered x.0 x.1 has)).1);
-      level1s = each-in (λ (x : ℕ × Piece). FitsPiece (tree s) x.1) e.level1s (λ x has.
-          let from = level1-from s held sound e gathered x.0 x.1 has in piece-fits from.entry x.1 from.recorded from.has);
-      all_level1 = each-in (λ (x : ℕ × Piece). x.1.kind ≡ Level1) e.level1s (λ x has.
-          let from = level1-from s held sound e gathered x.0 x.1 has in from.has.object.fields.kind ∙ from.kind);
-      logs = each-in (λ (x : ℕ × LogFile). FitsLog (tree s) x.1) e.logs (λ x has. log-fits x.1 (log-from s held sound e gathered x.0 x.1 has));
-    }
 
 -- what is in place fits the records
 pub place-fits : (s : State) → IsSound s → FitsPlace (records_of s.catalog) (in_place s)

@@ -1,14 +1,16 @@
 -- A database that was recovered by what is at hand is sound.
-use Rattle.std.proofs.Common.{◌≡◌, ◌<◌, ◌≤◌, ◌+◌, ◌∙◌, ◌==◌, ◌||◌, nat_lt, inl, inr, ℕ, zero, suc, List, [], ◌∷◌, Option, Some, None, Bool, true, false, cond, refl, ap, sym, subst, arith, length, slice_get}
-use Rattle.std.specs.Option.{option_and_then}
-use Rattle.std.proofs.lemmas.Bool.{and_parts, both_ways, cases_Bool, eqb-true, ltb-true}
+use Rattle.std.proofs.Common.{◌≡◌, ◌<◌, ◌≤◌, ◌+◌, ◌∙◌, ◌==◌, ◌||◌, ◌⊎◌, nat_lt, inl, inr, ℕ, suc, List, Option, Some, None, Bool, true, false, cond, refl, ap, sym, subst, arith, map, slice_get, Contains}
+use Rattle.std.specs.Option.{option_and_then, option_map}
+use Rattle.std.proofs.lemmas.Bool.{and_parts, eqb-true, ltb-true}
 use Rattle.std.proofs.lemmas.Bool.Decides.{nat_tests}
+use Rattle.std.proofs.lemmas.List.Elements.{All-contains}
+use Rattle.std.proofs.lemmas.Option.{slice_get_within}
 use Rattle.rm_base.specs.declared.block.Row.{Row}
 use Rattle.rm_base.specs.declared.refusal.Refusal.{Refusal}
 use Rattle.rm_base.specs.declared.refusal.Refusal.TheVariants.{Rm04, Rm06}
 use Rattle.rm_base.specs.Content.{zero_block}
+use Rattle.rm_base.proofs.Lists.{map_to}
 use Rattle.rm_base.proofs.Slots.{all-get}
-use Rattle.rm_base.proofs.Conditions.{unless}
 use Rattle.rm_blocks.specs.File.{File}
 use Rattle.rm_statement.specs.declared.command.Until.{Until}
 use Rattle.rm_evidence.specs.declared.evidence.Evidence.{Evidence}
@@ -22,14 +24,17 @@ use Rattle.rm_history.proofs.Highs.{high-bound}
 use Rattle.rm_known.specs.Evidence as known
 use Rattle.rm_known.specs.Known.{Seen, by_creation}
 use Rattle.rm_ledger.specs.Facts.{IsCreated}
-use Rattle.rm_machine.specs.Recover.{or_else, put_over, recovered, recover_refusal, recover_target, target_refusal}
-use Rattle.rm_machine.specs.Recovery.{AreTold, IsTold, range_refusal}
+use Rattle.rm_plan.specs.Plan.{IsFileTarget}
+use Rattle.rm_apply.specs.Told.{AreFilesAt, IsTold}
+use Rattle.rm_machine.specs.Recover.{or_else, recovered, recover_refusal, recover_target, target_refusal}
+use Rattle.rm_machine.specs.Recovery.{put_over, range_refusal}
 use Rattle.rm_machine.specs.Sound.{IsPlaced, IsPlacedRow, IsPoint, IsSound}
 use Rattle.rm_machine.specs.declared.state.State.{State}
 use Rattle.rm_machine.specs.State.{ledger, tree, world, current_of, now_of}
 use Rattle.rm_machine.proofs.Contents.{seen-content}
-use Rattle.rm_machine.proofs.Numbers.{blocks-at, file-at}
-use Rattle.rm_machine.proofs.Places.{counted-closed}
+use Rattle.rm_machine.proofs.Exchanging.{sound-exchanged}
+use Rattle.rm_machine.proofs.Numbers.{blocks-at, file-at, file-place}
+use Rattle.rm_machine.proofs.Placing.{number, over-at, over-cases, over-length}
 use Rattle.rm_machine.proofs.Standing.{at-place, each-get}
 
 -- why it was not refused
@@ -38,7 +43,7 @@ pub record CanRecover (s : State) (at : ℕ) : Type 0 where
   pub low : reset_of (tree s) (current_of s) ≤ at
   pub high : at ≤ now_of s
 
-mode-closed : (b : Bool) (o : Option Refusal) → cond b (Some (Rm04 false)) o ≡ None → (b ≡ false) × (o ≡ None)
+pub mode-closed : (b : Bool) (o : Option Refusal) → cond b (Some (Rm04 false)) o ≡ None → (b ≡ false) × (o ≡ None)
 mode-closed true o is = absurd (cc)
 mode-closed false o is = (refl, is)
 
@@ -49,9 +54,13 @@ first-none : {X : Type 0} (o p : Option X) → or_else o p ≡ None → o ≡ No
 first-none None p is = refl
 first-none (Some x) p is = absurd (cc)
 
+range-by : (b : Bool) (low high at : ℕ) → option_map (λ (x : ℕ × ℕ). Rm06 at x.0 x.1) (cond b (Some (low, high)) None) ≡ None → b ≡ false
+range-by true low high at is = absurd (cc)
+range-by false low high at is = refl
+
 -- a target that is not refused lies in the range of its incarnation
 pub in-range : (ns : List Incarnation) (i at : ℕ) → range_refusal ns i at ≡ None → (reset_of ns i ≤ at) × (at ≤ end_of ns i)
-in-range ns i at is = within at (reset_of ns i) (end_of ns i) (unless (nat_lt at (reset_of ns i) || nat_lt (end_of ns i) at) (Rm06 at (reset_of ns i) (end_of ns i)) None is).0
+in-range ns i at is = within at (reset_of ns i) (end_of ns i) (range-by (nat_lt at (reset_of ns i) || nat_lt (end_of ns i) at) (reset_of ns i) (end_of ns i) at is)
 
 pub can-recover : (s : State) (until : Option Until) (at : ℕ) → recover_target s until ≡ Some at → recover_refusal s until ≡ None → CanRecover s at
 can-recover s until at is none =
@@ -60,62 +69,62 @@ can-recover s until at is none =
     let range = in-range (tree s) (current_of s) at (first-none (range_refusal (tree s) (current_of s) at) _ target) in
     record { closed = mode.0; low = range.0; high = range.1 }
 
--- what comes to stand at a place
-length-over : (files place : List (Option File)) → length files ≡ length place → length (put_over files place) ≡ length place
-length-over [] place many = refl
-length-over (x ∷ xs) [] many = absurd (omega (arith, many))
-length-over (x ∷ xs) (y ∷ ys) many = ap suc (length-over xs ys (omega (arith, many)))
+-- what came to stand in place of datafile k + 1 exists at the target, and is told
+pub record CameBack (s : State) (e : known.Evidence) (at k : ℕ) (d : Datafile) (x : File) : Type 0 where
+  pub exists : exists (world s) (current_of s) at d ≡ true
+  pub target : IsFileTarget (world s) (current_of s) at (1 + k)
+  pub told : IsTold (world s) e (current_of s) at (1 + k) x
 
--- a datafile that comes over what stood there
-pub over-some : (files place : List (Option File)) (k : ℕ) (x : File) → length files ≡ length place → slice_get files k ≡ Some (Some x) → slice_get (put_over files place) k ≡ Some (Some x)
-over-some [] place k x many is = absurd (cc)
-over-some (f ∷ files) [] k x many is = absurd (omega (arith, many))
-over-some (f ∷ files) (y ∷ place) zero x many is =
-    let same : f ≡ Some x = cc in ap (λ o. Some (or_else o y)) same
-over-some (f ∷ files) (y ∷ place) (suc k) x many is = over-some files place k x (omega (arith, many)) is
+module _ (s : State) (e : Evidence) (at : ℕ) (files : List File) (sound : IsSound s) (fits : FitsTree (tree s) e) (can : CanRecover s at) (told : AreFilesAt (world s) (known_of e) (current_of s) at files) where
+  abbrev over : List (Option File)
+  over = put_over files s.instance.place
 
--- and where none comes, what stood there stays
-pub over-none : (files place : List (Option File)) (k : ℕ) → length files ≡ length place → slice_get files k ≡ Some None → slice_get (put_over files place) k ≡ slice_get place k
-over-none [] place k many is = absurd (cc)
-over-none (f ∷ files) [] k many is = absurd (omega (arith, many))
-over-none (f ∷ files) (y ∷ place) zero many is =
-    let same : f ≡ None = cc in ap (λ o. Some (or_else o y)) same
-over-none (f ∷ files) (y ∷ place) (suc k) many is = over-none files place k (omega (arith, many)) is
+  -- a member stands at the place of its number
+  member-back : (k : ℕ) (d : Datafile) (x : File) → slice_get (ledger s).files k ≡ Some d → Contains files x → 1 + k ≡ x.file → CameBack s (known_of e) at k d x
+  member-back k d x file has number_is =
+      let w = world s in
+      let target : IsFileTarget w (current_of s) at (1 + k) = subst (IsFileTarget w (current_of s) at) (sym number_is) ((told.numbers.exact x.file).0 (map_to number files x has)) in
+      let same : target.datafile ≡ d = (let one : Some target.datafile ≡ Some d = sym target.is ∙ file-at w k d file in cc) in
+      record {
+        exists = subst (λ (y : Datafile). exists w (current_of s) at y ≡ true) same target.exists;
+        target = target;
+        told = subst (λ f. IsTold w (known_of e) (current_of s) at f x) (sym number_is) (All-contains (λ (y : File). IsTold w (known_of e) (current_of s) at y.file y) files x told.each has);
+      }
 
--- what stands in place of a datafile afterwards came back, or stayed
-pub data Stands (s : State) (e : known.Evidence) (at k : ℕ) (d : Datafile) (x : File) : Type 0 where
-  came_back : exists (world s) (current_of s) at d ≡ true → IsTold (world s) e (current_of s) at (1 + k) x → Stands s e at k d x
-  stayed : exists (world s) (current_of s) at d ≡ false → slice_get s.instance.place k ≡ Some (Some x) → Stands s e at k d x
-
-module _ (s : State) (e : Evidence) (at : ℕ) (files : List (Option File)) (sound : IsSound s) (fits : FitsTree (tree s) e) (can : CanRecover s at) (told : AreTold (world s) (known_of e) (current_of s) at files) where
-  abbrev after : State
-  after = recovered s at files
-
-  many : length files ≡ length s.instance.place
-  many = told.many ∙ sym sound.place.many
-
-  pub stands : (k : ℕ) (d : Datafile) (x : File) → slice_get (ledger s).files k ≡ Some d → slice_get after.instance.place k ≡ Some (Some x) → Stands s (known_of e) at k d x
-  stands k d x file is = elim (cases_Bool (exists (world s) (current_of s) at d)) [
-    | inl here ↦
-        let new = told.told k d file here in
-        let same : new.0 ≡ x = (let one : Some (Some new.0) ≡ Some (Some x) = sym (over-some files s.instance.place k new.0 many new.1) ∙ is in cc) in
-        came_back here (subst (IsTold (world s) (known_of e) (current_of s) at (1 + k)) same new.2)
-    | inr gone ↦ stayed gone (sym (over-none files s.instance.place k many (told.none k d file gone)) ∙ is)
+  pub stands : (k : ℕ) (d : Datafile) (x : File) → slice_get (ledger s).files k ≡ Some d → slice_get over k ≡ Some (Some x) → (slice_get s.instance.place k ≡ Some (Some x)) ⊎ CameBack s (known_of e) at k d x
+  stands k d x file is = elim (over-cases files s.instance.place k x is) [
+    | inr old ↦ inl old
+    | inl new ↦
+        let target = (told.numbers.exact x.file).0 (map_to number files x new.0) in
+        let above = (file-place (world s) x.file target.datafile target.is).number in
+        let at_place = new.1 in
+        inr (member-back k d x file new.0 (omega (arith, above, at_place)))
   ]
 
-  module _ (k : ℕ) (d : Datafile) (x : File) (file : slice_get (ledger s).files k ≡ Some d) (here : exists (world s) (current_of s) at d ≡ true) (is : IsTold (world s) (known_of e) (current_of s) at (1 + k) x) where
+  -- each datafile of the target came back
+  pub comes : (k : ℕ) (d : Datafile) → slice_get (ledger s).files k ≡ Some d → exists (world s) (current_of s) at d ≡ true → (x : File) × CameBack s (known_of e) at k d x × (slice_get over k ≡ Some (Some x))
+  comes k d file here =
+      let target : IsFileTarget (world s) (current_of s) at (1 + k) = record { there = sound.catalog.ledger.current; datafile = d; is = file-at (world s) k d file; exists = here } in
+      let has : Contains (map number files) (suc k) = subst (Contains (map number files)) (let one : 1 + k ≡ suc k = omega arith in one) ((told.numbers.exact (1 + k)).1 target) in
+      let inside = slice_get_within (ledger s).files k d file in
+      let many = sound.place.many in
+      let new = over-at files s.instance.place k told.numbers.ascends has (omega (arith, inside, many)) in
+      let number_is = new.2 in
+      (new.0, member-back k d new.0 file new.1 (omega (arith, number_is)), new.3)
+
+  module _ (k : ℕ) (d : Datafile) (x : File) (file : slice_get (ledger s).files k ≡ Some d) (back : CameBack s (known_of e) at k d x) where
     -- its versions are those of changes below the target
     version-below : (b : ℕ) (r : Row) → slice_get x.rows b ≡ Some r → r.version < at
-    version-below b r row = (is.rows b r row).1.greatest.below
+    version-below b r row = (back.told.rows b r row).1.greatest.below
 
     version-above : (b : ℕ) (r : Row) → slice_get x.rows b ≡ Some r → 1 ≤ r.version
     version-above b r row =
         let w = world s in
-        let both = and_parts (nat_lt d.creation at) (owner w.tree (current_of s) d.creation == d.inc) here in
+        let both = and_parts (nat_lt d.creation at) (owner w.tree (current_of s) d.creation == d.inc) back.exists in
         let below = ltb-true d.creation at both.0 in
         let own = eqb-true (owner w.tree (current_of s) d.creation) d.inc both.1 in
         let seen : Seen w (known_of e) (1 + k) b d.inc d.creation zero_block = by_creation d (file-at w k d file) in
-        let least = (is.rows b r row).1.greatest.most d.creation zero_block below (subst (λ m. Seen w (known_of e) (1 + k) b m d.creation zero_block) (sym own) seen) in
+        let least = (back.told.rows b r row).1.greatest.most d.creation zero_block below (subst (λ m. Seen w (known_of e) (1 + k) b m d.creation zero_block) (sym own) seen) in
         let made = all-get (IsCreated (tree s)) (ledger s).files k d file sound.catalog.ledger.datafiles.each in
         let reset = made.creation.0 in
         let first = (sound.catalog.ledger.incarnations.ranges d.inc made.there).0 in
@@ -123,54 +132,46 @@ module _ (s : State) (e : Evidence) (at : ℕ) (files : List (Option File)) (sou
 
     told-placed : IsPlaced (tree s) k d x
     told-placed =
-        let number = is.file in
-        let stood = is.checkpoint in
+        let number_is = back.told.file in
+        let stood = back.told.checkpoint in
         let low = can.low in
         let high = can.high in
         let first = (sound.catalog.ledger.incarnations.ranges (current_of s) sound.catalog.ledger.current).0 in
         record {
-          file = omega (arith, number);
-          blocks = is.blocks ∙ blocks-at (world s) k d file;
-          order = λ b r row. (is.rows b r row).0;
+          file = omega (arith, number_is);
+          blocks = back.told.blocks ∙ blocks-at (world s) k d file;
+          order = λ b r row. (back.told.rows b r row).0;
           rows = each-get IsPlacedRow x.rows (λ b r row. record {
             version = version-above b r row;
-            content = seen-content (tree s) e fits (world s) (1 + k) b _ r.version r.content (is.rows b r row).1.seen;
+            content = seen-content (tree s) e fits (world s) (1 + k) b _ r.version r.content (back.told.rows b r row).1.seen;
           });
-          there = subst (IsThere (tree s)) (sym is.inc) sound.catalog.ledger.current;
+          there = subst (IsThere (tree s)) (sym back.told.inc) sound.catalog.ledger.current;
           checkpoint = omega (arith, stood, low, first);
-          high = subst (λ j. high_of x.checkpoint x.rows ≤ end_of (tree s) j) (sym is.inc)
+          high = subst (λ j. high_of x.checkpoint x.rows ≤ end_of (tree s) j) (sym back.told.inc)
               (high-bound x.checkpoint (now_of s) x.rows (omega (arith, stood, high)) (λ r has.
               let row = at-place x.rows r has in
               let less = version-below row.0 r row.1 in
               omega (arith, less, high)));
         }
 
-  pub sound-recovered : IsSound after
-  sound-recovered = record {
-    catalog = sound.catalog;
-    dbid = sound.dbid;
-    place = record {
-      many = length-over files s.instance.place many ∙ sound.place.many;
-      each = λ k d x file is. subst (IsPlaced (tree s) k d) (sym (counted-closed after x can.closed)) (elim (stands k d x file is) [
-        | came_back here new ↦ told-placed k d x file here new
-        | stayed gone old ↦ subst (IsPlaced (tree s) k d) (counted-closed s x can.closed) (sound.place.each k d x file old)
-      ]);
-    };
-    logs = record { dbid = sound.logs.dbid; there = sound.logs.there; threads = sound.logs.threads; each = sound.logs.each };
-    in_open = λ opened. absurd (both_ways s.instance.is_open can.closed opened);
-    point = λ n point.
-        let same : at ≡ n = (let one : Some at ≡ Some n = point in cc) in
-        subst (IsPoint after) same (record {
-          low = can.low;
-          high = can.high;
-          stands = λ k d file here.
-              let new = told.told k d file here in
-              record {
-                file = new.0;
-                is = over-some files s.instance.place k new.0 many new.1;
-                inc = new.2.inc;
-                checkpoint = new.2.checkpoint;
-                below = each-get (λ r. r.version < at) new.0.rows (λ b r row. version-below k d new.0 file here new.2 b r row);
-              };
-        });
-  }
+  pub sound-recovered : IsSound (recovered s at files)
+  sound-recovered = sound-exchanged s (Some at) over sound can.closed (over-length files s.instance.place)
+      (λ k d x file is. elim (stands k d x file is) [
+        | inl old ↦ inl old
+        | inr new ↦ inr (told-placed k d x file new)
+      ])
+      (λ n point.
+      let same : at ≡ n = (let one : Some at ≡ Some n = point in cc) in
+      subst (IsPoint (recovered s at files)) same (record {
+        low = can.low;
+        high = can.high;
+        stands = λ k d file here.
+            let new = comes k d file here in
+            record {
+              file = new.0;
+              is = new.2;
+              inc = new.1.told.inc;
+              checkpoint = new.1.told.checkpoint;
+              below = each-get (λ r. r.version < at) new.0.rows (λ b r row. version-below k d new.0 file new.1 b r row);
+            };
+      }))

@@ -1,7 +1,7 @@
 -- The statements that are built.
 use Rattle.std.specs.Prelude.{Bool, true, false}
 use Rattle.rm_statement.specs.declared.command.Command.{Command}
-use Rattle.rm_statement.specs.declared.command.Command.TheVariants.{CreateDatabase, CreateDatafile, Write, SwitchLogfile, ArchiveLogCurrent, Mount, OpenPlain, OpenResetlogs, ResetDatabase, Restore, Preview, Recover, RecoverTest, Backup, ListIncarnation, Dump, LoseDatafile, LoseLog, Remove, Damage, Cut, Rename}
+use Rattle.rm_statement.specs.declared.command.Command.TheVariants.{CreateDatabase, CreateDatafile, Write, SwitchLogfile, ArchiveLogCurrent, Mount, OpenPlain, OpenResetlogs, ResetDatabase, Restore, Preview, Recover, RecoverTest, Backup, ListIncarnation, ListBackup, ListCopy, ListArchived, ReportSchema, ShowAll, ValidateAll, Dump, LoseDatafile, LoseLog, Remove, Damage, Cut, Rename}
 use Rattle.rm_machine.specs.Backup.{is_built_backup}
 use Rattle.rm_machine.specs.Recovery.{is_built_until}
 
@@ -22,6 +22,12 @@ is_built (Recover until) = is_built_until until
 is_built (RecoverTest until inc) = is_built_until until
 is_built (Backup b) = is_built_backup b
 is_built ListIncarnation = true
+is_built ListBackup = true
+is_built ListCopy = true
+is_built ListArchived = true
+is_built ReportSchema = true
+is_built ShowAll = true
+is_built ValidateAll = true
 is_built (Dump file block) = true
 is_built (LoseDatafile file) = true
 is_built (LoseLog thread) = true

@@ -1,8 +1,9 @@
 -- What each statement keeps.
-use Rattle.std.specs.Prelude.{ℕ, ◌≡◌, ◌≤◌, Some, None, List}
+use Rattle.std.specs.Prelude.{ℕ, ◌≡◌, ◌≤◌, Bool, true, false, Some, None, List}
 use Rattle.rm_base.specs.Numbers.{last_moment}
 use Rattle.rm_base.specs.Store.{Held}
 use Rattle.rm_statement.specs.declared.command.Command.{Command}
+use Rattle.rm_statement.specs.declared.command.Command.TheVariants.{Dump, ListArchived, ListBackup, ListCopy, ListIncarnation, Preview, RecoverTest, ReportSchema, ShowAll, ValidateAll}
 use Rattle.rm_report.specs.declared.line.Line.{Line}
 use Rattle.rm_report.specs.Reply.{said}
 use Rattle.rm_machine.specs.Effect.{Effect, LeavesObjects, done, told}
@@ -38,3 +39,17 @@ StaysSound c =
     (s : State) (held : Held) (moment : ℕ) (lines : List Line) (effect : Effect) (t : State)
     → IsStatement c → IsSound s → IsMomentOf s moment → IsOutcome (at_moment s moment) held c (done lines effect t)
     → IsSound t × (t.catalog.saved ≡ None)
+
+-- the statement only tells
+abbrev pub only_tells : Command → Bool
+only_tells (RecoverTest until inc) = true
+only_tells (Preview until) = true
+only_tells (Dump file block) = true
+only_tells ListIncarnation = true
+only_tells ListBackup = true
+only_tells ListCopy = true
+only_tells ListArchived = true
+only_tells ReportSchema = true
+only_tells ShowAll = true
+only_tells ValidateAll = true
+only_tells _ = false

@@ -9,6 +9,7 @@ pub mod Effect
 pub mod Hands
 pub mod Laws
 pub mod ListIncarnation
+pub mod Lists
 pub mod LoseDatafile
 pub mod LoseLog
 pub mod Machine
@@ -22,8 +23,10 @@ pub mod RecoverTest
 pub mod Recovery
 pub mod ResetDatabase
 pub mod Restore
+pub mod Shown
 pub mod Sound
 pub mod State
 pub mod Step
 pub mod SwitchLogfile
+pub mod Validate
 pub mod Write

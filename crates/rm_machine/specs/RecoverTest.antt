@@ -68,15 +68,15 @@ abbrev pub IsTestOutcome : State → Held → Option Until → Option ℕ → Ou
 IsTestOutcome s held until inc o = TestsTo s held (tested s inc) (test_target s until inc) o
 
 -- the lines of skipped records, and behind them those of what the history made
-pub record AreTrueLines (h : List Change) (s : State) (i at : ℕ) (lines : List Line) : Type 0 where
+pub record AreTrueLines (w : World) (h : List Change) (i at : ℕ) (lines : List Line) : Type 0 where
   pub skipped : List (ℕ × Bad)
   pub files : List File
-  pub made : AreMadeAt (world s) h i at files
-  pub are : lines ≡ skipped_lines skipped ++ test_lines (world s) i at files
+  pub made : AreMadeAt w h i at files
+  pub are : lines ≡ skipped_lines skipped ++ test_lines w i at files
 
 abbrev pub TellsTo : List Change → State → ℕ → Option ℕ → List Line → Type 0
 TellsTo h s i None lines = ⊥
-TellsTo h s i (Some at) lines = AreTrueLines h s i at lines
+TellsTo h s i (Some at) lines = AreTrueLines (world s) h i at lines
 
 -- what the history says of it: behind the lines of skipped records come those of what the history made
 abbrev pub TellsTruly : List Change → State → Option Until → Option ℕ → List Line → Type 0

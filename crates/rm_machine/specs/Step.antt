@@ -2,10 +2,11 @@
 use Rattle.std.specs.Prelude.{ℕ, ◌≡◌, true, Option, Some, None, List, [], ◌∷◌, ◌++◌, length}
 use Rattle.rm_base.specs.Store.{Held}
 use Rattle.rm_base.specs.declared.block.Change.{Change}
+use Rattle.rm_base.specs.declared.kinds.Class.TheVariants as class
 use Rattle.rm_base.specs.declared.refusal.Refusal.{Refusal}
 use Rattle.rm_base.specs.declared.refusal.Refusal.TheVariants.{Rm02, Rm03}
 use Rattle.rm_statement.specs.declared.command.Command.{Command}
-use Rattle.rm_statement.specs.declared.command.Command.TheVariants.{ArchiveLogCurrent, Backup, CreateDatabase, CreateDatafile, Cut, Damage, Dump, ListIncarnation, LoseDatafile, LoseLog, Mount, OpenPlain, OpenResetlogs, Preview, Recover, RecoverTest, Remove, Rename, ResetDatabase, Restore, SwitchLogfile, Write}
+use Rattle.rm_statement.specs.declared.command.Command.TheVariants.{ArchiveLogCurrent, Backup, CreateDatabase, CreateDatafile, Cut, Damage, Dump, ListArchived, ListBackup, ListCopy, ListIncarnation, LoseDatafile, LoseLog, Mount, OpenPlain, OpenResetlogs, Preview, Recover, RecoverTest, Remove, Rename, ReportSchema, ResetDatabase, Restore, ShowAll, SwitchLogfile, ValidateAll, Write}
 use Rattle.rm_statement.specs.IsCommand.{is_command}
 use Rattle.rm_report.specs.Reply as reply
 use Rattle.rm_report.specs.declared.line.Reply.{Reply}
@@ -17,6 +18,7 @@ use Rattle.rm_machine.specs.Drills.{IsCutOutcome, IsDamageOutcome, IsRemoveOutco
 use Rattle.rm_machine.specs.Dump.{dump_refusal, IsDumpOutcome}
 use Rattle.rm_machine.specs.Effect.{Effect, LeavesObjects, Outcome, refused, told, done}
 use Rattle.rm_machine.specs.ListIncarnation.{IsListIncarnationOutcome}
+use Rattle.rm_machine.specs.Lists.{IsListOutcome}
 use Rattle.rm_machine.specs.LoseDatafile.{lose_refusal, IsLoseOutcome}
 use Rattle.rm_machine.specs.LoseLog.{lose_log_refusal, IsLoseLogOutcome}
 use Rattle.rm_machine.specs.Machine.{Machine, DigestsTell}
@@ -28,9 +30,11 @@ use Rattle.rm_machine.specs.Recover.{BringsTruly, IsRecoverOutcome, recover_refu
 use Rattle.rm_machine.specs.RecoverTest.{IsTestOutcome, TellsTruly, test_refusal}
 use Rattle.rm_machine.specs.ResetDatabase.{reset_refusal, IsResetOutcome}
 use Rattle.rm_machine.specs.Restore.{preview_refusal, restore_refusal, IsPreviewOutcome, IsRestoreOutcome}
+use Rattle.rm_machine.specs.Shown.{IsSchemaOutcome, IsShowOutcome}
 use Rattle.rm_machine.specs.declared.state.State.{State}
 use Rattle.rm_machine.specs.State.{at_moment}
 use Rattle.rm_machine.specs.SwitchLogfile.{switch_refusal, IsSwitchOutcome}
+use Rattle.rm_machine.specs.Validate.{IsValidateOutcome}
 use Rattle.rm_machine.specs.Write.{write_refusal, IsWriteOutcome}
 
 -- what it writes has 64 bytes
@@ -83,7 +87,13 @@ IsDone s held (Preview until) o = IsPreviewOutcome s held until o
 IsDone s held (Recover until) o = IsRecoverOutcome s held until o
 IsDone s held (RecoverTest until inc) o = IsTestOutcome s held until inc o
 IsDone s held (ResetDatabase i) o = IsResetOutcome s i o
+IsDone s held ValidateAll o = IsValidateOutcome s held o
 IsDone s held ListIncarnation o = IsListIncarnationOutcome s o
+IsDone s held ListBackup o = IsListOutcome s class.Backup o
+IsDone s held ListCopy o = IsListOutcome s class.Copy o
+IsDone s held ListArchived o = IsListOutcome s class.Archived o
+IsDone s held ReportSchema o = IsSchemaOutcome s o
+IsDone s held ShowAll o = IsShowOutcome s o
 IsDone s held (LoseDatafile f) o = IsLoseOutcome s f o
 IsDone s held (LoseLog t) o = IsLoseLogOutcome s t o
 IsDone s held (Remove name) o = IsRemoveOutcome s held name o

@@ -1,8 +1,10 @@
 //! What the machine does.
-ghost use Rattle.std.specs.Prelude.{ℕ, ◌≡◌, [], ◌<◌, ◌≤◌, ◌^◌, List, Option};
+ghost use Rattle.std.specs.Prelude.{ℕ, ◌≡◌, [], ◌<◌, ◌≤◌, ◌^◌, List, Option, true};
 ghost use Rattle.rm_base.specs.Numbers.{last_moment, last_scn};
 ghost use Rattle.rm_base.specs.Store.{Held};
 ghost use Rattle.rm_base.specs.declared.block.Change.{Change};
+ghost use Rattle.rm_report.specs.declared.line.Line.{Line};
+ghost use Rattle.rm_statement.specs.declared.command.Command.{Command};
 ghost use Rattle.rm_statement.specs.declared.command.Until.{Until};
 ghost use Rattle.rm_statement.specs.declared.command.BackupForm.{BackupForm};
 ghost use Rattle.rm_statement.specs.declared.command.WriteForm.{WriteForm};
@@ -12,14 +14,15 @@ ghost use Rattle.rm_known.specs.Evidence.{Agrees};
 ghost use Rattle.rm_known.specs.Unknown.{IsUnknown};
 ghost use Rattle.rm_apply.specs.declared.recovering.Recovered.{Recovered};
 ghost use Rattle.rm_machine.specs.CreateDatabase.{fresh_machine};
-ghost use Rattle.rm_machine.specs.Effect.{Made, Outcome};
-ghost use Rattle.rm_machine.specs.Laws.{IsMomentOf, LeadsOn, StaysSound, TellsOn};
+ghost use Rattle.rm_machine.specs.Effect.{Effect, Made, Outcome, done};
+ghost use Rattle.rm_machine.specs.Laws.{IsMomentOf, LeadsOn, StaysSound, TellsOn, only_tells};
 ghost use Rattle.rm_machine.specs.Machine.{DigestsTell, DigestsTellFor, IsBorneOut, IsSoundMachine, Machine};
 ghost use Rattle.rm_machine.specs.Recovery.{IsAtHand, IsGapOutcome, IsToldOutcome};
 ghost use Rattle.rm_machine.specs.Sound.{IsSound};
+ghost use Rattle.rm_machine.specs.Step.{IsDone};
 ghost use Rattle.rm_machine.specs.declared.state.State.{State};
 ghost use Rattle.rm_machine.specs.State.{at_moment, ledger, world};
-ghost use Rattle.rm_statement.specs.declared.command.Command.TheVariants.{ArchiveLogCurrent, Backup, CreateDatafile, Cut, Damage, Dump, ListIncarnation, LoseDatafile, LoseLog, Mount, OpenPlain, OpenResetlogs, Preview, Recover, RecoverTest, Remove, Rename, ResetDatabase, Restore, SwitchLogfile, Write};
+ghost use Rattle.rm_statement.specs.declared.command.Command.TheVariants.{ArchiveLogCurrent, Backup, CreateDatafile, Cut, Damage, LoseDatafile, LoseLog, Mount, OpenPlain, OpenResetlogs, Recover, RecoverTest, Remove, Rename, ResetDatabase, Restore, SwitchLogfile, Write};
 
 /// There are sound machines: that of a new database is one.
 pub fn a_new_database_is_sound()
@@ -42,12 +45,6 @@ pub fn a_write_leads_on()
 pub fn a_new_datafile_leads_on()
     ensures leads { (blocks : ℕ) → LeadsOn (CreateDatafile blocks) }
     ensures stays { (blocks : ℕ) → StaysSound (CreateDatafile blocks) }
-{}
-
-/// DUMP, likewise, since it only tells.
-pub fn a_dump_leads_on()
-    ensures leads { (file block : ℕ) → LeadsOn (Dump file block) }
-    ensures stays { (file block : ℕ) → StaysSound (Dump file block) }
 {}
 
 /// SWITCH LOGFILE, likewise: the log of a thread becomes an archived one.
@@ -92,23 +89,24 @@ pub fn a_reset_leads_on()
     ensures stays { (inc : ℕ) → StaysSound (ResetDatabase inc) }
 {}
 
-/// LIST INCARNATION, likewise, since it only tells.
-pub fn a_list_of_incarnations_leads_on()
-    ensures leads { LeadsOn ListIncarnation }
-    ensures stays { StaysSound ListIncarnation }
-{}
-
 /// RECOVER DATABASE, likewise: each datafile of the target comes to stand in place as the history made it there.
 pub fn a_recovery_leads_on()
     ensures leads { (until : Option Until) → LeadsOn (Recover until) }
     ensures stays { (until : Option Until) → StaysSound (Recover until) }
 {}
 
-/// RECOVER DATABASE TEST tells what the history made, and is never done.
+/// RECOVER DATABASE TEST tells what the history made.
 pub fn a_test_of_a_recovery_tells()
-    ensures tells { (until : Option Until) (inc : Option ℕ) → TellsOn (RecoverTest until inc) }
-    ensures leads { (until : Option Until) (inc : Option ℕ) → LeadsOn (RecoverTest until inc) }
-    ensures stays { (until : Option Until) (inc : Option ℕ) → StaysSound (RecoverTest until inc) }
+    ensures { (until : Option Until) (inc : Option ℕ) → TellsOn (RecoverTest until inc) }
+{}
+
+/// What only tells (RECOVER TEST, RESTORE PREVIEW, DUMP, the lists and reports, VALIDATE ALL) is never done, so the
+/// machine stays as it is.
+pub fn what_only_tells_leads_on()
+    ensures never { (c : Command) → only_tells c ≡ true → (s : State) (held : Held) (lines : List Line) (effect : Effect) (t : State) → ¬ IsDone s held c (done lines effect t) }
+    ensures leads { (c : Command) → only_tells c ≡ true → LeadsOn c }
+    ensures stays { (c : Command) → only_tells c ≡ true → StaysSound c }
+    ensures tells { (c : Command) → TellsOn c }
 {}
 
 /// RESTORE, likewise: each datafile of the target comes to stand in place as a backup has it, or as it was
@@ -116,13 +114,6 @@ pub fn a_test_of_a_recovery_tells()
 pub fn a_restore_leads_on()
     ensures leads { (file : Option ℕ) (until : Option Until) → LeadsOn (Restore file until) }
     ensures stays { (file : Option ℕ) (until : Option Until) → StaysSound (Restore file until) }
-{}
-
-/// RESTORE PREVIEW only tells, and is never done.
-pub fn a_preview_tells()
-    ensures tells { (until : Option Until) → TellsOn (Preview until) }
-    ensures leads { (until : Option Until) → LeadsOn (Preview until) }
-    ensures stays { (until : Option Until) → StaysSound (Preview until) }
 {}
 
 /// HOST LOSE DATAFILE, likewise: what stood in place is lost, and the rest stays as it is.

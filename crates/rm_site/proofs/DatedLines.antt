@@ -5,7 +5,7 @@ use Rattle.std.proofs.lemmas.List.Elements.{All-append, All-cons, All-nil}
 use Rattle.rm_base.specs.Store.{Held}
 use Rattle.rm_statement.specs.declared.command.BackupForm.{BackupForm}
 use Rattle.rm_statement.specs.declared.command.Command.{Command}
-use Rattle.rm_statement.specs.declared.command.Command.TheVariants.{ArchiveLogCurrent, Backup, CreateDatabase, CreateDatafile, Cut, Damage, Dump, ListIncarnation, LoseDatafile, LoseLog, Mount, OpenPlain, OpenResetlogs, Recover, RecoverTest, Remove, Rename, ResetDatabase, SwitchLogfile, Write}
+use Rattle.rm_statement.specs.declared.command.Command.TheVariants.{ArchiveLogCurrent, Backup, CreateDatabase, CreateDatafile, Cut, Damage, Dump, ListIncarnation, LoseDatafile, LoseLog, Mount, OpenPlain, OpenResetlogs, Preview, Recover, RecoverTest, Remove, Rename, ResetDatabase, Restore, SwitchLogfile, Write}
 use Rattle.rm_history.specs.declared.tree.Incarnation.{Incarnation}
 use Rattle.rm_report.specs.Reply.{HasDate, LineHasDate}
 use Rattle.rm_report.specs.declared.line.Line.{Line}
@@ -89,6 +89,8 @@ every-dated Mount s objects o change is = by o _ is (one-dated _ tt)
 every-dated OpenPlain s objects o change is = by o _ is (one-dated _ tt)
 every-dated OpenResetlogs s objects o change is = some-by s.instance.point _ o is (λ at. join-dated _ _ (archived-dated false s 1 (ledger s).base.threads) (one-dated _ tt))
 every-dated (ResetDatabase i) s objects o change is = by o _ is (one-dated _ tt)
+every-dated (Restore file until) s objects o change is = absurd (cc)
+every-dated (Preview until) s objects o change is = absurd (cc)
 every-dated (Recover until) s objects o change is = absurd (cc)
 every-dated (RecoverTest until inc) s objects o change is = absurd (cc)
 every-dated ListIncarnation s objects o change is = absurd (cc)

@@ -5,7 +5,7 @@ use Rattle.std.specs.Option.{option_and_then, option_map, option_map_or}
 use Rattle.rm_base.specs.declared.refusal.Refusal.{Refusal}
 use Rattle.rm_statement.specs.declared.command.BackupForm.{BackupForm}
 use Rattle.rm_statement.specs.declared.command.Command.{Command}
-use Rattle.rm_statement.specs.declared.command.Command.TheVariants.{ArchiveLogCurrent, Backup, CreateDatabase, CreateDatafile, Cut, Damage, Dump, LoseDatafile, LoseLog, Mount, OpenPlain, OpenResetlogs, Recover, RecoverTest, Remove, Rename, ResetDatabase, SwitchLogfile, Write}
+use Rattle.rm_statement.specs.declared.command.Command.TheVariants.{ArchiveLogCurrent, Backup, CreateDatabase, CreateDatafile, Cut, Damage, Dump, LoseDatafile, LoseLog, Mount, OpenPlain, OpenResetlogs, Preview, Recover, RecoverTest, Remove, Rename, ResetDatabase, Restore, SwitchLogfile, Write}
 use Rattle.rm_statement.specs.declared.command.Until.{Until}
 use Rattle.rm_statement.specs.declared.command.WriteForm.{WriteForm}
 use Rattle.rm_history.specs.declared.world.Datafile.{Datafile}
@@ -22,6 +22,7 @@ use Rattle.rm_machine.specs.OpenResetlogs.{resetlogs_refusal}
 use Rattle.rm_machine.specs.Recover.{or_else, recover_refusal, target_refusal}
 use Rattle.rm_machine.specs.RecoverTest.{test_refusal}
 use Rattle.rm_machine.specs.ResetDatabase.{reset_refusal}
+use Rattle.rm_machine.specs.Restore.{absent_refusal, place_refusal, preview_refusal, restore_refusal}
 use Rattle.rm_machine.specs.Step.{refusal_of}
 use Rattle.rm_machine.specs.SwitchLogfile.{switch_refusal}
 use Rattle.rm_machine.specs.Write.{block_refusal, write_refusal}
@@ -98,13 +99,26 @@ reset-dated : (s : State) (i : ℕ) → IsDated (reset_refusal s i)
 reset-dated s i = search (unless-dated, ids-dated)
 
 target-dated : (s : State) (at : ℕ) → IsDated (target_refusal s at)
-target-dated s at = search (unless-dated, map-dated, else-dated, ids-dated, never)
+target-dated s at = search (map-dated, else-dated, ids-dated)
 
 recover-dated : (s : State) (until : Option Until) → IsDated (recover_refusal s until)
 recover-dated s until = search (unless-dated, then-dated, target-dated)
 
 test-dated : (s : State) (until : Option Until) (inc : Option ℕ) → IsDated (test_refusal s until inc)
-test-dated s until inc = search (unless-dated, then-dated, never)
+test-dated s until inc = search (unless-dated, then-dated, map-dated)
+
+absent-dated : (s : State) (at : ℕ) (file : Option ℕ) → IsDated (absent_refusal s at file)
+absent-dated s at None = never
+absent-dated s at (Some f) = search (unless-dated, never)
+
+place-dated : (s : State) (file : Option ℕ) (at : ℕ) → IsDated (place_refusal s file at)
+place-dated s file at = search (map-dated, else-dated, absent-dated, ids-dated)
+
+restore-dated : (s : State) (file : Option ℕ) (until : Option Until) → IsDated (restore_refusal s file until)
+restore-dated s file until = search (unless-dated, then-dated, place-dated)
+
+preview-dated : (s : State) (until : Option Until) → IsDated (preview_refusal s until)
+preview-dated s until = search (then-dated, map-dated)
 
 lose-dated : (s : State) (f : ℕ) → IsDated (lose_refusal s f)
 lose-dated s f = search (unless-dated, ids-dated)
@@ -123,6 +137,8 @@ every-refusal-dated s (Backup b) = backup-dated s b
 every-refusal-dated s Mount = ids-dated s
 every-refusal-dated s OpenPlain = open-dated s
 every-refusal-dated s OpenResetlogs = resetlogs-dated s
+every-refusal-dated s (Restore file until) = restore-dated s file until
+every-refusal-dated s (Preview until) = preview-dated s until
 every-refusal-dated s (Recover until) = recover-dated s until
 every-refusal-dated s (RecoverTest until inc) = test-dated s until inc
 every-refusal-dated s (ResetDatabase i) = reset-dated s i

@@ -3,7 +3,7 @@ use Rattle.std.specs.Prelude.{◌≡◌, Bool, true, false, Option, Some, None, 
 use Rattle.rm_base.specs.Store.{Held}
 use Rattle.rm_base.specs.declared.refusal.Refusal.{Refusal}
 use Rattle.rm_statement.specs.declared.command.Command.{Command}
-use Rattle.rm_statement.specs.declared.command.Command.TheVariants.{Cut, Damage, Dump, ListIncarnation, Recover, RecoverTest, Remove, Rename}
+use Rattle.rm_statement.specs.declared.command.Command.TheVariants.{Cut, Damage, Dump, ListIncarnation, Preview, Recover, RecoverTest, Remove, Rename, Restore}
 use Rattle.rm_report.specs.Reply.{LineHasDate, HasDate}
 use Rattle.rm_machine.specs.Effect.{refused, told}
 use Rattle.rm_machine.specs.Hands.{Hands}
@@ -44,6 +44,8 @@ is_drill _ = false
 
 -- the statement changes the state, and looks at nothing else
 abbrev pub is_change : Command → Bool
+is_change (Restore file until) = false
+is_change (Preview until) = false
 is_change (Recover until) = false
 is_change (RecoverTest until inc) = false
 is_change ListIncarnation = false

@@ -1,11 +1,12 @@
-//! RECOVER DATABASE and its test: they look at what the store holds.
+//! RESTORE and RECOVER DATABASE, and what only tells of them: they look at what the store holds.
 ghost use Rattle.std.specs.Prelude.{◌≡◌, ◌≤◌, None, true, IfOk, IsErrOf};
 ghost use Rattle.rm_base.specs.Outside.{Rose};
 ghost use Rattle.rm_change.specs.declared.change.Stop.TheVariants.{StoreFault, KeeperFault};
-ghost use Rattle.rm_statement.specs.declared.command.Command.TheVariants.{Recover, RecoverTest};
+ghost use Rattle.rm_statement.specs.declared.command.Command.TheVariants.{Preview, Recover, RecoverTest, Restore};
 ghost use Rattle.rm_machine.specs.Recover.{recover_refusal};
 ghost use Rattle.rm_machine.specs.RecoverTest.{test_refusal};
 ghost use Rattle.rm_machine.specs.Recovery.{is_built_until};
+ghost use Rattle.rm_machine.specs.Restore.{preview_refusal, restore_refusal};
 ghost use Rattle.rm_machine.specs.Sound.{IsSound};
 ghost use Rattle.rm_site.specs.Comes.{IsAnswer};
 ghost use Rattle.rm_site.specs.Faults.{stop_of};
@@ -15,7 +16,7 @@ use rm_base::Store;
 use rm_change::Stop;
 use rm_evidence::EvidenceFault;
 use rm_machine::State;
-use rm_recovery::{recover, recover_test};
+use rm_recovery::{recover, recover_test, restore};
 use rm_statement::Until;
 use std::alloc::Global;
 
@@ -74,6 +75,53 @@ pub(crate) fn test<D: Store>(
     match recover_test(alloc, state, store, until, inc) {
         Ok(Ok(lines)) => Ok(Answer::Told(lines)),
         Ok(Err(refusal)) => Ok(Answer::Refused(refusal)),
+        Err(fault) => Err(stop_of(fault)),
+    }
+}
+
+/// What RESTORE comes to that the state does not refuse: it is done. The catalog stays. After an error, which is a
+/// stop, nothing changed.
+pub(crate) fn put_back<D: Store>(
+    alloc: Global,
+    state: &mut State,
+    store: &mut D,
+    file: Option<u64>,
+    until: &Option<Until>,
+) -> Result<Answer, Stop>
+    requires built { is_built_until until.now ≡ true }
+    requires sound { IsSound state.old }
+    requires accepted { restore_refusal state.old file until.now ≡ None }
+    ensures answer { IfOk result (λ a. IsAnswer (D.held store.old) state.old (Restore file until.now) a state.new) }
+    ensures catalog { state.new.catalog ≡ state.old.catalog }
+    ensures held { D.held store.new ≡ D.held store.old }
+    ensures store { IsErrOf result StoreFault → Rose (D.faults store.old) (D.faults store.new) }
+    ensures keeper { ¬ IsErrOf result KeeperFault }
+    ensures never_falls { D.faults store.old ≤ D.faults store.new }
+{
+    match restore(alloc, state, store, file, until) {
+        Ok(handed) => Ok(Answer::Done(handed)),
+        Err(fault) => Err(stop_of(fault)),
+    }
+}
+
+/// What RESTORE PREVIEW comes to that the state does not refuse: it tells.
+pub(crate) fn preview<D: Store>(
+    alloc: Global,
+    state: &State,
+    store: &mut D,
+    until: &Option<Until>,
+) -> Result<Answer, Stop>
+    requires built { is_built_until until.now ≡ true }
+    requires sound { IsSound state.now }
+    requires accepted { preview_refusal state.now until.now ≡ None }
+    ensures answer { IfOk result (λ a. IsAnswer (D.held store.old) state.now (Preview until.now) a state.now) }
+    ensures held { D.held store.new ≡ D.held store.old }
+    ensures store { IsErrOf result StoreFault → Rose (D.faults store.old) (D.faults store.new) }
+    ensures keeper { ¬ IsErrOf result KeeperFault }
+    ensures never_falls { D.faults store.old ≤ D.faults store.new }
+{
+    match rm_recovery::preview(alloc, state, store, until) {
+        Ok(lines) => Ok(Answer::Told(lines)),
         Err(fault) => Err(stop_of(fault)),
     }
 }

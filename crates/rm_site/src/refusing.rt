@@ -10,7 +10,7 @@ use rm_host::{lose_log_refusal, lose_refusal};
 use rm_machine::State;
 use rm_machine::room::ids_refusal;
 use rm_modes::{open_refusal, reset_refusal, resetlogs_refusal};
-use rm_recovery::{recover_refusal, test_refusal};
+use rm_recovery::{preview_refusal, recover_refusal, restore_refusal, test_refusal};
 use rm_statement::Command;
 use rm_writing::{datafile_refusal, dump_refusal, write_refusal};
 
@@ -31,6 +31,8 @@ pub(crate) fn refusal_of(state: &State, command: &Command) -> Option<Refusal>
         Command::OpenPlain => open_refusal(state),
         Command::OpenResetlogs => resetlogs_refusal(state),
         Command::ResetDatabase { inc } => reset_refusal(state, *inc),
+        Command::Restore { file, until } => restore_refusal(state, *file, until),
+        Command::Preview { until } => preview_refusal(state, until),
         Command::Recover { until } => recover_refusal(state, until),
         Command::RecoverTest { until, inc } => test_refusal(state, until, *inc),
         Command::LoseDatafile { file } => lose_refusal(state, *file),

@@ -10,7 +10,7 @@ ghost use Rattle.rm_site.specs.Comes.{AnswerHasDates, ComesTo, IsAnswer, IsRefus
 
 use crate::changing::change;
 use crate::drilling::drill;
-use crate::recovering::{bring_back, test};
+use crate::recovering::{bring_back, preview, put_back, test};
 use crate::refusing::refusal_of;
 use rm_base::{Refusal, Seq, Store};
 use rm_catalog::Edit;
@@ -54,6 +54,8 @@ fn accepted<D: Store>(
     ensures never_falls { D.faults store.old ≤ D.faults store.new }
 {
     match command {
+        Command::Restore { file, until } => put_back(alloc, state, store, *file, until),
+        Command::Preview { until } => preview(alloc, state, store, until),
         Command::Recover { until } => bring_back(alloc, state, store, until),
         Command::RecoverTest { until, inc } => test(alloc, state, store, until, *inc),
         Command::ListIncarnation => Ok(Answer::Told(list_incarnation(alloc, state)?)),

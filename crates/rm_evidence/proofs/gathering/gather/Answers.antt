@@ -3,10 +3,10 @@ use Rattle.rm_catalog.specs.declared.record.Record.{Record}
 use Rattle.rm_catalog.specs.Trees.{nodes}
 use Rattle.rm_evidence.specs.declared.evidence.Evidence.{Evidence}
 use Rattle.rm_evidence.specs.Gathered.{dbid_in}
-use Rattle.rm_evidence.specs.Known.{FitsTree}
+use Rattle.rm_evidence.specs.Known.{AreRecorded, FitsTree}
 use Rattle.rm_evidence.specs.Place.{placed_evidence}
 use Rattle.rm_evidence.proofs.Adding.{IfSome_all}
-use Rattle.rm_evidence.proofs.Fitting.{fits-placed, item-there}
+use Rattle.rm_evidence.proofs.Fitting.{fits-placed, item-in, item-there, recorded-placed}
 use Rattle.rm_evidence.proofs.Runs.{adds-start, told-more, told-all}
 use Rattle.rm_evidence.proofs.gathering.gather.Goals as goal
 
@@ -16,6 +16,7 @@ loop-row-init g c =
     record {
       adds = IfSome_all (g.D.Store.held c.args.store.now) (λ h. adds-start h c.in_ok-evidence.evidence);
       fits = subst (λ (e : Evidence). FitsTree (nodes c.args.catalog.now) e) (sym first) (fits-placed c.args.catalog.now c.args.place.now c.requires.place);
+      recorded = subst (AreRecorded c.args.catalog.now) (sym first) (recorded-placed c.args.catalog.now c.args.place.now);
       same = refl;
       never_falls = omega arith;
     }
@@ -32,6 +33,7 @@ loop-row-preserved g c =
     record {
       adds = told-more (held c.args.store.now) (held c.loop-row.store) xs rs i r c.in_ok-evidence.evidence c.loop-row.evidence c.take_record.new.evidence c.loop-row.invariant.same same catalog c.loop-row-test.true c.row-item.is c.loop-row.invariant.adds c.in_ok-take_record.ensures.adds;
       fits = c.in_ok-take_record.ensures.fits (nodes rs) (item-there xs rs i r same catalog c.loop-row-test.true c.row-item.is) c.loop-row.invariant.fits;
+      recorded = c.in_ok-take_record.ensures.recorded rs (item-in xs rs i r same c.loop-row-test.true c.row-item.is) c.loop-row.invariant.recorded;
       same = c.take_record.ensures.same ∙ c.loop-row.invariant.same;
       never_falls = omega (arith, c.loop-row.invariant.never_falls, c.take_record.ensures.never_falls);
     }

@@ -9,10 +9,10 @@ use Rattle.rm_objects.specs.Objects.{HasPieceFields}
 use Rattle.rm_piece.specs.declared.piece.Piece.{Piece}
 use Rattle.rm_piece.specs.Valid.{IsPiece}
 use Rattle.rm_evidence.specs.declared.evidence.Evidence.{Evidence}
-use Rattle.rm_evidence.specs.Known.{FitsTree}
+use Rattle.rm_evidence.specs.Known.{AreRecorded, FitsTree}
 use Rattle.rm_evidence.specs.Taking.{Adds, with_piece}
 use Rattle.rm_evidence.proofs.Adding.{IfSome_all, PieceTold, adds-piece, adds-bad_piece, adds-none}
-use Rattle.rm_evidence.proofs.Fitting.{fits-piece}
+use Rattle.rm_evidence.proofs.Fitting.{fits-piece, recorded-piece}
 use Rattle.rm_evidence.proofs.taking.take_piece.Goals as goal
 
 same-status : (p q : PieceEntry) → kind.Piece p ≡ kind.Piece q → q.status ≡ Available → p.status ≡ Available
@@ -40,6 +40,12 @@ returns-in_ok-add_piece-in-Ok-clause-fits g c = λ tree there fits.
     let valid : IsPiece c.in-Ok.piece = subst (λ (t : Result Piece Bad). IfOk t (λ a. IsPiece a)) c.in-Ok.is c.in_ok-piece.ensures.valid in
     let fields : HasPieceFields p c.in-Ok.piece = subst (λ (t : Result Piece Bad). IfOk t (λ a. HasPieceFields p a)) c.in-Ok.is c.in_ok-piece.ensures.fields in
     subst (λ (e : Evidence). FitsTree tree e) (sym c.in_ok-add_piece-in-Ok.ensures) (fits-piece tree p c.in-Ok.piece c.args.evidence.now valid fields there fits)
+
+pub returns-in_ok-add_piece-in-Ok-clause-recorded : goal.returns-in_ok-add_piece-in-Ok-clause-recorded
+returns-in_ok-add_piece-in-Ok-clause-recorded g c = λ rs has are.
+    let p : PieceEntry = c.args.entry.now in
+    let fields : HasPieceFields p c.in-Ok.piece = subst (λ (t : Result Piece Bad). IfOk t (λ a. HasPieceFields p a)) c.in-Ok.is c.in_ok-piece.ensures.fields in
+    subst (AreRecorded rs) (sym c.in_ok-add_piece-in-Ok.ensures) (recorded-piece rs p c.in-Ok.piece c.args.evidence.now has fields are)
 
 pub returns-in_ok-push-in-Err-clause-adds : goal.returns-in_ok-push-in-Err-clause-adds
 returns-in_ok-push-in-Err-clause-adds g c =

@@ -6,6 +6,7 @@ pub returns-in_default : goal.returns-in_default
 returns-in_default g c = record {
   adds = IfSome_all (g.D.Store.held c.args.store.now) (λ h. adds-none h c.args.row.now c.args.evidence.now c.args.evidence.now refl (λ l is available. c.in_default.not-Log l is) (λ p is available. c.in_default.not-Piece p is));
   fits = λ tree there fits. fits;
+  recorded = λ rs has are. are;
   same = refl;
   failed = search rules;
   never_falls = omega arith;

@@ -1,0 +1,29 @@
+-- VALIDATE ALL
+use Rattle.std.specs.Prelude.{ℕ, ◌≡◌, ◌+◌, Bool, true, false, List, [], ◌∷◌, ◌++◌, count_by, length, map}
+use Rattle.rm_base.specs.Store.{Held}
+use Rattle.rm_base.specs.declared.kinds.Bad.{Bad}
+use Rattle.rm_base.specs.declared.kinds.Status.{Status}
+use Rattle.rm_base.specs.declared.kinds.Status.TheVariants.{Available}
+use Rattle.rm_evidence.specs.Available.{IsSkipped}
+use Rattle.rm_evidence.specs.Gathered.{Lists}
+use Rattle.rm_ledger.specs.Ledger.{Ledger}
+use Rattle.rm_report.specs.declared.line.Line.TheVariants.{BadOf, Checked}
+use Rattle.rm_repository.specs.Repository.{records_of}
+use Rattle.rm_machine.specs.Effect.{Outcome, told}
+use Rattle.rm_machine.specs.declared.state.State.{State}
+use Rattle.rm_machine.specs.State.{ledger}
+
+-- a record of this status counts as available
+abbrev pub is_available : Status → Bool
+is_available Available = true
+is_available _ = false
+
+-- how many records of logs and pieces count as available
+abbrev pub count_available : Ledger → ℕ
+count_available l = count_by (λ e. is_available e.status) l.logs + count_by (λ p. is_available p.status) l.pieces
+
+-- it tells exactly those that count as available and whose objects are missing or damaged, ascending by id, and how many were looked at
+pub record IsValidateOutcome (s : State) (held : Held) (o : Outcome) : Type 0 where
+  pub bad : List (ℕ × Bad)
+  pub lists : Lists Bad [] (IsSkipped held (records_of s.catalog)) bad
+  pub is : o ≡ told (map (λ x. BadOf x.0 x.1) bad ++ Checked (count_available (ledger s)) (length bad) ∷ [])

@@ -1,0 +1,4 @@
+pub mod Classes
+pub mod Crosscheck
+pub mod Faults
+pub mod Told

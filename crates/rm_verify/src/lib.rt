@@ -1,0 +1,14 @@
+//! The records against the objects that they name.
+#![tactic(auto)]
+
+pub mod crosschecking;
+pub mod fault;
+mod found;
+pub mod laws;
+mod looking;
+mod object;
+pub mod validating;
+
+pub use crosschecking::crosscheck;
+pub use fault::VerifyFault;
+pub use validating::validate;

@@ -1,0 +1,55 @@
+//! The classes of records, and what a record says of its object.
+ghost use Rattle.std.specs.Prelude.{◌≡◌, IfOk};
+ghost use Rattle.rm_verify.specs.Classes.{is_of, object_in};
+
+use rm_base::{Class, NoMemory, Status, Text};
+use rm_catalog::Record;
+use rm_objects::{log_name, piece_name};
+use std::alloc::Global;
+
+/// What a record of a log or a piece says of its object.
+#[derive(Drop)]
+pub struct Object {
+    pub id: u32,
+    pub status: Status,
+    /// The name under which it is to stand.
+    pub name: Text,
+}
+
+// Whether the record is of the class. A log that is no archived one is a backup of one.
+pub(crate) fn is_of(class: Class, row: &Record) -> bool
+    ensures { result ≡ is_of class row.now }
+{
+    match row {
+        Record::Log(log) => match class {
+            Class::Backup => !log.archived,
+            Class::Copy => false,
+            Class::Archived => log.archived,
+        },
+        Record::Piece(piece) => match class {
+            Class::Backup => !piece.copy,
+            Class::Copy => piece.copy,
+            Class::Archived => false,
+        },
+        _ => false,
+    }
+}
+
+// What the record says of its object. None where it is of no log and no piece.
+pub(crate) fn object_in(alloc: Global, row: &Record) -> Result<Option<Object>, NoMemory>
+    ensures { IfOk result (λ object. object ≡ object_in row.now) }
+{
+    match row {
+        Record::Log(log) => Ok(Some(Object {
+            name: log_name(alloc, log.id)?,
+            id: log.id,
+            status: log.status,
+        })),
+        Record::Piece(piece) => Ok(Some(Object {
+            name: piece_name(alloc, piece.copy, piece.id)?,
+            id: piece.id,
+            status: piece.status,
+        })),
+        _ => Ok(None),
+    }
+}
