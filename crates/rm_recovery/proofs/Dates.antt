@@ -1,5 +1,5 @@
 -- No line of these statements tells a moment.
-use Rattle.std.proofs.Common.{◌≡◌, ◌++◌, ◌∷◌, ℕ, Bool, true, false, List, [], Option, Some, None, refl, sym, subst, length}
+use Rattle.std.proofs.Common.{◌≡◌, ◌∙◌, ◌++◌, ◌∷◌, ℕ, Bool, true, false, List, [], Option, Some, None, refl, ap, sym, subst, length}
 use Rattle.std.specs.Prelude.{All, if◌then◌else◌}
 use Rattle.std.proofs.lemmas.List.Elements.{All-append, All-cons, All-nil}
 use Rattle.rm_apply.specs.declared.origin.Origin.{Origin}
@@ -63,9 +63,10 @@ pub recovered-dated : (lines : List Line) (skipped : List (ℕ × Bad)) (at inc 
 recovered-dated lines skipped at inc count is = behind-skipped lines (Recovered at inc count ∷ []) skipped is (one-dated (Recovered at inc count) tt)
 
 -- of its test
-pub tested-dated : (lines : List Line) (skipped : List (ℕ × Bad)) (w : World) (i at : ℕ) (files : List File) → lines ≡ skipped_lines skipped ++ test_lines w i at files → AreDated lines
-tested-dated lines skipped w i at files is =
-    behind-skipped lines (test_lines w i at files) skipped is (All-cons LineHasDate (UntilIs at i (length files)) (files_lines w files) tt (files-dated w files))
+pub tested-dated : (before lines : List Line) (skipped : List (ℕ × Bad)) (w : World) (i at : ℕ) (files : List File) → before ≡ skipped_lines skipped → lines ≡ before ++ test_lines w i at files → AreDated lines
+tested-dated before lines skipped w i at files first is =
+    behind-skipped lines (test_lines w i at files) skipped (is ∙ ap (λ (ls : List Line). ls ++ test_lines w i at files) first)
+    (All-cons LineHasDate (UntilIs at i (length files)) (files_lines w files) tt (files-dated w files))
 
 -- of a restore
 pub restored-dated : (lines : List Line) (skipped : List (ℕ × Bad)) (fs : List ℕ) (origins : List Origin) → lines ≡ skipped_lines skipped ++ origin_lines fs origins → AreDated lines

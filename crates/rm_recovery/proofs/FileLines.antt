@@ -1,5 +1,5 @@
 -- The lines of one datafile after the other.
-use Rattle.std.proofs.Common.{◌≡◌, ◌<◌, ◌+◌, ◌∙◌, ◌++◌, ℕ, List, ◌∷◌, ap, sym, append_assoc, length, get_or, drop}
+use Rattle.std.proofs.Common.{◌≡◌, ◌<◌, ◌+◌, ◌∙◌, ◌++◌, ℕ, List, ap, sym, append_assoc, length, get_or, drop}
 use Rattle.std.proofs.lemmas.List.{drop_more}
 use Rattle.rm_blocks.specs.File.{File}
 use Rattle.rm_history.specs.declared.world.World.{World}

@@ -1,5 +1,5 @@
 -- The datafiles that are brought back have their places and their lines.
-use Rattle.std.proofs.Common.{◌≡◌, ◌<◌, ◌≤◌, ◌∙◌, ℕ, List, Option, Some, None, refl, ap, sym, subst, arith, length, map, All, Contains}
+use Rattle.std.proofs.Common.{◌≡◌, ◌<◌, ◌≤◌, ◌∙◌, ℕ, List, Option, Some, None, refl, ap, sym, subst, arith, length, All, Contains}
 use Rattle.std.specs.Option.{option_map_or}
 use Rattle.std.proofs.lemmas.List.Elements.{All-contains}
 use Rattle.std.proofs.lemmas.Option.{slice_get_within}
@@ -12,7 +12,6 @@ use Rattle.rm_history.specs.declared.tree.Incarnation.{Incarnation}
 use Rattle.rm_history.specs.declared.world.Datafile.{Datafile}
 use Rattle.rm_history.specs.declared.world.World.{World}
 use Rattle.rm_ledger.specs.Facts.{IsCreated}
-use Rattle.rm_objects.specs.Database.{world_of}
 use Rattle.rm_piece.specs.declared.piece.Piece.{Piece}
 use Rattle.rm_plan.specs.Plan.{IsFileTarget}
 use Rattle.rm_repository.specs.Repository.{records_of}
@@ -58,11 +57,11 @@ module _ (held : Option Held) (s : State) (sound : IsSound s) (i at : ℕ) where
       omega (arith, is, most)
 
   module _ (back : Recovered) (tells : TellsAll held (records_of s.catalog) (in_place s) i at back) where
-    files : AreFilesAt (world s) (known_of tells.evidence) i at back.files
-    files = subst (λ (w : World). AreFilesAt w (known_of tells.evidence) i at back.files) (world-told s.catalog) tells.files
+    pub files-told : AreFilesAt (world s) (known_of tells.evidence) i at back.files
+    files-told = subst (λ (w : World). AreFilesAt w (known_of tells.evidence) i at back.files) (world-told s.catalog) tells.files
 
     target-of : (x : File) → Contains back.files x → IsFileTarget (world s) i at x.file
-    target-of x has = (files.numbers.exact x.file).0 (map_to number back.files x has)
+    target-of x has = (files-told.numbers.exact x.file).0 (map_to number back.files x has)
 
     pub told-places : All (HasPlace (length s.instance.place)) back.files
     told-places = each-in (HasPlace (length s.instance.place)) back.files (λ x has. target-place x.file (target-of x has))
@@ -70,7 +69,7 @@ module _ (held : Option Held) (s : State) (sound : IsSound s) (i at : ℕ) where
     pub told-lines : All HasLines back.files
     told-lines = each-in HasLines back.files (λ x has.
         let target = target-of x has in
-        let told = All-contains (λ (y : File). IsTold (world s) (known_of tells.evidence) i at y.file y) back.files x files.each has in (
+        let told = All-contains (λ (y : File). IsTold (world s) (known_of tells.evidence) i at y.file y) back.files x files-told.each has in (
           (target-place x.file target).0,
           target-blocks x.file (length x.rows) target (told.blocks ∙ ap (λ (o : Option Datafile). option_map_or (λ d. d.blocks) o 0) target.is),
         ))

@@ -6,4 +6,4 @@ pub mod InPlace
 pub mod OriginLines
 pub mod Over
 pub mod Records
-pub mod Targets
+pub mod Sound

@@ -1,12 +1,12 @@
 -- The records of a state as a list, the database of which they tell, and what is in place beside them.
 use Rattle.std.proofs.Common.{◌≡◌, ◌∙◌, ℕ, List, Option, Some, None, Result, refl, ap, map, sym, subst}
-use Rattle.std.specs.Option.{option_map}
+use Rattle.std.specs.Option.{option_and_then, option_map}
 use Rattle.std.proofs.lemmas.List.Sorted.{IsPermutation-refl}
 use Rattle.rm_base.specs.declared.refusal.Refusal.TheVariants.{Rm06}
 use Rattle.rm_catalog.specs.declared.catalog.CatalogFault.{CatalogFault}
 use Rattle.rm_catalog.specs.declared.record.Record.{Record}
 use Rattle.rm_catalog.specs.Faults.{IsTaken}
-use Rattle.rm_catalog.specs.Rules.{HasDatabase, IsCatalog, IsOrderOf, IsValid}
+use Rattle.rm_catalog.specs.Rules.{IsCatalog, IsOrderOf, IsValid}
 use Rattle.rm_catalog.specs.Trees.{nodes}
 use Rattle.rm_evidence.specs.declared.evidence.InPlace.{InPlace}
 use Rattle.rm_evidence.specs.Place.{FitsPlace}
@@ -20,14 +20,17 @@ use Rattle.rm_apply.specs.declared.targets.TargetFile.{TargetFile}
 use Rattle.rm_apply.specs.Files.{AreExactly, IsAsked}
 use Rattle.rm_apply.proofs.Numbers.{unnamed}
 use Rattle.rm_apply.specs.declared.fault.RecoverFault.{RecoverFault}
-use Rattle.rm_apply.specs.declared.fault.RecoverFault.TheVariants.{Until}
+use Rattle.rm_apply.specs.declared.fault.RecoverFault.TheVariants as kind
 use Rattle.rm_apply.specs.Recover.{outside, until_in}
+use Rattle.rm_statement.specs.declared.command.Until.{Until}
+use Rattle.rm_machine.specs.Recover.{recover_target}
 use Rattle.rm_machine.specs.Recovery.{in_place, range_refusal}
+use Rattle.rm_machine.specs.Restore.{preview_refusal}
 use Rattle.rm_machine.specs.Sound.{IsSound}
 use Rattle.rm_machine.specs.declared.state.State.{State}
-use Rattle.rm_machine.specs.State.{tree, world}
+use Rattle.rm_machine.specs.State.{current_of, tree, world}
 use Rattle.rm_machine.proofs.Fitting.{place-fits}
-use Rattle.rm_machine.proofs.Records.{database-told, tree-told, world-told}
+use Rattle.rm_machine.proofs.Records.{tree-told, world-told}
 
 -- valid records in order are taken as they are
 pub taken : (rs : List Record) (r : Result (List Record) CatalogFault) → IsCatalog rs → ((s : List Record) → IsOrderOf s rs → IsValid s → IsTaken r s) → IsTaken r rs
@@ -38,12 +41,13 @@ unmapped : {A B : Type 0} (f : A → B) (o : Option A) → option_map f o ≡ No
 unmapped f None none = refl
 unmapped f (Some x) none = absurd (cc)
 
+-- a target of PREVIEW that is not refused lies in its range
+pub preview-within : (s : State) (until : Option Until) (at : ℕ) → recover_target s until ≡ Some at → preview_refusal s until ≡ None → range_refusal (tree s) (current_of s) at ≡ None
+preview-within s until at target none = sym (ap (option_and_then (range_refusal (tree s) (current_of s))) target) ∙ none
+
 module _ (s : State) (rs : List Record) (records : rs ≡ records_of s.catalog) where
   same-tree : nodes rs ≡ tree s
   same-tree = ap nodes records ∙ tree-told s.catalog
-
-  pub database : HasDatabase rs
-  database = subst HasDatabase (sym records) (database-told s.catalog)
 
   pub there : (i : ℕ) → IsThere (tree s) i → IsThere (nodes rs) i
   there i is = subst (λ (ns : List Incarnation). IsThere ns i) (sym same-tree) is
@@ -61,7 +65,7 @@ module _ (s : State) (rs : List Record) (records : rs ≡ records_of s.catalog) 
       (subst (λ (v : World). AreExactly (IsFileTarget v i at) (map (λ t. t.number) us)) w (unnamed (world_of rs) i at ts us list are)))
 
   -- so it is not told as one that does
-  pub never-outside : (i at low high : ℕ) (fault : RecoverFault) → until_in fault ≡ outside (nodes rs) i at → fault ≡ Until low high → range_refusal (tree s) i at ≡ None → ⊥
+  pub never-outside : (i at low high : ℕ) (fault : RecoverFault) → until_in fault ≡ outside (nodes rs) i at → fault ≡ kind.Until low high → range_refusal (tree s) i at ≡ None → ⊥
   never-outside i at low high fault told is none = absurd (let clash : Some (low, high) ≡ None = sym (ap until_in is) ∙ within i at (until_in fault) told none in cc)
 
   module _ (place : InPlace) (in_place_is : place ≡ in_place s) where

@@ -94,18 +94,18 @@ pub fn preview<D: Store>(
     };
     let hand = at_hand(alloc, state)?;
     let current = state.catalog.base().current;
-    let (origins, gap, skipped) =
-        match rm_apply::preview(alloc, &hand.records, store, &hand.place, current, at) {
-            Ok(told) => told,
-            Err(fault) => return Err(fault_of(fault)),
-        };
+    let (origins, gap, skipped) = match rm_apply::preview(
+        alloc,
+        &hand.records,
+        store,
+        &hand.place,
+        current,
+        at,
+    ) {
+        Ok(told) => told,
+        Err(fault) => return Err(fault_of(fault)),
+    };
     let targets = datafiles_at(alloc, &hand.records, current, at, None)?;
     let numbers = numbers_of(alloc, targets.as_slice())?;
-    Ok(lines_of(
-        alloc,
-        &numbers,
-        origins.as_slice(),
-        gap,
-        skipped.as_slice(),
-    )?)
+    Ok(lines_of(alloc, &numbers, origins.as_slice(), gap, skipped.as_slice())?)
 }

@@ -53,12 +53,7 @@ pub fn recover_refusal(state: &State, until: &Option<Until>) -> Option<Refusal>
 }
 
 // The lines of the reply.
-fn lines_of(
-    alloc: Global,
-    current: IncNo,
-    at: Scn,
-    back: &Recovered,
-) -> Result<Seq<Line>, NoMemory>
+fn lines_of(alloc: Global, current: IncNo, at: Scn, back: &Recovered) -> Result<Seq<Line>, NoMemory>
     requires { length back.now.files ≤ 64 }
     ensures { IfOk result (λ lines. lines ≡ skipped_lines back.now.skipped ++ recovered_line at current (length back.now.files) ∷ []) }
 {

@@ -93,15 +93,7 @@ fn from_backups<D: Store>(
 {
     let hand = at_hand(alloc, state)?;
     let current = state.catalog.base().current;
-    match rm_apply::restore(
-        alloc,
-        &hand.records,
-        store,
-        &hand.place,
-        current,
-        at,
-        file,
-    ) {
+    match rm_apply::restore(alloc, &hand.records, store, &hand.place, current, at, file) {
         Ok(back) => Ok(back),
         Err(fault) => Err(fault_of(fault)),
     }
@@ -115,11 +107,7 @@ fn numbers_of(alloc: Global, files: &[DataFile]) -> Result<Vec<FileNo>, NoMemory
 }
 
 // The lines of the reply.
-fn lines_of(
-    alloc: Global,
-    back: &Recovered,
-    origins: &[Origin],
-) -> Result<Seq<Line>, NoMemory>
+fn lines_of(alloc: Global, back: &Recovered, origins: &[Origin]) -> Result<Seq<Line>, NoMemory>
     ensures { IfOk result (λ lines. lines ≡ skipped_lines back.now.skipped ++ origin_lines (map (λ x. x.file) back.now.files) origins.now) }
 {
     let numbers = numbers_of(alloc, back.files.as_slice())?;

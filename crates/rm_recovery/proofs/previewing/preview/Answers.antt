@@ -11,8 +11,7 @@ use Rattle.rm_machine.specs.State.{current_of, tree}
 use Rattle.rm_repository.specs.Repository.{records_of}
 use Rattle.rm_recovery.proofs.Dates.{previewed-dated}
 use Rattle.rm_recovery.proofs.Handing.{preview-tells}
-use Rattle.rm_recovery.proofs.Records.{exact-numbers, fits, of-state, there, within}
-use Rattle.rm_recovery.proofs.Targets.{preview-within}
+use Rattle.rm_recovery.proofs.Records.{exact-numbers, fits, of-state, preview-within, there, within}
 use Rattle.rm_recovery.proofs.previewing.preview.Goals as goal
 
 pub preview-requires-clause-place : goal.preview-requires-clause-place
@@ -52,10 +51,10 @@ returns-clause-tells g c =
     let current = ap (λ (b : BaseEntry). b.current) c.base-current.ensures.value in
     let exact = exact-numbers s hand.records is i (current_of s) at c.in_ok-targets.targets c.as_slice.result.now c.deref.result.now current c.as_slice.ensures (c.deref.ensures.value ∙ c.in_ok-numbers.ensures) c.in_ok-targets.ensures.numbers in
     let previews = subst (λ n. Previews held (records_of s.catalog) (in_place s) n at told.0 told.1 told.2) current
-        (of-state s hand.records is hand.place c.in_ok-hand.ensures.place (λ rs place. Previews held rs place i at told.0 told.1 told.2) c.in-Ok.ensures.previews) in
+    (of-state s hand.records is hand.place c.in_ok-hand.ensures.place (λ rs place. Previews held rs place i at told.0 told.1 told.2) c.in-Ok.ensures.previews) in
     let lines = c.in_ok-lines_of.ensures
-        ∙ ap (λ (xs : List (ℕ × Bad)). skipped_lines xs ++ origin_lines c.deref.result.now c.as_slice-2.result.now ++ gap_line told.1 ∷ []) c.as_slice-3.ensures
-        ∙ ap (λ (os : List Origin). skipped_lines told.2 ++ origin_lines c.deref.result.now os ++ gap_line told.1 ∷ []) c.as_slice-2.ensures in
+    ∙ ap (λ (xs : List (ℕ × Bad)). skipped_lines xs ++ origin_lines c.deref.result.now c.as_slice-2.result.now ++ gap_line told.1 ∷ []) c.as_slice-3.ensures
+    ∙ ap (λ (os : List Origin). skipped_lines told.2 ++ origin_lines c.deref.result.now os ++ gap_line told.1 ∷ []) c.as_slice-2.ensures in
     preview-tells held s c.args.until.now at (sym c.recover_target.ensures ∙ c.in-Some.is) c.deref.result.now told.0 told.1 told.2 c.in_ok-lines_of.field-0 exact previews lines
 
 pub returns-clause-dates : goal.returns-clause-dates

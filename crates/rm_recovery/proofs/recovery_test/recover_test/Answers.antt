@@ -1,7 +1,5 @@
-use Rattle.std.proofs.Common.{◌∙◌, ◌++◌, List, All, ap, refl, subst, sym}
+use Rattle.std.proofs.Common.{List, All, refl, subst, sym}
 use Rattle.rm_blocks.specs.File.{File}
-use Rattle.rm_report.specs.declared.line.Line.{Line}
-use Rattle.rm_machine.specs.RecoverTest.{test_lines}
 use Rattle.rm_machine.specs.State.{world}
 use Rattle.rm_recovery.specs.Lines.{HasLines}
 use Rattle.rm_recovery.proofs.Dates.{tested-dated}
@@ -20,9 +18,4 @@ push_test-requires-clause-each g c =
     (told-lines held s c.requires.sound i at back (told-at held s i i at c.in_ok-back.field-0 back refl c.in-Ok.is c.in_ok-back.ensures.tells))
 
 pub returns-clause-dates : goal.returns-clause-dates
-returns-clause-dates g c =
-    let i = c.tested-inc.result in
-    let at = c.in-Some.at in
-    let w = world c.args.state.now in
-    let files = c.as_slice-2.result.now in
-    tested-dated c.push_test.new.lines c.as_slice.result.now w i at files (c.in_ok-push_test.ensures ∙ ap (λ (ls : List Line). ls ++ test_lines w i at files) c.in_ok-lines.ensures)
+returns-clause-dates g c = tested-dated c.in_ok-lines.lines c.push_test.new.lines c.as_slice.result.now (world c.args.state.now) c.tested-inc.result c.in-Some.at c.as_slice-2.result.now c.in_ok-lines.ensures c.in_ok-push_test.ensures
