@@ -1,22 +1,19 @@
--- The lines of one datafile after the other: what was told, and what is left to tell.
-use Rattle.std.proofs.Common.{◌≡◌, ◌<◌, ◌+◌, ◌∙◌, ◌++◌, ℕ, zero, suc, List, [], ◌∷◌, Option, refl, ap, sym, arith, append_assoc, length, get_or, drop}
+-- The lines of one datafile after the other.
+use Rattle.std.proofs.Common.{◌≡◌, ◌<◌, ◌+◌, ◌∙◌, ◌++◌, ℕ, List, ap, sym, append_assoc, length, get_or, drop}
+use Rattle.std.proofs.lemmas.List.{drop_more}
 use Rattle.rm_blocks.specs.File.{File}
-use Rattle.rm_history.specs.declared.world.Datafile.{Datafile}
+use Rattle.rm_history.specs.declared.world.World.{World}
+use Rattle.rm_history.specs.World.{creation_of}
 use Rattle.rm_report.specs.declared.line.Line.{Line}
 use Rattle.rm_machine.specs.RecoverTest.{file_lines, files_lines}
 
-files-next : (f : ℕ) (ds : List Datafile) (xs : List (Option File)) (k : ℕ) (d : Datafile) (x : Option File) → k < length ds → length xs ≡ length ds
-    → files_lines f (drop k ds) (drop k xs) ≡ file_lines f (get_or ds k d) (get_or xs k x) ++ files_lines (f + 1) (drop (suc k) ds) (drop (suc k) xs)
-files-next f [] xs k d x inside many = absurd (omega arith)
-files-next f (e ∷ ds) [] k d x inside many = absurd (omega arith)
-files-next f (e ∷ ds) (y ∷ ys) zero d x inside many = refl
-files-next f (e ∷ ds) (y ∷ ys) (suc k) d x inside many = files-next f ds ys k d x (omega arith) (omega arith)
-
--- the lines of the datafile at place k
-pub file-next : (f : ℕ) (ds : List Datafile) (xs : List (Option File)) (k n : ℕ) (d : Datafile) (x : Option File) (old new : List Line)
-    → n ≡ suc k → k < length ds → length xs ≡ length ds → new ≡ old ++ file_lines f (get_or ds k d) (get_or xs k x) → new ++ files_lines (f + 1) (drop n ds) (drop n xs) ≡ old ++ files_lines f (drop k ds) (drop k xs)
-file-next f ds xs k n d x old new e inside many is =
-    ap (λ m. new ++ files_lines (f + 1) (drop m ds) (drop m xs)) e
-    ∙ ap (λ ys. ys ++ files_lines (f + 1) (drop (suc k) ds) (drop (suc k) xs)) is
-    ∙ append_assoc old (file_lines f (get_or ds k d) (get_or xs k x)) (files_lines (f + 1) (drop (suc k) ds) (drop (suc k) xs))
-    ∙ ap (λ ys. old ++ ys) (sym (files-next f ds xs k d x inside many))
+-- those of the next one: what was told, and what is left to tell
+pub next-file : (w : World) (xs : List File) (k : ℕ) (x : File) (f creation : ℕ) (told new all : List Line) → k < length xs → x ≡ get_or xs k x → f ≡ x.file → creation ≡ creation_of w f
+    → new ≡ told ++ file_lines creation x → told ++ files_lines w (drop k xs) ≡ all → new ++ files_lines w (drop (k + 1) xs) ≡ all
+next-file w xs k x f creation told new all inside is number created lines left =
+    let rest = files_lines w (drop (k + 1) xs) in
+    ap (λ ls. ls ++ rest) (lines ∙ ap (λ n. told ++ file_lines n x) (created ∙ ap (creation_of w) number))
+    ∙ append_assoc told (file_lines (creation_of w x.file) x) rest
+    ∙ ap (λ (y : File). told ++ (file_lines (creation_of w y.file) y ++ rest)) is
+    ∙ ap (λ (ys : List File). told ++ files_lines w ys) (sym (drop_more xs k x inside))
+    ∙ left

@@ -1,7 +1,9 @@
 pub mod Dates
 pub mod FileLines
-pub mod FilesTold
+pub mod Files
 pub mod Handing
 pub mod InPlace
+pub mod OriginLines
+pub mod Over
 pub mod Records
-pub mod Rows
+pub mod Sound

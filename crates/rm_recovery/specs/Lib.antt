@@ -1,1 +1,3 @@
-pub mod Telling
+pub mod Gap
+pub mod Lines
+pub mod Placing

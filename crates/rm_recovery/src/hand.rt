@@ -1,31 +1,29 @@
-//! What is at hand: what is in place, and what the store has of the records.
-ghost use Rattle.std.specs.Prelude.{◌≡◌, ◌≤◌, ◌<◌, ◌∷◌, ◌++◌, [], IfOk, IfSome, IsErrOf, OnOk, map, cond};
+//! What is at hand beside the store: the records of the catalog, and what is in place.
+ghost use Rattle.std.specs.Prelude.{◌≡◌, ◌≤◌, ◌<◌, ◌∷◌, ◌++◌, [], IfOk, OnOk, map, cond};
 ghost use Rattle.std.specs.List.{filter_map};
-ghost use Rattle.rm_base.specs.Outside.{Rose};
 ghost use Rattle.rm_catalog.specs.Rules.{IsCatalog};
-ghost use Rattle.rm_evidence.specs.Known.{FitsTree};
-ghost use Rattle.rm_machine.specs.Recovery.{IsAtHand, in_place, online_logs};
+ghost use Rattle.rm_machine.specs.Recovery.{in_place, online_logs};
 ghost use Rattle.rm_machine.specs.Sound.{IsSound};
-ghost use Rattle.rm_machine.specs.State.{counted, is_lost, ledger, online, tree};
+ghost use Rattle.rm_machine.specs.State.{counted, is_lost, ledger, online};
 ghost use Rattle.rm_repository.specs.Repository.{records_of};
 
-use rm_base::{NoMemory, Seq, Store, ThreadNo};
+use rm_base::{NoMemory, Seq, ThreadNo};
 use rm_blocks::DataFile;
 use rm_catalog::{Catalog as Records, CatalogFault, Record};
-use rm_evidence::{Evidence, EvidenceFault, InPlace, gather};
+use rm_evidence::InPlace;
 use rm_machine::State;
 use rm_machine::facts::{now, redo_end, threads};
 use rm_redo::LogFile;
 use rm_repository::Catalog;
 use std::alloc::Global;
 
-/// What a recovery rests on.
+/// What a recovery and a restore rest on, beside the store.
 #[derive(Drop)]
 pub(crate) struct AtHand {
     /// The records of the catalog.
     pub records: Records,
-    /// What is in place, and what the store has of these records.
-    pub evidence: Evidence,
+    /// What is in place, and not lost.
+    pub place: InPlace,
 }
 
 // An equal datafile; in an open database as one of the current incarnation at `now`.
@@ -136,22 +134,14 @@ fn records_of(alloc: Global, catalog: &Catalog) -> Result<Records, NoMemory>
     as_records(catalog.records(alloc)?)
 }
 
-/// What is at hand: what the store has of the records that count as available, and what is in place.
-pub(crate) fn at_hand<D: Store>(
-    alloc: Global,
-    state: &State,
-    store: &mut D,
-) -> Result<AtHand, EvidenceFault>
+/// The records of the catalog, as a list, and what is in place.
+pub(crate) fn at_hand(alloc: Global, state: &State) -> Result<AtHand, NoMemory>
     requires sound { IsSound state.now }
     ensures records { IfOk result (λ hand. hand.records ≡ records_of state.now.catalog) }
-    ensures evidence { IfOk result (λ hand. IfSome (D.held store.old) (λ h. IsAtHand state.now h hand.evidence)) }
-    ensures fits { IfOk result (λ hand. FitsTree (tree state.now) hand.evidence) }
-    ensures same { D.held store.new ≡ D.held store.old }
-    ensures failed { IsErrOf result EvidenceFault.StoreFault → Rose (D.faults store.old) (D.faults store.new) }
-    ensures never_falls { D.faults store.old ≤ D.faults store.new }
+    ensures place { IfOk result (λ hand. hand.place ≡ in_place state.now) }
 {
-    let records = records_of(alloc, &state.catalog)?;
-    let place = in_place(alloc, state)?;
-    let evidence = gather(alloc, &records, store, &place)?;
-    Ok(AtHand { records, evidence })
+    Ok(AtHand {
+        records: records_of(alloc, &state.catalog)?,
+        place: in_place(alloc, state)?,
+    })
 }

@@ -1,14 +1,19 @@
-//! RECOVER DATABASE and its test, by the evidence alone: what the store has of the records, and what is in
-//! place. Each either comes to exactly what was made of each block, or names the first gap.
+//! RECOVER DATABASE and its test, RESTORE and its preview, by the evidence alone: what the store has of the
+//! records, and what is in place.
 #![tactic(auto)]
 
-mod files;
+mod bringing;
+mod faults;
 mod hand;
 mod lines;
+mod placing;
+mod previewing;
 mod recovery;
 mod recovery_test;
+mod restoring;
 mod target;
-mod telling;
 
+pub use previewing::{preview, preview_refusal};
 pub use recovery::{recover, recover_refusal};
 pub use recovery_test::{recover_test, test_refusal};
+pub use restoring::{restore, restore_refusal};

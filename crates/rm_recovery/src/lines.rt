@@ -1,27 +1,30 @@
 //! The lines of the replies.
-ghost use Rattle.std.specs.Prelude.{◌≡◌, ◌<◌, ◌≤◌, ◌++◌, ◌∷◌, [], IfOk, IfSome, OnOk, All, length};
-ghost use Rattle.rm_history.specs.Tree.{IsThere};
+ghost use Rattle.std.specs.Prelude.{◌≡◌, ◌<◌, ◌≤◌, ◌++◌, ◌∷◌, [], IfOk, OnOk, All, length};
+ghost use Rattle.rm_history.specs.World.{creation_of};
 ghost use Rattle.rm_machine.specs.RecoverTest.{block_lines, file_lines, files_lines, test_lines};
-ghost use Rattle.rm_machine.specs.Recovery.{count_at, skipped_lines};
-ghost use Rattle.rm_machine.specs.Sound.{IsSound};
-ghost use Rattle.rm_machine.specs.State.{ledger, tree};
+ghost use Rattle.rm_machine.specs.Recovery.{skipped_lines};
+ghost use Rattle.rm_machine.specs.Restore.{origin_line, origin_lines};
+ghost use Rattle.rm_machine.specs.State.{world};
+ghost use Rattle.rm_recovery.specs.Lines.{HasLines};
 
+use rm_apply::Origin;
 use rm_base::{Bad, FileNo, IncNo, NoMemory, Row, Scn, Seq};
 use rm_blocks::DataFile;
-use rm_history::Datafile;
-use rm_machine::State;
-use rm_machine::facts::exists;
+use rm_machine::{Handed, State};
 use rm_report::Line;
 use std::alloc::Global;
 
-/// The number of datafiles that exist at (i, at).
-pub(crate) fn count_at(state: &State, i: IncNo, at: Scn) -> u32
-    requires sound { IsSound state.now }
-    requires there { IsThere (tree state.now) i }
-    ensures { result ≡ count_at state.now i at }
+/// These lines, of a statement that makes and removes no object.
+pub(crate) fn of_lines(alloc: Global, lines: Seq<Line>) -> Handed
+    ensures lines { result.lines ≡ lines }
+    ensures objects { result.objects ≡ [] }
+    ensures removes { result.removes ≡ [] }
 {
-    let files = state.catalog.files().iter();
-    files.filter(|d| exists(state, i, at, d)).count() as u32
+    Handed {
+        lines,
+        objects: Seq::new(alloc),
+        removes: Seq::new(alloc),
+    }
 }
 
 /// A line for each record that was skipped.
@@ -33,6 +36,34 @@ pub(crate) fn skipped_lines(alloc: Global, skipped: &[(u32, Bad)]) -> Result<Seq
         lines.push(Line::Skipped { id: *id, bad: *bad })?;
     }
     Ok(lines)
+}
+
+// From where a datafile is restored.
+fn origin_line(file: FileNo, origin: Origin) -> Line
+    ensures { result ≡ origin_line file origin }
+{
+    match origin {
+        Origin::Backup(id, checkpoint) => Line::RestoredFrom {
+            file,
+            id,
+            checkpoint,
+        },
+        Origin::Created => Line::CreatedEmpty { file },
+    }
+}
+
+/// Adds a line for each datafile: from where it is restored.
+pub(crate) fn push_origins(
+    lines: &mut Seq<Line>,
+    numbers: &[FileNo],
+    origins: &[Origin],
+) -> Result<(), NoMemory>
+    ensures { OnOk result (lines.new ≡ lines.old ++ origin_lines numbers.now origins.now) }
+{
+    for (number, origin) in numbers.iter().zip(origins) {
+        lines.push(origin_line(*number, *origin))?;
+    }
+    Ok(())
 }
 
 // Adds the line of a block, where it was written.
@@ -59,45 +90,37 @@ fn push_blocks(lines: &mut Seq<Line>, creation: Scn, rows: &[Row]) -> Result<(),
     Ok(())
 }
 
-// Adds the lines of a datafile, where it exists at the target.
-fn push_file(
-    lines: &mut Seq<Line>,
-    number: FileNo,
-    datafile: Datafile,
-    file: &Option<DataFile>,
-) -> Result<(), NoMemory>
-    requires rows { IfSome file.now (λ x. length x.rows ≤ 65536) }
-    ensures { OnOk result (lines.new ≡ lines.old ++ file_lines number datafile file.now) }
+// Adds the lines of a datafile that was created there.
+fn push_file(lines: &mut Seq<Line>, creation: Scn, file: &DataFile) -> Result<(), NoMemory>
+    requires { length file.now.rows ≤ 65536 }
+    ensures { OnOk result (lines.new ≡ lines.old ++ file_lines creation file.now) }
 {
-    let Some(file) = file else {
-        return Ok(());
-    };
     let rows = file.rows();
-    let written = rows
-        .iter()
-        .filter(|row| datafile.creation < row.version)
-        .count();
+    let written = rows.iter().filter(|row| creation < row.version).count();
     lines.push(Line::FileIs {
-        file: number,
-        blocks: datafile.blocks,
+        file: file.file(),
+        blocks: rows.len() as u32,
         written: written as u32,
     })?;
-    push_blocks(lines, datafile.creation, rows)
+    push_blocks(lines, creation, rows)
 }
 
-// Adds the lines of the datafiles at the target.
-fn push_files(
-    lines: &mut Seq<Line>,
-    datafiles: &[Datafile],
-    files: &[Option<DataFile>],
-) -> Result<(), NoMemory>
-    requires many { length files.now ≡ length datafiles.now }
-    requires few { length files.now ≤ 64 }
-    requires rows { All (λ file. IfSome file (λ x. length x.rows ≤ 65536)) files.now }
-    ensures { OnOk result (lines.new ≡ lines.old ++ files_lines 1 datafiles.now files.now) }
+// The SCN at which the datafile of this number, at least 1, was created; 0 for one that is not there.
+fn creation_of(state: &State, number: FileNo) -> Scn
+    requires { 0 < number }
+    ensures { result ≡ creation_of (world state.now) number }
 {
-    for (index, datafile) in datafiles.iter().enumerate() {
-        push_file(lines, index as FileNo + 1, *datafile, &files[index])?;
+    let datafile = state.catalog.files().get(number as usize - 1);
+    datafile.map_or(0, |datafile| datafile.creation)
+}
+
+// Adds the lines of these datafiles.
+fn push_files(lines: &mut Seq<Line>, state: &State, files: &[DataFile]) -> Result<(), NoMemory>
+    requires each { All HasLines files.now }
+    ensures { OnOk result (lines.new ≡ lines.old ++ files_lines (world state.now) files.now) }
+{
+    for file in files {
+        push_file(lines, creation_of(state, file.file()), file)?;
     }
     Ok(())
 }
@@ -108,18 +131,16 @@ pub(crate) fn push_test(
     state: &State,
     i: IncNo,
     at: Scn,
-    files: &[Option<DataFile>],
+    files: &[DataFile],
 ) -> Result<(), NoMemory>
-    requires sound { IsSound state.now }
-    requires there { IsThere (tree state.now) i }
-    requires many { length files.now ≡ length (ledger state.now).files }
-    requires rows { All (λ file. IfSome file (λ x. length x.rows ≤ 65536)) files.now }
-    ensures { OnOk result (lines.new ≡ lines.old ++ test_lines state.now i at files.now) }
+    requires few { length files.now ≤ 64 }
+    requires each { All HasLines files.now }
+    ensures { OnOk result (lines.new ≡ lines.old ++ test_lines (world state.now) i at files.now) }
 {
     lines.push(Line::UntilIs {
         until: at,
         inc: i,
-        files: count_at(state, i, at),
+        files: files.len() as u32,
     })?;
-    push_files(lines, state.catalog.files(), files)
+    push_files(lines, state, files)
 }

@@ -3,18 +3,18 @@ ghost use Rattle.std.specs.Prelude.{◌≡◌, ◌≤◌, ◌++◌, ◌∷◌, [
 ghost use Rattle.rm_base.specs.Outside.{Rose};
 ghost use Rattle.rm_statement.specs.declared.command.Command.TheVariants.{Recover};
 ghost use Rattle.rm_machine.specs.Hands.{Hands, Refuses};
-ghost use Rattle.rm_machine.specs.Recover.{or_else, put_over, recover_refusal, recover_target, recovered, target_refusal};
-ghost use Rattle.rm_machine.specs.Recovery.{count_at, is_built_until, skipped_lines};
+ghost use Rattle.rm_machine.specs.Recover.{recover_refusal, target_refusal};
+ghost use Rattle.rm_machine.specs.Recovery.{is_built_until, skipped_lines};
 ghost use Rattle.rm_machine.specs.Sound.{IsSound};
-ghost use Rattle.rm_machine.specs.State.{current_of};
 ghost use Rattle.rm_report.specs.Reply.{HasDate, LineHasDate};
-ghost use Rattle.rm_report.specs.declared.line.Line.TheVariants.{Recovered};
+ghost use Rattle.rm_report.specs.declared.line.Line.TheVariants.{Recovered as recovered_line};
 
-use crate::lines::{count_at, skipped_lines};
-use crate::target::{range_refusal, target_of};
-use crate::telling::{Told, tell};
-use rm_base::{Bad, NoMemory, Refusal, Scn, Seq, Store};
-use rm_blocks::DataFile;
+use crate::bringing::bring_back;
+use crate::lines::{of_lines, skipped_lines};
+use crate::placing::put_in_place;
+use crate::target::{range_refusal, recover_target};
+use rm_apply::Recovered;
+use rm_base::{IncNo, NoMemory, Refusal, Scn, Seq, Store};
 use rm_evidence::EvidenceFault;
 use rm_machine::facts::first_lost;
 use rm_machine::room::ids_refusal;
@@ -22,14 +22,6 @@ use rm_machine::{Handed, State};
 use rm_report::Line;
 use rm_statement::Until;
 use std::alloc::Global;
-use std::mem;
-
-// The SCN at which a recovery of the current incarnation stops.
-fn recover_target(state: &State, until: &Option<Until>) -> Option<Scn>
-    ensures { result ≡ recover_target state.now until.now }
-{
-    target_of(state.catalog.tree(), state.catalog.base().current, until)
-}
 
 // Why the target is refused, if it is.
 fn target_refusal(state: &State, at: Scn) -> Option<Refusal>
@@ -61,53 +53,17 @@ pub fn recover_refusal(state: &State, until: &Option<Until>) -> Option<Refusal>
 }
 
 // The lines of the reply.
-fn lines_of(
-    alloc: Global,
-    state: &State,
-    skipped: &[(u32, Bad)],
-    at: Scn,
-) -> Result<Seq<Line>, NoMemory>
-    requires sound { IsSound state.now }
-    ensures { IfOk result (λ lines. lines ≡ skipped_lines skipped.now ++ Recovered at (current_of state.now) (count_at state.now (current_of state.now) at) ∷ []) }
+fn lines_of(alloc: Global, current: IncNo, at: Scn, back: &Recovered) -> Result<Seq<Line>, NoMemory>
+    requires { length back.now.files ≤ 64 }
+    ensures { IfOk result (λ lines. lines ≡ skipped_lines back.now.skipped ++ recovered_line at current (length back.now.files) ∷ []) }
 {
-    let current = state.catalog.base().current;
-    let mut lines = skipped_lines(alloc, skipped)?;
+    let mut lines = skipped_lines(alloc, back.skipped.as_slice())?;
     lines.push(Line::Recovered {
         until: at,
         inc: current,
-        files: count_at(state, current, at),
+        files: back.files.len() as u32,
     })?;
     Ok(lines)
-}
-
-// Puts a datafile in its place, where there is one.
-fn put(slot: &mut Option<DataFile>, file: Option<DataFile>)
-    ensures { slot.new ≡ or_else file slot.old }
-{
-    if file.is_some() {
-        *slot = file;
-    }
-}
-
-// Puts datafiles in place of those that stood there.
-fn put_all(place: &mut Vec<Option<DataFile>>, mut files: Vec<Option<DataFile>>)
-    requires many { length files.items ≡ length place.old.items }
-    ensures { place.new.items ≡ put_over files.items place.old.items }
-{
-    for index in 0..files.len() {
-        put(&mut place[index], files[index].take());
-    }
-}
-
-// Lets the database stand at the target, with these datafiles in place. Takes no memory.
-fn bring_back(alloc: Global, state: &mut State, files: Seq<Option<DataFile>>, at: Scn)
-    requires many { length files ≡ length state.old.instance.place }
-    ensures { state.new ≡ recovered state.old at files }
-{
-    let mut place = mem::replace(&mut state.instance.place, Seq::new(alloc)).into_vec();
-    put_all(&mut place, files.into_vec());
-    state.instance.place = Seq::from_vec(place);
-    state.instance.point = Some(at);
 }
 
 /// RECOVER DATABASE, which the state alone does not refuse: each datafile that exists at the target comes to stand
@@ -139,15 +95,11 @@ pub fn recover<D: Store>(
         unreachable!()
     };
     let current = state.catalog.base().current;
-    let Told { skipped, files } = match tell(alloc, state, store, current, at)? {
-        Ok(told) => told,
+    let back = match bring_back(alloc, state, store, current, at)? {
+        Ok(back) => back,
         Err(refusal) => return Ok(Err(refusal)),
     };
-    let lines = lines_of(alloc, state, skipped.as_slice(), at)?;
-    bring_back(alloc, state, files, at);
-    Ok(Ok(Handed {
-        lines,
-        objects: Seq::new(alloc),
-        removes: Seq::new(alloc),
-    }))
+    let lines = lines_of(alloc, current, at, &back)?;
+    put_in_place(alloc, state, back.files, Some(at));
+    Ok(Ok(of_lines(alloc, lines)))
 }

@@ -6,12 +6,11 @@ ghost use Rattle.rm_machine.specs.Hands.{Refuses, Tells};
 ghost use Rattle.rm_machine.specs.RecoverTest.{test_refusal, tested};
 ghost use Rattle.rm_machine.specs.Recovery.{is_built_until};
 ghost use Rattle.rm_machine.specs.Sound.{IsSound};
-ghost use Rattle.rm_machine.specs.State.{tree};
 ghost use Rattle.rm_report.specs.Reply.{HasDate, LineHasDate};
 
+use crate::bringing::bring_back;
 use crate::lines::{push_test, skipped_lines};
 use crate::target::{range_refusal, target_of};
-use crate::telling::{Told, tell};
 use rm_base::{IncNo, Refusal, Seq, Store};
 use rm_evidence::EvidenceFault;
 use rm_machine::State;
@@ -65,11 +64,11 @@ pub fn recover_test<D: Store>(
     let Some(at) = target_of(state.catalog.tree(), inc, until) else {
         unreachable!()
     };
-    let Told { skipped, files } = match tell(alloc, state, store, inc, at)? {
-        Ok(told) => told,
+    let back = match bring_back(alloc, state, store, inc, at)? {
+        Ok(back) => back,
         Err(refusal) => return Ok(Err(refusal)),
     };
-    let mut lines = skipped_lines(alloc, skipped.as_slice())?;
-    push_test(&mut lines, state, inc, at, files.as_slice())?;
+    let mut lines = skipped_lines(alloc, back.skipped.as_slice())?;
+    push_test(&mut lines, state, inc, at, back.files.as_slice())?;
     Ok(Ok(lines))
 }

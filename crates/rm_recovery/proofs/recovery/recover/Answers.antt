@@ -1,46 +1,44 @@
-use Rattle.std.proofs.Common.{◌∙◌, ◌++◌, ◌∷◌, [], ℕ, List, ap, refl, sym, subst}
-use Rattle.rm_base.specs.declared.kinds.Bad.{Bad}
+use Rattle.std.proofs.Common.{◌∙◌, ◌++◌, ◌∷◌, [], ap, length, subst, sym}
 use Rattle.rm_catalog.specs.declared.record.BaseEntry.{BaseEntry}
-use Rattle.rm_machine.specs.Recovery.{count_at, skipped_lines}
+use Rattle.rm_machine.specs.Recovery.{skipped_lines}
 use Rattle.rm_machine.specs.Sound.{IsSound}
-use Rattle.rm_machine.specs.State.{current_of, tree}
+use Rattle.rm_machine.specs.State.{current_of}
 use Rattle.rm_report.specs.declared.line.Line.TheVariants.{Recovered}
 use Rattle.rm_recovery.proofs.Dates.{recovered-dated}
-use Rattle.rm_recovery.proofs.Handing.{built-target, recover-hands, recover-sound, told-at}
+use Rattle.rm_recovery.proofs.Files.{told-places}
+use Rattle.rm_recovery.proofs.Handing.{recover-hands, told-at}
+use Rattle.rm_recovery.proofs.Sound.{recover-sound}
 use Rattle.rm_recovery.proofs.recovery.recover.Goals as goal
 
-pub unreachable-requires : goal.unreachable-requires
-unreachable-requires g c =
+pub put_in_place-requires : goal.put_in_place-requires
+put_in_place-requires g c =
+    let held = g.D.Store.held c.args.store.now in
     let s = c.args.state.now in
-    built-target (tree s) (current_of s) c.args.until.now c.requires.built (sym c.recover_target.ensures ∙ c.in_default.is)
-
-pub bring_back-requires : goal.bring_back-requires
-bring_back-requires g c =
-    let s = c.args.state.now in
-    let i = c.base-current.result.current in
-    let by = told-at (g.D.Store.held c.args.store.now) s i i c.in-Some.at c.in_ok-told.field-0 c.in-Ok.told refl c.in-Ok.is c.in_ok-told.ensures.told in
-    record { many = by.files.many ∙ sym c.requires.sound.place.many }
+    let at = c.in-Some.at in
+    let back = c.in-Ok.back in
+    let current = ap (λ (b : BaseEntry). b.current) c.base-current.ensures.value in
+    told-places held s c.requires.sound (current_of s) at back (told-at held s c.base-current.result.current (current_of s) at c.in_ok-back.field-0 back current c.in-Ok.is c.in_ok-back.ensures.tells)
 
 pub returns-clause-hands : goal.returns-clause-hands
 returns-clause-hands g c =
     let held = g.D.Store.held c.args.store.now in
     let s = c.args.state.now in
-    let t = c.in-Ok.told in
     let at = c.in-Some.at in
+    let back = c.in-Ok.back in
     let current = ap (λ (b : BaseEntry). b.current) c.base-current.ensures.value in
-    let by = told-at held s c.base-current.result.current (current_of s) at c.in_ok-told.field-0 t current c.in-Ok.is c.in_ok-told.ensures.told in
-    let lines = c.in_ok-lines.ensures ∙ ap (λ (xs : List (ℕ × Bad)). skipped_lines xs ++ Recovered at (current_of s) (count_at s (current_of s) at) ∷ []) c.as_slice.ensures in
-    recover-hands held s c.args.until.now at (sym c.recover_target.ensures ∙ c.in-Some.is) t _ _ by lines c.new.ensures c.new-2.ensures c.bring_back.ensures
+    let tells = told-at held s c.base-current.result.current (current_of s) at c.in_ok-back.field-0 back current c.in-Ok.is c.in_ok-back.ensures.tells in
+    let lines = c.of_lines.ensures.lines ∙ c.in_ok-lines.ensures ∙ ap (λ n. skipped_lines back.skipped ++ Recovered at n (length back.files) ∷ []) current in
+    recover-hands held s c.args.until.now at (sym c.recover_target.ensures ∙ c.in-Some.is) back _ _ tells lines c.of_lines.ensures.objects c.of_lines.ensures.removes c.put_in_place.ensures
+
+pub returns-clause-dates : goal.returns-clause-dates
+returns-clause-dates g c = recovered-dated c.of_lines.result.lines c.in-Ok.back.skipped c.in-Some.at _ _ (c.of_lines.ensures.lines ∙ c.in_ok-lines.ensures)
 
 pub returns-clause-sound : goal.returns-clause-sound
 returns-clause-sound g c =
     let held = g.D.Store.held c.args.store.now in
     let s = c.args.state.now in
-    let t = c.in-Ok.told in
     let at = c.in-Some.at in
+    let back = c.in-Ok.back in
     let current = ap (λ (b : BaseEntry). b.current) c.base-current.ensures.value in
-    let by = told-at held s c.base-current.result.current (current_of s) at c.in_ok-told.field-0 t current c.in-Ok.is c.in_ok-told.ensures.told in
-    subst IsSound (sym c.bring_back.ensures) (recover-sound held s c.args.until.now at (sym c.recover_target.ensures ∙ c.in-Some.is) t c.requires.sound c.requires.accepted by)
-
-pub returns-clause-dates : goal.returns-clause-dates
-returns-clause-dates g c = recovered-dated c.in_ok-lines.lines c.as_slice.result.now c.in-Some.at _ _ c.in_ok-lines.ensures
+    let tells = told-at held s c.base-current.result.current (current_of s) at c.in_ok-back.field-0 back current c.in-Ok.is c.in_ok-back.ensures.tells in
+    subst IsSound (sym c.put_in_place.ensures) (recover-sound held s c.requires.sound c.args.until.now at back (sym c.recover_target.ensures ∙ c.in-Some.is) c.requires.accepted tells)
