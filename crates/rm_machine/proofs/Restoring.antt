@@ -118,12 +118,12 @@ module _ (s : State) (sound : IsSound s) (k : ℕ) (d : Datafile) (file : slice_
     origin-placed (Some x) chosen = backup-placed x chosen
 
 -- a restored datafile has its number
-file-number : (ns : List Incarnation) (bases : List (ℕ × Piece)) (i at f : ℕ) (d : Datafile) (o : Option (ℕ × Piece)) → IsBackupFor ns bases i at f o → (file_by f d o).file ≡ f
+pub file-number : (ns : List Incarnation) (bases : List (ℕ × Piece)) (i at f : ℕ) (d : Datafile) (o : Option (ℕ × Piece)) → IsBackupFor ns bases i at f o → (file_by f d o).file ≡ f
 file-number ns bases i at f d None chosen = refl
 file-number ns bases i at f d (Some x) chosen = chosen.passes.file
 
 module _ (s : State) (held : Option Held) (i at : ℕ) (only : Option ℕ) (back : Recovered) (origins : List Origin) (sound : IsSound s) (restores : Restores held (records_of s.catalog) (in_place s) i at only back origins) where
-  are-restored : AreRestored (world s) restores.evidence.bases i at restores.numbers back.files origins
+  pub are-restored : AreRestored (world s) restores.evidence.bases i at restores.numbers back.files origins
   are-restored = subst (λ (w : World). AreRestored w restores.evidence.bases i at restores.numbers back.files origins) (world-told s.catalog) restores.restored
 
   -- what came to a place could stand there

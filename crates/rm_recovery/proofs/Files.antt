@@ -8,36 +8,29 @@ use Rattle.rm_base.proofs.Lists.{map_from, map_to}
 use Rattle.rm_base.proofs.Slots.{all-get}
 use Rattle.rm_blocks.specs.File.{File}
 use Rattle.rm_evidence.specs.Known.{known_of}
-use Rattle.rm_history.specs.declared.tree.Incarnation.{Incarnation}
 use Rattle.rm_history.specs.declared.world.Datafile.{Datafile}
 use Rattle.rm_history.specs.declared.world.World.{World}
 use Rattle.rm_ledger.specs.Facts.{IsCreated}
-use Rattle.rm_piece.specs.declared.piece.Piece.{Piece}
 use Rattle.rm_plan.specs.Plan.{IsFileTarget}
 use Rattle.rm_repository.specs.Repository.{records_of}
 use Rattle.rm_apply.specs.declared.origin.Origin.{Origin}
 use Rattle.rm_apply.specs.declared.recovering.Recovered.{Recovered}
 use Rattle.rm_apply.specs.Files.{AreExactly, IsAsked}
 use Rattle.rm_apply.specs.Recover.{TellsAll}
-use Rattle.rm_apply.specs.Restore.{AreRestored, IsBackupFor, IsRestoration, Restoration, Restores, file_by, restored}
+use Rattle.rm_apply.specs.Restore.{IsRestoration, Restoration, Restores, restored}
 use Rattle.rm_apply.specs.Told.{AreFilesAt, IsTold}
 use Rattle.rm_machine.specs.Recovery.{in_place}
 use Rattle.rm_machine.specs.Sound.{IsSound}
 use Rattle.rm_machine.specs.declared.state.State.{State}
 use Rattle.rm_machine.specs.State.{ledger, tree, world}
 use Rattle.rm_machine.proofs.Numbers.{file-place}
+use Rattle.rm_machine.proofs.Placing.{number}
 use Rattle.rm_machine.proofs.Records.{world-told}
+use Rattle.rm_machine.proofs.Restoring.{are-restored, file-number}
 use Rattle.rm_machine.proofs.Standing.{each-in}
+use Rattle.rm_machine.proofs.Told.{tells-files}
 use Rattle.rm_recovery.specs.Lines.{HasLines}
 use Rattle.rm_recovery.specs.Placing.{HasPlace}
-
-abbrev number : File → ℕ
-number x = x.file
-
--- a restored datafile has its number
-file-number : (ns : List Incarnation) (bases : List (ℕ × Piece)) (i at f : ℕ) (d : Datafile) (o : Option (ℕ × Piece)) → IsBackupFor ns bases i at f o → (file_by f d o).file ≡ f
-file-number ns bases i at f d None chosen = refl
-file-number ns bases i at f d (Some x) chosen = chosen.passes.file
 
 module _ (held : Option Held) (s : State) (sound : IsSound s) (i at : ℕ) where
   -- a datafile of the target has its place
@@ -57,7 +50,7 @@ module _ (held : Option Held) (s : State) (sound : IsSound s) (i at : ℕ) where
       omega (arith, is, most)
 
   module _ (back : Recovered) (tells : TellsAll held (records_of s.catalog) (in_place s) i at back) where
-    pub files-told : AreFilesAt (world s) (known_of tells.evidence) i at back.files
+    files-told : AreFilesAt (world s) (known_of tells.evidence) i at back.files
     files-told = subst (λ (w : World). AreFilesAt w (known_of tells.evidence) i at back.files) (world-told s.catalog) tells.files
 
     target-of : (x : File) → Contains back.files x → IsFileTarget (world s) i at x.file
@@ -75,15 +68,12 @@ module _ (held : Option Held) (s : State) (sound : IsSound s) (i at : ℕ) where
         ))
 
   module _ (only : Option ℕ) (back : Recovered) (origins : List Origin) (restores : Restores held (records_of s.catalog) (in_place s) i at only back origins) where
-    are-restored : AreRestored (world s) restores.evidence.bases i at restores.numbers back.files origins
-    are-restored = subst (λ (w : World). AreRestored w restores.evidence.bases i at restores.numbers back.files origins) (world-told s.catalog) restores.restored
-
     asked : AreExactly (IsAsked (world s) i at only) restores.numbers
     asked = subst (λ (w : World). AreExactly (IsAsked w i at only) restores.numbers) (world-told s.catalog) restores.asked
 
     pub restored-places : All (HasPlace (length s.instance.place)) back.files
     restored-places = each-in (HasPlace (length s.instance.place)) back.files (λ x has.
-        let are = are-restored in
+        let are = are-restored s held i at only back origins sound restores in
         let r = map_from restored are.restorations x (subst (λ (ys : List File). Contains ys x) are.are has) in
         let is = All-contains (IsRestoration (world s) restores.evidence.bases i at) are.restorations r.item are.each r.held in
         let number_is : r.item.number ≡ x.file = sym (file-number (tree s) restores.evidence.bases i at r.item.number r.item.datafile r.item.backup is.chosen) ∙ ap number r.is in

@@ -8,8 +8,6 @@ use Rattle.rm_apply.specs.Restore.{Restores}
 use Rattle.rm_base.specs.Store.{Held}
 use Rattle.rm_base.specs.declared.refusal.Refusal.TheVariants.{Rm04}
 use Rattle.rm_base.proofs.Conditions.{unless}
-use Rattle.rm_evidence.specs.Known.{FitsTree}
-use Rattle.rm_history.specs.declared.tree.Incarnation.{Incarnation}
 use Rattle.rm_repository.specs.Repository.{records_of}
 use Rattle.rm_statement.specs.declared.command.Until.{Until}
 use Rattle.rm_machine.specs.Recover.{recover_refusal, recover_target, recovered}
@@ -18,16 +16,14 @@ use Rattle.rm_machine.specs.Restore.{place_refusal, restore_refusal, restored}
 use Rattle.rm_machine.specs.Sound.{IsSound}
 use Rattle.rm_machine.specs.declared.state.State.{State}
 use Rattle.rm_machine.specs.State.{current_of}
-use Rattle.rm_machine.proofs.Records.{tree-told}
 use Rattle.rm_machine.proofs.Recovering.{can-recover, sound-recovered}
 use Rattle.rm_machine.proofs.Restoring.{sound-restored}
-use Rattle.rm_recovery.proofs.Files.{files-told}
+use Rattle.rm_machine.proofs.Told.{tells-files, tells-fits}
 
 module _ (held : Option Held) (s : State) (sound : IsSound s) (until : Option Until) (at : ℕ) (back : Recovered) where
   pub recover-sound : recover_target s until ≡ Some at → recover_refusal s until ≡ None → TellsAll held (records_of s.catalog) (in_place s) (current_of s) at back → IsSound (recovered s at back.files)
   recover-sound target none tells =
-      let fits = subst (λ (ns : List Incarnation). FitsTree ns tells.evidence) (tree-told s.catalog) tells.is.fits in
-      sound-recovered s tells.evidence at back.files sound fits (can-recover s until at target none) (files-told held s sound (current_of s) at back tells)
+      sound-recovered s tells.evidence at back.files sound (tells-fits s held (current_of s) at back tells) (can-recover s until at target none) (tells-files s held (current_of s) at back tells)
 
   pub restore-sound : (file : Option ℕ) (origins : List Origin) → restore_refusal s file until ≡ None → (only : Option ℕ) → Restores held (records_of s.catalog) (in_place s) (current_of s) at only back origins → IsSound (restored s back.files)
   restore-sound file origins none only restores =
