@@ -51,7 +51,7 @@ module _ (held : Option Held) (s : State) (sound : IsSound s) (i at : ℕ) where
 
   module _ (back : Recovered) (tells : TellsAll held (records_of s.catalog) (in_place s) i at back) where
     files-told : AreFilesAt (world s) (known_of tells.evidence) i at back.files
-    files-told = subst (λ (w : World). AreFilesAt w (known_of tells.evidence) i at back.files) (world-told s.catalog) tells.files
+    files-told = tells-files s held i at back tells
 
     target-of : (x : File) → Contains back.files x → IsFileTarget (world s) i at x.file
     target-of x has = (files-told.numbers.exact x.file).0 (map_to number back.files x has)
