@@ -46,6 +46,7 @@ pub mod Sizes
 pub mod Standing
 pub mod Switching
 pub mod Tags
+pub mod Taken
 pub mod Telling
 pub mod Told
 pub mod Upkeep

@@ -6,6 +6,7 @@ pub mod facts;
 pub mod handed;
 pub mod laws;
 pub mod marks;
+pub mod recorded;
 pub mod replies;
 pub mod room;
 pub mod state;

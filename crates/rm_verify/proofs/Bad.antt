@@ -1,7 +1,7 @@
 -- Which record that counts as available has no object that can be used.
-use Rattle.std.proofs.Common.{◌≡◌, ◌∙◌, ◌+◌, ◌<◌, ℕ, List, length, get_or, take, [], ◌∷◌, Option, Some, None, Contains, refl, ap, sym, subst}
+use Rattle.std.proofs.Common.{◌≡◌, ◌+◌, ◌<◌, ℕ, List, length, get_or, take, [], ◌∷◌, Option, Some, None, Result, Ok, Err, Contains, refl, sym, subst}
 use Rattle.std.specs.Prelude.{IfSome}
-use Rattle.std.specs.Option.{option_map}
+use Rattle.std.proofs.lemmas.Option.{same_Some}
 use Rattle.rm_base.proofs.Members.{in-front}
 use Rattle.rm_base.specs.Store.{Held}
 use Rattle.rm_base.specs.declared.kinds.Bad.{Bad}
@@ -13,13 +13,13 @@ use Rattle.rm_catalog.specs.declared.record.Record.{Record}
 use Rattle.rm_catalog.specs.declared.record.Record.TheVariants.{Log, Piece}
 use Rattle.rm_catalog.specs.Rules.{IsCatalog}
 use Rattle.rm_evidence.specs.Available.{IsBad, IsSkipped, a_log, a_piece}
+use Rattle.rm_evidence.specs.Taking.{IsTold}
 use Rattle.rm_evidence.proofs.Extending.{only-in}
 use Rattle.rm_objects.specs.Names.{log_name, piece_name}
 use Rattle.rm_objects.specs.Objects.{IsLogObject, IsPieceObject}
 use Rattle.rm_piece.specs.declared.piece.Piece.{Piece as PieceOf}
 use Rattle.rm_redo.specs.declared.log_file.LogFile.{LogFile}
-use Rattle.rm_verify.specs.Told.{Finds, Tells, with_found}
-use Rattle.rm_verify.proofs.Checked.{made}
+use Rattle.rm_verify.specs.Told.{Tells, reason, with_found}
 use Rattle.rm_verify.proofs.Growing.{Has, HasNumber, IsOfOne, next, of_log, of_piece}
 
 -- bytes that are the object of a log, and of a piece
@@ -29,17 +29,19 @@ LogBytes l bytes = (a : LogFile) × IsLogObject l bytes a
 abbrev pub PieceBytes : PieceEntry → List ℕ → Type 0
 PieceBytes p bytes = (a : PieceOf) × IsPieceObject p bytes a
 
--- what is found is the one reason, or there is none
-one-reason : (Is : List ℕ → Type 0) (stands : Option (List ℕ)) (found : Option Bad) (bad : Bad) → Finds Is stands found → IsBad Is stands bad → found ≡ Some bad
-one-reason Is None None bad x y = absurd x
-one-reason Is None (Some Missing) Missing x y = refl
-one-reason Is None (Some Missing) Damaged x y = absurd y
-one-reason Is None (Some Damaged) bad x y = absurd x
-one-reason Is (Some bytes) None Missing x y = absurd y
-one-reason Is (Some bytes) None Damaged x y = absurd (y x)
-one-reason Is (Some bytes) (Some Missing) bad x y = absurd x
-one-reason Is (Some bytes) (Some Damaged) Missing x y = absurd y
-one-reason Is (Some bytes) (Some Damaged) Damaged x y = refl
+-- there is one reason at most, and none where it is what it is to be
+one-reason : (Is : List ℕ → Type 0) (stands : Option (List ℕ)) (bad b : Bad) → IsBad Is stands bad → IsBad Is stands b → bad ≡ b
+one-reason Is None Missing Missing x y = refl
+one-reason Is None Missing Damaged x y = absurd y
+one-reason Is None Damaged b x y = absurd x
+one-reason Is (Some bytes) Missing b x y = absurd x
+one-reason Is (Some bytes) Damaged Missing x y = absurd y
+one-reason Is (Some bytes) Damaged Damaged x y = refl
+
+no-reason : (Is : List ℕ → Type 0) (stands : Option (List ℕ)) (bytes : List ℕ) (bad : Bad) → stands ≡ Some bytes → Is bytes → IsBad Is stands bad → ⊥
+no-reason Is None bytes bad there is x = absurd cc
+no-reason Is (Some found) bytes Missing there is x = x
+no-reason Is (Some found) bytes Damaged there is x = x (subst Is (sym (same_Some found bytes there)) is)
 
 -- the record counts as available, this is its id, and what stands under its name is bad
 abbrev pub IsBadRecord : Held → Record → ℕ → Bad → Type 0
@@ -47,9 +49,9 @@ IsBadRecord held (Log l) id bad = (l.id ≡ id) × (l.status ≡ Available) × I
 IsBadRecord held (Piece p) id bad = (p.id ≡ id) × (p.status ≡ Available) × IsBad (PieceBytes p) (held (piece_name p.copy p.id)) bad
 IsBadRecord held _ id bad = ⊥
 
--- a reason, with the id
-abbrev pub with-id : ℕ → Bad → ℕ × Bad
-with-id n bad = (n, bad)
+-- one id and one reason make one answer
+one-answer : (i j : ℕ) (bad b : Bad) → i ≡ j → bad ≡ b → ◌≡◌ {A = Option (ℕ × Bad)} (Some (i, bad)) (Some (j, b))
+one-answer i j bad b first second = cc
 
 module _ (held : Held) where
   -- one of the records is bad
@@ -81,30 +83,29 @@ module _ (held : Held) where
     number = λ r id bad is. number-of r id bad (only-bad r id bad is);
   }
 
-  -- the reason that is found is told
-  tells : (r : Record) (n : ℕ) (found : Option Bad) → ((bad : Bad) → found ≡ Some bad → IsBadRecord held r n bad) → ((id : ℕ) (bad : Bad) → IsBadRecord held r id bad → (n ≡ id) × (found ≡ Some bad))
-      → Tells (IsSkipped held (r ∷ [])) (option_map (with-id n) found)
-  tells r n found is back = λ id bad. (to id bad, from id bad)
-    where
-      to : (id : ℕ) (bad : Bad) → option_map (with-id n) found ≡ Some (id, bad) → IsSkipped held (r ∷ []) id bad
-      to id bad told =
-          let x = made (with-id n) found (id, bad) told in
-          subst (λ (y : ℕ × Bad). IsSkipped held (r ∷ []) y.0 y.1) x.2 (bad-only r n x.0 (is x.0 x.1))
+  -- what is found of the one record is told
+  module _ {A : Type 0} (r : Record) (n : ℕ) (Is : List ℕ → A → Type 0) (stands : Option (List ℕ)) where
+    abbrev Spells : List ℕ → Type 0
+    Spells bytes = (a : A) × Is bytes a
 
-      from : (id : ℕ) (bad : Bad) → IsSkipped held (r ∷ []) id bad → option_map (with-id n) found ≡ Some (id, bad)
-      from id bad skipped =
-          let b = back id bad (only-bad r id bad skipped) in
-          ap (λ (f : Option Bad). option_map (with-id n) f) b.1 ∙ ap (λ (m : ℕ). Some (with-id m bad)) b.0
+    tells : ((bad : Bad) → IsBad Spells stands bad → IsBadRecord held r n bad) → ((id : ℕ) (bad : Bad) → IsBadRecord held r id bad → (n ≡ id) × IsBad Spells stands bad)
+        → (looked : Result A Bad) → IsTold Is stands looked → Tells (IsSkipped held (r ∷ [])) (reason n looked)
+    tells is back (Ok a) told = λ id b. (
+      λ same. absurd cc,
+      λ skipped. absurd (no-reason Spells stands told.0 b told.1 (a, told.2) (back id b (only-bad r id b skipped)).1),
+    )
+    tells is back (Err bad) told = λ id b. (
+      λ same. subst (λ (y : ℕ × Bad). IsSkipped held (r ∷ []) y.0 y.1) (same_Some (n, bad) (id, b) same) (bad-only r n bad (is bad told)),
+      λ skipped. let both = back id b (only-bad r id b skipped) in one-answer n id bad b both.0 (one-reason Spells stands bad b told both.1),
+    )
 
-  pub tells-log : (l : LogEntry) (found : Option Bad) → l.status ≡ Available → Finds (LogBytes l) (held (log_name l.id)) found → Tells (IsSkipped held (Log l ∷ [])) (option_map (with-id l.id) found)
-  tells-log l found status finds =
-      tells (Log l) l.id found (λ bad same. (refl, status, subst (λ (f : Option Bad). Finds (LogBytes l) (held (log_name l.id)) f) same finds))
-      (λ id bad is. (is.0, one-reason (LogBytes l) (held (log_name l.id)) found bad finds is.2))
+  pub tells-log : (l : LogEntry) (looked : Result LogFile Bad) (found : Option (ℕ × Bad)) → l.status ≡ Available → found ≡ reason l.id looked → IsTold (IsLogObject l) (held (log_name l.id)) looked → Tells (IsSkipped held (Log l ∷ [])) found
+  tells-log l looked found status same told =
+      subst (λ (f : Option (ℕ × Bad)). Tells (IsSkipped held (Log l ∷ [])) f) (sym same) (tells (Log l) l.id (IsLogObject l) (held (log_name l.id)) (λ bad is. (refl, status, is)) (λ id bad is. (is.0, is.2)) looked told)
 
-  pub tells-piece : (p : PieceEntry) (found : Option Bad) → p.status ≡ Available → Finds (PieceBytes p) (held (piece_name p.copy p.id)) found → Tells (IsSkipped held (Piece p ∷ [])) (option_map (with-id p.id) found)
-  tells-piece p found status finds =
-      tells (Piece p) p.id found (λ bad same. (refl, status, subst (λ (f : Option Bad). Finds (PieceBytes p) (held (piece_name p.copy p.id)) f) same finds))
-      (λ id bad is. (is.0, one-reason (PieceBytes p) (held (piece_name p.copy p.id)) found bad finds is.2))
+  pub tells-piece : (p : PieceEntry) (looked : Result PieceOf Bad) (found : Option (ℕ × Bad)) → p.status ≡ Available → found ≡ reason p.id looked → IsTold (IsPieceObject p) (held (piece_name p.copy p.id)) looked → Tells (IsSkipped held (Piece p ∷ [])) found
+  tells-piece p looked found status same told =
+      subst (λ (f : Option (ℕ × Bad)). Tells (IsSkipped held (Piece p ∷ [])) f) (sym same) (tells (Piece p) p.id (IsPieceObject p) (held (piece_name p.copy p.id)) (λ bad is. (refl, status, is)) (λ id bad is. (is.0, is.2)) looked told)
 
 -- one record more, of a store that tells what it holds, or not
 pub next-bad : (o p : Option Held) (xs rs : List Record) (i : ℕ) (r : Record) (old new : List (ℕ × Bad)) (found : Option (ℕ × Bad)) → p ≡ o → xs ≡ rs → IsCatalog rs → i < length xs → r ≡ get_or xs i r

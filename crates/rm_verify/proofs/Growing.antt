@@ -22,10 +22,6 @@ pub data HasNumber : Record → ℕ → Type 0 where
   of_log : (l : LogEntry) → HasNumber (Log l) l.id
   of_piece : (p : PieceEntry) → HasNumber (Piece p) p.id
 
--- the id of what is listed
-abbrev pub listed-id : {A : Type 0} → ℕ × A → ℕ
-listed-id x = x.0
-
 -- a record has another id than those before it
 apart : (xs : List Record) (r x : Record) (i j : ℕ) → IsAhead xs r → Contains xs x → HasNumber x i → HasNumber r j → i ≢ j
 apart xs _ _ _ _ ahead has (of_log l) (of_log m) = let less = ahead.logs l m has refl in λ same. omega arith

@@ -1,12 +1,6 @@
 -- What is told of one record after the other.
-use Rattle.std.specs.Prelude.{◌≡◌, ◌↔◌, ℕ, List, [], ◌∷◌, ◌++◌, Option, Some, None, IsSomeAnd}
+use Rattle.std.specs.Prelude.{◌≡◌, ◌↔◌, ℕ, List, [], ◌∷◌, ◌++◌, Option, Some, None, Result, Ok, Err}
 use Rattle.rm_base.specs.declared.kinds.Bad.{Bad}
-use Rattle.rm_evidence.specs.Available.{IsBad}
-
--- what stands under a name is what Is, or it is bad for this reason
-abbrev pub Finds : (List ℕ → Type 0) → Option (List ℕ) → Option Bad → Type 0
-Finds Is stands None = IsSomeAnd stands Is
-Finds Is stands (Some bad) = IsBad Is stands bad
 
 -- what is told, if anything, is all that Is
 abbrev pub Tells : {A : Type 0} → (ℕ → A → Type 0) → Option (ℕ × A) → Type 0
@@ -16,3 +10,8 @@ Tells {A} Is found = (id : ℕ) (a : A) → (found ≡ Some (id, a)) ↔ Is id a
 abbrev pub with_found : {X : Type 0} → List X → Option X → List X
 with_found xs None = xs
 with_found xs (Some x) = xs ++ x ∷ []
+
+-- the id, and why what was looked for can't be used
+abbrev pub reason : {A : Type 0} → ℕ → Result A Bad → Option (ℕ × Bad)
+reason id (Ok a) = None
+reason id (Err bad) = Some (id, bad)

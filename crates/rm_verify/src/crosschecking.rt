@@ -7,10 +7,11 @@ ghost use Rattle.rm_evidence.specs.Gathered.{Lists};
 ghost use Rattle.rm_verify.specs.Crosscheck.{IsChecked, checked, is_among, stands_in, status_after};
 
 use crate::fault::VerifyFault;
-use crate::found::{add, by_id};
+use crate::found::add;
 use crate::object::{is_of, object_in};
 use rm_base::{Class, NoMemory, Seq, Status, Store, Text};
 use rm_catalog::{Catalog, Record};
+use rm_evidence::by_id;
 use std::alloc::Global;
 
 // The status that one gets, by whether an object stands under its name.

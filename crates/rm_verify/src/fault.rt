@@ -2,6 +2,7 @@
 ghost use Rattle.std.specs.Prelude.{◌≡◌};
 
 use rm_base::{NoMemory, StoreFail};
+use rm_evidence::EvidenceFault;
 
 /// Why the records were not gone through.
 #[derive(Clone, Copy, Debug, PartialEq, Eq)]
@@ -30,6 +31,19 @@ impl From<StoreFail> for VerifyFault {
         match fail {
             StoreFail::Failed => VerifyFault::StoreFault,
             StoreFail::NoMemory => VerifyFault::NoMemory,
+        }
+    }
+}
+
+impl From<EvidenceFault> for VerifyFault {
+    ghost use Rattle.rm_verify.specs.Faults.{fault_in};
+
+    ghost from_gives = { λ fault e. e ≡ fault_in fault };
+
+    fn from(fault: EvidenceFault) -> Self {
+        match fault {
+            EvidenceFault::StoreFault => VerifyFault::StoreFault,
+            EvidenceFault::NoMemory => VerifyFault::NoMemory,
         }
     }
 }

@@ -1,8 +1,8 @@
-//! Lists of what is found, by id.
-ghost use Rattle.std.specs.Prelude.{◌≡◌, ◌≢◌, ◌<◌, AllPairs, IsPermutation, OnOk};
-ghost use Rattle.rm_verify.specs.Told.{with_found};
+//! Lists of what is found.
+ghost use Rattle.std.specs.Prelude.{◌≡◌, OnOk};
+ghost use Rattle.rm_verify.specs.Told.{reason, with_found};
 
-use rm_base::{NoMemory, Seq};
+use rm_base::{Bad, NoMemory, Seq};
 
 // Adds what was found, if anything was.
 pub(crate) fn add<T: Drop>(
@@ -17,12 +17,12 @@ pub(crate) fn add<T: Drop>(
     }
 }
 
-// The same, ascending by id.
-pub(crate) fn by_id<T>(list: Seq<(u32, T)>) -> Seq<(u32, T)>
-    ensures same { IsPermutation list result }
-    ensures ascends { AllPairs (λ x y. x.0 ≢ y.0) list → AllPairs (λ x y. x.0 < y.0) result }
+// The id, and why what was looked for can't be used. None where it can.
+pub(crate) fn reason<T: Drop>(id: u32, looked: Result<T, Bad>) -> Option<(u32, Bad)>
+    ensures { result ≡ reason id looked }
 {
-    let mut list = list.into_vec();
-    list.sort_unstable_by_key(|x| x.0);
-    Seq::from_vec(list)
+    match looked {
+        Ok(_) => None,
+        Err(bad) => Some((id, bad)),
+    }
 }

@@ -5,7 +5,6 @@ pub mod crosschecking;
 pub mod fault;
 mod found;
 pub mod laws;
-mod looking;
 mod object;
 pub mod validating;
 

@@ -8,10 +8,10 @@ ghost use Rattle.rm_evidence.specs.Gathered.{Lists};
 ghost use Rattle.rm_verify.specs.Told.{Tells};
 
 use crate::fault::VerifyFault;
-use crate::found::{add, by_id};
-use crate::looking::{look_at_log, look_at_piece};
+use crate::found::{add, reason};
 use rm_base::{Bad, Seq, Status, Store};
 use rm_catalog::{Catalog, LogEntry, PieceEntry, Record};
+use rm_evidence::{by_id, look_for_log, look_for_piece};
 use std::alloc::Global;
 
 // The id of the log and why its object can't be used, where its record counts as available.
@@ -28,10 +28,8 @@ fn bad_log<D: Store>(
     if entry.status != Status::Available {
         return Ok(None);
     }
-    match look_at_log(alloc, store, entry)? {
-        Some(bad) => Ok(Some((entry.id, bad))),
-        None => Ok(None),
-    }
+    let looked = look_for_log(alloc, store, entry)?;
+    Ok(reason(entry.id, looked))
 }
 
 // The id of the piece and why its object can't be used, where its record counts as available.
@@ -48,10 +46,8 @@ fn bad_piece<D: Store>(
     if entry.status != Status::Available {
         return Ok(None);
     }
-    match look_at_piece(alloc, store, entry)? {
-        Some(bad) => Ok(Some((entry.id, bad))),
-        None => Ok(None),
-    }
+    let looked = look_for_piece(alloc, store, entry)?;
+    Ok(reason(entry.id, looked))
 }
 
 // The id of the record and why its object can't be used, where it counts as available.

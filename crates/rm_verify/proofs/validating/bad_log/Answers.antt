@@ -1,14 +1,10 @@
-use Rattle.std.proofs.Common.{◌≡◌, Option, Some, rules, subst}
+use Rattle.std.proofs.Common.{◌≡◌, rules}
 use Rattle.std.proofs.lemmas.Option.{IfSome_then}
-use Rattle.rm_base.specs.declared.kinds.Bad.{Bad}
 use Rattle.rm_base.specs.declared.kinds.Status.TheVariants.{Available}
-use Rattle.rm_objects.specs.Names.{log_name}
-use Rattle.rm_verify.specs.Told.{Finds}
-use Rattle.rm_verify.proofs.Bad.{LogBytes, tells-log}
+use Rattle.rm_verify.proofs.Bad.{tells-log}
 use Rattle.rm_verify.proofs.validating.bad_log.Goals as goal
 
-pub returns-in-Some-clause-told : goal.returns-in-Some-clause-told
-returns-in-Some-clause-told g c =
+pub returns-clause-told : goal.returns-clause-told
+returns-clause-told g c =
     let status : c.args.entry.now.status ≡ Available = search rules in
-    IfSome_then (g.D.Store.held c.args.store.now) c.in_ok-bad.ensures.told
-    (λ h finds. tells-log h c.args.entry.now (Some c.in-Some.bad) status (subst (λ (f : Option Bad). Finds (LogBytes c.args.entry.now) (h (log_name c.args.entry.now.id)) f) c.in-Some.is finds))
+    IfSome_then (g.D.Store.held c.args.store.now) c.in_ok-looked.ensures.told (λ h told. tells-log h c.args.entry.now c.in_ok-looked.looked c.reason.result status c.reason.ensures told)
