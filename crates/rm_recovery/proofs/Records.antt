@@ -1,12 +1,8 @@
 -- The records of a state as a list, the database of which they tell, and what is in place beside them.
-use Rattle.std.proofs.Common.{◌≡◌, ◌∙◌, ℕ, List, Option, Some, None, Result, refl, ap, map, sym, subst}
+use Rattle.std.proofs.Common.{◌≡◌, ◌∙◌, ℕ, List, Option, Some, None, refl, ap, map, sym, subst}
 use Rattle.std.specs.Option.{option_and_then, option_map}
-use Rattle.std.proofs.lemmas.List.Sorted.{IsPermutation-refl}
 use Rattle.rm_base.specs.declared.refusal.Refusal.TheVariants.{Rm06}
-use Rattle.rm_catalog.specs.declared.catalog.CatalogFault.{CatalogFault}
 use Rattle.rm_catalog.specs.declared.record.Record.{Record}
-use Rattle.rm_catalog.specs.Faults.{IsTaken}
-use Rattle.rm_catalog.specs.Rules.{IsCatalog, IsOrderOf, IsValid}
 use Rattle.rm_catalog.specs.Trees.{nodes}
 use Rattle.rm_evidence.specs.declared.evidence.InPlace.{InPlace}
 use Rattle.rm_evidence.specs.Place.{FitsPlace}
@@ -31,10 +27,6 @@ use Rattle.rm_machine.specs.declared.state.State.{State}
 use Rattle.rm_machine.specs.State.{current_of, tree, world}
 use Rattle.rm_machine.proofs.Fitting.{place-fits}
 use Rattle.rm_machine.proofs.Records.{tree-told, world-told}
-
--- valid records in order are taken as they are
-pub taken : (rs : List Record) (r : Result (List Record) CatalogFault) → IsCatalog rs → ((s : List Record) → IsOrderOf s rs → IsValid s → IsTaken r s) → IsTaken r rs
-taken rs r is only = only rs (record { permutation = IsPermutation-refl rs; order = is.order }) is.valid
 
 -- where there is nothing to map there was nothing
 unmapped : {A B : Type 0} (f : A → B) (o : Option A) → option_map f o ≡ None → o ≡ None

@@ -1,7 +1,6 @@
 //! What is at hand beside the store: the records of the catalog, and what is in place.
 ghost use Rattle.std.specs.Prelude.{◌≡◌, ◌≤◌, ◌<◌, ◌∷◌, ◌++◌, [], IfOk, OnOk, map, cond};
 ghost use Rattle.std.specs.List.{filter_map};
-ghost use Rattle.rm_catalog.specs.Rules.{IsCatalog};
 ghost use Rattle.rm_machine.specs.Recovery.{in_place, online_logs};
 ghost use Rattle.rm_machine.specs.Sound.{IsSound};
 ghost use Rattle.rm_machine.specs.State.{counted, is_lost, ledger, online};
@@ -9,12 +8,12 @@ ghost use Rattle.rm_repository.specs.Repository.{records_of};
 
 use rm_base::{NoMemory, Seq, ThreadNo};
 use rm_blocks::DataFile;
-use rm_catalog::{Catalog as Records, CatalogFault, Record};
+use rm_catalog::Catalog as Records;
 use rm_evidence::InPlace;
 use rm_machine::State;
 use rm_machine::facts::{now, redo_end, threads};
+use rm_machine::recorded::records_of;
 use rm_redo::LogFile;
-use rm_repository::Catalog;
 use std::alloc::Global;
 
 /// What a recovery and a restore rest on, beside the store.
@@ -113,27 +112,6 @@ fn in_place(alloc: Global, state: &State) -> Result<InPlace, NoMemory>
     })
 }
 
-// Valid records in order, as a list.
-fn as_records(records: Seq<Record>) -> Result<Records, NoMemory>
-    requires { IsCatalog records }
-    ensures { IfOk result (λ list. list ≡ records) }
-{
-    match Records::from_records(records) {
-        Ok(records) => Ok(records),
-        Err(CatalogFault::NoMemory) => Err(NoMemory),
-        Err(CatalogFault::BadRow(..)) => unreachable!(),
-    }
-}
-
-// The records of a catalog, as a list.
-fn records_of(alloc: Global, catalog: &Catalog) -> Result<Records, NoMemory>
-    ensures { IfOk result (λ records. records ≡ records_of catalog.now) }
-{
-    // The catalog keeps the rules.
-    let _ = catalog.base();
-    as_records(catalog.records(alloc)?)
-}
-
 /// The records of the catalog, as a list, and what is in place.
 pub(crate) fn at_hand(alloc: Global, state: &State) -> Result<AtHand, NoMemory>
     requires sound { IsSound state.now }
@@ -141,7 +119,7 @@ pub(crate) fn at_hand(alloc: Global, state: &State) -> Result<AtHand, NoMemory>
     ensures place { IfOk result (λ hand. hand.place ≡ in_place state.now) }
 {
     Ok(AtHand {
-        records: records_of(alloc, &state.catalog)?,
+        records: records_of(alloc, state)?,
         place: in_place(alloc, state)?,
     })
 }
