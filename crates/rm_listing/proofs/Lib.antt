@@ -1,0 +1,5 @@
+pub mod Dates
+pub mod Few
+pub mod Listed
+pub mod Picked
+pub mod Validated
