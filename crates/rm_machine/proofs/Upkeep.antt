@@ -27,27 +27,27 @@ status-on s st n sound =
     then-on s r (with_status st n s.catalog) first (piece-on (with_catalog s r) (λ p. record p { status = st }) n (λ p. (st, p.keep, refl)) (first.sound sound))
 
 -- kept forever, or not
-keep-on : (s : State) (keep : Bool) (n : ℕ) → IsSound s → GoesOn s (with_keep keep n s.catalog)
+pub keep-on : (s : State) (keep : Bool) (n : ℕ) → IsSound s → GoesOn s (with_keep keep n s.catalog)
 keep-on s keep n sound =
     let first = log-on s (λ e. record e { keep = keep }) n (λ e. (e.status, keep, refl)) sound in
     let r : Repository = log_changed (λ e. record e { keep = keep }) n s.catalog in
     then-on s r (with_keep keep n s.catalog) first (piece-on (with_catalog s r) (λ p. record p { keep = keep }) n (λ p. (p.status, keep, refl)) (first.sound sound))
 
-change-on : (s : State) (to : ChangeTo) (n : ℕ) → IsSound s → GoesOn s (changed_to to n s.catalog)
+pub change-on : (s : State) (to : ChangeTo) (n : ℕ) → IsSound s → GoesOn s (changed_to to n s.catalog)
 change-on s Available n sound = status-on s status.Available n sound
 change-on s Unavailable n sound = status-on s status.Unavailable n sound
 change-on s Uncatalog n sound = without-on s n sound
 change-on s Keep n sound = keep-on s true n sound
 change-on s NoKeep n sound = keep-on s false n sound
 
-statuses-on : (xs : List (ℕ × Status)) (s : State) → IsSound s → GoesOn s (with_statuses xs s.catalog)
+pub statuses-on : (xs : List (ℕ × Status)) (s : State) → IsSound s → GoesOn s (with_statuses xs s.catalog)
 statuses-on [] s sound = record { sound = λ is. is; borne = λ h objects made touched is. is; saved = λ none. none }
 statuses-on (x ∷ xs) s sound =
     let first = status-on s x.1 x.0 sound in
     let r : Repository = with_status x.1 x.0 s.catalog in
     then-on s r (with_statuses xs r) first (statuses-on xs (with_catalog s r) (first.sound sound))
 
-all-on : (ns : List ℕ) (s : State) → IsSound s → GoesOn s (without_all ns s.catalog)
+pub all-on : (ns : List ℕ) (s : State) → IsSound s → GoesOn s (without_all ns s.catalog)
 all-on [] s sound = record { sound = λ is. is; borne = λ h objects made touched is. is; saved = λ none. none }
 all-on (n ∷ ns) s sound =
     let first = without-on s n sound in
