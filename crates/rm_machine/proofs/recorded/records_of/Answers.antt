@@ -5,4 +5,3 @@ use Rattle.rm_machine.proofs.recorded.records_of.Goals as goal
 
 pub as_records-requires : goal.as_records-requires
 as_records-requires c = subst IsCatalog (sym c.in_ok-records.ensures) (repository-valid c.args.state.now.catalog c.requires.sound.catalog)
-
