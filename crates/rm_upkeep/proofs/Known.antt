@@ -1,0 +1,58 @@
+-- The record of an id, where there is one.
+use Rattle.std.proofs.Common.{◌≡◌, ◌∙◌, ◌<◌, ◌≤◌, ◌^◌, ◌==◌, ◌&&◌, inl, inr, ℕ, List, [], ◌∷◌, Option, Some, None, Bool, true, false, find, is_none, cond, refl, ap, sym, subst, arith, Contains}
+use Rattle.std.proofs.lemmas.Bool.{cases_Bool, eqb-true}
+use Rattle.std.proofs.lemmas.List.Elements.{All-contains}
+use Rattle.rm_base.specs.declared.refusal.Refusal.{Refusal}
+use Rattle.rm_base.proofs.Lists.{find_cases}
+use Rattle.rm_catalog.specs.declared.record.LogEntry.{LogEntry}
+use Rattle.rm_catalog.specs.declared.record.PieceEntry.{PieceEntry}
+use Rattle.rm_repository.specs.Facts.{IsRepository}
+use Rattle.rm_repository.specs.Repository.{Repository}
+use Rattle.rm_machine.specs.Marks.{lacks_ids}
+use Rattle.rm_machine.specs.Upkeep.{is_unknown, log_at, piece_at, record_refusal}
+use Rattle.rm_machine.specs.declared.state.State.{State}
+
+-- an id that can be one
+abbrev pub IsId : ℕ → Type 0
+IsId n = (1 ≤ n) × (n < 4294967296)
+
+module _ (r : Repository) (rules : IsRepository r) where
+  pub log-id : (e : LogEntry) → Contains r.ledger.logs e → IsId e.id
+  log-id e has =
+      let range = All-contains (λ (x : LogEntry). (1 ≤ x.id) × (x.id < r.ledger.base.next_id)) r.ledger.logs e rules.ledger.ids.logs has in
+      let below = range.1 in
+      let most = rules.ledger.base.next_id.1 in
+      (range.0, omega (arith, below, most))
+
+  pub piece-id : (p : PieceEntry) → Contains r.ledger.pieces p → IsId p.id
+  piece-id p has =
+      let range = All-contains (λ (x : PieceEntry). (1 ≤ x.id) × (x.id < r.ledger.base.next_id)) r.ledger.pieces p rules.ledger.ids.pieces has in
+      let below = range.1 in
+      let most = rules.ledger.base.next_id.1 in
+      (range.0, omega (arith, below, most))
+
+  -- what is there has such an id
+  pub known-id : (n : ℕ) → is_unknown r n ≡ false → IsId n
+  known-id n known = elim (find_cases (λ (e : LogEntry). e.id == n) r.ledger.logs) [
+    | inr found ↦ subst IsId (eqb-true found.item.id n found.passes) (log-id found.item found.held)
+    | inl no_log ↦ elim (find_cases (λ (p : PieceEntry). p.id == n) r.ledger.pieces) [
+      | inr found ↦ subst IsId (eqb-true found.item.id n found.passes) (piece-id found.item found.held)
+      | inl no_piece ↦ absurd (let none : is_unknown r n ≡ true = ap (λ o. is_none o && is_none (piece_at r n)) no_log ∙ ap is_none no_piece in cc)
+    ]
+  ]
+
+  -- an id that fits no u32 names nothing
+  pub large-unknown : (n : ℕ) → 4294967295 < n → is_unknown r n ≡ true
+  large-unknown n large = elim (cases_Bool (is_unknown r n)) [
+    | inl unknown ↦ unknown
+    | inr known ↦ let fits = (known-id n known).1 in absurd (omega (arith, fits, large))
+  ]
+
+-- a statement on a record that is not refused
+pub accepted-id : (s : State) (n : ℕ) → IsRepository s.catalog → record_refusal s n ≡ None → IsId n
+accepted-id s n rules accepted = known-id s.catalog rules n (known (lacks_ids s 0) (is_unknown s.catalog n) _ _ accepted)
+  where
+    known : (b c : Bool) (x y : Refusal) → cond b (Some x) (cond c (Some y) None) ≡ None → c ≡ false
+    known b false x y is = refl
+    known true true x y is = absurd cc
+    known false true x y is = absurd cc

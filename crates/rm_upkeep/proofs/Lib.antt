@@ -1,0 +1,5 @@
+pub mod Checked
+pub mod Fits
+pub mod Known
+pub mod Listed
+pub mod Named
