@@ -1,8 +1,9 @@
 -- The expired records of a class are listed by their ids.
 use Rattle.std.proofs.Common.{◌≡◌, ◌≤◌, ◌<◌, ◌+◌, ◌∙◌, ◌++◌, ℕ, zero, suc, List, [], ◌∷◌, Option, Some, None, Bool, true, cond, refl, ap, sym, subst, arith, length, map, get_or, All, AllPairs, Contains}
 use Rattle.std.specs.Option.{option_and_then}
-use Rattle.std.proofs.lemmas.List.{append-nil}
+use Rattle.std.proofs.lemmas.List.{length-map}
 use Rattle.std.proofs.lemmas.List.Elements.{Contains-get_or}
+use Rattle.std.proofs.lemmas.List.Kept.{AllPairs-cons}
 use Rattle.std.proofs.lemmas.Option.{same_Some}
 use Rattle.rm_base.specs.Store.{Held}
 use Rattle.rm_base.specs.declared.kinds.Class.{Class}
@@ -14,15 +15,24 @@ use Rattle.rm_apply.specs.Files.{AreExactly}
 use Rattle.rm_catalog.specs.declared.record.Record.{Record}
 use Rattle.rm_evidence.specs.Gathered.{Lists}
 use Rattle.rm_evidence.proofs.Extending.{only-in, pairs-head, pairs-tail}
+use Rattle.rm_report.specs.declared.line.Line.{Line}
+use Rattle.rm_report.specs.declared.line.Line.TheVariants.{Deleted, DeletedCount}
 use Rattle.rm_repository.specs.Facts.{IsRepository}
 use Rattle.rm_repository.specs.Repository.{Repository, records_of}
 use Rattle.rm_repository.proofs.Members.{log-in, piece-in}
+use Rattle.rm_statement.specs.declared.command.Command.TheVariants.{DeleteExpired}
 use Rattle.rm_verify.specs.declared.object.Object.{Object}
 use Rattle.rm_verify.specs.Classes.{is_of, object_in}
 use Rattle.rm_verify.specs.Told.{Tells}
 use Rattle.rm_verify.proofs.Checked.{numbered, passed}
 use Rattle.rm_verify.proofs.Growing.{HasNumber, IsOfOne, of_log, of_piece}
-use Rattle.rm_machine.specs.Upkeep.{IsExpired}
+use Rattle.rm_machine.specs.Effect.{no_effect}
+use Rattle.rm_machine.specs.Hands.{Hands}
+use Rattle.rm_machine.specs.Sound.{IsSound}
+use Rattle.rm_machine.specs.Upkeep.{IsExpired, with_catalog, without_all}
+use Rattle.rm_machine.specs.declared.handed.Handed.{Handed}
+use Rattle.rm_machine.specs.declared.state.State.{State}
+use Rattle.rm_machine.proofs.Handing.{hands-by}
 use Rattle.rm_upkeep.specs.Expired.{Alone, expired, when_expired}
 use Rattle.rm_upkeep.proofs.Known.{IsId, log-id, piece-id}
 
@@ -46,9 +56,6 @@ has_number : (rs : List Record) (class : Class) (n : ℕ) (e : IsExpired rs clas
 has_number rs class n e = subst (HasNumber e.row) e.id (numbered e.row e.object e.is)
 
 module _ (class : Class) where
-  told : Object → Option (ℕ × Alone)
-  told x = when_expired x.id x.status
-
   from : (r : Record) (y : ℕ × Alone) → expired class r ≡ Some y → IsExpired (r ∷ []) class y.0
   from r y is =
       let of = passed (is_of class r) (option_and_then (λ x. when_expired x.id x.status) (object_in r)) y is in
@@ -73,7 +80,13 @@ module _ (class : Class) where
 
 -- ids ascend alone as beside others
 ids-ascend : (xs : List (ℕ × Alone)) → AllPairs (λ x y. x.0 < y.0) xs → AllPairs (λ m n. m < n) (map (λ x. x.0) xs)
-ids-ascend xs up = grind arith
+ids-ascend [] up = λ i j d less inside. absurd (omega arith)
+ids-ascend (x ∷ xs) up =
+    let rest = map (λ (y : ℕ × Alone). y.0) xs in
+    AllPairs-cons (λ (m n : ℕ). m < n) x.0 rest (λ k d inside.
+    let y = map_from (λ (z : ℕ × Alone). z.0) xs (get_or rest k d) (Contains-get_or rest k d inside) in
+    subst (λ (n : ℕ). x.0 < n) y.is (pairs-head (λ (a b : ℕ × Alone). a.0 < b.0) x xs y.item up y.held)
+    ) (ids-ascend xs (pairs-tail (λ (a b : ℕ × Alone). a.0 < b.0) x xs up))
 
 -- the ids of the list are exactly those of the expired records
 pub exactly : (rs : List Record) (class : Class) (list : List (ℕ × Alone)) → Lists Alone [] (λ id _. IsExpired rs class id) list → AreExactly (IsExpired rs class) (map (λ x. x.0) list)
@@ -107,3 +120,35 @@ few-between (m ∷ ms) low (suc n) up each =
     let most = (each x (behind m ms x has)).1 in
     (omega (arith, more, first.0), omega (arith, most))) in
     omega (arith, rest)
+
+-- the lines of ids, one by one
+lines-alike : (xs : List (ℕ × Alone)) → map (λ x. Deleted x.0) xs ≡ map Deleted (map (λ x. x.0) xs)
+lines-alike [] = refl
+lines-alike (x ∷ xs) = ap (λ (ls : List Line). Deleted x.0 ∷ ls) (lines-alike xs)
+
+module _ (s : State) (sound : IsSound s) (class : Class) (rs : List Record) (all : rs ≡ records_of s.catalog) (list : List (ℕ × Alone)) (lists : Lists Alone [] (λ id _. IsExpired rs class id) list) where
+  abbrev ids : List ℕ
+  ids = map (λ x. x.0) list
+
+  exact : AreExactly (IsExpired (records_of s.catalog) class) ids
+  exact = subst (λ (k : List Record). AreExactly (IsExpired k class) ids) all (exactly rs class list lists)
+
+  in-range : (n : ℕ) → Contains ids n → IsId n
+  in-range n has = expired-id s.catalog class n sound.catalog ((exact.exact n).0 has)
+
+  many : length ids ≡ length list
+  many = length-map list (λ x. x.0)
+
+  -- so few that they are counted
+  pub few-ids : length list < 4294967296
+  few-ids = let few = few-between ids 1 4294967295 exact.ascends (λ n has. let r = in-range n has in (r.0, let most = r.1 in omega (arith, most))) in let m = many in omega (arith, few, m)
+
+  pub ids-some : All (λ x. 1 ≤ x.0) list
+  ids-some = λ k d inside. (in-range (get_or list k d).0 (map_to (λ (x : ℕ × Alone). x.0) list (get_or list k d) (Contains-get_or list k d inside))).0
+
+  pub expired-hands : (held : Option Held) (x : Handed) (t : State) → x.lines ≡ map (λ y. Deleted y.0) list ++ DeletedCount (length list) ∷ [] → x.objects ≡ [] → x.removes ≡ []
+      → t ≡ with_catalog s (without_all ids s.catalog) → Hands held s (DeleteExpired class) x t
+  expired-hands held x t lines objects removes is =
+      hands-by held s (DeleteExpired class) x t (map Deleted ids ++ DeletedCount (length ids) ∷ []) no_effect (with_catalog s (without_all ids s.catalog))
+      (λ objects tells. record { ids = ids; exact = exact; is = refl })
+      (lines ∙ ap (λ (ls : List Line). ls ++ DeletedCount (length list) ∷ []) (lines-alike list) ∙ ap (λ n. map Deleted ids ++ DeletedCount n ∷ []) (sym many)) objects removes is
