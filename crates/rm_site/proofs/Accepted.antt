@@ -21,15 +21,6 @@ pub nothing : Held
 nothing name = None
 
 module _ (held : Option Held) (s : State) (c : Command) (accepted : refusal_of s c ≡ None) (sound : IsSound s) where
-  -- it tells, by what is told of every store
-  pub it-tells : (lines : List Line) → ((h : Option Held) → Tells h s c lines) → All LineHasDate lines → IsAnswer held s c (Told lines) s
-  it-tells lines tells dates = record {
-    comes = (refl, λ objects at. subst (λ o. IsOutcomeBy o s objects c (told lines)) (sym accepted) (tells held objects at));
-    refused = subst (λ o. IsRefusedBy o c (Told lines)) (sym accepted) tt;
-    sound = sound;
-    dates = dates;
-  }
-
   -- it is a change, and no store says anything of it
   pub it-changes : (x : Handed) (t : State) → IsStatement c → is_change c ≡ true → s.catalog.saved ≡ None → ((h : Option Held) → Hands h s c x t) → IsAnswer held s c (Done x) t
   it-changes x t well change unsaved hands =
