@@ -15,7 +15,7 @@ use Rattle.rm_statement.specs.declared.command.Command.TheVariants.{Crosscheck}
 use Rattle.rm_verify.specs.Crosscheck.{IsChecked, stands_in}
 use Rattle.rm_machine.specs.Effect.{no_effect}
 use Rattle.rm_machine.specs.Hands.{Hands}
-use Rattle.rm_machine.specs.Upkeep.{IsCrosscheckOutcome, with_catalog, with_statuses}
+use Rattle.rm_machine.specs.Upkeep.{with_catalog, with_statuses}
 use Rattle.rm_machine.specs.declared.handed.Handed.{Handed}
 use Rattle.rm_machine.specs.declared.state.State.{State}
 use Rattle.rm_machine.proofs.Handing.{hands-by}

@@ -1,8 +1,6 @@
 -- A record that is changed fits its catalog.
-use Rattle.std.proofs.Common.{◌≡◌, ◌∙◌, ◌<◌, ◌≤◌, ◌==◌, inl, inr, ℕ, List, [], ◌∷◌, Option, Some, None, Bool, refl, ap, sym, subst, find, get_or, Contains}
+use Rattle.std.proofs.Common.{◌≡◌, ◌∙◌, ◌<◌, ◌≤◌, ◌==◌, inl, inr, ℕ, List, Option, Some, None, Bool, refl, sym, subst, find, get_or, Contains}
 use Rattle.std.specs.Prelude.{IfSome}
-use Rattle.std.specs.Option.{option_map_or}
-use Rattle.std.proofs.lemmas.Bool.{eqb-true}
 use Rattle.std.proofs.lemmas.List.Elements.{All-contains, Contains-get_or}
 use Rattle.std.proofs.lemmas.Option.{same_Some}
 use Rattle.rm_base.specs.declared.kinds.Kind.{Kind}

@@ -1,5 +1,5 @@
 -- The record of an id, where there is one.
-use Rattle.std.proofs.Common.{◌≡◌, ◌∙◌, ◌<◌, ◌≤◌, ◌^◌, ◌==◌, ◌&&◌, inl, inr, ℕ, List, [], ◌∷◌, Option, Some, None, Bool, true, false, find, is_none, cond, refl, ap, sym, subst, arith, Contains}
+use Rattle.std.proofs.Common.{◌≡◌, ◌∙◌, ◌<◌, ◌≤◌, ◌==◌, ◌&&◌, inl, inr, ℕ, Some, None, Bool, true, false, is_none, cond, refl, ap, subst, arith, Contains}
 use Rattle.std.proofs.lemmas.Bool.{cases_Bool, eqb-true}
 use Rattle.std.proofs.lemmas.List.Elements.{All-contains}
 use Rattle.rm_base.specs.declared.refusal.Refusal.{Refusal}
@@ -9,7 +9,7 @@ use Rattle.rm_catalog.specs.declared.record.PieceEntry.{PieceEntry}
 use Rattle.rm_repository.specs.Facts.{IsRepository}
 use Rattle.rm_repository.specs.Repository.{Repository}
 use Rattle.rm_machine.specs.Marks.{lacks_ids}
-use Rattle.rm_machine.specs.Upkeep.{is_unknown, log_at, piece_at, record_refusal}
+use Rattle.rm_machine.specs.Upkeep.{is_unknown, piece_at, record_refusal}
 use Rattle.rm_machine.specs.declared.state.State.{State}
 
 -- an id that can be one

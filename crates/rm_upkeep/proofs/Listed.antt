@@ -1,5 +1,5 @@
 -- The expired records of a class are listed by their ids.
-use Rattle.std.proofs.Common.{◌≡◌, ◌≤◌, ◌<◌, ◌+◌, ◌∙◌, ◌++◌, ℕ, zero, suc, List, [], ◌∷◌, Option, Some, None, Bool, true, cond, refl, ap, sym, subst, arith, length, map, get_or, All, AllPairs, Contains}
+use Rattle.std.proofs.Common.{◌≡◌, ◌≤◌, ◌<◌, ◌+◌, ◌∙◌, ◌++◌, ℕ, zero, suc, List, [], ◌∷◌, Option, Some, None, cond, refl, ap, sym, subst, arith, length, map, get_or, All, AllPairs, Contains}
 use Rattle.std.specs.Option.{option_and_then}
 use Rattle.std.proofs.lemmas.List.{length-map}
 use Rattle.std.proofs.lemmas.List.Elements.{Contains-get_or}
@@ -10,7 +10,7 @@ use Rattle.rm_base.specs.declared.kinds.Class.{Class}
 use Rattle.rm_base.specs.declared.kinds.Status.{Status}
 use Rattle.rm_base.specs.declared.kinds.Status.TheVariants.{Available, Expired, Unavailable}
 use Rattle.rm_base.proofs.Lists.{map_from, map_to}
-use Rattle.rm_base.proofs.Members.{behind, first-or-rest, in-front}
+use Rattle.rm_base.proofs.Members.{behind, in-front}
 use Rattle.rm_apply.specs.Files.{AreExactly}
 use Rattle.rm_catalog.specs.declared.record.Record.{Record}
 use Rattle.rm_evidence.specs.Gathered.{Lists}

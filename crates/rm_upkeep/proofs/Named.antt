@@ -1,12 +1,10 @@
 -- Of objects that ascend by id, at most one has an id.
-use Rattle.std.proofs.Common.{◌≡◌, ◌∙◌, ◌+◌, ◌<◌, ◌==◌, ◌++◌, inl, inr, ℕ, List, [], ◌∷◌, Option, Some, None, Bool, true, false, cond, refl, ap, sym, subst, arith, filter, find, map, AllPairs, Contains}
-use Rattle.std.specs.Prelude.{OnOk}
+use Rattle.std.proofs.Common.{◌≡◌, ◌∙◌, ◌+◌, ◌<◌, ◌==◌, ◌++◌, inl, inr, ℕ, List, [], ◌∷◌, Option, Some, None, cond, refl, ap, sym, arith, filter, find, map, AllPairs}
 use Rattle.std.proofs.lemmas.Bool.{cases_Bool, eqb-true}
 use Rattle.std.proofs.lemmas.Bool.Decides.{nat_tests}
 use Rattle.std.proofs.lemmas.List.{append-nil}
-use Rattle.rm_base.proofs.Members.{in-front}
 use Rattle.rm_catalog.proofs.Filters.{filter_none}
-use Rattle.rm_evidence.proofs.Extending.{pairs-head, pairs-tail}
+use Rattle.rm_evidence.proofs.Extending.{pairs-tail}
 
 -- what is found, as a list
 abbrev pub listed : {A : Type 0} → Option A → List A

@@ -8,11 +8,7 @@ use rm_catalog::Edit;
 use rm_machine::State;
 
 /// Takes the record of an id away, if there is one.
-pub(crate) fn drop_record(
-    state: &mut State,
-    edits: &mut Vec<Edit>,
-    id: u32,
-) -> Result<(), NoMemory>
+pub(crate) fn drop_record(state: &mut State, edits: &mut Vec<Edit>, id: u32) -> Result<(), NoMemory>
     requires some { 1 ≤ id }
     ensures value { OnOk result (state.new ≡ with_catalog state.old (without_record id state.old.catalog)) }
     ensures edits { OnOk result (EditsFollow edits.old.items edits.new.items state.old.catalog state.new.catalog) }

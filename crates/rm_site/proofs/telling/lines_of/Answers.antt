@@ -1,4 +1,4 @@
-use Rattle.std.proofs.Common.{◌≡◌, Option, Some, List, All, IfOk, refl, subst, sym}
+use Rattle.std.proofs.Common.{Option, Some, List, All, IfOk, refl, subst, sym}
 use Rattle.std.proofs.lemmas.Result.{IfOk-weaker}
 use Rattle.rm_base.specs.Store.{Held}
 use Rattle.rm_machine.specs.Hands.{Tells}

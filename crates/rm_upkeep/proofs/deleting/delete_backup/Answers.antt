@@ -1,5 +1,4 @@
-use Rattle.std.proofs.Common.{rules, [], ◌∷◌, ◌≡◌, List, refl, subst}
-use Rattle.rm_report.specs.declared.line.Line.{Line}
+use Rattle.std.proofs.Common.{rules, [], ◌∷◌, ◌≡◌, refl, subst}
 use Rattle.rm_report.specs.declared.line.Line.TheVariants.{Deleted, DeletedCount}
 use Rattle.rm_statement.specs.declared.command.Command.TheVariants.{DeleteBackup}
 use Rattle.rm_machine.specs.Hands.{Hands}
