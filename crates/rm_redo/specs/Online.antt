@@ -1,9 +1,10 @@
 -- What the calls of the online logs do.
-use Rattle.std.specs.Prelude.{ℕ, Bool, ◌+◌, ◌-◌, ◌==◌, if◌then◌else◌, ◌<◌, ◌≤◌, ◌≡◌, ◌++◌, List, [], ◌∷◌, length, replicate, true, false, slice_get, slice_set}
+use Rattle.std.specs.Prelude.{ℕ, Bool, ◌+◌, ◌-◌, ◌==◌, if◌then◌else◌, ◌<◌, ◌≤◌, ◌≡◌, ◌++◌, Option, Some, None, List, [], ◌∷◌, length, map, replicate, true, false, slice_get, slice_set}
 use Rattle.std.specs.List.{list_all}
 use Rattle.std.specs.Option.{option_map_or}
 use Rattle.rm_base.specs.declared.block.Change.{Change}
 use Rattle.rm_redo.specs.declared.online.LogRecord.{LogRecord}
+use Rattle.rm_redo.specs.declared.log_file.LogFile.{LogFile}
 use Rattle.rm_redo.specs.declared.online.ThreadLog.{ThreadLog}
 use Rattle.rm_redo.specs.Logs.{Logs}
 
@@ -75,3 +76,16 @@ fresh_log first = record { sequence = 1; first = first; is_lost = false; records
 
 abbrev pub fresh_logs : ℕ → ℕ → ℕ → ℕ → Logs
 fresh_logs dbid inc threads first = record { dbid = dbid; inc = inc; threads = replicate threads (fresh_log first) }
+
+-- a log that is lost, of which nothing else is known
+abbrev pub lost_log : ThreadLog
+lost_log = record (fresh_log 1) { is_lost = true }
+
+-- the online log of a thread, as a log file tells it; without one it is lost
+abbrev pub thread_log : Option LogFile → ThreadLog
+thread_log None = lost_log
+thread_log (Some l) = record { sequence = l.sequence; first = l.first; is_lost = false; records = l.records }
+
+-- the online logs of the threads 1, 2, 3 and so on, as log files tell them
+abbrev pub logs_of : ℕ → ℕ → List (Option LogFile) → Logs
+logs_of dbid inc logs = record { dbid = dbid; inc = inc; threads = map thread_log logs }

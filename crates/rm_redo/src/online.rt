@@ -1,9 +1,10 @@
 //! The online logs, one for each redo thread.
-ghost use Rattle.std.specs.Prelude.{◌≡◌, ◌+◌, ◌<◌, ◌≤◌, ◌↔◌, All, OnOk, OnErr, IfOk, IfSome, IsTrue, IsErrOf, length};
+ghost use Rattle.std.specs.Prelude.{◌≡◌, ◌+◌, ◌<◌, ◌≤◌, ◌↔◌, All, OnOk, OnErr, IfOk, IfSome, IsTrue, IsErrOf, length, map};
 ghost use Rattle.rm_base.specs.Numbers.{last_scn};
 ghost use Rattle.rm_redo.specs.Logs.{IsLogs};
 ghost use Rattle.rm_redo.specs.LogFile.{log_file_of};
-ghost use Rattle.rm_redo.specs.Online.{IsThread, IsLost, are_lost, begun_anew, counted_as, fresh_logs, with_change, with_loss, switched, records_of, first_of, sequence_of};
+ghost use Rattle.rm_redo.specs.LogFormat.{IsLogFile};
+ghost use Rattle.rm_redo.specs.Online.{IsThread, IsLost, are_lost, begun_anew, counted_as, fresh_logs, logs_of, thread_log, with_change, with_loss, switched, records_of, first_of, sequence_of};
 
 use crate::log_file::LogFile;
 use rm_base::{Block, BlockNo, Change, FileNo, IncNo, NoMemory, Scn, Seq, ThreadNo};
@@ -71,6 +72,37 @@ fn are_lost(threads: &[ThreadLog]) -> bool
     threads.iter().all(|log| log.is_lost)
 }
 
+// The online log of a thread, as a log file tells it; without one it is lost.
+fn thread_log(alloc: Global, log: Option<LogFile>) -> ThreadLog
+    ensures { result ≡ thread_log log }
+{
+    match log {
+        None => ThreadLog {
+            sequence: 1,
+            first: 1,
+            is_lost: true,
+            records: Seq::new(alloc),
+        },
+        Some(log) => ThreadLog {
+            sequence: log.sequence,
+            first: log.first,
+            is_lost: false,
+            records: log.records,
+        },
+    }
+}
+
+// The online logs of the threads 1, 2, 3 and so on, as log files tell them.
+fn thread_logs(alloc: Global, logs: Seq<Option<LogFile>>) -> Result<Vec<ThreadLog>, NoMemory>
+    ensures { IfOk result (λ threads. threads.items ≡ map thread_log logs) }
+{
+    let mut threads = Vec::new(alloc);
+    for log in logs.into_vec() {
+        threads.push(thread_log(alloc, log))?;
+    }
+    Ok(threads)
+}
+
 /// The online logs of the threads 1, 2, 3 and so on, all of one incarnation.
 #[derive(Drop)]
 pub struct OnlineLogs {
@@ -118,6 +150,24 @@ impl OnlineLogs {
             inc,
             threads: logs,
         })
+    }
+
+    /// The logs of the threads 1, 2, 3 and so on, as log files tell them. A thread without one is lost, with sequence 1,
+    /// first SCN 1 and no record. An error is want of memory.
+    pub fn from_logs(
+        alloc: Global,
+        dbid: u32,
+        inc: IncNo,
+        logs: Seq<Option<LogFile>>,
+    ) -> Result<OnlineLogs, NoMemory>
+        requires dbid { 1 ≤ dbid }
+        requires inc { 1 ≤ inc }
+        requires threads { (1 ≤ length logs) × (length logs ≤ 4) }
+        requires valid { All (λ log. IfSome log IsLogFile) logs }
+        ensures { IfOk result (λ online. online ≡ logs_of dbid inc logs) }
+    {
+        let threads = thread_logs(alloc, logs)?;
+        Ok(OnlineLogs { dbid, inc, threads })
     }
 
     /// Adds a change to the log of its thread. A refusal changes nothing.
