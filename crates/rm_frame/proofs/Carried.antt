@@ -8,32 +8,57 @@ use Rattle.rm_change.specs.declared.change.Change.{Change}
 use Rattle.rm_change.specs.Carrying.{Carried, Leads, Outside}
 use Rattle.rm_change.specs.Names.{HasPuts, HasRemoves}
 use Rattle.rm_statement.specs.declared.command.Command.{Command}
+use Rattle.rm_statement.specs.declared.command.Command.TheVariants.{CreateDatabase}
 use Rattle.rm_report.specs.Reply.{refused_by, said}
 use Rattle.rm_report.specs.declared.line.Line.{Line}
 use Rattle.rm_report.specs.declared.line.Reply.{Reply}
 use Rattle.rm_machine.specs.Effect.{Effect, LeavesObjects, Outcome, done, refused, told}
-use Rattle.rm_machine.specs.Laws.{LeadsOn, TellsOn}
-use Rattle.rm_machine.specs.Machine.{DigestsTell, IsSoundMachine, Machine}
+use Rattle.rm_machine.specs.Laws.{LeadsOn, StaysSound, TellsOn}
+use Rattle.rm_machine.specs.Machine.{DigestsTell, IsBorneOut, IsSoundBy, IsSoundMachine, Machine}
+use Rattle.rm_machine.specs.Rest.{HaveParts}
 use Rattle.rm_machine.specs.declared.state.State.{State}
-use Rattle.rm_machine.specs.Step.{IsStatement, Step, StepBy, StepIn}
+use Rattle.rm_machine.specs.Step.{IsOutcomeWithout, IsStatement, Step, StepBy, StepIn, and_drops}
 use Rattle.rm_frame.specs.Carries.{IsHanded, IsOutcomeIn}
-use Rattle.rm_frame.specs.Holds.{Holds, records, records_in}
+use Rattle.rm_frame.specs.Holds.{Holds, records, records_in, saved_in}
 use Rattle.rm_frame.specs.Moments.{IsMomentIn}
 use Rattle.rm_frame.specs.Steps.{StepsAt}
-use Rattle.rm_frame.proofs.Founding.{without-leads}
+use Rattle.rm_frame.proofs.Founding.{founded-unsaved, without-leads}
 
 -- what is at hand leads a sound machine on to a sound one, from a database or none
 abbrev pub LeadsFrom : Option State → Command → Type 0
 LeadsFrom o c =
     (m : Machine) (moment : ℕ) (lines : List Line) (effect : Effect) (t : State) (after : Held)
     → IsStatement c → m.state ≡ o → IsSoundMachine m → DigestsTell m → IsMomentIn o moment
-    → IsOutcomeIn o m.objects c moment (done lines effect t) → LeavesObjects effect m.objects after
+    → IsOutcomeIn o m.objects c moment (done lines effect t) → LeavesObjects (and_drops o effect) m.objects after
     → (n : Machine) × StepBy m c (done lines effect t) (said lines) n × (n.objects ≡ after) × IsSoundMachine n
 
 pub leads-from : (c : Command) → LeadsOn c → (o : Option State) → LeadsFrom o c
 leads-from c law None = λ m moment lines effect t after well is sound tell at comes leaves. without-leads c m moment lines effect t after well is sound at.last comes leaves
 leads-from c law (Some s) = λ m moment lines effect t after well is sound tell at comes leaves.
     law m s moment lines effect t after well is sound tell (record { kept = at.kept; last = at.last }) comes leaves
+
+-- where there is no database, only a new one is done
+unsaved-without : (c : Command) (moment : ℕ) (lines : List Line) (e : Effect) (t : State) → IsOutcomeWithout c moment (done lines e t) → t.catalog.saved ≡ None
+unsaved-without (CreateDatabase dbid threads scn) moment lines e t comes = founded-unsaved dbid threads scn moment lines e t comes
+unsaved-without c moment lines e t comes = absurd (let clash : done lines e t ≡ refused _ = comes in cc)
+
+-- after what is done no site is saved
+unsaved : (c : Command) → StaysSound c → (o : Option State) (m : Machine) (moment : ℕ) (lines : List Line) (e : Effect) (t : State)
+    → IsStatement c → m.state ≡ o → IsSoundMachine m → IsMomentIn o moment → IsOutcomeIn o m.objects c moment (done lines e t) → t.catalog.saved ≡ None
+unsaved c law None m moment lines e t well is sound at comes = unsaved-without c moment lines e t comes
+unsaved c law (Some s) m moment lines e t well is sound at comes =
+    let was : IsBorneOut s m.history m.objects m.made m.touched = subst (λ o. IsSoundBy o m.history m.objects m.made m.touched) is sound in
+    (law s m.objects moment lines e t well was.state (record { kept = at.kept; last = at.last }) comes).1
+
+-- so there are no parts of one
+pub no-parts : (n : Machine) (t : State) → n.state ≡ Some t → t.catalog.saved ≡ None → HaveParts n.objects n.made n.touched (saved_in n.state)
+no-parts n t is none =
+    subst (λ o. HaveParts n.objects n.made n.touched (saved_in o)) (sym is) (subst (HaveParts n.objects n.made n.touched) (sym none) tt)
+
+-- the objects of a saved site only go
+same-puts : (o : Option State) (e : Effect) → (and_drops o e).puts ≡ e.puts
+same-puts None e = refl
+same-puts (Some s) e = refl
 
 -- what a statement comes to is its step
 pub step-in : (o : Option State) (m : Machine) (c : Command) (moment : ℕ) (r : Outcome) (reply : Reply) (n : Machine) → m.state ≡ o → IsOutcomeIn o m.objects c moment r → StepBy m c r reply n → Step m c moment reply n
@@ -47,20 +72,28 @@ pub record IsFinished (m : Machine) (c : Command) (moment : ℕ) (lines : List L
   pub state : machine.state ≡ Some t
   pub objects_are : machine.objects ≡ objects
   pub sound : IsSoundMachine machine
+  pub unsaved_is : t.catalog.saved ≡ None
 
-module _ (c : Command) (law : LeadsOn c) (held : Option Held) (kept : Option (List Record)) (o : Option State) (moment : ℕ) (lines : List Line) (x : Change) (t : State)
+module _ (c : Command) (law : LeadsOn c) (stays : StaysSound c) (held : Option Held) (kept : Option (List Record)) (o : Option State) (moment : ℕ) (lines : List Line) (x : Change) (t : State)
     (well : IsStatement c) (at : IsMomentIn o moment) (handed : IsHanded held o c moment lines x t) where
   pub finished : (m : Machine) → m.state ≡ o → Holds held kept m → DigestsTell m → (put objects : Held) → HasPuts x.objects m.objects put → HasRemoves x.removes put objects
       → IsFinished m c moment lines t objects
   finished m is holds tell put objects puts removes =
       let comes = handed.comes m.objects holds.store in
-      let leaves : LeavesObjects handed.effect m.objects objects = record {
+      let leaves : LeavesObjects (and_drops o handed.effect) m.objects objects = record {
         put = put;
-        puts = subst (λ y. HasPuts y m.objects put) handed.puts puts;
+        puts = subst (λ y. HasPuts y m.objects put) (handed.puts ∙ sym (same-puts o handed.effect)) puts;
         removes = subst (λ y. HasRemoves y put objects) handed.removes removes;
       } in
       let on = leads-from c law o m moment lines handed.effect t objects well is holds.sound tell at comes leaves in
-      record { machine = on.0; step = step-in o m c moment (done lines handed.effect t) (said lines) on.0 is comes on.1; state = on.1.1.state; objects_are = on.2; sound = on.3 }
+      record {
+        machine = on.0;
+        step = step-in o m c moment (done lines handed.effect t) (said lines) on.0 is comes on.1;
+        state = on.1.1.state;
+        objects_are = on.2;
+        sound = on.3;
+        unsaved_is = unsaved c stays o m moment lines handed.effect t well is holds.sound at comes;
+      }
 
   -- the records after it
   pub edited : (m n : Machine) (rs : List Record) → m.state ≡ o → n.state ≡ Some t → rs ≡ after_edits x.edits (records m) → rs ≡ records n
@@ -78,6 +111,7 @@ module _ (c : Command) (law : LeadsOn c) (held : Option Held) (kept : Option (Li
           store = all.2.store ∙ ap Some (sym last.objects_are);
           keeper = all.2.keeper ∙ ap Some (edited m last.machine all.0.records is last.state all.1.records);
           sound = last.sound;
+          parts = no-parts last.machine t last.state last.unsaved_is;
         },
       )
 

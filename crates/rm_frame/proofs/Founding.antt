@@ -12,12 +12,12 @@ use Rattle.rm_statement.specs.IsCommand.{is_command}
 use Rattle.rm_report.specs.declared.line.Line.{Line}
 use Rattle.rm_report.specs.declared.line.Line.TheVariants.{DatabaseAt}
 use Rattle.rm_machine.specs.CreateDatabase.{IsCreateOutcome, fresh_machine, fresh_state}
-use Rattle.rm_machine.specs.Effect.{Effect, done, no_effect, refused}
+use Rattle.rm_machine.specs.Effect.{Effect, LeavesObjects, done, no_effect, refused}
 use Rattle.rm_machine.specs.Laws.{LeadsOn}
 use Rattle.rm_machine.specs.Machine.{IsBorneOut, IsSoundBy, IsSoundMachine, Machine}
 use Rattle.rm_machine.specs.declared.state.State.{State}
 use Rattle.rm_machine.proofs.Creating.{fresh-sound}
-use Rattle.rm_machine.specs.Step.{Means}
+use Rattle.rm_machine.specs.Step.{Means, and_drops}
 use Rattle.rm_frame.specs.Carries.{LeadsOnWithout}
 use Rattle.rm_frame.specs.Loose.{StaysLoose}
 
@@ -55,6 +55,11 @@ founded-quiet dbid threads scn moment lines effect t comes =
     let is = founded-by (nat_lt 4 threads) dbid threads scn moment lines effect t refl comes in
     (sym (ap (λ (e : Effect). e.puts) is.effect_is), sym (ap (λ (e : Effect). e.removes) is.effect_is))
 
+-- and saves no site
+pub founded-unsaved : (dbid threads scn moment : ℕ) (lines : List Line) (effect : Effect) (t : State) → IsCreateOutcome dbid threads scn moment (done lines effect t) → t.catalog.saved ≡ None
+founded-unsaved dbid threads scn moment lines effect t comes =
+    sym (ap (λ (s : State). s.catalog.saved) (founded-by (nat_lt 4 threads) dbid threads scn moment lines effect t refl comes).state_is)
+
 -- a new database is borne out, whatever names were touched
 founded-sound : (dbid threads scn moment : ℕ) (objects : Held) (touched : List (List ℕ)) → AreNumbers dbid threads scn → moment ≤ last_moment
     → IsBorneOut (fresh_state dbid threads scn moment) [] objects [] touched
@@ -76,7 +81,7 @@ creating-leads dbid threads scn m moment lines effect t after well none sound la
       n,
       (
         refl,
-        record { state = refl; history = refl; objects = leaves; made = refl; touched = refl },
+        record { state = refl; history = refl; objects = subst (λ o. LeavesObjects (and_drops o effect) m.objects after) (sym none) leaves; made = refl; touched = refl },
         subst (λ o. Means o m.history (CreateDatabase dbid threads scn) (done lines effect t)) (sym none) tt,
       ),
       refl,

@@ -8,4 +8,3 @@ pub mod LooseNew
 pub mod LooseQuiet
 pub mod LooseUpkeep
 pub mod Loosening
-pub mod Lost

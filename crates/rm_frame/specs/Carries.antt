@@ -13,7 +13,7 @@ use Rattle.rm_machine.specs.Effect.{Effect, LeavesObjects, Outcome, done}
 use Rattle.rm_machine.specs.Machine.{IsSoundMachine, Machine}
 use Rattle.rm_machine.specs.declared.state.State.{State}
 use Rattle.rm_machine.specs.State.{at_moment}
-use Rattle.rm_machine.specs.Step.{IsOutcome, IsOutcomeWithout, IsStatement, StepBy}
+use Rattle.rm_machine.specs.Step.{IsOutcome, IsOutcomeWithout, IsStatement, StepBy, and_drops}
 use Rattle.rm_frame.specs.Holds.{records_in}
 use Rattle.rm_frame.specs.Moments.{IsMomentIn}
 use Rattle.rm_frame.specs.Steps.{StepsAt}
@@ -33,12 +33,12 @@ LeadsOnWithout c =
     → (n : Machine) × StepBy m c (done lines effect t) (said lines) n × (n.objects ≡ after) × IsSoundMachine n
 
 -- The statement came to these lines, to this change outside, and to the state t, where the store tells what it
--- holds. The edits make the records those of t.
+-- holds. The objects of a saved site go with those of the effect. The edits make the records those of t.
 pub record IsHanded (held : Option Held) (o : Option State) (c : Command) (moment : ℕ) (lines : List Line) (x : Change) (t : State) : Type 0 where
   pub effect : Effect
   pub comes : (objects : Held) → held ≡ Some objects → IsOutcomeIn o objects c moment (done lines effect t)
   pub puts : x.objects ≡ effect.puts
-  pub removes : x.removes ≡ effect.removes
+  pub removes : x.removes ≡ (and_drops o effect).removes
   pub edits : after_edits x.edits (records_in o) ≡ records_in (Some t)
 
 -- What is handed out and carried out is a step.

@@ -1,17 +1,22 @@
 //! What the frame makes of a statement.
-ghost use Rattle.std.specs.Prelude.{ℕ};
+ghost use Rattle.std.specs.Prelude.{ℕ, List, Option};
+ghost use Rattle.rm_base.specs.Store.{Held};
+ghost use Rattle.rm_catalog.specs.declared.record.Record.{Record};
 ghost use Rattle.rm_statement.specs.declared.command.Command.{Command};
 ghost use Rattle.rm_statement.specs.declared.command.Command.TheVariants.{CreateDatabase};
 ghost use Rattle.rm_machine.specs.Laws.{LeadsOn, StaysSound};
+ghost use Rattle.rm_machine.specs.Machine.{Machine};
+ghost use Rattle.rm_machine.specs.Rest.{at_rest};
 ghost use Rattle.rm_frame.specs.Carries.{CarriesOn, LeadsOnWithout, StopsWell};
+ghost use Rattle.rm_frame.specs.Holds.{Holds, HoldsRest};
 ghost use Rattle.rm_frame.specs.Loose.{StaysLoose};
 
 /// Where what is at hand leads the machine on, what a statement hands out and is carried out is a step of the
-/// whole machine. And a stop leaves the machine before the statement or the one after it, where the statement
-/// touches no name of a record.
+/// whole machine. And a stop leaves the machine before the statement or the one after it, at rest, where the
+/// statement touches no name of a record.
 pub fn what_leads_on_is_carried_on()
-    ensures carries { (c : Command) → LeadsOn c → CarriesOn c }
-    ensures stops { (c : Command) → LeadsOn c → StaysLoose c → StopsWell c }
+    ensures carries { (c : Command) → LeadsOn c → StaysSound c → CarriesOn c }
+    ensures stops { (c : Command) → LeadsOn c → StaysSound c → StaysLoose c → StopsWell c }
 {}
 
 /// CREATE DATABASE, where there is none: a sound machine comes of it.
@@ -33,4 +38,9 @@ pub fn each_statement_is_carried_on()
 /// Whatever the devices hold, and whatever was ever written, each statement leaves a sound state.
 pub fn each_statement_keeps_a_state_sound()
     ensures { (c : Command) → StaysSound c }
+{}
+
+/// What the store and the keeper hold of a machine they hold of it at rest.
+pub fn a_machine_rests()
+    ensures { (held : Option Held) (kept : Option (List Record)) (m : Machine) → Holds held kept m → HoldsRest held kept (at_rest m) }
 {}

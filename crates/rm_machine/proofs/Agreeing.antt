@@ -1,5 +1,5 @@
 -- What is at hand agrees with the history, where digests tell.
-use Rattle.std.proofs.Common.{◌≡◌, ◌≢◌, ◌-◌, ◌∙◌, ◌⊎◌, inl, inr, ℕ, suc, List, [], Option, Some, None, refl, ap, sym, subst, arith, Contains, slice_index_or}
+use Rattle.std.proofs.Common.{◌≡◌, ◌≢◌, ◌-◌, ◌∙◌, inl, inr, ℕ, suc, List, [], Option, Some, None, refl, ap, sym, subst, arith, Contains, slice_index_or}
 use Rattle.rm_base.specs.Store.{Held}
 use Rattle.rm_base.specs.declared.block.Change.{Change}
 use Rattle.rm_base.specs.declared.kinds.Kind.{Kind}

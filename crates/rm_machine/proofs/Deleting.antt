@@ -1,11 +1,10 @@
 -- DELETE BACKUP leads on: no other record names the object that goes.
-use Rattle.std.proofs.Common.{◌≡◌, ◌≢◌, ◌<◌, ◌≤◌, ◌^◌, ◌∙◌, ◌++◌, ◌==◌, ◌||◌, nat_lt, inl, inr, ℕ, List, [], ◌∷◌, Some, None, Bool, true, false, refl, ap, sym, subst, arith, filter, map, Contains}
+use Rattle.std.proofs.Common.{◌≡◌, ◌≢◌, ◌<◌, ◌≤◌, ◌^◌, ◌∙◌, ◌++◌, ◌==◌, ◌||◌, nat_lt, inl, inr, ℕ, List, [], ◌∷◌, true, refl, ap, sym, subst, arith, filter, map, Contains}
 use Rattle.std.specs.Str.{bytes_eq}
-use Rattle.std.proofs.lemmas.Bool.{both_ways, cases_Bool, eqb-true, ltb-true}
+use Rattle.std.proofs.lemmas.Bool.{cases_Bool, eqb-true, ltb-true}
 use Rattle.std.proofs.lemmas.List.{append-nil}
 use Rattle.std.proofs.lemmas.List.Elements.{All-contains, All-contains_itself, Contains-append_cases}
 use Rattle.rm_base.specs.Store.{Held}
-use Rattle.rm_base.specs.declared.block.Change.{Change}
 use Rattle.rm_base.proofs.Lists.{filter_from, map_from}
 use Rattle.rm_base.proofs.Members.{behind, in-front}
 use Rattle.rm_catalog.specs.declared.record.LogEntry.{LogEntry}
@@ -14,18 +13,16 @@ use Rattle.rm_change.specs.Names.{is_named, itself, nothing}
 use Rattle.rm_change.proofs.Named.{same-name, unnamed-stays}
 use Rattle.rm_objects.specs.Names.{log_name, piece_name, site_name}
 use Rattle.rm_objects.proofs.Names.{log-name-tells, log-no-piece, log-no-site, piece-name-tells, piece-no-site}
-use Rattle.rm_report.specs.declared.line.Line.{Line}
 use Rattle.rm_repository.specs.Changes.{higher, lower, without_one}
 use Rattle.rm_repository.specs.Facts.{IsRepository}
 use Rattle.rm_repository.specs.Repository.{Repository}
 use Rattle.rm_repository.proofs.Ones.{all-without}
 use Rattle.rm_statement.specs.declared.command.Command.TheVariants.{DeleteBackup}
-use Rattle.rm_machine.specs.Effect.{Effect, LeavesObjects, Made, done}
+use Rattle.rm_machine.specs.Effect.{Effect, LeavesObjects}
 use Rattle.rm_machine.specs.Machine.{IsBorneOut}
 use Rattle.rm_machine.specs.Names.{IsObjectName, of_log, of_piece}
 use Rattle.rm_machine.specs.Sound.{IsSound}
 use Rattle.rm_machine.specs.declared.state.State.{State}
-use Rattle.rm_machine.specs.State.{ledger}
 use Rattle.rm_machine.specs.Upkeep.{names_at, removing, with_catalog, without_record}
 use Rattle.rm_machine.proofs.Entries.{without-on}
 use Rattle.rm_machine.proofs.Kept.{StandOn}

@@ -11,7 +11,6 @@ use Rattle.rm_base.specs.declared.refusal.Refusal.TheVariants.{Rm12}
 use Rattle.rm_base.specs.declared.refusal.Unknown.TheVariants.{Byte}
 use Rattle.rm_base.proofs.Members.{behind, in-front}
 use Rattle.rm_change.proofs.Named.{same-name}
-use Rattle.rm_statement.specs.declared.command.Command.{Command}
 use Rattle.rm_statement.specs.declared.command.Command.TheVariants.{Cut, Damage, Remove, Rename}
 use Rattle.rm_ledger.specs.Ledger.{Ledger}
 use Rattle.rm_report.specs.declared.line.Line.{Line}

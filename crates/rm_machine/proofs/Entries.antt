@@ -1,34 +1,31 @@
 -- A database whose records of logs and pieces change: what stands goes on to be borne out.
-use Rattle.std.proofs.Common.{◌≡◌, ◌≢◌, ◌<◌, ◌≤◌, ◌==◌, ◌⊎◌, inl, inr, ℕ, List, Option, Some, None, Bool, refl, sym, subst, get_or, Contains}
+use Rattle.std.proofs.Common.{◌≡◌, ◌<◌, ◌≤◌, ◌==◌, ◌⊎◌, inl, inr, ℕ, List, Option, Some, None, Bool, refl, sym, subst, get_or, Contains}
 use Rattle.std.specs.Prelude.{IfSome}
 use Rattle.std.specs.Option.{option_map_or}
-use Rattle.std.proofs.lemmas.Bool.{eqb-true}
 use Rattle.std.proofs.lemmas.List.Elements.{All-contains, Contains-get_or}
 use Rattle.rm_base.specs.Store.{Held}
 use Rattle.rm_base.specs.declared.block.Change.{Change}
 use Rattle.rm_base.specs.declared.kinds.Kind.{Kind}
 use Rattle.rm_base.specs.declared.kinds.Kind.TheVariants.{Full, Level0, Level1, Place}
 use Rattle.rm_base.specs.declared.kinds.Status.{Status}
-use Rattle.rm_base.proofs.Lists.{IsFound, find_cases}
+use Rattle.rm_base.proofs.Lists.{find_cases}
 use Rattle.rm_catalog.specs.declared.record.LogEntry.{LogEntry}
 use Rattle.rm_catalog.specs.declared.record.PieceEntry.{PieceEntry}
 use Rattle.rm_catalog.specs.Objects.{FitsKind}
 use Rattle.rm_ledger.specs.Facts.{IsLogEntry, IsPieceEntry}
 use Rattle.rm_ledger.specs.Ledger.{Ledger}
-use Rattle.rm_objects.specs.Names.{log_name, piece_name}
-use Rattle.rm_repository.specs.Changes.{with_log, with_piece, without_log, without_piece}
+use Rattle.rm_repository.specs.Changes.{with_log, with_piece, without_log}
 use Rattle.rm_repository.specs.Facts.{IsRepository, IsSaved}
 use Rattle.rm_repository.specs.Fitting.{LacksId}
 use Rattle.rm_repository.specs.Repository.{Repository, Saved}
 use Rattle.rm_repository.proofs.Fitted.{log_fits, no_log_fits, no_piece_fits, piece_fits}
 use Rattle.rm_repository.proofs.Ones.{contains-with, contains-without}
 use Rattle.rm_machine.specs.Effect.{Made}
-use Rattle.rm_machine.specs.Machine.{HasLogArtefact, HasPieceArtefact, HistoryFits, IsBorneOut}
-use Rattle.rm_machine.specs.Names.{IsObjectName}
+use Rattle.rm_machine.specs.Machine.{HasLogArtefact, HasPieceArtefact, IsBorneOut}
 use Rattle.rm_machine.specs.Sound.{IsSound}
 use Rattle.rm_machine.specs.declared.state.State.{State}
 use Rattle.rm_machine.specs.State.{ledger}
-use Rattle.rm_machine.specs.Upkeep.{log_at, log_changed, piece_at, piece_changed, with_catalog, without_record}
+use Rattle.rm_machine.specs.Upkeep.{log_changed, piece_changed, with_catalog, without_record}
 use Rattle.rm_machine.proofs.Kept.{kept-on, stand-same}
 
 -- the catalog with other records of logs and pieces

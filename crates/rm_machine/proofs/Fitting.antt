@@ -1,5 +1,5 @@
 -- What is in place fits the records: each is valid, and of an incarnation that is there.
-use Rattle.std.proofs.Common.{◌≡◌, ◌<◌, ◌≤◌, ◌∙◌, ℕ, List, Some, false, refl, sym, subst, arith, All, AllPairs, Contains, length, get_or, slice_get}
+use Rattle.std.proofs.Common.{◌≡◌, ◌<◌, ◌≤◌, ℕ, List, Some, false, refl, sym, subst, arith, All, AllPairs, length, get_or, slice_get}
 use Rattle.std.specs.List.{filter_map}
 use Rattle.std.proofs.lemmas.List.Elements.{All-contains}
 use Rattle.std.proofs.lemmas.Option.{slice_get-get_or, slice_get_within}
@@ -11,13 +11,10 @@ use Rattle.rm_evidence.specs.Gathered.{placed_piece}
 use Rattle.rm_evidence.specs.Known.{FitsLog, FitsPiece}
 use Rattle.rm_evidence.specs.Place.{FitsPlace}
 use Rattle.rm_history.specs.declared.world.Datafile.{Datafile}
-use Rattle.rm_history.specs.Tree.{IsThere}
 use Rattle.rm_history.proofs.Highs.{high-above, high-least}
 use Rattle.rm_ledger.specs.Facts.{IsCreated}
 use Rattle.rm_ledger.proofs.Lookups.{item-at}
-use Rattle.rm_piece.specs.declared.piece.Piece.{Piece}
 use Rattle.rm_piece.specs.Valid.{IsBefore, IsRow}
-use Rattle.rm_redo.specs.declared.log_file.LogFile.{LogFile}
 use Rattle.rm_repository.specs.Repository.{records_of}
 use Rattle.rm_machine.specs.Recovery.{in_place}
 use Rattle.rm_machine.specs.Sound.{IsPlaced, IsPlacedRow, IsSound}

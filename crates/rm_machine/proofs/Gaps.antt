@@ -1,5 +1,5 @@
 -- Behind the gap that a recovery tells stand two histories, and where there is one nothing comes back.
-use Rattle.std.proofs.Common.{ℕ, Some, subst}
+use Rattle.std.proofs.Common.{ℕ, subst}
 use Rattle.rm_base.specs.Store.{Held}
 use Rattle.rm_apply.specs.declared.recovering.Recovered.{Recovered}
 use Rattle.rm_apply.proofs.Deciding.{not-both}

@@ -12,9 +12,10 @@ use Rattle.rm_machine.specs.Machine.{Machine, IsSoundBy, IsBorneOut, DigestsTell
 use Rattle.rm_machine.specs.Sound.{IsSound}
 use Rattle.rm_machine.specs.declared.state.State.{State}
 use Rattle.rm_machine.specs.State.{ledger, at_moment}
-use Rattle.rm_machine.specs.Step.{IsStatement, IsDone, IsOutcomeBy, Means, names_in, refusal_of}
+use Rattle.rm_machine.specs.Step.{IsStatement, IsDone, IsOutcomeBy, Means, and_drops, names_in, refusal_of}
+use Rattle.rm_machine.proofs.Dropping.{leaves-first, left_by, stand-beyond}
 use Rattle.rm_machine.proofs.Kept.{stand-same}
-use Rattle.rm_machine.proofs.Later.{borne-later, sound-later}
+use Rattle.rm_machine.proofs.Later.{borne-beside, borne-later, sound-later}
 
 -- what was done was not refused
 pub done-by : (r : Option Refusal) (s : State) (held : Held) (c : Command) (said : List Line) (e : Effect) (t : State)
@@ -55,9 +56,13 @@ leads c law m s moment said e t after well is sound tell at goes effect =
     let tells : DigestsTellFor m.objects m.made m.touched (ledger begun) = record { logs = told.logs; pieces = told.pieces } in
     let both = done-by (refusal_of begun c) begun m.objects c said e t goes in
     let n : Machine = record { state = Some t; history = m.history ++ e.changes; objects = after; made = m.made ++ e.made; touched = names_in c ++ m.touched } in
-    let on = shown c (Some begun) m.history said e t (IsBorneOut t n.history n.objects n.made n.touched) (law begun m.history m.objects m.made m.touched said e t after well stands tells both.0 both.1 effect) in
+    let first : Held = left_by s e m.objects after effect in
+    let on = shown c (Some begun) m.history said e t (IsBorneOut t n.history first n.made n.touched)
+    (law begun m.history m.objects m.made m.touched said e t first well stands tells both.0 both.1 (leaves-first s e m.objects after effect)) in
+    let borne = borne-beside t n.history first after n.made n.touched n.touched on.0 (stand-beyond s e m.objects after effect n.touched (ledger t)) in
+    let leaves : LeavesObjects (and_drops m.state e) m.objects after = subst (λ o. LeavesObjects (and_drops o e) m.objects after) (sym is) effect in
     let means : Means m.state m.history c (done said e t) = subst (λ o. Means o m.history c (done said e t)) (sym is) (means-later c s moment m.history (done said e t) on.1) in
-    (n, (refl, record { state = refl; history = refl; objects = effect; made = refl; touched = refl }, means), refl, on.0)
+    (n, (refl, record { state = refl; history = refl; objects = leaves; made = refl; touched = refl }, means), refl, borne)
 
 -- what tells was not refused
 told-by : (r : Option Refusal) (s : State) (held : Held) (c : Command) (lines : List Line) → IsOutcomeBy r s held c (told lines) → (r ≡ None) × IsDone s held c (told lines)

@@ -14,6 +14,7 @@ pub mod Creating
 pub mod Current
 pub mod Deleting
 pub mod Drilling
+pub mod Dropping
 pub mod Entries
 pub mod Exchanging
 pub mod Fitting

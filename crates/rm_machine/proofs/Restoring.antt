@@ -1,5 +1,5 @@
 -- RESTORE leads on: each datafile comes to stand in place as a backup has it, or as it was created.
-use Rattle.std.proofs.Common.{◌≡◌, ◌≢◌, ◌<◌, ◌≤◌, ◌+◌, ◌-◌, ◌∙◌, ◌++◌, ◌⊎◌, inl, inr, ℕ, List, Option, Some, None, false, refl, ap, sym, subst, arith, slice_get, Contains}
+use Rattle.std.proofs.Common.{◌≡◌, ◌≢◌, ◌<◌, ◌≤◌, ◌+◌, ◌-◌, ◌∙◌, ◌++◌, inl, inr, ℕ, List, Option, Some, None, false, refl, ap, sym, subst, arith, slice_get, Contains}
 use Rattle.std.specs.Option.{option_and_then}
 use Rattle.std.proofs.lemmas.List.Elements.{All-contains, All-weaker}
 use Rattle.rm_base.specs.Store.{Held}
@@ -9,7 +9,7 @@ use Rattle.rm_base.specs.declared.kinds.Kind.{Kind}
 use Rattle.rm_base.specs.declared.kinds.Kind.TheVariants.{Full, Level0, Level1, Place}
 use Rattle.rm_base.proofs.Lists.{map_from}
 use Rattle.rm_base.proofs.Slots.{all-get}
-use Rattle.rm_blocks.specs.File.{File, base_of, created, created_rows}
+use Rattle.rm_blocks.specs.File.{File, created, created_rows}
 use Rattle.rm_blocks.proofs.Rows.{created-row, in_order-created, length-created}
 use Rattle.rm_catalog.specs.Objects.{FitsRows}
 use Rattle.rm_apply.specs.declared.origin.Origin.{Origin}
@@ -23,7 +23,6 @@ use Rattle.rm_evidence.specs.Known.{FitsPiece, FitsTree, IsRecorded}
 use Rattle.rm_history.specs.declared.tree.Incarnation.{Incarnation}
 use Rattle.rm_history.specs.declared.world.Datafile.{Datafile}
 use Rattle.rm_history.specs.declared.world.World.{World}
-use Rattle.rm_history.specs.Agrees.{BaseAgrees}
 use Rattle.rm_history.specs.Artefacts.{high_of}
 use Rattle.rm_history.specs.Tree.{IsThere, end_of}
 use Rattle.rm_history.specs.World.{file_of}

@@ -1,5 +1,5 @@
 -- Valid records in order, as a list.
-use Rattle.std.proofs.Common.{◌≡◌, List, Result}
+use Rattle.std.proofs.Common.{List, Result}
 use Rattle.std.proofs.lemmas.List.Sorted.{IsPermutation-refl}
 use Rattle.rm_catalog.specs.declared.catalog.CatalogFault.{CatalogFault}
 use Rattle.rm_catalog.specs.declared.record.Record.{Record}

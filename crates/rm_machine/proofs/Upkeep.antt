@@ -14,7 +14,7 @@ use Rattle.rm_machine.specs.Effect.{Effect, LeavesObjects, Made, done, no_effect
 use Rattle.rm_machine.specs.Machine.{IsBorneOut}
 use Rattle.rm_machine.specs.Sound.{IsSound}
 use Rattle.rm_machine.specs.declared.state.State.{State}
-use Rattle.rm_machine.specs.Upkeep.{changed_to, log_changed, piece_changed, with_catalog, with_keep, with_status, with_statuses, without_all, without_record}
+use Rattle.rm_machine.specs.Upkeep.{changed_to, log_changed, with_catalog, with_keep, with_status, with_statuses, without_all, without_record}
 use Rattle.rm_machine.proofs.Entries.{GoesOn, log-on, piece-on, then-on, without-on}
 use Rattle.rm_machine.proofs.Leading.{LeadsOnBy, StaysBy}
 use Rattle.rm_machine.proofs.Quiet.{quiet-on, quiet-stays}

@@ -11,7 +11,7 @@ use Rattle.rm_machine.specs.Machine.{Machine, IsSoundMachine, DigestsTell}
 use Rattle.rm_machine.specs.Sound.{IsSound}
 use Rattle.rm_machine.specs.declared.state.State.{State}
 use Rattle.rm_machine.specs.State.{ledger, at_moment}
-use Rattle.rm_machine.specs.Step.{IsStatement, IsOutcome, StepBy}
+use Rattle.rm_machine.specs.Step.{IsStatement, IsOutcome, StepBy, and_drops}
 
 -- the moment is one of a statement: none that was kept is later, and it is not past the last
 pub record IsMomentOf (s : State) (moment : ℕ) : Type 0 where
@@ -23,7 +23,7 @@ abbrev pub LeadsOn : Command → Type 0
 LeadsOn c =
     (m : Machine) (s : State) (moment : ℕ) (lines : List Line) (effect : Effect) (t : State) (after : Held)
     → IsStatement c → m.state ≡ Some s → IsSoundMachine m → DigestsTell m → IsMomentOf s moment
-    → IsOutcome (at_moment s moment) m.objects c (done lines effect t) → LeavesObjects effect m.objects after
+    → IsOutcome (at_moment s moment) m.objects c (done lines effect t) → LeavesObjects (and_drops (Some s) effect) m.objects after
     → (n : Machine) × StepBy m c (done lines effect t) (said lines) n × (n.objects ≡ after) × IsSoundMachine n
 
 -- Where digests tell, what a statement tells is a step of the machine, from a sound one to itself.

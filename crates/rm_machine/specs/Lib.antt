@@ -10,6 +10,7 @@ pub mod Hands
 pub mod Laws
 pub mod ListIncarnation
 pub mod Lists
+pub mod Loading
 pub mod LoseDatafile
 pub mod LoseLog
 pub mod Machine
@@ -22,7 +23,10 @@ pub mod Recover
 pub mod RecoverTest
 pub mod Recovery
 pub mod ResetDatabase
+pub mod Rest
 pub mod Restore
+pub mod Saved
+pub mod Saving
 pub mod Shown
 pub mod Sound
 pub mod State

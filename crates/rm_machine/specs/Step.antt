@@ -30,6 +30,7 @@ use Rattle.rm_machine.specs.Recover.{BringsTruly, IsRecoverOutcome, recover_refu
 use Rattle.rm_machine.specs.RecoverTest.{IsTestOutcome, TellsTruly, test_refusal}
 use Rattle.rm_machine.specs.ResetDatabase.{reset_refusal, IsResetOutcome}
 use Rattle.rm_machine.specs.Restore.{preview_refusal, restore_refusal, IsPreviewOutcome, IsRestoreOutcome}
+use Rattle.rm_machine.specs.Saved.{saved_names}
 use Rattle.rm_machine.specs.Shown.{IsSchemaOutcome, IsShowOutcome}
 use Rattle.rm_machine.specs.declared.state.State.{State}
 use Rattle.rm_machine.specs.State.{at_moment}
@@ -139,11 +140,16 @@ Means (Some s) h (Recover until) (done lines effect t) = BringsTruly h s until t
 Means (Some s) h (RecoverTest until inc) (told lines) = TellsTruly h s until inc lines
 Means _ h _ _ = Unit {0}
 
+-- What a statement does outside: its effect. The objects of a saved site go too, of which no record tells any longer.
+abbrev pub and_drops : Option State → Effect → Effect
+and_drops None effect = effect
+and_drops (Some s) effect = record effect { removes = effect.removes ++ saved_names s.catalog.saved }
+
 -- the machine went on by this effect to the state t
 pub record MachineFollows (m : Machine) (c : Command) (effect : Effect) (t : State) (n : Machine) : Type 0 where
   pub state : n.state ≡ Some t
   pub history : n.history ≡ m.history ++ effect.changes
-  pub objects : LeavesObjects effect m.objects n.objects
+  pub objects : LeavesObjects (and_drops m.state effect) m.objects n.objects
   pub made : n.made ≡ m.made ++ effect.made
   pub touched : n.touched ≡ names_in c ++ m.touched
 

