@@ -1,5 +1,5 @@
 -- What a stop leaves, wherever it came.
-use Rattle.std.proofs.Common.{◌≡◌, ◌∙◌, ◌++◌, ◌⊎◌, inl, inr, ℕ, List, Option, Some, None, IfSome, true, refl, ap, sym, subst, Contains}
+use Rattle.std.proofs.Common.{◌≡◌, ◌∙◌, ◌++◌, ◌⊎◌, inl, inr, ℕ, List, Option, Some, None, IsSomeAnd, true, refl, ap, sym, subst, Contains}
 use Rattle.std.proofs.lemmas.Bool.{cases_Bool}
 use Rattle.std.proofs.lemmas.List.Elements.{Contains-append_left, Contains-append_right}
 use Rattle.rm_base.specs.Store.{Held}
@@ -51,7 +51,7 @@ stand-left given s before after touched same name bytes names again (inr is) = e
 
 -- the parts of a saved site go on to have their artefacts
 parts-left : (given : List (List ℕ)) (saved : Option Saved) (before after : Held) (made : List Made) (touched : List (List ℕ))
-    → ((p : PartEntry) → IfSome saved (λ site. Contains site.parts p) → Contains given (site_name p.id) ⊎ (after (site_name p.id) ≡ before (site_name p.id)))
+    → ((p : PartEntry) → IsSomeAnd saved (λ site. Contains site.parts p) → Contains given (site_name p.id) ⊎ (after (site_name p.id) ≡ before (site_name p.id)))
     → HaveParts before made touched saved → HaveParts after made (given ++ touched) saved
 parts-left given None before after made touched same have = tt
 parts-left given (Some site) before after made touched same have = λ p has.
@@ -96,7 +96,7 @@ is-left given n objects same = record { catalog = refl; history = refl; made = r
 -- the name of a log or a piece is none of a part
 no-part : (t : State) (name : List ℕ) → t.catalog.saved ≡ None → IsNamedBy t name → IsNoSite name
 no-part t _ none (of_object name names) = no-site (ledger t) name names
-no-part t _ none (of_part p has) = absurd (subst (λ o. IfSome o (λ site. Contains site.parts p)) none has)
+no-part t _ none (of_part p has) = absurd (subst (λ o. IsSomeAnd o (λ site. Contains site.parts p)) none has)
 
 -- so it goes by the effect alone
 named-first : (o : Option State) (e : Effect) (name : List ℕ) → IsNoSite name → is_named itself (and_drops o e).removes name ≡ true → is_named itself e.removes name ≡ true

@@ -3,14 +3,11 @@ use Rattle.std.proofs.Common.{◌≡◌, ◌∙◌, ◌||◌, inl, inr, ℕ, Lis
 use Rattle.std.specs.Str.{bytes_eq}
 use Rattle.std.proofs.lemmas.Bool.{cases_Bool, false≢true}
 use Rattle.std.proofs.lemmas.List.Elements.{Contains-append_left}
-use Rattle.rm_base.specs.Store.{Held}
 use Rattle.rm_base.proofs.Members.{behind, in-front}
 use Rattle.rm_change.proofs.Named.{same-name}
 use Rattle.rm_statement.specs.declared.command.Command.TheVariants.{Cut, Damage, Remove, Rename}
 use Rattle.rm_objects.specs.Names.{site_name}
-use Rattle.rm_report.specs.declared.line.Line.{Line}
 use Rattle.rm_machine.specs.Drills.{removal, renaming, replacement}
-use Rattle.rm_machine.specs.Effect.{Effect}
 use Rattle.rm_machine.specs.declared.state.State.{State}
 use Rattle.rm_machine.specs.Step.{refusal_of}
 use Rattle.rm_machine.proofs.Drilling.{cut-by, damaged-by, removed-by, renamed-by}

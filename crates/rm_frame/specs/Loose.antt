@@ -1,5 +1,5 @@
 -- Names of records are touched by no statement but one of HOST that gives them.
-use Rattle.std.specs.Prelude.{ℕ, ◌≡◌, true, IfSome, Option, Some, None, List, Contains}
+use Rattle.std.specs.Prelude.{ℕ, ◌≡◌, true, IsSomeAnd, Option, Some, None, List, Contains}
 use Rattle.rm_base.specs.Store.{Held}
 use Rattle.rm_catalog.specs.declared.record.PartEntry.{PartEntry}
 use Rattle.rm_change.specs.Names.{is_named, itself, name_of}
@@ -16,7 +16,7 @@ use Rattle.rm_machine.specs.Step.{IsOutcome, names_in}
 -- the object of one of the records has this name: of a log, of a piece, or of a part of a saved site
 pub data IsNamedBy (s : State) : List ℕ → Type 0 where
   of_object : (name : List ℕ) → IsObjectName (ledger s) name → IsNamedBy s name
-  of_part : (p : PartEntry) → IfSome s.catalog.saved (λ site. Contains site.parts p) → IsNamedBy s (site_name p.id)
+  of_part : (p : PartEntry) → IsSomeAnd s.catalog.saved (λ site. Contains site.parts p) → IsNamedBy s (site_name p.id)
 
 -- the same, where there is a database
 abbrev pub IsNamedIn : Option State → List ℕ → Type 0
