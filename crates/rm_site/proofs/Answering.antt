@@ -1,6 +1,7 @@
 -- How a statement is answered where there is a database, and over the site.
-use Rattle.std.proofs.Common.{◌≡◌, ◌∙◌, ℕ, Bool, List, [], Option, Some, None, true, ap, sym, subst}
+use Rattle.std.proofs.Common.{◌≡◌, ◌∙◌, ◌++◌, ◌&&◌, ◌||◌, not, ℕ, Bool, List, [], Option, Some, None, true, ap, sym, subst}
 use Rattle.std.specs.Prelude.{Result, Ok, Err, OnErr}
+use Rattle.std.proofs.Math.Bool.{or-false}
 use Rattle.rm_base.specs.Store.{Held}
 use Rattle.rm_base.specs.declared.refusal.Refusal.{Refusal}
 use Rattle.rm_catalog.specs.Edits.{after_edits}
@@ -17,20 +18,24 @@ use Rattle.rm_repository.specs.Facts.{IsRepository}
 use Rattle.rm_repository.specs.Repository.{Repository, Saved, records_of}
 use Rattle.rm_repository.specs.Starting.{with_earlier}
 use Rattle.rm_machine.specs.Effect.{done, refused, told}
+use Rattle.rm_machine.specs.Laws.{only_tells}
 use Rattle.rm_machine.specs.Sound.{IsSound}
 use Rattle.rm_machine.specs.declared.handed.Handed.{Handed}
 use Rattle.rm_machine.specs.declared.state.State.{State}
 use Rattle.rm_machine.specs.State.{at_moment, ledger}
 use Rattle.rm_machine.specs.Step.{IsOutcome, IsOutcomeBy, IsStatement, Step, refusal_of}
+use Rattle.rm_machine.specs.Saved.{saved_names}
 use Rattle.rm_machine.proofs.Later.{sound-later}
+use Rattle.rm_machine.proofs.Leading.{stays}
 use Rattle.rm_frame.specs.Carries.{IsHanded, IsOutcomeIn}
 use Rattle.rm_frame.specs.Holds.{View, records_in}
 use Rattle.rm_frame.specs.Moments.{IsMomentIn, moment_of}
 use Rattle.rm_frame.specs.Refused.{AnsweredBy, refusal_in}
+use Rattle.rm_frame.specs.Saves.{applies}
 use Rattle.rm_frame.specs.Steps.{IsStepAt, Steps, StepsAt}
 use Rattle.rm_frame.specs.Stopped.{IsStopAt, Stopped, Stops, StopsAt}
 use Rattle.rm_frame.proofs.Carried.{carried-on, refused-step, told-step}
-use Rattle.rm_frame.proofs.Every.{every-leads, every-loose, every-tells}
+use Rattle.rm_frame.proofs.Every.{every-leads, every-loose, every-stays, every-tells}
 use Rattle.rm_frame.proofs.Halting.{halts, nothing-done}
 use Rattle.rm_site.specs.Comes.{ComesTo, IsRefusedBy}
 use Rattle.rm_site.specs.declared.statement.Answer.{Answer}
@@ -69,14 +74,14 @@ module _ (held : Option Held) (kept : Option (List Record)) (c : Command) (momen
   unfolding IsStepAt
   is-carried before o lines x t reply held' kept' stays said_is well at handed leads =
       let on = subst (λ (h : Option Held). Leads (Carried x) h kept held' kept') stays leads in
-      subst (λ (r : Reply). StepsAt held kept o c moment r held' kept' (Some t)) (sym said_is) (carried-on c (every-leads c) held kept o moment lines x t well at handed held' kept' on)
+      subst (λ (r : Reply). StepsAt held kept o c moment r held' kept' (Some t)) (sym said_is) (carried-on c (every-leads c) (stays c (every-stays c)) held kept o moment lines x t well at handed held' kept' on)
 
   pub is-halted : {T E : Type 0} (r : Result T E) (before : Option Held) (o : Option State) (lines : List Line) (x : Change) (t : State) (held' : Option Held) (kept' : Option (List Record)) → before ≡ held
       → IsStatement c → IsMomentIn o moment → IsHanded held o c moment lines x t → Leads (Halted x) before kept held' kept' → OnErr r (IsStopAt held kept o c moment held' kept')
   unfolding IsStopAt
   is-halted r before o lines x t held' kept' stays well at handed leads =
       let on = subst (λ (h : Option Held). Leads (Halted x) h kept held' kept') stays leads in
-      on-err (StopsAt held kept o c moment held' kept') r (halts c (every-leads c) (every-loose c) held kept o moment lines x t well at handed held' kept' on)
+      on-err (StopsAt held kept o c moment held' kept') r (halts c (every-leads c) (stays c (every-stays c)) (every-loose c) held kept o moment lines x t well at handed held' kept' on)
 
   -- where nothing was done yet
   pub untouched : {T E : Type 0} (r : Result T E) (o : Option State) (held' : Option Held) → held' ≡ held → OnErr r (IsStopAt held kept o c moment held' kept)
@@ -139,16 +144,16 @@ module _ {s : State} {moment : ℕ} {r : Repository} {earlier : ℕ} {saved : Op
         (λ objects tells. subst (λ (x : State). IsOutcome x objects c (told lines)) at-moment (this.1 objects tells))
 
     -- what is done is handed out, with the edits of the moment and then its own
-    pub handed-in : (x : Handed) (none first all edits : List Edit) → a ≡ Done x → none ≡ [] → EditsFollow none first s.catalog r → EditsFollow first all r t.catalog → edits ≡ all
-        → IsHanded held (Some s) c moment x.lines (record { objects = x.objects; edits = edits; removes = x.removes }) t
-    handed-in x none first all edits is empty one two same =
+    pub handed-in : (x : Handed) (none first all edits : List Edit) (names : List (List ℕ)) → a ≡ Done x → none ≡ [] → EditsFollow none first s.catalog r → EditsFollow first all r t.catalog → edits ≡ all
+        → names ≡ x.removes ++ saved_names saved → IsHanded held (Some s) c moment x.lines (record { objects = x.objects; edits = edits; removes = names }) t
+    handed-in x none first all edits names is empty one two same gone =
         let this = subst (λ (y : State). ComesTo held y c (Done x) t) at-moment (subst (λ (y : Answer). ComesTo held b c y t) is comes) in
         let lead = two.lead (records_of s.catalog) (one.lead (records_of s.catalog) (ap (λ (es : List Edit). after_edits es (records_of s.catalog)) empty)) in
         record {
           effect = this.1.effect;
           comes = λ objects tells. subst (λ o. IsOutcomeBy o (at_moment s moment) objects c (done x.lines this.1.effect t)) (sym this.0) (this.1.comes objects tells);
           puts = this.1.puts;
-          removes = this.1.removes;
+          removes = gone ∙ ap (λ xs. xs ++ saved_names saved) this.1.removes ∙ ap (λ (o : Option Saved). this.1.effect.removes ++ saved_names o) begins.saved_is;
           edits = ap (λ (es : List Edit). after_edits es (records_in (Some s))) same ∙ lead;
         }
 
@@ -159,14 +164,22 @@ module _ {s : State} {moment : ℕ} {r : Repository} {earlier : ℕ} {saved : Op
         (subst (λ (y : State). IsRefusedBy (refusal_of y c) c (Refused q)) at-moment (subst (λ (x : Answer). IsRefusedBy (refusal_of b c) c x) is by)) said_is
         (ap Some (back-again t u (quiet-refused q is) back))
 
+-- what is refused applies nothing
+unapplied : (a : Bool) (c : Command) (reply : Reply) → reply.refused ≡ true → (a || applies c reply) ≡ a
+unapplied a c reply said_no = ap (λ (b : Bool). a || (not b && not (only_tells c))) said_no ∙ or-false a
+
 -- and over the site, which shows v; its database is o
 
 module _ (o : Option State) (v : View) (c : Command) (clock moment : ℕ) (from : o ≡ v.state) (is : moment ≡ moment_of o clock) where
+  -- what it shows afterwards
+  abbrev after : Option State → Reply → View
+  after p reply = record { state = p; live = true; applied = v.applied || applies c reply }
+
   same-moment : (p : Option State) → p ≡ v.state → moment ≡ moment_of p clock
   same-moment p stands = is ∙ ap (λ (x : Option State). moment_of x clock) (from ∙ sym stands)
 
   pub steps-of : (held held' : Option Held) (kept kept' : Option (List Record)) (reply : Reply) (p : Option State) → IsStepAt held kept o c moment reply held' kept' p
-      → Steps held kept v c clock reply held' kept' (record { state = p; live = true })
+      → Steps held kept v c clock reply held' kept' (after p reply)
   unfolding IsStepAt
   steps-of held held' kept kept' reply p step m stands holds tell =
       let on = step m (stands ∙ sym from) holds tell in
@@ -179,15 +192,18 @@ module _ (o : Option State) (v : View) (c : Command) (clock moment : ℕ) (from 
       let on = stop m (stands ∙ sym from) holds tell in
       (on.0, subst (λ n. Stopped m c n on.0) (same-moment m.state stands) on.1, on.2)
 
-  shown : (p : Option State) → v.live ≡ true → p ≡ o → record { state = p; live = true } ≡ v
-  shown p live same = ap (λ (x : Option State). record { state = x; live = true }) (same ∙ from) ∙ ap (λ (b : Bool). record { state = v.state; live = b }) (sym live)
+  shown : (reply : Reply) (p : Option State) → v.live ≡ true → reply.refused ≡ true → p ≡ o → after p reply ≡ v
+  shown reply p live said_no same =
+      ap (λ (x : Option State). after x reply) (same ∙ from)
+      ∙ ap (λ (b : Bool). record { state = v.state; live = b; applied = v.applied || applies c reply }) (sym live)
+      ∙ ap (λ (b : Bool). record { state = v.state; live = v.live; applied = b }) (unapplied v.applied c reply said_no)
 
-  answered-by-view : (r : Option Refusal) (reply : Reply) (p : Option State) → v.live ≡ true → AnsweredBy r c reply o p → AnsweredBy r c reply v (record { state = p; live = true })
-  answered-by-view (Some q) reply p live by = (by.0, shown p live by.1)
-  answered-by-view None reply p live by = record { objects = by.objects; same = λ said_no. shown p live (by.same said_no) }
+  answered-by-view : (r : Option Refusal) (reply : Reply) (p : Option State) → v.live ≡ true → AnsweredBy r c reply o p → AnsweredBy r c reply v (after p reply)
+  answered-by-view (Some q) reply p live by = (by.0, shown reply p live (ap (λ (x : Reply). x.refused) by.0) by.1)
+  answered-by-view None reply p live by = record { objects = by.objects; same = λ said_no. shown reply p live said_no (by.same said_no) }
 
   pub answered-of : (reply : Reply) (p : Option State) → v.live ≡ true → AnsweredBy (refusal_in o c moment) c reply o p
-      → AnsweredBy (refusal_in v.state c (moment_of v.state clock)) c reply v (record { state = p; live = true })
+      → AnsweredBy (refusal_in v.state c (moment_of v.state clock)) c reply v (after p reply)
   answered-of reply p live by =
-      subst (λ (r : Option Refusal). AnsweredBy r c reply v (record { state = p; live = true })) (ap (refusal_in o c) is ∙ ap (λ (x : Option State). refusal_in x c (moment_of x clock)) from)
+      subst (λ (r : Option Refusal). AnsweredBy r c reply v (after p reply)) (ap (refusal_in o c) is ∙ ap (λ (x : Option State). refusal_in x c (moment_of x clock)) from)
       (answered-by-view (refusal_in o c moment) reply p live by)

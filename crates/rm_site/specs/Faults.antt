@@ -1,5 +1,8 @@
 -- Which fault a failed call makes of the opening of a site, and which stop of a statement.
-use Rattle.std.specs.Prelude.{◌≡◌, List, []}
+use Rattle.std.specs.Prelude.{List}
+use Rattle.rm_catalog.specs.declared.catalog.CatalogFault.{CatalogFault}
+use Rattle.rm_catalog.specs.declared.catalog.CatalogFault.TheVariants as catalog
+use Rattle.rm_catalog.specs.Faults.{IsBadRow}
 use Rattle.rm_catalog.specs.declared.keeper.KeeperFail.{KeeperFail}
 use Rattle.rm_catalog.specs.declared.keeper.KeeperFail.TheVariants as keeper
 use Rattle.rm_catalog.specs.declared.record.Record.{Record}
@@ -9,19 +12,31 @@ use Rattle.rm_evidence.specs.declared.gathering.EvidenceFault.{EvidenceFault}
 use Rattle.rm_evidence.specs.declared.gathering.EvidenceFault.TheVariants as evidence
 use Rattle.rm_verify.specs.declared.fault.VerifyFault.{VerifyFault}
 use Rattle.rm_verify.specs.declared.fault.VerifyFault.TheVariants as verify
+use Rattle.rm_session.specs.declared.fault.SessionFault.{SessionFault}
+use Rattle.rm_session.specs.declared.fault.SessionFault.TheVariants as session
 use Rattle.rm_site.specs.declared.open.OpenFault.{OpenFault}
 use Rattle.rm_site.specs.declared.open.OpenFault.TheVariants.{BadRow, StoreFault, KeeperFault, NoMemory}
-use Rattle.rm_site.specs.Opens.{IsFirst}
+use Rattle.rm_site.specs.Opens.{AreValid}
 
 -- a fault of the keeper, or no memory
 abbrev pub fault_of : KeeperFail → OpenFault
 fault_of keeper.Failed = KeeperFault
 fault_of keeper.NoMemory = NoMemory
 
--- where a record is told, it is the first of these; the store fails only where there is none
+-- a record that breaks a rule, or no memory
+abbrev pub fault_at : CatalogFault → OpenFault
+fault_at (catalog.BadRow kind id) = BadRow kind id
+fault_at catalog.NoMemory = NoMemory
+
+-- a fault of the store in loading, or no memory
+abbrev pub fault_in : SessionFault → OpenFault
+fault_in session.StoreFault = StoreFault
+fault_in session.NoMemory = NoMemory
+
+-- where a record is told, it is the first of these, in order, that breaks a rule; the store fails only where there is none
 abbrev pub IsBadFirst : OpenFault → List Record → Type 0
-IsBadFirst (BadRow kind id) rs = IsFirst rs (record { kind = kind; id = id })
-IsBadFirst StoreFault rs = rs ≡ []
+IsBadFirst (BadRow kind id) rs = IsBadRow rs (catalog.BadRow kind id)
+IsBadFirst StoreFault rs = AreValid rs
 IsBadFirst KeeperFault rs = Unit {0}
 IsBadFirst NoMemory rs = Unit {0}
 

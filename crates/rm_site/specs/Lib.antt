@@ -1,3 +1,4 @@
 pub mod Comes
 pub mod Faults
 pub mod Opens
+pub mod Saved

@@ -1,22 +1,17 @@
 -- What opening a site answers.
-use Rattle.std.specs.Prelude.{◌≡◌, ◌<◌, ◌≤◌, ◌⊎◌, Option, Some, List, [], Contains}
+use Rattle.std.specs.Prelude.{Option, List}
 use Rattle.rm_base.specs.Store.{Held}
-use Rattle.rm_catalog.specs.declared.record.Key.{Key}
 use Rattle.rm_catalog.specs.declared.record.Record.{Record}
-use Rattle.rm_catalog.specs.Keys.{key_of}
-use Rattle.rm_frame.specs.Holds.{Holds, Stands, View, nothing}
+use Rattle.rm_catalog.specs.Rules.{IsOrderOf, IsValid}
+use Rattle.rm_machine.specs.Machine.{Machine}
+use Rattle.rm_machine.specs.Rest.{PartsTell, Rest, Wakes}
+use Rattle.rm_frame.specs.Holds.{Holds, HoldsRest, Stands, View}
 
--- a key comes before another, by kind and then by id, or is the same
-abbrev pub IsUpTo : Key → Key → Type 0
-IsUpTo a b = (a.kind < b.kind) ⊎ ((a.kind ≡ b.kind) × (a.id ≤ b.id))
+-- the records are valid, in order
+abbrev pub AreValid : List Record → Type 0
+AreValid rs = (s : List Record) × IsOrderOf s rs × IsValid s
 
--- the first of the records, by kind and then by id, has this key
-pub record IsFirst (rs : List Record) (key : Key) : Type 0 where
-  pub first : Record
-  pub is : Contains rs first
-  pub key_is : key_of first ≡ key
-  pub least : (r : Record) → Contains rs r → IsUpTo key (key_of r)
-
--- over a keeper without records the site stands for the machine before its first statement
+-- Whatever database at rest the store and the keeper hold: where digests tell of its saved site it wakes, and the site stands
+-- for the machine.
 abbrev pub Opens : Option Held → Option (List Record) → View → Type 0
-Opens held kept v = (objects : Held) → held ≡ Some objects → kept ≡ Some [] → Stands v (nothing objects) × Holds held kept (nothing objects)
+Opens held kept v = (r : Rest) → HoldsRest held kept r → PartsTell r → (m : Machine) × Wakes r m × Stands v m × Holds held kept m

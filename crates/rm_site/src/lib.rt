@@ -9,6 +9,7 @@ mod moment;
 pub mod open;
 mod recovering;
 mod refusing;
+mod save;
 pub mod site;
 mod statement;
 mod step;

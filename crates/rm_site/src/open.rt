@@ -1,18 +1,20 @@
 //! A site is opened over a store and a keeper.
-ghost use Rattle.std.specs.Prelude.{◌≡◌, ◌≤◌, ◌⊎◌, true, [], IfOk, IfErr, IfNone, IfSome, IsErrOf};
+ghost use Rattle.std.specs.Prelude.{◌≡◌, ◌≤◌, true, false, IfOk, IfErr, IfSome, IsErrOf};
 ghost use Rattle.rm_base.specs.Outside.{Rose};
 ghost use Rattle.rm_site.specs.Faults.{IsBadFirst};
-ghost use Rattle.rm_site.specs.Opens.{IsFirst, IsUpTo, Opens};
+ghost use Rattle.rm_site.specs.Opens.{AreValid, Opens};
 
 use crate::site::Site;
-use rm_base::Store;
-use rm_catalog::{Keeper, KeeperFail, Key, Record};
+use rm_base::{NoMemory, Store};
+use rm_catalog::{CatalogFault, Keeper, KeeperFail};
+use rm_repository::Catalog;
+use rm_session::{SessionFault, load_place};
 use std::alloc::Global;
 
 /// Why a site could not be opened.
 #[derive(Clone, Copy, Debug, PartialEq, Eq)]
 pub enum OpenFault {
-    /// The kind and the id of the first record. A saved site can't be opened yet.
+    /// The kind and the id of the first record, by kind and then by id, that breaks a rule.
     BadRow(u8, u32),
     /// The store failed, and counted it.
     StoreFault,
@@ -34,37 +36,35 @@ impl From<KeeperFail> for OpenFault {
     }
 }
 
-// The first of two keys, by kind and then by id.
-fn first_of(key: Key, other: Key) -> Key
-    ensures one { (result ≡ key) ⊎ (result ≡ other) }
-    ensures up_to { IsUpTo result key }
-    ensures and_to { IsUpTo result other }
-{
-    if (other.kind, other.id) < (key.kind, key.id) {
-        other
-    } else {
-        key
+impl From<CatalogFault> for OpenFault {
+    ghost use Rattle.rm_site.specs.Faults.{fault_at};
+
+    ghost from_gives = { λ fault e. e ≡ fault_at fault };
+
+    fn from(fault: CatalogFault) -> Self {
+        match fault {
+            CatalogFault::BadRow(kind, id) => OpenFault::BadRow(kind, id),
+            CatalogFault::NoMemory => OpenFault::NoMemory,
+        }
     }
 }
 
-// The key of the first record, by kind and then by id. None without any.
-fn first_key(records: &[Record]) -> Option<Key>
-    ensures none { IfNone result (records.now ≡ []) }
-    ensures some { IfSome result (IsFirst records.now) }
-{
-    let mut first: Option<Key> = None;
-    for row in records {
-        first = match first {
-            Some(key) => Some(first_of(key, row.key())),
-            None => Some(row.key()),
-        };
+impl From<SessionFault> for OpenFault {
+    ghost use Rattle.rm_site.specs.Faults.{fault_in};
+
+    ghost from_gives = { λ fault e. e ≡ fault_in fault };
+
+    fn from(fault: SessionFault) -> Self {
+        match fault {
+            SessionFault::StoreFault => OpenFault::StoreFault,
+            SessionFault::NoMemory => OpenFault::NoMemory,
+        }
     }
-    first
 }
 
 impl Site {
-    /// Opens the site over a store and a keeper. `BadRow` exactly where the keeper has a record: it tells the
-    /// first by kind and then by id, since a saved site can't be opened yet. So the store is not read.
+    /// Opens the site over a store and a keeper. Without a record there is no database yet; else what runs is loaded of the
+    /// saved site, and what was not saved is lost. `BadRow` exactly where the records are not valid.
     pub fn open<D: Store, C: Keeper>(
         alloc: Global,
         store: &mut D,
@@ -72,7 +72,8 @@ impl Site {
     ) -> Result<Site, OpenFault>
         ensures opened { IfOk result (Opens (D.held store.old) (C.kept keeper.old)) }
         ensures live { IfOk result (λ site. site.live ≡ true) }
-        ensures empty { IfOk result (λ _. IfSome (C.kept keeper.old) (λ rs. rs ≡ [])) }
+        ensures applied { IfOk result (λ site. site.applied ≡ false) }
+        ensures valid { IfOk result (λ _. IfSome (C.kept keeper.old) AreValid) }
         ensures bad { IfErr result (λ fault. IfSome (C.kept keeper.old) (IsBadFirst fault)) }
         ensures held { D.held store.new ≡ D.held store.old }
         ensures kept { C.kept keeper.new ≡ C.kept keeper.old }
@@ -82,13 +83,15 @@ impl Site {
         ensures keeper_never_falls { C.faults keeper.old ≤ C.faults keeper.new }
     {
         let records = keeper.load()?;
-        if let Some(key) = first_key(records.as_slice()) {
-            return Err(OpenFault::BadRow(key.kind, key.id));
-        }
+        let state = match Catalog::from_records(records)? {
+            Some(catalog) => Some(load_place(alloc, store, catalog)?),
+            None => None,
+        };
         Ok(Site {
             alloc,
-            state: None,
+            state,
             live: true,
+            applied: false,
         })
     }
 }

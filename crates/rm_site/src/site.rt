@@ -11,6 +11,7 @@ pub struct Site {
     pub(crate) alloc: Global,
     pub(crate) state: Option<State>,
     pub(crate) live: bool,
+    pub(crate) applied: bool,
 }
 
 impl Model for Site {
@@ -20,13 +21,13 @@ impl Model for Site {
 
     ghost Value = { View };
 
-    ghost view = { λ s. record { state = s.state; live = s.live } };
+    ghost view = { λ s. record { state = s.state; live = s.live; applied = s.applied } };
 
     ghost invariant = { λ s. IfSome s.state IsSound };
 }
 
 impl Site {
-    /// Whether a statement can be stepped: no statement was stopped.
+    /// Whether a statement can be stepped: none was stopped, and the site was not saved.
     pub fn live(&self) -> bool
         ensures { result ≡ self.now.live }
     {

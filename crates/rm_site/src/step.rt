@@ -1,14 +1,16 @@
 //! The steps of a site.
-ghost use Rattle.std.specs.Prelude.{◌≡◌, ◌≤◌, true, false, None, Some, IfOk, IfSome, IsTrue, OnOk, OnErr, IsErrOf};
+ghost use Rattle.std.specs.Prelude.{◌≡◌, ◌≤◌, ◌++◌, ◌||◌, true, false, None, Some, IfOk, IfSome, IsTrue, OnOk, OnErr, IsErrOf};
 ghost use Rattle.rm_base.specs.Outside.{Rose};
 ghost use Rattle.rm_change.specs.declared.change.Stop.TheVariants.{StoreFault, KeeperFault};
 ghost use Rattle.rm_statement.specs.IsCommand.{is_command};
 ghost use Rattle.rm_report.specs.Reply.{HasDates, said};
 ghost use Rattle.rm_machine.specs.Built.{is_built};
+ghost use Rattle.rm_machine.specs.Saved.{saved_names};
 ghost use Rattle.rm_machine.specs.Sound.{IsSound};
 ghost use Rattle.rm_machine.specs.Step.{IsStatement};
 ghost use Rattle.rm_frame.specs.Moments.{IsMomentIn, moment_of};
 ghost use Rattle.rm_frame.specs.Refused.{AnsweredBy, refusal_in};
+ghost use Rattle.rm_frame.specs.Saves.{applies};
 ghost use Rattle.rm_frame.specs.Steps.{Steps, IsStepAt};
 ghost use Rattle.rm_frame.specs.Stopped.{Stops, IsStopAt};
 
@@ -16,11 +18,13 @@ use crate::create::{first_records, lines_of, new_database, refusal_without};
 use crate::moment::moment_of;
 use crate::site::Site;
 use crate::statement::{Answer, come_to};
-use rm_base::{Moment, Seq, Store};
+use rm_base::{Moment, NoMemory, Seq, Store, Text};
 use rm_catalog::Keeper;
 use rm_change::{Change, Stop, carry_out};
 use rm_machine::{Handed, State, refusal_reply};
+use rm_objects::site_name;
 use rm_report::{Line, Reply};
+use rm_repository::Saved;
 use rm_statement::Command;
 use std::alloc::Global;
 use std::mem;
@@ -33,6 +37,39 @@ fn reply_of(lines: Seq<Line>) -> Reply
         lines,
         refused: false,
     }
+}
+
+// The names of objects that go: these, and those of a saved site.
+fn and_saved(alloc: Global, names: Seq<Text>, saved: &Option<Saved>) -> Result<Seq<Text>, NoMemory>
+    ensures { IfOk result (λ all. all ≡ names ++ saved_names saved.now) }
+{
+    let mut names = names;
+    if let Some(site) = saved {
+        for part in site.parts() {
+            names.push(site_name(alloc, part.id)?)?;
+        }
+    }
+    Ok(names)
+}
+
+// Whether a list of edits was applied for the statement: it was not refused, and does more than tell.
+fn applies(command: &Command, reply: &Reply) -> bool
+    ensures { result ≡ applies command.now reply.now }
+{
+    let only_tells = matches!(
+        command,
+        Command::RecoverTest { .. }
+            | Command::Preview { .. }
+            | Command::Dump { .. }
+            | Command::ListIncarnation
+            | Command::ListBackup
+            | Command::ListCopy
+            | Command::ListArchived
+            | Command::ReportSchema
+            | Command::ShowAll
+            | Command::ValidateAll
+    );
+    !reply.refused && !only_tells
 }
 
 // The answer to a statement where there is no database: CREATE DATABASE makes one.
@@ -113,7 +150,7 @@ fn answer_in<D: Store, C: Keeper>(
             let change = Change {
                 objects,
                 edits: Seq::from_vec(edits),
-                removes,
+                removes: and_saved(alloc, removes, &earlier.saved)?,
             };
             carry_out(store, keeper, &change)?;
             Ok(reply_of(lines))
@@ -161,12 +198,13 @@ impl Site {
     ///
     /// Each line of the reply has a text.
     ///
-    /// New objects are put first, then all records are edited at once, then objects go that no record names.
+    /// New objects are put first, then all records are edited at once, then objects go that no record names; with the first
+    /// list of a session those of its saved site.
     /// An error is a stop, after which the site is spent and has no database any more: a fault of the store
     /// or the keeper, which that object counted, or want of memory.
     ///
     /// A stop leaves the records before the statement or those after it, whole, and each object that one of
-    /// them names. Other objects may hold anything.
+    /// them names, as a database at rest, which the next session wakes. Other objects may hold anything.
     pub fn step<D: Store, C: Keeper>(
         &mut self,
         store: &mut D,
@@ -182,7 +220,8 @@ impl Site {
         ensures dates { IfOk result HasDates }
         ensures stopped { OnErr result (Stops (D.held store.old) (C.kept keeper.old) self.old command.now clock (D.held store.new) (C.kept keeper.new)) }
         ensures live { OnOk result (self.new.live ≡ true) }
-        ensures spent { OnErr result (self.new ≡ record { state = None; live = false }) }
+        ensures applied { IfOk result (λ reply. self.new.applied ≡ (self.old.applied || applies command.now reply)) }
+        ensures spent { OnErr result (self.new ≡ record { state = None; live = false; applied = self.old.applied }) }
         ensures store { IsErrOf result StoreFault → Rose (D.faults store.old) (D.faults store.new) }
         ensures keeper { IsErrOf result KeeperFault → Rose (C.faults keeper.old) (C.faults keeper.new) }
         ensures store_never_falls { D.faults store.old ≤ D.faults store.new }
@@ -193,6 +232,7 @@ impl Site {
         let moment = moment_of(&state, clock);
         let (state, reply) = answer(self.alloc, state, store, keeper, command, moment)?;
         self.state = state;
+        self.applied = self.applied || applies(command, &reply);
         self.live = true;
         Ok(reply)
     }

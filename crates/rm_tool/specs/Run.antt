@@ -1,5 +1,5 @@
 -- The machine's run over the statements of a script, and the clock's answers to them.
-use Rattle.std.specs.Prelude.{ℕ, suc, ◌≡◌, Option, Some, None, IfSome, List, [], ◌∷◌, take}
+use Rattle.std.specs.Prelude.{ℕ, suc, ◌≡◌, ◌||◌, Bool, false, Option, Some, None, IfSome, List, [], ◌∷◌, take}
 use Rattle.std.specs.List.{flat_map}
 use Rattle.std.specs.Option.{option_map_or}
 use Rattle.rm_base.specs.Store.{Answers}
@@ -13,6 +13,7 @@ use Rattle.rm_report.specs.Text.{reply_text}
 use Rattle.rm_machine.specs.Machine.{Machine, DigestsTell}
 use Rattle.rm_machine.specs.Step.{Step, names_in}
 use Rattle.rm_frame.specs.Moments.{moment_of}
+use Rattle.rm_frame.specs.Saves.{applies}
 
 -- A statement of this line, where the clock answers so: one that is not of the grammar, or not built, is refused
 -- and changes nothing, and each other one is a step of the machine at its moment.
@@ -51,6 +52,12 @@ GiveNoName (s ∷ ss) = (option_map_or names_in (command_at s.1) [] ≡ []) × G
 -- machine at its end.
 abbrev pub RunsWhereTold : Machine → Answers → List (ℕ × List Token) → List Reply → (Machine → Type 0) → Type 0
 RunsWhereTold first answers ss replies Is = DigestsTellAlong first answers ss replies → (last : Machine) × Run first answers ss replies last × Is last
+
+-- a list of edits was applied for one of these statements
+abbrev pub has_applied : List (ℕ × List Token) → List Reply → Bool
+has_applied [] rs = false
+has_applied (s ∷ ss) [] = false
+has_applied (s ∷ ss) (r ∷ rs) = option_map_or (λ c. applies c r) (command_at s.1) false || has_applied ss rs
 
 -- the answers behind those that these statements use
 abbrev pub behind : List (ℕ × List Token) → Answers → Answers

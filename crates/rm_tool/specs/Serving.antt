@@ -1,6 +1,7 @@
 -- What serving the statements of a script leaves.
-use Rattle.std.specs.Prelude.{ℕ, ◌≡◌, ◌≤◌, Bool, Option, Some, IfSome, List, slice_get, take, length}
+use Rattle.std.specs.Prelude.{ℕ, ◌≡◌, ◌≤◌, ◌⊎◌, ◌||◌, Bool, false, Option, Some, IfSome, List, [], slice_get, take, length}
 use Rattle.std.specs.List.{list_any}
+use Rattle.std.specs.Option.{option_map_or}
 use Rattle.rm_base.specs.Outside.{Appends}
 use Rattle.rm_base.specs.Store.{Held, Answers, Both}
 use Rattle.rm_catalog.specs.declared.record.Record.{Record}
@@ -11,13 +12,15 @@ use Rattle.rm_tool.specs.Built.{command_at}
 use Rattle.rm_token.specs.declared.token.Token.{Token}
 use Rattle.rm_report.specs.declared.line.Reply.{Reply}
 use Rattle.rm_machine.specs.Machine.{Machine, DigestsTell}
-use Rattle.rm_frame.specs.Holds.{Holds, Stands, View}
+use Rattle.rm_machine.specs.Rest.{Rest, at_rest}
+use Rattle.rm_frame.specs.Holds.{Holds, HoldsRest, Stands, View}
 use Rattle.rm_frame.specs.Moments.{moment_of}
-use Rattle.rm_frame.specs.Stopped.{Stopped}
+use Rattle.rm_frame.specs.Saves.{IsEnded, applies}
+use Rattle.rm_frame.specs.Stopped.{IsLeft, Stopped}
 use Rattle.rm_tool.specs.declared.session.Halt.{Halt}
 use Rattle.rm_tool.specs.declared.session.Halt.TheVariants as halt
 use Rattle.rm_tool.specs.Ends.{WritesFront}
-use Rattle.rm_tool.specs.Run.{StatementStep, RunsWhereTold, past, behind, AreToCome, replies_text}
+use Rattle.rm_tool.specs.Run.{StatementStep, RunsWhereTold, past, behind, has_applied, AreToCome, replies_text}
 
 -- what ends a session where the site was stopped
 abbrev pub halt_of : Stop → Halt
@@ -36,18 +39,19 @@ StatementSteps held kept v s clock reply held' kept' v' =
     (m : Machine) → Stands v m → Holds held kept m → DigestsTell m
     → (n : Machine) × StatementStep m s clock reply n × Stands v' n × Holds held' kept' n
 
--- a step of the machine at the clock's next answer
+-- a step of the machine at the clock's next answer; and whether a list was applied
 pub record IsServed (held : Option Held) (kept : Option (List Record)) (v : View) (clock : Option Answers) (s : ℕ × List Token) (reply : Reply) (held' : Option Held) (kept' : Option (List Record)) (v' : View) (clock' : Option Answers) : Type 0 where
   pub answer : ℕ
   pub next : IfSome clock (λ coming. answer ≡ coming 0)
   pub past : Both (IsPast (command_at s.1)) clock clock'
   pub steps : StatementSteps held kept v s answer reply held' kept' v'
+  pub applied : v'.applied ≡ (v.applied || option_map_or (λ c. applies c reply) (command_at s.1) false)
 
--- What is left of the machine where a statement was cut short: it is held as it was, or what a stop of the
+-- What is left of the machine where a statement was cut short: it is held at rest as it was, or what a stop of the
 -- command leaves is held, where the clock answered so.
 pub data IsCut (m : Machine) (s : ℕ × List Token) (answer : ℕ) (held : Option Held) (kept : Option (List Record)) : Type 0 where
-  untouched : Holds held kept m → IsCut m s answer held kept
-  stopped : (c : Command) (n : Machine) → command_at s.1 ≡ Some c → Stopped m c (moment_of m.state answer) n → Holds held kept n → IsCut m s answer held kept
+  untouched : HoldsRest held kept (at_rest m) → IsCut m s answer held kept
+  stopped : (c : Command) (r : Rest) → command_at s.1 ≡ Some c → Stopped m c (moment_of m.state answer) r → HoldsRest held kept r → IsCut m s answer held kept
 
 -- the statement was cut short, whatever machine the site stands for, where digests tell
 pub record IsCutShort (held : Option Held) (kept : Option (List Record)) (v : View) (clock : Option Answers) (s : ℕ × List Token) (held' : Option Held) (kept' : Option (List Record)) : Type 0 where
@@ -60,15 +64,27 @@ abbrev pub FromEach : Option Held → Option (List Record) → View → (Machine
 FromEach held kept v Is = (m : Machine) → Stands v m → Holds held kept m → Is m
 
 -- All replies were written, and `refused` says whether one is a refusal. They are those of a run from the machine
--- `first` on, and the store and the keeper hold what the machine has at its end.
-pub record Serves (clock : Option Answers) (before now : Option (List ℕ)) (held : Option Held) (kept : Option (List Record)) (refused : Bool) (ss : List (ℕ × List Token)) (first : Machine) : Type 0 where
+-- `first` on, and the site, the store and the keeper hold what the machine has at its end.
+pub record Serves (clock : Option Answers) (before now : Option (List ℕ)) (held : Option Held) (kept : Option (List Record)) (v v' : View) (refused : Bool) (ss : List (ℕ × List Token)) (first : Machine) : Type 0 where
   pub answers : Answers
   pub told : AreToCome clock answers
   pub replies : List Reply
   pub many : length replies ≡ length ss
   pub written : Appends before now (replies_text replies)
   pub some : refused ≡ list_any (λ r. r.refused) replies
-  pub run : RunsWhereTold first answers ss replies (Holds held kept)
+  pub applied : v'.applied ≡ (v.applied || has_applied ss replies)
+  pub run : RunsWhereTold first answers ss replies (λ m. Stands v' m × Holds held kept m)
+
+-- The same, and then the session ended: its site was saved, where a list was applied. The store and the keeper hold what is
+-- at rest then.
+pub record Closes (clock : Option Answers) (before now : Option (List ℕ)) (held : Option Held) (kept : Option (List Record)) (refused : Bool) (ss : List (ℕ × List Token)) (first : Machine) : Type 0 where
+  pub answers : Answers
+  pub told : AreToCome clock answers
+  pub replies : List Reply
+  pub many : length replies ≡ length ss
+  pub written : Appends before now (replies_text replies)
+  pub some : refused ≡ list_any (λ r. r.refused) replies
+  pub run : RunsWhereTold first answers ss replies (λ m. (r : Rest) × IsEnded (has_applied ss replies) m r × HoldsRest held kept r)
 
 -- The replies to the first statements were written, and nothing else. They are those of a run from the machine
 -- `first` on. The statement after them was cut short, and the store and the keeper hold what is left.
@@ -81,12 +97,27 @@ pub record EndsAtStatement (clock : Option Answers) (before now : Option (List �
   pub next : slice_get ss (length replies) ≡ Some statement
   pub run : RunsWhereTold first answers (take (length replies) ss) replies (λ m. IsCut m statement (behind (take (length replies) ss) answers 0) held kept)
 
+-- All replies were written, those of a run from the machine `first` on, and the save after it was stopped: nothing of it is
+-- recorded, or all of it. The store and the keeper hold what is left.
+pub record EndsAtSaving (clock : Option Answers) (before now : Option (List ℕ)) (held : Option Held) (kept : Option (List Record)) (ss : List (ℕ × List Token)) (first : Machine) : Type 0 where
+  pub answers : Answers
+  pub told : AreToCome clock answers
+  pub replies : List Reply
+  pub many : length replies ≡ length ss
+  pub written : Appends before now (replies_text replies)
+  pub run : RunsWhereTold first answers ss replies (λ m. (r : Rest) × (IsLeft [] m r ⊎ IsEnded (has_applied ss replies) m r) × HoldsRest held kept r)
+
+-- the session ended at a statement, or at its save
+pub data EndsMidway (clock : Option Answers) (before now : Option (List ℕ)) (held : Option Held) (kept : Option (List Record)) (ss : List (ℕ × List Token)) (first : Machine) : Type 0 where
+  at_statement : EndsAtStatement clock before now held kept ss first → EndsMidway clock before now held kept ss first
+  at_saving : EndsAtSaving clock before now held kept ss first → EndsMidway clock before now held kept ss first
+
 -- A front of the replies to the first statements was written. They are those of a run from the machine `first` on,
--- and the store and the keeper hold what the machine has after these statements.
+-- and the store and the keeper hold, at rest, what the machine has after these statements.
 pub record EndsInReplies (clock : Option Answers) (before now : Option (List ℕ)) (held : Option Held) (kept : Option (List Record)) (ss : List (ℕ × List Token)) (first : Machine) : Type 0 where
   pub answers : Answers
   pub told : AreToCome clock answers
   pub replies : List Reply
   pub many : length replies ≤ length ss
   pub written : WritesFront before now (replies_text replies)
-  pub run : RunsWhereTold first answers (take (length replies) ss) replies (Holds held kept)
+  pub run : RunsWhereTold first answers (take (length replies) ss) replies (λ m. HoldsRest held kept (at_rest m))

@@ -3,15 +3,18 @@ use Rattle.std.specs.Prelude.{ℕ, ◌≡◌, ◌⊎◌, ◌<◌, Bool, false, O
 use Rattle.std.specs.Fmt.{decimal}
 use Rattle.rm_base.specs.Outside.{Appends, HasTaken}
 use Rattle.rm_base.specs.Store.{Held, Answers}
+use Rattle.rm_catalog.specs.Faults.{IsBadRow}
+use Rattle.rm_catalog.specs.declared.catalog.CatalogFault.TheVariants.{BadRow}
 use Rattle.rm_catalog.specs.declared.record.Key.{Key}
 use Rattle.rm_catalog.specs.declared.record.Record.{Record}
 use Rattle.rm_token.specs.Statements.{statements}
 use Rattle.rm_token.specs.declared.token.Token.{Token}
 use Rattle.rm_machine.specs.Machine.{Machine}
-use Rattle.rm_frame.specs.Holds.{nothing}
-use Rattle.rm_site.specs.Opens.{IsFirst}
+use Rattle.rm_machine.specs.Rest.{PartsTell, Rest, Wakes}
+use Rattle.rm_frame.specs.Holds.{HoldsRest}
+use Rattle.rm_site.specs.Opens.{AreValid}
 use Rattle.rm_tool.specs.Ends.{WritesFront}
-use Rattle.rm_tool.specs.Serving.{Serves, EndsAtStatement, EndsInReplies}
+use Rattle.rm_tool.specs.Serving.{Closes, EndsInReplies, EndsMidway}
 use Rattle.rm_tool.specs.Words.{accepts}
 
 -- the line of status 2
@@ -38,47 +41,48 @@ IsEarly status = (status ≡ 2) ⊎ (status ≡ 3) ⊎ (status ≡ 8) ⊎ (statu
 abbrev pub AreSame : Option Held → Option (List Record) → Option Held → Option (List Record) → Type 0
 AreSame held kept held' kept' = (held' ≡ held) × (kept' ≡ kept)
 
--- where the store tells its objects, and the keeper tells that it has no record, this is so of the objects
-abbrev pub FromNone : Option Held → Option (List Record) → (Held → Type 0) → Type 0
-FromNone held kept Is = (objects : Held) → held ≡ Some objects → kept ≡ Some [] → Is objects
+-- Whatever database at rest the store and the keeper hold: where digests tell of its saved site it wakes, and this is so of
+-- the machine.
+abbrev pub FromRest : Option Held → Option (List Record) → (Machine → Type 0) → Type 0
+FromRest held kept Is = (r : Rest) → HoldsRest held kept r → PartsTell r → (first : Machine) × Wakes r first × Is first
 
 -- A script was taken from the source: all that was left, where the source tells it.
 pub record Script (left rest : Option (List ℕ)) (script : List ℕ) : Type 0 where
   pub taken : HasTaken left rest script
   pub whole : IfSome left (λ bytes. bytes ≡ script)
 
--- the script was taken, and this is so of its statements, from no database on
-pub record OfScript (left rest : Option (List ℕ)) (Is : List (ℕ × List Token) → Machine → Type 0) (objects : Held) : Type 0 where
+-- the script was taken, and this is so of its statements, from this machine on
+pub record OfScript (left rest : Option (List ℕ)) (Is : List (ℕ × List Token) → Machine → Type 0) (first : Machine) : Type 0 where
   pub script : List ℕ
   pub read : Script left rest script
-  pub is : Is (statements script) (nothing objects)
+  pub is : Is (statements script) first
 
--- Status 0 and 1: from no database the machine ran over the statements of the script with the clock's answers,
--- and what was written are exactly its replies. The status tells whether one of them is a refusal, and the store
--- and the keeper hold what the machine has at the end.
-pub record Finishes (left rest : Option (List ℕ)) (clock : Option Answers) (before now : Option (List ℕ)) (held : Option Held) (kept : Option (List Record)) (status : ℕ) (objects : Held) : Type 0 where
+-- Status 0 and 1: from this machine on it ran over the statements of the script with the clock's answers, and what was
+-- written are exactly its replies. The status tells whether one of them is a refusal. Then the session ended, and the store
+-- and the keeper hold what is at rest.
+pub record Finishes (left rest : Option (List ℕ)) (clock : Option Answers) (before now : Option (List ℕ)) (held : Option Held) (kept : Option (List Record)) (status : ℕ) (first : Machine) : Type 0 where
   pub refused : Bool
-  pub serves : OfScript left rest (Serves clock before now held kept refused) objects
+  pub serves : OfScript left rest (Closes clock before now held kept refused) first
   pub tells : status ≡ (if refused then 1 else 0)
 
--- the keeper tells no record
-abbrev pub TellsNone : Option (List Record) → Type 0
-TellsNone kept = IfSome kept (λ rs. rs ≡ [])
+-- the keeper's records are valid, where it tells them
+abbrev pub TellsValid : Option (List Record) → Type 0
+TellsValid kept = IfSome kept AreValid
 
 -- Status 5, 6 and 7: the call ended before the first statement, with nothing written and nothing done; or at a
--- statement, and what was written are exactly the replies to those before it. The store and the keeper hold what is
--- left of that statement.
+-- statement, and what was written are exactly the replies to those before it; or at the save, after all replies. The store and
+-- the keeper hold what is left.
 pub data EndsEarly (left rest : Option (List ℕ)) (clock : Option Answers) (before now : Option (List ℕ)) (held : Option Held) (kept : Option (List Record)) (held' : Option Held) (kept' : Option (List Record)) : Type 0 where
   before_statements : now ≡ before → AreSame held kept held' kept' → EndsEarly left rest clock before now held kept held' kept'
-  at_statement : TellsNone kept → FromNone held kept (OfScript left rest (EndsAtStatement clock before now held' kept')) → EndsEarly left rest clock before now held kept held' kept'
+  midway : TellsValid kept → FromRest held kept (OfScript left rest (EndsMidway clock before now held' kept')) → EndsEarly left rest clock before now held kept held' kept'
 
--- the line of the first record that the keeper has, where it tells them
+-- the line of the first of the keeper's records, in order, that breaks a rule, where it tells them
 pub record IsBadRecord (kept : Option (List Record)) (line : List ℕ) : Type 0 where
   pub key : Key
-  pub first : IfSome kept (λ rs. IsFirst rs key)
+  pub first : IfSome kept (λ rs. IsBadRow rs (BadRow key.kind key.id))
   pub is : line ≡ bad_record key
 
--- Status 9: the line of the first record was written.
+-- Status 9: the line of that record was written.
 pub record WritesBadRecord (kept : Option (List Record)) (before now : Option (List ℕ)) : Type 0 where
   pub line : List ℕ
   pub bad : IsBadRecord kept line
@@ -95,4 +99,4 @@ pub data WritesPart (words : List (List ℕ)) (left rest : Option (List ℕ)) (c
   in_bad_words : accepts words ≡ false → AreSame held kept held' kept' → WritesFront before now bad_words → WritesPart words left rest clock before now held kept held' kept'
   in_over_long : IfSome left (λ bytes. 4194304 < length bytes) → AreSame held kept held' kept' → WritesFront before now over_long → WritesPart words left rest clock before now held kept held' kept'
   in_bad_record : AreSame held kept held' kept' → BeginsBadRecord kept before now → WritesPart words left rest clock before now held kept held' kept'
-  in_replies : TellsNone kept → FromNone held kept (OfScript left rest (EndsInReplies clock before now held' kept')) → WritesPart words left rest clock before now held kept held' kept'
+  in_replies : TellsValid kept → FromRest held kept (OfScript left rest (EndsInReplies clock before now held' kept')) → WritesPart words left rest clock before now held kept held' kept'

@@ -1,15 +1,26 @@
 //! What is so of the scripts that give no name of an object.
-ghost use Rattle.std.specs.Prelude.{ℕ, ◌≡◌, [], List};
+ghost use Rattle.std.specs.Prelude.{ℕ, ◌≡◌, [], List, Some};
 ghost use Rattle.rm_base.specs.Store.{Answers, Held};
-ghost use Rattle.rm_frame.specs.Holds.{nothing};
+ghost use Rattle.rm_frame.specs.Holds.{HoldsRest, nothing};
 ghost use Rattle.rm_machine.specs.Machine.{Machine};
+ghost use Rattle.rm_machine.specs.Rest.{PartsTell, Rest, Wakes};
 ghost use Rattle.rm_report.specs.declared.line.Reply.{Reply};
 ghost use Rattle.rm_token.specs.declared.token.Token.{Token};
 ghost use Rattle.rm_tool.specs.Run.{DigestsTellAlong, GiveNoName};
 
 /// Where no statement gives a name of an object, as HOST REMOVE does, digests tell along every run from a machine of
-/// which no name was touched, and nothing is left to assume. The machine before the first statement is such a one.
+/// which no name was touched, and nothing is left to assume. The machine before the first statement ever is such a one.
 pub fn digests_tell_where_no_name_is_given()
     ensures untouched { (first : Machine) → first.touched ≡ [] → (answers : Answers) (ss : List (ℕ × List Token)) (replies : List Reply) → GiveNoName ss → DigestsTellAlong first answers ss replies }
-    ensures script { (objects : Held) (answers : Answers) (ss : List (ℕ × List Token)) (replies : List Reply) → GiveNoName ss → DigestsTellAlong (nothing objects) answers ss replies }
+    ensures script { (objects : Held) (first : Machine) → Wakes (nothing objects) first → (answers : Answers) (ss : List (ℕ × List Token)) (replies : List Reply) → GiveNoName ss → DigestsTellAlong first answers ss replies }
+{}
+
+/// Where no name was touched, digests tell of a saved site.
+pub fn digests_tell_of_an_untouched_site()
+    ensures { (r : Rest) → r.touched ≡ [] → PartsTell r }
+{}
+
+/// Over an empty keeper a database at rest is held: there is none, and nothing was ever written.
+pub fn an_empty_keeper_holds_nothing()
+    ensures { (objects : Held) → HoldsRest (Some objects) (Some []) (nothing objects) }
 {}

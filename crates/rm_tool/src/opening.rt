@@ -1,8 +1,8 @@
 //! The site is opened, or the line of a record is written.
-ghost use Rattle.std.specs.Prelude.{◌≡◌, ◌≤◌, [], true, IfOk, OnOk, IsErrOf, IfSome};
+ghost use Rattle.std.specs.Prelude.{◌≡◌, ◌≤◌, true, false, IfOk, OnOk, IsErrOf};
 ghost use Rattle.rm_base.specs.Outside.{Rose};
 ghost use Rattle.rm_site.specs.Opens.{Opens};
-ghost use Rattle.rm_tool.specs.Session.{WritesBadRecord, BeginsBadRecord, bad_record};
+ghost use Rattle.rm_tool.specs.Session.{TellsValid, WritesBadRecord, BeginsBadRecord, bad_record};
 
 use crate::ends::write_all;
 use rm_base::{Failed, NoMemory, Sink, Store, Text};
@@ -13,7 +13,7 @@ use std::alloc::Global;
 /// Why no statement could be stepped.
 #[derive(Clone, Copy, Debug, PartialEq, Eq)]
 pub enum Unopened {
-    /// The keeper has a record, and the line of the first was written.
+    /// A record of the keeper breaks a rule, and the line of the first was written.
     BadRecord,
     /// The sink failed in that line.
     Sink,
@@ -52,8 +52,8 @@ fn bad_record(alloc: Global, key: Key) -> Result<Text, NoMemory>
     Ok(Text::from_string(format!(in alloc; "rman: bad record {kind} {id}\n")?))
 }
 
-/// Opens the site over the store and the keeper. Where the keeper has a record, the line of the first is
-/// written, by kind and then by id; else nothing is.
+/// Opens the site over the store and the keeper. Where the keeper's records are not valid, the line of the first that
+/// breaks a rule is written, by kind and then by id; else nothing is.
 pub fn open_site<K: Sink, D: Store, C: Keeper>(
     alloc: Global,
     sink: &mut K,
@@ -62,7 +62,8 @@ pub fn open_site<K: Sink, D: Store, C: Keeper>(
 ) -> Result<Site, Unopened>
     ensures opened { IfOk result (Opens (D.held store.old) (C.kept keeper.old)) }
     ensures live { IfOk result (λ site. site.live ≡ true) }
-    ensures empty { IfOk result (λ _. IfSome (C.kept keeper.old) (λ rs. rs ≡ [])) }
+    ensures applied { IfOk result (λ site. site.applied ≡ false) }
+    ensures valid { IfOk result (λ _. TellsValid (C.kept keeper.old)) }
     ensures held { D.held store.new ≡ D.held store.old }
     ensures kept { C.kept keeper.new ≡ C.kept keeper.old }
 
@@ -74,8 +75,8 @@ pub fn open_site<K: Sink, D: Store, C: Keeper>(
     ensures keeper { IsErrOf result Unopened.Keeper → K.contents sink.new ≡ K.contents sink.old }
     ensures memory { IsErrOf result Unopened.NoMemory → K.contents sink.new ≡ K.contents sink.old }
 
-    // Whose count rose. The store fails only where the keeper has no record.
-    ensures store_empty { IsErrOf result Unopened.Store → IfSome (C.kept keeper.old) (λ rs. rs ≡ []) }
+    // Whose count rose. The store fails only where the keeper's records are valid.
+    ensures store_valid { IsErrOf result Unopened.Store → TellsValid (C.kept keeper.old) }
     ensures sink_failed { IsErrOf result Unopened.Sink → Rose (K.faults sink.old) (K.faults sink.new) }
     ensures store_failed { IsErrOf result Unopened.Store → Rose (D.faults store.old) (D.faults store.new) }
     ensures keeper_failed { IsErrOf result Unopened.Keeper → Rose (C.faults keeper.old) (C.faults keeper.new) }

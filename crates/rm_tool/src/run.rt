@@ -1,14 +1,15 @@
 //! The whole run, from the words and the source to the sink.
-ghost use Rattle.std.specs.Prelude.{◌≡◌, ◌≢◌, ◌<◌, ◌∷◌, [], Contains, IfSome, Some, List, ℕ, length, true, false};
+ghost use Rattle.std.specs.Prelude.{◌≡◌, ◌<◌, ◌∷◌, [], Contains, IfSome, Some, List, ℕ, length, true, false};
 ghost use Rattle.rm_base.specs.Outside.{Appends, Rose};
 ghost use Rattle.rm_catalog.specs.declared.record.Record.{Record};
+ghost use Rattle.rm_site.specs.Opens.{AreValid};
 ghost use Rattle.rm_tool.specs.Ends.{Counted, TakesMany};
-ghost use Rattle.rm_tool.specs.Session.{Script, Finishes, EndsEarly, WritesPart, WritesBadRecord, FromNone, IsDone, IsEarly, AreSame, bad_words, over_long};
+ghost use Rattle.rm_tool.specs.Session.{Script, Finishes, EndsEarly, WritesPart, WritesBadRecord, FromRest, TellsValid, IsDone, IsEarly, AreSame, bad_words, over_long};
 ghost use Rattle.rm_tool.specs.Words.{accepts};
 
 use crate::ends::{ReadFault, read_all, write_all};
 use crate::opening::{Unopened, open_site};
-use crate::session::{Halt, serve_all};
+use crate::session::{Halt, serve_session};
 use crate::words::{Look, look_at};
 use rm_base::{Clock, Sink, Source, Store, Text};
 use rm_catalog::Keeper;
@@ -17,8 +18,8 @@ use std::alloc::Global;
 
 /// Runs a script against the site of a store and a keeper, and answers the status of the program.
 ///
-/// The words are read first, then the script to its end, then the site is opened, and then each
-/// statement is a step and its reply is written. The clock is asked once for each statement of the
+/// The words are read first, then the script to its end, then the site is opened, then each statement is a
+/// step and its reply is written, and then the site is saved. The clock is asked once for each statement of the
 /// grammar. The status is
 /// - 0 where no reply is a refusal, 1 where one is,
 /// - 2 where the words are refused,
@@ -26,7 +27,7 @@ use std::alloc::Global;
 /// - 5 where the store failed, 6 where the keeper failed,
 /// - 7 where memory was wanting,
 /// - 8 where the script has more than 4,194,304 bytes,
-/// - 9 where the keeper has a record, since a saved site can't be opened yet.
+/// - 9 where the keeper's records are not valid.
 pub fn run<S: Source, K: Sink, D: Store, C: Keeper, T: Clock>(
     alloc: Global,
     words: &[Text],
@@ -37,10 +38,10 @@ pub fn run<S: Source, K: Sink, D: Store, C: Keeper, T: Clock>(
     clock: &mut T,
 ) -> u8
     // 0 and 1: the headline.
-    ensures done { IsDone result → FromNone (D.held store.old) (C.kept keeper.old) (Finishes (S.left source.old) (S.left source.new) (T.answers clock.old) (K.contents sink.old) (K.contents sink.new) (D.held store.new) (C.kept keeper.new) result) }
+    ensures done { IsDone result → FromRest (D.held store.old) (C.kept keeper.old) (Finishes (S.left source.old) (S.left source.new) (T.answers clock.old) (K.contents sink.old) (K.contents sink.new) (D.held store.new) (C.kept keeper.new) result) }
     ensures ended { IsDone result → S.at_end source.new ≡ true }
     ensures read { IsDone result → (script : List ℕ) × Script (S.left source.old) (S.left source.new) script }
-    ensures done_from { IsDone result → IfSome (C.kept keeper.old) (λ rs. rs ≡ []) }
+    ensures done_from { IsDone result → TellsValid (C.kept keeper.old) }
 
     // 2: exactly where the words are refused, and their line was written.
     ensures words { result ≡ 2 → accepts words.now ≡ false }
@@ -69,16 +70,16 @@ pub fn run<S: Source, K: Sink, D: Store, C: Keeper, T: Clock>(
     ensures long_line { result ≡ 8 → Appends (K.contents sink.old) (K.contents sink.new) over_long }
     ensures long_only { Counted (S.taken source.old) → TakesMany (S.taken source.old) (S.taken source.new) → Contains (8 ∷ 4 ∷ 7 ∷ []) result }
 
-    // 9: exactly where the keeper has a record, and the line of the first was written.
+    // 9: exactly where the keeper's records are not valid, and the line of the first that breaks a rule was written.
     ensures bad { result ≡ 9 → WritesBadRecord (C.kept keeper.old) (K.contents sink.old) (K.contents sink.new) }
-    ensures bad_only { (rs : List Record) → accepts words.now ≡ true → Counted (S.taken source.old) → ¬ TakesMany (S.taken source.old) (S.taken source.new) → C.kept keeper.old ≡ Some rs → rs ≢ [] → Contains (9 ∷ 4 ∷ 3 ∷ 6 ∷ 7 ∷ []) result }
+    ensures bad_only { (rs : List Record) → accepts words.now ≡ true → Counted (S.taken source.old) → ¬ TakesMany (S.taken source.old) (S.taken source.new) → C.kept keeper.old ≡ Some rs → ¬ AreValid rs → Contains (9 ∷ 4 ∷ 3 ∷ 6 ∷ 7 ∷ []) result }
 
     // At 2, 3, 8 and 9 no statement ran.
     ensures same { IsEarly result → AreSame (D.held store.old) (C.kept keeper.old) (D.held store.new) (C.kept keeper.new) }
 
     // There is no other status, and without a cause there is 0, 1 or 7.
     ensures statuses { Contains (0 ∷ 1 ∷ 2 ∷ 3 ∷ 4 ∷ 5 ∷ 6 ∷ 7 ∷ 8 ∷ 9 ∷ []) result }
-    ensures complete { accepts words.now ≡ true → Counted (S.taken source.old) → ¬ TakesMany (S.taken source.old) (S.taken source.new) → C.kept keeper.old ≡ Some [] → ¬ Rose (S.faults source.old) (S.faults source.new) → ¬ Rose (K.faults sink.old) (K.faults sink.new) → ¬ Rose (D.faults store.old) (D.faults store.new) → ¬ Rose (C.faults keeper.old) (C.faults keeper.new) → Contains (0 ∷ 1 ∷ 7 ∷ []) result }
+    ensures complete { accepts words.now ≡ true → Counted (S.taken source.old) → ¬ TakesMany (S.taken source.old) (S.taken source.new) → (rs : List Record) → C.kept keeper.old ≡ Some rs → AreValid rs → ¬ Rose (S.faults source.old) (S.faults source.new) → ¬ Rose (K.faults sink.old) (K.faults sink.new) → ¬ Rose (D.faults store.old) (D.faults store.new) → ¬ Rose (C.faults keeper.old) (C.faults keeper.new) → Contains (0 ∷ 1 ∷ 7 ∷ []) result }
 {
     match look_at(alloc, words) {
         Look::Accepted => {}
@@ -112,7 +113,7 @@ pub fn run<S: Source, K: Sink, D: Store, C: Keeper, T: Clock>(
         Err(Unopened::Keeper) => return 6,
         Err(Unopened::NoMemory) => return 7,
     };
-    match serve_all(alloc, sink, site, store, keeper, clock, found.as_slice()) {
+    match serve_session(alloc, sink, site, store, keeper, clock, found.as_slice()) {
         Ok(refused) => u8::from(refused),
         Err(Halt::Sink) => 4,
         Err(Halt::Store) => 5,

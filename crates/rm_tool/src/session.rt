@@ -1,9 +1,9 @@
 //! A run over the statements of a script.
-ghost use Rattle.std.specs.Prelude.{◌≡◌, ◌≤◌, true, IfOk, OnOk, OnErr, IsErrOf};
+ghost use Rattle.std.specs.Prelude.{◌≡◌, ◌≤◌, true, false, IfOk, OnOk, OnErr, IsErrOf};
 ghost use Rattle.rm_base.specs.Outside.{Rose};
 ghost use Rattle.rm_change.specs.declared.change.Stop.TheVariants.{StoreFault, KeeperFault};
 ghost use Rattle.rm_report.specs.Reply.{HasDates};
-ghost use Rattle.rm_tool.specs.Serving.{IsServed, IsCutShort, FromEach, Serves, EndsAtStatement, EndsInReplies};
+ghost use Rattle.rm_tool.specs.Serving.{IsServed, IsCutShort, FromEach, Serves, Closes, EndsAtStatement, EndsInReplies, EndsMidway};
 
 use crate::built::command_of;
 use crate::ends::write_all;
@@ -87,27 +87,28 @@ fn serve<D: Store, C: Keeper, T: Clock>(
     site.step(store, keeper, &command, answer)
 }
 
-/// All statements over a live site, each reply written before the next statement. Answers whether one was refused.
-///
-/// An error ends the session: the sink failed, the site was stopped by its store or its keeper, or
-/// memory was wanting.
-pub fn serve_all<K: Sink, D: Store, C: Keeper, T: Clock>(
+// All statements over a live site, each reply written before the next statement. Answers whether one was refused.
+//
+// An error ends the session: the sink failed, the site was stopped by its store or its keeper, or
+// memory was wanting.
+fn serve_all<K: Sink, D: Store, C: Keeper, T: Clock>(
     alloc: Global,
     sink: &mut K,
-    mut site: Site,
+    site: &mut Site,
     store: &mut D,
     keeper: &mut C,
     clock: &mut T,
     statements: &[(u32, Seq<Token>)],
 ) -> Result<bool, Halt>
-    requires live { site.live ≡ true }
-    ensures ok { IfOk result (λ refused. FromEach (D.held store.old) (C.kept keeper.old) site (Serves (T.answers clock.old) (K.contents sink.old) (K.contents sink.new) (D.held store.new) (C.kept keeper.new) refused statements.now)) }
+    requires live { site.old.live ≡ true }
+    ensures live { OnOk result (site.new.live ≡ true) }
+    ensures ok { IfOk result (λ refused. FromEach (D.held store.old) (C.kept keeper.old) site.old (Serves (T.answers clock.old) (K.contents sink.old) (K.contents sink.new) (D.held store.new) (C.kept keeper.new) site.old site.new refused statements.now)) }
 
     // What was written where it ended early, and what the store and the keeper hold.
-    ensures sink { IsErrOf result Halt.Sink → FromEach (D.held store.old) (C.kept keeper.old) site (EndsInReplies (T.answers clock.old) (K.contents sink.old) (K.contents sink.new) (D.held store.new) (C.kept keeper.new) statements.now) }
-    ensures store { IsErrOf result Halt.Store → FromEach (D.held store.old) (C.kept keeper.old) site (EndsAtStatement (T.answers clock.old) (K.contents sink.old) (K.contents sink.new) (D.held store.new) (C.kept keeper.new) statements.now) }
-    ensures keeper { IsErrOf result Halt.Keeper → FromEach (D.held store.old) (C.kept keeper.old) site (EndsAtStatement (T.answers clock.old) (K.contents sink.old) (K.contents sink.new) (D.held store.new) (C.kept keeper.new) statements.now) }
-    ensures memory { IsErrOf result Halt.NoMemory → FromEach (D.held store.old) (C.kept keeper.old) site (EndsAtStatement (T.answers clock.old) (K.contents sink.old) (K.contents sink.new) (D.held store.new) (C.kept keeper.new) statements.now) }
+    ensures sink { IsErrOf result Halt.Sink → FromEach (D.held store.old) (C.kept keeper.old) site.old (EndsInReplies (T.answers clock.old) (K.contents sink.old) (K.contents sink.new) (D.held store.new) (C.kept keeper.new) statements.now) }
+    ensures store { IsErrOf result Halt.Store → FromEach (D.held store.old) (C.kept keeper.old) site.old (EndsAtStatement (T.answers clock.old) (K.contents sink.old) (K.contents sink.new) (D.held store.new) (C.kept keeper.new) statements.now) }
+    ensures keeper { IsErrOf result Halt.Keeper → FromEach (D.held store.old) (C.kept keeper.old) site.old (EndsAtStatement (T.answers clock.old) (K.contents sink.old) (K.contents sink.new) (D.held store.new) (C.kept keeper.new) statements.now) }
+    ensures memory { IsErrOf result Halt.NoMemory → FromEach (D.held store.old) (C.kept keeper.old) site.old (EndsAtStatement (T.answers clock.old) (K.contents sink.old) (K.contents sink.new) (D.held store.new) (C.kept keeper.new) statements.now) }
 
     // Whose count rose.
     ensures sink_failed { IsErrOf result Halt.Sink → Rose (K.faults sink.old) (K.faults sink.new) }
@@ -119,18 +120,47 @@ pub fn serve_all<K: Sink, D: Store, C: Keeper, T: Clock>(
 {
     let mut refused = false;
     for (line, tokens) in statements {
-        let reply = serve(
-            alloc,
-            &mut site,
-            store,
-            keeper,
-            clock,
-            *line,
-            tokens.as_slice(),
-        )?;
+        let reply = serve(alloc, site, store, keeper, clock, *line, tokens.as_slice())?;
         let bytes = bytes_of(alloc, &reply)?;
         write_all(sink, bytes.as_slice())?;
         refused |= reply.refused;
     }
+    Ok(refused)
+}
+
+/// A session over a site that was just opened: all statements, each reply written before the next statement, and then the
+/// site is saved. Answers whether a statement was refused.
+///
+/// An error ends the session: the sink failed, the site was stopped by its store or its keeper, or memory was wanting.
+pub fn serve_session<K: Sink, D: Store, C: Keeper, T: Clock>(
+    alloc: Global,
+    sink: &mut K,
+    site: Site,
+    store: &mut D,
+    keeper: &mut C,
+    clock: &mut T,
+    statements: &[(u32, Seq<Token>)],
+) -> Result<bool, Halt>
+    requires live { site.live ≡ true }
+    requires fresh { site.applied ≡ false }
+    ensures ok { IfOk result (λ refused. FromEach (D.held store.old) (C.kept keeper.old) site (Closes (T.answers clock.old) (K.contents sink.old) (K.contents sink.new) (D.held store.new) (C.kept keeper.new) refused statements.now)) }
+
+    // What was written where it ended early, and what the store and the keeper hold.
+    ensures sink { IsErrOf result Halt.Sink → FromEach (D.held store.old) (C.kept keeper.old) site (EndsInReplies (T.answers clock.old) (K.contents sink.old) (K.contents sink.new) (D.held store.new) (C.kept keeper.new) statements.now) }
+    ensures store { IsErrOf result Halt.Store → FromEach (D.held store.old) (C.kept keeper.old) site (EndsMidway (T.answers clock.old) (K.contents sink.old) (K.contents sink.new) (D.held store.new) (C.kept keeper.new) statements.now) }
+    ensures keeper { IsErrOf result Halt.Keeper → FromEach (D.held store.old) (C.kept keeper.old) site (EndsMidway (T.answers clock.old) (K.contents sink.old) (K.contents sink.new) (D.held store.new) (C.kept keeper.new) statements.now) }
+    ensures memory { IsErrOf result Halt.NoMemory → FromEach (D.held store.old) (C.kept keeper.old) site (EndsMidway (T.answers clock.old) (K.contents sink.old) (K.contents sink.new) (D.held store.new) (C.kept keeper.new) statements.now) }
+
+    // Whose count rose.
+    ensures sink_failed { IsErrOf result Halt.Sink → Rose (K.faults sink.old) (K.faults sink.new) }
+    ensures store_failed { IsErrOf result Halt.Store → Rose (D.faults store.old) (D.faults store.new) }
+    ensures keeper_failed { IsErrOf result Halt.Keeper → Rose (C.faults keeper.old) (C.faults keeper.new) }
+    ensures sink_never_falls { K.faults sink.old ≤ K.faults sink.new }
+    ensures store_never_falls { D.faults store.old ≤ D.faults store.new }
+    ensures keeper_never_falls { C.faults keeper.old ≤ C.faults keeper.new }
+{
+    let mut site = site;
+    let refused = serve_all(alloc, sink, &mut site, store, keeper, clock, statements)?;
+    site.save(store, keeper)?;
     Ok(refused)
 }

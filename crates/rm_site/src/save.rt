@@ -1,0 +1,71 @@
+//! A session ends: its site is saved.
+ghost use Rattle.std.specs.Prelude.{◌≡◌, ◌≤◌, true, false, None, OnOk, OnErr, IsErrOf};
+ghost use Rattle.rm_base.specs.Outside.{Rose};
+ghost use Rattle.rm_change.specs.declared.change.Stop.TheVariants.{StoreFault, KeeperFault};
+ghost use Rattle.rm_frame.specs.Saves.{Saves, StopsSaving};
+ghost use Rattle.rm_machine.specs.Sound.{IsSound};
+ghost use Rattle.rm_site.specs.Saved.{SavesAt, StopsSavingAt};
+
+use crate::site::Site;
+use rm_base::{Seq, Store};
+use rm_catalog::Keeper;
+use rm_change::{Change, Stop, carry_out};
+use rm_machine::State;
+use rm_machine::room::ids_refusal;
+use rm_session::put_place;
+use std::alloc::Global;
+use std::mem;
+
+// Saves what runs, where no saved site stands and the ids of a save are left.
+fn save_state<D: Store, C: Keeper>(
+    alloc: Global,
+    state: State,
+    store: &mut D,
+    keeper: &mut C,
+) -> Result<(), Stop>
+    requires sound { IsSound state }
+    ensures saved { OnOk result (SavesAt (D.held store.old) (C.kept keeper.old) state (D.held store.new) (C.kept keeper.new)) }
+    ensures stopped { OnErr result (StopsSavingAt (D.held store.old) (C.kept keeper.old) state (D.held store.new) (C.kept keeper.new)) }
+    ensures store { IsErrOf result StoreFault → Rose (D.faults store.old) (D.faults store.new) }
+    ensures keeper { IsErrOf result KeeperFault → Rose (C.faults keeper.old) (C.faults keeper.new) }
+    ensures store_never_falls { D.faults store.old ≤ D.faults store.new }
+    ensures keeper_never_falls { C.faults keeper.old ≤ C.faults keeper.new }
+{
+    if state.catalog.saved().is_some() || ids_refusal(&state).is_some() {
+        return Ok(());
+    }
+    let mut state = state;
+    let mut edits = Vec::new(alloc);
+    let objects = put_place(alloc, &mut state, &mut edits)?;
+    let change = Change {
+        objects,
+        edits: Seq::from_vec(edits),
+        removes: Seq::new(alloc),
+    };
+    carry_out(store, keeper, &change)
+}
+
+impl Site {
+    /// Ends the session. Where it has applied a list, what runs is saved: each datafile in place and each online log that is
+    /// not lost is put as an object, and then the records come to tell of them. Else all stays as it is. The site is spent.
+    ///
+    /// An error is a stop: a fault of the store or the keeper, which that object counted, or want of memory. It leaves
+    /// nothing of the save recorded, or all of it.
+    pub fn save<D: Store, C: Keeper>(&mut self, store: &mut D, keeper: &mut C) -> Result<(), Stop>
+        requires live { self.old.live ≡ true }
+        ensures saved { OnOk result (Saves (D.held store.old) (C.kept keeper.old) self.old (D.held store.new) (C.kept keeper.new)) }
+        ensures stopped { OnErr result (StopsSaving (D.held store.old) (C.kept keeper.old) self.old (D.held store.new) (C.kept keeper.new)) }
+        ensures spent { self.new ≡ record { state = None; live = false; applied = self.old.applied } }
+        ensures store { IsErrOf result StoreFault → Rose (D.faults store.old) (D.faults store.new) }
+        ensures keeper { IsErrOf result KeeperFault → Rose (C.faults keeper.old) (C.faults keeper.new) }
+        ensures store_never_falls { D.faults store.old ≤ D.faults store.new }
+        ensures keeper_never_falls { C.faults keeper.old ≤ C.faults keeper.new }
+    {
+        self.live = false;
+        let state = mem::replace(&mut self.state, None);
+        match state {
+            Some(state) if self.applied => save_state(self.alloc, state, store, keeper),
+            _ => Ok(()),
+        }
+    }
+}
