@@ -40,7 +40,7 @@ as-base w h Place a not agrees = agrees
 
 module _ (s : State) (h : List Change) (objects : Held) (made : List Made) (touched : List (List ℕ)) (borne : IsBorneOut s h objects made touched) (tells : DigestsTellFor objects made touched (ledger s)) where
   -- an available log is the one that was recorded
-  log-agrees : (l : LogEntry) (a : LogFile) → Contains (ledger s).logs l → HasLog objects l a → LogAgrees h (log_of a)
+  pub log-agrees : (l : LogEntry) (a : LogFile) → Contains (ledger s).logs l → HasLog objects l a → LogAgrees h (log_of a)
   log-agrees l a has there =
       let kept = borne.records.logs l has in
       let was : Made = record { name = log_name l.id; artefact = a_log kept.artefact } in

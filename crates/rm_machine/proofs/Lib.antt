@@ -4,6 +4,7 @@ pub mod Archives
 pub mod ArchivingAll
 pub mod AtHand
 pub mod BackingUp
+pub mod BackingUpLogs
 pub mod Backups
 pub mod BranchesSound
 pub mod Branching

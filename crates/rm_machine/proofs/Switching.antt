@@ -283,7 +283,7 @@ module _ (s : State) (t : ℕ) (sound : IsSound s) (low : 0 < t) (high : t ≤ s
 
 -- The objects after it
 
-after-put : (before after : Held) (id : ℕ) (a : LogFile) → LeavesObjects (archived id a) before after → after (log_name id) ≡ Some (spelling a)
+pub after-put : (before after : Held) (id : ℕ) (a : LogFile) → LeavesObjects (archived id a) before after → after (log_name id) ≡ Some (spelling a)
 after-put before after id a effect =
     let same : bytes_eq (log_name id) (log_name id) ≡ true = (bytes_eq-Decides (log_name id) (log_name id)).1 refl in
     effect.removes (log_name id) ∙ effect.puts (log_name id) ∙ ap (λ b. cond b (Some (spelling a)) (before (log_name id))) same
@@ -303,7 +303,7 @@ fresh-name l name is (of_log e has) same =
     absurd (omega (arith, below, id))
 fresh-name l name is (of_piece e has) same = absurd (log-no-piece l.base.next_id e.copy e.id (sym same))
 
-stand-fresh : (before after : Held) (touched : List (List ℕ)) (l l' : Ledger) (a : LogFile) → IsLedger l → LeavesObjects (archived l.base.next_id a) before after → StandOn before after touched touched l l'
+pub stand-fresh : (before after : Held) (touched : List (List ℕ)) (l l' : Ledger) (a : LogFile) → IsLedger l → LeavesObjects (archived l.base.next_id a) before after → StandOn before after touched touched l l'
 stand-fresh before after touched l l' a is effect name bytes names again (inl was) = inl was
 stand-fresh before after touched l l' a is effect name bytes names again (inr stands) = inr (after-other before after l.base.next_id a name (fresh-name l name is names) effect ∙ stands)
 

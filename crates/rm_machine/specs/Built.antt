@@ -1,7 +1,7 @@
 -- The statements that are built.
 use Rattle.std.specs.Prelude.{Bool, true, false}
 use Rattle.rm_statement.specs.declared.command.Command.{Command}
-use Rattle.rm_statement.specs.declared.command.Command.TheVariants.{ChangeBackup, CreateDatabase, CreateDatafile, Crosscheck, DeleteBackup, DeleteExpired, Write, SwitchLogfile, ArchiveLogCurrent, Mount, OpenPlain, OpenResetlogs, ResetDatabase, Restore, Preview, Recover, RecoverTest, Backup, ListIncarnation, ListBackup, ListCopy, ListArchived, ReportSchema, ShowAll, ValidateAll, Dump, LoseDatafile, LoseLog, Remove, Damage, Cut, Rename}
+use Rattle.rm_statement.specs.declared.command.Command.TheVariants.{ChangeBackup, CreateDatabase, CreateDatafile, Crosscheck, DeleteBackup, DeleteExpired, Write, SwitchLogfile, ArchiveLogCurrent, Mount, OpenPlain, OpenResetlogs, ResetDatabase, Restore, Preview, Recover, RecoverTest, Backup, BackupLogs, ListIncarnation, ListBackup, ListCopy, ListArchived, ReportSchema, ShowAll, ValidateAll, Dump, LoseDatafile, LoseLog, Remove, Damage, Cut, Rename}
 use Rattle.rm_machine.specs.Backup.{is_built_backup}
 use Rattle.rm_machine.specs.Recovery.{is_built_until}
 
@@ -21,6 +21,7 @@ is_built (Preview until) = is_built_until until
 is_built (Recover until) = is_built_until until
 is_built (RecoverTest until inc) = is_built_until until
 is_built (Backup b) = is_built_backup b
+is_built BackupLogs = true
 is_built ListIncarnation = true
 is_built ListBackup = true
 is_built ListCopy = true

@@ -1,5 +1,6 @@
 pub mod Archive
 pub mod Backup
+pub mod BackupLogs
 pub mod Built
 pub mod CreateDatabase
 pub mod CreateDatafile

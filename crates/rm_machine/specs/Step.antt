@@ -6,12 +6,13 @@ use Rattle.rm_base.specs.declared.kinds.Class.TheVariants as class
 use Rattle.rm_base.specs.declared.refusal.Refusal.{Refusal}
 use Rattle.rm_base.specs.declared.refusal.Refusal.TheVariants.{Rm02, Rm03}
 use Rattle.rm_statement.specs.declared.command.Command.{Command}
-use Rattle.rm_statement.specs.declared.command.Command.TheVariants.{ArchiveLogCurrent, Backup, ChangeBackup, CreateDatabase, CreateDatafile, Crosscheck, Cut, Damage, DeleteBackup, DeleteExpired, Dump, ListArchived, ListBackup, ListCopy, ListIncarnation, LoseDatafile, LoseLog, Mount, OpenPlain, OpenResetlogs, Preview, Recover, RecoverTest, Remove, Rename, ReportSchema, ResetDatabase, Restore, ShowAll, SwitchLogfile, ValidateAll, Write}
+use Rattle.rm_statement.specs.declared.command.Command.TheVariants.{ArchiveLogCurrent, Backup, BackupLogs, ChangeBackup, CreateDatabase, CreateDatafile, Crosscheck, Cut, Damage, DeleteBackup, DeleteExpired, Dump, ListArchived, ListBackup, ListCopy, ListIncarnation, LoseDatafile, LoseLog, Mount, OpenPlain, OpenResetlogs, Preview, Recover, RecoverTest, Remove, Rename, ReportSchema, ResetDatabase, Restore, ShowAll, SwitchLogfile, ValidateAll, Write}
 use Rattle.rm_statement.specs.IsCommand.{is_command}
 use Rattle.rm_report.specs.Reply as reply
 use Rattle.rm_report.specs.declared.line.Reply.{Reply}
 use Rattle.rm_machine.specs.Archive.{archive_all_refusal, IsArchiveOutcome}
 use Rattle.rm_machine.specs.Backup.{backup_refusal, IsBackupOutcome}
+use Rattle.rm_machine.specs.BackupLogs.{IsBackupLogsOutcome}
 use Rattle.rm_machine.specs.CreateDatabase.{IsCreateOutcome}
 use Rattle.rm_machine.specs.CreateDatafile.{datafile_refusal, IsDatafileOutcome}
 use Rattle.rm_machine.specs.Drills.{IsCutOutcome, IsDamageOutcome, IsRemoveOutcome, IsRenameOutcome}
@@ -57,6 +58,7 @@ refusal_of s (Write w) = write_refusal s w
 refusal_of s (SwitchLogfile t) = switch_refusal s t
 refusal_of s ArchiveLogCurrent = archive_all_refusal s
 refusal_of s (Backup b) = backup_refusal s b
+refusal_of s BackupLogs = ids_refusal s
 refusal_of s Mount = ids_refusal s
 refusal_of s OpenPlain = open_refusal s
 refusal_of s OpenResetlogs = resetlogs_refusal s
@@ -85,6 +87,7 @@ IsDone s held (Write w) o = IsWriteOutcome s w o
 IsDone s held (SwitchLogfile t) o = IsSwitchOutcome s t o
 IsDone s held ArchiveLogCurrent o = IsArchiveOutcome s o
 IsDone s held (Backup b) o = IsBackupOutcome s b o
+IsDone s held BackupLogs o = IsBackupLogsOutcome s held o
 IsDone s held Mount o = IsMountOutcome s o
 IsDone s held OpenPlain o = IsOpenOutcome s o
 IsDone s held OpenResetlogs o = IsResetlogsOutcome s o

@@ -31,6 +31,7 @@ pub fn is_built(command: &Command) -> bool
         Command::Recover { until } => is_built_until(until),
         Command::RecoverTest { until, .. } => is_built_until(until),
         Command::Backup(form) => is_built_backup(form),
+        Command::BackupLogs => true,
         Command::CreateDatabase { .. } => true,
         Command::CreateDatafile { .. } => true,
         Command::Write(_) => true,

@@ -1,0 +1,264 @@
+-- BACKUP ARCHIVELOG ALL leads on: backups of logs are recorded, one after another.
+use Rattle.std.proofs.Common.{◌≡◌, ◌≤◌, ◌+◌, ◌∙◌, ◌++◌, inl, inr, ℕ, suc, List, [], ◌∷◌, Option, Some, None, refl, ap, sym, subst, arith, append_assoc, filter, length, length-append, map, All, Contains, sum_by}
+use Rattle.std.specs.Option.{option_map_or}
+use Rattle.std.proofs.lemmas.List.{append-nil}
+use Rattle.std.proofs.lemmas.List.Elements.{All-contains, All-head, All-tail, All-weaker, Contains-append_left, Contains-push, Contains-push_cases}
+use Rattle.rm_base.specs.Store.{Held}
+use Rattle.rm_base.specs.declared.block.Change.{Change}
+use Rattle.rm_base.specs.declared.refusal.Limit.TheVariants.{Records, Bytes, ObjectIds}
+use Rattle.rm_base.specs.declared.refusal.Refusal.{Refusal}
+use Rattle.rm_base.specs.declared.refusal.Refusal.TheVariants.{Rm11}
+use Rattle.rm_base.proofs.Conditions.{unless}
+use Rattle.rm_base.proofs.Lists.{filter_from, map_from}
+use Rattle.rm_base.proofs.Sealing.{length-sealed}
+use Rattle.rm_catalog.specs.declared.record.LogEntry.{LogEntry}
+use Rattle.rm_catalog.specs.declared.record.Record.TheVariants.{Log}
+use Rattle.rm_change.specs.Names.{HasPuts}
+use Rattle.rm_evidence.specs.Available.{HasLog}
+use Rattle.rm_evidence.specs.Gathered.{IsLogOf, Lists}
+use Rattle.rm_history.specs.Tree.{IsThere, end_of, reset_of}
+use Rattle.rm_ledger.specs.Facts.{IsLogEntry}
+use Rattle.rm_ledger.specs.Ledger.{Ledger, records_of}
+use Rattle.rm_objects.specs.Objects.{HasLogFields}
+use Rattle.rm_redo.specs.declared.log_file.LogFile.{LogFile}
+use Rattle.rm_redo.specs.LogFormat.{IsLogFile, body_of}
+use Rattle.rm_redo.proofs.LogBodies.{length-body}
+use Rattle.rm_redo.proofs.LogFitting.{fits as fits-log}
+use Rattle.rm_report.specs.declared.line.Line.{Line}
+use Rattle.rm_repository.specs.Changes.{with_new_log}
+use Rattle.rm_repository.specs.Fitting.{FitsNewLog}
+use Rattle.rm_repository.specs.Repository.{Repository}
+use Rattle.rm_repository.proofs.Fitted.{many, new_log_fits}
+use Rattle.rm_statement.specs.declared.command.Command.TheVariants.{BackupLogs}
+use Rattle.rm_machine.specs.BackupLogs.{archived_in, copies_of, copies_refusal, copy_entry, copy_made, copy_object, copying, file_bytes, with_copies}
+use Rattle.rm_machine.specs.Effect.{Effect, LeavesObjects, Made, a_log, done, refused}
+use Rattle.rm_machine.specs.Machine.{DigestsTellFor, HasLogArtefact, IsBorneOut, IsTrueArtefact}
+use Rattle.rm_machine.specs.Marks.{lacks_bytes, lacks_ids, lacks_room}
+use Rattle.rm_machine.specs.Sound.{IsSound}
+use Rattle.rm_machine.specs.Upkeep.{with_catalog}
+use Rattle.rm_machine.specs.declared.state.State.{State}
+use Rattle.rm_machine.specs.State.{ledger, tree, world}
+use Rattle.rm_machine.proofs.Agreeing.{log-agrees}
+use Rattle.rm_machine.proofs.Archives.{puts-rest, with_puts}
+use Rattle.rm_machine.proofs.BackingUp.{HasRoom}
+use Rattle.rm_machine.proofs.Further.{roomy-either}
+use Rattle.rm_machine.proofs.Kept.{kept-on, stand-same}
+use Rattle.rm_machine.proofs.Later.{borne-beside}
+use Rattle.rm_machine.proofs.Leading.{LeadsOnBy, StaysBy}
+use Rattle.rm_machine.proofs.Standing.{each-in}
+use Rattle.rm_machine.proofs.Switching.{after-put, not-above, stand-fresh}
+
+-- the log of a record can be recorded again
+pub record CanRecord (s : State) (a : LogFile) : Type 0 where
+  pub valid : IsLogFile a
+  pub entry : IsLogEntry (tree s) (ledger s).base.threads (copy_entry (0, a))
+
+pub can-record : (s : State) (e : LogEntry) (a : LogFile) → IsSound s → Contains (ledger s).logs e → IsLogFile a → HasLogFields e a → CanRecord s a
+can-record s e a sound has valid fields =
+    let ns = tree s in
+    let is : IsLogEntry ns (ledger s).base.threads e = All-contains (IsLogEntry ns (ledger s).base.threads) (ledger s).logs e sound.catalog.ledger.logs has in
+    let body = length-body a (fits-log a valid) in
+    let whole = length-sealed (body_of a) in
+    let few = valid.few in
+    let thread = fields.thread in
+    let in_threads = is.thread in
+    let first = fields.first in
+    let next = fields.next in
+    let low : reset_of ns a.inc ≤ e.first = subst (λ i. reset_of ns i ≤ e.first) (sym fields.inc) is.range.0 in
+    let some = is.range.1 in
+    let high : e.next ≤ end_of ns a.inc = subst (λ i. e.next ≤ end_of ns i) (sym fields.inc) is.range.2 in
+    record {
+      valid = valid;
+      entry = record {
+        there = subst (IsThere ns) (sym fields.inc) is.there;
+        thread = omega (arith, thread, in_threads);
+        sequence = valid.sequence.0;
+        range = (omega (arith, first, low), omega (arith, first, next, some), omega (arith, next, high));
+        size = omega (arith, body, whole, few);
+      };
+    }
+
+-- the database with a backup of the log more, under the next id
+abbrev pub with_copy : State → LogFile → State
+with_copy s a = with_catalog s (with_new_log s.catalog (copy_entry ((ledger s).base.next_id, a)))
+
+count-copied : (s : State) (a : LogFile) → length (records_of (ledger (with_copy s a))) ≡ length (records_of (ledger s)) + 1
+count-copied s a =
+    let old = many (ledger s) in
+    let new = many (ledger (with_copy s a)) in
+    let logs = length-append s.catalog.ledger.logs (copy_entry (s.catalog.ledger.base.next_id, a) ∷ []) in
+    omega (arith, old, new, logs)
+
+-- One log
+module _ (s : State) (a : LogFile) (n : ℕ) (sound : IsSound s) (can : CanRecord s a) (room : HasRoom s (suc n)) where
+  abbrev l : Ledger
+  l = s.catalog.ledger
+
+  abbrev id : ℕ
+  id = l.base.next_id
+
+  abbrev q : State
+  q = with_copy s a
+
+  pub copy-fits : FitsNewLog s.catalog (copy_entry (id, a))
+  copy-fits =
+      let r = room.records in
+      let k = room.ids in
+      let is = can.entry in
+      record {
+        log = record { there = is.there; thread = is.thread; sequence = is.sequence; range = is.range; size = is.size };
+        id = refl;
+        last = omega (arith, k);
+        room = omega (arith, r);
+      }
+
+  pub copy-sound : IsSound q
+  copy-sound = record {
+    catalog = new_log_fits s.catalog (copy_entry (id, a)) sound.catalog copy-fits;
+    dbid = sound.dbid;
+    place = record { many = sound.place.many; each = sound.place.each };
+    logs = record { dbid = sound.logs.dbid; there = sound.logs.there; threads = sound.logs.threads; each = sound.logs.each };
+    in_open = λ opened. let was = sound.in_open opened in record { inc = was.inc; found = was.found; point = was.point };
+    point = λ at here. let was = sound.point at here in record { low = was.low; high = was.high; stands = was.stands };
+  }
+
+  -- the log agrees with the history, and its backup stands beside it
+  copy-borne : (h : List Change) (objects : Held) (made : List Made) (touched : List (List ℕ)) → IsTrueArtefact (world s) h (a_log a) → IsBorneOut s h objects made touched
+      → IsBorneOut q h (with_puts (copy_object (id, a) ∷ []) objects) (made ++ copy_made (id, a) ∷ []) touched
+  copy-borne h objects made touched agrees stands =
+      let after : Held = with_puts (copy_object (id, a) ∷ []) objects in
+      let effect : LeavesObjects (copying ((id, a) ∷ [])) objects after = record { put = after; puts = λ name. refl; removes = λ name. refl } in
+      let new : Made = copy_made (id, a) in
+      let keeps = stands.keeps in
+      record {
+        state = copy-sound;
+        keeps = record { history = keeps.history; below = keeps.below; online = keeps.online; place = keeps.place; in_open = keeps.in_open; point = keeps.point };
+        artefacts = λ x has. elim (Contains-push_cases made new x has) [
+          | inl old ↦ stands.artefacts x old
+          | inr same ↦ subst (λ (y : Made). IsTrueArtefact (world s) h y.artefact) same agrees
+        ];
+        records = kept-on objects after made (made ++ new ∷ []) touched touched l (ledger q)
+            (stand-fresh objects after touched l (ledger q) a sound.catalog.ledger effect)
+            (λ x has. Contains-append_left made (new ∷ []) x has)
+            (λ e has. elim (Contains-push_cases l.logs (copy_entry (id, a)) e has) [
+              | inl old ↦ inl old
+              | inr same ↦ inr (subst (HasLogArtefact after (made ++ new ∷ []) touched) same (record {
+                artefact = a;
+                is = Contains-push made new;
+                fields = record { inc = refl; thread = refl; sequence = refl; first = refl; next = refl };
+                digest = record { size = refl; sha = refl };
+                there = inr (after-put objects after id a effect);
+              }))
+            ])
+            (λ e has. inl has) stands.records;
+      }
+
+-- the others can be recorded still
+pub can-next : (s : State) (a : LogFile) (logs : List LogFile) → All (CanRecord s) (a ∷ logs) → All (CanRecord (with_copy s a)) logs
+can-next s a logs all = All-weaker (CanRecord s) (CanRecord (with_copy s a)) (λ b can. record { valid = can.valid; entry = can.entry }) logs (All-tail (CanRecord s) a logs all)
+
+pub room-next : (s : State) (a : LogFile) (n : ℕ) → HasRoom s (suc n) → HasRoom (with_copy s a) n
+room-next s a n room =
+    let more = count-copied s a in
+    let r = room.records in
+    let k = room.ids in
+    record { records = omega (arith, more, r); ids = omega (arith, k) }
+
+-- All of them
+
+abbrev pub after_copies : State → List LogFile → State
+after_copies s logs = with_catalog s (with_copies s.catalog (copies_of s logs))
+
+pub copies-sound : (logs : List LogFile) (s : State) → IsSound s → All (CanRecord s) logs → HasRoom s (length logs) → IsSound (after_copies s logs)
+copies-sound [] s sound all room = sound
+copies-sound (a ∷ logs) s sound all room =
+    let can = All-head (CanRecord s) a logs all in
+    copies-sound logs (with_copy s a) (copy-sound s a (length logs) sound can room) (can-next s a logs all) (room-next s a (length logs) room)
+
+copies-borne : (logs : List LogFile) (s : State) (h : List Change) (objects : Held) (made : List Made) (touched : List (List ℕ)) (after : Held) → All (CanRecord s) logs → All (λ a. IsTrueArtefact (world s) h (a_log a)) logs → HasRoom s (length logs)
+    → IsBorneOut s h objects made touched → HasPuts (map copy_object (copies_of s logs)) objects after → IsBorneOut (after_copies s logs) h after (made ++ map copy_made (copies_of s logs)) touched
+copies-borne [] s h objects made touched after all true_all room stands puts =
+    subst (λ k. IsBorneOut s h after k touched) (sym (append-nil made))
+    (borne-beside s h objects after made touched touched stands (stand-same objects after touched (ledger s) (ledger s) puts))
+copies-borne (a ∷ logs) s h objects made touched after all true_all room stands puts =
+    let can = All-head (CanRecord s) a logs all in
+    let agrees = All-head (λ (b : LogFile). IsTrueArtefact (world s) h (a_log b)) a logs true_all in
+    let q : State = with_copy s a in
+    let x : ℕ × LogFile = ((ledger s).base.next_id, a) in
+    let new : Made = copy_made x in
+    let one = copy-borne s a (length logs) stands.state can room h objects made touched agrees stands in
+    let rest = copies-borne logs q h (with_puts (copy_object x ∷ []) objects) (made ++ new ∷ []) touched after (can-next s a logs all) (All-tail (λ (b : LogFile). IsTrueArtefact (world s) h (a_log b)) a logs true_all) (room-next s a (length logs) room) one
+    (puts-rest (copy_object x ∷ []) (map copy_object (copies_of q logs)) objects after puts) in
+    subst (λ k. IsBorneOut (after_copies q logs) h after k touched) (append_assoc made (new ∷ []) (map copy_made (copies_of q logs))) rest
+
+-- a saved site that was not there is not there after it
+saved-same : (xs : List (ℕ × LogFile)) (r : Repository) → (with_copies r xs).saved ≡ r.saved
+saved-same [] r = refl
+saved-same (x ∷ xs) r = saved-same xs (with_new_log r (copy_entry x))
+
+-- Which logs they are
+
+-- the log is that of a record that counts as available
+pub of-record : (held : Held) (logs : List LogEntry) (id : ℕ) (a : LogFile) → IsLogOf held (archived_in logs) id a → (e : LogEntry) × Contains logs e × HasLog held e a
+of-record held logs id a is =
+    let row = map_from Log (filter (λ e. e.archived) logs) (Log is.0) is.1 in
+    let same : row.item ≡ is.0 = (let one = row.is in cc) in
+    (is.0, subst (Contains logs) same (filter_from (λ (e : LogEntry). e.archived) logs row.item row.held).0, is.3)
+
+-- what is so of each log that is found
+each-found : (P : LogFile → Type 0) (held : Held) (logs : List LogEntry) (found : List (ℕ × LogFile)) → Lists LogFile [] (IsLogOf held (archived_in logs)) found
+    → ((e : LogEntry) (a : LogFile) → Contains logs e → HasLog held e a → P a) → All P (map (λ x. x.1) found)
+each-found P held logs found lists each = each-in P (map (λ (x : ℕ × LogFile). x.1) found) (λ a has.
+    let x = map_from (λ (y : ℕ × LogFile). y.1) found a has in
+    let is = of-record held logs x.item.0 x.item.1 ((lists.exact x.item.0 x.item.1).0 (subst (λ (ys : List (ℕ × LogFile)). Contains ys x.item) lists.list x.held)) in
+    subst P x.is (each is.0 x.item.1 is.1 is.2))
+
+all-can : (s : State) (held : Held) (found : List (ℕ × LogFile)) → IsSound s → Lists LogFile [] (IsLogOf held (archived_in (ledger s).logs)) found → All (CanRecord s) (map (λ x. x.1) found)
+all-can s held found sound lists = each-found (CanRecord s) held (ledger s).logs found lists (λ e a has there. can-record s e a sound has there.object.valid there.object.fields)
+
+all-true : (s : State) (h : List Change) (objects : Held) (made : List Made) (touched : List (List ℕ)) (found : List (ℕ × LogFile)) → IsBorneOut s h objects made touched → DigestsTellFor objects made touched (ledger s)
+    → Lists LogFile [] (IsLogOf objects (archived_in (ledger s).logs)) found → All (λ a. IsTrueArtefact (world s) h (a_log a)) (map (λ x. x.1) found)
+all-true s h objects made touched found borne tell lists = each-found (λ a. IsTrueArtefact (world s) h (a_log a)) objects (ledger s).logs found lists (λ e a has there.
+    let can = can-record s e a borne.state has there.object.valid there.object.fields in
+    record { agrees = log-agrees s h objects made touched borne tell e a has there; valid = can.valid; within = (can.entry.there, can.entry.range.2); of = tt })
+
+-- Why it was not refused
+
+pub room-for : (s : State) (logs : List LogFile) → IsSound s → copies_refusal s logs ≡ None → HasRoom s (length logs)
+room-for s logs sound is =
+    let n = length logs in
+    let records = unless (lacks_room s n) (Rm11 Records) _ is in
+    let bytes = unless (lacks_bytes s (sum_by file_bytes logs)) (Rm11 Bytes) _ records.1 in
+    let ids = unless (lacks_ids s n) (Rm11 ObjectIds) None bytes.1 in
+    let few = sound.catalog.ledger.few in
+    record {
+      records = elim (roomy-either n (length (records_of (ledger s)) + n) records.0) [
+        | inl none ↦ omega (arith, none, few)
+        | inr room ↦ omega (arith, room)
+      ];
+      ids = not-above 4294967295 ((ledger s).base.next_id + n + 68) ids.0;
+    }
+
+pub done-of : (o : Option Refusal) (lines said : List Line) (x e : Effect) (q t : State) → done said e t ≡ option_map_or refused o (done lines x q) → (o ≡ None) × (x ≡ e) × (q ≡ t)
+done-of None lines said x e q t is = (refl, (let one : done said e t ≡ done lines x q = is in cc), (let one : done said e t ≡ done lines x q = is in cc))
+done-of (Some r) lines said x e q t is = absurd (let clash : done said e t ≡ refused r = is in cc)
+
+pub back_logs-on : LeadsOnBy BackupLogs
+back_logs-on s h objects made touched said e t after well borne tell none does effect =
+    let logs = map (λ (x : ℕ × LogFile). x.1) does.found in
+    let by : Effect = copying (copies_of s logs) in
+    let q : State = after_copies s logs in
+    let is = done-of (copies_refusal s logs) _ said by e q t does.is in
+    let took = subst (λ x. LeavesObjects x objects after) (sym is.1) effect in
+    let on : IsBorneOut q h after (made ++ by.made) touched =
+    copies-borne logs s h objects made touched after (all-can s objects does.found borne.state does.finds) (all-true s h objects made touched does.found borne tell does.finds) (room-for s logs borne.state is.0) borne (λ name. took.removes name ∙ took.puts name) in
+    subst (λ x. IsBorneOut x (h ++ e.changes) after (made ++ e.made) touched) is.2
+    (subst (λ (x : Effect). IsBorneOut q (h ++ x.changes) after (made ++ x.made) touched) is.1
+    (subst (λ k. IsBorneOut q k after (made ++ by.made) touched) (sym (append-nil h)) on))
+
+pub back_logs-stays : StaysBy BackupLogs
+back_logs-stays s objects said e t well sound none accepted does =
+    let logs = map (λ (x : ℕ × LogFile). x.1) does.found in
+    let q : State = after_copies s logs in
+    let is = done-of (copies_refusal s logs) _ said (copying (copies_of s logs)) e q t does.is in
+    (subst IsSound is.2 (copies-sound logs s sound (all-can s objects does.found sound does.finds) (room-for s logs sound is.0)), sym (ap (λ (x : State). x.catalog.saved) is.2) ∙ saved-same (copies_of s logs) s.catalog ∙ none)
