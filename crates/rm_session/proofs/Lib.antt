@@ -1,0 +1,5 @@
+pub mod GoodParts
+pub mod Lost
+pub mod OnlineParts
+pub mod RowsThere
+pub mod Waking
