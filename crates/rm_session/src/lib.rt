@@ -2,7 +2,7 @@
 #![tactic(auto)]
 
 pub mod fault;
-
+pub mod laws;
 pub mod loading;
 pub mod saving;
 

@@ -1,0 +1,79 @@
+-- A part that is good is the artefact that was saved.
+use Rattle.std.proofs.Common.{◌≡◌, ◌<◌, ◌∙◌, ◌==◌, ◌&&◌, inl, inr, ℕ, List, Some, None, Bool, true, sym, subst, arith, Contains, find}
+use Rattle.std.proofs.lemmas.Bool.{and_parts, eqb-true}
+use Rattle.rm_base.specs.Store.{Held}
+use Rattle.rm_base.specs.declared.block.Change.{Change}
+use Rattle.rm_base.proofs.Lists.{find_cases}
+use Rattle.rm_catalog.specs.declared.record.PartEntry.{PartEntry}
+use Rattle.rm_history.specs.Agrees.{BaseAgrees, LogAgrees}
+use Rattle.rm_history.specs.declared.world.Datafile.{Datafile}
+use Rattle.rm_ledger.specs.Ledger.{Ledger}
+use Rattle.rm_piece.specs.declared.piece.Piece.{Piece}
+use Rattle.rm_piece.specs.Artefacts.{base_of}
+use Rattle.rm_piece.specs.Spelling as piece_format
+use Rattle.rm_piece.specs.Valid.{IsPiece}
+use Rattle.rm_piece.proofs.Fitting.{spelling_same as piece_same}
+use Rattle.rm_redo.specs.declared.log_file.LogFile.{LogFile}
+use Rattle.rm_redo.specs.LogFile.{log_of}
+use Rattle.rm_redo.specs.LogFormat as log_format
+use Rattle.rm_redo.specs.LogFormat.{IsLogFile}
+use Rattle.rm_redo.proofs.LogFitting.{spelling_same as log_same}
+use Rattle.rm_repository.specs.Repository.{Saved}
+use Rattle.rm_machine.specs.Effect.{Artefact, Made, a_log, a_piece}
+use Rattle.rm_machine.specs.Machine.{IsTrueArtefact, PieceAgrees}
+use Rattle.rm_machine.specs.Rest.{HasPartArtefact, PartsTellFor}
+use Rattle.rm_machine.specs.Saved.{HasPart, IsGoodFile, IsGoodLog, IsOfPart, spelling_of}
+use Rattle.rm_machine.specs.State.{world_of}
+
+-- what a search finds is there, and passes
+pub found : {X : Type 0} (p : X → Bool) (xs : List X) (x : X) → find p xs ≡ Some x → Contains xs x × (p x ≡ true)
+found p xs x is = elim (find_cases p xs) [
+  | inl none ↦ absurd (let clash : None ≡ Some x = sym none ∙ is in cc)
+  | inr one ↦
+      let same : one.item ≡ x = (let both : Some one.item ≡ Some x = sym one.is ∙ is in cc) in
+      (subst (Contains xs) same one.held, subst (λ y. p y ≡ true) same one.passes)
+]
+
+module _ (l : Ledger) (h : List Change) (objects : Held) (made : List Made) (touched : List (List ℕ)) (site : Saved)
+    (truth : (a : Made) → Contains made a → IsTrueArtefact (world_of l) h a.artefact)
+    (parts : (p : PartEntry) → Contains site.parts p → HasPartArtefact objects made touched p)
+    (tell : PartsTellFor objects made touched site) where
+  -- the bytes of a part spell the artefact that was saved
+  bytes-same : (p : PartEntry) (bytes : List ℕ) → (has : Contains site.parts p) → HasPart objects p bytes → bytes ≡ spelling_of (parts p has).artefact
+  bytes-same p bytes has there =
+      let kept = parts p has in
+      elim kept.there [
+        | inl given ↦ tell.parts p kept.artefact bytes given has kept.is kept.digest there.there there.digest
+        | inr stands ↦ let one : Some bytes ≡ Some (spelling_of kept.artefact) = sym there.there ∙ stands in cc
+      ]
+
+  -- the piece of a datafile is the one that was saved
+  piece-by : (b : Artefact) (p : PartEntry) (a : Piece) → IsOfPart p b → 0 < p.file → IsTrueArtefact (world_of l) h b → IsPiece a → piece_format.spelling a ≡ spelling_of b → PieceAgrees (world_of l) h a.kind a
+  piece-by (a_log b) p a of positive is valid same = absurd (let none : p.file ≡ 0 = of in omega (arith, none, positive))
+  piece-by (a_piece b) p a of positive is valid same =
+      let one : b ≡ a = piece_same b a is.valid valid (sym same) in
+      subst (λ (x : Piece). PieceAgrees (world_of l) h x.kind x) one is.agrees
+
+  -- and the log of a thread
+  log-by : (b : Artefact) (p : PartEntry) (a : LogFile) → IsOfPart p b → p.file ≡ 0 → IsTrueArtefact (world_of l) h b → IsLogFile a → log_format.spelling a ≡ spelling_of b → LogAgrees h (log_of a)
+  log-by (a_log b) p a of none is valid same =
+      let one : b ≡ a = log_same b a is.valid valid (sym same) in
+      subst (λ (x : LogFile). LogAgrees h (log_of x)) one is.agrees
+  log-by (a_piece b) p a of none is valid same = absurd (let positive : 0 < p.file = of in omega (arith, none, positive))
+
+  pub file-agrees : (f : ℕ) (d : Datafile) (a : Piece) → 0 < f → IsGoodFile objects l site f d a → BaseAgrees (world_of l) h (base_of a)
+  file-agrees f d a positive good =
+      let p = good.part in
+      let at = found (λ q. q.file == f) site.parts p good.is in
+      let number : p.file ≡ f = eqb-true p.file f at.1 in
+      let kept = parts p at.0 in
+      subst (λ k. PieceAgrees (world_of l) h k a) good.fits.kind
+      (piece-by kept.artefact p a kept.of (omega (arith, number, positive)) (truth _ kept.is) good.valid (bytes-same p (piece_format.spelling a) at.0 good.has))
+
+  pub log-agrees : (t : ℕ) (a : LogFile) → IsGoodLog objects l site t a → LogAgrees h (log_of a)
+  log-agrees t a good =
+      let p = good.part in
+      let at = found (λ q. (q.file == 0) && (q.thread == t)) site.parts p good.is in
+      let number : p.file ≡ 0 = eqb-true p.file 0 (and_parts (p.file == 0) (p.thread == t) at.1).0 in
+      let kept = parts p at.0 in
+      log-by kept.artefact p a kept.of number (truth _ kept.is) good.valid (bytes-same p (log_format.spelling a) at.0 good.has)

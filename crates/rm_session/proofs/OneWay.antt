@@ -1,0 +1,92 @@
+-- What runs is loaded in one way.
+use Rattle.std.proofs.Common.{◌≡◌, ◌+◌, ◌∙◌, ◌&&◌, not, ℕ, List, Option, Some, None, Bool, true, false, cond, ap, sym, subst, arith}
+use Rattle.std.specs.Option.{option_map}
+use Rattle.std.proofs.lemmas.Option.{slice_get_within}
+use Rattle.rm_base.specs.Store.{Held}
+use Rattle.rm_blocks.specs.File.{File}
+use Rattle.rm_catalog.specs.declared.record.HeadEntry.{HeadEntry}
+use Rattle.rm_history.specs.declared.world.Datafile.{Datafile}
+use Rattle.rm_ledger.proofs.Lookups.{item-at}
+use Rattle.rm_redo.specs.Logs.{Logs}
+use Rattle.rm_repository.specs.Repository.{Repository, Saved}
+use Rattle.rm_machine.specs.Loading.{AreLoadedLogs, IsHeadPoint, IsLoaded, IsLoadedBy, IsLoadedFile, IsLoadedOf, IsLoadedPoint, IsTheOne, file_in, has_lost, online_of}
+use Rattle.rm_machine.specs.Mount.{mount_point}
+use Rattle.rm_machine.specs.Saved.{IsGoodFile, IsGoodLog}
+use Rattle.rm_machine.specs.Sound.{StandsAt}
+use Rattle.rm_machine.specs.declared.state.Instance.{Instance}
+use Rattle.rm_machine.specs.declared.state.State.{State}
+use Rattle.rm_session.proofs.OneByOne.{file-one, index-of, items-same, log-one, the-one}
+
+-- the database of a catalog, where this runs
+abbrev running : Repository → Instance → State
+running c a = record { catalog = c; instance = a }
+
+-- the head tells one point at most
+head-one : (s : State) (head : HeadEntry) (x y : ℕ) → IsHeadPoint s head x → IsHeadPoint s head y → x ≡ y
+head-one s head x y first second = sym first.scn ∙ second.scn
+
+-- and tells it of what stands in place alone
+head-moves : (c : Repository) (head : HeadEntry) (a b : Instance) → a.place ≡ b.place → (at : ℕ) → IsHeadPoint (running c b) head at → IsHeadPoint (running c a) head at
+head-moves c head a b same at is = record {
+  inc = is.inc;
+  scn = is.scn;
+  point = record {
+    low = is.point.low;
+    high = is.point.high;
+    stands = λ k d file here. subst (λ place. StandsAt place c.ledger.base.current at k) (sym same) (is.point.stands k d file here);
+  };
+}
+
+point-moves : (c : Repository) (head : HeadEntry) (a b : Instance) → a.place ≡ b.place → (o : Option ℕ) → IsTheOne (IsHeadPoint (running c b) head) o → IsTheOne (IsHeadPoint (running c a) head) o
+point-moves c head a b same None none = λ at is. none at (head-moves c head b a (sym same) at is)
+point-moves c head a b same (Some at) is = head-moves c head a b same at is
+
+module _ (held : Held) (c : Repository) (site : Saved) where
+  file-same : (k : ℕ) (d : Datafile) (x y : Option File) → IsLoadedFile held c.ledger site (k + 1) d x → IsLoadedFile held c.ledger site (k + 1) d y → x ≡ y
+  file-same k d x y first second =
+      first.is ∙ ap (option_map file_in) (the-one (IsGoodFile held c.ledger site (k + 1) d) first.part second.part (file-one held c.ledger site (k + 1) d) first.good second.good) ∙ sym second.is
+
+  logs-same : (x y : Logs) → AreLoadedLogs held c.ledger site x → AreLoadedLogs held c.ledger site y → x ≡ y
+  logs-same x y first second =
+      let parts : first.parts ≡ second.parts = items-same first.parts second.parts (first.many ∙ sym second.many) (λ k o p here there. the-one (IsGoodLog held c.ledger site (k + 1)) o p (log-one held c.ledger site (k + 1)) (first.good k o here) (second.good k p there)) in
+      first.are ∙ ap (online_of c.ledger) parts ∙ sym second.are
+
+  module _ (a b : Instance) (first : IsLoadedOf held (running c a) site) (second : IsLoadedOf held (running c b) site) where
+    place-same : a.place ≡ b.place
+    place-same = items-same a.place b.place (first.many ∙ sym second.many) (λ k x y here there.
+        let inside = slice_get_within a.place k x here in
+        let many = first.many in
+        let d = item-at c.ledger.files k (omega (arith, inside, many)) in
+        sym (index-of a.place k x here) ∙ file-same k d.0 _ _ (first.place k d.0 d.1) (second.place k d.0 d.1) ∙ index-of b.place k y there)
+
+    both-logs : a.logs ≡ b.logs
+    both-logs = logs-same a.logs b.logs first.logs second.logs
+
+    mode-same : a.is_open ≡ b.is_open
+    mode-same = first.is_open ∙ ap (λ (x : Logs). site.head.opened && not (has_lost x)) both-logs ∙ sym second.is_open
+
+    -- the point of a site that was open, and of one that was mounted
+    point-by : (opened : Bool) → IsLoadedPoint (running c a) site.head opened a.is_open → IsLoadedPoint (running c b) site.head opened b.is_open → a.point ≡ b.point
+    point-by true here there =
+        here
+        ∙ ap (λ m. cond m None (mount_point (running c a))) mode-same
+        ∙ ap (λ place. cond b.is_open None (mount_point (running c (record a { place = place })))) place-same
+        ∙ sym there
+    point-by false here there =
+        the-one (IsHeadPoint (running c a) site.head) a.point b.point (head-one (running c a) site.head) here (point-moves c site.head a b place-same b.point there)
+
+    pub site-same : a ≡ b
+    site-same =
+        let with_mode : Bool → Instance = λ x. record { is_open = x; point = a.point; place = a.place; logs = a.logs } in
+        let with_point : Option ℕ → Instance = λ x. record { is_open = b.is_open; point = x; place = a.place; logs = a.logs } in
+        let with_place : List (Option File) → Instance = λ x. record { is_open = b.is_open; point = b.point; place = x; logs = a.logs } in
+        let with_logs : Logs → Instance = λ x. record { is_open = b.is_open; point = b.point; place = b.place; logs = x } in
+        ap with_mode mode-same ∙ ap with_point (point-by site.head.opened first.point second.point) ∙ ap with_place place-same ∙ ap with_logs both-logs
+
+one-by : (held : Held) (c : Repository) (a b : Instance) (o : Option Saved) → IsLoadedBy held (running c a) o → IsLoadedBy held (running c b) o → a ≡ b
+one-by held c a b None first second = first ∙ sym second
+one-by held c a b (Some site) first second = site-same held c site a b first second
+
+pub one-way : (held : Held) (s t : State) → t.catalog ≡ s.catalog → IsLoaded held s → IsLoaded held t → t.instance ≡ s.instance
+one-way held s t same first second =
+    one-by held s.catalog t.instance s.instance s.catalog.saved (subst (λ c. IsLoaded held (running c t.instance)) same second) first

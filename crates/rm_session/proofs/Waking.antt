@@ -1,0 +1,157 @@
+-- A machine that wakes is sound.
+use Rattle.std.proofs.Common.{◌≡◌, ◌<◌, ◌≤◌, ◌+◌, ◌-◌, ◌∙◌, not, inl, inr, ℕ, List, Option, Some, None, IfSome, true, false, ap, sym, subst, arith, length, Contains, slice_get, slice_index_or}
+use Rattle.std.specs.Option.{option_map}
+use Rattle.std.proofs.lemmas.Bool.{and_parts, cases_Bool}
+use Rattle.std.proofs.lemmas.List.Elements.{All-contains}
+use Rattle.std.proofs.lemmas.Option.{slice_get_within}
+use Rattle.rm_base.specs.Store.{Held}
+use Rattle.rm_base.specs.declared.block.Change.{Change}
+use Rattle.rm_base.specs.declared.block.Row.{Row}
+use Rattle.rm_base.proofs.Slots.{get-index, index-get}
+use Rattle.rm_blocks.specs.File.{File, base_of, standing}
+use Rattle.rm_catalog.specs.declared.record.PartEntry.{PartEntry}
+use Rattle.rm_history.specs.Agrees.{BaseAgrees, LogAgrees}
+use Rattle.rm_history.specs.declared.world.Datafile.{Datafile}
+use Rattle.rm_history.specs.Tree.{end_of}
+use Rattle.rm_history.specs.World.{exists}
+use Rattle.rm_history.proofs.Highs.{high-above}
+use Rattle.rm_ledger.proofs.Lookups.{item-at}
+use Rattle.rm_piece.specs.declared.piece.Piece.{Piece}
+use Rattle.rm_redo.specs.LogFile.{log_file_of, log_of}
+use Rattle.rm_redo.specs.Logs.{Logs}
+use Rattle.rm_repository.specs.Repository.{Saved}
+use Rattle.rm_machine.specs.Effect.{Made}
+use Rattle.rm_machine.specs.Loading.{AreLoadedLogs, IsLoaded, IsLoadedBy, IsLoadedOf, IsTheOne, file_in, has_lost, online_of}
+use Rattle.rm_machine.specs.Machine.{HistoryFits, IsSoundBy, IsSoundMachine, Machine, RowsAre}
+use Rattle.rm_machine.specs.Rest.{HasPartArtefact, HaveParts, IsRestBorneOut, IsSoundRest, IsSoundRestBy, PartsTell, PartsTellFor, Rest, Wakes, catalog_in}
+use Rattle.rm_machine.specs.Saved.{IsGoodFile, IsGoodLog}
+use Rattle.rm_machine.specs.Sound.{IsSound}
+use Rattle.rm_machine.specs.declared.state.State.{State}
+use Rattle.rm_machine.specs.State.{counted, current_of, is_lost, ledger, now_of, online, world}
+use Rattle.rm_machine.proofs.Places.{counted-closed, counted-open}
+use Rattle.rm_session.proofs.GoodParts.{file-agrees, log-agrees}
+use Rattle.rm_session.proofs.Lost.{lost-fits}
+use Rattle.rm_session.proofs.OnlineParts.{log-part, online-is}
+use Rattle.rm_session.proofs.RowsThere.{rows-are}
+
+-- what is loaded is there where its part is
+good-by : (Good : Piece → Type 0) (o : Option Piece) (x : File) → IsTheOne Good o → Some x ≡ option_map file_in o → (a : Piece) × Good a × (x ≡ file_in a)
+good-by Good None x one is = absurd cc
+good-by Good (Some a) x one is = (a, one, (let same : Some x ≡ Some (file_in a) = is in cc))
+
+-- what stands there already
+standing-same : (x : File) (i c : ℕ) → x.inc ≡ i → x.checkpoint ≡ c → standing x i c ≡ x
+standing-same x i c inc checkpoint =
+    let with_inc : ℕ → File = λ n. record { file = x.file; inc = n; checkpoint = c; rows = x.rows } in
+    let with_checkpoint : ℕ → File = λ n. record { file = x.file; inc = x.inc; checkpoint = n; rows = x.rows } in
+    ap with_inc (sym inc) ∙ ap with_checkpoint (sym checkpoint)
+
+module _ (s : State) (h : List Change) (objects : Held) (made : List Made) (touched : List (List ℕ)) (sound : IsSound s) (borne : IsRestBorneOut s.catalog h objects made touched) where
+  module _ (site : Saved) (loaded : IsLoadedOf objects s site) (parts : (p : PartEntry) → Contains site.parts p → HasPartArtefact objects made touched p) (tell : PartsTellFor objects made touched site) where
+    -- what stands in place is that of a good part
+    record IsOfGood (k : ℕ) (x : File) : Type 0 where
+      datafile : Datafile
+      piece : Piece
+      good : IsGoodFile objects (ledger s) site (k + 1) datafile piece
+      is : x ≡ file_in piece
+
+    of-good : (k : ℕ) (x : File) → slice_index_or s.instance.place k None ≡ Some x → IsOfGood k x
+    of-good k x here =
+        let inside = slice_get_within s.instance.place k (Some x) (get-index s.instance.place k x here) in
+        let many = loaded.many in
+        let d = item-at (ledger s).files k (omega (arith, inside, many)) in
+        let one = loaded.place k d.0 d.1 in
+        let by = good-by (IsGoodFile objects (ledger s) site (k + 1) d.0) one.part x one.good (sym here ∙ one.is) in
+        record { datafile = d.0; piece = by.0; good = by.1; is = by.2 }
+
+    -- so it agrees
+    agrees : (k : ℕ) (x : File) → slice_index_or s.instance.place k None ≡ Some x → BaseAgrees (world s) h (base_of x)
+    agrees k x here =
+        let by = of-good k x here in
+        subst (λ y. BaseAgrees (world s) h (base_of y)) (sym by.is)
+        (file-agrees (ledger s) h objects made touched site borne.artefacts parts tell (k + 1) by.datafile by.piece (omega arith) by.good)
+
+    opened : s.instance.is_open ≡ true → site.head.opened ≡ true
+    opened is = (and_parts site.head.opened (not (has_lost s.instance.logs)) (sym loaded.is_open ∙ is)).0
+
+    -- in an open database it stands at `now`
+    at-now : s.instance.is_open ≡ true → (k : ℕ) (x : File) → slice_index_or s.instance.place k None ≡ Some x → (x.inc ≡ current_of s) × (x.checkpoint ≡ now_of s)
+    at-now is k x here =
+        let by = of-good k x here in
+        let fits = by.good.fits.in_open (opened is) in
+        (ap (λ (y : File). y.inc) by.is ∙ fits.0, ap (λ (y : File). y.checkpoint) by.is ∙ fits.1)
+
+    counted-same : (k : ℕ) (x : File) → slice_index_or s.instance.place k None ≡ Some x → counted s x ≡ x
+    counted-same k x here = elim (cases_Bool s.instance.is_open) [
+      | inl is ↦ let there = at-now is k x here in counted-open s x is ∙ standing-same x (current_of s) (now_of s) there.0 there.1
+      | inr closed ↦ counted-closed s x closed
+    ]
+
+    -- and lies below it
+    below-now : s.instance.is_open ≡ true → (k : ℕ) (x : File) → slice_index_or s.instance.place k None ≡ Some x → (r : Row) → Contains x.rows r → r.version < now_of s
+    below-now is k x here r has =
+        let by = of-good k x here in
+        let a = by.piece in
+        let above = high-above a.checkpoint a.rows r (subst (λ (y : File). Contains y.rows r) by.is has) in
+        let high = by.good.valid.high in
+        let end : a.high ≤ now_of s = subst (λ i. a.high ≤ end_of (ledger s).tree i) (by.good.fits.in_open (opened is)).0 by.good.fits.end in
+        omega (arith, above, high, end)
+
+    open-rows : s.instance.is_open ≡ true → (k : ℕ) (x : File) → slice_index_or s.instance.place k None ≡ Some x → RowsAre (world s) h (current_of s) (now_of s) x
+    open-rows is k x here =
+        let there = at-now is k x here in
+        rows-are (world s) h borne.history (current_of s) (now_of s) x (agrees k x here) there.0 there.1 (below-now is k x here)
+
+    -- what stands at the point has the states there
+    point-rows : (at : ℕ) → s.instance.point ≡ Some at → (k : ℕ) (d : Datafile) (x : File) → slice_get (ledger s).files k ≡ Some d → exists (world s) (current_of s) at d ≡ true → slice_get s.instance.place k ≡ Some (Some x) → RowsAre (world s) h (current_of s) at x
+    point-rows at point k d x file there here =
+        let stands = (sound.point at point).stands k d file there in
+        let same : stands.file ≡ x = (let both : Some (Some stands.file) ≡ Some (Some x) = sym stands.is ∙ here in cc) in
+        let low : (r : Row) → Contains stands.file.rows r → r.version < at = λ r has. All-contains (λ (q : Row). q.version < at) stands.file.rows r stands.below has in
+        subst (RowsAre (world s) h (current_of s) at) same
+        (rows-are (world s) h borne.history (current_of s) at stands.file (agrees k stands.file (index-get s.instance.place k stands.file stands.is)) stands.inc stands.checkpoint low)
+
+    -- an online log that is not lost is that of a good part
+    log-by : (logs : AreLoadedLogs objects (ledger s) site s.instance.logs) (t : ℕ) → 0 < t → t ≤ (ledger s).base.threads → is_lost (online_of (ledger s) logs.parts) t ≡ false → LogAgrees h (log_of (log_file_of (online_of (ledger s) logs.parts) t (end_of (ledger s).tree (online_of (ledger s) logs.parts).inc)))
+    log-by logs t low high found =
+        let many = logs.many in
+        let inside : t - 1 < length logs.parts = omega (arith, many, low, high) in
+        let one = log-part (ledger s) logs.parts t inside found in
+        let back : t - 1 + 1 ≡ t = omega (arith, low) in
+        let good : IsGoodLog objects (ledger s) site t one.log = subst (λ n. IsGoodLog objects (ledger s) site n one.log) back (logs.good (t - 1) (Some one.log) one.is) in
+        let next = good.fits.next ∙ ap (end_of (ledger s).tree) one.inc in
+        subst (λ a. LogAgrees h (log_of a)) (sym (online-is (ledger s) logs.parts t inside found one.log _ one.there good.fits.dbid one.inc good.fits.thread next))
+        (log-agrees (ledger s) h objects made touched site borne.artefacts parts tell t one.log good)
+
+    log-is : (t : ℕ) → 0 < t → t ≤ (ledger s).base.threads → is_lost s.instance.logs t ≡ false → LogAgrees h (log_of (online s t))
+    log-is t low high found =
+        let logs = loaded.logs in
+        subst (λ (x : Logs). LogAgrees h (log_of (log_file_of x t (end_of (ledger s).tree x.inc)))) (sym logs.are)
+        (log-by logs t low high (subst (λ (x : Logs). is_lost x t ≡ false) logs.are found))
+
+    site-fits : HistoryFits s h
+    site-fits = record {
+      history = borne.history;
+      below = borne.below;
+      online = log-is;
+      place = λ f x here. subst (λ y. BaseAgrees (world s) h (base_of y)) (sym (counted-same (f - 1) x here)) (agrees (f - 1) x here);
+      in_open = λ is f x here. open-rows is (f - 1) x here;
+      point = point-rows;
+    }
+
+  fits-by : (o : Option Saved) → IsLoadedBy objects s o → HaveParts objects made touched o → IfSome o (PartsTellFor objects made touched) → HistoryFits s h
+  fits-by None loaded parts tell = lost-fits s h borne.history borne.below loaded
+  fits-by (Some site) loaded parts tell = site-fits site loaded parts tell
+
+sound-by : (o : Option State) (h : List Change) (objects : Held) (made : List Made) (touched : List (List ℕ)) → IsSoundRestBy (catalog_in o) h objects made touched → IfSome (catalog_in o) (λ c. IfSome c.saved (PartsTellFor objects made touched)) → IfSome o (IsLoaded objects) → IfSome o IsSound → IsSoundBy o h objects made touched
+sound-by None h objects made touched borne tell loaded sound = borne
+sound-by (Some s) h objects made touched borne tell loaded sound = record {
+  state = sound;
+  keeps = fits-by s h objects made touched sound borne s.catalog.saved loaded borne.parts tell;
+  artefacts = borne.artefacts;
+  records = borne.records;
+}
+
+pub waking-sound : (r : Rest) (m : Machine) → IsSoundRest r → PartsTell r → Wakes r m → IfSome m.state IsSound → IsSoundMachine m
+waking-sound r m sound tell wakes state =
+    sound-by m.state m.history m.objects m.made m.touched (subst IsSoundRest (sym wakes.rest) sound) (subst PartsTell (sym wakes.rest) tell) wakes.loaded state
