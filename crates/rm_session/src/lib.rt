@@ -4,6 +4,7 @@
 pub mod fault;
 pub mod laws;
 pub mod loading;
+pub mod records;
 pub mod saving;
 
 pub use fault::SessionFault;
