@@ -1,5 +1,5 @@
 -- BACKUP of datafiles and of logs puts names of new ids alone.
-use Rattle.std.proofs.Common.{◌≡◌, ◌≤◌, ◌+◌, ◌∷◌, ℕ, suc, List, [], Some, length, map, refl, subst, arith, All}
+use Rattle.std.proofs.Common.{◌≡◌, ◌≤◌, ◌+◌, ◌∷◌, ℕ, List, [], Some, length, map, refl, subst, arith}
 use Rattle.std.proofs.lemmas.List.Elements.{All-cons, All-nil}
 use Rattle.rm_change.specs.declared.change.Object.{Object}
 use Rattle.rm_statement.specs.declared.command.BackupForm.{BackupForm}
@@ -7,7 +7,6 @@ use Rattle.rm_redo.specs.declared.log_file.LogFile.{LogFile}
 use Rattle.rm_statement.specs.declared.command.Command.TheVariants.{Backup, BackupLogs}
 use Rattle.rm_machine.specs.Backup.{after_file, backing, piece_object, puts_of, taken}
 use Rattle.rm_machine.specs.BackupLogs.{copies_of, copies_refusal, copy_object, copying, numbered_from}
-use Rattle.rm_machine.specs.Effect.{Effect}
 use Rattle.rm_machine.specs.Sound.{IsSound}
 use Rattle.rm_machine.specs.declared.state.State.{State}
 use Rattle.rm_machine.specs.State.{ledger}

@@ -1,28 +1,23 @@
 //! Recovers a database as its script says.
 #![tactic(auto)]
 
-use rm_base::{Failing, MemStore, Seq, StoreFailing, Text};
-use rm_catalog::MemKeeper;
+use rm_base::Text;
+use rm_dir::DirStore;
+use rm_keeper_sql::CatalogFile;
 use rm_tool::run::run;
 use rm_tool::{ReadSource, SystemClock, WriteSink};
+use rm_words::read_words;
 use std::alloc::Global;
 use std::process::ExitCode;
 use std::{env, io};
 
-// None of the calls fails.
-fn never(alloc: Global) -> Failing {
-    Failing::new(Vec::new(alloc))
-}
-
-// A store that holds nothing.
-fn empty_store(alloc: Global) -> MemStore {
-    let failing = StoreFailing {
-        gets: never(alloc),
-        puts: never(alloc),
-        removes: never(alloc),
-        names: never(alloc),
-    };
-    MemStore::new(alloc, failing)
+// The paths of the folder and of the catalog that the words say. Where these are refused nothing is opened by the empty
+// ones, and `run` asks neither.
+fn paths(alloc: Global, words: &[Text]) -> (String, String) {
+    match read_words(alloc, words) {
+        Ok(said) => (said.store.into_string(), said.catalog.into_string()),
+        Err(_) => (String::new(alloc), String::new(alloc)),
+    }
 }
 
 fn main(rt: HostRuntime) -> io::Result<ExitCode> {
@@ -31,12 +26,11 @@ fn main(rt: HostRuntime) -> io::Result<ExitCode> {
     for word in env::args(&rt)?.skip(1) {
         words.push(Text::from_string(word))?;
     }
+    let (folder, file) = paths(alloc, &words);
     let mut source = ReadSource::new(rt.reader());
     let mut sink = WriteSink::new(io::writer(&rt));
-    let mut store = empty_store(alloc);
-    let Ok(mut keeper) = MemKeeper::new(Seq::new(alloc), never(alloc), never(alloc)) else {
-        return Ok(ExitCode::from(7));
-    };
+    let mut store = DirStore::open(&rt, folder);
+    let mut keeper = CatalogFile::open(&rt, file.as_str());
     let mut clock = SystemClock::new(&rt);
     let status = run(
         alloc,
@@ -47,5 +41,7 @@ fn main(rt: HostRuntime) -> io::Result<ExitCode> {
         &mut keeper,
         &mut clock,
     );
+    // What was applied is durable without it.
+    let _ = keeper.close();
     Ok(ExitCode::from(status))
 }
