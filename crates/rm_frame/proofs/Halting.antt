@@ -82,7 +82,7 @@ sound-by given (Some s) h before after made touched same is parts =
     }
 
 -- and the devices hold it
-left-holds : (given : List (List ℕ)) (n : Machine) (w : Outside) (held : Option Held) (kept : Option (List Record)) → IsSoundMachine n → HaveParts n.objects n.made n.touched (saved_in n.state) → w.records ≡ records n → StaysUnder given n.state n.objects w.objects → Tells held kept w
+pub left-holds : (given : List (List ℕ)) (n : Machine) (w : Outside) (held : Option Held) (kept : Option (List Record)) → IsSoundMachine n → HaveParts n.objects n.made n.touched (saved_in n.state) → w.records ≡ records n → StaysUnder given n.state n.objects w.objects → Tells held kept w
     → HoldsRest held kept (left given n w.objects)
 left-holds given n w held kept sound parts same objects tells = record {
   store = tells.store;
@@ -90,11 +90,11 @@ left-holds given n w held kept sound parts same objects tells = record {
   sound = sound-by given n.state n.history n.objects w.objects n.made n.touched objects sound parts;
 }
 
-is-left : (given : List (List ℕ)) (n : Machine) (objects : Held) → StaysUnder given n.state n.objects objects → IsLeft given n (left given n objects)
+pub is-left : (given : List (List ℕ)) (n : Machine) (objects : Held) → StaysUnder given n.state n.objects objects → IsLeft given n (left given n objects)
 is-left given n objects same = record { catalog = refl; history = refl; made = refl; touched = refl; objects = same }
 
 -- the name of a log or a piece is none of a part
-no-part : (t : State) (name : List ℕ) → t.catalog.saved ≡ None → IsNamedBy t name → IsNoSite name
+pub no-part : (t : State) (name : List ℕ) → t.catalog.saved ≡ None → IsNamedBy t name → IsNoSite name
 no-part t _ none (of_object name names) = no-site (ledger t) name names
 no-part t _ none (of_part p has) = absurd (subst (λ o. IsSomeAnd o (λ site. Contains site.parts p)) none has)
 

@@ -1,0 +1,115 @@
+-- What a save of a database leaves, and what a stop leaves of it.
+use Rattle.std.proofs.Common.{◌≡◌, ◌∙◌, ◌++◌, ◌⊎◌, ◌+◌, ◌&&◌, inl, inr, ℕ, Bool, List, [], ◌∷◌, Option, Some, None, true, false, refl, ap, sym, subst}
+use Rattle.std.specs.Prelude.{is_none, IsSomeAnd, MatchBool, Contains}
+use Rattle.std.specs.Str.{bytes_eq}
+use Rattle.std.proofs.lemmas.Bool.{cases_Bool}
+use Rattle.std.proofs.lemmas.Slice.Eq.{bytes_eq-Decides}
+use Rattle.rm_base.specs.Store.{Held}
+use Rattle.rm_catalog.specs.Edits.{after_edits}
+use Rattle.rm_catalog.specs.declared.record.Record.{Record}
+use Rattle.rm_change.specs.declared.change.Change.{Change}
+use Rattle.rm_change.specs.Carrying.{Carried, Halted, Leads, Outside, Tells, after_the_edits, before_the_edits}
+use Rattle.rm_change.specs.Names.{SameBeyondPuts, HasPuts, HasRemoves, is_named, itself, name_of}
+use Rattle.rm_repository.specs.Repository.{Saved, all_records, records_of}
+use Rattle.rm_machine.specs.Machine.{Machine}
+use Rattle.rm_machine.specs.Marks.{lacks_ids}
+use Rattle.rm_machine.specs.Rest.{Rest, at_rest, catalog_in}
+use Rattle.rm_machine.specs.Saving.{IsSavedAs, IsSavedBy, SitePart, made_of, object_of, parts_of, with_ids, with_site}
+use Rattle.rm_machine.specs.declared.state.State.{State}
+use Rattle.rm_machine.specs.State.{ledger}
+use Rattle.rm_machine.proofs.Dropping.{IsNoSite, no-site}
+use Rattle.rm_session.proofs.Resting.{rests as saved-rests}
+use Rattle.rm_frame.specs.Holds.{Holds, HoldsRest, records, saved_in}
+use Rattle.rm_frame.specs.Loose.{IsNamedIn, of_object, of_part}
+use Rattle.rm_frame.specs.Saves.{IsEnded}
+use Rattle.rm_frame.specs.Stopped.{IsLeft}
+use Rattle.rm_frame.proofs.Halting.{StaysUnder, is-left, left, left-holds, no-part, rests}
+use Rattle.rm_site.specs.Saved.{SavesAt, StopsSavingAt}
+
+-- the objects of a save have names of parts alone
+unnamed-site : (id : ℕ) (parts : List SitePart) (name : List ℕ) → IsNoSite name → is_named name_of (with_ids object_of id parts) name ≡ false
+unnamed-site id [] name other = refl
+unnamed-site id (p ∷ ps) name other = elim (cases_Bool (bytes_eq name (object_of id p).name)) [
+  | inl same ↦ absurd (other id ((bytes_eq-Decides name (object_of id p).name).0 same))
+  | inr apart ↦ rw apart (unnamed-site (id + 1) ps name other)
+]
+
+module _ (held : Option Held) (kept : Option (List Record)) (s : State) where
+  -- where a saved site stands, or the ids of a save are not left, all stays as it is
+  ended-same : (m : Machine) (saved : Option Saved) (lacks : Bool) → (is_none saved ≡ false) ⊎ (lacks ≡ true)
+      → MatchBool (true && is_none saved) (MatchBool lacks (at_rest m ≡ at_rest m) (IsSavedAs m s (at_rest m))) (at_rest m ≡ at_rest m)
+  ended-same m None true why = refl
+  ended-same m None false (inl is) = absurd (cc)
+  ended-same m None false (inr is) = absurd (cc)
+  ended-same m (Some site) lacks why = refl
+
+  pub saves-nothing : (is_none s.catalog.saved ≡ false) ⊎ (lacks_ids s 0 ≡ true) → SavesAt held kept s held kept
+  saves-nothing why m is holds =
+      (at_rest m, subst (λ o. MatchBool (true && is_none (saved_in o)) (IsSavedBy o m (at_rest m)) (at_rest m ≡ at_rest m)) (sym is) (ended-same m s.catalog.saved (lacks_ids s 0) why), rests held kept m holds)
+
+  module _ (none : s.catalog.saved ≡ None) (ids : lacks_ids s 0 ≡ false) (x : Change) (puts : x.objects ≡ with_ids object_of (ledger s).base.next_id (parts_of s))
+      (edits : after_edits x.edits (records_of s.catalog) ≡ records_of (with_site s)) (removes : x.removes ≡ []) where
+    -- the machine at rest, where its site was saved
+    abbrev saved : Machine → Held → Rest
+    saved m objects = record { catalog = Some (with_site s); history = m.history; objects = objects; made = m.made ++ with_ids made_of (ledger s).base.next_id (parts_of s); touched = m.touched }
+
+    is-ended : (m : Machine) (r : Rest) → m.state ≡ Some s → IsSavedAs m s r → IsEnded true m r
+    is-ended m r is done =
+        subst (λ o. MatchBool (true && is_none (saved_in o)) (IsSavedBy o m r) (r ≡ at_rest m)) (sym is)
+        (subst (λ (v : Option Saved). MatchBool (true && is_none v) (MatchBool (lacks_ids s 0) (r ≡ at_rest m) (IsSavedAs m s r)) (r ≡ at_rest m)) (sym none)
+        (subst (λ (b : Bool). MatchBool b (r ≡ at_rest m) (IsSavedAs m s r)) (sym ids) done))
+
+    saved-as : (m : Machine) (put objects : Held) → HasPuts x.objects m.objects put → ((name : List ℕ) → objects name ≡ put name) → IsSavedAs m s (saved m objects)
+    saved-as m put objects has same = record {
+      catalog = refl;
+      history = refl;
+      objects = λ name. same name ∙ subst (λ y. HasPuts y m.objects put) puts has name;
+      made = refl;
+      touched = refl;
+    }
+
+    records-are : (m : Machine) (rs : List Record) → m.state ≡ Some s → rs ≡ after_edits x.edits (records m) → rs ≡ records_of (with_site s)
+    records-are m rs is made = made ∙ ap (λ (o : Option State). after_edits x.edits (all_records (catalog_in o))) is ∙ edits
+
+    saved-holds : (m : Machine) (w : Outside) (held' : Option Held) (kept' : Option (List Record)) → m.state ≡ Some s → Holds held kept m → IsSavedAs m s (saved m w.objects)
+        → w.records ≡ after_edits x.edits (records m) → Tells held' kept' w → HoldsRest held' kept' (saved m w.objects)
+    saved-holds m w held' kept' is holds done made tells = record {
+      store = tells.store;
+      keeper = tells.keeper ∙ ap Some (records-are m w.records is made);
+      sound = saved-rests m s (saved m w.objects) holds.sound is none ids done;
+    }
+
+    pub saves-all : (held' : Option Held) (kept' : Option (List Record)) → Leads (Carried x) held kept held' kept' → SavesAt held kept s held' kept'
+    saves-all held' kept' leads m is holds =
+        let all = leads (record { objects = m.objects; records = records m }) (record { store = holds.store; keeper = holds.keeper }) in
+        let w = all.0 in
+        let same : (name : List ℕ) → w.objects name ≡ all.1.put name = subst (λ (ys : List (List ℕ)). HasRemoves ys all.1.put w.objects) removes all.1.removes in
+        let done = saved-as m all.1.put w.objects all.1.puts same in
+        (saved m w.objects, is-ended m (saved m w.objects) is done, saved-holds m w held' kept' is holds done all.1.records all.2)
+
+    -- the names of records are none of the new objects
+    stays-under : (m : Machine) (objects : Held) → m.state ≡ Some s → SameBeyondPuts x.objects m.objects objects → StaysUnder [] m.state m.objects objects
+    stays-under m objects is same name names =
+        let other = no-part s name none (subst (λ o. IsNamedIn o name) is names) in
+        inr (same name (ap (λ ys. is_named name_of ys name) puts ∙ unnamed-site (ledger s).base.next_id (parts_of s) name other))
+
+    halted : (m : Machine) → m.state ≡ Some s → Holds held kept m → (held' : Option Held) (kept' : Option (List Record)) (w : Outside) → Halted x (record { objects = m.objects; records = records m }) w → Tells held' kept' w
+        → (r : Rest) × (IsLeft [] m r ⊎ IsEnded true m r) × HoldsRest held' kept' r
+    halted m is holds held' kept' w (before_the_edits b) tells =
+        let same = stays-under m w.objects is b.objects in
+        (left [] m w.objects, inl (is-left [] m w.objects same), left-holds [] m w held' kept' holds.sound holds.parts b.records same tells)
+    halted m is holds held' kept' w (after_the_edits a) tells =
+        let same : (name : List ℕ) → w.objects name ≡ a.put name = λ name. a.removes name (ap (λ (ys : List (List ℕ)). is_named itself ys name) removes) in
+        let done = saved-as m a.put w.objects a.puts same in
+        (saved m w.objects, inr (is-ended m (saved m w.objects) is done), saved-holds m w held' kept' is holds done a.records tells)
+
+    pub stops-saving : (held' : Option Held) (kept' : Option (List Record)) → Leads (Halted x) held kept held' kept' → StopsSavingAt held kept s held' kept'
+    stops-saving held' kept' leads m is holds =
+        let w = leads (record { objects = m.objects; records = records m }) (record { store = holds.store; keeper = holds.keeper }) in
+        halted m is holds held' kept' w.0 w.1 w.2
+
+  -- where nothing was done yet
+  pub stops-before : StopsSavingAt held kept s held kept
+  stops-before m is holds =
+      let same : StaysUnder [] m.state m.objects m.objects = λ name names. inr refl in
+      (at_rest m, inl (is-left [] m m.objects same), rests held kept m holds)

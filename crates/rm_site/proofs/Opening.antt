@@ -1,0 +1,77 @@
+-- What opening a site finds.
+use Rattle.std.proofs.Common.{◌≡◌, ◌∙◌, ℕ, List, [], Option, Some, None, IfSome, refl, ap, sym, subst, All}
+use Rattle.std.specs.Prelude.{Result, Ok, IsPermutation}
+use Rattle.std.proofs.lemmas.List.Elements.{All-nil}
+use Rattle.std.proofs.lemmas.List.Sorted.{IsPermutation-sym, IsPermutation-trans}
+use Rattle.rm_base.specs.Store.{Held}
+use Rattle.rm_catalog.specs.declared.catalog.CatalogFault.{CatalogFault}
+use Rattle.rm_catalog.specs.declared.catalog.CatalogFault.TheVariants.{BadRow}
+use Rattle.rm_catalog.specs.declared.record.Record.{Record}
+use Rattle.rm_catalog.specs.Faults.{Answers, IsBadRow, IsTaken}
+use Rattle.rm_catalog.specs.Keys.{InOrder}
+use Rattle.rm_catalog.specs.Rules.{IsCatalog, IsFirstBad, IsOrderOf, IsValid}
+use Rattle.rm_repository.specs.Loading.{records_in}
+use Rattle.rm_repository.specs.Repository.{Repository, all_records}
+use Rattle.rm_repository.proofs.Valid.{repository-valid}
+use Rattle.rm_machine.specs.Loading.{IsLoaded}
+use Rattle.rm_machine.specs.Machine.{Machine}
+use Rattle.rm_machine.specs.Rest.{HaveParts, IsSoundRest, IsSoundRestBy, PartsTell, Rest, Wakes, at_rest, catalog_in}
+use Rattle.rm_machine.specs.Sound.{IsSound}
+use Rattle.rm_machine.specs.declared.state.State.{State}
+use Rattle.rm_session.proofs.Recorded.{one-catalog}
+use Rattle.rm_session.proofs.Waking.{waking-sound}
+use Rattle.rm_frame.specs.Holds.{Holds, HoldsRest, Stands, View, saved_in}
+use Rattle.rm_site.specs.Opens.{AreValid, Opens}
+
+-- a list of all in order is one of what was asked for
+answered : (ks rs s : List Record) → IsPermutation ks rs → IsOrderOf s rs → IsOrderOf s ks
+answered ks rs s asked is = record { permutation = IsPermutation-trans ks rs s asked is.permutation; order = is.order }
+
+-- what is so of the records that were loaded, in order, is so of those that are kept
+pub of-kept : (Is : List Record → Type 0) (kept : Option (List Record)) (rs s : List Record) → Answers kept rs → IsOrderOf s rs → Is s → IfSome kept (λ ks. (s : List Record) × IsOrderOf s ks × Is s)
+of-kept Is None rs s asked order is = tt
+of-kept Is (Some ks) rs s asked order is = (s, answered ks rs s asked order, is)
+
+-- the records of a database at rest are valid, and in order
+valid-at-rest : (c : Option Repository) (r : Rest) → r.catalog ≡ c → IsSoundRest r → IsValid (all_records c) × InOrder (all_records c)
+valid-at-rest None r is sound = (All-nil _, λ i j d less inside. absurd (let clash = inside in omega (arith, clash)))
+valid-at-rest (Some c) r is sound =
+    let borne = subst (λ o. IsSoundRestBy o r.history r.objects r.made r.touched) is sound in
+    let valid = repository-valid c borne.catalog in
+    (valid.valid, valid.order)
+
+-- what is loaded of them is the catalog
+pub loaded-is : (held : Option Held) (kept : Option (List Record)) (rs : List Record) (c : Option Repository) (r : Rest) → HoldsRest held kept r → Answers kept rs
+    → ((s : List Record) → IsOrderOf s rs → IsValid s → IsTaken (records_in (Ok c)) s) → c ≡ r.catalog
+loaded-is held kept rs c r holds asked only =
+    let valid = valid-at-rest r.catalog r refl holds.sound in
+    let s = all_records r.catalog in
+    let asked_is : IsPermutation s rs = subst (λ (k : Option (List Record)). Answers k rs) holds.keeper asked in
+    one-catalog c r.catalog (only s (record { permutation = IsPermutation-sym s rs asked_is; order = valid.1 }) valid.0)
+
+-- the parts of its saved site
+parts-of : (o : Option State) (r : Rest) → IsSoundRestBy (catalog_in o) r.history r.objects r.made r.touched → HaveParts r.objects r.made r.touched (saved_in o)
+parts-of None r sound = tt
+parts-of (Some s) r sound = sound.parts
+
+-- so the machine wakes, for which the site stands
+pub opened : (held : Option Held) (kept : Option (List Record)) (v : View) → IfSome v.state IsSound → ((r : Rest) → HoldsRest held kept r → catalog_in v.state ≡ r.catalog)
+    → IfSome held (λ h. IfSome v.state (IsLoaded h)) → Opens held kept v
+opened held kept v sound catalog loaded r holds tell =
+    let is = catalog r holds in
+    let m : Machine = record { state = v.state; history = r.history; objects = r.objects; made = r.made; touched = r.touched } in
+    let wakes : Wakes r m = record {
+      rest = ap (λ (c : Option Repository). record { catalog = c; history = r.history; objects = r.objects; made = r.made; touched = r.touched }) is;
+      loaded = subst (λ (h : Option Held). IfSome h (λ h. IfSome v.state (IsLoaded h))) holds.store loaded;
+    } in
+    let rests = subst (λ c. IsSoundRestBy c r.history r.objects r.made r.touched) (sym is) holds.sound in (
+      m,
+      wakes,
+      refl,
+      record {
+        store = holds.store;
+        keeper = holds.keeper ∙ ap (λ (c : Option Repository). Some (all_records c)) (sym is);
+        sound = waking-sound r m holds.sound tell wakes sound;
+        parts = parts-of v.state r rests;
+      },
+    )
