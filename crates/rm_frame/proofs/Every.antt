@@ -1,11 +1,12 @@
 -- The laws of every statement. One that is not in the machine yet comes to nothing.
 use Rattle.std.proofs.Common.{refl}
 use Rattle.rm_statement.specs.declared.command.Command.{Command}
-use Rattle.rm_statement.specs.declared.command.Command.TheVariants.{ArchiveLogCurrent, Backup, ChangeBackup, CreateDatabase, CreateDatafile, Crosscheck, Cut, Damage, DeleteBackup, DeleteExpired, Dump, ListArchived, ListBackup, ListCopy, ListIncarnation, LoseDatafile, LoseLog, Mount, OpenPlain, OpenResetlogs, Preview, Recover, RecoverTest, Remove, Rename, ReportSchema, ResetDatabase, Restore, ShowAll, SwitchLogfile, ValidateAll, Write}
+use Rattle.rm_statement.specs.declared.command.Command.TheVariants.{ArchiveLogCurrent, Backup, BackupLogs, ChangeBackup, CreateDatabase, CreateDatafile, Crosscheck, Cut, Damage, DeleteBackup, DeleteExpired, Dump, ListArchived, ListBackup, ListCopy, ListIncarnation, LoseDatafile, LoseLog, Mount, OpenPlain, OpenResetlogs, Preview, Recover, RecoverTest, Remove, Rename, ReportSchema, ResetDatabase, Restore, ShowAll, SwitchLogfile, ValidateAll, Write}
 use Rattle.rm_machine.specs.Laws.{LeadsOn, TellsOn}
 use Rattle.rm_machine.proofs.AddingDatafile.{create-on, create-stays}
 use Rattle.rm_machine.proofs.ArchivingAll.{all-on, all-stays}
 use Rattle.rm_machine.proofs.BackingUp.{backup-on, backup-stays}
+use Rattle.rm_machine.proofs.BackingUpLogs.{back_logs-on, back_logs-stays}
 use Rattle.rm_machine.proofs.Branching.{resets-on, resets-stays}
 use Rattle.rm_machine.proofs.Choosing.{choose-on, choose-stays}
 use Rattle.rm_machine.proofs.Deleting.{delete-on, delete-stays}
@@ -23,7 +24,7 @@ use Rattle.rm_machine.proofs.Upkeep.{changed-on, changed-stays, checked-on, chec
 use Rattle.rm_machine.proofs.Writing.{write-on, write-stays}
 use Rattle.rm_frame.specs.Loose.{StaysLoose}
 use Rattle.rm_frame.proofs.Founding.{never-again, never-loose}
-use Rattle.rm_frame.proofs.LooseBackup.{backup-loose}
+use Rattle.rm_frame.proofs.LooseBackup.{back_logs-loose, backup-loose}
 use Rattle.rm_frame.proofs.LooseDrills.{cut-loose, damage-loose, remove-loose, rename-loose}
 use Rattle.rm_frame.proofs.LooseNew.{archive-loose, branch-loose, switch-loose}
 use Rattle.rm_frame.proofs.LooseUpkeep.{change-loose, check-loose, delete-loose, expire-loose}
@@ -40,6 +41,7 @@ every-leads OpenPlain = leads OpenPlain open-on
 every-leads OpenResetlogs = leads OpenResetlogs resets-on
 every-leads (ResetDatabase i) = leads (ResetDatabase i) (choose-on i)
 every-leads (Backup b) = leads (Backup b) (backup-on b)
+every-leads BackupLogs = leads BackupLogs back_logs-on
 every-leads (Restore file until) = leads (Restore file until) (restore-on file until)
 every-leads (Recover until) = leads (Recover until) (recover-on until)
 every-leads (RecoverTest until inc) = leads (RecoverTest until inc) (tells-on (RecoverTest until inc) refl)
@@ -78,6 +80,7 @@ every-loose OpenPlain = open-loose
 every-loose OpenResetlogs = branch-loose
 every-loose (ResetDatabase i) = choose-loose i
 every-loose (Backup b) = backup-loose b
+every-loose BackupLogs = back_logs-loose
 every-loose (Restore file until) = restore-loose file until
 every-loose (Recover until) = recover-loose until
 every-loose (RecoverTest until inc) = told-loose (RecoverTest until inc) refl
@@ -113,6 +116,7 @@ every-stays OpenPlain = open-stays
 every-stays OpenResetlogs = resets-stays
 every-stays (ResetDatabase i) = choose-stays i
 every-stays (Backup b) = backup-stays b
+every-stays BackupLogs = back_logs-stays
 every-stays (Restore file until) = restore-stays file until
 every-stays (Recover until) = recover-stays until
 every-stays (RecoverTest until inc) = tells-stays (RecoverTest until inc) refl

@@ -1,19 +1,22 @@
--- BACKUP puts names of new ids alone.
-use Rattle.std.proofs.Common.{◌≡◌, ◌≤◌, ◌+◌, ◌∷◌, ℕ, suc, List, [], Some, length, refl, subst, arith, All}
+-- BACKUP of datafiles and of logs puts names of new ids alone.
+use Rattle.std.proofs.Common.{◌≡◌, ◌≤◌, ◌+◌, ◌∷◌, ℕ, suc, List, [], Some, length, map, refl, subst, arith, All}
 use Rattle.std.proofs.lemmas.List.Elements.{All-cons, All-nil}
 use Rattle.rm_change.specs.declared.change.Object.{Object}
 use Rattle.rm_statement.specs.declared.command.BackupForm.{BackupForm}
-use Rattle.rm_statement.specs.declared.command.Command.TheVariants.{Backup}
+use Rattle.rm_redo.specs.declared.log_file.LogFile.{LogFile}
+use Rattle.rm_statement.specs.declared.command.Command.TheVariants.{Backup, BackupLogs}
 use Rattle.rm_machine.specs.Backup.{after_file, backing, piece_object, puts_of, taken}
+use Rattle.rm_machine.specs.BackupLogs.{copies_of, copies_refusal, copy_object, copying, numbered_from}
 use Rattle.rm_machine.specs.Effect.{Effect}
 use Rattle.rm_machine.specs.Sound.{IsSound}
 use Rattle.rm_machine.specs.declared.state.State.{State}
 use Rattle.rm_machine.specs.State.{ledger}
 use Rattle.rm_machine.specs.Step.{refusal_of}
 use Rattle.rm_machine.proofs.BackingUp.{HasRoom, can-back_up, next-room}
+use Rattle.rm_machine.proofs.BackingUpLogs.{after_copies, done-of, room-for}
 use Rattle.rm_machine.proofs.Leading.{done-by}
 use Rattle.rm_frame.specs.Loose.{IsLoose, StaysLoose}
-use Rattle.rm_frame.proofs.LooseNew.{AreNew, IsNewName, new-loose, new-piece}
+use Rattle.rm_frame.proofs.LooseNew.{AreNew, IsNewName, new-log, new-loose, new-piece}
 
 pieces-new : (b : BackupForm) (tag fs : List ℕ) (s first : State) → IsSound first → (ledger first).base.next_id ≤ (ledger s).base.next_id → HasRoom s (length fs) → AreNew first (puts_of s b tag fs)
 pieces-new b tag [] s first sound low room = All-nil (λ (x : Object). IsNewName first x.name)
@@ -35,3 +38,21 @@ backup-loose b s held lines e t sound comes =
     let can = can-back_up s b sound both.0 in
     subst (λ x. IsLoose (Some s) (Backup b) x t) same
     (new-loose s (Backup b) (backing s b tag fs) t refl (pieces-new b tag fs s s sound (omega arith) can.room))
+
+-- BACKUP ARCHIVELOG ALL
+
+copies-new : (logs : List LogFile) (n : ℕ) (s : State) → IsSound s → (ledger s).base.next_id ≤ n → n + length logs ≤ 4294967295 → AreNew s (map copy_object (numbered_from n logs))
+copies-new [] n s sound low most = All-nil (λ (x : Object). IsNewName s x.name)
+copies-new (a ∷ logs) n s sound low most =
+    All-cons (λ (x : Object). IsNewName s x.name) (copy_object (n, a)) (map copy_object (numbered_from (n + 1) logs))
+    (new-log s n sound (record { next = low; most = omega (arith, most) }))
+    (copies-new logs (n + 1) s sound (omega (arith, low)) (omega (arith, most)))
+
+pub back_logs-loose : StaysLoose BackupLogs
+back_logs-loose s held lines e t sound comes =
+    let does = (done-by (refusal_of s BackupLogs) s held BackupLogs lines e t comes).1 in
+    let logs = map (λ (x : ℕ × LogFile). x.1) does.found in
+    let is = done-of (copies_refusal s logs) _ lines (copying (copies_of s logs)) e (after_copies s logs) t does.is in
+    let most = (room-for s logs sound is.0).ids in
+    subst (λ x. IsLoose (Some s) BackupLogs x t) is.1
+    (new-loose s BackupLogs (copying (copies_of s logs)) t refl (copies-new logs (ledger s).base.next_id s sound (omega arith) (omega (arith, most))))
