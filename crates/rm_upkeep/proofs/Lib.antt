@@ -1,4 +1,6 @@
+pub mod Archived
 pub mod Checked
+pub mod Copies
 pub mod Fits
 pub mod Known
 pub mod Listed

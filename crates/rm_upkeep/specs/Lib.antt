@@ -1,3 +1,4 @@
 pub mod Amended
 pub mod Expired
 pub mod Lines
+pub mod Logs

@@ -1,15 +1,18 @@
-//! The upkeep of records: CHANGE BACKUP, DELETE BACKUP, DELETE EXPIRED and CROSSCHECK.
+//! The upkeep of records: CHANGE BACKUP, DELETE BACKUP, DELETE EXPIRED, CROSSCHECK, and BACKUP ARCHIVELOG ALL.
 #![tactic(auto)]
 
 mod amending;
 mod changing;
+mod copying;
 mod crosschecking;
 mod deleting;
 mod dropping;
 mod expiring;
+mod looking;
 mod refusing;
 
 pub use changing::change_backup;
+pub use copying::backup_logs;
 pub use crosschecking::crosscheck;
 pub use deleting::delete_backup;
 pub use expiring::delete_expired;
