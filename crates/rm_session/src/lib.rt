@@ -2,8 +2,8 @@
 #![tactic(auto)]
 
 pub mod fault;
-
 pub mod loading;
+mod parts;
 pub mod saving;
 
 pub use fault::SessionFault;

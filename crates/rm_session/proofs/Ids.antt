@@ -1,0 +1,66 @@
+-- Parts under ids, one after another.
+use Rattle.std.proofs.Common.{◌≡◌, ◌<◌, ◌≤◌, ◌+◌, ◌∙◌, inl, inr, ℕ, suc, List, [], ◌∷◌, refl, ap, subst, arith, length, All, AllPairs, Contains}
+use Rattle.std.proofs.lemmas.List.Elements.{All-contains}
+use Rattle.std.proofs.lemmas.List.Kept.{AllPairs-cons}
+use Rattle.rm_base.proofs.Members.{behind, in-front, none-in, first-or-rest}
+use Rattle.rm_machine.specs.Saving.{SitePart, with_ids}
+use Rattle.rm_machine.proofs.Standing.{each-in}
+
+-- of one of these parts, which has an id
+pub record IsUnderId {A : Type 0} (make : ℕ → SitePart → A) (n : ℕ) (ps : List SitePart) (y : A) : Type 0 where
+  pub at : ℕ
+  pub inside : at < length ps
+  pub part : SitePart
+  pub held : Contains ps part
+  pub is : make (n + at) part ≡ y
+
+pub ids-from : {A : Type 0} (make : ℕ → SitePart → A) (n : ℕ) (ps : List SitePart) (y : A) → Contains (with_ids make n ps) y → IsUnderId make n ps y
+ids-from make n [] y has = absurd (none-in y has)
+ids-from make n (p ∷ ps) y has = elim (first-or-rest (make n p) (with_ids make (n + 1) ps) y has) [
+  | inl same ↦ let here : n + 0 ≡ n = omega arith in record { at = 0; inside = omega arith; part = p; held = in-front p ps; is = ap (λ k. make k p) here ∙ same }
+  | inr rest ↦
+      let later = ids-from make (n + 1) ps y rest in
+      let inside = later.inside in
+      let next : n + suc later.at ≡ n + 1 + later.at = omega arith in
+      record { at = suc later.at; inside = omega (arith, inside); part = later.part; held = behind p ps later.part later.held; is = ap (λ k. make k later.part) next ∙ later.is }
+]
+
+-- each part has its id, which is the same for all that is made of it
+pub record HasAnId (n : ℕ) (ps : List SitePart) (p : SitePart) : Type 1 where
+  pub at : ℕ
+  pub inside : at < length ps
+  pub held : {A : Type 0} (make : ℕ → SitePart → A) → Contains (with_ids make n ps) (make (n + at) p)
+
+pub ids-to : (n : ℕ) (ps : List SitePart) (p : SitePart) → Contains ps p → HasAnId n ps p
+ids-to n [] p has = absurd (none-in p has)
+ids-to n (q ∷ ps) p has = elim (first-or-rest q ps p has) [
+  | inl same ↦
+      let here : n ≡ n + 0 = omega arith in
+      record {
+        at = 0;
+        inside = omega arith;
+        held = λ {A} make. subst (λ (y : A). Contains (with_ids make n (q ∷ ps)) y) (ap (make n) same ∙ ap (λ k. make k p) here) (in-front (make n q) (with_ids make (n + 1) ps));
+      }
+  | inr rest ↦
+      let later = ids-to (n + 1) ps p rest in
+      let inside = later.inside in
+      let next : n + 1 + later.at ≡ n + suc later.at = omega arith in
+      record {
+        at = suc later.at;
+        inside = omega (arith, inside);
+        held = λ {A} make. subst (λ (y : A). Contains (with_ids make n (q ∷ ps)) y) (ap (λ k. make k p) next) (behind (make n q) (with_ids make (n + 1) ps) (make (n + 1 + later.at) p) (later.held make));
+      }
+]
+
+-- what is so for each two parts that are so, under ids that ascend
+pub ids-pairs : {A : Type 0} (make : ℕ → SitePart → A) (Q : SitePart → SitePart → Type 0) (R : A → A → Type 0) (top : ℕ) → ((i j : ℕ) (p q : SitePart) → i < j → j < top → Q p q → R (make i p) (make j q))
+    → (n : ℕ) (ps : List SitePart) → n + length ps ≤ top → AllPairs Q ps → AllPairs R (with_ids make n ps)
+ids-pairs make Q R top each n [] room apart = λ i j d less inside. absurd (omega (arith, inside))
+ids-pairs {A} make Q R top each n (p ∷ ps) room apart =
+    AllPairs-cons R (make n p) (with_ids make (n + 1) ps)
+    (each-in (R (make n p)) (with_ids make (n + 1) ps) (λ y has.
+    let from = ids-from make (n + 1) ps y has in
+    let inside = from.inside in
+    subst (R (make n p)) from.is (each n (n + 1 + from.at) p from.part (omega arith) (omega (arith, inside, room))
+    (All-contains (Q p) ps from.part (λ k d in-ps. apart 0 (suc k) d (omega arith) (omega (arith, in-ps))) from.held))))
+    (ids-pairs make Q R top each (n + 1) ps (omega (arith, room)) (λ i j d less in-ps. apart (suc i) (suc j) d (omega (arith, less)) (omega (arith, in-ps))))

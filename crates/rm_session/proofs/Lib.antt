@@ -1,0 +1,4 @@
+pub mod Adding
+pub mod Ids
+pub mod PartsOf
+pub mod Sites
