@@ -1,4 +1,5 @@
 pub mod Adding
 pub mod Ids
 pub mod PartsOf
+pub mod Resting
 pub mod Sites

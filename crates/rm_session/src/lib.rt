@@ -4,6 +4,7 @@
 pub mod fault;
 pub mod loading;
 mod parts;
+pub mod saved_laws;
 pub mod saving;
 
 pub use fault::SessionFault;
