@@ -2,4 +2,8 @@ pub mod Adding
 pub mod Ids
 pub mod PartsOf
 pub mod Resting
+pub mod SavedFiles
+pub mod SavedLogs
+pub mod SavedParts
+pub mod SavedSites
 pub mod Sites

@@ -103,6 +103,47 @@ part-of s sound p has = elim (Contains-append_cases (file_parts s 1 s.instance.p
       (ap (λ k. option_map_or (λ (l : ThreadLog). l.is_lost) (slice_get s.instance.logs.threads k) false) back ∙ ap (λ o. option_map_or (λ (l : ThreadLog). l.is_lost) o false) from.stands ∙ from.found))
 ]
 
+-- and each of these is a part
+
+file-held : (s : State) (f : ℕ) (place : List (Option File)) (k : ℕ) (x : File) → slice_get place k ≡ Some (Some x) → Contains (file_parts s f place) (part_of_file s (f + k) x)
+file-held s f [] k x at = absurd (let clash : None ≡ Some (Some x) = at in cc)
+file-held s f (None ∷ place) zero x at = absurd (let clash : Some None ≡ Some (Some x) = at in cc)
+file-held s f (Some y ∷ place) zero x at =
+    let same : y ≡ x = (let is : Some (Some y) ≡ Some (Some x) = at in cc) in
+    let here : f ≡ f + 0 = omega arith in
+    subst (Contains (part_of_file s f y ∷ file_parts s (f + 1) place)) (ap (part_of_file s f) same ∙ ap (λ n. part_of_file s n x) here) (in-front (part_of_file s f y) (file_parts s (f + 1) place))
+file-held s f (None ∷ place) (suc k) x at =
+    let next : f + 1 + k ≡ f + suc k = omega arith in
+    subst (λ n. Contains (file_parts s (f + 1) place) (part_of_file s n x)) next (file-held s (f + 1) place k x at)
+file-held s f (Some y ∷ place) (suc k) x at =
+    let next : f + 1 + k ≡ f + suc k = omega arith in
+    behind (part_of_file s f y) (file_parts s (f + 1) place) (part_of_file s (f + suc k) x) (subst (λ n. Contains (file_parts s (f + 1) place) (part_of_file s n x)) next (file-held s (f + 1) place k x at))
+
+thread-held : (s : State) (t : ℕ) (ls : List ThreadLog) (k : ℕ) (l : ThreadLog) → slice_get ls k ≡ Some l → l.is_lost ≡ false → Contains (log_parts s t ls) (part_of_thread s (t + k))
+thread-held s t [] k l at found = absurd (let clash : None ≡ Some l = at in cc)
+thread-held s t (m ∷ ls) zero l at found =
+    let same : m ≡ l = (let is : Some m ≡ Some l = at in cc) in
+    let here : t ≡ t + 0 = omega arith in
+    let none : m.is_lost ≡ false = ap (λ (x : ThreadLog). x.is_lost) same ∙ found in
+    Contains-append_left (cond m.is_lost [] (part_of_thread s t ∷ [])) (log_parts s (t + 1) ls) (part_of_thread s (t + 0))
+    (subst (λ b. Contains (cond b [] (part_of_thread s t ∷ [])) (part_of_thread s (t + 0))) (sym none) (subst (λ n. Contains (part_of_thread s t ∷ []) (part_of_thread s n)) here (in-front (part_of_thread s t) [])))
+thread-held s t (m ∷ ls) (suc k) l at found =
+    let next : t + 1 + k ≡ t + suc k = omega arith in
+    Contains-append_right (cond m.is_lost [] (part_of_thread s t ∷ [])) (log_parts s (t + 1) ls) (part_of_thread s (t + suc k))
+    (subst (λ n. Contains (log_parts s (t + 1) ls) (part_of_thread s n)) next (thread-held s (t + 1) ls k l at found))
+
+pub file-in : (s : State) (k : ℕ) (x : File) → slice_get s.instance.place k ≡ Some (Some x) → Contains (parts_of s) (part_of_file s (k + 1) x)
+file-in s k x at =
+    let same : 1 + k ≡ k + 1 = omega arith in
+    Contains-append_left (file_parts s 1 s.instance.place) (log_parts s 1 s.instance.logs.threads) (part_of_file s (k + 1) x)
+    (subst (λ n. Contains (file_parts s 1 s.instance.place) (part_of_file s n x)) same (file-held s 1 s.instance.place k x at))
+
+pub thread-in : (s : State) (k : ℕ) (l : ThreadLog) → slice_get s.instance.logs.threads k ≡ Some l → l.is_lost ≡ false → Contains (parts_of s) (part_of_thread s (k + 1))
+thread-in s k l at found =
+    let same : 1 + k ≡ k + 1 = omega arith in
+    Contains-append_right (file_parts s 1 s.instance.place) (log_parts s 1 s.instance.logs.threads) (part_of_thread s (k + 1))
+    (subst (λ n. Contains (log_parts s 1 s.instance.logs.threads) (part_of_thread s n)) same (thread-held s 1 s.instance.logs.threads k l at found))
+
 -- No two parts are of the same thing
 
 abbrev pub IsOther : SitePart → SitePart → Type 0
