@@ -1,5 +1,5 @@
 -- What is saved: each part is that of a datafile in place, or of an online log that is not lost.
-use Rattle.std.proofs.Common.{◌≡◌, ◌≢◌, ◌<◌, ◌≤◌, ◌+◌, ◌-◌, ◌∙◌, ◌++◌, inl, inr, ℕ, zero, suc, List, [], ◌∷◌, Option, Some, None, Bool, true, false, cond, refl, ap, sym, subst, arith, length, length-append, map, All, AllPairs, Contains, slice_get}
+use Rattle.std.proofs.Common.{◌≡◌, ◌≢◌, ◌<◌, ◌≤◌, ◌+◌, ◌-◌, ◌∙◌, ◌++◌, inl, inr, ℕ, zero, suc, List, [], ◌∷◌, Option, Some, None, Bool, true, false, cond, refl, ap, sym, subst, arith, length, length-append, AllPairs, Contains, slice_get}
 use Rattle.std.specs.List.{filter_map}
 use Rattle.std.specs.Option.{option_map_or}
 use Rattle.std.proofs.lemmas.List.Elements.{All-contains, Contains-append_cases, Contains-append_left, Contains-append_right}
@@ -15,7 +15,7 @@ use Rattle.rm_machine.specs.declared.state.State.{State}
 use Rattle.rm_machine.specs.Recovery.{in_place}
 use Rattle.rm_machine.specs.Saving.{SitePart, file_parts, log_parts, parts_of}
 use Rattle.rm_machine.specs.Sound.{IsSound}
-use Rattle.rm_machine.specs.State.{ledger, counted, is_lost, tree}
+use Rattle.rm_machine.specs.State.{ledger, counted, is_lost}
 use Rattle.rm_machine.proofs.Fitting.{place-fits}
 use Rattle.rm_machine.proofs.Standing.{each-in}
 use Rattle.rm_piece.specs.Valid.{IsPiece}

@@ -1,34 +1,27 @@
 -- What was saved is at rest.
-use Rattle.std.proofs.Common.{◌≡◌, ◌≢◌, ◌<◌, ◌≤◌, ◌+◌, ◌-◌, ◌^◌, ◌∙◌, ◌++◌, inl, inr, ℕ, List, Some, None, false, refl, ap, sym, subst, arith, length, All, AllPairs, Contains, codes, slice_get, slice_index_or}
+use Rattle.std.proofs.Common.{◌≡◌, ◌≢◌, ◌<◌, ◌+◌, ◌-◌, ◌^◌, ◌∙◌, inl, inr, ℕ, List, Some, None, false, refl, ap, sym, subst, arith, Contains, codes, slice_index_or}
 use Rattle.std.specs.Fmt.{decimal}
 use Rattle.std.proofs.lemmas.Fmt.{decimal_injective}
 use Rattle.std.proofs.lemmas.List.{append_cancel_left}
 use Rattle.std.proofs.lemmas.List.Elements.{All-contains, Contains-append_cases, Contains-append_left, Contains-append_right}
 use Rattle.std.proofs.lemmas.Option.{slice_get_within}
 use Rattle.rm_base.proofs.Slots.{index-get}
-use Rattle.rm_base.specs.Store.{Held}
 use Rattle.rm_base.specs.declared.block.Change.{Change}
-use Rattle.rm_blocks.specs.File.{File, base_of}
-use Rattle.rm_catalog.specs.declared.record.PartEntry.{PartEntry}
 use Rattle.rm_change.specs.declared.change.Object.{Object}
 use Rattle.rm_change.specs.Names.{bytes_of, name_of}
 use Rattle.rm_change.proofs.Standing.{AreApart, each-stands, others-stay}
-use Rattle.rm_history.specs.Agrees.{BaseAgrees}
-use Rattle.rm_history.specs.History.{IsHistory}
-use Rattle.rm_history.specs.Tree.{end_of}
 use Rattle.rm_history.proofs.Highs.{high-least}
 use Rattle.rm_ledger.proofs.Lookups.{item-at}
 use Rattle.rm_objects.specs.Names.{site_name}
 use Rattle.rm_machine.specs.declared.state.State.{State}
 use Rattle.rm_machine.specs.Effect.{Made}
-use Rattle.rm_machine.specs.Machine.{HaveArtefacts, HistoryFits, HoldsUnder, IsBorneOut, IsSoundBy, IsSoundMachine, IsTrueArtefact, Machine}
+use Rattle.rm_machine.specs.Machine.{HaveArtefacts, HistoryFits, IsBorneOut, IsSoundBy, IsSoundMachine, IsTrueArtefact, Machine}
 use Rattle.rm_machine.specs.Marks.{lacks_ids}
-use Rattle.rm_machine.specs.Names.{IsObjectName}
 use Rattle.rm_machine.specs.Rest.{HasPartArtefact, HaveParts, IsRestBorneOut, IsSoundRest, IsSoundRestBy, Rest}
 use Rattle.rm_machine.specs.Saved.{IsOfPart, spelling_of}
 use Rattle.rm_machine.specs.Saving.{IsSavedAs, SitePart, entry_of, made_of, object_of, parts_of, saved_of, with_ids, with_site}
 use Rattle.rm_machine.specs.Sound.{IsSound}
-use Rattle.rm_machine.specs.State.{ledger, counted, online, placed, tree, world}
+use Rattle.rm_machine.specs.State.{ledger, counted, placed, world}
 use Rattle.rm_machine.proofs.Dropping.{no-site}
 use Rattle.rm_machine.proofs.Kept.{StandOn, kept-on}
 use Rattle.rm_machine.proofs.Standing.{each-in}
@@ -93,8 +86,8 @@ module _ (m : Machine) (s : State) (r : Rest) (borne : IsBorneOut s m.history m.
   stand name bytes names names' (inr is) =
       inr (others-stay name_of bytes_of (objects_of s) m.objects r.objects name saved.objects
       (each-in (λ (x : Object). name ≢ x.name) (objects_of s) (λ x has same.
-          let from = ids-from object_of next (parts_of s) x has in
-          no-site (ledger s) name names (next + from.at) (same ∙ sym (ap (λ (y : Object). y.name) from.is))))
+      let from = ids-from object_of next (parts_of s) x has in
+      no-site (ledger s) name names (next + from.at) (same ∙ sym (ap (λ (y : Object). y.name) from.is))))
       ∙ is)
 
   more : (a : Made) → Contains m.made a → Contains r.made a

@@ -3,23 +3,21 @@ use Rattle.std.proofs.Common.{◌≡◌, ◌+◌, ◌∙◌, ◌⊎◌, inl, inr
 use Rattle.std.specs.Option.{option_map}
 use Rattle.rm_base.proofs.Slots.{get-index, index-get}
 use Rattle.rm_base.specs.Store.{Held}
-use Rattle.rm_blocks.specs.File.{File, standing}
+use Rattle.rm_blocks.specs.File.{File}
 use Rattle.rm_evidence.specs.Gathered.{placed_piece}
 use Rattle.rm_history.specs.declared.world.Datafile.{Datafile}
 use Rattle.rm_objects.specs.Names.{site_name}
-use Rattle.rm_piece.specs.declared.piece.Piece.{Piece}
 use Rattle.rm_machine.specs.declared.state.State.{State}
 use Rattle.rm_machine.specs.Loading.{IsLoadedFile}
 use Rattle.rm_machine.specs.Saved.{FitsInPlace, IsGoodFile, spelling_of}
 use Rattle.rm_machine.specs.Saving.{SitePart, object_of, rested, saved_of}
 use Rattle.rm_machine.specs.Sound.{IsSound}
-use Rattle.rm_machine.specs.State.{ledger, counted, current_of, now_of}
+use Rattle.rm_machine.specs.State.{ledger, counted}
 use Rattle.rm_machine.proofs.Places.{counted-open, placed-map, placed-mapped}
 use Rattle.rm_session.specs.Adding.{part_of_file}
 use Rattle.rm_session.proofs.PartsOf.{file-valid}
 use Rattle.rm_session.proofs.Resting.{objects_of}
 use Rattle.rm_session.proofs.SavedParts.{file-found, file-stood}
-use Rattle.rm_session.proofs.Sites.{next_after}
 
 -- the store has the object of each part
 abbrev pub HaveObjects : State → Held → Type 0

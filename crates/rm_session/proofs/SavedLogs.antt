@@ -1,5 +1,5 @@
 -- What is loaded of the threads is what their logs told, and nothing of lost ones.
-use Rattle.std.proofs.Common.{◌≡◌, ◌<◌, ◌≤◌, ◌+◌, ◌-◌, ◌∙◌, ◌==◌, ◌&&◌, ◌||◌, inl, inr, ℕ, zero, suc, List, [], ◌∷◌, Option, Some, None, Bool, true, false, cond, IsSomeAnd, refl, ap, sym, subst, arith, filter, length, map, not, All, Contains, slice_get}
+use Rattle.std.proofs.Common.{◌≡◌, ◌<◌, ◌≤◌, ◌+◌, ◌-◌, ◌∙◌, ◌&&◌, ◌||◌, ℕ, zero, suc, List, [], ◌∷◌, Option, Some, None, Bool, true, false, cond, IsSomeAnd, refl, ap, sym, subst, arith, filter, length, map, All, Contains, slice_get}
 use Rattle.std.specs.List.{list_any}
 use Rattle.std.specs.Option.{option_map_or}
 use Rattle.std.proofs.lemmas.Bool.{eq-eqb}
@@ -13,8 +13,7 @@ use Rattle.rm_history.specs.History.{IsHistory}
 use Rattle.rm_redo.specs.declared.log_file.LogFile.{LogFile}
 use Rattle.rm_redo.specs.declared.online.LogRecord.{LogRecord}
 use Rattle.rm_redo.specs.declared.online.ThreadLog.{ThreadLog}
-use Rattle.rm_redo.specs.LogFile.{changes_in, log_of}
-use Rattle.rm_redo.specs.Logs.{Logs}
+use Rattle.rm_redo.specs.LogFile.{log_of}
 use Rattle.rm_redo.specs.Online.{are_lost, lost_log, thread_log}
 use Rattle.rm_machine.specs.declared.state.State.{State}
 use Rattle.rm_machine.specs.Loading.{AreLoadedLogs, IsTheOne, has_lost, inc_of_first, online_of, where_of}
@@ -140,21 +139,21 @@ none-lost s sound opened =
     ap (list_any (λ (l : ThreadLog). l.is_lost)) (saved-threads s)
     ∙ lost-kept s.instance.logs.threads
     ∙ list_any_none (λ (l : ThreadLog). l.is_lost) s.instance.logs.threads (each-get (λ (l : ThreadLog). l.is_lost ≡ false) s.instance.logs.threads (λ k l at.
-        let inside = slice_get_within s.instance.logs.threads k l at in
-        let many = sound.logs.threads in
-        sym (lost-at s k l at) ∙ (sound.in_open opened).found (k + 1) (omega arith) (omega (arith, inside, many))))
+    let inside = slice_get_within s.instance.logs.threads k l at in
+    let many = sound.logs.threads in
+    sym (lost-at s k l at) ∙ (sound.in_open opened).found (k + 1) (omega arith) (omega (arith, inside, many))))
 
 -- Each record of a log that agrees with a history is of a block that is there.
 records-there : (s : State) (h : List Change) (a : LogFile) → IsHistory (world s) h → LogAgrees h (log_of a) → All (IsOfBlock (ledger s).files) a.records
 records-there s h a history agrees =
     let make : LogRecord → Change = λ r. record { inc = a.inc; thread = a.thread; scn = r.scn; file = r.file; block = r.block; content = r.content } in
     each-in (IsOfBlock (ledger s).files) a.records (λ r has.
-        let told : Contains (filter (is_of (log_of a)) h) (make r) = subst (λ (cs : List Change). Contains cs (make r)) agrees (map_to make a.records r has) in
-        let is = history.changes (make r) (filter_from (is_of (log_of a)) h (make r) told).0 in
-        let at = file-place (world s) r.file is.datafile is.is in
-        let number = at.number in
-        let back : r.file - 1 ≡ at.place = omega (arith, number) in
-        subst (λ o. IsSomeAnd o (λ d. r.block < d.blocks)) (sym (ap (slice_get (ledger s).files) back ∙ at.is)) is.block)
+    let told : Contains (filter (is_of (log_of a)) h) (make r) = subst (λ (cs : List Change). Contains cs (make r)) agrees (map_to make a.records r has) in
+    let is = history.changes (make r) (filter_from (is_of (log_of a)) h (make r) told).0 in
+    let at = file-place (world s) r.file is.datafile is.is in
+    let number = at.number in
+    let back : r.file - 1 ≡ at.place = omega (arith, number) in
+    subst (λ o. IsSomeAnd o (λ d. r.block < d.blocks)) (sym (ap (slice_get (ledger s).files) back ∙ at.is)) is.block)
 
 module _ (s : State) (h : List Change) (sound : IsSound s) (keeps : HistoryFits s h) (held : Held) (have : HaveObjects s held) where
   fits-online : (t : ℕ) → 0 < t → t ≤ (ledger s).base.threads → is_lost s.instance.logs t ≡ false → FitsOnline (ledger (rested s)) s.instance.is_open t (online s t)

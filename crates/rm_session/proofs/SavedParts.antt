@@ -1,11 +1,9 @@
 -- The part of a thing, as it is found among those of a saved site.
-use Rattle.std.proofs.Common.{◌≡◌, ◌≢◌, ◌<◌, ◌≤◌, ◌+◌, ◌-◌, ◌∙◌, ◌==◌, ◌&&◌, inl, inr, ℕ, List, Option, Some, None, Bool, true, false, refl, ap, sym, subst, arith, find, Contains, slice_get}
-use Rattle.std.specs.Option.{option_map_or}
+use Rattle.std.proofs.Common.{◌≡◌, ◌+◌, ◌∙◌, ◌==◌, ◌&&◌, inl, inr, ℕ, Some, None, Bool, true, false, refl, ap, sym, subst, arith, find, Contains, slice_get}
 use Rattle.std.proofs.lemmas.Bool.{and_parts, eq-eqb, eqb-true}
 use Rattle.rm_base.proofs.Lists.{find_cases, find_none}
 use Rattle.rm_blocks.specs.File.{File}
 use Rattle.rm_catalog.specs.declared.record.PartEntry.{PartEntry}
-use Rattle.rm_change.specs.declared.change.Object.{Object}
 use Rattle.rm_machine.specs.declared.state.State.{State}
 use Rattle.rm_machine.specs.Saved.{file_part, thread_part}
 use Rattle.rm_machine.specs.Saving.{SitePart, entry_of, object_of, parts_of, saved_of}
@@ -95,8 +93,8 @@ of-thread-number s t _ (of_thread u some upto found) none same = (ap (part_of_th
 pub thread-found : (s : State) → IsSound s → (k : ℕ) (l : ThreadLog) → slice_get s.instance.logs.threads k ≡ Some l → l.is_lost ≡ false → IsPartFound s (λ p. (p.file == 0) && (p.thread == k + 1)) (part_of_thread s (k + 1))
 thread-found s sound k l at found =
     part-found s (λ p. (p.file == 0) && (p.thread == k + 1)) (part_of_thread s (k + 1)) (thread-in s k l at found) (λ id. eq-eqb (k + 1) (k + 1) refl) (λ id q held passes.
-        let both = and_parts (q.file == 0) (q.thread == k + 1) passes in
-        (of-thread-number s (k + 1) q (part-of s sound q held) (eqb-true q.file 0 both.0) (eqb-true q.thread (k + 1) both.1)).0)
+    let both = and_parts (q.file == 0) (q.thread == k + 1) passes in
+    (of-thread-number s (k + 1) q (part-of s sound q held) (eqb-true q.file 0 both.0) (eqb-true q.thread (k + 1) both.1)).0)
 
 -- where a part of a thread is found its log is not lost
 pub thread-not-lost : (s : State) → IsSound s → (k : ℕ) (e : PartEntry) → thread_part (saved_of s) (k + 1) ≡ Some e → is_lost s.instance.logs (k + 1) ≡ false

@@ -1,5 +1,5 @@
 -- What is loaded of what was saved is what stood in place.
-use Rattle.std.proofs.Common.{◌≡◌, ◌<◌, ◌≤◌, ◌∙◌, ◌&&◌, not, ℕ, List, Option, Some, None, Bool, true, false, refl, ap, sym, arith, map, slice_get}
+use Rattle.std.proofs.Common.{◌≡◌, ◌∙◌, ◌&&◌, not, ℕ, Option, Some, None, Bool, true, false, refl, ap, sym, arith}
 use Rattle.std.specs.Option.{option_map, option_map_or}
 use Rattle.std.proofs.lemmas.List.{length-map}
 use Rattle.std.proofs.lemmas.Option.{slice_get-map}

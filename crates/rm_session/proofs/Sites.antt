@@ -1,5 +1,5 @@
 -- What put_place records is a saved site.
-use Rattle.std.proofs.Common.{◌≡◌, ◌≢◌, ◌<◌, ◌≤◌, ◌+◌, ◌∙◌, ℕ, List, Option, Some, None, false, refl, ap, sym, subst, arith, length, All, Contains, slice_get}
+use Rattle.std.proofs.Common.{◌≡◌, ◌<◌, ◌≤◌, ◌+◌, ◌∙◌, ℕ, List, Option, Some, None, false, refl, ap, subst, arith, length}
 use Rattle.std.specs.Option.{option_map_or}
 use Rattle.std.proofs.lemmas.List.Elements.{All-contains}
 use Rattle.std.proofs.lemmas.Option.{slice_get_within}
@@ -11,7 +11,6 @@ use Rattle.rm_catalog.specs.declared.record.PartEntry.{PartEntry}
 use Rattle.rm_catalog.specs.declared.record.PieceEntry.{PieceEntry}
 use Rattle.rm_evidence.specs.Gathered.{placed_piece}
 use Rattle.rm_history.specs.Tree.{IsThere}
-use Rattle.rm_ledger.specs.Ledger.{Ledger}
 use Rattle.rm_piece.specs.Spelling as piece
 use Rattle.rm_piece.proofs.Bodies as piece_bodies
 use Rattle.rm_piece.proofs.Fitting as piece_fitting

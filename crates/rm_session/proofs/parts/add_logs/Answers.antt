@@ -1,8 +1,7 @@
 use Rattle.std.proofs.Common.{◌≡◌, ◌≤◌, ◌+◌, ◌∙◌, true, false, length, ap, sym, arith, rules}
-use Rattle.rm_machine.specs.Saving.{log_parts}
 use Rattle.rm_machine.specs.declared.state.State.{State}
 use Rattle.rm_machine.specs.State.{is_lost, ledger}
-use Rattle.rm_session.specs.Adding.{part_of_thread, with_part, with_parts}
+use Rattle.rm_session.specs.Adding.{part_of_thread, with_part}
 use Rattle.rm_session.specs.declared.parts.Parts.{Parts}
 use Rattle.rm_session.proofs.Adding.{logs-last, logs-next}
 use Rattle.rm_session.proofs.parts.add_logs.Goals as goal

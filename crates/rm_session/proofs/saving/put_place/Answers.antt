@@ -3,8 +3,8 @@ use Rattle.rm_catalog.specs.declared.record.BaseEntry.{BaseEntry}
 use Rattle.rm_repository.specs.Changes.{with_base, with_saved}
 use Rattle.rm_repository.specs.Facts.{IsSaved}
 use Rattle.rm_repository.specs.Fitting.{FitsBase}
-use Rattle.rm_repository.specs.Repository.{Repository, Saved}
-use Rattle.rm_machine.specs.Saving.{saved_of, with_site}
+use Rattle.rm_repository.specs.Repository.{Repository}
+use Rattle.rm_machine.specs.Saving.{saved_of}
 use Rattle.rm_machine.specs.declared.state.State.{State}
 use Rattle.rm_session.proofs.Sites.{base-drawn, base-is, objects-is, site-fits, site-is, with_ids_drawn}
 use Rattle.rm_session.proofs.saving.put_place.Goals as goal
