@@ -9,7 +9,7 @@ use Rattle.rm_machine.specs.declared.state.State.{State}
 use Rattle.rm_machine.specs.Saving.{SitePart, entry_of, log_parts, object_of, with_ids}
 use Rattle.rm_redo.specs.declared.online.ThreadLog.{ThreadLog}
 use Rattle.rm_redo.specs.Online.{lost_log}
-use Rattle.rm_session.specs.declared.parts.Parts.{Parts}
+use Rattle.rm_session.specs.declared.site_parts.Parts.{Parts}
 use Rattle.rm_session.specs.Adding.{no_parts, part_of_thread, with_part, with_parts}
 
 -- Many parts at once

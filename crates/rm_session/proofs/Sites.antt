@@ -31,7 +31,7 @@ use Rattle.rm_machine.specs.State.{ledger, counted, current_of, online}
 use Rattle.rm_machine.proofs.Standing.{each-in}
 use Rattle.rm_machine.proofs.Switching.{not-above}
 use Rattle.rm_session.specs.Adding.{no_parts, with_parts}
-use Rattle.rm_session.specs.declared.parts.Parts.{Parts}
+use Rattle.rm_session.specs.declared.site_parts.Parts.{Parts}
 use Rattle.rm_session.proofs.Adding.{parts-entries, parts-next, parts-objects}
 use Rattle.rm_session.proofs.Ids.{ids-from, ids-pairs}
 use Rattle.rm_session.proofs.PartsOf.{IsOther, IsPartOf, file-valid, of_file, of_thread, part-of, parts-apart, parts-few}

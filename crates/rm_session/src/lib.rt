@@ -3,7 +3,7 @@
 
 pub mod fault;
 pub mod loading;
-mod parts;
+mod site_parts;
 pub mod saved_laws;
 pub mod saving;
 

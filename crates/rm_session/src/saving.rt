@@ -6,7 +6,7 @@ ghost use Rattle.rm_machine.specs.Sound.{IsSound};
 ghost use Rattle.rm_machine.specs.State.{ledger};
 ghost use Rattle.rm_repository.specs.Changes.{EditsFollow};
 
-use crate::parts::parts_of;
+use crate::site_parts::parts_of;
 use rm_base::{NoMemory, Seq};
 use rm_catalog::{BaseEntry, Edit, HeadEntry};
 use rm_change::Object;

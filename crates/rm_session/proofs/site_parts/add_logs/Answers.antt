@@ -2,10 +2,10 @@ use Rattle.std.proofs.Common.{◌≡◌, ◌≤◌, ◌+◌, ◌∙◌, true, fa
 use Rattle.rm_machine.specs.declared.state.State.{State}
 use Rattle.rm_machine.specs.State.{is_lost, ledger}
 use Rattle.rm_session.specs.Adding.{part_of_thread, with_part}
-use Rattle.rm_session.specs.declared.parts.Parts.{Parts}
+use Rattle.rm_session.specs.declared.site_parts.Parts.{Parts}
 use Rattle.rm_session.proofs.Adding.{logs-last, logs-next}
-use Rattle.rm_session.proofs.parts.add_logs.Goals as goal
-use Rattle.rm_session.proofs.parts.add_logs.Goals.{then-not-is_lost+in_ok-add_log, else-not-is_lost}
+use Rattle.rm_session.proofs.site_parts.add_logs.Goals as goal
+use Rattle.rm_session.proofs.site_parts.add_logs.Goals.{then-not-is_lost+in_ok-add_log, else-not-is_lost}
 
 pub loop-thread-preserved : goal.loop-thread-preserved
 loop-thread-preserved c =
