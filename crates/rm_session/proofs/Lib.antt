@@ -1,8 +1,17 @@
+pub mod Adding
 pub mod GoodParts
+pub mod Ids
 pub mod Lost
 pub mod OneByOne
 pub mod OneWay
 pub mod OnlineParts
+pub mod PartsOf
 pub mod Recorded
+pub mod Resting
 pub mod RowsThere
+pub mod SavedFiles
+pub mod SavedLogs
+pub mod SavedParts
+pub mod SavedSites
+pub mod Sites
 pub mod Waking

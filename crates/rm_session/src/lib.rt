@@ -5,7 +5,9 @@ pub mod fault;
 pub mod laws;
 pub mod loading;
 pub mod records;
+pub mod saved_laws;
 pub mod saving;
+mod site_parts;
 
 pub use fault::SessionFault;
 pub use loading::load_place;

@@ -1,16 +1,33 @@
 //! A site is saved.
 ghost use Rattle.std.specs.Prelude.{◌≡◌, false, IfOk, OnOk, None};
 ghost use Rattle.rm_machine.specs.Marks.{lacks_ids};
-ghost use Rattle.rm_machine.specs.Saving.{object_of, parts_of, with_ids, with_site};
+ghost use Rattle.rm_machine.specs.Saving.{head_of, object_of, parts_of, with_ids, with_site};
 ghost use Rattle.rm_machine.specs.Sound.{IsSound};
 ghost use Rattle.rm_machine.specs.State.{ledger};
 ghost use Rattle.rm_repository.specs.Changes.{EditsFollow};
 
+use crate::site_parts::parts_of;
 use rm_base::{NoMemory, Seq};
-use rm_catalog::Edit;
+use rm_catalog::{BaseEntry, Edit, HeadEntry};
 use rm_change::Object;
 use rm_machine::State;
+use rm_repository::Saved;
 use std::alloc::Global;
+
+// What the head tells: the mode, and the point if there is one.
+fn head_of(state: &State) -> HeadEntry
+    ensures { result ≡ head_of state.now }
+{
+    let (inc, scn) = match state.instance.point {
+        Some(at) => (state.catalog.base().current, at),
+        None => (0, 0),
+    };
+    HeadEntry {
+        opened: state.instance.is_open,
+        inc,
+        scn,
+    }
+}
 
 /// Saves what runs: the catalog comes to tell of it, with the edits that make the records follow, and the objects that are
 /// to be put are handed out. Each datafile in place and then each online log that is not lost takes the next id. At least
@@ -27,5 +44,15 @@ pub fn put_place(
     ensures catalog { OnOk result (state.new.catalog ≡ with_site state.old) }
     ensures edits { OnOk result (EditsFollow edits.old.items edits.new.items state.old.catalog state.new.catalog) }
 {
-    Err(NoMemory)
+    let parts = parts_of(alloc, state)?;
+    let head = head_of(state);
+    let base = BaseEntry {
+        next_id: parts.next,
+        ..state.catalog.base()
+    };
+    state.catalog.set_base(edits, base)?;
+    state
+        .catalog
+        .set_saved(edits, Saved::new(parts.entries, head))?;
+    Ok(parts.objects)
 }

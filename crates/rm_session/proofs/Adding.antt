@@ -1,0 +1,59 @@
+-- Parts that are added one after another.
+use Rattle.std.proofs.Common.{◌≡◌, ◌<◌, ◌≤◌, ◌+◌, ◌-◌, ◌∙◌, ◌++◌, ℕ, suc, List, [], ◌∷◌, Bool, true, false, cond, refl, ap, sym, arith, append-nil, append_assoc, drop, drop-cons, get_or, length, slice_get}
+use Rattle.std.specs.Option.{option_map_or}
+use Rattle.std.proofs.lemmas.List.{drop_all}
+use Rattle.std.proofs.lemmas.Option.{slice_get-get_or}
+use Rattle.rm_catalog.specs.declared.record.PartEntry.{PartEntry}
+use Rattle.rm_change.specs.declared.change.Object.{Object}
+use Rattle.rm_machine.specs.declared.state.State.{State}
+use Rattle.rm_machine.specs.Saving.{SitePart, entry_of, log_parts, object_of, with_ids}
+use Rattle.rm_redo.specs.declared.online.ThreadLog.{ThreadLog}
+use Rattle.rm_redo.specs.Online.{lost_log}
+use Rattle.rm_session.specs.declared.site_parts.Parts.{Parts}
+use Rattle.rm_session.specs.Adding.{no_parts, part_of_thread, with_part, with_parts}
+
+-- Many parts at once
+
+pub parts-then : (ps qs : List SitePart) (x : Parts) → with_parts (ps ++ qs) x ≡ with_parts qs (with_parts ps x)
+parts-then [] qs x = refl
+parts-then (p ∷ ps) qs x = parts-then ps qs (with_part p x)
+
+pub parts-next : (ps : List SitePart) (x : Parts) → (with_parts ps x).next ≡ x.next + length ps
+parts-next [] x = omega arith
+parts-next (p ∷ ps) x = let rest = parts-next ps (with_part p x) in omega (arith, rest)
+
+pub parts-entries : (ps : List SitePart) (x : Parts) → (with_parts ps x).entries ≡ x.entries ++ with_ids entry_of x.next ps
+parts-entries [] x = sym (append-nil x.entries)
+parts-entries (p ∷ ps) x = parts-entries ps (with_part p x) ∙ append_assoc x.entries (entry_of x.next p ∷ []) (with_ids entry_of (x.next + 1) ps)
+
+pub parts-objects : (ps : List SitePart) (x : Parts) → (with_parts ps x).objects ≡ x.objects ++ with_ids object_of x.next ps
+parts-objects [] x = sym (append-nil x.objects)
+parts-objects (p ∷ ps) x = parts-objects ps (with_part p x) ∙ append_assoc x.objects (object_of x.next p ∷ []) (with_ids object_of (x.next + 1) ps)
+
+pub parts-none : (n next : ℕ) (es : List PartEntry) (os : List Object) → n ≡ next → es ≡ [] → os ≡ [] → record { next = n; entries = es; objects = os } ≡ no_parts next
+parts-none n next es os same entries objects =
+    ap (λ (k : ℕ). record { next = k; entries = es; objects = os }) same
+    ∙ ap (λ (xs : List PartEntry). record { next = next; entries = xs; objects = os }) entries
+    ∙ ap (λ (xs : List Object). record { next = next; entries = []; objects = xs }) objects
+
+-- One thread on
+
+logs-by : (s : State) (t : ℕ) (l : ThreadLog) (rest : List ThreadLog) (x : Parts) (b : Bool) → l.is_lost ≡ b → with_parts (log_parts s t (l ∷ rest)) x ≡ with_parts (log_parts s (t + 1) rest) (cond b x (with_part (part_of_thread s t) x))
+logs-by s t l rest x true is = ap (λ e. with_parts (cond e [] (part_of_thread s t ∷ []) ++ log_parts s (t + 1) rest) x) is
+logs-by s t l rest x false is = ap (λ e. with_parts (cond e [] (part_of_thread s t ∷ []) ++ log_parts s (t + 1) rest) x) is
+
+pub logs-next : (s : State) (t : ℕ) (ls : List ThreadLog) (x y : Parts) (b : Bool) → 0 < t → t ≤ length ls → option_map_or (λ l. l.is_lost) (slice_get ls (t - 1)) false ≡ b → y ≡ cond b x (with_part (part_of_thread s t) x)
+    → with_parts (log_parts s t (drop (t - 1) ls)) x ≡ with_parts (log_parts s (t + 1) (drop (t + 1 - 1) ls)) y
+logs-next s t ls x y b low high lost is =
+    let inside : t - 1 < length ls = omega (arith, low, high) in
+    let next : suc (t - 1) ≡ t + 1 - 1 = omega (arith, low) in
+    let l : ThreadLog = get_or ls (t - 1) lost_log in
+    let here : l.is_lost ≡ b = sym (ap (λ o. option_map_or (λ (l : ThreadLog). l.is_lost) o false) (slice_get-get_or ls (t - 1) lost_log inside)) ∙ lost in
+    ap (λ (xs : List ThreadLog). with_parts (log_parts s t xs) x) (drop-cons ls (t - 1) lost_log inside)
+    ∙ logs-by s t l (drop (suc (t - 1)) ls) x b here
+    ∙ ap (λ n. with_parts (log_parts s (t + 1) (drop n ls)) (cond b x (with_part (part_of_thread s t) x))) next
+    ∙ ap (with_parts (log_parts s (t + 1) (drop (t + 1 - 1) ls))) (sym is)
+
+-- none is left
+pub logs-last : (s : State) (t : ℕ) (ls : List ThreadLog) (y : Parts) → t ≡ length ls → with_parts (log_parts s (t + 1) (drop (t + 1 - 1) ls)) y ≡ y
+logs-last s t ls y last = ap (λ (xs : List ThreadLog). with_parts (log_parts s (t + 1) xs) y) (drop_all (t + 1 - 1) ls (omega (arith, last)))
