@@ -1,4 +1,6 @@
 //! Why a site could not be loaded.
+ghost use Rattle.std.specs.Prelude.{◌≡◌};
+
 use rm_base::{NoMemory, StoreFail};
 
 /// Why a site could not be loaded.

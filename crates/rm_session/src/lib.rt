@@ -2,9 +2,13 @@
 #![tactic(auto)]
 
 pub mod fault;
-
+pub mod files;
+pub mod instances;
 pub mod loading;
+pub mod parts;
+pub mod point;
 pub mod saving;
+pub mod threads;
 
 pub use fault::SessionFault;
 pub use loading::load_place;
