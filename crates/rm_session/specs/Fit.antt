@@ -54,6 +54,13 @@ pub record IsFitLog (l : Ledger) (opened : Bool) (t : ℕ) (a : LogFile) : Type 
   pub valid : IsLogFile a
   pub fits : FitsOnline l opened t a
 
+-- what of this piece, or of none, is let through where it fits
+abbrev pub IsWhereFits : Ledger → Bool → ℕ → Datafile → Option Piece → Option Piece → Type 0
+IsWhereFits l opened f d piece found = IsTheOne (λ a. (piece ≡ Some a) × FitsInPlace l opened f d a) found
+
+abbrev pub IsWhereLogFits : Ledger → Bool → ℕ → Option LogFile → Option LogFile → Type 0
+IsWhereLogFits l opened t log found = IsTheOne (λ a. (log ≡ Some a) × FitsOnline l opened t a) found
+
 -- what stands in place is of such a piece
 pub record IsFitFile (l : Ledger) (opened : Bool) (f : ℕ) (d : Datafile) (x : File) : Type 0 where
   pub piece : Piece

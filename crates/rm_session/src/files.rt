@@ -1,18 +1,20 @@
 //! The datafiles of a saved site.
 ghost use Rattle.std.specs.Prelude.{◌≡◌, ◌↔◌, ◌≤◌, IfOk, IfSome, IsErrOf, IsTrue, length};
+ghost use Rattle.std.specs.Option.{option_copied};
 ghost use Rattle.rm_base.specs.Outside.{Rose};
 ghost use Rattle.rm_base.specs.declared.kinds.Kind.TheVariants.{Place};
 ghost use Rattle.rm_history.specs.Tree.{end_of};
 ghost use Rattle.rm_machine.specs.Loading.{IsLoadedFile, IsTheOne, file_in};
-ghost use Rattle.rm_machine.specs.Saved.{FitsInPlace, IsGoodFile};
+ghost use Rattle.rm_machine.specs.Saved.{FitsInPlace, IsGoodFile, file_part};
 ghost use Rattle.rm_piece.specs.Valid.{IsPiece};
 ghost use Rattle.rm_repository.specs.Facts.{IsRepository};
-ghost use Rattle.rm_session.specs.Fit.{AllAt, FitsAt, IsFitFile, IsFitPiece, IsLoadedAt};
+ghost use Rattle.rm_session.specs.Fit.{AllAt, FitsAt, IsFitFile, IsFitPiece, IsLoadedAt, IsWhereFits};
 
 use crate::fault::SessionFault;
 use crate::parts::load_piece;
 use rm_base::{FileNo, IncNo, Kind, Scn, Seq, Store};
 use rm_blocks::DataFile;
+use rm_catalog::PartEntry;
 use rm_history::Datafile;
 use rm_piece::Piece;
 use rm_repository::{Catalog, Saved};
@@ -54,6 +56,31 @@ fn fits_in_place(
         && (!opened || is_now(catalog, piece))
 }
 
+// The part of the datafile of this number.
+fn file_part(site: &Saved, number: FileNo) -> Option<&PartEntry>
+    ensures { option_copied result ≡ file_part site.now number }
+{
+    site.parts().iter().find(|part| part.file == number)
+}
+
+// The piece, where it could stand in place of the datafile of this number.
+fn where_fits(
+    catalog: &Catalog,
+    opened: bool,
+    number: FileNo,
+    datafile: &Datafile,
+    piece: Option<Piece>,
+) -> Option<Piece>
+    ensures { IsWhereFits catalog.now.ledger opened number datafile.now piece result }
+{
+    let piece = piece?;
+    if fits_in_place(catalog, opened, number, datafile, &piece) {
+        Some(piece)
+    } else {
+        None
+    }
+}
+
 // The piece of the datafile of this number, where its part is good.
 fn good_piece<D: Store>(
     alloc: Global,
@@ -69,17 +96,11 @@ fn good_piece<D: Store>(
     ensures failed { IsErrOf result SessionFault.StoreFault → Rose (D.faults store.old) (D.faults store.new) }
     ensures never_falls { D.faults store.old ≤ D.faults store.new }
 {
-    let Some(part) = site.parts().iter().find(|part| part.file == number) else {
+    let Some(part) = file_part(site, number) else {
         return Ok(None);
     };
-    let Some(piece) = load_piece(alloc, store, part)? else {
-        return Ok(None);
-    };
-    if fits_in_place(catalog, site.head().opened, number, datafile, &piece) {
-        Ok(Some(piece))
-    } else {
-        Ok(None)
-    }
+    let piece = load_piece(alloc, store, part)?;
+    Ok(where_fits(catalog, site.head().opened, number, datafile, piece))
 }
 
 // The piece as what stands in place of its datafile.

@@ -1,15 +1,17 @@
 //! The online logs of a saved site.
-ghost use Rattle.std.specs.Prelude.{◌≡◌, ◌↔◌, ◌≤◌, All, IfOk, IfSome, IsErrOf, IsTrue, length, map};
+ghost use Rattle.std.specs.Prelude.{◌≡◌, ◌↔◌, ◌<◌, ◌≤◌, All, IfOk, IfSome, IsErrOf, IsTrue, length, map};
+ghost use Rattle.std.specs.Option.{option_copied};
 ghost use Rattle.rm_base.specs.Outside.{Rose};
 ghost use Rattle.rm_machine.specs.Loading.{IsTheOne, has_lost, inc_of_first, online_of, where_of};
-ghost use Rattle.rm_machine.specs.Saved.{FitsOnline, IsGoodLog, IsOfBlock};
+ghost use Rattle.rm_machine.specs.Saved.{FitsOnline, IsGoodLog, IsOfBlock, thread_part};
 ghost use Rattle.rm_redo.specs.LogFormat.{IsLogFile};
 ghost use Rattle.rm_repository.specs.Facts.{IsRepository};
-ghost use Rattle.rm_session.specs.Fit.{AllAt, IsFitLog, IsLogAt, LogFitsAt};
+ghost use Rattle.rm_session.specs.Fit.{AllAt, IsFitLog, IsLogAt, IsWhereLogFits, LogFitsAt};
 
 use crate::fault::SessionFault;
 use crate::parts::load_log;
 use rm_base::{IncNo, NoMemory, Seq, Store, ThreadNo};
+use rm_catalog::PartEntry;
 use rm_history::Datafile;
 use rm_redo::{LogFile, LogRecord, OnlineLogs};
 use rm_repository::{Catalog, Saved};
@@ -50,6 +52,33 @@ fn fits_online(catalog: &Catalog, opened: bool, thread: ThreadNo, log: &LogFile)
         && are_of_blocks(catalog.files(), log.records.as_slice())
 }
 
+// The part of this thread.
+fn thread_part(site: &Saved, thread: ThreadNo) -> Option<&PartEntry>
+    ensures { option_copied result ≡ thread_part site.now thread }
+{
+    site.parts()
+        .iter()
+        .find(|part| part.file == 0 && part.thread == thread)
+}
+
+// The log, where it could be the online log of this thread.
+fn where_fits(
+    catalog: &Catalog,
+    opened: bool,
+    thread: ThreadNo,
+    log: Option<LogFile>,
+) -> Option<LogFile>
+    requires { IfSome log IsLogFile }
+    ensures { IsWhereLogFits catalog.now.ledger opened thread log result }
+{
+    let log = log?;
+    if fits_online(catalog, opened, thread, &log) {
+        Some(log)
+    } else {
+        None
+    }
+}
+
 // The log of this thread, where its part is good.
 fn good_log<D: Store>(
     alloc: Global,
@@ -64,21 +93,11 @@ fn good_log<D: Store>(
     ensures failed { IsErrOf result SessionFault.StoreFault → Rose (D.faults store.old) (D.faults store.new) }
     ensures never_falls { D.faults store.old ≤ D.faults store.new }
 {
-    let Some(part) = site
-        .parts()
-        .iter()
-        .find(|part| part.file == 0 && part.thread == thread)
-    else {
+    let Some(part) = thread_part(site, thread) else {
         return Ok(None);
     };
-    let Some(log) = load_log(alloc, store, part)? else {
-        return Ok(None);
-    };
-    if fits_online(catalog, site.head().opened, thread, &log) {
-        Ok(Some(log))
-    } else {
-        Ok(None)
-    }
+    let log = load_log(alloc, store, part)?;
+    Ok(where_fits(catalog, site.head().opened, thread, log))
 }
 
 /// The logs of the threads 1, 2, 3 and so on, where their parts are good. An error is a fault of the store, which is
