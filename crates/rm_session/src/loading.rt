@@ -1,5 +1,5 @@
 //! A saved site is loaded.
-ghost use Rattle.std.specs.Prelude.{◌≡◌, ◌≤◌, None, IfOk, IfSome, IsErrOf};
+ghost use Rattle.std.specs.Prelude.{◌≡◌, ◌<◌, ◌≤◌, ◌^◌, IfOk, IfSome, IsErrOf};
 ghost use Rattle.rm_base.specs.Outside.{Rose};
 ghost use Rattle.rm_machine.specs.Loading.{IsLoaded, lost_instance};
 ghost use Rattle.rm_machine.specs.Sound.{IsSound};
@@ -21,13 +21,14 @@ fn instance_of<D: Store>(
     catalog: &Catalog,
 ) -> Result<Instance, SessionFault>
     ensures rules { IsRepository catalog.now }
+    ensures dbid { catalog.now.ledger.base.dbid < 2 ^ 32 }
     ensures told { IfOk result (λ i. IfSome (D.held store.old) (λ h. IsHadBy h catalog.now.ledger catalog.now.saved i)) }
     ensures fits { IfOk result (λ i. IsFitBy catalog.now.ledger catalog.now.saved i) }
     ensures same { D.held store.new ≡ D.held store.old }
     ensures failed { IsErrOf result SessionFault.StoreFault → Rose (D.faults store.old) (D.faults store.new) }
     ensures never_falls { D.faults store.old ≤ D.faults store.new }
 {
-    let _base = catalog.base();
+    let _dbid = catalog.base().dbid;
     match catalog.saved() {
         Some(site) => load_instance(alloc, store, catalog, site),
         None => Ok(lost_instance(alloc, catalog)?),
