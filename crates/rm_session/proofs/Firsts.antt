@@ -1,11 +1,9 @@
 -- The incarnation of the first log, and the logs that are of one incarnation.
-use Rattle.std.proofs.Common.{rules, ◌≡◌, ◌==◌, ◌<◌, ◌≤◌, ◌+◌, ◌∙◌, ℕ, List, [], ◌∷◌, Option, Some, None, IfSome, All, Bool, true, false, cond, refl, sym, ap, subst, map, length, slice_get, replicate, suc, zero}
-use Rattle.std.proofs.lemmas.Bool.{cases_Bool}
+use Rattle.std.proofs.Common.{◌≡◌, ◌==◌, ◌≤◌, ◌+◌, ℕ, List, [], ◌∷◌, Option, Some, None, IfSome, All, Bool, true, false, cond, refl, map, slice_get, suc}
 use Rattle.std.proofs.lemmas.List.Elements.{All-cons, All-head, All-map, All-nil, All-tail, All-weaker}
 use Rattle.rm_ledger.specs.Ledger.{Ledger}
-use Rattle.rm_machine.specs.Loading.{inc_of_first, online_of, where_of}
+use Rattle.rm_machine.specs.Loading.{inc_of_first, where_of}
 use Rattle.rm_redo.specs.LogFormat.{IsLogFile}
-use Rattle.rm_redo.specs.Online.{logs_of}
 use Rattle.rm_redo.specs.declared.log_file.LogFile.{LogFile}
 use Rattle.rm_session.specs.Fit.{AllAt, IsFitLog, LogFitsAt}
 

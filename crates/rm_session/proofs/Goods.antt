@@ -1,14 +1,11 @@
 -- What a good part is, from what the store has of it and what fits.
 use Rattle.std.proofs.Common.{◌≡◌, ◌∙◌, ℕ, Bool, Option, Some, None, IfSome, refl, sym, ap, subst}
-use Rattle.std.specs.Option.{option_map}
 use Rattle.rm_base.specs.Store.{Held}
-use Rattle.rm_blocks.specs.File.{File}
 use Rattle.rm_catalog.specs.declared.record.PartEntry.{PartEntry}
 use Rattle.rm_history.specs.declared.world.Datafile.{Datafile}
 use Rattle.rm_ledger.specs.Ledger.{Ledger}
-use Rattle.rm_machine.specs.Loading.{IsLoadedFile, IsTheOne, file_in}
-use Rattle.rm_machine.specs.Saved.{FitsInPlace, FitsOnline, HasPart, IsGoodFile, IsGoodLog, file_part, thread_part}
-use Rattle.rm_objects.specs.Names.{site_name}
+use Rattle.rm_machine.specs.Loading.{IsTheOne}
+use Rattle.rm_machine.specs.Saved.{HasPart, IsGoodFile, IsGoodLog, file_part, thread_part}
 use Rattle.rm_piece.specs.Spelling as piece_format
 use Rattle.rm_piece.specs.Valid.{IsPiece}
 use Rattle.rm_piece.specs.declared.piece.Piece.{Piece}
@@ -18,7 +15,7 @@ use Rattle.rm_redo.specs.LogFormat.{IsLogFile}
 use Rattle.rm_redo.specs.declared.log_file.LogFile.{LogFile}
 use Rattle.rm_redo.proofs.LogFitting as logs
 use Rattle.rm_repository.specs.Repository.{Saved}
-use Rattle.rm_session.specs.Fit.{HasLog, HasPiece, IsFitFile, IsFitLog, IsFitPiece, IsLogOf, IsPieceOf, IsWhereFits, IsWhereLogFits}
+use Rattle.rm_session.specs.Fit.{HasLog, HasPiece, IsFitLog, IsFitPiece, IsWhereFits, IsWhereLogFits}
 
 none-some : {X : Type 0} (o : Option X) (x : X) → o ≡ None → o ≡ Some x → ⊥
 none-some o x none some = let both : None ≡ Some x = sym none ∙ some in absurd (cc)

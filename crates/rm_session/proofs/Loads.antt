@@ -4,19 +4,17 @@ use Rattle.std.proofs.lemmas.List.{length-replicate}
 use Rattle.std.proofs.lemmas.Option.{same_Some, slice_get-get_or, slice_get_within}
 use Rattle.rm_base.specs.Store.{Held}
 use Rattle.rm_blocks.specs.File.{File}
-use Rattle.rm_history.specs.declared.world.Datafile.{Datafile}
 use Rattle.rm_ledger.specs.Ledger.{Ledger}
-use Rattle.rm_machine.specs.Loading.{IsLoadedBy, IsLoadedFile, inc_of_first, lost_instance, online_of, where_of}
+use Rattle.rm_machine.specs.Loading.{IsLoadedBy, inc_of_first, lost_instance, online_of, where_of}
 use Rattle.rm_machine.specs.Sound.{IsSound}
 use Rattle.rm_machine.specs.declared.state.Instance.{Instance}
 use Rattle.rm_machine.specs.declared.state.State.{State}
 use Rattle.rm_machine.specs.State.{ledger}
-use Rattle.rm_redo.specs.Logs.{Logs}
 use Rattle.rm_redo.specs.Online.{logs_of}
 use Rattle.rm_redo.specs.declared.log_file.LogFile.{LogFile}
 use Rattle.rm_repository.specs.Facts.{IsRepository}
 use Rattle.rm_repository.specs.Repository.{Saved}
-use Rattle.rm_session.specs.Fit.{AllAt, AreFitLogs, FitsAt, IsFit, IsFitBy, IsFitFile, IsFitLog, IsHad, IsHadBy, IsPointBy, LogFitsAt, StandNow, with_point}
+use Rattle.rm_session.specs.Fit.{IsFit, IsFitBy, IsFitFile, IsFitLog, IsHadBy, IsPointBy, StandNow, with_point}
 use Rattle.rm_session.proofs.Sounds.{sound-fit, stand-now}
 
 -- nothing is at any place of a list that is lost

@@ -1,5 +1,5 @@
 -- A piece of an image stands in order.
-use Rattle.std.proofs.Common.{◌≡◌, ◌≢◌, ◌∙◌, ℕ, Some, sym, ap, subst}
+use Rattle.std.proofs.Common.{◌≡◌, ◌≢◌, ◌∙◌, sym, ap}
 use Rattle.std.proofs.lemmas.Option.{get_or_from_slice_get, slice_get_within}
 use Rattle.rm_base.specs.declared.kinds.Kind.{Kind}
 use Rattle.rm_base.specs.declared.kinds.Kind.TheVariants.{Level1, Place}

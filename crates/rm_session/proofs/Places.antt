@@ -1,5 +1,5 @@
 -- Lists that grow by one item, each at its place.
-use Rattle.std.proofs.Common.{◌≡◌, ◌∙◌, ◌+◌, inl, inr, ℕ, Bool, List, [], ◌∷◌, ◌++◌, Option, Some, None, IfSome, sym, ap, subst, arith, length, get_or, slice_get}
+use Rattle.std.proofs.Common.{◌≡◌, ◌∙◌, ◌+◌, inl, inr, ℕ, Bool, List, [], ◌∷◌, ◌++◌, Option, Some, None, IfSome, sym, ap, subst, length, get_or, slice_get}
 use Rattle.std.proofs.lemmas.Option.{get_or_from_slice_get, same_Some}
 use Rattle.rm_base.specs.Store.{Held}
 use Rattle.rm_base.proofs.Slots.{get-push}

@@ -1,37 +1,28 @@
 -- What is loaded of a saved site makes a sound database, whatever the store holds.
-use Rattle.std.proofs.Common.{◌≡◌, ◌≢◌, ◌==◌, ◌&&◌, ◌<◌, ◌≤◌, ◌+◌, ◌-◌, ◌^◌, ◌∙◌, inl, inr, ℕ, zero, suc, List, [], ◌∷◌, Option, Some, None, IfSome, Bool, true, false, not, cond, refl, sym, ap, subst, arith, length, map, replicate, All, get_or, slice_get}
-use Rattle.std.specs.List.{list_any}
+use Rattle.std.proofs.Common.{◌≡◌, ◌==◌, ◌&&◌, ◌<◌, ◌≤◌, ◌+◌, ◌-◌, ◌^◌, ◌∙◌, inl, inr, ℕ, List, [], Option, Some, None, IfSome, Bool, true, false, not, cond, refl, sym, ap, subst, arith, length, map, get_or, slice_get}
 use Rattle.std.specs.Option.{option_map, option_map_or}
 use Rattle.std.proofs.lemmas.Bool.{cases_Bool, eqb-true, false≢true}
 use Rattle.std.proofs.lemmas.List.{length-map}
-use Rattle.std.proofs.lemmas.List.Folds.{list_any_at}
 use Rattle.std.proofs.lemmas.Option.{none-some, slice_get-get_or, slice_get-map}
 use Rattle.rm_blocks.specs.File.{File, standing}
-use Rattle.rm_history.specs.declared.tree.Incarnation.{Incarnation}
 use Rattle.rm_history.specs.declared.world.Datafile.{Datafile}
-use Rattle.rm_history.specs.Artefacts.{high_of}
-use Rattle.rm_history.specs.Tree.{IsThere, end_of, reset_of}
+use Rattle.rm_history.specs.Tree.{IsThere, end_of}
 use Rattle.rm_ledger.specs.Ledger.{Ledger}
-use Rattle.rm_machine.specs.Loading.{file_in, has_lost, inc_of_first, lost_instance, online_of, where_of}
-use Rattle.rm_machine.specs.Saved.{FitsInPlace, FitsOnline}
-use Rattle.rm_machine.specs.Sound.{AreOnline, ArePlaced, IsOnline, IsOpen, IsPlaced, IsPoint, IsSound}
-use Rattle.rm_machine.specs.declared.state.Instance.{Instance}
+use Rattle.rm_machine.specs.Loading.{file_in, has_lost, inc_of_first, online_of, where_of}
+use Rattle.rm_machine.specs.Sound.{AreOnline, ArePlaced, IsOnline, IsOpen, IsPlaced, IsSound}
 use Rattle.rm_machine.specs.declared.state.State.{State}
 use Rattle.rm_machine.specs.State.{counted, current_of, is_lost, ledger, now_of, online, redo_end, tree}
 use Rattle.rm_machine.proofs.Places.{counted-closed, counted-open}
-use Rattle.rm_piece.specs.declared.piece.Piece.{Piece}
 use Rattle.rm_piece.proofs.Whole.{full}
 use Rattle.rm_redo.specs.LogFile.{log_file_of}
-use Rattle.rm_redo.specs.LogFormat.{IsLogFile}
 use Rattle.rm_redo.specs.Logs.{Logs}
-use Rattle.rm_redo.specs.Online.{first_of, logs_of, records_of, sequence_of, thread_log}
+use Rattle.rm_redo.specs.Online.{first_of, records_of, sequence_of, thread_log}
 use Rattle.rm_redo.specs.declared.log_file.LogFile.{LogFile}
 use Rattle.rm_redo.specs.declared.online.LogRecord.{LogRecord}
-use Rattle.rm_redo.specs.declared.online.ThreadLog.{ThreadLog}
 use Rattle.rm_repository.specs.Facts.{IsRepository}
 use Rattle.rm_repository.specs.Repository.{Saved}
-use Rattle.rm_session.specs.Fit.{AllAt, AreFitLogs, FitsAt, IsFit, IsFitBy, IsFitFile, IsFitLog, LogFitsAt, StandNow}
-use Rattle.rm_session.proofs.Firsts.{OfLog, first-is, fit-each}
+use Rattle.rm_session.specs.Fit.{AllAt, IsFit, IsFitFile, IsFitLog, LogFitsAt, StandNow}
+use Rattle.rm_session.proofs.Firsts.{first-is, fit-each}
 use Rattle.rm_session.proofs.LostLogs.{lost-found}
 use Rattle.rm_session.proofs.Orders.{in-order, not-level1}
 

@@ -1,5 +1,5 @@
 -- Where what is in place stands, and the points of what is loaded.
-use Rattle.std.proofs.Common.{◌≡◌, ◌≢◌, ◌<◌, ◌≤◌, ◌+◌, ◌∙◌, ◌⊎◌, inl, inr, ℕ, List, Option, Some, None, Bool, true, false, is_none, refl, sym, ap, subst, arith, length, All, get_or, slice_get}
+use Rattle.std.proofs.Common.{◌≡◌, ◌<◌, ◌+◌, ◌∙◌, ◌⊎◌, inl, inr, ℕ, List, Option, Some, None, true, false, is_none, refl, sym, ap, subst, arith, get_or, slice_get}
 use Rattle.std.proofs.lemmas.Bool.{cases_lt, false≢true}
 use Rattle.std.proofs.lemmas.List.Elements.{Contains-get_or}
 use Rattle.std.proofs.lemmas.Option.{same_Some}
@@ -13,10 +13,10 @@ use Rattle.rm_history.proofs.Highs.{high-above}
 use Rattle.rm_machine.specs.Mount.{first_lost, mount_point}
 use Rattle.rm_machine.specs.Sound.{IsPlaced, IsPoint, IsSound, StandsAt}
 use Rattle.rm_machine.specs.declared.state.State.{State}
-use Rattle.rm_machine.specs.State.{counted, current_of, ledger, now_of, tree, world}
+use Rattle.rm_machine.specs.State.{current_of, ledger, now_of, tree, world}
 use Rattle.rm_machine.proofs.Mounting.{none-lost}
 use Rattle.rm_machine.proofs.Places.{counted-closed}
-use Rattle.rm_session.specs.Fit.{AllStand, IsStanding, StandNow, with_point}
+use Rattle.rm_session.specs.Fit.{IsStanding, StandNow, with_point}
 
 -- what stands at a place, and the other way round
 pub stands : (place : List (Option File)) (i at k : ℕ) (x : Option File) → slice_get place k ≡ Some x → IsStanding i at x → StandsAt place i at k

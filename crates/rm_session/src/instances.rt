@@ -1,5 +1,5 @@
 //! What runs, as it is loaded, its point left aside.
-ghost use Rattle.std.specs.Prelude.{◌≡◌, ◌≤◌, None, IfNone, IfOk, IfSome, IsErrOf, replicate};
+ghost use Rattle.std.specs.Prelude.{◌≡◌, ◌≤◌, None, IfOk, IfSome, IsErrOf, replicate};
 ghost use Rattle.rm_base.specs.Outside.{Rose};
 ghost use Rattle.rm_machine.specs.Loading.{lost_instance};
 ghost use Rattle.rm_repository.specs.Facts.{IsRepository};

@@ -1,4 +1,4 @@
-use Rattle.std.proofs.Common.{◌≡◌, ◌∙◌, ℕ, Option, Some, IfSome, true, ap, sym, subst}
+use Rattle.std.proofs.Common.{◌≡◌, ◌∙◌, Option, Some, IfSome, true, ap, sym, subst}
 use Rattle.rm_catalog.specs.declared.record.HeadEntry.{HeadEntry}
 use Rattle.rm_machine.specs.Sound.{IsSound}
 use Rattle.rm_machine.specs.declared.state.State.{State}

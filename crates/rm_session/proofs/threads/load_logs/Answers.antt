@@ -1,4 +1,4 @@
-use Rattle.std.proofs.Common.{◌≡◌, ◌∙◌, ◌+◌, ◌++◌, [], ◌∷◌, ap, arith, length}
+use Rattle.std.proofs.Common.{◌∙◌, [], ◌∷◌, ap, arith, length}
 use Rattle.std.proofs.lemmas.List.{length-append}
 use Rattle.rm_session.specs.Fit.{IsLogAt, LogFitsAt}
 use Rattle.rm_session.proofs.Places.{fits-more, told-more}

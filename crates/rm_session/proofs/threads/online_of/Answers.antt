@@ -1,6 +1,6 @@
-use Rattle.std.proofs.Common.{rules, ◌≡◌, ◌∙◌, ◌≤◌, All, ap, sym, subst}
+use Rattle.std.proofs.Common.{◌≡◌, ◌∙◌, ◌≤◌, All, ap, sym, subst}
 use Rattle.rm_catalog.specs.declared.record.BaseEntry.{BaseEntry}
-use Rattle.rm_machine.specs.Loading.{inc_of_first, where_of}
+use Rattle.rm_machine.specs.Loading.{inc_of_first}
 use Rattle.rm_redo.specs.LogFormat.{IsLogFile}
 use Rattle.rm_session.proofs.Firsts.{OfLog, inc-valid, kept-valid}
 use Rattle.rm_session.proofs.threads.online_of.Goals as goal
