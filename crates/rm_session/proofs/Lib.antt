@@ -1,11 +1,17 @@
 pub mod Adding
+pub mod Firsts
 pub mod GoodParts
+pub mod Goods
 pub mod Ids
+pub mod Loads
 pub mod Lost
+pub mod LostLogs
 pub mod OneByOne
 pub mod OneWay
 pub mod OnlineParts
+pub mod Orders
 pub mod PartsOf
+pub mod Places
 pub mod Recorded
 pub mod Resting
 pub mod RowsThere
@@ -14,4 +20,6 @@ pub mod SavedLogs
 pub mod SavedParts
 pub mod SavedSites
 pub mod Sites
+pub mod Sounds
+pub mod Standing
 pub mod Waking

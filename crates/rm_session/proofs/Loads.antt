@@ -1,0 +1,84 @@
+-- What is loaded by a catalog: of its saved site, or else nothing.
+use Rattle.std.proofs.Common.{◌≡◌, ◌<◌, ◌+◌, ◌^◌, ◌∙◌, ℕ, zero, suc, List, [], ◌∷◌, Option, Some, None, IfSome, true, false, refl, sym, ap, subst, arith, length, map, replicate, get_or, slice_get}
+use Rattle.std.proofs.lemmas.List.{length-replicate}
+use Rattle.std.proofs.lemmas.Option.{same_Some, slice_get-get_or, slice_get_within}
+use Rattle.rm_base.specs.Store.{Held}
+use Rattle.rm_blocks.specs.File.{File}
+use Rattle.rm_ledger.specs.Ledger.{Ledger}
+use Rattle.rm_machine.specs.Loading.{IsLoadedBy, inc_of_first, lost_instance, online_of, where_of}
+use Rattle.rm_machine.specs.Sound.{IsSound}
+use Rattle.rm_machine.specs.declared.state.Instance.{Instance}
+use Rattle.rm_machine.specs.declared.state.State.{State}
+use Rattle.rm_machine.specs.State.{ledger}
+use Rattle.rm_redo.specs.Online.{logs_of}
+use Rattle.rm_redo.specs.declared.log_file.LogFile.{LogFile}
+use Rattle.rm_repository.specs.Facts.{IsRepository}
+use Rattle.rm_repository.specs.Repository.{Saved}
+use Rattle.rm_session.specs.Fit.{IsFit, IsFitBy, IsFitFile, IsFitLog, IsHadBy, IsPointBy, StandNow, with_point}
+use Rattle.rm_session.proofs.Sounds.{sound-fit, stand-now}
+
+-- nothing is at any place of a list that is lost
+none-at : {X : Type 0} (n k : ℕ) (x : Option X) → slice_get (replicate n None) k ≡ Some x → x ≡ None
+none-at zero k x is = absurd (cc)
+none-at (suc n) zero x is = sym (same_Some None x is)
+none-at (suc n) (suc k) x is = none-at n k x is
+
+inc-lost : (i n : ℕ) → inc_of_first i (replicate n None) ≡ i
+inc-lost i zero = refl
+inc-lost i (suc n) = inc-lost i n
+
+kept-lost : (i n : ℕ) → map (where_of i) (replicate n None) ≡ replicate n None
+kept-lost i zero = refl
+kept-lost i (suc n) = ap (λ (os : List (Option LogFile)). None ∷ os) (kept-lost i n)
+
+lost-online : (l : Ledger) → logs_of l.base.dbid l.base.current (replicate l.base.threads None) ≡ online_of l (replicate l.base.threads None)
+lost-online l =
+    let n = l.base.threads in
+    let i = inc_of_first l.base.current (replicate n None) in
+    ap (λ i. logs_of l.base.dbid i (replicate n None)) (sym (inc-lost l.base.current n)) ∙ ap (logs_of l.base.dbid i) (sym (kept-lost i n))
+
+-- a site without a part
+abbrev nothing : Saved
+nothing = record { parts = []; head = record { opened = false; inc = 0; scn = 0 } }
+
+lost-fits : (l : Ledger) → IsFit l nothing (lost_instance l)
+lost-fits l = record {
+  many = length-replicate (length l.files) None;
+  place = λ k x is d file. subst (λ (x : Option File). IfSome x (IsFitFile l false (k + 1) d)) (sym (none-at (length l.files) k x is)) tt;
+  logs = record {
+    parts = replicate l.base.threads None;
+    many = length-replicate l.base.threads None;
+    fit = λ k x is. subst (λ (x : Option LogFile). IfSome x (IsFitLog l false (k + 1))) (sym (none-at l.base.threads k x is)) tt;
+    are = lost-online l;
+  };
+  is_open = refl;
+  point = refl;
+}
+
+fit-lost : (l : Ledger) (i : Instance) → i ≡ lost_instance l → IsFit l nothing i
+fit-lost l i is = subst (IsFit l nothing) (sym is) (lost-fits l)
+
+-- it is sound, whatever the store holds
+pub sound-by : (s : State) (o : Option Saved) → IsRepository s.catalog → (ledger s).base.dbid < 2 ^ 32 → IsFitBy (ledger s) o s.instance → IsSound s
+sound-by s None rules dbid fit = sound-fit s nothing rules (fit-lost (ledger s) s.instance fit) dbid
+sound-by s (Some site) rules dbid fit = sound-fit s site rules fit dbid
+
+pub stand-by : (s : State) (o : Option Saved) → IsRepository s.catalog → IsFitBy (ledger s) o s.instance → IfSome o (λ site. site.head.opened ≡ true → StandNow s)
+stand-by s None rules fit = tt
+stand-by s (Some site) rules fit = λ opened. stand-now s site rules fit opened
+
+-- with its point it is what is to be loaded
+pub loaded-by : (h : Held) (s : State) (o : Option Saved) (p : Option ℕ) → IsHadBy h (ledger s) o s.instance → IsPointBy s o p → IsLoadedBy h (with_point s p) o
+loaded-by h s None p had told =
+    ap (λ q. record s.instance { point = q }) told ∙ ap (λ (i : Instance). record i { point = None }) had
+loaded-by h s (Some site) p had told =
+    let l = ledger s in
+    let place = s.instance.place in
+    let many : length place ≡ length l.files = had.many in
+    record {
+      many = many;
+      place = λ k d file. let inside = slice_get_within l.files k d file in had.place k (get_or place k None) (slice_get-get_or place k None (omega (arith, inside, many))) d file;
+      logs = had.logs;
+      is_open = had.is_open;
+      point = told;
+    }

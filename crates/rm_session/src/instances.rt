@@ -1,0 +1,70 @@
+//! What runs, as it is loaded, its point left aside.
+ghost use Rattle.std.specs.Prelude.{◌≡◌, ◌≤◌, None, IfOk, IfSome, IsErrOf, replicate};
+ghost use Rattle.rm_base.specs.Outside.{Rose};
+ghost use Rattle.rm_machine.specs.Loading.{lost_instance};
+ghost use Rattle.rm_repository.specs.Facts.{IsRepository};
+ghost use Rattle.rm_session.specs.Fit.{IsFit, IsHad};
+
+use crate::fault::SessionFault;
+use crate::files::load_files;
+use crate::threads::{has_lost, load_logs, online_of};
+use rm_base::{NoMemory, Seq, Store};
+use rm_machine::Instance;
+use rm_redo::OnlineLogs;
+use rm_repository::{Catalog, Saved};
+use std::alloc::Global;
+
+// So many that are lost.
+fn all_lost<T: Drop>(alloc: Global, many: usize) -> Result<Seq<Option<T>>, NoMemory>
+    ensures { IfOk result (λ lost. lost ≡ replicate many None) }
+{
+    let mut lost = Vec::new(alloc);
+    for _ in 0..many {
+        lost.push(None)?;
+    }
+    Ok(Seq::from_vec(lost))
+}
+
+/// What runs of a database of which all is lost.
+pub(crate) fn lost_instance(alloc: Global, catalog: &Catalog) -> Result<Instance, NoMemory>
+    requires { IsRepository catalog.now }
+    ensures { IfOk result (λ i. i ≡ lost_instance catalog.now.ledger) }
+{
+    let base = catalog.base();
+    let place = all_lost(alloc, catalog.files().len())?;
+    let lost = all_lost(alloc, usize::from(base.threads))?;
+    let logs = OnlineLogs::from_logs(alloc, base.dbid, base.current, lost)?;
+    Ok(Instance {
+        is_open: false,
+        point: None,
+        place,
+        logs,
+    })
+}
+
+/// What runs, as it is loaded of a saved site, without a point. An error is a fault of the store, which is counted, or want
+/// of memory.
+pub(crate) fn load_instance<D: Store>(
+    alloc: Global,
+    store: &mut D,
+    catalog: &Catalog,
+    site: &Saved,
+) -> Result<Instance, SessionFault>
+    requires { IsRepository catalog.now }
+    ensures told { IfOk result (λ i. IfSome (D.held store.old) (λ h. IsHad h catalog.now.ledger site.now i)) }
+    ensures fits { IfOk result (λ i. IsFit catalog.now.ledger site.now i) }
+    ensures same { D.held store.new ≡ D.held store.old }
+    ensures failed { IsErrOf result SessionFault.StoreFault → Rose (D.faults store.old) (D.faults store.new) }
+    ensures never_falls { D.faults store.old ≤ D.faults store.new }
+{
+    let place = load_files(alloc, store, catalog, site)?;
+    let parts = load_logs(alloc, store, catalog, site)?;
+    let logs = online_of(alloc, catalog, parts)?;
+    let is_open = site.head().opened && !has_lost(&logs);
+    Ok(Instance {
+        is_open,
+        point: None,
+        place,
+        logs,
+    })
+}

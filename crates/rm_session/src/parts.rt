@@ -1,0 +1,117 @@
+//! What the store has of one part of a saved site.
+ghost use Rattle.std.specs.Prelude.{◌≡◌, ◌≢◌, ◌≤◌, ℕ, List, IfNone, IfOk, IfSome, IsErrOf};
+ghost use Rattle.rm_base.specs.Outside.{Rose};
+ghost use Rattle.rm_base.specs.Sealed.{sealed};
+ghost use Rattle.rm_machine.specs.Loading.{IsTheOne};
+ghost use Rattle.rm_objects.specs.Names.{site_name};
+ghost use Rattle.rm_objects.specs.Objects.{HasDigest};
+ghost use Rattle.rm_piece.specs.Valid.{IsPiece};
+ghost use Rattle.rm_redo.specs.LogFormat.{IsLogFile};
+ghost use Rattle.rm_session.specs.Fit.{HasLog, HasPiece, IsLogOf, IsPieceOf};
+
+use crate::fault::SessionFault;
+use rm_base::sealed::unseal_with_digest;
+use rm_base::{FormatFault, NoMemory, Seq, Store};
+use rm_catalog::PartEntry;
+use rm_objects::site_name;
+use rm_piece::{Piece, piece_of_body};
+use rm_redo::{LogFile, log_of_body};
+use std::alloc::Global;
+
+// What stands before the seal, where the bytes are sealed and have the size and SHA-256 of the part. They are hashed once,
+// and not at all where the size is another.
+fn part_body<'a>(part: &PartEntry, bytes: &'a [u8]) -> Option<&'a [u8]>
+    ensures sealed { IfSome result (λ body. bytes.now ≡ sealed body.now) }
+    ensures digest { IfSome result (λ _. HasDigest bytes.now part.now.size part.now.sha) }
+    ensures none { IfNone result (HasDigest bytes.now part.now.size part.now.sha → (body : List ℕ) → bytes.now ≢ sealed body) }
+{
+    if bytes.len() as u64 != part.size {
+        return None;
+    }
+    let (body, digest) = unseal_with_digest(bytes)?;
+    if digest.as_slice() == part.sha.as_slice() {
+        Some(body)
+    } else {
+        None
+    }
+}
+
+// The piece that the bytes spell, where they have the digest of the part.
+fn piece_of(alloc: Global, part: &PartEntry, bytes: &[u8]) -> Result<Option<Piece>, NoMemory>
+    ensures { IfOk result (λ found. IsTheOne (IsPieceOf part.now bytes.now) found) }
+{
+    let Some(body) = part_body(part, bytes) else {
+        return Ok(None);
+    };
+    match piece_of_body(alloc, body) {
+        Ok(piece) => Ok(Some(piece)),
+        Err(FormatFault::Bad) => Ok(None),
+        Err(FormatFault::NoMemory) => Err(NoMemory),
+    }
+}
+
+// The log that the bytes spell, where they have the digest of the part.
+fn log_of(alloc: Global, part: &PartEntry, bytes: &[u8]) -> Result<Option<LogFile>, NoMemory>
+    ensures { IfOk result (λ found. IsTheOne (IsLogOf part.now bytes.now) found) }
+{
+    let Some(body) = part_body(part, bytes) else {
+        return Ok(None);
+    };
+    match log_of_body(alloc, body) {
+        Ok(log) => Ok(Some(log)),
+        Err(FormatFault::Bad) => Ok(None),
+        Err(FormatFault::NoMemory) => Err(NoMemory),
+    }
+}
+
+// What the store has under the name of the part.
+fn bytes_of<D: Store>(
+    alloc: Global,
+    store: &mut D,
+    part: &PartEntry,
+) -> Result<Option<Seq<u8>>, SessionFault>
+    ensures found { IfOk result (λ bytes. IfSome (D.held store.old) (λ h. h (site_name part.now.id) ≡ bytes)) }
+    ensures same { D.held store.new ≡ D.held store.old }
+    ensures failed { IsErrOf result SessionFault.StoreFault → Rose (D.faults store.old) (D.faults store.new) }
+    ensures never_falls { D.faults store.old ≤ D.faults store.new }
+{
+    let name = site_name(alloc, part.id)?;
+    Ok(store.get(name.as_str())?)
+}
+
+/// The piece that the store has under the name of the part, with its size and SHA-256. An error is a fault of the store,
+/// which is counted, or want of memory.
+pub(crate) fn load_piece<D: Store>(
+    alloc: Global,
+    store: &mut D,
+    part: &PartEntry,
+) -> Result<Option<Piece>, SessionFault>
+    ensures told { IfOk result (λ found. IfSome (D.held store.old) (λ h. IsTheOne (HasPiece h part.now) found)) }
+    ensures valid { IfOk result (λ found. IfSome found IsPiece) }
+    ensures same { D.held store.new ≡ D.held store.old }
+    ensures failed { IsErrOf result SessionFault.StoreFault → Rose (D.faults store.old) (D.faults store.new) }
+    ensures never_falls { D.faults store.old ≤ D.faults store.new }
+{
+    let Some(bytes) = bytes_of(alloc, store, part)? else {
+        return Ok(None);
+    };
+    Ok(piece_of(alloc, part, bytes.as_slice())?)
+}
+
+/// The log, likewise.
+pub(crate) fn load_log<D: Store>(
+    alloc: Global,
+    store: &mut D,
+    part: &PartEntry,
+) -> Result<Option<LogFile>, SessionFault>
+    ensures told { IfOk result (λ found. IfSome (D.held store.old) (λ h. IsTheOne (HasLog h part.now) found)) }
+    ensures valid { IfOk result (λ found. IfSome found IsLogFile) }
+    ensures same { D.held store.new ≡ D.held store.old }
+    ensures failed { IsErrOf result SessionFault.StoreFault → Rose (D.faults store.old) (D.faults store.new) }
+    ensures never_falls { D.faults store.old ≤ D.faults store.new }
+{
+    let Some(bytes) = bytes_of(alloc, store, part)? else {
+        return Ok(None);
+    };
+    Ok(log_of(alloc, part, bytes.as_slice())?)
+}
