@@ -2,6 +2,7 @@
 use Rattle.std.proofs.Common.{◌≡◌, ◌∙◌, ◌++◌, ◌&&◌, ◌||◌, not, ℕ, Bool, List, [], Option, Some, None, true, ap, sym, subst}
 use Rattle.std.specs.Prelude.{Result, Ok, Err, OnErr}
 use Rattle.std.proofs.Math.Bool.{or-false}
+use Rattle.std.proofs.lemmas.List.{append-nil}
 use Rattle.rm_base.specs.Store.{Held}
 use Rattle.rm_base.specs.declared.refusal.Refusal.{Refusal}
 use Rattle.rm_catalog.specs.Edits.{after_edits}
@@ -26,7 +27,7 @@ use Rattle.rm_machine.specs.State.{at_moment, ledger}
 use Rattle.rm_machine.specs.Step.{IsOutcome, IsOutcomeBy, IsStatement, Step, refusal_of}
 use Rattle.rm_machine.specs.Saved.{saved_names}
 use Rattle.rm_machine.proofs.Later.{sound-later}
-use Rattle.rm_machine.proofs.Leading.{stays}
+use Rattle.rm_machine.proofs.Leading.{stays as keeps-sound}
 use Rattle.rm_frame.specs.Carries.{IsHanded, IsOutcomeIn}
 use Rattle.rm_frame.specs.Holds.{View, records_in}
 use Rattle.rm_frame.specs.Moments.{IsMomentIn, moment_of}
@@ -40,6 +41,9 @@ use Rattle.rm_frame.proofs.Halting.{halts, nothing-done}
 use Rattle.rm_site.specs.Comes.{ComesTo, IsRefusedBy}
 use Rattle.rm_site.specs.declared.statement.Answer.{Answer}
 use Rattle.rm_site.specs.declared.statement.Answer.TheVariants.{Refused, Told, Done}
+
+pub no_more_names : (names : List (List ℕ)) → names ≡ names ++ []
+no_more_names names = sym (append-nil names)
 
 pub on-err : {T E : Type 0} (P : Type 0) (r : Result T E) → P → OnErr r P
 on-err P (Ok x) p = tt
@@ -74,14 +78,14 @@ module _ (held : Option Held) (kept : Option (List Record)) (c : Command) (momen
   unfolding IsStepAt
   is-carried before o lines x t reply held' kept' stays said_is well at handed leads =
       let on = subst (λ (h : Option Held). Leads (Carried x) h kept held' kept') stays leads in
-      subst (λ (r : Reply). StepsAt held kept o c moment r held' kept' (Some t)) (sym said_is) (carried-on c (every-leads c) (stays c (every-stays c)) held kept o moment lines x t well at handed held' kept' on)
+      subst (λ (r : Reply). StepsAt held kept o c moment r held' kept' (Some t)) (sym said_is) (carried-on c (every-leads c) (keeps-sound c (every-stays c)) held kept o moment lines x t well at handed held' kept' on)
 
   pub is-halted : {T E : Type 0} (r : Result T E) (before : Option Held) (o : Option State) (lines : List Line) (x : Change) (t : State) (held' : Option Held) (kept' : Option (List Record)) → before ≡ held
       → IsStatement c → IsMomentIn o moment → IsHanded held o c moment lines x t → Leads (Halted x) before kept held' kept' → OnErr r (IsStopAt held kept o c moment held' kept')
   unfolding IsStopAt
   is-halted r before o lines x t held' kept' stays well at handed leads =
       let on = subst (λ (h : Option Held). Leads (Halted x) h kept held' kept') stays leads in
-      on-err (StopsAt held kept o c moment held' kept') r (halts c (every-leads c) (stays c (every-stays c)) (every-loose c) held kept o moment lines x t well at handed held' kept' on)
+      on-err (StopsAt held kept o c moment held' kept') r (halts c (every-leads c) (keeps-sound c (every-stays c)) (every-loose c) held kept o moment lines x t well at handed held' kept' on)
 
   -- where nothing was done yet
   pub untouched : {T E : Type 0} (r : Result T E) (o : Option State) (held' : Option Held) → held' ≡ held → OnErr r (IsStopAt held kept o c moment held' kept)
@@ -172,16 +176,16 @@ unapplied a c reply said_no = ap (λ (b : Bool). a || (not b && not (only_tells 
 
 module _ (o : Option State) (v : View) (c : Command) (clock moment : ℕ) (from : o ≡ v.state) (is : moment ≡ moment_of o clock) where
   -- what it shows afterwards
-  abbrev after : Option State → Reply → View
+  abbrev pub after : Option State → Reply → View
   after p reply = record { state = p; live = true; applied = v.applied || applies c reply }
 
   same-moment : (p : Option State) → p ≡ v.state → moment ≡ moment_of p clock
   same-moment p stands = is ∙ ap (λ (x : Option State). moment_of x clock) (from ∙ sym stands)
 
   pub steps-of : (held held' : Option Held) (kept kept' : Option (List Record)) (reply : Reply) (p : Option State) → IsStepAt held kept o c moment reply held' kept' p
-      → Steps held kept v c clock reply held' kept' (after p reply)
+      → (applied : Bool) → Steps held kept v c clock reply held' kept' (record { state = p; live = true; applied = applied })
   unfolding IsStepAt
-  steps-of held held' kept kept' reply p step m stands holds tell =
+  steps-of held held' kept kept' reply p step applied m stands holds tell =
       let on = step m (stands ∙ sym from) holds tell in
       (on.0, subst (λ n. Step m c n reply on.0) (same-moment m.state stands) on.1, on.2, on.3)
 
@@ -202,8 +206,14 @@ module _ (o : Option State) (v : View) (c : Command) (clock moment : ℕ) (from 
   answered-by-view (Some q) reply p live by = (by.0, shown reply p live (ap (λ (x : Reply). x.refused) by.0) by.1)
   answered-by-view None reply p live by = record { objects = by.objects; same = λ said_no. shown reply p live said_no (by.same said_no) }
 
-  pub answered-of : (reply : Reply) (p : Option State) → v.live ≡ true → AnsweredBy (refusal_in o c moment) c reply o p
+  answered-as : (reply : Reply) (p : Option State) → v.live ≡ true → AnsweredBy (refusal_in o c moment) c reply o p
       → AnsweredBy (refusal_in v.state c (moment_of v.state clock)) c reply v (after p reply)
-  answered-of reply p live by =
+  answered-as reply p live by =
       subst (λ (r : Option Refusal). AnsweredBy r c reply v (after p reply)) (ap (refusal_in o c) is ∙ ap (λ (x : Option State). refusal_in x c (moment_of x clock)) from)
       (answered-by-view (refusal_in o c moment) reply p live by)
+
+  pub answered-of : (reply : Reply) (p : Option State) (applied : Bool) → applied ≡ (v.applied || applies c reply) → v.live ≡ true → AnsweredBy (refusal_in o c moment) c reply o p
+      → AnsweredBy (refusal_in v.state c (moment_of v.state clock)) c reply v (record { state = p; live = true; applied = applied })
+  answered-of reply p applied has live by =
+      subst (λ (b : Bool). AnsweredBy (refusal_in v.state c (moment_of v.state clock)) c reply v (record { state = p; live = true; applied = b })) (sym has)
+      (answered-as reply p live by)

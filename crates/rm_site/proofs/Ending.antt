@@ -1,6 +1,6 @@
 -- What a save of a database leaves, and what a stop leaves of it.
 use Rattle.std.proofs.Common.{◌≡◌, ◌∙◌, ◌++◌, ◌⊎◌, ◌+◌, ◌&&◌, inl, inr, ℕ, Bool, List, [], ◌∷◌, Option, Some, None, true, false, refl, ap, sym, subst}
-use Rattle.std.specs.Prelude.{is_none, IsSomeAnd, MatchBool, Contains}
+use Rattle.std.specs.Prelude.{is_none, MatchBool, Result, Ok, Err, OnOk, OnErr}
 use Rattle.std.specs.Str.{bytes_eq}
 use Rattle.std.proofs.lemmas.Bool.{cases_Bool}
 use Rattle.std.proofs.lemmas.Slice.Eq.{bytes_eq-Decides}
@@ -19,12 +19,20 @@ use Rattle.rm_machine.specs.declared.state.State.{State}
 use Rattle.rm_machine.specs.State.{ledger}
 use Rattle.rm_machine.proofs.Dropping.{IsNoSite, no-site}
 use Rattle.rm_session.proofs.Resting.{rests as saved-rests}
-use Rattle.rm_frame.specs.Holds.{Holds, HoldsRest, records, saved_in}
+use Rattle.rm_frame.specs.Holds.{Holds, HoldsRest, Stands, View, records, saved_in}
 use Rattle.rm_frame.specs.Loose.{IsNamedIn, of_object, of_part}
-use Rattle.rm_frame.specs.Saves.{IsEnded}
+use Rattle.rm_frame.specs.Saves.{IsEnded, Saves, StopsSaving}
 use Rattle.rm_frame.specs.Stopped.{IsLeft}
 use Rattle.rm_frame.proofs.Halting.{StaysUnder, is-left, left, left-holds, no-part, rests}
 use Rattle.rm_site.specs.Saved.{SavesAt, StopsSavingAt}
+
+pub ok-then : {T E : Type 0} {P Q : Type 0} (r : Result T E) → (P → Q) → OnOk r P → OnOk r Q
+ok-then (Ok x) f p = f p
+ok-then (Err e) f p = tt
+
+pub err-then : {T E : Type 0} {P Q : Type 0} (r : Result T E) → (P → Q) → OnErr r P → OnErr r Q
+err-then (Ok x) f p = tt
+err-then (Err e) f p = f p
 
 -- the objects of a save have names of parts alone
 unnamed-site : (id : ℕ) (parts : List SitePart) (name : List ℕ) → IsNoSite name → is_named name_of (with_ids object_of id parts) name ≡ false
@@ -113,3 +121,35 @@ module _ (held : Option Held) (kept : Option (List Record)) (s : State) where
   stops-before m is holds =
       let same : StaysUnder [] m.state m.objects m.objects = λ name names. inr refl in
       (at_rest m, inl (is-left [] m m.objects same), rests held kept m holds)
+
+-- over the site, where nothing is to be saved
+module _ (held : Option Held) (kept : Option (List Record)) (v : View) where
+  same-by : ((m : Machine) → Stands v m → IsEnded v.applied m (at_rest m)) → Saves held kept v held kept
+  same-by ended m stands holds = (at_rest m, ended m stands, rests held kept m holds)
+
+  either : (b : Bool) (m : Machine) → MatchBool b (at_rest m ≡ at_rest m) (at_rest m ≡ at_rest m)
+  either true m = refl
+  either false m = refl
+
+  pub unapplied-saves : v.applied ≡ false → Saves held kept v held kept
+  unapplied-saves none = same-by (λ m stands. subst (λ (b : Bool). IsEnded b m (at_rest m)) (sym none) refl)
+
+  pub nothing-saves : v.state ≡ None → Saves held kept v held kept
+  nothing-saves none =
+      same-by (λ m stands. subst (λ o. MatchBool (v.applied && is_none (saved_in o)) (IsSavedBy o m (at_rest m)) (at_rest m ≡ at_rest m)) (sym (stands ∙ none)) (either (v.applied && true) m))
+
+  pub unsaved-saves : (s : State) → v.state ≡ Some s → (is_none s.catalog.saved ≡ false) ⊎ (lacks_ids s 0 ≡ true) → v.applied ≡ true → Saves held kept v held kept
+  unsaved-saves s is why applied m stands holds =
+      let on = saves-nothing held kept s why m (stands ∙ is) holds in
+      (on.0, subst (λ (b : Bool). IsEnded b m on.0) (sym applied) on.1, on.2)
+
+  -- and where it is saved
+  pub state-saves : (s : State) (held' : Option Held) (kept' : Option (List Record)) → v.state ≡ Some s → v.applied ≡ true → SavesAt held kept s held' kept' → Saves held kept v held' kept'
+  state-saves s held' kept' is applied saves m stands holds =
+      let on = saves m (stands ∙ is) holds in
+      (on.0, subst (λ (b : Bool). IsEnded b m on.0) (sym applied) on.1, on.2)
+
+  pub state-stops : (s : State) (held' : Option Held) (kept' : Option (List Record)) → v.state ≡ Some s → v.applied ≡ true → StopsSavingAt held kept s held' kept' → StopsSaving held kept v held' kept'
+  state-stops s held' kept' is applied stops m stands holds =
+      let on = stops m (stands ∙ is) holds in
+      (on.0, subst (λ (b : Bool). IsLeft [] m on.0 ⊎ IsEnded b m on.0) (sym applied) on.1, on.2)

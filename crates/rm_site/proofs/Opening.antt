@@ -1,11 +1,12 @@
 -- What opening a site finds.
-use Rattle.std.proofs.Common.{◌≡◌, ◌∙◌, ℕ, List, [], Option, Some, None, IfSome, refl, ap, sym, subst, All}
-use Rattle.std.specs.Prelude.{Result, Ok, IsPermutation}
+use Rattle.std.proofs.Common.{◌≡◌, ◌∙◌, ℕ, List, [], Option, Some, None, IfSome, refl, ap, rules, sym, subst}
+use Rattle.std.specs.Prelude.{Result, Ok, Err, IfErr, IsErrAnd, IsPermutation, true, false}
 use Rattle.std.proofs.lemmas.List.Elements.{All-nil}
 use Rattle.std.proofs.lemmas.List.Sorted.{IsPermutation-sym, IsPermutation-trans}
 use Rattle.rm_base.specs.Store.{Held}
 use Rattle.rm_catalog.specs.declared.catalog.CatalogFault.{CatalogFault}
 use Rattle.rm_catalog.specs.declared.catalog.CatalogFault.TheVariants.{BadRow}
+use Rattle.rm_catalog.specs.declared.catalog.CatalogFault.TheVariants as catalog
 use Rattle.rm_catalog.specs.declared.record.Record.{Record}
 use Rattle.rm_catalog.specs.Faults.{Answers, IsBadRow, IsTaken}
 use Rattle.rm_catalog.specs.Keys.{InOrder}
@@ -18,9 +19,12 @@ use Rattle.rm_machine.specs.Machine.{Machine}
 use Rattle.rm_machine.specs.Rest.{HaveParts, IsSoundRest, IsSoundRestBy, PartsTell, Rest, Wakes, at_rest, catalog_in}
 use Rattle.rm_machine.specs.Sound.{IsSound}
 use Rattle.rm_machine.specs.declared.state.State.{State}
+use Rattle.rm_session.specs.declared.fault.SessionFault.{SessionFault}
+use Rattle.rm_session.specs.declared.fault.SessionFault.TheVariants as session
 use Rattle.rm_session.proofs.Recorded.{one-catalog}
 use Rattle.rm_session.proofs.Waking.{waking-sound}
 use Rattle.rm_frame.specs.Holds.{Holds, HoldsRest, Stands, View, saved_in}
+use Rattle.rm_site.specs.Faults.{IsBadFirst, fault_at, fault_in}
 use Rattle.rm_site.specs.Opens.{AreValid, Opens}
 
 -- a list of all in order is one of what was asked for
@@ -34,7 +38,7 @@ of-kept Is (Some ks) rs s asked order is = (s, answered ks rs s asked order, is)
 
 -- the records of a database at rest are valid, and in order
 valid-at-rest : (c : Option Repository) (r : Rest) → r.catalog ≡ c → IsSoundRest r → IsValid (all_records c) × InOrder (all_records c)
-valid-at-rest None r is sound = (All-nil _, λ i j d less inside. absurd (let clash = inside in omega (arith, clash)))
+valid-at-rest None r is sound = (All-nil _, search rules)
 valid-at-rest (Some c) r is sound =
     let borne = subst (λ o. IsSoundRestBy o r.history r.objects r.made r.touched) is sound in
     let valid = repository-valid c borne.catalog in
@@ -75,3 +79,45 @@ opened held kept v sound catalog loaded r holds tell =
         parts = parts-of v.state r rests;
       },
     )
+
+-- a record that breaks a rule is told of those that are kept
+pub told-bad : (fault : CatalogFault) (kept : Option (List Record)) (rs : List Record) → Answers kept rs → IsBadRow rs fault → IfSome kept (IsBadFirst (fault_at fault))
+told-bad (BadRow kind id) None rs asked bad = tt
+told-bad (BadRow kind id) (Some ks) rs asked bad = (bad.0, answered ks rs bad.0 asked bad.1, bad.2)
+told-bad catalog.NoMemory None rs asked bad = tt
+told-bad catalog.NoMemory (Some ks) rs asked bad = tt
+
+-- where the store failed, they are valid
+pub told-valid : (fault : SessionFault) (kept : Option (List Record)) → IfSome kept AreValid → IfSome kept (IsBadFirst (fault_in fault))
+told-valid fault None valid = tt
+told-valid session.StoreFault (Some ks) valid = valid
+told-valid session.NoMemory (Some ks) valid = tt
+
+-- what is so of the error that was handed on
+pub told-err : {T E : Type 0} (r : Result T E) (e : E) (P : E → Type 0) → IsErrAnd r (λ x. x ≡ e) → P e → IfErr r P
+told-err (Ok x) e P is p = tt
+told-err (Err x) e P is p = subst P (sym is) p
+
+-- a database, of whose catalog what runs is loaded
+pub opened-some : (held : Option Held) (kept : Option (List Record)) (rs : List Record) (found : Result (Option Repository) CatalogFault) (o : Option State) (s : State) (c : Option Repository) (b : Repository)
+    → Answers kept rs → ((s : List Record) → IsOrderOf s rs → IsValid s → IsTaken (records_in found) s) → found ≡ Ok c → c ≡ Some b → o ≡ Some s → s.catalog ≡ b
+    → IfSome held (λ h. IsLoaded h s) → IsSound s → Opens held kept (record { state = o; live = true; applied = false })
+opened-some held kept rs found o s c b asked only is some state catalog loaded sound =
+    subst (λ (x : Option State). Opens held kept (record { state = x; live = true; applied = false })) (sym state)
+    (opened held kept (record { state = Some s; live = true; applied = false }) sound
+    (λ r holds. ap Some catalog ∙ sym some ∙ loaded-is held kept rs c r holds asked (subst (λ x. (s : List Record) → IsOrderOf s rs → IsValid s → IsTaken (records_in x) s) is only))
+    loaded)
+
+-- and none
+pub opened-none : (held : Option Held) (kept : Option (List Record)) (rs : List Record) (found : Result (Option Repository) CatalogFault) (o : Option State) (c : Option Repository)
+    → Answers kept rs → ((s : List Record) → IsOrderOf s rs → IsValid s → IsTaken (records_in found) s) → found ≡ Ok c → c ≡ None → o ≡ None
+    → Opens held kept (record { state = o; live = true; applied = false })
+opened-none held kept rs found o c asked only is none state =
+    subst (λ (x : Option State). Opens held kept (record { state = x; live = true; applied = false })) (sym state)
+    (opened held kept (record { state = None; live = true; applied = false }) tt
+    (λ r holds. sym none ∙ loaded-is held kept rs c r holds asked (subst (λ x. (s : List Record) → IsOrderOf s rs → IsValid s → IsTaken (records_in x) s) is only))
+    (all-some held))
+  where
+    all-some : (held : Option Held) → IfSome held (λ h. Unit {0})
+    all-some None = tt
+    all-some (Some h) = tt

@@ -1,8 +1,9 @@
 //! A session ends: its site is saved.
-ghost use Rattle.std.specs.Prelude.{◌≡◌, ◌≤◌, true, false, None, OnOk, OnErr, IsErrOf};
+ghost use Rattle.std.specs.Prelude.{◌≡◌, ◌≤◌, ◌⊎◌, true, false, is_none, None, IsTrue, OnOk, OnErr, IsErrOf};
 ghost use Rattle.rm_base.specs.Outside.{Rose};
 ghost use Rattle.rm_change.specs.declared.change.Stop.TheVariants.{StoreFault, KeeperFault};
 ghost use Rattle.rm_frame.specs.Saves.{Saves, StopsSaving};
+ghost use Rattle.rm_machine.specs.Marks.{lacks_ids};
 ghost use Rattle.rm_machine.specs.Sound.{IsSound};
 ghost use Rattle.rm_site.specs.Saved.{SavesAt, StopsSavingAt};
 
@@ -11,12 +12,22 @@ use rm_base::{Seq, Store};
 use rm_catalog::Keeper;
 use rm_change::{Change, Stop, carry_out};
 use rm_machine::State;
-use rm_machine::room::ids_refusal;
+use rm_machine::room::lacks_ids;
 use rm_session::put_place;
 use std::alloc::Global;
 use std::mem;
 
-// Saves what runs, where no saved site stands and the ids of a save are left.
+// Whether a site is to be saved: none is, and the ids of a save are left.
+fn can_save(state: &State) -> bool
+    requires { IsSound state.now }
+    ensures unsaved { IsTrue result → state.now.catalog.saved ≡ None }
+    ensures ids { IsTrue result → lacks_ids state.now 0 ≡ false }
+    ensures otherwise { result ≡ false → (is_none state.now.catalog.saved ≡ false) ⊎ (lacks_ids state.now 0 ≡ true) }
+{
+    state.catalog.saved().is_none() && !lacks_ids(state, 0)
+}
+
+// Saves what runs.
 fn save_state<D: Store, C: Keeper>(
     alloc: Global,
     state: State,
@@ -24,6 +35,8 @@ fn save_state<D: Store, C: Keeper>(
     keeper: &mut C,
 ) -> Result<(), Stop>
     requires sound { IsSound state }
+    requires unsaved { state.catalog.saved ≡ None }
+    requires ids { lacks_ids state 0 ≡ false }
     ensures saved { OnOk result (SavesAt (D.held store.old) (C.kept keeper.old) state (D.held store.new) (C.kept keeper.new)) }
     ensures stopped { OnErr result (StopsSavingAt (D.held store.old) (C.kept keeper.old) state (D.held store.new) (C.kept keeper.new)) }
     ensures store { IsErrOf result StoreFault → Rose (D.faults store.old) (D.faults store.new) }
@@ -31,9 +44,6 @@ fn save_state<D: Store, C: Keeper>(
     ensures store_never_falls { D.faults store.old ≤ D.faults store.new }
     ensures keeper_never_falls { C.faults keeper.old ≤ C.faults keeper.new }
 {
-    if state.catalog.saved().is_some() || ids_refusal(&state).is_some() {
-        return Ok(());
-    }
     let mut state = state;
     let mut edits = Vec::new(alloc);
     let objects = put_place(alloc, &mut state, &mut edits)?;
@@ -62,10 +72,15 @@ impl Site {
         ensures keeper_never_falls { C.faults keeper.old ≤ C.faults keeper.new }
     {
         self.live = false;
-        let state = mem::replace(&mut self.state, None);
-        match state {
-            Some(state) if self.applied => save_state(self.alloc, state, store, keeper),
-            _ => Ok(()),
+        let Some(state) = mem::replace(&mut self.state, None) else {
+            return Ok(());
+        };
+        if !self.applied {
+            return Ok(());
         }
+        if !can_save(&state) {
+            return Ok(());
+        }
+        save_state(self.alloc, state, store, keeper)
     }
 }

@@ -1,9 +1,10 @@
 //! The steps of a site.
-ghost use Rattle.std.specs.Prelude.{◌≡◌, ◌≤◌, ◌++◌, ◌||◌, true, false, None, Some, IfOk, IfSome, IsTrue, OnOk, OnErr, IsErrOf};
+ghost use Rattle.std.specs.Prelude.{◌≡◌, ◌≤◌, ◌++◌, ◌||◌, true, false, None, Some, IfOk, IfSome, IsTrue, OnOk, OnErr, IsErrOf, map};
 ghost use Rattle.rm_base.specs.Outside.{Rose};
 ghost use Rattle.rm_change.specs.declared.change.Stop.TheVariants.{StoreFault, KeeperFault};
 ghost use Rattle.rm_statement.specs.IsCommand.{is_command};
 ghost use Rattle.rm_report.specs.Reply.{HasDates, said};
+ghost use Rattle.rm_objects.specs.Names.{site_name};
 ghost use Rattle.rm_machine.specs.Built.{is_built};
 ghost use Rattle.rm_machine.specs.Saved.{saved_names};
 ghost use Rattle.rm_machine.specs.Sound.{IsSound};
@@ -19,7 +20,7 @@ use crate::moment::moment_of;
 use crate::site::Site;
 use crate::statement::{Answer, come_to};
 use rm_base::{Moment, NoMemory, Seq, Store, Text};
-use rm_catalog::Keeper;
+use rm_catalog::{Keeper, PartEntry};
 use rm_change::{Change, Stop, carry_out};
 use rm_machine::{Handed, State, refusal_reply};
 use rm_objects::site_name;
@@ -39,22 +40,32 @@ fn reply_of(lines: Seq<Line>) -> Reply
     }
 }
 
+// Adds the names of the objects of these parts.
+fn add_names(alloc: Global, names: &mut Seq<Text>, parts: &[PartEntry]) -> Result<(), NoMemory>
+    ensures { OnOk result (names.new ≡ names.old ++ map (λ p. site_name p.id) parts.now) }
+{
+    for part in parts {
+        names.push(site_name(alloc, part.id)?)?;
+    }
+    Ok(())
+}
+
 // The names of objects that go: these, and those of a saved site.
+#[tactic(auto, using(crate::proofs::Answering::no_more_names))]
 fn and_saved(alloc: Global, names: Seq<Text>, saved: &Option<Saved>) -> Result<Seq<Text>, NoMemory>
     ensures { IfOk result (λ all. all ≡ names ++ saved_names saved.now) }
 {
     let mut names = names;
     if let Some(site) = saved {
-        for part in site.parts() {
-            names.push(site_name(alloc, part.id)?)?;
-        }
+        add_names(alloc, &mut names, site.parts())?;
     }
     Ok(names)
 }
 
-// Whether a list of edits was applied for the statement: it was not refused, and does more than tell.
-fn applies(command: &Command, reply: &Reply) -> bool
-    ensures { result ≡ applies command.now reply.now }
+// Whether the session has applied a list of edits: it had, or one was applied for this statement, which was not refused and
+// does more than tell.
+fn has_applied(before: bool, command: &Command, reply: &Reply) -> bool
+    ensures { result ≡ (before || applies command.now reply.now) }
 {
     let only_tells = matches!(
         command,
@@ -69,7 +80,7 @@ fn applies(command: &Command, reply: &Reply) -> bool
             | Command::ShowAll
             | Command::ValidateAll
     );
-    !reply.refused && !only_tells
+    before || (!reply.refused && !only_tells)
 }
 
 // The answer to a statement where there is no database: CREATE DATABASE makes one.
@@ -232,7 +243,7 @@ impl Site {
         let moment = moment_of(&state, clock);
         let (state, reply) = answer(self.alloc, state, store, keeper, command, moment)?;
         self.state = state;
-        self.applied = self.applied || applies(command, &reply);
+        self.applied = has_applied(self.applied, command, &reply);
         self.live = true;
         Ok(reply)
     }

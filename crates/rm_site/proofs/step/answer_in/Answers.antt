@@ -54,7 +54,7 @@ returns-in_ok-carry_out-in-Done-clause-step g c =
     let was = c.in_ok-earlier.ensures in
     let begins : Begins c.args.state.now c.args.moment c.begin.new.self c.in_ok-earlier.earlier.moment c.in_ok-earlier.earlier.saved = record { after = was.after; moment_is = was.moment; saved_is = was.saved } in
     let handed = handed-in begins (g.D.Store.held c.args.store.now) c.args.command.now c.in_ok-refusal.field-0 c.come_to.new.state c.in_ok-refusal.ensures.comes
-    c.in-Done.handed _ _ _ _ _ c.in-Done.is c.new-edits.ensures.items was.edits c.in_ok-refusal.ensures.edits c.from_vec.ensures c.in_ok-and_saved.ensures in
+    c.in-Done.handed _ _ _ _ _ c.in-Done.is c.new-edits.ensures.items was.edits c.in_ok-refusal.ensures.edits c.from_vec.ensures c.in_ok-and_saved-in-Done.ensures in
     is-carried (g.D.Store.held c.args.store.now) _ c.args.command.now c.args.moment _ _ c.in-Done.handed.lines _ c.come_to.new.state _ _ _
     c.in_ok-refusal.ensures.held c.reply_of-in-Done.ensures c.requires.command c.requires.moment handed c.in_ok-carry_out-in-Done.ensures.carried
 
@@ -63,6 +63,6 @@ returns-in_err-carry_out-in-Done-clause-stopped g c =
     let was = c.in_ok-earlier.ensures in
     let begins : Begins c.args.state.now c.args.moment c.begin.new.self c.in_ok-earlier.earlier.moment c.in_ok-earlier.earlier.saved = record { after = was.after; moment_is = was.moment; saved_is = was.saved } in
     let handed = handed-in begins (g.D.Store.held c.args.store.now) c.args.command.now c.in_ok-refusal.field-0 c.come_to.new.state c.in_ok-refusal.ensures.comes
-    c.in-Done.handed _ _ _ _ _ c.in-Done.is c.new-edits.ensures.items was.edits c.in_ok-refusal.ensures.edits c.from_vec.ensures c.in_ok-and_saved.ensures in
+    c.in-Done.handed _ _ _ _ _ c.in-Done.is c.new-edits.ensures.items was.edits c.in_ok-refusal.ensures.edits c.from_vec.ensures c.in_ok-and_saved-in-Done.ensures in
     is-halted (g.D.Store.held c.args.store.now) _ c.args.command.now c.args.moment _ _ _ c.in-Done.handed.lines _ c.come_to.new.state _ _
     c.in_ok-refusal.ensures.held c.requires.command c.requires.moment handed c.in_err-carry_out-in-Done.ensures.stopped
