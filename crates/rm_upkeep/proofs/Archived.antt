@@ -1,12 +1,14 @@
 -- What is looked at of archived logs, one after the other.
-use Rattle.std.proofs.Common.{◌≡◌, ◌⊎◌, ◌∙◌, ◌+◌, ◌<◌, ◌≤◌, ℕ, List, [], ◌∷◌, ◌++◌, length, length-append, get_or, take, filter, map, true, false, Option, Some, None, AllPairs, Contains, refl, ap, sym, subst, arith, inl, inr}
+use Rattle.std.proofs.Common.{◌≡◌, ◌⊎◌, ◌∙◌, ◌+◌, ◌<◌, ◌≤◌, ℕ, List, [], ◌∷◌, ◌++◌, ◌&&◌, length, length-append, get_or, take, filter, map, true, false, Option, Some, None, AllPairs, Contains, refl, ap, sym, subst, arith, inl, inr}
 use Rattle.std.specs.Prelude.{◌↔◌, IfSome, Result, Ok, Err}
 use Rattle.std.proofs.Math.Seq.{take-length}
+use Rattle.std.proofs.lemmas.Bool.{and_parts}
 use Rattle.std.proofs.lemmas.List.{get_or_default, get_or-take, length-take, map-append, take_more}
 use Rattle.std.proofs.lemmas.List.Elements.{All-nil, All-push, Contains-append_cases, Contains-append_left, Contains-append_right, filter-append}
 use Rattle.rm_base.specs.Store.{Held}
 use Rattle.rm_base.specs.declared.kinds.Bad.{Bad}
-use Rattle.rm_base.specs.declared.kinds.Status.TheVariants.{Available}
+use Rattle.rm_base.specs.declared.kinds.Status.{Status}
+use Rattle.rm_base.specs.declared.kinds.Status.TheVariants.{Available, Expired, Unavailable}
 use Rattle.rm_base.proofs.Lists.{filter_from, filter_to, map_from, map_to}
 use Rattle.rm_base.proofs.Members.{in-front, none-in}
 use Rattle.rm_catalog.specs.declared.record.LogEntry.{LogEntry}
@@ -25,6 +27,7 @@ use Rattle.rm_redo.specs.LogFormat.{IsLogFile}
 use Rattle.rm_repository.proofs.Fitted.{many}
 use Rattle.rm_machine.specs.BackupLogs.{archived_in}
 use Rattle.rm_machine.specs.Sound.{IsSound}
+use Rattle.rm_machine.specs.Validate.{is_available}
 use Rattle.rm_machine.specs.declared.state.State.{State}
 use Rattle.rm_machine.specs.State.{ledger}
 use Rattle.rm_upkeep.specs.Logs.{Adds, AreRecorded, IsAll, IsRecorded, KeepsRecords}
@@ -32,6 +35,21 @@ use Rattle.rm_upkeep.specs.declared.looking.Looked.{Looked}
 
 abbrev pub nothing : Looked
 nothing = record { found = []; skipped = [] }
+
+-- Which of them are looked at
+
+available : (st : Status) → is_available st ≡ true → st ≡ Available
+available Available is = refl
+available Unavailable is = absurd (let clash : false ≡ true = is in cc)
+available Expired is = absurd (let clash : false ≡ true = is in cc)
+
+pub counted : (e : LogEntry) → (e.archived && is_available e.status) ≡ true → (e.archived ≡ true) × (e.status ≡ Available)
+counted e is = let both = and_parts e.archived (is_available e.status) is in (both.0, available e.status both.1)
+
+pub not-counted : (e : LogEntry) → (e.archived && is_available e.status) ≡ false → e.archived ≡ true → e.status ≡ Available → ⊥
+not-counted e is archived status =
+    let both : (e.archived && is_available e.status) ≡ true = ap (λ b. b && is_available e.status) archived ∙ ap is_available status in
+    absurd (let clash : true ≡ false = sym both ∙ is in cc)
 
 -- The records of archived logs
 

@@ -1,8 +1,9 @@
 //! The archived logs that count as available, as the store has them.
-ghost use Rattle.std.specs.Prelude.{◌≡◌, ◌≤◌, ◌∷◌, [], IfOk, IfSome, IsErrOf, OnOk};
+ghost use Rattle.std.specs.Prelude.{◌≡◌, ◌≤◌, ◌&&◌, ◌∷◌, [], IfOk, IfSome, IsErrOf, OnOk};
 ghost use Rattle.rm_base.specs.Outside.{Rose};
 ghost use Rattle.rm_machine.specs.Sound.{IsSound};
 ghost use Rattle.rm_machine.specs.State.{ledger};
+ghost use Rattle.rm_machine.specs.Validate.{is_available};
 ghost use Rattle.rm_upkeep.specs.Logs.{Adds, AreRecorded, IsAll, KeepsRecords};
 
 use rm_base::{Bad, Seq, Status, Store};
@@ -21,6 +22,13 @@ pub(crate) struct Looked {
     pub skipped: Seq<(u32, Bad)>,
 }
 
+// Whether the log is an archived one that counts as available.
+fn counts(entry: &LogEntry) -> bool
+    ensures { result ≡ (entry.now.archived && is_available entry.now.status) }
+{
+    entry.archived && entry.status == Status::Available
+}
+
 // Adds what the store has of the log, where it is an archived one that counts as available.
 fn look_at<D: Store>(
     alloc: Global,
@@ -34,7 +42,7 @@ fn look_at<D: Store>(
     ensures failed { IsErrOf result VerifyFault.StoreFault → Rose (D.faults store.old) (D.faults store.new) }
     ensures never_falls { D.faults store.old ≤ D.faults store.new }
 {
-    if !entry.archived || entry.status != Status::Available {
+    if !counts(entry) {
         return Ok(());
     }
     match look_for_log(alloc, store, entry)? {
