@@ -5,7 +5,7 @@ use Rattle.std.proofs.lemmas.List.Elements.{All-append, All-cons, All-nil}
 use Rattle.rm_base.specs.Store.{Held}
 use Rattle.rm_statement.specs.declared.command.BackupForm.{BackupForm}
 use Rattle.rm_statement.specs.declared.command.Command.{Command}
-use Rattle.rm_statement.specs.declared.command.Command.TheVariants.{ArchiveLogCurrent, Backup, ChangeBackup, CreateDatabase, CreateDatafile, Crosscheck, Cut, Damage, DeleteBackup, DeleteExpired, Dump, ListArchived, ListBackup, ListCopy, ListIncarnation, LoseDatafile, LoseLog, Mount, OpenPlain, OpenResetlogs, Preview, Recover, RecoverTest, Remove, Rename, ReportSchema, ResetDatabase, Restore, ShowAll, SwitchLogfile, ValidateAll, Write}
+use Rattle.rm_statement.specs.declared.command.Command.TheVariants.{ArchiveLogCurrent, Backup, BackupLogs, ChangeBackup, CreateDatabase, CreateDatafile, Crosscheck, Cut, Damage, DeleteBackup, DeleteExpired, Dump, ListArchived, ListBackup, ListCopy, ListIncarnation, LoseDatafile, LoseLog, Mount, OpenPlain, OpenResetlogs, Preview, Recover, RecoverTest, Remove, Rename, ReportSchema, ResetDatabase, Restore, ShowAll, SwitchLogfile, ValidateAll, Write}
 use Rattle.rm_history.specs.declared.tree.Incarnation.{Incarnation}
 use Rattle.rm_report.specs.Reply.{HasDate, LineHasDate}
 use Rattle.rm_report.specs.declared.line.Line.{Line}
@@ -102,6 +102,7 @@ every-dated (Write w) s objects o change is = by o _ is (one-dated _ tt)
 every-dated (SwitchLogfile t) s objects o change is = by o _ is (if-by (is_due s t) (done (made_lines s t) (archived (ledger s).base.next_id (online s t)) (with_archived s t)) (done (none_lines t) no_effect s) (one-dated _ tt) (one-dated _ tt))
 every-dated ArchiveLogCurrent s objects o change is = by o _ is (archived-dated true s 1 (ledger s).base.threads)
 every-dated (Backup b) s objects o change is = by o _ is.is (nothing-dated _ (pieces-dated s b is.tag (taken s b)))
+every-dated BackupLogs s objects o change is = absurd (cc)
 every-dated Mount s objects o change is = by o _ is (one-dated _ tt)
 every-dated OpenPlain s objects o change is = by o _ is (one-dated _ tt)
 every-dated OpenResetlogs s objects o change is = some-by s.instance.point _ o is (λ at. join-dated _ _ (archived-dated false s 1 (ledger s).base.threads) (one-dated _ tt))

@@ -5,7 +5,7 @@ use Rattle.std.specs.Option.{option_and_then, option_map, option_map_or}
 use Rattle.rm_base.specs.declared.refusal.Refusal.{Refusal}
 use Rattle.rm_statement.specs.declared.command.BackupForm.{BackupForm}
 use Rattle.rm_statement.specs.declared.command.Command.{Command}
-use Rattle.rm_statement.specs.declared.command.Command.TheVariants.{ArchiveLogCurrent, Backup, ChangeBackup, CreateDatabase, CreateDatafile, Crosscheck, Cut, Damage, DeleteBackup, DeleteExpired, Dump, LoseDatafile, LoseLog, Mount, OpenPlain, OpenResetlogs, Preview, Recover, RecoverTest, Remove, Rename, ResetDatabase, Restore, SwitchLogfile, Write}
+use Rattle.rm_statement.specs.declared.command.Command.TheVariants.{ArchiveLogCurrent, Backup, BackupLogs, ChangeBackup, CreateDatabase, CreateDatafile, Crosscheck, Cut, Damage, DeleteBackup, DeleteExpired, Dump, LoseDatafile, LoseLog, Mount, OpenPlain, OpenResetlogs, Preview, Recover, RecoverTest, Remove, Rename, ResetDatabase, Restore, SwitchLogfile, Write}
 use Rattle.rm_statement.specs.declared.command.Until.{Until}
 use Rattle.rm_statement.specs.declared.command.WriteForm.{WriteForm}
 use Rattle.rm_history.specs.declared.world.Datafile.{Datafile}
@@ -138,6 +138,7 @@ every-refusal-dated s (Write w) = write-dated s w
 every-refusal-dated s (SwitchLogfile t) = switch-dated s t
 every-refusal-dated s ArchiveLogCurrent = archive-dated s
 every-refusal-dated s (Backup b) = backup-dated s b
+every-refusal-dated s BackupLogs = ids-dated s
 every-refusal-dated s Mount = ids-dated s
 every-refusal-dated s OpenPlain = open-dated s
 every-refusal-dated s OpenResetlogs = resetlogs-dated s

@@ -3,7 +3,7 @@ use Rattle.std.specs.Prelude.{◌≡◌, Bool, true, false, Option, Some, None, 
 use Rattle.rm_base.specs.Store.{Held}
 use Rattle.rm_base.specs.declared.refusal.Refusal.{Refusal}
 use Rattle.rm_statement.specs.declared.command.Command.{Command}
-use Rattle.rm_statement.specs.declared.command.Command.TheVariants.{Crosscheck, Cut, Damage, Dump, ListArchived, ListBackup, ListCopy, ListIncarnation, Preview, Recover, RecoverTest, Remove, Rename, ReportSchema, Restore, ShowAll, ValidateAll}
+use Rattle.rm_statement.specs.declared.command.Command.TheVariants.{BackupLogs, Crosscheck, Cut, Damage, Dump, ListArchived, ListBackup, ListCopy, ListIncarnation, Preview, Recover, RecoverTest, Remove, Rename, ReportSchema, Restore, ShowAll, ValidateAll}
 use Rattle.rm_report.specs.Reply.{LineHasDate, HasDate}
 use Rattle.rm_machine.specs.Effect.{refused, told}
 use Rattle.rm_machine.specs.Hands.{Hands}
@@ -56,6 +56,7 @@ tells_state _ = false
 -- the statement changes the state, and looks at nothing else
 abbrev pub is_change : Command → Bool
 is_change (Crosscheck class) = false
+is_change BackupLogs = false
 is_change (Restore file until) = false
 is_change (Preview until) = false
 is_change (Recover until) = false

@@ -28,6 +28,7 @@ pub(crate) fn refusal_of(state: &State, command: &Command) -> Option<Refusal>
         Command::SwitchLogfile { thread } => switch_refusal(state, *thread),
         Command::ArchiveLogCurrent => archive_all_refusal(state),
         Command::Backup(form) => backup_refusal(state, form),
+        Command::BackupLogs => ids_refusal(state),
         Command::Mount => ids_refusal(state),
         Command::OpenPlain => open_refusal(state),
         Command::OpenResetlogs => resetlogs_refusal(state),

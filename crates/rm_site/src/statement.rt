@@ -9,7 +9,7 @@ ghost use Rattle.rm_machine.specs.Step.{IsStatement, refusal_of};
 ghost use Rattle.rm_site.specs.Comes.{AnswerHasDates, ComesTo, IsAnswer, IsRefusedBy};
 
 use crate::changing::change;
-use crate::checking::{check, validate};
+use crate::checking::{back_up_logs, check, validate};
 use crate::drilling::drill;
 use crate::recovering::{bring_back, preview, put_back, test};
 use crate::refusing::refusal_of;
@@ -60,6 +60,7 @@ fn accepted<D: Store>(
         Command::RecoverTest { until, inc } => test(alloc, state, store, until, *inc),
         Command::ValidateAll => validate(alloc, state, store),
         Command::Crosscheck { class } => check(alloc, state, store, edits, *class),
+        Command::BackupLogs => back_up_logs(alloc, state, store, edits),
         Command::Dump { .. } => Ok(tell(alloc, state, command)?),
         Command::ListIncarnation => Ok(tell(alloc, state, command)?),
         Command::ListBackup => Ok(tell(alloc, state, command)?),
