@@ -1,0 +1,78 @@
+#!/usr/bin/env bash
+# Tells what sessions cost, over a folder and a catalog file on the disk of DIR (a new one by default):
+#     bench/sessions.sh [DIR]
+# A session of 1,000 WRITEs beside 1,000 bare transactions of the sqlite3 shell, each of which puts three rows of as many
+# bytes; and the opening of a catalog of 65,536 records beside that of one of four. A figure is the shortest of five runs.
+# The catalog of 65,536 records is one of marks, which sqlite3 writes. It needs sqlite3.
+set -euo pipefail
+cd "$(dirname "$0")/.."
+made=
+if [ $# -gt 0 ]; then
+    mkdir -p "$1"
+    room=$(cd "$1" && pwd)
+else
+    room=$(mktemp -d)
+    made=$room
+fi
+trap '[ -z "$made" ] || rm -rf "$made"' EXIT
+: | ./rman --store "$room/none" --catalog "$room/nothing" > /dev/null
+
+# A database of one datafile, as it was saved.
+begin() {
+    rm -rf "$room/objects" "$room/catalog"*
+    echo 'CREATE DATABASE; CREATE DATAFILE BLOCKS 64;' | ./rman --store "$room/objects" --catalog "$room/catalog" > /dev/null
+}
+
+# Many marks more, of the first mark's bytes.
+with_marks() {
+    sqlite3 "$room/catalog" "INSERT INTO record SELECT number, 6, value, body FROM record, generate_series(2, $1) WHERE kind = 6 AND id = 1;"
+}
+
+# The shortest of five sessions of this script, each over a database as it was made by the words behind it.
+shortest() {
+    local script=$1 best=
+    shift
+    for _ in 1 2 3 4 5; do
+        local start end micros
+        "$@"
+        start=$(date +%s%N)
+        ./rman --store "$room/objects" --catalog "$room/catalog" < "$script" > "$room/out"
+        end=$(date +%s%N)
+        micros=$(((end - start) / 1000))
+        [ -n "$best" ] && [ "$best" -le "$micros" ] || best=$micros
+    done
+    echo "$best"
+}
+
+large() {
+    begin
+    with_marks 65531
+}
+
+writes() {
+    awk 'BEGIN { for (i = 0; i < 1000; i++) printf "WRITE DATAFILE 1 BLOCK %d VALUE '\''%d'\'';\n", i % 64, i }'
+}
+
+transactions() {
+    echo 'CREATE TABLE t (k INTEGER PRIMARY KEY, body BLOB NOT NULL) STRICT;'
+    awk 'BEGIN { for (i = 0; i < 1000; i++) print "BEGIN; INSERT OR REPLACE INTO t VALUES (1, zeroblob(50)), (2, zeroblob(24)), (3, zeroblob(24)); COMMIT;" }'
+}
+
+echo 'SHOW ALL;' > "$room/show"
+writes > "$room/writes"
+transactions > "$room/transactions"
+show=$(shortest "$room/show" begin)
+written=$(shortest "$room/writes" begin)
+bare=
+for _ in 1 2 3 4 5; do
+    rm -f "$room/bare"*
+    start=$(date +%s%N)
+    sqlite3 "$room/bare" < "$room/transactions"
+    end=$(date +%s%N)
+    micros=$(((end - start) / 1000))
+    [ -n "$bare" ] && [ "$bare" -le "$micros" ] || bare=$micros
+done
+echo "a session of 1000 WRITEs: $((written - show)) us, 1000 bare transactions $bare us, $(((written - show) * 100 / bare)) %"
+opened=$(shortest "$room/show" large)
+grep -q '^retention' "$room/out"
+echo "opening: of a catalog of few records, with the program's start, $show us; of 65,536 records $opened us"
