@@ -29,6 +29,7 @@ use Rattle.rm_frame.proofs.LooseDrills.{cut-loose, damage-loose, remove-loose, r
 use Rattle.rm_frame.proofs.LooseNew.{archive-loose, branch-loose, switch-loose}
 use Rattle.rm_frame.proofs.LooseUpkeep.{change-loose, check-loose, delete-loose, expire-loose}
 use Rattle.rm_frame.proofs.LooseQuiet.{choose-loose, create-loose, lose-loose, lose_log-loose, mount-loose, open-loose, recover-loose, restore-loose, told-loose, write-loose}
+use Rattle.rm_frame.proofs.Roomy.{LeavesIds, archive-roomy, back_logs-roomy, backup-roomy, branch-roomy, change-roomy, check-roomy, choose-roomy, create-roomy, cut-roomy, damage-roomy, delete-roomy, expire-roomy, lose-roomy, lose_log-roomy, mount-roomy, never-roomy, open-roomy, recover-roomy, remove-roomy, rename-roomy, restore-roomy, switch-roomy, told-roomy, write-roomy}
 
 pub every-leads : (c : Command) → LeadsOn c
 every-leads (CreateDatabase dbid threads scn) = never-again dbid threads scn
@@ -140,3 +141,39 @@ every-stays (Damage name at) = damage-stays name at
 every-stays (Cut name to) = cut-stays name to
 every-stays (Rename old new) = rename-stays old new
 every-stays c = λ s objects said e t well sound unsaved none does. absurd does
+
+pub every-roomy : (c : Command) → LeavesIds c
+every-roomy (CreateDatabase dbid threads scn) = never-roomy dbid threads scn
+every-roomy (CreateDatafile blocks) = create-roomy blocks
+every-roomy (Write w) = write-roomy w
+every-roomy (SwitchLogfile t) = switch-roomy t
+every-roomy ArchiveLogCurrent = archive-roomy
+every-roomy Mount = mount-roomy
+every-roomy OpenPlain = open-roomy
+every-roomy OpenResetlogs = branch-roomy
+every-roomy (ResetDatabase i) = choose-roomy i
+every-roomy (Backup b) = backup-roomy b
+every-roomy BackupLogs = back_logs-roomy
+every-roomy (Restore file until) = restore-roomy file until
+every-roomy (Recover until) = recover-roomy until
+every-roomy (RecoverTest until inc) = told-roomy (RecoverTest until inc) refl
+every-roomy (Preview until) = told-roomy (Preview until) refl
+every-roomy (Dump file block) = told-roomy (Dump file block) refl
+every-roomy ListIncarnation = told-roomy ListIncarnation refl
+every-roomy ListBackup = told-roomy ListBackup refl
+every-roomy ListCopy = told-roomy ListCopy refl
+every-roomy ListArchived = told-roomy ListArchived refl
+every-roomy ReportSchema = told-roomy ReportSchema refl
+every-roomy ShowAll = told-roomy ShowAll refl
+every-roomy ValidateAll = told-roomy ValidateAll refl
+every-roomy (Crosscheck class) = check-roomy class
+every-roomy (ChangeBackup id to) = change-roomy id to
+every-roomy (DeleteBackup id) = delete-roomy id
+every-roomy (DeleteExpired class) = expire-roomy class
+every-roomy (LoseDatafile file) = lose-roomy file
+every-roomy (LoseLog thread) = lose_log-roomy thread
+every-roomy (Remove name) = remove-roomy name
+every-roomy (Damage name at) = damage-roomy name at
+every-roomy (Cut name to) = cut-roomy name to
+every-roomy (Rename old new) = rename-roomy old new
+every-roomy c = λ s held lines e t sound comes. absurd comes

@@ -8,3 +8,4 @@ pub mod LooseNew
 pub mod LooseQuiet
 pub mod LooseUpkeep
 pub mod Loosening
+pub mod Roomy

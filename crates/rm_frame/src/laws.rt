@@ -1,12 +1,18 @@
 //! What the frame makes of a statement.
-ghost use Rattle.std.specs.Prelude.{ℕ, List, Option};
+ghost use Rattle.std.specs.Prelude.{ℕ, ◌≡◌, false, List, Option};
 ghost use Rattle.rm_base.specs.Store.{Held};
 ghost use Rattle.rm_catalog.specs.declared.record.Record.{Record};
 ghost use Rattle.rm_statement.specs.declared.command.Command.{Command};
 ghost use Rattle.rm_statement.specs.declared.command.Command.TheVariants.{CreateDatabase};
+ghost use Rattle.rm_report.specs.declared.line.Line.{Line};
+ghost use Rattle.rm_machine.specs.Effect.{Effect, done};
 ghost use Rattle.rm_machine.specs.Laws.{LeadsOn, StaysSound};
 ghost use Rattle.rm_machine.specs.Machine.{Machine};
+ghost use Rattle.rm_machine.specs.Marks.{lacks_ids};
 ghost use Rattle.rm_machine.specs.Rest.{at_rest};
+ghost use Rattle.rm_machine.specs.Sound.{IsSound};
+ghost use Rattle.rm_machine.specs.Step.{IsOutcome};
+ghost use Rattle.rm_machine.specs.declared.state.State.{State};
 ghost use Rattle.rm_frame.specs.Carries.{CarriesOn, LeadsOnWithout, StopsWell};
 ghost use Rattle.rm_frame.specs.Holds.{Holds, HoldsRest};
 ghost use Rattle.rm_frame.specs.Loose.{StaysLoose};
@@ -43,4 +49,9 @@ pub fn each_statement_keeps_a_state_sound()
 /// What the store and the keeper hold of a machine they hold of it at rest.
 pub fn a_machine_rests()
     ensures { (held : Option Held) (kept : Option (List Record)) (m : Machine) → Holds held kept m → HoldsRest held kept (at_rest m) }
+{}
+
+/// What is done leaves the ids of a save: 68 object ids.
+pub fn each_statement_leaves_the_ids_of_a_save()
+    ensures { (c : Command) (s : State) (held : Held) (lines : List Line) (e : Effect) (t : State) → IsSound s → IsOutcome s held c (done lines e t) → lacks_ids t 0 ≡ false }
 {}
