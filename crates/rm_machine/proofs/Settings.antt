@@ -1,5 +1,5 @@
 -- CONFIGURE leads on: of the base facts the policy or the count of channels changes alone.
-use Rattle.std.proofs.Common.{◌≡◌, ◌<◌, ◌≤◌, ◌&&◌, inl, ℕ, nat_le, nat_lt, true, false, None, refl, arith}
+use Rattle.std.proofs.Common.{◌≡◌, ◌≤◌, ◌&&◌, inl, ℕ, nat_le, nat_lt, true, false, None, refl, arith}
 use Rattle.std.proofs.lemmas.Bool.Decides.{nat_tests}
 use Rattle.rm_base.specs.declared.kinds.Policy.{Policy}
 use Rattle.rm_base.specs.declared.refusal.Limit.TheVariants as limit
@@ -72,7 +72,7 @@ at-most : (most n : ℕ) → nat_lt most n ≡ false → n ≤ most
 at-most most n is = grind (arith, nat_tests)
 
 -- a policy that was not refused is in its range
-pub policy-fits : (form : RetentionForm) → is_retention form ≡ true → policy_refusal form ≡ None → IsPolicy (policy_of form)
+policy-fits : (form : RetentionForm) → is_retention form ≡ true → policy_refusal form ≡ None → IsPolicy (policy_of form)
 policy-fits (Window days) is none = (some days is, at-most 36500 days (unless (nat_lt 36500 days) (Rm11 limit.WindowDays) None none).0)
 policy-fits (Redundancy count) is none = (some count is, at-most 1000 count (unless (nat_lt 1000 count) (Rm11 limit.Redundancy) None none).0)
 policy-fits Nothing is none = tt
@@ -84,7 +84,7 @@ policy-on s form sound is none =
     settings-on s (policy_of form) (ledger s).base.parallelism (policy-fits form is none) range.0 range.1 sound
 
 -- and so is a count of channels
-pub channels-fit : (channels : ℕ) → is_command (Parallelism channels) ≡ true → nat_lt 16 channels ≡ false → (1 ≤ channels) × (channels ≤ 16)
+channels-fit : (channels : ℕ) → is_command (Parallelism channels) ≡ true → nat_lt 16 channels ≡ false → (1 ≤ channels) × (channels ≤ 16)
 channels-fit channels is few = (some channels is, at-most 16 channels few)
 
 channels-on : (s : State) (channels : ℕ) → IsSound s → is_command (Parallelism channels) ≡ true → nat_lt 16 channels ≡ false → GoesOn s (with_channels s.catalog channels)
