@@ -1,7 +1,7 @@
 -- The laws of every statement. One that is not in the machine yet comes to nothing.
 use Rattle.std.proofs.Common.{refl}
 use Rattle.rm_statement.specs.declared.command.Command.{Command}
-use Rattle.rm_statement.specs.declared.command.Command.TheVariants.{ArchiveLogCurrent, Backup, BackupLogs, ChangeBackup, CreateDatabase, CreateDatafile, Crosscheck, Cut, Damage, DeleteBackup, DeleteExpired, Dump, ListArchived, ListBackup, ListCopy, ListIncarnation, LoseDatafile, LoseLog, Mount, OpenPlain, OpenResetlogs, Preview, Recover, RecoverTest, Remove, Rename, ReportSchema, ResetDatabase, Restore, ShowAll, SwitchLogfile, ValidateAll, Write}
+use Rattle.rm_statement.specs.declared.command.Command.TheVariants.{ArchiveLogCurrent, Backup, BackupLogs, ChangeBackup, CreateDatabase, CreateDatafile, Crosscheck, Cut, Damage, DeleteBackup, DeleteExpired, Dump, ListArchived, ListBackup, ListCopy, ListIncarnation, LoseDatafile, LoseLog, Mount, OpenPlain, OpenResetlogs, Parallelism, Preview, Recover, RecoverTest, Remove, Rename, ReportSchema, ResetDatabase, Restore, Retention, ShowAll, SwitchLogfile, ValidateAll, Write}
 use Rattle.rm_machine.specs.Laws.{LeadsOn, TellsOn}
 use Rattle.rm_machine.proofs.AddingDatafile.{create-on, create-stays}
 use Rattle.rm_machine.proofs.ArchivingAll.{all-on, all-stays}
@@ -18,6 +18,7 @@ use Rattle.rm_machine.proofs.Mounting.{mount-on, mount-stays}
 use Rattle.rm_machine.proofs.Opening.{open-on, open-stays}
 use Rattle.rm_machine.proofs.Recovered.{recover-on, recover-stays}
 use Rattle.rm_machine.proofs.Restoring.{restore-on, restore-stays}
+use Rattle.rm_machine.proofs.Settings.{parallelism-on, parallelism-stays, retention-on, retention-stays}
 use Rattle.rm_machine.proofs.Switching.{switch-on, switch-stays}
 use Rattle.rm_machine.proofs.Telling.{every-tells-by, tells-on, tells-stays}
 use Rattle.rm_machine.proofs.Upkeep.{changed-on, changed-stays, checked-on, checked-stays, expired-on, expired-stays}
@@ -28,8 +29,8 @@ use Rattle.rm_frame.proofs.LooseBackup.{back_logs-loose, backup-loose}
 use Rattle.rm_frame.proofs.LooseDrills.{cut-loose, damage-loose, remove-loose, rename-loose}
 use Rattle.rm_frame.proofs.LooseNew.{archive-loose, branch-loose, switch-loose}
 use Rattle.rm_frame.proofs.LooseUpkeep.{change-loose, check-loose, delete-loose, expire-loose}
-use Rattle.rm_frame.proofs.LooseQuiet.{choose-loose, create-loose, lose-loose, lose_log-loose, mount-loose, open-loose, recover-loose, restore-loose, told-loose, write-loose}
-use Rattle.rm_frame.proofs.Roomy.{LeavesIds, archive-roomy, back_logs-roomy, backup-roomy, branch-roomy, change-roomy, check-roomy, choose-roomy, create-roomy, cut-roomy, damage-roomy, delete-roomy, expire-roomy, lose-roomy, lose_log-roomy, mount-roomy, never-roomy, open-roomy, recover-roomy, remove-roomy, rename-roomy, restore-roomy, switch-roomy, told-roomy, write-roomy}
+use Rattle.rm_frame.proofs.LooseQuiet.{choose-loose, create-loose, lose-loose, lose_log-loose, mount-loose, open-loose, parallelism-loose, recover-loose, restore-loose, retention-loose, told-loose, write-loose}
+use Rattle.rm_frame.proofs.Roomy.{LeavesIds, archive-roomy, back_logs-roomy, backup-roomy, branch-roomy, change-roomy, check-roomy, choose-roomy, create-roomy, cut-roomy, damage-roomy, delete-roomy, expire-roomy, lose-roomy, lose_log-roomy, mount-roomy, never-roomy, open-roomy, parallelism-roomy, recover-roomy, remove-roomy, rename-roomy, restore-roomy, retention-roomy, switch-roomy, told-roomy, write-roomy}
 
 pub every-leads : (c : Command) → LeadsOn c
 every-leads (CreateDatabase dbid threads scn) = never-again dbid threads scn
@@ -59,6 +60,8 @@ every-leads (Crosscheck class) = leads (Crosscheck class) (checked-on class)
 every-leads (ChangeBackup id to) = leads (ChangeBackup id to) (changed-on id to)
 every-leads (DeleteBackup id) = leads (DeleteBackup id) (delete-on id)
 every-leads (DeleteExpired class) = leads (DeleteExpired class) (expired-on class)
+every-leads (Retention form) = leads (Retention form) (retention-on form)
+every-leads (Parallelism channels) = leads (Parallelism channels) (parallelism-on channels)
 every-leads (LoseDatafile file) = leads (LoseDatafile file) (lose-on file)
 every-leads (LoseLog thread) = leads (LoseLog thread) (lose_log-on thread)
 every-leads (Remove name) = leads (Remove name) (remove-on name)
@@ -98,6 +101,8 @@ every-loose (Crosscheck class) = check-loose class
 every-loose (ChangeBackup id to) = change-loose id to
 every-loose (DeleteBackup id) = delete-loose id
 every-loose (DeleteExpired class) = expire-loose class
+every-loose (Retention form) = retention-loose form
+every-loose (Parallelism channels) = parallelism-loose channels
 every-loose (LoseDatafile file) = lose-loose file
 every-loose (LoseLog thread) = lose_log-loose thread
 every-loose (Remove name) = remove-loose name
@@ -134,6 +139,8 @@ every-stays (Crosscheck class) = checked-stays class
 every-stays (ChangeBackup id to) = changed-stays id to
 every-stays (DeleteBackup id) = delete-stays id
 every-stays (DeleteExpired class) = expired-stays class
+every-stays (Retention form) = retention-stays form
+every-stays (Parallelism channels) = parallelism-stays channels
 every-stays (LoseDatafile file) = lose-stays file
 every-stays (LoseLog thread) = lose_log-stays thread
 every-stays (Remove name) = remove-stays name
@@ -176,4 +183,6 @@ every-roomy (Remove name) = remove-roomy name
 every-roomy (Damage name at) = damage-roomy name at
 every-roomy (Cut name to) = cut-roomy name to
 every-roomy (Rename old new) = rename-roomy old new
+every-roomy (Retention form) = retention-roomy form
+every-roomy (Parallelism channels) = parallelism-roomy channels
 every-roomy c = λ s held lines e t sound comes. absurd comes

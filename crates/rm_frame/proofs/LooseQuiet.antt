@@ -2,10 +2,12 @@
 use Rattle.std.proofs.Common.{◌≡◌, ℕ, List, [], Option, Some, None, true, inl, inr}
 use Rattle.rm_base.specs.Store.{Held}
 use Rattle.rm_statement.specs.declared.command.Command.{Command}
-use Rattle.rm_statement.specs.declared.command.Command.TheVariants.{CreateDatafile, LoseDatafile, LoseLog, Mount, OpenPlain, Recover, ResetDatabase, Restore, Write}
+use Rattle.rm_statement.specs.declared.command.Command.TheVariants.{CreateDatafile, LoseDatafile, LoseLog, Mount, OpenPlain, Parallelism, Recover, ResetDatabase, Restore, Retention, Write}
+use Rattle.rm_statement.specs.declared.command.RetentionForm.{RetentionForm}
 use Rattle.rm_statement.specs.declared.command.Until.{Until}
 use Rattle.rm_statement.specs.declared.command.WriteForm.{WriteForm}
 use Rattle.rm_report.specs.declared.line.Line.{Line}
+use Rattle.rm_machine.specs.Configure.{policy_of, with_channels, with_policy}
 use Rattle.rm_machine.specs.Effect.{Effect, done, no_effect}
 use Rattle.rm_machine.specs.Laws.{only_tells}
 use Rattle.rm_machine.specs.LoseDatafile.{without_file}
@@ -19,6 +21,7 @@ use Rattle.rm_machine.specs.CreateDatafile.{with_datafile}
 use Rattle.rm_machine.specs.Recover.{RecoversTo, recover_target, recovered}
 use Rattle.rm_machine.specs.Restore.{RestoresTo, restored}
 use Rattle.rm_machine.specs.Step.{refusal_of}
+use Rattle.rm_machine.specs.Upkeep.{with_catalog}
 use Rattle.rm_machine.proofs.Leading.{done-by}
 use Rattle.rm_machine.proofs.Telling.{never-done}
 use Rattle.rm_frame.specs.Loose.{IsLoose, StaysLoose}
@@ -44,6 +47,14 @@ choose-loose i s held lines e t sound comes = quiet-loose s (ResetDatabase i) li
 pub create-loose : (blocks : ℕ) → StaysLoose (CreateDatafile blocks)
 create-loose blocks s held lines e t sound comes =
     quiet-loose s (CreateDatafile blocks) lines _ e (with_datafile s blocks) t (done-by (refusal_of s (CreateDatafile blocks)) s held (CreateDatafile blocks) lines e t comes).1
+
+pub retention-loose : (form : RetentionForm) → StaysLoose (Retention form)
+retention-loose form s held lines e t sound comes =
+    quiet-loose s (Retention form) lines _ e (with_catalog s (with_policy s.catalog (policy_of form))) t (done-by (refusal_of s (Retention form)) s held (Retention form) lines e t comes).1
+
+pub parallelism-loose : (channels : ℕ) → StaysLoose (Parallelism channels)
+parallelism-loose channels s held lines e t sound comes =
+    quiet-loose s (Parallelism channels) lines _ e (with_catalog s (with_channels s.catalog channels)) t (done-by (refusal_of s (Parallelism channels)) s held (Parallelism channels) lines e t comes).1
 
 pub lose-loose : (f : ℕ) → StaysLoose (LoseDatafile f)
 lose-loose f s held lines e t sound comes = quiet-loose s (LoseDatafile f) lines _ e (without_file s f) t (done-by (refusal_of s (LoseDatafile f)) s held (LoseDatafile f) lines e t comes).1

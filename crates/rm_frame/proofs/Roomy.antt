@@ -20,13 +20,15 @@ use Rattle.rm_statement.specs.declared.command.BackupForm.{BackupForm}
 use Rattle.rm_statement.specs.declared.command.ChangeTo.{ChangeTo}
 use Rattle.rm_statement.specs.declared.command.ChangeTo.TheVariants.{Available, Keep, NoKeep, Unavailable, Uncatalog}
 use Rattle.rm_statement.specs.declared.command.Command.{Command}
-use Rattle.rm_statement.specs.declared.command.Command.TheVariants.{ArchiveLogCurrent, Backup, BackupLogs, ChangeBackup, CreateDatabase, CreateDatafile, Crosscheck, Cut, Damage, DeleteBackup, DeleteExpired, LoseDatafile, LoseLog, Mount, OpenPlain, OpenResetlogs, Recover, Remove, Rename, ResetDatabase, Restore, SwitchLogfile, Write}
+use Rattle.rm_statement.specs.declared.command.Command.TheVariants.{ArchiveLogCurrent, Backup, BackupLogs, ChangeBackup, CreateDatabase, CreateDatafile, Crosscheck, Cut, Damage, DeleteBackup, DeleteExpired, LoseDatafile, LoseLog, Mount, OpenPlain, OpenResetlogs, Recover, Remove, Rename, ResetDatabase, Restore, SwitchLogfile, Write, Parallelism, Retention}
 use Rattle.rm_statement.specs.declared.command.Until.{Until}
+use Rattle.rm_statement.specs.declared.command.RetentionForm.{RetentionForm}
 use Rattle.rm_statement.specs.declared.command.WriteForm.{WriteForm}
 use Rattle.rm_machine.specs.Archive.{after_all, after_thread, after_threads, archiving, due_from}
 use Rattle.rm_machine.specs.Backup.{after_file, after_files, backing, taken}
 use Rattle.rm_machine.specs.BackupLogs.{copies_of, copies_refusal, copy_entry, copying, numbered_from, with_copies}
 use Rattle.rm_machine.specs.CreateDatafile.{datafile_refusal, with_datafile}
+use Rattle.rm_machine.specs.Configure.{parallelism_refusal, policy_of, retention_refusal, with_channels, with_policy}
 use Rattle.rm_machine.specs.Effect.{Effect, done, no_effect, refused}
 use Rattle.rm_machine.specs.Laws.{only_tells}
 use Rattle.rm_machine.specs.LoseDatafile.{lose_refusal, without_file}
@@ -235,6 +237,22 @@ check-roomy class = draws-none (Crosscheck class) asks-ids
 pub expire-roomy : (class : Class) → LeavesIds (DeleteExpired class)
 expire-roomy class = draws-none (DeleteExpired class) asks-ids
     (λ s held lines e t does left. none-drawn s lines _ e _ (with_catalog s (without_all does.ids s.catalog)) t does.is (all-next does.ids s.catalog) left)
+
+-- CONFIGURE
+
+retention-asks : (form : RetentionForm) (s : State) → Asks s (retention_refusal s form)
+retention-asks form s is = search rules
+
+pub retention-roomy : (form : RetentionForm) → LeavesIds (Retention form)
+retention-roomy form = draws-none (Retention form) (retention-asks form)
+    (λ s held lines e t is left. none-drawn s lines _ e _ (with_catalog s (with_policy s.catalog (policy_of form))) t is refl left)
+
+parallelism-asks : (channels : ℕ) (s : State) → Asks s (parallelism_refusal s channels)
+parallelism-asks channels s is = search rules
+
+pub parallelism-roomy : (channels : ℕ) → LeavesIds (Parallelism channels)
+parallelism-roomy channels = draws-none (Parallelism channels) (parallelism-asks channels)
+    (λ s held lines e t is left. none-drawn s lines _ e _ (with_catalog s (with_channels s.catalog channels)) t is refl left)
 
 -- HOST: the state stays as it is
 

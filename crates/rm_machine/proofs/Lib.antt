@@ -44,6 +44,7 @@ pub mod Records
 pub mod Recovered
 pub mod Recovering
 pub mod Restoring
+pub mod Settings
 pub mod Sizes
 pub mod Standing
 pub mod Switching

@@ -55,11 +55,11 @@ all-on (n ∷ ns) s sound =
     then-on s r (without_all ns r) first (all-on ns (with_catalog s r) (first.sound sound))
 
 -- a statement that puts another catalog in place, and leaves objects alone
-catalog-on : (s : State) (r : Repository) (h : List Change) (objects : Held) (made : List Made) (touched : List (List ℕ)) (lines said : List Line) (e : Effect) (t : State) (after : Held)
+pub catalog-on : (s : State) (r : Repository) (h : List Change) (objects : Held) (made : List Made) (touched : List (List ℕ)) (lines said : List Line) (e : Effect) (t : State) (after : Held)
     → GoesOn s r → IsBorneOut s h objects made touched → done said e t ≡ done lines no_effect (with_catalog s r) → LeavesObjects e objects after → IsBorneOut t (h ++ e.changes) after (made ++ e.made) touched
 catalog-on s r h objects made touched lines said e t after on borne is effect = quiet-on (with_catalog s r) h objects made touched lines said e t after is effect (on.borne h objects made touched borne)
 
-catalog-stays : (s : State) (r : Repository) (lines said : List Line) (e : Effect) (t : State) → GoesOn s r → IsSound s → s.catalog.saved ≡ None → done said e t ≡ done lines no_effect (with_catalog s r) → IsSound t × (t.catalog.saved ≡ None)
+pub catalog-stays : (s : State) (r : Repository) (lines said : List Line) (e : Effect) (t : State) → GoesOn s r → IsSound s → s.catalog.saved ≡ None → done said e t ≡ done lines no_effect (with_catalog s r) → IsSound t × (t.catalog.saved ≡ None)
 catalog-stays s r lines said e t on sound unsaved is = quiet-stays (with_catalog s r) lines said e t is (on.sound sound) (on.saved unsaved)
 
 pub changed-on : (n : ℕ) (to : ChangeTo) → LeadsOnBy (ChangeBackup n to)

@@ -1,7 +1,7 @@
 -- The statements that are built.
 use Rattle.std.specs.Prelude.{Bool, true, false}
 use Rattle.rm_statement.specs.declared.command.Command.{Command}
-use Rattle.rm_statement.specs.declared.command.Command.TheVariants.{ChangeBackup, CreateDatabase, CreateDatafile, Crosscheck, DeleteBackup, DeleteExpired, Write, SwitchLogfile, ArchiveLogCurrent, Mount, OpenPlain, OpenResetlogs, ResetDatabase, Restore, Preview, Recover, RecoverTest, Backup, BackupLogs, ListIncarnation, ListBackup, ListCopy, ListArchived, ReportSchema, ShowAll, ValidateAll, Dump, LoseDatafile, LoseLog, Remove, Damage, Cut, Rename}
+use Rattle.rm_statement.specs.declared.command.Command.TheVariants.{ChangeBackup, CreateDatabase, CreateDatafile, Crosscheck, DeleteBackup, DeleteExpired, Write, SwitchLogfile, ArchiveLogCurrent, Mount, OpenPlain, OpenResetlogs, ResetDatabase, Restore, Preview, Recover, RecoverTest, Backup, BackupLogs, ListIncarnation, ListBackup, ListCopy, ListArchived, ReportSchema, ShowAll, ValidateAll, Dump, Retention, Parallelism, LoseDatafile, LoseLog, Remove, Damage, Cut, Rename}
 use Rattle.rm_machine.specs.Backup.{is_built_backup}
 use Rattle.rm_machine.specs.Recovery.{is_built_until}
 
@@ -34,6 +34,8 @@ is_built (ChangeBackup id to) = true
 is_built (DeleteBackup id) = true
 is_built (DeleteExpired class) = true
 is_built (Dump file block) = true
+is_built (Retention form) = true
+is_built (Parallelism channels) = true
 is_built (LoseDatafile file) = true
 is_built (LoseLog thread) = true
 is_built (Remove name) = true

@@ -2,6 +2,7 @@ pub mod Archive
 pub mod Backup
 pub mod BackupLogs
 pub mod Built
+pub mod Configure
 pub mod CreateDatabase
 pub mod CreateDatafile
 pub mod Drills

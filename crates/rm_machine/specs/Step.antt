@@ -6,13 +6,14 @@ use Rattle.rm_base.specs.declared.kinds.Class.TheVariants as class
 use Rattle.rm_base.specs.declared.refusal.Refusal.{Refusal}
 use Rattle.rm_base.specs.declared.refusal.Refusal.TheVariants.{Rm02, Rm03}
 use Rattle.rm_statement.specs.declared.command.Command.{Command}
-use Rattle.rm_statement.specs.declared.command.Command.TheVariants.{ArchiveLogCurrent, Backup, BackupLogs, ChangeBackup, CreateDatabase, CreateDatafile, Crosscheck, Cut, Damage, DeleteBackup, DeleteExpired, Dump, ListArchived, ListBackup, ListCopy, ListIncarnation, LoseDatafile, LoseLog, Mount, OpenPlain, OpenResetlogs, Preview, Recover, RecoverTest, Remove, Rename, ReportSchema, ResetDatabase, Restore, ShowAll, SwitchLogfile, ValidateAll, Write}
+use Rattle.rm_statement.specs.declared.command.Command.TheVariants.{ArchiveLogCurrent, Backup, BackupLogs, ChangeBackup, CreateDatabase, CreateDatafile, Crosscheck, Cut, Damage, DeleteBackup, DeleteExpired, Dump, ListArchived, ListBackup, ListCopy, ListIncarnation, LoseDatafile, LoseLog, Mount, OpenPlain, OpenResetlogs, Parallelism, Preview, Recover, RecoverTest, Remove, Rename, ReportSchema, ResetDatabase, Restore, Retention, ShowAll, SwitchLogfile, ValidateAll, Write}
 use Rattle.rm_statement.specs.IsCommand.{is_command}
 use Rattle.rm_report.specs.Reply as reply
 use Rattle.rm_report.specs.declared.line.Reply.{Reply}
 use Rattle.rm_machine.specs.Archive.{archive_all_refusal, IsArchiveOutcome}
 use Rattle.rm_machine.specs.Backup.{backup_refusal, IsBackupOutcome}
 use Rattle.rm_machine.specs.BackupLogs.{IsBackupLogsOutcome}
+use Rattle.rm_machine.specs.Configure.{parallelism_refusal, retention_refusal, IsParallelismOutcome, IsRetentionOutcome}
 use Rattle.rm_machine.specs.CreateDatabase.{IsCreateOutcome}
 use Rattle.rm_machine.specs.CreateDatafile.{datafile_refusal, IsDatafileOutcome}
 use Rattle.rm_machine.specs.Drills.{IsCutOutcome, IsDamageOutcome, IsRemoveOutcome, IsRenameOutcome}
@@ -71,6 +72,8 @@ refusal_of s (Crosscheck class) = ids_refusal s
 refusal_of s (ChangeBackup n to) = record_refusal s n
 refusal_of s (DeleteBackup n) = record_refusal s n
 refusal_of s (DeleteExpired class) = ids_refusal s
+refusal_of s (Retention form) = retention_refusal s form
+refusal_of s (Parallelism channels) = parallelism_refusal s channels
 refusal_of s (LoseDatafile f) = lose_refusal s f
 refusal_of s (LoseLog t) = lose_log_refusal s t
 refusal_of s (Remove name) = ids_refusal s
@@ -107,6 +110,8 @@ IsDone s held ListCopy o = IsListOutcome s class.Copy o
 IsDone s held ListArchived o = IsListOutcome s class.Archived o
 IsDone s held ReportSchema o = IsSchemaOutcome s o
 IsDone s held ShowAll o = IsShowOutcome s o
+IsDone s held (Retention form) o = IsRetentionOutcome s form o
+IsDone s held (Parallelism channels) o = IsParallelismOutcome s channels o
 IsDone s held (LoseDatafile f) o = IsLoseOutcome s f o
 IsDone s held (LoseLog t) o = IsLoseLogOutcome s t o
 IsDone s held (Remove name) o = IsRemoveOutcome s held name o

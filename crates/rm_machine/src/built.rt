@@ -53,6 +53,8 @@ pub fn is_built(command: &Command) -> bool
         Command::DeleteBackup { .. } => true,
         Command::DeleteExpired { .. } => true,
         Command::Dump { .. } => true,
+        Command::Retention(_) => true,
+        Command::Parallelism { .. } => true,
         Command::LoseDatafile { .. } => true,
         Command::LoseLog { .. } => true,
         Command::Remove { .. } => true,

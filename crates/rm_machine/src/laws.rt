@@ -7,6 +7,7 @@ ghost use Rattle.rm_base.specs.declared.kinds.Class.{Class};
 ghost use Rattle.rm_report.specs.declared.line.Line.{Line};
 ghost use Rattle.rm_statement.specs.declared.command.ChangeTo.{ChangeTo};
 ghost use Rattle.rm_statement.specs.declared.command.Command.{Command};
+ghost use Rattle.rm_statement.specs.declared.command.RetentionForm.{RetentionForm};
 ghost use Rattle.rm_statement.specs.declared.command.Until.{Until};
 ghost use Rattle.rm_statement.specs.declared.command.BackupForm.{BackupForm};
 ghost use Rattle.rm_statement.specs.declared.command.WriteForm.{WriteForm};
@@ -24,7 +25,7 @@ ghost use Rattle.rm_machine.specs.Sound.{IsSound};
 ghost use Rattle.rm_machine.specs.Step.{IsDone};
 ghost use Rattle.rm_machine.specs.declared.state.State.{State};
 ghost use Rattle.rm_machine.specs.State.{at_moment, ledger, world};
-ghost use Rattle.rm_statement.specs.declared.command.Command.TheVariants.{ArchiveLogCurrent, Backup, BackupLogs, ChangeBackup, CreateDatafile, Crosscheck, Cut, Damage, DeleteBackup, DeleteExpired, LoseDatafile, LoseLog, Mount, OpenPlain, OpenResetlogs, Recover, RecoverTest, Remove, Rename, ResetDatabase, Restore, SwitchLogfile, Write};
+ghost use Rattle.rm_statement.specs.declared.command.Command.TheVariants.{ArchiveLogCurrent, Backup, BackupLogs, ChangeBackup, CreateDatafile, Crosscheck, Cut, Damage, DeleteBackup, DeleteExpired, LoseDatafile, LoseLog, Mount, OpenPlain, OpenResetlogs, Parallelism, Recover, RecoverTest, Remove, Rename, ResetDatabase, Restore, Retention, SwitchLogfile, Write};
 
 /// There are sound machines: that of a new database is one.
 pub fn a_new_database_is_sound()
@@ -135,6 +136,14 @@ pub fn upkeep_leads_on()
     ensures delete_stays { (id : ℕ) → StaysSound (DeleteBackup id) }
     ensures check_stays { (class : Class) → StaysSound (Crosscheck class) }
     ensures expire_stays { (class : Class) → StaysSound (DeleteExpired class) }
+{}
+
+/// CONFIGURE RETENTION POLICY and CONFIGURE .. PARALLELISM, likewise: one base fact changes alone.
+pub fn settings_lead_on()
+    ensures retention { (form : RetentionForm) → LeadsOn (Retention form) }
+    ensures parallelism { (channels : ℕ) → LeadsOn (Parallelism channels) }
+    ensures retention_stays { (form : RetentionForm) → StaysSound (Retention form) }
+    ensures parallelism_stays { (channels : ℕ) → StaysSound (Parallelism channels) }
 {}
 
 /// HOST LOSE DATAFILE, likewise: what stood in place is lost, and the rest stays as it is.

@@ -1,0 +1,113 @@
+-- CONFIGURE leads on: of the base facts the policy or the count of channels changes alone.
+use Rattle.std.proofs.Common.{◌≡◌, ◌≤◌, ◌&&◌, inl, ℕ, nat_le, nat_lt, true, false, None, refl, arith}
+use Rattle.std.proofs.lemmas.Bool.Decides.{nat_tests}
+use Rattle.rm_base.specs.declared.kinds.Policy.{Policy}
+use Rattle.rm_base.specs.declared.refusal.Limit.TheVariants as limit
+use Rattle.rm_base.specs.declared.refusal.Refusal.TheVariants.{Rm11}
+use Rattle.rm_base.proofs.Conditions.{unless}
+use Rattle.rm_catalog.specs.Facts.{IsPolicy}
+use Rattle.rm_repository.specs.Changes.{with_base}
+use Rattle.rm_repository.specs.Facts.{IsRepository}
+use Rattle.rm_repository.proofs.Fitted.{base_fits}
+use Rattle.rm_statement.specs.declared.command.Command.TheVariants.{Parallelism, Retention}
+use Rattle.rm_statement.specs.declared.command.RetentionForm.{RetentionForm}
+use Rattle.rm_statement.specs.declared.command.RetentionForm.TheVariants.{Clear, Nothing, Redundancy, Window}
+use Rattle.rm_statement.specs.IsCommand.{is_command, is_retention}
+use Rattle.rm_machine.specs.Configure.{policy_of, policy_refusal, with_channels, with_policy}
+use Rattle.rm_machine.specs.Marks.{ids_refusal, lacks_ids}
+use Rattle.rm_machine.specs.Sound.{IsSound}
+use Rattle.rm_machine.specs.declared.state.State.{State}
+use Rattle.rm_machine.specs.State.{ledger}
+use Rattle.rm_machine.specs.Upkeep.{with_catalog}
+use Rattle.rm_machine.proofs.Entries.{GoesOn}
+use Rattle.rm_machine.proofs.Kept.{kept-on, stand-same}
+use Rattle.rm_machine.proofs.Leading.{LeadsOnBy, StaysBy}
+use Rattle.rm_machine.proofs.Upkeep.{catalog-on, catalog-stays}
+
+-- with another policy and another count of channels
+module _ (s : State) (p : Policy) (channels : ℕ) where
+  abbrev other : State
+  other = with_catalog s (with_base s.catalog (record (ledger s).base { policy = p; parallelism = channels }))
+
+  settings-fit : IsPolicy p → 1 ≤ channels → channels ≤ 16 → IsRepository s.catalog → IsRepository other.catalog
+  settings-fit policy some few rules =
+      let is = rules.ledger in
+      base_fits s.catalog (record (ledger s).base { policy = p; parallelism = channels }) rules (record {
+        facts = record { dbid = is.base.dbid; threads = is.base.threads; next_id = is.base.next_id; moment = is.base.moment; policy = policy; parallelism = (some, few) };
+        current = is.current;
+        threads = refl;
+        next_id = omega arith;
+        moment = omega arith;
+      })
+
+  settings-sound : IsRepository other.catalog → IsSound s → IsSound other
+  settings-sound rules is = record {
+    catalog = rules;
+    dbid = is.dbid;
+    place = record { many = is.place.many; each = is.place.each };
+    logs = record { dbid = is.logs.dbid; there = is.logs.there; threads = is.logs.threads; each = is.logs.each };
+    in_open = λ opened. let was = is.in_open opened in record { inc = was.inc; found = was.found; point = was.point };
+    point = λ at here. let was = is.point at here in record { low = was.low; high = was.high; stands = was.stands };
+  }
+
+  settings-on : IsPolicy p → 1 ≤ channels → channels ≤ 16 → IsSound s → GoesOn s other.catalog
+  settings-on policy some few sound =
+      let rules = settings-fit policy some few sound.catalog in
+      record {
+        sound = settings-sound rules;
+        borne = λ h objects made touched is. record {
+          state = settings-sound rules is.state;
+          keeps = record { history = is.keeps.history; below = is.keeps.below; online = is.keeps.online; place = is.keeps.place; in_open = is.keeps.in_open; point = is.keeps.point };
+          artefacts = is.artefacts;
+          records = kept-on objects objects made made touched touched (ledger s) (ledger other) (stand-same objects objects touched (ledger s) (ledger other) (λ n. refl)) (λ a has. has) (λ e has. inl has) (λ e has. inl has) is.records;
+        };
+        saved = λ none. none;
+      }
+
+-- a number of the grammar is not 0, and below a limit that was not passed
+some : (n : ℕ) → (nat_le 1 n && nat_le n 18446744073709551615) ≡ true → 1 ≤ n
+some n is = grind (arith, nat_tests)
+
+at-most : (most n : ℕ) → nat_lt most n ≡ false → n ≤ most
+at-most most n is = grind (arith, nat_tests)
+
+-- a policy that was not refused is in its range
+policy-fits : (form : RetentionForm) → is_retention form ≡ true → policy_refusal form ≡ None → IsPolicy (policy_of form)
+policy-fits (Window days) is none = (some days is, at-most 36500 days (unless (nat_lt 36500 days) (Rm11 limit.WindowDays) None none).0)
+policy-fits (Redundancy count) is none = (some count is, at-most 1000 count (unless (nat_lt 1000 count) (Rm11 limit.Redundancy) None none).0)
+policy-fits Nothing is none = tt
+policy-fits Clear is none = (omega arith, omega arith)
+
+policy-on : (s : State) (form : RetentionForm) → IsSound s → is_retention form ≡ true → policy_refusal form ≡ None → GoesOn s (with_policy s.catalog (policy_of form))
+policy-on s form sound is none =
+    let range = sound.catalog.ledger.base.parallelism in
+    settings-on s (policy_of form) (ledger s).base.parallelism (policy-fits form is none) range.0 range.1 sound
+
+-- and so is a count of channels
+channels-fit : (channels : ℕ) → is_command (Parallelism channels) ≡ true → nat_lt 16 channels ≡ false → (1 ≤ channels) × (channels ≤ 16)
+channels-fit channels is few = (some channels is, at-most 16 channels few)
+
+channels-on : (s : State) (channels : ℕ) → IsSound s → is_command (Parallelism channels) ≡ true → nat_lt 16 channels ≡ false → GoesOn s (with_channels s.catalog channels)
+channels-on s channels sound is few =
+    let range = channels-fit channels is few in
+    settings-on s (ledger s).base.policy channels sound.catalog.ledger.base.policy range.0 range.1 sound
+
+pub retention-on : (form : RetentionForm) → LeadsOnBy (Retention form)
+retention-on form s h objects made touched said e t after well borne tell none does effect =
+    let accepted = (unless (lacks_ids s 0) (Rm11 limit.ObjectIds) (policy_refusal form) none).1 in
+    catalog-on s (with_policy s.catalog (policy_of form)) h objects made touched _ said e t after (policy-on s form borne.state well.0 accepted) borne does effect
+
+pub retention-stays : (form : RetentionForm) → StaysBy (Retention form)
+retention-stays form s objects said e t well sound unsaved none does =
+    let accepted = (unless (lacks_ids s 0) (Rm11 limit.ObjectIds) (policy_refusal form) none).1 in
+    catalog-stays s (with_policy s.catalog (policy_of form)) _ said e t (policy-on s form sound well.0 accepted) sound unsaved does
+
+pub parallelism-on : (channels : ℕ) → LeadsOnBy (Parallelism channels)
+parallelism-on channels s h objects made touched said e t after well borne tell none does effect =
+    let few = (unless (nat_lt 16 channels) (Rm11 limit.Channels) (ids_refusal s) none).0 in
+    catalog-on s (with_channels s.catalog channels) h objects made touched _ said e t after (channels-on s channels borne.state well.0 few) borne does effect
+
+pub parallelism-stays : (channels : ℕ) → StaysBy (Parallelism channels)
+parallelism-stays channels s objects said e t well sound unsaved none does =
+    let few = (unless (nat_lt 16 channels) (Rm11 limit.Channels) (ids_refusal s) none).0 in
+    catalog-stays s (with_channels s.catalog channels) _ said e t (channels-on s channels sound well.0 few) sound unsaved does
