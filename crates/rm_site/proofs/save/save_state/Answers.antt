@@ -3,7 +3,6 @@ use Rattle.rm_catalog.specs.Edits.{after_edits}
 use Rattle.rm_catalog.specs.declared.record.Edit.{Edit}
 use Rattle.rm_repository.specs.Repository.{Repository, records_of}
 use Rattle.rm_machine.specs.Saving.{with_site}
-use Rattle.rm_site.specs.Saved.{SavesAt, StopsSavingAt}
 use Rattle.rm_site.proofs.Answering.{on-err}
 use Rattle.rm_site.proofs.Ending.{err-then, ok-then, saves-all, stops-before, stops-saving}
 use Rattle.rm_site.proofs.save.save_state.Given.{Over}

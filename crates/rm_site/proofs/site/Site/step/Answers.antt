@@ -7,7 +7,7 @@ use Rattle.rm_site.proofs.site.Site.step.Goals as goal
 pub returns-clause-step : goal.returns-clause-step
 returns-clause-step g c =
     let from = c.replace-state.ensures.value ∙ ap (λ (v : View). v.state) c.self.view_is in
-    steps-of c.replace-state.result c.args.self.now _ c.args.clock _ from c.moment_of-moment.ensures.value _ _ _ _ _ _ c.in_ok-state.ensures.step c.has_applied.result
+    steps-of c.replace-state.result c.args.self.now _ c.args.clock _ from c.moment_of-moment.ensures.value _ _ _ _ _ _ c.in_ok-state.ensures.step c.has_applied-self-inside.result
 
 pub returns-in_err-state-clause-stopped : goal.returns-in_err-state-clause-stopped
 returns-in_err-state-clause-stopped g c =
@@ -17,4 +17,4 @@ returns-in_err-state-clause-stopped g c =
 pub returns-clause-answered : goal.returns-clause-answered
 returns-clause-answered g c =
     let from = c.replace-state.ensures.value ∙ ap (λ (v : View). v.state) c.self.view_is in
-    answered-of c.replace-state.result c.args.self.now _ c.args.clock _ from c.moment_of-moment.ensures.value _ _ c.has_applied.result (c.has_applied.ensures ∙ ap (λ (v : View). v.applied || applies c.args.command.now c.in_ok-state.reply) c.self.view_is) c.requires.live c.in_ok-state.ensures.answered
+    answered-of c.replace-state.result c.args.self.now _ c.args.clock _ from c.moment_of-moment.ensures.value _ _ c.has_applied-self-inside.result (c.has_applied-self-inside.ensures ∙ ap (λ (v : View). v.applied || applies c.args.command.now c.in_ok-state.reply) c.self.view_is) c.requires.live c.in_ok-state.ensures.answered
