@@ -1,5 +1,5 @@
 -- What serving left, of the script that was read and the site that was opened.
-use Rattle.std.proofs.Common.{◌≡◌, ℕ, Bool, List, Option, sym, subst}
+use Rattle.std.proofs.Common.{◌≡◌, ℕ, Bool, List, Option, IfSome, Some, if◌then◌else◌, sym, subst}
 use Rattle.rm_base.specs.Store.{Held, Answers}
 use Rattle.rm_catalog.specs.declared.record.Record.{Record}
 use Rattle.rm_token.specs.declared.token.Token.{Token}
@@ -7,9 +7,12 @@ use Rattle.rm_token.specs.Statements.{statements}
 use Rattle.rm_machine.specs.Machine.{Machine}
 use Rattle.rm_machine.specs.Rest.{Wakes}
 use Rattle.rm_frame.specs.Holds.{Holds, View}
-use Rattle.rm_site.specs.Opens.{Opens}
+use Rattle.rm_catalog.specs.declared.catalog.CatalogFault.TheVariants.{BadRow}
+use Rattle.rm_catalog.specs.Faults.{IsBadRow}
+use Rattle.rm_catalog.proofs.Unique.{none_valid}
+use Rattle.rm_site.specs.Opens.{AreValid, Opens}
 use Rattle.rm_tool.specs.Serving.{FromEach, Closes, EndsInReplies, EndsMidway}
-use Rattle.rm_tool.specs.Session.{Script, Finishes, FromRest, OfScript}
+use Rattle.rm_tool.specs.Session.{Script, Finishes, FromRest, OfScript, TellsValid, WritesBadRecord}
 
 -- what is so of each machine that the opened site stands for is so of the one that wakes
 from-opening : (held held' : Option Held) (kept kept' : Option (List Record)) (v : View) (Is : Machine → Type 0) → held' ≡ held → kept' ≡ kept → Opens held kept v
@@ -56,3 +59,14 @@ module _ {left rest : Option (List ℕ)} {clock : Option Answers} {before mid no
 
   pub ends-in-replies : FromEach held' kept' v (EndsInReplies clock mid now last_held last_kept ss) → FromRest held kept (OfScript left rest (EndsInReplies clock before now last_held last_kept))
   ends-in-replies = of-script (λ b. EndsInReplies clock b now last_held last_kept) left rest before mid held held' kept kept' v ss script read cut silent held_same kept_same opens
+
+-- the records that are told are valid
+pub told-valid : {kept : Option (List Record)} (rs : List Record) → kept ≡ Some rs → TellsValid kept → AreValid rs
+told-valid rs is valid = subst (λ (o : Option (List Record)). IfSome o AreValid) is valid
+
+-- and then none of them breaks a rule
+pub none-bad : {kept : Option (List Record)} {before now : Option (List ℕ)} (rs : List Record) → kept ≡ Some rs → AreValid rs → WritesBadRecord kept before now → ⊥
+none-bad rs is valid writes =
+    let key = writes.bad.key in
+    let bad = subst (λ (o : Option (List Record)). IfSome o (λ qs. IsBadRow qs (BadRow key.kind key.id))) is writes.bad.first in
+    none_valid rs valid.0 bad.0 (record { kind = key.kind; id = key.id }) bad.1 bad.2 valid.1 valid.2

@@ -49,6 +49,6 @@ module _ {clock : Option Answers} {before now : Option (List ℕ)} {held mid las
       })
 
 -- a statement was cut short
-pub ends-at-statement : {clock : Option Answers} {before now : Option (List ℕ)} {held last : Option Held} {kept last_kept : Option (List Record)} {v : View} {ss : List (ℕ × List Token)}
+pub ends-at-statement : {clock : Option Answers} {before now : Option (List ℕ)} {held last : Option Held} {kept last_kept : Option (List Record)} {ss : List (ℕ × List Token)} (v : View)
     → FromEach held kept v (EndsAtStatement clock before now last last_kept ss) → FromEach held kept v (EndsMidway clock before now last last_kept ss)
-ends-at-statement ends m stands holds = at_statement (ends m stands holds)
+ends-at-statement v ends m stands holds = at_statement (ends m stands holds)
