@@ -8,7 +8,7 @@ use Rattle.rm_frame.specs.Holds.{HoldsRest, View}
 use Rattle.rm_frame.specs.Saves.{IsEnded, Saves, StopsSaving}
 use Rattle.rm_frame.specs.Stopped.{IsLeft}
 use Rattle.rm_tool.specs.Run.{has_applied}
-use Rattle.rm_tool.specs.Serving.{FromEach, Serves, Closes, EndsAtStatement, EndsAtSaving, EndsMidway, at_statement, at_saving}
+use Rattle.rm_tool.specs.Serving.{FromEach, Serves, Closes, EndsAtSaving, EndsMidway, at_saving}
 
 module _ {clock : Option Answers} {before now : Option (List ℕ)} {held mid last : Option Held} {kept mid_kept last_kept : Option (List Record)} {v v' : View} {refused : Bool} {ss : List (ℕ × List Token)} (fresh : v.applied ≡ false)
     (serves : FromEach held kept v (Serves clock before now mid mid_kept v v' refused ss)) where
@@ -47,8 +47,3 @@ module _ {clock : Option Answers} {before now : Option (List ℕ)} {held mid las
             let left = stops end.0 end.2.0 end.2.1 in
             (end.0, end.1, (left.0, subst (λ (b : Bool). IsLeft [] end.0 left.0 ⊎ IsEnded b end.0 left.0) applied left.1, left.2));
       })
-
--- a statement was cut short
-pub ends-at-statement : {clock : Option Answers} {before now : Option (List ℕ)} {held last : Option Held} {kept last_kept : Option (List Record)} {ss : List (ℕ × List Token)} (v : View)
-    → FromEach held kept v (EndsAtStatement clock before now last last_kept ss) → FromEach held kept v (EndsMidway clock before now last last_kept ss)
-ends-at-statement v ends m stands holds = at_statement (ends m stands holds)

@@ -110,9 +110,6 @@ returns-in-Err-Sink-clause-bad_only g c = λ rs words counted few is some. (1, l
 pub returns-in-Err-Store-clause-bad_only : goal.returns-in-Err-Store-clause-bad_only
 returns-in-Err-Store-clause-bad_only g c = λ rs words counted few is some. absurd (some (told-valid rs is (c.in-Err-Store.ensures.store_valid (ap Err c.in-Err-Store.field-0-is))))
 
-pub returns-in-Ok-serve_session-clause-bad_only : goal.returns-in-Ok-serve_session-clause-bad_only
-returns-in-Ok-serve_session-clause-bad_only g c = λ rs words counted few is some. absurd (some (told-valid rs is c.in-Ok-open_site.ensures.valid))
-
 pub returns-in-Err-Keeper-clause-bad_only : goal.returns-in-Err-Keeper-clause-bad_only
 returns-in-Err-Keeper-clause-bad_only g c = λ rs words counted few is some. (3, lit< tt, refl)
 
@@ -148,3 +145,7 @@ returns-in-Err-NoMemory-clause-complete g c = λ words counted few rs kept valid
 
 pub returns-in_default-clause-complete : goal.returns-in_default-clause-complete
 returns-in_default-clause-complete g c = λ words counted few rs kept valid source sink store keeper. (2, lit< tt, refl)
+
+pub returns-in-Err-BadRecord-clause-complete : goal.returns-in-Err-BadRecord-clause-complete
+returns-in-Err-BadRecord-clause-complete g c = λ words counted few rs kept valid source sink store keeper.
+    absurd (none-bad rs kept valid (c.in-Err-BadRecord.ensures.bad (ap Err c.in-Err-BadRecord.field-0-is)))
