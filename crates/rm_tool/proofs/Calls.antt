@@ -5,7 +5,6 @@ use Rattle.rm_catalog.specs.declared.record.Record.{Record}
 use Rattle.rm_token.specs.declared.token.Token.{Token}
 use Rattle.rm_token.specs.Statements.{statements}
 use Rattle.rm_machine.specs.Machine.{Machine}
-use Rattle.rm_machine.specs.Rest.{Wakes}
 use Rattle.rm_frame.specs.Holds.{Holds, View}
 use Rattle.rm_catalog.specs.declared.catalog.CatalogFault.TheVariants.{BadRow}
 use Rattle.rm_catalog.specs.Faults.{IsBadRow}

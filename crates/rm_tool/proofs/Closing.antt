@@ -3,12 +3,11 @@ use Rattle.std.proofs.Common.{◌≡◌, ◌∙◌, ◌⊎◌, ◌||◌, ℕ, Li
 use Rattle.rm_base.specs.Store.{Held, Answers}
 use Rattle.rm_catalog.specs.declared.record.Record.{Record}
 use Rattle.rm_token.specs.declared.token.Token.{Token}
-use Rattle.rm_machine.specs.Rest.{Rest}
-use Rattle.rm_frame.specs.Holds.{HoldsRest, View}
+use Rattle.rm_frame.specs.Holds.{View}
 use Rattle.rm_frame.specs.Saves.{IsEnded, Saves, StopsSaving}
 use Rattle.rm_frame.specs.Stopped.{IsLeft}
 use Rattle.rm_tool.specs.Run.{has_applied}
-use Rattle.rm_tool.specs.Serving.{FromEach, Serves, Closes, EndsAtSaving, EndsMidway, at_saving}
+use Rattle.rm_tool.specs.Serving.{FromEach, Serves, Closes, EndsMidway, at_saving}
 
 module _ {clock : Option Answers} {before now : Option (List ℕ)} {held mid last : Option Held} {kept mid_kept last_kept : Option (List Record)} {v v' : View} {refused : Bool} {ss : List (ℕ × List Token)} (fresh : v.applied ≡ false)
     (serves : FromEach held kept v (Serves clock before now mid mid_kept v v' refused ss)) where

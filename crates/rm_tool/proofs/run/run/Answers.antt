@@ -1,5 +1,4 @@
-use Rattle.std.proofs.Common.{rules, ◌≡◌, ◌∙◌, Err, ap, refl, subst, arith, lit<, List, [], Option, IfSome}
-use Rattle.rm_catalog.specs.declared.record.Record.{Record}
+use Rattle.std.proofs.Common.{rules, ◌∙◌, Err, ap, refl, arith, lit<}
 use Rattle.rm_token.specs.Statements.{statements}
 use Rattle.rm_token.proofs.Reading.{feeds_within}
 use Rattle.rm_tool.specs.Session.{in_replies, midway}
