@@ -1,4 +1,5 @@
 pub mod Calls
+pub mod Closing
 pub mod Runs
 pub mod Scripts
 pub mod Statements

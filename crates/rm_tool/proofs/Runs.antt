@@ -1,12 +1,13 @@
 -- A run goes on by one statement.
 use Rattle.std.proofs.Common.{◌≡◌, ◌+◌, ◌≤◌, ◌∙◌, ◌++◌, ◌||◌, ℕ, zero, suc, List, [], ◌∷◌, Option, Some, None, IfSome, Bool, false, inl, inr, refl, ap, sym, subst, arith, append-nil, slice_get, take, length}
 use Rattle.std.specs.List.{list_any}
+use Rattle.std.specs.Option.{option_map_or}
 use Rattle.std.proofs.lemmas.Bool.{cases_lt}
 use Rattle.std.proofs.lemmas.Grind.{flat_map-append}
 use Rattle.std.proofs.lemmas.List.{length-append, length-take-le, length_push, take-append-le, take_all}
 use Rattle.std.proofs.lemmas.List.Folds.{list_any-append}
 use Rattle.std.proofs.lemmas.Option.{get_or_from_slice_get, slice_get_within}
-use Rattle.std.proofs.Math.Bool.{or-false}
+use Rattle.std.proofs.Math.Bool.{or-false, or_assoc}
 use Rattle.std.proofs.Math.Seq.{take-append-add, take-append_seam, take-length}
 use Rattle.rm_base.specs.Outside.{Appends}
 use Rattle.rm_base.specs.Store.{Held, Answers, Both}
@@ -19,9 +20,12 @@ use Rattle.rm_token.specs.declared.token.Token.{Token}
 use Rattle.rm_report.specs.declared.line.Reply.{Reply}
 use Rattle.rm_report.specs.Text.{reply_text}
 use Rattle.rm_machine.specs.Machine.{Machine, DigestsTell}
-use Rattle.rm_frame.specs.Holds.{Holds, Stands, View}
+use Rattle.rm_machine.specs.Rest.{at_rest}
+use Rattle.rm_frame.specs.Holds.{Holds, HoldsRest, Stands, View}
+use Rattle.rm_frame.specs.Saves.{applies}
+use Rattle.rm_frame.proofs.Halting.{rests}
 use Rattle.rm_tool.specs.Ends.{WritesFront}
-use Rattle.rm_tool.specs.Run.{StepOf, StatementStep, past, behind, Run, DigestsTellAlong, RunsWhereTold, AreToCome, replies_text}
+use Rattle.rm_tool.specs.Run.{StepOf, StatementStep, past, behind, has_applied, Run, DigestsTellAlong, RunsWhereTold, AreToCome, replies_text}
 use Rattle.rm_tool.specs.Serving.{IsPast, IsServed, IsCut, IsCutShort, Serves, EndsAtStatement, EndsInReplies}
 
 -- The machine's run over these statements, with these replies, as far as it came: each course of the clock from
@@ -34,19 +38,21 @@ abbrev pub IsAt : View → Option Held → Option (List Record) → Machine → 
 IsAt site held kept m = Stands site m × Holds held kept m
 
 -- a run over these statements from one machine on to one that the site stands for, whose replies were written
-pub record Progress (ss : List (ℕ × List Token)) (told now : Option Answers) (before written : Option (List ℕ)) (held : Option Held) (kept : Option (List Record)) (site : View) (refused : Bool) (first : Machine) : Type 0 where
+pub record Progress (ss : List (ℕ × List Token)) (told now : Option Answers) (before written : Option (List ℕ)) (held : Option Held) (kept : Option (List Record)) (origin site : View) (refused : Bool) (first : Machine) : Type 0 where
   pub replies : List Reply
   pub many : length replies ≡ length ss
   pub appends : Appends before written (replies_text replies)
   pub some : refused ≡ list_any (λ r. r.refused) replies
+  pub applied : site.applied ≡ (origin.applied || has_applied ss replies)
   pub extends : Extends first told ss replies now (IsAt site held kept)
 
 -- a statement was served, and its reply was not written yet
-pub record Reached (ss : List (ℕ × List Token)) (told now : Option Answers) (before written : Option (List ℕ)) (held : Option Held) (kept : Option (List Record)) (site : View) (refused : Bool) (r : Reply) (first : Machine) : Type 0 where
+pub record Reached (ss : List (ℕ × List Token)) (told now : Option Answers) (before written : Option (List ℕ)) (held : Option Held) (kept : Option (List Record)) (origin site : View) (refused : Bool) (r : Reply) (first : Machine) : Type 0 where
   pub replies : List Reply
   pub many : length replies + 1 ≡ length ss
   pub appends : Appends before written (replies_text replies)
   pub some : refused ≡ list_any (λ q. q.refused) replies
+  pub applied : site.applied ≡ (origin.applied || has_applied ss (replies ++ r ∷ []))
   pub extends : Extends first told ss (replies ++ r ∷ []) now (IsAt site held kept)
 
 -- an answer before others
@@ -138,17 +144,33 @@ extends-more first told now later ss rs s r a Is Becomes many next passed step e
 any-push : (rs : List Reply) (r : Reply) → list_any (λ q. q.refused) (rs ++ r ∷ []) ≡ (list_any (λ q. q.refused) rs || r.refused)
 any-push rs r = list_any-append (λ (q : Reply). q.refused) rs (r ∷ []) ∙ ap (λ b. list_any (λ (q : Reply). q.refused) rs || b) (or-false r.refused)
 
+-- whether a list was applied for this statement
+abbrev applied_for : ℕ × List Token → Reply → Bool
+applied_for s r = option_map_or (λ c. applies c r) (command_at s.1) false
+
+applied-push : (ss : List (ℕ × List Token)) (rs : List Reply) (s : ℕ × List Token) (r : Reply) → length rs ≡ length ss → has_applied (ss ++ s ∷ []) (rs ++ r ∷ []) ≡ (has_applied ss rs || applied_for s r)
+applied-push [] [] s r many = or-false (applied_for s r)
+applied-push [] (q ∷ qs) s r many = absurd (omega (arith, many))
+applied-push (t ∷ ts) [] s r many = absurd (omega (arith, many))
+applied-push (t ∷ ts) (q ∷ qs) s r many = ap (λ b. applied_for t q || b) (applied-push ts qs s r (omega (arith, many))) ∙ sym (or_assoc (applied_for t q) (has_applied ts qs) (applied_for s r))
+
+-- one statement more, of those that were served since the view had x
+applied-more : (ss : List (ℕ × List Token)) (rs : List Reply) (s : ℕ × List Token) (r : Reply) (x y z : Bool) → length rs ≡ length ss → y ≡ (x || has_applied ss rs) → z ≡ (y || applied_for s r) → z ≡ (x || has_applied (ss ++ s ∷ []) (rs ++ r ∷ []))
+applied-more ss rs s r x y z many before next =
+    next ∙ ap (λ b. b || applied_for s r) before ∙ or_assoc x (has_applied ss rs) (applied_for s r) ∙ ap (λ b. x || b) (sym (applied-push ss rs s r many))
+
 text-push : (rs : List Reply) (r : Reply) → replies_text (rs ++ r ∷ []) ≡ replies_text rs ++ reply_text r
 text-push rs r = flat_map-append reply_text rs (r ∷ []) ∙ ap (λ t. replies_text rs ++ t) (append-nil (reply_text r))
 
 -- before the first statement
-pub progress-none : {told : Option Answers} {o : Option (List ℕ)} {held : Option Held} {kept : Option (List Record)} {site : View} {first : Machine} → Stands site first → Holds held kept first → Progress [] told told o o held kept site false first
-progress-none stands holds =
+pub progress-none : {told : Option Answers} {o : Option (List ℕ)} {held : Option Held} {kept : Option (List Record)} {site : View} {first : Machine} → Stands site first → Holds held kept first → Progress [] told told o o held kept site site false first
+progress-none {site = site} stands holds =
     record {
       replies = [];
       many = refl;
       appends = appends-nothing _;
       some = refl;
+      applied = sym (or-false site.applied);
       extends = λ answers come. (answers, come, refl, λ tells. (_, refl, (stands, holds)));
     }
 
@@ -180,9 +202,9 @@ front-behind before now after xs ys h (n, within, k) = (
 )
 
 -- From one point of a session on
-module _ {told now : Option Answers} {before written : Option (List ℕ)} {held : Option Held} {kept : Option (List Record)} {site : View} {refused : Bool} {first : Machine} (ss : List (ℕ × List Token)) where
+module _ {told now : Option Answers} {before written : Option (List ℕ)} {held : Option Held} {kept : Option (List Record)} {origin site : View} {refused : Bool} {first : Machine} (ss : List (ℕ × List Token)) where
   -- all statements were served
-  pub progress-serves : Progress ss told now before written held kept site refused first → Serves told before written held kept refused ss first
+  pub progress-serves : Progress ss told now before written held kept origin site refused first → Serves told before written held kept origin site refused ss first
   progress-serves p =
       let all = p.extends (answers_from now) (come-from now) in
       record {
@@ -192,20 +214,22 @@ module _ {told now : Option Answers} {before written : Option (List ℕ)} {held 
         many = p.many;
         written = p.appends;
         some = p.some;
-        run = λ tells. let last = all.3 tells in (last.0, last.1, last.2.1);
+        applied = p.applied;
+        run = all.3;
       }
 
   -- the statement i is served
   pub progress-reached : {held' : Option Held} {kept' : Option (List Record)} {site' : View} {later : Option Answers} {s : ℕ × List Token} {r : Reply} (i : ℕ) → slice_get ss i ≡ Some s
-      → Progress (take i ss) told now before written held kept site refused first → IsServed held kept site now s r held' kept' site' later → Reached (take (i + 1) ss) told later before written held' kept' site' refused r first
+      → Progress (take i ss) told now before written held kept origin site refused first → IsServed held kept site now s r held' kept' site' later → Reached (take (i + 1) ss) told later before written held' kept' origin site' refused r first
   progress-reached {held' = held'} {kept' = kept'} {site' = site'} {later = later} {s = s} {r = r} i there p served =
       let more : take (i + 1) ss ≡ take i ss ++ s ∷ [] = take_more ss i s (slice_get_within ss i s there) (sym (get_or_from_slice_get ss i s s there)) in
-      subst (λ (ts : List (ℕ × List Token)). Reached ts told later before written held' kept' site' refused r first) (sym more)
+      subst (λ (ts : List (ℕ × List Token)). Reached ts told later before written held' kept' origin site' refused r first) (sym more)
       (record {
         replies = p.replies;
         many = omega (arith, p.many, length_push (take i ss) s);
         appends = p.appends;
         some = p.some;
+        applied = applied-more (take i ss) p.replies s r origin.applied site.applied site'.applied p.many p.applied served.applied;
         extends =
             extends-more first told now later (take i ss) p.replies s r served.answer (IsAt site held kept) (IsAt site' held' kept') p.many served.next served.past
             (λ m is tell. let n = served.steps m is.0 is.1 tell in (n.0, n.1, (n.2, n.3))) p.extends;
@@ -213,7 +237,7 @@ module _ {told now : Option Answers} {before written : Option (List ℕ)} {held 
 
   -- the statement i was cut short
   pub progress-cut : {held' : Option Held} {kept' : Option (List Record)} {s : ℕ × List Token} (i : ℕ) → slice_get ss i ≡ Some s
-      → Progress (take i ss) told now before written held kept site refused first → IsCutShort held kept site now s held' kept' → EndsAtStatement told before written held' kept' ss first
+      → Progress (take i ss) told now before written held kept origin site refused first → IsCutShort held kept site now s held' kept' → EndsAtStatement told before written held' kept' ss first
   progress-cut {held' = held'} {kept' = kept'} {s = s} i there p short =
       let f = answers-with now short.answer short.next in
       let all = p.extends f.0 f.1 in
@@ -233,30 +257,31 @@ module _ {told now : Option Answers} {before written : Option (List ℕ)} {held 
       }
 
   -- the reply to the last statement was written
-  pub reached-more : {after : Option (List ℕ)} {r : Reply} → Reached ss told now before written held kept site refused r first → Appends written after (reply_text r)
-      → Progress ss told now before after held kept site (refused || r.refused) first
+  pub reached-more : {after : Option (List ℕ)} {r : Reply} → Reached ss told now before written held kept origin site refused r first → Appends written after (reply_text r)
+      → Progress ss told now before after held kept origin site (refused || r.refused) first
   reached-more {after = after} {r = r} p grows =
       record {
         replies = p.replies ++ r ∷ [];
         many = length_push p.replies r ∙ p.many;
         appends = subst (Appends before after) (sym (text-push p.replies r)) (appends-then before written after (replies_text p.replies) (reply_text r) p.appends grows);
         some = ap (λ b. b || r.refused) p.some ∙ sym (any-push p.replies r);
+        applied = p.applied;
         extends = p.extends;
       }
 
   -- the sink failed in the reply to the statement before n
-  pub reached-ends : {after : Option (List ℕ)} {r : Reply} (n : ℕ) → n ≤ length ss → Reached (take n ss) told now before written held kept site refused r first → WritesFront written after (reply_text r)
+  pub reached-ends : {after : Option (List ℕ)} {r : Reply} (n : ℕ) → n ≤ length ss → Reached (take n ss) told now before written held kept origin site refused r first → WritesFront written after (reply_text r)
       → EndsInReplies told before after held kept ss first
   reached-ends {after = after} {r = r} n low p front =
       let replies : List Reply = p.replies ++ r ∷ [] in
       let all = p.extends (answers_from now) (come-from now) in
       let count : length replies ≡ n = length_push p.replies r ∙ p.many ∙ length-take-le n ss low in
-      let run : RunsWhereTold first all.0 (take n ss) replies (Holds held kept) = λ tells. let last = all.3 tells in (last.0, last.1, last.2.1) in
+      let run : RunsWhereTold first all.0 (take n ss) replies (λ m. HoldsRest held kept (at_rest m)) = λ tells. let last = all.3 tells in (last.0, last.1, rests held kept last.0 last.2.1) in
       record {
         answers = all.0;
         told = all.1;
         replies = replies;
         many = omega (arith, count, low);
         written = subst (WritesFront before after) (sym (text-push p.replies r)) (front-behind before written after (replies_text p.replies) (reply_text r) p.appends front);
-        run = subst (λ (k : ℕ). RunsWhereTold first all.0 (take k ss) replies (Holds held kept)) (sym count) run;
+        run = subst (λ (k : ℕ). RunsWhereTold first all.0 (take k ss) replies (λ m. HoldsRest held kept (at_rest m))) (sym count) run;
       }

@@ -1,15 +1,18 @@
 -- Digests tell along every run whose statements give no name of an object.
-use Rattle.std.proofs.Common.{◌≡◌, ◌∙◌, ℕ, List, [], ◌∷◌, ◌++◌, Option, Some, None, zero, suc, ap, take}
+use Rattle.std.proofs.Common.{◌≡◌, ◌∙◌, ℕ, List, [], ◌∷◌, ◌++◌, Option, Some, None, IfSome, zero, suc, Contains, ap, subst, take, refl}
 use Rattle.std.specs.Option.{option_map_or}
-use Rattle.rm_base.specs.Store.{Answers}
+use Rattle.rm_base.specs.Store.{Answers, Held}
+use Rattle.rm_base.proofs.Members.{none-in}
 use Rattle.rm_statement.specs.declared.command.Command.{Command}
 use Rattle.rm_report.specs.declared.line.Reply.{Reply}
 use Rattle.rm_token.specs.declared.token.Token.{Token}
 use Rattle.rm_machine.specs.Effect.{Outcome, refused, told, done}
 use Rattle.rm_machine.specs.Machine.{Machine}
+use Rattle.rm_machine.specs.Rest.{PartsTell, Rest, Wakes}
 use Rattle.rm_machine.specs.declared.state.State.{State}
 use Rattle.rm_machine.specs.Step.{StepBy, StepIn, names_in}
 use Rattle.rm_machine.proofs.Agreeing.{untouched-tell}
+use Rattle.rm_frame.specs.Holds.{HoldsRest, nothing}
 use Rattle.rm_frame.specs.Moments.{moment_of}
 use Rattle.rm_tool.specs.Built.{command_at}
 use Rattle.rm_tool.specs.Run.{DigestsTellAlong, GiveNoName, Run, StepOf, past}
@@ -43,3 +46,22 @@ first-ones (suc k) (s ∷ ss) free = (free.0, first-ones k ss free.1)
 
 pub tell-along : (first : Machine) → first.touched ≡ [] → (answers : Answers) (ss : List (ℕ × List Token)) (replies : List Reply) → GiveNoName ss → DigestsTellAlong first answers ss replies
 tell-along first none answers ss replies free k m run = untouched-tell m (by-run (take k ss) (take k replies) first m answers (first-ones k ss free) none run)
+
+-- the machine that wakes before the first statement ever is one of which no name was touched
+pub untouched-first : (objects : Held) (first : Machine) → Wakes (nothing objects) first → first.touched ≡ []
+untouched-first objects first wakes = ap (λ (r : Rest). r.touched) wakes.rest
+
+if-some : {A : Type 0} {P : A → Type 0} → ((a : A) → P a) → (o : Option A) → IfSome o P
+if-some f None = tt
+if-some f (Some a) = f a
+
+none-of : {names : List (List ℕ)} {name : List ℕ} → names ≡ [] → Contains names name → ⊥
+none-of {name = name} none given = none-in name (subst (λ (ns : List (List ℕ)). Contains ns name) none given)
+
+-- where no name was touched, digests tell of a saved site
+pub untouched-parts-tell : (r : Rest) → r.touched ≡ [] → PartsTell r
+untouched-parts-tell r none = if-some (λ c. if-some (λ site. record { parts = λ p a bytes given. absurd (none-of none given) }) c.saved) r.catalog
+
+-- no database is held over an empty keeper
+pub nothing-held : (objects : Held) → HoldsRest (Some objects) (Some []) (nothing objects)
+nothing-held objects = record { store = refl; keeper = refl; sound = (refl, refl) }

@@ -1,5 +1,5 @@
 -- What a whole call of `run` leaves.
-use Rattle.std.specs.Prelude.{ℕ, ◌≡◌, ◌⊎◌, ◌<◌, Bool, false, Option, Some, List, [], ◌∷◌, ◌++◌, codes, if◌then◌else◌, IfSome, length}
+use Rattle.std.specs.Prelude.{ℕ, ◌≡◌, ◌⊎◌, ◌<◌, Bool, false, Option, List, [], ◌∷◌, ◌++◌, codes, if◌then◌else◌, IfSome, length}
 use Rattle.std.specs.Fmt.{decimal}
 use Rattle.rm_base.specs.Outside.{Appends, HasTaken}
 use Rattle.rm_base.specs.Store.{Held, Answers}

@@ -1,9 +1,8 @@
-use Rattle.std.proofs.Common.{rules, ◌≡◌, ◌∙◌, Err, ap, refl, subst, arith, lit<, List, [], Option, IfSome}
-use Rattle.rm_catalog.specs.declared.record.Record.{Record}
+use Rattle.std.proofs.Common.{rules, ◌∙◌, Err, ap, refl, arith, lit<}
 use Rattle.rm_token.specs.Statements.{statements}
 use Rattle.rm_token.proofs.Reading.{feeds_within}
-use Rattle.rm_tool.specs.Session.{in_replies, at_statement}
-use Rattle.rm_tool.proofs.Calls.{serves-script, ends-at-statement, ends-in-replies}
+use Rattle.rm_tool.specs.Session.{in_replies, midway}
+use Rattle.rm_tool.proofs.Calls.{finishes, ends-midway, ends-in-replies, none-bad, told-valid}
 use Rattle.rm_tool.proofs.run.run.Goals as goal
 
 pub statements-requires : goal.statements-requires
@@ -11,49 +10,44 @@ statements-requires g c =
     let lines = feeds_within c.in-Ok-read_all.script.items in
     rw c.deref.ensures.value (omega (arith, lines, c.in-Ok-read_all.ensures.within))
 
-pub returns-in-Ok-serve_all-clause-done : goal.returns-in-Ok-serve_all-clause-done
-returns-in-Ok-serve_all-clause-done g c = λ is objects held_is kept_is.
+pub returns-in-Ok-serve_session-clause-done : goal.returns-in-Ok-serve_session-clause-done
+returns-in-Ok-serve_session-clause-done g c = λ is.
     let opened = c.in-Ok-open_site.ensures in
     let read = c.in-Ok-read_all.ensures in
-    record {
-      refused = c.in-Ok-serve_all.refused;
-      serves =
-          serves-script c.in-Ok-open_site.site (record { taken = read.taken; whole = read.whole }) (c.as_slice.ensures ∙ c.in-Ok-statements.ensures ∙ ap statements c.deref.ensures.value)
-          opened.ok opened.held opened.kept opened.opened c.in-Ok-serve_all.ensures.ok objects held_is kept_is;
-      tells = search rules;
-    }
+    finishes c.in-Ok-open_site.site (record { taken = read.taken; whole = read.whole }) (c.as_slice.ensures ∙ c.in-Ok-statements.ensures ∙ ap statements c.deref.ensures.value)
+    opened.ok opened.held opened.kept opened.opened c.in-Ok-serve_session.refused _ (search rules) c.in-Ok-serve_session.ensures.ok
 
-pub returns-in-Err-Sink-serve_all-clause-sink_written : goal.returns-in-Err-Sink-serve_all-clause-sink_written
-returns-in-Err-Sink-serve_all-clause-sink_written g c = λ is.
+pub returns-in-Err-Sink-serve_session-clause-sink_written : goal.returns-in-Err-Sink-serve_session-clause-sink_written
+returns-in-Err-Sink-serve_session-clause-sink_written g c = λ is.
     let opened = c.in-Ok-open_site.ensures in
     let read = c.in-Ok-read_all.ensures in
-    in_replies opened.empty
+    in_replies opened.valid
     (ends-in-replies c.in-Ok-open_site.site (record { taken = read.taken; whole = read.whole }) (c.as_slice.ensures ∙ c.in-Ok-statements.ensures ∙ ap statements c.deref.ensures.value)
-    opened.ok opened.held opened.kept opened.opened (c.in-Err-Sink-serve_all.ensures.sink (ap Err c.in-Err-Sink-serve_all.field-0-is)))
+    opened.ok opened.held opened.kept opened.opened (c.in-Err-Sink-serve_session.ensures.sink (ap Err c.in-Err-Sink-serve_session.field-0-is)))
 
-pub returns-in-Err-Store-serve_all-clause-store_written : goal.returns-in-Err-Store-serve_all-clause-store_written
-returns-in-Err-Store-serve_all-clause-store_written g c = λ is.
+pub returns-in-Err-Store-serve_session-clause-store_written : goal.returns-in-Err-Store-serve_session-clause-store_written
+returns-in-Err-Store-serve_session-clause-store_written g c = λ is.
     let opened = c.in-Ok-open_site.ensures in
     let read = c.in-Ok-read_all.ensures in
-    at_statement opened.empty
-    (ends-at-statement c.in-Ok-open_site.site (record { taken = read.taken; whole = read.whole }) (c.as_slice.ensures ∙ c.in-Ok-statements.ensures ∙ ap statements c.deref.ensures.value)
-    opened.ok opened.held opened.kept opened.opened (c.in-Err-Store-serve_all.ensures.store (ap Err c.in-Err-Store-serve_all.field-0-is)))
+    midway opened.valid
+    (ends-midway c.in-Ok-open_site.site (record { taken = read.taken; whole = read.whole }) (c.as_slice.ensures ∙ c.in-Ok-statements.ensures ∙ ap statements c.deref.ensures.value)
+    opened.ok opened.held opened.kept opened.opened (c.in-Err-Store-serve_session.ensures.store (ap Err c.in-Err-Store-serve_session.field-0-is)))
 
-pub returns-in-Err-Keeper-serve_all-clause-keeper_written : goal.returns-in-Err-Keeper-serve_all-clause-keeper_written
-returns-in-Err-Keeper-serve_all-clause-keeper_written g c = λ is.
+pub returns-in-Err-Keeper-serve_session-clause-keeper_written : goal.returns-in-Err-Keeper-serve_session-clause-keeper_written
+returns-in-Err-Keeper-serve_session-clause-keeper_written g c = λ is.
     let opened = c.in-Ok-open_site.ensures in
     let read = c.in-Ok-read_all.ensures in
-    at_statement opened.empty
-    (ends-at-statement c.in-Ok-open_site.site (record { taken = read.taken; whole = read.whole }) (c.as_slice.ensures ∙ c.in-Ok-statements.ensures ∙ ap statements c.deref.ensures.value)
-    opened.ok opened.held opened.kept opened.opened (c.in-Err-Keeper-serve_all.ensures.keeper (ap Err c.in-Err-Keeper-serve_all.field-0-is)))
+    midway opened.valid
+    (ends-midway c.in-Ok-open_site.site (record { taken = read.taken; whole = read.whole }) (c.as_slice.ensures ∙ c.in-Ok-statements.ensures ∙ ap statements c.deref.ensures.value)
+    opened.ok opened.held opened.kept opened.opened (c.in-Err-Keeper-serve_session.ensures.keeper (ap Err c.in-Err-Keeper-serve_session.field-0-is)))
 
 pub returns-clause-memory_written : goal.returns-clause-memory_written
 returns-clause-memory_written g c = λ is.
     let opened = c.in-Ok-open_site.ensures in
     let read = c.in-Ok-read_all.ensures in
-    at_statement opened.empty
-    (ends-at-statement c.in-Ok-open_site.site (record { taken = read.taken; whole = read.whole }) (c.as_slice.ensures ∙ c.in-Ok-statements.ensures ∙ ap statements c.deref.ensures.value)
-    opened.ok opened.held opened.kept opened.opened (c.in-Err-NoMemory-serve_all.ensures.memory (ap Err c.in-Err-NoMemory-serve_all.field-0-is)))
+    midway opened.valid
+    (ends-midway c.in-Ok-open_site.site (record { taken = read.taken; whole = read.whole }) (c.as_slice.ensures ∙ c.in-Ok-statements.ensures ∙ ap statements c.deref.ensures.value)
+    opened.ok opened.held opened.kept opened.opened (c.in-Err-NoMemory-serve_session.ensures.memory (ap Err c.in-Err-NoMemory-serve_session.field-0-is)))
 
 pub returns-in-Ok-clause-statuses : goal.returns-in-Ok-clause-statuses
 returns-in-Ok-clause-statuses g c = (2, lit< tt, refl)
@@ -88,17 +82,17 @@ returns-in-Err-Keeper-clause-statuses g c = (6, lit< tt, refl)
 pub returns-in-Err-NoMemory-open_site-clause-statuses : goal.returns-in-Err-NoMemory-open_site-clause-statuses
 returns-in-Err-NoMemory-open_site-clause-statuses g c = (7, lit< tt, refl)
 
-pub returns-in-Err-Sink-serve_all-clause-statuses : goal.returns-in-Err-Sink-serve_all-clause-statuses
-returns-in-Err-Sink-serve_all-clause-statuses g c = (4, lit< tt, refl)
+pub returns-in-Err-Sink-serve_session-clause-statuses : goal.returns-in-Err-Sink-serve_session-clause-statuses
+returns-in-Err-Sink-serve_session-clause-statuses g c = (4, lit< tt, refl)
 
 pub returns-in-Err-Store-clause-statuses : goal.returns-in-Err-Store-clause-statuses
 returns-in-Err-Store-clause-statuses g c = (5, lit< tt, refl)
 
-pub returns-in-Err-Store-serve_all-clause-statuses : goal.returns-in-Err-Store-serve_all-clause-statuses
-returns-in-Err-Store-serve_all-clause-statuses g c = (5, lit< tt, refl)
+pub returns-in-Err-Store-serve_session-clause-statuses : goal.returns-in-Err-Store-serve_session-clause-statuses
+returns-in-Err-Store-serve_session-clause-statuses g c = (5, lit< tt, refl)
 
-pub returns-in-Err-Keeper-serve_all-clause-statuses : goal.returns-in-Err-Keeper-serve_all-clause-statuses
-returns-in-Err-Keeper-serve_all-clause-statuses g c = (6, lit< tt, refl)
+pub returns-in-Err-Keeper-serve_session-clause-statuses : goal.returns-in-Err-Keeper-serve_session-clause-statuses
+returns-in-Err-Keeper-serve_session-clause-statuses g c = (6, lit< tt, refl)
 
 pub returns-clause-statuses : goal.returns-clause-statuses
 returns-clause-statuses g c = (7, lit< tt, refl)
@@ -113,8 +107,7 @@ pub returns-in-Err-Sink-clause-bad_only : goal.returns-in-Err-Sink-clause-bad_on
 returns-in-Err-Sink-clause-bad_only g c = λ rs words counted few is some. (1, lit< tt, refl)
 
 pub returns-in-Err-Store-clause-bad_only : goal.returns-in-Err-Store-clause-bad_only
-returns-in-Err-Store-clause-bad_only g c = λ rs words counted few is some.
-    absurd (some (subst (λ (o : Option (List Record)). IfSome o (λ ks. ks ≡ [])) is (c.in-Err-Store.ensures.store_empty (ap Err c.in-Err-Store.field-0-is))))
+returns-in-Err-Store-clause-bad_only g c = λ rs words counted few is some. absurd (some (told-valid rs is (c.in-Err-Store.ensures.store_valid (ap Err c.in-Err-Store.field-0-is))))
 
 pub returns-in-Err-Keeper-clause-bad_only : goal.returns-in-Err-Keeper-clause-bad_only
 returns-in-Err-Keeper-clause-bad_only g c = λ rs words counted few is some. (3, lit< tt, refl)
@@ -138,16 +131,20 @@ pub returns-in-Err-NoMemory-clause-long_only : goal.returns-in-Err-NoMemory-clau
 returns-in-Err-NoMemory-clause-long_only g c = λ counted many. (2, lit< tt, refl)
 
 pub returns-in-Err-NoMemory-open_site-clause-complete : goal.returns-in-Err-NoMemory-open_site-clause-complete
-returns-in-Err-NoMemory-open_site-clause-complete g c = λ words counted few kept source sink store keeper. (2, lit< tt, refl)
+returns-in-Err-NoMemory-open_site-clause-complete g c = λ words counted few rs kept valid source sink store keeper. (2, lit< tt, refl)
 
 pub returns-clause-complete : goal.returns-clause-complete
-returns-clause-complete g c = λ words counted few kept source sink store keeper. (2, lit< tt, refl)
+returns-clause-complete g c = λ words counted few rs kept valid source sink store keeper. (2, lit< tt, refl)
 
 pub returns-in-NoMemory-clause-complete : goal.returns-in-NoMemory-clause-complete
-returns-in-NoMemory-clause-complete g c = λ words counted few kept source sink store keeper. (2, lit< tt, refl)
+returns-in-NoMemory-clause-complete g c = λ words counted few rs kept valid source sink store keeper. (2, lit< tt, refl)
 
 pub returns-in-Err-NoMemory-clause-complete : goal.returns-in-Err-NoMemory-clause-complete
-returns-in-Err-NoMemory-clause-complete g c = λ words counted few kept source sink store keeper. (2, lit< tt, refl)
+returns-in-Err-NoMemory-clause-complete g c = λ words counted few rs kept valid source sink store keeper. (2, lit< tt, refl)
 
 pub returns-in_default-clause-complete : goal.returns-in_default-clause-complete
-returns-in_default-clause-complete g c = λ words counted few kept source sink store keeper. (2, lit< tt, refl)
+returns-in_default-clause-complete g c = λ words counted few rs kept valid source sink store keeper. (2, lit< tt, refl)
+
+pub returns-in-Err-BadRecord-clause-complete : goal.returns-in-Err-BadRecord-clause-complete
+returns-in-Err-BadRecord-clause-complete g c = λ words counted few rs kept valid source sink store keeper.
+    absurd (none-bad rs kept valid (c.in-Err-BadRecord.ensures.bad (ap Err c.in-Err-BadRecord.field-0-is)))

@@ -10,7 +10,7 @@ invariant-loop-line g l =
     let kept = g.C.Keeper.kept in
     let answers = g.T.Clock.answers in
     record {
-      progress : FromEach (held l.fn.store) (kept l.fn.keeper) l.fn.site (Progress (take l.line-index l.statements) (answers l.fn.clock) (answers l.clock) (told l.fn.sink) (told l.sink) (held l.store) (kept l.keeper) l.site l.refused);
+      progress : FromEach (held l.fn.store) (kept l.fn.keeper) l.fn.site (Progress (take l.line-index l.statements) (answers l.fn.clock) (answers l.clock) (told l.fn.sink) (told l.sink) (held l.store) (kept l.keeper) l.fn.site l.site l.refused);
       live : l.site.live ≡ true;
       sink : g.K.Sink.faults l.fn.sink ≤ g.K.Sink.faults l.sink;
       store : g.D.Store.faults l.fn.store ≤ g.D.Store.faults l.store;

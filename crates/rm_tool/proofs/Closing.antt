@@ -1,0 +1,48 @@
+-- All statements were served, and then the site was saved, or that was stopped.
+use Rattle.std.proofs.Common.{◌≡◌, ◌∙◌, ◌⊎◌, ◌||◌, ℕ, List, [], Option, Bool, false, ap, subst}
+use Rattle.rm_base.specs.Store.{Held, Answers}
+use Rattle.rm_catalog.specs.declared.record.Record.{Record}
+use Rattle.rm_token.specs.declared.token.Token.{Token}
+use Rattle.rm_frame.specs.Holds.{View}
+use Rattle.rm_frame.specs.Saves.{IsEnded, Saves, StopsSaving}
+use Rattle.rm_frame.specs.Stopped.{IsLeft}
+use Rattle.rm_tool.specs.Run.{has_applied}
+use Rattle.rm_tool.specs.Serving.{FromEach, Serves, Closes, EndsMidway, at_saving}
+
+module _ {clock : Option Answers} {before now : Option (List ℕ)} {held mid last : Option Held} {kept mid_kept last_kept : Option (List Record)} {v v' : View} {refused : Bool} {ss : List (ℕ × List Token)} (fresh : v.applied ≡ false)
+    (serves : FromEach held kept v (Serves clock before now mid mid_kept v v' refused ss)) where
+  -- the site was saved
+  pub closes : Saves mid mid_kept v' last last_kept → FromEach held kept v (Closes clock before now last last_kept refused ss)
+  closes saves m stands holds =
+      let s = serves m stands holds in
+      let applied : v'.applied ≡ has_applied ss s.replies = s.applied ∙ ap (λ b. b || has_applied ss s.replies) fresh in
+      record {
+        answers = s.answers;
+        told = s.told;
+        replies = s.replies;
+        many = s.many;
+        written = s.written;
+        some = s.some;
+        run = λ tells.
+            let end = s.run tells in
+            let left = saves end.0 end.2.0 end.2.1 in
+            (end.0, end.1, (left.0, subst (λ (b : Bool). IsEnded b end.0 left.0) applied left.1, left.2));
+      }
+
+  -- it was stopped
+  pub ends-at-saving : StopsSaving mid mid_kept v' last last_kept → FromEach held kept v (EndsMidway clock before now last last_kept ss)
+  ends-at-saving stops m stands holds =
+      let s = serves m stands holds in
+      let applied : v'.applied ≡ has_applied ss s.replies = s.applied ∙ ap (λ b. b || has_applied ss s.replies) fresh in
+      at_saving
+      (record {
+        answers = s.answers;
+        told = s.told;
+        replies = s.replies;
+        many = s.many;
+        written = s.written;
+        run = λ tells.
+            let end = s.run tells in
+            let left = stops end.0 end.2.0 end.2.1 in
+            (end.0, end.1, (left.0, subst (λ (b : Bool). IsLeft [] end.0 left.0 ⊎ IsEnded b end.0 left.0) applied left.1, left.2));
+      })
