@@ -5,13 +5,16 @@ use Rattle.std.specs.Option.{option_and_then, option_map, option_map_or}
 use Rattle.rm_base.specs.declared.refusal.Refusal.{Refusal}
 use Rattle.rm_statement.specs.declared.command.BackupForm.{BackupForm}
 use Rattle.rm_statement.specs.declared.command.Command.{Command}
-use Rattle.rm_statement.specs.declared.command.Command.TheVariants.{ArchiveLogCurrent, Backup, BackupLogs, ChangeBackup, CreateDatabase, CreateDatafile, Crosscheck, Cut, Damage, DeleteBackup, DeleteExpired, Dump, LoseDatafile, LoseLog, Mount, OpenPlain, OpenResetlogs, Preview, Recover, RecoverTest, Remove, Rename, ResetDatabase, Restore, SwitchLogfile, Write}
+use Rattle.rm_statement.specs.declared.command.Command.TheVariants.{ArchiveLogCurrent, Backup, BackupLogs, ChangeBackup, CreateDatabase, CreateDatafile, Crosscheck, Cut, Damage, DeleteBackup, DeleteExpired, Dump, LoseDatafile, LoseLog, Mount, OpenPlain, OpenResetlogs, Parallelism, Preview, Recover, RecoverTest, Remove, Rename, ResetDatabase, Restore, Retention, SwitchLogfile, Write}
+use Rattle.rm_statement.specs.declared.command.RetentionForm.{RetentionForm}
+use Rattle.rm_statement.specs.declared.command.RetentionForm.TheVariants as form
 use Rattle.rm_statement.specs.declared.command.Until.{Until}
 use Rattle.rm_statement.specs.declared.command.WriteForm.{WriteForm}
 use Rattle.rm_history.specs.declared.world.Datafile.{Datafile}
 use Rattle.rm_report.specs.Reply.{HasDate}
 use Rattle.rm_machine.specs.Archive.{archive_all_refusal, archiving_refusal}
 use Rattle.rm_machine.specs.Backup.{backup_refusal}
+use Rattle.rm_machine.specs.Configure.{parallelism_refusal, policy_refusal, retention_refusal}
 use Rattle.rm_machine.specs.CreateDatafile.{datafile_refusal}
 use Rattle.rm_machine.specs.Dump.{dump_refusal}
 use Rattle.rm_machine.specs.LoseDatafile.{lose_refusal}
@@ -130,6 +133,18 @@ lose_log-dated s t = search (unless-dated, ids-dated)
 record-dated : (s : State) (n : ℕ) → IsDated (record_refusal s n)
 record-dated s n = search (unless-dated, never)
 
+policy-dated : (f : RetentionForm) → IsDated (policy_refusal f)
+policy-dated (form.Window days) = search (unless-dated, never)
+policy-dated (form.Redundancy count) = search (unless-dated, never)
+policy-dated form.Nothing = never
+policy-dated form.Clear = never
+
+retention-dated : (s : State) (f : RetentionForm) → IsDated (retention_refusal s f)
+retention-dated s f = search (unless-dated, policy-dated)
+
+parallelism-dated : (s : State) (channels : ℕ) → IsDated (parallelism_refusal s channels)
+parallelism-dated s channels = search (unless-dated, ids-dated)
+
 every-refusal-dated : (s : State) (c : Command) → IsDated (refusal_of s c)
 every-refusal-dated s (CreateDatabase dbid threads scn) = once _ tt
 every-refusal-dated s (CreateDatafile blocks) = datafile-dated s blocks
@@ -151,6 +166,8 @@ every-refusal-dated s (Crosscheck class) = ids-dated s
 every-refusal-dated s (ChangeBackup n to) = record-dated s n
 every-refusal-dated s (DeleteBackup n) = record-dated s n
 every-refusal-dated s (DeleteExpired class) = ids-dated s
+every-refusal-dated s (Retention form) = retention-dated s form
+every-refusal-dated s (Parallelism channels) = parallelism-dated s channels
 every-refusal-dated s (LoseDatafile f) = lose-dated s f
 every-refusal-dated s (LoseLog t) = lose_log-dated s t
 every-refusal-dated s (Remove name) = ids-dated s

@@ -15,6 +15,7 @@ use rm_catalog::Edit;
 use rm_host::{lose_datafile, lose_log};
 use rm_machine::{Handed, State};
 use rm_modes::{mount, open, open_resetlogs, reset_database};
+use rm_settings::{configure_parallelism, configure_retention};
 use rm_statement::Command;
 use rm_upkeep::{change_backup, delete_backup, delete_expired};
 use rm_writing::{create_datafile, write};
@@ -49,6 +50,8 @@ pub(crate) fn change(
         Command::ChangeBackup { id, to } => change_backup(alloc, state, edits, *id, *to),
         Command::DeleteBackup { id } => delete_backup(alloc, state, edits, *id),
         Command::DeleteExpired { class } => delete_expired(alloc, state, edits, *class),
+        Command::Retention(form) => configure_retention(alloc, state, edits, *form),
+        Command::Parallelism { channels } => configure_parallelism(alloc, state, edits, *channels),
         Command::LoseDatafile { file } => lose_datafile(alloc, state, *file),
         Command::LoseLog { thread } => lose_log(alloc, state, *thread),
         _ => unreachable!(),

@@ -11,6 +11,7 @@ use rm_machine::State;
 use rm_machine::room::ids_refusal;
 use rm_modes::{open_refusal, reset_refusal, resetlogs_refusal};
 use rm_recovery::{preview_refusal, recover_refusal, restore_refusal, test_refusal};
+use rm_settings::{parallelism_refusal, retention_refusal};
 use rm_statement::Command;
 use rm_upkeep::record_refusal;
 use rm_writing::{datafile_refusal, dump_refusal, write_refusal};
@@ -41,6 +42,8 @@ pub(crate) fn refusal_of(state: &State, command: &Command) -> Option<Refusal>
         Command::ChangeBackup { id, .. } => record_refusal(state, *id),
         Command::DeleteBackup { id } => record_refusal(state, *id),
         Command::DeleteExpired { .. } => ids_refusal(state),
+        Command::Retention(form) => retention_refusal(state, *form),
+        Command::Parallelism { channels } => parallelism_refusal(state, *channels),
         Command::LoseDatafile { file } => lose_refusal(state, *file),
         Command::LoseLog { thread } => lose_log_refusal(state, *thread),
         Command::Remove { .. } => ids_refusal(state),
