@@ -1,18 +1,20 @@
 #!/usr/bin/env bash
 # Kills the program at random moments of a session, over a folder and a catalog file:
-#     bench/kills.sh [TIMES]
-# TIMES is how often (100). Before each kill a whole session made a backup of two datafiles. After it the next session opens,
-# VALIDATE ALL finds no bad object, and the backup tells its checkpoint: a recovery until it, as a test, has no gap. What the
-# killed session answered with `piece` is listed. Each third time the killed session itself is one that goes on.
+#     bench/kills.sh [TIMES] [PROGRAM]
+# TIMES is how often (100), PROGRAM what is killed (./rman). Before each kill a whole session made a backup of two datafiles.
+# After it the next session opens, VALIDATE ALL finds no bad object, and the backup tells its checkpoint: a recovery until it, as
+# a test, has no gap. What the killed session answered with `piece` is listed. Each third time the killed session itself is one
+# that goes on. Each second kill comes after the first reply, the others may come while the site is opened.
 set -euo pipefail
 cd "$(dirname "$0")/.."
 times=${1:-100}
+program=${2:-./rman}
 room=$(mktemp -d)
 trap 'rm -rf "$room"' EXIT
-: | ./rman --store "$room/none" --catalog "$room/nothing" > /dev/null
+: | "$program" --store "$room/none" --catalog "$room/nothing" > /dev/null
 
 run() {
-    ./rman --store "$room/objects" --catalog "$room/catalog"
+    "$program" --store "$room/objects" --catalog "$room/catalog"
 }
 
 # Many statements of each kind that puts objects or applies edits.
@@ -29,6 +31,13 @@ fail() {
     exit 1
 }
 
+await_reply() {
+    for _ in $(seq 1 500); do
+        [ ! -s "$room/killed" ] || return 0
+        sleep 0.01
+    done
+}
+
 begin() {
     rm -rf "$room/objects" "$room/catalog"*
     {
@@ -42,10 +51,12 @@ acknowledged=0
 opened=0
 for k in $(seq 1 "$times"); do
     [ $((k % 3)) -eq 0 ] || begin
-    { busy | ./rman --store "$room/objects" --catalog "$room/catalog" > "$room/killed"; } &
-    sleep "0.$(printf '%03d' $((RANDOM % 900 + 20)))"
+    : > "$room/killed"
+    { busy | run > "$room/killed"; } 2> /dev/null &
+    [ $((k % 2)) -eq 0 ] || await_reply
+    sleep "0.$(printf '%03d' $((RANDOM % 300)))"
     pkill -9 -f -- "--store $room/objects" || true
-    wait || true
+    wait 2> /dev/null || true
     status=0
     printf 'VALIDATE ALL; LIST BACKUP; RECOVER DATABASE UNTIL SCN 5 TEST;\n' | run > "$room/next" || status=$?
     [ "$status" -eq 0 ] || fail "$k" "the next session ended with $status"

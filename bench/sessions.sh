@@ -1,26 +1,20 @@
 #!/usr/bin/env bash
-# Tells what sessions cost, over a folder and a catalog file on the disk of DIR (a new one by default):
-#     bench/sessions.sh [DIR]
+# Tells what sessions of PROGRAM (./rman) cost, over a folder and a catalog file below TMPDIR:
+#     bench/sessions.sh [PROGRAM]
 # A session of 1,000 WRITEs beside 1,000 bare transactions of the sqlite3 shell, each of which puts three rows of as many
 # bytes; and the opening of a catalog of 65,536 records beside that of one of four. A figure is the shortest of five runs.
 # The catalog of 65,536 records is one of marks, which sqlite3 writes. It needs sqlite3.
 set -euo pipefail
 cd "$(dirname "$0")/.."
-made=
-if [ $# -gt 0 ]; then
-    mkdir -p "$1"
-    room=$(cd "$1" && pwd)
-else
-    room=$(mktemp -d)
-    made=$room
-fi
-trap '[ -z "$made" ] || rm -rf "$made"' EXIT
-: | ./rman --store "$room/none" --catalog "$room/nothing" > /dev/null
+program=${1:-./rman}
+room=$(mktemp -d)
+trap 'rm -rf "$room"' EXIT
+: | "$program" --store "$room/none" --catalog "$room/nothing" > /dev/null
 
 # A database of one datafile, as it was saved.
 begin() {
     rm -rf "$room/objects" "$room/catalog"*
-    echo 'CREATE DATABASE; CREATE DATAFILE BLOCKS 64;' | ./rman --store "$room/objects" --catalog "$room/catalog" > /dev/null
+    echo 'CREATE DATABASE; CREATE DATAFILE BLOCKS 64;' | "$program" --store "$room/objects" --catalog "$room/catalog" > /dev/null
 }
 
 # Many marks more, of the first mark's bytes.
@@ -36,7 +30,7 @@ shortest() {
         local start end micros
         "$@"
         start=$(date +%s%N)
-        ./rman --store "$room/objects" --catalog "$room/catalog" < "$script" > "$room/out"
+        "$program" --store "$room/objects" --catalog "$room/catalog" < "$script" > "$room/out"
         end=$(date +%s%N)
         micros=$(((end - start) / 1000))
         [ -n "$best" ] && [ "$best" -le "$micros" ] || best=$micros
