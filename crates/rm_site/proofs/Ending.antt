@@ -17,10 +17,10 @@ use Rattle.rm_machine.specs.Rest.{Rest, at_rest, catalog_in}
 use Rattle.rm_machine.specs.Saving.{IsSavedAs, IsSavedBy, SitePart, made_of, object_of, parts_of, with_ids, with_site}
 use Rattle.rm_machine.specs.declared.state.State.{State}
 use Rattle.rm_machine.specs.State.{ledger}
-use Rattle.rm_machine.proofs.Dropping.{IsNoSite, no-site}
+use Rattle.rm_machine.proofs.Dropping.{IsNoSite}
 use Rattle.rm_session.proofs.Resting.{rests as saved-rests}
 use Rattle.rm_frame.specs.Holds.{Holds, HoldsRest, Stands, View, records, saved_in}
-use Rattle.rm_frame.specs.Loose.{IsNamedIn, of_object, of_part}
+use Rattle.rm_frame.specs.Loose.{IsNamedIn}
 use Rattle.rm_frame.specs.Saves.{IsEnded, Saves, StopsSaving}
 use Rattle.rm_frame.specs.Stopped.{IsLeft}
 use Rattle.rm_frame.proofs.Halting.{StaysUnder, is-left, left, left-holds, no-part, rests}

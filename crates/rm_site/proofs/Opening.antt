@@ -1,5 +1,5 @@
 -- What opening a site finds.
-use Rattle.std.proofs.Common.{◌≡◌, ◌∙◌, ℕ, List, [], Option, Some, None, IfSome, refl, ap, rules, sym, subst}
+use Rattle.std.proofs.Common.{◌≡◌, ◌∙◌, List, Option, Some, None, IfSome, refl, ap, rules, sym, subst}
 use Rattle.std.specs.Prelude.{Result, Ok, Err, IfErr, IsErrAnd, IsPermutation, true, false}
 use Rattle.std.proofs.lemmas.List.Elements.{All-nil}
 use Rattle.std.proofs.lemmas.List.Sorted.{IsPermutation-sym, IsPermutation-trans}
@@ -10,20 +10,20 @@ use Rattle.rm_catalog.specs.declared.catalog.CatalogFault.TheVariants as catalog
 use Rattle.rm_catalog.specs.declared.record.Record.{Record}
 use Rattle.rm_catalog.specs.Faults.{Answers, IsBadRow, IsTaken}
 use Rattle.rm_catalog.specs.Keys.{InOrder}
-use Rattle.rm_catalog.specs.Rules.{IsCatalog, IsFirstBad, IsOrderOf, IsValid}
+use Rattle.rm_catalog.specs.Rules.{IsOrderOf, IsValid}
 use Rattle.rm_repository.specs.Loading.{records_in}
 use Rattle.rm_repository.specs.Repository.{Repository, all_records}
 use Rattle.rm_repository.proofs.Valid.{repository-valid}
 use Rattle.rm_machine.specs.Loading.{IsLoaded}
 use Rattle.rm_machine.specs.Machine.{Machine}
-use Rattle.rm_machine.specs.Rest.{HaveParts, IsSoundRest, IsSoundRestBy, PartsTell, Rest, Wakes, at_rest, catalog_in}
+use Rattle.rm_machine.specs.Rest.{HaveParts, IsSoundRest, IsSoundRestBy, Rest, Wakes, catalog_in}
 use Rattle.rm_machine.specs.Sound.{IsSound}
 use Rattle.rm_machine.specs.declared.state.State.{State}
 use Rattle.rm_session.specs.declared.fault.SessionFault.{SessionFault}
 use Rattle.rm_session.specs.declared.fault.SessionFault.TheVariants as session
 use Rattle.rm_session.proofs.Recorded.{one-catalog}
 use Rattle.rm_session.proofs.Waking.{waking-sound}
-use Rattle.rm_frame.specs.Holds.{Holds, HoldsRest, Stands, View, saved_in}
+use Rattle.rm_frame.specs.Holds.{HoldsRest, View, saved_in}
 use Rattle.rm_site.specs.Faults.{IsBadFirst, fault_at, fault_in}
 use Rattle.rm_site.specs.Opens.{AreValid, Opens}
 
