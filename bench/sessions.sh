@@ -1,9 +1,10 @@
 #!/usr/bin/env bash
 # Tells what sessions of PROGRAM (./rman) cost, over a folder and a catalog file below TMPDIR:
 #     bench/sessions.sh [PROGRAM]
-# A session of 1,000 WRITEs beside 1,000 bare transactions of the sqlite3 shell, each of which puts three rows of as many
-# bytes; and the opening of a catalog of 65,536 records beside that of one of four. A figure is the shortest of five runs.
-# The catalog of 65,536 records is one of marks, which sqlite3 writes. It needs sqlite3.
+# A session of 1,000 WRITEs, each of which puts the base facts with its moment, beside 1,000 bare transactions of the sqlite3
+# shell, each of which puts a row of as many bytes, by a write-ahead log and one flush as ours; and the opening of a catalog of
+# 65,536 records beside that of one of few. A figure is the shortest of five runs. The many records are marks, which sqlite3
+# writes.
 set -euo pipefail
 cd "$(dirname "$0")/.."
 program=${1:-./rman}
@@ -48,8 +49,8 @@ writes() {
 }
 
 transactions() {
-    echo 'CREATE TABLE t (k INTEGER PRIMARY KEY, body BLOB NOT NULL) STRICT;'
-    awk 'BEGIN { for (i = 0; i < 1000; i++) print "BEGIN; INSERT OR REPLACE INTO t VALUES (1, zeroblob(50)), (2, zeroblob(24)), (3, zeroblob(24)); COMMIT;" }'
+    echo 'PRAGMA journal_mode = WAL; PRAGMA synchronous = FULL; CREATE TABLE t (k INTEGER PRIMARY KEY, body BLOB NOT NULL) STRICT;'
+    awk 'BEGIN { for (i = 0; i < 1000; i++) print "BEGIN; INSERT OR REPLACE INTO t VALUES (1, randomblob(31)); COMMIT;" }'
 }
 
 echo 'SHOW ALL;' > "$room/show"
@@ -61,7 +62,7 @@ bare=
 for _ in 1 2 3 4 5; do
     rm -f "$room/bare"*
     start=$(date +%s%N)
-    sqlite3 "$room/bare" < "$room/transactions"
+    sqlite3 "$room/bare" < "$room/transactions" > /dev/null
     end=$(date +%s%N)
     micros=$(((end - start) / 1000))
     [ -n "$bare" ] && [ "$bare" -le "$micros" ] || bare=$micros
