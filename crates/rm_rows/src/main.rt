@@ -21,10 +21,13 @@
 //! | `-- words WORD ..` | the program's words, which else are `--store DIR --catalog FILE` |
 //! | `-- channels N` | the words `--channels N` follow the others |
 //! | `-- session` | another script begins, over the store and the keeper that the last run left, whose calls go on to count |
+//! | `-- record KIND ID HEX ..` | the keeper that the last run left has this record, of these fields |
+//! | `-- drop KIND ID` | it has no record of this key |
 //! | `-- object NAME N HEX` | the last run left an object of this name of N bytes, which begin so |
 #![tactic(auto)]
 
 mod calls;
+mod digits;
 mod row;
 mod trial;
 

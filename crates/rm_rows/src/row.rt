@@ -1,8 +1,9 @@
 //! A row, read line by line.
 use crate::calls::{Calls, call_of};
+use crate::digits::record_of;
 use crate::trial::{ROOM, Trial, object};
 use rm_base::{MemStore, NoMemory, Text};
-use rm_catalog::MemKeeper;
+use rm_catalog::{Edit, Keeper, Key, MemKeeper};
 use std::alloc::{AllocError, AllocFailed, Global};
 
 /// Why a row did not come out as it says.
@@ -103,6 +104,11 @@ impl Row {
                 self.add_words(words)
             }
             ["channels", count] => self.add_words(&["--channels", count]),
+            ["record", kind, id, fields @ ..] => self.put_record(kind, id, fields),
+            ["drop", kind, id] => {
+                let key = self.key(kind, id)?;
+                self.apply(Edit::Drop(key))
+            }
             ["session"] => {
                 self.script.clear();
                 self.written.clear();
@@ -197,6 +203,36 @@ impl Row {
         match &mut self.site {
             Some((store, _)) => object(self.alloc, store, name, len, head),
             None => self.differs("no run before"),
+        }
+    }
+
+    // The key of a record.
+    fn key(&self, kind: &str, id: &str) -> Result<Key, Fault> {
+        let kind = u8::try_from(self.number(kind)?);
+        let id = u32::try_from(self.number(id)?);
+        match (kind, id) {
+            (Ok(kind), Ok(id)) => Ok(Key { kind, id }),
+            _ => self.differs("not a key"),
+        }
+    }
+
+    // The keeper has this record.
+    fn put_record(&mut self, kind: &str, id: &str, fields: &[&str]) -> Result<(), Fault> {
+        let key = self.key(kind, id)?;
+        match record_of(self.alloc, key, fields)? {
+            Some(record) => self.apply(Edit::Put(record)),
+            None => self.differs("not a record"),
+        }
+    }
+
+    // The keeper that the last run left has one edit more.
+    fn apply(&mut self, edit: Edit) -> Result<(), Fault> {
+        let Some((_, keeper)) = &mut self.site else {
+            return self.differs("no run before");
+        };
+        match keeper.apply(&[edit]) {
+            Ok(()) => Ok(()),
+            Err(_) => self.differs("the keeper failed"),
         }
     }
 }
