@@ -32,6 +32,7 @@ pub mod Leading
 pub mod Losing
 pub mod LosingLog
 pub mod Losses
+pub mod LostLogs
 pub mod Mounting
 pub mod Numbers
 pub mod Opened

@@ -4,6 +4,7 @@ ghost use Rattle.std.specs.Option.{option_copied};
 ghost use Rattle.rm_base.specs.Numbers.{last_scn};
 ghost use Rattle.rm_history.specs.Tree.{IsThere, end_of};
 ghost use Rattle.rm_history.specs.World.{exists, file_of};
+ghost use Rattle.rm_machine.specs.Loading.{has_lost};
 ghost use Rattle.rm_machine.specs.Mount.{first_lost};
 ghost use Rattle.rm_machine.specs.Sound.{IsSound};
 ghost use Rattle.rm_machine.specs.State.{current_of, datafile_at, ledger, now_of, on_path, placed, redo_end, tree, world};
@@ -12,6 +13,7 @@ use crate::state::State;
 use rm_base::{FileNo, IncNo, Scn, ThreadNo};
 use rm_blocks::DataFile;
 use rm_history::Datafile;
+use rm_redo::OnlineLogs;
 
 // The SCN up to which an incarnation is known; 0 for one that is not there.
 fn end_of(state: &State, inc: IncNo) -> Scn
@@ -100,6 +102,18 @@ pub fn is_thread(state: &State, thread: u64) -> bool
     ensures most { IsTrue result → thread ≤ 4 }
 {
     thread != 0 && thread <= u64::from(threads(state))
+}
+
+/// Whether one of the online logs is lost.
+pub fn has_lost(logs: &OnlineLogs) -> bool
+    ensures { result ≡ has_lost logs.now }
+{
+    for thread in 1..=logs.threads() {
+        if logs.is_lost(thread) {
+            return true;
+        }
+    }
+    false
 }
 
 /// The least datafile that exists at the address (i, s) and is lost.

@@ -1,4 +1,3 @@
 pub mod Accepted
 pub mod Lines
-pub mod LostLogs
 pub mod Places

@@ -1,6 +1,5 @@
 //! ALTER DATABASE OPEN
 ghost use Rattle.std.specs.Prelude.{◌≡◌, IfOk, None, OnOk, Option};
-ghost use Rattle.std.specs.List.{list_any};
 ghost use Rattle.rm_base.specs.Store.{Held};
 ghost use Rattle.rm_statement.specs.declared.command.Command.TheVariants.{OpenPlain};
 ghost use Rattle.rm_machine.specs.Hands.{Hands};
@@ -9,26 +8,13 @@ ghost use Rattle.rm_machine.specs.Sound.{IsSound};
 
 use crate::place::keep_in_place;
 use rm_base::{NoMemory, Refusal, Scn, Seq};
-use rm_machine::facts::now;
+use rm_machine::facts::{has_lost, now};
 use rm_machine::handed::of_line;
 use rm_machine::room::ids_refusal;
 use rm_machine::{Handed, State};
-use rm_redo::OnlineLogs;
 use rm_report::Line;
 use std::alloc::Global;
 use std::mem;
-
-// Whether an online log is lost.
-fn is_any_lost(logs: &OnlineLogs) -> bool
-    ensures { result ≡ list_any (λ l. l.is_lost) logs.now.threads }
-{
-    for thread in 1..=logs.threads() {
-        if logs.is_lost(thread) {
-            return true;
-        }
-    }
-    false
-}
 
 // Whether the database can be opened as it is.
 fn is_recovered(state: &State) -> bool
@@ -37,7 +23,7 @@ fn is_recovered(state: &State) -> bool
 {
     let instance = &state.instance;
     instance.point == Some(now(state))
-        && !is_any_lost(&instance.logs)
+        && !has_lost(&instance.logs)
         && instance.logs.inc() == state.catalog.base().current
 }
 

@@ -5,7 +5,6 @@ pub mod Goods
 pub mod Ids
 pub mod Loads
 pub mod Lost
-pub mod LostLogs
 pub mod OneByOne
 pub mod OneWay
 pub mod OnlineParts

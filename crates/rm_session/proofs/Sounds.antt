@@ -23,7 +23,7 @@ use Rattle.rm_repository.specs.Facts.{IsRepository}
 use Rattle.rm_repository.specs.Repository.{Saved}
 use Rattle.rm_session.specs.Fit.{AllAt, IsFit, IsFitFile, IsFitLog, LogFitsAt, StandNow}
 use Rattle.rm_session.proofs.Firsts.{first-is, fit-each}
-use Rattle.rm_session.proofs.LostLogs.{lost-found}
+use Rattle.rm_machine.proofs.LostLogs.{lost-found}
 use Rattle.rm_session.proofs.Orders.{in-order, not-level1}
 
 -- a datafile that stands at its own checkpoint is itself

@@ -7,9 +7,10 @@ ghost use Rattle.rm_session.specs.Fit.{IsFit, IsHad};
 
 use crate::fault::SessionFault;
 use crate::files::load_files;
-use crate::threads::{has_lost, load_logs, online_of};
+use crate::threads::{load_logs, online_of};
 use rm_base::{NoMemory, Seq, Store};
 use rm_machine::Instance;
+use rm_machine::facts::has_lost;
 use rm_redo::OnlineLogs;
 use rm_repository::{Catalog, Saved};
 use std::alloc::Global;

@@ -2,7 +2,7 @@
 ghost use Rattle.std.specs.Prelude.{◌≡◌, ◌↔◌, ◌<◌, ◌≤◌, All, IfOk, IfSome, IsErrOf, IsTrue, length, map};
 ghost use Rattle.std.specs.Option.{option_copied};
 ghost use Rattle.rm_base.specs.Outside.{Rose};
-ghost use Rattle.rm_machine.specs.Loading.{IsTheOne, has_lost, inc_of_first, online_of, where_of};
+ghost use Rattle.rm_machine.specs.Loading.{IsTheOne, inc_of_first, online_of, where_of};
 ghost use Rattle.rm_machine.specs.Saved.{FitsOnline, IsGoodLog, IsOfBlock, thread_part};
 ghost use Rattle.rm_redo.specs.LogFormat.{IsLogFile};
 ghost use Rattle.rm_repository.specs.Facts.{IsRepository};
@@ -174,16 +174,4 @@ pub(crate) fn online_of(
     let inc = inc_of_first(base.current, logs.as_slice());
     let kept = all_of(alloc, inc, logs)?;
     OnlineLogs::from_logs(alloc, base.dbid, inc, kept)
-}
-
-/// Whether one of the logs is lost.
-pub(crate) fn has_lost(logs: &OnlineLogs) -> bool
-    ensures { result ≡ has_lost logs.now }
-{
-    for thread in 1..=logs.threads() {
-        if logs.is_lost(thread) {
-            return true;
-        }
-    }
-    false
 }

@@ -2,8 +2,8 @@ use Rattle.std.proofs.Common.{◌≤◌, ◌∙◌, ap, sym, arith, length}
 use Rattle.std.specs.List.{list_any}
 use Rattle.std.proofs.lemmas.List.{take_all}
 use Rattle.rm_redo.specs.Online.{IsThread, IsLost}
-use Rattle.rm_modes.proofs.LostLogs.{lost-more, lost-found}
-use Rattle.rm_modes.proofs.opening.is_any_lost.Goals as goal
+use Rattle.rm_machine.proofs.LostLogs.{lost-more, lost-found}
+use Rattle.rm_machine.proofs.facts.has_lost.Goals as goal
 
 pub returns-then-is_lost : goal.returns-then-is_lost
 returns-then-is_lost c =
