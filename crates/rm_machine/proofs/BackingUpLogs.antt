@@ -40,7 +40,7 @@ use Rattle.rm_machine.specs.declared.state.State.{State}
 use Rattle.rm_machine.specs.State.{ledger, tree, world}
 use Rattle.rm_machine.proofs.Agreeing.{log-agrees}
 use Rattle.rm_machine.proofs.Archives.{puts-rest, with_puts}
-use Rattle.rm_machine.proofs.BackingUp.{HasRoom}
+use Rattle.rm_machine.proofs.Left.{HasRoom}
 use Rattle.rm_machine.proofs.Further.{roomy-either}
 use Rattle.rm_machine.proofs.Kept.{kept-on, stand-same}
 use Rattle.rm_machine.proofs.Later.{borne-beside}

@@ -5,7 +5,7 @@ use Rattle.rm_base.specs.declared.block.Change.{Change}
 use Rattle.rm_base.specs.declared.refusal.Refusal.{Refusal}
 use Rattle.rm_machine.specs.Effect.{Effect, LeavesObjects, Made, Outcome, done, told}
 use Rattle.rm_statement.specs.declared.command.Command.{Command}
-use Rattle.rm_statement.specs.declared.command.Command.TheVariants.{Recover, RecoverTest}
+use Rattle.rm_statement.specs.declared.command.Command.TheVariants.{Recover}
 use Rattle.rm_report.specs.declared.line.Line.{Line}
 use Rattle.rm_machine.specs.Laws.{LeadsOn, StaysSound, TellsOn}
 use Rattle.rm_machine.specs.Machine.{Machine, IsSoundBy, IsBorneOut, DigestsTellFor, TellBy}
@@ -23,7 +23,7 @@ pub done-by : (r : Option Refusal) (s : State) (held : Held) (c : Command) (said
 done-by (Some r) s held c said e t is = absurd (cc)
 done-by None s held c said e t is = (refl, is)
 
--- what is to be shown of a statement, and, of one of which the history says more, that too
+-- what is to be shown of a statement, and, of one of which more is known, that too
 abbrev pub ShownBy : Command → Type 0 → Type 0 → Type 0
 ShownBy (Recover until) stands means = stands × means
 ShownBy _ stands means = stands
@@ -33,19 +33,17 @@ LeadsOnBy c =
     (s : State) (h : List Change) (objects : Held) (made : List Made) (touched : List (List ℕ)) (said : List Line) (e : Effect) (t : State) (after : Held)
     → IsStatement c → IsBorneOut s h objects made touched → DigestsTellFor objects made touched (ledger s)
     → refusal_of s c ≡ None → IsDone s objects c (done said e t) → LeavesObjects e objects after
-    → ShownBy c (IsBorneOut t (h ++ e.changes) after (made ++ e.made) (names_in c ++ touched)) (Means (Some s) h c (done said e t))
+    → ShownBy c (IsBorneOut t (h ++ e.changes) after (made ++ e.made) (names_in c ++ touched)) (Means (Some s) h objects c (done said e t) after)
 
 -- both, of each statement
-shown : (c : Command) (o : Option State) (h : List Change) (said : List Line) (e : Effect) (t : State) (stands : Type 0) → ShownBy c stands (Means o h c (done said e t)) → stands × Means o h c (done said e t)
-shown (Recover until) o h said e t stands both = both
-shown _ None h said e t stands is = (is, tt)
-shown _ (Some s) h said e t stands is = (is, tt)
+shown : (c : Command) (s : State) (h : List Change) (held : Held) (said : List Line) (e : Effect) (t : State) (after : Held) (stands : Type 0) → ShownBy c stands (Means (Some s) h held c (done said e t) after) → stands × Means (Some s) h held c (done said e t) after
+shown (Recover until) s h held said e t after stands both = both
+shown _ s h held said e t after stands is = (is, tt)
 
--- what the history says of the database at its moment it says of it before
-means-later : (c : Command) (s : State) (moment : ℕ) (h : List Change) (o : Outcome) → Means (Some (at_moment s moment)) h c o → Means (Some s) h c o
-means-later (Recover until) s moment h (done said e t) means = means
-means-later (RecoverTest until inc) s moment h (told lines) means = means
-means-later _ s moment h o means = tt
+-- what is known of the objects that the effect leaves is known of them without those of a saved site
+means-beside : (c : Command) (s : State) (h : List Change) (held : Held) (said : List Line) (e : Effect) (t : State) (after last : Held) → Means (Some s) h held c (done said e t) after → Means (Some s) h held c (done said e t) last
+means-beside (Recover until) s h held said e t after last means = means
+means-beside _ s h held said e t after last means = tt
 
 pub leads : (c : Command) → LeadsOnBy c → LeadsOn c
 leads c law m s moment said e t after well is sound tell at goes effect =
@@ -57,11 +55,11 @@ leads c law m s moment said e t after well is sound tell at goes effect =
     let both = done-by (refusal_of begun c) begun m.objects c said e t goes in
     let n : Machine = record { state = Some t; history = m.history ++ e.changes; objects = after; made = m.made ++ e.made; touched = names_in c ++ m.touched } in
     let first : Held = left_by s e m.objects after effect in
-    let on = shown c (Some begun) m.history said e t (IsBorneOut t n.history first n.made n.touched)
+    let on = shown c begun m.history m.objects said e t first (IsBorneOut t n.history first n.made n.touched)
     (law begun m.history m.objects m.made m.touched said e t first well stands tells both.0 both.1 (leaves-first s e m.objects after effect)) in
     let borne = borne-beside t n.history first after n.made n.touched n.touched on.0 (stand-beyond s e m.objects after effect n.touched (ledger t)) in
     let leaves : LeavesObjects (and_drops m.state e) m.objects after = subst (λ o. LeavesObjects (and_drops o e) m.objects after) (sym is) effect in
-    let means : Means m.state m.history c (done said e t) = subst (λ o. Means o m.history c (done said e t)) (sym is) (means-later c s moment m.history (done said e t) on.1) in
+    let means : Means (Some begun) m.history m.objects c (done said e t) after = means-beside c begun m.history m.objects said e t first after on.1 in
     (n, (refl, record { state = refl; history = refl; objects = leaves; made = refl; touched = refl }, means), refl, borne)
 
 -- what tells was not refused
@@ -74,7 +72,7 @@ abbrev pub TellsOnBy : Command → Type 0
 TellsOnBy c =
     (s : State) (h : List Change) (objects : Held) (made : List Made) (touched : List (List ℕ)) (lines : List Line)
     → IsStatement c → IsBorneOut s h objects made touched → DigestsTellFor objects made touched (ledger s)
-    → refusal_of s c ≡ None → IsDone s objects c (told lines) → Means (Some s) h c (told lines)
+    → refusal_of s c ≡ None → IsDone s objects c (told lines) → Means (Some s) h objects c (told lines) objects
 
 pub tells : (c : Command) → TellsOnBy c → TellsOn c
 tells c law m s moment lines well is sound tell at goes =
@@ -84,8 +82,7 @@ tells c law m s moment lines well is sound tell at goes =
     let known : DigestsTellFor m.objects m.made m.touched (ledger s) = subst (λ o. TellBy o m.objects m.made m.touched) is tell in
     let knows : DigestsTellFor m.objects m.made m.touched (ledger begun) = record { logs = known.logs; pieces = known.pieces } in
     let both = told-by (refusal_of begun c) begun m.objects c lines goes in
-    let means = law begun m.history m.objects m.made m.touched lines well stands knows both.0 both.1 in
-    (refl, refl, subst (λ o. Means o m.history c (told lines)) (sym is) (means-later c s moment m.history (told lines) means))
+    (refl, refl, law begun m.history m.objects m.made m.touched lines well stands knows both.0 both.1)
 
 -- and that it leaves a sound state, from a sound one
 abbrev pub StaysBy : Command → Type 0

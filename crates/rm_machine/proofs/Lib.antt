@@ -3,9 +3,7 @@ pub mod Agreeing
 pub mod Archives
 pub mod ArchivingAll
 pub mod AtHand
-pub mod BackingUp
 pub mod BackingUpLogs
-pub mod Backups
 pub mod BranchesSound
 pub mod Branching
 pub mod Choosing
@@ -25,9 +23,11 @@ pub mod FurtherLogs
 pub mod Gaps
 pub mod Grown
 pub mod Handing
+pub mod InPlace
 pub mod Kept
 pub mod LastMarks
 pub mod Later
+pub mod Left
 pub mod Leading
 pub mod Losing
 pub mod LosingLog
@@ -47,12 +47,14 @@ pub mod Recovering
 pub mod Restoring
 pub mod Settings
 pub mod Sizes
+pub mod Skipped
 pub mod Standing
 pub mod Switching
 pub mod Tags
 pub mod Taken
 pub mod Telling
 pub mod Told
+pub mod Untils
 pub mod Upkeep
 pub mod Writes
 pub mod WritesKeep

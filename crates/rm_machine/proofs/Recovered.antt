@@ -23,7 +23,9 @@ use Rattle.rm_report.specs.declared.line.Line.{Line}
 use Rattle.rm_machine.specs.Effect.{Effect, LeavesObjects, Made, done, told}
 use Rattle.rm_machine.specs.Machine.{DigestsTellFor, HistoryFits, IsBorneOut, RowsAre}
 use Rattle.rm_machine.specs.Recover.{BringsTo, RecoversTo, recovered, recover_refusal, recover_target}
-use Rattle.rm_machine.specs.RecoverTest.{TellsTo, TestsTo, test_refusal, test_target, tested}
+use Rattle.rm_machine.specs.RecoverTest.{TellsTo, TestsTo, is_no_incarnation, test_refusal, test_target, tested, tested_refusal}
+use Rattle.rm_machine.specs.Until.{thread_refusal}
+use Rattle.rm_machine.proofs.Untils.{second-none}
 use Rattle.rm_machine.specs.Recovery.{put_over}
 use Rattle.rm_machine.specs.Sound.{IsSound}
 use Rattle.rm_machine.specs.declared.state.State.{State}
@@ -117,7 +119,8 @@ there-by i n is = (grind (arith, nat_tests), grind (arith, nat_tests))
 pub tested-there : (s : State) (until : Option Until) (inc : Option ℕ) → test_refusal s until inc ≡ None → IsThere (tree s) (tested s inc)
 tested-there s until inc none =
     let i = tested s inc in
-    there-by i (length (tree s)) (unless ((i == 0) || nat_lt (length (tree s)) i) (Rm07 i) _ none).0
+    let after = second-none (thread_refusal s until) (tested_refusal s until i) none in
+    there-by i (length (tree s)) (unless (is_no_incarnation s i) (Rm07 i) _ after).0
 
 -- the lines are those of what the history made
 test-by : (o : Option ℕ) (i : ℕ) (s : State) (h : List Change) (objects : Held) (made : List Made) (touched : List (List ℕ)) (lines : List Line)

@@ -26,7 +26,10 @@ use Rattle.rm_known.specs.Known.{Seen, by_creation}
 use Rattle.rm_ledger.specs.Facts.{IsCreated}
 use Rattle.rm_plan.specs.Plan.{IsFileTarget}
 use Rattle.rm_apply.specs.Told.{AreFilesAt, IsTold}
-use Rattle.rm_machine.specs.Recover.{or_else, recovered, recover_refusal, recover_target, target_refusal}
+use Rattle.rm_machine.specs.Marks.{ids_refusal}
+use Rattle.rm_machine.specs.Recover.{recovered, recover_refusal, recover_target, target_refusal}
+use Rattle.rm_machine.specs.Until.{or_else, until_refusal}
+use Rattle.rm_machine.proofs.Untils.{until-none}
 use Rattle.rm_machine.specs.Recovery.{put_over, range_refusal}
 use Rattle.rm_machine.specs.Sound.{IsPlaced, IsPlacedRow, IsPoint, IsSound}
 use Rattle.rm_machine.specs.declared.state.State.{State}
@@ -64,8 +67,8 @@ in-range ns i at is = within at (reset_of ns i) (end_of ns i) (range-by (nat_lt 
 
 pub can-recover : (s : State) (until : Option Until) (at : ℕ) → recover_target s until ≡ Some at → recover_refusal s until ≡ None → CanRecover s at
 can-recover s until at is none =
-    let mode = mode-closed s.instance.is_open (option_and_then (target_refusal s) (recover_target s until)) none in
-    let target : target_refusal s at ≡ None = sym (ap (option_and_then (target_refusal s)) is) ∙ mode.1 in
+    let mode = mode-closed s.instance.is_open (until_refusal s (current_of s) until (target_refusal s) (ids_refusal s)) none in
+    let target : target_refusal s at ≡ None = until-none s (current_of s) until (target_refusal s) (ids_refusal s) at mode.1 is in
     let range = in-range (tree s) (current_of s) at (first-none (range_refusal (tree s) (current_of s) at) _ target) in
     record { closed = mode.0; low = range.0; high = range.1 }
 

@@ -1,7 +1,7 @@
--- BACKUP of datafiles: full or of level 0, without writes meanwhile
-use Rattle.std.specs.Prelude.{ℕ, ◌≡◌, ◌==◌, ◌&&◌, ◌+◌, ◌*◌, if◌then◌else◌, is_none, Bool, true, Option, Some, None, List, [], ◌∷◌, length, sum_by}
+-- BACKUP of datafiles: full, of level 0 or of level 1, without writes meanwhile
+use Rattle.std.specs.Prelude.{MatchBool, ℕ, ◌≡◌, ◌==◌, ◌&&◌, ◌||◌, ◌+◌, ◌*◌, not, if◌then◌else◌, is_none, unwrap_or, Bool, true, false, Option, Some, None, List, [], ◌∷◌, Contains, length, map, sum_by}
 use Rattle.std.specs.List.{find, list_any}
-use Rattle.std.specs.Option.{option_and_then, option_map_or}
+use Rattle.std.specs.Option.{option_and_then, option_map, option_map_or}
 use Rattle.sha2.specs.Sha256.{sha256}
 use Rattle.rm_base.specs.declared.block.Row.{Row}
 use Rattle.rm_base.specs.declared.kinds.Kind.{Kind}
@@ -11,6 +11,7 @@ use Rattle.rm_base.specs.declared.refusal.Absent.TheVariants.{File}
 use Rattle.rm_base.specs.declared.refusal.Limit.TheVariants.{Records, Bytes, ObjectIds}
 use Rattle.rm_base.specs.declared.refusal.Refusal.{Refusal}
 use Rattle.rm_base.specs.declared.refusal.Refusal.TheVariants.{Rm04, Rm05, Rm09, Rm11}
+use Rattle.rm_backup.specs.Parents.{IsParent}
 use Rattle.rm_catalog.specs.declared.record.PieceEntry.{PieceEntry}
 use Rattle.rm_change.specs.declared.change.Object.{Object}
 use Rattle.rm_statement.specs.declared.command.BackupForm.{BackupForm}
@@ -20,25 +21,23 @@ use Rattle.rm_history.specs.World.{exists, file_of}
 use Rattle.rm_moments.specs.Text.{IsTag}
 use Rattle.rm_objects.specs.Names.{piece_name}
 use Rattle.rm_piece.specs.declared.piece.Piece.{Piece}
+use Rattle.rm_piece.specs.Rows.{from_on}
 use Rattle.rm_piece.specs.Spelling.{spelling}
 use Rattle.rm_report.specs.declared.line.Line.{Line}
 use Rattle.rm_report.specs.declared.line.Line.TheVariants.{BackedUp, NothingToBackUp}
-use Rattle.rm_report.specs.declared.line.Shape.{Shape}
-use Rattle.rm_report.specs.declared.line.Shape.TheVariants as shape
 use Rattle.rm_repository.specs.Changes.{with_new_piece}
+use Rattle.rm_repository.specs.Repository.{records_of}
 use Rattle.rm_machine.specs.Effect.{Effect, Made, Outcome, a_piece, done, no_effect}
+use Rattle.rm_machine.specs.declared.job.Job.{Job}
+use Rattle.rm_machine.specs.Lists.{shape_by}
 use Rattle.rm_machine.specs.Marks.{lacks_bytes, lacks_ids, lacks_room}
 use Rattle.rm_machine.specs.declared.state.State.{State}
 use Rattle.rm_machine.specs.State.{ledger, world, current_of, now_of, on_path, placed}
+use Rattle.rm_machine.specs.Until.{or_else}
 
--- a full backup or one of level 0
-abbrev pub is_plain_level : Option ℕ → Bool
-is_plain_level None = true
-is_plain_level (Some n) = n == 0
-
--- the form is built: a full backup or one of level 0, without writes meanwhile
+-- the form is built: nothing is written meanwhile
 abbrev pub is_built_backup : BackupForm → Bool
-is_built_backup b = is_plain_level b.level && is_none b.during
+is_built_backup b = is_none b.during
 
 -- it asks for the datafile of this number: it names it, or it names none and asks for all
 abbrev pub asks_for : BackupForm → ℕ → Bool
@@ -89,28 +88,57 @@ backup_refusal s b =
 abbrev pub rows_in : State → ℕ → List Row
 rows_in s f = option_map_or (λ x. x.rows) (placed s f) []
 
--- LEVEL 0 makes a level 0, which a level 1 can build on
-abbrev pub kind_of : BackupForm → Kind
-kind_of b = if is_none b.level then kind.Full else kind.Level0
+-- it asks for a level 1
+abbrev pub is_level1 : BackupForm → Bool
+is_level1 b = option_map_or (λ n. not (n == 0)) b.level false
 
--- the same, as it is told
-abbrev pub shape_of : BackupForm → Shape
-shape_of b = if is_none b.level then shape.Full else shape.Level0
+-- Where the backup of a datafile begins: a level 1 at the checkpoint of its parent, if it has one. A full backup, a level 0, and
+-- a level 1 without a parent have all blocks.
+pub record HasParent (s : State) (b : BackupForm) (f : ℕ) (from : Option ℕ) : Type 0 where
+  pub parent : Option (ℕ × ℕ)
+  pub is : IsParent (records_of s.catalog) f b.cumulative b.merge_tag parent
+  pub begins : from ≡ option_map (λ p. p.1) parent
+
+abbrev pub BeginsAt : State → BackupForm → ℕ → Option ℕ → Type 0
+BeginsAt s b f from = MatchBool (is_level1 b) (HasParent s b f from) (from ≡ None)
+
+-- what is made of the datafiles that are backed up, by the records before the first of them is
+pub record AreJobs (s : State) (b : BackupForm) (jobs : List Job) : Type 0 where
+  pub files : map (λ j. j.file) jobs ≡ taken s b
+  pub begin : (j : Job) → Contains jobs j → BeginsAt s b j.file j.from
+
+-- of a level 1 its kind is told by its parent; LEVEL 0, and LEVEL 1 without a parent, make a level 0
+abbrev pub kind_by : BackupForm → Option ℕ → Kind
+kind_by b None = if is_none b.level then kind.Full else kind.Level0
+kind_by b (Some from) = kind.Level1
+
+-- it is an image copy: one is asked for, or a level 0 is made for the recovery of copies
+abbrev pub is_copy : BackupForm → Job → Bool
+is_copy b j = is_none j.from && (b.copy || not (is_none b.merge_tag))
+
+-- the rows that it has: those of a level 1 have versions at or above the checkpoint of its parent
+abbrev pub rows_from : Option ℕ → List Row → List Row
+rows_from None rows = rows
+rows_from (Some from) rows = from_on from rows
 
 -- the piece of a datafile: one read of each block at `now`, which is its checkpoint
-abbrev pub piece_of : State → Kind → ℕ → Piece
-piece_of s kind f =
+abbrev pub piece_of : State → BackupForm → Job → Piece
+piece_of s b j =
     record {
-      kind = kind;
+      kind = kind_by b j.from;
       dbid = (ledger s).base.dbid;
       inc = current_of s;
-      file = f;
-      blocks = length (rows_in s f);
-      from = 0;
+      file = j.file;
+      blocks = length (rows_in s j.file);
+      from = unwrap_or j.from 0;
       checkpoint = now_of s;
-      high = high_of (now_of s) (rows_in s f);
-      rows = rows_in s f;
+      high = high_of (now_of s) (rows_from j.from (rows_in s j.file));
+      rows = rows_from j.from (rows_in s j.file);
     }
+
+-- the tag that it names: that of the copies for whose recovery it is made, or its own
+abbrev pub named_tag : BackupForm → Option (List ℕ)
+named_tag b = or_else b.merge_tag b.tag
 
 -- the tag of a backup: the one that it names, or else that of its moment
 abbrev pub IsTagBy : Option (List ℕ) → ℕ → List ℕ → Type 0
@@ -118,11 +146,11 @@ IsTagBy (Some name) moment tag = tag ≡ name
 IsTagBy None moment tag = IsTag moment tag
 
 -- the record of a piece, under this id
-abbrev pub piece_entry : BackupForm → List ℕ → ℕ → ℕ → Piece → PieceEntry
-piece_entry b tag moment id a =
+abbrev pub piece_entry : Bool → Bool → List ℕ → ℕ → ℕ → Piece → PieceEntry
+piece_entry copy keep tag moment id a =
     record {
       id = id;
-      copy = b.copy;
+      copy = copy;
       kind = a.kind;
       inc = a.inc;
       file = a.file;
@@ -133,45 +161,45 @@ piece_entry b tag moment id a =
       size = length (spelling a);
       sha = sha256 (spelling a);
       status = Available;
-      keep = b.keep;
+      keep = keep;
       tag = tag;
       moment = moment;
     }
 
 -- the record that a datafile gets, under the next id
-abbrev pub entry_of : State → BackupForm → List ℕ → ℕ → PieceEntry
-entry_of s b tag f = piece_entry b tag (ledger s).base.moment (ledger s).base.next_id (piece_of s (kind_of b) f)
+abbrev pub entry_of : State → BackupForm → List ℕ → Job → PieceEntry
+entry_of s b tag j = piece_entry (is_copy b j) b.keep tag (ledger s).base.moment (ledger s).base.next_id (piece_of s b j)
 
 -- the piece as an artefact, its object, and its line: each block is read
-abbrev pub made_piece : State → BackupForm → ℕ → Made
-made_piece s b f = record { name = piece_name b.copy (ledger s).base.next_id; artefact = a_piece (piece_of s (kind_of b) f) }
+abbrev pub made_piece : State → BackupForm → Job → Made
+made_piece s b j = record { name = piece_name (is_copy b j) (ledger s).base.next_id; artefact = a_piece (piece_of s b j) }
 
-abbrev pub piece_object : State → BackupForm → ℕ → Object
-piece_object s b f = record { name = piece_name b.copy (ledger s).base.next_id; bytes = spelling (piece_of s (kind_of b) f) }
+abbrev pub piece_object : State → BackupForm → Job → Object
+piece_object s b j = record { name = piece_name (is_copy b j) (ledger s).base.next_id; bytes = spelling (piece_of s b j) }
 
-abbrev pub piece_line : State → BackupForm → ℕ → Line
-piece_line s b f = BackedUp b.copy (ledger s).base.next_id f (shape_of b) (now_of s) (length (rows_in s f)) (length (rows_in s f))
+abbrev pub piece_line : State → BackupForm → Job → Line
+piece_line s b j = BackedUp (is_copy b j) (ledger s).base.next_id j.file (shape_by (kind_by b j.from) (unwrap_or j.from 0)) (now_of s) (length (rows_from j.from (rows_in s j.file))) (length (rows_in s j.file))
 
 -- the database after the piece of a datafile is recorded
-abbrev pub after_file : State → BackupForm → List ℕ → ℕ → State
-after_file s b tag f = record s { catalog = with_new_piece s.catalog (entry_of s b tag f) }
+abbrev pub after_file : State → BackupForm → List ℕ → Job → State
+after_file s b tag j = record s { catalog = with_new_piece s.catalog (entry_of s b tag j) }
 
 -- after those of these datafiles, one after another, with what is made, the objects and the lines
-abbrev pub after_files : State → BackupForm → List ℕ → List ℕ → State
+abbrev pub after_files : State → BackupForm → List ℕ → List Job → State
 after_files s b tag [] = s
-after_files s b tag (f ∷ fs) = after_files (after_file s b tag f) b tag fs
+after_files s b tag (j ∷ js) = after_files (after_file s b tag j) b tag js
 
-abbrev pub made_of : State → BackupForm → List ℕ → List ℕ → List Made
+abbrev pub made_of : State → BackupForm → List ℕ → List Job → List Made
 made_of s b tag [] = []
-made_of s b tag (f ∷ fs) = made_piece s b f ∷ made_of (after_file s b tag f) b tag fs
+made_of s b tag (j ∷ js) = made_piece s b j ∷ made_of (after_file s b tag j) b tag js
 
-abbrev pub puts_of : State → BackupForm → List ℕ → List ℕ → List Object
+abbrev pub puts_of : State → BackupForm → List ℕ → List Job → List Object
 puts_of s b tag [] = []
-puts_of s b tag (f ∷ fs) = piece_object s b f ∷ puts_of (after_file s b tag f) b tag fs
+puts_of s b tag (j ∷ js) = piece_object s b j ∷ puts_of (after_file s b tag j) b tag js
 
-abbrev pub lines_of : State → BackupForm → List ℕ → List ℕ → List Line
+abbrev pub lines_of : State → BackupForm → List ℕ → List Job → List Line
 lines_of s b tag [] = []
-lines_of s b tag (f ∷ fs) = piece_line s b f ∷ lines_of (after_file s b tag f) b tag fs
+lines_of s b tag (j ∷ js) = piece_line s b j ∷ lines_of (after_file s b tag j) b tag js
 
 -- that no datafile is backed up is told
 abbrev pub or_nothing : List Line → List Line
@@ -179,12 +207,14 @@ or_nothing [] = NothingToBackUp ∷ []
 or_nothing (line ∷ lines) = line ∷ lines
 
 -- what pieces of these datafiles leave outside
-abbrev pub backing : State → BackupForm → List ℕ → List ℕ → Effect
-backing s b tag fs = record no_effect { made = made_of s b tag fs; puts = puts_of s b tag fs }
+abbrev pub backing : State → BackupForm → List ℕ → List Job → Effect
+backing s b tag js = record no_effect { made = made_of s b tag js; puts = puts_of s b tag js }
 
 -- It makes a piece of each datafile, all with one tag. A form that is not built comes to nothing.
 pub record IsBackupOutcome (s : State) (b : BackupForm) (o : Outcome) : Type 0 where
   pub built : is_built_backup b ≡ true
   pub tag : List ℕ
-  pub tagged : IsTagBy b.tag (ledger s).base.moment tag
-  pub is : o ≡ done (or_nothing (lines_of s b tag (taken s b))) (backing s b tag (taken s b)) (after_files s b tag (taken s b))
+  pub tagged : IsTagBy (named_tag b) (ledger s).base.moment tag
+  pub jobs : List Job
+  pub are : AreJobs s b jobs
+  pub is : o ≡ done (or_nothing (lines_of s b tag jobs)) (backing s b tag jobs) (after_files s b tag jobs)

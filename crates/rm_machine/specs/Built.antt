@@ -1,9 +1,8 @@
 -- The statements that are built.
 use Rattle.std.specs.Prelude.{Bool, true, false}
 use Rattle.rm_statement.specs.declared.command.Command.{Command}
-use Rattle.rm_statement.specs.declared.command.Command.TheVariants.{ChangeBackup, CreateDatabase, CreateDatafile, Crosscheck, DeleteBackup, DeleteExpired, Write, SwitchLogfile, ArchiveLogCurrent, Mount, OpenPlain, OpenResetlogs, ResetDatabase, Restore, Preview, Recover, RecoverTest, Backup, BackupLogs, ListIncarnation, ListBackup, ListCopy, ListArchived, ReportSchema, ShowAll, ValidateAll, Dump, Retention, Parallelism, LoseDatafile, LoseLog, Remove, Damage, Cut, Rename}
+use Rattle.rm_statement.specs.declared.command.Command.TheVariants.{ChangeBackup, CreateDatabase, CreateDatafile, Crosscheck, DeleteBackup, DeleteExpired, DeleteObsolete, Write, SwitchLogfile, ArchiveLogCurrent, Mount, OpenPlain, OpenResetlogs, ResetDatabase, Restore, Preview, Recover, RecoverCopy, RecoverTest, Backup, BackupLogs, ListIncarnation, ListBackup, ListCopy, ListArchived, ReportNeedBackup, ReportObsolete, ReportSchema, ShowAll, ValidateAll, Dump, Retention, Parallelism, LoseDatafile, LoseLog, Remove, Damage, Cut, Rename}
 use Rattle.rm_machine.specs.Backup.{is_built_backup}
-use Rattle.rm_machine.specs.Recovery.{is_built_until}
 
 -- The machine has a step for the statement.
 abbrev pub is_built : Command → Bool
@@ -16,16 +15,19 @@ is_built Mount = true
 is_built OpenPlain = true
 is_built OpenResetlogs = true
 is_built (ResetDatabase inc) = true
-is_built (Restore file until) = is_built_until until
-is_built (Preview until) = is_built_until until
-is_built (Recover until) = is_built_until until
-is_built (RecoverTest until inc) = is_built_until until
+is_built (Restore file until) = true
+is_built (Preview until) = true
+is_built (Recover until) = true
+is_built (RecoverTest until inc) = true
+is_built (RecoverCopy tag until) = true
 is_built (Backup b) = is_built_backup b
 is_built BackupLogs = true
 is_built ListIncarnation = true
 is_built ListBackup = true
 is_built ListCopy = true
 is_built ListArchived = true
+is_built ReportObsolete = true
+is_built ReportNeedBackup = true
 is_built ReportSchema = true
 is_built ShowAll = true
 is_built ValidateAll = true
@@ -33,6 +35,7 @@ is_built (Crosscheck class) = true
 is_built (ChangeBackup id to) = true
 is_built (DeleteBackup id) = true
 is_built (DeleteExpired class) = true
+is_built DeleteObsolete = true
 is_built (Dump file block) = true
 is_built (Retention form) = true
 is_built (Parallelism channels) = true

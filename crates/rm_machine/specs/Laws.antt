@@ -3,7 +3,7 @@ use Rattle.std.specs.Prelude.{ℕ, ◌≡◌, ◌≤◌, Bool, true, false, Some
 use Rattle.rm_base.specs.Numbers.{last_moment}
 use Rattle.rm_base.specs.Store.{Held}
 use Rattle.rm_statement.specs.declared.command.Command.{Command}
-use Rattle.rm_statement.specs.declared.command.Command.TheVariants.{Dump, ListArchived, ListBackup, ListCopy, ListIncarnation, Preview, RecoverTest, ReportSchema, ShowAll, ValidateAll}
+use Rattle.rm_statement.specs.declared.command.Command.TheVariants.{Dump, ListArchived, ListBackup, ListCopy, ListIncarnation, Preview, RecoverTest, ReportNeedBackup, ReportObsolete, ReportSchema, ShowAll, ValidateAll}
 use Rattle.rm_report.specs.declared.line.Line.{Line}
 use Rattle.rm_report.specs.Reply.{said}
 use Rattle.rm_machine.specs.Effect.{Effect, LeavesObjects, done, told}
@@ -24,14 +24,14 @@ LeadsOn c =
     (m : Machine) (s : State) (moment : ℕ) (lines : List Line) (effect : Effect) (t : State) (after : Held)
     → IsStatement c → m.state ≡ Some s → IsSoundMachine m → DigestsTell m → IsMomentOf s moment
     → IsOutcome (at_moment s moment) m.objects c (done lines effect t) → LeavesObjects (and_drops (Some s) effect) m.objects after
-    → (n : Machine) × StepBy m c (done lines effect t) (said lines) n × (n.objects ≡ after) × IsSoundMachine n
+    → (n : Machine) × StepBy (Some (at_moment s moment)) m c (done lines effect t) (said lines) n × (n.objects ≡ after) × IsSoundMachine n
 
 -- Where digests tell, what a statement tells is a step of the machine, from a sound one to itself.
 abbrev pub TellsOn : Command → Type 0
 TellsOn c =
     (m : Machine) (s : State) (moment : ℕ) (lines : List Line)
     → IsStatement c → m.state ≡ Some s → IsSoundMachine m → DigestsTell m → IsMomentOf s moment
-    → IsOutcome (at_moment s moment) m.objects c (told lines) → StepBy m c (told lines) (said lines) m
+    → IsOutcome (at_moment s moment) m.objects c (told lines) → StepBy (Some (at_moment s moment)) m c (told lines) (said lines) m
 
 -- Whatever the devices hold, and whatever was ever written, the statement leaves a sound state, and no saved site.
 abbrev pub StaysSound : Command → Type 0
@@ -49,6 +49,8 @@ only_tells ListIncarnation = true
 only_tells ListBackup = true
 only_tells ListCopy = true
 only_tells ListArchived = true
+only_tells ReportObsolete = true
+only_tells ReportNeedBackup = true
 only_tells ReportSchema = true
 only_tells ShowAll = true
 only_tells ValidateAll = true

@@ -17,11 +17,14 @@ pub mod LoseDatafile
 pub mod LoseLog
 pub mod Machine
 pub mod Marks
+pub mod Meant
 pub mod Mount
 pub mod Names
+pub mod Obsolete
 pub mod Open
 pub mod OpenResetlogs
 pub mod Recover
+pub mod RecoverCopy
 pub mod RecoverTest
 pub mod Recovery
 pub mod ResetDatabase
@@ -34,6 +37,7 @@ pub mod Sound
 pub mod State
 pub mod Step
 pub mod SwitchLogfile
+pub mod Until
 pub mod Upkeep
 pub mod Validate
 pub mod Write

@@ -1,6 +1,6 @@
--- RECOVER DATABASE [UNTIL SCN s]
+-- RECOVER DATABASE [UNTIL ..]
 use Rattle.std.specs.Prelude.{ℕ, ◌≡◌, if◌then◌else◌, false, Option, Some, None, List, [], ◌∷◌, ◌++◌, length}
-use Rattle.std.specs.Option.{option_and_then, option_map}
+use Rattle.std.specs.Option.{option_map}
 use Rattle.rm_base.specs.Store.{Held}
 use Rattle.rm_base.specs.declared.block.Change.{Change}
 use Rattle.rm_base.specs.declared.refusal.Refusal.{Refusal}
@@ -12,18 +12,14 @@ use Rattle.rm_report.specs.declared.line.Line.TheVariants.{Recovered as recovere
 use Rattle.rm_machine.specs.Effect.{Outcome, done, no_effect}
 use Rattle.rm_machine.specs.Marks.{ids_refusal}
 use Rattle.rm_machine.specs.Mount.{first_lost}
-use Rattle.rm_machine.specs.Recovery.{AreMadeAt, IsRecoveryOutcome, put_over, range_refusal, skipped_lines, target_of}
+use Rattle.rm_machine.specs.Recovery.{AreMadeAt, IsRecoveryOutcome, put_over, range_refusal, skipped_lines}
+use Rattle.rm_machine.specs.Until.{or_else, target_of, until_refusal}
 use Rattle.rm_machine.specs.declared.state.State.{State}
 use Rattle.rm_machine.specs.State.{ledger, tree, world, current_of}
 
--- the first option that has a value
-abbrev pub or_else : {X : Type 0} → Option X → Option X → Option X
-or_else None o = o
-or_else (Some x) o = Some x
-
 -- the SCN at which it stops
 abbrev pub recover_target : State → Option Until → Option ℕ
-recover_target s until = target_of (tree s) (current_of s) until
+recover_target s until = target_of s (current_of s) until
 
 -- a datafile of the target is lost: the first one
 abbrev pub lost_refusal : State → ℕ → Option Refusal
@@ -33,9 +29,11 @@ lost_refusal s at = option_map (λ f. Rm09 f) (first_lost (world s) (current_of 
 abbrev pub target_refusal : State → ℕ → Option Refusal
 target_refusal s at = or_else (range_refusal (tree s) (current_of s) at) (or_else (lost_refusal s at) (ids_refusal s))
 
--- why it is refused
+-- why it is refused: the mode, the target, or, where its UNTIL leads to none, too few ids before that
 abbrev pub recover_refusal : State → Option Until → Option Refusal
-recover_refusal s until = if s.instance.is_open then Some (Rm04 false) else option_and_then (target_refusal s) (recover_target s until)
+recover_refusal s until =
+    if s.instance.is_open then Some (Rm04 false)
+    else until_refusal s (current_of s) until (target_refusal s) (ids_refusal s)
 
 -- the database with these datafiles in place, and the target as its point
 abbrev pub recovered : State → ℕ → List File → State

@@ -1,6 +1,5 @@
--- RECOVER DATABASE [UNTIL SCN s] [INCARNATION i] TEST
+-- RECOVER DATABASE [UNTIL ..] [INCARNATION i] TEST
 use Rattle.std.specs.Prelude.{ℕ, ◌≡◌, ◌==◌, ◌||◌, nat_lt, if◌then◌else◌, Bool, Option, Some, None, List, [], ◌∷◌, ◌++◌, count_by, length, unwrap_or}
-use Rattle.std.specs.Option.{option_and_then}
 use Rattle.rm_base.specs.Store.{Held}
 use Rattle.rm_base.specs.declared.block.Change.{Change}
 use Rattle.rm_base.specs.declared.block.Row.{Row}
@@ -15,9 +14,10 @@ use Rattle.rm_history.specs.World.{creation_of}
 use Rattle.rm_report.specs.declared.line.Line.{Line}
 use Rattle.rm_report.specs.declared.line.Line.TheVariants.{UntilIs, FileIs, BlockIs}
 use Rattle.rm_machine.specs.Effect.{Outcome, told}
-use Rattle.rm_machine.specs.Recovery.{AreMadeAt, IsRecoveryOutcome, range_refusal, skipped_lines, target_of}
+use Rattle.rm_machine.specs.Recovery.{AreMadeAt, IsRecoveryOutcome, range_refusal, skipped_lines}
 use Rattle.rm_machine.specs.declared.state.State.{State}
 use Rattle.rm_machine.specs.State.{tree, world, current_of}
+use Rattle.rm_machine.specs.Until.{or_else, refusal_at, target_of, thread_refusal}
 
 -- the incarnation that it looks at: the one that it names, or the current one
 abbrev pub tested : State → Option ℕ → ℕ
@@ -25,13 +25,20 @@ tested s inc = unwrap_or inc (current_of s)
 
 -- the SCN at which it stops
 abbrev pub test_target : State → Option Until → Option ℕ → Option ℕ
-test_target s until inc = target_of (tree s) (tested s inc) until
+test_target s until inc = target_of s (tested s inc) until
 
--- why it is refused: the incarnation is not there, or the target is out of its range
+-- no incarnation has this number
+abbrev pub is_no_incarnation : State → ℕ → Bool
+is_no_incarnation s i = (i == 0) || nat_lt (length (tree s)) i
+
+-- why the incarnation is refused, or its target: it is not there, or the target is out of its range, or the UNTIL leads to none
+abbrev pub tested_refusal : State → Option Until → ℕ → Option Refusal
+tested_refusal s until i =
+    if is_no_incarnation s i then Some (Rm07 i) else refusal_at s i until (range_refusal (tree s) i) None
+
+-- why it is refused: the redo thread of its UNTIL, and then the incarnation
 abbrev pub test_refusal : State → Option Until → Option ℕ → Option Refusal
-test_refusal s until inc =
-    if (tested s inc == 0) || nat_lt (length (tree s)) (tested s inc) then Some (Rm07 (tested s inc))
-    else option_and_then (range_refusal (tree s) (tested s inc)) (test_target s until inc)
+test_refusal s until inc = or_else (thread_refusal s until) (tested_refusal s until (tested s inc))
 
 -- the block was written: its version lies above its datafile's creation
 abbrev pub is_written : ℕ → Row → Bool

@@ -8,15 +8,12 @@ use Rattle.rm_base.specs.declared.kinds.Bad.{Bad}
 use Rattle.rm_base.specs.declared.refusal.Refusal.{Refusal}
 use Rattle.rm_base.specs.declared.refusal.Refusal.TheVariants.{Rm06, Rm08}
 use Rattle.rm_blocks.specs.File.{File}
-use Rattle.rm_statement.specs.declared.command.Until.{Until}
-use Rattle.rm_statement.specs.declared.command.Until.TheVariants.{Scn}
 use Rattle.rm_evidence.specs.declared.evidence.Evidence.{Evidence}
 use Rattle.rm_evidence.specs.declared.evidence.InPlace.{InPlace}
 use Rattle.rm_evidence.specs.Gathered.{IsGathered}
 use Rattle.rm_history.specs.declared.tree.Incarnation.{Incarnation}
 use Rattle.rm_history.specs.declared.world.World.{World}
 use Rattle.rm_history.specs.State.{states}
-use Rattle.rm_history.specs.Tree.{end_of}
 use Rattle.rm_history.specs.World.{blocks_of}
 use Rattle.rm_plan.specs.declared.plan.Gap.{Gap}
 use Rattle.rm_plan.specs.Plan.{IsFileTarget}
@@ -30,19 +27,6 @@ use Rattle.rm_repository.specs.Repository.{records_of}
 use Rattle.rm_machine.specs.Effect.{Outcome, refused}
 use Rattle.rm_machine.specs.declared.state.State.{State}
 use Rattle.rm_machine.specs.State.{ledger, counted, online, is_lost}
-
--- no UNTIL, or one that is built
-abbrev pub is_built_until : Option Until → Bool
-is_built_until None = true
-is_built_until (Some (Scn at)) = true
-is_built_until (Some _) = false
-
--- The SCN at which a recovery of incarnation i stops: its UNTIL, or the end. None where the UNTIL is one that
--- is not built.
-abbrev pub target_of : List Incarnation → ℕ → Option Until → Option ℕ
-target_of ns i None = Some (end_of ns i)
-target_of ns i (Some (Scn at)) = Some at
-target_of ns i (Some _) = None
 
 -- why the target (i, at) is refused: it lies outside the incarnation
 abbrev pub range_refusal : List Incarnation → ℕ → ℕ → Option Refusal

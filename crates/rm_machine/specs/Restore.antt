@@ -1,6 +1,5 @@
--- RESTORE (DATABASE | DATAFILE f) [UNTIL SCN s], and RESTORE DATABASE [UNTIL SCN s] PREVIEW
+-- RESTORE (DATABASE | DATAFILE f) [UNTIL ..], and RESTORE DATABASE [UNTIL ..] PREVIEW
 use Rattle.std.specs.Prelude.{ℕ, ◌≡◌, is_none, if◌then◌else◌, false, Option, Some, None, List, [], ◌∷◌, ◌++◌, map}
-use Rattle.std.specs.Option.{option_and_then}
 use Rattle.rm_base.specs.Store.{Held}
 use Rattle.rm_base.specs.declared.kinds.Bad.{Bad}
 use Rattle.rm_base.specs.declared.refusal.Refusal.{Refusal}
@@ -21,10 +20,11 @@ use Rattle.rm_report.specs.declared.line.Line.TheVariants.{Complete, CreatedEmpt
 use Rattle.rm_repository.specs.Repository.{records_of}
 use Rattle.rm_machine.specs.Effect.{Outcome, done, no_effect, told}
 use Rattle.rm_machine.specs.Marks.{ids_refusal}
-use Rattle.rm_machine.specs.Recover.{or_else, recover_target}
+use Rattle.rm_machine.specs.Recover.{recover_target}
 use Rattle.rm_machine.specs.Recovery.{in_place, put_over, range_refusal, skipped_lines}
 use Rattle.rm_machine.specs.declared.state.State.{State}
 use Rattle.rm_machine.specs.State.{datafile_at, tree, world, current_of}
+use Rattle.rm_machine.specs.Until.{or_else, until_refusal}
 
 -- why a datafile is refused that is named: it does not exist at the target
 abbrev pub absent_refusal : State → ℕ → Option ℕ → Option Refusal
@@ -37,11 +37,13 @@ place_refusal s file at = or_else (absent_refusal s at file) (or_else (range_ref
 
 -- why RESTORE is refused
 abbrev pub restore_refusal : State → Option ℕ → Option Until → Option Refusal
-restore_refusal s file until = if s.instance.is_open then Some (Rm04 false) else option_and_then (place_refusal s file) (recover_target s until)
+restore_refusal s file until =
+    if s.instance.is_open then Some (Rm04 false)
+    else until_refusal s (current_of s) until (place_refusal s file) (ids_refusal s)
 
--- why PREVIEW is refused: the target is out of range
+-- why PREVIEW is refused: the target is out of range, or its UNTIL leads to none
 abbrev pub preview_refusal : State → Option Until → Option Refusal
-preview_refusal s until = option_and_then (range_refusal (tree s) (current_of s)) (recover_target s until)
+preview_refusal s until = until_refusal s (current_of s) until (range_refusal (tree s) (current_of s)) None
 
 -- from where a datafile is restored
 abbrev pub origin_line : ℕ → Origin → Line

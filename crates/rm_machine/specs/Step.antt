@@ -6,7 +6,7 @@ use Rattle.rm_base.specs.declared.kinds.Class.TheVariants as class
 use Rattle.rm_base.specs.declared.refusal.Refusal.{Refusal}
 use Rattle.rm_base.specs.declared.refusal.Refusal.TheVariants.{Rm02, Rm03}
 use Rattle.rm_statement.specs.declared.command.Command.{Command}
-use Rattle.rm_statement.specs.declared.command.Command.TheVariants.{ArchiveLogCurrent, Backup, BackupLogs, ChangeBackup, CreateDatabase, CreateDatafile, Crosscheck, Cut, Damage, DeleteBackup, DeleteExpired, Dump, ListArchived, ListBackup, ListCopy, ListIncarnation, LoseDatafile, LoseLog, Mount, OpenPlain, OpenResetlogs, Parallelism, Preview, Recover, RecoverTest, Remove, Rename, ReportSchema, ResetDatabase, Restore, Retention, ShowAll, SwitchLogfile, ValidateAll, Write}
+use Rattle.rm_statement.specs.declared.command.Command.TheVariants.{ArchiveLogCurrent, Backup, BackupLogs, ChangeBackup, CreateDatabase, CreateDatafile, Crosscheck, Cut, Damage, DeleteBackup, DeleteExpired, DeleteObsolete, Dump, ListArchived, ListBackup, ListCopy, ListIncarnation, LoseDatafile, LoseLog, Mount, OpenPlain, OpenResetlogs, Parallelism, Preview, Recover, RecoverCopy, RecoverTest, Remove, Rename, ReportNeedBackup, ReportObsolete, ReportSchema, ResetDatabase, Restore, Retention, ShowAll, SwitchLogfile, ValidateAll, Write}
 use Rattle.rm_statement.specs.IsCommand.{is_command}
 use Rattle.rm_report.specs.Reply as reply
 use Rattle.rm_report.specs.declared.line.Reply.{Reply}
@@ -26,9 +26,11 @@ use Rattle.rm_machine.specs.LoseLog.{lose_log_refusal, IsLoseLogOutcome}
 use Rattle.rm_machine.specs.Machine.{Machine, DigestsTell}
 use Rattle.rm_machine.specs.Marks.{ids_refusal}
 use Rattle.rm_machine.specs.Mount.{IsMountOutcome}
+use Rattle.rm_machine.specs.Obsolete.{IsDeleteObsoleteOutcome, IsNeedOutcome, IsReportOutcome}
 use Rattle.rm_machine.specs.Open.{open_refusal, IsOpenOutcome}
 use Rattle.rm_machine.specs.OpenResetlogs.{resetlogs_refusal, IsResetlogsOutcome}
 use Rattle.rm_machine.specs.Recover.{BringsTruly, IsRecoverOutcome, recover_refusal}
+use Rattle.rm_machine.specs.RecoverCopy.{recover_copy_refusal, IsRecoverCopyOutcome}
 use Rattle.rm_machine.specs.RecoverTest.{IsTestOutcome, TellsTruly, test_refusal}
 use Rattle.rm_machine.specs.ResetDatabase.{reset_refusal, IsResetOutcome}
 use Rattle.rm_machine.specs.Restore.{preview_refusal, restore_refusal, IsPreviewOutcome, IsRestoreOutcome}
@@ -67,11 +69,13 @@ refusal_of s (Restore file until) = restore_refusal s file until
 refusal_of s (Preview until) = preview_refusal s until
 refusal_of s (Recover until) = recover_refusal s until
 refusal_of s (RecoverTest until inc) = test_refusal s until inc
+refusal_of s (RecoverCopy tag until) = recover_copy_refusal s tag until
 refusal_of s (ResetDatabase i) = reset_refusal s i
 refusal_of s (Crosscheck class) = ids_refusal s
 refusal_of s (ChangeBackup n to) = record_refusal s n
 refusal_of s (DeleteBackup n) = record_refusal s n
 refusal_of s (DeleteExpired class) = ids_refusal s
+refusal_of s DeleteObsolete = ids_refusal s
 refusal_of s (Retention form) = retention_refusal s form
 refusal_of s (Parallelism channels) = parallelism_refusal s channels
 refusal_of s (LoseDatafile f) = lose_refusal s f
@@ -98,11 +102,15 @@ IsDone s held (Restore file until) o = IsRestoreOutcome s held file until o
 IsDone s held (Preview until) o = IsPreviewOutcome s held until o
 IsDone s held (Recover until) o = IsRecoverOutcome s held until o
 IsDone s held (RecoverTest until inc) o = IsTestOutcome s held until inc o
+IsDone s held (RecoverCopy tag until) o = IsRecoverCopyOutcome s held tag until o
 IsDone s held (ResetDatabase i) o = IsResetOutcome s i o
 IsDone s held (Crosscheck class) o = IsCrosscheckOutcome s held class o
 IsDone s held (ChangeBackup n to) o = IsChangeOutcome s n to o
 IsDone s held (DeleteBackup n) o = IsDeleteOutcome s n o
 IsDone s held (DeleteExpired class) o = IsDeleteExpiredOutcome s class o
+IsDone s held DeleteObsolete o = IsDeleteObsoleteOutcome s held o
+IsDone s held ReportObsolete o = IsReportOutcome s held o
+IsDone s held ReportNeedBackup o = IsNeedOutcome s held o
 IsDone s held ValidateAll o = IsValidateOutcome s held o
 IsDone s held ListIncarnation o = IsListIncarnationOutcome s o
 IsDone s held ListBackup o = IsListOutcome s class.Backup o
@@ -142,11 +150,12 @@ names_in (Cut name to) = name ∷ []
 names_in (Rename old new) = old ∷ new ∷ []
 names_in _ = []
 
--- what the history says beyond that of an outcome: what a recovery brings back or tells is what the history made
-abbrev pub Means : Option State → List Change → Command → Outcome → Type 0
-Means (Some s) h (Recover until) (done lines effect t) = BringsTruly h s until t
-Means (Some s) h (RecoverTest until inc) (told lines) = TellsTruly h s until inc lines
-Means _ h _ _ = Unit {0}
+-- what is known of an outcome beyond that, from the state on which the statement acts: what a recovery brings back or tells is what the
+-- history made
+abbrev pub Means : Option State → List Change → Held → Command → Outcome → Held → Type 0
+Means (Some s) h held (Recover until) (done lines effect t) after = BringsTruly h s until t
+Means (Some s) h held (RecoverTest until inc) (told lines) after = TellsTruly h s until inc lines
+Means _ h held _ _ after = Unit {0}
 
 -- What a statement does outside: its effect. The objects of a saved site go too, of which no record tells any longer.
 abbrev pub and_drops : Option State → Effect → Effect
@@ -161,15 +170,15 @@ pub record MachineFollows (m : Machine) (c : Command) (effect : Effect) (t : Sta
   pub made : n.made ≡ m.made ++ effect.made
   pub touched : n.touched ≡ names_in c ++ m.touched
 
--- a refusal is one line; it and what only tells change nothing
-abbrev pub StepBy : Machine → Command → Outcome → Reply → Machine → Type 0
-StepBy m c (refused r) said n = (said ≡ reply.refused_by r) × (n ≡ m)
-StepBy m c (told lines) said n = (said ≡ reply.said lines) × (n ≡ m) × Means m.state m.history c (told lines)
-StepBy m c (done lines effect t) said n = (said ≡ reply.said lines) × MachineFollows m c effect t n × Means m.state m.history c (done lines effect t)
+-- From the machine m, whose statement acts on this state. A refusal is one line; it and what only tells change nothing.
+abbrev pub StepBy : Option State → Machine → Command → Outcome → Reply → Machine → Type 0
+StepBy o m c (refused r) said n = (said ≡ reply.refused_by r) × (n ≡ m)
+StepBy o m c (told lines) said n = (said ≡ reply.said lines) × (n ≡ m) × Means o m.history m.objects c (told lines) n.objects
+StepBy o m c (done lines effect t) said n = (said ≡ reply.said lines) × MachineFollows m c effect t n × Means o m.history m.objects c (done lines effect t) n.objects
 
 abbrev pub StepIn : Option State → Machine → Command → ℕ → Reply → Machine → Type 0
-StepIn None m c moment said n = (o : Outcome) × IsOutcomeWithout c moment o × StepBy m c o said n
-StepIn (Some s) m c moment said n = (o : Outcome) × IsOutcome (at_moment s moment) m.objects c o × StepBy m c o said n
+StepIn None m c moment said n = (o : Outcome) × IsOutcomeWithout c moment o × StepBy None m c o said n
+StepIn (Some s) m c moment said n = (o : Outcome) × IsOutcome (at_moment s moment) m.objects c o × StepBy (Some (at_moment s moment)) m c o said n
 
 -- From m, at this moment, the machine gives this reply to the statement and goes on to n. The statement acts on
 -- the database as it is at its moment, which is kept by what is done.

@@ -2,23 +2,13 @@
 ghost use Rattle.std.specs.Prelude.{◌≡◌};
 ghost use Rattle.rm_machine.specs.Backup.{is_built_backup};
 ghost use Rattle.rm_machine.specs.Built.{is_built};
-ghost use Rattle.rm_machine.specs.Recovery.{is_built_until};
 
-use rm_statement::{BackupForm, Command, Until};
-
-fn is_built_until(until: &Option<Until>) -> bool
-    ensures { result ≡ is_built_until until.now }
-{
-    match until {
-        None | Some(Until::Scn(_)) => true,
-        Some(_) => false,
-    }
-}
+use rm_statement::{BackupForm, Command};
 
 fn is_built_backup(form: &BackupForm) -> bool
     ensures { result ≡ is_built_backup form.now }
 {
-    form.level.is_none_or(|level| level == 0) && form.during.is_none()
+    form.during.is_none()
 }
 
 /// The statement is built, and so can be stepped. It takes no memory.
@@ -26,10 +16,11 @@ pub fn is_built(command: &Command) -> bool
     ensures { result ≡ is_built command.now }
 {
     match command {
-        Command::Restore { until, .. } => is_built_until(until),
-        Command::Preview { until } => is_built_until(until),
-        Command::Recover { until } => is_built_until(until),
-        Command::RecoverTest { until, .. } => is_built_until(until),
+        Command::Restore { .. } => true,
+        Command::Preview { .. } => true,
+        Command::Recover { .. } => true,
+        Command::RecoverTest { .. } => true,
+        Command::RecoverCopy { .. } => true,
         Command::Backup(form) => is_built_backup(form),
         Command::BackupLogs => true,
         Command::CreateDatabase { .. } => true,
@@ -45,6 +36,8 @@ pub fn is_built(command: &Command) -> bool
         Command::ListBackup => true,
         Command::ListCopy => true,
         Command::ListArchived => true,
+        Command::ReportObsolete => true,
+        Command::ReportNeedBackup => true,
         Command::ReportSchema => true,
         Command::ShowAll => true,
         Command::ValidateAll => true,
@@ -52,6 +45,7 @@ pub fn is_built(command: &Command) -> bool
         Command::ChangeBackup { .. } => true,
         Command::DeleteBackup { .. } => true,
         Command::DeleteExpired { .. } => true,
+        Command::DeleteObsolete => true,
         Command::Dump { .. } => true,
         Command::Retention(_) => true,
         Command::Parallelism { .. } => true,

@@ -62,12 +62,6 @@ pub fn archiving_leads_on()
     ensures stays { StaysSound ArchiveLogCurrent }
 {}
 
-/// BACKUP of datafiles, likewise: its pieces agree with the history.
-pub fn a_backup_leads_on()
-    ensures leads { (form : BackupForm) → LeadsOn (Backup form) }
-    ensures stays { (form : BackupForm) → StaysSound (Backup form) }
-{}
-
 /// BACKUP ARCHIVELOG ALL, likewise: a second object of a log agrees with the history as the log does.
 pub fn a_backup_of_logs_leads_on()
     ensures leads { LeadsOn BackupLogs }

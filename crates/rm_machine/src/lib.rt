@@ -3,7 +3,9 @@
 
 pub mod built;
 pub mod facts;
+pub mod hand;
 pub mod handed;
+pub mod job;
 pub mod laws;
 pub mod marks;
 pub mod recorded;
@@ -13,5 +15,6 @@ pub mod state;
 
 pub use built::is_built;
 pub use handed::Handed;
+pub use job::Job;
 pub use replies::refusal_reply;
 pub use state::{Instance, State};

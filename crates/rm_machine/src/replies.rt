@@ -1,8 +1,9 @@
-//! The reply of a refusal.
-ghost use Rattle.std.specs.Prelude.{◌≡◌, IfOk};
-ghost use Rattle.rm_report.specs.Reply.{refused_by};
+//! The reply of a refusal, and lines that several statements have.
+ghost use Rattle.std.specs.Prelude.{◌≡◌, All, IfOk};
+ghost use Rattle.rm_machine.specs.Recovery.{skipped_lines};
+ghost use Rattle.rm_report.specs.Reply.{LineHasDate, refused_by};
 
-use rm_base::{NoMemory, Refusal, Seq};
+use rm_base::{Bad, NoMemory, Refusal, Seq};
 use rm_report::{Line, Reply};
 use std::alloc::Global;
 
@@ -16,4 +17,16 @@ pub fn refusal_reply(alloc: Global, refusal: Refusal) -> Result<Reply, NoMemory>
         lines,
         refused: true,
     })
+}
+
+/// A line for each record that was skipped.
+pub fn skipped_lines(alloc: Global, skipped: &[(u32, Bad)]) -> Result<Seq<Line>, NoMemory>
+    ensures lines { IfOk result (λ lines. lines ≡ skipped_lines skipped.now) }
+    ensures dates { IfOk result (All LineHasDate) }
+{
+    let mut lines = Seq::new(alloc);
+    for (id, bad) in skipped {
+        lines.push(Line::Skipped { id: *id, bad: *bad })?;
+    }
+    Ok(lines)
 }

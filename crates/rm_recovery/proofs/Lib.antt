@@ -2,7 +2,6 @@ pub mod Dates
 pub mod FileLines
 pub mod Files
 pub mod Handing
-pub mod InPlace
 pub mod OriginLines
 pub mod Over
 pub mod Records

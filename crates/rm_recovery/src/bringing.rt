@@ -9,11 +9,11 @@ ghost use Rattle.rm_machine.specs.State.{tree};
 ghost use Rattle.rm_recovery.specs.Gap.{NamesGap};
 ghost use Rattle.rm_repository.specs.Repository.{records_of};
 
-use crate::hand::at_hand;
 use rm_apply::{RecoverFault, Recovered};
 use rm_base::{IncNo, Refusal, Scn, Store};
 use rm_evidence::EvidenceFault;
 use rm_machine::State;
+use rm_machine::hand::at_hand;
 use std::alloc::Global;
 
 /// The datafiles at (i, at), at most 64, by what is at hand, and the records that were skipped; or the refusal

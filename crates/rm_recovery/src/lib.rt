@@ -4,7 +4,6 @@
 
 mod bringing;
 mod faults;
-mod hand;
 mod lines;
 mod placing;
 mod previewing;

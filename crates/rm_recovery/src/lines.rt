@@ -2,13 +2,12 @@
 ghost use Rattle.std.specs.Prelude.{◌≡◌, ◌<◌, ◌≤◌, ◌++◌, ◌∷◌, [], IfOk, OnOk, All, length};
 ghost use Rattle.rm_history.specs.World.{creation_of};
 ghost use Rattle.rm_machine.specs.RecoverTest.{block_lines, file_lines, files_lines, test_lines};
-ghost use Rattle.rm_machine.specs.Recovery.{skipped_lines};
 ghost use Rattle.rm_machine.specs.Restore.{origin_line, origin_lines};
 ghost use Rattle.rm_machine.specs.State.{world};
 ghost use Rattle.rm_recovery.specs.Lines.{HasLines};
 
 use rm_apply::Origin;
-use rm_base::{Bad, FileNo, IncNo, NoMemory, Row, Scn, Seq};
+use rm_base::{FileNo, IncNo, NoMemory, Row, Scn, Seq};
 use rm_blocks::DataFile;
 use rm_machine::{Handed, State};
 use rm_report::Line;
@@ -25,17 +24,6 @@ pub(crate) fn of_lines(alloc: Global, lines: Seq<Line>) -> Handed
         objects: Seq::new(alloc),
         removes: Seq::new(alloc),
     }
-}
-
-/// A line for each record that was skipped.
-pub(crate) fn skipped_lines(alloc: Global, skipped: &[(u32, Bad)]) -> Result<Seq<Line>, NoMemory>
-    ensures { IfOk result (λ lines. lines ≡ skipped_lines skipped.now) }
-{
-    let mut lines = Seq::new(alloc);
-    for (id, bad) in skipped {
-        lines.push(Line::Skipped { id: *id, bad: *bad })?;
-    }
-    Ok(lines)
 }
 
 // From where a datafile is restored.

@@ -11,13 +11,14 @@ ghost use Rattle.rm_report.specs.Reply.{LineHasDate};
 ghost use Rattle.rm_statement.specs.declared.command.Command.TheVariants.{Preview};
 
 use crate::faults::fault_of;
-use crate::hand::at_hand;
-use crate::lines::{push_origins, skipped_lines};
+use crate::lines::push_origins;
 use crate::target::{range_refusal, recover_target};
 use rm_apply::{Origin, TargetFile, datafiles_at};
 use rm_base::{Bad, FileNo, NoMemory, Refusal, Seq, Store};
 use rm_evidence::EvidenceFault;
 use rm_machine::State;
+use rm_machine::hand::at_hand;
+use rm_machine::replies::skipped_lines;
 use rm_plan::Gap;
 use rm_report::Line;
 use rm_statement::Until;

@@ -10,13 +10,14 @@ ghost use Rattle.rm_report.specs.Reply.{HasDate, LineHasDate};
 ghost use Rattle.rm_report.specs.declared.line.Line.TheVariants.{Recovered as recovered_line};
 
 use crate::bringing::bring_back;
-use crate::lines::{of_lines, skipped_lines};
+use crate::lines::of_lines;
 use crate::placing::put_in_place;
 use crate::target::{range_refusal, recover_target};
 use rm_apply::Recovered;
 use rm_base::{IncNo, NoMemory, Refusal, Scn, Seq, Store};
 use rm_evidence::EvidenceFault;
 use rm_machine::facts::first_lost;
+use rm_machine::replies::skipped_lines;
 use rm_machine::room::ids_refusal;
 use rm_machine::{Handed, State};
 use rm_report::Line;

@@ -9,11 +9,12 @@ ghost use Rattle.rm_machine.specs.Sound.{IsSound};
 ghost use Rattle.rm_report.specs.Reply.{HasDate, LineHasDate};
 
 use crate::bringing::bring_back;
-use crate::lines::{push_test, skipped_lines};
+use crate::lines::push_test;
 use crate::target::{range_refusal, target_of};
 use rm_base::{IncNo, Refusal, Seq, Store};
 use rm_evidence::EvidenceFault;
 use rm_machine::State;
+use rm_machine::replies::skipped_lines;
 use rm_report::Line;
 use rm_statement::Until;
 use std::alloc::Global;

@@ -12,8 +12,7 @@ ghost use Rattle.rm_repository.specs.Repository.{records_of};
 ghost use Rattle.rm_statement.specs.declared.command.Command.TheVariants.{Restore};
 
 use crate::faults::fault_of;
-use crate::hand::at_hand;
-use crate::lines::{of_lines, push_origins, skipped_lines};
+use crate::lines::{of_lines, push_origins};
 use crate::placing::put_in_place;
 use crate::target::{range_refusal, recover_target};
 use rm_apply::{Origin, Recovered};
@@ -21,6 +20,8 @@ use rm_base::{Absent, FileNo, NoMemory, Refusal, Scn, Seq, Store};
 use rm_blocks::DataFile;
 use rm_evidence::EvidenceFault;
 use rm_machine::facts::datafile_at;
+use rm_machine::hand::at_hand;
+use rm_machine::replies::skipped_lines;
 use rm_machine::room::ids_refusal;
 use rm_machine::{Handed, State};
 use rm_report::Line;

@@ -148,12 +148,7 @@ pub lines-of-some : (s : State) (skipped : List (ℕ × Bad)) (found : List (ℕ
 lines-of-some s skipped [] mid lines some first all = absurd (some refl)
 lines-of-some s skipped (x ∷ found) mid lines some first all = all ∙ ap (λ (ls : List Line). ls ++ map copy_line (copies_of s (logs_in (x ∷ found)))) first
 
--- No line of it tells a moment
-
-pub skipped-dated : (xs : List (ℕ × Bad)) → All LineHasDate (skipped_lines xs)
-skipped-dated [] = All-nil LineHasDate
-skipped-dated (x ∷ xs) = All-cons LineHasDate (Skipped x.0 x.1) (skipped_lines xs) tt (skipped-dated xs)
-
+-- no line of it tells a moment
 copies-dated : (xs : List (ℕ × LogFile)) → All LineHasDate (map copy_line xs)
 copies-dated [] = All-nil LineHasDate
 copies-dated (x ∷ xs) = All-cons LineHasDate (copy_line x) (map copy_line xs) tt (copies-dated xs)

@@ -3,7 +3,6 @@ ghost use Rattle.std.specs.Prelude.{◌≡◌, ◌≤◌, ◌++◌, ◌∷◌, [
 ghost use Rattle.rm_base.specs.Outside.{Rose};
 ghost use Rattle.rm_machine.specs.BackupLogs.{copies_of, copies_refusal, copy_entry, copy_line, copy_object, file_bytes, with_copies};
 ghost use Rattle.rm_machine.specs.Hands.{Hands, Refuses};
-ghost use Rattle.rm_machine.specs.Recovery.{skipped_lines};
 ghost use Rattle.rm_machine.specs.Sound.{IsSound};
 ghost use Rattle.rm_machine.specs.State.{ledger};
 ghost use Rattle.rm_machine.specs.Upkeep.{with_catalog};
@@ -17,9 +16,10 @@ ghost use Rattle.sha2.specs.Sha256.{sha256};
 
 use crate::looking::look;
 use rm_base::sealed::Encoded;
-use rm_base::{Bad, Limit, NoMemory, Refusal, Seq, Status, Store};
+use rm_base::{Limit, NoMemory, Refusal, Seq, Status, Store};
 use rm_catalog::{Edit, LogEntry};
 use rm_change::Object;
+use rm_machine::replies::skipped_lines;
 use rm_machine::room::{lacks_bytes, lacks_ids, lacks_room};
 use rm_machine::{Handed, State};
 use rm_objects::log_name;
@@ -154,18 +154,6 @@ fn back_up_all(
         back_up(alloc, state, edits, handed, log)?;
     }
     Ok(())
-}
-
-// A line for each record that was skipped.
-fn skipped_lines(alloc: Global, skipped: &[(u32, Bad)]) -> Result<Seq<Line>, NoMemory>
-    ensures lines { IfOk result (λ lines. lines ≡ skipped_lines skipped.now) }
-    ensures dates { IfOk result (All LineHasDate) }
-{
-    let mut lines = Seq::new(alloc);
-    for (id, bad) in skipped {
-        lines.push(Line::Skipped { id: *id, bad: *bad })?;
-    }
-    Ok(lines)
 }
 
 /// BACKUP ARCHIVELOG ALL, which the state alone does not refuse. A line tells each archived log that counts as

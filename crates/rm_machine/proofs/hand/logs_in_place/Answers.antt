@@ -2,8 +2,8 @@ use Rattle.std.proofs.Common.{◌≡◌, ◌+◌, ◌∙◌, ◌++◌, List, ap,
 use Rattle.rm_redo.specs.declared.log_file.LogFile.{LogFile}
 use Rattle.rm_machine.specs.Recovery.{online_logs}
 use Rattle.rm_machine.specs.declared.state.State.{State}
-use Rattle.rm_recovery.proofs.InPlace.{online-more, online_of}
-use Rattle.rm_recovery.proofs.hand.logs_in_place.Goals as goal
+use Rattle.rm_machine.proofs.InPlace.{online-more, online_of}
+use Rattle.rm_machine.proofs.hand.logs_in_place.Goals as goal
 
 pub loop-index-preserved : goal.loop-index-preserved
 loop-index-preserved c =

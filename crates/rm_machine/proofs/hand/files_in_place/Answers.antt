@@ -2,9 +2,9 @@ use Rattle.std.proofs.Common.{◌≡◌, ◌<◌, ◌∙◌, ◌++◌, ◌∷◌
 use Rattle.rm_blocks.specs.File.{File}
 use Rattle.rm_machine.specs.State.{counted}
 use Rattle.rm_machine.specs.declared.state.State.{State}
-use Rattle.rm_recovery.proofs.InPlace.{present-next}
-use Rattle.rm_recovery.proofs.hand.files_in_place.Goals as goal
-use Rattle.rm_recovery.proofs.hand.files_in_place.Goals.{in-Some+in_ok-counted_copy+in_ok-push, in_default}
+use Rattle.rm_machine.proofs.InPlace.{present-next}
+use Rattle.rm_machine.proofs.hand.files_in_place.Goals as goal
+use Rattle.rm_machine.proofs.hand.files_in_place.Goals.{in-Some+in_ok-counted_copy+in_ok-push, in_default}
 
 pub loop-placed-preserved : goal.loop-placed-preserved
 loop-placed-preserved c =

@@ -6,19 +6,19 @@ ghost use Rattle.rm_machine.specs.Sound.{IsSound};
 ghost use Rattle.rm_machine.specs.State.{counted, is_lost, ledger, online};
 ghost use Rattle.rm_repository.specs.Repository.{records_of};
 
+use crate::facts::{now, redo_end, threads};
+use crate::recorded::records_of;
+use crate::state::State;
 use rm_base::{NoMemory, Seq, ThreadNo};
 use rm_blocks::DataFile;
 use rm_catalog::Catalog as Records;
 use rm_evidence::InPlace;
-use rm_machine::State;
-use rm_machine::facts::{now, redo_end, threads};
-use rm_machine::recorded::records_of;
 use rm_redo::LogFile;
 use std::alloc::Global;
 
 /// What a recovery and a restore rest on, beside the store.
 #[derive(Drop)]
-pub(crate) struct AtHand {
+pub struct AtHand {
     /// The records of the catalog.
     pub records: Records,
     /// What is in place, and not lost.
@@ -113,7 +113,7 @@ fn in_place(alloc: Global, state: &State) -> Result<InPlace, NoMemory>
 }
 
 /// The records of the catalog, as a list, and what is in place.
-pub(crate) fn at_hand(alloc: Global, state: &State) -> Result<AtHand, NoMemory>
+pub fn at_hand(alloc: Global, state: &State) -> Result<AtHand, NoMemory>
     requires sound { IsSound state.now }
     ensures records { IfOk result (λ hand. hand.records ≡ records_of state.now.catalog) }
     ensures place { IfOk result (λ hand. hand.place ≡ in_place state.now) }
