@@ -33,6 +33,8 @@ pub mod Losing
 pub mod LosingLog
 pub mod Losses
 pub mod LostLogs
+pub mod Marked
+pub mod Meant
 pub mod Mounting
 pub mod Numbers
 pub mod Opened
