@@ -3,7 +3,7 @@ use Rattle.std.specs.Prelude.{◌≡◌, Bool, true, false, Option, Some, None, 
 use Rattle.rm_base.specs.Store.{Held}
 use Rattle.rm_base.specs.declared.refusal.Refusal.{Refusal}
 use Rattle.rm_statement.specs.declared.command.Command.{Command}
-use Rattle.rm_statement.specs.declared.command.Command.TheVariants.{BackupLogs, Crosscheck, Cut, Damage, Dump, ListArchived, ListBackup, ListCopy, ListIncarnation, Preview, Recover, RecoverTest, Remove, Rename, ReportSchema, Restore, ShowAll, ValidateAll}
+use Rattle.rm_statement.specs.declared.command.Command.TheVariants.{BackupLogs, Crosscheck, Cut, Damage, DeleteObsolete, Dump, ListArchived, ListBackup, ListCopy, ListIncarnation, Preview, Recover, RecoverCopy, RecoverTest, Remove, Rename, ReportNeedBackup, ReportObsolete, ReportSchema, Restore, ShowAll, ValidateAll}
 use Rattle.rm_report.specs.Reply.{LineHasDate, HasDate}
 use Rattle.rm_machine.specs.Effect.{refused, told}
 use Rattle.rm_machine.specs.Hands.{Hands}
@@ -61,13 +61,17 @@ is_change (Restore file until) = false
 is_change (Preview until) = false
 is_change (Recover until) = false
 is_change (RecoverTest until inc) = false
+is_change (RecoverCopy tag until) = false
 is_change ListIncarnation = false
 is_change ListBackup = false
 is_change ListCopy = false
 is_change ListArchived = false
+is_change ReportObsolete = false
+is_change ReportNeedBackup = false
 is_change ReportSchema = false
 is_change ShowAll = false
 is_change ValidateAll = false
+is_change DeleteObsolete = false
 is_change (Dump file block) = false
 is_change (Remove name) = false
 is_change (Damage name at) = false

@@ -42,6 +42,7 @@ pub(crate) fn refusal_of(state: &State, command: &Command) -> Option<Refusal>
         Command::ChangeBackup { id, .. } => record_refusal(state, *id),
         Command::DeleteBackup { id } => record_refusal(state, *id),
         Command::DeleteExpired { .. } => ids_refusal(state),
+        Command::DeleteObsolete => ids_refusal(state),
         Command::Retention(form) => retention_refusal(state, *form),
         Command::Parallelism { channels } => parallelism_refusal(state, *channels),
         Command::LoseDatafile { file } => lose_refusal(state, *file),
