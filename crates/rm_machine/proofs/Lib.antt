@@ -3,7 +3,9 @@ pub mod Agreeing
 pub mod Archives
 pub mod ArchivingAll
 pub mod AtHand
+pub mod BackingUp
 pub mod BackingUpLogs
+pub mod Backups
 pub mod BranchesSound
 pub mod Branching
 pub mod Choosing
@@ -37,6 +39,7 @@ pub mod Mounting
 pub mod Numbers
 pub mod Opened
 pub mod Opening
+pub mod Parents
 pub mod Pieces
 pub mod Places
 pub mod Placing

@@ -62,6 +62,12 @@ pub fn archiving_leads_on()
     ensures stays { StaysSound ArchiveLogCurrent }
 {}
 
+/// BACKUP of datafiles, likewise: its pieces, level 1s among them, agree with the history.
+pub fn a_backup_leads_on()
+    ensures leads { (form : BackupForm) → LeadsOn (Backup form) }
+    ensures stays { (form : BackupForm) → StaysSound (Backup form) }
+{}
+
 /// BACKUP ARCHIVELOG ALL, likewise: a second object of a log agrees with the history as the log does.
 pub fn a_backup_of_logs_leads_on()
     ensures leads { LeadsOn BackupLogs }
