@@ -4,6 +4,7 @@ pub mod Archives
 pub mod ArchivingAll
 pub mod AtHand
 pub mod BackingUpLogs
+pub mod Beside
 pub mod BranchesSound
 pub mod Branching
 pub mod Choosing
