@@ -8,11 +8,13 @@ pub mod Beside
 pub mod BranchesSound
 pub mod Branching
 pub mod Choosing
+pub mod Cleared
 pub mod Contents
 pub mod CountedLogs
 pub mod Creating
 pub mod Current
 pub mod Deleting
+pub mod DeletingObsolete
 pub mod Drilling
 pub mod Dropping
 pub mod Entries

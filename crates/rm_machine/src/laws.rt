@@ -17,15 +17,16 @@ ghost use Rattle.rm_known.specs.Evidence.{Agrees};
 ghost use Rattle.rm_known.specs.Unknown.{IsUnknown};
 ghost use Rattle.rm_apply.specs.declared.recovering.Recovered.{Recovered};
 ghost use Rattle.rm_machine.specs.CreateDatabase.{fresh_machine};
-ghost use Rattle.rm_machine.specs.Effect.{Effect, Made, Outcome, done};
+ghost use Rattle.rm_machine.specs.Effect.{Effect, LeavesObjects, Made, Outcome, done};
 ghost use Rattle.rm_machine.specs.Laws.{IsMomentOf, LeadsOn, StaysSound, TellsOn, only_tells};
 ghost use Rattle.rm_machine.specs.Machine.{DigestsTell, DigestsTellFor, IsBorneOut, IsSoundMachine, Machine};
+ghost use Rattle.rm_machine.specs.Obsolete.{AreObsoleteIn};
 ghost use Rattle.rm_machine.specs.Recovery.{IsAtHand, IsGapOutcome, IsToldOutcome};
 ghost use Rattle.rm_machine.specs.Sound.{IsSound};
 ghost use Rattle.rm_machine.specs.Step.{IsDone};
 ghost use Rattle.rm_machine.specs.declared.state.State.{State};
 ghost use Rattle.rm_machine.specs.State.{at_moment, ledger, world};
-ghost use Rattle.rm_statement.specs.declared.command.Command.TheVariants.{ArchiveLogCurrent, Backup, BackupLogs, ChangeBackup, CreateDatafile, Crosscheck, Cut, Damage, DeleteBackup, DeleteExpired, LoseDatafile, LoseLog, Mount, OpenPlain, OpenResetlogs, Parallelism, Recover, RecoverTest, Remove, Rename, ResetDatabase, Restore, Retention, SwitchLogfile, Write};
+ghost use Rattle.rm_statement.specs.declared.command.Command.TheVariants.{ArchiveLogCurrent, Backup, BackupLogs, ChangeBackup, CreateDatafile, Crosscheck, Cut, Damage, DeleteBackup, DeleteExpired, DeleteObsolete, LoseDatafile, LoseLog, Mount, OpenPlain, OpenResetlogs, Parallelism, Recover, RecoverTest, Remove, Rename, ResetDatabase, Restore, Retention, SwitchLogfile, Write};
 
 /// There are sound machines: that of a new database is one.
 pub fn a_new_database_is_sound()
@@ -130,6 +131,17 @@ pub fn upkeep_leads_on()
     ensures delete_stays { (id : ℕ) → StaysSound (DeleteBackup id) }
     ensures check_stays { (class : Class) → StaysSound (Crosscheck class) }
     ensures expire_stays { (class : Class) → StaysSound (DeleteExpired class) }
+{}
+
+/// DELETE OBSOLETE, likewise: exactly the obsolete records go, with their objects; what it leaves keeps each target of the window.
+pub fn a_deletion_by_the_policy_leads_on()
+    ensures leads { LeadsOn DeleteObsolete }
+    ensures stays { StaysSound DeleteObsolete }
+{}
+
+/// Where DELETE OBSOLETE was done, a second one finds no record.
+pub fn a_second_deletion_finds_nothing()
+    ensures { (s : State) (held after : Held) (lines : List Line) (effect : Effect) (t : State) (ids : List ℕ) → IsSound s → IsDone s held DeleteObsolete (done lines effect t) → LeavesObjects effect held after → AreObsoleteIn t after ids → ids ≡ [] }
 {}
 
 /// CONFIGURE RETENTION POLICY and CONFIGURE .. PARALLELISM, likewise: one base fact changes alone.
