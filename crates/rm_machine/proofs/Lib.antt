@@ -59,6 +59,7 @@ pub mod Telling
 pub mod Told
 pub mod Untils
 pub mod Upkeep
+pub mod WindowStart
 pub mod Writes
 pub mod WritesKeep
 pub mod WritesSound
