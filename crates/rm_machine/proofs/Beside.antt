@@ -1,5 +1,5 @@
 -- What is at hand rests on objects of records alone, and on no part of a saved site.
-use Rattle.std.proofs.Common.{◌≡◌, ◌∙◌, ◌↔◌, ℕ, Bool, List, Option, sym, subst}
+use Rattle.std.proofs.Common.{◌≡◌, ◌∙◌, ℕ, Bool, List, Option, sym, subst}
 use Rattle.rm_base.specs.Store.{Held}
 use Rattle.rm_base.specs.declared.kinds.Bad.{Bad}
 use Rattle.rm_base.specs.declared.kinds.Policy.{Policy}
@@ -8,9 +8,8 @@ use Rattle.rm_catalog.specs.declared.record.LogEntry.{LogEntry}
 use Rattle.rm_catalog.specs.declared.record.PieceEntry.{PieceEntry}
 use Rattle.rm_catalog.specs.declared.record.Record.{Record}
 use Rattle.rm_evidence.specs.declared.evidence.Evidence.{Evidence}
-use Rattle.rm_evidence.specs.declared.evidence.InPlace.{InPlace}
 use Rattle.rm_evidence.specs.Available.{HasLog, HasPiece, IsBad, IsSkipped, a_log, a_piece}
-use Rattle.rm_evidence.specs.Gathered.{IsBaseOf, IsGathered, IsLevel1Of, IsLogOf, Lists}
+use Rattle.rm_evidence.specs.Gathered.{IsBaseOf, IsLevel1Of, IsLogOf, Lists}
 use Rattle.rm_objects.specs.Names.{log_name, piece_name}
 use Rattle.rm_objects.specs.Objects.{IsLogObject, IsPieceObject}
 use Rattle.rm_objects.proofs.Names.{log-no-site, piece-no-site}
@@ -18,7 +17,7 @@ use Rattle.rm_piece.specs.declared.piece.Piece.{Piece}
 use Rattle.rm_redo.specs.declared.log_file.LogFile.{LogFile}
 use Rattle.rm_repository.specs.Repository.{records_of}
 use Rattle.rm_machine.specs.Obsolete.{IsSafeBy}
-use Rattle.rm_machine.specs.Recovery.{IsAtHand, in_place}
+use Rattle.rm_machine.specs.Recovery.{IsAtHand}
 use Rattle.rm_machine.specs.declared.state.State.{State}
 use Rattle.rm_machine.proofs.Dropping.{IsNoSite}
 

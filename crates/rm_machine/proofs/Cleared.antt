@@ -1,17 +1,15 @@
 -- Exactly the obsolete records go, with their objects: nothing that a target of the window needs is lost, and a second time none is found.
 use Rattle.std.proofs.Common.{◌≡◌, ◌∙◌, ◌⊎◌, ◌==◌, inl, inr, ℕ, List, [], ◌∷◌, refl, ap, sym, subst, arith, Contains}
 use Rattle.std.specs.List.{list_any}
-use Rattle.std.specs.Prelude.{option_and_then}
 use Rattle.std.proofs.lemmas.Bool.{cases_Bool, eq-eqb, eqb-true, false≢true}
 use Rattle.std.proofs.lemmas.List.Elements.{Contains-append_cases, Contains-append_left, Contains-append_right}
 use Rattle.std.proofs.lemmas.Option.{same_Some}
 use Rattle.rm_base.specs.Store.{Held}
-use Rattle.rm_base.specs.declared.block.Block.{Block}
 use Rattle.rm_base.specs.declared.block.Change.{Change}
 use Rattle.rm_base.specs.declared.kinds.Policy.{Policy}
 use Rattle.rm_base.specs.declared.kinds.Policy.TheVariants.{Nothing, Redundancy, Window}
 use Rattle.rm_base.proofs.Lists.{any_from, any_none}
-use Rattle.rm_base.proofs.Members.{in-front, none-in}
+use Rattle.rm_base.proofs.Members.{in-front}
 use Rattle.rm_catalog.specs.declared.record.LogEntry.{LogEntry}
 use Rattle.rm_catalog.specs.declared.record.PieceEntry.{PieceEntry}
 use Rattle.rm_catalog.specs.declared.record.Record.{Record}
@@ -36,26 +34,25 @@ use Rattle.rm_repository.specs.Facts.{IsRepository}
 use Rattle.rm_repository.specs.Repository.{Repository, records_of, saved_records}
 use Rattle.rm_repository.proofs.Members.{log-has, log-in, piece-has, piece-in}
 use Rattle.rm_repository.proofs.Valid.{repository-valid}
-use Rattle.rm_retain.specs.Catalogued.{AreObsolete, IsObsolete, IsObsoleteRecord}
+use Rattle.rm_retain.specs.Catalogued.{AreObsolete, IsObsoleteRecord}
 use Rattle.rm_retain.specs.Chosen.{Retention}
 use Rattle.rm_retain.specs.Cleared.{IsCleared}
 use Rattle.rm_retain.specs.Losing.{FitsHistory, LosesNeedless}
-use Rattle.rm_retain.specs.Window.{IsInWindow}
 use Rattle.rm_retain.proofs.Clearing.{gathered_left}
 use Rattle.rm_retain.proofs.CopiesLeft.{was_obsolete}
 use Rattle.rm_retain.proofs.Safe.{safe_recoverable, safe_told}
 use Rattle.rm_retain.proofs.WholeCopies.{copies_whole}
-use Rattle.rm_machine.specs.Effect.{LeavesObjects, Made}
+use Rattle.rm_machine.specs.Effect.{Made}
 use Rattle.rm_machine.specs.Machine.{DigestsTellFor, IsBorneOut}
 use Rattle.rm_machine.specs.Names as names
 use Rattle.rm_machine.specs.Obsolete.{AreObsoleteIn, IsSafe, IsSafeBy, KeepsTargets, retention_of}
 use Rattle.rm_machine.specs.Recovery.{IsAtHand, in_place}
 use Rattle.rm_machine.specs.Sound.{IsSound}
 use Rattle.rm_machine.specs.declared.state.State.{State}
-use Rattle.rm_machine.specs.State.{ledger, world}
-use Rattle.rm_machine.specs.Upkeep.{removing, with_catalog, without_all, without_record}
+use Rattle.rm_machine.specs.State.{ledger}
+use Rattle.rm_machine.specs.Upkeep.{with_catalog, without_all, without_record}
 use Rattle.rm_machine.proofs.Agreeing.{evidence-agrees}
-use Rattle.rm_machine.proofs.Deleting.{AreGone, left-log, left-piece, object-stays, stays-log, stays-piece}
+use Rattle.rm_machine.proofs.Deleting.{left-log, left-piece, stays-log, stays-piece}
 use Rattle.rm_machine.proofs.Entries.{with_entries}
 use Rattle.rm_machine.proofs.Records.{database-told, world-told}
 use Rattle.rm_machine.proofs.Upkeep.{all-on}

@@ -3,7 +3,7 @@ use Rattle.std.proofs.Common.{◌≡◌, ◌++◌, ℕ, List, Option, Some, None
 use Rattle.rm_base.specs.Store.{Held}
 use Rattle.rm_base.specs.declared.block.Change.{Change}
 use Rattle.rm_base.specs.declared.refusal.Refusal.{Refusal}
-use Rattle.rm_machine.specs.Effect.{Effect, LeavesObjects, Made, Outcome, done, told}
+use Rattle.rm_machine.specs.Effect.{Effect, LeavesObjects, Made, done, told}
 use Rattle.rm_statement.specs.declared.command.Command.{Command}
 use Rattle.rm_statement.specs.declared.command.Command.TheVariants.{DeleteObsolete, Recover}
 use Rattle.rm_report.specs.declared.line.Line.{Line}
