@@ -6,14 +6,17 @@ pub mod AtHand
 pub mod BackingUp
 pub mod BackingUpLogs
 pub mod Backups
+pub mod Beside
 pub mod BranchesSound
 pub mod Branching
 pub mod Choosing
+pub mod Cleared
 pub mod Contents
 pub mod CountedLogs
 pub mod Creating
 pub mod Current
 pub mod Deleting
+pub mod DeletingObsolete
 pub mod Drilling
 pub mod Dropping
 pub mod Entries
@@ -29,8 +32,8 @@ pub mod InPlace
 pub mod Kept
 pub mod LastMarks
 pub mod Later
-pub mod Left
 pub mod Leading
+pub mod Left
 pub mod Losing
 pub mod LosingLog
 pub mod Losses
@@ -59,6 +62,7 @@ pub mod Telling
 pub mod Told
 pub mod Untils
 pub mod Upkeep
+pub mod WindowStart
 pub mod Writes
 pub mod WritesKeep
 pub mod WritesSound
