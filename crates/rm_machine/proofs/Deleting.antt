@@ -38,7 +38,7 @@ named-in (m ∷ ms) name is = elim (cases_Bool (bytes_eq name m)) [
 ]
 
 -- what is left has another id
-left-other : {A : Type 0} (id : A → ℕ) (n : ℕ) (xs : List A) (x : A) → Contains (without_one id n xs) x → id x ≢ n
+pub left-other : {A : Type 0} (id : A → ℕ) (n : ℕ) (xs : List A) (x : A) → Contains (without_one id n xs) x → id x ≢ n
 left-other id n xs x has same = elim (Contains-append_cases (lower id n xs) (higher id n xs) x has) [
   | inl below ↦ let less = ltb-true (id x) n (filter_from (λ y. nat_lt (id y) n) xs x below).1 in absurd (omega (arith, less, same))
   | inr above ↦ let more = ltb-true n (id x) (filter_from (λ y. nat_lt n (id y)) xs x above).1 in absurd (omega (arith, more, same))

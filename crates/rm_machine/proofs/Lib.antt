@@ -33,6 +33,7 @@ pub mod Losing
 pub mod LosingLog
 pub mod Losses
 pub mod LostLogs
+pub mod Merges
 pub mod Mounting
 pub mod Numbers
 pub mod Opened
@@ -44,6 +45,7 @@ pub mod Quiet
 pub mod Records
 pub mod Recovered
 pub mod Recovering
+pub mod Renewing
 pub mod Restoring
 pub mod Settings
 pub mod Sizes
