@@ -9,8 +9,9 @@ use Rattle.rm_base.proofs.Lists.{filter_from, map_from}
 use Rattle.rm_base.proofs.Members.{behind, in-front}
 use Rattle.rm_catalog.specs.declared.record.LogEntry.{LogEntry}
 use Rattle.rm_catalog.specs.declared.record.PieceEntry.{PieceEntry}
-use Rattle.rm_change.specs.Names.{is_named, itself, nothing}
+use Rattle.rm_change.specs.Names.{HasRemoves, is_named, itself, nothing}
 use Rattle.rm_change.proofs.Named.{same-name, unnamed-stays}
+use Rattle.rm_ledger.specs.Ledger.{Ledger}
 use Rattle.rm_objects.specs.Names.{log_name, piece_name, site_name}
 use Rattle.rm_objects.proofs.Names.{log-name-tells, log-no-piece, log-no-site, piece-name-tells, piece-no-site}
 use Rattle.rm_repository.specs.Changes.{higher, lower, without_one}
@@ -105,15 +106,19 @@ module _ (r : Repository) (n : ℕ) (rules : IsRepository r) where
   part-free id goes = site-free id (site_name id) (gone (site_name id) goes) refl
 
 -- so what they name stays
+pub stand-without : (names : List (List ℕ)) (before after : Held) (touched : List (List ℕ)) (l : Ledger) → HasRemoves names before after → ((name : List ℕ) → IsObjectName l name → ¬ Contains names name)
+    → StandOn before after touched touched l l
+stand-without names before after touched l removes free name bytes was is (inl given) = inl given
+stand-without names before after touched l removes free name bytes was is (inr held) = elim (cases_Bool (is_named itself names name)) [
+  | inl named ↦ absurd (free name is (named-in names name named))
+  | inr other ↦ inr (removes name ∙ unnamed-stays itself nothing names name (before name) other ∙ held)
+]
+
 goes-stand : (s : State) (n : ℕ) (objects after : Held) (touched : List (List ℕ)) → IsRepository s.catalog → LeavesObjects (removing (names_at n s.catalog)) objects after
     → StandOn objects after touched touched (without_record n s.catalog).ledger (without_record n s.catalog).ledger
 goes-stand s n objects after touched rules effect name bytes was is (inl given) = inl given
 goes-stand s n objects after touched rules effect name bytes was is (inr held) =
-    let names = names_at n s.catalog in
-    elim (cases_Bool (is_named itself names name)) [
-      | inl named ↦ absurd (left-free s.catalog n rules name is (named-in names name named))
-      | inr other ↦ inr (effect.removes name ∙ unnamed-stays itself nothing names name (effect.put name) other ∙ effect.puts name ∙ held)
-    ]
+    stand-without (names_at n s.catalog) effect.put after touched (without_record n s.catalog).ledger effect.removes (left-free s.catalog n rules) name bytes was is (inr (effect.puts name ∙ held))
 
 pub delete-on : (n : ℕ) → LeadsOnBy (DeleteBackup n)
 delete-on n s h objects made touched said e t after well borne tell none does effect =

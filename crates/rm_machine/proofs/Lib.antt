@@ -36,6 +36,7 @@ pub mod LostLogs
 pub mod Merges
 pub mod Mounting
 pub mod Numbers
+pub mod OldCopies
 pub mod Opened
 pub mod Opening
 pub mod Pieces

@@ -99,25 +99,25 @@ abbrev pub CanRenewTo : State → List ℕ → ℕ → Option Piece → Type 0
 CanRenewTo s tag n None = Unit {0}
 CanRenewTo s tag n (Some last) = CanRenew s tag n last
 
-abbrev IsTrueTo : World → List Change → Option Piece → Type 0
+abbrev pub IsTrueTo : World → List Change → Option Piece → Type 0
 IsTrueTo w h None = Unit {0}
 IsTrueTo w h (Some last) = IsTrueArtefact w h (a_piece last)
 
 -- the state after it, what is made of it, and its object
-abbrev renewed_to : State → List ℕ → ℕ → Option Piece → State
+abbrev pub renewed_to : State → List ℕ → ℕ → Option Piece → State
 renewed_to s tag n o = option_map_or (λ last. record s { catalog = with_new_piece (without_piece s.catalog n) (renewed_entry s tag n last) }) o s
 
-abbrev made_to : State → Option Piece → List Made
+abbrev pub made_to : State → Option Piece → List Made
 made_to s o = option_map_or (λ last. record { name = piece_name true (ledger s).base.next_id; artefact = a_piece last } ∷ []) o []
 
-abbrev put_to : State → Option Piece → List Object
+abbrev pub put_to : State → Option Piece → List Object
 put_to s o = option_map_or (λ last. record { name = piece_name true (ledger s).base.next_id; bytes = spelling last } ∷ []) o []
 
 -- the ids that it draws
 abbrev pub drawn : Option Piece → ℕ
 drawn o = cond (is_some o) 1 0
 
-next-to : (s : State) (tag : List ℕ) (n : ℕ) (o : Option Piece) → (ledger (renewed_to s tag n o)).base.next_id ≡ (ledger s).base.next_id + drawn o
+pub next-to : (s : State) (tag : List ℕ) (n : ℕ) (o : Option Piece) → (ledger (renewed_to s tag n o)).base.next_id ≡ (ledger s).base.next_id + drawn o
 next-to s tag n None = omega arith
 next-to s tag n (Some last) = refl
 
@@ -129,7 +129,7 @@ saved-to : (s : State) (tag : List ℕ) (n : ℕ) (o : Option Piece) → (renewe
 saved-to s tag n None = refl
 saved-to s tag n (Some last) = refl
 
-sound-to : (s : State) (tag : List ℕ) (n : ℕ) (o : Option Piece) → IsSound s → CanRenewTo s tag n o → (ledger s).base.next_id + drawn o ≤ 4294967295 → IsSound (renewed_to s tag n o)
+pub sound-to : (s : State) (tag : List ℕ) (n : ℕ) (o : Option Piece) → IsSound s → CanRenewTo s tag n o → (ledger s).base.next_id + drawn o ≤ 4294967295 → IsSound (renewed_to s tag n o)
 sound-to s tag n None sound can room = sound
 sound-to s tag n (Some last) sound can room = renewed-sound s tag n last sound can (omega (arith, room))
 
@@ -164,16 +164,16 @@ count-by false x xs = omega arith
 pub count-changed : (x : ℕ × Renewed) (xs : List (ℕ × Renewed)) → length (changed (x ∷ xs)) ≡ drawn x.1.merged + length (changed xs)
 count-changed x xs = count-by (is_some x.1.merged) x (changed xs)
 
-first-can : (s : State) (tag : List ℕ) (x : ℕ × Renewed) (xs : List (ℕ × Renewed)) → CanRenewAll s tag (x ∷ xs) → CanRenewTo s tag x.1.id x.1.merged
+pub first-can : (s : State) (tag : List ℕ) (x : ℕ × Renewed) (xs : List (ℕ × Renewed)) → CanRenewAll s tag (x ∷ xs) → CanRenewTo s tag x.1.id x.1.merged
 first-can s tag x xs can = All-head (λ (y : ℕ × Renewed). CanRenewTo s tag y.1.id y.1.merged) x xs can.each
 
-first-room : (s : State) (tag : List ℕ) (x : ℕ × Renewed) (xs : List (ℕ × Renewed)) → CanRenewAll s tag (x ∷ xs) → (ledger s).base.next_id + drawn x.1.merged ≤ 4294967295
+pub first-room : (s : State) (tag : List ℕ) (x : ℕ × Renewed) (xs : List (ℕ × Renewed)) → CanRenewAll s tag (x ∷ xs) → (ledger s).base.next_id + drawn x.1.merged ≤ 4294967295
 first-room s tag x xs can =
     let count = count-changed x xs in
     let room = can.room in
     omega (arith, count, room)
 
-rest-can : (s : State) (tag : List ℕ) (x : ℕ × Renewed) (xs : List (ℕ × Renewed)) → CanRenewAll s tag (x ∷ xs) → CanRenewAll (after_copy s tag x) tag xs
+pub rest-can : (s : State) (tag : List ℕ) (x : ℕ × Renewed) (xs : List (ℕ × Renewed)) → CanRenewAll s tag (x ∷ xs) → CanRenewAll (after_copy s tag x) tag xs
 rest-can s tag x xs can =
     let count = count-changed x xs in
     let room = can.room in
