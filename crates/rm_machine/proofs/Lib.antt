@@ -46,6 +46,7 @@ pub mod Quiet
 pub mod Records
 pub mod Recovered
 pub mod Recovering
+pub mod Renewals
 pub mod Renewing
 pub mod Restoring
 pub mod Settings
