@@ -1,6 +1,5 @@
 -- RECOVER COPY leads on: what is at hand makes of a copy one that can be recorded, and that agrees with the history.
-use Rattle.std.proofs.Common.{◌≡◌, ◌≢◌, ◌<◌, ◌≤◌, ◌-◌, ◌+◌, ◌∙◌, ◌++◌, inl, inr, ℕ, List, [], Option, Some, None, Bool, true, false, refl, ap, sym, subst, arith, get_or, length, map, slice_get, sum_by, All, AllPairs, Contains}
-use Rattle.std.specs.Prelude.{IsSomeAnd}
+use Rattle.std.proofs.Common.{◌≡◌, ◌≢◌, ◌<◌, ◌≤◌, ◌-◌, ◌+◌, ◌∙◌, ◌++◌, ℕ, List, Option, Some, None, Bool, true, false, refl, ap, sym, subst, arith, get_or, length, slice_get, sum_by, All, AllPairs, Contains}
 use Rattle.std.proofs.lemmas.List.{append-nil, get_or-map, length-map}
 use Rattle.std.proofs.lemmas.List.Elements.{All-contains, Contains-get_or}
 use Rattle.std.proofs.lemmas.Option.{same_Some, slice_get_within}
@@ -27,7 +26,6 @@ use Rattle.rm_catalog.specs.Trees.{nodes}
 use Rattle.rm_evidence.specs.declared.evidence.Evidence.{Evidence}
 use Rattle.rm_evidence.specs.Available.{HasPiece}
 use Rattle.rm_evidence.specs.Known.{FitsPiece}
-use Rattle.rm_history.specs.declared.tree.Incarnation.{Incarnation}
 use Rattle.rm_history.specs.declared.world.Datafile.{Datafile}
 use Rattle.rm_history.specs.Tree.{IsThere, IsTree, end_of, owner}
 use Rattle.rm_history.proofs.Highs.{high-least}
@@ -50,7 +48,7 @@ use Rattle.rm_machine.specs.Effect.{Effect, LeavesObjects, Made, a_piece, done}
 use Rattle.rm_machine.specs.Machine.{DigestsTellFor, IsBorneOut, IsTrueArtefact}
 use Rattle.rm_machine.specs.Marks.{lacks_bytes, lacks_ids}
 use Rattle.rm_machine.specs.Recover.{recover_target}
-use Rattle.rm_machine.specs.RecoverCopy.{AreRenewed, RenewsAt, RenewsTo, after_copies, changed, copies_gone, copy_bytes, renewed_refusal, renewing}
+use Rattle.rm_machine.specs.RecoverCopy.{AreRenewed, RenewsTo, after_copies, changed, copies_gone, copy_bytes, renewed_refusal, renewing}
 use Rattle.rm_machine.specs.Recovery.{IsAtHand, in_place}
 use Rattle.rm_machine.specs.Sound.{IsSound}
 use Rattle.rm_machine.specs.declared.state.State.{State}

@@ -4,7 +4,7 @@ use Rattle.std.specs.Option.{option_map_or}
 use Rattle.std.proofs.lemmas.Bool.{cases_lt, lt-ltb}
 use Rattle.std.proofs.lemmas.List.{append-nil, append_assoc}
 use Rattle.std.proofs.lemmas.List.Edits.{length-remove}
-use Rattle.std.proofs.lemmas.List.Elements.{All-contains, All-head, All-tail, Contains-append_left, Contains-append_right, Contains-push_cases}
+use Rattle.std.proofs.lemmas.List.Elements.{All-contains, All-head, All-tail, Contains-append_left, Contains-append_right}
 use Rattle.rm_base.specs.Store.{Held}
 use Rattle.rm_base.specs.declared.block.Change.{Change}
 use Rattle.rm_base.proofs.Lists.{filter_to}
@@ -25,7 +25,7 @@ use Rattle.rm_repository.proofs.Splits.{place-of-one}
 use Rattle.rm_machine.specs.Backup.{piece_entry}
 use Rattle.rm_machine.specs.Effect.{Made, a_piece}
 use Rattle.rm_machine.specs.Machine.{IsBorneOut, IsTrueArtefact}
-use Rattle.rm_machine.specs.RecoverCopy.{after_copies, after_copy, changed, copies_made, copies_put, is_kept, renewed_entry, renewed_made, renewed_object}
+use Rattle.rm_machine.specs.RecoverCopy.{after_copies, after_copy, changed, copies_made, copies_put, is_kept, renewed_entry}
 use Rattle.rm_machine.specs.Sound.{IsSound}
 use Rattle.rm_machine.specs.Upkeep.{with_catalog}
 use Rattle.rm_machine.specs.declared.state.State.{State}
