@@ -38,8 +38,10 @@ pub mod Losing
 pub mod LosingLog
 pub mod Losses
 pub mod LostLogs
+pub mod Merges
 pub mod Mounting
 pub mod Numbers
+pub mod OldCopies
 pub mod Opened
 pub mod Opening
 pub mod Parents
@@ -50,6 +52,8 @@ pub mod Quiet
 pub mod Records
 pub mod Recovered
 pub mod Recovering
+pub mod Renewals
+pub mod Renewing
 pub mod Restoring
 pub mod Settings
 pub mod Sizes
