@@ -38,6 +38,8 @@ pub mod Losing
 pub mod LosingLog
 pub mod Losses
 pub mod LostLogs
+pub mod Marked
+pub mod Meant
 pub mod Merges
 pub mod Mounting
 pub mod Numbers
