@@ -1,5 +1,5 @@
 -- The datafiles that a backup takes, and the piece of each.
-use Rattle.std.proofs.Common.{◌≡◌, ◌≢◌, ◌<◌, ◌≤◌, ◌+◌, ◌-◌, ◌∙◌, ◌==◌, ℕ, suc, List, [], ◌∷◌, Option, Some, None, Bool, true, false, cond, refl, ap, sym, subst, arith, length, All, AllPairs, count_by, find, is_none, nat_le, nat_lt, slice_get, slice_index_or}
+use Rattle.std.proofs.Common.{◌≡◌, ◌≢◌, ◌<◌, ◌≤◌, ◌+◌, ◌-◌, ◌∙◌, ◌==◌, ℕ, suc, List, [], ◌∷◌, Option, Some, None, Bool, true, false, cond, refl, ap, sym, subst, arith, length, All, AllPairs, find, is_none, nat_le, nat_lt, slice_get, slice_index_or}
 use Rattle.std.specs.Option.{option_map_or}
 use Rattle.std.proofs.lemmas.Bool.{and_parts, eqb-true}
 use Rattle.std.proofs.lemmas.List.Elements.{All-nil, All-cons, All-contains, Contains-get_or}
@@ -27,12 +27,12 @@ use Rattle.rm_history.proofs.Highs.{high-above, high-bound, high-least}
 use Rattle.rm_ledger.specs.Facts.{IsCreated, IsPieceEntry}
 use Rattle.rm_piece.specs.declared.piece.Piece.{Piece}
 use Rattle.rm_piece.specs.Artefacts as piece
+use Rattle.rm_piece.specs.Rows.{from_on}
 use Rattle.rm_piece.specs.Spelling.{body_of}
 use Rattle.rm_piece.specs.Valid.{FitsKind, IsBefore, IsPiece, IsRow}
 use Rattle.rm_piece.proofs.Bodies.{length-body}
 use Rattle.rm_piece.proofs.Fitting.{fits}
 use Rattle.rm_piece.proofs.Picked.{copy_picked, picked_valid}
-use Rattle.rm_piece.specs.Rows.{from_on}
 use Rattle.rm_machine.specs.Backup.{asks_for, entry_of, is_taken, kind_by, lost_taken, piece_of, rows_from, rows_in, taken, taken_from}
 use Rattle.rm_machine.specs.Effect.{a_piece}
 use Rattle.rm_machine.specs.Machine.{HistoryFits, IsTrueArtefact, PieceAgrees}
@@ -117,6 +117,7 @@ agrees-by : (t : Bool) (w : World) (h : List Change) (a : Piece) → BaseAgrees 
 agrees-by true w h a is = is
 agrees-by false w h a is = is
 
+-- neither is a level 1
 whole-by : (t : Bool) → cond t Full Level0 ≢ Level1
 whole-by true is = absurd (cc)
 whole-by false is = absurd (cc)
@@ -198,7 +199,7 @@ module _ (s : State) (b : BackupForm) (f : ℕ) (sound : IsSound s) (opened : s.
       let number : 1 + (f - 1) ≡ f = let some = t.some in omega (arith, some) in
       subst (λ n. blocks_of (world s) n ≡ t.datafile.blocks) number (blocks-at (world s) (f - 1) t.datafile t.is) ∙ sym many
 
-  -- where its backup begins somewhere, its piece is the level 1 of the whole one
+  -- Where its backup begins at an SCN, its piece is the level 1 of the whole one.
 
   pub piece-valid : (from : Option ℕ) → BeginsWithin s from → IsPiece (piece_of s b (job f from))
   piece-valid None begins = whole-valid

@@ -1,5 +1,5 @@
 -- Where a level 1 begins: at the checkpoint of a record that holds on the current path, and so up to now.
-use Rattle.std.proofs.Common.{◌≡◌, ◌<◌, ◌≤◌, ◌∙◌, inl, inr, ℕ, List, Option, Some, None, Bool, true, false, refl, ap, sym, subst, arith, MatchBool, nat_le, option_map, Contains}
+use Rattle.std.proofs.Common.{◌≡◌, ◌≤◌, ◌∙◌, inl, inr, ℕ, List, Option, Some, None, Bool, true, false, ap, sym, subst, arith, MatchBool, nat_le, option_map, Contains}
 use Rattle.std.specs.Option.{option_map_or}
 use Rattle.std.proofs.lemmas.Bool.{and_parts, cases_lt}
 use Rattle.std.proofs.lemmas.List.Elements.{All-contains}
