@@ -10,8 +10,9 @@ use Rattle.rm_base.proofs.Lists.{filter_from, filter_to, map_from}
 use Rattle.rm_base.proofs.Members.{behind, first-or-rest, in-front, none-in}
 use Rattle.rm_catalog.specs.declared.record.LogEntry.{LogEntry}
 use Rattle.rm_catalog.specs.declared.record.PieceEntry.{PieceEntry}
-use Rattle.rm_change.specs.Names.{is_named, itself, nothing}
+use Rattle.rm_change.specs.Names.{HasRemoves, is_named, itself, nothing}
 use Rattle.rm_change.proofs.Named.{same-name, unnamed-stays}
+use Rattle.rm_ledger.specs.Ledger.{Ledger}
 use Rattle.rm_objects.specs.Names.{log_name, piece_name, site_name}
 use Rattle.rm_objects.proofs.Names.{log-name-tells, log-no-piece, log-no-site, piece-name-tells, piece-no-site}
 use Rattle.rm_repository.specs.Changes.{higher, lower, without_one}
@@ -25,7 +26,7 @@ use Rattle.rm_machine.specs.Names.{IsObjectName, of_log, of_piece}
 use Rattle.rm_machine.specs.Sound.{IsSound}
 use Rattle.rm_machine.specs.declared.state.State.{State}
 use Rattle.rm_machine.specs.Upkeep.{names_at, removing, with_catalog, without_all, without_record}
-use Rattle.rm_machine.proofs.Kept.{stand-where}
+use Rattle.rm_machine.proofs.Kept.{StandOn, stand-where}
 use Rattle.rm_machine.proofs.Later.{borne-beside}
 use Rattle.rm_machine.proofs.Leading.{LeadsOnBy, StaysBy}
 use Rattle.rm_machine.proofs.Quiet.{removing-on, removing-stays}
@@ -39,9 +40,18 @@ named-in (m ∷ ms) name is = elim (cases_Bool (bytes_eq name m)) [
   | inr other ↦ behind m ms name (named-in ms name (sym (ap (λ b. b || is_named itself ms name) other) ∙ is))
 ]
 
+-- what records name that no such name is of stays
+pub stand-without : (names : List (List ℕ)) (before after : Held) (touched : List (List ℕ)) (l : Ledger) → HasRemoves names before after → ((name : List ℕ) → IsObjectName l name → ¬ Contains names name)
+    → StandOn before after touched touched l l
+stand-without names before after touched l removes free name bytes was is (inl given) = inl given
+stand-without names before after touched l removes free name bytes was is (inr held) = elim (cases_Bool (is_named itself names name)) [
+  | inl named ↦ absurd (free name is (named-in names name named))
+  | inr other ↦ inr (removes name ∙ unnamed-stays itself nothing names name (before name) other ∙ held)
+]
+
 module _ {A : Type 0} (id : A → ℕ) (n : ℕ) (xs : List A) (x : A) where
   -- what is left was there, and has another id
-  left-one : Contains (without_one id n xs) x → Contains xs x × (id x ≢ n)
+  pub left-one : Contains (without_one id n xs) x → Contains xs x × (id x ≢ n)
   left-one has = elim (Contains-append_cases (lower id n xs) (higher id n xs) x has) [
     | inl below ↦
         let was = filter_from (λ y. nat_lt (id y) n) xs x below in

@@ -29,7 +29,7 @@ ghost use Rattle.rm_machine.specs.Sound.{IsSound};
 ghost use Rattle.rm_machine.specs.Step.{IsDone};
 ghost use Rattle.rm_machine.specs.declared.state.State.{State};
 ghost use Rattle.rm_machine.specs.State.{at_moment, current_of, ledger, tree, world};
-ghost use Rattle.rm_statement.specs.declared.command.Command.TheVariants.{ArchiveLogCurrent, Backup, BackupLogs, ChangeBackup, CreateDatafile, Crosscheck, Cut, Damage, DeleteBackup, DeleteExpired, DeleteObsolete, LoseDatafile, LoseLog, Mount, OpenPlain, OpenResetlogs, Parallelism, Recover, RecoverTest, Remove, Rename, ResetDatabase, Restore, Retention, SwitchLogfile, Write};
+ghost use Rattle.rm_statement.specs.declared.command.Command.TheVariants.{ArchiveLogCurrent, Backup, BackupLogs, ChangeBackup, CreateDatafile, Crosscheck, Cut, Damage, DeleteBackup, DeleteExpired, DeleteObsolete, LoseDatafile, LoseLog, Mount, OpenPlain, OpenResetlogs, Parallelism, Recover, RecoverCopy, RecoverTest, Remove, Rename, ResetDatabase, Restore, Retention, SwitchLogfile, Write};
 
 /// There are sound machines: that of a new database is one.
 pub fn a_new_database_is_sound()
@@ -66,6 +66,12 @@ pub fn archiving_leads_on()
     ensures stays { StaysSound ArchiveLogCurrent }
 {}
 
+/// BACKUP of datafiles, likewise: its pieces, level 1s among them, agree with the history.
+pub fn a_backup_leads_on()
+    ensures leads { (form : BackupForm) → LeadsOn (Backup form) }
+    ensures stays { (form : BackupForm) → StaysSound (Backup form) }
+{}
+
 /// BACKUP ARCHIVELOG ALL, likewise: a second object of a log agrees with the history as the log does.
 pub fn a_backup_of_logs_leads_on()
     ensures leads { LeadsOn BackupLogs }
@@ -100,6 +106,13 @@ pub fn a_reset_leads_on()
 pub fn a_recovery_leads_on()
     ensures leads { (until : Option Until) → LeadsOn (Recover until) }
     ensures stays { (until : Option Until) → StaysSound (Recover until) }
+{}
+
+/// RECOVER COPY OF DATABASE, likewise: each copy that takes over level 1s has a new record and a new object, which agrees with
+/// the history, and the old record and its object go.
+pub fn a_recovery_of_copies_leads_on()
+    ensures leads { (tag : List ℕ) (until : Option Until) → LeadsOn (RecoverCopy tag until) }
+    ensures stays { (tag : List ℕ) (until : Option Until) → StaysSound (RecoverCopy tag until) }
 {}
 
 /// RECOVER DATABASE TEST tells what the history made.
