@@ -82,7 +82,7 @@ creating-leads dbid threads scn m moment lines effect t after well none sound la
       (
         refl,
         record { state = refl; history = refl; objects = subst (λ o. LeavesObjects (and_drops o effect) m.objects after) (sym none) leaves; made = refl; touched = refl },
-        subst (λ o. Means o m.history (CreateDatabase dbid threads scn) (done lines effect t)) (sym none) tt,
+        subst (λ o. Means o m.history m.objects (CreateDatabase dbid threads scn) (done lines effect t) after) (sym none) tt,
       ),
       refl,
       subst (λ (e : Effect). IsBorneOut t (m.history ++ e.changes) after (m.made ++ e.made) m.touched) is.effect_is

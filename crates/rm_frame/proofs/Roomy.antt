@@ -20,7 +20,7 @@ use Rattle.rm_statement.specs.declared.command.BackupForm.{BackupForm}
 use Rattle.rm_statement.specs.declared.command.ChangeTo.{ChangeTo}
 use Rattle.rm_statement.specs.declared.command.ChangeTo.TheVariants.{Available, Keep, NoKeep, Unavailable, Uncatalog}
 use Rattle.rm_statement.specs.declared.command.Command.{Command}
-use Rattle.rm_statement.specs.declared.command.Command.TheVariants.{ArchiveLogCurrent, Backup, BackupLogs, ChangeBackup, CreateDatabase, CreateDatafile, Crosscheck, Cut, Damage, DeleteBackup, DeleteExpired, LoseDatafile, LoseLog, Mount, OpenPlain, OpenResetlogs, Recover, Remove, Rename, ResetDatabase, Restore, SwitchLogfile, Write, Parallelism, Retention}
+use Rattle.rm_statement.specs.declared.command.Command.TheVariants.{ArchiveLogCurrent, Backup, BackupLogs, ChangeBackup, CreateDatabase, CreateDatafile, Crosscheck, Cut, Damage, DeleteBackup, DeleteExpired, DeleteObsolete, LoseDatafile, LoseLog, Mount, OpenPlain, OpenResetlogs, Recover, Remove, Rename, ResetDatabase, Restore, SwitchLogfile, Write, Parallelism, Retention}
 use Rattle.rm_statement.specs.declared.command.Until.{Until}
 use Rattle.rm_statement.specs.declared.command.RetentionForm.{RetentionForm}
 use Rattle.rm_statement.specs.declared.command.WriteForm.{WriteForm}
@@ -237,6 +237,10 @@ check-roomy class = draws-none (Crosscheck class) asks-ids
 
 pub expire-roomy : (class : Class) → LeavesIds (DeleteExpired class)
 expire-roomy class = draws-none (DeleteExpired class) asks-ids
+    (λ s held lines e t does left. none-drawn s lines _ e _ (with_catalog s (without_all does.ids s.catalog)) t does.is (all-next does.ids s.catalog) left)
+
+pub obsolete-roomy : LeavesIds DeleteObsolete
+obsolete-roomy = draws-none DeleteObsolete asks-ids
     (λ s held lines e t does left. none-drawn s lines _ e _ (with_catalog s (without_all does.ids s.catalog)) t does.is (all-next does.ids s.catalog) left)
 
 -- CONFIGURE
