@@ -25,7 +25,7 @@ use Rattle.rm_statement.specs.declared.command.Until.{Until}
 use Rattle.rm_statement.specs.declared.command.RetentionForm.{RetentionForm}
 use Rattle.rm_statement.specs.declared.command.WriteForm.{WriteForm}
 use Rattle.rm_machine.specs.Archive.{after_all, after_thread, after_threads, archiving, due_from}
-use Rattle.rm_machine.specs.Backup.{after_file, after_files, backing, taken}
+use Rattle.rm_machine.specs.Backup.{after_file, after_files, backing}
 use Rattle.rm_machine.specs.BackupLogs.{copies_of, copies_refusal, copy_entry, copying, numbered_from, with_copies}
 use Rattle.rm_machine.specs.CreateDatafile.{datafile_refusal, with_datafile}
 use Rattle.rm_machine.specs.Configure.{parallelism_refusal, policy_of, retention_refusal, with_channels, with_policy}
@@ -41,6 +41,7 @@ use Rattle.rm_machine.specs.Recover.{RecoversTo, or_else, recover_target, recove
 use Rattle.rm_machine.specs.ResetDatabase.{at_incarnation, reset_refusal}
 use Rattle.rm_machine.specs.Restore.{RestoresTo, place_refusal, restored}
 use Rattle.rm_machine.specs.Sound.{IsSound}
+use Rattle.rm_machine.specs.declared.job.Job.{Job}
 use Rattle.rm_machine.specs.declared.state.State.{State}
 use Rattle.rm_machine.specs.State.{ledger, now_of, on_path, online}
 use Rattle.rm_machine.specs.Step.{IsDone, IsOutcome, refusal_of}
@@ -49,7 +50,7 @@ use Rattle.rm_machine.specs.Upkeep.{changed_to, log_at, log_changed, piece_at, p
 use Rattle.rm_machine.specs.Write.{block_refusal, with_write, write_refusal}
 use Rattle.rm_machine.proofs.Archives.{Took, took-thread}
 use Rattle.rm_machine.proofs.ArchivingAll.{room}
-use Rattle.rm_machine.proofs.BackingUp.{can-back_up}
+use Rattle.rm_machine.proofs.BackingUp.{can-back_up, jobs-room}
 use Rattle.rm_machine.proofs.BackingUpLogs.{after_copies, done-of, room-for}
 use Rattle.rm_machine.proofs.Branching.{can-reset}
 use Rattle.rm_machine.proofs.Drilling.{IsDrill, cut-by, damaged-by, removed-by, renamed-by}
@@ -321,18 +322,18 @@ branch-roomy s held lines e t sound comes =
     branch-left s.instance.point s lines e t both.1 (omega (arith, most, up))
 
 -- each piece draws one
-files-next : (b : BackupForm) (tag fs : List ℕ) (s : State) → next (after_files s b tag fs) ≡ next s + length fs
+files-next : (b : BackupForm) (tag : List ℕ) (js : List Job) (s : State) → next (after_files s b tag js) ≡ next s + length js
 files-next b tag [] s = omega arith
-files-next b tag (f ∷ fs) s = let rest = files-next b tag fs (after_file s b tag f) in omega (arith, rest)
+files-next b tag (j ∷ js) s = let rest = files-next b tag js (after_file s b tag j) in omega (arith, rest)
 
 pub backup-roomy : (b : BackupForm) → LeavesIds (Backup b)
 backup-roomy b s held lines e t sound comes =
     let both = done-by (refusal_of s (Backup b)) s held (Backup b) lines e t comes in
     let does = both.1 in
-    let fs = taken s b in
-    let most = (can-back_up s b sound both.0).room.ids in
-    let up = files-next b does.tag fs s in
-    left-after lines _ e (backing s b does.tag fs) (after_files s b does.tag fs) t does.is (omega (arith, most, up))
+    let js = does.jobs in
+    let most = (jobs-room s b js does.are (can-back_up s b sound both.0).room).ids in
+    let up = files-next b does.tag js s in
+    left-after lines _ e (backing s b does.tag js) (after_files s b does.tag js) t does.is (omega (arith, most, up))
 
 -- and so does each backup of a log
 copies-next : (logs : List LogFile) (n : ℕ) (r : Repository) → next_in (with_copies r (numbered_from n logs)) ≡ next_in r + length logs

@@ -16,7 +16,7 @@ use Rattle.rm_machine.specs.RecoverCopy.{after_copies, after_copy, copies_gone, 
 use Rattle.rm_machine.specs.Sound.{IsSound}
 use Rattle.rm_machine.specs.declared.state.State.{State}
 use Rattle.rm_machine.specs.State.{ledger}
-use Rattle.rm_machine.proofs.Deleting.{left-other}
+use Rattle.rm_machine.proofs.Deleting.{left-one}
 use Rattle.rm_machine.proofs.Renewing.{CanRenewAll, CanRenewTo, first-can, first-room, next-to, renewals-sound, renewed_to, rest-can, sound-to}
 
 -- an id that was drawn before
@@ -26,7 +26,7 @@ IsDrawn s p = p.id < (ledger s).base.next_id
 -- where a copy changed, a record of an id that was drawn before was there, and is not the one that went
 left-to : (s : State) (tag : List ℕ) (n : ℕ) (last : Piece) (p : PieceEntry) → Contains (ledger (renewed_to s tag n (Some last))).pieces p → IsDrawn s p → Contains (ledger s).pieces p × (p.id ≢ n)
 left-to s tag n last p has low = elim (Contains-push_cases (without_one (λ x. x.id) n (ledger s).pieces) (renewed_entry s tag n last) p has) [
-  | inl old ↦ (contains-without (λ (x : PieceEntry). x.id) (Contains (ledger s).pieces) n (ledger s).pieces (λ y was. was) p old, left-other (λ (x : PieceEntry). x.id) n (ledger s).pieces p old)
+  | inl old ↦ left-one (λ (x : PieceEntry). x.id) n (ledger s).pieces p old
   | inr same ↦ absurd (let new : (ledger s).base.next_id ≡ p.id = ap (λ (x : PieceEntry). x.id) same in omega (arith, low, new))
 ]
 

@@ -15,8 +15,8 @@ use rm_blocks::DataFile;
 use rm_history::Datafile;
 use rm_redo::OnlineLogs;
 
-// The SCN up to which an incarnation is known; 0 for one that is not there.
-fn end_of(state: &State, inc: IncNo) -> Scn
+/// The SCN up to which an incarnation is known; 0 for one that is not there.
+pub(crate) fn end_of(state: &State, inc: IncNo) -> Scn
     ensures { result ≡ end_of (tree state.now) inc }
 {
     state.catalog.tree().get(inc).map_or(0, |node| node.end)

@@ -12,6 +12,7 @@ pub mod recorded;
 pub mod replies;
 pub mod room;
 pub mod state;
+pub mod until;
 
 pub use built::is_built;
 pub use handed::Handed;

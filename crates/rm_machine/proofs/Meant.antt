@@ -1,0 +1,121 @@
+-- The moment that is computed is the one that the text means.
+use Rattle.std.proofs.Common.{◌≡◌, ◌∙◌, refl, sym, ap, subst, ℕ, ◌+◌, ◌-◌, ◌*◌, ◌/◌, ◌%◌, ◌<◌, ◌≤◌, ◌≤ℤ◌, ℤ, pos, negsuc, unsigned_abs, List, [], ◌∷◌, ◌++◌, length, take, drop, Option, Some, None, Bool, true, false, ◌&&◌, ◌||◌, cond, codes, arith, map}
+use Rattle.std.specs.Prelude.{nat_le, not}
+use Rattle.std.specs.Char.{digit_value, is_ascii_digit, is_digit, to_ascii_lowercase}
+use Rattle.std.specs.List.{list_all}
+use Rattle.std.specs.Option.{option_map_or}
+use Rattle.std.specs.Str.{str_to_ascii_lowercase}
+use Rattle.std.specs.Str.Parse.{AllDigits, digits_value}
+use Rattle.std.proofs.lemmas.Bool.{and_from, le-leb, lt-ltb, false_from_ne_true, cases_Bool}
+use Rattle.std.proofs.lemmas.Bool.Decides.{nat_tests}
+use Rattle.std.proofs.lemmas.Slice.Eq.{bytes_eq-Decides}
+use Rattle.jiff_core.specs.declared.civil.datetime.DateTime.{DateTime}
+use Rattle.jiff_core.specs.Calendar.{days_from_civil}
+use Rattle.jiff_core.specs.DateTime.{civil_seconds}
+use Rattle.jiff_core.proofs.SignedLemmas.{signed_arith}
+use Rattle.rm_base.specs.Numbers.{last_moment}
+use Rattle.rm_moments.specs.Meaning.{Ago, IsAgo, IsDays, IsSysdate, MeansMoment, Now, Shown, days_before}
+use Rattle.rm_moments.specs.Text.{IsAt, IsText, shown, two}
+use Rattle.rm_moments.specs.Times.{fields_at, is_ago, is_dash_days, is_days, is_sysdate, is_time_text, two_at}
+use Rattle.rm_moments.proofs.Dates.{at_within, since_1970}
+use Rattle.rm_moments.proofs.Days.{ago-digits, ago-word, length-sysdate}
+use Rattle.rm_moments.proofs.Digits.{fields_of, fields_of-small}
+use Rattle.rm_moments.proofs.Known.{means_time, time_means}
+use Rattle.rm_machine.specs.Meant.{moment_meant, seconds_at}
+
+-- SYSDATE and SYSDATE-n pass their tests
+sysdate-test : (word : List ℕ) → IsSysdate word → is_sysdate word ≡ true
+sysdate-test word h = (bytes_eq-Decides (str_to_ascii_lowercase word) (str_to_ascii_lowercase (codes "sysdate"))).1 h
+
+test-sysdate : (word : List ℕ) → is_sysdate word ≡ true → IsSysdate word
+test-sysdate word h = (bytes_eq-Decides (str_to_ascii_lowercase word) (str_to_ascii_lowercase (codes "sysdate"))).0 h
+
+digits-test : (ds : List ℕ) → AllDigits 10 ds → list_all (λ c. is_digit c 10) ds ≡ true
+digits-test [] h = refl
+digits-test (c ∷ cs) h = and_from (is_digit c 10) (list_all (λ d. is_digit d 10) cs) (lt-ltb (digit_value c) 10 h.0) (digits-test cs h.1)
+
+days-test : (ds : List ℕ) (n : ℕ) → IsDays ds n → is_days ds ≡ true
+days-test ds n h =
+    let some : nat_le 1 (length ds) ≡ true = le-leb 1 (length ds) (omega (arith, h.numeral.0)) in
+    let short : nat_le (length ds) 20 ≡ true = le-leb (length ds) 20 h.short in
+    let few : nat_le (digits_value 10 ds) 36500 ≡ true = le-leb (digits_value 10 ds) 36500 (omega (arith, h.value, h.most)) in
+    rw (some, short, digits-test ds h.numeral.1, few) refl
+
+ago-test : (text : List ℕ) (n : ℕ) → IsAgo text n → is_ago text ≡ true
+ago-test text n h =
+    rw (ago-word text n h, ago-digits text n h) (and_from (is_sysdate h.word) (is_dash_days (45 ∷ h.digits)) (sysdate-test h.word h.sysdate) (days-test h.digits n h.number))
+
+-- SYSDATE-n is longer than SYSDATE
+ago-no_sysdate : (text : List ℕ) (n : ℕ) → IsAgo text n → is_sysdate text ≡ false
+ago-no_sysdate text n h = false_from_ne_true (is_sysdate text) (λ e.
+    let short = length-sysdate text (test-sysdate text e) in
+    let back = ap length (ago-digits text n h) in
+    absurd (omega (arith, short, back, length-drop 7 text)))
+
+-- a date and time has a `-` in the place of a letter
+no-sysdate : (a b c d : ℕ) (rest : List ℕ) → is_sysdate (a ∷ b ∷ c ∷ d ∷ 45 ∷ rest) ≡ false
+no-sysdate a b c d rest = false_from_ne_true (is_sysdate (a ∷ b ∷ c ∷ d ∷ 45 ∷ rest)) (λ e. fifth a b c d rest (test-sysdate (a ∷ b ∷ c ∷ d ∷ 45 ∷ rest) e))
+  where
+    fifth : (a b c d : ℕ) (rest : List ℕ) → IsSysdate (a ∷ b ∷ c ∷ d ∷ 45 ∷ rest) → ⊥
+    fifth a b c d rest h = let letter : 45 ≡ 97 = cc in omega (arith, letter)
+
+-- its fields are read
+two-read : (n : ℕ) (rest : List ℕ) → n < 100 → two_at (two n ++ rest) ≡ Some (n, rest)
+two-read n rest l =
+    let a : is_ascii_digit (48 + n / 10) ≡ true = grind (arith, nat_tests) in
+    let b : is_ascii_digit (48 + n % 10) ≡ true = grind (arith, nat_tests) in
+    let value : (48 + n / 10 - 48) * 10 + (48 + n % 10 - 48) ≡ n = omega arith in
+    rw (a, b, value) refl
+
+fields-read : (civil : DateTime) → fields_at (shown civil) ≡ Some (fields_of civil)
+fields-read civil =
+    let f = fields_of civil in
+    let s = fields_of-small civil in
+    rw (two-read f.century _ s.century, two-read f.year _ s.year, two-read f.month _ s.month, two-read f.day _ s.day, two-read f.hour _ s.hour, two-read f.minute _ s.minute, two-read f.second [] s.second) refl
+
+-- and lie so many seconds behind 1970
+since-abs : (z : ℤ) → pos 1970 ≤ℤ z → pos (unsigned_abs z / 100 * 100 + unsigned_abs z % 100) ≡ z
+since-abs (pos n) h = ap pos (omega arith)
+since-abs (negsuc n) h = absurd (omega (arith, signed_arith, h))
+
+seconds-shown : (m : ℕ) (civil : DateTime) → IsAt m civil → let f = fields_of civil in seconds_at (f.century * 100 + f.year) f.month f.day f.hour f.minute f.second ≡ m
+unfolding civil_seconds
+seconds-shown m civil at =
+    let year = since-abs civil.date.year (since_1970 m civil at) in
+    rw year (omega (arith, signed_arith, at))
+
+-- it is neither SYSDATE nor SYSDATE-n
+shown-no_sysdate : (civil : DateTime) → is_sysdate (shown civil) ≡ false
+shown-no_sysdate civil = no-sysdate _ _ _ _ _
+
+shown-no_ago : (civil : DateTime) → is_ago (shown civil) ≡ false
+shown-no_ago civil = ap (λ b. b && is_dash_days (drop 7 (shown civil))) (no-sysdate _ _ _ _ _)
+
+ago-number : (text : List ℕ) (n : ℕ) → IsAgo text n → digits_value 10 (drop 8 text) ≡ n
+ago-number text n ago = ap (λ ts. digits_value 10 (drop 1 ts)) (ago-digits text n ago) ∙ ago.number.value
+
+-- what the text means is computed
+pub meant-is : (text : List ℕ) (now m : ℕ) → MeansMoment text now m → m ≡ moment_meant text now
+unfolding moment_meant
+meant-is text now m (Now word e) = rw (means_time text now m (Now word e), sysdate-test text word) e
+meant-is text now m (Ago n ago e) = rw (means_time text now m (Ago n ago e), ago-no_sysdate text n ago, ago-test text n ago, ago-number text n ago) e
+meant-is text now m (Shown t) =
+    rw (means_time text now m (Shown t), t.2, shown-no_sysdate t.0, shown-no_ago t.0, fields-read t.0) (sym (seconds-shown m t.0 t.1))
+
+-- and what means nothing counts as 0
+pub meant-none : (text : List ℕ) (now : ℕ) → ((m : ℕ) → ¬ (MeansMoment text now m)) → 0 ≡ moment_meant text now
+unfolding moment_meant
+meant-none text now none = rw (false_from_ne_true (is_time_text text) (λ e. let t = time_means text now e in none t.0 t.1)) refl
+
+-- it is at most the last moment
+pub meant-within : (text : List ℕ) (now : ℕ) → now ≤ last_moment → moment_meant text now ≤ last_moment
+meant-within text now late = by_test (is_time_text text) refl
+  where
+    means-within : (m : ℕ) → MeansMoment text now m → m ≤ last_moment
+    means-within m (Shown t) = at_within m t.0 t.1
+    means-within m (Now word e) = omega (arith, e, late)
+    means-within m (Ago n ago e) = omega (arith, e, late)
+
+    by_test : (b : Bool) → is_time_text text ≡ b → moment_meant text now ≤ last_moment
+    by_test true e = let t = time_means text now e in omega (arith, means-within t.0 t.1, meant-is text now t.0 t.1)
+    by_test false e = ?
