@@ -1,7 +1,7 @@
 -- The laws of every statement. One that is not in the machine yet comes to nothing.
 use Rattle.std.proofs.Common.{refl}
 use Rattle.rm_statement.specs.declared.command.Command.{Command}
-use Rattle.rm_statement.specs.declared.command.Command.TheVariants.{ArchiveLogCurrent, Backup, BackupLogs, ChangeBackup, CreateDatabase, CreateDatafile, Crosscheck, Cut, Damage, DeleteBackup, DeleteExpired, DeleteObsolete, Dump, ListArchived, ListBackup, ListCopy, ListIncarnation, LoseDatafile, LoseLog, Mount, OpenPlain, OpenResetlogs, Parallelism, Preview, Recover, RecoverTest, Remove, Rename, ReportNeedBackup, ReportObsolete, ReportSchema, ResetDatabase, Restore, Retention, ShowAll, SwitchLogfile, ValidateAll, Write}
+use Rattle.rm_statement.specs.declared.command.Command.TheVariants.{ArchiveLogCurrent, Backup, BackupLogs, ChangeBackup, CreateDatabase, CreateDatafile, Crosscheck, Cut, Damage, DeleteBackup, DeleteExpired, DeleteObsolete, Dump, ListArchived, ListBackup, ListCopy, ListIncarnation, LoseDatafile, LoseLog, Mount, OpenPlain, OpenResetlogs, Parallelism, Preview, Recover, RecoverTest, Remove, Rename, ReportNeedBackup, ReportObsolete, ReportSchema, ResetDatabase, Restore, Retention, ShowAll, SwitchLogfile, ValidateAll, Write, RecoverCopy}
 use Rattle.rm_machine.specs.Laws.{LeadsOn, TellsOn}
 use Rattle.rm_machine.proofs.AddingDatafile.{create-on, create-stays}
 use Rattle.rm_machine.proofs.ArchivingAll.{all-on, all-stays}
@@ -18,6 +18,7 @@ use Rattle.rm_machine.proofs.LosingLog.{lose_log-on, lose_log-stays}
 use Rattle.rm_machine.proofs.Mounting.{mount-on, mount-stays}
 use Rattle.rm_machine.proofs.Opening.{open-on, open-stays}
 use Rattle.rm_machine.proofs.Recovered.{recover-on, recover-stays}
+use Rattle.rm_machine.proofs.Renewals.{renew-on, renew-stays}
 use Rattle.rm_machine.proofs.Restoring.{restore-on, restore-stays}
 use Rattle.rm_machine.proofs.Settings.{parallelism-on, parallelism-stays, retention-on, retention-stays}
 use Rattle.rm_machine.proofs.Switching.{switch-on, switch-stays}
@@ -27,11 +28,12 @@ use Rattle.rm_machine.proofs.Writing.{write-on, write-stays}
 use Rattle.rm_frame.specs.Loose.{StaysLoose}
 use Rattle.rm_frame.proofs.Founding.{never-again, never-loose}
 use Rattle.rm_frame.proofs.LooseBackup.{back_logs-loose, backup-loose}
+use Rattle.rm_frame.proofs.LooseCopies.{renew-loose}
 use Rattle.rm_frame.proofs.LooseDrills.{cut-loose, damage-loose, remove-loose, rename-loose}
 use Rattle.rm_frame.proofs.LooseNew.{archive-loose, branch-loose, switch-loose}
 use Rattle.rm_frame.proofs.LooseUpkeep.{change-loose, check-loose, delete-loose, expire-loose, obsolete-loose}
 use Rattle.rm_frame.proofs.LooseQuiet.{choose-loose, create-loose, lose-loose, lose_log-loose, mount-loose, open-loose, parallelism-loose, recover-loose, restore-loose, retention-loose, told-loose, write-loose}
-use Rattle.rm_frame.proofs.Roomy.{LeavesIds, archive-roomy, back_logs-roomy, backup-roomy, branch-roomy, change-roomy, check-roomy, choose-roomy, create-roomy, cut-roomy, damage-roomy, delete-roomy, expire-roomy, lose-roomy, lose_log-roomy, mount-roomy, never-roomy, obsolete-roomy, open-roomy, parallelism-roomy, recover-roomy, remove-roomy, rename-roomy, restore-roomy, retention-roomy, switch-roomy, told-roomy, write-roomy}
+use Rattle.rm_frame.proofs.Roomy.{LeavesIds, archive-roomy, back_logs-roomy, backup-roomy, branch-roomy, change-roomy, check-roomy, choose-roomy, create-roomy, cut-roomy, damage-roomy, delete-roomy, expire-roomy, lose-roomy, lose_log-roomy, mount-roomy, never-roomy, obsolete-roomy, open-roomy, parallelism-roomy, recover-roomy, remove-roomy, rename-roomy, restore-roomy, retention-roomy, switch-roomy, told-roomy, write-roomy, renew-roomy}
 
 pub every-leads : (c : Command) → LeadsOn c
 every-leads (CreateDatabase dbid threads scn) = never-again dbid threads scn
@@ -47,6 +49,7 @@ every-leads (Backup b) = leads (Backup b) (backup-on b)
 every-leads BackupLogs = leads BackupLogs back_logs-on
 every-leads (Restore file until) = leads (Restore file until) (restore-on file until)
 every-leads (Recover until) = leads (Recover until) (recover-on until)
+every-leads (RecoverCopy tag until) = leads (RecoverCopy tag until) (renew-on tag until)
 every-leads (RecoverTest until inc) = leads (RecoverTest until inc) (tells-on (RecoverTest until inc) refl)
 every-leads (Preview until) = leads (Preview until) (tells-on (Preview until) refl)
 every-leads (Dump file block) = leads (Dump file block) (tells-on (Dump file block) refl)
@@ -91,6 +94,7 @@ every-loose (Backup b) = backup-loose b
 every-loose BackupLogs = back_logs-loose
 every-loose (Restore file until) = restore-loose file until
 every-loose (Recover until) = recover-loose until
+every-loose (RecoverCopy tag until) = renew-loose tag until
 every-loose (RecoverTest until inc) = told-loose (RecoverTest until inc) refl
 every-loose (Preview until) = told-loose (Preview until) refl
 every-loose (Dump file block) = told-loose (Dump file block) refl
@@ -132,6 +136,7 @@ every-stays (Backup b) = backup-stays b
 every-stays BackupLogs = back_logs-stays
 every-stays (Restore file until) = restore-stays file until
 every-stays (Recover until) = recover-stays until
+every-stays (RecoverCopy tag until) = renew-stays tag until
 every-stays (RecoverTest until inc) = tells-stays (RecoverTest until inc) refl
 every-stays (Preview until) = tells-stays (Preview until) refl
 every-stays (Dump file block) = tells-stays (Dump file block) refl
@@ -173,6 +178,7 @@ every-roomy (Backup b) = backup-roomy b
 every-roomy BackupLogs = back_logs-roomy
 every-roomy (Restore file until) = restore-roomy file until
 every-roomy (Recover until) = recover-roomy until
+every-roomy (RecoverCopy tag until) = renew-roomy tag until
 every-roomy (RecoverTest until inc) = told-roomy (RecoverTest until inc) refl
 every-roomy (Preview until) = told-roomy (Preview until) refl
 every-roomy (Dump file block) = told-roomy (Dump file block) refl

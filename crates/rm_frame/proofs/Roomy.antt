@@ -20,7 +20,7 @@ use Rattle.rm_statement.specs.declared.command.BackupForm.{BackupForm}
 use Rattle.rm_statement.specs.declared.command.ChangeTo.{ChangeTo}
 use Rattle.rm_statement.specs.declared.command.ChangeTo.TheVariants.{Available, Keep, NoKeep, Unavailable, Uncatalog}
 use Rattle.rm_statement.specs.declared.command.Command.{Command}
-use Rattle.rm_statement.specs.declared.command.Command.TheVariants.{ArchiveLogCurrent, Backup, BackupLogs, ChangeBackup, CreateDatabase, CreateDatafile, Crosscheck, Cut, Damage, DeleteBackup, DeleteExpired, DeleteObsolete, LoseDatafile, LoseLog, Mount, OpenPlain, OpenResetlogs, Recover, Remove, Rename, ResetDatabase, Restore, SwitchLogfile, Write, Parallelism, Retention}
+use Rattle.rm_statement.specs.declared.command.Command.TheVariants.{ArchiveLogCurrent, Backup, BackupLogs, ChangeBackup, CreateDatabase, CreateDatafile, Crosscheck, Cut, Damage, DeleteBackup, DeleteExpired, DeleteObsolete, LoseDatafile, LoseLog, Mount, OpenPlain, OpenResetlogs, Recover, Remove, Rename, ResetDatabase, Restore, SwitchLogfile, Write, Parallelism, Retention, RecoverCopy}
 use Rattle.rm_statement.specs.declared.command.Until.{Until}
 use Rattle.rm_statement.specs.declared.command.RetentionForm.{RetentionForm}
 use Rattle.rm_statement.specs.declared.command.WriteForm.{WriteForm}
@@ -55,6 +55,8 @@ use Rattle.rm_machine.proofs.BackingUpLogs.{after_copies, done-of, room-for}
 use Rattle.rm_machine.proofs.Branching.{can-reset}
 use Rattle.rm_machine.proofs.Drilling.{IsDrill, cut-by, damaged-by, removed-by, renamed-by}
 use Rattle.rm_machine.proofs.Leading.{done-by}
+use Rattle.rm_machine.proofs.Renewals.{was-renewed}
+use Rattle.rm_machine.proofs.Renewing.{renewals-next}
 use Rattle.rm_machine.proofs.Switching.{not-above}
 use Rattle.rm_machine.proofs.Telling.{never-done}
 
@@ -350,6 +352,15 @@ back_logs-roomy s held lines e t sound comes =
     let most = (room-for s logs sound is.0).ids in
     let up = copies-next logs (next s) s.catalog in
     ap (λ y. lacks_ids y 0) (sym is.2) ∙ le-ltb 4294967295 (next (after_copies s logs) + 0 + 68) (omega (arith, most, up))
+
+-- and so does each copy that changed
+pub renew-roomy : (tag : List ℕ) (until : Option Until) → LeavesIds (RecoverCopy tag until)
+renew-roomy tag until s held lines e t sound comes =
+    let was = was-renewed (recover_target s until) s tag held lines e t sound (done-by (refusal_of s (RecoverCopy tag until)) s held (RecoverCopy tag until) lines e t comes).1 in
+    let most = was.can.room in
+    let up = renewals-next was.copies s tag in
+    let same = ap next was.state in
+    le-ltb 4294967295 (next t + 0 + 68) (omega (arith, most, up, same))
 
 -- Statements that are never done
 

@@ -286,13 +286,21 @@ pub renew-on : (tag : List ℕ) (until : Option Until) → LeadsOnBy (RecoverCop
 renew-on tag until s h objects made touched said e t after well stands tell none does effect =
     renews-on (recover_target s until) s tag h objects made touched said e t after stands tell does effect
 
-renews-stays : (o : Option ℕ) (s : State) (tag : List ℕ) (objects : Held) (said : List Line) (e : Effect) (t : State) → IsSound s → s.catalog.saved ≡ None → RenewsTo s objects tag o (done said e t) → IsSound t × (t.catalog.saved ≡ None)
-renews-stays None s tag objects said e t sound none does = absurd does
-renews-stays (Some at) s tag objects said e t sound none does =
+-- the copies that were renewed, each of which can be recorded
+pub record WasRenewed (s : State) (tag : List ℕ) (e : Effect) (t : State) : Type 0 where
+  pub copies : List (ℕ × Renewed)
+  pub can : CanRenewAll s tag copies
+  pub effect : renewing s tag copies ≡ e
+  pub state : after_copies s tag copies ≡ t
+
+pub was-renewed : (o : Option ℕ) (s : State) (tag : List ℕ) (objects : Held) (said : List Line) (e : Effect) (t : State) → IsSound s → RenewsTo s objects tag o (done said e t) → WasRenewed s tag e t
+was-renewed None s tag objects said e t sound does = absurd does
+was-renewed (Some at) s tag objects said e t sound does =
     let xs : List (ℕ × Renewed) = does.copies in
-    let q : State = after_copies s tag xs in
-    let is = done-of (renewed_refusal s xs) _ said (renewing s tag xs) e q t does.is in
-    (subst IsSound is.2 (renewals-sound xs s tag sound (can-all s objects sound does.evidence does.at_hand tag at xs does.are is.0)), sym (ap (λ (x : State). x.catalog.saved) is.2) ∙ renewals-saved xs s tag ∙ none)
+    let is = done-of (renewed_refusal s xs) _ said (renewing s tag xs) e (after_copies s tag xs) t does.is in
+    record { copies = xs; can = can-all s objects sound does.evidence does.at_hand tag at xs does.are is.0; effect = is.1; state = is.2 }
 
 pub renew-stays : (tag : List ℕ) (until : Option Until) → StaysBy (RecoverCopy tag until)
-renew-stays tag until s objects said e t well sound none accepted does = renews-stays (recover_target s until) s tag objects said e t sound none does
+renew-stays tag until s objects said e t well sound none accepted does =
+    let was = was-renewed (recover_target s until) s tag objects said e t sound does in
+    (subst IsSound was.state (renewals-sound was.copies s tag sound was.can), sym (ap (λ (x : State). x.catalog.saved) was.state) ∙ renewals-saved was.copies s tag ∙ none)
