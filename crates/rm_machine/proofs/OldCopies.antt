@@ -10,7 +10,6 @@ use Rattle.rm_objects.specs.Names.{piece_name, site_name}
 use Rattle.rm_objects.proofs.Names.{log-no-piece, piece-name-tells, piece-no-site}
 use Rattle.rm_piece.specs.declared.piece.Piece.{Piece}
 use Rattle.rm_repository.specs.Changes.{without_one}
-use Rattle.rm_repository.proofs.Ones.{contains-without}
 use Rattle.rm_machine.specs.Names.{IsObjectName, of_log, of_piece}
 use Rattle.rm_machine.specs.RecoverCopy.{after_copies, after_copy, copies_gone, renewed_entry, renewed_name}
 use Rattle.rm_machine.specs.Sound.{IsSound}
