@@ -57,8 +57,7 @@ use Rattle.rm_machine.proofs.BackingUpLogs.{after_copies, done-of, room-for}
 use Rattle.rm_machine.proofs.Branching.{can-reset}
 use Rattle.rm_machine.proofs.Drilling.{IsDrill, cut-by, damaged-by, removed-by, renamed-by}
 use Rattle.rm_machine.proofs.Leading.{done-by}
-use Rattle.rm_machine.proofs.Renewals.{was-renewed}
-use Rattle.rm_machine.proofs.Renewing.{renewals-next}
+use Rattle.rm_machine.proofs.Renewals.{leaves-renewed}
 use Rattle.rm_machine.proofs.Switching.{not-above}
 use Rattle.rm_machine.proofs.Telling.{never-done}
 
@@ -360,11 +359,9 @@ back_logs-roomy s held lines e t sound comes =
 -- and so does each copy that changed
 pub renew-roomy : (tag : List ℕ) (until : Option Until) → LeavesIds (RecoverCopy tag until)
 renew-roomy tag until s held lines e t sound comes =
-    let was = was-renewed (recover_target s until) s tag held lines e t sound (done-by (refusal_of s (RecoverCopy tag until)) s held (RecoverCopy tag until) lines e t comes).1 in
-    let most = was.can.room in
-    let up = renewals-next was.copies s tag in
-    let same = ap next was.state in
-    le-ltb 4294967295 (next t + 0 + 68) (omega (arith, most, up, same))
+    let c = RecoverCopy tag until in
+    let most = (leaves-renewed (recover_target s until) s tag held lines e t sound (done-by (refusal_of s c) s held c lines e t comes).1).ids in
+    le-ltb 4294967295 (next t + 0 + 68) (omega (arith, most))
 
 -- Statements that are never done
 

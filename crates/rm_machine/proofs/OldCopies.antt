@@ -1,22 +1,24 @@
--- RECOVER COPY: the names that go are those of no record that is left.
-use Rattle.std.proofs.Common.{◌≡◌, ◌≢◌, ◌<◌, ◌^◌, inl, inr, ℕ, List, [], ◌∷◌, Option, Some, None, true, ap, sym, arith, Contains}
+-- RECOVER COPY: the names that come are of new ids, and those that go are those of no record that is left.
+use Rattle.std.proofs.Common.{◌≡◌, ◌≢◌, ◌<◌, ◌≤◌, ◌+◌, ◌^◌, inl, inr, ℕ, List, [], ◌∷◌, Option, Some, None, true, refl, ap, sym, arith, All, Contains}
 use Rattle.std.specs.Option.{option_map_or}
-use Rattle.std.proofs.lemmas.List.Elements.{Contains-append_cases, Contains-push_cases}
+use Rattle.std.proofs.lemmas.List.Elements.{All-append, All-cons, All-nil, Contains-append_cases, Contains-push_cases}
 use Rattle.rm_base.proofs.Members.{first-or-rest, none-in}
 use Rattle.rm_backup.specs.declared.renewing.Renewed.{Renewed}
 use Rattle.rm_catalog.specs.declared.record.PieceEntry.{PieceEntry}
+use Rattle.rm_change.specs.declared.change.Object.{Object}
 use Rattle.rm_ledger.proofs.Lookups.{piece-id-within}
 use Rattle.rm_objects.specs.Names.{piece_name, site_name}
 use Rattle.rm_objects.proofs.Names.{log-no-piece, piece-name-tells, piece-no-site}
 use Rattle.rm_piece.specs.declared.piece.Piece.{Piece}
+use Rattle.rm_piece.specs.Spelling.{spelling}
 use Rattle.rm_repository.specs.Changes.{without_one}
 use Rattle.rm_machine.specs.Names.{IsObjectName, of_log, of_piece}
-use Rattle.rm_machine.specs.RecoverCopy.{after_copies, after_copy, copies_gone, renewed_entry, renewed_name}
+use Rattle.rm_machine.specs.RecoverCopy.{after_copies, after_copy, copies_gone, copies_put, renewed_entry, renewed_name}
 use Rattle.rm_machine.specs.Sound.{IsSound}
 use Rattle.rm_machine.specs.declared.state.State.{State}
 use Rattle.rm_machine.specs.State.{ledger}
 use Rattle.rm_machine.proofs.Deleting.{left-one}
-use Rattle.rm_machine.proofs.Renewing.{CanRenewAll, CanRenewTo, first-can, first-room, next-to, renewals-sound, renewed_to, rest-can, sound-to}
+use Rattle.rm_machine.proofs.Renewing.{CanRenewAll, CanRenewTo, drawn, first-can, first-room, next-to, put_to, renewals-sound, renewed_to, rest-can, sound-to}
 
 -- an id that was drawn before
 abbrev IsDrawn : State → PieceEntry → Type 0
@@ -90,3 +92,25 @@ old-free xs s tag sound can _ (of_piece p has) gone =
 
 pub old-no-part : (xs : List (ℕ × Renewed)) (id : ℕ) → ¬ Contains (copies_gone xs) (site_name id)
 old-no-part xs id gone = let copy = of-copy xs (site_name id) gone in piece-no-site true copy.0 id copy.1
+
+-- the name is that of a copy of an id that was not drawn before
+pub record IsNewCopy (s : State) (name : List ℕ) : Type 0 where
+  pub id : ℕ
+  pub next : (ledger s).base.next_id ≤ id
+  pub most : id ≤ 4294967295
+  pub is : piece_name true id ≡ name
+
+new-to : (first s : State) (o : Option Piece) → (ledger first).base.next_id ≤ (ledger s).base.next_id → (ledger s).base.next_id + drawn o ≤ 4294967295 → All (λ x. IsNewCopy first x.name) (put_to s o)
+new-to first s None low most = All-nil (λ (x : Object). IsNewCopy first x.name)
+new-to first s (Some last) low most =
+    All-cons (λ (x : Object). IsNewCopy first x.name) (record { name = piece_name true (ledger s).base.next_id; bytes = spelling last }) []
+    (record { id = (ledger s).base.next_id; next = low; most = omega (arith, most); is = refl }) (All-nil (λ (x : Object). IsNewCopy first x.name))
+
+-- each object that comes bears such a name
+pub copies-new : (xs : List (ℕ × Renewed)) (s first : State) (tag : List ℕ) → (ledger first).base.next_id ≤ (ledger s).base.next_id → CanRenewAll s tag xs → All (λ x. IsNewCopy first x.name) (copies_put s tag xs)
+copies-new [] s first tag low can = All-nil (λ (x : Object). IsNewCopy first x.name)
+copies-new (x ∷ xs) s first tag low can =
+    let q : State = after_copy s tag x in
+    let next = next-to s tag x.1.id x.1.merged in
+    All-append (λ (y : Object). IsNewCopy first y.name) (put_to s x.1.merged) (copies_put q tag xs)
+    (new-to first s x.1.merged low (first-room s tag x xs can)) (copies-new xs q first tag (omega (arith, low, next)) (rest-can s tag x xs can))

@@ -31,6 +31,7 @@ use Rattle.rm_history.specs.Tree.{IsThere, IsTree, end_of, owner}
 use Rattle.rm_history.proofs.Highs.{high-least}
 use Rattle.rm_ledger.specs.Facts.{IsPieceEntry}
 use Rattle.rm_merge.specs.Merge.{merged}
+use Rattle.rm_objects.specs.Names.{site_name}
 use Rattle.rm_objects.proofs.Worlds.{is-tree}
 use Rattle.rm_piece.specs.declared.piece.Piece.{Piece}
 use Rattle.rm_piece.specs.Spelling.{body_of}
@@ -47,6 +48,7 @@ use Rattle.rm_machine.specs.Backup.{piece_entry}
 use Rattle.rm_machine.specs.Effect.{Effect, LeavesObjects, Made, a_piece, done}
 use Rattle.rm_machine.specs.Machine.{DigestsTellFor, IsBorneOut, IsTrueArtefact}
 use Rattle.rm_machine.specs.Marks.{lacks_bytes, lacks_ids}
+use Rattle.rm_machine.specs.Names.{IsObjectName}
 use Rattle.rm_machine.specs.Recover.{recover_target}
 use Rattle.rm_machine.specs.RecoverCopy.{AreRenewed, RenewsTo, after_copies, changed, copies_gone, copy_bytes, renewed_refusal, renewing}
 use Rattle.rm_machine.specs.Recovery.{IsAtHand, in_place}
@@ -60,9 +62,9 @@ use Rattle.rm_machine.proofs.Deleting.{stand-without}
 use Rattle.rm_machine.proofs.Later.{borne-beside}
 use Rattle.rm_machine.proofs.Leading.{LeadsOnBy, StaysBy}
 use Rattle.rm_machine.proofs.Merges.{EndsIn, IsLast, KeepsOn, last-merge, reached-keeps}
-use Rattle.rm_machine.proofs.OldCopies.{old-free}
+use Rattle.rm_machine.proofs.OldCopies.{IsNewCopy, copies-new, old-free, old-no-part}
 use Rattle.rm_machine.proofs.Records.{database-told, pieces-told, tree-told}
-use Rattle.rm_machine.proofs.Renewing.{CanRenew, CanRenewAll, CanRenewTo, IsTrueTo, renewals-borne, renewals-saved, renewals-sound}
+use Rattle.rm_machine.proofs.Renewing.{CanRenew, CanRenewAll, CanRenewTo, IsTrueTo, renewals-borne, renewals-next, renewals-saved, renewals-sound}
 use Rattle.rm_machine.proofs.Standing.{each-in}
 use Rattle.rm_machine.proofs.Switching.{not-above}
 
@@ -286,21 +288,34 @@ pub renew-on : (tag : List ℕ) (until : Option Until) → LeadsOnBy (RecoverCop
 renew-on tag until s h objects made touched said e t after well stands tell none does effect =
     renews-on (recover_target s until) s tag h objects made touched said e t after stands tell does effect
 
--- the copies that were renewed, each of which can be recorded
-pub record WasRenewed (s : State) (tag : List ℕ) (e : Effect) (t : State) : Type 0 where
-  pub copies : List (ℕ × Renewed)
-  pub can : CanRenewAll s tag copies
-  pub effect : renewing s tag copies ≡ e
-  pub state : after_copies s tag copies ≡ t
+-- what it leaves, whatever was ever written
+pub record LeavesRenewed (s : State) (e : Effect) (t : State) : Type 0 where
+  pub sound : IsSound t
+  pub saved : t.catalog.saved ≡ s.catalog.saved
+  pub ids : (ledger t).base.next_id + 68 ≤ 4294967295
+  pub puts : All (λ x. IsNewCopy s x.name) e.puts
+  pub removes : (name : List ℕ) → IsObjectName (ledger t) name → ¬ Contains e.removes name
+  pub parts : (id : ℕ) → ¬ Contains e.removes (site_name id)
 
-pub was-renewed : (o : Option ℕ) (s : State) (tag : List ℕ) (objects : Held) (said : List Line) (e : Effect) (t : State) → IsSound s → RenewsTo s objects tag o (done said e t) → WasRenewed s tag e t
-was-renewed None s tag objects said e t sound does = absurd does
-was-renewed (Some at) s tag objects said e t sound does =
+pub leaves-renewed : (o : Option ℕ) (s : State) (tag : List ℕ) (objects : Held) (said : List Line) (e : Effect) (t : State) → IsSound s → RenewsTo s objects tag o (done said e t) → LeavesRenewed s e t
+leaves-renewed None s tag objects said e t sound does = absurd does
+leaves-renewed (Some at) s tag objects said e t sound does =
     let xs : List (ℕ × Renewed) = does.copies in
-    let is = done-of (renewed_refusal s xs) _ said (renewing s tag xs) e (after_copies s tag xs) t does.is in
-    record { copies = xs; can = can-all s objects sound does.evidence does.at_hand tag at xs does.are is.0; effect = is.1; state = is.2 }
+    let q : State = after_copies s tag xs in
+    let is = done-of (renewed_refusal s xs) _ said (renewing s tag xs) e q t does.is in
+    let can = can-all s objects sound does.evidence does.at_hand tag at xs does.are is.0 in
+    let room = can.room in
+    let next = renewals-next xs s tag in
+    subst (λ x. LeavesRenewed s e x) is.2 (subst (λ (x : Effect). LeavesRenewed s x q) is.1 (record {
+      sound = renewals-sound xs s tag sound can;
+      saved = renewals-saved xs s tag;
+      ids = omega (arith, room, next);
+      puts = copies-new xs s s tag (omega arith) can;
+      removes = old-free xs s tag sound can;
+      parts = old-no-part xs;
+    }))
 
 pub renew-stays : (tag : List ℕ) (until : Option Until) → StaysBy (RecoverCopy tag until)
 renew-stays tag until s objects said e t well sound none accepted does =
-    let was = was-renewed (recover_target s until) s tag objects said e t sound does in
-    (subst IsSound was.state (renewals-sound was.copies s tag sound was.can), sym (ap (λ (x : State). x.catalog.saved) was.state) ∙ renewals-saved was.copies s tag ∙ none)
+    let leaves = leaves-renewed (recover_target s until) s tag objects said e t sound does in
+    (leaves.sound, leaves.saved ∙ none)

@@ -107,7 +107,7 @@ IsTrueTo w h (Some last) = IsTrueArtefact w h (a_piece last)
 abbrev pub renewed_to : State → List ℕ → ℕ → Option Piece → State
 renewed_to s tag n o = option_map_or (λ last. record s { catalog = with_new_piece (without_piece s.catalog n) (renewed_entry s tag n last) }) o s
 
-abbrev pub made_to : State → Option Piece → List Made
+abbrev made_to : State → Option Piece → List Made
 made_to s o = option_map_or (λ last. record { name = piece_name true (ledger s).base.next_id; artefact = a_piece last } ∷ []) o []
 
 abbrev pub put_to : State → Option Piece → List Object
