@@ -1,6 +1,6 @@
 -- The moment that is computed is the one that the text means.
 use Rattle.std.proofs.Common.{◌≡◌, ◌∙◌, refl, sym, ap, subst, inl, inr, ℕ, ◌+◌, ◌-◌, ◌*◌, ◌/◌, ◌%◌, ◌<◌, ◌≤◌, ◌≤ℤ◌, ◌*ℤ◌, ◌+ℤ◌, ℤ, pos, negsuc, unsigned_abs, List, [], ◌∷◌, ◌++◌, length, drop, Some, true, false, codes, arith, length-drop, drop-drop}
-use Rattle.std.specs.Prelude.{nat_le}
+use Rattle.std.specs.Prelude.{IfSome, Option, Some, None, nat_le}
 use Rattle.std.specs.Char.{digit_value, is_ascii_digit, is_digit, to_ascii_lowercase}
 use Rattle.std.specs.List.{list_all}
 use Rattle.std.specs.Str.{str_to_ascii_lowercase}
@@ -21,7 +21,14 @@ use Rattle.rm_moments.proofs.Dates.{at_within, since_1970}
 use Rattle.rm_moments.proofs.Days.{ago-digits, ago-word, length-sysdate}
 use Rattle.rm_moments.proofs.Digits.{fields_of, fields_of-small}
 use Rattle.rm_moments.proofs.Known.{means_time, time_means}
+use Rattle.rm_report.specs.Reply.{HasDate}
+use Rattle.rm_statement.specs.declared.command.Until.{Until}
+use Rattle.rm_statement.specs.declared.command.Until.TheVariants.{Scn, Sequence, Time}
 use Rattle.rm_machine.specs.Meant.{moment_meant, seconds_at}
+use Rattle.rm_machine.specs.Sound.{IsSound}
+use Rattle.rm_machine.specs.declared.state.State.{State}
+use Rattle.rm_machine.specs.State.{ledger}
+use Rattle.rm_machine.specs.Until.{nowhere_refusal}
 
 -- SYSDATE and SYSDATE-n pass their tests
 sysdate-test : (word : List ℕ) → IsSysdate word → is_sysdate word ≡ true
@@ -124,3 +131,10 @@ meant-within text now late = elim (cases_Bool (is_time_text text)) [
   | inl e ↦ let t = time_means text now e in subst (λ m. m ≤ last_moment) (meant-is text now t.0 t.1) (means-within text now t.0 late t.1)
   | inr e ↦ rw e (omega arith)
 ]
+
+-- in a sound state so is that of an UNTIL, and of an RM-14
+pub nowhere-dated : (s : State) (until : Option Until) → IsSound s → IfSome (nowhere_refusal s until) HasDate
+nowhere-dated s None sound = tt
+nowhere-dated s (Some (Scn at)) sound = tt
+nowhere-dated s (Some (Sequence n t)) sound = tt
+nowhere-dated s (Some (Time text)) sound = meant-within text (ledger s).base.moment sound.catalog.ledger.base.moment
