@@ -48,6 +48,7 @@ use Rattle.rm_machine.specs.declared.state.State.{State}
 use Rattle.rm_machine.specs.State.{current_of, ledger, now_of, on_path, online}
 use Rattle.rm_machine.specs.Step.{IsDone, IsOutcome, refusal_of}
 use Rattle.rm_machine.specs.SwitchLogfile.{archive_refusal, archived, is_due, made_lines, none_lines, with_archived}
+use Rattle.rm_machine.specs.Until.{or_else}
 use Rattle.rm_machine.specs.Upkeep.{changed_to, log_at, log_changed, piece_at, piece_changed, record_refusal, with_catalog, with_keep, with_status, with_statuses, without_all, without_record}
 use Rattle.rm_machine.specs.Write.{block_refusal, with_write, write_refusal}
 use Rattle.rm_machine.proofs.Archives.{Took, took-thread}
@@ -60,6 +61,7 @@ use Rattle.rm_machine.proofs.Leading.{done-by}
 use Rattle.rm_machine.proofs.Renewals.{leaves-renewed}
 use Rattle.rm_machine.proofs.Switching.{not-above}
 use Rattle.rm_machine.proofs.Telling.{never-done}
+use Rattle.rm_machine.proofs.Untils.{until-none}
 
 -- what the statement does leaves the ids of a save
 abbrev pub LeavesIds : Command → Type 0
@@ -180,6 +182,7 @@ recover-roomy until s held lines e t sound comes =
     let both = done-by (refusal_of s (Recover until)) s held (Recover until) lines e t comes in
     let open_none = (unless s.instance.is_open _ _ both.0).1 in
     recover-left (recover_target s until) s held lines e t (λ at is. until-none s (current_of s) until (target_refusal s) (ids_refusal s) at open_none is) both.1
+    recover-left (recover_target s until) s held lines e t (λ at is. until-none s (current_of s) until (target_refusal s) (ids_refusal s) at (unless s.instance.is_open _ _ both.0).1 is) both.1
 
 restore-left : (o file : Option ℕ) (s : State) (held : Held) (lines : List Line) (e : Effect) (t : State) → ((at : ℕ) → o ≡ Some at → place_refusal s file at ≡ None) → RestoresTo s held file o (done lines e t) → lacks_ids t 0 ≡ false
 restore-left None file s held lines e t none does = absurd does
@@ -191,6 +194,7 @@ restore-roomy file until s held lines e t sound comes =
     let both = done-by (refusal_of s (Restore file until)) s held (Restore file until) lines e t comes in
     let open_none = (unless s.instance.is_open _ _ both.0).1 in
     restore-left (recover_target s until) file s held lines e t (λ at is. until-none s (current_of s) until (place_refusal s file) (ids_refusal s) at open_none is) both.1
+    restore-left (recover_target s until) file s held lines e t (λ at is. until-none s (current_of s) until (place_refusal s file) (ids_refusal s) at (unless s.instance.is_open _ _ both.0).1 is) both.1
 
 -- Statements on records
 
