@@ -180,8 +180,6 @@ recover-left (Some at) s held lines e t none (inr all) =
 pub recover-roomy : (until : Option Until) → LeavesIds (Recover until)
 recover-roomy until s held lines e t sound comes =
     let both = done-by (refusal_of s (Recover until)) s held (Recover until) lines e t comes in
-    let open_none = (unless s.instance.is_open _ _ both.0).1 in
-    recover-left (recover_target s until) s held lines e t (λ at is. until-none s (current_of s) until (target_refusal s) (ids_refusal s) at open_none is) both.1
     recover-left (recover_target s until) s held lines e t (λ at is. until-none s (current_of s) until (target_refusal s) (ids_refusal s) at (unless s.instance.is_open _ _ both.0).1 is) both.1
 
 restore-left : (o file : Option ℕ) (s : State) (held : Held) (lines : List Line) (e : Effect) (t : State) → ((at : ℕ) → o ≡ Some at → place_refusal s file at ≡ None) → RestoresTo s held file o (done lines e t) → lacks_ids t 0 ≡ false
@@ -192,8 +190,6 @@ restore-left (Some at) file s held lines e t none does =
 pub restore-roomy : (file : Option ℕ) (until : Option Until) → LeavesIds (Restore file until)
 restore-roomy file until s held lines e t sound comes =
     let both = done-by (refusal_of s (Restore file until)) s held (Restore file until) lines e t comes in
-    let open_none = (unless s.instance.is_open _ _ both.0).1 in
-    restore-left (recover_target s until) file s held lines e t (λ at is. until-none s (current_of s) until (place_refusal s file) (ids_refusal s) at open_none is) both.1
     restore-left (recover_target s until) file s held lines e t (λ at is. until-none s (current_of s) until (place_refusal s file) (ids_refusal s) at (unless s.instance.is_open _ _ both.0).1 is) both.1
 
 -- Statements on records
