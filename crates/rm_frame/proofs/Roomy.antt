@@ -38,7 +38,7 @@ use Rattle.rm_machine.specs.Mount.{as_mounted, mounted}
 use Rattle.rm_machine.specs.Open.{open_refusal, opened}
 use Rattle.rm_machine.specs.OpenResetlogs.{branched_off, resetlogs_lines}
 use Rattle.rm_machine.specs.Recover.{RecoversTo, recover_target, recovered, target_refusal}
-use Rattle.rm_machine.specs.Until.{or_else, until_refusal}
+use Rattle.rm_machine.specs.Until.{or_else}
 use Rattle.rm_machine.proofs.Untils.{until-none}
 use Rattle.rm_machine.specs.ResetDatabase.{at_incarnation, reset_refusal}
 use Rattle.rm_machine.specs.Restore.{RestoresTo, place_refusal, restored}
