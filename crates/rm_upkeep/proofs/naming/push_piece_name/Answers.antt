@@ -3,7 +3,7 @@ use Rattle.std.proofs.lemmas.Result.{IfOk-weaker}
 use Rattle.rm_catalog.specs.declared.record.PieceEntry.{PieceEntry}
 use Rattle.rm_objects.specs.Names.{piece_name}
 use Rattle.rm_upkeep.proofs.Named.{no-name, one-name}
-use Rattle.rm_upkeep.proofs.deleting.push_piece_name.Goals as goal
+use Rattle.rm_upkeep.proofs.naming.push_piece_name.Goals as goal
 
 pub returns-in_ok-piece_name-in-Some : goal.returns-in_ok-piece_name-in-Some
 returns-in_ok-piece_name-in-Some c =
