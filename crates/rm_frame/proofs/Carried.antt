@@ -17,6 +17,7 @@ use Rattle.rm_machine.specs.Laws.{LeadsOn, StaysSound, TellsOn}
 use Rattle.rm_machine.specs.Machine.{DigestsTell, IsBorneOut, IsSoundBy, IsSoundMachine, Machine}
 use Rattle.rm_machine.specs.Rest.{HaveParts}
 use Rattle.rm_machine.specs.declared.state.State.{State}
+use Rattle.rm_machine.specs.State.{at_moment}
 use Rattle.rm_machine.specs.Step.{IsOutcomeWithout, IsStatement, Step, StepBy, StepIn, and_drops}
 use Rattle.rm_frame.specs.Carries.{IsHanded, IsOutcomeIn}
 use Rattle.rm_frame.specs.Holds.{Holds, records, records_in, saved_in}
@@ -24,13 +25,18 @@ use Rattle.rm_frame.specs.Moments.{IsMomentIn}
 use Rattle.rm_frame.specs.Steps.{StepsAt}
 use Rattle.rm_frame.proofs.Founding.{founded-unsaved, without-leads}
 
+-- the database on which a statement acts at this moment, if there is one
+abbrev pub acts_on : Option State → ℕ → Option State
+acts_on None moment = None
+acts_on (Some s) moment = Some (at_moment s moment)
+
 -- what is at hand leads a sound machine on to a sound one, from a database or none
 abbrev pub LeadsFrom : Option State → Command → Type 0
 LeadsFrom o c =
     (m : Machine) (moment : ℕ) (lines : List Line) (effect : Effect) (t : State) (after : Held)
     → IsStatement c → m.state ≡ o → IsSoundMachine m → DigestsTell m → IsMomentIn o moment
     → IsOutcomeIn o m.objects c moment (done lines effect t) → LeavesObjects (and_drops o effect) m.objects after
-    → (n : Machine) × StepBy m c (done lines effect t) (said lines) n × (n.objects ≡ after) × IsSoundMachine n
+    → (n : Machine) × StepBy (acts_on o moment) m c (done lines effect t) (said lines) n × (n.objects ≡ after) × IsSoundMachine n
 
 pub leads-from : (c : Command) → LeadsOn c → (o : Option State) → LeadsFrom o c
 leads-from c law None = λ m moment lines effect t after well is sound tell at comes leaves. without-leads c m moment lines effect t after well is sound at.last comes leaves
@@ -61,7 +67,7 @@ same-puts None e = refl
 same-puts (Some s) e = refl
 
 -- what a statement comes to is its step
-pub step-in : (o : Option State) (m : Machine) (c : Command) (moment : ℕ) (r : Outcome) (reply : Reply) (n : Machine) → m.state ≡ o → IsOutcomeIn o m.objects c moment r → StepBy m c r reply n → Step m c moment reply n
+pub step-in : (o : Option State) (m : Machine) (c : Command) (moment : ℕ) (r : Outcome) (reply : Reply) (n : Machine) → m.state ≡ o → IsOutcomeIn o m.objects c moment r → StepBy (acts_on o moment) m c r reply n → Step m c moment reply n
 step-in None m c moment r reply n is comes by = subst (λ x. StepIn x m c moment reply n) (sym is) (r, comes, by)
 step-in (Some s) m c moment r reply n is comes by = subst (λ x. StepIn x m c moment reply n) (sym is) (r, comes, by)
 

@@ -1,7 +1,7 @@
 -- The laws of every statement. One that is not in the machine yet comes to nothing.
 use Rattle.std.proofs.Common.{refl}
 use Rattle.rm_statement.specs.declared.command.Command.{Command}
-use Rattle.rm_statement.specs.declared.command.Command.TheVariants.{ArchiveLogCurrent, Backup, BackupLogs, ChangeBackup, CreateDatabase, CreateDatafile, Crosscheck, Cut, Damage, DeleteBackup, DeleteExpired, Dump, ListArchived, ListBackup, ListCopy, ListIncarnation, LoseDatafile, LoseLog, Mount, OpenPlain, OpenResetlogs, Parallelism, Preview, Recover, RecoverCopy, RecoverTest, Remove, Rename, ReportSchema, ResetDatabase, Restore, Retention, ShowAll, SwitchLogfile, ValidateAll, Write}
+use Rattle.rm_statement.specs.declared.command.Command.TheVariants.{ArchiveLogCurrent, Backup, BackupLogs, ChangeBackup, CreateDatabase, CreateDatafile, Crosscheck, Cut, Damage, DeleteBackup, DeleteExpired, DeleteObsolete, Dump, ListArchived, ListBackup, ListCopy, ListIncarnation, LoseDatafile, LoseLog, Mount, OpenPlain, OpenResetlogs, Parallelism, Preview, Recover, RecoverTest, Remove, Rename, ReportNeedBackup, ReportObsolete, ReportSchema, ResetDatabase, Restore, Retention, ShowAll, SwitchLogfile, ValidateAll, Write, RecoverCopy}
 use Rattle.rm_machine.specs.Laws.{LeadsOn, TellsOn}
 use Rattle.rm_machine.proofs.AddingDatafile.{create-on, create-stays}
 use Rattle.rm_machine.proofs.ArchivingAll.{all-on, all-stays}
@@ -10,6 +10,7 @@ use Rattle.rm_machine.proofs.BackingUpLogs.{back_logs-on, back_logs-stays}
 use Rattle.rm_machine.proofs.Branching.{resets-on, resets-stays}
 use Rattle.rm_machine.proofs.Choosing.{choose-on, choose-stays}
 use Rattle.rm_machine.proofs.Deleting.{delete-on, delete-stays}
+use Rattle.rm_machine.proofs.DeletingObsolete.{obsolete-on, obsolete-stays}
 use Rattle.rm_machine.proofs.Drilling.{cut-on, cut-stays, damage-on, damage-stays, remove-on, remove-stays, rename-on, rename-stays}
 use Rattle.rm_machine.proofs.Leading.{StaysBy, leads, tells}
 use Rattle.rm_machine.proofs.Losing.{lose-on, lose-stays}
@@ -30,9 +31,9 @@ use Rattle.rm_frame.proofs.LooseBackup.{back_logs-loose, backup-loose}
 use Rattle.rm_frame.proofs.LooseCopies.{renew-loose}
 use Rattle.rm_frame.proofs.LooseDrills.{cut-loose, damage-loose, remove-loose, rename-loose}
 use Rattle.rm_frame.proofs.LooseNew.{archive-loose, branch-loose, switch-loose}
-use Rattle.rm_frame.proofs.LooseUpkeep.{change-loose, check-loose, delete-loose, expire-loose}
+use Rattle.rm_frame.proofs.LooseUpkeep.{change-loose, check-loose, delete-loose, expire-loose, obsolete-loose}
 use Rattle.rm_frame.proofs.LooseQuiet.{choose-loose, create-loose, lose-loose, lose_log-loose, mount-loose, open-loose, parallelism-loose, recover-loose, restore-loose, retention-loose, told-loose, write-loose}
-use Rattle.rm_frame.proofs.Roomy.{LeavesIds, archive-roomy, back_logs-roomy, backup-roomy, branch-roomy, change-roomy, check-roomy, choose-roomy, create-roomy, cut-roomy, damage-roomy, delete-roomy, expire-roomy, lose-roomy, lose_log-roomy, mount-roomy, never-roomy, open-roomy, parallelism-roomy, recover-roomy, remove-roomy, rename-roomy, renew-roomy, restore-roomy, retention-roomy, switch-roomy, told-roomy, write-roomy}
+use Rattle.rm_frame.proofs.Roomy.{LeavesIds, archive-roomy, back_logs-roomy, backup-roomy, branch-roomy, change-roomy, check-roomy, choose-roomy, create-roomy, cut-roomy, damage-roomy, delete-roomy, expire-roomy, lose-roomy, lose_log-roomy, mount-roomy, never-roomy, obsolete-roomy, open-roomy, parallelism-roomy, recover-roomy, remove-roomy, rename-roomy, restore-roomy, retention-roomy, switch-roomy, told-roomy, write-roomy, renew-roomy}
 
 pub every-leads : (c : Command) → LeadsOn c
 every-leads (CreateDatabase dbid threads scn) = never-again dbid threads scn
@@ -56,6 +57,8 @@ every-leads ListIncarnation = leads ListIncarnation (tells-on ListIncarnation re
 every-leads ListBackup = leads ListBackup (tells-on ListBackup refl)
 every-leads ListCopy = leads ListCopy (tells-on ListCopy refl)
 every-leads ListArchived = leads ListArchived (tells-on ListArchived refl)
+every-leads ReportObsolete = leads ReportObsolete (tells-on ReportObsolete refl)
+every-leads ReportNeedBackup = leads ReportNeedBackup (tells-on ReportNeedBackup refl)
 every-leads ReportSchema = leads ReportSchema (tells-on ReportSchema refl)
 every-leads ShowAll = leads ShowAll (tells-on ShowAll refl)
 every-leads ValidateAll = leads ValidateAll (tells-on ValidateAll refl)
@@ -63,6 +66,7 @@ every-leads (Crosscheck class) = leads (Crosscheck class) (checked-on class)
 every-leads (ChangeBackup id to) = leads (ChangeBackup id to) (changed-on id to)
 every-leads (DeleteBackup id) = leads (DeleteBackup id) (delete-on id)
 every-leads (DeleteExpired class) = leads (DeleteExpired class) (expired-on class)
+every-leads DeleteObsolete = leads DeleteObsolete obsolete-on
 every-leads (Retention form) = leads (Retention form) (retention-on form)
 every-leads (Parallelism channels) = leads (Parallelism channels) (parallelism-on channels)
 every-leads (LoseDatafile file) = leads (LoseDatafile file) (lose-on file)
@@ -98,6 +102,8 @@ every-loose ListIncarnation = told-loose ListIncarnation refl
 every-loose ListBackup = told-loose ListBackup refl
 every-loose ListCopy = told-loose ListCopy refl
 every-loose ListArchived = told-loose ListArchived refl
+every-loose ReportObsolete = told-loose ReportObsolete refl
+every-loose ReportNeedBackup = told-loose ReportNeedBackup refl
 every-loose ReportSchema = told-loose ReportSchema refl
 every-loose ShowAll = told-loose ShowAll refl
 every-loose ValidateAll = told-loose ValidateAll refl
@@ -105,6 +111,7 @@ every-loose (Crosscheck class) = check-loose class
 every-loose (ChangeBackup id to) = change-loose id to
 every-loose (DeleteBackup id) = delete-loose id
 every-loose (DeleteExpired class) = expire-loose class
+every-loose DeleteObsolete = obsolete-loose
 every-loose (Retention form) = retention-loose form
 every-loose (Parallelism channels) = parallelism-loose channels
 every-loose (LoseDatafile file) = lose-loose file
@@ -137,6 +144,8 @@ every-stays ListIncarnation = tells-stays ListIncarnation refl
 every-stays ListBackup = tells-stays ListBackup refl
 every-stays ListCopy = tells-stays ListCopy refl
 every-stays ListArchived = tells-stays ListArchived refl
+every-stays ReportObsolete = tells-stays ReportObsolete refl
+every-stays ReportNeedBackup = tells-stays ReportNeedBackup refl
 every-stays ReportSchema = tells-stays ReportSchema refl
 every-stays ShowAll = tells-stays ShowAll refl
 every-stays ValidateAll = tells-stays ValidateAll refl
@@ -144,6 +153,7 @@ every-stays (Crosscheck class) = checked-stays class
 every-stays (ChangeBackup id to) = changed-stays id to
 every-stays (DeleteBackup id) = delete-stays id
 every-stays (DeleteExpired class) = expired-stays class
+every-stays DeleteObsolete = obsolete-stays
 every-stays (Retention form) = retention-stays form
 every-stays (Parallelism channels) = parallelism-stays channels
 every-stays (LoseDatafile file) = lose-stays file
@@ -176,6 +186,8 @@ every-roomy ListIncarnation = told-roomy ListIncarnation refl
 every-roomy ListBackup = told-roomy ListBackup refl
 every-roomy ListCopy = told-roomy ListCopy refl
 every-roomy ListArchived = told-roomy ListArchived refl
+every-roomy ReportObsolete = told-roomy ReportObsolete refl
+every-roomy ReportNeedBackup = told-roomy ReportNeedBackup refl
 every-roomy ReportSchema = told-roomy ReportSchema refl
 every-roomy ShowAll = told-roomy ShowAll refl
 every-roomy ValidateAll = told-roomy ValidateAll refl
@@ -183,6 +195,7 @@ every-roomy (Crosscheck class) = check-roomy class
 every-roomy (ChangeBackup id to) = change-roomy id to
 every-roomy (DeleteBackup id) = delete-roomy id
 every-roomy (DeleteExpired class) = expire-roomy class
+every-roomy DeleteObsolete = obsolete-roomy
 every-roomy (LoseDatafile file) = lose-roomy file
 every-roomy (LoseLog thread) = lose_log-roomy thread
 every-roomy (Remove name) = remove-roomy name

@@ -17,7 +17,7 @@ use Rattle.rm_machine.specs.Laws.{LeadsOn}
 use Rattle.rm_machine.specs.Machine.{IsBorneOut, IsSoundBy, IsSoundMachine, Machine}
 use Rattle.rm_machine.specs.declared.state.State.{State}
 use Rattle.rm_machine.proofs.Creating.{fresh-sound}
-use Rattle.rm_machine.specs.Step.{Means, and_drops}
+use Rattle.rm_machine.specs.Step.{and_drops}
 use Rattle.rm_frame.specs.Carries.{LeadsOnWithout}
 use Rattle.rm_frame.specs.Loose.{StaysLoose}
 
@@ -82,7 +82,7 @@ creating-leads dbid threads scn m moment lines effect t after well none sound la
       (
         refl,
         record { state = refl; history = refl; objects = subst (λ o. LeavesObjects (and_drops o effect) m.objects after) (sym none) leaves; made = refl; touched = refl },
-        subst (λ o. Means o m.history (CreateDatabase dbid threads scn) (done lines effect t)) (sym none) tt,
+        tt,
       ),
       refl,
       subst (λ (e : Effect). IsBorneOut t (m.history ++ e.changes) after (m.made ++ e.made) m.touched) is.effect_is

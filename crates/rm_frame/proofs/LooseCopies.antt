@@ -1,5 +1,5 @@
 -- RECOVER COPY puts names of new ids alone, and takes away those of the records that go.
-use Rattle.std.proofs.Common.{◌≡◌, ℕ, List, Option, Some, true, subst}
+use Rattle.std.proofs.Common.{◌≡◌, ℕ, List, Option, true, subst}
 use Rattle.std.proofs.lemmas.List.Elements.{All-weaker}
 use Rattle.rm_change.specs.declared.change.Object.{Object}
 use Rattle.rm_change.specs.Names.{is_named, itself}

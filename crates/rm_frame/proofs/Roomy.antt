@@ -1,6 +1,6 @@
 -- What is done leaves the ids of a save.
 use Rattle.std.proofs.Common.{◌≡◌, ◌≤◌, ◌+◌, ◌∙◌, ◌∷◌, ◌==◌, ◌||◌, nat_lt, ℕ, zero, suc, List, [], Option, Some, None, IsSomeAnd, Bool, true, false, cond, inl, inr, refl, ap, sym, arith, rules, length, map}
-use Rattle.std.specs.Option.{option_and_then, option_map_or}
+use Rattle.std.specs.Option.{option_map_or}
 use Rattle.std.proofs.lemmas.Bool.{le-ltb}
 use Rattle.rm_base.specs.Store.{Held}
 use Rattle.rm_base.specs.declared.kinds.Class.{Class}
@@ -20,7 +20,7 @@ use Rattle.rm_statement.specs.declared.command.BackupForm.{BackupForm}
 use Rattle.rm_statement.specs.declared.command.ChangeTo.{ChangeTo}
 use Rattle.rm_statement.specs.declared.command.ChangeTo.TheVariants.{Available, Keep, NoKeep, Unavailable, Uncatalog}
 use Rattle.rm_statement.specs.declared.command.Command.{Command}
-use Rattle.rm_statement.specs.declared.command.Command.TheVariants.{ArchiveLogCurrent, Backup, BackupLogs, ChangeBackup, CreateDatabase, CreateDatafile, Crosscheck, Cut, Damage, DeleteBackup, DeleteExpired, LoseDatafile, LoseLog, Mount, OpenPlain, OpenResetlogs, Recover, RecoverCopy, Remove, Rename, ResetDatabase, Restore, SwitchLogfile, Write, Parallelism, Retention}
+use Rattle.rm_statement.specs.declared.command.Command.TheVariants.{ArchiveLogCurrent, Backup, BackupLogs, ChangeBackup, CreateDatabase, CreateDatafile, Crosscheck, Cut, Damage, DeleteBackup, DeleteExpired, DeleteObsolete, LoseDatafile, LoseLog, Mount, OpenPlain, OpenResetlogs, Recover, Remove, Rename, ResetDatabase, Restore, SwitchLogfile, Write, Parallelism, Retention, RecoverCopy}
 use Rattle.rm_statement.specs.declared.command.Until.{Until}
 use Rattle.rm_statement.specs.declared.command.RetentionForm.{RetentionForm}
 use Rattle.rm_statement.specs.declared.command.WriteForm.{WriteForm}
@@ -37,15 +37,18 @@ use Rattle.rm_machine.specs.Marks.{ids_refusal, lacks_ids}
 use Rattle.rm_machine.specs.Mount.{as_mounted, mounted}
 use Rattle.rm_machine.specs.Open.{open_refusal, opened}
 use Rattle.rm_machine.specs.OpenResetlogs.{branched_off, resetlogs_lines}
-use Rattle.rm_machine.specs.Recover.{RecoversTo, or_else, recover_target, recovered, target_refusal}
+use Rattle.rm_machine.specs.Recover.{RecoversTo, recover_target, recovered, target_refusal}
+use Rattle.rm_machine.specs.Until.{or_else}
+use Rattle.rm_machine.proofs.Untils.{until-none}
 use Rattle.rm_machine.specs.ResetDatabase.{at_incarnation, reset_refusal}
 use Rattle.rm_machine.specs.Restore.{RestoresTo, place_refusal, restored}
 use Rattle.rm_machine.specs.Sound.{IsSound}
 use Rattle.rm_machine.specs.declared.job.Job.{Job}
 use Rattle.rm_machine.specs.declared.state.State.{State}
-use Rattle.rm_machine.specs.State.{ledger, now_of, on_path, online}
+use Rattle.rm_machine.specs.State.{current_of, ledger, now_of, on_path, online}
 use Rattle.rm_machine.specs.Step.{IsDone, IsOutcome, refusal_of}
 use Rattle.rm_machine.specs.SwitchLogfile.{archive_refusal, archived, is_due, made_lines, none_lines, with_archived}
+use Rattle.rm_machine.specs.Until.{or_else}
 use Rattle.rm_machine.specs.Upkeep.{changed_to, log_at, log_changed, piece_at, piece_changed, record_refusal, with_catalog, with_keep, with_status, with_statuses, without_all, without_record}
 use Rattle.rm_machine.specs.Write.{block_refusal, with_write, write_refusal}
 use Rattle.rm_machine.proofs.Archives.{Took, took-thread}
@@ -58,6 +61,7 @@ use Rattle.rm_machine.proofs.Leading.{done-by}
 use Rattle.rm_machine.proofs.Renewals.{leaves-renewed}
 use Rattle.rm_machine.proofs.Switching.{not-above}
 use Rattle.rm_machine.proofs.Telling.{never-done}
+use Rattle.rm_machine.proofs.Untils.{until-none}
 
 -- what the statement does leaves the ids of a save
 abbrev pub LeavesIds : Command → Type 0
@@ -167,26 +171,26 @@ lose_log-roomy thread = draws-none (LoseLog thread) (lose_log-asks thread)
 
 -- RECOVER and RESTORE, by their target
 
-recover-left : (o : Option ℕ) (s : State) (held : Held) (lines : List Line) (e : Effect) (t : State) → option_and_then (target_refusal s) o ≡ None → RecoversTo s held o (done lines e t) → lacks_ids t 0 ≡ false
+recover-left : (o : Option ℕ) (s : State) (held : Held) (lines : List Line) (e : Effect) (t : State) → ((at : ℕ) → o ≡ Some at → target_refusal s at ≡ None) → RecoversTo s held o (done lines e t) → lacks_ids t 0 ≡ false
 recover-left None s held lines e t none does = absurd does
 recover-left (Some at) s held lines e t none (inl found) = absurd (let clash = found.is in cc)
 recover-left (Some at) s held lines e t none (inr all) =
-    none-drawn s lines _ e _ (recovered s at all.back.files) t all.is refl (asks-else s _ _ (asks-else s _ _ (asks-ids s)) none)
+    none-drawn s lines _ e _ (recovered s at all.back.files) t all.is refl (asks-else s _ _ (asks-else s _ _ (asks-ids s)) (none at refl))
 
 pub recover-roomy : (until : Option Until) → LeavesIds (Recover until)
 recover-roomy until s held lines e t sound comes =
     let both = done-by (refusal_of s (Recover until)) s held (Recover until) lines e t comes in
-    recover-left (recover_target s until) s held lines e t (unless s.instance.is_open _ _ both.0).1 both.1
+    recover-left (recover_target s until) s held lines e t (λ at is. until-none s (current_of s) until (target_refusal s) (ids_refusal s) at (unless s.instance.is_open _ _ both.0).1 is) both.1
 
-restore-left : (o file : Option ℕ) (s : State) (held : Held) (lines : List Line) (e : Effect) (t : State) → option_and_then (place_refusal s file) o ≡ None → RestoresTo s held file o (done lines e t) → lacks_ids t 0 ≡ false
+restore-left : (o file : Option ℕ) (s : State) (held : Held) (lines : List Line) (e : Effect) (t : State) → ((at : ℕ) → o ≡ Some at → place_refusal s file at ≡ None) → RestoresTo s held file o (done lines e t) → lacks_ids t 0 ≡ false
 restore-left None file s held lines e t none does = absurd does
 restore-left (Some at) file s held lines e t none does =
-    none-drawn s lines _ e _ (restored s does.back.files) t does.is refl (asks-else s _ _ (asks-else s _ _ (asks-ids s)) none)
+    none-drawn s lines _ e _ (restored s does.back.files) t does.is refl (asks-else s _ _ (asks-else s _ _ (asks-ids s)) (none at refl))
 
 pub restore-roomy : (file : Option ℕ) (until : Option Until) → LeavesIds (Restore file until)
 restore-roomy file until s held lines e t sound comes =
     let both = done-by (refusal_of s (Restore file until)) s held (Restore file until) lines e t comes in
-    restore-left (recover_target s until) file s held lines e t (unless s.instance.is_open _ _ both.0).1 both.1
+    restore-left (recover_target s until) file s held lines e t (λ at is. until-none s (current_of s) until (place_refusal s file) (ids_refusal s) at (unless s.instance.is_open _ _ both.0).1 is) both.1
 
 -- Statements on records
 
@@ -238,6 +242,10 @@ check-roomy class = draws-none (Crosscheck class) asks-ids
 
 pub expire-roomy : (class : Class) → LeavesIds (DeleteExpired class)
 expire-roomy class = draws-none (DeleteExpired class) asks-ids
+    (λ s held lines e t does left. none-drawn s lines _ e _ (with_catalog s (without_all does.ids s.catalog)) t does.is (all-next does.ids s.catalog) left)
+
+pub obsolete-roomy : LeavesIds DeleteObsolete
+obsolete-roomy = draws-none DeleteObsolete asks-ids
     (λ s held lines e t does left. none-drawn s lines _ e _ (with_catalog s (without_all does.ids s.catalog)) t does.is (all-next does.ids s.catalog) left)
 
 -- CONFIGURE

@@ -30,7 +30,7 @@ LeadsOnWithout c =
     (m : Machine) (moment : ℕ) (lines : List Line) (effect : Effect) (t : State) (after : Held)
     → IsStatement c → m.state ≡ None → IsSoundMachine m → moment ≤ last_moment
     → IsOutcomeWithout c moment (done lines effect t) → LeavesObjects effect m.objects after
-    → (n : Machine) × StepBy m c (done lines effect t) (said lines) n × (n.objects ≡ after) × IsSoundMachine n
+    → (n : Machine) × StepBy None m c (done lines effect t) (said lines) n × (n.objects ≡ after) × IsSoundMachine n
 
 -- The statement came to these lines, to this change outside, and to the state t, where the store tells what it
 -- holds. The objects of a saved site go with those of the effect. The edits make the records those of t.

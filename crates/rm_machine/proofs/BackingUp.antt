@@ -49,7 +49,7 @@ ready-still s b tag j k is =
     let t = is.taken in
     record { taken = record { some = t.some; datafile = t.datafile; is = t.is; here = t.here; file = t.file; stands = t.stands }; begins = is.begins }
 
-ready-next : (s : State) (b : BackupForm) (tag : List ℕ) (j : Job) (js : List Job) → All (IsReady s) (j ∷ js) → All (IsReady (after_file s b tag j)) js
+pub ready-next : (s : State) (b : BackupForm) (tag : List ℕ) (j : Job) (js : List Job) → All (IsReady s) (j ∷ js) → All (IsReady (after_file s b tag j)) js
 ready-next s b tag j js all = All-weaker (IsReady s) (IsReady (after_file s b tag j)) (λ k is. ready-still s b tag j k is) js (All-tail (IsReady s) j js all)
 
 pub next-room : (s : State) (b : BackupForm) (tag : List ℕ) (j : Job) (n : ℕ) → HasRoom s (suc n) → HasRoom (after_file s b tag j) n
@@ -60,13 +60,13 @@ next-room s b tag j n room =
     record { records = omega (arith, more, r); ids = omega (arith, k) }
 
 module _ (b : BackupForm) (tag : List ℕ) (tagged : IsTag tag) (s : State) (j : Job) (n : ℕ) (sound : IsSound s) (opened : s.instance.is_open ≡ true) (is : IsReady s j) (room : HasRoom s (suc n)) where
-  file-fits : FitsNewPiece s.catalog (entry_of s b tag j)
+  pub file-fits : FitsNewPiece s.catalog (entry_of s b tag j)
   file-fits =
       let r = room.records in
       let k = room.ids in
       record { piece = entry-is s b j.file sound opened is.taken tag tagged j.from is.begins; id = refl; last = omega (arith, k); room = omega (arith, r) }
 
-  sound-file : IsSound (after_file s b tag j)
+  pub sound-file : IsSound (after_file s b tag j)
   sound-file = sound-recorded s (entry_of s b tag j) sound file-fits
 
   borne-file : (h : List Change) (objects : Held) (made : List Made) (touched : List (List ℕ)) → IsBorneOut s h objects made touched
@@ -144,7 +144,7 @@ mapped-all : {X Y : Type 0} (P : Y → Type 0) (f : X → Y) (xs : List X) → A
 mapped-all P f [] all = All-nil (λ x. P (f x))
 mapped-all P f (x ∷ xs) all = All-cons (λ y. P (f y)) x xs (All-head P (f x) (map f xs) all) (mapped-all P f xs (All-tail P (f x) (map f xs) all))
 
-jobs-ready : (s : State) (b : BackupForm) (jobs : List Job) → IsSound s → AreJobs s b jobs → All (IsTaken s) (taken s b) → All (IsReady s) jobs
+pub jobs-ready : (s : State) (b : BackupForm) (jobs : List Job) → IsSound s → AreJobs s b jobs → All (IsTaken s) (taken s b) → All (IsReady s) jobs
 jobs-ready s b jobs sound are all k d inside =
     let j : Job = slice_index_or jobs k d in
     record {

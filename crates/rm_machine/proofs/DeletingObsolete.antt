@@ -17,10 +17,10 @@ use Rattle.rm_machine.proofs.Leading.{LeadsOnBy, StaysBy}
 
 module _ (s : State) (ids : List ℕ) where
   -- the names of the objects that go
-  abbrev names_of : List (List ℕ)
+  abbrev pub names_of : List (List ℕ)
   names_of = flat_map (λ n. names_at n s.catalog) ids
 
-  are-gone : AreGone s.catalog ids names_of
+  pub are-gone : AreGone s.catalog ids names_of
   are-gone = all-gone s.catalog ids ids (λ n among. among)
 
 module _ (s : State) (objects : Held) (said : List Line) (e : Effect) (t : State) (after : Held) (sound : IsSound s) (does : IsDeleteObsoleteOutcome s objects (done said e t)) (effect : LeavesObjects e objects after) where

@@ -1,5 +1,5 @@
 -- Where an UNTIL leads: to an SCN of an incarnation, or nowhere.
-use Rattle.std.specs.Prelude.{ℕ, ◌==◌, ◌&&◌, ◌||◌, nat_lt, not, if◌then◌else◌, is_none, Bool, Option, Some, None, List, filter, find, unwrap_or}
+use Rattle.std.specs.Prelude.{ℕ, ◌==◌, ◌&&◌, ◌||◌, nat_lt, if◌then◌else◌, Bool, Option, Some, None, List, filter, find, unwrap_or}
 use Rattle.std.specs.Option.{option_map, option_map_or}
 use Rattle.rm_base.specs.declared.block.Mark.{Mark}
 use Rattle.rm_base.specs.declared.refusal.Absent.TheVariants.{Thread}

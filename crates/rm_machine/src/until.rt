@@ -1,7 +1,6 @@
 //! Where an UNTIL leads.
-ghost use Rattle.std.specs.Prelude.{◌≡◌, ◌≤◌, ◌&&◌, IfSome, find, nat_le, reverse};
+ghost use Rattle.std.specs.Prelude.{◌≡◌, ◌&&◌, find, nat_le, reverse};
 ghost use Rattle.std.specs.Option.{option_map};
-ghost use Rattle.rm_base.specs.Numbers.{last_moment};
 ghost use Rattle.rm_history.specs.Tree.{IsThere};
 ghost use Rattle.rm_machine.specs.Recover.{recover_target};
 ghost use Rattle.rm_machine.specs.Recovery.{range_refusal};
@@ -9,7 +8,6 @@ ghost use Rattle.rm_machine.specs.Sound.{IsSound};
 ghost use Rattle.rm_machine.specs.State.{ledger, tree};
 ghost use Rattle.rm_machine.specs.Until.{is_log, log_first, marks_on, moment_in, nowhere_refusal, online_first, scn_at, target_of, thread_refusal};
 ghost use Rattle.rm_moments.specs.Marks.{first_from};
-ghost use Rattle.rm_report.specs.Reply.{HasDate};
 ghost use Rattle.rm_retain.specs.Window.{is_on_path};
 
 use crate::facts::{end_of, is_thread};
@@ -126,9 +124,7 @@ fn scn_at(state: &State, i: IncNo, t: Moment) -> Option<Scn>
 
 // The moment that the text means at the moment of the statement; 0 for a text that means none.
 fn moment_in(state: &State, text: &Text) -> Moment
-    requires sound { IsSound state.now }
-    ensures value { result ≡ moment_in state.now text.now }
-    ensures date { result ≤ last_moment }
+    ensures { result ≡ moment_in state.now text.now }
 {
     match rm_moments::parse(text.as_str(), state.catalog.base().moment) {
         Some(moment) => moment,
@@ -185,9 +181,7 @@ pub fn thread_refusal(state: &State, until: &Option<Until>) -> Option<Refusal>
 
 /// Why an UNTIL leads nowhere: there is no such log (RM-12), or no mark at or before the moment (RM-14). None for another UNTIL.
 pub fn nowhere_refusal(state: &State, until: &Option<Until>) -> Option<Refusal>
-    requires sound { IsSound state.now }
     ensures value { result ≡ nowhere_refusal state.now until.now }
-    ensures date { IfSome result HasDate }
 {
     match until {
         Some(Until::Sequence { sequence, thread }) => Some(Refusal::Rm12(Unknown::Log {

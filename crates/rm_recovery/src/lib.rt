@@ -10,7 +10,6 @@ mod previewing;
 mod recovery;
 mod recovery_test;
 mod restoring;
-mod target;
 
 pub use previewing::{preview, preview_refusal};
 pub use recovery::{recover, recover_refusal};

@@ -82,7 +82,6 @@ pub fn preview<D: Store>(
     until: &Option<Until>,
 ) -> Result<Seq<Line>, EvidenceFault>
     requires sound { IsSound state.now }
-    requires built { is_built_until until.now ≡ true }
     requires accepted { preview_refusal state.now until.now ≡ None }
     ensures tells { IfOk result (λ lines. Tells (D.held store.old) state.now (Preview until.now) lines) }
     ensures dates { IfOk result (All LineHasDate) }

@@ -78,7 +78,6 @@ pub fn recover<D: Store>(
     until: &Option<Until>,
 ) -> Result<Result<Handed, Refusal>, EvidenceFault>
     requires sound { IsSound state.old }
-    requires built { is_built_until until.now ≡ true }
     requires accepted { recover_refusal state.old until.now ≡ None }
     ensures hands { IfOk result (λ x. IfOk x (λ handed. Hands (D.held store.old) state.old (Recover until.now) handed state.new)) }
     ensures refuses { IfOk result (λ x. IfErr x (λ refusal. Refuses (D.held store.old) state.old (Recover until.now) refusal)) }

@@ -51,7 +51,6 @@ pub fn recover_test<D: Store>(
     inc: Option<u64>,
 ) -> Result<Result<Seq<Line>, Refusal>, EvidenceFault>
     requires sound { IsSound state.now }
-    requires built { is_built_until until.now ≡ true }
     requires accepted { test_refusal state.now until.now inc ≡ None }
     ensures tells { IfOk result (λ x. IfOk x (λ lines. Tells (D.held store.old) state.now (RecoverTest until.now inc) lines)) }
     ensures refuses { IfOk result (λ x. IfErr x (λ refusal. Refuses (D.held store.old) state.now (RecoverTest until.now inc) refusal)) }

@@ -129,7 +129,6 @@ pub fn restore<D: Store>(
     until: &Option<Until>,
 ) -> Result<Handed, EvidenceFault>
     requires sound { IsSound state.old }
-    requires built { is_built_until until.now ≡ true }
     requires accepted { restore_refusal state.old file until.now ≡ None }
     ensures hands { IfOk result (λ handed. Hands (D.held store.old) state.old (Restore file until.now) handed state.new) }
     ensures sound { OnOk result (IsSound state.new) }

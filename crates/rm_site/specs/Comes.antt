@@ -3,7 +3,7 @@ use Rattle.std.specs.Prelude.{◌≡◌, Bool, true, false, Option, Some, None, 
 use Rattle.rm_base.specs.Store.{Held}
 use Rattle.rm_base.specs.declared.refusal.Refusal.{Refusal}
 use Rattle.rm_statement.specs.declared.command.Command.{Command}
-use Rattle.rm_statement.specs.declared.command.Command.TheVariants.{BackupLogs, Crosscheck, Cut, Damage, Dump, ListArchived, ListBackup, ListCopy, ListIncarnation, Preview, Recover, RecoverTest, Remove, Rename, ReportSchema, Restore, ShowAll, ValidateAll}
+use Rattle.rm_statement.specs.declared.command.Command.TheVariants.{BackupLogs, Crosscheck, Cut, Damage, DeleteObsolete, Dump, ListArchived, ListBackup, ListCopy, ListIncarnation, Preview, Recover, RecoverCopy, RecoverTest, Remove, Rename, ReportNeedBackup, ReportObsolete, ReportSchema, Restore, ShowAll, ValidateAll}
 use Rattle.rm_report.specs.Reply.{LineHasDate, HasDate}
 use Rattle.rm_machine.specs.Effect.{refused, told}
 use Rattle.rm_machine.specs.Hands.{Hands}
@@ -57,6 +57,10 @@ tells_state _ = false
 abbrev pub is_change : Command → Bool
 is_change (Crosscheck class) = false
 is_change BackupLogs = false
+is_change DeleteObsolete = false
+is_change (RecoverCopy tag until) = false
+is_change ReportObsolete = false
+is_change ReportNeedBackup = false
 is_change (Restore file until) = false
 is_change (Preview until) = false
 is_change (Recover until) = false

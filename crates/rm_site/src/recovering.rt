@@ -1,11 +1,10 @@
 //! RESTORE and RECOVER DATABASE, and what only tells of them: they look at what the store holds.
-ghost use Rattle.std.specs.Prelude.{◌≡◌, ◌≤◌, None, true, IfOk, IsErrOf};
+ghost use Rattle.std.specs.Prelude.{◌≡◌, ◌≤◌, None, IfOk, IsErrOf};
 ghost use Rattle.rm_base.specs.Outside.{Rose};
 ghost use Rattle.rm_change.specs.declared.change.Stop.TheVariants.{StoreFault, KeeperFault};
 ghost use Rattle.rm_statement.specs.declared.command.Command.TheVariants.{Preview, Recover, RecoverTest, Restore};
 ghost use Rattle.rm_machine.specs.Recover.{recover_refusal};
 ghost use Rattle.rm_machine.specs.RecoverTest.{test_refusal};
-ghost use Rattle.rm_machine.specs.Recovery.{is_built_until};
 ghost use Rattle.rm_machine.specs.Restore.{preview_refusal, restore_refusal};
 ghost use Rattle.rm_machine.specs.Sound.{IsSound};
 ghost use Rattle.rm_site.specs.Comes.{IsAnswer};
@@ -20,8 +19,8 @@ use rm_recovery::{recover, recover_test, restore};
 use rm_statement::Until;
 use std::alloc::Global;
 
-// The stop that a fault at what the store holds makes.
-fn stop_of(fault: EvidenceFault) -> Stop
+/// The stop that a fault at what the store holds makes.
+pub(crate) fn stop_of(fault: EvidenceFault) -> Stop
     ensures { result ≡ stop_of fault }
 {
     match fault {
@@ -38,7 +37,6 @@ pub(crate) fn bring_back<D: Store>(
     store: &mut D,
     until: &Option<Until>,
 ) -> Result<Answer, Stop>
-    requires built { is_built_until until.now ≡ true }
     requires sound { IsSound state.old }
     requires accepted { recover_refusal state.old until.now ≡ None }
     ensures answer { IfOk result (λ a. IsAnswer (D.held store.old) state.old (Recover until.now) a state.new) }
@@ -63,7 +61,6 @@ pub(crate) fn test<D: Store>(
     until: &Option<Until>,
     inc: Option<u64>,
 ) -> Result<Answer, Stop>
-    requires built { is_built_until until.now ≡ true }
     requires sound { IsSound state.now }
     requires accepted { test_refusal state.now until.now inc ≡ None }
     ensures answer { IfOk result (λ a. IsAnswer (D.held store.old) state.now (RecoverTest until.now inc) a state.now) }
@@ -88,7 +85,6 @@ pub(crate) fn put_back<D: Store>(
     file: Option<u64>,
     until: &Option<Until>,
 ) -> Result<Answer, Stop>
-    requires built { is_built_until until.now ≡ true }
     requires sound { IsSound state.old }
     requires accepted { restore_refusal state.old file until.now ≡ None }
     ensures answer { IfOk result (λ a. IsAnswer (D.held store.old) state.old (Restore file until.now) a state.new) }
@@ -111,7 +107,6 @@ pub(crate) fn preview<D: Store>(
     store: &mut D,
     until: &Option<Until>,
 ) -> Result<Answer, Stop>
-    requires built { is_built_until until.now ≡ true }
     requires sound { IsSound state.now }
     requires accepted { preview_refusal state.now until.now ≡ None }
     ensures answer { IfOk result (λ a. IsAnswer (D.held store.old) state.now (Preview until.now) a state.now) }
