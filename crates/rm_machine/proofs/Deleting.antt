@@ -64,7 +64,7 @@ module _ {A : Type 0} (id : A → ℕ) (n : ℕ) (xs : List A) (x : A) where
   ]
 
   -- and what has another id is left
-  stays-one : Contains xs x → id x ≢ n → Contains (without_one id n xs) x
+  pub stays-one : Contains xs x → id x ≢ n → Contains (without_one id n xs) x
   stays-one has other = elim (cases_lt (id x) n) [
     | inl below ↦ Contains-append_left (lower id n xs) (higher id n xs) x (filter_to (λ y. nat_lt (id y) n) xs x has (lt-ltb (id x) n below))
     | inr above ↦ Contains-append_right (lower id n xs) (higher id n xs) x (filter_to (λ y. nat_lt n (id y)) xs x has (lt-ltb n (id x) (grind (arith, above, other))))

@@ -1,13 +1,11 @@
 -- RECOVER COPY: a changed copy has a record of its own, and the old record goes.
-use Rattle.std.proofs.Common.{◌≡◌, ◌≢◌, ◌<◌, ◌≤◌, ◌+◌, ◌∙◌, ◌++◌, nat_lt, cond, inl, inr, ℕ, List, [], ◌∷◌, Option, Some, None, Bool, true, false, refl, ap, sym, subst, arith, is_some, length, All, AllPairs, Contains}
+use Rattle.std.proofs.Common.{◌≡◌, ◌≢◌, ◌<◌, ◌≤◌, ◌+◌, ◌∙◌, ◌++◌, cond, ℕ, List, [], ◌∷◌, Option, Some, None, Bool, true, false, refl, ap, sym, subst, arith, is_some, length, All, AllPairs, Contains}
 use Rattle.std.specs.Option.{option_map_or}
-use Rattle.std.proofs.lemmas.Bool.{cases_lt, lt-ltb}
 use Rattle.std.proofs.lemmas.List.{append-nil, append_assoc}
 use Rattle.std.proofs.lemmas.List.Edits.{length-remove}
-use Rattle.std.proofs.lemmas.List.Elements.{All-contains, All-head, All-tail, Contains-append_left, Contains-append_right}
+use Rattle.std.proofs.lemmas.List.Elements.{All-contains, All-head, All-tail, Contains-append_left}
 use Rattle.rm_base.specs.Store.{Held}
 use Rattle.rm_base.specs.declared.block.Change.{Change}
-use Rattle.rm_base.proofs.Lists.{filter_to}
 use Rattle.rm_backup.specs.declared.renewing.Renewed.{Renewed}
 use Rattle.rm_catalog.specs.declared.record.PieceEntry.{PieceEntry}
 use Rattle.rm_change.specs.declared.change.Object.{Object}
@@ -18,7 +16,7 @@ use Rattle.rm_ledger.specs.Facts.{IsPieceEntry}
 use Rattle.rm_objects.specs.Names.{piece_name}
 use Rattle.rm_piece.specs.declared.piece.Piece.{Piece}
 use Rattle.rm_piece.specs.Spelling.{spelling}
-use Rattle.rm_repository.specs.Changes.{higher, lower, with_new_piece, without_one, without_piece}
+use Rattle.rm_repository.specs.Changes.{with_new_piece, without_one, without_piece}
 use Rattle.rm_repository.specs.Fitting.{FitsNewPiece}
 use Rattle.rm_repository.proofs.Fitted.{many}
 use Rattle.rm_repository.proofs.Splits.{place-of-one}
@@ -31,20 +29,14 @@ use Rattle.rm_machine.specs.Upkeep.{with_catalog}
 use Rattle.rm_machine.specs.declared.state.State.{State}
 use Rattle.rm_machine.specs.State.{ledger, tree, world}
 use Rattle.rm_machine.proofs.Archives.{puts-rest, with_puts}
+use Rattle.rm_machine.proofs.Deleting.{stays-one}
 use Rattle.rm_machine.proofs.Entries.{GoesOn, piece-out}
 use Rattle.rm_machine.proofs.Kept.{stand-same}
 use Rattle.rm_machine.proofs.Later.{borne-beside}
 use Rattle.rm_machine.proofs.Pieces.{borne-recorded, object_of, sound-recorded, with_recorded}
 use Rattle.rm_machine.proofs.Standing.{each-in}
 
--- where that of an id goes, one of another id is left
-left-in : {A : Type 0} (id : A → ℕ) (n : ℕ) (xs : List A) (x : A) → Contains xs x → id x ≢ n → Contains (without_one id n xs) x
-left-in id n xs x has other = elim (cases_lt (id x) n) [
-  | inl low ↦ Contains-append_left (lower id n xs) (higher id n xs) x (filter_to (λ y. nat_lt (id y) n) xs x has (lt-ltb (id x) n low))
-  | inr most ↦ Contains-append_right (lower id n xs) (higher id n xs) x (filter_to (λ y. nat_lt n (id y)) xs x has (lt-ltb n (id x) (omega (arith, most, other))))
-]
-
--- and there is one fewer
+-- where that of an id goes there is one fewer
 one-fewer : (xs : List PieceEntry) (p : PieceEntry) → AllPairs (λ x y. x.id < y.id) xs → Contains xs p → length (without_one (λ x. x.id) p.id xs) + 1 ≡ length xs
 one-fewer xs p up (k, inside, is) =
     let gone = (place-of-one (λ (x : PieceEntry). x.id) p.id xs k p up inside (ap (λ (x : PieceEntry). x.id) is)).gone in
@@ -145,7 +137,7 @@ next-can s tag n m None (Some last) other can = can
 next-can s tag n m (Some first) (Some last) other can = record {
   entry = can.entry;
   old = can.old;
-  recorded = Contains-append_left (without_one (λ x. x.id) n (ledger s).pieces) (renewed_entry s tag n first ∷ []) can.old (left-in (λ (x : PieceEntry). x.id) n (ledger s).pieces can.old can.recorded (λ same. other (sym same ∙ can.id)));
+  recorded = Contains-append_left (without_one (λ x. x.id) n (ledger s).pieces) (renewed_entry s tag n first ∷ []) can.old (stays-one (λ (x : PieceEntry). x.id) n (ledger s).pieces can.old can.recorded (λ same. other (sym same ∙ can.id)));
   id = can.id;
 }
 
