@@ -12,10 +12,11 @@ use Rattle.rm_history.specs.World.{creation_of}
 use Rattle.rm_plan.specs.declared.plan.Gap.{Gap}
 use Rattle.rm_report.specs.Reply.{LineHasDate}
 use Rattle.rm_report.specs.declared.line.Line.{Line}
-use Rattle.rm_report.specs.declared.line.Line.TheVariants.{BlockIs, Recovered, Skipped, UntilIs}
+use Rattle.rm_report.specs.declared.line.Line.TheVariants.{BlockIs, Recovered, UntilIs}
 use Rattle.rm_machine.specs.Recovery.{skipped_lines}
 use Rattle.rm_machine.specs.RecoverTest.{block_lines, file_lines, files_lines, is_written, test_lines}
 use Rattle.rm_machine.specs.Restore.{gap_line, origin_line, origin_lines}
+use Rattle.rm_machine.proofs.Skipped.{skipped-dated}
 
 abbrev AreDated : List Line → Type 0
 AreDated lines = All LineHasDate lines
@@ -23,11 +24,7 @@ AreDated lines = All LineHasDate lines
 one-dated : (line : Line) → LineHasDate line → AreDated (line ∷ [])
 one-dated line dated = All-cons LineHasDate line [] dated (All-nil LineHasDate)
 
--- the lines of skipped records, and others behind them
-skipped-dated : (skipped : List (ℕ × Bad)) → AreDated (skipped_lines skipped)
-skipped-dated [] = All-nil LineHasDate
-skipped-dated (x ∷ xs) = All-cons LineHasDate (Skipped x.0 x.1) (skipped_lines xs) tt (skipped-dated xs)
-
+-- others behind the lines of skipped records
 behind-skipped : (lines rest : List Line) (skipped : List (ℕ × Bad)) → lines ≡ skipped_lines skipped ++ rest → AreDated rest → AreDated lines
 behind-skipped lines rest skipped is dated = subst AreDated (sym is) (All-append LineHasDate (skipped_lines skipped) rest (skipped-dated skipped) dated)
 

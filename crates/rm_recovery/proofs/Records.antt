@@ -1,6 +1,6 @@
 -- The records of a state as a list, the database of which they tell, and what is in place beside them.
 use Rattle.std.proofs.Common.{◌≡◌, ◌∙◌, ℕ, List, Option, Some, None, refl, ap, map, sym, subst}
-use Rattle.std.specs.Option.{option_and_then, option_map}
+use Rattle.std.specs.Option.{option_map}
 use Rattle.rm_base.specs.declared.refusal.Refusal.TheVariants.{Rm06}
 use Rattle.rm_catalog.specs.declared.record.Record.{Record}
 use Rattle.rm_catalog.specs.Trees.{nodes}
@@ -27,6 +27,7 @@ use Rattle.rm_machine.specs.declared.state.State.{State}
 use Rattle.rm_machine.specs.State.{current_of, tree, world}
 use Rattle.rm_machine.proofs.Fitting.{place-fits}
 use Rattle.rm_machine.proofs.Records.{tree-told, world-told}
+use Rattle.rm_machine.proofs.Untils.{until-none}
 
 -- where there is nothing to map there was nothing
 unmapped : {A B : Type 0} (f : A → B) (o : Option A) → option_map f o ≡ None → o ≡ None
@@ -35,7 +36,7 @@ unmapped f (Some x) none = absurd (cc)
 
 -- a target of PREVIEW that is not refused lies in its range
 pub preview-within : (s : State) (until : Option Until) (at : ℕ) → recover_target s until ≡ Some at → preview_refusal s until ≡ None → range_refusal (tree s) (current_of s) at ≡ None
-preview-within s until at target none = sym (ap (option_and_then (range_refusal (tree s) (current_of s))) target) ∙ none
+preview-within s until at target none = until-none s (current_of s) until (range_refusal (tree s) (current_of s)) None at none target
 
 module _ (s : State) (rs : List Record) (records : rs ≡ records_of s.catalog) where
   same-tree : nodes rs ≡ tree s

@@ -1,10 +1,10 @@
-//! RESTORE DATABASE [UNTIL SCN s] PREVIEW
-ghost use Rattle.std.specs.Prelude.{◌≡◌, ◌≤◌, ◌++◌, ◌∷◌, [], All, IfOk, IsErrOf, None, map, true};
+//! RESTORE DATABASE [UNTIL ..] PREVIEW
+ghost use Rattle.std.specs.Prelude.{◌≡◌, ◌≤◌, ◌++◌, ◌∷◌, [], All, IfOk, IsErrOf, None, map};
 ghost use Rattle.rm_apply.specs.Files.{AreExactly};
 ghost use Rattle.rm_apply.specs.Preview.{Previews};
 ghost use Rattle.rm_base.specs.Outside.{Rose};
 ghost use Rattle.rm_machine.specs.Hands.{Tells};
-ghost use Rattle.rm_machine.specs.Recovery.{is_built_until, skipped_lines};
+ghost use Rattle.rm_machine.specs.Recovery.{skipped_lines};
 ghost use Rattle.rm_machine.specs.Restore.{gap_line, origin_lines, preview_refusal};
 ghost use Rattle.rm_machine.specs.Sound.{IsSound};
 ghost use Rattle.rm_report.specs.Reply.{LineHasDate};
@@ -12,26 +12,31 @@ ghost use Rattle.rm_statement.specs.declared.command.Command.TheVariants.{Previe
 
 use crate::faults::fault_of;
 use crate::lines::push_origins;
-use crate::target::{range_refusal, recover_target};
 use rm_apply::{Origin, TargetFile, datafiles_at};
 use rm_base::{Bad, FileNo, NoMemory, Refusal, Seq, Store};
 use rm_evidence::EvidenceFault;
 use rm_machine::State;
 use rm_machine::hand::at_hand;
 use rm_machine::replies::skipped_lines;
+use rm_machine::until::{nowhere_refusal, range_refusal, recover_target, thread_refusal};
 use rm_plan::Gap;
 use rm_report::Line;
 use rm_statement::Until;
 use std::alloc::Global;
 
-/// Why PREVIEW is refused by the state alone, if it is: the target is out of the range of the current
-/// incarnation (RM-06).
+/// Why PREVIEW is refused by the state alone, if it is: the redo thread of its UNTIL is not there (RM-05), the target is out of
+/// the range of the current incarnation (RM-06), or its UNTIL leads to no target (RM-12, RM-14).
 pub fn preview_refusal(state: &State, until: &Option<Until>) -> Option<Refusal>
     requires sound { IsSound state.now }
     ensures value { result ≡ preview_refusal state.now until.now }
 {
-    let at = recover_target(state, until)?;
-    range_refusal(state.catalog.tree(), state.catalog.base().current, at)
+    if let Some(refusal) = thread_refusal(state, until) {
+        return Some(refusal);
+    }
+    match recover_target(state, until) {
+        Some(at) => range_refusal(state.catalog.tree(), state.catalog.base().current, at),
+        None => nowhere_refusal(state, until),
+    }
 }
 
 // Whether a recovery would come to the target, or else its first gap.

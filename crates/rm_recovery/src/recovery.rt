@@ -1,10 +1,10 @@
-//! RECOVER DATABASE [UNTIL SCN s]
-ghost use Rattle.std.specs.Prelude.{◌≡◌, ◌≤◌, ◌++◌, ◌∷◌, [], All, IfErr, IfOk, IsErrOf, None, OnOk, length, true};
+//! RECOVER DATABASE [UNTIL ..]
+ghost use Rattle.std.specs.Prelude.{◌≡◌, ◌≤◌, ◌++◌, ◌∷◌, [], All, IfErr, IfOk, IsErrOf, None, OnOk, length};
 ghost use Rattle.rm_base.specs.Outside.{Rose};
 ghost use Rattle.rm_statement.specs.declared.command.Command.TheVariants.{Recover};
 ghost use Rattle.rm_machine.specs.Hands.{Hands, Refuses};
 ghost use Rattle.rm_machine.specs.Recover.{recover_refusal, target_refusal};
-ghost use Rattle.rm_machine.specs.Recovery.{is_built_until, skipped_lines};
+ghost use Rattle.rm_machine.specs.Recovery.{skipped_lines};
 ghost use Rattle.rm_machine.specs.Sound.{IsSound};
 ghost use Rattle.rm_report.specs.Reply.{HasDate, LineHasDate};
 ghost use Rattle.rm_report.specs.declared.line.Line.TheVariants.{Recovered as recovered_line};
@@ -12,13 +12,13 @@ ghost use Rattle.rm_report.specs.declared.line.Line.TheVariants.{Recovered as re
 use crate::bringing::bring_back;
 use crate::lines::of_lines;
 use crate::placing::put_in_place;
-use crate::target::{range_refusal, recover_target};
 use rm_apply::Recovered;
 use rm_base::{IncNo, NoMemory, Refusal, Scn, Seq, Store};
 use rm_evidence::EvidenceFault;
 use rm_machine::facts::first_lost;
 use rm_machine::replies::skipped_lines;
 use rm_machine::room::ids_refusal;
+use rm_machine::until::{nowhere_refusal, range_refusal, recover_target, thread_refusal};
 use rm_machine::{Handed, State};
 use rm_report::Line;
 use rm_statement::Until;
@@ -39,9 +39,9 @@ fn target_refusal(state: &State, at: Scn) -> Option<Refusal>
     }
 }
 
-/// Why RECOVER DATABASE is refused by the state alone, if it is: the database is open (RM-04), the target is out
-/// of the range of the current incarnation (RM-06), a datafile of the target is lost (RM-09), or too few object
-/// ids are left (RM-11). Of an UNTIL that is not built the mode alone is told.
+/// Why RECOVER DATABASE is refused by the state alone, if it is: the database is open (RM-04), the redo thread of its UNTIL is not
+/// there (RM-05), the target is out of the range of the current incarnation (RM-06), a datafile of the target is lost (RM-09), too
+/// few object ids are left (RM-11), or its UNTIL leads to no target (RM-12, RM-14).
 pub fn recover_refusal(state: &State, until: &Option<Until>) -> Option<Refusal>
     requires sound { IsSound state.now }
     ensures value { result ≡ recover_refusal state.now until.now }
@@ -49,8 +49,16 @@ pub fn recover_refusal(state: &State, until: &Option<Until>) -> Option<Refusal>
     if state.instance.is_open {
         return Some(Refusal::Rm04 { mounted: false });
     }
-    let at = recover_target(state, until)?;
-    target_refusal(state, at)
+    if let Some(refusal) = thread_refusal(state, until) {
+        return Some(refusal);
+    }
+    if let Some(at) = recover_target(state, until) {
+        return target_refusal(state, at);
+    }
+    match ids_refusal(state) {
+        Some(refusal) => Some(refusal),
+        None => nowhere_refusal(state, until),
+    }
 }
 
 // The lines of the reply.

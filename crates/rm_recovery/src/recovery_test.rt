@@ -1,20 +1,19 @@
-//! RECOVER DATABASE [UNTIL SCN s] [INCARNATION i] TEST
-ghost use Rattle.std.specs.Prelude.{◌≡◌, ◌≤◌, All, IfErr, IfOk, IsErrOf, None, true};
+//! RECOVER DATABASE [UNTIL ..] [INCARNATION i] TEST
+ghost use Rattle.std.specs.Prelude.{◌≡◌, ◌≤◌, All, IfErr, IfOk, IsErrOf, None};
 ghost use Rattle.rm_base.specs.Outside.{Rose};
 ghost use Rattle.rm_statement.specs.declared.command.Command.TheVariants.{RecoverTest};
 ghost use Rattle.rm_machine.specs.Hands.{Refuses, Tells};
-ghost use Rattle.rm_machine.specs.RecoverTest.{test_refusal, tested};
-ghost use Rattle.rm_machine.specs.Recovery.{is_built_until};
+ghost use Rattle.rm_machine.specs.RecoverTest.{test_refusal, tested, tested_refusal};
 ghost use Rattle.rm_machine.specs.Sound.{IsSound};
 ghost use Rattle.rm_report.specs.Reply.{HasDate, LineHasDate};
 
 use crate::bringing::bring_back;
 use crate::lines::push_test;
-use crate::target::{range_refusal, target_of};
 use rm_base::{IncNo, Refusal, Seq, Store};
 use rm_evidence::EvidenceFault;
 use rm_machine::State;
 use rm_machine::replies::skipped_lines;
+use rm_machine::until::{nowhere_refusal, range_refusal, target_of, thread_refusal};
 use rm_report::Line;
 use rm_statement::Until;
 use std::alloc::Global;
@@ -26,18 +25,32 @@ fn tested(state: &State, inc: Option<u64>) -> u64
     inc.unwrap_or(u64::from(state.catalog.base().current))
 }
 
-/// Why RECOVER DATABASE TEST is refused by the state alone, if it is: the target is out of the range of its
-/// incarnation (RM-06), or that is not there (RM-07).
-pub fn test_refusal(state: &State, until: &Option<Until>, inc: Option<u64>) -> Option<Refusal>
-    ensures value { result ≡ test_refusal state.now until.now inc }
+// Why the incarnation is refused, or its target.
+fn tested_refusal(state: &State, until: &Option<Until>, i: u64) -> Option<Refusal>
+    requires sound { IsSound state.now }
+    ensures { result ≡ tested_refusal state.now until.now i }
 {
     let tree = state.catalog.tree();
-    let inc = tested(state, inc);
-    if inc == 0 || u64::from(tree.count()) < inc {
-        return Some(Refusal::Rm07 { inc });
+    if i == 0 || u64::from(tree.count()) < i {
+        return Some(Refusal::Rm07 { inc: i });
     }
-    let at = target_of(tree, inc as IncNo, until)?;
-    range_refusal(tree, inc as IncNo, at)
+    let inc = i as IncNo;
+    match target_of(state, inc, until) {
+        Some(at) => range_refusal(tree, inc, at),
+        None => nowhere_refusal(state, until),
+    }
+}
+
+/// Why RECOVER DATABASE TEST is refused by the state alone, if it is: the redo thread of its UNTIL is not there (RM-05), the target
+/// is out of the range of its incarnation (RM-06), or that is not there (RM-07), or its UNTIL leads to no target (RM-12, RM-14).
+pub fn test_refusal(state: &State, until: &Option<Until>, inc: Option<u64>) -> Option<Refusal>
+    requires sound { IsSound state.now }
+    ensures value { result ≡ test_refusal state.now until.now inc }
+{
+    match thread_refusal(state, until) {
+        Some(refusal) => Some(refusal),
+        None => tested_refusal(state, until, tested(state, inc)),
+    }
 }
 
 /// RECOVER DATABASE TEST, which the state alone does not refuse: tells of each datafile that exists at the target
@@ -61,7 +74,7 @@ pub fn recover_test<D: Store>(
     ensures never_falls { D.faults store.old ≤ D.faults store.new }
 {
     let inc = tested(state, inc) as IncNo;
-    let Some(at) = target_of(state.catalog.tree(), inc, until) else {
+    let Some(at) = target_of(state, inc, until) else {
         unreachable!()
     };
     let back = match bring_back(alloc, state, store, inc, at)? {

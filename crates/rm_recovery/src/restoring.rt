@@ -1,9 +1,9 @@
-//! RESTORE (DATABASE | DATAFILE f) [UNTIL SCN s]
-ghost use Rattle.std.specs.Prelude.{◌≡◌, ◌≤◌, ◌++◌, All, IfErr, IfOk, IfSome, IsErrOf, None, OnOk, map, true};
+//! RESTORE (DATABASE | DATAFILE f) [UNTIL ..]
+ghost use Rattle.std.specs.Prelude.{◌≡◌, ◌≤◌, ◌++◌, All, IfErr, IfOk, IfSome, IsErrOf, None, OnOk, map};
 ghost use Rattle.rm_apply.specs.Restore.{Restores};
 ghost use Rattle.rm_base.specs.Outside.{Rose};
 ghost use Rattle.rm_machine.specs.Hands.{Hands};
-ghost use Rattle.rm_machine.specs.Recovery.{in_place, is_built_until, range_refusal, skipped_lines};
+ghost use Rattle.rm_machine.specs.Recovery.{in_place, range_refusal, skipped_lines};
 ghost use Rattle.rm_machine.specs.Restore.{absent_refusal, origin_lines, place_refusal, restore_refusal};
 ghost use Rattle.rm_machine.specs.Sound.{IsSound};
 ghost use Rattle.rm_machine.specs.State.{current_of, tree};
@@ -14,7 +14,6 @@ ghost use Rattle.rm_statement.specs.declared.command.Command.TheVariants.{Restor
 use crate::faults::fault_of;
 use crate::lines::{of_lines, push_origins};
 use crate::placing::put_in_place;
-use crate::target::{range_refusal, recover_target};
 use rm_apply::{Origin, Recovered};
 use rm_base::{Absent, FileNo, NoMemory, Refusal, Scn, Seq, Store};
 use rm_blocks::DataFile;
@@ -23,6 +22,7 @@ use rm_machine::facts::datafile_at;
 use rm_machine::hand::at_hand;
 use rm_machine::replies::skipped_lines;
 use rm_machine::room::ids_refusal;
+use rm_machine::until::{nowhere_refusal, range_refusal, recover_target, thread_refusal};
 use rm_machine::{Handed, State};
 use rm_report::Line;
 use rm_statement::Until;
@@ -55,9 +55,9 @@ fn place_refusal(state: &State, file: Option<u64>, at: Scn) -> Option<Refusal>
     }
 }
 
-/// Why RESTORE is refused by the state alone, if it is: the database is open (RM-04), the datafile that is named
-/// does not exist at the target (RM-05), the target is out of the range of the current incarnation (RM-06), or
-/// too few object ids are left (RM-11). Of an UNTIL that is not built the mode alone is told.
+/// Why RESTORE is refused by the state alone, if it is: the database is open (RM-04), the redo thread of its UNTIL is not there or
+/// the datafile that is named does not exist at the target (RM-05), the target is out of the range of the current incarnation
+/// (RM-06), too few object ids are left (RM-11), or its UNTIL leads to no target (RM-12, RM-14).
 pub fn restore_refusal(state: &State, file: Option<u64>, until: &Option<Until>) -> Option<Refusal>
     requires sound { IsSound state.now }
     ensures value { result ≡ restore_refusal state.now file until.now }
@@ -65,8 +65,16 @@ pub fn restore_refusal(state: &State, file: Option<u64>, until: &Option<Until>) 
     if state.instance.is_open {
         return Some(Refusal::Rm04 { mounted: false });
     }
-    let at = recover_target(state, until)?;
-    place_refusal(state, file, at)
+    if let Some(refusal) = thread_refusal(state, until) {
+        return Some(refusal);
+    }
+    if let Some(at) = recover_target(state, until) {
+        return place_refusal(state, file, at);
+    }
+    match ids_refusal(state) {
+        Some(refusal) => Some(refusal),
+        None => nowhere_refusal(state, until),
+    }
 }
 
 // The number that is named, as that of a datafile.

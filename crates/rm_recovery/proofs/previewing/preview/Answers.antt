@@ -31,7 +31,7 @@ fault_of-requires-clause-range g c =
     let current = ap (λ (b : BaseEntry). b.current) c.base-current.ensures.value in
     let at = c.in-Some.at in
     within s c.in_ok-hand.hand.records c.in_ok-hand.ensures.records c.base-current.result.current at (until_in c.in-Err.fault) c.in-Err.ensures.until
-    (subst (λ i. range_refusal (tree s) i at ≡ None) (sym current) (preview-within s c.args.until.now at (sym c.recover_target.ensures ∙ c.in-Some.is) c.requires.accepted))
+    (subst (λ i. range_refusal (tree s) i at ≡ None) (sym current) (preview-within s c.args.until.now at (sym c.recover_target.ensures.value ∙ c.in-Some.is) c.requires.accepted))
 
 pub datafiles_at-requires-clause-there : goal.datafiles_at-requires-clause-there
 datafiles_at-requires-clause-there g c =
@@ -55,7 +55,7 @@ returns-clause-tells g c =
     let lines = c.in_ok-lines_of.ensures
     ∙ ap (λ (xs : List (ℕ × Bad)). skipped_lines xs ++ origin_lines c.deref.result.now c.as_slice-2.result.now ++ gap_line told.1 ∷ []) c.as_slice-3.ensures
     ∙ ap (λ (os : List Origin). skipped_lines told.2 ++ origin_lines c.deref.result.now os ++ gap_line told.1 ∷ []) c.as_slice-2.ensures in
-    preview-tells held s c.args.until.now at (sym c.recover_target.ensures ∙ c.in-Some.is) c.deref.result.now told.0 told.1 told.2 c.in_ok-lines_of.field-0 exact previews lines
+    preview-tells held s c.args.until.now at (sym c.recover_target.ensures.value ∙ c.in-Some.is) c.deref.result.now told.0 told.1 told.2 c.in_ok-lines_of.field-0 exact previews lines
 
 pub returns-clause-dates : goal.returns-clause-dates
 returns-clause-dates g c = previewed-dated c.in_ok-lines_of.field-0 c.as_slice-3.result.now c.deref.result.now c.as_slice-2.result.now c.in-Ok.told.1 c.in_ok-lines_of.ensures

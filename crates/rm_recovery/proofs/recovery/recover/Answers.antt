@@ -28,7 +28,7 @@ returns-clause-hands g c =
     let current = ap (λ (b : BaseEntry). b.current) c.base-current.ensures.value in
     let tells = told-at held s c.base-current.result.current (current_of s) at c.in_ok-back.field-0 back current c.in-Ok.is c.in_ok-back.ensures.tells in
     let lines = c.of_lines.ensures.lines ∙ c.in_ok-lines.ensures ∙ ap (λ n. skipped_lines back.skipped ++ Recovered at n (length back.files) ∷ []) current in
-    recover-hands held s c.args.until.now at (sym c.recover_target.ensures ∙ c.in-Some.is) back _ _ tells lines c.of_lines.ensures.objects c.of_lines.ensures.removes c.put_in_place.ensures
+    recover-hands held s c.args.until.now at (sym c.recover_target.ensures.value ∙ c.in-Some.is) back _ _ tells lines c.of_lines.ensures.objects c.of_lines.ensures.removes c.put_in_place.ensures
 
 pub returns-clause-dates : goal.returns-clause-dates
 returns-clause-dates g c = recovered-dated c.of_lines.result.lines c.in-Ok.back.skipped c.in-Some.at _ _ (c.of_lines.ensures.lines ∙ c.in_ok-lines.ensures)
@@ -41,4 +41,4 @@ returns-clause-sound g c =
     let back = c.in-Ok.back in
     let current = ap (λ (b : BaseEntry). b.current) c.base-current.ensures.value in
     let tells = told-at held s c.base-current.result.current (current_of s) at c.in_ok-back.field-0 back current c.in-Ok.is c.in_ok-back.ensures.tells in
-    subst IsSound (sym c.put_in_place.ensures) (recover-sound held s c.requires.sound c.args.until.now at back (sym c.recover_target.ensures ∙ c.in-Some.is) c.requires.accepted tells)
+    subst IsSound (sym c.put_in_place.ensures) (recover-sound held s c.requires.sound c.args.until.now at back (sym c.recover_target.ensures.value ∙ c.in-Some.is) c.requires.accepted tells)

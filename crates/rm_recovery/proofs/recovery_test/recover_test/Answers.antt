@@ -18,4 +18,4 @@ push_test-requires-clause-each g c =
     (told-lines held s c.requires.sound i at back (told-at held s i i at c.in_ok-back.field-0 back refl c.in-Ok.is c.in_ok-back.ensures.tells))
 
 pub returns-clause-dates : goal.returns-clause-dates
-returns-clause-dates g c = tested-dated c.in_ok-lines.lines c.push_test.new.lines c.as_slice.result.now (world c.args.state.now) c.tested-inc.result c.in-Some.at c.as_slice-2.result.now c.in_ok-lines.ensures c.in_ok-push_test.ensures
+returns-clause-dates g c = tested-dated c.in_ok-lines.lines c.push_test.new.lines c.as_slice.result.now (world c.args.state.now) c.tested-inc.result c.in-Some.at c.as_slice-2.result.now c.in_ok-lines.ensures.lines c.in_ok-push_test.ensures

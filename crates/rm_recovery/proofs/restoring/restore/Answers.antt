@@ -25,7 +25,7 @@ returns-clause-hands g c =
     let origins = c.in_ok-back.origins in
     let restores = subst (λ (only : Option ℕ). Restores held (records_of s.catalog) (in_place s) (current_of s) at only back origins) c.named.ensures c.in_ok-back.ensures.restores in
     let lines = restored-lines back.skipped (map (λ (x : File). x.file) back.files) c.as_slice.result.now origins c.in_ok-lines.lines c.of_lines.result.lines c.as_slice.ensures c.in_ok-lines.ensures c.of_lines.ensures.lines in
-    restore-hands held s c.args.until.now at (sym c.recover_target.ensures ∙ c.in-Some.is) c.args.file back origins _ _ restores lines c.of_lines.ensures.objects c.of_lines.ensures.removes c.put_in_place.ensures
+    restore-hands held s c.args.until.now at (sym c.recover_target.ensures.value ∙ c.in-Some.is) c.args.file back origins _ _ restores lines c.of_lines.ensures.objects c.of_lines.ensures.removes c.put_in_place.ensures
 
 pub returns-clause-dates : goal.returns-clause-dates
 returns-clause-dates g c = restored-dated c.of_lines.result.lines c.in_ok-back.back.skipped _ c.as_slice.result.now (c.of_lines.ensures.lines ∙ c.in_ok-lines.ensures)
