@@ -1,2 +1,4 @@
+pub mod Begins
+pub mod Forms
 pub mod Loops
 pub mod Taken

@@ -2,6 +2,7 @@
 #![tactic(auto)]
 
 mod datafiles;
+mod jobs;
 mod pieces;
 pub mod refusing;
 pub mod statement;

@@ -1,7 +1,9 @@
 //! The piece of a datafile, its record, its object and its line.
-ghost use Rattle.std.specs.Prelude.{◌≡◌, ◌<◌, ◌≤◌, ◌∷◌, ◌++◌, [], IfOk, OnOk, true, length};
+ghost use Rattle.std.specs.Prelude.{◌≡◌, ◌<◌, ◌≤◌, ◌∷◌, ◌++◌, [], IfOk, OnOk};
+ghost use Rattle.std.specs.Option.{option_copied};
 ghost use Rattle.rm_base.specs.Numbers.{last_moment};
-ghost use Rattle.rm_machine.specs.Backup.{IsTagBy, after_file, entry_of, kind_of, piece_entry, piece_line, piece_object, piece_of, rows_in, shape_of};
+ghost use Rattle.rm_machine.specs.Backup.{IsTagBy, after_file, entry_of, is_copy, kind_by, named_tag, piece_entry, piece_line, piece_object, piece_of, rows_from, rows_in};
+ghost use Rattle.rm_machine.specs.Lists.{shape_by};
 ghost use Rattle.rm_machine.specs.Sound.{IsSound};
 ghost use Rattle.rm_machine.specs.State.{ledger};
 ghost use Rattle.rm_piece.specs.Spelling.{spelling};
@@ -11,22 +13,24 @@ ghost use Rattle.rm_repository.specs.Fitting.{FitsNewPiece};
 ghost use Rattle.sha2.specs.Sha256.{sha256};
 
 use rm_base::sealed::Encoded;
-use rm_base::{FileNo, Kind, Moment, NoMemory, Row, Seq, Status, Text};
+use rm_base::{FileNo, Kind, Moment, NoMemory, Row, Scn, Seq, Status, Text};
 use rm_catalog::{Edit, PieceEntry};
 use rm_change::Object;
 use rm_machine::facts::{now, placed};
-use rm_machine::{Handed, State};
+use rm_machine::{Handed, Job, State};
 use rm_objects::piece_name;
-use rm_piece::{Piece, encode_piece_with_digest, high_of};
+use rm_piece::{Piece, encode_piece_with_digest, high_of, pick};
 use rm_report::{Line, Shape};
 use rm_statement::BackupForm;
 use std::alloc::Global;
 
-// What the backup makes.
-fn kind_of(form: &BackupForm) -> Kind
-    ensures { result ≡ kind_of form.now }
+// What the backup makes of a datafile that begins here.
+fn kind_by(form: &BackupForm, from: Option<Scn>) -> Kind
+    ensures { result ≡ kind_by form.now from }
 {
-    if form.level.is_none() {
+    if from.is_some() {
+        Kind::Level1
+    } else if form.level.is_none() {
         Kind::Full
     } else {
         Kind::Level0
@@ -34,14 +38,21 @@ fn kind_of(form: &BackupForm) -> Kind
 }
 
 // The same, as it is told.
-fn shape_of(form: &BackupForm) -> Shape
-    ensures { result ≡ shape_of form.now }
+fn shape_by(kind: Kind, from: Scn) -> Shape
+    ensures { result ≡ shape_by kind from }
 {
-    if form.level.is_none() {
-        Shape::Full
-    } else {
-        Shape::Level0
+    match kind {
+        Kind::Level0 => Shape::Level0,
+        Kind::Level1 => Shape::Level1 { from },
+        Kind::Full | Kind::Place => Shape::Full,
     }
+}
+
+// Whether it is an image copy.
+fn is_copy(form: &BackupForm, job: Job) -> bool
+    ensures { result ≡ is_copy form.now job }
+{
+    job.from.is_none() && (form.copy || form.merge_tag.is_some())
 }
 
 // The same text.
@@ -51,12 +62,19 @@ fn copied(alloc: Global, text: &Text) -> Result<Text, NoMemory>
     Ok(Text::from_string(String::from_str(alloc, text.as_str())?))
 }
 
+// The tag that the backup names.
+fn named_tag(form: &BackupForm) -> Option<&Text>
+    ensures { option_copied result ≡ named_tag form.now }
+{
+    form.merge_tag.as_ref().or(form.tag.as_ref())
+}
+
 // The tag of a backup: the one that it names, or else that of its moment.
 pub(crate) fn tag_of(alloc: Global, form: &BackupForm, moment: Moment) -> Result<Text, NoMemory>
     requires { moment ≤ last_moment }
-    ensures { IfOk result (IsTagBy form.now.tag moment) }
+    ensures { IfOk result (IsTagBy (named_tag form.now) moment) }
 {
-    match &form.tag {
+    match named_tag(form) {
         Some(name) => copied(alloc, name),
         None => rm_moments::tag(alloc, moment),
     }
@@ -74,25 +92,36 @@ fn rows_in(state: &State, file: FileNo) -> &[Row]
     }
 }
 
-// The piece of a datafile: each block is read once, as it stands in place now.
-fn piece_of(alloc: Global, state: &State, kind: Kind, file: FileNo) -> Result<Piece, NoMemory>
-    requires sound { IsSound state.now }
-    requires valid { IsPiece (piece_of state.now kind file) }
-    ensures { IfOk result (λ piece. piece ≡ piece_of state.now kind file) }
+// The rows that a backup has which begins here.
+fn rows_from(alloc: Global, from: Option<Scn>, rows: &[Row]) -> Result<Seq<Row>, NoMemory>
+    ensures { IfOk result (λ taken. taken ≡ rows_from from rows.now) }
 {
-    let rows = Vec::from_slice(alloc, rows_in(state, file))?;
+    match from {
+        Some(from) => pick(alloc, rows, from),
+        None => Ok(Seq::from_vec(Vec::from_slice(alloc, rows)?)),
+    }
+}
+
+// The piece of a datafile: each block is read once, as it stands in place now.
+fn piece_of(alloc: Global, state: &State, form: &BackupForm, job: Job) -> Result<Piece, NoMemory>
+    requires sound { IsSound state.now }
+    requires valid { IsPiece (piece_of state.now form.now job) }
+    ensures { IfOk result (λ piece. piece ≡ piece_of state.now form.now job) }
+{
+    let read = rows_in(state, job.file);
+    let rows = rows_from(alloc, job.from, read)?;
     let base = state.catalog.base();
     let now = now(state);
     Ok(Piece {
-        kind,
+        kind: kind_by(form, job.from),
         dbid: base.dbid,
         inc: base.current,
-        file,
-        blocks: rows.len() as u32,
-        from: 0,
+        file: job.file,
+        blocks: read.len() as u32,
+        from: job.from.unwrap_or(0),
         checkpoint: now,
-        high: high_of(now, &rows),
-        rows: Seq::from_vec(rows),
+        high: high_of(now, rows.as_slice()),
+        rows,
     })
 }
 
@@ -102,18 +131,19 @@ fn entry_of(
     state: &State,
     form: &BackupForm,
     tag: &Text,
+    copy: bool,
     piece: &Piece,
     encoded: &Encoded,
 ) -> Result<PieceEntry, NoMemory>
     requires valid { IsPiece piece.now }
     requires bytes { encoded.now.bytes ≡ spelling piece.now }
     requires digest { encoded.now.digest ≡ sha256 (spelling piece.now) }
-    ensures { IfOk result (λ entry. entry ≡ piece_entry form.now tag.now (ledger state.now).base.moment (ledger state.now).base.next_id piece.now) }
+    ensures { IfOk result (λ entry. entry ≡ piece_entry copy form.now.keep tag.now (ledger state.now).base.moment (ledger state.now).base.next_id piece.now) }
 {
     let base = state.catalog.base();
     Ok(PieceEntry {
         id: base.next_id,
-        copy: form.copy,
+        copy,
         kind: piece.kind,
         inc: piece.inc,
         file: piece.file,
@@ -130,21 +160,20 @@ fn entry_of(
     })
 }
 
-// The line of the piece of a datafile: each block was read.
-fn piece_line(state: &State, form: &BackupForm, file: FileNo) -> Line
-    requires sound { IsSound state.now }
-    requires valid { IsPiece (piece_of state.now (kind_of form.now) file) }
-    ensures { result ≡ piece_line state.now form.now file }
+// The line of a piece: each block was read.
+fn piece_line(state: &State, form: &BackupForm, job: Job, piece: &Piece) -> Line
+    requires valid { IsPiece piece.now }
+    requires piece { piece.now ≡ piece_of state.now form.now job }
+    ensures { result ≡ piece_line state.now form.now job }
 {
-    let rows = rows_in(state, file).len();
     Line::BackedUp {
-        copy: form.copy,
+        copy: is_copy(form, job),
         id: state.catalog.base().next_id,
-        file,
-        shape: shape_of(form),
-        checkpoint: now(state),
-        rows: rows as u32,
-        reads: rows as u64,
+        file: piece.file,
+        shape: shape_by(piece.kind, piece.from),
+        checkpoint: piece.checkpoint,
+        rows: piece.rows.len() as u32,
+        reads: u64::from(piece.blocks),
     }
 }
 
@@ -157,25 +186,26 @@ pub(crate) fn back_up(
     handed: &mut Handed,
     form: &BackupForm,
     tag: &Text,
-    file: FileNo,
+    job: Job,
 ) -> Result<(), NoMemory>
     requires sound { IsSound state.old }
-    requires valid { IsPiece (piece_of state.old (kind_of form.now) file) }
-    requires fits { FitsNewPiece state.old.catalog (entry_of state.old form.now tag.now file) }
-    ensures after { OnOk result (state.new ≡ after_file state.old form.now tag.now file) }
+    requires valid { IsPiece (piece_of state.old form.now job) }
+    requires fits { FitsNewPiece state.old.catalog (entry_of state.old form.now tag.now job) }
+    ensures after { OnOk result (state.new ≡ after_file state.old form.now tag.now job) }
     ensures edits { OnOk result (EditsFollow edits.old.items edits.new.items state.old.catalog state.new.catalog) }
-    ensures lines { OnOk result (handed.new.lines ≡ handed.old.lines ++ piece_line state.old form.now file ∷ []) }
-    ensures objects { OnOk result (handed.new.objects ≡ handed.old.objects ++ piece_object state.old form.now file ∷ []) }
+    ensures lines { OnOk result (handed.new.lines ≡ handed.old.lines ++ piece_line state.old form.now job ∷ []) }
+    ensures objects { OnOk result (handed.new.objects ≡ handed.old.objects ++ piece_object state.old form.now job ∷ []) }
     ensures removes { OnOk result (handed.new.removes ≡ handed.old.removes) }
 {
-    let piece = piece_of(alloc, state, kind_of(form), file)?;
+    let piece = piece_of(alloc, state, form, job)?;
     let encoded = encode_piece_with_digest(alloc, &piece)?;
-    let entry = entry_of(alloc, state, form, tag, &piece, &encoded)?;
+    let copy = is_copy(form, job);
+    let entry = entry_of(alloc, state, form, tag, copy, &piece, &encoded)?;
     let object = Object {
-        name: piece_name(alloc, form.copy, entry.id)?,
+        name: piece_name(alloc, copy, entry.id)?,
         bytes: encoded.bytes,
     };
-    handed.lines.push(piece_line(state, form, file))?;
+    handed.lines.push(piece_line(state, form, job, &piece))?;
     handed.objects.push(object)?;
     state.catalog.add_piece(alloc, edits, entry)
 }

@@ -25,10 +25,10 @@ use Rattle.rm_frame.specs.Moments.{IsMomentIn}
 use Rattle.rm_frame.specs.Steps.{StepsAt}
 use Rattle.rm_frame.proofs.Founding.{founded-unsaved, without-leads}
 
--- the state on which a statement of this moment acts
-abbrev acting : Option State → ℕ → Option State
-acting None moment = None
-acting (Some s) moment = Some (at_moment s moment)
+-- the database on which a statement acts at this moment, if there is one
+abbrev pub acts_on : Option State → ℕ → Option State
+acts_on None moment = None
+acts_on (Some s) moment = Some (at_moment s moment)
 
 -- what is at hand leads a sound machine on to a sound one, from a database or none
 abbrev pub LeadsFrom : Option State → Command → Type 0
@@ -36,7 +36,7 @@ LeadsFrom o c =
     (m : Machine) (moment : ℕ) (lines : List Line) (effect : Effect) (t : State) (after : Held)
     → IsStatement c → m.state ≡ o → IsSoundMachine m → DigestsTell m → IsMomentIn o moment
     → IsOutcomeIn o m.objects c moment (done lines effect t) → LeavesObjects (and_drops o effect) m.objects after
-    → (n : Machine) × StepBy (acting o moment) m c (done lines effect t) (said lines) n × (n.objects ≡ after) × IsSoundMachine n
+    → (n : Machine) × StepBy (acts_on o moment) m c (done lines effect t) (said lines) n × (n.objects ≡ after) × IsSoundMachine n
 
 pub leads-from : (c : Command) → LeadsOn c → (o : Option State) → LeadsFrom o c
 leads-from c law None = λ m moment lines effect t after well is sound tell at comes leaves. without-leads c m moment lines effect t after well is sound at.last comes leaves
@@ -67,7 +67,7 @@ same-puts None e = refl
 same-puts (Some s) e = refl
 
 -- what a statement comes to is its step
-pub step-in : (o : Option State) (m : Machine) (c : Command) (moment : ℕ) (r : Outcome) (reply : Reply) (n : Machine) → m.state ≡ o → IsOutcomeIn o m.objects c moment r → StepBy (acting o moment) m c r reply n → Step m c moment reply n
+pub step-in : (o : Option State) (m : Machine) (c : Command) (moment : ℕ) (r : Outcome) (reply : Reply) (n : Machine) → m.state ≡ o → IsOutcomeIn o m.objects c moment r → StepBy (acts_on o moment) m c r reply n → Step m c moment reply n
 step-in None m c moment r reply n is comes by = subst (λ x. StepIn x m c moment reply n) (sym is) (r, comes, by)
 step-in (Some s) m c moment r reply n is comes by = subst (λ x. StepIn x m c moment reply n) (sym is) (r, comes, by)
 

@@ -3,6 +3,7 @@ pub mod Every
 pub mod Founding
 pub mod Halting
 pub mod LooseBackup
+pub mod LooseCopies
 pub mod LooseDrills
 pub mod LooseNew
 pub mod LooseQuiet

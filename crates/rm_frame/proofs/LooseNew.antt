@@ -76,13 +76,17 @@ AreNew s xs = All (λ x. IsNewName s x.name) xs
 none-named : (n : List ℕ) (xs : List Object) → All (λ x. n ≢ x.name) xs → is_named name_of xs n ≡ true → ⊥
 none-named n xs apart named = let clash : false ≡ true = sym (unnamed name_of xs n apart) ∙ named in cc
 
--- a statement that takes nothing away, and puts new names alone
-pub new-loose : (s : State) (c : Command) (e : Effect) (t : State) → e.removes ≡ [] → AreNew s e.puts → IsLoose (Some s) c e t
-new-loose s c e t removes new = record {
+-- a statement that puts new names alone, and takes away none of a record that is left
+pub loose-by : (s : State) (c : Command) (e : Effect) (t : State) → AreNew s e.puts → ((name : List ℕ) → IsNamedBy t name → ¬ (is_named itself e.removes name ≡ true)) → IsLoose (Some s) c e t
+loose-by s c e t new free = record {
   puts = λ name names named. absurd (none-named name e.puts (λ k d inside. (new k d inside).names name names) named);
   parts = λ id named. absurd (none-named (site_name id) e.puts (λ k d inside. (new k d inside).parts id) named);
-  removes = λ name names named. absurd (let clash : false ≡ true = sym (ap (λ ys. is_named itself ys name) removes) ∙ named in cc);
+  removes = λ name names named. absurd (free name names named);
 }
+
+-- one that takes nothing away
+pub new-loose : (s : State) (c : Command) (e : Effect) (t : State) → e.removes ≡ [] → AreNew s e.puts → IsLoose (Some s) c e t
+new-loose s c e t removes new = loose-by s c e t new (λ name names named. let clash : false ≡ true = sym (ap (λ ys. is_named itself ys name) removes) ∙ named in cc)
 
 one-new : (s : State) (id : ℕ) (bytes : List ℕ) → IsSound s → IsFree s id → AreNew s (record { name = log_name id; bytes = bytes } ∷ [])
 one-new s id bytes sound free =

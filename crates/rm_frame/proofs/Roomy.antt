@@ -20,12 +20,12 @@ use Rattle.rm_statement.specs.declared.command.BackupForm.{BackupForm}
 use Rattle.rm_statement.specs.declared.command.ChangeTo.{ChangeTo}
 use Rattle.rm_statement.specs.declared.command.ChangeTo.TheVariants.{Available, Keep, NoKeep, Unavailable, Uncatalog}
 use Rattle.rm_statement.specs.declared.command.Command.{Command}
-use Rattle.rm_statement.specs.declared.command.Command.TheVariants.{ArchiveLogCurrent, Backup, BackupLogs, ChangeBackup, CreateDatabase, CreateDatafile, Crosscheck, Cut, Damage, DeleteBackup, DeleteExpired, LoseDatafile, LoseLog, Mount, OpenPlain, OpenResetlogs, Recover, Remove, Rename, ResetDatabase, Restore, SwitchLogfile, Write, Parallelism, Retention}
+use Rattle.rm_statement.specs.declared.command.Command.TheVariants.{ArchiveLogCurrent, Backup, BackupLogs, ChangeBackup, CreateDatabase, CreateDatafile, Crosscheck, Cut, Damage, DeleteBackup, DeleteExpired, DeleteObsolete, LoseDatafile, LoseLog, Mount, OpenPlain, OpenResetlogs, Recover, Remove, Rename, ResetDatabase, Restore, SwitchLogfile, Write, Parallelism, Retention, RecoverCopy}
 use Rattle.rm_statement.specs.declared.command.Until.{Until}
 use Rattle.rm_statement.specs.declared.command.RetentionForm.{RetentionForm}
 use Rattle.rm_statement.specs.declared.command.WriteForm.{WriteForm}
 use Rattle.rm_machine.specs.Archive.{after_all, after_thread, after_threads, archiving, due_from}
-use Rattle.rm_machine.specs.Backup.{after_file, after_files, backing, taken}
+use Rattle.rm_machine.specs.Backup.{after_file, after_files, backing}
 use Rattle.rm_machine.specs.BackupLogs.{copies_of, copies_refusal, copy_entry, copying, numbered_from, with_copies}
 use Rattle.rm_machine.specs.CreateDatafile.{datafile_refusal, with_datafile}
 use Rattle.rm_machine.specs.Configure.{parallelism_refusal, policy_of, retention_refusal, with_channels, with_policy}
@@ -38,23 +38,27 @@ use Rattle.rm_machine.specs.Mount.{as_mounted, mounted}
 use Rattle.rm_machine.specs.Open.{open_refusal, opened}
 use Rattle.rm_machine.specs.OpenResetlogs.{branched_off, resetlogs_lines}
 use Rattle.rm_machine.specs.Recover.{RecoversTo, recover_target, recovered, target_refusal}
+use Rattle.rm_machine.specs.Until.{or_else}
+use Rattle.rm_machine.proofs.Untils.{until-none}
 use Rattle.rm_machine.specs.ResetDatabase.{at_incarnation, reset_refusal}
 use Rattle.rm_machine.specs.Restore.{RestoresTo, place_refusal, restored}
 use Rattle.rm_machine.specs.Sound.{IsSound}
+use Rattle.rm_machine.specs.declared.job.Job.{Job}
 use Rattle.rm_machine.specs.declared.state.State.{State}
 use Rattle.rm_machine.specs.State.{current_of, ledger, now_of, on_path, online}
 use Rattle.rm_machine.specs.Step.{IsDone, IsOutcome, refusal_of}
 use Rattle.rm_machine.specs.SwitchLogfile.{archive_refusal, archived, is_due, made_lines, none_lines, with_archived}
-use Rattle.rm_machine.specs.Until.{or_else, until_refusal}
+use Rattle.rm_machine.specs.Until.{or_else}
 use Rattle.rm_machine.specs.Upkeep.{changed_to, log_at, log_changed, piece_at, piece_changed, record_refusal, with_catalog, with_keep, with_status, with_statuses, without_all, without_record}
 use Rattle.rm_machine.specs.Write.{block_refusal, with_write, write_refusal}
 use Rattle.rm_machine.proofs.Archives.{Took, took-thread}
 use Rattle.rm_machine.proofs.ArchivingAll.{room}
-use Rattle.rm_machine.proofs.BackingUp.{can-back_up}
+use Rattle.rm_machine.proofs.BackingUp.{can-back_up, jobs-room}
 use Rattle.rm_machine.proofs.BackingUpLogs.{after_copies, done-of, room-for}
 use Rattle.rm_machine.proofs.Branching.{can-reset}
 use Rattle.rm_machine.proofs.Drilling.{IsDrill, cut-by, damaged-by, removed-by, renamed-by}
 use Rattle.rm_machine.proofs.Leading.{done-by}
+use Rattle.rm_machine.proofs.Renewals.{leaves-renewed}
 use Rattle.rm_machine.proofs.Switching.{not-above}
 use Rattle.rm_machine.proofs.Telling.{never-done}
 use Rattle.rm_machine.proofs.Untils.{until-none}
@@ -167,31 +171,26 @@ lose_log-roomy thread = draws-none (LoseLog thread) (lose_log-asks thread)
 
 -- RECOVER and RESTORE, by their target
 
--- the target was not refused, so ids are left
-target-asks : (s : State) (until : Option Until) (by_target : ℕ → Option Refusal) (at : ℕ) → until_refusal s (current_of s) until by_target (ids_refusal s) ≡ None → recover_target s until ≡ Some at
-    → Asks s (by_target at) → lacks_ids s 0 ≡ false
-target-asks s until by_target at none is asks = asks (until-none s (current_of s) until by_target (ids_refusal s) at none is)
-
-recover-left : (o : Option ℕ) (s : State) (held : Held) (lines : List Line) (e : Effect) (t : State) → ((at : ℕ) → o ≡ Some at → lacks_ids s 0 ≡ false) → RecoversTo s held o (done lines e t) → lacks_ids t 0 ≡ false
-recover-left None s held lines e t left does = absurd does
-recover-left (Some at) s held lines e t left (inl found) = absurd (let clash = found.is in cc)
-recover-left (Some at) s held lines e t left (inr all) = none-drawn s lines _ e _ (recovered s at all.back.files) t all.is refl (left at refl)
+recover-left : (o : Option ℕ) (s : State) (held : Held) (lines : List Line) (e : Effect) (t : State) → ((at : ℕ) → o ≡ Some at → target_refusal s at ≡ None) → RecoversTo s held o (done lines e t) → lacks_ids t 0 ≡ false
+recover-left None s held lines e t none does = absurd does
+recover-left (Some at) s held lines e t none (inl found) = absurd (let clash = found.is in cc)
+recover-left (Some at) s held lines e t none (inr all) =
+    none-drawn s lines _ e _ (recovered s at all.back.files) t all.is refl (asks-else s _ _ (asks-else s _ _ (asks-ids s)) (none at refl))
 
 pub recover-roomy : (until : Option Until) → LeavesIds (Recover until)
 recover-roomy until s held lines e t sound comes =
     let both = done-by (refusal_of s (Recover until)) s held (Recover until) lines e t comes in
-    recover-left (recover_target s until) s held lines e t
-    (λ at is. target-asks s until (target_refusal s) at (unless s.instance.is_open _ _ both.0).1 is (asks-else s _ _ (asks-else s _ _ (asks-ids s)))) both.1
+    recover-left (recover_target s until) s held lines e t (λ at is. until-none s (current_of s) until (target_refusal s) (ids_refusal s) at (unless s.instance.is_open _ _ both.0).1 is) both.1
 
-restore-left : (o file : Option ℕ) (s : State) (held : Held) (lines : List Line) (e : Effect) (t : State) → ((at : ℕ) → o ≡ Some at → lacks_ids s 0 ≡ false) → RestoresTo s held file o (done lines e t) → lacks_ids t 0 ≡ false
-restore-left None file s held lines e t left does = absurd does
-restore-left (Some at) file s held lines e t left does = none-drawn s lines _ e _ (restored s does.back.files) t does.is refl (left at refl)
+restore-left : (o file : Option ℕ) (s : State) (held : Held) (lines : List Line) (e : Effect) (t : State) → ((at : ℕ) → o ≡ Some at → place_refusal s file at ≡ None) → RestoresTo s held file o (done lines e t) → lacks_ids t 0 ≡ false
+restore-left None file s held lines e t none does = absurd does
+restore-left (Some at) file s held lines e t none does =
+    none-drawn s lines _ e _ (restored s does.back.files) t does.is refl (asks-else s _ _ (asks-else s _ _ (asks-ids s)) (none at refl))
 
 pub restore-roomy : (file : Option ℕ) (until : Option Until) → LeavesIds (Restore file until)
 restore-roomy file until s held lines e t sound comes =
     let both = done-by (refusal_of s (Restore file until)) s held (Restore file until) lines e t comes in
-    restore-left (recover_target s until) file s held lines e t
-    (λ at is. target-asks s until (place_refusal s file) at (unless s.instance.is_open _ _ both.0).1 is (asks-else s _ _ (asks-else s _ _ (asks-ids s)))) both.1
+    restore-left (recover_target s until) file s held lines e t (λ at is. until-none s (current_of s) until (place_refusal s file) (ids_refusal s) at (unless s.instance.is_open _ _ both.0).1 is) both.1
 
 -- Statements on records
 
@@ -243,6 +242,10 @@ check-roomy class = draws-none (Crosscheck class) asks-ids
 
 pub expire-roomy : (class : Class) → LeavesIds (DeleteExpired class)
 expire-roomy class = draws-none (DeleteExpired class) asks-ids
+    (λ s held lines e t does left. none-drawn s lines _ e _ (with_catalog s (without_all does.ids s.catalog)) t does.is (all-next does.ids s.catalog) left)
+
+pub obsolete-roomy : LeavesIds DeleteObsolete
+obsolete-roomy = draws-none DeleteObsolete asks-ids
     (λ s held lines e t does left. none-drawn s lines _ e _ (with_catalog s (without_all does.ids s.catalog)) t does.is (all-next does.ids s.catalog) left)
 
 -- CONFIGURE
@@ -326,18 +329,18 @@ branch-roomy s held lines e t sound comes =
     branch-left s.instance.point s lines e t both.1 (omega (arith, most, up))
 
 -- each piece draws one
-files-next : (b : BackupForm) (tag fs : List ℕ) (s : State) → next (after_files s b tag fs) ≡ next s + length fs
+files-next : (b : BackupForm) (tag : List ℕ) (js : List Job) (s : State) → next (after_files s b tag js) ≡ next s + length js
 files-next b tag [] s = omega arith
-files-next b tag (f ∷ fs) s = let rest = files-next b tag fs (after_file s b tag f) in omega (arith, rest)
+files-next b tag (j ∷ js) s = let rest = files-next b tag js (after_file s b tag j) in omega (arith, rest)
 
 pub backup-roomy : (b : BackupForm) → LeavesIds (Backup b)
 backup-roomy b s held lines e t sound comes =
     let both = done-by (refusal_of s (Backup b)) s held (Backup b) lines e t comes in
     let does = both.1 in
-    let fs = taken s b in
-    let most = (can-back_up s b sound both.0).room.ids in
-    let up = files-next b does.tag fs s in
-    left-after lines _ e (backing s b does.tag fs) (after_files s b does.tag fs) t does.is (omega (arith, most, up))
+    let js = does.jobs in
+    let most = (jobs-room s b js does.are (can-back_up s b sound both.0).room).ids in
+    let up = files-next b does.tag js s in
+    left-after lines _ e (backing s b does.tag js) (after_files s b does.tag js) t does.is (omega (arith, most, up))
 
 -- and so does each backup of a log
 copies-next : (logs : List LogFile) (n : ℕ) (r : Repository) → next_in (with_copies r (numbered_from n logs)) ≡ next_in r + length logs
@@ -352,6 +355,13 @@ back_logs-roomy s held lines e t sound comes =
     let most = (room-for s logs sound is.0).ids in
     let up = copies-next logs (next s) s.catalog in
     ap (λ y. lacks_ids y 0) (sym is.2) ∙ le-ltb 4294967295 (next (after_copies s logs) + 0 + 68) (omega (arith, most, up))
+
+-- and so does each copy that changed
+pub renew-roomy : (tag : List ℕ) (until : Option Until) → LeavesIds (RecoverCopy tag until)
+renew-roomy tag until s held lines e t sound comes =
+    let c = RecoverCopy tag until in
+    let most = (leaves-renewed (recover_target s until) s tag held lines e t sound (done-by (refusal_of s c) s held c lines e t comes).1).ids in
+    le-ltb 4294967295 (next t + 0 + 68) (omega (arith, most))
 
 -- Statements that are never done
 

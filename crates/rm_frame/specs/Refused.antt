@@ -4,7 +4,7 @@ use Rattle.rm_base.specs.declared.refusal.Refusal.{Refusal}
 use Rattle.rm_base.specs.declared.refusal.Refusal.TheVariants.{Rm02, Rm11}
 use Rattle.rm_base.specs.declared.refusal.Limit.TheVariants.{Threads}
 use Rattle.rm_statement.specs.declared.command.Command.{Command}
-use Rattle.rm_statement.specs.declared.command.Command.TheVariants.{BackupLogs, CreateDatabase, Cut, Damage, Recover, RecoverTest, Remove, Rename}
+use Rattle.rm_statement.specs.declared.command.Command.TheVariants.{BackupLogs, CreateDatabase, Cut, Damage, Recover, RecoverCopy, RecoverTest, Remove, Rename}
 use Rattle.rm_report.specs.Reply.{refused_by}
 use Rattle.rm_report.specs.declared.line.Reply.{Reply}
 use Rattle.rm_machine.specs.declared.state.State.{State}
@@ -30,6 +30,7 @@ abbrev pub looks_at_objects : Command → Bool
 looks_at_objects BackupLogs = true
 looks_at_objects (Recover until) = true
 looks_at_objects (RecoverTest until inc) = true
+looks_at_objects (RecoverCopy tag until) = true
 looks_at_objects (Remove name) = true
 looks_at_objects (Damage name at) = true
 looks_at_objects (Cut name to) = true

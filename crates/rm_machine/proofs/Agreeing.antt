@@ -69,14 +69,14 @@ module _ (s : State) (h : List Change) (objects : Held) (made : List Made) (touc
   log-by _ (from_online t low high found) = borne.keeps.online t low high found
   log-by _ (from_log l a has there) = log-agrees l a has there
 
-  base-by : (a : Piece) → BaseFrom s objects a → BaseAgrees (world s) h (base_of a)
+  pub base-by : (a : Piece) → BaseFrom s objects a → BaseAgrees (world s) h (base_of a)
   base-by _ (from_place k x at) =
       let back : suc k - 1 ≡ k = omega arith in
       borne.keeps.place (suc k) x (ap (λ n. slice_index_or s.instance.place n None) back ∙ index-get s.instance.place k x at)
   base-by _ (from_copy p a has kind there) =
       as-base (world s) h a.kind a (λ e. kind (sym there.object.fields.kind ∙ e)) (piece-agrees p a has there)
 
-  level1-by : (a : Piece) → Level1From s objects a → Level1Agrees (world s) h (level1_of a)
+  pub level1-by : (a : Piece) → Level1From s objects a → Level1Agrees (world s) h (level1_of a)
   level1-by a from =
       subst (λ k. PieceAgrees (world s) h k a) (from.has.object.fields.kind ∙ from.kind) (piece-agrees from.entry a from.recorded from.has)
 

@@ -1,33 +1,36 @@
--- DELETE BACKUP leads on: no other record names the object that goes.
-use Rattle.std.proofs.Common.{◌≡◌, ◌≢◌, ◌<◌, ◌≤◌, ◌^◌, ◌∙◌, ◌++◌, ◌==◌, ◌||◌, nat_lt, inl, inr, ℕ, List, [], ◌∷◌, true, refl, ap, sym, subst, arith, filter, map, Contains}
+-- Records go, and their objects: no record that is left names what goes. So DELETE BACKUP leads on.
+use Rattle.std.proofs.Common.{◌≡◌, ◌≢◌, ◌<◌, ◌≤◌, ◌^◌, ◌∙◌, ◌++◌, ◌==◌, ◌||◌, nat_lt, inl, inr, ℕ, List, [], ◌∷◌, None, true, refl, ap, sym, subst, arith, filter, map, Contains}
+use Rattle.std.specs.List.{flat_map}
 use Rattle.std.specs.Str.{bytes_eq}
-use Rattle.std.proofs.lemmas.Bool.{cases_Bool, eqb-true, ltb-true}
-use Rattle.std.proofs.lemmas.List.{append-nil}
-use Rattle.std.proofs.lemmas.List.Elements.{All-contains, All-contains_itself, Contains-append_cases}
+use Rattle.std.proofs.lemmas.Bool.{cases_Bool, cases_lt, eqb-true, lt-ltb, ltb-true}
+use Rattle.std.proofs.lemmas.List.Elements.{All-contains, Contains-append_cases, Contains-append_left, Contains-append_right}
 use Rattle.rm_base.specs.Store.{Held}
-use Rattle.rm_base.proofs.Lists.{filter_from, map_from}
-use Rattle.rm_base.proofs.Members.{behind, in-front}
+use Rattle.rm_base.specs.declared.block.Change.{Change}
+use Rattle.rm_base.proofs.Lists.{filter_from, filter_to, map_from}
+use Rattle.rm_base.proofs.Members.{behind, first-or-rest, in-front, none-in}
 use Rattle.rm_catalog.specs.declared.record.LogEntry.{LogEntry}
 use Rattle.rm_catalog.specs.declared.record.PieceEntry.{PieceEntry}
-use Rattle.rm_change.specs.Names.{is_named, itself, nothing}
+use Rattle.rm_change.specs.Names.{HasRemoves, is_named, itself, nothing}
 use Rattle.rm_change.proofs.Named.{same-name, unnamed-stays}
+use Rattle.rm_ledger.specs.Ledger.{Ledger}
 use Rattle.rm_objects.specs.Names.{log_name, piece_name, site_name}
 use Rattle.rm_objects.proofs.Names.{log-name-tells, log-no-piece, log-no-site, piece-name-tells, piece-no-site}
 use Rattle.rm_repository.specs.Changes.{higher, lower, without_one}
 use Rattle.rm_repository.specs.Facts.{IsRepository}
 use Rattle.rm_repository.specs.Repository.{Repository}
-use Rattle.rm_repository.proofs.Ones.{all-without}
+use Rattle.rm_report.specs.declared.line.Line.{Line}
 use Rattle.rm_statement.specs.declared.command.Command.TheVariants.{DeleteBackup}
-use Rattle.rm_machine.specs.Effect.{Effect, LeavesObjects}
+use Rattle.rm_machine.specs.Effect.{Effect, LeavesObjects, Made, done}
 use Rattle.rm_machine.specs.Machine.{IsBorneOut}
 use Rattle.rm_machine.specs.Names.{IsObjectName, of_log, of_piece}
 use Rattle.rm_machine.specs.Sound.{IsSound}
 use Rattle.rm_machine.specs.declared.state.State.{State}
-use Rattle.rm_machine.specs.Upkeep.{names_at, removing, with_catalog, without_record}
-use Rattle.rm_machine.proofs.Entries.{without-on}
-use Rattle.rm_machine.proofs.Kept.{StandOn}
+use Rattle.rm_machine.specs.Upkeep.{names_at, removing, with_catalog, without_all, without_record}
+use Rattle.rm_machine.proofs.Kept.{StandOn, stand-where}
 use Rattle.rm_machine.proofs.Later.{borne-beside}
 use Rattle.rm_machine.proofs.Leading.{LeadsOnBy, StaysBy}
+use Rattle.rm_machine.proofs.Quiet.{removing-on, removing-stays}
+use Rattle.rm_machine.proofs.Upkeep.{all-on}
 
 -- one of these names
 pub named-in : (names : List (List ℕ)) (name : List ℕ) → is_named itself names name ≡ true → Contains names name
@@ -37,31 +40,98 @@ named-in (m ∷ ms) name is = elim (cases_Bool (bytes_eq name m)) [
   | inr other ↦ behind m ms name (named-in ms name (sym (ap (λ b. b || is_named itself ms name) other) ∙ is))
 ]
 
--- what is left has another id
-left-other : {A : Type 0} (id : A → ℕ) (n : ℕ) (xs : List A) (x : A) → Contains (without_one id n xs) x → id x ≢ n
-left-other id n xs x has same = elim (Contains-append_cases (lower id n xs) (higher id n xs) x has) [
-  | inl below ↦ let less = ltb-true (id x) n (filter_from (λ y. nat_lt (id y) n) xs x below).1 in absurd (omega (arith, less, same))
-  | inr above ↦ let more = ltb-true n (id x) (filter_from (λ y. nat_lt n (id y)) xs x above).1 in absurd (omega (arith, more, same))
+-- what records name that no such name is of stays
+pub stand-without : (names : List (List ℕ)) (before after : Held) (touched : List (List ℕ)) (l : Ledger) → HasRemoves names before after → ((name : List ℕ) → IsObjectName l name → ¬ Contains names name)
+    → StandOn before after touched touched l l
+stand-without names before after touched l removes free name bytes was is (inl given) = inl given
+stand-without names before after touched l removes free name bytes was is (inr held) = elim (cases_Bool (is_named itself names name)) [
+  | inl named ↦ absurd (free name is (named-in names name named))
+  | inr other ↦ inr (removes name ∙ unnamed-stays itself nothing names name (before name) other ∙ held)
 ]
 
-module _ (r : Repository) (n : ℕ) (rules : IsRepository r) where
-  -- the name that goes is that of a log, or of a piece, of this id
-  data IsGone : List ℕ → Type 0 where
-    a_log : (e : LogEntry) → e.id ≡ n → Contains r.ledger.logs e → IsGone (log_name e.id)
-    a_piece : (p : PieceEntry) → p.id ≡ n → Contains r.ledger.pieces p → IsGone (piece_name p.copy p.id)
-
-  gone : (name : List ℕ) → Contains (names_at n r) name → IsGone name
-  gone name has = elim (Contains-append_cases (map (λ (e : LogEntry). log_name e.id) (filter (λ e. e.id == n) r.ledger.logs)) (map (λ (p : PieceEntry). piece_name p.copy p.id) (filter (λ p. p.id == n) r.ledger.pieces)) name has) [
-    | inl of ↦
-        let found = map_from (λ (e : LogEntry). log_name e.id) (filter (λ e. e.id == n) r.ledger.logs) name of in
-        let was = filter_from (λ (e : LogEntry). e.id == n) r.ledger.logs found.item found.held in
-        subst IsGone found.is (a_log found.item (eqb-true found.item.id n was.1) was.0)
-    | inr of ↦
-        let found = map_from (λ (p : PieceEntry). piece_name p.copy p.id) (filter (λ p. p.id == n) r.ledger.pieces) name of in
-        let was = filter_from (λ (p : PieceEntry). p.id == n) r.ledger.pieces found.item found.held in
-        subst IsGone found.is (a_piece found.item (eqb-true found.item.id n was.1) was.0)
+module _ {A : Type 0} (id : A → ℕ) (n : ℕ) (xs : List A) (x : A) where
+  -- what is left was there, and has another id
+  pub left-one : Contains (without_one id n xs) x → Contains xs x × (id x ≢ n)
+  left-one has = elim (Contains-append_cases (lower id n xs) (higher id n xs) x has) [
+    | inl below ↦
+        let was = filter_from (λ y. nat_lt (id y) n) xs x below in
+        let less = ltb-true (id x) n was.1 in
+        (was.0, λ same. absurd (omega (arith, less, same)))
+    | inr above ↦
+        let was = filter_from (λ y. nat_lt n (id y)) xs x above in
+        let more = ltb-true n (id x) was.1 in
+        (was.0, λ same. absurd (omega (arith, more, same)))
   ]
 
+  -- and what has another id is left
+  pub stays-one : Contains xs x → id x ≢ n → Contains (without_one id n xs) x
+  stays-one has other = elim (cases_lt (id x) n) [
+    | inl below ↦ Contains-append_left (lower id n xs) (higher id n xs) x (filter_to (λ y. nat_lt (id y) n) xs x has (lt-ltb (id x) n below))
+    | inr above ↦ Contains-append_right (lower id n xs) (higher id n xs) x (filter_to (λ y. nat_lt n (id y)) xs x has (lt-ltb n (id x) (grind (arith, above, other))))
+  ]
+
+not-among : (n : ℕ) (ns : List ℕ) (id : ℕ) → id ≢ n → ¬ Contains ns id → ¬ Contains (n ∷ ns) id
+not-among n ns id other rest held = elim (first-or-rest n ns id held) [
+  | inl same ↦ other (sym same)
+  | inr later ↦ rest later
+]
+
+-- the records that are left were there, and have none of the ids
+pub left-log : (ids : List ℕ) (r : Repository) (e : LogEntry) → Contains (without_all ids r).ledger.logs e → Contains r.ledger.logs e × ¬ Contains ids e.id
+left-log [] r e has = (has, none-in e.id)
+left-log (n ∷ ns) r e has =
+    let later = left-log ns (without_record n r) e has in
+    let one = left-one (λ (x : LogEntry). x.id) n r.ledger.logs e later.0 in
+    (one.0, not-among n ns e.id one.1 later.1)
+
+pub left-piece : (ids : List ℕ) (r : Repository) (p : PieceEntry) → Contains (without_all ids r).ledger.pieces p → Contains r.ledger.pieces p × ¬ Contains ids p.id
+left-piece [] r p has = (has, none-in p.id)
+left-piece (n ∷ ns) r p has =
+    let later = left-piece ns (without_record n r) p has in
+    let one = left-one (λ (x : PieceEntry). x.id) n r.ledger.pieces p later.0 in
+    (one.0, not-among n ns p.id one.1 later.1)
+
+-- and those that have none of them are left
+pub stays-log : (ids : List ℕ) (r : Repository) (e : LogEntry) → Contains r.ledger.logs e → ¬ Contains ids e.id → Contains (without_all ids r).ledger.logs e
+stays-log [] r e has other = has
+stays-log (n ∷ ns) r e has other =
+    stays-log ns (without_record n r) e (stays-one (λ (x : LogEntry). x.id) n r.ledger.logs e has (λ same. other (subst (Contains (n ∷ ns)) (sym same) (in-front n ns)))) (λ held. other (behind n ns e.id held))
+
+pub stays-piece : (ids : List ℕ) (r : Repository) (p : PieceEntry) → Contains r.ledger.pieces p → ¬ Contains ids p.id → Contains (without_all ids r).ledger.pieces p
+stays-piece [] r p has other = has
+stays-piece (n ∷ ns) r p has other =
+    stays-piece ns (without_record n r) p (stays-one (λ (x : PieceEntry). x.id) n r.ledger.pieces p has (λ same. other (subst (Contains (n ∷ ns)) (sym same) (in-front n ns)))) (λ held. other (behind n ns p.id held))
+
+-- the name is that of the log, or of the piece, of one of these ids
+pub data IsGone (r : Repository) (ids : List ℕ) : List ℕ → Type 0 where
+  a_log : (e : LogEntry) → Contains ids e.id → Contains r.ledger.logs e → IsGone r ids (log_name e.id)
+  a_piece : (p : PieceEntry) → Contains ids p.id → Contains r.ledger.pieces p → IsGone r ids (piece_name p.copy p.id)
+
+-- and so is each of these names
+abbrev pub AreGone : Repository → List ℕ → List (List ℕ) → Type 0
+AreGone r ids names = (name : List ℕ) → Contains names name → IsGone r ids name
+
+pub gone : (r : Repository) (ids : List ℕ) (n : ℕ) → Contains ids n → AreGone r ids (names_at n r)
+gone r ids n among name has = elim (Contains-append_cases (map (λ (e : LogEntry). log_name e.id) (filter (λ e. e.id == n) r.ledger.logs)) (map (λ (p : PieceEntry). piece_name p.copy p.id) (filter (λ p. p.id == n) r.ledger.pieces)) name has) [
+  | inl of ↦
+      let found = map_from (λ (e : LogEntry). log_name e.id) (filter (λ e. e.id == n) r.ledger.logs) name of in
+      let was = filter_from (λ (e : LogEntry). e.id == n) r.ledger.logs found.item found.held in
+      subst (IsGone r ids) found.is (a_log found.item (subst (Contains ids) (sym (eqb-true found.item.id n was.1)) among) was.0)
+  | inr of ↦
+      let found = map_from (λ (p : PieceEntry). piece_name p.copy p.id) (filter (λ p. p.id == n) r.ledger.pieces) name of in
+      let was = filter_from (λ (p : PieceEntry). p.id == n) r.ledger.pieces found.item found.held in
+      subst (IsGone r ids) found.is (a_piece found.item (subst (Contains ids) (sym (eqb-true found.item.id n was.1)) among) was.0)
+]
+
+-- the names of the records of these ids
+pub all-gone : (r : Repository) (ids ns : List ℕ) → ((n : ℕ) → Contains ns n → Contains ids n) → AreGone r ids (flat_map (λ n. names_at n r) ns)
+all-gone r ids [] among name has = absurd (none-in name has)
+all-gone r ids (n ∷ ns) among name has = elim (Contains-append_cases (names_at n r) (flat_map (λ m. names_at m r) ns) name has) [
+  | inl here ↦ gone r ids n (among n (in-front n ns)) name here
+  | inr rest ↦ all-gone r ids ns (λ m held. among m (behind n ns m held)) name rest
+]
+
+module _ (r : Repository) (rules : IsRepository r) where
   small-log : (e : LogEntry) → Contains r.ledger.logs e → e.id < 2 ^ 64
   small-log e has =
       let range = All-contains (λ (x : LogEntry). (1 ≤ x.id) × (x.id < r.ledger.base.next_id)) r.ledger.logs e rules.ledger.ids.logs has in
@@ -76,59 +146,61 @@ module _ (r : Repository) (n : ℕ) (rules : IsRepository r) where
       let most = rules.ledger.base.next_id.1 in
       omega (arith, below, most)
 
-  left-log : (e : LogEntry) → Contains (without_record n r).ledger.logs e → Contains r.ledger.logs e × (e.id ≢ n)
-  left-log e has = (All-contains (Contains r.ledger.logs) (without_one (λ x. x.id) n r.ledger.logs) e (all-without (λ x. x.id) (Contains r.ledger.logs) n r.ledger.logs (All-contains_itself r.ledger.logs)) has, left-other (λ (x : LogEntry). x.id) n r.ledger.logs e has)
+  module _ (ids : List ℕ) where
+    -- a record of another id has no such name
+    log-free : (e : LogEntry) → Contains r.ledger.logs e → ¬ Contains ids e.id → (name : List ℕ) → IsGone r ids name → log_name e.id ≢ name
+    log-free e has other _ (a_log f among there) same = other (subst (Contains ids) (sym (log-name-tells e.id f.id (small-log e has) (small-log f there) same)) among)
+    log-free e has other _ (a_piece p among there) same = log-no-piece e.id p.copy p.id same
 
-  left-piece : (p : PieceEntry) → Contains (without_record n r).ledger.pieces p → Contains r.ledger.pieces p × (p.id ≢ n)
-  left-piece p has = (All-contains (Contains r.ledger.pieces) (without_one (λ x. x.id) n r.ledger.pieces) p (all-without (λ x. x.id) (Contains r.ledger.pieces) n r.ledger.pieces (All-contains_itself r.ledger.pieces)) has, left-other (λ (x : PieceEntry). x.id) n r.ledger.pieces p has)
+    piece-free : (p : PieceEntry) → Contains r.ledger.pieces p → ¬ Contains ids p.id → (name : List ℕ) → IsGone r ids name → piece_name p.copy p.id ≢ name
+    piece-free p has other _ (a_log e among there) same = log-no-piece e.id p.copy p.id (sym same)
+    piece-free p has other _ (a_piece q among there) same = other (subst (Contains ids) (sym (piece-name-tells p.copy q.copy p.id q.id (small-piece p has) (small-piece q there) same).1) among)
 
-  -- a log that is left has no such name
-  log-free : (e : LogEntry) → Contains r.ledger.logs e → e.id ≢ n → (name : List ℕ) → IsGone name → log_name e.id ≢ name
-  log-free e has other _ (a_log f is there) same = other (log-name-tells e.id f.id (small-log e has) (small-log f there) same ∙ is)
-  log-free e has other _ (a_piece p is there) same = log-no-piece e.id p.copy p.id same
+    site-free : (id : ℕ) (name : List ℕ) → IsGone r ids name → site_name id ≢ name
+    site-free id _ (a_log e among there) same = log-no-site e.id id (sym same)
+    site-free id _ (a_piece p among there) same = piece-no-site p.copy p.id id (sym same)
 
-  piece-free : (p : PieceEntry) → Contains r.ledger.pieces p → p.id ≢ n → (name : List ℕ) → IsGone name → piece_name p.copy p.id ≢ name
-  piece-free p has other _ (a_log e is there) same = log-no-piece e.id p.copy p.id (sym same)
-  piece-free p has other _ (a_piece q is there) same = other ((piece-name-tells p.copy q.copy p.id q.id (small-piece p has) (small-piece q there) same).1 ∙ is)
+    module _ (names : List (List ℕ)) (are : AreGone r ids names) where
+      -- no record that is left names what goes
+      pub left-free : (name : List ℕ) → IsObjectName (without_all ids r).ledger name → ¬ Contains names name
+      left-free _ (of_log e has) goes = let left = left-log ids r e has in log-free e left.0 left.1 (log_name e.id) (are (log_name e.id) goes) refl
+      left-free _ (of_piece p has) goes = let left = left-piece ids r p has in piece-free p left.0 left.1 (piece_name p.copy p.id) (are (piece_name p.copy p.id) goes) refl
 
-  site-free : (id : ℕ) (name : List ℕ) → IsGone name → site_name id ≢ name
-  site-free id _ (a_log e is there) same = log-no-site e.id id (sym same)
-  site-free id _ (a_piece p is there) same = piece-no-site p.copy p.id id (sym same)
+      -- nor a part of a saved site
+      pub part-free : (id : ℕ) → ¬ Contains names (site_name id)
+      part-free id goes = site-free id (site_name id) (are (site_name id) goes) refl
 
-  -- no record that is left names what goes
-  pub left-free : (name : List ℕ) → IsObjectName (without_record n r).ledger name → ¬ Contains (names_at n r) name
-  left-free _ (of_log e has) goes = let left = left-log e has in log-free e left.0 left.1 (log_name e.id) (gone (log_name e.id) goes) refl
-  left-free _ (of_piece p has) goes = let left = left-piece p has in piece-free p left.0 left.1 (piece_name p.copy p.id) (gone (piece_name p.copy p.id) goes) refl
+      -- so what they name stays
+      pub object-stays : (objects after : Held) → LeavesObjects (removing names) objects after → (name : List ℕ) → IsObjectName (without_all ids r).ledger name → after name ≡ objects name
+      object-stays objects after effect name is = elim (cases_Bool (is_named itself names name)) [
+        | inl named ↦ absurd (left-free name is (named-in names name named))
+        | inr other ↦ effect.removes name ∙ unnamed-stays itself nothing names name (effect.put name) other ∙ effect.puts name
+      ]
 
-  -- nor a part of a saved site
-  pub part-free : (id : ℕ) → ¬ Contains (names_at n r) (site_name id)
-  part-free id goes = site-free id (site_name id) (gone (site_name id) goes) refl
+-- what stands after records went, and their objects
+pub gone-on : (s : State) (ids : List ℕ) (names : List (List ℕ)) (h : List Change) (objects : Held) (made : List Made) (touched : List (List ℕ)) (lines said : List Line) (e : Effect) (t : State) (after : Held)
+    → AreGone s.catalog ids names → IsBorneOut s h objects made touched → done said e t ≡ done lines (removing names) (with_catalog s (without_all ids s.catalog)) → LeavesObjects e objects after
+    → IsBorneOut t (h ++ e.changes) after (made ++ e.made) touched
+gone-on s ids names h objects made touched lines said e t after are borne is effect =
+    let q : State = with_catalog s (without_all ids s.catalog) in
+    let is_effect : removing names ≡ e = cc in
+    let left = subst (λ (x : Effect). LeavesObjects x objects after) (sym is_effect) effect in
+    let stays = object-stays s.catalog borne.state.catalog ids names are objects after left in
+    let on = (all-on ids s borne.state).borne h objects made touched borne in
+    removing-on q names h made touched lines said e t after is (borne-beside q h objects after made touched touched on (stand-where objects after touched q.catalog.ledger q.catalog.ledger stays))
 
--- so what they name stays
-goes-stand : (s : State) (n : ℕ) (objects after : Held) (touched : List (List ℕ)) → IsRepository s.catalog → LeavesObjects (removing (names_at n s.catalog)) objects after
-    → StandOn objects after touched touched (without_record n s.catalog).ledger (without_record n s.catalog).ledger
-goes-stand s n objects after touched rules effect name bytes was is (inl given) = inl given
-goes-stand s n objects after touched rules effect name bytes was is (inr held) =
-    let names = names_at n s.catalog in
-    elim (cases_Bool (is_named itself names name)) [
-      | inl named ↦ absurd (left-free s.catalog n rules name is (named-in names name named))
-      | inr other ↦ inr (effect.removes name ∙ unnamed-stays itself nothing names name (effect.put name) other ∙ effect.puts name ∙ held)
-    ]
+-- and it is sound
+pub gone-stays : (s : State) (ids : List ℕ) (names : List (List ℕ)) (lines said : List Line) (e : Effect) (t : State) → IsSound s → s.catalog.saved ≡ None
+    → done said e t ≡ done lines (removing names) (with_catalog s (without_all ids s.catalog)) → IsSound t × (t.catalog.saved ≡ None)
+gone-stays s ids names lines said e t sound unsaved is =
+    let on = all-on ids s sound in
+    removing-stays (with_catalog s (without_all ids s.catalog)) names lines said e t is (on.sound sound) (on.saved unsaved)
+
+-- DELETE BACKUP
 
 pub delete-on : (n : ℕ) → LeadsOnBy (DeleteBackup n)
 delete-on n s h objects made touched said e t after well borne tell none does effect =
-    let q : State = with_catalog s (without_record n s.catalog) in
-    let is_effect : removing (names_at n s.catalog) ≡ e = cc in
-    let is_state : q ≡ t = cc in
-    let left = subst (λ (x : Effect). LeavesObjects x objects after) (sym is_effect) effect in
-    let gone_on = (without-on s n borne.state).borne h objects made touched borne in
-    let on = borne-beside q h objects after made touched touched gone_on (goes-stand s n objects after touched borne.state.catalog left) in
-    subst (λ x. IsBorneOut x (h ++ e.changes) after (made ++ e.made) touched) is_state
-    (subst (λ (x : Effect). IsBorneOut q (h ++ x.changes) after (made ++ x.made) touched) is_effect
-    (subst (λ k. IsBorneOut q k after (made ++ []) touched) (sym (append-nil h)) (subst (λ k. IsBorneOut q h after k touched) (sym (append-nil made)) on)))
+    gone-on s (n ∷ []) (names_at n s.catalog) h objects made touched _ said e t after (gone s.catalog (n ∷ []) n (in-front n [])) borne does effect
 
 pub delete-stays : (n : ℕ) → StaysBy (DeleteBackup n)
-delete-stays n s objects said e t well sound unsaved none does =
-    let on = without-on s n sound in
-    let is_state : with_catalog s (without_record n s.catalog) ≡ t = cc in
-    (subst IsSound is_state (on.sound sound), sym (ap (λ (x : State). x.catalog.saved) is_state) ∙ on.saved unsaved)
+delete-stays n s objects said e t well sound unsaved none does = gone-stays s (n ∷ []) (names_at n s.catalog) _ said e t sound unsaved does

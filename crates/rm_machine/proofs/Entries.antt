@@ -14,7 +14,7 @@ use Rattle.rm_catalog.specs.declared.record.PieceEntry.{PieceEntry}
 use Rattle.rm_catalog.specs.Objects.{FitsKind}
 use Rattle.rm_ledger.specs.Facts.{IsLogEntry, IsPieceEntry}
 use Rattle.rm_ledger.specs.Ledger.{Ledger}
-use Rattle.rm_repository.specs.Changes.{with_log, with_piece, without_log}
+use Rattle.rm_repository.specs.Changes.{with_log, with_piece, without_log, without_piece}
 use Rattle.rm_repository.specs.Facts.{IsRepository, IsSaved}
 use Rattle.rm_repository.specs.Fitting.{LacksId}
 use Rattle.rm_repository.specs.Repository.{Repository, Saved}
@@ -201,6 +201,18 @@ without-on s n sound =
       sound = sound-entries s _ _ rules;
       borne = λ h objects made touched borne. borne-entries s _ _ rules h objects made touched borne
           (contains-without (λ (x : LogEntry). x.id) (λ x. Contains l.logs x ⊎ HasLogArtefact objects made touched x) n l.logs (λ y was. inl was))
+          (contains-without (λ (x : PieceEntry). x.id) (λ x. Contains l.pieces x ⊎ HasPieceArtefact objects made touched x) n l.pieces (λ y was. inl was));
+      saved = λ none. none;
+    }
+
+-- without the piece of an id
+pub piece-out : (s : State) (n : ℕ) → IsSound s → GoesOn s (without_piece s.catalog n)
+piece-out s n sound =
+    let l = ledger s in
+    let rules : IsRepository (without_piece s.catalog n) = no_piece_fits s.catalog n sound.catalog in
+    record {
+      sound = sound-entries s _ _ rules;
+      borne = λ h objects made touched borne. borne-entries s _ _ rules h objects made touched borne (λ e was. inl was)
           (contains-without (λ (x : PieceEntry). x.id) (λ x. Contains l.pieces x ⊎ HasPieceArtefact objects made touched x) n l.pieces (λ y was. inl was));
       saved = λ none. none;
     }

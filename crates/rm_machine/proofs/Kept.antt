@@ -36,10 +36,14 @@ kept-on before after made made' touched touched' l l' stand more logs pieces kep
   ];
 }
 
+-- the same objects under the names of the records that stay
+pub stand-where : (before after : Held) (touched : List (List ℕ)) (l l' : Ledger) → ((n : List ℕ) → IsObjectName l' n → after n ≡ before n) → StandOn before after touched touched l l'
+stand-where before after touched l l' same name bytes names names' (inl was) = inl was
+stand-where before after touched l l' same name bytes names names' (inr is) = inr (same name names' ∙ is)
+
 -- the same objects
 pub stand-same : (before after : Held) (touched : List (List ℕ)) (l l' : Ledger) → ((n : List ℕ) → after n ≡ before n) → StandOn before after touched touched l l'
-stand-same before after touched l l' same name bytes names names' (inl was) = inl was
-stand-same before after touched l l' same name bytes names names' (inr is) = inr (same name ∙ is)
+stand-same before after touched l l' same = stand-where before after touched l l' (λ n names. same n)
 
 -- without an effect the objects stay
 pub no-effect : (before after : Held) → LeavesObjects no_effect before after → (n : List ℕ) → after n ≡ before n

@@ -3,9 +3,9 @@ use Rattle.std.proofs.Common.{◌≡◌, ◌++◌, ℕ, List, Option, Some, None
 use Rattle.rm_base.specs.Store.{Held}
 use Rattle.rm_base.specs.declared.block.Change.{Change}
 use Rattle.rm_base.specs.declared.refusal.Refusal.{Refusal}
-use Rattle.rm_machine.specs.Effect.{Effect, LeavesObjects, Made, Outcome, done, told}
+use Rattle.rm_machine.specs.Effect.{Effect, LeavesObjects, Made, done, told}
 use Rattle.rm_statement.specs.declared.command.Command.{Command}
-use Rattle.rm_statement.specs.declared.command.Command.TheVariants.{Recover}
+use Rattle.rm_statement.specs.declared.command.Command.TheVariants.{DeleteObsolete, Recover}
 use Rattle.rm_report.specs.declared.line.Line.{Line}
 use Rattle.rm_machine.specs.Laws.{LeadsOn, StaysSound, TellsOn}
 use Rattle.rm_machine.specs.Machine.{Machine, IsSoundBy, IsBorneOut, DigestsTellFor, TellBy}
@@ -13,7 +13,8 @@ use Rattle.rm_machine.specs.Sound.{IsSound}
 use Rattle.rm_machine.specs.declared.state.State.{State}
 use Rattle.rm_machine.specs.State.{ledger, at_moment}
 use Rattle.rm_machine.specs.Step.{IsStatement, IsDone, IsOutcomeBy, Means, and_drops, names_in, refusal_of}
-use Rattle.rm_machine.proofs.Dropping.{leaves-first, left_by, stand-beyond}
+use Rattle.rm_machine.proofs.Beside.{safe-beside}
+use Rattle.rm_machine.proofs.Dropping.{IsNoSite, leaves-first, left_by, stand-beyond, stays-beyond}
 use Rattle.rm_machine.proofs.Kept.{stand-same}
 use Rattle.rm_machine.proofs.Later.{borne-beside, borne-later, sound-later}
 
@@ -26,6 +27,7 @@ done-by None s held c said e t is = (refl, is)
 -- what is to be shown of a statement, and, of one of which more is known, that too
 abbrev pub ShownBy : Command → Type 0 → Type 0 → Type 0
 ShownBy (Recover until) stands means = stands × means
+ShownBy DeleteObsolete stands means = stands × means
 ShownBy _ stands means = stands
 
 abbrev pub LeadsOnBy : Command → Type 0
@@ -38,12 +40,15 @@ LeadsOnBy c =
 -- both, of each statement
 shown : (c : Command) (s : State) (h : List Change) (held : Held) (said : List Line) (e : Effect) (t : State) (after : Held) (stands : Type 0) → ShownBy c stands (Means (Some s) h held c (done said e t) after) → stands × Means (Some s) h held c (done said e t) after
 shown (Recover until) s h held said e t after stands both = both
+shown DeleteObsolete s h held said e t after stands both = both
 shown _ s h held said e t after stands is = (is, tt)
 
 -- what is known of the objects that the effect leaves is known of them without those of a saved site
-means-beside : (c : Command) (s : State) (h : List Change) (held : Held) (said : List Line) (e : Effect) (t : State) (after last : Held) → Means (Some s) h held c (done said e t) after → Means (Some s) h held c (done said e t) last
-means-beside (Recover until) s h held said e t after last means = means
-means-beside _ s h held said e t after last means = tt
+means-beside : (c : Command) (s : State) (h : List Change) (held : Held) (said : List Line) (e : Effect) (t : State) (after last : Held) → ((name : List ℕ) → IsNoSite name → last name ≡ after name)
+    → Means (Some s) h held c (done said e t) after → Means (Some s) h held c (done said e t) last
+means-beside (Recover until) s h held said e t after last same means = means
+means-beside DeleteObsolete s h held said e t after last same means = safe-beside (ledger s).base.policy s held t after last same means
+means-beside _ s h held said e t after last same means = tt
 
 pub leads : (c : Command) → LeadsOnBy c → LeadsOn c
 leads c law m s moment said e t after well is sound tell at goes effect =
@@ -59,7 +64,7 @@ leads c law m s moment said e t after well is sound tell at goes effect =
     (law begun m.history m.objects m.made m.touched said e t first well stands tells both.0 both.1 (leaves-first s e m.objects after effect)) in
     let borne = borne-beside t n.history first after n.made n.touched n.touched on.0 (stand-beyond s e m.objects after effect n.touched (ledger t)) in
     let leaves : LeavesObjects (and_drops m.state e) m.objects after = subst (λ o. LeavesObjects (and_drops o e) m.objects after) (sym is) effect in
-    let means : Means (Some begun) m.history m.objects c (done said e t) after = means-beside c begun m.history m.objects said e t first after on.1 in
+    let means : Means (Some begun) m.history m.objects c (done said e t) after = means-beside c begun m.history m.objects said e t first after (stays-beyond s e m.objects after effect) on.1 in
     (n, (refl, record { state = refl; history = refl; objects = leaves; made = refl; touched = refl }, means), refl, borne)
 
 -- what tells was not refused

@@ -4,9 +4,11 @@ use Rattle.std.specs.List.{filter_map, cons_option}
 use Rattle.std.specs.Option.{option_map}
 use Rattle.std.proofs.lemmas.List.{append-nil}
 use Rattle.std.proofs.lemmas.List.Elements.{filter_map-append}
+use Rattle.rm_catalog.specs.declared.record.HeadEntry.{HeadEntry}
+use Rattle.rm_catalog.specs.declared.record.PartEntry.{PartEntry}
 use Rattle.rm_catalog.specs.declared.record.Record.{Record}
 use Rattle.rm_catalog.specs.declared.record.Record.TheVariants as kind
-use Rattle.rm_catalog.specs.Keys.{datafile_in}
+use Rattle.rm_catalog.specs.Keys.{datafile_in, piece_in}
 use Rattle.rm_catalog.specs.Rules.{HasDatabase}
 use Rattle.rm_catalog.specs.Trees.{node_in, nodes}
 use Rattle.rm_history.specs.declared.tree.Incarnation.{Incarnation}
@@ -35,20 +37,22 @@ module _ {B : Type 0} (tell : Record → Option B) where
   none-mapped make none [] = refl
   none-mapped make none (x ∷ xs) = ap (λ o. cons_option o (filter_map tell (map make xs))) (none x) ∙ none-mapped make none xs
 
+  -- each of these tells its thing
+  told-mapped : (make : B → Record) → ((x : B) → tell (make x) ≡ Some x) → (xs : List B) → filter_map tell (map make xs) ≡ xs
+  told-mapped make tells [] = refl
+  told-mapped make tells (x ∷ xs) = ap (λ o. cons_option o (filter_map tell (map make xs))) (tells x) ∙ ap (λ ys. x ∷ ys) (told-mapped make tells xs)
+
+  -- a saved site tells none
+  none-saved : ((p : PartEntry) → tell (kind.Part p) ≡ None) → ((h : HeadEntry) → tell (kind.Head h) ≡ None) → (saved : Option Saved) → filter_map tell (saved_records saved) ≡ []
+  none-saved parts heads None = refl
+  none-saved parts heads (Some s) =
+      filter_map-append tell (map kind.Part s.parts) (kind.Head s.head ∷ [])
+      ∙ ap (λ (xs : List B). xs ++ filter_map tell (kind.Head s.head ∷ [])) (none-mapped kind.Part parts s.parts)
+      ∙ ap (λ (o : Option B). cons_option o []) (heads s.head)
+
   -- a list of six parts
   of-parts : (a b c d e f : List Record) → filter_map tell (a ++ b ++ c ++ d ++ e ++ f) ≡ filter_map tell a ++ filter_map tell b ++ filter_map tell c ++ filter_map tell d ++ filter_map tell e ++ filter_map tell f
   of-parts a b c d e f = simp (filter_map-append {X = Record} {Y = B})
-
--- a saved site tells neither
-saved-nodes : (saved : Option Saved) → nodes (saved_records saved) ≡ []
-saved-nodes None = refl
-saved-nodes (Some s) = filter_map-append node_in (map kind.Part s.parts) (kind.Head s.head ∷ []) ∙ append-nil (nodes (map kind.Part s.parts)) ∙ none-mapped node_in kind.Part (λ p. refl) s.parts
-
-saved-files : (saved : Option Saved) → datafiles (saved_records saved) ≡ []
-saved-files None = refl
-saved-files (Some s) =
-    filter_map-append (λ r. option_map created_by (datafile_in r)) (map kind.Part s.parts) (kind.Head s.head ∷ [])
-    ∙ append-nil (datafiles (map kind.Part s.parts)) ∙ none-mapped (λ r. option_map created_by (datafile_in r)) kind.Part (λ p. refl) s.parts
 
 -- the incarnations
 pub tree-told : (r : Repository) → nodes (records_of r) ≡ r.ledger.tree
@@ -59,7 +63,7 @@ tree-told r =
     let logs : nodes (map kind.Log l.logs) ≡ [] = none-mapped node_in kind.Log (λ e. refl) l.logs in
     let pieces : nodes (map kind.Piece l.pieces) ≡ [] = none-mapped node_in kind.Piece (λ e. refl) l.pieces in
     let marks : nodes (numbered mark_record 1 l.marks) ≡ [] = none-numbered node_in mark_record (λ k m. refl) 1 l.marks in
-    let saved : nodes (saved_records r.saved) ≡ [] = saved-nodes r.saved in
+    let saved : nodes (saved_records r.saved) ≡ [] = none-saved node_in (λ p. refl) (λ h. refl) r.saved in
     of-parts node_in (kind.Base l.base ∷ numbered incarnation_record 1 l.tree) (numbered datafile_record 1 l.files) (map kind.Log l.logs) (map kind.Piece l.pieces) (numbered mark_record 1 l.marks) (saved_records r.saved)
     ∙ simp (tree, files, logs, pieces, marks, saved, append-nil)
 
@@ -73,8 +77,21 @@ files-told r =
     let logs : datafiles (map kind.Log l.logs) ≡ [] = none-mapped tell kind.Log (λ e. refl) l.logs in
     let pieces : datafiles (map kind.Piece l.pieces) ≡ [] = none-mapped tell kind.Piece (λ e. refl) l.pieces in
     let marks : datafiles (numbered mark_record 1 l.marks) ≡ [] = none-numbered tell mark_record (λ k m. refl) 1 l.marks in
-    let saved : datafiles (saved_records r.saved) ≡ [] = saved-files r.saved in
+    let saved : datafiles (saved_records r.saved) ≡ [] = none-saved tell (λ p. refl) (λ h. refl) r.saved in
     of-parts tell (kind.Base l.base ∷ numbered incarnation_record 1 l.tree) (numbered datafile_record 1 l.files) (map kind.Log l.logs) (map kind.Piece l.pieces) (numbered mark_record 1 l.marks) (saved_records r.saved)
+    ∙ simp (tree, files, logs, pieces, marks, saved, append-nil)
+
+-- the pieces
+pub pieces-told : (r : Repository) → filter_map piece_in (records_of r) ≡ r.ledger.pieces
+pieces-told r =
+    let l = r.ledger in
+    let tree : filter_map piece_in (kind.Base l.base ∷ numbered incarnation_record 1 l.tree) ≡ [] = none-numbered piece_in incarnation_record (λ k n. refl) 1 l.tree in
+    let files : filter_map piece_in (numbered datafile_record 1 l.files) ≡ [] = none-numbered piece_in datafile_record (λ k d. refl) 1 l.files in
+    let logs : filter_map piece_in (map kind.Log l.logs) ≡ [] = none-mapped piece_in kind.Log (λ e. refl) l.logs in
+    let pieces : filter_map piece_in (map kind.Piece l.pieces) ≡ l.pieces = told-mapped piece_in kind.Piece (λ e. refl) l.pieces in
+    let marks : filter_map piece_in (numbered mark_record 1 l.marks) ≡ [] = none-numbered piece_in mark_record (λ k m. refl) 1 l.marks in
+    let saved : filter_map piece_in (saved_records r.saved) ≡ [] = none-saved piece_in (λ p. refl) (λ h. refl) r.saved in
+    of-parts piece_in (kind.Base l.base ∷ numbered incarnation_record 1 l.tree) (numbered datafile_record 1 l.files) (map kind.Log l.logs) (map kind.Piece l.pieces) (numbered mark_record 1 l.marks) (saved_records r.saved)
     ∙ simp (tree, files, logs, pieces, marks, saved, append-nil)
 
 -- and so the database, whose threads stand in the base facts

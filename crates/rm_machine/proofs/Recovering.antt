@@ -1,6 +1,6 @@
 -- A database that was recovered by what is at hand is sound.
-use Rattle.std.proofs.Common.{◌≡◌, ◌<◌, ◌≤◌, ◌+◌, ◌∙◌, ◌==◌, ◌||◌, ◌⊎◌, nat_lt, inl, inr, ℕ, suc, List, Option, Some, None, Bool, true, false, cond, refl, ap, sym, subst, arith, map, slice_get, Contains}
-use Rattle.std.specs.Option.{option_and_then, option_map}
+use Rattle.std.proofs.Common.{◌≡◌, ◌<◌, ◌≤◌, ◌+◌, ◌∙◌, ◌==◌, ◌||◌, ◌⊎◌, nat_lt, inl, inr, ℕ, suc, List, Option, Some, None, Bool, true, false, cond, refl, sym, subst, arith, map, slice_get, Contains}
+use Rattle.std.specs.Option.{option_map}
 use Rattle.std.proofs.lemmas.Bool.{and_parts, eqb-true, ltb-true}
 use Rattle.std.proofs.lemmas.Bool.Decides.{nat_tests}
 use Rattle.std.proofs.lemmas.List.Elements.{All-contains}

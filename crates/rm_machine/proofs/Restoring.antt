@@ -1,6 +1,5 @@
 -- RESTORE leads on: each datafile comes to stand in place as a backup has it, or as it was created.
 use Rattle.std.proofs.Common.{◌≡◌, ◌≢◌, ◌<◌, ◌≤◌, ◌+◌, ◌-◌, ◌∙◌, ◌++◌, inl, inr, ℕ, List, Option, Some, None, false, refl, ap, sym, subst, arith, slice_get, Contains}
-use Rattle.std.specs.Option.{option_and_then}
 use Rattle.std.proofs.lemmas.List.Elements.{All-contains, All-weaker}
 use Rattle.rm_base.specs.Store.{Held}
 use Rattle.rm_base.specs.declared.block.Change.{Change}

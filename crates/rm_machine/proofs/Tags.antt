@@ -13,7 +13,8 @@ use Rattle.rm_catalog.specs.Objects.{IsTag, is_tag_byte}
 use Rattle.rm_moments.specs.Tags.{IsTagByte}
 use Rattle.rm_moments.specs.Text as text
 use Rattle.rm_moments.proofs.Tags.{tag-long, tag-bytes}
-use Rattle.rm_machine.specs.Backup.{IsTagBy}
+use Rattle.rm_machine.specs.Backup.{IsTagBy, named_tag}
+use Rattle.rm_machine.specs.Until.{or_else}
 
 -- a byte of a word is one of a tag
 word-tag : (c : ℕ) → is_word_byte c ≡ true → is_tag_byte c ≡ true
@@ -52,5 +53,11 @@ tag-by : (named : Option (List ℕ)) (moment : ℕ) (tag : List ℕ) → maybe_v
 tag-by None moment tag valid is = moment-tag moment tag is
 tag-by (Some name) moment tag valid is = subst IsTag (sym is) (named-tag name valid)
 
-pub tag-fits : (b : BackupForm) (moment : ℕ) (tag : List ℕ) → is_backup b ≡ true → IsTagBy b.tag moment tag → IsTag tag
-tag-fits b moment tag valid is = tag-by b.tag moment tag (and_parts _ _ (and_parts _ _ (and_parts _ _ (and_parts _ _ valid).0).1).1).0 is
+valid-either : (first second : Option (List ℕ)) → maybe_valid is_capital_tag first ≡ true → maybe_valid is_capital_tag second ≡ true → maybe_valid is_capital_tag (or_else first second) ≡ true
+valid-either None second one other = other
+valid-either (Some name) second one other = one
+
+pub tag-fits : (b : BackupForm) (moment : ℕ) (tag : List ℕ) → is_backup b ≡ true → IsTagBy (named_tag b) moment tag → IsTag tag
+tag-fits b moment tag valid is =
+    let tags = (and_parts _ _ (and_parts _ _ (and_parts _ _ valid).0).1).1 in
+    tag-by (named_tag b) moment tag (valid-either b.merge_tag b.tag (and_parts _ _ (and_parts _ _ tags).1).0 (and_parts _ _ tags).0) is

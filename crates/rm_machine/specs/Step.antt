@@ -26,7 +26,7 @@ use Rattle.rm_machine.specs.LoseLog.{lose_log_refusal, IsLoseLogOutcome}
 use Rattle.rm_machine.specs.Machine.{Machine, DigestsTell}
 use Rattle.rm_machine.specs.Marks.{ids_refusal}
 use Rattle.rm_machine.specs.Mount.{IsMountOutcome}
-use Rattle.rm_machine.specs.Obsolete.{IsDeleteObsoleteOutcome, IsNeedOutcome, IsReportOutcome}
+use Rattle.rm_machine.specs.Obsolete.{IsDeleteObsoleteOutcome, IsNeedOutcome, IsReportOutcome, IsSafe}
 use Rattle.rm_machine.specs.Open.{open_refusal, IsOpenOutcome}
 use Rattle.rm_machine.specs.OpenResetlogs.{resetlogs_refusal, IsResetlogsOutcome}
 use Rattle.rm_machine.specs.Recover.{BringsTruly, IsRecoverOutcome, recover_refusal}
@@ -150,11 +150,12 @@ names_in (Cut name to) = name ∷ []
 names_in (Rename old new) = old ∷ new ∷ []
 names_in _ = []
 
--- what is known of an outcome beyond that, from the state on which the statement acts: what a recovery brings back or tells is what the
--- history made
+-- What is known of an outcome beyond that, from the state on which the statement acts: what a recovery brings back or tells is what the
+-- history made, and what a deletion by the policy leaves keeps each target of the window.
 abbrev pub Means : Option State → List Change → Held → Command → Outcome → Held → Type 0
 Means (Some s) h held (Recover until) (done lines effect t) after = BringsTruly h s until t
 Means (Some s) h held (RecoverTest until inc) (told lines) after = TellsTruly h s until inc lines
+Means (Some s) h held DeleteObsolete (done lines effect t) after = IsSafe s held t after
 Means _ h held _ _ after = Unit {0}
 
 -- What a statement does outside: its effect. The objects of a saved site go too, of which no record tells any longer.

@@ -1,9 +1,12 @@
 //! What the machine does.
-ghost use Rattle.std.specs.Prelude.{ℕ, ◌≡◌, [], ◌<◌, ◌≤◌, ◌^◌, List, Option, true};
+ghost use Rattle.std.specs.Prelude.{ℕ, ◌≡◌, [], ◌<◌, ◌≤◌, ◌^◌, List, Option, Some, true};
 ghost use Rattle.rm_base.specs.Numbers.{last_moment, last_scn};
 ghost use Rattle.rm_base.specs.Store.{Held};
 ghost use Rattle.rm_base.specs.declared.block.Change.{Change};
 ghost use Rattle.rm_base.specs.declared.kinds.Class.{Class};
+ghost use Rattle.rm_base.specs.declared.kinds.Policy.TheVariants.{Window};
+ghost use Rattle.rm_history.specs.Tree.{reset_of};
+ghost use Rattle.rm_retain.specs.Window.{window_start};
 ghost use Rattle.rm_report.specs.declared.line.Line.{Line};
 ghost use Rattle.rm_statement.specs.declared.command.ChangeTo.{ChangeTo};
 ghost use Rattle.rm_statement.specs.declared.command.Command.{Command};
@@ -17,15 +20,16 @@ ghost use Rattle.rm_known.specs.Evidence.{Agrees};
 ghost use Rattle.rm_known.specs.Unknown.{IsUnknown};
 ghost use Rattle.rm_apply.specs.declared.recovering.Recovered.{Recovered};
 ghost use Rattle.rm_machine.specs.CreateDatabase.{fresh_machine};
-ghost use Rattle.rm_machine.specs.Effect.{Effect, Made, Outcome, done};
+ghost use Rattle.rm_machine.specs.Effect.{Effect, LeavesObjects, Made, Outcome, done};
 ghost use Rattle.rm_machine.specs.Laws.{IsMomentOf, LeadsOn, StaysSound, TellsOn, only_tells};
 ghost use Rattle.rm_machine.specs.Machine.{DigestsTell, DigestsTellFor, IsBorneOut, IsSoundMachine, Machine};
+ghost use Rattle.rm_machine.specs.Obsolete.{AreObsoleteIn, start_by};
 ghost use Rattle.rm_machine.specs.Recovery.{IsAtHand, IsGapOutcome, IsToldOutcome};
 ghost use Rattle.rm_machine.specs.Sound.{IsSound};
 ghost use Rattle.rm_machine.specs.Step.{IsDone};
 ghost use Rattle.rm_machine.specs.declared.state.State.{State};
-ghost use Rattle.rm_machine.specs.State.{at_moment, ledger, world};
-ghost use Rattle.rm_statement.specs.declared.command.Command.TheVariants.{ArchiveLogCurrent, Backup, BackupLogs, ChangeBackup, CreateDatafile, Crosscheck, Cut, Damage, DeleteBackup, DeleteExpired, LoseDatafile, LoseLog, Mount, OpenPlain, OpenResetlogs, Parallelism, Recover, RecoverTest, Remove, Rename, ResetDatabase, Restore, Retention, SwitchLogfile, Write};
+ghost use Rattle.rm_machine.specs.State.{at_moment, current_of, ledger, tree, world};
+ghost use Rattle.rm_statement.specs.declared.command.Command.TheVariants.{ArchiveLogCurrent, Backup, BackupLogs, ChangeBackup, CreateDatafile, Crosscheck, Cut, Damage, DeleteBackup, DeleteExpired, DeleteObsolete, LoseDatafile, LoseLog, Mount, OpenPlain, OpenResetlogs, Parallelism, Recover, RecoverCopy, RecoverTest, Remove, Rename, ResetDatabase, Restore, Retention, SwitchLogfile, Write};
 
 /// There are sound machines: that of a new database is one.
 pub fn a_new_database_is_sound()
@@ -60,6 +64,12 @@ pub fn a_switch_leads_on()
 pub fn archiving_leads_on()
     ensures leads { LeadsOn ArchiveLogCurrent }
     ensures stays { StaysSound ArchiveLogCurrent }
+{}
+
+/// BACKUP of datafiles, likewise: its pieces, level 1s among them, agree with the history.
+pub fn a_backup_leads_on()
+    ensures leads { (form : BackupForm) → LeadsOn (Backup form) }
+    ensures stays { (form : BackupForm) → StaysSound (Backup form) }
 {}
 
 /// BACKUP ARCHIVELOG ALL, likewise: a second object of a log agrees with the history as the log does.
@@ -98,6 +108,13 @@ pub fn a_recovery_leads_on()
     ensures stays { (until : Option Until) → StaysSound (Recover until) }
 {}
 
+/// RECOVER COPY OF DATABASE, likewise: each copy that takes over level 1s has a new record and a new object, which agrees with
+/// the history, and the old record and its object go.
+pub fn a_recovery_of_copies_leads_on()
+    ensures leads { (tag : List ℕ) (until : Option Until) → LeadsOn (RecoverCopy tag until) }
+    ensures stays { (tag : List ℕ) (until : Option Until) → StaysSound (RecoverCopy tag until) }
+{}
+
 /// RECOVER DATABASE TEST tells what the history made.
 pub fn a_test_of_a_recovery_tells()
     ensures { (until : Option Until) (inc : Option ℕ) → TellsOn (RecoverTest until inc) }
@@ -130,6 +147,24 @@ pub fn upkeep_leads_on()
     ensures delete_stays { (id : ℕ) → StaysSound (DeleteBackup id) }
     ensures check_stays { (class : Class) → StaysSound (Crosscheck class) }
     ensures expire_stays { (class : Class) → StaysSound (DeleteExpired class) }
+{}
+
+/// DELETE OBSOLETE, likewise: exactly the obsolete records go, with their objects; what it leaves keeps each target of the window.
+pub fn a_deletion_by_the_policy_leads_on()
+    ensures leads { LeadsOn DeleteObsolete }
+    ensures stays { StaysSound DeleteObsolete }
+{}
+
+/// Where DELETE OBSOLETE was done, a second one finds no record.
+pub fn a_second_deletion_finds_nothing()
+    ensures { (s : State) (held after : Held) (lines : List Line) (effect : Effect) (t : State) (ids : List ℕ) → IsSound s → IsDone s held DeleteObsolete (done lines effect t) → LeavesObjects effect held after → AreObsoleteIn t after ids → ids ≡ [] }
+{}
+
+/// A window has a start: a mark of the current incarnation is always on its path, so no window starts at SCN 0 for want of a mark. It
+/// starts no earlier than the first incarnation.
+pub fn a_window_has_a_start()
+    ensures found { (s : State) (days : ℕ) → IsSound s → window_start (tree s) (current_of s) days (ledger s).base.moment (ledger s).marks ≡ Some (start_by s (Window days)) }
+    ensures within { (s : State) (days : ℕ) → IsSound s → reset_of (tree s) 1 ≤ start_by s (Window days) }
 {}
 
 /// CONFIGURE RETENTION POLICY and CONFIGURE .. PARALLELISM, likewise: one base fact changes alone.

@@ -5,7 +5,7 @@ use Rattle.std.proofs.lemmas.List.Elements.{All-append, All-cons, All-nil}
 use Rattle.rm_base.specs.Store.{Held}
 use Rattle.rm_statement.specs.declared.command.BackupForm.{BackupForm}
 use Rattle.rm_statement.specs.declared.command.Command.{Command}
-use Rattle.rm_statement.specs.declared.command.Command.TheVariants.{ArchiveLogCurrent, Backup, BackupLogs, ChangeBackup, CreateDatabase, CreateDatafile, Crosscheck, Cut, Damage, DeleteBackup, DeleteExpired, Dump, ListArchived, ListBackup, ListCopy, ListIncarnation, LoseDatafile, LoseLog, Mount, OpenPlain, OpenResetlogs, Parallelism, Preview, Recover, RecoverTest, Remove, Rename, ReportSchema, ResetDatabase, Restore, Retention, ShowAll, SwitchLogfile, ValidateAll, Write}
+use Rattle.rm_statement.specs.declared.command.Command.TheVariants.{ArchiveLogCurrent, Backup, BackupLogs, ChangeBackup, CreateDatabase, CreateDatafile, Crosscheck, Cut, Damage, DeleteBackup, DeleteExpired, DeleteObsolete, Dump, ListArchived, ListBackup, ListCopy, ListIncarnation, LoseDatafile, LoseLog, Mount, OpenPlain, OpenResetlogs, Parallelism, Preview, Recover, RecoverCopy, RecoverTest, Remove, Rename, ReportNeedBackup, ReportObsolete, ReportSchema, ResetDatabase, Restore, Retention, ShowAll, SwitchLogfile, ValidateAll, Write}
 use Rattle.rm_history.specs.declared.tree.Incarnation.{Incarnation}
 use Rattle.rm_report.specs.Reply.{HasDate, LineHasDate}
 use Rattle.rm_report.specs.declared.line.Line.{Line}
@@ -13,13 +13,14 @@ use Rattle.rm_report.specs.declared.line.Line.TheVariants.{Deleted}
 use Rattle.rm_statement.specs.declared.command.ChangeTo.{ChangeTo}
 use Rattle.rm_statement.specs.declared.command.ChangeTo.TheVariants.{Available, Keep, NoKeep, Unavailable, Uncatalog}
 use Rattle.rm_machine.specs.Archive.{after_thread, lines_from, thread_lines}
-use Rattle.rm_machine.specs.Backup.{after_file, lines_of, or_nothing, taken}
+use Rattle.rm_machine.specs.Backup.{after_file, lines_of, or_nothing}
 use Rattle.rm_machine.specs.Effect.{Effect, Outcome, done, no_effect, refused, told}
 use Rattle.rm_machine.specs.ListIncarnation.{incarnation_lines}
 use Rattle.rm_machine.specs.State.{current_of, ledger, online, tree}
 use Rattle.rm_machine.specs.Step.{IsDone}
 use Rattle.rm_machine.specs.SwitchLogfile.{archived, is_due, made_lines, none_lines, with_archived}
 use Rattle.rm_machine.specs.Upkeep.{change_line}
+use Rattle.rm_machine.specs.declared.job.Job.{Job}
 use Rattle.rm_machine.specs.declared.state.State.{State}
 use Rattle.rm_site.specs.Comes.{is_change}
 
@@ -52,9 +53,9 @@ archived-dated : (all : Bool) (s : State) (t n : ℕ) → AreDated (lines_from a
 archived-dated all s t zero = none-dated
 archived-dated all s t (suc n) = join-dated (thread_lines all s t) (lines_from all (after_thread s t) (t + 1) n) (thread-dated all s t) (archived-dated all (after_thread s t) (t + 1) n)
 
-pieces-dated : (s : State) (b : BackupForm) (tag : List ℕ) (fs : List ℕ) → AreDated (lines_of s b tag fs)
+pieces-dated : (s : State) (b : BackupForm) (tag : List ℕ) (js : List Job) → AreDated (lines_of s b tag js)
 pieces-dated s b tag [] = none-dated
-pieces-dated s b tag (f ∷ fs) = more-dated _ _ tt (pieces-dated (after_file s b tag f) b tag fs)
+pieces-dated s b tag (j ∷ js) = more-dated _ _ tt (pieces-dated (after_file s b tag j) b tag js)
 
 nothing-dated : (lines : List Line) → AreDated lines → AreDated (or_nothing lines)
 nothing-dated [] dated = one-dated _ tt
@@ -101,7 +102,7 @@ every-dated (CreateDatafile blocks) s objects o change is = by o _ is (one-dated
 every-dated (Write w) s objects o change is = by o _ is (one-dated _ tt)
 every-dated (SwitchLogfile t) s objects o change is = by o _ is (if-by (is_due s t) (done (made_lines s t) (archived (ledger s).base.next_id (online s t)) (with_archived s t)) (done (none_lines t) no_effect s) (one-dated _ tt) (one-dated _ tt))
 every-dated ArchiveLogCurrent s objects o change is = by o _ is (archived-dated true s 1 (ledger s).base.threads)
-every-dated (Backup b) s objects o change is = by o _ is.is (nothing-dated _ (pieces-dated s b is.tag (taken s b)))
+every-dated (Backup b) s objects o change is = by o _ is.is (nothing-dated _ (pieces-dated s b is.tag is.jobs))
 every-dated BackupLogs s objects o change is = absurd (cc)
 every-dated Mount s objects o change is = by o _ is (one-dated _ tt)
 every-dated OpenPlain s objects o change is = by o _ is (one-dated _ tt)
@@ -111,10 +112,13 @@ every-dated (Restore file until) s objects o change is = absurd (cc)
 every-dated (Preview until) s objects o change is = absurd (cc)
 every-dated (Recover until) s objects o change is = absurd (cc)
 every-dated (RecoverTest until inc) s objects o change is = absurd (cc)
+every-dated (RecoverCopy tag until) s objects o change is = absurd (cc)
 every-dated ListIncarnation s objects o change is = absurd (cc)
 every-dated ListBackup s objects o change is = absurd (cc)
 every-dated ListCopy s objects o change is = absurd (cc)
 every-dated ListArchived s objects o change is = absurd (cc)
+every-dated ReportObsolete s objects o change is = absurd (cc)
+every-dated ReportNeedBackup s objects o change is = absurd (cc)
 every-dated ReportSchema s objects o change is = absurd (cc)
 every-dated ShowAll s objects o change is = absurd (cc)
 every-dated ValidateAll s objects o change is = absurd (cc)
@@ -122,6 +126,7 @@ every-dated (Dump file block) s objects o change is = absurd (cc)
 every-dated (Crosscheck class) s objects o change is = absurd (cc)
 every-dated (ChangeBackup n to) s objects o change is = by o _ is (one-dated (change_line to n) (change-dated_line to n))
 every-dated (DeleteBackup n) s objects o change is = by o _ is (more-dated _ _ tt (one-dated _ tt))
+every-dated DeleteObsolete s objects o change is = absurd (cc)
 every-dated (DeleteExpired class) s objects o change is = by o _ is.is (join-dated _ _ (deleted-dated is.ids) (one-dated _ tt))
 every-dated (Retention form) s objects o change is = by o _ is (one-dated _ tt)
 every-dated (Parallelism channels) s objects o change is = by o _ is (one-dated _ tt)

@@ -1,4 +1,4 @@
--- No refusal of the state tells a moment past the last.
+-- No refusal of a sound state tells a moment past the last.
 use Rattle.std.proofs.Common.{◌≡◌, ℕ, Bool, true, false, List, Option, Some, None, sym, subst}
 use Rattle.std.specs.Prelude.{IfSome, if◌then◌else◌}
 use Rattle.std.specs.Option.{option_map, option_map_or}
@@ -9,7 +9,7 @@ use Rattle.rm_statement.specs.declared.command.Command.TheVariants.{ArchiveLogCu
 use Rattle.rm_statement.specs.declared.command.RetentionForm.{RetentionForm}
 use Rattle.rm_statement.specs.declared.command.RetentionForm.TheVariants as form
 use Rattle.rm_statement.specs.declared.command.Until.{Until}
-use Rattle.rm_statement.specs.declared.command.Until.TheVariants.{Scn, Sequence, Time}
+use Rattle.rm_statement.specs.declared.command.Until.TheVariants as until
 use Rattle.rm_statement.specs.declared.command.WriteForm.{WriteForm}
 use Rattle.rm_history.specs.declared.world.Datafile.{Datafile}
 use Rattle.rm_report.specs.Reply.{HasDate}
@@ -24,19 +24,19 @@ use Rattle.rm_machine.specs.Marks.{ids_refusal}
 use Rattle.rm_machine.specs.Open.{open_refusal}
 use Rattle.rm_machine.specs.OpenResetlogs.{resetlogs_refusal}
 use Rattle.rm_machine.specs.Recover.{recover_refusal, target_refusal}
-use Rattle.rm_machine.specs.RecoverCopy.{copies_refusal, copy_refusal_at, recover_copy_refusal}
-use Rattle.rm_machine.specs.Recovery.{range_refusal}
-use Rattle.rm_machine.specs.RecoverTest.{is_no_incarnation, test_refusal, tested, tested_refusal}
+use Rattle.rm_machine.specs.RecoverCopy.{copies_refusal, copy_refusal_at, recover_copy_refusal, tag_refusal}
+use Rattle.rm_machine.specs.RecoverTest.{test_refusal, tested, tested_refusal}
 use Rattle.rm_machine.specs.ResetDatabase.{reset_refusal}
+use Rattle.rm_machine.specs.Recovery.{range_refusal}
 use Rattle.rm_machine.specs.Restore.{absent_refusal, place_refusal, preview_refusal, restore_refusal}
 use Rattle.rm_machine.specs.Sound.{IsSound}
-use Rattle.rm_machine.specs.State.{current_of, tree}
 use Rattle.rm_machine.specs.Step.{refusal_of}
 use Rattle.rm_machine.specs.SwitchLogfile.{switch_refusal}
-use Rattle.rm_machine.specs.Until.{is_no_thread, nowhere_refusal, or_else, refusal_at, target_of, thread_refusal, until_refusal}
+use Rattle.rm_machine.specs.Until.{nowhere_refusal, or_else, refusal_at, target_of, thread_refusal, until_refusal}
 use Rattle.rm_machine.specs.Upkeep.{record_refusal}
 use Rattle.rm_machine.specs.Write.{block_refusal, write_refusal}
 use Rattle.rm_machine.specs.declared.state.State.{State}
+use Rattle.rm_machine.specs.State.{current_of, tree}
 use Rattle.rm_machine.proofs.Meant.{nowhere-dated}
 
 -- where it refuses, it tells no moment past the last
@@ -105,38 +105,48 @@ resetlogs-dated s = search (unless-dated, or-dated, archiving-dated, once)
 reset-dated : (s : State) (i : ℕ) → IsDated (reset_refusal s i)
 reset-dated s i = search (unless-dated, ids-dated)
 
--- an UNTIL
-
-thread-dated : (s : State) (until : Option Until) → IsDated (thread_refusal s until)
-thread-dated s None = never
-thread-dated s (Some (Scn at)) = never
-thread-dated s (Some (Sequence n t)) = unless-dated (is_no_thread s t) _ _ tt never
-thread-dated s (Some (Time text)) = never
-
-at-dated : (s : State) (i : ℕ) (until : Option Until) (by_target : ℕ → Option Refusal) (otherwise : Option Refusal) → IsSound s → ((at : ℕ) → IsDated (by_target at)) → IsDated otherwise
-    → IsDated (refusal_at s i until by_target otherwise)
-at-dated s i until by_target otherwise sound one two =
-    or-dated by_target (target_of s i until) (or_else otherwise (nowhere_refusal s until)) one (else-dated otherwise (nowhere_refusal s until) two (record { date = nowhere-dated s until sound }))
-
-until-dated : (s : State) (until : Option Until) (by_target : ℕ → Option Refusal) (otherwise : Option Refusal) → IsSound s → ((at : ℕ) → IsDated (by_target at)) → IsDated otherwise
-    → IsDated (until_refusal s (current_of s) until by_target otherwise)
-until-dated s until by_target otherwise sound one two =
-    else-dated (thread_refusal s until) (refusal_at s (current_of s) until by_target otherwise) (thread-dated s until) (at-dated s (current_of s) until by_target otherwise sound one two)
-
-range-dated : (s : State) (i at : ℕ) → IsDated (range_refusal (tree s) i at)
-range-dated s i at = search (map-dated)
-
 target-dated : (s : State) (at : ℕ) → IsDated (target_refusal s at)
 target-dated s at = search (map-dated, else-dated, ids-dated)
 
-recover-dated : (s : State) (until : Option Until) → IsSound s → IsDated (recover_refusal s until)
-recover-dated s until sound = unless-dated s.instance.is_open _ _ tt (until-dated s until (target_refusal s) (ids_refusal s) sound (target-dated s) (ids-dated s))
+-- the redo thread of an UNTIL
+thread-dated : (s : State) (u : Option Until) → IsDated (thread_refusal s u)
+thread-dated s None = never
+thread-dated s (Some (until.Scn at)) = never
+thread-dated s (Some (until.Sequence n t)) = search (unless-dated, never)
+thread-dated s (Some (until.Time text)) = never
 
-test-dated : (s : State) (until : Option Until) (inc : Option ℕ) → IsSound s → IsDated (test_refusal s until inc)
-test-dated s until inc sound =
-    let i = tested s inc in
-    else-dated (thread_refusal s until) (tested_refusal s until i) (thread-dated s until)
-    (unless-dated (is_no_incarnation s i) _ _ tt (at-dated s i until (range_refusal (tree s) i) None sound (range-dated s i) never))
+-- by the target of an UNTIL, where it leads to one
+module _ (s : State) (sound : IsSound s) (i : ℕ) (u : Option Until) (f : ℕ → Option Refusal) (otherwise : Option Refusal) (each : (at : ℕ) → IsDated (f at)) (other : IsDated otherwise) where
+  at-dated : IsDated (refusal_at s i u f otherwise)
+  at-dated =
+      or-dated f (target_of s i u) (or_else otherwise (nowhere_refusal s u)) each (else-dated otherwise (nowhere_refusal s u) other (record { date = nowhere-dated s u sound }))
+
+  until-dated : IsDated (until_refusal s i u f otherwise)
+  until-dated = else-dated (thread_refusal s u) (refusal_at s i u f otherwise) (thread-dated s u) at-dated
+
+range-dated : (s : State) (i at : ℕ) → IsDated (range_refusal (tree s) i at)
+range-dated s i at = search map-dated
+
+recover-dated : (s : State) → IsSound s → (u : Option Until) → IsDated (recover_refusal s u)
+recover-dated s sound u =
+    unless-dated s.instance.is_open _ _ tt (until-dated s sound (current_of s) u (target_refusal s) (ids_refusal s) (target-dated s) (ids-dated s))
+
+tested-dated : (s : State) → IsSound s → (u : Option Until) (i : ℕ) → IsDated (tested_refusal s u i)
+tested-dated s sound u i = unless-dated _ _ _ tt (at-dated s sound i u (range_refusal (tree s) i) None (range-dated s i) never)
+
+test-dated : (s : State) → IsSound s → (u : Option Until) (inc : Option ℕ) → IsDated (test_refusal s u inc)
+test-dated s sound u inc = else-dated (thread_refusal s u) _ (thread-dated s u) (tested-dated s sound u (tested s inc))
+
+tag-dated : (s : State) (tag : List ℕ) → IsDated (tag_refusal s tag)
+tag-dated s tag = search (if-dated, never, once)
+
+copies-dated : (s : State) (tag : List ℕ) → IsDated (copies_refusal s tag)
+copies-dated s tag = else-dated (ids_refusal s) (tag_refusal s tag) (ids-dated s) (tag-dated s tag)
+
+copy-dated : (s : State) → IsSound s → (tag : List ℕ) (u : Option Until) → IsDated (recover_copy_refusal s tag u)
+copy-dated s sound tag u =
+    until-dated s sound (current_of s) u (copy_refusal_at s tag) (copies_refusal s tag)
+    (λ at. else-dated (range_refusal (tree s) (current_of s) at) (copies_refusal s tag) (range-dated s (current_of s) at) (copies-dated s tag)) (copies-dated s tag)
 
 absent-dated : (s : State) (at : ℕ) (file : Option ℕ) → IsDated (absent_refusal s at file)
 absent-dated s at None = never
@@ -145,18 +155,12 @@ absent-dated s at (Some f) = search (unless-dated, never)
 place-dated : (s : State) (file : Option ℕ) (at : ℕ) → IsDated (place_refusal s file at)
 place-dated s file at = search (map-dated, else-dated, absent-dated, ids-dated)
 
-restore-dated : (s : State) (file : Option ℕ) (until : Option Until) → IsSound s → IsDated (restore_refusal s file until)
-restore-dated s file until sound = unless-dated s.instance.is_open _ _ tt (until-dated s until (place_refusal s file) (ids_refusal s) sound (place-dated s file) (ids-dated s))
+restore-dated : (s : State) → IsSound s → (file : Option ℕ) (u : Option Until) → IsDated (restore_refusal s file u)
+restore-dated s sound file u =
+    unless-dated s.instance.is_open _ _ tt (until-dated s sound (current_of s) u (place_refusal s file) (ids_refusal s) (place-dated s file) (ids-dated s))
 
-preview-dated : (s : State) (until : Option Until) → IsSound s → IsDated (preview_refusal s until)
-preview-dated s until sound = until-dated s until (range_refusal (tree s) (current_of s)) None sound (range-dated s (current_of s)) never
-
-copies-dated : (s : State) (tag : List ℕ) → IsDated (copies_refusal s tag)
-copies-dated s tag = search (else-dated, ids-dated, if-dated, never, once)
-
-copy-dated : (s : State) (tag : List ℕ) (until : Option Until) → IsSound s → IsDated (recover_copy_refusal s tag until)
-copy-dated s tag until sound =
-    until-dated s until (copy_refusal_at s tag) (copies_refusal s tag) sound (λ at. else-dated _ _ (range-dated s (current_of s) at) (copies-dated s tag)) (copies-dated s tag)
+preview-dated : (s : State) → IsSound s → (u : Option Until) → IsDated (preview_refusal s u)
+preview-dated s sound u = until-dated s sound (current_of s) u (range_refusal (tree s) (current_of s)) None (range-dated s (current_of s)) never
 
 lose-dated : (s : State) (f : ℕ) → IsDated (lose_refusal s f)
 lose-dated s f = search (unless-dated, ids-dated)
@@ -179,38 +183,38 @@ retention-dated s f = search (unless-dated, policy-dated)
 parallelism-dated : (s : State) (channels : ℕ) → IsDated (parallelism_refusal s channels)
 parallelism-dated s channels = search (unless-dated, ids-dated)
 
-every-refusal-dated : (s : State) (c : Command) → IsSound s → IsDated (refusal_of s c)
-every-refusal-dated s (CreateDatabase dbid threads scn) sound = once _ tt
-every-refusal-dated s (CreateDatafile blocks) sound = datafile-dated s blocks
-every-refusal-dated s (Dump f b) sound = dump-dated s f b
-every-refusal-dated s (Write w) sound = write-dated s w
-every-refusal-dated s (SwitchLogfile t) sound = switch-dated s t
-every-refusal-dated s ArchiveLogCurrent sound = archive-dated s
-every-refusal-dated s (Backup b) sound = backup-dated s b
-every-refusal-dated s BackupLogs sound = ids-dated s
-every-refusal-dated s Mount sound = ids-dated s
-every-refusal-dated s OpenPlain sound = open-dated s
-every-refusal-dated s OpenResetlogs sound = resetlogs-dated s
-every-refusal-dated s (Restore file until) sound = restore-dated s file until sound
-every-refusal-dated s (Preview until) sound = preview-dated s until sound
-every-refusal-dated s (Recover until) sound = recover-dated s until sound
-every-refusal-dated s (RecoverTest until inc) sound = test-dated s until inc sound
-every-refusal-dated s (RecoverCopy tag until) sound = copy-dated s tag until sound
-every-refusal-dated s (ResetDatabase i) sound = reset-dated s i
-every-refusal-dated s (Crosscheck class) sound = ids-dated s
-every-refusal-dated s (ChangeBackup n to) sound = record-dated s n
-every-refusal-dated s (DeleteBackup n) sound = record-dated s n
-every-refusal-dated s (DeleteExpired class) sound = ids-dated s
-every-refusal-dated s DeleteObsolete sound = ids-dated s
-every-refusal-dated s (Retention form) sound = retention-dated s form
-every-refusal-dated s (Parallelism channels) sound = parallelism-dated s channels
-every-refusal-dated s (LoseDatafile f) sound = lose-dated s f
-every-refusal-dated s (LoseLog t) sound = lose_log-dated s t
-every-refusal-dated s (Remove name) sound = ids-dated s
-every-refusal-dated s (Damage name at) sound = ids-dated s
-every-refusal-dated s (Cut name to) sound = ids-dated s
-every-refusal-dated s (Rename old new) sound = ids-dated s
-every-refusal-dated s _ sound = never
+every-refusal-dated : (s : State) → IsSound s → (c : Command) → IsDated (refusal_of s c)
+every-refusal-dated s sound (CreateDatabase dbid threads scn) = once _ tt
+every-refusal-dated s sound (CreateDatafile blocks) = datafile-dated s blocks
+every-refusal-dated s sound (Dump f b) = dump-dated s f b
+every-refusal-dated s sound (Write w) = write-dated s w
+every-refusal-dated s sound (SwitchLogfile t) = switch-dated s t
+every-refusal-dated s sound ArchiveLogCurrent = archive-dated s
+every-refusal-dated s sound (Backup b) = backup-dated s b
+every-refusal-dated s sound BackupLogs = ids-dated s
+every-refusal-dated s sound Mount = ids-dated s
+every-refusal-dated s sound OpenPlain = open-dated s
+every-refusal-dated s sound OpenResetlogs = resetlogs-dated s
+every-refusal-dated s sound (Restore file until) = restore-dated s sound file until
+every-refusal-dated s sound (Preview until) = preview-dated s sound until
+every-refusal-dated s sound (Recover until) = recover-dated s sound until
+every-refusal-dated s sound (RecoverTest until inc) = test-dated s sound until inc
+every-refusal-dated s sound (RecoverCopy tag until) = copy-dated s sound tag until
+every-refusal-dated s sound (ResetDatabase i) = reset-dated s i
+every-refusal-dated s sound (Crosscheck class) = ids-dated s
+every-refusal-dated s sound (ChangeBackup n to) = record-dated s n
+every-refusal-dated s sound (DeleteBackup n) = record-dated s n
+every-refusal-dated s sound (DeleteExpired class) = ids-dated s
+every-refusal-dated s sound DeleteObsolete = ids-dated s
+every-refusal-dated s sound (Retention form) = retention-dated s form
+every-refusal-dated s sound (Parallelism channels) = parallelism-dated s channels
+every-refusal-dated s sound (LoseDatafile f) = lose-dated s f
+every-refusal-dated s sound (LoseLog t) = lose_log-dated s t
+every-refusal-dated s sound (Remove name) = ids-dated s
+every-refusal-dated s sound (Damage name at) = ids-dated s
+every-refusal-dated s sound (Cut name to) = ids-dated s
+every-refusal-dated s sound (Rename old new) = ids-dated s
+every-refusal-dated s sound _ = never
 
-pub refusal-dated : (s : State) (c : Command) (r : Refusal) → IsSound s → Some r ≡ refusal_of s c → HasDate r
-refusal-dated s c r sound is = (subst IsDated (sym is) (every-refusal-dated s c sound)).date
+pub refusal-dated : (s : State) → IsSound s → (c : Command) (r : Refusal) → Some r ≡ refusal_of s c → HasDate r
+refusal-dated s sound c r is = (subst IsDated (sym is) (every-refusal-dated s sound c)).date

@@ -57,6 +57,10 @@ tells_state _ = false
 abbrev pub is_change : Command → Bool
 is_change (Crosscheck class) = false
 is_change BackupLogs = false
+is_change DeleteObsolete = false
+is_change (RecoverCopy tag until) = false
+is_change ReportObsolete = false
+is_change ReportNeedBackup = false
 is_change (Restore file until) = false
 is_change (Preview until) = false
 is_change (Recover until) = false

@@ -9,6 +9,8 @@ mod moment;
 pub mod open;
 mod recovering;
 mod refusing;
+mod renewing;
+mod retaining;
 mod save;
 pub mod site;
 mod statement;

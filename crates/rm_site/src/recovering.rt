@@ -19,8 +19,8 @@ use rm_recovery::{recover, recover_test, restore};
 use rm_statement::Until;
 use std::alloc::Global;
 
-// The stop that a fault at what the store holds makes.
-fn stop_of(fault: EvidenceFault) -> Stop
+/// The stop that a fault at what the store holds makes.
+pub(crate) fn stop_of(fault: EvidenceFault) -> Stop
     ensures { result ≡ stop_of fault }
 {
     match fault {

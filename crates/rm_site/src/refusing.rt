@@ -11,6 +11,7 @@ use rm_machine::State;
 use rm_machine::room::ids_refusal;
 use rm_modes::{open_refusal, reset_refusal, resetlogs_refusal};
 use rm_recovery::{preview_refusal, recover_refusal, restore_refusal, test_refusal};
+use rm_renewing::recover_copy_refusal;
 use rm_settings::{parallelism_refusal, retention_refusal};
 use rm_statement::Command;
 use rm_upkeep::record_refusal;
@@ -38,6 +39,7 @@ pub(crate) fn refusal_of(state: &State, command: &Command) -> Option<Refusal>
         Command::Preview { until } => preview_refusal(state, until),
         Command::Recover { until } => recover_refusal(state, until),
         Command::RecoverTest { until, inc } => test_refusal(state, until, *inc),
+        Command::RecoverCopy { tag, until } => recover_copy_refusal(state, tag.as_str(), until),
         Command::Crosscheck { .. } => ids_refusal(state),
         Command::ChangeBackup { id, .. } => record_refusal(state, *id),
         Command::DeleteBackup { id } => record_refusal(state, *id),

@@ -13,6 +13,8 @@ use crate::checking::{back_up_logs, check, validate};
 use crate::drilling::drill;
 use crate::recovering::{bring_back, preview, put_back, test};
 use crate::refusing::refusal_of;
+use crate::retaining::{clear, tell_needs, tell_obsolete};
+use crate::renewing::renew;
 use crate::telling::tell;
 use rm_base::{Refusal, Seq, Store};
 use rm_catalog::Edit;
@@ -61,6 +63,10 @@ fn accepted<D: Store>(
         Command::ValidateAll => validate(alloc, state, store),
         Command::Crosscheck { class } => check(alloc, state, store, edits, *class),
         Command::BackupLogs => back_up_logs(alloc, state, store, edits),
+        Command::RecoverCopy { tag, until } => renew(alloc, state, store, edits, tag, until),
+        Command::DeleteObsolete => clear(alloc, state, store, edits),
+        Command::ReportObsolete => tell_obsolete(alloc, state, store),
+        Command::ReportNeedBackup => tell_needs(alloc, state, store),
         Command::Dump { .. } => Ok(tell(alloc, state, command)?),
         Command::ListIncarnation => Ok(tell(alloc, state, command)?),
         Command::ListBackup => Ok(tell(alloc, state, command)?),

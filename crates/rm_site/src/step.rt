@@ -76,6 +76,8 @@ fn has_applied(before: bool, command: &Command, reply: &Reply) -> bool
             | Command::ListBackup
             | Command::ListCopy
             | Command::ListArchived
+            | Command::ReportNeedBackup
+            | Command::ReportObsolete
             | Command::ReportSchema
             | Command::ShowAll
             | Command::ValidateAll

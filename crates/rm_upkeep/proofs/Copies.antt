@@ -16,7 +16,7 @@ use Rattle.rm_redo.specs.declared.log_file.LogFile.{LogFile}
 use Rattle.rm_redo.specs.LogFormat.{IsLogFile}
 use Rattle.rm_report.specs.Reply.{LineHasDate}
 use Rattle.rm_report.specs.declared.line.Line.{Line}
-use Rattle.rm_report.specs.declared.line.Line.TheVariants.{NothingToBackUp, Skipped}
+use Rattle.rm_report.specs.declared.line.Line.TheVariants.{NothingToBackUp}
 use Rattle.rm_repository.specs.Changes.{EditsFollow}
 use Rattle.rm_repository.specs.Fitting.{FitsNewLog}
 use Rattle.rm_repository.proofs.Changed.{follows-then}
@@ -30,9 +30,9 @@ use Rattle.rm_machine.specs.Sound.{IsSound}
 use Rattle.rm_machine.specs.declared.handed.Handed.{Handed}
 use Rattle.rm_machine.specs.declared.state.State.{State}
 use Rattle.rm_machine.specs.State.{ledger}
-use Rattle.rm_machine.proofs.BackingUp.{HasRoom}
 use Rattle.rm_machine.proofs.BackingUpLogs.{CanRecord, after_copies, can-next, can-record, copy-fits, copy-sound, room-for, room-next, with_copy}
 use Rattle.rm_machine.proofs.Handing.{hands-by}
+use Rattle.rm_machine.proofs.Left.{HasRoom}
 use Rattle.rm_machine.proofs.Standing.{each-in}
 use Rattle.rm_upkeep.specs.Logs.{AreRecorded, IsAll, IsRecorded}
 use Rattle.rm_upkeep.specs.declared.looking.Looked.{Looked}

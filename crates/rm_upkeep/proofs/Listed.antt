@@ -1,7 +1,6 @@
 -- The expired records of a class are listed by their ids.
-use Rattle.std.proofs.Common.{◌≡◌, ◌≤◌, ◌<◌, ◌+◌, ◌∙◌, ◌++◌, ℕ, zero, suc, List, [], ◌∷◌, Option, Some, None, cond, refl, ap, sym, subst, arith, length, map, get_or, All, AllPairs, Contains}
+use Rattle.std.proofs.Common.{◌≡◌, ◌<◌, ◌∙◌, ◌++◌, ℕ, List, [], ◌∷◌, Option, Some, None, cond, refl, ap, sym, subst, arith, length, map, get_or, AllPairs, Contains}
 use Rattle.std.specs.Option.{option_and_then}
-use Rattle.std.proofs.lemmas.List.{length-map}
 use Rattle.std.proofs.lemmas.List.Elements.{Contains-get_or}
 use Rattle.std.proofs.lemmas.List.Kept.{AllPairs-cons}
 use Rattle.std.proofs.lemmas.Option.{same_Some}
@@ -10,22 +9,20 @@ use Rattle.rm_base.specs.declared.kinds.Class.{Class}
 use Rattle.rm_base.specs.declared.kinds.Status.{Status}
 use Rattle.rm_base.specs.declared.kinds.Status.TheVariants.{Available, Expired, Unavailable}
 use Rattle.rm_base.proofs.Lists.{map_from, map_to}
-use Rattle.rm_base.proofs.Members.{behind, in-front}
+use Rattle.rm_base.proofs.Members.{in-front}
 use Rattle.rm_apply.specs.Files.{AreExactly}
 use Rattle.rm_catalog.specs.declared.record.Record.{Record}
 use Rattle.rm_evidence.specs.Gathered.{Lists}
 use Rattle.rm_evidence.proofs.Extending.{only-in, pairs-head, pairs-tail}
-use Rattle.rm_report.specs.declared.line.Line.{Line}
 use Rattle.rm_report.specs.declared.line.Line.TheVariants.{Deleted, DeletedCount}
 use Rattle.rm_repository.specs.Facts.{IsRepository}
 use Rattle.rm_repository.specs.Repository.{Repository, records_of}
-use Rattle.rm_repository.proofs.Members.{log-in, piece-in}
 use Rattle.rm_statement.specs.declared.command.Command.TheVariants.{DeleteExpired}
 use Rattle.rm_verify.specs.declared.object.Object.{Object}
 use Rattle.rm_verify.specs.Classes.{is_of, object_in}
 use Rattle.rm_verify.specs.Told.{Tells}
 use Rattle.rm_verify.proofs.Checked.{numbered, passed}
-use Rattle.rm_verify.proofs.Growing.{HasNumber, IsOfOne, of_log, of_piece}
+use Rattle.rm_verify.proofs.Growing.{HasNumber, IsOfOne}
 use Rattle.rm_machine.specs.Effect.{no_effect}
 use Rattle.rm_machine.specs.Hands.{Hands}
 use Rattle.rm_machine.specs.Sound.{IsSound}
@@ -34,7 +31,8 @@ use Rattle.rm_machine.specs.declared.handed.Handed.{Handed}
 use Rattle.rm_machine.specs.declared.state.State.{State}
 use Rattle.rm_machine.proofs.Handing.{hands-by}
 use Rattle.rm_upkeep.specs.Expired.{Alone, expired, when_expired}
-use Rattle.rm_upkeep.proofs.Known.{IsId, log-id, piece-id}
+use Rattle.rm_upkeep.proofs.Ids.{row-id}
+use Rattle.rm_upkeep.proofs.Known.{IsId}
 
 -- an id is told of what is expired alone
 of_expired : (n : ℕ) (st : Status) (y : ℕ × Alone) → when_expired n st ≡ Some y → (st ≡ Expired) × (n ≡ y.0)
@@ -101,54 +99,19 @@ exactly rs class list lists =
       );
     }
 
--- a record of a log or a piece has an id that can be one
-row-id : (r : Repository) (x : Record) (n : ℕ) → IsRepository r → HasNumber x n → Contains (records_of r) x → IsId n
-row-id r _ _ rules (of_log l) has = log-id r rules l (log-in r l rules has)
-row-id r _ _ rules (of_piece p) has = piece-id r rules p (piece-in r p rules has)
-
+-- so the id can be one
 pub expired-id : (r : Repository) (class : Class) (n : ℕ) → IsRepository r → IsExpired (records_of r) class n → IsId n
 expired-id r class n rules e = row-id r e.row n rules (has_number (records_of r) class n e) e.there
 
--- numbers that ascend from `low` on, below low + n, are at most n
-few-between : (ns : List ℕ) (low n : ℕ) → AllPairs (λ (a b : ℕ). a < b) ns → ((m : ℕ) → Contains ns m → (low ≤ m) × (m < low + n)) → length ns ≤ n
-few-between [] low n up each = omega arith
-few-between (m ∷ ms) low zero up each = let first = each m (in-front m ms) in absurd (omega (arith, first.0, first.1))
-few-between (m ∷ ms) low (suc n) up each =
-    let first = each m (in-front m ms) in
-    let rest = few-between ms (low + 1) n (pairs-tail (λ (a b : ℕ). a < b) m ms up) (λ x has.
-    let more = pairs-head (λ (a b : ℕ). a < b) m ms x up has in
-    let most = (each x (behind m ms x has)).1 in
-    (omega (arith, more, first.0), omega (arith, most))) in
-    omega (arith, rest)
-
--- the lines of ids, one by one
-lines-alike : (xs : List (ℕ × Alone)) → map (λ x. Deleted x.0) xs ≡ map Deleted (map (λ x. x.0) xs)
-lines-alike [] = refl
-lines-alike (x ∷ xs) = ap (λ (ls : List Line). Deleted x.0 ∷ ls) (lines-alike xs)
-
-module _ (s : State) (sound : IsSound s) (class : Class) (rs : List Record) (all : rs ≡ records_of s.catalog) (list : List (ℕ × Alone)) (lists : Lists Alone [] (λ id _. IsExpired rs class id) list) where
-  abbrev ids : List ℕ
-  ids = map (λ x. x.0) list
-
+module _ (s : State) (sound : IsSound s) (class : Class) (rs : List Record) (all : rs ≡ records_of s.catalog) (ids : List ℕ) (are : AreExactly (IsExpired rs class) ids) where
   exact : AreExactly (IsExpired (records_of s.catalog) class) ids
-  exact = subst (λ (k : List Record). AreExactly (IsExpired k class) ids) all (exactly rs class list lists)
+  exact = subst (λ (k : List Record). AreExactly (IsExpired k class) ids) all are
 
-  in-range : (n : ℕ) → Contains ids n → IsId n
+  pub in-range : (n : ℕ) → Contains ids n → IsId n
   in-range n has = expired-id s.catalog class n sound.catalog ((exact.exact n).0 has)
 
-  many : length ids ≡ length list
-  many = length-map list (λ x. x.0)
-
-  -- so few that they are counted
-  pub few-ids : length list < 4294967296
-  few-ids = let few = few-between ids 1 4294967295 exact.ascends (λ n has. let r = in-range n has in (r.0, let most = r.1 in omega (arith, most))) in let m = many in omega (arith, few, m)
-
-  pub ids-some : All (λ x. 1 ≤ x.0) list
-  ids-some = λ k d inside. (in-range (get_or list k d).0 (map_to (λ (x : ℕ × Alone). x.0) list (get_or list k d) (Contains-get_or list k d inside))).0
-
-  pub expired-hands : (held : Option Held) (x : Handed) (t : State) → x.lines ≡ map (λ y. Deleted y.0) list ++ DeletedCount (length list) ∷ [] → x.objects ≡ [] → x.removes ≡ []
+  pub expired-hands : (held : Option Held) (x : Handed) (t : State) → x.lines ≡ map Deleted ids ++ DeletedCount (length ids) ∷ [] → x.objects ≡ [] → x.removes ≡ []
       → t ≡ with_catalog s (without_all ids s.catalog) → Hands held s (DeleteExpired class) x t
   expired-hands held x t lines objects removes is =
       hands-by held s (DeleteExpired class) x t (map Deleted ids ++ DeletedCount (length ids) ∷ []) no_effect (with_catalog s (without_all ids s.catalog))
-      (λ objects tells. record { ids = ids; exact = exact; is = refl })
-      (lines ∙ ap (λ (ls : List Line). ls ++ DeletedCount (length list) ∷ []) (lines-alike list) ∙ ap (λ n. map Deleted ids ++ DeletedCount n ∷ []) (sym many)) objects removes is
+      (λ objects tells. record { ids = ids; exact = exact; is = refl }) lines objects removes is

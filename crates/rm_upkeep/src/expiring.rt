@@ -1,24 +1,23 @@
 //! DELETE EXPIRED
-ghost use Rattle.std.specs.Prelude.{◌≡◌, ◌≤◌, ◌+◌, [], All, IfOk, OnOk, Option, length, map};
+ghost use Rattle.std.specs.Prelude.{◌≡◌, [], IfOk, OnOk, Option};
+ghost use Rattle.rm_apply.specs.Files.{AreExactly};
 ghost use Rattle.rm_base.specs.Store.{Held};
 ghost use Rattle.rm_evidence.specs.Gathered.{Lists};
-ghost use Rattle.rm_report.specs.declared.line.Line.TheVariants.{Deleted};
 ghost use Rattle.rm_statement.specs.declared.command.Command.TheVariants.{DeleteExpired};
 ghost use Rattle.rm_verify.specs.Classes.{is_of};
 ghost use Rattle.rm_verify.specs.Told.{with_found};
 ghost use Rattle.rm_machine.specs.Hands.{Hands};
 ghost use Rattle.rm_machine.specs.Sound.{IsSound};
-ghost use Rattle.rm_machine.specs.Upkeep.{IsExpired, with_catalog, without_all};
+ghost use Rattle.rm_machine.specs.Upkeep.{IsExpired};
 ghost use Rattle.rm_repository.specs.Changes.{EditsFollow};
 ghost use Rattle.rm_upkeep.specs.Expired.{Alone, expired, when_expired};
 
-use crate::dropping::drop_record;
+use crate::dropping::drop_records;
 use rm_base::{Class, NoMemory, Seq, Status};
 use rm_catalog::{Catalog, Edit, Record};
 use rm_evidence::by_id;
 use rm_machine::recorded::records_of;
 use rm_machine::{Handed, State};
-use rm_report::Line;
 use std::alloc::Global;
 
 // Whether the record is of the class. A log that is no archived one is a backup of one.
@@ -74,8 +73,8 @@ fn push_expired(list: &mut Seq<(u32, ())>, class: Class, row: &Record) -> Result
     }
 }
 
-// The ids of the expired records of the class, ascending.
-fn expired_ids(alloc: Global, catalog: &Catalog, class: Class) -> Result<Seq<(u32, ())>, NoMemory>
+// The expired records of the class, ascending by id.
+fn expired_in(alloc: Global, catalog: &Catalog, class: Class) -> Result<Seq<(u32, ())>, NoMemory>
     ensures { IfOk result (λ list. Lists Alone [] (λ id _. IsExpired catalog.now class id) list) }
 {
     let mut list = Seq::new(alloc);
@@ -86,25 +85,12 @@ fn expired_ids(alloc: Global, catalog: &Catalog, class: Class) -> Result<Seq<(u3
     Ok(by_id(list))
 }
 
-// Takes the records of these ids away, one after another, and tells each.
-fn drop_all(
-    alloc: Global,
-    state: &mut State,
-    edits: &mut Vec<Edit>,
-    ids: &[(u32, ())],
-) -> Result<Seq<Line>, NoMemory>
-    requires some { All (λ x. 1 ≤ x.0) ids.now }
-    ensures lines { IfOk result (λ lines. lines ≡ map (λ x. Deleted x.0) ids.now) }
-    ensures value { OnOk result (state.new ≡ with_catalog state.old (without_all (map (λ x. x.0) ids.now) state.old.catalog)) }
-    ensures edits { OnOk result (EditsFollow edits.old.items edits.new.items state.old.catalog state.new.catalog) }
+// Their ids, ascending.
+fn expired_ids(alloc: Global, catalog: &Catalog, class: Class) -> Result<Vec<u32>, NoMemory>
+    ensures { IfOk result (λ ids. AreExactly (IsExpired catalog.now class) ids.items) }
 {
-    let mut lines = Seq::new(alloc);
-    for (id, _) in ids {
-        let id = *id;
-        drop_record(state, edits, id)?;
-        lines.push(Line::Deleted { id })?;
-    }
-    Ok(lines)
+    let list = expired_in(alloc, catalog, class)?;
+    Ok(list.as_slice().iter().map(|x| x.0).collect(alloc)?)
 }
 
 /// DELETE EXPIRED: the expired records of the class go, ascending by id; what may stand under their names stays. A line
@@ -122,11 +108,8 @@ pub fn delete_expired(
 {
     let records = records_of(alloc, state)?;
     let ids = expired_ids(alloc, &records, class)?;
-    let count = ids.len() as u32;
-    let mut lines = drop_all(alloc, state, edits, ids.as_slice())?;
-    lines.push(Line::DeletedCount { count })?;
     Ok(Handed {
-        lines,
+        lines: drop_records(alloc, state, edits, &ids)?,
         objects: Seq::new(alloc),
         removes: Seq::new(alloc),
     })

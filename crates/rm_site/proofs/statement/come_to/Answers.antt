@@ -2,4 +2,4 @@ use Rattle.rm_site.proofs.DatedRefusals.{refusal-dated}
 use Rattle.rm_site.proofs.statement.come_to.Goals as goal
 
 pub returns-in-Some-clause-dates : goal.returns-in-Some-clause-dates
-returns-in-Some-clause-dates g c = refusal-dated c.args.state.now c.args.command.now c.in-Some.refusal c.requires.sound c.in-Some.ensures.value
+returns-in-Some-clause-dates g c = refusal-dated c.args.state.now c.requires.sound c.args.command.now c.in-Some.refusal c.in-Some.ensures.value

@@ -12,10 +12,12 @@ pub returns-clause-hands : goal.returns-clause-hands
 returns-clause-hands c held =
     let s : State = c.args.state.now in
     let n = c.known-id.result in
-    let x : Handed = record { lines = c.push-2.new.self; objects = c.new.result; removes = c.in_ok-removes.removes } in
+    let removes = c.push_name.new.names in
+    let x : Handed = record { lines = c.push-2.new.self; objects = c.new.result; removes = removes } in
     let lines : c.push-2.new.self ≡ Deleted n ∷ DeletedCount 1 ∷ [] = search rules in
+    let names : removes ≡ names_at n s.catalog = search rules in
     subst (λ k. Hands held s (DeleteBackup k) x c.drop_record.new.state) c.known-id.ensures.value (
     hands-by held s (DeleteBackup n) x c.drop_record.new.state
     (Deleted n ∷ DeletedCount 1 ∷ []) (removing (names_at n s.catalog)) (with_catalog s (without_record n s.catalog)) (λ objects tells. refl)
-    lines c.new.ensures c.in_ok-removes.ensures c.in_ok-drop_record.ensures.value
+    lines c.new.ensures names c.in_ok-drop_record.ensures.value
     )

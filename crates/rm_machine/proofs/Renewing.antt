@@ -1,0 +1,214 @@
+-- RECOVER COPY: a changed copy has a record of its own, and the old record goes.
+use Rattle.std.proofs.Common.{◌≡◌, ◌≢◌, ◌<◌, ◌≤◌, ◌+◌, ◌∙◌, ◌++◌, cond, ℕ, List, [], ◌∷◌, Option, Some, None, Bool, true, false, refl, ap, sym, subst, arith, is_some, length, All, AllPairs, Contains}
+use Rattle.std.specs.Option.{option_map_or}
+use Rattle.std.proofs.lemmas.List.{append-nil, append_assoc}
+use Rattle.std.proofs.lemmas.List.Edits.{length-remove}
+use Rattle.std.proofs.lemmas.List.Elements.{All-contains, All-head, All-tail, Contains-append_left}
+use Rattle.rm_base.specs.Store.{Held}
+use Rattle.rm_base.specs.declared.block.Change.{Change}
+use Rattle.rm_backup.specs.declared.renewing.Renewed.{Renewed}
+use Rattle.rm_catalog.specs.declared.record.PieceEntry.{PieceEntry}
+use Rattle.rm_change.specs.declared.change.Object.{Object}
+use Rattle.rm_change.specs.Names.{HasPuts}
+use Rattle.rm_evidence.proofs.Extending.{pairs-head, pairs-tail}
+use Rattle.rm_history.specs.declared.world.World.{World}
+use Rattle.rm_ledger.specs.Facts.{IsPieceEntry}
+use Rattle.rm_objects.specs.Names.{piece_name}
+use Rattle.rm_piece.specs.declared.piece.Piece.{Piece}
+use Rattle.rm_piece.specs.Spelling.{spelling}
+use Rattle.rm_repository.specs.Changes.{with_new_piece, without_one, without_piece}
+use Rattle.rm_repository.specs.Fitting.{FitsNewPiece}
+use Rattle.rm_repository.proofs.Fitted.{many}
+use Rattle.rm_repository.proofs.Splits.{place-of-one}
+use Rattle.rm_machine.specs.Backup.{piece_entry}
+use Rattle.rm_machine.specs.Effect.{Made, a_piece}
+use Rattle.rm_machine.specs.Machine.{IsBorneOut, IsTrueArtefact}
+use Rattle.rm_machine.specs.RecoverCopy.{after_copies, after_copy, changed, copies_made, copies_put, is_kept, renewed_entry}
+use Rattle.rm_machine.specs.Sound.{IsSound}
+use Rattle.rm_machine.specs.Upkeep.{with_catalog}
+use Rattle.rm_machine.specs.declared.state.State.{State}
+use Rattle.rm_machine.specs.State.{ledger, tree, world}
+use Rattle.rm_machine.proofs.Archives.{puts-rest, with_puts}
+use Rattle.rm_machine.proofs.Deleting.{stays-one}
+use Rattle.rm_machine.proofs.Entries.{GoesOn, piece-out}
+use Rattle.rm_machine.proofs.Kept.{stand-same}
+use Rattle.rm_machine.proofs.Later.{borne-beside}
+use Rattle.rm_machine.proofs.Pieces.{borne-recorded, object_of, sound-recorded, with_recorded}
+use Rattle.rm_machine.proofs.Standing.{each-in}
+
+-- where that of an id goes there is one fewer
+one-fewer : (xs : List PieceEntry) (p : PieceEntry) → AllPairs (λ x y. x.id < y.id) xs → Contains xs p → length (without_one (λ x. x.id) p.id xs) + 1 ≡ length xs
+one-fewer xs p up (k, inside, is) =
+    let gone = (place-of-one (λ (x : PieceEntry). x.id) p.id xs k p up inside (ap (λ (x : PieceEntry). x.id) is)).gone in
+    let short = length-remove xs k inside in
+    let same = ap length gone in
+    omega (arith, short, same)
+
+-- a copy that took over level 1s can be recorded in the place of the record of this id
+pub record CanRenew (s : State) (tag : List ℕ) (n : ℕ) (last : Piece) : Type 0 where
+  pub entry : (keep : Bool) (moment id : ℕ) → IsPieceEntry (tree s) (ledger s).files (piece_entry true keep tag moment id last)
+  pub old : PieceEntry
+  pub recorded : Contains (ledger s).pieces old
+  pub id : old.id ≡ n
+
+-- One copy
+
+module _ (s : State) (tag : List ℕ) (n : ℕ) (last : Piece) (sound : IsSound s) (can : CanRenew s tag n last) (below : (ledger s).base.next_id < 4294967295) where
+  abbrev e : PieceEntry
+  e = renewed_entry s tag n last
+
+  abbrev q : State
+  q = with_catalog s (without_piece s.catalog n)
+
+  drops : GoesOn s (without_piece s.catalog n)
+  drops = piece-out s n sound
+
+  fits : FitsNewPiece (without_piece s.catalog n) e
+  fits =
+      let was = many (ledger s) in
+      let is = many (ledger q) in
+      let fewer = subst (λ k. length (without_one (λ x. x.id) k (ledger s).pieces) + 1 ≡ length (ledger s).pieces) can.id (one-fewer (ledger s).pieces can.old sound.catalog.ledger.ids.pieces_ascend can.recorded) in
+      let few = sound.catalog.ledger.few in
+      record {
+        piece = can.entry (is_kept s n) (ledger s).base.moment (ledger s).base.next_id;
+        id = refl;
+        last = below;
+        room = omega (arith, was, is, fewer, few);
+      }
+
+  renewed-sound : IsSound (with_recorded q e)
+  renewed-sound = sound-recorded q e (drops.sound sound) fits
+
+  renewed-borne : (h : List Change) (objects : Held) (made : List Made) (touched : List (List ℕ)) → IsTrueArtefact (world s) h (a_piece last) → IsBorneOut s h objects made touched
+      → IsBorneOut (with_recorded q e) h (with_puts (object_of true (ledger s).base.next_id last ∷ []) objects) (made ++ record { name = piece_name true (ledger s).base.next_id; artefact = a_piece last } ∷ []) touched
+  renewed-borne h objects made touched agrees stands =
+      borne-recorded q e (drops.sound sound) fits h objects made touched last
+      (record { kind = refl; inc = refl; file = refl; from = refl; checkpoint = refl; high = refl; rows = refl }) (record { size = refl; sha = refl }) agrees
+      (drops.borne h objects made touched stands)
+
+-- the same of a copy that may have changed: one that stays asks for nothing
+abbrev pub CanRenewTo : State → List ℕ → ℕ → Option Piece → Type 0
+CanRenewTo s tag n None = Unit {0}
+CanRenewTo s tag n (Some last) = CanRenew s tag n last
+
+abbrev pub IsTrueTo : World → List Change → Option Piece → Type 0
+IsTrueTo w h None = Unit {0}
+IsTrueTo w h (Some last) = IsTrueArtefact w h (a_piece last)
+
+-- the state after it, what is made of it, and its object
+abbrev pub renewed_to : State → List ℕ → ℕ → Option Piece → State
+renewed_to s tag n o = option_map_or (λ last. record s { catalog = with_new_piece (without_piece s.catalog n) (renewed_entry s tag n last) }) o s
+
+abbrev made_to : State → Option Piece → List Made
+made_to s o = option_map_or (λ last. record { name = piece_name true (ledger s).base.next_id; artefact = a_piece last } ∷ []) o []
+
+abbrev pub put_to : State → Option Piece → List Object
+put_to s o = option_map_or (λ last. record { name = piece_name true (ledger s).base.next_id; bytes = spelling last } ∷ []) o []
+
+-- the ids that it draws
+abbrev pub drawn : Option Piece → ℕ
+drawn o = cond (is_some o) 1 0
+
+pub next-to : (s : State) (tag : List ℕ) (n : ℕ) (o : Option Piece) → (ledger (renewed_to s tag n o)).base.next_id ≡ (ledger s).base.next_id + drawn o
+next-to s tag n None = omega arith
+next-to s tag n (Some last) = refl
+
+world-to : (s : State) (tag : List ℕ) (n : ℕ) (o : Option Piece) → world (renewed_to s tag n o) ≡ world s
+world-to s tag n None = refl
+world-to s tag n (Some last) = refl
+
+saved-to : (s : State) (tag : List ℕ) (n : ℕ) (o : Option Piece) → (renewed_to s tag n o).catalog.saved ≡ s.catalog.saved
+saved-to s tag n None = refl
+saved-to s tag n (Some last) = refl
+
+pub sound-to : (s : State) (tag : List ℕ) (n : ℕ) (o : Option Piece) → IsSound s → CanRenewTo s tag n o → (ledger s).base.next_id + drawn o ≤ 4294967295 → IsSound (renewed_to s tag n o)
+sound-to s tag n None sound can room = sound
+sound-to s tag n (Some last) sound can room = renewed-sound s tag n last sound can (omega (arith, room))
+
+borne-to : (s : State) (tag : List ℕ) (n : ℕ) (o : Option Piece) (h : List Change) (objects : Held) (made : List Made) (touched : List (List ℕ)) → CanRenewTo s tag n o → (ledger s).base.next_id + drawn o ≤ 4294967295
+    → IsTrueTo (world s) h o → IsBorneOut s h objects made touched → IsBorneOut (renewed_to s tag n o) h (with_puts (put_to s o) objects) (made ++ made_to s o) touched
+borne-to s tag n None h objects made touched can room agrees stands = subst (λ k. IsBorneOut s h objects k touched) (sym (append-nil made)) stands
+borne-to s tag n (Some last) h objects made touched can room agrees stands = renewed-borne s tag n last stands.state can (omega (arith, room)) h objects made touched agrees stands
+
+-- another copy can be recorded after it
+next-can : (s : State) (tag : List ℕ) (n m : ℕ) (o p : Option Piece) → n ≢ m → CanRenewTo s tag m p → CanRenewTo (renewed_to s tag n o) tag m p
+next-can s tag n m o None other can = tt
+next-can s tag n m None (Some last) other can = can
+next-can s tag n m (Some first) (Some last) other can = record {
+  entry = can.entry;
+  old = can.old;
+  recorded = Contains-append_left (without_one (λ x. x.id) n (ledger s).pieces) (renewed_entry s tag n first ∷ []) can.old (stays-one (λ (x : PieceEntry). x.id) n (ledger s).pieces can.old can.recorded (λ same. other (sym same ∙ can.id)));
+  id = can.id;
+}
+
+-- All of them
+
+-- they can be recorded one after another, each in the place of another record
+pub record CanRenewAll (s : State) (tag : List ℕ) (xs : List (ℕ × Renewed)) : Type 0 where
+  pub each : All (λ x. CanRenewTo s tag x.1.id x.1.merged) xs
+  pub apart : AllPairs (λ x y. x.1.id ≢ y.1.id) xs
+  pub room : (ledger s).base.next_id + length (changed xs) + 68 ≤ 4294967295
+
+count-by : (b : Bool) (x : ℕ × Renewed) (xs : List (ℕ × Renewed)) → length (cond b (x ∷ xs) xs) ≡ cond b 1 0 + length xs
+count-by true x xs = omega arith
+count-by false x xs = omega arith
+
+pub count-changed : (x : ℕ × Renewed) (xs : List (ℕ × Renewed)) → length (changed (x ∷ xs)) ≡ drawn x.1.merged + length (changed xs)
+count-changed x xs = count-by (is_some x.1.merged) x (changed xs)
+
+pub first-can : (s : State) (tag : List ℕ) (x : ℕ × Renewed) (xs : List (ℕ × Renewed)) → CanRenewAll s tag (x ∷ xs) → CanRenewTo s tag x.1.id x.1.merged
+first-can s tag x xs can = All-head (λ (y : ℕ × Renewed). CanRenewTo s tag y.1.id y.1.merged) x xs can.each
+
+pub first-room : (s : State) (tag : List ℕ) (x : ℕ × Renewed) (xs : List (ℕ × Renewed)) → CanRenewAll s tag (x ∷ xs) → (ledger s).base.next_id + drawn x.1.merged ≤ 4294967295
+first-room s tag x xs can =
+    let count = count-changed x xs in
+    let room = can.room in
+    omega (arith, count, room)
+
+pub rest-can : (s : State) (tag : List ℕ) (x : ℕ × Renewed) (xs : List (ℕ × Renewed)) → CanRenewAll s tag (x ∷ xs) → CanRenewAll (after_copy s tag x) tag xs
+rest-can s tag x xs can =
+    let count = count-changed x xs in
+    let room = can.room in
+    let next = next-to s tag x.1.id x.1.merged in
+    record {
+      each = each-in (λ (y : ℕ × Renewed). CanRenewTo (after_copy s tag x) tag y.1.id y.1.merged) xs (λ y has.
+          next-can s tag x.1.id y.1.id x.1.merged y.1.merged (pairs-head (λ (y z : ℕ × Renewed). y.1.id ≢ z.1.id) x xs y can.apart has)
+          (All-contains (λ (y : ℕ × Renewed). CanRenewTo s tag y.1.id y.1.merged) xs y (All-tail (λ (y : ℕ × Renewed). CanRenewTo s tag y.1.id y.1.merged) x xs can.each) has));
+      apart = pairs-tail (λ (y z : ℕ × Renewed). y.1.id ≢ z.1.id) x xs can.apart;
+      room = omega (arith, count, room, next);
+    }
+
+pub renewals-sound : (xs : List (ℕ × Renewed)) (s : State) (tag : List ℕ) → IsSound s → CanRenewAll s tag xs → IsSound (after_copies s tag xs)
+renewals-sound [] s tag sound can = sound
+renewals-sound (x ∷ xs) s tag sound can =
+    renewals-sound xs (after_copy s tag x) tag (sound-to s tag x.1.id x.1.merged sound (first-can s tag x xs can) (first-room s tag x xs can)) (rest-can s tag x xs can)
+
+pub renewals-borne : (xs : List (ℕ × Renewed)) (s : State) (tag : List ℕ) (h : List Change) (objects : Held) (made : List Made) (touched : List (List ℕ)) (after : Held) → CanRenewAll s tag xs → All (λ x. IsTrueTo (world s) h x.1.merged) xs
+    → IsBorneOut s h objects made touched → HasPuts (copies_put s tag xs) objects after → IsBorneOut (after_copies s tag xs) h after (made ++ copies_made s tag xs) touched
+renewals-borne [] s tag h objects made touched after can agree stands puts =
+    subst (λ k. IsBorneOut s h after k touched) (sym (append-nil made))
+    (borne-beside s h objects after made touched touched stands (stand-same objects after touched (ledger s) (ledger s) puts))
+renewals-borne (x ∷ xs) s tag h objects made touched after can agree stands puts =
+    let q : State = after_copy s tag x in
+    let o : Option Piece = x.1.merged in
+    let agrees = All-head (λ (y : ℕ × Renewed). IsTrueTo (world s) h y.1.merged) x xs agree in
+    let others = All-tail (λ (y : ℕ × Renewed). IsTrueTo (world s) h y.1.merged) x xs agree in
+    let one : IsBorneOut q h (with_puts (put_to s o) objects) (made ++ made_to s o) touched = borne-to s tag x.1.id o h objects made touched (first-can s tag x xs can) (first-room s tag x xs can) agrees stands in
+    let rest = renewals-borne xs q tag h (with_puts (put_to s o) objects) (made ++ made_to s o) touched after (rest-can s tag x xs can)
+    (subst (λ w. All (λ (y : ℕ × Renewed). IsTrueTo w h y.1.merged) xs) (sym (world-to s tag x.1.id o)) others) one
+    (puts-rest (put_to s o) (copies_put q tag xs) objects after puts) in
+    subst (λ k. IsBorneOut (after_copies q tag xs) h after k touched) (append_assoc made (made_to s o) (copies_made q tag xs)) rest
+
+-- a saved site that was not there is not there after it
+pub renewals-saved : (xs : List (ℕ × Renewed)) (s : State) (tag : List ℕ) → (after_copies s tag xs).catalog.saved ≡ s.catalog.saved
+renewals-saved [] s tag = refl
+renewals-saved (x ∷ xs) s tag = renewals-saved xs (after_copy s tag x) tag ∙ saved-to s tag x.1.id x.1.merged
+
+-- each changed copy draws an id
+pub renewals-next : (xs : List (ℕ × Renewed)) (s : State) (tag : List ℕ) → (ledger (after_copies s tag xs)).base.next_id ≡ (ledger s).base.next_id + length (changed xs)
+renewals-next [] s tag = omega arith
+renewals-next (x ∷ xs) s tag =
+    let rest = renewals-next xs (after_copy s tag x) tag in
+    let first = next-to s tag x.1.id x.1.merged in
+    let count = count-changed x xs in
+    omega (arith, rest, first, count)

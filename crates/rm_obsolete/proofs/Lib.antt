@@ -1,0 +1,4 @@
+pub mod Dates
+pub mod Hand
+pub mod Needed
+pub mod Obsolete

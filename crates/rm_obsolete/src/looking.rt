@@ -1,0 +1,65 @@
+//! What the policy goes by: the records, what is at hand of them, and where its window starts.
+ghost use Rattle.std.specs.Prelude.{◌≡◌, ◌≤◌, IfOk, IfSome, IsErrOf};
+ghost use Rattle.rm_base.specs.Outside.{Rose};
+ghost use Rattle.rm_machine.specs.Obsolete.{start_by};
+ghost use Rattle.rm_machine.specs.Recovery.{IsAtHand};
+ghost use Rattle.rm_machine.specs.Sound.{IsSound};
+ghost use Rattle.rm_repository.specs.Repository.{records_of};
+ghost use Rattle.rm_retain.specs.Catalogued.{copies_in};
+ghost use Rattle.rm_retain.specs.Chosen.{AscendById};
+
+use rm_base::{Policy, Scn, Store};
+use rm_catalog::Catalog as Records;
+use rm_evidence::{Evidence, EvidenceFault, gather};
+use rm_machine::State;
+use rm_machine::hand::at_hand;
+use rm_retain::{do_ascend, window_start};
+use std::alloc::Global;
+
+/// The records of a catalog, and the artefacts at hand.
+#[derive(Drop)]
+pub(crate) struct Looked {
+    pub records: Records,
+    pub evidence: Evidence,
+}
+
+/// The records, and what is at hand of those that count as available: its copies ascend by id. An error is a fault of the
+/// store, which is counted, or want of memory.
+pub(crate) fn look<D: Store>(
+    alloc: Global,
+    state: &State,
+    store: &mut D,
+) -> Result<Looked, EvidenceFault>
+    requires sound { IsSound state.now }
+    ensures records { IfOk result (λ x. x.records ≡ records_of state.now.catalog) }
+    ensures at_hand { IfOk result (λ x. IfSome (D.held store.old) (λ held. IsAtHand state.now held x.evidence)) }
+    ensures ascend { IfOk result (λ x. AscendById (copies_in x.evidence)) }
+    ensures same { D.held store.new ≡ D.held store.old }
+    ensures failed { IsErrOf result EvidenceFault.StoreFault → Rose (D.faults store.old) (D.faults store.new) }
+    ensures never_falls { D.faults store.old ≤ D.faults store.new }
+{
+    let hand = at_hand(alloc, state)?;
+    let evidence = gather(alloc, &hand.records, store, &hand.place)?;
+    if !do_ascend(&evidence) {
+        return Err(EvidenceFault::NoMemory);
+    }
+    Ok(Looked {
+        records: hand.records,
+        evidence,
+    })
+}
+
+/// The SCN at which the window of the policy starts: 0 for a policy without one.
+pub(crate) fn start_by(state: &State, policy: Policy) -> Scn
+    requires sound { IsSound state.now }
+    ensures { result ≡ start_by state.now policy }
+{
+    match policy {
+        Policy::Window(days) => {
+            let base = state.catalog.base();
+            let (tree, marks) = (state.catalog.tree(), state.catalog.marks());
+            window_start(tree, base.current, days, base.moment, marks).unwrap_or(0)
+        }
+        Policy::Redundancy(_) | Policy::Nothing => 0,
+    }
+}
