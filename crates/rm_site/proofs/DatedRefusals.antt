@@ -216,5 +216,5 @@ every-refusal-dated s sound (Cut name to) = ids-dated s
 every-refusal-dated s sound (Rename old new) = ids-dated s
 every-refusal-dated s sound _ = never
 
-pub refusal-dated : (s : State) (c : Command) (r : Refusal) → Some r ≡ refusal_of s c → HasDate r
-refusal-dated s c r is = (subst IsDated (sym is) (every-refusal-dated s sound c)).date
+pub refusal-dated : (s : State) → IsSound s → (c : Command) (r : Refusal) → Some r ≡ refusal_of s c → HasDate r
+refusal-dated s sound c r is = (subst IsDated (sym is) (every-refusal-dated s sound c)).date
