@@ -13,8 +13,8 @@ use crate::checking::{back_up_logs, check, validate};
 use crate::drilling::drill;
 use crate::recovering::{bring_back, preview, put_back, test};
 use crate::refusing::refusal_of;
-use crate::retaining::{clear, tell_needs, tell_obsolete};
 use crate::renewing::renew;
+use crate::retaining::{clear, tell_needs, tell_obsolete};
 use crate::telling::tell;
 use rm_base::{Refusal, Seq, Store};
 use rm_catalog::Edit;
@@ -105,7 +105,7 @@ pub(crate) fn come_to<D: Store>(
     ensures keeper { ¬ IsErrOf result KeeperFault }
     ensures never_falls { D.faults store.old ≤ D.faults store.new }
 {
-    if let Some(refusal) = refusal_of(state, command) {
+    if let Some(refusal) = refusal_of(alloc, state, command)? {
         return Ok(Answer::Refused(refusal));
     }
     accepted(alloc, state, store, edits, command)
