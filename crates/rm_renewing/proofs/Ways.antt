@@ -1,0 +1,152 @@
+-- RECOVER COPY under way: some copies are renewed, and the rest lead on from there.
+use Rattle.std.proofs.Common.{◌≡◌, ◌≤◌, ◌<◌, ◌+◌, ◌∙◌, ◌++◌, ℕ, suc, List, [], ◌∷◌, Option, None, Some, refl, ap, sym, subst, arith, append_assoc, drop-cons, drop, get_or, length, length-append, sum_by, All}
+use Rattle.std.specs.Prelude.{IfSome}
+use Rattle.std.proofs.lemmas.List.{append-nil}
+use Rattle.std.proofs.lemmas.List.Elements.{All-contains, All-head, All-tail}
+use Rattle.rm_base.specs.declared.refusal.Limit.TheVariants.{Bytes, ObjectIds}
+use Rattle.rm_base.specs.declared.refusal.Refusal.TheVariants.{Rm11}
+use Rattle.rm_base.proofs.Conditions.{unless}
+use Rattle.rm_backup.specs.declared.renewing.Renewed.{Renewed}
+use Rattle.rm_catalog.specs.declared.record.Edit.{Edit}
+use Rattle.rm_catalog.specs.declared.record.PieceEntry.{PieceEntry}
+use Rattle.rm_change.specs.declared.change.Object.{Object}
+use Rattle.rm_piece.specs.declared.piece.Piece.{Piece}
+use Rattle.rm_piece.specs.Valid.{IsPiece}
+use Rattle.rm_report.specs.declared.line.Line.{Line}
+use Rattle.rm_repository.specs.Changes.{EditsFollow, higher, lower, without_one, without_piece}
+use Rattle.rm_repository.specs.Fitting.{FitsNewPiece, HasId}
+use Rattle.rm_repository.proofs.Changed.{follows-then}
+use Rattle.rm_repository.proofs.Fitted.{many}
+use Rattle.rm_repository.proofs.Ones.{length-replaced}
+use Rattle.rm_machine.specs.Marks.{lacks_bytes, lacks_ids}
+use Rattle.rm_machine.specs.RecoverCopy.{after_copies, after_copy, changed, copies_gone, copies_lines, copies_put, copy_bytes, is_kept, renewed_entry, renewed_lines, renewed_name, renewed_object, renewed_refusal}
+use Rattle.rm_machine.specs.Sound.{IsSound}
+use Rattle.rm_machine.specs.declared.handed.Handed.{Handed}
+use Rattle.rm_machine.specs.declared.state.State.{State}
+use Rattle.rm_machine.specs.State.{ledger}
+use Rattle.rm_machine.proofs.Standing.{each-in}
+use Rattle.rm_machine.proofs.Switching.{not-above}
+use Rattle.rm_renewing.specs.Fit.{AreFit, CanPut, CanRecord, IsFit}
+use Rattle.rm_machine.proofs.Renewing.{CanRenew, CanRenewAll, CanRenewTo, drawn, first-can, first-room, rest-can, sound-to}
+
+-- those from place k on
+pub rest-at : (xs : List (ℕ × Renewed)) (k : ℕ) (one : ℕ × Renewed) → k < length xs → one ≡ get_or xs k one → drop k xs ≡ one ∷ drop (k + 1) xs
+rest-at xs k one inside is =
+    let e : suc k ≡ k + 1 = omega arith in
+    drop-cons xs k one inside ∙ ap (λ n. get_or xs k one ∷ drop n xs) e ∙ ap (λ (x : ℕ × Renewed). x ∷ drop (k + 1) xs) (sym is)
+
+-- what changed is valid
+abbrev pub IsValidTo : ℕ × Renewed → Type 0
+IsValidTo x = IfSome x.1.merged IsPiece
+
+-- from the state s on, all of these copies but the rest are renewed: the state is t
+pub record IsUnderWay (s : State) (tag : List ℕ) (xs rest : List (ℕ × Renewed)) (before after : List Edit) (first now : Handed) (t : State) : Type 0 where
+  pub sound : IsSound t
+  pub can : CanRenewAll t tag rest
+  pub valid : All IsValidTo rest
+  pub state : after_copies t tag rest ≡ after_copies s tag xs
+  pub edits : EditsFollow before after s.catalog t.catalog
+  pub lines : now.lines ++ copies_lines t tag rest ≡ first.lines ++ copies_lines s tag xs
+  pub objects : now.objects ++ copies_put t tag rest ≡ first.objects ++ copies_put s tag xs
+  pub removes : now.removes ++ copies_gone rest ≡ first.removes ++ copies_gone xs
+
+-- a copy that fits can be renewed
+can-to : (s : State) (tag : List ℕ) (n : ℕ) (o : Option Piece) → HasId (λ p. p.id) n (ledger s).pieces → IfSome o (CanRecord s tag) → CanRenewTo s tag n o
+can-to s tag n None there can = tt
+can-to s tag n (Some last) there can = record { entry = can.entry; old = there.0; recorded = there.1; id = there.2 }
+
+valid-to : (s : State) (tag : List ℕ) (o : Option Piece) → IfSome o (CanRecord s tag) → IfSome o IsPiece
+valid-to s tag None can = tt
+valid-to s tag (Some last) can = can.valid
+
+ids-left : (s : State) (xs : List (ℕ × Renewed)) → renewed_refusal s xs ≡ None → (ledger s).base.next_id + length (changed xs) + 68 ≤ 4294967295
+ids-left s xs is =
+    let bytes = unless (lacks_bytes s (sum_by copy_bytes xs)) (Rm11 Bytes) _ is in
+    let ids = unless (lacks_ids s (length (changed xs))) (Rm11 ObjectIds) None bytes.1 in
+    not-above 4294967295 ((ledger s).base.next_id + length (changed xs) + 68) ids.0
+
+-- none is renewed at first
+pub way-start : (s : State) (tag : List ℕ) (xs : List (ℕ × Renewed)) (edits : List Edit) (x : Handed) → IsSound s → AreFit s tag xs → renewed_refusal s xs ≡ None → IsUnderWay s tag xs xs edits edits x x s
+way-start s tag xs edits x sound fit accepted = record {
+  sound = sound;
+  can = record {
+    each = each-in (λ (y : ℕ × Renewed). CanRenewTo s tag y.1.id y.1.merged) xs (λ y has. let is = All-contains (IsFit s tag) xs y fit.each has in can-to s tag y.1.id y.1.merged is.there is.changed);
+    apart = fit.apart;
+    room = ids-left s xs accepted;
+  };
+  valid = each-in IsValidTo xs (λ y has. valid-to s tag y.1.merged (All-contains (IsFit s tag) xs y fit.each has).changed);
+  state = refl;
+  edits = record { lead = λ rs from. from };
+  lines = refl;
+  objects = refl;
+  removes = refl;
+}
+
+-- the record of a changed copy takes the place of the old one
+put-fits : (s : State) (tag : List ℕ) (n : ℕ) (last : Piece) → IsSound s → CanRenew s tag n last → (ledger s).base.next_id < 4294967295 → FitsNewPiece (without_piece s.catalog n) (renewed_entry s tag n last)
+put-fits s tag n last sound can below =
+    let ps : List PieceEntry = (ledger s).pieces in
+    let id = λ (x : PieceEntry). x.id in
+    let was = many (ledger s) in
+    let is = many (without_piece s.catalog n).ledger in
+    let few = sound.catalog.ledger.few in
+    let same : length (without_one id can.old.id ps) ≡ length (without_one id n ps) = ap (λ k. length (without_one id k ps)) can.id in
+    let replaced = length-replaced id can.old ps sound.catalog.ledger.ids.pieces_ascend (can.old, can.recorded, refl) in
+    let without = length-append (lower id can.old.id ps) (higher id can.old.id ps) in
+    let with = length-append (lower id can.old.id ps) (can.old ∷ higher id can.old.id ps) in
+    record {
+      piece = can.entry (is_kept s n) (ledger s).base.moment (ledger s).base.next_id;
+      id = refl;
+      last = below;
+      room = omega (arith, was, is, few, same, replaced, without, with);
+    }
+
+put-to : (s : State) (tag : List ℕ) (n : ℕ) (o : Option Piece) → IsSound s → CanRenewTo s tag n o → IfSome o IsPiece → (ledger s).base.next_id + drawn o ≤ 4294967295 → IfSome o (CanPut s tag n)
+put-to s tag n None sound can valid room = tt
+put-to s tag n (Some last) sound can valid room =
+    let low = (All-contains (λ (x : PieceEntry). (1 ≤ x.id) × (x.id < (ledger s).base.next_id)) (ledger s).pieces can.old sound.catalog.ledger.ids.pieces can.recorded).0 in
+    let id = can.id in
+    record { some = omega (arith, low, id); valid = valid; fits = put-fits s tag n last sound can (omega (arith, room)) }
+
+-- the next one can be put
+pub next-put : (s t : State) (tag : List ℕ) (xs rest : List (ℕ × Renewed)) (one : ℕ × Renewed) (before after : List Edit) (x y : Handed) → IsUnderWay s tag xs (one ∷ rest) before after x y t → IfSome one.1.merged (CanPut t tag one.1.id)
+next-put s t tag xs rest one before after x y way =
+    put-to t tag one.1.id one.1.merged way.sound (first-can t tag one rest way.can) (All-head IsValidTo one rest way.valid) (first-room t tag one rest way.can)
+
+-- one copy on
+pub way-on : (s t q : State) (tag : List ℕ) (xs rest : List (ℕ × Renewed)) (one : ℕ × Renewed) (before mid after : List Edit) (first x y : Handed) → IsUnderWay s tag xs (one ∷ rest) before mid first x t
+    → q ≡ after_copy t tag one → EditsFollow mid after t.catalog q.catalog → y.lines ≡ x.lines ++ renewed_lines t one → y.objects ≡ x.objects ++ renewed_object t one → y.removes ≡ x.removes ++ renewed_name one
+    → IsUnderWay s tag xs rest before after first y q
+way-on s t q tag xs rest one before mid after first x y way is follow lines objects removes =
+    let p : State = after_copy t tag one in
+    subst (λ u. IsUnderWay s tag xs rest before after first y u) (sym is) (record {
+      sound = sound-to t tag one.1.id one.1.merged way.sound (first-can t tag one rest way.can) (first-room t tag one rest way.can);
+      can = rest-can t tag one rest way.can;
+      valid = All-tail IsValidTo one rest way.valid;
+      state = way.state;
+      edits = follows-then before mid after s.catalog t.catalog p.catalog way.edits (subst (λ (u : State). EditsFollow mid after t.catalog u.catalog) is follow);
+      lines = ap (λ (ls : List Line). ls ++ copies_lines p tag rest) lines ∙ append_assoc x.lines (renewed_lines t one) (copies_lines p tag rest) ∙ way.lines;
+      objects = ap (λ (os : List Object). os ++ copies_put p tag rest) objects ∙ append_assoc x.objects (renewed_object t one) (copies_put p tag rest) ∙ way.objects;
+      removes = ap (λ (ns : List (List ℕ)). ns ++ copies_gone rest) removes ∙ append_assoc x.removes (renewed_name one) (copies_gone rest) ∙ way.removes;
+    })
+
+-- all are renewed
+pub record AreAll (s : State) (tag : List ℕ) (xs : List (ℕ × Renewed)) (before after : List Edit) (first now : Handed) (t : State) : Type 0 where
+  pub state : t ≡ after_copies s tag xs
+  pub sound : IsSound t
+  pub edits : EditsFollow before after s.catalog t.catalog
+  pub lines : now.lines ≡ first.lines ++ copies_lines s tag xs
+  pub objects : now.objects ≡ first.objects ++ copies_put s tag xs
+  pub removes : now.removes ≡ first.removes ++ copies_gone xs
+
+pub way-end : (s t : State) (tag : List ℕ) (xs rest : List (ℕ × Renewed)) (before after : List Edit) (x y : Handed) → rest ≡ [] → IsUnderWay s tag xs rest before after x y t → AreAll s tag xs before after x y t
+way-end s t tag xs rest before after x y none way =
+    let ended : IsUnderWay s tag xs [] before after x y t = subst (λ (ys : List (ℕ × Renewed)). IsUnderWay s tag xs ys before after x y t) none way in
+    record {
+      state = ended.state;
+      sound = ended.sound;
+      edits = ended.edits;
+      lines = sym (append-nil y.lines) ∙ ended.lines;
+      objects = sym (append-nil y.objects) ∙ ended.objects;
+      removes = sym (append-nil y.removes) ∙ ended.removes;
+    }

@@ -1,0 +1,13 @@
+//! RECOVER COPY OF DATABASE WITH TAG: image copies take over level 1s.
+#![tactic(auto)]
+
+mod evidence;
+mod limits;
+mod refusing;
+mod renewals;
+mod renewing;
+mod skipping;
+mod statement;
+
+pub use refusing::recover_copy_refusal;
+pub use statement::recover_copy;
