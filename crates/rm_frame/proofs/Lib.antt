@@ -10,3 +10,4 @@ pub mod LooseQuiet
 pub mod LooseUpkeep
 pub mod Loosening
 pub mod Roomy
+pub mod Safely

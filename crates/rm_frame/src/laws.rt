@@ -5,6 +5,7 @@ ghost use Rattle.rm_catalog.specs.declared.record.Record.{Record};
 ghost use Rattle.rm_statement.specs.declared.command.Command.{Command};
 ghost use Rattle.rm_statement.specs.declared.command.Command.TheVariants.{CreateDatabase};
 ghost use Rattle.rm_report.specs.declared.line.Line.{Line};
+ghost use Rattle.rm_report.specs.declared.line.Reply.{Reply};
 ghost use Rattle.rm_machine.specs.Effect.{Effect, done};
 ghost use Rattle.rm_machine.specs.Laws.{LeadsOn, StaysSound};
 ghost use Rattle.rm_machine.specs.Machine.{Machine};
@@ -14,8 +15,9 @@ ghost use Rattle.rm_machine.specs.Sound.{IsSound};
 ghost use Rattle.rm_machine.specs.Step.{IsOutcome};
 ghost use Rattle.rm_machine.specs.declared.state.State.{State};
 ghost use Rattle.rm_frame.specs.Carries.{CarriesOn, LeadsOnWithout, StopsWell};
-ghost use Rattle.rm_frame.specs.Holds.{Holds, HoldsRest};
+ghost use Rattle.rm_frame.specs.Holds.{Holds, HoldsRest, View};
 ghost use Rattle.rm_frame.specs.Loose.{StaysLoose};
+ghost use Rattle.rm_frame.specs.Steps.{DeletesSafely, Steps};
 
 /// Where what is at hand leads the machine on, what a statement hands out and is carried out is a step of the
 /// whole machine. And a stop leaves the machine before the statement or the one after it, at rest, where the
@@ -54,4 +56,9 @@ pub fn a_machine_rests()
 /// What is done leaves the ids of a save: 68 object ids.
 pub fn each_statement_leaves_the_ids_of_a_save()
     ensures { (c : Command) (s : State) (held : Held) (lines : List Line) (e : Effect) (t : State) → IsSound s → IsOutcome s held c (done lines e t) → lacks_ids t 0 ≡ false }
+{}
+
+/// A step of DELETE OBSOLETE keeps the targets of the window, whatever site stands for the machine.
+pub fn a_deletion_by_the_policy_is_safe()
+    ensures { (held held' : Option Held) (kept kept' : Option (List Record)) (v v' : View) (c : Command) (clock : ℕ) (reply : Reply) → Steps held kept v c clock reply held' kept' v' → DeletesSafely held kept v c clock reply held' v' }
 {}

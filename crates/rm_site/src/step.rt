@@ -12,7 +12,7 @@ ghost use Rattle.rm_machine.specs.Step.{IsStatement};
 ghost use Rattle.rm_frame.specs.Moments.{IsMomentIn, moment_of};
 ghost use Rattle.rm_frame.specs.Refused.{AnsweredBy, refusal_in};
 ghost use Rattle.rm_frame.specs.Saves.{applies};
-ghost use Rattle.rm_frame.specs.Steps.{Steps, IsStepAt};
+ghost use Rattle.rm_frame.specs.Steps.{DeletesSafely, IsStepAt, Steps};
 ghost use Rattle.rm_frame.specs.Stopped.{Stops, IsStopAt};
 
 use crate::create::{first_records, lines_of, new_database, refusal_without};
@@ -211,6 +211,9 @@ impl Site {
     ///
     /// Each line of the reply has a text.
     ///
+    /// Under a policy with a window DELETE OBSOLETE keeps each target of the window: what was told of a block there is told still, and
+    /// a target that could be recovered can be.
+    ///
     /// New objects are put first, then all records are edited at once, then objects go that no record names; with the first
     /// list of a session those of its saved site.
     /// An error is a stop, after which the site is spent and has no database any more: a fault of the store
@@ -229,6 +232,7 @@ impl Site {
         requires command { IsTrue (is_command command.now) }
         requires built { IsTrue (is_built command.now) }
         ensures step { IfOk result (λ reply. Steps (D.held store.old) (C.kept keeper.old) self.old command.now clock reply (D.held store.new) (C.kept keeper.new) self.new) }
+        ensures safe { IfOk result (λ reply. DeletesSafely (D.held store.old) (C.kept keeper.old) self.old command.now clock reply (D.held store.new) self.new) }
         ensures answered { IfOk result (λ reply. AnsweredBy (refusal_in self.old.state command.now (moment_of self.old.state clock)) command.now reply self.old self.new) }
         ensures dates { IfOk result HasDates }
         ensures stopped { OnErr result (Stops (D.held store.old) (C.kept keeper.old) self.old command.now clock (D.held store.new) (C.kept keeper.new)) }

@@ -1,6 +1,7 @@
-use Rattle.std.proofs.Common.{◌∙◌, ◌||◌, ap}
+use Rattle.std.proofs.Common.{◌∙◌, ◌||◌, true, ap}
 use Rattle.rm_frame.specs.Holds.{View}
 use Rattle.rm_frame.specs.Saves.{applies}
+use Rattle.rm_frame.proofs.Safely.{deletes-safely}
 use Rattle.rm_site.proofs.Answering.{answered-of, steps-of, stops-of}
 use Rattle.rm_site.proofs.site.Site.step.Goals as goal
 
@@ -18,3 +19,7 @@ pub returns-clause-answered : goal.returns-clause-answered
 returns-clause-answered g c =
     let from = c.replace-state.ensures.value ∙ ap (λ (v : View). v.state) c.self.view_is in
     answered-of c.replace-state.result c.args.self.now _ c.args.clock _ from c.moment_of-moment.ensures.value _ _ c.has_applied-self-inside.result (c.has_applied-self-inside.ensures ∙ ap (λ (v : View). v.applied || applies c.args.command.now c.in_ok-state.reply) c.self.view_is) c.requires.live c.in_ok-state.ensures.answered
+
+pub returns-clause-safe : goal.returns-clause-safe
+returns-clause-safe g c =
+    deletes-safely _ _ _ _ c.args.self.now (record { state = c.in_ok-state.state; live = true; applied = c.has_applied-self-inside.result }) _ _ _ (returns-clause-step g c)
