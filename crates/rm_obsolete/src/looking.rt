@@ -8,7 +8,7 @@ ghost use Rattle.rm_repository.specs.Repository.{records_of};
 ghost use Rattle.rm_retain.specs.Catalogued.{copies_in};
 ghost use Rattle.rm_retain.specs.Chosen.{AscendById};
 
-use rm_base::{Policy, Scn, Store};
+use rm_base::{Policy, Scn, Seq, Store};
 use rm_catalog::Catalog as Records;
 use rm_evidence::{Evidence, EvidenceFault, gather};
 use rm_machine::State;
@@ -21,6 +21,23 @@ use std::alloc::Global;
 pub(crate) struct Looked {
     pub records: Records,
     pub evidence: Evidence,
+}
+
+// The same artefacts where the copies among them ascend by id, as those do that come from a store that tells what it
+// holds. Else those without copies.
+fn in_order(alloc: Global, evidence: Evidence) -> Evidence
+    ensures ascend { AscendById (copies_in result) }
+    ensures same { AscendById (copies_in evidence) → result ≡ evidence }
+{
+    if do_ascend(&evidence) {
+        return evidence;
+    }
+    Evidence {
+        bases: Seq::new(alloc),
+        level1s: evidence.level1s,
+        logs: evidence.logs,
+        skipped: evidence.skipped,
+    }
 }
 
 /// The records, and what is at hand of those that count as available: its copies ascend by id. An error is a fault of the
@@ -40,12 +57,9 @@ pub(crate) fn look<D: Store>(
 {
     let hand = at_hand(alloc, state)?;
     let evidence = gather(alloc, &hand.records, store, &hand.place)?;
-    if !do_ascend(&evidence) {
-        return Err(EvidenceFault::NoMemory);
-    }
     Ok(Looked {
         records: hand.records,
-        evidence,
+        evidence: in_order(alloc, evidence),
     })
 }
 

@@ -1,5 +1,5 @@
 //! What the policy needs of each datafile on the current path.
-ghost use Rattle.std.specs.Prelude.{◌≡◌, ◌<◌, AllPairs, IfOk, IfSome, IfNone, IsTrue, map, nat_lt};
+ghost use Rattle.std.specs.Prelude.{◌≡◌, ◌<◌, ◌↔◌, AllPairs, IfOk, IfSome, IfNone, IsTrue, map, nat_lt};
 ghost use Rattle.std.specs.Option.{option_map_or};
 ghost use Rattle.rm_catalog.specs.Rules.{HasDatabase};
 ghost use Rattle.rm_catalog.specs.Trees.{nodes};
@@ -67,7 +67,7 @@ fn copies(alloc: Global, evidence: &Evidence) -> Result<Vec<Backup>, NoMemory>
 
 /// Whether the copies at hand ascend by id, as those do that are gathered.
 pub fn do_ascend(evidence: &Evidence) -> bool
-    ensures { IsTrue result → AscendById (copies_in evidence.now) }
+    ensures { IsTrue result ↔ AscendById (copies_in evidence.now) }
 {
     let mut last = 0;
     let bases = evidence.bases.as_slice();
