@@ -3,7 +3,8 @@
 # script without the statements that are measured. Beside BACKUP and RECOVER of a database of 8 MB stands the shortest
 # of five runs of sha256sum on a file as long as the two pieces. Then the database is lost: beside its RESTORE and
 # RECOVER, from a level 0 and a log of 65,536 records, stands sha256sum of these objects, and at last RECOVER from 1, 4
-# and 16 logs of 4,096 records each.
+# and 16 logs of 4,096 records each, and from 1, 4 and 16 level 1s of 4,096 blocks each without a log; and RECOVER COPY over
+# as many level 1s.
 set -euo pipefail
 cd "$(dirname "$0")/.."
 room=$(mktemp -d)
@@ -81,4 +82,20 @@ for logs in 1 4 16; do
     restored=$(shortest run_script "$room/restored")
     recovered=$(shortest run_script "$room/recovered")
     echo "recover from $logs logs of 4096 records: $((recovered - restored)) us"
+done
+
+for level1s in 1 4 16; do
+    (database && echo 'BACKUP INCREMENTAL LEVEL 1 FOR RECOVER OF COPY WITH TAG inc DATABASE;'
+        for k in $(seq 0 $((level1s - 1))); do
+            writes $((k * 4096)) $((k * 4096 + 4096))
+            echo 'BACKUP INCREMENTAL LEVEL 1 FOR RECOVER OF COPY WITH TAG inc DATABASE;'
+        done) > "$room/backups"
+    (cat "$room/backups" && echo 'HOST LOSE LOG THREAD 1;' && lose && echo 'RESTORE DATABASE;') > "$room/restored"
+    (cat "$room/restored" && echo 'RECOVER DATABASE;') > "$room/recovered"
+    (cat "$room/backups" && echo 'RECOVER COPY OF DATABASE WITH TAG inc;') > "$room/renewed"
+    backups=$(shortest run_script "$room/backups")
+    restored=$(shortest run_script "$room/restored")
+    recovered=$(shortest run_script "$room/recovered")
+    renewed=$(shortest run_script "$room/renewed")
+    echo "recover from $level1s level 1s of 4096 blocks: $((recovered - restored)) us; recover copy over them: $((renewed - backups)) us"
 done
