@@ -1,5 +1,5 @@
 //! The site: a database or none, which is stepped over a store and a keeper.
-ghost use Rattle.std.specs.Prelude.{◌≡◌};
+ghost use Rattle.std.specs.Prelude.{◌≡◌, is_some};
 
 use rm_machine::State;
 use std::alloc::Global;
@@ -32,5 +32,12 @@ impl Site {
         ensures { result ≡ self.now.live }
     {
         self.live
+    }
+
+    /// Whether there is a database.
+    pub fn has_database(&self) -> bool
+        ensures { result ≡ is_some self.now.state }
+    {
+        self.state.is_some()
     }
 }
