@@ -223,11 +223,10 @@ module _ {told now : Option Answers} {before written : Option (List ℕ)} {held 
       let parts : ss ≡ take i ss ++ s ∷ rest = in-two ss i s there in
       let cut : DigestsTellAlong first all.0 ss p.replies → (last : Machine) × (applied : Bool) × Run first all.0 (take i ss) p.replies applied last × IsCut last s (behind (take i ss) all.0 0) held' kept' = λ tells.
       let along : DigestsTellAlong first all.0 (take i ss ++ s ∷ rest) (p.replies ++ []) =
-          subst (λ (ts : List (ℕ × List Token)). DigestsTellAlong first all.0 ts (p.replies ++ [])) parts (subst (λ (qs : List Reply). DigestsTellAlong first all.0 ss qs) (sym (append-nil p.replies)) tells) in
+      subst (λ (ts : List (ℕ × List Token)). DigestsTellAlong first all.0 ts (p.replies ++ [])) parts (subst (λ (qs : List Reply). DigestsTellAlong first all.0 ss qs) (sym (append-nil p.replies)) tells) in
       let last = all.3 (along-first (take i ss) (s ∷ rest) p.replies [] first all.0 p.many along) in
       let here : TellWithin (statement_built_at s.1) last.0 (behind (take i ss) all.0 0) = along-next (take i ss) rest s p.replies [] first last.0 all.0 last.1 last.2 along in
-      let same : behind (take i ss) all.0 0 ≡ short.answer = ap (λ (g : Answers). g 0) all.2 ∙ f.2 in
-      (
+      let same : behind (take i ss) all.0 0 ≡ short.answer = ap (λ (g : Answers). g 0) all.2 ∙ f.2 in (
         last.0,
         last.1,
         last.2,

@@ -1,5 +1,5 @@
 -- Digests tell along every run whose statements give no name of an object.
-use Rattle.std.proofs.Common.{◌≡◌, ◌∙◌, ◌||◌, ℕ, List, [], ◌∷◌, ◌++◌, Option, Some, None, IfSome, Bool, true, false, MatchBool, Contains, ap, subst, refl}
+use Rattle.std.proofs.Common.{◌≡◌, ◌∙◌, ℕ, List, [], ◌∷◌, ◌++◌, Option, Some, None, IfSome, Bool, true, false, MatchBool, Contains, ap, subst, refl}
 use Rattle.std.specs.List.{flat_map}
 use Rattle.rm_base.specs.Store.{Answers, Held}
 use Rattle.rm_base.proofs.Members.{none-in}
@@ -18,11 +18,11 @@ use Rattle.rm_machine.specs.Step.{StepBy, StepIn, names_in}
 use Rattle.rm_machine.proofs.Agreeing.{untouched-tell}
 use Rattle.rm_frame.specs.Holds.{HoldsRest, nothing}
 use Rattle.rm_frame.specs.Moments.{moment_of}
-use Rattle.rm_tool.specs.Block.{BlockSteps, InnerStep, TellInside, after_inner, inner_applies, joined, unset, with_until}
+use Rattle.rm_tool.specs.Block.{BlockSteps, InnerStep, TellInside, after_inner, unset, with_until}
 use Rattle.rm_tool.specs.Built.{statement_built_at}
 use Rattle.rm_tool.specs.Run.{DigestsTellAlong, GiveNoName, StepOf, TellWithin, names_given, names_of_inner, past}
 use Rattle.rm_tool.specs.declared.block.Settings.{Settings}
-use Rattle.rm_tool.proofs.Setting.{names-with}
+use Rattle.rm_tool.proofs.Setting.{names_with}
 
 -- a step touches no name but those that its statement gives
 by-outcome : (m n : Machine) (c : Command) (o : Outcome) (r : Reply) → names_in c ≡ [] → m.touched ≡ [] → StepBy m c o r n → n.touched ≡ []
@@ -35,7 +35,7 @@ by-step None m n c moment r free none step = by-outcome m n c step.0 r free none
 by-step (Some s) m n c moment r free none step = by-outcome m n c step.0 r free none step.2
 
 by-inner : (x : Settings) (y : Inner) (m n : Machine) (clock : ℕ) (r : Reply) → names_of_inner y ≡ [] → m.touched ≡ [] → InnerStep x m y clock r n → n.touched ≡ []
-by-inner x (PlainInner c) m n clock r free none step = by-step m.state m n (with_until x.until c) (moment_of m.state clock) r (names-with x.until c ∙ free) none step
+by-inner x (PlainInner c) m n clock r free none step = by-step m.state m n (with_until x.until c) (moment_of m.state clock) r (names_with x.until c ∙ free) none step
 by-inner x (SetUntil until) m n clock r free none step = ap (λ (o : Machine). o.touched) step.1 ∙ none
 by-inner x AllocateChannel m n clock r free none step = ap (λ (o : Machine). o.touched) step.1 ∙ none
 
@@ -47,23 +47,18 @@ none-behind : {A : Type 0} (xs ys : List A) → xs ++ ys ≡ [] → ys ≡ []
 none-behind [] ys none = none
 none-behind (x ∷ xs) ys none = absurd (cc)
 
+either : (b : Bool) (P Q R : Type 0) → (P → R) → (Q → R) → MatchBool b P Q → R
+either true P Q R f g p = f p
+either false P Q R f g q = g q
+
 -- and so does a RUN
 by-block : (x : Settings) (ys : List Inner) (m n : Machine) (clock : ℕ) (r : Reply) (applied : Bool) → flat_map names_of_inner ys ≡ [] → m.touched ≡ [] → BlockSteps x m ys clock r applied n → n.touched ≡ []
 by-block x [] m n clock r applied free none steps = ap (λ (o : Machine). o.touched) steps.2 ∙ none
-by-block x (y ∷ ys) m n clock r applied free none (first, mid, step, after) = behind first.refused after
-  where
-    names : List (List ℕ)
-    names = flat_map names_of_inner ys
-
-    here : mid.touched ≡ []
-    here = by-inner x y m mid clock first (none-first (names_of_inner y) names free) none step
-
-    behind : (b : Bool)
-        → MatchBool b ((r ≡ first) × (applied ≡ false) × (n ≡ mid))
-          ((rest : Reply) × (more : Bool) × BlockSteps (after_inner x y) mid ys clock rest more n × (r ≡ joined first rest) × (applied ≡ (inner_applies x y first || more)))
-        → n.touched ≡ []
-    behind true ended = ap (λ (o : Machine). o.touched) ended.2 ∙ here
-    behind false (rest, more, steps, said_so, so) = by-block (after_inner x y) ys mid n clock rest more (none-behind (names_of_inner y) names free) here steps
+by-block x (y ∷ ys) m n clock r applied free none (first, mid, step, after) =
+    let names : List (List ℕ) = flat_map names_of_inner ys in
+    let here : mid.touched ≡ [] = by-inner x y m mid clock first (none-first (names_of_inner y) names free) none step in
+    either first.refused _ _ _ (λ ended. ap (λ (o : Machine). o.touched) ended.2 ∙ here)
+    (λ rest. by-block (after_inner x y) ys mid n clock rest.0 rest.1 (none-behind (names_of_inner y) names free) here rest.2) after
 
 by-statement : (o : Option Statement) (m n : Machine) (line clock : ℕ) (r : Reply) (applied : Bool) → names_given o ≡ [] → m.touched ≡ [] → StepOf o m line clock r applied n → n.touched ≡ []
 by-statement None m n line clock r applied free none step = ap (λ (x : Machine). x.touched) step.2 ∙ none
@@ -74,8 +69,7 @@ by-statement (Some (Block block)) m n line clock r applied free none steps = by-
 tell-inside : (x : Settings) (ys : List Inner) (m : Machine) (clock : ℕ) → flat_map names_of_inner ys ≡ [] → m.touched ≡ [] → TellInside x m ys clock
 tell-inside x [] m clock free none = tt
 tell-inside x (y ∷ ys) m clock free none =
-    let names : List (List ℕ) = flat_map names_of_inner ys in
-    (
+    let names : List (List ℕ) = flat_map names_of_inner ys in (
       untouched-tell m none,
       λ r n step accepted. tell-inside (after_inner x y) ys n clock (none-behind (names_of_inner y) names free) (by-inner x y m n clock r (none-first (names_of_inner y) names free) none step),
     )
@@ -89,8 +83,7 @@ pub tell-along : (first : Machine) → first.touched ≡ [] → (answers : Answe
 tell-along first none answers [] replies free = tt
 tell-along first none answers (s ∷ ss) [] free = tell-within (statement_built_at s.1) first (answers 0) free.0 none
 tell-along first none answers (s ∷ ss) (r ∷ rs) free =
-    let o : Option Statement = statement_built_at s.1 in
-    (
+    let o : Option Statement = statement_built_at s.1 in (
       tell-within o first (answers 0) free.0 none,
       λ applied m step. tell-along m (by-statement o first m s.0 (answers 0) r applied free.0 none step) (past o answers) ss rs free.1,
     )

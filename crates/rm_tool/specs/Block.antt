@@ -78,8 +78,8 @@ BlockSteps x m [] clock reply applied n = (reply ≡ said []) × (applied ≡ fa
 BlockSteps x m (y ∷ ys) clock reply applied n =
     (first : Reply) × (mid : Machine) × InnerStep x m y clock first mid
     × MatchBool first.refused
-      ((reply ≡ first) × (applied ≡ false) × (n ≡ mid))
-      ((rest : Reply) × (more : Bool) × BlockSteps (after_inner x y) mid ys clock rest more n × (reply ≡ joined first rest) × (applied ≡ (inner_applies x y first || more)))
+    ((reply ≡ first) × (applied ≡ false) × (n ≡ mid))
+    ((rest : Reply) × (more : Bool) × BlockSteps (after_inner x y) mid ys clock rest more n × (reply ≡ joined first rest) × (applied ≡ (inner_applies x y first || more)))
 
 -- digests tell at each machine from which one of these statements goes on
 abbrev pub TellInside : Settings → Machine → List Inner → ℕ → Type 0

@@ -1,5 +1,5 @@
 -- The machine's run over the statements of a script, and the clock's answers to them.
-use Rattle.std.specs.Prelude.{ℕ, suc, ◌≡◌, ◌||◌, Bool, false, Option, Some, None, IfSome, List, [], ◌∷◌, take}
+use Rattle.std.specs.Prelude.{ℕ, suc, ◌≡◌, ◌||◌, Bool, false, Option, Some, None, IfSome, List, [], ◌∷◌}
 use Rattle.std.specs.List.{flat_map}
 use Rattle.rm_base.specs.Store.{Answers}
 use Rattle.rm_base.specs.declared.refusal.Refusal.TheVariants.{Rm01}

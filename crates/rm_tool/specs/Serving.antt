@@ -10,7 +10,7 @@ use Rattle.rm_statement.specs.declared.command.Command.{Command}
 use Rattle.rm_statement.specs.declared.command.Inner.{Inner}
 use Rattle.rm_statement.specs.declared.command.Statement.{Statement}
 use Rattle.rm_statement.specs.declared.command.Statement.TheVariants.{Plain, Run as Block}
-use Rattle.rm_tool.specs.Block.{BlockLeaves, BlockSteps, InnerLeaves, InnerStep, TellInside, inner_applies, unset}
+use Rattle.rm_tool.specs.Block.{BlockLeaves, BlockSteps, InnerLeaves, InnerStep, TellInside, unset}
 use Rattle.rm_tool.specs.Built.{statement_built_at}
 use Rattle.rm_tool.specs.declared.block.Settings.{Settings}
 use Rattle.rm_token.specs.declared.token.Token.{Token}

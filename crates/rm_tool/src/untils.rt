@@ -38,11 +38,7 @@ fn or_set(alloc: Global, own: Option<Until>, set: &Option<Until>) -> Result<Opti
 }
 
 /// The command with the until that is set, if it takes one and has none.
-pub fn with_until(
-    alloc: Global,
-    set: &Option<Until>,
-    command: Command,
-) -> Result<Command, NoMemory>
+pub fn with_until(alloc: Global, set: &Option<Until>, command: Command) -> Result<Command, NoMemory>
     ensures { IfOk result (λ c. c ≡ with_until set.now command) }
 {
     match command {

@@ -1,6 +1,6 @@
-use Rattle.std.proofs.Common.{◌≡◌, ◌≤◌, All, IsTrue, true}
+use Rattle.std.proofs.Common.{◌≡◌, ◌≤◌, All, IsTrue, true, length}
 use Rattle.std.specs.List.{list_all}
-use Rattle.std.specs.Vec.Iter.{into_iter_items}
+use Rattle.std.specs.Vec.Iter.{into_iter_items, into_iter_len}
 use Rattle.rm_report.specs.Reply.{LineHasDate}
 use Rattle.rm_statement.specs.IsCommand.{is_inner}
 use Rattle.rm_tool.specs.Block.{AreSet}
@@ -18,6 +18,7 @@ invariant-loop-inner g l =
       set : AreSet l.settings;
       grammar : IsTrue (list_all is_inner (into_iter_items l.inner-iterator));
       built : IsTrue (list_all is_built_inner (into_iter_items l.inner-iterator));
+      count : into_iter_len l.inner-iterator ≡ length (into_iter_items l.inner-iterator);
       dates : All LineHasDate l.lines;
       store : g.D.Store.faults l.fn.store ≤ g.D.Store.faults l.store;
       keeper : g.C.Keeper.faults l.fn.keeper ≤ g.C.Keeper.faults l.keeper;
