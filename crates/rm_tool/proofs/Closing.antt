@@ -6,7 +6,6 @@ use Rattle.rm_token.specs.declared.token.Token.{Token}
 use Rattle.rm_frame.specs.Holds.{View}
 use Rattle.rm_frame.specs.Saves.{IsEnded, Saves, StopsSaving}
 use Rattle.rm_frame.specs.Stopped.{IsLeft}
-use Rattle.rm_tool.specs.Run.{has_applied}
 use Rattle.rm_tool.specs.Serving.{FromEach, Serves, Closes, EndsMidway, at_saving}
 
 module _ {clock : Option Answers} {before now : Option (List ℕ)} {held mid last : Option Held} {kept mid_kept last_kept : Option (List Record)} {v v' : View} {refused : Bool} {ss : List (ℕ × List Token)} (fresh : v.applied ≡ false)
@@ -15,7 +14,6 @@ module _ {clock : Option Answers} {before now : Option (List ℕ)} {held mid las
   pub closes : Saves mid mid_kept v' last last_kept → FromEach held kept v (Closes clock before now last last_kept refused ss)
   closes saves m stands holds =
       let s = serves m stands holds in
-      let applied : v'.applied ≡ has_applied ss s.replies = s.applied ∙ ap (λ b. b || has_applied ss s.replies) fresh in
       record {
         answers = s.answers;
         told = s.told;
@@ -25,15 +23,15 @@ module _ {clock : Option Answers} {before now : Option (List ℕ)} {held mid las
         some = s.some;
         run = λ tells.
             let end = s.run tells in
-            let left = saves end.0 end.2.0 end.2.1 in
-            (end.0, end.1, (left.0, subst (λ (b : Bool). IsEnded b end.0 left.0) applied left.1, left.2));
+            let applied : v'.applied ≡ end.1 = end.3.2 ∙ ap (λ b. b || end.1) fresh in
+            let left = saves end.0 end.3.0 end.3.1 in
+            (end.0, end.1, end.2, (left.0, subst (λ (b : Bool). IsEnded b end.0 left.0) applied left.1, left.2));
       }
 
   -- it was stopped
   pub ends-at-saving : StopsSaving mid mid_kept v' last last_kept → FromEach held kept v (EndsMidway clock before now last last_kept ss)
   ends-at-saving stops m stands holds =
       let s = serves m stands holds in
-      let applied : v'.applied ≡ has_applied ss s.replies = s.applied ∙ ap (λ b. b || has_applied ss s.replies) fresh in
       at_saving
       (record {
         answers = s.answers;
@@ -43,6 +41,7 @@ module _ {clock : Option Answers} {before now : Option (List ℕ)} {held mid las
         written = s.written;
         run = λ tells.
             let end = s.run tells in
-            let left = stops end.0 end.2.0 end.2.1 in
-            (end.0, end.1, (left.0, subst (λ (b : Bool). IsLeft [] end.0 left.0 ⊎ IsEnded b end.0 left.0) applied left.1, left.2));
+            let applied : v'.applied ≡ end.1 = end.3.2 ∙ ap (λ b. b || end.1) fresh in
+            let left = stops end.0 end.3.0 end.3.1 in
+            (end.0, end.1, end.2, (left.0, subst (λ (b : Bool). IsLeft [] end.0 left.0 ⊎ IsEnded b end.0 left.0) applied left.1, left.2));
       })

@@ -1,12 +1,15 @@
 -- One statement is served.
-use Rattle.std.proofs.Common.{◌≡◌, ◌+◌, ◌∙◌, ◌||◌, ℕ, suc, List, Option, Some, None, Result, Ok, Err, IfOk, OnErr, IfSome, false, inr, refl, ap, sym, subst, arith}
-use Rattle.std.specs.Option.{option_map_or}
+use Rattle.std.proofs.Common.{◌≡◌, ◌+◌, ◌∙◌, ◌||◌, ℕ, suc, List, Option, Some, None, Result, Ok, Err, IfOk, OnErr, IfSome, Bool, false, inr, refl, ap, sym, subst, arith}
 use Rattle.std.proofs.Math.Bool.{or-false}
 use Rattle.rm_base.specs.Store.{Held, Answers, Both, IsLater}
 use Rattle.rm_base.specs.declared.refusal.Refusal.TheVariants.{Rm01}
 use Rattle.rm_catalog.specs.declared.record.Record.{Record}
 use Rattle.rm_statement.specs.declared.command.Command.{Command}
-use Rattle.rm_tool.specs.Built.{command_at}
+use Rattle.rm_statement.specs.declared.command.Inner.{Inner}
+use Rattle.rm_statement.specs.declared.command.Statement.{Statement}
+use Rattle.rm_statement.specs.declared.command.Statement.TheVariants.{Plain, Run as Block}
+use Rattle.rm_tool.specs.Block.{unset}
+use Rattle.rm_tool.specs.Built.{statement_built_at}
 use Rattle.rm_token.specs.declared.token.Token.{Token}
 use Rattle.rm_report.specs.declared.line.Reply.{Reply}
 use Rattle.rm_report.specs.Reply.{refused_by}
@@ -17,8 +20,9 @@ use Rattle.rm_frame.specs.Saves.{applies}
 use Rattle.rm_frame.specs.Steps.{Steps}
 use Rattle.rm_frame.specs.Stopped.{Stops}
 use Rattle.rm_frame.proofs.Halting.{ends-here, rests}
-use Rattle.rm_tool.specs.Run.{StepOf}
-use Rattle.rm_tool.specs.Serving.{IsPast, IsServed, IsCut, untouched, stopped, IsCutShort}
+use Rattle.rm_tool.specs.Run.{StepOf, TellWithin}
+use Rattle.rm_tool.specs.Serving.{IsPast, IsServed, IsCut, untouched, stopped, inside, IsCutShort, RunSteps, RunStops, StatementSteps}
+use Rattle.rm_tool.proofs.Blocks.{block-leaves}
 use Rattle.rm_tool.proofs.Runs.{answers_from}
 
 pub ok-map : {A E : Type 0} (P Q : A → Type 0) → ((a : A) → P a → Q a) → (r : Result A E) → IfOk r P → IfOk r Q
@@ -45,51 +49,82 @@ stays : (o : Option Answers) → Both (IsPast None) o o
 stays None = refl
 stays (Some coming) = λ i. refl
 
-passes : (c : Command) (before after : Option Answers) → Both IsLater before after → Both (IsPast (Some c)) before after
-passes c None after h = h
-passes c (Some b) None h = absurd h
-passes c (Some b) (Some a) h = λ i. h i ∙ ap b (next i)
+passes : (s : Statement) (before after : Option Answers) → Both IsLater before after → Both (IsPast (Some s)) before after
+passes s None after h = h
+passes s (Some b) None h = absurd h
+passes s (Some b) (Some a) h = λ i. h i ∙ ap b (next i)
   where
     next : (i : ℕ) → i + 1 ≡ suc i
     next i = omega arith
 
 module _ {held : Option Held} {kept : Option (List Record)} {v : View} {clock : Option Answers} {s : ℕ × List Token} where
   -- a statement that is none is refused, and the clock is not asked
-  pub served-refused : {reply : Reply} → command_at s.1 ≡ None → reply ≡ refused_by (Rm01 s.0) → IsServed held kept v clock s reply held kept v clock
+  pub served-refused : {reply : Reply} → statement_built_at s.1 ≡ None → reply ≡ refused_by (Rm01 s.0) → IsServed held kept v clock s reply held kept v clock
   served-refused {reply = reply} none is =
       record {
         answer = answers_from clock 0;
         next = next-from clock;
-        past = subst (λ (o : Option Command). Both (IsPast o) clock clock) (sym none) (stays clock);
-        steps = λ m stands holds tell. (m, subst (λ (o : Option Command). StepOf o m s.0 (answers_from clock 0) reply m) (sym none) (is, refl), stands, holds);
-        applied = subst (λ (o : Option Command). v.applied ≡ (v.applied || option_map_or (λ c. applies c reply) o false)) (sym none) (sym (or-false v.applied));
+        past = subst (λ (o : Option Statement). Both (IsPast o) clock clock) (sym none) (stays clock);
+        steps = λ m stands holds tell.
+            (m, false, subst (λ (o : Option Statement). StepOf o m s.0 (answers_from clock 0) reply false m) (sym none) (is, refl, refl), stands, holds, sym (or-false v.applied));
       }
 
   -- nothing was done
   pub cut-before : IsCutShort held kept v clock s held kept
   cut-before = record { answer = answers_from clock 0; next = next-from clock; cut = λ m stands holds tell. untouched (rests held kept m holds) }
 
-  -- A command is a step of the site at the clock's answer, or the site stopped it.
-  module _ {c : Command} {held' : Option Held} {kept' : Option (List Record)} (answer : ℕ) (some : command_at s.1 ≡ Some c) (next : IfSome clock (λ coming. answer ≡ coming 0)) where
-    pub served-step : {v' : View} {clock' : Option Answers} (reply : Reply) → Both IsLater clock clock' → Steps held kept v c answer reply held' kept' v' → v'.applied ≡ (v.applied || applies c reply) → IsServed held kept v clock s reply held' kept' v' clock'
-    served-step {v' = v'} {clock' = clock'} reply later steps applied =
+  -- One that is asked of the clock is a step or more of the site, or the site stopped it.
+  module _ {held' : Option Held} {kept' : Option (List Record)} (answer : ℕ) (next : IfSome clock (λ coming. answer ≡ coming 0)) where
+    served-so : {x : Statement} → statement_built_at s.1 ≡ Some x → {v' : View} {clock' : Option Answers} (reply : Reply) → Both IsLater clock clock' → StatementSteps held kept v s answer reply held' kept' v' → IsServed held kept v clock s reply held' kept' v' clock'
+    served-so {x = x} some {clock' = clock'} reply later steps =
         record {
           answer = answer;
           next = next;
-          past = subst (λ (o : Option Command). Both (IsPast o) clock clock') (sym some) (passes c clock clock' later);
-          steps = λ m stands holds tell. let n = steps m stands holds tell in (n.0, subst (λ (o : Option Command). StepOf o m s.0 answer reply n.0) (sym some) n.1, n.2, n.3);
-          applied = subst (λ (o : Option Command). v'.applied ≡ (v.applied || option_map_or (λ x. applies x reply) o false)) (sym some) applied;
+          past = subst (λ (o : Option Statement). Both (IsPast o) clock clock') (sym some) (passes x clock clock' later);
+          steps = steps;
         }
 
-    pub cut-step : Stops held kept v c answer held' kept' → IsCutShort held kept v clock s held' kept'
-    cut-step stops = record { answer = answer; next = next; cut = λ m stands holds tell. let left = stops m stands holds tell in stopped c left.0 some left.1 left.2 }
+    -- a command
+    module _ {c : Command} (some : statement_built_at s.1 ≡ Some (Plain c)) where
+      pub served-step : {v' : View} {clock' : Option Answers} (reply : Reply) → Both IsLater clock clock' → Steps held kept v c answer reply held' kept' v' → v'.applied ≡ (v.applied || applies c reply) → IsServed held kept v clock s reply held' kept' v' clock'
+      served-step reply later steps applied =
+          served-so some reply later
+          (λ m stands holds tell.
+          let n = steps m stands holds (subst (λ (o : Option Statement). TellWithin o m answer) some tell) in
+          (n.0, applies c reply, subst (λ (o : Option Statement). StepOf o m s.0 answer reply (applies c reply) n.0) (sym some) (n.1, refl), n.2, n.3, applied))
 
-cut-by : (o : Option Command) (m n : Machine) (s : ℕ × List Token) (answer : ℕ) (reply : Reply) (held : Option Held) (kept : Option (List Record))
-    → command_at s.1 ≡ o → StepOf o m s.0 answer reply n → Holds held kept n → IsCut m s answer held kept
-cut-by None m n s answer reply held kept none step holds = untouched (subst (λ (x : Machine). HoldsRest held kept (at_rest x)) step.1 (rests held kept n holds))
-cut-by (Some c) m n s answer reply held kept some step holds =
+      pub cut-step : Stops held kept v c answer held' kept' → IsCutShort held kept v clock s held' kept'
+      cut-step stops =
+          record {
+            answer = answer;
+            next = next;
+            cut = λ m stands holds tell. let left = stops m stands holds (subst (λ (o : Option Statement). TellWithin o m answer) some tell) in stopped c left.0 some left.1 left.2;
+          }
+
+    -- a RUN
+    module _ {block : List Inner} (some : statement_built_at s.1 ≡ Some (Block block)) where
+      pub served-run : {v' : View} {clock' : Option Answers} (reply : Reply) → Both IsLater clock clock' → RunSteps held kept v block answer reply held' kept' v' → IsServed held kept v clock s reply held' kept' v' clock'
+      served-run reply later steps =
+          served-so some reply later
+          (λ m stands holds tell.
+          let n = steps m stands holds (subst (λ (o : Option Statement). TellWithin o m answer) some tell) in
+          (n.0, n.1, subst (λ (o : Option Statement). StepOf o m s.0 answer reply n.1 n.0) (sym some) n.2, n.3, n.4, n.5))
+
+      pub cut-run : RunStops held kept v block answer held' kept' → IsCutShort held kept v clock s held' kept'
+      cut-run stops =
+          record {
+            answer = answer;
+            next = next;
+            cut = λ m stands holds tell. let left = stops m stands holds (subst (λ (o : Option Statement). TellWithin o m answer) some tell) in inside block left.0 some left.1 left.2;
+          }
+
+cut-by : (o : Option Statement) (m n : Machine) (s : ℕ × List Token) (answer : ℕ) (reply : Reply) (applied : Bool) (held : Option Held) (kept : Option (List Record))
+    → statement_built_at s.1 ≡ o → StepOf o m s.0 answer reply applied n → Holds held kept n → IsCut m s answer held kept
+cut-by None m n s answer reply applied held kept none step holds = untouched (subst (λ (x : Machine). HoldsRest held kept (at_rest x)) step.2 (rests held kept n holds))
+cut-by (Some (Plain c)) m n s answer reply applied held kept some step holds =
     let left = ends-here held kept c n holds in
-    stopped c left.0 some (record { machine = n; one = inr (reply, step); left = left.1 }) left.2
+    stopped c left.0 some (record { machine = n; one = inr (reply, step.0); left = left.1 }) left.2
+cut-by (Some (Block block)) m n s answer reply applied held kept some steps holds = inside block (at_rest n) some (block-leaves unset m block answer reply applied n steps) (rests held kept n holds)
 
 -- the statement was served, and no word of its reply was written
 pub cut-served : {held held' : Option Held} {kept kept' : Option (List Record)} {v v' : View} {clock clock' : Option Answers} {s : ℕ × List Token} {reply : Reply}
@@ -98,5 +133,5 @@ cut-served {held' = held'} {kept' = kept'} {s = s} {reply = reply} served =
     record {
       answer = served.answer;
       next = served.next;
-      cut = λ m stands holds tell. let n = served.steps m stands holds tell in cut-by (command_at s.1) m n.0 s served.answer reply held' kept' refl n.1 n.3;
+      cut = λ m stands holds tell. let n = served.steps m stands holds tell in cut-by (statement_built_at s.1) m n.0 s served.answer reply n.1 held' kept' refl n.2 n.4;
     }

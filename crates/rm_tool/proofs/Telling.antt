@@ -1,9 +1,13 @@
 -- Digests tell along every run whose statements give no name of an object.
-use Rattle.std.proofs.Common.{◌≡◌, ◌∙◌, ℕ, List, [], ◌∷◌, ◌++◌, Option, Some, None, IfSome, zero, suc, Contains, ap, subst, take, refl}
-use Rattle.std.specs.Option.{option_map_or}
+use Rattle.std.proofs.Common.{◌≡◌, ◌∙◌, ℕ, List, [], ◌∷◌, ◌++◌, Option, Some, None, IfSome, Bool, true, false, MatchBool, Contains, ap, subst, refl}
+use Rattle.std.specs.List.{flat_map}
 use Rattle.rm_base.specs.Store.{Answers, Held}
 use Rattle.rm_base.proofs.Members.{none-in}
 use Rattle.rm_statement.specs.declared.command.Command.{Command}
+use Rattle.rm_statement.specs.declared.command.Inner.{Inner}
+use Rattle.rm_statement.specs.declared.command.Inner.TheVariants.{SetUntil, AllocateChannel, Plain as PlainInner}
+use Rattle.rm_statement.specs.declared.command.Statement.{Statement}
+use Rattle.rm_statement.specs.declared.command.Statement.TheVariants.{Plain, Run as Block}
 use Rattle.rm_report.specs.declared.line.Reply.{Reply}
 use Rattle.rm_token.specs.declared.token.Token.{Token}
 use Rattle.rm_machine.specs.Effect.{Outcome, refused, told, done}
@@ -14,8 +18,11 @@ use Rattle.rm_machine.specs.Step.{StepBy, StepIn, names_in}
 use Rattle.rm_machine.proofs.Agreeing.{untouched-tell}
 use Rattle.rm_frame.specs.Holds.{HoldsRest, nothing}
 use Rattle.rm_frame.specs.Moments.{moment_of}
-use Rattle.rm_tool.specs.Built.{command_at}
-use Rattle.rm_tool.specs.Run.{DigestsTellAlong, GiveNoName, Run, StepOf, past}
+use Rattle.rm_tool.specs.Block.{BlockSteps, InnerStep, TellInside, after_inner, unset, with_until}
+use Rattle.rm_tool.specs.Built.{statement_built_at}
+use Rattle.rm_tool.specs.Run.{DigestsTellAlong, GiveNoName, StepOf, TellWithin, names_given, names_of_inner, past}
+use Rattle.rm_tool.specs.declared.block.Settings.{Settings}
+use Rattle.rm_tool.proofs.Setting.{names_with}
 
 -- a step touches no name but those that its statement gives
 by-outcome : (m n : Machine) (c : Command) (o : Outcome) (r : Reply) → names_in c ≡ [] → m.touched ≡ [] → StepBy m c o r n → n.touched ≡ []
@@ -27,25 +34,59 @@ by-step : (o : Option State) (m n : Machine) (c : Command) (moment : ℕ) (r : R
 by-step None m n c moment r free none step = by-outcome m n c step.0 r free none step.2
 by-step (Some s) m n c moment r free none step = by-outcome m n c step.0 r free none step.2
 
-by-statement : (o : Option Command) (m n : Machine) (line clock : ℕ) (r : Reply) → option_map_or names_in o [] ≡ [] → m.touched ≡ [] → StepOf o m line clock r n → n.touched ≡ []
-by-statement None m n line clock r free none step = ap (λ (x : Machine). x.touched) step.1 ∙ none
-by-statement (Some c) m n line clock r free none step = by-step m.state m n c (moment_of m.state clock) r free none step
+by-inner : (x : Settings) (y : Inner) (m n : Machine) (clock : ℕ) (r : Reply) → names_of_inner y ≡ [] → m.touched ≡ [] → InnerStep x m y clock r n → n.touched ≡ []
+by-inner x (PlainInner c) m n clock r free none step = by-step m.state m n (with_until x.until c) (moment_of m.state clock) r (names_with x.until c ∙ free) none step
+by-inner x (SetUntil until) m n clock r free none step = ap (λ (o : Machine). o.touched) step.1 ∙ none
+by-inner x AllocateChannel m n clock r free none step = ap (λ (o : Machine). o.touched) step.1 ∙ none
 
--- and so does a run
-by-run : (ss : List (ℕ × List Token)) (rs : List Reply) (first last : Machine) (answers : Answers) → GiveNoName ss → first.touched ≡ [] → Run first answers ss rs last → last.touched ≡ []
-by-run [] [] first last answers free none run = ap (λ (x : Machine). x.touched) run ∙ none
-by-run [] (r ∷ rs) first last answers free none run = absurd run
-by-run (s ∷ ss) [] first last answers free none run = absurd run
-by-run (s ∷ ss) (r ∷ rs) first last answers free none run =
-    by-run ss rs run.0 last (past (command_at s.1) answers) free.1 (by-statement (command_at s.1) first run.0 s.0 (answers 0) r free.0 none run.1) run.2
+none-first : {A : Type 0} (xs ys : List A) → xs ++ ys ≡ [] → xs ≡ []
+none-first [] ys none = refl
+none-first (x ∷ xs) ys none = absurd (cc)
 
-first-ones : (k : ℕ) (ss : List (ℕ × List Token)) → GiveNoName ss → GiveNoName (take k ss)
-first-ones zero ss free = tt
-first-ones (suc k) [] free = tt
-first-ones (suc k) (s ∷ ss) free = (free.0, first-ones k ss free.1)
+none-behind : {A : Type 0} (xs ys : List A) → xs ++ ys ≡ [] → ys ≡ []
+none-behind [] ys none = none
+none-behind (x ∷ xs) ys none = absurd (cc)
+
+either : (b : Bool) (P Q R : Type 0) → (P → R) → (Q → R) → MatchBool b P Q → R
+either true P Q R f g p = f p
+either false P Q R f g q = g q
+
+-- and so does a RUN
+by-block : (x : Settings) (ys : List Inner) (m n : Machine) (clock : ℕ) (r : Reply) (applied : Bool) → flat_map names_of_inner ys ≡ [] → m.touched ≡ [] → BlockSteps x m ys clock r applied n → n.touched ≡ []
+by-block x [] m n clock r applied free none steps = ap (λ (o : Machine). o.touched) steps.2 ∙ none
+by-block x (y ∷ ys) m n clock r applied free none (first, mid, step, after) =
+    let names : List (List ℕ) = flat_map names_of_inner ys in
+    let here : mid.touched ≡ [] = by-inner x y m mid clock first (none-first (names_of_inner y) names free) none step in
+    either first.refused _ _ _ (λ ended. ap (λ (o : Machine). o.touched) ended.2 ∙ here)
+    (λ rest. by-block (after_inner x y) ys mid n clock rest.0 rest.1 (none-behind (names_of_inner y) names free) here rest.2) after
+
+by-statement : (o : Option Statement) (m n : Machine) (line clock : ℕ) (r : Reply) (applied : Bool) → names_given o ≡ [] → m.touched ≡ [] → StepOf o m line clock r applied n → n.touched ≡ []
+by-statement None m n line clock r applied free none step = ap (λ (x : Machine). x.touched) step.2 ∙ none
+by-statement (Some (Plain c)) m n line clock r applied free none step = by-step m.state m n c (moment_of m.state clock) r free none step.0
+by-statement (Some (Block block)) m n line clock r applied free none steps = by-block unset block m n clock r applied free none steps
+
+-- inside a RUN digests tell
+tell-inside : (x : Settings) (ys : List Inner) (m : Machine) (clock : ℕ) → flat_map names_of_inner ys ≡ [] → m.touched ≡ [] → TellInside x m ys clock
+tell-inside x [] m clock free none = tt
+tell-inside x (y ∷ ys) m clock free none =
+    let names : List (List ℕ) = flat_map names_of_inner ys in (
+      untouched-tell m none,
+      λ r n step accepted. tell-inside (after_inner x y) ys n clock (none-behind (names_of_inner y) names free) (by-inner x y m n clock r (none-first (names_of_inner y) names free) none step),
+    )
+
+tell-within : (o : Option Statement) (m : Machine) (clock : ℕ) → names_given o ≡ [] → m.touched ≡ [] → TellWithin o m clock
+tell-within None m clock free none = tt
+tell-within (Some (Plain c)) m clock free none = untouched-tell m none
+tell-within (Some (Block block)) m clock free none = tell-inside unset block m clock free none
 
 pub tell-along : (first : Machine) → first.touched ≡ [] → (answers : Answers) (ss : List (ℕ × List Token)) (replies : List Reply) → GiveNoName ss → DigestsTellAlong first answers ss replies
-tell-along first none answers ss replies free k m run = untouched-tell m (by-run (take k ss) (take k replies) first m answers (first-ones k ss free) none run)
+tell-along first none answers [] replies free = tt
+tell-along first none answers (s ∷ ss) [] free = tell-within (statement_built_at s.1) first (answers 0) free.0 none
+tell-along first none answers (s ∷ ss) (r ∷ rs) free =
+    let o : Option Statement = statement_built_at s.1 in (
+      tell-within o first (answers 0) free.0 none,
+      λ applied m step. tell-along m (by-statement o first m s.0 (answers 0) r applied free.0 none step) (past o answers) ss rs free.1,
+    )
 
 -- the machine that wakes before the first statement ever is one of which no name was touched
 pub untouched-first : (objects : Held) (first : Machine) → Wakes (nothing objects) first → first.touched ≡ []

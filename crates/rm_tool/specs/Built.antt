@@ -1,18 +1,30 @@
--- The statements that the program answers by a step.
-use Rattle.std.specs.Prelude.{if◌then◌else◌, Option, Some, None, List}
-use Rattle.rm_statement.specs.declared.command.Command.{Command}
+-- The statements that the program answers by steps.
+use Rattle.std.specs.Prelude.{if◌then◌else◌, Option, Some, None, List, Bool, true}
+use Rattle.std.specs.List.{list_all}
+use Rattle.rm_statement.specs.declared.command.Command.TheVariants.{Recover}
+use Rattle.rm_statement.specs.declared.command.Inner.{Inner}
+use Rattle.rm_statement.specs.declared.command.Inner.TheVariants.{SetUntil, AllocateChannel, Plain as PlainInner}
 use Rattle.rm_statement.specs.declared.command.Statement.{Statement}
 use Rattle.rm_statement.specs.declared.command.Statement.TheVariants.{Plain, Run}
 use Rattle.rm_command.specs.Language.{statement_at}
 use Rattle.rm_machine.specs.Built.{is_built}
 use Rattle.rm_token.specs.declared.token.Token.{Token}
 
--- the command of a statement that is built; a RUN is not
-abbrev pub built : Option Statement → Option Command
-built (Some (Plain c)) = if is_built c then Some c else None
-built (Some (Run inner)) = None
-built None = None
+-- a statement of a RUN; of one that sets an until, a recovery until there is built
+abbrev pub is_built_inner : Inner → Bool
+is_built_inner (PlainInner c) = is_built c
+is_built_inner (SetUntil until) = is_built (Recover (Some until))
+is_built_inner AllocateChannel = true
 
--- the command that the tokens are, where they are a statement of the grammar that is built
-unfoldable pub command_at : List Token → Option Command
-command_at ts = built (statement_at ts)
+-- a RUN is built where each of its statements is
+abbrev pub is_built_statement : Statement → Bool
+is_built_statement (Plain c) = is_built c
+is_built_statement (Run inner) = list_all is_built_inner inner
+
+abbrev pub if_built : Option Statement → Option Statement
+if_built (Some s) = if is_built_statement s then Some s else None
+if_built None = None
+
+-- the statement that the tokens are, where they are one of the grammar that is built
+unfoldable pub statement_built_at : List Token → Option Statement
+statement_built_at ts = if_built (statement_at ts)

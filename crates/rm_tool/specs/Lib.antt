@@ -1,3 +1,4 @@
+pub mod Block
 pub mod Built
 pub mod Ends
 pub mod Run

@@ -1,12 +1,15 @@
 -- The machine's run over the statements of a script, and the clock's answers to them.
-use Rattle.std.specs.Prelude.{ℕ, suc, ◌≡◌, ◌||◌, Bool, false, Option, Some, None, IfSome, List, [], ◌∷◌, take}
+use Rattle.std.specs.Prelude.{ℕ, suc, ◌≡◌, ◌||◌, Bool, false, Option, Some, None, IfSome, List, [], ◌∷◌}
 use Rattle.std.specs.List.{flat_map}
-use Rattle.std.specs.Option.{option_map_or}
 use Rattle.rm_base.specs.Store.{Answers}
 use Rattle.rm_base.specs.declared.refusal.Refusal.TheVariants.{Rm01}
 use Rattle.rm_token.specs.declared.token.Token.{Token}
-use Rattle.rm_statement.specs.declared.command.Command.{Command}
-use Rattle.rm_tool.specs.Built.{command_at}
+use Rattle.rm_statement.specs.declared.command.Inner.{Inner}
+use Rattle.rm_statement.specs.declared.command.Inner.TheVariants.{Plain as PlainInner}
+use Rattle.rm_statement.specs.declared.command.Statement.{Statement}
+use Rattle.rm_statement.specs.declared.command.Statement.TheVariants.{Plain, Run as Block}
+use Rattle.rm_tool.specs.Block.{BlockSteps, TellInside, unset}
+use Rattle.rm_tool.specs.Built.{statement_built_at}
 use Rattle.rm_report.specs.declared.line.Reply.{Reply}
 use Rattle.rm_report.specs.Reply.{refused_by}
 use Rattle.rm_report.specs.Text.{reply_text}
@@ -16,53 +19,74 @@ use Rattle.rm_frame.specs.Moments.{moment_of}
 use Rattle.rm_frame.specs.Saves.{applies}
 
 -- A statement of this line, where the clock answers so: one that is not of the grammar, or not built, is refused
--- and changes nothing, and each other one is a step of the machine at its moment.
-abbrev pub StepOf : Option Command → Machine → ℕ → ℕ → Reply → Machine → Type 0
-StepOf None old line clock reply new = (reply ≡ refused_by (Rm01 line)) × (new ≡ old)
-StepOf (Some c) old line clock reply new = Step old c (moment_of old.state clock) reply new
+-- and changes nothing, a command is a step of the machine at its moment, and a RUN is the steps of its statements. And
+-- whether a list of edits was applied for it.
+abbrev pub StepOf : Option Statement → Machine → ℕ → ℕ → Reply → Bool → Machine → Type 0
+StepOf None old line clock reply applied new = (reply ≡ refused_by (Rm01 line)) × (applied ≡ false) × (new ≡ old)
+StepOf (Some (Plain c)) old line clock reply applied new = Step old c (moment_of old.state clock) reply new × (applied ≡ applies c reply)
+StepOf (Some (Block inner)) old line clock reply applied new = BlockSteps unset old inner clock reply applied new
 
 -- a statement with the line of its first token
-abbrev pub StatementStep : Machine → ℕ × List Token → ℕ → Reply → Machine → Type 0
-StatementStep old s clock reply new = StepOf (command_at s.1) old s.0 clock reply new
+abbrev pub StatementStep : Machine → ℕ × List Token → ℕ → Reply → Bool → Machine → Type 0
+StatementStep old s clock reply applied new = StepOf (statement_built_at s.1) old s.0 clock reply applied new
 
--- the answers after a statement: a command uses one, and what is none uses none
-abbrev pub past : Option Command → Answers → Answers
+-- the answers after a statement: one of the grammar uses one, a RUN too, and what is none uses none
+abbrev pub past : Option Statement → Answers → Answers
 past None answers = answers
-past (Some c) answers = λ i. answers (suc i)
+past (Some s) answers = λ i. answers (suc i)
 
--- the machine gives these replies to these statements, one step after another, where the clock gives these answers
-abbrev pub Run : Machine → Answers → List (ℕ × List Token) → List Reply → Machine → Type 0
-Run old answers [] [] new = new ≡ old
-Run old answers (s ∷ ss) (r ∷ rs) new =
-    (mid : Machine) × StatementStep old s (answers 0) r mid × Run mid (past (command_at s.1) answers) ss rs new
-Run old answers [] (r ∷ rs) new = ⊥
-Run old answers (s ∷ ss) [] new = ⊥
+-- The machine gives these replies to these statements, one step after another, where the clock gives these answers. And
+-- whether a list of edits was applied for one of them.
+abbrev pub Run : Machine → Answers → List (ℕ × List Token) → List Reply → Bool → Machine → Type 0
+Run old answers [] [] applied new = (applied ≡ false) × (new ≡ old)
+Run old answers (s ∷ ss) (r ∷ rs) applied new =
+    (mid : Machine) × (here : Bool) × (more : Bool) × StatementStep old s (answers 0) r here mid × Run mid (past (statement_built_at s.1) answers) ss rs more new
+    × (applied ≡ (here || more))
+Run old answers [] (r ∷ rs) applied new = ⊥
+Run old answers (s ∷ ss) [] applied new = ⊥
 
--- Digests tell along a run: at each machine to which the first of these statements lead, where the clock gives
--- these answers and the machine these replies.
+-- digests tell at each machine from which the statement goes on: a command from the one before it, a RUN from those
+-- before its statements
+abbrev pub TellWithin : Option Statement → Machine → ℕ → Type 0
+TellWithin None m clock = Unit {0}
+TellWithin (Some (Plain c)) m clock = DigestsTell m
+TellWithin (Some (Block inner)) m clock = TellInside unset m inner clock
+
+-- Digests tell along a run: within each of these statements, from the machine to which those before it lead, where the clock
+-- gives these answers and the machine these replies. That is asked of the first statement without a reply too, which was cut
+-- short, and of none behind it.
 abbrev pub DigestsTellAlong : Machine → Answers → List (ℕ × List Token) → List Reply → Type 0
-DigestsTellAlong first answers ss replies = (k : ℕ) (m : Machine) → Run first answers (take k ss) (take k replies) m → DigestsTell m
+DigestsTellAlong first answers [] replies = Unit {0}
+DigestsTellAlong first answers (s ∷ ss) [] = TellWithin (statement_built_at s.1) first (answers 0)
+DigestsTellAlong first answers (s ∷ ss) (r ∷ rs) =
+    TellWithin (statement_built_at s.1) first (answers 0)
+    × ((applied : Bool) (m : Machine) → StatementStep first s (answers 0) r applied m → DigestsTellAlong m (past (statement_built_at s.1) answers) ss rs)
+
+-- the names of objects that a statement gives
+abbrev pub names_of_inner : Inner → List (List ℕ)
+names_of_inner (PlainInner c) = names_in c
+names_of_inner _ = []
+
+abbrev pub names_given : Option Statement → List (List ℕ)
+names_given None = []
+names_given (Some (Plain c)) = names_in c
+names_given (Some (Block inner)) = flat_map names_of_inner inner
 
 -- none of these statements gives a name of an object
 abbrev pub GiveNoName : List (ℕ × List Token) → Type 0
 GiveNoName [] = Unit {0}
-GiveNoName (s ∷ ss) = (option_map_or names_in (command_at s.1) [] ≡ []) × GiveNoName ss
+GiveNoName (s ∷ ss) = (names_given (statement_built_at s.1) ≡ []) × GiveNoName ss
 
 -- Where digests tell along it, the machine has a run over these statements with these replies, and this is so of the
--- machine at its end.
-abbrev pub RunsWhereTold : Machine → Answers → List (ℕ × List Token) → List Reply → (Machine → Type 0) → Type 0
-RunsWhereTold first answers ss replies Is = DigestsTellAlong first answers ss replies → (last : Machine) × Run first answers ss replies last × Is last
-
--- a list of edits was applied for one of these statements
-abbrev pub has_applied : List (ℕ × List Token) → List Reply → Bool
-has_applied [] rs = false
-has_applied (s ∷ ss) [] = false
-has_applied (s ∷ ss) (r ∷ rs) = option_map_or (λ c. applies c r) (command_at s.1) false || has_applied ss rs
+-- machine at its end, and of whether a list of edits was applied.
+abbrev pub RunsWhereTold : Machine → Answers → List (ℕ × List Token) → List Reply → (Bool → Machine → Type 0) → Type 0
+RunsWhereTold first answers ss replies Is =
+    DigestsTellAlong first answers ss replies → (last : Machine) × (applied : Bool) × Run first answers ss replies applied last × Is applied last
 
 -- the answers behind those that these statements use
 abbrev pub behind : List (ℕ × List Token) → Answers → Answers
 behind [] answers = answers
-behind (s ∷ ss) answers = behind ss (past (command_at s.1) answers)
+behind (s ∷ ss) answers = behind ss (past (statement_built_at s.1) answers)
 
 -- where the clock tells its answers to come, they are these
 abbrev pub AreToCome : Option Answers → Answers → Type 0

@@ -1,26 +1,30 @@
 -- What serving the statements of a script leaves.
-use Rattle.std.specs.Prelude.{ℕ, ◌≡◌, ◌≤◌, ◌⊎◌, ◌||◌, Bool, false, Option, Some, IfSome, List, [], slice_get, take, length}
+use Rattle.std.specs.Prelude.{ℕ, ◌≡◌, ◌≤◌, ◌⊎◌, ◌||◌, Bool, Option, Some, IfSome, List, [], slice_get, take, length}
 use Rattle.std.specs.List.{list_any}
-use Rattle.std.specs.Option.{option_map_or}
 use Rattle.rm_base.specs.Outside.{Appends}
 use Rattle.rm_base.specs.Store.{Held, Answers, Both}
 use Rattle.rm_catalog.specs.declared.record.Record.{Record}
 use Rattle.rm_change.specs.declared.change.Stop.{Stop}
 use Rattle.rm_change.specs.declared.change.Stop.TheVariants as stop
 use Rattle.rm_statement.specs.declared.command.Command.{Command}
-use Rattle.rm_tool.specs.Built.{command_at}
+use Rattle.rm_statement.specs.declared.command.Inner.{Inner}
+use Rattle.rm_statement.specs.declared.command.Statement.{Statement}
+use Rattle.rm_statement.specs.declared.command.Statement.TheVariants.{Plain, Run as Block}
+use Rattle.rm_tool.specs.Block.{BlockLeaves, BlockSteps, InnerLeaves, InnerStep, TellInside, unset}
+use Rattle.rm_tool.specs.Built.{statement_built_at}
+use Rattle.rm_tool.specs.declared.block.Settings.{Settings}
 use Rattle.rm_token.specs.declared.token.Token.{Token}
 use Rattle.rm_report.specs.declared.line.Reply.{Reply}
 use Rattle.rm_machine.specs.Machine.{Machine, DigestsTell}
 use Rattle.rm_machine.specs.Rest.{Rest, at_rest}
 use Rattle.rm_frame.specs.Holds.{Holds, HoldsRest, Stands, View}
 use Rattle.rm_frame.specs.Moments.{moment_of}
-use Rattle.rm_frame.specs.Saves.{IsEnded, applies}
+use Rattle.rm_frame.specs.Saves.{IsEnded}
 use Rattle.rm_frame.specs.Stopped.{IsLeft, Stopped}
 use Rattle.rm_tool.specs.declared.session.Halt.{Halt}
 use Rattle.rm_tool.specs.declared.session.Halt.TheVariants as halt
 use Rattle.rm_tool.specs.Ends.{WritesFront}
-use Rattle.rm_tool.specs.Run.{StatementStep, RunsWhereTold, past, behind, has_applied, AreToCome, replies_text}
+use Rattle.rm_tool.specs.Run.{StatementStep, Run, RunsWhereTold, DigestsTellAlong, TellWithin, past, behind, AreToCome, replies_text}
 
 -- what ends a session where the site was stopped
 abbrev pub halt_of : Stop → Halt
@@ -28,36 +32,58 @@ halt_of stop.StoreFault = halt.Store
 halt_of stop.KeeperFault = halt.Keeper
 halt_of stop.NoMemory = halt.NoMemory
 
--- the clock was asked once for a command, and not for what is none
-abbrev pub IsPast : Option Command → Answers → Answers → Type 0
-IsPast c before after = (i : ℕ) → after i ≡ past c before i
+-- Whatever machine the site stands for: where digests tell, the step of a RUN's statement is that machine's, and the site
+-- stands for the one after it.
+abbrev pub InnerSteps : Option Held → Option (List Record) → View → Settings → Inner → ℕ → Reply → Option Held → Option (List Record) → View → Type 0
+InnerSteps held kept v x y clock reply held' kept' v' =
+    (m : Machine) → Stands v m → Holds held kept m → DigestsTell m
+    → (n : Machine) × InnerStep x m y clock reply n × Stands v' n × Holds held' kept' n
+
+-- and where it was cut short, this is left of that machine
+abbrev pub InnerStops : Option Held → Option (List Record) → View → Settings → Inner → ℕ → Option Held → Option (List Record) → Type 0
+InnerStops held kept v x y clock held' kept' =
+    (m : Machine) → Stands v m → Holds held kept m → DigestsTell m → (r : Rest) × InnerLeaves x m y clock r × HoldsRest held' kept' r
+
+-- the same of a whole RUN; the site knows whether a list was applied
+abbrev pub RunSteps : Option Held → Option (List Record) → View → List Inner → ℕ → Reply → Option Held → Option (List Record) → View → Type 0
+RunSteps held kept v inner clock reply held' kept' v' =
+    (m : Machine) → Stands v m → Holds held kept m → TellInside unset m inner clock
+    → (n : Machine) × (applied : Bool) × BlockSteps unset m inner clock reply applied n × Stands v' n × Holds held' kept' n × (v'.applied ≡ (v.applied || applied))
+
+abbrev pub RunStops : Option Held → Option (List Record) → View → List Inner → ℕ → Option Held → Option (List Record) → Type 0
+RunStops held kept v inner clock held' kept' =
+    (m : Machine) → Stands v m → Holds held kept m → TellInside unset m inner clock → (r : Rest) × BlockLeaves unset m inner clock r × HoldsRest held' kept' r
+
+-- the clock was asked once for a statement, and not for what is none
+abbrev pub IsPast : Option Statement → Answers → Answers → Type 0
+IsPast s before after = (i : ℕ) → after i ≡ past s before i
 
 -- Whatever machine the site stands for: where digests tell, the step is that machine's, where the clock answered
--- so, and the site stands for the one after it.
+-- so, and the site stands for the one after it, and knows whether a list was applied.
 abbrev pub StatementSteps : Option Held → Option (List Record) → View → ℕ × List Token → ℕ → Reply → Option Held → Option (List Record) → View → Type 0
 StatementSteps held kept v s clock reply held' kept' v' =
-    (m : Machine) → Stands v m → Holds held kept m → DigestsTell m
-    → (n : Machine) × StatementStep m s clock reply n × Stands v' n × Holds held' kept' n
+    (m : Machine) → Stands v m → Holds held kept m → TellWithin (statement_built_at s.1) m clock
+    → (n : Machine) × (applied : Bool) × StatementStep m s clock reply applied n × Stands v' n × Holds held' kept' n × (v'.applied ≡ (v.applied || applied))
 
--- a step of the machine at the clock's next answer; and whether a list was applied
+-- a step of the machine at the clock's next answer
 pub record IsServed (held : Option Held) (kept : Option (List Record)) (v : View) (clock : Option Answers) (s : ℕ × List Token) (reply : Reply) (held' : Option Held) (kept' : Option (List Record)) (v' : View) (clock' : Option Answers) : Type 0 where
   pub answer : ℕ
   pub next : IfSome clock (λ coming. answer ≡ coming 0)
-  pub past : Both (IsPast (command_at s.1)) clock clock'
+  pub past : Both (IsPast (statement_built_at s.1)) clock clock'
   pub steps : StatementSteps held kept v s answer reply held' kept' v'
-  pub applied : v'.applied ≡ (v.applied || option_map_or (λ c. applies c reply) (command_at s.1) false)
 
 -- What is left of the machine where a statement was cut short: it is held at rest as it was, or what a stop of the
--- command leaves is held, where the clock answered so.
+-- command leaves is held, where the clock answered so, or what is left of a RUN.
 pub data IsCut (m : Machine) (s : ℕ × List Token) (answer : ℕ) (held : Option Held) (kept : Option (List Record)) : Type 0 where
   untouched : HoldsRest held kept (at_rest m) → IsCut m s answer held kept
-  stopped : (c : Command) (r : Rest) → command_at s.1 ≡ Some c → Stopped m c (moment_of m.state answer) r → HoldsRest held kept r → IsCut m s answer held kept
+  stopped : (c : Command) (r : Rest) → statement_built_at s.1 ≡ Some (Plain c) → Stopped m c (moment_of m.state answer) r → HoldsRest held kept r → IsCut m s answer held kept
+  inside : (inner : List Inner) (r : Rest) → statement_built_at s.1 ≡ Some (Block inner) → BlockLeaves unset m inner answer r → HoldsRest held kept r → IsCut m s answer held kept
 
 -- the statement was cut short, whatever machine the site stands for, where digests tell
 pub record IsCutShort (held : Option Held) (kept : Option (List Record)) (v : View) (clock : Option Answers) (s : ℕ × List Token) (held' : Option Held) (kept' : Option (List Record)) : Type 0 where
   pub answer : ℕ
   pub next : IfSome clock (λ coming. answer ≡ coming 0)
-  pub cut : (m : Machine) → Stands v m → Holds held kept m → DigestsTell m → IsCut m s answer held' kept'
+  pub cut : (m : Machine) → Stands v m → Holds held kept m → TellWithin (statement_built_at s.1) m answer → IsCut m s answer held' kept'
 
 -- whatever machine the site stands for, this is so of it
 abbrev pub FromEach : Option Held → Option (List Record) → View → (Machine → Type 0) → Type 0
@@ -72,8 +98,7 @@ pub record Serves (clock : Option Answers) (before now : Option (List ℕ)) (hel
   pub many : length replies ≡ length ss
   pub written : Appends before now (replies_text replies)
   pub some : refused ≡ list_any (λ r. r.refused) replies
-  pub applied : v'.applied ≡ (v.applied || has_applied ss replies)
-  pub run : RunsWhereTold first answers ss replies (λ m. Stands v' m × Holds held kept m)
+  pub run : RunsWhereTold first answers ss replies (λ applied m. Stands v' m × Holds held kept m × (v'.applied ≡ (v.applied || applied)))
 
 -- The same, and then the session ended: its site was saved, where a list was applied. The store and the keeper hold what is
 -- at rest then.
@@ -84,7 +109,7 @@ pub record Closes (clock : Option Answers) (before now : Option (List ℕ)) (hel
   pub many : length replies ≡ length ss
   pub written : Appends before now (replies_text replies)
   pub some : refused ≡ list_any (λ r. r.refused) replies
-  pub run : RunsWhereTold first answers ss replies (λ m. (r : Rest) × IsEnded (has_applied ss replies) m r × HoldsRest held kept r)
+  pub run : RunsWhereTold first answers ss replies (λ applied m. (r : Rest) × IsEnded applied m r × HoldsRest held kept r)
 
 -- The replies to the first statements were written, and nothing else. They are those of a run from the machine
 -- `first` on. The statement after them was cut short, and the store and the keeper hold what is left.
@@ -95,7 +120,8 @@ pub record EndsAtStatement (clock : Option Answers) (before now : Option (List �
   pub written : Appends before now (replies_text replies)
   pub statement : ℕ × List Token
   pub next : slice_get ss (length replies) ≡ Some statement
-  pub run : RunsWhereTold first answers (take (length replies) ss) replies (λ m. IsCut m statement (behind (take (length replies) ss) answers 0) held kept)
+  pub run : DigestsTellAlong first answers ss replies
+      → (last : Machine) × (applied : Bool) × Run first answers (take (length replies) ss) replies applied last × IsCut last statement (behind (take (length replies) ss) answers 0) held kept
 
 -- All replies were written, those of a run from the machine `first` on, and the save after it was stopped: nothing of it is
 -- recorded, or all of it. The store and the keeper hold what is left.
@@ -105,7 +131,7 @@ pub record EndsAtSaving (clock : Option Answers) (before now : Option (List ℕ)
   pub replies : List Reply
   pub many : length replies ≡ length ss
   pub written : Appends before now (replies_text replies)
-  pub run : RunsWhereTold first answers ss replies (λ m. (r : Rest) × (IsLeft [] m r ⊎ IsEnded (has_applied ss replies) m r) × HoldsRest held kept r)
+  pub run : RunsWhereTold first answers ss replies (λ applied m. (r : Rest) × (IsLeft [] m r ⊎ IsEnded applied m r) × HoldsRest held kept r)
 
 -- the session ended at a statement, or at its save
 pub data EndsMidway (clock : Option Answers) (before now : Option (List ℕ)) (held : Option Held) (kept : Option (List Record)) (ss : List (ℕ × List Token)) (first : Machine) : Type 0 where
@@ -120,4 +146,4 @@ pub record EndsInReplies (clock : Option Answers) (before now : Option (List ℕ
   pub replies : List Reply
   pub many : length replies ≤ length ss
   pub written : WritesFront before now (replies_text replies)
-  pub run : RunsWhereTold first answers (take (length replies) ss) replies (λ m. HoldsRest held kept (at_rest m))
+  pub run : RunsWhereTold first answers (take (length replies) ss) replies (λ applied m. HoldsRest held kept (at_rest m))

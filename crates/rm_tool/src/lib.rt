@@ -2,6 +2,7 @@
 #![tactic(auto)]
 
 mod adapters;
+mod block;
 mod built;
 mod ends;
 pub mod laws;
@@ -10,6 +11,7 @@ pub mod run;
 mod session;
 #[cfg(test)]
 mod tests;
+mod untils;
 #[cfg(test)]
 mod whole_runs;
 mod words;

@@ -5,11 +5,13 @@ ghost use Rattle.rm_change.specs.declared.change.Stop.TheVariants.{StoreFault, K
 ghost use Rattle.rm_report.specs.Reply.{HasDates};
 ghost use Rattle.rm_tool.specs.Serving.{IsServed, IsCutShort, FromEach, Serves, Closes, EndsAtStatement, EndsInReplies, EndsMidway};
 
-use crate::built::command_of;
+use crate::block::serve_block;
+use crate::built::built_statement;
 use crate::ends::write_all;
 use rm_base::{Clock, Failed, NoMemory, Refusal, Seq, Sink, Store};
 use rm_catalog::Keeper;
 use rm_change::Stop;
+use rm_lang::Statement;
 use rm_machine::refusal_reply;
 use rm_report::{Reply, bytes_of};
 use rm_site::Site;
@@ -59,7 +61,7 @@ impl From<Failed> for Halt {
     }
 }
 
-// One statement: a step of the machine at the clock's next answer, or the refusal of one that is not
+// One statement: a step of the machine at the clock's next answer, or those of a RUN, or the refusal of one that is not
 // of the grammar or not built, for which the clock is not asked.
 fn serve<D: Store, C: Keeper, T: Clock>(
     alloc: Global,
@@ -80,11 +82,14 @@ fn serve<D: Store, C: Keeper, T: Clock>(
     ensures store_never_falls { D.faults store.old ≤ D.faults store.new }
     ensures keeper_never_falls { C.faults keeper.old ≤ C.faults keeper.new }
 {
-    let Some(command) = command_of(alloc, tokens)? else {
+    let Some(statement) = built_statement(alloc, tokens)? else {
         return Ok(refusal_reply(alloc, Refusal::Rm01 { line })?);
     };
     let answer = clock.now();
-    site.step(store, keeper, &command, answer)
+    match statement {
+        Statement::Plain(command) => site.step(store, keeper, &command, answer),
+        Statement::Run(block) => serve_block(alloc, site, store, keeper, block, answer),
+    }
 }
 
 // All statements over a live site, each reply written before the next statement. Answers whether one was refused.

@@ -1,0 +1,41 @@
+use Rattle.std.proofs.Common.{◌∙◌, ap, arith, length, sym}
+use Rattle.rm_statement.specs.IsCommand.{is_inner}
+use Rattle.rm_tool.specs.Built.{is_built_inner}
+use Rattle.rm_tool.proofs.Blocks.{inside-done, inside-more, inside-refused, inside-all, others-pass, dates-added}
+use Rattle.rm_tool.proofs.Statements.{on-err}
+use Rattle.rm_tool.proofs.block.serve_block.Goals as goal
+
+pub returns-in_err-add_lines-clause-stopped : goal.returns-in_err-add_lines-clause-stopped
+returns-in_err-add_lines-clause-stopped g c =
+    on-err _ c.from_residual-in_err-add_lines.result
+    (λ m stands holds tells. inside-done (c.loop-inner.invariant.inside m stands holds tells) c.in-Some.ensures.steps.0 c.serve_inner.new.site c.in_ok-reply.reply c.in_ok-reply.ensures.steps)
+
+pub returns-then-reply-clause-steps : goal.returns-then-reply-clause-steps
+returns-then-reply-clause-steps g c = λ m stands holds tells.
+    let done = c.in_ok-reply.ensures in
+    inside-refused (c.loop-inner.invariant.inside m stands holds tells) c.in-Some.ensures.steps.0 c.serve_inner.new.site c.in_ok-reply.reply done.steps
+    c.add_lines.new.lines c.in_ok-add_lines.ensures done.applied c.if-reply.true
+
+pub returns-then-reply-clause-dates : goal.returns-then-reply-clause-dates
+returns-then-reply-clause-dates g c =
+    dates-added c.loop-inner.lines c.in_ok-reply.reply.lines c.add_lines.new.lines c.in_ok-add_lines.ensures c.loop-inner.invariant.dates c.in_ok-reply.ensures.dates
+
+pub loop-inner-preserved : goal.loop-inner-preserved
+loop-inner-preserved g c =
+    let done = c.in_ok-reply.ensures in
+    record {
+      inside = λ m stands holds tells.
+          inside-more (c.loop-inner.invariant.inside m stands holds tells) c.in-Some.ensures.steps.0 c.serve_inner.new.site c.in_ok-reply.reply done.steps
+          c.add_lines.new.lines c.in_ok-add_lines.ensures done.applied c.serve_inner.new.settings (done.after c.if-reply.false) c.if-reply.false;
+      live = done.live;
+      set = done.set;
+      grammar = others-pass is_inner _ _ c.in-Some.ensures.steps.0 c.loop-inner.invariant.grammar;
+      built = others-pass is_built_inner _ _ c.in-Some.ensures.steps.0 c.loop-inner.invariant.built;
+      count = let was = c.loop-inner.invariant.count in let gone = c.in-Some.ensures.steps.1 in let short = ap length c.in-Some.ensures.steps.0 in omega arith;
+      dates = dates-added c.loop-inner.lines c.in_ok-reply.reply.lines c.add_lines.new.lines c.in_ok-add_lines.ensures c.loop-inner.invariant.dates done.dates;
+      store = omega (arith, c.loop-inner.invariant.store, c.serve_inner.ensures.store_never_falls);
+      keeper = omega (arith, c.loop-inner.invariant.keeper, c.serve_inner.ensures.keeper_never_falls);
+    }
+
+pub returns-clause-steps : goal.returns-clause-steps
+returns-clause-steps g c = λ m stands holds tells. inside-all (c.loop-inner.invariant.inside m stands holds tells) (sym c.loop-inner.invariant.count ∙ c.in-None.ensures.steps.0)

@@ -1,0 +1,25 @@
+use Rattle.std.proofs.Common.{◌≡◌, ◌≤◌, All, IsTrue, true, length}
+use Rattle.std.specs.List.{list_all}
+use Rattle.std.specs.Vec.Iter.{into_iter_items, into_iter_len}
+use Rattle.rm_report.specs.Reply.{LineHasDate}
+use Rattle.rm_statement.specs.IsCommand.{is_inner}
+use Rattle.rm_tool.specs.Block.{AreSet}
+use Rattle.rm_tool.specs.Built.{is_built_inner}
+use Rattle.rm_tool.proofs.Blocks.{InsideEach}
+use Rattle.rm_tool.proofs.block.serve_block.Given as goal
+
+abbrev pub invariant-loop-inner : goal.invariant-loop-inner
+invariant-loop-inner g l =
+    let held = g.D.Store.held in
+    let kept = g.C.Keeper.kept in
+    record {
+      inside : InsideEach (held l.fn.store) (kept l.fn.keeper) l.fn.site (held l.store) (kept l.keeper) l.site l.settings l.fn.block (into_iter_items l.inner-iterator) l.fn.clock l.lines;
+      live : l.site.live ≡ true;
+      set : AreSet l.settings;
+      grammar : IsTrue (list_all is_inner (into_iter_items l.inner-iterator));
+      built : IsTrue (list_all is_built_inner (into_iter_items l.inner-iterator));
+      count : into_iter_len l.inner-iterator ≡ length (into_iter_items l.inner-iterator);
+      dates : All LineHasDate l.lines;
+      store : g.D.Store.faults l.fn.store ≤ g.D.Store.faults l.store;
+      keeper : g.C.Keeper.faults l.fn.keeper ≤ g.C.Keeper.faults l.keeper;
+    }

@@ -1,0 +1,31 @@
+use Rattle.std.proofs.Common.{◌≡◌, sym, subst, true}
+use Rattle.rm_machine.specs.Built.{is_built}
+use Rattle.rm_statement.specs.IsCommand.{is_command, is_inner}
+use Rattle.rm_statement.specs.declared.command.Command.{Command}
+use Rattle.rm_statement.specs.declared.command.Inner.{Inner}
+use Rattle.rm_tool.specs.Built.{is_built_inner}
+use Rattle.rm_tool.proofs.Blocks.{inner-untouched}
+use Rattle.rm_tool.proofs.Setting.{built_with, command_with}
+use Rattle.rm_tool.proofs.Statements.{on-err}
+use Rattle.rm_tool.proofs.block.serve_inner.Goals as goal
+
+pub returns-in_err-command-in-Plain-clause-stopped : goal.returns-in_err-command-in-Plain-clause-stopped
+returns-in_err-command-in-Plain-clause-stopped g c = on-err _ c.from_residual.result (inner-untouched c.args.site.now c.args.settings.now c.args.inner c.args.clock)
+
+pub step-requires-clause-command : goal.step-requires-clause-command
+step-requires-clause-command g c =
+    let own = subst (λ (y : Inner). is_inner y ≡ true) c.in-Plain.is c.requires.inner in
+    subst (λ (x : Command). is_command x ≡ true) (sym c.in_ok-command-in-Plain.ensures) (command_with c.args.settings.now.until c.in-Plain.command c.requires.set.until own)
+
+pub step-requires-clause-built : goal.step-requires-clause-built
+step-requires-clause-built g c =
+    let own = subst (λ (y : Inner). is_built_inner y ≡ true) c.in-Plain.is c.requires.built in
+    subst (λ (x : Command). is_built x ≡ true) (sym c.in_ok-command-in-Plain.ensures) (built_with c.args.settings.now.until c.in-Plain.command c.requires.set.built own)
+
+pub returns-in_err-set_reply-in-SetUntil-clause-stopped : goal.returns-in_err-set_reply-in-SetUntil-clause-stopped
+returns-in_err-set_reply-in-SetUntil-clause-stopped g c =
+    on-err _ c.from_residual-in_err-set_reply-in-SetUntil.result (inner-untouched c.args.site.now c.args.settings.now c.args.inner c.args.clock)
+
+pub returns-in_err-reply-in-AllocateChannel-clause-stopped : goal.returns-in_err-reply-in-AllocateChannel-clause-stopped
+returns-in_err-reply-in-AllocateChannel-clause-stopped g c =
+    on-err _ c.from_residual-in_err-reply-in-AllocateChannel.result (inner-untouched c.args.site.now c.args.settings.now c.args.inner c.args.clock)

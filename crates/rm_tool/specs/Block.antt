@@ -1,0 +1,101 @@
+-- A RUN: its statements, one after another, up to the first that is refused.
+use Rattle.std.specs.Prelude.{ℕ, ◌≡◌, ◌≤◌, ◌+◌, ◌++◌, ◌⊎◌, ◌||◌, nat_lt, if◌then◌else◌, MatchBool, is_some, Bool, true, false, Option, Some, None, List, [], ◌∷◌}
+use Rattle.std.specs.Option.{option_or}
+use Rattle.rm_base.specs.declared.refusal.Limit.TheVariants.{Channels}
+use Rattle.rm_base.specs.declared.refusal.Refusal.TheVariants.{Rm02, Rm11}
+use Rattle.rm_statement.specs.declared.command.Command.{Command}
+use Rattle.rm_statement.specs.declared.command.Command.TheVariants.{Restore, Preview, Recover, RecoverTest, RecoverCopy}
+use Rattle.rm_statement.specs.declared.command.Inner.{Inner}
+use Rattle.rm_statement.specs.declared.command.Inner.TheVariants.{SetUntil, AllocateChannel, Plain as PlainInner}
+use Rattle.rm_statement.specs.declared.command.Until.{Until}
+use Rattle.rm_statement.specs.IsCommand.{is_until_or_none}
+use Rattle.rm_report.specs.declared.line.Line.TheVariants.{UntilSet, ChannelAllocated}
+use Rattle.rm_report.specs.declared.line.Reply.{Reply}
+use Rattle.rm_report.specs.Reply.{said, refused_by}
+use Rattle.rm_machine.specs.Built.{is_built}
+use Rattle.rm_machine.specs.Machine.{Machine, DigestsTell}
+use Rattle.rm_machine.specs.Rest.{Rest, at_rest}
+use Rattle.rm_machine.specs.Step.{Step}
+use Rattle.rm_machine.specs.declared.state.State.{State}
+use Rattle.rm_frame.specs.Moments.{moment_of}
+use Rattle.rm_frame.specs.Saves.{applies}
+use Rattle.rm_frame.specs.Stopped.{Stopped}
+use Rattle.rm_tool.specs.declared.block.Settings.{Settings}
+
+-- at the start of a RUN nothing is set
+abbrev pub unset : Settings
+unset = record { until = None; channels = 0 }
+
+-- what a RUN may have set: an until of the grammar that is built, or none, and at most 16 channels
+pub record AreSet (x : Settings) : Type 0 where
+  pub until : is_until_or_none x.until ≡ true
+  pub built : is_built (Recover x.until) ≡ true
+  pub channels : x.channels ≤ 16
+
+-- the command with the until that is set, if it takes one and has none
+abbrev pub with_until : Option Until → Command → Command
+with_until set (Restore file until) = Restore file (option_or until set)
+with_until set (Preview until) = Preview (option_or until set)
+with_until set (Recover until) = Recover (option_or until set)
+with_until set (RecoverTest until inc) = RecoverTest (option_or until set) inc
+with_until set (RecoverCopy tag until) = RecoverCopy tag (option_or until set)
+with_until set c = c
+
+-- what is set behind a statement
+abbrev pub after_inner : Settings → Inner → Settings
+after_inner x (PlainInner c) = x
+after_inner x (SetUntil until) = record { until = Some until; channels = x.channels }
+after_inner x AllocateChannel = record { until = x.until; channels = x.channels + 1 }
+
+-- the reply to SET UNTIL
+abbrev pub set_reply : Option State → Reply
+set_reply o = if is_some o then said (UntilSet ∷ []) else refused_by Rm02
+
+-- the reply to ALLOCATE CHANNEL, where the RUN has so many channels
+abbrev pub channel_reply : Option State → ℕ → Reply
+channel_reply o channels = if is_some o then (if nat_lt channels 16 then said (ChannelAllocated ∷ []) else refused_by (Rm11 Channels)) else refused_by Rm02
+
+-- A statement of a RUN, where the clock gave this answer to the RUN: a command is a step of the machine, and no other one
+-- changes it.
+abbrev pub InnerStep : Settings → Machine → Inner → ℕ → Reply → Machine → Type 0
+InnerStep x m (PlainInner c) clock reply n = Step m (with_until x.until c) (moment_of m.state clock) reply n
+InnerStep x m (SetUntil until) clock reply n = (reply ≡ set_reply m.state) × (n ≡ m)
+InnerStep x m AllocateChannel clock reply n = (reply ≡ channel_reply m.state x.channels) × (n ≡ m)
+
+-- a list of edits was applied for it
+abbrev pub inner_applies : Settings → Inner → Reply → Bool
+inner_applies x (PlainInner c) reply = applies (with_until x.until c) reply
+inner_applies x _ reply = false
+
+-- the lines of one reply and then those of the last
+abbrev pub joined : Reply → Reply → Reply
+joined first last = record { lines = first.lines ++ last.lines; refused = last.refused }
+
+-- The statements of a RUN, one after another, up to the first that is refused: the reply to them all, whether a list of
+-- edits was applied, and the machine behind them.
+abbrev pub BlockSteps : Settings → Machine → List Inner → ℕ → Reply → Bool → Machine → Type 0
+BlockSteps x m [] clock reply applied n = (reply ≡ said []) × (applied ≡ false) × (n ≡ m)
+BlockSteps x m (y ∷ ys) clock reply applied n =
+    (first : Reply) × (mid : Machine) × InnerStep x m y clock first mid
+    × MatchBool first.refused
+    ((reply ≡ first) × (applied ≡ false) × (n ≡ mid))
+    ((rest : Reply) × (more : Bool) × BlockSteps (after_inner x y) mid ys clock rest more n × (reply ≡ joined first rest) × (applied ≡ (inner_applies x y first || more)))
+
+-- digests tell at each machine from which one of these statements goes on
+abbrev pub TellInside : Settings → Machine → List Inner → ℕ → Type 0
+TellInside x m [] clock = Unit {0}
+TellInside x m (y ∷ ys) clock =
+    DigestsTell m × ((reply : Reply) (n : Machine) → InnerStep x m y clock reply n → reply.refused ≡ false → TellInside (after_inner x y) n ys clock)
+
+-- what is left where a statement of a RUN was cut short: nothing of it was done, or a stop of the command leaves this
+abbrev pub InnerLeaves : Settings → Machine → Inner → ℕ → Rest → Type 0
+InnerLeaves x m (PlainInner c) clock r = (r ≡ at_rest m) ⊎ Stopped m (with_until x.until c) (moment_of m.state clock) r
+InnerLeaves x m _ clock r = r ≡ at_rest m
+
+-- What is left where a RUN was cut short: some of its statements were done, and the next one was cut short, or there was
+-- none.
+abbrev pub BlockLeaves : Settings → Machine → List Inner → ℕ → Rest → Type 0
+BlockLeaves x m [] clock r = r ≡ at_rest m
+BlockLeaves x m (y ∷ ys) clock r =
+    InnerLeaves x m y clock r
+    ⊎ ((first : Reply) × (mid : Machine) × InnerStep x m y clock first mid × MatchBool first.refused (r ≡ at_rest mid) (BlockLeaves (after_inner x y) mid ys clock r))

@@ -1,0 +1,165 @@
+//! A RUN over a site.
+ghost use Rattle.std.specs.Prelude.{◌≡◌, ◌≤◌, ◌++◌, ◌||◌, [], ◌∷◌, true, false, IfOk, IfSome, IsTrue, OnOk, OnErr, IsErrOf};
+ghost use Rattle.std.specs.List.{list_all};
+ghost use Rattle.rm_base.specs.Outside.{Rose};
+ghost use Rattle.rm_change.specs.declared.change.Stop.TheVariants.{StoreFault, KeeperFault};
+ghost use Rattle.rm_statement.specs.IsCommand.{is_inner};
+ghost use Rattle.rm_report.specs.Reply.{HasDates, said};
+ghost use Rattle.rm_tool.specs.Block.{AreSet, after_inner, channel_reply, inner_applies, set_reply};
+ghost use Rattle.rm_tool.specs.Built.{is_built_inner};
+ghost use Rattle.rm_tool.specs.Serving.{InnerSteps, InnerStops, RunSteps, RunStops};
+
+use crate::untils::with_until;
+use rm_base::{Limit, Moment, NoMemory, Refusal, Seq, Store};
+use rm_catalog::Keeper;
+use rm_change::Stop;
+use rm_lang::{Inner, Until};
+use rm_machine::refusal_reply;
+use rm_report::{Line, Reply};
+use rm_site::Site;
+use std::alloc::Global;
+
+/// What a RUN has set so far.
+#[derive(Drop)]
+pub struct Settings {
+    /// Of the later statements that take an until and have none.
+    pub until: Option<Until>,
+    /// How many were allocated.
+    pub channels: u64,
+}
+
+// The reply of one line.
+fn line_reply(alloc: Global, line: Line) -> Result<Reply, NoMemory>
+    ensures { IfOk result (λ reply. reply ≡ said (line ∷ [])) }
+{
+    let mut lines = Seq::new(alloc);
+    lines.push(line)?;
+    Ok(Reply {
+        lines,
+        refused: false,
+    })
+}
+
+// The reply to SET UNTIL.
+fn set_reply(alloc: Global, site: &Site) -> Result<Reply, NoMemory>
+    ensures { IfOk result (λ reply. reply ≡ set_reply site.now.state) }
+{
+    if site.has_database() {
+        line_reply(alloc, Line::UntilSet)
+    } else {
+        refusal_reply(alloc, Refusal::Rm02)
+    }
+}
+
+// The reply to ALLOCATE CHANNEL, where the RUN has so many channels.
+fn channel_reply(alloc: Global, site: &Site, channels: u64) -> Result<Reply, NoMemory>
+    ensures { IfOk result (λ reply. reply ≡ channel_reply site.now.state channels) }
+{
+    if !site.has_database() {
+        refusal_reply(alloc, Refusal::Rm02)
+    } else if channels < 16 {
+        line_reply(alloc, Line::ChannelAllocated)
+    } else {
+        refusal_reply(alloc, Refusal::Rm11(Limit::Channels))
+    }
+}
+
+// Adds the lines of a reply.
+fn add_lines(lines: &mut Seq<Line>, more: Seq<Line>) -> Result<(), NoMemory>
+    ensures { OnOk result (lines.new ≡ lines.old ++ more) }
+{
+    for line in more.into_vec() {
+        lines.push(line)?;
+    }
+    Ok(())
+}
+
+// One statement of a RUN. What it sets holds for those behind it, if it is not refused.
+fn serve_inner<D: Store, C: Keeper>(
+    alloc: Global,
+    site: &mut Site,
+    store: &mut D,
+    keeper: &mut C,
+    settings: &mut Settings,
+    inner: Inner,
+    clock: Moment,
+) -> Result<Reply, Stop>
+    requires live { site.old.live ≡ true }
+    requires inner { IsTrue (is_inner inner) }
+    requires built { IsTrue (is_built_inner inner) }
+    requires set { AreSet settings.old }
+    ensures live { OnOk result (site.new.live ≡ true) }
+    ensures set { OnOk result (AreSet settings.new) }
+    ensures steps { IfOk result (λ reply. InnerSteps (D.held store.old) (C.kept keeper.old) site.old settings.old inner clock reply (D.held store.new) (C.kept keeper.new) site.new) }
+    ensures applied { IfOk result (λ reply. site.new.applied ≡ (site.old.applied || inner_applies settings.old inner reply)) }
+    ensures after { IfOk result (λ reply. reply.refused ≡ false → settings.new ≡ after_inner settings.old inner) }
+    ensures stopped { OnErr result (InnerStops (D.held store.old) (C.kept keeper.old) site.old settings.old inner clock (D.held store.new) (C.kept keeper.new)) }
+    ensures dates { IfOk result HasDates }
+    ensures store { IsErrOf result StoreFault → Rose (D.faults store.old) (D.faults store.new) }
+    ensures keeper { IsErrOf result KeeperFault → Rose (C.faults keeper.old) (C.faults keeper.new) }
+    ensures store_never_falls { D.faults store.old ≤ D.faults store.new }
+    ensures keeper_never_falls { C.faults keeper.old ≤ C.faults keeper.new }
+{
+    match inner {
+        Inner::Plain(command) => {
+            let command = with_until(alloc, &settings.until, command)?;
+            site.step(store, keeper, &command, clock)
+        }
+        Inner::SetUntil(until) => {
+            settings.until = Some(until);
+            Ok(set_reply(alloc, site)?)
+        }
+        Inner::AllocateChannel => {
+            let reply = channel_reply(alloc, site, settings.channels)?;
+            if !reply.refused {
+                settings.channels += 1;
+            }
+            Ok(reply)
+        }
+    }
+}
+
+/// The statements of a RUN, in order, up to the first that is refused; all of them where the clock answered `clock`.
+///
+/// The reply has the lines of all, and is a refusal if the last is. An error is a stop at one of them, as of [`Site::step`]:
+/// those before it are done, and no reply is there.
+pub fn serve_block<D: Store, C: Keeper>(
+    alloc: Global,
+    site: &mut Site,
+    store: &mut D,
+    keeper: &mut C,
+    block: Seq<Inner>,
+    clock: Moment,
+) -> Result<Reply, Stop>
+    requires live { site.old.live ≡ true }
+    requires inner { IsTrue (list_all is_inner block) }
+    requires built { IsTrue (list_all is_built_inner block) }
+    ensures live { OnOk result (site.new.live ≡ true) }
+    ensures steps { IfOk result (λ reply. RunSteps (D.held store.old) (C.kept keeper.old) site.old block clock reply (D.held store.new) (C.kept keeper.new) site.new) }
+    ensures stopped { OnErr result (RunStops (D.held store.old) (C.kept keeper.old) site.old block clock (D.held store.new) (C.kept keeper.new)) }
+    ensures dates { IfOk result HasDates }
+    ensures store { IsErrOf result StoreFault → Rose (D.faults store.old) (D.faults store.new) }
+    ensures keeper { IsErrOf result KeeperFault → Rose (C.faults keeper.old) (C.faults keeper.new) }
+    ensures store_never_falls { D.faults store.old ≤ D.faults store.new }
+    ensures keeper_never_falls { C.faults keeper.old ≤ C.faults keeper.new }
+{
+    let mut settings = Settings {
+        until: None,
+        channels: 0,
+    };
+    let mut lines = Seq::new(alloc);
+    for inner in block.into_vec() {
+        let reply = serve_inner(alloc, site, store, keeper, &mut settings, inner, clock)?;
+        add_lines(&mut lines, reply.lines)?;
+        if reply.refused {
+            return Ok(Reply {
+                lines,
+                refused: true,
+            });
+        }
+    }
+    Ok(Reply {
+        lines,
+        refused: false,
+    })
+}
