@@ -13,6 +13,7 @@ use Rattle.rm_token.specs.declared.token.Token.{Token}
 use Rattle.rm_machine.specs.Effect.{Outcome, refused, told, done}
 use Rattle.rm_machine.specs.Machine.{Machine}
 use Rattle.rm_machine.specs.Rest.{PartsTell, Rest, Wakes}
+use Rattle.rm_machine.specs.State.{at_moment}
 use Rattle.rm_machine.specs.declared.state.State.{State}
 use Rattle.rm_machine.specs.Step.{StepBy, StepIn, names_in}
 use Rattle.rm_machine.proofs.Agreeing.{untouched-tell}
@@ -25,14 +26,14 @@ use Rattle.rm_tool.specs.declared.block.Settings.{Settings}
 use Rattle.rm_tool.proofs.Setting.{names_with}
 
 -- a step touches no name but those that its statement gives
-by-outcome : (m n : Machine) (c : Command) (o : Outcome) (r : Reply) → names_in c ≡ [] → m.touched ≡ [] → StepBy m c o r n → n.touched ≡ []
-by-outcome m n c (refused why) r free none step = ap (λ (x : Machine). x.touched) step.1 ∙ none
-by-outcome m n c (told lines) r free none step = ap (λ (x : Machine). x.touched) step.1 ∙ none
-by-outcome m n c (done lines effect t) r free none step = step.1.touched ∙ ap (λ (names : List (List ℕ)). names ++ m.touched) free ∙ none
+by-outcome : (o : Option State) (m n : Machine) (c : Command) (x : Outcome) (r : Reply) → names_in c ≡ [] → m.touched ≡ [] → StepBy o m c x r n → n.touched ≡ []
+by-outcome o m n c (refused why) r free none step = ap (λ (x : Machine). x.touched) step.1 ∙ none
+by-outcome o m n c (told lines) r free none step = ap (λ (x : Machine). x.touched) step.1 ∙ none
+by-outcome o m n c (done lines effect t) r free none step = step.1.touched ∙ ap (λ (names : List (List ℕ)). names ++ m.touched) free ∙ none
 
 by-step : (o : Option State) (m n : Machine) (c : Command) (moment : ℕ) (r : Reply) → names_in c ≡ [] → m.touched ≡ [] → StepIn o m c moment r n → n.touched ≡ []
-by-step None m n c moment r free none step = by-outcome m n c step.0 r free none step.2
-by-step (Some s) m n c moment r free none step = by-outcome m n c step.0 r free none step.2
+by-step None m n c moment r free none step = by-outcome None m n c step.0 r free none step.2
+by-step (Some s) m n c moment r free none step = by-outcome (Some (at_moment s moment)) m n c step.0 r free none step.2
 
 by-inner : (x : Settings) (y : Inner) (m n : Machine) (clock : ℕ) (r : Reply) → names_of_inner y ≡ [] → m.touched ≡ [] → InnerStep x m y clock r n → n.touched ≡ []
 by-inner x (PlainInner c) m n clock r free none step = by-step m.state m n (with_until x.until c) (moment_of m.state clock) r (names_with x.until c ∙ free) none step
