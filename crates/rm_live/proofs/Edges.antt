@@ -1,7 +1,7 @@
 -- The rule at the opening and at the close.
-use Rattle.std.proofs.Common.{Some, lt-ltb, ◌≡◌, ◌≢◌, ◌⊎◌, ℕ, zero, suc, ◌+◌, ◌%◌, ◌<◌, ◌≤◌, Bool, true, false, true≢false, List, [], ◌∷◌, ◌++◌, length, refl, sym, ap, ◌∙◌, subst, arith, inl, inr, append-nil, rules}
+use Rattle.std.proofs.Common.{Some, lt-ltb, ◌≡◌, ◌≢◌, ℕ, zero, suc, ◌<◌, false, List, [], ◌∷◌, ◌++◌, length, refl, sym, ap, ◌∙◌, subst, arith, inl, inr, append-nil}
 use mathlib.Core.Logic.{dite}
-use mathlib.Core.Option.{Option as Slot, some, none, some-ne-none, some-injective}
+use mathlib.Core.Option.{Option as Slot, some, some-ne-none, some-injective}
 use native.Mathlib.Decide.{ℕ_discrete}
 use lib.ListN.{get_elem?}
 use Rattle.atomic_table.specs.Table.{State, opening, Final, Seen}

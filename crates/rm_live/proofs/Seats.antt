@@ -1,6 +1,6 @@
 -- A seat is cut in two, two are made one, and the one learns what it was made of.
-use Rattle.std.proofs.Common.{take-append-drop, ◌≡◌, ◌≢◌, ◌⊎◌, ℕ, zero, suc, ◌+◌, ◌-◌, ◌/◌, ◌%◌, ◌<◌, ◌≤◌, Bool, true, false, List, [], ◌∷◌, ◌++◌, length, set, slice_index, nat_lt, if◌then◌else◌, take, drop, refl, sym, ap, ◌∙◌, subst, arith, length-append, length-take, length-drop, inl, inr, ⊎_elim, ltb-true, ltb-false}
-use mathlib.Core.Option.{Option as Slot, some, none, some-ne-none, some-injective}
+use Rattle.std.proofs.Common.{take-append-drop, ◌≡◌, ◌≢◌, ℕ, ◌+◌, ◌<◌, ◌≤◌, Bool, true, false, List, [], ◌∷◌, ◌++◌, length, set, nat_lt, if◌then◌else◌, take, drop, refl, sym, ap, ◌∙◌, subst, arith, length-append, length-take, length-drop, inl, inr, ⊎_elim, ltb-true, ltb-false}
+use mathlib.Core.Option.{Option as Slot, some, none}
 use lib.ListN.{get_elem?}
 use lib.Seq.{set-get_or}
 use Rattle.atomic_table.specs.Table.{step, keeps, Allows, Splits, Joins}
@@ -12,7 +12,7 @@ use Rattle.rm_live.specs.Parts.{Parts}
 use Rattle.rm_live.specs.History.{after, IsLegal, times, Foreign, Past}
 use Rattle.rm_live.specs.Ruled.{total, one_if, waiting, holding, Knows, SlotIs, Below, Ruled, half, keeps_half, gives_half, longer, merged, spent_view, met, Met}
 use Rattle.rm_live.proofs.Totals.{total_set, total_same, total_snoc, times_append, times_split, foreign_less, foreign_both, past_none, past_within}
-use Rattle.rm_live.proofs.Steps.{St, off, each_set, slot_same, apart_set}
+use Rattle.rm_live.proofs.Steps.{St, off, each_set, shares_of, slot_same, apart_set}
 
 slot_snoc : (o : Parts) (log : List Event) (homes : List (Slot Database)) (views : List View) (w : View) → SlotIs o log homes views → SlotIs o log homes (views ++ w ∷ [])
 slot_snoc o log homes views w (inl h) = inl h
@@ -231,6 +231,7 @@ meets slots id v c idle still some_number s r deep at fits =
         is = refl;
         legal = subst (λ (o : Parts). IsLegal o v.seen) (sym opened) (legal_front r.opening v.seen mine.past.0 (subst (IsLegal r.opening) mine.past.1 r.legal));
         below = subst (λ (n : ℕ). Below n v.seen) (sym (mine.passes_is some_number)) (below_front r.passes v.seen mine.past.0 (subst (Below r.passes) mine.past.1 r.below));
+        shares = shares_of s r id v at some_number;
         one = (past_within v.one.numbers v.numbers v.one.seen v.seen r.log mine.one mine.past mine.one_le).0;
         other = (past_within v.other.numbers v.numbers v.other.seen v.seen r.log mine.other mine.past mine.other_le).0;
       },

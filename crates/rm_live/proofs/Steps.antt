@@ -4,7 +4,7 @@ use mathlib.Core.Logic.{dite}
 use mathlib.Core.Option.{Option as Slot, some, none, some-ne-none, some-injective}
 use native.Mathlib.Decide.{ℕ_discrete}
 use lib.ListN.{get_elem?}
-use Rattle.atomic_table.specs.Table.{State, Me, step, keeps, takes, gives, stepped, Allows, Act, Step, Valid, carried_after, put_back, rest}
+use Rattle.atomic_table.specs.Table.{State, step, keeps, takes, gives, stepped, Allows, Act, Step, Valid, carried_after, put_back, rest}
 use Rattle.atomic_table.proofs.Lists.{at_set, set_again, one_turn, set_else}
 use Rattle.std.proofs.Math.Nat.{mod-add-mod}
 use lib.Seq.{set-get_or}
@@ -16,7 +16,7 @@ use Rattle.rm_live.specs.Parts.{IsSound, Parts, parts_of}
 use Rattle.rm_live.specs.History.{IsRight, after, IsLegal, fold_of, times, Past}
 use Rattle.rm_live.specs.declared.history.Call.{Call}
 use Rattle.rm_live.specs.Passes.{HasTurn, IsTurn, first_of, event_of}
-use Rattle.rm_live.specs.Ruled.{big, start, Looked, total, one_if, waiting, holding, once_below, Knows, SlotIs, Below, Ruled, Sat, drew, took, ended, Drew, Ended}
+use Rattle.rm_live.specs.Ruled.{big, start, Looked, total, one_if, waiting, holding, once_below, Knows, SlotIs, Below, AreShares, Ruled, Sat, drew, took, ended, Drew, Ended}
 use Rattle.rm_live.proofs.Sound.{after-sound}
 use Rattle.rm_live.proofs.Totals.{total_set, total_same, total_one, total_two, total_le, legal_snoc, fold_snoc, below_snoc, past_snoc, past_none, past_self, past_length}
 
@@ -126,6 +126,14 @@ draws slots id v c idle still some_number s r deep at fits =
       (t, k_is, refl),
     )
 
+-- a view's numbers are different, and each is below the number of passes
+pub shares_of : (s : St) (r : Ruled s) (id : ℕ) (v : View) → get_elem? s.views id ≡ some v → 0 < length v.numbers → AreShares v.numbers v.passes
+shares_of s r id v at some_number n =
+    let one = total_one (λ (x : View). times n x.numbers) s.views id v at in
+    let all = r.shares n in
+    let same = ap (once_below n) ((r.each id v at).passes_is some_number) in
+    omega arith
+
 looks_at : (s : St) (r : Ruled s) (slots id : ℕ) (v : View) (c : List (ℕ × Database)) → get_elem? s.views id ≡ some v → v.waits ≡ true → v.turn ≡ false → v.ticket ≡ length r.log
     → SlotIs r.opening r.log s.homes s.views → (k : ℕ) → k ≡ v.ticket % big → slice_index s.words 1 ≡ k
     → (w : View) × (a : Act Database) × Valid s.homes c a × Ruled (stepped s 1 k id c w a) × Looked (step slots 1 0 0 none) (v, c) k (w, carried_after c a)
@@ -184,6 +192,7 @@ looks_at s r slots id v c at waits still mine_next (inl h) k k_is found =
           fold = h.2 ∙ ap (λ (o : Parts). fold_of o r.log) (sym (mine.opening_is ticketed.2));
           past = mine.past;
           below = subst (λ (n : ℕ). Below n r.log) (sym (mine.passes_is ticketed.2)) r.below;
+          shares = shares_of s r id v at ticketed.2;
           sound = subst IsSound (sym h.2) r.sound;
         };
         miss = λ ne. absurd (ne k_is);
@@ -335,6 +344,7 @@ turned st m n p t r none_held is found look =
       fold = got.fold ∙ ap (λ (x : View). fold_of (start x.opening) got.seen) view;
       past = subst (λ (x : View). Past x.numbers x.seen got.seen) view got.past;
       below = subst (λ (x : View). Below x.passes got.seen) view got.below;
+      shares = subst (λ (x : View). AreShares x.numbers x.passes) view got.shares;
       sound = got.sound;
     }
 

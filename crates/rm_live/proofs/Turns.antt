@@ -10,7 +10,7 @@ use Rattle.rm_live.specs.declared.history.Event.{Event}
 use Rattle.rm_live.specs.declared.rule.View.{View}
 use Rattle.rm_live.specs.Parts.{Parts, IsSound, parts_of}
 use Rattle.rm_live.specs.History.{IsRight, after, fold_of, IsLegal}
-use Rattle.rm_live.specs.Ruled.{Sat, ended, Below, start}
+use Rattle.rm_live.specs.Ruled.{Sat, ended, AreShares, Below, start}
 use Rattle.rm_live.specs.Passes.{Standing, standing, HasTurn, IsLater, IsTurn, Adds, made, first_of}
 use Rattle.rm_live.proofs.Sound.{fold-found, fold-thread}
 use Rattle.rm_live.proofs.Totals.{legal_snoc, below_snoc}
@@ -40,6 +40,7 @@ pub record IsAdded (p q : Standing) (call : Call) (answer : Answer) : Type 0 whe
   pub stays : IsLater p q
   pub legal : IsLegal q.opening q.seen
   pub below : Below q.passes q.seen
+  pub numbers : AreShares q.numbers q.passes
   pub adds : Adds p call answer q.seen
 
 later-is : (p q : Standing) → q.home ≡ p.home → q.opening ≡ p.opening → q.passes ≡ p.passes → q.numbers ≡ p.numbers → IsLater p q
@@ -63,6 +64,7 @@ adds p q m' call answer d h is right home done low =
       stays = later-is (standing p) (standing q) home opening_is passes_is numbers_is;
       legal = subst (λ (o : Parts). IsLegal o q.me.0.seen) (sym opening_is) (subst (IsLegal (start p.me.0.opening)) (sym seen_is) legal');
       below = subst (λ (n : ℕ). Below n q.me.0.seen) (sym passes_is) (subst (Below p.me.0.passes) (sym seen_is) below');
+      numbers = subst (λ (n : ℕ). AreShares q.me.0.numbers n) (sym passes_is) (subst (λ (ns : List ℕ). AreShares ns p.me.0.passes) (sym numbers_is) h.shares);
       adds = (past.0, seen_is ∙ (λ i. (h.seen_is ∙ past.1) i ++ made (h.numbers i) call answer ∷ []), past.2);
     }
 

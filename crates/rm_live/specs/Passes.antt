@@ -8,8 +8,8 @@ use Rattle.rm_live.specs.declared.history.Call.{Call}
 use Rattle.rm_live.specs.declared.history.Event.{Event}
 use Rattle.rm_live.specs.declared.rule.View.{View}
 use Rattle.rm_live.specs.Parts.{Parts, IsSound, parts_of}
-use Rattle.rm_live.specs.History.{IsRight, after, fold_of, IsLegal, Past, Foreign}
-use Rattle.rm_live.specs.Ruled.{Sat, Below, start}
+use Rattle.rm_live.specs.History.{IsRight, after, fold_of, IsLegal, Past, Foreign, times}
+use Rattle.rm_live.specs.Ruled.{Sat, Below, AreShares, once_below, start}
 
 -- the lock of which it is a pass, the database at the opening, how many numbers there are, its own
 -- numbers, and what it has seen
@@ -22,6 +22,10 @@ pub record Standing : Type 0 where
 
 abbrev pub standing : Seat Database View → Standing
 standing s = record { home = s.table_id; opening = start s.me.0.opening; passes = s.me.0.passes; numbers = s.me.0.numbers; seen = s.me.0.seen }
+
+-- the only pass: it has each number below `passes` once, and no other
+abbrev pub IsOnly : Standing → Type 0
+IsOnly p = (n : ℕ) → times n p.numbers ≡ once_below n p.passes
 
 -- between two calls
 pub record IsRest (m : Sat) : Type 0 where
@@ -44,6 +48,7 @@ pub record HasTurn (m m' : Sat) : Type 0 where
   pub fold : parts_of database ≡ fold_of (start m.0.opening) seen
   pub past : Past m.0.numbers m.0.seen seen
   pub below : Below m.0.passes seen
+  pub shares : AreShares m.0.numbers m.0.passes
   pub sound : IsSound (parts_of database)
 
 abbrev pub first_of : List ℕ → ℕ

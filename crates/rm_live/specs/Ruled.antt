@@ -56,6 +56,10 @@ first_view k = resting (Some k.database) k.passes (upto 0 k.passes) []
 abbrev pub once_below : ℕ → ℕ → ℕ
 once_below n p = one_if (nat_lt n p)
 
+-- the numbers are different, and each is below `passes`
+abbrev pub AreShares : List ℕ → ℕ → Type 0
+AreShares numbers passes = (n : ℕ) → times n numbers ≤ once_below n passes
+
 abbrev pub waiting : View → ℕ
 waiting v = one_if v.waits
 
@@ -138,6 +142,7 @@ pub record Took (m m' : Sat) : Type 0 where
   pub fold : parts_of database ≡ fold_of (start m.0.opening) seen
   pub past : Past m.0.numbers m.0.seen seen
   pub below : Below m.0.passes seen
+  pub shares : AreShares m.0.numbers m.0.passes
   pub sound : IsSound (parts_of database)
 
 -- one that finds another number changes nothing
@@ -175,10 +180,12 @@ spent_view = resting None 0 [] []
 abbrev pub met : View → View
 met v = record v { one = no_note; other = no_note }
 
--- a meeting tells that what is seen is legal, and past both lists of which the seat was joined
+-- a meeting tells that what is seen is legal, and past both lists of which the seat was joined, and
+-- that its numbers are different
 pub record Met (st : Step Database) (m : Sat) (r : ℕ) (m' : Sat) : Type 0 where
   pub is : m' ≡ (met m.0, m.1)
   pub legal : IsLegal (start m.0.opening) m.0.seen
   pub below : Below m.0.passes m.0.seen
+  pub shares : AreShares m.0.numbers m.0.passes
   pub one : Past m.0.one.numbers m.0.one.seen m.0.seen
   pub other : Past m.0.other.numbers m.0.other.seen m.0.seen

@@ -3,6 +3,7 @@
 
 pub mod database;
 pub mod history;
+pub mod laws;
 pub mod live;
 pub mod rule;
 

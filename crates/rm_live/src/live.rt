@@ -5,7 +5,7 @@ ghost use Rattle.rm_live.specs.declared.history.Answer.TheVariants.{Found, Wrote
 ghost use Rattle.rm_live.specs.declared.history.Call.TheVariants.{Read, Write};
 ghost use Rattle.rm_live.specs.Parts.{IsNumbered, IsSound, parts_of};
 ghost use Rattle.rm_live.specs.History.{IsLegal, Past, fold_of};
-ghost use Rattle.rm_live.specs.Ruled.{Below, upto, half, ended};
+ghost use Rattle.rm_live.specs.Ruled.{AreShares, Below, upto, half, ended};
 ghost use Rattle.rm_live.specs.Passes.{Standing, IsLater, IsRest, IsTurn, HasTurn, Adds, joined, event_of};
 
 use crate::database::Database;
@@ -119,6 +119,7 @@ impl Live {
         ensures stays { IsLater pass.old pass.new }
         ensures legal { IsLegal pass.new.opening pass.new.seen }
         ensures below { Below pass.new.passes pass.new.seen }
+        ensures numbers { AreShares pass.new.numbers pass.new.passes }
         ensures adds { Adds pass.old (Read file block) (Found result) pass.new.seen }
     {
         self.take_turn(rt, &mut pass.place);
@@ -151,6 +152,7 @@ impl Live {
         ensures stays { IsLater pass.old pass.new }
         ensures legal { IsLegal pass.new.opening pass.new.seen }
         ensures below { Below pass.new.passes pass.new.seen }
+        ensures numbers { AreShares pass.new.numbers pass.new.passes }
         ensures adds { Adds pass.old (Write thread file block content) (Wrote result) pass.new.seen }
     {
         self.take_turn(rt, &mut pass.place);
@@ -183,6 +185,7 @@ impl Live {
         ensures both { pass.new ≡ joined pass.old other pass.new.seen }
         ensures legal { IsLegal pass.new.opening pass.new.seen }
         ensures below { Below pass.new.passes pass.new.seen }
+        ensures numbers { AreShares pass.new.numbers pass.new.passes }
         ensures mine { Past pass.old.numbers pass.old.seen pass.new.seen }
         ensures theirs { Past other.numbers other.seen pass.new.seen }
     {

@@ -30,4 +30,4 @@ returns g c =
     (adds c.pass.inside.place c.end_turn.new.place c.take_turn.new.place.me call answer c.slot_mut-database.result.now
     c.take_turn.ensures.turn c.slot_mut-database.ensures.value c.read-answer.ensures
     (c.end_turn.ensures.table ∙ c.take_turn.ensures.table) c.end_turn.ensures.ended c.end_turn.ensures.number) in
-    record { stays = all.stays; legal = all.legal; below = all.below; adds = all.adds }
+    record { stays = all.stays; legal = all.legal; below = all.below; numbers = all.numbers; adds = all.adds }
