@@ -1,0 +1,146 @@
+-- How often calls of a list pass a test.
+use Rattle.std.proofs.Common.{◌≡◌, ◌≢◌, ℕ, zero, suc, ◌+◌, ◌<◌, ◌≤◌, Bool, false, Option, Some, None, Ok, Err, IsSome, is_none, List, [], ◌∷◌, length, map, All, refl, sym, ap, ◌∙◌, subst, arith}
+use mathlib.Core.Logic.{dite}
+use native.Mathlib.Decide.{ℕ_discrete}
+use Rattle.std.proofs.lemmas.List.Elements.{All-head, All-tail}
+use Rattle.rm_base.specs.declared.block.Row.{Row}
+use Rattle.rm_redo.specs.Logs.{Logs}
+use Rattle.rm_redo.specs.Online.{IsThread, records_of}
+use Rattle.rm_redo.proofs.Logs.{IsThread-with_change}
+use Rattle.rm_live.specs.declared.history.Answer.{Answer}
+use Rattle.rm_live.specs.declared.history.Answer.TheVariants.{Found, Wrote}
+use Rattle.rm_live.specs.declared.history.Call.{Call}
+use Rattle.rm_live.specs.declared.history.Call.TheVariants.{Read, Write}
+use Rattle.rm_live.specs.declared.history.Event.{Event}
+use Rattle.rm_live.specs.Parts.{Parts, row_at}
+use Rattle.rm_live.specs.History.{after, fold_of}
+use Rattle.rm_live.specs.Ruled.{one_if, total}
+use Rattle.rm_channel.specs.declared.jobs.WriteJob.{WriteJob}
+use Rattle.rm_channel.specs.Jobs.{Deed, Span, calls_of, reads, reads_of, writes, writes_of}
+use Rattle.rm_channel.specs.Made.{deed, is_by, AreBegun}
+use Rattle.rm_channel.specs.Room.{AreThreads, CanWrite, HasBlock, HaveRoom}
+use Rattle.rm_channel.proofs.Mine.{total-append}
+use Rattle.rm_channel.proofs.Rooms.{HasRoom, by-self, by-other, count, is_lost, is_write}
+
+abbrev ones : (Call → Bool) → Call → ℕ
+ones f c = one_if (f c)
+
+-- a test that no read passes
+abbrev IsOfWrites : (Call → Bool) → Type 0
+IsOfWrites f = (g b : ℕ) → f (Read g b) ≡ false
+
+no-reads : (f : Call → Bool) (g b n : ℕ) → IsOfWrites f → total (ones f) (reads g b n) ≡ 0
+no-reads f g b zero off = refl
+no-reads f g b (suc n) off = let e = ap one_if (off g b) in let h = no-reads f g (suc b) n off in omega arith
+
+no-reads_of : (f : Call → Bool) (ss : List Span) → IsOfWrites f → total (ones f) (reads_of ss) ≡ 0
+no-reads_of f [] off = refl
+no-reads_of f (s ∷ ss) off =
+    let a = total-append (ones f) (reads s.file s.first s.count) (reads_of ss) in
+    let b = no-reads f s.file s.first s.count off in
+    let h = no-reads_of f ss off in
+    omega arith
+
+total-deeds : (g : Call → ℕ) (es : List Event) → total (λ (d : Deed). g d.0) (map deed es) ≡ total (λ (e : Event). g e.call) es
+total-deeds g [] = refl
+total-deeds g (e ∷ es) = ap (λ (n : ℕ). g e.call + n) (total-deeds g es)
+
+-- no more events pass it than writes of the lists
+at-most : (f : Call → Bool) (ss : List Span) (t : ℕ) (writers : List (List WriteJob)) (es : List Event) → IsOfWrites f → AreBegun (calls_of ss t writers) (map deed es) → count f es ≤ total (ones f) (writes_of t writers)
+at-most f ss t writers es off begun =
+    let a = begun.none_twice (ones f) in
+    let b = total-deeds (ones f) es in
+    let d = total-append (ones f) (reads_of ss) (writes_of t writers) in
+    let e = no-reads_of f ss off in
+    omega arith
+
+-- all are writes
+all-writes : (t : ℕ) (ws : List WriteJob) → total (ones is_write) (writes t ws) ≡ length ws
+all-writes t [] = refl
+all-writes t (w ∷ ws) = let h = all-writes t ws in omega arith
+
+all-writes_of : (t : ℕ) (writers : List (List WriteJob)) → total (ones is_write) (writes_of t writers) ≡ total length writers
+all-writes_of t [] = refl
+all-writes_of t (ws ∷ writers) =
+    let a = total-append (ones is_write) (writes t ws) (writes_of (suc t) writers) in
+    let b = all-writes t ws in
+    let h = all-writes_of (suc t) writers in
+    omega arith
+
+-- none is of a block that is not there
+found-some : (o : Option Row) → IsSome o → one_if (is_none o) ≡ 0
+found-some None there = absurd (cc there)
+found-some (Some row) there = refl
+
+none-lost : (p : Parts) (t : ℕ) (ws : List WriteJob) → All (HasBlock p.files) ws → total (ones (is_lost p)) (writes t ws) ≡ 0
+none-lost p t [] all = refl
+none-lost p t (w ∷ ws) all =
+    let a = found-some (row_at p.files w.file w.block) (All-head (HasBlock p.files) w ws all) in
+    let h = none-lost p t ws (All-tail (HasBlock p.files) w ws all) in
+    omega arith
+
+none-lost_of : (p : Parts) (t : ℕ) (writers : List (List WriteJob)) → All (λ (ws : List WriteJob). All (HasBlock p.files) ws) writers → total (ones (is_lost p)) (writes_of t writers) ≡ 0
+none-lost_of p t [] all = refl
+none-lost_of p t (ws ∷ writers) all =
+    let a = total-append (ones (is_lost p)) (writes t ws) (writes_of (suc t) writers) in
+    let b = none-lost p t ws (All-head (λ (ws : List WriteJob). All (HasBlock p.files) ws) ws writers all) in
+    let h = none-lost_of p (suc t) writers (All-tail (λ (ws : List WriteJob). All (HasBlock p.files) ws) ws writers all) in
+    omega arith
+
+-- a list is of one thread
+by-none : (u t : ℕ) (ws : List WriteJob) → u ≢ t → total (ones (is_by u)) (writes t ws) ≡ 0
+by-none u t [] ne = refl
+by-none u t (w ∷ ws) ne = let e = by-other u t ne in let h = by-none u t ws ne in omega arith
+
+by-all : (t : ℕ) (ws : List WriteJob) → total (ones (is_by t)) (writes t ws) ≡ length ws
+by-all t [] = refl
+by-all t (w ∷ ws) = let e = by-self t in let h = by-all t ws in omega arith
+
+by-before : (u t : ℕ) (writers : List (List WriteJob)) → u < t → total (ones (is_by u)) (writes_of t writers) ≡ 0
+by-before u t [] lt = refl
+by-before u t (ws ∷ writers) lt =
+    let a = total-append (ones (is_by u)) (writes t ws) (writes_of (suc t) writers) in
+    let b = by-none u t ws (λ e. omega arith) in
+    let h = by-before u (suc t) writers (omega arith) in
+    omega arith
+
+-- a thread that writes is there, and its log has room
+thread-room : (o now : Logs) (t u : ℕ) (writers : List (List WriteJob)) → AreThreads o t writers → HaveRoom now t writers → 0 < total (ones (is_by u)) (writes_of t writers)
+    → IsThread o u × (length (records_of now u) + total (ones (is_by u)) (writes_of t writers) ≤ 65536)
+thread-room o now t u [] threads room pos = absurd (omega arith)
+thread-room o now t u (ws ∷ writers) threads room pos =
+    let sum = total-append (ones (is_by u)) (writes t ws) (writes_of (suc t) writers) in
+    dite (ℕ_discrete u t)
+    (λ (same : u ≡ t).
+    let here : total (ones (is_by u)) (writes t ws) ≡ length ws = ap (λ (n : ℕ). total (ones (is_by n)) (writes t ws)) same ∙ by-all t ws in
+    let none = by-before u (suc t) writers (omega arith) in
+    let log = ap (λ (n : ℕ). length (records_of now n)) same in
+    let fits = room.0 in
+    (subst (IsThread o) (sym same) (threads.0 (omega arith)).0, omega arith))
+    (λ (ne : u ≢ t).
+    let here = by-none u t ws ne in
+    let h = thread-room o now (suc t) u writers threads.1 room.1 (omega arith) in
+    let fits = h.1 in
+    (h.0, omega arith))
+
+-- a thread that is there stays there
+thread-after : (o : Parts) (c : Call) (a : Answer) (t : ℕ) → IsThread o.logs t → IsThread (after o c a).logs t
+thread-after o (Read f b) a t there = there
+thread-after o (Write u f b content) (Found row) t there = there
+thread-after o (Write u f b content) (Wrote (Ok scn)) t there = IsThread-with_change o.logs (record { inc = o.inc; thread = u; scn = scn; file = f; block = b; content = content }) t there
+thread-after o (Write u f b content) (Wrote (Err fault)) t there = there
+
+thread-fold : (o : Parts) (es : List Event) (t : ℕ) → IsThread o.logs t → IsThread (fold_of o es).logs t
+thread-fold o [] t there = there
+thread-fold o (e ∷ es) t there = thread-fold (after o e.call e.answer) es t (thread-after o e.call e.answer t there)
+
+-- so there is room for the events
+pub has-room : (o : Parts) (seen : List Event) (ss : List Span) (writers : List (List WriteJob)) (es : List Event) → AreThreads o.logs 1 writers → CanWrite (fold_of o seen) writers → AreBegun (calls_of ss 1 writers) (map deed es)
+    → HasRoom (fold_of o seen) es
+has-room o seen ss writers es threads can begun =
+    let p : Parts = fold_of o seen in record {
+      blocks = let a = at-most (is_lost p) ss 1 writers es (λ g b. refl) begun in let b = none-lost_of p 1 writers can.blocks in omega arith;
+      threads = λ t pos. let a = at-most (is_by t) ss 1 writers es (λ g b. refl) begun in thread-fold o seen t (thread-room o.logs p.logs 1 t writers threads can.logs (omega arith)).0;
+      logs = λ t pos. let a = at-most (is_by t) ss 1 writers es (λ g b. refl) begun in let h = (thread-room o.logs p.logs 1 t writers threads can.logs (omega arith)).1 in omega arith;
+      scns = let a = at-most is_write ss 1 writers es (λ g b. refl) begun in let b = all-writes_of 1 writers in let d = can.scns in omega arith;
+    }

@@ -1,0 +1,17 @@
+pub mod Copied
+pub mod Counts
+pub mod Cuts
+pub mod Halves
+pub mod Mine
+pub mod Puts
+pub mod Rooms
+pub mod Runs
+pub mod Shares
+pub mod Sides
+pub mod Spans
+pub mod Split
+pub mod Steps
+pub mod There
+pub mod Turns
+pub mod Whole
+pub mod Writes

@@ -1,0 +1,12 @@
+//! Work of many threads at one live database, and parts put into rows by many threads.
+#![tactic(auto)]
+
+pub mod applying;
+pub mod copying;
+pub mod cutting;
+pub mod jobs;
+pub mod working;
+
+pub use applying::apply_rows;
+pub use copying::{copy_during, copy_file};
+pub use jobs::{CopyJob, Gate, Point, Wanted, Work, WriteJob};

@@ -1,0 +1,248 @@
+//! What one worker does.
+ghost use Rattle.std.specs.Prelude.{ℕ, ◌≡◌, ◌+◌, ◌-◌, ◌≤◌, ◌<◌, [], ◌∷◌, length, replicate, All, IfOk, IsSome, Some};
+ghost use Rattle.std.specs.Option.{option_map};
+ghost use Rattle.std.specs.Result.{result_ok};
+ghost use Rattle.rm_redo.specs.Online.{IsThread, IsLost};
+ghost use Rattle.rm_live.specs.declared.history.Answer.TheVariants.{Found};
+ghost use Rattle.rm_live.specs.declared.history.Call.TheVariants.{Read};
+ghost use Rattle.rm_live.specs.Parts.{row_at};
+ghost use Rattle.rm_live.specs.Passes.{IsLater};
+ghost use Rattle.rm_channel.specs.Jobs.{AreAsLong, AreRows, found, found_of, lists, reads, reads_of, writes, wrote, wrote_of};
+ghost use Rattle.rm_channel.specs.Made.{Did, Worked};
+ghost use Rattle.rm_channel.specs.Room.{AreThreads, IsThere};
+ghost use Rattle.rm_channel.specs.Runs.{HasRun};
+ghost use Rattle.rm_channel.specs.Sections.{sections};
+
+use crate::cutting::cut_at;
+use crate::jobs::{CopyJob, Gate, Point, WriteJob};
+use rm_base::{BlockNo, FileNo, NoMemory, Row, Scn, ThreadNo};
+use rm_live::{Live, LiveFault, Pass};
+use std::alloc::Global;
+use std::sync::Wait;
+
+/// What some of the workers did: of each job the rows of their sections, and of each of their lists the
+/// answers.
+#[derive(Drop)]
+pub(crate) struct Done {
+    pub rows: Vec<Vec<Row>>,
+    pub answers: Vec<Vec<Result<Scn, LiveFault>>>,
+}
+
+/// Some of the workers: the sections from one on and up to another, of so many channels, and lists of
+/// writes, of which the first is that of a thread.
+#[derive(Clone, Copy)]
+pub(crate) struct Share {
+    pub channels: u32,
+    pub from: u32,
+    pub to: u32,
+    pub thread: ThreadNo,
+}
+
+// Reads a block that is there.
+fn read_block<R: Wait>(rt: &R, live: &Live, pass: &mut Pass, file: FileNo, block: BlockNo) -> Row
+    requires home { pass.old.home ≡ live.now }
+    requires some { 0 < length pass.old.numbers }
+    requires there { IsSome (row_at pass.old.opening.files file block) }
+    ensures stays { IsLater pass.old pass.new }
+    ensures did { Did pass.old pass.new.seen ((Read file block, Found (Some result)) ∷ []) }
+{
+    match live.read(rt, pass, file, block) {
+        Some(row) => row,
+        None => unreachable!(),
+    }
+}
+
+// Reads blocks of a datafile, from one on and up to another.
+fn read_blocks<R: Wait>(
+    rt: &R,
+    alloc: Global,
+    live: &Live,
+    pass: &mut Pass,
+    file: FileNo,
+    from: BlockNo,
+    to: BlockNo,
+) -> Result<Vec<Row>, NoMemory>
+    requires home { pass.old.home ≡ live.now }
+    requires some { 0 < length pass.old.numbers }
+    requires order { from ≤ to }
+    requires there { (b : ℕ) → b < to → IsSome (row_at pass.old.opening.files file b) }
+    ensures stays { IsLater pass.old pass.new }
+    ensures worked { Worked pass.old pass.new.seen (reads file from (to - from)) (option_map (λ v. found file from v.items) (result_ok result)) }
+    ensures rows { IfOk result (λ v. length v.items ≡ to - from) }
+{
+    let mut rows = Vec::with_capacity(alloc, (to - from) as usize)?;
+    for block in from..to {
+        rows.push_reserved(read_block(rt, live, pass, file, block));
+    }
+    Ok(rows)
+}
+
+// Reads one section of each job, job after job, and calls the gate before each.
+fn read_sections<G: Gate, R: Wait>(
+    rt: &R,
+    alloc: Global,
+    live: &Live,
+    pass: &mut Pass,
+    gate: &G,
+    jobs: &[CopyJob],
+    channels: u32,
+    section: u32,
+) -> Result<Vec<Vec<Row>>, NoMemory>
+    requires home { pass.old.home ≡ live.now }
+    requires some { 0 < length pass.old.numbers }
+    requires channels { (section < channels) × (channels ≤ 16) }
+    requires there { All (IsThere pass.old.opening.files) jobs.now }
+    ensures stays { IsLater pass.old pass.new }
+    ensures worked { Worked pass.old pass.new.seen (reads_of (sections channels section (section + 1) jobs.now)) (option_map (λ v. found_of (sections channels section (section + 1) jobs.now) (lists v.items)) (result_ok result)) }
+    ensures rows { IfOk result (λ v. AreRows (lists v.items) (sections channels section (section + 1) jobs.now)) }
+{
+    let mut all = Vec::with_capacity(alloc, jobs.len())?;
+    for job in jobs {
+        let blocks = job.wanted.count();
+        let from = cut_at(blocks, section, channels);
+        let to = cut_at(blocks, section + 1, channels);
+        gate.at(Point {
+            file: job.file,
+            section,
+            blocks: to - from,
+        });
+        all.push_reserved(read_blocks(rt, alloc, live, pass, job.file, from, to)?);
+    }
+    Ok(all)
+}
+
+// Makes the writes of a list by one thread, in order, and keeps the answers as they come.
+fn make_writes<R: Wait>(
+    rt: &R,
+    alloc: Global,
+    live: &Live,
+    pass: &mut Pass,
+    list: &[WriteJob],
+    thread: ThreadNo,
+) -> Result<Vec<Result<Scn, LiveFault>>, NoMemory>
+    requires home { pass.old.home ≡ live.now }
+    requires some { 0 < length pass.old.numbers }
+    requires thread { 0 < length list.now → IsThread pass.old.opening.logs thread × (¬ IsLost pass.old.opening.logs thread) }
+    ensures stays { IsLater pass.old pass.new }
+    ensures worked { Worked pass.old pass.new.seen (writes thread list.now) (option_map (λ v. wrote thread list.now v.items) (result_ok result)) }
+    ensures answers { IfOk result (λ v. length v.items ≡ length list.now) }
+{
+    let mut answers = Vec::with_capacity(alloc, list.len())?;
+    for write in list {
+        answers.push_reserved(live.write(rt, pass, thread, write.file, write.block, write.content));
+    }
+    Ok(answers)
+}
+
+// The worker of the first section.
+fn copy_section<G: Gate, R: Wait>(
+    rt: &R,
+    alloc: Global,
+    live: &Live,
+    pass: &mut Pass,
+    gate: &G,
+    jobs: &[CopyJob],
+    share: Share,
+) -> Result<Done, NoMemory>
+    requires home { pass.old.home ≡ live.now }
+    requires some { 0 < length pass.old.numbers }
+    requires channels { (share.from < share.channels) × (share.channels ≤ 16) }
+    requires there { All (IsThere pass.old.opening.files) jobs.now }
+    ensures stays { IsLater pass.old pass.new }
+    ensures run { HasRun pass.old pass.new.seen (sections share.channels share.from (share.from + 1) jobs.now) share.thread [] result }
+{
+    let rows = read_sections(
+        rt,
+        alloc,
+        live,
+        pass,
+        gate,
+        jobs,
+        share.channels,
+        share.from,
+    )?;
+    Ok(Done {
+        rows,
+        answers: Vec::new(alloc),
+    })
+}
+
+// For each of so many jobs no row.
+fn no_rows(alloc: Global, jobs: usize) -> Result<Vec<Vec<Row>>, NoMemory>
+    ensures { IfOk result (λ v. lists v.items ≡ replicate jobs []) }
+{
+    let mut rows = Vec::new(alloc);
+    'jobs: while rows.len() < jobs {
+        rows.push(Vec::new(alloc))?;
+    }
+    Ok(rows)
+}
+
+// The worker of a list of writes. The sections of its share have ended.
+fn write_list<G: Gate, R: Wait>(
+    rt: &R,
+    alloc: Global,
+    live: &Live,
+    pass: &mut Pass,
+    gate: &G,
+    jobs: usize,
+    list: &[WriteJob],
+    thread: ThreadNo,
+) -> Result<Done, NoMemory>
+    requires home { pass.old.home ≡ live.now }
+    requires some { 0 < length pass.old.numbers }
+    requires first { 1 ≤ thread }
+    requires thread { 0 < length list.now → IsThread pass.old.opening.logs thread × (¬ IsLost pass.old.opening.logs thread) }
+    ensures stays { IsLater pass.old pass.new }
+    ensures worked { Worked pass.old pass.new.seen (writes thread list.now) (option_map (λ d. wrote_of thread (list.now ∷ []) (lists d.answers.items)) (result_ok result)) }
+    ensures rows { IfOk result (λ d. lists d.rows.items ≡ replicate jobs []) }
+    ensures answers { IfOk result (λ d. AreAsLong (lists d.answers.items) (list.now ∷ [])) }
+{
+    gate.at(Point {
+        file: 0,
+        section: u32::from(thread) - 1,
+        blocks: list.len().min(u32::MAX as usize) as u32,
+    });
+    let rows = no_rows(alloc, jobs)?;
+    let mut answers = Vec::with_capacity(alloc, 1)?;
+    answers.push_reserved(make_writes(rt, alloc, live, pass, list, thread)?);
+    Ok(Done { rows, answers })
+}
+
+/// What one worker does, that of a section or that of a list of writes.
+pub(crate) fn work<G: Gate, R: Wait>(
+    rt: &R,
+    alloc: Global,
+    live: &Live,
+    mut pass: Pass,
+    gate: &G,
+    jobs: &[CopyJob],
+    writers: &[Vec<WriteJob>],
+    share: Share,
+) -> (Pass, Result<Done, NoMemory>)
+    requires home { pass.home ≡ live.now }
+    requires some { 0 < length pass.numbers }
+    requires one { share.to - share.from + length writers.now ≡ 1 }
+    requires share { (share.from ≤ share.to) × (share.to ≤ share.channels) × (share.channels ≤ 16) × (1 ≤ share.thread) }
+    requires there { All (IsThere pass.opening.files) jobs.now }
+    requires threads { AreThreads pass.opening.logs share.thread (lists writers.now) }
+    ensures stays { IsLater pass result.0 }
+    ensures run { HasRun pass result.0.seen (sections share.channels share.from share.to jobs.now) share.thread (lists writers.now) result.1 }
+{
+    let done = if share.from < share.to {
+        copy_section(rt, alloc, live, &mut pass, gate, jobs, share)
+    } else {
+        let list = writers[0].as_slice();
+        write_list(
+            rt,
+            alloc,
+            live,
+            &mut pass,
+            gate,
+            jobs.len(),
+            list,
+            share.thread,
+        )
+    };
+    (pass, done)
+}
