@@ -28,6 +28,3 @@ pub use refusal::{Absent, Limit, Refusal, Unknown};
 pub use seq::Seq;
 pub use store::{Clock, Store, StoreFail};
 pub use text::Text;
-
-#[cfg(test)]
-mod tests;

@@ -5,6 +5,3 @@ pub mod file;
 pub mod laws;
 
 pub use file::DataFile;
-
-#[cfg(test)]
-mod tests;

@@ -4,6 +4,3 @@
 pub mod change;
 
 pub use change::{Change, Object, Stop, carry_out};
-
-#[cfg(test)]
-mod tests;

@@ -8,6 +8,3 @@ pub mod world;
 
 pub use tree::{Incarnation, Standing, Tree, TreeFault};
 pub use world::{Datafile, World};
-
-#[cfg(test)]
-mod tests;

@@ -9,6 +9,3 @@ pub mod reading;
 pub use database::{base_of, current_of, datafile, has_database, threads};
 pub use naming::{log_name, piece_name, site_name};
 pub use reading::{log_object, piece_object};
-
-#[cfg(test)]
-mod tests;

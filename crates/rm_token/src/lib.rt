@@ -11,6 +11,3 @@ pub use scan::is_word_byte;
 pub use spelling::{are_string_bytes, is_name, text_of};
 pub use split::statements;
 pub use token::Token;
-
-#[cfg(test)]
-mod tests;

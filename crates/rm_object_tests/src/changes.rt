@@ -1,9 +1,9 @@
 //! A change as a whole, and stopped at each of its calls: which stop it is, and what is left.
-use crate::*;
+use crate::fault::{Fault, differs};
 use rm_base::{Failing, MemStore, NoMemory, Seq, Store, StoreFail, StoreFailing, Text};
-use rm_catalog::{Edit, Keeper, Key, MarkEntry, MemKeeper, Record};
+use rm_catalog::{Edit, Keeper, KeeperFail, Key, MarkEntry, MemKeeper, Record};
+use rm_change::{Change, Object, Stop, carry_out};
 use std::alloc::Global;
-use std::test::Fail;
 
 // A mark of this number.
 fn mark(id: u32) -> Record {
@@ -21,7 +21,7 @@ fn failing(alloc: Global, number: u64) -> Result<Failing, NoMemory> {
 }
 
 // A store of two objects, of whose later puts and removes those with these numbers fail.
-fn store(alloc: Global, put: u64, remove: u64) -> Result<MemStore, Fail> {
+fn store(alloc: Global, put: u64, remove: u64) -> Result<MemStore, Fault> {
     let failing = StoreFailing {
         gets: Failing::new(Vec::new(alloc)),
         puts: failing(alloc, put.saturating_add(2))?,
@@ -29,9 +29,12 @@ fn store(alloc: Global, put: u64, remove: u64) -> Result<MemStore, Fail> {
         names: Failing::new(Vec::new(alloc)),
     };
     let mut store = MemStore::new(alloc, failing);
-    store.put("copy_1", b"xy")?;
-    store.put("log_2", b"old")?;
-    Ok(store)
+    let puts = [store.put("copy_1", b"xy"), store.put("log_2", b"old")];
+    if puts == [Ok(()), Ok(())] {
+        Ok(store)
+    } else {
+        differs(alloc, "no store of two objects")
+    }
 }
 
 // A keeper of marks 1 and 2, of which the apply of this number fails.
@@ -81,26 +84,19 @@ fn write_objects<D: Store>(out: &mut String, store: &mut D) -> Result<(), StoreF
         let Some(bytes) = store.get(name.as_str())? else {
             continue;
         };
-        out.push_str(name.as_str())?;
-        out.push('=')?;
-        for byte in bytes.as_slice() {
-            out.push(char::from(*byte))?;
-        }
-        out.push(' ')?;
+        let text = str::from_utf8(bytes.as_slice()).unwrap_or("?");
+        write!(out, "{}={text} ", name.as_str())?;
     }
     Ok(())
 }
 
 // Writes the number of each mark.
-fn write_marks<C: Keeper>(out: &mut String, keeper: &mut C) -> Result<(), Fail> {
+fn write_marks<C: Keeper>(out: &mut String, keeper: &mut C) -> Result<(), KeeperFail> {
     let records = keeper.load()?;
     for record in records.as_slice() {
-        out.push_str(match record.key().id {
-            1 => "1",
-            2 => "2",
-            3 => "3",
-            _ => "?",
-        })?;
+        if write!(out, "{}", record.key().id).is_err() {
+            return Err(KeeperFail::NoMemory);
+        }
     }
     Ok(())
 }
@@ -114,47 +110,19 @@ fn word(answer: Result<(), Stop>) -> &'static str {
     }
 }
 
-// What the change answers, and what is left of it, where the calls with these numbers fail.
-fn outcome(alloc: Global, put: u64, apply: u64, remove: u64) -> Result<String, Fail> {
-    let mut store = store(alloc, put, remove)?;
-    let mut keeper = keeper(alloc, apply)?;
+/// What the change answers, and what is left of it, where the put, the apply and the remove of these numbers fail.
+pub fn outcome(alloc: Global, numbers: &[u64]) -> Result<String, Fault> {
+    let [put, apply, remove] = numbers else {
+        return differs(alloc, "not three numbers");
+    };
+    let mut store = store(alloc, *put, *remove)?;
+    let mut keeper = keeper(alloc, *apply)?;
     let result = carry_out(&mut store, &mut keeper, &change(alloc)?);
     let mut out = String::from_str(alloc, word(result))?;
-    write_objects(&mut out, &mut store)?;
-    write_marks(&mut out, &mut keeper)?;
-    Ok(out)
-}
-
-#[test]
-fn a_change_is_carried_out(rt: HostRuntime) -> Result<(), Fail> {
-    let whole = outcome(rt.alloc(), 9, 9, 9)?;
-    assert_eq!(rt; whole.as_str(), "done log_2=ijkl log_3=efgh 23");
-    Ok(())
-}
-
-#[test]
-fn a_put_that_fails_stops_before_the_edits(rt: HostRuntime) -> Result<(), Fail> {
-    let first = outcome(rt.alloc(), 1, 9, 9)?;
-    assert_eq!(rt; first.as_str(), "store copy_1=xy log_2=ab 12");
-    let second = outcome(rt.alloc(), 2, 9, 9)?;
-    assert_eq!(rt; second.as_str(), "store copy_1=xy log_2=abcd log_3=ef 12");
-    let third = outcome(rt.alloc(), 3, 9, 9)?;
-    assert_eq!(rt; third.as_str(), "store copy_1=xy log_2=ij log_3=efgh 12");
-    Ok(())
-}
-
-#[test]
-fn edits_that_fail_leave_the_objects_put(rt: HostRuntime) -> Result<(), Fail> {
-    let left = outcome(rt.alloc(), 9, 1, 9)?;
-    assert_eq!(rt; left.as_str(), "keeper copy_1=xy log_2=ijkl log_3=efgh 12");
-    Ok(())
-}
-
-#[test]
-fn a_remove_that_fails_stops_after_the_edits(rt: HostRuntime) -> Result<(), Fail> {
-    let first = outcome(rt.alloc(), 9, 9, 1)?;
-    assert_eq!(rt; first.as_str(), "store copy_1=xy log_2=ijkl log_3=efgh 23");
-    let second = outcome(rt.alloc(), 9, 9, 2)?;
-    assert_eq!(rt; second.as_str(), "store log_2=ijkl log_3=efgh 23");
-    Ok(())
+    let objects = write_objects(&mut out, &mut store);
+    if objects.is_ok() && write_marks(&mut out, &mut keeper).is_ok() {
+        Ok(out)
+    } else {
+        differs(alloc, "what is left is not told")
+    }
 }
