@@ -9,17 +9,13 @@ use Rattle.rm_machine.specs.Step.{names_in}
 use Rattle.rm_tool.specs.Block.{with_until}
 
 -- it is built
-pub built_with : (set : Option Until) (c : Command) → is_built (Recover set) ≡ true → is_built c ≡ true → is_built (with_until set c) ≡ true
-built_with set (Restore file None) is built = is
-built_with set (Restore file (Some until)) is built = built
-built_with set (Preview None) is built = is
-built_with set (Preview (Some until)) is built = built
-built_with set (Recover None) is built = is
-built_with set (Recover (Some until)) is built = built
-built_with set (RecoverTest None inc) is built = is
-built_with set (RecoverTest (Some until) inc) is built = built
-built_with set (RecoverCopy tag until) is built = built
-built_with set _ is built = built
+pub built_with : (set : Option Until) (c : Command) → is_built c ≡ true → is_built (with_until set c) ≡ true
+built_with set (Restore file until) built = built
+built_with set (Preview until) built = built
+built_with set (Recover until) built = built
+built_with set (RecoverTest until inc) built = built
+built_with set (RecoverCopy tag until) built = built
+built_with set _ built = built
 
 both-true : (a b : Bool) → (a && true) ≡ true → b ≡ true → (a && b) ≡ true
 both-true a b first last = ap (λ c. a && c) last ∙ first

@@ -12,7 +12,6 @@ use Rattle.rm_statement.specs.IsCommand.{is_until_or_none}
 use Rattle.rm_report.specs.declared.line.Line.TheVariants.{UntilSet, ChannelAllocated}
 use Rattle.rm_report.specs.declared.line.Reply.{Reply}
 use Rattle.rm_report.specs.Reply.{said, refused_by}
-use Rattle.rm_machine.specs.Built.{is_built}
 use Rattle.rm_machine.specs.Machine.{Machine, DigestsTell}
 use Rattle.rm_machine.specs.Rest.{Rest, at_rest}
 use Rattle.rm_machine.specs.Step.{Step}
@@ -26,10 +25,9 @@ use Rattle.rm_tool.specs.declared.block.Settings.{Settings}
 abbrev pub unset : Settings
 unset = record { until = None; channels = 0 }
 
--- what a RUN may have set: an until of the grammar that is built, or none, and at most 16 channels
+-- what a RUN may have set: an until of the grammar, or none, and at most 16 channels
 pub record AreSet (x : Settings) : Type 0 where
   pub until : is_until_or_none x.until ≡ true
-  pub built : is_built (Recover x.until) ≡ true
   pub channels : x.channels ≤ 16
 
 -- the command with the until that is set, if it takes one and has none

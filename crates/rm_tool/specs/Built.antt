@@ -1,20 +1,18 @@
 -- The statements that the program answers by steps.
 use Rattle.std.specs.Prelude.{if◌then◌else◌, Option, Some, None, List, Bool, true}
 use Rattle.std.specs.List.{list_all}
-use Rattle.rm_statement.specs.declared.command.Command.TheVariants.{Recover}
 use Rattle.rm_statement.specs.declared.command.Inner.{Inner}
-use Rattle.rm_statement.specs.declared.command.Inner.TheVariants.{SetUntil, AllocateChannel, Plain as PlainInner}
+use Rattle.rm_statement.specs.declared.command.Inner.TheVariants.{Plain as PlainInner}
 use Rattle.rm_statement.specs.declared.command.Statement.{Statement}
 use Rattle.rm_statement.specs.declared.command.Statement.TheVariants.{Plain, Run}
 use Rattle.rm_command.specs.Language.{statement_at}
 use Rattle.rm_machine.specs.Built.{is_built}
 use Rattle.rm_token.specs.declared.token.Token.{Token}
 
--- a statement of a RUN; of one that sets an until, a recovery until there is built
+-- a statement of a RUN
 abbrev pub is_built_inner : Inner → Bool
 is_built_inner (PlainInner c) = is_built c
-is_built_inner (SetUntil until) = is_built (Recover (Some until))
-is_built_inner AllocateChannel = true
+is_built_inner _ = true
 
 -- a RUN is built where each of its statements is
 abbrev pub is_built_statement : Statement → Bool

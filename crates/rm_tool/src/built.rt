@@ -4,45 +4,33 @@ ghost use Rattle.std.specs.List.{list_all};
 ghost use Rattle.rm_statement.specs.IsCommand.{is_statement};
 ghost use Rattle.rm_tool.specs.Built.{is_built_inner, is_built_statement, statement_built_at};
 
-use crate::untils::copied;
 use rm_base::NoMemory;
-use rm_lang::{Command, Inner, Statement, statement_of};
+use rm_lang::{Inner, Statement, statement_of};
 use rm_machine::is_built;
 use rm_token::Token;
 use std::alloc::Global;
 
-fn is_built_inner(alloc: Global, inner: &Inner) -> Result<bool, NoMemory>
-    ensures { IfOk result (λ b. b ≡ is_built_inner inner.now) }
+fn is_built_inner(inner: &Inner) -> bool
+    ensures { result ≡ is_built_inner inner.now }
 {
     match inner {
-        Inner::Plain(command) => Ok(is_built(command)),
-        Inner::SetUntil(until) => {
-            let recovery = Command::Recover {
-                until: Some(copied(alloc, until)?),
-            };
-            Ok(is_built(&recovery))
-        }
-        Inner::AllocateChannel => Ok(true),
+        Inner::Plain(command) => is_built(command),
+        _ => true,
     }
 }
 
-fn are_built(alloc: Global, all: &[Inner]) -> Result<bool, NoMemory>
-    ensures { IfOk result (λ b. b ≡ list_all is_built_inner all.now) }
+fn are_built(all: &[Inner]) -> bool
+    ensures { result ≡ list_all is_built_inner all.now }
 {
-    for inner in all {
-        if !is_built_inner(alloc, inner)? {
-            return Ok(false);
-        }
-    }
-    Ok(true)
+    all.iter().all(is_built_inner)
 }
 
-fn is_built_statement(alloc: Global, statement: &Statement) -> Result<bool, NoMemory>
-    ensures { IfOk result (λ b. b ≡ is_built_statement statement.now) }
+fn is_built_statement(statement: &Statement) -> bool
+    ensures { result ≡ is_built_statement statement.now }
 {
     match statement {
-        Statement::Plain(command) => Ok(is_built(command)),
-        Statement::Run(inner) => are_built(alloc, inner.as_slice()),
+        Statement::Plain(command) => is_built(command),
+        Statement::Run(inner) => are_built(inner.as_slice()),
     }
 }
 
@@ -57,7 +45,7 @@ pub fn built_statement(alloc: Global, tokens: &[Token]) -> Result<Option<Stateme
     let Some(statement) = statement_of(alloc, tokens)? else {
         return Ok(None);
     };
-    if is_built_statement(alloc, &statement)? {
+    if is_built_statement(&statement) {
         Ok(Some(statement))
     } else {
         Ok(None)

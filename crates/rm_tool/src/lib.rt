@@ -4,16 +4,12 @@
 mod adapters;
 mod block;
 mod built;
-mod ends;
+pub mod ends;
 pub mod laws;
 mod opening;
 pub mod run;
 mod session;
-#[cfg(test)]
-mod tests;
 mod untils;
-#[cfg(test)]
-mod whole_runs;
 mod words;
 
 pub use adapters::{ReadSource, SystemClock, WriteSink};

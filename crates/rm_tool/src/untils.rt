@@ -7,8 +7,8 @@ use rm_base::{NoMemory, Text};
 use rm_lang::{Command, Until};
 use std::alloc::Global;
 
-/// A copy of the until.
-pub fn copied(alloc: Global, until: &Until) -> Result<Until, NoMemory>
+// A copy of the until.
+fn copied(alloc: Global, until: &Until) -> Result<Until, NoMemory>
     ensures { IfOk result (λ copy. copy ≡ until.now) }
 {
     match until {

@@ -20,7 +20,7 @@ step-requires-clause-command g c =
 pub step-requires-clause-built : goal.step-requires-clause-built
 step-requires-clause-built g c =
     let own = subst (λ (y : Inner). is_built_inner y ≡ true) c.in-Plain.is c.requires.built in
-    subst (λ (x : Command). is_built x ≡ true) (sym c.in_ok-command-in-Plain.ensures) (built_with c.args.settings.now.until c.in-Plain.command c.requires.set.built own)
+    subst (λ (x : Command). is_built x ≡ true) (sym c.in_ok-command-in-Plain.ensures) (built_with c.args.settings.now.until c.in-Plain.command own)
 
 pub returns-in_err-set_reply-in-SetUntil-clause-stopped : goal.returns-in_err-set_reply-in-SetUntil-clause-stopped
 returns-in_err-set_reply-in-SetUntil-clause-stopped g c =

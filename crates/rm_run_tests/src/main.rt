@@ -1,0 +1,28 @@
+//! Tests of the sources and the sinks of rm_tool, and of a run that no row of rm_rows can show. Each prints a line.
+#![tactic(auto)]
+
+mod broken;
+mod ends;
+mod runs;
+
+use rm_base::NoMemory;
+use std::io;
+
+fn tell(rt: &HostRuntime, name: &str, outcome: Result<bool, NoMemory>) -> io::Result<()> {
+    match outcome {
+        Ok(true) => println!(rt; "{name}: ok"),
+        Ok(false) => println!(rt; "{name}: not so"),
+        Err(NoMemory) => println!(rt; "{name}: no memory"),
+    }
+}
+
+fn main(rt: HostRuntime) -> io::Result<()> {
+    let alloc = rt.alloc();
+    tell(&rt, "a source in pieces", ends::a_source(alloc))?;
+    tell(&rt, "a source fails", ends::a_source_fails(alloc))?;
+    tell(&rt, "the longest script", ends::longest(alloc))?;
+    tell(&rt, "a sink past its room", ends::a_sink(alloc))?;
+    tell(&rt, "a reader is a source", ends::a_reader(alloc))?;
+    tell(&rt, "a writer is a sink", ends::a_writer(alloc))?;
+    tell(&rt, "a script too long", runs::too_long(alloc))
+}
