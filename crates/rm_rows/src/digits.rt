@@ -1,4 +1,4 @@
-//! Records, by the hexadecimal digits of their fields.
+//! Bytes and records, by hexadecimal digits.
 use rm_base::{FormatFault, NoMemory};
 use rm_catalog::{Key, Record};
 use rm_record_bytes::decode_record;
@@ -32,13 +32,18 @@ fn bytes_of(alloc: Global, digits: &[u8]) -> Result<Option<Vec<u8>>, NoMemory> {
     Ok(Some(bytes))
 }
 
+/// The bytes of words of digits, one after another, if they are digits.
+pub fn bytes_in(alloc: Global, words: &[&str]) -> Result<Option<Vec<u8>>, NoMemory> {
+    let mut digits = Vec::new(alloc);
+    for word in words {
+        digits.extend_from_slice(word.as_bytes())?;
+    }
+    bytes_of(alloc, &digits)
+}
+
 /// The record of this key whose fields have these digits, if there is one.
 pub fn record_of(alloc: Global, key: Key, fields: &[&str]) -> Result<Option<Record>, NoMemory> {
-    let mut digits = Vec::new(alloc);
-    for field in fields {
-        digits.extend_from_slice(field.as_bytes())?;
-    }
-    let Some(bytes) = bytes_of(alloc, &digits)? else {
+    let Some(bytes) = bytes_in(alloc, fields)? else {
         return Ok(None);
     };
     match decode_record(alloc, key, &bytes) {

@@ -23,6 +23,7 @@
 //! | `-- session` | another script begins, over the store and the keeper that the last run left, whose calls go on to count |
 //! | `-- record KIND ID HEX ..` | the keeper that the last run left has this record, of these fields |
 //! | `-- drop KIND ID` | it has no record of this key |
+//! | `-- put NAME HEX ..` | the store that the last run left has an object of this name and of these bytes |
 //! | `-- object NAME N HEX` | the last run left an object of this name of N bytes, which begin so |
 #![tactic(auto)]
 

@@ -1,8 +1,8 @@
 //! A row, read line by line.
 use crate::calls::{Calls, call_of};
-use crate::digits::record_of;
+use crate::digits::{bytes_in, record_of};
 use crate::trial::{ROOM, Trial, object};
-use rm_base::{MemStore, NoMemory, Text};
+use rm_base::{MemStore, NoMemory, Store, Text};
 use rm_catalog::{Edit, Keeper, Key, MemKeeper};
 use std::alloc::{AllocError, AllocFailed, Global};
 
@@ -109,6 +109,7 @@ impl Row {
                 let key = self.key(kind, id)?;
                 self.apply(Edit::Drop(key))
             }
+            ["put", name, digits @ ..] => self.put_object(name, digits),
             ["session"] => {
                 self.script.clear();
                 self.written.clear();
@@ -222,6 +223,20 @@ impl Row {
         match record_of(self.alloc, key, fields)? {
             Some(record) => self.apply(Edit::Put(record)),
             None => self.differs("not a record"),
+        }
+    }
+
+    // The store that the last run left has this object.
+    fn put_object(&mut self, name: &str, digits: &[&str]) -> Result<(), Fault> {
+        let Some(bytes) = bytes_in(self.alloc, digits)? else {
+            return self.differs("not digits");
+        };
+        let Some((store, _)) = &mut self.site else {
+            return self.differs("no run before");
+        };
+        match store.put(name, &bytes) {
+            Ok(()) => Ok(()),
+            Err(_) => self.differs("the store failed"),
         }
     }
 
