@@ -1,13 +1,14 @@
 //! Recovers a database as its script says.
 #![tactic(auto)]
 
-use rm_base::Text;
+use rm_base::{NoMemory, Text};
 use rm_dir::DirStore;
 use rm_keeper_sql::CatalogFile;
 use rm_tool::run::run;
 use rm_tool::{ReadSource, SystemClock, WriteSink};
 use rm_words::read_words;
 use std::alloc::Global;
+use std::io::ErrorKind;
 use std::process::ExitCode;
 use std::{env, io};
 
@@ -20,12 +21,26 @@ fn paths(alloc: Global, words: &[Text]) -> (String, String) {
     }
 }
 
-fn main(rt: HostRuntime) -> io::Result<ExitCode> {
-    let alloc = rt.alloc();
-    let mut words = Vec::new(alloc);
-    for word in env::args(&rt)?.skip(1) {
-        words.push(Text::from_string(word))?;
+// The program's words. Where one of them is no text there are none, which `run` refuses.
+fn words(rt: &HostRuntime) -> Result<Vec<Text>, NoMemory> {
+    let mut words = Vec::new(rt.alloc());
+    match env::args(rt) {
+        Ok(args) => {
+            for word in args.skip(1) {
+                words.push(Text::from_string(word))?;
+            }
+        }
+        Err(error) if error.kind() == ErrorKind::OutOfMemory => return Err(NoMemory),
+        Err(_) => {}
     }
+    Ok(words)
+}
+
+fn main(rt: HostRuntime) -> ExitCode {
+    let alloc = rt.alloc();
+    let Ok(words) = words(&rt) else {
+        return ExitCode::from(7);
+    };
     let (folder, file) = paths(alloc, &words);
     let mut source = ReadSource::new(rt.reader());
     let mut sink = WriteSink::new(io::writer(&rt));
@@ -43,5 +58,5 @@ fn main(rt: HostRuntime) -> io::Result<ExitCode> {
     );
     // What was applied is durable without it.
     let _ = keeper.close();
-    Ok(ExitCode::from(status))
+    ExitCode::from(status)
 }
