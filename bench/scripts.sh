@@ -3,8 +3,8 @@
 # script without the statements that are measured. Beside BACKUP and RECOVER of a database of 8 MB stands the shortest
 # of five runs of sha256sum on a file as long as the two pieces. Then the database is lost: beside its RESTORE and
 # RECOVER, from a level 0 and a log of 65,536 records, stands sha256sum of these objects, and at last RECOVER from 1, 4
-# and 16 logs of 4,096 records each, and from 1, 4 and 16 level 1s of 4,096 blocks each without a log; and RECOVER COPY over
-# as many level 1s.
+# and 16 logs of 4,096 records each. Over 1, 4 and 16 level 1s of 4,096 blocks each, without a log, RECOVER and RECOVER COPY are sessions
+# of their own, less one that only shows the settings.
 set -euo pipefail
 cd "$(dirname "$0")/.."
 room=$(mktemp -d)
@@ -84,18 +84,32 @@ for logs in 1 4 16; do
     echo "recover from $logs logs of 4096 records: $((recovered - restored)) us"
 done
 
+# The shortest of seven sessions of this statement alone, each over what the session before left.
+next_session() {
+    local best=
+    for _ in 1 2 3 4 5 6 7; do
+        rm -rf "$place/objects" "$place/catalog"* && cp -r "$place/before/." "$place"
+        local start end micros
+        start=$(date +%s%N)
+        echo "$1" | ./rman --store "$place/objects" --catalog "$place/catalog" > /dev/null
+        end=$(date +%s%N)
+        micros=$(((end - start) / 1000))
+        [ -n "$best" ] && [ "$best" -le "$micros" ] || best=$micros
+    done
+    echo "$best"
+}
+
 for level1s in 1 4 16; do
     (database && echo 'BACKUP INCREMENTAL LEVEL 1 FOR RECOVER OF COPY WITH TAG inc DATABASE;'
         for k in $(seq 0 $((level1s - 1))); do
             writes $((k * 4096)) $((k * 4096 + 4096))
             echo 'BACKUP INCREMENTAL LEVEL 1 FOR RECOVER OF COPY WITH TAG inc DATABASE;'
-        done) > "$room/backups"
-    (cat "$room/backups" && echo 'HOST LOSE LOG THREAD 1;' && lose && echo 'RESTORE DATABASE;') > "$room/restored"
-    (cat "$room/restored" && echo 'RECOVER DATABASE;') > "$room/recovered"
-    (cat "$room/backups" && echo 'RECOVER COPY OF DATABASE WITH TAG inc;') > "$room/renewed"
-    backups=$(shortest run_script "$room/backups")
-    restored=$(shortest run_script "$room/restored")
-    recovered=$(shortest run_script "$room/recovered")
-    renewed=$(shortest run_script "$room/renewed")
-    echo "recover from $level1s level 1s of 4096 blocks: $((recovered - restored)) us; recover copy over them: $((renewed - backups)) us"
+        done
+        echo 'HOST LOSE LOG THREAD 1;' && lose && echo 'RESTORE DATABASE;') > "$room/restored"
+    run_script "$room/restored" > /dev/null
+    rm -rf "$place/before" && mkdir "$place/before" && cp -r "$place/objects" "$place/catalog"* "$place/before"
+    show=$(next_session 'SHOW ALL;')
+    recover=$(next_session 'RECOVER DATABASE;')
+    renewed=$(next_session 'RECOVER COPY OF DATABASE WITH TAG inc;')
+    echo "recover from $level1s level 1s of 4096 blocks: $((recover - show)) us; recover copy over them: $((renewed - show)) us"
 done
