@@ -9,6 +9,7 @@ use Rattle.rm_base.specs.declared.refusal.Refusal.{Refusal}
 use Rattle.rm_base.specs.declared.refusal.Refusal.TheVariants.{Rm03, Rm05}
 use Rattle.rm_base.specs.declared.refusal.Absent.TheVariants.{File}
 use Rattle.rm_base.proofs.Conditions.{only-where, unless}
+use Rattle.rm_catalog.specs.declared.record.BaseEntry.{BaseEntry}
 use Rattle.rm_catalog.specs.declared.record.LogEntry.{LogEntry}
 use Rattle.rm_catalog.specs.declared.record.PieceEntry.{PieceEntry}
 use Rattle.rm_history.specs.declared.world.Datafile.{Datafile}
@@ -25,7 +26,8 @@ use Rattle.rm_statement.specs.declared.command.Until.{Until}
 use Rattle.rm_statement.specs.declared.command.RetentionForm.{RetentionForm}
 use Rattle.rm_statement.specs.declared.command.WriteForm.{WriteForm}
 use Rattle.rm_machine.specs.Archive.{after_all, after_thread, after_threads, archiving, due_from}
-use Rattle.rm_machine.specs.Backup.{after_file, after_files, backing}
+use Rattle.rm_machine.specs.BackupOutcome.{at_end, effect_of}
+use Rattle.rm_machine.specs.MadePieces.{Copied, after_piece, after_pieces, copied}
 use Rattle.rm_machine.specs.BackupLogs.{copies_of, copies_refusal, copy_entry, copying, numbered_from, with_copies}
 use Rattle.rm_machine.specs.CreateDatafile.{datafile_refusal, with_datafile}
 use Rattle.rm_machine.specs.Configure.{parallelism_refusal, policy_of, retention_refusal, with_channels, with_policy}
@@ -43,7 +45,6 @@ use Rattle.rm_machine.proofs.Untils.{until-none}
 use Rattle.rm_machine.specs.ResetDatabase.{at_incarnation, reset_refusal}
 use Rattle.rm_machine.specs.Restore.{RestoresTo, place_refusal, restored}
 use Rattle.rm_machine.specs.Sound.{IsSound}
-use Rattle.rm_machine.specs.declared.job.Job.{Job}
 use Rattle.rm_machine.specs.declared.state.State.{State}
 use Rattle.rm_machine.specs.State.{current_of, ledger, now_of, on_path, online}
 use Rattle.rm_machine.specs.Step.{IsDone, IsOutcome, refusal_of}
@@ -53,7 +54,9 @@ use Rattle.rm_machine.specs.Upkeep.{changed_to, log_at, log_changed, piece_at, p
 use Rattle.rm_machine.specs.Write.{block_refusal, with_write, write_refusal}
 use Rattle.rm_machine.proofs.Archives.{Took, took-thread}
 use Rattle.rm_machine.proofs.ArchivingAll.{room}
-use Rattle.rm_machine.proofs.BackingUp.{can-back_up, jobs-room}
+use Rattle.rm_machine.proofs.BackingUp.{base-at_end, jobs-many}
+use Rattle.rm_machine.proofs.BackupAccepted.{can-back_up}
+use Rattle.rm_machine.proofs.Copies.{few-copied}
 use Rattle.rm_machine.proofs.BackingUpLogs.{after_copies, done-of, room-for}
 use Rattle.rm_machine.proofs.Branching.{can-reset}
 use Rattle.rm_machine.proofs.Drilling.{IsDrill, cut-by, damaged-by, removed-by, renamed-by}
@@ -329,18 +332,22 @@ branch-roomy s held lines e t sound comes =
     branch-left s.instance.point s lines e t both.1 (omega (arith, most, up))
 
 -- each piece draws one
-files-next : (b : BackupForm) (tag : List ℕ) (js : List Job) (s : State) → next (after_files s b tag js) ≡ next s + length js
-files-next b tag [] s = omega arith
-files-next b tag (j ∷ js) s = let rest = files-next b tag js (after_file s b tag j) in omega (arith, rest)
+pieces-next : (b : BackupForm) (tag : List ℕ) (xs : List Copied) (s : State) → next (after_pieces s b tag xs) ≡ next s + length xs
+pieces-next b tag [] s = omega arith
+pieces-next b tag (x ∷ xs) s = let rest = pieces-next b tag xs (after_piece s b tag x.copy x.piece) in omega (arith, rest)
 
 pub backup-roomy : (b : BackupForm) → LeavesIds (Backup b)
 backup-roomy b s held lines e t sound comes =
     let both = done-by (refusal_of s (Backup b)) s held (Backup b) lines e t comes in
     let does = both.1 in
-    let js = does.jobs in
-    let most = (jobs-room s b js does.are (can-back_up s b sound both.0).room).ids in
-    let up = files-next b does.tag js s in
-    left-after lines _ e (backing s b does.tag js) (after_files s b does.tag js) t does.is (omega (arith, most, up))
+    let xs = copied (ledger s).base b (now_of s) does.jobs does.rows in
+    let q : State = at_end s b does.events in
+    let same : next q ≡ next s = ap (λ (x : BaseEntry). x.next_id) (base-at_end s b does.events) in
+    let few = few-copied s b (now_of s) does.jobs does.rows in
+    let many = jobs-many s b does.jobs does.are in
+    let most = (can-back_up s b sound both.0).ids in
+    let up = pieces-next b does.tag xs q in
+    left-after lines _ e (effect_of s b does.tag does.events xs) (after_pieces q b does.tag xs) t does.is (omega (arith, same, few, many, most, up))
 
 -- and so does each backup of a log
 copies-next : (logs : List LogFile) (n : ℕ) (r : Repository) → next_in (with_copies r (numbered_from n logs)) ≡ next_in r + length logs

@@ -1,150 +1,69 @@
--- BACKUP leads on: pieces are recorded, one after another.
-use Rattle.std.proofs.Common.{◌≡◌, ◌+◌, ◌∙◌, ◌++◌, inl, inr, ℕ, suc, List, [], ◌∷◌, Option, Some, None, true, refl, ap, sym, subst, arith, append_assoc, length, map, All, slice_index_or, sum_by}
+-- BACKUP leads on: the mark, the events, and then the pieces.
+use Rattle.std.proofs.Common.{◌≡◌, ◌≤◌, ◌+◌, ◌-◌, ◌∙◌, ◌++◌, ℕ, List, [], ◌∷◌, Option, Some, None, Ok, Bool, true, false, cond, is_none, refl, ap, sym, subst, arith, length, map, unwrap_or, All, Contains, slice_get, slice_index_or}
 use Rattle.std.specs.Option.{option_map_or}
-use Rattle.std.proofs.lemmas.List.{append-nil, length-map}
+use Rattle.std.proofs.lemmas.List.{length-map}
 use Rattle.std.proofs.lemmas.List.Elements.{All-cons, All-head, All-nil, All-tail, All-weaker, Contains-get_or}
+use Rattle.std.proofs.lemmas.Option.{slice_get-get_or}
 use Rattle.rm_base.specs.Store.{Held}
 use Rattle.rm_base.specs.declared.block.Change.{Change}
-use Rattle.rm_base.specs.declared.refusal.Absent.TheVariants.{File as AbsentFile}
-use Rattle.rm_base.specs.declared.refusal.Limit.TheVariants.{Records, Bytes, ObjectIds}
-use Rattle.rm_base.specs.declared.refusal.Refusal.{Refusal}
-use Rattle.rm_base.specs.declared.refusal.Refusal.TheVariants.{Rm04, Rm05, Rm09, Rm11}
-use Rattle.rm_base.proofs.Conditions.{only-where, unless}
+use Rattle.rm_base.specs.declared.block.Row.{Row}
+use Rattle.rm_base.proofs.Members.{none-in}
+use Rattle.rm_base.proofs.Slots.{get-index}
+use Rattle.rm_blocks.specs.File.{File, standing}
+use Rattle.rm_catalog.specs.declared.record.BaseEntry.{BaseEntry}
 use Rattle.rm_catalog.specs.Objects.{IsTag}
+use Rattle.rm_channel.specs.Jobs.{AreRows, deeds_of}
+use Rattle.rm_channel.specs.Made.{AreThese, deed}
+use Rattle.rm_history.specs.declared.world.Datafile.{Datafile}
+use Rattle.rm_history.specs.World.{exists}
 use Rattle.rm_change.specs.Names.{HasPuts}
-use Rattle.rm_statement.specs.declared.command.BackupForm.{BackupForm}
-use Rattle.rm_statement.specs.declared.command.Command.TheVariants.{Backup}
+use Rattle.rm_ledger.specs.Facts.{IsPieceEntry}
 use Rattle.rm_ledger.specs.Ledger.{records_of}
-use Rattle.rm_repository.specs.Fitting.{FitsNewPiece}
-use Rattle.rm_machine.specs.Backup.{AreJobs, absent, after_file, after_files, backing, backup_refusal, entry_of, lost_taken, made_of, made_piece, piece_bytes, piece_object, piece_of, pieces_refusal, puts_of, taken}
-use Rattle.rm_machine.specs.Effect.{Effect, LeavesObjects, Made}
-use Rattle.rm_machine.specs.Machine.{IsBorneOut}
-use Rattle.rm_machine.specs.Marks.{lacks_bytes, lacks_ids, lacks_room}
-use Rattle.rm_machine.specs.Sound.{IsSound}
+use Rattle.rm_live.specs.declared.history.Event.{Event}
+use Rattle.rm_live.specs.History.{IsLegal}
+use Rattle.rm_piece.specs.Valid.{IsPiece}
+use Rattle.rm_statement.specs.declared.command.BackupForm.{BackupForm}
+use Rattle.rm_statement.specs.declared.command.WriteForm.{WriteForm}
+use Rattle.rm_machine.specs.MadePieces.{entry_for, piece_by}
+use Rattle.rm_machine.specs.Backup.{AreJobs, is_copy, rows_in, taken}
+use Rattle.rm_machine.specs.Effect.{Effect, LeavesObjects, Made, a_piece}
+use Rattle.rm_machine.specs.Marks.{marks_before}
+use Rattle.rm_machine.specs.Machine.{IsBorneOut, IsTrueArtefact}
+use Rattle.rm_machine.specs.Sound.{IsPlaced, IsSound}
 use Rattle.rm_machine.specs.declared.job.Job.{Job}
 use Rattle.rm_machine.specs.declared.state.State.{State}
-use Rattle.rm_machine.specs.State.{ledger}
-use Rattle.rm_machine.proofs.Archives.{puts-rest, with_puts}
-use Rattle.rm_machine.proofs.Backups.{IsTaken, entry-is, piece-true, taken-all}
-use Rattle.rm_machine.proofs.Kept.{stand-same}
-use Rattle.rm_machine.proofs.Later.{borne-beside}
-use Rattle.rm_machine.proofs.Leading.{LeadsOnBy, StaysBy}
-use Rattle.rm_machine.proofs.Left.{HasRoom}
+use Rattle.rm_machine.specs.State.{current_of, ledger, now_of, tree, world}
+use Rattle.rm_machine.proofs.Backups.{IsTaken}
 use Rattle.rm_machine.proofs.Parents.{BeginsWithin, begins-within}
-use Rattle.rm_machine.proofs.Pieces.{borne-recorded, count-recorded, sound-recorded}
-use Rattle.rm_machine.proofs.Switching.{not-above}
+use Rattle.rm_machine.proofs.Places.{counted-open}
 use Rattle.rm_machine.proofs.Tags.{tag-fits}
-use Rattle.rm_machine.proofs.Further.{roomy-either}
+use Rattle.rm_machine.specs.Asked.{span_of, writers_of, writes_in}
+use Rattle.rm_machine.specs.Events.{changes_of, opening}
+use Rattle.rm_machine.specs.MadePieces.{CanRecord, Copied, after_pieces, copied, pieces_made, pieces_put}
+use Rattle.rm_machine.specs.BackupOutcome.{at_end, effect_of, marked}
+use Rattle.rm_machine.specs.BackupRefusal.{mark_count}
+use Rattle.rm_machine.proofs.BackupAccepted.{CanBeWritten, CanBackUp, can-back_up}
+use Rattle.rm_machine.proofs.Copies.{IsReady, all-copied, few-copied, ready-entry, ready-true, ready-valid}
+use Rattle.rm_machine.proofs.BackupMarks.{borne-marked, count-marked, marked-same, sound-marked, unmarked-mark, with_mark}
+use Rattle.rm_machine.proofs.PiecesRead.{BeginsBelow, IsCheckpoint}
+use Rattle.rm_machine.proofs.Recording.{pieces-borne, pieces-saved, pieces-sound}
+use Rattle.rm_machine.proofs.Deeds.{AllOf, WereRead, all-of, are-asked, are-read}
+use Rattle.rm_machine.proofs.Walk.{AreAsked, CanGoOn, HasWalked, borne-events, events-same, true-events, walk}
+use Rattle.rm_machine.proofs.Leading.{LeadsOnBy, StaysBy}
+use Rattle.rm_statement.specs.declared.command.Command.TheVariants.{Backup}
 
--- One datafile
+-- The datafiles of a BACKUP
 
 -- the datafile can be backed up, and its backup begins up to now
-pub record IsReady (s : State) (j : Job) : Type 0 where
+pub record IsReadyToRead (s : State) (j : Job) : Type 0 where
   pub taken : IsTaken s j.file
   pub begins : BeginsWithin s j.from
-
--- the others can be backed up still
-ready-still : (s : State) (b : BackupForm) (tag : List ℕ) (j k : Job) → IsReady s k → IsReady (after_file s b tag j) k
-ready-still s b tag j k is =
-    let t = is.taken in
-    record { taken = record { some = t.some; datafile = t.datafile; is = t.is; here = t.here; file = t.file; stands = t.stands }; begins = is.begins }
-
-pub ready-next : (s : State) (b : BackupForm) (tag : List ℕ) (j : Job) (js : List Job) → All (IsReady s) (j ∷ js) → All (IsReady (after_file s b tag j)) js
-ready-next s b tag j js all = All-weaker (IsReady s) (IsReady (after_file s b tag j)) (λ k is. ready-still s b tag j k is) js (All-tail (IsReady s) j js all)
-
-pub next-room : (s : State) (b : BackupForm) (tag : List ℕ) (j : Job) (n : ℕ) → HasRoom s (suc n) → HasRoom (after_file s b tag j) n
-next-room s b tag j n room =
-    let more = count-recorded s (entry_of s b tag j) in
-    let r = room.records in
-    let k = room.ids in
-    record { records = omega (arith, more, r); ids = omega (arith, k) }
-
-module _ (b : BackupForm) (tag : List ℕ) (tagged : IsTag tag) (s : State) (j : Job) (n : ℕ) (sound : IsSound s) (opened : s.instance.is_open ≡ true) (is : IsReady s j) (room : HasRoom s (suc n)) where
-  pub file-fits : FitsNewPiece s.catalog (entry_of s b tag j)
-  file-fits =
-      let r = room.records in
-      let k = room.ids in
-      record { piece = entry-is s b j.file sound opened is.taken tag tagged j.from is.begins; id = refl; last = omega (arith, k); room = omega (arith, r) }
-
-  pub sound-file : IsSound (after_file s b tag j)
-  sound-file = sound-recorded s (entry_of s b tag j) sound file-fits
-
-  borne-file : (h : List Change) (objects : Held) (made : List Made) (touched : List (List ℕ)) → IsBorneOut s h objects made touched
-      → IsBorneOut (after_file s b tag j) h (with_puts (piece_object s b j ∷ []) objects) (made ++ made_piece s b j ∷ []) touched
-  borne-file h objects made touched stands =
-      borne-recorded s (entry_of s b tag j) sound file-fits h objects made touched (piece_of s b j)
-      (record { kind = refl; inc = refl; file = refl; from = refl; checkpoint = refl; high = refl; rows = refl }) (record { size = refl; sha = refl })
-      (piece-true s b j.file sound opened is.taken h stands.keeps j.from is.begins) stands
-
--- All of them
-module _ (b : BackupForm) (tag : List ℕ) (tagged : IsTag tag) where
-  files-sound : (js : List Job) (s : State) → IsSound s → s.instance.is_open ≡ true → All (IsReady s) js → HasRoom s (length js) → IsSound (after_files s b tag js)
-  files-sound [] s sound opened all room = sound
-  files-sound (j ∷ js) s sound opened all room =
-      let is = All-head (IsReady s) j js all in
-      files-sound js (after_file s b tag j) (sound-file b tag tagged s j (length js) sound opened is room) opened (ready-next s b tag j js all) (next-room s b tag j (length js) room)
-
-  files-borne : (js : List Job) (s : State) (h : List Change) (objects : Held) (made : List Made) (touched : List (List ℕ)) (after : Held) → s.instance.is_open ≡ true → All (IsReady s) js → HasRoom s (length js) → IsBorneOut s h objects made touched
-      → HasPuts (puts_of s b tag js) objects after → IsBorneOut (after_files s b tag js) h after (made ++ made_of s b tag js) touched
-  files-borne [] s h objects made touched after opened all room stands puts =
-      subst (λ k. IsBorneOut s h after k touched) (sym (append-nil made))
-      (borne-beside s h objects after made touched touched stands (stand-same objects after touched (ledger s) (ledger s) puts))
-  files-borne (j ∷ js) s h objects made touched after opened all room stands puts =
-      let is = All-head (IsReady s) j js all in
-      let q : State = after_file s b tag j in
-      let x = piece_object s b j in
-      let new : Made = made_piece s b j in
-      let one = borne-file b tag tagged s j (length js) stands.state opened is room h objects made touched stands in
-      let rest = files-borne js q h (with_puts (x ∷ []) objects) (made ++ new ∷ []) touched after opened (ready-next s b tag j js all) (next-room s b tag j (length js) room) one (puts-rest (x ∷ []) (puts_of q b tag js) objects after puts) in
-      subst (λ k. IsBorneOut (after_files q b tag js) h after k touched) (append_assoc made (new ∷ []) (made_of q b tag js)) rest
-
--- a saved site that was not there is not there after it
-saved-same : (b : BackupForm) (tag : List ℕ) (js : List Job) (s : State) → (after_files s b tag js).catalog.saved ≡ s.catalog.saved
-saved-same b tag [] s = refl
-saved-same b tag (j ∷ js) s = saved-same b tag js (after_file s b tag j)
-
--- Why it was not refused
-
-pub record CanBackUp (s : State) (b : BackupForm) : Type 0 where
-  pub opened : s.instance.is_open ≡ true
-  pub all : All (IsTaken s) (taken s b)
-  pub room : HasRoom s (length (taken s b))
-
-unless-some : {X : Type 0} (r : X → Refusal) (o : Option X) (other : Option Refusal) → option_map_or (λ x. Some (r x)) o other ≡ None → (o ≡ None) × (other ≡ None)
-unless-some r None other is = (refl, is)
-unless-some r (Some x) other is = absurd (let e : Some (r x) ≡ None = is in cc)
-
-pub can-back_up : (s : State) (b : BackupForm) → IsSound s → backup_refusal s b ≡ None → CanBackUp s b
-can-back_up s b sound is =
-    let fs = taken s b in
-    let n = length fs in
-    let lost = option_map_or (λ f. Some (Rm09 f)) (lost_taken s b) (pieces_refusal s fs) in
-    let mode = only-where s.instance.is_open (option_map_or (λ f. Some (Rm05 (AbsentFile f))) (absent s b) lost) (Rm04 true) is in
-    let known = unless-some (λ f. Rm05 (AbsentFile f)) (absent s b) lost mode.1 in
-    let found = unless-some (λ f. Rm09 f) (lost_taken s b) (pieces_refusal s fs) known.1 in
-    let records = unless (lacks_room s n) (Rm11 Records) _ found.1 in
-    let bytes = unless (lacks_bytes s (sum_by (piece_bytes s) fs)) (Rm11 Bytes) _ records.1 in
-    let ids = unless (lacks_ids s n) (Rm11 ObjectIds) None bytes.1 in
-    let few = sound.catalog.ledger.few in
-    record {
-      opened = mode.0;
-      all = taken-all s b found.0;
-      room = record {
-        records = elim (roomy-either n (length (records_of (ledger s)) + n) records.0) [
-          | inl none ↦ omega (arith, none, few)
-          | inr room ↦ omega (arith, room)
-        ];
-        ids = not-above 4294967295 ((ledger s).base.next_id + n + 68) ids.0;
-      };
-    }
-
--- What is made of the datafiles
 
 mapped-all : {X Y : Type 0} (P : Y → Type 0) (f : X → Y) (xs : List X) → All P (map f xs) → All (λ x. P (f x)) xs
 mapped-all P f [] all = All-nil (λ x. P (f x))
 mapped-all P f (x ∷ xs) all = All-cons (λ y. P (f y)) x xs (All-head P (f x) (map f xs) all) (mapped-all P f xs (All-tail P (f x) (map f xs) all))
 
-pub jobs-ready : (s : State) (b : BackupForm) (jobs : List Job) → IsSound s → AreJobs s b jobs → All (IsTaken s) (taken s b) → All (IsReady s) jobs
+pub jobs-ready : (s : State) (b : BackupForm) (jobs : List Job) → IsSound s → AreJobs s b jobs → All (IsTaken s) (taken s b) → All (IsReadyToRead s) jobs
 jobs-ready s b jobs sound are all k d inside =
     let j : Job = slice_index_or jobs k d in
     record {
@@ -152,32 +71,195 @@ jobs-ready s b jobs sound are all k d inside =
       begins = begins-within s sound b j.file j.from (are.begin j (Contains-get_or jobs k d inside));
     }
 
-pub jobs-room : (s : State) (b : BackupForm) (jobs : List Job) → AreJobs s b jobs → HasRoom s (length (taken s b)) → HasRoom s (length jobs)
-jobs-room s b jobs are room = subst (HasRoom s) (ap (λ (fs : List ℕ). length fs) (sym are.files) ∙ length-map jobs (λ (j : Job). j.file)) room
+-- no more than are taken
+pub jobs-many : (s : State) (b : BackupForm) (jobs : List Job) → AreJobs s b jobs → length jobs ≡ length (taken s b)
+jobs-many s b jobs are = sym (length-map jobs (λ (j : Job). j.file)) ∙ ap (λ (fs : List ℕ). length fs) are.files
+
+-- The mark before its writes
+
+-- where there is a write the mark was made
+pub during-marks : (s : State) (d : Option (List WriteForm)) (w : WriteForm) → Contains (unwrap_or d []) w → marks_before (cond (is_none d) s (with_mark s)) ≡ []
+during-marks s None w has = absurd (none-in w has)
+during-marks s (Some ws) w has = unmarked-mark s
+
+-- what a write finds it finds beside the mark
+can-marked : (s : State) (t : Bool) (ws : List WriteForm) → All (CanBeWritten s) ws → All (CanBeWritten (cond t s (with_mark s))) ws
+can-marked s true ws all = all
+can-marked s false ws all =
+    All-weaker (CanBeWritten s) (CanBeWritten (with_mark s))
+    (λ w it. record { thread = it.thread; datafile = it.datafile; is = it.is; here = it.here; block = it.block; file = it.file; stands = it.stands }) ws all
+
+-- the base facts stay until the pieces are recorded
+pub base-at_end : (s : State) (b : BackupForm) (events : List Event) → (ledger (at_end s b events)).base ≡ (ledger s).base
+base-at_end s b events = events-same (λ (q : State). (ledger q).base) (λ q w. refl) events (marked s b) ∙ marked-same (λ (q : State). (ledger q).base) s b refl
+
+begins-below : (s : State) (from : Option ℕ) → BeginsWithin s from → BeginsBelow (now_of s) from
+begins-below s None is = tt
+begins-below s (Some from) is = is
+
+-- of each datafile, whatever was read of it, and of both
+of-each : (P : Job → Type 0) (Q R : Job → List Row → Type 0) → ((j : Job) (rs : List Row) → P j → Q j rs → R j rs) → (js : List Job) (rows : List (List Row)) → All P js → AllOf Q js rows → AllOf R js rows
+of-each P Q R on [] rows all both = tt
+of-each P Q R on (j ∷ js) [] all both = tt
+of-each P Q R on (j ∷ js) (rs ∷ rows) all both = (on j rs (All-head P j js all) both.0, of-each P Q R on js rows (All-tail P j js all) both.1)
+
+module _ (s : State) (b : BackupForm) (contents : All (λ (w : WriteForm). length w.content.0 ≡ 64) (writes_in b)) (sound : IsSound s) (can : CanBackUp s b) (tag : List ℕ) (tagged : IsTag tag) (jobs : List Job) (are : AreJobs s b jobs) (rows : List (List Row)) (whole : AreRows rows (map (span_of s) jobs))
+    (scns : List (List ℕ)) (events : List Event) (legal : IsLegal (opening s) events) (these : AreThese (deeds_of (map (span_of s) jobs) rows 1 (writers_of s b) (map (map Ok) scns)) (map deed events)) where
+  abbrev u : State
+  u = marked s b
+
+  abbrev t : State
+  t = at_end s b events
+
+  abbrev ws : List WriteForm
+  ws = writes_in b
+
+  abbrev xs : List Copied
+  xs = copied (ledger s).base b (now_of s) jobs rows
+
+  room : length (records_of (ledger s)) + mark_count s b ≤ 65536
+  room = let all = can.records in omega (arith, all)
+
+  begun : CanGoOn u ws
+  begun = record {
+    sound = sound-marked s b room sound;
+    opened = marked-same (λ (q : State). q.instance.is_open) s b refl ∙ can.opened;
+    unmarked = λ w has. during-marks s b.during w has;
+    writes = can-marked s (is_none b.during) ws can.writes;
+    contents = contents;
+  }
+
+  right : IsLegal (opening u) events
+  right = subst (λ p. IsLegal p events) (sym (marked-same opening s b refl)) legal
+
+  asked : AreAsked ws events
+  asked = are-asked ws (ledger s).base.threads (map (span_of s) jobs) rows scns events these
+
+  walked : HasWalked u ws events t
+  walked = walk ws events u begun right asked
+
+  pub end-sound : IsSound t
+  end-sound = walked.can.sound
+
+  now-marked : now_of u ≡ now_of s
+  now-marked = marked-same now_of s b refl
+
+  base-end : (ledger t).base ≡ (ledger s).base
+  base-end = base-at_end s b events
+
+  files-end : (ledger t).files ≡ (ledger s).files
+  files-end = events-same (λ (q : State). (ledger q).files) (λ q w. refl) events u ∙ marked-same (λ (q : State). (ledger q).files) s b refl
+
+  at : IsCheckpoint t (now_of s)
+  at =
+      let range = sound.catalog.ledger.incarnations.ranges (current_of s) sound.catalog.ledger.current in
+      let low = range.0 in
+      let up = range.1 in
+      let now = walked.now in
+      let same = now-marked in
+      record { some = omega (arith, low, up); most = omega (arith, now, same) }
+
+  -- What was read of a datafile
+  module _ (j : Job) (rs : List Row) (is : IsReadyToRead s j) (were : WereRead s (map deed events) j rs) where
+    blocks : length (rows_in s j.file) ≡ is.taken.datafile.blocks
+    blocks =
+        let held = get-index s.instance.place (j.file - 1) is.taken.file is.taken.stands in
+        let place : IsPlaced (tree s) (j.file - 1) is.taken.datafile (standing is.taken.file (current_of s) (now_of s)) =
+        subst (IsPlaced (tree s) (j.file - 1) is.taken.datafile) (counted-open s is.taken.file can.opened) (sound.place.each (j.file - 1) is.taken.datafile is.taken.file is.taken.is held) in
+        ap (λ o. length (option_map_or (λ (x : File). x.rows) o [])) is.taken.stands ∙ place.blocks
+
+    ready-one : IsReady t (now_of s) j rs
+    ready-one = record {
+      read = record {
+        some = is.taken.some;
+        datafile = is.taken.datafile;
+        is = ap (λ (ds : List Datafile). slice_get ds (j.file - 1)) files-end ∙ is.taken.is;
+        here = walked.here is.taken.datafile (marked-same (λ (q : State). exists (world q) (current_of q) (now_of q) is.taken.datafile) s b refl ∙ is.taken.here);
+        many = were.many ∙ blocks;
+        order = λ k r got. (walked.found j.file k r (were.each k r got)).0;
+        each = λ k d inside. (walked.found j.file k (slice_index_or rs k d) (were.each k (slice_index_or rs k d) (slice_get-get_or rs k d inside))).1;
+      };
+      begins = begins-below s j.from is.begins;
+    }
+
+  ready : AllOf (IsReady t (now_of s)) jobs rows
+  ready =
+      of-each (IsReadyToRead s) (WereRead s (map deed events)) (IsReady t (now_of s)) ready-one jobs rows (jobs-ready s b jobs sound are can.taken)
+      (are-read s (writers_of s b) jobs rows scns events whole these)
+
+  same : copied (ledger t).base b (now_of s) jobs rows ≡ xs
+  same = ap (λ (base : BaseEntry). copied base b (now_of s) jobs rows) base-end
+
+  pub can-record : CanRecord t b tag xs
+  can-record = subst (CanRecord t b tag) same (record {
+    valid = all-copied (λ x. IsPiece x.piece) t b (now_of s) jobs rows (all-of (IsReady t (now_of s)) (λ j rs. IsPiece (piece_by (ledger t).base b (now_of s) j rs)) (ready-valid t b (now_of s) walked.can.sound at) jobs rows ready);
+    entries = all-copied (λ x. IsPieceEntry (tree t) (ledger t).files (entry_for t b tag x.copy x.piece)) t b (now_of s) jobs rows
+        (all-of (IsReady t (now_of s)) (λ j rs. IsPieceEntry (tree t) (ledger t).files (entry_for t b tag (is_copy b j) (piece_by (ledger t).base b (now_of s) j rs))) (ready-entry t b (now_of s) walked.can.sound at tag tagged) jobs rows ready);
+    records =
+        let few = few-copied t b (now_of s) jobs rows in
+        let many = jobs-many s b jobs are in
+        let all = can.records in
+        let more = count-marked s b in
+        let none = walked.records in
+        omega (arith, few, many, all, more, none);
+    ids =
+        let few = few-copied t b (now_of s) jobs rows in
+        let many = jobs-many s b jobs are in
+        let all = can.ids in
+        let next : (ledger t).base.next_id ≡ (ledger s).base.next_id = ap (λ (x : BaseEntry). x.next_id) base-end in
+        omega (arith, few, many, all, next);
+  })
+
+  pub during-sound : IsSound (after_pieces t b tag xs)
+  during-sound = pieces-sound b tag xs t walked.can.sound can-record
+
+  pub during-unsaved : (after_pieces t b tag xs).catalog.saved ≡ s.catalog.saved
+  during-unsaved = pieces-saved b tag xs t ∙ events-same (λ (q : State). q.catalog.saved) (λ q w. refl) events u ∙ marked-same (λ (q : State). q.catalog.saved) s b refl
+
+  module _ (h : List Change) (objects : Held) (made : List Made) (touched : List (List ℕ)) (stands : IsBorneOut s h objects made touched) where
+    abbrev later : List Change
+    later = h ++ changes_of u events
+
+    borne-begun : IsBorneOut u h objects made touched
+    borne-begun = borne-marked s b room h objects made touched stands
+
+    true-all : All (λ x. IsTrueArtefact (world t) later (a_piece x.piece)) xs
+    true-all =
+        let now = now-marked in
+        subst (All (λ x. IsTrueArtefact (world t) later (a_piece x.piece))) same
+        (all-copied (λ x. IsTrueArtefact (world t) later (a_piece x.piece)) t b (now_of s) jobs rows
+        (of-each (IsReadyToRead s) (WereRead s (map deed events)) (λ j rs. IsTrueArtefact (world t) later (a_piece (piece_by (ledger t).base b (now_of s) j rs)))
+        (λ j rs is were. ready-true t b (now_of s) walked.can.sound at later j rs (ready-one j rs is were)
+        (λ k r got. true-events ws events u h objects made touched begun borne-begun right asked j.file k (now_of s) r (omega (arith, now)) (were.each k r got)))
+        jobs rows (jobs-ready s b jobs sound are can.taken) (are-read s (writers_of s b) jobs rows scns events whole these)))
+
+    pub during-borne : (after : Held) → HasPuts (pieces_put t b tag xs) objects after → IsBorneOut (after_pieces t b tag xs) later after (made ++ pieces_made t b tag xs) touched
+    during-borne after puts = pieces-borne b tag later touched xs t objects made after can-record true-all (borne-events ws events u h objects made touched begun borne-begun right asked) puts
+
+-- From a statement that was done
 
 pub backup-on : (b : BackupForm) → LeadsOnBy (Backup b)
 backup-on b s h objects made touched said e t after well stands tell none does effect =
     let can = can-back_up s b stands.state none in
-    let tag = does.tag in
-    let tagged = tag-fits b (ledger s).base.moment tag well.0 does.tagged in
-    let js = does.jobs in
-    let by : Effect = backing s b tag js in
-    let q : State = after_files s b tag js in
+    let tagged = tag-fits b (ledger s).base.moment does.tag well.0 does.tagged in
+    let xs = copied (ledger s).base b (now_of s) does.jobs does.rows in
+    let by : Effect = effect_of s b does.tag does.events xs in
+    let q : State = after_pieces (at_end s b does.events) b does.tag xs in
     let is = does.is in
     let is_effect : by ≡ e = cc in
     let is_state : q ≡ t = cc in
     let took = subst (λ x. LeavesObjects x objects after) (sym is_effect) effect in
-    let on : IsBorneOut q h after (made ++ by.made) touched = files-borne b tag tagged js s h objects made touched after can.opened (jobs-ready s b js stands.state does.are can.all) (jobs-room s b js does.are can.room) stands (λ name. took.removes name ∙ took.puts name) in
+    let on = during-borne s b well.1 stands.state can does.tag tagged does.jobs does.are does.rows does.whole does.scns does.events does.legal does.these h objects made touched stands after (λ name. took.removes name ∙ took.puts name) in
     subst (λ x. IsBorneOut x (h ++ e.changes) after (made ++ e.made) touched) is_state
-    (subst (λ (x : Effect). IsBorneOut q (h ++ x.changes) after (made ++ x.made) touched) is_effect
-    (subst (λ k. IsBorneOut q k after (made ++ by.made) touched) (sym (append-nil h)) on))
+    (subst (λ (x : Effect). IsBorneOut q (h ++ x.changes) after (made ++ x.made) touched) is_effect on)
 
 pub backup-stays : (b : BackupForm) → StaysBy (Backup b)
-backup-stays b s objects said e t well sound none accepted does =
-    let can = can-back_up s b sound accepted in
-    let tag = does.tag in
-    let tagged = tag-fits b (ledger s).base.moment tag well.0 does.tagged in
-    let js = does.jobs in
-    let is = does.is in
-    let is_state : after_files s b tag js ≡ t = cc in
-    (subst IsSound is_state (files-sound b tag tagged js s sound can.opened (jobs-ready s b js sound does.are can.all) (jobs-room s b js does.are can.room)), sym (ap (λ (x : State). x.catalog.saved) is_state) ∙ saved-same b tag js s ∙ none)
+backup-stays b s objects said e t well sound unsaved none does =
+    let can = can-back_up s b sound none in
+    let tagged = tag-fits b (ledger s).base.moment does.tag well.0 does.tagged in
+    let xs = copied (ledger s).base b (now_of s) does.jobs does.rows in
+    let out = does.is in
+    let is_state : after_pieces (at_end s b does.events) b does.tag xs ≡ t = cc in (
+      subst IsSound is_state (during-sound s b well.1 sound can does.tag tagged does.jobs does.are does.rows does.whole does.scns does.events does.legal does.these),
+      sym (ap (λ (x : State). x.catalog.saved) is_state) ∙ during-unsaved s b well.1 sound can does.tag tagged does.jobs does.are does.rows does.whole does.scns does.events does.legal does.these ∙ unsaved,
+    )

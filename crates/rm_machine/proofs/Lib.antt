@@ -5,6 +5,8 @@ pub mod ArchivingAll
 pub mod AtHand
 pub mod BackingUp
 pub mod BackingUpLogs
+pub mod BackupAccepted
+pub mod BackupMarks
 pub mod Backups
 pub mod Beside
 pub mod BranchesSound
@@ -12,9 +14,11 @@ pub mod Branching
 pub mod Choosing
 pub mod Cleared
 pub mod Contents
+pub mod Copies
 pub mod CountedLogs
 pub mod Creating
 pub mod Current
+pub mod Deeds
 pub mod Deleting
 pub mod DeletingObsolete
 pub mod Drilling
@@ -22,6 +26,8 @@ pub mod Dropping
 pub mod Entries
 pub mod Exchanging
 pub mod Fitting
+pub mod Following
+pub mod Found
 pub mod FreshLogs
 pub mod Further
 pub mod FurtherLogs
@@ -48,9 +54,11 @@ pub mod Opened
 pub mod Opening
 pub mod Parents
 pub mod Pieces
+pub mod PiecesRead
 pub mod Places
 pub mod Placing
 pub mod Quiet
+pub mod Recording
 pub mod Records
 pub mod Recovered
 pub mod Recovering
@@ -68,6 +76,7 @@ pub mod Telling
 pub mod Told
 pub mod Untils
 pub mod Upkeep
+pub mod Walk
 pub mod WindowStart
 pub mod Writes
 pub mod WritesKeep

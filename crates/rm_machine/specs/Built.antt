@@ -2,7 +2,6 @@
 use Rattle.std.specs.Prelude.{Bool, true, false}
 use Rattle.rm_statement.specs.declared.command.Command.{Command}
 use Rattle.rm_statement.specs.declared.command.Command.TheVariants.{ChangeBackup, CreateDatabase, CreateDatafile, Crosscheck, DeleteBackup, DeleteExpired, DeleteObsolete, Write, SwitchLogfile, ArchiveLogCurrent, Mount, OpenPlain, OpenResetlogs, ResetDatabase, Restore, Preview, Recover, RecoverCopy, RecoverTest, Backup, BackupLogs, ListIncarnation, ListBackup, ListCopy, ListArchived, ReportNeedBackup, ReportObsolete, ReportSchema, ShowAll, ValidateAll, Dump, Retention, Parallelism, LoseDatafile, LoseLog, Remove, Damage, Cut, Rename}
-use Rattle.rm_machine.specs.Backup.{is_built_backup}
 
 -- The machine has a step for the statement.
 abbrev pub is_built : Command → Bool
@@ -20,7 +19,7 @@ is_built (Preview until) = true
 is_built (Recover until) = true
 is_built (RecoverTest until inc) = true
 is_built (RecoverCopy tag until) = true
-is_built (Backup b) = is_built_backup b
+is_built (Backup b) = true
 is_built BackupLogs = true
 is_built ListIncarnation = true
 is_built ListBackup = true

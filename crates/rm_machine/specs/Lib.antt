@@ -1,6 +1,9 @@
 pub mod Archive
+pub mod Asked
 pub mod Backup
 pub mod BackupLogs
+pub mod BackupOutcome
+pub mod BackupRefusal
 pub mod Built
 pub mod Configure
 pub mod CreateDatabase
@@ -8,6 +11,7 @@ pub mod CreateDatafile
 pub mod Drills
 pub mod Dump
 pub mod Effect
+pub mod Events
 pub mod Hands
 pub mod Laws
 pub mod ListIncarnation
@@ -16,6 +20,7 @@ pub mod Loading
 pub mod LoseDatafile
 pub mod LoseLog
 pub mod Machine
+pub mod MadePieces
 pub mod Marks
 pub mod Meant
 pub mod Mount

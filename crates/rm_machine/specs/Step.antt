@@ -1,5 +1,5 @@
 -- One step of the machine, and runs.
-use Rattle.std.specs.Prelude.{ℕ, ◌≡◌, true, Option, Some, None, List, [], ◌∷◌, ◌++◌, length}
+use Rattle.std.specs.Prelude.{ℕ, ◌≡◌, true, Option, Some, None, List, [], ◌∷◌, ◌++◌, All, length}
 use Rattle.rm_base.specs.Store.{Held}
 use Rattle.rm_base.specs.declared.block.Change.{Change}
 use Rattle.rm_base.specs.declared.kinds.Class.TheVariants as class
@@ -11,7 +11,9 @@ use Rattle.rm_statement.specs.IsCommand.{is_command}
 use Rattle.rm_report.specs.Reply as reply
 use Rattle.rm_report.specs.declared.line.Reply.{Reply}
 use Rattle.rm_machine.specs.Archive.{archive_all_refusal, IsArchiveOutcome}
-use Rattle.rm_machine.specs.Backup.{backup_refusal, IsBackupOutcome}
+use Rattle.rm_machine.specs.Asked.{writes_in}
+use Rattle.rm_machine.specs.BackupOutcome.{IsBackupOutcome}
+use Rattle.rm_machine.specs.BackupRefusal.{backup_refusal}
 use Rattle.rm_machine.specs.BackupLogs.{IsBackupLogsOutcome}
 use Rattle.rm_machine.specs.Configure.{parallelism_refusal, retention_refusal, IsParallelismOutcome, IsRetentionOutcome}
 use Rattle.rm_machine.specs.CreateDatabase.{IsCreateOutcome}
@@ -46,6 +48,7 @@ use Rattle.rm_machine.specs.Write.{write_refusal, IsWriteOutcome}
 -- what it writes has 64 bytes
 abbrev pub HasContent : Command → Type 0
 HasContent (Write w) = length w.content.0 ≡ 64
+HasContent (Backup b) = All (λ w. length w.content.0 ≡ 64) (writes_in b)
 HasContent _ = Unit {0}
 
 -- the command is a statement of the grammar

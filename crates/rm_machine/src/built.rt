@@ -1,15 +1,8 @@
 //! The statements that are built.
 ghost use Rattle.std.specs.Prelude.{◌≡◌};
-ghost use Rattle.rm_machine.specs.Backup.{is_built_backup};
 ghost use Rattle.rm_machine.specs.Built.{is_built};
 
-use rm_statement::{BackupForm, Command};
-
-fn is_built_backup(form: &BackupForm) -> bool
-    ensures { result ≡ is_built_backup form.now }
-{
-    form.during.is_none()
-}
+use rm_statement::Command;
 
 /// The statement is built, and so can be stepped. It takes no memory.
 pub fn is_built(command: &Command) -> bool
@@ -21,7 +14,7 @@ pub fn is_built(command: &Command) -> bool
         Command::Recover { .. } => true,
         Command::RecoverTest { .. } => true,
         Command::RecoverCopy { .. } => true,
-        Command::Backup(form) => is_built_backup(form),
+        Command::Backup(_) => true,
         Command::BackupLogs => true,
         Command::CreateDatabase { .. } => true,
         Command::CreateDatafile { .. } => true,

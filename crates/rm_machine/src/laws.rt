@@ -66,7 +66,8 @@ pub fn archiving_leads_on()
     ensures stays { StaysSound ArchiveLogCurrent }
 {}
 
-/// BACKUP of datafiles, likewise: its pieces, level 1s among them, agree with the history.
+/// BACKUP of datafiles, likewise, also while the database writes: its pieces, level 1s among them, agree with the history, which has
+/// the writes. Each row of them is what the history made of its block at or after the checkpoint.
 pub fn a_backup_leads_on()
     ensures leads { (form : BackupForm) → LeadsOn (Backup form) }
     ensures stays { (form : BackupForm) → StaysSound (Backup form) }

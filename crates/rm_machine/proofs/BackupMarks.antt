@@ -1,0 +1,105 @@
+-- The mark before the writes keeps the database as it is.
+use Rattle.std.proofs.Common.{◌≡◌, ◌≤◌, ◌+◌, ◌∙◌, ◌++◌, inl, nat_lt, ℕ, List, [], ◌∷◌, Bool, true, false, cond, is_none, refl, ap, sym, subst, arith, length, length-append}
+use Rattle.std.proofs.lemmas.Bool.{le-ltb}
+use Rattle.std.proofs.lemmas.List.{append-nil}
+use Rattle.std.proofs.lemmas.List.Elements.{All-weaker}
+use Rattle.rm_base.specs.Store.{Held}
+use Rattle.rm_base.specs.declared.block.Change.{Change}
+use Rattle.rm_base.specs.declared.block.Mark.{Mark}
+use Rattle.rm_ledger.specs.Facts.{IsMark}
+use Rattle.rm_ledger.specs.Ledger.{records_of}
+use Rattle.rm_repository.specs.Facts.{IsRepository}
+use Rattle.rm_repository.proofs.Fitted.{many, mark_fits}
+use Rattle.rm_statement.specs.declared.command.BackupForm.{BackupForm}
+use Rattle.rm_machine.specs.Effect.{Made}
+use Rattle.rm_machine.specs.Machine.{IsBorneOut}
+use Rattle.rm_machine.specs.Marks.{last_marked, mark_now, marks_before, with_marks}
+use Rattle.rm_machine.specs.Sound.{IsSound}
+use Rattle.rm_machine.specs.declared.state.State.{State}
+use Rattle.rm_machine.specs.State.{current_of, ledger}
+use Rattle.rm_machine.proofs.Kept.{kept-on, stand-same}
+use Rattle.rm_machine.specs.BackupOutcome.{marked}
+use Rattle.rm_machine.specs.BackupRefusal.{mark_count}
+
+abbrev pub with_mark : State → State
+with_mark s = record s { catalog = with_marks s.catalog (marks_before s) }
+
+marks-fit : (s : State) → IsSound s → (t : Bool) → length (records_of (ledger s)) + length (cond t (mark_now s ∷ []) []) ≤ 65536 → IsRepository (with_marks s.catalog (cond t (mark_now s ∷ []) []))
+marks-fit s sound true room =
+    let there = sound.catalog.ledger.current in
+    let range = sound.catalog.ledger.incarnations.ranges (current_of s) there in
+    mark_fits s.catalog (mark_now s) sound.catalog (record {
+      mark = record { there = there; scn = (range.1, omega arith); moment = omega arith };
+      moment = (All-weaker (IsMark s.catalog.ledger.tree s.catalog.ledger.base.moment) (λ m. m.moment ≤ s.catalog.ledger.base.moment) (λ m is. is.moment) s.catalog.ledger.marks sound.catalog.ledger.marks.each, omega arith);
+      room = room;
+    })
+marks-fit s sound false room = subst (λ (ms : List Mark). IsRepository (record s.catalog { ledger = record s.catalog.ledger { marks = ms } })) (sym (append-nil s.catalog.ledger.marks)) sound.catalog
+
+sound-mark : (s : State) → IsSound s → length (records_of (ledger s)) + length (marks_before s) ≤ 65536 → IsSound (with_mark s)
+sound-mark s sound room = record {
+  catalog = marks-fit s sound (nat_lt (last_marked 0 (ledger s).marks) (ledger s).base.moment) room;
+  dbid = sound.dbid;
+  place = record { many = sound.place.many; each = sound.place.each };
+  logs = record { dbid = sound.logs.dbid; there = sound.logs.there; threads = sound.logs.threads; each = sound.logs.each };
+  in_open = λ opened. let was = sound.in_open opened in record { inc = was.inc; found = was.found; point = was.point };
+  point = λ at here. let was = sound.point at here in record { low = was.low; high = was.high; stands = was.stands };
+}
+
+borne-mark : (s : State) (h : List Change) (objects : Held) (made : List Made) (touched : List (List ℕ)) → length (records_of (ledger s)) + length (marks_before s) ≤ 65536 → IsBorneOut s h objects made touched → IsBorneOut (with_mark s) h objects made touched
+borne-mark s h objects made touched room stands =
+    let keeps = stands.keeps in
+    record {
+      state = sound-mark s stands.state room;
+      keeps = record { history = keeps.history; below = keeps.below; online = keeps.online; place = keeps.place; in_open = keeps.in_open; point = keeps.point };
+      artefacts = stands.artefacts;
+      records = kept-on objects objects made made touched touched (ledger s) (ledger (with_mark s)) (stand-same objects objects touched (ledger s) (ledger (with_mark s)) (λ n. refl)) (λ x has. has) (λ x has. inl has) (λ x has. inl has) stands.records;
+    }
+
+-- no mark is to be made after it: it is of the moment of the statement
+last-push : (d : ℕ) (ms : List Mark) (m : Mark) → last_marked d (ms ++ m ∷ []) ≡ m.moment
+last-push d [] m = refl
+last-push d (x ∷ ms) m = last-push x.moment ms m
+
+pub unmarked-mark : (s : State) → marks_before (with_mark s) ≡ []
+unmarked-mark s = by (nat_lt (last_marked 0 (ledger s).marks) (ledger s).base.moment) refl
+  where
+    by : (t : Bool) → nat_lt (last_marked 0 (ledger s).marks) (ledger s).base.moment ≡ t → cond (nat_lt (last_marked 0 ((ledger s).marks ++ cond t (mark_now s ∷ []) [])) (ledger s).base.moment) (mark_now (with_mark s) ∷ []) [] ≡ []
+    by true is = ap (λ n. cond (nat_lt n (ledger s).base.moment) (mark_now (with_mark s) ∷ []) []) (last-push 0 (ledger s).marks (mark_now s)) ∙ ap (λ t. cond t (mark_now (with_mark s) ∷ []) []) (le-ltb (ledger s).base.moment (ledger s).base.moment (omega arith))
+    by false is = ap (λ ms. cond (nat_lt (last_marked 0 ms) (ledger s).base.moment) (mark_now (with_mark s) ∷ []) []) (append-nil (ledger s).marks) ∙ ap (λ t. cond t (mark_now (with_mark s) ∷ []) []) is
+
+-- Where the statement has a DURING or not
+
+module _ (s : State) (b : BackupForm) (room : length (records_of (ledger s)) + mark_count s b ≤ 65536) where
+  pub sound-marked : IsSound s → IsSound (marked s b)
+  sound-marked sound = by (is_none b.during) room
+    where
+      by : (t : Bool) → length (records_of (ledger s)) + cond t 0 (length (marks_before s)) ≤ 65536 → IsSound (cond t s (with_mark s))
+      by true few = sound
+      by false few = sound-mark s sound few
+
+  pub borne-marked : (h : List Change) (objects : Held) (made : List Made) (touched : List (List ℕ)) → IsBorneOut s h objects made touched → IsBorneOut (marked s b) h objects made touched
+  borne-marked h objects made touched stands = by (is_none b.during) room
+    where
+      by : (t : Bool) → length (records_of (ledger s)) + cond t 0 (length (marks_before s)) ≤ 65536 → IsBorneOut (cond t s (with_mark s)) h objects made touched
+      by true few = stands
+      by false few = borne-mark s h objects made touched few stands
+
+-- so many records more
+pub count-marked : (s : State) (b : BackupForm) → length (records_of (ledger (marked s b))) ≡ length (records_of (ledger s)) + mark_count s b
+count-marked s b = by (is_none b.during)
+  where
+    by : (t : Bool) → length (records_of (ledger (cond t s (with_mark s)))) ≡ length (records_of (ledger s)) + cond t 0 (length (marks_before s))
+    by true = omega arith
+    by false =
+        let old = many (ledger s) in
+        let new = many (ledger (with_mark s)) in
+        let marks = length-append (ledger s).marks (marks_before s) in
+        omega (arith, old, new, marks)
+
+-- what is not of the marks stays
+pub marked-same : {X : Type 0} (f : State → X) (s : State) (b : BackupForm) → f (with_mark s) ≡ f s → f (marked s b) ≡ f s
+marked-same f s b same = by (is_none b.during)
+  where
+    by : (t : Bool) → f (cond t s (with_mark s)) ≡ f s
+    by true = refl
+    by false = same

@@ -1,0 +1,105 @@
+-- What a read finds in an open database, and that it stays true.
+use Rattle.std.proofs.Common.{◌≡◌, ◌<◌, ◌≤◌, ◌+◌, ◌-◌, ◌++◌, ◌==◌, inl, inr, ℕ, suc, List, [], ◌∷◌, Option, Some, None, Bool, true, false, cond, refl, ap, sym, subst, arith, Contains, find, slice_get, slice_index_or}
+use Rattle.std.specs.List.{filter_map}
+use Rattle.std.specs.Option.{option_map_or}
+use Rattle.std.proofs.lemmas.Bool.{eqb-true}
+use Rattle.std.proofs.lemmas.List.Elements.{All-contains_itself}
+use Rattle.std.proofs.lemmas.Option.{slice_get_within}
+use Rattle.rm_base.specs.declared.block.Change.{Change}
+use Rattle.rm_base.specs.declared.block.Row.{Row}
+use Rattle.rm_base.proofs.Members.{first-or-rest, in-front, none-in}
+use Rattle.rm_base.proofs.Slots.{all-get, get-index, index-get}
+use Rattle.rm_blocks.specs.File.{File, standing}
+use Rattle.rm_history.specs.Agrees.{BaseAgrees, IsRow}
+use Rattle.rm_history.specs.Artefacts.{Base}
+use Rattle.rm_history.specs.State.{state}
+use Rattle.rm_history.proofs.Growth.{BaseAgrees-grown}
+use Rattle.rm_history.proofs.Highs.{high-above}
+use Rattle.rm_history.proofs.Worlds.{BaseAgrees-with_end}
+use Rattle.rm_ledger.proofs.Lookups.{item-at}
+use Rattle.rm_live.specs.Parts.{row_at}
+use Rattle.rm_statement.specs.declared.command.WriteForm.{WriteForm}
+use Rattle.rm_machine.specs.Machine.{HistoryFits}
+use Rattle.rm_machine.specs.Sound.{IsPlaced, IsPlacedRow, IsSound}
+use Rattle.rm_machine.specs.Write.{change_of, with_write}
+use Rattle.rm_machine.specs.declared.state.State.{State}
+use Rattle.rm_machine.specs.State.{current_of, now_of, placed, tree, world}
+use Rattle.rm_machine.proofs.Places.{counted-open, placed-is}
+use Rattle.rm_machine.proofs.Writes.{Accepted}
+use Rattle.rm_machine.proofs.WritesKeep.{keeps-write}
+use Rattle.rm_machine.specs.Events.{standing_in}
+use Rattle.rm_machine.proofs.PiecesRead.{IsFound}
+
+-- the place of a datafile that is found by its number
+found-at : (place : List (Option File)) (f : ℕ) (x : File) → find (λ (y : File). y.file == f) (filter_map (λ o. o) place) ≡ Some x → (k : ℕ) × (slice_get place k ≡ Some (Some x)) × (x.file ≡ f)
+found-at [] f x is = absurd (cc)
+found-at (None ∷ place) f x is = let rest = found-at place f x is in (suc rest.0, rest.1, rest.2)
+found-at (Some y ∷ place) f x is = by (y.file == f) refl (found-at place f x) is
+  where
+    At : List (Option File) → Type 0
+    At os = (k : ℕ) × (slice_get os k ≡ Some (Some x)) × (x.file ≡ f)
+
+    by : (t : Bool) → (y.file == f) ≡ t → (find (λ (z : File). z.file == f) (filter_map (λ o. o) place) ≡ Some x → At place)
+        → cond t (Some y) (find (λ (z : File). z.file == f) (filter_map (λ o. o) place)) ≡ Some x → At (Some y ∷ place)
+    by true same rest found = let is_file : y ≡ x = cc in (0, ap (λ (z : File). Some (Some z)) is_file, subst (λ (z : File). z.file ≡ f) is_file (eqb-true y.file f same))
+    by false other rest found = let it = rest found in (suc it.0, it.1, it.2)
+
+-- the row of a block of a datafile that stands in place
+pub record IsReadOf (u : State) (f b : ℕ) (r : Row) : Type 0 where
+  pub some : 0 < f
+  pub file : File
+  pub number : file.file ≡ f
+  pub stands : placed u f ≡ Some file
+  pub row : slice_get file.rows b ≡ Some r
+
+pub read-of : (u : State) (f b : ℕ) (r : Row) → IsSound u → row_at (standing_in u) f b ≡ Some r → IsReadOf u f b r
+read-of u f b r sound is = by (find (λ (x : File). x.file == f) (standing_in u)) refl is
+  where
+    by : (o : Option File) → find (λ (x : File). x.file == f) (standing_in u) ≡ o → option_map_or (λ (x : File). slice_get x.rows b) o None ≡ Some r → IsReadOf u f b r
+    by None found is = absurd (cc)
+    by (Some x) found is =
+        let at = found-at u.instance.place f x found in
+        let stands = index-get u.instance.place at.0 x at.1 in
+        let place = (placed-is u at.0 x sound.place stands).file in
+        let number = at.2 in
+        let same : at.0 ≡ f - 1 = omega (arith, place, number) in
+        record {
+          some = omega (arith, place, number);
+          file = x;
+          number = number;
+          stands = subst (λ k. slice_index_or u.instance.place k None ≡ Some x) same stands;
+          row = is;
+        }
+
+module _ (u : State) (f b : ℕ) (r : Row) (sound : IsSound u) (opened : u.instance.is_open ≡ true) (is : IsReadOf u f b r) where
+  -- it is the row of that block, and was written up to now
+  pub read-found : (r.block ≡ b) × IsFound u r
+  read-found =
+      let at = get-index u.instance.place (f - 1) is.file is.stands in
+      let inside = slice_get_within u.instance.place (f - 1) (Some is.file) at in
+      let many = sound.place.many in
+      let d = item-at u.catalog.ledger.files (f - 1) (omega (arith, inside, many)) in
+      let place : IsPlaced (tree u) (f - 1) d.0 (standing is.file (current_of u) (now_of u)) = subst (IsPlaced (tree u) (f - 1) d.0) (counted-open u is.file opened) (sound.place.each (f - 1) d.0 is.file d.1 at) in
+      let above = high-above (now_of u) is.file.rows r (all-get (Contains is.file.rows) is.file.rows b r is.row (All-contains_itself is.file.rows)) in
+      let high = place.high in
+      (place.order b r is.row, record { row = all-get IsPlacedRow is.file.rows b r is.row place.rows; below = omega (arith, above, high) })
+
+  -- and the state of its block now
+  pub read-true : (h : List Change) (checkpoint : ℕ) → HistoryFits u h → checkpoint ≤ now_of u → IsRow (world u) h (current_of u) f checkpoint r
+  read-true h checkpoint keeps most =
+      let states = keeps.in_open opened f is.file is.stands in
+      let one = all-get (λ (y : Row). y ≡ state (world u) h (current_of u) (now_of u) is.file.file y.block) is.file.rows b r is.row states in
+      record { position = now_of u; after = most; is = sym (subst (λ n. r ≡ state (world u) h (current_of u) (now_of u) n r.block) is.number one) }
+
+-- a row that was true at or after a checkpoint is so after one WRITE more
+pub row-write : (u : State) (w : WriteForm) (h : List Change) → IsSound u → HistoryFits u h → Accepted u w → (f checkpoint : ℕ) (r : Row) → checkpoint ≤ now_of u
+    → IsRow (world u) h (current_of u) f checkpoint r → IsRow (world (with_write u w)) (h ++ change_of u w ∷ []) (current_of u) f checkpoint r
+row-write u w h sound keeps a f checkpoint r most is =
+    let i = current_of u in
+    let base : Base = record { inc = i; file = f; checkpoint = checkpoint; rows = r ∷ [] } in
+    let one : BaseAgrees (world u) h base = λ y has. elim (first-or-rest r [] y has) [
+      | inl same ↦ subst (IsRow (world u) h i f checkpoint) same is
+      | inr none ↦ absurd (none-in y none)
+    ] in
+    let wide : BaseAgrees (world (with_write u w)) h base = BaseAgrees-with_end (world u) i (now_of u + 1) h base sound.catalog.ledger.current one in
+    BaseAgrees-grown (world (with_write u w)) h (change_of u w) (keeps-write u w h sound keeps a).history base wide (λ own. most) r (in-front r [])

@@ -1,0 +1,39 @@
+-- What a BACKUP asks of its channels and writers.
+use Rattle.std.specs.Prelude.{ℕ, zero, suc, ◌<◌, ◌^◌, ◌==◌, unwrap_or, List, [], ◌∷◌, filter, length, map}
+use Rattle.rm_channel.specs.Jobs.{Span}
+use Rattle.rm_channel.specs.declared.jobs.WriteJob.{WriteJob}
+use Rattle.rm_statement.specs.declared.command.BackupForm.{BackupForm}
+use Rattle.rm_statement.specs.declared.command.WriteForm.{WriteForm}
+use Rattle.rm_machine.specs.Backup.{rows_in}
+use Rattle.rm_machine.specs.declared.job.Job.{Job}
+use Rattle.rm_machine.specs.declared.state.State.{State}
+use Rattle.rm_machine.specs.State.{ledger}
+
+-- the writes that it asks for, in the order of the text
+abbrev pub writes_in : BackupForm → List WriteForm
+writes_in b = unwrap_or b.during []
+
+-- its numbers are those of a datafile and a block
+abbrev pub FitsNumbers : WriteForm → Type 0
+FitsNumbers w = (w.file < 2 ^ 32) × (w.block < 2 ^ 32)
+
+-- a write, as its thread's writer has it
+abbrev pub write_job : WriteForm → WriteJob
+write_job w = record { file = w.file; block = w.block; content = w.content }
+
+-- those of thread t, in order
+abbrev pub by_thread : ℕ → List WriteForm → List WriteJob
+by_thread t ws = map write_job (filter (λ w. w.thread == t) ws)
+
+-- a list for each of n threads, from thread t on
+abbrev pub lists_from : ℕ → ℕ → List WriteForm → List (List WriteJob)
+lists_from t zero ws = []
+lists_from t (suc n) ws = by_thread t ws ∷ lists_from (suc t) n ws
+
+-- a list for each thread of the database
+abbrev pub writers_of : State → BackupForm → List (List WriteJob)
+writers_of s b = lists_from 1 (ledger s).base.threads (writes_in b)
+
+-- all blocks of a datafile that is backed up
+abbrev pub span_of : State → Job → Span
+span_of s j = record { file = j.file; first = 0; count = length (rows_in s j.file) }

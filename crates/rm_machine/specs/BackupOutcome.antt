@@ -1,0 +1,65 @@
+-- BACKUP of datafiles: full, of level 0 or of level 1, while the database may write
+use Rattle.std.specs.Prelude.{ℕ, suc, ◌≡◌, if◌then◌else◌, is_none, Ok, List, [], ◌∷◌, ◌++◌, map}
+use Rattle.rm_base.specs.declared.block.Row.{Row}
+use Rattle.rm_channel.specs.Jobs.{AreAsLong, AreRows, deeds_of}
+use Rattle.rm_channel.specs.Made.{AreThese, deed}
+use Rattle.rm_live.specs.declared.history.Event.{Event}
+use Rattle.rm_live.specs.History.{IsLegal}
+use Rattle.rm_report.specs.declared.line.Line.{Line}
+use Rattle.rm_report.specs.declared.line.Line.TheVariants.{ThreadScn}
+use Rattle.rm_statement.specs.declared.command.BackupForm.{BackupForm}
+use Rattle.rm_machine.specs.Asked.{span_of, writers_of}
+use Rattle.rm_machine.specs.Backup.{AreJobs, IsTagBy, named_tag, or_nothing}
+use Rattle.rm_machine.specs.Effect.{Effect, Outcome, done}
+use Rattle.rm_machine.specs.Events.{after_events, changes_of, opening}
+use Rattle.rm_machine.specs.MadePieces.{Copied, after_pieces, copied, piece_lines, pieces_made, pieces_put}
+use Rattle.rm_machine.specs.Marks.{marks_before, with_marks}
+use Rattle.rm_machine.specs.declared.job.Job.{Job}
+use Rattle.rm_machine.specs.declared.state.State.{State}
+use Rattle.rm_machine.specs.State.{ledger, now_of}
+
+-- the SCNs of the writes, thread by thread from t on
+abbrev pub write_lines : ℕ → List (List ℕ) → List Line
+write_lines t [] = []
+write_lines t (scns ∷ rest) = map (λ scn. ThreadScn t scn) scns ++ write_lines (suc t) rest
+
+-- the database after the mark that comes before the writes, where it has a DURING
+abbrev pub marked : State → BackupForm → State
+marked s b = if is_none b.during then s else record s { catalog = with_marks s.catalog (marks_before s) }
+
+-- the database after the mark and the events
+abbrev pub at_end : State → BackupForm → List Event → State
+at_end s b events = after_events (marked s b) events
+
+-- what pieces and events leave outside
+abbrev pub effect_of : State → BackupForm → List ℕ → List Event → List Copied → Effect
+effect_of s b tag events xs =
+    record {
+      changes = changes_of (marked s b) events;
+      made = pieces_made (at_end s b events) b tag xs;
+      puts = pieces_put (at_end s b events) b tag xs;
+      removes = [];
+    }
+
+-- the lines of pieces and writes
+abbrev pub lines_by : State → BackupForm → List ℕ → List Copied → List (List ℕ) → List Line
+lines_by t b tag xs scns = or_nothing (piece_lines t b tag xs) ++ write_lines 1 scns
+
+-- There is a legal list of events over the database at its start: one read of each block of each datafile and one write of each that is
+-- asked for, those of a thread in their order, and nothing else. Each write took an SCN. The pieces have the rows that the reads found,
+-- and `now` at the start as their checkpoint; the database has the writes.
+pub record IsBackupOutcome (s : State) (b : BackupForm) (o : Outcome) : Type 0 where
+  pub tag : List ℕ
+  pub tagged : IsTagBy (named_tag b) (ledger s).base.moment tag
+  pub jobs : List Job
+  pub are : AreJobs s b jobs
+  pub rows : List (List Row)
+  pub whole : AreRows rows (map (span_of s) jobs)
+  pub scns : List (List ℕ)
+  pub each : AreAsLong scns (writers_of s b)
+  pub events : List Event
+  pub legal : IsLegal (opening s) events
+  pub these : AreThese (deeds_of (map (span_of s) jobs) rows 1 (writers_of s b) (map (map Ok) scns)) (map deed events)
+  pub is : o ≡ done (lines_by (at_end s b events) b tag (copied (ledger s).base b (now_of s) jobs rows) scns)
+      (effect_of s b tag events (copied (ledger s).base b (now_of s) jobs rows))
+      (after_pieces (at_end s b events) b tag (copied (ledger s).base b (now_of s) jobs rows))

@@ -1,0 +1,51 @@
+-- The database of a state as its channels and writers find it, and what their events leave of the state.
+use Rattle.std.specs.Prelude.{ℕ, Ok, Err, List, [], ◌∷◌, ◌++◌}
+use Rattle.std.specs.List.{filter_map}
+use Rattle.rm_base.specs.declared.block.Block.{Block}
+use Rattle.rm_base.specs.declared.block.Change.{Change}
+use Rattle.rm_blocks.specs.File.{File}
+use Rattle.rm_live.specs.declared.history.Answer.{Answer}
+use Rattle.rm_live.specs.declared.history.Answer.TheVariants.{Found, Wrote}
+use Rattle.rm_live.specs.declared.history.Call.{Call}
+use Rattle.rm_live.specs.declared.history.Call.TheVariants.{Read, Write}
+use Rattle.rm_live.specs.declared.history.Event.{Event}
+use Rattle.rm_live.specs.Parts.{Parts}
+use Rattle.rm_statement.specs.declared.command.WriteForm.{WriteForm}
+use Rattle.rm_machine.specs.declared.state.State.{State}
+use Rattle.rm_machine.specs.State.{current_of, now_of}
+use Rattle.rm_machine.specs.Write.{change_of, with_write}
+
+-- the datafiles that stand in place
+abbrev pub standing_in : State → List File
+standing_in s = filter_map (λ o. o) s.instance.place
+
+-- what its channels and writers find
+abbrev pub opening : State → Parts
+opening s = record { inc = current_of s; now = now_of s; files = standing_in s; logs = s.instance.logs }
+
+-- a WRITE
+abbrev pub write_form : ℕ → ℕ → ℕ → Block → WriteForm
+write_form t f b content = record { thread = t; file = f; block = b; content = content }
+
+-- the state after an event: an accepted write is one WRITE more
+abbrev pub after_event : State → Call → Answer → State
+after_event s (Read f b) answer = s
+after_event s (Write t f b content) (Found row) = s
+after_event s (Write t f b content) (Wrote (Ok scn)) = with_write s (write_form t f b content)
+after_event s (Write t f b content) (Wrote (Err fault)) = s
+
+-- the change that it makes
+abbrev pub change_by : State → Call → Answer → List Change
+change_by s (Read f b) answer = []
+change_by s (Write t f b content) (Found row) = []
+change_by s (Write t f b content) (Wrote (Ok scn)) = change_of s (write_form t f b content) ∷ []
+change_by s (Write t f b content) (Wrote (Err fault)) = []
+
+-- the state after the events, and their changes
+abbrev pub after_events : State → List Event → State
+after_events s [] = s
+after_events s (e ∷ es) = after_events (after_event s e.call e.answer) es
+
+abbrev pub changes_of : State → List Event → List Change
+changes_of s [] = []
+changes_of s (e ∷ es) = change_by s e.call e.answer ++ changes_of (after_event s e.call e.answer) es
