@@ -1,4 +1,16 @@
+pub mod Backed
 pub mod Begins
+pub mod Counted
+pub mod Ended
+pub mod Files
 pub mod Forms
+pub mod Gone
+pub mod Homes
 pub mod Loops
+pub mod Numbered
+pub mod Opening
+pub mod Refused
+pub mod Returned
+pub mod Room
 pub mod Taken
+pub mod Writers

@@ -1,121 +1,162 @@
--- A BACKUP under way: some datafiles are backed up, and the rest lead on from there.
-use Rattle.std.proofs.Common.{◌≡◌, ◌<◌, ◌+◌, ◌∙◌, ◌++◌, ℕ, suc, List, [], ◌∷◌, Option, None, true, refl, ap, sym, subst, arith, append_assoc, drop-cons, drop, get_or, length, All}
+-- A BACKUP under way: some pieces are recorded, and the rest lead on from there.
+use Rattle.std.proofs.Common.{◌≡◌, ◌<◌, ◌+◌, ◌∙◌, ◌++◌, ℕ, suc, Bool, List, [], ◌∷◌, refl, ap, sym, subst, arith, append_assoc, drop-cons, drop, get_or, length, map}
+use Rattle.std.proofs.lemmas.List.{get_or-map, length-map}
 use Rattle.std.proofs.lemmas.List.Elements.{All-head}
-use Rattle.rm_base.specs.Store.{Held}
+use Rattle.std.specs.Prelude.{Vec}
+use Rattle.std.specs.Global.{Global}
+use Rattle.rm_base.specs.declared.block.Row.{Row}
+use Rattle.rm_catalog.specs.declared.record.BaseEntry.{BaseEntry}
 use Rattle.rm_catalog.specs.declared.record.Edit.{Edit}
-use Rattle.rm_catalog.specs.Objects.{IsTag}
-use Rattle.rm_change.specs.declared.change.Object.{Object}
-use Rattle.rm_statement.specs.declared.command.BackupForm.{BackupForm}
-use Rattle.rm_statement.specs.declared.command.Command.TheVariants.{Backup}
+use Rattle.rm_channel.specs.Jobs.{lists}
+use Rattle.rm_piece.specs.declared.piece.Piece.{Piece}
 use Rattle.rm_piece.specs.Valid.{IsPiece}
 use Rattle.rm_report.specs.declared.line.Line.{Line}
+use Rattle.rm_report.specs.declared.line.Line.TheVariants.{ThreadScn}
 use Rattle.rm_repository.specs.Changes.{EditsFollow}
 use Rattle.rm_repository.specs.Fitting.{FitsNewPiece}
 use Rattle.rm_repository.proofs.Changed.{follows-then}
-use Rattle.rm_machine.specs.Backup.{AreJobs, IsTagBy, after_file, after_files, backing, backup_refusal, entry_of, is_built_backup, lines_of, named_tag, or_nothing, piece_line, piece_object, piece_of, puts_of}
-use Rattle.rm_machine.specs.Effect.{done}
-use Rattle.rm_machine.specs.Hands.{Hands}
+use Rattle.rm_statement.specs.declared.command.BackupForm.{BackupForm}
+use Rattle.rm_machine.specs.Backup.{is_copy}
+use Rattle.rm_machine.specs.BackupOutcome.{write_lines}
+use Rattle.rm_machine.specs.MadePieces.{CanRecord, Copied, after_piece, after_pieces, copied, entry_for, line_for, object_for, piece_by, piece_lines, pieces_put}
+use Rattle.rm_machine.specs.Sound.{IsSound}
 use Rattle.rm_machine.specs.declared.handed.Handed.{Handed}
 use Rattle.rm_machine.specs.declared.job.Job.{Job}
 use Rattle.rm_machine.specs.declared.state.State.{State}
-use Rattle.rm_machine.specs.Sound.{IsSound}
 use Rattle.rm_machine.specs.State.{ledger}
-use Rattle.rm_machine.proofs.Backups.{piece-valid}
-use Rattle.rm_machine.proofs.BackingUp.{IsReady, can-back_up, file-fits, jobs-ready, jobs-room, next-room, ready-next, sound-file}
-use Rattle.rm_machine.proofs.Left.{HasRoom}
+use Rattle.rm_machine.proofs.Recording.{can-next, next-fits, next-sound}
+
+-- The SCNs of the writes
+
+-- the lists from place k on
+lists-at : {X : Type 0} (vs : List (Vec X Global)) (k : ℕ) (d : Vec X Global) → k < length vs → drop k (lists vs) ≡ (get_or vs k d).items ∷ drop (k + 1) (lists vs)
+lists-at vs k d inside =
+    let next : suc k ≡ k + 1 = omega arith in
+    let long = length-map vs (λ v. v.items) in
+    drop-cons (lists vs) k d.items (omega (arith, long, inside))
+    ∙ ap (λ xs. xs ∷ drop (suc k) (lists vs)) (get_or-map (λ v. v.items) vs k d d.items inside)
+    ∙ ap (λ n. (get_or vs k d).items ∷ drop n (lists vs)) next
+
+-- those of one thread more are told
+pub told-next : (scns : List (Vec ℕ Global)) (k : ℕ) (d : Vec ℕ Global) (before lines : List Line) → k < length scns
+    → before ++ write_lines (1 + k) (drop k (lists scns)) ≡ lines
+    → (before ++ map (ThreadScn (k + 1)) (get_or scns k d).items) ++ write_lines (1 + (k + 1)) (drop (k + 1) (lists scns)) ≡ lines
+told-next scns k d before lines inside was =
+    let rest = drop (k + 1) (lists scns) in
+    let thread : k + 1 ≡ 1 + k = omega arith in
+    let next : 1 + (k + 1) ≡ suc (1 + k) = omega arith in
+    append_assoc before (map (ThreadScn (k + 1)) (get_or scns k d).items) (write_lines (1 + (k + 1)) rest)
+    ∙ ap (λ n. before ++ (map (ThreadScn n) (get_or scns k d).items ++ write_lines (1 + (k + 1)) rest)) thread
+    ∙ ap (λ n. before ++ (map (ThreadScn (1 + k)) (get_or scns k d).items ++ write_lines n rest)) next
+    ∙ ap (λ ls. before ++ write_lines (1 + k) ls) (sym (lists-at scns k d inside)) ∙ was
+
+-- Pieces
 
 -- those from place k on
-rest-at : (js : List Job) (k : ℕ) (d : Job) → k < length js → drop k js ≡ get_or js k d ∷ drop (k + 1) js
-rest-at js k d inside =
-    let e : suc k ≡ k + 1 = omega arith in
-    drop-cons js k d inside ∙ ap (λ n. get_or js k d ∷ drop n js) e
+pub copies-at : (base : BaseEntry) (b : BackupForm) (checkpoint : ℕ) (js : List Job) (rows : List (Vec Row Global)) (k : ℕ) (d : Job) (v : Vec Row Global) → k < length js → k < length rows
+    → copied base b checkpoint (drop k js) (drop k (lists rows)) ≡ record { copy = is_copy b (get_or js k d); piece = piece_by base b checkpoint (get_or js k d) (get_or rows k v).items } ∷ copied base b checkpoint (drop (k + 1) js) (drop (k + 1) (lists rows))
+copies-at base b checkpoint js rows k d v inside within =
+    let next : suc k ≡ k + 1 = omega arith in
+    let x : Copied = record { copy = is_copy b (get_or js k d); piece = piece_by base b checkpoint (get_or js k d) (get_or rows k v).items } in
+    ap (λ ys. copied base b checkpoint ys (drop k (lists rows))) (drop-cons js k d inside)
+    ∙ ap (copied base b checkpoint (get_or js k d ∷ drop (suc k) js)) (lists-at rows k v within)
+    ∙ ap (λ n. x ∷ copied base b checkpoint (drop n js) (drop (k + 1) (lists rows))) next
 
--- from the state s on, all of these datafiles but the rest are backed up: the state is t
-pub record IsUnderWay (s : State) (b : BackupForm) (tag : List ℕ) (js rest : List Job) (before after : List Edit) (t : State) (handed : Handed) : Type 0 where
+-- from the state s on all of these pieces but the rest are recorded: the state is t
+pub record IsUnderWay (s : State) (b : BackupForm) (tag : List ℕ) (xs rest : List Copied) (before after : List Edit) (t : State) (handed : Handed) : Type 0 where
   pub sound : IsSound t
-  pub opened : t.instance.is_open ≡ true
-  pub all : All (IsReady t) rest
-  pub room : HasRoom t (length rest)
-  pub state : after_files t b tag rest ≡ after_files s b tag js
+  pub can : CanRecord t b tag rest
+  pub dbid : (ledger t).base.dbid ≡ (ledger s).base.dbid
+  pub current : (ledger t).base.current ≡ (ledger s).base.current
+  pub state : after_pieces t b tag rest ≡ after_pieces s b tag xs
   pub edits : EditsFollow before after s.catalog t.catalog
-  pub lines : handed.lines ++ lines_of t b tag rest ≡ lines_of s b tag js
-  pub objects : handed.objects ++ puts_of t b tag rest ≡ puts_of s b tag js
+  pub lines : handed.lines ++ piece_lines t b tag rest ≡ piece_lines s b tag xs
+  pub objects : handed.objects ++ pieces_put t b tag rest ≡ pieces_put s b tag xs
   pub removes : handed.removes ≡ []
 
--- none is backed up at first
-pub way-start : (s : State) (b : BackupForm) (tag : List ℕ) (js : List Job) (edits : List Edit) (x : Handed) → IsSound s → AreJobs s b js → backup_refusal s b ≡ None → x.lines ≡ [] → x.objects ≡ [] → x.removes ≡ [] → IsUnderWay s b tag js js edits edits s x
-way-start s b tag js edits x sound are accepted lines objects removes =
-    let can = can-back_up s b sound accepted in
-    record {
-      sound = sound;
-      opened = can.opened;
-      all = jobs-ready s b js sound are can.all;
-      room = jobs-room s b js are can.room;
-      state = refl;
-      edits = record { lead = λ rs from. from };
-      lines = ap (λ (ls : List Line). ls ++ lines_of s b tag js) lines;
-      objects = ap (λ (os : List Object). os ++ puts_of s b tag js) objects;
-      removes = removes;
-    }
+-- none is recorded at first
+pub way-start : (s : State) (b : BackupForm) (tag : List ℕ) (xs : List Copied) (edits : List Edit) (x : Handed) → IsSound s → CanRecord s b tag xs → x.lines ≡ [] → x.objects ≡ [] → x.removes ≡ [] → IsUnderWay s b tag xs xs edits edits s x
+way-start s b tag xs edits x sound can lines objects removes = record {
+  sound = sound;
+  can = can;
+  dbid = refl;
+  current = refl;
+  state = refl;
+  edits = record { lead = λ rs from. from };
+  lines = ap (λ (ls : List Line). ls ++ piece_lines s b tag xs) lines;
+  objects = ap (λ os. os ++ pieces_put s b tag xs) objects;
+  removes = removes;
+}
 
--- the one at place k is next
-module _ (s t : State) (b : BackupForm) (tag : List ℕ) (js : List Job) (k : ℕ) (d : Job) (inside : k < length js) (before mid : List Edit) (x : Handed) (under_way : IsUnderWay s b tag js (drop k js) before mid t x) where
-  abbrev j : Job
-  j = get_or js k d
+-- the base facts of which a piece tells are those at the start
+pub piece-same : (s t : State) (b : BackupForm) (checkpoint : ℕ) (j : Job) (rs : List Row) → (ledger t).base.dbid ≡ (ledger s).base.dbid → (ledger t).base.current ≡ (ledger s).base.current
+    → piece_by (ledger t).base b checkpoint j rs ≡ piece_by (ledger s).base b checkpoint j rs
+piece-same s t b checkpoint j rs dbid current =
+    let with_facts : ℕ → ℕ → Piece = λ n i. record (piece_by (ledger s).base b checkpoint j rs) { dbid = n; inc = i } in
+    ap (λ n. with_facts n (ledger t).base.current) dbid ∙ ap (with_facts (ledger s).base.dbid) current
 
-  abbrev rest : List Job
-  rest = drop (k + 1) js
+-- the next one
+module _ (s t : State) (b : BackupForm) (tag : List ℕ) (xs : List Copied) (x : Copied) (rest : List Copied) (before mid : List Edit) (y : Handed) (way : IsUnderWay s b tag xs (x ∷ rest) before mid t y) where
+  pub next-valid : IsPiece x.piece
+  next-valid = All-head (λ (z : Copied). IsPiece z.piece) x rest way.can.valid
 
-  way : IsUnderWay s b tag js (j ∷ rest) before mid t x
-  way = subst (λ (rs : List Job). IsUnderWay s b tag js rs before mid t x) (rest-at js k d inside) under_way
+  pub next-fit : FitsNewPiece t.catalog (entry_for t b tag x.copy x.piece)
+  next-fit = next-fits b tag t x rest way.can
 
-  there : IsReady t j
-  there = All-head (IsReady t) j rest way.all
-
-  -- its piece is valid, and its record fits
-  pub next-valid : IsPiece (piece_of t b j)
-  next-valid = piece-valid t b j.file way.sound way.opened there.taken j.from there.begins
-
-  pub next-fits : IsTag tag → FitsNewPiece t.catalog (entry_of t b tag j)
-  next-fits tagged = file-fits b tag tagged t j (length rest) way.sound way.opened there way.room
-
-  -- with it one datafile more is backed up
-  pub way-on : (q : State) (after : List Edit) (y : Handed) → IsTag tag → q ≡ after_file t b tag j → EditsFollow mid after t.catalog q.catalog
-      → y.lines ≡ x.lines ++ piece_line t b j ∷ [] → y.objects ≡ x.objects ++ piece_object t b j ∷ [] → y.removes ≡ x.removes → IsUnderWay s b tag js rest before after q y
-  way-on q after y tagged is follow lines objects removes =
-      let p : State = after_file t b tag j in
-      subst (λ u. IsUnderWay s b tag js rest before after u y) (sym is) (record {
-        sound = sound-file b tag tagged t j (length rest) way.sound way.opened there way.room;
-        opened = way.opened;
-        all = ready-next t b tag j rest way.all;
-        room = next-room t b tag j (length rest) way.room;
+  pub way-on : (q : State) (after : List Edit) (z : Handed) → q ≡ after_piece t b tag x.copy x.piece → EditsFollow mid after t.catalog q.catalog
+      → z.lines ≡ y.lines ++ line_for t x.copy x.piece ∷ [] → z.objects ≡ y.objects ++ object_for t x.copy x.piece ∷ [] → z.removes ≡ y.removes → IsUnderWay s b tag xs rest before after q z
+  way-on q after z is follow lines objects removes =
+      let p : State = after_piece t b tag x.copy x.piece in
+      subst (λ u. IsUnderWay s b tag xs rest before after u z) (sym is) (record {
+        sound = next-sound b tag t x rest way.sound way.can;
+        can = can-next b tag t x rest way.can;
+        dbid = way.dbid;
+        current = way.current;
         state = way.state;
         edits = follows-then before mid after s.catalog t.catalog p.catalog way.edits (subst (λ (u : State). EditsFollow mid after t.catalog u.catalog) is follow);
-        lines = ap (λ (ls : List Line). ls ++ lines_of p b tag rest) lines ∙ append_assoc x.lines (piece_line t b j ∷ []) (lines_of p b tag rest) ∙ way.lines;
-        objects = ap (λ (os : List Object). os ++ puts_of p b tag rest) objects ∙ append_assoc x.objects (piece_object t b j ∷ []) (puts_of p b tag rest) ∙ way.objects;
+        lines = ap (λ (ls : List Line). ls ++ piece_lines p b tag rest) lines ∙ append_assoc y.lines (line_for t x.copy x.piece ∷ []) (piece_lines p b tag rest) ∙ way.lines;
+        objects = ap (λ os. os ++ pieces_put p b tag rest) objects ∙ append_assoc y.objects (object_for t x.copy x.piece ∷ []) (pieces_put p b tag rest) ∙ way.objects;
         removes = removes ∙ way.removes;
       })
 
--- what the loop promises
-pub record IsBackedUp (s : State) (b : BackupForm) (tag : List ℕ) (js : List Job) (t : State) (handed : Handed) : Type 0 where
-  pub state : t ≡ after_files s b tag js
-  pub lines : handed.lines ≡ lines_of s b tag js
-  pub objects : handed.objects ≡ puts_of s b tag js
-  pub removes : handed.removes ≡ []
+-- the one at place k
+module _ (s t : State) (b : BackupForm) (tag : List ℕ) (checkpoint : ℕ) (js : List Job) (rows : List (Vec Row Global)) (k : ℕ) (d : Job) (v : Vec Row Global) (inside : k < length js) (within : k < length rows) (before mid : List Edit) (y : Handed)
+    (way : IsUnderWay s b tag (copied (ledger s).base b checkpoint js (lists rows)) (copied (ledger s).base b checkpoint (drop k js) (drop k (lists rows))) before mid t y) (is : v ≡ get_or rows k v) (read : List Row) (found : read ≡ v.items) where
+  abbrev j : Job
+  j = get_or js k d
 
--- the statement is done
-pub hands : (s t : State) (b : BackupForm) (tag : List ℕ) (js : List Job) (lines : List Line) (x : Handed) → is_built_backup b ≡ true → IsTagBy (named_tag b) (ledger s).base.moment tag → AreJobs s b js → IsBackedUp s b tag js t x → lines ≡ or_nothing x.lines
-    → (held : Option Held) → Hands held s (Backup b) (record x { lines = lines }) t
-hands s t b tag js lines x built tagged are is said held = record {
-  effect = backing s b tag js;
-  comes = λ store tells. record {
-    built = built;
-    tag = tag;
-    tagged = tagged;
-    jobs = js;
-    are = are;
-    is = ap (λ (ls : List Line). done ls (backing s b tag js) t) (said ∙ ap or_nothing is.lines) ∙ ap (done (or_nothing (lines_of s b tag js)) (backing s b tag js)) is.state;
-  };
-  puts = is.objects;
-  removes = is.removes;
-}
+  abbrev xs : List Copied
+  xs = copied (ledger s).base b checkpoint js (lists rows)
+
+  abbrev x : Copied
+  x = record { copy = is_copy b j; piece = piece_by (ledger s).base b checkpoint j (get_or rows k v).items }
+
+  abbrev rest : List Copied
+  rest = copied (ledger s).base b checkpoint (drop (k + 1) js) (drop (k + 1) (lists rows))
+
+  way-here : IsUnderWay s b tag xs (x ∷ rest) before mid t y
+  way-here = subst (λ zs. IsUnderWay s b tag xs zs before mid t y) (copies-at (ledger s).base b checkpoint js rows k d v inside within) way
+
+  here : piece_by (ledger t).base b checkpoint j read ≡ x.piece
+  here = piece-same s t b checkpoint j read way.dbid way.current ∙ ap (piece_by (ledger s).base b checkpoint j) (found ∙ ap (λ (u : Vec Row Global). u.items) is)
+
+  pub valid-here : IsPiece (piece_by (ledger t).base b checkpoint j read)
+  valid-here = subst IsPiece (sym here) (next-valid s t b tag xs x rest before mid y way-here)
+
+  module _ (a : Piece) (copy : Bool) (made : a ≡ piece_by (ledger t).base b checkpoint j read) (kind : copy ≡ is_copy b j) where
+    same : a ≡ x.piece
+    same = made ∙ here
+
+    at : (P : Bool → Piece → Type 0) → P (is_copy b j) x.piece → P copy a
+    at P holds = subst (λ c. P c a) (sym kind) (subst (P (is_copy b j)) (sym same) holds)
+
+    pub fit-here : FitsNewPiece t.catalog (entry_for t b tag copy a)
+    fit-here = at (λ c p. FitsNewPiece t.catalog (entry_for t b tag c p)) (next-fit s t b tag xs x rest before mid y way-here)
+
+    pub way-next : (q : State) (after : List Edit) (z : Handed) → q ≡ after_piece t b tag copy a → EditsFollow mid after t.catalog q.catalog
+        → z.lines ≡ y.lines ++ line_for t copy a ∷ [] → z.objects ≡ y.objects ++ object_for t copy a ∷ [] → z.removes ≡ y.removes → IsUnderWay s b tag xs rest before after q z
+    way-next q after z left follow lines objects removes =
+        way-on s t b tag xs x rest before mid y way-here q after z
+        (left ∙ ap (λ c. after_piece t b tag c a) kind ∙ ap (after_piece t b tag (is_copy b j)) same) follow
+        (lines ∙ ap (λ c. y.lines ++ line_for t c a ∷ []) kind ∙ ap (λ p. y.lines ++ line_for t (is_copy b j) p ∷ []) same)
+        (objects ∙ ap (λ c. y.objects ++ object_for t c a ∷ []) kind ∙ ap (λ p. y.objects ++ object_for t (is_copy b j) p ∷ []) same) removes

@@ -30,7 +30,7 @@ fn is_taken(state: &State, form: &BackupForm, number: FileNo, datafile: &Datafil
     exists(state, state.catalog.base().current, now(state), datafile) && asks_for(form, number)
 }
 
-// How many datafiles are backed up: 0 to 64.
+/// How many datafiles are backed up: 0 to 64.
 pub(crate) fn taken_count(state: &State, form: &BackupForm) -> u64
     requires sound { IsSound state.now }
     ensures { result ≡ length (taken state.now form.now) }
@@ -44,7 +44,7 @@ pub(crate) fn taken_count(state: &State, form: &BackupForm) -> u64
     count
 }
 
-// How many bytes their pieces take: at most 4,980,818 for each.
+/// How many bytes their pieces take where each block is listed: at most 4,980,818 for each.
 pub(crate) fn taken_bytes(state: &State, form: &BackupForm) -> u64
     requires sound { IsSound state.now }
     ensures { result ≡ sum_by (piece_bytes state.now) (taken state.now form.now) }
@@ -67,7 +67,7 @@ fn is_lost(state: &State, number: FileNo) -> bool
     placed(state, u64::from(number)).is_none()
 }
 
-// The least of them that is lost.
+/// The least of them that is lost.
 pub(crate) fn lost_taken(state: &State, form: &BackupForm) -> Option<FileNo>
     requires sound { IsSound state.now }
     ensures { result ≡ lost_taken state.now form.now }

@@ -76,7 +76,7 @@ fn jobs_by(
     Ok(jobs)
 }
 
-/// What is made of the datafiles that the backup takes, by the records as they are now.
+/// What is made of the datafiles that the backup takes, by the records as they are now. An error is want of memory.
 pub(crate) fn jobs(alloc: Global, state: &State, form: &BackupForm) -> Result<Vec<Job>, NoMemory>
     requires sound { IsSound state.now }
     requires plain { IsSome form.now.merge_tag → form.now.cumulative ≡ false }

@@ -2,7 +2,8 @@
 ghost use Rattle.std.specs.Prelude.{◌≡◌, ◌<◌, ◌≤◌, ◌∷◌, ◌++◌, [], IfOk, OnOk};
 ghost use Rattle.std.specs.Option.{option_copied};
 ghost use Rattle.rm_base.specs.Numbers.{last_moment};
-ghost use Rattle.rm_machine.specs.Backup.{IsTagBy, after_file, entry_of, is_copy, kind_by, named_tag, piece_entry, piece_line, piece_object, piece_of, rows_from, rows_in};
+ghost use Rattle.rm_machine.specs.MadePieces.{after_piece, entry_for, line_for, object_for, piece_by};
+ghost use Rattle.rm_machine.specs.Backup.{IsTagBy, is_copy, kind_by, named_tag, piece_entry, rows_from, rows_in};
 ghost use Rattle.rm_machine.specs.Lists.{shape_by};
 ghost use Rattle.rm_machine.specs.Sound.{IsSound};
 ghost use Rattle.rm_machine.specs.State.{ledger};
@@ -48,8 +49,8 @@ fn shape_by(kind: Kind, from: Scn) -> Shape
     }
 }
 
-// Whether it is an image copy.
-fn is_copy(form: &BackupForm, job: Job) -> bool
+/// Whether an image copy is made of a datafile, and not a piece.
+pub(crate) fn is_copy(form: &BackupForm, job: Job) -> bool
     ensures { result ≡ is_copy form.now job }
 {
     job.from.is_none() && (form.copy || form.merge_tag.is_some())
@@ -69,7 +70,7 @@ fn named_tag(form: &BackupForm) -> Option<&Text>
     form.merge_tag.as_ref().or(form.tag.as_ref())
 }
 
-// The tag of a backup: the one that it names, or else that of its moment.
+/// The tag of a backup: the one that it names, or else that of its moment. An error is want of memory.
 pub(crate) fn tag_of(alloc: Global, form: &BackupForm, moment: Moment) -> Result<Text, NoMemory>
     requires { moment ≤ last_moment }
     ensures { IfOk result (IsTagBy (named_tag form.now) moment) }
@@ -80,8 +81,8 @@ pub(crate) fn tag_of(alloc: Global, form: &BackupForm, moment: Moment) -> Result
     }
 }
 
-// The rows that stand in place of a datafile.
-fn rows_in(state: &State, file: FileNo) -> &[Row]
+/// The rows that stand in place of a datafile.
+pub(crate) fn rows_in(state: &State, file: FileNo) -> &[Row]
     requires sound { IsSound state.now }
     requires some { 0 < file }
     ensures { result.now ≡ rows_in state.now file }
@@ -102,25 +103,31 @@ fn rows_from(alloc: Global, from: Option<Scn>, rows: &[Row]) -> Result<Seq<Row>,
     }
 }
 
-// The piece of a datafile: each block is read once, as it stands in place now.
-fn piece_of(alloc: Global, state: &State, form: &BackupForm, job: Job) -> Result<Piece, NoMemory>
-    requires sound { IsSound state.now }
-    requires valid { IsPiece (piece_of state.now form.now job) }
-    ensures { IfOk result (λ piece. piece ≡ piece_of state.now form.now job) }
+/// The piece of a datafile of which these rows were read, one of each block, with this checkpoint. A level 1 has the rows of
+/// versions at or above the checkpoint of its parent. An error is want of memory.
+pub(crate) fn piece_of(
+    alloc: Global,
+    state: &State,
+    form: &BackupForm,
+    job: Job,
+    checkpoint: Scn,
+    rows: &[Row],
+) -> Result<Piece, NoMemory>
+    requires valid { IsPiece (piece_by (ledger state.now).base form.now checkpoint job rows.now) }
+    ensures { IfOk result (λ piece. piece ≡ piece_by (ledger state.now).base form.now checkpoint job rows.now) }
 {
-    let read = rows_in(state, job.file);
-    let rows = rows_from(alloc, job.from, read)?;
+    let blocks = rows.len() as u32;
+    let rows = rows_from(alloc, job.from, rows)?;
     let base = state.catalog.base();
-    let now = now(state);
     Ok(Piece {
         kind: kind_by(form, job.from),
         dbid: base.dbid,
         inc: base.current,
         file: job.file,
-        blocks: read.len() as u32,
+        blocks,
         from: job.from.unwrap_or(0),
-        checkpoint: now,
-        high: high_of(now, rows.as_slice()),
+        checkpoint,
+        high: high_of(checkpoint, rows.as_slice()),
         rows,
     })
 }
@@ -160,14 +167,13 @@ fn entry_of(
     })
 }
 
-// The line of a piece: each block was read.
-fn piece_line(state: &State, form: &BackupForm, job: Job, piece: &Piece) -> Line
+// The line of a piece under the next id: each block was read.
+fn piece_line(state: &State, copy: bool, piece: &Piece) -> Line
     requires valid { IsPiece piece.now }
-    requires piece { piece.now ≡ piece_of state.now form.now job }
-    ensures { result ≡ piece_line state.now form.now job }
+    ensures { result ≡ line_for state.now copy piece.now }
 {
     Line::BackedUp {
-        copy: is_copy(form, job),
+        copy,
         id: state.catalog.base().next_id,
         file: piece.file,
         shape: shape_by(piece.kind, piece.from),
@@ -177,35 +183,34 @@ fn piece_line(state: &State, form: &BackupForm, job: Job, piece: &Piece) -> Line
     }
 }
 
-// Backs up one datafile: its piece is recorded under the next id, and its object and its line are added.
-// Without memory nothing is said of the state, the edits and what is handed out.
-pub(crate) fn back_up(
+/// Records a piece under the next id, and adds its object and its line. Without memory nothing is said of the state, the
+/// edits and what is handed out.
+pub(crate) fn record_piece(
     alloc: Global,
     state: &mut State,
     edits: &mut Vec<Edit>,
     handed: &mut Handed,
     form: &BackupForm,
     tag: &Text,
-    job: Job,
+    copy: bool,
+    piece: &Piece,
 ) -> Result<(), NoMemory>
     requires sound { IsSound state.old }
-    requires valid { IsPiece (piece_of state.old form.now job) }
-    requires fits { FitsNewPiece state.old.catalog (entry_of state.old form.now tag.now job) }
-    ensures after { OnOk result (state.new ≡ after_file state.old form.now tag.now job) }
+    requires valid { IsPiece piece.now }
+    requires fits { FitsNewPiece state.old.catalog (entry_for state.old form.now tag.now copy piece.now) }
+    ensures after { OnOk result (state.new ≡ after_piece state.old form.now tag.now copy piece.now) }
     ensures edits { OnOk result (EditsFollow edits.old.items edits.new.items state.old.catalog state.new.catalog) }
-    ensures lines { OnOk result (handed.new.lines ≡ handed.old.lines ++ piece_line state.old form.now job ∷ []) }
-    ensures objects { OnOk result (handed.new.objects ≡ handed.old.objects ++ piece_object state.old form.now job ∷ []) }
+    ensures lines { OnOk result (handed.new.lines ≡ handed.old.lines ++ line_for state.old copy piece.now ∷ []) }
+    ensures objects { OnOk result (handed.new.objects ≡ handed.old.objects ++ object_for state.old copy piece.now ∷ []) }
     ensures removes { OnOk result (handed.new.removes ≡ handed.old.removes) }
 {
-    let piece = piece_of(alloc, state, form, job)?;
-    let encoded = encode_piece_with_digest(alloc, &piece)?;
-    let copy = is_copy(form, job);
-    let entry = entry_of(alloc, state, form, tag, copy, &piece, &encoded)?;
+    let encoded = encode_piece_with_digest(alloc, piece)?;
+    let entry = entry_of(alloc, state, form, tag, copy, piece, &encoded)?;
     let object = Object {
         name: piece_name(alloc, copy, entry.id)?,
         bytes: encoded.bytes,
     };
-    handed.lines.push(piece_line(state, form, job, &piece))?;
+    handed.lines.push(piece_line(state, copy, piece))?;
     handed.objects.push(object)?;
     state.catalog.add_piece(alloc, edits, entry)
 }

@@ -1,0 +1,10 @@
+use Rattle.std.proofs.Common.{arith}
+use Rattle.rm_backing.proofs.Files.{taken-few}
+use Rattle.rm_backing.proofs.refusing.room_refusal.Goals as goal
+
+pub overflow_add-count : goal.overflow_add-count
+overflow_add-count c =
+    let few = taken-few c.args.state.now c.args.form.now c.requires.sound in
+    let count = c.taken_count-count.ensures in
+    let most = c.mark_count.ensures.most in
+    omega (arith, few, count, most)
