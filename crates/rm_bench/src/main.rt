@@ -39,7 +39,7 @@ fn main(rt: HostRuntime) -> io::Result<()> {
     catalog::run(&rt, large)?;
     planning::run(&rt, large)?;
     script::run(&rt, large)?;
-    writes::run(&rt, large)?;
+    writes::run(&rt, rt.alloc(), large)?;
     live::run(&rt, rt.alloc(), large)
 }
 

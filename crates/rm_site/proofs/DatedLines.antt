@@ -9,18 +9,19 @@ use Rattle.rm_statement.specs.declared.command.Command.TheVariants.{ArchiveLogCu
 use Rattle.rm_history.specs.declared.tree.Incarnation.{Incarnation}
 use Rattle.rm_report.specs.Reply.{HasDate, LineHasDate}
 use Rattle.rm_report.specs.declared.line.Line.{Line}
-use Rattle.rm_report.specs.declared.line.Line.TheVariants.{Deleted}
+use Rattle.rm_report.specs.declared.line.Line.TheVariants.{Deleted, ThreadScn}
 use Rattle.rm_statement.specs.declared.command.ChangeTo.{ChangeTo}
 use Rattle.rm_statement.specs.declared.command.ChangeTo.TheVariants.{Available, Keep, NoKeep, Unavailable, Uncatalog}
 use Rattle.rm_machine.specs.Archive.{after_thread, lines_from, thread_lines}
-use Rattle.rm_machine.specs.Backup.{after_file, lines_of, or_nothing}
+use Rattle.rm_machine.specs.Backup.{or_nothing}
+use Rattle.rm_machine.specs.BackupOutcome.{at_end, write_lines}
 use Rattle.rm_machine.specs.Effect.{Effect, Outcome, done, no_effect, refused, told}
 use Rattle.rm_machine.specs.ListIncarnation.{incarnation_lines}
-use Rattle.rm_machine.specs.State.{current_of, ledger, online, tree}
+use Rattle.rm_machine.specs.MadePieces.{Copied, after_piece, copied, piece_lines}
+use Rattle.rm_machine.specs.State.{current_of, ledger, now_of, online, tree}
 use Rattle.rm_machine.specs.Step.{IsDone}
 use Rattle.rm_machine.specs.SwitchLogfile.{archived, is_due, made_lines, none_lines, with_archived}
 use Rattle.rm_machine.specs.Upkeep.{change_line}
-use Rattle.rm_machine.specs.declared.job.Job.{Job}
 use Rattle.rm_machine.specs.declared.state.State.{State}
 use Rattle.rm_site.specs.Comes.{is_change}
 
@@ -53,9 +54,17 @@ archived-dated : (all : Bool) (s : State) (t n : ℕ) → AreDated (lines_from a
 archived-dated all s t zero = none-dated
 archived-dated all s t (suc n) = join-dated (thread_lines all s t) (lines_from all (after_thread s t) (t + 1) n) (thread-dated all s t) (archived-dated all (after_thread s t) (t + 1) n)
 
-pieces-dated : (s : State) (b : BackupForm) (tag : List ℕ) (js : List Job) → AreDated (lines_of s b tag js)
+pieces-dated : (s : State) (b : BackupForm) (tag : List ℕ) (xs : List Copied) → AreDated (piece_lines s b tag xs)
 pieces-dated s b tag [] = none-dated
-pieces-dated s b tag (j ∷ js) = more-dated _ _ tt (pieces-dated (after_file s b tag j) b tag js)
+pieces-dated s b tag (x ∷ xs) = more-dated _ _ tt (pieces-dated (after_piece s b tag x.copy x.piece) b tag xs)
+
+thread-writes-dated : (t : ℕ) (scns : List ℕ) → AreDated (map (λ scn. ThreadScn t scn) scns)
+thread-writes-dated t [] = none-dated
+thread-writes-dated t (scn ∷ scns) = more-dated _ _ tt (thread-writes-dated t scns)
+
+writes-dated : (t : ℕ) (scns : List (List ℕ)) → AreDated (write_lines t scns)
+writes-dated t [] = none-dated
+writes-dated t (one ∷ scns) = join-dated (map (λ scn. ThreadScn t scn) one) (write_lines (suc t) scns) (thread-writes-dated t one) (writes-dated (suc t) scns)
 
 nothing-dated : (lines : List Line) → AreDated lines → AreDated (or_nothing lines)
 nothing-dated [] dated = one-dated _ tt
@@ -102,7 +111,8 @@ every-dated (CreateDatafile blocks) s objects o change is = by o _ is (one-dated
 every-dated (Write w) s objects o change is = by o _ is (one-dated _ tt)
 every-dated (SwitchLogfile t) s objects o change is = by o _ is (if-by (is_due s t) (done (made_lines s t) (archived (ledger s).base.next_id (online s t)) (with_archived s t)) (done (none_lines t) no_effect s) (one-dated _ tt) (one-dated _ tt))
 every-dated ArchiveLogCurrent s objects o change is = by o _ is (archived-dated true s 1 (ledger s).base.threads)
-every-dated (Backup b) s objects o change is = by o _ is.is (nothing-dated _ (pieces-dated s b is.tag is.jobs))
+every-dated (Backup b) s objects o change is = by o _ is.is
+    (join-dated _ (write_lines 1 is.scns) (nothing-dated _ (pieces-dated (at_end s b is.events) b is.tag (copied (ledger s).base b (now_of s) is.jobs is.rows))) (writes-dated 1 is.scns))
 every-dated BackupLogs s objects o change is = absurd (cc)
 every-dated Mount s objects o change is = by o _ is (one-dated _ tt)
 every-dated OpenPlain s objects o change is = by o _ is (one-dated _ tt)

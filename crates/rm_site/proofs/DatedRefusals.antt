@@ -14,7 +14,7 @@ use Rattle.rm_statement.specs.declared.command.WriteForm.{WriteForm}
 use Rattle.rm_history.specs.declared.world.Datafile.{Datafile}
 use Rattle.rm_report.specs.Reply.{HasDate}
 use Rattle.rm_machine.specs.Archive.{archive_all_refusal, archiving_refusal}
-use Rattle.rm_machine.specs.Backup.{backup_refusal}
+use Rattle.rm_machine.specs.BackupRefusal.{backup_refusal, room_refusal}
 use Rattle.rm_machine.specs.Configure.{parallelism_refusal, policy_refusal, retention_refusal}
 use Rattle.rm_machine.specs.CreateDatafile.{datafile_refusal}
 use Rattle.rm_machine.specs.Dump.{dump_refusal}
@@ -93,8 +93,11 @@ archiving-dated s more = search (unless-dated, never)
 archive-dated : (s : State) → IsDated (archive_all_refusal s)
 archive-dated s = search (if-dated, archiving-dated, once)
 
+room-dated : (s : State) (b : BackupForm) → IsDated (room_refusal s b)
+room-dated s b = search (unless-dated, never) depth 9
+
 backup-dated : (s : State) (b : BackupForm) → IsDated (backup_refusal s b)
-backup-dated s b = search (if-dated, unless-dated, or-dated, never, once) depth 9
+backup-dated s b = search (if-dated, or-dated, room-dated, once) depth 9
 
 open-dated : (s : State) → IsDated (open_refusal s)
 open-dated s = search (if-dated, unless-dated, ids-dated, once)

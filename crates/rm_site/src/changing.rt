@@ -1,5 +1,5 @@
 //! The statements that change the state, and look at nothing else.
-ghost use Rattle.std.specs.Prelude.{◌≡◌, Option, None, true, IfOk, IsTrue, OnOk};
+ghost use Rattle.std.specs.Prelude.{◌≡◌, Option, None, true, IfOk, IsTrue, OnOk, ◌≤◌, IfSome};
 ghost use Rattle.rm_base.specs.Store.{Held};
 ghost use Rattle.rm_machine.specs.Built.{is_built};
 ghost use Rattle.rm_machine.specs.Hands.{Hands};
@@ -8,10 +8,12 @@ ghost use Rattle.rm_machine.specs.Step.{IsStatement, refusal_of};
 ghost use Rattle.rm_repository.specs.Changes.{EditsFollow};
 ghost use Rattle.rm_site.specs.Comes.{is_change};
 
+use crate::channels::channel_count;
 use rm_archiving::{archive_log_current, switch_logfile};
 use rm_backing::backup;
 use rm_base::NoMemory;
 use rm_catalog::Edit;
+use rm_channel::Gate;
 use rm_host::{lose_datafile, lose_log};
 use rm_machine::{Handed, State};
 use rm_modes::{mount, open, open_resetlogs, reset_database};
@@ -20,15 +22,21 @@ use rm_statement::Command;
 use rm_upkeep::{change_backup, delete_backup, delete_expired};
 use rm_writing::{create_datafile, write};
 use std::alloc::Global;
+use std::sync::Wait;
+use std::thread::Threads;
 
 /// What a statement hands out that changes the state, and that the state does not refuse. An error is want of
 /// memory; then nothing is said of the state and the edits.
-pub(crate) fn change(
+pub(crate) fn change<R: Threads + Wait + Sync, G: Gate>(
+    rt: &R,
     alloc: Global,
+    gate: &G,
+    channels: Option<u32>,
     state: &mut State,
     edits: &mut Vec<Edit>,
     command: &Command,
 ) -> Result<Handed, NoMemory>
+    requires channels { IfSome channels (λ n. (1 ≤ n) × (n ≤ 16)) }
     requires command { IsStatement command.now }
     requires built { IsTrue (is_built command.now) }
     requires change { is_change command.now ≡ true }
@@ -42,7 +50,10 @@ pub(crate) fn change(
         Command::Write(form) => write(alloc, state, edits, form),
         Command::SwitchLogfile { thread } => switch_logfile(alloc, state, edits, *thread),
         Command::ArchiveLogCurrent => archive_log_current(alloc, state, edits),
-        Command::Backup(form) => backup(alloc, state, edits, form),
+        Command::Backup(form) => {
+            let channels = channel_count(state, channels);
+            backup(rt, alloc, gate, channels, state, edits, form)
+        }
         Command::Mount => mount(alloc, state),
         Command::OpenPlain => open(alloc, state),
         Command::OpenResetlogs => open_resetlogs(alloc, state, edits),

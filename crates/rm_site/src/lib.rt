@@ -2,9 +2,11 @@
 #![tactic(auto)]
 
 mod changing;
+mod channels;
 mod checking;
 mod create;
 mod drilling;
+mod gates;
 mod moment;
 pub mod open;
 mod recovering;
@@ -17,6 +19,7 @@ mod statement;
 mod step;
 mod telling;
 
+pub use gates::OpenGate;
 pub use open::OpenFault;
 pub use rm_change::Stop;
 pub use site::Site;

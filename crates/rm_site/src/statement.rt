@@ -1,5 +1,5 @@
 //! What a statement comes to, where there is a database.
-ghost use Rattle.std.specs.Prelude.{◌≡◌, ◌≤◌, None, IfOk, IsTrue, IsErrOf, OnOk};
+ghost use Rattle.std.specs.Prelude.{◌≡◌, ◌≤◌, None, IfOk, IsTrue, IsErrOf, OnOk, IfSome};
 ghost use Rattle.rm_base.specs.Outside.{Rose};
 ghost use Rattle.rm_change.specs.declared.change.Stop.TheVariants.{StoreFault, KeeperFault};
 ghost use Rattle.rm_repository.specs.Changes.{EditsFollow};
@@ -19,10 +19,13 @@ use crate::telling::tell;
 use rm_base::{Refusal, Seq, Store};
 use rm_catalog::Edit;
 use rm_change::Stop;
+use rm_channel::Gate;
 use rm_machine::{Handed, State};
 use rm_report::Line;
 use rm_statement::Command;
 use std::alloc::Global;
+use std::sync::Wait;
+use std::thread::Threads;
 
 /// What a statement comes to.
 #[derive(Drop)]
@@ -36,13 +39,17 @@ pub(crate) enum Answer {
 }
 
 // What a statement comes to that the state does not refuse.
-fn accepted<D: Store>(
+fn accepted<R: Threads + Wait + Sync, G: Gate, D: Store>(
+    rt: &R,
     alloc: Global,
+    gate: &G,
+    channels: Option<u32>,
     state: &mut State,
     store: &mut D,
     edits: &mut Vec<Edit>,
     command: &Command,
 ) -> Result<Answer, Stop>
+    requires channels { IfSome channels (λ n. (1 ≤ n) × (n ≤ 16)) }
     requires command { IsStatement command.now }
     requires built { IsTrue (is_built command.now) }
     requires sound { IsSound state.old }
@@ -78,19 +85,23 @@ fn accepted<D: Store>(
         Command::Damage { .. } => drill(alloc, state, store, command),
         Command::Cut { .. } => drill(alloc, state, store, command),
         Command::Rename { .. } => drill(alloc, state, store, command),
-        _ => Ok(Answer::Done(change(alloc, state, edits, command)?)),
+        _ => Ok(Answer::Done(change(rt, alloc, gate, channels, state, edits, command)?)),
     }
 }
 
 /// What a statement comes to. It begins at its moment, and no site is saved. The state refuses it exactly where
 /// `refusal_of` says so. After an error, which is a stop, nothing is said of the state and the edits.
-pub(crate) fn come_to<D: Store>(
+pub(crate) fn come_to<R: Threads + Wait + Sync, G: Gate, D: Store>(
+    rt: &R,
     alloc: Global,
+    gate: &G,
+    channels: Option<u32>,
     state: &mut State,
     store: &mut D,
     edits: &mut Vec<Edit>,
     command: &Command,
 ) -> Result<Answer, Stop>
+    requires channels { IfSome channels (λ n. (1 ≤ n) × (n ≤ 16)) }
     requires command { IsStatement command.now }
     requires built { IsTrue (is_built command.now) }
     requires sound { IsSound state.old }
@@ -108,5 +119,5 @@ pub(crate) fn come_to<D: Store>(
     if let Some(refusal) = refusal_of(alloc, state, command)? {
         return Ok(Answer::Refused(refusal));
     }
-    accepted(alloc, state, store, edits, command)
+    accepted(rt, alloc, gate, channels, state, store, edits, command)
 }

@@ -22,6 +22,7 @@ use crate::statement::{Answer, come_to};
 use rm_base::{Moment, NoMemory, Seq, Store, Text};
 use rm_catalog::{Keeper, PartEntry};
 use rm_change::{Change, Stop, carry_out};
+use rm_channel::Gate;
 use rm_machine::{Handed, State, refusal_reply};
 use rm_objects::site_name;
 use rm_report::{Line, Reply};
@@ -29,6 +30,8 @@ use rm_repository::Saved;
 use rm_statement::Command;
 use std::alloc::Global;
 use std::mem;
+use std::sync::Wait;
+use std::thread::Threads;
 
 // A reply that is no refusal.
 fn reply_of(lines: Seq<Line>) -> Reply
@@ -121,14 +124,18 @@ fn answer_without<D: Store, C: Keeper>(
 
 // The answer to a statement where there is a database. After a stop nothing is said of the state.
 #[tactic(auto, using(crate::proofs::Answering::untouched))]
-fn answer_in<D: Store, C: Keeper>(
+fn answer_in<R: Threads + Wait + Sync, G: Gate, D: Store, C: Keeper>(
+    rt: &R,
     alloc: Global,
+    gate: &G,
+    channels: Option<u32>,
     state: &mut State,
     store: &mut D,
     keeper: &mut C,
     command: &Command,
     moment: Moment,
 ) -> Result<Reply, Stop>
+    requires channels { IfSome channels (λ n. (1 ≤ n) × (n ≤ 16)) }
     requires command { IsStatement command.now }
     requires built { IsTrue (is_built command.now) }
     requires sound { IsSound state.old }
@@ -145,7 +152,7 @@ fn answer_in<D: Store, C: Keeper>(
 {
     let mut edits = Vec::new(alloc);
     let earlier = state.catalog.begin(&mut edits, moment)?;
-    match come_to(alloc, state, store, &mut edits, command)? {
+    match come_to(rt, alloc, gate, channels, state, store, &mut edits, command)? {
         Answer::Refused(refusal) => {
             state.catalog.put_back(earlier);
             Ok(refusal_reply(alloc, refusal)?)
@@ -172,14 +179,18 @@ fn answer_in<D: Store, C: Keeper>(
 }
 
 // The answer to a statement, and the database after it.
-fn answer<D: Store, C: Keeper>(
+fn answer<R: Threads + Wait + Sync, G: Gate, D: Store, C: Keeper>(
+    rt: &R,
     alloc: Global,
+    gate: &G,
+    channels: Option<u32>,
     state: Option<State>,
     store: &mut D,
     keeper: &mut C,
     command: &Command,
     moment: Moment,
 ) -> Result<(Option<State>, Reply), Stop>
+    requires channels { IfSome channels (λ n. (1 ≤ n) × (n ≤ 16)) }
     requires command { IsStatement command.now }
     requires built { IsTrue (is_built command.now) }
     requires sound { IfSome state IsSound }
@@ -198,7 +209,9 @@ fn answer<D: Store, C: Keeper>(
         None => answer_without(alloc, store, keeper, command, moment),
         Some(state) => {
             let mut state = state;
-            let reply = answer_in(alloc, &mut state, store, keeper, command, moment)?;
+            let reply = answer_in(
+                rt, alloc, gate, channels, &mut state, store, keeper, command, moment,
+            )?;
             Ok((Some(state), reply))
         }
     }
@@ -208,6 +221,9 @@ impl Site {
     /// One step of the machine: the reply to a statement, where the clock answered `clock`. A refusal is a
     /// reply too, and changes nothing. A refusal that the state decides is answered exactly where the state
     /// decides so, whatever the store and the keeper hold.
+    ///
+    /// A BACKUP reads by `channels` channels, or by as many as are configured where none are asked for, and they and its writers
+    /// call the gate.
     ///
     /// Each line of the reply has a text.
     ///
@@ -221,13 +237,17 @@ impl Site {
     ///
     /// A stop leaves the records before the statement or those after it, whole, and each object that one of
     /// them names, as a database at rest, which the next session wakes. Other objects may hold anything.
-    pub fn step<D: Store, C: Keeper>(
+    pub fn step<R: Threads + Wait + Sync, G: Gate, D: Store, C: Keeper>(
         &mut self,
+        rt: &R,
+        gate: &G,
+        channels: Option<u32>,
         store: &mut D,
         keeper: &mut C,
         command: &Command,
         clock: Moment,
     ) -> Result<Reply, Stop>
+        requires channels { IfSome channels (λ n. (1 ≤ n) × (n ≤ 16)) }
         requires live { self.old.live ≡ true }
         requires command { IsTrue (is_command command.now) }
         requires built { IsTrue (is_built command.now) }
@@ -247,7 +267,9 @@ impl Site {
         self.live = false;
         let state = mem::replace(&mut self.state, None);
         let moment = moment_of(&state, clock);
-        let (state, reply) = answer(self.alloc, state, store, keeper, command, moment)?;
+        let (state, reply) = answer(
+            rt, self.alloc, gate, channels, state, store, keeper, command, moment,
+        )?;
         self.state = state;
         self.applied = has_applied(self.applied, command, &reply);
         self.live = true;

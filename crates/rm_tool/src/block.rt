@@ -5,7 +5,7 @@ ghost use Rattle.rm_base.specs.Outside.{Rose};
 ghost use Rattle.rm_change.specs.declared.change.Stop.TheVariants.{StoreFault, KeeperFault};
 ghost use Rattle.rm_statement.specs.IsCommand.{is_inner};
 ghost use Rattle.rm_report.specs.Reply.{HasDates, said};
-ghost use Rattle.rm_tool.specs.Block.{AreSet, after_inner, channel_reply, inner_applies, set_reply};
+ghost use Rattle.rm_tool.specs.Block.{AreSet, after_inner, channel_reply, channels_of, inner_applies, set_reply};
 ghost use Rattle.rm_tool.specs.Built.{is_built_inner};
 ghost use Rattle.rm_tool.specs.Serving.{InnerSteps, InnerStops, RunSteps, RunStops};
 
@@ -13,11 +13,14 @@ use crate::untils::with_until;
 use rm_base::{Limit, Moment, NoMemory, Refusal, Seq, Store};
 use rm_catalog::Keeper;
 use rm_change::Stop;
+use rm_channel::Gate;
 use rm_lang::{Inner, Until};
 use rm_machine::refusal_reply;
 use rm_report::{Line, Reply};
 use rm_site::Site;
 use std::alloc::Global;
+use std::sync::Wait;
+use std::thread::Threads;
 
 /// What a RUN has set so far.
 #[derive(Drop)]
@@ -64,6 +67,20 @@ fn channel_reply(alloc: Global, site: &Site, channels: u64) -> Result<Reply, NoM
     }
 }
 
+// How many channels are asked for: as many as the RUN has allocated, if it has any, or else those of the words.
+fn channels_of(allocated: u64, words: Option<u32>) -> Option<u32>
+    requires few { allocated ≤ 16 }
+    requires words { IfSome words (λ n. (1 ≤ n) × (n ≤ 16)) }
+    ensures range { IfSome result (λ n. (1 ≤ n) × (n ≤ 16)) }
+    ensures value { result ≡ channels_of allocated words }
+{
+    if allocated > 0 {
+        Some(allocated as u32)
+    } else {
+        words
+    }
+}
+
 // Adds the lines of a reply.
 fn add_lines(lines: &mut Seq<Line>, more: Seq<Line>) -> Result<(), NoMemory>
     ensures { OnOk result (lines.new ≡ lines.old ++ more) }
@@ -75,8 +92,11 @@ fn add_lines(lines: &mut Seq<Line>, more: Seq<Line>) -> Result<(), NoMemory>
 }
 
 // One statement of a RUN. What it sets holds for those behind it, if it is not refused.
-fn serve_inner<D: Store, C: Keeper>(
+fn serve_inner<R: Threads + Wait + Sync, G: Gate, D: Store, C: Keeper>(
+    rt: &R,
     alloc: Global,
+    gate: &G,
+    channels: Option<u32>,
     site: &mut Site,
     store: &mut D,
     keeper: &mut C,
@@ -84,6 +104,7 @@ fn serve_inner<D: Store, C: Keeper>(
     inner: Inner,
     clock: Moment,
 ) -> Result<Reply, Stop>
+    requires channels { IfSome channels (λ n. (1 ≤ n) × (n ≤ 16)) }
     requires live { site.old.live ≡ true }
     requires inner { IsTrue (is_inner inner) }
     requires built { IsTrue (is_built_inner inner) }
@@ -103,7 +124,8 @@ fn serve_inner<D: Store, C: Keeper>(
     match inner {
         Inner::Plain(command) => {
             let command = with_until(alloc, &settings.until, command)?;
-            site.step(store, keeper, &command, clock)
+            let channels = channels_of(settings.channels, channels);
+            site.step(rt, gate, channels, store, keeper, &command, clock)
         }
         Inner::SetUntil(until) => {
             settings.until = Some(until);
@@ -123,14 +145,18 @@ fn serve_inner<D: Store, C: Keeper>(
 ///
 /// The reply has the lines of all, and is a refusal if the last is. An error is a stop at one of them, as of [`Site::step`]:
 /// those before it are done, and no reply is there.
-pub fn serve_block<D: Store, C: Keeper>(
+pub fn serve_block<R: Threads + Wait + Sync, G: Gate, D: Store, C: Keeper>(
+    rt: &R,
     alloc: Global,
+    gate: &G,
+    channels: Option<u32>,
     site: &mut Site,
     store: &mut D,
     keeper: &mut C,
     block: Seq<Inner>,
     clock: Moment,
 ) -> Result<Reply, Stop>
+    requires channels { IfSome channels (λ n. (1 ≤ n) × (n ≤ 16)) }
     requires live { site.old.live ≡ true }
     requires inner { IsTrue (list_all is_inner block) }
     requires built { IsTrue (list_all is_built_inner block) }
@@ -149,7 +175,18 @@ pub fn serve_block<D: Store, C: Keeper>(
     };
     let mut lines = Seq::new(alloc);
     for inner in block.into_vec() {
-        let reply = serve_inner(alloc, site, store, keeper, &mut settings, inner, clock)?;
+        let reply = serve_inner(
+            rt,
+            alloc,
+            gate,
+            channels,
+            site,
+            store,
+            keeper,
+            &mut settings,
+            inner,
+            clock,
+        )?;
         add_lines(&mut lines, reply.lines)?;
         if reply.refused {
             return Ok(Reply {

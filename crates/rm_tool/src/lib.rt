@@ -13,3 +13,4 @@ mod untils;
 mod words;
 
 pub use adapters::{ReadSource, SystemClock, WriteSink};
+pub use rm_site::OpenGate;

@@ -13,14 +13,17 @@ use crate::session::{Halt, serve_session};
 use crate::words::{Look, look_at};
 use rm_base::{Clock, Sink, Source, Store, Text};
 use rm_catalog::Keeper;
+use rm_channel::Gate;
 use rm_token::statements;
 use std::alloc::Global;
+use std::sync::Wait;
+use std::thread::Threads;
 
 /// Runs a script against the site of a store and a keeper, and answers the status of the program.
 ///
 /// The words are read first, then the script to its end, then the site is opened, then each statement is a
 /// step and its reply is written, and then the site is saved. The clock is asked once for each statement of the
-/// grammar. The status is
+/// grammar. The channels and writers of a BACKUP are threads of `rt`, and call `gate`. The status is
 /// - 0 where no reply is a refusal, 1 where one is,
 /// - 2 where the words are refused,
 /// - 3 where the source failed, 4 where the sink failed,
@@ -28,8 +31,10 @@ use std::alloc::Global;
 /// - 7 where memory was wanting,
 /// - 8 where the script has more than 4,194,304 bytes,
 /// - 9 where the keeper's records are not valid.
-pub fn run<S: Source, K: Sink, D: Store, C: Keeper, T: Clock>(
+pub fn run<R: Threads + Wait + Sync, G: Gate, S: Source, K: Sink, D: Store, C: Keeper, T: Clock>(
+    rt: &R,
     alloc: Global,
+    gate: &G,
     words: &[Text],
     source: &mut S,
     sink: &mut K,
@@ -81,8 +86,8 @@ pub fn run<S: Source, K: Sink, D: Store, C: Keeper, T: Clock>(
     ensures statuses { Contains (0 ∷ 1 ∷ 2 ∷ 3 ∷ 4 ∷ 5 ∷ 6 ∷ 7 ∷ 8 ∷ 9 ∷ []) result }
     ensures complete { accepts words.now ≡ true → Counted (S.taken source.old) → ¬ TakesMany (S.taken source.old) (S.taken source.new) → (rs : List Record) → C.kept keeper.old ≡ Some rs → AreValid rs → ¬ Rose (S.faults source.old) (S.faults source.new) → ¬ Rose (K.faults sink.old) (K.faults sink.new) → ¬ Rose (D.faults store.old) (D.faults store.new) → ¬ Rose (C.faults keeper.old) (C.faults keeper.new) → Contains (0 ∷ 1 ∷ 7 ∷ []) result }
 {
-    match look_at(alloc, words) {
-        Look::Accepted => {}
+    let channels = match look_at(alloc, words) {
+        Look::Accepted(channels) => channels,
         Look::Refused => {
             return match write_all(sink, b"rman: bad words\n") {
                 Ok(()) => 2,
@@ -90,7 +95,7 @@ pub fn run<S: Source, K: Sink, D: Store, C: Keeper, T: Clock>(
             };
         }
         Look::NoMemory => return 7,
-    }
+    };
     let script = match read_all(alloc, source) {
         Ok(script) => script,
         Err(ReadFault::Failed) => return 3,
@@ -113,7 +118,18 @@ pub fn run<S: Source, K: Sink, D: Store, C: Keeper, T: Clock>(
         Err(Unopened::Keeper) => return 6,
         Err(Unopened::NoMemory) => return 7,
     };
-    match serve_session(alloc, sink, site, store, keeper, clock, found.as_slice()) {
+    match serve_session(
+        rt,
+        alloc,
+        gate,
+        channels,
+        sink,
+        site,
+        store,
+        keeper,
+        clock,
+        found.as_slice(),
+    ) {
         Ok(refused) => u8::from(refused),
         Err(Halt::Sink) => 4,
         Err(Halt::Store) => 5,

@@ -1,5 +1,5 @@
 //! A run over the statements of a script.
-ghost use Rattle.std.specs.Prelude.{◌≡◌, ◌≤◌, true, false, IfOk, OnOk, OnErr, IsErrOf};
+ghost use Rattle.std.specs.Prelude.{◌≡◌, ◌≤◌, true, false, IfOk, OnOk, OnErr, IsErrOf, IfSome};
 ghost use Rattle.rm_base.specs.Outside.{Rose};
 ghost use Rattle.rm_change.specs.declared.change.Stop.TheVariants.{StoreFault, KeeperFault};
 ghost use Rattle.rm_report.specs.Reply.{HasDates};
@@ -11,12 +11,15 @@ use crate::ends::write_all;
 use rm_base::{Clock, Failed, NoMemory, Refusal, Seq, Sink, Store};
 use rm_catalog::Keeper;
 use rm_change::Stop;
+use rm_channel::Gate;
 use rm_lang::Statement;
 use rm_machine::refusal_reply;
 use rm_report::{Reply, bytes_of};
 use rm_site::Site;
 use rm_token::Token;
 use std::alloc::Global;
+use std::sync::Wait;
+use std::thread::Threads;
 
 /// Why a session ended early.
 #[derive(Clone, Copy, Debug, PartialEq, Eq)]
@@ -63,8 +66,11 @@ impl From<Failed> for Halt {
 
 // One statement: a step of the machine at the clock's next answer, or those of a RUN, or the refusal of one that is not
 // of the grammar or not built, for which the clock is not asked.
-fn serve<D: Store, C: Keeper, T: Clock>(
+fn serve<R: Threads + Wait + Sync, G: Gate, D: Store, C: Keeper, T: Clock>(
+    rt: &R,
     alloc: Global,
+    gate: &G,
+    channels: Option<u32>,
     site: &mut Site,
     store: &mut D,
     keeper: &mut C,
@@ -72,6 +78,7 @@ fn serve<D: Store, C: Keeper, T: Clock>(
     line: u32,
     tokens: &[Token],
 ) -> Result<Reply, Stop>
+    requires channels { IfSome channels (λ n. (1 ≤ n) × (n ≤ 16)) }
     requires live { site.old.live ≡ true }
     ensures live { OnOk result (site.new.live ≡ true) }
     ensures served { IfOk result (λ reply. IsServed (D.held store.old) (C.kept keeper.old) site.old (T.answers clock.old) (line, tokens.now) reply (D.held store.new) (C.kept keeper.new) site.new (T.answers clock.new)) }
@@ -87,8 +94,12 @@ fn serve<D: Store, C: Keeper, T: Clock>(
     };
     let answer = clock.now();
     match statement {
-        Statement::Plain(command) => site.step(store, keeper, &command, answer),
-        Statement::Run(block) => serve_block(alloc, site, store, keeper, block, answer),
+        Statement::Plain(command) => {
+            site.step(rt, gate, channels, store, keeper, &command, answer)
+        }
+        Statement::Run(block) => serve_block(
+            rt, alloc, gate, channels, site, store, keeper, block, answer,
+        ),
     }
 }
 
@@ -96,8 +107,11 @@ fn serve<D: Store, C: Keeper, T: Clock>(
 //
 // An error ends the session: the sink failed, the site was stopped by its store or its keeper, or
 // memory was wanting.
-fn serve_all<K: Sink, D: Store, C: Keeper, T: Clock>(
+fn serve_all<R: Threads + Wait + Sync, G: Gate, K: Sink, D: Store, C: Keeper, T: Clock>(
+    rt: &R,
     alloc: Global,
+    gate: &G,
+    channels: Option<u32>,
     sink: &mut K,
     site: &mut Site,
     store: &mut D,
@@ -105,6 +119,7 @@ fn serve_all<K: Sink, D: Store, C: Keeper, T: Clock>(
     clock: &mut T,
     statements: &[(u32, Seq<Token>)],
 ) -> Result<bool, Halt>
+    requires channels { IfSome channels (λ n. (1 ≤ n) × (n ≤ 16)) }
     requires live { site.old.live ≡ true }
     ensures live { OnOk result (site.new.live ≡ true) }
     ensures ok { IfOk result (λ refused. FromEach (D.held store.old) (C.kept keeper.old) site.old (Serves (T.answers clock.old) (K.contents sink.old) (K.contents sink.new) (D.held store.new) (C.kept keeper.new) site.old site.new refused statements.now)) }
@@ -125,7 +140,18 @@ fn serve_all<K: Sink, D: Store, C: Keeper, T: Clock>(
 {
     let mut refused = false;
     for (line, tokens) in statements {
-        let reply = serve(alloc, site, store, keeper, clock, *line, tokens.as_slice())?;
+        let reply = serve(
+            rt,
+            alloc,
+            gate,
+            channels,
+            site,
+            store,
+            keeper,
+            clock,
+            *line,
+            tokens.as_slice(),
+        )?;
         let bytes = bytes_of(alloc, &reply)?;
         write_all(sink, bytes.as_slice())?;
         refused |= reply.refused;
@@ -137,8 +163,11 @@ fn serve_all<K: Sink, D: Store, C: Keeper, T: Clock>(
 /// site is saved. Answers whether a statement was refused.
 ///
 /// An error ends the session: the sink failed, the site was stopped by its store or its keeper, or memory was wanting.
-pub fn serve_session<K: Sink, D: Store, C: Keeper, T: Clock>(
+pub fn serve_session<R: Threads + Wait + Sync, G: Gate, K: Sink, D: Store, C: Keeper, T: Clock>(
+    rt: &R,
     alloc: Global,
+    gate: &G,
+    channels: Option<u32>,
     sink: &mut K,
     site: Site,
     store: &mut D,
@@ -146,6 +175,7 @@ pub fn serve_session<K: Sink, D: Store, C: Keeper, T: Clock>(
     clock: &mut T,
     statements: &[(u32, Seq<Token>)],
 ) -> Result<bool, Halt>
+    requires channels { IfSome channels (λ n. (1 ≤ n) × (n ≤ 16)) }
     requires live { site.live ≡ true }
     requires fresh { site.applied ≡ false }
     ensures ok { IfOk result (λ refused. FromEach (D.held store.old) (C.kept keeper.old) site (Closes (T.answers clock.old) (K.contents sink.old) (K.contents sink.new) (D.held store.new) (C.kept keeper.new) refused statements.now)) }
@@ -165,7 +195,9 @@ pub fn serve_session<K: Sink, D: Store, C: Keeper, T: Clock>(
     ensures keeper_never_falls { C.faults keeper.old ≤ C.faults keeper.new }
 {
     let mut site = site;
-    let refused = serve_all(alloc, sink, &mut site, store, keeper, clock, statements)?;
+    let refused = serve_all(
+        rt, alloc, gate, channels, sink, &mut site, store, keeper, clock, statements,
+    )?;
     site.save(store, keeper)?;
     Ok(refused)
 }

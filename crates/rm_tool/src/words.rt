@@ -1,5 +1,5 @@
 //! The words of the program.
-ghost use Rattle.std.specs.Prelude.{◌≡◌, true, false};
+ghost use Rattle.std.specs.Prelude.{◌≡◌, ◌≤◌, ℕ, IfSome, Option, true, false};
 ghost use Rattle.rm_tool.specs.Words.{accepts};
 ghost use Rattle.rm_tool.specs.declared.words.Look.TheVariants.{Accepted, Refused};
 
@@ -10,18 +10,20 @@ use std::alloc::Global;
 /// What a look at the words gives.
 #[derive(Clone, Copy, Debug, PartialEq, Eq)]
 pub enum Look {
-    Accepted,
+    /// With so many channels, where they say it.
+    Accepted(Option<u32>),
     Refused,
     NoMemory,
 }
 
-/// Looks at the words of the program. (The channels that they say have no effect as yet.)
+/// Looks at the words of the program.
 pub fn look_at(alloc: Global, words: &[Text]) -> Look
-    ensures accepted { result ≡ Accepted → accepts words.now ≡ true }
+    ensures accepted { (channels : Option ℕ) → result ≡ Accepted channels → accepts words.now ≡ true }
+    ensures channels { (channels : Option ℕ) → result ≡ Accepted channels → IfSome channels (λ n. (1 ≤ n) × (n ≤ 16)) }
     ensures refused { result ≡ Refused → accepts words.now ≡ false }
 {
     match read_words(alloc, words) {
-        Ok(_) => Look::Accepted,
+        Ok(said) => Look::Accepted(said.channels),
         Err(WordsFault::Bad) => Look::Refused,
         Err(WordsFault::NoMemory) => Look::NoMemory,
     }

@@ -5,7 +5,7 @@ use rm_base::{NoMemory, Text};
 use rm_dir::DirStore;
 use rm_keeper_sql::CatalogFile;
 use rm_tool::run::run;
-use rm_tool::{ReadSource, SystemClock, WriteSink};
+use rm_tool::{OpenGate, ReadSource, SystemClock, WriteSink};
 use rm_words::read_words;
 use std::alloc::Global;
 use std::io::ErrorKind;
@@ -48,7 +48,9 @@ fn main(rt: HostRuntime) -> ExitCode {
     let mut keeper = CatalogFile::open(&rt, file.as_str());
     let mut clock = SystemClock::new(&rt);
     let status = run(
+        &rt,
         alloc,
+        &OpenGate,
         &words,
         &mut source,
         &mut sink,

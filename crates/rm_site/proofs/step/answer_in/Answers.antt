@@ -2,7 +2,7 @@ use Rattle.rm_site.proofs.Answering.{Begins, answered-in, begins-sound, handed-i
 use Rattle.rm_site.proofs.step.answer_in.Goals as goal
 
 pub come_to-requires-clause-sound : goal.come_to-requires-clause-sound
-come_to-requires-clause-sound g c =
+come_to-requires-clause-sound g c κs within =
     let was = c.in_ok-earlier.ensures in
     let begins : Begins c.args.state.now c.args.moment c.begin.new.self c.in_ok-earlier.earlier.moment c.in_ok-earlier.earlier.saved = record { after = was.after; moment_is = was.moment; saved_is = was.saved } in
     begins-sound begins c.requires.sound c.requires.moment

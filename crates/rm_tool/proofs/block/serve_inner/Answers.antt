@@ -13,12 +13,12 @@ pub returns-in_err-command-in-Plain-clause-stopped : goal.returns-in_err-command
 returns-in_err-command-in-Plain-clause-stopped g c = on-err _ c.from_residual.result (inner-untouched c.args.site.now c.args.settings.now c.args.inner c.args.clock)
 
 pub step-requires-clause-command : goal.step-requires-clause-command
-step-requires-clause-command g c =
+step-requires-clause-command g c κs within =
     let own = subst (λ (y : Inner). is_inner y ≡ true) c.in-Plain.is c.requires.inner in
     subst (λ (x : Command). is_command x ≡ true) (sym c.in_ok-command-in-Plain.ensures) (command_with c.args.settings.now.until c.in-Plain.command c.requires.set.until own)
 
 pub step-requires-clause-built : goal.step-requires-clause-built
-step-requires-clause-built g c =
+step-requires-clause-built g c κs within =
     let own = subst (λ (y : Inner). is_built_inner y ≡ true) c.in-Plain.is c.requires.built in
     subst (λ (x : Command). is_built x ≡ true) (sym c.in_ok-command-in-Plain.ensures) (built_with c.args.settings.now.until c.in-Plain.command own)
 

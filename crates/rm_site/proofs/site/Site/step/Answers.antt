@@ -3,7 +3,11 @@ use Rattle.rm_frame.specs.Holds.{View}
 use Rattle.rm_frame.specs.Saves.{applies}
 use Rattle.rm_frame.proofs.Safely.{deletes-safely}
 use Rattle.rm_site.proofs.Answering.{answered-of, steps-of, stops-of}
+use Rattle.rm_site.proofs.Contents.{has-content}
 use Rattle.rm_site.proofs.site.Site.step.Goals as goal
+
+pub answer-requires-clause-command : goal.answer-requires-clause-command
+answer-requires-clause-command g c κs within = (c.requires.command, has-content c.args.command.now c.requires.command)
 
 pub returns-clause-step : goal.returns-clause-step
 returns-clause-step g c =
