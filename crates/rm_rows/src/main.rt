@@ -8,7 +8,7 @@
 //! | `> TEXT` | a line of the script |
 //! | `# TEXT`, or nothing | a word for the reader |
 //! | `-- status N` | what stands above is run: the status is N, and all lines below are written |
-//! | any other | a line that is written, below the statement that it answers |
+//! | any other | a line that is written, below the statement that it answers; a `?` is any digit |
 //!
 //! `-- status N lines M` and `-- status N bytes M` say that only so much of the lines is written. Each run
 //! begins with an empty store and an empty keeper. Other lines with `--`:
@@ -36,6 +36,8 @@ use row::{Fault, Row};
 use std::alloc::Global;
 use std::path::Path;
 use std::process::ExitCode;
+use std::sync::Wait;
+use std::thread::Threads;
 use std::{fs, io};
 
 // The names of the files of rows, ascending.
@@ -52,12 +54,12 @@ fn names(rt: &HostRuntime) -> io::Result<Vec<String>> {
 }
 
 // What the row of this text comes to, in words.
-fn outcome(alloc: Global, text: &str) -> Result<String, Fault> {
+fn outcome<R: Threads + Wait + Sync>(rt: &R, alloc: Global, text: &str) -> Result<String, Fault> {
     let mut row = Row::new(alloc)?;
     let mut number = 0u64;
     for line in text.lines() {
         number = number.saturating_add(1);
-        match row.read(line) {
+        match row.read(rt, line) {
             Ok(()) => {}
             Err(Fault::Differs(what)) => return Ok(format!(in alloc; "line {number}: {what}")?),
             Err(Fault::NoMemory) => return Err(Fault::NoMemory),
@@ -70,7 +72,7 @@ fn main(rt: HostRuntime) -> io::Result<ExitCode> {
     for name in &names(&rt)? {
         let file = format!(in rt.alloc(); "{name}.row")?;
         let text = fs::read_to_string(&rt, file.as_str())?;
-        let Ok(outcome) = outcome(rt.alloc(), text.as_str()) else {
+        let Ok(outcome) = outcome(&rt, rt.alloc(), text.as_str()) else {
             return Ok(ExitCode::from(7));
         };
         println!(rt; "{name} {outcome}")?;

@@ -5,6 +5,8 @@ use crate::trial::{ROOM, Trial, object};
 use rm_base::{MemStore, NoMemory, Store, Text};
 use rm_catalog::{Edit, Keeper, Key, MemKeeper};
 use std::alloc::{AllocError, AllocFailed, Global};
+use std::sync::Wait;
+use std::thread::Threads;
 
 /// Why a row did not come out as it says.
 #[derive(Drop)]
@@ -65,12 +67,12 @@ impl Row {
     }
 
     /// The next line of the file. A run that it asks for is made.
-    pub fn read(&mut self, line: &str) -> Result<(), Fault> {
+    pub fn read<R: Threads + Wait + Sync>(&mut self, rt: &R, line: &str) -> Result<(), Fault> {
         if let Some(text) = line.strip_prefix("> ") {
             writeln!(self.script, "{text}")?;
         } else if let Some(words) = line.strip_prefix("-- ") {
             let words: Vec<&str> = words.split(' ').collect(self.alloc)?;
-            return self.obey(&words);
+            return self.obey(rt, &words);
         } else if !line.is_empty() && !line.starts_with("#") {
             writeln!(self.written, "{line}")?;
         }
@@ -78,19 +80,19 @@ impl Row {
     }
 
     // A line with `--`.
-    fn obey(&mut self, words: &[&str]) -> Result<(), Fault> {
+    fn obey<R: Threads + Wait + Sync>(&mut self, rt: &R, words: &[&str]) -> Result<(), Fault> {
         match words {
             ["status", status] => {
                 let len = self.written.len();
-                self.run(status, len)
+                self.run(rt, status, len)
             }
             ["status", status, "lines", count] => {
                 let len = self.len_of_lines(count)?;
-                self.run(status, len)
+                self.run(rt, status, len)
             }
             ["status", status, "bytes", count] => {
                 let len = self.size(count)?;
-                self.run(status, len)
+                self.run(rt, status, len)
             }
             ["object", name, len, head] => {
                 let len = self.size(len)?;
@@ -178,7 +180,12 @@ impl Row {
     }
 
     // A run gives this status and writes the first `len` bytes of what is written.
-    fn run(&mut self, status: &str, len: usize) -> Result<(), Fault> {
+    fn run<R: Threads + Wait + Sync>(
+        &mut self,
+        rt: &R,
+        status: &str,
+        len: usize,
+    ) -> Result<(), Fault> {
         let status = self.number(status)?;
         let (mut store, mut keeper) = match self.site.take() {
             Some(site) if self.goes_on => site,
@@ -192,7 +199,14 @@ impl Row {
             failing: &self.failing,
             room: self.room,
         };
-        trial.gives(&mut store, &mut keeper, status, self.written.as_str(), len)?;
+        trial.gives(
+            rt,
+            &mut store,
+            &mut keeper,
+            status,
+            self.written.as_str(),
+            len,
+        )?;
         self.site = Some((store, keeper));
         self.failing = Calls::new(self.alloc);
         self.room = ROOM;

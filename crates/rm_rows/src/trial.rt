@@ -3,8 +3,11 @@ use crate::calls::{Call, Calls};
 use crate::row::Fault;
 use rm_base::{MemClock, MemSink, MemSource, MemStore, Store, Text};
 use rm_catalog::MemKeeper;
+use rm_tool::OpenGate;
 use rm_tool::run::run;
 use std::alloc::Global;
+use std::sync::Wait;
+use std::thread::Threads;
 
 /// The room of a sink, where a row names no other.
 pub const ROOM: usize = 65_536;
@@ -22,8 +25,9 @@ pub struct Trial<'a> {
 
 impl Trial<'_> {
     /// The run gives this status and writes the first `len` bytes of the text.
-    pub fn gives(
+    pub fn gives<R: Threads + Wait + Sync>(
         &self,
+        rt: &R,
         store: &mut MemStore,
         keeper: &mut MemKeeper,
         status: u64,
@@ -36,7 +40,9 @@ impl Trial<'_> {
         let mut sink = MemSink::new(alloc, self.room, 16, self.failing.of(Call::Write)?)?;
         let mut clock = MemClock::new(Vec::from_slice(alloc, self.clock)?);
         let answer = run(
+            rt,
             alloc,
+            &OpenGate,
             self.words,
             &mut source,
             &mut sink,
@@ -51,15 +57,26 @@ impl Trial<'_> {
     }
 }
 
+// Whether the byte is the one that is wanted. A `?` wants any digit.
+fn is_wanted(byte: u8, wanted: u8) -> bool {
+    byte == wanted || (wanted == b'?' && byte.is_ascii_digit())
+}
+
+// Whether the bytes are these.
+fn are_wanted(bytes: &[u8], wanted: &[u8]) -> bool {
+    let mut pairs = bytes.iter().zip(wanted);
+    bytes.len() == wanted.len() && pairs.all(|(byte, wanted)| is_wanted(*byte, *wanted))
+}
+
 // The bytes are the first `len` of the text. Else they are told, from the first line that differs.
 fn compare(alloc: Global, bytes: &[u8], text: &str, len: usize) -> Result<(), Fault> {
     let text = text.as_bytes();
-    if text.get(..len) == Some(bytes) {
+    if are_wanted(bytes, text.get(..len).unwrap_or(text)) {
         return Ok(());
     }
     let mut start = 0usize;
     for (at, (byte, wanted)) in bytes.iter().zip(text).enumerate() {
-        if byte != wanted {
+        if !is_wanted(*byte, *wanted) {
             break;
         }
         if *byte == b'\n' {

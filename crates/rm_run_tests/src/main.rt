@@ -2,6 +2,7 @@
 #![tactic(auto)]
 
 mod broken;
+mod channels;
 mod ends;
 mod runs;
 
@@ -24,5 +25,7 @@ fn main(rt: HostRuntime) -> io::Result<()> {
     tell(&rt, "a sink past its room", ends::a_sink(alloc))?;
     tell(&rt, "a reader is a source", ends::a_reader(alloc))?;
     tell(&rt, "a writer is a sink", ends::a_writer(alloc))?;
-    tell(&rt, "a script too long", runs::too_long(alloc))
+    tell(&rt, "gate-holds-section", channels::held(&rt, alloc))?;
+    tell(&rt, "how many channels", channels::counted(&rt, alloc))?;
+    tell(&rt, "a script too long", runs::too_long(&rt, alloc))
 }
