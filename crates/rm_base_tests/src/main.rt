@@ -1,10 +1,11 @@
-//! Tests of the public calls of rm_base, rm_token, rm_history and rm_blocks, each of which prints a line. The long
-//! tables are files of `data/`, of which each line is a case.
+//! Tests of the public calls of rm_base, rm_token, rm_history, rm_blocks and rm_lanes, each of which prints a line. The
+//! long tables are files of `data/`, of which each line is a case.
 #![tactic(auto)]
 
 mod datafiles;
 mod devices;
 mod fault;
+mod kernels;
 mod scripts;
 mod stores;
 mod table;
@@ -69,9 +70,16 @@ fn tell_history(rt: &HostRuntime) -> io::Result<()> {
     tell(rt, "a datafile is moved", datafiles::moved(alloc))
 }
 
+fn tell_kernels(rt: &HostRuntime) -> io::Result<()> {
+    let alloc = rt.alloc();
+    tell(rt, "kernels are plain loops", kernels::plain(alloc))?;
+    tell(rt, "bits are least first", Ok(kernels::least_first()))
+}
+
 fn main(rt: HostRuntime) -> io::Result<()> {
     tell_values(&rt)?;
     tell_devices(&rt)?;
     tell_tables(&rt)?;
-    tell_history(&rt)
+    tell_history(&rt)?;
+    tell_kernels(&rt)
 }

@@ -1,10 +1,11 @@
-//! Tries copies by several threads beside writers, and parts put into rows by several threads, each with a
-//! line of what came of it.
+//! Tries passes of a live database, copies by several threads beside writers, and parts put into rows by several threads,
+//! each with a line of what came of it.
 #![tactic(auto)]
 
 mod during;
 mod gates;
 mod parts;
+mod passes;
 mod small;
 mod writers;
 
@@ -21,6 +22,22 @@ fn tell(rt: &HostRuntime, name: &str, outcome: Result<bool, NoMemory>) -> io::Re
 
 fn main(rt: HostRuntime) -> io::Result<()> {
     let alloc = rt.alloc();
+    tell(
+        &rt,
+        "passes on one thread",
+        passes::on_one_thread(&rt, alloc),
+    )?;
+    tell(
+        &rt,
+        "passes on two threads",
+        passes::on_two_threads(&rt, alloc),
+    )?;
+    tell(
+        &rt,
+        "a log that becomes full",
+        passes::a_full_log(&rt, alloc),
+    )?;
+    tell(&rt, "the last SCN", passes::the_last_scn(&rt, alloc))?;
     tell(&rt, "1, 2, 4 and 16 channels", small::same_rows(&rt, alloc))?;
     tell(&rt, "the lengths of sections", small::lengths(&rt, alloc))?;
     tell(&rt, "two channels that meet", small::meeting(&rt, alloc))?;

@@ -6,6 +6,3 @@ pub mod blocks;
 
 pub use bits::{count_ones, next_set, or_into};
 pub use blocks::{is_zero, same};
-
-#[cfg(test)]
-mod tests;

@@ -10,6 +10,3 @@ pub mod rule;
 pub use database::Database;
 pub use history::LiveFault;
 pub use live::{Live, Pass};
-
-#[cfg(test)]
-mod tests;

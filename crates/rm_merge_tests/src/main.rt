@@ -1,0 +1,33 @@
+//! Tests of level 1s, of merged copies and of parents, over made pieces and records. Their worked rows are files of
+//! `data/`, of which each line is a case or says what is there.
+#![tactic(auto)]
+
+mod fault;
+mod made;
+mod merging;
+mod parents;
+mod pieces;
+mod renewing;
+mod table;
+
+use fault::Fault;
+use std::{fs, io};
+use table::{Told, cases};
+
+// The cases of the table of this name, or the first that is not so.
+fn tell_table<T: Told + Drop>(rt: &HostRuntime, name: &str, mut told: T) -> io::Result<()> {
+    let file = format!(in rt.alloc(); "{name}.txt")?;
+    let text = fs::read_to_string(rt, file.as_str())?;
+    match cases(rt.alloc(), text.as_str(), &mut told) {
+        Ok(cases) => println!(rt; "{name}: {cases} cases ok"),
+        Err(Fault::Differs(what)) => println!(rt; "{name}: {what}"),
+        Err(Fault::NoMemory) => println!(rt; "{name}: no memory"),
+    }
+}
+
+fn main(rt: HostRuntime) -> io::Result<()> {
+    let alloc = rt.alloc();
+    tell_table(&rt, "merging", merging::Merging { copy: None })?;
+    tell_table(&rt, "parents", parents::Parents::new())?;
+    tell_table(&rt, "renewing", renewing::Shelf::new(alloc))
+}
