@@ -1,10 +1,9 @@
 //! The table of what keeps a record, and what lets it go.
-use crate::fault::{Fault, differs};
 use crate::made::{Besides, database, datafile, log, piece, recorded};
-use crate::table::{Told, head, numbers};
 use rm_base::{Policy, Scn, Seq, Status};
 use rm_catalog::{Catalog, Record};
 use rm_evidence::Evidence;
+use rm_harness::{Fault, Told, differs, head, numbers};
 use rm_objects::has_database;
 use rm_retain::{chosen, do_ascend, obsolete};
 use std::alloc::Global;
@@ -140,7 +139,7 @@ fn ids_text(alloc: Global, ids: &[u32]) -> Result<String, Fault> {
 impl Told for Retention {
     fn say(&mut self, alloc: Global, line: &str) -> Result<(), Fault> {
         let (word, rest) = head(line);
-        let numbers = numbers(alloc, rest)?;
+        let numbers = numbers::<u32>(alloc, rest)?;
         match (word, numbers.as_slice()) {
             ("database", []) => self.begin(alloc, None),
             ("database", [branch]) => self.begin(alloc, Some(u64::from(*branch))),
@@ -160,7 +159,7 @@ impl Told for Retention {
         self.load(alloc)?;
         let (call, rest) = head(asked);
         let (policy, rest) = head(rest);
-        let numbers = numbers(alloc, rest)?;
+        let numbers = numbers::<u32>(alloc, rest)?;
         match (&self.catalog, numbers.as_slice()) {
             (Some(catalog), [number, start]) => {
                 let policy = policy_of(alloc, policy, *number)?;

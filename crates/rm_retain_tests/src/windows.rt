@@ -1,7 +1,6 @@
 //! The table of where a window starts.
-use crate::fault::{Fault, differs};
-use crate::table::{Told, head, numbers};
 use rm_base::{IncNo, Mark, Moment};
+use rm_harness::{Fault, Told, differs, head, numbers};
 use rm_history::{Tree, TreeFault};
 use rm_retain::window_start;
 use std::alloc::Global;
@@ -35,7 +34,7 @@ fn tree(alloc: Global) -> Result<Tree, Fault> {
 
 // The mark of these words: MOMENT INC SCN.
 fn mark(alloc: Global, words: &str) -> Result<Mark, Fault> {
-    let numbers = numbers(alloc, words)?;
+    let numbers = numbers::<u32>(alloc, words)?;
     match numbers.as_slice() {
         [moment, inc, scn] => Ok(Mark {
             moment: u64::from(*moment),
@@ -86,7 +85,7 @@ impl Told for Windows {
 
     fn told(&mut self, alloc: Global, asked: &str) -> Result<String, Fault> {
         let (word, rest) = head(asked);
-        let numbers = numbers(alloc, rest)?;
+        let numbers = numbers::<u32>(alloc, rest)?;
         match (word, numbers.as_slice()) {
             ("start", [current, days, moment]) => {
                 start(alloc, *current, *days, u64::from(*moment), &self.marks)

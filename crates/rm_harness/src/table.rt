@@ -1,19 +1,25 @@
 //! The tables of `data/`. A line with an arrow is a case: what is asked, and what comes of it. Any other line says what
-//! is there.
+//! is there, but for those that are empty or begin with `#`.
+ghost use Rattle.std.specs.Prelude.{IsErr};
+
 use crate::fault::{Fault, differs};
 use std::alloc::Global;
 
 /// What a table tells of.
 pub trait Told {
-    /// Takes in what a line says.
-    fn say(&mut self, alloc: Global, line: &str) -> Result<(), Fault>;
+    /// Takes in what a line says that is no case. There is none, if this is left out.
+    fn say(&mut self, alloc: Global, line: &str) -> Result<(), Fault> {
+        differs(alloc, line)
+    }
 
     /// What comes of what is asked.
     fn told(&mut self, alloc: Global, asked: &str) -> Result<String, Fault>;
 }
 
 // This is told in place of what is wanted.
-fn otherwise(alloc: Global, line: &str, found: &str) -> Result<bool, Fault> {
+fn otherwise(alloc: Global, line: &str, found: &str) -> Result<bool, Fault>
+    ensures { IsErr result }
+{
     Err(Fault::Differs(format!(in alloc; "{line}: {found}")?))
 }
 
@@ -43,21 +49,4 @@ pub fn cases<T: Told>(alloc: Global, text: &str, told: &mut T) -> Result<u64, Fa
         }
     }
     Ok(cases)
-}
-
-/// The first word of a line, and what follows.
-pub fn head(line: &str) -> (&str, &str) {
-    line.split_once(" ").unwrap_or((line, ""))
-}
-
-/// The numbers that are given.
-pub fn numbers(alloc: Global, given: &str) -> Result<Vec<u32>, Fault> {
-    let mut numbers = Vec::new(alloc);
-    for word in given.split_whitespace() {
-        match word.parse::<u32>() {
-            Ok(number) => numbers.push(number)?,
-            Err(_) => return differs(alloc, word),
-        }
-    }
-    Ok(numbers)
 }
