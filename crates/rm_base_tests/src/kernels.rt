@@ -1,8 +1,8 @@
 //! Kernels over lanes beside plain loops, at each length up to 200.
 ghost use Rattle.std.specs.Prelude.{◌≤◌};
 
-use crate::fault::Fault;
 use rm_base::Block;
+use rm_harness::Fault;
 use rm_lanes::{count_ones, is_zero, next_set, or_into, same};
 use std::alloc::Global;
 

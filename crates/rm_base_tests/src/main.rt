@@ -4,37 +4,15 @@
 
 mod datafiles;
 mod devices;
-mod fault;
 mod kernels;
 mod scripts;
 mod stores;
-mod table;
 mod trees;
 mod values;
 mod worlds;
 
-use fault::Fault;
-use std::{fs, io};
-use table::{Told, cases};
-
-fn tell(rt: &HostRuntime, name: &str, outcome: Result<bool, Fault>) -> io::Result<()> {
-    match outcome {
-        Ok(true) => println!(rt; "{name}: ok"),
-        Ok(false) => println!(rt; "{name}: not so"),
-        Err(Fault::Differs(what)) => println!(rt; "{name}: {what}"),
-        Err(Fault::NoMemory) => println!(rt; "{name}: no memory"),
-    }
-}
-
-// The cases of the table of this name, or the first that is not so.
-fn tell_table<T: Told + Drop>(rt: &HostRuntime, name: &str, mut told: T) -> io::Result<()> {
-    let file = format!(in rt.alloc(); "{name}.txt")?;
-    let text = fs::read_to_string(rt, file.as_str())?;
-    match cases(rt.alloc(), text.as_str(), &mut told) {
-        Ok(cases) => println!(rt; "{name}: {cases} cases ok"),
-        Err(fault) => tell(rt, name, Err(fault)),
-    }
-}
+use rm_harness::{Fault, tell, tell_table};
+use std::io;
 
 fn tell_tables(rt: &HostRuntime) -> io::Result<()> {
     tell_table(rt, "scripts", scripts::Scripts)?;
@@ -44,7 +22,7 @@ fn tell_tables(rt: &HostRuntime) -> io::Result<()> {
 
 fn tell_values(rt: &HostRuntime) -> io::Result<()> {
     let alloc = rt.alloc();
-    tell(rt, "a block is padded", Ok(values::a_block()))?;
+    tell::<Fault>(rt, "a block is padded", Ok(values::a_block()))?;
     tell(rt, "bytes are sealed", values::sealed(alloc))?;
     tell(rt, "numbers are big-endian", values::numbers(alloc))?;
     tell(rt, "a list is given back", values::a_list(alloc))?;
@@ -73,7 +51,7 @@ fn tell_history(rt: &HostRuntime) -> io::Result<()> {
 fn tell_kernels(rt: &HostRuntime) -> io::Result<()> {
     let alloc = rt.alloc();
     tell(rt, "kernels are plain loops", kernels::plain(alloc))?;
-    tell(rt, "bits are least first", Ok(kernels::least_first()))
+    tell::<Fault>(rt, "bits are least first", Ok(kernels::least_first()))
 }
 
 fn main(rt: HostRuntime) -> io::Result<()> {

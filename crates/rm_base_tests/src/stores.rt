@@ -1,8 +1,7 @@
 //! A store in memory of which some calls fail.
 use crate::devices::failing;
-use crate::fault::{Fault, differs};
-use crate::table::{Told, shown, unquoted};
 use rm_base::{MemStore, NoMemory, Store, StoreFail, StoreFailing};
+use rm_harness::{Fault, Told, differs, shown, unquoted};
 use std::alloc::Global;
 
 /// The store of the case.

@@ -1,7 +1,6 @@
 //! Trees of incarnations.
-use crate::fault::{Fault, differs};
-use crate::table::{Told, numbers, shown};
 use rm_base::{IncNo, Scn};
+use rm_harness::{Fault, Told, differs, head, numbers, shown};
 use rm_history::{Standing, Tree, TreeFault};
 use std::alloc::Global;
 
@@ -34,8 +33,8 @@ pub struct Trees {
 
 impl Told for Trees {
     fn told(&mut self, alloc: Global, given: &str) -> Result<String, Fault> {
-        let (call, rest) = given.split_once(" ").unwrap_or((given, ""));
-        let numbers = numbers(alloc, rest)?;
+        let (call, rest) = head(given);
+        let numbers = numbers::<u32>(alloc, rest)?;
         let tree = match (&mut self.tree, numbers.as_slice()) {
             (at, [first]) if call == "new" => at.insert(Tree::new(alloc, u64::from(*first))?),
             (Some(tree), _) => tree,

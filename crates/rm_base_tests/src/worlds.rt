@@ -1,8 +1,8 @@
 //! A block that is written twice, and its states.
 ghost use Rattle.std.specs.Prelude.{◌<◌, ◌≡◌, All, IfOk, length};
 
-use crate::fault::Fault;
 use rm_base::{Block, Change, NoMemory, Seq};
+use rm_harness::Fault;
 use rm_history::{Datafile, Tree, World};
 use std::alloc::Global;
 
