@@ -1,7 +1,7 @@
 //! Records, as the tables say them.
-use crate::fault::{Fault, differs};
-use rm_base::{IncNo, NoMemory, Policy, Scn, Seq, Status};
+use rm_base::{IncNo, NoMemory, Policy, Scn, Seq};
 use rm_catalog::{BaseEntry, Catalog, DatafileEntry, IncarnationEntry, MarkEntry, Record};
+use rm_harness::{Fault, differs};
 use std::alloc::Global;
 
 /// The base facts, incarnation 1 from 1 on, 2 from 5 on and 3 from 8 on, both branched off from 1, and a
@@ -55,16 +55,6 @@ pub fn catalog_of(alloc: Global, rows: Seq<Record>) -> Result<Catalog, Fault> {
     match Catalog::from_records(rows) {
         Ok(catalog) => Ok(catalog),
         Err(_) => differs(alloc, "no catalog"),
-    }
-}
-
-/// The status of this word.
-pub fn status_of(alloc: Global, word: &str) -> Result<Status, Fault> {
-    match word {
-        "available" => Ok(Status::Available),
-        "unavailable" => Ok(Status::Unavailable),
-        "expired" => Ok(Status::Expired),
-        _ => differs(alloc, word),
     }
 }
 

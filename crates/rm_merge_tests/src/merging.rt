@@ -1,8 +1,7 @@
 //! The table of what is picked for a level 1, and of what a copy becomes by it.
-use crate::fault::{Fault, differs};
 use crate::made::{catalog_of, records};
-use crate::pieces::{copy_text, halves, piece_of, rows, rows_text};
-use crate::table::{Told, head, numbers};
+use crate::pieces::{copy_text, halves, piece_of};
+use rm_harness::{Fault, Told, differs, head, numbers, rows, rows_text};
 use rm_merge::{MergeFault, merge};
 use rm_objects::has_database;
 use rm_piece::{Piece, is_valid, pick};
@@ -35,9 +34,9 @@ fn merged(alloc: Global, copy: &Piece, level1: &Piece) -> Result<Option<Piece>, 
 fn picked(alloc: Global, text: &str) -> Result<String, Fault> {
     let (front, told) = halves(text);
     let rows = rows(alloc, told)?;
-    match numbers(alloc, front)?.as_slice() {
+    match numbers::<u64>(alloc, front)?.as_slice() {
         [from] => {
-            let picked = pick(alloc, rows.as_slice(), u64::from(*from))?;
+            let picked = pick(alloc, rows.as_slice(), *from)?;
             rows_text(alloc, picked.as_slice())
         }
         _ => differs(alloc, text),

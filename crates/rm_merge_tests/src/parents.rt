@@ -1,11 +1,9 @@
 //! The table of parents, and of the copies that are taken.
-use crate::fault::{Fault, differs};
-use crate::made::{catalog_of, pairs_text, records, status_of};
-use crate::pieces::kind_of;
-use crate::table::{Told, head, numbers};
+use crate::made::{catalog_of, pairs_text, records};
 use rm_backup::{parent, start_above, taken};
 use rm_base::{FileNo, Scn, Seq, Text};
 use rm_catalog::{Catalog, PieceEntry, Record};
+use rm_harness::{Fault, Told, differs, head, kind_of, numbers, status_of};
 use rm_objects::has_database;
 use std::alloc::Global;
 
@@ -25,7 +23,7 @@ fn backup(alloc: Global, line: &str) -> Result<PieceEntry, Fault> {
     let status = status_of(alloc, status)?;
     let kind = kind_of(alloc, kind)?;
     let tag = Text::from_string(String::from_str(alloc, tag)?);
-    let numbers = numbers(alloc, rest)?;
+    let numbers = numbers::<u32>(alloc, rest)?;
     let [id, inc, from, checkpoint, high] = numbers.as_slice() else {
         return differs(alloc, line);
     };
@@ -152,6 +150,6 @@ impl Told for Parents {
         };
         let (call, rest) = head(asked);
         let (word, rest) = head(rest);
-        told_of(alloc, catalog, call, word, &numbers(alloc, rest)?)
+        told_of(alloc, catalog, call, word, &numbers::<u32>(alloc, rest)?)
     }
 }

@@ -4,15 +4,14 @@ ghost use Rattle.rm_catalog.specs.Rules.{HasDatabase};
 ghost use Rattle.rm_catalog.specs.Trees.{nodes};
 ghost use Rattle.rm_evidence.specs.Known.{FitsTree};
 
-use crate::fault::{Fault, differs};
-use crate::made::{catalog_of, pairs_text, records, status_of};
+use crate::made::{catalog_of, pairs_text, records};
 use crate::pieces::{copy_text, piece_of};
-use crate::table::{Told, head};
 use rm_backup::{Renewed, next_level1, recover_copy};
 use rm_base::sealed::digest_of;
 use rm_base::{Failing, Kind, MemStore, NoMemory, Scn, Seq, Status, Store, StoreFailing, Text};
 use rm_catalog::{Catalog, PieceEntry, Record};
 use rm_evidence::{Evidence, EvidenceFault, InPlace, fits_place, gather};
+use rm_harness::{Fault, Told, differs, head, status_of};
 use rm_objects::{has_database, piece_name};
 use rm_piece::{Piece, encode_piece, is_valid};
 use std::alloc::Global;
