@@ -4,6 +4,7 @@ pub mod Deciding
 pub mod Firsts
 pub mod Numbers
 pub mod Orders
+pub mod Parts
 pub mod Restorations
 pub mod Rows
 pub mod States

@@ -11,6 +11,7 @@ use Rattle.rm_base.specs.Content.{zero_block}
 use Rattle.rm_base.specs.declared.block.Part.{Part}
 use Rattle.rm_base.specs.declared.block.Row.{Row}
 use Rattle.rm_blocks.specs.File.{File, IsInOrder}
+use Rattle.rm_channel.specs.Applied.{row_of}
 use Rattle.rm_history.specs.declared.world.Datafile.{Datafile}
 use Rattle.rm_history.specs.declared.world.World.{World}
 use Rattle.rm_history.specs.World.{blocks_of}
@@ -20,7 +21,7 @@ use Rattle.rm_known.specs.Known.{Determined}
 use Rattle.rm_plan.specs.FirstGap.{FileDetermined}
 use Rattle.rm_plan.specs.Plan.{AreParts, IsFileTarget}
 use Rattle.rm_apply.specs.declared.plans.Plan.{Plan}
-use Rattle.rm_apply.specs.Applying.{ArePlanned, IsPlanned, applied, row_of}
+use Rattle.rm_apply.specs.Applying.{ArePlanned, IsPlanned, applied}
 use Rattle.rm_apply.specs.Files.{AreExactly}
 use Rattle.rm_apply.specs.Told.{AreFilesAt, IsTold}
 

@@ -1,23 +1,16 @@
 -- What is told of a datafile before it is applied, and the datafile that it makes.
-use Rattle.std.specs.Prelude.{ℕ, ◌≡◌, ◌≤◌, ◌+◌, List, [], All, length, map}
-use Rattle.std.specs.Vec.{vec_capacity, vec_len}
-use Rattle.rm_base.specs.declared.block.Part.{Part}
-use Rattle.rm_base.specs.declared.block.Row.{Row}
+use Rattle.std.specs.Prelude.{ℕ, ◌≡◌, List, All, length, map}
 use Rattle.rm_blocks.specs.File.{File, IsInOrder}
+use Rattle.rm_channel.specs.Applied.{row_of}
 use Rattle.rm_history.specs.declared.world.World.{World}
 use Rattle.rm_history.specs.World.{blocks_of}
 use Rattle.rm_known.specs.Evidence.{Evidence}
 use Rattle.rm_plan.specs.Plan.{AreParts}
 use Rattle.rm_apply.specs.declared.plans.Plan.{Plan}
 
--- a part, as the row of its block
-abbrev pub row_of : Part → Row
-row_of p = record { block = p.block; version = p.version; content = p.content }
-
--- part k is of block k, and there is room for the rows
+-- part k is of block k, and there is a row for each part
 pub record IsReady (p : Plan) : Type 0 where
-  pub empty : p.rows.items ≡ []
-  pub room : vec_len p.rows + length p.parts ≤ vec_capacity p.rows
+  pub rows : length p.rows.items ≡ length p.parts
   pub order : IsInOrder (map row_of p.parts)
 
 -- the plan is ready, and has what the evidence tells of each block of its datafile

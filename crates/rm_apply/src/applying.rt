@@ -1,12 +1,14 @@
-//! Datafiles as their plans put them in place. It takes no memory: room was made before.
+//! Datafiles as their plans put them in place. That takes no memory: their rows and room were made before.
 ghost use Rattle.std.specs.Prelude.{◌≡◌, ◌<◌, ◌≤◌, ◌+◌, ◌∷◌, ◌++◌, [], All, IfOk, length, map};
 ghost use Rattle.std.specs.Vec.{vec_capacity, vec_len};
-ghost use Rattle.rm_apply.specs.Applying.{IsReady, applied, row_of};
+ghost use Rattle.rm_apply.specs.Applying.{IsReady, applied};
 
 use crate::plans::Plan;
-use rm_base::{IncNo, NoMemory, Part, Row, Scn, Seq};
+use rm_base::{Block, IncNo, NoMemory, Row, Scn, Seq};
 use rm_blocks::DataFile;
+use rm_channel::apply_rows;
 use std::alloc::Global;
+use std::thread::Threads;
 
 /// An empty list with room for so many items.
 pub(crate) fn room<T: Drop>(alloc: Global, count: usize) -> Result<Vec<T>, NoMemory>
@@ -29,25 +31,20 @@ fn push<T: Drop>(xs: &mut Vec<T>, x: T)
     }
 }
 
-// Adds a row for each part, for which there is room.
-fn apply_rows(rows: &mut Vec<Row>, parts: &[Part])
-    requires { vec_len rows.old + length parts.now ≤ vec_capacity rows.old }
-    ensures { rows.new.items ≡ rows.old.items ++ map row_of parts.now }
+/// So many rows of zero bytes, into which parts are to be put.
+pub(crate) fn blank_rows(alloc: Global, count: usize) -> Result<Vec<Row>, NoMemory>
+    ensures { IfOk result (λ rows. length rows.items ≡ count) }
 {
-    for part in parts {
-        push(
-            rows,
-            Row {
-                block: part.block,
-                version: part.version,
-                content: part.content,
-            },
-        );
-    }
+    let blank = Row {
+        block: 0,
+        version: 0,
+        content: Block::padded(b""),
+    };
+    Ok(vec![in alloc; blank; count]?)
 }
 
-// The datafile at (i, s).
-fn apply(plan: Plan, i: IncNo, s: Scn) -> DataFile
+// The datafile at (i, s): its parts are put into its rows by so many channels.
+fn apply<R: Threads + Sync>(rt: &R, plan: Plan, i: IncNo, s: Scn, channels: u32) -> DataFile
     requires { IsReady plan }
     ensures { result ≡ applied i s plan }
 {
@@ -56,12 +53,20 @@ fn apply(plan: Plan, i: IncNo, s: Scn) -> DataFile
         parts,
         mut rows,
     } = plan;
-    apply_rows(&mut rows, parts.as_slice());
+    apply_rows(rt, rows.as_mut_slice(), parts.as_slice(), channels);
     DataFile::from_rows(number, i, s, Seq::from_vec(rows))
 }
 
-/// The datafiles at (i, s), in the order of their plans. They come into `files`, where there is room.
-pub(crate) fn apply_all(plans: Vec<Plan>, files: Vec<DataFile>, i: IncNo, s: Scn) -> Vec<DataFile>
+/// The datafiles at (i, s), in the order of their plans, by so many channels. They come into `files`, where
+/// there is room.
+pub(crate) fn apply_all<R: Threads + Sync>(
+    rt: &R,
+    plans: Vec<Plan>,
+    files: Vec<DataFile>,
+    i: IncNo,
+    s: Scn,
+    channels: u32,
+) -> Vec<DataFile>
     requires ready { All IsReady plans.items }
     requires empty { files.items ≡ [] }
     requires room { vec_len files + length plans.items ≤ vec_capacity files }
@@ -69,7 +74,7 @@ pub(crate) fn apply_all(plans: Vec<Plan>, files: Vec<DataFile>, i: IncNo, s: Scn
 {
     let mut files = files;
     for plan in plans {
-        push(&mut files, apply(plan, i, s));
+        push(&mut files, apply(rt, plan, i, s, channels));
     }
     files
 }

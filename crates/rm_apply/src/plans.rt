@@ -9,7 +9,7 @@ ghost use Rattle.rm_apply.specs.Applying.{ArePlanned, IsPlanned};
 ghost use Rattle.rm_apply.specs.Files.{AreExactly, IsTargetFile};
 ghost use Rattle.rm_apply.specs.Told.{IsFaultOfAll};
 
-use crate::applying::room;
+use crate::applying::blank_rows;
 use crate::targets::TargetFile;
 use rm_base::{FileNo, IncNo, Part, Row, Scn, Seq};
 use rm_catalog::Catalog;
@@ -17,7 +17,7 @@ use rm_evidence::Evidence;
 use rm_plan::{PlanFault, plan_file};
 use std::alloc::Global;
 
-/// What is told of each block of a datafile, and room for its rows.
+/// What is told of each block of a datafile, and as many rows, into which it is to be put.
 #[derive(Drop)]
 pub(crate) struct Plan {
     pub number: FileNo,
@@ -42,7 +42,7 @@ fn file_plan(
     ensures gap { IfErr result (IsFileFault (world_of catalog.now) (known_of evidence.now) i s number) }
 {
     let parts = plan_file(alloc, evidence, catalog, i, s, number)?;
-    let rows = room(alloc, parts.len())?;
+    let rows = blank_rows(alloc, parts.len())?;
     Ok(Plan {
         number,
         parts,

@@ -21,6 +21,7 @@ use rm_catalog::Catalog;
 use rm_evidence::{Evidence, InPlace, gather};
 use rm_plan::PlanFault;
 use std::alloc::Global;
+use std::thread::Threads;
 
 /// What is brought back, ascending by number, and the records that count as available but whose objects are
 /// missing or damaged, ascending by id.
@@ -30,13 +31,15 @@ pub struct Recovered {
     pub skipped: Seq<(u32, Bad)>,
 }
 
-// The datafiles that exist at (i, s). All memory is taken before the first part is applied.
-fn recover_files(
+// The datafiles that exist at (i, s), by so many channels. All memory is taken before the first part is applied.
+fn recover_files<R: Threads + Sync>(
+    rt: &R,
     alloc: Global,
     evidence: &Evidence,
     catalog: &Catalog,
     i: IncNo,
     s: Scn,
+    channels: u32,
 ) -> Result<Seq<DataFile>, PlanFault>
     requires database { HasDatabase catalog.now }
     requires fits { FitsTree (nodes catalog.now) evidence.now }
@@ -50,20 +53,24 @@ fn recover_files(
     let targets = datafiles_at(alloc, catalog, i, s, None)?;
     let plans = plans(alloc, evidence, catalog, i, s, targets.as_slice())?;
     let files = room(alloc, plans.len())?;
-    Ok(Seq::from_vec(apply_all(plans.into_vec(), files, i, s)))
+    let plans = plans.into_vec();
+    Ok(Seq::from_vec(apply_all(rt, plans, files, i, s, channels)))
 }
 
 /// The datafiles that exist at SCN `s` on the path of incarnation `i`, by all that is at hand: each holds
 /// every change below `s` and none at or above it. `Until` where `s` lies outside the incarnation. `Gap`
 /// where a block is not told: that of the least datafile and block, behind which nothing more could be
-/// known. All memory is taken before the first part is applied.
-pub fn recover<D: Store>(
+/// known. All memory is taken before the first part is applied. The parts are applied by so many channels;
+/// each number gives the same.
+pub fn recover<R: Threads + Sync, D: Store>(
+    rt: &R,
     alloc: Global,
     catalog: &Catalog,
     store: &mut D,
     place: &InPlace,
     i: IncNo,
     s: Scn,
+    channels: u32,
 ) -> Result<Recovered, RecoverFault>
     requires database { HasDatabase catalog.now }
     requires place { FitsPlace catalog.now place.now }
@@ -80,7 +87,7 @@ pub fn recover<D: Store>(
         return Err(RecoverFault::Until(low, high));
     }
     let evidence = gather(alloc, catalog, store, place)?;
-    let files = recover_files(alloc, &evidence, catalog, i, s)?;
+    let files = recover_files(rt, alloc, &evidence, catalog, i, s, channels)?;
     Ok(Recovered {
         files,
         skipped: evidence.skipped,

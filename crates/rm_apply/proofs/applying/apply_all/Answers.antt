@@ -7,7 +7,7 @@ use Rattle.rm_apply.specs.Applying.{IsReady, applied}
 use Rattle.rm_apply.proofs.applying.apply_all.Goals as goal
 
 pub loop-plan-preserved : goal.loop-plan-preserved
-loop-plan-preserved c =
+loop-plan-preserved g c =
     let at = c.loop-plan in
     let x = c.in-Some.plan in
     let rest = into_iter_items c.next.new.self in

@@ -1,4 +1,4 @@
-use Rattle.std.proofs.Common.{arith}
+use Rattle.std.proofs.Common.{◌∙◌}
 use Rattle.rm_evidence.specs.Known.{known_of}
 use Rattle.rm_objects.specs.Database.{world_of}
 use Rattle.rm_apply.proofs.Rows.{rows-in-order}
@@ -7,10 +7,7 @@ use Rattle.rm_apply.proofs.plans.file_plan.Goals as goal
 pub returns-clause-planned : goal.returns-clause-planned
 returns-clause-planned c =
     let parts = c.in_ok-parts.ensures.parts in
-    let room = c.in_ok-rows.ensures.capacity in
-    let len = c.in_ok-rows.ensures.len in
-    let count = c.len.ensures in
     record {
-      ready = record { empty = c.in_ok-rows.ensures.items; room = omega (arith, room, len, count); order = rows-in-order (world_of c.args.catalog.now) (known_of c.args.evidence.now) c.args.i c.args.s c.args.number c.in_ok-parts.parts parts };
+      ready = record { rows = c.in_ok-rows.ensures ∙ c.len.ensures; order = rows-in-order (world_of c.args.catalog.now) (known_of c.args.evidence.now) c.args.i c.args.s c.args.number c.in_ok-parts.parts parts };
       parts = parts;
     }
