@@ -15,11 +15,15 @@ use rm_evidence::EvidenceFault;
 use rm_machine::State;
 use rm_machine::hand::at_hand;
 use std::alloc::Global;
+use std::thread::Threads;
 
 /// The datafiles at (i, at), at most 64, by what is at hand, and the records that were skipped; or the refusal
-/// that names the first gap. Each object that counts as available is read once.
-pub(crate) fn bring_back<D: Store>(
+/// that names the first gap. Each object that counts as available is read once, and the blocks are put in place
+/// by so many channels.
+pub(crate) fn bring_back<R: Threads + Sync, D: Store>(
+    rt: &R,
     alloc: Global,
+    channels: u32,
     state: &State,
     store: &mut D,
     i: IncNo,
@@ -36,7 +40,8 @@ pub(crate) fn bring_back<D: Store>(
     ensures never_falls { D.faults store.old ≤ D.faults store.new }
 {
     let hand = at_hand(alloc, state)?;
-    match rm_apply::recover(alloc, &hand.records, store, &hand.place, i, at) {
+    let (records, place) = (&hand.records, &hand.place);
+    match rm_apply::recover(rt, alloc, records, store, place, i, at, channels) {
         Ok(back) => Ok(Ok(back)),
         Err(RecoverFault::Gap(gap)) => Ok(Err(Refusal::Rm08 {
             file: gap.file,

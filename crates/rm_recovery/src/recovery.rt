@@ -23,6 +23,7 @@ use rm_machine::{Handed, State};
 use rm_report::Line;
 use rm_statement::Until;
 use std::alloc::Global;
+use std::thread::Threads;
 
 // Why the target is refused, if it is.
 fn target_refusal(state: &State, at: Scn) -> Option<Refusal>
@@ -78,9 +79,12 @@ fn lines_of(alloc: Global, current: IncNo, at: Scn, back: &Recovered) -> Result<
 /// RECOVER DATABASE, which the state alone does not refuse: each datafile that exists at the target comes to stand
 /// in place, each block as what is at hand tells it, and the target is the point. Where what is at hand leaves a
 /// gap it is refused with the first one (RM-08), and nothing changed. The catalog stays. An error is a fault of
-/// the store, which is counted, or want of memory; then nothing changed either.
-pub fn recover<D: Store>(
+/// the store, which is counted, or want of memory; then nothing changed either. It goes by so many channels; each
+/// number gives the same.
+pub fn recover<R: Threads + Sync, D: Store>(
+    rt: &R,
     alloc: Global,
+    channels: u32,
     state: &mut State,
     store: &mut D,
     until: &Option<Until>,
@@ -103,7 +107,7 @@ pub fn recover<D: Store>(
         unreachable!()
     };
     let current = state.catalog.base().current;
-    let back = match bring_back(alloc, state, store, current, at)? {
+    let back = match bring_back(rt, alloc, channels, state, store, current, at)? {
         Ok(back) => back,
         Err(refusal) => return Ok(Err(refusal)),
     };

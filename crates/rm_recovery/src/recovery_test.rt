@@ -17,6 +17,7 @@ use rm_machine::until::{nowhere_refusal, range_refusal, target_of, thread_refusa
 use rm_report::Line;
 use rm_statement::Until;
 use std::alloc::Global;
+use std::thread::Threads;
 
 // The incarnation that is looked at: the one that is named, or the current one.
 fn tested(state: &State, inc: Option<u64>) -> u64
@@ -55,9 +56,12 @@ pub fn test_refusal(state: &State, until: &Option<Until>, inc: Option<u64>) -> O
 
 /// RECOVER DATABASE TEST, which the state alone does not refuse: tells of each datafile that exists at the target
 /// each block that was written, as what is at hand tells it, or the first gap (RM-08). Nothing changes. An error
-/// is a fault of the store, which is counted, or want of memory.
-pub fn recover_test<D: Store>(
+/// is a fault of the store, which is counted, or want of memory. It goes by so many channels; each number gives
+/// the same.
+pub fn recover_test<R: Threads + Sync, D: Store>(
+    rt: &R,
     alloc: Global,
+    channels: u32,
     state: &State,
     store: &mut D,
     until: &Option<Until>,
@@ -77,7 +81,7 @@ pub fn recover_test<D: Store>(
     let Some(at) = target_of(state, inc, until) else {
         unreachable!()
     };
-    let back = match bring_back(alloc, state, store, inc, at)? {
+    let back = match bring_back(rt, alloc, channels, state, store, inc, at)? {
         Ok(back) => back,
         Err(refusal) => return Ok(Err(refusal)),
     };

@@ -2,12 +2,12 @@ use Rattle.rm_recovery.proofs.Records.{fits, never-outside, there}
 use Rattle.rm_recovery.proofs.bringing.bring_back.Goals as goal
 
 pub recover-requires-clause-place : goal.recover-requires-clause-place
-recover-requires-clause-place g c =
+recover-requires-clause-place g c κs within =
     let hand = c.in_ok-hand.hand in
     fits c.args.state.now hand.records c.in_ok-hand.ensures.records hand.place c.in_ok-hand.ensures.place c.requires.sound
 
 pub recover-requires-clause-there : goal.recover-requires-clause-there
-recover-requires-clause-there g c = there c.args.state.now c.in_ok-hand.hand.records c.in_ok-hand.ensures.records c.args.i c.requires.there
+recover-requires-clause-there g c κs within = there c.args.state.now c.in_ok-hand.hand.records c.in_ok-hand.ensures.records c.args.i c.requires.there
 
 pub unreachable-requires : goal.unreachable-requires
 unreachable-requires g c =
