@@ -40,7 +40,6 @@ use Rattle.rm_machine.specs.declared.state.State.{State}
 use Rattle.rm_machine.specs.State.{ledger, world, current_of, now_of, placed}
 use Rattle.rm_machine.proofs.Further.{GoesOn, catalog-further, fits-further, further, keeps-further, now-further, roomy-either, rows-further, same-further, sound-further}
 use Rattle.rm_machine.proofs.Grown.{SameHistory, true-on}
-use Rattle.rm_machine.proofs.Kept.{kept-on, stand-same}
 use Rattle.rm_machine.proofs.Leading.{LeadsOnBy, StaysBy}
 use Rattle.rm_machine.proofs.Opened.{rows-agree}
 use Rattle.rm_machine.proofs.Places.{counted-open, placed-is}
@@ -100,8 +99,7 @@ file_of-new w new =
 file-inside : (w : World) (f : ℕ) (d : Datafile) → file_of w f ≡ Some d → f ≤ length w.files
 file-inside w f d is =
     let there = file-there w f d is in
-    let inside = slice_get_within w.files (f - 1) d there.1 in
-    omega (arith, there.0, inside)
+    omega (arith, there.0, slice_get_within w.files (f - 1) d there.1)
 
 -- what stands in place after one more was put there
 placed-push : (place : List (Option File)) (new : Option File) (k : ℕ) (x : File) → slice_index_or (place ++ new ∷ []) k None ≡ Some x → (slice_index_or place k None ≡ Some x) ⊎ (new ≡ Some x)
@@ -144,26 +142,17 @@ module _ (s : State) (blocks : ℕ) (sound : IsSound s) (a : HasRoom s blocks) (
   begun : (1 ≤ now) × (reset_of tree i ≤ now)
   begun =
       let range = sound.catalog.ledger.incarnations.ranges i there in
-      let first = range.0 in
-      let mid = range.1 in
-      let reset = (keeps-further s sound a.on).reset i there in
-      (omega (arith, first, mid), omega (arith, mid, reset))
+      (omega (arith, range.0, range.1), omega (arith, range.1, (keeps-further s sound a.on).reset i there))
 
   room-for : HasRoomFor (one_further s) 1
   room-for =
-      let old = many s.catalog.ledger in
-      let new = many p.catalog.ledger in
       let long : length tree ≡ length s.catalog.ledger.tree = length-set s.catalog.ledger.tree (i - 1) _ in
-      let marks = length-append s.catalog.ledger.marks (marks_before s) in
-      let room = a.room in
-      omega (arith, old, new, long, marks, room)
+      omega (arith, many s.catalog.ledger, many p.catalog.ledger, long, length-append s.catalog.ledger.marks (marks_before s), a.room)
 
   pub datafile-fits : FitsFile (one_further s) d
   datafile-fits =
-      let next = end in
-      let reset = begun.1 in
       record {
-        created = record { there = (keeps-further s sound a.on).there i there; creation = (reset, omega (arith, next)); blocks = (some, a.most) };
+        created = record { there = (keeps-further s sound a.on).there i there; creation = (begun.1, omega (arith, end)); blocks = (some, a.most) };
         few = a.few;
         blocks = a.fit;
         room = room-for;
@@ -173,31 +162,28 @@ module _ (s : State) (blocks : ℕ) (sound : IsSound s) (a : HasRoom s blocks) (
 
   place-new : IsPlaced tree (length files) d (standing file i (now_of p))
   place-new =
-      let next = end in
-      let low = begun.0 in
       record {
         file = refl;
         blocks = length-created now blocks;
         order = in_order-created now blocks;
-        rows = created-all IsPlacedRow now (λ b. record { version = low; content = refl }) blocks;
+        rows = created-all IsPlacedRow now (λ b. record { version = begun.0; content = refl }) blocks;
         there = (keeps-further s sound a.on).there i there;
-        checkpoint = omega (arith, next);
+        checkpoint = omega (arith, end);
         high = high-bound (now_of p) (now_of p) (created_rows now blocks) (omega arith)
-            (λ r has. All-contains (λ (r : Row). r.version < now_of p) (created_rows now blocks) r (created-all (λ r. r.version < now_of p) now (λ b. omega (arith, next)) blocks) has);
+            (λ r has. All-contains (λ (r : Row). r.version < now_of p) (created_rows now blocks) r (created-all (λ r. r.version < now_of p) now (λ b. omega (arith, end)) blocks) has);
       }
 
   place-after : (k : ℕ) (e : Datafile) (x : File) → slice_get q.catalog.ledger.files k ≡ Some e → slice_get q.instance.place k ≡ Some (Some x) → IsPlaced tree k e (standing x i (now_of p))
   place-after k e x at held =
-      let many = sound.place.many in
       elim (get-push files d e k at) [
         | inl new ↦ elim (get-push s.instance.place (Some file) (Some x) k held) [
           | inl put ↦
               let same : file ≡ x = (let f : Some file ≡ Some x = put.1 in cc) in
               subst (λ m. IsPlaced tree m e (standing x i (now_of p))) (sym new.0) (subst (λ g. IsPlaced tree (length files) g (standing x i (now_of p))) new.1 (subst (λ y. IsPlaced tree (length files) d (standing y i (now_of p))) same place-new))
-          | inr old ↦ absurd (let inside = slice_get_within s.instance.place k (Some x) old in let is = new.0 in omega (arith, is, inside, many))
+          | inr old ↦ absurd (let inside = slice_get_within s.instance.place k (Some x) old in let is = new.0 in omega (arith, is, inside, sound.place.many))
         ]
         | inr old ↦ elim (get-push s.instance.place (Some file) (Some x) k held) [
-          | inl put ↦ absurd (let inside = slice_get_within files k e old in let is = put.0 in omega (arith, is, inside, many))
+          | inl put ↦ absurd (let inside = slice_get_within files k e old in let is = put.0 in omega (arith, is, inside, sound.place.many))
           | inr kept ↦ subst (IsPlaced tree k e) (counted-open p x a.on.opened) ((sound-further s sound a.on).place.each k e x old kept)
         ]
       ]
@@ -206,12 +192,11 @@ module _ (s : State) (blocks : ℕ) (sound : IsSound s) (a : HasRoom s blocks) (
   sound-created =
       let was = sound-further s sound a.on in
       let opened = was.in_open a.on.opened in
-      let many = sound.place.many in
       record {
         catalog = file_fits (one_further s) d (catalog-further s sound a.on) datafile-fits;
         dbid = sound.dbid;
         place = record {
-          many = (let x = length-append s.instance.place (Some file ∷ []) in let y = length-append files (d ∷ []) in omega (arith, x, y, many));
+          many = (let x = length-append s.instance.place (Some file ∷ []) in let y = length-append files (d ∷ []) in omega (arith, x, y, sound.place.many));
           each = λ k e x at held. subst (IsPlaced tree k e) (sym (counted-open q x a.on.opened)) (place-after k e x at held);
         };
         logs = record { dbid = was.logs.dbid; there = was.logs.there; threads = was.logs.threads; each = was.logs.each };
@@ -231,8 +216,7 @@ module _ (s : State) (blocks : ℕ) (sound : IsSound s) (a : HasRoom s blocks) (
         All-weaker (Contains h) (λ (c : Change). c.file ≢ length files + 1)
         (λ c has met.
         let change = keeps.history.changes c has in
-        let within = file-inside (world s) c.file change.datafile change.is in
-        absurd (omega (arith, met, within)))
+        absurd (omega (arith, met, file-inside (world s) c.file change.datafile change.is)))
         h (All-contains_itself h)
 
     rows-new : RowsAre (world q) h i (now_of p) file
@@ -247,9 +231,8 @@ module _ (s : State) (blocks : ℕ) (sound : IsSound s) (a : HasRoom s blocks) (
     rows-old f x is =
         let number = (placed-is s (f - 1) x sound.place is).file in
         let inside = slice_get_within s.instance.place (f - 1) (Some x) (get-index s.instance.place (f - 1) x is) in
-        let many = sound.place.many in
         All-weaker (λ r. r ≡ state (world p) h i (now_of p) x.file r.block) (λ r. r ≡ state (world q) h i (now_of p) x.file r.block)
-        (λ r was. was ∙ sym (state-kept (world p) d h i (now_of p) x.file r.block (omega (arith, number, inside, many))))
+        (λ r was. was ∙ sym (state-kept (world p) d h i (now_of p) x.file r.block (omega (arith, number, inside, sound.place.many))))
         x.rows (rows-further s sound a.on h keeps f x is)
 
     rows : (f : ℕ) (x : File) → placed q f ≡ Some x → RowsAre (world q) h i (now_of p) x
@@ -281,7 +264,7 @@ module _ (s : State) (blocks : ℕ) (sound : IsSound s) (a : HasRoom s blocks) (
     state = sound-created;
     keeps = fits-created h stands.keeps;
     artefacts = λ x has. true-on (world p) (world q) h (same-created h stands.keeps) x.artefact (true-on (world s) (world p) h (same-further s sound a.on h) x.artefact (stands.artefacts x has));
-    records = kept-on objects objects made made touched touched (ledger s) (ledger q) (stand-same objects objects touched (ledger s) (ledger q) (λ n. refl)) (λ x has. has) (λ e has. inl has) (λ e has. inl has) stands.records;
+    records = record { logs = stands.records.logs; pieces = stands.records.pieces };
   }
 
 -- a CREATE DATAFILE of the grammar asks for a block

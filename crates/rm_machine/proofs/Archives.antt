@@ -71,10 +71,8 @@ room-accepted s more few is =
 -- one record more where a thread was archived
 count-archived : (s : State) (t : ℕ) → length (records_of (ledger (with_archived s t))) ≡ length (records_of (ledger s)) + 1
 count-archived s t =
-    let old = many (ledger s) in
     let new = many (ledger (with_archived s t)) in
-    let logs = length-append s.catalog.ledger.logs (log_entry s.catalog.ledger.base.next_id (online s t) ∷ []) in
-    omega (arith, old, new, logs)
+    omega (arith, many (ledger s), new, length-append s.catalog.ledger.logs (log_entry s.catalog.ledger.base.next_id (online s t) ∷ []))
 
 roomy : (s : State) → length (records_of (ledger s)) + 1 ≤ 65536 → lacks_room s 1 ≡ false
 roomy s room = and_right (nat_lt 0 1) (nat_lt 65536 (length (records_of (ledger s)) + 1)) (le-ltb 65536 (length (records_of (ledger s)) + 1) room)
@@ -148,11 +146,9 @@ next-room s t n more room =
     let rest : ℕ = due_from (after_thread s t) (t + 1) n in
     let records : length (records_of (ledger s)) + (cond (is_due s t) 1 0 + rest) + more ≤ 65536 = room.records in
     let ids : s.catalog.ledger.base.next_id + (cond (is_due s t) 1 0 + rest) + 68 ≤ 4294967295 = room.ids in
-    let a = took.records in
-    let b = took.ids in
     record {
-      records = omega (arith, records, a);
-      ids = omega (arith, ids, b);
+      records = omega (arith, records, took.records);
+      ids = omega (arith, ids, took.ids);
       sequences = next-sequences (is_due s t) (nat_le 4294967295 (sequence_of s.instance.logs t)) (is_last_sequence (after_thread s t) (t + 1) n) room.sequences;
     }
 

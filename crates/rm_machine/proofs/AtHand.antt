@@ -60,9 +60,7 @@ online-in s t (suc n) a has = elim (Contains-append_cases (cond (is_lost s.insta
   | inl here ↦ let both = by-lost (is_lost s.instance.logs t) (online s t) a here in record { thread = t; low = omega arith; high = omega arith; found = both.0; is = both.1 }
   | inr rest ↦
       let later = online-in s (t + 1) n a rest in
-      let low = later.low in
-      let high = later.high in
-      record { thread = later.thread; low = omega (arith, low); high = omega (arith, high); found = later.found; is = later.is }
+      record { thread = later.thread; low = omega (arith, later.low); high = omega (arith, later.high); found = later.found; is = later.is }
 ]
 
 -- what is in place stands under the id 0
@@ -75,9 +73,7 @@ module _ (s : State) (held : Held) (sound : IsSound s) (e : Evidence) (gathered 
   placed-log : (a : LogFile) → Contains (online_logs s 1 (ledger s).base.threads) a → LogFrom s held a
   placed-log a has =
       let found = online-in s 1 (ledger s).base.threads a has in
-      let low = found.low in
-      let high = found.high in
-      subst (LogFrom s held) found.is (from_online found.thread (omega (arith, low)) (omega (arith, high)) found.found)
+      subst (LogFrom s held) found.is (from_online found.thread (omega (arith, found.low)) (omega (arith, found.high)) found.found)
 
   placed-file : (a : Piece) → Contains (map (placed_piece (ledger s).base.dbid) (in_place s).files) a → BaseFrom s held a
   placed-file a has =

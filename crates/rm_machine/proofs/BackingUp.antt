@@ -26,7 +26,7 @@ use Rattle.rm_statement.specs.declared.command.BackupForm.{BackupForm}
 use Rattle.rm_statement.specs.declared.command.WriteForm.{WriteForm}
 use Rattle.rm_machine.specs.MadePieces.{entry_for, piece_by}
 use Rattle.rm_machine.specs.Backup.{AreJobs, is_copy, rows_in, taken}
-use Rattle.rm_machine.specs.Effect.{Effect, LeavesObjects, Made, a_piece}
+use Rattle.rm_machine.specs.Effect.{Effect, Made, a_piece}
 use Rattle.rm_machine.specs.Marks.{marks_before}
 use Rattle.rm_machine.specs.Machine.{IsBorneOut, IsTrueArtefact}
 use Rattle.rm_machine.specs.Sound.{IsPlaced, IsSound}
@@ -51,6 +51,7 @@ use Rattle.rm_machine.proofs.Deeds.{AllOf, WereRead, all-of, are-asked, are-read
 use Rattle.rm_machine.proofs.Walk.{AreAsked, CanGoOn, HasWalked, borne-events, events-same, true-events, walk}
 use Rattle.rm_machine.proofs.Leading.{LeadsOnBy, StaysBy}
 use Rattle.rm_statement.specs.declared.command.Command.TheVariants.{Backup}
+use Rattle.rm_machine.proofs.Quiet.{landed, same-stays}
 
 -- The datafiles of a BACKUP
 
@@ -153,11 +154,7 @@ module _ (s : State) (b : BackupForm) (contents : All (λ (w : WriteForm). lengt
   at : IsCheckpoint t (now_of s)
   at =
       let range = sound.catalog.ledger.incarnations.ranges (current_of s) sound.catalog.ledger.current in
-      let low = range.0 in
-      let up = range.1 in
-      let now = walked.now in
-      let same = now-marked in
-      record { some = omega (arith, low, up); most = omega (arith, now, same) }
+      record { some = omega (arith, range.0, range.1); most = omega (arith, walked.now, now-marked) }
 
   -- What was read of a datafile
   module _ (j : Job) (rs : List Row) (is : IsReadyToRead s j) (were : WereRead s (map deed events) j rs) where
@@ -196,18 +193,10 @@ module _ (s : State) (b : BackupForm) (contents : All (λ (w : WriteForm). lengt
     entries = all-copied (λ x. IsPieceEntry (tree t) (ledger t).files (entry_for t b tag x.copy x.piece)) t b (now_of s) jobs rows
         (all-of (IsReady t (now_of s)) (λ j rs. IsPieceEntry (tree t) (ledger t).files (entry_for t b tag (is_copy b j) (piece_by (ledger t).base b (now_of s) j rs))) (ready-entry t b (now_of s) walked.can.sound at tag tagged) jobs rows ready);
     records =
-        let few = few-copied t b (now_of s) jobs rows in
-        let many = jobs-many s b jobs are in
-        let all = can.records in
-        let more = count-marked s b in
-        let none = walked.records in
-        omega (arith, few, many, all, more, none);
+        omega (arith, few-copied t b (now_of s) jobs rows, jobs-many s b jobs are, can.records, count-marked s b, walked.records);
     ids =
-        let few = few-copied t b (now_of s) jobs rows in
-        let many = jobs-many s b jobs are in
-        let all = can.ids in
         let next : (ledger t).base.next_id ≡ (ledger s).base.next_id = ap (λ (x : BaseEntry). x.next_id) base-end in
-        omega (arith, few, many, all, next);
+        omega (arith, few-copied t b (now_of s) jobs rows, jobs-many s b jobs are, can.ids, next);
   })
 
   pub during-sound : IsSound (after_pieces t b tag xs)
@@ -225,12 +214,11 @@ module _ (s : State) (b : BackupForm) (contents : All (λ (w : WriteForm). lengt
 
     true-all : All (λ x. IsTrueArtefact (world t) later (a_piece x.piece)) xs
     true-all =
-        let now = now-marked in
         subst (All (λ x. IsTrueArtefact (world t) later (a_piece x.piece))) same
         (all-copied (λ x. IsTrueArtefact (world t) later (a_piece x.piece)) t b (now_of s) jobs rows
         (of-each (IsReadyToRead s) (WereRead s (map deed events)) (λ j rs. IsTrueArtefact (world t) later (a_piece (piece_by (ledger t).base b (now_of s) j rs)))
         (λ j rs is were. ready-true t b (now_of s) walked.can.sound at later j rs (ready-one j rs is were)
-        (λ k r got. true-events ws events u h objects made touched begun borne-begun right asked j.file k (now_of s) r (omega (arith, now)) (were.each k r got)))
+        (λ k r got. true-events ws events u h objects made touched begun borne-begun right asked j.file k (now_of s) r (omega (arith, now-marked)) (were.each k r got)))
         jobs rows (jobs-ready s b jobs sound are can.taken) (are-read s (writers_of s b) jobs rows scns events whole these)))
 
     pub during-borne : (after : Held) → HasPuts (pieces_put t b tag xs) objects after → IsBorneOut (after_pieces t b tag xs) later after (made ++ pieces_made t b tag xs) touched
@@ -246,20 +234,15 @@ backup-on b s h objects made touched said e t after well stands tell none does e
     let by : Effect = effect_of s b does.tag does.events xs in
     let q : State = after_pieces (at_end s b does.events) b does.tag xs in
     let is = does.is in
-    let is_effect : by ≡ e = cc in
-    let is_state : q ≡ t = cc in
-    let took = subst (λ x. LeavesObjects x objects after) (sym is_effect) effect in
-    let on = during-borne s b well.1 stands.state can does.tag tagged does.jobs does.are does.rows does.whole does.scns does.events does.legal does.these h objects made touched stands after (λ name. took.removes name ∙ took.puts name) in
-    subst (λ x. IsBorneOut x (h ++ e.changes) after (made ++ e.made) touched) is_state
-    (subst (λ (x : Effect). IsBorneOut q (h ++ x.changes) after (made ++ x.made) touched) is_effect on)
+    landed q by h objects made touched e t after (cc) (cc) effect (λ left.
+    during-borne s b well.1 stands.state can does.tag tagged does.jobs does.are does.rows does.whole does.scns does.events does.legal does.these h objects made touched stands after (λ name. left.removes name ∙ left.puts name))
 
 pub backup-stays : (b : BackupForm) → StaysBy (Backup b)
 backup-stays b s objects said e t well sound unsaved none does =
     let can = can-back_up s b sound none in
     let tagged = tag-fits b (ledger s).base.moment does.tag well.0 does.tagged in
     let xs = copied (ledger s).base b (now_of s) does.jobs does.rows in
-    let out = does.is in
-    let is_state : after_pieces (at_end s b does.events) b does.tag xs ≡ t = cc in (
-      subst IsSound is_state (during-sound s b well.1 sound can does.tag tagged does.jobs does.are does.rows does.whole does.scns does.events does.legal does.these),
-      sym (ap (λ (x : State). x.catalog.saved) is_state) ∙ during-unsaved s b well.1 sound can does.tag tagged does.jobs does.are does.rows does.whole does.scns does.events does.legal does.these ∙ unsaved,
-    )
+    let is = does.is in
+    same-stays (after_pieces (at_end s b does.events) b does.tag xs) t (cc)
+    (during-sound s b well.1 sound can does.tag tagged does.jobs does.are does.rows does.whole does.scns does.events does.legal does.these)
+    (during-unsaved s b well.1 sound can does.tag tagged does.jobs does.are does.rows does.whole does.scns does.events does.legal does.these ∙ unsaved)

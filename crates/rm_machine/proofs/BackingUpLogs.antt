@@ -1,5 +1,5 @@
 -- BACKUP ARCHIVELOG ALL leads on: backups of logs are recorded, one after another.
-use Rattle.std.proofs.Common.{◌≡◌, ◌≤◌, ◌+◌, ◌∙◌, ◌++◌, inl, inr, ℕ, suc, List, [], ◌∷◌, Option, Some, None, refl, ap, sym, subst, arith, append_assoc, filter, length, length-append, map, All, Contains, sum_by}
+use Rattle.std.proofs.Common.{◌≡◌, ◌≤◌, ◌+◌, ◌∙◌, ◌++◌, inl, inr, ℕ, suc, List, [], ◌∷◌, Option, Some, None, refl, sym, subst, arith, append_assoc, filter, length, length-append, map, All, Contains, sum_by}
 use Rattle.std.specs.Option.{option_map_or}
 use Rattle.std.proofs.lemmas.List.{append-nil}
 use Rattle.std.proofs.lemmas.List.Elements.{All-contains, All-head, All-tail, All-weaker, Contains-append_left, Contains-push, Contains-push_cases}
@@ -43,10 +43,11 @@ use Rattle.rm_machine.proofs.Archives.{puts-rest, with_puts}
 use Rattle.rm_machine.proofs.Left.{HasRoom}
 use Rattle.rm_machine.proofs.Further.{roomy-either}
 use Rattle.rm_machine.proofs.Kept.{kept-on, stand-same}
-use Rattle.rm_machine.proofs.Later.{borne-beside}
+use Rattle.rm_machine.proofs.Later.{borne-beside, fits-with, sound-with}
 use Rattle.rm_machine.proofs.Leading.{LeadsOnBy, StaysBy}
 use Rattle.rm_machine.proofs.Standing.{each-in}
 use Rattle.rm_machine.proofs.Switching.{after-put, not-above, stand-fresh}
+use Rattle.rm_machine.proofs.Quiet.{same-stays, unchanged}
 
 -- the log of a record can be recorded again
 pub record CanRecord (s : State) (a : LogFile) : Type 0 where
@@ -57,24 +58,16 @@ pub can-record : (s : State) (e : LogEntry) (a : LogFile) → IsSound s → Cont
 can-record s e a sound has valid fields =
     let ns = tree s in
     let is : IsLogEntry ns (ledger s).base.threads e = All-contains (IsLogEntry ns (ledger s).base.threads) (ledger s).logs e sound.catalog.ledger.logs has in
-    let body = length-body a (fits-log a valid) in
-    let whole = length-sealed (body_of a) in
-    let few = valid.few in
-    let thread = fields.thread in
-    let in_threads = is.thread in
-    let first = fields.first in
-    let next = fields.next in
     let low : reset_of ns a.inc ≤ e.first = subst (λ i. reset_of ns i ≤ e.first) (sym fields.inc) is.range.0 in
-    let some = is.range.1 in
     let high : e.next ≤ end_of ns a.inc = subst (λ i. e.next ≤ end_of ns i) (sym fields.inc) is.range.2 in
     record {
       valid = valid;
       entry = record {
         there = subst (IsThere ns) (sym fields.inc) is.there;
-        thread = omega (arith, thread, in_threads);
+        thread = omega (arith, fields.thread, is.thread);
         sequence = valid.sequence.0;
-        range = (omega (arith, first, low), omega (arith, first, next, some), omega (arith, next, high));
-        size = omega (arith, body, whole, few);
+        range = (omega (arith, fields.first, low), omega (arith, fields.first, fields.next, is.range.1), omega (arith, fields.next, high));
+        size = omega (arith, length-body a (fits-log a valid), length-sealed (body_of a), valid.few);
       };
     }
 
@@ -84,10 +77,8 @@ with_copy s a = with_catalog s (with_new_log s.catalog (copy_entry ((ledger s).b
 
 count-copied : (s : State) (a : LogFile) → length (records_of (ledger (with_copy s a))) ≡ length (records_of (ledger s)) + 1
 count-copied s a =
-    let old = many (ledger s) in
     let new = many (ledger (with_copy s a)) in
-    let logs = length-append s.catalog.ledger.logs (copy_entry (s.catalog.ledger.base.next_id, a) ∷ []) in
-    omega (arith, old, new, logs)
+    omega (arith, many (ledger s), new, length-append s.catalog.ledger.logs (copy_entry (s.catalog.ledger.base.next_id, a) ∷ []))
 
 -- One log
 module _ (s : State) (a : LogFile) (n : ℕ) (sound : IsSound s) (can : CanRecord s a) (room : HasRoom s (suc n)) where
@@ -102,25 +93,16 @@ module _ (s : State) (a : LogFile) (n : ℕ) (sound : IsSound s) (can : CanRecor
 
   pub copy-fits : FitsNewLog s.catalog (copy_entry (id, a))
   copy-fits =
-      let r = room.records in
-      let k = room.ids in
       let is = can.entry in
       record {
         log = record { there = is.there; thread = is.thread; sequence = is.sequence; range = is.range; size = is.size };
         id = refl;
-        last = omega (arith, k);
-        room = omega (arith, r);
+        last = omega (arith, room.ids);
+        room = omega (arith, room.records);
       }
 
   pub copy-sound : IsSound q
-  copy-sound = record {
-    catalog = new_log_fits s.catalog (copy_entry (id, a)) sound.catalog copy-fits;
-    dbid = sound.dbid;
-    place = record { many = sound.place.many; each = sound.place.each };
-    logs = record { dbid = sound.logs.dbid; there = sound.logs.there; threads = sound.logs.threads; each = sound.logs.each };
-    in_open = λ opened. let was = sound.in_open opened in record { inc = was.inc; found = was.found; point = was.point };
-    point = λ at here. let was = sound.point at here in record { low = was.low; high = was.high; stands = was.stands };
-  }
+  copy-sound = sound-with s q.catalog (new_log_fits s.catalog (copy_entry (id, a)) sound.catalog copy-fits) sound
 
   -- the log agrees with the history, and its backup stands beside it
   copy-borne : (h : List Change) (objects : Held) (made : List Made) (touched : List (List ℕ)) → IsTrueArtefact (world s) h (a_log a) → IsBorneOut s h objects made touched
@@ -129,10 +111,9 @@ module _ (s : State) (a : LogFile) (n : ℕ) (sound : IsSound s) (can : CanRecor
       let after : Held = with_puts (copy_object (id, a) ∷ []) objects in
       let effect : LeavesObjects (copying ((id, a) ∷ [])) objects after = record { put = after; puts = λ name. refl; removes = λ name. refl } in
       let new : Made = copy_made (id, a) in
-      let keeps = stands.keeps in
       record {
         state = copy-sound;
-        keeps = record { history = keeps.history; below = keeps.below; online = keeps.online; place = keeps.place; in_open = keeps.in_open; point = keeps.point };
+        keeps = fits-with s q.catalog copy-sound.catalog h stands.keeps;
         artefacts = λ x has. elim (Contains-push_cases made new x has) [
           | inl old ↦ stands.artefacts x old
           | inr same ↦ subst (λ (y : Made). IsTrueArtefact (world s) h y.artefact) same agrees
@@ -159,10 +140,7 @@ can-next s a logs all = All-weaker (CanRecord s) (CanRecord (with_copy s a)) (λ
 
 pub room-next : (s : State) (a : LogFile) (n : ℕ) → HasRoom s (suc n) → HasRoom (with_copy s a) n
 room-next s a n room =
-    let more = count-copied s a in
-    let r = room.records in
-    let k = room.ids in
-    record { records = omega (arith, more, r); ids = omega (arith, k) }
+    record { records = omega (arith, count-copied s a, room.records); ids = omega (arith, room.ids) }
 
 -- All of them
 
@@ -230,10 +208,9 @@ room-for s logs sound is =
     let records = unless (lacks_room s n) (Rm11 Records) _ is in
     let bytes = unless (lacks_bytes s (sum_by file_bytes logs)) (Rm11 Bytes) _ records.1 in
     let ids = unless (lacks_ids s n) (Rm11 ObjectIds) None bytes.1 in
-    let few = sound.catalog.ledger.few in
     record {
       records = elim (roomy-either n (length (records_of (ledger s)) + n) records.0) [
-        | inl none ↦ omega (arith, none, few)
+        | inl none ↦ omega (arith, none, sound.catalog.ledger.few)
         | inr room ↦ omega (arith, room)
       ];
       ids = not-above 4294967295 ((ledger s).base.next_id + n + 68) ids.0;
@@ -249,16 +226,12 @@ back_logs-on s h objects made touched said e t after well borne tell none does e
     let by : Effect = copying (copies_of s logs) in
     let q : State = after_copies s logs in
     let is = done-of (copies_refusal s logs) _ said by e q t does.is in
-    let took = subst (λ x. LeavesObjects x objects after) (sym is.1) effect in
-    let on : IsBorneOut q h after (made ++ by.made) touched =
-    copies-borne logs s h objects made touched after (all-can s objects does.found borne.state does.finds) (all-true s h objects made touched does.found borne tell does.finds) (room-for s logs borne.state is.0) borne (λ name. took.removes name ∙ took.puts name) in
-    subst (λ x. IsBorneOut x (h ++ e.changes) after (made ++ e.made) touched) is.2
-    (subst (λ (x : Effect). IsBorneOut q (h ++ x.changes) after (made ++ x.made) touched) is.1
-    (subst (λ k. IsBorneOut q k after (made ++ by.made) touched) (sym (append-nil h)) on))
+    unchanged q by h objects made touched e t after refl is.1 is.2 effect (λ left.
+    copies-borne logs s h objects made touched after (all-can s objects does.found borne.state does.finds) (all-true s h objects made touched does.found borne tell does.finds) (room-for s logs borne.state is.0) borne (λ name. left.removes name ∙ left.puts name))
 
 pub back_logs-stays : StaysBy BackupLogs
 back_logs-stays s objects said e t well sound none accepted does =
     let logs = map (λ (x : ℕ × LogFile). x.1) does.found in
     let q : State = after_copies s logs in
     let is = done-of (copies_refusal s logs) _ said (copying (copies_of s logs)) e q t does.is in
-    (subst IsSound is.2 (copies-sound logs s sound (all-can s objects does.found sound does.finds) (room-for s logs sound is.0)), sym (ap (λ (x : State). x.catalog.saved) is.2) ∙ saved-same (copies_of s logs) s.catalog ∙ none)
+    same-stays q t is.2 (copies-sound logs s sound (all-can s objects does.found sound does.finds) (room-for s logs sound is.0)) (saved-same (copies_of s logs) s.catalog ∙ none)

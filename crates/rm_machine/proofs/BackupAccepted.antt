@@ -135,12 +135,11 @@ can-back_up s b sound is =
     let ids = unless (lacks_ids s n) (Rm11 ObjectIds) _ bytes.1 in
     let logs = unless (lacks_logs s ws 1 threads) (Rm11 LogRecords) _ ids.1 in
     let scns = unless (nat_lt last_scn (now_of s + length ws)) Rm15 None logs.1 in
-    let few = sound.catalog.ledger.few in
     record {
       opened = mode.0;
       taken = taken-all s b found.0;
       records = elim (roomy-either more (length (records_of (ledger s)) + more) records.0) [
-        | inl none ↦ omega (arith, none, few)
+        | inl none ↦ omega (arith, none, sound.catalog.ledger.few)
         | inr room ↦ room
       ];
       ids = ltb-false 4294967295 ((ledger s).base.next_id + n + 68) ids.0;

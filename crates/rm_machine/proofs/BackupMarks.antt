@@ -17,14 +17,14 @@ use Rattle.rm_machine.specs.Marks.{last_marked, mark_now, marks_before, with_mar
 use Rattle.rm_machine.specs.Sound.{IsSound}
 use Rattle.rm_machine.specs.declared.state.State.{State}
 use Rattle.rm_machine.specs.State.{current_of, ledger}
-use Rattle.rm_machine.proofs.Kept.{kept-on, stand-same}
+use Rattle.rm_machine.proofs.Later.{borne-same, sound-with}
 use Rattle.rm_machine.specs.BackupOutcome.{marked}
 use Rattle.rm_machine.specs.BackupRefusal.{mark_count}
 
 abbrev pub with_mark : State → State
 with_mark s = record s { catalog = with_marks s.catalog (marks_before s) }
 
-marks-fit : (s : State) → IsSound s → (t : Bool) → length (records_of (ledger s)) + length (cond t (mark_now s ∷ []) []) ≤ 65536 → IsRepository (with_marks s.catalog (cond t (mark_now s ∷ []) []))
+pub marks-fit : (s : State) → IsSound s → (t : Bool) → length (records_of (ledger s)) + length (cond t (mark_now s ∷ []) []) ≤ 65536 → IsRepository (with_marks s.catalog (cond t (mark_now s ∷ []) []))
 marks-fit s sound true room =
     let there = sound.catalog.ledger.current in
     let range = sound.catalog.ledger.incarnations.ranges (current_of s) there in
@@ -36,24 +36,11 @@ marks-fit s sound true room =
 marks-fit s sound false room = subst (λ (ms : List Mark). IsRepository (record s.catalog { ledger = record s.catalog.ledger { marks = ms } })) (sym (append-nil s.catalog.ledger.marks)) sound.catalog
 
 sound-mark : (s : State) → IsSound s → length (records_of (ledger s)) + length (marks_before s) ≤ 65536 → IsSound (with_mark s)
-sound-mark s sound room = record {
-  catalog = marks-fit s sound (nat_lt (last_marked 0 (ledger s).marks) (ledger s).base.moment) room;
-  dbid = sound.dbid;
-  place = record { many = sound.place.many; each = sound.place.each };
-  logs = record { dbid = sound.logs.dbid; there = sound.logs.there; threads = sound.logs.threads; each = sound.logs.each };
-  in_open = λ opened. let was = sound.in_open opened in record { inc = was.inc; found = was.found; point = was.point };
-  point = λ at here. let was = sound.point at here in record { low = was.low; high = was.high; stands = was.stands };
-}
+sound-mark s sound room = sound-with s (with_mark s).catalog (marks-fit s sound (nat_lt (last_marked 0 (ledger s).marks) (ledger s).base.moment) room) sound
 
 borne-mark : (s : State) (h : List Change) (objects : Held) (made : List Made) (touched : List (List ℕ)) → length (records_of (ledger s)) + length (marks_before s) ≤ 65536 → IsBorneOut s h objects made touched → IsBorneOut (with_mark s) h objects made touched
 borne-mark s h objects made touched room stands =
-    let keeps = stands.keeps in
-    record {
-      state = sound-mark s stands.state room;
-      keeps = record { history = keeps.history; below = keeps.below; online = keeps.online; place = keeps.place; in_open = keeps.in_open; point = keeps.point };
-      artefacts = stands.artefacts;
-      records = kept-on objects objects made made touched touched (ledger s) (ledger (with_mark s)) (stand-same objects objects touched (ledger s) (ledger (with_mark s)) (λ n. refl)) (λ x has. has) (λ x has. inl has) (λ x has. inl has) stands.records;
-    }
+    borne-same s (with_mark s).catalog (sound-mark s stands.state room).catalog h objects made touched stands (λ e has. inl has) (λ p has. inl has)
 
 -- no mark is to be made after it: it is of the moment of the statement
 last-push : (d : ℕ) (ms : List Mark) (m : Mark) → last_marked d (ms ++ m ∷ []) ≡ m.moment
@@ -91,10 +78,7 @@ count-marked s b = by (is_none b.during)
     by : (t : Bool) → length (records_of (ledger (cond t s (with_mark s)))) ≡ length (records_of (ledger s)) + cond t 0 (length (marks_before s))
     by true = omega arith
     by false =
-        let old = many (ledger s) in
-        let new = many (ledger (with_mark s)) in
-        let marks = length-append (ledger s).marks (marks_before s) in
-        omega (arith, old, new, marks)
+        omega (arith, many (ledger s), many (ledger (with_mark s)), length-append (ledger s).marks (marks_before s))
 
 -- what is not of the marks stays
 pub marked-same : {X : Type 0} (f : State → X) (s : State) (b : BackupForm) → f (with_mark s) ≡ f s → f (marked s b) ≡ f s

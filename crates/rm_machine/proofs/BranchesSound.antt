@@ -80,8 +80,7 @@ module _ (s : State) (at : ℕ) (sound : IsSound s) (can : CanBranchAt s at) whe
   place-after k d x file held =
       let kept = kept-get (world s) i at l.files s.instance.place k d x file held in
       let was = subst (IsPlaced l.tree k d) (counted-closed s x can.shut) (sound.place.each k d x file kept.1) in
-      let end = end-branched in
-      placed-standing l.tree tree k n at d x was there-branched begun (omega (arith, end)) (below-point s at k d x point file kept.0 kept.1)
+      placed-standing l.tree tree k n at d x was there-branched begun (omega (arith, end-branched)) (below-point s at k d x point file kept.0 kept.1)
 
   pub sound-branched : IsSound q
   sound-branched =

@@ -1,8 +1,7 @@
 -- OPEN RESETLOGS leads on: logs are archived, and the tree gains an incarnation.
-use Rattle.std.proofs.Common.{◌≡◌, ◌<◌, ◌≤◌, ◌∙◌, ◌++◌, inl, ℕ, List, Option, Some, None, IsSomeAnd, false, refl, ap, sym, subst, arith, length, get_or}
+use Rattle.std.proofs.Common.{◌≡◌, ◌<◌, ◌≤◌, ◌∙◌, ◌++◌, ℕ, List, Option, Some, None, IsSomeAnd, false, refl, sym, subst, arith, length, get_or}
 use Rattle.std.specs.Option.{option_map_or}
 use Rattle.std.proofs.lemmas.Bool.{leb-false}
-use Rattle.std.proofs.lemmas.List.{append-nil}
 use Rattle.std.proofs.lemmas.List.Elements.{All-weaker, Contains-get_or}
 use Rattle.rm_base.specs.Store.{Held}
 use Rattle.rm_base.specs.declared.block.Change.{Change}
@@ -22,21 +21,21 @@ use Rattle.rm_ledger.proofs.Trees.{keeps_branch, parents_below}
 use Rattle.rm_redo.specs.LogFile.{log_of}
 use Rattle.rm_report.specs.declared.line.Line.{Line}
 use Rattle.rm_machine.specs.Archive.{after_all, archiving, archiving_refusal}
-use Rattle.rm_machine.specs.Effect.{Effect, LeavesObjects, Made, done}
+use Rattle.rm_machine.specs.Effect.{Effect, Made, done}
 use Rattle.rm_machine.specs.Machine.{HistoryFits, IsBorneOut, RowsAre}
 use Rattle.rm_machine.specs.OpenResetlogs.{branch_refusal, branched_off, resetlogs_lines, resetlogs_refusal}
 use Rattle.rm_machine.specs.Sound.{IsSound}
 use Rattle.rm_machine.specs.declared.state.State.{State}
-use Rattle.rm_machine.specs.State.{ledger, world, current_of, now_of, placed, online}
+use Rattle.rm_machine.specs.State.{world, current_of, now_of, placed, online}
 use Rattle.rm_machine.proofs.Archives.{AfterAll, HasRoom, room-accepted, threads-sound, threads-stand}
 use Rattle.rm_machine.proofs.BranchesSound.{CanBranchAt, end-branched, sound-branched}
 use Rattle.rm_machine.proofs.FreshLogs.{fresh-empty, fresh-first}
 use Rattle.rm_machine.proofs.Grown.{SameHistory, true-on}
-use Rattle.rm_machine.proofs.Kept.{kept-on, stand-same}
 use Rattle.rm_machine.proofs.Leading.{LeadsOnBy, StaysBy}
 use Rattle.rm_machine.proofs.Opened.{kept-rows, rows-agree}
 use Rattle.rm_machine.proofs.Places.{counted-open}
 use Rattle.rm_machine.proofs.Switching.{empty-agrees}
+use Rattle.rm_machine.proofs.Quiet.{same-stays, unchanged}
 
 module _ (s : State) (at : ℕ) (h : List Change) (sound : IsSound s) (keeps : HistoryFits s h) (can : CanBranchAt s at) where
   abbrev i : ℕ
@@ -62,8 +61,7 @@ module _ (s : State) (at : ℕ) (h : List Change) (sound : IsSound s) (keeps : H
   online-branched t low inside =
       let base = s.catalog.ledger.base in
       let first = fresh-first base.dbid (current_of q) base.threads at t (now_of q) low inside in
-      let last = end in
-      empty-agrees h (online q t) (fresh-empty base.dbid (current_of q) base.threads at t (now_of q) low inside) (omega (arith, first, last))
+      empty-agrees h (online q t) (fresh-empty base.dbid (current_of q) base.threads at t (now_of q) low inside) (omega (arith, first, end))
 
   keeps-branched : HistoryFits q h
   keeps-branched = record {
@@ -92,7 +90,7 @@ module _ (s : State) (at : ℕ) (h : List Change) (sound : IsSound s) (keeps : H
     state = sound-branched s at sound can;
     keeps = keeps-branched;
     artefacts = λ a has. true-on (world s) (world q) h same a.artefact (stands.artefacts a has);
-    records = kept-on objects objects made made touched touched (ledger s) (ledger q) (stand-same objects objects touched (ledger s) (ledger q) (λ n. refl)) (λ a has. has) (λ e has. inl has) (λ e has. inl has) stands.records;
+    records = record { logs = stands.records.logs; pieces = stands.records.pieces };
   }
 
 -- Why it was not refused
@@ -136,25 +134,16 @@ pub resets-on : LeadsOnBy OpenResetlogs
 resets-on s h objects made touched said e t after well stands tell none does effect =
     let can = can-reset s stands.state none in
     let q : State = after_all s in
-    let n = s.catalog.ledger.base.threads in
     let is = after-archiving s stands.state can in
     let by = came s can.at said e t can.here does in
-    let is_effect : archiving s ≡ e = cc in
-    let is_state : branched_off q can.at ≡ t = cc in
-    let took = subst (λ x. LeavesObjects x objects after) (sym is_effect) effect in
+    unchanged (branched_off q can.at) (archiving s) h objects made touched e t after refl (cc) (cc) effect (λ left.
     let mid : IsBorneOut q h after (made ++ (archiving s).made) touched =
-    threads-stand n 1 s h objects made touched after 2 (omega arith) (omega arith) can.room stands (λ name. took.removes name ∙ took.puts name) in
-    let on = borne-branched q can.at h is.sound mid.keeps (can-after s can is) after (made ++ (archiving s).made) touched mid in
-    subst (λ x. IsBorneOut x (h ++ e.changes) after (made ++ e.made) touched) is_state
-    (subst (λ (x : Effect). IsBorneOut (branched_off q can.at) (h ++ x.changes) after (made ++ x.made) touched) is_effect
-    (subst (λ k. IsBorneOut (branched_off q can.at) k after (made ++ (archiving s).made) touched) (sym (append-nil h)) on))
+    threads-stand s.catalog.ledger.base.threads 1 s h objects made touched after 2 (omega arith) (omega arith) can.room stands (λ name. left.removes name ∙ left.puts name) in
+    borne-branched q can.at h is.sound mid.keeps (can-after s can is) after (made ++ (archiving s).made) touched mid)
 
 pub resets-stays : StaysBy OpenResetlogs
 resets-stays s objects said e t well sound none accepted does =
     let can = can-reset s sound accepted in
     let is = after-archiving s sound can in
     let by = came s can.at said e t can.here does in
-    let is_state : branched_off (after_all s) can.at ≡ t = cc in (
-      subst IsSound is_state (sound-branched (after_all s) can.at is.sound (can-after s can is)),
-      sym (ap (λ (x : State). x.catalog.saved) is_state) ∙ is.beside.saved ∙ none,
-    )
+    same-stays (branched_off (after_all s) can.at) t (cc) (sound-branched (after_all s) can.at is.sound (can-after s can is)) (is.beside.saved ∙ none)

@@ -1,5 +1,5 @@
 -- RESET DATABASE leads on: another incarnation is chosen.
-use Rattle.std.proofs.Common.{◌≡◌, ◌<◌, ◌≤◌, ◌∙◌, ◌==◌, ◌||◌, nat_lt, inl, ℕ, List, Some, None, false, refl, sym, subst, arith, length}
+use Rattle.std.proofs.Common.{◌≡◌, ◌<◌, ◌≤◌, ◌∙◌, ◌==◌, ◌||◌, nat_lt, ℕ, List, Some, None, false, sym, subst, arith, length}
 use Rattle.std.proofs.lemmas.Bool.{false≢true}
 use Rattle.std.proofs.lemmas.Bool.Decides.{nat_tests}
 use Rattle.rm_base.specs.Store.{Held}
@@ -15,12 +15,11 @@ use Rattle.rm_machine.specs.Marks.{ids_refusal}
 use Rattle.rm_machine.specs.ResetDatabase.{at_incarnation, reset_refusal}
 use Rattle.rm_machine.specs.Sound.{IsPlaced, IsSound}
 use Rattle.rm_machine.specs.declared.state.State.{State}
-use Rattle.rm_machine.specs.State.{ledger, world}
+use Rattle.rm_machine.specs.State.{world}
 use Rattle.rm_statement.specs.declared.command.Command.TheVariants.{ResetDatabase}
 use Rattle.rm_base.proofs.Conditions.{unless}
 use Rattle.rm_machine.proofs.CountedLogs.{counted-agree, counted-online}
 use Rattle.rm_machine.proofs.Current.{current-kept}
-use Rattle.rm_machine.proofs.Kept.{kept-on, stand-same}
 use Rattle.rm_machine.proofs.Leading.{LeadsOnBy, StaysBy}
 use Rattle.rm_machine.proofs.Places.{counted-closed}
 use Rattle.rm_machine.proofs.Quiet.{quiet-on, quiet-stays}
@@ -75,7 +74,7 @@ module _ (s : State) (i : ℕ) (sound : IsSound s) (can : CanChoose s i) where
     state = sound-chosen;
     keeps = keeps-chosen h stands.keeps;
     artefacts = stands.artefacts;
-    records = kept-on objects objects made made touched touched (ledger s) (ledger q) (stand-same objects objects touched (ledger s) (ledger q) (λ n. refl)) (λ a has. has) (λ e has. inl has) (λ e has. inl has) stands.records;
+    records = record { logs = stands.records.logs; pieces = stands.records.pieces };
   }
 
 pub choose-on : (i : ℕ) → LeadsOnBy (ResetDatabase i)

@@ -29,8 +29,7 @@ AgreeOnline s h = (t : ℕ) → 0 < t → t ≤ s.catalog.ledger.base.threads �
 
 clash-lost : {X : Type 0} (s : State) (t : ℕ) → AreOnline s → list_all (λ l. l.is_lost) s.instance.logs.threads ≡ true → 0 < t → t ≤ s.catalog.ledger.base.threads → is_lost s.instance.logs t ≡ false → X
 clash-lost s t are all low high found =
-    let many = are.threads in
-    let lost = all-lost s.instance.logs.threads (t - 1) (omega (arith, many, low, high)) all in
+    let lost = all-lost s.instance.logs.threads (t - 1) (omega (arith, are.threads, low, high)) all in
     absurd (let e : true ≡ false = sym lost ∙ found in cc)
 
 counted-by : (s : State) (i : ℕ) (b : Bool) → list_all (λ l. l.is_lost) s.instance.logs.threads ≡ b → IsThere s.catalog.ledger.tree i → AreOnline s → AreOnline (with_logs s (cond b (record s.instance.logs { inc = i }) s.instance.logs))

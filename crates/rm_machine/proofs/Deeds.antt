@@ -155,9 +155,8 @@ had p (x ∷ xs) some = elim (cases_Bool (p x)) [
 
 these-read : (xs ys : List Deed) (f b : ℕ) (r : Row) → AreThese xs ys → Contains xs (reading f b r) → Contains ys (reading f b r)
 these-read xs ys f b r these has =
-    let count = counted (is_reading f b r) xs (reading f b r) has (reading-itself f b r) in
     let same = these.each_once (λ d. one_if (is_reading f b r d)) in
-    let it = had (is_reading f b r) ys (omega (arith, count, same)) in
+    let it = had (is_reading f b r) ys (omega (arith, counted (is_reading f b r) xs (reading f b r) has (reading-itself f b r), same)) in
     subst (Contains ys) (reading-is f b r it.0 it.2) it.1
 
 -- the rows of a datafile that is read from block b on

@@ -55,12 +55,10 @@ module _ {A : Type 0} (id : A → ℕ) (n : ℕ) (xs : List A) (x : A) where
   left-one has = elim (Contains-append_cases (lower id n xs) (higher id n xs) x has) [
     | inl below ↦
         let was = filter_from (λ y. nat_lt (id y) n) xs x below in
-        let less = ltb-true (id x) n was.1 in
-        (was.0, λ same. absurd (omega (arith, less, same)))
+        (was.0, λ same. absurd (omega (arith, ltb-true (id x) n was.1, same)))
     | inr above ↦
         let was = filter_from (λ y. nat_lt n (id y)) xs x above in
-        let more = ltb-true n (id x) was.1 in
-        (was.0, λ same. absurd (omega (arith, more, same)))
+        (was.0, λ same. absurd (omega (arith, ltb-true n (id x) was.1, same)))
   ]
 
   -- and what has another id is left
@@ -135,16 +133,12 @@ module _ (r : Repository) (rules : IsRepository r) where
   small-log : (e : LogEntry) → Contains r.ledger.logs e → e.id < 2 ^ 64
   small-log e has =
       let range = All-contains (λ (x : LogEntry). (1 ≤ x.id) × (x.id < r.ledger.base.next_id)) r.ledger.logs e rules.ledger.ids.logs has in
-      let below = range.1 in
-      let most = rules.ledger.base.next_id.1 in
-      omega (arith, below, most)
+      omega (arith, range.1, rules.ledger.base.next_id.1)
 
   small-piece : (p : PieceEntry) → Contains r.ledger.pieces p → p.id < 2 ^ 64
   small-piece p has =
       let range = All-contains (λ (x : PieceEntry). (1 ≤ x.id) × (x.id < r.ledger.base.next_id)) r.ledger.pieces p rules.ledger.ids.pieces has in
-      let below = range.1 in
-      let most = rules.ledger.base.next_id.1 in
-      omega (arith, below, most)
+      omega (arith, range.1, rules.ledger.base.next_id.1)
 
   module _ (ids : List ℕ) where
     -- a record of another id has no such name
@@ -183,11 +177,9 @@ pub gone-on : (s : State) (ids : List ℕ) (names : List (List ℕ)) (h : List C
     → IsBorneOut t (h ++ e.changes) after (made ++ e.made) touched
 gone-on s ids names h objects made touched lines said e t after are borne is effect =
     let q : State = with_catalog s (without_all ids s.catalog) in
-    let is_effect : removing names ≡ e = cc in
-    let left = subst (λ (x : Effect). LeavesObjects x objects after) (sym is_effect) effect in
-    let stays = object-stays s.catalog borne.state.catalog ids names are objects after left in
-    let on = (all-on ids s borne.state).borne h objects made touched borne in
-    removing-on q names h made touched lines said e t after is (borne-beside q h objects after made touched touched on (stand-where objects after touched q.catalog.ledger q.catalog.ledger stays))
+    removing-on q names h objects made touched lines said e t after is effect (λ left.
+    borne-beside q h objects after made touched touched ((all-on ids s borne.state).borne h objects made touched borne)
+    (stand-where objects after touched q.catalog.ledger q.catalog.ledger (object-stays s.catalog borne.state.catalog ids names are objects after left)))
 
 -- and it is sound
 pub gone-stays : (s : State) (ids : List ℕ) (names : List (List ℕ)) (lines said : List Line) (e : Effect) (t : State) → IsSound s → s.catalog.saved ≡ None

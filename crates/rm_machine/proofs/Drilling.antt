@@ -18,12 +18,12 @@ use Rattle.rm_report.specs.declared.line.Line.TheVariants as line
 use Rattle.rm_machine.specs.Drills.{cut_by, damage_by, damaged, removal, remove_by, rename_by, renaming, replacement}
 use Rattle.rm_machine.specs.Effect.{Effect, LeavesObjects, Made, done, refused}
 use Rattle.rm_machine.specs.Machine.{IsBorneOut}
-use Rattle.rm_machine.specs.Sound.{IsSound}
 use Rattle.rm_machine.specs.declared.state.State.{State}
 use Rattle.rm_machine.specs.State.{ledger}
 use Rattle.rm_machine.proofs.Kept.{StandOn}
 use Rattle.rm_machine.proofs.Later.{borne-beside}
 use Rattle.rm_machine.proofs.Leading.{LeadsOnBy, StaysBy}
+use Rattle.rm_machine.proofs.Quiet.{same-stays, unchanged}
 
 -- each name is one of these, or holds what it held
 abbrev EachElse : List (List ℕ) → Held → Held → Type 0
@@ -92,42 +92,34 @@ or-touched names touched before after l each n bytes was is (inr held) = elim (e
 ]
 
 -- what stands after a drill of these names
-drilled-on : (s : State) (h : List Change) (objects : Held) (made : List Made) (names touched : List (List ℕ)) (by e : Effect) (t : State) (after : Held) → by.changes ≡ [] → by.made ≡ [] → IsDrill s by e t → EachElse names objects after
-    → IsBorneOut s h objects made touched → IsBorneOut t (h ++ e.changes) after (made ++ e.made) (names ++ touched)
-drilled-on s h objects made names touched by e t after unchanged unmade drill each stands =
-    let on = borne-beside s h objects after made touched (names ++ touched) stands (or-touched names touched objects after (ledger s) each) in
-    subst (λ x. IsBorneOut x (h ++ e.changes) after (made ++ e.made) (names ++ touched)) drill.state
-    (subst (λ (x : Effect). IsBorneOut s (h ++ x.changes) after (made ++ x.made) (names ++ touched)) drill.effect
-    (subst (λ k. IsBorneOut s (h ++ k) after (made ++ by.made) (names ++ touched)) (sym unchanged) (subst (λ k. IsBorneOut s (h ++ []) after (made ++ k) (names ++ touched)) (sym unmade)
-    (subst (λ k. IsBorneOut s k after (made ++ []) (names ++ touched)) (sym (append-nil h)) (subst (λ k. IsBorneOut s h after k (names ++ touched)) (sym (append-nil made)) on)))))
-
-leaves-by : (by e : Effect) (before after : Held) → by ≡ e → LeavesObjects e before after → LeavesObjects by before after
-leaves-by by e before after is effect = subst (λ (x : Effect). LeavesObjects x before after) (sym is) effect
+drilled-on : (s : State) (h : List Change) (objects : Held) (made : List Made) (names touched : List (List ℕ)) (by e : Effect) (t : State) (after : Held) → by.changes ≡ [] → by.made ≡ [] → IsDrill s by e t → LeavesObjects e objects after
+    → (LeavesObjects by objects after → EachElse names objects after) → IsBorneOut s h objects made touched → IsBorneOut t (h ++ e.changes) after (made ++ e.made) (names ++ touched)
+drilled-on s h objects made names touched by e t after none unmade drill effect each stands =
+    unchanged s by h objects made (names ++ touched) e t after none drill.effect drill.state effect (λ left.
+    subst (λ k. IsBorneOut s h after k (names ++ touched)) (sym (ap (λ (ms : List Made). made ++ ms) unmade ∙ append-nil made))
+    (borne-beside s h objects after made touched (names ++ touched) stands (or-touched names touched objects after (ledger s) (each left))))
 
 pub remove-on : (name : List ℕ) → LeadsOnBy (Remove name)
 remove-on name s h objects made touched said e t after well stands tell none does effect =
     let drill = removed-by s name (objects name) said e t does in
-    drilled-on s h objects made (name ∷ []) touched (removal name) e t after refl refl drill (remove-each objects after name (leaves-by (removal name) e objects after drill.effect effect)) stands
+    drilled-on s h objects made (name ∷ []) touched (removal name) e t after refl refl drill effect (remove-each objects after name) stands
 
 pub damage-on : (name : List ℕ) (at : ℕ) → LeadsOnBy (Damage name at)
 damage-on name at s h objects made touched said e t after well stands tell none does effect =
     let by = damaged-by s name at (objects name) said e t does in
-    drilled-on s h objects made (name ∷ []) touched (replacement name by.0) e t after refl refl by.1 (put-each objects after name by.0 (leaves-by (replacement name by.0) e objects after by.1.effect effect)) stands
+    drilled-on s h objects made (name ∷ []) touched (replacement name by.0) e t after refl refl by.1 effect (put-each objects after name by.0) stands
 
 pub cut-on : (name : List ℕ) (to : ℕ) → LeadsOnBy (Cut name to)
 cut-on name to s h objects made touched said e t after well stands tell none does effect =
     let by = cut-by s name to (objects name) said e t does in
-    drilled-on s h objects made (name ∷ []) touched (replacement name by.0) e t after refl refl by.1 (put-each objects after name by.0 (leaves-by (replacement name by.0) e objects after by.1.effect effect)) stands
+    drilled-on s h objects made (name ∷ []) touched (replacement name by.0) e t after refl refl by.1 effect (put-each objects after name by.0) stands
 
 pub rename-on : (old new : List ℕ) → LeadsOnBy (Rename old new)
 rename-on old new s h objects made touched said e t after well stands tell none does effect =
     let by = renamed-by s old new (objects old) (objects new) said e t does in
-    drilled-on s h objects made (old ∷ new ∷ []) touched (renaming old new by.0) e t after refl refl by.1 (rename-each objects after old new by.0 (leaves-by (renaming old new by.0) e objects after by.1.effect effect)) stands
+    drilled-on s h objects made (old ∷ new ∷ []) touched (renaming old new by.0) e t after refl refl by.1 effect (rename-each objects after old new by.0) stands
 
 -- Staying sound: the state is the same
-
-same-stays : (s t : State) → s ≡ t → IsSound s → s.catalog.saved ≡ None → IsSound t × (t.catalog.saved ≡ None)
-same-stays s t is sound none = (subst IsSound is sound, sym (ap (λ (x : State). x.catalog.saved) is) ∙ none)
 
 pub remove-stays : (name : List ℕ) → StaysBy (Remove name)
 remove-stays name s objects said e t well sound none accepted does = same-stays s t (removed-by s name (objects name) said e t does).state sound none

@@ -26,7 +26,7 @@ use Rattle.rm_machine.specs.Sound.{IsSound}
 use Rattle.rm_machine.specs.declared.state.State.{State}
 use Rattle.rm_machine.specs.State.{ledger}
 use Rattle.rm_machine.specs.Upkeep.{log_changed, piece_changed, with_catalog, without_record}
-use Rattle.rm_machine.proofs.Kept.{kept-on, stand-same}
+use Rattle.rm_machine.proofs.Later.{borne-same, sound-with}
 
 -- the catalog with other records of logs and pieces
 abbrev pub with_entries : Repository → List LogEntry → List PieceEntry → Repository
@@ -37,26 +37,14 @@ module _ (s : State) (ls : List LogEntry) (ps : List PieceEntry) (rules : IsRepo
   other = with_catalog s (with_entries s.catalog ls ps)
 
   pub sound-entries : IsSound s → IsSound other
-  sound-entries is = record {
-    catalog = rules;
-    dbid = is.dbid;
-    place = record { many = is.place.many; each = is.place.each };
-    logs = record { dbid = is.logs.dbid; there = is.logs.there; threads = is.logs.threads; each = is.logs.each };
-    in_open = λ opened. let was = is.in_open opened in record { inc = was.inc; found = was.found; point = was.point };
-    point = λ at here. let was = is.point at here in record { low = was.low; high = was.high; stands = was.stands };
-  }
+  sound-entries = sound-with s other.catalog rules
 
   -- where each record was there, or has its artefact
   pub borne-entries : (h : List Change) (objects : Held) (made : List Made) (touched : List (List ℕ)) → IsBorneOut s h objects made touched
       → ((e : LogEntry) → Contains ls e → Contains (ledger s).logs e ⊎ HasLogArtefact objects made touched e)
       → ((p : PieceEntry) → Contains ps p → Contains (ledger s).pieces p ⊎ HasPieceArtefact objects made touched p)
       → IsBorneOut other h objects made touched
-  borne-entries h objects made touched is logs pieces = record {
-    state = sound-entries is.state;
-    keeps = record { history = is.keeps.history; below = is.keeps.below; online = is.keeps.online; place = is.keeps.place; in_open = is.keeps.in_open; point = is.keeps.point };
-    artefacts = is.artefacts;
-    records = kept-on objects objects made made touched touched (ledger s) (ledger other) (stand-same objects objects touched (ledger s) (ledger other) (λ n. refl)) (λ a has. has) logs pieces is.records;
-  }
+  borne-entries = borne-same s other.catalog rules
 
 -- a record that differs in its status and its keep alone
 abbrev pub log_as : Status → Bool → LogEntry → LogEntry

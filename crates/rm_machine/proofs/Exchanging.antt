@@ -58,9 +58,7 @@ module _ (s : State) (point : Option ℕ) (place : List (Option File)) (sound : 
       online = keeps.online;
       place = λ f x is.
           let at = get-index place (f - 1) x is in
-          let inside = slice_get_within place (f - 1) (Some x) at in
-          let old = sound.place.many in
-          let file = item-at (ledger s).files (f - 1) (omega (arith, inside, many, old)) in
+          let file = item-at (ledger s).files (f - 1) (omega (arith, slice_get_within place (f - 1) (Some x) at, many, sound.place.many)) in
           subst (λ y. BaseAgrees (world s) h (base_of y)) (sym (counted-closed (exchanged s point place) x closed)) (agrees-at (f - 1) file.0 x file.1 at);
       in_open = λ opened. absurd (both_ways s.instance.is_open closed opened);
       point = rows;

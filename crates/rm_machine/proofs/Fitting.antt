@@ -28,8 +28,7 @@ use Rattle.rm_machine.proofs.Standing.{at-place, each-in, present-in}
 ascends : (rows : List Row) → IsInOrder rows → AllPairs IsBefore rows
 ascends rows order i j d less inside =
     let first = order i (get_or rows i d) (slice_get-get_or rows i d (omega (arith, less, inside))) in
-    let second = order j (get_or rows j d) (slice_get-get_or rows j d inside) in
-    omega (arith, first, second, less)
+    omega (arith, first, order j (get_or rows j d) (slice_get-get_or rows j d inside), less)
 
 module _ (s : State) (sound : IsSound s) where
   -- a whole copy of a datafile is a valid piece
@@ -37,34 +36,22 @@ module _ (s : State) (sound : IsSound s) where
   placed-valid k d x file is =
       let rules = sound.catalog.ledger in
       let made = all-get (IsCreated (tree s)) (ledger s).files k d file rules.datafiles.each in
-      let inside = slice_get_within (ledger s).files k d file in
-      let few = rules.datafiles.few in
-      let branches = rules.incarnations.few in
-      let number = is.file in
-      let long = is.blocks in
-      let there = is.there in
-      let low = is.checkpoint in
-      let least = high-least x.checkpoint x.rows in
-      let high = is.high in
       let last = (rules.incarnations.ranges x.inc is.there).2 in
       record {
         valid = record {
           dbid = (rules.base.dbid, sound.dbid);
-          inc = (omega (arith, there.0), omega (arith, there.1, branches));
-          file = (omega (arith, number), omega (arith, number, inside, few));
-          blocks = (omega (arith, long, made.blocks.0), omega (arith, long, made.blocks.1));
-          checkpoint = (low, omega (arith, least, high, last));
+          inc = (omega (arith, is.there.0), omega (arith, is.there.1, rules.incarnations.few));
+          file = (omega (arith, is.file), omega (arith, is.file, slice_get_within (ledger s).files k d file, rules.datafiles.few));
+          blocks = (omega (arith, is.blocks, made.blocks.0), omega (arith, is.blocks, made.blocks.1));
+          checkpoint = (is.checkpoint, omega (arith, high-least x.checkpoint x.rows, is.high, last));
           kind = (refl, refl);
           ascend = ascends x.rows is.order;
           rows = each-in (IsRow (length x.rows) 0) x.rows (λ r has.
               let at = at-place x.rows r has in
-              let block = is.order at.0 r at.1 in
-              let within = slice_get_within x.rows at.0 r at.1 in
               let row = All-contains IsPlacedRow x.rows r is.rows has in
-              let above = high-above x.checkpoint x.rows r has in
               record {
-                block = omega (arith, block, within);
-                version = (row.version, omega (arith, above, high, last));
+                block = omega (arith, is.order at.0 r at.1, slice_get_within x.rows at.0 r at.1);
+                version = (row.version, omega (arith, high-above x.checkpoint x.rows r has, is.high, last));
                 from = omega arith;
                 content = row.content;
               });
@@ -75,9 +62,7 @@ module _ (s : State) (sound : IsSound s) where
 
   stands-valid : (k : ℕ) (x : File) → slice_get s.instance.place k ≡ Some (Some x) → FitsPiece (tree s) (placed_piece (ledger s).base.dbid (counted s x))
   stands-valid k x at =
-      let inside = slice_get_within s.instance.place k (Some x) at in
-      let many = sound.place.many in
-      let file = item-at (ledger s).files k (omega (arith, inside, many)) in
+      let file = item-at (ledger s).files k (omega (arith, slice_get_within s.instance.place k (Some x) at, sound.place.many)) in
       placed-valid k file.0 (counted s x) file.1 (sound.place.each k file.0 x file.1 at)
 
   online-valid : (t : ℕ) → 0 < t → t ≤ (ledger s).base.threads → is_lost s.instance.logs t ≡ false → FitsLog (tree s) (online s t)
@@ -94,7 +79,5 @@ place-fits s sound = record {
   logs = subst (λ ns. All (FitsLog ns) (in_place s).logs) (sym (tree-told s.catalog))
       (each-in (FitsLog (tree s)) (in_place s).logs (λ a has.
       let found = online-in s 1 (ledger s).base.threads a has in
-      let low = found.low in
-      let high = found.high in
-      subst (FitsLog (tree s)) found.is (online-valid s sound found.thread (omega (arith, low)) (omega (arith, high)) found.found)));
+      subst (FitsLog (tree s)) found.is (online-valid s sound found.thread (omega (arith, found.low)) (omega (arith, found.high)) found.found)));
 }

@@ -114,10 +114,7 @@ goes-with_write s t f b content goes = record {
       elim (get-set s.instance.place (f - 1) k (option_map (λ y. written y b (now_of s) content) (placed s f)) (Some x) is) [
         | inl one ↦
             let by = written-by (placed s f) b (now_of s) content x one.1 in
-            let number = goes.numbered (f - 1) by.0 (get-index s.instance.place (f - 1) by.0 by.1) in
-            let same = by.2 in
-            let at = one.0 in
-            omega (arith, number, same, at)
+            omega (arith, goes.numbered (f - 1) by.0 (get-index s.instance.place (f - 1) by.0 by.1), by.2, one.0)
         | inr other ↦ goes.numbered k x other.1
       ];
 }

@@ -61,12 +61,11 @@ read-of u f b r sound is = by (find (λ (x : File). x.file == f) (standing_in u)
         let at = found-at u.instance.place f x found in
         let stands = index-get u.instance.place at.0 x at.1 in
         let place = (placed-is u at.0 x sound.place stands).file in
-        let number = at.2 in
-        let same : at.0 ≡ f - 1 = omega (arith, place, number) in
+        let same : at.0 ≡ f - 1 = omega (arith, place, at.2) in
         record {
-          some = omega (arith, place, number);
+          some = omega (arith, place, at.2);
           file = x;
-          number = number;
+          number = at.2;
           stands = subst (λ k. slice_index_or u.instance.place k None ≡ Some x) same stands;
           row = is;
         }
@@ -77,12 +76,10 @@ module _ (u : State) (f b : ℕ) (r : Row) (sound : IsSound u) (opened : u.insta
   read-found =
       let at = get-index u.instance.place (f - 1) is.file is.stands in
       let inside = slice_get_within u.instance.place (f - 1) (Some is.file) at in
-      let many = sound.place.many in
-      let d = item-at u.catalog.ledger.files (f - 1) (omega (arith, inside, many)) in
+      let d = item-at u.catalog.ledger.files (f - 1) (omega (arith, inside, sound.place.many)) in
       let place : IsPlaced (tree u) (f - 1) d.0 (standing is.file (current_of u) (now_of u)) = subst (IsPlaced (tree u) (f - 1) d.0) (counted-open u is.file opened) (sound.place.each (f - 1) d.0 is.file d.1 at) in
       let above = high-above (now_of u) is.file.rows r (all-get (Contains is.file.rows) is.file.rows b r is.row (All-contains_itself is.file.rows)) in
-      let high = place.high in
-      (place.order b r is.row, record { row = all-get IsPlacedRow is.file.rows b r is.row place.rows; below = omega (arith, above, high) })
+      (place.order b r is.row, record { row = all-get IsPlacedRow is.file.rows b r is.row place.rows; below = omega (arith, above, place.high) })
 
   -- and the state of its block now
   pub read-true : (h : List Change) (checkpoint : ℕ) → HistoryFits u h → checkpoint ≤ now_of u → IsRow (world u) h (current_of u) f checkpoint r

@@ -18,8 +18,7 @@ use Rattle.rm_machine.specs.State.{is_lost}
 
 get-replicate : {X : Type 0} (n k : ℕ) (x : X) → k < n → slice_get (replicate n x) k ≡ Some x
 get-replicate n k x low =
-    let many = length-replicate n x in
-    slice_get-get_or (replicate n x) k x (omega (arith, low, many)) ∙ ap Some (get_or-replicate n k x x low)
+    slice_get-get_or (replicate n x) k x (omega (arith, low, length-replicate n x)) ∙ ap Some (get_or-replicate n k x x low)
 
 module _ (dbid inc threads scn : ℕ) where
   abbrev logs : Logs

@@ -1,11 +1,9 @@
 -- One SCN further: the current incarnation of an open database ends one SCN later, behind the mark of `now`.
-use Rattle.std.proofs.Common.{◌≡◌, ◌<◌, ◌≤◌, ◌+◌, ◌∙◌, ◌&&◌, ◌⊎◌, nat_lt, inl, inr, ℕ, List, [], ◌∷◌, Some, Bool, true, false, cond, refl, ap, sym, subst, arith, length, All}
+use Rattle.std.proofs.Common.{◌≡◌, ◌<◌, ◌≤◌, ◌+◌, ◌∙◌, ◌&&◌, ◌⊎◌, nat_lt, inl, inr, ℕ, List, Some, true, false, refl, ap, sym, subst, arith, length, All}
 use Rattle.std.proofs.lemmas.Bool.{and_from, cases_lt, lt-ltb}
-use Rattle.std.proofs.lemmas.List.{append-nil}
 use Rattle.std.proofs.lemmas.List.Elements.{All-weaker}
 use Rattle.rm_base.specs.Numbers.{last_scn}
 use Rattle.rm_base.specs.declared.block.Change.{Change}
-use Rattle.rm_base.specs.declared.block.Mark.{Mark}
 use Rattle.rm_blocks.specs.File.{File, base_of, standing}
 use Rattle.rm_history.specs.Agrees.{BaseAgrees}
 use Rattle.rm_history.specs.declared.tree.Incarnation.{Incarnation}
@@ -18,14 +16,13 @@ use Rattle.rm_history.proofs.Highs.{high-above, high-bound}
 use Rattle.rm_history.proofs.Histories.{IsHistory-with_end, state-with_end}
 use Rattle.rm_history.proofs.Owners.{owner-here}
 use Rattle.rm_history.proofs.Worlds.{BaseAgrees-with_end, Level1Agrees-with_end}
-use Rattle.rm_ledger.specs.Facts.{IsMark}
 use Rattle.rm_ledger.specs.Ledger.{records_of}
 use Rattle.rm_ledger.proofs.Trees.{Keeps, keeps_end, parents_below}
 use Rattle.rm_redo.specs.LogFile.{log_of}
 use Rattle.rm_repository.specs.Facts.{IsRepository}
-use Rattle.rm_repository.proofs.Fitted.{end_fits, mark_fits}
+use Rattle.rm_repository.proofs.Fitted.{end_fits}
 use Rattle.rm_machine.specs.Machine.{HistoryFits, RowsAre}
-use Rattle.rm_machine.specs.Marks.{last_marked, mark_now, marks_before, one_further, with_marks}
+use Rattle.rm_machine.specs.Marks.{last_marked, marks_before, one_further, with_marks}
 use Rattle.rm_machine.specs.Sound.{IsOnline, IsPlaced, IsSound}
 use Rattle.rm_machine.specs.declared.state.State.{State}
 use Rattle.rm_machine.specs.State.{ledger, world, current_of, now_of, redo_end, placed, online, is_lost}
@@ -33,6 +30,7 @@ use Rattle.rm_machine.proofs.FurtherLogs.{log-further}
 use Rattle.rm_machine.proofs.Grown.{SameHistory}
 use Rattle.rm_machine.proofs.Opened.{rows-agree}
 use Rattle.rm_machine.proofs.Places.{counted-open}
+use Rattle.rm_machine.proofs.BackupMarks.{marks-fit}
 
 -- so many records are not too many
 pub roomy-either : (n total : ℕ) → (nat_lt 0 n && nat_lt 65536 total) ≡ false → (n ≡ 0) ⊎ (total ≤ 65536)
@@ -89,32 +87,20 @@ module _ (s : State) (sound : IsSound s) (on : GoesOn s) where
   pub owns-now : owner old i now ≡ i
   owns-now = owner-here old (parents_below old sound.catalog.ledger.incarnations) i now there.0 range.1
 
-  -- the mark comes behind all others
-  marks-fit : (b : Bool) → length (records_of (ledger s)) + length (cond b (mark_now s ∷ []) []) ≤ 65536 → IsRepository (with_marks s.catalog (cond b (mark_now s ∷ []) []))
-  marks-fit true room =
-      mark_fits s.catalog (mark_now s) sound.catalog (record {
-        mark = record { there = there; scn = (range.1, omega arith); moment = omega arith };
-        moment = (All-weaker (IsMark old s.catalog.ledger.base.moment) (λ m. m.moment ≤ s.catalog.ledger.base.moment) (λ m is. is.moment) s.catalog.ledger.marks sound.catalog.ledger.marks.each, omega arith);
-        room = room;
-      })
-  marks-fit false room = subst (λ (ms : List Mark). IsRepository (record s.catalog { ledger = record s.catalog.ledger { marks = ms } })) (sym (append-nil s.catalog.ledger.marks)) sound.catalog
-
   pub catalog-further : IsRepository q.catalog
-  catalog-further = end_fits (with_marks s.catalog (marks_before s)) i (now + 1) (marks-fit (nat_lt (last_marked 0 s.catalog.ledger.marks) s.catalog.ledger.base.moment) on.room) there (omega arith) last
+  catalog-further = end_fits (with_marks s.catalog (marks_before s)) i (now + 1) (marks-fit s sound (nat_lt (last_marked 0 s.catalog.ledger.marks) s.catalog.ledger.base.moment) on.room) there (omega arith) last
 
   -- what is in place lies below `now`, and so below the new end
   placed-further : (k : ℕ) (d : Datafile) (x : File) → IsPlaced old k d (standing x i now) → IsPlaced tree k d (standing x i (now_of q))
   placed-further k d x is =
-      let end = now-further in
-      let high = is.high in
       record {
         file = is.file;
         blocks = is.blocks;
         order = is.order;
         rows = is.rows;
         there = keeps-further.there i there;
-        checkpoint = omega (arith, end);
-        high = high-bound (now_of q) (now_of q) x.rows (omega arith) (λ r has. let above = high-above now x.rows r has in omega (arith, above, high, end));
+        checkpoint = omega (arith, now-further);
+        high = high-bound (now_of q) (now_of q) x.rows (omega arith) (λ r has. let above = high-above now x.rows r has in omega (arith, above, is.high, now-further));
       }
 
   inc-now : s.instance.logs.inc ≡ i
@@ -130,14 +116,9 @@ module _ (s : State) (sound : IsSound s) (on : GoesOn s) where
   online-further : (t : ℕ) → 0 < t → t ≤ s.catalog.ledger.base.threads → is_lost s.instance.logs t ≡ false → IsOnline tree (online q t)
   online-further t low high found =
       let was = sound.logs.each t low high found in
-      let before = redo-now in
-      let after = redo-further in
-      let most = last in
-      let reset = keeps-further.reset s.instance.logs.inc sound.logs.there in
-      let begun = was.begun in
       record {
-        valid = log-further (online s t) (online q t) was.valid refl refl refl refl refl (omega (arith, before, after)) (omega (arith, after, most)) (inl refl);
-        begun = omega (arith, reset, begun);
+        valid = log-further (online s t) (online q t) was.valid refl refl refl refl refl (omega (arith, redo-now, redo-further)) (omega (arith, redo-further, last)) (inl refl);
+        begun = omega (arith, keeps-further.reset s.instance.logs.inc sound.logs.there, was.begun);
       }
 
   pub sound-further : IsSound q

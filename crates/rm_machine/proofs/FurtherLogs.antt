@@ -18,9 +18,7 @@ pub record IsPushed (l m : LogFile) (r : LogRecord) : Type 0 where
 
 record-further : (l m : LogFile) → m.first ≡ l.first → l.next ≤ m.next → (r : LogRecord) → IsLogRecord l.first l.next r → IsLogRecord m.first m.next r
 record-further l m first next r is =
-    let low = is.scn.0 in
-    let high = is.scn.1 in
-    record { scn = (omega (arith, first, low), omega (arith, high, next)); file = is.file; block = is.block; content = is.content }
+    record { scn = (omega (arith, first, is.scn.0), omega (arith, is.scn.1, next)); file = is.file; block = is.block; content = is.content }
 
 single : (r : LogRecord) → AllPairs IsBefore (r ∷ [])
 single r i j d less inside = absurd (omega (arith, less, inside))
@@ -28,14 +26,12 @@ single r i j d less inside = absurd (omega (arith, less, inside))
 pub log-further : (l m : LogFile) → IsLogFile l → m.dbid ≡ l.dbid → m.inc ≡ l.inc → m.thread ≡ l.thread → m.sequence ≡ l.sequence → m.first ≡ l.first → l.next ≤ m.next → m.next ≤ last_scn
     → (m.records ≡ l.records) ⊎ ((r : LogRecord) × IsPushed l m r) → IsLogFile m
 log-further l m is dbid inc thread sequence first next last records =
-    let low = is.range.0 in
-    let mid = is.range.1 in
     record {
       dbid = subst (λ x. (1 ≤ x) × (x < 2 ^ 32)) (sym dbid) is.dbid;
       inc = subst (λ x. (1 ≤ x) × (x < 2 ^ 32)) (sym inc) is.inc;
       thread = subst (λ x. (1 ≤ x) × (x ≤ 4)) (sym thread) is.thread;
       sequence = subst (λ x. (1 ≤ x) × (x < 2 ^ 32)) (sym sequence) is.sequence;
-      range = (omega (arith, first, low), omega (arith, first, mid, next), last);
+      range = (omega (arith, first, is.range.0), omega (arith, first, is.range.1, next), last);
       few = elim records [
         | inl same ↦ subst (λ x. length x ≤ 65536) (sym same) is.few
         | inr more ↦ let room = more.1.room in subst (λ x. length x ≤ 65536) (sym more.1.records) (omega (arith, room, length-append l.records (more.0 ∷ [])))
@@ -44,9 +40,8 @@ log-further l m is dbid inc thread sequence first next last records =
         | inl same ↦ subst (AllPairs IsBefore) (sym same) is.ascend
         | inr more ↦ subst (AllPairs IsBefore) (sym more.1.records) (pairs_append IsBefore l.records (more.0 ∷ []) is.ascend (single more.0) (λ x y has other.
             let under : x.scn < l.next = (All-contains (IsLogRecord l.first l.next) l.records x is.records has).scn.1 in
-            let over = more.1.after in
             elim (first-or-rest more.0 [] y other) [
-              | inl same ↦ inl (subst (λ z. x.scn < z.scn) same (omega (arith, under, over)))
+              | inl same ↦ inl (subst (λ z. x.scn < z.scn) same (omega (arith, under, more.1.after)))
               | inr none ↦ absurd (none-in y none)
             ]))
       ];

@@ -33,13 +33,9 @@ module _ (w v : World) (h : List Change) (same : SameHistory w v h) where
 
   within-on : (a : Artefact) → EndsWithin w.tree a → EndsWithin v.tree a
   within-on (a_log a) inside =
-      let low = inside.1 in
-      let up = same.keeps.end a.inc inside.0 in
-      (same.keeps.there a.inc inside.0, omega (arith, low, up))
+      (same.keeps.there a.inc inside.0, omega (arith, inside.1, same.keeps.end a.inc inside.0))
   within-on (a_piece a) inside =
-      let low = inside.2 in
-      let up = same.keeps.end a.inc inside.0 in
-      (same.keeps.there a.inc inside.0, inside.1, omega (arith, low, up))
+      (same.keeps.there a.inc inside.0, inside.1, omega (arith, inside.2, same.keeps.end a.inc inside.0))
 
   of-on : (a : Artefact) → IsOfDatafile w a → IsOfDatafile v a
   of-on (a_log a) of = tt

@@ -11,8 +11,7 @@ use Rattle.rm_machine.specs.LoseDatafile.{without_file}
 use Rattle.rm_machine.specs.Machine.{HistoryFits, IsBorneOut}
 use Rattle.rm_machine.specs.Sound.{IsSound}
 use Rattle.rm_machine.specs.declared.state.State.{State}
-use Rattle.rm_machine.specs.State.{ledger, placed}
-use Rattle.rm_machine.proofs.Kept.{kept-on, stand-same}
+use Rattle.rm_machine.specs.State.{placed}
 use Rattle.rm_machine.proofs.Leading.{LeadsOnBy, StaysBy}
 use Rattle.rm_machine.proofs.Quiet.{quiet-on, quiet-stays}
 
@@ -57,7 +56,7 @@ borne-lost s f h objects made touched is = record {
   state = sound-lost s f is.state;
   keeps = fits-lost s f h is.keeps;
   artefacts = is.artefacts;
-  records = kept-on objects objects made made touched touched (ledger s) (ledger (without_file s f)) (stand-same objects objects touched (ledger s) (ledger (without_file s f)) (λ n. refl)) (λ a has. has) (λ e has. inl has) (λ e has. inl has) is.records;
+  records = record { logs = is.records.logs; pieces = is.records.pieces };
 }
 
 pub lose-on : (f : ℕ) → LeadsOnBy (LoseDatafile f)

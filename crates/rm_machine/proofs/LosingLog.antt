@@ -1,5 +1,5 @@
 -- HOST LOSE LOG leads on: the online log of a thread is lost.
-use Rattle.std.proofs.Common.{◌≡◌, ◌<◌, ◌≤◌, ◌∙◌, ◌==◌, ◌||◌, nat_lt, inl, inr, ℕ, List, None, true, false, cond, refl, ap, sym, subst, arith}
+use Rattle.std.proofs.Common.{◌≡◌, ◌<◌, ◌≤◌, ◌∙◌, ◌==◌, ◌||◌, nat_lt, inl, inr, ℕ, List, None, true, false, cond, ap, sym, subst, arith}
 use Rattle.std.proofs.lemmas.Bool.{cases_Bool, cases_eq, false≢true}
 use Rattle.std.proofs.lemmas.Bool.Decides.{nat_tests}
 use Rattle.rm_base.specs.Store.{Held}
@@ -25,7 +25,6 @@ use Rattle.rm_machine.specs.Sound.{AreOnline, IsOnline, IsSound}
 use Rattle.rm_machine.specs.declared.state.State.{State}
 use Rattle.rm_machine.specs.State.{ledger, tree, current_of, is_lost, online, redo_end}
 use Rattle.rm_machine.proofs.CountedLogs.{AgreeOnline, counted-agree, counted-online, with_logs}
-use Rattle.rm_machine.proofs.Kept.{kept-on, stand-same}
 use Rattle.rm_machine.proofs.Leading.{LeadsOnBy, StaysBy}
 use Rattle.rm_machine.proofs.Mounting.{closed-as_mounted, none-mounted, sound-as_mounted, stands-as_mounted}
 use Rattle.rm_machine.proofs.Quiet.{quiet-on, quiet-stays}
@@ -66,8 +65,7 @@ module _ (s : State) (t : ℕ) (sound : IsSound s) (shut : s.instance.is_open �
   found-before : (u : ℕ) → 0 < u → is_lost after u ≡ false → is_lost before u ≡ false
   found-before u there found = elim (cases_eq u t) [
     | inl same ↦
-        let many = sound.logs.threads in
-        let lost : is_lost after t ≡ true = IsLost-with_loss before t (low, omega (arith, many, high)) in
+        let lost : is_lost after t ≡ true = IsLost-with_loss before t (low, omega (arith, sound.logs.threads, high)) in
         absurd (let e : false ≡ true = sym found ∙ ap (is_lost after) same ∙ lost in cc)
     | inr other ↦ sym (is_lost-with_loss_other before t u low there other) ∙ found
   ]
@@ -112,7 +110,7 @@ module _ (s : State) (t : ℕ) (sound : IsSound s) (shut : s.instance.is_open �
     state = sound-lost;
     keeps = fits-lost h is.keeps;
     artefacts = is.artefacts;
-    records = kept-on objects objects made made touched touched (ledger s) (ledger q) (stand-same objects objects touched (ledger s) (ledger q) (λ n. refl)) (λ a has. has) (λ e has. inl has) (λ e has. inl has) is.records;
+    records = record { logs = is.records.logs; pieces = is.records.pieces };
   }
 
 threads-mounted : (s : State) → (ledger (as_mounted s)).base.threads ≡ (ledger s).base.threads

@@ -55,9 +55,7 @@ ago-test text n h =
 -- SYSDATE-n is longer than SYSDATE
 ago-no_sysdate : (text : List ℕ) (n : ℕ) → IsAgo text n → is_sysdate text ≡ false
 ago-no_sysdate text n h = false_from_ne_true (is_sysdate text) (λ e.
-    let short = length-sysdate text (test-sysdate text e) in
-    let back = ap length (ago-digits text n h) in
-    absurd (omega (arith, short, back, length-drop 7 text)))
+    absurd (omega (arith, length-sysdate text (test-sysdate text e), ap length (ago-digits text n h), length-drop 7 text)))
 
 -- a date and time has a `-` in the place of a letter
 no-letter : (y z : ℕ) (rest : List ℕ) → IsSysdate (two y ++ two z ++ 45 ∷ rest) → ⊥

@@ -26,10 +26,8 @@ ends-within tree j i high is there range within most = elim (cases_lt (end_of tr
   | inl over ↦
       let on = and_parts (is_on_path tree j i) (option_map_or (λ end. _) (segment_end tree j i) true) within in
       let below = path-below tree is.parents i j ((is_on_path-member tree i j).0 on.0) in
-      let up = (owner-below tree is.parents j (end_of tree i) below.0).1 in
       let own : owner tree j (end_of tree i) ≡ i = is_within_alike tree is j i high there within (end_of tree i) over ∙ owner-here tree is.parents i (end_of tree i) there.0 range in
-      let least = below.1 in
-      let same : j ≡ i = omega (arith, up, own, least) in
+      let same : j ≡ i = omega (arith, (owner-below tree is.parents j (end_of tree i) below.0).1, own, below.1) in
       subst (λ k. high ≤ end_of tree k) same most
 ]
 
@@ -64,13 +62,11 @@ module _ (rs : List Record) (f : ℕ) (tag : List ℕ) (s : ℕ) (level1s : List
     merge-keeps copy now x piece was chosen =
         let new = all x chosen.held in
         let meets : Meets tree now x.1 = subst (λ t. Meets t now x.1) same chosen.passes.meets in
-        let up = merged_high tree now x.1 piece new.fits.valid meets in
-        let own = new.high in
         let low = ends-within tree now.inc x.1.inc now.high is new.fits.inc (ranges x.1.inc new.fits.inc) meets.within was.high in
         record {
           file = was.file;
           rows = length-map now.rows (λ (r : Row). greater r (row_at x.1.rows r.block)) ∙ was.rows;
-          high = omega (arith, up, own, low);
+          high = omega (arith, merged_high tree now x.1 piece new.fits.valid meets, new.high, low);
         }
 
     pub reached-keeps : (copy now : Piece) → All (λ y. FitsPiece (nodes rs) y.1) level1s → IsPiece copy → copy.high ≤ end_of tree copy.inc → IsReached rs f tag s level1s copy now → KeepsOn tree copy now

@@ -1,5 +1,5 @@
 -- SHUTDOWN and STARTUP lead on: the mode changes.
-use Rattle.std.proofs.Common.{◌≡◌, ◌<◌, ◌+◌, ◌-◌, ◌∙◌, ◌&&◌, inl, ℕ, zero, suc, List, [], ◌∷◌, Option, Some, None, Bool, true, false, cond, is_none, refl, ap, sym, subst, arith, length, All, get_or, slice_get, slice_index_or}
+use Rattle.std.proofs.Common.{◌≡◌, ◌<◌, ◌+◌, ◌-◌, ◌∙◌, ◌&&◌, ℕ, zero, suc, List, [], ◌∷◌, Option, Some, None, Bool, true, false, cond, is_none, refl, ap, sym, subst, arith, length, All, get_or, slice_get, slice_index_or}
 use Rattle.std.specs.Option.{option_map}
 use Rattle.std.proofs.lemmas.Bool.{false≢true}
 use Rattle.std.proofs.lemmas.List.{length-map}
@@ -18,10 +18,9 @@ use Rattle.rm_machine.specs.Machine.{HistoryFits, RowsAre, IsBorneOut}
 use Rattle.rm_machine.specs.Mount.{as_mounted, first_lost, mount_point, mounted}
 use Rattle.rm_machine.specs.Sound.{IsPlaced, IsPoint, IsSound, StandsAt}
 use Rattle.rm_machine.specs.declared.state.State.{State}
-use Rattle.rm_machine.specs.State.{ledger, world, current_of, now_of, placed, counted}
+use Rattle.rm_machine.specs.State.{world, current_of, now_of, placed, counted}
 use Rattle.rm_statement.specs.declared.command.Command.TheVariants.{Mount}
 use Rattle.rm_base.proofs.Conditions.{given-where, unless}
-use Rattle.rm_machine.proofs.Kept.{kept-on, stand-same}
 use Rattle.rm_machine.proofs.Leading.{LeadsOnBy, StaysBy}
 use Rattle.rm_machine.proofs.Places.{counted-closed, counted-open, placed-map, placed-mapped}
 use Rattle.rm_machine.proofs.Quiet.{quiet-on, quiet-stays}
@@ -71,8 +70,7 @@ module _ (s : State) (sound : IsSound s) (opened : s.instance.is_open ≡ true) 
   low-rows : (k : ℕ) (d : Datafile) (x : File) → slice_get s.catalog.ledger.files k ≡ Some d → slice_get s.instance.place k ≡ Some (Some x) → All (λ r. r.version < now) x.rows
   low-rows k d x file held =
       let is = open-place k d x file held in
-      let high = is.high in
-      λ j e inside. let above = high-above now x.rows (get_or x.rows j e) (Contains-get_or x.rows j e inside) in omega (arith, above, high)
+      λ j e inside. let above = high-above now x.rows (get_or x.rows j e) (Contains-get_or x.rows j e inside) in omega (arith, above, is.high)
 
   stands-there : (k : ℕ) (d : Datafile) → first_lost (world s) i now 1 s.catalog.ledger.files s.instance.place ≡ None → slice_get s.catalog.ledger.files k ≡ Some d → exists (world s) i now d ≡ true → StandsAt q.instance.place i now k
   stands-there k d none file here =
@@ -133,7 +131,7 @@ module _ (s : State) (sound : IsSound s) (opened : s.instance.is_open ≡ true) 
     state = sound-mounted;
     keeps = keeps-mounted h stands.keeps;
     artefacts = stands.artefacts;
-    records = kept-on objects objects made made touched touched (ledger s) (ledger q) (stand-same objects objects touched (ledger s) (ledger q) (λ n. refl)) (λ a has. has) (λ e has. inl has) (λ e has. inl has) stands.records;
+    records = record { logs = stands.records.logs; pieces = stands.records.pieces };
   }
 
 mode-either : (P : State → Type 0) (s : State) (b : Bool) → (b ≡ true → P (mounted s)) → P s → P (cond b (mounted s) s)

@@ -49,11 +49,9 @@ free-to s tag n None p sound can small left gone = none-in (piece_name p.copy p.
 free-to s tag n (Some last) p sound can small left gone = elim (first-or-rest (piece_name true n) [] (piece_name p.copy p.id) gone) [
   | inr none ↦ none-in (piece_name p.copy p.id) none
   | inl same ↦
-      let own = can.id in
       let below = (piece-id-within (ledger s) can.old sound.catalog.ledger can.recorded).1 in
-      let most = sound.catalog.ledger.base.next_id.1 in
-      let id : n ≡ p.id = (piece-name-tells true p.copy n p.id (omega (arith, own, below, most)) small same).1 in
-      let low : p.id < (ledger s).base.next_id = omega (arith, own, below, id) in
+      let id : n ≡ p.id = (piece-name-tells true p.copy n p.id (omega (arith, can.id, below, sound.catalog.ledger.base.next_id.1)) small same).1 in
+      let low : p.id < (ledger s).base.next_id = omega (arith, can.id, below, id) in
       (left-to s tag n last p (left low) low).1 (sym id)
 ]
 
@@ -87,8 +85,7 @@ old-free xs s tag sound can _ (of_log e has) gone = let copy = of-copy xs _ gone
 old-free xs s tag sound can _ (of_piece p has) gone =
     let rules = (renewals-sound xs s tag sound can).catalog.ledger in
     let below = (piece-id-within (ledger (after_copies s tag xs)) p rules has).1 in
-    let most = rules.base.next_id.1 in
-    free xs s tag p sound can (omega (arith, below, most)) has gone
+    free xs s tag p sound can (omega (arith, below, rules.base.next_id.1)) has gone
 
 pub old-no-part : (xs : List (ℕ × Renewed)) (id : ℕ) → ¬ Contains (copies_gone xs) (site_name id)
 old-no-part xs id gone = let copy = of-copy xs (site_name id) gone in piece-no-site true copy.0 id copy.1

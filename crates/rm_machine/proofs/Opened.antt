@@ -44,9 +44,8 @@ pub kept-rows : (s : State) (at : ℕ) (h : List Change) → IsSound s → Histo
 kept-rows s at h sound keeps here f x is =
     let place = kept_in_place (world s) (current_of s) at (ledger s).files s.instance.place in
     let slot = get-index place (f - 1) x is in
-    let inside = slice_get_within place (f - 1) (Some x) slot in
     let many = kept-length (world s) (current_of s) at (ledger s).files s.instance.place sound.place.many in
-    let d = item-at (ledger s).files (f - 1) (omega (arith, inside, many)) in
+    let d = item-at (ledger s).files (f - 1) (omega (arith, slice_get_within place (f - 1) (Some x) slot, many)) in
     let kept = kept-get (world s) (current_of s) at (ledger s).files s.instance.place (f - 1) d.0 x d.1 slot in
     keeps.point at here (f - 1) d.0 x d.1 kept.0 kept.1
 

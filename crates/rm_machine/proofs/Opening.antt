@@ -1,5 +1,5 @@
 -- OPEN leads on: the mode changes, and datafiles go out of place.
-use Rattle.std.proofs.Common.{◌≡◌, ◌-◌, ◌==◌, ◌&&◌, not, inl, ℕ, zero, suc, List, [], ◌∷◌, Option, Some, None, Bool, true, false, refl, ap, sym, subst, arith, slice_get}
+use Rattle.std.proofs.Common.{◌≡◌, ◌-◌, ◌==◌, ◌&&◌, not, ℕ, zero, suc, List, [], ◌∷◌, Option, Some, None, Bool, true, false, refl, ap, sym, subst, arith, slice_get}
 use Rattle.std.specs.List.{list_any}
 use Rattle.std.specs.Option.{option_map_or}
 use Rattle.std.proofs.lemmas.Bool.{and_parts, eqb-true, or_parts}
@@ -16,11 +16,10 @@ use Rattle.rm_machine.specs.Marks.{ids_refusal}
 use Rattle.rm_machine.specs.Open.{is_recovered, open_refusal, opened}
 use Rattle.rm_machine.specs.Sound.{IsPlaced, IsSound}
 use Rattle.rm_machine.specs.declared.state.State.{State}
-use Rattle.rm_machine.specs.State.{ledger, world, current_of, now_of, placed, counted, is_lost}
+use Rattle.rm_machine.specs.State.{world, current_of, now_of, placed, counted, is_lost}
 use Rattle.rm_statement.specs.declared.command.Command.TheVariants.{OpenPlain}
 use Rattle.rm_machine.proofs.Opened.{below-point, kept-get, kept-length, kept-rows, placed-standing, rows-agree}
 use Rattle.rm_base.proofs.Conditions.{only-where, unless}
-use Rattle.rm_machine.proofs.Kept.{kept-on, stand-same}
 use Rattle.rm_machine.proofs.Leading.{LeadsOnBy, StaysBy}
 use Rattle.rm_machine.proofs.Places.{counted-closed, counted-open}
 use Rattle.rm_machine.proofs.Quiet.{quiet-on, quiet-stays}
@@ -73,10 +72,9 @@ module _ (s : State) (sound : IsSound s) (can : CanOpen s) where
       let kept = kept-get (world s) i now s.catalog.ledger.files s.instance.place k d x file held in
       let was = subst (IsPlaced s.catalog.ledger.tree k d) (counted-closed s x can.shut) (sound.place.each k d x file kept.1) in
       let range = sound.catalog.ledger.incarnations.ranges i sound.catalog.ledger.current in
-      let first = range.0 in
       let mid = range.1 in
       subst (IsPlaced s.catalog.ledger.tree k d) (sym (counted-open q x refl))
-      (placed-standing s.catalog.ledger.tree s.catalog.ledger.tree k i now d x was sound.catalog.ledger.current (omega (arith, first, mid)) (omega arith) (below-point s now k d x (sound.point now can.point) file kept.0 kept.1))
+      (placed-standing s.catalog.ledger.tree s.catalog.ledger.tree k i now d x was sound.catalog.ledger.current (omega (arith, range.0, mid)) (omega arith) (below-point s now k d x (sound.point now can.point) file kept.0 kept.1))
 
   sound-opened : IsSound q
   sound-opened = record {
@@ -107,7 +105,7 @@ module _ (s : State) (sound : IsSound s) (can : CanOpen s) where
     state = sound-opened;
     keeps = keeps-opened h stands.keeps;
     artefacts = stands.artefacts;
-    records = kept-on objects objects made made touched touched (ledger s) (ledger q) (stand-same objects objects touched (ledger s) (ledger q) (λ n. refl)) (λ a has. has) (λ e has. inl has) (λ e has. inl has) stands.records;
+    records = record { logs = stands.records.logs; pieces = stands.records.pieces };
   }
 
 pub open-on : LeadsOnBy OpenPlain

@@ -35,8 +35,7 @@ within-end ns is i j high there range most within = elim (cases_lt (reset_of ns 
       let member = path-below ns is.parents i j ((is_on_path-member ns i j).0 on) in
       let here = owner-here ns is.parents i (reset_of ns i) there.0 (omega arith) in
       let below = (owner-below ns is.parents j (reset_of ns i) member.0).1 in
-      let alike = is_within_alike ns is j i high there within (reset_of ns i) over in
-      let same : j ≡ i = omega (arith, here, below, alike, member.1) in
+      let same : j ≡ i = omega (arith, here, below, is_within_alike ns is j i high there within (reset_of ns i) over, member.1) in
       subst (λ k. high ≤ end_of ns k) same most
 ]
 
@@ -64,8 +63,7 @@ module _ (s : State) (sound : IsSound s) where
       let is = subst IsTree (tree-told s.catalog) (is-tree rs (repository-valid s.catalog sound.catalog) (database-told s.catalog)) in
       let range = (sound.catalog.ledger.incarnations.ranges (current_of s) there).1 in
       let most = within-end (tree s) is (current_of s) p.inc p.high there range fits.high (subst (λ (ns : List Incarnation). is_within ns p.inc (current_of s) p.high ≡ true) (tree-told s.catalog) on.within) in
-      let up = fits.checkpoint.1 in
-      (fits.checkpoint.0, omega (arith, up, most))
+      (fits.checkpoint.0, omega (arith, fits.checkpoint.1, most))
 
   -- a parent is one: whether a copy with the tag is there need not be decided
   parent-within : (f : ℕ) (cumulative : Bool) (tag : Option (List ℕ)) (o : Option PieceEntry) → (HasCopy (records_of s.catalog) f tag → IsLast (records_of s.catalog) f cumulative tag o) → (¬ HasCopy (records_of s.catalog) f tag → o ≡ None)

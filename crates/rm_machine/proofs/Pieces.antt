@@ -20,13 +20,14 @@ use Rattle.rm_repository.specs.Changes.{with_new_piece}
 use Rattle.rm_repository.specs.Fitting.{FitsNewPiece}
 use Rattle.rm_repository.proofs.Fitted.{many, new_piece_fits}
 use Rattle.rm_machine.specs.Effect.{Made, a_piece}
-use Rattle.rm_machine.specs.Machine.{HasPieceArtefact, HistoryFits, IsBorneOut, IsTrueArtefact}
+use Rattle.rm_machine.specs.Machine.{HasPieceArtefact, IsBorneOut, IsTrueArtefact}
 use Rattle.rm_machine.specs.Names.{IsObjectName, of_log, of_piece}
 use Rattle.rm_machine.specs.Sound.{IsSound}
 use Rattle.rm_machine.specs.declared.state.State.{State}
 use Rattle.rm_machine.specs.State.{ledger, world}
 use Rattle.rm_machine.proofs.Archives.{with_puts}
 use Rattle.rm_machine.proofs.Kept.{StandOn, kept-on}
+use Rattle.rm_machine.proofs.Later.{fits-with, sound-with}
 
 -- the state with this record more, for which an id was drawn
 abbrev pub with_recorded : State → PieceEntry → State
@@ -41,8 +42,7 @@ fresh-name : (l : Ledger) (copy : Bool) (name : List ℕ) → IsLedger l → IsO
 fresh-name l copy name is (of_log e has) same = absurd (log-no-piece e.id copy l.base.next_id same)
 fresh-name l copy name is (of_piece e has) same =
     let below = (piece-id-within l e is has).1 in
-    let most = is.base.next_id.1 in
-    let id : e.id ≡ l.base.next_id = (piece-name-tells e.copy copy e.id l.base.next_id (omega (arith, below, most)) (omega (arith, most)) same).1 in
+    let id : e.id ≡ l.base.next_id = (piece-name-tells e.copy copy e.id l.base.next_id (omega (arith, below, is.base.next_id.1)) (omega (arith, is.base.next_id.1)) same).1 in
     absurd (omega (arith, below, id))
 
 put-there : (objects : Held) (x : Object) → with_puts (x ∷ []) objects x.name ≡ Some x.bytes
@@ -61,10 +61,7 @@ stand-fresh objects touched l l' copy a is name bytes names again (inr stands) =
 -- one record more
 pub count-recorded : (s : State) (e : PieceEntry) → length (records_of (ledger (with_recorded s e))) ≡ length (records_of (ledger s)) + 1
 count-recorded s e =
-    let old = many (ledger s) in
-    let new = many (ledger (with_recorded s e)) in
-    let pieces = length-append s.catalog.ledger.pieces (e ∷ []) in
-    omega (arith, old, new, pieces)
+    omega (arith, many (ledger s), many (ledger (with_recorded s e)), length-append s.catalog.ledger.pieces (e ∷ []))
 
 module _ (s : State) (e : PieceEntry) (sound : IsSound s) (fits : FitsNewPiece s.catalog e) where
   abbrev l : Ledger
@@ -74,17 +71,7 @@ module _ (s : State) (e : PieceEntry) (sound : IsSound s) (fits : FitsNewPiece s
   q = with_recorded s e
 
   pub sound-recorded : IsSound q
-  sound-recorded = record {
-    catalog = new_piece_fits s.catalog e sound.catalog fits;
-    dbid = sound.dbid;
-    place = record { many = sound.place.many; each = sound.place.each };
-    logs = record { dbid = sound.logs.dbid; there = sound.logs.there; threads = sound.logs.threads; each = sound.logs.each };
-    in_open = λ opened. let was = sound.in_open opened in record { inc = was.inc; found = was.found; point = was.point };
-    point = λ at here. let was = sound.point at here in record { low = was.low; high = was.high; stands = was.stands };
-  }
-
-  fits-recorded : (h : List Change) → HistoryFits s h → HistoryFits q h
-  fits-recorded h keeps = record { history = keeps.history; below = keeps.below; online = keeps.online; place = keeps.place; in_open = keeps.in_open; point = keeps.point }
+  sound-recorded = sound-with s q.catalog (new_piece_fits s.catalog e sound.catalog fits) sound
 
   -- the piece agrees with the history, its record has its fields, size and digest
   pub borne-recorded : (h : List Change) (objects : Held) (made : List Made) (touched : List (List ℕ)) (a : Piece) → HasPieceFields e a → HasDigest (spelling a) e.size e.sha → IsTrueArtefact (world s) h (a_piece a)
@@ -95,7 +82,7 @@ module _ (s : State) (e : PieceEntry) (sound : IsSound s) (fits : FitsNewPiece s
       let more : List Made = made ++ new l.base.next_id ∷ [] in
       record {
         state = sound-recorded;
-        keeps = fits-recorded h stands.keeps;
+        keeps = fits-with s q.catalog sound-recorded.catalog h stands.keeps;
         artefacts = λ x has. elim (Contains-push_cases made (new l.base.next_id) x has) [
           | inl old ↦ stands.artefacts x old
           | inr same ↦ subst (λ (y : Made). IsTrueArtefact (world s) h y.artefact) same agrees

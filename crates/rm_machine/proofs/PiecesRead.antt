@@ -11,12 +11,10 @@ use Rattle.rm_base.proofs.Lists.{filter_from}
 use Rattle.rm_base.proofs.Sealing.{length-sealed}
 use Rattle.rm_base.proofs.Slots.{all-get}
 use Rattle.rm_blocks.specs.File.{IsInOrder}
-use Rattle.rm_catalog.specs.declared.record.PieceEntry.{PieceEntry}
 use Rattle.rm_catalog.specs.Objects.{FitsKind as FitsEntry, FitsRows, IsTag}
 use Rattle.rm_history.specs.Agrees.{BaseAgrees}
 use Rattle.rm_history.specs.Artefacts.{high_of}
 use Rattle.rm_history.specs.declared.world.Datafile.{Datafile}
-use Rattle.rm_history.specs.declared.world.World.{World}
 use Rattle.rm_history.specs.Tree.{owner}
 use Rattle.rm_history.specs.World.{blocks_of, exists}
 use Rattle.rm_history.proofs.Highs.{high-bound, high-least}
@@ -38,6 +36,7 @@ use Rattle.rm_machine.specs.declared.job.Job.{Job}
 use Rattle.rm_machine.specs.declared.state.State.{State}
 use Rattle.rm_machine.specs.State.{ledger, tree, world, current_of, now_of}
 use Rattle.rm_machine.proofs.Numbers.{blocks-at}
+use Rattle.rm_base.specs.declared.kinds.Kind.{Kind}
 
 -- a row that was read up to now
 pub record IsFound (t : State) (r : Row) : Type 0 where
@@ -65,31 +64,14 @@ BeginsBelow checkpoint (Some from) = (1 ≤ from) × (from ≤ checkpoint)
 
 -- What a full backup and one of level 0 have in common
 
-fits-by : (k : Bool) (q : Piece) → q.from ≡ 0 → length q.rows ≡ q.blocks → FitsKind (cond k Full Level0) q
-fits-by true q from rows = (from, rows)
-fits-by false q from rows = (from, rows)
-
-rows-by : (k : Bool) (n m : ℕ) → n ≡ m → FitsRows (cond k Full Level0) n m
-rows-by true n m is = is
-rows-by false n m is = is
-
-entry-by : (k : Bool) (p : PieceEntry) → p.from ≡ 0 → FitsEntry (cond k Full Level0) p
-entry-by true p is = is
-entry-by false p is = is
-
-agrees-by : (k : Bool) (w : World) (h : List Change) (a : Piece) → BaseAgrees w h (piece.base_of a) → PieceAgrees w h (cond k Full Level0) a
-agrees-by true w h a is = is
-agrees-by false w h a is = is
-
-whole-by : (k : Bool) → cond k Full Level0 ≢ Level1
-whole-by true is = absurd (cc)
-whole-by false is = absurd (cc)
+whole-by : (P : Kind → Type 0) (k : Bool) → P Full → P Level0 → P (cond k Full Level0)
+whole-by P true full level0 = full
+whole-by P false full level0 = level0
 
 ascends : (rows : List Row) → IsInOrder rows → AllPairs IsBefore rows
 ascends rows order i j d less inside =
     let first = order i (slice_index_or rows i d) (slice_get-get_or rows i d (omega (arith, less, inside))) in
-    let second = order j (slice_index_or rows j d) (slice_get-get_or rows j d inside) in
-    omega (arith, first, second, less)
+    omega (arith, first, order j (slice_index_or rows j d) (slice_get-get_or rows j d inside), less)
 
 module _ (t : State) (b : BackupForm) (f checkpoint : ℕ) (rows : List Row) (sound : IsSound t) (are : AreRead t f rows) (at : IsCheckpoint t checkpoint) where
   abbrev job : Option ℕ → Job
@@ -106,29 +88,21 @@ module _ (t : State) (b : BackupForm) (f checkpoint : ℕ) (rows : List Row) (so
       let r : Row = slice_index_or rows m d in
       let number : r.block ≡ m = are.order m r (slice_get-get_or rows m d inside) in
       let found : IsFound t r = are.each m d inside in
-      let version = found.row.version in
-      let below = found.below in
       let last = (sound.catalog.ledger.incarnations.ranges (current_of t) sound.catalog.ledger.current).2 in
-      record { block = omega (arith, number, inside); version = (version, omega (arith, below, last)); from = omega arith; content = found.row.content }
+      record { block = omega (arith, number, inside); version = (found.row.version, omega (arith, found.below, last)); from = omega arith; content = found.row.content }
 
   whole-valid : IsPiece (of None)
   whole-valid =
       let within = slice_get_within (ledger t).files (f - 1) are.datafile are.is in
-      let few = sound.catalog.ledger.datafiles.few in
-      let blocks = created.blocks in
-      let many = are.many in
       let there = sound.catalog.ledger.current in
-      let incs = sound.catalog.ledger.incarnations.few in
       let range = sound.catalog.ledger.incarnations.ranges (current_of t) there in
-      let last = range.2 in
-      let most = at.most in
       record {
         dbid = (sound.catalog.ledger.base.dbid, sound.dbid);
-        inc = (omega (arith, there.0), omega (arith, there.1, incs));
-        file = (omega (arith, are.some), omega (arith, within, few));
-        blocks = (omega (arith, many, blocks.0), omega (arith, many, blocks.1));
-        checkpoint = (at.some, omega (arith, most, last));
-        kind = fits-by (is_none b.level) (of None) refl refl;
+        inc = (omega (arith, there.0), omega (arith, there.1, sound.catalog.ledger.incarnations.few));
+        file = (omega (arith, are.some), omega (arith, within, sound.catalog.ledger.datafiles.few));
+        blocks = (omega (arith, are.many, created.blocks.0), omega (arith, are.many, created.blocks.1));
+        checkpoint = (at.some, omega (arith, at.most, range.2));
+        kind = whole-by (λ k. FitsKind k (of None)) (is_none b.level) (refl, refl) (refl, refl);
         ascend = ascends rows are.order;
         rows = row-is;
         high = refl;
@@ -151,24 +125,20 @@ module _ (t : State) (b : BackupForm) (f checkpoint : ℕ) (rows : List Row) (so
 
   high-most : (from : Option ℕ) → high_of checkpoint (rows_from from rows) ≤ now_of t
   high-most from = high-bound checkpoint (now_of t) (rows_from from rows) at.most (λ r has.
-      let below = (All-contains (IsFound t) rows r are.each (found-in from r has)).below in
-      omega (arith, below))
+      omega (arith, (All-contains (IsFound t) rows r are.each (found-in from r has)).below))
 
   rows-fit : (from : Option ℕ) → FitsRows (kind_by b from) (length (rows_from from rows)) are.datafile.blocks
-  rows-fit None = rows-by (is_none b.level) (length rows) are.datafile.blocks are.many
+  rows-fit None = whole-by (λ k. FitsRows k (length rows) are.datafile.blocks) (is_none b.level) are.many are.many
   rows-fit (Some from) = let few = few-rows (Some from) in let many = are.many in omega (arith, few, many)
 
   kind-fits : (tag : List ℕ) (from : Option ℕ) → BeginsBelow checkpoint from → FitsEntry (kind_by b from) (entry_for t b tag (is_copy b (job from)) (of from))
-  kind-fits tag None begins = entry-by (is_none b.level) (entry_for t b tag (is_copy b (job None)) (of None)) refl
+  kind-fits tag None begins = whole-by (λ k. FitsEntry k (entry_for t b tag (is_copy b (job None)) (of None))) (is_none b.level) refl refl
   kind-fits tag (Some from) begins = (refl, begins.0, begins.1)
 
   pub entry-is : (tag : List ℕ) → IsTag tag → (from : Option ℕ) → BeginsBelow checkpoint from → IsPieceEntry (tree t) (ledger t).files (entry_for t b tag (is_copy b (job from)) (of from))
   entry-is tag tagged from begins =
       let parts = and_parts (nat_lt are.datafile.creation (now_of t)) (owner (tree t) (current_of t) are.datafile.creation == are.datafile.inc) are.here in
       let body = length-body (of from) (fits (of from) (piece-valid from begins)) in
-      let all = length-sealed (body_of (of from)) in
-      let few = whole-valid.blocks.1 in
-      let fewer = few-rows from in
       record {
         there = sound.catalog.ledger.current;
         file = record {
@@ -182,7 +152,7 @@ module _ (t : State) (b : BackupForm) (f checkpoint : ℕ) (rows : List Row) (so
         high = high-most from;
         kind = kind-fits tag from begins;
         tag = tagged;
-        size = omega (arith, body, all, few, fewer);
+        size = omega (arith, body, length-sealed (body_of (of from)), whole-valid.blocks.1, few-rows from);
       }
 
   blocks-are : blocks_of (world t) f ≡ length rows
@@ -191,16 +161,14 @@ module _ (t : State) (b : BackupForm) (f checkpoint : ℕ) (rows : List Row) (so
       subst (λ n. blocks_of (world t) n ≡ are.datafile.blocks) number (blocks-at (world t) (f - 1) are.datafile are.is) ∙ sym are.many
 
   piece-agrees : (h : List Change) → BaseAgrees (world t) h (piece.base_of (of None)) → (from : Option ℕ) → PieceAgrees (world t) h (kind_by b from) (of from)
-  piece-agrees h agrees None = agrees-by (is_none b.level) (world t) h (of None) agrees
-  piece-agrees h agrees (Some from) = copy_picked (world t) h (of None) from whole-valid (whole-by (is_none b.level)) blocks-are agrees
+  piece-agrees h agrees None = whole-by (λ k. PieceAgrees (world t) h k (of None)) (is_none b.level) agrees agrees
+  piece-agrees h agrees (Some from) = copy_picked (world t) h (of None) from whole-valid (whole-by (λ k. k ≢ Level1) (is_none b.level) (λ is. absurd (cc)) (λ is. absurd (cc))) blocks-are agrees
 
   pub piece-true : (h : List Change) → BaseAgrees (world t) h (piece.base_of (of None)) → (from : Option ℕ) → BeginsBelow checkpoint from → IsTrueArtefact (world t) h (a_piece (of from))
   piece-true h agrees from begins =
-      let within = slice_get_within (ledger t).files (f - 1) are.datafile are.is in
-      let some = are.some in
       record {
         agrees = piece-agrees h agrees from;
         valid = piece-valid from begins;
         within = (sound.catalog.ledger.current, high-least checkpoint (rows_from from rows), high-most from);
-        of = omega (arith, within, some);
+        of = omega (arith, slice_get_within (ledger t).files (f - 1) are.datafile are.is, are.some);
       }

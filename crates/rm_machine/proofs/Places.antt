@@ -33,9 +33,7 @@ as-placed s k d x is = elim (cases_Bool s.instance.is_open) [
 pub placed-is : (s : State) (k : ℕ) (x : File) → ArePlaced s → slice_index_or s.instance.place k None ≡ Some x → IsInPlace k x
 placed-is s k x are is =
     let at = get-index s.instance.place k x is in
-    let inside = slice_get_within s.instance.place k (Some x) at in
-    let many = are.many in
-    let file = item-at s.catalog.ledger.files k (omega (arith, inside, many)) in
+    let file = item-at s.catalog.ledger.files k (omega (arith, slice_get_within s.instance.place k (Some x) at, are.many)) in
     as-placed s k file.0 x (are.each k file.0 x file.1 at)
 
 -- what stands in place after each that stood there was changed

@@ -45,9 +45,8 @@ set-before (o ∷ os) (suc j) (suc k) x less = set-before os j k x (omega arith)
 over-below : (xs : List File) (place : List (Option File)) (k : ℕ) → ((n : ℕ) → Contains (map number xs) n → suc k < n) → slice_get (put_over xs place) k ≡ slice_get place k
 over-below [] place k above = refl
 over-below (x ∷ xs) place k above =
-    let first = above x.file (in-front x.file (map number xs)) in
     over-below xs (slice_set place (x.file - 1) (Some x)) k (λ n has. above n (behind x.file (map number xs) n has))
-    ∙ set-before place (x.file - 1) k x (omega (arith, first))
+    ∙ set-before place (x.file - 1) k x (omega (arith, above x.file (in-front x.file (map number xs))))
 
 -- where they ascend, the one of a number stands at its place
 pub over-at : (xs : List File) (place : List (Option File)) (k : ℕ) → AllPairs (λ (a b : ℕ). a < b) (map number xs) → Contains (map number xs) (suc k) → k < length place

@@ -42,9 +42,7 @@ module _ (b : BackupForm) (tag : List ℕ) where
   -- the first of them fits
   pub next-fits : (s : State) (x : Copied) (xs : List Copied) → CanRecord s b tag (x ∷ xs) → FitsNewPiece s.catalog (entry_for s b tag x.copy x.piece)
   next-fits s x xs can =
-      let room = can.records in
-      let left = can.ids in
-      record { piece = All-head (IsEntry s) x xs can.entries; id = refl; last = omega (arith, left); room = omega (arith, room) }
+      record { piece = All-head (IsEntry s) x xs can.entries; id = refl; last = omega (arith, can.ids); room = omega (arith, can.records) }
 
   pub next-sound : (s : State) (x : Copied) (xs : List Copied) → IsSound s → CanRecord s b tag (x ∷ xs) → IsSound (next s x)
   next-sound s x xs sound can = sound-recorded s (entry_for s b tag x.copy x.piece) sound (next-fits s x xs can)
@@ -65,14 +63,11 @@ module _ (b : BackupForm) (tag : List ℕ) where
 
   pub can-next : (s : State) (x : Copied) (xs : List Copied) → CanRecord s b tag (x ∷ xs) → CanRecord (next s x) b tag xs
   can-next s x xs can =
-      let more = count-recorded s (entry_for s b tag x.copy x.piece) in
-      let room = can.records in
-      let left = can.ids in
       record {
         valid = All-tail (λ (y : Copied). IsPiece y.piece) x xs can.valid;
         entries = All-weaker (IsEntry s) (IsEntry (next s x)) (entry-next s x) xs (All-tail (IsEntry s) x xs can.entries);
-        records = omega (arith, more, room);
-        ids = omega (arith, left);
+        records = omega (arith, count-recorded s (entry_for s b tag x.copy x.piece), can.records);
+        ids = omega (arith, can.ids);
       }
 
   pub pieces-sound : (xs : List Copied) (s : State) → IsSound s → CanRecord s b tag xs → IsSound (after_pieces s b tag xs)

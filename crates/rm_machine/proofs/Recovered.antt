@@ -128,12 +128,11 @@ test-by : (o : Option ℕ) (i : ℕ) (s : State) (h : List Change) (objects : He
 test-by None i s h objects made touched lines borne tell does = does
 test-by (Some at) i s h objects made touched lines borne tell (inl found) = absurd (let clash = found.is in cc)
 test-by (Some at) i s h objects made touched lines borne tell (inr all) =
-    let evidence = all.tells.evidence in
-    let agrees = evidence-agrees s h objects made touched borne tell evidence all.tells.is.at_hand in
+    let agrees = evidence-agrees s h objects made touched borne tell all.tells.evidence all.tells.is.at_hand in
     record {
       skipped = all.back.skipped;
       files = all.back.files;
-      made = files-made (world s) (known_of evidence) i at h borne.keeps.history agrees all.back.files (tells-files s (Some objects) i at all.back all.tells);
+      made = files-made (world s) (known_of all.tells.evidence) i at h borne.keeps.history agrees all.back.files (tells-files s (Some objects) i at all.back all.tells);
       are = (let one = all.is in cc);
     }
 

@@ -99,9 +99,7 @@ module _ (s : State) (e : Evidence) (at : ℕ) (files : List File) (sound : IsSo
     | inr old ↦ inl old
     | inl new ↦
         let target = (told.numbers.exact x.file).0 (map_to number files x new.0) in
-        let above = (file-place (world s) x.file target.datafile target.is).number in
-        let at_place = new.1 in
-        inr (member-back k d x file new.0 (omega (arith, above, at_place)))
+        inr (member-back k d x file new.0 (omega (arith, (file-place (world s) x.file target.datafile target.is).number, new.1)))
   ]
 
   -- each datafile of the target came back
@@ -110,10 +108,8 @@ module _ (s : State) (e : Evidence) (at : ℕ) (files : List File) (sound : IsSo
       let target : IsFileTarget (world s) (current_of s) at (1 + k) = record { there = sound.catalog.ledger.current; datafile = d; is = file-at (world s) k d file; exists = here } in
       let has : Contains (map number files) (suc k) = subst (Contains (map number files)) (let one : 1 + k ≡ suc k = omega arith in one) ((told.numbers.exact (1 + k)).1 target) in
       let inside = slice_get_within (ledger s).files k d file in
-      let many = sound.place.many in
-      let new = over-at files s.instance.place k told.numbers.ascends has (omega (arith, inside, many)) in
-      let number_is = new.2 in
-      (new.0, member-back k d new.0 file new.1 (omega (arith, number_is)), new.3)
+      let new = over-at files s.instance.place k told.numbers.ascends has (omega (arith, inside, sound.place.many)) in
+      (new.0, member-back k d new.0 file new.1 (omega (arith, new.2)), new.3)
 
   module _ (k : ℕ) (d : Datafile) (x : File) (file : slice_get (ledger s).files k ≡ Some d) (back : CameBack s (known_of e) at k d x) where
     -- its versions are those of changes below the target
@@ -129,19 +125,13 @@ module _ (s : State) (e : Evidence) (at : ℕ) (files : List File) (sound : IsSo
         let seen : Seen w (known_of e) (1 + k) b d.inc d.creation zero_block = by_creation d (file-at w k d file) in
         let least = (back.told.rows b r row).1.greatest.most d.creation zero_block below (subst (λ m. Seen w (known_of e) (1 + k) b m d.creation zero_block) (sym own) seen) in
         let made = all-get (IsCreated (tree s)) (ledger s).files k d file sound.catalog.ledger.datafiles.each in
-        let reset = made.creation.0 in
-        let first = (sound.catalog.ledger.incarnations.ranges d.inc made.there).0 in
-        omega (arith, least, reset, first)
+        omega (arith, least, made.creation.0, (sound.catalog.ledger.incarnations.ranges d.inc made.there).0)
 
     told-placed : IsPlaced (tree s) k d x
     told-placed =
-        let number_is = back.told.file in
-        let stood = back.told.checkpoint in
-        let low = can.low in
-        let high = can.high in
         let first = (sound.catalog.ledger.incarnations.ranges (current_of s) sound.catalog.ledger.current).0 in
         record {
-          file = omega (arith, number_is);
+          file = omega (arith, back.told.file);
           blocks = back.told.blocks ∙ blocks-at (world s) k d file;
           order = λ b r row. (back.told.rows b r row).0;
           rows = each-get IsPlacedRow x.rows (λ b r row. record {
@@ -149,12 +139,11 @@ module _ (s : State) (e : Evidence) (at : ℕ) (files : List File) (sound : IsSo
             content = seen-content (tree s) e fits (world s) (1 + k) b _ r.version r.content (back.told.rows b r row).1.seen;
           });
           there = subst (IsThere (tree s)) (sym back.told.inc) sound.catalog.ledger.current;
-          checkpoint = omega (arith, stood, low, first);
+          checkpoint = omega (arith, back.told.checkpoint, can.low, first);
           high = subst (λ j. high_of x.checkpoint x.rows ≤ end_of (tree s) j) (sym back.told.inc)
-              (high-bound x.checkpoint (now_of s) x.rows (omega (arith, stood, high)) (λ r has.
+              (high-bound x.checkpoint (now_of s) x.rows (omega (arith, back.told.checkpoint, can.high)) (λ r has.
               let row = at-place x.rows r has in
-              let less = version-below row.0 r row.1 in
-              omega (arith, less, high)));
+              omega (arith, version-below row.0 r row.1, can.high)));
         }
 
   pub sound-recovered : IsSound (recovered s at files)

@@ -1,6 +1,6 @@
 -- RECOVER COPY leads on: what is at hand makes of a copy one that can be recorded, and that agrees with the history.
 use Rattle.std.proofs.Common.{◌≡◌, ◌≢◌, ◌<◌, ◌≤◌, ◌-◌, ◌+◌, ◌∙◌, ◌++◌, ℕ, List, Option, Some, None, Bool, true, false, refl, ap, sym, subst, arith, get_or, length, slice_get, sum_by, All, AllPairs, Contains}
-use Rattle.std.proofs.lemmas.List.{append-nil, get_or-map, length-map}
+use Rattle.std.proofs.lemmas.List.{get_or-map, length-map}
 use Rattle.std.proofs.lemmas.List.Elements.{All-contains, Contains-get_or}
 use Rattle.std.proofs.lemmas.Option.{same_Some, slice_get_within}
 use Rattle.rm_base.specs.Store.{Held}
@@ -20,7 +20,7 @@ use Rattle.rm_backup.proofs.AtHand.{copy_at_hand}
 use Rattle.rm_backup.proofs.Chained.{reached_agrees, reached_valid}
 use Rattle.rm_catalog.specs.declared.record.PieceEntry.{PieceEntry}
 use Rattle.rm_catalog.specs.declared.record.Record.{Record}
-use Rattle.rm_catalog.specs.Objects.{FitsKind, FitsRows, IsTag}
+use Rattle.rm_catalog.specs.Objects.{FitsKind, IsTag}
 use Rattle.rm_catalog.specs.Rules.{IsCatalog}
 use Rattle.rm_catalog.specs.Trees.{nodes}
 use Rattle.rm_evidence.specs.declared.evidence.Evidence.{Evidence}
@@ -67,6 +67,8 @@ use Rattle.rm_machine.proofs.Records.{database-told, pieces-told, tree-told}
 use Rattle.rm_machine.proofs.Renewing.{CanRenew, CanRenewAll, CanRenewTo, IsTrueTo, renewals-borne, renewals-next, renewals-saved, renewals-sound}
 use Rattle.rm_machine.proofs.Standing.{each-in}
 use Rattle.rm_machine.proofs.Switching.{not-above}
+use Rattle.rm_machine.proofs.Quiet.{unchanged}
+use Rattle.rm_machine.proofs.Restoring.{entry-rows}
 
 -- an image copy is no level 1
 copy-kind : (k : Kind) (p : PieceEntry) → FitsKind k p → p.copy ≡ true → k ≢ Level1
@@ -74,13 +76,6 @@ copy-kind Level1 p is copy same = let clash : false ≡ true = sym is.0 ∙ copy
 copy-kind Full p is copy same = absurd (cc)
 copy-kind Level0 p is copy same = absurd (cc)
 copy-kind Place p is copy same = absurd is
-
--- and so it has all blocks
-all-rows : (k : Kind) (n m : ℕ) → k ≢ Level1 → FitsRows k n m → n ≡ m
-all-rows Level1 n m not is = absurd (not refl)
-all-rows Full n m not is = is
-all-rows Level0 n m not is = is
-all-rows Place n m not is = is
 
 module _ (s : State) (held : Held) (sound : IsSound s) (e : Evidence) (at_hand : IsAtHand s held e) where
   abbrev rs : List Record
@@ -160,9 +155,6 @@ module _ (s : State) (held : Held) (sound : IsSound s) (e : Evidence) (at_hand :
         let own = rule-of last-level1.entry last-level1.recorded in
         let inc = last-level1.has.object.fields.inc in
         let d : Datafile = first.file.datafile in
-        let body = length-body a (fits-piece a valid) in
-        let whole = length-sealed (body_of a) in
-        let few = few_rows a valid in
         record {
           there = subst (IsThere (tree s)) (sym inc) own.there;
           file = record {
@@ -170,13 +162,13 @@ module _ (s : State) (held : Held) (sound : IsSound s) (e : Evidence) (at_hand :
             datafile = d;
             is = subst (λ k. slice_get (ledger s).files (k - 1) ≡ Some d) (sym file-is) first.file.is;
             path = ap (λ i. owner (tree s) i d.creation) inc ∙ subst (λ (x : Datafile). owner (tree s) last-level1.entry.inc x.creation ≡ x.inc) one-datafile own.file.path;
-            rows = keeps.rows ∙ from.has.object.fields.rows ∙ all-rows from.entry.kind from.entry.rows d.blocks kind first.file.rows;
+            rows = keeps.rows ∙ from.has.object.fields.rows ∙ entry-rows from.entry.kind from.entry.rows d.blocks kind first.file.rows;
           };
           checkpoint = (valid.checkpoint.0, high-least a.checkpoint a.rows);
           high = keeps.high;
           kind = refl;
           tag = subst IsTag from.tagged first.tag;
-          size = omega (arith, body, whole, few);
+          size = omega (arith, length-body a (fits-piece a valid), length-sealed (body_of a), few_rows a valid);
         }
 
     can-renew : CanRenew s tag n last
@@ -186,15 +178,13 @@ module _ (s : State) (held : Held) (sound : IsSound s) (e : Evidence) (at_hand :
     merged-true h made touched borne tells =
         let a : Piece = merged ends.before ends.level1.1 in
         let entry = merged-entry false 0 0 in
-        let number = entry.file.number in
-        let inside = slice_get_within (ledger s).files (a.file - 1) entry.file.datafile entry.file.is in
         let base = base-by s h held made touched borne tells from.now (from_copy from.entry from.now from.recorded kind from.has) in
         subst (λ x. IsTrueArtefact (world s) h (a_piece x)) ends.is (record {
           agrees = reached_agrees rs f tag at e.level1s (world s) h from.now a (sym (tree-told s.catalog)) a-tree borne.keeps.history level1s-fit
               (λ y has. level1-by s h held made touched borne tells y.1 (level1-from s held sound e at_hand y.0 y.1 has)) from.has.object.valid base reached;
           valid = valid;
           within = (entry.there, entry.checkpoint.1, entry.high);
-          of = omega (arith, number, inside);
+          of = omega (arith, entry.file.number, slice_get_within (ledger s).files (a.file - 1) entry.file.datafile entry.file.is);
         })
 
   -- the same of a copy that may have changed
@@ -243,10 +233,9 @@ module _ (s : State) (held : Held) (sound : IsSound s) (e : Evidence) (at_hand :
         let one = same_item (λ (p : PieceEntry). p.id) (ledger s).pieces sound.catalog.ledger.ids.pieces_ascend first.copy second.copy (taken-in first.copy first.taken.held) (taken-in second.copy second.taken.held) (sym first.id ∙ same ∙ second.id) in
         let files : x.0 ≡ y.0 = sym first.taken.passes.on.file ∙ ap (λ (p : PieceEntry). p.file) one ∙ second.taken.passes.on.file in
         let many = length-map xs (λ (z : ℕ × Renewed). z.0) in
-        let up = are.exact.ascends i j d.0 less (omega (arith, many, inside)) in
         let low = get_or-map (λ (z : ℕ × Renewed). z.0) xs i d d.0 before in
         let high = get_or-map (λ (z : ℕ × Renewed). z.0) xs j d d.0 inside in
-        absurd (omega (arith, up, low, high, files))
+        absurd (omega (arith, are.exact.ascends i j d.0 less (omega (arith, many, inside)), low, high, files))
 
     ids-left : (xs : List (ℕ × Renewed)) → renewed_refusal s xs ≡ None → (ledger s).base.next_id + length (changed xs) + 68 ≤ 4294967295
     ids-left xs is =
@@ -275,14 +264,10 @@ renews-on (Some at) s tag h objects made touched said e t after stands tell does
     let q : State = after_copies s tag xs in
     let is = done-of (renewed_refusal s xs) _ said by e q t does.is in
     let can = can-all s objects stands.state does.evidence does.at_hand tag at xs does.are is.0 in
-    let took = subst (λ x. LeavesObjects x objects after) (sym is.1) effect in
     let agree = true-all s objects stands.state does.evidence does.at_hand tag at xs h made touched does.are stands tell in
-    let first : IsBorneOut q h took.put (made ++ by.made) touched = renewals-borne xs s tag h objects made touched took.put can agree stands took.puts in
-    let on : IsBorneOut q h after (made ++ by.made) touched = borne-beside q h took.put after (made ++ by.made) touched touched first
-    (stand-without (copies_gone xs) took.put after touched (ledger q) took.removes (old-free xs s tag stands.state can)) in
-    subst (λ x. IsBorneOut x (h ++ e.changes) after (made ++ e.made) touched) is.2
-    (subst (λ (x : Effect). IsBorneOut q (h ++ x.changes) after (made ++ x.made) touched) is.1
-    (subst (λ k. IsBorneOut q k after (made ++ by.made) touched) (sym (append-nil h)) on))
+    unchanged q by h objects made touched e t after refl is.1 is.2 effect (λ left.
+    borne-beside q h left.put after (made ++ by.made) touched touched (renewals-borne xs s tag h objects made touched left.put can agree stands left.puts)
+    (stand-without (copies_gone xs) left.put after touched (ledger q) left.removes (old-free xs s tag stands.state can)))
 
 pub renew-on : (tag : List ℕ) (until : Option Until) → LeadsOnBy (RecoverCopy tag until)
 renew-on tag until s h objects made touched said e t after well stands tell none does effect =
@@ -304,12 +289,10 @@ leaves-renewed (Some at) s tag objects said e t sound does =
     let q : State = after_copies s tag xs in
     let is = done-of (renewed_refusal s xs) _ said (renewing s tag xs) e q t does.is in
     let can = can-all s objects sound does.evidence does.at_hand tag at xs does.are is.0 in
-    let room = can.room in
-    let next = renewals-next xs s tag in
     subst (λ x. LeavesRenewed s e x) is.2 (subst (λ (x : Effect). LeavesRenewed s x q) is.1 (record {
       sound = renewals-sound xs s tag sound can;
       saved = renewals-saved xs s tag;
-      ids = omega (arith, room, next);
+      ids = omega (arith, can.room, renewals-next xs s tag);
       puts = copies-new xs s s tag (omega arith) can;
       removes = old-free xs s tag sound can;
       parts = old-no-part xs;

@@ -40,9 +40,7 @@ use Rattle.rm_machine.proofs.Standing.{each-in}
 one-fewer : (xs : List PieceEntry) (p : PieceEntry) → AllPairs (λ x y. x.id < y.id) xs → Contains xs p → length (without_one (λ x. x.id) p.id xs) + 1 ≡ length xs
 one-fewer xs p up (k, inside, is) =
     let gone = (place-of-one (λ (x : PieceEntry). x.id) p.id xs k p up inside (ap (λ (x : PieceEntry). x.id) is)).gone in
-    let short = length-remove xs k inside in
-    let same = ap length gone in
-    omega (arith, short, same)
+    omega (arith, length-remove xs k inside, ap length gone)
 
 -- a copy that took over level 1s can be recorded in the place of the record of this id
 pub record CanRenew (s : State) (tag : List ℕ) (n : ℕ) (last : Piece) : Type 0 where
@@ -65,15 +63,12 @@ module _ (s : State) (tag : List ℕ) (n : ℕ) (last : Piece) (sound : IsSound 
 
   fits : FitsNewPiece (without_piece s.catalog n) e
   fits =
-      let was = many (ledger s) in
-      let is = many (ledger q) in
       let fewer = subst (λ k. length (without_one (λ x. x.id) k (ledger s).pieces) + 1 ≡ length (ledger s).pieces) can.id (one-fewer (ledger s).pieces can.old sound.catalog.ledger.ids.pieces_ascend can.recorded) in
-      let few = sound.catalog.ledger.few in
       record {
         piece = can.entry (is_kept s n) (ledger s).base.moment (ledger s).base.next_id;
         id = refl;
         last = below;
-        room = omega (arith, was, is, fewer, few);
+        room = omega (arith, many (ledger s), many (ledger q), fewer, sound.catalog.ledger.few);
       }
 
   renewed-sound : IsSound (with_recorded q e)
@@ -161,21 +156,16 @@ first-can s tag x xs can = All-head (λ (y : ℕ × Renewed). CanRenewTo s tag y
 
 pub first-room : (s : State) (tag : List ℕ) (x : ℕ × Renewed) (xs : List (ℕ × Renewed)) → CanRenewAll s tag (x ∷ xs) → (ledger s).base.next_id + drawn x.1.merged ≤ 4294967295
 first-room s tag x xs can =
-    let count = count-changed x xs in
-    let room = can.room in
-    omega (arith, count, room)
+    omega (arith, count-changed x xs, can.room)
 
 pub rest-can : (s : State) (tag : List ℕ) (x : ℕ × Renewed) (xs : List (ℕ × Renewed)) → CanRenewAll s tag (x ∷ xs) → CanRenewAll (after_copy s tag x) tag xs
 rest-can s tag x xs can =
-    let count = count-changed x xs in
-    let room = can.room in
-    let next = next-to s tag x.1.id x.1.merged in
     record {
       each = each-in (λ (y : ℕ × Renewed). CanRenewTo (after_copy s tag x) tag y.1.id y.1.merged) xs (λ y has.
           next-can s tag x.1.id y.1.id x.1.merged y.1.merged (pairs-head (λ (y z : ℕ × Renewed). y.1.id ≢ z.1.id) x xs y can.apart has)
           (All-contains (λ (y : ℕ × Renewed). CanRenewTo s tag y.1.id y.1.merged) xs y (All-tail (λ (y : ℕ × Renewed). CanRenewTo s tag y.1.id y.1.merged) x xs can.each) has));
       apart = pairs-tail (λ (y z : ℕ × Renewed). y.1.id ≢ z.1.id) x xs can.apart;
-      room = omega (arith, count, room, next);
+      room = omega (arith, count-changed x xs, can.room, next-to s tag x.1.id x.1.merged);
     }
 
 pub renewals-sound : (xs : List (ℕ × Renewed)) (s : State) (tag : List ℕ) → IsSound s → CanRenewAll s tag xs → IsSound (after_copies s tag xs)
@@ -208,7 +198,4 @@ renewals-saved (x ∷ xs) s tag = renewals-saved xs (after_copy s tag x) tag ∙
 pub renewals-next : (xs : List (ℕ × Renewed)) (s : State) (tag : List ℕ) → (ledger (after_copies s tag xs)).base.next_id ≡ (ledger s).base.next_id + length (changed xs)
 renewals-next [] s tag = omega arith
 renewals-next (x ∷ xs) s tag =
-    let rest = renewals-next xs (after_copy s tag x) tag in
-    let first = next-to s tag x.1.id x.1.merged in
-    let count = count-changed x xs in
-    omega (arith, rest, first, count)
+    omega (arith, renewals-next xs (after_copy s tag x) tag, next-to s tag x.1.id x.1.merged, count-changed x xs)

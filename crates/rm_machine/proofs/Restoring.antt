@@ -55,7 +55,7 @@ use Rattle.rm_machine.proofs.Recovering.{mode-closed}
 use Rattle.rm_machine.proofs.Standing.{at-place, each-get}
 
 -- a piece that is no level 1 has each block
-entry-rows : (k : Kind) (n m : ℕ) → k ≢ Level1 → FitsRows k n m → n ≡ m
+pub entry-rows : (k : Kind) (n m : ℕ) → k ≢ Level1 → FitsRows k n m → n ≡ m
 entry-rows Full n m other is = is
 entry-rows Level0 n m other is = is
 entry-rows Level1 n m other is = absurd (other refl)
@@ -68,7 +68,6 @@ module _ (s : State) (sound : IsSound s) (k : ℕ) (d : Datafile) (file : slice_
       let made = all-get (IsCreated (tree s)) (ledger s).files k d file sound.catalog.ledger.datafiles.each in
       let rows = created_rows d.creation d.blocks in
       let low = made.creation.0 in
-      let high = made.creation.1 in
       let first = (sound.catalog.ledger.incarnations.ranges d.inc made.there).0 in
       record {
         file = omega arith;
@@ -77,8 +76,8 @@ module _ (s : State) (sound : IsSound s) (k : ℕ) (d : Datafile) (file : slice_
         rows = each-get IsPlacedRow rows (λ b r row. subst IsPlacedRow (created-row d.creation d.blocks b r row) (record { version = omega (arith, low, first); content = refl }));
         there = made.there;
         checkpoint = omega arith;
-        high = high-bound (d.creation + 1) (end_of (tree s) d.inc) rows (omega (arith, high))
-            (λ r has. let row = at-place rows r has in subst (λ (x : Row). x.version < end_of (tree s) d.inc) (created-row d.creation d.blocks row.0 r row.1) high);
+        high = high-bound (d.creation + 1) (end_of (tree s) d.inc) rows (omega (arith, made.creation.1))
+            (λ r has. let row = at-place rows r has in subst (λ (x : Row). x.version < end_of (tree s) d.inc) (created-row d.creation d.blocks row.0 r row.1) made.creation.1);
       }
 
   module _ (held : Option Held) (e : Evidence) (hand : IsEvidence held (records_of s.catalog) (in_place s) e) (i at : ℕ) where
@@ -93,24 +92,17 @@ module _ (s : State) (sound : IsSound s) (k : ℕ) (d : Datafile) (file : slice_
         let p = is.0 in
         let fields = is.3 in
         let entry = All-contains (IsPieceEntry (tree s) (ledger s).files) (ledger s).pieces p sound.catalog.ledger.pieces (piece-in s.catalog p sound.catalog is.1) in
-        let number_is = chosen.passes.file in
-        let same_number = fields.file in
-        let place : p.file - 1 ≡ k = omega (arith, number_is, same_number) in
+        let place : p.file - 1 ≡ k = omega (arith, chosen.passes.file, fields.file) in
         let both : Some entry.file.datafile ≡ Some d = sym entry.file.is ∙ ap (slice_get (ledger s).files) place ∙ file in
         let same : entry.file.datafile ≡ d = cc in
-        let stood = fields.checkpoint in
-        let begun = entry.checkpoint.0 in
-        let top = valid.high in
-        let told = fields.high in
-        let end = entry.high in
         record {
-          file = omega (arith, number_is);
+          file = omega (arith, chosen.passes.file);
           blocks = fields.rows ∙ entry-rows p.kind p.rows entry.file.datafile.blocks (λ level. whole (fields.kind ∙ level)) entry.file.rows ∙ ap (λ (y : Datafile). y.blocks) same;
           order = chosen_in_order (tree s) e i at (1 + k) (Some x) fits chosen;
           rows = All-weaker (IsRow a.blocks a.from) IsPlacedRow (λ r row. record { version = row.version.0; content = row.content }) a.rows valid.rows;
           there = subst (IsThere (tree s)) (sym fields.inc) entry.there;
-          checkpoint = omega (arith, begun, stood);
-          high = subst (λ j. high_of a.checkpoint a.rows ≤ end_of (tree s) j) (sym fields.inc) (omega (arith, top, told, end));
+          checkpoint = omega (arith, entry.checkpoint.0, fields.checkpoint);
+          high = subst (λ j. high_of a.checkpoint a.rows ≤ end_of (tree s) j) (sym fields.inc) (omega (arith, valid.high, fields.high, entry.high));
         }
 
     origin-placed : (o : Option (ℕ × Piece)) → IsBackupFor (tree s) e.bases i at (1 + k) o → IsPlaced (tree s) k d (file_by (1 + k) d o)
@@ -136,8 +128,7 @@ module _ (s : State) (held : Option Held) (i at : ℕ) (only : Option ℕ) (back
       let o = r.item.backup in
       let f = r.item.number in
       let number_is : x.file ≡ f = sym (ap (λ (y : File). y.file) r.is) ∙ file-number (tree s) bases i at f r.item.datafile o is.chosen in
-      let above = (file-place w f r.item.datafile is.is).number in
-      let next : f ≡ 1 + k = omega (arith, number_is, above, at_place) in
+      let next : f ≡ 1 + k = omega (arith, number_is, (file-place w f r.item.datafile is.is).number, at_place) in
       let one : Some r.item.datafile ≡ Some d = sym is.is ∙ ap (file_of w) next ∙ file-at w k d file in
       let same : r.item.datafile ≡ d = cc in
       let here : file_by (1 + k) d o ≡ x = ap (λ n. file_by n d o) (sym next) ∙ ap (λ (y : Datafile). file_by f y o) (sym same) ∙ r.is in
@@ -161,16 +152,15 @@ restore-by : (o file : Option ℕ) (s : State) (h : List Change) (objects : Held
 restore-by None file s h objects made touched said e t after borne tell closed does effect = absurd does
 restore-by (Some at) file s h objects made touched said e t after borne tell closed does effect =
     let w = world s in
-    let evidence = does.restores.evidence in
     let files = does.back.files in
-    let agrees = evidence-agrees s h objects made touched borne tell evidence does.restores.is.at_hand in
+    let agrees = evidence-agrees s h objects made touched borne tell does.restores.evidence does.restores.is.at_hand in
     let are = are-restored s (Some objects) (current_of s) at file does.back does.origins borne.state does.restores in
     quiet-on (restored s files) h objects made touched _ said e t after does.is effect (record {
       state = sound-restored s (Some objects) (current_of s) at file does.back does.origins borne.state does.restores closed;
       keeps = fits-exchanged s None (put_over files s.instance.place) borne.state closed (over-length files s.instance.place) h borne.keeps
           (λ k d x datafile is. elim (over-cases files s.instance.place k x is) [
             | inr old ↦ inl old
-            | inl new ↦ inr (restored-agrees w evidence (current_of s) at h borne.keeps.history agrees does.restores.numbers files does.origins x are new.0)
+            | inl new ↦ inr (restored-agrees w does.restores.evidence (current_of s) at h borne.keeps.history agrees does.restores.numbers files does.origins x are new.0)
           ])
           (λ n point. absurd (let clash : None ≡ Some n = point in cc));
       artefacts = borne.artefacts;

@@ -20,9 +20,9 @@ use Rattle.rm_machine.specs.declared.state.State.{State}
 use Rattle.rm_machine.specs.State.{ledger}
 use Rattle.rm_machine.specs.Upkeep.{with_catalog}
 use Rattle.rm_machine.proofs.Entries.{GoesOn}
-use Rattle.rm_machine.proofs.Kept.{kept-on, stand-same}
 use Rattle.rm_machine.proofs.Leading.{LeadsOnBy, StaysBy}
 use Rattle.rm_machine.proofs.Upkeep.{catalog-on, catalog-stays}
+use Rattle.rm_machine.proofs.Later.{borne-same, sound-with}
 
 -- with another policy and another count of channels
 module _ (s : State) (p : Policy) (channels : ℕ) where
@@ -40,27 +40,12 @@ module _ (s : State) (p : Policy) (channels : ℕ) where
         moment = omega arith;
       })
 
-  settings-sound : IsRepository other.catalog → IsSound s → IsSound other
-  settings-sound rules is = record {
-    catalog = rules;
-    dbid = is.dbid;
-    place = record { many = is.place.many; each = is.place.each };
-    logs = record { dbid = is.logs.dbid; there = is.logs.there; threads = is.logs.threads; each = is.logs.each };
-    in_open = λ opened. let was = is.in_open opened in record { inc = was.inc; found = was.found; point = was.point };
-    point = λ at here. let was = is.point at here in record { low = was.low; high = was.high; stands = was.stands };
-  }
-
   settings-on : IsPolicy p → 1 ≤ channels → channels ≤ 16 → IsSound s → GoesOn s other.catalog
   settings-on policy some few sound =
       let rules = settings-fit policy some few sound.catalog in
       record {
-        sound = settings-sound rules;
-        borne = λ h objects made touched is. record {
-          state = settings-sound rules is.state;
-          keeps = record { history = is.keeps.history; below = is.keeps.below; online = is.keeps.online; place = is.keeps.place; in_open = is.keeps.in_open; point = is.keeps.point };
-          artefacts = is.artefacts;
-          records = kept-on objects objects made made touched touched (ledger s) (ledger other) (stand-same objects objects touched (ledger s) (ledger other) (λ n. refl)) (λ a has. has) (λ e has. inl has) (λ e has. inl has) is.records;
-        };
+        sound = sound-with s other.catalog rules;
+        borne = λ h objects made touched is. borne-same s other.catalog rules h objects made touched is (λ e has. inl has) (λ p has. inl has);
         saved = λ none. none;
       }
 

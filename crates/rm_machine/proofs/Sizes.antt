@@ -13,13 +13,9 @@ use Rattle.rm_repository.proofs.Fitted.{many}
 pub logs-small : (l : Ledger) → IsLedger l → sum_by (λ e. e.size) l.logs ≤ 2 ^ 44
 logs-small l is =
     let sizes = sum_by-le (λ (e : LogEntry). e.size) most_bytes l.logs (All-weaker (IsLogEntry l.tree l.base.threads) (λ (e : LogEntry). e.size ≤ most_bytes) (λ e fits. fits.size) l.logs is.logs) in
-    let all = many l in
-    let few = is.few in
-    omega (arith, sizes, all, few)
+    omega (arith, sizes, many l, is.few)
 
 pub pieces-small : (l : Ledger) → IsLedger l → sum_by (λ p. p.size) l.pieces ≤ 2 ^ 44
 pieces-small l is =
     let sizes = sum_by-le (λ (p : PieceEntry). p.size) most_bytes l.pieces (All-weaker (IsPieceEntry l.tree l.files) (λ (p : PieceEntry). p.size ≤ most_bytes) (λ p fits. fits.size) l.pieces is.pieces) in
-    let all = many l in
-    let few = is.few in
-    omega (arith, sizes, all, few)
+    omega (arith, sizes, many l, is.few)

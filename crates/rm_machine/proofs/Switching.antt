@@ -4,7 +4,6 @@ use Rattle.std.specs.Option.{option_map_or}
 use Rattle.std.specs.Str.{bytes_eq}
 use Rattle.std.proofs.lemmas.Bool.{and_left, and_parts, and_right, cases_Bool, cases_eq, cases_lt, le-ltb, leb-false, lt-leb, ltb-true}
 use Rattle.std.proofs.lemmas.Bool.Decides.{nat_tests}
-use Rattle.std.proofs.lemmas.List.{append-nil}
 use Rattle.std.proofs.lemmas.List.Elements.{All-nil, Contains-append_left, Contains-push, Contains-push_cases}
 use Rattle.std.proofs.lemmas.Slice.Eq.{bytes_eq-Decides}
 use Rattle.rm_base.specs.Store.{Held}
@@ -44,11 +43,11 @@ use Rattle.rm_machine.specs.State.{ledger, is_lost, online, redo_end, world}
 use Rattle.rm_statement.specs.declared.command.Command.TheVariants.{SwitchLogfile}
 use Rattle.rm_machine.specs.SwitchLogfile.{archive_refusal, archived, is_due, log_bytes, log_entry, made_lines, none_lines, switch_refusal, with_archived}
 use Rattle.rm_base.proofs.Conditions.{unless}
-use Rattle.rm_machine.proofs.Kept.{StandOn, kept-on, no-effect, stand-same}
-use Rattle.rm_machine.proofs.Later.{borne-beside}
+use Rattle.rm_machine.proofs.Kept.{StandOn, kept-on}
 use Rattle.rm_machine.proofs.Leading.{LeadsOnBy, StaysBy}
 use Rattle.rm_objects.proofs.Names.{log-name-tells, log-no-piece}
 use Rattle.rm_machine.proofs.Further.{roomy-either}
+use Rattle.rm_machine.proofs.Quiet.{quiet-on, same-stays, unchanged}
 
 -- An empty log
 
@@ -169,24 +168,20 @@ module _ (s : State) (t : ℕ) (sound : IsSound s) (low : 0 < t) (high : t ≤ s
 
   pub entry-is : IsLogEntry l.tree l.base.threads entry
   entry-is =
-      let body = length-body log (fits-log log log-is.valid) in
-      let whole = length-sealed (body_of log) in
-      let few = log-is.valid.few in
       record {
         there = sound.logs.there;
         thread = high;
         sequence = log-is.valid.sequence.0;
         range = (log-is.begun, a.some, omega arith);
-        size = omega (arith, body, whole, few);
+        size = omega (arith, length-body log (fits-log log log-is.valid), length-sealed (body_of log), log-is.valid.few);
       }
 
   catalog-after : IsRepository q.catalog
   catalog-after =
-      let ids = a.ids in
       new_log_fits s.catalog entry sound.catalog (record {
         log = entry-is;
         id = refl;
-        last = omega (arith, ids);
+        last = omega (arith, a.ids);
         room = elim (roomy-either 1 (length (records_of l) + 1) a.roomy) [ inl none ↦ absurd (omega (arith, none)) | inr room ↦ room ];
       })
 
@@ -212,30 +207,21 @@ module _ (s : State) (t : ℕ) (sound : IsSound s) (low : 0 < t) (high : t ≤ s
   anew-is : IsOnline l.tree (online q t)
   anew-is =
       let around = around-switched s.instance.logs t (redo_end s) in
-      let begun = begun-after in
-      let end = redo-after in
       let number = sequence_of-switched s.instance.logs t (redo_end s) there not-first in
-      let room = a.sequence in
       let valid = log-is.valid in
-      let range = valid.range in
-      let first = range.0 in
-      let mid = range.1 in
-      let last = range.2 in
-      let none = empty-after in
-      let incs = around.inc in
       let bounds = (sound.catalog.ledger.incarnations.ranges s.instance.logs.inc sound.logs.there).1 in
       record {
         valid = record {
           dbid = subst (λ x. (1 ≤ x) × (x < 2 ^ 32)) (sym around.dbid) valid.dbid;
           inc = subst (λ x. (1 ≤ x) × (x < 2 ^ 32)) (sym around.inc) valid.inc;
           thread = valid.thread;
-          sequence = (omega (arith, number), omega (arith, number, room));
-          range = (omega (arith, begun, first, mid), omega (arith, begun, end), omega (arith, end, last));
-          few = subst (λ xs. length xs ≤ 65536) (sym none) (omega arith);
-          ascend = subst (AllPairs IsBefore) (sym none) (λ i j d less inside. absurd (omega (arith, inside)));
-          records = subst (All (IsLogRecord (online q t).first (redo_end q))) (sym none) (All-nil (IsLogRecord (online q t).first (redo_end q)));
+          sequence = (omega (arith, number), omega (arith, number, a.sequence));
+          range = (omega (arith, begun-after, valid.range.0, valid.range.1), omega (arith, begun-after, redo-after), omega (arith, redo-after, valid.range.2));
+          few = subst (λ xs. length xs ≤ 65536) (sym empty-after) (omega arith);
+          ascend = subst (AllPairs IsBefore) (sym empty-after) (λ i j d less inside. absurd (omega (arith, inside)));
+          records = subst (All (IsLogRecord (online q t).first (redo_end q))) (sym empty-after) (All-nil (IsLogRecord (online q t).first (redo_end q)));
         };
-        begun = subst (λ j. reset_of l.tree j ≤ (online q t).first) (sym incs) (omega (arith, begun, bounds));
+        begun = subst (λ j. reset_of l.tree j ≤ (online q t).first) (sym around.inc) (omega (arith, begun-after, bounds));
       }
 
   log-after : (u : ℕ) → 0 < u → u ≤ l.base.threads → is_lost q.instance.logs u ≡ false → IsOnline l.tree (online q u)
@@ -298,8 +284,7 @@ after-other before after id a n other effect = elim (cases_Bool (bytes_eq n (log
 fresh-name : (l : Ledger) (name : List ℕ) → IsLedger l → IsObjectName l name → name ≢ log_name l.base.next_id
 fresh-name l name is (of_log e has) same =
     let below = (log-id-within l e is has).1 in
-    let most = is.base.next_id.1 in
-    let id : e.id ≡ l.base.next_id = log-name-tells e.id l.base.next_id (omega (arith, below, most)) (omega (arith, most)) same in
+    let id : e.id ≡ l.base.next_id = log-name-tells e.id l.base.next_id (omega (arith, below, is.base.next_id.1)) (omega (arith, is.base.next_id.1)) same in
     absurd (omega (arith, below, id))
 fresh-name l name is (of_piece e has) same = absurd (log-no-piece l.base.next_id e.copy e.id (sym same))
 
@@ -340,21 +325,9 @@ switched-by s t h objects made touched after stands low high a effect =
 switch-by : (b : Bool) (s : State) (t : ℕ) (h : List Change) (objects : Held) (made : List Made) (touched : List (List ℕ)) (said : List Line) (e : Effect) (q : State) (after : Held) → is_due s t ≡ b → IsBorneOut s h objects made touched → CanSwitch s t
     → done said e q ≡ cond b (done (made_lines s t) (archived s.catalog.ledger.base.next_id (online s t)) (with_archived s t)) (done (none_lines t) no_effect s) → LeavesObjects e objects after → IsBorneOut q (h ++ e.changes) after (made ++ e.made) touched
 switch-by true s t h objects made touched said e q after due stands can is effect =
-    let is_effect : archived s.catalog.ledger.base.next_id (online s t) ≡ e = cc in
-    let is_state : with_archived s t ≡ q = cc in
-    let took = subst (λ x. LeavesObjects x objects after) (sym is_effect) effect in
-    let on = switched-by s t h objects made touched after stands can.low can.high (can-archive s t due (can.due due)) took in
-    subst (λ x. IsBorneOut x (h ++ e.changes) after (made ++ e.made) touched) is_state
-    (subst (λ (x : Effect). IsBorneOut (with_archived s t) (h ++ x.changes) after (made ++ x.made) touched) is_effect
-    (subst (λ k. IsBorneOut (with_archived s t) k after (made ++ (archived s.catalog.ledger.base.next_id (online s t)).made) touched) (sym (append-nil h)) on))
-switch-by false s t h objects made touched said e q after due stands can is effect =
-    let is_effect : no_effect ≡ e = cc in
-    let is_state : s ≡ q = cc in
-    let same = no-effect objects after (subst (λ x. LeavesObjects x objects after) (sym is_effect) effect) in
-    let on = borne-beside s h objects after made touched touched stands (stand-same objects after touched (ledger s) (ledger s) same) in
-    subst (λ x. IsBorneOut x (h ++ e.changes) after (made ++ e.made) touched) is_state
-    (subst (λ (x : Effect). IsBorneOut s (h ++ x.changes) after (made ++ x.made) touched) is_effect
-    (subst (λ k. IsBorneOut s k after (made ++ []) touched) (sym (append-nil h)) (subst (λ k. IsBorneOut s h after k touched) (sym (append-nil made)) on)))
+    unchanged (with_archived s t) (archived s.catalog.ledger.base.next_id (online s t)) h objects made touched e q after refl (cc) (cc) effect
+    (switched-by s t h objects made touched after stands can.low can.high (can-archive s t due (can.due due)))
+switch-by false s t h objects made touched said e q after due stands can is effect = quiet-on s h objects made touched _ said e q after is effect stands
 
 pub switch-on : (t : ℕ) → LeadsOnBy (SwitchLogfile t)
 switch-on t s h objects made touched said e q after well stands tell none does effect =
@@ -362,12 +335,8 @@ switch-on t s h objects made touched said e q after well stands tell none does e
 
 stays-by : (b : Bool) (s : State) (t : ℕ) (said : List Line) (e : Effect) (q : State) → is_due s t ≡ b → IsSound s → s.catalog.saved ≡ None → CanSwitch s t
     → done said e q ≡ cond b (done (made_lines s t) (archived s.catalog.ledger.base.next_id (online s t)) (with_archived s t)) (done (none_lines t) no_effect s) → IsSound q × (q.catalog.saved ≡ None)
-stays-by true s t said e q due sound none can is =
-    let same : with_archived s t ≡ q = cc in
-    (subst IsSound same (sound-after s t sound can.low can.high (can-archive s t due (can.due due))), sym (ap (λ (x : State). x.catalog.saved) same) ∙ none)
-stays-by false s t said e q due sound none can is =
-    let same : s ≡ q = cc in
-    (subst IsSound same sound, sym (ap (λ (x : State). x.catalog.saved) same) ∙ none)
+stays-by true s t said e q due sound none can is = same-stays (with_archived s t) q (cc) (sound-after s t sound can.low can.high (can-archive s t due (can.due due))) none
+stays-by false s t said e q due sound none can is = same-stays s q (cc) sound none
 
 pub switch-stays : (t : ℕ) → StaysBy (SwitchLogfile t)
 switch-stays t s objects said e q well sound none accepted does = stays-by (is_due s t) s t said e q refl sound none (can-switch s t accepted) does

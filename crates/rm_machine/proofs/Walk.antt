@@ -38,9 +38,8 @@ use Rattle.rm_machine.specs.Write.{change_of, with_write}
 use Rattle.rm_machine.specs.declared.state.State.{State}
 use Rattle.rm_machine.specs.State.{current_of, ledger, now_of, placed, world}
 use Rattle.rm_machine.proofs.Further.{now-further}
-use Rattle.rm_machine.proofs.Kept.{kept-on, stand-same}
 use Rattle.rm_machine.proofs.Writes.{Accepted}
-use Rattle.rm_machine.proofs.WritesKeep.{keeps-write, made-write}
+use Rattle.rm_machine.proofs.Writing.{borne-write}
 use Rattle.rm_machine.proofs.WritesSound.{sound-write}
 use Rattle.rm_machine.specs.Events.{after_event, after_events, change_by, changes_of, opening, standing_in, write_form}
 use Rattle.rm_machine.proofs.BackupAccepted.{CanBeWritten}
@@ -87,11 +86,8 @@ module _ (u : State) (ws : List WriteForm) (can : CanGoOn u ws) (w : WriteForm) 
       let range = (sound.catalog.ledger.incarnations.ranges (current_of u) sound.catalog.ledger.current).2 in
       let few = (sound.logs.each w.thread it.thread.0 it.thread.1 ((sound.in_open can.opened).found w.thread it.thread.0 it.thread.1)).valid.few in
       let none : length (marks_before u) ≡ 0 = ap (λ (ms : List Mark). length ms) (can.unmarked w has) in
-      let records = sound.catalog.ledger.few in
-      let full = free.0 in
-      let end = free.1 in
       record {
-        on = record { opened = can.opened; room = omega (arith, none, records); below = omega (arith, range, end) };
+        on = record { opened = can.opened; room = omega (arith, none, sound.catalog.ledger.few); below = omega (arith, range, free.1) };
         thread = it.thread;
         datafile = it.datafile;
         is = it.is;
@@ -99,7 +95,7 @@ module _ (u : State) (ws : List WriteForm) (can : CanGoOn u ws) (w : WriteForm) 
         block = it.block;
         file = it.file;
         stands = it.stands;
-        room = omega (arith, few, full);
+        room = omega (arith, few, free.0);
       }
 
 -- One event
@@ -121,14 +117,11 @@ here-later u w d sound a here =
 -- no record comes of a write without a mark
 records-write : (u : State) (w : WriteForm) → marks_before u ≡ [] → length (records_of (ledger (with_write u w))) ≡ length (records_of (ledger u))
 records-write u w none =
-    let old = many (ledger u) in
-    let new = many (ledger (with_write u w)) in
     let i = current_of u in
     let tree = (ledger u).tree in
     let trees : length (with_end tree i (now_of u + 1)) ≡ length tree = length-set tree (i - 1) (record { parent = parent_of tree i; reset = reset_of tree i; end = now_of u + 1 }) in
-    let marks = length-append (ledger u).marks (marks_before u) in
     let no_mark : length (marks_before u) ≡ 0 = ap (λ (ms : List Mark). length ms) none in
-    omega (arith, old, new, trees, marks, no_mark)
+    omega (arith, many (ledger u), many (ledger (with_write u w)), trees, length-append (ledger u).marks (marks_before u), no_mark)
 
 -- what stands in a place stands there after another place changed
 stands-set : {X : Type 0} (place : List (Option X)) (m k : ℕ) (new : Option X) (x y : X) → slice_index_or place k None ≡ Some x → new ≡ Some y → (z : X) × (slice_index_or (slice_set place m new) k None ≡ Some z)
@@ -156,9 +149,12 @@ module _ (u : State) (ws : List WriteForm) (can : CanGoOn u ws) (w : WriteForm) 
   abbrev a : Accepted u w
   a = accepted u ws can w has scn right
 
+  full : length w.content.0 ≡ 64
+  full = All-contains (λ (v : WriteForm). length v.content.0 ≡ 64) ws w can.contents has
+
   write-on : CanGoOn (with_write u w) ws
   write-on = record {
-    sound = sound-write u w can.sound a (All-contains (λ (v : WriteForm). length v.content.0 ≡ 64) ws w can.contents has);
+    sound = sound-write u w can.sound a full;
     opened = can.opened;
     unmarked = λ v is. unmarked-write u w (can.unmarked v is);
     writes = All-weaker (CanBeWritten u) (CanBeWritten (with_write u w)) (λ v it.
@@ -167,42 +163,31 @@ module _ (u : State) (ws : List WriteForm) (can : CanGoOn u ws) (w : WriteForm) 
     contents = can.contents;
   }
 
-  borne-write : (h : List Change) (objects : Held) (made : List Made) (touched : List (List ℕ)) → IsBorneOut u h objects made touched → IsBorneOut (with_write u w) (h ++ change_of u w ∷ []) objects made touched
-  borne-write h objects made touched stands = record {
-    state = write-on.sound;
-    keeps = keeps-write u w h can.sound stands.keeps a;
-    artefacts = λ x has. made-write u w h can.sound stands.keeps a x.artefact (stands.artefacts x has);
-    records = kept-on objects objects made made touched touched (ledger u) (ledger (with_write u w)) (stand-same objects objects touched (ledger u) (ledger (with_write u w)) (λ n. refl)) (λ x has. has) (λ x has. inl has) (λ x has. inl has) stands.records;
-  }
+-- what is so of the state as it is, and after each write that was asked for, is so after an event
+by-event : (P : State → List Change → Type 0) (u : State) (ws : List WriteForm) → P u []
+    → ((w : WriteForm) → Contains ws w → (scn : ℕ) → IsRight (opening u) (Write w.thread w.file w.block w.content) (Wrote (Ok scn)) → P (with_write u w) (change_of u w ∷ []))
+    → (c : Call) (answer : Answer) → IsRight (opening u) c answer → IsAsked ws c answer → P (after_event u c answer) (change_by u c answer)
+by-event P u ws same wrote (Read f b) answer right asked = same
+by-event P u ws same wrote (Write t f b content) (Found row) right asked = absurd asked
+by-event P u ws same wrote (Write t f b content) (Wrote (Ok scn)) right asked = wrote (write_form t f b content) asked scn right
+by-event P u ws same wrote (Write t f b content) (Wrote (Err fault)) right asked = absurd asked
 
 module _ (u : State) (ws : List WriteForm) (can : CanGoOn u ws) where
   event-on : (c : Call) (answer : Answer) → IsRight (opening u) c answer → IsAsked ws c answer → CanGoOn (after_event u c answer) ws
-  event-on (Read f b) answer right asked = can
-  event-on (Write t f b content) (Found row) right asked = absurd asked
-  event-on (Write t f b content) (Wrote (Ok scn)) right asked = write-on u ws can (write_form t f b content) asked scn right
-  event-on (Write t f b content) (Wrote (Err fault)) right asked = absurd asked
+  event-on = by-event (λ q cs. CanGoOn q ws) u ws can (write-on u ws can)
 
   now-event : (c : Call) (answer : Answer) → IsRight (opening u) c answer → IsAsked ws c answer → now_of u ≤ now_of (after_event u c answer)
-  now-event (Read f b) answer right asked = omega arith
-  now-event (Write t f b content) (Found row) right asked = absurd asked
-  now-event (Write t f b content) (Wrote (Ok scn)) right asked =
-      let on = now-write u (write_form t f b content) can.sound (accepted u ws can (write_form t f b content) asked scn right) in
-      omega (arith, on)
-  now-event (Write t f b content) (Wrote (Err fault)) right asked = absurd asked
+  now-event = by-event (λ q cs. now_of u ≤ now_of q) u ws (omega arith) (λ w has scn right. omega (arith, now-write u w can.sound (accepted u ws can w has scn right)))
 
   borne-event : (c : Call) (answer : Answer) → IsRight (opening u) c answer → IsAsked ws c answer → (h : List Change) (objects : Held) (made : List Made) (touched : List (List ℕ))
       → IsBorneOut u h objects made touched → IsBorneOut (after_event u c answer) (h ++ change_by u c answer) objects made touched
-  borne-event (Read f b) answer right asked h objects made touched stands = subst (λ k. IsBorneOut u k objects made touched) (sym (append-nil h)) stands
-  borne-event (Write t f b content) (Found row) right asked h objects made touched stands = absurd asked
-  borne-event (Write t f b content) (Wrote (Ok scn)) right asked h objects made touched stands = borne-write u ws can (write_form t f b content) asked scn right h objects made touched stands
-  borne-event (Write t f b content) (Wrote (Err fault)) right asked h objects made touched stands = absurd asked
+  borne-event c answer right asked h objects made touched stands = by-event (λ q cs. IsBorneOut q (h ++ cs) objects made touched) u ws (subst (λ k. IsBorneOut u k objects made touched) (sym (append-nil h)) stands)
+      (λ w has scn is. borne-write u w h objects made touched (accepted u ws can w has scn is) (full u ws can w has scn is) stands) c answer right asked
 
   row-event : (c : Call) (answer : Answer) → IsRight (opening u) c answer → IsAsked ws c answer → (h : List Change) → HistoryFits u h → (f checkpoint : ℕ) (r : Row) → checkpoint ≤ now_of u
       → IsRow (world u) h (current_of u) f checkpoint r → IsRow (world (after_event u c answer)) (h ++ change_by u c answer) (current_of (after_event u c answer)) f checkpoint r
-  row-event (Read f b) answer right asked h keeps g checkpoint r most is = subst (λ k. IsRow (world u) k (current_of u) g checkpoint r) (sym (append-nil h)) is
-  row-event (Write t f b content) (Found row) right asked h keeps g checkpoint r most is = absurd asked
-  row-event (Write t f b content) (Wrote (Ok scn)) right asked h keeps g checkpoint r most is = row-write u (write_form t f b content) h can.sound keeps (accepted u ws can (write_form t f b content) asked scn right) g checkpoint r most is
-  row-event (Write t f b content) (Wrote (Err fault)) right asked h keeps g checkpoint r most is = absurd asked
+  row-event c answer right asked h keeps f checkpoint r most is = by-event (λ q cs. IsRow (world q) (h ++ cs) (current_of q) f checkpoint r) u ws (subst (λ k. IsRow (world u) k (current_of u) f checkpoint r) (sym (append-nil h)) is)
+      (λ w has scn one. row-write u w h can.sound keeps (accepted u ws can w has scn one) f checkpoint r most is) c answer right asked
 
   -- the rest is legal from there
   legal-on : (e : Event) (es : List Event) → IsLegal (opening u) (e ∷ es) → IsLegal (opening (after_event u e.call e.answer)) es
@@ -210,17 +195,11 @@ module _ (u : State) (ws : List WriteForm) (can : CanGoOn u ws) where
 
   here-event : (c : Call) (answer : Answer) → IsRight (opening u) c answer → IsAsked ws c answer → (d : Datafile) → exists (world u) (current_of u) (now_of u) d ≡ true
       → exists (world (after_event u c answer)) (current_of (after_event u c answer)) (now_of (after_event u c answer)) d ≡ true
-  here-event (Read f b) answer right asked d here = here
-  here-event (Write t f b content) (Found row) right asked d here = absurd asked
-  here-event (Write t f b content) (Wrote (Ok scn)) right asked d here = here-later u (write_form t f b content) d can.sound (accepted u ws can (write_form t f b content) asked scn right) here
-  here-event (Write t f b content) (Wrote (Err fault)) right asked d here = absurd asked
+  here-event c answer right asked d here = by-event (λ q cs. exists (world q) (current_of q) (now_of q) d ≡ true) u ws here (λ w has scn is. here-later u w d can.sound (accepted u ws can w has scn is) here) c answer right asked
 
   -- no record more
-  records-event : (c : Call) (answer : Answer) → IsAsked ws c answer → length (records_of (ledger (after_event u c answer))) ≡ length (records_of (ledger u))
-  records-event (Read f b) answer asked = refl
-  records-event (Write t f b content) (Found row) asked = absurd asked
-  records-event (Write t f b content) (Wrote (Ok scn)) asked = records-write u (write_form t f b content) (can.unmarked (write_form t f b content) asked)
-  records-event (Write t f b content) (Wrote (Err fault)) asked = absurd asked
+  records-event : (c : Call) (answer : Answer) → IsRight (opening u) c answer → IsAsked ws c answer → length (records_of (ledger (after_event u c answer))) ≡ length (records_of (ledger u))
+  records-event = by-event (λ q cs. length (records_of (ledger q)) ≡ length (records_of (ledger u))) u ws refl (λ w has scn right. records-write u w (can.unmarked w has))
 
 -- what no write changes no event changes
 event-same : {X : Type 0} (f : State → X) → ((u : State) (w : WriteForm) → f (with_write u w) ≡ f u) → (u : State) (c : Call) (answer : Answer) → f (after_event u c answer) ≡ f u
@@ -259,17 +238,15 @@ walk ws (e ∷ es) u can legal asked =
     let on = event-on u ws can e.call e.answer legal.0 asked.0 in
     let rest = walk ws es (after_event u e.call e.answer) on (legal-on u ws can e es legal) asked.1 in
     let first = now-event u ws can e.call e.answer legal.0 asked.0 in
-    let more = rest.now in
     record {
       can = rest.can;
-      now = omega (arith, first, more);
-      records = rest.records ∙ records-event u ws can e.call e.answer asked.0;
+      now = omega (arith, first, rest.now);
+      records = rest.records ∙ records-event u ws can e.call e.answer legal.0 asked.0;
       here = λ d here. rest.here d (here-event u ws can e.call e.answer legal.0 asked.0 d here);
       found = λ f b r has. elim (first-or-rest (deed e) (map deed es) (reading f b r) has) [
         | inl same ↦
             let both = read-found u f b r can.sound can.opened (read-of u f b r can.sound (found-here u e f b r legal.0 same)) in
-            let below = both.1.below in
-            (both.0, record { row = both.1.row; below = omega (arith, below, first, more) })
+            (both.0, record { row = both.1.row; below = omega (arith, both.1.below, first, rest.now) })
         | inr later ↦ rest.found f b r later
       ];
     }

@@ -37,14 +37,10 @@ first-begins tree are zero i few there = let some = there.0 in absurd (omega (ar
 first-begins tree are (suc most) i few there = elim (cases_lt 1 i) [
   | inl later ↦
       let branch = are.branches i later there.1 in
-      let less = branch.parent.1 in
-      let inside = there.1 in
-      let up = branch.reset in
-      let low = first-begins tree are most (parent_of tree i) (omega (arith, less, few)) (branch.parent.0, omega (arith, less, inside)) in
-      omega (arith, low, up)
+      let low = first-begins tree are most (parent_of tree i) (omega (arith, branch.parent.1, few)) (branch.parent.0, omega (arith, branch.parent.1, there.1)) in
+      omega (arith, low, branch.reset)
   | inr first ↦
-      let some = there.0 in
-      let one : 1 ≡ i = omega (arith, first, some) in
+      let one : 1 ≡ i = omega (arith, first, there.0) in
       subst (λ k. reset_of tree 1 ≤ reset_of tree k) one (omega arith)
 ]
 
@@ -103,7 +99,4 @@ module _ (s : State) (days : ℕ) (sound : IsSound s) where
       let are = sound.catalog.ledger in
       let found = of-marks (start_by s (Window days)) has-start in
       let rule = All-contains (IsMark (tree s) (ledger s).base.moment) marks found.0 are.marks.each found.1 in
-      let low = first-begins (tree s) are.incarnations found.0.inc found.0.inc (omega arith) rule.there in
-      let up = rule.scn.0 in
-      let is = found.2 in
-      omega (arith, low, up, is)
+      omega (arith, first-begins (tree s) are.incarnations found.0.inc found.0.inc (omega arith) rule.there, rule.scn.0, found.2)

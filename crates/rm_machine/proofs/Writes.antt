@@ -50,9 +50,8 @@ thread-of n t is = (grind (arith, nat_tests), grind (arith, nat_tests))
 -- without a mark there is room for none more
 roomy : (s : State) → IsSound s → lacks_room s (length (marks_before s)) ≡ false → length (ledger_records (ledger s)) + length (marks_before s) ≤ 65536
 roomy s sound is =
-    let few = sound.catalog.ledger.few in
     elim (roomy-either (length (marks_before s)) (length (ledger_records (ledger s)) + length (marks_before s)) is) [
-      | inl none ↦ omega (arith, none, few)
+      | inl none ↦ omega (arith, none, sound.catalog.ledger.few)
       | inr some ↦ some
     ]
 

@@ -100,8 +100,7 @@ module _ (s : State) (w : WriteForm) (h : List Change) (sound : IsSound s) (keep
       (λ d held same.
       let low : d.scn < end_of old d.inc = All-contains (λ d. d.scn < end_of old d.inc) h d keeps.below held in
       let under : d.scn < now = subst (λ j. d.scn < end_of old j) same.inc low in
-      let met = same.scn in
-      absurd (omega (arith, under, met)))
+      absurd (omega (arith, under, same.scn)))
 
   -- What the logs tell
 
@@ -130,24 +129,19 @@ module _ (s : State) (w : WriteForm) (h : List Change) (sound : IsSound s) (keep
   told-new : is_of (log_of (online q w.thread)) c ≡ true
   told-new =
       let begun = (sound.logs.each w.thread a.thread.0 a.thread.1 ((sound.in_open a.on.opened).found w.thread a.thread.0 a.thread.1)).valid.range.1 in
-      let first = first_of-with_change s.instance.logs c w.thread in
-      let before = redo-now in
       let same : redo_end q ≡ now_of p = redo-write ∙ ap (end_of risen.tree) inc-now in
-      let next = end in
       is_of-from (log_of (online q w.thread)) c (record {
         inc = sym inc-now ∙ sym (inc-with_change s.instance.logs c);
         thread = refl;
-        begun = omega (arith, begun, first, before);
-        below = omega (arith, same, next);
+        begun = omega (arith, begun, first_of-with_change s.instance.logs c w.thread, redo-now);
+        below = omega (arith, same, end);
       })
 
   grown : (log_of (online q w.thread)).changes ≡ (log_of (online p w.thread)).changes ++ c ∷ []
   grown =
       let records = records_of s.instance.logs w.thread in
-      let many = sound.logs.threads in
-      let high = a.thread.1 in
       ap (λ j. changes_in j w.thread (records_of (with_change s.instance.logs c) w.thread)) (inc-with_change s.instance.logs c)
-      ∙ ap (changes_in s.instance.logs.inc w.thread) (records_of-with_change s.instance.logs c (a.thread.0, omega (arith, many, high)))
+      ∙ ap (changes_in s.instance.logs.inc w.thread) (records_of-with_change s.instance.logs c (a.thread.0, omega (arith, sound.logs.threads, a.thread.1)))
       ∙ map_push (told s.instance.logs.inc w.thread) records (record_of c)
       ∙ ap (λ j. changes_in s.instance.logs.inc w.thread records ++ told j w.thread (record_of c) ∷ []) inc-now
 
@@ -177,15 +171,14 @@ module _ (s : State) (w : WriteForm) (h : List Change) (sound : IsSound s) (keep
   -- the change concerns its block, and is the last that does
   written-row : state risen (h ++ c ∷ []) i (now_of p) w.file w.block ≡ record { block = w.block; version = now; content = w.content }
   written-row =
-      let next = end in
       state-push_top risen h c i (now_of p) w.file w.block history-write
       (concerns-from risen i (now_of p) w.file w.block c (record {
         file = refl;
         block = refl;
-        below = omega (arith, next);
+        below = omega (arith, end);
         owned = owner-with_end old i (now + 1) i now there ∙ owns-now s sound a.on;
       }))
-      (λ d held passes. let below = (concerns-parts risen i (now_of p) w.file w.block d passes).below in omega (arith, below, next))
+      (λ d held passes. let below = (concerns-parts risen i (now_of p) w.file w.block d passes).below in omega (arith, below, end))
 
   rows-written : (x : File) → x.file ≡ w.file → IsInOrder x.rows → RowsAre risen h i (now_of p) x → RowsAre risen (h ++ c ∷ []) i (now_of p) (written x w.block now w.content)
   rows-written x number order rows =
@@ -202,16 +195,13 @@ module _ (s : State) (w : WriteForm) (h : List Change) (sound : IsSound s) (keep
       elim (index-set s.instance.place (w.file - 1) (f - 1) (option_map write (placed s w.file)) x is) [
         | inl same ↦
             let it = placed-is s (w.file - 1) a.file sound.place a.stands in
-            let place = it.file in
-            let first = (file-there (world s) w.file a.datafile a.is).0 in
-            let number : a.file.file ≡ w.file = omega (arith, place, first) in
+            let number : a.file.file ≡ w.file = omega (arith, it.file, (file-there (world s) w.file a.datafile a.is).0) in
             let got : Some (write a.file) ≡ Some x = sym (ap (option_map write) a.stands) ∙ same.1 in
             let made : write a.file ≡ x = cc in
             subst (RowsAre risen (h ++ c ∷ []) i (now_of p)) made (rows-written a.file number it.order (rows-further s sound a.on h keeps w.file a.file a.stands))
         | inr other ↦
             let it = placed-is s (f - 1) x sound.place other.1 in
-            let number = it.file in
-            rows-apart x (λ e. other.0 (omega (arith, e, number))) (rows-further s sound a.on h keeps f x other.1)
+            rows-apart x (λ e. other.0 (omega (arith, e, it.file))) (rows-further s sound a.on h keeps f x other.1)
       ]
 
   pub keeps-write : HistoryFits q (h ++ c ∷ [])
@@ -242,12 +232,9 @@ module _ (s : State) (w : WriteForm) (h : List Change) (sound : IsSound s) (keep
   agrees-write (a_log x) inside agrees =
       LogAgrees-grown h c (log_of x) agrees (is_of-not (log_of x) c (λ tells.
       let low : x.next ≤ now = subst (λ j. x.next ≤ end_of old j) (sym tells.inc) inside.1 in
-      let until = tells.below in
-      absurd (omega (arith, low, until))))
+      absurd (omega (arith, low, tells.below))))
   agrees-write (a_piece x) inside agrees =
-      let low = inside.1 in
-      let high = inside.2 in
-      piece-write x.kind x inside.0 (omega (arith, low, high)) agrees
+      piece-write x.kind x inside.0 (omega (arith, inside.1, inside.2)) agrees
 
   -- each artefact goes on to agree
   pub made-write : (x : Artefact) → IsTrueArtefact (world s) h x → IsTrueArtefact risen (h ++ c ∷ []) x

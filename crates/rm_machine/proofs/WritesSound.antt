@@ -68,17 +68,14 @@ module _ (s : State) (w : WriteForm) (sound : IsSound s) (a : Accepted s w) (ful
   new-is : IsPlacedRow new
   new-is =
       let range = sound.catalog.ledger.incarnations.ranges i sound.catalog.ledger.current in
-      let first = range.0 in
-      let mid = range.1 in
-      record { version = omega (arith, first, mid); content = full }
+      record { version = omega (arith, range.0, range.1); content = full }
 
   placed-written : (k : ℕ) (d : Datafile) (x : File) → IsPlaced tree k d (standing x i (now_of p)) → IsPlaced tree k d (standing (written x w.block now w.content) i (now_of p))
   placed-written k d x is =
       let high = is.high in
-      let next = end in
       let low : All (λ r. r.version < now_of p) x.rows =
       All-weaker (Contains x.rows) (λ r. r.version < now_of p) (λ r has. let above = high-above (now_of p) x.rows r has in omega (arith, above, high)) x.rows (All-contains_itself x.rows) in
-      let all : All (λ r. r.version < now_of p) (slice_set x.rows w.block new) = All-set (λ r. r.version < now_of p) x.rows w.block new (omega (arith, next)) low in
+      let all : All (λ r. r.version < now_of p) (slice_set x.rows w.block new) = All-set (λ r. r.version < now_of p) x.rows w.block new (omega (arith, end)) low in
       record {
         file = is.file;
         blocks = length-set x.rows w.block new ∙ is.blocks;
@@ -119,18 +116,11 @@ module _ (s : State) (w : WriteForm) (sound : IsSound s) (a : Accepted s w) (ful
   record-is =
       let file = file-there (world s) w.file a.datafile a.is in
       let made = all-get (IsCreated l.tree) l.files (w.file - 1) a.datafile file.1 sound.catalog.ledger.datafiles.each in
-      let inside = slice_get_within l.files (w.file - 1) a.datafile file.1 in
-      let few = sound.catalog.ledger.datafiles.few in
-      let block = a.block in
-      let most = made.blocks.1 in
       let begun = (sound.logs.each w.thread a.thread.0 a.thread.1 ((sound.in_open a.on.opened).found w.thread a.thread.0 a.thread.1)).valid.range.1 in
-      let first = first_of-with_change s.instance.logs c w.thread in
-      let old = redo-now in
-      let next = redo-after in
       record {
-        scn = (omega (arith, begun, first, old), omega (arith, next));
-        file = (file.0, omega (arith, inside, few));
-        block = omega (arith, block, most);
+        scn = (omega (arith, begun, first_of-with_change s.instance.logs c w.thread, redo-now), omega (arith, redo-after));
+        file = (file.0, omega (arith, slice_get_within l.files (w.file - 1) a.datafile file.1, sound.catalog.ledger.datafiles.few));
+        block = omega (arith, a.block, made.blocks.1);
         content = full;
       }
 
@@ -143,7 +133,6 @@ module _ (s : State) (w : WriteForm) (sound : IsSound s) (a : Accepted s w) (ful
       let inc : (online q t).inc ≡ s.instance.logs.inc = inc-with_change s.instance.logs c in
       let reset = (keeps-further s sound a.on).reset s.instance.logs.inc sound.logs.there in
       let first = first_of-with_change s.instance.logs c t in
-      let begun = was.begun in
       let records : ((online q t).records ≡ (online s t).records) ⊎ ((r : LogRecord) × IsPushed (online s t) (online q t) r) = elim (cases_eq t w.thread) [
         | inl same ↦ inr (
           record_of c,
@@ -158,7 +147,7 @@ module _ (s : State) (w : WriteForm) (sound : IsSound s) (a : Accepted s w) (ful
       ] in
       record {
         valid = log-further (online s t) (online q t) was.valid around.dbid inc refl (sequence_of-with_change s.instance.logs c t) first (omega (arith, old, next)) (let below = a.on.below in omega (arith, next, below)) records;
-        begun = subst (λ j. reset_of tree j ≤ (online q t).first) (sym inc) (omega (arith, reset, first, begun));
+        begun = subst (λ j. reset_of tree j ≤ (online q t).first) (sym inc) (omega (arith, reset, first, was.begun));
       }
 
   pub sound-write : IsSound q

@@ -8,5 +8,4 @@ returns-clause-value c = grind (arith, many (ledger c.args.state.now))
 
 pub returns-clause-most : goal.returns-clause-most
 returns-clause-most c =
-    let few = c.requires.catalog.ledger.few in
-    grind (arith, many (ledger c.args.state.now), few)
+    grind (arith, many (ledger c.args.state.now), c.requires.catalog.ledger.few)

@@ -23,13 +23,11 @@ overflow_add-result c =
     let logs : c.log_bytes.result ≡ log_sizes (ledger c.args.state.now).logs = c.log_bytes.ensures ∙ ap log_sizes c.logs.ensures in
     let pieces : c.piece_bytes.result ≡ piece_sizes (ledger c.args.state.now).pieces = c.piece_bytes.ensures ∙ ap piece_sizes c.pieces.ensures in
     let few = logs-small (ledger c.args.state.now) c.requires.catalog.ledger in
-    let less = pieces-small (ledger c.args.state.now) c.requires.catalog.ledger in
-    omega (arith, logs, pieces, few, less)
+    omega (arith, logs, pieces, few, pieces-small (ledger c.args.state.now) c.requires.catalog.ledger)
 
 pub returns-clause-most : goal.returns-clause-most
 returns-clause-most c =
     let logs : c.log_bytes.result ≡ log_sizes (ledger c.args.state.now).logs = c.log_bytes.ensures ∙ ap log_sizes c.logs.ensures in
     let pieces : c.piece_bytes.result ≡ piece_sizes (ledger c.args.state.now).pieces = c.piece_bytes.ensures ∙ ap piece_sizes c.pieces.ensures in
     let few = logs-small (ledger c.args.state.now) c.requires.catalog.ledger in
-    let less = pieces-small (ledger c.args.state.now) c.requires.catalog.ledger in
-    omega (arith, logs, pieces, few, less)
+    omega (arith, logs, pieces, few, pieces-small (ledger c.args.state.now) c.requires.catalog.ledger)
