@@ -34,8 +34,7 @@ in-ranges d t s is = grind (arith, nat_tests)
 pub numbers-of : (dbid threads scn : ℕ) → is_command (CreateDatabase dbid threads scn) ≡ true → threads ≤ 4 → AreNumbers dbid threads scn
 numbers-of dbid threads scn command few =
     let ranges = in-ranges dbid threads scn command in
-    let high = ranges.1 in
-    record { number = (ranges.0, omega (arith, high)); some = (ranges.2, few); first = (ranges.3, ranges.4) }
+    record { number = (ranges.0, omega (arith, ranges.1)); some = (ranges.2, few); first = (ranges.3, ranges.4) }
 
 -- what CREATE DATABASE came to, where it is done
 record IsFounded (dbid threads scn moment : ℕ) (lines : List Line) (effect : Effect) (t : State) : Type 0 where

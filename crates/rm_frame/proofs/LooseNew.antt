@@ -121,11 +121,9 @@ threads-new (suc n) t s more first sound low fits =
     let id = (ledger s).base.next_id in
     let q : State = after_thread s t in
     let took : Took s q (cond (is_due s t) 1 0) = took-thread s t (is_due s t) in
-    let up = took.ids in
-    let most = fits.ids in
     All-append (λ (x : Object). IsNewName first x.name) (cond (is_due s t) (archived id (online s t)).puts []) (puts_from q (t + 1) n)
-    (thread-new (is_due s t) first id (spelling (online s t)) sound (λ due. record { next = low; most = omega (arith, most) }))
-    (threads-new n (t + 1) q more first sound (omega (arith, low, up)) (next-room s t n more fits))
+    (thread-new (is_due s t) first id (spelling (online s t)) sound (λ due. record { next = low; most = omega (arith, fits.ids) }))
+    (threads-new n (t + 1) q more first sound (omega (arith, low, took.ids)) (next-room s t n more fits))
 
 pub archive-loose : StaysLoose ArchiveLogCurrent
 archive-loose s held lines e t sound comes =

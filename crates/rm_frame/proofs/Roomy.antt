@@ -87,8 +87,7 @@ left-after lines said e x q t is most =
 -- it draws none
 none-drawn : (s : State) (lines said : List Line) (e x : Effect) (q t : State) → done lines e t ≡ done said x q → next q ≡ next s → lacks_ids s 0 ≡ false → lacks_ids t 0 ≡ false
 none-drawn s lines said e x q t is same left =
-    let most = not-above 4294967295 (next s + 0 + 68) left in
-    left-after lines said e x q t is (omega (arith, most, same))
+    left-after lines said e x q t is (omega (arith, not-above 4294967295 (next s + 0 + 68) left, same))
 
 -- Why it is refused: the ids of a save are asked for
 
@@ -309,16 +308,13 @@ threads-next zero t s = omega arith
 threads-next (suc n) t s =
     let q : State = after_thread s t in
     let took : Took s q (cond (is_due s t) 1 0) = took-thread s t (is_due s t) in
-    let up = took.ids in
-    let rest = threads-next n (t + 1) q in
-    omega (arith, up, rest)
+    omega (arith, took.ids, threads-next n (t + 1) q)
 
 pub archive-roomy : LeavesIds ArchiveLogCurrent
 archive-roomy s held lines e t sound comes =
     let both = done-by (refusal_of s ArchiveLogCurrent) s held ArchiveLogCurrent lines e t comes in
     let most = (room s sound both.0).ids in
-    let up = threads-next (ledger s).base.threads 1 s in
-    left-after lines _ e (archiving s) (after_all s) t both.1 (omega (arith, most, up))
+    left-after lines _ e (archiving s) (after_all s) t both.1 (omega (arith, most, threads-next (ledger s).base.threads 1 s))
 
 branch-left : (o : Option ℕ) (s : State) (lines : List Line) (e : Effect) (t : State) → IsSomeAnd o (λ at. done lines e t ≡ done (resetlogs_lines s at) (archiving s) (branched_off (after_all s) at)) → next (after_all s) + 68 ≤ 4294967295 → lacks_ids t 0 ≡ false
 branch-left None s lines e t is most = absurd is
@@ -328,8 +324,7 @@ pub branch-roomy : LeavesIds OpenResetlogs
 branch-roomy s held lines e t sound comes =
     let both = done-by (refusal_of s OpenResetlogs) s held OpenResetlogs lines e t comes in
     let most = (can-reset s sound both.0).room.ids in
-    let up = threads-next (ledger s).base.threads 1 s in
-    branch-left s.instance.point s lines e t both.1 (omega (arith, most, up))
+    branch-left s.instance.point s lines e t both.1 (omega (arith, most, threads-next (ledger s).base.threads 1 s))
 
 -- each piece draws one
 pieces-next : (b : BackupForm) (tag : List ℕ) (xs : List Copied) (s : State) → next (after_pieces s b tag xs) ≡ next s + length xs
