@@ -1,17 +1,13 @@
 -- CREATE DATAFILE leads on: one SCN further, a datafile is added.
-use Rattle.std.proofs.Common.{◌≡◌, ◌≢◌, ◌<◌, ◌≤◌, ◌+◌, ◌-◌, ◌∙◌, ◌++◌, ◌⊎◌, ◌^◌, nat_lt, nat_le, inl, inr, ℕ, zero, suc, List, [], ◌∷◌, Option, Some, None, true, cond, refl, ap, sym, subst, arith, length, length-append, All, Contains, slice_get, slice_index_or, sum_by}
+use Rattle.std.proofs.Common.{◌≡◌, ◌≢◌, ◌<◌, ◌≤◌, ◌+◌, ◌-◌, ◌∙◌, ◌++◌, ◌⊎◌, ◌^◌, nat_le, inl, inr, ℕ, zero, suc, List, [], ◌∷◌, Option, Some, None, true, cond, refl, ap, sym, subst, arith, length, length-append, All, Contains, slice_get, slice_index_or, sum_by, rules}
 use Rattle.std.specs.Option.{option_map_or}
-use Rattle.std.proofs.lemmas.Bool.{and_parts, leb-false, leb-true, ne_eqb}
+use Rattle.std.proofs.lemmas.Bool.{and_parts, leb-true, ne_eqb}
 use Rattle.std.proofs.lemmas.List.{length-set}
 use Rattle.std.proofs.lemmas.List.Elements.{All-contains, All-contains_itself, All-nil, All-push, All-weaker}
 use Rattle.std.proofs.lemmas.Option.{slice_get_within}
-use Rattle.rm_base.specs.Numbers.{last_scn}
 use Rattle.rm_base.specs.Store.{Held}
 use Rattle.rm_base.specs.declared.block.Change.{Change}
 use Rattle.rm_base.specs.declared.block.Row.{Row}
-use Rattle.rm_base.specs.declared.refusal.Refusal.TheVariants.{Rm04, Rm11, Rm15}
-use Rattle.rm_base.specs.declared.refusal.Limit.TheVariants.{Files, FileBlocks, Blocks, Records, ObjectIds}
-use Rattle.rm_base.proofs.Conditions.{only-where, unless}
 use Rattle.rm_base.proofs.Slots.{get-index, get-push, index-get}
 use Rattle.rm_blocks.specs.File.{File, base_of, created, created_row, created_rows, standing}
 use Rattle.rm_blocks.proofs.Rows.{in_order-created, length-created}
@@ -31,10 +27,10 @@ use Rattle.rm_statement.specs.IsCommand.{is_command}
 use Rattle.rm_ledger.specs.Ledger.{records_of}
 use Rattle.rm_repository.specs.Fitting.{FitsFile, HasRoomFor}
 use Rattle.rm_repository.proofs.Fitted.{file_fits, many}
-use Rattle.rm_machine.specs.CreateDatafile.{datafile_refusal, new_datafile, room_refusal, with_datafile}
+use Rattle.rm_machine.specs.CreateDatafile.{datafile_refusal, new_datafile, with_datafile}
 use Rattle.rm_machine.specs.Effect.{Made}
 use Rattle.rm_machine.specs.Machine.{HistoryFits, IsBorneOut, RowsAre}
-use Rattle.rm_machine.specs.Marks.{lacks_ids, lacks_room, marks_before, one_further}
+use Rattle.rm_machine.specs.Marks.{marks_before, one_further}
 use Rattle.rm_machine.specs.Sound.{IsPlaced, IsPlacedRow, IsSound}
 use Rattle.rm_machine.specs.declared.state.State.{State}
 use Rattle.rm_machine.specs.State.{ledger, world, current_of, now_of, placed}
@@ -44,7 +40,6 @@ use Rattle.rm_machine.proofs.Leading.{LeadsOnBy, StaysBy}
 use Rattle.rm_machine.proofs.Opened.{rows-agree}
 use Rattle.rm_machine.proofs.Places.{counted-open, placed-is}
 use Rattle.rm_machine.proofs.Quiet.{quiet-on, quiet-stays}
-use Rattle.rm_machine.proofs.Switching.{not-above}
 
 -- A CREATE DATAFILE that was not refused
 
@@ -58,22 +53,15 @@ pub record HasRoom (s : State) (blocks : ℕ) : Type 0 where
 pub has-room : (s : State) (blocks : ℕ) → datafile_refusal s blocks ≡ None → HasRoom s blocks
 has-room s blocks is =
     let n = length (marks_before s) + 1 in
-    let mode = only-where s.instance.is_open (room_refusal s blocks) (Rm04 true) is in
-    let few = unless (nat_le 64 (length (ledger s).files)) (Rm11 Files) _ mode.1 in
-    let most = unless (nat_lt 65536 blocks) (Rm11 FileBlocks) _ few.1 in
-    let fit = unless (nat_lt 131072 (sum_by (λ d. d.blocks) (ledger s).files + blocks)) (Rm11 Blocks) _ most.1 in
-    let room = unless (lacks_room s n) (Rm11 Records) _ fit.1 in
-    let ids = unless (lacks_ids s 0) (Rm11 ObjectIds) _ room.1 in
-    let scn = unless (nat_le last_scn (now_of s)) Rm15 None ids.1 in
-    let roomy : length (records_of (ledger s)) + n ≤ 65536 = elim (roomy-either n (length (records_of (ledger s)) + n) room.0) [
+    let roomy : length (records_of (ledger s)) + n ≤ 65536 = elim (roomy-either n (length (records_of (ledger s)) + n) (search rules)) [
       | inl none ↦ absurd (omega (arith, none))
       | inr some ↦ some
     ] in
     record {
-      on = record { opened = mode.0; room = omega (arith, roomy); below = leb-false last_scn (now_of s) scn.0 };
-      few = leb-false 64 (length (ledger s).files) few.0;
-      most = not-above 65536 blocks most.0;
-      fit = not-above 131072 (sum_by (λ d. d.blocks) (ledger s).files + blocks) fit.0;
+      on = record { opened = search rules; room = omega (arith, roomy); below = search rules };
+      few = search rules;
+      most = search rules;
+      fit = search rules;
       room = roomy;
     }
 

@@ -1,37 +1,29 @@
 -- Archiving threads one after another.
-use Rattle.std.proofs.Common.{◌≡◌, ◌<◌, ◌≤◌, ◌+◌, ◌∙◌, ◌++◌, ◌&&◌, nat_le, nat_lt, inl, inr, ℕ, zero, suc, List, [], ◌∷◌, Option, Some, None, Bool, true, false, cond, refl, ap, sym, subst, arith, length, length-append}
-use Rattle.std.specs.Str.{bytes_eq}
+use Rattle.std.proofs.Common.{◌≡◌, ◌<◌, ◌≤◌, ◌+◌, ◌∙◌, ◌++◌, ◌&&◌, nat_le, nat_lt, ℕ, zero, suc, List, [], ◌∷◌, None, Bool, true, false, cond, refl, ap, sym, subst, arith, length, length-append, rules}
 use Rattle.std.proofs.lemmas.Bool.{and_right, le-ltb, leb-false}
 use Rattle.std.proofs.lemmas.List.{append-nil, append_assoc}
 use Rattle.rm_base.specs.Store.{Held}
 use Rattle.rm_base.specs.declared.block.Change.{Change}
-use Rattle.rm_base.specs.declared.refusal.Refusal.TheVariants.{Rm11}
-use Rattle.rm_base.specs.declared.refusal.Limit.TheVariants.{Records, Bytes, ObjectIds, Sequences}
 use Rattle.rm_change.specs.declared.change.Object.{Object}
 use Rattle.rm_change.specs.Names.{HasPuts, after_all as all_after, bytes_of, name_of}
 use Rattle.rm_ledger.specs.Ledger.{records_of}
 use Rattle.rm_redo.specs.Online.{sequence_of}
-use Rattle.rm_machine.specs.Archive.{after_thread, after_threads, archiving_refusal, bytes_from, due_from, is_last_sequence, made_by, made_from, puts_by, puts_from}
+use Rattle.rm_machine.specs.Archive.{after_thread, after_threads, archiving_refusal, due_from, is_last_sequence, made_by, made_from, puts_by, puts_from}
 use Rattle.rm_machine.specs.Effect.{Made}
 use Rattle.rm_machine.specs.Machine.{IsBorneOut}
-use Rattle.rm_machine.specs.Marks.{lacks_bytes, lacks_ids, lacks_room}
+use Rattle.rm_machine.specs.Marks.{lacks_room}
 use Rattle.rm_machine.specs.Sound.{IsSound}
 use Rattle.rm_machine.specs.declared.state.State.{State}
 use Rattle.rm_machine.specs.State.{ledger, online}
 use Rattle.rm_machine.specs.SwitchLogfile.{archived, is_due, log_entry, with_archived}
-use Rattle.rm_base.proofs.Conditions.{unless}
 use Rattle.rm_machine.proofs.Kept.{stand-same}
 use Rattle.rm_machine.proofs.Later.{borne-beside}
-use Rattle.rm_machine.proofs.Switching.{CanArchive, due-parts, not-above, sound-after, switched-by}
-use Rattle.rm_machine.proofs.Further.{roomy-either}
+use Rattle.rm_machine.proofs.Switching.{CanArchive, due-parts, sound-after, switched-by}
+use Rattle.rm_machine.proofs.Further.{roomy}
 use Rattle.rm_repository.proofs.Fitted.{many}
+use Rattle.rm_machine.proofs.Dropping.{after-both}
 
 -- What is put in two parts
-
-after-append : {X : Type 0} (name : X → List ℕ) (value : X → Option (List ℕ)) (xs ys : List X) (n : List ℕ) (old : Option (List ℕ))
-    → all_after name value (xs ++ ys) n old ≡ all_after name value ys n (all_after name value xs n old)
-after-append name value [] ys n old = refl
-after-append name value (x ∷ xs) ys n old = after-append name value xs ys n (cond (bytes_eq n (name x)) (value x) old)
 
 -- the objects, where these stand under their names
 abbrev pub with_puts : List Object → Held → Held
@@ -39,7 +31,7 @@ with_puts xs objects n = all_after name_of bytes_of xs n (objects n)
 
 -- the rest comes after the first
 pub puts-rest : (xs ys : List Object) (before after : Held) → HasPuts (xs ++ ys) before after → HasPuts ys (with_puts xs before) after
-puts-rest xs ys before after has n = has n ∙ after-append name_of bytes_of xs ys n (before n)
+puts-rest xs ys before after has n = has n ∙ after-both name_of bytes_of xs ys n (before n)
 
 -- Room
 
@@ -52,21 +44,8 @@ pub record HasRoom (s : State) (t n more : ℕ) : Type 0 where
 pub room-accepted : (s : State) (more : ℕ) → length (records_of (ledger s)) ≤ 65536 → archiving_refusal s more ≡ None → HasRoom s 1 s.catalog.ledger.base.threads more
 room-accepted s more few is =
     let n = s.catalog.ledger.base.threads in
-    let last = cond (is_last_sequence s 1 n) (Some (Rm11 Sequences)) None in
-    let ids = cond (lacks_ids s (due_from s 1 n)) (Some (Rm11 ObjectIds)) last in
-    let bytes = cond (lacks_bytes s (bytes_from s 1 n)) (Some (Rm11 Bytes)) ids in
-    let a = unless (lacks_room s (due_from s 1 n + more)) (Rm11 Records) bytes is in
-    let b = unless (lacks_bytes s (bytes_from s 1 n)) (Rm11 Bytes) ids a.1 in
-    let c = unless (lacks_ids s (due_from s 1 n)) (Rm11 ObjectIds) last b.1 in
-    let d = unless (is_last_sequence s 1 n) (Rm11 Sequences) None c.1 in
-    record {
-      records = elim (roomy-either (due_from s 1 n + more) (length (records_of (ledger s)) + (due_from s 1 n + more)) a.0) [
-        | inl none ↦ omega (arith, none, few)
-        | inr room ↦ omega (arith, room)
-      ];
-      ids = not-above 4294967295 (s.catalog.ledger.base.next_id + due_from s 1 n + 68) c.0;
-      sequences = d.0;
-    }
+    let fits = roomy (due_from s 1 n + more) (length (records_of (ledger s))) (search rules) few in
+    record { records = omega (arith, fits); ids = search rules; sequences = search rules }
 
 -- one record more where a thread was archived
 count-archived : (s : State) (t : ℕ) → length (records_of (ledger (with_archived s t))) ≡ length (records_of (ledger s)) + 1
@@ -74,17 +53,12 @@ count-archived s t =
     let new = many (ledger (with_archived s t)) in
     omega (arith, many (ledger s), new, length-append s.catalog.ledger.logs (log_entry s.catalog.ledger.base.next_id (online s t) ∷ []))
 
-roomy : (s : State) → length (records_of (ledger s)) + 1 ≤ 65536 → lacks_room s 1 ≡ false
-roomy s room = and_right (nat_lt 0 1) (nat_lt 65536 (length (records_of (ledger s)) + 1)) (le-ltb 65536 (length (records_of (ledger s)) + 1) room)
+room-one : (s : State) → length (records_of (ledger s)) + 1 ≤ 65536 → lacks_room s 1 ≡ false
+room-one s room = and_right (nat_lt 0 1) (nat_lt 65536 (length (records_of (ledger s)) + 1)) (le-ltb 65536 (length (records_of (ledger s)) + 1) room)
 
-not-last : (b c rest : Bool) → b ≡ true → cond (b && c) true rest ≡ false → (c ≡ false) × (rest ≡ false)
-not-last true true rest due is = absurd (let e : true ≡ false = is in cc)
-not-last true false rest due is = (refl, is)
-not-last false c rest due is = absurd (let e : false ≡ true = due in cc)
-
-not-due : (b c rest : Bool) → b ≡ false → cond (b && c) true rest ≡ false → rest ≡ false
-not-due true c rest due is = absurd (let e : true ≡ false = due in cc)
-not-due false c rest due is = is
+neither : (b rest : Bool) → cond b true rest ≡ false → (b ≡ false) × (rest ≡ false)
+neither true rest is = absurd (cc)
+neither false rest is = (refl, is)
 
 -- One thread
 
@@ -117,19 +91,14 @@ can-thread s t n more due room =
     let rest : ℕ = due_from (after_thread s t) (t + 1) n in
     let records : length (records_of (ledger s)) + (cond (is_due s t) 1 0 + rest) + more ≤ 65536 = room.records in
     let ids : s.catalog.ledger.base.next_id + (cond (is_due s t) 1 0 + rest) + 68 ≤ 4294967295 = room.ids in
-    let last = not-last (is_due s t) (nat_le 4294967295 (sequence_of s.instance.logs t)) (is_last_sequence (after_thread s t) (t + 1) n) due room.sequences in
+    let last = subst (λ b. (b && nat_le 4294967295 (sequence_of s.instance.logs t)) ≡ false) due (neither (is_due s t && nat_le 4294967295 (sequence_of s.instance.logs t)) _ room.sequences).0 in
     record {
-      roomy = roomy s (omega (arith, one, records));
+      roomy = room-one s (omega (arith, one, records));
       ids = omega (arith, one, ids);
-      sequence = leb-false 4294967295 (sequence_of s.instance.logs t) last.0;
+      sequence = leb-false 4294967295 (sequence_of s.instance.logs t) last;
       found = parts.0;
       some = parts.1;
     }
-
-next-sequences : (b c rest : Bool) → cond (b && c) true rest ≡ false → rest ≡ false
-next-sequences true true rest is = absurd (let e : true ≡ false = is in cc)
-next-sequences true false rest is = is
-next-sequences false c rest is = is
 
 -- how much was taken by a thread
 pub record Took (s q : State) (n : ℕ) : Type 0 where
@@ -149,7 +118,7 @@ next-room s t n more room =
     record {
       records = omega (arith, records, took.records);
       ids = omega (arith, ids, took.ids);
-      sequences = next-sequences (is_due s t) (nat_le 4294967295 (sequence_of s.instance.logs t)) (is_last_sequence (after_thread s t) (t + 1) n) room.sequences;
+      sequences = (neither (is_due s t && nat_le 4294967295 (sequence_of s.instance.logs t)) _ room.sequences).1;
     }
 
 pub sound-thread : (s : State) (t n more : ℕ) → IsSound s → 0 < t → t ≤ s.catalog.ledger.base.threads → HasRoom s t (suc n) more → IsSound (after_thread s t)

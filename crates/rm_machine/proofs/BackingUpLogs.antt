@@ -1,14 +1,11 @@
 -- BACKUP ARCHIVELOG ALL leads on: backups of logs are recorded, one after another.
-use Rattle.std.proofs.Common.{◌≡◌, ◌≤◌, ◌+◌, ◌∙◌, ◌++◌, inl, inr, ℕ, suc, List, [], ◌∷◌, Option, Some, None, refl, sym, subst, arith, append_assoc, filter, length, length-append, map, All, Contains, sum_by}
+use Rattle.std.proofs.Common.{◌≡◌, ◌≤◌, ◌+◌, ◌∙◌, ◌++◌, inl, inr, ℕ, suc, List, [], ◌∷◌, Option, Some, None, refl, sym, subst, arith, append_assoc, filter, length, length-append, map, All, Contains, rules}
 use Rattle.std.specs.Option.{option_map_or}
 use Rattle.std.proofs.lemmas.List.{append-nil}
 use Rattle.std.proofs.lemmas.List.Elements.{All-contains, All-head, All-tail, All-weaker, Contains-append_left, Contains-push, Contains-push_cases}
 use Rattle.rm_base.specs.Store.{Held}
 use Rattle.rm_base.specs.declared.block.Change.{Change}
-use Rattle.rm_base.specs.declared.refusal.Limit.TheVariants.{Records, Bytes, ObjectIds}
 use Rattle.rm_base.specs.declared.refusal.Refusal.{Refusal}
-use Rattle.rm_base.specs.declared.refusal.Refusal.TheVariants.{Rm11}
-use Rattle.rm_base.proofs.Conditions.{unless}
 use Rattle.rm_base.proofs.Lists.{filter_from, map_from}
 use Rattle.rm_base.proofs.Sealing.{length-sealed}
 use Rattle.rm_catalog.specs.declared.record.LogEntry.{LogEntry}
@@ -30,10 +27,9 @@ use Rattle.rm_repository.specs.Fitting.{FitsNewLog}
 use Rattle.rm_repository.specs.Repository.{Repository}
 use Rattle.rm_repository.proofs.Fitted.{many, new_log_fits}
 use Rattle.rm_statement.specs.declared.command.Command.TheVariants.{BackupLogs}
-use Rattle.rm_machine.specs.BackupLogs.{archived_in, copies_of, copies_refusal, copy_entry, copy_made, copy_object, copying, file_bytes, with_copies}
+use Rattle.rm_machine.specs.BackupLogs.{archived_in, copies_of, copies_refusal, copy_entry, copy_made, copy_object, copying, with_copies}
 use Rattle.rm_machine.specs.Effect.{Effect, LeavesObjects, Made, a_log, done, refused}
 use Rattle.rm_machine.specs.Machine.{DigestsTellFor, HasLogArtefact, IsBorneOut, IsTrueArtefact}
-use Rattle.rm_machine.specs.Marks.{lacks_bytes, lacks_ids, lacks_room}
 use Rattle.rm_machine.specs.Sound.{IsSound}
 use Rattle.rm_machine.specs.Upkeep.{with_catalog}
 use Rattle.rm_machine.specs.declared.state.State.{State}
@@ -41,12 +37,12 @@ use Rattle.rm_machine.specs.State.{ledger, tree, world}
 use Rattle.rm_machine.proofs.Agreeing.{log-agrees}
 use Rattle.rm_machine.proofs.Archives.{puts-rest, with_puts}
 use Rattle.rm_machine.proofs.Left.{HasRoom}
-use Rattle.rm_machine.proofs.Further.{roomy-either}
+use Rattle.rm_machine.proofs.Further.{roomy}
 use Rattle.rm_machine.proofs.Kept.{kept-on, stand-same}
 use Rattle.rm_machine.proofs.Later.{borne-beside, fits-with, sound-with}
 use Rattle.rm_machine.proofs.Leading.{LeadsOnBy, StaysBy}
 use Rattle.rm_machine.proofs.Standing.{each-in}
-use Rattle.rm_machine.proofs.Switching.{after-put, not-above, stand-fresh}
+use Rattle.rm_machine.proofs.Switching.{after-put, stand-fresh}
 use Rattle.rm_machine.proofs.Quiet.{same-stays, unchanged}
 
 -- the log of a record can be recorded again
@@ -204,17 +200,7 @@ all-true s h objects made touched found borne tell lists = each-found (λ a. IsT
 
 pub room-for : (s : State) (logs : List LogFile) → IsSound s → copies_refusal s logs ≡ None → HasRoom s (length logs)
 room-for s logs sound is =
-    let n = length logs in
-    let records = unless (lacks_room s n) (Rm11 Records) _ is in
-    let bytes = unless (lacks_bytes s (sum_by file_bytes logs)) (Rm11 Bytes) _ records.1 in
-    let ids = unless (lacks_ids s n) (Rm11 ObjectIds) None bytes.1 in
-    record {
-      records = elim (roomy-either n (length (records_of (ledger s)) + n) records.0) [
-        | inl none ↦ omega (arith, none, sound.catalog.ledger.few)
-        | inr room ↦ omega (arith, room)
-      ];
-      ids = not-above 4294967295 ((ledger s).base.next_id + n + 68) ids.0;
-    }
+    record { records = roomy (length logs) (length (records_of (ledger s))) (search rules) sound.catalog.ledger.few; ids = search rules }
 
 pub done-of : (o : Option Refusal) (lines said : List Line) (x e : Effect) (q t : State) → done said e t ≡ option_map_or refused o (done lines x q) → (o ≡ None) × (x ≡ e) × (q ≡ t)
 done-of None lines said x e q t is = (refl, (let one : done said e t ≡ done lines x q = is in cc), (let one : done said e t ≡ done lines x q = is in cc))

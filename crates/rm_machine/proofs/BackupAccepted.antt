@@ -1,15 +1,13 @@
 -- A BACKUP that was not refused.
-use Rattle.std.proofs.Common.{◌≡◌, ◌<◌, ◌≤◌, ◌+◌, ◌==◌, ◌||◌, inl, inr, ℕ, zero, suc, List, [], ◌∷◌, Option, Some, None, true, false, cond, is_none, nat_le, nat_lt, refl, subst, arith, length, All, sum_by}
+use Rattle.std.proofs.Common.{◌≡◌, ◌<◌, ◌≤◌, ◌+◌, ◌==◌, ◌||◌, inl, inr, ℕ, zero, suc, List, [], ◌∷◌, Option, Some, None, true, false, cond, is_none, nat_le, nat_lt, refl, subst, arith, length, All, rules}
 use Rattle.std.specs.Option.{option_map_or}
 use Rattle.std.proofs.lemmas.Bool.{cases_eq, leb-false, ltb-false, or_parts}
-use Rattle.std.proofs.lemmas.Bool.Decides.{nat_tests}
 use Rattle.std.proofs.lemmas.List.Elements.{All-cons, All-nil}
 use Rattle.rm_base.specs.Numbers.{last_scn}
 use Rattle.rm_base.specs.declared.refusal.Absent.{Absent}
 use Rattle.rm_base.specs.declared.refusal.Absent.TheVariants.{Thread, File as AbsentFile, Block}
-use Rattle.rm_base.specs.declared.refusal.Limit.TheVariants.{Records, Bytes, ObjectIds, LogRecords}
 use Rattle.rm_base.specs.declared.refusal.Refusal.{Refusal}
-use Rattle.rm_base.specs.declared.refusal.Refusal.TheVariants.{Rm04, Rm05, Rm09, Rm11, Rm15}
+use Rattle.rm_base.specs.declared.refusal.Refusal.TheVariants.{Rm05, Rm09}
 use Rattle.rm_base.proofs.Conditions.{not-none, only-where, unless}
 use Rattle.rm_blocks.specs.File.{File}
 use Rattle.rm_history.specs.declared.world.Datafile.{Datafile}
@@ -18,16 +16,16 @@ use Rattle.rm_ledger.specs.Ledger.{records_of}
 use Rattle.rm_redo.specs.Online.{records_of as log_records}
 use Rattle.rm_statement.specs.declared.command.BackupForm.{BackupForm}
 use Rattle.rm_statement.specs.declared.command.WriteForm.{WriteForm}
-use Rattle.rm_machine.specs.Backup.{absent, lost_taken, piece_bytes, taken as taken_by}
-use Rattle.rm_machine.specs.Marks.{lacks_bytes, lacks_ids, lacks_room}
+use Rattle.rm_machine.specs.Backup.{absent, lost_taken, taken as taken_by}
 use Rattle.rm_machine.specs.Sound.{IsSound}
 use Rattle.rm_machine.specs.declared.state.State.{State}
 use Rattle.rm_machine.specs.State.{ledger, world, current_of, now_of, on_path, placed}
 use Rattle.rm_machine.proofs.Backups.{IsTaken, taken-all}
-use Rattle.rm_machine.proofs.Further.{roomy-either}
+use Rattle.rm_machine.proofs.Further.{roomy}
 use Rattle.rm_machine.proofs.Writes.{on-path}
 use Rattle.rm_machine.specs.Asked.{by_thread, writes_in}
-use Rattle.rm_machine.specs.BackupRefusal.{absent_in, absent_of, backup_refusal, lacks_log, lacks_logs, lost_of, lost_refusal, mark_count, room_refusal}
+use Rattle.rm_machine.specs.BackupRefusal.{absent_in, absent_of, backup_refusal, lacks_log, lacks_logs, lost_of, mark_count, room_refusal}
+use Rattle.rm_machine.proofs.Switching.{thread-of}
 
 -- a write finds its thread, its block, and its datafile in place
 pub record CanBeWritten (s : State) (w : WriteForm) : Type 0 where
@@ -57,9 +55,6 @@ pub record IsNamed (s : State) (w : WriteForm) : Type 0 where
   pub is : file_of (world s) w.file ≡ Some datafile
   pub here : exists (world s) (current_of s) (now_of s) datafile ≡ true
   pub block : w.block < datafile.blocks
-
-thread-of : (n t : ℕ) → ((t == 0) || nat_lt n t) ≡ false → (0 < t) × (t ≤ n)
-thread-of n t is = (grind (arith, nat_tests), grind (arith, nat_tests))
 
 -- what a write names besides its thread
 abbrev beside_thread : WriteForm → Option Datafile → Option Absent
@@ -118,32 +113,19 @@ unless-some r (Some x) other is = absurd (let e : Some (r x) ≡ None = is in cc
 
 pub can-back_up : (s : State) (b : BackupForm) → IsSound s → backup_refusal s b ≡ None → CanBackUp s b
 can-back_up s b sound is =
-    let fs = taken_by s b in
-    let n = length fs in
     let ws = writes_in b in
-    let more = n + mark_count s b in
-    let threads = (ledger s).base.threads in
-    let there = option_map_or (λ a. Some (Rm05 a)) (absent_of s ws) (lost_refusal s b) in
-    let mode = only-where s.instance.is_open (option_map_or (λ f. Some (Rm05 (AbsentFile f))) (absent s b) there) (Rm04 true) is in
-    let known = unless-some (λ f. Rm05 (AbsentFile f)) (absent s b) there mode.1 in
-    let names = unless-some (λ a. Rm05 a) (absent_of s ws) (lost_refusal s b) known.1 in
-    let stand = option_map_or (λ f. Some (Rm09 f)) (lost_of s ws) (room_refusal s b) in
-    let found = unless-some (λ f. Rm09 f) (lost_taken s b) stand names.1 in
-    let held = unless-some (λ f. Rm09 f) (lost_of s ws) (room_refusal s b) found.1 in
-    let records = unless (lacks_room s more) (Rm11 Records) _ held.1 in
-    let bytes = unless (lacks_bytes s (sum_by (piece_bytes s) fs)) (Rm11 Bytes) _ records.1 in
-    let ids = unless (lacks_ids s n) (Rm11 ObjectIds) _ bytes.1 in
-    let logs = unless (lacks_logs s ws 1 threads) (Rm11 LogRecords) _ ids.1 in
-    let scns = unless (nat_lt last_scn (now_of s + length ws)) Rm15 None logs.1 in
+    let mode = only-where s.instance.is_open _ _ is in
+    let known = unless-some (λ f. Rm05 (AbsentFile f)) (absent s b) _ mode.1 in
+    let names = unless-some (λ a. Rm05 a) (absent_of s ws) _ known.1 in
+    let found = unless-some (λ f. Rm09 f) (lost_taken s b) _ names.1 in
+    let held = unless-some (λ f. Rm09 f) (lost_of s ws) _ found.1 in
+    let rest : room_refusal s b ≡ None = held.1 in
     record {
       opened = mode.0;
       taken = taken-all s b found.0;
-      records = elim (roomy-either more (length (records_of (ledger s)) + more) records.0) [
-        | inl none ↦ omega (arith, none, sound.catalog.ledger.few)
-        | inr room ↦ room
-      ];
-      ids = ltb-false 4294967295 ((ledger s).base.next_id + n + 68) ids.0;
+      records = roomy (length (taken_by s b) + mark_count s b) (length (records_of (ledger s))) (search rules) sound.catalog.ledger.few;
+      ids = search rules;
       writes = writes-can s ws names.0 held.0;
-      logs = λ t low high. ltb-false 65536 (length (log_records s.instance.logs t) + length (by_thread t ws)) (logs-have s ws 1 threads logs.0 t (omega (arith, low)) (omega (arith, high)));
-      scns = ltb-false last_scn (now_of s + length ws) scns.0;
+      logs = λ t low high. ltb-false 65536 (length (log_records s.instance.logs t) + length (by_thread t ws)) (logs-have s ws 1 (ledger s).base.threads (search rules) t (omega (arith, low)) (omega (arith, high)));
+      scns = search rules;
     }

@@ -1,41 +1,32 @@
 -- RESET DATABASE leads on: another incarnation is chosen.
-use Rattle.std.proofs.Common.{◌≡◌, ◌<◌, ◌≤◌, ◌∙◌, ◌==◌, ◌||◌, nat_lt, ℕ, List, Some, None, false, sym, subst, arith, length}
+use Rattle.std.proofs.Common.{◌≡◌, ◌∙◌, ℕ, List, Some, None, false, sym, subst, length, rules}
 use Rattle.std.proofs.lemmas.Bool.{false≢true}
-use Rattle.std.proofs.lemmas.Bool.Decides.{nat_tests}
 use Rattle.rm_base.specs.Store.{Held}
 use Rattle.rm_base.specs.declared.block.Change.{Change}
-use Rattle.rm_base.specs.declared.refusal.Refusal.TheVariants.{Rm04, Rm07}
 use Rattle.rm_blocks.specs.File.{base_of}
 use Rattle.rm_history.specs.Agrees.{BaseAgrees}
 use Rattle.rm_history.specs.Tree.{IsThere}
 use Rattle.rm_repository.specs.Facts.{IsRepository}
 use Rattle.rm_machine.specs.Effect.{Made}
 use Rattle.rm_machine.specs.Machine.{HistoryFits, IsBorneOut}
-use Rattle.rm_machine.specs.Marks.{ids_refusal}
 use Rattle.rm_machine.specs.ResetDatabase.{at_incarnation, reset_refusal}
 use Rattle.rm_machine.specs.Sound.{IsPlaced, IsSound}
 use Rattle.rm_machine.specs.declared.state.State.{State}
 use Rattle.rm_machine.specs.State.{world}
 use Rattle.rm_statement.specs.declared.command.Command.TheVariants.{ResetDatabase}
-use Rattle.rm_base.proofs.Conditions.{unless}
 use Rattle.rm_machine.proofs.CountedLogs.{counted-agree, counted-online}
 use Rattle.rm_machine.proofs.Current.{current-kept}
 use Rattle.rm_machine.proofs.Leading.{LeadsOnBy, StaysBy}
 use Rattle.rm_machine.proofs.Places.{counted-closed}
 use Rattle.rm_machine.proofs.Quiet.{quiet-on, quiet-stays}
+use Rattle.rm_machine.proofs.Switching.{thread-of}
 
 pub record CanChoose (s : State) (i : ℕ) : Type 0 where
   pub shut : s.instance.is_open ≡ false
   pub there : IsThere s.catalog.ledger.tree i
 
-there-of : (n i : ℕ) → ((i == 0) || nat_lt n i) ≡ false → (0 < i) × (i ≤ n)
-there-of n i is = (grind (arith, nat_tests), grind (arith, nat_tests))
-
 pub can-choose : (s : State) (i : ℕ) → reset_refusal s i ≡ None → CanChoose s i
-can-choose s i is =
-    let mode = unless s.instance.is_open (Rm04 false) _ is in
-    let there = unless ((i == 0) || nat_lt (length s.catalog.ledger.tree) i) (Rm07 i) (ids_refusal s) mode.1 in
-    record { shut = mode.0; there = there-of (length s.catalog.ledger.tree) i there.0 }
+can-choose s i is = record { shut = search rules; there = thread-of (length s.catalog.ledger.tree) i (search rules) }
 
 module _ (s : State) (i : ℕ) (sound : IsSound s) (can : CanChoose s i) where
   abbrev q : State

@@ -19,7 +19,7 @@ use Rattle.rm_machine.specs.Step.{and_drops}
 use Rattle.rm_machine.proofs.Kept.{StandOn}
 
 -- one list of changes after another
-after-both : {X : Type 0} (name : X → List ℕ) (value : X → Option (List ℕ)) (xs ys : List X) (n : List ℕ) (o : Option (List ℕ))
+pub after-both : {X : Type 0} (name : X → List ℕ) (value : X → Option (List ℕ)) (xs ys : List X) (n : List ℕ) (o : Option (List ℕ))
     → after_all name value (xs ++ ys) n o ≡ after_all name value ys n (after_all name value xs n o)
 after-both name value [] ys n o = refl
 after-both name value (x ∷ xs) ys n o = after-both name value xs ys n _

@@ -25,7 +25,7 @@ use Rattle.rm_machine.proofs.Records.{tree-told}
 use Rattle.rm_machine.proofs.Standing.{at-place, each-in, present-in}
 
 -- blocks in order ascend
-ascends : (rows : List Row) → IsInOrder rows → AllPairs IsBefore rows
+pub ascends : (rows : List Row) → IsInOrder rows → AllPairs IsBefore rows
 ascends rows order i j d less inside =
     let first = order i (get_or rows i d) (slice_get-get_or rows i d (omega (arith, less, inside))) in
     omega (arith, first, order j (get_or rows j d) (slice_get-get_or rows j d inside), less)

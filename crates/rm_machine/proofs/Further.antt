@@ -42,6 +42,12 @@ roomy-either n total is = elim (cases_lt 0 n) [
   ]
 ]
 
+pub roomy : (n held : ℕ) → (nat_lt 0 n && nat_lt 65536 (held + n)) ≡ false → held ≤ 65536 → held + n ≤ 65536
+roomy n held is few = elim (roomy-either n (held + n) is) [
+  | inl none ↦ omega (arith, none, few)
+  | inr room ↦ room
+]
+
 -- an open database that has an SCN, and room for the mark before a change
 pub record GoesOn (s : State) : Type 0 where
   pub opened : s.instance.is_open ≡ true

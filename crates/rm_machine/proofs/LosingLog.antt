@@ -1,12 +1,8 @@
 -- HOST LOSE LOG leads on: the online log of a thread is lost.
-use Rattle.std.proofs.Common.{◌≡◌, ◌<◌, ◌≤◌, ◌∙◌, ◌==◌, ◌||◌, nat_lt, inl, inr, ℕ, List, None, true, false, cond, ap, sym, subst, arith}
+use Rattle.std.proofs.Common.{◌≡◌, ◌<◌, ◌≤◌, ◌∙◌, inl, inr, ℕ, List, None, true, false, cond, ap, sym, subst, arith, rules}
 use Rattle.std.proofs.lemmas.Bool.{cases_Bool, cases_eq, false≢true}
-use Rattle.std.proofs.lemmas.Bool.Decides.{nat_tests}
 use Rattle.rm_base.specs.Store.{Held}
 use Rattle.rm_base.specs.declared.block.Change.{Change}
-use Rattle.rm_base.specs.declared.refusal.Refusal.TheVariants.{Rm05}
-use Rattle.rm_base.specs.declared.refusal.Absent.TheVariants.{Thread}
-use Rattle.rm_base.proofs.Conditions.{unless}
 use Rattle.rm_statement.specs.declared.command.Command.TheVariants.{LoseLog}
 use Rattle.rm_history.specs.Agrees.{LogAgrees}
 use Rattle.rm_history.specs.Tree.{IsThere, end_of}
@@ -19,7 +15,6 @@ use Rattle.rm_redo.proofs.Logs.{IsLost-with_loss, around-with_loss, first_of-wit
 use Rattle.rm_machine.specs.Effect.{Made}
 use Rattle.rm_machine.specs.LoseLog.{lose_log_refusal, without_log}
 use Rattle.rm_machine.specs.Machine.{HistoryFits, IsBorneOut}
-use Rattle.rm_machine.specs.Marks.{ids_refusal}
 use Rattle.rm_machine.specs.Mount.{as_mounted, mounted}
 use Rattle.rm_machine.specs.Sound.{AreOnline, IsOnline, IsSound}
 use Rattle.rm_machine.specs.declared.state.State.{State}
@@ -28,9 +23,7 @@ use Rattle.rm_machine.proofs.CountedLogs.{AgreeOnline, counted-agree, counted-on
 use Rattle.rm_machine.proofs.Leading.{LeadsOnBy, StaysBy}
 use Rattle.rm_machine.proofs.Mounting.{closed-as_mounted, none-mounted, sound-as_mounted, stands-as_mounted}
 use Rattle.rm_machine.proofs.Quiet.{quiet-on, quiet-stays}
-
-thread-of : (n t : ℕ) → ((t == 0) || nat_lt n t) ≡ false → (0 < t) × (t ≤ n)
-thread-of n t is = (grind (arith, nat_tests), grind (arith, nat_tests))
+use Rattle.rm_machine.proofs.Switching.{thread-of}
 
 -- a log as a file, by its parts
 abbrev file_by : ℕ → ℕ → ℕ → ℕ → ℕ → ℕ → List LogRecord → LogFile
@@ -121,7 +114,7 @@ threads-mounted s = elim (cases_Bool s.instance.is_open) [
 
 range : (s : State) (t : ℕ) → lose_log_refusal s t ≡ None → (0 < t) × (t ≤ (ledger (as_mounted s)).base.threads)
 range s t is =
-    let there = thread-of (ledger s).base.threads t (unless ((t == 0) || nat_lt (ledger s).base.threads t) (Rm05 (Thread t)) (ids_refusal s) is).0 in
+    let there = thread-of (ledger s).base.threads t (search rules) in
     (there.0, subst (λ n. t ≤ n) (sym (threads-mounted s)) there.1)
 
 pub lose_log-on : (t : ℕ) → LeadsOnBy (LoseLog t)

@@ -23,6 +23,7 @@ use Rattle.rm_base.proofs.Conditions.{only-where, unless}
 use Rattle.rm_machine.proofs.Leading.{LeadsOnBy, StaysBy}
 use Rattle.rm_machine.proofs.Places.{counted-closed, counted-open}
 use Rattle.rm_machine.proofs.Quiet.{quiet-on, quiet-stays}
+use Rattle.rm_machine.proofs.Switching.{not-true}
 
 record CanOpen (s : State) : Type 0 where
   shut : s.instance.is_open ≡ false
@@ -38,10 +39,6 @@ none-lost (l ∷ ls) (suc k) any = none-lost ls k (or_parts l.is_lost (list_any 
 at-now : (o : Option ℕ) (n : ℕ) → option_map_or (λ s. s == n) o false ≡ true → o ≡ Some n
 at-now None n e = absurd (cc)
 at-now (Some s) n e = ap Some (eqb-true s n e)
-
-not-true : (b : Bool) → not b ≡ true → b ≡ false
-not-true true is = absurd (let e : false ≡ true = is in cc)
-not-true false is = refl
 
 can-open : (s : State) → open_refusal s ≡ None → CanOpen s
 can-open s is =

@@ -1,5 +1,5 @@
 -- The piece of what was read of a datafile is valid, and true where the rows agree with the history.
-use Rattle.std.proofs.Common.{◌≡◌, ◌≢◌, ◌<◌, ◌≤◌, ◌+◌, ◌-◌, ◌∙◌, ◌==◌, ℕ, List, Option, Some, None, Bool, true, false, cond, refl, sym, subst, arith, length, All, AllPairs, Contains, is_none, nat_le, nat_lt, slice_get, slice_index_or}
+use Rattle.std.proofs.Common.{◌≡◌, ◌≢◌, ◌<◌, ◌≤◌, ◌+◌, ◌-◌, ◌∙◌, ◌==◌, ℕ, List, Option, Some, None, Bool, true, false, cond, refl, sym, subst, arith, length, All, Contains, is_none, nat_le, nat_lt, slice_get, slice_index_or}
 use Rattle.std.proofs.lemmas.Bool.{and_parts, eqb-true}
 use Rattle.std.proofs.lemmas.List.Elements.{All-contains}
 use Rattle.std.proofs.lemmas.List.Sums.{count_by-le-length, length-filter}
@@ -22,7 +22,7 @@ use Rattle.rm_ledger.specs.Facts.{IsCreated, IsPieceEntry}
 use Rattle.rm_piece.specs.declared.piece.Piece.{Piece}
 use Rattle.rm_piece.specs.Artefacts as piece
 use Rattle.rm_piece.specs.Spelling.{body_of}
-use Rattle.rm_piece.specs.Valid.{FitsKind, IsBefore, IsPiece, IsRow}
+use Rattle.rm_piece.specs.Valid.{FitsKind, IsPiece, IsRow}
 use Rattle.rm_piece.proofs.Bodies.{length-body}
 use Rattle.rm_piece.proofs.Fitting.{fits}
 use Rattle.rm_piece.proofs.Picked.{copy_picked, picked_valid}
@@ -37,6 +37,7 @@ use Rattle.rm_machine.specs.declared.state.State.{State}
 use Rattle.rm_machine.specs.State.{ledger, tree, world, current_of, now_of}
 use Rattle.rm_machine.proofs.Numbers.{blocks-at}
 use Rattle.rm_base.specs.declared.kinds.Kind.{Kind}
+use Rattle.rm_machine.proofs.Fitting.{ascends}
 
 -- a row that was read up to now
 pub record IsFound (t : State) (r : Row) : Type 0 where
@@ -67,11 +68,6 @@ BeginsBelow checkpoint (Some from) = (1 ≤ from) × (from ≤ checkpoint)
 whole-by : (P : Kind → Type 0) (k : Bool) → P Full → P Level0 → P (cond k Full Level0)
 whole-by P true full level0 = full
 whole-by P false full level0 = level0
-
-ascends : (rows : List Row) → IsInOrder rows → AllPairs IsBefore rows
-ascends rows order i j d less inside =
-    let first = order i (slice_index_or rows i d) (slice_get-get_or rows i d (omega (arith, less, inside))) in
-    omega (arith, first, order j (slice_index_or rows j d) (slice_get-get_or rows j d inside), less)
 
 module _ (t : State) (b : BackupForm) (f checkpoint : ℕ) (rows : List Row) (sound : IsSound t) (are : AreRead t f rows) (at : IsCheckpoint t checkpoint) where
   abbrev job : Option ℕ → Job

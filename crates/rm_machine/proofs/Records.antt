@@ -19,6 +19,7 @@ use Rattle.rm_objects.specs.Database.{created_by, datafiles}
 use Rattle.rm_objects.specs.Database.{world_of as told_world}
 use Rattle.rm_repository.specs.Repository.{Repository, Saved, records_of, saved_records}
 use Rattle.rm_machine.specs.State.{world_of}
+use Rattle.rm_base.specs.declared.block.Mark.{Mark}
 
 module _ {B : Type 0} (tell : Record → Option B) where
   -- each of these records tells its thing
@@ -54,45 +55,36 @@ module _ {B : Type 0} (tell : Record → Option B) where
   of-parts : (a b c d e f : List Record) → filter_map tell (a ++ b ++ c ++ d ++ e ++ f) ≡ filter_map tell a ++ filter_map tell b ++ filter_map tell c ++ filter_map tell d ++ filter_map tell e ++ filter_map tell f
   of-parts a b c d e f = simp (filter_map-append {X = Record} {Y = B})
 
+  -- what the records of a catalog tell, where marks and saved sites tell nothing
+  all-told : (r : Repository) (tree files logs pieces : List B) → filter_map tell (numbered incarnation_record 1 r.ledger.tree) ≡ tree → filter_map tell (numbered datafile_record 1 r.ledger.files) ≡ files
+      → filter_map tell (map kind.Log r.ledger.logs) ≡ logs → filter_map tell (map kind.Piece r.ledger.pieces) ≡ pieces → tell (kind.Base r.ledger.base) ≡ None
+      → ((k : ℕ) (m : Mark) → tell (mark_record k m) ≡ None) → ((p : PartEntry) → tell (kind.Part p) ≡ None) → ((h : HeadEntry) → tell (kind.Head h) ≡ None) → filter_map tell (records_of r) ≡ tree ++ files ++ logs ++ pieces
+  all-told r tree files logs pieces is_tree is_files are_logs are_pieces base marks parts heads =
+      let l = r.ledger in
+      let first : filter_map tell (kind.Base l.base ∷ numbered incarnation_record 1 l.tree) ≡ tree = ap (λ o. cons_option o (filter_map tell (numbered incarnation_record 1 l.tree))) base ∙ is_tree in
+      of-parts (kind.Base l.base ∷ numbered incarnation_record 1 l.tree) (numbered datafile_record 1 l.files) (map kind.Log l.logs) (map kind.Piece l.pieces) (numbered mark_record 1 l.marks) (saved_records r.saved)
+      ∙ simp (first, is_files, are_logs, are_pieces, none-numbered mark_record marks 1 l.marks, none-saved parts heads r.saved, append-nil)
+
 -- the incarnations
 pub tree-told : (r : Repository) → nodes (records_of r) ≡ r.ledger.tree
 tree-told r =
-    let l = r.ledger in
-    let tree : nodes (kind.Base l.base ∷ numbered incarnation_record 1 l.tree) ≡ l.tree = told-numbered node_in incarnation_record (λ k n. refl) 1 l.tree in
-    let files : nodes (numbered datafile_record 1 l.files) ≡ [] = none-numbered node_in datafile_record (λ k d. refl) 1 l.files in
-    let logs : nodes (map kind.Log l.logs) ≡ [] = none-mapped node_in kind.Log (λ e. refl) l.logs in
-    let pieces : nodes (map kind.Piece l.pieces) ≡ [] = none-mapped node_in kind.Piece (λ e. refl) l.pieces in
-    let marks : nodes (numbered mark_record 1 l.marks) ≡ [] = none-numbered node_in mark_record (λ k m. refl) 1 l.marks in
-    let saved : nodes (saved_records r.saved) ≡ [] = none-saved node_in (λ p. refl) (λ h. refl) r.saved in
-    of-parts node_in (kind.Base l.base ∷ numbered incarnation_record 1 l.tree) (numbered datafile_record 1 l.files) (map kind.Log l.logs) (map kind.Piece l.pieces) (numbered mark_record 1 l.marks) (saved_records r.saved)
-    ∙ simp (tree, files, logs, pieces, marks, saved, append-nil)
+    all-told node_in r r.ledger.tree [] [] [] (told-numbered node_in incarnation_record (λ k n. refl) 1 r.ledger.tree) (none-numbered node_in datafile_record (λ k d. refl) 1 r.ledger.files)
+    (none-mapped node_in kind.Log (λ e. refl) r.ledger.logs) (none-mapped node_in kind.Piece (λ p. refl) r.ledger.pieces) refl (λ k m. refl) (λ p. refl) (λ h. refl)
+    ∙ simp append-nil
 
 -- the datafiles
 pub files-told : (r : Repository) → datafiles (records_of r) ≡ r.ledger.files
 files-told r =
-    let l = r.ledger in
     let tell : Record → Option Datafile = λ r. option_map created_by (datafile_in r) in
-    let tree : datafiles (kind.Base l.base ∷ numbered incarnation_record 1 l.tree) ≡ [] = none-numbered tell incarnation_record (λ k n. refl) 1 l.tree in
-    let files : datafiles (numbered datafile_record 1 l.files) ≡ l.files = told-numbered tell datafile_record (λ k d. refl) 1 l.files in
-    let logs : datafiles (map kind.Log l.logs) ≡ [] = none-mapped tell kind.Log (λ e. refl) l.logs in
-    let pieces : datafiles (map kind.Piece l.pieces) ≡ [] = none-mapped tell kind.Piece (λ e. refl) l.pieces in
-    let marks : datafiles (numbered mark_record 1 l.marks) ≡ [] = none-numbered tell mark_record (λ k m. refl) 1 l.marks in
-    let saved : datafiles (saved_records r.saved) ≡ [] = none-saved tell (λ p. refl) (λ h. refl) r.saved in
-    of-parts tell (kind.Base l.base ∷ numbered incarnation_record 1 l.tree) (numbered datafile_record 1 l.files) (map kind.Log l.logs) (map kind.Piece l.pieces) (numbered mark_record 1 l.marks) (saved_records r.saved)
-    ∙ simp (tree, files, logs, pieces, marks, saved, append-nil)
+    all-told tell r [] r.ledger.files [] [] (none-numbered tell incarnation_record (λ k n. refl) 1 r.ledger.tree) (told-numbered tell datafile_record (λ k d. refl) 1 r.ledger.files)
+    (none-mapped tell kind.Log (λ e. refl) r.ledger.logs) (none-mapped tell kind.Piece (λ p. refl) r.ledger.pieces) refl (λ k m. refl) (λ p. refl) (λ h. refl)
+    ∙ simp append-nil
 
 -- the pieces
 pub pieces-told : (r : Repository) → filter_map piece_in (records_of r) ≡ r.ledger.pieces
 pieces-told r =
-    let l = r.ledger in
-    let tree : filter_map piece_in (kind.Base l.base ∷ numbered incarnation_record 1 l.tree) ≡ [] = none-numbered piece_in incarnation_record (λ k n. refl) 1 l.tree in
-    let files : filter_map piece_in (numbered datafile_record 1 l.files) ≡ [] = none-numbered piece_in datafile_record (λ k d. refl) 1 l.files in
-    let logs : filter_map piece_in (map kind.Log l.logs) ≡ [] = none-mapped piece_in kind.Log (λ e. refl) l.logs in
-    let pieces : filter_map piece_in (map kind.Piece l.pieces) ≡ l.pieces = told-mapped piece_in kind.Piece (λ e. refl) l.pieces in
-    let marks : filter_map piece_in (numbered mark_record 1 l.marks) ≡ [] = none-numbered piece_in mark_record (λ k m. refl) 1 l.marks in
-    let saved : filter_map piece_in (saved_records r.saved) ≡ [] = none-saved piece_in (λ p. refl) (λ h. refl) r.saved in
-    of-parts piece_in (kind.Base l.base ∷ numbered incarnation_record 1 l.tree) (numbered datafile_record 1 l.files) (map kind.Log l.logs) (map kind.Piece l.pieces) (numbered mark_record 1 l.marks) (saved_records r.saved)
-    ∙ simp (tree, files, logs, pieces, marks, saved, append-nil)
+    all-told piece_in r [] [] [] r.ledger.pieces (none-numbered piece_in incarnation_record (λ k n. refl) 1 r.ledger.tree) (none-numbered piece_in datafile_record (λ k d. refl) 1 r.ledger.files)
+    (none-mapped piece_in kind.Log (λ e. refl) r.ledger.logs) (told-mapped piece_in kind.Piece (λ p. refl) r.ledger.pieces) refl (λ k m. refl) (λ p. refl) (λ h. refl)
 
 -- and so the database, whose threads stand in the base facts
 pub world-told : (r : Repository) → told_world (records_of r) ≡ world_of r.ledger

@@ -1,6 +1,5 @@
 -- RECOVER DATABASE leads on, and its test tells: what is determined is what the history made.
-use Rattle.std.proofs.Common.{◌≡◌, ◌≤◌, ◌<◌, ◌+◌, ◌∙◌, ◌++◌, ◌==◌, ◌||◌, nat_lt, inl, inr, ℕ, List, Option, Some, None, true, false, refl, ap, sym, subst, arith, length, slice_get}
-use Rattle.std.proofs.lemmas.Bool.Decides.{nat_tests}
+use Rattle.std.proofs.Common.{◌≡◌, ◌≤◌, ◌+◌, ◌∙◌, ◌++◌, inl, inr, ℕ, List, Option, Some, None, true, refl, ap, sym, subst, arith, length, slice_get}
 use Rattle.std.proofs.lemmas.List.Elements.{All-contains}
 use Rattle.rm_base.specs.Store.{Held}
 use Rattle.rm_base.specs.declared.block.Change.{Change}
@@ -37,6 +36,7 @@ use Rattle.rm_machine.proofs.Placing.{over-length}
 use Rattle.rm_machine.proofs.Quiet.{quiet-on, quiet-stays}
 use Rattle.rm_machine.proofs.Recovering.{CameBack, CanRecover, can-recover, comes, sound-recovered, stands}
 use Rattle.rm_machine.proofs.Told.{files-made, tells-files, tells-fits, told-states}
+use Rattle.rm_machine.proofs.Switching.{thread-of}
 
 module _ (s : State) (h : List Change) (e : Evidence) (at : ℕ) (files : List File) (sound : IsSound s) (keeps : HistoryFits s h) (fits : FitsTree (tree s) e) (can : CanRecover s at)
     (agrees : known.Agrees (world s) h (known_of e)) (told : AreFilesAt (world s) (known_of e) (current_of s) at files) where
@@ -113,14 +113,11 @@ recover-stays until s objects said e t well sound unsaved none does = stays-by (
 -- RECOVER DATABASE TEST
 
 -- where it is not refused its incarnation is there
-there-by : (i n : ℕ) → ((i == 0) || nat_lt n i) ≡ false → (0 < i) × (i ≤ n)
-there-by i n is = (grind (arith, nat_tests), grind (arith, nat_tests))
-
 pub tested-there : (s : State) (until : Option Until) (inc : Option ℕ) → test_refusal s until inc ≡ None → IsThere (tree s) (tested s inc)
 tested-there s until inc none =
     let i = tested s inc in
     let after = second-none (thread_refusal s until) (tested_refusal s until i) none in
-    there-by i (length (tree s)) (unless (is_no_incarnation s i) (Rm07 i) _ after).0
+    thread-of (length (tree s)) i (unless (is_no_incarnation s i) (Rm07 i) _ after).0
 
 -- the lines are those of what the history made
 test-by : (o : Option ℕ) (i : ℕ) (s : State) (h : List Change) (objects : Held) (made : List Made) (touched : List (List ℕ)) (lines : List Line)

@@ -6,8 +6,7 @@ use Rattle.std.proofs.lemmas.Bool.Decides.{nat_tests}
 use Rattle.std.proofs.lemmas.List.Elements.{All-contains}
 use Rattle.std.proofs.lemmas.Option.{slice_get_within}
 use Rattle.rm_base.specs.declared.block.Row.{Row}
-use Rattle.rm_base.specs.declared.refusal.Refusal.{Refusal}
-use Rattle.rm_base.specs.declared.refusal.Refusal.TheVariants.{Rm04, Rm06}
+use Rattle.rm_base.specs.declared.refusal.Refusal.TheVariants.{Rm06}
 use Rattle.rm_base.specs.Content.{zero_block}
 use Rattle.rm_base.proofs.Lists.{map_to}
 use Rattle.rm_base.proofs.Slots.{all-get}
@@ -28,7 +27,7 @@ use Rattle.rm_plan.specs.Plan.{IsFileTarget}
 use Rattle.rm_apply.specs.Told.{AreFilesAt, IsTold}
 use Rattle.rm_machine.specs.Marks.{ids_refusal}
 use Rattle.rm_machine.specs.Recover.{recovered, recover_refusal, recover_target, target_refusal}
-use Rattle.rm_machine.specs.Until.{or_else, until_refusal}
+use Rattle.rm_machine.specs.Until.{or_else}
 use Rattle.rm_machine.proofs.Untils.{until-none}
 use Rattle.rm_machine.specs.Recovery.{put_over, range_refusal}
 use Rattle.rm_machine.specs.Sound.{IsPlaced, IsPlacedRow, IsPoint, IsSound}
@@ -39,16 +38,13 @@ use Rattle.rm_machine.proofs.Exchanging.{sound-exchanged}
 use Rattle.rm_machine.proofs.Numbers.{blocks-at, file-at, file-place}
 use Rattle.rm_machine.proofs.Placing.{number, over-at, over-cases, over-length}
 use Rattle.rm_machine.proofs.Standing.{at-place, each-get}
+use Rattle.rm_base.proofs.Conditions.{unless}
 
 -- why it was not refused
 pub record CanRecover (s : State) (at : ℕ) : Type 0 where
   pub closed : s.instance.is_open ≡ false
   pub low : reset_of (tree s) (current_of s) ≤ at
   pub high : at ≤ now_of s
-
-pub mode-closed : (b : Bool) (o : Option Refusal) → cond b (Some (Rm04 false)) o ≡ None → (b ≡ false) × (o ≡ None)
-mode-closed true o is = absurd (cc)
-mode-closed false o is = (refl, is)
 
 within : (a low high : ℕ) → (nat_lt a low || nat_lt high a) ≡ false → (low ≤ a) × (a ≤ high)
 within a low high is = (grind (arith, nat_tests), grind (arith, nat_tests))
@@ -67,7 +63,7 @@ in-range ns i at is = within at (reset_of ns i) (end_of ns i) (range-by (nat_lt 
 
 pub can-recover : (s : State) (until : Option Until) (at : ℕ) → recover_target s until ≡ Some at → recover_refusal s until ≡ None → CanRecover s at
 can-recover s until at is none =
-    let mode = mode-closed s.instance.is_open (until_refusal s (current_of s) until (target_refusal s) (ids_refusal s)) none in
+    let mode = unless s.instance.is_open _ _ none in
     let target : target_refusal s at ≡ None = until-none s (current_of s) until (target_refusal s) (ids_refusal s) at mode.1 is in
     let range = in-range (tree s) (current_of s) at (first-none (range_refusal (tree s) (current_of s) at) _ target) in
     record { closed = mode.0; low = range.0; high = range.1 }

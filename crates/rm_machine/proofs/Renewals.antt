@@ -1,5 +1,5 @@
 -- RECOVER COPY leads on: what is at hand makes of a copy one that can be recorded, and that agrees with the history.
-use Rattle.std.proofs.Common.{◌≡◌, ◌≢◌, ◌<◌, ◌≤◌, ◌-◌, ◌+◌, ◌∙◌, ◌++◌, ℕ, List, Option, Some, None, Bool, true, false, refl, ap, sym, subst, arith, get_or, length, slice_get, sum_by, All, AllPairs, Contains}
+use Rattle.std.proofs.Common.{◌≡◌, ◌≢◌, ◌<◌, ◌≤◌, ◌-◌, ◌+◌, ◌∙◌, ◌++◌, ℕ, List, Option, Some, None, Bool, true, false, refl, ap, sym, subst, arith, get_or, length, slice_get, All, AllPairs, Contains, rules}
 use Rattle.std.proofs.lemmas.List.{get_or-map, length-map}
 use Rattle.std.proofs.lemmas.List.Elements.{All-contains, Contains-get_or}
 use Rattle.std.proofs.lemmas.Option.{same_Some, slice_get_within}
@@ -7,9 +7,6 @@ use Rattle.rm_base.specs.Store.{Held}
 use Rattle.rm_base.specs.declared.block.Change.{Change}
 use Rattle.rm_base.specs.declared.kinds.Kind.{Kind}
 use Rattle.rm_base.specs.declared.kinds.Kind.TheVariants.{Full, Level0, Level1, Place}
-use Rattle.rm_base.specs.declared.refusal.Limit.TheVariants.{Bytes, ObjectIds}
-use Rattle.rm_base.specs.declared.refusal.Refusal.TheVariants.{Rm11}
-use Rattle.rm_base.proofs.Conditions.{unless}
 use Rattle.rm_base.proofs.Keyed.{same_item}
 use Rattle.rm_base.proofs.Sealing.{length-sealed}
 use Rattle.rm_backup.specs.declared.renewing.Renewed.{Renewed}
@@ -47,10 +44,9 @@ use Rattle.rm_statement.specs.declared.command.Until.{Until}
 use Rattle.rm_machine.specs.Backup.{piece_entry}
 use Rattle.rm_machine.specs.Effect.{Effect, LeavesObjects, Made, a_piece, done}
 use Rattle.rm_machine.specs.Machine.{DigestsTellFor, IsBorneOut, IsTrueArtefact}
-use Rattle.rm_machine.specs.Marks.{lacks_bytes, lacks_ids}
 use Rattle.rm_machine.specs.Names.{IsObjectName}
 use Rattle.rm_machine.specs.Recover.{recover_target}
-use Rattle.rm_machine.specs.RecoverCopy.{AreRenewed, RenewsTo, after_copies, changed, copies_gone, copy_bytes, renewed_refusal, renewing}
+use Rattle.rm_machine.specs.RecoverCopy.{AreRenewed, RenewsTo, after_copies, changed, copies_gone, renewed_refusal, renewing}
 use Rattle.rm_machine.specs.Recovery.{IsAtHand, in_place}
 use Rattle.rm_machine.specs.Sound.{IsSound}
 use Rattle.rm_machine.specs.declared.state.State.{State}
@@ -66,7 +62,6 @@ use Rattle.rm_machine.proofs.OldCopies.{IsNewCopy, copies-new, old-free, old-no-
 use Rattle.rm_machine.proofs.Records.{database-told, pieces-told, tree-told}
 use Rattle.rm_machine.proofs.Renewing.{CanRenew, CanRenewAll, CanRenewTo, IsTrueTo, renewals-borne, renewals-next, renewals-saved, renewals-sound}
 use Rattle.rm_machine.proofs.Standing.{each-in}
-use Rattle.rm_machine.proofs.Switching.{not-above}
 use Rattle.rm_machine.proofs.Quiet.{unchanged}
 use Rattle.rm_machine.proofs.Restoring.{entry-rows}
 
@@ -238,10 +233,7 @@ module _ (s : State) (held : Held) (sound : IsSound s) (e : Evidence) (at_hand :
         absurd (omega (arith, are.exact.ascends i j d.0 less (omega (arith, many, inside)), low, high, files))
 
     ids-left : (xs : List (ℕ × Renewed)) → renewed_refusal s xs ≡ None → (ledger s).base.next_id + length (changed xs) + 68 ≤ 4294967295
-    ids-left xs is =
-        let bytes = unless (lacks_bytes s (sum_by copy_bytes xs)) (Rm11 Bytes) _ is in
-        let ids = unless (lacks_ids s (length (changed xs))) (Rm11 ObjectIds) None bytes.1 in
-        not-above 4294967295 ((ledger s).base.next_id + length (changed xs) + 68) ids.0
+    ids-left xs is = search rules
 
     can-all : (xs : List (ℕ × Renewed)) → AreRenewed s e tag at xs → renewed_refusal s xs ≡ None → CanRenewAll s tag xs
     can-all xs are is = record {

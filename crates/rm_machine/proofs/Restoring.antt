@@ -36,11 +36,9 @@ use Rattle.rm_statement.specs.declared.command.Command.TheVariants.{Restore}
 use Rattle.rm_statement.specs.declared.command.Until.{Until}
 use Rattle.rm_machine.specs.Effect.{Effect, LeavesObjects, Made, done}
 use Rattle.rm_machine.specs.Machine.{DigestsTellFor, IsBorneOut}
-use Rattle.rm_machine.specs.Marks.{ids_refusal}
 use Rattle.rm_machine.specs.Recover.{recover_target}
-use Rattle.rm_machine.specs.Until.{until_refusal}
 use Rattle.rm_machine.specs.Recovery.{in_place, put_over}
-use Rattle.rm_machine.specs.Restore.{RestoresTo, place_refusal, restore_refusal, restored}
+use Rattle.rm_machine.specs.Restore.{RestoresTo, restore_refusal, restored}
 use Rattle.rm_machine.specs.Sound.{IsPlaced, IsPlacedRow, IsSound}
 use Rattle.rm_machine.specs.declared.state.State.{State}
 use Rattle.rm_machine.specs.State.{current_of, ledger, tree, world}
@@ -51,8 +49,8 @@ use Rattle.rm_machine.proofs.Numbers.{file-at, file-place}
 use Rattle.rm_machine.proofs.Placing.{over-cases, over-length}
 use Rattle.rm_machine.proofs.Quiet.{quiet-on, quiet-stays}
 use Rattle.rm_machine.proofs.Records.{tree-told, world-told}
-use Rattle.rm_machine.proofs.Recovering.{mode-closed}
 use Rattle.rm_machine.proofs.Standing.{at-place, each-get}
+use Rattle.rm_base.proofs.Conditions.{unless}
 
 -- a piece that is no level 1 has each block
 pub entry-rows : (k : Kind) (n m : ℕ) → k ≢ Level1 → FitsRows k n m → n ≡ m
@@ -144,7 +142,7 @@ module _ (s : State) (held : Option Held) (i at : ℕ) (only : Option ℕ) (back
 
 -- where it was not refused the database is mounted
 can-restore : (s : State) (file : Option ℕ) (until : Option Until) → restore_refusal s file until ≡ None → s.instance.is_open ≡ false
-can-restore s file until none = (mode-closed s.instance.is_open (until_refusal s (current_of s) until (place_refusal s file) (ids_refusal s)) none).0
+can-restore s file until none = (unless s.instance.is_open _ _ none).0
 
 restore-by : (o file : Option ℕ) (s : State) (h : List Change) (objects : Held) (made : List Made) (touched : List (List ℕ)) (said : List Line) (e : Effect) (t : State) (after : Held)
     → IsBorneOut s h objects made touched → DigestsTellFor objects made touched (ledger s) → s.instance.is_open ≡ false

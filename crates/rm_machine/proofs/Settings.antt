@@ -1,9 +1,7 @@
 -- CONFIGURE leads on: of the base facts the policy or the count of channels changes alone.
-use Rattle.std.proofs.Common.{◌≡◌, ◌≤◌, ◌&&◌, inl, ℕ, nat_le, nat_lt, true, false, None, refl, arith}
+use Rattle.std.proofs.Common.{◌≡◌, ◌≤◌, ◌&&◌, inl, ℕ, nat_le, nat_lt, true, false, None, refl, arith, rules}
 use Rattle.std.proofs.lemmas.Bool.Decides.{nat_tests}
 use Rattle.rm_base.specs.declared.kinds.Policy.{Policy}
-use Rattle.rm_base.specs.declared.refusal.Limit.TheVariants as limit
-use Rattle.rm_base.specs.declared.refusal.Refusal.TheVariants.{Rm11}
 use Rattle.rm_base.proofs.Conditions.{unless}
 use Rattle.rm_catalog.specs.Facts.{IsPolicy}
 use Rattle.rm_repository.specs.Changes.{with_base}
@@ -14,7 +12,7 @@ use Rattle.rm_statement.specs.declared.command.RetentionForm.{RetentionForm}
 use Rattle.rm_statement.specs.declared.command.RetentionForm.TheVariants.{Clear, Nothing, Redundancy, Window}
 use Rattle.rm_statement.specs.IsCommand.{is_command, is_retention}
 use Rattle.rm_machine.specs.Configure.{policy_of, policy_refusal, with_channels, with_policy}
-use Rattle.rm_machine.specs.Marks.{ids_refusal, lacks_ids}
+use Rattle.rm_machine.specs.Marks.{lacks_ids}
 use Rattle.rm_machine.specs.Sound.{IsSound}
 use Rattle.rm_machine.specs.declared.state.State.{State}
 use Rattle.rm_machine.specs.State.{ledger}
@@ -23,6 +21,7 @@ use Rattle.rm_machine.proofs.Entries.{GoesOn}
 use Rattle.rm_machine.proofs.Leading.{LeadsOnBy, StaysBy}
 use Rattle.rm_machine.proofs.Upkeep.{catalog-on, catalog-stays}
 use Rattle.rm_machine.proofs.Later.{borne-same, sound-with}
+use Rattle.rm_machine.proofs.Switching.{not-above}
 
 -- with another policy and another count of channels
 module _ (s : State) (p : Policy) (channels : ℕ) where
@@ -53,13 +52,10 @@ module _ (s : State) (p : Policy) (channels : ℕ) where
 some : (n : ℕ) → (nat_le 1 n && nat_le n 18446744073709551615) ≡ true → 1 ≤ n
 some n is = grind (arith, nat_tests)
 
-at-most : (most n : ℕ) → nat_lt most n ≡ false → n ≤ most
-at-most most n is = grind (arith, nat_tests)
-
 -- a policy that was not refused is in its range
 policy-fits : (form : RetentionForm) → is_retention form ≡ true → policy_refusal form ≡ None → IsPolicy (policy_of form)
-policy-fits (Window days) is none = (some days is, at-most 36500 days (unless (nat_lt 36500 days) (Rm11 limit.WindowDays) None none).0)
-policy-fits (Redundancy count) is none = (some count is, at-most 1000 count (unless (nat_lt 1000 count) (Rm11 limit.Redundancy) None none).0)
+policy-fits (Window days) is none = (some days is, search rules)
+policy-fits (Redundancy count) is none = (some count is, search rules)
 policy-fits Nothing is none = tt
 policy-fits Clear is none = (omega arith, omega arith)
 
@@ -69,30 +65,21 @@ policy-on s form sound is none =
     settings-on s (policy_of form) (ledger s).base.parallelism (policy-fits form is none) range.0 range.1 sound
 
 -- and so is a count of channels
-channels-fit : (channels : ℕ) → is_command (Parallelism channels) ≡ true → nat_lt 16 channels ≡ false → (1 ≤ channels) × (channels ≤ 16)
-channels-fit channels is few = (some channels is, at-most 16 channels few)
-
 channels-on : (s : State) (channels : ℕ) → IsSound s → is_command (Parallelism channels) ≡ true → nat_lt 16 channels ≡ false → GoesOn s (with_channels s.catalog channels)
-channels-on s channels sound is few =
-    let range = channels-fit channels is few in
-    settings-on s (ledger s).base.policy channels sound.catalog.ledger.base.policy range.0 range.1 sound
+channels-on s channels sound is few = settings-on s (ledger s).base.policy channels sound.catalog.ledger.base.policy (some channels is) (not-above 16 channels few) sound
 
 pub retention-on : (form : RetentionForm) → LeadsOnBy (Retention form)
 retention-on form s h objects made touched said e t after well borne tell none does effect =
-    let accepted = (unless (lacks_ids s 0) (Rm11 limit.ObjectIds) (policy_refusal form) none).1 in
-    catalog-on s (with_policy s.catalog (policy_of form)) h objects made touched _ said e t after (policy-on s form borne.state well.0 accepted) borne does effect
+    catalog-on s (with_policy s.catalog (policy_of form)) h objects made touched _ said e t after (policy-on s form borne.state well.0 (unless (lacks_ids s 0) _ _ none).1) borne does effect
 
 pub retention-stays : (form : RetentionForm) → StaysBy (Retention form)
 retention-stays form s objects said e t well sound unsaved none does =
-    let accepted = (unless (lacks_ids s 0) (Rm11 limit.ObjectIds) (policy_refusal form) none).1 in
-    catalog-stays s (with_policy s.catalog (policy_of form)) _ said e t (policy-on s form sound well.0 accepted) sound unsaved does
+    catalog-stays s (with_policy s.catalog (policy_of form)) _ said e t (policy-on s form sound well.0 (unless (lacks_ids s 0) _ _ none).1) sound unsaved does
 
 pub parallelism-on : (channels : ℕ) → LeadsOnBy (Parallelism channels)
 parallelism-on channels s h objects made touched said e t after well borne tell none does effect =
-    let few = (unless (nat_lt 16 channels) (Rm11 limit.Channels) (ids_refusal s) none).0 in
-    catalog-on s (with_channels s.catalog channels) h objects made touched _ said e t after (channels-on s channels borne.state well.0 few) borne does effect
+    catalog-on s (with_channels s.catalog channels) h objects made touched _ said e t after (channels-on s channels borne.state well.0 (search rules)) borne does effect
 
 pub parallelism-stays : (channels : ℕ) → StaysBy (Parallelism channels)
 parallelism-stays channels s objects said e t well sound unsaved none does =
-    let few = (unless (nat_lt 16 channels) (Rm11 limit.Channels) (ids_refusal s) none).0 in
-    catalog-stays s (with_channels s.catalog channels) _ said e t (channels-on s channels sound well.0 few) sound unsaved does
+    catalog-stays s (with_channels s.catalog channels) _ said e t (channels-on s channels sound well.0 (search rules)) sound unsaved does

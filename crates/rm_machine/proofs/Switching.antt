@@ -1,17 +1,14 @@
 -- SWITCH LOGFILE leads on: a record is added with its artefact and its object.
-use Rattle.std.proofs.Common.{◌≡◌, ◌≢◌, ◌<◌, ◌≤◌, ◌+◌, ◌-◌, ◌^◌, ◌∙◌, ◌++◌, ◌==◌, ◌||◌, ◌&&◌, not, nat_le, nat_lt, inl, inr, ℕ, List, [], ◌∷◌, Option, Some, None, Bool, true, false, cond, refl, ap, sym, subst, arith, length, filter, All, AllPairs, slice_get}
+use Rattle.std.proofs.Common.{◌≡◌, ◌≢◌, ◌<◌, ◌≤◌, ◌+◌, ◌-◌, ◌^◌, ◌∙◌, ◌++◌, ◌==◌, ◌||◌, ◌&&◌, not, nat_le, nat_lt, inl, inr, ℕ, List, [], ◌∷◌, Option, Some, None, Bool, true, false, cond, refl, ap, sym, subst, arith, length, filter, All, AllPairs, slice_get, rules}
 use Rattle.std.specs.Option.{option_map_or}
 use Rattle.std.specs.Str.{bytes_eq}
-use Rattle.std.proofs.lemmas.Bool.{and_left, and_parts, and_right, cases_Bool, cases_eq, cases_lt, le-ltb, leb-false, lt-leb, ltb-true}
+use Rattle.std.proofs.lemmas.Bool.{and_left, and_parts, and_right, cases_Bool, cases_eq, cases_lt, le-ltb, lt-leb, ltb-true}
 use Rattle.std.proofs.lemmas.Bool.Decides.{nat_tests}
 use Rattle.std.proofs.lemmas.List.Elements.{All-nil, Contains-append_left, Contains-push, Contains-push_cases}
 use Rattle.std.proofs.lemmas.Slice.Eq.{bytes_eq-Decides}
 use Rattle.rm_base.specs.Store.{Held}
 use Rattle.rm_base.specs.declared.block.Change.{Change}
 use Rattle.rm_base.specs.declared.refusal.Refusal.{Refusal}
-use Rattle.rm_base.specs.declared.refusal.Refusal.TheVariants.{Rm04, Rm05, Rm11}
-use Rattle.rm_base.specs.declared.refusal.Absent.TheVariants.{Thread}
-use Rattle.rm_base.specs.declared.refusal.Limit.TheVariants.{Records, Bytes, ObjectIds, Sequences}
 use Rattle.rm_catalog.specs.declared.record.LogEntry.{LogEntry}
 use Rattle.rm_history.specs.Agrees.{LogAgrees, is_of}
 use Rattle.rm_history.specs.Artefacts.{Log}
@@ -36,13 +33,13 @@ use Rattle.rm_report.specs.declared.line.Line.{Line}
 use Rattle.rm_machine.specs.Effect.{Effect, LeavesObjects, Made, a_log, done, no_effect}
 use Rattle.rm_machine.specs.Names.{IsObjectName, of_log, of_piece}
 use Rattle.rm_machine.specs.Machine.{HasLogArtefact, IsTrueArtefact, HistoryFits, IsBorneOut}
-use Rattle.rm_machine.specs.Marks.{ids_refusal, lacks_bytes, lacks_ids, lacks_room}
+use Rattle.rm_machine.specs.Marks.{ids_refusal, lacks_room}
 use Rattle.rm_machine.specs.Sound.{IsOnline, IsSound}
 use Rattle.rm_machine.specs.declared.state.State.{State}
 use Rattle.rm_machine.specs.State.{ledger, is_lost, online, redo_end, world}
 use Rattle.rm_statement.specs.declared.command.Command.TheVariants.{SwitchLogfile}
-use Rattle.rm_machine.specs.SwitchLogfile.{archive_refusal, archived, is_due, log_bytes, log_entry, made_lines, none_lines, switch_refusal, with_archived}
-use Rattle.rm_base.proofs.Conditions.{unless}
+use Rattle.rm_machine.specs.SwitchLogfile.{archive_refusal, archived, is_due, log_entry, made_lines, none_lines, switch_refusal, with_archived}
+use Rattle.rm_base.proofs.Conditions.{only-where, unless}
 use Rattle.rm_machine.proofs.Kept.{StandOn, kept-on}
 use Rattle.rm_machine.proofs.Leading.{LeadsOnBy, StaysBy}
 use Rattle.rm_objects.proofs.Names.{log-name-tells, log-no-piece}
@@ -87,11 +84,7 @@ pub record CanSwitch (s : State) (t : ℕ) : Type 0 where
   pub high : t ≤ s.catalog.ledger.base.threads
   pub due : is_due s t ≡ true → archive_refusal s t ≡ None
 
-mode-open : (b : Bool) (o : Option Refusal) → cond b o (Some (Rm04 true)) ≡ None → (b ≡ true) × (o ≡ None)
-mode-open true o is = (refl, is)
-mode-open false o is = absurd (cc)
-
-thread-of : (n t : ℕ) → ((t == 0) || nat_lt n t) ≡ false → (0 < t) × (t ≤ n)
+pub thread-of : (n t : ℕ) → ((t == 0) || nat_lt n t) ≡ false → (0 < t) × (t ≤ n)
 thread-of n t is = (grind (arith, nat_tests), grind (arith, nat_tests))
 
 where-due : (b : Bool) (o other : Option Refusal) → cond b o other ≡ None → b ≡ true → o ≡ None
@@ -100,9 +93,8 @@ where-due false o other is here = absurd (cc)
 
 pub can-switch : (s : State) (t : ℕ) → switch_refusal s t ≡ None → CanSwitch s t
 can-switch s t is =
-    let rest = cond (is_due s t) (archive_refusal s t) (ids_refusal s) in
-    let mode = mode-open s.instance.is_open _ is in
-    let threads = unless ((t == 0) || nat_lt s.catalog.ledger.base.threads t) (Rm05 (Thread t)) rest mode.1 in
+    let mode = only-where s.instance.is_open _ _ is in
+    let threads = unless ((t == 0) || nat_lt s.catalog.ledger.base.threads t) _ _ mode.1 in
     let range = thread-of s.catalog.ledger.base.threads t threads.0 in
     record { opened = mode.0; low = range.0; high = range.1; due = where-due (is_due s t) (archive_refusal s t) (ids_refusal s) threads.1 }
 
@@ -116,7 +108,7 @@ pub record CanArchive (s : State) (t : ℕ) : Type 0 where
 pub not-above : (a b : ℕ) → nat_lt a b ≡ false → b ≤ a
 not-above a b is = grind (arith, nat_tests)
 
-not-true : (b : Bool) → not b ≡ true → b ≡ false
+pub not-true : (b : Bool) → not b ≡ true → b ≡ false
 not-true true is = absurd (cc)
 not-true false is = refl
 
@@ -127,21 +119,9 @@ due-parts s t due =
 
 pub can-archive : (s : State) (t : ℕ) → is_due s t ≡ true → archive_refusal s t ≡ None → CanArchive s t
 can-archive s t due is =
-    let last = cond (nat_le 4294967295 (sequence_of s.instance.logs t)) (Some (Rm11 Sequences)) None in
-    let rest = cond (lacks_ids s 1) (Some (Rm11 ObjectIds)) last in
-    let bytes = cond (lacks_bytes s (log_bytes s t)) (Some (Rm11 Bytes)) rest in
-    let room = unless (lacks_room s 1) (Rm11 Records) bytes is in
-    let few = unless (lacks_bytes s (log_bytes s t)) (Rm11 Bytes) rest room.1 in
-    let ids = unless (lacks_ids s 1) (Rm11 ObjectIds) last few.1 in
-    let sequence = unless (nat_le 4294967295 (sequence_of s.instance.logs t)) (Rm11 Sequences) None ids.1 in
-    let both = and_parts (not (is_lost s.instance.logs t)) (nat_lt (first_of s.instance.logs t) (redo_end s)) due in
-    record {
-      roomy = room.0;
-      ids = (let most = not-above 4294967295 (s.catalog.ledger.base.next_id + 1 + 68) ids.0 in omega (arith, most));
-      sequence = leb-false 4294967295 (sequence_of s.instance.logs t) sequence.0;
-      found = not-true (is_lost s.instance.logs t) both.0;
-      some = ltb-true (first_of s.instance.logs t) (redo_end s) both.1;
-    }
+    let both = due-parts s t due in
+    let most : s.catalog.ledger.base.next_id + 1 + 68 ≤ 4294967295 = search rules in
+    record { roomy = search rules; ids = omega (arith, most); sequence = search rules; found = both.0; some = both.1 }
 
 -- The state after it, where there was something to archive
 module _ (s : State) (t : ℕ) (sound : IsSound s) (low : 0 < t) (high : t ≤ s.catalog.ledger.base.threads) (a : CanArchive s t) where
