@@ -1,11 +1,10 @@
 -- Archiving threads one after another.
-use Rattle.std.proofs.Common.{◌≡◌, ◌<◌, ◌≤◌, ◌+◌, ◌∙◌, ◌++◌, ◌&&◌, nat_le, nat_lt, ℕ, zero, suc, List, [], ◌∷◌, None, Bool, true, false, cond, refl, ap, sym, subst, arith, length, length-append, rules}
+use Rattle.std.proofs.Common.{◌≡◌, ◌<◌, ◌≤◌, ◌+◌, ◌∙◌, ◌++◌, ◌&&◌, nat_le, nat_lt, ℕ, zero, suc, List, [], None, Bool, true, false, cond, refl, ap, sym, subst, arith, length, rules}
 use Rattle.std.proofs.lemmas.Bool.{and_right, le-ltb, leb-false}
 use Rattle.std.proofs.lemmas.List.{append-nil, append_assoc}
 use Rattle.rm_base.specs.Store.{Held}
 use Rattle.rm_base.specs.declared.block.Change.{Change}
-use Rattle.rm_change.specs.declared.change.Object.{Object}
-use Rattle.rm_change.specs.Names.{HasPuts, after_all as all_after, bytes_of, name_of}
+use Rattle.rm_change.specs.Names.{HasPuts}
 use Rattle.rm_ledger.specs.Ledger.{records_of}
 use Rattle.rm_redo.specs.Online.{sequence_of}
 use Rattle.rm_machine.specs.Archive.{after_thread, after_threads, archiving_refusal, due_from, is_last_sequence, made_by, made_from, puts_by, puts_from}
@@ -20,18 +19,7 @@ use Rattle.rm_machine.proofs.Kept.{stand-same}
 use Rattle.rm_machine.proofs.Later.{borne-beside}
 use Rattle.rm_machine.proofs.Switching.{CanArchive, due-parts, sound-after, switched-by}
 use Rattle.rm_machine.proofs.Further.{roomy}
-use Rattle.rm_repository.proofs.Fitted.{many}
-use Rattle.rm_machine.proofs.Dropping.{after-both}
-
--- What is put in two parts
-
--- the objects, where these stand under their names
-abbrev pub with_puts : List Object → Held → Held
-with_puts xs objects n = all_after name_of bytes_of xs n (objects n)
-
--- the rest comes after the first
-pub puts-rest : (xs ys : List Object) (before after : Held) → HasPuts (xs ++ ys) before after → HasPuts ys (with_puts xs before) after
-puts-rest xs ys before after has n = has n ∙ after-both name_of bytes_of xs ys n (before n)
+use Rattle.rm_machine.proofs.NewObjects.{count-logged, puts-rest, with_puts}
 
 -- Room
 
@@ -46,12 +34,6 @@ room-accepted s more few is =
     let n = s.catalog.ledger.base.threads in
     let fits = roomy (due_from s 1 n + more) (length (records_of (ledger s))) (search rules) few in
     record { records = omega (arith, fits); ids = search rules; sequences = search rules }
-
--- one record more where a thread was archived
-count-archived : (s : State) (t : ℕ) → length (records_of (ledger (with_archived s t))) ≡ length (records_of (ledger s)) + 1
-count-archived s t =
-    let new = many (ledger (with_archived s t)) in
-    omega (arith, many (ledger s), new, length-append s.catalog.ledger.logs (log_entry s.catalog.ledger.base.next_id (online s t) ∷ []))
 
 room-one : (s : State) → length (records_of (ledger s)) + 1 ≤ 65536 → lacks_room s 1 ≡ false
 room-one s room = and_right (nat_lt 0 1) (nat_lt 65536 (length (records_of (ledger s)) + 1)) (le-ltb 65536 (length (records_of (ledger s)) + 1) room)
@@ -106,7 +88,7 @@ pub record Took (s q : State) (n : ℕ) : Type 0 where
   pub ids : q.catalog.ledger.base.next_id ≡ s.catalog.ledger.base.next_id + n
 
 pub took-thread : (s : State) (t : ℕ) (b : Bool) → Took s (cond b (with_archived s t) s) (cond b 1 0)
-took-thread s t true = record { records = count-archived s t; ids = refl }
+took-thread s t true = record { records = count-logged s (with_archived s t).instance (log_entry s.catalog.ledger.base.next_id (online s t)); ids = refl }
 took-thread s t false = record { records = omega arith; ids = omega arith }
 
 pub next-room : (s : State) (t n more : ℕ) → HasRoom s t (suc n) more → HasRoom (after_thread s t) (t + 1) n more
@@ -145,8 +127,7 @@ threads-sound (suc n) t s more sound low high room =
 thread-stand : (b : Bool) (s : State) (t : ℕ) (h : List Change) (objects : Held) (made : List Made) (touched : List (List ℕ)) → (b ≡ true → CanArchive s t) → 0 < t → t ≤ s.catalog.ledger.base.threads → IsBorneOut s h objects made touched
     → IsBorneOut (cond b (with_archived s t) s) h (with_puts (cond b (archived s.catalog.ledger.base.next_id (online s t)).puts []) objects) (made ++ cond b (archived s.catalog.ledger.base.next_id (online s t)).made []) touched
 thread-stand true s t h objects made touched can low high stands =
-    let puts = (archived s.catalog.ledger.base.next_id (online s t)).puts in
-    switched-by s t h objects made touched (with_puts puts objects) stands low high (can refl) (record { put = with_puts puts objects; puts = λ n. refl; removes = λ n. refl })
+    switched-by s t h objects made touched stands low high (can refl)
 thread-stand false s t h objects made touched can low high stands =
     subst (λ k. IsBorneOut s h (with_puts [] objects) k touched) (sym (append-nil made))
     (borne-beside s h objects (with_puts [] objects) made touched touched stands (stand-same objects (with_puts [] objects) touched (ledger s) (ledger s) (λ n. refl)))

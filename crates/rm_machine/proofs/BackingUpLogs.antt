@@ -1,8 +1,8 @@
 -- BACKUP ARCHIVELOG ALL leads on: backups of logs are recorded, one after another.
-use Rattle.std.proofs.Common.{◌≡◌, ◌≤◌, ◌+◌, ◌∙◌, ◌++◌, inl, inr, ℕ, suc, List, [], ◌∷◌, Option, Some, None, refl, sym, subst, arith, append_assoc, filter, length, length-append, map, All, Contains, rules}
+use Rattle.std.proofs.Common.{◌≡◌, ◌≤◌, ◌∙◌, ◌++◌, ℕ, suc, List, [], ◌∷◌, Option, Some, None, refl, sym, subst, arith, append_assoc, filter, length, map, All, Contains, rules}
 use Rattle.std.specs.Option.{option_map_or}
 use Rattle.std.proofs.lemmas.List.{append-nil}
-use Rattle.std.proofs.lemmas.List.Elements.{All-contains, All-head, All-tail, All-weaker, Contains-append_left, Contains-push, Contains-push_cases}
+use Rattle.std.proofs.lemmas.List.Elements.{All-contains, All-head, All-tail, All-weaker}
 use Rattle.rm_base.specs.Store.{Held}
 use Rattle.rm_base.specs.declared.block.Change.{Change}
 use Rattle.rm_base.specs.declared.refusal.Refusal.{Refusal}
@@ -25,25 +25,24 @@ use Rattle.rm_report.specs.declared.line.Line.{Line}
 use Rattle.rm_repository.specs.Changes.{with_new_log}
 use Rattle.rm_repository.specs.Fitting.{FitsNewLog}
 use Rattle.rm_repository.specs.Repository.{Repository}
-use Rattle.rm_repository.proofs.Fitted.{many, new_log_fits}
+use Rattle.rm_repository.proofs.Fitted.{new_log_fits}
 use Rattle.rm_statement.specs.declared.command.Command.TheVariants.{BackupLogs}
 use Rattle.rm_machine.specs.BackupLogs.{archived_in, copies_of, copies_refusal, copy_entry, copy_made, copy_object, copying, with_copies}
-use Rattle.rm_machine.specs.Effect.{Effect, LeavesObjects, Made, a_log, done, refused}
-use Rattle.rm_machine.specs.Machine.{DigestsTellFor, HasLogArtefact, IsBorneOut, IsTrueArtefact}
+use Rattle.rm_machine.specs.Effect.{Effect, Made, a_log, done, refused}
+use Rattle.rm_machine.specs.Machine.{DigestsTellFor, IsBorneOut, IsTrueArtefact}
 use Rattle.rm_machine.specs.Sound.{IsSound}
 use Rattle.rm_machine.specs.Upkeep.{with_catalog}
 use Rattle.rm_machine.specs.declared.state.State.{State}
 use Rattle.rm_machine.specs.State.{ledger, tree, world}
 use Rattle.rm_machine.proofs.Agreeing.{log-agrees}
-use Rattle.rm_machine.proofs.Archives.{puts-rest, with_puts}
 use Rattle.rm_machine.proofs.Left.{HasRoom}
 use Rattle.rm_machine.proofs.Further.{roomy}
-use Rattle.rm_machine.proofs.Kept.{kept-on, stand-same}
+use Rattle.rm_machine.proofs.Kept.{stand-same}
 use Rattle.rm_machine.proofs.Later.{borne-beside, fits-with, sound-with}
 use Rattle.rm_machine.proofs.Leading.{LeadsOnBy, StaysBy}
 use Rattle.rm_machine.proofs.Standing.{each-in}
-use Rattle.rm_machine.proofs.Switching.{after-put, stand-fresh}
 use Rattle.rm_machine.proofs.Quiet.{same-stays, unchanged}
+use Rattle.rm_machine.proofs.NewObjects.{borne-logged, count-logged, puts-rest, with_puts}
 
 -- the log of a record can be recorded again
 pub record CanRecord (s : State) (a : LogFile) : Type 0 where
@@ -70,11 +69,6 @@ can-record s e a sound has valid fields =
 -- the database with a backup of the log more, under the next id
 abbrev pub with_copy : State → LogFile → State
 with_copy s a = with_catalog s (with_new_log s.catalog (copy_entry ((ledger s).base.next_id, a)))
-
-count-copied : (s : State) (a : LogFile) → length (records_of (ledger (with_copy s a))) ≡ length (records_of (ledger s)) + 1
-count-copied s a =
-    let new = many (ledger (with_copy s a)) in
-    omega (arith, many (ledger s), new, length-append s.catalog.ledger.logs (copy_entry (s.catalog.ledger.base.next_id, a) ∷ []))
 
 -- One log
 module _ (s : State) (a : LogFile) (n : ℕ) (sound : IsSound s) (can : CanRecord s a) (room : HasRoom s (suc n)) where
@@ -104,31 +98,8 @@ module _ (s : State) (a : LogFile) (n : ℕ) (sound : IsSound s) (can : CanRecor
   copy-borne : (h : List Change) (objects : Held) (made : List Made) (touched : List (List ℕ)) → IsTrueArtefact (world s) h (a_log a) → IsBorneOut s h objects made touched
       → IsBorneOut q h (with_puts (copy_object (id, a) ∷ []) objects) (made ++ copy_made (id, a) ∷ []) touched
   copy-borne h objects made touched agrees stands =
-      let after : Held = with_puts (copy_object (id, a) ∷ []) objects in
-      let effect : LeavesObjects (copying ((id, a) ∷ [])) objects after = record { put = after; puts = λ name. refl; removes = λ name. refl } in
-      let new : Made = copy_made (id, a) in
-      record {
-        state = copy-sound;
-        keeps = fits-with s q.catalog copy-sound.catalog h stands.keeps;
-        artefacts = λ x has. elim (Contains-push_cases made new x has) [
-          | inl old ↦ stands.artefacts x old
-          | inr same ↦ subst (λ (y : Made). IsTrueArtefact (world s) h y.artefact) same agrees
-        ];
-        records = kept-on objects after made (made ++ new ∷ []) touched touched l (ledger q)
-            (stand-fresh objects after touched l (ledger q) a sound.catalog.ledger effect)
-            (λ x has. Contains-append_left made (new ∷ []) x has)
-            (λ e has. elim (Contains-push_cases l.logs (copy_entry (id, a)) e has) [
-              | inl old ↦ inl old
-              | inr same ↦ inr (subst (HasLogArtefact after (made ++ new ∷ []) touched) same (record {
-                artefact = a;
-                is = Contains-push made new;
-                fields = record { inc = refl; thread = refl; sequence = refl; first = refl; next = refl };
-                digest = record { size = refl; sha = refl };
-                there = inr (after-put objects after id a effect);
-              }))
-            ])
-            (λ e has. inl has) stands.records;
-      }
+      borne-logged s s.instance (copy_entry (id, a)) a h objects made touched copy-sound (fits-with s q.catalog copy-sound.catalog h stands.keeps) refl
+      (record { inc = refl; thread = refl; sequence = refl; first = refl; next = refl }) (record { size = refl; sha = refl }) agrees stands
 
 -- the others can be recorded still
 pub can-next : (s : State) (a : LogFile) (logs : List LogFile) → All (CanRecord s) (a ∷ logs) → All (CanRecord (with_copy s a)) logs
@@ -136,7 +107,7 @@ can-next s a logs all = All-weaker (CanRecord s) (CanRecord (with_copy s a)) (λ
 
 pub room-next : (s : State) (a : LogFile) (n : ℕ) → HasRoom s (suc n) → HasRoom (with_copy s a) n
 room-next s a n room =
-    record { records = omega (arith, count-copied s a, room.records); ids = omega (arith, room.ids) }
+    record { records = omega (arith, count-logged s s.instance (copy_entry ((ledger s).base.next_id, a)), room.records); ids = omega (arith, room.ids) }
 
 -- All of them
 

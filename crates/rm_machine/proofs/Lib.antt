@@ -48,6 +48,7 @@ pub mod Marked
 pub mod Meant
 pub mod Merges
 pub mod Mounting
+pub mod NewObjects
 pub mod Numbers
 pub mod OldCopies
 pub mod Opened

@@ -19,11 +19,11 @@ use Rattle.rm_machine.specs.Machine.{IsBorneOut, IsTrueArtefact}
 use Rattle.rm_machine.specs.Sound.{IsSound}
 use Rattle.rm_machine.specs.declared.state.State.{State}
 use Rattle.rm_machine.specs.State.{ledger, tree, world}
-use Rattle.rm_machine.proofs.Archives.{puts-rest, with_puts}
 use Rattle.rm_machine.proofs.Kept.{stand-same}
 use Rattle.rm_machine.proofs.Later.{borne-beside}
 use Rattle.rm_machine.proofs.Pieces.{borne-recorded, count-recorded, sound-recorded}
 use Rattle.rm_machine.specs.MadePieces.{CanRecord, Copied, after_pieces, pieces_made, pieces_put}
+use Rattle.rm_machine.proofs.NewObjects.{puts-rest, with_puts}
 
 -- what fits a kind goes by a few fields
 kind-next : (k : Kind) (p q : PieceEntry) → q.copy ≡ p.copy → q.from ≡ p.from → q.checkpoint ≡ p.checkpoint → FitsKind k p → FitsKind k q

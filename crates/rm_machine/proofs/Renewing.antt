@@ -28,13 +28,13 @@ use Rattle.rm_machine.specs.Sound.{IsSound}
 use Rattle.rm_machine.specs.Upkeep.{with_catalog}
 use Rattle.rm_machine.specs.declared.state.State.{State}
 use Rattle.rm_machine.specs.State.{ledger, tree, world}
-use Rattle.rm_machine.proofs.Archives.{puts-rest, with_puts}
 use Rattle.rm_machine.proofs.Deleting.{stays-one}
 use Rattle.rm_machine.proofs.Entries.{GoesOn, piece-out}
 use Rattle.rm_machine.proofs.Kept.{stand-same}
 use Rattle.rm_machine.proofs.Later.{borne-beside}
 use Rattle.rm_machine.proofs.Pieces.{borne-recorded, object_of, sound-recorded, with_recorded}
 use Rattle.rm_machine.proofs.Standing.{each-in}
+use Rattle.rm_machine.proofs.NewObjects.{puts-rest, with_puts}
 
 -- where that of an id goes there is one fewer
 one-fewer : (xs : List PieceEntry) (p : PieceEntry) → AllPairs (λ x y. x.id < y.id) xs → Contains xs p → length (without_one (λ x. x.id) p.id xs) + 1 ≡ length xs

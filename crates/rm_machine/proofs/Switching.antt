@@ -1,11 +1,9 @@
 -- SWITCH LOGFILE leads on: a record is added with its artefact and its object.
-use Rattle.std.proofs.Common.{◌≡◌, ◌≢◌, ◌<◌, ◌≤◌, ◌+◌, ◌-◌, ◌^◌, ◌∙◌, ◌++◌, ◌==◌, ◌||◌, ◌&&◌, not, nat_le, nat_lt, inl, inr, ℕ, List, [], ◌∷◌, Option, Some, None, Bool, true, false, cond, refl, ap, sym, subst, arith, length, filter, All, AllPairs, slice_get, rules}
+use Rattle.std.proofs.Common.{◌≡◌, ◌≢◌, ◌<◌, ◌≤◌, ◌+◌, ◌-◌, ◌^◌, ◌∙◌, ◌++◌, ◌==◌, ◌||◌, ◌&&◌, not, nat_le, nat_lt, inl, inr, ℕ, List, [], ◌∷◌, Option, None, Bool, true, false, cond, refl, ap, sym, subst, arith, length, filter, All, AllPairs, slice_get, rules}
 use Rattle.std.specs.Option.{option_map_or}
-use Rattle.std.specs.Str.{bytes_eq}
-use Rattle.std.proofs.lemmas.Bool.{and_left, and_parts, and_right, cases_Bool, cases_eq, cases_lt, le-ltb, lt-leb, ltb-true}
+use Rattle.std.proofs.lemmas.Bool.{and_left, and_parts, and_right, cases_eq, cases_lt, le-ltb, lt-leb, ltb-true}
 use Rattle.std.proofs.lemmas.Bool.Decides.{nat_tests}
-use Rattle.std.proofs.lemmas.List.Elements.{All-nil, Contains-append_left, Contains-push, Contains-push_cases}
-use Rattle.std.proofs.lemmas.Slice.Eq.{bytes_eq-Decides}
+use Rattle.std.proofs.lemmas.List.Elements.{All-nil}
 use Rattle.rm_base.specs.Store.{Held}
 use Rattle.rm_base.specs.declared.block.Change.{Change}
 use Rattle.rm_base.specs.declared.refusal.Refusal.{Refusal}
@@ -13,16 +11,14 @@ use Rattle.rm_catalog.specs.declared.record.LogEntry.{LogEntry}
 use Rattle.rm_history.specs.Agrees.{LogAgrees, is_of}
 use Rattle.rm_history.specs.Artefacts.{Log}
 use Rattle.rm_history.specs.Tree.{IsThere, end_of, reset_of}
-use Rattle.rm_ledger.specs.Facts.{IsLedger, IsLogEntry}
+use Rattle.rm_ledger.specs.Facts.{IsLogEntry}
 use Rattle.rm_repository.specs.Facts.{IsRepository}
 use Rattle.rm_repository.proofs.Fitted.{new_log_fits}
 use Rattle.rm_ledger.specs.Ledger.{Ledger, records_of}
-use Rattle.rm_ledger.proofs.Lookups.{log-id-within}
-use Rattle.rm_objects.specs.Names.{log_name}
 use Rattle.rm_redo.specs.declared.log_file.LogFile.{LogFile}
 use Rattle.rm_redo.specs.declared.online.ThreadLog.{ThreadLog}
 use Rattle.rm_redo.specs.LogFile.{changes_in, log_file_of, log_of}
-use Rattle.rm_redo.specs.LogFormat.{IsLogRecord, body_of, spelling}
+use Rattle.rm_redo.specs.LogFormat.{IsLogRecord, body_of}
 use Rattle.rm_redo.specs.Logs.{IsBefore, Logs}
 use Rattle.rm_redo.specs.Online.{IsThread, first_of, sequence_of, switched}
 use Rattle.rm_base.proofs.Sealing.{length-sealed}
@@ -31,8 +27,7 @@ use Rattle.rm_redo.proofs.LogFitting.{fits as fits-log}
 use Rattle.rm_redo.proofs.Logs.{around-switched, first_of-switched, is_lost-switched, other-switched, records_of-switched, sequence_of-switched}
 use Rattle.rm_report.specs.declared.line.Line.{Line}
 use Rattle.rm_machine.specs.Effect.{Effect, LeavesObjects, Made, a_log, done, no_effect}
-use Rattle.rm_machine.specs.Names.{IsObjectName, of_log, of_piece}
-use Rattle.rm_machine.specs.Machine.{HasLogArtefact, IsTrueArtefact, HistoryFits, IsBorneOut}
+use Rattle.rm_machine.specs.Machine.{IsTrueArtefact, HistoryFits, IsBorneOut}
 use Rattle.rm_machine.specs.Marks.{ids_refusal, lacks_room}
 use Rattle.rm_machine.specs.Sound.{IsOnline, IsSound}
 use Rattle.rm_machine.specs.declared.state.State.{State}
@@ -40,11 +35,12 @@ use Rattle.rm_machine.specs.State.{ledger, is_lost, online, redo_end, world}
 use Rattle.rm_statement.specs.declared.command.Command.TheVariants.{SwitchLogfile}
 use Rattle.rm_machine.specs.SwitchLogfile.{archive_refusal, archived, is_due, log_entry, made_lines, none_lines, switch_refusal, with_archived}
 use Rattle.rm_base.proofs.Conditions.{only-where, unless}
-use Rattle.rm_machine.proofs.Kept.{StandOn, kept-on}
+use Rattle.rm_machine.proofs.Kept.{stand-same}
 use Rattle.rm_machine.proofs.Leading.{LeadsOnBy, StaysBy}
-use Rattle.rm_objects.proofs.Names.{log-name-tells, log-no-piece}
 use Rattle.rm_machine.proofs.Further.{roomy-either}
 use Rattle.rm_machine.proofs.Quiet.{quiet-on, same-stays, unchanged}
+use Rattle.rm_machine.proofs.NewObjects.{borne-logged, with_puts}
+use Rattle.rm_machine.proofs.Later.{borne-beside}
 
 -- An empty log
 
@@ -247,66 +243,23 @@ module _ (s : State) (t : ℕ) (sound : IsSound s) (low : 0 < t) (high : t ≤ s
       of = tt;
     }
 
--- The objects after it
+-- What stands after it
 
-pub after-put : (before after : Held) (id : ℕ) (a : LogFile) → LeavesObjects (archived id a) before after → after (log_name id) ≡ Some (spelling a)
-after-put before after id a effect =
-    let same : bytes_eq (log_name id) (log_name id) ≡ true = (bytes_eq-Decides (log_name id) (log_name id)).1 refl in
-    effect.removes (log_name id) ∙ effect.puts (log_name id) ∙ ap (λ b. cond b (Some (spelling a)) (before (log_name id))) same
-
-after-other : (before after : Held) (id : ℕ) (a : LogFile) (n : List ℕ) → n ≢ log_name id → LeavesObjects (archived id a) before after → after n ≡ before n
-after-other before after id a n other effect = elim (cases_Bool (bytes_eq n (log_name id))) [
-  | inl same ↦ absurd (other ((bytes_eq-Decides n (log_name id)).0 same))
-  | inr not ↦ effect.removes n ∙ effect.puts n ∙ ap (λ b. cond b (Some (spelling a)) (before n)) not
-]
-
--- the new name is that of no record
-fresh-name : (l : Ledger) (name : List ℕ) → IsLedger l → IsObjectName l name → name ≢ log_name l.base.next_id
-fresh-name l name is (of_log e has) same =
-    let below = (log-id-within l e is has).1 in
-    let id : e.id ≡ l.base.next_id = log-name-tells e.id l.base.next_id (omega (arith, below, is.base.next_id.1)) (omega (arith, is.base.next_id.1)) same in
-    absurd (omega (arith, below, id))
-fresh-name l name is (of_piece e has) same = absurd (log-no-piece l.base.next_id e.copy e.id (sym same))
-
-pub stand-fresh : (before after : Held) (touched : List (List ℕ)) (l l' : Ledger) (a : LogFile) → IsLedger l → LeavesObjects (archived l.base.next_id a) before after → StandOn before after touched touched l l'
-stand-fresh before after touched l l' a is effect name bytes names again (inl was) = inl was
-stand-fresh before after touched l l' a is effect name bytes names again (inr stands) = inr (after-other before after l.base.next_id a name (fresh-name l name is names) effect ∙ stands)
-
-pub switched-by : (s : State) (t : ℕ) (h : List Change) (objects : Held) (made : List Made) (touched : List (List ℕ)) (after : Held) → IsBorneOut s h objects made touched → (low : 0 < t) → (high : t ≤ s.catalog.ledger.base.threads) → CanArchive s t → LeavesObjects (archived s.catalog.ledger.base.next_id (online s t)) objects after
-    → IsBorneOut (with_archived s t) h after (made ++ (archived s.catalog.ledger.base.next_id (online s t)).made) touched
-switched-by s t h objects made touched after stands low high a effect =
-    let l = s.catalog.ledger in
-    let id = l.base.next_id in
-    let log = online s t in
-    let new : Made = record { name = log_name id; artefact = a_log log } in
-    record {
-      state = sound-after s t stands.state low high a;
-      keeps = keeps-after s t stands.state low high a h stands.keeps;
-      artefacts = λ x has. elim (Contains-push_cases made new x has) [
-        | inl old ↦ stands.artefacts x old
-        | inr same ↦ subst (λ (y : Made). IsTrueArtefact (world s) h y.artefact) same (made-after s t stands.state low high a h stands.keeps)
-      ];
-      records = kept-on objects after made (made ++ new ∷ []) touched touched l (ledger (with_archived s t))
-          (stand-fresh objects after touched l (ledger (with_archived s t)) log stands.state.catalog.ledger effect)
-          (λ x has. Contains-append_left made (new ∷ []) x has)
-          (λ e has. elim (Contains-push_cases l.logs (log_entry id log) e has) [
-            | inl old ↦ inl old
-            | inr same ↦ inr (subst (HasLogArtefact after (made ++ new ∷ []) touched) same (record {
-              artefact = log;
-              is = Contains-push made new;
-              fields = record { inc = refl; thread = refl; sequence = refl; first = refl; next = refl };
-              digest = record { size = refl; sha = refl };
-              there = inr (after-put objects after id log effect);
-            }))
-          ])
-          (λ e has. inl has) stands.records;
-    }
+pub switched-by : (s : State) (t : ℕ) (h : List Change) (objects : Held) (made : List Made) (touched : List (List ℕ)) → IsBorneOut s h objects made touched → (low : 0 < t) → (high : t ≤ s.catalog.ledger.base.threads) → CanArchive s t
+    → IsBorneOut (with_archived s t) h (with_puts (archived s.catalog.ledger.base.next_id (online s t)).puts objects) (made ++ (archived s.catalog.ledger.base.next_id (online s t)).made) touched
+switched-by s t h objects made touched stands low high a =
+    borne-logged s (with_archived s t).instance (log_entry s.catalog.ledger.base.next_id (online s t)) (online s t) h objects made touched
+    (sound-after s t stands.state low high a) (keeps-after s t stands.state low high a h stands.keeps) refl
+    (record { inc = refl; thread = refl; sequence = refl; first = refl; next = refl }) (record { size = refl; sha = refl }) (made-after s t stands.state low high a h stands.keeps) stands
 
 switch-by : (b : Bool) (s : State) (t : ℕ) (h : List Change) (objects : Held) (made : List Made) (touched : List (List ℕ)) (said : List Line) (e : Effect) (q : State) (after : Held) → is_due s t ≡ b → IsBorneOut s h objects made touched → CanSwitch s t
     → done said e q ≡ cond b (done (made_lines s t) (archived s.catalog.ledger.base.next_id (online s t)) (with_archived s t)) (done (none_lines t) no_effect s) → LeavesObjects e objects after → IsBorneOut q (h ++ e.changes) after (made ++ e.made) touched
 switch-by true s t h objects made touched said e q after due stands can is effect =
-    unchanged (with_archived s t) (archived s.catalog.ledger.base.next_id (online s t)) h objects made touched e q after refl (cc) (cc) effect
-    (switched-by s t h objects made touched after stands can.low can.high (can-archive s t due (can.due due)))
+    let by = archived s.catalog.ledger.base.next_id (online s t) in
+    let mid = with_puts by.puts objects in
+    unchanged (with_archived s t) by h objects made touched e q after refl (cc) (cc) effect (λ left.
+    borne-beside (with_archived s t) h mid after (made ++ by.made) touched touched (switched-by s t h objects made touched stands can.low can.high (can-archive s t due (can.due due)))
+    (stand-same mid after touched (ledger (with_archived s t)) (ledger (with_archived s t)) (λ n. left.removes n ∙ left.puts n)))
 switch-by false s t h objects made touched said e q after due stands can is effect = quiet-on s h objects made touched _ said e q after is effect stands
 
 pub switch-on : (t : ℕ) → LeadsOnBy (SwitchLogfile t)
