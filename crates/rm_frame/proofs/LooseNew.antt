@@ -7,16 +7,12 @@ use Rattle.rm_change.specs.Names.{is_named, itself, name_of}
 use Rattle.rm_change.proofs.Standing.{unnamed}
 use Rattle.rm_statement.specs.declared.command.Command.{Command}
 use Rattle.rm_statement.specs.declared.command.Command.TheVariants.{ArchiveLogCurrent, OpenResetlogs, SwitchLogfile}
-use Rattle.rm_ledger.specs.Facts.{IsLedger}
-use Rattle.rm_ledger.specs.Ledger.{Ledger}
-use Rattle.rm_ledger.proofs.Lookups.{log-id-within, piece-id-within}
 use Rattle.rm_objects.specs.Names.{log_name, piece_name, site_name}
-use Rattle.rm_objects.proofs.Names.{log-name-tells, log-no-piece, log-no-site, piece-name-tells, piece-no-site}
+use Rattle.rm_objects.proofs.Names.{log-no-site, piece-no-site}
 use Rattle.rm_redo.specs.LogFormat.{spelling}
 use Rattle.rm_report.specs.declared.line.Line.{Line}
 use Rattle.rm_machine.specs.Archive.{after_all, after_thread, archiving, puts_from}
 use Rattle.rm_machine.specs.Effect.{Effect, done, no_effect}
-use Rattle.rm_machine.specs.Names.{IsObjectName, of_log, of_piece}
 use Rattle.rm_machine.specs.OpenResetlogs.{branched_off, resetlogs_lines}
 use Rattle.rm_machine.specs.Sound.{IsSound}
 use Rattle.rm_machine.specs.declared.state.State.{State}
@@ -26,6 +22,7 @@ use Rattle.rm_machine.specs.SwitchLogfile.{archived, is_due, made_lines, none_li
 use Rattle.rm_machine.proofs.Archives.{HasRoom, Took, next-room, took-thread}
 use Rattle.rm_machine.proofs.ArchivingAll.{room}
 use Rattle.rm_machine.proofs.Branching.{can-reset}
+use Rattle.rm_machine.proofs.NewObjects.{log-apart, piece-apart}
 use Rattle.rm_machine.proofs.Leading.{done-by}
 use Rattle.rm_machine.proofs.Switching.{CanSwitch, can-archive, can-switch}
 use Rattle.rm_frame.specs.Loose.{IsLoose, IsNamedBy, StaysLoose, of_object, of_part}
@@ -40,20 +37,6 @@ pub record IsNewName (s : State) (new : List ℕ) : Type 0 where
 pub record IsFree (s : State) (id : ℕ) : Type 0 where
   pub next : (ledger s).base.next_id ≤ id
   pub most : id ≤ 4294967295
-
-log-apart : (l : Ledger) (id : ℕ) (name : List ℕ) → IsLedger l → l.base.next_id ≤ id → id ≤ 4294967295 → IsObjectName l name → name ≢ log_name id
-log-apart l id name is more most (of_log e has) same =
-    let below = (log-id-within l e is has).1 in
-    let tells : e.id ≡ id = log-name-tells e.id id (omega (arith, below, more, most)) (omega (arith, most)) same in
-    omega (arith, below, more, tells)
-log-apart l id name is more most (of_piece e has) same = log-no-piece id e.copy e.id (sym same)
-
-piece-apart : (l : Ledger) (copy : Bool) (id : ℕ) (name : List ℕ) → IsLedger l → l.base.next_id ≤ id → id ≤ 4294967295 → IsObjectName l name → name ≢ piece_name copy id
-piece-apart l copy id name is more most (of_log e has) same = log-no-piece e.id copy id same
-piece-apart l copy id name is more most (of_piece e has) same =
-    let below = (piece-id-within l e is has).1 in
-    let tells : e.id ≡ id = (piece-name-tells e.copy copy e.id id (omega (arith, below, more, most)) (omega (arith, most)) same).1 in
-    omega (arith, below, more, tells)
 
 -- names of new ids are new
 pub new-log : (s : State) (id : ℕ) → IsSound s → IsFree s id → IsNewName s (log_name id)

@@ -12,7 +12,6 @@ use Rattle.rm_base.proofs.Conditions.{only-where, unless}
 use Rattle.rm_catalog.specs.declared.record.BaseEntry.{BaseEntry}
 use Rattle.rm_catalog.specs.declared.record.LogEntry.{LogEntry}
 use Rattle.rm_catalog.specs.declared.record.PieceEntry.{PieceEntry}
-use Rattle.rm_history.specs.declared.world.Datafile.{Datafile}
 use Rattle.rm_redo.specs.declared.log_file.LogFile.{LogFile}
 use Rattle.rm_report.specs.declared.line.Line.{Line}
 use Rattle.rm_repository.specs.Changes.{with_log, with_new_log, with_piece}
@@ -29,20 +28,20 @@ use Rattle.rm_machine.specs.Archive.{after_all, after_thread, after_threads, arc
 use Rattle.rm_machine.specs.BackupOutcome.{at_end, effect_of}
 use Rattle.rm_machine.specs.MadePieces.{Copied, after_piece, after_pieces, copied}
 use Rattle.rm_machine.specs.BackupLogs.{copies_of, copies_refusal, copy_entry, copying, numbered_from, with_copies}
-use Rattle.rm_machine.specs.CreateDatafile.{datafile_refusal, with_datafile}
-use Rattle.rm_machine.specs.Configure.{parallelism_refusal, policy_of, retention_refusal, with_channels, with_policy}
+use Rattle.rm_machine.specs.CreateDatafile.{with_datafile}
+use Rattle.rm_machine.specs.Configure.{policy_of, with_channels, with_policy}
 use Rattle.rm_machine.specs.Effect.{Effect, done, no_effect, refused}
 use Rattle.rm_machine.specs.Laws.{only_tells}
-use Rattle.rm_machine.specs.LoseDatafile.{lose_refusal, without_file}
-use Rattle.rm_machine.specs.LoseLog.{lose_log_refusal, without_log}
+use Rattle.rm_machine.specs.LoseDatafile.{without_file}
+use Rattle.rm_machine.specs.LoseLog.{without_log}
 use Rattle.rm_machine.specs.Marks.{ids_refusal, lacks_ids}
 use Rattle.rm_machine.specs.Mount.{as_mounted, mounted}
-use Rattle.rm_machine.specs.Open.{open_refusal, opened}
+use Rattle.rm_machine.specs.Open.{opened}
 use Rattle.rm_machine.specs.OpenResetlogs.{branched_off, resetlogs_lines}
 use Rattle.rm_machine.specs.Recover.{RecoversTo, recover_target, recovered, target_refusal}
 use Rattle.rm_machine.specs.Until.{or_else}
 use Rattle.rm_machine.proofs.Untils.{until-none}
-use Rattle.rm_machine.specs.ResetDatabase.{at_incarnation, reset_refusal}
+use Rattle.rm_machine.specs.ResetDatabase.{at_incarnation}
 use Rattle.rm_machine.specs.Restore.{RestoresTo, place_refusal, restored}
 use Rattle.rm_machine.specs.Sound.{IsSound}
 use Rattle.rm_machine.specs.declared.state.State.{State}
@@ -50,7 +49,7 @@ use Rattle.rm_machine.specs.State.{current_of, ledger, now_of, on_path, online}
 use Rattle.rm_machine.specs.Step.{IsDone, IsOutcome, refusal_of}
 use Rattle.rm_machine.specs.SwitchLogfile.{archive_refusal, archived, is_due, made_lines, none_lines, with_archived}
 use Rattle.rm_machine.specs.Until.{or_else}
-use Rattle.rm_machine.specs.Upkeep.{changed_to, log_at, log_changed, piece_at, piece_changed, record_refusal, with_catalog, with_keep, with_status, with_statuses, without_all, without_record}
+use Rattle.rm_machine.specs.Upkeep.{changed_to, log_at, log_changed, piece_at, piece_changed, with_catalog, with_keep, with_status, with_statuses, without_all, without_record}
 use Rattle.rm_machine.specs.Write.{block_refusal, with_write, write_refusal}
 use Rattle.rm_machine.proofs.Archives.{Took, took-thread}
 use Rattle.rm_machine.proofs.ArchivingAll.{room}
@@ -115,21 +114,15 @@ draws-none c asks stays s held lines e t sound comes =
     let both = done-by (refusal_of s c) s held c lines e t comes in
     stays s held lines e t both.1 (asks s both.0)
 
-create-asks : (blocks : ℕ) (s : State) → Asks s (datafile_refusal s blocks)
-create-asks blocks s is = search rules
-
 pub create-roomy : (blocks : ℕ) → LeavesIds (CreateDatafile blocks)
-create-roomy blocks = draws-none (CreateDatafile blocks) (create-asks blocks)
+create-roomy blocks = draws-none (CreateDatafile blocks) (λ s is. search rules)
     (λ s held lines e t is left. none-drawn s lines _ e _ (with_datafile s blocks) t is refl left)
-
-block-asks : (s : State) (w : WriteForm) (d : Datafile) → Asks s (block_refusal s w d)
-block-asks s w d is = search rules
 
 write-asks : (w : WriteForm) (s : State) → Asks s (write_refusal s w)
 write-asks w s is =
     let mode = only-where s.instance.is_open _ _ is in
     let thread = unless ((w.thread == 0) || nat_lt (ledger s).base.threads w.thread) _ _ mode.1 in
-    asks-of s (block_refusal s w) (Rm05 (File w.file)) (on_path s w.file) (block-asks s w) thread.1
+    asks-of s (block_refusal s w) (Rm05 (File w.file)) (on_path s w.file) (λ d none. search rules) thread.1
 
 pub write-roomy : (w : WriteForm) → LeavesIds (Write w)
 write-roomy w = draws-none (Write w) (write-asks w)
@@ -143,32 +136,20 @@ pub mount-roomy : LeavesIds Mount
 mount-roomy = draws-none Mount asks-ids
     (λ s held lines e t is left. none-drawn s lines _ e _ (as_mounted s) t is (mounted-next s.instance.is_open s) left)
 
-open-asks : (s : State) → Asks s (open_refusal s)
-open-asks s is = search rules
-
 pub open-roomy : LeavesIds OpenPlain
-open-roomy = draws-none OpenPlain open-asks
+open-roomy = draws-none OpenPlain (λ s is. search rules)
     (λ s held lines e t is left. none-drawn s lines _ e _ (opened s (now_of s)) t is refl left)
 
-choose-asks : (i : ℕ) (s : State) → Asks s (reset_refusal s i)
-choose-asks i s is = search rules
-
 pub choose-roomy : (i : ℕ) → LeavesIds (ResetDatabase i)
-choose-roomy i = draws-none (ResetDatabase i) (choose-asks i)
+choose-roomy i = draws-none (ResetDatabase i) (λ s is. search rules)
     (λ s held lines e t is left. none-drawn s lines _ e _ (at_incarnation s i) t is refl left)
 
-lose-asks : (f : ℕ) (s : State) → Asks s (lose_refusal s f)
-lose-asks f s is = search rules
-
 pub lose-roomy : (f : ℕ) → LeavesIds (LoseDatafile f)
-lose-roomy f = draws-none (LoseDatafile f) (lose-asks f)
+lose-roomy f = draws-none (LoseDatafile f) (λ s is. search rules)
     (λ s held lines e t is left. none-drawn s lines _ e _ (without_file s f) t is refl left)
 
-lose_log-asks : (thread : ℕ) (s : State) → Asks s (lose_log_refusal s thread)
-lose_log-asks thread s is = search rules
-
 pub lose_log-roomy : (thread : ℕ) → LeavesIds (LoseLog thread)
-lose_log-roomy thread = draws-none (LoseLog thread) (lose_log-asks thread)
+lose_log-roomy thread = draws-none (LoseLog thread) (λ s is. search rules)
     (λ s held lines e t is left. none-drawn s lines _ e _ (without_log (as_mounted s) thread) t is (mounted-next s.instance.is_open s) left)
 
 -- RECOVER and RESTORE, by their target
@@ -227,15 +208,12 @@ all-next : (ns : List ℕ) (r : Repository) → next_in (without_all ns r) ≡ n
 all-next [] r = refl
 all-next (n ∷ ns) r = all-next ns (without_record n r)
 
-record-asks : (n : ℕ) (s : State) → Asks s (record_refusal s n)
-record-asks n s is = search rules
-
 pub change-roomy : (n : ℕ) (to : ChangeTo) → LeavesIds (ChangeBackup n to)
-change-roomy n to = draws-none (ChangeBackup n to) (record-asks n)
+change-roomy n to = draws-none (ChangeBackup n to) (λ s is. search rules)
     (λ s held lines e t is left. none-drawn s lines _ e _ (with_catalog s (changed_to to n s.catalog)) t is (change-next to n s.catalog) left)
 
 pub delete-roomy : (n : ℕ) → LeavesIds (DeleteBackup n)
-delete-roomy n = draws-none (DeleteBackup n) (record-asks n)
+delete-roomy n = draws-none (DeleteBackup n) (λ s is. search rules)
     (λ s held lines e t is left. none-drawn s lines _ e _ (with_catalog s (without_record n s.catalog)) t is refl left)
 
 pub check-roomy : (class : Class) → LeavesIds (Crosscheck class)
@@ -252,18 +230,12 @@ obsolete-roomy = draws-none DeleteObsolete asks-ids
 
 -- CONFIGURE
 
-retention-asks : (form : RetentionForm) (s : State) → Asks s (retention_refusal s form)
-retention-asks form s is = search rules
-
 pub retention-roomy : (form : RetentionForm) → LeavesIds (Retention form)
-retention-roomy form = draws-none (Retention form) (retention-asks form)
+retention-roomy form = draws-none (Retention form) (λ s is. search rules)
     (λ s held lines e t is left. none-drawn s lines _ e _ (with_catalog s (with_policy s.catalog (policy_of form))) t is refl left)
 
-parallelism-asks : (channels : ℕ) (s : State) → Asks s (parallelism_refusal s channels)
-parallelism-asks channels s is = search rules
-
 pub parallelism-roomy : (channels : ℕ) → LeavesIds (Parallelism channels)
-parallelism-roomy channels = draws-none (Parallelism channels) (parallelism-asks channels)
+parallelism-roomy channels = draws-none (Parallelism channels) (λ s is. search rules)
     (λ s held lines e t is left. none-drawn s lines _ e _ (with_catalog s (with_channels s.catalog channels)) t is refl left)
 
 -- HOST: the state stays as it is
@@ -285,14 +257,11 @@ rename-roomy old new = draws-none (Rename old new) asks-ids (λ s held lines e t
 
 -- Statements that draw ids
 
-archive-asks : (s : State) (t : ℕ) → archive_refusal s t ≡ None → lacks_ids s 1 ≡ false
-archive-asks s t is = search rules
-
 switch-left : (b : Bool) (s : State) (t : ℕ) (lines : List Line) (e : Effect) (q : State) → cond b (archive_refusal s t) (ids_refusal s) ≡ None
     → done lines e q ≡ cond b (done (made_lines s t) (archived (next s) (online s t)) (with_archived s t)) (done (none_lines t) no_effect s) → lacks_ids q 0 ≡ false
 switch-left false s t lines e q none is = none-drawn s lines (none_lines t) e no_effect s q is refl (asks-ids s none)
 switch-left true s t lines e q none is =
-    let most = not-above 4294967295 (next s + 1 + 68) (archive-asks s t none) in
+    let most : next s + 1 + 68 ≤ 4294967295 = search rules in
     left-after lines (made_lines s t) e (archived (next s) (online s t)) (with_archived s t) q is (omega (arith, most))
 
 pub switch-roomy : (t : ℕ) → LeavesIds (SwitchLogfile t)
