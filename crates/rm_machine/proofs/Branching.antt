@@ -26,7 +26,7 @@ use Rattle.rm_machine.specs.Machine.{HistoryFits, IsBorneOut, RowsAre}
 use Rattle.rm_machine.specs.OpenResetlogs.{branch_refusal, branched_off, resetlogs_lines, resetlogs_refusal}
 use Rattle.rm_machine.specs.Sound.{IsSound}
 use Rattle.rm_machine.specs.declared.state.State.{State}
-use Rattle.rm_machine.specs.State.{world, current_of, now_of, placed, online}
+use Rattle.rm_machine.specs.State.{current_of, now_of, online, placed, world}
 use Rattle.rm_machine.proofs.Archives.{AfterAll, HasRoom, room-accepted, threads-sound, threads-stand}
 use Rattle.rm_machine.proofs.BranchesSound.{CanBranchAt, end-branched, sound-branched}
 use Rattle.rm_machine.proofs.FreshLogs.{fresh-empty, fresh-first}

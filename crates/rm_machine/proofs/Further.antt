@@ -58,6 +58,12 @@ pub record GoesOn (s : State) : Type 0 where
 abbrev pub further : State → State
 further s = record s { catalog = one_further s }
 
+-- each change lies below the end up to which the logs of its incarnation tell
+pub below-redo : (s : State) (h : List Change) → All (λ c. c.scn < end_of s.catalog.ledger.tree c.inc) h → All (λ c. c.inc ≡ s.instance.logs.inc → c.scn < redo_end s) h
+below-redo s h below =
+    All-weaker (λ c. c.scn < end_of s.catalog.ledger.tree c.inc) (λ c. c.inc ≡ s.instance.logs.inc → c.scn < redo_end s)
+    (λ c low same. subst (λ j. c.scn < end_of s.catalog.ledger.tree j) same low) h below
+
 module _ (s : State) (sound : IsSound s) (on : GoesOn s) where
   abbrev i : ℕ
   i = current_of s
@@ -109,10 +115,10 @@ module _ (s : State) (sound : IsSound s) (on : GoesOn s) where
         high = high-bound (now_of q) (now_of q) x.rows (omega arith) (λ r has. let above = high-above now x.rows r has in omega (arith, above, is.high, now-further));
       }
 
-  inc-now : s.instance.logs.inc ≡ i
+  pub inc-now : s.instance.logs.inc ≡ i
   inc-now = (sound.in_open on.opened).inc
 
-  redo-now : redo_end s ≡ now
+  pub redo-now : redo_end s ≡ now
   redo-now = ap (end_of old) inc-now
 
   redo-further : redo_end q ≡ now + 1
@@ -153,11 +159,6 @@ module _ (s : State) (sound : IsSound s) (on : GoesOn s) where
         All-weaker (λ r. r ≡ state (world s) h i now x.file r.block) (λ r. r ≡ state (world q) h i (now_of q) x.file r.block)
         (λ r was. was ∙ sym (state-further x.file r.block)) x.rows (keeps.in_open on.opened f x is)
 
-    below-redo : All (λ c. c.inc ≡ s.instance.logs.inc → c.scn < redo_end s) h
-    below-redo =
-        All-weaker (λ c. c.scn < end_of old c.inc) (λ c. c.inc ≡ s.instance.logs.inc → c.scn < redo_end s)
-        (λ c low same. subst (λ j. c.scn < end_of old j) same low) h keeps.below
-
     logs-further : (t : ℕ) → Further (log_of (online s t)) (log_of (online q t))
     logs-further t = record { inc = refl; thread = refl; first = refl; next = keeps-further.end s.instance.logs.inc sound.logs.there }
 
@@ -165,7 +166,7 @@ module _ (s : State) (sound : IsSound s) (on : GoesOn s) where
     fits-further = record {
       history = IsHistory-with_end (world s) i (now + 1) h there keeps.history;
       below = below-risen old i (now + 1) h there (omega arith) (λ c held. (keeps.history.changes c held).there) keeps.below;
-      online = λ t low high found. agrees-further h (log_of (online s t)) (log_of (online q t)) (logs-further t) refl below-redo (keeps.online t low high found);
+      online = λ t low high found. agrees-further h (log_of (online s t)) (log_of (online q t)) (logs-further t) refl (below-redo s h keeps.below) (keeps.online t low high found);
       place = λ f x is. subst (λ y. BaseAgrees (world q) h (base_of y)) (sym (counted-open q x on.opened)) (rows-agree (world q) h i (now_of q) x (rows-further f x is));
       in_open = λ _ f x is. rows-further f x is;
       point = λ n is. let none = (sound.in_open on.opened).point in absurd (cc);

@@ -14,7 +14,7 @@ use Rattle.rm_machine.specs.Laws.{IsMomentOf}
 use Rattle.rm_machine.specs.Machine.{HasLogArtefact, HasPieceArtefact, HistoryFits, IsBorneOut}
 use Rattle.rm_machine.specs.Sound.{IsSound}
 use Rattle.rm_machine.specs.declared.state.State.{State}
-use Rattle.rm_machine.specs.State.{ledger, at_moment}
+use Rattle.rm_machine.specs.State.{at_moment, ledger}
 use Rattle.rm_machine.specs.Upkeep.{with_catalog}
 use Rattle.rm_machine.proofs.Kept.{StandOn, kept-on, names-of, stand-same}
 

@@ -20,7 +20,7 @@ use Rattle.rm_machine.specs.Machine.{HistoryFits, RowsAre}
 use Rattle.rm_machine.specs.Open.{kept_in_place}
 use Rattle.rm_machine.specs.Sound.{IsPlaced, IsPoint, IsSound}
 use Rattle.rm_machine.specs.declared.state.State.{State}
-use Rattle.rm_machine.specs.State.{ledger, world, current_of}
+use Rattle.rm_machine.specs.State.{current_of, ledger, world}
 
 -- what is kept in place stood there, and its datafile exists there
 pub kept-get : (w : World) (i s : ℕ) (ds : List Datafile) (place : List (Option File)) (k : ℕ) (d : Datafile) (x : File) → slice_get ds k ≡ Some d → slice_get (kept_in_place w i s ds place) k ≡ Some (Some x) → (exists w i s d ≡ true) × (slice_get place k ≡ Some (Some x))

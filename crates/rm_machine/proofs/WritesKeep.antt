@@ -1,5 +1,5 @@
 -- What a WRITE keeps of the history: one SCN further, its change is the last one.
-use Rattle.std.proofs.Common.{◌≡◌, ◌≢◌, ◌<◌, ◌≤◌, ◌+◌, ◌-◌, ◌∙◌, ◌++◌, ◌==◌, nat_lt, inl, inr, ℕ, List, [], ◌∷◌, Some, true, false, refl, ap, sym, subst, arith, All}
+use Rattle.std.proofs.Common.{◌≡◌, ◌≢◌, ◌<◌, ◌≤◌, ◌+◌, ◌-◌, ◌∙◌, ◌++◌, ◌==◌, nat_lt, inl, inr, ℕ, List, [], ◌∷◌, Some, true, false, refl, ap, sym, subst, arith}
 use Rattle.std.specs.Option.{option_map}
 use Rattle.std.proofs.lemmas.Bool.{and_parts, cases_eq, eqb-true, ltb-true}
 use Rattle.std.proofs.lemmas.List.{map_push}
@@ -36,7 +36,7 @@ use Rattle.rm_machine.specs.Sound.{IsSound}
 use Rattle.rm_machine.specs.declared.state.State.{State}
 use Rattle.rm_machine.specs.State.{current_of, is_lost, now_of, online, placed, redo_end, world}
 use Rattle.rm_machine.specs.Write.{change_of, with_write}
-use Rattle.rm_machine.proofs.Further.{fits-further, further, now-further, owns-now, rows-further, same-further}
+use Rattle.rm_machine.proofs.Further.{below-redo, fits-further, further, inc-now, now-further, owns-now, redo-now, rows-further, same-further}
 use Rattle.rm_machine.proofs.Grown.{true-on}
 use Rattle.rm_machine.proofs.Opened.{rows-agree}
 use Rattle.rm_machine.proofs.Places.{counted-open, placed-is}
@@ -104,12 +104,6 @@ module _ (s : State) (w : WriteForm) (h : List Change) (sound : IsSound s) (keep
 
   -- What the logs tell
 
-  inc-now : s.instance.logs.inc ≡ i
-  inc-now = (sound.in_open a.on.opened).inc
-
-  redo-now : redo_end s ≡ now
-  redo-now = ap (end_of old) inc-now
-
   redo-write : redo_end q ≡ redo_end p
   redo-write = ap (end_of risen.tree) (inc-with_change s.instance.logs c)
 
@@ -121,19 +115,14 @@ module _ (s : State) (w : WriteForm) (h : List Change) (sound : IsSound s) (keep
     next = let same = redo-write in omega (arith, same);
   }
 
-  below-redo : All (λ d. d.inc ≡ s.instance.logs.inc → d.scn < redo_end p) h
-  below-redo =
-      All-weaker (λ d. d.scn < end_of risen.tree d.inc) (λ d. d.inc ≡ s.instance.logs.inc → d.scn < redo_end p)
-      (λ d low same. subst (λ j. d.scn < end_of risen.tree j) same low) h wide.below
-
   told-new : is_of (log_of (online q w.thread)) c ≡ true
   told-new =
       let begun = (sound.logs.each w.thread a.thread.0 a.thread.1 ((sound.in_open a.on.opened).found w.thread a.thread.0 a.thread.1)).valid.range.1 in
-      let same : redo_end q ≡ now_of p = redo-write ∙ ap (end_of risen.tree) inc-now in
+      let same : redo_end q ≡ now_of p = redo-write ∙ ap (end_of risen.tree) (inc-now s sound a.on) in
       is_of-from (log_of (online q w.thread)) c (record {
-        inc = sym inc-now ∙ sym (inc-with_change s.instance.logs c);
+        inc = sym (inc-now s sound a.on) ∙ sym (inc-with_change s.instance.logs c);
         thread = refl;
-        begun = omega (arith, begun, first_of-with_change s.instance.logs c w.thread, redo-now);
+        begun = omega (arith, begun, first_of-with_change s.instance.logs c w.thread, redo-now s sound a.on);
         below = omega (arith, same, end);
       })
 
@@ -143,20 +132,20 @@ module _ (s : State) (w : WriteForm) (h : List Change) (sound : IsSound s) (keep
       ap (λ j. changes_in j w.thread (records_of (with_change s.instance.logs c) w.thread)) (inc-with_change s.instance.logs c)
       ∙ ap (changes_in s.instance.logs.inc w.thread) (records_of-with_change s.instance.logs c (a.thread.0, omega (arith, sound.logs.threads, a.thread.1)))
       ∙ map_push (told s.instance.logs.inc w.thread) records (record_of c)
-      ∙ ap (λ j. changes_in s.instance.logs.inc w.thread records ++ told j w.thread (record_of c) ∷ []) inc-now
+      ∙ ap (λ j. changes_in s.instance.logs.inc w.thread records ++ told j w.thread (record_of c) ∷ []) (inc-now s sound a.on)
 
   online-write : (t : ℕ) → 0 < t → t ≤ s.catalog.ledger.base.threads → is_lost s.instance.logs t ≡ false → LogAgrees (h ++ c ∷ []) (log_of (online q t))
   online-write t low high found = elim (cases_eq t w.thread) [
     | inl same ↦
         subst (λ u. LogAgrees (h ++ c ∷ []) (log_of (online q u))) (sym same)
-        (agrees-pushed h c (log_of (online p w.thread)) (log_of (online q w.thread)) (further-write w.thread) grown told-new below-redo
+        (agrees-pushed h c (log_of (online p w.thread)) (log_of (online q w.thread)) (further-write w.thread) grown told-new (below-redo p h wide.below)
         (wide.online w.thread a.thread.0 a.thread.1 ((sound.in_open a.on.opened).found w.thread a.thread.0 a.thread.1)))
     | inr other ↦
         let still : (log_of (online q t)).changes ≡ (log_of (online p t)).changes =
         ap (λ j. changes_in j t (records_of (with_change s.instance.logs c) t)) (inc-with_change s.instance.logs c)
         ∙ ap (changes_in s.instance.logs.inc t) (records_of-with_change_other s.instance.logs c t a.thread.0 low other) in
         LogAgrees-grown h c (log_of (online q t))
-        (agrees-further h (log_of (online p t)) (log_of (online q t)) (further-write t) still below-redo (wide.online t low high found))
+        (agrees-further h (log_of (online p t)) (log_of (online q t)) (further-write t) still (below-redo p h wide.below) (wide.online t low high found))
         (is_of-not (log_of (online q t)) c (λ is. other (sym is.thread)))
   ]
 

@@ -26,7 +26,7 @@ use Rattle.rm_machine.specs.Sound.{IsOnline, IsPlaced, IsPlacedRow, IsSound}
 use Rattle.rm_machine.specs.declared.state.State.{State}
 use Rattle.rm_machine.specs.State.{current_of, is_lost, now_of, online, placed, redo_end, world}
 use Rattle.rm_machine.specs.Write.{change_of, with_write}
-use Rattle.rm_machine.proofs.Further.{further, keeps-further, now-further, sound-further}
+use Rattle.rm_machine.proofs.Further.{further, keeps-further, now-further, redo-now, sound-further}
 use Rattle.rm_machine.proofs.FurtherLogs.{IsPushed, log-further}
 use Rattle.rm_machine.proofs.Places.{counted-open}
 use Rattle.rm_machine.proofs.Writes.{Accepted}
@@ -106,9 +106,6 @@ module _ (s : State) (w : WriteForm) (sound : IsSound s) (a : Accepted s w) (ful
 
   -- The online logs
 
-  redo-now : redo_end s ≡ now
-  redo-now = ap (end_of l.tree) (sound.in_open a.on.opened).inc
-
   redo-after : redo_end q ≡ now + 1
   redo-after = ap (end_of tree) (inc-with_change s.instance.logs c ∙ (sound.in_open a.on.opened).inc) ∙ end
 
@@ -118,7 +115,7 @@ module _ (s : State) (w : WriteForm) (sound : IsSound s) (a : Accepted s w) (ful
       let made = all-get (IsCreated l.tree) l.files (w.file - 1) a.datafile file.1 sound.catalog.ledger.datafiles.each in
       let begun = (sound.logs.each w.thread a.thread.0 a.thread.1 ((sound.in_open a.on.opened).found w.thread a.thread.0 a.thread.1)).valid.range.1 in
       record {
-        scn = (omega (arith, begun, first_of-with_change s.instance.logs c w.thread, redo-now), omega (arith, redo-after));
+        scn = (omega (arith, begun, first_of-with_change s.instance.logs c w.thread, redo-now s sound a.on), omega (arith, redo-after));
         file = (file.0, omega (arith, slice_get_within l.files (w.file - 1) a.datafile file.1, sound.catalog.ledger.datafiles.few));
         block = omega (arith, a.block, made.blocks.1);
         content = full;
@@ -128,7 +125,7 @@ module _ (s : State) (w : WriteForm) (sound : IsSound s) (a : Accepted s w) (ful
   log-after t low high found =
       let was = sound.logs.each t low high found in
       let around = around-with_change s.instance.logs c in
-      let old = redo-now in
+      let old = redo-now s sound a.on in
       let next = redo-after in
       let inc : (online q t).inc ≡ s.instance.logs.inc = inc-with_change s.instance.logs c in
       let reset = (keeps-further s sound a.on).reset s.instance.logs.inc sound.logs.there in
