@@ -1,6 +1,6 @@
 -- HOST LOSE LOG leads on: the online log of a thread is lost.
-use Rattle.std.proofs.Common.{◌≡◌, ◌<◌, ◌≤◌, ◌∙◌, inl, inr, ℕ, List, None, true, false, cond, ap, sym, subst, arith, rules}
-use Rattle.std.proofs.lemmas.Bool.{cases_Bool, cases_eq, false≢true}
+use Rattle.std.proofs.Common.{◌≡◌, ◌<◌, ◌≤◌, ◌∙◌, inl, inr, ℕ, List, None, true, false, refl, ap, sym, subst, arith, rules}
+use Rattle.std.proofs.lemmas.Bool.{cases_eq, false≢true}
 use Rattle.rm_base.specs.Store.{Held}
 use Rattle.rm_base.specs.declared.block.Change.{Change}
 use Rattle.rm_statement.specs.declared.command.Command.TheVariants.{LoseLog}
@@ -15,13 +15,13 @@ use Rattle.rm_redo.proofs.Logs.{IsLost-with_loss, around-with_loss, first_of-wit
 use Rattle.rm_machine.specs.Effect.{Made}
 use Rattle.rm_machine.specs.LoseLog.{lose_log_refusal, without_log}
 use Rattle.rm_machine.specs.Machine.{HistoryFits, IsBorneOut}
-use Rattle.rm_machine.specs.Mount.{as_mounted, mounted}
+use Rattle.rm_machine.specs.Mount.{as_mounted}
 use Rattle.rm_machine.specs.Sound.{AreOnline, IsOnline, IsSound}
 use Rattle.rm_machine.specs.declared.state.State.{State}
 use Rattle.rm_machine.specs.State.{ledger, tree, current_of, is_lost, online, redo_end}
 use Rattle.rm_machine.proofs.CountedLogs.{AgreeOnline, counted-agree, counted-online, with_logs}
 use Rattle.rm_machine.proofs.Leading.{LeadsOnBy, StaysBy}
-use Rattle.rm_machine.proofs.Mounting.{closed-as_mounted, none-mounted, sound-as_mounted, stands-as_mounted}
+use Rattle.rm_machine.proofs.Mounting.{closed-as_mounted, mode-either, none-mounted, sound-as_mounted, stands-as_mounted}
 use Rattle.rm_machine.proofs.Quiet.{quiet-on, quiet-stays}
 use Rattle.rm_machine.proofs.Switching.{thread-of}
 
@@ -107,10 +107,7 @@ module _ (s : State) (t : ℕ) (sound : IsSound s) (shut : s.instance.is_open �
   }
 
 threads-mounted : (s : State) → (ledger (as_mounted s)).base.threads ≡ (ledger s).base.threads
-threads-mounted s = elim (cases_Bool s.instance.is_open) [
-  | inl opened ↦ ap (λ b. (ledger (cond b (mounted s) s)).base.threads) opened
-  | inr shut ↦ ap (λ b. (ledger (cond b (mounted s) s)).base.threads) shut
-]
+threads-mounted s = mode-either (λ q. (ledger q).base.threads ≡ (ledger s).base.threads) s s.instance.is_open (λ opened. refl) refl
 
 range : (s : State) (t : ℕ) → lose_log_refusal s t ≡ None → (0 < t) × (t ≤ (ledger (as_mounted s)).base.threads)
 range s t is =

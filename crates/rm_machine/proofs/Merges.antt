@@ -1,35 +1,19 @@
 -- A copy after merges: of the incarnation and the checkpoint of the last level 1, and within the end of that incarnation.
-use Rattle.std.proofs.Common.{◌≡◌, ◌≤◌, ◌∙◌, inl, inr, ℕ, List, Some, true, refl, subst, arith, length, All, Contains}
-use Rattle.std.specs.Option.{option_map_or}
-use Rattle.std.proofs.lemmas.Bool.{and_parts, cases_lt}
+use Rattle.std.proofs.Common.{◌≡◌, ◌≤◌, ◌∙◌, ℕ, List, Some, refl, subst, arith, length, All, Contains}
 use Rattle.std.proofs.lemmas.List.{length-map}
 use Rattle.rm_base.specs.declared.block.Row.{Row}
 use Rattle.rm_catalog.specs.declared.record.Record.{Record}
 use Rattle.rm_catalog.specs.Trees.{nodes}
 use Rattle.rm_evidence.specs.Known.{FitsPiece}
 use Rattle.rm_history.specs.declared.tree.Incarnation.{Incarnation}
-use Rattle.rm_history.specs.Tree.{IsThere, IsTree, end_of, is_on_path, is_within, owner, reset_of, segment_end}
-use Rattle.rm_history.proofs.Owners.{owner-below, owner-here}
-use Rattle.rm_history.proofs.Paths.{is_on_path-member, path-below}
-use Rattle.rm_history.proofs.Segments.{is_within_alike}
+use Rattle.rm_history.specs.Tree.{IsThere, IsTree, end_of, reset_of}
 use Rattle.rm_merge.specs.Merge.{Meets, greater, merged, row_at}
 use Rattle.rm_merge.proofs.Reaching.{merged_high}
 use Rattle.rm_piece.specs.declared.piece.Piece.{Piece}
 use Rattle.rm_piece.specs.Valid.{IsPiece}
 use Rattle.rm_backup.specs.Level1s.{IsNext, IsReached, next, start}
 use Rattle.rm_backup.proofs.Chained.{reached_valid}
-
--- what lies within its segment and up to the end of its incarnation lies up to the end of the path
-ends-within : (tree : List Incarnation) (j i high : ℕ) → IsTree tree → IsThere tree i → reset_of tree i ≤ end_of tree i → is_within tree j i high ≡ true → high ≤ end_of tree j → high ≤ end_of tree i
-ends-within tree j i high is there range within most = elim (cases_lt (end_of tree i) high) [
-  | inr low ↦ low
-  | inl over ↦
-      let on = and_parts (is_on_path tree j i) (option_map_or (λ end. _) (segment_end tree j i) true) within in
-      let below = path-below tree is.parents i j ((is_on_path-member tree i j).0 on.0) in
-      let own : owner tree j (end_of tree i) ≡ i = is_within_alike tree is j i high there within (end_of tree i) over ∙ owner-here tree is.parents i (end_of tree i) there.0 range in
-      let same : j ≡ i = omega (arith, (owner-below tree is.parents j (end_of tree i) below.0).1, own, below.1) in
-      subst (λ k. high ≤ end_of tree k) same most
-]
+use Rattle.rm_machine.proofs.Parents.{within-end}
 
 -- a level 1 that fits the tree, and lies up to the end of its incarnation
 pub record EndsIn (tree : List Incarnation) (a : Piece) : Type 0 where
@@ -62,7 +46,7 @@ module _ (rs : List Record) (f : ℕ) (tag : List ℕ) (s : ℕ) (level1s : List
     merge-keeps copy now x piece was chosen =
         let new = all x chosen.held in
         let meets : Meets tree now x.1 = subst (λ t. Meets t now x.1) same chosen.passes.meets in
-        let low = ends-within tree now.inc x.1.inc now.high is new.fits.inc (ranges x.1.inc new.fits.inc) meets.within was.high in
+        let low = within-end tree is x.1.inc now.inc now.high new.fits.inc (ranges x.1.inc new.fits.inc) was.high meets.within in
         record {
           file = was.file;
           rows = length-map now.rows (λ (r : Row). greater r (row_at x.1.rows r.block)) ∙ was.rows;

@@ -134,7 +134,7 @@ module _ (s : State) (sound : IsSound s) (opened : s.instance.is_open ≡ true) 
     records = record { logs = stands.records.logs; pieces = stands.records.pieces };
   }
 
-mode-either : (P : State → Type 0) (s : State) (b : Bool) → (b ≡ true → P (mounted s)) → P s → P (cond b (mounted s) s)
+pub mode-either : (P : State → Type 0) (s : State) (b : Bool) → (b ≡ true → P (mounted s)) → P s → P (cond b (mounted s) s)
 mode-either P s true there other = there refl
 mode-either P s false there other = other
 

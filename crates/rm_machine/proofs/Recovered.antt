@@ -1,11 +1,9 @@
 -- RECOVER DATABASE leads on, and its test tells: what is determined is what the history made.
-use Rattle.std.proofs.Common.{◌≡◌, ◌≤◌, ◌+◌, ◌∙◌, ◌++◌, inl, inr, ℕ, List, Option, Some, None, true, refl, ap, sym, subst, arith, length, slice_get}
+use Rattle.std.proofs.Common.{◌≡◌, ◌≤◌, ◌+◌, ◌∙◌, ◌++◌, inl, inr, ℕ, List, Option, Some, None, true, refl, ap, sym, subst, arith, slice_get}
 use Rattle.std.proofs.lemmas.List.Elements.{All-contains}
 use Rattle.rm_base.specs.Store.{Held}
 use Rattle.rm_base.specs.declared.block.Change.{Change}
 use Rattle.rm_base.specs.declared.block.Row.{Row}
-use Rattle.rm_base.specs.declared.refusal.Refusal.TheVariants.{Rm07}
-use Rattle.rm_base.proofs.Conditions.{unless}
 use Rattle.rm_blocks.specs.File.{File, base_of}
 use Rattle.rm_statement.specs.declared.command.Command.TheVariants.{Recover, RecoverTest}
 use Rattle.rm_statement.specs.declared.command.Until.{Until}
@@ -15,16 +13,13 @@ use Rattle.rm_apply.specs.Told.{AreFilesAt}
 use Rattle.rm_history.specs.declared.world.Datafile.{Datafile}
 use Rattle.rm_history.specs.Agrees.{BaseAgrees}
 use Rattle.rm_history.specs.State.{state}
-use Rattle.rm_history.specs.Tree.{IsThere}
 use Rattle.rm_history.specs.World.{exists}
 use Rattle.rm_known.specs.Evidence as known
 use Rattle.rm_report.specs.declared.line.Line.{Line}
 use Rattle.rm_machine.specs.Effect.{Effect, LeavesObjects, Made, done, told}
 use Rattle.rm_machine.specs.Machine.{DigestsTellFor, HistoryFits, IsBorneOut, RowsAre}
 use Rattle.rm_machine.specs.Recover.{BringsTo, RecoversTo, recovered, recover_refusal, recover_target}
-use Rattle.rm_machine.specs.RecoverTest.{TellsTo, TestsTo, is_no_incarnation, test_refusal, test_target, tested, tested_refusal}
-use Rattle.rm_machine.specs.Until.{thread_refusal}
-use Rattle.rm_machine.proofs.Untils.{second-none}
+use Rattle.rm_machine.specs.RecoverTest.{TellsTo, TestsTo, test_target, tested}
 use Rattle.rm_machine.specs.Recovery.{put_over}
 use Rattle.rm_machine.specs.Sound.{IsSound}
 use Rattle.rm_machine.specs.declared.state.State.{State}
@@ -36,7 +31,6 @@ use Rattle.rm_machine.proofs.Placing.{over-length}
 use Rattle.rm_machine.proofs.Quiet.{quiet-on, quiet-stays}
 use Rattle.rm_machine.proofs.Recovering.{CameBack, CanRecover, can-recover, comes, sound-recovered, stands}
 use Rattle.rm_machine.proofs.Told.{files-made, tells-files, tells-fits, told-states}
-use Rattle.rm_machine.proofs.Switching.{thread-of}
 
 module _ (s : State) (h : List Change) (e : Evidence) (at : ℕ) (files : List File) (sound : IsSound s) (keeps : HistoryFits s h) (fits : FitsTree (tree s) e) (can : CanRecover s at)
     (agrees : known.Agrees (world s) h (known_of e)) (told : AreFilesAt (world s) (known_of e) (current_of s) at files) where
@@ -111,13 +105,6 @@ pub recover-stays : (until : Option Until) → StaysBy (Recover until)
 recover-stays until s objects said e t well sound unsaved none does = stays-by (recover_target s until) until s objects said e t refl sound unsaved none does
 
 -- RECOVER DATABASE TEST
-
--- where it is not refused its incarnation is there
-pub tested-there : (s : State) (until : Option Until) (inc : Option ℕ) → test_refusal s until inc ≡ None → IsThere (tree s) (tested s inc)
-tested-there s until inc none =
-    let i = tested s inc in
-    let after = second-none (thread_refusal s until) (tested_refusal s until i) none in
-    thread-of (length (tree s)) i (unless (is_no_incarnation s i) (Rm07 i) _ after).0
 
 -- the lines are those of what the history made
 test-by : (o : Option ℕ) (i : ℕ) (s : State) (h : List Change) (objects : Held) (made : List Made) (touched : List (List ℕ)) (lines : List Line)

@@ -1,7 +1,7 @@
 -- Along the events of a BACKUP the database stays sound and fits its history, and what was read stays true.
 use Rattle.std.proofs.Common.{◌≡◌, ◌≢◌, ◌≤◌, ◌+◌, ◌-◌, ◌∙◌, ◌++◌, ◌==◌, nat_lt, inl, inr, ℕ, zero, suc, List, [], ◌∷◌, Option, Some, None, Ok, Err, Bool, true, false, cond, refl, ap, sym, subst, arith, append_assoc, length, length-append, map, All, Contains, slice_index_or, slice_set}
 use Rattle.std.specs.Option.{option_map}
-use Rattle.std.proofs.lemmas.Bool.{and_from, and_parts, eq-eqb, lt-ltb, ltb-true, true≢false}
+use Rattle.std.proofs.lemmas.Bool.{and_from, and_parts, eqb-false, lt-ltb, ltb-true}
 use Rattle.std.proofs.lemmas.List.{append-nil, length-set}
 use Rattle.std.proofs.lemmas.List.Elements.{All-contains, All-weaker}
 use Rattle.rm_base.specs.Numbers.{last_scn}
@@ -24,7 +24,6 @@ use Rattle.rm_live.specs.declared.history.Answer.TheVariants.{Found, Wrote}
 use Rattle.rm_live.specs.declared.history.Call.{Call}
 use Rattle.rm_live.specs.declared.history.Call.TheVariants.{Read, Write}
 use Rattle.rm_live.specs.declared.history.Event.{Event}
-use Rattle.rm_live.specs.declared.history.LiveFault.TheVariants.{Full, LastScn}
 use Rattle.rm_live.specs.History.{IsLegal, IsRight}
 use Rattle.rm_live.specs.Parts.{refusal_by, row_at}
 use Rattle.rm_redo.specs.Online.{records_of as log_records}
@@ -46,6 +45,7 @@ use Rattle.rm_machine.proofs.BackupAccepted.{CanBeWritten}
 use Rattle.rm_machine.proofs.Following.{goes-along, opening-after}
 use Rattle.rm_machine.proofs.Found.{read-found, read-of, read-true, row-write}
 use Rattle.rm_machine.proofs.PiecesRead.{IsFound}
+use Rattle.rm_base.proofs.Conditions.{unless}
 
 -- an event is a read, or one of these writes, which took an SCN
 abbrev pub IsAsked : List WriteForm → Call → Answer → Type 0
@@ -70,12 +70,9 @@ pub record CanGoOn (u : State) (ws : List WriteForm) : Type 0 where
 
 refused-not : (row : Option Row) (n now : ℕ) → refusal_by row n now ≡ None → (n ≢ 65536) × (now ≢ last_scn)
 refused-not None n now is = absurd (cc)
-refused-not (Some row) n now is = by (n == 65536) refl (now == last_scn) refl is
-  where
-    by : (p : Bool) → (n == 65536) ≡ p → (q : Bool) → (now == last_scn) ≡ q → cond p (Some Full) (cond q (Some LastScn) None) ≡ None → (n ≢ 65536) × (now ≢ last_scn)
-    by true pe q qe is = absurd (cc)
-    by false pe true qe is = absurd (cc)
-    by false pe false qe is = (λ e. true≢false (sym (eq-eqb n 65536 e) ∙ pe), λ e. true≢false (sym (eq-eqb now last_scn e) ∙ qe))
+refused-not (Some row) n now is =
+    let full = unless (n == 65536) _ _ is in
+    (eqb-false n 65536 full.0, eqb-false now last_scn (unless (now == last_scn) _ _ full.1).0)
 
 module _ (u : State) (ws : List WriteForm) (can : CanGoOn u ws) (w : WriteForm) (has : Contains ws w) (scn : ℕ) (right : IsRight (opening u) (Write w.thread w.file w.block w.content) (Wrote (Ok scn))) where
   pub accepted : Accepted u w
