@@ -17,7 +17,7 @@ use Rattle.rm_objects.specs.Names.{site_name}
 use Rattle.rm_repository.specs.Repository.{Saved}
 use Rattle.rm_machine.specs.Effect.{Artefact, Effect, Made}
 use Rattle.rm_machine.specs.Laws.{LeadsOn, StaysSound}
-use Rattle.rm_machine.specs.Machine.{DigestsTell, HoldsUnder, IsSoundBy, IsSoundMachine, Machine}
+use Rattle.rm_machine.specs.Machine.{DigestsTell, HoldsUnder, IsBorneOut, IsSoundBy, IsSoundMachine, Machine}
 use Rattle.rm_machine.specs.Rest.{HaveParts, IsSoundRestBy, Rest, at_rest, catalog_in}
 use Rattle.rm_machine.specs.Saved.{saved_names, spelling_of}
 use Rattle.rm_machine.specs.declared.state.State.{State}
@@ -65,21 +65,24 @@ parts-left given (Some site) before after made touched same have = λ p has.
       | inr still ↦ inr (still ∙ is)
     ]
 
--- what is left is sound
+-- what is left of a database is sound
+rest-sound : (s : State) (h : List BlockChange) (objects : Held) (made : List Made) (touched : List (List ℕ)) → IsBorneOut s h objects made touched → HaveParts objects made touched s.catalog.saved → IsSoundRestBy (Some s.catalog) h objects made touched
+rest-sound s h objects made touched is parts = record {
+  catalog = is.state.catalog;
+  dbid = is.state.dbid;
+  history = is.keeps.history;
+  below = is.keeps.below;
+  artefacts = is.artefacts;
+  records = is.records;
+  parts = parts;
+}
+
 sound-by : (given : List (List ℕ)) (o : Option State) (h : List BlockChange) (before after : Held) (made : List Made) (touched : List (List ℕ)) → StaysUnder given o before after → IsSoundBy o h before made touched
     → HaveParts before made touched (saved_in o) → IsSoundRestBy (catalog_in o) h after made (given ++ touched)
 sound-by given None h before after made touched same is parts = is
 sound-by given (Some s) h before after made touched same is parts =
-    let borne = borne-beside s h before after made touched (given ++ touched) is (stand-left given s before after touched same) in
-    record {
-      catalog = borne.state.catalog;
-      dbid = borne.state.dbid;
-      history = borne.keeps.history;
-      below = borne.keeps.below;
-      artefacts = borne.artefacts;
-      records = borne.records;
-      parts = parts-left given s.catalog.saved before after made touched (λ p has. same (site_name p.id) (of_part p has)) parts;
-    }
+    rest-sound s h after made (given ++ touched) (borne-beside s h before after made touched (given ++ touched) is (stand-left given s before after touched same))
+    (parts-left given s.catalog.saved before after made touched (λ p has. same (site_name p.id) (of_part p has)) parts)
 
 -- and the devices hold it
 pub left-holds : (given : List (List ℕ)) (n : Machine) (w : Outside) (held : Option Held) (kept : Option (List Record)) → IsSoundMachine n → HaveParts n.objects n.made n.touched (saved_in n.state) → w.records ≡ records n → StaysUnder given n.state n.objects w.objects → Tells held kept w
@@ -147,19 +150,11 @@ ends-here held kept c n holds =
 
 -- and of it at rest
 pub rests : (held : Option Held) (kept : Option (List Record)) (m : Machine) → Holds held kept m → HoldsRest held kept (at_rest m)
-rests held kept m holds = record { store = holds.store; keeper = holds.keeper; sound = rest-sound m.state holds.sound holds.parts }
+rests held kept m holds = record { store = holds.store; keeper = holds.keeper; sound = by m.state holds.sound holds.parts }
   where
-    rest-sound : (o : Option State) → IsSoundBy o m.history m.objects m.made m.touched → HaveParts m.objects m.made m.touched (saved_in o) → IsSoundRestBy (catalog_in o) m.history m.objects m.made m.touched
-    rest-sound None is parts = is
-    rest-sound (Some s) is parts = record {
-      catalog = is.state.catalog;
-      dbid = is.state.dbid;
-      history = is.keeps.history;
-      below = is.keeps.below;
-      artefacts = is.artefacts;
-      records = is.records;
-      parts = parts;
-    }
+    by : (o : Option State) → IsSoundBy o m.history m.objects m.made m.touched → HaveParts m.objects m.made m.touched (saved_in o) → IsSoundRestBy (catalog_in o) m.history m.objects m.made m.touched
+    by None is parts = is
+    by (Some s) is parts = rest-sound s m.history m.objects m.made m.touched is parts
 
 -- where nothing was done yet
 pub nothing-done : (held : Option Held) (kept : Option (List Record)) (o : Option State) (c : Command) (moment : ℕ) → StopsAt held kept o c moment held kept

@@ -17,16 +17,14 @@ use Rattle.rm_machine.specs.OpenResetlogs.{branched_off, resetlogs_lines}
 use Rattle.rm_machine.specs.Sound.{IsSound}
 use Rattle.rm_machine.specs.declared.state.State.{State}
 use Rattle.rm_machine.specs.State.{ledger, online}
-use Rattle.rm_machine.specs.Step.{refusal_of}
 use Rattle.rm_machine.specs.SwitchLogfile.{archived, is_due, made_lines, none_lines, with_archived}
 use Rattle.rm_machine.proofs.Archives.{HasRoom, Took, next-room, took-thread}
 use Rattle.rm_machine.proofs.ArchivingAll.{room}
 use Rattle.rm_machine.proofs.Branching.{can-reset}
 use Rattle.rm_machine.proofs.NewObjects.{log-apart, piece-apart}
-use Rattle.rm_machine.proofs.Leading.{done-by}
 use Rattle.rm_machine.proofs.Switching.{CanSwitch, can-archive, can-switch}
 use Rattle.rm_frame.specs.Loose.{IsLoose, IsNamedBy, StaysLoose, of_object, of_part}
-use Rattle.rm_frame.proofs.LooseQuiet.{quiet-loose}
+use Rattle.rm_frame.proofs.LooseQuiet.{loose-done, quiet-loose}
 
 -- no record of the database names it, and it is no name of a part of a saved site
 pub record IsNewName (s : State) (new : List ℕ) : Type 0 where
@@ -88,9 +86,7 @@ switch-by true s t lines e q due sound can is =
     (new-loose s (SwitchLogfile t) (archived id (online s t)) q refl (one-new s id (spelling (online s t)) sound (record { next = omega arith; most = omega (arith, most) })))
 
 pub switch-loose : (t : ℕ) → StaysLoose (SwitchLogfile t)
-switch-loose t s held lines e q sound comes =
-    let both = done-by (refusal_of s (SwitchLogfile t)) s held (SwitchLogfile t) lines e q comes in
-    switch-by (is_due s t) s t lines e q refl sound (can-switch s t both.0) both.1
+switch-loose t = loose-done (SwitchLogfile t) (λ s held lines e q sound none is. switch-by (is_due s t) s t lines e q refl sound (can-switch s t none) is)
 
 -- ARCHIVE LOG CURRENT
 
@@ -109,11 +105,10 @@ threads-new (suc n) t s more first sound low fits =
     (threads-new n (t + 1) q more first sound (omega (arith, low, took.ids)) (next-room s t n more fits))
 
 pub archive-loose : StaysLoose ArchiveLogCurrent
-archive-loose s held lines e t sound comes =
-    let both = done-by (refusal_of s ArchiveLogCurrent) s held ArchiveLogCurrent lines e t comes in
-    let is : archiving s ≡ e = (let one = both.1 in cc) in
+archive-loose = loose-done ArchiveLogCurrent (λ s held lines e t sound none does.
+    let is : archiving s ≡ e = cc in
     subst (λ x. IsLoose (Some s) ArchiveLogCurrent x t) is
-    (new-loose s ArchiveLogCurrent (archiving s) t refl (threads-new (ledger s).base.threads 1 s 0 s sound (omega arith) (room s sound both.0)))
+    (new-loose s ArchiveLogCurrent (archiving s) t refl (threads-new (ledger s).base.threads 1 s 0 s sound (omega arith) (room s sound none))))
 
 -- OPEN RESETLOGS
 
@@ -122,9 +117,6 @@ branch-by None s lines e t is = absurd is
 branch-by (Some at) s lines e t is = cc
 
 pub branch-loose : StaysLoose OpenResetlogs
-branch-loose s held lines e t sound comes =
-    let both = done-by (refusal_of s OpenResetlogs) s held OpenResetlogs lines e t comes in
-    let can = can-reset s sound both.0 in
-    let is = branch-by s.instance.point s lines e t both.1 in
-    subst (λ x. IsLoose (Some s) OpenResetlogs x t) is
-    (new-loose s OpenResetlogs (archiving s) t refl (threads-new (ledger s).base.threads 1 s 2 s sound (omega arith) can.room))
+branch-loose = loose-done OpenResetlogs (λ s held lines e t sound none does.
+    subst (λ x. IsLoose (Some s) OpenResetlogs x t) (branch-by s.instance.point s lines e t does)
+    (new-loose s OpenResetlogs (archiving s) t refl (threads-new (ledger s).base.threads 1 s 2 s sound (omega arith) (can-reset s sound none).room)))

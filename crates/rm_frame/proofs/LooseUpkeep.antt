@@ -11,27 +11,21 @@ use Rattle.rm_report.specs.declared.line.Line.{Line}
 use Rattle.rm_machine.specs.Effect.{Effect, done}
 use Rattle.rm_machine.specs.Sound.{IsSound}
 use Rattle.rm_machine.specs.declared.state.State.{State}
-use Rattle.rm_machine.specs.Step.{names_in, refusal_of}
+use Rattle.rm_machine.specs.Step.{names_in}
 use Rattle.rm_machine.specs.Upkeep.{changed_to, names_at, removing, with_catalog, with_statuses, without_all}
 use Rattle.rm_machine.proofs.Deleting.{AreGone, gone, left-free, named-in, part-free}
 use Rattle.rm_machine.proofs.DeletingObsolete.{are-gone, names_of}
-use Rattle.rm_machine.proofs.Leading.{done-by}
 use Rattle.rm_frame.specs.Loose.{IsLoose, IsNamedBy, StaysLoose, of_object, of_part}
-use Rattle.rm_frame.proofs.LooseQuiet.{quiet-loose}
+use Rattle.rm_frame.proofs.LooseQuiet.{loose-done, quiet-loose}
 
 pub change-loose : (id : ℕ) (to : ChangeTo) → StaysLoose (ChangeBackup id to)
-change-loose id to s held lines e t sound comes =
-    quiet-loose s (ChangeBackup id to) lines _ e (with_catalog s (changed_to to id s.catalog)) t (done-by (refusal_of s (ChangeBackup id to)) s held (ChangeBackup id to) lines e t comes).1
+change-loose id to = loose-done (ChangeBackup id to) (λ s held lines e t sound none is. quiet-loose s (ChangeBackup id to) lines _ e (with_catalog s (changed_to to id s.catalog)) t is)
 
 pub check-loose : (class : Class) → StaysLoose (Crosscheck class)
-check-loose class s held lines e t sound comes =
-    let does = (done-by (refusal_of s (Crosscheck class)) s held (Crosscheck class) lines e t comes).1 in
-    quiet-loose s (Crosscheck class) lines _ e (with_catalog s (with_statuses does.checked s.catalog)) t does.is
+check-loose class = loose-done (Crosscheck class) (λ s held lines e t sound none does. quiet-loose s (Crosscheck class) lines _ e (with_catalog s (with_statuses does.checked s.catalog)) t does.is)
 
 pub expire-loose : (class : Class) → StaysLoose (DeleteExpired class)
-expire-loose class s held lines e t sound comes =
-    let does = (done-by (refusal_of s (DeleteExpired class)) s held (DeleteExpired class) lines e t comes).1 in
-    quiet-loose s (DeleteExpired class) lines _ e (with_catalog s (without_all does.ids s.catalog)) t does.is
+expire-loose class = loose-done (DeleteExpired class) (λ s held lines e t sound none does. quiet-loose s (DeleteExpired class) lines _ e (with_catalog s (without_all does.ids s.catalog)) t does.is)
 
 -- what goes with records is named by none that is left
 goes-loose : (s : State) (c : Command) (ids : List ℕ) (names : List (List ℕ)) (lines said : List Line) (e : Effect) (t : State) → IsSound s → AreGone s.catalog ids names
@@ -50,11 +44,8 @@ goes-loose s c ids names lines said e t sound are is =
     removes _ (of_part p has) named = absurd (part-free s.catalog sound.catalog ids names are p.id (named-in names _ named))
 
 pub delete-loose : (id : ℕ) → StaysLoose (DeleteBackup id)
-delete-loose id s held lines e t sound comes =
-    let is = (done-by (refusal_of s (DeleteBackup id)) s held (DeleteBackup id) lines e t comes).1 in
-    goes-loose s (DeleteBackup id) (id ∷ []) (names_at id s.catalog) lines _ e t sound (gone s.catalog (id ∷ []) id (in-front id [])) is
+delete-loose id = loose-done (DeleteBackup id) (λ s held lines e t sound none is.
+    goes-loose s (DeleteBackup id) (id ∷ []) (names_at id s.catalog) lines _ e t sound (gone s.catalog (id ∷ []) id (in-front id [])) is)
 
 pub obsolete-loose : StaysLoose DeleteObsolete
-obsolete-loose s held lines e t sound comes =
-    let does = (done-by (refusal_of s DeleteObsolete) s held DeleteObsolete lines e t comes).1 in
-    goes-loose s DeleteObsolete does.ids (names_of s does.ids) lines _ e t sound (are-gone s does.ids) does.is
+obsolete-loose = loose-done DeleteObsolete (λ s held lines e t sound none does. goes-loose s DeleteObsolete does.ids (names_of s does.ids) lines _ e t sound (are-gone s does.ids) does.is)

@@ -107,12 +107,16 @@ asks-ids s is = search rules
 
 -- Statements that draw none
 
+-- what was not refused, and was done
+leaves : (c : Command) → ((s : State) (held : Held) (lines : List Line) (e : Effect) (t : State) → IsSound s → refusal_of s c ≡ None → IsDone s held c (done lines e t) → lacks_ids t 0 ≡ false) → LeavesIds c
+leaves c by s held lines e t sound comes =
+    let both = done-by (refusal_of s c) s held c lines e t comes in
+    by s held lines e t sound both.0 both.1
+
 -- a statement that asks for the ids, and comes to a state with the same next id
 draws-none : (c : Command) → ((s : State) → Asks s (refusal_of s c))
     → ((s : State) (held : Held) (lines : List Line) (e : Effect) (t : State) → IsDone s held c (done lines e t) → lacks_ids s 0 ≡ false → lacks_ids t 0 ≡ false) → LeavesIds c
-draws-none c asks stays s held lines e t sound comes =
-    let both = done-by (refusal_of s c) s held c lines e t comes in
-    stays s held lines e t both.1 (asks s both.0)
+draws-none c asks stays = leaves c (λ s held lines e t sound none is. stays s held lines e t is (asks s none))
 
 pub create-roomy : (blocks : ℕ) → LeavesIds (CreateDatafile blocks)
 create-roomy blocks = draws-none (CreateDatafile blocks) (λ s is. search rules)
@@ -161,9 +165,8 @@ recover-left (Some at) s held lines e t none (inr all) =
     none-drawn s lines _ e _ (recovered s at all.back.files) t all.is refl (asks-else s _ _ (asks-else s _ _ (asks-ids s)) (none at refl))
 
 pub recover-roomy : (until : Option Until) → LeavesIds (Recover until)
-recover-roomy until s held lines e t sound comes =
-    let both = done-by (refusal_of s (Recover until)) s held (Recover until) lines e t comes in
-    recover-left (recover_target s until) s held lines e t (λ at is. until-none s (current_of s) until (target_refusal s) (ids_refusal s) at (unless s.instance.is_open _ _ both.0).1 is) both.1
+recover-roomy until = leaves (Recover until) (λ s held lines e t sound none does.
+    recover-left (recover_target s until) s held lines e t (λ at is. until-none s (current_of s) until (target_refusal s) (ids_refusal s) at (unless s.instance.is_open _ _ none).1 is) does)
 
 restore-left : (o file : Option ℕ) (s : State) (held : Held) (lines : List Line) (e : Effect) (t : State) → ((at : ℕ) → o ≡ Some at → place_refusal s file at ≡ None) → RestoresTo s held file o (done lines e t) → lacks_ids t 0 ≡ false
 restore-left None file s held lines e t none does = absurd does
@@ -171,9 +174,8 @@ restore-left (Some at) file s held lines e t none does =
     none-drawn s lines _ e _ (restored s does.back.files) t does.is refl (asks-else s _ _ (asks-else s _ _ (asks-ids s)) (none at refl))
 
 pub restore-roomy : (file : Option ℕ) (until : Option Until) → LeavesIds (Restore file until)
-restore-roomy file until s held lines e t sound comes =
-    let both = done-by (refusal_of s (Restore file until)) s held (Restore file until) lines e t comes in
-    restore-left (recover_target s until) file s held lines e t (λ at is. until-none s (current_of s) until (place_refusal s file) (ids_refusal s) at (unless s.instance.is_open _ _ both.0).1 is) both.1
+restore-roomy file until = leaves (Restore file until) (λ s held lines e t sound none does.
+    restore-left (recover_target s until) file s held lines e t (λ at is. until-none s (current_of s) until (place_refusal s file) (ids_refusal s) at (unless s.instance.is_open _ _ none).1 is) does)
 
 -- Statements on records
 
@@ -265,11 +267,8 @@ switch-left true s t lines e q none is =
     left-after lines (made_lines s t) e (archived (next s) (online s t)) (with_archived s t) q is (omega (arith, most))
 
 pub switch-roomy : (t : ℕ) → LeavesIds (SwitchLogfile t)
-switch-roomy t s held lines e q sound comes =
-    let both = done-by (refusal_of s (SwitchLogfile t)) s held (SwitchLogfile t) lines e q comes in
-    let mode = only-where s.instance.is_open _ _ both.0 in
-    let threads = unless ((t == 0) || nat_lt (ledger s).base.threads t) _ _ mode.1 in
-    switch-left (is_due s t) s t lines e q threads.1 both.1
+switch-roomy t = leaves (SwitchLogfile t) (λ s held lines e q sound none is.
+    switch-left (is_due s t) s t lines e q (unless ((t == 0) || nat_lt (ledger s).base.threads t) _ _ (only-where s.instance.is_open _ _ none).1).1 is)
 
 -- each thread that is due draws one
 threads-next : (n t : ℕ) (s : State) → next (after_threads s t n) ≡ next s + due_from s t n
@@ -280,20 +279,16 @@ threads-next (suc n) t s =
     omega (arith, took.ids, threads-next n (t + 1) q)
 
 pub archive-roomy : LeavesIds ArchiveLogCurrent
-archive-roomy s held lines e t sound comes =
-    let both = done-by (refusal_of s ArchiveLogCurrent) s held ArchiveLogCurrent lines e t comes in
-    let most = (room s sound both.0).ids in
-    left-after lines _ e (archiving s) (after_all s) t both.1 (omega (arith, most, threads-next (ledger s).base.threads 1 s))
+archive-roomy = leaves ArchiveLogCurrent (λ s held lines e t sound none is.
+    left-after lines _ e (archiving s) (after_all s) t is (omega (arith, (room s sound none).ids, threads-next (ledger s).base.threads 1 s)))
 
 branch-left : (o : Option ℕ) (s : State) (lines : List Line) (e : Effect) (t : State) → IsSomeAnd o (λ at. done lines e t ≡ done (resetlogs_lines s at) (archiving s) (branched_off (after_all s) at)) → next (after_all s) + 68 ≤ 4294967295 → lacks_ids t 0 ≡ false
 branch-left None s lines e t is most = absurd is
 branch-left (Some at) s lines e t is most = left-after lines (resetlogs_lines s at) e (archiving s) (branched_off (after_all s) at) t is most
 
 pub branch-roomy : LeavesIds OpenResetlogs
-branch-roomy s held lines e t sound comes =
-    let both = done-by (refusal_of s OpenResetlogs) s held OpenResetlogs lines e t comes in
-    let most = (can-reset s sound both.0).room.ids in
-    branch-left s.instance.point s lines e t both.1 (omega (arith, most, threads-next (ledger s).base.threads 1 s))
+branch-roomy = leaves OpenResetlogs (λ s held lines e t sound none is.
+    branch-left s.instance.point s lines e t is (omega (arith, (can-reset s sound none).room.ids, threads-next (ledger s).base.threads 1 s)))
 
 -- each piece draws one
 pieces-next : (b : BackupForm) (tag : List ℕ) (xs : List Copied) (s : State) → next (after_pieces s b tag xs) ≡ next s + length xs
@@ -338,7 +333,7 @@ renew-roomy tag until s held lines e t sound comes =
 
 -- what only tells
 pub told-roomy : (c : Command) → only_tells c ≡ true → LeavesIds c
-told-roomy c only s held lines e t sound comes = absurd (never-done c only s held lines e t (done-by (refusal_of s c) s held c lines e t comes).1)
+told-roomy c only = leaves c (λ s held lines e t sound none is. absurd (never-done c only s held lines e t is))
 
 -- and CREATE DATABASE, where there is one
 pub never-roomy : (dbid threads scn : ℕ) → LeavesIds (CreateDatabase dbid threads scn)
