@@ -32,27 +32,23 @@ parts-objects (p ∷ ps) x = parts-objects ps (with_part p x) ∙ append_assoc x
 
 pub parts-none : (n next : ℕ) (es : List PartEntry) (os : List Object) → n ≡ next → es ≡ [] → os ≡ [] → record { next = n; entries = es; objects = os } ≡ no_parts next
 parts-none n next es os same entries objects =
-    ap (λ (k : ℕ). record { next = k; entries = es; objects = os }) same
-    ∙ ap (λ (xs : List PartEntry). record { next = next; entries = xs; objects = os }) entries
-    ∙ ap (λ (xs : List Object). record { next = next; entries = []; objects = xs }) objects
+    λ i. record { next = same i; entries = entries i; objects = objects i }
 
 -- One thread on
 
-logs-by : (s : State) (t : ℕ) (l : ThreadLog) (rest : List ThreadLog) (x : Parts) (b : Bool) → l.is_lost ≡ b → with_parts (log_parts s t (l ∷ rest)) x ≡ with_parts (log_parts s (t + 1) rest) (cond b x (with_part (part_of_thread s t) x))
-logs-by s t l rest x true is = ap (λ e. with_parts (cond e [] (part_of_thread s t ∷ []) ++ log_parts s (t + 1) rest) x) is
-logs-by s t l rest x false is = ap (λ e. with_parts (cond e [] (part_of_thread s t ∷ []) ++ log_parts s (t + 1) rest) x) is
+logs-by : (s : State) (t : ℕ) (b : Bool) (rest : List ThreadLog) (x : Parts) → with_parts (cond b [] (part_of_thread s t ∷ []) ++ log_parts s (t + 1) rest) x ≡ with_parts (log_parts s (t + 1) rest) (cond b x (with_part (part_of_thread s t) x))
+logs-by s t true rest x = refl
+logs-by s t false rest x = refl
 
-pub logs-next : (s : State) (t : ℕ) (ls : List ThreadLog) (x y : Parts) (b : Bool) → 0 < t → t ≤ length ls → option_map_or (λ l. l.is_lost) (slice_get ls (t - 1)) false ≡ b → y ≡ cond b x (with_part (part_of_thread s t) x)
+pub logs-next : (s : State) (t : ℕ) (ls : List ThreadLog) (x y : Parts) → 0 < t → t ≤ length ls → y ≡ cond (option_map_or (λ l. l.is_lost) (slice_get ls (t - 1)) false) x (with_part (part_of_thread s t) x)
     → with_parts (log_parts s t (drop (t - 1) ls)) x ≡ with_parts (log_parts s (t + 1) (drop (t + 1 - 1) ls)) y
-logs-next s t ls x y b low high lost is =
+logs-next s t ls x y low high is =
     let inside : t - 1 < length ls = omega (arith, low, high) in
     let next : suc (t - 1) ≡ t + 1 - 1 = omega (arith, low) in
     let l : ThreadLog = get_or ls (t - 1) lost_log in
-    let here : l.is_lost ≡ b = sym (ap (λ o. option_map_or (λ (l : ThreadLog). l.is_lost) o false) (slice_get-get_or ls (t - 1) lost_log inside)) ∙ lost in
+    let same = is ∙ ap (λ o. cond (option_map_or (λ (l : ThreadLog). l.is_lost) o false) x (with_part (part_of_thread s t) x)) (slice_get-get_or ls (t - 1) lost_log inside) in
     ap (λ (xs : List ThreadLog). with_parts (log_parts s t xs) x) (drop-cons ls (t - 1) lost_log inside)
-    ∙ logs-by s t l (drop (suc (t - 1)) ls) x b here
-    ∙ ap (λ n. with_parts (log_parts s (t + 1) (drop n ls)) (cond b x (with_part (part_of_thread s t) x))) next
-    ∙ ap (with_parts (log_parts s (t + 1) (drop (t + 1 - 1) ls))) (sym is)
+    ∙ logs-by s t l.is_lost (drop (suc (t - 1)) ls) x ∙ (λ i. with_parts (log_parts s (t + 1) (drop (next i) ls)) (sym same i))
 
 -- none is left
 pub logs-last : (s : State) (t : ℕ) (ls : List ThreadLog) (y : Parts) → t ≡ length ls → with_parts (log_parts s (t + 1) (drop (t + 1 - 1) ls)) y ≡ y

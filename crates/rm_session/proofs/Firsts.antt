@@ -1,8 +1,9 @@
 -- The incarnation of the first log, and the logs that are of one incarnation.
-use Rattle.std.proofs.Common.{◌≡◌, ◌==◌, ◌≤◌, ◌+◌, ℕ, List, [], ◌∷◌, Option, Some, None, IfSome, All, Bool, true, false, cond, refl, map, slice_get, suc}
-use Rattle.std.proofs.lemmas.List.Elements.{All-cons, All-head, All-map, All-nil, All-tail, All-weaker}
+use Rattle.std.proofs.Common.{◌==◌, ◌≤◌, ◌+◌, ℕ, List, [], ◌∷◌, Option, Some, None, IfSome, All, Bool, true, false, cond, map}
+use Rattle.std.proofs.lemmas.List.Elements.{All-head, All-map, All-tail, All-weaker}
 use Rattle.rm_ledger.specs.Ledger.{Ledger}
 use Rattle.rm_machine.specs.Loading.{inc_of_first, where_of}
+use Rattle.rm_machine.proofs.Standing.{each-get}
 use Rattle.rm_redo.specs.LogFormat.{IsLogFile}
 use Rattle.rm_redo.specs.declared.log_file.LogFile.{LogFile}
 use Rattle.rm_session.specs.Fit.{AllAt, IsFitLog, LogFitsAt}
@@ -29,23 +30,16 @@ where-is P i (Some a) is = kept-where P (a.inc == i) a is
 pub kept-valid : (i : ℕ) (logs : List (Option LogFile)) → All (OfLog IsLogFile) logs → All (OfLog IsLogFile) (map (where_of i) logs)
 kept-valid i logs all = All-map (OfLog IsLogFile) (where_of i) logs (All-weaker (OfLog IsLogFile) (λ o. OfLog IsLogFile (where_of i o)) (λ o is. where-is IsLogFile i o is) logs all)
 
-at-least : (a : LogFile) → IsLogFile a → 1 ≤ a.inc
-at-least a is = is.inc.0
-
 of-each : (P Q : LogFile → Type 0) → ((a : LogFile) → P a → Q a) → (o : Option LogFile) → IfSome o P → IfSome o Q
 of-each P Q then None is = tt
 of-each P Q then (Some a) is = then a is
 
 pub inc-valid : (i : ℕ) (logs : List (Option LogFile)) → 1 ≤ i → All (OfLog IsLogFile) logs → 1 ≤ inc_of_first i logs
-inc-valid i logs here all = first-is (λ n. 1 ≤ n) i logs here (All-weaker (OfLog IsLogFile) (OfLog (λ a. 1 ≤ a.inc)) (of-each IsLogFile (λ a. 1 ≤ a.inc) at-least) logs all)
-
-all-each : {X : Type 0} (P : X → Type 0) (xs : List X) → ((k : ℕ) (x : X) → slice_get xs k ≡ Some x → P x) → All P xs
-all-each P [] each = All-nil P
-all-each P (x ∷ xs) each = All-cons P x xs (each 0 x refl) (all-each P xs (λ k y is. each (suc k) y is))
+inc-valid i logs here all = first-is (λ n. 1 ≤ n) i logs here (All-weaker (OfLog IsLogFile) (OfLog (λ a. 1 ≤ a.inc)) (of-each IsLogFile (λ a. 1 ≤ a.inc) (λ a is. is.inc.0)) logs all)
 
 -- what is so of each log that fits, whatever its thread, is so of all of them
 pub fit-each : (l : Ledger) (opened : Bool) (P : LogFile → Type 0) → ((t : ℕ) (a : LogFile) → IsFitLog l opened t a → P a) → (logs : List (Option LogFile)) → AllAt (LogFitsAt l opened) logs → All (OfLog P) logs
-fit-each l opened P then logs all = all-each (OfLog P) logs (λ k o is. of-each (IsFitLog l opened (k + 1)) P (then (k + 1)) o (all k o is))
+fit-each l opened P then logs all = each-get (OfLog P) logs (λ k o is. of-each (IsFitLog l opened (k + 1)) P (then (k + 1)) o (all k o is))
 
 pub fit-valid : (l : Ledger) (opened : Bool) (logs : List (Option LogFile)) → AllAt (LogFitsAt l opened) logs → All (OfLog IsLogFile) logs
 fit-valid l opened logs all = fit-each l opened IsLogFile (λ t a fit. fit.valid) logs all

@@ -3,7 +3,7 @@ use Rattle.std.proofs.Common.{◌≡◌, ◌<◌, ◌≤◌, ◌-◌, ◌∙◌,
 use Rattle.std.specs.Option.{option_map, option_map_or}
 use Rattle.std.proofs.lemmas.Bool.{false≢true}
 use Rattle.std.proofs.lemmas.List.{get_or-replicate, length-replicate}
-use Rattle.std.proofs.lemmas.Option.{slice_get-get_or, slice_get-map}
+use Rattle.std.proofs.lemmas.Option.{none-some, slice_get-get_or, slice_get-map}
 use Rattle.rm_base.specs.declared.block.Change.{Change}
 use Rattle.rm_blocks.specs.File.{File}
 use Rattle.rm_history.specs.History.{IsHistory}
@@ -20,8 +20,7 @@ use Rattle.rm_machine.specs.State.{ledger, tree, world, is_lost, placed}
 -- an item of so many equal ones
 get-replicate : {X : Type 0} (n k : ℕ) (x : X) → k < n → slice_get (replicate n x) k ≡ Some x
 get-replicate n k x low =
-    let many = length-replicate n x in
-    slice_get-get_or (replicate n x) k x (omega (arith, low, many)) ∙ ap Some (get_or-replicate n k x x low)
+    slice_get-get_or (replicate n x) k x (omega (arith, low, length-replicate n x)) ∙ ap Some (get_or-replicate n k x x low)
 
 -- n places with nothing there
 abbrev empty : ℕ → List (Option File)
@@ -49,13 +48,10 @@ module _ (s : State) (h : List Change) (history : IsHistory (world s) h) (below 
 
   no-file : (f : ℕ) (x : File) → placed s f ≡ Some x → ⊥
   no-file f x is =
-      let none : None ≡ Some x = sym (ap (λ (y : Instance). slice_index_or y.place (f - 1) None) lost ∙ none-placed _ (f - 1)) ∙ is in
-      absurd cc
+      none-some x (sym (ap (λ (y : Instance). slice_index_or y.place (f - 1) None) lost ∙ none-placed _ (f - 1)) ∙ is)
 
   no-point : (at : ℕ) → s.instance.point ≡ Some at → ⊥
-  no-point at is =
-      let none : None ≡ Some at = sym (ap (λ (y : Instance). y.point) lost) ∙ is in
-      absurd cc
+  no-point at is = none-some at (sym (ap (λ (y : Instance). y.point) lost) ∙ is)
 
   -- so each history fits
   pub lost-fits : HistoryFits s h

@@ -1,19 +1,14 @@
 -- What is loaded of one part, and of one list of parts, is one thing.
-use Rattle.std.proofs.Common.{◌≡◌, ◌∙◌, ℕ, zero, suc, List, [], ◌∷◌, Option, Some, None, refl, ap, sym, arith, length, slice_get, slice_index_or}
+use Rattle.std.proofs.Common.{◌≡◌, ℕ, zero, suc, List, [], ◌∷◌, Option, Some, None, refl, ap, arith, length, slice_get, slice_index_or}
 use Rattle.rm_base.specs.Store.{Held}
-use Rattle.rm_catalog.specs.declared.record.PartEntry.{PartEntry}
 use Rattle.rm_history.specs.declared.world.Datafile.{Datafile}
 use Rattle.rm_ledger.specs.Ledger.{Ledger}
-use Rattle.rm_objects.specs.Names.{site_name}
 use Rattle.rm_piece.specs.declared.piece.Piece.{Piece}
-use Rattle.rm_piece.specs.Spelling as piece_format
-use Rattle.rm_piece.proofs.Fitting.{spelling_same as piece_same}
 use Rattle.rm_redo.specs.declared.log_file.LogFile.{LogFile}
-use Rattle.rm_redo.specs.LogFormat as log_format
-use Rattle.rm_redo.proofs.LogFitting.{spelling_same as log_same}
 use Rattle.rm_repository.specs.Repository.{Saved}
 use Rattle.rm_machine.specs.Loading.{IsTheOne}
-use Rattle.rm_machine.specs.Saved.{HasPart, IsGoodFile, IsGoodLog}
+use Rattle.rm_machine.specs.Saved.{IsGoodFile, IsGoodLog}
+use Rattle.rm_session.proofs.Goods.{has-good, has-good-log, one-log, one-piece}
 
 -- where no two are so, there is one, or none
 pub the-one : {X : Type 0} (Is : X → Type 0) (o p : Option X) → ((x y : X) → Is x → Is y → x ≡ y) → IsTheOne Is o → IsTheOne Is p → o ≡ p
@@ -28,7 +23,7 @@ items-same [] [] many same = refl
 items-same [] (y ∷ ys) many same = absurd (omega (arith, many))
 items-same (x ∷ xs) [] many same = absurd (omega (arith, many))
 items-same (x ∷ xs) (y ∷ ys) many same =
-    ap (λ z. z ∷ xs) (same zero x y refl refl) ∙ ap (λ zs. y ∷ zs) (items-same xs ys (omega (arith, many)) (λ k a b first second. same (suc k) a b first second))
+    λ i. same zero x y refl refl i ∷ items-same xs ys (omega (arith, many)) (λ k a b first second. same (suc k) a b first second) i
 
 -- a list of places, read with none for a default
 pub index-of : {X : Type 0} (xs : List (Option X)) (k : ℕ) (o : Option X) → slice_get xs k ≡ Some o → slice_index_or xs k None ≡ o
@@ -36,18 +31,9 @@ index-of [] k o is = absurd cc
 index-of (x ∷ xs) zero o is = (let same : Some x ≡ Some o = is in cc)
 index-of (x ∷ xs) (suc k) o is = index-of xs k o is
 
-module _ (held : Held) (l : Ledger) (site : Saved) where
-  -- one part has one text
-  bytes-one : (o : Option PartEntry) (p q : PartEntry) (xs ys : List ℕ) → o ≡ Some p → o ≡ Some q → HasPart held p xs → HasPart held q ys → xs ≡ ys
-  bytes-one o p q xs ys first second has too =
-      let same : p ≡ q = (let both : Some p ≡ Some q = sym first ∙ second in cc) in
-      let both : Some xs ≡ Some ys = sym has.there ∙ ap (λ (r : PartEntry). held (site_name r.id)) same ∙ too.there in
-      cc
+-- one part is good as one piece, or as one log
+pub file-one : (held : Held) (l : Ledger) (site : Saved) (f : ℕ) (d : Datafile) (a b : Piece) → IsGoodFile held l site f d a → IsGoodFile held l site f d b → a ≡ b
+file-one held l site f d a b first second = one-piece held first.part a b (record { has = first.has; valid = first.valid }) (has-good held l site f d first.part b first.is second)
 
-  pub file-one : (f : ℕ) (d : Datafile) (a b : Piece) → IsGoodFile held l site f d a → IsGoodFile held l site f d b → a ≡ b
-  file-one f d a b first second =
-      piece_same a b first.valid second.valid (bytes-one _ first.part second.part (piece_format.spelling a) (piece_format.spelling b) first.is second.is first.has second.has)
-
-  pub log-one : (t : ℕ) (a b : LogFile) → IsGoodLog held l site t a → IsGoodLog held l site t b → a ≡ b
-  log-one t a b first second =
-      log_same a b first.valid second.valid (bytes-one _ first.part second.part (log_format.spelling a) (log_format.spelling b) first.is second.is first.has second.has)
+pub log-one : (held : Held) (l : Ledger) (site : Saved) (t : ℕ) (a b : LogFile) → IsGoodLog held l site t a → IsGoodLog held l site t b → a ≡ b
+log-one held l site t a b first second = one-log held first.part a b (record { has = first.has; valid = first.valid }) (has-good-log held l site t first.part b first.is second)

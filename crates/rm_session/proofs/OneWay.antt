@@ -1,5 +1,5 @@
 -- What runs is loaded in one way.
-use Rattle.std.proofs.Common.{◌≡◌, ◌+◌, ◌∙◌, ◌&&◌, not, ℕ, List, Option, Some, None, Bool, true, false, cond, ap, sym, subst, arith}
+use Rattle.std.proofs.Common.{◌≡◌, ◌+◌, ◌∙◌, ◌&&◌, not, ℕ, Option, Some, None, Bool, true, false, cond, ap, sym, subst, arith}
 use Rattle.std.specs.Option.{option_map}
 use Rattle.std.proofs.lemmas.Option.{slice_get_within}
 use Rattle.rm_base.specs.Store.{Held}
@@ -21,20 +21,12 @@ use Rattle.rm_session.proofs.OneByOne.{file-one, index-of, items-same, log-one, 
 abbrev running : Repository → Instance → State
 running c a = record { catalog = c; instance = a }
 
--- the head tells one point at most
-head-one : (s : State) (head : HeadEntry) (x y : ℕ) → IsHeadPoint s head x → IsHeadPoint s head y → x ≡ y
-head-one s head x y first second = sym first.scn ∙ second.scn
-
--- and tells it of what stands in place alone
+-- the head tells a point of what stands in place alone
 head-moves : (c : Repository) (head : HeadEntry) (a b : Instance) → a.place ≡ b.place → (at : ℕ) → IsHeadPoint (running c b) head at → IsHeadPoint (running c a) head at
 head-moves c head a b same at is = record {
   inc = is.inc;
   scn = is.scn;
-  point = record {
-    low = is.point.low;
-    high = is.point.high;
-    stands = λ k d file here. subst (λ place. StandsAt place c.ledger.base.current at k) (sym same) (is.point.stands k d file here);
-  };
+  point = record { low = is.point.low; high = is.point.high; stands = λ k d file here. coe 1 0 (i. StandsAt (same i) c.ledger.base.current at k) (is.point.stands k d file here) };
 }
 
 point-moves : (c : Repository) (head : HeadEntry) (a b : Instance) → a.place ≡ b.place → (o : Option ℕ) → IsTheOne (IsHeadPoint (running c b) head) o → IsTheOne (IsHeadPoint (running c a) head) o
@@ -54,9 +46,7 @@ module _ (held : Held) (c : Repository) (site : Saved) where
   module _ (a b : Instance) (first : IsLoadedOf held (running c a) site) (second : IsLoadedOf held (running c b) site) where
     place-same : a.place ≡ b.place
     place-same = items-same a.place b.place (first.many ∙ sym second.many) (λ k x y here there.
-        let inside = slice_get_within a.place k x here in
-        let many = first.many in
-        let d = item-at c.ledger.files k (omega (arith, inside, many)) in
+        let d = item-at c.ledger.files k (omega (arith, slice_get_within a.place k x here, first.many)) in
         sym (index-of a.place k x here) ∙ file-same k d.0 _ _ (first.place k d.0 d.1) (second.place k d.0 d.1) ∙ index-of b.place k y there)
 
     both-logs : a.logs ≡ b.logs
@@ -68,20 +58,12 @@ module _ (held : Held) (c : Repository) (site : Saved) where
     -- the point of a site that was open, and of one that was mounted
     point-by : (opened : Bool) → IsLoadedPoint (running c a) site.head opened a.is_open → IsLoadedPoint (running c b) site.head opened b.is_open → a.point ≡ b.point
     point-by true here there =
-        here
-        ∙ ap (λ m. cond m None (mount_point (running c a))) mode-same
-        ∙ ap (λ place. cond b.is_open None (mount_point (running c (record a { place = place })))) place-same
-        ∙ sym there
+        here ∙ (λ i. cond (mode-same i) None (mount_point (running c (record a { place = place-same i })))) ∙ sym there
     point-by false here there =
-        the-one (IsHeadPoint (running c a) site.head) a.point b.point (head-one (running c a) site.head) here (point-moves c site.head a b place-same b.point there)
+        the-one (IsHeadPoint (running c a) site.head) a.point b.point (λ x y one two. sym one.scn ∙ two.scn) here (point-moves c site.head a b place-same b.point there)
 
     pub site-same : a ≡ b
-    site-same =
-        let with_mode : Bool → Instance = λ x. record { is_open = x; point = a.point; place = a.place; logs = a.logs } in
-        let with_point : Option ℕ → Instance = λ x. record { is_open = b.is_open; point = x; place = a.place; logs = a.logs } in
-        let with_place : List (Option File) → Instance = λ x. record { is_open = b.is_open; point = b.point; place = x; logs = a.logs } in
-        let with_logs : Logs → Instance = λ x. record { is_open = b.is_open; point = b.point; place = b.place; logs = x } in
-        ap with_mode mode-same ∙ ap with_point (point-by site.head.opened first.point second.point) ∙ ap with_place place-same ∙ ap with_logs both-logs
+    site-same = λ i. record { is_open = mode-same i; point = point-by site.head.opened first.point second.point i; place = place-same i; logs = both-logs i }
 
 one-by : (held : Held) (c : Repository) (a b : Instance) (o : Option Saved) → IsLoadedBy held (running c a) o → IsLoadedBy held (running c b) o → a ≡ b
 one-by held c a b None first second = first ∙ sym second

@@ -1,7 +1,7 @@
 -- What is saved: each part is that of a datafile in place, or of an online log that is not lost.
 use Rattle.std.proofs.Common.{◌≡◌, ◌≢◌, ◌<◌, ◌≤◌, ◌+◌, ◌-◌, ◌∙◌, ◌++◌, inl, inr, ℕ, zero, suc, List, [], ◌∷◌, Option, Some, None, Bool, true, false, cond, refl, ap, sym, subst, arith, length, length-append, AllPairs, Contains, slice_get}
-use Rattle.std.specs.List.{filter_map}
-use Rattle.std.specs.Option.{option_map_or}
+use Rattle.std.specs.List.{cons_option, filter_map}
+use Rattle.std.specs.Option.{option_map, option_map_or}
 use Rattle.std.proofs.lemmas.List.Elements.{All-contains, Contains-append_cases, Contains-append_left, Contains-append_right}
 use Rattle.std.proofs.lemmas.List.Kept.{AllPairs-cons}
 use Rattle.std.proofs.lemmas.Option.{slice_get_within}
@@ -11,6 +11,7 @@ use Rattle.rm_blocks.specs.File.{File}
 use Rattle.rm_catalog.specs.Trees.{nodes}
 use Rattle.rm_evidence.specs.Gathered.{placed_piece}
 use Rattle.rm_evidence.specs.Known.{FitsPiece}
+use Rattle.rm_ledger.proofs.Keeping.{pairs_append}
 use Rattle.rm_machine.specs.declared.state.State.{State}
 use Rattle.rm_machine.specs.Recovery.{in_place}
 use Rattle.rm_machine.specs.Saving.{SitePart, file_parts, log_parts, parts_of}
@@ -42,179 +43,162 @@ pub data IsPartOf (s : State) : SitePart → Type 0 where
   of_file : (k : ℕ) (x : File) → slice_get s.instance.place k ≡ Some (Some x) → IsPartOf s (part_of_file s (k + 1) x)
   of_thread : (t : ℕ) → 0 < t → t ≤ (ledger s).base.threads → is_lost s.instance.logs t ≡ false → IsPartOf s (part_of_thread s t)
 
-record IsFileFrom (s : State) (f : ℕ) (place : List (Option File)) (p : SitePart) : Type 0 where
-  pub at : ℕ
-  pub file : File
-  pub stands : slice_get place at ≡ Some (Some file)
-  pub is : part_of_file s (f + at) file ≡ p
+-- the parts that are made of these things, under numbers from n on
+abbrev made_from : {X : Type 0} → (ℕ → X → Option SitePart) → ℕ → List X → List SitePart
+made_from make n [] = []
+made_from make n (x ∷ xs) = cons_option (make n x) (made_from make (n + 1) xs)
 
-file-later : (s : State) (f : ℕ) (o : Option File) (place : List (Option File)) (p : SitePart) → IsFileFrom s (f + 1) place p → IsFileFrom s f (o ∷ place) p
-file-later s f o place p later =
-    let next : f + suc later.at ≡ f + 1 + later.at = omega arith in
-    record { at = suc later.at; file = later.file; stands = later.stands; is = ap (λ n. part_of_file s n later.file) next ∙ later.is }
+abbrev of_place : State → ℕ → Option File → Option SitePart
+of_place s f o = option_map (part_of_file s f) o
 
-file-from : (s : State) (f : ℕ) (place : List (Option File)) (p : SitePart) → Contains (file_parts s f place) p → IsFileFrom s f place p
-file-from s f [] p has = absurd (none-in p has)
-file-from s f (None ∷ place) p has = file-later s f None place p (file-from s (f + 1) place p has)
-file-from s f (Some x ∷ place) p has = elim (first-or-rest (part_of_file s f x) (file_parts s (f + 1) place) p has) [
-  | inl same ↦ let here : f + 0 ≡ f = omega arith in record { at = 0; file = x; stands = refl; is = ap (λ n. part_of_file s n x) here ∙ same }
-  | inr rest ↦ file-later s f (Some x) place p (file-from s (f + 1) place p rest)
-]
+abbrev of_log : State → ℕ → ThreadLog → Option SitePart
+of_log s t l = cond l.is_lost None (Some (part_of_thread s t))
 
-record IsThreadFrom (s : State) (t : ℕ) (ls : List ThreadLog) (p : SitePart) : Type 0 where
-  pub at : ℕ
-  pub log : ThreadLog
-  pub stands : slice_get ls at ≡ Some log
-  pub found : log.is_lost ≡ false
-  pub is : part_of_thread s (t + at) ≡ p
+files-made : (s : State) (f : ℕ) (place : List (Option File)) → file_parts s f place ≡ made_from (of_place s) f place
+files-made s f [] = refl
+files-made s f (None ∷ place) = files-made s (f + 1) place
+files-made s f (Some x ∷ place) = ap (λ ps. part_of_file s f x ∷ ps) (files-made s (f + 1) place)
 
-one-found : (b : Bool) (x p : SitePart) → Contains (cond b [] (x ∷ [])) p → (b ≡ false) × (x ≡ p)
-one-found true x p has = absurd (none-in p has)
-one-found false x p has = elim (first-or-rest x [] p has) [
-  | inl same ↦ (refl, same)
-  | inr rest ↦ absurd (none-in p rest)
-]
+logs-made : (s : State) (t : ℕ) (ls : List ThreadLog) → log_parts s t ls ≡ made_from (of_log s) t ls
+logs-made s t [] = refl
+logs-made s t (l ∷ ls) = one l.is_lost ∙ ap (λ ps. cons_option (of_log s t l) ps) (logs-made s (t + 1) ls)
+  where
+    one : (b : Bool) → cond b [] (part_of_thread s t ∷ []) ++ log_parts s (t + 1) ls ≡ cons_option (cond b None (Some (part_of_thread s t))) (log_parts s (t + 1) ls)
+    one true = refl
+    one false = refl
 
-thread-from : (s : State) (t : ℕ) (ls : List ThreadLog) (p : SitePart) → Contains (log_parts s t ls) p → IsThreadFrom s t ls p
-thread-from s t [] p has = absurd (none-in p has)
-thread-from s t (l ∷ ls) p has = elim (Contains-append_cases (cond l.is_lost [] (part_of_thread s t ∷ [])) (log_parts s (t + 1) ls) p has) [
-  | inl here ↦
-      let both = one-found l.is_lost (part_of_thread s t) p here in
-      let same : t + 0 ≡ t = omega arith in
-      record { at = 0; log = l; stands = refl; found = both.0; is = ap (λ n. part_of_thread s n) same ∙ both.1 }
-  | inr rest ↦
-      let later = thread-from s (t + 1) ls p rest in
-      let next : t + suc later.at ≡ t + 1 + later.at = omega arith in
-      record { at = suc later.at; log = later.log; stands = later.stands; found = later.found; is = ap (λ n. part_of_thread s n) next ∙ later.is }
-]
+module _ {X : Type 0} (make : ℕ → X → Option SitePart) where
+  -- a part is made of a thing that stands at a place
+  record IsFrom (n : ℕ) (xs : List X) (p : SitePart) : Type 0 where
+    pub at : ℕ
+    pub item : X
+    pub stands : slice_get xs at ≡ Some item
+    pub is : make (n + at) item ≡ Some p
+
+  from : (n : ℕ) (xs : List X) (p : SitePart) → Contains (made_from make n xs) p → IsFrom n xs p
+  from n [] p has = absurd (none-in p has)
+  from n (x ∷ xs) p has = decide (make n x) refl (λ rest. later (from (n + 1) xs p rest)) has
+    where
+      later : IsFrom (n + 1) xs p → IsFrom n (x ∷ xs) p
+      later it =
+          let next : n + suc it.at ≡ n + 1 + it.at = omega arith in
+          record { at = suc it.at; item = it.item; stands = it.stands; is = ap (λ k. make k it.item) next ∙ it.is }
+
+      decide : (o : Option SitePart) → make n x ≡ o → (Contains (made_from make (n + 1) xs) p → IsFrom n (x ∷ xs) p) → Contains (cons_option o (made_from make (n + 1) xs)) p → IsFrom n (x ∷ xs) p
+      decide None is behind-it has = behind-it has
+      decide (Some q) is behind-it has = elim (first-or-rest q (made_from make (n + 1) xs) p has) [
+        | inl same ↦ let here : n + 0 ≡ n = omega arith in record { at = 0; item = x; stands = refl; is = ap (λ k. make k x) here ∙ is ∙ ap Some same }
+        | inr rest ↦ behind-it rest
+      ]
+
+  -- and of each thing of which one is made it is there
+  held : (n : ℕ) (xs : List X) (k : ℕ) (x : X) (p : SitePart) → slice_get xs k ≡ Some x → make (n + k) x ≡ Some p → Contains (made_from make n xs) p
+  held n [] k x p at is = absurd cc
+  held n (y ∷ ys) zero x p at is =
+      let same : x ≡ y = (let both : Some y ≡ Some x = at in cc) in
+      let here : n ≡ n + 0 = omega arith in
+      coe 1 0 (i. Contains (cons_option ((ap (λ m. make m y) here ∙ ap (make (n + 0)) (sym same) ∙ is) i) (made_from make (n + 1) ys)) p) (in-front p (made_from make (n + 1) ys))
+  held n (y ∷ ys) (suc k) x p at is = let next : n + 1 + k ≡ n + suc k = omega arith in skip (make n y) (held (n + 1) ys k x p at (ap (λ m. make m x) next ∙ is))
+    where
+      skip : (o : Option SitePart) → Contains (made_from make (n + 1) ys) p → Contains (cons_option o (made_from make (n + 1) ys)) p
+      skip None rest = rest
+      skip (Some q) rest = behind q (made_from make (n + 1) ys) p rest
+
+  -- parts of things of other numbers are apart
+  apart : (R : SitePart → SitePart → Type 0) → ((n m : ℕ) (x y : X) (p q : SitePart) → n < m → make n x ≡ Some p → make m y ≡ Some q → R p q) → (n : ℕ) (xs : List X) → AllPairs R (made_from make n xs)
+  apart R each n [] = λ i j d less inside. absurd (omega (arith, inside))
+  apart R each n (x ∷ xs) = decide (make n x) refl (apart R each (n + 1) xs)
+    where
+      decide : (o : Option SitePart) → make n x ≡ o → AllPairs R (made_from make (n + 1) xs) → AllPairs R (cons_option o (made_from make (n + 1) xs))
+      decide None is rest = rest
+      decide (Some p) is rest =
+          AllPairs-cons R p (made_from make (n + 1) xs)
+          (each-in (R p) (made_from make (n + 1) xs) (λ q has. let it = from (n + 1) xs q has in each n (n + 1 + it.at) x it.item p q (omega arith) is it.is)) rest
+
+  few : (n : ℕ) (xs : List X) → length (made_from make n xs) ≤ length xs
+  few n [] = omega arith
+  few n (x ∷ xs) = decide (make n x) (few (n + 1) xs)
+    where
+      decide : (o : Option SitePart) → length (made_from make (n + 1) xs) ≤ length xs → length (cons_option o (made_from make (n + 1) xs)) ≤ suc (length xs)
+      decide None rest = omega (arith, rest)
+      decide (Some p) rest = omega (arith, rest)
+
+of-present : (s : State) (f : ℕ) (o : Option File) (p : SitePart) → of_place s f o ≡ Some p → (x : File) × (o ≡ Some x) × (part_of_file s f x ≡ p)
+of-present s f None p is = absurd cc
+of-present s f (Some x) p is = (x, refl, (let both : Some (part_of_file s f x) ≡ Some p = is in cc))
+
+of-kept : (b : Bool) (q p : SitePart) → cond b None (Some q) ≡ Some p → (b ≡ false) × (q ≡ p)
+of-kept true q p is = absurd cc
+of-kept false q p is = (refl, (let both : Some q ≡ Some p = is in cc))
+
+-- the parts are those of both
+abbrev of_files : State → List SitePart
+of_files s = made_from (of_place s) 1 s.instance.place
+
+abbrev of_logs : State → List SitePart
+of_logs s = made_from (of_log s) 1 s.instance.logs.threads
+
+parts-made : (s : State) → parts_of s ≡ of_files s ++ of_logs s
+parts-made s = λ i. files-made s 1 s.instance.place i ++ logs-made s 1 s.instance.logs.threads i
 
 pub part-of : (s : State) → IsSound s → (p : SitePart) → Contains (parts_of s) p → IsPartOf s p
-part-of s sound p has = elim (Contains-append_cases (file_parts s 1 s.instance.place) (log_parts s 1 s.instance.logs.threads) p has) [
+part-of s sound p has = elim (Contains-append_cases (of_files s) (of_logs s) p (subst (λ ps. Contains ps p) (parts-made s) has)) [
   | inl file ↦
-      let from = file-from s 1 s.instance.place p file in
-      let same : from.at + 1 ≡ 1 + from.at = omega arith in
-      subst (IsPartOf s) (ap (λ n. part_of_file s n from.file) same ∙ from.is) (of_file from.at from.file from.stands)
+      let it = from (of_place s) 1 s.instance.place p file in
+      let one = of-present s (1 + it.at) it.item p it.is in
+      let same : it.at + 1 ≡ 1 + it.at = omega arith in
+      subst (IsPartOf s) (ap (λ n. part_of_file s n one.0) same ∙ one.2) (of_file it.at one.0 (it.stands ∙ ap Some one.1))
   | inr thread ↦
-      let from = thread-from s 1 s.instance.logs.threads p thread in
-      let many = sound.logs.threads in
-      let inside = slice_get_within s.instance.logs.threads from.at from.log from.stands in
-      let back : 1 + from.at - 1 ≡ from.at = omega arith in
-      subst (IsPartOf s) from.is (of_thread (1 + from.at) (omega arith) (omega (arith, inside, many))
-      (ap (λ k. option_map_or (λ (l : ThreadLog). l.is_lost) (slice_get s.instance.logs.threads k) false) back ∙ ap (λ o. option_map_or (λ (l : ThreadLog). l.is_lost) o false) from.stands ∙ from.found))
+      let it = from (of_log s) 1 s.instance.logs.threads p thread in
+      let one = of-kept it.item.is_lost (part_of_thread s (1 + it.at)) p it.is in
+      let inside = slice_get_within s.instance.logs.threads it.at it.item it.stands in
+      let back : 1 + it.at - 1 ≡ it.at = omega arith in
+      subst (IsPartOf s) one.1 (of_thread (1 + it.at) (omega arith) (omega (arith, inside, sound.logs.threads))
+      (ap (λ o. option_map_or (λ (l : ThreadLog). l.is_lost) o false) (ap (slice_get s.instance.logs.threads) back ∙ it.stands) ∙ one.0))
 ]
 
 -- and each of these is a part
 
-file-held : (s : State) (f : ℕ) (place : List (Option File)) (k : ℕ) (x : File) → slice_get place k ≡ Some (Some x) → Contains (file_parts s f place) (part_of_file s (f + k) x)
-file-held s f [] k x at = absurd (let clash : None ≡ Some (Some x) = at in cc)
-file-held s f (None ∷ place) zero x at = absurd (let clash : Some None ≡ Some (Some x) = at in cc)
-file-held s f (Some y ∷ place) zero x at =
-    let same : y ≡ x = (let is : Some (Some y) ≡ Some (Some x) = at in cc) in
-    let here : f ≡ f + 0 = omega arith in
-    subst (Contains (part_of_file s f y ∷ file_parts s (f + 1) place)) (ap (part_of_file s f) same ∙ ap (λ n. part_of_file s n x) here) (in-front (part_of_file s f y) (file_parts s (f + 1) place))
-file-held s f (None ∷ place) (suc k) x at =
-    let next : f + 1 + k ≡ f + suc k = omega arith in
-    subst (λ n. Contains (file_parts s (f + 1) place) (part_of_file s n x)) next (file-held s (f + 1) place k x at)
-file-held s f (Some y ∷ place) (suc k) x at =
-    let next : f + 1 + k ≡ f + suc k = omega arith in
-    behind (part_of_file s f y) (file_parts s (f + 1) place) (part_of_file s (f + suc k) x) (subst (λ n. Contains (file_parts s (f + 1) place) (part_of_file s n x)) next (file-held s (f + 1) place k x at))
-
-thread-held : (s : State) (t : ℕ) (ls : List ThreadLog) (k : ℕ) (l : ThreadLog) → slice_get ls k ≡ Some l → l.is_lost ≡ false → Contains (log_parts s t ls) (part_of_thread s (t + k))
-thread-held s t [] k l at found = absurd (let clash : None ≡ Some l = at in cc)
-thread-held s t (m ∷ ls) zero l at found =
-    let same : m ≡ l = (let is : Some m ≡ Some l = at in cc) in
-    let here : t ≡ t + 0 = omega arith in
-    let none : m.is_lost ≡ false = ap (λ (x : ThreadLog). x.is_lost) same ∙ found in
-    Contains-append_left (cond m.is_lost [] (part_of_thread s t ∷ [])) (log_parts s (t + 1) ls) (part_of_thread s (t + 0))
-    (subst (λ b. Contains (cond b [] (part_of_thread s t ∷ [])) (part_of_thread s (t + 0))) (sym none) (subst (λ n. Contains (part_of_thread s t ∷ []) (part_of_thread s n)) here (in-front (part_of_thread s t) [])))
-thread-held s t (m ∷ ls) (suc k) l at found =
-    let next : t + 1 + k ≡ t + suc k = omega arith in
-    Contains-append_right (cond m.is_lost [] (part_of_thread s t ∷ [])) (log_parts s (t + 1) ls) (part_of_thread s (t + suc k))
-    (subst (λ n. Contains (log_parts s (t + 1) ls) (part_of_thread s n)) next (thread-held s (t + 1) ls k l at found))
-
 pub file-in : (s : State) (k : ℕ) (x : File) → slice_get s.instance.place k ≡ Some (Some x) → Contains (parts_of s) (part_of_file s (k + 1) x)
 file-in s k x at =
-    let same : 1 + k ≡ k + 1 = omega arith in
-    Contains-append_left (file_parts s 1 s.instance.place) (log_parts s 1 s.instance.logs.threads) (part_of_file s (k + 1) x)
-    (subst (λ n. Contains (file_parts s 1 s.instance.place) (part_of_file s n x)) same (file-held s 1 s.instance.place k x at))
+    let same : k + 1 ≡ 1 + k = omega arith in
+    coe 1 0 (i. Contains (parts-made s i) (part_of_file s (same i) x))
+    (Contains-append_left (of_files s) (of_logs s) (part_of_file s (1 + k) x) (held (of_place s) 1 s.instance.place k (Some x) (part_of_file s (1 + k) x) at refl))
 
 pub thread-in : (s : State) (k : ℕ) (l : ThreadLog) → slice_get s.instance.logs.threads k ≡ Some l → l.is_lost ≡ false → Contains (parts_of s) (part_of_thread s (k + 1))
 thread-in s k l at found =
-    let same : 1 + k ≡ k + 1 = omega arith in
-    Contains-append_right (file_parts s 1 s.instance.place) (log_parts s 1 s.instance.logs.threads) (part_of_thread s (k + 1))
-    (subst (λ n. Contains (log_parts s 1 s.instance.logs.threads) (part_of_thread s n)) same (thread-held s 1 s.instance.logs.threads k l at found))
+    let same : k + 1 ≡ 1 + k = omega arith in
+    let made : of_log s (1 + k) l ≡ Some (part_of_thread s (1 + k)) = ap (λ b. cond b None (Some (part_of_thread s (1 + k)))) found in
+    coe 1 0 (i. Contains (parts-made s i) (part_of_thread s (same i)))
+    (Contains-append_right (of_files s) (of_logs s) (part_of_thread s (1 + k)) (held (of_log s) 1 s.instance.logs.threads k l (part_of_thread s (1 + k)) at made))
 
 -- No two parts are of the same thing
 
 abbrev pub IsOther : SitePart → SitePart → Type 0
 IsOther p q = p.file ≡ q.file → p.thread ≢ q.thread
 
-pub files-apart : (s : State) (f : ℕ) (place : List (Option File)) → AllPairs IsOther (file_parts s f place)
-files-apart s f [] = λ i j d less inside. absurd (omega (arith, inside))
-files-apart s f (None ∷ place) = files-apart s (f + 1) place
-files-apart s f (Some x ∷ place) =
-    AllPairs-cons IsOther (part_of_file s f x) (file_parts s (f + 1) place)
-    (each-in (IsOther (part_of_file s f x)) (file_parts s (f + 1) place) (λ q has same.
-    let from = file-from s (f + 1) place q has in
-    let number : f + 1 + from.at ≡ q.file = ap (λ (p : SitePart). p.file) from.is in
-    absurd (omega (arith, same, number))))
-    (files-apart s (f + 1) place)
+of-number : (s : State) (f : ℕ) (o : Option File) (p : SitePart) → of_place s f o ≡ Some p → f ≡ p.file
+of-number s f o p is = ap (λ (a : SitePart). a.file) (of-present s f o p is).2
 
-pub logs-apart : (s : State) (t : ℕ) (ls : List ThreadLog) → AllPairs IsOther (log_parts s t ls)
-logs-apart s t [] = λ i j d less inside. absurd (omega (arith, inside))
-logs-apart s t (l ∷ ls) = decide l.is_lost (logs-apart s (t + 1) ls)
-  where
-    decide : (b : Bool) → AllPairs IsOther (log_parts s (t + 1) ls) → AllPairs IsOther (cond b [] (part_of_thread s t ∷ []) ++ log_parts s (t + 1) ls)
-    decide true later = later
-    decide false later =
-        AllPairs-cons IsOther (part_of_thread s t) (log_parts s (t + 1) ls)
-        (each-in (IsOther (part_of_thread s t)) (log_parts s (t + 1) ls) (λ q has same thread.
-        let from = thread-from s (t + 1) ls q has in
-        let number : t + 1 + from.at ≡ q.thread = ap (λ (p : SitePart). p.thread) from.is in
-        absurd (omega (arith, thread, number))))
-        later
-
-apart-both : (ps qs : List SitePart) → AllPairs IsOther ps → AllPairs IsOther qs → ((p q : SitePart) → Contains ps p → Contains qs q → IsOther p q) → AllPairs IsOther (ps ++ qs)
-apart-both [] qs first second other = second
-apart-both (p ∷ ps) qs first second other =
-    AllPairs-cons IsOther p (ps ++ qs)
-    (each-in (IsOther p) (ps ++ qs) (λ q has. elim (Contains-append_cases ps qs q has) [
-      | inl here ↦ All-contains (IsOther p) ps q (λ k d inside. first 0 (suc k) d (omega arith) (omega (arith, inside))) here
-      | inr there ↦ other p q (in-front p ps) there
-    ]))
-    (apart-both ps qs (λ i j d less inside. first (suc i) (suc j) d (omega (arith, less)) (omega (arith, inside))) second (λ a b one two. other a b (behind p ps a one) two))
+of-thread : (s : State) (t : ℕ) (l : ThreadLog) (p : SitePart) → of_log s t l ≡ Some p → (0 ≡ p.file) × (t ≡ p.thread)
+of-thread s t l p is = let same = (of-kept l.is_lost (part_of_thread s t) p is).1 in (ap (λ (a : SitePart). a.file) same, ap (λ (a : SitePart). a.thread) same)
 
 pub parts-apart : (s : State) → AllPairs IsOther (parts_of s)
 parts-apart s =
-    apart-both (file_parts s 1 s.instance.place) (log_parts s 1 s.instance.logs.threads) (files-apart s 1 s.instance.place) (logs-apart s 1 s.instance.logs.threads) (λ p q one two same.
-    let file = file-from s 1 s.instance.place p one in
-    let thread = thread-from s 1 s.instance.logs.threads q two in
-    let first : 1 + file.at ≡ p.file = ap (λ (a : SitePart). a.file) file.is in
-    let second : 0 ≡ q.file = ap (λ (a : SitePart). a.file) thread.is in
-    absurd (omega (arith, same, first, second)))
+    subst (AllPairs IsOther) (sym (parts-made s))
+    (pairs_append IsOther (of_files s) (of_logs s)
+    (apart (of_place s) IsOther (λ n m x y p q less one two same. absurd (omega (arith, less, same, of-number s n x p one, of-number s m y q two))) 1 s.instance.place)
+    (apart (of_log s) IsOther (λ n m x y p q less one two same thread. absurd (omega (arith, less, thread, (of-thread s n x p one).1, (of-thread s m y q two).1))) 1 s.instance.logs.threads)
+    (λ p q one two same.
+    let file = from (of_place s) 1 s.instance.place p one in
+    let thread = from (of_log s) 1 s.instance.logs.threads q two in
+    absurd (omega (arith, same, of-number s (1 + file.at) file.item p file.is, (of-thread s (1 + thread.at) thread.item q thread.is).0))))
 
 -- How many there are
-
-files-few : (s : State) (f : ℕ) (place : List (Option File)) → length (file_parts s f place) ≤ length place
-files-few s f [] = omega arith
-files-few s f (None ∷ place) = let rest = files-few s (f + 1) place in omega (arith, rest)
-files-few s f (Some x ∷ place) = let rest = files-few s (f + 1) place in omega (arith, rest)
-
-logs-few : (s : State) (t : ℕ) (ls : List ThreadLog) → length (log_parts s t ls) ≤ length ls
-logs-few s t [] = omega arith
-logs-few s t (l ∷ ls) = decide l.is_lost (logs-few s (t + 1) ls)
-  where
-    decide : (b : Bool) → length (log_parts s (t + 1) ls) ≤ length ls → length (cond b [] (part_of_thread s t ∷ []) ++ log_parts s (t + 1) ls) ≤ suc (length ls)
-    decide true rest = omega (arith, rest)
-    decide false rest = omega (arith, rest)
-
 pub parts-few : (s : State) → IsSound s → length (parts_of s) ≤ 68
 parts-few s sound =
-    let both = length-append (file_parts s 1 s.instance.place) (log_parts s 1 s.instance.logs.threads) in
-    let files = files-few s 1 s.instance.place in
-    let logs = logs-few s 1 s.instance.logs.threads in
-    let place = sound.place.many in
-    let few = sound.catalog.ledger.datafiles.few in
-    let threads = sound.logs.threads in
-    let most = sound.catalog.ledger.base.threads.1 in
-    omega (arith, both, files, logs, place, few, threads, most)
+    let files = few (of_place s) 1 s.instance.place in
+    let logs = few (of_log s) 1 s.instance.logs.threads in
+    let ledger_is = sound.catalog.ledger in
+    subst (λ (ps : List SitePart). length ps ≤ 68) (sym (parts-made s))
+    (omega (arith, length-append (of_files s) (of_logs s), files, logs, sound.place.many, ledger_is.datafiles.few, sound.logs.threads, ledger_is.base.threads.1))

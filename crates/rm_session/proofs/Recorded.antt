@@ -5,7 +5,6 @@ use Rattle.std.specs.Option.{option_map}
 use Rattle.std.proofs.lemmas.List.{append-nil}
 use Rattle.std.proofs.lemmas.List.Elements.{filter_map-append}
 use Rattle.rm_base.specs.declared.block.Mark.{Mark}
-use Rattle.rm_catalog.specs.declared.record.BaseEntry.{BaseEntry}
 use Rattle.rm_catalog.specs.declared.record.HeadEntry.{HeadEntry}
 use Rattle.rm_catalog.specs.declared.record.LogEntry.{LogEntry}
 use Rattle.rm_catalog.specs.declared.record.PartEntry.{PartEntry}
@@ -16,7 +15,7 @@ use Rattle.rm_catalog.specs.Keys.{base_in, datafile_in, head_in, log_in, mark_in
 use Rattle.rm_catalog.specs.Trees.{node_in}
 use Rattle.rm_history.specs.declared.tree.Incarnation.{Incarnation}
 use Rattle.rm_history.specs.declared.world.Datafile.{Datafile}
-use Rattle.rm_ledger.specs.Ledger.{Ledger, datafile_record, incarnation_record, mark_record, numbered}
+use Rattle.rm_ledger.specs.Ledger.{datafile_record, incarnation_record, mark_record, numbered}
 use Rattle.rm_objects.specs.Database.{created_by}
 use Rattle.rm_repository.specs.Kinds.{marked_by}
 use Rattle.rm_repository.specs.Repository.{Repository, Saved, all_records, records_of, saved_records}
@@ -81,7 +80,7 @@ same-saved None (Some t) h p = absurd cc
 same-saved (Some s) None h p = absurd cc
 same-saved (Some s) (Some t) h p =
     let head : s.head ≡ t.head = cc in
-    ap (λ (x : List PartEntry). Some (record s { parts = x })) p ∙ ap (λ (x : HeadEntry). Some (record t { head = x })) head
+    λ i. Some (record { parts = p i; head = head i })
 
 -- lists one after the other
 joined : {A : Type 0} (t f l p m s t' f' l' p' m' s' : List A) → t ≡ t' → f ≡ f' → l ≡ l' → p ≡ p' → m ≡ m' → s ≡ s' → t ++ f ++ l ++ p ++ m ++ s ≡ t' ++ f' ++ l' ++ p' ++ m' ++ s'
@@ -163,15 +162,6 @@ module _ (r : Repository) where
       told head_in r [] [] [] [] [] (heads r.saved) (no-tree head_in r (λ n x. refl)) (no-files head_in r (λ n x. refl)) (no-logs head_in r (λ x. refl))
       (no-pieces head_in r (λ x. refl)) (no-marks head_in r (λ n x. refl)) (saved-heads r.saved)
 
-same-ledger : (a b : Ledger) → a.base ≡ b.base → a.tree ≡ b.tree → a.files ≡ b.files → a.logs ≡ b.logs → a.pieces ≡ b.pieces → a.marks ≡ b.marks → a ≡ b
-same-ledger a b base tree files logs pieces marks =
-    ap (λ (x : BaseEntry). record a { base = x }) base ∙ ap (λ (x : List Incarnation). record a { base = b.base; tree = x }) tree
-    ∙ ap (λ (x : List Datafile). record a { base = b.base; tree = b.tree; files = x }) files ∙ ap (λ (x : List LogEntry). record b { logs = x; pieces = a.pieces; marks = a.marks }) logs
-    ∙ ap (λ (x : List PieceEntry). record b { pieces = x; marks = a.marks }) pieces ∙ ap (λ (x : List Mark). record b { marks = x }) marks
-
-same-repository : (a b : Repository) → a.ledger ≡ b.ledger → a.saved ≡ b.saved → a ≡ b
-same-repository a b ledger saved = ap (λ (x : Ledger). record a { ledger = x }) ledger ∙ ap (λ (x : Option Saved). record b { saved = x }) saved
-
 -- what two databases of the same records have of a kind
 both : {A : Type 0} (tell : Record → Option A) (a b : Repository) (xs ys : List A) → records_of a ≡ records_of b → filter_map tell (records_of a) ≡ xs → filter_map tell (records_of b) ≡ ys → xs ≡ ys
 both tell a b xs ys same one two = sym one ∙ ap (filter_map tell) same ∙ two
@@ -180,11 +170,19 @@ one-repository : (a b : Repository) → records_of a ≡ records_of b → a ≡ 
 one-repository a b same =
     let bases = both base_in a b (a.ledger.base ∷ []) (b.ledger.base ∷ []) same (bases-told a) (bases-told b) in
     let base : a.ledger.base ≡ b.ledger.base = cc bases in
-    same-repository a b
-    (same-ledger a.ledger b.ledger base (both node_in a b a.ledger.tree b.ledger.tree same (tree-told a) (tree-told b)) (both file_in a b a.ledger.files b.ledger.files same (files-told a) (files-told b))
-    (both log_in a b a.ledger.logs b.ledger.logs same (logs-told a) (logs-told b)) (both piece_in a b a.ledger.pieces b.ledger.pieces same (pieces-told a) (pieces-told b))
-    (both marked_in a b a.ledger.marks b.ledger.marks same (marks-told a) (marks-told b)))
-    (same-saved a.saved b.saved (both head_in a b (heads a.saved) (heads b.saved) same (heads-told a) (heads-told b)) (both part_in a b (parts a.saved) (parts b.saved) same (parts-told a) (parts-told b)))
+    let heads_same = both head_in a b (heads a.saved) (heads b.saved) same (heads-told a) (heads-told b) in
+    let parts_same = both part_in a b (parts a.saved) (parts b.saved) same (parts-told a) (parts-told b) in
+    λ i. record {
+      ledger = record {
+        base = base i;
+        tree = both node_in a b a.ledger.tree b.ledger.tree same (tree-told a) (tree-told b) i;
+        files = both file_in a b a.ledger.files b.ledger.files same (files-told a) (files-told b) i;
+        logs = both log_in a b a.ledger.logs b.ledger.logs same (logs-told a) (logs-told b) i;
+        pieces = both piece_in a b a.ledger.pieces b.ledger.pieces same (pieces-told a) (pieces-told b) i;
+        marks = both marked_in a b a.ledger.marks b.ledger.marks same (marks-told a) (marks-told b) i;
+      };
+      saved = same-saved a.saved b.saved heads_same parts_same i;
+    }
 
 pub one-catalog : (a b : Option Repository) → all_records a ≡ all_records b → a ≡ b
 one-catalog None None same = refl

@@ -80,8 +80,7 @@ log-back s i k l at found same =
     let back : 1 + k - 1 ≡ k = omega arith in
     let make : Option ThreadLog → ThreadLog = λ o. record { sequence = option_map_or (λ (x : ThreadLog). x.sequence) o 0; first = option_map_or (λ (x : ThreadLog). x.first) o 0; is_lost = false; records = option_map_or (λ (x : ThreadLog). x.records) o [] } in
     ap (λ b. thread_log (cond b (Some (online s (1 + k))) None)) (eq-eqb s.instance.logs.inc i same)
-    ∙ ap make (ap (slice_get s.instance.logs.threads) back ∙ at)
-    ∙ ap (λ (b : Bool). record l { is_lost = b }) (sym found)
+    ∙ ap make (ap (slice_get s.instance.logs.threads) back ∙ at) ∙ (λ i. record l { is_lost = sym found i })
 
 kept-threads : (s : State) (i t : ℕ) (ls : List ThreadLog) → ((k : ℕ) (l : ThreadLog) → slice_get ls k ≡ Some l → l.is_lost ≡ false → thread_log (where_of i (Some (online s (t + k)))) ≡ l)
     → map thread_log (map (where_of i) (loaded_parts s t ls)) ≡ map a_log_kept ls
@@ -95,21 +94,17 @@ kept-threads s i t (l ∷ ls) each =
     decide true is = refl
     decide false is = let here : t ≡ t + 0 = omega arith in ap (λ n. thread_log (where_of i (Some (online s n)))) here ∙ each 0 l refl is
 
-pub logs-are : (s : State) → s.instance.logs.dbid ≡ (ledger s).base.dbid → saved_logs s ≡ online_of (ledger (rested s)) (loaded_parts s 1 s.instance.logs.threads)
+saved-is : (s : State) (b : Bool) → cond b (record s.instance.logs { threads = map a_log_kept s.instance.logs.threads; inc = current_of s }) (record s.instance.logs { threads = map a_log_kept s.instance.logs.threads })
+    ≡ record { dbid = s.instance.logs.dbid; inc = cond b (current_of s) s.instance.logs.inc; threads = map a_log_kept s.instance.logs.threads }
+saved-is s true = refl
+saved-is s false = refl
+
+logs-are : (s : State) → s.instance.logs.dbid ≡ (ledger s).base.dbid → saved_logs s ≡ online_of (ledger (rested s)) (loaded_parts s 1 s.instance.logs.threads)
 logs-are s dbid =
     let logs = s.instance.logs in
-    let parts = loaded_parts s 1 logs.threads in
-    let i = inc_of_first (current_of s) parts in
-    let threads : map thread_log (map (where_of i) parts) ≡ map a_log_kept logs.threads = kept-threads s i 1 logs.threads (λ k l at found. log-back s i k l at found (sym (first-inc s (current_of s) 1 logs.threads k l at found))) in
-    either (are_lost (map a_log_kept logs.threads))
-    ∙ ap (λ n. record { dbid = n; inc = cond (are_lost (map a_log_kept logs.threads)) (current_of s) logs.inc; threads = map a_log_kept logs.threads }) dbid
-    ∙ ap (λ n. record { dbid = (ledger s).base.dbid; inc = n; threads = map a_log_kept logs.threads }) (sym (inc-is s (current_of s) 1 logs.threads))
-    ∙ ap (λ (ts : List ThreadLog). record { dbid = (ledger s).base.dbid; inc = i; threads = ts }) (sym threads)
-  where
-    either : (b : Bool) → cond b (record s.instance.logs { threads = map a_log_kept s.instance.logs.threads; inc = current_of s }) (record s.instance.logs { threads = map a_log_kept s.instance.logs.threads })
-        ≡ record { dbid = s.instance.logs.dbid; inc = cond b (current_of s) s.instance.logs.inc; threads = map a_log_kept s.instance.logs.threads }
-    either true = refl
-    either false = refl
+    let i = inc_of_first (current_of s) (loaded_parts s 1 logs.threads) in
+    let threads = kept-threads s i 1 logs.threads (λ k l at found. log-back s i k l at found (sym (first-inc s (current_of s) 1 logs.threads k l at found))) in
+    saved-is s (are_lost (map a_log_kept logs.threads)) ∙ (λ n. record { dbid = dbid n; inc = sym (inc-is s (current_of s) 1 logs.threads) n; threads = sym threads n })
 
 -- Which of them are lost
 
@@ -126,22 +121,13 @@ lost-kept (l ∷ ls) = ap (λ b. b || list_any (λ (x : ThreadLog). x.is_lost) (
     decide true is = sym is
     decide false is = refl
 
-saved-threads : (s : State) → (saved_logs s).threads ≡ map a_log_kept s.instance.logs.threads
-saved-threads s = either (are_lost (map a_log_kept s.instance.logs.threads))
-  where
-    either : (b : Bool) → (cond b (record s.instance.logs { threads = map a_log_kept s.instance.logs.threads; inc = current_of s }) (record s.instance.logs { threads = map a_log_kept s.instance.logs.threads })).threads ≡ map a_log_kept s.instance.logs.threads
-    either true = refl
-    either false = refl
-
 -- an open database lost none
 pub none-lost : (s : State) → IsSound s → s.instance.is_open ≡ true → has_lost (saved_logs s) ≡ false
 none-lost s sound opened =
-    ap (list_any (λ (l : ThreadLog). l.is_lost)) (saved-threads s)
+    ap has_lost (saved-is s (are_lost (map a_log_kept s.instance.logs.threads)))
     ∙ lost-kept s.instance.logs.threads
     ∙ list_any_none (λ (l : ThreadLog). l.is_lost) s.instance.logs.threads (each-get (λ (l : ThreadLog). l.is_lost ≡ false) s.instance.logs.threads (λ k l at.
-    let inside = slice_get_within s.instance.logs.threads k l at in
-    let many = sound.logs.threads in
-    sym (lost-at s k l at) ∙ (sound.in_open opened).found (k + 1) (omega arith) (omega (arith, inside, many))))
+    sym (lost-at s k l at) ∙ (sound.in_open opened).found (k + 1) (omega arith) (omega (arith, slice_get_within s.instance.logs.threads k l at, sound.logs.threads))))
 
 -- Each record of a log that agrees with a history is of a block that is there.
 records-there : (s : State) (h : List Change) (a : LogFile) → IsHistory (world s) h → LogAgrees h (log_of a) → All (IsOfBlock (ledger s).files) a.records
@@ -151,8 +137,7 @@ records-there s h a history agrees =
     let told : Contains (filter (is_of (log_of a)) h) (make r) = subst (λ (cs : List Change). Contains cs (make r)) agrees (map_to make a.records r has) in
     let is = history.changes (make r) (filter_from (is_of (log_of a)) h (make r) told).0 in
     let at = file-place (world s) r.file is.datafile is.is in
-    let number = at.number in
-    let back : r.file - 1 ≡ at.place = omega (arith, number) in
+    let back : r.file - 1 ≡ at.place = omega (arith, at.number) in
     subst (λ o. IsSomeAnd o (λ d. r.block < d.blocks)) (sym (ap (slice_get (ledger s).files) back ∙ at.is)) is.block)
 
 module _ (s : State) (h : List Change) (sound : IsSound s) (keeps : HistoryFits s h) (held : Held) (have : HaveObjects s held) where
@@ -171,9 +156,7 @@ module _ (s : State) (h : List Change) (sound : IsSound s) (keeps : HistoryFits 
   good-log k l true at lost = λ a good. absurd (let clash : true ≡ false = sym (lost-at s k l at ∙ lost) ∙ thread-not-lost s sound k good.part good.is in cc)
   good-log k l false at lost =
       let found = thread-found s sound k l at lost in
-      let inside = slice_get_within s.instance.logs.threads k l at in
-      let many = sound.logs.threads in
-      let high : k + 1 ≤ (ledger s).base.threads = omega (arith, inside, many) in
+      let high : k + 1 ≤ (ledger s).base.threads = omega (arith, slice_get_within s.instance.logs.threads k l at, sound.logs.threads) in
       let not-lost : is_lost s.instance.logs (k + 1) ≡ false = lost-at s k l at ∙ lost in
       record {
         part = _;

@@ -1,5 +1,5 @@
 -- What put_place records is a saved site.
-use Rattle.std.proofs.Common.{◌≡◌, ◌<◌, ◌≤◌, ◌+◌, ◌∙◌, ℕ, List, Option, Some, None, false, refl, ap, subst, arith, length}
+use Rattle.std.proofs.Common.{◌≡◌, ◌≢◌, Contains, ◌<◌, ◌≤◌, ◌+◌, ◌∙◌, ℕ, Option, Some, None, false, refl, ap, subst, arith, length}
 use Rattle.std.specs.Option.{option_map_or}
 use Rattle.std.proofs.lemmas.List.Elements.{All-contains}
 use Rattle.std.proofs.lemmas.Option.{slice_get_within}
@@ -48,17 +48,13 @@ module _ (s : State) (sound : IsSound s) (ids : lacks_ids s 0 ≡ false) where
   -- the ids of a save are left
   pub ids-left : next_after s ≤ 4294967295
   ids-left =
-      let room = not-above 4294967295 ((ledger s).base.next_id + 0 + 68) ids in
-      let few = parts-few s sound in
-      omega (arith, room, few)
+      omega (arith, not-above 4294967295 ((ledger s).base.next_id + 0 + 68) ids, parts-few s sound)
 
   pub base-drawn : FitsBase s.catalog (record (ledger s).base { next_id = next_after s })
   base-drawn =
       let is = sound.catalog.ledger in
-      let some = is.base.next_id.0 in
-      let left = ids-left in
       record {
-        facts = record { dbid = is.base.dbid; threads = is.base.threads; next_id = (omega (arith, some), left); moment = is.base.moment; policy = is.base.policy; parallelism = is.base.parallelism };
+        facts = record { dbid = is.base.dbid; threads = is.base.threads; next_id = (omega (arith, is.base.next_id.0), ids-left); moment = is.base.moment; policy = is.base.policy; parallelism = is.base.parallelism };
         current = is.current;
         threads = refl;
         next_id = omega arith;
@@ -69,52 +65,39 @@ module _ (s : State) (sound : IsSound s) (ids : lacks_ids s 0 ≡ false) where
   part-fits _ id (of_file k x at) low high =
       let a = placed_piece (ledger s).base.dbid (counted s x) in
       let valid = file-valid s sound k x at in
-      let body = piece_bodies.length-body a (piece_fitting.fits a valid) in
-      let whole = length-sealed (piece.body_of a) in
-      let blocks = valid.blocks.1 in
-      let full = valid.kind.1 in
-      let inside = slice_get_within s.instance.place k (Some x) at in
-      let many = sound.place.many in
       record {
         id = (low, high);
-        size = omega (arith, body, whole, blocks, full);
+        size = omega (arith, piece_bodies.length-body a (piece_fitting.fits a valid), length-sealed (piece.body_of a), valid.blocks.1, valid.kind.1);
         thread = λ none. absurd (omega (arith, none));
-        file = λ some. (refl, omega (arith, inside, many));
+        file = λ some. (refl, omega (arith, slice_get_within s.instance.place k (Some x) at, sound.place.many));
       }
   part-fits _ id (of_thread t some upto found) low high =
       let a = online s t in
       let valid = (sound.logs.each t some upto found).valid in
-      let body = log_bodies.length-body a (log_fitting.fits a valid) in
-      let whole = length-sealed (log.body_of a) in
-      let few = valid.few in
       record {
         id = (low, high);
-        size = omega (arith, body, whole, few);
+        size = omega (arith, log_bodies.length-body a (log_fitting.fits a valid), length-sealed (log.body_of a), valid.few);
         thread = λ none. (some, upto);
         file = λ file. absurd (omega (arith, file));
       }
+
+  -- the ids of the parts are new
+  new-id : (id : ℕ) (p : PartEntry) → id < (ledger s).base.next_id → Contains (saved_of s).parts p → id ≢ p.id
+  new-id id p below has same =
+      let from = ids-from entry_of (ledger s).base.next_id (parts_of s) p has in
+      absurd (omega (arith, ap (λ (q : PartEntry). q.id) from.is, same, below))
 
   pub site-fits : IsSaved (with_ids_drawn s).ledger (saved_of s)
   site-fits =
       let next = (ledger s).base.next_id in
       let is = sound.catalog.ledger in
-      let low = is.base.next_id.0 in
       record {
         parts = each-in (IsPartEntry (with_ids_drawn s).ledger) (saved_of s).parts (λ e has.
             let from = ids-from entry_of next (parts_of s) e has in
-            let inside = from.inside in
-            subst (IsPartEntry (with_ids_drawn s).ledger) from.is (part-fits from.part (next + from.at) (part-of s sound from.part from.held) (omega (arith, low)) (omega (arith, inside))));
+            subst (IsPartEntry (with_ids_drawn s).ledger) from.is (part-fits from.part (next + from.at) (part-of s sound from.part from.held) (omega (arith, is.base.next_id.0)) (omega (arith, from.inside))));
         apart = ids-pairs entry_of IsOther AreApart (next_after s) (λ i j p q less most other. record { ids = less; things = other }) next (parts_of s) (omega arith) (parts-apart s);
-        logs = λ e p has held same.
-            let from = ids-from entry_of next (parts_of s) p held in
-            let number : next + from.at ≡ p.id = ap (λ (q : PartEntry). q.id) from.is in
-            let below = All-contains (λ (x : LogEntry). (1 ≤ x.id) × (x.id < next)) (ledger s).logs e is.ids.logs has in
-            absurd (omega (arith, number, same, below.1));
-        pieces = λ e p has held same.
-            let from = ids-from entry_of next (parts_of s) p held in
-            let number : next + from.at ≡ p.id = ap (λ (q : PartEntry). q.id) from.is in
-            let below = All-contains (λ (x : PieceEntry). (1 ≤ x.id) × (x.id < next)) (ledger s).pieces e is.ids.pieces has in
-            absurd (omega (arith, number, same, below.1));
+        logs = λ e p has held. new-id e.id p (All-contains (λ (x : LogEntry). (1 ≤ x.id) × (x.id < next)) (ledger s).logs e is.ids.logs has).1 held;
+        pieces = λ e p has held. new-id e.id p (All-contains (λ (x : PieceEntry). (1 ≤ x.id) × (x.id < next)) (ledger s).pieces e is.ids.pieces has).1 held;
         point = point-there s.instance.point;
       }
     where
@@ -138,10 +121,9 @@ objects-is s x is = ap (λ (y : Parts). y.objects) is ∙ parts-objects (parts_o
 
 pub base-is : (s : State) (b : BaseEntry) (x : Parts) → b ≡ (ledger s).base → x ≡ drawn_parts s → record b { next_id = x.next } ≡ record (ledger s).base { next_id = next_after s }
 base-is s b x base is =
-    ap (λ (c : BaseEntry). record c { next_id = x.next }) base
-    ∙ ap (λ n. record (ledger s).base { next_id = n }) (next-is s x is)
+    λ i. record (base i) { next_id = next-is s x is i }
 
 pub site-is : (s : State) (site : Saved) (x : Parts) (head : HeadEntry) → x ≡ drawn_parts s → site.parts ≡ x.entries → site.head ≡ head → head ≡ head_of s → site ≡ saved_of s
 site-is s site x head is parts told here =
-    ap (λ (ps : List PartEntry). record { parts = ps; head = site.head }) (parts ∙ ap (λ (y : Parts). y.entries) is ∙ parts-entries (parts_of s) (no_parts (ledger s).base.next_id))
-    ∙ ap (λ (h : HeadEntry). record { parts = with_ids entry_of (ledger s).base.next_id (parts_of s); head = h }) (told ∙ here)
+    let entries = parts ∙ ap (λ (y : Parts). y.entries) is ∙ parts-entries (parts_of s) (no_parts (ledger s).base.next_id) in
+    λ i. record { parts = entries i; head = (told ∙ here) i }

@@ -1,5 +1,5 @@
 -- Where what is in place stands, and the points of what is loaded.
-use Rattle.std.proofs.Common.{◌≡◌, ◌<◌, ◌+◌, ◌∙◌, ◌⊎◌, inl, inr, ℕ, List, Option, Some, None, true, false, is_none, refl, sym, ap, subst, arith, get_or, slice_get}
+use Rattle.std.proofs.Common.{◌≡◌, ◌<◌, ◌+◌, ◌∙◌, inl, inr, ℕ, List, Option, Some, None, true, false, is_none, refl, sym, ap, subst, arith, get_or, slice_get}
 use Rattle.std.proofs.lemmas.Bool.{cases_lt, false≢true}
 use Rattle.std.proofs.lemmas.List.Elements.{Contains-get_or}
 use Rattle.std.proofs.lemmas.Option.{same_Some}
@@ -28,30 +28,20 @@ standing place i at k x is here =
     let same : Some here.file ≡ x = same_Some (Some here.file) x (sym here.is ∙ is) in
     subst (IsStanding i at) same (here.inc, here.checkpoint, here.below)
 
-below-or-at : (k m : ℕ) → k < m + 1 → (k < m) ⊎ (k ≡ m)
-below-or-at k m inside = elim (cases_lt k m) [
-  | inl low ↦ inl low
-  | inr high ↦ inr (omega (arith, inside, high))
-]
-
 -- one datafile more stands, or need not
 pub stand-more : (s : State) (i at m : ℕ) (d : Datafile) → slice_get (ledger s).files m ≡ Some d → (exists (world s) i at d ≡ true → StandsAt s.instance.place i at m)
     → ((k : ℕ) (e : Datafile) → k < m → slice_get (ledger s).files k ≡ Some e → exists (world s) i at e ≡ true → StandsAt s.instance.place i at k)
     → (k : ℕ) (e : Datafile) → k < m + 1 → slice_get (ledger s).files k ≡ Some e → exists (world s) i at e ≡ true → StandsAt s.instance.place i at k
-stand-more s i at m d file here before k e inside is there = elim (below-or-at k m inside) [
+stand-more s i at m d file here before k e inside is there = elim (cases_lt k m) [
   | inl low ↦ before k e low is there
-  | inr last ↦
-      let at-m : slice_get (ledger s).files m ≡ Some e = subst (λ n. slice_get (ledger s).files n ≡ Some e) last is in
-      let same : e ≡ d = same_Some e d (sym at-m ∙ file) in
-      let exists-d : exists (world s) i at d ≡ true = subst (λ x. exists (world s) i at x ≡ true) same there in
-      subst (StandsAt s.instance.place i at) (sym last) (here exists-d)
+  | inr high ↦
+      let last : k ≡ m = omega (arith, inside, high) in
+      let same : e ≡ d = same_Some e d (sym is ∙ ap (slice_get (ledger s).files) last ∙ file) in
+      subst (StandsAt s.instance.place i at) (sym last) (here (subst (λ x. exists (world s) i at x ≡ true) same there))
 ]
 
 -- the point of a mounted database changes nothing else
 module _ (s : State) (p : Option ℕ) where
-  pub pointed : (at : ℕ) → IsPoint s at → IsPoint (with_point s p) at
-  pointed at is = record { low = is.low; high = is.high; stands = is.stands }
-
   pub sound-with : IsSound s → s.instance.is_open ≡ false → ((at : ℕ) → p ≡ Some at → IsPoint s at) → IsSound (with_point s p)
   sound-with sound closed points = record {
     catalog = sound.catalog;
@@ -59,7 +49,7 @@ module _ (s : State) (p : Option ℕ) where
     place = record { many = sound.place.many; each = sound.place.each };
     logs = record { dbid = sound.logs.dbid; there = sound.logs.there; threads = sound.logs.threads; each = sound.logs.each };
     in_open = λ opened. absurd (false≢true (sym closed ∙ opened));
-    point = λ at is. pointed at (points at is);
+    point = λ at is. let it = points at is in record { low = it.low; high = it.high; stands = it.stands };
   }
 
 is-none : {X : Type 0} (o : Option X) → is_none o ≡ true → o ≡ None
@@ -74,7 +64,6 @@ module _ (s : State) (sound : IsSound s) (closed : s.instance.is_open ≡ false)
       let held = get-index s.instance.place k x.0 x.1 in
       let at = now k d x.0 file held in
       let placed : IsPlaced (tree s) k d x.0 = subst (IsPlaced (tree s) k d) (counted-closed s x.0 closed) (sound.place.each k d x.0 file held) in
-      let high = placed.high in
       record {
         file = x.0;
         is = held;
@@ -82,17 +71,15 @@ module _ (s : State) (sound : IsSound s) (closed : s.instance.is_open ≡ false)
         checkpoint = at.1;
         below = λ j e inside.
             let above = high-above x.0.checkpoint x.0.rows (get_or x.0.rows j e) (Contains-get_or x.0.rows j e inside) in
-            let end : now_of s ≡ end_of (tree s) x.0.inc = ap (λ n. end_of (tree s) n) (sym at.0) in
-            omega (arith, above, high, end);
+            omega (arith, above, placed.high, ap (end_of (tree s)) at.0);
       }
 
   points-mounted : (at : ℕ) → mount_point s ≡ Some at → IsPoint s at
   points-mounted at is =
       let both = given-where (is_none (first_lost (world s) (current_of s) (now_of s) 1 (ledger s).files s.instance.place)) (Some (now_of s)) at is in
       let none = is-none (first_lost (world s) (current_of s) (now_of s) 1 (ledger s).files s.instance.place) both.0 in
-      let same : now_of s ≡ at = same_Some (now_of s) at both.1 in
       let range = (sound.catalog.ledger.incarnations.ranges (current_of s) sound.catalog.ledger.current).1 in
-      subst (IsPoint s) same (record { low = range; high = omega arith; stands = λ k d file here. stands-there k d none file here })
+      subst (IsPoint s) (same_Some (now_of s) at both.1) (record { low = range; high = omega arith; stands = λ k d file here. stands-there k d none file here })
 
   pub sound-mounted : IsSound (with_point s (mount_point s))
   sound-mounted = sound-with s (mount_point s) sound closed points-mounted

@@ -1,5 +1,5 @@
 -- A machine that wakes is sound.
-use Rattle.std.proofs.Common.{◌≡◌, ◌<◌, ◌≤◌, ◌+◌, ◌-◌, ◌∙◌, not, inl, inr, ℕ, List, Option, Some, None, IfSome, true, false, ap, sym, subst, arith, length, Contains, slice_get, slice_index_or}
+use Rattle.std.proofs.Common.{◌≡◌, ◌<◌, ◌≤◌, ◌+◌, ◌-◌, ◌∙◌, not, inl, inr, ℕ, List, Option, Some, None, IfSome, true, false, ap, sym, subst, arith, Contains, slice_get, slice_index_or}
 use Rattle.std.specs.Option.{option_map}
 use Rattle.std.proofs.lemmas.Bool.{and_parts, cases_Bool}
 use Rattle.std.proofs.lemmas.List.Elements.{All-contains}
@@ -17,11 +17,10 @@ use Rattle.rm_history.specs.World.{exists}
 use Rattle.rm_history.proofs.Highs.{high-above}
 use Rattle.rm_ledger.proofs.Lookups.{item-at}
 use Rattle.rm_piece.specs.declared.piece.Piece.{Piece}
-use Rattle.rm_redo.specs.LogFile.{log_file_of, log_of}
-use Rattle.rm_redo.specs.Logs.{Logs}
+use Rattle.rm_redo.specs.LogFile.{log_of}
 use Rattle.rm_repository.specs.Repository.{Saved}
 use Rattle.rm_machine.specs.Effect.{Made}
-use Rattle.rm_machine.specs.Loading.{AreLoadedLogs, IsLoaded, IsLoadedBy, IsLoadedOf, IsTheOne, file_in, has_lost, online_of}
+use Rattle.rm_machine.specs.Loading.{IsLoaded, IsLoadedBy, IsLoadedOf, IsTheOne, file_in, has_lost}
 use Rattle.rm_machine.specs.Machine.{HistoryFits, IsSoundBy, IsSoundMachine, Machine, RowsAre}
 use Rattle.rm_machine.specs.Rest.{HasPartArtefact, HaveParts, IsRestBorneOut, IsSoundRest, IsSoundRestBy, PartsTell, PartsTellFor, Rest, Wakes, catalog_in}
 use Rattle.rm_machine.specs.Saved.{IsGoodFile, IsGoodLog}
@@ -31,20 +30,13 @@ use Rattle.rm_machine.specs.State.{counted, current_of, is_lost, ledger, now_of,
 use Rattle.rm_machine.proofs.Places.{counted-closed, counted-open}
 use Rattle.rm_session.proofs.GoodParts.{file-agrees, log-agrees}
 use Rattle.rm_session.proofs.Lost.{lost-fits}
-use Rattle.rm_session.proofs.OnlineParts.{log-part, online-is}
+use Rattle.rm_session.proofs.OnlineParts.{online-part}
 use Rattle.rm_session.proofs.RowsThere.{rows-are}
 
 -- what is loaded is there where its part is
 good-by : (Good : Piece → Type 0) (o : Option Piece) (x : File) → IsTheOne Good o → Some x ≡ option_map file_in o → (a : Piece) × Good a × (x ≡ file_in a)
 good-by Good None x one is = absurd cc
 good-by Good (Some a) x one is = (a, one, (let same : Some x ≡ Some (file_in a) = is in cc))
-
--- what stands there already
-standing-same : (x : File) (i c : ℕ) → x.inc ≡ i → x.checkpoint ≡ c → standing x i c ≡ x
-standing-same x i c inc checkpoint =
-    let with_inc : ℕ → File = λ n. record { file = x.file; inc = n; checkpoint = c; rows = x.rows } in
-    let with_checkpoint : ℕ → File = λ n. record { file = x.file; inc = x.inc; checkpoint = n; rows = x.rows } in
-    ap with_inc (sym inc) ∙ ap with_checkpoint (sym checkpoint)
 
 module _ (s : State) (h : List Change) (objects : Held) (made : List Made) (touched : List (List ℕ)) (sound : IsSound s) (borne : IsRestBorneOut s.catalog h objects made touched) where
   module _ (site : Saved) (loaded : IsLoadedOf objects s site) (parts : (p : PartEntry) → Contains site.parts p → HasPartArtefact objects made touched p) (tell : PartsTellFor objects made touched site) where
@@ -58,8 +50,7 @@ module _ (s : State) (h : List Change) (objects : Held) (made : List Made) (touc
     of-good : (k : ℕ) (x : File) → slice_index_or s.instance.place k None ≡ Some x → IsOfGood k x
     of-good k x here =
         let inside = slice_get_within s.instance.place k (Some x) (get-index s.instance.place k x here) in
-        let many = loaded.many in
-        let d = item-at (ledger s).files k (omega (arith, inside, many)) in
+        let d = item-at (ledger s).files k (omega (arith, inside, loaded.many)) in
         let one = loaded.place k d.0 d.1 in
         let by = good-by (IsGoodFile objects (ledger s) site (k + 1) d.0) one.part x one.good (sym here ∙ one.is) in
         record { datafile = d.0; piece = by.0; good = by.1; is = by.2 }
@@ -83,7 +74,7 @@ module _ (s : State) (h : List Change) (objects : Held) (made : List Made) (touc
 
     counted-same : (k : ℕ) (x : File) → slice_index_or s.instance.place k None ≡ Some x → counted s x ≡ x
     counted-same k x here = elim (cases_Bool s.instance.is_open) [
-      | inl is ↦ let there = at-now is k x here in counted-open s x is ∙ standing-same x (current_of s) (now_of s) there.0 there.1
+      | inl is ↦ let there = at-now is k x here in counted-open s x is ∙ (λ i. standing x (sym there.0 i) (sym there.1 i))
       | inr closed ↦ counted-closed s x closed
     ]
 
@@ -93,9 +84,8 @@ module _ (s : State) (h : List Change) (objects : Held) (made : List Made) (touc
         let by = of-good k x here in
         let a = by.piece in
         let above = high-above a.checkpoint a.rows r (subst (λ (y : File). Contains y.rows r) by.is has) in
-        let high = by.good.valid.high in
         let end : a.high ≤ now_of s = subst (λ i. a.high ≤ end_of (ledger s).tree i) (by.good.fits.in_open (opened is)).0 by.good.fits.end in
-        omega (arith, above, high, end)
+        omega (arith, above, by.good.valid.high, end)
 
     open-rows : s.instance.is_open ≡ true → (k : ℕ) (x : File) → slice_index_or s.instance.place k None ≡ Some x → RowsAre (world s) h (current_of s) (now_of s) x
     open-rows is k x here =
@@ -112,22 +102,11 @@ module _ (s : State) (h : List Change) (objects : Held) (made : List Made) (touc
         (rows-are (world s) h borne.history (current_of s) at stands.file (agrees k stands.file (index-get s.instance.place k stands.file stands.is)) stands.inc stands.checkpoint low)
 
     -- an online log that is not lost is that of a good part
-    log-by : (logs : AreLoadedLogs objects (ledger s) site s.instance.logs) (t : ℕ) → 0 < t → t ≤ (ledger s).base.threads → is_lost (online_of (ledger s) logs.parts) t ≡ false → LogAgrees h (log_of (log_file_of (online_of (ledger s) logs.parts) t (end_of (ledger s).tree (online_of (ledger s) logs.parts).inc)))
-    log-by logs t low high found =
-        let many = logs.many in
-        let inside : t - 1 < length logs.parts = omega (arith, many, low, high) in
-        let one = log-part (ledger s) logs.parts t inside found in
-        let back : t - 1 + 1 ≡ t = omega (arith, low) in
-        let good : IsGoodLog objects (ledger s) site t one.log = subst (λ n. IsGoodLog objects (ledger s) site n one.log) back (logs.good (t - 1) (Some one.log) one.is) in
-        let next = good.fits.next ∙ ap (end_of (ledger s).tree) one.inc in
-        subst (λ a. LogAgrees h (log_of a)) (sym (online-is (ledger s) logs.parts t inside found one.log _ one.there good.fits.dbid one.inc good.fits.thread next))
-        (log-agrees (ledger s) h objects made touched site borne.artefacts parts tell t one.log good)
-
     log-is : (t : ℕ) → 0 < t → t ≤ (ledger s).base.threads → is_lost s.instance.logs t ≡ false → LogAgrees h (log_of (online s t))
     log-is t low high found =
         let logs = loaded.logs in
-        subst (λ (x : Logs). LogAgrees h (log_of (log_file_of x t (end_of (ledger s).tree x.inc)))) (sym logs.are)
-        (log-by logs t low high (subst (λ (x : Logs). is_lost x t ≡ false) logs.are found))
+        let log = online-part (ledger s) site.head.opened s.instance.logs logs.parts (IsGoodLog objects (ledger s) site) logs.many logs.are (λ t a good. good.fits) (λ k a at. logs.good k (Some a) at) t low high found in
+        subst (λ a. LogAgrees h (log_of a)) (sym log.is) (log-agrees (ledger s) h objects made touched site borne.artefacts parts tell t log.log log.holds)
 
     site-fits : HistoryFits s h
     site-fits = record {

@@ -1,5 +1,5 @@
 //! The parts of a site that is saved: each datafile in place, and each online log that is not lost.
-ghost use Rattle.std.specs.Prelude.{◌≡◌, ◌<◌, ◌≤◌, ◌+◌, IfOk, OnOk, false};
+ghost use Rattle.std.specs.Prelude.{◌≡◌, ◌<◌, ◌≤◌, ◌+◌, IfOk, OnOk, false, if◌then◌else◌};
 ghost use Rattle.sha2.specs.Sha256.{sha256};
 ghost use Rattle.rm_evidence.specs.Gathered.{placed_piece};
 ghost use Rattle.rm_machine.specs.Marks.{lacks_ids};
@@ -146,7 +146,7 @@ fn log_of(alloc: Global, state: &State, thread: ThreadNo) -> Result<LogFile, NoM
     })
 }
 
-// Adds the part of a thread, whose online log is not lost.
+// Adds the part of a thread, unless its online log is lost.
 fn add_log(
     alloc: Global,
     state: &State,
@@ -156,10 +156,13 @@ fn add_log(
     requires sound { IsSound state.now }
     requires some { 0 < thread }
     requires there { thread ≤ (ledger state.now).base.threads }
-    requires found { is_lost state.now.instance.logs thread ≡ false }
     requires room { parts.old.next < 4294967295 }
-    ensures { OnOk result (parts.new ≡ with_part (part_of_thread state.now thread) parts.old) }
+    ensures after { OnOk result (parts.new ≡ if is_lost state.now.instance.logs thread then parts.old else with_part (part_of_thread state.now thread) parts.old) }
+    ensures few { OnOk result (parts.new.next ≤ parts.old.next + 1) }
 {
+    if state.instance.logs.is_lost(thread) {
+        return Ok(());
+    }
     let log = log_of(alloc, state, thread)?;
     add(
         alloc,
@@ -177,9 +180,7 @@ fn add_logs(alloc: Global, state: &State, parts: &mut Parts) -> Result<(), NoMem
     ensures { OnOk result (parts.new ≡ with_parts (log_parts state.now 1 state.now.instance.logs.threads) parts.old) }
 {
     for thread in 1..=threads(state) {
-        if !state.instance.logs.is_lost(thread) {
-            add_log(alloc, state, parts, thread)?;
-        }
+        add_log(alloc, state, parts, thread)?;
     }
     Ok(())
 }
