@@ -51,16 +51,13 @@ after-all s (e ∷ es) =
 -- another end twice is the later one
 end-twice : (tree : List Incarnation) (i a b : ℕ) → IsThere tree i → with_end (with_end tree i a) i b ≡ with_end tree i b
 end-twice tree i a b there =
-    let of_both : ℕ → ℕ → Incarnation = λ parent reset. record { parent = parent; reset = reset; end = b } in
-    let new : Incarnation = record { parent = parent_of tree i; reset = reset_of tree i; end = a } in
-    ap (λ p. slice_set (with_end tree i a) (i - 1) (of_both p (reset_of (with_end tree i a) i))) (parent_of-with_end tree i a i there)
-    ∙ ap (λ r. slice_set (with_end tree i a) (i - 1) (of_both (parent_of tree i) r)) (reset_of-with_end tree i a i there)
-    ∙ set-set tree (i - 1) new (of_both (parent_of tree i) (reset_of tree i))
+    let new : ℕ → Incarnation = λ end. record { parent = parent_of tree i; reset = reset_of tree i; end = end } in
+    (λ j. slice_set (with_end tree i a) (i - 1) (record { parent = parent_of-with_end tree i a i there j; reset = reset_of-with_end tree i a i there j; end = b }))
+    ∙ set-set tree (i - 1) (new a) (new b)
 
 end_at-twice : (r : Repository) (i a b : ℕ) → IsThere r.ledger.tree i → with_end_at (with_end_at r i a) i b ≡ with_end_at r i b
 end_at-twice r i a b there =
-    let of : List Incarnation → Repository = λ tree. record r { ledger = record r.ledger { tree = tree } } in
-    ap of (end-twice r.ledger.tree i a b there)
+    λ j. record r { ledger = record r.ledger { tree = end-twice r.ledger.tree i a b there j } }
 
 -- Marks
 
@@ -82,9 +79,7 @@ quiet-one s (Write t f b content) (Wrote (Ok scn)) quiet =
 quiet-one s (Write t f b content) (Wrote (Err fault)) quiet = quiet
 
 quiet-further : (s : State) → marks_before s ≡ [] → one_further s ≡ with_end_at s.catalog (current_of s) (now_of s + 1)
-quiet-further s quiet =
-    let of : List Mark → Repository = λ marks. with_end_at (record s.catalog { ledger = record s.catalog.ledger { marks = marks } }) (current_of s) (now_of s + 1) in
-    ap of (quiet-marks s quiet)
+quiet-further s quiet = λ i. with_end_at (record s.catalog { ledger = record s.catalog.ledger { marks = quiet-marks s quiet i } }) (current_of s) (now_of s + 1)
 
 -- 1 for a write
 abbrev pub once : Call → ℕ
@@ -105,22 +100,14 @@ ended-then s q t there one two =
     let with_now : Repository → ℕ → Repository = λ r n. with_end_at r r.ledger.base.current n in
     elim one [
       | inl e ↦
-          let same : now_of q ≡ now_of s = ap now e in
           elim two [
             | inl f ↦ inl (f ∙ e)
-            | inr f ↦ inr ((let later = f.0 in omega (arith, later, same)), f.1 ∙ ap (λ r. with_now r (now_of t)) e)
+            | inr f ↦ inr (omega (arith, f.0, ap now e), f.1 ∙ ap (λ r. with_now r (now_of t)) e)
           ]
       | inr e ↦
-          let first = e.0 in
           elim two [
-            | inl f ↦
-                let same : now_of t ≡ now_of q = ap now f in
-                inr (omega (arith, first, same), f ∙ e.1 ∙ ap (with_end_at s.catalog (current_of s)) (sym same))
-            | inr f ↦
-                inr (
-                  (let later = f.0 in omega (arith, first, later)),
-                  f.1 ∙ ap (λ r. with_now r (now_of t)) e.1 ∙ end_at-twice s.catalog (current_of s) (now_of q) (now_of t) there,
-                )
+            | inl f ↦ inr (omega (arith, e.0, ap now f), f ∙ e.1 ∙ ap (with_end_at s.catalog (current_of s)) (sym (ap now f)))
+            | inr f ↦ inr (omega (arith, e.0, f.0), f.1 ∙ ap (λ r. with_now r (now_of t)) e.1 ∙ end_at-twice s.catalog (current_of s) (now_of q) (now_of t) there)
           ]
     ]
 
@@ -165,10 +152,7 @@ once-found_of : (spans : List Span) (rows : List (List Row)) → total is_once (
 once-found_of [] rows = refl
 once-found_of (s ∷ ss) [] = refl
 once-found_of (s ∷ ss) (rs ∷ rows) =
-    let both = total-append is_once (found s.file s.first rs) (found_of ss rows) in
-    let one = once-found s.file s.first rs in
-    let more = once-found_of ss rows in
-    omega (arith, both, one, more)
+    omega (arith, total-append is_once (found s.file s.first rs) (found_of ss rows), once-found s.file s.first rs, once-found_of ss rows)
 
 once-wrote : (t : ℕ) (ws : List WriteJob) (answers : List (Result ℕ LiveFault)) → total is_once (wrote t ws answers) ≤ length ws
 once-wrote t [] answers = omega arith
@@ -179,10 +163,7 @@ once-wrote_of : (t : ℕ) (wss : List (List WriteJob)) (answers : List (List (Re
 once-wrote_of t [] answers = omega arith
 once-wrote_of t (ws ∷ wss) [] = omega arith
 once-wrote_of t (ws ∷ wss) (one ∷ answers) =
-    let both = total-append is_once (wrote t ws one) (wrote_of (suc t) wss answers) in
-    let first = once-wrote t ws one in
-    let more = once-wrote_of (suc t) wss answers in
-    omega (arith, both, first, more)
+    omega (arith, total-append is_once (wrote t ws one) (wrote_of (suc t) wss answers), once-wrote t ws one, once-wrote_of (suc t) wss answers)
 
 once-events : (es : List Event) → total is_once (map deed es) ≡ count_writes es
 once-events [] = refl
@@ -191,9 +172,5 @@ once-events (e ∷ es) = ap (λ n. once e.call + n) (once-events es)
 pub few-writes : (jobs : List CopyJob) (writers : List (List WriteJob)) (w : Work) (es : List Event) → AreThese (work_told jobs writers w) (map deed es) → count_writes es ≤ total length writers
 few-writes jobs writers w es these =
     let answers : List (List (Result ℕ LiveFault)) = map (map Ok) (lists w.scns.items) in
-    let all = these.each_once is_once in
-    let own = once-events es in
     let both = total-append is_once (found_of (map whole jobs) (lists w.rows.items)) (wrote_of 1 writers answers) in
-    let none = once-found_of (map whole jobs) (lists w.rows.items) in
-    let most = once-wrote_of 1 writers answers in
-    omega (arith, all, own, both, none, most)
+    omega (arith, these.each_once is_once, once-events es, both, once-found_of (map whole jobs) (lists w.rows.items), once-wrote_of 1 writers answers)

@@ -23,9 +23,8 @@ pub numbered : (s : State) (f : ℕ) (d : Datafile) → IsSound s → file_of (w
 numbered s f d sound is =
     let there = file-there (world s) f d is in
     let inside = slice_get_within (ledger s).files (f - 1) d there.1 in
-    let few = sound.catalog.ledger.datafiles.few in
     let made = all-get (IsCreated (tree s)) (ledger s).files (f - 1) d there.1 sound.catalog.ledger.datafiles.each in
-    record { some = there.0; is = there.1; most = omega (arith, inside, few); blocks = made.blocks.1 }
+    record { some = there.0; is = there.1; most = omega (arith, inside, sound.catalog.ledger.datafiles.few); blocks = made.blocks.1 }
 
 few-by : (t : Bool) (f n : ℕ) (rest : List ℕ) → length rest ≤ n → length (cond t (f ∷ rest) rest) ≤ suc n
 few-by true f n rest few = omega (arith, few)
@@ -38,6 +37,4 @@ few-from s b f (d ∷ ds) = few-by (is_taken s b f d) f (length ds) (taken_from 
 -- no more than 64 datafiles are backed up
 pub taken-few : (s : State) (b : BackupForm) → IsSound s → length (taken s b) ≤ 64
 taken-few s b sound =
-    let few = sound.catalog.ledger.datafiles.few in
-    let all = few-from s b 1 (ledger s).files in
-    omega (arith, all, few)
+    omega (arith, few-from s b 1 (ledger s).files, sound.catalog.ledger.datafiles.few)

@@ -11,10 +11,7 @@ use Rattle.rm_backing.proofs.Opening.{present-all}
 -- their numbers are those of their places
 pub present-numbers : (place : List (Option File)) → AreFrom 0 place → All (HasNumber (length place)) (present place)
 present-numbers place are =
-    present-all (HasNumber (length place)) place (λ k x is.
-    let number = are k x is in
-    let inside = slice_get_within place k (Some x) is in
-    (omega (arith, number), omega (arith, number, inside)))
+    present-all (HasNumber (length place)) place (λ k x is. (omega (arith, are k x is), omega (arith, are k x is, slice_get_within place k (Some x) is)))
 
 -- as many places, of which each is empty
 abbrev emptied : List (Option File) → List (Option File)
@@ -29,9 +26,8 @@ emptied-is (o ∷ place) =
 
 from-tail : (done : List (Option File)) (o : Option File) (place : List (Option File)) → AreFrom (length done) (o ∷ place) → AreFrom (length (done ++ o ∷ [])) place
 from-tail done o place are k x is =
-    let e = are (suc k) x is in
     let long : length (done ++ o ∷ []) ≡ length done + 1 = length-append done (o ∷ []) in
-    omega (arith, e, long)
+    omega (arith, are (suc k) x is, long)
 
 -- the first places are done
 home-from : (done place : List (Option File)) → AreFrom (length done) place → at_home (done ++ emptied place) (present place) ≡ done ++ place
@@ -41,11 +37,9 @@ home-from done (None ∷ place) are =
     ∙ home-from (done ++ None ∷ []) place (from-tail done None place are)
     ∙ append_assoc done (None ∷ []) place
 home-from done (Some x ∷ place) are =
-    let number = are 0 x refl in
-    let at : x.file - 1 ≡ length done = omega (arith, number) in
+    let at : x.file - 1 ≡ length done = omega (arith, are 0 x refl) in
     ap (λ k. at_home (slice_set (done ++ None ∷ emptied place) k (Some x)) (present place)) at
-    ∙ ap (λ xs. at_home xs (present place)) (set-append_seam done None (emptied place) (Some x))
-    ∙ ap (λ xs. at_home xs (present place)) (sym (append_assoc done (Some x ∷ []) (emptied place)))
+    ∙ ap (λ xs. at_home xs (present place)) (set-append_seam done None (emptied place) (Some x) ∙ sym (append_assoc done (Some x ∷ []) (emptied place)))
     ∙ home-from (done ++ Some x ∷ []) place (from-tail done (Some x) place are)
     ∙ append_assoc done (Some x ∷ []) place
 

@@ -1,5 +1,5 @@
 -- A BACKUP under way: some pieces are recorded, and the rest lead on from there.
-use Rattle.std.proofs.Common.{◌≡◌, ◌<◌, ◌+◌, ◌∙◌, ◌++◌, ℕ, suc, Bool, List, [], ◌∷◌, refl, ap, sym, subst, arith, append_assoc, drop-cons, drop, get_or, length, map}
+use Rattle.std.proofs.Common.{◌≡◌, ◌<◌, ◌+◌, ◌∙◌, ◌++◌, ℕ, suc, Bool, List, [], ◌∷◌, ap, sym, subst, arith, append_assoc, drop-cons, drop, get_or, length, map}
 use Rattle.std.proofs.lemmas.List.{get_or-map, length-map}
 use Rattle.std.proofs.lemmas.List.Elements.{All-head}
 use Rattle.std.specs.Prelude.{Vec}
@@ -46,8 +46,7 @@ told-next scns k d before lines inside was =
     let thread : k + 1 ≡ 1 + k = omega arith in
     let next : 1 + (k + 1) ≡ suc (1 + k) = omega arith in
     append_assoc before (map (ThreadScn (k + 1)) (get_or scns k d).items) (write_lines (1 + (k + 1)) rest)
-    ∙ ap (λ n. before ++ (map (ThreadScn n) (get_or scns k d).items ++ write_lines (1 + (k + 1)) rest)) thread
-    ∙ ap (λ n. before ++ (map (ThreadScn (1 + k)) (get_or scns k d).items ++ write_lines n rest)) next
+    ∙ (λ i. before ++ (map (ThreadScn (thread i)) (get_or scns k d).items ++ write_lines (next i) rest))
     ∙ ap (λ ls. before ++ write_lines (1 + k) ls) (sym (lists-at scns k d inside)) ∙ was
 
 -- Pieces
@@ -57,10 +56,7 @@ pub copies-at : (base : BaseEntry) (b : BackupForm) (checkpoint : ℕ) (js : Lis
     → copied base b checkpoint (drop k js) (drop k (lists rows)) ≡ record { copy = is_copy b (get_or js k d); piece = piece_by base b checkpoint (get_or js k d) (get_or rows k v).items } ∷ copied base b checkpoint (drop (k + 1) js) (drop (k + 1) (lists rows))
 copies-at base b checkpoint js rows k d v inside within =
     let next : suc k ≡ k + 1 = omega arith in
-    let x : Copied = record { copy = is_copy b (get_or js k d); piece = piece_by base b checkpoint (get_or js k d) (get_or rows k v).items } in
-    ap (λ ys. copied base b checkpoint ys (drop k (lists rows))) (drop-cons js k d inside)
-    ∙ ap (copied base b checkpoint (get_or js k d ∷ drop (suc k) js)) (lists-at rows k v within)
-    ∙ ap (λ n. x ∷ copied base b checkpoint (drop n js) (drop (k + 1) (lists rows))) next
+    λ i. copied base b checkpoint ((drop-cons js k d inside ∙ ap (λ n. get_or js k d ∷ drop n js) next) i) (lists-at rows k v within i)
 
 -- from the state s on all of these pieces but the rest are recorded: the state is t
 pub record IsUnderWay (s : State) (b : BackupForm) (tag : List ℕ) (xs rest : List Copied) (before after : List Edit) (t : State) (handed : Handed) : Type 0 where
@@ -74,26 +70,11 @@ pub record IsUnderWay (s : State) (b : BackupForm) (tag : List ℕ) (xs rest : L
   pub objects : handed.objects ++ pieces_put t b tag rest ≡ pieces_put s b tag xs
   pub removes : handed.removes ≡ []
 
--- none is recorded at first
-pub way-start : (s : State) (b : BackupForm) (tag : List ℕ) (xs : List Copied) (edits : List Edit) (x : Handed) → IsSound s → CanRecord s b tag xs → x.lines ≡ [] → x.objects ≡ [] → x.removes ≡ [] → IsUnderWay s b tag xs xs edits edits s x
-way-start s b tag xs edits x sound can lines objects removes = record {
-  sound = sound;
-  can = can;
-  dbid = refl;
-  current = refl;
-  state = refl;
-  edits = record { lead = λ rs from. from };
-  lines = ap (λ (ls : List Line). ls ++ piece_lines s b tag xs) lines;
-  objects = ap (λ os. os ++ pieces_put s b tag xs) objects;
-  removes = removes;
-}
-
 -- the base facts of which a piece tells are those at the start
 pub piece-same : (s t : State) (b : BackupForm) (checkpoint : ℕ) (j : Job) (rs : List Row) → (ledger t).base.dbid ≡ (ledger s).base.dbid → (ledger t).base.current ≡ (ledger s).base.current
     → piece_by (ledger t).base b checkpoint j rs ≡ piece_by (ledger s).base b checkpoint j rs
 piece-same s t b checkpoint j rs dbid current =
-    let with_facts : ℕ → ℕ → Piece = λ n i. record (piece_by (ledger s).base b checkpoint j rs) { dbid = n; inc = i } in
-    ap (λ n. with_facts n (ledger t).base.current) dbid ∙ ap (with_facts (ledger s).base.dbid) current
+    λ i. record (piece_by (ledger s).base b checkpoint j rs) { dbid = dbid i; inc = current i }
 
 -- the next one
 module _ (s t : State) (b : BackupForm) (tag : List ℕ) (xs : List Copied) (x : Copied) (rest : List Copied) (before mid : List Edit) (y : Handed) (way : IsUnderWay s b tag xs (x ∷ rest) before mid t y) where
@@ -148,7 +129,7 @@ module _ (s t : State) (b : BackupForm) (tag : List ℕ) (checkpoint : ℕ) (js 
     same = made ∙ here
 
     at : (P : Bool → Piece → Type 0) → P (is_copy b j) x.piece → P copy a
-    at P holds = subst (λ c. P c a) (sym kind) (subst (P (is_copy b j)) (sym same) holds)
+    at P holds = coe 1 0 (i. P (kind i) (same i)) holds
 
     pub fit-here : FitsNewPiece t.catalog (entry_for t b tag copy a)
     fit-here = at (λ c p. FitsNewPiece t.catalog (entry_for t b tag c p)) (next-fit s t b tag xs x rest before mid y way-here)
@@ -157,6 +138,4 @@ module _ (s t : State) (b : BackupForm) (tag : List ℕ) (checkpoint : ℕ) (js 
         → z.lines ≡ y.lines ++ line_for t copy a ∷ [] → z.objects ≡ y.objects ++ object_for t copy a ∷ [] → z.removes ≡ y.removes → IsUnderWay s b tag xs rest before after q z
     way-next q after z left follow lines objects removes =
         way-on s t b tag xs x rest before mid y way-here q after z
-        (left ∙ ap (λ c. after_piece t b tag c a) kind ∙ ap (after_piece t b tag (is_copy b j)) same) follow
-        (lines ∙ ap (λ c. y.lines ++ line_for t c a ∷ []) kind ∙ ap (λ p. y.lines ++ line_for t (is_copy b j) p ∷ []) same)
-        (objects ∙ ap (λ c. y.objects ++ object_for t c a ∷ []) kind ∙ ap (λ p. y.objects ++ object_for t (is_copy b j) p ∷ []) same) removes
+        (left ∙ (λ i. after_piece t b tag (kind i) (same i))) follow (lines ∙ (λ i. y.lines ++ line_for t (kind i) (same i) ∷ [])) (objects ∙ (λ i. y.objects ++ object_for t (kind i) (same i) ∷ [])) removes

@@ -17,6 +17,7 @@ use Rattle.rm_machine.specs.Sound.{IsOnline, IsPlaced, IsSound}
 use Rattle.rm_machine.specs.declared.state.State.{State}
 use Rattle.rm_machine.specs.State.{current_of, ledger, now_of, online, redo_end, tree}
 use Rattle.rm_machine.proofs.Places.{counted-open}
+use Rattle.rm_machine.proofs.Standing.{each-get}
 use Rattle.rm_machine.specs.Events.{opening}
 use Rattle.rm_machine.proofs.Following.{AreFrom, goes-along, present}
 use Rattle.rm_backing.proofs.Numbered.{from-next, numbers-from}
@@ -27,19 +28,13 @@ present-all P [] each = All-nil P
 present-all P (None ∷ place) each = present-all P place (λ k x is. each (suc k) x is)
 present-all P (Some x ∷ place) each = All-cons P x (present place) (each 0 x refl) (present-all P place (λ k y is. each (suc k) y is))
 
--- what is true of each item at its place is true of all
-all-at : {X : Type 0} (P : X → Type 0) (xs : List X) → ((k : ℕ) (x : X) → slice_get xs k ≡ Some x → P x) → All P xs
-all-at P [] each = All-nil P
-all-at P (x ∷ xs) each = All-cons P x xs (each 0 x refl) (all-at P xs (λ k y is. each (suc k) y is))
-
 -- no two have one number
 numbered-from : (n : ℕ) (place : List (Option File)) → AreFrom n place → IsNumbered (present place)
 numbered-from n [] are = λ i j d lt inside. absurd (omega (arith, inside))
 numbered-from n (None ∷ place) are = numbered-from (n + 1) place (from-next n None place are)
 numbered-from n (Some x ∷ place) are =
-    let number = are 0 x refl in
     AllPairs-cons (λ (x y : File). x.file ≢ y.file) x (present place)
-    (present-all (λ (y : File). x.file ≢ y.file) place (λ k y is. let other = are (suc k) y is in λ e. omega (arith, e, number, other)))
+    (present-all (λ (y : File). x.file ≢ y.file) place (λ k y is e. omega (arith, e, are 0 x refl, are (suc k) y is)))
     (numbered-from (n + 1) place (from-next n (Some x) place are))
 
 pub opening-numbered : (s : State) → IsSound s → s.instance.is_open ≡ true → IsNumbered (opening s).files
@@ -51,12 +46,9 @@ module _ (s : State) (sound : IsSound s) (opened : s.instance.is_open ≡ true) 
 
   rows-below : (k : ℕ) (x : File) → slice_get s.instance.place k ≡ Some (Some x) → All (λ r. r.version < now) x.rows
   rows-below k x is =
-      let inside = slice_get_within s.instance.place k (Some x) is in
-      let many = sound.place.many in
-      let file = item-at (ledger s).files k (omega (arith, inside, many)) in
+      let file = item-at (ledger s).files k (omega (arith, slice_get_within s.instance.place k (Some x) is, sound.place.many)) in
       let placed : IsPlaced (tree s) k file.0 (standing x (current_of s) now) = subst (IsPlaced (tree s) k file.0) (counted-open s x opened) (sound.place.each k file.0 x file.1 is) in
-      let high = placed.high in
-      All-weaker (Contains x.rows) (λ r. r.version < now) (λ r has. let above = high-above now x.rows r has in omega (arith, above, high)) x.rows (All-contains_itself x.rows)
+      All-weaker (Contains x.rows) (λ r. r.version < now) (λ r has. omega (arith, high-above now x.rows r has, placed.high)) x.rows (All-contains_itself x.rows)
 
   redo-now : redo_end s ≡ now
   redo-now = ap (end_of (tree s)) (sound.in_open opened).inc
@@ -66,35 +58,29 @@ module _ (s : State) (sound : IsSound s) (opened : s.instance.is_open ≡ true) 
 
   log-online : (k : ℕ) (l : ThreadLog) → slice_get s.instance.logs.threads k ≡ Some l → IsOnline (tree s) (online s (k + 1))
   log-online k l is =
-      let inside = slice_get_within s.instance.logs.threads k l is in
-      let many = sound.logs.threads in
-      sound.logs.each (k + 1) (omega arith) (omega (arith, inside, many)) ((sound.in_open opened).found (k + 1) (omega arith) (omega (arith, inside, many)))
+      let inside : k + 1 ≤ (ledger s).base.threads = omega (arith, slice_get_within s.instance.logs.threads k l is, sound.logs.threads) in
+      sound.logs.each (k + 1) (omega arith) inside ((sound.in_open opened).found (k + 1) (omega arith) inside)
 
   log-begun : (k : ℕ) (l : ThreadLog) → slice_get s.instance.logs.threads k ≡ Some l → l.first ≤ now
   log-begun k l is =
       let first : first_of s.instance.logs (k + 1) ≡ l.first = ap (λ o. option_map_or (λ (m : ThreadLog). m.first) o 0) (log-at k l is) in
-      let range = (log-online k l is).valid.range.1 in
-      let end = redo-now in
-      omega (arith, first, range, end)
+      omega (arith, first, (log-online k l is).valid.range.1, redo-now)
 
   log-below : (k : ℕ) (l : ThreadLog) → slice_get s.instance.logs.threads k ≡ Some l → All (λ r. r.scn < now) l.records
   log-below k l is =
       let records : records_of s.instance.logs (k + 1) ≡ l.records = ap (λ o. option_map_or (λ (m : ThreadLog). m.records) o []) (log-at k l is) in
-      let end = redo-now in
       subst (All (λ r. r.scn < now)) records
-      (All-weaker (IsLogRecord (first_of s.instance.logs (k + 1)) (redo_end s)) (λ r. r.scn < now) (λ r is. let scn = is.scn.1 in omega (arith, scn, end))
+      (All-weaker (IsLogRecord (first_of s.instance.logs (k + 1)) (redo_end s)) (λ r. r.scn < now) (λ r is. omega (arith, is.scn.1, redo-now))
       (records_of s.instance.logs (k + 1)) (log-online k l is).valid.records)
 
   pub opening-sound : IsSoundLive (opening s)
   opening-sound =
       let range = sound.catalog.ledger.incarnations.ranges (current_of s) sound.catalog.ledger.current in
-      let low = range.0 in
-      let mid = range.1 in
       record {
         inc = (sound.in_open opened).inc;
-        begun = omega (arith, low, mid);
+        begun = omega (arith, range.0, range.1);
         last = range.2;
-        first = all-at (λ (l : ThreadLog). l.first ≤ now) s.instance.logs.threads log-begun;
+        first = each-get (λ (l : ThreadLog). l.first ≤ now) s.instance.logs.threads log-begun;
         rows = present-all (λ (x : File). All (λ r. r.version < now) x.rows) s.instance.place rows-below;
-        records = all-at (λ (l : ThreadLog). All (λ r. r.scn < now) l.records) s.instance.logs.threads log-below;
+        records = each-get (λ (l : ThreadLog). All (λ r. r.scn < now) l.records) s.instance.logs.threads log-below;
       }

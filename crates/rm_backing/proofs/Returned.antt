@@ -28,12 +28,6 @@ pub record IsReturned (s : State) (q : Parts) (t : State) : Type 0 where
   pub point : t.instance.point ≡ s.instance.point
   pub catalog : t.catalog ≡ risen s.catalog q.now
 
-same : (t u : State) → t.catalog ≡ u.catalog → t.instance.is_open ≡ u.instance.is_open → t.instance.point ≡ u.instance.point → t.instance.place ≡ u.instance.place → t.instance.logs ≡ u.instance.logs → t ≡ u
-same t u catalog mode point place logs = λ i. record {
-  catalog = catalog i;
-  instance = record { is_open = mode i; point = point i; place = place i; logs = logs i };
-}
-
 -- the state goes along with the database up to the end
 pub goes-events : (s : State) (es : List Event) → GoesAlong s → GoesAlong (after_events s es)
 goes-events s [] goes = goes
@@ -56,28 +50,26 @@ module _ (s : State) (sound : IsSound s) (jobs : List CopyJob) (writers : List (
   many = sym sound.place.many ∙ sym (after-all s gone.events).many
 
   pub returned-numbers : All (HasNumber (length (ledger s).files)) q.files
-  returned-numbers =
-      subst (λ n. All (HasNumber n) q.files) (sym many)
-      (subst (λ (p : Parts). All (HasNumber (length t.instance.place)) p.files) (sym parts) (present-numbers t.instance.place from))
+  returned-numbers = coe 1 0 (i. All (HasNumber (many i)) (parts i).files) (present-numbers t.instance.place from)
 
   pub returned-last : q.now ≤ last_scn
   returned-last = subst (λ (p : Parts). p.now ≤ last_scn) (sym gone.left) (fold-sound (opening s) gone.events (opening-sound s sound follow.opened) gone.legal).last
 
   place-is : at_home (replicate (length (ledger s).files) None) q.files ≡ t.instance.place
-  place-is =
-      ap (λ n. at_home (replicate n None) q.files) many
-      ∙ ap (λ (p : Parts). at_home (replicate (length t.instance.place) None) p.files) parts
-      ∙ home t.instance.place from
+  place-is = (λ i. at_home (replicate (many i) None) (parts i).files) ∙ home t.instance.place from
 
   catalog-is : risen s.catalog q.now ≡ t.catalog
   catalog-is =
-      ap (λ (p : Parts). risen s.catalog p.now) parts
-      ∙ risen-all s gone.events goes (λ some. let few = few-writes jobs writers w gone.events gone.these in follow.marked (omega (arith, some, few)))
+      ap (λ (p : Parts). risen s.catalog p.now) parts ∙ risen-all s gone.events goes (λ some. follow.marked (omega (arith, some, few-writes jobs writers w gone.events gone.these)))
 
   state-is : (u : State) → IsReturned s q u → u ≡ t
   state-is u is =
       let kept = after-all s gone.events in
-      same u t (is.catalog ∙ catalog-is) (is.mode ∙ sym kept.mode) (is.point ∙ sym kept.point) (is.place ∙ place-is) (is.logs ∙ ap (λ (p : Parts). p.logs) parts)
+      let logs = is.logs ∙ ap (λ (p : Parts). p.logs) parts in
+      λ i. record {
+        catalog = (is.catalog ∙ catalog-is) i;
+        instance = record { is_open = (is.mode ∙ sym kept.mode) i; point = (is.point ∙ sym kept.point) i; place = (is.place ∙ place-is) i; logs = logs i };
+      }
 
   pub returned : (u : State) → IsReturned s q u → HasRunLive s jobs writers u w
   returned u is = record {

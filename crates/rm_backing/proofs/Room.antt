@@ -1,8 +1,9 @@
 -- What a BACKUP that was not refused has for its channels and writers.
-use Rattle.std.proofs.Common.{◌≡◌, ◌<◌, ◌≤◌, ◌+◌, ◌-◌, ◌∙◌, ◌==◌, inl, inr, ℕ, zero, suc, List, [], ◌∷◌, Option, Some, None, Bool, true, false, cond, is_none, nat_le, refl, ap, sym, subst, arith, filter, find, length, map, All, IsSome, slice_get}
+use Rattle.std.proofs.Common.{◌≡◌, ◌<◌, ◌≤◌, ◌+◌, ◌-◌, ◌∙◌, ◌==◌, ℕ, zero, suc, List, [], ◌∷◌, Option, Some, None, Bool, true, false, cond, nat_le, refl, ap, sym, subst, arith, filter, find, length, map, All, IsSome, slice_get}
 use Rattle.std.specs.List.{filter_map}
 use Rattle.std.specs.Option.{option_map, option_map_or}
-use Rattle.std.proofs.lemmas.Bool.{cases_eq, cases_lt, eq-eqb, le-leb, lt-leb, ne_eqb}
+use Rattle.std.proofs.lemmas.Bool.{eq-eqb, ne_eqb}
+use Rattle.std.proofs.lemmas.Bool.Decides.{nat_tests}
 use Rattle.std.proofs.lemmas.List.{length-map}
 use Rattle.std.proofs.lemmas.List.Elements.{All-cons, All-filter, All-head, All-map, All-nil, All-tail, All-weaker}
 use Rattle.rm_base.specs.declared.block.Row.{Row}
@@ -19,7 +20,6 @@ use Rattle.rm_live.specs.Ruled.{one_if, total}
 use Rattle.rm_statement.specs.declared.command.BackupForm.{BackupForm}
 use Rattle.rm_statement.specs.declared.command.WriteForm.{WriteForm}
 use Rattle.rm_machine.specs.Backup.{AreJobs, rows_in}
-use Rattle.rm_machine.specs.Marks.{marks_before, with_marks}
 use Rattle.rm_machine.specs.Sound.{IsPlaced, IsSound}
 use Rattle.rm_machine.specs.declared.job.Job.{Job}
 use Rattle.rm_machine.specs.declared.state.State.{State}
@@ -31,6 +31,7 @@ use Rattle.rm_machine.specs.Asked.{FitsNumbers, by_thread, lists_from, span_of, 
 use Rattle.rm_machine.specs.Events.{opening, standing_in}
 use Rattle.rm_machine.specs.BackupOutcome.{marked}
 use Rattle.rm_machine.proofs.BackupAccepted.{CanBeWritten, CanBackUp}
+use Rattle.rm_machine.proofs.BackupMarks.{marked-same}
 use Rattle.rm_backing.proofs.Files.{numbered}
 
 -- The datafiles that stand in place
@@ -41,20 +42,18 @@ found-at : (f : ℕ) (place : List (Option File)) (n k : ℕ) (x : File) → f �
 found-at f [] n k x number home is = absurd (cc)
 found-at f (None ∷ place) n zero x number home is = absurd (let e : Some None ≡ Some (Some x) = is in cc)
 found-at f (None ∷ place) n (suc k) x number home is =
-    found-at f place (suc n) k x (omega (arith, number)) (λ j y at. let here = home (suc j) y at in omega (arith, here)) is
+    found-at f place (suc n) k x (omega (arith, number)) (λ j y at. omega (arith, home (suc j) y at)) is
 found-at f (Some y ∷ place) n zero x number home is =
-    let here : y.file ≡ n + 0 = home 0 y refl in
     let same : Some y ≡ Some x = (let e : Some (Some y) ≡ Some (Some x) = is in cc) in
-    ap (λ t. cond t (Some y) (find (λ (z : File). z.file == f) (filter_map (λ o. o) place))) (eq-eqb y.file f (omega (arith, here, number))) ∙ same
+    ap (λ t. cond t (Some y) (find (λ (z : File). z.file == f) (filter_map (λ o. o) place))) (eq-eqb y.file f (omega (arith, home 0 y refl, number))) ∙ same
 found-at f (Some y ∷ place) n (suc k) x number home is =
-    let here : y.file ≡ n + 0 = home 0 y refl in
-    ap (λ t. cond t (Some y) (find (λ (z : File). z.file == f) (filter_map (λ o. o) place))) (ne_eqb y.file f (λ e. omega (arith, here, number, e)))
-    ∙ found-at f place (suc n) k x (omega (arith, number)) (λ j z at. let there = home (suc j) z at in omega (arith, there)) is
+    ap (λ t. cond t (Some y) (find (λ (z : File). z.file == f) (filter_map (λ o. o) place))) (ne_eqb y.file f (λ e. omega (arith, home 0 y refl, number, e)))
+    ∙ found-at f place (suc n) k x (omega (arith, number)) (λ j z at. omega (arith, home (suc j) z at)) is
 
 pub file-found : (s : State) (f : ℕ) (x : File) → IsSound s → 0 < f → placed s f ≡ Some x → find (λ (y : File). y.file == f) (standing_in s) ≡ Some x
 file-found s f x sound some is =
     found-at f s.instance.place 1 (f - 1) x (omega (arith, some))
-    (λ j y at. let it = (placed-is s j y sound.place (index-get s.instance.place j y at)).file in omega (arith, it))
+    (λ j y at. omega (arith, (placed-is s j y sound.place (index-get s.instance.place j y at)).file))
     (get-index s.instance.place (f - 1) x is)
 
 -- a datafile of the database in place has as many rows as it has blocks
@@ -67,10 +66,7 @@ rows-many s f d x sound opened known is =
 number-fits : (s : State) (w : WriteForm) → IsSound s → CanBeWritten s w → FitsNumbers w
 number-fits s w sound can =
     let n = numbered s w.file can.datafile sound can.is in
-    let most = n.most in
-    let block = can.block in
-    let blocks = n.blocks in
-    (omega (arith, most), omega (arith, block, blocks))
+    (omega (arith, n.most), omega (arith, can.block, n.blocks))
 
 pub fits-numbers : (s : State) (b : BackupForm) → IsSound s → CanBackUp s b → All FitsNumbers (writes_in b)
 fits-numbers s b sound can = All-weaker (CanBeWritten s) FitsNumbers (λ w is. number-fits s w sound is) (writes_in b) can.writes
@@ -79,8 +75,7 @@ block-found : (s : State) (w : WriteForm) → IsSound s → s.instance.is_open �
 block-found s w sound opened can =
     let n = numbered s w.file can.datafile sound can.is in
     let many = rows-many s w.file can.datafile can.file sound opened n.is can.stands in
-    let inside = can.block in
-    let row : (r : Row) × (slice_get can.file.rows w.block ≡ Some r) = item-at can.file.rows w.block (omega (arith, many, inside)) in
+    let row : (r : Row) × (slice_get can.file.rows w.block ≡ Some r) = item-at can.file.rows w.block (omega (arith, many, can.block)) in
     let is : row_at (standing_in s) w.file w.block ≡ Some row.0 =
     ap (λ o. option_map_or (λ (x : File). slice_get x.rows w.block) o None) (file-found s w.file can.file sound n.some can.stands) ∙ row.1 in
     subst (λ (o : Option Row). IsSome o) (sym is) refl
@@ -98,9 +93,8 @@ lists-all P t (suc n) ws all =
 threads-from : (s : State) (ws : List WriteForm) (t n : ℕ) → IsSound s → s.instance.is_open ≡ true → 0 < t → t + n ≤ (ledger s).base.threads + 1 → AreThreads s.instance.logs t (lists_from t n ws)
 threads-from s ws t zero sound opened low high = tt
 threads-from s ws t (suc n) sound opened low high =
-    let many = sound.logs.threads in
     let found : is_lost s.instance.logs t ≡ false = (sound.in_open opened).found t low (omega (arith, high)) in (
-      (λ some. ((low, omega (arith, high, many)), (λ lost. let clash : true ≡ false = sym lost ∙ found in absurd (cc)))),
+      (λ some. ((low, omega (arith, high, sound.logs.threads)), (λ lost. let clash : true ≡ false = sym lost ∙ found in absurd (cc)))),
       threads-from s ws (suc t) n sound opened (omega arith) (omega (arith, high)),
     )
 
@@ -115,78 +109,52 @@ room-from s b t (suc n) can low high = (can.logs t low (omega (arith, high)), ro
 abbrev from_thread : ℕ → List WriteForm → ℕ
 from_thread t ws = length (filter (λ (w : WriteForm). nat_le t w.thread) ws)
 
-one-more : (p : WriteForm → Bool) (w : WriteForm) (ws : List WriteForm) (t : Bool) → p w ≡ t → length (filter p (w ∷ ws)) ≡ one_if t + length (filter p ws)
-one-more p w ws true is = let e : length (filter p (w ∷ ws)) ≡ suc (length (filter p ws)) = ap (λ t. length (cond t (w ∷ filter p ws) (filter p ws))) is in omega (arith, e)
-one-more p w ws false is = let e : length (filter p (w ∷ ws)) ≡ length (filter p ws) = ap (λ t. length (cond t (w ∷ filter p ws) (filter p ws))) is in omega (arith, e)
+one-more : (p : WriteForm → Bool) (w : WriteForm) (ws : List WriteForm) → length (filter p (w ∷ ws)) ≡ one_if (p w) + length (filter p ws)
+one-more p w ws = by (p w)
+  where
+    by : (t : Bool) → length (cond t (w ∷ filter p ws) (filter p ws)) ≡ one_if t + length (filter p ws)
+    by true = omega arith
+    by false = omega arith
 
 -- one write is by one thread
 once : (u t : ℕ) → one_if (u == t) + one_if (nat_le (suc t) u) ≤ one_if (nat_le t u)
-once u t = elim (cases_lt u t) [
-  | inl below ↦
-      let a = ap one_if (ne_eqb u t (λ e. omega (arith, e, below))) in
-      let b = ap one_if (lt-leb (suc t) u (omega (arith, below))) in
-      omega (arith, a, b)
-  | inr above ↦ elim (cases_eq u t) [
-    | inl same ↦
-        let a = ap one_if (eq-eqb u t same) in
-        let b = ap one_if (lt-leb (suc t) u (omega (arith, same))) in
-        let c = ap one_if (le-leb t u above) in
-        omega (arith, a, b, c)
-    | inr other ↦
-        let a = ap one_if (ne_eqb u t other) in
-        let b = ap one_if (le-leb (suc t) u (omega (arith, above, other))) in
-        let c = ap one_if (le-leb t u above) in
-        omega (arith, a, b, c)
-  ]
-]
+once u t = grind (arith, nat_tests)
 
 by-or-from : (t : ℕ) (ws : List WriteForm) → length (filter (λ (w : WriteForm). w.thread == t) ws) + from_thread (suc t) ws ≤ from_thread t ws
 by-or-from t [] = omega arith
 by-or-from t (w ∷ ws) =
     let rest = by-or-from t ws in
-    let a = one-more (λ (w : WriteForm). w.thread == t) w ws (w.thread == t) refl in
-    let b = one-more (λ (w : WriteForm). nat_le (suc t) w.thread) w ws (nat_le (suc t) w.thread) refl in
-    let c = one-more (λ (w : WriteForm). nat_le t w.thread) w ws (nat_le t w.thread) refl in
-    let one = once w.thread t in
-    omega (arith, rest, a, b, c, one)
+    let a = one-more (λ (w : WriteForm). w.thread == t) w ws in
+    let b = one-more (λ (w : WriteForm). nat_le (suc t) w.thread) w ws in
+    let c = one-more (λ (w : WriteForm). nat_le t w.thread) w ws in
+    omega (arith, rest, a, b, c, once w.thread t)
 
 total-from : (t n : ℕ) (ws : List WriteForm) → total length (lists_from t n ws) ≤ from_thread t ws
 total-from t zero ws = omega arith
 total-from t (suc n) ws =
-    let rest = total-from (suc t) n ws in
-    let more = by-or-from t ws in
     let first : length (by_thread t ws) ≡ length (filter (λ (w : WriteForm). w.thread == t) ws) = length-map (filter (λ (w : WriteForm). w.thread == t) ws) write_job in
-    omega (arith, rest, more, first)
-
-at-most-one : (t : Bool) → one_if t ≤ 1
-at-most-one true = omega arith
-at-most-one false = omega arith
+    omega (arith, total-from (suc t) n ws, by-or-from t ws, first)
 
 kept-few : (p : WriteForm → Bool) (ws : List WriteForm) → length (filter p ws) ≤ length ws
 kept-few p [] = omega arith
-kept-few p (w ∷ ws) =
-    let rest = kept-few p ws in
-    let first = one-more p w ws (p w) refl in
-    let one = at-most-one (p w) in
-    omega (arith, rest, first, one)
+kept-few p (w ∷ ws) = by (p w) (kept-few p ws)
+  where
+    by : (t : Bool) → length (filter p ws) ≤ length ws → length (cond t (w ∷ filter p ws) (filter p ws)) ≤ suc (length ws)
+    by true rest = omega (arith, rest)
+    by false rest = omega (arith, rest)
 
 -- the lists of all threads have no more writes than there are
 pub total-few : (s : State) (b : BackupForm) → total length (writers_of s b) ≤ length (writes_in b)
 total-few s b =
-    let some = total-from 1 (ledger s).base.threads (writes_in b) in
-    let all = kept-few (λ (w : WriteForm). nat_le 1 w.thread) (writes_in b) in
-    omega (arith, some, all)
+    omega (arith, total-from 1 (ledger s).base.threads (writes_in b), kept-few (λ (w : WriteForm). nat_le 1 w.thread) (writes_in b))
 
 pub room-writes : (s : State) (b : BackupForm) → IsSound s → CanBackUp s b → CanWrite (opening s) (writers_of s b)
-room-writes s b sound can =
-    let few = total-few s b in
-    let scns = can.scns in
-    record {
-      blocks = lists-all (HasBlock (standing_in s)) 1 (ledger s).base.threads (writes_in b)
-          (All-weaker (CanBeWritten s) (λ w. HasBlock (standing_in s) (write_job w)) (λ w is. block-found s w sound can.opened is) (writes_in b) can.writes);
-      logs = room-from s b 1 (ledger s).base.threads can (omega arith) (omega arith);
-      scns = omega (arith, few, scns);
-    }
+room-writes s b sound can = record {
+  blocks = lists-all (HasBlock (standing_in s)) 1 (ledger s).base.threads (writes_in b)
+      (All-weaker (CanBeWritten s) (λ w. HasBlock (standing_in s) (write_job w)) (λ w is. block-found s w sound can.opened is) (writes_in b) can.writes);
+  logs = room-from s b 1 (ledger s).base.threads can (omega arith) (omega arith);
+  scns = omega (arith, total-few s b, can.scns);
+}
 
 lists-many : (t n : ℕ) (ws : List WriteForm) → length (lists_from t n ws) ≡ n
 lists-many t zero ws = refl
@@ -195,8 +163,7 @@ lists-many t (suc n) ws = ap (λ k. suc k) (lists-many (suc t) n ws)
 pub few-writers : (s : State) (b : BackupForm) → IsSound s → (length (writers_of s b) ≡ (ledger s).base.threads) × (length (writers_of s b) ≤ 4)
 few-writers s b sound =
     let many = lists-many 1 (ledger s).base.threads (writes_in b) in
-    let most = sound.catalog.ledger.base.threads.1 in
-    (many, omega (arith, many, most))
+    (many, omega (arith, many, sound.catalog.ledger.base.threads.1))
 
 -- The datafiles that are copied
 
@@ -224,26 +191,12 @@ jobs-taken s b jobs sound can are = All-weaker (IsReadyToRead s) (λ (j : Job). 
 
 -- With the mark that comes before the writes
 
-opening-by : (s : State) (t : Bool) → opening (cond t s (record s { catalog = with_marks s.catalog (marks_before s) })) ≡ opening s
-opening-by s true = refl
-opening-by s false = refl
-
-pub opening-marked : (s : State) (b : BackupForm) → opening (marked s b) ≡ opening s
-opening-marked s b = opening-by s (is_none b.during)
-
-writers-by : (s : State) (b : BackupForm) (t : Bool) → writers_of (cond t s (record s { catalog = with_marks s.catalog (marks_before s) })) b ≡ writers_of s b
-writers-by s b true = refl
-writers-by s b false = refl
-
-pub writers-marked : (s : State) (b : BackupForm) → writers_of (marked s b) b ≡ writers_of s b
-writers-marked s b = writers-by s b (is_none b.during)
-
 pub marked-threads : (s : State) (b : BackupForm) → IsSound s → CanBackUp s b → AreThreads (opening (marked s b)).logs 1 (writers_of s b)
-marked-threads s b sound can = subst (λ (p : Parts). AreThreads p.logs 1 (writers_of s b)) (sym (opening-marked s b)) (room-threads s b sound can)
+marked-threads s b sound can = subst (λ (p : Parts). AreThreads p.logs 1 (writers_of s b)) (sym (marked-same opening s b refl)) (room-threads s b sound can)
 
 pub marked-writes : (s : State) (b : BackupForm) → IsSound s → CanBackUp s b → CanWrite (opening (marked s b)) (writers_of s b)
-marked-writes s b sound can = subst (λ (p : Parts). CanWrite p (writers_of s b)) (sym (opening-marked s b)) (room-writes s b sound can)
+marked-writes s b sound can = subst (λ (p : Parts). CanWrite p (writers_of s b)) (sym (marked-same opening s b refl)) (room-writes s b sound can)
 
 pub marked-there : (s : State) (b : BackupForm) (jobs : List Job) (js : List CopyJob) → IsSound s → CanBackUp s b → AreJobs s b jobs → map whole js ≡ map (span_of s) jobs → All (IsThere (opening (marked s b)).files) js
 marked-there s b jobs js sound can are spans =
-    subst (λ (p : Parts). All (IsThere p.files) js) (sym (opening-marked s b)) (room-there s jobs js sound (jobs-taken s b jobs sound can are) spans)
+    subst (λ (p : Parts). All (IsThere p.files) js) (sym (marked-same opening s b refl)) (room-there s jobs js sound (jobs-taken s b jobs sound can are) spans)

@@ -1,16 +1,13 @@
 -- The datafiles that a backup takes, one after another.
-use Rattle.std.proofs.Common.{◌≡◌, ◌<◌, ◌≤◌, ◌+◌, ◌-◌, ◌*◌, ◌∙◌, ℕ, zero, suc, List, [], ◌∷◌, Some, None, Bool, true, false, cond, refl, ap, arith, length, get_or, drop, find, is_none, sum_by, slice_get}
-use Rattle.std.specs.Option.{option_map_or}
-use Rattle.std.proofs.lemmas.Bool.{ne_eqb}
+use Rattle.std.proofs.Common.{◌≡◌, ◌<◌, ◌≤◌, ◌+◌, ◌*◌, ◌∙◌, ℕ, zero, suc, List, [], ◌∷◌, Some, Bool, true, false, cond, refl, ap, arith, length, get_or, drop, find, is_none, sum_by}
 use Rattle.std.proofs.lemmas.List.Elements.{All-get_or}
 use Rattle.std.proofs.lemmas.List.Sums.{sum_by-cons}
 use Rattle.std.proofs.lemmas.Option.{slice_get-get_or}
 use Rattle.rm_statement.specs.declared.command.BackupForm.{BackupForm}
 use Rattle.rm_history.specs.declared.world.Datafile.{Datafile}
-use Rattle.rm_history.specs.declared.world.World.{World}
-use Rattle.rm_history.specs.World.{file_of}
 use Rattle.rm_ledger.specs.Facts.{IsCreated}
 use Rattle.rm_machine.specs.Backup.{is_taken, piece_bytes, taken_from}
+use Rattle.rm_machine.proofs.Numbers.{blocks-at}
 use Rattle.rm_machine.specs.Sound.{IsSound}
 use Rattle.rm_machine.specs.declared.state.State.{State}
 use Rattle.rm_machine.specs.State.{ledger, placed, tree, world}
@@ -46,17 +43,11 @@ lost-next s b k d t inside is found = ap (find lost) (taken-next s b (k + 1) (le
 abbrev pub no_datafile : Datafile
 no_datafile = record { inc = 0; creation = 0; blocks = 0 }
 
--- the datafile at place k has the number k + 1
-file-at : (w : World) (k : ℕ) (d : Datafile) → slice_get w.files k ≡ Some d → file_of w (k + 1) ≡ Some d
-file-at w k d is =
-    let back : k + 1 - 1 ≡ k = omega arith in
-    ap (λ t. cond t None (slice_get w.files (k + 1 - 1))) (ne_eqb (k + 1) 0 (λ e. omega (arith, e))) ∙ ap (slice_get w.files) back ∙ is
-
 -- the size of the piece of the datafile at place k
 bytes-at : (s : State) (k : ℕ) (d : Datafile) → k < length (ledger s).files → piece_bytes s (k + 1) ≡ 82 + 76 * (get_or (ledger s).files k d).blocks
 bytes-at s k d inside =
-    ap (λ o. 82 + 76 * option_map_or (λ (x : Datafile). x.blocks) o 0)
-    (file-at (world s) k (get_or (ledger s).files k d) (slice_get-get_or (ledger s).files k d inside))
+    let number : k + 1 ≡ 1 + k = omega arith in
+    ap (piece_bytes s) number ∙ ap (λ n. 82 + 76 * n) (blocks-at (world s) k (get_or (ledger s).files k d) (slice_get-get_or (ledger s).files k d inside))
 
 -- the sum of their sizes, one datafile on
 pub bytes-next : (s : State) (b : BackupForm) (k : ℕ) (d : Datafile) (t : Bool) → k < length (ledger s).files → is_taken s b (k + 1) (get_or (ledger s).files k d) ≡ t
@@ -71,17 +62,5 @@ bytes-next s b k d t inside is = ap (sum_by (piece_bytes s)) (taken-next s b (k 
     by false = omega arith
 
 -- each datafile has 65,536 blocks at most
-created-at : (s : State) (k : ℕ) (d : Datafile) → IsSound s → k < length (ledger s).files → IsCreated (tree s) (get_or (ledger s).files k d)
-created-at s k d sound inside = All-get_or (IsCreated (tree s)) (ledger s).files k d inside sound.catalog.ledger.datafiles.each
-
 pub blocks-few : (s : State) (k : ℕ) (d : Datafile) → IsSound s → k < length (ledger s).files → (get_or (ledger s).files k d).blocks ≤ 65536
-blocks-few s k d sound inside = (created-at s k d sound inside).blocks.1
-
--- and was created at an SCN
-pub creation-some : (s : State) (k : ℕ) (d : Datafile) → IsSound s → k < length (ledger s).files → 0 < (get_or (ledger s).files k d).creation
-creation-some s k d sound inside =
-    let at = created-at s k d sound inside in
-    let range = sound.catalog.ledger.incarnations.ranges (get_or (ledger s).files k d).inc at.there in
-    let low = range.0 in
-    let from = at.creation.0 in
-    omega (arith, low, from)
+blocks-few s k d sound inside = (All-get_or (IsCreated (tree s)) (ledger s).files k d inside sound.catalog.ledger.datafiles.each).blocks.1

@@ -20,7 +20,5 @@ lists-next n ws vs v before one =
     let next : 1 + n ≡ n + 1 = omega arith in
     let more : suc n ≡ n + 1 = omega arith in
     map_push (λ (u : Vec WriteJob Global). u.items) vs v
-    ∙ ap (λ xs. xs ++ v.items ∷ []) before
-    ∙ ap (λ x. lists_from 1 n ws ++ x ∷ []) (one ∙ ap (λ k. by_thread k ws) (sym next))
-    ∙ sym (lists-last 1 n ws)
-    ∙ ap (λ k. lists_from 1 k ws) more
+    ∙ (λ i. before i ++ (one ∙ ap (λ k. by_thread k ws) (sym next)) i ∷ [])
+    ∙ sym (lists-last 1 n ws) ∙ ap (λ k. lists_from 1 k ws) more

@@ -1,12 +1,15 @@
 //! BACKUP of datafiles, while the database may write.
-ghost use Rattle.std.specs.Prelude.{◌≡◌, ◌≤◌, ◌++◌, [], IfOk, None, OnOk, Option, false, length, map};
+ghost use Rattle.std.specs.Prelude.{◌≡◌, ◌≤◌, ◌++◌, List, [], IfOk, None, OnOk, Option, false, length, map};
 ghost use Rattle.rm_base.specs.Store.{Held};
 ghost use Rattle.rm_catalog.specs.Objects.{IsTag};
-ghost use Rattle.rm_channel.specs.Jobs.{lists};
+ghost use Rattle.rm_backing.specs.Running.{HasRunLive};
+ghost use Rattle.rm_channel.specs.Jobs.{lists, whole};
+ghost use Rattle.rm_channel.specs.declared.jobs.CopyJob.{CopyJob};
+ghost use Rattle.rm_machine.specs.Asked.{span_of, writers_of};
 ghost use Rattle.rm_machine.specs.MadePieces.{CanRecord, after_pieces, copied, piece_lines, pieces_put};
 ghost use Rattle.rm_machine.specs.BackupOutcome.{marked, write_lines};
 ghost use Rattle.rm_machine.specs.Hands.{Hands};
-ghost use Rattle.rm_machine.specs.Backup.{or_nothing};
+ghost use Rattle.rm_machine.specs.Backup.{AreJobs, or_nothing};
 ghost use Rattle.rm_machine.specs.BackupRefusal.{mark_count};
 ghost use Rattle.rm_machine.specs.Marks.{lacks_room};
 ghost use Rattle.rm_machine.specs.Sound.{IsSound};
@@ -22,7 +25,7 @@ use crate::pieces::{is_copy, piece_of, record_piece, tag_of};
 use crate::running::run_live;
 use rm_base::{NoMemory, Row, Scn, Seq, Text, ThreadNo};
 use rm_catalog::Edit;
-use rm_channel::Gate;
+use rm_channel::{Gate, Work};
 use rm_machine::facts::now;
 use rm_machine::marks::add_marks_before;
 use rm_machine::{Handed, Job, State};
@@ -43,6 +46,39 @@ fn mark(state: &mut State, edits: &mut Vec<Edit>, form: &BackupForm) -> Result<(
         add_marks_before(state, edits)?;
     }
     Ok(())
+}
+
+// Makes the copies of these jobs, and the writes of the DURING, behind its mark.
+fn run<G: Gate, R: Threads + Wait + Sync>(
+    rt: &R,
+    alloc: Global,
+    gate: &G,
+    channels: u32,
+    state: &mut State,
+    edits: &mut Vec<Edit>,
+    form: &BackupForm,
+    jobs: &[Job],
+) -> Result<Work, NoMemory>
+    requires sound { IsSound state.old }
+    requires channels { (1 ≤ channels) × (channels ≤ 16) }
+    requires accepted { refusal_of state.old (Backup form.now) ≡ None }
+    requires jobs { AreJobs state.old form.now jobs.now }
+    ensures ran { IfOk result (λ w. (copies : List CopyJob) × (map whole copies ≡ map (span_of state.old) jobs.now) × HasRunLive (marked state.old form.now) copies (writers_of state.old form.now) state.new w) }
+    ensures edits { OnOk result (EditsFollow edits.old.items edits.new.items state.old.catalog state.new.catalog) }
+{
+    let writers = writers_of(alloc, state, form)?;
+    let copies = copy_jobs(alloc, state, jobs)?;
+    mark(state, edits, form)?;
+    run_live(
+        rt,
+        alloc,
+        gate,
+        channels,
+        state,
+        edits,
+        copies.as_slice(),
+        writers.as_slice(),
+    )
 }
 
 // Records the pieces of these datafiles, of which these rows were read, one after another.
@@ -134,22 +170,11 @@ pub fn backup<G: Gate, R: Threads + Wait + Sync>(
 {
     let checkpoint = now(state);
     let tag = tag_of(alloc, form, state.catalog.base().moment)?;
-    let jobs = jobs(alloc, state, form)?;
-    let writers = writers_of(alloc, state, form)?;
-    let copies = copy_jobs(alloc, state, &jobs)?;
-    mark(state, edits, form)?;
-    let work = run_live(
-        rt,
-        alloc,
-        gate,
-        channels,
-        state,
-        edits,
-        copies.as_slice(),
-        writers.as_slice(),
-    )?;
+    let made = jobs(alloc, state, form)?;
+    let jobs = made.as_slice();
+    let work = run(rt, alloc, gate, channels, state, edits, form, jobs)?;
     let rows = work.rows.as_slice();
-    let mut handed = record_all(alloc, state, edits, form, &tag, checkpoint, &jobs, rows)?;
+    let mut handed = record_all(alloc, state, edits, form, &tag, checkpoint, jobs, rows)?;
     tell_none(&mut handed.lines)?;
     tell_writes(&mut handed.lines, work.scns.as_slice())?;
     Ok(handed)

@@ -1,4 +1,4 @@
-use Rattle.std.proofs.Common.{◌≡◌, ◌≤◌, ◌∙◌, Some, ap, arith, sym}
+use Rattle.std.proofs.Common.{◌≡◌, ◌∙◌, Some, ap, arith, sym}
 use Rattle.rm_machine.specs.Asked.{writes_in}
 use Rattle.rm_machine.specs.BackupRefusal.{lost_of}
 use Rattle.rm_backing.proofs.Refused.{lost-number}
@@ -10,5 +10,4 @@ overflow_cast-result c =
     let ws = writes_in c.args.form.now in
     let f = c.in-Some-lost_of.file in
     let is : lost_of s ws ≡ Some f = ap (lost_of s) (sym c.writes_in.ensures) ∙ sym c.lost_of.ensures ∙ c.in-Some-lost_of.is in
-    let most : f ≤ 64 = lost-number s ws f c.requires.sound c.requires.there is in
-    omega (arith, most)
+    omega (arith, lost-number s ws f c.requires.sound c.requires.there is)
