@@ -19,17 +19,12 @@ use Rattle.rm_evidence.specs.Gathered.{IsLogOf}
 use Rattle.rm_evidence.specs.Taking.{Extends, IsTold}
 use Rattle.rm_evidence.proofs.Extending.{extends-none, extends-one, extends-then, only-in}
 use Rattle.rm_evidence.proofs.Objects.{bad-one, not-both, one-log, told-one}
-use Rattle.rm_ledger.specs.Ledger.{Ledger, records_of}
 use Rattle.rm_objects.specs.Names.{log_name}
 use Rattle.rm_objects.specs.Objects.{HasLogFields, IsLogObject}
 use Rattle.rm_redo.specs.declared.log_file.LogFile.{LogFile}
 use Rattle.rm_redo.specs.LogFormat.{IsLogFile}
-use Rattle.rm_repository.proofs.Fitted.{many}
 use Rattle.rm_machine.specs.BackupLogs.{archived_in}
-use Rattle.rm_machine.specs.Sound.{IsSound}
 use Rattle.rm_machine.specs.Validate.{is_available}
-use Rattle.rm_machine.specs.declared.state.State.{State}
-use Rattle.rm_machine.specs.State.{ledger}
 use Rattle.rm_upkeep.specs.Logs.{Adds, AreRecorded, IsAll, IsRecorded, KeepsRecords}
 use Rattle.rm_upkeep.specs.declared.looking.Looked.{Looked}
 
@@ -87,14 +82,6 @@ module _ (held : Held) where
         | inr has ↦ inr (p.0, has, p.2, p.3)
       ]
 
-  skip-left : (rs qs : List Record) (id : ℕ) (bad : Bad) → IsSkipped held rs id bad → IsSkipped held (rs ++ qs) id bad
-  skip-left rs qs _ _ (a_log l bad has status is) = a_log l bad (Contains-append_left rs qs (Log l) has) status is
-  skip-left rs qs _ _ (a_piece p bad has status is) = a_piece p bad (Contains-append_left rs qs (Piece p) has) status is
-
-  skip-right : (rs qs : List Record) (id : ℕ) (bad : Bad) → IsSkipped held qs id bad → IsSkipped held (rs ++ qs) id bad
-  skip-right rs qs _ _ (a_log l bad has status is) = a_log l bad (Contains-append_right rs qs (Log l) has) status is
-  skip-right rs qs _ _ (a_piece p bad has status is) = a_piece p bad (Contains-append_right rs qs (Piece p) has) status is
-
   skip-part : (rs qs : List Record) (id : ℕ) (bad : Bad) → IsSkipped held (rs ++ qs) id bad → IsSkipped held rs id bad ⊎ IsSkipped held qs id bad
   skip-part rs qs _ _ (a_log l bad has status is) = elim (Contains-append_cases rs qs (Log l) has) [
     | inl here ↦ inl (a_log l bad here status is)
@@ -106,8 +93,10 @@ module _ (held : Held) where
   ]
 
   skip-join : (rs qs : List Record) (id : ℕ) (bad : Bad) → IsSkipped held rs id bad ⊎ IsSkipped held qs id bad → IsSkipped held (rs ++ qs) id bad
-  skip-join rs qs id bad (inl is) = skip-left rs qs id bad is
-  skip-join rs qs id bad (inr is) = skip-right rs qs id bad is
+  skip-join rs qs _ _ (inl (a_log l bad has status is)) = a_log l bad (Contains-append_left rs qs (Log l) has) status is
+  skip-join rs qs _ _ (inl (a_piece p bad has status is)) = a_piece p bad (Contains-append_left rs qs (Piece p) has) status is
+  skip-join rs qs _ _ (inr (a_log l bad has status is)) = a_log l bad (Contains-append_right rs qs (Log l) has) status is
+  skip-join rs qs _ _ (inr (a_piece p bad has status is)) = a_piece p bad (Contains-append_right rs qs (Piece p) has) status is
 
   skip-split : (rs qs : List Record) (id : ℕ) (bad : Bad) → (IsSkipped held rs id bad ⊎ IsSkipped held qs id bad) ↔ IsSkipped held (rs ++ qs) id bad
   skip-split rs qs id bad = (skip-join rs qs id bad, skip-part rs qs id bad)
@@ -179,20 +168,10 @@ module _ (held : Held) where
       record {
         found = subst (λ (rs : List Record). Extends LogFile (λ i j. i < j) first.found (IsLogOf held rs) new.found) (sym all)
             (extends-then (λ i j. i < j) (IsLogOf held (archived_in xs)) (IsLogOf held (archived_in (e ∷ []))) (IsLogOf held (archived_in xs ++ archived_in (e ∷ []))) first.found old.found new.found before.found one.found
-            (λ i j x y p q.
-            let o = log-at xs i x p in
-            let less = lower o.0 o.1 in
-            let here = o.2 in
-            let there = (log-of e j y q).number in
-            omega (arith, less, here, there)) (log-split (archived_in xs) (archived_in (e ∷ []))));
+            (λ i j x y p q. let o = log-at xs i x p in omega (arith, lower o.0 o.1, o.2, (log-of e j y q).number)) (log-split (archived_in xs) (archived_in (e ∷ []))));
         skipped = subst (λ (rs : List Record). Extends Bad (λ i j. i < j) first.skipped (IsSkipped held rs) new.skipped) (sym all)
             (extends-then (λ i j. i < j) (IsSkipped held (archived_in xs)) (IsSkipped held (archived_in (e ∷ []))) (IsSkipped held (archived_in xs ++ archived_in (e ∷ []))) first.skipped old.skipped new.skipped before.skipped one.skipped
-            (λ i j x y p q.
-            let o = skip-of xs i x p in
-            let less = lower o.0 o.1 in
-            let here = o.2 in
-            let there = (skipped-of e j y q).number in
-            omega (arith, less, here, there)) (skip-split (archived_in xs) (archived_in (e ∷ []))));
+            (λ i j x y p q. let o = skip-of xs i x p in omega (arith, lower o.0 o.1, o.2, (skipped-of e j y q).number)) (skip-split (archived_in xs) (archived_in (e ∷ []))));
       }
 
 -- what stands for an item past the end
@@ -202,15 +181,10 @@ no_log = record { id = 0; archived = false; inc = 0; thread = 0; sequence = 0; f
 -- an item before has a lower id
 earlier : (xs : List LogEntry) (i : ℕ) (e x : LogEntry) → AllPairs (λ l k. l.id < k.id) xs → i < length xs → e ≡ get_or xs i e → Contains (take i xs) x → x.id < e.id
 earlier xs i e x up inside is has =
-    let k = has.0 in
-    let long = length-take i xs in
-    let less = has.1 in
-    let before : k < i = omega arith in
-    let here : get_or xs k x ≡ x = sym (get_or-take i xs k x before) ∙ has.2 in
-    let low = up k i x before inside in
-    let first = ap (λ (l : LogEntry). l.id) here in
-    let second = ap (λ (l : LogEntry). l.id) (is ∙ get_or_default xs i e x inside) in
-    omega arith
+    let before : has.0 < i = omega (arith, has.1, length-take i xs) in
+    let here : get_or xs has.0 x ≡ x = sym (get_or-take i xs has.0 x before) ∙ has.2 in
+    let there = is ∙ get_or_default xs i e x inside in
+    omega (arith, up has.0 i x before inside, ap (λ (l : LogEntry). l.id) here, ap (λ (l : LogEntry). l.id) there)
 
 next-by : (o p : Option Held) (xs : List LogEntry) (i : ℕ) (e : LogEntry) (old new : Looked) → p ≡ o → AllPairs (λ l k. l.id < k.id) xs → i < length xs → e ≡ get_or xs i e
     → IfSome o (λ h. Adds h (take i xs) nothing old) → IfSome p (λ h. Adds h (e ∷ []) old new) → IfSome o (λ h. Adds h (take (i + 1) xs) nothing new)
@@ -246,37 +220,20 @@ whole-look h xs i looked within past adds =
     let ended : i ≡ length xs = omega arith in
     let all : take i xs ≡ xs = ap (λ (n : ℕ). take n xs) ended ∙ take-length xs in
     let is : Adds h xs nothing looked = subst (λ (ys : List LogEntry). Adds h ys nothing looked) all adds in
-    let found = is.found in
-    let skipped = is.skipped in
     record {
-      found = record { rest = found.rest; list = found.list; ascends = found.related; exact = found.exact };
-      skipped = record { rest = skipped.rest; list = skipped.list; ascends = skipped.related; exact = skipped.exact };
+      found = record { rest = is.found.rest; list = is.found.list; ascends = is.found.related; exact = is.found.exact };
+      skipped = record { rest = is.skipped.rest; list = is.skipped.list; ascends = is.skipped.related; exact = is.skipped.exact };
     }
 
 -- Which logs are recorded, whatever the store tells
 
-pub keeps-same : (e : LogEntry) (old new : Looked) → new.found ≡ old.found → KeepsRecords e old new
-keeps-same e old new same logs n has are =
-    let few = are.few in
-    subst (AreRecorded logs (n + 1)) (sym same) (record { each = are.each; few = omega (arith, few) })
-
 pub keeps-more : (e : LogEntry) (a : LogFile) (old new : Looked) → new.found ≡ old.found ++ (e.id, a) ∷ [] → IsLogFile a → HasLogFields e a → KeepsRecords e old new
 keeps-more e a old new same valid fields logs n has are =
-    let few = are.few in
     let x : ℕ × LogFile = (e.id, a) in
-    let one = length-append old.found (x ∷ []) in
     subst (AreRecorded logs (n + 1)) (sym same) (record {
       each = All-push (λ (y : ℕ × LogFile). IsRecorded logs y.1) old.found x are.each (e, has, valid, fields);
-      few = omega (arith, few, one);
+      few = omega (arith, are.few, length-append old.found (x ∷ []));
     })
 
 pub none-recorded : (logs : List LogEntry) (found : List (ℕ × LogFile)) → found ≡ [] → AreRecorded logs 0 found
 none-recorded logs found is = subst (AreRecorded logs 0) (sym is) (record { each = All-nil (λ (y : ℕ × LogFile). IsRecorded logs y.1); few = omega arith })
-
-pub few-recorded : (s : State) (n : ℕ) (found : List (ℕ × LogFile)) → IsSound s → n ≤ length (ledger s).logs → AreRecorded (ledger s).logs n found → AreRecorded (ledger s).logs 65536 found
-few-recorded s n found sound inside are =
-    let l : Ledger = ledger s in
-    let total = many l in
-    let most : length (records_of l) ≤ 65536 = sound.catalog.ledger.few in
-    let few = are.few in
-    record { each = are.each; few = omega (arith, total, most, inside, few) }

@@ -1,5 +1,5 @@
 -- Backups of logs under way: some logs are backed up, and the rest lead on from there.
-use Rattle.std.proofs.Common.{◌≡◌, ◌≤◌, ◌<◌, ◌+◌, ◌∙◌, ◌++◌, ◌==◌, true, false, ℕ, suc, List, [], ◌∷◌, Option, None, Some, refl, ap, sym, subst, arith, append_assoc, drop-cons, drop, get_or, length, map, All}
+use Rattle.std.proofs.Common.{◌≡◌, ◌≤◌, ◌<◌, ◌+◌, ◌∙◌, ◌++◌, ◌==◌, cond, false, ℕ, suc, List, [], ◌∷◌, Option, None, Some, refl, ap, sym, subst, arith, append_assoc, drop-cons, drop, get_or, length, map, All}
 use Rattle.std.specs.Option.{option_map_or}
 use Rattle.std.specs.Prelude.{IfSome}
 use Rattle.std.proofs.lemmas.Bool.{ne_eqb}
@@ -82,71 +82,48 @@ way-start s logs n edits x sound are accepted = record {
   removes = refl;
 }
 
--- the next one is valid, and its record fits
-pub next-valid : (s t : State) (logs rest : List (ℕ × LogFile)) (one : ℕ × LogFile) (before after : List Edit) (x y : Handed) → IsUnderWay s logs (one ∷ rest) before after x y t → IsLogFile one.1
-next-valid s t logs rest one before after x y way = (All-head (CanRecord t) one.1 (logs_in rest) way.all).valid
+-- the one at place k is the next
+module _ (s t : State) (logs : List (ℕ × LogFile)) (k : ℕ) (one : ℕ × LogFile) (inside : k < length logs) (is_one : one ≡ get_or logs k one) (before mid : List Edit) (first x : Handed) (way : IsUnderWay s logs (drop k logs) before mid first x t) where
+  abbrev rest : List (ℕ × LogFile)
+  rest = drop (k + 1) logs
 
-pub next-fits : (s t : State) (logs rest : List (ℕ × LogFile)) (one : ℕ × LogFile) (before after : List Edit) (x y : Handed) → IsUnderWay s logs (one ∷ rest) before after x y t → FitsNewLog t.catalog (copy_entry ((ledger t).base.next_id, one.1))
-next-fits s t logs rest one before after x y way = copy-fits t one.1 (length (logs_in rest)) way.sound (All-head (CanRecord t) one.1 (logs_in rest) way.all) way.room
+  here : IsUnderWay s logs (one ∷ rest) before mid first x t
+  here = subst (λ (ys : List (ℕ × LogFile)). IsUnderWay s logs ys before mid first x t) (rest-at logs k one inside is_one) way
 
--- one log on
-pub way-on : (s t q : State) (logs rest : List (ℕ × LogFile)) (one : ℕ × LogFile) (before mid after : List Edit) (first x y : Handed) → IsUnderWay s logs (one ∷ rest) before mid first x t
-    → q ≡ with_copy t one.1 → EditsFollow mid after t.catalog q.catalog → y.lines ≡ x.lines ++ copy_line ((ledger t).base.next_id, one.1) ∷ [] → y.objects ≡ x.objects ++ copy_object ((ledger t).base.next_id, one.1) ∷ [] → y.removes ≡ x.removes
-    → IsUnderWay s logs rest before after first y q
-way-on s t q logs rest one before mid after first x y way is follow lines objects removes =
-    let p : State = with_copy t one.1 in
-    let c : ℕ × LogFile = ((ledger t).base.next_id, one.1) in
-    let more = copies_of p (logs_in rest) in
-    subst (λ u. IsUnderWay s logs rest before after first y u) (sym is) (record {
-      sound = copy-sound t one.1 (length (logs_in rest)) way.sound (All-head (CanRecord t) one.1 (logs_in rest) way.all) way.room;
-      all = can-next t one.1 (logs_in rest) way.all;
-      room = room-next t one.1 (length (logs_in rest)) way.room;
-      state = way.state;
-      edits = follows-then before mid after s.catalog t.catalog p.catalog way.edits (subst (λ (u : State). EditsFollow mid after t.catalog u.catalog) is follow);
-      lines = ap (λ (ls : List Line). ls ++ map copy_line more) lines ∙ append_assoc x.lines (copy_line c ∷ []) (map copy_line more) ∙ way.lines;
-      objects = ap (λ (os : List Object). os ++ map copy_object more) objects ∙ append_assoc x.objects (copy_object c ∷ []) (map copy_object more) ∙ way.objects;
-      removes = removes ∙ way.removes;
-    })
+  can : CanRecord t one.1
+  can = All-head (CanRecord t) one.1 (logs_in rest) here.all
 
--- all are backed up
-pub record AreBackedUp (s : State) (logs : List (ℕ × LogFile)) (before after : List Edit) (first now : Handed) (t : State) : Type 0 where
-  pub state : t ≡ after_copies s (logs_in logs)
-  pub sound : IsSound t
-  pub edits : EditsFollow before after s.catalog t.catalog
-  pub lines : now.lines ≡ first.lines ++ map copy_line (copies_of s (logs_in logs))
-  pub objects : now.objects ≡ first.objects ++ map copy_object (copies_of s (logs_in logs))
-  pub removes : now.removes ≡ first.removes
+  -- it is valid, and its record fits
+  pub next-valid : IsLogFile one.1
+  next-valid = can.valid
 
-pub way-end : (s t : State) (logs rest : List (ℕ × LogFile)) (before after : List Edit) (x y : Handed) → rest ≡ [] → IsUnderWay s logs rest before after x y t → AreBackedUp s logs before after x y t
-way-end s t logs rest before after x y none way =
-    let ended : IsUnderWay s logs [] before after x y t = subst (λ (ys : List (ℕ × LogFile)). IsUnderWay s logs ys before after x y t) none way in
-    record {
-      state = ended.state;
-      sound = ended.sound;
-      edits = ended.edits;
-      lines = sym (append-nil y.lines) ∙ ended.lines;
-      objects = sym (append-nil y.objects) ∙ ended.objects;
-      removes = ended.removes;
-    }
+  pub next-fits : FitsNewLog t.catalog (copy_entry ((ledger t).base.next_id, one.1))
+  next-fits = copy-fits t one.1 (length (logs_in rest)) here.sound can here.room
+
+  -- one log on
+  pub way-on : (q : State) (after : List Edit) (y : Handed) → q ≡ with_copy t one.1 → EditsFollow mid after t.catalog q.catalog → y.lines ≡ x.lines ++ copy_line ((ledger t).base.next_id, one.1) ∷ []
+      → y.objects ≡ x.objects ++ copy_object ((ledger t).base.next_id, one.1) ∷ [] → y.removes ≡ x.removes → IsUnderWay s logs rest before after first y q
+  way-on q after y is follow lines objects removes =
+      let p : State = with_copy t one.1 in
+      let c : ℕ × LogFile = ((ledger t).base.next_id, one.1) in
+      let more = copies_of p (logs_in rest) in
+      coe 1 0 (i. IsUnderWay s logs rest before after first y (is i)) (record {
+        sound = copy-sound t one.1 (length (logs_in rest)) here.sound can here.room;
+        all = can-next t one.1 (logs_in rest) here.all;
+        room = room-next t one.1 (length (logs_in rest)) here.room;
+        state = here.state;
+        edits = follows-then before mid after s.catalog t.catalog p.catalog here.edits (coe 0 1 (i. EditsFollow mid after t.catalog (is i).catalog) follow);
+        lines = ap (λ (ls : List Line). ls ++ map copy_line more) lines ∙ append_assoc x.lines (copy_line c ∷ []) (map copy_line more) ∙ here.lines;
+        objects = ap (λ (os : List Object). os ++ map copy_object more) objects ∙ append_assoc x.objects (copy_object c ∷ []) (map copy_object more) ∙ here.objects;
+        removes = removes ∙ here.removes;
+      })
 
 -- The lines of the reply: that there is no log to back up is told behind the skipped ones
-
-pub is-none : (xs : List (ℕ × LogFile)) → (length xs == 0) ≡ true → xs ≡ []
-is-none [] is = refl
-is-none (x ∷ xs) is = absurd (let clash : false ≡ true = sym (ne_eqb (length (x ∷ xs)) 0 (λ e. absurd (omega (arith, e)))) ∙ is in cc)
-
-pub is-some : (xs : List (ℕ × LogFile)) → (length xs == 0) ≡ false → ¬ (xs ≡ [])
-is-some xs is none = let clash : true ≡ false = sym (ap (λ (ys : List (ℕ × LogFile)). length ys == 0) none) ∙ is in absurd cc
-
-pub lines-of-none : (s : State) (skipped : List (ℕ × Bad)) (found : List (ℕ × LogFile)) (mid lines : List Line) → found ≡ [] → mid ≡ skipped_lines skipped ++ NothingToBackUp ∷ [] → lines ≡ mid ++ map copy_line (copies_of s (logs_in found))
-    → lines ≡ skipped_lines skipped ++ or_nothing (map copy_line (copies_of s (logs_in found)))
-lines-of-none s skipped [] mid lines none first all = all ∙ append-nil mid ∙ first
-lines-of-none s skipped (x ∷ found) mid lines none first all = absurd (let clash : x ∷ found ≡ [] = none in cc)
-
-pub lines-of-some : (s : State) (skipped : List (ℕ × Bad)) (found : List (ℕ × LogFile)) (mid lines : List Line) → ¬ (found ≡ []) → mid ≡ skipped_lines skipped → lines ≡ mid ++ map copy_line (copies_of s (logs_in found))
-    → lines ≡ skipped_lines skipped ++ or_nothing (map copy_line (copies_of s (logs_in found)))
-lines-of-some s skipped [] mid lines some first all = absurd (some refl)
-lines-of-some s skipped (x ∷ found) mid lines some first all = all ∙ ap (λ (ls : List Line). ls ++ map copy_line (copies_of s (logs_in (x ∷ found)))) first
+lines-of : (s : State) (skipped : List (ℕ × Bad)) (found : List (ℕ × LogFile)) → (skipped_lines skipped ++ cond (length found == 0) (NothingToBackUp ∷ []) []) ++ map copy_line (copies_of s (logs_in found)) ≡ skipped_lines skipped ++ or_nothing (map copy_line (copies_of s (logs_in found)))
+lines-of s skipped [] = append-nil (skipped_lines skipped ++ NothingToBackUp ∷ [])
+lines-of s skipped (x ∷ found) =
+    let some : (length (x ∷ found) == 0) ≡ false = ne_eqb (length (x ∷ found)) 0 (λ e. absurd (omega (arith, e))) in
+    ap (λ ls. ls ++ map copy_line (copies_of s (logs_in (x ∷ found)))) (ap (λ b. skipped_lines skipped ++ cond b (NothingToBackUp ∷ []) []) some ∙ append-nil (skipped_lines skipped))
 
 -- no line of it tells a moment
 copies-dated : (xs : List (ℕ × LogFile)) → All LineHasDate (map copy_line xs)
@@ -155,9 +132,6 @@ copies-dated (x ∷ xs) = All-cons LineHasDate (copy_line x) (map copy_line xs) 
 
 pub all-dated : (xs : List (ℕ × LogFile)) (mid lines : List Line) → All LineHasDate mid → lines ≡ mid ++ map copy_line xs → All LineHasDate lines
 all-dated xs mid lines dated is = subst (All LineHasDate) (sym is) (All-append LineHasDate mid (map copy_line xs) dated (copies-dated xs))
-
-pub none-dated : (lines mid : List Line) → All LineHasDate lines → mid ≡ lines ++ NothingToBackUp ∷ [] → All LineHasDate mid
-none-dated lines mid dated is = subst (All LineHasDate) (sym is) (All-append LineHasDate lines (NothingToBackUp ∷ []) dated (All-cons LineHasDate NothingToBackUp [] tt (All-nil LineHasDate)))
 
 -- What it hands out
 
@@ -172,10 +146,10 @@ module _ (held : Option Held) (s : State) (all : Looked) (told : IfSome held (λ
   abbrev comes_by : Option Refusal → Outcome
   comes_by o = option_map_or refused o (makes_copies s all.skipped (copies_of s logs))
 
-  pub copies-hands : (x : Handed) (t : State) → copies_refusal s logs ≡ None → x.lines ≡ skipped_lines all.skipped ++ or_nothing (map copy_line (copies_of s logs)) → x.objects ≡ map copy_object (copies_of s logs) → x.removes ≡ [] → t ≡ after_copies s logs → Hands held s BackupLogs x t
+  pub copies-hands : (x : Handed) (t : State) → copies_refusal s logs ≡ None → x.lines ≡ (skipped_lines all.skipped ++ cond (length all.found == 0) (NothingToBackUp ∷ []) []) ++ map copy_line (copies_of s logs) → x.objects ≡ map copy_object (copies_of s logs) → x.removes ≡ [] → t ≡ after_copies s logs → Hands held s BackupLogs x t
   copies-hands x t accepted lines objects removes is =
       hands-by held s BackupLogs x t (skipped_lines all.skipped ++ or_nothing (map copy_line (copies_of s logs))) (copying (copies_of s logs)) (after_copies s logs)
-      (λ store tells. let are = looked held told store tells in record { skipped = all.skipped; misses = are.skipped; found = all.found; finds = are.found; is = sym (ap comes_by accepted) }) lines objects removes is
+      (λ store tells. let are = looked held told store tells in record { skipped = all.skipped; misses = are.skipped; found = all.found; finds = are.found; is = sym (ap comes_by accepted) }) (lines ∙ lines-of s all.skipped all.found) objects removes is
 
   pub copies-refused : (r : Refusal) → copies_refusal s logs ≡ Some r → Refuses held s BackupLogs r
   copies-refused r is = λ store tells. let are = looked held told store tells in record { skipped = all.skipped; misses = are.skipped; found = all.found; finds = are.found; is = sym (ap comes_by is) }

@@ -22,9 +22,7 @@ few-between (m ∷ ms) low zero up each = let first = each m (in-front m ms) in 
 few-between (m ∷ ms) low (suc n) up each =
     let first = each m (in-front m ms) in
     let rest = few-between ms (low + 1) n (pairs-tail (λ (a b : ℕ). a < b) m ms up) (λ x has.
-    let more = pairs-head (λ (a b : ℕ). a < b) m ms x up has in
-    let most = (each x (behind m ms x has)).1 in
-    (omega (arith, more, first.0), omega (arith, most))) in
+    (omega (arith, pairs-head (λ (a b : ℕ). a < b) m ms x up has, first.0), omega (arith, (each x (behind m ms x has)).1))) in
     omega (arith, rest)
 
 module _ (ids : List ℕ) (each : (n : ℕ) → Contains ids n → IsId n) where

@@ -20,16 +20,12 @@ module _ (r : Repository) (rules : IsRepository r) where
   pub log-id : (e : LogEntry) → Contains r.ledger.logs e → IsId e.id
   log-id e has =
       let range = All-contains (λ (x : LogEntry). (1 ≤ x.id) × (x.id < r.ledger.base.next_id)) r.ledger.logs e rules.ledger.ids.logs has in
-      let below = range.1 in
-      let most = rules.ledger.base.next_id.1 in
-      (range.0, omega (arith, below, most))
+      (range.0, omega (arith, range.1, rules.ledger.base.next_id.1))
 
   pub piece-id : (p : PieceEntry) → Contains r.ledger.pieces p → IsId p.id
   piece-id p has =
       let range = All-contains (λ (x : PieceEntry). (1 ≤ x.id) × (x.id < r.ledger.base.next_id)) r.ledger.pieces p rules.ledger.ids.pieces has in
-      let below = range.1 in
-      let most = rules.ledger.base.next_id.1 in
-      (range.0, omega (arith, below, most))
+      (range.0, omega (arith, range.1, rules.ledger.base.next_id.1))
 
   -- what is there has such an id
   pub known-id : (n : ℕ) → is_unknown r n ≡ false → IsId n
@@ -45,7 +41,7 @@ module _ (r : Repository) (rules : IsRepository r) where
   pub large-unknown : (n : ℕ) → 4294967295 < n → is_unknown r n ≡ true
   large-unknown n large = elim (cases_Bool (is_unknown r n)) [
     | inl unknown ↦ unknown
-    | inr known ↦ let fits = (known-id n known).1 in absurd (omega (arith, fits, large))
+    | inr known ↦ absurd (omega (arith, (known-id n known).1, large))
   ]
 
 -- a statement on a record that is not refused

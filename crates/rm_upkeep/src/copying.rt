@@ -1,13 +1,15 @@
 //! BACKUP ARCHIVELOG ALL
-ghost use Rattle.std.specs.Prelude.{◌≡◌, ◌≤◌, ◌++◌, ◌∷◌, [], All, IfErr, IfOk, IsErrOf, None, OnOk, length, map, sum_by};
+ghost use Rattle.std.specs.Prelude.{◌≡◌, ◌≤◌, ◌++◌, ◌∷◌, [], All, IfErr, IfOk, IsErrOf, None, OnOk, if◌then◌else◌, length, map, sum_by, ◌==◌};
 ghost use Rattle.rm_base.specs.Outside.{Rose};
 ghost use Rattle.rm_machine.specs.BackupLogs.{copies_of, copies_refusal, copy_entry, copy_line, copy_object, file_bytes, with_copies};
 ghost use Rattle.rm_machine.specs.Hands.{Hands, Refuses};
+ghost use Rattle.rm_machine.specs.Recovery.{skipped_lines};
 ghost use Rattle.rm_machine.specs.Sound.{IsSound};
 ghost use Rattle.rm_machine.specs.State.{ledger};
 ghost use Rattle.rm_machine.specs.Upkeep.{with_catalog};
 ghost use Rattle.rm_redo.specs.LogFormat.{IsLogFile, spelling};
 ghost use Rattle.rm_report.specs.Reply.{HasDate, LineHasDate};
+ghost use Rattle.rm_report.specs.declared.line.Line.TheVariants.{NothingToBackUp};
 ghost use Rattle.rm_repository.specs.Changes.{EditsFollow, with_new_log};
 ghost use Rattle.rm_repository.specs.Fitting.{FitsNewLog};
 ghost use Rattle.rm_statement.specs.declared.command.Command.TheVariants.{BackupLogs};
@@ -16,7 +18,7 @@ ghost use Rattle.sha2.specs.Sha256.{sha256};
 
 use crate::looking::look;
 use rm_base::sealed::Encoded;
-use rm_base::{Limit, NoMemory, Refusal, Seq, Status, Store};
+use rm_base::{Bad, Limit, NoMemory, Refusal, Seq, Status, Store};
 use rm_catalog::{Edit, LogEntry};
 use rm_change::Object;
 use rm_machine::replies::skipped_lines;
@@ -156,6 +158,22 @@ fn back_up_all(
     Ok(())
 }
 
+// The lines before those of the backups: one for each log that is skipped, and that no log is backed up, where there is none.
+fn first_lines(
+    alloc: Global,
+    skipped: &[(u32, Bad)],
+    found: &[(u32, LogFile)],
+) -> Result<Seq<Line>, NoMemory>
+    ensures value { IfOk result (λ lines. lines ≡ skipped_lines skipped.now ++ (if length found.now == 0 then NothingToBackUp ∷ [] else [])) }
+    ensures dates { IfOk result (λ lines. All LineHasDate lines) }
+{
+    let mut lines = skipped_lines(alloc, skipped)?;
+    if found.is_empty() {
+        lines.push(Line::NothingToBackUp)?;
+    }
+    Ok(lines)
+}
+
 /// BACKUP ARCHIVELOG ALL, which the state alone does not refuse. A line tells each archived log that counts as
 /// available but whose object is missing or damaged; the others are backed up, ascending by id: each gets a second
 /// record under the next id, as a backup of a log, and a second object of the same bytes. Where so many records, bytes or
@@ -185,13 +203,10 @@ pub fn backup_logs<D: Store>(
         return Ok(Err(refusal));
     }
     let mut handed = Handed {
-        lines: skipped_lines(alloc, looked.skipped.as_slice())?,
+        lines: first_lines(alloc, looked.skipped.as_slice(), logs)?,
         objects: Seq::new(alloc),
         removes: Seq::new(alloc),
     };
-    if logs.is_empty() {
-        handed.lines.push(Line::NothingToBackUp)?;
-    }
     back_up_all(alloc, state, edits, &mut handed, logs)?;
     Ok(Ok(handed))
 }

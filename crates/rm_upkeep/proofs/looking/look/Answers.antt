@@ -27,7 +27,7 @@ loop-entry-preserved g c =
       adds = next-look (held c.args.store.now) (held c.loop-entry.store) logs i no_log c.loop-entry.looked c.look_at.new.looked was.same up c.loop-entry-test.true was.adds c.in_ok-look_at.ensures.adds;
       recorded = c.in_ok-look_at.ensures.recorded (ledger c.args.state.now).logs i (subst (λ (xs : List LogEntry). Contains xs (get_or logs i no_log)) all (Contains-get_or logs i no_log c.loop-entry-test.true)) was.recorded;
       same = c.look_at.ensures.same ∙ was.same;
-      never_falls = (let before = was.never_falls in let now = c.look_at.ensures.never_falls in omega (arith, before, now));
+      never_falls = omega (arith, was.never_falls, c.look_at.ensures.never_falls);
     }
 
 pub returns-clause-all : goal.returns-clause-all
