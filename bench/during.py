@@ -4,7 +4,8 @@
 TIMES is how many scripts (200), PROGRAM what runs them (./rman). A script has a BACKUP of level 0 and two of level 1,
 each with up to 60 writes by up to 4 threads. Its replies must be those of some legal order: the SCNs of a DURING are the ones
 from its checkpoint on, each once, and those of a thread ascend. Then the order is known, and with it each block below each
-SCN: a recovery until any of them, as a test, and each DUMP must tell just that."""
+SCN: a recovery until any of them, as a test, and each DUMP must tell just that. Before them one script fills the log of a
+thread to its last record by the writes of BACKUPs."""
 import random
 import re
 import subprocess
@@ -122,10 +123,37 @@ def check(program, seed, channels):
     return [thread for _, thread, *_ in model.changes]
 
 
+def check_last_record(program, channels):
+    """65,536 records are the most of a thread: a DURING takes the last ones, and one with a write too many is refused whole."""
+
+    def backup(*counts):
+        writes = "".join(f"WRITE THREAD {thread} DATAFILE 1 BLOCK 0 VALUE 'w'; " * count for thread, count in enumerate(counts, 1))
+        return f"BACKUP DATABASE DURING {{ {writes}}};\n"
+
+    refused = ["RM-11: limit log records 65536"]
+    turns = [([1000], None)] * 65 + [([535], None), ([2], refused), ([2, 3], refused), ([1, 3], None), ([1], refused), ([0, 1], None)]
+    script = "CREATE DATABASE THREADS 2;\nCREATE DATAFILE BLOCKS 1;\n" + "".join(backup(*counts) for counts, _ in turns)
+    wanted, now = ["database 1 incarnation 1 at 1", "datafile 1 created at 1 with 1 blocks"], 2
+    for counts, refusal in turns:
+        if refusal is None:
+            piece = sum(line.startswith("piece") for line in wanted) + 1
+            wanted.append(f"piece {piece} datafile 1 full checkpoint {now} rows 1 read 1")
+            wanted += [f"thread {thread} scn *" for thread, count in enumerate(counts, 1) for _ in range(count)]
+            now += sum(counts)
+        else:
+            wanted += refusal
+    with tempfile.TemporaryDirectory() as room:
+        words = [program, "--store", f"{room}/objects", "--catalog", f"{room}/catalog", "--channels", str(channels)]
+        done = subprocess.run(words, input=script.encode(), capture_output=True, check=False)
+    lines = [re.sub(r"(thread \d+ scn) \d+", r"\1 *", line) for line in done.stdout.decode().splitlines()]
+    assert done.returncode == 1 and lines == wanted, "the last record of a log"
+
+
 def main():
     times = int(sys.argv[1]) if len(sys.argv) > 1 else 200
     program = sys.argv[2] if len(sys.argv) > 2 else "./rman"
     for channels in (1, 4, 16):
+        check_last_record(program, channels)
         changed = 0
         for seed in range(times):
             try:

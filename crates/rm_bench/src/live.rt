@@ -1,5 +1,6 @@
 //! Turns of a live database, on so many threads at once, beside a plain lock round the same datafile.
-ghost use Rattle.std.specs.Prelude.{◌≡◌, ◌≤◌, IfOk, length};
+ghost use Rattle.std.specs.Prelude.{◌≡◌, ◌≤◌, ◌∷◌, [], IfOk, length};
+ghost use Rattle.rm_blocks.specs.File.{created};
 ghost use Rattle.rm_live.specs.Parts.{IsNumbered, IsSound, parts_of};
 ghost use Rattle.rm_live.specs.Ruled.{upto};
 
@@ -61,22 +62,26 @@ fn tell_turns<R: Print>(
     )
 }
 
-// A live database for four passes, and the first of them.
-fn open(alloc: Global) -> Result<(Live, Pass), NoMemory>
+/// A live database of datafile 1, of so many blocks, for four passes, and the first of them.
+pub fn open(alloc: Global, blocks: u32) -> Result<(Live, Pass), NoMemory>
+    requires { (1 ≤ blocks) × (blocks ≤ 65536) }
     ensures home { IfOk result (λ r. r.1.home ≡ r.0) }
     ensures numbers { IfOk result (λ r. r.1.numbers ≡ upto 0 4) }
+    ensures files { IfOk result (λ r. r.1.opening.files ≡ created 1 1 1 blocks ∷ []) }
 {
-    let database = database(alloc)?;
+    let database = database(alloc, blocks)?;
     Live::open(alloc, database, 4)
 }
 
-// Datafile 1 of two blocks, which was created at 1, and one redo thread.
-fn database(alloc: Global) -> Result<Database, NoMemory>
+// Datafile 1 of so many blocks, which was created at 1, and one redo thread.
+fn database(alloc: Global, blocks: u32) -> Result<Database, NoMemory>
+    requires { (1 ≤ blocks) × (blocks ≤ 65536) }
     ensures numbered { IfOk result (λ d. IsNumbered (parts_of d).files) }
     ensures sound { IfOk result (λ d. IsSound (parts_of d)) }
+    ensures files { IfOk result (λ d. (parts_of d).files ≡ created 1 1 1 blocks ∷ []) }
 {
     let mut files = Vec::new(alloc);
-    files.push(DataFile::empty(alloc, 1, 1, 1, 2)?)?;
+    files.push(DataFile::empty(alloc, 1, 1, 1, blocks)?)?;
     Ok(Database {
         inc: 1,
         now: 2,
@@ -92,7 +97,7 @@ fn by_passes<R: Threads + Wait + Clock + Sync>(
     threads: u32,
     count: u32,
 ) -> io::Result<Shortest<u32>> {
-    let (live, pass) = open(alloc).map_err(|_| AllocError)?;
+    let (live, pass) = open(alloc, 2).map_err(|_| AllocError)?;
     let start = Instant::now(rt)?;
     let made = match threads {
         1 => turns(rt, &live, pass, count),

@@ -1,10 +1,11 @@
 //! Runs each kernel beside a plain loop, makes and reads the bytes of a piece and of a log, makes a
 //! catalog's edits beside copies, plans made datafiles, reads scripts, steps WRITEs over no record and over
-//! many, and takes turns at a live database beside a plain lock: with no word it tells whether both gave the
-//! same, and with the word `large` it tells the times.
+//! many, takes turns at a live database beside a plain lock, and copies it by channels beside a plain loop: with no
+//! word it tells whether both gave the same, and with the word `large` it tells the times.
 #![tactic(auto)]
 
 mod catalog;
+mod copies;
 mod format;
 mod formats;
 mod kernel;
@@ -40,7 +41,8 @@ fn main(rt: HostRuntime) -> io::Result<()> {
     planning::run(&rt, large)?;
     script::run(&rt, large)?;
     writes::run(&rt, rt.alloc(), large)?;
-    live::run(&rt, rt.alloc(), large)
+    live::run(&rt, rt.alloc(), large)?;
+    copies::run(&rt, rt.alloc(), large)
 }
 
 fn run<K: Kernel>(rt: &HostRuntime, name: &str, large: bool) -> io::Result<()> {
