@@ -1,7 +1,7 @@
 #!/usr/bin/env bash
 # Tells the time of scripts from end to end: the shortest of five runs of each script, less the shortest of the same
-# script without the statements that are measured. Beside BACKUP and RECOVER of a database of 8 MB stands the shortest
-# of five runs of sha256sum on a file as long as the two pieces. Then the database is lost: beside its RESTORE and
+# script without the statements that are measured. Beside BACKUP, by 1, 2 and 4 channels, and RECOVER of a database of
+# 8 MB stands the shortest of five runs of sha256sum on a file as long as the two pieces. Then the database is lost: beside its RESTORE and
 # RECOVER, from a level 0 and a log of 65,536 records, stands sha256sum of these objects, and at last RECOVER from 1, 4
 # and 16 logs of 4,096 records each. Over 1, 4 and 16 level 1s of 4,096 blocks each, without a log, RECOVER and RECOVER COPY are sessions
 # of their own, less one that only shows the settings.
@@ -28,9 +28,10 @@ shortest() {
     echo "$best"
 }
 
+# With the number of channels, if there is one.
 run_script() {
     rm -rf "$place/objects" "$place/catalog"*
-    ./rman --store "$place/objects" --catalog "$place/catalog" < "$1"
+    ./rman --store "$place/objects" --catalog "$place/catalog" ${2:+--channels "$2"} < "$1"
 }
 
 database() {
@@ -46,6 +47,12 @@ backup=$(shortest run_script "$room/backup")
 recover=$(shortest run_script "$room/recover")
 digest=$(shortest sha256sum "$room/bytes")
 echo "backup: 131072 blocks in $((backup - none)) us, sha256sum of 9961636 bytes $digest us, $(((backup - none) * 100 / digest)) %"
+for channels in 2 4; do
+    by_channels=$(shortest run_script "$room/backup" "$channels")
+    recover_by=$(shortest run_script "$room/recover" "$channels")
+    echo "backup by $channels channels: 131072 blocks in $((by_channels - none)) us, $(((by_channels - none) * 100 / digest)) %"
+    echo "recover by $channels channels: 131072 blocks in $((recover_by - by_channels)) us, $(((recover_by - by_channels) * 100 / digest)) %"
+done
 echo "recover: 131072 blocks in $((recover - backup)) us, sha256sum of 9961636 bytes $digest us, $(((recover - backup) * 100 / digest)) %"
 
 # Writes number $1 to $2 - 1, over both datafiles.
