@@ -1,4 +1,4 @@
-//! How many channels a BACKUP has.
+//! How many channels a statement has: BACKUP, RECOVER and its test.
 ghost use Rattle.std.specs.Prelude.{◌≡◌, ◌≤◌, IfSome, unwrap_or};
 ghost use Rattle.rm_machine.specs.Sound.{IsSound};
 ghost use Rattle.rm_machine.specs.State.{ledger};

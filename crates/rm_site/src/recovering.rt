@@ -1,5 +1,5 @@
 //! RESTORE and RECOVER DATABASE, and what only tells of them: they look at what the store holds.
-ghost use Rattle.std.specs.Prelude.{◌≡◌, ◌≤◌, None, IfOk, IsErrOf};
+ghost use Rattle.std.specs.Prelude.{◌≡◌, ◌≤◌, None, IfOk, IfSome, IsErrOf};
 ghost use Rattle.rm_base.specs.Outside.{Rose};
 ghost use Rattle.rm_change.specs.declared.change.Stop.TheVariants.{StoreFault, KeeperFault};
 ghost use Rattle.rm_statement.specs.declared.command.Command.TheVariants.{Preview, Recover, RecoverTest, Restore};
@@ -10,6 +10,7 @@ ghost use Rattle.rm_machine.specs.Sound.{IsSound};
 ghost use Rattle.rm_site.specs.Comes.{IsAnswer};
 ghost use Rattle.rm_site.specs.Faults.{stop_of};
 
+use crate::channels::channel_count;
 use crate::statement::Answer;
 use rm_base::Store;
 use rm_change::Stop;
@@ -18,6 +19,7 @@ use rm_machine::State;
 use rm_recovery::{recover, recover_test, restore};
 use rm_statement::Until;
 use std::alloc::Global;
+use std::thread::Threads;
 
 /// The stop that a fault at what the store holds makes.
 pub(crate) fn stop_of(fault: EvidenceFault) -> Stop
@@ -31,12 +33,15 @@ pub(crate) fn stop_of(fault: EvidenceFault) -> Stop
 
 /// What RECOVER DATABASE comes to that the state does not refuse: it is done, or refused with the first gap. The
 /// catalog stays. After an error, which is a stop, nothing changed.
-pub(crate) fn bring_back<D: Store>(
+pub(crate) fn bring_back<R: Threads + Sync, D: Store>(
+    rt: &R,
     alloc: Global,
+    channels: Option<u32>,
     state: &mut State,
     store: &mut D,
     until: &Option<Until>,
 ) -> Result<Answer, Stop>
+    requires channels { IfSome channels (λ n. (1 ≤ n) × (n ≤ 16)) }
     requires sound { IsSound state.old }
     requires accepted { recover_refusal state.old until.now ≡ None }
     ensures answer { IfOk result (λ a. IsAnswer (D.held store.old) state.old (Recover until.now) a state.new) }
@@ -46,7 +51,8 @@ pub(crate) fn bring_back<D: Store>(
     ensures keeper { ¬ IsErrOf result KeeperFault }
     ensures never_falls { D.faults store.old ≤ D.faults store.new }
 {
-    match recover(alloc, state, store, until) {
+    let channels = channel_count(state, channels);
+    match recover(rt, alloc, channels, state, store, until) {
         Ok(Ok(handed)) => Ok(Answer::Done(handed)),
         Ok(Err(refusal)) => Ok(Answer::Refused(refusal)),
         Err(fault) => Err(stop_of(fault)),
@@ -54,13 +60,16 @@ pub(crate) fn bring_back<D: Store>(
 }
 
 /// What RECOVER DATABASE TEST comes to that the state does not refuse: it tells, or is refused with the first gap.
-pub(crate) fn test<D: Store>(
+pub(crate) fn test<R: Threads + Sync, D: Store>(
+    rt: &R,
     alloc: Global,
+    channels: Option<u32>,
     state: &State,
     store: &mut D,
     until: &Option<Until>,
     inc: Option<u64>,
 ) -> Result<Answer, Stop>
+    requires channels { IfSome channels (λ n. (1 ≤ n) × (n ≤ 16)) }
     requires sound { IsSound state.now }
     requires accepted { test_refusal state.now until.now inc ≡ None }
     ensures answer { IfOk result (λ a. IsAnswer (D.held store.old) state.now (RecoverTest until.now inc) a state.now) }
@@ -69,7 +78,8 @@ pub(crate) fn test<D: Store>(
     ensures keeper { ¬ IsErrOf result KeeperFault }
     ensures never_falls { D.faults store.old ≤ D.faults store.new }
 {
-    match recover_test(alloc, state, store, until, inc) {
+    let channels = channel_count(state, channels);
+    match recover_test(rt, alloc, channels, state, store, until, inc) {
         Ok(Ok(lines)) => Ok(Answer::Told(lines)),
         Ok(Err(refusal)) => Ok(Answer::Refused(refusal)),
         Err(fault) => Err(stop_of(fault)),

@@ -65,8 +65,10 @@ fn accepted<R: Threads + Wait + Sync, G: Gate, D: Store>(
     match command {
         Command::Restore { file, until } => put_back(alloc, state, store, *file, until),
         Command::Preview { until } => preview(alloc, state, store, until),
-        Command::Recover { until } => bring_back(alloc, state, store, until),
-        Command::RecoverTest { until, inc } => test(alloc, state, store, until, *inc),
+        Command::Recover { until } => bring_back(rt, alloc, channels, state, store, until),
+        Command::RecoverTest { until, inc } => {
+            test(rt, alloc, channels, state, store, until, *inc)
+        }
         Command::ValidateAll => validate(alloc, state, store),
         Command::Crosscheck { class } => check(alloc, state, store, edits, *class),
         Command::BackupLogs => back_up_logs(alloc, state, store, edits),

@@ -222,8 +222,8 @@ impl Site {
     /// reply too, and changes nothing. A refusal that the state decides is answered exactly where the state
     /// decides so, whatever the store and the keeper hold.
     ///
-    /// A BACKUP reads by `channels` channels, or by as many as are configured where none are asked for, and they and its writers
-    /// call the gate.
+    /// BACKUP and RECOVER go by `channels` channels, or by as many as are configured where none are asked for. Those of a BACKUP and
+    /// its writers call the gate.
     ///
     /// Each line of the reply has a text.
     ///
