@@ -2,11 +2,11 @@
 use crate::asked::{asked, asked_first};
 use crate::branches::{BLOCKS, END, catalog, evidence, incarnations, row_at};
 use crate::draws::Draws;
-use crate::fault::{Fault, differs};
 use crate::slow::{Target, plan_slowly};
 use rm_base::{BlockNo, FileNo, IncNo, Scn};
 use rm_catalog::Catalog;
 use rm_evidence::Evidence;
+use rm_harness::{Fault, differs};
 use rm_history::Tree;
 use rm_objects::has_database;
 use rm_plan::{Gap, PlanFault, Told};

@@ -1,11 +1,11 @@
 //! Made databases of four incarnations and two threads, each from one number: with a history, and with
 //! copies, level 1s and logs that tell of it.
 use crate::draws::Draws;
-use crate::fault::Fault;
 use crate::made::{base_entry, catalog_of, datafile, nothing, push_incarnation};
 use rm_base::{Block, BlockNo, Change, IncNo, Kind, NoMemory, Row, Scn, Seq, ThreadNo};
 use rm_catalog::{Catalog, IncarnationEntry};
 use rm_evidence::Evidence;
+use rm_harness::Fault;
 use rm_history::Tree;
 use rm_piece::{Piece, pick};
 use rm_redo::{LogFile, LogRecord};

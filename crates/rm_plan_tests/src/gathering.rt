@@ -1,5 +1,4 @@
 //! A catalog with logs and pieces, and objects that are there, missing or damaged.
-use crate::fault::{Fault, differs};
 use crate::made::catalog_of;
 use rm_base::sealed::digest_of;
 use rm_base::{
@@ -9,6 +8,7 @@ use rm_catalog::{
     BaseEntry, Catalog, DatafileEntry, IncarnationEntry, LogEntry, MarkEntry, PieceEntry, Record,
 };
 use rm_evidence::{Evidence, EvidenceFault, InPlace, fits_place, gather};
+use rm_harness::{Fault, differs};
 use rm_objects::has_database;
 use rm_piece::{Piece, encode_piece, is_valid};
 use rm_redo::{LogFile, encode_log, is_valid_log};

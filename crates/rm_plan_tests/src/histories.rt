@@ -2,9 +2,9 @@
 //! it at 2, or as thread 2 made it at 3.
 ghost use Rattle.std.specs.Prelude.{◌≡◌, ◌<◌, All, IfOk, length};
 
-use crate::fault::Fault;
-use crate::made::{log, rows};
+use crate::made::log;
 use rm_base::{Block, Change, NoMemory, Row, Scn, Seq, ThreadNo};
+use rm_harness::{Fault, rows};
 use rm_history::{Datafile, Tree, World};
 use rm_redo::{LogFile, LogRecord};
 use std::alloc::Global;

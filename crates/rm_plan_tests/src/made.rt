@@ -1,56 +1,11 @@
 //! Catalogs and artefacts of datafile 1, as the worked rows make them.
-use crate::fault::{Fault, differs};
-use crate::table::numbers;
-use rm_base::{Block, IncNo, Kind, NoMemory, Policy, Row, Scn, Seq, ThreadNo};
+use rm_base::{IncNo, Kind, NoMemory, Policy, Row, Scn, Seq, ThreadNo};
 use rm_catalog::{BaseEntry, Catalog, DatafileEntry, IncarnationEntry, MarkEntry, Record};
 use rm_evidence::Evidence;
+use rm_harness::{Fault, differs};
 use rm_piece::Piece;
 use rm_redo::{LogFile, LogRecord};
 use std::alloc::Global;
-
-// A block of this text. `-` is none.
-fn block_of(alloc: Global, text: &str) -> Result<Block, Fault> {
-    let bytes = text.as_bytes();
-    if text == "-" {
-        return Ok(Block::padded(b""));
-    }
-    if bytes.len() > 64 {
-        return differs(alloc, text);
-    }
-    Ok(Block::padded(bytes))
-}
-
-/// The text of a block.
-pub fn text_of(block: &Block) -> &str {
-    match str::from_utf8(block.trimmed()) {
-        Ok("") => "-",
-        Ok(text) => text,
-        Err(_) => "?",
-    }
-}
-
-// The row of these words: BLOCK VERSION TEXT.
-fn row(alloc: Global, words: &str) -> Result<Row, Fault> {
-    let (front, text) = words.rsplit_once(" ").unwrap_or(("", words));
-    let content = block_of(alloc, text)?;
-    match numbers(alloc, front)?.as_slice() {
-        [block, version] => Ok(Row {
-            block: *block,
-            version: u64::from(*version),
-            content,
-        }),
-        _ => differs(alloc, words),
-    }
-}
-
-/// The rows of this text: BLOCK VERSION TEXT, and so on.
-pub fn rows(alloc: Global, text: &str) -> Result<Seq<Row>, Fault> {
-    let mut rows = Seq::new(alloc);
-    for words in text.split(", ") {
-        rows.push(row(alloc, words)?)?;
-    }
-    Ok(rows)
-}
 
 /// A catalog of these records.
 pub fn catalog_of(alloc: Global, records: Seq<Record>) -> Result<Catalog, Fault> {

@@ -7,38 +7,16 @@ mod both;
 mod branches;
 mod draws;
 mod drill;
-mod fault;
 mod gathering;
 mod histories;
 mod made;
 mod objects;
 mod plans;
 mod slow;
-mod table;
 mod whole;
 
-use fault::Fault;
-use std::{fs, io};
-use table::{Told, cases};
-
-fn tell(rt: &HostRuntime, name: &str, outcome: Result<bool, Fault>) -> io::Result<()> {
-    match outcome {
-        Ok(true) => println!(rt; "{name}: ok"),
-        Ok(false) => println!(rt; "{name}: not so"),
-        Err(Fault::Differs(what)) => println!(rt; "{name}: {what}"),
-        Err(Fault::NoMemory) => println!(rt; "{name}: no memory"),
-    }
-}
-
-// The cases of the table of this name, or the first that is not so.
-fn tell_table<T: Told + Drop>(rt: &HostRuntime, name: &str, mut told: T) -> io::Result<()> {
-    let file = format!(in rt.alloc(); "{name}.txt")?;
-    let text = fs::read_to_string(rt, file.as_str())?;
-    match cases(rt.alloc(), text.as_str(), &mut told) {
-        Ok(cases) => println!(rt; "{name}: {cases} cases ok"),
-        Err(fault) => tell(rt, name, Err(fault)),
-    }
-}
+use rm_harness::{tell, tell_table};
+use std::io;
 
 fn tell_evidence(rt: &HostRuntime) -> io::Result<()> {
     let alloc = rt.alloc();

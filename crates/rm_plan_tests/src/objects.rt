@@ -1,24 +1,14 @@
 //! The table of what may stand under the name of one record.
-use crate::fault::{Fault, differs};
 use crate::gathering::{catalog, evidence, log_bytes, log_entry, no_place, piece_bytes, store};
-use crate::table::{Told, head};
 use rm_base::{Kind, MemStore, Seq, Status, Store};
 use rm_catalog::Record;
 use rm_evidence::Evidence;
+use rm_harness::{Fault, Told, differs, head, status_of};
 use std::alloc::Global;
 
 /// Objects, each of which is found, skipped or passed over.
 #[derive(Drop)]
 pub struct Objects;
-
-fn status_of(alloc: Global, word: &str) -> Result<Status, Fault> {
-    match word {
-        "available" => Ok(Status::Available),
-        "unavailable" => Ok(Status::Unavailable),
-        "expired" => Ok(Status::Expired),
-        _ => differs(alloc, word),
-    }
-}
 
 // The bytes that this word says, which stand under the name of the log of these ones.
 fn object_of(alloc: Global, word: &str, bytes: &[u8]) -> Result<Vec<u8>, Fault> {
@@ -62,10 +52,6 @@ fn found(alloc: Global, status: Status, word: &str) -> Result<Evidence, Fault> {
 }
 
 impl Told for Objects {
-    fn say(&mut self, alloc: Global, line: &str) -> Result<(), Fault> {
-        differs(alloc, line)
-    }
-
     fn told(&mut self, alloc: Global, asked: &str) -> Result<String, Fault> {
         let (status, word) = head(asked);
         let found = found(alloc, status_of(alloc, status)?, word)?;

@@ -1,11 +1,10 @@
 //! The table of worked rows: later-copy-tells, orphan-copy, missing-thread-log, failover, from-is-listed, and datafiles.
 use crate::asked::{asked, asked_file, asked_first};
-use crate::fault::{Fault, differs};
-use crate::made::{catalog, log, nothing, piece, rows, text_of};
-use crate::table::{Told, head, numbers};
+use crate::made::{catalog, log, nothing, piece};
 use rm_base::{Block, BlockNo, Kind, Part, Scn, ThreadNo};
 use rm_catalog::Catalog;
 use rm_evidence::Evidence;
+use rm_harness::{Fault, Told, differs, head, kind_of, numbers, rows, text_of};
 use rm_plan::{Gap, PlanFault};
 use std::alloc::Global;
 
@@ -19,16 +18,6 @@ pub struct Plans {
 // The redo thread of this number.
 fn thread_of(number: u32) -> ThreadNo {
     u8::try_from(number).unwrap_or(0)
-}
-
-// The kind of this word.
-fn kind_of(alloc: Global, word: &str) -> Result<Kind, Fault> {
-    match word {
-        "full" => Ok(Kind::Full),
-        "level_0" => Ok(Kind::Level0),
-        "level_1" => Ok(Kind::Level1),
-        _ => differs(alloc, word),
-    }
 }
 
 impl Plans {
@@ -164,7 +153,7 @@ impl Told for Plans {
     fn say(&mut self, alloc: Global, line: &str) -> Result<(), Fault> {
         let (front, text) = line.split_once(": ").unwrap_or((line, ""));
         let (word, rest) = head(front);
-        let numbers = numbers(alloc, rest)?;
+        let numbers = numbers::<u32>(alloc, rest)?;
         match (word, numbers.as_slice()) {
             ("catalog", [threads, blocks]) => self.begin(alloc, *threads, *blocks, None),
             ("catalog", [threads, blocks, branch]) => {
@@ -180,7 +169,7 @@ impl Told for Plans {
             return differs(alloc, "no catalog");
         };
         let (word, rest) = head(asked);
-        let numbers = numbers(alloc, rest)?;
+        let numbers = numbers::<u32>(alloc, rest)?;
         match (word, numbers.as_slice()) {
             ("block", [s, block]) => {
                 block_told(alloc, &self.evidence, catalog, u64::from(*s), *block)

@@ -1,5 +1,4 @@
 //! Logs, pieces and what is in place together.
-use crate::fault::{Fault, differs};
 use crate::gathering::{
     catalog, evidence, log, log_bytes, log_entry, no_place, piece_bytes, piece_entry, store,
 };
@@ -7,6 +6,7 @@ use rm_base::{Kind, MemStore, NoMemory, Seq, Status, Store};
 use rm_blocks::DataFile;
 use rm_catalog::{Catalog, Record};
 use rm_evidence::{InPlace, fits_place};
+use rm_harness::{Fault, differs};
 use rm_objects::has_database;
 use std::alloc::Global;
 
