@@ -1,14 +1,13 @@
 //! The rules of records, and each call of a catalog.
-use crate::fault::{Fault, differs, halves, says_something};
 use crate::record::{range_of, record_of};
 use rm_base::{NoMemory, Seq};
 use rm_catalog::{Catalog, CatalogFault, Edit, Key, Record};
+use rm_harness::{Fault, Told, cases, differs};
 use std::alloc::Global;
 
 // The small catalog, and the records of the case that is read.
 #[derive(Drop)]
 struct Table {
-    alloc: Global,
     small: Vec<Record>,
     records: Option<Vec<Record>>,
 }
@@ -48,17 +47,8 @@ fn with(alloc: Global, records: Vec<Record>, words: &[&str]) -> Result<Vec<Recor
 }
 
 impl Table {
-    fn new(alloc: Global) -> Self {
-        Table {
-            alloc,
-            small: Vec::new(alloc),
-            records: None,
-        }
-    }
-
     // What a line says of the records of the case.
-    fn say(&mut self, line: &str) -> Result<(), Fault> {
-        let alloc = self.alloc;
+    fn put(&mut self, alloc: Global, line: &str) -> Result<(), Fault> {
         let words: Vec<&str> = line.split(' ').collect(alloc)?;
         let mut records = match self.records.take() {
             Some(records) => records,
@@ -79,40 +69,34 @@ impl Table {
         self.records = Some(records);
         Ok(())
     }
+}
 
-    // The case ends with this line, and this is to be told.
-    fn ends(&mut self, line: &str, wanted: &str) -> Result<(), Fault> {
-        let alloc = self.alloc;
-        let records = self.records.take().unwrap_or(Vec::new(alloc));
-        let told = match Catalog::from_records(Seq::from_vec(records)) {
-            Ok(_) => String::from_str(alloc, "valid")?,
-            Err(CatalogFault::BadRow(kind, id)) => format!(in alloc; "{kind} {id}")?,
-            Err(CatalogFault::NoMemory) => return Err(Fault::NoMemory),
-        };
-        if told.as_str() == wanted {
+impl Told for Table {
+    fn say(&mut self, alloc: Global, line: &str) -> Result<(), Fault> {
+        if line.starts_with("small ") {
             return Ok(());
         }
-        Err(Fault::Differs(format!(in alloc; "{line}: {told}")?))
+        self.put(alloc, line)
+    }
+
+    fn told(&mut self, alloc: Global, asked: &str) -> Result<String, Fault> {
+        self.put(alloc, asked)?;
+        let records = self.records.take().unwrap_or(Vec::new(alloc));
+        match Catalog::from_records(Seq::from_vec(records)) {
+            Ok(_) => Ok(String::from_str(alloc, "valid")?),
+            Err(CatalogFault::BadRow(kind, id)) => Ok(format!(in alloc; "{kind} {id}")?),
+            Err(CatalogFault::NoMemory) => Err(Fault::NoMemory),
+        }
     }
 }
 
 /// How many cases of the table are as it says.
 pub fn rules(alloc: Global, text: &str) -> Result<u64, Fault> {
-    let mut table = Table::new(alloc);
-    table.small = small(alloc, text)?;
-    let mut cases = 0u64;
-    for line in text.lines() {
-        if !says_something(line) || line.starts_with("small ") {
-            continue;
-        }
-        let (given, wanted) = halves(line);
-        table.say(given)?;
-        if let Some(wanted) = wanted {
-            table.ends(line, wanted)?;
-            cases = cases.saturating_add(1);
-        }
-    }
-    Ok(cases)
+    let mut table = Table {
+        small: small(alloc, text)?,
+        records: None,
+    };
+    cases(alloc, text, &mut table)
 }
 
 /// The small catalog of the table.

@@ -1,8 +1,8 @@
 //! A keeper in memory: what it keeps, and each of its calls that fails.
 use crate::catalog::small;
-use crate::fault::Fault;
 use rm_base::{Failing, Seq};
 use rm_catalog::{Edit, Keeper, KeeperFail, Key, MarkEntry, MemKeeper, Record};
+use rm_harness::Fault;
 use std::alloc::Global;
 
 // A keeper of the small catalog, of which the calls with these numbers fail.

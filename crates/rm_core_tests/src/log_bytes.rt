@@ -1,8 +1,8 @@
 //! Logs as bytes: each number at its limits, a log of two records, its bytes changed and cut, and the longest.
-use crate::fault::{Fault, differs, halves, says_something};
 use rm_base::number::{push_u32, push_u64};
 use rm_base::sealed::seal;
 use rm_base::{Block, NoMemory, Seq};
+use rm_harness::{Fault, Told, cases, differs};
 use rm_redo::{LogFile, LogRecord, decode_log, encode_log, is_valid_log};
 use std::alloc::Global;
 
@@ -36,20 +36,24 @@ fn spelled(alloc: Global, numbers: &str) -> Result<Vec<u8>, Fault> {
     Ok(out)
 }
 
+// Logs of two records, each by its numbers.
+#[derive(Drop)]
+struct Logs;
+
+impl Told for Logs {
+    fn told(&mut self, alloc: Global, asked: &str) -> Result<String, Fault> {
+        let word = if is_read(alloc, &spelled(alloc, asked)?) {
+            "read"
+        } else {
+            "bad"
+        };
+        Ok(String::from_str(alloc, word)?)
+    }
+}
+
 /// How many cases of the table are as it says.
 pub fn numbers(alloc: Global, text: &str) -> Result<u64, Fault> {
-    let mut cases = 0u64;
-    for line in text.lines() {
-        if says_something(line) {
-            let (numbers, wanted) = halves(line);
-            let read = is_read(alloc, &spelled(alloc, numbers)?);
-            if wanted != Some(if read { "read" } else { "bad" }) {
-                return differs(alloc, line);
-            }
-            cases = cases.saturating_add(1);
-        }
-    }
-    Ok(cases)
+    cases(alloc, text, &mut Logs)
 }
 
 fn record(scn: u64, text: &[u8; 2]) -> LogRecord {

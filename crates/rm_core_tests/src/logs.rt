@@ -1,8 +1,8 @@
 //! Online logs: each call once, and a log that becomes full.
 ghost use Rattle.std.specs.Prelude.{◌≡◌};
 
-use crate::fault::Fault;
 use rm_base::{Block, Change, Scn, ThreadNo};
+use rm_harness::Fault;
 use rm_redo::{LogFault, LogRecord, OnlineLogs};
 use std::alloc::Global;
 

@@ -3,37 +3,19 @@
 #![tactic(auto)]
 
 mod catalog;
-mod fault;
 mod keeper;
 mod log_bytes;
 mod logs;
 mod record;
 
-use fault::Fault;
+use rm_harness::{tell, tell_cases};
 use std::{fs, io};
-
-fn tell(rt: &HostRuntime, name: &str, outcome: Result<bool, Fault>) -> io::Result<()> {
-    match outcome {
-        Ok(true) => println!(rt; "{name}: ok"),
-        Ok(false) => println!(rt; "{name}: not so"),
-        Err(Fault::Differs(what)) => println!(rt; "{name}: {what}"),
-        Err(Fault::NoMemory) => println!(rt; "{name}: no memory"),
-    }
-}
-
-// The cases of a table, or the first that is not so.
-fn tell_table(rt: &HostRuntime, name: &str, outcome: Result<u64, Fault>) -> io::Result<()> {
-    match outcome {
-        Ok(cases) => println!(rt; "{name}: {cases} cases ok"),
-        Err(fault) => tell(rt, name, Err(fault)),
-    }
-}
 
 fn catalogs(rt: &HostRuntime) -> io::Result<()> {
     let alloc = rt.alloc();
     let text = fs::read_to_string(rt, "catalog.txt")?;
     let text = text.as_str();
-    tell_table(rt, "rules of records", catalog::rules(alloc, text))?;
+    tell_cases(rt, "rules of records", catalog::rules(alloc, text))?;
     tell(rt, "calls of a catalog", catalog::calls(alloc, text))?;
     tell(rt, "edits of a catalog", catalog::edits(alloc, text))?;
     tell(rt, "copies", catalog::copies(alloc, text))?;
@@ -46,7 +28,7 @@ fn bytes_of_logs(rt: &HostRuntime) -> io::Result<()> {
     let alloc = rt.alloc();
     let text = fs::read_to_string(rt, "logs.txt")?;
     let hex = fs::read_to_string(rt, "log_of_two_records.txt")?;
-    tell_table(
+    tell_cases(
         rt,
         "bytes of logs",
         log_bytes::numbers(alloc, text.as_str()),

@@ -1,10 +1,10 @@
 //! Records, read from the words of a line.
-use crate::fault::{Fault, differs};
 use rm_base::{Kind, Policy, Status, Text};
 use rm_catalog::{
     BaseEntry, DatafileEntry, HeadEntry, IncarnationEntry, LogEntry, MarkEntry, PartEntry,
     PieceEntry, Record,
 };
+use rm_harness::{Fault, differs};
 use std::alloc::Global;
 
 // The words of a line, and how many were read. `@` and `2..9` stand for this number.
