@@ -1,8 +1,8 @@
 //! A change as a whole, and stopped at each of its calls: which stop it is, and what is left.
-use crate::fault::{Fault, differs};
 use rm_base::{Failing, MemStore, NoMemory, Seq, Store, StoreFail, StoreFailing, Text};
 use rm_catalog::{Edit, Keeper, KeeperFail, Key, MarkEntry, MemKeeper, Record};
 use rm_change::{Change, Object, Stop, carry_out};
+use rm_harness::{Fault, differs};
 use std::alloc::Global;
 
 // A mark of this number.

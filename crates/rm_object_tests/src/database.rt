@@ -1,7 +1,7 @@
 //! The database of which a catalog tells.
-use crate::fault::{Fault, differs};
 use rm_base::{Policy, Seq};
 use rm_catalog::{BaseEntry, Catalog, DatafileEntry, IncarnationEntry, MarkEntry, Record};
+use rm_harness::{Fault, differs};
 use rm_history::Datafile;
 use rm_objects::{base_of, datafile, has_database, threads};
 use std::alloc::Global;

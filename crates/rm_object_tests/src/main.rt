@@ -4,33 +4,13 @@
 
 mod changes;
 mod database;
-mod fault;
 mod objects;
 mod piece_bytes;
 mod table;
 
-use fault::Fault;
+use rm_harness::{tell, tell_table};
 use std::{fs, io};
 use table::Table;
-
-fn tell(rt: &HostRuntime, name: &str, outcome: Result<bool, Fault>) -> io::Result<()> {
-    match outcome {
-        Ok(true) => println!(rt; "{name}: ok"),
-        Ok(false) => println!(rt; "{name}: not so"),
-        Err(Fault::Differs(what)) => println!(rt; "{name}: {what}"),
-        Err(Fault::NoMemory) => println!(rt; "{name}: no memory"),
-    }
-}
-
-// The cases of a table, or the first that is not so.
-fn tell_table(rt: &HostRuntime, name: &str, table: Table) -> io::Result<()> {
-    let file = format!(in rt.alloc(); "{name}.txt")?;
-    let text = fs::read_to_string(rt, file.as_str())?;
-    match table.cases(rt.alloc(), text.as_str()) {
-        Ok(cases) => println!(rt; "{name}: {cases} cases ok"),
-        Err(fault) => tell(rt, name, Err(fault)),
-    }
-}
 
 fn tell_pieces(rt: &HostRuntime) -> io::Result<()> {
     let alloc = rt.alloc();

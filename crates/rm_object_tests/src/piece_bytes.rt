@@ -1,7 +1,7 @@
 //! Pieces as bytes: a copy of two blocks, its bytes changed and cut, and each number at its limits.
-use crate::fault::{Fault, differs};
 use rm_base::sealed::seal;
 use rm_base::{Block, Kind, NoMemory, Row, Seq};
+use rm_harness::{Fault, differs};
 use rm_piece::{Piece, decode_piece, encode_piece, high_of, is_valid, pick};
 use std::alloc::Global;
 

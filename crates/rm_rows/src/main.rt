@@ -32,7 +32,8 @@ mod digits;
 mod row;
 mod trial;
 
-use row::{Fault, Row};
+use rm_harness::Fault;
+use row::Row;
 use std::alloc::Global;
 use std::path::Path;
 use std::process::ExitCode;

@@ -2,37 +2,12 @@
 use crate::calls::{Calls, call_of};
 use crate::digits::{bytes_in, record_of};
 use crate::trial::{ROOM, Trial, object};
-use rm_base::{MemStore, NoMemory, Store, Text};
+use rm_base::{MemStore, Store, Text};
 use rm_catalog::{Edit, Keeper, Key, MemKeeper};
-use std::alloc::{AllocError, AllocFailed, Global};
+use rm_harness::{Fault, differs};
+use std::alloc::Global;
 use std::sync::Wait;
 use std::thread::Threads;
-
-/// Why a row did not come out as it says.
-#[derive(Drop)]
-pub enum Fault {
-    /// What is not so.
-    Differs(String),
-    NoMemory,
-}
-
-impl From<NoMemory> for Fault {
-    fn from(_: NoMemory) -> Self {
-        Fault::NoMemory
-    }
-}
-
-impl From<AllocError> for Fault {
-    fn from(_: AllocError) -> Self {
-        Fault::NoMemory
-    }
-}
-
-impl<T: Drop> From<AllocFailed<T>> for Fault {
-    fn from(_: AllocFailed<T>) -> Self {
-        Fault::NoMemory
-    }
-}
 
 /// What the lines of a row have said so far.
 #[derive(Drop)]
@@ -118,18 +93,14 @@ impl Row {
                 self.goes_on = true;
                 Ok(())
             }
-            _ => self.differs("not a line of a row"),
+            _ => differs(self.alloc, "not a line of a row"),
         }
-    }
-
-    fn differs<T>(&self, what: &str) -> Result<T, Fault> {
-        Err(Fault::Differs(String::from_str(self.alloc, what)?))
     }
 
     fn number(&self, text: &str) -> Result<u64, Fault> {
         match text.parse::<u64>() {
             Ok(number) => Ok(number),
-            Err(_) => self.differs("not a number"),
+            Err(_) => differs(self.alloc, "not a number"),
         }
     }
 
@@ -147,7 +118,7 @@ impl Row {
 
     fn fail(&mut self, name: &str, numbers: &[&str]) -> Result<(), Fault> {
         let Some(call) = call_of(name) else {
-            return self.differs("not a call");
+            return differs(self.alloc, "not a call");
         };
         for number in numbers {
             let number = self.number(number)?;
@@ -217,7 +188,7 @@ impl Row {
     fn look(&mut self, name: &str, len: usize, head: &str) -> Result<(), Fault> {
         match &mut self.site {
             Some((store, _)) => object(self.alloc, store, name, len, head),
-            None => self.differs("no run before"),
+            None => differs(self.alloc, "no run before"),
         }
     }
 
@@ -227,7 +198,7 @@ impl Row {
         let id = u32::try_from(self.number(id)?);
         match (kind, id) {
             (Ok(kind), Ok(id)) => Ok(Key { kind, id }),
-            _ => self.differs("not a key"),
+            _ => differs(self.alloc, "not a key"),
         }
     }
 
@@ -236,32 +207,32 @@ impl Row {
         let key = self.key(kind, id)?;
         match record_of(self.alloc, key, fields)? {
             Some(record) => self.apply(Edit::Put(record)),
-            None => self.differs("not a record"),
+            None => differs(self.alloc, "not a record"),
         }
     }
 
     // The store that the last run left has this object.
     fn put_object(&mut self, name: &str, digits: &[&str]) -> Result<(), Fault> {
         let Some(bytes) = bytes_in(self.alloc, digits)? else {
-            return self.differs("not digits");
+            return differs(self.alloc, "not digits");
         };
         let Some((store, _)) = &mut self.site else {
-            return self.differs("no run before");
+            return differs(self.alloc, "no run before");
         };
         match store.put(name, &bytes) {
             Ok(()) => Ok(()),
-            Err(_) => self.differs("the store failed"),
+            Err(_) => differs(self.alloc, "the store failed"),
         }
     }
 
     // The keeper that the last run left has one edit more.
     fn apply(&mut self, edit: Edit) -> Result<(), Fault> {
         let Some((_, keeper)) = &mut self.site else {
-            return self.differs("no run before");
+            return differs(self.alloc, "no run before");
         };
         match keeper.apply(&[edit]) {
             Ok(()) => Ok(()),
-            Err(_) => self.differs("the keeper failed"),
+            Err(_) => differs(self.alloc, "the keeper failed"),
         }
     }
 }

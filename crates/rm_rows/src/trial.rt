@@ -1,8 +1,8 @@
 //! One run of the program, and whether it gives what a row says.
 use crate::calls::{Call, Calls};
-use crate::row::Fault;
 use rm_base::{MemClock, MemSink, MemSource, MemStore, Store, Text};
 use rm_catalog::MemKeeper;
+use rm_harness::Fault;
 use rm_tool::OpenGate;
 use rm_tool::run::run;
 use std::alloc::Global;

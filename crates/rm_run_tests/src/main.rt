@@ -6,16 +6,8 @@ mod channels;
 mod ends;
 mod runs;
 
-use rm_base::NoMemory;
+use rm_harness::tell;
 use std::io;
-
-fn tell(rt: &HostRuntime, name: &str, outcome: Result<bool, NoMemory>) -> io::Result<()> {
-    match outcome {
-        Ok(true) => println!(rt; "{name}: ok"),
-        Ok(false) => println!(rt; "{name}: not so"),
-        Err(NoMemory) => println!(rt; "{name}: no memory"),
-    }
-}
 
 fn main(rt: HostRuntime) -> io::Result<()> {
     let alloc = rt.alloc();
