@@ -67,7 +67,7 @@ copy-held bases id a is = elim (find_cases (λ (x : ℕ × Piece). x.0 == id) ba
   | inl none ↦ let both : None ≡ Some a = sym (ap (λ (o : Option (ℕ × Piece)). option_map (λ x. x.1) o) none) ∙ is in absurd (cc)
   | inr found ↦
       let same = same_Some found.item.1 a (sym (ap (λ (o : Option (ℕ × Piece)). option_map (λ x. x.1) o) found.is) ∙ is) in
-      subst (λ (n : ℕ). Contains bases (n, a)) (eqb-true found.item.0 id found.passes) (subst (λ (b : Piece). Contains bases (found.item.0, b)) same found.held)
+      coe 0 1 (i. Contains bases (eqb-true found.item.0 id found.passes i, same i)) found.held
 ]
 
 module _ (s : State) (e : Evidence) (sound : IsSound s) (fits : FitsTree (tree s) e) (bases : AreRecorded (records_of s.catalog) e) (level1s : All (IsRecorded (records_of s.catalog)) e.level1s) where
@@ -91,7 +91,7 @@ module _ (s : State) (e : Evidence) (sound : IsSound s) (fits : FitsTree (tree s
   told-high : (a : Piece) → Told a → a.high ≤ end_of (tree s) a.inc
   told-high a told =
       let is = told.fields in
-      subst (λ n. n ≤ end_of (tree s) a.inc) (sym is.high) (subst (λ i. told.entry.high ≤ end_of (tree s) i) (sym is.inc) (rule-of told.entry told.there).high)
+      coe 1 0 (i. is.high i ≤ end_of (tree s) (is.inc i)) (rule-of told.entry told.there).high
 
   -- each level 1 is one
   level1-told : (x : ℕ × Piece) → Contains e.level1s x → Told x.1
@@ -156,23 +156,20 @@ module _ (s : State) (e : Evidence) (sound : IsSound s) (fits : FitsTree (tree s
         let rule = rule-of own.entry own.there in
         let inc = own.fields.inc in
         let d : Datafile = first.file.datafile in
-        let body = length-body a (fits-piece a valid) in
-        let sealed = length-sealed (body_of a) in
-        let few = few_rows a valid in
         record {
           there = subst (IsThere (tree s)) (sym inc) rule.there;
           file = record {
             number = subst (λ k. 0 < k) (sym file-is) first.file.number;
             datafile = d;
             is = subst (λ k. slice_get (ledger s).files (k - 1) ≡ Some d) (sym file-is) first.file.is;
-            path = ap (λ i. owner (tree s) i d.creation) inc ∙ subst (λ (x : Datafile). owner (tree s) own.entry.inc x.creation ≡ x.inc) one-datafile rule.file.path;
+            path = ap (λ i. owner (tree s) i d.creation) inc ∙ coe 0 1 (i. owner (tree s) own.entry.inc (one-datafile i).creation ≡ (one-datafile i).inc) rule.file.path;
             rows = keeps.rows ∙ fields.rows ∙ all-rows p.kind p.rows d.blocks (copy-kind p.kind p first.kind copy) first.file.rows;
           };
           checkpoint = (valid.checkpoint.0, high-least a.checkpoint a.rows);
           high = keeps.high;
           kind = refl;
           tag = subst IsTag tagged first.tag;
-          size = omega (arith, body, sealed, few);
+          size = omega (arith, length-body a (fits-piece a valid), length-sealed (body_of a), few_rows a valid);
         }
 
     can-record : CanRecord s tag last
@@ -207,8 +204,7 @@ module _ (s : State) (e : Evidence) (sound : IsSound s) (fits : FitsTree (tree s
         let second = are.each y (Contains-get_or xs j d inside) in
         let one = same_item (λ (p : PieceEntry). p.id) (ledger s).pieces sound.catalog.ledger.ids.pieces_ascend first.copy second.copy (taken-in first.copy first.taken.held) (taken-in second.copy second.taken.held) (sym first.id ∙ same ∙ second.id) in
         let files : x.0 ≡ y.0 = sym first.taken.passes.on.file ∙ ap (λ (p : PieceEntry). p.file) one ∙ second.taken.passes.on.file in
-        let many = length-map xs (λ (z : ℕ × Renewed). z.0) in
-        let up = are.exact.ascends i j d.0 less (omega (arith, many, inside)) in
+        let up = are.exact.ascends i j d.0 less (omega (arith, length-map xs (λ (z : ℕ × Renewed). z.0), inside)) in
         let low = get_or-map (λ (z : ℕ × Renewed). z.0) xs i d d.0 before in
         let high = get_or-map (λ (z : ℕ × Renewed). z.0) xs j d d.0 inside in
         absurd (omega (arith, up, low, high, files))
@@ -219,7 +215,7 @@ module _ (s : State) (e : Evidence) (sound : IsSound s) (fits : FitsTree (tree s
 -- a copy that can be recorded is short
 short-by : (s : State) (tag : List ℕ) (o : Option Piece) → IfSome o (CanRecord s tag) → IfSome o (λ last. length last.rows ≤ 65536)
 short-by s tag None can = tt
-short-by s tag (Some last) can = let few = few_rows last can.valid in omega (arith, few)
+short-by s tag (Some last) can = omega (arith, few_rows last can.valid)
 
 pub all-short : (s : State) (tag : List ℕ) (xs : List (ℕ × Renewed)) → AreFit s tag xs → All IsShort xs
 all-short s tag xs fit = each-in IsShort xs (λ x has. short-by s tag x.1.merged (All-contains (IsFit s tag) xs x fit.each has).changed)

@@ -88,11 +88,10 @@ at-hand-recorded s held e hand = each-in (IsRecorded (records_of s.catalog)) e.l
 module _ (s : State) (rs : List Record) (place : InPlace) (e : Evidence) (ys : List (ℕ × Piece)) (records : rs ≡ records_of s.catalog) (in_place_is : place ≡ in_place s) where
   pub still-at_hand : (held : Option Held) → IfSome held (λ h. IsGathered h rs place e) → (All (IsRecorded (records_of s.catalog)) e.level1s → ys ≡ e.level1s) → IfSome held (λ h. IsAtHand s h (record e { level1s = ys }))
   still-at_hand held told kept = IfSome_then held told (λ h gathered.
-      let hand : IsAtHand s h e = subst (λ p. IsGathered h (records_of s.catalog) p e) in_place_is (subst (λ xs. IsGathered h xs place e) records gathered) in
-      subst (λ (xs : List (ℕ × Piece)). IsAtHand s h (record e { level1s = xs })) (sym (kept (at-hand-recorded s h e hand))) hand)
+      let hand : IsAtHand s h e = coe 0 1 (i. IsGathered h (records i) (in_place_is i) e) gathered in
+      coe 1 0 (i. IsAtHand s h (record e { level1s = kept (at-hand-recorded s h e hand) i })) hand)
 
   pub still-fits : FitsTree (nodes rs) e → ((P : ℕ × Piece → Type 0) → All P e.level1s → All P ys) → FitsTree (tree s) (record e { level1s = ys })
   still-fits fits of =
-      let ns : nodes rs ≡ tree s = ap nodes records ∙ tree-told s.catalog in
-      let is : FitsTree (tree s) e = subst (λ ts. FitsTree ts e) ns fits in
+      let is : FitsTree (tree s) e = subst (λ ts. FitsTree ts e) (ap nodes records ∙ tree-told s.catalog) fits in
       record { bases = is.bases; no_level1 = is.no_level1; level1s = of (λ x. FitsPiece (tree s) x.1) is.level1s; all_level1 = of (λ x. x.1.kind ≡ Level1) is.all_level1; logs = is.logs }

@@ -38,15 +38,13 @@ module _ (s : State) (e : Evidence) (tag : List ℕ) (at : ℕ) where
   taken-there f has =
       let found = some-held (λ (d : Datafile). if exists (world s) (current_of s) (now_of s) d then Some d else None) (file_of (world s) f) has.on in
       let place = file-place (world s) f found.0 found.1 in
-      let number = place.number in
-      let within = slice_get_within (ledger s).files place.place found.0 place.is in
-      (omega (arith, number), omega (arith, number, within))
+      (omega (arith, place.number), omega (arith, place.number, slice_get_within (ledger s).files place.place found.0 place.is))
 
   pub below-start : AreRenewedBelow s e tag at 1 []
   below-start = record {
     exact = record {
       ascends = λ i j d less inside. absurd (omega (arith, inside));
-      exact = λ f. ((λ has. absurd (none-in f has)), (λ wanted. let low = wanted.0 in let some = (taken-there f wanted.1).0 in absurd (omega (arith, low, some))));
+      exact = λ f. ((λ has. absurd (none-in f has)), (λ wanted. absurd (omega (arith, wanted.0, (taken-there f wanted.1).0))));
     };
     each = λ x has. absurd (none-in x has);
     few = omega arith;
@@ -56,24 +54,22 @@ module _ (s : State) (e : Evidence) (tag : List ℕ) (at : ℕ) where
     -- one more is taken
     pub below-more : (r : Renewed) → HasTaken s tag n → IsRenewed (records_of s.catalog) e n tag at r → AreRenewedBelow s e tag at (n + 1) (xs ++ (n, r) ∷ [])
     below-more r has is =
-        let few = are.few in
-        let many = length-append xs ((n, r) ∷ []) in
         record {
           exact = subst (AreExactly (Below (HasTaken s tag) (n + 1))) (sym (map-append file_in xs ((n, r) ∷ []))) (one_more (HasTaken s tag) n (map file_in xs) are.exact has);
           each = λ x held. elim (Contains-push_cases xs (n, r) x held) [
             | inl old ↦ are.each x old
             | inr same ↦ subst (λ (y : ℕ × Renewed). IsRenewed (records_of s.catalog) e y.0 tag at y.1) same is
           ];
-          few = omega (arith, few, many);
+          few = omega (arith, are.few, length-append xs ((n, r) ∷ []));
         }
 
     -- none is
     pub below-past : ¬ HasTaken s tag n → AreRenewedBelow s e tag at (n + 1) xs
-    below-past none = let few = are.few in record { exact = one_past (HasTaken s tag) n (map file_in xs) are.exact none; each = are.each; few = omega (arith, few) }
+    below-past none = record { exact = one_past (HasTaken s tag) n (map file_in xs) are.exact none; each = are.each; few = omega (arith, are.few) }
 
     -- all datafiles are walked
     pub below-all : length (ledger s).files < n → AreRenewed s e tag at xs
     below-all past = record {
-      exact = all_numbers (HasTaken s tag) n (map file_in xs) (λ f has. let most = (taken-there f has).1 in omega (arith, most, past)) are.exact;
+      exact = all_numbers (HasTaken s tag) n (map file_in xs) (λ f has. omega (arith, (taken-there f has).1, past)) are.exact;
       each = are.each;
     }

@@ -1,7 +1,6 @@
 -- RECOVER COPY under way: some copies are renewed, and the rest lead on from there.
-use Rattle.std.proofs.Common.{◌≡◌, ◌≤◌, ◌<◌, ◌+◌, ◌∙◌, ◌++◌, ℕ, suc, List, [], ◌∷◌, Option, None, Some, refl, ap, sym, subst, arith, append_assoc, drop-cons, drop, get_or, length, length-append, sum_by, All}
+use Rattle.std.proofs.Common.{◌≡◌, ◌≤◌, ◌<◌, ◌+◌, ◌∙◌, ◌++◌, ℕ, suc, List, ◌∷◌, Option, None, Some, refl, ap, sym, subst, arith, append_assoc, drop-cons, drop, get_or, length, length-append, sum_by, All}
 use Rattle.std.specs.Prelude.{IfSome}
-use Rattle.std.proofs.lemmas.List.{append-nil}
 use Rattle.std.proofs.lemmas.List.Elements.{All-contains, All-head, All-tail}
 use Rattle.rm_base.specs.declared.refusal.Limit.TheVariants.{Bytes, ObjectIds}
 use Rattle.rm_base.specs.declared.refusal.Refusal.TheVariants.{Rm11}
@@ -30,7 +29,7 @@ use Rattle.rm_renewing.specs.Fit.{AreFit, CanPut, CanRecord, IsFit}
 use Rattle.rm_machine.proofs.Renewing.{CanRenew, CanRenewAll, CanRenewTo, drawn, first-can, first-room, rest-can, sound-to}
 
 -- those from place k on
-pub rest-at : (xs : List (ℕ × Renewed)) (k : ℕ) (one : ℕ × Renewed) → k < length xs → one ≡ get_or xs k one → drop k xs ≡ one ∷ drop (k + 1) xs
+rest-at : (xs : List (ℕ × Renewed)) (k : ℕ) (one : ℕ × Renewed) → k < length xs → one ≡ get_or xs k one → drop k xs ≡ one ∷ drop (k + 1) xs
 rest-at xs k one inside is =
     let e : suc k ≡ k + 1 = omega arith in
     drop-cons xs k one inside ∙ ap (λ n. get_or xs k one ∷ drop n xs) e ∙ ap (λ (x : ℕ × Renewed). x ∷ drop (k + 1) xs) (sym is)
@@ -87,9 +86,6 @@ put-fits : (s : State) (tag : List ℕ) (n : ℕ) (last : Piece) → IsSound s �
 put-fits s tag n last sound can below =
     let ps : List PieceEntry = (ledger s).pieces in
     let id = λ (x : PieceEntry). x.id in
-    let was = many (ledger s) in
-    let is = many (without_piece s.catalog n).ledger in
-    let few = sound.catalog.ledger.few in
     let same : length (without_one id can.old.id ps) ≡ length (without_one id n ps) = ap (λ k. length (without_one id k ps)) can.id in
     let replaced = length-replaced id can.old ps sound.catalog.ledger.ids.pieces_ascend (can.old, can.recorded, refl) in
     let without = length-append (lower id can.old.id ps) (higher id can.old.id ps) in
@@ -98,55 +94,42 @@ put-fits s tag n last sound can below =
       piece = can.entry (is_kept s n) (ledger s).base.moment (ledger s).base.next_id;
       id = refl;
       last = below;
-      room = omega (arith, was, is, few, same, replaced, without, with);
+      room = omega (arith, many (ledger s), many (without_piece s.catalog n).ledger, sound.catalog.ledger.few, same, replaced, without, with);
     }
 
 put-to : (s : State) (tag : List ℕ) (n : ℕ) (o : Option Piece) → IsSound s → CanRenewTo s tag n o → IfSome o IsPiece → (ledger s).base.next_id + drawn o ≤ 4294967295 → IfSome o (CanPut s tag n)
 put-to s tag n None sound can valid room = tt
 put-to s tag n (Some last) sound can valid room =
     let low = (All-contains (λ (x : PieceEntry). (1 ≤ x.id) × (x.id < (ledger s).base.next_id)) (ledger s).pieces can.old sound.catalog.ledger.ids.pieces can.recorded).0 in
-    let id = can.id in
-    record { some = omega (arith, low, id); valid = valid; fits = put-fits s tag n last sound can (omega (arith, room)) }
+    record { some = omega (arith, low, can.id); valid = valid; fits = put-fits s tag n last sound can (omega (arith, room)) }
 
--- the next one can be put
-pub next-put : (s t : State) (tag : List ℕ) (xs rest : List (ℕ × Renewed)) (one : ℕ × Renewed) (before after : List Edit) (x y : Handed) → IsUnderWay s tag xs (one ∷ rest) before after x y t → IfSome one.1.merged (CanPut t tag one.1.id)
-next-put s t tag xs rest one before after x y way =
-    put-to t tag one.1.id one.1.merged way.sound (first-can t tag one rest way.can) (All-head IsValidTo one rest way.valid) (first-room t tag one rest way.can)
+-- the one at place k is the next
+module _ (s t : State) (tag : List ℕ) (xs : List (ℕ × Renewed)) (k : ℕ) (one : ℕ × Renewed) (inside : k < length xs) (is_one : one ≡ get_or xs k one) (before mid : List Edit) (first x : Handed) (way : IsUnderWay s tag xs (drop k xs) before mid first x t) where
+  abbrev rest : List (ℕ × Renewed)
+  rest = drop (k + 1) xs
 
--- one copy on
-pub way-on : (s t q : State) (tag : List ℕ) (xs rest : List (ℕ × Renewed)) (one : ℕ × Renewed) (before mid after : List Edit) (first x y : Handed) → IsUnderWay s tag xs (one ∷ rest) before mid first x t
-    → q ≡ after_copy t tag one → EditsFollow mid after t.catalog q.catalog → y.lines ≡ x.lines ++ renewed_lines t one → y.objects ≡ x.objects ++ renewed_object t one → y.removes ≡ x.removes ++ renewed_name one
-    → IsUnderWay s tag xs rest before after first y q
-way-on s t q tag xs rest one before mid after first x y way is follow lines objects removes =
-    let p : State = after_copy t tag one in
-    subst (λ u. IsUnderWay s tag xs rest before after first y u) (sym is) (record {
-      sound = sound-to t tag one.1.id one.1.merged way.sound (first-can t tag one rest way.can) (first-room t tag one rest way.can);
-      can = rest-can t tag one rest way.can;
-      valid = All-tail IsValidTo one rest way.valid;
-      state = way.state;
-      edits = follows-then before mid after s.catalog t.catalog p.catalog way.edits (subst (λ (u : State). EditsFollow mid after t.catalog u.catalog) is follow);
-      lines = ap (λ (ls : List Line). ls ++ copies_lines p tag rest) lines ∙ append_assoc x.lines (renewed_lines t one) (copies_lines p tag rest) ∙ way.lines;
-      objects = ap (λ (os : List Object). os ++ copies_put p tag rest) objects ∙ append_assoc x.objects (renewed_object t one) (copies_put p tag rest) ∙ way.objects;
-      removes = ap (λ (ns : List (List ℕ)). ns ++ copies_gone rest) removes ∙ append_assoc x.removes (renewed_name one) (copies_gone rest) ∙ way.removes;
-    })
+  here : IsUnderWay s tag xs (one ∷ rest) before mid first x t
+  here = subst (λ (ys : List (ℕ × Renewed)). IsUnderWay s tag xs ys before mid first x t) (rest-at xs k one inside is_one) way
 
--- all are renewed
-pub record AreAll (s : State) (tag : List ℕ) (xs : List (ℕ × Renewed)) (before after : List Edit) (first now : Handed) (t : State) : Type 0 where
-  pub state : t ≡ after_copies s tag xs
-  pub sound : IsSound t
-  pub edits : EditsFollow before after s.catalog t.catalog
-  pub lines : now.lines ≡ first.lines ++ copies_lines s tag xs
-  pub objects : now.objects ≡ first.objects ++ copies_put s tag xs
-  pub removes : now.removes ≡ first.removes ++ copies_gone xs
+  can : CanRenewTo t tag one.1.id one.1.merged
+  can = first-can t tag one rest here.can
 
-pub way-end : (s t : State) (tag : List ℕ) (xs rest : List (ℕ × Renewed)) (before after : List Edit) (x y : Handed) → rest ≡ [] → IsUnderWay s tag xs rest before after x y t → AreAll s tag xs before after x y t
-way-end s t tag xs rest before after x y none way =
-    let ended : IsUnderWay s tag xs [] before after x y t = subst (λ (ys : List (ℕ × Renewed)). IsUnderWay s tag xs ys before after x y t) none way in
-    record {
-      state = ended.state;
-      sound = ended.sound;
-      edits = ended.edits;
-      lines = sym (append-nil y.lines) ∙ ended.lines;
-      objects = sym (append-nil y.objects) ∙ ended.objects;
-      removes = sym (append-nil y.removes) ∙ ended.removes;
-    }
+  -- it can be put
+  pub next-put : IfSome one.1.merged (CanPut t tag one.1.id)
+  next-put = put-to t tag one.1.id one.1.merged here.sound can (All-head IsValidTo one rest here.valid) (first-room t tag one rest here.can)
+
+  -- one copy on
+  pub way-on : (q : State) (after : List Edit) (y : Handed) → q ≡ after_copy t tag one → EditsFollow mid after t.catalog q.catalog → y.lines ≡ x.lines ++ renewed_lines t one → y.objects ≡ x.objects ++ renewed_object t one → y.removes ≡ x.removes ++ renewed_name one
+      → IsUnderWay s tag xs rest before after first y q
+  way-on q after y is follow lines objects removes =
+      let p : State = after_copy t tag one in
+      coe 1 0 (i. IsUnderWay s tag xs rest before after first y (is i)) (record {
+        sound = sound-to t tag one.1.id one.1.merged here.sound can (first-room t tag one rest here.can);
+        can = rest-can t tag one rest here.can;
+        valid = All-tail IsValidTo one rest here.valid;
+        state = here.state;
+        edits = follows-then before mid after s.catalog t.catalog p.catalog here.edits (coe 0 1 (i. EditsFollow mid after t.catalog (is i).catalog) follow);
+        lines = ap (λ (ls : List Line). ls ++ copies_lines p tag rest) lines ∙ append_assoc x.lines (renewed_lines t one) (copies_lines p tag rest) ∙ here.lines;
+        objects = ap (λ (os : List Object). os ++ copies_put p tag rest) objects ∙ append_assoc x.objects (renewed_object t one) (copies_put p tag rest) ∙ here.objects;
+        removes = ap (λ (ns : List (List ℕ)). ns ++ copies_gone rest) removes ∙ append_assoc x.removes (renewed_name one) (copies_gone rest) ∙ here.removes;
+      })

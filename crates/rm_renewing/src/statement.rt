@@ -55,8 +55,9 @@ pub fn recover_copy<D: Store>(
     };
     let hand = at_hand(alloc, state)?;
     let evidence = evidence_of(alloc, state, store, &hand)?;
-    let copies = renewals(alloc, state, &hand.records, &evidence, tag, at)?;
-    if let Some(refusal) = renewed_refusal(state, &copies) {
+    let made = renewals(alloc, state, &hand.records, &evidence, tag, at)?;
+    let copies = made.as_slice();
+    if let Some(refusal) = renewed_refusal(state, copies) {
         return Ok(Err(refusal));
     }
     let skipped = keep_of_copies(state, tag, evidence.skipped);
@@ -65,6 +66,6 @@ pub fn recover_copy<D: Store>(
         objects: Seq::new(alloc),
         removes: Seq::new(alloc),
     };
-    renew_all(alloc, state, edits, &mut handed, tag, &copies)?;
+    renew_all(alloc, state, edits, &mut handed, tag, copies)?;
     Ok(Ok(handed))
 }

@@ -33,15 +33,7 @@ loop-file-preserved c =
 
 pub returns-clause-renewed : goal.returns-clause-renewed
 returns-clause-renewed c =
-    let all = c.files.ensures in
-    let end = c.loop-file-test.false in
-    let many = ap length all in
-    below-all c.args.state.now c.args.evidence.now c.args.tag.now c.args.at c.loop-file.file c.loop-file.copies.items c.loop-file.invariant (omega (arith, many, end))
+    below-all c.args.state.now c.args.evidence.now c.args.tag.now c.args.at c.loop-file.file c.loop-file.copies.items c.loop-file.invariant (omega (arith, ap length c.files.ensures, c.loop-file-test.false))
 
 pub returns-clause-few : goal.returns-clause-few
-returns-clause-few c =
-    let few = c.loop-file.invariant.few in
-    let end = c.loop-file.auto.file-end in
-    let many = ap length c.files.ensures in
-    let most = c.requires.sound.catalog.ledger.datafiles.few in
-    omega (arith, few, end, many, most)
+returns-clause-few c = omega (arith, c.loop-file.invariant.few, c.loop-file.auto.file-end, ap length c.files.ensures, c.requires.sound.catalog.ledger.datafiles.few)
