@@ -7,7 +7,7 @@ use Rattle.rm_change.specs.declared.change.Object.{Object}
 use Rattle.rm_statement.specs.declared.command.Command.TheVariants.{ArchiveLogCurrent, SwitchLogfile}
 use Rattle.rm_report.specs.declared.line.Line.{Line}
 use Rattle.rm_repository.specs.Changes.{EditsFollow}
-use Rattle.rm_repository.specs.Repository.{Repository}
+use Rattle.rm_repository.proofs.Changed.{follows-then}
 use Rattle.rm_machine.specs.Archive.{after_all, after_thread, after_threads, archiving, lines_from, puts_by, puts_from, thread_lines}
 use Rattle.rm_machine.specs.Effect.{done, no_effect}
 use Rattle.rm_machine.specs.Hands.{Hands}
@@ -17,12 +17,6 @@ use Rattle.rm_machine.specs.State.{online}
 use Rattle.rm_machine.specs.Sound.{IsSound}
 use Rattle.rm_machine.specs.SwitchLogfile.{archived, is_due, made_lines, none_lines, with_archived}
 use Rattle.rm_machine.proofs.Archives.{HasRoom, beside-thread, next-room, sound-thread}
-
-pub edits-on : (a b c : List Edit) (r s t : Repository) → EditsFollow a b r s → EditsFollow b c s t → EditsFollow a c r t
-edits-on a b c r s t first next = record { lead = λ rs from. next.lead rs (first.lead rs from) }
-
-pub edits-none : (a : List Edit) (r : Repository) → EditsFollow a a r r
-edits-none a r = record { lead = λ rs from. from }
 
 -- what archiving has before it, or has reached
 pub record Reached : Type 0 where
@@ -59,21 +53,15 @@ pub record Went (all : Bool) (first now : Reached) : Type 0 where
 goes-next : (all : Bool) (first now new : Reached) (t n : ℕ) → 0 < t → t ≤ first.state.catalog.ledger.base.threads → Goes all first now t (suc n) → IsTurn all now new t → Goes all first new (t + 1) n
 goes-next all first now new t n low high goes turn =
     let s : State = now.state in
-    let threads = goes.threads in
     let at : State → Reached = λ q. record { state = q; lines = new.lines; objects = new.objects; edits = new.edits } in
     let to : Goes all first (at (after_thread s t)) (t + 1) n = record {
-      sound = sound-thread s t n 0 goes.sound low (omega (arith, high, threads)) goes.room;
+      sound = sound-thread s t n 0 goes.sound low (omega (arith, high, goes.threads)) goes.room;
       room = next-room s t n 0 goes.room;
-      threads = (beside-thread s t).threads ∙ threads;
+      threads = (beside-thread s t).threads ∙ goes.threads;
       after = goes.after;
-      told = ap (λ xs. xs ++ lines_from all (after_thread s t) (t + 1) n) turn.told
-          ∙ append_assoc now.lines (thread_lines all s t) (lines_from all (after_thread s t) (t + 1) n)
-          ∙ goes.told;
-      put = ap (λ xs. xs ++ puts_from (after_thread s t) (t + 1) n) turn.put
-          ∙ append_assoc now.objects (puts_by s t) (puts_from (after_thread s t) (t + 1) n)
-          ∙ goes.put;
-      follow = edits-on first.edits now.edits new.edits first.state.catalog s.catalog (after_thread s t).catalog goes.follow
-          (subst (λ (x : State). EditsFollow now.edits new.edits s.catalog x.catalog) turn.after turn.follow);
+      told = ap (λ xs. xs ++ lines_from all (after_thread s t) (t + 1) n) turn.told ∙ append_assoc now.lines (thread_lines all s t) (lines_from all (after_thread s t) (t + 1) n) ∙ goes.told;
+      put = ap (λ xs. xs ++ puts_from (after_thread s t) (t + 1) n) turn.put ∙ append_assoc now.objects (puts_by s t) (puts_from (after_thread s t) (t + 1) n) ∙ goes.put;
+      follow = follows-then first.edits now.edits new.edits first.state.catalog s.catalog (after_thread s t).catalog goes.follow (coe 0 1 (i. EditsFollow now.edits new.edits s.catalog (turn.after i).catalog) turn.follow);
     } in
     subst (λ (q : State). Goes all first (at q) (t + 1) n) (sym turn.after) to
 
@@ -121,7 +109,7 @@ hands_switch s q t x is lines objects removes held =
 pub hands_all : (s q : State) (x : Handed) → q ≡ after_all s → x.lines ≡ lines_from true s 1 s.catalog.ledger.base.threads → x.objects ≡ puts_from s 1 s.catalog.ledger.base.threads → x.removes ≡ [] → (held : Option Held) → Hands held s ArchiveLogCurrent x q
 hands_all s q x is lines objects removes held = record {
   effect = archiving s;
-  comes = λ there same. ap (λ (ls : List Line). done ls (archiving s) q) lines ∙ ap (λ (y : State). done (lines_from true s 1 s.catalog.ledger.base.threads) (archiving s) y) is;
+  comes = λ there same. (λ i. done (lines i) (archiving s) (is i));
   puts = objects;
   removes = removes;
 }

@@ -59,55 +59,33 @@ sequence-alike s q t a = ap (λ o. option_map_or (λ l. l.sequence) o 0) (a.each
 due_from-alike : (n t : ℕ) (s q : State) → 0 < t → AlikeFrom s q t → due_from q t n ≡ due_from s t n
 due_from-alike zero t s q low a = refl
 due_from-alike (suc n) t s q low a =
-    ap (λ b. cond b 1 0 + due_from (after_thread q t) (t + 1) n) (due-alike s q t a)
-    ∙ ap (λ k. cond (is_due s t) 1 0 + k) (due_from-alike n (t + 1) (after_thread s t) (after_thread q t) (omega arith) (alike-next s q t low a))
+    λ i. cond (due-alike s q t a i) 1 0 + due_from-alike n (t + 1) (after_thread s t) (after_thread q t) (omega arith) (alike-next s q t low a) i
 
 bytes_from-alike : (n t : ℕ) (s q : State) → 0 < t → AlikeFrom s q t → bytes_from q t n ≡ bytes_from s t n
 bytes_from-alike zero t s q low a = refl
 bytes_from-alike (suc n) t s q low a =
-    ap (λ b. cond b (log_bytes q t) 0 + bytes_from (after_thread q t) (t + 1) n) (due-alike s q t a)
-    ∙ ap (λ k. cond (is_due s t) k 0 + bytes_from (after_thread q t) (t + 1) n) (bytes-alike s q t a)
-    ∙ ap (λ k. cond (is_due s t) (log_bytes s t) 0 + k) (bytes_from-alike n (t + 1) (after_thread s t) (after_thread q t) (omega arith) (alike-next s q t low a))
+    λ i. cond (due-alike s q t a i) (bytes-alike s q t a i) 0 + bytes_from-alike n (t + 1) (after_thread s t) (after_thread q t) (omega arith) (alike-next s q t low a) i
 
 last-alike : (n t : ℕ) (s q : State) → 0 < t → AlikeFrom s q t → is_last_sequence q t n ≡ is_last_sequence s t n
 last-alike zero t s q low a = refl
 last-alike (suc n) t s q low a =
-    ap (λ b. cond (b && nat_le 4294967295 (sequence_of q.instance.logs t)) true (is_last_sequence (after_thread q t) (t + 1) n)) (due-alike s q t a)
-    ∙ ap (λ k. cond (is_due s t && nat_le 4294967295 k) true (is_last_sequence (after_thread q t) (t + 1) n)) (sequence-alike s q t a)
-    ∙ ap (λ b. cond (is_due s t && nat_le 4294967295 (sequence_of s.instance.logs t)) true b) (last-alike n (t + 1) (after_thread s t) (after_thread q t) (omega arith) (alike-next s q t low a))
+    λ i. cond (due-alike s q t a i && nat_le 4294967295 (sequence-alike s q t a i)) true (last-alike n (t + 1) (after_thread s t) (after_thread q t) (omega arith) (alike-next s q t low a) i)
 
--- One thread on, in the same state
+-- One turn of a loop over the threads: those that are left are counted in the same state
 
-pub due-next : (s : State) (t n m : ℕ) (b : Bool) → 0 < t → n ≡ suc m → is_due s t ≡ b → due_from s t n ≡ cond b 1 0 + due_from s (t + 1) m
-due-next s t n m b low e is =
-    ap (due_from s t) e ∙ ap (λ x. cond x 1 0 + due_from (after_thread s t) (t + 1) m) is
-    ∙ ap (λ k. cond b 1 0 + k) (due_from-alike m (t + 1) s (after_thread s t) (omega arith) (alike-thread s t low))
+one-fewer : (t n : ℕ) → 0 < t → t ≤ n → n + 1 - t ≡ suc (n + 1 - (t + 1))
+one-fewer t n low high = omega (arith, low, high)
 
-pub bytes-next : (s : State) (t n m : ℕ) (b : Bool) → 0 < t → n ≡ suc m → is_due s t ≡ b → bytes_from s t n ≡ cond b (log_bytes s t) 0 + bytes_from s (t + 1) m
-bytes-next s t n m b low e is =
-    ap (bytes_from s t) e ∙ ap (λ x. cond x (log_bytes s t) 0 + bytes_from (after_thread s t) (t + 1) m) is
-    ∙ ap (λ k. cond b (log_bytes s t) 0 + k) (bytes_from-alike m (t + 1) s (after_thread s t) (omega arith) (alike-thread s t low))
+pub due-turn : (s : State) (t n old total : ℕ) → 0 < t → t ≤ n → old + due_from s t (n + 1 - t) ≡ total → old + cond (is_due s t) 1 0 + due_from s (t + 1) (n + 1 - (t + 1)) ≡ total
+due-turn s t n old total low high was =
+    let later = due_from-alike (n + 1 - (t + 1)) (t + 1) s (after_thread s t) (omega arith) (alike-thread s t low) in
+    omega (arith, was, ap (due_from s t) (one-fewer t n low high), later)
 
-pub last-next : (s : State) (t n m : ℕ) (b : Bool) → 0 < t → n ≡ suc m → (is_due s t && nat_le 4294967295 (sequence_of s.instance.logs t)) ≡ b → is_last_sequence s t n ≡ cond b true (is_last_sequence s (t + 1) m)
-last-next s t n m b low e is =
-    ap (is_last_sequence s t) e ∙ ap (λ x. cond x true (is_last_sequence (after_thread s t) (t + 1) m)) is
-    ∙ ap (λ x. cond b true x) (last-alike m (t + 1) s (after_thread s t) (omega arith) (alike-thread s t low))
-
--- One turn of a loop over the threads
-
-pub due-turn : (s : State) (t n old new total : ℕ) (b : Bool) → 0 < t → t ≤ n → is_due s t ≡ b → old + due_from s t (n + 1 - t) ≡ total → new ≡ old + cond b 1 0 → new + due_from s (t + 1) (n + 1 - (t + 1)) ≡ total
-due-turn s t n old new total b low high is was now =
-    let e : n + 1 - t ≡ suc (n + 1 - (t + 1)) = omega (arith, low, high) in
-    let next = due-next s t (n + 1 - t) (n + 1 - (t + 1)) b low e is in
-    omega (arith, was, now, next)
-
-pub bytes-turn : (s : State) (t n old new total : ℕ) (b : Bool) → 0 < t → t ≤ n → is_due s t ≡ b → old + bytes_from s t (n + 1 - t) ≡ total → new ≡ old + cond b (log_bytes s t) 0 → new + bytes_from s (t + 1) (n + 1 - (t + 1)) ≡ total
-bytes-turn s t n old new total b low high is was now =
-    let e : n + 1 - t ≡ suc (n + 1 - (t + 1)) = omega (arith, low, high) in
-    let next = bytes-next s t (n + 1 - t) (n + 1 - (t + 1)) b low e is in
-    omega (arith, was, now, next)
+pub bytes-turn : (s : State) (t n old total : ℕ) → 0 < t → t ≤ n → old + bytes_from s t (n + 1 - t) ≡ total → old + cond (is_due s t) (log_bytes s t) 0 + bytes_from s (t + 1) (n + 1 - (t + 1)) ≡ total
+bytes-turn s t n old total low high was =
+    let later = bytes_from-alike (n + 1 - (t + 1)) (t + 1) s (after_thread s t) (omega arith) (alike-thread s t low) in
+    omega (arith, was, ap (bytes_from s t) (one-fewer t n low high), later)
 
 pub last-turn : (s : State) (t n : ℕ) (total b : Bool) → 0 < t → t ≤ n → (is_due s t && nat_le 4294967295 (sequence_of s.instance.logs t)) ≡ b → is_last_sequence s t (n + 1 - t) ≡ total → cond b true (is_last_sequence s (t + 1) (n + 1 - (t + 1))) ≡ total
 last-turn s t n total b low high is was =
-    let e : n + 1 - t ≡ suc (n + 1 - (t + 1)) = omega (arith, low, high) in
-    sym (last-next s t (n + 1 - t) (n + 1 - (t + 1)) b low e is) ∙ was
+    (λ i. cond (sym is i) true (sym (last-alike (n + 1 - (t + 1)) (t + 1) s (after_thread s t) (omega arith) (alike-thread s t low)) i)) ∙ sym (ap (is_last_sequence s t) (one-fewer t n low high)) ∙ was
