@@ -18,22 +18,29 @@ use Rattle.rm_repository.specs.Repository.{Saved}
 use Rattle.rm_session.specs.Fit.{HasLog, HasPiece, IsWhereFits, IsWhereLogFits}
 
 -- the store has one piece of a part at most, and one log
-pub one-piece : (h : Held) (p : PartEntry) (a b : Piece) → HasPiece h p a → HasPiece h p b → a ≡ b
+one-piece : (h : Held) (p : PartEntry) (a b : Piece) → HasPiece h p a → HasPiece h p b → a ≡ b
 one-piece h p a b first second =
     pieces.spelling_same a b first.valid second.valid (same_Some (piece_format.spelling a) (piece_format.spelling b) (sym first.has.there ∙ second.has.there))
 
-pub one-log : (h : Held) (p : PartEntry) (a b : LogFile) → HasLog h p a → HasLog h p b → a ≡ b
+one-log : (h : Held) (p : PartEntry) (a b : LogFile) → HasLog h p a → HasLog h p b → a ≡ b
 one-log h p a b first second =
     logs.spelling_same a b first.valid second.valid (same_Some (log_format.spelling a) (log_format.spelling b) (sym first.has.there ∙ second.has.there))
 
 -- it has what is good
-pub has-good : (h : Held) (l : Ledger) (site : Saved) (f : ℕ) (d : Datafile) (p : PartEntry) (x : Piece) → file_part site f ≡ Some p → IsGoodFile h l site f d x → HasPiece h p x
+has-good : (h : Held) (l : Ledger) (site : Saved) (f : ℕ) (d : Datafile) (p : PartEntry) (x : Piece) → file_part site f ≡ Some p → IsGoodFile h l site f d x → HasPiece h p x
 has-good h l site f d p x is good =
     record { has = subst (λ q. HasPart h q (piece_format.spelling x)) (same_Some good.part p (sym good.is ∙ is)) good.has; valid = good.valid }
 
-pub has-good-log : (h : Held) (l : Ledger) (site : Saved) (t : ℕ) (p : PartEntry) (x : LogFile) → thread_part site t ≡ Some p → IsGoodLog h l site t x → HasLog h p x
+has-good-log : (h : Held) (l : Ledger) (site : Saved) (t : ℕ) (p : PartEntry) (x : LogFile) → thread_part site t ≡ Some p → IsGoodLog h l site t x → HasLog h p x
 has-good-log h l site t p x is good =
     record { has = subst (λ q. HasPart h q (log_format.spelling x)) (same_Some good.part p (sym good.is ∙ is)) good.has; valid = good.valid }
+
+-- one part is good as one piece, or as one log
+pub file-one : (held : Held) (l : Ledger) (site : Saved) (f : ℕ) (d : Datafile) (a b : Piece) → IsGoodFile held l site f d a → IsGoodFile held l site f d b → a ≡ b
+file-one held l site f d a b first second = one-piece held first.part a b (record { has = first.has; valid = first.valid }) (has-good held l site f d first.part b first.is second)
+
+pub log-one : (held : Held) (l : Ledger) (site : Saved) (t : ℕ) (a b : LogFile) → IsGoodLog held l site t a → IsGoodLog held l site t b → a ≡ b
+log-one held l site t a b first second = one-log held first.part a b (record { has = first.has; valid = first.valid }) (has-good-log held l site t first.part b first.is second)
 
 -- what it has is good where it fits, and nothing else is
 good-by : {X : Type 0} (Has Fits Good : X → Type 0) → ((a b : X) → Has a → Has b → a ≡ b) → ((a : X) → Good a → Has a × Fits a) → ((a : X) → Has a → Fits a → Good a)

@@ -63,7 +63,6 @@ ids-pairs {A} make Q R top each n (p ∷ ps) room apart =
     AllPairs-cons R (make n p) (with_ids make (n + 1) ps)
     (each-in (R (make n p)) (with_ids make (n + 1) ps) (λ y has.
     let from = ids-from make (n + 1) ps y has in
-    let inside = from.inside in
-    subst (R (make n p)) from.is (each n (n + 1 + from.at) p from.part (omega arith) (omega (arith, inside, room))
+    subst (R (make n p)) from.is (each n (n + 1 + from.at) p from.part (omega arith) (omega (arith, from.inside, room))
     (All-contains (Q p) ps from.part (λ k d in-ps. apart 0 (suc k) d (omega arith) (omega (arith, in-ps))) from.held))))
     (ids-pairs make Q R top each (n + 1) ps (omega (arith, room)) (λ i j d less in-ps. apart (suc i) (suc j) d (omega (arith, less)) (omega (arith, in-ps))))

@@ -5,7 +5,6 @@ pub mod Goods
 pub mod Ids
 pub mod Loads
 pub mod Lost
-pub mod OneByOne
 pub mod OneWay
 pub mod OnlineParts
 pub mod Orders

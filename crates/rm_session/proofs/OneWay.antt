@@ -1,5 +1,5 @@
 -- What runs is loaded in one way.
-use Rattle.std.proofs.Common.{◌≡◌, ◌+◌, ◌∙◌, ◌&&◌, not, ℕ, Option, Some, None, Bool, true, false, cond, ap, sym, subst, arith}
+use Rattle.std.proofs.Common.{◌≡◌, List, ◌+◌, ◌∙◌, ◌&&◌, not, ℕ, Option, Some, None, Bool, true, false, cond, ap, sym, subst, arith, zero, suc, [], ◌∷◌, refl, length, slice_get, slice_index_or}
 use Rattle.std.specs.Option.{option_map}
 use Rattle.std.proofs.lemmas.Option.{slice_get_within}
 use Rattle.rm_base.specs.Store.{Held}
@@ -15,7 +15,28 @@ use Rattle.rm_machine.specs.Saved.{IsGoodFile, IsGoodLog}
 use Rattle.rm_machine.specs.Sound.{StandsAt}
 use Rattle.rm_machine.specs.declared.state.Instance.{Instance}
 use Rattle.rm_machine.specs.declared.state.State.{State}
-use Rattle.rm_session.proofs.OneByOne.{file-one, index-of, items-same, log-one, the-one}
+use Rattle.rm_session.proofs.Goods.{file-one, log-one}
+
+-- where no two are so, there is one, or none
+the-one : {X : Type 0} (Is : X → Type 0) (o p : Option X) → ((x y : X) → Is x → Is y → x ≡ y) → IsTheOne Is o → IsTheOne Is p → o ≡ p
+the-one Is None None one first second = refl
+the-one Is None (Some y) one first second = absurd (first y second)
+the-one Is (Some x) None one first second = absurd (second x first)
+the-one Is (Some x) (Some y) one first second = ap Some (one x y first second)
+
+-- lists that are as long and have the same at each place
+items-same : {X : Type 0} (xs ys : List X) → length xs ≡ length ys → ((k : ℕ) (x y : X) → slice_get xs k ≡ Some x → slice_get ys k ≡ Some y → x ≡ y) → xs ≡ ys
+items-same [] [] many same = refl
+items-same [] (y ∷ ys) many same = absurd (omega (arith, many))
+items-same (x ∷ xs) [] many same = absurd (omega (arith, many))
+items-same (x ∷ xs) (y ∷ ys) many same =
+    λ i. same zero x y refl refl i ∷ items-same xs ys (omega (arith, many)) (λ k a b first second. same (suc k) a b first second) i
+
+-- a list of places, read with none for a default
+index-of : {X : Type 0} (xs : List (Option X)) (k : ℕ) (o : Option X) → slice_get xs k ≡ Some o → slice_index_or xs k None ≡ o
+index-of [] k o is = absurd cc
+index-of (x ∷ xs) zero o is = (let same : Some x ≡ Some o = is in cc)
+index-of (x ∷ xs) (suc k) o is = index-of xs k o is
 
 -- the database of a catalog, where this runs
 abbrev running : Repository → Instance → State

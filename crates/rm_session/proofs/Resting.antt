@@ -45,12 +45,11 @@ part-true s h sound keeps _ (of_file k x at) =
     let is = sound.place.each k file.0 x file.1 at in
     let back : k + 1 - 1 ≡ k = omega arith in
     let stands : placed s (k + 1) ≡ Some x = ap (λ n. slice_index_or s.instance.place n None) back ∙ index-get s.instance.place k x at in
-    let number = is.file in
     record {
       agrees = keeps.place (k + 1) x stands;
       valid = file-valid s sound k x at;
       within = (is.there, high-least (counted s x).checkpoint (counted s x).rows, is.high);
-      of = omega (arith, number, inside, many);
+      of = omega (arith, is.file, inside, many);
     }
 part-true s h sound keeps _ (of_thread t some upto found) = record {
   agrees = keeps.online t some upto found;

@@ -51,8 +51,8 @@ pub part-found : (s : State) (test : PartEntry → Bool) (p : SitePart) → Cont
 part-found s test p held passes only = elim (find_cases test (saved_of s).parts) [
   | inl none ↦
       let under = ids-to (ledger s).base.next_id (parts_of s) p held in
-      let same : under.part ≡ p = under.is in
-      absurd (find_none test (saved_of s).parts (entry_of ((ledger s).base.next_id + under.at) under.part) none (under.under entry_of) (ap (λ q. test (entry_of ((ledger s).base.next_id + under.at) q)) same ∙ passes ((ledger s).base.next_id + under.at)))
+      let id = (ledger s).base.next_id + under.at in
+      absurd (find_none test (saved_of s).parts (entry_of id under.part) none (under.under entry_of) (ap (λ (q : SitePart). test (entry_of id q)) under.is ∙ passes id))
   | inr found ↦
       let at = entry-found s test found.item found.is in
       let same : at.part ≡ p = only at.id at.part at.held at.passes in
