@@ -4,7 +4,8 @@ use Rattle.std.specs.Prelude.{IfSome, IsTrue}
 use Rattle.std.specs.List.{items_where_true}
 use Rattle.std.specs.List.Retain.{IsFiltered, ReturnsInTurn}
 use Rattle.std.proofs.lemmas.Bool.{eq-eqb, eqb-true}
-use Rattle.std.proofs.lemmas.List.Elements.{All-cons, All-head, All-nil, All-tail}
+use Rattle.std.proofs.lemmas.Grind.{get_or_picked}
+use Rattle.std.proofs.lemmas.List.Elements.{All-head, All-tail}
 use Rattle.std.proofs.lemmas.Option.{IfSome_then, same_Some}
 use Rattle.rm_base.specs.Store.{Held}
 use Rattle.rm_base.specs.declared.kinds.Kind.TheVariants.{Level1}
@@ -30,30 +31,21 @@ use Rattle.rm_machine.proofs.Records.{tree-told}
 
 -- where a test that changes nothing passes each, all are kept
 module _ {X F : Type 0} (R : F → X → Bool → F → Type 0) (P : X → Type 0) (f : F) (passes : (x : X) (b : Bool) (q : F) → R f x b q → (P x → b ≡ true) × (q ≡ f)) where
-  kept-first : (x : X) (xs : List X) (b : Bool) (bs : List Bool) → b ≡ true → items_where_true bs xs ≡ xs → items_where_true (b ∷ bs) (x ∷ xs) ≡ x ∷ xs
-  kept-first x xs true bs is rest = ap (λ ys. x ∷ ys) rest
-  kept-first x xs false bs is rest = absurd (cc)
-
   kept-in : (bs : List Bool) (xs : List X) (q : F) → length bs ≡ length xs → ReturnsInTurn R f bs xs q → All P xs → items_where_true bs xs ≡ xs
   kept-in [] [] q many turn all = refl
   kept-in [] (x ∷ xs) q many turn all = absurd (omega arith)
   kept-in (b ∷ bs) [] q many turn all = absurd turn
   kept-in (b ∷ bs) (x ∷ xs) q many turn all =
       let one = passes x b turn.0 turn.1 in
-      kept-first x xs b bs (one.0 (All-head P x xs all)) (kept-in bs xs q (omega arith) (subst (λ (g : F). ReturnsInTurn R g bs xs q) one.1 turn.2) (All-tail P x xs all))
+      ap (λ c. items_where_true (c ∷ bs) (x ∷ xs)) (one.0 (All-head P x xs all))
+      ∙ ap (λ ys. x ∷ ys) (kept-in bs xs q (omega arith) (subst (λ (g : F). ReturnsInTurn R g bs xs q) one.1 turn.2) (All-tail P x xs all))
 
   pub all-kept : (xs ys : List X) → IsFiltered R f xs ys → All P xs → ys ≡ xs
   all-kept xs ys is all = is.4 ∙ kept-in is.0 xs is.1 is.2 is.3 all
 
 -- what is kept is some of what was there
-kept-of : {X : Type 0} (P : X → Type 0) (bs : List Bool) (xs : List X) → All P xs → All P (items_where_true bs xs)
-kept-of P [] xs all = All-nil P
-kept-of P (b ∷ bs) [] all = All-nil P
-kept-of P (true ∷ bs) (x ∷ xs) all = All-cons P x (items_where_true bs xs) (All-head P x xs all) (kept-of P bs xs (All-tail P x xs all))
-kept-of P (false ∷ bs) (x ∷ xs) all = kept-of P bs xs (All-tail P x xs all)
-
 pub some-kept : {X F : Type 0} (R : F → X → Bool → F → Type 0) (f : F) (P : X → Type 0) (xs ys : List X) → IsFiltered R f xs ys → All P xs → All P ys
-some-kept R f P xs ys is all = subst (All P) (sym is.4) (kept-of P is.0 xs all)
+some-kept R f P xs ys is all = subst (All P) (sym is.4) (λ k d inside. let it = (get_or_picked is.0 xs k d inside).1 in subst P (sym it.2) (all it.0 d it.1))
 
 -- the level 1 has the fields of the record of its id, where that is there
 module _ (s : State) (sound : IsSound s) (x : ℕ × Piece) where

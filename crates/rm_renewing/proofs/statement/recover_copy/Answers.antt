@@ -30,10 +30,9 @@ renew_all-requires-clause-fit g c =
     let s = c.args.state.now in
     let e = c.in_ok-evidence.evidence in
     let tag = c.args.tag.now in
-    let xs = c.as_slice-copies.result.now in
     let are = coe 1 0 (i. AreRenewed s e tag c.in-Some.at (c.as_slice-copies.ensures.value i)) c.in_ok-made.ensures.renewed in
     let of = c.in_ok-evidence.ensures in
-    all-fit s e c.requires.sound of.fits of.recorded of.level1s tag c.in-Some.at xs are
+    all-fit s e c.requires.sound of.fits of.recorded of.level1s tag c.in-Some.at c.as_slice-copies.result.now are
 
 pub returns-in-Some-renewed_refusal-clause-refuses : goal.returns-in-Some-renewed_refusal-clause-refuses
 returns-in-Some-renewed_refusal-clause-refuses g c =
