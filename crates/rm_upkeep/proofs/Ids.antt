@@ -20,9 +20,8 @@ few-between : (ns : List ℕ) (low n : ℕ) → AllPairs (λ (a b : ℕ). a < b)
 few-between [] low n up each = omega arith
 few-between (m ∷ ms) low zero up each = let first = each m (in-front m ms) in absurd (omega (arith, first.0, first.1))
 few-between (m ∷ ms) low (suc n) up each =
-    let first = each m (in-front m ms) in
     let rest = few-between ms (low + 1) n (pairs-tail (λ (a b : ℕ). a < b) m ms up) (λ x has.
-    (omega (arith, pairs-head (λ (a b : ℕ). a < b) m ms x up has, first.0), omega (arith, (each x (behind m ms x has)).1))) in
+    (omega (arith, pairs-head (λ (a b : ℕ). a < b) m ms x up has, (each m (in-front m ms)).0), omega (arith, (each x (behind m ms x has)).1))) in
     omega (arith, rest)
 
 module _ (ids : List ℕ) (each : (n : ℕ) → Contains ids n → IsId n) where

@@ -1,8 +1,7 @@
 -- The expired records of a class are listed by their ids.
-use Rattle.std.proofs.Common.{◌≡◌, ◌<◌, ◌∙◌, ◌++◌, ℕ, List, [], ◌∷◌, Option, Some, None, cond, refl, ap, sym, subst, arith, length, map, get_or, AllPairs, Contains}
+use Rattle.std.proofs.Common.{◌≡◌, ◌<◌, ◌∙◌, ◌++◌, ℕ, List, [], ◌∷◌, Option, Some, None, cond, refl, ap, sym, subst, arith, length, map, AllPairs, Contains}
 use Rattle.std.specs.Option.{option_and_then}
-use Rattle.std.proofs.lemmas.List.Elements.{Contains-get_or}
-use Rattle.std.proofs.lemmas.List.Kept.{AllPairs-cons}
+use Rattle.std.proofs.lemmas.List.{get_or-map, length-map}
 use Rattle.std.proofs.lemmas.Option.{same_Some}
 use Rattle.rm_base.specs.Store.{Held}
 use Rattle.rm_base.specs.declared.kinds.Class.{Class}
@@ -13,7 +12,7 @@ use Rattle.rm_base.proofs.Members.{in-front}
 use Rattle.rm_apply.specs.Files.{AreExactly}
 use Rattle.rm_catalog.specs.declared.record.Record.{Record}
 use Rattle.rm_evidence.specs.Gathered.{Lists}
-use Rattle.rm_evidence.proofs.Extending.{only-in, pairs-head, pairs-tail}
+use Rattle.rm_evidence.proofs.Extending.{only-in}
 use Rattle.rm_report.specs.declared.line.Line.TheVariants.{Deleted, DeletedCount}
 use Rattle.rm_repository.specs.Facts.{IsRepository}
 use Rattle.rm_repository.specs.Repository.{Repository, records_of}
@@ -78,13 +77,10 @@ module _ (class : Class) where
 
 -- ids ascend alone as beside others
 ids-ascend : (xs : List (ℕ × Alone)) → AllPairs (λ x y. x.0 < y.0) xs → AllPairs (λ m n. m < n) (map (λ x. x.0) xs)
-ids-ascend [] up = λ i j d less inside. absurd (omega arith)
-ids-ascend (x ∷ xs) up =
-    let rest = map (λ (y : ℕ × Alone). y.0) xs in
-    AllPairs-cons (λ (m n : ℕ). m < n) x.0 rest (λ k d inside.
-    let y = map_from (λ (z : ℕ × Alone). z.0) xs (get_or rest k d) (Contains-get_or rest k d inside) in
-    subst (λ (n : ℕ). x.0 < n) y.is (pairs-head (λ (a b : ℕ × Alone). a.0 < b.0) x xs y.item up y.held)
-    ) (ids-ascend xs (pairs-tail (λ (a b : ℕ × Alone). a.0 < b.0) x xs up))
+ids-ascend xs up i j d less inside =
+    let e : ℕ × Alone = (d, tt) in
+    let within : j < length xs = omega (arith, inside, length-map xs (λ (x : ℕ × Alone). x.0)) in
+    omega (arith, up i j e less within, get_or-map (λ (x : ℕ × Alone). x.0) xs i e d (omega (arith, less, within)), get_or-map (λ (x : ℕ × Alone). x.0) xs j e d within)
 
 -- the ids of the list are exactly those of the expired records
 pub exactly : (rs : List Record) (class : Class) (list : List (ℕ × Alone)) → Lists Alone [] (λ id _. IsExpired rs class id) list → AreExactly (IsExpired rs class) (map (λ x. x.0) list)
