@@ -13,9 +13,7 @@ add_log-requires c =
     let s = c.args.state.now in
     let t = c.args.thread in
     let space = c.requires.space in
-    let ids = space.ids in
-    let many = c.requires.sound.logs.threads in
-    let high : t ≤ (ledger s).base.threads = let inside = c.requires.thread.1 in omega (arith, inside, many) in
+    let high : t ≤ (ledger s).base.threads = omega (arith, c.requires.thread.1, c.requires.sound.logs.threads) in
     let given : c.in-Some.log ≡ log_file_of s.instance.logs t c.redo_end-end.result = search rules in
     let log : c.in-Some.log ≡ online s t = given ∙ ap (log_file_of s.instance.logs t) c.redo_end-end.ensures in
     let entry : c.entry_of.result ≡ log_entry (ledger s).base.next_id (online s t) = search rules in
@@ -23,7 +21,7 @@ add_log-requires c =
       fits = subst (λ (e : LogEntry). FitsNewLog s.catalog e) (sym entry) (record {
         log = entry-is s t c.requires.sound c.requires.thread.0 high (can-space s t c.requires.due space);
         id = refl;
-        last = omega (arith, ids);
+        last = omega (arith, space.ids);
         room = space.records;
       });
     }
