@@ -45,7 +45,7 @@ after_inner x (PlainInner c) = x
 after_inner x (SetUntil until) = record { until = Some until; channels = x.channels }
 after_inner x AllocateChannel = record { until = x.until; channels = x.channels + 1 }
 
--- How many channels a BACKUP asks for: as many as the RUN has allocated, if it has any, or else those of the words. Where none are
+-- How many channels a BACKUP or RECOVER asks for: as many as the RUN has allocated, if it has any, or else those of the words. Where none are
 -- asked for it has as many as are configured.
 abbrev pub channels_of : ℕ → Option ℕ → Option ℕ
 channels_of allocated words = if nat_lt 0 allocated then Some allocated else words

@@ -23,7 +23,8 @@ use std::thread::Threads;
 ///
 /// The words are read first, then the script to its end, then the site is opened, then each statement is a
 /// step and its reply is written, and then the site is saved. The clock is asked once for each statement of the
-/// grammar. The channels and writers of a BACKUP are threads of `rt`, and call `gate`. The status is
+/// grammar. The channels of a BACKUP or RECOVER are threads of `rt`, and so are the writers of a BACKUP; its threads
+/// call `gate`. The status is
 /// - 0 where no reply is a refusal, 1 where one is,
 /// - 2 where the words are refused,
 /// - 3 where the source failed, 4 where the sink failed,
