@@ -33,6 +33,7 @@ __attribute__((destructor)) static void end(void) {
     FILE *file = name ? fopen(name, "w") : 0;
     if (file) { fprintf(file, "%ld\n", count); fclose(file); }
 }
+__attribute__((noreturn)) void _exit(int status) { end(); for (;;) syscall(SYS_exit_group, status); }
 static int fails(void) { if (__atomic_add_fetch(&count, 1, __ATOMIC_SEQ_CST) != at) return 0; errno = ENOMEM; return 1; }
 void *malloc(size_t n) { return fails() ? 0 : __libc_malloc(n); }
 void *realloc(void *p, size_t n) { return fails() ? 0 : __libc_realloc(p, n); }
