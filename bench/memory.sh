@@ -57,7 +57,7 @@ statements() {
                 if (c == quote) quoted = !quoted
                 if (quoted) continue
                 depth += (c == "{") - (c == "}")
-                if (c == ";" && depth == 0) { print one; one = "" }
+                if (depth == 0 && (c == ";" || c == "}" && one ~ /^ *RUN/)) { print one; one = "" }
             }
         }' "crates/rm_rows/data/$1.row"
 }
