@@ -2,7 +2,7 @@
 use rm_base::Scn;
 
 /// From where a datafile is restored.
-#[derive(Clone, Copy, Debug, PartialEq, Eq)]
+#[derive(Clone, Copy, PartialEq, Eq)]
 pub enum Origin {
     /// The backup of this id, with its checkpoint.
     Backup(u32, Scn),

@@ -5,7 +5,7 @@ ghost use Rattle.rm_base.specs.Content.{padded, trimmed};
 use crate::numbers::{BlockNo, FileNo, IncNo, Moment, Scn, ThreadNo};
 
 /// What a block contains: 64 bytes.
-#[derive(Clone, Copy, Debug, PartialEq, Eq)]
+#[derive(Clone, Copy, PartialEq, Eq)]
 pub struct Block(pub [u8; 64]);
 
 impl Block {
@@ -42,7 +42,7 @@ fn trimmed_len(bytes: &[u8]) -> usize
 }
 
 /// A block with its version, the SCN of its last change.
-#[derive(Clone, Copy, Debug, PartialEq, Eq)]
+#[derive(Clone, Copy, PartialEq, Eq)]
 pub struct Row {
     pub block: BlockNo,
     pub version: Scn,
@@ -50,7 +50,7 @@ pub struct Row {
 }
 
 /// A new content of one block, at one SCN of one incarnation, by one redo thread.
-#[derive(Clone, Copy, Debug, PartialEq, Eq)]
+#[derive(Clone, Copy, PartialEq, Eq)]
 pub struct Change {
     pub inc: IncNo,
     pub thread: ThreadNo,
@@ -61,7 +61,7 @@ pub struct Change {
 }
 
 /// A moment at which an SCN of an incarnation was written down.
-#[derive(Clone, Copy, Debug, PartialEq, Eq)]
+#[derive(Clone, Copy, PartialEq, Eq)]
 pub struct Mark {
     pub moment: Moment,
     pub inc: IncNo,
@@ -69,7 +69,7 @@ pub struct Mark {
 }
 
 /// A block's new version and content, to put in the place of its row.
-#[derive(Clone, Copy, Debug, PartialEq, Eq)]
+#[derive(Clone, Copy, PartialEq, Eq)]
 pub struct Part {
     pub block: BlockNo,
     pub version: Scn,

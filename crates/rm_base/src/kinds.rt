@@ -1,7 +1,7 @@
 //! The kinds, states and choices that records, lists and statements name.
 
 /// What a piece holds of its datafile.
-#[derive(Clone, Copy, Debug, PartialEq, Eq)]
+#[derive(Clone, Copy, PartialEq, Eq)]
 pub enum Kind {
     /// Each block, and it is no parent of a level 1.
     Full,
@@ -14,7 +14,7 @@ pub enum Kind {
 }
 
 /// Whether a record's object may be used.
-#[derive(Clone, Copy, Debug, PartialEq, Eq)]
+#[derive(Clone, Copy, PartialEq, Eq)]
 pub enum Status {
     Available,
     /// Set aside by a statement.
@@ -33,7 +33,7 @@ pub enum Bad {
 }
 
 /// Which backups are kept.
-#[derive(Clone, Copy, Debug, PartialEq, Eq)]
+#[derive(Clone, Copy, PartialEq, Eq)]
 pub enum Policy {
     /// Those that a recovery to any point of so many last days needs: 1 to 36,500.
     Window(u32),
@@ -44,7 +44,7 @@ pub enum Policy {
 }
 
 /// A class of records.
-#[derive(Clone, Copy, Debug, PartialEq, Eq)]
+#[derive(Clone, Copy, PartialEq, Eq)]
 pub enum Class {
     /// Pieces, and backups of logs.
     Backup,

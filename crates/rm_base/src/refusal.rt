@@ -3,7 +3,7 @@ use crate::numbers::{BlockNo, FileNo, IncNo, Moment, Scn};
 use crate::text::Text;
 
 /// A limit of the database.
-#[derive(Clone, Copy, Debug, PartialEq, Eq)]
+#[derive(Clone, Copy, PartialEq, Eq)]
 pub enum Limit {
     Threads,
     Files,
@@ -21,7 +21,7 @@ pub enum Limit {
 }
 
 /// A thread, a file or a block that is not there.
-#[derive(Clone, Copy, Debug, PartialEq, Eq)]
+#[derive(Clone, Copy, PartialEq, Eq)]
 pub enum Absent {
     Thread(u64),
     File(u64),
@@ -29,7 +29,7 @@ pub enum Absent {
 }
 
 /// A record, a tag, a log, an object or a byte that is not there.
-#[derive(Debug, Drop)]
+#[derive(Drop)]
 pub enum Unknown {
     Entry(u64),
     Tag(Text),
@@ -39,7 +39,7 @@ pub enum Unknown {
 }
 
 /// Why a statement is refused, by the number of its line.
-#[derive(Debug, Drop)]
+#[derive(Drop)]
 pub enum Refusal {
     /// The statement, whose first token stands on this line, is not of the grammar.
     Rm01 {

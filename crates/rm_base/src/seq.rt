@@ -6,7 +6,7 @@ use std::alloc::Global;
 use std::marker::Model;
 
 /// A list. It is made of a `Vec`, lent as a slice and given back without memory.
-#[derive(Drop, Debug)]
+#[derive(Drop)]
 pub struct Seq<T> {
     items: Vec<T>,
 }

@@ -7,7 +7,7 @@ use std::alloc::Global;
 use std::marker::Model;
 
 /// A text. It is made of a `String`, lent and given back without memory.
-#[derive(Drop, Debug)]
+#[derive(Drop)]
 pub struct Text {
     string: String,
 }

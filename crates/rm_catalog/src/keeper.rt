@@ -13,7 +13,7 @@ use crate::{copies, edits};
 use rm_base::{Failing, NoMemory, Seq};
 
 /// Why a keeper did nothing.
-#[derive(Clone, Copy, Debug, PartialEq, Eq)]
+#[derive(Clone, Copy, PartialEq, Eq)]
 pub enum KeeperFail {
     /// The keeper failed, and counted it.
     Failed,

@@ -6,14 +6,14 @@ use rm_base::{FileNo, IncNo, Kind, Moment, NoMemory, Policy, Scn, Status, Text, 
 use std::alloc::Global;
 
 /// The kind of a record, 1 to 8, and its id. Each record has a key of its own.
-#[derive(Clone, Copy, Debug, PartialEq, Eq)]
+#[derive(Clone, Copy, PartialEq, Eq)]
 pub struct Key {
     pub kind: u8,
     pub id: u32,
 }
 
 /// Kind 1, id 0: the base facts of a database.
-#[derive(Clone, Copy, Debug, PartialEq, Eq)]
+#[derive(Clone, Copy, PartialEq, Eq)]
 pub struct BaseEntry {
     /// At least 1.
     pub dbid: u32,
@@ -33,7 +33,7 @@ pub struct BaseEntry {
 }
 
 /// Kind 2: an incarnation, whose number is the id.
-#[derive(Clone, Copy, Debug, PartialEq, Eq)]
+#[derive(Clone, Copy, PartialEq, Eq)]
 pub struct IncarnationEntry {
     pub inc: IncNo,
     /// The one from which it branched off; 0 for the first.
@@ -45,7 +45,7 @@ pub struct IncarnationEntry {
 }
 
 /// Kind 3: a datafile, whose number is the id.
-#[derive(Clone, Copy, Debug, PartialEq, Eq)]
+#[derive(Clone, Copy, PartialEq, Eq)]
 pub struct DatafileEntry {
     pub file: FileNo,
     /// The incarnation that it was created on.
@@ -57,7 +57,7 @@ pub struct DatafileEntry {
 }
 
 /// Kind 4: an archived log, or a backup of one.
-#[derive(Clone, Copy, Debug, PartialEq, Eq)]
+#[derive(Clone, Copy, PartialEq, Eq)]
 pub struct LogEntry {
     pub id: u32,
     /// False for a backup.
@@ -80,7 +80,7 @@ pub struct LogEntry {
 }
 
 /// Kind 5: a backup piece, or an image copy.
-#[derive(Debug, Drop)]
+#[derive(Drop)]
 pub struct PieceEntry {
     pub id: u32,
     /// Whether it is an image copy.
@@ -110,7 +110,7 @@ pub struct PieceEntry {
 }
 
 /// Kind 6: a moment, and the SCN that was reached then.
-#[derive(Clone, Copy, Debug, PartialEq, Eq)]
+#[derive(Clone, Copy, PartialEq, Eq)]
 pub struct MarkEntry {
     /// 1, 2, 3 and so on.
     pub id: u32,
@@ -120,7 +120,7 @@ pub struct MarkEntry {
 }
 
 /// Kind 7: the saved part of a datafile or of a redo thread. One of both numbers is 0.
-#[derive(Clone, Copy, Debug, PartialEq, Eq)]
+#[derive(Clone, Copy, PartialEq, Eq)]
 pub struct PartEntry {
     pub id: u32,
     pub file: FileNo,
@@ -132,7 +132,7 @@ pub struct PartEntry {
 }
 
 /// Kind 8, id 0: the head of a saved site.
-#[derive(Clone, Copy, Debug, PartialEq, Eq)]
+#[derive(Clone, Copy, PartialEq, Eq)]
 pub struct HeadEntry {
     /// Whether the database was open.
     pub opened: bool,
@@ -143,7 +143,7 @@ pub struct HeadEntry {
 }
 
 /// A record of the catalog.
-#[derive(Debug, Drop)]
+#[derive(Drop)]
 pub enum Record {
     Base(BaseEntry),
     Incarnation(IncarnationEntry),
@@ -156,7 +156,7 @@ pub enum Record {
 }
 
 /// A change of the records.
-#[derive(Debug, Drop)]
+#[derive(Drop)]
 pub enum Edit {
     /// Replaces the record of the same key, or adds the record.
     Put(Record),

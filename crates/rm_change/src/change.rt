@@ -11,7 +11,7 @@ use rm_base::{NoMemory, Seq, Store, StoreFail, Text};
 use rm_catalog::{Edit, Keeper, KeeperFail};
 
 /// Why a statement was stopped, without a reply.
-#[derive(Clone, Copy, Debug, PartialEq, Eq)]
+#[derive(Clone, Copy, PartialEq, Eq)]
 pub enum Stop {
     /// The store failed, and counted it.
     StoreFault,

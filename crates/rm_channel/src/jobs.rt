@@ -2,21 +2,21 @@
 use rm_base::{Block, BlockNo, FileNo, Row, Scn};
 
 /// Which blocks of a datafile are wanted.
-#[derive(Clone, Copy, Debug, PartialEq, Eq)]
+#[derive(Clone, Copy, PartialEq, Eq)]
 pub enum Wanted {
     /// Each of its blocks, of which there are so many.
     All(u32),
 }
 
 /// A datafile to be copied.
-#[derive(Clone, Copy, Debug, PartialEq, Eq)]
+#[derive(Clone, Copy, PartialEq, Eq)]
 pub struct CopyJob {
     pub file: FileNo,
     pub wanted: Wanted,
 }
 
 /// A write to be made.
-#[derive(Clone, Copy, Debug, PartialEq, Eq)]
+#[derive(Clone, Copy, PartialEq, Eq)]
 pub struct WriteJob {
     pub file: FileNo,
     pub block: BlockNo,
@@ -34,7 +34,7 @@ pub struct Work {
 
 /// Where a worker stands: before so many reads of a section of a datafile, or, with file 0, before so
 /// many writes of a list.
-#[derive(Clone, Copy, Debug, PartialEq, Eq)]
+#[derive(Clone, Copy, PartialEq, Eq)]
 pub struct Point {
     pub file: FileNo,
     pub section: u32,

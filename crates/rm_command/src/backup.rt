@@ -20,14 +20,14 @@ use rm_token::Token;
 use std::alloc::Global;
 
 /// What an AS asks for.
-#[derive(Clone, Copy, Debug, PartialEq, Eq)]
+#[derive(Clone, Copy, PartialEq, Eq)]
 pub enum Kind {
     Copy,
     Sets,
 }
 
 /// What an INCREMENTAL says.
-#[derive(Clone, Copy, Debug, PartialEq, Eq)]
+#[derive(Clone, Copy, PartialEq, Eq)]
 pub struct Level {
     pub number: u8,
     pub cumulative: bool,

@@ -17,7 +17,7 @@ use rm_token::Token;
 use std::alloc::Global;
 
 /// What a DELETE names.
-#[derive(Clone, Copy, Debug, PartialEq, Eq)]
+#[derive(Clone, Copy, PartialEq, Eq)]
 pub enum Deletion {
     Obsolete,
     One(u64),

@@ -16,7 +16,7 @@ use rm_catalog::Catalog;
 use std::alloc::Global;
 
 /// Why no evidence was gathered.
-#[derive(Clone, Copy, Debug, PartialEq, Eq)]
+#[derive(Clone, Copy, PartialEq, Eq)]
 pub enum EvidenceFault {
     /// The store failed, and counted it.
     StoreFault,

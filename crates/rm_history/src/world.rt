@@ -5,7 +5,7 @@ use crate::tree::Tree;
 use rm_base::{Block, BlockNo, Change, FileNo, IncNo, Row, Scn, Seq, ThreadNo};
 
 /// A datafile as it was created: its incarnation and SCN, and how many blocks it has.
-#[derive(Clone, Copy, Debug, PartialEq, Eq)]
+#[derive(Clone, Copy, PartialEq, Eq)]
 pub struct Datafile {
     pub inc: IncNo,
     pub creation: Scn,

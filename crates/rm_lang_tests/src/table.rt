@@ -7,7 +7,7 @@ use std::alloc::Global;
 use std::{fs, io};
 
 /// A table.
-#[derive(Clone, Copy, Debug, PartialEq, Eq)]
+#[derive(Clone, Copy, PartialEq, Eq)]
 pub enum Table {
     Times,
     Moments,

@@ -5,7 +5,7 @@ use rm_base::{Block, BlockNo, FileNo, Row, Scn, ThreadNo};
 use rm_redo::LogFault;
 
 /// Why a write was refused.
-#[derive(Clone, Copy, Debug, PartialEq, Eq)]
+#[derive(Clone, Copy, PartialEq, Eq)]
 pub enum LiveFault {
     /// There is no such block.
     NoBlock,

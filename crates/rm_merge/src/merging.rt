@@ -12,7 +12,7 @@ use rm_piece::{Piece, high_of};
 use std::alloc::Global;
 
 /// Why nothing was merged.
-#[derive(Clone, Copy, Debug, PartialEq, Eq)]
+#[derive(Clone, Copy, PartialEq, Eq)]
 pub enum MergeFault {
     /// The copy and the level 1 do not meet.
     Apart,

@@ -12,7 +12,7 @@ use rm_redo::{LogFile, LogRecord};
 use std::alloc::Global;
 
 /// What rows and records tell of a block.
-#[derive(Clone, Copy, Debug, PartialEq, Eq)]
+#[derive(Clone, Copy, PartialEq, Eq)]
 pub(crate) struct Entry {
     /// The greatest version at which it is seen on the path of the target, and a content seen there.
     pub told: Told,

@@ -6,7 +6,7 @@ use rm_base::{NoMemory, Scn};
 use std::alloc::Global;
 
 /// The SCNs from `start` up to, and without, `end`.
-#[derive(Clone, Copy, Debug, PartialEq, Eq)]
+#[derive(Clone, Copy, PartialEq, Eq)]
 pub(crate) struct Span {
     pub start: Scn,
     pub end: Scn,

@@ -10,7 +10,7 @@ use rm_base::{IncNo, Scn, Seq, ThreadNo};
 
 /// What one redo thread changed in one incarnation from `first` up to, and without, `next`. Its
 /// records ascend by SCN, datafile and block.
-#[derive(Debug, Drop)]
+#[derive(Drop)]
 pub struct LogFile {
     pub dbid: u32,
     pub inc: IncNo,

@@ -13,7 +13,7 @@ use std::marker::Model;
 use std::mem;
 
 /// One change, as a log keeps it.
-#[derive(Clone, Copy, Debug, PartialEq, Eq)]
+#[derive(Clone, Copy, PartialEq, Eq)]
 pub struct LogRecord {
     pub scn: Scn,
     pub file: FileNo,
@@ -45,7 +45,7 @@ impl ThreadLog {
 }
 
 /// Why a change was not logged.
-#[derive(Clone, Copy, Debug, PartialEq, Eq)]
+#[derive(Clone, Copy, PartialEq, Eq)]
 pub enum LogFault {
     /// The thread's log has 65,536 records.
     Full,

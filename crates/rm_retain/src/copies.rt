@@ -8,7 +8,7 @@ use rm_history::Tree;
 use std::alloc::Global;
 
 /// A backup of one datafile, by its record.
-#[derive(Clone, Copy, Debug, PartialEq, Eq)]
+#[derive(Clone, Copy, PartialEq, Eq)]
 pub struct Backup {
     pub id: u32,
     pub inc: IncNo,

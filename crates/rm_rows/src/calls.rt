@@ -4,7 +4,7 @@ use rm_catalog::MemKeeper;
 use std::alloc::Global;
 
 /// A function of one of the objects in memory.
-#[derive(Clone, Copy, Debug, PartialEq, Eq)]
+#[derive(Clone, Copy, PartialEq, Eq)]
 pub enum Call {
     Read,
     Write,

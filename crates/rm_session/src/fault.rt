@@ -4,7 +4,7 @@ ghost use Rattle.std.specs.Prelude.{◌≡◌};
 use rm_base::{NoMemory, StoreFail};
 
 /// Why a site could not be loaded.
-#[derive(Clone, Copy, Debug, PartialEq, Eq)]
+#[derive(Clone, Copy, PartialEq, Eq)]
 pub enum SessionFault {
     /// The store failed, and counted it.
     StoreFault,

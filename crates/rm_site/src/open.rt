@@ -12,7 +12,7 @@ use rm_session::{SessionFault, load_place};
 use std::alloc::Global;
 
 /// Why a site could not be opened.
-#[derive(Clone, Copy, Debug, PartialEq, Eq)]
+#[derive(Clone, Copy, PartialEq, Eq)]
 pub enum OpenFault {
     /// The kind and the id of the first record, by kind and then by id, that breaks a rule.
     BadRow(u8, u32),

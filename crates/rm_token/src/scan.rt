@@ -90,7 +90,7 @@ fn number_token(digit: u8, rest: &[u8]) -> Token
 }
 
 // What stands at the front of the bytes: how many bytes it takes, and the token that it is, if it is one.
-#[derive(Drop, Debug)]
+#[derive(Drop)]
 pub struct Piece {
     pub size: usize,
     pub token: Option<Token>,

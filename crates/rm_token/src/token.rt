@@ -4,7 +4,7 @@ ghost use Rattle.std.specs.Prelude.{◌≡◌};
 use rm_base::Text;
 
 /// A token.
-#[derive(Drop, Debug)]
+#[derive(Drop)]
 pub enum Token {
     /// A letter and letters, digits and underscores behind it.
     Word(Text),

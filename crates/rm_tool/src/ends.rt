@@ -10,7 +10,7 @@ use std::alloc::{AllocError, Global};
 pub const MOST_BYTES: usize = 4_194_304;
 
 /// Why a script was not read.
-#[derive(Clone, Copy, Debug, PartialEq, Eq)]
+#[derive(Clone, Copy, PartialEq, Eq)]
 pub enum ReadFault {
     /// The source failed.
     Failed,

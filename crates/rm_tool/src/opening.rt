@@ -11,7 +11,7 @@ use rm_site::{OpenFault, Site};
 use std::alloc::Global;
 
 /// Why no statement could be stepped.
-#[derive(Clone, Copy, Debug, PartialEq, Eq)]
+#[derive(Clone, Copy, PartialEq, Eq)]
 pub enum Unopened {
     /// A record of the keeper breaks a rule, and the line of the first was written.
     BadRecord,

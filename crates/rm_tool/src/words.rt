@@ -8,7 +8,7 @@ use rm_words::{WordsFault, read_words};
 use std::alloc::Global;
 
 /// What a look at the words gives.
-#[derive(Clone, Copy, Debug, PartialEq, Eq)]
+#[derive(Clone, Copy, PartialEq, Eq)]
 pub enum Look {
     /// With so many channels, where they say it.
     Accepted(Option<u32>),

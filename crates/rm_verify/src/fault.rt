@@ -5,7 +5,7 @@ use rm_base::{NoMemory, StoreFail};
 use rm_evidence::EvidenceFault;
 
 /// Why the records were not gone through.
-#[derive(Clone, Copy, Debug, PartialEq, Eq)]
+#[derive(Clone, Copy, PartialEq, Eq)]
 pub enum VerifyFault {
     /// The store failed, and counted it.
     StoreFault,
