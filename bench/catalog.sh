@@ -22,8 +22,8 @@ clean() {
 }
 trap clean EXIT
 
-cd "$(dirname "$0")/../crates/rm_outside_tests"
-program=$PWD/out/rm_outside_tests
+cd "$(dirname "$0")/../crates/rm_test_outside"
+program=$PWD/out/rm_test_outside
 # It is built where something has changed, and then only looks into a folder.
 rt run -- names "$dir/none" 0 x > /dev/null 2> "$dir/built" || { cat "$dir/built"; exit 1; }
 cd "$dir"

@@ -1,11 +1,14 @@
 #!/bin/sh
 # Proves and builds rm_bench, and tells the times of each kernel beside a plain loop, of the bytes of a
-# piece and a log beside SHA-256 alone, of edits and catalogs beside copies, of planning a datafile and of
-# gathering what tells of it, and of turns of a live database beside a plain lock. Then it tells the time
-# of sha256sum on a file of the size of the largest piece, read 20 times in one run.
+# piece and a log beside SHA-256 alone, of planning a datafile and of gathering what tells of it, of turns of
+# a live database beside a plain lock, and of its copies by channels:
+#     bench/run.sh [PROGRAM]
+# Then it tells the time of sha256sum on a file of the size of the largest piece, read 20 times in one run, and what
+# PROGRAM (./rman) takes, by scripts.sh and growth.sh.
 set -eu
-cd "$(dirname "$0")/../crates/rm_bench"
-rt run -- large
+cd "$(dirname "$0")/.."
+program=${1:-./rman}
+(cd crates/rm_bench && rt run -- large)
 
 size=4980818
 file=$(mktemp)
@@ -22,5 +25,5 @@ end=$(date +%s%N)
 micros=$(((end - start) / 20000))
 echo "sha256sum: $size bytes, $micros us, $((size / micros)) MB/s"
 
-# Scripts from end to end.
-../../bench/scripts.sh
+bench/scripts.sh "$program"
+bench/growth.sh "$program"

@@ -1,5 +1,7 @@
 #!/usr/bin/env bash
-# Tells the time of scripts from end to end: the shortest of five runs of each script, less the shortest of the same
+# Tells the time of scripts from end to end, run by PROGRAM (./rman):
+#     bench/scripts.sh [PROGRAM]
+# It is the shortest of five runs of each script, less the shortest of the same
 # script without the statements that are measured. Beside BACKUP, by 1, 2 and 4 channels, and RECOVER of a database of
 # 8 MB stands the shortest of five runs of sha256sum on a file as long as the two pieces. Then the database is lost: beside its RESTORE and
 # RECOVER, from a level 0 and a log of 65,536 records, stands sha256sum of these objects, and at last RECOVER from 1, 4
@@ -7,12 +9,12 @@
 # of their own, less one that only shows the settings.
 set -euo pipefail
 cd "$(dirname "$0")/.."
+program=${1:-./rman}
 room=$(mktemp -d)
 place=$room
 [ ! -w /dev/shm ] || place=$(mktemp -d -p /dev/shm)
 trap 'rm -rf "$room" "$place"' EXIT
-./rman --help 2> /dev/null
-: | ./rman --store "$place/objects" --catalog "$place/catalog" > /dev/null
+: | "$program" --store "$place/objects" --catalog "$place/catalog" > /dev/null
 
 # The shortest of five runs of a command, in microseconds.
 shortest() {
@@ -31,7 +33,7 @@ shortest() {
 # With the number of channels, if there is one.
 run_script() {
     rm -rf "$place/objects" "$place/catalog"*
-    ./rman --store "$place/objects" --catalog "$place/catalog" ${2:+--channels "$2"} < "$1"
+    "$program" --store "$place/objects" --catalog "$place/catalog" ${2:+--channels "$2"} < "$1"
 }
 
 database() {
@@ -98,7 +100,7 @@ next_session() {
         rm -rf "$place/objects" "$place/catalog"* && cp -r "$place/before/." "$place"
         local start end micros
         start=$(date +%s%N)
-        echo "$1" | ./rman --store "$place/objects" --catalog "$place/catalog" > /dev/null
+        echo "$1" | "$program" --store "$place/objects" --catalog "$place/catalog" > /dev/null
         end=$(date +%s%N)
         micros=$(((end - start) / 1000))
         [ -n "$best" ] && [ "$best" -le "$micros" ] || best=$micros

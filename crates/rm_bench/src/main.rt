@@ -1,10 +1,9 @@
-//! Runs each kernel beside a plain loop, makes and reads the bytes of a piece and of a log, makes a
-//! catalog's edits beside copies, plans made datafiles, reads scripts, steps WRITEs over no record and over
-//! many, takes turns at a live database beside a plain lock, and copies it by channels beside a plain loop: with no
-//! word it tells whether both gave the same, and with the word `large` it tells the times.
+//! Runs each kernel beside a plain loop, makes and reads the bytes of a piece and of a log, plans made datafiles, takes
+//! turns at a live database beside a plain lock, and copies it by channels beside a plain loop: with no word it tells
+//! whether both gave the same, and with the word `large` it tells the times. What the whole program takes is timed from
+//! outside, by the scripts under bench.
 #![tactic(auto)]
 
-mod catalog;
 mod copies;
 mod format;
 mod formats;
@@ -14,8 +13,6 @@ mod live;
 mod made;
 mod plain;
 mod planning;
-mod script;
-mod writes;
 
 use format::Format;
 use kernel::Kernel;
@@ -37,10 +34,7 @@ fn main(rt: HostRuntime) -> io::Result<()> {
     run::<Same>(&rt, "same", large)?;
     run_format::<Piece>(&rt, "piece", large)?;
     run_format::<LogFile>(&rt, "log", large)?;
-    catalog::run(&rt, large)?;
     planning::run(&rt, large)?;
-    script::run(&rt, large)?;
-    writes::run(&rt, rt.alloc(), large)?;
     live::run(&rt, rt.alloc(), large)?;
     copies::run(&rt, rt.alloc(), large)
 }

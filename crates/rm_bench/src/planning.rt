@@ -4,16 +4,16 @@ ghost use Rattle.rm_catalog.specs.Rules.{HasDatabase};
 ghost use Rattle.rm_objects.specs.Database.{world_of};
 ghost use Rattle.rm_plan.specs.Plan.{IsFileTarget};
 
-use crate::catalog::kept;
 use crate::formats::micros_since;
 use crate::made::{Made, Shape, content_at, made_of};
 use crate::tell;
 use rm_base::sealed::digest_of;
-use rm_base::{Part, Scn, Seq, Store};
+use rm_base::{NoMemory, Part, Scn, Seq, Store};
 use rm_catalog::Catalog;
 use rm_evidence::{Evidence, InPlace, fits_place, gather};
 use rm_objects::{datafile, has_database};
 use rm_plan::plan_file;
+use std::alloc::AllocError;
 use std::time::Instant;
 use std::{io, mem};
 
@@ -63,6 +63,11 @@ pub fn run(rt: &HostRuntime, large: bool) -> io::Result<()> {
         tell_shape(rt, SMALL, false)?;
         tell_shape(rt, SMALL_ASTRAY, false)
     }
+}
+
+// What a call gave, or want of memory.
+fn kept<T>(outcome: Result<T, NoMemory>) -> Result<T, AllocError> {
+    outcome.map_err(|_| AllocError)
 }
 
 // Whether there is a database, and its datafile 1 exists at this SCN.

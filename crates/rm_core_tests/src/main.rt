@@ -6,6 +6,7 @@ mod catalog;
 mod keeper;
 mod log_bytes;
 mod logs;
+mod many;
 mod record;
 
 use rm_harness::{tell, tell_cases};
@@ -21,7 +22,8 @@ fn catalogs(rt: &HostRuntime) -> io::Result<()> {
     tell(rt, "copies", catalog::copies(alloc, text))?;
     tell(rt, "each load fails", keeper::each_load(alloc, text))?;
     tell(rt, "each apply fails", keeper::each_apply(alloc, text))?;
-    tell(rt, "edits in order", keeper::in_order(alloc, text))
+    tell(rt, "edits in order", keeper::in_order(alloc, text))?;
+    tell(rt, "drops of many marks", many::dropped(alloc))
 }
 
 fn bytes_of_logs(rt: &HostRuntime) -> io::Result<()> {

@@ -15,6 +15,6 @@ abbrev pub faults_without : Unopened → ℕ
 faults_without u = u.faults
 
 -- how often it has failed
-abbrev pub faults_in : CatalogFile → ℕ
+abbrev pub faults_in : {S : Type 0} → CatalogFile S → ℕ
 faults_in (Opened k) = faults_of k
 faults_in (NotOpened u) = faults_without u

@@ -7,9 +7,10 @@ use crate::keeper::SqlKeeper;
 use crate::sql::fail_of;
 use rm_base::Seq;
 use rm_catalog::{Edit, Keeper, KeeperFail, Record};
-use sqlite::{Connection, File, FileStore};
+use sqlite::{Alter, Connection, Error, File, FileFrom, FileStore, Start};
+use std::alloc::Global;
 use std::fs::OpenOptions;
-use std::io::{self, ErrorKind};
+use std::io::ErrorKind;
 use std::os::unix::fs::OpenOptionsExt;
 
 /// What stands in place of a keeper that could not be opened. Each call fails for the same cause, and a
@@ -83,16 +84,17 @@ impl Keeper for Unopened {
     }
 }
 
-/// The records in a file, or what stands in place of them where it can't be opened.
+/// The records in a file, or what stands in place of them where it can't be opened. What it does asks nothing
+/// of the store below its connection: only opening and closing are those of a file.
 #[derive(Drop)]
-pub enum CatalogFile {
-    Opened(SqlKeeper<FileStore<File>>),
+pub enum CatalogFile<S: Alter> {
+    Opened(SqlKeeper<S>),
     NotOpened(Unopened),
 }
 
 // Makes the file where it is missing, empty and for its owner alone. What is put beside it later has the
 // same rights.
-fn make(rt: &HostRuntime, path: &str) -> io::Result<()> {
+fn make(rt: &HostRuntime, path: &str) -> Result<(), KeeperFail> {
     let made = OpenOptions::new()
         .write(true)
         .create_new(true)
@@ -100,26 +102,15 @@ fn make(rt: &HostRuntime, path: &str) -> io::Result<()> {
         .open(rt, path);
     match made {
         Ok(_) => Ok(()),
-        Err(error) if error.kind() == ErrorKind::AlreadyExists => Ok(()),
-        Err(error) => Err(error),
+        Err(error) => match error.kind() {
+            ErrorKind::AlreadyExists => Ok(()),
+            ErrorKind::OutOfMemory => Err(KeeperFail::NoMemory),
+            _ => Err(KeeperFail::Failed),
+        },
     }
 }
 
-fn connect(rt: &HostRuntime, path: &str) -> Result<Connection<FileStore<File>>, KeeperFail> {
-    if let Err(error) = make(rt, path) {
-        return Err(if error.kind() == ErrorKind::OutOfMemory {
-            KeeperFail::NoMemory
-        } else {
-            KeeperFail::Failed
-        });
-    }
-    match Connection::open(rt, path) {
-        Ok(connection) => Ok(connection),
-        Err(error) => Err(fail_of(error)),
-    }
-}
-
-impl CatalogFile {
+impl CatalogFile<FileStore<File>> {
     ghost use Rattle.rm_keeper_sql.specs.CatalogFile.{faults_in};
 
     /// The catalog of this path. The file is made where it is missing and its parent is there, for its owner
@@ -127,22 +118,14 @@ impl CatalogFile {
     pub fn open(rt: &HostRuntime, path: &str) -> Self
         ensures { faults_in result ≡ 0 }
     {
-        match connect(rt, path) {
-            Ok(connection) => CatalogFile::Opened(SqlKeeper::open(rt.alloc(), connection)),
+        match make(rt, path) {
+            Ok(()) => CatalogFile::over(rt.alloc(), Connection::open(rt, path)),
             Err(cause) => CatalogFile::NotOpened(Unopened::new(cause)),
         }
     }
+}
 
-    /// How often it has failed. At 2^64 - 1 it stands still.
-    pub fn faults(&self) -> u64
-        ensures { result ≡ faults_in self.now }
-    {
-        match self {
-            CatalogFile::Opened(keeper) => keeper.faults(),
-            CatalogFile::NotOpened(unopened) => unopened.faults,
-        }
-    }
-
+impl<S: Start> CatalogFile<FileStore<FileFrom<S>>> {
     /// Brings all that was applied into the one file. What was applied is durable without it, so that it fails
     /// loses nothing.
     pub fn close(self) -> Result<(), KeeperFail> {
@@ -156,7 +139,31 @@ impl CatalogFile {
     }
 }
 
-impl Keeper for CatalogFile {
+impl<S: Alter> CatalogFile<S> {
+    ghost use Rattle.rm_keeper_sql.specs.CatalogFile.{faults_in};
+
+    // Over a connection, or in place of one that could not be opened.
+    fn over(alloc: Global, opened: Result<Connection<S>, Error>) -> Self
+        ensures { faults_in result ≡ 0 }
+    {
+        match opened {
+            Ok(connection) => CatalogFile::Opened(SqlKeeper::open(alloc, connection)),
+            Err(error) => CatalogFile::NotOpened(Unopened::new(fail_of(error))),
+        }
+    }
+
+    /// How often it has failed. At 2^64 - 1 it stands still.
+    pub fn faults(&self) -> u64
+        ensures { result ≡ faults_in self.now }
+    {
+        match self {
+            CatalogFile::Opened(keeper) => keeper.faults(),
+            CatalogFile::NotOpened(unopened) => unopened.faults,
+        }
+    }
+}
+
+impl<S: Alter> Keeper for CatalogFile<S> {
     ghost use Rattle.std.specs.Prelude.{None};
     ghost use Rattle.rm_keeper_sql.specs.CatalogFile.{faults_in};
 

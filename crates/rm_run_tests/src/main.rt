@@ -4,6 +4,7 @@
 mod broken;
 mod channels;
 mod ends;
+mod full_log;
 mod runs;
 
 use rm_harness::tell;
@@ -19,5 +20,6 @@ fn main(rt: HostRuntime) -> io::Result<()> {
     tell(&rt, "a writer is a sink", ends::a_writer(alloc))?;
     tell(&rt, "gate-holds-section", channels::held(&rt, alloc))?;
     tell(&rt, "how many channels", channels::counted(&rt, alloc))?;
-    tell(&rt, "a script too long", runs::too_long(&rt, alloc))
+    tell(&rt, "a script too long", runs::too_long(&rt, alloc))?;
+    tell(&rt, "a full log", full_log::full(&rt, alloc))
 }

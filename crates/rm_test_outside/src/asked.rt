@@ -1,10 +1,10 @@
 //! One thing that is asked, for the scripts.
+use crate::files::{Files, Opens};
 use crate::records::{apply, word_of};
 use crate::{made, objects};
 use rm_base::{NoMemory, Policy, Status, Store};
 use rm_catalog::{Edit, Keeper, KeeperFail};
 use rm_dir::DirStore;
-use rm_keeper_sql::CatalogFile;
 use sqlite::{Alter, Connection, Error, ErrorCode, params};
 use std::alloc::Global;
 use std::io;
@@ -31,7 +31,7 @@ fn three(alloc: Global, i: u32) -> Result<Vec<Edit>, NoMemory> {
 }
 
 // Each apply is told once it is done.
-fn applies(rt: &HostRuntime, keeper: &mut CatalogFile, times: u32) -> Result<(), KeeperFail> {
+fn applies<K: Keeper>(rt: &HostRuntime, keeper: &mut K, times: u32) -> Result<(), KeeperFail> {
     for i in 0..times {
         apply(keeper, three(rt.alloc(), i))?;
         let _ = rt.println(format_args!("applied {i}"));
@@ -47,8 +47,14 @@ fn logs(alloc: Global, times: u32) -> Result<Vec<Edit>, NoMemory> {
     Ok(edits)
 }
 
-fn catalog(rt: &HostRuntime, what: &str, path: &str, times: u32) -> io::Result<()> {
-    let mut keeper = CatalogFile::open(rt, path);
+fn catalog<O: Opens>(
+    rt: &HostRuntime,
+    files: &O,
+    what: &str,
+    path: &str,
+    times: u32,
+) -> io::Result<()> {
+    let mut keeper = files.open(path);
     let start = Instant::now(rt)?;
     let word = match what {
         "applies" => word_of(applies(rt, &mut keeper, times)),
@@ -56,8 +62,8 @@ fn catalog(rt: &HostRuntime, what: &str, path: &str, times: u32) -> io::Result<(
         _ => word_of(keeper.load()),
     };
     tell(rt, word, start)?;
-    rt.println(format_args!("faults {}", keeper.faults()))?;
-    rt.println(word_of(keeper.close()))
+    rt.println(format_args!("faults {}", files.faults(&keeper)))?;
+    rt.println(word_of(files.close(keeper)))
 }
 
 // Three rows of the same size without the keeper.
@@ -89,13 +95,13 @@ fn bare_all<S: Alter>(
 }
 
 // As with the keeper, the time has no opening in it.
-fn bare_each<S: Alter>(
+fn bare_each<S: Alter + Drop>(
     rt: &HostRuntime,
-    connection: &mut Connection<S>,
+    mut connection: Connection<S>,
     times: u32,
 ) -> io::Result<()> {
     let start = Instant::now(rt)?;
-    let word = match bare_all(rt, connection, times) {
+    let word = match bare_all(rt, &mut connection, times) {
         Ok(()) => "done",
         Err(_) => "failed",
     };
@@ -104,7 +110,7 @@ fn bare_each<S: Alter>(
 
 fn bare(rt: &HostRuntime, path: &str, times: u32) -> io::Result<()> {
     match Connection::open(rt, path) {
-        Ok(mut connection) => bare_each(rt, &mut connection, times),
+        Ok(connection) => bare_each(rt, connection, times),
         Err(_) => rt.println("not opened"),
     }
 }
@@ -129,6 +135,6 @@ pub fn run(rt: &HostRuntime, what: &str, path: &str, times: &str, name: &str) ->
     match what {
         "put" | "get" | "names" => folder(rt, what, path, times, name),
         "bare" => bare(rt, path, times),
-        _ => catalog(rt, what, path, times),
+        _ => catalog(rt, &Files { rt }, what, path, times),
     }
 }

@@ -1,9 +1,9 @@
 //! Tables that others wrote, and files that are no catalog.
+use crate::files::{Files, Opens};
 use crate::made;
 use crate::records::{apply, clear, word_of};
 use rm_base::Policy;
 use rm_catalog::Keeper;
-use rm_keeper_sql::CatalogFile;
 use sqlite::{Alter, Connection, Error};
 use std::os::unix::fs::MetadataExt;
 use std::{fs, io};
@@ -80,24 +80,27 @@ fn make<S: Alter>(connection: &mut Connection<S>, text: &str) -> Result<(), Erro
     connection.execute_batch(text)
 }
 
-fn fill<S: Alter>(connection: &mut Connection<S>, table: &str, row: &str) -> Result<(), Error> {
-    make(connection, table)?;
-    make(connection, row)
+fn fill<S: Alter + Drop>(
+    mut connection: Connection<S>,
+    table: &str,
+    row: &str,
+) -> Result<(), Error> {
+    make(&mut connection, table)?;
+    make(&mut connection, row)
 }
 
 fn make_table(rt: &HostRuntime, path: &str, table: &str, row: &str) -> Result<(), Error> {
-    let mut connection = Connection::open(rt, path)?;
-    fill(&mut connection, table, row)
+    fill(Connection::open(rt, path)?, table, row)
 }
 
 // Loads and applies, and tells what came of each call.
-fn tell(rt: &HostRuntime, what: &str, path: &str) -> io::Result<()> {
-    let mut keeper = CatalogFile::open(rt, path);
+fn tell<O: Opens>(rt: &HostRuntime, files: &O, what: &str, path: &str) -> io::Result<()> {
+    let mut keeper = files.open(path);
     let loaded = word_of(keeper.load());
     let edits = made::one(rt.alloc(), made::base(1, Policy::Nothing));
     let applied = word_of(apply(&mut keeper, edits));
-    let faults = keeper.faults();
-    let closed = word_of(keeper.close());
+    let faults = files.faults(&keeper);
+    let closed = word_of(files.close(keeper));
     rt.println(format_args!(
         "{what}: load {loaded}, apply {applied}, faults {faults}, close {closed}"
     ))
@@ -108,7 +111,7 @@ fn tell_table(rt: &HostRuntime, what: &str, table: &str, row: &str) -> io::Resul
     if make_table(rt, "table.db", table, row).is_err() {
         return rt.println("no table");
     }
-    tell(rt, what, "table.db")?;
+    tell(rt, &Files { rt }, what, "table.db")?;
     clear(rt, "table.db")
 }
 
@@ -134,7 +137,7 @@ fn files(rt: &HostRuntime) -> io::Result<()> {
     )?;
     fs::write(rt, "place/empty", "")?;
     for (what, path) in FILES {
-        tell(rt, what, path)?;
+        tell(rt, &Files { rt }, what, path)?;
     }
     // What is no catalog stays as it was.
     rt.println(fs::read_to_string(rt, "place/text")?.as_str())
@@ -147,18 +150,18 @@ pub fn tell_mode(rt: &HostRuntime, path: &str) -> io::Result<()> {
 }
 
 // The rights of a new catalog, and of what is put beside it.
-fn modes(rt: &HostRuntime) -> io::Result<()> {
-    let mut keeper = CatalogFile::open(rt, "place/own");
+fn modes<O: Opens>(rt: &HostRuntime, files: &O) -> io::Result<()> {
+    let mut keeper = files.open("place/own");
     rt.println(word_of(keeper.load()))?;
     tell_mode(rt, "place/own")?;
     tell_mode(rt, "place/own-wal")?;
-    rt.println(word_of(keeper.close()))
+    rt.println(word_of(files.close(keeper)))
 }
 
 /// Each table, each file, and the rights of a new one.
 pub fn run(rt: &HostRuntime) -> io::Result<()> {
     tables(rt)?;
     files(rt)?;
-    modes(rt)?;
+    modes(rt, &Files { rt })?;
     fs::remove_dir_all(rt, "place")
 }

@@ -1,8 +1,8 @@
 //! Records that go into a file and come back.
+use crate::files::{Files, Opens};
 use crate::made;
 use rm_base::{NoMemory, Policy};
 use rm_catalog::{Edit, Keeper, KeeperFail, Key, Record};
-use rm_keeper_sql::CatalogFile;
 use rm_record_bytes::encode_record;
 use std::alloc::Global;
 use std::{fs, io};
@@ -26,8 +26,8 @@ pub fn word_of<T: Drop>(done: Result<T, KeeperFail>) -> &'static str {
 }
 
 /// Applies the edits.
-pub fn apply(
-    keeper: &mut CatalogFile,
+pub fn apply<K: Keeper>(
+    keeper: &mut K,
     edits: Result<Vec<Edit>, NoMemory>,
 ) -> Result<(), KeeperFail> {
     match edits {
@@ -54,7 +54,7 @@ fn tell_record(rt: &HostRuntime, row: &Record) -> io::Result<()> {
     tell_bytes(rt, bytes.as_slice())
 }
 
-fn tell_all(rt: &HostRuntime, keeper: &mut CatalogFile) -> io::Result<()> {
+fn tell_all<K: Keeper>(rt: &HostRuntime, keeper: &mut K) -> io::Result<()> {
     let Ok(records) = keeper.load() else {
         return rt.println("no records");
     };
@@ -65,12 +65,12 @@ fn tell_all(rt: &HostRuntime, keeper: &mut CatalogFile) -> io::Result<()> {
 }
 
 // The faults of a keeper, and what comes of closing it.
-fn close(rt: &HostRuntime, keeper: CatalogFile) -> io::Result<()> {
-    rt.println(format_args!("faults {}", keeper.faults()))?;
-    rt.println(word_of(keeper.close()))
+fn close<O: Opens>(rt: &HostRuntime, files: &O, keeper: O::Opened) -> io::Result<()> {
+    rt.println(format_args!("faults {}", files.faults(&keeper)))?;
+    rt.println(word_of(files.close(keeper)))
 }
 
-fn policies(rt: &HostRuntime, keeper: &mut CatalogFile) -> io::Result<()> {
+fn policies<K: Keeper>(rt: &HostRuntime, keeper: &mut K) -> io::Result<()> {
     for policy in [
         Policy::Window(36_500),
         Policy::Redundancy(2),
@@ -84,13 +84,13 @@ fn policies(rt: &HostRuntime, keeper: &mut CatalogFile) -> io::Result<()> {
 }
 
 // Puts all, and tries a second keeper while the first has the file open.
-fn first_session(rt: &HostRuntime, path: &str) -> io::Result<()> {
-    let mut keeper = CatalogFile::open(rt, path);
+fn first_session<O: Opens>(rt: &HostRuntime, files: &O, path: &str) -> io::Result<()> {
+    let mut keeper = files.open(path);
     rt.println(word_of(apply(&mut keeper, made::all(rt.alloc()))))?;
-    let mut other = CatalogFile::open(rt, path);
+    let mut other = files.open(path);
     rt.println(format_args!("beside it {}", word_of(other.load())))?;
-    close(rt, other)?;
-    close(rt, keeper)
+    close(rt, files, other)?;
+    close(rt, files, keeper)
 }
 
 // A put and a drop of one mark, in either order.
@@ -103,7 +103,7 @@ fn in_order(alloc: Global) -> Result<Vec<Edit>, NoMemory> {
 }
 
 // Drops pieces, and some that are not there.
-fn drops(rt: &HostRuntime, keeper: &mut CatalogFile) -> io::Result<()> {
+fn drops<K: Keeper>(rt: &HostRuntime, keeper: &mut K) -> io::Result<()> {
     for id in 1..8u32 {
         let edits = [Edit::Drop(Key { kind: 5, id })];
         rt.println(format_args!("drop {id} {}", word_of(keeper.apply(&edits))))?;
@@ -111,35 +111,36 @@ fn drops(rt: &HostRuntime, keeper: &mut CatalogFile) -> io::Result<()> {
     Ok(())
 }
 
-fn second_session(rt: &HostRuntime, path: &str) -> io::Result<()> {
-    let mut keeper = CatalogFile::open(rt, path);
+fn second_session<O: Opens>(rt: &HostRuntime, files: &O, path: &str) -> io::Result<()> {
+    let mut keeper = files.open(path);
     tell_all(rt, &mut keeper)?;
     drops(rt, &mut keeper)?;
     rt.println(word_of(apply(&mut keeper, in_order(rt.alloc()))))?;
     rt.println(word_of(keeper.apply(&[])))?;
-    close(rt, keeper)
+    close(rt, files, keeper)
 }
 
-fn last_session(rt: &HostRuntime, path: &str) -> io::Result<()> {
-    let mut keeper = CatalogFile::open(rt, path);
+fn last_session<O: Opens>(rt: &HostRuntime, files: &O, path: &str) -> io::Result<()> {
+    let mut keeper = files.open(path);
     tell_all(rt, &mut keeper)?;
-    close(rt, keeper)
+    close(rt, files, keeper)
 }
 
 // What is applied is there for the next one, though its keeper is not closed.
-fn unclosed_session(rt: &HostRuntime, path: &str) -> io::Result<()> {
-    let mut keeper = CatalogFile::open(rt, path);
+fn unclosed_session<O: Opens>(rt: &HostRuntime, files: &O, path: &str) -> io::Result<()> {
+    let mut keeper = files.open(path);
     policies(rt, &mut keeper)
 }
 
 /// All kinds through one file in three sessions, and each policy through another in two.
 pub fn run(rt: &HostRuntime) -> io::Result<()> {
+    let files = Files { rt };
     clear(rt, "records.db")?;
-    first_session(rt, "records.db")?;
-    second_session(rt, "records.db")?;
-    last_session(rt, "records.db")?;
+    first_session(rt, &files, "records.db")?;
+    second_session(rt, &files, "records.db")?;
+    last_session(rt, &files, "records.db")?;
     clear(rt, "records.db")?;
-    unclosed_session(rt, "records.db")?;
-    last_session(rt, "records.db")?;
+    unclosed_session(rt, &files, "records.db")?;
+    last_session(rt, &files, "records.db")?;
     clear(rt, "records.db")
 }

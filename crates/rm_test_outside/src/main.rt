@@ -4,6 +4,7 @@
 #![tactic(auto)]
 
 mod asked;
+mod files;
 mod made;
 mod objects;
 mod records;
