@@ -6,7 +6,7 @@ ghost use Rattle.rm_machine.specs.Sound.{IsSound};
 ghost use Rattle.rm_machine.specs.State.{ledger, online};
 ghost use Rattle.rm_machine.specs.SwitchLogfile.{is_due, log_entry, made_lines, with_archived};
 ghost use Rattle.rm_objects.specs.Names.{log_name};
-ghost use Rattle.rm_redo.specs.LogFormat.{IsLogFile, spelling};
+ghost use Rattle.rm_redo.specs.LogFormat.{spelling};
 ghost use Rattle.rm_redo.specs.Online.{IsThread};
 ghost use Rattle.rm_repository.specs.Changes.{EditsFollow};
 ghost use Rattle.sha2.specs.Sha256.{sha256};

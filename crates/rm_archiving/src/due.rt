@@ -1,5 +1,5 @@
 //! What the threads of a database have to archive.
-ghost use Rattle.std.specs.Prelude.{◌&&◌, ◌≡◌, ◌≤◌, ◌*◌, if◌then◌else◌, nat_le};
+ghost use Rattle.std.specs.Prelude.{◌&&◌, ◌≡◌, ◌≤◌, if◌then◌else◌, nat_le};
 ghost use Rattle.rm_machine.specs.Archive.{bytes_from, due_from, is_last_sequence};
 ghost use Rattle.rm_machine.specs.Sound.{IsSound};
 ghost use Rattle.rm_machine.specs.State.{ledger};

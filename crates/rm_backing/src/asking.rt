@@ -1,5 +1,5 @@
 //! What a BACKUP asks of its channels and writers.
-ghost use Rattle.std.specs.Prelude.{◌≡◌, ◌<◌, ◌^◌, All, IfOk, length, map};
+ghost use Rattle.std.specs.Prelude.{◌≡◌, ◌<◌, All, IfOk, map};
 ghost use Rattle.rm_channel.specs.Jobs.{lists, whole};
 ghost use Rattle.rm_machine.specs.Asked.{FitsNumbers, by_thread, span_of, write_job, writers_of, writes_in};
 ghost use Rattle.rm_machine.specs.Sound.{IsSound};

@@ -1,5 +1,5 @@
 //! The running database, which is live while it is copied.
-ghost use Rattle.std.specs.Prelude.{◌≡◌, ◌≤◌, ◌<◌, [], All, IfOk, OnOk, None, length, replicate};
+ghost use Rattle.std.specs.Prelude.{◌≡◌, ◌≤◌, All, IfOk, OnOk, None, length, replicate};
 ghost use Rattle.std.specs.List.{filter_map};
 ghost use Rattle.rm_base.specs.Numbers.{last_scn};
 ghost use Rattle.rm_channel.specs.Jobs.{lists};

@@ -1,5 +1,5 @@
 //! Copies of a live datafile by so many channels, beside a plain loop over its rows.
-ghost use Rattle.std.specs.Prelude.{◌≤◌, IfOk};
+ghost use Rattle.std.specs.Prelude.{◌≤◌};
 
 use crate::format::Shortest;
 use crate::live::open;

@@ -1,5 +1,5 @@
 -- The statements that make backups, and the command that each one is.
-use Rattle.std.specs.Prelude.{ℕ, Bool, true, false, ◌==◌, ◌&&◌, ◌||◌, not, if◌then◌else◌, is_some, List, Option, Some, None, codes, map}
+use Rattle.std.specs.Prelude.{ℕ, Bool, true, false, if◌then◌else◌, is_some, List, Option, Some, None, codes, map}
 use Rattle.std.specs.Option.{option_map}
 use Rattle.rm_token.specs.declared.token.Token.{Token}
 use Rattle.rm_grammar.specs.Grammar.{◌▸◌, Grammar, Values, Choice, first, second, end, semicolon, word, flag, number, tag, optional, either, numbers, sign, many, in_range}

@@ -1,5 +1,4 @@
 //! The statements that ask and answer.
-ghost use Rattle.std.specs.Prelude.{◌≡◌};
 ghost use Rattle.rm_grammar.specs.Reading.{Gives};
 ghost use Rattle.rm_grammar.specs.Forms.{command_by, command_in};
 ghost use Rattle.rm_command.specs.Asking.{report_obsolete, report_need_backup, report_schema, list_incarnation, list_backup, list_copy, list_archived, show, dump};

@@ -1,11 +1,11 @@
 //! The statements that make backups.
 ghost use Rattle.std.specs.Prelude.{◌≡◌};
-ghost use Rattle.std.specs.Prelude.{codes, map, ◌++◌, length, IfOk, IfErr, OnOk};
+ghost use Rattle.std.specs.Prelude.{codes, map, length};
 ghost use Rattle.std.specs.Option.{option_map};
 ghost use Rattle.rm_grammar.specs.Reading.{Gives, read, maybe, one_of, begins, begins_with, many_at};
 ghost use Rattle.rm_grammar.specs.Forms.{command_by, command_in};
 ghost use Rattle.rm_statement.specs.Files.{in_order};
-ghost use Rattle.rm_command.specs.Backups.{as_line, is_copy, level_line, number_of, is_cumulative, merge_line, database_line, files_line, tag_line, keep_line, during_line, write_at, agreed, backup, backup_logs};
+ghost use Rattle.rm_command.specs.Backups.{as_line, is_copy, level_line, number_of, is_cumulative, merge_line, database_line, files_line, tag_line, keep_line, during_line, write_at, backup, backup_logs};
 ghost use Rattle.rm_statement.specs.Agreed.{agrees_in_level, agrees_in_merge, agrees};
 ghost use Rattle.rm_command.specs.Values.{write_values, kind_values, level_values, merge_values, files_values, tag_values, keep_values, during_values};
 ghost use Rattle.rm_command.specs.Language.{backup_forms};

@@ -1,5 +1,4 @@
 //! The statements that make a database and change it.
-ghost use Rattle.std.specs.Prelude.{◌≡◌};
 ghost use Rattle.rm_grammar.specs.Reading.{Gives, read};
 ghost use Rattle.rm_grammar.specs.Forms.{command_by, command_in};
 ghost use Rattle.rm_command.specs.Creating.{create_database, write_part, write, create_datafile, switch_logfile, archive_log, track, untrack};

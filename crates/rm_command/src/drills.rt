@@ -1,5 +1,4 @@
 //! The statements that stand for what may befall the devices.
-ghost use Rattle.std.specs.Prelude.{◌≡◌};
 ghost use Rattle.rm_grammar.specs.Reading.{Gives};
 ghost use Rattle.rm_grammar.specs.Forms.{command_by, command_in};
 ghost use Rattle.rm_command.specs.Drills.{lose_datafile, lose_log, remove, damage, cut, rename};

@@ -1,6 +1,6 @@
 //! RUN, and the statements inside it.
-ghost use Rattle.std.specs.Prelude.{◌≡◌, codes, length};
-ghost use Rattle.rm_grammar.specs.Reading.{Gives, many_at};
+ghost use Rattle.std.specs.Prelude.{◌≡◌, codes};
+ghost use Rattle.rm_grammar.specs.Reading.{Gives};
 ghost use Rattle.rm_grammar.specs.Forms.{command_by, command_in};
 ghost use Rattle.rm_grammar.specs.Blocks.{goes_on, commands_in, block_at};
 ghost use Rattle.rm_command.specs.Language.{set_until, allocate, inner_forms};

@@ -1,8 +1,7 @@
 //! The statements that set something.
-ghost use Rattle.std.specs.Prelude.{◌≡◌};
 ghost use Rattle.rm_grammar.specs.Reading.{Gives, begins, read, one_of};
 ghost use Rattle.rm_grammar.specs.Forms.{command_by, command_in};
-ghost use Rattle.rm_command.specs.Settings.{window_part, redundancy_part, redundancy_or_none, policy_part, retention, parallelism, catalog};
+ghost use Rattle.rm_command.specs.Settings.{policy_part, retention, parallelism, catalog};
 ghost use Rattle.rm_command.specs.Values.{retention_choice};
 ghost use Rattle.rm_grammar.specs.Grammar.{◌▸◌, word as word_part, end};
 ghost use Rattle.std.specs.Prelude.{codes};

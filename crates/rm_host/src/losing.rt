@@ -1,5 +1,5 @@
 //! HOST LOSE DATAFILE n and HOST LOSE LOG THREAD n
-ghost use Rattle.std.specs.Prelude.{◌≡◌, ◌-◌, ◌<◌, IfOk, None, OnOk, Option, length, slice_set};
+ghost use Rattle.std.specs.Prelude.{◌≡◌, ◌-◌, ◌<◌, IfOk, None, OnOk, Option, length};
 ghost use Rattle.rm_base.specs.Store.{Held};
 ghost use Rattle.rm_statement.specs.declared.command.Command.TheVariants.{LoseDatafile, LoseLog};
 ghost use Rattle.rm_machine.specs.Hands.{Hands};

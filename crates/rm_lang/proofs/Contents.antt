@@ -81,21 +81,10 @@ filled-trimmed (x ∷ xs) = filled-onto x (trimmed xs) (length xs) ∙ ap (λ ys
 pub padded-trimmed : (xs : List ℕ) → length xs ≡ 64 → (padded (trimmed xs)).0 ≡ xs
 padded-trimmed xs h = subst (λ n. filled (trimmed xs) n ≡ xs) h (filled-trimmed xs)
 
--- what is shown is a string
-pub content-string : (xs : List ℕ) → is_shown content xs ≡ true → list_all is_string_byte (trimmed xs) ≡ true
-content-string xs h =
-    let kept = keeps_same (kept_of content.read (trimmed xs)) xs h in
-    let parts = kept_parts (are_string_bytes (trimmed xs)) (trimmed xs) xs kept in
-    (and_parts (nat_le (length (trimmed xs)) 64) (list_all is_string_byte (trimmed xs)) parts.0).1
-
 -- a content of 64 bytes that is shown is a string
 pub string_content : (xs : List ℕ) → length xs ≡ 64 → list_all is_string_byte (trimmed xs) ≡ true → are_string_bytes (trimmed xs) ≡ true
 string_content xs n h =
     and_from (nat_le (length (trimmed xs)) 64) (list_all is_string_byte (trimmed xs)) (le-leb (length (trimmed xs)) 64 (subst (λ m. length (trimmed xs) ≤ m) n (length-trimmed xs))) h
-
--- the test of a string, where the length is known
-pub same_test : (xs : List ℕ) → length xs ≡ 64 → are_string_bytes (trimmed xs) ≡ list_all is_string_byte (trimmed xs)
-same_test xs n = rw (le-leb (length (trimmed xs)) 64 (subst (λ m. length (trimmed xs) ≤ m) n (length-trimmed xs))) refl
 
 -- a content of 64 bytes that is a string is shown
 pub is_shown-content : (xs : List ℕ) → length xs ≡ 64 → list_all is_string_byte (trimmed xs) ≡ true → is_shown content xs ≡ true

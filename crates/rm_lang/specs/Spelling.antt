@@ -1,43 +1,28 @@
 -- The tokens that spell a statement, and text that is read back.
-use Rattle.std.specs.Prelude.{◌≡◌, ℕ, List, [], ◌∷◌, ◌++◌, Option, Some, None, Bool, true, false, codes, map}
+use Rattle.std.specs.Prelude.{◌≡◌, ℕ, List, [], ◌∷◌, ◌++◌, Some, None, true, false, codes}
 use Rattle.std.specs.List.{flat_map}
 use Rattle.std.specs.Option.{option_map}
-use Rattle.rm_base.specs.declared.kinds.Class.{Class}
-use Rattle.rm_base.specs.declared.kinds.Class.TheVariants.{Backup as BackupClass, Copy as CopyClass, Archived}
 use Rattle.rm_token.specs.declared.token.Token.{Token}
 use Rattle.rm_token.specs.declared.token.Token.TheVariants.{Word, Sign}
 use Rattle.rm_token.specs.Statements.{statements}
-use Rattle.rm_grammar.specs.Grammar.{Values, Choice, first, second}
 use Rattle.rm_grammar.specs.Spelling.{spelled}
-use Rattle.rm_command.specs.declared.backup.Kind.{Kind}
-use Rattle.rm_command.specs.declared.backup.Kind.TheVariants.{Copy, Sets}
-use Rattle.rm_command.specs.declared.backup.Level.{Level}
-use Rattle.rm_command.specs.declared.upkeep.Deletion.{Deletion}
 use Rattle.rm_command.specs.declared.upkeep.Deletion.TheVariants.{Obsolete, One, Expired}
-use Rattle.rm_statement.specs.declared.command.Until.{Until}
-use Rattle.rm_statement.specs.declared.command.Until.TheVariants.{Scn, Sequence, Time}
-use Rattle.rm_statement.specs.declared.command.WriteForm.{WriteForm}
-use Rattle.rm_statement.specs.declared.command.BackupForm.{BackupForm}
-use Rattle.rm_statement.specs.declared.command.ChangeTo.{ChangeTo}
-use Rattle.rm_statement.specs.declared.command.ChangeTo.TheVariants.{Available, Unavailable, Uncatalog, Keep, NoKeep}
-use Rattle.rm_statement.specs.declared.command.RetentionForm.{RetentionForm}
-use Rattle.rm_statement.specs.declared.command.RetentionForm.TheVariants.{Window, Redundancy, Nothing, Clear}
 use Rattle.rm_statement.specs.declared.command.Command.{Command}
 use Rattle.rm_statement.specs.declared.command.Command.TheVariants.{CreateDatabase, CreateDatafile, Write, SwitchLogfile, ArchiveLogCurrent, Mount, OpenPlain, OpenResetlogs, Tracking, ResetDatabase, Restore, Preview, Recover, RecoverTest, RecoverCopy, Backup, BackupLogs, Crosscheck, ValidateAll, ChangeBackup, DeleteObsolete, DeleteBackup, DeleteExpired, ReportObsolete, ReportNeedBackup, ReportSchema, ListIncarnation, ListBackup, ListCopy, ListArchived, ShowAll, Dump, Retention, Parallelism, CatalogName, LoseDatafile, LoseLog, Remove, Damage, Cut, Rename}
 use Rattle.rm_statement.specs.declared.command.Inner.{Inner}
 use Rattle.rm_statement.specs.declared.command.Inner.TheVariants.{SetUntil, AllocateChannel, Plain as PlainInner}
 use Rattle.rm_statement.specs.declared.command.Statement.{Statement}
 use Rattle.rm_statement.specs.declared.command.Statement.TheVariants.{Plain, Run}
-use Rattle.rm_command.specs.Creating.{create_database_line, write_part, write_line, create_datafile_line, switch_logfile_line, archive_log_line, track_line, untrack_line}
+use Rattle.rm_command.specs.Creating.{create_database_line, write_line, create_datafile_line, switch_logfile_line, archive_log_line, track_line, untrack_line}
 use Rattle.rm_command.specs.Modes.{startup_line, reset_database_line, open_database_line}
-use Rattle.rm_command.specs.Recovering.{scn_part, log_or_time, until_line, incarnation_line, restore_line, restore_datafile_line, recover_line, recover_copy_line}
-use Rattle.rm_command.specs.Backups.{as_line, level_line, merge_line, database_line, files_line, tag_line, keep_line, during_line, backup_line, backup_logs_line}
-use Rattle.rm_command.specs.Upkeep.{copy_or_archived, withdrawing, one_or_expired, crosscheck_line, validate_line, change_line, delete_line}
+use Rattle.rm_command.specs.Recovering.{restore_line, restore_datafile_line, recover_line, recover_copy_line}
+use Rattle.rm_command.specs.Backups.{backup_line, backup_logs_line}
+use Rattle.rm_command.specs.Upkeep.{crosscheck_line, validate_line, change_line, delete_line}
 use Rattle.rm_command.specs.Asking.{report_obsolete_line, report_need_backup_line, report_schema_line, list_incarnation_line, list_backup_line, list_copy_line, list_archived_line, show_line, dump_line}
-use Rattle.rm_command.specs.Settings.{policy_part, retention_line, parallelism_line, catalog_line}
+use Rattle.rm_command.specs.Settings.{retention_line, parallelism_line, catalog_line}
 use Rattle.rm_command.specs.Drills.{lose_datafile_line, lose_log_line, remove_line, damage_line, cut_line, rename_line}
 use Rattle.rm_command.specs.Language.{set_until_line, allocate_line, IsStatement}
-use Rattle.rm_command.specs.Values.{write_values, until_choice, until_values, incarnation_values, kind_values, kind_asked, level_values, level_asked, merge_values, files_values, tag_values, keep_values, during_values, backup_values, class_choice, change_choice, deletion_choice, retention_choice}
+use Rattle.rm_command.specs.Values.{write_values, until_values, incarnation_values, backup_values, class_choice, change_choice, deletion_choice, retention_choice}
 
 -- the tokens that spell the command
 abbrev pub tokens_of : Command → List Token

@@ -1,5 +1,5 @@
 //! The tokens of a write and of a backup.
-ghost use Rattle.std.specs.Prelude.{◌≡◌, ◌++◌, codes, IfOk, OnOk, IsTrue, map};
+ghost use Rattle.std.specs.Prelude.{◌≡◌, codes, IfOk, IsTrue, map};
 ghost use Rattle.std.specs.Option.{option_map};
 ghost use Rattle.std.specs.List.{list_all};
 ghost use Rattle.rm_grammar.specs.Spelling.{spelled, maybe_spelled, one_spelled, many_spelled, is_capital_tag, maybe_valid};

@@ -1,10 +1,8 @@
 //! The tokens of the parts that statements have.
-ghost use Rattle.std.specs.Prelude.{◌≡◌, codes, IfOk, IsTrue, map, true};
+ghost use Rattle.std.specs.Prelude.{◌≡◌, codes, IfOk, IsTrue};
 ghost use Rattle.std.specs.Option.{option_map};
-ghost use Rattle.std.specs.List.{list_all};
 ghost use Rattle.rm_grammar.specs.Grammar.{◌▸◌, word as word_part, end};
-ghost use Rattle.rm_grammar.specs.Spelling.{spelled, maybe_spelled, one_spelled, many_spelled, is_capital_tag, maybe_valid};
-ghost use Rattle.rm_command.specs.Creating.{write_part};
+ghost use Rattle.rm_grammar.specs.Spelling.{spelled, maybe_spelled, one_spelled};
 ghost use Rattle.rm_command.specs.Recovering.{scn_part, log_or_time, until_line, incarnation_line};
 ghost use Rattle.rm_command.specs.Upkeep.{copy_or_archived, withdrawing};
 ghost use Rattle.rm_command.specs.Settings.{policy_part};

@@ -1,8 +1,7 @@
 //! The tokens of the statements that have no parts.
 ghost use Rattle.std.specs.Prelude.{◌≡◌, IfOk, IsTrue};
 ghost use Rattle.rm_token.specs.Spelling.{are_string_bytes};
-ghost use Rattle.rm_grammar.specs.Spelling.{spelled, is_shown};
-ghost use Rattle.rm_statement.specs.Texts.{content};
+ghost use Rattle.rm_grammar.specs.Spelling.{spelled};
 ghost use Rattle.rm_command.specs.Creating.{create_database_line, create_datafile_line, switch_logfile_line, archive_log_line, track_line, untrack_line};
 ghost use Rattle.rm_command.specs.Modes.{startup_line, reset_database_line, open_database_line};
 ghost use Rattle.rm_command.specs.Backups.{backup_logs_line};

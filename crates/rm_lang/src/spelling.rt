@@ -1,5 +1,5 @@
 //! A statement as text.
-ghost use Rattle.std.specs.Prelude.{◌≡◌, ◌++◌, IsTrue, IfOk};
+ghost use Rattle.std.specs.Prelude.{◌≡◌, IsTrue, IfOk};
 ghost use Rattle.std.specs.List.{list_all, flat_map};
 ghost use Rattle.rm_token.specs.Tokens.{feeds};
 ghost use Rattle.rm_statement.specs.IsCommand.{is_command, is_inner, is_statement};

@@ -4,7 +4,6 @@ ghost use Rattle.std.specs.List.{list_all};
 ghost use Rattle.rm_grammar.specs.Spelling.{is_shown, is_capital_tag, maybe_valid};
 ghost use Rattle.rm_statement.specs.Files.{ascend_above, are_files};
 ghost use Rattle.rm_statement.specs.Texts.{content, anything, is_new_name, is_text};
-ghost use Rattle.rm_moments.specs.Times.{is_time_text};
 ghost use Rattle.rm_statement.specs.IsCommand.{is_until, is_until_or_none, is_write, is_backup, is_retention, is_command, is_inner, is_statement};
 ghost use Rattle.rm_command.specs.Language.{IsSpelled};
 

@@ -1,5 +1,5 @@
 //! The tokens of the statements that have parts.
-ghost use Rattle.std.specs.Prelude.{◌≡◌, IfOk, IsTrue, Some, None, true, false};
+ghost use Rattle.std.specs.Prelude.{◌≡◌, IfOk, IsTrue, None, true, false};
 ghost use Rattle.std.specs.Option.{option_map};
 ghost use Rattle.rm_grammar.specs.Spelling.{spelled, is_capital_tag};
 ghost use Rattle.rm_command.specs.Recovering.{restore_line, restore_datafile_line, recover_line, recover_copy_line};

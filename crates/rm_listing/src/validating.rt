@@ -1,5 +1,5 @@
 //! VALIDATE ALL
-ghost use Rattle.std.specs.Prelude.{◌≡◌, ◌<◌, ◌≤◌, ◌^◌, All, IfOk, IsErrOf, count_by, length, map};
+ghost use Rattle.std.specs.Prelude.{◌≡◌, ◌<◌, ◌≤◌, ◌^◌, All, IfOk, IsErrOf, length, map};
 ghost use Rattle.rm_base.specs.Outside.{Rose};
 ghost use Rattle.rm_statement.specs.declared.command.Command.TheVariants.{ValidateAll};
 ghost use Rattle.rm_machine.specs.Hands.{Tells};

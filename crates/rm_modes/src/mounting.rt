@@ -1,5 +1,5 @@
 //! SHUTDOWN and STARTUP MOUNT
-ghost use Rattle.std.specs.Prelude.{◌≡◌, IfOk, None, OnOk, Option, true};
+ghost use Rattle.std.specs.Prelude.{◌≡◌, IfOk, None, OnOk, Option};
 ghost use Rattle.rm_base.specs.Store.{Held};
 ghost use Rattle.rm_statement.specs.declared.command.Command.TheVariants.{Mount};
 ghost use Rattle.rm_machine.specs.Hands.{Hands};

@@ -5,7 +5,6 @@ ghost use Rattle.rm_catalog.specs.Rules.{HasDatabase};
 ghost use Rattle.rm_evidence.specs.Known.{FitsLog, FitsPiece, FitsTree};
 ghost use Rattle.rm_history.specs.World.{blocks_of};
 ghost use Rattle.rm_objects.specs.Database.{world_of};
-ghost use Rattle.rm_known.specs.FirstGap.{IsTarget};
 ghost use Rattle.rm_plan.specs.Plan.{IsFileTarget};
 
 use rm_base::{BlockNo, FileNo, IncNo, Kind, NoMemory, Part, Scn, Seq};

@@ -1,5 +1,5 @@
 //! The lines of the replies.
-ghost use Rattle.std.specs.Prelude.{◌≡◌, ◌<◌, ◌≤◌, ◌++◌, ◌∷◌, [], IfOk, OnOk, All, length};
+ghost use Rattle.std.specs.Prelude.{◌≡◌, ◌<◌, ◌≤◌, ◌++◌, ◌∷◌, [], OnOk, All, length};
 ghost use Rattle.rm_history.specs.World.{creation_of};
 ghost use Rattle.rm_machine.specs.RecoverTest.{block_lines, file_lines, files_lines, test_lines};
 ghost use Rattle.rm_machine.specs.Restore.{origin_line, origin_lines};

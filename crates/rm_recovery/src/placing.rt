@@ -1,5 +1,5 @@
 //! Datafiles that come to stand in place.
-ghost use Rattle.std.specs.Prelude.{◌≡◌, ◌<◌, ◌≤◌, All, length};
+ghost use Rattle.std.specs.Prelude.{◌≡◌, All, length};
 ghost use Rattle.rm_machine.specs.Recovery.{put_over};
 ghost use Rattle.rm_recovery.specs.Placing.{HasPlace, with_place};
 

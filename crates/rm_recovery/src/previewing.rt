@@ -1,7 +1,5 @@
 //! RESTORE DATABASE [UNTIL ..] PREVIEW
 ghost use Rattle.std.specs.Prelude.{◌≡◌, ◌≤◌, ◌++◌, ◌∷◌, [], All, IfOk, IsErrOf, None, map};
-ghost use Rattle.rm_apply.specs.Files.{AreExactly};
-ghost use Rattle.rm_apply.specs.Preview.{Previews};
 ghost use Rattle.rm_base.specs.Outside.{Rose};
 ghost use Rattle.rm_machine.specs.Hands.{Tells};
 ghost use Rattle.rm_machine.specs.Recovery.{skipped_lines};

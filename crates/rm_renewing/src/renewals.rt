@@ -1,5 +1,5 @@
 //! What becomes of the copies that are taken.
-ghost use Rattle.std.specs.Prelude.{◌≡◌, ◌<◌, ◌≤◌, IfNone, IfOk, IfSome, length};
+ghost use Rattle.std.specs.Prelude.{◌≡◌, ◌≤◌, IfNone, IfOk, IfSome, length};
 ghost use Rattle.rm_backup.specs.Renewed.{IsRenewed};
 ghost use Rattle.rm_evidence.specs.Known.{FitsTree};
 ghost use Rattle.rm_machine.specs.RecoverCopy.{AreRenewed, HasTaken};

@@ -1,6 +1,5 @@
 //! The records that RECOVER COPY tells as skipped.
 ghost use Rattle.std.specs.Prelude.{◌≡◌, filter};
-ghost use Rattle.rm_machine.specs.Sound.{IsSound};
 ghost use Rattle.rm_renewing.specs.Skipped.{is_of_copies};
 
 use rm_base::{Bad, Kind, Seq};

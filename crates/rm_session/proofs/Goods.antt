@@ -11,7 +11,6 @@ use Rattle.rm_piece.specs.Spelling as piece_format
 use Rattle.rm_piece.specs.declared.piece.Piece.{Piece}
 use Rattle.rm_piece.proofs.Fitting as pieces
 use Rattle.rm_redo.specs.LogFormat as log_format
-use Rattle.rm_redo.specs.LogFormat.{IsLogFile}
 use Rattle.rm_redo.specs.declared.log_file.LogFile.{LogFile}
 use Rattle.rm_redo.proofs.LogFitting as logs
 use Rattle.rm_repository.specs.Repository.{Saved}

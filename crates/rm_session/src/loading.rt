@@ -1,7 +1,7 @@
 //! A saved site is loaded.
 ghost use Rattle.std.specs.Prelude.{◌≡◌, ◌<◌, ◌≤◌, ◌^◌, IfOk, IfSome, IsErrOf};
 ghost use Rattle.rm_base.specs.Outside.{Rose};
-ghost use Rattle.rm_machine.specs.Loading.{IsLoaded, lost_instance};
+ghost use Rattle.rm_machine.specs.Loading.{IsLoaded};
 ghost use Rattle.rm_machine.specs.Sound.{IsSound};
 ghost use Rattle.rm_repository.specs.Facts.{IsRepository};
 ghost use Rattle.rm_session.specs.Fit.{IsFitBy, IsHadBy};

@@ -42,20 +42,6 @@ abbrev pub IsWhole : Option Held → Option (List Record) → View → View → 
 IsWhole held kept origin v block clock reply first =
     (n : Machine) × (all : Bool) × BlockSteps unset first block clock reply all n × Stands v n × Holds held kept n × (v.applied ≡ (origin.applied || all))
 
--- nothing was done yet
-pub inside-none : {held : Option Held} {kept : Option (List Record)} {origin : View} {block : List Inner} {clock : ℕ} → InsideEach held kept origin held kept origin unset block block clock []
-inside-none {origin = origin} m stands holds tells =
-    record {
-      machine = m;
-      applied = false;
-      stands = stands;
-      holds = holds;
-      tells = tells;
-      knows = sym (or-false origin.applied);
-      goes = λ reply more n steps. steps;
-      leaves = λ r left. left;
-    }
-
 match-map : (b : Bool) (P Q R S : Type 0) → (P → R) → (Q → S) → MatchBool b P Q → MatchBool b R S
 match-map true P Q R S f g p = f p
 match-map false P Q R S f g q = g q
@@ -109,10 +95,6 @@ module _ {held : Option Held} {kept : Option (List Record)} {origin v : View} {x
     (at : Inside held kept origin v x block left clock lines first) (is : left ≡ y ∷ others) where
   next : Inside held kept origin v x block (y ∷ others) clock lines first
   next = subst (λ (ys : List Inner). Inside held kept origin v x block ys clock lines first) is at
-
-  -- it was cut short
-  pub inside-cut : {held' : Option Held} {kept' : Option (List Record)} → InnerStops held kept v x y clock held' kept' → (r : Rest) × BlockLeaves unset first block clock r × HoldsRest held' kept' r
-  inside-cut stops = let r = stops next.machine next.stands next.holds next.tells.0 in (r.0, next.leaves r.0 (inl r.1), r.2)
 
   module _ {held' : Option Held} {kept' : Option (List Record)} (v' : View) (reply : Reply) (steps : InnerSteps held kept v x y clock reply held' kept' v') where
     -- it was done, and no reply came of it

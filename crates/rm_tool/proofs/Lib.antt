@@ -3,7 +3,6 @@ pub mod Blocks
 pub mod Calls
 pub mod Closing
 pub mod Runs
-pub mod Scripts
 pub mod Setting
 pub mod Statements
 pub mod Telling

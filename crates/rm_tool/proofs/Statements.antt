@@ -21,13 +21,9 @@ use Rattle.rm_frame.specs.Steps.{Steps}
 use Rattle.rm_frame.specs.Stopped.{Stops}
 use Rattle.rm_frame.proofs.Halting.{ends-here, rests}
 use Rattle.rm_tool.specs.Run.{StepOf, TellWithin}
-use Rattle.rm_tool.specs.Serving.{IsPast, IsServed, IsCut, untouched, stopped, inside, IsCutShort, RunSteps, RunStops, StatementSteps}
+use Rattle.rm_tool.specs.Serving.{IsPast, IsServed, IsCut, untouched, stopped, inside, IsCutShort, RunStops, StatementSteps}
 use Rattle.rm_tool.proofs.Blocks.{block-leaves}
 use Rattle.rm_tool.proofs.Runs.{answers_from}
-
-pub ok-map : {A E : Type 0} (P Q : A → Type 0) → ((a : A) → P a → Q a) → (r : Result A E) → IfOk r P → IfOk r Q
-ok-map P Q f (Ok a) h = f a h
-ok-map P Q f (Err e) h = h
 
 pub ok-both : {A E : Type 0} (P Q R : A → Type 0) → ((a : A) → P a → Q a → R a) → (r : Result A E) → IfOk r P → IfOk r Q → IfOk r R
 ok-both P Q R f (Ok a) h k = f a h k
@@ -103,13 +99,6 @@ module _ {held : Option Held} {kept : Option (List Record)} {v : View} {clock : 
 
     -- a RUN
     module _ {block : List Inner} (some : statement_built_at s.1 ≡ Some (Block block)) where
-      pub served-run : {v' : View} {clock' : Option Answers} (reply : Reply) → Both IsLater clock clock' → RunSteps held kept v block answer reply held' kept' v' → IsServed held kept v clock s reply held' kept' v' clock'
-      served-run reply later steps =
-          served-so some reply later
-          (λ m stands holds tell.
-          let n = steps m stands holds (subst (λ (o : Option Statement). TellWithin o m answer) some tell) in
-          (n.0, n.1, subst (λ (o : Option Statement). StepOf o m s.0 answer reply n.1 n.0) (sym some) n.2, n.3, n.4, n.5))
-
       pub cut-run : RunStops held kept v block answer held' kept' → IsCutShort held kept v clock s held' kept'
       cut-run stops =
           record {

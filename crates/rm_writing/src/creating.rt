@@ -1,5 +1,5 @@
 //! CREATE DATAFILE BLOCKS n
-ghost use Rattle.std.specs.Prelude.{◌≡◌, ◌≤◌, ◌+◌, IfOk, OnOk, Option, None, length, sum_by};
+ghost use Rattle.std.specs.Prelude.{◌≡◌, ◌≤◌, IfOk, OnOk, Option, None, sum_by};
 ghost use Rattle.rm_base.specs.Store.{Held};
 ghost use Rattle.rm_statement.specs.declared.command.Command.TheVariants.{CreateDatafile};
 ghost use Rattle.rm_machine.specs.CreateDatafile.{datafile_refusal, new_datafile, next_file, room_refusal};

@@ -8,7 +8,6 @@ ghost use Rattle.rm_machine.specs.Hands.{Hands};
 ghost use Rattle.rm_machine.specs.Sound.{IsSound};
 ghost use Rattle.rm_machine.specs.State.{ledger};
 ghost use Rattle.rm_machine.specs.Write.{block_refusal, change_of, place_refusal, write_refusal};
-ghost use Rattle.rm_redo.specs.Online.{with_change};
 ghost use Rattle.rm_repository.specs.Changes.{EditsFollow};
 
 use crate::further::{go_further, mark_count};

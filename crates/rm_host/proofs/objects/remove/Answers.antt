@@ -1,5 +1,4 @@
-use Rattle.std.proofs.Common.{rules, ◌≡◌, ◌∙◌, ◌++◌, ◌∷◌, [], ℕ, List, Option, Some, None, IfSome, ap, subst}
-use Rattle.rm_base.specs.Store.{Held}
+use Rattle.std.proofs.Common.{rules, ◌∙◌, ◌++◌, ◌∷◌, [], ℕ, List, ap}
 use Rattle.rm_host.proofs.Handing.{remove-hands, some-there}
 use Rattle.rm_host.proofs.objects.remove.Goals as goal
 

@@ -1,4 +1,4 @@
-use Rattle.std.proofs.Common.{rules, ◌≡◌, ◌∙◌, ◌++◌, ◌∷◌, [], ℕ, List, Option, Some, None, IfSome, ap, subst}
+use Rattle.std.proofs.Common.{rules, ◌≡◌, ◌∙◌, ◌++◌, ◌∷◌, [], ℕ, List, Option, Some, IfSome, ap, subst}
 use Rattle.rm_base.specs.Store.{Held}
 use Rattle.rm_host.proofs.Handing.{named, none-there, rename-hands}
 use Rattle.rm_host.proofs.objects.rename.Goals as goal
