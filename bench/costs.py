@@ -124,7 +124,9 @@ def table(log):
     print(f"| all | {' | '.join(cell(of_kind(kind)) for kind in COLUMNS)} |")
     rest = {"Python of rt": of_kind("rt"), "programs and tests that ran": of_kind("running"), "other processes": of_kind("other")}
     every = costs["all", "-"]
-    rest["between two looks"] = every - sum(seconds for (kind, _), seconds in costs.items() if kind not in ("all", "clock"))
+    seen = sum(seconds for (kind, _), seconds in costs.items() if kind not in ("all", "clock"))
+    # (what a run leaves behind that is ended by hand is seen, and not counted by the system)
+    rest["between two looks"] = max(every - seen, 0)
     print(f"\nBesides: {', '.join(f'{what} {seconds:,.0f}' for what, seconds in rest.items())}.")
     print(f"All in all {every:,.0f} processor seconds, {costs['clock', '-']:,.0f} by the clock.")
 

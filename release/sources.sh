@@ -32,7 +32,7 @@ lines_of() {
 }
 
 # SHA-256 of what the program is made of in the checkout $1: the lines of crates.txt for its crates, and then what sha256sum says of
-# each file of their src, specs and proofs, by names that are sorted as bytes.
+# each file of their src, specs and proofs, by names that are sorted as bytes. What an editor leaves beside a file is no source.
 sum_of_sources() (
     set -o pipefail
     mapfile -t crates < <(program_crates "$1")
@@ -45,7 +45,8 @@ sum_of_sources() (
     done
     [ "${#folders[@]}" -gt 0 ] || exit
     {
-        lines_of . "${crates[@]}" && find "${folders[@]}" -type f -print0 | LC_ALL=C sort -z | xargs -0 sha256sum
+        lines_of . "${crates[@]}" &&
+            find "${folders[@]}" -type f ! -name '.*' ! -name '*~' ! -name '#*#' -print0 | LC_ALL=C sort -z | xargs -0 sha256sum
     } | sha256sum | cut -d ' ' -f 1
 )
 
