@@ -88,24 +88,28 @@ def look(seen, root):
         seen[key] = Seen(parent, kind, crate, seconds)
 
 
-def run(log, command):
-    began, seen = time.time(), {}
-    started = subprocess.Popen(command)
+def watched(started):
+    """Returns what was seen of the command until its end, how it ended, and what the system counts for it."""
+    seen = {}
     while True:
         look(seen, started.pid)
         # (as long as it is not waited for, its number is nobody else's)
         ended, status, spent = os.wait4(started.pid, os.WNOHANG)
         if ended:
-            break
+            return seen, os.waitstatus_to_exitcode(status), spent.ru_utime + spent.ru_stime
         time.sleep(PAUSE)
-    sums = collections.Counter()
-    for it in seen.values():
-        sums[it.kind, it.crate] += it.seconds
+
+
+def run(log, command):
+    began, sums = time.time(), collections.Counter()
+    # (opened first: a gate takes long, and its log is to have a place)
     with open(log, "w", encoding="utf-8") as file:
+        seen, code, spent = watched(subprocess.Popen(command))
+        for it in seen.values():
+            sums[it.kind, it.crate] += it.seconds
         for (kind, crate), seconds in sorted(sums.items()):
             print(f"{kind} {crate} {seconds:.2f}", file=file)
-        print(f"all - {spent.ru_utime + spent.ru_stime:.2f}\nclock - {time.time() - began:.2f}", file=file)
-    code = os.waitstatus_to_exitcode(status)
+        print(f"all - {spent:.2f}\nclock - {time.time() - began:.2f}", file=file)
     return code if code >= 0 else 128 - code
 
 
@@ -134,11 +138,12 @@ def table(log):
 def main():
     if len(sys.argv) < 2 or sys.argv[1].startswith("-"):
         sys.exit(__doc__)
-    if len(sys.argv) > 2:
-        sys.exit(run(sys.argv[1], sys.argv[2:]))
-    if not os.path.isfile(sys.argv[1]):
-        sys.exit(f"costs: there is no file {sys.argv[1]}")
-    table(sys.argv[1])
+    try:
+        if len(sys.argv) > 2:
+            sys.exit(run(sys.argv[1], sys.argv[2:]))
+        table(sys.argv[1])
+    except OSError as error:
+        sys.exit(f"costs: {error.filename}: {error.strerror}")
 
 
 main()
