@@ -16,7 +16,7 @@ use Rattle.rm_channel.specs.Jobs.{lists}
 use Rattle.rm_channel.specs.Room.{AreThreads, CanWrite, HasBlock, HaveRoom, IsThere}
 use Rattle.rm_channel.specs.declared.jobs.CopyJob.{CopyJob}
 use Rattle.rm_channel.specs.declared.jobs.WriteJob.{WriteJob}
-use Rattle.rm_channel_tests.specs.Small.{AreWrites, opening, whole_file}
+use Rattle.rm_test_channel.specs.Small.{AreWrites, opening, whole_file}
 
 rows-below : (blocks : ℕ) → All (λ (r : Row). r.version < 2) (created_rows 1 blocks)
 rows-below zero = All-nil (λ (r : Row). r.version < 2)

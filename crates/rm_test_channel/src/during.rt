@@ -1,7 +1,7 @@
 //! Copies beside a writer.
 ghost use Rattle.std.specs.Prelude.{◌≡◌, ◌≤◌, All, IfOk, length};
 ghost use Rattle.rm_channel.specs.Jobs.{lists};
-ghost use Rattle.rm_channel_tests.specs.Small.{AreWrites, whole_file};
+ghost use Rattle.rm_test_channel.specs.Small.{AreWrites, whole_file};
 
 use crate::gates::Holding;
 use crate::small::{open, whole_file};

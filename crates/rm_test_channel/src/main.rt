@@ -9,7 +9,7 @@ mod passes;
 mod small;
 mod writers;
 
-use rm_harness::tell;
+use rm_test_harness::tell;
 use std::io;
 
 fn main(rt: HostRuntime) -> io::Result<()> {

@@ -1,6 +1,6 @@
 //! A small live database, and copies of its datafile.
 ghost use Rattle.std.specs.Prelude.{◌≡◌, ◌≤◌, IfOk, length};
-ghost use Rattle.rm_channel_tests.specs.Small.{opened, whole_file};
+ghost use Rattle.rm_test_channel.specs.Small.{opened, whole_file};
 
 use crate::gates::{Adding, Meeting, Wide};
 use rm_base::{Block, BlockNo, NoMemory, Row, Scn};

@@ -1,7 +1,7 @@
 //! Copies of one block by many channels, beside four writers of it.
 ghost use Rattle.std.specs.Prelude.{◌≡◌, ◌≤◌, All, IfOk, length};
 ghost use Rattle.rm_channel.specs.Jobs.{lists};
-ghost use Rattle.rm_channel_tests.specs.Small.{AreWrites};
+ghost use Rattle.rm_test_channel.specs.Small.{AreWrites};
 
 use crate::during::{copied, write};
 use crate::gates::Wide;

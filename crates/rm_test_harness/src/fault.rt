@@ -13,7 +13,7 @@ pub enum Fault {
 }
 
 impl From<NoMemory> for Fault {
-    ghost use Rattle.rm_harness.specs.declared.fault.Fault.TheVariants.{NoMemory as WithoutMemory};
+    ghost use Rattle.rm_test_harness.specs.declared.fault.Fault.TheVariants.{NoMemory as WithoutMemory};
 
     ghost from_gives = { λ _ e. e ≡ WithoutMemory };
 
@@ -23,7 +23,7 @@ impl From<NoMemory> for Fault {
 }
 
 impl From<AllocError> for Fault {
-    ghost use Rattle.rm_harness.specs.declared.fault.Fault.TheVariants.{NoMemory as WithoutMemory};
+    ghost use Rattle.rm_test_harness.specs.declared.fault.Fault.TheVariants.{NoMemory as WithoutMemory};
 
     ghost from_gives = { λ _ e. e ≡ WithoutMemory };
 
@@ -33,7 +33,7 @@ impl From<AllocError> for Fault {
 }
 
 impl<T: Drop> From<AllocFailed<T>> for Fault {
-    ghost use Rattle.rm_harness.specs.declared.fault.Fault.TheVariants.{NoMemory as WithoutMemory};
+    ghost use Rattle.rm_test_harness.specs.declared.fault.Fault.TheVariants.{NoMemory as WithoutMemory};
 
     ghost from_gives = { λ _ e. e ≡ WithoutMemory };
 

@@ -1,7 +1,7 @@
 //! What a line of a table says: its first word, numbers, texts between quotes, and the words of kinds and statuses.
 ghost use Rattle.std.specs.Prelude.{◌≡◌, ◌==◌, ℕ, List, [], ◌∷◌, ◌++◌, IfOk};
 ghost use Rattle.std.specs.List.{after_first, before_first};
-ghost use Rattle.rm_harness.specs.Words.{kind_word, status_word};
+ghost use Rattle.rm_test_harness.specs.Words.{kind_word, status_word};
 
 use crate::fault::{Fault, differs};
 use rm_base::{Kind, Status};

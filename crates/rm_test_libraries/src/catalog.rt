@@ -2,7 +2,7 @@
 use crate::record::{range_of, record_of};
 use rm_base::{NoMemory, Seq};
 use rm_catalog::{Catalog, CatalogFault, Edit, Key, Record};
-use rm_harness::{Fault, Told, cases, differs};
+use rm_test_harness::{Fault, Told, cases, differs};
 use std::alloc::Global;
 
 // The small catalog, and the records of the case that is read.

@@ -2,7 +2,7 @@
 use rm_base::{Failing, MemStore, NoMemory, Seq, Store, StoreFail, StoreFailing, Text};
 use rm_catalog::{Edit, Keeper, KeeperFail, Key, MarkEntry, MemKeeper, Record};
 use rm_change::{Change, Object, Stop, carry_out};
-use rm_harness::{Fault, differs};
+use rm_test_harness::{Fault, Told, differs, numbers};
 use std::alloc::Global;
 
 // A mark of this number.
@@ -110,8 +110,8 @@ fn word(answer: Result<(), Stop>) -> &'static str {
     }
 }
 
-/// What the change answers, and what is left of it, where the put, the apply and the remove of these numbers fail.
-pub fn outcome(alloc: Global, numbers: &[u64]) -> Result<String, Fault> {
+// What the change answers, and what is left of it, where the put, the apply and the remove of these numbers fail.
+fn outcome(alloc: Global, numbers: &[u64]) -> Result<String, Fault> {
     let [put, apply, remove] = numbers else {
         return differs(alloc, "not three numbers");
     };
@@ -124,5 +124,15 @@ pub fn outcome(alloc: Global, numbers: &[u64]) -> Result<String, Fault> {
         Ok(out)
     } else {
         differs(alloc, "what is left is not told")
+    }
+}
+
+/// Changes, each by the numbers of the put, the apply and the remove that fail.
+#[derive(Drop)]
+pub struct Changes;
+
+impl Told for Changes {
+    fn told(&mut self, alloc: Global, asked: &str) -> Result<String, Fault> {
+        outcome(alloc, &numbers::<u64>(alloc, asked)?)
     }
 }

@@ -1,9 +1,10 @@
 //! The database of which a catalog tells.
+use crate::made::catalog_of;
 use rm_base::{Policy, Seq};
-use rm_catalog::{BaseEntry, Catalog, DatafileEntry, IncarnationEntry, MarkEntry, Record};
-use rm_harness::{Fault, differs};
+use rm_catalog::{BaseEntry, DatafileEntry, IncarnationEntry, MarkEntry, Record};
 use rm_history::Datafile;
 use rm_objects::{base_of, datafile, has_database, threads};
+use rm_test_harness::Fault;
 use std::alloc::Global;
 
 const BASE: BaseEntry = BaseEntry {
@@ -40,13 +41,6 @@ fn file(file: u32, creation: u64, blocks: u32) -> Record {
     })
 }
 
-fn catalog_of(alloc: Global, records: Vec<Record>) -> Result<Catalog, Fault> {
-    match Catalog::from_records(Seq::from_vec(records)) {
-        Ok(catalog) => Ok(catalog),
-        Err(_) => differs(alloc, "no catalog"),
-    }
-}
-
 /// A catalog tells the database.
 pub fn a_database(alloc: Global) -> Result<bool, Fault> {
     let mut records = Vec::new(alloc);
@@ -55,7 +49,7 @@ pub fn a_database(alloc: Global) -> Result<bool, Fault> {
     records.push(file(1, 1, 4))?;
     records.push(file(2, 12, 8))?;
     records.push(Record::Mark(MARK))?;
-    let catalog = catalog_of(alloc, records)?;
+    let catalog = catalog_of(alloc, Seq::from_vec(records))?;
     let second = Datafile {
         inc: 1,
         creation: 12,
@@ -69,6 +63,6 @@ pub fn a_database(alloc: Global) -> Result<bool, Fault> {
 
 /// No record tells no database.
 pub fn none(alloc: Global) -> Result<bool, Fault> {
-    let catalog = catalog_of(alloc, Vec::new(alloc))?;
+    let catalog = catalog_of(alloc, Seq::new(alloc))?;
     Ok(!has_database(&catalog) && base_of(&catalog).is_none() && threads(&catalog) == 0)
 }

@@ -1,7 +1,7 @@
 //! A datafile in place, each of its calls once.
 use rm_base::{Block, Row, Seq};
 use rm_blocks::DataFile;
-use rm_harness::Fault;
+use rm_test_harness::Fault;
 use std::alloc::Global;
 
 /// A created datafile has zero blocks.

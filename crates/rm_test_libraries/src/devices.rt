@@ -1,6 +1,6 @@
 //! A source, a sink and a clock in memory, and calls that fail by their numbers.
 use rm_base::{Clock, Failing, MemClock, MemSink, MemSource, NoMemory, Sink, Source};
-use rm_harness::Fault;
+use rm_test_harness::Fault;
 use std::alloc::Global;
 
 /// The calls of these numbers fail.

@@ -2,7 +2,7 @@
 use crate::catalog::small;
 use rm_base::{Failing, Seq};
 use rm_catalog::{Edit, Keeper, KeeperFail, Key, MarkEntry, MemKeeper, Record};
-use rm_harness::Fault;
+use rm_test_harness::Fault;
 use std::alloc::Global;
 
 // A keeper of the small catalog, of which the calls with these numbers fail.

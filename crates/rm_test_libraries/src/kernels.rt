@@ -2,8 +2,8 @@
 ghost use Rattle.std.specs.Prelude.{◌≤◌};
 
 use rm_base::Block;
-use rm_harness::Fault;
 use rm_lanes::{count_ones, is_zero, next_set, or_into, same};
+use rm_test_harness::Fault;
 use std::alloc::Global;
 
 // Bytes of a linear congruential generator. Those whose second byte reaches `density` are zero.

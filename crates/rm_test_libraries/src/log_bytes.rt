@@ -2,8 +2,8 @@
 use rm_base::number::{push_u32, push_u64};
 use rm_base::sealed::seal;
 use rm_base::{Block, NoMemory, Seq};
-use rm_harness::{Fault, Told, cases, differs};
 use rm_redo::{LogFile, LogRecord, decode_log, encode_log, is_valid_log};
+use rm_test_harness::{Fault, Told, cases, differs};
 use std::alloc::Global;
 
 fn is_read(alloc: Global, bytes: &[u8]) -> bool {

@@ -2,8 +2,8 @@
 ghost use Rattle.std.specs.Prelude.{◌≡◌};
 
 use rm_base::{Block, Change, Scn, ThreadNo};
-use rm_harness::Fault;
 use rm_redo::{LogFault, LogRecord, OnlineLogs};
+use rm_test_harness::Fault;
 use std::alloc::Global;
 
 // A change of block 3 of file 2.

@@ -1,10 +1,10 @@
 //! The table of what is picked for a level 1, and of what a copy becomes by it.
-use crate::made::{catalog_of, records};
+use crate::made::{catalog_of, three_branches};
 use crate::pieces::{copy_text, halves, piece_of};
-use rm_harness::{Fault, Told, differs, head, numbers, rows, rows_text};
 use rm_merge::{MergeFault, merge};
 use rm_objects::has_database;
 use rm_piece::{Piece, is_valid, pick};
+use rm_test_harness::{Fault, Told, differs, head, numbers, rows, rows_text};
 use std::alloc::Global;
 
 /// The copy of the case.
@@ -15,7 +15,7 @@ pub struct Merging {
 
 // The merge of valid parts, where the incarnation of the level 1 is there. None where they are apart.
 fn merged(alloc: Global, copy: &Piece, level1: &Piece) -> Result<Option<Piece>, Fault> {
-    let catalog = catalog_of(alloc, records(alloc, 1)?)?;
+    let catalog = catalog_of(alloc, three_branches(alloc, 1)?)?;
     if !has_database(&catalog) || !is_valid(copy) || !is_valid(level1) {
         return differs(alloc, "not valid");
     }

@@ -1,10 +1,11 @@
 //! The table of parents, and of the copies that are taken.
-use crate::made::{catalog_of, pairs_text, records};
+use crate::made::{catalog_of, three_branches};
+use crate::pieces::pairs_text;
 use rm_backup::{parent, start_above, taken};
 use rm_base::{FileNo, Scn, Seq, Text};
 use rm_catalog::{Catalog, PieceEntry, Record};
-use rm_harness::{Fault, Told, differs, head, kind_of, numbers, status_of};
 use rm_objects::has_database;
+use rm_test_harness::{Fault, Told, differs, head, kind_of, numbers, status_of};
 use std::alloc::Global;
 
 /// The records of the row, of which there is a catalog from its first case on.
@@ -136,8 +137,8 @@ fn told_of(
 impl Told for Parents {
     fn say(&mut self, alloc: Global, line: &str) -> Result<(), Fault> {
         match head(line) {
-            ("current", "1") => self.records = Some(records(alloc, 1)?),
-            ("current", "2") => self.records = Some(records(alloc, 2)?),
+            ("current", "1") => self.records = Some(three_branches(alloc, 1)?),
+            ("current", "2") => self.records = Some(three_branches(alloc, 2)?),
             _ => self.add(alloc, backup(alloc, line)?)?,
         }
         Ok(())

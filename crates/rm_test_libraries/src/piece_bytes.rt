@@ -1,8 +1,8 @@
 //! Pieces as bytes: a copy of two blocks, its bytes changed and cut, and each number at its limits.
 use rm_base::sealed::seal;
 use rm_base::{Block, Kind, NoMemory, Row, Seq};
-use rm_harness::{Fault, differs};
 use rm_piece::{Piece, decode_piece, encode_piece, high_of, is_valid, pick};
+use rm_test_harness::{Fault, Told, differs, numbers};
 use std::alloc::Global;
 
 /// A row of this text.
@@ -148,15 +148,20 @@ fn spelled(alloc: Global, numbers: &[u64]) -> Result<Vec<u8>, Fault> {
     Ok(out)
 }
 
-/// Whether the bytes of these numbers are read, or bad.
-pub fn reading(alloc: Global, numbers: &[u64]) -> Result<String, Fault> {
-    let bytes = spelled(alloc, numbers)?;
-    let word = if is_read(alloc, &bytes) {
-        "read"
-    } else {
-        "bad"
-    };
-    Ok(String::from_str(alloc, word)?)
+/// Pieces of two rows, each by its numbers.
+#[derive(Drop)]
+pub struct Pieces;
+
+impl Told for Pieces {
+    fn told(&mut self, alloc: Global, asked: &str) -> Result<String, Fault> {
+        let bytes = spelled(alloc, &numbers::<u64>(alloc, asked)?)?;
+        let word = if is_read(alloc, &bytes) {
+            "read"
+        } else {
+            "bad"
+        };
+        Ok(String::from_str(alloc, word)?)
+    }
 }
 
 /// Rows from an SCN on, and the high of none.

@@ -1,6 +1,8 @@
-//! Pieces of datafile 1 as the tables say them: KIND INC FROM CHECKPOINT HIGH: BLOCK VERSION TEXT, and so on.
-use rm_harness::{Fault, differs, head, kind_of, numbers, rows, rows_text, word_of};
+//! Pieces of datafile 1 as the tables say them: KIND INC FROM CHECKPOINT HIGH: BLOCK VERSION TEXT, and so on; and what
+//! comes of pieces.
+use rm_base::Scn;
 use rm_piece::Piece;
+use rm_test_harness::{Fault, differs, head, kind_of, numbers, rows, rows_text, word_of};
 use std::alloc::Global;
 
 /// The text of these parts: what stands before a colon, and the rows behind it.
@@ -37,4 +39,14 @@ pub fn copy_text(alloc: Global, copy: &Piece) -> Result<String, Fault> {
     let kind = word_of(copy.kind);
     let (inc, checkpoint, high) = (copy.inc, copy.checkpoint, copy.high);
     Ok(format!(in alloc; "{kind} {inc} {checkpoint} {high}: {}", rows.as_str())?)
+}
+
+/// The ids and SCNs, or `none`.
+pub fn pairs_text(alloc: Global, pairs: &[(u32, Scn)]) -> Result<String, Fault> {
+    let mut out = String::from_str(alloc, if pairs.is_empty() { "none" } else { "" })?;
+    for (id, scn) in pairs {
+        let comma = if out.is_empty() { "" } else { ", " };
+        write!(out, "{comma}{id} {scn}")?;
+    }
+    Ok(out)
 }

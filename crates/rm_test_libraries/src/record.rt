@@ -4,7 +4,7 @@ use rm_catalog::{
     BaseEntry, DatafileEntry, HeadEntry, IncarnationEntry, LogEntry, MarkEntry, PartEntry,
     PieceEntry, Record,
 };
-use rm_harness::{Fault, differs};
+use rm_test_harness::{Fault, differs};
 use std::alloc::Global;
 
 // The words of a line, and how many were read. `@` and `2..9` stand for this number.

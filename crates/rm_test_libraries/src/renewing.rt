@@ -4,16 +4,16 @@ ghost use Rattle.rm_catalog.specs.Rules.{HasDatabase};
 ghost use Rattle.rm_catalog.specs.Trees.{nodes};
 ghost use Rattle.rm_evidence.specs.Known.{FitsTree};
 
-use crate::made::{catalog_of, pairs_text, records};
-use crate::pieces::{copy_text, piece_of};
+use crate::made::{catalog_of, three_branches};
+use crate::pieces::{copy_text, pairs_text, piece_of};
 use rm_backup::{Renewed, next_level1, recover_copy};
 use rm_base::sealed::digest_of;
 use rm_base::{Failing, Kind, MemStore, NoMemory, Scn, Seq, Status, Store, StoreFailing, Text};
 use rm_catalog::{Catalog, PieceEntry, Record};
 use rm_evidence::{Evidence, EvidenceFault, InPlace, fits_place, gather};
-use rm_harness::{Fault, Told, differs, head, status_of};
 use rm_objects::{has_database, piece_name};
 use rm_piece::{Piece, encode_piece, is_valid};
+use rm_test_harness::{Fault, Told, differs, head, status_of};
 use std::alloc::Global;
 
 /// The records of the row, of which there is a catalog from its first case on, and the objects that they name.
@@ -72,7 +72,7 @@ impl Shelf {
     }
 
     fn begin(&mut self, alloc: Global) -> Result<(), Fault> {
-        self.records = Some(records(alloc, 1)?);
+        self.records = Some(three_branches(alloc, 1)?);
         self.store = empty(alloc);
         Ok(())
     }

@@ -1,11 +1,11 @@
 //! The table of what keeps a record, and what lets it go.
-use crate::made::{Besides, database, datafile, log, piece, recorded};
+use crate::made::{Besides, catalog_of, database, datafile, log, piece, recorded};
 use rm_base::{Policy, Scn, Seq, Status};
 use rm_catalog::{Catalog, Record};
 use rm_evidence::Evidence;
-use rm_harness::{Fault, Told, differs, head, numbers};
 use rm_objects::has_database;
 use rm_retain::{chosen, do_ascend, obsolete};
+use rm_test_harness::{Fault, Told, differs, head, numbers};
 use std::alloc::Global;
 
 /// The records of the row, of which there is a catalog from its first case on, how many datafiles it has, and what is
@@ -78,7 +78,7 @@ impl Retention {
 
     fn add_file(&mut self, alloc: Global, inc: u32, creation: Scn) -> Result<(), Fault> {
         self.files = self.files.saturating_add(1);
-        self.add(alloc, datafile(self.files, inc, creation))
+        self.add(alloc, datafile(self.files, inc, creation, 1))
     }
 
     // Adds a piece, which is at hand if it is available.
@@ -96,12 +96,8 @@ impl Retention {
 
     // The catalog of all records.
     fn load(&mut self, alloc: Global) -> Result<(), Fault> {
-        let Some(records) = self.records.take() else {
-            return Ok(());
-        };
-        match Catalog::from_records(records) {
-            Ok(catalog) => self.catalog = Some(catalog),
-            Err(_) => return differs(alloc, "no catalog"),
+        if let Some(records) = self.records.take() {
+            self.catalog = Some(catalog_of(alloc, records)?);
         }
         Ok(())
     }

@@ -1,6 +1,6 @@
 //! The statements of small scripts, and the text of tokens.
 use rm_base::{NoMemory, Text};
-use rm_harness::{Fault, Told, differs, shown, unquoted};
+use rm_test_harness::{Fault, Told, differs, shown, unquoted};
 use rm_token::{Token, are_string_bytes, is_name, statements, text_of};
 use std::alloc::Global;
 

@@ -1,7 +1,7 @@
 //! A store in memory of which some calls fail.
 use crate::devices::failing;
 use rm_base::{MemStore, NoMemory, Store, StoreFail, StoreFailing};
-use rm_harness::{Fault, Told, differs, shown, unquoted};
+use rm_test_harness::{Fault, Told, differs, shown, unquoted};
 use std::alloc::Global;
 
 /// The store of the case.

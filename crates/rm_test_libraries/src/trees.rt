@@ -1,7 +1,7 @@
 //! Trees of incarnations.
 use rm_base::{IncNo, Scn};
-use rm_harness::{Fault, Told, differs, head, numbers, shown};
 use rm_history::{Standing, Tree, TreeFault};
+use rm_test_harness::{Fault, Told, differs, head, numbers, shown};
 use std::alloc::Global;
 
 // One more that branches off, where there is room.

@@ -2,7 +2,7 @@
 use rm_base::number::{push_u32, push_u64, take_u32, take_u64};
 use rm_base::sealed::{digest_of, seal_with_digest, unseal};
 use rm_base::{Block, Seq, Text};
-use rm_harness::Fault;
+use rm_test_harness::Fault;
 use std::alloc::Global;
 
 /// A block is padded and trimmed.

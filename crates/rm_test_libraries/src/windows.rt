@@ -1,8 +1,8 @@
 //! The table of where a window starts.
 use rm_base::{IncNo, Mark, Moment};
-use rm_harness::{Fault, Told, differs, head, numbers};
 use rm_history::{Tree, TreeFault};
 use rm_retain::window_start;
+use rm_test_harness::{Fault, Told, differs, head, numbers};
 use std::alloc::Global;
 
 /// The marks of the case.

@@ -2,8 +2,8 @@
 ghost use Rattle.std.specs.Prelude.{◌<◌, ◌≡◌, All, IfOk, length};
 
 use rm_base::{Block, Change, NoMemory, Seq};
-use rm_harness::Fault;
 use rm_history::{Datafile, Tree, World};
+use rm_test_harness::Fault;
 use std::alloc::Global;
 
 const FILE: Datafile = Datafile {

@@ -6,10 +6,10 @@ use crate::slow::{Target, plan_slowly};
 use rm_base::{BlockNo, FileNo, IncNo, Scn};
 use rm_catalog::Catalog;
 use rm_evidence::Evidence;
-use rm_harness::{Fault, differs};
 use rm_history::Tree;
 use rm_objects::has_database;
 use rm_plan::{Gap, PlanFault, Told};
+use rm_test_harness::{Fault, differs};
 use std::alloc::Global;
 
 // The datafiles, and how many blocks each has.

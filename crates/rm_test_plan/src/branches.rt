@@ -5,10 +5,10 @@ use crate::made::{base_entry, catalog_of, datafile, nothing, push_incarnation};
 use rm_base::{Block, BlockNo, Change, IncNo, Kind, NoMemory, Row, Scn, Seq, ThreadNo};
 use rm_catalog::{Catalog, IncarnationEntry};
 use rm_evidence::Evidence;
-use rm_harness::Fault;
 use rm_history::Tree;
 use rm_piece::{Piece, pick};
 use rm_redo::{LogFile, LogRecord};
+use rm_test_harness::Fault;
 use std::alloc::Global;
 
 /// Where each incarnation ends.

@@ -1,6 +1,6 @@
 //! The script of drill 7, beside what another program made of the same rules.
 use rm_drill::drill_script;
-use rm_harness::Fault;
+use rm_test_harness::Fault;
 use std::alloc::Global;
 
 const BEGIN: &[u8] = b"CREATE DATABASE THREADS 2;\nCREATE DATAFILE BLOCKS 1024;\n";

@@ -4,9 +4,9 @@ ghost use Rattle.std.specs.Prelude.{◌≡◌, ◌<◌, All, IfOk, length};
 
 use crate::made::log;
 use rm_base::{Block, Change, NoMemory, Row, Scn, Seq, ThreadNo};
-use rm_harness::{Fault, rows};
 use rm_history::{Datafile, Tree, World};
 use rm_redo::{LogFile, LogRecord};
+use rm_test_harness::{Fault, rows};
 use std::alloc::Global;
 
 fn world(alloc: Global) -> Result<World, NoMemory>

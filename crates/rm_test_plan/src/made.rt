@@ -2,9 +2,9 @@
 use rm_base::{IncNo, Kind, NoMemory, Policy, Row, Scn, Seq, ThreadNo};
 use rm_catalog::{BaseEntry, Catalog, DatafileEntry, IncarnationEntry, MarkEntry, Record};
 use rm_evidence::Evidence;
-use rm_harness::{Fault, differs};
 use rm_piece::Piece;
 use rm_redo::{LogFile, LogRecord};
+use rm_test_harness::{Fault, differs};
 use std::alloc::Global;
 
 /// A catalog of these records.

@@ -15,7 +15,7 @@ mod plans;
 mod slow;
 mod whole;
 
-use rm_harness::{tell, tell_table};
+use rm_test_harness::{tell, tell_table};
 use std::io;
 
 fn tell_evidence(rt: &HostRuntime) -> io::Result<()> {

@@ -3,7 +3,7 @@ use crate::gathering::{catalog, evidence, log_bytes, log_entry, no_place, piece_
 use rm_base::{Kind, MemStore, Seq, Status, Store};
 use rm_catalog::Record;
 use rm_evidence::Evidence;
-use rm_harness::{Fault, Told, differs, head, status_of};
+use rm_test_harness::{Fault, Told, differs, head, status_of};
 use std::alloc::Global;
 
 /// Objects, each of which is found, skipped or passed over.

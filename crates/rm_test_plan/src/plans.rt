@@ -4,8 +4,8 @@ use crate::made::{catalog, log, nothing, piece};
 use rm_base::{Block, BlockNo, Kind, Part, Scn, ThreadNo};
 use rm_catalog::Catalog;
 use rm_evidence::Evidence;
-use rm_harness::{Fault, Told, differs, head, kind_of, numbers, rows, text_of};
 use rm_plan::{Gap, PlanFault};
+use rm_test_harness::{Fault, Told, differs, head, kind_of, numbers, rows, text_of};
 use std::alloc::Global;
 
 /// The catalog of the row, and what is at hand.

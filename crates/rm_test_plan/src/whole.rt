@@ -6,8 +6,8 @@ use rm_base::{Kind, MemStore, NoMemory, Seq, Status, Store};
 use rm_blocks::DataFile;
 use rm_catalog::{Catalog, Record};
 use rm_evidence::{InPlace, fits_place};
-use rm_harness::{Fault, differs};
 use rm_objects::has_database;
+use rm_test_harness::{Fault, differs};
 use std::alloc::Global;
 
 // A catalog and its store.

@@ -1,5 +1,6 @@
 //! Runs the worked rows of `data/` through the program's `run`, over objects in memory, and prints a line
-//! for each: its name and `ok`, or the first thing that differs.
+//! for each: its name and `ok`, or the first thing that differs. Behind them it tries the sources and the sinks of rm_tool,
+//! and runs that no row can show, each with a line.
 //!
 //! A row is a file `NAME.row`, read from above:
 //!
@@ -27,12 +28,16 @@
 //! | `-- object NAME N HEX` | the last run left an object of this name of N bytes, which begin so |
 #![tactic(auto)]
 
+mod broken;
 mod calls;
+mod channels;
 mod digits;
+mod ends;
 mod row;
+mod runs;
 mod trial;
 
-use rm_harness::Fault;
+use rm_test_harness::{Fault, tell};
 use row::Row;
 use std::alloc::Global;
 use std::path::Path;
@@ -69,14 +74,41 @@ fn outcome<R: Threads + Wait + Sync>(rt: &R, alloc: Global, text: &str) -> Resul
     Ok(String::from_str(alloc, "ok")?)
 }
 
-fn main(rt: HostRuntime) -> io::Result<ExitCode> {
-    for name in &names(&rt)? {
+// Runs each row, and tells whether memory was there for all.
+fn tell_rows(rt: &HostRuntime) -> io::Result<bool> {
+    for name in &names(rt)? {
         let file = format!(in rt.alloc(); "{name}.row")?;
-        let text = fs::read_to_string(&rt, file.as_str())?;
-        let Ok(outcome) = outcome(&rt, rt.alloc(), text.as_str()) else {
-            return Ok(ExitCode::from(7));
+        let text = fs::read_to_string(rt, file.as_str())?;
+        let Ok(outcome) = outcome(rt, rt.alloc(), text.as_str()) else {
+            return Ok(false);
         };
         println!(rt; "{name} {outcome}")?;
     }
+    Ok(true)
+}
+
+fn tell_ends(rt: &HostRuntime) -> io::Result<()> {
+    let alloc = rt.alloc();
+    tell(rt, "a source in pieces", ends::a_source(alloc))?;
+    tell(rt, "a source fails", ends::a_source_fails(alloc))?;
+    tell(rt, "the longest script", ends::longest(alloc))?;
+    tell(rt, "a sink past its room", ends::a_sink(alloc))?;
+    tell(rt, "a reader is a source", ends::a_reader(alloc))?;
+    tell(rt, "a writer is a sink", ends::a_writer(alloc))
+}
+
+fn tell_runs(rt: &HostRuntime) -> io::Result<()> {
+    let alloc = rt.alloc();
+    tell(rt, "gate-holds-section", channels::held(rt, alloc))?;
+    tell(rt, "how many channels", channels::counted(rt, alloc))?;
+    tell(rt, "a script too long", runs::too_long(rt, alloc))
+}
+
+fn main(rt: HostRuntime) -> io::Result<ExitCode> {
+    if !tell_rows(&rt)? {
+        return Ok(ExitCode::from(7));
+    }
+    tell_ends(&rt)?;
+    tell_runs(&rt)?;
     Ok(ExitCode::SUCCESS)
 }

@@ -4,7 +4,7 @@ use crate::digits::{bytes_in, record_of};
 use crate::trial::{ROOM, Trial, object};
 use rm_base::{MemStore, Store, Text};
 use rm_catalog::{Edit, Keeper, Key, MemKeeper};
-use rm_harness::{Fault, differs};
+use rm_test_harness::{Fault, differs};
 use std::alloc::Global;
 use std::sync::Wait;
 use std::thread::Threads;

@@ -1,6 +1,6 @@
 //! Whole runs over objects in memory.
-use rm_base::{Failing, MemClock, MemSink, MemSource, MemStore, NoMemory, Seq, StoreFailing, Text};
-use rm_catalog::MemKeeper;
+use crate::calls::Calls;
+use rm_base::{Failing, MemClock, MemSink, MemSource, NoMemory, Text};
 use rm_channel::Gate;
 use rm_tool::OpenGate;
 use rm_tool::run::run;
@@ -24,16 +24,6 @@ fn words(alloc: Global, more: &[&str]) -> Result<Vec<Text>, NoMemory> {
     Ok(words)
 }
 
-fn store(alloc: Global) -> MemStore {
-    let failing = StoreFailing {
-        gets: never(alloc),
-        puts: never(alloc),
-        removes: never(alloc),
-        names: never(alloc),
-    };
-    MemStore::new(alloc, failing)
-}
-
 /// Runs a script over an empty site, whose channels call this gate, and gives the status.
 pub fn run_script<R: Threads + Wait + Sync, G: Gate>(
     rt: &R,
@@ -44,7 +34,7 @@ pub fn run_script<R: Threads + Wait + Sync, G: Gate>(
     sink: &mut MemSink,
 ) -> Result<u8, NoMemory> {
     let mut source = MemSource::new(script, 64, never(alloc));
-    let mut keeper = MemKeeper::new(Seq::new(alloc), never(alloc), never(alloc))?;
+    let (mut store, mut keeper) = Calls::new(alloc).site()?;
     Ok(run(
         rt,
         alloc,
@@ -52,7 +42,7 @@ pub fn run_script<R: Threads + Wait + Sync, G: Gate>(
         &words(alloc, more)?,
         &mut source,
         sink,
-        &mut store(alloc),
+        &mut store,
         &mut keeper,
         &mut MemClock::new(Vec::new(alloc)),
     ))

@@ -2,7 +2,7 @@
 use crate::calls::{Call, Calls};
 use rm_base::{MemClock, MemSink, MemSource, MemStore, Store, Text};
 use rm_catalog::MemKeeper;
-use rm_harness::Fault;
+use rm_test_harness::Fault;
 use rm_tool::OpenGate;
 use rm_tool::run::run;
 use std::alloc::Global;

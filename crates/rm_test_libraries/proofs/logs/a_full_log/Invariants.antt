@@ -1,6 +1,6 @@
 use Rattle.std.proofs.Common.{◌≡◌, ◌<◌, ◌≤◌, All}
 use Rattle.rm_redo.specs.Online.{IsThread, IsLost, records_of, first_of}
-use Rattle.rm_core_tests.proofs.logs.a_full_log.Given as goal
+use Rattle.rm_test_libraries.proofs.logs.a_full_log.Given as goal
 
 abbrev pub invariant-loop-scn : goal.invariant-loop-scn
 invariant-loop-scn l = record {

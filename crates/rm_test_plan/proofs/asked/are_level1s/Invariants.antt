@@ -2,7 +2,7 @@ use Rattle.std.proofs.Common.{◌≡◌}
 use Rattle.std.specs.List.{AllWithin}
 use Rattle.rm_base.specs.declared.kinds.Kind.TheVariants.{Level1}
 use Rattle.rm_evidence.specs.Known.{FitsPiece}
-use Rattle.rm_plan_tests.proofs.asked.are_level1s.Given as goal
+use Rattle.rm_test_plan.proofs.asked.are_level1s.Given as goal
 
 abbrev pub invariant-loop-piece : goal.invariant-loop-piece
 invariant-loop-piece l = record {

@@ -3,7 +3,7 @@ use Rattle.std.proofs.lemmas.List.{get_or_default}
 use Rattle.std.proofs.lemmas.List.Elements.{AllWithin-more}
 use Rattle.rm_evidence.specs.Known.{FitsLog}
 use Rattle.rm_redo.specs.declared.log_file.LogFile.{LogFile}
-use Rattle.rm_plan_tests.proofs.asked.are_logs.Goals as goal
+use Rattle.rm_test_plan.proofs.asked.are_logs.Goals as goal
 
 pub loop-log-preserved : goal.loop-log-preserved
 loop-log-preserved c =

@@ -1,5 +1,5 @@
 use Rattle.std.proofs.Common.{refl}
-use Rattle.rm_plan_tests.proofs.asked.is_fit.Goals as goal
+use Rattle.rm_test_plan.proofs.asked.is_fit.Goals as goal
 
 pub returns : goal.returns
 returns c ok = record {
