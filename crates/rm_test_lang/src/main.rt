@@ -1,12 +1,13 @@
-//! Prints the text of each kind of reply line, and how the cases of the tables in `data/` come out.
+//! Prints the text of each kind of reply line, how the cases of the tables in `data/` come out, and a line for each part of
+//! the notation.
 #![tactic(auto)]
 
+mod commands;
 mod moments;
+mod notation;
 mod replies;
 mod statements;
 mod table;
-#[cfg(test)]
-mod tests;
 mod words;
 
 ghost use Rattle.std.specs.Prelude.{IfOk, IfSome};
@@ -16,7 +17,9 @@ use replies::{
     MOST, changing, limits, listing, names, records, recovering, refusals, text_of, upkeep,
 };
 use rm_base::NoMemory;
+use rm_grammar::Unread;
 use rm_report::Line;
+use rm_test_harness::{Fault, tell, tell_table};
 use std::io;
 use table::Table;
 
@@ -76,14 +79,46 @@ fn print_named(rt: &HostRuntime) -> io::Result<()> {
     Ok(())
 }
 
+fn tell_tables(rt: &HostRuntime) -> io::Result<()> {
+    tell_table(rt, "times", Table::Times)?;
+    tell_table(rt, "moments", Table::Moments)?;
+    tell_table(rt, "marks", Table::Marks)?;
+    tell_table(rt, "statements", Table::Statements)?;
+    tell_table(rt, "refused", Table::Refused)?;
+    tell_table(rt, "words", Table::Words)
+}
+
+// What can't be read is not so.
+fn is_so(outcome: Result<bool, Unread>) -> Result<bool, NoMemory> {
+    match outcome {
+        Ok(is_so) => Ok(is_so),
+        Err(Unread::Other) => Ok(false),
+        Err(Unread::NoMemory) => Err(NoMemory),
+    }
+}
+
+fn tell_notation(rt: &HostRuntime) -> io::Result<()> {
+    let alloc = rt.alloc();
+    let numbers = notation::single_numbers(alloc);
+    let lists = notation::texts_and_lists(alloc);
+    tell(rt, "words and signs", is_so(notation::words(alloc)))?;
+    tell(rt, "single numbers", is_so(numbers))?;
+    tell(rt, "texts and lists", is_so(lists))?;
+    tell(rt, "other words", is_so(notation::other_words(alloc)))?;
+    tell(rt, "a spelling", notation::a_spelling(alloc))?;
+    tell::<Fault>(rt, "tags", Ok(notation::tags()))
+}
+
+fn tell_commands(rt: &HostRuntime) -> io::Result<()> {
+    tell::<Fault>(rt, "no statement", Ok(commands::none()))?;
+    tell_table(rt, "backups", commands::Backups)
+}
+
 fn main(rt: HostRuntime) -> io::Result<()> {
     print_replies(&rt)?;
     print_refusals(&rt)?;
     print_named(&rt)?;
-    Table::Times.print(&rt)?;
-    Table::Moments.print(&rt)?;
-    Table::Marks.print(&rt)?;
-    Table::Statements.print(&rt)?;
-    Table::Refused.print(&rt)?;
-    Table::Words.print(&rt)
+    tell_tables(&rt)?;
+    tell_notation(&rt)?;
+    tell_commands(&rt)
 }
