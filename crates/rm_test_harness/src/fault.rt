@@ -1,5 +1,6 @@
 //! Why a test did not come out.
-ghost use Rattle.std.specs.Prelude.{◌≡◌, IsErr};
+ghost use Rattle.std.specs.Prelude.{◌≡◌, IsErr, IfErr};
+ghost use Rattle.rm_test_harness.specs.Faults.{Tells};
 
 use rm_base::NoMemory;
 use std::alloc::{AllocError, AllocFailed, Global};
@@ -44,7 +45,8 @@ impl<T: Drop> From<AllocFailed<T>> for Fault {
 
 /// This is not so.
 pub fn differs<T>(alloc: Global, what: &str) -> Result<T, Fault>
-    ensures { IsErr result }
+    ensures refused { IsErr result }
+    ensures told { IfErr result (Tells what.now) }
 {
     Err(Fault::Differs(String::from_str(alloc, what)?))
 }

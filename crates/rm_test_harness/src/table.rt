@@ -1,6 +1,7 @@
 //! The tables of `data/`. A line with an arrow is a case: what is asked, and what comes of it. Any other line says what
 //! is there, but for those that are empty or begin with `#`.
-ghost use Rattle.std.specs.Prelude.{IsErr};
+ghost use Rattle.std.specs.Prelude.{◌++◌, IsErr, IfErr, codes};
+ghost use Rattle.rm_test_harness.specs.Faults.{Tells};
 
 use crate::fault::{Fault, differs};
 use std::alloc::Global;
@@ -18,7 +19,8 @@ pub trait Told {
 
 // This is told in place of what is wanted.
 fn otherwise(alloc: Global, line: &str, found: &str) -> Result<bool, Fault>
-    ensures { IsErr result }
+    ensures refused { IsErr result }
+    ensures told { IfErr result (Tells (line.now ++ (codes ": " ++ found.now))) }
 {
     Err(Fault::Differs(format!(in alloc; "{line}: {found}")?))
 }

@@ -1,6 +1,10 @@
 //! What a line of a table says: its first word, numbers, texts between quotes, and the words of kinds and statuses.
-ghost use Rattle.std.specs.Prelude.{◌≡◌, ◌==◌, ℕ, List, [], ◌∷◌, ◌++◌, IfOk};
+ghost use Rattle.std.specs.Prelude.{◌≡◌, ◌≢◌, ◌==◌, ℕ, List, [], ◌∷◌, ◌++◌, Ok, IfOk, IfErr};
 ghost use Rattle.std.specs.List.{after_first, before_first};
+ghost use Rattle.rm_base.specs.declared.kinds.Kind.{Kind};
+ghost use Rattle.rm_base.specs.declared.kinds.Kind.TheVariants.{Place};
+ghost use Rattle.rm_base.specs.declared.kinds.Status.{Status};
+ghost use Rattle.rm_test_harness.specs.Faults.{Tells};
 ghost use Rattle.rm_test_harness.specs.Words.{kind_word, status_word};
 
 use crate::fault::{Fault, differs};
@@ -54,9 +58,11 @@ pub fn shown<T: Debug + Drop>(alloc: Global, value: T) -> Result<String, Fault> 
     Ok(format!(in alloc; "{value:?}")?)
 }
 
-/// The kind of this word.
+/// The kind of this word, but not that of a datafile in place.
 pub fn kind_of(alloc: Global, word: &str) -> Result<Kind, Fault>
-    ensures { IfOk result (λ k. word.now ≡ kind_word k) }
+    ensures read { IfOk result (λ k. word.now ≡ kind_word k) }
+    ensures known { (k : Kind) → k ≢ Place → word.now ≡ kind_word k → result ≡ Ok k }
+    ensures told { IfErr result (Tells word.now) }
 {
     match word {
         "full" => Ok(Kind::Full),
@@ -80,7 +86,9 @@ pub fn word_of(kind: Kind) -> &'static str
 
 /// The status of this word.
 pub fn status_of(alloc: Global, word: &str) -> Result<Status, Fault>
-    ensures { IfOk result (λ s. word.now ≡ status_word s) }
+    ensures read { IfOk result (λ s. word.now ≡ status_word s) }
+    ensures known { (s : Status) → word.now ≡ status_word s → result ≡ Ok s }
+    ensures told { IfErr result (Tells word.now) }
 {
     match word {
         "available" => Ok(Status::Available),
