@@ -74,12 +74,12 @@ fn outcome<R: Threads + Wait + Sync>(rt: &R, alloc: Global, text: &str) -> Resul
     Ok(String::from_str(alloc, "ok")?)
 }
 
-// Runs each row, and tells whether memory was there for all.
-fn tell_rows(rt: &HostRuntime) -> io::Result<bool> {
+// Runs each row, with threads by the second handle, and tells whether memory was there for all.
+fn tell_rows<R: Threads + Wait + Sync>(rt: &HostRuntime, threads: &R) -> io::Result<bool> {
     for name in &names(rt)? {
         let file = format!(in rt.alloc(); "{name}.row")?;
         let text = fs::read_to_string(rt, file.as_str())?;
-        let Ok(outcome) = outcome(rt, rt.alloc(), text.as_str()) else {
+        let Ok(outcome) = outcome(threads, rt.alloc(), text.as_str()) else {
             return Ok(false);
         };
         println!(rt; "{name} {outcome}")?;
@@ -97,18 +97,18 @@ fn tell_ends(rt: &HostRuntime) -> io::Result<()> {
     tell(rt, "a writer is a sink", ends::a_writer(alloc))
 }
 
-fn tell_runs(rt: &HostRuntime) -> io::Result<()> {
+fn tell_runs<R: Threads + Wait + Sync>(rt: &HostRuntime, threads: &R) -> io::Result<()> {
     let alloc = rt.alloc();
-    tell(rt, "gate-holds-section", channels::held(rt, alloc))?;
-    tell(rt, "how many channels", channels::counted(rt, alloc))?;
-    tell(rt, "a script too long", runs::too_long(rt, alloc))
+    tell(rt, "gate-holds-section", channels::held(threads, alloc))?;
+    tell(rt, "how many channels", channels::counted(threads, alloc))?;
+    tell(rt, "a script too long", runs::too_long(threads, alloc))
 }
 
 fn main(rt: HostRuntime) -> io::Result<ExitCode> {
-    if !tell_rows(&rt)? {
+    if !tell_rows(&rt, &rt)? {
         return Ok(ExitCode::from(7));
     }
     tell_ends(&rt)?;
-    tell_runs(&rt)?;
+    tell_runs(&rt, &rt)?;
     Ok(ExitCode::SUCCESS)
 }
