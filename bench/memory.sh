@@ -1,7 +1,7 @@
 #!/usr/bin/env bash
 # Lets each allocation of a session fail in turn, over a folder and a catalog file:
 #     bench/memory.sh PROGRAM [ROW ..]
-# PROGRAM is the program as it was built, and not the script ./rman. A ROW is one of crates/rm_rows/data, whose lines with `>` are its
+# PROGRAM is the program as it was built, and not the script ./rman. A ROW is one of crates/rm_test_rows/data, whose lines with `>` are its
 # sessions; with none, those of sessions, backups and branches are run. Each session is run once for each of its allocations, of which
 # that one fails, over what the sessions before it left. What it writes is the beginning of what it writes with ample memory; its status
 # is 7, or that of a device that failed for it (sqlite may call it a fault of the file), or the same; and the next session finds the records
@@ -59,7 +59,7 @@ statements() {
                 depth += (c == "{") - (c == "}")
                 if (depth == 0 && (c == ";" || c == "}" && one ~ /^ *RUN/)) { print one; one = "" }
             }
-        }' "crates/rm_rows/data/$1.row"
+        }' "crates/rm_test_rows/data/$1.row"
 }
 
 # Runs a script over what stands in `now`, where that allocation fails, and leaves its status in `status`.
@@ -132,7 +132,7 @@ failures=0
 for row in "$@"; do
     rm -rf "$room/before"
     mkdir "$room/before"
-    for session in $(seq 0 "$(grep -c '^-- session' "crates/rm_rows/data/$row.row" || true)"); do
+    for session in $(seq 0 "$(grep -c '^-- session' "crates/rm_test_rows/data/$row.row" || true)"); do
         statements "$row" "$session" > "$room/script"
         all=$(wc -l < "$room/script")
         stops=(0 0 0 0 0 0 0 0)

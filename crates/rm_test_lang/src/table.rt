@@ -1,0 +1,30 @@
+//! The tables of times, statements and words.
+use crate::moments::{marks, shown, time};
+use crate::statements::{texts, texts_again};
+use crate::words::said;
+use rm_test_harness::{Fault, Told};
+use std::alloc::Global;
+
+/// A table.
+#[derive(Clone, Copy)]
+pub enum Table {
+    Times,
+    Moments,
+    Marks,
+    Statements,
+    Refused,
+    Words,
+}
+
+impl Told for Table {
+    fn told(&mut self, alloc: Global, given: &str) -> Result<String, Fault> {
+        Ok(match self {
+            Table::Times => time(alloc, given)?,
+            Table::Moments => shown(alloc, given)?,
+            Table::Marks => marks(alloc, given)?,
+            Table::Statements => texts_again(alloc, given)?,
+            Table::Refused => texts(alloc, given)?,
+            Table::Words => said(alloc, given)?,
+        })
+    }
+}

@@ -1,0 +1,157 @@
+//! The rules of records, and each call of a catalog.
+use crate::record::{range_of, record_of};
+use rm_base::{NoMemory, Seq};
+use rm_catalog::{Catalog, CatalogFault, Edit, Key, Record};
+use rm_test_harness::{Fault, Told, cases, differs};
+use std::alloc::Global;
+
+// The small catalog, and the records of the case that is read.
+#[derive(Drop)]
+struct Table {
+    small: Vec<Record>,
+    records: Option<Vec<Record>>,
+}
+
+fn copies_of(alloc: Global, records: &[Record]) -> Result<Vec<Record>, NoMemory> {
+    let mut copies = Vec::new(alloc);
+    for record in records {
+        copies.push(record.copy(alloc)?)?;
+    }
+    Ok(copies)
+}
+
+// The records but that of this key.
+fn without(records: Vec<Record>, key: Key) -> Result<Vec<Record>, NoMemory> {
+    let mut left = Vec::new(*records.allocator());
+    for record in records {
+        if record.key() != key {
+            left.push(record)?;
+        }
+    }
+    Ok(left)
+}
+
+// With the records that these words say. One that is alone takes the place of that with its key.
+fn with(alloc: Global, records: Vec<Record>, words: &[&str]) -> Result<Vec<Record>, Fault> {
+    let Some((first, last)) = range_of(words) else {
+        let record = record_of(alloc, words, 0)?;
+        let mut records = without(records, record.key())?;
+        records.push(record)?;
+        return Ok(records);
+    };
+    let mut records = records;
+    for number in first..=last {
+        records.push(record_of(alloc, words, number)?)?;
+    }
+    Ok(records)
+}
+
+impl Table {
+    // What a line says of the records of the case.
+    fn put(&mut self, alloc: Global, line: &str) -> Result<(), Fault> {
+        let words: Vec<&str> = line.split(' ').collect(alloc)?;
+        let mut records = match self.records.take() {
+            Some(records) => records,
+            None => copies_of(alloc, &self.small)?,
+        };
+        match words.as_slice() {
+            ["same"] => {}
+            ["none"] => records.clear(),
+            ["without", kind, id] => {
+                let (Ok(kind), Ok(id)) = (kind.parse::<u8>(), id.parse::<u32>()) else {
+                    return differs(alloc, line);
+                };
+                records = without(records, Key { kind, id })?;
+            }
+            ["also", words @ ..] => records.push(record_of(alloc, words, 0)?)?,
+            words => records = with(alloc, records, words)?,
+        }
+        self.records = Some(records);
+        Ok(())
+    }
+}
+
+impl Told for Table {
+    fn say(&mut self, alloc: Global, line: &str) -> Result<(), Fault> {
+        if line.starts_with("small ") {
+            return Ok(());
+        }
+        self.put(alloc, line)
+    }
+
+    fn told(&mut self, alloc: Global, asked: &str) -> Result<String, Fault> {
+        self.put(alloc, asked)?;
+        let records = self.records.take().unwrap_or(Vec::new(alloc));
+        match Catalog::from_records(Seq::from_vec(records)) {
+            Ok(_) => Ok(String::from_str(alloc, "valid")?),
+            Err(CatalogFault::BadRow(kind, id)) => Ok(format!(in alloc; "{kind} {id}")?),
+            Err(CatalogFault::NoMemory) => Err(Fault::NoMemory),
+        }
+    }
+}
+
+/// How many cases of the table are as it says.
+pub fn rules(alloc: Global, text: &str) -> Result<u64, Fault> {
+    let mut table = Table {
+        small: small(alloc, text)?,
+        records: None,
+    };
+    cases(alloc, text, &mut table)
+}
+
+/// The small catalog of the table.
+pub fn small(alloc: Global, text: &str) -> Result<Vec<Record>, Fault> {
+    let mut records = Vec::new(alloc);
+    for line in text.lines() {
+        if let Some(line) = line.strip_prefix("small ") {
+            let words: Vec<&str> = line.split(' ').collect(alloc)?;
+            records.push(record_of(alloc, &words, 0)?)?;
+        }
+    }
+    Ok(records)
+}
+
+fn loaded(alloc: Global, text: &str) -> Result<Catalog, Fault> {
+    match Catalog::from_records(Seq::from_vec(small(alloc, text)?)) {
+        Ok(catalog) => Ok(catalog),
+        Err(_) => differs(alloc, "the small catalog is not valid"),
+    }
+}
+
+/// A catalog tells its records and its tree.
+pub fn calls(alloc: Global, text: &str) -> Result<bool, Fault> {
+    let catalog = loaded(alloc, text)?;
+    let Some(Record::Mark(mark)) = catalog.find(Key { kind: 6, id: 2 }) else {
+        return Ok(false);
+    };
+    if catalog.find(Key { kind: 1, id: 0 }).is_none() || catalog.tree().count() != 2 {
+        return Ok(false);
+    }
+    Ok(
+        catalog.records().len() == 12
+            && (mark.id, mark.moment, mark.inc, mark.scn) == (2, 20, 2, 10)
+            && catalog.find(Key { kind: 6, id: 3 }).is_none()
+            && catalog.find(Key { kind: 1, id: 2 }).is_none(),
+    )
+}
+
+/// No edit changes nothing.
+pub fn edits(alloc: Global, text: &str) -> Result<bool, Fault> {
+    let mut catalog = loaded(alloc, text)?;
+    let before = catalog.records().len();
+    catalog.apply(&[])?;
+    Ok(catalog.records().len() == before)
+}
+
+/// A copy of a record, and of an edit.
+pub fn copies(alloc: Global, text: &str) -> Result<bool, Fault> {
+    let catalog = loaded(alloc, text)?;
+    let key = Key { kind: 5, id: 4 };
+    let Some(piece) = catalog.find(key) else {
+        return Ok(false);
+    };
+    let copy = piece.copy(alloc)?;
+    let has_key = copy.key() == key;
+    let edit = Edit::Put(copy);
+    Ok(has_key && edit.copy(alloc).is_ok())
+}

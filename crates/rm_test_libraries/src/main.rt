@@ -1,0 +1,152 @@
+//! Tests of the public calls of the libraries below the machine, each of which prints a line: of rm_base, rm_token, rm_history,
+//! rm_blocks and rm_lanes, of rm_catalog and rm_redo, of rm_piece, rm_objects and rm_change, of rm_merge and rm_backup, and of
+//! rm_retain. The long tables and the worked rows are files of `data/`, of which each line is a case or says what is there.
+#![tactic(auto)]
+
+mod catalog;
+mod changes;
+mod database;
+mod datafiles;
+mod devices;
+mod keeper;
+mod kernels;
+mod log_bytes;
+mod logs;
+mod made;
+mod many;
+mod merging;
+mod objects;
+mod parents;
+mod piece_bytes;
+mod pieces;
+mod record;
+mod renewing;
+mod retention;
+mod scripts;
+mod stores;
+mod trees;
+mod values;
+mod windows;
+mod worlds;
+
+use rm_test_harness::{Fault, tell, tell_cases, tell_table};
+use std::{fs, io};
+
+fn tell_values(rt: &HostRuntime) -> io::Result<()> {
+    let alloc = rt.alloc();
+    tell::<Fault>(rt, "a block is padded", Ok(values::a_block()))?;
+    tell(rt, "bytes are sealed", values::sealed(alloc))?;
+    tell(rt, "numbers are big-endian", values::numbers(alloc))?;
+    tell(rt, "a list is given back", values::a_list(alloc))?;
+    tell(rt, "a text is given back", values::a_text(alloc))?;
+    tell(rt, "tokens are written", scripts::written(alloc))
+}
+
+fn tell_devices(rt: &HostRuntime) -> io::Result<()> {
+    let alloc = rt.alloc();
+    tell(rt, "a source fails", devices::a_source_fails(alloc))?;
+    tell(rt, "a source gives the front", devices::a_source(alloc))?;
+    tell(rt, "a sink fails", devices::a_sink_fails(alloc))?;
+    tell(rt, "a clock repeats", devices::a_clock(alloc))
+}
+
+fn tell_tables(rt: &HostRuntime) -> io::Result<()> {
+    tell_table(rt, "scripts", scripts::Scripts)?;
+    tell_table(rt, "stores", stores::Stores { store: None })?;
+    tell_table(rt, "trees", trees::Trees { tree: None })
+}
+
+fn tell_history(rt: &HostRuntime) -> io::Result<()> {
+    let alloc = rt.alloc();
+    tell(rt, "the most incarnations", trees::most(alloc))?;
+    tell(rt, "states of a block", worlds::states(alloc))?;
+    tell(rt, "a datafile exists", worlds::a_datafile(alloc))?;
+    tell(rt, "a created datafile", datafiles::created(alloc))?;
+    tell(rt, "a block is written", datafiles::a_write(alloc))?;
+    tell(rt, "a datafile is moved", datafiles::moved(alloc))
+}
+
+fn tell_kernels(rt: &HostRuntime) -> io::Result<()> {
+    let alloc = rt.alloc();
+    tell(rt, "kernels are plain loops", kernels::plain(alloc))?;
+    tell::<Fault>(rt, "bits are least first", Ok(kernels::least_first()))
+}
+
+fn tell_catalogs(rt: &HostRuntime) -> io::Result<()> {
+    let alloc = rt.alloc();
+    let text = fs::read_to_string(rt, "catalog.txt")?;
+    let text = text.as_str();
+    tell_cases(rt, "rules of records", catalog::rules(alloc, text))?;
+    tell(rt, "calls of a catalog", catalog::calls(alloc, text))?;
+    tell(rt, "edits of a catalog", catalog::edits(alloc, text))?;
+    tell(rt, "copies", catalog::copies(alloc, text))?;
+    tell(rt, "each load fails", keeper::each_load(alloc, text))?;
+    tell(rt, "each apply fails", keeper::each_apply(alloc, text))?;
+    tell(rt, "edits in order", keeper::in_order(alloc, text))?;
+    tell(rt, "drops of many marks", many::dropped(alloc))
+}
+
+fn tell_log_bytes(rt: &HostRuntime) -> io::Result<()> {
+    let alloc = rt.alloc();
+    let text = fs::read_to_string(rt, "logs.txt")?;
+    let hex = fs::read_to_string(rt, "log_of_two_records.txt")?;
+    let numbers = log_bytes::numbers(alloc, text.as_str());
+    tell_cases(rt, "bytes of logs", numbers)?;
+    let two = log_bytes::two_records(alloc, hex.as_str());
+    tell(rt, "a log of two records", two)?;
+    tell(rt, "no front of it", log_bytes::no_front(alloc))?;
+    tell(rt, "each byte changed", log_bytes::each_byte(alloc))?;
+    tell(rt, "the longest log", log_bytes::longest(alloc))
+}
+
+fn tell_logs(rt: &HostRuntime) -> io::Result<()> {
+    let alloc = rt.alloc();
+    tell(rt, "a change is logged", logs::a_change(alloc))?;
+    tell(rt, "a switch", logs::a_switch(alloc))?;
+    tell(rt, "a lost log", logs::a_lost_log(alloc))?;
+    tell(rt, "a full log", logs::a_full_log(alloc))
+}
+
+fn tell_pieces(rt: &HostRuntime) -> io::Result<()> {
+    let alloc = rt.alloc();
+    let hex = fs::read_to_string(rt, "copy_of_two_blocks.txt")?;
+    let copy = piece_bytes::two_blocks(alloc, hex.as_str());
+    tell(rt, "a copy of two blocks", copy)?;
+    tell(rt, "no front of it", piece_bytes::no_front(alloc))?;
+    tell(rt, "each byte changed", piece_bytes::each_byte(alloc))?;
+    tell(rt, "rows from an SCN on", piece_bytes::rows_from(alloc))?;
+    tell_table(rt, "pieces", piece_bytes::Pieces)
+}
+
+fn tell_objects(rt: &HostRuntime) -> io::Result<()> {
+    let alloc = rt.alloc();
+    tell(rt, "names have the id", objects::names(alloc))?;
+    tell(rt, "a log is an object", objects::a_log(alloc))?;
+    tell(rt, "a piece is an object", objects::a_piece(alloc))?;
+    tell(rt, "a database", database::a_database(alloc))?;
+    tell(rt, "no database", database::none(alloc))?;
+    tell_table(rt, "changes", changes::Changes)
+}
+
+fn tell_backups(rt: &HostRuntime) -> io::Result<()> {
+    let alloc = rt.alloc();
+    tell_table(rt, "merging", merging::Merging { copy: None })?;
+    tell_table(rt, "parents", parents::Parents::new())?;
+    tell_table(rt, "renewing", renewing::Shelf::new(alloc))?;
+    tell_table(rt, "retention", retention::Retention::new(alloc))?;
+    tell_table(rt, "windows", windows::Windows::new(alloc))
+}
+
+fn main(rt: HostRuntime) -> io::Result<()> {
+    tell_values(&rt)?;
+    tell_devices(&rt)?;
+    tell_tables(&rt)?;
+    tell_history(&rt)?;
+    tell_kernels(&rt)?;
+    tell_catalogs(&rt)?;
+    tell_log_bytes(&rt)?;
+    tell_logs(&rt)?;
+    tell_pieces(&rt)?;
+    tell_objects(&rt)?;
+    tell_backups(&rt)
+}

@@ -1,0 +1,172 @@
+//! Pieces as bytes: a copy of two blocks, its bytes changed and cut, and each number at its limits.
+use rm_base::sealed::seal;
+use rm_base::{Block, Kind, NoMemory, Row, Seq};
+use rm_piece::{Piece, decode_piece, encode_piece, high_of, is_valid, pick};
+use rm_test_harness::{Fault, Told, differs, numbers};
+use std::alloc::Global;
+
+/// A row of this text.
+pub fn row(block: u32, version: u64, text: &[u8; 2]) -> Row {
+    Row {
+        block,
+        version,
+        content: Block::padded(text),
+    }
+}
+
+/// The full piece of a datafile of so many blocks.
+pub fn full(dbid: u32, blocks: u32, rows: Vec<Row>) -> Piece {
+    Piece {
+        kind: Kind::Full,
+        dbid,
+        inc: 1,
+        file: 1,
+        blocks,
+        from: 0,
+        checkpoint: 5,
+        high: 5,
+        rows: Seq::from_vec(rows),
+    }
+}
+
+/// The bytes of a valid piece.
+pub fn bytes_of(alloc: Global, piece: &Piece) -> Result<Vec<u8>, Fault> {
+    if is_valid(piece) {
+        Ok(encode_piece(alloc, piece)?.into_vec())
+    } else {
+        differs(alloc, "the piece is not valid")
+    }
+}
+
+fn is_read(alloc: Global, bytes: &[u8]) -> bool {
+    decode_piece(alloc, bytes).is_ok()
+}
+
+// The copy of two blocks, as bytes.
+fn copy(alloc: Global) -> Result<Vec<u8>, Fault> {
+    let rows = Vec::from_array(alloc, [row(0, 2, b"AA"), row(1, 3, b"BB")])?;
+    bytes_of(alloc, &full(1, 2, rows))
+}
+
+/// Its bytes are those of the file, of which another program made the digest, and are read.
+pub fn two_blocks(alloc: Global, hex: &str) -> Result<bool, Fault> {
+    let bytes = copy(alloc)?;
+    let mut digits = String::new(alloc);
+    for (at, byte) in bytes.iter().enumerate() {
+        write!(
+            digits,
+            "{byte:02x}{}",
+            if at % 32 == 31 { "\n" } else { "" }
+        )?;
+    }
+    let Ok(read) = decode_piece(alloc, &bytes) else {
+        return Ok(false);
+    };
+    let is_spelled = digits.as_str() == hex.trim_end() && bytes.len() == 234;
+    let has_rows = read.rows.as_slice() == [row(0, 2, b"AA"), row(1, 3, b"BB")].as_slice();
+    Ok(is_spelled && has_rows && read.kind == Kind::Full && read.high == 5)
+}
+
+/// No front of it is read, and nothing longer.
+pub fn no_front(alloc: Global) -> Result<bool, Fault> {
+    let mut bytes = copy(alloc)?;
+    for n in 0..234usize {
+        if is_read(alloc, bytes.get(..n).unwrap_or(&[])) {
+            return Ok(false);
+        }
+    }
+    bytes.push(0)?;
+    let is_longer_read = is_read(alloc, &bytes);
+    bytes.truncate(202);
+    bytes.push(0)?;
+    seal(&mut bytes)?;
+    Ok(!is_longer_read && !is_read(alloc, &bytes))
+}
+
+// The bytes with one of them changed.
+fn changed(alloc: Global, bytes: &[u8], k: usize, by: u8) -> Result<Vec<u8>, NoMemory> {
+    let mut out = Vec::with_capacity(alloc, 300)?;
+    for (i, byte) in bytes.iter().enumerate() {
+        out.push(if i == k { *byte ^ by } else { *byte })?;
+    }
+    Ok(out)
+}
+
+// Whether the bytes with one changed are read.
+fn is_changed_read(alloc: Global, bytes: &[u8], by: u8) -> Result<bool, Fault> {
+    for k in 0..234usize {
+        if is_read(alloc, &changed(alloc, bytes, k, by)?) {
+            return Ok(true);
+        }
+    }
+    Ok(false)
+}
+
+// How many changes by these bits are read, each with its new digest. What is read has these bytes.
+fn count_read(alloc: Global, body: &[u8], by: u8) -> Result<u32, Fault> {
+    let mut read = 0u32;
+    for k in 0..202usize {
+        let mut sealed = changed(alloc, body, k, by)?;
+        seal(&mut sealed)?;
+        if let Ok(piece) = decode_piece(alloc, &sealed) {
+            if bytes_of(alloc, &piece)?.as_slice() != sealed.as_slice() {
+                return differs(alloc, "what is read has other bytes");
+            }
+            read = read.saturating_add(1);
+        }
+    }
+    Ok(read)
+}
+
+/// No byte can be changed. With a new digest another program counted what is read.
+pub fn each_byte(alloc: Global) -> Result<bool, Fault> {
+    let bytes = copy(alloc)?;
+    let body = bytes.get(..202).unwrap_or(&[]);
+    for by in [1u8, 255] {
+        if is_changed_read(alloc, &bytes, by)? || count_read(alloc, body, by)? != 136 {
+            return Ok(false);
+        }
+    }
+    Ok(true)
+}
+
+// How many bytes each number of a piece with two rows has, behind "RMPC" and the format.
+const WIDTHS: [usize; 13] = [1, 4, 4, 4, 4, 8, 8, 8, 4, 4, 8, 4, 8];
+
+// The bytes of these numbers. Each row ends with its content, of 64 bytes.
+fn spelled(alloc: Global, numbers: &[u64]) -> Result<Vec<u8>, Fault> {
+    let mut out = Vec::with_capacity(alloc, 300)?;
+    out.extend_from_slice(b"RMPC\x01")?;
+    for (place, (number, width)) in numbers.iter().zip(WIDTHS).enumerate() {
+        let bytes = number.to_be_bytes();
+        out.extend_from_slice(bytes.get(8usize.saturating_sub(width)..).unwrap_or(&[]))?;
+        if place == 10 || place == 12 {
+            out.extend_from_slice(&[7; 64])?;
+        }
+    }
+    seal(&mut out)?;
+    Ok(out)
+}
+
+/// Pieces of two rows, each by its numbers.
+#[derive(Drop)]
+pub struct Pieces;
+
+impl Told for Pieces {
+    fn told(&mut self, alloc: Global, asked: &str) -> Result<String, Fault> {
+        let bytes = spelled(alloc, &numbers::<u64>(alloc, asked)?)?;
+        let word = if is_read(alloc, &bytes) {
+            "read"
+        } else {
+            "bad"
+        };
+        Ok(String::from_str(alloc, word)?)
+    }
+}
+
+/// Rows from an SCN on, and the high of none.
+pub fn rows_from(alloc: Global) -> Result<bool, Fault> {
+    let rows = [row(0, 6, b"AA"), row(1, 4, b"BB"), row(2, 5, b"CC")];
+    let picked = pick(alloc, &rows, 5)?;
+    Ok(picked.as_slice() == [rows[0], rows[2]].as_slice() && high_of(9, &[]) == 9)
+}

@@ -1,0 +1,67 @@
+//! A block that is written twice, and its states.
+ghost use Rattle.std.specs.Prelude.{◌<◌, ◌≡◌, All, IfOk, length};
+
+use rm_base::{Block, Change, NoMemory, Seq};
+use rm_history::{Datafile, Tree, World};
+use rm_test_harness::Fault;
+use std::alloc::Global;
+
+const FILE: Datafile = Datafile {
+    inc: 1,
+    creation: 1,
+    blocks: 4,
+};
+
+// Incarnation 1, and one datafile of four blocks that was created at 1.
+fn small(alloc: Global) -> Result<World, NoMemory>
+    ensures { IfOk result (λ w. length w.tree ≡ 1) }
+{
+    let mut files = Seq::new(alloc);
+    files.push(FILE)?;
+    Ok(World {
+        tree: Tree::new(alloc, 1)?,
+        threads: 1,
+        files,
+    })
+}
+
+// Block 0 gets 'AA' at 2 and 'BB' at 3.
+fn two_writes() -> [Change; 2]
+    ensures { All (λ c. 0 < c.scn) result }
+{
+    let first = Change {
+        inc: 1,
+        thread: 1,
+        scn: 2,
+        file: 1,
+        block: 0,
+        content: Block::padded(b"AA"),
+    };
+    let second = Change {
+        scn: 3,
+        content: Block::padded(b"BB"),
+        ..first
+    };
+    [first, second]
+}
+
+/// A block has the state of its last change.
+pub fn states(alloc: Global) -> Result<bool, Fault> {
+    let world = small(alloc)?;
+    let history = two_writes();
+    for (s, version, text) in [(4, 3, "BB"), (3, 2, "AA"), (2, 1, "")] {
+        let row = world.state(&history, 1, s, 1, 0);
+        if row.version != version || row.content.trimmed() != text.as_bytes() {
+            return Ok(false);
+        }
+    }
+    Ok(true)
+}
+
+/// A datafile exists above its creation.
+pub fn a_datafile(alloc: Global) -> Result<bool, Fault> {
+    let world = small(alloc)?;
+    let exists = [world.exists(1, 1, &FILE), world.exists(1, 2, &FILE)];
+    let files = [world.file(1), world.file(0), world.file(2)];
+    Ok(exists == [false, true] && files == [Some(FILE), None, None])
+}

@@ -1,0 +1,117 @@
+//! Logs, pieces and what is in place together.
+use crate::gathering::{
+    catalog, evidence, log, log_bytes, log_entry, no_place, piece_bytes, piece_entry, store,
+};
+use rm_base::{Kind, MemStore, NoMemory, Seq, Status, Store};
+use rm_blocks::DataFile;
+use rm_catalog::{Catalog, Record};
+use rm_evidence::{InPlace, fits_place};
+use rm_objects::has_database;
+use rm_test_harness::{Fault, differs};
+use std::alloc::Global;
+
+// A catalog and its store.
+#[derive(Drop)]
+struct Site {
+    catalog: Catalog,
+    store: MemStore,
+}
+
+// A store that has a log and two pieces, and whose gets of these numbers are to fail.
+fn filled(
+    alloc: Global,
+    gets: &[u64],
+    log: &[u8],
+    full: &[u8],
+    level1: &[u8],
+) -> Result<MemStore, Fault> {
+    let mut store = store(alloc, gets)?;
+    let puts = [
+        store.put("log_1", log),
+        store.put("piece_2", full),
+        store.put("piece_3", level1),
+    ];
+    if puts == [Ok(()), Ok(()), Ok(())] {
+        Ok(store)
+    } else {
+        differs(alloc, "no store of three objects")
+    }
+}
+
+// The records of the log 1, the full piece 2, the level 1 piece 3, the log 6 and the full piece 5.
+fn records(alloc: Global, log: &[u8], full: &[u8], level1: &[u8]) -> Result<Seq<Record>, NoMemory> {
+    let mut records = Seq::new(alloc);
+    records.push(Record::Log(log_entry(1, log, Status::Available)))?;
+    records.push(Record::Log(log_entry(6, log, Status::Available)))?;
+    records.push(Record::Piece(piece_entry(alloc, 2, Kind::Full, 0, full)?))?;
+    records.push(Record::Piece(piece_entry(alloc, 3, Kind::Level1, 1, level1)?))?;
+    records.push(Record::Piece(piece_entry(alloc, 5, Kind::Full, 0, full)?))?;
+    Ok(records)
+}
+
+// A catalog of them, and a store that has the first three.
+fn make_site(alloc: Global, gets: &[u64]) -> Result<Site, Fault> {
+    let log = log_bytes(alloc, 3)?;
+    let full = piece_bytes(alloc, Kind::Full, 0)?;
+    let level1 = piece_bytes(alloc, Kind::Level1, 1)?;
+    let (log, full, level1) = (log.as_slice(), full.as_slice(), level1.as_slice());
+    let records = records(alloc, log, full, level1)?;
+    Ok(Site {
+        catalog: catalog(alloc, records)?,
+        store: filled(alloc, gets, log, full, level1)?,
+    })
+}
+
+// A datafile and a log.
+fn some_place(alloc: Global) -> Result<InPlace, NoMemory> {
+    let mut place = no_place(alloc);
+    place.files.push(DataFile::empty(alloc, 1, 1, 1, 1)?)?;
+    place.logs.push(log(alloc, 5))?;
+    Ok(place)
+}
+
+// Whether the list has these ids.
+fn has_ids<T>(items: &[(u32, T)], ids: &[u32]) -> bool {
+    items.len() == ids.len() && items.iter().zip(ids).all(|(item, id)| item.0 == *id)
+}
+
+/// Each artefact stands among those of its kind.
+pub fn by_kind(alloc: Global) -> Result<bool, Fault> {
+    let Site { catalog, mut store } = make_site(alloc, &[])?;
+    let place = some_place(alloc)?;
+    let Some(found) = evidence(alloc, &catalog, &mut store, &place)? else {
+        return Ok(false);
+    };
+    let bases = found.bases.as_slice();
+    let are_pieces = has_ids(bases, &[0, 2]) && has_ids(found.level1s.as_slice(), &[3]);
+    let is_in_place = bases.first().is_some_and(|base| base.1.kind == Kind::Place);
+    let are_logs = has_ids(found.logs.as_slice(), &[0, 1]);
+    Ok(are_pieces && is_in_place && are_logs && has_ids(found.skipped.as_slice(), &[5, 6]))
+}
+
+/// What does not fit is told: a log of sequence 0.
+pub fn unfit(alloc: Global) -> Result<bool, Fault> {
+    let Site { catalog, .. } = make_site(alloc, &[])?;
+    let mut place = some_place(alloc)?;
+    if !has_database(&catalog) || !fits_place(alloc, &catalog, &place)? {
+        return Ok(false);
+    }
+    place.logs.push(log(alloc, 0))?;
+    Ok(!fits_place(alloc, &catalog, &place)?)
+}
+
+// Whether the store fails where its get of this number is to fail.
+fn fails_at(alloc: Global, get: u64) -> Result<bool, Fault> {
+    let Site { catalog, mut store } = make_site(alloc, &[get])?;
+    Ok(evidence(alloc, &catalog, &mut store, &no_place(alloc))?.is_none())
+}
+
+/// A fault of each of five gets is told, and there is no sixth.
+pub fn each_get(alloc: Global) -> Result<bool, Fault> {
+    for get in 1..6u64 {
+        if !fails_at(alloc, get)? {
+            return Ok(false);
+        }
+    }
+    Ok(!fails_at(alloc, 6)?)
+}

@@ -1,0 +1,238 @@
+//! A row, read line by line.
+use crate::calls::{Calls, call_of};
+use crate::digits::{bytes_in, record_of};
+use crate::trial::{ROOM, Trial, object};
+use rm_base::{MemStore, Store, Text};
+use rm_catalog::{Edit, Keeper, Key, MemKeeper};
+use rm_test_harness::{Fault, differs};
+use std::alloc::Global;
+use std::sync::Wait;
+use std::thread::Threads;
+
+/// What the lines of a row have said so far.
+#[derive(Drop)]
+pub struct Row {
+    alloc: Global,
+    script: String,
+    written: String,
+    words: Vec<Text>,
+    clock: Vec<u64>,
+    failing: Calls,
+    room: usize,
+    site: Option<(MemStore, MemKeeper)>,
+    goes_on: bool,
+}
+
+impl Row {
+    /// Nothing was said yet.
+    pub fn new(alloc: Global) -> Result<Row, Fault> {
+        let mut row = Row {
+            alloc,
+            script: String::new(alloc),
+            written: String::new(alloc),
+            words: Vec::new(alloc),
+            clock: Vec::new(alloc),
+            failing: Calls::new(alloc),
+            room: ROOM,
+            site: None,
+            goes_on: false,
+        };
+        row.add_words(&["--store", "DIR", "--catalog", "FILE"])?;
+        Ok(row)
+    }
+
+    /// The next line of the file. A run that it asks for is made.
+    pub fn read<R: Threads + Wait + Sync>(&mut self, rt: &R, line: &str) -> Result<(), Fault> {
+        if let Some(text) = line.strip_prefix("> ") {
+            writeln!(self.script, "{text}")?;
+        } else if let Some(words) = line.strip_prefix("-- ") {
+            let words: Vec<&str> = words.split(' ').collect(self.alloc)?;
+            return self.obey(rt, &words);
+        } else if !line.is_empty() && !line.starts_with("#") {
+            writeln!(self.written, "{line}")?;
+        }
+        Ok(())
+    }
+
+    // A line with `--`.
+    fn obey<R: Threads + Wait + Sync>(&mut self, rt: &R, words: &[&str]) -> Result<(), Fault> {
+        match words {
+            ["status", status] => {
+                let len = self.written.len();
+                self.run(rt, status, len)
+            }
+            ["status", status, "lines", count] => {
+                let len = self.len_of_lines(count)?;
+                self.run(rt, status, len)
+            }
+            ["status", status, "bytes", count] => {
+                let len = self.size(count)?;
+                self.run(rt, status, len)
+            }
+            ["object", name, len, head] => {
+                let len = self.size(len)?;
+                self.look(name, len, head)
+            }
+            ["fail", name, numbers @ ..] => self.fail(name, numbers),
+            ["room", room] => self.set_room(room),
+            ["clock", answers @ ..] => self.set_clock(answers),
+            ["words", words @ ..] => {
+                self.words.clear();
+                self.add_words(words)
+            }
+            ["channels", count] => self.add_words(&["--channels", count]),
+            ["record", kind, id, fields @ ..] => self.put_record(kind, id, fields),
+            ["drop", kind, id] => {
+                let key = self.key(kind, id)?;
+                self.apply(Edit::Drop(key))
+            }
+            ["put", name, digits @ ..] => self.put_object(name, digits),
+            ["session"] => {
+                self.script.clear();
+                self.written.clear();
+                self.goes_on = true;
+                Ok(())
+            }
+            _ => differs(self.alloc, "not a line of a row"),
+        }
+    }
+
+    fn number(&self, text: &str) -> Result<u64, Fault> {
+        match text.parse::<u64>() {
+            Ok(number) => Ok(number),
+            Err(_) => differs(self.alloc, "not a number"),
+        }
+    }
+
+    fn size(&self, text: &str) -> Result<usize, Fault> {
+        Ok(self.number(text)? as usize)
+    }
+
+    fn add_words(&mut self, words: &[&str]) -> Result<(), Fault> {
+        for word in words {
+            let word = String::from_str(self.alloc, word)?;
+            self.words.push(Text::from_string(word))?;
+        }
+        Ok(())
+    }
+
+    fn fail(&mut self, name: &str, numbers: &[&str]) -> Result<(), Fault> {
+        let Some(call) = call_of(name) else {
+            return differs(self.alloc, "not a call");
+        };
+        for number in numbers {
+            let number = self.number(number)?;
+            self.failing.add(call, number)?;
+        }
+        Ok(())
+    }
+
+    fn set_room(&mut self, room: &str) -> Result<(), Fault> {
+        self.room = self.size(room)?;
+        Ok(())
+    }
+
+    fn set_clock(&mut self, answers: &[&str]) -> Result<(), Fault> {
+        self.clock.clear();
+        for answer in answers {
+            let answer = self.number(answer)?;
+            self.clock.push(answer)?;
+        }
+        Ok(())
+    }
+
+    // The bytes of the first so many lines of what is written.
+    fn len_of_lines(&self, count: &str) -> Result<usize, Fault> {
+        let mut len = 0usize;
+        for line in self.written.as_str().lines().take(self.size(count)?) {
+            len = len.saturating_add(line.len()).saturating_add(1);
+        }
+        Ok(len)
+    }
+
+    // A run gives this status and writes the first `len` bytes of what is written.
+    fn run<R: Threads + Wait + Sync>(
+        &mut self,
+        rt: &R,
+        status: &str,
+        len: usize,
+    ) -> Result<(), Fault> {
+        let status = self.number(status)?;
+        let (mut store, mut keeper) = match self.site.take() {
+            Some(site) if self.goes_on => site,
+            _ => self.failing.site()?,
+        };
+        let trial = Trial {
+            alloc: self.alloc,
+            words: &self.words,
+            script: self.script.as_bytes(),
+            clock: &self.clock,
+            failing: &self.failing,
+            room: self.room,
+        };
+        trial.gives(
+            rt,
+            &mut store,
+            &mut keeper,
+            status,
+            self.written.as_str(),
+            len,
+        )?;
+        self.site = Some((store, keeper));
+        self.failing = Calls::new(self.alloc);
+        self.room = ROOM;
+        Ok(())
+    }
+
+    // The last run left an object of this name of `len` bytes, which begin so.
+    fn look(&mut self, name: &str, len: usize, head: &str) -> Result<(), Fault> {
+        match &mut self.site {
+            Some((store, _)) => object(self.alloc, store, name, len, head),
+            None => differs(self.alloc, "no run before"),
+        }
+    }
+
+    // The key of a record.
+    fn key(&self, kind: &str, id: &str) -> Result<Key, Fault> {
+        let kind = u8::try_from(self.number(kind)?);
+        let id = u32::try_from(self.number(id)?);
+        match (kind, id) {
+            (Ok(kind), Ok(id)) => Ok(Key { kind, id }),
+            _ => differs(self.alloc, "not a key"),
+        }
+    }
+
+    // The keeper has this record.
+    fn put_record(&mut self, kind: &str, id: &str, fields: &[&str]) -> Result<(), Fault> {
+        let key = self.key(kind, id)?;
+        match record_of(self.alloc, key, fields)? {
+            Some(record) => self.apply(Edit::Put(record)),
+            None => differs(self.alloc, "not a record"),
+        }
+    }
+
+    // The store that the last run left has this object.
+    fn put_object(&mut self, name: &str, digits: &[&str]) -> Result<(), Fault> {
+        let Some(bytes) = bytes_in(self.alloc, digits)? else {
+            return differs(self.alloc, "not digits");
+        };
+        let Some((store, _)) = &mut self.site else {
+            return differs(self.alloc, "no run before");
+        };
+        match store.put(name, &bytes) {
+            Ok(()) => Ok(()),
+            Err(_) => differs(self.alloc, "the store failed"),
+        }
+    }
+
+    // The keeper that the last run left has one edit more.
+    fn apply(&mut self, edit: Edit) -> Result<(), Fault> {
+        let Some((_, keeper)) = &mut self.site else {
+            return differs(self.alloc, "no run before");
+        };
+        match keeper.apply(&[edit]) {
+            Ok(()) => Ok(()),
+            Err(_) => differs(self.alloc, "the keeper failed"),
+        }
+    }
+}

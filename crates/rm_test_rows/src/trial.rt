@@ -1,0 +1,111 @@
+//! One run of the program, and whether it gives what a row says.
+use crate::calls::{Call, Calls};
+use rm_base::{MemClock, MemSink, MemSource, MemStore, Store, Text};
+use rm_catalog::MemKeeper;
+use rm_test_harness::Fault;
+use rm_tool::OpenGate;
+use rm_tool::run::run;
+use std::alloc::Global;
+use std::sync::Wait;
+use std::thread::Threads;
+
+/// The room of a sink, where a row names no other.
+pub const ROOM: usize = 65_536;
+
+/// What a run is given, beside its store and its keeper.
+#[derive(Drop)]
+pub struct Trial<'a> {
+    pub alloc: Global,
+    pub words: &'a [Text],
+    pub script: &'a [u8],
+    pub clock: &'a [u64],
+    pub failing: &'a Calls,
+    pub room: usize,
+}
+
+impl Trial<'_> {
+    /// The run gives this status and writes the first `len` bytes of the text.
+    pub fn gives<R: Threads + Wait + Sync>(
+        &self,
+        rt: &R,
+        store: &mut MemStore,
+        keeper: &mut MemKeeper,
+        status: u64,
+        text: &str,
+        len: usize,
+    ) -> Result<(), Fault> {
+        let alloc = self.alloc;
+        let script = Vec::from_slice(alloc, self.script)?;
+        let mut source = MemSource::new(script, 64, self.failing.of(Call::Read)?);
+        let mut sink = MemSink::new(alloc, self.room, 16, self.failing.of(Call::Write)?)?;
+        let mut clock = MemClock::new(Vec::from_slice(alloc, self.clock)?);
+        let answer = run(
+            rt,
+            alloc,
+            &OpenGate,
+            self.words,
+            &mut source,
+            &mut sink,
+            store,
+            keeper,
+            &mut clock,
+        );
+        if u64::from(answer) != status {
+            return Err(Fault::Differs(format!(in alloc; "status {answer}")?));
+        }
+        compare(alloc, sink.bytes(), text, len)
+    }
+}
+
+// Whether the byte is the one that is wanted. A `?` wants any digit.
+fn is_wanted(byte: u8, wanted: u8) -> bool {
+    byte == wanted || (wanted == b'?' && byte.is_ascii_digit())
+}
+
+// Whether the bytes are these.
+fn are_wanted(bytes: &[u8], wanted: &[u8]) -> bool {
+    let mut pairs = bytes.iter().zip(wanted);
+    bytes.len() == wanted.len() && pairs.all(|(byte, wanted)| is_wanted(*byte, *wanted))
+}
+
+// The bytes are the first `len` of the text. Else they are told, from the first line that differs.
+fn compare(alloc: Global, bytes: &[u8], text: &str, len: usize) -> Result<(), Fault> {
+    let text = text.as_bytes();
+    if are_wanted(bytes, text.get(..len).unwrap_or(text)) {
+        return Ok(());
+    }
+    let mut start = 0usize;
+    for (at, (byte, wanted)) in bytes.iter().zip(text).enumerate() {
+        if !is_wanted(*byte, *wanted) {
+            break;
+        }
+        if *byte == b'\n' {
+            start = at.saturating_add(1);
+        }
+    }
+    let other = String::from_utf8_lossy(alloc, bytes.get(start..).unwrap_or(&[]))?;
+    let written = bytes.len();
+    Err(Fault::Differs(format!(in alloc; "wrote {written} bytes, and here {other}")?))
+}
+
+/// The store has an object of this name of `len` bytes, which begin with these digits.
+pub fn object(
+    alloc: Global,
+    store: &mut MemStore,
+    name: &str,
+    len: usize,
+    head: &str,
+) -> Result<(), Fault> {
+    let mut digits = String::new(alloc);
+    let mut bytes_there = 0;
+    if let Ok(Some(bytes)) = store.get(name) {
+        bytes_there = bytes.len();
+        for byte in bytes.as_slice() {
+            write!(digits, "{byte:02x}")?;
+        }
+    }
+    if bytes_there == len && digits.as_str().starts_with(head) {
+        return Ok(());
+    }
+    Err(Fault::Differs(format!(in alloc; "{bytes_there} bytes {digits}")?))
+}
