@@ -1,5 +1,5 @@
 -- Bytes that are taken or written after others, and counts that rise.
-use Rattle.std.proofs.Common.{◌≡◌, ◌≤◌, ◌+◌, ◌-◌, ◌^◌, ◌∙◌, ◌++◌, ℕ, List, [], ◌∷◌, Option, Some, None, refl, ap, sym, append_assoc, arith, min, length, take, drop, length-drop}
+use Rattle.std.proofs.Common.{◌≡◌, ◌≤◌, ◌+◌, ◌-◌, ◌^◌, ◌∙◌, ◌++◌, ℕ, List, [], ◌∷◌, Option, Some, None, refl, ap, sym, append_assoc, arith, min, IfSome, length, take, drop, length-drop}
 use Rattle.std.proofs.lemmas.List.{take-append-drop, drop-drop, take_at, length-take-le}
 use Rattle.std.specs.Option.{option_map}
 use Rattle.std.proofs.Math.Nat.{min-le_left, min-le_right, le-min}
@@ -17,9 +17,18 @@ pub appends-then : (a b c : Option (List ℕ)) (xs ys : List ℕ) → Appends a 
 appends-then None b c xs ys h k = k ∙ ap (option_map (λ held. held ++ ys)) h
 appends-then (Some held) b c xs ys h k = k ∙ ap (option_map (λ zs. zs ++ ys)) h ∙ ap Some (append_assoc held xs ys)
 
+pub taken-nothing : (o : Option (List ℕ)) → HasTaken o o []
+taken-nothing None = refl
+taken-nothing (Some left) = refl
+
 pub taken-then : (a b c : Option (List ℕ)) (xs ys : List ℕ) → HasTaken a b xs → HasTaken b c ys → HasTaken a c (xs ++ ys)
 taken-then a b None xs ys h k = h ∙ ap (option_map (λ left. xs ++ left)) k
 taken-then a b (Some left) xs ys h k = h ∙ ap (option_map (λ zs. xs ++ zs)) k ∙ ap Some (sym (append_assoc xs ys left))
+
+-- where nothing is left, the bytes that were taken were all
+pub taken-all : (a b : Option (List ℕ)) (xs : List ℕ) → HasTaken a b xs → IfSome b (λ left. left ≡ []) → a ≡ option_map (λ left. xs) b
+taken-all a None xs h e = h
+taken-all a (Some left) xs h e = h ∙ ap (λ zs. Some (xs ++ zs)) e ∙ ap Some (append-none xs)
 
 -- a count that rose in between rose
 pub rose-within : (a b c d : ℕ) → a ≤ b → Rose b c → c ≤ d → Rose a d

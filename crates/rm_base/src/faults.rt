@@ -8,7 +8,7 @@ use std::alloc::{AllocError, AllocFailed};
 pub struct Failed;
 
 /// There was no memory.
-#[derive(Clone, Copy, PartialEq, Eq)]
+#[derive(Clone, Copy, Debug, PartialEq, Eq)]
 pub struct NoMemory;
 
 impl From<AllocError> for NoMemory {

@@ -5,7 +5,7 @@ use crate::memory::Failing;
 use crate::seq::Seq;
 use crate::store::{Clock, Store, StoreFail};
 use crate::text::Text;
-use std::alloc::Global;
+use std::alloc::{AllocError, Global};
 use std::collections::BTreeMap;
 
 /// The calls that are to fail, of each function of a store.

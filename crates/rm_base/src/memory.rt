@@ -87,7 +87,7 @@ impl MemSource {
 }
 
 impl Source for MemSource {
-    ghost use Rattle.std.specs.Prelude.{Some, IfOk, OnErr, IsErr, is_err, take};
+    ghost use Rattle.std.specs.Prelude.{Some, IfOk, OnOk, OnErr, IsErr, is_err, take, true, false};
     ghost use Rattle.rm_base.specs.Outside.{HasTaken, Counts, EndsAt, Rose};
     ghost use Rattle.rm_base.specs.MemSource.{left_of, most_of, failing_of, takes};
     ghost use Rattle.rm_base.specs.Failing.{faults_of, FailsNext, after_call};

@@ -103,6 +103,9 @@ one_is (r ∷ rs) q x y a b e f few = elim (head_or_tail r rs x a) [
     less (inl here) = let one = alike_here r rs q here in omega arith
     less (inr n) = let one = alike_past r rs q n in omega arith
 
+alike_moves : (s t : List Record) (q : ℕ) → IsPermutation s t → alike q t ≡ alike q s
+alike_moves s t q there = alike_count q t ∙ sum_by-IsPermutation (λ (r : Record). cond (eqb (place_of r) q) 1 0) s t there ∙ sym (alike_count q s)
+
 -- where one record at most stands at a place, each order has the same there
 same_at : (s t : List Record) (q : ℕ) → IsPermutation s t → alike q t ≤ 1 → at q s ≡ at q t
 same_at s t q there few = decide (at q s) (at q t) refl refl

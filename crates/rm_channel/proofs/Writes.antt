@@ -12,6 +12,10 @@ use Rattle.rm_channel.specs.Made.{call, is_by}
 abbrev Answers : Type 0
 Answers = List (Result ℕ LiveFault)
 
+pub writes-append : (t : ℕ) (xs ys : List WriteJob) → writes t (xs ++ ys) ≡ writes t xs ++ writes t ys
+writes-append t [] ys = refl
+writes-append t (x ∷ xs) ys = ap (λ (l : List Call). Write t x.file x.block x.content ∷ l) (writes-append t xs ys)
+
 pub wrote-append : (t : ℕ) (xs ys : List WriteJob) (rs bs : Answers) → length xs ≡ length rs → wrote t (xs ++ ys) (rs ++ bs) ≡ wrote t xs rs ++ wrote t ys bs
 wrote-append t [] ys [] bs e = refl
 wrote-append t [] ys (a ∷ rs) bs e = absurd (omega arith)

@@ -1,5 +1,5 @@
 //! Copies of datafiles by several threads, beside writes by others.
-ghost use Rattle.std.specs.Prelude.{◌≡◌, ◌+◌, ◌-◌, ◌≤◌, Ok, [], ◌∷◌, length, map, All, IfOk};
+ghost use Rattle.std.specs.Prelude.{◌≡◌, ◌+◌, ◌-◌, ◌<◌, ◌≤◌, Ok, [], ◌∷◌, length, map, All, IfOk};
 ghost use Rattle.rm_live.specs.History.{fold_of};
 ghost use Rattle.rm_live.specs.Passes.{IsLater, IsOnly};
 ghost use Rattle.rm_channel.specs.Jobs.{blocks_in, lists};

@@ -114,6 +114,10 @@ recorded-placed rs place = no-id (map (placed_piece (dbid_in rs)) place.files)
     no-id [] = λ k d inside. absurd (omega arith)
     no-id (a ∷ rest) = All-cons (λ (x : ℕ × Piece). 0 < x.0 → IsRecorded rs x) (0, a) (placed rest) (λ above. absurd (omega (arith, above))) (no-id rest)
 
+-- each of them is valid
+pub valid-placed : (rs : List Record) (place : InPlace) → FitsPlace rs place → All (λ x. IsPiece (placed_piece (dbid_in rs) x)) place.files
+valid-placed rs place fits = λ k d inside. (fits.files k d inside).valid
+
 -- each item of the list of records is one of them
 pub item-in : (xs rs : List Record) (i : ℕ) (r : Record) → xs ≡ rs → i < length xs → r ≡ get_or xs i r → Contains rs r
 item-in xs rs i r same inside is = subst (λ (ys : List Record). Contains ys r) same (i, inside, sym is)

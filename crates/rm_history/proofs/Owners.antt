@@ -5,7 +5,7 @@ use Rattle.std.proofs.lemmas.Bool.{ne_eqb, cases_lt}
 use Rattle.std.proofs.lemmas.Bool.Decides.{nat_tests}
 use Rattle.std.proofs.lemmas.Option.{slice_get-get_or, slice_get_past}
 use Rattle.rm_history.specs.declared.tree.Incarnation.{Incarnation}
-use Rattle.rm_history.specs.Tree.{HasParentsBelow, IsThere, owner, ancestors, parent_of, reset_of, path, incarnation}
+use Rattle.rm_history.specs.Tree.{HasParentsBelow, IsThere, owner, ancestors, parent_of, reset_of, end_of, path, incarnation}
 
 -- steps beyond the number of i change nothing
 pub ancestors_enough : (tree : List Incarnation) → HasParentsBelow tree → (m n i : ℕ) → i ≤ m → i ≤ n → ancestors m tree i ≡ ancestors n tree i
@@ -78,6 +78,9 @@ parent-there tree i d there = ap (λ o. option_map_or (λ n. n.parent) o 0) (inc
 
 pub reset-there : (tree : List Incarnation) (i : ℕ) (d : Incarnation) → IsThere tree i → reset_of tree i ≡ (slice_index_or tree (i - 1) d).reset
 reset-there tree i d there = ap (λ o. option_map_or (λ n. n.reset) o 0) (incarnation-there tree i d there)
+
+pub end-there : (tree : List Incarnation) (i : ℕ) (d : Incarnation) → IsThere tree i → end_of tree i ≡ (slice_index_or tree (i - 1) d).end
+end-there tree i d there = ap (λ o. option_map_or (λ n. n.end) o 0) (incarnation-there tree i d there)
 
 le_true : (a b : ℕ) → a ≤ b → nat_le a b ≡ true
 le_true a b h = grind (arith, nat_tests)

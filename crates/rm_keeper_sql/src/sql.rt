@@ -1,5 +1,5 @@
 //! The four texts, and what is asked of a connection.
-ghost use Rattle.std.specs.Prelude.{◌≡◌, [], ◌∷◌, pos, IsTrue, IfOk, OnOk, OnErr};
+ghost use Rattle.std.specs.Prelude.{◌≡◌, [], ◌∷◌, pos, map, All, IsTrue, IfOk, OnOk, OnErr};
 ghost use Rattle.sqlite_value.specs.declared.value.Value.TheVariants.{Int, Blob};
 ghost use Rattle.sqlite.specs.State.{HasCleanDisk, Shown};
 ghost use Rattle.sqlite.specs.Held.{state};
@@ -7,7 +7,7 @@ ghost use Rattle.rm_catalog.specs.Keys.{key_of};
 ghost use Rattle.rm_record_bytes.specs.Spelling.{body_of};
 ghost use Rattle.rm_record_bytes.specs.Fits.{Fits};
 ghost use Rattle.rm_keeper_sql.specs.Texts.{create_text, select_text, upsert_text, delete_text, text_of, params_of};
-ghost use Rattle.rm_keeper_sql.specs.Applies.{Ran, MakesAll, Applies, Keeps, Goes};
+ghost use Rattle.rm_keeper_sql.specs.Applies.{Ran, MakesAll, Begins, Applies, Keeps, Goes};
 ghost use Rattle.rm_keeper_sql.specs.Loads.{columns, row_of, AreRows, Selects, Loads};
 
 use rm_base::{FormatFault, Seq};

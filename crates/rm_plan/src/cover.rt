@@ -1,6 +1,6 @@
 //! Where the blocks of a datafile were quiet, whatever their rows: in logs of all threads, and where a
 //! level 1 does not list them.
-ghost use Rattle.std.specs.Prelude.{ℕ, ◌≡◌, ◌||◌, AllPairs, IfOk, None};
+ghost use Rattle.std.specs.Prelude.{ℕ, ◌≡◌, ◌||◌, All, AllPairs, IfOk, None, Some};
 ghost use Rattle.std.specs.List.{list_any};
 ghost use Rattle.rm_history.specs.Agrees.{lists};
 ghost use Rattle.rm_piece.specs.Valid.{IsBefore};

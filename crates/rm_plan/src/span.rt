@@ -1,5 +1,5 @@
 //! Sets of SCNs, as lists of spans.
-ghost use Rattle.std.specs.Prelude.{ℕ, ◌≡◌, ◌≤◌, ◌&&◌, ◌||◌, ◌++◌, ◌∷◌, [], IfOk};
+ghost use Rattle.std.specs.Prelude.{ℕ, ◌≡◌, ◌≤◌, ◌&&◌, ◌||◌, ◌++◌, ◌∷◌, [], IfOk, OnOk};
 ghost use Rattle.rm_plan.specs.Spans.{covers, lies_in, AreApart, IsAscending, IsFirstOutside};
 
 use rm_base::{NoMemory, Scn};

@@ -1,5 +1,5 @@
 //! What the evidence tells of a datafile until a target, and of each of its blocks.
-ghost use Rattle.std.specs.Prelude.{◌≡◌, ◌<◌, IfOk, IfErr, Some};
+ghost use Rattle.std.specs.Prelude.{ℕ, ◌≡◌, ◌<◌, IfOk, IfErr, Some};
 ghost use Rattle.rm_catalog.specs.Rules.{HasDatabase};
 ghost use Rattle.rm_catalog.specs.Trees.{nodes};
 ghost use Rattle.rm_evidence.specs.Known.{FitsTree, known_of};

@@ -38,6 +38,11 @@ piece_is : (r : PieceEntry) → piece_of r.id r.copy r.kind r.inc r.file r.from 
 unfolding piece_of
 piece_is r = refl
 
+-- the same head, whatever the tag and the moment
+pub head_moved : (r s : PieceEntry) (n : ℕ) → s ≡ record r { tag = s.tag; moment = s.moment } → piece_head s n ≡ piece_head r n
+unfolding piece_head
+head_moved r s n e = rw e refl
+
 pub piece_same : (r s : PieceEntry) → PieceFits r → PieceFits s → r.id ≡ s.id → piece_bytes r ≡ piece_bytes s → r ≡ s
 piece_same r s fr fs same_id e =
     let told = head_told r s (length r.tag) (length s.tag) (r.tag ++ eight r.moment) (s.tag ++ eight s.moment) fr.head fs.head fr.tag fs.tag (sym (apart r) ∙ e ∙ apart s) in

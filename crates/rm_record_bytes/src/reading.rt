@@ -1,5 +1,5 @@
 //! A record from its key and its bytes.
-ghost use Rattle.std.specs.Prelude.{◌≡◌, ◌≢◌, ◌+◌, ◌≤◌, ◌<◌, ◌^◌, ◌++◌, ℕ, Bool, List, length, IfOk, ◌↔◌, IsTrue, All, IfSome, IfNone};
+ghost use Rattle.std.specs.Prelude.{◌≡◌, ◌≢◌, ◌+◌, ◌≤◌, ◌<◌, ◌^◌, ◌++◌, ℕ, Bool, List, length, IfOk, IfErr, ◌↔◌, IsTrue, All, IfSome, IfNone};
 ghost use Rattle.rm_base.specs.Formats.{Reads};
 ghost use Rattle.rm_base.specs.declared.kinds.Kind.{Kind};
 ghost use Rattle.rm_base.specs.declared.kinds.Status.{Status};

@@ -1,5 +1,5 @@
 //! What the definitions of a log as bytes mean.
-ghost use Rattle.std.specs.Prelude.{◌≡◌, ◌+◌, ◌*◌, length};
+ghost use Rattle.std.specs.Prelude.{ℕ, ◌≡◌, ◌+◌, ◌*◌, length};
 ghost use Rattle.rm_redo.specs.declared.log_file.LogFile.{LogFile};
 ghost use Rattle.rm_redo.specs.LogFormat.{spelling, IsLogFile};
 

@@ -1,5 +1,5 @@
 //! The statements of a script.
-ghost use Rattle.std.specs.Prelude.{◌≡◌, ◌<◌, ◌+◌, ◌^◌, ◌++◌, ◌∷◌, [], List, ℕ, IfOk, OnOk};
+ghost use Rattle.std.specs.Prelude.{◌≡◌, ◌≤◌, ◌<◌, ◌+◌, ◌^◌, ◌++◌, ◌∷◌, [], List, ℕ, IfOk, OnOk};
 ghost use Rattle.rm_token.specs.declared.token.Token.{Token as TokenOf};
 ghost use Rattle.rm_token.specs.Tokens.{feeds, line_after, piece, placed, tokens_from};
 ghost use Rattle.rm_token.specs.Statements.{begins_run, ends_at, depth_after, line_of, cut, left_over, statements};
