@@ -54,6 +54,22 @@ row-below (Some x ∷ place) n f b scn content are low =
     ap (λ t. cond t (written x b scn content ∷ present place) (x ∷ with_row (present place) f b scn content)) (ne_eqb x.file f (λ e. omega (arith, e, number, low)))
     ∙ ap (λ xs. x ∷ xs) (row-below place (n + 1) f b scn content (from-next n (Some x) place are) (omega (arith, low)))
 
+-- The number of the m-th place after it
+
+find-at : (place : List (Option File)) (n m : ℕ) → AreFrom n place → find (λ (x : File). x.file == n + m + 1) (present place) ≡ slice_index_or place m None
+find-at [] n m are = refl
+find-at (None ∷ place) n zero are = find-below place (n + 1) (n + 0 + 1) (from-next n None place are) (omega arith)
+find-at (None ∷ place) n (suc m) are =
+    let same : n + suc m + 1 ≡ n + 1 + m + 1 = omega arith in
+    ap (λ f. find (λ (y : File). y.file == f) (present place)) same ∙ find-at place (n + 1) m (from-next n None place are)
+find-at (Some x ∷ place) n zero are =
+    ap (λ b. cond b (Some x) (find (λ (y : File). y.file == n + 0 + 1) (present place))) (eq-eqb x.file (n + 0 + 1) (are 0 x refl))
+find-at (Some x ∷ place) n (suc m) are =
+    let number = are 0 x refl in
+    let same : n + suc m + 1 ≡ n + 1 + m + 1 = omega arith in
+    ap (λ b. cond b (Some x) (find (λ (y : File). y.file == n + suc m + 1) (present place))) (ne_eqb x.file (n + suc m + 1) (λ e. omega (arith, e, number)))
+    ∙ ap (λ f. find (λ (y : File). y.file == f) (present place)) same ∙ find-at place (n + 1) m (from-next n (Some x) place are)
+
 -- the write of a row of what stands in place is the write in its place
 abbrev set_at : List (Option File) → ℕ → ℕ → ℕ → Block → List (Option File)
 set_at place m b scn content = slice_set place m (option_map (λ x. written x b scn content) (slice_index_or place m None))

@@ -1,5 +1,5 @@
 -- What stands in a list, and at which place.
-use Rattle.std.proofs.Common.{◌≡◌, ◌∙◌, inl, inr, ℕ, suc, List, [], ◌∷◌, Option, Some, None, refl, ap, All, Contains, get_or, slice_get}
+use Rattle.std.proofs.Common.{◌≡◌, ◌≤◌, ◌∙◌, inl, inr, ℕ, zero, suc, List, [], ◌∷◌, Option, Some, None, refl, ap, arith, All, Contains, get_or, length, slice_get}
 use Rattle.std.specs.List.{filter_map}
 use Rattle.std.proofs.lemmas.List.Elements.{All-cons, All-nil, Contains-get_or}
 use Rattle.std.proofs.lemmas.Option.{slice_get-get_or}
@@ -26,3 +26,19 @@ present-in (Some y ∷ os) x has = elim (first-or-rest y (filter_map (λ o. o) o
   | inl same ↦ (0, ap (λ z. Some (Some z)) same)
   | inr rest ↦ let later = present-in os x rest in (suc later.0, later.1)
 ]
+
+-- where nothing stands the list ends
+pub past-end : {X : Type 0} (xs : List X) (k : ℕ) → slice_get xs k ≡ None → length xs ≤ k
+past-end [] k none = omega arith
+past-end (x ∷ xs) zero none = absurd (cc)
+past-end (x ∷ xs) (suc k) none = let rest = past-end xs k none in omega (arith, rest)
+
+-- lists of which the same stands at each place are the same
+pub same-places : {X : Type 0} (xs ys : List X) → ((k : ℕ) → slice_get xs k ≡ slice_get ys k) → xs ≡ ys
+same-places [] [] each = refl
+same-places [] (y ∷ ys) each = absurd (let clash : None ≡ Some y = each 0 in cc)
+same-places (x ∷ xs) [] each = absurd (let clash : Some x ≡ None = each 0 in cc)
+same-places (x ∷ xs) (y ∷ ys) each =
+    let first : Some x ≡ Some y = each 0 in
+    let same : x ≡ y = cc in
+    ap (λ z. z ∷ xs) same ∙ ap (λ zs. y ∷ zs) (same-places xs ys (λ k. each (suc k)))

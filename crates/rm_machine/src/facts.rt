@@ -1,12 +1,13 @@
 //! What a state shows.
 ghost use Rattle.std.specs.Prelude.{◌≡◌, ◌<◌, ◌≤◌, ◌↔◌, ◌==◌, ◌||◌, IfSome, IsTrue, nat_lt, not};
 ghost use Rattle.std.specs.Option.{option_copied};
+ghost use Rattle.rm_base.specs.Numbers.{last_scn};
 ghost use Rattle.rm_history.specs.Tree.{IsThere, end_of};
 ghost use Rattle.rm_history.specs.World.{exists, file_of};
 ghost use Rattle.rm_machine.specs.Loading.{has_lost};
 ghost use Rattle.rm_machine.specs.Mount.{first_lost};
 ghost use Rattle.rm_machine.specs.Sound.{IsSound};
-ghost use Rattle.rm_machine.specs.State.{datafile_at, ledger, now_of, on_path, placed, redo_end, tree, world};
+ghost use Rattle.rm_machine.specs.State.{current_of, datafile_at, ledger, now_of, on_path, placed, redo_end, tree, world};
 
 use crate::state::State;
 use rm_base::{FileNo, IncNo, Scn, ThreadNo};
