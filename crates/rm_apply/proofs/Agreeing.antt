@@ -12,7 +12,7 @@ use Rattle.rm_history.specs.declared.world.World.{World}
 use Rattle.rm_history.specs.Agrees.{BaseAgrees}
 use Rattle.rm_history.specs.History.{IsHistory}
 use Rattle.rm_history.specs.World.{file_of}
-use Rattle.rm_known.specs.Evidence.{Agrees}
+use Rattle.rm_history.specs.Evidence.{Agrees}
 use Rattle.rm_piece.specs.Artefacts.{base_of as copy_of}
 use Rattle.rm_piece.specs.declared.piece.Piece.{Piece}
 use Rattle.rm_apply.specs.declared.origin.Origin.{Origin}

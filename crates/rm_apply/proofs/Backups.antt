@@ -10,7 +10,7 @@ use Rattle.rm_evidence.specs.declared.evidence.Evidence.{Evidence}
 use Rattle.rm_evidence.specs.declared.evidence.InPlace.{InPlace}
 use Rattle.rm_evidence.specs.Gathered.{IsBaseOf, IsGathered, dbid_in, placed, placed_piece}
 use Rattle.rm_base.proofs.Members.{first-or-rest, none-in}
-use Rattle.rm_objects.proofs.Found.{obeys}
+use Rattle.rm_evidence.proofs.Found.{obeys}
 use Rattle.rm_piece.specs.declared.piece.Piece.{Piece}
 
 placed-zero : (xs : List Piece) (y : ℕ × Piece) → Contains (placed xs) y → y.0 ≡ 0

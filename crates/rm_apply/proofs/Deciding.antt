@@ -5,9 +5,9 @@ use Rattle.rm_catalog.specs.declared.record.Record.{Record}
 use Rattle.rm_evidence.specs.declared.evidence.Evidence.{Evidence}
 use Rattle.rm_evidence.specs.declared.evidence.InPlace.{InPlace}
 use Rattle.rm_evidence.specs.Known.{known_of}
-use Rattle.rm_known.specs.FirstGap.{IsFirstGap}
-use Rattle.rm_known.proofs.Facts.{first-gap-open}
-use Rattle.rm_objects.specs.Database.{world_of}
+use Rattle.rm_history.specs.FirstGap.{IsFirstGap}
+use Rattle.rm_history.proofs.Facts.{first-gap-open}
+use Rattle.rm_evidence.specs.Database.{world_of}
 use Rattle.rm_plan.specs.declared.plan.Gap.{Gap}
 use Rattle.rm_apply.specs.declared.recovering.Recovered.{Recovered}
 use Rattle.rm_apply.specs.Recover.{FindsGap, TellsAll}

@@ -4,9 +4,9 @@ use Rattle.std.proofs.lemmas.Bool.{cases_lt}
 use Rattle.std.proofs.lemmas.List.{get_or-take, length-take-le}
 use Rattle.std.proofs.lemmas.Option.{get_or_from_slice_get, slice_get_within}
 use Rattle.rm_history.specs.declared.world.World.{World}
-use Rattle.rm_known.specs.Evidence.{Evidence}
-use Rattle.rm_known.specs.FirstGap.{IsFirstGap, IsRecoverable}
-use Rattle.rm_known.specs.Unknown.{IsUnknown}
+use Rattle.rm_history.specs.Evidence.{Evidence}
+use Rattle.rm_history.specs.FirstGap.{IsFirstGap, IsRecoverable}
+use Rattle.rm_history.specs.Unknown.{IsUnknown}
 use Rattle.rm_plan.specs.declared.plan.Gap.{Gap}
 use Rattle.rm_plan.specs.declared.plan.PlanFault.{PlanFault}
 use Rattle.rm_plan.specs.declared.plan.PlanFault.TheVariants as planned

@@ -10,8 +10,8 @@ use Rattle.rm_catalog.specs.declared.record.Record.{Record}
 use Rattle.rm_catalog.specs.Rules.{IsCatalog}
 use Rattle.rm_evidence.proofs.Extending.{pairs-head, pairs-tail}
 use Rattle.rm_history.specs.declared.world.World.{World}
-use Rattle.rm_objects.specs.Database.{world_of}
-use Rattle.rm_objects.proofs.Current.{file_number}
+use Rattle.rm_evidence.specs.Database.{world_of}
+use Rattle.rm_evidence.proofs.Current.{file_number}
 use Rattle.rm_plan.specs.Plan.{IsFileTarget}
 use Rattle.rm_apply.specs.declared.targets.TargetFile.{TargetFile}
 use Rattle.rm_apply.specs.Files.{AreExactly, IsAsked}

@@ -21,10 +21,10 @@ use Rattle.rm_history.specs.declared.tree.Incarnation.{Incarnation}
 use Rattle.rm_history.specs.declared.world.Datafile.{Datafile}
 use Rattle.rm_history.specs.declared.world.World.{World}
 use Rattle.rm_history.specs.World.{file_of}
-use Rattle.rm_objects.specs.Database.{created_by, world_of}
-use Rattle.rm_objects.proofs.Files.{file_of-is}
-use Rattle.rm_objects.proofs.Found.{datafile-rule, datafile-there, incarnation-rule}
-use Rattle.rm_objects.proofs.Worlds.{is-sound}
+use Rattle.rm_evidence.specs.Database.{created_by, world_of}
+use Rattle.rm_evidence.proofs.Files.{file_of-is}
+use Rattle.rm_evidence.proofs.Found.{datafile-rule, datafile-there, incarnation-rule}
+use Rattle.rm_evidence.proofs.DatabaseWorlds.{is-sound}
 use Rattle.rm_piece.specs.declared.piece.Piece.{Piece}
 use Rattle.rm_piece.proofs.Whole.{placed}
 use Rattle.rm_apply.specs.declared.origin.Origin.{Origin}

@@ -15,9 +15,9 @@ use Rattle.rm_channel.specs.Applied.{row_of}
 use Rattle.rm_history.specs.declared.world.Datafile.{Datafile}
 use Rattle.rm_history.specs.declared.world.World.{World}
 use Rattle.rm_history.specs.World.{blocks_of}
-use Rattle.rm_known.specs.Evidence.{Evidence}
-use Rattle.rm_known.specs.FirstGap.{IsRecoverable}
-use Rattle.rm_known.specs.Known.{Determined}
+use Rattle.rm_history.specs.Evidence.{Evidence}
+use Rattle.rm_history.specs.FirstGap.{IsRecoverable}
+use Rattle.rm_history.specs.Known.{Determined}
 use Rattle.rm_plan.specs.FirstGap.{FileDetermined}
 use Rattle.rm_plan.specs.Plan.{AreParts, IsFileTarget}
 use Rattle.rm_apply.specs.declared.plans.Plan.{Plan}

@@ -10,9 +10,9 @@ use Rattle.rm_history.specs.declared.world.World.{World}
 use Rattle.rm_history.specs.History.{IsHistory}
 use Rattle.rm_history.specs.State.{rows_from, state, states}
 use Rattle.rm_history.specs.World.{blocks_of}
-use Rattle.rm_known.specs.Evidence.{Agrees, Evidence}
-use Rattle.rm_known.specs.FirstGap.{IsTarget}
-use Rattle.rm_known.proofs.Facts.{told-is-true}
+use Rattle.rm_history.specs.Evidence.{Agrees, Evidence}
+use Rattle.rm_history.specs.FirstGap.{IsTarget}
+use Rattle.rm_history.proofs.Facts.{told-is-true}
 use Rattle.rm_plan.specs.Plan.{IsFileTarget}
 use Rattle.rm_apply.specs.Told.{IsTold}
 

@@ -4,7 +4,7 @@ use Rattle.rm_blocks.specs.File.{File, IsInOrder}
 use Rattle.rm_channel.specs.Applied.{row_of}
 use Rattle.rm_history.specs.declared.world.World.{World}
 use Rattle.rm_history.specs.World.{blocks_of}
-use Rattle.rm_known.specs.Evidence.{Evidence}
+use Rattle.rm_history.specs.Evidence.{Evidence}
 use Rattle.rm_plan.specs.Plan.{AreParts}
 use Rattle.rm_apply.specs.declared.plans.Plan.{Plan}
 

@@ -9,7 +9,7 @@ use Rattle.rm_evidence.specs.Gathered.{IsGathered}
 use Rattle.rm_evidence.specs.Known.{AreRecorded, FitsTree, known_of}
 use Rattle.rm_history.specs.declared.tree.Incarnation.{Incarnation}
 use Rattle.rm_history.specs.Tree.{reset_of, end_of}
-use Rattle.rm_objects.specs.Database.{world_of}
+use Rattle.rm_evidence.specs.Database.{world_of}
 use Rattle.rm_plan.specs.declared.plan.Gap.{Gap}
 use Rattle.rm_apply.specs.declared.fault.RecoverFault.{RecoverFault}
 use Rattle.rm_apply.specs.declared.fault.RecoverFault.TheVariants as fault

@@ -11,7 +11,7 @@ use Rattle.rm_history.specs.declared.world.Datafile.{Datafile}
 use Rattle.rm_history.specs.declared.world.World.{World}
 use Rattle.rm_history.specs.Tree.{is_within}
 use Rattle.rm_history.specs.World.{file_of}
-use Rattle.rm_objects.specs.Database.{world_of}
+use Rattle.rm_evidence.specs.Database.{world_of}
 use Rattle.rm_piece.specs.declared.piece.Piece.{Piece}
 use Rattle.rm_apply.specs.declared.origin.Origin.{Origin}
 use Rattle.rm_apply.specs.declared.origin.Origin.TheVariants.{Backup, Created}

@@ -4,10 +4,10 @@ use Rattle.rm_base.specs.declared.block.Row.{Row}
 use Rattle.rm_blocks.specs.File.{File}
 use Rattle.rm_history.specs.declared.world.World.{World}
 use Rattle.rm_history.specs.World.{blocks_of}
-use Rattle.rm_known.specs.Evidence.{Evidence}
-use Rattle.rm_known.specs.FirstGap.{IsFirstGap, IsRecoverable}
-use Rattle.rm_known.specs.Known.{Determined}
-use Rattle.rm_known.specs.Unknown.{IsUnknown}
+use Rattle.rm_history.specs.Evidence.{Evidence}
+use Rattle.rm_history.specs.FirstGap.{IsFirstGap, IsRecoverable}
+use Rattle.rm_history.specs.Known.{Determined}
+use Rattle.rm_history.specs.Unknown.{IsUnknown}
 use Rattle.rm_plan.specs.declared.plan.Gap.{Gap}
 use Rattle.rm_plan.specs.declared.plan.PlanFault.{PlanFault}
 use Rattle.rm_plan.specs.declared.plan.PlanFault.TheVariants as planned

@@ -3,7 +3,7 @@ ghost use Rattle.std.specs.Prelude.{◌≡◌, All, IfErr, IfOk, map};
 ghost use Rattle.rm_catalog.specs.Rules.{HasDatabase};
 ghost use Rattle.rm_catalog.specs.Trees.{nodes};
 ghost use Rattle.rm_evidence.specs.Known.{FitsTree, known_of};
-ghost use Rattle.rm_objects.specs.Database.{world_of};
+ghost use Rattle.rm_evidence.specs.Database.{world_of};
 ghost use Rattle.rm_plan.specs.Plan.{IsFileFault, IsFileTarget};
 ghost use Rattle.rm_apply.specs.Applying.{ArePlanned, IsPlanned};
 ghost use Rattle.rm_apply.specs.Files.{AreExactly, IsTargetFile};

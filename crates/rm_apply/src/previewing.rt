@@ -5,7 +5,7 @@ ghost use Rattle.rm_catalog.specs.Rules.{HasDatabase};
 ghost use Rattle.rm_catalog.specs.Trees.{nodes};
 ghost use Rattle.rm_evidence.specs.Place.{FitsPlace};
 ghost use Rattle.rm_history.specs.Tree.{IsThere};
-ghost use Rattle.rm_objects.specs.Database.{world_of};
+ghost use Rattle.rm_evidence.specs.Database.{world_of};
 ghost use Rattle.rm_apply.specs.Files.{IsTargetFile};
 ghost use Rattle.rm_apply.specs.Preview.{AreOrigins, Previews};
 ghost use Rattle.rm_apply.specs.Recover.{IfGap, outside, until_of};

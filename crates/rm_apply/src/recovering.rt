@@ -6,7 +6,7 @@ ghost use Rattle.rm_catalog.specs.Trees.{nodes};
 ghost use Rattle.rm_evidence.specs.Known.{FitsTree, known_of};
 ghost use Rattle.rm_evidence.specs.Place.{FitsPlace};
 ghost use Rattle.rm_history.specs.Tree.{IsThere};
-ghost use Rattle.rm_objects.specs.Database.{world_of};
+ghost use Rattle.rm_evidence.specs.Database.{world_of};
 ghost use Rattle.rm_apply.specs.Recover.{FindsGap, IfGap, TellsAll, outside, until_of};
 ghost use Rattle.rm_apply.specs.Told.{AreFilesAt, IsFaultOfAll};
 

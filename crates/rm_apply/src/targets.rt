@@ -4,14 +4,14 @@ ghost use Rattle.rm_catalog.specs.Rules.{HasDatabase};
 ghost use Rattle.rm_catalog.specs.Trees.{nodes};
 ghost use Rattle.rm_history.specs.Tree.{IsThere};
 ghost use Rattle.rm_history.specs.World.{exists};
-ghost use Rattle.rm_objects.specs.Database.{world_of};
+ghost use Rattle.rm_evidence.specs.Database.{world_of};
 ghost use Rattle.rm_plan.specs.Plan.{IsFileTarget};
 ghost use Rattle.rm_apply.specs.Files.{AreExactly, IsCreatedSo, IsNamed, IsTargetFile, IsAsked};
 
 use rm_base::{FileNo, IncNo, NoMemory, Scn, Seq};
 use rm_catalog::Catalog;
+use rm_evidence::datafile;
 use rm_history::Datafile;
-use rm_objects::datafile;
 use std::alloc::Global;
 
 /// A datafile, by its number and as it was created.

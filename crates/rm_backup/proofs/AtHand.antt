@@ -15,12 +15,12 @@ use Rattle.rm_catalog.specs.Keys.{at, piece_in, place}
 use Rattle.rm_catalog.specs.Rules.{IsCatalog}
 use Rattle.rm_evidence.specs.declared.evidence.Evidence.{Evidence}
 use Rattle.rm_evidence.specs.declared.evidence.InPlace.{InPlace}
-use Rattle.rm_evidence.specs.Available.{HasPiece}
+use Rattle.rm_evidence.specs.Available.{HasPieceObject}
 use Rattle.rm_evidence.specs.Gathered.{IsGathered, placed, placed_piece, dbid_in}
 use Rattle.rm_evidence.specs.Known.{FitsPiece}
 use Rattle.rm_history.specs.declared.tree.Incarnation.{Incarnation}
 use Rattle.rm_base.proofs.Keyed.{same_item}
-use Rattle.rm_objects.proofs.Found.{at-is, obeys}
+use Rattle.rm_evidence.proofs.Found.{at-is, obeys}
 use Rattle.rm_piece.specs.declared.piece.Piece.{Piece}
 use Rattle.rm_backup.specs.Renewed.{copy_at}
 
@@ -55,12 +55,12 @@ module _ (held : Held) (rs : List Record) (place : InPlace) (e : Evidence) (p : 
   some_id : 1 ≤ p.id
   some_id = (obeys rs (records.Piece p) catalog has).own.id.number
 
-  pub level1_at_hand : p.kind ≡ Level1 → Contains e.level1s (p.id, a) ↔ HasPiece held p a
+  pub level1_at_hand : p.kind ≡ Level1 → Contains e.level1s (p.id, a) ↔ HasPieceObject held p a
   level1_at_hand kind =
       let all = gathered.level1s in (
         λ at_hand.
             let from = (all.exact p.id a).0 (subst (λ (xs : List (ℕ × Piece)). Contains xs (p.id, a)) all.list at_hand) in
-            subst (λ (q : PieceEntry). HasPiece held q a) (same_piece rs p from.0 catalog has from.1 from.2) from.4,
+            subst (λ (q : PieceEntry). HasPieceObject held q a) (same_piece rs p from.0 catalog has from.1 from.2) from.4,
         λ available. subst (λ (xs : List (ℕ × Piece)). Contains xs (p.id, a)) (sym all.list) ((all.exact p.id a).1 (p, has, refl, kind, available)),
       )
 
@@ -82,11 +82,11 @@ module _ (held : Held) (rs : List Record) (place : InPlace) (e : Evidence) (p : 
         ap (λ (o : Option (ℕ × Piece)). option_map (λ x. x.1) o) found.is ∙ ap (λ (x : ℕ × Piece). Some x.1) one
   ]
 
-  pub copy_at_hand : p.kind ≢ Level1 → (copy_at e.bases p.id ≡ Some a) ↔ HasPiece held p a
+  pub copy_at_hand : p.kind ≢ Level1 → (copy_at e.bases p.id ≡ Some a) ↔ HasPieceObject held p a
   copy_at_hand kind = (
     λ is.
         let from = (gathered.bases.exact p.id a).0 (stored a (copy_held e.bases p.id a is)) in
-        subst (λ (q : PieceEntry). HasPiece held q a) (same_piece rs p from.0 catalog has from.1 from.2) from.4,
+        subst (λ (q : PieceEntry). HasPieceObject held q a) (same_piece rs p from.0 catalog has from.1 from.2) from.4,
     λ available. found_one a (subst (λ (xs : List (ℕ × Piece)). Contains xs (p.id, a)) (sym gathered.bases.list)
         (Contains-append_right (placed (map (placed_piece (dbid_in rs)) place.files)) gathered.bases.rest (p.id, a) ((gathered.bases.exact p.id a).1 (p, has, refl, kind, available)))),
   )

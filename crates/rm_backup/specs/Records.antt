@@ -7,7 +7,7 @@ use Rattle.rm_catalog.specs.declared.record.Record.{Record}
 use Rattle.rm_catalog.specs.Keys.{at, piece_in, place}
 use Rattle.rm_catalog.specs.Trees.{nodes}
 use Rattle.rm_history.specs.Tree.{is_within}
-use Rattle.rm_objects.specs.Database.{current_in}
+use Rattle.rm_evidence.specs.Database.{current_in}
 
 -- the backups of datafiles, in order
 abbrev pub pieces : List Record → List PieceEntry

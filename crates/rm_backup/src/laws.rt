@@ -10,7 +10,7 @@ ghost use Rattle.rm_catalog.specs.Rules.{IsCatalog};
 ghost use Rattle.rm_catalog.specs.Trees.{nodes};
 ghost use Rattle.rm_evidence.specs.declared.evidence.Evidence.{Evidence};
 ghost use Rattle.rm_evidence.specs.declared.evidence.InPlace.{InPlace};
-ghost use Rattle.rm_evidence.specs.Available.{HasPiece};
+ghost use Rattle.rm_evidence.specs.Available.{HasPieceObject};
 ghost use Rattle.rm_evidence.specs.Gathered.{IsGathered};
 ghost use Rattle.rm_evidence.specs.Known.{FitsPiece};
 ghost use Rattle.rm_history.specs.declared.world.World.{World};
@@ -33,6 +33,6 @@ pub fn a_chain_of_merges_keeps_agreement()
 /// By what was gathered, the copy and the level 1s at hand are exactly the available ones: a record's piece
 /// is found by its id exactly where the record counts as available and the store has its object.
 pub fn what_is_at_hand_is_available()
-    ensures copies { (held : Held) (rs : List Record) (place : InPlace) (e : Evidence) (p : PieceEntry) (a : Piece) → IsCatalog rs → IsGathered held rs place e → Contains rs (OfPiece p) → p.kind ≢ Level1 → (copy_at e.bases p.id ≡ Some a) ↔ HasPiece held p a }
-    ensures level1s { (held : Held) (rs : List Record) (place : InPlace) (e : Evidence) (p : PieceEntry) (a : Piece) → IsCatalog rs → IsGathered held rs place e → Contains rs (OfPiece p) → p.kind ≡ Level1 → Contains e.level1s (p.id, a) ↔ HasPiece held p a }
+    ensures copies { (held : Held) (rs : List Record) (place : InPlace) (e : Evidence) (p : PieceEntry) (a : Piece) → IsCatalog rs → IsGathered held rs place e → Contains rs (OfPiece p) → p.kind ≢ Level1 → (copy_at e.bases p.id ≡ Some a) ↔ HasPieceObject held p a }
+    ensures level1s { (held : Held) (rs : List Record) (place : InPlace) (e : Evidence) (p : PieceEntry) (a : Piece) → IsCatalog rs → IsGathered held rs place e → Contains rs (OfPiece p) → p.kind ≡ Level1 → Contains e.level1s (p.id, a) ↔ HasPieceObject held p a }
 {}

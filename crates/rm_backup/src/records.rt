@@ -7,7 +7,7 @@ ghost use Rattle.rm_backup.specs.Records.{ComesFirst, IsOnPath, piece as piece_o
 
 use rm_base::{FileNo, Status};
 use rm_catalog::{Catalog, Key, PieceEntry, Record};
-use rm_objects::current_of;
+use rm_evidence::current_of;
 
 /// Whether the record is one of the datafile, counts as available, and holds on the current path.
 pub fn is_on_path(catalog: &Catalog, file: FileNo, piece: &PieceEntry) -> bool

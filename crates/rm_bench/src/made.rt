@@ -8,7 +8,7 @@ use rm_base::{
 use rm_catalog::{
     BaseEntry, DatafileEntry, IncarnationEntry, LogEntry, MarkEntry, PieceEntry, Record,
 };
-use rm_objects::{log_name, piece_name};
+use rm_evidence::{log_name, piece_name};
 use rm_piece::{Piece, encode_piece, is_valid, pick};
 use rm_redo::{LogFile, LogRecord, encode_log, is_valid_log};
 use std::alloc::Global;

@@ -1,7 +1,7 @@
 //! Planning a made datafile, and gathering what tells of it beside a digest of the same bytes.
 ghost use Rattle.std.specs.Prelude.{IsTrue};
 ghost use Rattle.rm_catalog.specs.Rules.{HasDatabase};
-ghost use Rattle.rm_objects.specs.Database.{world_of};
+ghost use Rattle.rm_evidence.specs.Database.{world_of};
 ghost use Rattle.rm_plan.specs.Plan.{IsFileTarget};
 
 use crate::formats::micros_since;
@@ -10,8 +10,7 @@ use crate::tell;
 use rm_base::sealed::digest_of;
 use rm_base::{NoMemory, Part, Scn, Seq, Store};
 use rm_catalog::Catalog;
-use rm_evidence::{Evidence, InPlace, fits_place, gather};
-use rm_objects::{datafile, has_database};
+use rm_evidence::{Evidence, InPlace, datafile, fits_place, gather, has_database};
 use rm_plan::plan_file;
 use std::alloc::AllocError;
 use std::time::Instant;

@@ -8,8 +8,8 @@ use Rattle.rm_catalog.specs.declared.keeper.MemKeeper.{MemKeeper}
 use Rattle.rm_catalog.specs.declared.record.Record.{Record}
 
 -- the records that it keeps
-abbrev pub records_of : MemKeeper → List Record
-records_of k = k.records.items
+abbrev pub kept_records : MemKeeper → List Record
+kept_records k = k.records.items
 
 -- its loads that are to fail
 abbrev pub loads_of : MemKeeper → Failing

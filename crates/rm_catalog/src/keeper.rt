@@ -77,7 +77,7 @@ fn puts(records: Vec<Record>) -> Result<Vec<Edit>, NoMemory>
 }
 
 impl MemKeeper {
-    ghost use Rattle.rm_catalog.specs.MemKeeper.{records_of, loads_of, applies_of};
+    ghost use Rattle.rm_catalog.specs.MemKeeper.{kept_records, loads_of, applies_of};
 
     /// A keeper of these records, of which the last of each key stays.
     pub fn new(
@@ -85,7 +85,7 @@ impl MemKeeper {
         loads: Failing,
         applies: Failing,
     ) -> Result<MemKeeper, NoMemory>
-        ensures records { IfOk result (λ k. records_of k ≡ after_edits (map Put records) []) }
+        ensures records { IfOk result (λ k. kept_records k ≡ after_edits (map Put records) []) }
         ensures loads { IfOk result (λ k. loads_of k ≡ loads) }
         ensures applies { IfOk result (λ k. applies_of k ≡ applies) }
     {
@@ -103,15 +103,15 @@ impl MemKeeper {
 impl Keeper for MemKeeper {
     ghost use Rattle.rm_base.specs.Failing.{faults_of, FailsNext, after_call};
     ghost use Rattle.rm_catalog.specs.declared.keeper.KeeperFail.TheVariants.{Failed};
-    ghost use Rattle.rm_catalog.specs.MemKeeper.{records_of, loads_of, applies_of, faults_in, has_failed};
+    ghost use Rattle.rm_catalog.specs.MemKeeper.{kept_records, loads_of, applies_of, faults_in, has_failed};
 
-    ghost kept = { λ k. Some (records_of k) };
+    ghost kept = { λ k. Some (kept_records k) };
 
     ghost faults = { λ k. faults_in k };
 
     fn load(&mut self) -> Result<Seq<Record>, KeeperFail>
-        ensures records { IfOk result (λ rs. Answers (Some (records_of self.old)) rs) }
-        ensures same { Some (records_of self.new) ≡ Some (records_of self.old) }
+        ensures records { IfOk result (λ rs. Answers (Some (kept_records self.old)) rs) }
+        ensures same { Some (kept_records self.new) ≡ Some (kept_records self.old) }
         ensures failed { IsErrOf result Failed → Rose (faults_in self.old) (faults_in self.new) }
         ensures never_falls { faults_in self.old ≤ faults_in self.new }
 
@@ -128,8 +128,8 @@ impl Keeper for MemKeeper {
     }
 
     fn apply(&mut self, edits: &[Edit]) -> Result<(), KeeperFail>
-        ensures ok { OnOk result (Some (records_of self.new) ≡ option_map (after_edits edits.now) (Some (records_of self.old))) }
-        ensures err { OnErr result (Some (records_of self.new) ≡ Some (records_of self.old)) }
+        ensures ok { OnOk result (Some (kept_records self.new) ≡ option_map (after_edits edits.now) (Some (kept_records self.old))) }
+        ensures err { OnErr result (Some (kept_records self.new) ≡ Some (kept_records self.old)) }
         ensures failed { IsErrOf result Failed → Rose (faults_in self.old) (faults_in self.new) }
         ensures never_falls { faults_in self.old ≤ faults_in self.new }
 

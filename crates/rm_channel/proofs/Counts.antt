@@ -5,7 +5,7 @@ use native.Mathlib.Decide.{ℕ_discrete}
 use Rattle.std.proofs.lemmas.List.Elements.{All-head, All-tail}
 use Rattle.rm_base.specs.declared.block.Row.{Row}
 use Rattle.rm_redo.specs.Logs.{Logs}
-use Rattle.rm_redo.specs.Online.{IsThread, records_of}
+use Rattle.rm_redo.specs.Online.{IsThread, thread_records}
 use Rattle.rm_redo.proofs.Logs.{IsThread-with_change}
 use Rattle.rm_live.specs.declared.history.Answer.{Answer}
 use Rattle.rm_live.specs.declared.history.Answer.TheVariants.{Found, Wrote}
@@ -106,7 +106,7 @@ by-before u t (ws ∷ writers) lt =
 
 -- a thread that writes is there, and its log has room
 thread-room : (o now : Logs) (t u : ℕ) (writers : List (List WriteJob)) → AreThreads o t writers → HaveRoom now t writers → 0 < total (ones (is_by u)) (writes_of t writers)
-    → IsThread o u × (length (records_of now u) + total (ones (is_by u)) (writes_of t writers) ≤ 65536)
+    → IsThread o u × (length (thread_records now u) + total (ones (is_by u)) (writes_of t writers) ≤ 65536)
 thread-room o now t u [] threads room pos = absurd (omega arith)
 thread-room o now t u (ws ∷ writers) threads room pos =
     let sum = total-append (ones (is_by u)) (writes t ws) (writes_of (suc t) writers) in
@@ -114,7 +114,7 @@ thread-room o now t u (ws ∷ writers) threads room pos =
     (λ (same : u ≡ t).
     let here : total (ones (is_by u)) (writes t ws) ≡ length ws = ap (λ (n : ℕ). total (ones (is_by n)) (writes t ws)) same ∙ by-all t ws in
     let none = by-before u (suc t) writers (omega arith) in
-    let log = ap (λ (n : ℕ). length (records_of now n)) same in
+    let log = ap (λ (n : ℕ). length (thread_records now n)) same in
     let fits = room.0 in
     (subst (IsThread o) (sym same) (threads.0 (omega arith)).0, omega arith))
     (λ (ne : u ≢ t).

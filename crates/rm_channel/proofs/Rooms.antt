@@ -7,8 +7,8 @@ use Rattle.rm_base.specs.Numbers.{last_scn}
 use Rattle.rm_base.specs.declared.block.Block.{Block}
 use Rattle.rm_base.specs.declared.block.Change.{Change}
 use Rattle.rm_base.specs.declared.block.Row.{Row}
-use Rattle.rm_redo.specs.Online.{IsThread, records_of, record_of, with_change}
-use Rattle.rm_redo.proofs.Logs.{IsThread-with_change, records_of-with_change, records_of-with_change_other}
+use Rattle.rm_redo.specs.Online.{IsThread, thread_records, record_of, with_change}
+use Rattle.rm_redo.proofs.Logs.{IsThread-with_change, thread_records-with_change, thread_records-with_change_other}
 use Rattle.rm_live.specs.declared.history.Answer.{Answer}
 use Rattle.rm_live.specs.declared.history.Answer.TheVariants.{Found, Wrote}
 use Rattle.rm_live.specs.declared.history.Call.{Call}
@@ -42,7 +42,7 @@ count f es = total (λ (e : Event). one_if (f e.call)) es
 pub record HasRoom (p : Parts) (es : List Event) : Type 0 where
   pub blocks : count (is_lost p) es ≡ 0
   pub threads : (t : ℕ) → 0 < count (is_by t) es → IsThread p.logs t
-  pub logs : (t : ℕ) → 0 < count (is_by t) es → length (records_of p.logs t) + count (is_by t) es ≤ 65536
+  pub logs : (t : ℕ) → 0 < count (is_by t) es → length (thread_records p.logs t) + count (is_by t) es ≤ 65536
   pub scns : p.now + count is_write es ≤ last_scn
 
 pub by-self : (t : ℕ) → one_if (t == t) ≡ 1
@@ -84,16 +84,16 @@ room-write p t f b scn content es e is at room = record {
       (λ (same : u ≡ t).
       let here : one_if (is_by u e.call) ≡ 1 = ap (λ (c : Call). one_if (is_by u c)) is ∙ ap (λ (n : ℕ). one_if (n == t)) same ∙ by-self t in
       let h = room.logs u (omega arith) in
-      let more : length (records_of (with_change p.logs change) u) ≡ length (records_of p.logs u) + 1 =
-      ap (λ (n : ℕ). length (records_of (with_change p.logs change) n)) same
-      ∙ ap length (records_of-with_change p.logs change there)
-      ∙ length-append (records_of p.logs t) (record_of change ∷ [])
-      ∙ ap (λ (n : ℕ). length (records_of p.logs n) + 1) (sym same) in
+      let more : length (thread_records (with_change p.logs change) u) ≡ length (thread_records p.logs u) + 1 =
+      ap (λ (n : ℕ). length (thread_records (with_change p.logs change) n)) same
+      ∙ ap length (thread_records-with_change p.logs change there)
+      ∙ length-append (thread_records p.logs t) (record_of change ∷ [])
+      ∙ ap (λ (n : ℕ). length (thread_records p.logs n) + 1) (sym same) in
       omega arith)
       (λ (ne : u ≢ t).
       let here : one_if (is_by u e.call) ≡ 0 = ap (λ (c : Call). one_if (is_by u c)) is ∙ by-other u t ne in
       let h = room.logs u (omega arith) in
-      let same = ap length (records_of-with_change_other p.logs change u there.0 (room.threads u (omega arith)).0 ne) in
+      let same = ap length (thread_records-with_change_other p.logs change u there.0 (room.threads u (omega arith)).0 ne) in
       omega arith);
   scns = let here : one_if (is_write e.call) ≡ 1 = ap (λ (c : Call). one_if (is_write c)) is in let h = room.scns in omega arith;
 }
@@ -137,9 +137,9 @@ right-by p (Write t f b content) a es e is room right =
     let wrote : one_if (is_write e.call) ≡ 1 = ap (λ (c : Call). one_if (is_write c)) is in
     let log = room.logs t (omega arith) in
     let scns = room.scns in
-    let full = ne_eqb (length (records_of p.logs t)) 65536 (λ same. omega arith) in
+    let full = ne_eqb (length (thread_records p.logs t)) 65536 (λ same. omega arith) in
     let last = ne_eqb p.now last_scn (λ same. omega arith) in
-    allowed-by (refusal_of p t f b) a p (none-by (row_at p.files f b) false false (off-by (is_none (row_at p.files f b)) lost) refl refl (length (records_of p.logs t)) p.now full last) right
+    allowed-by (refusal_of p t f b) a p (none-by (row_at p.files f b) false false (off-by (is_none (row_at p.files f b)) lost) refl refl (length (thread_records p.logs t)) p.now full last) right
 
 pub accepted : (p : Parts) (es : List Event) → HasRoom p es → IsLegal p es → All (λ (e : Event). is_refused e.answer ≡ false) es
 accepted p [] room legal = λ k d lt. absurd (omega arith)

@@ -5,7 +5,7 @@ use Rattle.std.specs.Option.{option_map}
 use Rattle.rm_base.specs.Numbers.{last_scn}
 use Rattle.rm_blocks.specs.File.{File}
 use Rattle.rm_redo.specs.Logs.{Logs}
-use Rattle.rm_redo.specs.Online.{IsThread, IsLost, records_of}
+use Rattle.rm_redo.specs.Online.{IsThread, IsLost, thread_records}
 use Rattle.rm_live.specs.Parts.{Parts, row_at}
 use Rattle.rm_live.specs.Ruled.{total}
 use Rattle.rm_channel.specs.Jobs.{blocks_in}
@@ -28,7 +28,7 @@ AreThreads logs t (ws ∷ wss) = (0 < length ws → IsThread logs t × (¬ IsLos
 -- each thread's log has room for its list
 abbrev pub HaveRoom : Logs → ℕ → List (List WriteJob) → Type 0
 HaveRoom logs t [] = Unit {0}
-HaveRoom logs t (ws ∷ wss) = (length (records_of logs t) + length ws ≤ 65536) × HaveRoom logs (suc t) wss
+HaveRoom logs t (ws ∷ wss) = (length (thread_records logs t) + length ws ≤ 65536) × HaveRoom logs (suc t) wss
 
 -- the blocks are there, and the logs and SCNs have room
 pub record CanWrite (p : Parts) (writers : List (List WriteJob)) : Type 0 where

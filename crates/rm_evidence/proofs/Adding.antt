@@ -17,8 +17,8 @@ use Rattle.rm_evidence.specs.Gathered.{IsBaseOf, IsLevel1Of, IsLogOf}
 use Rattle.rm_evidence.specs.Taking.{Adds, IsTold, with_piece, with_piece_of}
 use Rattle.rm_evidence.proofs.Extending.{only-in, extends-none, extends-one}
 use Rattle.rm_evidence.proofs.Objects.{one-log, one-piece, told-one, not-both, bad-one}
-use Rattle.rm_objects.specs.Names.{log_name, piece_name}
-use Rattle.rm_objects.specs.Objects.{IsLogObject, IsPieceObject}
+use Rattle.rm_evidence.specs.Names.{log_name, piece_name}
+use Rattle.rm_evidence.specs.Objects.{IsLogObject, IsPieceObject}
 use Rattle.rm_piece.specs.declared.piece.Piece.{Piece}
 use Rattle.rm_redo.specs.declared.log_file.LogFile.{LogFile}
 

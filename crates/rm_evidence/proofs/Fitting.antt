@@ -12,9 +12,9 @@ use Rattle.rm_catalog.specs.Rules.{IsCatalog}
 use Rattle.rm_catalog.specs.Trees.{nodes}
 use Rattle.rm_history.specs.declared.tree.Incarnation.{Incarnation}
 use Rattle.rm_history.specs.Tree.{IsThere}
-use Rattle.rm_objects.specs.Objects.{HasLogFields, HasPieceFields}
-use Rattle.rm_objects.proofs.Found.{obeys}
-use Rattle.rm_objects.proofs.Worlds.{some-there}
+use Rattle.rm_evidence.specs.Objects.{HasLogFields, HasPieceFields}
+use Rattle.rm_evidence.proofs.Found.{obeys}
+use Rattle.rm_evidence.proofs.DatabaseWorlds.{some-there}
 use Rattle.rm_piece.specs.declared.piece.Piece.{Piece}
 use Rattle.rm_piece.specs.Valid.{IsPiece}
 use Rattle.rm_redo.specs.declared.log_file.LogFile.{LogFile}

@@ -1,7 +1,13 @@
 pub mod Adding
+pub mod Current
+pub mod DatabaseWorlds
 pub mod Extending
+pub mod Files
 pub mod Fitting
+pub mod Found
+pub mod Names
 pub mod Objects
 pub mod Runs
 pub mod Sorting
+pub mod Telling
 pub mod Worlds

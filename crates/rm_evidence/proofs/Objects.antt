@@ -7,7 +7,7 @@ use Rattle.rm_base.specs.declared.kinds.Bad.TheVariants.{Missing, Damaged}
 use Rattle.rm_catalog.specs.declared.record.LogEntry.{LogEntry}
 use Rattle.rm_catalog.specs.declared.record.PieceEntry.{PieceEntry}
 use Rattle.rm_evidence.specs.Taking.{IsTold}
-use Rattle.rm_objects.specs.Objects.{IsLogObject, IsPieceObject}
+use Rattle.rm_evidence.specs.Objects.{IsLogObject, IsPieceObject}
 use Rattle.rm_piece.proofs.Fitting.{spelling_same as piece_same}
 use Rattle.rm_redo.proofs.LogFitting.{spelling_same as log_same}
 

@@ -20,7 +20,7 @@ use Rattle.rm_catalog.proofs.Numbering.{rises_catalog}
 use Rattle.rm_catalog.proofs.Told.{some_is}
 use Rattle.rm_catalog.proofs.Unique.{Rises, all_above}
 use Rattle.rm_base.proofs.Members.{none-in}
-use Rattle.rm_objects.proofs.Found.{obeys}
+use Rattle.rm_evidence.proofs.Found.{obeys}
 use Rattle.rm_piece.specs.declared.piece.Piece.{Piece}
 use Rattle.rm_redo.specs.declared.log_file.LogFile.{LogFile}
 use Rattle.rm_evidence.specs.declared.evidence.Evidence.{Evidence}

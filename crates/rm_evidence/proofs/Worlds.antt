@@ -2,9 +2,9 @@
 use Rattle.std.proofs.Common.{List}
 use Rattle.rm_catalog.specs.declared.record.Record.{Record}
 use Rattle.rm_catalog.specs.Rules.{HasDatabase, IsCatalog}
-use Rattle.rm_known.specs.Unknown.{IsWorld}
-use Rattle.rm_objects.specs.Database.{world_of}
-use Rattle.rm_objects.proofs.Worlds.{is-sound}
+use Rattle.rm_history.specs.Unknown.{IsWorld}
+use Rattle.rm_evidence.specs.Database.{world_of}
+use Rattle.rm_evidence.proofs.DatabaseWorlds.{is-sound}
 
 pub is_world : (rs : List Record) → IsCatalog rs → HasDatabase rs → IsWorld (world_of rs)
 is_world rs catalog database =

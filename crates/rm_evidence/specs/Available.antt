@@ -8,20 +8,20 @@ use Rattle.rm_catalog.specs.declared.record.LogEntry.{LogEntry}
 use Rattle.rm_catalog.specs.declared.record.PieceEntry.{PieceEntry}
 use Rattle.rm_catalog.specs.declared.record.Record.{Record}
 use Rattle.rm_catalog.specs.declared.record.Record.TheVariants.{Log, Piece}
-use Rattle.rm_objects.specs.Names.{log_name, piece_name}
-use Rattle.rm_objects.specs.Objects.{IsLogObject, IsPieceObject}
+use Rattle.rm_evidence.specs.Names.{log_name, piece_name}
+use Rattle.rm_evidence.specs.Objects.{IsLogObject, IsPieceObject}
 use Rattle.rm_piece.specs.declared.piece as artefact
 use Rattle.rm_redo.specs.declared.log_file.LogFile.{LogFile}
 
 -- the record is one of a log that counts as available, and the store has its log
-pub record HasLog (held : Held) (l : LogEntry) (a : LogFile) : Type 0 where
+pub record HasLogObject (held : Held) (l : LogEntry) (a : LogFile) : Type 0 where
   pub status : l.status ≡ Available
   pub bytes : List ℕ
   pub there : held (log_name l.id) ≡ Some bytes
   pub object : IsLogObject l bytes a
 
 -- the record is one of a piece that counts as available, and the store has its piece
-pub record HasPiece (held : Held) (p : PieceEntry) (a : artefact.Piece.Piece) : Type 0 where
+pub record HasPieceObject (held : Held) (p : PieceEntry) (a : artefact.Piece.Piece) : Type 0 where
   pub status : p.status ≡ Available
   pub bytes : List ℕ
   pub there : held (piece_name p.copy p.id) ≡ Some bytes

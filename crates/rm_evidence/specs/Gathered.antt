@@ -11,7 +11,7 @@ use Rattle.rm_catalog.specs.declared.record.Record.TheVariants as kind
 use Rattle.rm_catalog.specs.Keys.{base}
 use Rattle.rm_evidence.specs.declared.evidence.Evidence.{Evidence}
 use Rattle.rm_evidence.specs.declared.evidence.InPlace.{InPlace}
-use Rattle.rm_evidence.specs.Available.{HasLog, HasPiece, IsSkipped}
+use Rattle.rm_evidence.specs.Available.{HasLogObject, HasPieceObject, IsSkipped}
 use Rattle.rm_history.specs.Artefacts.{high_of}
 use Rattle.rm_piece.specs.declared.piece.Piece.{Piece}
 use Rattle.rm_redo.specs.declared.log_file.LogFile.{LogFile}
@@ -38,15 +38,15 @@ pub record Lists (A : Type 0) (first : List (ℕ × A)) (Is : ℕ → A → Type
 
 -- a log of a record of this id is at hand
 abbrev pub IsLogOf : Held → List Record → ℕ → LogFile → Type 0
-IsLogOf held rs id a = (l : LogEntry) × Contains rs (kind.Log l) × (l.id ≡ id) × HasLog held l a
+IsLogOf held rs id a = (l : LogEntry) × Contains rs (kind.Log l) × (l.id ≡ id) × HasLogObject held l a
 
 -- a full or level 0 piece of a record of this id is at hand
 abbrev pub IsBaseOf : Held → List Record → ℕ → Piece → Type 0
-IsBaseOf held rs id a = (p : PieceEntry) × Contains rs (kind.Piece p) × (p.id ≡ id) × (p.kind ≢ Level1) × HasPiece held p a
+IsBaseOf held rs id a = (p : PieceEntry) × Contains rs (kind.Piece p) × (p.id ≡ id) × (p.kind ≢ Level1) × HasPieceObject held p a
 
 -- a level 1 piece of a record of this id is at hand
 abbrev pub IsLevel1Of : Held → List Record → ℕ → Piece → Type 0
-IsLevel1Of held rs id a = (p : PieceEntry) × Contains rs (kind.Piece p) × (p.id ≡ id) × (p.kind ≡ Level1) × HasPiece held p a
+IsLevel1Of held rs id a = (p : PieceEntry) × Contains rs (kind.Piece p) × (p.id ≡ id) × (p.kind ≡ Level1) × HasPieceObject held p a
 
 pub record IsGathered (held : Held) (rs : List Record) (place : InPlace) (e : Evidence) : Type 0 where
   pub bases : Lists Piece (placed (map (placed_piece (dbid_in rs)) place.files)) (IsBaseOf held rs) e.bases

@@ -7,8 +7,8 @@ use Rattle.rm_catalog.specs.declared.record.Record.TheVariants as kind
 use Rattle.rm_evidence.specs.declared.evidence.Evidence.{Evidence}
 use Rattle.rm_history.specs.declared.tree.Incarnation.{Incarnation}
 use Rattle.rm_history.specs.Tree.{IsThere}
-use Rattle.rm_known.specs.Evidence as known
-use Rattle.rm_objects.specs.Objects.{HasPieceFields}
+use Rattle.rm_history.specs.Evidence as known
+use Rattle.rm_evidence.specs.Objects.{HasPieceFields}
 use Rattle.rm_piece.specs.declared.piece.Piece.{Piece}
 use Rattle.rm_piece.specs.Artefacts.{base_of, level1_of}
 use Rattle.rm_piece.specs.Valid.{IsPiece}

@@ -1,6 +1,9 @@
 pub mod Available
+pub mod Database
 pub mod Faults
 pub mod Gathered
 pub mod Known
+pub mod Names
+pub mod Objects
 pub mod Place
 pub mod Taking

@@ -1,15 +1,22 @@
-//! The artefacts that are at hand.
+//! The objects that records name, the database of which records tell, and the artefacts that are at hand.
 #![tactic(auto)]
 
+pub mod database;
+pub mod database_laws;
 pub mod evidence;
 pub mod gathering;
 pub mod looking;
+pub mod naming;
 pub mod order;
 pub mod place;
+pub mod reading;
 mod taking;
 
+pub use database::{base_of, current_of, datafile, has_database, threads};
 pub use evidence::{Evidence, InPlace};
 pub use gathering::{EvidenceFault, gather};
 pub use looking::{look_for_log, look_for_piece};
+pub use naming::{log_name, piece_name, site_name};
 pub use order::by_id;
 pub use place::fits_place;
+pub use reading::{log_object, piece_object};

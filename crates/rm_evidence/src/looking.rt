@@ -1,16 +1,16 @@
 //! What the store has of a record that counts as available.
 ghost use Rattle.std.specs.Prelude.{◌≡◌, ◌≤◌, IfOk, IfSome, IsErrOf};
 ghost use Rattle.rm_base.specs.Outside.{Rose};
-ghost use Rattle.rm_objects.specs.Names.{log_name, piece_name};
-ghost use Rattle.rm_objects.specs.Objects.{HasLogFields, HasPieceFields, IsLogObject, IsPieceObject};
+ghost use Rattle.rm_evidence.specs.Names.{log_name, piece_name};
+ghost use Rattle.rm_evidence.specs.Objects.{HasLogFields, HasPieceFields, IsLogObject, IsPieceObject};
 ghost use Rattle.rm_piece.specs.Valid.{IsPiece};
 ghost use Rattle.rm_redo.specs.LogFormat.{IsLogFile};
 ghost use Rattle.rm_evidence.specs.Taking.{IsTold};
 
 use crate::gathering::EvidenceFault;
+use crate::{log_name, log_object, piece_name, piece_object};
 use rm_base::{Bad, Store};
 use rm_catalog::{LogEntry, PieceEntry};
-use rm_objects::{log_name, log_object, piece_name, piece_object};
 use rm_piece::Piece;
 use rm_redo::LogFile;
 use std::alloc::Global;

@@ -7,12 +7,12 @@ ghost use Rattle.rm_evidence.specs.Gathered.{dbid_in, placed, placed_piece};
 ghost use Rattle.rm_evidence.specs.Known.{FitsLog, FitsPiece};
 ghost use Rattle.rm_evidence.specs.Place.{FitsPlace, placed_evidence};
 
+use crate::base_of;
 use crate::evidence::{Evidence, InPlace};
 use rm_base::{Kind, LAST_SCN, NoMemory, Row, Seq};
 use rm_blocks::DataFile;
 use rm_catalog::Catalog;
 use rm_history::Tree;
-use rm_objects::base_of;
 use rm_piece::{Piece, high_of, is_valid};
 use rm_redo::{LogFile, is_valid_log};
 use std::alloc::Global;

@@ -1,6 +1,12 @@
 pub mod Agrees
 pub mod Artefacts
+pub mod Evidence
+pub mod Example
+pub mod FirstGap
+pub mod Growth
 pub mod History
+pub mod Known
 pub mod State
 pub mod Tree
+pub mod Unknown
 pub mod World

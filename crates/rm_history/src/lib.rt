@@ -1,6 +1,7 @@
-//! Incarnations, their addresses, and what a database holds at each of them.
+//! Incarnations, their addresses, what a database holds at each of them, and what artefacts make known of it.
 #![tactic(auto)]
 
+pub mod known;
 pub mod laws;
 pub mod rows;
 pub mod tree;

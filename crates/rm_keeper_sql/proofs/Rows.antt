@@ -4,7 +4,7 @@ use Rattle.std.proofs.lemmas.List.{map-append}
 use Rattle.std.proofs.lemmas.List.Elements.{All-push}
 use Rattle.sqlite_value.specs.Order.{Row}
 use Rattle.rm_catalog.specs.declared.record.Record.{Record}
-use Rattle.rm_record_bytes.specs.Fits.{Fits}
+use Rattle.rm_catalog_bytes.specs.Fits.{Fits}
 use Rattle.rm_keeper_sql.specs.Loads.{columns, row_of, AreRows}
 
 -- one row more, and its record

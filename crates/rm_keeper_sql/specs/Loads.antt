@@ -8,8 +8,8 @@ use Rattle.sqlite.specs.State.{Shown}
 use Rattle.sqlite.specs.Held.{Held, state}
 use Rattle.rm_catalog.specs.declared.record.Record.{Record}
 use Rattle.rm_catalog.specs.Keys.{key_of}
-use Rattle.rm_record_bytes.specs.Spelling.{body_of}
-use Rattle.rm_record_bytes.specs.Fits.{Fits}
+use Rattle.rm_catalog_bytes.specs.Spelling.{body_of}
+use Rattle.rm_catalog_bytes.specs.Fits.{Fits}
 use Rattle.rm_keeper_sql.specs.Texts.{select_text}
 use Rattle.rm_keeper_sql.specs.Applies.{Begins}
 

@@ -5,7 +5,7 @@ use Rattle.sqlite_value.specs.Order.{Row}
 use Rattle.rm_catalog.specs.declared.record.Edit.{Edit}
 use Rattle.rm_catalog.specs.declared.record.Edit.TheVariants.{Put, Drop}
 use Rattle.rm_catalog.specs.Keys.{key_of}
-use Rattle.rm_record_bytes.specs.Spelling.{body_of}
+use Rattle.rm_catalog_bytes.specs.Spelling.{body_of}
 
 -- makes the table where it is missing
 abbrev pub create_text : List ℕ

@@ -4,15 +4,15 @@ ghost use Rattle.sqlite_value.specs.declared.value.Value.TheVariants.{Int, Blob}
 ghost use Rattle.sqlite.specs.State.{HasCleanDisk, Shown};
 ghost use Rattle.sqlite.specs.Held.{state};
 ghost use Rattle.rm_catalog.specs.Keys.{key_of};
-ghost use Rattle.rm_record_bytes.specs.Spelling.{body_of};
-ghost use Rattle.rm_record_bytes.specs.Fits.{Fits};
+ghost use Rattle.rm_catalog_bytes.specs.Spelling.{body_of};
+ghost use Rattle.rm_catalog_bytes.specs.Fits.{Fits};
 ghost use Rattle.rm_keeper_sql.specs.Texts.{create_text, select_text, upsert_text, delete_text, text_of, params_of};
 ghost use Rattle.rm_keeper_sql.specs.Applies.{Ran, MakesAll, Begins, Applies, Keeps, Goes};
 ghost use Rattle.rm_keeper_sql.specs.Loads.{columns, row_of, AreRows, Selects, Loads};
 
 use rm_base::{FormatFault, Seq};
 use rm_catalog::{Edit, KeeperFail, Key, Record};
-use rm_record_bytes::{decode_record, encode_record};
+use rm_catalog_bytes::{decode_record, encode_record};
 use sqlite::{Alter, Connection, Error, ErrorCode, Row, Transaction, params};
 use std::alloc::Global;
 

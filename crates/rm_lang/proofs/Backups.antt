@@ -4,24 +4,24 @@ use Rattle.std.specs.Prelude.{is_some}
 use Rattle.std.specs.List.{list_all}
 use Rattle.std.specs.Option.{option_map}
 use Rattle.std.proofs.lemmas.Bool.{and_parts, and_from}
-use Rattle.rm_grammar.specs.Grammar.{Choice, first, second, Values, in_range}
-use Rattle.rm_grammar.specs.Spelling.{is_capital_tag, is_shown, is_some_list, maybe_valid, one_valid, valid}
-use Rattle.rm_grammar.proofs.Found.{some_same}
-use Rattle.rm_command.specs.declared.backup.Kind.{Kind}
-use Rattle.rm_command.specs.declared.backup.Kind.TheVariants.{Copy, Sets}
-use Rattle.rm_statement.specs.declared.command.WriteForm.{WriteForm}
-use Rattle.rm_statement.specs.declared.command.BackupForm.{BackupForm}
-use Rattle.rm_statement.specs.declared.command.Command.{Command}
-use Rattle.rm_statement.specs.declared.command.Command.TheVariants.{Backup}
-use Rattle.rm_statement.specs.Files.{in_order, are_files}
-use Rattle.rm_statement.specs.Texts.{content}
-use Rattle.rm_command.specs.Creating.{write_part, written}
-use Rattle.rm_command.specs.Backups.{as_line, kind_of, is_copy, level_line, level_of, number_of, is_cumulative, merge_line, merge_tag_of, database_line, files_line, files_of, tag_line, tag_of, keep_line, during_line, during_of, backup_line, backup_of, agreed}
-use Rattle.rm_statement.specs.Agreed.{is_one, agrees_in_level, agrees_in_merge, agrees}
-use Rattle.rm_statement.specs.IsCommand.{is_write, is_backup}
-use Rattle.rm_command.specs.Values.{write_values, kind_values, kind_asked, level_values, level_asked, merge_values, files_values, tag_values, keep_values, during_values, backup_values}
-use Rattle.rm_command.proofs.InOrder.{in_order-files, files-in_order}
-use Rattle.rm_command.proofs.Parts.{copy_again, merge_again, files_again, tag_again, keep_again, during_again}
+use Rattle.rm_lang_grammar.specs.Grammar.{Choice, first, second, Values, in_range}
+use Rattle.rm_lang_grammar.specs.Spelling.{is_capital_tag, is_shown, is_some_list, maybe_valid, one_valid, valid}
+use Rattle.rm_lang_grammar.proofs.Found.{some_same}
+use Rattle.rm_lang_reading.specs.declared.backup.BackupAs.{BackupAs}
+use Rattle.rm_lang_reading.specs.declared.backup.BackupAs.TheVariants.{Copy, Sets}
+use Rattle.rm_lang_statement.specs.declared.command.WriteForm.{WriteForm}
+use Rattle.rm_lang_statement.specs.declared.command.BackupForm.{BackupForm}
+use Rattle.rm_lang_statement.specs.declared.command.Command.{Command}
+use Rattle.rm_lang_statement.specs.declared.command.Command.TheVariants.{Backup}
+use Rattle.rm_lang_statement.specs.Files.{in_order, are_files}
+use Rattle.rm_lang_statement.specs.Texts.{content}
+use Rattle.rm_lang_reading.specs.Creating.{write_part, written}
+use Rattle.rm_lang_reading.specs.Backups.{as_line, kind_of, is_copy, level_line, level_of, number_of, is_cumulative, merge_line, merge_tag_of, database_line, files_line, files_of, tag_line, tag_of, keep_line, during_line, during_of, backup_line, backup_of, agreed}
+use Rattle.rm_lang_statement.specs.Agreed.{is_one, agrees_in_level, agrees_in_merge, agrees}
+use Rattle.rm_lang_statement.specs.IsCommand.{is_write, is_backup}
+use Rattle.rm_lang_reading.specs.Values.{write_values, kind_values, kind_asked, level_values, level_asked, merge_values, files_values, tag_values, keep_values, during_values, backup_values}
+use Rattle.rm_lang_reading.proofs.InOrder.{in_order-files, files-in_order}
+use Rattle.rm_lang_reading.proofs.Parts.{copy_again, merge_again, files_again, tag_again, keep_again, during_again}
 
 -- files that are in order stay so
 files_kept : (o : Option (List ℕ)) → maybe_valid are_files o ≡ true → option_map in_order o ≡ o
@@ -153,7 +153,7 @@ loosened false true c t h = absurd (cc)
 loosened false false c t h = absurd (cc)
 
 -- without an AS, or with AS COPY in its place
-agrees_too : (kind : Option Kind) (b : BackupForm) → agrees_in_merge (is_some kind) b ≡ true → agrees_in_merge (is_copy kind) b ≡ true
+agrees_too : (kind : Option BackupAs) (b : BackupForm) → agrees_in_merge (is_some kind) b ≡ true → agrees_in_merge (is_copy kind) b ≡ true
 agrees_too None b h = h
 agrees_too (Some Copy) b h = h
 agrees_too (Some Sets) b h = loosened (not (is_some b.merge_tag)) (is_one b.level) (not b.cumulative) (not (is_some b.tag)) h

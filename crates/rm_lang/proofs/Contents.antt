@@ -6,12 +6,12 @@ use Rattle.std.proofs.lemmas.Bool.{and_parts, and_from, cond_both, le-leb, eqb-t
 use Rattle.std.proofs.lemmas.Bool.Decides.{nat_tests}
 use Rattle.std.proofs.lemmas.Option.{same_Some}
 use Rattle.rm_base.specs.Content.{onto, padded, trimmed}
-use Rattle.rm_token.specs.Tokens.{is_string_byte}
-use Rattle.rm_token.specs.Spelling.{are_string_bytes}
-use Rattle.rm_grammar.specs.Grammar.{kept_of}
-use Rattle.rm_grammar.specs.Spelling.{IsFaithful, is_shown}
-use Rattle.rm_grammar.proofs.Spelled.{same_keeps, keeps_same}
-use Rattle.rm_statement.specs.Texts.{content}
+use Rattle.rm_lang_token.specs.Tokens.{is_string_byte}
+use Rattle.rm_lang_token.specs.Spelling.{are_string_bytes}
+use Rattle.rm_lang_grammar.specs.Grammar.{kept_of}
+use Rattle.rm_lang_grammar.specs.Spelling.{IsFaithful, is_shown}
+use Rattle.rm_lang_grammar.proofs.Spelled.{same_keeps, keeps_same}
+use Rattle.rm_lang_statement.specs.Texts.{content}
 
 trimmed-zeros : (n : ℕ) → trimmed (replicate n 0) ≡ []
 trimmed-zeros zero = refl

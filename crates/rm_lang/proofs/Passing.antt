@@ -2,27 +2,27 @@
 use Rattle.std.proofs.Common.{◌≡◌, refl, subst, sym, ◌==◌, ◌-◌, ◌^◌, ◌&&◌, ◌||◌, ℕ, List, Option, Some, None, Bool, true, false, codes}
 use Rattle.std.specs.Option.{option_map}
 use Rattle.std.proofs.lemmas.Bool.{and_parts, and_from, eqb-true}
-use Rattle.rm_grammar.specs.Grammar.{◌▸◌, word, end, Values, Choice, first, second, in_range}
-use Rattle.rm_grammar.specs.Spelling.{is_shown, is_capital_tag, maybe_valid, one_valid, valid, AreFaithful}
-use Rattle.rm_grammar.proofs.Found.{some_same}
-use Rattle.rm_grammar.proofs.Statements.{Passes, AllPass}
+use Rattle.rm_lang_grammar.specs.Grammar.{◌▸◌, word, end, Values, Choice, first, second, in_range}
+use Rattle.rm_lang_grammar.specs.Spelling.{is_shown, is_capital_tag, maybe_valid, one_valid, valid, AreFaithful}
+use Rattle.rm_lang_grammar.proofs.Found.{some_same}
+use Rattle.rm_lang_grammar.proofs.Statements.{Passes, AllPass}
 use Rattle.rm_moments.specs.Times.{is_time_text}
-use Rattle.rm_command.specs.declared.upkeep.Deletion.{Deletion}
-use Rattle.rm_command.specs.declared.upkeep.Deletion.TheVariants.{Obsolete, One, Expired}
-use Rattle.rm_statement.specs.declared.command.Until.{Until}
-use Rattle.rm_statement.specs.declared.command.Command.{Command}
-use Rattle.rm_statement.specs.declared.command.Command.TheVariants.{CreateDatabase, CreateDatafile, Write, SwitchLogfile, ArchiveLogCurrent, Mount, Tracking, ResetDatabase, Restore, RecoverCopy, BackupLogs, Crosscheck, ValidateAll, ChangeBackup, ReportObsolete, ReportNeedBackup, ReportSchema, ListIncarnation, ListBackup, ListCopy, ListArchived, ShowAll, Dump, Retention, Parallelism, CatalogName, LoseDatafile, LoseLog, Remove, Damage, Cut, Rename}
-use Rattle.rm_statement.specs.IsCommand.{is_command, is_until_or_none, is_retention}
-use Rattle.rm_command.specs.Language.{drill_forms, setting_forms, asking_forms, upkeep_forms, backup_forms, recovery_forms, mode_forms, forms}
-use Rattle.rm_statement.specs.Texts.{content, anything, plain, is_new_name, new_name, is_text}
-use Rattle.rm_command.specs.Creating.{create_database, write, written, create_datafile, switch_logfile, archive_log, track, untrack}
-use Rattle.rm_command.specs.Modes.{shutdown, startup, reset_database, open_database, opening}
-use Rattle.rm_command.specs.Recovering.{until_line, until_of, incarnation_line, incarnation_of, restoring, restore, restore_datafile, recovery, recover, recover_copy}
-use Rattle.rm_command.specs.Backups.{backup, backup_logs}
-use Rattle.rm_command.specs.Upkeep.{class_by, crosscheck, validate, change_by, change, deletion_by, deleting, delete}
-use Rattle.rm_command.specs.Asking.{report_obsolete, report_need_backup, report_schema, list_incarnation, list_backup, list_copy, list_archived, show, dump}
-use Rattle.rm_command.specs.Settings.{window_part, redundancy_part, redundancy_or_none, policy_part, redundancy_or_none_by, policy_by, retention_by, retention, parallelism, catalog}
-use Rattle.rm_command.specs.Drills.{lose_datafile, lose_log, remove, damage, cut, rename}
+use Rattle.rm_lang_reading.specs.declared.upkeep.Deletion.{Deletion}
+use Rattle.rm_lang_reading.specs.declared.upkeep.Deletion.TheVariants.{Obsolete, One, Expired}
+use Rattle.rm_lang_statement.specs.declared.command.Until.{Until}
+use Rattle.rm_lang_statement.specs.declared.command.Command.{Command}
+use Rattle.rm_lang_statement.specs.declared.command.Command.TheVariants.{CreateDatabase, CreateDatafile, Write, SwitchLogfile, ArchiveLogCurrent, Mount, Tracking, ResetDatabase, Restore, RecoverCopy, BackupLogs, Crosscheck, ValidateAll, ChangeBackup, ReportObsolete, ReportNeedBackup, ReportSchema, ListIncarnation, ListBackup, ListCopy, ListArchived, ShowAll, Dump, Retention, Parallelism, CatalogName, LoseDatafile, LoseLog, Remove, Damage, Cut, Rename}
+use Rattle.rm_lang_statement.specs.IsCommand.{is_command, is_until_or_none, is_retention}
+use Rattle.rm_lang_reading.specs.Language.{mishap_forms, setting_forms, asking_forms, upkeep_forms, backup_forms, recovery_forms, mode_forms, forms}
+use Rattle.rm_lang_statement.specs.Texts.{content, anything, plain, is_new_name, new_name, is_text}
+use Rattle.rm_lang_reading.specs.Creating.{create_database, write, written, create_datafile, switch_logfile, archive_log, track, untrack}
+use Rattle.rm_lang_reading.specs.Modes.{shutdown, startup, reset_database, open_database, open_command}
+use Rattle.rm_lang_reading.specs.Recovering.{until_line, until_of, incarnation_line, incarnation_of, restoring, restore, restore_datafile, recovery, recover, recover_copy}
+use Rattle.rm_lang_reading.specs.Backups.{backup, backup_logs}
+use Rattle.rm_lang_reading.specs.Upkeep.{class_by, crosscheck, validate, change_by, change, deletion_by, deleting, delete}
+use Rattle.rm_lang_reading.specs.Asking.{report_obsolete, report_need_backup, report_schema, list_incarnation, list_backup, list_copy, list_archived, show, dump}
+use Rattle.rm_lang_reading.specs.Settings.{window_part, redundancy_part, redundancy_or_none, policy_part, redundancy_or_none_by, policy_by, retention_by, retention, parallelism, catalog}
+use Rattle.rm_lang_reading.specs.Mishaps.{lose_datafile, lose_log, remove, damage, cut, rename}
 use Rattle.rm_lang.proofs.Contents.{content-faithful}
 use Rattle.rm_lang.proofs.Strings.{tested-faithful, tested-shown, until_passes}
 use Rattle.rm_lang.proofs.Backups.{backup_passes}
@@ -40,7 +40,7 @@ or_in d n p h e = by_test (n == d) (p n) refl refl e
     by_test true false same passed k = subst (λ m. p m ≡ true) (sym (eqb-true n d same)) h
     by_test false false same passed k = absurd (cc)
 
-opening_passes : (resetlogs : Bool) → is_command (opening resetlogs) ≡ true
+opening_passes : (resetlogs : Bool) → is_command (open_command resetlogs) ≡ true
 opening_passes true = refl
 opening_passes false = refl
 
@@ -72,7 +72,7 @@ write_passes = record { are_faithful = (content-faithful, tt); passed = λ vs c 
 
 open_database_passes : Passes is_command open_database
 unfolding open_database
-open_database_passes = record { are_faithful = tt; passed = λ vs c v m. by_meaning (opening vs.0) c (opening_passes vs.0) m }
+open_database_passes = record { are_faithful = tt; passed = λ vs c v m. by_meaning (open_command vs.0) c (opening_passes vs.0) m }
 
 restoring_passes : (until : Option Until) (preview : Bool) → is_until_or_none until ≡ true → is_command (restoring until preview) ≡ true
 restoring_passes until true h = h
@@ -267,13 +267,13 @@ rename_passes : Passes is_command rename
 unfolding rename
 rename_passes = record { are_faithful = (tested-faithful anything, (tested-faithful is_new_name, tt)); passed = λ vs c v m. by_meaning (Rename vs.0 vs.1.0) c (both_names vs.0 vs.1.0 v) m }
 
-drill_pass : AllPass is_command drill_forms
-unfolding drill_forms
-drill_pass = (lose_datafile_passes, (lose_log_passes, (remove_passes, (damage_passes, (cut_passes, (rename_passes, tt))))))
+mishap_pass : AllPass is_command mishap_forms
+unfolding mishap_forms
+mishap_pass = (lose_datafile_passes, (lose_log_passes, (remove_passes, (damage_passes, (cut_passes, (rename_passes, tt))))))
 
 setting_pass : AllPass is_command setting_forms
 unfolding setting_forms
-setting_pass = (retention_passes, (parallelism_passes, (catalog_passes, drill_pass)))
+setting_pass = (retention_passes, (parallelism_passes, (catalog_passes, mishap_pass)))
 
 asking_pass : AllPass is_command asking_forms
 unfolding asking_forms

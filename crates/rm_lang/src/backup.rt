@@ -2,15 +2,15 @@
 ghost use Rattle.std.specs.Prelude.{◌≡◌, codes, IfOk, IsTrue, map};
 ghost use Rattle.std.specs.Option.{option_map};
 ghost use Rattle.std.specs.List.{list_all};
-ghost use Rattle.rm_grammar.specs.Spelling.{spelled, maybe_spelled, one_spelled, many_spelled, is_capital_tag, maybe_valid};
-ghost use Rattle.rm_command.specs.Creating.{write_part, write_line};
-ghost use Rattle.rm_command.specs.Backups.{as_line, level_line, merge_line, database_line, files_line, tag_line, keep_line, during_line, backup_line};
-ghost use Rattle.rm_statement.specs.IsCommand.{is_write, is_backup};
-ghost use Rattle.rm_command.specs.Values.{write_values, kind_values, kind_asked, level_values, level_asked, merge_values, files_values, tag_values, keep_values, during_values, backup_values};
+ghost use Rattle.rm_lang_grammar.specs.Spelling.{spelled, maybe_spelled, one_spelled, many_spelled, is_capital_tag, maybe_valid};
+ghost use Rattle.rm_lang_reading.specs.Creating.{write_part, write_line};
+ghost use Rattle.rm_lang_reading.specs.Backups.{as_line, level_line, merge_line, database_line, files_line, tag_line, keep_line, during_line, backup_line};
+ghost use Rattle.rm_lang_statement.specs.IsCommand.{is_write, is_backup};
+ghost use Rattle.rm_lang_reading.specs.Values.{write_values, kind_values, kind_asked, level_values, level_asked, merge_values, files_values, tag_values, keep_values, during_values, backup_values};
 
 use rm_base::{NoMemory, Seq, Text};
-use rm_grammar::Spelling;
-use rm_statement::{BackupForm, WriteForm};
+use rm_lang_grammar::Spelling;
+use rm_lang_statement::{BackupForm, WriteForm};
 use std::alloc::Global;
 
 // What stands behind the WRITE.

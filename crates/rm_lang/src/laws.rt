@@ -1,8 +1,8 @@
 //! What reading a statement means.
 ghost use Rattle.std.specs.Prelude.{◌≡◌, ◌↔◌, List, Some};
-ghost use Rattle.rm_token.specs.declared.token.Token.{Token as TokenOf};
-ghost use Rattle.rm_statement.specs.declared.command.Statement.{Statement as StatementOf};
-ghost use Rattle.rm_command.specs.Language.{IsStatement, statement_at};
+ghost use Rattle.rm_lang_token.specs.declared.token.Token.{Token as TokenOf};
+ghost use Rattle.rm_lang_statement.specs.declared.command.Statement.{Statement as StatementOf};
+ghost use Rattle.rm_lang_reading.specs.Language.{IsStatement, statement_at};
 
 /// What is read is what the grammar has.
 pub fn what_is_read_is_the_statement()

@@ -11,9 +11,9 @@ mod valid;
 mod with_parts;
 
 pub use reading::statement_of;
-pub use rm_statement::{
+pub use rm_lang_statement::{
     BackupForm, ChangeTo, Command, Inner, RetentionForm, Statement, Until, WriteForm,
 };
-pub use rm_token::{Token, statements};
+pub use rm_lang_token::{Token, statements};
 pub use spelling::text_of;
 pub use valid::{is_command, is_statement};

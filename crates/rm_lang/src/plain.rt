@@ -1,18 +1,18 @@
 //! The tokens of the statements that have no parts.
 ghost use Rattle.std.specs.Prelude.{◌≡◌, IfOk, IsTrue};
-ghost use Rattle.rm_token.specs.Spelling.{are_string_bytes};
-ghost use Rattle.rm_grammar.specs.Spelling.{spelled};
-ghost use Rattle.rm_command.specs.Creating.{create_database_line, create_datafile_line, switch_logfile_line, archive_log_line, track_line, untrack_line};
-ghost use Rattle.rm_command.specs.Modes.{startup_line, reset_database_line, open_database_line};
-ghost use Rattle.rm_command.specs.Backups.{backup_logs_line};
-ghost use Rattle.rm_command.specs.Upkeep.{validate_line};
-ghost use Rattle.rm_command.specs.Asking.{report_obsolete_line, report_need_backup_line, report_schema_line, list_incarnation_line, list_backup_line, list_copy_line, list_archived_line, show_line, dump_line};
-ghost use Rattle.rm_command.specs.Settings.{parallelism_line, catalog_line};
-ghost use Rattle.rm_command.specs.Drills.{lose_datafile_line, lose_log_line, remove_line, damage_line, cut_line, rename_line};
-ghost use Rattle.rm_command.specs.Language.{allocate_line};
+ghost use Rattle.rm_lang_token.specs.Spelling.{are_string_bytes};
+ghost use Rattle.rm_lang_grammar.specs.Spelling.{spelled};
+ghost use Rattle.rm_lang_reading.specs.Creating.{create_database_line, create_datafile_line, switch_logfile_line, archive_log_line, track_line, untrack_line};
+ghost use Rattle.rm_lang_reading.specs.Modes.{startup_line, reset_database_line, open_database_line};
+ghost use Rattle.rm_lang_reading.specs.Backups.{backup_logs_line};
+ghost use Rattle.rm_lang_reading.specs.Upkeep.{validate_line};
+ghost use Rattle.rm_lang_reading.specs.Asking.{report_obsolete_line, report_need_backup_line, report_schema_line, list_incarnation_line, list_backup_line, list_copy_line, list_archived_line, show_line, dump_line};
+ghost use Rattle.rm_lang_reading.specs.Settings.{parallelism_line, catalog_line};
+ghost use Rattle.rm_lang_reading.specs.Mishaps.{lose_datafile_line, lose_log_line, remove_line, damage_line, cut_line, rename_line};
+ghost use Rattle.rm_lang_reading.specs.Language.{allocate_line};
 
 use rm_base::{NoMemory, Scn, Text};
-use rm_grammar::Spelling;
+use rm_lang_grammar::Spelling;
 use std::alloc::Global;
 
 pub fn create_database(

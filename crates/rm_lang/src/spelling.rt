@@ -1,8 +1,8 @@
 //! A statement as text.
 ghost use Rattle.std.specs.Prelude.{◌≡◌, IsTrue, IfOk};
 ghost use Rattle.std.specs.List.{list_all, flat_map};
-ghost use Rattle.rm_token.specs.Tokens.{feeds};
-ghost use Rattle.rm_statement.specs.IsCommand.{is_command, is_inner, is_statement};
+ghost use Rattle.rm_lang_token.specs.Tokens.{feeds};
+ghost use Rattle.rm_lang_statement.specs.IsCommand.{is_command, is_inner, is_statement};
 ghost use Rattle.rm_lang.specs.Spelling.{tokens_of, inner_tokens, statement_tokens, ReadsAs};
 
 use crate::backup::{backup, write};
@@ -17,9 +17,9 @@ use crate::with_parts::{
     recover_test, restore, restore_datafile, retention, set_until,
 };
 use rm_base::{NoMemory, Seq};
-use rm_grammar::Spelling;
-use rm_statement::{Command, Inner, Statement};
-use rm_token::text_of as text_of_tokens;
+use rm_lang_grammar::Spelling;
+use rm_lang_statement::{Command, Inner, Statement};
+use rm_lang_token::text_of as text_of_tokens;
 use std::alloc::Global;
 
 // The tokens that spell the command.

@@ -1,18 +1,18 @@
 //! Which statements can be spelled.
 ghost use Rattle.std.specs.Prelude.{◌≡◌, ◌↔◌, IsTrue};
 ghost use Rattle.std.specs.List.{list_all};
-ghost use Rattle.rm_grammar.specs.Spelling.{is_shown, is_capital_tag, maybe_valid};
-ghost use Rattle.rm_statement.specs.Files.{ascend_above, are_files};
-ghost use Rattle.rm_statement.specs.Texts.{content, anything, is_new_name, is_text};
-ghost use Rattle.rm_statement.specs.IsCommand.{is_until, is_until_or_none, is_write, is_backup, is_retention, is_command, is_inner, is_statement};
-ghost use Rattle.rm_command.specs.Language.{IsSpelled};
+ghost use Rattle.rm_lang_grammar.specs.Spelling.{is_shown, is_capital_tag, maybe_valid};
+ghost use Rattle.rm_lang_statement.specs.Files.{ascend_above, are_files};
+ghost use Rattle.rm_lang_statement.specs.Texts.{content, anything, is_new_name, is_text};
+ghost use Rattle.rm_lang_statement.specs.IsCommand.{is_until, is_until_or_none, is_write, is_backup, is_retention, is_command, is_inner, is_statement};
+ghost use Rattle.rm_lang_reading.specs.Language.{IsSpelled};
 
 use rm_base::{Block, LAST_SCN, Text};
-use rm_command::{agrees, is_new_name};
-use rm_grammar::is_capital_tag;
+use rm_lang_grammar::is_capital_tag;
+use rm_lang_reading::{agrees, is_new_name};
+use rm_lang_statement::{BackupForm, Command, Inner, RetentionForm, Statement, Until, WriteForm};
+use rm_lang_token::are_string_bytes;
 use rm_moments::is_time;
-use rm_statement::{BackupForm, Command, Inner, RetentionForm, Statement, Until, WriteForm};
-use rm_token::are_string_bytes;
 
 // The content is one that a VALUE has.
 fn is_value(block: Block) -> bool

@@ -12,7 +12,7 @@ use Rattle.rm_blocks.specs.File.{File}
 use Rattle.rm_redo.specs.declared.online.LogRecord.{LogRecord}
 use Rattle.rm_redo.specs.declared.online.ThreadLog.{ThreadLog}
 use Rattle.rm_redo.specs.Logs.{Logs}
-use Rattle.rm_redo.specs.Online.{IsThread, IsLost, records_of, record_of, with_change, with_record}
+use Rattle.rm_redo.specs.Online.{IsThread, IsLost, thread_records, record_of, with_change, with_record}
 use Rattle.rm_redo.proofs.Logs.{IsThread-with_change, IsLost-with_change, inc-with_change}
 use Rattle.rm_live.specs.declared.history.Answer.{Answer}
 use Rattle.rm_live.specs.declared.history.Answer.TheVariants.{Found, Wrote}
@@ -39,8 +39,8 @@ room-for (Some row) records now is =
     (not-eq records 65536 both.0, not-eq now last_scn both.1)
 
 -- a write that is not refused finds room in its log, and an SCN below the last
-pub allowed : (p : Parts) (t f b : ℕ) → refusal_of p t f b ≡ None → (length (records_of p.logs t) ≢ 65536) × (p.now ≢ last_scn)
-allowed p t f b is = room-for (row_at p.files f b) (length (records_of p.logs t)) p.now is
+pub allowed : (p : Parts) (t f b : ℕ) → refusal_of p t f b ≡ None → (length (thread_records p.logs t) ≢ 65536) × (p.now ≢ last_scn)
+allowed p t f b is = room-for (row_at p.files f b) (length (thread_records p.logs t)) p.now is
 
 holds-at : {X : Type 0} (P : X → Type 0) (xs : List X) (k : ℕ) (x : X) → slice_get xs k ≡ Some x → All P xs → P x
 holds-at P xs k x is all = subst P (get_or_from_slice_get xs k x x is) (All-get_or P xs k x (slice_get_within xs k x is) all)

@@ -7,7 +7,7 @@ use Rattle.rm_base.specs.declared.block.Block.{Block}
 use Rattle.rm_base.specs.declared.block.Row.{Row}
 use Rattle.rm_blocks.specs.File.{File, written}
 use Rattle.rm_redo.specs.Logs.{Logs}
-use Rattle.rm_redo.specs.Online.{records_of}
+use Rattle.rm_redo.specs.Online.{thread_records}
 use Rattle.rm_live.specs.declared.database.Database.{Database}
 use Rattle.rm_live.specs.declared.history.LiveFault.{LiveFault}
 use Rattle.rm_live.specs.declared.history.LiveFault.TheVariants.{NoBlock, Full, LastScn}
@@ -40,7 +40,7 @@ refusal_by (Some row) records now =
 
 -- why a write by thread t of block b of file f is refused, if it is
 abbrev pub refusal_of : Parts → ℕ → ℕ → ℕ → Option LiveFault
-refusal_of p t f b = refusal_by (row_at p.files f b) (length (records_of p.logs t)) p.now
+refusal_of p t f b = refusal_by (row_at p.files f b) (length (thread_records p.logs t)) p.now
 
 -- the version of each row is below s
 abbrev pub HasRowsBelow : ℕ → List File → Type 0

@@ -3,7 +3,7 @@ use Rattle.std.specs.Prelude.{ℕ, zero, suc, ◌≡◌, ◌+◌, ◌&&◌, nat_
 use Rattle.rm_base.specs.declared.refusal.Refusal.{Refusal}
 use Rattle.rm_base.specs.declared.refusal.Refusal.TheVariants.{Rm04, Rm11}
 use Rattle.rm_base.specs.declared.refusal.Limit.TheVariants.{Records, Bytes, ObjectIds, Sequences}
-use Rattle.rm_change.specs.declared.change.Object.{Object}
+use Rattle.rm_commit.specs.declared.commit.Object.{Object}
 use Rattle.rm_redo.specs.Online.{sequence_of}
 use Rattle.rm_machine.specs.Effect.{Effect, Made, Outcome, done, no_effect}
 use Rattle.rm_report.specs.declared.line.Line.{Line}

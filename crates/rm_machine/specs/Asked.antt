@@ -2,8 +2,8 @@
 use Rattle.std.specs.Prelude.{ℕ, zero, suc, ◌<◌, ◌^◌, ◌==◌, unwrap_or, List, [], ◌∷◌, filter, length, map}
 use Rattle.rm_channel.specs.Jobs.{Span}
 use Rattle.rm_channel.specs.declared.jobs.WriteJob.{WriteJob}
-use Rattle.rm_statement.specs.declared.command.BackupForm.{BackupForm}
-use Rattle.rm_statement.specs.declared.command.WriteForm.{WriteForm}
+use Rattle.rm_lang_statement.specs.declared.command.BackupForm.{BackupForm}
+use Rattle.rm_lang_statement.specs.declared.command.WriteForm.{WriteForm}
 use Rattle.rm_machine.specs.Backup.{rows_in}
 use Rattle.rm_machine.specs.declared.job.Job.{Job}
 use Rattle.rm_machine.specs.declared.state.State.{State}

@@ -9,16 +9,16 @@ use Rattle.rm_base.specs.declared.refusal.Refusal.TheVariants.{Rm11}
 use Rattle.rm_catalog.specs.declared.record.LogEntry.{LogEntry}
 use Rattle.rm_catalog.specs.declared.record.Record.{Record}
 use Rattle.rm_catalog.specs.declared.record.Record.TheVariants.{Log}
-use Rattle.rm_change.specs.declared.change.Object.{Object}
+use Rattle.rm_commit.specs.declared.commit.Object.{Object}
 use Rattle.rm_evidence.specs.Available.{IsSkipped}
 use Rattle.rm_evidence.specs.Gathered.{IsLogOf, Lists}
-use Rattle.rm_objects.specs.Names.{log_name}
+use Rattle.rm_evidence.specs.Names.{log_name}
 use Rattle.rm_redo.specs.declared.log_file.LogFile.{LogFile}
 use Rattle.rm_redo.specs.LogFormat.{spelling}
 use Rattle.rm_report.specs.declared.line.Line.{Line}
 use Rattle.rm_report.specs.declared.line.Line.TheVariants.{LogMade}
-use Rattle.rm_repository.specs.Changes.{with_new_log}
-use Rattle.rm_repository.specs.Repository.{Repository}
+use Rattle.rm_catalog_typed.specs.Changes.{with_new_log}
+use Rattle.rm_catalog_typed.specs.TypedCatalog.{TypedCatalog}
 use Rattle.rm_machine.specs.Backup.{or_nothing}
 use Rattle.rm_machine.specs.Effect.{Effect, Made, Outcome, a_log, done, no_effect, refused}
 use Rattle.rm_machine.specs.Marks.{lacks_bytes, lacks_ids, lacks_room}
@@ -58,7 +58,7 @@ abbrev pub copy_entry : ℕ × LogFile → LogEntry
 copy_entry x = record (log_entry x.0 x.1) { archived = false }
 
 -- the catalog with these backups of logs more
-abbrev pub with_copies : Repository → List (ℕ × LogFile) → Repository
+abbrev pub with_copies : TypedCatalog → List (ℕ × LogFile) → TypedCatalog
 with_copies r [] = r
 with_copies r (x ∷ xs) = with_copies (with_new_log r (copy_entry x)) xs
 

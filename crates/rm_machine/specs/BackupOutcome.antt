@@ -7,7 +7,7 @@ use Rattle.rm_live.specs.declared.history.Event.{Event}
 use Rattle.rm_live.specs.History.{IsLegal}
 use Rattle.rm_report.specs.declared.line.Line.{Line}
 use Rattle.rm_report.specs.declared.line.Line.TheVariants.{ThreadScn}
-use Rattle.rm_statement.specs.declared.command.BackupForm.{BackupForm}
+use Rattle.rm_lang_statement.specs.declared.command.BackupForm.{BackupForm}
 use Rattle.rm_machine.specs.Asked.{span_of, writers_of}
 use Rattle.rm_machine.specs.Backup.{AreJobs, IsTagBy, named_tag, or_nothing}
 use Rattle.rm_machine.specs.Effect.{Effect, Outcome, done}

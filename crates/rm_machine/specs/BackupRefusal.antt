@@ -8,9 +8,9 @@ use Rattle.rm_base.specs.declared.refusal.Limit.TheVariants.{Records, Bytes, Obj
 use Rattle.rm_base.specs.declared.refusal.Refusal.{Refusal}
 use Rattle.rm_base.specs.declared.refusal.Refusal.TheVariants.{Rm04, Rm05, Rm09, Rm11, Rm15}
 use Rattle.rm_history.specs.declared.world.Datafile.{Datafile}
-use Rattle.rm_redo.specs.Online.{records_of}
-use Rattle.rm_statement.specs.declared.command.BackupForm.{BackupForm}
-use Rattle.rm_statement.specs.declared.command.WriteForm.{WriteForm}
+use Rattle.rm_redo.specs.Online.{thread_records}
+use Rattle.rm_lang_statement.specs.declared.command.BackupForm.{BackupForm}
+use Rattle.rm_lang_statement.specs.declared.command.WriteForm.{WriteForm}
 use Rattle.rm_machine.specs.Backup.{absent, lost_taken, piece_bytes, taken}
 use Rattle.rm_machine.specs.Marks.{lacks_bytes, lacks_ids, lacks_room, marks_before}
 use Rattle.rm_machine.specs.declared.state.State.{State}
@@ -39,7 +39,7 @@ mark_count s b = if is_none b.during then 0 else length (marks_before s)
 
 -- the log of a thread has no room for the thread's writes
 abbrev pub lacks_log : State → List WriteForm → ℕ → Bool
-lacks_log s ws t = nat_lt 65536 (length (records_of s.instance.logs t) + length (by_thread t ws))
+lacks_log s ws t = nat_lt 65536 (length (thread_records s.instance.logs t) + length (by_thread t ws))
 
 -- so of one of n threads, from thread t on
 abbrev pub lacks_logs : State → List WriteForm → ℕ → ℕ → Bool

@@ -1,7 +1,7 @@
 -- The statements that are built.
 use Rattle.std.specs.Prelude.{Bool, true, false}
-use Rattle.rm_statement.specs.declared.command.Command.{Command}
-use Rattle.rm_statement.specs.declared.command.Command.TheVariants.{ChangeBackup, CreateDatabase, CreateDatafile, Crosscheck, DeleteBackup, DeleteExpired, DeleteObsolete, Write, SwitchLogfile, ArchiveLogCurrent, Mount, OpenPlain, OpenResetlogs, ResetDatabase, Restore, Preview, Recover, RecoverCopy, RecoverTest, Backup, BackupLogs, ListIncarnation, ListBackup, ListCopy, ListArchived, ReportNeedBackup, ReportObsolete, ReportSchema, ShowAll, ValidateAll, Dump, Retention, Parallelism, LoseDatafile, LoseLog, Remove, Damage, Cut, Rename}
+use Rattle.rm_lang_statement.specs.declared.command.Command.{Command}
+use Rattle.rm_lang_statement.specs.declared.command.Command.TheVariants.{ChangeBackup, CreateDatabase, CreateDatafile, Crosscheck, DeleteBackup, DeleteExpired, DeleteObsolete, Write, SwitchLogfile, ArchiveLogCurrent, Mount, OpenPlain, OpenResetlogs, ResetDatabase, Restore, Preview, Recover, RecoverCopy, RecoverTest, Backup, BackupLogs, ListIncarnation, ListBackup, ListCopy, ListArchived, ReportNeedBackup, ReportObsolete, ReportSchema, ShowAll, ValidateAll, Dump, Retention, Parallelism, LoseDatafile, LoseLog, Remove, Damage, Cut, Rename}
 
 -- The machine has a step for the statement.
 abbrev pub is_built : Command → Bool

@@ -6,10 +6,10 @@ use Rattle.rm_base.specs.declared.refusal.Refusal.{Refusal}
 use Rattle.rm_base.specs.declared.refusal.Refusal.TheVariants.{Rm11}
 use Rattle.rm_base.specs.declared.refusal.Limit.TheVariants as limit
 use Rattle.rm_report.specs.declared.line.Line.TheVariants as line
-use Rattle.rm_repository.specs.Changes.{with_base}
-use Rattle.rm_repository.specs.Repository.{Repository}
-use Rattle.rm_statement.specs.declared.command.RetentionForm.{RetentionForm}
-use Rattle.rm_statement.specs.declared.command.RetentionForm.TheVariants.{Clear, Nothing, Redundancy, Window}
+use Rattle.rm_catalog_typed.specs.Changes.{with_base}
+use Rattle.rm_catalog_typed.specs.TypedCatalog.{TypedCatalog}
+use Rattle.rm_lang_statement.specs.declared.command.RetentionForm.{RetentionForm}
+use Rattle.rm_lang_statement.specs.declared.command.RetentionForm.TheVariants.{Clear, Nothing, Redundancy, Window}
 use Rattle.rm_machine.specs.Effect.{Outcome, done, no_effect}
 use Rattle.rm_machine.specs.Marks.{ids_refusal, lacks_ids}
 use Rattle.rm_machine.specs.declared.state.State.{State}
@@ -38,10 +38,10 @@ abbrev pub parallelism_refusal : State → ℕ → Option Refusal
 parallelism_refusal s channels = if nat_lt 16 channels then Some (Rm11 limit.Channels) else ids_refusal s
 
 -- with this policy, and with so many channels
-abbrev pub with_policy : Repository → Policy → Repository
+abbrev pub with_policy : TypedCatalog → Policy → TypedCatalog
 with_policy r p = with_base r (record r.ledger.base { policy = p })
 
-abbrev pub with_channels : Repository → ℕ → Repository
+abbrev pub with_channels : TypedCatalog → ℕ → TypedCatalog
 with_channels r channels = with_base r (record r.ledger.base { parallelism = channels })
 
 -- CONFIGURE RETENTION POLICY sets the policy alone, and tells it

@@ -3,7 +3,7 @@ use Rattle.std.specs.Prelude.{ℕ, ◌≡◌, nat_lt, if◌then◌else◌, true,
 use Rattle.rm_base.specs.Store.{Held}
 use Rattle.rm_base.specs.declared.refusal.Refusal.TheVariants.{Rm11}
 use Rattle.rm_base.specs.declared.refusal.Limit.TheVariants.{Threads}
-use Rattle.rm_ledger.specs.Fresh.{fresh}
+use Rattle.rm_catalog_typed.specs.Fresh.{fresh}
 use Rattle.rm_redo.specs.Online.{fresh_logs}
 use Rattle.rm_report.specs.declared.line.Line.TheVariants.{DatabaseAt}
 use Rattle.rm_machine.specs.Effect.{Outcome, refused, done, no_effect}

@@ -7,7 +7,7 @@ use Rattle.rm_base.specs.declared.refusal.Limit.TheVariants.{Files, FileBlocks, 
 use Rattle.rm_blocks.specs.File.{created}
 use Rattle.rm_history.specs.declared.world.Datafile.{Datafile}
 use Rattle.rm_report.specs.declared.line.Line.TheVariants.{DatafileAt}
-use Rattle.rm_repository.specs.Changes.{with_file}
+use Rattle.rm_catalog_typed.specs.Changes.{with_file}
 use Rattle.rm_machine.specs.Effect.{Outcome, done, no_effect}
 use Rattle.rm_machine.specs.Marks.{lacks_ids, lacks_room, marks_before, one_further}
 use Rattle.rm_machine.specs.declared.state.State.{State}

@@ -3,8 +3,8 @@ use Rattle.std.specs.Prelude.{ℕ, List, []}
 use Rattle.rm_base.specs.Store.{Held}
 use Rattle.rm_base.specs.declared.block.Change.{Change}
 use Rattle.rm_base.specs.declared.refusal.Refusal.{Refusal}
-use Rattle.rm_change.specs.declared.change.Object.{Object}
-use Rattle.rm_change.specs.Names.{HasPuts, HasRemoves}
+use Rattle.rm_commit.specs.declared.commit.Object.{Object}
+use Rattle.rm_commit.specs.Names.{HasPuts, HasRemoves}
 use Rattle.rm_piece.specs.declared.piece.Piece.{Piece}
 use Rattle.rm_redo.specs.declared.log_file.LogFile.{LogFile}
 use Rattle.rm_report.specs.declared.line.Line.{Line}

@@ -1,7 +1,7 @@
 -- What a statement hands out, to be carried out, and what one tells.
 use Rattle.std.specs.Prelude.{◌≡◌, Option, Some, List}
 use Rattle.rm_base.specs.Store.{Held}
-use Rattle.rm_statement.specs.declared.command.Command.{Command}
+use Rattle.rm_lang_statement.specs.declared.command.Command.{Command}
 use Rattle.rm_report.specs.declared.line.Line.{Line}
 use Rattle.rm_machine.specs.Effect.{Effect, done, refused, told}
 use Rattle.rm_base.specs.declared.refusal.Refusal.{Refusal}

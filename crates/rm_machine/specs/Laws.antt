@@ -2,8 +2,8 @@
 use Rattle.std.specs.Prelude.{ℕ, ◌≡◌, ◌≤◌, Bool, true, false, Some, None, List}
 use Rattle.rm_base.specs.Numbers.{last_moment}
 use Rattle.rm_base.specs.Store.{Held}
-use Rattle.rm_statement.specs.declared.command.Command.{Command}
-use Rattle.rm_statement.specs.declared.command.Command.TheVariants.{Dump, ListArchived, ListBackup, ListCopy, ListIncarnation, Preview, RecoverTest, ReportNeedBackup, ReportObsolete, ReportSchema, ShowAll, ValidateAll}
+use Rattle.rm_lang_statement.specs.declared.command.Command.{Command}
+use Rattle.rm_lang_statement.specs.declared.command.Command.TheVariants.{Dump, ListArchived, ListBackup, ListCopy, ListIncarnation, Preview, RecoverTest, ReportNeedBackup, ReportObsolete, ReportSchema, ShowAll, ValidateAll}
 use Rattle.rm_report.specs.declared.line.Line.{Line}
 use Rattle.rm_report.specs.Reply.{said}
 use Rattle.rm_machine.specs.Effect.{Effect, LeavesObjects, done, told}

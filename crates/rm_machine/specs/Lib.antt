@@ -8,7 +8,7 @@ pub mod Built
 pub mod Configure
 pub mod CreateDatabase
 pub mod CreateDatafile
-pub mod Drills
+pub mod Mishaps
 pub mod Dump
 pub mod Effect
 pub mod Events

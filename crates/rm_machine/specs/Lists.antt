@@ -10,7 +10,7 @@ use Rattle.rm_report.specs.declared.line.Line.{Line}
 use Rattle.rm_report.specs.declared.line.Line.TheVariants.{LogIs, PieceIs}
 use Rattle.rm_report.specs.declared.line.Shape.{Shape}
 use Rattle.rm_report.specs.declared.line.Shape.TheVariants as shape
-use Rattle.rm_repository.specs.Repository.{records_of}
+use Rattle.rm_catalog_typed.specs.TypedCatalog.{records_of}
 use Rattle.rm_verify.specs.Classes.{is_of}
 use Rattle.rm_machine.specs.Effect.{Outcome, told}
 use Rattle.rm_machine.specs.declared.state.State.{State}

@@ -6,12 +6,12 @@ use Rattle.rm_base.specs.Store.{Held}
 use Rattle.rm_blocks.specs.File.{File}
 use Rattle.rm_catalog.specs.declared.record.HeadEntry.{HeadEntry}
 use Rattle.rm_history.specs.declared.world.Datafile.{Datafile}
-use Rattle.rm_ledger.specs.Ledger.{Ledger}
+use Rattle.rm_catalog_typed.specs.Ledger.{Ledger}
 use Rattle.rm_piece.specs.declared.piece.Piece.{Piece}
 use Rattle.rm_redo.specs.declared.log_file.LogFile.{LogFile}
 use Rattle.rm_redo.specs.Logs.{Logs}
 use Rattle.rm_redo.specs.Online.{logs_of}
-use Rattle.rm_repository.specs.Repository.{Saved}
+use Rattle.rm_catalog_typed.specs.TypedCatalog.{Saved}
 use Rattle.rm_machine.specs.declared.state.Instance.{Instance}
 use Rattle.rm_machine.specs.declared.state.State.{State}
 use Rattle.rm_machine.specs.Mount.{mount_point}

@@ -15,9 +15,9 @@ use Rattle.rm_history.specs.History.{IsHistory}
 use Rattle.rm_history.specs.State.{state}
 use Rattle.rm_history.specs.Tree.{IsThere, end_of}
 use Rattle.rm_history.specs.World.{exists}
-use Rattle.rm_ledger.specs.Ledger.{Ledger}
-use Rattle.rm_objects.specs.Names.{log_name, piece_name}
-use Rattle.rm_objects.specs.Objects.{HasDigest, HasLogFields, HasPieceFields}
+use Rattle.rm_catalog_typed.specs.Ledger.{Ledger}
+use Rattle.rm_evidence.specs.Names.{log_name, piece_name}
+use Rattle.rm_evidence.specs.Objects.{HasDigest, HasLogFields, HasPieceFields}
 use Rattle.rm_piece.specs.declared.piece.Piece.{Piece}
 use Rattle.rm_piece.specs.Artefacts as piece
 use Rattle.rm_piece.specs.Spelling as piece_format

@@ -3,18 +3,18 @@ use Rattle.std.specs.Prelude.{ℕ, ◌≤◌, ◌+◌, unwrap_or, Bool, List, []
 use Rattle.rm_base.specs.declared.block.Row.{Row}
 use Rattle.rm_catalog.specs.declared.record.BaseEntry.{BaseEntry}
 use Rattle.rm_catalog.specs.declared.record.PieceEntry.{PieceEntry}
-use Rattle.rm_change.specs.declared.change.Object.{Object}
+use Rattle.rm_commit.specs.declared.commit.Object.{Object}
 use Rattle.rm_history.specs.Artefacts.{high_of}
-use Rattle.rm_ledger.specs.Facts.{IsPieceEntry}
-use Rattle.rm_ledger.specs.Ledger.{records_of}
-use Rattle.rm_objects.specs.Names.{piece_name}
+use Rattle.rm_catalog_typed.specs.LedgerFacts.{IsPieceEntry}
+use Rattle.rm_catalog_typed.specs.Ledger.{ledger_records}
+use Rattle.rm_evidence.specs.Names.{piece_name}
 use Rattle.rm_piece.specs.declared.piece.Piece.{Piece}
 use Rattle.rm_piece.specs.Spelling.{spelling}
 use Rattle.rm_piece.specs.Valid.{IsPiece}
 use Rattle.rm_report.specs.declared.line.Line.{Line}
 use Rattle.rm_report.specs.declared.line.Line.TheVariants.{BackedUp}
-use Rattle.rm_repository.specs.Changes.{with_new_piece}
-use Rattle.rm_statement.specs.declared.command.BackupForm.{BackupForm}
+use Rattle.rm_catalog_typed.specs.Changes.{with_new_piece}
+use Rattle.rm_lang_statement.specs.declared.command.BackupForm.{BackupForm}
 use Rattle.rm_machine.specs.Backup.{is_copy, kind_by, piece_entry, rows_from}
 use Rattle.rm_machine.specs.Effect.{Made, a_piece}
 use Rattle.rm_machine.specs.Lists.{shape_by}
@@ -86,5 +86,5 @@ piece_lines s b tag (x ∷ xs) = line_for s x.copy x.piece ∷ piece_lines (afte
 pub record CanRecord (s : State) (b : BackupForm) (tag : List ℕ) (xs : List Copied) : Type 0 where
   pub valid : All (λ x. IsPiece x.piece) xs
   pub entries : All (λ x. IsPieceEntry (tree s) (ledger s).files (entry_for s b tag x.copy x.piece)) xs
-  pub records : length (records_of (ledger s)) + length xs ≤ 65536
+  pub records : length (ledger_records (ledger s)) + length xs ≤ 65536
   pub ids : (ledger s).base.next_id + length xs + 68 ≤ 4294967295

@@ -5,9 +5,9 @@ use Rattle.rm_base.specs.declared.refusal.Refusal.{Refusal}
 use Rattle.rm_base.specs.declared.refusal.Refusal.TheVariants.{Rm11}
 use Rattle.rm_base.specs.declared.refusal.Limit.TheVariants.{ObjectIds}
 use Rattle.rm_catalog.specs.Objects.{most_bytes}
-use Rattle.rm_ledger.specs.Ledger.{Ledger, records_of}
-use Rattle.rm_repository.specs.Changes.{with_end_at}
-use Rattle.rm_repository.specs.Repository.{Repository}
+use Rattle.rm_catalog_typed.specs.Ledger.{Ledger, ledger_records}
+use Rattle.rm_catalog_typed.specs.Changes.{with_end_at}
+use Rattle.rm_catalog_typed.specs.TypedCatalog.{TypedCatalog}
 use Rattle.rm_machine.specs.declared.state.State.{State}
 use Rattle.rm_machine.specs.State.{ledger, current_of, now_of}
 
@@ -30,16 +30,16 @@ listed None = []
 listed (Some m) = m ∷ []
 
 -- with these marks more
-abbrev pub with_marks : Repository → List Mark → Repository
+abbrev pub with_marks : TypedCatalog → List Mark → TypedCatalog
 with_marks r marks = record r { ledger = record r.ledger { marks = r.ledger.marks ++ marks } }
 
 -- the catalog with the mark before a change, and one SCN further
-abbrev pub one_further : State → Repository
+abbrev pub one_further : State → TypedCatalog
 one_further s = with_end_at (with_marks s.catalog (marks_before s)) (current_of s) (now_of s + 1)
 
 -- n records more would be too many
 abbrev pub lacks_room : State → ℕ → Bool
-lacks_room s n = nat_lt 0 n && nat_lt 65536 (length (records_of (ledger s)) + n)
+lacks_room s n = nat_lt 0 n && nat_lt 65536 (length (ledger_records (ledger s)) + n)
 
 -- the sizes that stand in records
 abbrev pub bytes_in : Ledger → ℕ

@@ -2,8 +2,8 @@
 use Rattle.std.specs.Prelude.{ℕ, List, Contains}
 use Rattle.rm_catalog.specs.declared.record.LogEntry.{LogEntry}
 use Rattle.rm_catalog.specs.declared.record.PieceEntry.{PieceEntry}
-use Rattle.rm_ledger.specs.Ledger.{Ledger}
-use Rattle.rm_objects.specs.Names.{log_name, piece_name}
+use Rattle.rm_catalog_typed.specs.Ledger.{Ledger}
+use Rattle.rm_evidence.specs.Names.{log_name, piece_name}
 
 -- the object of one of the records has this name
 pub data IsObjectName (l : Ledger) : List ℕ → Type 0 where

@@ -8,10 +8,10 @@ use Rattle.rm_base.specs.declared.kinds.Policy.TheVariants.{Window}
 use Rattle.rm_apply.specs.Files.{AreExactly}
 use Rattle.rm_evidence.specs.declared.evidence.Evidence.{Evidence}
 use Rattle.rm_evidence.specs.Known.{known_of}
-use Rattle.rm_known.specs.FirstGap.{IsRecoverable, IsTarget}
-use Rattle.rm_known.specs.Known.{Determined}
+use Rattle.rm_history.specs.FirstGap.{IsRecoverable, IsTarget}
+use Rattle.rm_history.specs.Known.{Determined}
 use Rattle.rm_report.specs.declared.line.Line.TheVariants as line
-use Rattle.rm_repository.specs.Repository.{records_of}
+use Rattle.rm_catalog_typed.specs.TypedCatalog.{records_of}
 use Rattle.rm_retain.specs.Catalogued.{AreObsolete, by_records}
 use Rattle.rm_retain.specs.Chosen.{Retention, chosen, wanted}
 use Rattle.rm_retain.specs.Obsolete.{IsOnPath}

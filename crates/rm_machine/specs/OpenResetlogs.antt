@@ -7,8 +7,8 @@ use Rattle.rm_base.specs.declared.refusal.Limit.TheVariants.{Incarnations}
 use Rattle.rm_redo.specs.Online.{fresh_logs}
 use Rattle.rm_report.specs.declared.line.Line.{Line}
 use Rattle.rm_report.specs.declared.line.Line.TheVariants.{Opened}
-use Rattle.rm_repository.specs.Changes.{with_base, with_incarnation}
-use Rattle.rm_repository.specs.Repository.{Repository}
+use Rattle.rm_catalog_typed.specs.Changes.{with_base, with_incarnation}
+use Rattle.rm_catalog_typed.specs.TypedCatalog.{TypedCatalog}
 use Rattle.rm_machine.specs.Archive.{after_all, archiving, archiving_refusal, lines_from}
 use Rattle.rm_machine.specs.Effect.{Outcome, done}
 use Rattle.rm_machine.specs.Open.{opened}
@@ -30,7 +30,7 @@ next_incarnation s = length (tree s) + 1
 
 -- The catalog with the new incarnation, which branches off the current one at an SCN, begins and ends there, has its
 -- mark at the moment of the statement, and is the current one.
-abbrev pub with_branched_off : State → ℕ → Repository
+abbrev pub with_branched_off : State → ℕ → TypedCatalog
 with_branched_off s at =
     with_base (with_incarnation s.catalog (current_of s) at (ledger s).base.moment) (record (ledger s).base { current = next_incarnation s })
 

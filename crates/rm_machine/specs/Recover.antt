@@ -6,7 +6,7 @@ use Rattle.rm_base.specs.declared.block.Change.{Change}
 use Rattle.rm_base.specs.declared.refusal.Refusal.{Refusal}
 use Rattle.rm_base.specs.declared.refusal.Refusal.TheVariants.{Rm04, Rm09}
 use Rattle.rm_blocks.specs.File.{File}
-use Rattle.rm_statement.specs.declared.command.Until.{Until}
+use Rattle.rm_lang_statement.specs.declared.command.Until.{Until}
 use Rattle.rm_apply.specs.declared.recovering.Recovered.{Recovered}
 use Rattle.rm_report.specs.declared.line.Line.TheVariants.{Recovered as recovered_line}
 use Rattle.rm_machine.specs.Effect.{Outcome, done, no_effect}

@@ -18,18 +18,18 @@ use Rattle.rm_backup.specs.Taken.{IsTaken}
 use Rattle.rm_catalog.specs.declared.record.PieceEntry.{PieceEntry}
 use Rattle.rm_catalog.specs.declared.record.Record.{Record}
 use Rattle.rm_catalog.specs.declared.record.Record.TheVariants as records
-use Rattle.rm_change.specs.declared.change.Object.{Object}
+use Rattle.rm_commit.specs.declared.commit.Object.{Object}
 use Rattle.rm_evidence.specs.declared.evidence.Evidence.{Evidence}
 use Rattle.rm_evidence.specs.Available.{IsSkipped}
 use Rattle.rm_evidence.specs.Gathered.{Lists}
-use Rattle.rm_objects.specs.Names.{piece_name}
+use Rattle.rm_evidence.specs.Names.{piece_name}
 use Rattle.rm_piece.specs.declared.piece.Piece.{Piece}
 use Rattle.rm_piece.specs.Spelling.{spelling}
 use Rattle.rm_report.specs.declared.line.Line.{Line}
 use Rattle.rm_report.specs.declared.line.Line.TheVariants.{Merged, StartsAbove, Stays}
-use Rattle.rm_repository.specs.Changes.{with_new_piece, without_piece}
-use Rattle.rm_repository.specs.Repository.{records_of}
-use Rattle.rm_statement.specs.declared.command.Until.{Until}
+use Rattle.rm_catalog_typed.specs.Changes.{with_new_piece, without_piece}
+use Rattle.rm_catalog_typed.specs.TypedCatalog.{records_of}
+use Rattle.rm_lang_statement.specs.declared.command.Until.{Until}
 use Rattle.rm_machine.specs.Backup.{piece_entry}
 use Rattle.rm_machine.specs.Effect.{Effect, Made, Outcome, a_piece, done, no_effect, refused}
 use Rattle.rm_machine.specs.Marks.{ids_refusal, lacks_bytes, lacks_ids}

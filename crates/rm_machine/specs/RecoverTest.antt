@@ -7,7 +7,7 @@ use Rattle.rm_base.specs.declared.kinds.Bad.{Bad}
 use Rattle.rm_base.specs.declared.refusal.Refusal.{Refusal}
 use Rattle.rm_base.specs.declared.refusal.Refusal.TheVariants.{Rm07}
 use Rattle.rm_blocks.specs.File.{File}
-use Rattle.rm_statement.specs.declared.command.Until.{Until}
+use Rattle.rm_lang_statement.specs.declared.command.Until.{Until}
 use Rattle.rm_apply.specs.declared.recovering.Recovered.{Recovered}
 use Rattle.rm_history.specs.declared.world.World.{World}
 use Rattle.rm_history.specs.World.{creation_of}

@@ -23,7 +23,7 @@ use Rattle.rm_apply.specs.Recover.{FindsGap, TellsAll, outside}
 use Rattle.rm_redo.specs.declared.log_file.LogFile.{LogFile}
 use Rattle.rm_report.specs.declared.line.Line.{Line}
 use Rattle.rm_report.specs.declared.line.Line.TheVariants.{Skipped}
-use Rattle.rm_repository.specs.Repository.{records_of}
+use Rattle.rm_catalog_typed.specs.TypedCatalog.{records_of}
 use Rattle.rm_machine.specs.Effect.{Outcome, refused}
 use Rattle.rm_machine.specs.declared.state.State.{State}
 use Rattle.rm_machine.specs.State.{ledger, counted, online, is_lost}

@@ -4,7 +4,7 @@ use Rattle.rm_base.specs.declared.refusal.Refusal.{Refusal}
 use Rattle.rm_base.specs.declared.refusal.Refusal.TheVariants.{Rm04, Rm07}
 use Rattle.rm_redo.specs.Online.{counted_as}
 use Rattle.rm_report.specs.declared.line.Line.TheVariants.{Chosen}
-use Rattle.rm_repository.specs.Changes.{with_base}
+use Rattle.rm_catalog_typed.specs.Changes.{with_base}
 use Rattle.rm_machine.specs.Effect.{Outcome, done, no_effect}
 use Rattle.rm_machine.specs.Marks.{ids_refusal}
 use Rattle.rm_machine.specs.declared.state.State.{State}

@@ -6,10 +6,10 @@ use Rattle.rm_base.specs.declared.block.Change.{Change}
 use Rattle.rm_catalog.specs.declared.record.PartEntry.{PartEntry}
 use Rattle.rm_history.specs.History.{IsHistory}
 use Rattle.rm_history.specs.Tree.{end_of}
-use Rattle.rm_objects.specs.Names.{site_name}
-use Rattle.rm_objects.specs.Objects.{HasDigest}
-use Rattle.rm_repository.specs.Facts.{IsRepository}
-use Rattle.rm_repository.specs.Repository.{Repository, Saved}
+use Rattle.rm_evidence.specs.Names.{site_name}
+use Rattle.rm_evidence.specs.Objects.{HasDigest}
+use Rattle.rm_catalog_typed.specs.Facts.{IsTypedCatalog}
+use Rattle.rm_catalog_typed.specs.TypedCatalog.{TypedCatalog, Saved}
 use Rattle.rm_machine.specs.Effect.{Artefact, Made}
 use Rattle.rm_machine.specs.Loading.{IsLoaded}
 use Rattle.rm_machine.specs.Machine.{HaveArtefacts, HoldsUnder, IsTrueArtefact, Machine}
@@ -19,7 +19,7 @@ use Rattle.rm_machine.specs.State.{world_of}
 
 pub record Rest : Type 0 where
   -- the records of the database, where there is one
-  pub catalog : Option Repository
+  pub catalog : Option TypedCatalog
   -- as of a machine
   pub history : List Change
   pub objects : Held
@@ -27,7 +27,7 @@ pub record Rest : Type 0 where
   pub touched : List (List ℕ)
 
 -- the catalog of a database
-abbrev pub catalog_in : Option State → Option Repository
+abbrev pub catalog_in : Option State → Option TypedCatalog
 catalog_in o = option_map (λ s. s.catalog) o
 
 -- what is left of the machine where its session ends so
@@ -47,8 +47,8 @@ abbrev pub HaveParts : Held → List Made → List (List ℕ) → Option Saved �
 HaveParts objects made touched saved = IfSome saved (λ site. (p : PartEntry) → Contains site.parts p → HasPartArtefact objects made touched p)
 
 -- the records are borne out, those of a saved site too
-pub record IsRestBorneOut (c : Repository) (h : List Change) (objects : Held) (made : List Made) (touched : List (List ℕ)) : Type 0 where
-  pub catalog : IsRepository c
+pub record IsRestBorneOut (c : TypedCatalog) (h : List Change) (objects : Held) (made : List Made) (touched : List (List ℕ)) : Type 0 where
+  pub catalog : IsTypedCatalog c
   pub dbid : c.ledger.base.dbid < 2 ^ 32
   pub history : IsHistory (world_of c.ledger) h
   pub below : All (λ x. x.scn < end_of c.ledger.tree x.inc) h
@@ -57,7 +57,7 @@ pub record IsRestBorneOut (c : Repository) (h : List Change) (objects : Held) (m
   pub parts : HaveParts objects made touched c.saved
 
 -- a database is borne out; without one nothing was ever written or recorded
-abbrev pub IsSoundRestBy : Option Repository → List Change → Held → List Made → List (List ℕ) → Type 0
+abbrev pub IsSoundRestBy : Option TypedCatalog → List Change → Held → List Made → List (List ℕ) → Type 0
 IsSoundRestBy None h objects made touched = (h ≡ []) × (made ≡ [])
 IsSoundRestBy (Some c) h objects made touched = IsRestBorneOut c h objects made touched
 

@@ -6,7 +6,7 @@ use Rattle.rm_base.specs.declared.refusal.Refusal.{Refusal}
 use Rattle.rm_base.specs.declared.refusal.Refusal.TheVariants.{Rm04, Rm05}
 use Rattle.rm_base.specs.declared.refusal.Absent.TheVariants as absent
 use Rattle.rm_blocks.specs.File.{File}
-use Rattle.rm_statement.specs.declared.command.Until.{Until}
+use Rattle.rm_lang_statement.specs.declared.command.Until.{Until}
 use Rattle.rm_plan.specs.declared.plan.Gap.{Gap}
 use Rattle.rm_plan.specs.Plan.{IsFileTarget}
 use Rattle.rm_apply.specs.declared.origin.Origin.{Origin}
@@ -17,7 +17,7 @@ use Rattle.rm_apply.specs.Preview.{Previews}
 use Rattle.rm_apply.specs.Restore.{Restores}
 use Rattle.rm_report.specs.declared.line.Line.{Line}
 use Rattle.rm_report.specs.declared.line.Line.TheVariants.{Complete, CreatedEmpty, GapIn, RestoredFrom}
-use Rattle.rm_repository.specs.Repository.{records_of}
+use Rattle.rm_catalog_typed.specs.TypedCatalog.{records_of}
 use Rattle.rm_machine.specs.Effect.{Outcome, done, no_effect, told}
 use Rattle.rm_machine.specs.Marks.{ids_refusal}
 use Rattle.rm_machine.specs.Recover.{recover_target}

@@ -5,9 +5,9 @@ use Rattle.rm_base.specs.declared.kinds.Kind.TheVariants.{Place}
 use Rattle.rm_catalog.specs.declared.record.PartEntry.{PartEntry}
 use Rattle.rm_history.specs.declared.world.Datafile.{Datafile}
 use Rattle.rm_history.specs.Tree.{IsThere, reset_of, end_of}
-use Rattle.rm_ledger.specs.Ledger.{Ledger}
-use Rattle.rm_objects.specs.Names.{site_name}
-use Rattle.rm_objects.specs.Objects.{HasDigest}
+use Rattle.rm_catalog_typed.specs.Ledger.{Ledger}
+use Rattle.rm_evidence.specs.Names.{site_name}
+use Rattle.rm_evidence.specs.Objects.{HasDigest}
 use Rattle.rm_piece.specs.declared.piece.Piece.{Piece}
 use Rattle.rm_piece.specs.Spelling as piece_format
 use Rattle.rm_piece.specs.Valid.{IsPiece}
@@ -15,7 +15,7 @@ use Rattle.rm_redo.specs.declared.log_file.LogFile.{LogFile}
 use Rattle.rm_redo.specs.declared.online.LogRecord.{LogRecord}
 use Rattle.rm_redo.specs.LogFormat as log_format
 use Rattle.rm_redo.specs.LogFormat.{IsLogFile}
-use Rattle.rm_repository.specs.Repository.{Saved}
+use Rattle.rm_catalog_typed.specs.TypedCatalog.{Saved}
 use Rattle.rm_machine.specs.Effect.{Artefact, a_log, a_piece}
 
 -- the part of a datafile, and that of a redo thread

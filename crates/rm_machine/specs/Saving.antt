@@ -5,15 +5,15 @@ use Rattle.sha2.specs.Sha256.{sha256}
 use Rattle.rm_blocks.specs.File.{File}
 use Rattle.rm_catalog.specs.declared.record.HeadEntry.{HeadEntry}
 use Rattle.rm_catalog.specs.declared.record.PartEntry.{PartEntry}
-use Rattle.rm_change.specs.declared.change.Object.{Object}
-use Rattle.rm_change.specs.Names.{HasPuts}
+use Rattle.rm_commit.specs.declared.commit.Object.{Object}
+use Rattle.rm_commit.specs.Names.{HasPuts}
 use Rattle.rm_evidence.specs.Gathered.{placed_piece}
-use Rattle.rm_objects.specs.Names.{site_name}
+use Rattle.rm_evidence.specs.Names.{site_name}
 use Rattle.rm_redo.specs.declared.online.ThreadLog.{ThreadLog}
 use Rattle.rm_redo.specs.Logs.{Logs}
 use Rattle.rm_redo.specs.Online.{counted_as, lost_log}
-use Rattle.rm_repository.specs.Changes.{with_base, with_saved}
-use Rattle.rm_repository.specs.Repository.{Repository, Saved}
+use Rattle.rm_catalog_typed.specs.Changes.{with_base, with_saved}
+use Rattle.rm_catalog_typed.specs.TypedCatalog.{TypedCatalog, Saved}
 use Rattle.rm_machine.specs.declared.state.State.{State}
 use Rattle.rm_machine.specs.Effect.{Artefact, a_log, a_piece, Made}
 use Rattle.rm_machine.specs.Machine.{Machine}
@@ -65,7 +65,7 @@ abbrev pub saved_of : State → Saved
 saved_of s = record { parts = with_ids entry_of (ledger s).base.next_id (parts_of s); head = head_of s }
 
 -- the catalog with the saved site, whose objects took the next ids
-abbrev pub with_site : State → Repository
+abbrev pub with_site : State → TypedCatalog
 with_site s = with_saved (with_base s.catalog (record (ledger s).base { next_id = (ledger s).base.next_id + length (parts_of s) })) (saved_of s)
 
 -- The site was saved: the objects of its parts were put, and the records tell of it.

@@ -9,7 +9,7 @@ use Rattle.rm_history.specs.Tree.{IsThere, reset_of, end_of}
 use Rattle.rm_history.specs.World.{exists}
 use Rattle.rm_redo.specs.declared.log_file.LogFile.{LogFile}
 use Rattle.rm_redo.specs.LogFormat.{IsLogFile}
-use Rattle.rm_repository.specs.Facts.{IsRepository}
+use Rattle.rm_catalog_typed.specs.Facts.{IsTypedCatalog}
 use Rattle.rm_machine.specs.declared.state.State.{State}
 use Rattle.rm_machine.specs.State.{ledger, tree, world, current_of, now_of, counted, online, is_lost}
 
@@ -67,7 +67,7 @@ pub record IsPoint (s : State) (at : ℕ) : Type 0 where
   pub stands : (k : ℕ) (d : Datafile) → slice_get (ledger s).files k ≡ Some d → exists (world s) (current_of s) at d ≡ true → StandsAt s.instance.place (current_of s) at k
 
 pub record IsSound (s : State) : Type 0 where
-  pub catalog : IsRepository s.catalog
+  pub catalog : IsTypedCatalog s.catalog
   pub dbid : (ledger s).base.dbid < 2 ^ 32
   pub place : ArePlaced s
   pub logs : AreOnline s

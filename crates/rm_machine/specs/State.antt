@@ -7,12 +7,12 @@ use Rattle.rm_history.specs.declared.world.Datafile.{Datafile}
 use Rattle.rm_history.specs.declared.world.World.{World}
 use Rattle.rm_history.specs.Tree.{end_of}
 use Rattle.rm_history.specs.World.{file_of, exists}
-use Rattle.rm_ledger.specs.Ledger.{Ledger}
+use Rattle.rm_catalog_typed.specs.Ledger.{Ledger}
 use Rattle.rm_redo.specs.declared.log_file.LogFile.{LogFile}
 use Rattle.rm_redo.specs.LogFile.{log_file_of}
 use Rattle.rm_redo.specs.Logs.{Logs}
 use Rattle.rm_machine.specs.declared.state.State.{State}
-use Rattle.rm_repository.specs.Changes.{with_moment, without_saved}
+use Rattle.rm_catalog_typed.specs.Changes.{with_moment, without_saved}
 
 -- the records of its database, a saved site left aside
 abbrev pub ledger : State → Ledger

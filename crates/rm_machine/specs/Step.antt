@@ -5,9 +5,9 @@ use Rattle.rm_base.specs.declared.block.Change.{Change}
 use Rattle.rm_base.specs.declared.kinds.Class.TheVariants as class
 use Rattle.rm_base.specs.declared.refusal.Refusal.{Refusal}
 use Rattle.rm_base.specs.declared.refusal.Refusal.TheVariants.{Rm02, Rm03}
-use Rattle.rm_statement.specs.declared.command.Command.{Command}
-use Rattle.rm_statement.specs.declared.command.Command.TheVariants.{ArchiveLogCurrent, Backup, BackupLogs, ChangeBackup, CreateDatabase, CreateDatafile, Crosscheck, Cut, Damage, DeleteBackup, DeleteExpired, DeleteObsolete, Dump, ListArchived, ListBackup, ListCopy, ListIncarnation, LoseDatafile, LoseLog, Mount, OpenPlain, OpenResetlogs, Parallelism, Preview, Recover, RecoverCopy, RecoverTest, Remove, Rename, ReportNeedBackup, ReportObsolete, ReportSchema, ResetDatabase, Restore, Retention, ShowAll, SwitchLogfile, ValidateAll, Write}
-use Rattle.rm_statement.specs.IsCommand.{is_command}
+use Rattle.rm_lang_statement.specs.declared.command.Command.{Command}
+use Rattle.rm_lang_statement.specs.declared.command.Command.TheVariants.{ArchiveLogCurrent, Backup, BackupLogs, ChangeBackup, CreateDatabase, CreateDatafile, Crosscheck, Cut, Damage, DeleteBackup, DeleteExpired, DeleteObsolete, Dump, ListArchived, ListBackup, ListCopy, ListIncarnation, LoseDatafile, LoseLog, Mount, OpenPlain, OpenResetlogs, Parallelism, Preview, Recover, RecoverCopy, RecoverTest, Remove, Rename, ReportNeedBackup, ReportObsolete, ReportSchema, ResetDatabase, Restore, Retention, ShowAll, SwitchLogfile, ValidateAll, Write}
+use Rattle.rm_lang_statement.specs.IsCommand.{is_command}
 use Rattle.rm_report.specs.Reply as reply
 use Rattle.rm_report.specs.declared.line.Reply.{Reply}
 use Rattle.rm_machine.specs.Archive.{archive_all_refusal, IsArchiveOutcome}
@@ -18,7 +18,7 @@ use Rattle.rm_machine.specs.BackupLogs.{IsBackupLogsOutcome}
 use Rattle.rm_machine.specs.Configure.{parallelism_refusal, retention_refusal, IsParallelismOutcome, IsRetentionOutcome}
 use Rattle.rm_machine.specs.CreateDatabase.{IsCreateOutcome}
 use Rattle.rm_machine.specs.CreateDatafile.{datafile_refusal, IsDatafileOutcome}
-use Rattle.rm_machine.specs.Drills.{IsCutOutcome, IsDamageOutcome, IsRemoveOutcome, IsRenameOutcome}
+use Rattle.rm_machine.specs.Mishaps.{IsCutOutcome, IsDamageOutcome, IsRemoveOutcome, IsRenameOutcome}
 use Rattle.rm_machine.specs.Dump.{dump_refusal, IsDumpOutcome}
 use Rattle.rm_machine.specs.Effect.{Effect, LeavesObjects, Outcome, refused, told, done}
 use Rattle.rm_machine.specs.ListIncarnation.{IsListIncarnationOutcome}

@@ -7,12 +7,12 @@ use Rattle.rm_base.specs.declared.refusal.Refusal.TheVariants.{Rm04, Rm05, Rm11}
 use Rattle.rm_base.specs.declared.refusal.Absent.TheVariants.{Thread}
 use Rattle.rm_base.specs.declared.refusal.Limit.TheVariants.{Records, Bytes, ObjectIds, Sequences}
 use Rattle.rm_catalog.specs.declared.record.LogEntry.{LogEntry}
-use Rattle.rm_objects.specs.Names.{log_name}
+use Rattle.rm_evidence.specs.Names.{log_name}
 use Rattle.rm_redo.specs.declared.log_file.LogFile.{LogFile}
 use Rattle.rm_redo.specs.LogFormat.{spelling}
-use Rattle.rm_redo.specs.Online.{first_of, records_of, sequence_of, switched}
+use Rattle.rm_redo.specs.Online.{first_of, thread_records, sequence_of, switched}
 use Rattle.rm_report.specs.declared.line.Line.TheVariants.{LogMade, NothingToArchive}
-use Rattle.rm_repository.specs.Changes.{with_new_log}
+use Rattle.rm_catalog_typed.specs.Changes.{with_new_log}
 use Rattle.rm_machine.specs.Effect.{Outcome, done, a_log, Effect, no_effect}
 use Rattle.rm_report.specs.declared.line.Line.{Line}
 use Rattle.rm_machine.specs.Marks.{ids_refusal, lacks_bytes, lacks_ids, lacks_room}
@@ -25,7 +25,7 @@ is_due s t = not (is_lost s.instance.logs t) && nat_lt (first_of s.instance.logs
 
 -- the size of the log of a thread as a file: 70 bytes, and 80 for each record
 abbrev pub log_bytes : State → ℕ → ℕ
-log_bytes s t = 70 + 80 * length (records_of s.instance.logs t)
+log_bytes s t = 70 + 80 * length (thread_records s.instance.logs t)
 
 -- why a due log can't be archived: no record is left, no bytes, no id (a save may draw 68), or no sequence number
 abbrev pub archive_refusal : State → ℕ → Option Refusal

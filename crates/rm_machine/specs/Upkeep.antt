@@ -14,14 +14,14 @@ use Rattle.rm_catalog.specs.declared.record.LogEntry.{LogEntry}
 use Rattle.rm_catalog.specs.declared.record.PieceEntry.{PieceEntry}
 use Rattle.rm_catalog.specs.declared.record.Record.{Record}
 use Rattle.rm_evidence.specs.Gathered.{Lists}
-use Rattle.rm_objects.specs.Names.{log_name, piece_name}
+use Rattle.rm_evidence.specs.Names.{log_name, piece_name}
 use Rattle.rm_report.specs.declared.line.Line.{Line}
 use Rattle.rm_report.specs.declared.line.Line.TheVariants as line
-use Rattle.rm_repository.specs.Changes.{with_log, with_piece, without_log, without_piece}
-use Rattle.rm_repository.specs.Repository.{Repository, records_of}
-use Rattle.rm_statement.specs.declared.command.ChangeTo.{ChangeTo}
-use Rattle.rm_statement.specs.declared.command.ChangeTo.TheVariants.{Available, Keep, NoKeep, Unavailable, Uncatalog}
-use Rattle.rm_verify.specs.declared.object.Object.{Object}
+use Rattle.rm_catalog_typed.specs.Changes.{with_log, with_piece, without_log, without_piece}
+use Rattle.rm_catalog_typed.specs.TypedCatalog.{TypedCatalog, records_of}
+use Rattle.rm_lang_statement.specs.declared.command.ChangeTo.{ChangeTo}
+use Rattle.rm_lang_statement.specs.declared.command.ChangeTo.TheVariants.{Available, Keep, NoKeep, Unavailable, Uncatalog}
+use Rattle.rm_verify.specs.declared.object.Expected.{Expected}
 use Rattle.rm_verify.specs.Classes.{is_of, object_in}
 use Rattle.rm_verify.specs.Crosscheck.{IsChecked, stands_in}
 use Rattle.rm_machine.specs.Effect.{Effect, Outcome, done, no_effect}
@@ -29,18 +29,18 @@ use Rattle.rm_machine.specs.Marks.{lacks_ids}
 use Rattle.rm_machine.specs.declared.state.State.{State}
 
 -- the database with this catalog
-abbrev pub with_catalog : State → Repository → State
+abbrev pub with_catalog : State → TypedCatalog → State
 with_catalog s r = record s { catalog = r }
 
 -- the log of this id, and the piece of this id
-abbrev pub log_at : Repository → ℕ → Option LogEntry
+abbrev pub log_at : TypedCatalog → ℕ → Option LogEntry
 log_at r n = find (λ e. e.id == n) r.ledger.logs
 
-abbrev pub piece_at : Repository → ℕ → Option PieceEntry
+abbrev pub piece_at : TypedCatalog → ℕ → Option PieceEntry
 piece_at r n = find (λ p. p.id == n) r.ledger.pieces
 
 -- no log and no piece has this id
-abbrev pub is_unknown : Repository → ℕ → Bool
+abbrev pub is_unknown : TypedCatalog → ℕ → Bool
 is_unknown r n = is_none (log_at r n) && is_none (piece_at r n)
 
 -- why a statement on the record of this id is refused: too few ids are left, or there is none
@@ -48,26 +48,26 @@ abbrev pub record_refusal : State → ℕ → Option Refusal
 record_refusal s n = if lacks_ids s 0 then Some (Rm11 ObjectIds) else if is_unknown s.catalog n then Some (Rm12 (Entry n)) else None
 
 -- the catalog where the log of this id, or the piece, is changed so
-abbrev pub log_changed : (LogEntry → LogEntry) → ℕ → Repository → Repository
+abbrev pub log_changed : (LogEntry → LogEntry) → ℕ → TypedCatalog → TypedCatalog
 log_changed f n r = option_map_or (λ e. with_log r (f e)) (log_at r n) r
 
-abbrev pub piece_changed : (PieceEntry → PieceEntry) → ℕ → Repository → Repository
+abbrev pub piece_changed : (PieceEntry → PieceEntry) → ℕ → TypedCatalog → TypedCatalog
 piece_changed f n r = option_map_or (λ p. with_piece r (f p)) (piece_at r n) r
 
 -- where the record of this id has this status
-abbrev pub with_status : Status → ℕ → Repository → Repository
+abbrev pub with_status : Status → ℕ → TypedCatalog → TypedCatalog
 with_status st n r = piece_changed (λ p. record p { status = st }) n (log_changed (λ e. record e { status = st }) n r)
 
 -- where it is kept forever, or not
-abbrev pub with_keep : Bool → ℕ → Repository → Repository
+abbrev pub with_keep : Bool → ℕ → TypedCatalog → TypedCatalog
 with_keep keep n r = piece_changed (λ p. record p { keep = keep }) n (log_changed (λ e. record e { keep = keep }) n r)
 
 -- without the record of this id
-abbrev pub without_record : ℕ → Repository → Repository
+abbrev pub without_record : ℕ → TypedCatalog → TypedCatalog
 without_record n r = without_piece (without_log r n) n
 
 -- the catalog after CHANGE BACKUP
-abbrev pub changed_to : ChangeTo → ℕ → Repository → Repository
+abbrev pub changed_to : ChangeTo → ℕ → TypedCatalog → TypedCatalog
 changed_to Available n r = with_status status.Available n r
 changed_to Unavailable n r = with_status status.Unavailable n r
 changed_to Uncatalog n r = without_record n r
@@ -87,7 +87,7 @@ abbrev pub IsChangeOutcome : State → ℕ → ChangeTo → Outcome → Type 0
 IsChangeOutcome s n to o = o ≡ done (change_line to n ∷ []) no_effect (with_catalog s (changed_to to n s.catalog))
 
 -- the name of the object of the record of this id
-abbrev pub names_at : ℕ → Repository → List (List ℕ)
+abbrev pub names_at : ℕ → TypedCatalog → List (List ℕ)
 names_at n r = map (λ e. log_name e.id) (filter (λ e. e.id == n) r.ledger.logs) ++ map (λ p. piece_name p.copy p.id) (filter (λ p. p.id == n) r.ledger.pieces)
 
 -- an effect by which these names go
@@ -99,7 +99,7 @@ abbrev pub IsDeleteOutcome : State → ℕ → Outcome → Type 0
 IsDeleteOutcome s n o = o ≡ done (line.Deleted n ∷ line.DeletedCount 1 ∷ []) (removing (names_at n s.catalog)) (with_catalog s (without_record n s.catalog))
 
 -- with these statuses, one after another
-abbrev pub with_statuses : List (ℕ × Status) → Repository → Repository
+abbrev pub with_statuses : List (ℕ × Status) → TypedCatalog → TypedCatalog
 with_statuses [] r = r
 with_statuses (x ∷ xs) r = with_statuses xs (with_status x.1 x.0 r)
 
@@ -114,13 +114,13 @@ pub record IsExpired (rs : List Record) (class : Class) (n : ℕ) : Type 0 where
   pub row : Record
   pub there : Contains rs row
   pub of : is_of class row ≡ true
-  pub object : Object
+  pub object : Expected
   pub is : object_in row ≡ Some object
   pub status : object.status ≡ status.Expired
   pub id : object.id ≡ n
 
 -- without these records, one after another
-abbrev pub without_all : List ℕ → Repository → Repository
+abbrev pub without_all : List ℕ → TypedCatalog → TypedCatalog
 without_all [] r = r
 without_all (n ∷ ns) r = without_all ns (without_record n r)
 

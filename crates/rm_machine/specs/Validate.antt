@@ -6,9 +6,9 @@ use Rattle.rm_base.specs.declared.kinds.Status.{Status}
 use Rattle.rm_base.specs.declared.kinds.Status.TheVariants.{Available}
 use Rattle.rm_evidence.specs.Available.{IsSkipped}
 use Rattle.rm_evidence.specs.Gathered.{Lists}
-use Rattle.rm_ledger.specs.Ledger.{Ledger}
+use Rattle.rm_catalog_typed.specs.Ledger.{Ledger}
 use Rattle.rm_report.specs.declared.line.Line.TheVariants.{BadOf, Checked}
-use Rattle.rm_repository.specs.Repository.{records_of}
+use Rattle.rm_catalog_typed.specs.TypedCatalog.{records_of}
 use Rattle.rm_machine.specs.Effect.{Outcome, told}
 use Rattle.rm_machine.specs.declared.state.State.{State}
 use Rattle.rm_machine.specs.State.{ledger}

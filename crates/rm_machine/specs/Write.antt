@@ -9,8 +9,8 @@ use Rattle.rm_base.specs.declared.refusal.Absent.TheVariants.{Thread, File, Bloc
 use Rattle.rm_base.specs.declared.refusal.Limit.TheVariants.{Records, ObjectIds, LogRecords}
 use Rattle.rm_blocks.specs.File.{written}
 use Rattle.rm_history.specs.declared.world.Datafile.{Datafile}
-use Rattle.rm_redo.specs.Online.{records_of, with_change}
-use Rattle.rm_statement.specs.declared.command.WriteForm.{WriteForm}
+use Rattle.rm_redo.specs.Online.{thread_records, with_change}
+use Rattle.rm_lang_statement.specs.declared.command.WriteForm.{WriteForm}
 use Rattle.rm_report.specs.declared.line.Line.TheVariants.{Written}
 use Rattle.rm_machine.specs.Effect.{Outcome, done, no_effect}
 use Rattle.rm_machine.specs.Marks.{lacks_ids, lacks_room, marks_before, one_further}
@@ -24,7 +24,7 @@ block_refusal s w d =
     else if is_none (placed s w.file) then Some (Rm09 w.file)
     else if lacks_room s (length (marks_before s)) then Some (Rm11 Records)
     else if lacks_ids s 0 then Some (Rm11 ObjectIds)
-    else if nat_le 65536 (length (records_of s.instance.logs w.thread)) then Some (Rm11 LogRecords)
+    else if nat_le 65536 (length (thread_records s.instance.logs w.thread)) then Some (Rm11 LogRecords)
     else if nat_le last_scn (now_of s) then Some Rm15
     else None
 

@@ -2,7 +2,7 @@
 ghost use Rattle.std.specs.Prelude.{◌≡◌, [], ◌∷◌, IfOk};
 
 use rm_base::{NoMemory, Seq, Text};
-use rm_change::Object;
+use rm_commit::Object;
 use rm_report::Line;
 use std::alloc::Global;
 

@@ -1,8 +1,8 @@
 //! A database as it is at hand: its catalog, and what runs. Nothing stands in both.
 use rm_base::{Scn, Seq};
 use rm_blocks::DataFile;
+use rm_catalog_typed::TypedCatalog;
 use rm_redo::OnlineLogs;
-use rm_repository::Catalog;
 
 /// What runs: nothing of it stands in the catalog.
 #[derive(Drop)]
@@ -21,6 +21,6 @@ pub struct Instance {
 /// A database.
 #[derive(Drop)]
 pub struct State {
-    pub catalog: Catalog,
+    pub catalog: TypedCatalog,
     pub instance: Instance,
 }

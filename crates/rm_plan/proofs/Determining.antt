@@ -20,12 +20,12 @@ use Rattle.rm_history.specs.declared.world.World.{World}
 use Rattle.rm_history.specs.Tree.{HasParentsBelow, IsThere, owner, reset_of}
 use Rattle.rm_history.specs.World.{IsThread, creation_of, file_of}
 use Rattle.rm_history.proofs.Owners.{owner-begun, owner-here}
-use Rattle.rm_known.specs.Evidence as known
-use Rattle.rm_known.specs.FirstGap.{HasGap, IsTarget}
-use Rattle.rm_known.specs.Known.{Determined, HasLog, IsGreatest, Quiet, Seen, by_absence, by_creation, by_log, by_logs, by_row}
-use Rattle.rm_known.specs.Unknown.{IsWorld}
-use Rattle.rm_known.proofs.Facts.{told-is-true, behind-a-gap}
-use Rattle.rm_objects.specs.Database.{IsCreated, IsSoundWorld}
+use Rattle.rm_history.specs.Evidence as known
+use Rattle.rm_history.specs.FirstGap.{HasGap, IsTarget}
+use Rattle.rm_history.specs.Known.{Determined, HasLog, IsGreatest, Quiet, Seen, by_absence, by_creation, by_log, by_logs, by_row}
+use Rattle.rm_history.specs.Unknown.{IsWorld}
+use Rattle.rm_history.proofs.Facts.{told-is-true, behind-a-gap}
+use Rattle.rm_evidence.specs.Database.{IsCreated, IsSoundWorld}
 use Rattle.rm_piece.specs.Artefacts.{level1_of}
 use Rattle.rm_piece.specs.declared.piece.Piece.{Piece}
 use Rattle.rm_piece.specs.Valid.{IsRow}

@@ -4,7 +4,7 @@ use Rattle.std.specs.Result.{IsErrAnd}
 use Rattle.rm_base.specs.declared.block.Part.{Part}
 use Rattle.rm_history.specs.declared.world.World.{World}
 use Rattle.rm_history.specs.World.{blocks_of}
-use Rattle.rm_known.specs.Evidence.{Evidence}
+use Rattle.rm_history.specs.Evidence.{Evidence}
 use Rattle.rm_plan.specs.declared.plan.PlanFault.{PlanFault}
 use Rattle.rm_plan.specs.declared.plan.PlanFault.TheVariants as fault
 use Rattle.rm_plan.specs.Plan.{AreParts, IsFault, IsFileFault}

@@ -5,9 +5,9 @@ ghost use Rattle.rm_catalog.specs.Trees.{nodes};
 ghost use Rattle.rm_evidence.specs.Known.{FitsTree, known_of};
 ghost use Rattle.rm_history.specs.Tree.{IsThere};
 ghost use Rattle.rm_history.specs.World.{exists, file_of};
-ghost use Rattle.rm_known.specs.FirstGap.{IsFirstGap, IsRecoverable};
-ghost use Rattle.rm_known.specs.Unknown.{IsUnknown};
-ghost use Rattle.rm_objects.specs.Database.{world_of};
+ghost use Rattle.rm_history.specs.FirstGap.{IsFirstGap, IsRecoverable};
+ghost use Rattle.rm_history.specs.Unknown.{IsUnknown};
+ghost use Rattle.rm_evidence.specs.Database.{world_of};
 ghost use Rattle.rm_plan.specs.FirstGap.{FileDetermined, IsGapOfFile};
 ghost use Rattle.rm_plan.specs.Plan.{DeterminedBelow, IsFileTarget, NamesFirstGap};
 
@@ -16,9 +16,8 @@ use crate::survey::{survey_file, tell_block};
 use crate::target::Target;
 use rm_base::{FileNo, IncNo, NoMemory, Scn};
 use rm_catalog::Catalog;
-use rm_evidence::Evidence;
+use rm_evidence::{Evidence, datafile};
 use rm_history::Datafile;
-use rm_objects::datafile;
 use std::alloc::Global;
 
 // The greatest number of a datafile.

@@ -2,8 +2,8 @@
 ghost use Rattle.std.specs.Prelude.{List};
 ghost use Rattle.rm_catalog.specs.declared.record.Record.{Record};
 ghost use Rattle.rm_catalog.specs.Rules.{HasDatabase, IsCatalog};
-ghost use Rattle.rm_known.specs.Unknown.{IsWorld};
-ghost use Rattle.rm_objects.specs.Database.{world_of};
+ghost use Rattle.rm_history.specs.Unknown.{IsWorld};
+ghost use Rattle.rm_evidence.specs.Database.{world_of};
 
 /// The database of a catalog is one of which the laws on gaps speak: its incarnations are a tree, and each
 /// datafile was created at or above the resetlogs SCN of its incarnation.

@@ -5,8 +5,8 @@ ghost use Rattle.rm_catalog.specs.Trees.{nodes};
 ghost use Rattle.rm_evidence.specs.Known.{FitsTree, known_of};
 ghost use Rattle.rm_history.specs.World.{file_of};
 ghost use Rattle.rm_history.specs.declared.world.World.{World};
-ghost use Rattle.rm_known.specs.FirstGap.{IsTarget};
-ghost use Rattle.rm_objects.specs.Database.{world_of};
+ghost use Rattle.rm_history.specs.FirstGap.{IsTarget};
+ghost use Rattle.rm_evidence.specs.Database.{world_of};
 ghost use Rattle.rm_plan.specs.Covers.{HaveSortedRows};
 ghost use Rattle.rm_plan.specs.Plan.{IsFault, IsFileTarget, Tells};
 ghost use Rattle.rm_plan.specs.Spans.{AreApart, IsAscending};
@@ -20,9 +20,8 @@ use crate::target::Target;
 use crate::ways::{owner_of, ways};
 use rm_base::{FileNo, IncNo, NoMemory, Scn};
 use rm_catalog::Catalog;
-use rm_evidence::Evidence;
+use rm_evidence::{Evidence, threads};
 use rm_history::Datafile;
-use rm_objects::threads;
 use std::alloc::Global;
 
 /// What the evidence tells of a datafile until a target, before its blocks are looked at one by one.

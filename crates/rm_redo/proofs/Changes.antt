@@ -5,9 +5,9 @@ use Rattle.std.proofs.lemmas.List.Elements.{All-head, All-tail, All-weaker}
 use Rattle.rm_base.specs.declared.block.Change.{Change}
 use Rattle.rm_redo.specs.declared.online.LogRecord.{LogRecord}
 use Rattle.rm_redo.specs.Logs.{Logs}
-use Rattle.rm_redo.specs.Online.{IsThread, record_of, records_of, first_of, switched, with_change, with_changes}
+use Rattle.rm_redo.specs.Online.{IsThread, record_of, thread_records, first_of, switched, with_change, with_changes}
 use Rattle.rm_redo.specs.LogFile.{changes_of, is_of_thread, log_file_of}
-use Rattle.rm_redo.proofs.Logs.{IsAround, around-with_change, around-switched, IsThread-switched, IsThread-with_change, records_of-switched, records_of-with_change, records_of-with_change_other}
+use Rattle.rm_redo.proofs.Logs.{IsAround, around-with_change, around-switched, IsThread-switched, IsThread-with_change, thread_records-switched, thread_records-with_change, thread_records-with_change_other}
 
 -- as many threads, of the same incarnation and database
 pub around-with_changes : (logs : Logs) (h : List Change) → IsAround logs (with_changes logs h)
@@ -25,24 +25,24 @@ abbrev records_in : ℕ → List Change → List LogRecord
 records_in t h = map record_of (filter (is_of_thread t) h)
 
 -- one change more of the thread, or of another
-step : (logs : Logs) (c : Change) (cs : List Change) (t : ℕ) → IsThread logs c.thread → IsThread logs t → records_of (with_change logs c) t ++ records_in t cs ≡ records_of logs t ++ records_in t (c ∷ cs)
+step : (logs : Logs) (c : Change) (cs : List Change) (t : ℕ) → IsThread logs c.thread → IsThread logs t → thread_records (with_change logs c) t ++ records_in t cs ≡ thread_records logs t ++ records_in t (c ∷ cs)
 step logs c cs t there here = elim (cases_eq c.thread t) [
   | inl same ↦
-      ap (λ xs. xs ++ records_in t cs) (subst (λ n. records_of (with_change logs c) n ≡ records_of logs n ++ record_of c ∷ []) same (records_of-with_change logs c there))
-      ∙ append_assoc (records_of logs t) (record_of c ∷ []) (records_in t cs)
-      ∙ ap (λ b. records_of logs t ++ map record_of (cond b (c ∷ filter (is_of_thread t) cs) (filter (is_of_thread t) cs))) (sym (eq-eqb c.thread t same))
+      ap (λ xs. xs ++ records_in t cs) (subst (λ n. thread_records (with_change logs c) n ≡ thread_records logs n ++ record_of c ∷ []) same (thread_records-with_change logs c there))
+      ∙ append_assoc (thread_records logs t) (record_of c ∷ []) (records_in t cs)
+      ∙ ap (λ b. thread_records logs t ++ map record_of (cond b (c ∷ filter (is_of_thread t) cs) (filter (is_of_thread t) cs))) (sym (eq-eqb c.thread t same))
   | inr other ↦
-      ap (λ xs. xs ++ records_in t cs) (records_of-with_change_other logs c t there.0 here.0 (λ e. other (sym e)))
-      ∙ ap (λ b. records_of logs t ++ map record_of (cond b (c ∷ filter (is_of_thread t) cs) (filter (is_of_thread t) cs))) (sym (ne_eqb c.thread t other))
+      ap (λ xs. xs ++ records_in t cs) (thread_records-with_change_other logs c t there.0 here.0 (λ e. other (sym e)))
+      ∙ ap (λ b. thread_records logs t ++ map record_of (cond b (c ∷ filter (is_of_thread t) cs) (filter (is_of_thread t) cs))) (sym (ne_eqb c.thread t other))
 ]
 
 -- each thread's log has its changes at its end
-pub records_of-with_changes : (logs : Logs) (h : List Change) (t : ℕ) → All (λ c. IsThread logs c.thread) h → IsThread logs t → records_of (with_changes logs h) t ≡ records_of logs t ++ records_in t h
-records_of-with_changes logs [] t all here = sym (append-nothing (records_of logs t))
-records_of-with_changes logs (c ∷ cs) t all here =
+pub thread_records-with_changes : (logs : Logs) (h : List Change) (t : ℕ) → All (λ c. IsThread logs c.thread) h → IsThread logs t → thread_records (with_changes logs h) t ≡ thread_records logs t ++ records_in t h
+thread_records-with_changes logs [] t all here = sym (append-nothing (thread_records logs t))
+thread_records-with_changes logs (c ∷ cs) t all here =
     let there : IsThread logs c.thread = All-head (λ c. IsThread logs c.thread) c cs all in
     let rest : All (λ d. IsThread (with_change logs c) d.thread) cs = All-weaker (λ d. IsThread logs d.thread) (λ d. IsThread (with_change logs c) d.thread) (λ d is. IsThread-with_change logs c d.thread is) cs (All-tail (λ c. IsThread logs c.thread) c cs all) in
-    records_of-with_changes (with_change logs c) cs t rest (IsThread-with_change logs c t here) ∙ step logs c cs t there here
+    thread_records-with_changes (with_change logs c) cs t rest (IsThread-with_change logs c t here) ∙ step logs c cs t there here
 
 -- a record as the change of which it tells
 abbrev told : ℕ → ℕ → LogRecord → Change
@@ -71,7 +71,7 @@ log-holds logs t now next h there other all =
     let threads : All (λ c. IsThread new c.thread) h = All-weaker (λ c. IsThread logs c.thread × (c.inc ≡ logs.inc)) (λ c. IsThread new c.thread) (λ c is. IsThread-switched logs t c.thread now is.0) h all in
     let inc : last.inc ≡ logs.inc = (around-with_changes new h).inc ∙ (around-switched logs t now).inc in
     let incs : All (λ c. c.inc ≡ last.inc) h = All-weaker (λ c. IsThread logs c.thread × (c.inc ≡ logs.inc)) (λ c. c.inc ≡ last.inc) (λ c is. is.1 ∙ sym inc) h all in
-    let records : records_of last t ≡ records_in t h =
-    records_of-with_changes new h t threads (IsThread-switched logs t t now there)
-    ∙ ap (λ xs. xs ++ records_in t h) (records_of-switched logs t now there other) in
+    let records : thread_records last t ≡ records_in t h =
+    thread_records-with_changes new h t threads (IsThread-switched logs t t now there)
+    ∙ ap (λ xs. xs ++ records_in t h) (thread_records-switched logs t now there other) in
     ap (map (told last.inc t)) records ∙ told-all last.inc t h incs

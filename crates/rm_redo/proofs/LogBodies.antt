@@ -8,7 +8,7 @@ use Rattle.rm_base.proofs.Wide.{length-four, length-eight, fronts_same, four_sam
 use Rattle.rm_redo.specs.declared.log_file.LogFile.{LogFile}
 use Rattle.rm_redo.specs.declared.online.LogRecord.{LogRecord}
 use Rattle.rm_redo.specs.LogFits.{RecordFits, HeadFits, Fits}
-use Rattle.rm_redo.specs.LogFormat.{opening, record_bytes, head_bytes, body_of}
+use Rattle.rm_redo.specs.LogFormat.{magic, record_bytes, head_bytes, body_of}
 
 -- ---- records
 
@@ -40,7 +40,7 @@ length-records records fits = length-items record_bytes RecordFits 80 length-rec
 -- ---- the head
 
 -- each field, and what follows it
-pub head_fields : (l : LogFile) (n : ℕ) (x : List ℕ) → head_bytes l n ++ x ≡ opening ++ (four l.dbid ++ (four l.inc ++ (l.thread ∷ (four l.sequence ++ (eight l.first ++ (eight l.next ++ (four n ++ x)))))))
+pub head_fields : (l : LogFile) (n : ℕ) (x : List ℕ) → head_bytes l n ++ x ≡ magic ++ (four l.dbid ++ (four l.inc ++ (l.thread ∷ (four l.sequence ++ (eight l.first ++ (eight l.next ++ (four n ++ x)))))))
 unfolding head_bytes
 head_fields l n x = simp append_assoc
 
@@ -59,15 +59,15 @@ pub record SameHead (l m : LogFile) (i n : ℕ) (x y : List ℕ) : Type 0 where
   pub count : i ≡ n
   pub rest : x ≡ y
 
-opening_same : (x y : List ℕ) → opening ++ x ≡ opening ++ y → x ≡ y
-opening_same x y e = cc
+magic_same : (x y : List ℕ) → magic ++ x ≡ magic ++ y → x ≡ y
+magic_same x y e = cc
 
 byte_same : (a b : ℕ) (x y : List ℕ) → a ∷ x ≡ b ∷ y → (a ≡ b) × (x ≡ y)
 byte_same a b x y e = (cc, cc)
 
 pub head_same : (l m : LogFile) (i n : ℕ) (x y : List ℕ) → HeadFits l → HeadFits m → i < 2 ^ 32 → n < 2 ^ 32 → head_bytes l i ++ x ≡ head_bytes m n ++ y → SameHead l m i n x y
 head_same l m i n x y fl fm fi fn e =
-    let opened = opening_same _ _ (sym (head_fields l i x) ∙ e ∙ head_fields m n y) in
+    let opened = magic_same _ _ (sym (head_fields l i x) ∙ e ∙ head_fields m n y) in
     let dbid = four_same l.dbid m.dbid _ _ fl.dbid fm.dbid opened in
     let inc = four_same l.inc m.inc _ _ fl.inc fm.inc dbid.1 in
     let thread = byte_same _ _ _ _ inc.1 in

@@ -11,7 +11,7 @@ use Rattle.rm_base.specs.declared.block.Change.{Change}
 use Rattle.rm_redo.specs.declared.online.LogRecord.{LogRecord}
 use Rattle.rm_redo.specs.declared.online.ThreadLog.{ThreadLog}
 use Rattle.rm_redo.specs.Logs.{Logs, IsBefore, IsLog, IsLogs}
-use Rattle.rm_redo.specs.Online.{IsThread, IsLost, record_of, records_of, first_of, sequence_of, with_log, with_record, with_change, begun_anew, switched, with_loss, fresh_log}
+use Rattle.rm_redo.specs.Online.{IsThread, IsLost, record_of, thread_records, first_of, sequence_of, with_log, with_record, with_change, begun_anew, switched, with_loss, fresh_log}
 
 pub fresh-is_log : (first : ℕ) → 0 < first → IsLog (fresh_log first)
 fresh-is_log first begun = record {
@@ -180,23 +180,23 @@ pushed-by r None some = absurd (some refl)
 pushed-by r (Some l) some = refl
 
 -- the thread's log has the change at its end
-pub records_of-with_change : (logs : Logs) (c : Change) → IsThread logs c.thread → records_of (with_change logs c) c.thread ≡ records_of logs c.thread ++ record_of c ∷ []
-records_of-with_change logs c there =
+pub thread_records-with_change : (logs : Logs) (c : Change) → IsThread logs c.thread → thread_records (with_change logs c) c.thread ≡ thread_records logs c.thread ++ record_of c ∷ []
+thread_records-with_change logs c there =
     field-with_log (λ l. l.records) [] (with_record (record_of c)) logs c.thread there
     ∙ pushed-by (record_of c) (slice_get logs.threads (c.thread - 1)) (is-there logs c.thread there)
 
 -- and the other logs are as they were
-pub records_of-with_change_other : (logs : Logs) (c : Change) (t : ℕ) → 0 < c.thread → 0 < t → t ≢ c.thread → records_of (with_change logs c) t ≡ records_of logs t
-records_of-with_change_other logs c t here there other =
+pub thread_records-with_change_other : (logs : Logs) (c : Change) (t : ℕ) → 0 < c.thread → 0 < t → t ≢ c.thread → thread_records (with_change logs c) t ≡ thread_records logs t
+thread_records-with_change_other logs c t here there other =
     ap (λ o. option_map_or (λ l. l.records) o []) (other-with_log (with_record (record_of c)) logs c.thread t here there other)
 
 -- what is true of the records and of the change is true of all records after it
-pub All-records-with_change : (P : LogRecord → Type 0) (logs : Logs) (c : Change) (t : ℕ) → IsThread logs c.thread → 0 < t → All P (records_of logs t) → P (record_of c) → All P (records_of (with_change logs c) t)
+pub All-records-with_change : (P : LogRecord → Type 0) (logs : Logs) (c : Change) (t : ℕ) → IsThread logs c.thread → 0 < t → All P (thread_records logs t) → P (record_of c) → All P (thread_records (with_change logs c) t)
 All-records-with_change P logs c t there here all new = elim (cases_eq t c.thread) [
   | inl same ↦
-      let grown = All-push P (records_of logs c.thread) (record_of c) (subst (λ n. All P (records_of logs n)) same all) new in
-      subst (λ n. All P (records_of (with_change logs c) n)) (sym same) (subst (All P) (sym (records_of-with_change logs c there)) grown)
-  | inr other ↦ subst (All P) (sym (records_of-with_change_other logs c t there.0 here other)) all
+      let grown = All-push P (thread_records logs c.thread) (record_of c) (subst (λ n. All P (thread_records logs n)) same all) new in
+      subst (λ n. All P (thread_records (with_change logs c) n)) (sym same) (subst (All P) (sym (thread_records-with_change logs c there)) grown)
+  | inr other ↦ subst (All P) (sym (thread_records-with_change_other logs c t there.0 here other)) all
 ]
 
 -- A switch
@@ -256,9 +256,9 @@ sequence_of-switched logs t now there other =
     ∙ next-by (slice_get logs.threads (t - 1)) (is-there logs t there)
 
 -- and no record
-pub records_of-switched : (logs : Logs) (t now : ℕ) → IsThread logs t → first_of logs t ≢ now → records_of (switched logs t now) t ≡ []
-records_of-switched logs t now there other =
-    ap (λ x. records_of x t) (switched-anew logs t now other)
+pub thread_records-switched : (logs : Logs) (t now : ℕ) → IsThread logs t → first_of logs t ≢ now → thread_records (switched logs t now) t ≡ []
+thread_records-switched logs t now there other =
+    ap (λ x. thread_records x t) (switched-anew logs t now other)
     ∙ field-with_log (λ l. l.records) [] (begun_anew now) logs t there
     ∙ alike-by [] (slice_get logs.threads (t - 1))
 
@@ -273,17 +273,17 @@ first_of-switched_other logs t u now here there other = ap (λ o. option_map_or 
 pub sequence_of-switched_other : (logs : Logs) (t u now : ℕ) → 0 < t → 0 < u → u ≢ t → sequence_of (switched logs t now) u ≡ sequence_of logs u
 sequence_of-switched_other logs t u now here there other = ap (λ o. option_map_or (λ l. l.sequence) o 0) (other-switched logs t u now here there other)
 
-pub records_of-switched_other : (logs : Logs) (t u now : ℕ) → 0 < t → 0 < u → u ≢ t → records_of (switched logs t now) u ≡ records_of logs u
-records_of-switched_other logs t u now here there other = ap (λ o. option_map_or (λ l. l.records) o []) (other-switched logs t u now here there other)
+pub thread_records-switched_other : (logs : Logs) (t u now : ℕ) → 0 < t → 0 < u → u ≢ t → thread_records (switched logs t now) u ≡ thread_records logs u
+thread_records-switched_other logs t u now here there other = ap (λ o. option_map_or (λ l. l.records) o []) (other-switched logs t u now here there other)
 
 -- what is true of all records stays true of all
-pub All-records-switched : (P : LogRecord → Type 0) (logs : Logs) (t u now : ℕ) → IsThread logs t → 0 < u → All P (records_of logs u) → All P (records_of (switched logs t now) u)
+pub All-records-switched : (P : LogRecord → Type 0) (logs : Logs) (t u now : ℕ) → IsThread logs t → 0 < u → All P (thread_records logs u) → All P (thread_records (switched logs t now) u)
 All-records-switched P logs t u now there here all = elim (cases_eq u t) [
   | inl same ↦ elim (cases_eq (first_of logs t) now) [
-    | inl stays ↦ subst (λ x. All P (records_of x u)) (sym (switched-stays logs t now stays)) all
-    | inr anew ↦ subst (All P) (sym (ap (records_of (switched logs t now)) same ∙ records_of-switched logs t now there anew)) (All-nil P)
+    | inl stays ↦ subst (λ x. All P (thread_records x u)) (sym (switched-stays logs t now stays)) all
+    | inr anew ↦ subst (All P) (sym (ap (thread_records (switched logs t now)) same ∙ thread_records-switched logs t now there anew)) (All-nil P)
   ]
-  | inr other ↦ subst (All P) (sym (records_of-switched_other logs t u now there.0 here other)) all
+  | inr other ↦ subst (All P) (sym (thread_records-switched_other logs t u now there.0 here other)) all
 ]
 
 -- no log is lost or found
@@ -327,8 +327,8 @@ first_of-with_loss logs t u = kept-with_log (λ l. l.first) 0 as_lost (λ l. ref
 pub sequence_of-with_loss : (logs : Logs) (t u : ℕ) → sequence_of (with_loss logs t) u ≡ sequence_of logs u
 sequence_of-with_loss logs t u = kept-with_log (λ l. l.sequence) 0 as_lost (λ l. refl) logs t u
 
-pub records_of-with_loss : (logs : Logs) (t u : ℕ) → records_of (with_loss logs t) u ≡ records_of logs u
-records_of-with_loss logs t u = kept-with_log (λ l. l.records) [] as_lost (λ l. refl) logs t u
+pub thread_records-with_loss : (logs : Logs) (t u : ℕ) → thread_records (with_loss logs t) u ≡ thread_records logs u
+thread_records-with_loss logs t u = kept-with_log (λ l. l.records) [] as_lost (λ l. refl) logs t u
 
 -- the thread's log is lost
 pub IsLost-with_loss : (logs : Logs) (t : ℕ) → IsThread logs t → IsLost (with_loss logs t) t

@@ -5,12 +5,12 @@ use Rattle.rm_history.specs.Artefacts.{Log}
 use Rattle.rm_redo.specs.declared.online.LogRecord.{LogRecord}
 use Rattle.rm_redo.specs.declared.log_file.LogFile.{LogFile}
 use Rattle.rm_redo.specs.Logs.{Logs}
-use Rattle.rm_redo.specs.Online.{first_of, records_of, sequence_of}
+use Rattle.rm_redo.specs.Online.{first_of, thread_records, sequence_of}
 
 -- the log of a thread, which tells up to, and without, `next`
 abbrev pub log_file_of : Logs → ℕ → ℕ → LogFile
 log_file_of logs t next =
-    record { dbid = logs.dbid; inc = logs.inc; thread = t; sequence = sequence_of logs t; first = first_of logs t; next = next; records = records_of logs t }
+    record { dbid = logs.dbid; inc = logs.inc; thread = t; sequence = sequence_of logs t; first = first_of logs t; next = next; records = thread_records logs t }
 
 -- the changes of which records of a thread tell
 abbrev pub changes_in : ℕ → ℕ → List LogRecord → List Change

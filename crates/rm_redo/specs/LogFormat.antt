@@ -26,12 +26,12 @@ pub record IsLogFile (l : LogFile) : Type 0 where
   pub records : All (IsLogRecord l.first l.next) l.records
 
 -- "RMLG" and the format's number
-abbrev pub opening : List ℕ
-opening = codes "RMLG" ++ 1 ∷ []
+abbrev pub magic : List ℕ
+magic = codes "RMLG" ++ 1 ∷ []
 
 -- what stands before n records: 38 bytes
 unfoldable pub head_bytes : LogFile → ℕ → List ℕ
-head_bytes l n = opening
+head_bytes l n = magic
     ++ four l.dbid ++ four l.inc ++ l.thread ∷ [] ++ four l.sequence
     ++ eight l.first ++ eight l.next
     ++ four n

@@ -17,8 +17,8 @@ abbrev pub IsLost : Logs → ℕ → Type 0
 IsLost logs t = option_map_or (λ l. l.is_lost) (slice_get logs.threads (t - 1)) false ≡ true
 
 -- its records
-abbrev pub records_of : Logs → ℕ → List LogRecord
-records_of logs t = option_map_or (λ l. l.records) (slice_get logs.threads (t - 1)) []
+abbrev pub thread_records : Logs → ℕ → List LogRecord
+thread_records logs t = option_map_or (λ l. l.records) (slice_get logs.threads (t - 1)) []
 
 -- the SCN from which on its log tells
 abbrev pub first_of : Logs → ℕ → ℕ

@@ -4,7 +4,7 @@ ghost use Rattle.std.specs.List.{flat_map};
 ghost use Rattle.rm_base.specs.Formats.{Reads};
 ghost use Rattle.rm_redo.specs.declared.log_file.LogFile.{LogFile};
 ghost use Rattle.rm_redo.specs.LogFits.{RecordFits, HeadFits, Fits};
-ghost use Rattle.rm_redo.specs.LogFormat.{opening, head_bytes, record_bytes, body_of, spelling, IsLogFile};
+ghost use Rattle.rm_redo.specs.LogFormat.{magic, head_bytes, record_bytes, body_of, spelling, IsLogFile};
 
 use crate::log_file::LogFile;
 use crate::log_valid::is_valid_log;
@@ -16,10 +16,10 @@ use rm_base::{FormatFault, Seq};
 use std::alloc::{AllocError, Global};
 
 // What follows "RMLG" and the format's number.
-fn take_opening(bytes: &[u8]) -> Option<&[u8]>
-    ensures parts { IfSome result (λ rest. bytes.now ≡ opening ++ rest.now) }
+fn take_magic(bytes: &[u8]) -> Option<&[u8]>
+    ensures parts { IfSome result (λ rest. bytes.now ≡ magic ++ rest.now) }
     ensures len { IfSome result (λ rest. length bytes.now ≡ 5 + length rest.now) }
-    ensures none { IfNone result ((rest : List ℕ) → bytes.now ≢ opening ++ rest) }
+    ensures none { IfNone result ((rest : List ℕ) → bytes.now ≢ magic ++ rest) }
 {
     let [b'R', b'M', b'L', b'G', 1, rest @ ..] = bytes else {
         return None;
@@ -74,7 +74,7 @@ fn take_head(alloc: Global, bytes: &[u8]) -> Option<(LogFile, u32, &[u8])>
     ensures count { IfSome result (λ r. r.1 < 2 ^ 32) }
     ensures none { IfNone result ((l : LogFile) (n : ℕ) (rest : List ℕ) → bytes.now ≢ head_bytes l n ++ rest) }
 {
-    let rest = take_opening(bytes)?;
+    let rest = take_magic(bytes)?;
     let (dbid, rest) = take_u32(rest);
     let (inc, rest) = take_u32(rest);
     let (thread, rest) = take_u8(rest);

@@ -4,7 +4,7 @@ ghost use Rattle.rm_base.specs.Numbers.{last_scn};
 ghost use Rattle.rm_redo.specs.Logs.{IsLogs};
 ghost use Rattle.rm_redo.specs.LogFile.{log_file_of};
 ghost use Rattle.rm_redo.specs.LogFormat.{IsLogFile};
-ghost use Rattle.rm_redo.specs.Online.{IsThread, IsLost, are_lost, begun_anew, counted_as, fresh_logs, logs_of, thread_log, with_change, with_loss, switched, records_of, first_of, sequence_of};
+ghost use Rattle.rm_redo.specs.Online.{IsThread, IsLost, are_lost, begun_anew, counted_as, fresh_logs, logs_of, thread_log, with_change, with_loss, switched, thread_records, first_of, sequence_of};
 
 use crate::log_file::LogFile;
 use rm_base::{Block, BlockNo, Change, FileNo, IncNo, NoMemory, Scn, Seq, ThreadNo};
@@ -177,9 +177,9 @@ impl OnlineLogs {
         requires inc { change.inc ≡ self.old.inc }
         requires first { first_of self.old change.thread ≤ change.scn }
         requires last { change.scn < last_scn }
-        requires above { All (λ r. r.scn < change.scn) (records_of self.old change.thread) }
+        requires above { All (λ r. r.scn < change.scn) (thread_records self.old change.thread) }
         ensures ok { OnOk result (self.new ≡ with_change self.old change) }
-        ensures full { IsErrOf result LogFault.Full ↔ (length (records_of self.old change.thread) ≡ 65536) }
+        ensures full { IsErrOf result LogFault.Full ↔ (length (thread_records self.old change.thread) ≡ 65536) }
         ensures err { OnErr result (self.new ≡ self.old) }
     {
         let log = &mut self.threads[change.thread as usize - 1];
@@ -204,7 +204,7 @@ impl OnlineLogs {
         requires there { ¬ IsLost self.old thread }
         requires first { first_of self.old thread ≤ now }
         requires last { now ≤ last_scn }
-        requires above { All (λ r. r.scn < now) (records_of self.old thread) }
+        requires above { All (λ r. r.scn < now) (thread_records self.old thread) }
         requires sequence { sequence_of self.old thread < 4294967295 }
         ensures none { IfOk result (λ log. (log ≡ None) ↔ (first_of self.old thread ≡ now)) }
         ensures log { IfOk result (λ log. IfSome log (λ l. l ≡ log_file_of self.old thread now)) }
@@ -260,7 +260,7 @@ impl OnlineLogs {
     /// The records of a thread, by ascending SCN, datafile and block.
     pub fn records(&self, thread: ThreadNo) -> &[LogRecord]
         requires { IsThread self.now thread }
-        ensures { result.now ≡ records_of self.now thread }
+        ensures { result.now ≡ thread_records self.now thread }
     {
         self.threads[thread as usize - 1].records.as_slice()
     }
@@ -268,7 +268,7 @@ impl OnlineLogs {
     /// How many records a thread has.
     pub fn count(&self, thread: ThreadNo) -> u32
         requires { IsThread self.now thread }
-        ensures value { result ≡ length (records_of self.now thread) }
+        ensures value { result ≡ length (thread_records self.now thread) }
         ensures most { result ≤ 65536 }
     {
         self.threads[thread as usize - 1].records.len() as u32

@@ -12,12 +12,12 @@ use Rattle.rm_history.specs.State.{concerns, state}
 use Rattle.rm_history.proofs.Highs.{high-least, high-above}
 use Rattle.rm_history.proofs.Owners.{owner-owner}
 use Rattle.rm_history.proofs.States.{concerns-from}
-use Rattle.rm_known.specs.Evidence.{Evidence, Agrees}
-use Rattle.rm_known.specs.Known.{HasRow, in_base, in_level1, Seen, by_row, by_log, by_creation, Quiet, by_absence, by_logs}
-use Rattle.rm_known.specs.FirstGap.{IsDetermined}
-use Rattle.rm_known.proofs.Logs.{is_of-parts, listed-happened}
-use Rattle.rm_known.proofs.Sound.{row-state, row-is, seen-happened}
-use Rattle.rm_known.proofs.States.{created-first}
+use Rattle.rm_history.specs.Evidence.{Evidence, Agrees}
+use Rattle.rm_history.specs.Known.{HasRow, in_base, in_level1, Seen, by_row, by_log, by_creation, Quiet, by_absence, by_logs}
+use Rattle.rm_history.specs.FirstGap.{IsDetermined}
+use Rattle.rm_history.proofs.Logs.{is_of-parts, listed-happened}
+use Rattle.rm_history.proofs.Sound.{row-state, row-is, seen-happened}
+use Rattle.rm_history.proofs.KnownStates.{created-first}
 
 -- what an artefact of this incarnation tells below `high` of the path of i lies below n, as far as s
 abbrev pub IsLow : World → ℕ → ℕ → ℕ → ℕ → ℕ → Type 0

@@ -9,7 +9,7 @@ use Rattle.rm_catalog.specs.declared.record.Record.TheVariants as records
 use Rattle.rm_blocks.specs.File.{File}
 use Rattle.rm_evidence.specs.declared.evidence.Evidence.{Evidence}
 use Rattle.rm_evidence.specs.declared.evidence.InPlace.{InPlace}
-use Rattle.rm_evidence.specs.Available.{HasPiece}
+use Rattle.rm_evidence.specs.Available.{HasPieceObject}
 use Rattle.rm_evidence.specs.Gathered.{IsGathered, IsBaseOf, IsLevel1Of, IsLogOf, placed, placed_piece, dbid_in}
 use Rattle.rm_evidence.specs.Known.{known_of}
 use Rattle.rm_history.specs.declared.world.World.{World}
@@ -35,7 +35,7 @@ pub record PieceGone (r : Retention) (id : ℕ) (a : Piece) : Type 0 where
   pub described : Describes (backup_in entry) a.inc a.file a.checkpoint a.rows
   pub needless : IsNeedlessBackup r (backup_in entry)
 
-pub piece_described : (held : Held) (p : PieceEntry) (a : Piece) → HasPiece held p a → Describes (backup_in p) a.inc a.file a.checkpoint a.rows
+pub piece_described : (held : Held) (p : PieceEntry) (a : Piece) → HasPieceObject held p a → Describes (backup_in p) a.inc a.file a.checkpoint a.rows
 piece_described held p a has =
     let f = has.object.fields in
     record { inc = sym f.inc; file = sym f.file; checkpoint = sym f.checkpoint; high = sym f.high ∙ has.object.valid.high }
@@ -62,10 +62,10 @@ same_backup x y id inc file checkpoint high =
     ap first id ∙ ap second inc ∙ ap third file ∙ ap fourth checkpoint ∙ ap fifth high
 
 module _ (held now : Held) (rs left : List Record) (r : Retention) (cleared : IsCleared r rs left held now) where
-  piece_had : (p : PieceEntry) (a : Piece) → Contains left (records.Piece p) → HasPiece now p a → HasPiece held p a
+  piece_had : (p : PieceEntry) (a : Piece) → Contains left (records.Piece p) → HasPieceObject now p a → HasPieceObject held p a
   piece_had p a row has = record { status = has.status; bytes = has.bytes; there = sym (cleared.pieces p row) ∙ has.there; object = has.object }
 
-  pub piece_kept : (p : PieceEntry) (a : Piece) → Contains left (records.Piece p) → HasPiece held p a → HasPiece now p a
+  pub piece_kept : (p : PieceEntry) (a : Piece) → Contains left (records.Piece p) → HasPieceObject held p a → HasPieceObject now p a
   piece_kept p a row has = record { status = has.status; bytes = has.bytes; there = cleared.pieces p row ∙ has.there; object = has.object }
 
   pub base_had : (id : ℕ) (a : Piece) → IsBaseOf now left id a → IsBaseOf held rs id a

@@ -14,7 +14,7 @@ use Rattle.rm_evidence.proofs.Extending.{pairs-append, pairs-head, pairs-tail}
 use Rattle.rm_history.specs.declared.world.World.{World}
 use Rattle.rm_base.proofs.Members.{none-in}
 use Rattle.rm_base.proofs.Lists.{front_or_end, filter_from, filter_to, map_from, map_to}
-use Rattle.rm_objects.specs.Database.{current_in, world_of}
+use Rattle.rm_evidence.specs.Database.{current_in, world_of}
 use Rattle.rm_piece.specs.declared.piece.Piece.{Piece}
 use Rattle.rm_retain.specs.declared.copies.Backup.{Backup}
 use Rattle.rm_retain.specs.Chosen.{Retention, AscendById}

@@ -14,11 +14,11 @@ use Rattle.rm_history.specs.History.{IsChange, IsHistory}
 use Rattle.rm_history.specs.Agrees.{IsRow, BaseAgrees, LogAgrees}
 use Rattle.rm_history.proofs.Histories.{IsHistory-push_above}
 use Rattle.rm_history.proofs.Owners.{owner-first}
-use Rattle.rm_known.specs.Evidence.{Agrees}
-use Rattle.rm_known.specs.Known.{HasRow, in_base, in_level1, Seen, by_row, by_log, by_creation, Quiet, by_absence, by_logs, Determined}
-use Rattle.rm_known.specs.FirstGap.{IsTarget, IsDetermined}
-use Rattle.rm_known.specs.Unknown.{IsWorld}
-use Rattle.rm_known.proofs.Example as known
+use Rattle.rm_history.specs.Evidence.{Agrees}
+use Rattle.rm_history.specs.Known.{HasRow, in_base, in_level1, Seen, by_row, by_log, by_creation, Quiet, by_absence, by_logs, Determined}
+use Rattle.rm_history.specs.FirstGap.{IsTarget, IsDetermined}
+use Rattle.rm_history.specs.Unknown.{IsWorld}
+use Rattle.rm_history.proofs.Example as known
 use Rattle.rm_retain.specs.declared.copies.Backup.{Backup}
 use Rattle.rm_retain.specs.Chosen.{IsChosen, chosen, floor}
 use Rattle.rm_retain.specs.Example.{world, change, history, row, first, second, late, log, before, after, backup, window}

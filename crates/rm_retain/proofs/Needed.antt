@@ -5,8 +5,8 @@ use Rattle.rm_base.proofs.Lists.{at_end, front_or_end, in_front_part}
 use Rattle.rm_catalog.specs.declared.record.Record.{Record}
 use Rattle.rm_catalog.specs.Rules.{IsCatalog}
 use Rattle.rm_history.specs.World.{file_of}
-use Rattle.rm_objects.specs.Database.{world_of}
-use Rattle.rm_objects.proofs.Current.{file_number}
+use Rattle.rm_evidence.specs.Database.{world_of}
+use Rattle.rm_evidence.proofs.Current.{file_number}
 use Rattle.rm_retain.specs.declared.file_need.FileNeed.{FileNeed}
 use Rattle.rm_retain.specs.Chosen.{Retention}
 use Rattle.rm_retain.specs.Needs.{IsFileNeed, AreFileNeeds, HaveFileNeeds}

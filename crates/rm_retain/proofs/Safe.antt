@@ -11,9 +11,9 @@ use Rattle.rm_history.specs.Artefacts.{high_of}
 use Rattle.rm_history.specs.Tree.{owner, end_of}
 use Rattle.rm_history.specs.World.{creation_of, blocks_of}
 use Rattle.rm_history.proofs.Owners.{owner-owner}
-use Rattle.rm_known.specs.Evidence.{Evidence}
-use Rattle.rm_known.specs.Known.{Determined}
-use Rattle.rm_known.specs.FirstGap.{IsTarget, IsRecoverable}
+use Rattle.rm_history.specs.Evidence.{Evidence}
+use Rattle.rm_history.specs.Known.{Determined}
+use Rattle.rm_history.specs.FirstGap.{IsTarget, IsRecoverable}
 use Rattle.rm_retain.specs.Chosen.{Retention, is_before_window, IsChosen, floor}
 use Rattle.rm_retain.specs.Obsolete.{ClipsTo, IsOnPath}
 use Rattle.rm_retain.specs.Window.{IsInWindow}

@@ -12,10 +12,10 @@ use Rattle.rm_history.specs.declared.world.World.{World}
 use Rattle.rm_history.specs.Tree.{IsTree, owner}
 use Rattle.rm_history.specs.World.{creation_of, file_of}
 use Rattle.rm_history.specs.History.{IsHistory}
-use Rattle.rm_known.specs.Evidence.{Evidence, Agrees}
-use Rattle.rm_known.specs.Known.{Seen, by_creation, Determined}
-use Rattle.rm_known.specs.FirstGap.{IsTarget, IsDetermined}
-use Rattle.rm_known.proofs.Facts.{told-is-true}
+use Rattle.rm_history.specs.Evidence.{Evidence, Agrees}
+use Rattle.rm_history.specs.Known.{Seen, by_creation, Determined}
+use Rattle.rm_history.specs.FirstGap.{IsTarget, IsDetermined}
+use Rattle.rm_history.proofs.Facts.{told-is-true}
 use Rattle.rm_retain.proofs.AboveFloor.{Keeps, HasFloorCopy, agrees_kept, kept_above, kept_below}
 
 pub exists_parts : (c s o m : ℕ) → (nat_lt c s && (o == m)) ≡ true → (c < s) × (o ≡ m)

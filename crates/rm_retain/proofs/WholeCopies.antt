@@ -17,15 +17,15 @@ use Rattle.rm_catalog.specs.Objects.{FitsRows, FitsDatafile, PieceRule}
 use Rattle.rm_catalog.specs.Rules.{IsCatalog}
 use Rattle.rm_evidence.specs.declared.evidence.Evidence.{Evidence}
 use Rattle.rm_evidence.specs.declared.evidence.InPlace.{InPlace}
-use Rattle.rm_evidence.specs.Available.{HasPiece}
+use Rattle.rm_evidence.specs.Available.{HasPieceObject}
 use Rattle.rm_evidence.specs.Gathered.{IsGathered, placed, placed_piece, dbid_in}
 use Rattle.rm_evidence.proofs.Extending.{pairs-head, pairs-tail}
 use Rattle.rm_history.specs.declared.world.Datafile.{Datafile}
 use Rattle.rm_history.specs.World.{blocks_of}
 use Rattle.rm_base.proofs.Members.{in-front, behind}
-use Rattle.rm_objects.specs.Database.{created_by, world_of}
-use Rattle.rm_objects.proofs.Files.{file_of-is}
-use Rattle.rm_objects.proofs.Found.{obeys}
+use Rattle.rm_evidence.specs.Database.{created_by, world_of}
+use Rattle.rm_evidence.proofs.Files.{file_of-is}
+use Rattle.rm_evidence.proofs.Found.{obeys}
 use Rattle.rm_piece.specs.declared.piece.Piece.{Piece}
 use Rattle.rm_piece.specs.Artefacts.{base_of}
 use Rattle.rm_piece.specs.Valid.{IsRow, IsBefore, FitsKind}
@@ -96,7 +96,7 @@ entry_blocks rs p catalog held other = by (datafile p.file rs) refl rule.file
         ap (λ (o : Option Datafile). option_map_or (λ d. d.blocks) o 0) (file_of-is rs p.file catalog ∙ ap (λ (o : Option DatafileEntry). option_map created_by o) e)
         ∙ sym (entry_all p.kind p.rows f.blocks other fits.rows)
 
-piece_whole : (held : Held) (rs : List Record) (p : PieceEntry) (a : Piece) → IsCatalog rs → Contains rs (records.Piece p) → p.kind ≢ Level1 → HasPiece held p a → IsWhole (world_of rs) (base_of a)
+piece_whole : (held : Held) (rs : List Record) (p : PieceEntry) (a : Piece) → IsCatalog rs → Contains rs (records.Piece p) → p.kind ≢ Level1 → HasPieceObject held p a → IsWhole (world_of rs) (base_of a)
 piece_whole held rs p a catalog row other has b inside =
     let fields = has.object.fields in
     let valid = has.object.valid in

@@ -6,7 +6,7 @@ use Rattle.rm_catalog.specs.declared.record.Record.{Record}
 use Rattle.rm_catalog.specs.declared.record.Record.TheVariants.{Log, Piece}
 use Rattle.rm_catalog.specs.Keys.{key_of}
 use Rattle.rm_evidence.specs.declared.evidence.Evidence.{Evidence}
-use Rattle.rm_objects.specs.Database.{current_in, world_of}
+use Rattle.rm_evidence.specs.Database.{current_in, world_of}
 use Rattle.rm_piece.specs.declared.piece as artefact
 use Rattle.rm_retain.specs.declared.copies.Backup.{Backup}
 use Rattle.rm_retain.specs.Chosen.{Retention}

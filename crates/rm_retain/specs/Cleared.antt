@@ -5,7 +5,7 @@ use Rattle.rm_catalog.specs.declared.record.LogEntry.{LogEntry}
 use Rattle.rm_catalog.specs.declared.record.PieceEntry.{PieceEntry}
 use Rattle.rm_catalog.specs.declared.record.Record.{Record}
 use Rattle.rm_catalog.specs.declared.record.Record.TheVariants as records
-use Rattle.rm_objects.specs.Names.{log_name, piece_name}
+use Rattle.rm_evidence.specs.Names.{log_name, piece_name}
 use Rattle.rm_retain.specs.Chosen.{Retention}
 use Rattle.rm_retain.specs.Catalogued.{IsObsoleteRecord}
 

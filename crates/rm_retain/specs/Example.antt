@@ -6,7 +6,7 @@ use Rattle.rm_base.specs.declared.block.Row.{Row}
 use Rattle.rm_base.specs.declared.kinds.Policy.TheVariants.{Window}
 use Rattle.rm_history.specs.declared.world.World.{World}
 use Rattle.rm_history.specs.Artefacts.{Base, Log}
-use Rattle.rm_known.specs.Evidence.{Evidence}
+use Rattle.rm_history.specs.Evidence.{Evidence}
 use Rattle.rm_retain.specs.declared.copies.Backup.{Backup}
 use Rattle.rm_retain.specs.Chosen.{Retention}
 

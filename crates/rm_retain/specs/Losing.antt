@@ -8,8 +8,8 @@ use Rattle.rm_history.specs.Artefacts.{Base, Level1, Log, high_of}
 use Rattle.rm_history.specs.History.{IsHistory}
 use Rattle.rm_history.specs.Tree.{IsThere, end_of}
 use Rattle.rm_history.specs.World.{blocks_of}
-use Rattle.rm_known.specs.Evidence.{Evidence, Agrees}
-use Rattle.rm_known.specs.Unknown.{IsWorld}
+use Rattle.rm_history.specs.Evidence.{Evidence, Agrees}
+use Rattle.rm_history.specs.Unknown.{IsWorld}
 use Rattle.rm_retain.specs.declared.copies.Backup.{Backup}
 use Rattle.rm_retain.specs.Chosen.{Retention}
 use Rattle.rm_retain.specs.Obsolete.{IsNeedlessBackup, IsNeedlessLog}

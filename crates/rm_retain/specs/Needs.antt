@@ -4,7 +4,7 @@ use Rattle.std.specs.List.{list_any}
 use Rattle.rm_catalog.specs.declared.record.Record.{Record}
 use Rattle.rm_catalog.specs.Trees.{nodes}
 use Rattle.rm_history.specs.Tree.{IsThere}
-use Rattle.rm_objects.specs.Database.{current_in}
+use Rattle.rm_evidence.specs.Database.{current_in}
 use Rattle.rm_retain.specs.declared.file_need.FileNeed.{FileNeed}
 use Rattle.rm_retain.specs.declared.needs.Needs.{Needs}
 use Rattle.rm_retain.specs.Catalogued.{on_copies}

@@ -4,7 +4,7 @@ use Rattle.std.specs.Option.{option_map_or}
 use Rattle.std.proofs.lemmas.List.{drop_all}
 use Rattle.std.proofs.lemmas.Option.{slice_get-get_or}
 use Rattle.rm_catalog.specs.declared.record.PartEntry.{PartEntry}
-use Rattle.rm_change.specs.declared.change.Object.{Object}
+use Rattle.rm_commit.specs.declared.commit.Object.{Object}
 use Rattle.rm_machine.specs.declared.state.State.{State}
 use Rattle.rm_machine.specs.Saving.{SitePart, entry_of, log_parts, object_of, with_ids}
 use Rattle.rm_redo.specs.declared.online.ThreadLog.{ThreadLog}

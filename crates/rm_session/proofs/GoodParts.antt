@@ -7,7 +7,7 @@ use Rattle.rm_base.proofs.Lists.{find_cases}
 use Rattle.rm_catalog.specs.declared.record.PartEntry.{PartEntry}
 use Rattle.rm_history.specs.Agrees.{BaseAgrees, LogAgrees}
 use Rattle.rm_history.specs.declared.world.Datafile.{Datafile}
-use Rattle.rm_ledger.specs.Ledger.{Ledger}
+use Rattle.rm_catalog_typed.specs.Ledger.{Ledger}
 use Rattle.rm_piece.specs.declared.piece.Piece.{Piece}
 use Rattle.rm_piece.specs.Artefacts.{base_of}
 use Rattle.rm_piece.specs.Spelling as piece_format
@@ -18,7 +18,7 @@ use Rattle.rm_redo.specs.LogFile.{log_of}
 use Rattle.rm_redo.specs.LogFormat as log_format
 use Rattle.rm_redo.specs.LogFormat.{IsLogFile}
 use Rattle.rm_redo.proofs.LogFitting.{spelling_same as log_same}
-use Rattle.rm_repository.specs.Repository.{Saved}
+use Rattle.rm_catalog_typed.specs.TypedCatalog.{Saved}
 use Rattle.rm_machine.specs.Effect.{Artefact, Made, a_log, a_piece}
 use Rattle.rm_machine.specs.Machine.{IsTrueArtefact, PieceAgrees}
 use Rattle.rm_machine.specs.Rest.{HasPartArtefact, PartsTellFor}

@@ -4,7 +4,7 @@ use Rattle.std.proofs.lemmas.List.{length-replicate}
 use Rattle.std.proofs.lemmas.Option.{same_Some, slice_get-get_or, slice_get_within}
 use Rattle.rm_base.specs.Store.{Held}
 use Rattle.rm_blocks.specs.File.{File}
-use Rattle.rm_ledger.specs.Ledger.{Ledger}
+use Rattle.rm_catalog_typed.specs.Ledger.{Ledger}
 use Rattle.rm_machine.specs.Loading.{IsLoadedBy, inc_of_first, lost_instance, online_of, where_of}
 use Rattle.rm_machine.specs.Sound.{IsSound}
 use Rattle.rm_machine.specs.declared.state.Instance.{Instance}
@@ -12,8 +12,8 @@ use Rattle.rm_machine.specs.declared.state.State.{State}
 use Rattle.rm_machine.specs.State.{ledger}
 use Rattle.rm_redo.specs.Online.{logs_of}
 use Rattle.rm_redo.specs.declared.log_file.LogFile.{LogFile}
-use Rattle.rm_repository.specs.Facts.{IsRepository}
-use Rattle.rm_repository.specs.Repository.{Saved}
+use Rattle.rm_catalog_typed.specs.Facts.{IsTypedCatalog}
+use Rattle.rm_catalog_typed.specs.TypedCatalog.{Saved}
 use Rattle.rm_session.specs.Fit.{IsFit, IsFitBy, IsFitFile, IsFitLog, IsHadBy, IsPointBy, StandNow, with_point}
 use Rattle.rm_session.proofs.Sounds.{sound-fit, stand-now}
 
@@ -59,11 +59,11 @@ fit-lost : (l : Ledger) (i : Instance) → i ≡ lost_instance l → IsFit l not
 fit-lost l i is = subst (IsFit l nothing) (sym is) (lost-fits l)
 
 -- it is sound, whatever the store holds
-pub sound-by : (s : State) (o : Option Saved) → IsRepository s.catalog → (ledger s).base.dbid < 2 ^ 32 → IsFitBy (ledger s) o s.instance → IsSound s
+pub sound-by : (s : State) (o : Option Saved) → IsTypedCatalog s.catalog → (ledger s).base.dbid < 2 ^ 32 → IsFitBy (ledger s) o s.instance → IsSound s
 sound-by s None rules dbid fit = sound-fit s nothing rules (fit-lost (ledger s) s.instance fit) dbid
 sound-by s (Some site) rules dbid fit = sound-fit s site rules fit dbid
 
-pub stand-by : (s : State) (o : Option Saved) → IsRepository s.catalog → IsFitBy (ledger s) o s.instance → IfSome o (λ site. site.head.opened ≡ true → StandNow s)
+pub stand-by : (s : State) (o : Option Saved) → IsTypedCatalog s.catalog → IsFitBy (ledger s) o s.instance → IfSome o (λ site. site.head.opened ≡ true → StandNow s)
 stand-by s None rules fit = tt
 stand-by s (Some site) rules fit = λ opened. stand-now s site rules fit opened
 

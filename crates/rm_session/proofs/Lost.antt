@@ -8,7 +8,7 @@ use Rattle.rm_base.specs.declared.block.Change.{Change}
 use Rattle.rm_blocks.specs.File.{File}
 use Rattle.rm_history.specs.History.{IsHistory}
 use Rattle.rm_history.specs.Tree.{end_of}
-use Rattle.rm_ledger.specs.Ledger.{Ledger}
+use Rattle.rm_catalog_typed.specs.Ledger.{Ledger}
 use Rattle.rm_redo.specs.declared.log_file.LogFile.{LogFile}
 use Rattle.rm_redo.specs.Online.{thread_log}
 use Rattle.rm_machine.specs.declared.state.Instance.{Instance}

@@ -6,9 +6,9 @@ use Rattle.rm_base.specs.Store.{Held}
 use Rattle.rm_blocks.specs.File.{File}
 use Rattle.rm_catalog.specs.declared.record.HeadEntry.{HeadEntry}
 use Rattle.rm_history.specs.declared.world.Datafile.{Datafile}
-use Rattle.rm_ledger.proofs.Lookups.{item-at}
+use Rattle.rm_catalog_typed.proofs.Lookups.{item-at}
 use Rattle.rm_redo.specs.Logs.{Logs}
-use Rattle.rm_repository.specs.Repository.{Repository, Saved}
+use Rattle.rm_catalog_typed.specs.TypedCatalog.{TypedCatalog, Saved}
 use Rattle.rm_machine.specs.Loading.{AreLoadedLogs, IsHeadPoint, IsLoaded, IsLoadedBy, IsLoadedFile, IsLoadedOf, IsLoadedPoint, IsTheOne, file_in, has_lost, online_of}
 use Rattle.rm_machine.specs.Mount.{mount_point}
 use Rattle.rm_machine.specs.Saved.{IsGoodFile, IsGoodLog}
@@ -39,22 +39,22 @@ index-of (x ∷ xs) zero o is = (let same : Some x ≡ Some o = is in cc)
 index-of (x ∷ xs) (suc k) o is = index-of xs k o is
 
 -- the database of a catalog, where this runs
-abbrev running : Repository → Instance → State
+abbrev running : TypedCatalog → Instance → State
 running c a = record { catalog = c; instance = a }
 
 -- the head tells a point of what stands in place alone
-head-moves : (c : Repository) (head : HeadEntry) (a b : Instance) → a.place ≡ b.place → (at : ℕ) → IsHeadPoint (running c b) head at → IsHeadPoint (running c a) head at
+head-moves : (c : TypedCatalog) (head : HeadEntry) (a b : Instance) → a.place ≡ b.place → (at : ℕ) → IsHeadPoint (running c b) head at → IsHeadPoint (running c a) head at
 head-moves c head a b same at is = record {
   inc = is.inc;
   scn = is.scn;
   point = record { low = is.point.low; high = is.point.high; stands = λ k d file here. coe 1 0 (i. StandsAt (same i) c.ledger.base.current at k) (is.point.stands k d file here) };
 }
 
-point-moves : (c : Repository) (head : HeadEntry) (a b : Instance) → a.place ≡ b.place → (o : Option ℕ) → IsTheOne (IsHeadPoint (running c b) head) o → IsTheOne (IsHeadPoint (running c a) head) o
+point-moves : (c : TypedCatalog) (head : HeadEntry) (a b : Instance) → a.place ≡ b.place → (o : Option ℕ) → IsTheOne (IsHeadPoint (running c b) head) o → IsTheOne (IsHeadPoint (running c a) head) o
 point-moves c head a b same None none = λ at is. none at (head-moves c head b a (sym same) at is)
 point-moves c head a b same (Some at) is = head-moves c head a b same at is
 
-module _ (held : Held) (c : Repository) (site : Saved) where
+module _ (held : Held) (c : TypedCatalog) (site : Saved) where
   file-same : (k : ℕ) (d : Datafile) (x y : Option File) → IsLoadedFile held c.ledger site (k + 1) d x → IsLoadedFile held c.ledger site (k + 1) d y → x ≡ y
   file-same k d x y first second =
       first.is ∙ ap (option_map file_in) (the-one (IsGoodFile held c.ledger site (k + 1) d) first.part second.part (file-one held c.ledger site (k + 1) d) first.good second.good) ∙ sym second.is
@@ -86,7 +86,7 @@ module _ (held : Held) (c : Repository) (site : Saved) where
     pub site-same : a ≡ b
     site-same = λ i. record { is_open = mode-same i; point = point-by site.head.opened first.point second.point i; place = place-same i; logs = both-logs i }
 
-one-by : (held : Held) (c : Repository) (a b : Instance) (o : Option Saved) → IsLoadedBy held (running c a) o → IsLoadedBy held (running c b) o → a ≡ b
+one-by : (held : Held) (c : TypedCatalog) (a b : Instance) (o : Option Saved) → IsLoadedBy held (running c a) o → IsLoadedBy held (running c b) o → a ≡ b
 one-by held c a b None first second = first ∙ sym second
 one-by held c a b (Some site) first second = site-same held c site a b first second
 

@@ -11,17 +11,17 @@ use Rattle.rm_blocks.specs.File.{File}
 use Rattle.rm_catalog.specs.Trees.{nodes}
 use Rattle.rm_evidence.specs.Gathered.{placed_piece}
 use Rattle.rm_evidence.specs.Known.{FitsPiece}
-use Rattle.rm_ledger.proofs.Keeping.{pairs_append}
+use Rattle.rm_catalog_typed.proofs.Keeping.{pairs_append}
 use Rattle.rm_machine.specs.declared.state.State.{State}
 use Rattle.rm_machine.specs.Recovery.{in_place}
 use Rattle.rm_machine.specs.Saving.{SitePart, file_parts, log_parts, parts_of}
 use Rattle.rm_machine.specs.Sound.{IsSound}
 use Rattle.rm_machine.specs.State.{ledger, counted, is_lost}
-use Rattle.rm_machine.proofs.Fitting.{place-fits}
-use Rattle.rm_machine.proofs.Standing.{each-in}
+use Rattle.rm_machine_code.proofs.Fitting.{place-fits}
+use Rattle.rm_machine_code.proofs.Standing.{each-in}
 use Rattle.rm_piece.specs.Valid.{IsPiece}
 use Rattle.rm_redo.specs.declared.online.ThreadLog.{ThreadLog}
-use Rattle.rm_repository.specs.Repository.{records_of}
+use Rattle.rm_catalog_typed.specs.TypedCatalog.{records_of}
 use Rattle.rm_session.specs.Adding.{part_of_file, part_of_thread}
 
 present-to : {X : Type 0} (os : List (Option X)) (k : ℕ) (x : X) → slice_get os k ≡ Some (Some x) → Contains (filter_map (λ o. o) os) x

@@ -5,9 +5,9 @@ use Rattle.rm_base.specs.Store.{Held}
 use Rattle.rm_base.proofs.Slots.{get-push}
 use Rattle.rm_blocks.specs.File.{File}
 use Rattle.rm_history.specs.declared.world.Datafile.{Datafile}
-use Rattle.rm_ledger.specs.Ledger.{Ledger}
+use Rattle.rm_catalog_typed.specs.Ledger.{Ledger}
 use Rattle.rm_machine.specs.Loading.{IsLoadedFile}
-use Rattle.rm_repository.specs.Repository.{Saved}
+use Rattle.rm_catalog_typed.specs.TypedCatalog.{Saved}
 use Rattle.rm_session.specs.Fit.{AllAt, FitsAt, IsFitFile, IsLoadedAt}
 
 -- one item more

@@ -15,10 +15,10 @@ use Rattle.rm_catalog.specs.Keys.{base_in, datafile_in, head_in, log_in, mark_in
 use Rattle.rm_catalog.specs.Trees.{node_in}
 use Rattle.rm_history.specs.declared.tree.Incarnation.{Incarnation}
 use Rattle.rm_history.specs.declared.world.Datafile.{Datafile}
-use Rattle.rm_ledger.specs.Ledger.{datafile_record, incarnation_record, mark_record, numbered}
-use Rattle.rm_objects.specs.Database.{created_by}
-use Rattle.rm_repository.specs.Kinds.{marked_by}
-use Rattle.rm_repository.specs.Repository.{Repository, Saved, all_records, records_of, saved_records}
+use Rattle.rm_catalog_typed.specs.Ledger.{datafile_record, incarnation_record, mark_record, numbered}
+use Rattle.rm_evidence.specs.Database.{created_by}
+use Rattle.rm_catalog_typed.specs.Kinds.{marked_by}
+use Rattle.rm_catalog_typed.specs.TypedCatalog.{TypedCatalog, Saved, all_records, records_of, saved_records}
 
 -- a datafile as its record tells it, and a mark
 abbrev file_in : Record → Option Datafile
@@ -90,7 +90,7 @@ parted : {A : Type 0} (tell : Record → Option A) (t f l p m s : List Record) �
 parted tell t f l p m s = simp filter_map-append
 
 -- what all records tell, from what those of each kind tell
-module _ {A : Type 0} (tell : Record → Option A) (r : Repository) where
+module _ {A : Type 0} (tell : Record → Option A) (r : TypedCatalog) where
   told : (t f l p m s : List A) → filter_map tell (numbered incarnation_record 1 r.ledger.tree) ≡ t → filter_map tell (numbered datafile_record 1 r.ledger.files) ≡ f
       → filter_map tell (map kind.Log r.ledger.logs) ≡ l → filter_map tell (map kind.Piece r.ledger.pieces) ≡ p
       → filter_map tell (numbered mark_record 1 r.ledger.marks) ≡ m → filter_map tell (saved_records r.saved) ≡ s
@@ -101,7 +101,7 @@ module _ {A : Type 0} (tell : Record → Option A) (r : Repository) where
       ∙ joined _ _ _ _ _ _ t f l p m s e₁ e₂ e₃ e₄ e₅ e₆)
 
 -- what records of another kind tell: nothing
-module _ {A : Type 0} (tell : Record → Option A) (r : Repository) where
+module _ {A : Type 0} (tell : Record → Option A) (r : TypedCatalog) where
   no-tree : ((n : ℕ) (x : Incarnation) → tell (incarnation_record n x) ≡ None) → filter_map tell (numbered incarnation_record 1 r.ledger.tree) ≡ []
   no-tree = numbered-silent incarnation_record tell 1 r.ledger.tree
 
@@ -121,7 +121,7 @@ module _ {A : Type 0} (tell : Record → Option A) (r : Repository) where
   no-saved no-part = saved-silent tell no-part r.saved
 
 -- each kind, from all records
-module _ (r : Repository) where
+module _ (r : TypedCatalog) where
   bases-told : filter_map base_in (records_of r) ≡ r.ledger.base ∷ []
   bases-told =
       told base_in r [] [] [] [] [] [] (no-tree base_in r (λ n x. refl)) (no-files base_in r (λ n x. refl)) (no-logs base_in r (λ x. refl))
@@ -163,11 +163,11 @@ module _ (r : Repository) where
       (no-pieces head_in r (λ x. refl)) (no-marks head_in r (λ n x. refl)) (saved-heads r.saved)
 
 -- what two databases of the same records have of a kind
-both : {A : Type 0} (tell : Record → Option A) (a b : Repository) (xs ys : List A) → records_of a ≡ records_of b → filter_map tell (records_of a) ≡ xs → filter_map tell (records_of b) ≡ ys → xs ≡ ys
+both : {A : Type 0} (tell : Record → Option A) (a b : TypedCatalog) (xs ys : List A) → records_of a ≡ records_of b → filter_map tell (records_of a) ≡ xs → filter_map tell (records_of b) ≡ ys → xs ≡ ys
 both tell a b xs ys same one two = sym one ∙ ap (filter_map tell) same ∙ two
 
-one-repository : (a b : Repository) → records_of a ≡ records_of b → a ≡ b
-one-repository a b same =
+one-typed_catalog : (a b : TypedCatalog) → records_of a ≡ records_of b → a ≡ b
+one-typed_catalog a b same =
     let bases = both base_in a b (a.ledger.base ∷ []) (b.ledger.base ∷ []) same (bases-told a) (bases-told b) in
     let base : a.ledger.base ≡ b.ledger.base = cc bases in
     let heads_same = both head_in a b (heads a.saved) (heads b.saved) same (heads-told a) (heads-told b) in
@@ -184,8 +184,8 @@ one-repository a b same =
       saved = same-saved a.saved b.saved heads_same parts_same i;
     }
 
-pub one-catalog : (a b : Option Repository) → all_records a ≡ all_records b → a ≡ b
+pub one-catalog : (a b : Option TypedCatalog) → all_records a ≡ all_records b → a ≡ b
 one-catalog None None same = refl
 one-catalog None (Some b) same = absurd cc
 one-catalog (Some a) None same = absurd cc
-one-catalog (Some a) (Some b) same = ap (λ r. Some r) (one-repository a b same)
+one-catalog (Some a) (Some b) same = ap (λ r. Some r) (one-typed_catalog a b same)

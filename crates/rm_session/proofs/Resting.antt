@@ -7,12 +7,12 @@ use Rattle.std.proofs.lemmas.List.Elements.{All-contains, Contains-append_cases,
 use Rattle.std.proofs.lemmas.Option.{slice_get_within}
 use Rattle.rm_base.proofs.Slots.{index-get}
 use Rattle.rm_base.specs.declared.block.Change.{Change}
-use Rattle.rm_change.specs.declared.change.Object.{Object}
-use Rattle.rm_change.specs.Names.{bytes_of, name_of}
-use Rattle.rm_change.proofs.Standing.{AreApart, each-stands, others-stay}
+use Rattle.rm_commit.specs.declared.commit.Object.{Object}
+use Rattle.rm_commit.specs.Names.{bytes_of, name_of}
+use Rattle.rm_commit.proofs.Standing.{AreApart, each-stands, others-stay}
 use Rattle.rm_history.proofs.Highs.{high-least}
-use Rattle.rm_ledger.proofs.Lookups.{item-at}
-use Rattle.rm_objects.specs.Names.{site_name}
+use Rattle.rm_catalog_typed.proofs.Lookups.{item-at}
+use Rattle.rm_evidence.specs.Names.{site_name}
 use Rattle.rm_machine.specs.declared.state.State.{State}
 use Rattle.rm_machine.specs.Effect.{Made}
 use Rattle.rm_machine.specs.Machine.{HaveArtefacts, HistoryFits, IsBorneOut, IsSoundBy, IsSoundMachine, IsTrueArtefact, Machine}
@@ -22,12 +22,12 @@ use Rattle.rm_machine.specs.Saved.{IsOfPart, spelling_of}
 use Rattle.rm_machine.specs.Saving.{IsSavedAs, SitePart, entry_of, made_of, object_of, parts_of, saved_of, with_ids, with_site}
 use Rattle.rm_machine.specs.Sound.{IsSound}
 use Rattle.rm_machine.specs.State.{ledger, counted, placed, world}
-use Rattle.rm_machine.proofs.Dropping.{no-site}
-use Rattle.rm_machine.proofs.Kept.{StandOn, kept-on}
-use Rattle.rm_machine.proofs.Standing.{each-in}
+use Rattle.rm_machine_code.proofs.Dropping.{no-site}
+use Rattle.rm_machine_code.proofs.Kept.{StandOn, kept-on}
+use Rattle.rm_machine_code.proofs.Standing.{each-in}
 use Rattle.rm_session.proofs.Ids.{ids-from, ids-pairs}
 use Rattle.rm_session.proofs.PartsOf.{IsOther, IsPartOf, file-valid, of_file, of_thread, part-of, parts-apart}
-use Rattle.rm_session.proofs.Sites.{ids-left, next_after, site-repository}
+use Rattle.rm_session.proofs.Sites.{ids-left, next_after, site-typed_catalog}
 
 -- the names of two parts differ
 site-name-tells : (a b : ℕ) → a < 2 ^ 64 → b < 2 ^ 64 → site_name a ≡ site_name b → a ≡ b
@@ -118,7 +118,7 @@ module _ (m : Machine) (s : State) (r : Rest) (borne : IsBorneOut s m.history m.
 
   pub rest-borne : IsRestBorneOut (with_site s) r.history r.objects r.made r.touched
   rest-borne = subst (λ (h : List Change). IsRestBorneOut (with_site s) h r.objects r.made r.touched) (sym saved.history) (record {
-    catalog = site-repository s borne.state ids;
+    catalog = site-typed_catalog s borne.state ids;
     dbid = borne.state.dbid;
     history = borne.keeps.history;
     below = borne.keeps.below;

@@ -6,14 +6,14 @@ use Rattle.rm_base.specs.Store.{Held}
 use Rattle.rm_blocks.specs.File.{File}
 use Rattle.rm_evidence.specs.Gathered.{placed_piece}
 use Rattle.rm_history.specs.declared.world.Datafile.{Datafile}
-use Rattle.rm_objects.specs.Names.{site_name}
+use Rattle.rm_evidence.specs.Names.{site_name}
 use Rattle.rm_machine.specs.declared.state.State.{State}
 use Rattle.rm_machine.specs.Loading.{IsLoadedFile}
 use Rattle.rm_machine.specs.Saved.{FitsInPlace, IsGoodFile, spelling_of}
 use Rattle.rm_machine.specs.Saving.{SitePart, object_of, rested, saved_of}
 use Rattle.rm_machine.specs.Sound.{IsSound}
 use Rattle.rm_machine.specs.State.{ledger, counted}
-use Rattle.rm_machine.proofs.Places.{counted-open, placed-map, placed-mapped}
+use Rattle.rm_machine_code.proofs.Places.{counted-open, placed-map, placed-mapped}
 use Rattle.rm_session.specs.Adding.{part_of_file}
 use Rattle.rm_session.proofs.PartsOf.{file-valid}
 use Rattle.rm_session.proofs.Resting.{objects_of}

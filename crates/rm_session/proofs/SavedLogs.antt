@@ -22,8 +22,8 @@ use Rattle.rm_machine.specs.Saved.{FitsOnline, IsGoodLog, IsOfBlock}
 use Rattle.rm_machine.specs.Saving.{a_log_kept, rested, saved_logs, saved_of}
 use Rattle.rm_machine.specs.Sound.{IsSound}
 use Rattle.rm_machine.specs.State.{ledger, current_of, is_lost, online, world}
-use Rattle.rm_machine.proofs.Numbers.{file-place}
-use Rattle.rm_machine.proofs.Standing.{each-get, each-in}
+use Rattle.rm_machine_code.proofs.Numbers.{file-place}
+use Rattle.rm_machine_code.proofs.Standing.{each-get, each-in}
 use Rattle.rm_session.specs.Adding.{part_of_thread}
 use Rattle.rm_session.proofs.SavedFiles.{HaveObjects}
 use Rattle.rm_session.proofs.SavedParts.{thread-found, thread-not-lost}

@@ -17,19 +17,19 @@ use Rattle.rm_piece.proofs.Fitting as piece_fitting
 use Rattle.rm_redo.specs.LogFormat as log
 use Rattle.rm_redo.proofs.LogBodies as log_bodies
 use Rattle.rm_redo.proofs.LogFitting as log_fitting
-use Rattle.rm_repository.specs.Changes.{with_base}
-use Rattle.rm_repository.specs.Facts.{AreApart, IsPartEntry, IsRepository, IsSaved}
-use Rattle.rm_repository.specs.Fitting.{FitsBase}
-use Rattle.rm_repository.specs.Repository.{Repository, Saved}
-use Rattle.rm_repository.proofs.Changed.{saved_fits}
-use Rattle.rm_repository.proofs.Fitted.{base_fits}
+use Rattle.rm_catalog_typed.specs.Changes.{with_base}
+use Rattle.rm_catalog_typed.specs.Facts.{AreApart, IsPartEntry, IsTypedCatalog, IsSaved}
+use Rattle.rm_catalog_typed.specs.Fitting.{FitsBase}
+use Rattle.rm_catalog_typed.specs.TypedCatalog.{TypedCatalog, Saved}
+use Rattle.rm_catalog_typed.proofs.Changed.{saved_fits}
+use Rattle.rm_catalog_typed.proofs.Fitted.{base_fits}
 use Rattle.rm_machine.specs.Marks.{lacks_ids}
 use Rattle.rm_machine.specs.Saving.{SitePart, entry_of, head_of, object_of, parts_of, saved_of, with_ids, with_site}
 use Rattle.rm_machine.specs.Sound.{IsSound}
 use Rattle.rm_machine.specs.declared.state.State.{State}
 use Rattle.rm_machine.specs.State.{ledger, counted, current_of, online}
-use Rattle.rm_machine.proofs.Standing.{each-in}
-use Rattle.rm_machine.proofs.Switching.{not-above}
+use Rattle.rm_machine_code.proofs.Standing.{each-in}
+use Rattle.rm_machine_code.proofs.Switching.{not-above}
 use Rattle.rm_session.specs.Adding.{no_parts, with_parts}
 use Rattle.rm_session.specs.declared.site_parts.Parts.{Parts}
 use Rattle.rm_session.proofs.Adding.{parts-entries, parts-next, parts-objects}
@@ -41,7 +41,7 @@ abbrev pub next_after : State → ℕ
 next_after s = (ledger s).base.next_id + length (parts_of s)
 
 -- the catalog with that next id
-abbrev pub with_ids_drawn : State → Repository
+abbrev pub with_ids_drawn : State → TypedCatalog
 with_ids_drawn s = with_base s.catalog (record (ledger s).base { next_id = next_after s })
 
 module _ (s : State) (sound : IsSound s) (ids : lacks_ids s 0 ≡ false) where
@@ -105,8 +105,8 @@ module _ (s : State) (sound : IsSound s) (ids : lacks_ids s 0 ≡ false) where
       point-there None some = absurd (omega (arith, some))
       point-there (Some at) some = sound.catalog.ledger.current
 
-  pub site-repository : IsRepository (with_site s)
-  site-repository = saved_fits (with_ids_drawn s) (saved_of s) (base_fits s.catalog (record (ledger s).base { next_id = next_after s }) sound.catalog base-drawn) site-fits
+  pub site-typed_catalog : IsTypedCatalog (with_site s)
+  site-typed_catalog = saved_fits (with_ids_drawn s) (saved_of s) (base_fits s.catalog (record (ledger s).base { next_id = next_after s }) sound.catalog base-drawn) site-fits
 
 -- The records as they are drawn
 

@@ -6,21 +6,21 @@ use Rattle.std.proofs.lemmas.Option.{none-some}
 use Rattle.rm_blocks.specs.File.{File, standing}
 use Rattle.rm_history.specs.declared.world.Datafile.{Datafile}
 use Rattle.rm_history.specs.Tree.{IsThere, end_of}
-use Rattle.rm_ledger.specs.Ledger.{Ledger}
+use Rattle.rm_catalog_typed.specs.Ledger.{Ledger}
 use Rattle.rm_machine.specs.Loading.{file_in, has_lost, inc_of_first, where_of}
 use Rattle.rm_machine.specs.Sound.{AreOnline, ArePlaced, IsOnline, IsOpen, IsPlaced, IsSound}
 use Rattle.rm_machine.specs.declared.state.State.{State}
 use Rattle.rm_machine.specs.State.{counted, is_lost, ledger, online, tree}
-use Rattle.rm_machine.proofs.Places.{counted-closed, counted-open}
+use Rattle.rm_machine_code.proofs.Places.{counted-closed, counted-open}
 use Rattle.rm_piece.proofs.Whole.{full}
 use Rattle.rm_redo.specs.Logs.{Logs}
 use Rattle.rm_redo.specs.Online.{thread_log}
 use Rattle.rm_redo.specs.declared.log_file.LogFile.{LogFile}
-use Rattle.rm_repository.specs.Facts.{IsRepository}
-use Rattle.rm_repository.specs.Repository.{Saved}
+use Rattle.rm_catalog_typed.specs.Facts.{IsTypedCatalog}
+use Rattle.rm_catalog_typed.specs.TypedCatalog.{Saved}
 use Rattle.rm_session.specs.Fit.{IsFit, IsFitFile, IsFitLog, StandNow}
 use Rattle.rm_session.proofs.Firsts.{first-is, fit-each}
-use Rattle.rm_machine.proofs.LostLogs.{lost-found}
+use Rattle.rm_machine_code.proofs.LostLogs.{lost-found}
 use Rattle.rm_session.proofs.OnlineParts.{online-part}
 use Rattle.rm_session.proofs.Orders.{in-order, not-level1}
 
@@ -54,7 +54,7 @@ none-has_lost logs t none some most = elim (cases_Bool (is_lost logs t)) [
   | inl lost ↦ absurd (false≢true (sym none ∙ lost-found logs t (some, most) lost))
 ]
 
-module _ (s : State) (site : Saved) (rules : IsRepository s.catalog) (fit : IsFit (ledger s) site s.instance) where
+module _ (s : State) (site : Saved) (rules : IsTypedCatalog s.catalog) (fit : IsFit (ledger s) site s.instance) where
   abbrev l : Ledger
   l = ledger s
 

@@ -15,10 +15,10 @@ use Rattle.rm_history.specs.declared.world.Datafile.{Datafile}
 use Rattle.rm_history.specs.Tree.{end_of}
 use Rattle.rm_history.specs.World.{exists}
 use Rattle.rm_history.proofs.Highs.{high-above}
-use Rattle.rm_ledger.proofs.Lookups.{item-at}
+use Rattle.rm_catalog_typed.proofs.Lookups.{item-at}
 use Rattle.rm_piece.specs.declared.piece.Piece.{Piece}
 use Rattle.rm_redo.specs.LogFile.{log_of}
-use Rattle.rm_repository.specs.Repository.{Saved}
+use Rattle.rm_catalog_typed.specs.TypedCatalog.{Saved}
 use Rattle.rm_machine.specs.Effect.{Made}
 use Rattle.rm_machine.specs.Loading.{IsLoaded, IsLoadedBy, IsLoadedOf, IsTheOne, file_in, has_lost}
 use Rattle.rm_machine.specs.Machine.{HistoryFits, IsSoundBy, IsSoundMachine, Machine, RowsAre}
@@ -27,7 +27,7 @@ use Rattle.rm_machine.specs.Saved.{IsGoodFile, IsGoodLog}
 use Rattle.rm_machine.specs.Sound.{IsSound}
 use Rattle.rm_machine.specs.declared.state.State.{State}
 use Rattle.rm_machine.specs.State.{counted, current_of, is_lost, ledger, now_of, online, world}
-use Rattle.rm_machine.proofs.Places.{counted-closed, counted-open}
+use Rattle.rm_machine_code.proofs.Places.{counted-closed, counted-open}
 use Rattle.rm_session.proofs.GoodParts.{file-agrees, log-agrees}
 use Rattle.rm_session.proofs.Lost.{lost-fits}
 use Rattle.rm_session.proofs.OnlineParts.{online-part}

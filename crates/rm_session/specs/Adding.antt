@@ -8,7 +8,7 @@ use Rattle.rm_machine.specs.Effect.{a_log, a_piece}
 use Rattle.rm_machine.specs.Saved.{spelling_of}
 use Rattle.rm_machine.specs.Saving.{SitePart}
 use Rattle.rm_machine.specs.State.{ledger, counted, online}
-use Rattle.rm_objects.specs.Names.{site_name}
+use Rattle.rm_evidence.specs.Names.{site_name}
 use Rattle.rm_session.specs.declared.site_parts.Parts.{Parts}
 
 -- none yet, where this is the next id

@@ -5,14 +5,14 @@ use Rattle.rm_blocks.specs.File.{File}
 use Rattle.rm_catalog.specs.declared.record.PartEntry.{PartEntry}
 use Rattle.rm_history.specs.declared.world.Datafile.{Datafile}
 use Rattle.rm_history.specs.World.{exists}
-use Rattle.rm_ledger.specs.Ledger.{Ledger}
+use Rattle.rm_catalog_typed.specs.Ledger.{Ledger}
 use Rattle.rm_machine.specs.Loading.{AreLoadedLogs, IsLoadedFile, IsLoadedPoint, IsTheOne, file_in, has_lost, lost_instance, online_of}
 use Rattle.rm_machine.specs.Saved.{FitsInPlace, FitsOnline, HasPart, IsGoodLog}
 use Rattle.rm_machine.specs.Sound.{StandsAt}
 use Rattle.rm_machine.specs.State.{current_of, ledger, now_of, world}
 use Rattle.rm_machine.specs.declared.state.Instance.{Instance}
 use Rattle.rm_machine.specs.declared.state.State.{State}
-use Rattle.rm_objects.specs.Objects.{HasDigest}
+use Rattle.rm_evidence.specs.Objects.{HasDigest}
 use Rattle.rm_piece.specs.Spelling as piece_format
 use Rattle.rm_piece.specs.Valid.{IsPiece}
 use Rattle.rm_piece.specs.declared.piece.Piece.{Piece}
@@ -20,7 +20,7 @@ use Rattle.rm_redo.specs.LogFormat as log_format
 use Rattle.rm_redo.specs.LogFormat.{IsLogFile}
 use Rattle.rm_redo.specs.Logs.{Logs}
 use Rattle.rm_redo.specs.declared.log_file.LogFile.{LogFile}
-use Rattle.rm_repository.specs.Repository.{Saved}
+use Rattle.rm_catalog_typed.specs.TypedCatalog.{Saved}
 
 -- the bytes have the digest of the part, and spell this piece
 pub record IsPieceOf (p : PartEntry) (bytes : List ℕ) (a : Piece) : Type 0 where
@@ -35,12 +35,12 @@ pub record IsLogOf (p : PartEntry) (bytes : List ℕ) (a : LogFile) : Type 0 whe
   pub spelled : bytes ≡ log_format.spelling a
 
 -- the store has this piece under the name of the part
-pub record HasPiece (held : Held) (p : PartEntry) (a : Piece) : Type 0 where
+pub record HasPiecePart (held : Held) (p : PartEntry) (a : Piece) : Type 0 where
   pub has : HasPart held p (piece_format.spelling a)
   pub valid : IsPiece a
 
 -- the store has this log under the name of the part
-pub record HasLog (held : Held) (p : PartEntry) (a : LogFile) : Type 0 where
+pub record HasLogPart (held : Held) (p : PartEntry) (a : LogFile) : Type 0 where
   pub has : HasPart held p (log_format.spelling a)
   pub valid : IsLogFile a
 

@@ -7,7 +7,7 @@ ghost use Rattle.rm_history.specs.Tree.{end_of};
 ghost use Rattle.rm_machine.specs.Loading.{IsLoadedFile, IsTheOne, file_in};
 ghost use Rattle.rm_machine.specs.Saved.{FitsInPlace, IsGoodFile, file_part};
 ghost use Rattle.rm_piece.specs.Valid.{IsPiece};
-ghost use Rattle.rm_repository.specs.Facts.{IsRepository};
+ghost use Rattle.rm_catalog_typed.specs.Facts.{IsTypedCatalog};
 ghost use Rattle.rm_session.specs.Fit.{AllAt, FitsAt, IsFitFile, IsFitPiece, IsLoadedAt, IsWhereFits};
 
 use crate::fault::SessionFault;
@@ -15,20 +15,20 @@ use crate::parts::load_piece;
 use rm_base::{FileNo, IncNo, Kind, Scn, Seq, Store};
 use rm_blocks::DataFile;
 use rm_catalog::PartEntry;
+use rm_catalog_typed::{Saved, TypedCatalog};
 use rm_history::Datafile;
 use rm_piece::Piece;
-use rm_repository::{Catalog, Saved};
 use std::alloc::Global;
 
 // The SCN up to which an incarnation is known; 0 for one that is not there.
-fn end_of(catalog: &Catalog, inc: IncNo) -> Scn
+fn end_of(catalog: &TypedCatalog, inc: IncNo) -> Scn
     ensures { result ≡ end_of catalog.now.ledger.tree inc }
 {
     catalog.tree().get(inc).map_or(0, |node| node.end)
 }
 
 // Whether the piece is of the current incarnation, at its end.
-fn is_now(catalog: &Catalog, piece: &Piece) -> bool
+fn is_now(catalog: &TypedCatalog, piece: &Piece) -> bool
     ensures { IsTrue result ↔ ((piece.now.inc ≡ catalog.now.ledger.base.current) × (piece.now.checkpoint ≡ end_of catalog.now.ledger.tree catalog.now.ledger.base.current)) }
 {
     let current = catalog.base().current;
@@ -37,7 +37,7 @@ fn is_now(catalog: &Catalog, piece: &Piece) -> bool
 
 // Whether the piece could stand in place of the datafile of this number.
 fn fits_in_place(
-    catalog: &Catalog,
+    catalog: &TypedCatalog,
     opened: bool,
     number: FileNo,
     datafile: &Datafile,
@@ -65,7 +65,7 @@ fn file_part(site: &Saved, number: FileNo) -> Option<&PartEntry>
 
 // The piece, where it could stand in place of the datafile of this number.
 fn where_fits(
-    catalog: &Catalog,
+    catalog: &TypedCatalog,
     opened: bool,
     number: FileNo,
     datafile: &Datafile,
@@ -85,7 +85,7 @@ fn where_fits(
 fn good_piece<D: Store>(
     alloc: Global,
     store: &mut D,
-    catalog: &Catalog,
+    catalog: &TypedCatalog,
     site: &Saved,
     number: FileNo,
     datafile: &Datafile,
@@ -116,7 +116,7 @@ fn file_in(piece: Piece) -> DataFile
 fn load_file<D: Store>(
     alloc: Global,
     store: &mut D,
-    catalog: &Catalog,
+    catalog: &TypedCatalog,
     site: &Saved,
     number: FileNo,
     datafile: &Datafile,
@@ -138,10 +138,10 @@ fn load_file<D: Store>(
 pub(crate) fn load_files<D: Store>(
     alloc: Global,
     store: &mut D,
-    catalog: &Catalog,
+    catalog: &TypedCatalog,
     site: &Saved,
 ) -> Result<Seq<Option<DataFile>>, SessionFault>
-    requires { IsRepository catalog.now }
+    requires { IsTypedCatalog catalog.now }
     ensures many { IfOk result (λ place. length place ≡ length catalog.now.ledger.files) }
     ensures told { IfOk result (λ place. IfSome (D.held store.old) (λ h. AllAt (IsLoadedAt h catalog.now.ledger site.now) place)) }
     ensures fits { IfOk result (λ place. AllAt (FitsAt catalog.now.ledger site.now.head.opened) place) }

@@ -2,17 +2,17 @@
 ghost use Rattle.std.specs.Prelude.{◌≡◌, ◌≤◌, None, IfOk, IfSome, IsErrOf, replicate};
 ghost use Rattle.rm_base.specs.Outside.{Rose};
 ghost use Rattle.rm_machine.specs.Loading.{lost_instance};
-ghost use Rattle.rm_repository.specs.Facts.{IsRepository};
+ghost use Rattle.rm_catalog_typed.specs.Facts.{IsTypedCatalog};
 ghost use Rattle.rm_session.specs.Fit.{IsFit, IsHad};
 
 use crate::fault::SessionFault;
 use crate::files::load_files;
 use crate::threads::{load_logs, online_of};
 use rm_base::{NoMemory, Seq, Store};
+use rm_catalog_typed::{Saved, TypedCatalog};
 use rm_machine::Instance;
-use rm_machine::facts::has_lost;
+use rm_machine_code::facts::has_lost;
 use rm_redo::OnlineLogs;
-use rm_repository::{Catalog, Saved};
 use std::alloc::Global;
 
 // So many that are lost.
@@ -27,8 +27,8 @@ fn all_lost<T: Drop>(alloc: Global, many: usize) -> Result<Seq<Option<T>>, NoMem
 }
 
 /// What runs of a database of which all is lost.
-pub(crate) fn lost_instance(alloc: Global, catalog: &Catalog) -> Result<Instance, NoMemory>
-    requires { IsRepository catalog.now }
+pub(crate) fn lost_instance(alloc: Global, catalog: &TypedCatalog) -> Result<Instance, NoMemory>
+    requires { IsTypedCatalog catalog.now }
     ensures { IfOk result (λ i. i ≡ lost_instance catalog.now.ledger) }
 {
     let base = catalog.base();
@@ -48,10 +48,10 @@ pub(crate) fn lost_instance(alloc: Global, catalog: &Catalog) -> Result<Instance
 pub(crate) fn load_instance<D: Store>(
     alloc: Global,
     store: &mut D,
-    catalog: &Catalog,
+    catalog: &TypedCatalog,
     site: &Saved,
 ) -> Result<Instance, SessionFault>
-    requires { IsRepository catalog.now }
+    requires { IsTypedCatalog catalog.now }
     ensures told { IfOk result (λ i. IfSome (D.held store.old) (λ h. IsHad h catalog.now.ledger site.now i)) }
     ensures fits { IfOk result (λ i. IsFit catalog.now.ledger site.now i) }
     ensures same { D.held store.new ≡ D.held store.old }

@@ -3,24 +3,24 @@ ghost use Rattle.std.specs.Prelude.{◌≡◌, ◌<◌, ◌≤◌, ◌^◌, IfOk
 ghost use Rattle.rm_base.specs.Outside.{Rose};
 ghost use Rattle.rm_machine.specs.Loading.{IsLoaded};
 ghost use Rattle.rm_machine.specs.Sound.{IsSound};
-ghost use Rattle.rm_repository.specs.Facts.{IsRepository};
+ghost use Rattle.rm_catalog_typed.specs.Facts.{IsTypedCatalog};
 ghost use Rattle.rm_session.specs.Fit.{IsFitBy, IsHadBy};
 
 use crate::fault::SessionFault;
 use crate::instances::{load_instance, lost_instance};
 use crate::point::point_of;
 use rm_base::Store;
+use rm_catalog_typed::TypedCatalog;
 use rm_machine::{Instance, State};
-use rm_repository::Catalog;
 use std::alloc::Global;
 
 // What runs of the database of this catalog, without a point.
 fn instance_of<D: Store>(
     alloc: Global,
     store: &mut D,
-    catalog: &Catalog,
+    catalog: &TypedCatalog,
 ) -> Result<Instance, SessionFault>
-    ensures rules { IsRepository catalog.now }
+    ensures rules { IsTypedCatalog catalog.now }
     ensures dbid { catalog.now.ledger.base.dbid < 2 ^ 32 }
     ensures told { IfOk result (λ i. IfSome (D.held store.old) (λ h. IsHadBy h catalog.now.ledger catalog.now.saved i)) }
     ensures fits { IfOk result (λ i. IsFitBy catalog.now.ledger catalog.now.saved i) }
@@ -41,7 +41,7 @@ fn instance_of<D: Store>(
 pub fn load_place<D: Store>(
     alloc: Global,
     store: &mut D,
-    catalog: Catalog,
+    catalog: TypedCatalog,
 ) -> Result<State, SessionFault>
     ensures catalog { IfOk result (λ s. s.catalog ≡ catalog) }
     ensures loaded { IfOk result (λ s. IfSome (D.held store.old) (λ h. IsLoaded h s)) }

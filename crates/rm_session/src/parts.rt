@@ -3,17 +3,17 @@ ghost use Rattle.std.specs.Prelude.{◌≡◌, ◌≢◌, ◌≤◌, ℕ, List, 
 ghost use Rattle.rm_base.specs.Outside.{Rose};
 ghost use Rattle.rm_base.specs.Sealed.{sealed};
 ghost use Rattle.rm_machine.specs.Loading.{IsTheOne};
-ghost use Rattle.rm_objects.specs.Names.{site_name};
-ghost use Rattle.rm_objects.specs.Objects.{HasDigest};
+ghost use Rattle.rm_evidence.specs.Names.{site_name};
+ghost use Rattle.rm_evidence.specs.Objects.{HasDigest};
 ghost use Rattle.rm_piece.specs.Valid.{IsPiece};
 ghost use Rattle.rm_redo.specs.LogFormat.{IsLogFile};
-ghost use Rattle.rm_session.specs.Fit.{HasLog, HasPiece, IsLogOf, IsPieceOf};
+ghost use Rattle.rm_session.specs.Fit.{HasLogPart, HasPiecePart, IsLogOf, IsPieceOf};
 
 use crate::fault::SessionFault;
 use rm_base::sealed::unseal_with_digest;
 use rm_base::{FormatFault, NoMemory, Seq, Store};
 use rm_catalog::PartEntry;
-use rm_objects::site_name;
+use rm_evidence::site_name;
 use rm_piece::{Piece, piece_of_body};
 use rm_redo::{LogFile, log_of_body};
 use std::alloc::Global;
@@ -86,7 +86,7 @@ pub(crate) fn load_piece<D: Store>(
     store: &mut D,
     part: &PartEntry,
 ) -> Result<Option<Piece>, SessionFault>
-    ensures told { IfOk result (λ found. IfSome (D.held store.old) (λ h. IsTheOne (HasPiece h part.now) found)) }
+    ensures told { IfOk result (λ found. IfSome (D.held store.old) (λ h. IsTheOne (HasPiecePart h part.now) found)) }
     ensures valid { IfOk result (λ found. IfSome found IsPiece) }
     ensures same { D.held store.new ≡ D.held store.old }
     ensures failed { IsErrOf result SessionFault.StoreFault → Rose (D.faults store.old) (D.faults store.new) }
@@ -104,7 +104,7 @@ pub(crate) fn load_log<D: Store>(
     store: &mut D,
     part: &PartEntry,
 ) -> Result<Option<LogFile>, SessionFault>
-    ensures told { IfOk result (λ found. IfSome (D.held store.old) (λ h. IsTheOne (HasLog h part.now) found)) }
+    ensures told { IfOk result (λ found. IfSome (D.held store.old) (λ h. IsTheOne (HasLogPart h part.now) found)) }
     ensures valid { IfOk result (λ found. IfSome found IsLogFile) }
     ensures same { D.held store.new ≡ D.held store.old }
     ensures failed { IsErrOf result SessionFault.StoreFault → Rose (D.faults store.old) (D.faults store.new) }

@@ -4,14 +4,14 @@ ghost use Rattle.rm_machine.specs.Marks.{lacks_ids};
 ghost use Rattle.rm_machine.specs.Saving.{head_of, object_of, parts_of, with_ids, with_site};
 ghost use Rattle.rm_machine.specs.Sound.{IsSound};
 ghost use Rattle.rm_machine.specs.State.{ledger};
-ghost use Rattle.rm_repository.specs.Changes.{EditsFollow};
+ghost use Rattle.rm_catalog_typed.specs.Changes.{EditsFollow};
 
 use crate::site_parts::parts_of;
 use rm_base::{NoMemory, Seq};
 use rm_catalog::{BaseEntry, Edit, HeadEntry};
-use rm_change::Object;
+use rm_catalog_typed::Saved;
+use rm_commit::Object;
 use rm_machine::State;
-use rm_repository::Saved;
 use std::alloc::Global;
 
 // What the head tells: the mode, and the point if there is one.

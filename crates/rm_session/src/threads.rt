@@ -5,16 +5,16 @@ ghost use Rattle.rm_base.specs.Outside.{Rose};
 ghost use Rattle.rm_machine.specs.Loading.{IsTheOne, inc_of_first, online_of, where_of};
 ghost use Rattle.rm_machine.specs.Saved.{FitsOnline, IsGoodLog, IsOfBlock, thread_part};
 ghost use Rattle.rm_redo.specs.LogFormat.{IsLogFile};
-ghost use Rattle.rm_repository.specs.Facts.{IsRepository};
+ghost use Rattle.rm_catalog_typed.specs.Facts.{IsTypedCatalog};
 ghost use Rattle.rm_session.specs.Fit.{AllAt, IsFitLog, IsLogAt, IsWhereLogFits, LogFitsAt};
 
 use crate::fault::SessionFault;
 use crate::parts::load_log;
 use rm_base::{IncNo, NoMemory, Seq, Store, ThreadNo};
 use rm_catalog::PartEntry;
+use rm_catalog_typed::{Saved, TypedCatalog};
 use rm_history::Datafile;
 use rm_redo::{LogFile, LogRecord, OnlineLogs};
-use rm_repository::{Catalog, Saved};
 use std::alloc::Global;
 
 // Whether the record is of a datafile and a block that are there.
@@ -37,7 +37,7 @@ fn are_of_blocks(files: &[Datafile], records: &[LogRecord]) -> bool
 }
 
 // Whether the log could be the online log of this thread.
-fn fits_online(catalog: &Catalog, opened: bool, thread: ThreadNo, log: &LogFile) -> bool
+fn fits_online(catalog: &TypedCatalog, opened: bool, thread: ThreadNo, log: &LogFile) -> bool
     requires { IsLogFile log.now }
     ensures { IsTrue result ↔ FitsOnline catalog.now.ledger opened thread log.now }
 {
@@ -63,7 +63,7 @@ fn thread_part(site: &Saved, thread: ThreadNo) -> Option<&PartEntry>
 
 // The log, where it could be the online log of this thread.
 fn where_fits(
-    catalog: &Catalog,
+    catalog: &TypedCatalog,
     opened: bool,
     thread: ThreadNo,
     log: Option<LogFile>,
@@ -83,7 +83,7 @@ fn where_fits(
 fn good_log<D: Store>(
     alloc: Global,
     store: &mut D,
-    catalog: &Catalog,
+    catalog: &TypedCatalog,
     site: &Saved,
     thread: ThreadNo,
 ) -> Result<Option<LogFile>, SessionFault>
@@ -105,10 +105,10 @@ fn good_log<D: Store>(
 pub(crate) fn load_logs<D: Store>(
     alloc: Global,
     store: &mut D,
-    catalog: &Catalog,
+    catalog: &TypedCatalog,
     site: &Saved,
 ) -> Result<Seq<Option<LogFile>>, SessionFault>
-    requires { IsRepository catalog.now }
+    requires { IsTypedCatalog catalog.now }
     ensures many { IfOk result (λ logs. length logs ≡ catalog.now.ledger.base.threads) }
     ensures told { IfOk result (λ logs. IfSome (D.held store.old) (λ h. AllAt (IsLogAt h catalog.now.ledger site.now) logs)) }
     ensures fits { IfOk result (λ logs. AllAt (LogFitsAt catalog.now.ledger site.now.head.opened) logs) }
@@ -162,10 +162,10 @@ fn all_of(
 /// The online logs of the threads 1, 2, 3 and so on: those that are of the same incarnation as the first.
 pub(crate) fn online_of(
     alloc: Global,
-    catalog: &Catalog,
+    catalog: &TypedCatalog,
     logs: Seq<Option<LogFile>>,
 ) -> Result<OnlineLogs, NoMemory>
-    requires rules { IsRepository catalog.now }
+    requires rules { IsTypedCatalog catalog.now }
     requires many { length logs ≡ catalog.now.ledger.base.threads }
     requires valid { All (λ log. IfSome log IsLogFile) logs }
     ensures { IfOk result (λ online. online ≡ online_of catalog.now.ledger logs) }

@@ -1,13 +1,13 @@
 -- What a statement comes to that the state does not refuse.
 use Rattle.std.proofs.Common.{◌≡◌, true, Option, Some, None, refl, sym, subst}
 use Rattle.rm_base.specs.Store.{Held}
-use Rattle.rm_statement.specs.declared.command.Command.{Command}
+use Rattle.rm_lang_statement.specs.declared.command.Command.{Command}
 use Rattle.rm_machine.specs.Hands.{Hands}
 use Rattle.rm_machine.specs.declared.handed.Handed.{Handed}
 use Rattle.rm_machine.specs.declared.state.State.{State}
 use Rattle.rm_machine.specs.Sound.{IsSound}
 use Rattle.rm_machine.specs.Step.{IsStatement, refusal_of}
-use Rattle.rm_frame.proofs.Every.{every-stays}
+use Rattle.rm_machine_laws.proofs.Every.{every-stays}
 use Rattle.rm_site.specs.Comes.{IsAnswer, IsRefusedBy, is_change}
 use Rattle.rm_site.specs.declared.statement.Answer.TheVariants.{Done}
 use Rattle.rm_site.proofs.DatedLines.{change-dated}

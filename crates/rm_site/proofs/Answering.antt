@@ -8,16 +8,16 @@ use Rattle.rm_base.specs.declared.refusal.Refusal.{Refusal}
 use Rattle.rm_catalog.specs.Edits.{after_edits}
 use Rattle.rm_catalog.specs.declared.record.Edit.{Edit}
 use Rattle.rm_catalog.specs.declared.record.Record.{Record}
-use Rattle.rm_change.specs.declared.change.Change.{Change}
-use Rattle.rm_change.specs.Carrying.{Carried, Halted, Leads}
-use Rattle.rm_statement.specs.declared.command.Command.{Command}
+use Rattle.rm_commit.specs.declared.commit.Commit.{Commit}
+use Rattle.rm_commit.specs.Carrying.{Carried, Halted, Leads}
+use Rattle.rm_lang_statement.specs.declared.command.Command.{Command}
 use Rattle.rm_report.specs.Reply.{refused_by, said}
 use Rattle.rm_report.specs.declared.line.Line.{Line}
 use Rattle.rm_report.specs.declared.line.Reply.{Reply}
-use Rattle.rm_repository.specs.Changes.{EditsFollow, with_moment, without_saved}
-use Rattle.rm_repository.specs.Facts.{IsRepository}
-use Rattle.rm_repository.specs.Repository.{Repository, Saved, records_of}
-use Rattle.rm_repository.specs.Starting.{with_earlier}
+use Rattle.rm_catalog_typed.specs.Changes.{EditsFollow, with_moment, without_saved}
+use Rattle.rm_catalog_typed.specs.Facts.{IsTypedCatalog}
+use Rattle.rm_catalog_typed.specs.TypedCatalog.{TypedCatalog, Saved, records_of}
+use Rattle.rm_catalog_typed.specs.Starting.{with_earlier}
 use Rattle.rm_machine.specs.Effect.{done, refused, told}
 use Rattle.rm_machine.specs.Laws.{only_tells}
 use Rattle.rm_machine.specs.Sound.{IsSound}
@@ -26,18 +26,18 @@ use Rattle.rm_machine.specs.declared.state.State.{State}
 use Rattle.rm_machine.specs.State.{at_moment, ledger}
 use Rattle.rm_machine.specs.Step.{IsOutcome, IsOutcomeBy, IsStatement, Step, refusal_of}
 use Rattle.rm_machine.specs.Saved.{saved_names}
-use Rattle.rm_machine.proofs.Later.{sound-later}
-use Rattle.rm_machine.proofs.Leading.{stays as keeps-sound}
-use Rattle.rm_frame.specs.Carries.{IsHanded, IsOutcomeIn}
-use Rattle.rm_frame.specs.Holds.{View, records_in}
-use Rattle.rm_frame.specs.Moments.{IsMomentIn, moment_of}
-use Rattle.rm_frame.specs.Refused.{AnsweredBy, refusal_in}
-use Rattle.rm_frame.specs.Saves.{applies}
-use Rattle.rm_frame.specs.Steps.{IsStepAt, Steps, StepsAt}
-use Rattle.rm_frame.specs.Stopped.{IsStopAt, Stopped, Stops, StopsAt}
-use Rattle.rm_frame.proofs.Carried.{carried-on, refused-step, told-step}
-use Rattle.rm_frame.proofs.Every.{every-leads, every-loose, every-stays, every-tells}
-use Rattle.rm_frame.proofs.Halting.{halts, nothing-done}
+use Rattle.rm_machine_code.proofs.Later.{sound-later}
+use Rattle.rm_machine_laws.proofs.Leading.{stays as keeps-sound}
+use Rattle.rm_machine_laws.specs.Carries.{IsHanded, IsOutcomeIn}
+use Rattle.rm_machine_laws.specs.Holds.{View, records_in}
+use Rattle.rm_machine_laws.specs.Moments.{IsMomentIn, moment_of}
+use Rattle.rm_machine_laws.specs.Refused.{AnsweredBy, refusal_in}
+use Rattle.rm_machine_laws.specs.Saves.{applies}
+use Rattle.rm_machine_laws.specs.Steps.{IsStepAt, Steps, StepsAt}
+use Rattle.rm_machine_laws.specs.Stopped.{IsStopAt, Stopped, Stops, StopsAt}
+use Rattle.rm_machine_laws.proofs.Carried.{carried-on, refused-step, told-step}
+use Rattle.rm_machine_laws.proofs.Every.{every-leads, every-loose, every-stays, every-tells}
+use Rattle.rm_machine_laws.proofs.Halting.{halts, nothing-done}
 use Rattle.rm_site.specs.Comes.{ComesTo, IsRefusedBy}
 use Rattle.rm_site.specs.declared.statement.Answer.{Answer}
 use Rattle.rm_site.specs.declared.statement.Answer.TheVariants.{Refused, Told, Done}
@@ -73,14 +73,14 @@ module _ (held : Option Held) (kept : Option (List Record)) (c : Command) (momen
       (subst (λ (x : Option Held). StepsAt held kept (Some s) c moment reply x kept (Some s)) (sym stays)
       (subst (λ (x : Reply). StepsAt held kept (Some s) c moment x held kept (Some s)) (sym said_is) (told-step held kept s c moment lines (every-tells c) well at comes)))
 
-  pub is-carried : (before : Option Held) (o : Option State) (lines : List Line) (x : Change) (t : State) (reply : Reply) (held' : Option Held) (kept' : Option (List Record)) → before ≡ held → reply ≡ said lines
+  pub is-carried : (before : Option Held) (o : Option State) (lines : List Line) (x : Commit) (t : State) (reply : Reply) (held' : Option Held) (kept' : Option (List Record)) → before ≡ held → reply ≡ said lines
       → IsStatement c → IsMomentIn o moment → IsHanded held o c moment lines x t → Leads (Carried x) before kept held' kept' → IsStepAt held kept o c moment reply held' kept' (Some t)
   unfolding IsStepAt
   is-carried before o lines x t reply held' kept' stays said_is well at handed leads =
       let on = subst (λ (h : Option Held). Leads (Carried x) h kept held' kept') stays leads in
       subst (λ (r : Reply). StepsAt held kept o c moment r held' kept' (Some t)) (sym said_is) (carried-on c (every-leads c) (keeps-sound c (every-stays c)) held kept o moment lines x t well at handed held' kept' on)
 
-  pub is-halted : {T E : Type 0} (r : Result T E) (before : Option Held) (o : Option State) (lines : List Line) (x : Change) (t : State) (held' : Option Held) (kept' : Option (List Record)) → before ≡ held
+  pub is-halted : {T E : Type 0} (r : Result T E) (before : Option Held) (o : Option State) (lines : List Line) (x : Commit) (t : State) (held' : Option Held) (kept' : Option (List Record)) → before ≡ held
       → IsStatement c → IsMomentIn o moment → IsHanded held o c moment lines x t → Leads (Halted x) before kept held' kept' → OnErr r (IsStopAt held kept o c moment held' kept')
   unfolding IsStopAt
   is-halted r before o lines x t held' kept' stays well at handed leads =
@@ -93,18 +93,18 @@ module _ (held : Option Held) (kept : Option (List Record)) (c : Command) (momen
   untouched r o held' stays = on-err (StopsAt held kept o c moment held' kept) r (subst (λ (h : Option Held). StopsAt held kept o c moment h kept) (sym stays) (nothing-done held kept o c moment))
 
 -- A statement begins on the state s: its catalog is then r, and these stood there before.
-pub record Begins (s : State) (moment : ℕ) (r : Repository) (earlier : ℕ) (saved : Option Saved) : Type 0 where
+pub record Begins (s : State) (moment : ℕ) (r : TypedCatalog) (earlier : ℕ) (saved : Option Saved) : Type 0 where
   pub after : r ≡ without_saved (with_moment s.catalog moment)
   pub moment_is : earlier ≡ (ledger s).base.moment
   pub saved_is : saved ≡ s.catalog.saved
 
-module _ {s : State} {moment : ℕ} {r : Repository} {earlier : ℕ} {saved : Option Saved} (begins : Begins s moment r earlier saved) where
+module _ {s : State} {moment : ℕ} {r : TypedCatalog} {earlier : ℕ} {saved : Option Saved} (begins : Begins s moment r earlier saved) where
   -- the state on which it acts
   abbrev b : State
   b = record s { catalog = r }
 
   at-moment : b ≡ at_moment s moment
-  at-moment = ap (λ (x : Repository). record s { catalog = x }) begins.after
+  at-moment = ap (λ (x : TypedCatalog). record s { catalog = x }) begins.after
 
   pub begins-sound : IsSound s → IsMomentIn (Some s) moment → IsSound b
   begins-sound is at = subst IsSound (sym at-moment) (sound-later s moment is (record { kept = at.kept; last = at.last }))
@@ -116,13 +116,13 @@ module _ {s : State} {moment : ℕ} {r : Repository} {earlier : ℕ} {saved : Op
       ∙ ap (λ (n : ℕ). with_earlier (at_moment s moment).catalog n saved) begins.moment_is
       ∙ ap (λ (o : Option Saved). with_earlier (at_moment s moment).catalog (ledger s).base.moment o) begins.saved_is
 
-  pub valid-again : (t : State) → t ≡ b → IsSound s → IsRepository (with_earlier t.catalog earlier saved)
-  valid-again t same is = subst IsRepository (sym (again t same)) is.catalog
+  pub valid-again : (t : State) → t ≡ b → IsSound s → IsTypedCatalog (with_earlier t.catalog earlier saved)
+  valid-again t same is = subst IsTypedCatalog (sym (again t same)) is.catalog
 
-  back-again : (t : State) (u : Repository) → t ≡ b → u ≡ with_earlier t.catalog earlier saved → record t { catalog = u } ≡ s
-  back-again t u same is = ap (λ (x : Repository). record t { catalog = x }) (is ∙ again t same) ∙ ap (λ (y : State). record y { catalog = s.catalog }) same
+  back-again : (t : State) (u : TypedCatalog) → t ≡ b → u ≡ with_earlier t.catalog earlier saved → record t { catalog = u } ≡ s
+  back-again t u same is = ap (λ (x : TypedCatalog). record t { catalog = x }) (is ∙ again t same) ∙ ap (λ (y : State). record y { catalog = s.catalog }) same
 
-  pub sound-again : (t : State) (u : Repository) → t ≡ b → u ≡ with_earlier t.catalog earlier saved → IsSound s → IsSound (record t { catalog = u })
+  pub sound-again : (t : State) (u : TypedCatalog) → t ≡ b → u ≡ with_earlier t.catalog earlier saved → IsSound s → IsSound (record t { catalog = u })
   sound-again t u same is sound = subst IsSound (sym (back-again t u same is)) sound
 
   module _ (held : Option Held) (c : Command) (a : Answer) (t : State) (comes : ComesTo held b c a t) where
@@ -133,14 +133,14 @@ module _ {s : State} {moment : ℕ} {r : Repository} {earlier : ℕ} {saved : Op
     pub quiet-told : (lines : List Line) → a ≡ Told lines → t ≡ b
     quiet-told lines is = (subst (λ (x : Answer). ComesTo held b c x t) is comes).0
 
-    pub refused-in : (kept : Option (List Record)) (q : Refusal) (u : Repository) (reply : Reply) (held' : Option Held) → a ≡ Refused q → u ≡ with_earlier t.catalog earlier saved → held' ≡ held → reply ≡ refused_by q
+    pub refused-in : (kept : Option (List Record)) (q : Refusal) (u : TypedCatalog) (reply : Reply) (held' : Option Held) → a ≡ Refused q → u ≡ with_earlier t.catalog earlier saved → held' ≡ held → reply ≡ refused_by q
         → IsStepAt held kept (Some s) c moment reply held' kept (Some (record t { catalog = u }))
     refused-in kept q u reply held' is back stays said_is =
         let this = subst (λ (x : Answer). ComesTo held b c x t) is comes in
         is-refused held kept c moment (Some s) (Some (record t { catalog = u })) q reply held' (ap Some (back-again t u this.0 back)) stays said_is
         (λ objects tells. subst (λ (x : State). IsOutcome x objects c (refused q)) at-moment (this.1 objects tells))
 
-    pub told-in : (kept : Option (List Record)) (lines : List Line) (u : Repository) (reply : Reply) (held' : Option Held) → a ≡ Told lines → u ≡ with_earlier t.catalog earlier saved → held' ≡ held → reply ≡ said lines
+    pub told-in : (kept : Option (List Record)) (lines : List Line) (u : TypedCatalog) (reply : Reply) (held' : Option Held) → a ≡ Told lines → u ≡ with_earlier t.catalog earlier saved → held' ≡ held → reply ≡ said lines
         → IsStatement c → IsMomentIn (Some s) moment → IsStepAt held kept (Some s) c moment reply held' kept (Some (record t { catalog = u }))
     told-in kept lines u reply held' is back stays said_is well at =
         let this = subst (λ (x : Answer). ComesTo held b c x t) is comes in
@@ -161,7 +161,7 @@ module _ {s : State} {moment : ℕ} {r : Repository} {earlier : ℕ} {saved : Op
           edits = ap (λ (es : List Edit). after_edits es (records_in (Some s))) same ∙ lead;
         }
 
-    pub answered-in : (q : Refusal) (u : Repository) (reply : Reply) → a ≡ Refused q → u ≡ with_earlier t.catalog earlier saved → IsRefusedBy (refusal_of b c) c a → reply ≡ refused_by q
+    pub answered-in : (q : Refusal) (u : TypedCatalog) (reply : Reply) → a ≡ Refused q → u ≡ with_earlier t.catalog earlier saved → IsRefusedBy (refusal_of b c) c a → reply ≡ refused_by q
         → AnsweredBy (refusal_of (at_moment s moment) c) c reply (Some s) (Some (record t { catalog = u }))
     answered-in q u reply is back by said_is =
         answered-by (refusal_of (at_moment s moment) c) c q reply (Some s) (Some (record t { catalog = u }))

@@ -6,15 +6,15 @@ use Rattle.std.proofs.lemmas.List.{length-append, length-replicate}
 use Rattle.std.proofs.lemmas.List.Elements.{All-cons, All-nil}
 use Rattle.std.proofs.lemmas.Slice.Eq.{bytes_eq-Decides}
 use Rattle.rm_base.specs.Content.{padded, trimmed}
-use Rattle.rm_token.specs.Spelling.{are_string_bytes}
-use Rattle.rm_grammar.specs.Spelling.{is_capital_tag, keeps, maybe_valid}
-use Rattle.rm_grammar.specs.Grammar.{in_range}
-use Rattle.rm_statement.specs.Agreed.{agrees}
-use Rattle.rm_statement.specs.Files.{are_files}
-use Rattle.rm_statement.specs.declared.command.WriteForm.{WriteForm}
-use Rattle.rm_statement.specs.declared.command.Command.{Command}
-use Rattle.rm_statement.specs.declared.command.Command.TheVariants.{Write, Backup}
-use Rattle.rm_statement.specs.IsCommand.{is_command, is_write}
+use Rattle.rm_lang_token.specs.Spelling.{are_string_bytes}
+use Rattle.rm_lang_grammar.specs.Spelling.{is_capital_tag, keeps, maybe_valid}
+use Rattle.rm_lang_grammar.specs.Grammar.{in_range}
+use Rattle.rm_lang_statement.specs.Agreed.{agrees}
+use Rattle.rm_lang_statement.specs.Files.{are_files}
+use Rattle.rm_lang_statement.specs.declared.command.WriteForm.{WriteForm}
+use Rattle.rm_lang_statement.specs.declared.command.Command.{Command}
+use Rattle.rm_lang_statement.specs.declared.command.Command.TheVariants.{Write, Backup}
+use Rattle.rm_lang_statement.specs.IsCommand.{is_command, is_write}
 use Rattle.rm_machine.specs.Step.{HasContent}
 
 -- a text of at most 64 bytes becomes a whole block

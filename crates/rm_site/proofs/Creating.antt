@@ -8,11 +8,11 @@ use Rattle.rm_base.specs.declared.refusal.Refusal.{Refusal}
 use Rattle.rm_base.specs.declared.refusal.Refusal.TheVariants.{Rm02, Rm11}
 use Rattle.rm_catalog.specs.Edits.{after_edits}
 use Rattle.rm_catalog.specs.declared.record.Edit.{Edit}
-use Rattle.rm_change.specs.declared.change.Change.{Change}
-use Rattle.rm_statement.specs.declared.command.Command.{Command}
-use Rattle.rm_statement.specs.declared.command.Command.TheVariants.{CreateDatabase}
-use Rattle.rm_statement.specs.IsCommand.{is_command}
-use Rattle.rm_ledger.specs.Fresh.{fresh, fresh_edits}
+use Rattle.rm_commit.specs.declared.commit.Commit.{Commit}
+use Rattle.rm_lang_statement.specs.declared.command.Command.{Command}
+use Rattle.rm_lang_statement.specs.declared.command.Command.TheVariants.{CreateDatabase}
+use Rattle.rm_lang_statement.specs.IsCommand.{is_command}
+use Rattle.rm_catalog_typed.specs.Fresh.{fresh, fresh_edits}
 use Rattle.rm_report.specs.declared.line.Line.{Line}
 use Rattle.rm_report.specs.declared.line.Line.TheVariants.{DatabaseAt}
 use Rattle.rm_machine.specs.CreateDatabase.{fresh_state}
@@ -20,11 +20,11 @@ use Rattle.rm_machine.specs.Effect.{Outcome, done, no_effect, refused}
 use Rattle.rm_machine.specs.Sound.{IsSound}
 use Rattle.rm_machine.specs.declared.state.State.{State}
 use Rattle.rm_machine.specs.Step.{IsOutcomeWithout}
-use Rattle.rm_machine.proofs.Creating.{fresh-sound}
-use Rattle.rm_frame.specs.Carries.{IsHanded}
-use Rattle.rm_frame.specs.Holds.{records_in}
-use Rattle.rm_frame.specs.Refused.{create_refusal, refusal_without}
-use Rattle.rm_frame.proofs.Founding.{AreNumbers, numbers-of}
+use Rattle.rm_machine_laws.proofs.Creating.{fresh-sound}
+use Rattle.rm_machine_laws.specs.Carries.{IsHanded}
+use Rattle.rm_machine_laws.specs.Holds.{records_in}
+use Rattle.rm_machine_laws.specs.Refused.{create_refusal, refusal_without}
+use Rattle.rm_machine_laws.proofs.Founding.{AreNumbers, numbers-of}
 
 -- the threads are few, or it is refused
 few-by : (b : Bool) (threads : ℕ) → nat_lt 4 threads ≡ b → cond b (Some (Rm11 Threads)) None ≡ None → threads ≤ 4
@@ -57,7 +57,7 @@ module _ (c : Command) (dbid threads scn moment : ℕ) (is : c ≡ CreateDatabas
       subst IsSound (sym same) ((fresh-sound dbid threads scn moment n.number.0 n.number.1 n.some.0 n.some.1 n.first.0 n.first.1 late (λ name. None)).state)
 
   -- and handed out with its first records
-  pub founded : (held : Option Held) (x : Change) (t : State) (lines : List Line) → x.objects ≡ [] → x.edits ≡ fresh_edits (fresh dbid threads scn moment) → x.removes ≡ []
+  pub founded : (held : Option Held) (x : Commit) (t : State) (lines : List Line) → x.objects ≡ [] → x.edits ≡ fresh_edits (fresh dbid threads scn moment) → x.removes ≡ []
       → t ≡ fresh_state dbid threads scn moment → lines ≡ DatabaseAt dbid scn ∷ [] → IsHanded held None c moment lines x t
   founded held x t lines none edits nothing same said_is =
       let least : nat_lt 4 threads ≡ false = (let most = few in grind (arith, nat_tests)) in

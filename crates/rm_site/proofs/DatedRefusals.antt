@@ -3,14 +3,14 @@ use Rattle.std.proofs.Common.{◌≡◌, ℕ, Bool, true, false, List, Option, S
 use Rattle.std.specs.Prelude.{IfSome, if◌then◌else◌}
 use Rattle.std.specs.Option.{option_map, option_map_or}
 use Rattle.rm_base.specs.declared.refusal.Refusal.{Refusal}
-use Rattle.rm_statement.specs.declared.command.BackupForm.{BackupForm}
-use Rattle.rm_statement.specs.declared.command.Command.{Command}
-use Rattle.rm_statement.specs.declared.command.Command.TheVariants.{ArchiveLogCurrent, Backup, BackupLogs, ChangeBackup, CreateDatabase, CreateDatafile, Crosscheck, Cut, Damage, DeleteBackup, DeleteExpired, DeleteObsolete, Dump, LoseDatafile, LoseLog, Mount, OpenPlain, OpenResetlogs, Parallelism, Preview, Recover, RecoverCopy, RecoverTest, Remove, Rename, ResetDatabase, Restore, Retention, SwitchLogfile, Write}
-use Rattle.rm_statement.specs.declared.command.RetentionForm.{RetentionForm}
-use Rattle.rm_statement.specs.declared.command.RetentionForm.TheVariants as form
-use Rattle.rm_statement.specs.declared.command.Until.{Until}
-use Rattle.rm_statement.specs.declared.command.Until.TheVariants as until
-use Rattle.rm_statement.specs.declared.command.WriteForm.{WriteForm}
+use Rattle.rm_lang_statement.specs.declared.command.BackupForm.{BackupForm}
+use Rattle.rm_lang_statement.specs.declared.command.Command.{Command}
+use Rattle.rm_lang_statement.specs.declared.command.Command.TheVariants.{ArchiveLogCurrent, Backup, BackupLogs, ChangeBackup, CreateDatabase, CreateDatafile, Crosscheck, Cut, Damage, DeleteBackup, DeleteExpired, DeleteObsolete, Dump, LoseDatafile, LoseLog, Mount, OpenPlain, OpenResetlogs, Parallelism, Preview, Recover, RecoverCopy, RecoverTest, Remove, Rename, ResetDatabase, Restore, Retention, SwitchLogfile, Write}
+use Rattle.rm_lang_statement.specs.declared.command.RetentionForm.{RetentionForm}
+use Rattle.rm_lang_statement.specs.declared.command.RetentionForm.TheVariants as form
+use Rattle.rm_lang_statement.specs.declared.command.Until.{Until}
+use Rattle.rm_lang_statement.specs.declared.command.Until.TheVariants as until
+use Rattle.rm_lang_statement.specs.declared.command.WriteForm.{WriteForm}
 use Rattle.rm_history.specs.declared.world.Datafile.{Datafile}
 use Rattle.rm_report.specs.Reply.{HasDate}
 use Rattle.rm_machine.specs.Archive.{archive_all_refusal, archiving_refusal}
@@ -37,7 +37,7 @@ use Rattle.rm_machine.specs.Upkeep.{record_refusal}
 use Rattle.rm_machine.specs.Write.{block_refusal, write_refusal}
 use Rattle.rm_machine.specs.declared.state.State.{State}
 use Rattle.rm_machine.specs.State.{current_of, tree}
-use Rattle.rm_machine.proofs.Meant.{nowhere-dated}
+use Rattle.rm_machine_code.proofs.Meant.{nowhere-dated}
 
 -- where it refuses, it tells no moment past the last
 record IsDated (o : Option Refusal) : Type 0 where

@@ -7,23 +7,23 @@ use Rattle.std.proofs.lemmas.Slice.Eq.{bytes_eq-Decides}
 use Rattle.rm_base.specs.Store.{Held}
 use Rattle.rm_catalog.specs.Edits.{after_edits}
 use Rattle.rm_catalog.specs.declared.record.Record.{Record}
-use Rattle.rm_change.specs.declared.change.Change.{Change}
-use Rattle.rm_change.specs.Carrying.{Carried, Halted, Leads, Outside, Tells, after_the_edits, before_the_edits}
-use Rattle.rm_change.specs.Names.{SameBeyondPuts, HasPuts, HasRemoves, is_named, itself, name_of}
-use Rattle.rm_repository.specs.Repository.{Saved, all_records, records_of}
+use Rattle.rm_commit.specs.declared.commit.Commit.{Commit}
+use Rattle.rm_commit.specs.Carrying.{Carried, Halted, Leads, Outside, Tells, after_the_edits, before_the_edits}
+use Rattle.rm_commit.specs.Names.{SameBeyondPuts, HasPuts, HasRemoves, is_named, itself, name_of}
+use Rattle.rm_catalog_typed.specs.TypedCatalog.{Saved, all_records, records_of}
 use Rattle.rm_machine.specs.Machine.{Machine}
 use Rattle.rm_machine.specs.Marks.{lacks_ids}
 use Rattle.rm_machine.specs.Rest.{Rest, at_rest, catalog_in}
 use Rattle.rm_machine.specs.Saving.{IsSavedAs, IsSavedBy, SitePart, made_of, object_of, parts_of, with_ids, with_site}
 use Rattle.rm_machine.specs.declared.state.State.{State}
 use Rattle.rm_machine.specs.State.{ledger}
-use Rattle.rm_machine.proofs.Dropping.{IsNoSite}
+use Rattle.rm_machine_code.proofs.Dropping.{IsNoSite}
 use Rattle.rm_session.proofs.Resting.{rests as saved-rests}
-use Rattle.rm_frame.specs.Holds.{Holds, HoldsRest, Stands, View, records, saved_in}
-use Rattle.rm_frame.specs.Loose.{IsNamedIn}
-use Rattle.rm_frame.specs.Saves.{IsEnded, Saves, StopsSaving}
-use Rattle.rm_frame.specs.Stopped.{IsLeft}
-use Rattle.rm_frame.proofs.Halting.{StaysUnder, is-left, left, left-holds, no-part, rests}
+use Rattle.rm_machine_laws.specs.Holds.{Holds, HoldsRest, Stands, View, records, saved_in}
+use Rattle.rm_machine_laws.specs.Loose.{IsNamedIn}
+use Rattle.rm_machine_laws.specs.Saves.{IsEnded, Saves, StopsSaving}
+use Rattle.rm_machine_laws.specs.Stopped.{IsLeft}
+use Rattle.rm_machine_laws.proofs.Halting.{StaysUnder, is-left, left, left-holds, no-part, rests}
 use Rattle.rm_site.specs.Saved.{SavesAt, StopsSavingAt}
 
 pub ok-then : {T E : Type 0} {P Q : Type 0} (r : Result T E) → (P → Q) → OnOk r P → OnOk r Q
@@ -55,7 +55,7 @@ module _ (held : Option Held) (kept : Option (List Record)) (s : State) where
   saves-nothing why m is holds =
       (at_rest m, subst (λ o. MatchBool (true && is_none (saved_in o)) (IsSavedBy o m (at_rest m)) (at_rest m ≡ at_rest m)) (sym is) (ended-same m s.catalog.saved (lacks_ids s 0) why), rests held kept m holds)
 
-  module _ (none : s.catalog.saved ≡ None) (ids : lacks_ids s 0 ≡ false) (x : Change) (puts : x.objects ≡ with_ids object_of (ledger s).base.next_id (parts_of s))
+  module _ (none : s.catalog.saved ≡ None) (ids : lacks_ids s 0 ≡ false) (x : Commit) (puts : x.objects ≡ with_ids object_of (ledger s).base.next_id (parts_of s))
       (edits : after_edits x.edits (records_of s.catalog) ≡ records_of (with_site s)) (removes : x.removes ≡ []) where
     -- the machine at rest, where its site was saved
     abbrev saved : Machine → Held → Rest

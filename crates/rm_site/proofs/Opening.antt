@@ -11,9 +11,9 @@ use Rattle.rm_catalog.specs.declared.record.Record.{Record}
 use Rattle.rm_catalog.specs.Faults.{Answers, IsBadRow, IsTaken}
 use Rattle.rm_catalog.specs.Keys.{InOrder}
 use Rattle.rm_catalog.specs.Rules.{IsOrderOf, IsValid}
-use Rattle.rm_repository.specs.Loading.{records_in}
-use Rattle.rm_repository.specs.Repository.{Repository, all_records}
-use Rattle.rm_repository.proofs.Valid.{repository-valid}
+use Rattle.rm_catalog_typed.specs.Loading.{records_in}
+use Rattle.rm_catalog_typed.specs.TypedCatalog.{TypedCatalog, all_records}
+use Rattle.rm_catalog_typed.proofs.Valid.{typed_catalog-valid}
 use Rattle.rm_machine.specs.Loading.{IsLoaded}
 use Rattle.rm_machine.specs.Machine.{Machine}
 use Rattle.rm_machine.specs.Rest.{HaveParts, IsSoundRest, IsSoundRestBy, Rest, Wakes, catalog_in}
@@ -23,7 +23,7 @@ use Rattle.rm_session.specs.declared.fault.SessionFault.{SessionFault}
 use Rattle.rm_session.specs.declared.fault.SessionFault.TheVariants as session
 use Rattle.rm_session.proofs.Recorded.{one-catalog}
 use Rattle.rm_session.proofs.Waking.{waking-sound}
-use Rattle.rm_frame.specs.Holds.{HoldsRest, View, saved_in}
+use Rattle.rm_machine_laws.specs.Holds.{HoldsRest, View, saved_in}
 use Rattle.rm_site.specs.Faults.{IsBadFirst, fault_at, fault_in}
 use Rattle.rm_site.specs.Opens.{AreValid, Opens}
 
@@ -37,15 +37,15 @@ of-kept Is None rs s asked order is = tt
 of-kept Is (Some ks) rs s asked order is = (s, answered ks rs s asked order, is)
 
 -- the records of a database at rest are valid, and in order
-valid-at-rest : (c : Option Repository) (r : Rest) → r.catalog ≡ c → IsSoundRest r → IsValid (all_records c) × InOrder (all_records c)
+valid-at-rest : (c : Option TypedCatalog) (r : Rest) → r.catalog ≡ c → IsSoundRest r → IsValid (all_records c) × InOrder (all_records c)
 valid-at-rest None r is sound = (All-nil _, search rules)
 valid-at-rest (Some c) r is sound =
     let borne = subst (λ o. IsSoundRestBy o r.history r.objects r.made r.touched) is sound in
-    let valid = repository-valid c borne.catalog in
+    let valid = typed_catalog-valid c borne.catalog in
     (valid.valid, valid.order)
 
 -- what is loaded of them is the catalog
-pub loaded-is : (held : Option Held) (kept : Option (List Record)) (rs : List Record) (c : Option Repository) (r : Rest) → HoldsRest held kept r → Answers kept rs
+pub loaded-is : (held : Option Held) (kept : Option (List Record)) (rs : List Record) (c : Option TypedCatalog) (r : Rest) → HoldsRest held kept r → Answers kept rs
     → ((s : List Record) → IsOrderOf s rs → IsValid s → IsTaken (records_in (Ok c)) s) → c ≡ r.catalog
 loaded-is held kept rs c r holds asked only =
     let valid = valid-at-rest r.catalog r refl holds.sound in
@@ -65,7 +65,7 @@ opened held kept v sound catalog loaded r holds tell =
     let is = catalog r holds in
     let m : Machine = record { state = v.state; history = r.history; objects = r.objects; made = r.made; touched = r.touched } in
     let wakes : Wakes r m = record {
-      rest = ap (λ (c : Option Repository). record { catalog = c; history = r.history; objects = r.objects; made = r.made; touched = r.touched }) is;
+      rest = ap (λ (c : Option TypedCatalog). record { catalog = c; history = r.history; objects = r.objects; made = r.made; touched = r.touched }) is;
       loaded = subst (λ (h : Option Held). IfSome h (λ h. IfSome v.state (IsLoaded h))) holds.store loaded;
     } in
     let rests = subst (λ c. IsSoundRestBy c r.history r.objects r.made r.touched) (sym is) holds.sound in (
@@ -74,7 +74,7 @@ opened held kept v sound catalog loaded r holds tell =
       refl,
       record {
         store = holds.store;
-        keeper = holds.keeper ∙ ap (λ (c : Option Repository). Some (all_records c)) (sym is);
+        keeper = holds.keeper ∙ ap (λ (c : Option TypedCatalog). Some (all_records c)) (sym is);
         sound = waking-sound r m holds.sound tell wakes sound;
         parts = parts-of v.state r rests;
       },
@@ -99,7 +99,7 @@ told-err (Ok x) e P is p = tt
 told-err (Err x) e P is p = subst P (sym is) p
 
 -- a database, of whose catalog what runs is loaded
-pub opened-some : (held : Option Held) (kept : Option (List Record)) (rs : List Record) (found : Result (Option Repository) CatalogFault) (o : Option State) (s : State) (c : Option Repository) (b : Repository)
+pub opened-some : (held : Option Held) (kept : Option (List Record)) (rs : List Record) (found : Result (Option TypedCatalog) CatalogFault) (o : Option State) (s : State) (c : Option TypedCatalog) (b : TypedCatalog)
     → Answers kept rs → ((s : List Record) → IsOrderOf s rs → IsValid s → IsTaken (records_in found) s) → found ≡ Ok c → c ≡ Some b → o ≡ Some s → s.catalog ≡ b
     → IfSome held (λ h. IsLoaded h s) → IsSound s → Opens held kept (record { state = o; live = true; applied = false })
 opened-some held kept rs found o s c b asked only is some state catalog loaded sound =
@@ -109,7 +109,7 @@ opened-some held kept rs found o s c b asked only is some state catalog loaded s
     loaded)
 
 -- and none
-pub opened-none : (held : Option Held) (kept : Option (List Record)) (rs : List Record) (found : Result (Option Repository) CatalogFault) (o : Option State) (c : Option Repository)
+pub opened-none : (held : Option Held) (kept : Option (List Record)) (rs : List Record) (found : Result (Option TypedCatalog) CatalogFault) (o : Option State) (c : Option TypedCatalog)
     → Answers kept rs → ((s : List Record) → IsOrderOf s rs → IsValid s → IsTaken (records_in found) s) → found ≡ Ok c → c ≡ None → o ≡ None
     → Opens held kept (record { state = o; live = true; applied = false })
 opened-none held kept rs found o c asked only is none state =

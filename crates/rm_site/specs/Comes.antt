@@ -2,8 +2,8 @@
 use Rattle.std.specs.Prelude.{◌≡◌, Bool, true, false, Option, Some, None, All}
 use Rattle.rm_base.specs.Store.{Held}
 use Rattle.rm_base.specs.declared.refusal.Refusal.{Refusal}
-use Rattle.rm_statement.specs.declared.command.Command.{Command}
-use Rattle.rm_statement.specs.declared.command.Command.TheVariants.{BackupLogs, Crosscheck, Cut, Damage, DeleteObsolete, Dump, ListArchived, ListBackup, ListCopy, ListIncarnation, Preview, Recover, RecoverCopy, RecoverTest, Remove, Rename, ReportNeedBackup, ReportObsolete, ReportSchema, Restore, ShowAll, ValidateAll}
+use Rattle.rm_lang_statement.specs.declared.command.Command.{Command}
+use Rattle.rm_lang_statement.specs.declared.command.Command.TheVariants.{BackupLogs, Crosscheck, Cut, Damage, DeleteObsolete, Dump, ListArchived, ListBackup, ListCopy, ListIncarnation, Preview, Recover, RecoverCopy, RecoverTest, Remove, Rename, ReportNeedBackup, ReportObsolete, ReportSchema, Restore, ShowAll, ValidateAll}
 use Rattle.rm_report.specs.Reply.{LineHasDate, HasDate}
 use Rattle.rm_machine.specs.Effect.{refused, told}
 use Rattle.rm_machine.specs.Hands.{Hands}
@@ -12,7 +12,7 @@ use Rattle.rm_machine.specs.declared.state.State.{State}
 use Rattle.rm_machine.specs.Step.{IsOutcome, refusal_of}
 use Rattle.rm_site.specs.declared.statement.Answer.{Answer}
 use Rattle.rm_site.specs.declared.statement.Answer.TheVariants.{Refused, Told, Done}
-use Rattle.rm_frame.specs.Refused.{looks_at_objects}
+use Rattle.rm_machine_laws.specs.Refused.{looks_at_objects}
 
 -- From the state s the statement is refused, or it only tells: then nothing changed. Or it is done, and leaves the
 -- state t.
@@ -35,12 +35,12 @@ AnswerHasDates (Told lines) = All LineHasDate lines
 AnswerHasDates (Done x) = All LineHasDate x.lines
 
 -- the statement changes an object, and looks at what the store holds
-abbrev pub is_drill : Command → Bool
-is_drill (Remove name) = true
-is_drill (Damage name at) = true
-is_drill (Cut name to) = true
-is_drill (Rename old new) = true
-is_drill _ = false
+abbrev pub is_mishap : Command → Bool
+is_mishap (Remove name) = true
+is_mishap (Damage name at) = true
+is_mishap (Cut name to) = true
+is_mishap (Rename old new) = true
+is_mishap _ = false
 
 -- the statement tells of the state alone
 abbrev pub tells_state : Command → Bool

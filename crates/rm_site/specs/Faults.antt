@@ -6,8 +6,8 @@ use Rattle.rm_catalog.specs.Faults.{IsBadRow}
 use Rattle.rm_catalog.specs.declared.keeper.KeeperFail.{KeeperFail}
 use Rattle.rm_catalog.specs.declared.keeper.KeeperFail.TheVariants as keeper
 use Rattle.rm_catalog.specs.declared.record.Record.{Record}
-use Rattle.rm_change.specs.declared.change.Stop.{Stop}
-use Rattle.rm_change.specs.declared.change.Stop.TheVariants as stop
+use Rattle.rm_commit.specs.declared.commit.Stop.{Stop}
+use Rattle.rm_commit.specs.declared.commit.Stop.TheVariants as stop
 use Rattle.rm_evidence.specs.declared.gathering.EvidenceFault.{EvidenceFault}
 use Rattle.rm_evidence.specs.declared.gathering.EvidenceFault.TheVariants as evidence
 use Rattle.rm_verify.specs.declared.fault.VerifyFault.{VerifyFault}

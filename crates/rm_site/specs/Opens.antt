@@ -5,7 +5,7 @@ use Rattle.rm_catalog.specs.declared.record.Record.{Record}
 use Rattle.rm_catalog.specs.Rules.{IsOrderOf, IsValid}
 use Rattle.rm_machine.specs.Machine.{Machine}
 use Rattle.rm_machine.specs.Rest.{PartsTell, Rest, Wakes}
-use Rattle.rm_frame.specs.Holds.{Holds, HoldsRest, Stands, View}
+use Rattle.rm_machine_laws.specs.Holds.{Holds, HoldsRest, Stands, View}
 
 -- the records are valid, in order
 abbrev pub AreValid : List Record → Type 0

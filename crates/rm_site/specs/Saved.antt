@@ -5,9 +5,9 @@ use Rattle.rm_catalog.specs.declared.record.Record.{Record}
 use Rattle.rm_machine.specs.Machine.{Machine}
 use Rattle.rm_machine.specs.declared.state.State.{State}
 use Rattle.rm_machine.specs.Rest.{Rest}
-use Rattle.rm_frame.specs.Holds.{Holds, HoldsRest}
-use Rattle.rm_frame.specs.Saves.{IsEnded}
-use Rattle.rm_frame.specs.Stopped.{IsLeft}
+use Rattle.rm_machine_laws.specs.Holds.{Holds, HoldsRest}
+use Rattle.rm_machine_laws.specs.Saves.{IsEnded}
+use Rattle.rm_machine_laws.specs.Stopped.{IsLeft}
 
 -- whatever machine it is of, where a list was applied
 abbrev pub SavesAt : Option Held → Option (List Record) → State → Option Held → Option (List Record) → Type 0

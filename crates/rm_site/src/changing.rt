@@ -5,22 +5,15 @@ ghost use Rattle.rm_machine.specs.Built.{is_built};
 ghost use Rattle.rm_machine.specs.Hands.{Hands};
 ghost use Rattle.rm_machine.specs.Sound.{IsSound};
 ghost use Rattle.rm_machine.specs.Step.{IsStatement, refusal_of};
-ghost use Rattle.rm_repository.specs.Changes.{EditsFollow};
+ghost use Rattle.rm_catalog_typed.specs.Changes.{EditsFollow};
 ghost use Rattle.rm_site.specs.Comes.{is_change};
 
 use crate::channels::channel_count;
-use rm_archiving::{archive_log_current, switch_logfile};
-use rm_backing::backup;
 use rm_base::NoMemory;
 use rm_catalog::Edit;
 use rm_channel::Gate;
-use rm_host::{lose_datafile, lose_log};
+use rm_lang_statement::Command;
 use rm_machine::{Handed, State};
-use rm_modes::{mount, open, open_resetlogs, reset_database};
-use rm_settings::{configure_parallelism, configure_retention};
-use rm_statement::Command;
-use rm_upkeep::{change_backup, delete_backup, delete_expired};
-use rm_writing::{create_datafile, write};
 use std::alloc::Global;
 use std::sync::Wait;
 use std::thread::Threads;
@@ -46,25 +39,35 @@ pub(crate) fn change<R: Threads + Wait + Sync, G: Gate>(
     ensures edits { OnOk result (EditsFollow edits.old.items edits.new.items state.old.catalog state.new.catalog) }
 {
     match command {
-        Command::CreateDatafile { blocks } => create_datafile(alloc, state, edits, *blocks),
-        Command::Write(form) => write(alloc, state, edits, form),
-        Command::SwitchLogfile { thread } => switch_logfile(alloc, state, edits, *thread),
-        Command::ArchiveLogCurrent => archive_log_current(alloc, state, edits),
+        Command::CreateDatafile { blocks } => rm_step_write::create_datafile(
+            alloc, state, edits, *blocks,
+        ),
+        Command::Write(form) => rm_step_write::write(alloc, state, edits, form),
+        Command::SwitchLogfile { thread } => rm_step_open::switch_logfile(
+            alloc, state, edits, *thread,
+        ),
+        Command::ArchiveLogCurrent => rm_step_open::archive_log_current(alloc, state, edits),
         Command::Backup(form) => {
             let channels = channel_count(state, channels);
-            backup(rt, alloc, gate, channels, state, edits, form)
+            rm_step_backup::backup(rt, alloc, gate, channels, state, edits, form)
         }
-        Command::Mount => mount(alloc, state),
-        Command::OpenPlain => open(alloc, state),
-        Command::OpenResetlogs => open_resetlogs(alloc, state, edits),
-        Command::ResetDatabase { inc } => reset_database(alloc, state, edits, *inc),
-        Command::ChangeBackup { id, to } => change_backup(alloc, state, edits, *id, *to),
-        Command::DeleteBackup { id } => delete_backup(alloc, state, edits, *id),
-        Command::DeleteExpired { class } => delete_expired(alloc, state, edits, *class),
-        Command::Retention(form) => configure_retention(alloc, state, edits, *form),
-        Command::Parallelism { channels } => configure_parallelism(alloc, state, edits, *channels),
-        Command::LoseDatafile { file } => lose_datafile(alloc, state, *file),
-        Command::LoseLog { thread } => lose_log(alloc, state, *thread),
+        Command::Mount => rm_step_open::mount(alloc, state),
+        Command::OpenPlain => rm_step_open::open(alloc, state),
+        Command::OpenResetlogs => rm_step_open::open_resetlogs(alloc, state, edits),
+        Command::ResetDatabase { inc } => rm_step_open::reset_database(alloc, state, edits, *inc),
+        Command::ChangeBackup { id, to } => rm_step_upkeep::change_backup(
+            alloc, state, edits, *id, *to,
+        ),
+        Command::DeleteBackup { id } => rm_step_upkeep::delete_backup(alloc, state, edits, *id),
+        Command::DeleteExpired { class } => rm_step_upkeep::delete_expired(
+            alloc, state, edits, *class,
+        ),
+        Command::Retention(form) => rm_step_upkeep::configure_retention(alloc, state, edits, *form),
+        Command::Parallelism { channels } => rm_step_upkeep::configure_parallelism(
+            alloc, state, edits, *channels,
+        ),
+        Command::LoseDatafile { file } => rm_step_host::lose_datafile(alloc, state, *file),
+        Command::LoseLog { thread } => rm_step_host::lose_log(alloc, state, *thread),
         _ => unreachable!(),
     }
 }

@@ -1,21 +1,20 @@
 //! CREATE DATABASE, where there is no database.
 ghost use Rattle.std.specs.Prelude.{◌≡◌, ◌≤◌, [], ◌∷◌, IfOk, IfNone, IsTrue};
 ghost use Rattle.rm_base.specs.Numbers.{last_moment};
-ghost use Rattle.rm_statement.specs.declared.command.Command.TheVariants.{CreateDatabase};
-ghost use Rattle.rm_statement.specs.IsCommand.{is_command};
-ghost use Rattle.rm_ledger.specs.Fresh.{fresh, fresh_edits as edits_of_fresh};
+ghost use Rattle.rm_lang_statement.specs.declared.command.Command.TheVariants.{CreateDatabase};
+ghost use Rattle.rm_lang_statement.specs.IsCommand.{is_command};
+ghost use Rattle.rm_catalog_typed.specs.Fresh.{fresh, fresh_edits as edits_of_fresh};
 ghost use Rattle.rm_report.specs.declared.line.Line.TheVariants.{DatabaseAt};
 ghost use Rattle.rm_machine.specs.CreateDatabase.{fresh_state};
-ghost use Rattle.rm_frame.specs.Refused.{create_refusal, refusal_without};
+ghost use Rattle.rm_machine_laws.specs.Refused.{create_refusal, refusal_without};
 
 use rm_base::{Limit, Moment, NoMemory, Refusal, Scn, Seq, ThreadNo};
-use rm_change::Change;
-use rm_ledger::fresh_edits;
+use rm_catalog_typed::{TypedCatalog, fresh_edits};
+use rm_commit::Commit;
+use rm_lang_statement::Command;
 use rm_machine::{Instance, State};
 use rm_redo::OnlineLogs;
 use rm_report::Line;
-use rm_repository::Catalog;
-use rm_statement::Command;
 use std::alloc::Global;
 
 // Why CREATE DATABASE is refused where there is no database: it wants more than 4 redo threads.
@@ -55,7 +54,7 @@ pub(crate) fn new_database(
 {
     let threads = threads as ThreadNo;
     Ok(State {
-        catalog: Catalog::fresh(alloc, dbid, threads, scn, moment)?,
+        catalog: TypedCatalog::fresh(alloc, dbid, threads, scn, moment)?,
         instance: Instance {
             is_open: true,
             point: None,
@@ -72,13 +71,13 @@ pub(crate) fn first_records(
     threads: u64,
     scn: Scn,
     moment: Moment,
-) -> Result<Change, NoMemory>
+) -> Result<Commit, NoMemory>
     requires few { threads ≤ 4 }
     ensures objects { IfOk result (λ x. x.objects ≡ []) }
     ensures edits { IfOk result (λ x. x.edits ≡ edits_of_fresh (fresh dbid threads scn moment)) }
     ensures removes { IfOk result (λ x. x.removes ≡ []) }
 {
-    Ok(Change {
+    Ok(Commit {
         objects: Seq::new(alloc),
         edits: fresh_edits(alloc, dbid, threads as ThreadNo, scn, moment)?,
         removes: Seq::new(alloc),

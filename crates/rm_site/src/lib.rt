@@ -3,23 +3,25 @@
 
 mod changing;
 mod channels;
-mod checking;
 mod create;
-mod drilling;
+mod faults;
 mod gates;
 mod moment;
 pub mod open;
-mod recovering;
 mod refusing;
-mod renewing;
-mod retaining;
 mod save;
 pub mod site;
 mod statement;
 mod step;
-mod telling;
+mod step_backup;
+mod step_copies;
+mod step_host;
+mod step_recover;
+mod step_retain;
+mod step_tell;
+mod step_upkeep;
 
 pub use gates::OpenGate;
 pub use open::OpenFault;
-pub use rm_change::Stop;
+pub use rm_commit::Stop;
 pub use site::Site;

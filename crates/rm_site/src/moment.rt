@@ -1,7 +1,7 @@
 //! The moment of a statement.
 ghost use Rattle.std.specs.Prelude.{◌≡◌, IfSome};
 ghost use Rattle.rm_machine.specs.Sound.{IsSound};
-ghost use Rattle.rm_frame.specs.Moments.{IsMomentIn, moment_of};
+ghost use Rattle.rm_machine_laws.specs.Moments.{IsMomentIn, moment_of};
 
 use rm_base::{LAST_MOMENT, Moment};
 use rm_machine::State;

@@ -7,7 +7,7 @@ ghost use Rattle.rm_site.specs.Opens.{AreValid, Opens};
 use crate::site::Site;
 use rm_base::{NoMemory, Store};
 use rm_catalog::{CatalogFault, Keeper, KeeperFail};
-use rm_repository::Catalog;
+use rm_catalog_typed::TypedCatalog;
 use rm_session::{SessionFault, load_place};
 use std::alloc::Global;
 
@@ -83,7 +83,7 @@ impl Site {
         ensures keeper_never_falls { C.faults keeper.old ≤ C.faults keeper.new }
     {
         let records = keeper.load()?;
-        let state = match Catalog::from_records(records)? {
+        let state = match TypedCatalog::from_records(records)? {
             Some(catalog) => Some(load_place(alloc, store, catalog)?),
             None => None,
         };

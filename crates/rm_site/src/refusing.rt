@@ -3,19 +3,10 @@ ghost use Rattle.std.specs.Prelude.{◌≡◌, IfOk};
 ghost use Rattle.rm_machine.specs.Sound.{IsSound};
 ghost use Rattle.rm_machine.specs.Step.{refusal_of};
 
-use rm_archiving::{archive_all_refusal, switch_refusal};
-use rm_backing::backup_refusal;
 use rm_base::{NoMemory, Refusal};
-use rm_host::{lose_log_refusal, lose_refusal};
+use rm_lang_statement::Command;
 use rm_machine::State;
-use rm_machine::room::ids_refusal;
-use rm_modes::{open_refusal, reset_refusal, resetlogs_refusal};
-use rm_recovery::{preview_refusal, recover_refusal, restore_refusal, test_refusal};
-use rm_renewing::recover_copy_refusal;
-use rm_settings::{parallelism_refusal, retention_refusal};
-use rm_statement::Command;
-use rm_upkeep::record_refusal;
-use rm_writing::{datafile_refusal, dump_refusal, write_refusal};
+use rm_machine_code::room::ids_refusal;
 use std::alloc::Global;
 
 /// Why the state alone refuses a statement, if it does. Only the text of a tag takes memory.
@@ -29,36 +20,42 @@ pub(crate) fn refusal_of(
 {
     match command {
         Command::CreateDatabase { .. } => Ok(Some(Refusal::Rm03)),
-        Command::CreateDatafile { blocks } => Ok(datafile_refusal(state, *blocks)),
-        Command::Write(form) => Ok(write_refusal(state, form)),
-        Command::Dump { file, block } => Ok(dump_refusal(state, *file, *block)),
-        Command::SwitchLogfile { thread } => Ok(switch_refusal(state, *thread)),
-        Command::ArchiveLogCurrent => Ok(archive_all_refusal(state)),
-        Command::Backup(form) => Ok(backup_refusal(state, form)),
+        Command::CreateDatafile { blocks } => Ok(rm_step_write::datafile_refusal(state, *blocks)),
+        Command::Write(form) => Ok(rm_step_write::write_refusal(state, form)),
+        Command::Dump { file, block } => Ok(rm_step_tell::dump_refusal(state, *file, *block)),
+        Command::SwitchLogfile { thread } => Ok(rm_step_open::switch_refusal(state, *thread)),
+        Command::ArchiveLogCurrent => Ok(rm_step_open::archive_all_refusal(state)),
+        Command::Backup(form) => Ok(rm_step_backup::backup_refusal(state, form)),
         Command::BackupLogs => Ok(ids_refusal(state)),
         Command::Mount => Ok(ids_refusal(state)),
-        Command::OpenPlain => Ok(open_refusal(state)),
-        Command::OpenResetlogs => Ok(resetlogs_refusal(state)),
-        Command::ResetDatabase { inc } => Ok(reset_refusal(state, *inc)),
-        Command::Restore { file, until } => Ok(restore_refusal(state, *file, until)),
-        Command::Preview { until } => Ok(preview_refusal(state, until)),
-        Command::Recover { until } => Ok(recover_refusal(state, until)),
-        Command::RecoverTest { until, inc } => Ok(test_refusal(state, until, *inc)),
-        Command::RecoverCopy { tag, until } => recover_copy_refusal(
+        Command::OpenPlain => Ok(rm_step_open::open_refusal(state)),
+        Command::OpenResetlogs => Ok(rm_step_open::resetlogs_refusal(state)),
+        Command::ResetDatabase { inc } => Ok(rm_step_open::reset_refusal(state, *inc)),
+        Command::Restore { file, until } => Ok(rm_step_recover::restore_refusal(
+            state, *file, until,
+        )),
+        Command::Preview { until } => Ok(rm_step_recover::preview_refusal(state, until)),
+        Command::Recover { until } => Ok(rm_step_recover::recover_refusal(state, until)),
+        Command::RecoverTest { until, inc } => Ok(rm_step_recover::test_refusal(
+            state, until, *inc,
+        )),
+        Command::RecoverCopy { tag, until } => rm_step_copies::recover_copy_refusal(
             alloc,
             state,
             tag.as_str(),
             until,
         ),
         Command::Crosscheck { .. } => Ok(ids_refusal(state)),
-        Command::ChangeBackup { id, .. } => Ok(record_refusal(state, *id)),
-        Command::DeleteBackup { id } => Ok(record_refusal(state, *id)),
+        Command::ChangeBackup { id, .. } => Ok(rm_step_upkeep::record_refusal(state, *id)),
+        Command::DeleteBackup { id } => Ok(rm_step_upkeep::record_refusal(state, *id)),
         Command::DeleteExpired { .. } => Ok(ids_refusal(state)),
         Command::DeleteObsolete => Ok(ids_refusal(state)),
-        Command::Retention(form) => Ok(retention_refusal(state, *form)),
-        Command::Parallelism { channels } => Ok(parallelism_refusal(state, *channels)),
-        Command::LoseDatafile { file } => Ok(lose_refusal(state, *file)),
-        Command::LoseLog { thread } => Ok(lose_log_refusal(state, *thread)),
+        Command::Retention(form) => Ok(rm_step_upkeep::retention_refusal(state, *form)),
+        Command::Parallelism { channels } => Ok(rm_step_upkeep::parallelism_refusal(
+            state, *channels,
+        )),
+        Command::LoseDatafile { file } => Ok(rm_step_host::lose_refusal(state, *file)),
+        Command::LoseLog { thread } => Ok(rm_step_host::lose_log_refusal(state, *thread)),
         Command::Remove { .. } => Ok(ids_refusal(state)),
         Command::Damage { .. } => Ok(ids_refusal(state)),
         Command::Cut { .. } => Ok(ids_refusal(state)),

@@ -1,8 +1,8 @@
 //! A session ends: its site is saved.
 ghost use Rattle.std.specs.Prelude.{◌≡◌, ◌≤◌, ◌⊎◌, true, false, is_none, None, IsTrue, OnOk, OnErr, IsErrOf};
 ghost use Rattle.rm_base.specs.Outside.{Rose};
-ghost use Rattle.rm_change.specs.declared.change.Stop.TheVariants.{StoreFault, KeeperFault};
-ghost use Rattle.rm_frame.specs.Saves.{Saves, StopsSaving};
+ghost use Rattle.rm_commit.specs.declared.commit.Stop.TheVariants.{StoreFault, KeeperFault};
+ghost use Rattle.rm_machine_laws.specs.Saves.{Saves, StopsSaving};
 ghost use Rattle.rm_machine.specs.Marks.{lacks_ids};
 ghost use Rattle.rm_machine.specs.Sound.{IsSound};
 ghost use Rattle.rm_site.specs.Saved.{SavesAt, StopsSavingAt};
@@ -10,9 +10,9 @@ ghost use Rattle.rm_site.specs.Saved.{SavesAt, StopsSavingAt};
 use crate::site::Site;
 use rm_base::{Seq, Store};
 use rm_catalog::Keeper;
-use rm_change::{Change, Stop, carry_out};
+use rm_commit::{Commit, Stop, carry_out};
 use rm_machine::State;
-use rm_machine::room::lacks_ids;
+use rm_machine_code::room::lacks_ids;
 use rm_session::put_place;
 use std::alloc::Global;
 use std::mem;
@@ -47,7 +47,7 @@ fn save_state<D: Store, C: Keeper>(
     let mut state = state;
     let mut edits = Vec::new(alloc);
     let objects = put_place(alloc, &mut state, &mut edits)?;
-    let change = Change {
+    let change = Commit {
         objects,
         edits: Seq::from_vec(edits),
         removes: Seq::new(alloc),

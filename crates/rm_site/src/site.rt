@@ -17,7 +17,7 @@ pub struct Site {
 impl Model for Site {
     ghost use Rattle.std.specs.Prelude.{IfSome};
     ghost use Rattle.rm_machine.specs.Sound.{IsSound};
-    ghost use Rattle.rm_frame.specs.Holds.{View};
+    ghost use Rattle.rm_machine_laws.specs.Holds.{View};
 
     ghost Value = { View };
 

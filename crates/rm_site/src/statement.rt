@@ -1,28 +1,25 @@
 //! What a statement comes to, where there is a database.
 ghost use Rattle.std.specs.Prelude.{◌≡◌, ◌≤◌, None, IfOk, IsTrue, IsErrOf, OnOk, IfSome};
 ghost use Rattle.rm_base.specs.Outside.{Rose};
-ghost use Rattle.rm_change.specs.declared.change.Stop.TheVariants.{StoreFault, KeeperFault};
-ghost use Rattle.rm_repository.specs.Changes.{EditsFollow};
+ghost use Rattle.rm_commit.specs.declared.commit.Stop.TheVariants.{StoreFault, KeeperFault};
+ghost use Rattle.rm_catalog_typed.specs.Changes.{EditsFollow};
 ghost use Rattle.rm_machine.specs.Built.{is_built};
 ghost use Rattle.rm_machine.specs.Sound.{IsSound};
 ghost use Rattle.rm_machine.specs.Step.{IsStatement, refusal_of};
 ghost use Rattle.rm_site.specs.Comes.{AnswerHasDates, ComesTo, IsAnswer, IsRefusedBy};
 
 use crate::changing::change;
-use crate::checking::{back_up_logs, check, validate};
-use crate::drilling::drill;
-use crate::recovering::{bring_back, preview, put_back, test};
 use crate::refusing::refusal_of;
-use crate::renewing::renew;
-use crate::retaining::{clear, tell_needs, tell_obsolete};
-use crate::telling::tell;
+use crate::{
+    step_backup, step_copies, step_host, step_recover, step_retain, step_tell, step_upkeep,
+};
 use rm_base::{Refusal, Seq, Store};
 use rm_catalog::Edit;
-use rm_change::Stop;
 use rm_channel::Gate;
+use rm_commit::Stop;
+use rm_lang_statement::Command;
 use rm_machine::{Handed, State};
 use rm_report::Line;
-use rm_statement::Command;
 use std::alloc::Global;
 use std::sync::Wait;
 use std::thread::Threads;
@@ -63,30 +60,36 @@ fn accepted<R: Threads + Wait + Sync, G: Gate, D: Store>(
     ensures never_falls { D.faults store.old ≤ D.faults store.new }
 {
     match command {
-        Command::Restore { file, until } => put_back(alloc, state, store, *file, until),
-        Command::Preview { until } => preview(alloc, state, store, until),
-        Command::Recover { until } => bring_back(rt, alloc, channels, state, store, until),
+        Command::Restore { file, until } => step_recover::restore(
+            alloc, state, store, *file, until,
+        ),
+        Command::Preview { until } => step_recover::preview(alloc, state, store, until),
+        Command::Recover { until } => step_recover::recover(
+            rt, alloc, channels, state, store, until,
+        ),
         Command::RecoverTest { until, inc } => {
-            test(rt, alloc, channels, state, store, until, *inc)
+            step_recover::recover_test(rt, alloc, channels, state, store, until, *inc)
         }
-        Command::ValidateAll => validate(alloc, state, store),
-        Command::Crosscheck { class } => check(alloc, state, store, edits, *class),
-        Command::BackupLogs => back_up_logs(alloc, state, store, edits),
-        Command::RecoverCopy { tag, until } => renew(alloc, state, store, edits, tag, until),
-        Command::DeleteObsolete => clear(alloc, state, store, edits),
-        Command::ReportObsolete => tell_obsolete(alloc, state, store),
-        Command::ReportNeedBackup => tell_needs(alloc, state, store),
-        Command::Dump { .. } => Ok(tell(alloc, state, command)?),
-        Command::ListIncarnation => Ok(tell(alloc, state, command)?),
-        Command::ListBackup => Ok(tell(alloc, state, command)?),
-        Command::ListCopy => Ok(tell(alloc, state, command)?),
-        Command::ListArchived => Ok(tell(alloc, state, command)?),
-        Command::ReportSchema => Ok(tell(alloc, state, command)?),
-        Command::ShowAll => Ok(tell(alloc, state, command)?),
-        Command::Remove { .. } => drill(alloc, state, store, command),
-        Command::Damage { .. } => drill(alloc, state, store, command),
-        Command::Cut { .. } => drill(alloc, state, store, command),
-        Command::Rename { .. } => drill(alloc, state, store, command),
+        Command::ValidateAll => step_tell::validate(alloc, state, store),
+        Command::Crosscheck { class } => step_upkeep::check(alloc, state, store, edits, *class),
+        Command::BackupLogs => step_backup::back_up_logs(alloc, state, store, edits),
+        Command::RecoverCopy { tag, until } => step_copies::renew(
+            alloc, state, store, edits, tag, until,
+        ),
+        Command::DeleteObsolete => step_retain::clear(alloc, state, store, edits),
+        Command::ReportObsolete => step_retain::tell_obsolete(alloc, state, store),
+        Command::ReportNeedBackup => step_retain::tell_needs(alloc, state, store),
+        Command::Dump { .. } => Ok(step_tell::tell(alloc, state, command)?),
+        Command::ListIncarnation => Ok(step_tell::tell(alloc, state, command)?),
+        Command::ListBackup => Ok(step_tell::tell(alloc, state, command)?),
+        Command::ListCopy => Ok(step_tell::tell(alloc, state, command)?),
+        Command::ListArchived => Ok(step_tell::tell(alloc, state, command)?),
+        Command::ReportSchema => Ok(step_tell::tell(alloc, state, command)?),
+        Command::ShowAll => Ok(step_tell::tell(alloc, state, command)?),
+        Command::Remove { .. } => step_host::mishap(alloc, state, store, command),
+        Command::Damage { .. } => step_host::mishap(alloc, state, store, command),
+        Command::Cut { .. } => step_host::mishap(alloc, state, store, command),
+        Command::Rename { .. } => step_host::mishap(alloc, state, store, command),
         _ => Ok(Answer::Done(change(rt, alloc, gate, channels, state, edits, command)?)),
     }
 }

@@ -1,19 +1,19 @@
 //! The steps of a site.
 ghost use Rattle.std.specs.Prelude.{◌≡◌, ◌≤◌, ◌++◌, ◌||◌, true, false, None, Some, IfOk, IfSome, IsTrue, OnOk, OnErr, IsErrOf, map};
 ghost use Rattle.rm_base.specs.Outside.{Rose};
-ghost use Rattle.rm_change.specs.declared.change.Stop.TheVariants.{StoreFault, KeeperFault};
-ghost use Rattle.rm_statement.specs.IsCommand.{is_command};
+ghost use Rattle.rm_commit.specs.declared.commit.Stop.TheVariants.{StoreFault, KeeperFault};
+ghost use Rattle.rm_lang_statement.specs.IsCommand.{is_command};
 ghost use Rattle.rm_report.specs.Reply.{HasDates, said};
-ghost use Rattle.rm_objects.specs.Names.{site_name};
+ghost use Rattle.rm_evidence.specs.Names.{site_name};
 ghost use Rattle.rm_machine.specs.Built.{is_built};
 ghost use Rattle.rm_machine.specs.Saved.{saved_names};
 ghost use Rattle.rm_machine.specs.Sound.{IsSound};
 ghost use Rattle.rm_machine.specs.Step.{IsStatement};
-ghost use Rattle.rm_frame.specs.Moments.{IsMomentIn, moment_of};
-ghost use Rattle.rm_frame.specs.Refused.{AnsweredBy, refusal_in};
-ghost use Rattle.rm_frame.specs.Saves.{applies};
-ghost use Rattle.rm_frame.specs.Steps.{DeletesSafely, IsStepAt, Steps};
-ghost use Rattle.rm_frame.specs.Stopped.{Stops, IsStopAt};
+ghost use Rattle.rm_machine_laws.specs.Moments.{IsMomentIn, moment_of};
+ghost use Rattle.rm_machine_laws.specs.Refused.{AnsweredBy, refusal_in};
+ghost use Rattle.rm_machine_laws.specs.Saves.{applies};
+ghost use Rattle.rm_machine_laws.specs.Steps.{DeletesSafely, IsStepAt, Steps};
+ghost use Rattle.rm_machine_laws.specs.Stopped.{Stops, IsStopAt};
 
 use crate::create::{first_records, lines_of, new_database, refusal_without};
 use crate::moment::moment_of;
@@ -21,13 +21,14 @@ use crate::site::Site;
 use crate::statement::{Answer, come_to};
 use rm_base::{Moment, NoMemory, Seq, Store, Text};
 use rm_catalog::{Keeper, PartEntry};
-use rm_change::{Change, Stop, carry_out};
+use rm_catalog_typed::Saved;
 use rm_channel::Gate;
-use rm_machine::{Handed, State, refusal_reply};
-use rm_objects::site_name;
+use rm_commit::{Commit, Stop, carry_out};
+use rm_evidence::site_name;
+use rm_lang_statement::Command;
+use rm_machine::{Handed, State};
+use rm_machine_code::refusal_reply;
 use rm_report::{Line, Reply};
-use rm_repository::Saved;
-use rm_statement::Command;
 use std::alloc::Global;
 use std::mem;
 use std::sync::Wait;
@@ -154,11 +155,11 @@ fn answer_in<R: Threads + Wait + Sync, G: Gate, D: Store, C: Keeper>(
     let earlier = state.catalog.begin(&mut edits, moment)?;
     match come_to(rt, alloc, gate, channels, state, store, &mut edits, command)? {
         Answer::Refused(refusal) => {
-            state.catalog.put_back(earlier);
+            state.catalog.revert(earlier);
             Ok(refusal_reply(alloc, refusal)?)
         }
         Answer::Told(lines) => {
-            state.catalog.put_back(earlier);
+            state.catalog.revert(earlier);
             Ok(reply_of(lines))
         }
         Answer::Done(handed) => {
@@ -167,7 +168,7 @@ fn answer_in<R: Threads + Wait + Sync, G: Gate, D: Store, C: Keeper>(
                 objects,
                 removes,
             } = handed;
-            let change = Change {
+            let change = Commit {
                 objects,
                 edits: Seq::from_vec(edits),
                 removes: and_saved(alloc, removes, &earlier.saved)?,

@@ -7,7 +7,7 @@ use Rattle.std.proofs.lemmas.List.Elements.{All-cons, All-head, All-nil, All-pus
 use Rattle.rm_base.specs.declared.block.Row.{Row}
 use Rattle.rm_blocks.specs.File.{File, created, created_row, created_rows}
 use Rattle.rm_blocks.proofs.Rows.{length-created}
-use Rattle.rm_redo.specs.Online.{IsLost, fresh_log, fresh_logs, records_of}
+use Rattle.rm_redo.specs.Online.{IsLost, fresh_log, fresh_logs, thread_records}
 use Rattle.rm_redo.specs.declared.online.ThreadLog.{ThreadLog}
 use Rattle.rm_live.specs.Parts.{IsSound, Parts}
 use Rattle.rm_live.specs.Passes.{IsLater, Standing}
@@ -51,7 +51,7 @@ log-at P l (suc n) (suc k) none some = log-at P l n k none some
 kept : (t : ℕ) → ¬ IsLost (fresh_logs 7 1 4 1) t
 kept t = log-at (λ o. ¬ (option_map_or (λ (l : ThreadLog). l.is_lost) o false ≡ true)) (fresh_log 1) 4 (t - 1) (λ e. absurd (cc e)) (λ e. absurd (cc e))
 
-no_record : (t : ℕ) → length (records_of (fresh_logs 7 1 4 1) t) ≡ 0
+no_record : (t : ℕ) → length (thread_records (fresh_logs 7 1 4 1) t) ≡ 0
 no_record t = log-at (λ o. length (option_map_or (λ (l : ThreadLog). l.records) o []) ≡ 0) (fresh_log 1) 4 (t - 1) refl refl
 
 threads-from : (t : ℕ) (ws : List (List WriteJob)) → 1 ≤ t → t + length ws ≤ 5 → AreThreads (fresh_logs 7 1 4 1) t ws

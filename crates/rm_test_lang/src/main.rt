@@ -17,7 +17,7 @@ use replies::{
     MOST, changing, limits, listing, names, records, recovering, refusals, text_of, upkeep,
 };
 use rm_base::NoMemory;
-use rm_grammar::Unread;
+use rm_lang_grammar::Unread;
 use rm_report::Line;
 use rm_test_harness::{Fault, tell, tell_table};
 use std::io;

@@ -1,12 +1,12 @@
 //! The parts of the notation one by one.
 ghost use Rattle.std.specs.Prelude.{◌+◌, ◌<◌, ◌^◌};
-ghost use Rattle.rm_token.specs.Tokens.{feeds};
+ghost use Rattle.rm_lang_token.specs.Tokens.{feeds};
 
 use rm_base::{NoMemory, Seq};
-use rm_grammar::reading::*;
-use rm_grammar::tags::{is_capital_tag, is_tag};
-use rm_grammar::{Spelling, Unread};
-use rm_token::{Token, statements, text_of};
+use rm_lang_grammar::reading::*;
+use rm_lang_grammar::tags::{is_capital_tag, is_tag};
+use rm_lang_grammar::{Spelling, Unread};
+use rm_lang_token::{Token, statements, text_of};
 use std::alloc::Global;
 
 // The tokens of the last statement.

@@ -12,7 +12,7 @@ fn text_at(alloc: Global, tokens: &[Token]) -> Result<Seq<u8>, NoMemory> {
 }
 
 // The texts of the statements of a script, one behind the other.
-#[tactic(auto, using(rm_token::proofs::Reading::feeds_within))]
+#[tactic(auto, using(rm_lang_token::proofs::Reading::feeds_within))]
 fn spelled(alloc: Global, script: &[u8]) -> Result<Vec<u8>, NoMemory> {
     let mut out = Vec::new(alloc);
     if script.len() > 1_000_000 {

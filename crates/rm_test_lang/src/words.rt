@@ -1,6 +1,6 @@
 //! The words of the program.
 use rm_base::{NoMemory, Text};
-use rm_words::{WordsFault, read_words};
+use rm_lang_words::{WordsFault, read_words};
 use std::alloc::Global;
 
 /// What the words of the line say, each behind one space.

@@ -1,7 +1,7 @@
 //! A change as a whole, and stopped at each of its calls: which stop it is, and what is left.
 use rm_base::{Failing, MemStore, NoMemory, Seq, Store, StoreFail, StoreFailing, Text};
 use rm_catalog::{Edit, Keeper, KeeperFail, Key, MarkEntry, MemKeeper, Record};
-use rm_change::{Change, Object, Stop, carry_out};
+use rm_commit::{Commit, Object, Stop, carry_out};
 use rm_test_harness::{Fault, Told, differs, numbers};
 use std::alloc::Global;
 
@@ -61,8 +61,8 @@ fn object(alloc: Global, name: &str, bytes: &[u8]) -> Result<Object, NoMemory> {
 }
 
 // Three objects, two of one name; mark 3 in place of mark 1; and two names, of which one has nothing.
-fn change(alloc: Global) -> Result<Change, NoMemory> {
-    let mut change = Change {
+fn change(alloc: Global) -> Result<Commit, NoMemory> {
+    let mut change = Commit {
         objects: Seq::new(alloc),
         edits: Seq::new(alloc),
         removes: Seq::new(alloc),

@@ -2,8 +2,8 @@
 use crate::made::catalog_of;
 use rm_base::{Policy, Seq};
 use rm_catalog::{BaseEntry, DatafileEntry, IncarnationEntry, MarkEntry, Record};
+use rm_evidence::{base_of, datafile, has_database, threads};
 use rm_history::Datafile;
-use rm_objects::{base_of, datafile, has_database, threads};
 use rm_test_harness::Fault;
 use std::alloc::Global;
 

@@ -1,5 +1,5 @@
-//! Tests of the public calls of the libraries below the machine, each of which prints a line: of rm_base, rm_token, rm_history,
-//! rm_blocks and rm_lanes, of rm_catalog and rm_redo, of rm_piece, rm_objects and rm_change, of rm_merge and rm_backup, and of
+//! Tests of the public calls of the libraries below the machine, each of which prints a line: of rm_base, rm_lang_token, rm_history,
+//! rm_blocks and rm_lanes, of rm_catalog and rm_redo, of rm_piece, rm_evidence and rm_commit, of rm_merge and rm_backup, and of
 //! rm_retain. The long tables and the worked rows are files of `data/`, of which each line is a case or says what is there.
 #![tactic(auto)]
 

@@ -1,8 +1,8 @@
 //! The table of what is picked for a level 1, and of what a copy becomes by it.
 use crate::made::{catalog_of, three_branches};
 use crate::pieces::{copy_text, halves, piece_of};
+use rm_evidence::has_database;
 use rm_merge::{MergeFault, merge};
-use rm_objects::has_database;
 use rm_piece::{Piece, is_valid, pick};
 use rm_test_harness::{Fault, Told, differs, head, numbers, rows, rows_text};
 use std::alloc::Global;

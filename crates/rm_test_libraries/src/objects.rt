@@ -3,7 +3,7 @@ use crate::piece_bytes::{bytes_of, full, row};
 use rm_base::sealed::digest_of;
 use rm_base::{Kind, Seq, Status, Text};
 use rm_catalog::{LogEntry, PieceEntry};
-use rm_objects::{log_name, log_object, piece_name, piece_object, site_name};
+use rm_evidence::{log_name, log_object, piece_name, piece_object, site_name};
 use rm_redo::{LogFile, encode_log, is_valid_log};
 use rm_test_harness::{Fault, differs};
 use std::alloc::Global;

@@ -4,7 +4,7 @@ use crate::pieces::pairs_text;
 use rm_backup::{parent, start_above, taken};
 use rm_base::{FileNo, Scn, Seq, Text};
 use rm_catalog::{Catalog, PieceEntry, Record};
-use rm_objects::has_database;
+use rm_evidence::has_database;
 use rm_test_harness::{Fault, Told, differs, head, kind_of, numbers, status_of};
 use std::alloc::Global;
 

@@ -2,8 +2,7 @@
 use crate::made::{Besides, catalog_of, database, datafile, log, piece, recorded};
 use rm_base::{Policy, Scn, Seq, Status};
 use rm_catalog::{Catalog, Record};
-use rm_evidence::Evidence;
-use rm_objects::has_database;
+use rm_evidence::{Evidence, has_database};
 use rm_retain::{chosen, do_ascend, obsolete};
 use rm_test_harness::{Fault, Told, differs, head, numbers};
 use std::alloc::Global;

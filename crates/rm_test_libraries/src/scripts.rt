@@ -1,7 +1,7 @@
 //! The statements of small scripts, and the text of tokens.
 use rm_base::{NoMemory, Text};
+use rm_lang_token::{Token, are_string_bytes, is_name, statements, text_of};
 use rm_test_harness::{Fault, Told, differs, shown, unquoted};
-use rm_token::{Token, are_string_bytes, is_name, statements, text_of};
 use std::alloc::Global;
 
 fn push_token(out: &mut String, token: &Token) -> Result<(), NoMemory> {
@@ -25,7 +25,7 @@ fn push_statement(out: &mut String, line: u32, tokens: &[Token]) -> Result<(), N
 }
 
 // Each statement with its line, a space behind each token and a bar at its end. `?` is a bad token.
-#[tactic(auto, using(rm_token::proofs::Reading::feeds_within))]
+#[tactic(auto, using(rm_lang_token::proofs::Reading::feeds_within))]
 fn spelled(alloc: Global, script: &[u8]) -> Result<String, Fault> {
     if script.len() >= 1000 {
         return differs(alloc, "a script that is too long");

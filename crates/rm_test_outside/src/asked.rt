@@ -4,7 +4,7 @@ use crate::records::{apply, word_of};
 use crate::{made, objects};
 use rm_base::{NoMemory, Policy, Status, Store};
 use rm_catalog::{Edit, Keeper, KeeperFail};
-use rm_dir::DirStore;
+use rm_store_dir::DirStore;
 use sqlite::{Alter, Connection, Error, ErrorCode, params};
 use std::alloc::Global;
 use std::io;

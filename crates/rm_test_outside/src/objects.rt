@@ -2,7 +2,7 @@
 use crate::records::tell_bytes;
 use crate::tables::tell_mode;
 use rm_base::{Store, StoreFail};
-use rm_dir::DirStore;
+use rm_store_dir::DirStore;
 use std::os::unix::fs::symlink;
 use std::{fs, io};
 

@@ -3,7 +3,7 @@ use crate::files::{Files, Opens};
 use crate::made;
 use rm_base::{NoMemory, Policy};
 use rm_catalog::{Edit, Keeper, KeeperFail, Key, Record};
-use rm_record_bytes::encode_record;
+use rm_catalog_bytes::encode_record;
 use std::alloc::Global;
 use std::{fs, io};
 

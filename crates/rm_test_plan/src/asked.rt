@@ -4,14 +4,13 @@ ghost use Rattle.rm_base.specs.declared.kinds.Kind.TheVariants.{Level1 as AnIncr
 ghost use Rattle.rm_catalog.specs.Rules.{HasDatabase};
 ghost use Rattle.rm_evidence.specs.Known.{FitsLog, FitsPiece, FitsTree};
 ghost use Rattle.rm_history.specs.World.{blocks_of};
-ghost use Rattle.rm_objects.specs.Database.{world_of};
+ghost use Rattle.rm_evidence.specs.Database.{world_of};
 ghost use Rattle.rm_plan.specs.Plan.{IsFileTarget};
 
 use rm_base::{BlockNo, FileNo, IncNo, Kind, NoMemory, Part, Scn, Seq};
 use rm_catalog::Catalog;
-use rm_evidence::Evidence;
+use rm_evidence::{Evidence, datafile, has_database};
 use rm_history::Tree;
-use rm_objects::{datafile, has_database};
 use rm_piece::{Piece, is_valid};
 use rm_plan::plan::{plan, plan_file};
 use rm_plan::{Gap, PlanFault, Told, first_gap};

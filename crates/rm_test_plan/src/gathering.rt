@@ -7,8 +7,7 @@ use rm_base::{
 use rm_catalog::{
     BaseEntry, Catalog, DatafileEntry, IncarnationEntry, LogEntry, MarkEntry, PieceEntry, Record,
 };
-use rm_evidence::{Evidence, EvidenceFault, InPlace, fits_place, gather};
-use rm_objects::has_database;
+use rm_evidence::{Evidence, EvidenceFault, InPlace, fits_place, gather, has_database};
 use rm_piece::{Piece, encode_piece, is_valid};
 use rm_redo::{LogFile, encode_log, is_valid_log};
 use rm_test_harness::{Fault, differs};

@@ -5,8 +5,7 @@ use crate::gathering::{
 use rm_base::{Kind, MemStore, NoMemory, Seq, Status, Store};
 use rm_blocks::DataFile;
 use rm_catalog::{Catalog, Record};
-use rm_evidence::{InPlace, fits_place};
-use rm_objects::has_database;
+use rm_evidence::{InPlace, fits_place, has_database};
 use rm_test_harness::{Fault, differs};
 use std::alloc::Global;
 

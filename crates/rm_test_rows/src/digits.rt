@@ -1,7 +1,7 @@
 //! Bytes and records, by hexadecimal digits.
 use rm_base::{FormatFault, NoMemory};
 use rm_catalog::{Key, Record};
-use rm_record_bytes::decode_record;
+use rm_catalog_bytes::decode_record;
 use std::alloc::Global;
 
 // The value of a digit.

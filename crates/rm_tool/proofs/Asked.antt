@@ -1,8 +1,8 @@
 -- How many channels the words of the program ask for.
 use Rattle.std.proofs.Common.{ℕ, ◌≡◌, ◌≤◌, ◌&&◌, Bool, true, false, List, Option, Some, None, IfSome, if◌then◌else◌, length, nat_le, nat_lt, option_map, option_and_then, rules, ap, refl, subst, []}
 use Rattle.std.specs.Str.{all_ascii_digits}
-use Rattle.rm_words.specs.Options.{Given, Text, given_in}
-use Rattle.rm_words.specs.Words.{Said, are_options, number_behind, said, said_by, whole, with_channels, value_of}
+use Rattle.rm_lang_words.specs.Options.{Given, Text, given_in}
+use Rattle.rm_lang_words.specs.Words.{Said, are_options, number_behind, said, said_by, whole, with_channels, value_of}
 use Rattle.std.specs.Prelude.{codes}
 use Rattle.rm_tool.specs.declared.words.Look.{Look}
 use Rattle.rm_tool.specs.declared.words.Look.TheVariants.{Accepted, Refused, NoMemory}

@@ -7,16 +7,16 @@ use Rattle.std.proofs.lemmas.List.Elements.{All-append}
 use Rattle.std.proofs.Math.Bool.{or-false, or_assoc}
 use Rattle.rm_base.specs.Store.{Held}
 use Rattle.rm_catalog.specs.declared.record.Record.{Record}
-use Rattle.rm_statement.specs.declared.command.Inner.{Inner}
-use Rattle.rm_statement.specs.declared.command.Inner.TheVariants.{SetUntil, AllocateChannel, Plain as PlainInner}
+use Rattle.rm_lang_statement.specs.declared.command.Inner.{Inner}
+use Rattle.rm_lang_statement.specs.declared.command.Inner.TheVariants.{SetUntil, AllocateChannel, Plain as PlainInner}
 use Rattle.rm_report.specs.declared.line.Line.{Line}
 use Rattle.rm_report.specs.declared.line.Reply.{Reply}
 use Rattle.rm_report.specs.Reply.{LineHasDate, said}
 use Rattle.rm_machine.specs.Laws.{only_tells}
 use Rattle.rm_machine.specs.Machine.{Machine}
 use Rattle.rm_machine.specs.Rest.{Rest, at_rest}
-use Rattle.rm_frame.specs.Holds.{Holds, HoldsRest, Stands, View}
-use Rattle.rm_frame.proofs.Halting.{rests}
+use Rattle.rm_machine_laws.specs.Holds.{Holds, HoldsRest, Stands, View}
+use Rattle.rm_machine_laws.proofs.Halting.{rests}
 use Rattle.rm_tool.specs.Block.{BlockLeaves, BlockSteps, InnerLeaves, TellInside, after_inner, inner_applies, joined, unset, with_until}
 use Rattle.rm_tool.specs.Serving.{InnerSteps, InnerStops}
 use Rattle.rm_tool.specs.declared.block.Settings.{Settings}

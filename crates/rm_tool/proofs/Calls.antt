@@ -2,10 +2,10 @@
 use Rattle.std.proofs.Common.{◌≡◌, ℕ, Bool, List, Option, IfSome, Some, if◌then◌else◌, sym, subst}
 use Rattle.rm_base.specs.Store.{Held, Answers}
 use Rattle.rm_catalog.specs.declared.record.Record.{Record}
-use Rattle.rm_token.specs.declared.token.Token.{Token}
-use Rattle.rm_token.specs.Statements.{statements}
+use Rattle.rm_lang_token.specs.declared.token.Token.{Token}
+use Rattle.rm_lang_token.specs.Statements.{statements}
 use Rattle.rm_machine.specs.Machine.{Machine}
-use Rattle.rm_frame.specs.Holds.{Holds, View}
+use Rattle.rm_machine_laws.specs.Holds.{Holds, View}
 use Rattle.rm_catalog.specs.declared.catalog.CatalogFault.TheVariants.{BadRow}
 use Rattle.rm_catalog.specs.Faults.{IsBadRow}
 use Rattle.rm_catalog.proofs.Unique.{none_valid}

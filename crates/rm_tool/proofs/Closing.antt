@@ -2,10 +2,10 @@
 use Rattle.std.proofs.Common.{◌≡◌, ◌∙◌, ◌⊎◌, ◌||◌, ℕ, List, [], Option, Bool, false, ap, subst}
 use Rattle.rm_base.specs.Store.{Held, Answers}
 use Rattle.rm_catalog.specs.declared.record.Record.{Record}
-use Rattle.rm_token.specs.declared.token.Token.{Token}
-use Rattle.rm_frame.specs.Holds.{View}
-use Rattle.rm_frame.specs.Saves.{IsEnded, Saves, StopsSaving}
-use Rattle.rm_frame.specs.Stopped.{IsLeft}
+use Rattle.rm_lang_token.specs.declared.token.Token.{Token}
+use Rattle.rm_machine_laws.specs.Holds.{View}
+use Rattle.rm_machine_laws.specs.Saves.{IsEnded, Saves, StopsSaving}
+use Rattle.rm_machine_laws.specs.Stopped.{IsLeft}
 use Rattle.rm_tool.specs.Serving.{FromEach, Serves, Closes, EndsMidway, at_saving}
 
 module _ {clock : Option Answers} {before now : Option (List ℕ)} {held mid last : Option Held} {kept mid_kept last_kept : Option (List Record)} {v v' : View} {refused : Bool} {ss : List (ℕ × List Token)} (fresh : v.applied ≡ false)

@@ -12,15 +12,15 @@ use Rattle.rm_base.specs.Store.{Held, Answers, Both}
 use Rattle.rm_base.proofs.Lists.{take_more}
 use Rattle.rm_base.proofs.Streams.{appends-then, appends-nothing}
 use Rattle.rm_catalog.specs.declared.record.Record.{Record}
-use Rattle.rm_statement.specs.declared.command.Statement.{Statement}
+use Rattle.rm_lang_statement.specs.declared.command.Statement.{Statement}
 use Rattle.rm_tool.specs.Built.{statement_built_at}
-use Rattle.rm_token.specs.declared.token.Token.{Token}
+use Rattle.rm_lang_token.specs.declared.token.Token.{Token}
 use Rattle.rm_report.specs.declared.line.Reply.{Reply}
 use Rattle.rm_report.specs.Text.{reply_text}
 use Rattle.rm_machine.specs.Machine.{Machine}
 use Rattle.rm_machine.specs.Rest.{at_rest}
-use Rattle.rm_frame.specs.Holds.{Holds, HoldsRest, Stands, View}
-use Rattle.rm_frame.proofs.Halting.{rests}
+use Rattle.rm_machine_laws.specs.Holds.{Holds, HoldsRest, Stands, View}
+use Rattle.rm_machine_laws.proofs.Halting.{rests}
 use Rattle.rm_tool.specs.Ends.{WritesFront}
 use Rattle.rm_tool.specs.Run.{StepOf, StatementStep, past, behind, Run, DigestsTellAlong, TellWithin, RunsWhereTold, AreToCome, replies_text}
 use Rattle.rm_tool.specs.Serving.{IsPast, IsServed, IsCut, IsCutShort, Serves, EndsAtStatement, EndsInReplies}

@@ -4,22 +4,22 @@ use Rattle.std.proofs.Math.Bool.{or-false}
 use Rattle.rm_base.specs.Store.{Held, Answers, Both, IsLater}
 use Rattle.rm_base.specs.declared.refusal.Refusal.TheVariants.{Rm01}
 use Rattle.rm_catalog.specs.declared.record.Record.{Record}
-use Rattle.rm_statement.specs.declared.command.Command.{Command}
-use Rattle.rm_statement.specs.declared.command.Inner.{Inner}
-use Rattle.rm_statement.specs.declared.command.Statement.{Statement}
-use Rattle.rm_statement.specs.declared.command.Statement.TheVariants.{Plain, Run as Block}
+use Rattle.rm_lang_statement.specs.declared.command.Command.{Command}
+use Rattle.rm_lang_statement.specs.declared.command.Inner.{Inner}
+use Rattle.rm_lang_statement.specs.declared.command.Statement.{Statement}
+use Rattle.rm_lang_statement.specs.declared.command.Statement.TheVariants.{Plain, Run as Block}
 use Rattle.rm_tool.specs.Block.{unset}
 use Rattle.rm_tool.specs.Built.{statement_built_at}
-use Rattle.rm_token.specs.declared.token.Token.{Token}
+use Rattle.rm_lang_token.specs.declared.token.Token.{Token}
 use Rattle.rm_report.specs.declared.line.Reply.{Reply}
 use Rattle.rm_report.specs.Reply.{refused_by}
 use Rattle.rm_machine.specs.Machine.{Machine}
 use Rattle.rm_machine.specs.Rest.{at_rest}
-use Rattle.rm_frame.specs.Holds.{Holds, HoldsRest, View}
-use Rattle.rm_frame.specs.Saves.{applies}
-use Rattle.rm_frame.specs.Steps.{Steps}
-use Rattle.rm_frame.specs.Stopped.{Stops}
-use Rattle.rm_frame.proofs.Halting.{ends-here, rests}
+use Rattle.rm_machine_laws.specs.Holds.{Holds, HoldsRest, View}
+use Rattle.rm_machine_laws.specs.Saves.{applies}
+use Rattle.rm_machine_laws.specs.Steps.{Steps}
+use Rattle.rm_machine_laws.specs.Stopped.{Stops}
+use Rattle.rm_machine_laws.proofs.Halting.{ends-here, rests}
 use Rattle.rm_tool.specs.Run.{StepOf, TellWithin}
 use Rattle.rm_tool.specs.Serving.{IsPast, IsServed, IsCut, untouched, stopped, inside, IsCutShort, RunStops, StatementSteps}
 use Rattle.rm_tool.proofs.Blocks.{block-leaves}

@@ -3,22 +3,22 @@ use Rattle.std.proofs.Common.{◌≡◌, ◌∙◌, ℕ, List, [], ◌∷◌, �
 use Rattle.std.specs.List.{flat_map}
 use Rattle.rm_base.specs.Store.{Answers, Held}
 use Rattle.rm_base.proofs.Members.{none-in}
-use Rattle.rm_statement.specs.declared.command.Command.{Command}
-use Rattle.rm_statement.specs.declared.command.Inner.{Inner}
-use Rattle.rm_statement.specs.declared.command.Inner.TheVariants.{SetUntil, AllocateChannel, Plain as PlainInner}
-use Rattle.rm_statement.specs.declared.command.Statement.{Statement}
-use Rattle.rm_statement.specs.declared.command.Statement.TheVariants.{Plain, Run as Block}
+use Rattle.rm_lang_statement.specs.declared.command.Command.{Command}
+use Rattle.rm_lang_statement.specs.declared.command.Inner.{Inner}
+use Rattle.rm_lang_statement.specs.declared.command.Inner.TheVariants.{SetUntil, AllocateChannel, Plain as PlainInner}
+use Rattle.rm_lang_statement.specs.declared.command.Statement.{Statement}
+use Rattle.rm_lang_statement.specs.declared.command.Statement.TheVariants.{Plain, Run as Block}
 use Rattle.rm_report.specs.declared.line.Reply.{Reply}
-use Rattle.rm_token.specs.declared.token.Token.{Token}
+use Rattle.rm_lang_token.specs.declared.token.Token.{Token}
 use Rattle.rm_machine.specs.Effect.{Outcome, refused, told, done}
 use Rattle.rm_machine.specs.Machine.{Machine}
 use Rattle.rm_machine.specs.Rest.{PartsTell, Rest, Wakes}
 use Rattle.rm_machine.specs.State.{at_moment}
 use Rattle.rm_machine.specs.declared.state.State.{State}
 use Rattle.rm_machine.specs.Step.{StepBy, StepIn, names_in}
-use Rattle.rm_machine.proofs.Agreeing.{untouched-tell}
-use Rattle.rm_frame.specs.Holds.{HoldsRest, nothing}
-use Rattle.rm_frame.specs.Moments.{moment_of}
+use Rattle.rm_machine_laws.proofs.Agreeing.{untouched-tell}
+use Rattle.rm_machine_laws.specs.Holds.{HoldsRest, nothing}
+use Rattle.rm_machine_laws.specs.Moments.{moment_of}
 use Rattle.rm_tool.specs.Block.{BlockSteps, InnerStep, TellInside, after_inner, unset, with_until}
 use Rattle.rm_tool.specs.Built.{statement_built_at}
 use Rattle.rm_tool.specs.Run.{DigestsTellAlong, GiveNoName, StepOf, TellWithin, names_given, names_of_inner, past}

@@ -3,12 +3,12 @@ use Rattle.std.specs.Prelude.{ℕ, ◌≡◌, ◌≤◌, ◌+◌, ◌++◌, ◌�
 use Rattle.std.specs.Option.{option_or}
 use Rattle.rm_base.specs.declared.refusal.Limit.TheVariants.{Channels}
 use Rattle.rm_base.specs.declared.refusal.Refusal.TheVariants.{Rm02, Rm11}
-use Rattle.rm_statement.specs.declared.command.Command.{Command}
-use Rattle.rm_statement.specs.declared.command.Command.TheVariants.{Restore, Preview, Recover, RecoverTest, RecoverCopy}
-use Rattle.rm_statement.specs.declared.command.Inner.{Inner}
-use Rattle.rm_statement.specs.declared.command.Inner.TheVariants.{SetUntil, AllocateChannel, Plain as PlainInner}
-use Rattle.rm_statement.specs.declared.command.Until.{Until}
-use Rattle.rm_statement.specs.IsCommand.{is_until_or_none}
+use Rattle.rm_lang_statement.specs.declared.command.Command.{Command}
+use Rattle.rm_lang_statement.specs.declared.command.Command.TheVariants.{Restore, Preview, Recover, RecoverTest, RecoverCopy}
+use Rattle.rm_lang_statement.specs.declared.command.Inner.{Inner}
+use Rattle.rm_lang_statement.specs.declared.command.Inner.TheVariants.{SetUntil, AllocateChannel, Plain as PlainInner}
+use Rattle.rm_lang_statement.specs.declared.command.Until.{Until}
+use Rattle.rm_lang_statement.specs.IsCommand.{is_until_or_none}
 use Rattle.rm_report.specs.declared.line.Line.TheVariants.{UntilSet, ChannelAllocated}
 use Rattle.rm_report.specs.declared.line.Reply.{Reply}
 use Rattle.rm_report.specs.Reply.{said, refused_by}
@@ -16,9 +16,9 @@ use Rattle.rm_machine.specs.Machine.{Machine, DigestsTell}
 use Rattle.rm_machine.specs.Rest.{Rest, at_rest}
 use Rattle.rm_machine.specs.Step.{Step}
 use Rattle.rm_machine.specs.declared.state.State.{State}
-use Rattle.rm_frame.specs.Moments.{moment_of}
-use Rattle.rm_frame.specs.Saves.{applies}
-use Rattle.rm_frame.specs.Stopped.{Stopped}
+use Rattle.rm_machine_laws.specs.Moments.{moment_of}
+use Rattle.rm_machine_laws.specs.Saves.{applies}
+use Rattle.rm_machine_laws.specs.Stopped.{Stopped}
 use Rattle.rm_tool.specs.declared.block.Settings.{Settings}
 
 -- at the start of a RUN nothing is set

@@ -3,11 +3,11 @@ use Rattle.std.specs.Prelude.{ℕ, suc, ◌≡◌, ◌||◌, Bool, false, Option
 use Rattle.std.specs.List.{flat_map}
 use Rattle.rm_base.specs.Store.{Answers}
 use Rattle.rm_base.specs.declared.refusal.Refusal.TheVariants.{Rm01}
-use Rattle.rm_token.specs.declared.token.Token.{Token}
-use Rattle.rm_statement.specs.declared.command.Inner.{Inner}
-use Rattle.rm_statement.specs.declared.command.Inner.TheVariants.{Plain as PlainInner}
-use Rattle.rm_statement.specs.declared.command.Statement.{Statement}
-use Rattle.rm_statement.specs.declared.command.Statement.TheVariants.{Plain, Run as Block}
+use Rattle.rm_lang_token.specs.declared.token.Token.{Token}
+use Rattle.rm_lang_statement.specs.declared.command.Inner.{Inner}
+use Rattle.rm_lang_statement.specs.declared.command.Inner.TheVariants.{Plain as PlainInner}
+use Rattle.rm_lang_statement.specs.declared.command.Statement.{Statement}
+use Rattle.rm_lang_statement.specs.declared.command.Statement.TheVariants.{Plain, Run as Block}
 use Rattle.rm_tool.specs.Block.{BlockSteps, TellInside, unset}
 use Rattle.rm_tool.specs.Built.{statement_built_at}
 use Rattle.rm_report.specs.declared.line.Reply.{Reply}
@@ -15,8 +15,8 @@ use Rattle.rm_report.specs.Reply.{refused_by}
 use Rattle.rm_report.specs.Text.{reply_text}
 use Rattle.rm_machine.specs.Machine.{Machine, DigestsTell}
 use Rattle.rm_machine.specs.Step.{Step, names_in}
-use Rattle.rm_frame.specs.Moments.{moment_of}
-use Rattle.rm_frame.specs.Saves.{applies}
+use Rattle.rm_machine_laws.specs.Moments.{moment_of}
+use Rattle.rm_machine_laws.specs.Saves.{applies}
 
 -- A statement of this line, where the clock answers so: one that is not of the grammar, or not built, is refused
 -- and changes nothing, a command is a step of the machine at its moment, and a RUN is the steps of its statements. And

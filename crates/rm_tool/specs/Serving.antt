@@ -4,23 +4,23 @@ use Rattle.std.specs.List.{list_any}
 use Rattle.rm_base.specs.Outside.{Appends}
 use Rattle.rm_base.specs.Store.{Held, Answers, Both}
 use Rattle.rm_catalog.specs.declared.record.Record.{Record}
-use Rattle.rm_change.specs.declared.change.Stop.{Stop}
-use Rattle.rm_change.specs.declared.change.Stop.TheVariants as stop
-use Rattle.rm_statement.specs.declared.command.Command.{Command}
-use Rattle.rm_statement.specs.declared.command.Inner.{Inner}
-use Rattle.rm_statement.specs.declared.command.Statement.{Statement}
-use Rattle.rm_statement.specs.declared.command.Statement.TheVariants.{Plain, Run as Block}
+use Rattle.rm_commit.specs.declared.commit.Stop.{Stop}
+use Rattle.rm_commit.specs.declared.commit.Stop.TheVariants as stop
+use Rattle.rm_lang_statement.specs.declared.command.Command.{Command}
+use Rattle.rm_lang_statement.specs.declared.command.Inner.{Inner}
+use Rattle.rm_lang_statement.specs.declared.command.Statement.{Statement}
+use Rattle.rm_lang_statement.specs.declared.command.Statement.TheVariants.{Plain, Run as Block}
 use Rattle.rm_tool.specs.Block.{BlockLeaves, BlockSteps, InnerLeaves, InnerStep, TellInside, unset}
 use Rattle.rm_tool.specs.Built.{statement_built_at}
 use Rattle.rm_tool.specs.declared.block.Settings.{Settings}
-use Rattle.rm_token.specs.declared.token.Token.{Token}
+use Rattle.rm_lang_token.specs.declared.token.Token.{Token}
 use Rattle.rm_report.specs.declared.line.Reply.{Reply}
 use Rattle.rm_machine.specs.Machine.{Machine, DigestsTell}
 use Rattle.rm_machine.specs.Rest.{Rest, at_rest}
-use Rattle.rm_frame.specs.Holds.{Holds, HoldsRest, Stands, View}
-use Rattle.rm_frame.specs.Moments.{moment_of}
-use Rattle.rm_frame.specs.Saves.{IsEnded}
-use Rattle.rm_frame.specs.Stopped.{IsLeft, Stopped}
+use Rattle.rm_machine_laws.specs.Holds.{Holds, HoldsRest, Stands, View}
+use Rattle.rm_machine_laws.specs.Moments.{moment_of}
+use Rattle.rm_machine_laws.specs.Saves.{IsEnded}
+use Rattle.rm_machine_laws.specs.Stopped.{IsLeft, Stopped}
 use Rattle.rm_tool.specs.declared.session.Halt.{Halt}
 use Rattle.rm_tool.specs.declared.session.Halt.TheVariants as halt
 use Rattle.rm_tool.specs.Ends.{WritesFront}

@@ -7,11 +7,11 @@ use Rattle.rm_catalog.specs.Faults.{IsBadRow}
 use Rattle.rm_catalog.specs.declared.catalog.CatalogFault.TheVariants.{BadRow}
 use Rattle.rm_catalog.specs.declared.record.Key.{Key}
 use Rattle.rm_catalog.specs.declared.record.Record.{Record}
-use Rattle.rm_token.specs.Statements.{statements}
-use Rattle.rm_token.specs.declared.token.Token.{Token}
+use Rattle.rm_lang_token.specs.Statements.{statements}
+use Rattle.rm_lang_token.specs.declared.token.Token.{Token}
 use Rattle.rm_machine.specs.Machine.{Machine}
 use Rattle.rm_machine.specs.Rest.{PartsTell, Rest, Wakes}
-use Rattle.rm_frame.specs.Holds.{HoldsRest}
+use Rattle.rm_machine_laws.specs.Holds.{HoldsRest}
 use Rattle.rm_site.specs.Opens.{AreValid}
 use Rattle.rm_tool.specs.Ends.{WritesFront}
 use Rattle.rm_tool.specs.Serving.{Closes, EndsInReplies, EndsMidway}

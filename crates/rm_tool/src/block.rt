@@ -2,8 +2,8 @@
 ghost use Rattle.std.specs.Prelude.{◌≡◌, ◌≤◌, ◌++◌, ◌||◌, [], ◌∷◌, true, false, IfOk, IfSome, IsTrue, OnOk, OnErr, IsErrOf};
 ghost use Rattle.std.specs.List.{list_all};
 ghost use Rattle.rm_base.specs.Outside.{Rose};
-ghost use Rattle.rm_change.specs.declared.change.Stop.TheVariants.{StoreFault, KeeperFault};
-ghost use Rattle.rm_statement.specs.IsCommand.{is_inner};
+ghost use Rattle.rm_commit.specs.declared.commit.Stop.TheVariants.{StoreFault, KeeperFault};
+ghost use Rattle.rm_lang_statement.specs.IsCommand.{is_inner};
 ghost use Rattle.rm_report.specs.Reply.{HasDates, said};
 ghost use Rattle.rm_tool.specs.Block.{AreSet, after_inner, channel_reply, channels_of, inner_applies, set_reply};
 ghost use Rattle.rm_tool.specs.Built.{is_built_inner};
@@ -12,10 +12,10 @@ ghost use Rattle.rm_tool.specs.Serving.{InnerSteps, InnerStops, RunSteps, RunSto
 use crate::untils::with_until;
 use rm_base::{Limit, Moment, NoMemory, Refusal, Seq, Store};
 use rm_catalog::Keeper;
-use rm_change::Stop;
 use rm_channel::Gate;
+use rm_commit::Stop;
 use rm_lang::{Inner, Until};
-use rm_machine::refusal_reply;
+use rm_machine_code::refusal_reply;
 use rm_report::{Line, Reply};
 use rm_site::Site;
 use std::alloc::Global;

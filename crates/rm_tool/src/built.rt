@@ -1,13 +1,13 @@
 //! The statements that the program answers by steps.
 ghost use Rattle.std.specs.Prelude.{◌≡◌, IfOk, IfSome, IsTrue};
 ghost use Rattle.std.specs.List.{list_all};
-ghost use Rattle.rm_statement.specs.IsCommand.{is_statement};
+ghost use Rattle.rm_lang_statement.specs.IsCommand.{is_statement};
 ghost use Rattle.rm_tool.specs.Built.{is_built_inner, is_built_statement, statement_built_at};
 
 use rm_base::NoMemory;
 use rm_lang::{Inner, Statement, statement_of};
-use rm_machine::is_built;
-use rm_token::Token;
+use rm_lang_token::Token;
+use rm_machine_code::is_built;
 use std::alloc::Global;
 
 fn is_built_inner(inner: &Inner) -> bool

@@ -1,11 +1,11 @@
 //! What is so of the scripts that give no name of an object.
 ghost use Rattle.std.specs.Prelude.{ℕ, ◌≡◌, [], List, Some};
 ghost use Rattle.rm_base.specs.Store.{Answers, Held};
-ghost use Rattle.rm_frame.specs.Holds.{HoldsRest, nothing};
+ghost use Rattle.rm_machine_laws.specs.Holds.{HoldsRest, nothing};
 ghost use Rattle.rm_machine.specs.Machine.{Machine};
 ghost use Rattle.rm_machine.specs.Rest.{PartsTell, Rest, Wakes};
 ghost use Rattle.rm_report.specs.declared.line.Reply.{Reply};
-ghost use Rattle.rm_token.specs.declared.token.Token.{Token};
+ghost use Rattle.rm_lang_token.specs.declared.token.Token.{Token};
 ghost use Rattle.rm_tool.specs.Run.{DigestsTellAlong, GiveNoName};
 
 /// Where no statement gives a name of an object, as HOST REMOVE does, digests tell along every run from a machine of

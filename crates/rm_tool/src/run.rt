@@ -14,7 +14,7 @@ use crate::words::{Look, look_at};
 use rm_base::{Clock, Sink, Source, Store, Text};
 use rm_catalog::Keeper;
 use rm_channel::Gate;
-use rm_token::statements;
+use rm_lang_token::statements;
 use std::alloc::Global;
 use std::sync::Wait;
 use std::thread::Threads;

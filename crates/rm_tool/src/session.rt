@@ -1,7 +1,7 @@
 //! A run over the statements of a script.
 ghost use Rattle.std.specs.Prelude.{◌≡◌, ◌≤◌, true, false, IfOk, OnOk, OnErr, IsErrOf, IfSome};
 ghost use Rattle.rm_base.specs.Outside.{Rose};
-ghost use Rattle.rm_change.specs.declared.change.Stop.TheVariants.{StoreFault, KeeperFault};
+ghost use Rattle.rm_commit.specs.declared.commit.Stop.TheVariants.{StoreFault, KeeperFault};
 ghost use Rattle.rm_report.specs.Reply.{HasDates};
 ghost use Rattle.rm_tool.specs.Serving.{IsServed, IsCutShort, FromEach, Serves, Closes, EndsAtStatement, EndsInReplies, EndsMidway};
 
@@ -10,13 +10,13 @@ use crate::built::built_statement;
 use crate::ends::write_all;
 use rm_base::{Clock, Failed, NoMemory, Refusal, Seq, Sink, Store};
 use rm_catalog::Keeper;
-use rm_change::Stop;
 use rm_channel::Gate;
+use rm_commit::Stop;
 use rm_lang::Statement;
-use rm_machine::refusal_reply;
+use rm_lang_token::Token;
+use rm_machine_code::refusal_reply;
 use rm_report::{Reply, bytes_of};
 use rm_site::Site;
-use rm_token::Token;
 use std::alloc::Global;
 use std::sync::Wait;
 use std::thread::Threads;

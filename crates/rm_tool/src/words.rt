@@ -4,7 +4,7 @@ ghost use Rattle.rm_tool.specs.Words.{accepts};
 ghost use Rattle.rm_tool.specs.declared.words.Look.TheVariants.{Accepted, Refused};
 
 use rm_base::Text;
-use rm_words::{WordsFault, read_words};
+use rm_lang_words::{WordsFault, read_words};
 use std::alloc::Global;
 
 /// What a look at the words gives.

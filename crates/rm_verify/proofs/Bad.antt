@@ -15,8 +15,8 @@ use Rattle.rm_catalog.specs.Rules.{IsCatalog}
 use Rattle.rm_evidence.specs.Available.{IsBad, IsSkipped, a_log, a_piece}
 use Rattle.rm_evidence.specs.Taking.{IsTold}
 use Rattle.rm_evidence.proofs.Extending.{only-in}
-use Rattle.rm_objects.specs.Names.{log_name, piece_name}
-use Rattle.rm_objects.specs.Objects.{IsLogObject, IsPieceObject}
+use Rattle.rm_evidence.specs.Names.{log_name, piece_name}
+use Rattle.rm_evidence.specs.Objects.{IsLogObject, IsPieceObject}
 use Rattle.rm_piece.specs.declared.piece.Piece.{Piece as PieceOf}
 use Rattle.rm_redo.specs.declared.log_file.LogFile.{LogFile}
 use Rattle.rm_verify.specs.Told.{Tells, reason, with_found}

@@ -9,7 +9,7 @@ use Rattle.rm_catalog.specs.declared.record.Record.{Record}
 use Rattle.rm_catalog.specs.declared.record.Record.TheVariants.{Base, Incarnation, Datafile, Log, Piece, Mark, Part, Head}
 use Rattle.rm_evidence.specs.Gathered.{Lists}
 use Rattle.rm_evidence.proofs.Extending.{only-in}
-use Rattle.rm_verify.specs.declared.object.Object.{Object}
+use Rattle.rm_verify.specs.declared.object.Expected.{Expected}
 use Rattle.rm_verify.specs.Classes.{is_of, object_in}
 use Rattle.rm_verify.specs.Crosscheck.{IsChecked, checked, status_after}
 use Rattle.rm_verify.specs.Told.{Tells}
@@ -21,12 +21,12 @@ passed true o x is = (refl, is)
 passed false o x is = absurd cc
 
 -- the id that is told is the record's
-pub numbered : (r : Record) (x : Object) → object_in r ≡ Some x → HasNumber r x.id
+pub numbered : (r : Record) (x : Expected) → object_in r ≡ Some x → HasNumber r x.id
 numbered (Base b) x is = absurd cc
 numbered (Incarnation i) x is = absurd cc
 numbered (Datafile f) x is = absurd cc
-numbered (Log l) x is = subst (λ (n : ℕ). HasNumber (Log l) n) (ap (λ (y : Object). y.id) (same_Some _ x is)) (of_log l)
-numbered (Piece p) x is = subst (λ (n : ℕ). HasNumber (Piece p) n) (ap (λ (y : Object). y.id) (same_Some _ x is)) (of_piece p)
+numbered (Log l) x is = subst (λ (n : ℕ). HasNumber (Log l) n) (ap (λ (y : Expected). y.id) (same_Some _ x is)) (of_log l)
+numbered (Piece p) x is = subst (λ (n : ℕ). HasNumber (Piece p) n) (ap (λ (y : Expected). y.id) (same_Some _ x is)) (of_piece p)
 numbered (Mark m) x is = absurd cc
 numbered (Part q) x is = absurd cc
 numbered (Head h) x is = absurd cc
@@ -37,7 +37,7 @@ made f None y is = absurd cc
 made f (Some x) y is = (x, refl, same_Some (f x) y is)
 
 -- the id of an object, and the status that its record gets
-abbrev pub judged : (List ℕ → Bool) → Object → ℕ × Status
+abbrev pub judged : (List ℕ → Bool) → Expected → ℕ × Status
 judged stands x = (x.id, status_after x.status (stands x.name))
 
 module _ (stands : List ℕ → Bool) (class : Class) where
@@ -65,7 +65,7 @@ module _ (stands : List ℕ → Bool) (class : Class) where
 alike-checked : (f g : List ℕ → Bool) (class : Class) (r : Record) → ((n : List ℕ) → f n ≡ g n) → checked f class r ≡ checked g class r
 alike-checked f g class r same = ap (λ (o : Option (ℕ × Status)). cond (is_of class r) o None) (inner (object_in r))
   where
-    inner : (o : Option Object) → option_map (judged f) o ≡ option_map (judged g) o
+    inner : (o : Option Expected) → option_map (judged f) o ≡ option_map (judged g) o
     inner None = refl
     inner (Some x) = ap (λ (b : Bool). let y : ℕ × Status = (x.id, status_after x.status b) in Some y) (same x.name)
 

@@ -17,8 +17,8 @@ use Rattle.rm_catalog.specs.Objects.{LogRule}
 use Rattle.rm_catalog.specs.Rules.{IsCatalog}
 use Rattle.rm_catalog.proofs.Told.{some_is}
 use Rattle.rm_evidence.specs.Available.{IsBad, IsSkipped}
-use Rattle.rm_objects.proofs.Found.{at-is, obeys}
-use Rattle.rm_verify.specs.declared.object.Object.{Object}
+use Rattle.rm_evidence.proofs.Found.{at-is, obeys}
+use Rattle.rm_verify.specs.declared.object.Expected.{Expected}
 use Rattle.rm_verify.specs.Classes.{is_of, object_in}
 use Rattle.rm_verify.specs.Crosscheck.{IsChecked, checked, stands_in, status_after}
 use Rattle.rm_verify.proofs.Bad as bad
@@ -58,29 +58,29 @@ module _ (held : Held) (class : Class) where
   missing Is (Some bytes) = (λ is. absurd is, λ is. absurd cc)
 
   -- of a record that counts as available
-  is-missing : (r : Record) (x : Object) → object_in r ≡ Some x → x.status ≡ Available → IsBadRecord held r x.id Missing ↔ (held x.name ≡ None)
+  is-missing : (r : Record) (x : Expected) → object_in r ≡ Some x → x.status ≡ Available → IsBadRecord held r x.id Missing ↔ (held x.name ≡ None)
   is-missing (Base b) x is status = absurd cc
   is-missing (Incarnation i) x is status = absurd cc
   is-missing (Datafile f) x is status = absurd cc
-  is-missing (Log l) x is status = subst (λ (y : Object). IsBadRecord held (Log l) y.id Missing ↔ (held y.name ≡ None)) (same_Some _ x is) (
+  is-missing (Log l) x is status = subst (λ (y : Expected). IsBadRecord held (Log l) y.id Missing ↔ (held y.name ≡ None)) (same_Some _ x is) (
     λ b. (missing _ _).0 b.2,
-    λ none. (refl, ap (λ (y : Object). y.status) (same_Some _ x is) ∙ status, (missing _ _).1 none),
+    λ none. (refl, ap (λ (y : Expected). y.status) (same_Some _ x is) ∙ status, (missing _ _).1 none),
   )
-  is-missing (Piece p) x is status = subst (λ (y : Object). IsBadRecord held (Piece p) y.id Missing ↔ (held y.name ≡ None)) (same_Some _ x is) (
+  is-missing (Piece p) x is status = subst (λ (y : Expected). IsBadRecord held (Piece p) y.id Missing ↔ (held y.name ≡ None)) (same_Some _ x is) (
     λ b. (missing _ _).0 b.2,
-    λ none. (refl, ap (λ (y : Object). y.status) (same_Some _ x is) ∙ status, (missing _ _).1 none),
+    λ none. (refl, ap (λ (y : Expected). y.status) (same_Some _ x is) ∙ status, (missing _ _).1 none),
   )
   is-missing (Mark m) x is status = absurd cc
   is-missing (Part q) x is status = absurd cc
   is-missing (Head h) x is status = absurd cc
 
   -- what is said of a record of the class
-  said : (r : Record) (x : Object) → is_of class r ≡ true → object_in r ≡ Some x → checked (stands_in held) class r ≡ Some (checks.judged (stands_in held) x)
+  said : (r : Record) (x : Expected) → is_of class r ≡ true → object_in r ≡ Some x → checked (stands_in held) class r ≡ Some (checks.judged (stands_in held) x)
   said r x of is =
       ap (λ (b : Bool). cond b (option_map (checks.judged (stands_in held)) (object_in r)) None) of
-      ∙ ap (λ (o : Option Object). option_map (checks.judged (stands_in held)) o) is
+      ∙ ap (λ (o : Option Expected). option_map (checks.judged (stands_in held)) o) is
 
-  pub expired-missing : (rs : List Record) (r : Record) (x : Object) → IsCatalog rs → Contains rs r → IsTrue (is_of class r) → object_in r ≡ Some x → x.status ≡ Available → IsChecked (stands_in held) rs class x.id Expired ↔ IsSkipped held rs x.id Missing
+  pub expired-missing : (rs : List Record) (r : Record) (x : Expected) → IsCatalog rs → Contains rs r → IsTrue (is_of class r) → object_in r ≡ Some x → x.status ≡ Available → IsChecked (stands_in held) rs class x.id Expired ↔ IsSkipped held rs x.id Missing
   expired-missing rs r x catalog has of is status = (to, from)
     where
       number : HasNumber r x.id

@@ -4,8 +4,8 @@ use Rattle.rm_base.specs.declared.kinds.Class.{Class}
 use Rattle.rm_base.specs.declared.kinds.Class.TheVariants.{Backup, Copy, Archived}
 use Rattle.rm_catalog.specs.declared.record.Record.{Record}
 use Rattle.rm_catalog.specs.declared.record.Record.TheVariants.{Log, Piece}
-use Rattle.rm_objects.specs.Names.{log_name, piece_name}
-use Rattle.rm_verify.specs.declared.object.Object.{Object}
+use Rattle.rm_evidence.specs.Names.{log_name, piece_name}
+use Rattle.rm_verify.specs.declared.object.Expected.{Expected}
 
 -- backups are pieces that are no image copies, and backups of logs; copies are image copies; then there are archived logs
 abbrev pub is_of : Class → Record → Bool
@@ -16,7 +16,7 @@ is_of Archived (Log l) = l.archived
 is_of _ _ = false
 
 -- the id and the status of a record of a log or a piece, and the name of its object
-abbrev pub object_in : Record → Option Object
+abbrev pub object_in : Record → Option Expected
 object_in (Log l) = Some (record { id = l.id; status = l.status; name = log_name l.id })
 object_in (Piece p) = Some (record { id = p.id; status = p.status; name = piece_name p.copy p.id })
 object_in _ = None

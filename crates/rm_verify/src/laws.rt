@@ -8,14 +8,14 @@ ghost use Rattle.rm_base.specs.declared.kinds.Status.TheVariants.{Available, Exp
 ghost use Rattle.rm_catalog.specs.declared.record.Record.{Record};
 ghost use Rattle.rm_catalog.specs.Rules.{IsCatalog};
 ghost use Rattle.rm_evidence.specs.Available.{IsSkipped};
-ghost use Rattle.rm_verify.specs.declared.object.Object.{Object};
+ghost use Rattle.rm_verify.specs.declared.object.Expected.{Expected};
 ghost use Rattle.rm_verify.specs.Classes.{is_of, object_in};
 ghost use Rattle.rm_verify.specs.Crosscheck.{IsChecked, stands_in, status_after};
 
 /// Of the records of a class that count as available, those that a crosscheck calls expired are those that validation
 /// calls missing.
 pub fn what_expires_is_missing()
-    ensures { (held : Held) (rs : List Record) (class : Class) (r : Record) (x : Object) → IsCatalog rs → Contains rs r → IsTrue (is_of class r) → object_in r ≡ Some x → x.status ≡ Available → IsChecked (stands_in held) rs class x.id Expired ↔ IsSkipped held rs x.id Missing }
+    ensures { (held : Held) (rs : List Record) (class : Class) (r : Record) (x : Expected) → IsCatalog rs → Contains rs r → IsTrue (is_of class r) → object_in r ≡ Some x → x.status ≡ Available → IsChecked (stands_in held) rs class x.id Expired ↔ IsSkipped held rs x.id Missing }
 {}
 
 /// A second crosscheck of the same store changes nothing.

@@ -4,12 +4,12 @@ ghost use Rattle.rm_verify.specs.Classes.{is_of, object_in};
 
 use rm_base::{Class, NoMemory, Status, Text};
 use rm_catalog::Record;
-use rm_objects::{log_name, piece_name};
+use rm_evidence::{log_name, piece_name};
 use std::alloc::Global;
 
 /// What a record of a log or a piece says of its object.
 #[derive(Drop)]
-pub struct Object {
+pub struct Expected {
     pub id: u32,
     pub status: Status,
     /// The name under which it is to stand.
@@ -36,16 +36,16 @@ pub(crate) fn is_of(class: Class, row: &Record) -> bool
 }
 
 // What the record says of its object. None where it is of no log and no piece.
-pub(crate) fn object_in(alloc: Global, row: &Record) -> Result<Option<Object>, NoMemory>
+pub(crate) fn object_in(alloc: Global, row: &Record) -> Result<Option<Expected>, NoMemory>
     ensures { IfOk result (λ object. object ≡ object_in row.now) }
 {
     match row {
-        Record::Log(log) => Ok(Some(Object {
+        Record::Log(log) => Ok(Some(Expected {
             name: log_name(alloc, log.id)?,
             id: log.id,
             status: log.status,
         })),
-        Record::Piece(piece) => Ok(Some(Object {
+        Record::Piece(piece) => Ok(Some(Expected {
             name: piece_name(alloc, piece.copy, piece.id)?,
             id: piece.id,
             status: piece.status,

@@ -2,11 +2,11 @@
 #![tactic(auto)]
 
 use rm_base::{NoMemory, Text};
-use rm_dir::DirStore;
 use rm_keeper_sql::CatalogFile;
+use rm_lang_words::read_words;
+use rm_store_dir::DirStore;
 use rm_tool::run::run;
 use rm_tool::{OpenGate, ReadSource, SystemClock, WriteSink};
-use rm_words::read_words;
 use std::alloc::Global;
 use std::io::ErrorKind;
 use std::process::ExitCode;

@@ -2,7 +2,7 @@ use Rattle.std.proofs.lemmas.List.Elements.{All-contains}
 use Rattle.rm_base.proofs.Lists.{map_to}
 use Rattle.rm_blocks.specs.File.{File}
 use Rattle.rm_evidence.specs.Known.{known_of}
-use Rattle.rm_objects.specs.Database.{world_of}
+use Rattle.rm_evidence.specs.Database.{world_of}
 use Rattle.rm_apply.specs.Told.{IsTold}
 use Rattle.rm_apply.proofs.States.{rows-are-states}
 use Rattle.rm_apply.proofs.laws.what_comes_back_is_true.Goals as goal

@@ -1,4 +1,4 @@
-use Rattle.rm_objects.specs.Database.{world_of}
+use Rattle.rm_evidence.specs.Database.{world_of}
 use Rattle.rm_apply.proofs.Agreeing.{restored-agrees}
 use Rattle.rm_apply.proofs.laws.what_is_restored_agrees.Goals as goal
 

@@ -1,6 +1,6 @@
 use Rattle.std.proofs.Common.{◌∙◌}
 use Rattle.rm_evidence.specs.Known.{known_of}
-use Rattle.rm_objects.specs.Database.{world_of}
+use Rattle.rm_evidence.specs.Database.{world_of}
 use Rattle.rm_apply.proofs.Rows.{rows-in-order}
 use Rattle.rm_apply.proofs.plans.file_plan.Goals as goal
 

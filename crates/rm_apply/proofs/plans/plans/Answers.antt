@@ -4,7 +4,7 @@ use Rattle.std.proofs.lemmas.List.{map-append, take-map}
 use Rattle.std.proofs.lemmas.List.Elements.{All-push, All-same}
 use Rattle.std.proofs.lemmas.Option.{slice_get-get_or, slice_get-map}
 use Rattle.rm_evidence.specs.Known.{known_of}
-use Rattle.rm_objects.specs.Database.{world_of}
+use Rattle.rm_evidence.specs.Database.{world_of}
 use Rattle.rm_plan.proofs.Faults.{handed_on}
 use Rattle.rm_apply.specs.declared.plans.Plan.{Plan}
 use Rattle.rm_apply.specs.Applying.{ArePlanned, IsPlanned}

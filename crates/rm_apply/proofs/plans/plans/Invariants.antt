@@ -1,6 +1,6 @@
 use Rattle.std.proofs.Common.{map, take}
 use Rattle.rm_evidence.specs.Known.{known_of}
-use Rattle.rm_objects.specs.Database.{world_of}
+use Rattle.rm_evidence.specs.Database.{world_of}
 use Rattle.rm_apply.specs.Applying.{ArePlanned}
 use Rattle.rm_apply.proofs.plans.plans.Given as goal
 

@@ -1,6 +1,6 @@
 use Rattle.std.proofs.Common.{List, map, refl, subst}
 use Rattle.rm_evidence.specs.Known.{known_of}
-use Rattle.rm_objects.specs.Database.{world_of}
+use Rattle.rm_evidence.specs.Database.{world_of}
 use Rattle.rm_apply.specs.declared.targets.TargetFile.{TargetFile}
 use Rattle.rm_apply.specs.Preview.{AreOrigins}
 use Rattle.rm_apply.proofs.Firsts.{gap_or_none}

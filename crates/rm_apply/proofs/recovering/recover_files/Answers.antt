@@ -2,7 +2,7 @@ use Rattle.std.proofs.Common.{◌≡◌, ◌∙◌, List, arith, map, sym, ap, s
 use Rattle.std.proofs.lemmas.List.{length-map}
 use Rattle.rm_blocks.specs.File.{File}
 use Rattle.rm_evidence.specs.Known.{known_of}
-use Rattle.rm_objects.specs.Database.{world_of}
+use Rattle.rm_evidence.specs.Database.{world_of}
 use Rattle.rm_apply.specs.declared.plans.Plan.{Plan}
 use Rattle.rm_apply.specs.Applying.{applied}
 use Rattle.rm_apply.specs.Told.{AreFilesAt}

@@ -1,7 +1,7 @@
 use Rattle.std.proofs.Common.{◌≡◌, ◌∷◌, [], sym, subst}
 use Rattle.std.specs.Option.{option_copied}
 use Rattle.rm_blocks.specs.File.{File}
-use Rattle.rm_objects.specs.Database.{world_of}
+use Rattle.rm_evidence.specs.Database.{world_of}
 use Rattle.rm_apply.specs.declared.origin.Origin.{Origin}
 use Rattle.rm_apply.specs.Restore.{AreRestored, file_by}
 use Rattle.rm_apply.proofs.Restorations.{chosen_in_order, created_below, created_with, one_restored, same_choice}

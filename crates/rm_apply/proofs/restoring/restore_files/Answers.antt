@@ -1,5 +1,5 @@
 use Rattle.std.proofs.Common.{◌∷◌, []}
-use Rattle.rm_objects.specs.Database.{world_of}
+use Rattle.rm_evidence.specs.Database.{world_of}
 use Rattle.rm_apply.proofs.Numbers.{no_file}
 use Rattle.rm_apply.proofs.Restorations.{next_restored}
 use Rattle.rm_apply.proofs.restoring.restore_files.Goals as goal

@@ -1,5 +1,5 @@
 use Rattle.std.proofs.Common.{map, take}
-use Rattle.rm_objects.specs.Database.{world_of}
+use Rattle.rm_evidence.specs.Database.{world_of}
 use Rattle.rm_apply.specs.Restore.{AreRestored}
 use Rattle.rm_apply.proofs.restoring.restore_files.Given as goal
 

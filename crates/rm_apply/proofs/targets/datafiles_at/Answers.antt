@@ -1,7 +1,7 @@
 use Rattle.std.proofs.Common.{◌≡◌, ◌∙◌, ◌<◌, ◌+◌, ◌∷◌, ◌++◌, [], List, Option, IfNone, map, sym, ap, subst, arith}
 use Rattle.std.proofs.lemmas.List.{map-append}
 use Rattle.std.proofs.lemmas.List.Elements.{All-push, All-same}
-use Rattle.rm_objects.specs.Database.{world_of}
+use Rattle.rm_evidence.specs.Database.{world_of}
 use Rattle.rm_history.specs.declared.world.Datafile.{Datafile}
 use Rattle.rm_apply.specs.declared.targets.TargetFile.{TargetFile}
 use Rattle.rm_apply.specs.Files.{AreExactly, IsTargetFile, IsAsked}

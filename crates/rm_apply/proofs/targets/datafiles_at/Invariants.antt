@@ -1,5 +1,5 @@
 use Rattle.std.proofs.Common.{All, map}
-use Rattle.rm_objects.specs.Database.{world_of}
+use Rattle.rm_evidence.specs.Database.{world_of}
 use Rattle.rm_apply.specs.Files.{AreExactly, IsTargetFile, IsAsked}
 use Rattle.rm_apply.proofs.Numbers.{Below}
 use Rattle.rm_apply.proofs.targets.datafiles_at.Given as goal

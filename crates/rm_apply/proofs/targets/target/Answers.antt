@@ -1,5 +1,5 @@
 use Rattle.std.proofs.Common.{◌∙◌, sym}
-use Rattle.rm_objects.proofs.Current.{created_above}
+use Rattle.rm_evidence.proofs.Current.{created_above}
 use Rattle.rm_apply.proofs.targets.target.Goals as goal
 
 pub does_exist-requires-clause-created : goal.does_exist-requires-clause-created

@@ -5,7 +5,7 @@ use Rattle.rm_base.specs.declared.kinds.Bad.{Bad}
 use Rattle.rm_base.specs.declared.kinds.Status.TheVariants.{Available}
 use Rattle.rm_catalog.specs.declared.record.LogEntry.{LogEntry}
 use Rattle.rm_catalog.specs.declared.record.Record.TheVariants.{Log, Piece}
-use Rattle.rm_objects.specs.Objects.{HasLogFields}
+use Rattle.rm_evidence.specs.Objects.{HasLogFields}
 use Rattle.rm_redo.specs.declared.log_file.LogFile.{LogFile}
 use Rattle.rm_redo.specs.LogFormat.{IsLogFile}
 use Rattle.rm_evidence.specs.declared.evidence.Evidence.{Evidence}

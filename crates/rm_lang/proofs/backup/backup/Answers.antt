@@ -1,5 +1,5 @@
 use Rattle.std.proofs.Common.{◌∙◌, codes, ◌∷◌, []}
-use Rattle.rm_token.specs.declared.token.Token.TheVariants.{Word, Sign}
+use Rattle.rm_lang_token.specs.declared.token.Token.TheVariants.{Word, Sign}
 use Rattle.rm_lang.proofs.Listed.{joined}
 use Rattle.rm_lang.proofs.Backups.{tested}
 use Rattle.rm_lang.proofs.backup.backup.Goals as goal

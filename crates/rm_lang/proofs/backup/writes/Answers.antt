@@ -1,7 +1,7 @@
 use Rattle.std.proofs.Common.{◌<◌, ◌∙◌, sym, length, arith, codes}
-use Rattle.rm_grammar.specs.Spelling.{spelled}
-use Rattle.rm_command.specs.Creating.{write_part}
-use Rattle.rm_command.specs.Values.{write_values}
+use Rattle.rm_lang_grammar.specs.Spelling.{spelled}
+use Rattle.rm_lang_reading.specs.Creating.{write_part}
+use Rattle.rm_lang_reading.specs.Values.{write_values}
 use Rattle.rm_lang.proofs.Listed.{many_push}
 use Rattle.rm_lang.proofs.backup.writes.Goals as goal
 

@@ -1,5 +1,5 @@
 use Rattle.rm_evidence.specs.Known.{known_of}
-use Rattle.rm_objects.specs.Database.{world_of}
+use Rattle.rm_evidence.specs.Database.{world_of}
 use Rattle.rm_plan.proofs.Firsts.{determined_more}
 use Rattle.rm_plan.proofs.first.gap_of_blocks.Goals as goal
 

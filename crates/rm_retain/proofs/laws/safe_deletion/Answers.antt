@@ -6,12 +6,12 @@ use Rattle.rm_catalog.specs.Rules.{HasDatabase, IsCatalog}
 use Rattle.rm_evidence.specs.declared.evidence.Evidence.{Evidence}
 use Rattle.rm_evidence.specs.Known.{known_of}
 use Rattle.rm_history.specs.History.{IsHistory}
-use Rattle.rm_known.specs.Evidence.{Agrees}
-use Rattle.rm_objects.specs.Database.{world_of}
+use Rattle.rm_history.specs.Evidence.{Agrees}
+use Rattle.rm_evidence.specs.Database.{world_of}
 use Rattle.rm_retain.specs.Catalogued.{by_records}
 use Rattle.rm_retain.specs.Losing.{FitsHistory}
 use Rattle.rm_retain.proofs.Clearing.{gathered_left}
-use Rattle.rm_objects.proofs.Current.{current_is}
+use Rattle.rm_evidence.proofs.Current.{current_is}
 use Rattle.rm_evidence.proofs.Worlds.{is_world}
 use Rattle.rm_retain.proofs.Safe.{safe_told, safe_recoverable}
 use Rattle.rm_retain.proofs.WholeCopies.{copies_whole}

@@ -1,7 +1,7 @@
 use Rattle.rm_catalog.specs.Trees.{nodes}
-use Rattle.rm_objects.specs.Database.{current_in}
-use Rattle.rm_objects.proofs.Current.{current_is}
-use Rattle.rm_objects.proofs.Worlds.{branch_within, is-tree}
+use Rattle.rm_evidence.specs.Database.{current_in}
+use Rattle.rm_evidence.proofs.Current.{current_is}
+use Rattle.rm_evidence.proofs.DatabaseWorlds.{branch_within, is-tree}
 use Rattle.rm_retain.proofs.Targets.{target_of}
 use Rattle.rm_retain.proofs.laws.targets_are_of_their_owners.Goals as goal
 

@@ -1,5 +1,5 @@
 use Rattle.std.proofs.Common.{◌∙◌, sym}
-use Rattle.rm_objects.proofs.Current.{created_above}
+use Rattle.rm_evidence.proofs.Current.{created_above}
 use Rattle.rm_retain.proofs.needs.need_of.Goals as goal
 
 pub is_on_path-requires-clause-created : goal.is_on_path-requires-clause-created

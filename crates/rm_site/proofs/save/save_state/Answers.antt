@@ -1,7 +1,7 @@
 use Rattle.std.proofs.Common.{◌≡◌, ◌∙◌, List, ap}
 use Rattle.rm_catalog.specs.Edits.{after_edits}
 use Rattle.rm_catalog.specs.declared.record.Edit.{Edit}
-use Rattle.rm_repository.specs.Repository.{Repository, records_of}
+use Rattle.rm_catalog_typed.specs.TypedCatalog.{TypedCatalog, records_of}
 use Rattle.rm_machine.specs.Saving.{with_site}
 use Rattle.rm_site.proofs.Answering.{on-err}
 use Rattle.rm_site.proofs.Ending.{err-then, ok-then, saves-all, stops-before, stops-saving}
@@ -18,7 +18,7 @@ edits g c =
     let put = c.in_ok-objects.ensures in
     ap (λ (es : List Edit). after_edits es (records_of s.catalog)) c.from_vec.ensures
     ∙ put.edits.lead (records_of s.catalog) (ap (λ (es : List Edit). after_edits es (records_of s.catalog)) c.new-edits.ensures.items)
-    ∙ ap (λ (r : Repository). records_of r) put.catalog
+    ∙ ap (λ (r : TypedCatalog). records_of r) put.catalog
 
 pub returns-clause-saved : goal.returns-clause-saved
 returns-clause-saved g c =

@@ -1,5 +1,5 @@
 use Rattle.std.proofs.Common.{◌≡◌, ◌++◌, map, take}
-use Rattle.rm_objects.specs.Names.{site_name}
+use Rattle.rm_evidence.specs.Names.{site_name}
 use Rattle.rm_site.proofs.step.add_names.Given as goal
 
 abbrev pub invariant-loop-part : goal.invariant-loop-part

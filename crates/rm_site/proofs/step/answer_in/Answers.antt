@@ -7,8 +7,8 @@ come_to-requires-clause-sound g c κs within =
     let begins : Begins c.args.state.now c.args.moment c.begin.new.self c.in_ok-earlier.earlier.moment c.in_ok-earlier.earlier.saved = record { after = was.after; moment_is = was.moment; saved_is = was.saved } in
     begins-sound begins c.requires.sound c.requires.moment
 
-pub put_back-requires : goal.put_back-requires
-put_back-requires g c =
+pub revert-requires : goal.revert-requires
+revert-requires g c =
     let was = c.in_ok-earlier.ensures in
     let begins : Begins c.args.state.now c.args.moment c.begin.new.self c.in_ok-earlier.earlier.moment c.in_ok-earlier.earlier.saved = record { after = was.after; moment_is = was.moment; saved_is = was.saved } in
     let same = quiet-refused begins (g.D.Store.held c.args.store.now) c.args.command.now c.in_ok-refusal.field-0 c.come_to.new.state c.in_ok-refusal.ensures.comes c.in-Refused.refusal c.in-Refused.is in
@@ -19,35 +19,35 @@ returns-in_ok-refusal_reply-in-Refused-clause-sound g c =
     let was = c.in_ok-earlier.ensures in
     let begins : Begins c.args.state.now c.args.moment c.begin.new.self c.in_ok-earlier.earlier.moment c.in_ok-earlier.earlier.saved = record { after = was.after; moment_is = was.moment; saved_is = was.saved } in
     let same = quiet-refused begins (g.D.Store.held c.args.store.now) c.args.command.now c.in_ok-refusal.field-0 c.come_to.new.state c.in_ok-refusal.ensures.comes c.in-Refused.refusal c.in-Refused.is in
-    sound-again begins c.come_to.new.state c.put_back.new.self same c.put_back.ensures c.requires.sound
+    sound-again begins c.come_to.new.state c.revert.new.self same c.revert.ensures c.requires.sound
 
 pub returns-in_ok-refusal_reply-in-Refused-clause-step : goal.returns-in_ok-refusal_reply-in-Refused-clause-step
 returns-in_ok-refusal_reply-in-Refused-clause-step g c =
     let was = c.in_ok-earlier.ensures in
     let begins : Begins c.args.state.now c.args.moment c.begin.new.self c.in_ok-earlier.earlier.moment c.in_ok-earlier.earlier.saved = record { after = was.after; moment_is = was.moment; saved_is = was.saved } in
     refused-in begins (g.D.Store.held c.args.store.now) c.args.command.now c.in_ok-refusal.field-0 c.come_to.new.state c.in_ok-refusal.ensures.comes (g.C.Keeper.kept c.args.keeper.now)
-    c.in-Refused.refusal c.put_back.new.self _ _ c.in-Refused.is c.put_back.ensures c.in_ok-refusal.ensures.held c.in_ok-refusal_reply-in-Refused.ensures
+    c.in-Refused.refusal c.revert.new.self _ _ c.in-Refused.is c.revert.ensures c.in_ok-refusal.ensures.held c.in_ok-refusal_reply-in-Refused.ensures
 
 pub returns-in_ok-refusal_reply-in-Refused-clause-answered : goal.returns-in_ok-refusal_reply-in-Refused-clause-answered
 returns-in_ok-refusal_reply-in-Refused-clause-answered g c =
     let was = c.in_ok-earlier.ensures in
     let begins : Begins c.args.state.now c.args.moment c.begin.new.self c.in_ok-earlier.earlier.moment c.in_ok-earlier.earlier.saved = record { after = was.after; moment_is = was.moment; saved_is = was.saved } in
     answered-in begins (g.D.Store.held c.args.store.now) c.args.command.now c.in_ok-refusal.field-0 c.come_to.new.state c.in_ok-refusal.ensures.comes
-    c.in-Refused.refusal c.put_back.new.self _ c.in-Refused.is c.put_back.ensures c.in_ok-refusal.ensures.refused c.in_ok-refusal_reply-in-Refused.ensures
+    c.in-Refused.refusal c.revert.new.self _ c.in-Refused.is c.revert.ensures c.in_ok-refusal.ensures.refused c.in_ok-refusal_reply-in-Refused.ensures
 
 pub returns-in-Told-clause-sound : goal.returns-in-Told-clause-sound
 returns-in-Told-clause-sound g c =
     let was = c.in_ok-earlier.ensures in
     let begins : Begins c.args.state.now c.args.moment c.begin.new.self c.in_ok-earlier.earlier.moment c.in_ok-earlier.earlier.saved = record { after = was.after; moment_is = was.moment; saved_is = was.saved } in
     let same = quiet-told begins (g.D.Store.held c.args.store.now) c.args.command.now c.in_ok-refusal.field-0 c.come_to.new.state c.in_ok-refusal.ensures.comes c.in-Told.lines c.in-Told.is in
-    sound-again begins c.come_to.new.state c.put_back-in-Told.new.self same c.put_back-in-Told.ensures c.requires.sound
+    sound-again begins c.come_to.new.state c.revert-in-Told.new.self same c.revert-in-Told.ensures c.requires.sound
 
 pub returns-in-Told-clause-step : goal.returns-in-Told-clause-step
 returns-in-Told-clause-step g c =
     let was = c.in_ok-earlier.ensures in
     let begins : Begins c.args.state.now c.args.moment c.begin.new.self c.in_ok-earlier.earlier.moment c.in_ok-earlier.earlier.saved = record { after = was.after; moment_is = was.moment; saved_is = was.saved } in
     told-in begins (g.D.Store.held c.args.store.now) c.args.command.now c.in_ok-refusal.field-0 c.come_to.new.state c.in_ok-refusal.ensures.comes (g.C.Keeper.kept c.args.keeper.now)
-    c.in-Told.lines c.put_back-in-Told.new.self _ _ c.in-Told.is c.put_back-in-Told.ensures c.in_ok-refusal.ensures.held c.reply_of.ensures c.requires.command c.requires.moment
+    c.in-Told.lines c.revert-in-Told.new.self _ _ c.in-Told.is c.revert-in-Told.ensures c.in_ok-refusal.ensures.held c.reply_of.ensures c.requires.command c.requires.moment
 
 pub returns-in_ok-carry_out-in-Done-clause-step : goal.returns-in_ok-carry_out-in-Done-clause-step
 returns-in_ok-carry_out-in-Done-clause-step g c =

@@ -1,5 +1,5 @@
 use Rattle.std.proofs.Common.{◌≡◌, ◌∙◌, None, Some, refl, sym}
-use Rattle.rm_frame.specs.Refused.{refusal_without}
+use Rattle.rm_machine_laws.specs.Refused.{refusal_without}
 use Rattle.rm_site.proofs.Answering.{is-carried, is-halted, is-refused}
 use Rattle.rm_site.proofs.Creating.{comes-refused, founded, founded-sound}
 use Rattle.rm_site.proofs.step.answer_without.Goals as goal

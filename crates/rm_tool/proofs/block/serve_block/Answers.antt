@@ -1,5 +1,5 @@
 use Rattle.std.proofs.Common.{◌∙◌, ap, arith, length, sym}
-use Rattle.rm_statement.specs.IsCommand.{is_inner}
+use Rattle.rm_lang_statement.specs.IsCommand.{is_inner}
 use Rattle.rm_tool.specs.Built.{is_built_inner}
 use Rattle.rm_tool.proofs.Blocks.{inside-done, inside-more, inside-refused, inside-all, others-pass, dates-added}
 use Rattle.rm_tool.proofs.Statements.{on-err}

@@ -2,7 +2,7 @@ use Rattle.std.proofs.Common.{◌≡◌, ◌≤◌, All, IsTrue, true, length}
 use Rattle.std.specs.List.{list_all}
 use Rattle.std.specs.Vec.Iter.{into_iter_items, into_iter_len}
 use Rattle.rm_report.specs.Reply.{LineHasDate}
-use Rattle.rm_statement.specs.IsCommand.{is_inner}
+use Rattle.rm_lang_statement.specs.IsCommand.{is_inner}
 use Rattle.rm_tool.specs.Block.{AreSet}
 use Rattle.rm_tool.specs.Built.{is_built_inner}
 use Rattle.rm_tool.proofs.Blocks.{InsideEach}

@@ -1,8 +1,8 @@
 use Rattle.std.proofs.Common.{◌≡◌, sym, subst, true}
 use Rattle.rm_machine.specs.Built.{is_built}
-use Rattle.rm_statement.specs.IsCommand.{is_command, is_inner}
-use Rattle.rm_statement.specs.declared.command.Command.{Command}
-use Rattle.rm_statement.specs.declared.command.Inner.{Inner}
+use Rattle.rm_lang_statement.specs.IsCommand.{is_command, is_inner}
+use Rattle.rm_lang_statement.specs.declared.command.Command.{Command}
+use Rattle.rm_lang_statement.specs.declared.command.Inner.{Inner}
 use Rattle.rm_tool.specs.Built.{is_built_inner}
 use Rattle.rm_tool.proofs.Blocks.{inner-untouched}
 use Rattle.rm_tool.proofs.Setting.{built_with, command_with}

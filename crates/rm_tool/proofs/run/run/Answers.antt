@@ -1,6 +1,6 @@
 use Rattle.std.proofs.Common.{rules, ◌∙◌, Err, ap, refl, arith, lit<}
-use Rattle.rm_token.specs.Statements.{statements}
-use Rattle.rm_token.proofs.Reading.{feeds_within}
+use Rattle.rm_lang_token.specs.Statements.{statements}
+use Rattle.rm_lang_token.proofs.Reading.{feeds_within}
 use Rattle.rm_tool.specs.Session.{in_replies, midway}
 use Rattle.rm_tool.proofs.Calls.{finishes, ends-midway, ends-in-replies, none-bad, told-valid}
 use Rattle.rm_tool.proofs.run.run.Goals as goal

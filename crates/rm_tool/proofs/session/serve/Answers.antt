@@ -1,5 +1,5 @@
 use Rattle.std.proofs.Common.{◌∙◌, ℕ, List, Some, ap, sym}
-use Rattle.rm_token.specs.declared.token.Token.{Token}
+use Rattle.rm_lang_token.specs.declared.token.Token.{Token}
 use Rattle.rm_tool.proofs.Statements.{ok-both, err-map, on-err, served-refused, served-step, cut-before, cut-step, cut-run}
 use Rattle.rm_tool.proofs.session.serve.Goals as goal
 

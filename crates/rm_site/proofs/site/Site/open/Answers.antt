@@ -1,5 +1,5 @@
 use Rattle.rm_catalog.specs.Rules.{IsValid}
-use Rattle.rm_repository.specs.Repository.{all_records}
+use Rattle.rm_catalog_typed.specs.TypedCatalog.{all_records}
 use Rattle.rm_site.specs.Faults.{IsBadFirst, fault_at, fault_in}
 use Rattle.std.specs.Prelude.{IfSome}
 use Rattle.rm_site.proofs.Opening.{of-kept, opened-none, opened-some, told-bad, told-err, told-valid}

@@ -1,5 +1,5 @@
 use Rattle.std.proofs.Common.{◌∙◌, ap, sym}
-use Rattle.rm_frame.specs.Holds.{View}
+use Rattle.rm_machine_laws.specs.Holds.{View}
 use Rattle.rm_site.proofs.Ending.{err-then, nothing-saves, ok-then, state-saves, state-stops, unapplied-saves, unsaved-saves}
 use Rattle.rm_site.proofs.site.Site.save.Goals as goal
 

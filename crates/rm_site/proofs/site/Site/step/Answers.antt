@@ -1,7 +1,7 @@
 use Rattle.std.proofs.Common.{◌∙◌, ◌||◌, true, ap}
-use Rattle.rm_frame.specs.Holds.{View}
-use Rattle.rm_frame.specs.Saves.{applies}
-use Rattle.rm_frame.proofs.Safely.{deletes-safely}
+use Rattle.rm_machine_laws.specs.Holds.{View}
+use Rattle.rm_machine_laws.specs.Saves.{applies}
+use Rattle.rm_machine_laws.proofs.Safely.{deletes-safely}
 use Rattle.rm_site.proofs.Answering.{answered-of, steps-of, stops-of}
 use Rattle.rm_site.proofs.Contents.{has-content}
 use Rattle.rm_site.proofs.site.Site.step.Goals as goal

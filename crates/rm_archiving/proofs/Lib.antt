@@ -1,3 +1,0 @@
-pub mod Archiving
-pub mod Spaces
-pub mod Turns

@@ -1,7 +1,0 @@
-use Rattle.std.proofs.Common.{◌≡◌, ◌+◌, ◌++◌, drop}
-use Rattle.rm_machine.specs.Backup.{taken, taken_from}
-use Rattle.rm_machine.specs.State.{ledger}
-use Rattle.rm_backing.proofs.datafiles.taken.Given as goal
-
-abbrev pub invariant-loop-index : goal.invariant-loop-index
-invariant-loop-index l = l.files.items ++ taken_from l.state l.form (l.index + 1) (drop l.index (ledger l.state).files) ≡ taken l.state l.form

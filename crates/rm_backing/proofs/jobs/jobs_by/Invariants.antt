@@ -1,7 +1,0 @@
-use Rattle.std.proofs.Common.{take}
-use Rattle.std.specs.Option.{option_copied}
-use Rattle.rm_backing.specs.Begins.{AreJobsBy}
-use Rattle.rm_backing.proofs.jobs.jobs_by.Given as goal
-
-abbrev pub invariant-loop-file : goal.invariant-loop-file
-invariant-loop-file l = AreJobsBy (option_copied l.records) l.form (take l.file-index l.files) l.jobs.items

@@ -1,6 +1,0 @@
-use Rattle.std.proofs.Common.{arith}
-use Rattle.rm_backing.proofs.Files.{taken-few}
-use Rattle.rm_backing.proofs.refusing.room_refusal.Goals as goal
-
-pub overflow_add-count : goal.overflow_add-count
-overflow_add-count c = omega (arith, taken-few c.args.state.now c.args.form.now c.requires.sound, c.taken_count-count.ensures, c.mark_count.ensures.most)

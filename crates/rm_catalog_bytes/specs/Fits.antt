@@ -1,0 +1,80 @@
+-- The fields of a record fit their types, and the text of its tag is of ASCII.
+use Rattle.std.specs.Prelude.{◌≡◌, ◌<◌, ◌^◌, length, All}
+use Rattle.rm_catalog.specs.declared.record.BaseEntry.{BaseEntry}
+use Rattle.rm_catalog.specs.declared.record.IncarnationEntry.{IncarnationEntry}
+use Rattle.rm_catalog.specs.declared.record.DatafileEntry.{DatafileEntry}
+use Rattle.rm_catalog.specs.declared.record.LogEntry.{LogEntry}
+use Rattle.rm_catalog.specs.declared.record.PieceEntry.{PieceEntry}
+use Rattle.rm_catalog.specs.declared.record.MarkEntry.{MarkEntry}
+use Rattle.rm_catalog.specs.declared.record.PartEntry.{PartEntry}
+use Rattle.rm_catalog.specs.declared.record.HeadEntry.{HeadEntry}
+use Rattle.rm_catalog.specs.declared.record.Record.{Record}
+use Rattle.rm_catalog_bytes.specs.Spelling.{policy_number}
+use Rattle.rm_catalog.specs.declared.record.Record.TheVariants.{Base, Incarnation, Datafile, Log, Piece, Mark, Part, Head}
+
+pub record BaseFits (r : BaseEntry) : Type 0 where
+  pub dbid : r.dbid < 2 ^ 32
+  pub current : r.current < 2 ^ 32
+  pub next_id : r.next_id < 2 ^ 32
+  pub moment : r.moment < 2 ^ 64
+  pub policy : policy_number r.policy < 2 ^ 32
+  pub parallelism : r.parallelism < 2 ^ 32
+
+pub record IncarnationFits (r : IncarnationEntry) : Type 0 where
+  pub parent : r.parent < 2 ^ 32
+  pub reset : r.reset < 2 ^ 64
+  pub end : r.end < 2 ^ 64
+
+pub record DatafileFits (r : DatafileEntry) : Type 0 where
+  pub inc : r.inc < 2 ^ 32
+  pub creation : r.creation < 2 ^ 64
+  pub blocks : r.blocks < 2 ^ 32
+
+pub record LogFits (r : LogEntry) : Type 0 where
+  pub inc : r.inc < 2 ^ 32
+  pub sequence : r.sequence < 2 ^ 32
+  pub first : r.first < 2 ^ 64
+  pub next : r.next < 2 ^ 64
+  pub size : r.size < 2 ^ 64
+  pub sha : length r.sha ≡ 32
+
+-- all but the tag and the moment
+pub record PieceHeadFits (r : PieceEntry) : Type 0 where
+  pub inc : r.inc < 2 ^ 32
+  pub file : r.file < 2 ^ 32
+  pub from : r.from < 2 ^ 64
+  pub checkpoint : r.checkpoint < 2 ^ 64
+  pub high : r.high < 2 ^ 64
+  pub rows : r.rows < 2 ^ 32
+  pub size : r.size < 2 ^ 64
+  pub sha : length r.sha ≡ 32
+
+pub record PieceFits (r : PieceEntry) : Type 0 where
+  pub head : PieceHeadFits r
+  pub tag : length r.tag < 2 ^ 64
+  pub letters : All (λ b. b < 128) r.tag
+  pub moment : r.moment < 2 ^ 64
+
+pub record MarkFits (r : MarkEntry) : Type 0 where
+  pub moment : r.moment < 2 ^ 64
+  pub inc : r.inc < 2 ^ 32
+  pub scn : r.scn < 2 ^ 64
+
+pub record PartFits (r : PartEntry) : Type 0 where
+  pub file : r.file < 2 ^ 32
+  pub size : r.size < 2 ^ 64
+  pub sha : length r.sha ≡ 32
+
+pub record HeadFits (r : HeadEntry) : Type 0 where
+  pub inc : r.inc < 2 ^ 32
+  pub scn : r.scn < 2 ^ 64
+
+abbrev pub Fits : Record → Type 0
+Fits (Base r) = BaseFits r
+Fits (Incarnation r) = IncarnationFits r
+Fits (Datafile r) = DatafileFits r
+Fits (Log r) = LogFits r
+Fits (Piece r) = PieceFits r
+Fits (Mark r) = MarkFits r
+Fits (Part r) = PartFits r
+Fits (Head r) = HeadFits r

@@ -1,0 +1,180 @@
+//! A record as bytes.
+ghost use Rattle.std.specs.Prelude.{◌≡◌, ◌++◌, length, OnOk, IfOk};
+ghost use Rattle.rm_catalog_bytes.specs.Spelling.{flag, status_code, kind_code, policy_code, policy_number, base_bytes, incarnation_bytes, datafile_bytes, log_bytes, piece_head, piece_bytes, mark_bytes, part_bytes, head_bytes, body_of};
+
+use crate::numbers::{push_u32, push_u64};
+use rm_base::{Kind, NoMemory, Policy, Seq, Status};
+use rm_catalog::{
+    BaseEntry, DatafileEntry, HeadEntry, IncarnationEntry, LogEntry, MarkEntry, PartEntry,
+    PieceEntry, Record,
+};
+use std::alloc::Global;
+
+fn flag(value: bool) -> u8
+    ensures { result ≡ flag value }
+{
+    if value { 1 } else { 0 }
+}
+
+fn status_code(status: Status) -> u8
+    ensures { result ≡ status_code status }
+{
+    match status {
+        Status::Available => 1,
+        Status::Unavailable => 2,
+        Status::Expired => 3,
+    }
+}
+
+fn kind_code(kind: Kind) -> u8
+    ensures { result ≡ kind_code kind }
+{
+    match kind {
+        Kind::Full => 1,
+        Kind::Level0 => 2,
+        Kind::Level1 => 3,
+        Kind::Place => 4,
+    }
+}
+
+fn policy_code(policy: Policy) -> u8
+    ensures { result ≡ policy_code policy }
+{
+    match policy {
+        Policy::Window(_) => 1,
+        Policy::Redundancy(_) => 2,
+        Policy::Nothing => 3,
+    }
+}
+
+fn policy_number(policy: Policy) -> u32
+    ensures { result ≡ policy_number policy }
+{
+    match policy {
+        Policy::Window(n) | Policy::Redundancy(n) => n,
+        Policy::Nothing => 0,
+    }
+}
+
+#[tactic(auto, unfolding(crate::specs::Spelling::base_bytes))]
+fn push_base(out: &mut Vec<u8>, r: &BaseEntry) -> Result<(), NoMemory>
+    ensures { OnOk result (out.new.items ≡ out.old.items ++ base_bytes r.now) }
+{
+    push_u32(out, r.dbid)?;
+    out.push(r.threads)?;
+    push_u32(out, r.current)?;
+    push_u32(out, r.next_id)?;
+    push_u64(out, r.moment)?;
+    out.push(policy_code(r.policy))?;
+    push_u32(out, policy_number(r.policy))?;
+    push_u32(out, r.parallelism)?;
+    out.push(flag(r.tracking))?;
+    Ok(())
+}
+
+#[tactic(auto, unfolding(crate::specs::Spelling::incarnation_bytes))]
+fn push_incarnation(out: &mut Vec<u8>, r: &IncarnationEntry) -> Result<(), NoMemory>
+    ensures { OnOk result (out.new.items ≡ out.old.items ++ incarnation_bytes r.now) }
+{
+    push_u32(out, r.parent)?;
+    push_u64(out, r.reset)?;
+    push_u64(out, r.end)
+}
+
+#[tactic(auto, unfolding(crate::specs::Spelling::datafile_bytes))]
+fn push_datafile(out: &mut Vec<u8>, r: &DatafileEntry) -> Result<(), NoMemory>
+    ensures { OnOk result (out.new.items ≡ out.old.items ++ datafile_bytes r.now) }
+{
+    push_u32(out, r.inc)?;
+    push_u64(out, r.creation)?;
+    push_u32(out, r.blocks)
+}
+
+#[tactic(auto, unfolding(crate::specs::Spelling::log_bytes))]
+fn push_log(out: &mut Vec<u8>, r: &LogEntry) -> Result<(), NoMemory>
+    ensures { OnOk result (out.new.items ≡ out.old.items ++ log_bytes r.now) }
+{
+    out.push(flag(r.archived))?;
+    push_u32(out, r.inc)?;
+    out.push(r.thread)?;
+    push_u32(out, r.sequence)?;
+    push_u64(out, r.first)?;
+    push_u64(out, r.next)?;
+    push_u64(out, r.size)?;
+    out.extend_from_slice(&r.sha)?;
+    out.extend_from_slice(&[status_code(r.status), flag(r.keep)])?;
+    Ok(())
+}
+
+// Appends what stands before the bytes of the tag.
+#[tactic(auto, unfolding(crate::specs::Spelling::piece_head))]
+fn push_piece_head(out: &mut Vec<u8>, r: &PieceEntry) -> Result<(), NoMemory>
+    ensures { OnOk result (out.new.items ≡ out.old.items ++ piece_head r.now (length r.now.tag)) }
+{
+    out.extend_from_slice(&[flag(r.copy), kind_code(r.kind)])?;
+    push_u32(out, r.inc)?;
+    push_u32(out, r.file)?;
+    push_u64(out, r.from)?;
+    push_u64(out, r.checkpoint)?;
+    push_u64(out, r.high)?;
+    push_u32(out, r.rows)?;
+    push_u64(out, r.size)?;
+    out.extend_from_slice(&r.sha)?;
+    out.extend_from_slice(&[status_code(r.status), flag(r.keep)])?;
+    push_u64(out, r.tag.as_bytes().len() as u64)
+}
+
+fn push_piece(out: &mut Vec<u8>, r: &PieceEntry) -> Result<(), NoMemory>
+    ensures { OnOk result (out.new.items ≡ out.old.items ++ piece_bytes r.now) }
+{
+    push_piece_head(out, r)?;
+    out.extend_from_slice(r.tag.as_bytes())?;
+    push_u64(out, r.moment)
+}
+
+#[tactic(auto, unfolding(crate::specs::Spelling::mark_bytes))]
+fn push_mark(out: &mut Vec<u8>, r: &MarkEntry) -> Result<(), NoMemory>
+    ensures { OnOk result (out.new.items ≡ out.old.items ++ mark_bytes r.now) }
+{
+    push_u64(out, r.moment)?;
+    push_u32(out, r.inc)?;
+    push_u64(out, r.scn)
+}
+
+#[tactic(auto, unfolding(crate::specs::Spelling::part_bytes))]
+fn push_part(out: &mut Vec<u8>, r: &PartEntry) -> Result<(), NoMemory>
+    ensures { OnOk result (out.new.items ≡ out.old.items ++ part_bytes r.now) }
+{
+    push_u32(out, r.file)?;
+    out.push(r.thread)?;
+    push_u64(out, r.size)?;
+    out.extend_from_slice(&r.sha)?;
+    Ok(())
+}
+
+#[tactic(auto, unfolding(crate::specs::Spelling::head_bytes))]
+fn push_head(out: &mut Vec<u8>, r: &HeadEntry) -> Result<(), NoMemory>
+    ensures { OnOk result (out.new.items ≡ out.old.items ++ head_bytes r.now) }
+{
+    out.push(flag(r.opened))?;
+    push_u32(out, r.inc)?;
+    push_u64(out, r.scn)
+}
+
+/// The fields of a record without its key.
+pub fn encode_record(alloc: Global, entry: &Record) -> Result<Seq<u8>, NoMemory>
+    ensures { IfOk result (λ bytes. bytes ≡ body_of entry.now) }
+{
+    let mut out = Vec::new(alloc);
+    match entry {
+        Record::Base(r) => push_base(&mut out, r)?,
+        Record::Incarnation(r) => push_incarnation(&mut out, r)?,
+        Record::Datafile(r) => push_datafile(&mut out, r)?,
+        Record::Log(r) => push_log(&mut out, r)?,
+        Record::Piece(r) => push_piece(&mut out, r)?,
+        Record::Mark(r) => push_mark(&mut out, r)?,
+        Record::Part(r) => push_part(&mut out, r)?,
+        Record::Head(r) => push_head(&mut out, r)?,
+    }
+    Ok(Seq::from_vec(out))
+}

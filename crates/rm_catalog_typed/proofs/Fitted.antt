@@ -1,0 +1,482 @@
+-- A change that fits keeps the rules.
+use Rattle.std.proofs.Common.{◌≡◌, ◌∙◌, ℕ, ◌+◌, ◌-◌, ◌<◌, ◌≤◌, ◌⊎◌, inl, inr, List, [], ◌∷◌, ◌++◌, Option, Some, None, refl, ap, sym, subst, arith, length, length-append, All, AllPairs, Contains}
+use Rattle.std.specs.Prelude.{IfSome}
+use Rattle.std.proofs.lemmas.Bool.{cases_eq}
+use Rattle.std.proofs.lemmas.List.{length-map, length-set}
+use Rattle.std.proofs.lemmas.List.Elements.{All-contains, All-push, All-weaker, Contains-append_left, Contains-push}
+use Rattle.std.proofs.lemmas.List.Quantifiers.{all_pairs_push}
+use Rattle.std.proofs.lemmas.List.Sums.{sum_by-append, sum_by-cons}
+use Rattle.rm_base.specs.Numbers.{last_moment, last_scn}
+use Rattle.rm_base.specs.declared.block.Mark.{Mark}
+use Rattle.rm_catalog.specs.declared.record.BaseEntry.{BaseEntry}
+use Rattle.rm_catalog.specs.declared.record.LogEntry.{LogEntry}
+use Rattle.rm_catalog.specs.declared.record.PartEntry.{PartEntry}
+use Rattle.rm_catalog.specs.declared.record.PieceEntry.{PieceEntry}
+use Rattle.rm_catalog.specs.declared.record.Record.TheVariants as kind
+use Rattle.rm_history.specs.declared.tree.Incarnation.{Incarnation}
+use Rattle.rm_history.specs.declared.world.Datafile.{Datafile}
+use Rattle.rm_history.specs.Tree.{IsThere, parent_of, reset_of, end_of, with_branch, with_end}
+use Rattle.rm_history.proofs.Branches.{IsThere-branched, end_of-branched, end_of-with_branch, length-with_branch, parent_of-branched, parent_of-with_branch, reset_of-branched, reset_of-with_branch}
+use Rattle.rm_history.proofs.Ends.{parent_of-with_end, end_of-with_end, end_of-with_end_other}
+use Rattle.rm_catalog_typed.specs.LedgerFacts.{AreDatafiles, AreIds, AreIncarnations, AreMarks, HasMark, IsBranch, IsCreated, IsLogEntry, IsMark, IsPieceEntry}
+use Rattle.rm_catalog_typed.specs.Ledger.{Ledger, incarnation_record, datafile_record, mark_record}
+use Rattle.rm_catalog_typed.specs.Ledger.{ledger_records}
+use Rattle.rm_catalog_typed.proofs.Keeping.{FilesGrow, log_kept, mark_kept, piece_kept}
+use Rattle.rm_catalog_typed.proofs.Order.{incarnations_of, datafiles_of, logs_of, pieces_of, marks_of, length-numbered}
+use Rattle.rm_catalog_typed.proofs.Trees.{Keeps, keeps_branch, keeps_end, parents_below}
+use Rattle.rm_catalog_typed.specs.Changes.{with_base, with_end_at, with_file, with_incarnation, with_log, with_mark, with_new_log, with_new_piece, with_one, with_piece, without_log, without_one, without_piece}
+use Rattle.rm_catalog_typed.specs.Facts.{IsPartEntry, IsTypedCatalog, IsSaved}
+use Rattle.rm_catalog_typed.specs.Fitting.{FitsBase, FitsBranch, FitsFile, FitsLog, FitsMark, FitsNewLog, FitsNewPiece, FitsPiece, IsObjectId, LacksId}
+use Rattle.rm_catalog_typed.specs.TypedCatalog.{TypedCatalog, Saved}
+use Rattle.rm_catalog_typed.proofs.Ones.{all-with, all-without, ascend-with, ascend-without, contains-with, contains-without, length-replaced, length-with, length-without, with-last}
+
+-- a ledger has the threads, datafiles, incarnations and ids that another has
+record HasAll (l m : Ledger) : Type 0 where
+  pub ids : l.base.next_id ≤ m.base.next_id
+  pub threads : l.base.threads ≤ m.base.threads
+  pub files : length l.files ≤ length m.files
+  pub there : (i : ℕ) → IsThere l.tree i → IsThere m.tree i
+
+-- so a saved site of the one is one of the other, if no object has the id of a part
+site_kept : (l m : Ledger) (s : Saved) → HasAll l m → IsSaved l s → ((e : LogEntry) (p : PartEntry) → Contains m.logs e → Contains s.parts p → e.id ≡ p.id → ⊥) → ((e : PieceEntry) (p : PartEntry) → Contains m.pieces e → Contains s.parts p → e.id ≡ p.id → ⊥) → IsSaved m s
+site_kept l m s has is logs pieces =
+    record {
+      parts = All-weaker (IsPartEntry l) (IsPartEntry m) (λ (p : PartEntry) was. record {
+        id = (was.id.0, omega arith);
+        size = was.size;
+        thread = λ none. let t = (was.thread none).1 in ((was.thread none).0, omega arith);
+        file = λ some. let f = (was.file some).1 in ((was.file some).0, omega arith);
+      }) s.parts is.parts;
+      apart = is.apart;
+      logs = logs;
+      pieces = pieces;
+      point = λ some. has.there s.head.inc (is.point some);
+    }
+
+saved_kept : (l m : Ledger) → HasAll l m → m.logs ≡ l.logs → m.pieces ≡ l.pieces → (o : Option Saved) → IfSome o (IsSaved l) → IfSome o (IsSaved m)
+saved_kept l m has logs pieces None none = tt
+saved_kept l m has logs pieces (Some s) is =
+    site_kept l m s has is
+    (λ e p one other. is.logs e p (subst (λ (x : List LogEntry). Contains x e) logs one) other)
+    (λ e p one other. is.pieces e p (subst (λ (x : List PieceEntry). Contains x e) pieces one) other)
+
+-- so many records
+pub many : (l : Ledger) → length (ledger_records l) ≡ 1 + length l.tree + length l.files + length l.logs + length l.pieces + length l.marks
+many l =
+    let five = length-append (incarnations_of l ++ datafiles_of l ++ logs_of l ++ pieces_of l) (marks_of l) in
+    let four = length-append (incarnations_of l ++ datafiles_of l ++ logs_of l) (pieces_of l) in
+    let three = length-append (incarnations_of l ++ datafiles_of l) (logs_of l) in
+    let two = length-append (incarnations_of l) (datafiles_of l) in
+    let tree = length-numbered incarnation_record 1 l.tree in
+    let files = length-numbered datafile_record 1 l.files in
+    let logs = length-map l.logs (λ e. kind.Log e) in
+    let pieces = length-map l.pieces (λ e. kind.Piece e) in
+    let marks = length-numbered mark_record 1 l.marks in
+    omega arith
+
+-- other base facts
+pub base_fits : (r : TypedCatalog) (b : BaseEntry) → IsTypedCatalog r → FitsBase r b → IsTypedCatalog (with_base r b)
+base_fits r b rules fits =
+    let is = rules.ledger in
+    let l = r.ledger in
+    let m = (with_base r b).ledger in
+    let next = fits.next_id in
+    let threads = fits.threads in
+    record {
+      ledger = record {
+        base = fits.facts;
+        current = fits.current;
+        incarnations = is.incarnations;
+        datafiles = is.datafiles;
+        logs = subst (λ (n : ℕ). All (IsLogEntry l.tree n) l.logs) (sym threads) is.logs;
+        pieces = is.pieces;
+        ids = record {
+          logs = All-weaker (λ (e : LogEntry). (1 ≤ e.id) × (e.id < l.base.next_id)) (λ (e : LogEntry). (1 ≤ e.id) × (e.id < b.next_id)) (λ e was. (was.0, omega arith)) l.logs is.ids.logs;
+          pieces = All-weaker (λ (e : PieceEntry). (1 ≤ e.id) × (e.id < l.base.next_id)) (λ (e : PieceEntry). (1 ≤ e.id) × (e.id < b.next_id)) (λ e was. (was.0, omega arith)) l.pieces is.ids.pieces;
+          logs_ascend = is.ids.logs_ascend;
+          pieces_ascend = is.ids.pieces_ascend;
+          apart = is.ids.apart;
+        };
+        marks = record {
+          each = All-weaker (IsMark l.tree l.base.moment) (IsMark l.tree b.moment) (λ (m : Mark) was. record { there = was.there; scn = was.scn; moment = omega arith }) l.marks is.marks.each;
+          rise = is.marks.rise;
+          some = is.marks.some;
+        };
+        few = is.few;
+      };
+      saved = saved_kept l m (record { ids = next; threads = omega arith; files = omega arith; there = λ i there. there }) refl refl r.saved rules.saved;
+    }
+
+-- a later moment
+pub moment_fits : (r : TypedCatalog) (moment : ℕ) → IsTypedCatalog r → r.ledger.base.moment ≤ moment → moment ≤ last_moment → FitsBase r (record r.ledger.base { moment = moment })
+moment_fits r moment rules kept last =
+    let is = rules.ledger in
+    record {
+      facts = record { dbid = is.base.dbid; threads = is.base.threads; next_id = is.base.next_id; moment = last; policy = is.base.policy; parallelism = is.base.parallelism };
+      current = is.current;
+      threads = refl;
+      next_id = omega arith;
+      moment = kept;
+    }
+
+-- a branch of a tree, and its range, in a tree that keeps it
+branch-kept : (old new : List Incarnation) (i : ℕ) → Keeps old new → parent_of new i ≡ parent_of old i → IsThere old i → IsBranch old i → IsBranch new i
+branch-kept old new i keeps parent there b =
+    let below : IsThere old (parent_of old i) = (b.parent.0, omega arith) in
+    let own = keeps.reset i there in
+    let from = ap (reset_of new) parent ∙ keeps.reset (parent_of old i) below in
+    let to = ap (end_of new) parent in
+    let more = keeps.end (parent_of old i) below in
+    record { parent = (omega arith, omega arith); reset = omega arith; end = omega arith }
+
+abbrev IsRange : List Incarnation → ℕ → Type 0
+IsRange tree i = (1 ≤ reset_of tree i) × (reset_of tree i ≤ end_of tree i) × (end_of tree i ≤ last_scn)
+
+range-kept : (old new : List Incarnation) (i : ℕ) → Keeps old new → IsThere old i → IsRange old i → end_of new i ≤ last_scn → IsRange new i
+range-kept old new i keeps there range last = let reset = keeps.reset i there in let more = keeps.end i there in (omega arith, omega arith, last)
+
+-- a tree in which one end rose
+last-end : (tree : List Incarnation) (j end last : ℕ) → IsThere tree j → end ≤ last → (i : ℕ) → IsThere tree i → end_of tree i ≤ last → end_of (with_end tree j end) i ≤ last
+last-end tree j end last there low i is was = elim (cases_eq i j) [
+  | inl same ↦ subst (λ k. end_of (with_end tree j end) k ≤ last) (sym same) (let e = end_of-with_end tree j end there in omega arith)
+  | inr other ↦ let e = end_of-with_end_other tree j end i there is other in omega arith
+]
+
+trees-same : (tree : List Incarnation) (j end : ℕ) → length (with_end tree j end) ≡ length tree
+trees-same tree j end = length-set tree (j - 1) (record { parent = parent_of tree j; reset = reset_of tree j; end = end })
+
+incarnations_kept : (tree : List Incarnation) (j end : ℕ) → AreIncarnations tree → IsThere tree j → end_of tree j ≤ end → end ≤ last_scn → AreIncarnations (with_end tree j end)
+incarnations_kept tree j end is there up last =
+    let keeps = keeps_end tree j end there up in
+    let long = trees-same tree j end in
+    record {
+      some = omega arith;
+      few = omega arith;
+      first = parent_of-with_end tree j end 1 there ∙ is.first;
+      branches = λ i later high. branch-kept tree (with_end tree j end) i keeps (parent_of-with_end tree j end i there) (omega arith, omega arith) (is.branches i later (omega arith));
+      ranges = λ i has.
+          let was : IsThere tree i = (has.0, omega arith) in
+          let range = is.ranges i was in
+          range-kept tree (with_end tree j end) i keeps was range (last-end tree j end last_scn there last i was range.2);
+    }
+
+-- a datafile stays one that was created
+created-kept : (old new : List Incarnation) → Keeps old new → (d : Datafile) → IsCreated old d → IsCreated new d
+created-kept old new keeps d was =
+    let reset = keeps.reset d.inc was.there in
+    let more = keeps.end d.inc was.there in
+    record { there = keeps.there d.inc was.there; creation = (omega arith, omega arith); blocks = was.blocks }
+
+datafiles-kept : (old new : List Incarnation) (files : List Datafile) → Keeps old new → AreDatafiles old files → AreDatafiles new files
+datafiles-kept old new files keeps is = record { each = All-weaker (IsCreated old) (IsCreated new) (created-kept old new keeps) files is.each; few = is.few; room = is.room }
+
+files-grow : (old new : List Datafile) → FilesGrow old new → length old ≤ length new
+files-grow old new (inl same) = let long = ap length same in omega arith
+files-grow old new (inr more) = let long = ap length more.1 in let all = length-append old (more.0 ∷ []) in omega arith
+
+-- a tree that keeps what was, with datafiles and marks
+regrown : (r : TypedCatalog) (tree : List Incarnation) (files : List Datafile) (marks : List Mark) → IsTypedCatalog r → Keeps r.ledger.tree tree → FilesGrow r.ledger.files files
+    → AreIncarnations tree → AreDatafiles tree files → AreMarks tree r.ledger.base.moment marks
+    → length (ledger_records r.ledger) + length tree + length files + length marks ≤ 65536 + length r.ledger.tree + length r.ledger.files + length r.ledger.marks
+    → IsTypedCatalog (record r { ledger = record r.ledger { tree = tree; files = files; marks = marks } })
+regrown r tree files marks rules keeps grows of-tree of-files of-marks room =
+    let is = rules.ledger in
+    let l = r.ledger in
+    let m = record r.ledger { tree = tree; files = files; marks = marks } in
+    let old = many l in
+    let new = many m in
+    record {
+      ledger = record {
+        base = is.base;
+        current = keeps.there l.base.current is.current;
+        incarnations = of-tree;
+        datafiles = of-files;
+        logs = All-weaker (IsLogEntry l.tree l.base.threads) (IsLogEntry tree l.base.threads) (log_kept l.tree tree l.base.threads keeps) l.logs is.logs;
+        pieces = All-weaker (IsPieceEntry l.tree l.files) (IsPieceEntry tree files) (piece_kept l.tree tree l.files files keeps grows) l.pieces is.pieces;
+        ids = is.ids;
+        marks = of-marks;
+        few = omega arith;
+      };
+      saved = saved_kept l m (record { ids = omega arith; threads = omega arith; files = files-grow l.files files grows; there = λ i there. keeps.there i there }) refl refl r.saved rules.saved;
+    }
+
+same-tree : (tree : List Incarnation) → Keeps tree tree
+same-tree tree = record { there = λ i is. is; reset = λ i is. refl; end = λ i is. omega arith; owners = λ i g is. refl }
+
+-- a higher end
+pub end_fits : (r : TypedCatalog) (i end : ℕ) → IsTypedCatalog r → IsThere r.ledger.tree i → end_of r.ledger.tree i ≤ end → end ≤ last_scn → IsTypedCatalog (with_end_at r i end)
+end_fits r i end rules there up last =
+    let is = rules.ledger in
+    let l = r.ledger in
+    let tree = with_end l.tree i end in
+    let keeps = keeps_end l.tree i end there up in
+    let long = trees-same l.tree i end in
+    regrown r tree l.files l.marks rules keeps (inl refl) (incarnations_kept l.tree i end is.incarnations there up last) (datafiles-kept l.tree tree l.files keeps is.datafiles)
+    (record {
+      each = All-weaker (IsMark l.tree l.base.moment) (IsMark tree l.base.moment) (mark_kept l.tree tree l.base.moment l.base.moment keeps (omega arith)) l.marks is.marks.each;
+      rise = is.marks.rise;
+      some = λ k has. is.marks.some k (has.0, omega arith);
+    }) (omega (arith, is.few))
+
+-- one datafile more
+pub file_fits : (r : TypedCatalog) (d : Datafile) → IsTypedCatalog r → FitsFile r d → IsTypedCatalog (with_file r d)
+file_fits r d rules fits =
+    let is = rules.ledger in
+    let l = r.ledger in
+    let long = length-append l.files (d ∷ []) in
+    let sum = sum_by-append (λ (f : Datafile). f.blocks) l.files (d ∷ []) in
+    let one = sum_by-cons (λ (f : Datafile). f.blocks) d [] in
+    regrown r l.tree (l.files ++ d ∷ []) l.marks rules (same-tree l.tree) (inr (d, refl)) is.incarnations
+    (record { each = All-push (IsCreated l.tree) l.files d is.datafiles.each fits.created; few = omega arith; room = omega arith }) is.marks (omega arith)
+
+-- one mark more among the marks of a tree
+marks-more : (tree : List Incarnation) (latest : ℕ) (marks : List Mark) (m : Mark) → All (IsMark tree latest) marks → All (λ n. n.moment ≤ m.moment) marks → IsMark tree latest m
+    → AllPairs (λ x y. x.moment ≤ y.moment) marks → ((i : ℕ) → IsThere tree i → HasMark (marks ++ m ∷ []) i) → AreMarks tree latest (marks ++ m ∷ [])
+marks-more tree latest marks m each before is rise some =
+    record { each = All-push (IsMark tree latest) marks m each is; rise = all_pairs_push (λ (x y : Mark). x.moment ≤ y.moment) marks m rise before; some = some }
+
+old-mark : (r : TypedCatalog) (n : Mark) (i : ℕ) → IsTypedCatalog r → IsThere r.ledger.tree i → HasMark (r.ledger.marks ++ n ∷ []) i
+old-mark r n i rules there = let h = rules.ledger.marks.some i there in (h.0, Contains-append_left r.ledger.marks (n ∷ []) h.0 h.1, h.2)
+
+-- one mark more
+pub mark_fits : (r : TypedCatalog) (m : Mark) → IsTypedCatalog r → FitsMark r m → IsTypedCatalog (with_mark r m)
+mark_fits r n rules fits =
+    let is = rules.ledger in
+    let l = r.ledger in
+    let long = length-append l.marks (n ∷ []) in
+    regrown r l.tree l.files (l.marks ++ n ∷ []) rules (same-tree l.tree) (inl refl) is.incarnations is.datafiles
+    (marks-more l.tree l.base.moment l.marks n is.marks.each fits.moment.0 fits.mark is.marks.rise (λ i there. old-mark r n i rules there)) (omega arith)
+
+-- an incarnation of a tree with one more was there, or is the new one
+old-or-new : (tree : List Incarnation) (p at i : ℕ) → IsThere (with_branch tree p at) i → IsThere tree i ⊎ (i ≡ length tree + 1)
+old-or-new tree p at i there =
+    let long = length-with_branch tree p at in
+    elim (cases_eq i (length tree + 1)) [ inl new ↦ inr new | inr other ↦ inl (there.0, omega arith) ]
+
+module _ (tree : List Incarnation) (p at : ℕ) (is : AreIncarnations tree) (there : IsThere tree p) (low : reset_of tree p ≤ at) (high : at ≤ end_of tree p) where
+  abbrev more : List Incarnation
+  more = with_branch tree p at
+
+  keeps-all : Keeps tree more
+  keeps-all = keeps_branch tree p at (parents_below tree is) there
+
+  branched-branch : (i : ℕ) → 1 < i → IsThere tree i ⊎ (i ≡ length tree + 1) → IsBranch more i
+  branched-branch i later (inl was) = branch-kept tree more i keeps-all (parent_of-with_branch tree p at i was) was (is.branches i later was.1)
+  branched-branch i later (inr new) =
+      let parent = parent_of-branched tree p at in
+      let own = reset_of-branched tree p at in
+      let from = ap (reset_of more) parent ∙ reset_of-with_branch tree p at p there in
+      let to = ap (end_of more) parent ∙ end_of-with_branch tree p at p there in
+      subst (IsBranch more) (sym new) (record { parent = (omega arith, omega arith); reset = omega arith; end = omega arith })
+
+  branched-range : (i : ℕ) → IsThere tree i ⊎ (i ≡ length tree + 1) → IsRange more i
+  branched-range i (inl was) = let range = is.ranges i was in let end = end_of-with_branch tree p at i was in range-kept tree more i keeps-all was range (omega arith)
+  branched-range i (inr new) =
+      let range = is.ranges p there in
+      let reset = reset_of-branched tree p at in
+      let end = end_of-branched tree p at in
+      subst (IsRange more) (sym new) (omega arith, omega arith, omega arith)
+
+  branched-incarnations : length tree < 256 → AreIncarnations more
+  branched-incarnations few =
+      let long = length-with_branch tree p at in
+      record {
+        some = omega arith;
+        few = omega arith;
+        first = parent_of-with_branch tree p at 1 (omega arith, omega arith) ∙ is.first;
+        branches = λ i later inside. branched-branch i later (old-or-new tree p at i (omega arith, inside));
+        ranges = λ i has. branched-range i (old-or-new tree p at i has);
+      }
+
+-- one incarnation more, with its first mark
+pub branch_fits : (r : TypedCatalog) (parent at moment : ℕ) → IsTypedCatalog r → FitsBranch r parent at moment → IsTypedCatalog (with_incarnation r parent at moment)
+branch_fits r parent at moment rules fits =
+    let is = rules.ledger in
+    let l = r.ledger in
+    let tree = with_branch l.tree parent at in
+    let n : Mark = record { moment = moment; inc = length l.tree + 1; scn = at } in
+    let keeps = keeps_branch l.tree parent at (parents_below l.tree is.incarnations) fits.there in
+    let long = length-append l.marks (n ∷ []) in
+    let deep = length-with_branch l.tree parent at in
+    let reset = reset_of-branched l.tree parent at in
+    let end = end_of-branched l.tree parent at in
+    let first-mark : (i : ℕ) → IsThere l.tree i ⊎ (i ≡ length l.tree + 1) → HasMark (l.marks ++ n ∷ []) i = λ i which. elim which [
+      | inl was ↦ old-mark r n i rules was
+      | inr new ↦ (n, Contains-push l.marks n, sym new)
+    ] in
+    regrown r tree l.files (l.marks ++ n ∷ []) rules keeps (inl refl) (branched-incarnations l.tree parent at is.incarnations fits.there fits.begins.0 fits.begins.1 fits.few) (datafiles-kept l.tree tree l.files keeps is.datafiles)
+    (marks-more tree l.base.moment l.marks n
+    (All-weaker (IsMark l.tree l.base.moment) (IsMark tree l.base.moment) (mark_kept l.tree tree l.base.moment l.base.moment keeps (omega arith)) l.marks is.marks.each)
+    fits.next.0 (record { there = IsThere-branched l.tree parent at; scn = (omega arith, omega arith); moment = fits.next.1 }) is.marks.rise (λ i has. first-mark i (old-or-new l.tree parent at i has)))
+    (omega arith)
+
+-- the ids of a saved site's parts are not those of objects
+abbrev AreFree : Saved → List LogEntry → List PieceEntry → Type 0
+AreFree s logs pieces = ((e : LogEntry) (p : PartEntry) → Contains logs e → Contains s.parts p → e.id ≡ p.id → ⊥) × ((e : PieceEntry) (p : PartEntry) → Contains pieces e → Contains s.parts p → e.id ≡ p.id → ⊥)
+
+-- other logs and pieces
+refit : (r : TypedCatalog) (logs : List LogEntry) (pieces : List PieceEntry) → IsTypedCatalog r → All (IsLogEntry r.ledger.tree r.ledger.base.threads) logs → All (IsPieceEntry r.ledger.tree r.ledger.files) pieces → AreIds 1 r.ledger.base.next_id logs pieces
+    → length (ledger_records r.ledger) + length logs + length pieces ≤ 65536 + length r.ledger.logs + length r.ledger.pieces → ((s : Saved) → r.saved ≡ Some s → IsSaved r.ledger s → AreFree s logs pieces)
+    → IsTypedCatalog (record r { ledger = record r.ledger { logs = logs; pieces = pieces } })
+refit r logs pieces rules of-logs of-pieces ids room free =
+    let is = rules.ledger in
+    let old = many r.ledger in
+    let new = many (record r.ledger { logs = logs; pieces = pieces }) in
+    record {
+      ledger = record { base = is.base; current = is.current; incarnations = is.incarnations; datafiles = is.datafiles; logs = of-logs; pieces = of-pieces; ids = ids; marks = is.marks; few = omega arith };
+      saved = decide r.saved rules.saved (λ s some. free s some);
+    }
+  where
+    decide : (o : Option Saved) → IfSome o (IsSaved r.ledger) → ((s : Saved) → o ≡ Some s → IsSaved r.ledger s → AreFree s logs pieces) → IfSome o (IsSaved (record r.ledger { logs = logs; pieces = pieces }))
+    decide None none free = tt
+    decide (Some s) is free =
+        site_kept r.ledger (record r.ledger { logs = logs; pieces = pieces }) s (record { ids = omega arith; threads = omega arith; files = omega arith; there = λ i there. there }) is (free s refl is).0 (free s refl is).1
+
+-- none of those that lack an id has it
+other-id : {A : Type 0} (id : A → ℕ) (n : ℕ) (xs : List A) (x : A) → LacksId id n xs → Contains xs x → n ≡ id x → ⊥
+other-id id n xs x lacks has same = All-contains (λ y. id y ≡ n → ⊥) xs x lacks has (sym same)
+
+no-part-has : (r : TypedCatalog) (n : ℕ) (s : Saved) (p : PartEntry) → IsObjectId r n → r.saved ≡ Some s → Contains s.parts p → n ≡ p.id → ⊥
+no-part-has r n s p is some has = other-id (λ q. q.id) n s.parts p (subst (λ (o : Option Saved). IfSome o (λ s. LacksId (λ q. q.id) n s.parts)) some is.parts) has
+
+-- a log, put
+pub log_fits : (r : TypedCatalog) (e : LogEntry) → IsTypedCatalog r → FitsLog r e → IsTypedCatalog (with_log r e)
+log_fits r e rules fits =
+    let is = rules.ledger in
+    let l = r.ledger in
+    let id = λ (x : LogEntry). x.id in
+    refit r (with_one id e l.logs) l.pieces rules (all-with id (IsLogEntry l.tree l.base.threads) e l.logs is.logs fits.log) is.pieces
+    (record {
+      logs = all-with id (λ x. (1 ≤ x.id) × (x.id < l.base.next_id)) e l.logs is.ids.logs fits.id.range;
+      pieces = is.ids.pieces;
+      logs_ascend = ascend-with id e l.logs is.ids.logs_ascend;
+      pieces_ascend = is.ids.pieces_ascend;
+      apart = λ x p has other. contains-with id (λ x. x.id ≡ p.id → ⊥) e l.logs (λ y was. is.ids.apart y p was other) (other-id (λ q. q.id) e.id l.pieces p fits.other other) x has;
+    })
+    (elim fits.room [
+      | inl was ↦ let short = length-replaced id e l.logs is.ids.logs_ascend was in omega arith
+      | inr room ↦ let short = length-with id e l.logs in omega arith
+    ])
+    (λ s some saved. (λ x p has other. contains-with id (λ x. x.id ≡ p.id → ⊥) e l.logs (λ y was. saved.logs y p was other) (no-part-has r e.id s p fits.id some other) x has, saved.pieces))
+
+-- a piece, put
+pub piece_fits : (r : TypedCatalog) (e : PieceEntry) → IsTypedCatalog r → FitsPiece r e → IsTypedCatalog (with_piece r e)
+piece_fits r e rules fits =
+    let is = rules.ledger in
+    let l = r.ledger in
+    let id = λ (x : PieceEntry). x.id in
+    refit r l.logs (with_one id e l.pieces) rules is.logs (all-with id (IsPieceEntry l.tree l.files) e l.pieces is.pieces fits.piece)
+    (record {
+      logs = is.ids.logs;
+      pieces = all-with id (λ x. (1 ≤ x.id) × (x.id < l.base.next_id)) e l.pieces is.ids.pieces fits.id.range;
+      logs_ascend = is.ids.logs_ascend;
+      pieces_ascend = ascend-with id e l.pieces is.ids.pieces_ascend;
+      apart = λ x p has other same. contains-with id (λ y. y.id ≡ x.id → ⊥) e l.pieces (λ y was alike. is.ids.apart x y has was (sym alike)) (other-id (λ q. q.id) e.id l.logs x fits.other has) p other (sym same);
+    })
+    (elim fits.room [
+      | inl was ↦ let short = length-replaced id e l.pieces is.ids.pieces_ascend was in omega arith
+      | inr room ↦ let short = length-with id e l.pieces in omega arith
+    ])
+    (λ s some saved. (saved.logs, λ x p has other. contains-with id (λ x. x.id ≡ p.id → ⊥) e l.pieces (λ y was. saved.pieces y p was other) (no-part-has r e.id s p fits.id some other) x has))
+
+-- a log or a piece, dropped
+pub no_log_fits : (r : TypedCatalog) (n : ℕ) → IsTypedCatalog r → IsTypedCatalog (without_log r n)
+no_log_fits r n rules =
+    let is = rules.ledger in
+    let l = r.ledger in
+    let id = λ (x : LogEntry). x.id in
+    let short = length-without id n l.logs in
+    refit r (without_one id n l.logs) l.pieces rules (all-without id (IsLogEntry l.tree l.base.threads) n l.logs is.logs) is.pieces
+    (record {
+      logs = all-without id (λ x. (1 ≤ x.id) × (x.id < l.base.next_id)) n l.logs is.ids.logs;
+      pieces = is.ids.pieces;
+      logs_ascend = ascend-without id n l.logs is.ids.logs_ascend;
+      pieces_ascend = is.ids.pieces_ascend;
+      apart = λ x p has other. contains-without id (λ x. x.id ≡ p.id → ⊥) n l.logs (λ y was. is.ids.apart y p was other) x has;
+    })
+    (omega arith) (λ s some saved. (λ x p has other. contains-without id (λ x. x.id ≡ p.id → ⊥) n l.logs (λ y was. saved.logs y p was other) x has, saved.pieces))
+
+pub no_piece_fits : (r : TypedCatalog) (n : ℕ) → IsTypedCatalog r → IsTypedCatalog (without_piece r n)
+no_piece_fits r n rules =
+    let is = rules.ledger in
+    let l = r.ledger in
+    let id = λ (x : PieceEntry). x.id in
+    let short = length-without id n l.pieces in
+    refit r l.logs (without_one id n l.pieces) rules is.logs (all-without id (IsPieceEntry l.tree l.files) n l.pieces is.pieces)
+    (record {
+      logs = is.ids.logs;
+      pieces = all-without id (λ x. (1 ≤ x.id) × (x.id < l.base.next_id)) n l.pieces is.ids.pieces;
+      logs_ascend = is.ids.logs_ascend;
+      pieces_ascend = ascend-without id n l.pieces is.ids.pieces_ascend;
+      apart = λ x p has other. contains-without id (λ y. x.id ≡ y.id → ⊥) n l.pieces (λ y was. is.ids.apart x y has was) p other;
+    })
+    (omega arith) (λ s some saved. (saved.logs, λ x p has other. contains-without id (λ x. x.id ≡ p.id → ⊥) n l.pieces (λ y was. saved.pieces y p was other) x has))
+
+-- A new object takes the next id.
+
+-- with a higher next id
+unfoldable pub with_next : TypedCatalog → ℕ → TypedCatalog
+with_next r n = with_base r (record r.ledger.base { next_id = n })
+
+pub next_fits : (r : TypedCatalog) (n : ℕ) → IsTypedCatalog r → r.ledger.base.next_id ≤ n → n ≤ 4294967295 → IsTypedCatalog (with_next r n)
+unfolding with_next
+next_fits r n rules up most =
+    let is = rules.ledger in
+    base_fits r (record r.ledger.base { next_id = n }) rules (record {
+      facts = record { dbid = is.base.dbid; threads = is.base.threads; next_id = (omega arith, most); moment = is.base.moment; policy = is.base.policy; parallelism = is.base.parallelism };
+      current = is.current;
+      threads = refl;
+      next_id = up;
+      moment = omega arith;
+    })
+
+-- it is the id of no object, and of no part of a saved site
+lacks-next : {A : Type 0} (id : A → ℕ) (n k : ℕ) (xs : List A) → k ≡ n → All (λ x. (1 ≤ id x) × (id x < n)) xs → LacksId id k xs
+lacks-next id n k xs same ids = All-weaker (λ x. (1 ≤ id x) × (id x < n)) (λ x. id x ≡ k → ⊥) (λ x was clash. omega arith) xs ids
+
+below-next : {A : Type 0} (id : A → ℕ) (n k : ℕ) (xs : List A) → k ≡ n → All (λ x. (1 ≤ id x) × (id x < n)) xs → All (λ x. id x < k) xs
+below-next id n k xs same ids = All-weaker (λ x. (1 ≤ id x) × (id x < n)) (λ x. id x < k) (λ x was. omega arith) xs ids
+
+next-id : (r : TypedCatalog) (k : ℕ) → IsTypedCatalog r → k ≡ r.ledger.base.next_id → IsObjectId (with_next r (r.ledger.base.next_id + 1)) k
+unfolding with_next
+next-id r k rules same = let some = rules.ledger.base.next_id.0 in record { range = (omega arith, omega arith); parts = decide r.saved rules.saved }
+  where
+    decide : (o : Option Saved) → IfSome o (IsSaved r.ledger) → IfSome o (λ s. LacksId (λ p. p.id) k s.parts)
+    decide None none = tt
+    decide (Some s) is = lacks-next (λ p. p.id) r.ledger.base.next_id k s.parts same (All-weaker (IsPartEntry r.ledger) (λ p. (1 ≤ p.id) × (p.id < r.ledger.base.next_id)) (λ p was. was.id) s.parts is.parts)
+
+module _ (r : TypedCatalog) (rules : IsTypedCatalog r) where
+  abbrev next : ℕ
+  next = r.ledger.base.next_id
+
+  -- a new object fits where its id was drawn, and then stands behind all others
+  pub drawn-log : (e : LogEntry) → FitsNewLog r e → FitsLog (with_next r (next + 1)) e
+  unfolding with_next
+  drawn-log e fits = record { log = fits.log; id = next-id r e.id rules fits.id; other = lacks-next (λ p. p.id) next e.id r.ledger.pieces fits.id rules.ledger.ids.pieces; room = inr fits.room }
+
+  pub log-last : (e : LogEntry) → FitsNewLog r e → with_log (with_next r (next + 1)) e ≡ with_new_log r e
+  unfolding with_next
+  log-last e fits =
+      ap (λ (logs : List LogEntry). record r { ledger = record r.ledger { base = record r.ledger.base { next_id = next + 1 }; logs = logs } })
+      (with-last (λ x. x.id) e r.ledger.logs (below-next (λ x. x.id) next e.id r.ledger.logs fits.id rules.ledger.ids.logs))
+
+  pub drawn-piece : (e : PieceEntry) → FitsNewPiece r e → FitsPiece (with_next r (next + 1)) e
+  unfolding with_next
+  drawn-piece e fits = record { piece = fits.piece; id = next-id r e.id rules fits.id; other = lacks-next (λ x. x.id) next e.id r.ledger.logs fits.id rules.ledger.ids.logs; room = inr fits.room }
+
+  pub piece-last : (e : PieceEntry) → FitsNewPiece r e → with_piece (with_next r (next + 1)) e ≡ with_new_piece r e
+  unfolding with_next
+  piece-last e fits =
+      ap (λ (pieces : List PieceEntry). record r { ledger = record r.ledger { base = record r.ledger.base { next_id = next + 1 }; pieces = pieces } })
+      (with-last (λ x. x.id) e r.ledger.pieces (below-next (λ x. x.id) next e.id r.ledger.pieces fits.id rules.ledger.ids.pieces))
+
+-- a new log or piece
+pub new_log_fits : (r : TypedCatalog) (e : LogEntry) → IsTypedCatalog r → FitsNewLog r e → IsTypedCatalog (with_new_log r e)
+new_log_fits r e rules fits =
+    let n = r.ledger.base.next_id in
+    subst IsTypedCatalog (log-last r rules e fits) (log_fits (with_next r (n + 1)) e (next_fits r (n + 1) rules (omega arith) (omega arith)) (drawn-log r rules e fits))
+
+pub new_piece_fits : (r : TypedCatalog) (e : PieceEntry) → IsTypedCatalog r → FitsNewPiece r e → IsTypedCatalog (with_new_piece r e)
+new_piece_fits r e rules fits =
+    let n = r.ledger.base.next_id in
+    subst IsTypedCatalog (piece-last r rules e fits) (piece_fits (with_next r (n + 1)) e (next_fits r (n + 1) rules (omega arith) (omega arith)) (drawn-piece r rules e fits))

@@ -1,0 +1,63 @@
+-- A new database has a ledger.
+use Rattle.std.proofs.Common.{◌≡◌, ℕ, ◌<◌, ◌≤◌, [], ◌∷◌, refl, subst, sym, arith}
+use Rattle.std.specs.List.{AllPairs}
+use Rattle.std.proofs.lemmas.List.Elements.{All-nil, All-cons}
+use Rattle.rm_base.specs.Numbers.{last_scn, last_moment}
+use Rattle.rm_base.specs.declared.block.Mark.{Mark}
+use Rattle.rm_catalog.specs.declared.record.LogEntry.{LogEntry}
+use Rattle.rm_catalog.specs.declared.record.PieceEntry.{PieceEntry}
+use Rattle.rm_history.specs.Tree.{IsThere, reset_of, end_of, branched}
+use Rattle.rm_base.proofs.Members.{none-in, in-front}
+use Rattle.rm_catalog_typed.specs.LedgerFacts.{IsLedger, AreIncarnations, IsCreated, IsLogEntry, IsPieceEntry, AreMarks, IsMark}
+use Rattle.rm_catalog_typed.specs.Fresh.{fresh}
+
+-- only the first incarnation is there
+only_first : (scn i : ℕ) → IsThere (branched 0 scn ∷ []) i → i ≡ 1
+only_first scn i there = let up = there.0 in let inside = there.1 in omega arith
+
+-- no two of one
+pairs_one : {A : Type 0} (R : A → A → Type 0) (x : A) → AllPairs R (x ∷ [])
+pairs_one R x i j d less inside = absurd (omega arith)
+
+pairs_none : {A : Type 0} (R : A → A → Type 0) → AllPairs R []
+pairs_none R i j d less inside = absurd (omega arith)
+
+fresh_incarnations : (scn : ℕ) → 1 ≤ scn → scn ≤ last_scn → AreIncarnations (branched 0 scn ∷ [])
+fresh_incarnations scn some most = record {
+  some = omega arith;
+  few = omega arith;
+  first = refl;
+  branches = λ i later inside. absurd (omega arith);
+  ranges = λ i there. subst (λ (k : ℕ). (1 ≤ reset_of (branched 0 scn ∷ []) k) × (reset_of (branched 0 scn ∷ []) k ≤ end_of (branched 0 scn ∷ []) k) × (end_of (branched 0 scn ∷ []) k ≤ last_scn)) (sym (only_first scn i there)) (some, omega arith, most);
+}
+
+fresh_marks : (scn moment : ℕ) → AreMarks (branched 0 scn ∷ []) moment (record { moment = moment; inc = 1; scn = scn } ∷ [])
+fresh_marks scn moment =
+    let m : Mark = record { moment = moment; inc = 1; scn = scn } in
+    let tree = branched 0 scn ∷ [] in
+    record {
+      each = All-cons (IsMark tree moment) m [] (record { there = (omega arith, omega arith); scn = (omega arith, omega arith); moment = omega arith }) (All-nil (IsMark tree moment));
+      rise = pairs_one (λ (a b : Mark). a.moment ≤ b.moment) m;
+      some = λ i there. (m, in-front m [], sym (only_first scn i there));
+    }
+
+pub fresh_is_ledger : (dbid threads scn moment : ℕ) → 1 ≤ dbid → 1 ≤ threads → threads ≤ 4 → 1 ≤ scn → scn ≤ last_scn → moment ≤ last_moment → IsLedger (fresh dbid threads scn moment)
+fresh_is_ledger dbid threads scn moment one some four from most late =
+    let tree = branched 0 scn ∷ [] in
+    record {
+      base = record { dbid = one; threads = (some, four); next_id = (omega arith, omega arith); moment = late; policy = (omega arith, omega arith); parallelism = (omega arith, omega arith) };
+      current = (omega arith, omega arith);
+      incarnations = fresh_incarnations scn from most;
+      datafiles = record { each = All-nil (IsCreated tree); few = omega arith; room = omega arith };
+      logs = All-nil (IsLogEntry tree threads);
+      pieces = All-nil (IsPieceEntry tree []);
+      ids = record {
+        logs = All-nil (λ (l : LogEntry). (1 ≤ l.id) × (l.id < 1));
+        pieces = All-nil (λ (p : PieceEntry). (1 ≤ p.id) × (p.id < 1));
+        logs_ascend = pairs_none (λ (l k : LogEntry). l.id < k.id);
+        pieces_ascend = pairs_none (λ (p q : PieceEntry). p.id < q.id);
+        apart = λ l p has. absurd (none-in l has);
+      };
+      marks = fresh_marks scn moment;
+      few = omega arith;
+    }

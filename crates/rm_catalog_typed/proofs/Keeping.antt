@@ -1,0 +1,89 @@
+-- What is true of records stays true where a tree and the datafiles grow.
+use Rattle.std.proofs.Common.{◌≡◌, ◌∙◌, ℕ, ◌-◌, ◌≤◌, ◌⊎◌, inl, inr, List, [], ◌∷◌, ◌++◌, Some, length, get_or, slice_get, refl, ap, sym, subst, arith, length-append}
+use Rattle.std.specs.Prelude.{Contains}
+use Rattle.std.specs.List.{AllPairs}
+use Rattle.std.proofs.lemmas.Bool.{cases_lt}
+use Rattle.std.proofs.lemmas.List.{get_or_append_left, get_or-append_right}
+use Rattle.std.proofs.lemmas.List.Elements.{Contains-get_or}
+use Rattle.std.proofs.lemmas.Option.{slice_get_within}
+use Rattle.rm_base.specs.declared.block.Mark.{Mark}
+use Rattle.rm_catalog.specs.declared.record.LogEntry.{LogEntry}
+use Rattle.rm_catalog.specs.declared.record.PieceEntry.{PieceEntry}
+use Rattle.rm_history.specs.declared.tree.Incarnation.{Incarnation}
+use Rattle.rm_history.specs.declared.world.Datafile.{Datafile}
+use Rattle.rm_base.proofs.Members.{slice_get-front}
+use Rattle.rm_catalog_typed.specs.LedgerFacts.{IsLogEntry, IsPieceEntry, IsMark}
+use Rattle.rm_catalog_typed.proofs.Trees.{Keeps}
+
+-- a log's entry keeps its facts
+pub log_kept : (old new : List Incarnation) (threads : ℕ) → Keeps old new → (e : LogEntry) → IsLogEntry old threads e → IsLogEntry new threads e
+log_kept old new threads keeps e is =
+    let reset = keeps.reset e.inc is.there in
+    let end = keeps.end e.inc is.there in
+    let range = is.range in
+    record {
+      there = keeps.there e.inc is.there;
+      thread = is.thread;
+      sequence = is.sequence;
+      range = (omega arith, range.1, omega arith);
+      size = is.size;
+    }
+
+-- the datafiles stay, or there is one more
+abbrev pub FilesGrow : List Datafile → List Datafile → Type 0
+FilesGrow old new = (new ≡ old) ⊎ ((d : Datafile) × (new ≡ old ++ d ∷ []))
+
+-- a datafile that was there stays at its place
+file_kept : (old new : List Datafile) (k : ℕ) (d : Datafile) → FilesGrow old new → slice_get old k ≡ Some d → slice_get new k ≡ Some d
+file_kept old new k d (inl same) is = ap (λ (x : List Datafile). slice_get x k) same ∙ is
+file_kept old new k d (inr more) is = ap (λ (x : List Datafile). slice_get x k) more.1 ∙ slice_get-front old more.0 k (slice_get_within old k d is) ∙ is
+
+-- a piece's entry keeps its facts
+pub piece_kept : (old new : List Incarnation) (files more : List Datafile) → Keeps old new → FilesGrow files more → (p : PieceEntry) → IsPieceEntry old files p → IsPieceEntry new more p
+piece_kept old new files more keeps grows p is =
+    let end = keeps.end p.inc is.there in
+    let high = is.high in
+    let file = is.file in
+    record {
+      there = keeps.there p.inc is.there;
+      file = record {
+        number = file.number;
+        datafile = file.datafile;
+        is = file_kept files more (p.file - 1) file.datafile grows file.is;
+        path = keeps.owners p.inc file.datafile.creation is.there ∙ file.path;
+        rows = file.rows;
+      };
+      checkpoint = is.checkpoint;
+      high = omega arith;
+      kind = is.kind;
+      tag = is.tag;
+      size = is.size;
+    }
+
+pub mark_kept : (old new : List Incarnation) (before after : ℕ) → Keeps old new → before ≤ after → (m : Mark) → IsMark old before m → IsMark new after m
+mark_kept old new before after keeps le m is =
+    let reset = keeps.reset m.inc is.there in
+    let end = keeps.end m.inc is.there in
+    let scn = is.scn in
+    let moment = is.moment in
+    record { there = keeps.there m.inc is.there; scn = (omega arith, omega arith); moment = omega arith }
+
+-- what holds in both lists, and of each of the first with each of the second, holds of all pairs
+pub pairs_append : {A : Type 0} (R : A → A → Type 0) (xs ys : List A) → AllPairs R xs → AllPairs R ys → ((x y : A) → Contains xs x → Contains ys y → R x y) → AllPairs R (xs ++ ys)
+pairs_append R xs ys front back across i j d less inside =
+    let long = length-append xs ys in
+    elim (cases_lt j (length xs)) [
+      | inl both ↦
+          subst (λ x. R x (get_or (xs ++ ys) j d)) (sym (get_or_append_left xs ys d i (omega arith)))
+          (subst (λ y. R (get_or xs i d) y) (sym (get_or_append_left xs ys d j both)) (front i j d less both))
+      | inr high ↦
+          subst (λ y. R (get_or (xs ++ ys) i d) y) (sym (get_or-append_right xs ys (length xs) j d refl high))
+          (elim (cases_lt i (length xs)) [
+            | inl low ↦
+                subst (λ x. R x (get_or ys (j - length xs) d)) (sym (get_or_append_left xs ys d i low))
+                (across (get_or xs i d) (get_or ys (j - length xs) d) (Contains-get_or xs i d low) (Contains-get_or ys (j - length xs) d (omega arith)))
+            | inr late ↦
+                subst (λ x. R x (get_or ys (j - length xs) d)) (sym (get_or-append_right xs ys (length xs) i d refl late))
+                (back (i - length xs) (j - length xs) d (omega arith) (omega arith))
+          ])
+    ]

@@ -1,0 +1,165 @@
+-- The records of a ledger ascend strictly by place.
+use Rattle.std.proofs.Common.{◌≡◌, ◌∙◌, ℕ, zero, suc, ◌+◌, ◌<◌, ◌≤◌, List, [], ◌∷◌, ◌++◌, length, get_or, map, All, refl, ap, arith}
+use Rattle.std.specs.Prelude.{Contains, Some}
+use Rattle.std.specs.List.{AllPairs}
+use Rattle.std.proofs.lemmas.List.{length-append}
+use Rattle.std.proofs.lemmas.List.Elements.{Contains-get_or}
+use Rattle.rm_catalog.specs.declared.record.Record.{Record}
+use Rattle.rm_catalog.specs.declared.record.Record.TheVariants as kind
+use Rattle.rm_catalog.specs.Keys.{place, place_of, at, InOrder}
+use Rattle.rm_catalog.proofs.Unique.{Rises, all_above}
+use Rattle.rm_catalog.proofs.Told.{at_here, at_past}
+use Rattle.rm_catalog_typed.specs.Ledger.{Ledger, ledger_records, numbered, incarnation_record, datafile_record, mark_record}
+use Rattle.rm_catalog_typed.specs.LedgerFacts.{IsLedger}
+
+-- the places rise strictly, all from `low` on and below `high`
+unfoldable pub Runs : ℕ → ℕ → List Record → Type 0
+Runs low high [] = low ≤ high
+Runs low high (r ∷ rs) = (low ≤ place_of r) × Runs (place_of r + 1) high rs
+
+pub runs-lower : (a b high : ℕ) (rs : List Record) → a ≤ b → Runs b high rs → Runs a high rs
+unfolding Runs
+runs-lower a b high [] le up = let last : b ≤ high = up in omega arith
+runs-lower a b high (r ∷ rs) le up = let first = up.0 in (omega arith, up.1)
+
+-- what runs on behind a run is one run with it
+pub runs-append : (low mid high : ℕ) (rs qs : List Record) → Runs low mid rs → Runs mid high qs → Runs low high (rs ++ qs)
+unfolding Runs
+runs-append low mid high [] qs up down = runs-lower low mid high qs up down
+runs-append low mid high (r ∷ rs) qs up down = (up.0, runs-append (place_of r + 1) mid high rs qs up.1 down)
+
+pub runs-rise : (low high : ℕ) (rs : List Record) → Runs low high rs → Rises low rs
+unfolding Runs Rises
+runs-rise low high [] up = tt
+runs-rise low high (r ∷ rs) up = (up.0, runs-rise (place_of r + 1) high rs up.1)
+
+-- each place of a run lies within its bounds
+runs-short : (low high : ℕ) (rs : List Record) → Runs low high rs → low ≤ high
+unfolding Runs
+runs-short low high [] up = up
+runs-short low high (r ∷ rs) up = let first = up.0 in let later = runs-short (place_of r + 1) high rs up.1 in omega arith
+
+pub runs-within : (low high : ℕ) (rs : List Record) → Runs low high rs → All (λ r. (low ≤ place_of r) × (place_of r < high)) rs
+unfolding Runs
+runs-within low high [] up k d lt = absurd (omega arith)
+runs-within low high (r ∷ rs) up zero d lt = let first = up.0 in let later = runs-short (place_of r + 1) high rs up.1 in (first, omega arith)
+runs-within low high (r ∷ rs) up (suc k) d lt =
+    let first = up.0 in
+    let later = runs-within (place_of r + 1) high rs up.1 k d (omega arith) in
+    let low_of = later.0 in
+    (omega arith, later.1)
+
+-- things that are numbered from n on run from the place of n on
+pub runs-numbered : {A : Type 0} (make : ℕ → A → Record) (of n : ℕ) (xs : List A) → ((k : ℕ) (x : A) → place_of (make k x) ≡ place of k) → n + length xs ≤ 4294967295 → Runs (place of n) (place (of + 1) 0) (numbered make n xs)
+unfolding Runs
+runs-numbered make of n [] is few = omega arith
+runs-numbered make of n (x ∷ xs) is few =
+    let here : place_of (make n x) ≡ place of n = is n x in
+    let later = runs-numbered make of (n + 1) xs is (omega arith) in
+    (omega arith, runs-lower (place_of (make n x) + 1) (place of (n + 1)) (place (of + 1) 0) (numbered make (n + 1) xs) (omega arith) later)
+
+-- objects whose ids ascend from n on run from the place of n on
+pub runs-objects : {A : Type 0} (make : A → Record) (id : A → ℕ) (of n : ℕ) (xs : List A) → ((x : A) → place_of (make x) ≡ place of (id x))
+    → All (λ x. (n ≤ id x) × (id x < 4294967295)) xs → AllPairs (λ x y. id x < id y) xs → Runs (place of n) (place (of + 1) 0) (map make xs)
+unfolding Runs
+runs-objects make id of n [] is within up = omega arith
+runs-objects {A} make id of n (x ∷ xs) is within up =
+    let here : place_of (make x) ≡ place of (id x) = is x in
+    let first : (n ≤ id x) × (id x < 4294967295) = within 0 x (omega arith) in
+    let from = first.0 in
+    let small = first.1 in
+    let above : All (λ (y : A). (id x + 1 ≤ id y) × (id y < 4294967295)) xs = λ k d lt.
+    let next : id x < id (get_or xs k d) = up 0 (suc k) d (omega arith) (omega arith) in
+    let bound : (n ≤ id (get_or xs k d)) × (id (get_or xs k d) < 4294967295) = within (suc k) d (omega arith) in
+    (omega arith, bound.1)
+    in
+    let later = runs-objects make id of (id x + 1) xs is above (λ i j d less lt. up (suc i) (suc j) d (omega arith) (omega arith)) in
+    (omega arith, runs-lower (place_of (make x) + 1) (place of (id x + 1)) (place (of + 1) 0) (map make xs) (omega arith) later)
+
+pub length-numbered : {A : Type 0} (make : ℕ → A → Record) (n : ℕ) (xs : List A) → length (numbered make n xs) ≡ length xs
+length-numbered make n [] = refl
+length-numbered make n (x ∷ xs) = ap suc (length-numbered make (n + 1) xs)
+
+-- the records of a ledger, kind by kind
+abbrev pub incarnations_of : Ledger → List Record
+incarnations_of l = numbered incarnation_record 1 l.tree
+
+abbrev pub datafiles_of : Ledger → List Record
+datafiles_of l = numbered datafile_record 1 l.files
+
+abbrev pub logs_of : Ledger → List Record
+logs_of l = map kind.Log l.logs
+
+abbrev pub pieces_of : Ledger → List Record
+pieces_of l = map kind.Piece l.pieces
+
+abbrev pub marks_of : Ledger → List Record
+marks_of l = numbered mark_record 1 l.marks
+
+-- a ledger has at least as many records as marks
+pub marks-few : (l : Ledger) → length l.marks ≤ length (ledger_records l)
+marks-few l =
+    let front = incarnations_of l ++ datafiles_of l ++ logs_of l ++ pieces_of l in
+    let both = length-append front (marks_of l) in
+    let marks = length-numbered mark_record 1 l.marks in
+    omega arith
+
+-- the records of each kind run on, below the first place of the next kind
+pub incarnations-run : (l : Ledger) → IsLedger l → Runs (place 2 1) (place 3 0) (incarnations_of l)
+incarnations-run l is = let few = is.incarnations.few in runs-numbered incarnation_record 2 1 l.tree (λ k n. refl) (omega arith)
+
+pub datafiles-run : (l : Ledger) → IsLedger l → Runs (place 3 1) (place 4 0) (datafiles_of l)
+datafiles-run l is = let few = is.datafiles.few in runs-numbered datafile_record 3 1 l.files (λ k d. refl) (omega arith)
+
+pub logs-run : (l : Ledger) → IsLedger l → Runs (place 4 1) (place 5 0) (logs_of l)
+logs-run l is =
+    let next = is.base.next_id.1 in
+    runs-objects kind.Log (λ e. e.id) 4 1 l.logs (λ e. refl) (λ k d lt. let e = is.ids.logs k d lt in let high = e.1 in (e.0, omega arith)) is.ids.logs_ascend
+
+pub pieces-run : (l : Ledger) → IsLedger l → Runs (place 5 1) (place 6 0) (pieces_of l)
+pieces-run l is =
+    let next = is.base.next_id.1 in
+    runs-objects kind.Piece (λ p. p.id) 5 1 l.pieces (λ p. refl) (λ k d lt. let e = is.ids.pieces k d lt in let high = e.1 in (e.0, omega arith)) is.ids.pieces_ascend
+
+pub marks-run : (l : Ledger) → IsLedger l → Runs (place 6 1) (place 7 0) (marks_of l)
+marks-run l is = let most = marks-few l in let few = is.few in runs-numbered mark_record 6 1 l.marks (λ k m. refl) (omega arith)
+
+-- the records of a ledger run on, kind by kind, below the places of a saved site
+pub records-run : (l : Ledger) → IsLedger l → Runs (place 1 0) (place 7 0) (ledger_records l)
+unfolding Runs
+records-run l is =
+    let two = runs-join (place 3 0) (place 2 1) (place 3 1) (place 4 0) (incarnations_of l) (datafiles_of l) (omega arith) (incarnations-run l is) (datafiles-run l is) in
+    let three = runs-join (place 4 0) (place 2 1) (place 4 1) (place 5 0) (incarnations_of l ++ datafiles_of l) (logs_of l) (omega arith) two (logs-run l is) in
+    let four = runs-join (place 5 0) (place 2 1) (place 5 1) (place 6 0) (incarnations_of l ++ datafiles_of l ++ logs_of l) (pieces_of l) (omega arith) three (pieces-run l is) in
+    let five = runs-join (place 6 0) (place 2 1) (place 6 1) (place 7 0) (incarnations_of l ++ datafiles_of l ++ logs_of l ++ pieces_of l) (marks_of l) (omega arith) four (marks-run l is) in
+    (omega arith, runs-lower (place 1 0 + 1) (place 2 1) (place 7 0) (incarnations_of l ++ datafiles_of l ++ logs_of l ++ pieces_of l ++ marks_of l) (omega arith) five)
+  where
+    runs-join : (mid low from high : ℕ) (rs qs : List Record) → mid ≤ from → Runs low mid rs → Runs from high qs → Runs low high (rs ++ qs)
+    runs-join mid low from high rs qs le up down = runs-append low mid high rs qs up (runs-lower mid from high qs le down)
+
+-- records that rise are in order
+pub rises-order : (low : ℕ) (rs : List Record) → Rises low rs → InOrder rs
+unfolding Rises
+rises-order low [] up i j d le lt = absurd (omega arith)
+rises-order low (r ∷ rs) up zero zero d le lt = omega arith
+rises-order low (r ∷ rs) up zero (suc j) d le lt = let over = all_above (place_of r + 1) rs up.1 (get_or rs j d) (Contains-get_or rs j d (omega arith)) in omega arith
+rises-order low (r ∷ rs) up (suc i) zero d le lt = absurd (omega arith)
+rises-order low (r ∷ rs) up (suc i) (suc j) d le lt = rises-order (place_of r + 1) rs up.1 i j d (omega arith) (omega arith)
+
+-- where records rise, each is found at its place
+pub rises-found : (low : ℕ) (rs : List Record) (x : Record) → Rises low rs → Contains rs x → at (place_of x) rs ≡ Some x
+unfolding Rises
+rises-found low [] x up has = absurd (let lt = has.1 in omega arith)
+rises-found low (r ∷ rs) x up (zero, lt, is) = at_here r rs (place_of x) (ap place_of is) ∙ ap (λ (y : Record). Some y) is
+rises-found low (r ∷ rs) x up (suc k, lt, is) =
+    let has : Contains rs x = (k, omega arith, is) in
+    let over = all_above (place_of r + 1) rs up.1 x has in
+    at_past r rs (place_of x) (λ e. omega arith) ∙ rises-found (place_of r + 1) rs x up.1 has
+
+-- the records of a ledger are in order
+pub records-order : (l : Ledger) → IsLedger l → InOrder (ledger_records l)
+records-order l is = rises-order (place 1 0) (ledger_records l) (runs-rise (place 1 0) (place 7 0) (ledger_records l) (records-run l is))
+
+-- a record of a ledger is found at its place
+pub record-found : (l : Ledger) (r : Record) → IsLedger l → Contains (ledger_records l) r → at (place_of r) (ledger_records l) ≡ Some r
+record-found l r is has = rises-found (place 1 0) (ledger_records l) r (runs-rise (place 1 0) (place 7 0) (ledger_records l) (records-run l is)) has

@@ -1,0 +1,153 @@
+-- The logs, pieces and marks of a catalog are those of a ledger.
+use Rattle.std.proofs.Common.{◌≡◌, ◌∙◌, ℕ, ◌+◌, ◌-◌, ◌<◌, ◌≤◌, List, get_or, map, Option, Some, None, refl, ap, sym, subst, arith, All, Contains, slice_get}
+use Rattle.std.specs.Prelude.{IsSomeAnd, IsTrue}
+use Rattle.std.specs.List.{filter_map}
+use Rattle.std.specs.Option.{option_map}
+use Rattle.std.proofs.lemmas.Bool.{eqb-true}
+use Rattle.std.proofs.lemmas.List.{get_or-map, length-map}
+use Rattle.std.proofs.lemmas.List.Elements.{All-map, Contains-get_or}
+use Rattle.std.proofs.lemmas.List.Folds.{Any-from_list_any}
+use Rattle.std.proofs.lemmas.Option.{slice_get-map}
+use Rattle.rm_base.specs.declared.block.Mark.{Mark}
+use Rattle.rm_base.proofs.Lists.{map_to}
+use Rattle.rm_history.specs.declared.world.Datafile.{Datafile}
+use Rattle.rm_history.specs.Tree.{IsThere}
+use Rattle.rm_catalog.specs.declared.record.BaseEntry.{BaseEntry}
+use Rattle.rm_catalog.specs.declared.record.DatafileEntry.{DatafileEntry}
+use Rattle.rm_catalog.specs.declared.record.LogEntry.{LogEntry}
+use Rattle.rm_catalog.specs.declared.record.MarkEntry.{MarkEntry}
+use Rattle.rm_catalog.specs.declared.record.PieceEntry.{PieceEntry}
+use Rattle.rm_catalog.specs.declared.record.Record.{Record}
+use Rattle.rm_catalog.specs.declared.record.Record.TheVariants as records
+use Rattle.rm_catalog.specs.Keys.{base, datafile, log_in, piece_in, place}
+use Rattle.rm_catalog.specs.Facts.{IsWithin, is_mark_of}
+use Rattle.rm_catalog.specs.Objects.{IsRange, FitsDatafile}
+use Rattle.rm_catalog.specs.Rules.{IsCatalog}
+use Rattle.rm_catalog.specs.Trees.{nodes}
+use Rattle.rm_catalog.proofs.Trees.{path_is}
+use Rattle.rm_evidence.specs.Database.{created_by, datafiles}
+use Rattle.rm_evidence.proofs.Files.{entries, datafiles-are, entry-is}
+use Rattle.rm_evidence.proofs.Found.{datafile-rule, datafile-there}
+use Rattle.rm_evidence.proofs.Telling.{record-told}
+use Rattle.rm_evidence.proofs.DatabaseWorlds.{entry-of}
+use Rattle.rm_catalog_typed.specs.LedgerFacts.{AreIds, AreMarks, HasMark, IsBase, IsLogEntry, IsMark, IsOfFile, IsPieceEntry, Rise}
+use Rattle.rm_catalog_typed.specs.Kinds.{AreSmall, marked_by}
+use Rattle.rm_catalog_typed.proofs.ByKind.{is-log, is-piece, made, told-in-order}
+use Rattle.rm_catalog_typed.proofs.Marks.{mark-rule, moments-rise}
+use Rattle.rm_catalog_typed.proofs.Marks.{entries as mark_entries, entry-record as mark-record}
+use Rattle.rm_catalog_typed.proofs.Told.{base-rule, has-key, log-rule, on-base, on-incarnation, piece-rule}
+
+module _ (rs : List Record) (b : BaseEntry) (c : IsCatalog rs) (is : base rs ≡ Some b) where
+  log-fits : (e : LogEntry) → Contains (filter_map log_in rs) e → IsLogEntry (nodes rs) b.threads e
+  log-fits e has =
+      let rule = log-rule rs e c has in
+      let on = on-incarnation rs e.inc (IsRange e) c rule.range in
+      record {
+        there = on.there;
+        thread = on-base rs b (λ b. e.thread ≤ b.threads) is rule.thread;
+        sequence = rule.sequence;
+        range = (omega arith, on.holds.some, omega arith);
+        size = rule.size;
+      }
+
+  pub logs-fit : All (IsLogEntry (nodes rs) b.threads) (filter_map log_in rs)
+  logs-fit k d lt = log-fits (get_or (filter_map log_in rs) k d) (Contains-get_or (filter_map log_in rs) k d lt)
+
+  -- the datafile of a piece
+  of-file : (p : PieceEntry) → IsThere (nodes rs) p.inc → IsSomeAnd (datafile p.file rs) (FitsDatafile rs p) → IsOfFile (nodes rs) (datafiles rs) p
+  of-file p inc some = decide (datafile p.file rs) refl some
+    where
+      decide : (o : Option DatafileEntry) → datafile p.file rs ≡ o → IsSomeAnd o (FitsDatafile rs p) → IsOfFile (nodes rs) (datafiles rs) p
+      decide None e some = absurd some
+      decide (Some f) e fits =
+          let there = datafile-there rs p.file f c e in
+          let number = (datafile-rule rs f c there.0).number.0 in
+          let next : p.file ≡ (p.file - 1) + 1 = omega arith in
+          record {
+            number = omega arith;
+            datafile = created_by f;
+            is = ap (λ (x : List Datafile). slice_get x (p.file - 1)) (datafiles-are rs) ∙ slice_get-map created_by (entries rs) (p.file - 1) ∙ ap (option_map created_by) (entry-is rs (p.file - 1) p.file c next ∙ e);
+            path = sym (path_is rs p.inc f.creation c inc) ∙ fits.path;
+            rows = fits.rows;
+          }
+
+  piece-fits : (p : PieceEntry) → Contains (filter_map piece_in rs) p → IsPieceEntry (nodes rs) (datafiles rs) p
+  piece-fits p has =
+      let rule = piece-rule rs p c has in
+      let on = on-incarnation rs p.inc (λ i. p.high ≤ i.end) c rule.end in
+      record {
+        there = on.there;
+        file = of-file p on.there rule.file;
+        checkpoint = rule.checkpoint;
+        high = omega arith;
+        kind = rule.kind;
+        tag = rule.tag;
+        size = rule.size;
+      }
+
+  pub pieces-fit : All (IsPieceEntry (nodes rs) (datafiles rs)) (filter_map piece_in rs)
+  pieces-fit k d lt = piece-fits (get_or (filter_map piece_in rs) k d) (Contains-get_or (filter_map piece_in rs) k d lt)
+
+  pub ids-fit : AreIds 1 b.next_id (filter_map log_in rs) (filter_map piece_in rs)
+  ids-fit = record {
+    logs = λ k d lt.
+        let e = get_or (filter_map log_in rs) k d in
+        let rule = log-rule rs e c (Contains-get_or (filter_map log_in rs) k d lt) in
+        (rule.id.number, on-base rs b (λ b. e.id < b.next_id) is rule.id.below);
+    pieces = λ k d lt.
+        let e = get_or (filter_map piece_in rs) k d in
+        let rule = piece-rule rs e c (Contains-get_or (filter_map piece_in rs) k d lt) in
+        (rule.id.number, on-base rs b (λ b. e.id < b.next_id) is rule.id.below);
+    logs_ascend = told-in-order records.Log log_in 4 is-log (λ e. e.id) (λ e. refl) rs c;
+    pieces_ascend = told-in-order records.Piece piece_in 5 is-piece (λ p. p.id) (λ p. refl) rs c;
+    apart = λ e p has other same.
+        (log-rule rs e c has).id.not_second (has-key rs (records.Piece p) 5 e.id c (made records.Piece piece_in 5 is-piece rs p other) (ap (place 5) (sym same)));
+  }
+
+  -- the marks
+  mark-fits : (m : MarkEntry) → Contains (mark_entries rs) m → IsMark (nodes rs) b.moment (marked_by m)
+  mark-fits m has =
+      let rule = mark-rule rs m c (mark-record rs m has) in
+      let on = on-incarnation rs m.inc (IsWithin m.scn) c rule.scn in
+      record {
+        there = on.there;
+        scn = (omega arith, omega arith);
+        moment = on-base rs b (λ b. m.moment ≤ b.moment) is rule.moment;
+      }
+
+  -- a record that is a mark of the incarnation
+  is-of : (i : ℕ) (r : Record) → Contains rs r → IsTrue (is_mark_of i r) → HasMark (map marked_by (mark_entries rs)) i
+  is-of i (records.Mark x) has yes_ = (marked_by x, map_to marked_by (mark_entries rs) x (record-told _ rs (records.Mark x) x has refl), eqb-true x.inc i yes_)
+  is-of i r has yes_ = absurd cc
+
+  has-mark : (i : ℕ) → IsThere (nodes rs) i → HasMark (map marked_by (mark_entries rs)) i
+  has-mark i there =
+      let e = entry-of rs i c there in
+      let any = Any-from_list_any (is_mark_of e.entry.inc) rs e.rule.mark in
+      subst (HasMark (map marked_by (mark_entries rs))) e.number (is-of e.entry.inc any.1 (any.0, any.2, any.3) any.4)
+
+  rise : AreSmall rs → Rise (map marked_by (mark_entries rs))
+  rise small i j d less inside =
+      let n = length-map (mark_entries rs) marked_by in
+      let k = mark_of d in
+      let up = moments-rise rs c small i j k (omega arith) (omega arith) in
+      let low = get_or-map marked_by (mark_entries rs) i k d (omega arith) in
+      let high = get_or-map marked_by (mark_entries rs) j k d (omega arith) in
+      let from = ap (λ (m : Mark). m.moment) low in
+      let to = ap (λ (m : Mark). m.moment) high in
+      omega arith
+    where
+      mark_of : Mark → MarkEntry
+      mark_of m = record { id = 0; moment = m.moment; inc = m.inc; scn = m.scn }
+
+  pub marks-fit : AreSmall rs → AreMarks (nodes rs) b.moment (map marked_by (mark_entries rs))
+  marks-fit small = record {
+    each = All-map (IsMark (nodes rs) b.moment) marked_by (mark_entries rs) (λ k d lt. mark-fits (get_or (mark_entries rs) k d) (Contains-get_or (mark_entries rs) k d lt));
+    rise = rise small;
+    some = has-mark;
+  }
+
+  pub base-fits : b.next_id ≤ 4294967295 → IsBase b
+  base-fits small =
+      let rule = base-rule rs b c is in
+      record { dbid = rule.dbid; threads = rule.threads; next_id = (rule.next_id, small); moment = rule.moment; policy = rule.policy; parallelism = rule.parallelism }

@@ -1,0 +1,11 @@
+pub mod Changes
+pub mod Facts
+pub mod Fitting
+pub mod Fresh
+pub mod Kinds
+pub mod Ledger
+pub mod LedgerFacts
+pub mod Loading
+pub mod Places
+pub mod Starting
+pub mod TypedCatalog

@@ -1,6 +1,0 @@
-use Rattle.std.proofs.Common.{◌≡◌, map}
-use Rattle.std.specs.String.{string_bytes}
-use Rattle.rm_dir.proofs.dir.texts.Given as goal
-
-abbrev pub invariant-loop-name : goal.invariant-loop-name
-invariant-loop-name l = l.texts.items ≡ map (λ name. string_bytes name.now) l.yielded

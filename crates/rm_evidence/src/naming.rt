@@ -1,0 +1,32 @@
+//! The names under which objects stand.
+ghost use Rattle.std.specs.Prelude.{◌≡◌, IfOk};
+ghost use Rattle.rm_evidence.specs.Names.{log_name, piece_name, site_name};
+
+use rm_base::{NoMemory, Text};
+use std::alloc::Global;
+
+/// The name of an archived log, or of a backup of one: `log_` and the id.
+pub fn log_name(alloc: Global, id: u32) -> Result<Text, NoMemory>
+    ensures { IfOk result (λ name. name ≡ log_name id) }
+{
+    Ok(Text::from_string(format!(in alloc; "log_{id}")?))
+}
+
+/// The name of an image copy, `copy_` and the id, or else of a backup piece, `piece_` and the id.
+pub fn piece_name(alloc: Global, copy: bool, id: u32) -> Result<Text, NoMemory>
+    ensures { IfOk result (λ name. name ≡ piece_name copy id) }
+{
+    let name = if copy {
+        format!(in alloc; "copy_{id}")?
+    } else {
+        format!(in alloc; "piece_{id}")?
+    };
+    Ok(Text::from_string(name))
+}
+
+/// The name of a saved part of what stands in place: `site_` and the id.
+pub fn site_name(alloc: Global, id: u32) -> Result<Text, NoMemory>
+    ensures { IfOk result (λ name. name ≡ site_name id) }
+{
+    Ok(Text::from_string(format!(in alloc; "site_{id}")?))
+}

@@ -1,6 +1,0 @@
-use Rattle.rm_machine.proofs.Leading.{stays}
-use Rattle.rm_frame.proofs.Every.{every-stays}
-use Rattle.rm_frame.proofs.laws.each_statement_keeps_a_state_sound.Goals as goal
-
-pub returns : goal.returns
-returns a c = stays c (every-stays c)

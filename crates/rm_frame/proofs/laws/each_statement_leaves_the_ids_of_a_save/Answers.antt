@@ -1,5 +1,0 @@
-use Rattle.rm_frame.proofs.Every.{every-roomy}
-use Rattle.rm_frame.proofs.laws.each_statement_leaves_the_ids_of_a_save.Goals as goal
-
-pub returns : goal.returns
-returns a c = every-roomy c

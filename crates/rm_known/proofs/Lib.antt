@@ -1,9 +1,0 @@
-pub mod Example
-pub mod Facts
-pub mod Gaps
-pub mod Logs
-pub mod Past
-pub mod Removal
-pub mod Sound
-pub mod States
-pub mod Unquiet

@@ -1,5 +1,0 @@
-use Rattle.rm_known.proofs.Facts.{no-gap}
-use Rattle.rm_known.proofs.laws.determined_has_no_gap.Goals as goal
-
-pub returns : goal.returns
-returns c w e i s f b m g told gap = no-gap w e i s f b m g told gap

@@ -1,5 +1,0 @@
-use Rattle.rm_known.proofs.Past.{past-agrees}
-use Rattle.rm_known.proofs.laws.growth_past_the_evidence_keeps_agreement.Goals as goal
-
-pub returns : goal.returns
-returns _ w h e c agrees longer past = past-agrees w h e c agrees longer past

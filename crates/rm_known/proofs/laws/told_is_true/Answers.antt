@@ -1,5 +1,0 @@
-use Rattle.rm_known.proofs.Facts.{told-is-true}
-use Rattle.rm_known.proofs.laws.told_is_true.Goals as goal
-
-pub returns : goal.returns
-returns c w e i s f b v x target told = told-is-true w e i s f b v x target told

@@ -1,0 +1,99 @@
+-- What is kept of a part of a statement tells the part.
+use Rattle.std.proofs.Common.{◌≡◌, refl, ap, ℕ, List, [], ◌∷◌, Option, Some, None, Bool, true, false, map}
+use Rattle.std.specs.Option.{option_map}
+use Rattle.rm_base.specs.declared.kinds.Class.{Class}
+use Rattle.rm_base.specs.declared.kinds.Class.TheVariants.{Backup as BackupClass, Copy as CopyClass, Archived}
+use Rattle.rm_lang_reading.specs.declared.backup.BackupAs.{BackupAs}
+use Rattle.rm_lang_reading.specs.declared.backup.BackupAs.TheVariants.{Copy, Sets}
+use Rattle.rm_lang_reading.specs.declared.backup.Level.{Level}
+use Rattle.rm_lang_reading.specs.declared.upkeep.Deletion.{Deletion}
+use Rattle.rm_lang_reading.specs.declared.upkeep.Deletion.TheVariants.{Obsolete, One, Expired}
+use Rattle.rm_lang_statement.specs.declared.command.Until.{Until}
+use Rattle.rm_lang_statement.specs.declared.command.Until.TheVariants.{Scn, Sequence, Time}
+use Rattle.rm_lang_statement.specs.declared.command.WriteForm.{WriteForm}
+use Rattle.rm_lang_statement.specs.declared.command.ChangeTo.{ChangeTo}
+use Rattle.rm_lang_statement.specs.declared.command.ChangeTo.TheVariants.{Available, Unavailable, Uncatalog, Keep, NoKeep}
+use Rattle.rm_lang_statement.specs.declared.command.RetentionForm.{RetentionForm}
+use Rattle.rm_lang_statement.specs.declared.command.RetentionForm.TheVariants.{Window, Redundancy, Nothing, Clear}
+use Rattle.rm_lang_statement.specs.Files.{in_order}
+use Rattle.rm_lang_reading.specs.Creating.{written}
+use Rattle.rm_lang_reading.specs.Recovering.{until_by, until_of, incarnation_of}
+use Rattle.rm_lang_reading.specs.Backups.{kind_of, is_copy, level_of, merge_tag_of, files_of, tag_of, stands, during_of}
+use Rattle.rm_lang_reading.specs.Upkeep.{class_by, change_by, deletion_by}
+use Rattle.rm_lang_reading.specs.Settings.{retention_by}
+use Rattle.rm_lang_reading.specs.Values.{write_values, until_choice, until_values, incarnation_values, kind_values, kind_asked, level_values, merge_values, files_values, tag_values, keep_values, during_values, class_choice, change_choice, deletion_choice, retention_choice}
+
+pub choice_again : (u : Until) → until_by (until_choice u) ≡ u
+choice_again (Scn n) = refl
+choice_again (Sequence sequence thread) = refl
+choice_again (Time w) = refl
+
+pub until_again : (o : Option Until) → option_map until_of (option_map until_values o) ≡ o
+until_again None = refl
+until_again (Some u) = ap (λ (v : Until). Some v) (choice_again u)
+
+pub incarnation_again : (o : Option ℕ) → option_map incarnation_of (option_map incarnation_values o) ≡ o
+incarnation_again None = refl
+incarnation_again (Some n) = refl
+
+pub kind_again : (o : Option BackupAs) → option_map kind_of (option_map kind_values o) ≡ o
+kind_again None = refl
+kind_again (Some Copy) = refl
+kind_again (Some Sets) = refl
+
+pub copy_again : (copy : Bool) → is_copy (option_map kind_of (option_map kind_values (kind_asked copy))) ≡ copy
+copy_again true = refl
+copy_again false = refl
+
+pub level_again : (o : Option Level) → option_map level_of (option_map level_values o) ≡ o
+level_again None = refl
+level_again (Some l) = refl
+
+pub merge_again : (o : Option (List ℕ)) → option_map merge_tag_of (option_map merge_values o) ≡ o
+merge_again None = refl
+merge_again (Some w) = refl
+
+pub files_again : (o : Option (List ℕ)) → files_of (files_values o) ≡ option_map in_order o
+files_again None = refl
+files_again (Some ns) = refl
+
+pub tag_again : (o : Option (List ℕ)) → option_map tag_of (option_map tag_values o) ≡ o
+tag_again None = refl
+tag_again (Some w) = refl
+
+pub keep_again : (keep : Bool) → stands (keep_values keep) ≡ keep
+keep_again true = refl
+keep_again false = refl
+
+writes_again : (ws : List WriteForm) → map written (map write_values ws) ≡ ws
+writes_again [] = refl
+writes_again (w ∷ ws) = ap (λ (vs : List WriteForm). w ∷ vs) (writes_again ws)
+
+pub during_again : (o : Option (List WriteForm)) → option_map during_of (option_map during_values o) ≡ o
+during_again None = refl
+during_again (Some ws) = ap (λ (vs : List WriteForm). Some vs) (writes_again ws)
+
+pub class_again : (c : Class) → class_by (class_choice c) ≡ c
+class_again BackupClass = refl
+class_again CopyClass = refl
+class_again Archived = refl
+
+pub change_again : (c : ChangeTo) → change_by (change_choice c) ≡ c
+change_again Available = refl
+change_again Unavailable = refl
+change_again Uncatalog = refl
+change_again Keep = refl
+change_again NoKeep = refl
+
+pub deletion_again : (d : Deletion) → deletion_by (deletion_choice d) ≡ d
+deletion_again Obsolete = refl
+deletion_again (One id) = refl
+deletion_again (Expired c) = ap (λ (k : Class). Expired k) (class_again c)
+
+pub retention_again : (r : RetentionForm) → retention_by (retention_choice r) ≡ r
+retention_again (Window days) = refl
+retention_again (Redundancy count) = refl
+retention_again Nothing = refl
+retention_again Clear = refl
+
+pub ruleset parts = (choice_again, until_again, incarnation_again, kind_again, level_again, merge_again, files_again, tag_again, keep_again, during_again, class_again, change_again, deletion_again, retention_again)

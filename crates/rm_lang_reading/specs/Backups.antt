@@ -1,0 +1,125 @@
+-- The statements that make backups, and the command that each one is.
+use Rattle.std.specs.Prelude.{ℕ, Bool, true, false, if◌then◌else◌, is_some, List, Option, Some, None, codes, map}
+use Rattle.std.specs.Option.{option_map}
+use Rattle.rm_lang_token.specs.declared.token.Token.{Token}
+use Rattle.rm_lang_grammar.specs.Grammar.{◌▸◌, Grammar, Values, Choice, first, second, end, semicolon, word, flag, number, tag, optional, either, numbers, sign, many, in_range}
+use Rattle.rm_lang_grammar.specs.Reading.{◌>>=◌, word_at, read}
+use Rattle.rm_lang_grammar.specs.Forms.{Form}
+use Rattle.rm_lang_reading.specs.declared.backup.BackupAs.{BackupAs}
+use Rattle.rm_lang_reading.specs.declared.backup.BackupAs.TheVariants.{Copy, Sets}
+use Rattle.rm_lang_reading.specs.declared.backup.Level.{Level}
+use Rattle.rm_lang_statement.specs.declared.command.WriteForm.{WriteForm}
+use Rattle.rm_lang_statement.specs.declared.command.BackupForm.{BackupForm}
+use Rattle.rm_lang_statement.specs.declared.command.Command.{Command}
+use Rattle.rm_lang_statement.specs.declared.command.Command.TheVariants.{Backup, BackupLogs}
+use Rattle.rm_lang_statement.specs.Files.{in_order}
+use Rattle.rm_lang_reading.specs.Creating.{write_part, written}
+use Rattle.rm_lang_statement.specs.Agreed.{agrees}
+
+-- AS COPY or AS BACKUPSET
+abbrev pub as_line : Grammar
+as_line = word (codes "AS") ▸ either (word (codes "COPY") ▸ end) (word (codes "BACKUPSET") ▸ end) ▸ end
+
+abbrev pub kind_by : Choice (Unit {0}) (Unit {0}) → BackupAs
+kind_by (first v) = Copy
+kind_by (second v) = Sets
+
+abbrev pub kind_of : Values as_line → BackupAs
+kind_of v = kind_by v.0
+
+-- image copies are asked for
+abbrev pub is_copy : Option BackupAs → Bool
+is_copy (Some Copy) = true
+is_copy (Some Sets) = false
+is_copy None = false
+
+-- INCREMENTAL LEVEL n [CUMULATIVE]
+abbrev pub level_line : Grammar
+level_line = word (codes "INCREMENTAL") ▸ word (codes "LEVEL") ▸ number (in_range 0 1) ▸ flag (codes "CUMULATIVE") ▸ end
+
+abbrev pub level_of : Values level_line → Level
+level_of v = record { number = v.0; cumulative = v.1.0 }
+
+abbrev pub number_of : Level → ℕ
+number_of l = l.number
+
+abbrev pub is_cumulative : Option Level → Bool
+is_cumulative (Some l) = l.cumulative
+is_cumulative None = false
+
+-- FOR RECOVER OF COPY WITH TAG tag
+abbrev pub merge_line : Grammar
+merge_line = word (codes "FOR") ▸ word (codes "RECOVER") ▸ word (codes "OF") ▸ word (codes "COPY") ▸ word (codes "WITH") ▸ tag ▸ end
+
+abbrev pub merge_tag_of : Values merge_line → List ℕ
+merge_tag_of v = v.0
+
+-- DATABASE
+abbrev pub database_line : Grammar
+database_line = word (codes "DATABASE") ▸ end
+
+-- DATAFILE n {, n}*
+abbrev pub files_line : Grammar
+files_line = word (codes "DATAFILE") ▸ numbers ▸ end
+
+-- the datafiles that are named, ascending and each once; None is all
+abbrev pub files_of : Choice (Values database_line) (Values files_line) → Option (List ℕ)
+files_of (first v) = None
+files_of (second v) = Some (in_order v.0)
+
+-- TAG tag
+abbrev pub tag_line : Grammar
+tag_line = tag ▸ end
+
+abbrev pub tag_of : Values tag_line → List ℕ
+tag_of v = v.0
+
+-- KEEP FOREVER
+abbrev pub keep_line : Grammar
+keep_line = word (codes "KEEP") ▸ word (codes "FOREVER") ▸ end
+
+abbrev pub stands : Option (Values keep_line) → Bool
+stands (Some v) = true
+stands None = false
+
+-- DURING { {write ;}* }
+abbrev pub during_line : Grammar
+during_line = word (codes "DURING") ▸ sign 123 ▸ many (codes "WRITE") write_part ▸ sign 125 ▸ end
+
+-- WRITE and its parts, at the front of the tokens
+abbrev pub write_at : List Token → Option (Values write_part × List Token)
+write_at ts = word_at (codes "WRITE") ts >>= λ us. read write_part us
+
+abbrev pub during_of : Values during_line → List WriteForm
+during_of v = map written v.0
+
+-- BACKUP [AS COPY | AS BACKUPSET] [INCREMENTAL LEVEL n [CUMULATIVE]] [FOR RECOVER OF COPY WITH TAG tag]
+-- (DATABASE | DATAFILE n {, n}*) [TAG tag] [KEEP FOREVER] [DURING { {write ;}* }]
+abbrev pub backup_line : Grammar
+backup_line = word (codes "BACKUP") ▸ optional as_line ▸ optional level_line ▸ optional merge_line ▸ either database_line files_line ▸ optional tag_line ▸ optional keep_line ▸ optional during_line ▸ semicolon
+
+abbrev pub backup_of : Values backup_line → BackupForm
+backup_of v = record {
+  copy = is_copy (option_map kind_of v.0);
+  level = option_map number_of (option_map level_of v.1.0);
+  cumulative = is_cumulative (option_map level_of v.1.0);
+  merge_tag = option_map merge_tag_of v.1.1.0;
+  files = files_of v.1.1.1.0;
+  tag = option_map tag_of v.1.1.1.1.0;
+  keep = stands v.1.1.1.1.1.0;
+  during = option_map during_of v.1.1.1.1.1.1.0;
+}
+
+-- a backup, where its parts can stand together
+abbrev pub agreed : Bool → BackupForm → Option Command
+agreed with_as b = if agrees with_as b then Some (Backup b) else None
+
+unfoldable pub backup : Form Command
+backup = record { line = backup_line; meaning = λ v. agreed (is_some (option_map kind_of v.0)) (backup_of v) }
+
+-- BACKUP ARCHIVELOG ALL
+abbrev pub backup_logs_line : Grammar
+backup_logs_line = word (codes "BACKUP") ▸ word (codes "ARCHIVELOG") ▸ word (codes "ALL") ▸ semicolon
+
+unfoldable pub backup_logs : Form Command
+backup_logs = record { line = backup_logs_line; meaning = λ v. Some BackupLogs }

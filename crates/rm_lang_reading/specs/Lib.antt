@@ -1,0 +1,10 @@
+pub mod Asking
+pub mod Backups
+pub mod Creating
+pub mod Mishaps
+pub mod Language
+pub mod Modes
+pub mod Recovering
+pub mod Settings
+pub mod Upkeep
+pub mod Values

@@ -1,0 +1,267 @@
+//! The statements that make backups.
+ghost use Rattle.std.specs.Prelude.{◌≡◌};
+ghost use Rattle.std.specs.Prelude.{codes, map, length};
+ghost use Rattle.std.specs.Option.{option_map};
+ghost use Rattle.rm_lang_grammar.specs.Reading.{Gives, read, maybe, one_of, begins, begins_with, many_at};
+ghost use Rattle.rm_lang_grammar.specs.Forms.{command_by, command_in};
+ghost use Rattle.rm_lang_statement.specs.Files.{in_order};
+ghost use Rattle.rm_lang_reading.specs.Backups.{as_line, is_copy, level_line, number_of, is_cumulative, merge_line, database_line, files_line, tag_line, keep_line, during_line, write_at, backup, backup_logs};
+ghost use Rattle.rm_lang_statement.specs.Agreed.{agrees_in_level, agrees_in_merge, agrees};
+ghost use Rattle.rm_lang_reading.specs.Values.{write_values, kind_values, level_values, merge_values, files_values, tag_values, keep_values, during_values};
+ghost use Rattle.rm_lang_reading.specs.Language.{backup_forms};
+
+use crate::creating::write_part;
+use crate::upkeep::upkeep;
+use rm_base::{Seq, Text};
+use rm_lang_grammar::Unread;
+use rm_lang_grammar::reading::{begins_with, flag, number_in, numbers, semicolon, sign, tag, word};
+use rm_lang_statement::{BackupForm, Command, WriteForm};
+use rm_lang_token::Token;
+use std::alloc::Global;
+
+/// What an AS asks for.
+#[derive(Clone, Copy, PartialEq, Eq)]
+pub enum BackupAs {
+    Copy,
+    Sets,
+}
+
+/// What an INCREMENTAL says.
+#[derive(Clone, Copy, PartialEq, Eq)]
+pub struct Level {
+    pub number: u8,
+    pub cumulative: bool,
+}
+
+// AS COPY or AS BACKUPSET, or nothing.
+fn optional_kind(tokens: &[Token]) -> Result<(Option<BackupAs>, &[Token]), Unread>
+    ensures { Gives (λ x. (option_map kind_values x.0, x.1.now)) result (maybe (begins as_line tokens.now) (read as_line tokens.now) tokens.now) }
+{
+    if !begins_with(tokens, b"AS") {
+        return Ok((None, tokens));
+    }
+    let rest = word(tokens, b"AS")?;
+    if begins_with(rest, b"COPY") {
+        return Ok((Some(BackupAs::Copy), word(rest, b"COPY")?));
+    }
+    Ok((Some(BackupAs::Sets), word(rest, b"BACKUPSET")?))
+}
+
+// AS BACKUPSET asks for what is made anyway.
+fn is_copy(kind: Option<BackupAs>) -> bool
+    ensures { result ≡ is_copy kind }
+{
+    matches!(kind, Some(BackupAs::Copy))
+}
+
+// INCREMENTAL LEVEL n [CUMULATIVE], or nothing.
+fn optional_level(tokens: &[Token]) -> Result<(Option<Level>, &[Token]), Unread>
+    ensures { Gives (λ x. (option_map level_values x.0, x.1.now)) result (maybe (begins level_line tokens.now) (read level_line tokens.now) tokens.now) }
+{
+    if !begins_with(tokens, b"INCREMENTAL") {
+        return Ok((None, tokens));
+    }
+    let rest = word(word(tokens, b"INCREMENTAL")?, b"LEVEL")?;
+    let (number, rest) = number_in(rest, 0, 1)?;
+    let (cumulative, rest) = flag(rest, b"CUMULATIVE");
+    let level = Level {
+        number: number as u8,
+        cumulative,
+    };
+    Ok((Some(level), rest))
+}
+
+fn number_of(level: Option<Level>) -> Option<u8>
+    ensures { result ≡ option_map number_of level }
+{
+    match level {
+        Some(level) => Some(level.number),
+        None => None,
+    }
+}
+
+fn is_cumulative(level: Option<Level>) -> bool
+    ensures { result ≡ is_cumulative level }
+{
+    match level {
+        Some(level) => level.cumulative,
+        None => false,
+    }
+}
+
+// FOR RECOVER OF COPY WITH TAG tag, or nothing.
+fn optional_merge(alloc: Global, tokens: &[Token]) -> Result<(Option<Text>, &[Token]), Unread>
+    ensures { Gives (λ x. (option_map merge_values x.0, x.1.now)) result (maybe (begins merge_line tokens.now) (read merge_line tokens.now) tokens.now) }
+{
+    if !begins_with(tokens, b"FOR") {
+        return Ok((None, tokens));
+    }
+    let rest = word(word(tokens, b"FOR")?, b"RECOVER")?;
+    let rest = word(word(rest, b"OF")?, b"COPY")?;
+    let (name, rest) = tag(alloc, word(rest, b"WITH")?)?;
+    Ok((Some(name), rest))
+}
+
+// DATABASE, or the datafiles as they stand.
+fn named_files(alloc: Global, tokens: &[Token]) -> Result<(Option<Seq<u64>>, &[Token]), Unread>
+    ensures { Gives (λ x. (files_values x.0, x.1.now)) result (one_of (begins database_line tokens.now) (read database_line tokens.now) (read files_line tokens.now)) }
+{
+    if begins_with(tokens, b"DATABASE") {
+        return Ok((None, word(tokens, b"DATABASE")?));
+    }
+    let (files, rest) = numbers(alloc, word(tokens, b"DATAFILE")?)?;
+    Ok((Some(files), rest))
+}
+
+// The numbers, ascending and each once. It takes no memory.
+fn in_order(numbers: Seq<u64>) -> Seq<u64>
+    ensures { result ≡ in_order numbers }
+{
+    let mut numbers = numbers.into_vec();
+    numbers.sort_unstable();
+    numbers.dedup();
+    Seq::from_vec(numbers)
+}
+
+// TAG tag, or nothing.
+fn optional_tag(alloc: Global, tokens: &[Token]) -> Result<(Option<Text>, &[Token]), Unread>
+    ensures { Gives (λ x. (option_map tag_values x.0, x.1.now)) result (maybe (begins tag_line tokens.now) (read tag_line tokens.now) tokens.now) }
+{
+    if !begins_with(tokens, b"TAG") {
+        return Ok((None, tokens));
+    }
+    let (name, rest) = tag(alloc, tokens)?;
+    Ok((Some(name), rest))
+}
+
+// KEEP FOREVER, or nothing.
+fn optional_keep(tokens: &[Token]) -> Result<(bool, &[Token]), Unread>
+    ensures { Gives (λ x. (keep_values x.0, x.1.now)) result (maybe (begins keep_line tokens.now) (read keep_line tokens.now) tokens.now) }
+{
+    if !begins_with(tokens, b"KEEP") {
+        return Ok((false, tokens));
+    }
+    let rest = word(word(tokens, b"KEEP")?, b"FOREVER")?;
+    Ok((true, rest))
+}
+
+// WRITE and its parts.
+fn one_write(tokens: &[Token]) -> Result<(WriteForm, &[Token]), Unread>
+    ensures { Gives (λ x. (write_values x.0, x.1.now)) result (write_at tokens.now) }
+{
+    write_part(word(tokens, b"WRITE")?)
+}
+
+// The writes at the front.
+fn writes(alloc: Global, tokens: &[Token]) -> Result<(Seq<WriteForm>, &[Token]), Unread>
+    ensures { Gives (λ x. (map write_values x.0, x.1.now)) result (many_at (begins_with (codes "WRITE")) write_at (length tokens.now) tokens.now) }
+{
+    let mut writes = Vec::new(alloc);
+    let mut rest = tokens;
+    for _ in 0..tokens.len() {
+        if !begins_with(rest, b"WRITE") {
+            return Ok((Seq::from_vec(writes), rest));
+        }
+        match one_write(rest) {
+            Ok((write, behind)) => {
+                writes.push(write)?;
+                rest = behind;
+            }
+            Err(unread) => return Err(unread),
+        }
+    }
+    if begins_with(rest, b"WRITE") {
+        return Err(Unread::Other);
+    }
+    Ok((Seq::from_vec(writes), rest))
+}
+
+// DURING { {write ;}* }, or nothing.
+fn optional_during(
+    alloc: Global,
+    tokens: &[Token],
+) -> Result<(Option<Seq<WriteForm>>, &[Token]), Unread>
+    ensures { Gives (λ x. (option_map during_values x.0, x.1.now)) result (maybe (begins during_line tokens.now) (read during_line tokens.now) tokens.now) }
+{
+    if !begins_with(tokens, b"DURING") {
+        return Ok((None, tokens));
+    }
+    let (writes, rest) = writes(alloc, sign(word(tokens, b"DURING")?, b'{')?)?;
+    Ok((Some(writes), sign(rest, b'}')?))
+}
+
+// CUMULATIVE stands with LEVEL 1 only, and AS COPY without it.
+fn agrees_in_level(form: &BackupForm) -> bool
+    ensures { result ≡ agrees_in_level form.now }
+{
+    let is_level_1 = form.level.is_some_and(|level| level == 1);
+    (!form.cumulative || is_level_1) && !(form.copy && is_level_1)
+}
+
+// FOR RECOVER OF COPY stands with LEVEL 1 only, and without an AS, CUMULATIVE and TAG.
+fn agrees_in_merge(with_as: bool, form: &BackupForm) -> bool
+    ensures { result ≡ agrees_in_merge with_as form.now }
+{
+    let is_level_1 = form.level.is_some_and(|level| level == 1);
+    form.merge_tag.is_none() || (is_level_1 && !with_as && !form.cumulative && form.tag.is_none())
+}
+
+/// The parts of a backup, of which one may be an AS, can stand together.
+pub fn agrees(with_as: bool, form: &BackupForm) -> bool
+    ensures { result ≡ agrees with_as form.now }
+{
+    agrees_in_level(form) && agrees_in_merge(with_as, form)
+}
+
+#[tactic(auto, using(crate::proofs::Parts::parts), unfolding(crate::specs::Backups::backup))]
+fn backup(alloc: Global, tokens: &[Token]) -> Result<(Command, &[Token]), Unread>
+    ensures { Gives (λ x. (x.0, x.1.now)) result (command_by backup tokens.now) }
+{
+    let (kind, rest) = optional_kind(word(tokens, b"BACKUP")?)?;
+    let (level, rest) = optional_level(rest)?;
+    let (merge_tag, rest) = optional_merge(alloc, rest)?;
+    let (files, rest) = named_files(alloc, rest)?;
+    let (tag, rest) = optional_tag(alloc, rest)?;
+    let (keep, rest) = optional_keep(rest)?;
+    let (during, rest) = optional_during(alloc, rest)?;
+    let rest = semicolon(rest)?;
+    let form = BackupForm {
+        copy: is_copy(kind),
+        level: number_of(level),
+        cumulative: is_cumulative(level),
+        merge_tag,
+        files: files.map(in_order),
+        tag,
+        keep,
+        during,
+    };
+    if !agrees(kind.is_some(), &form) {
+        return Err(Unread::Other);
+    }
+    Ok((Command::Backup(form), rest))
+}
+
+#[tactic(auto, unfolding(crate::specs::Backups::backup_logs))]
+fn backup_logs(tokens: &[Token]) -> Result<(Command, &[Token]), Unread>
+    ensures { Gives (λ x. (x.0, x.1.now)) result (command_by backup_logs tokens.now) }
+{
+    let rest = word(word(tokens, b"BACKUP")?, b"ARCHIVELOG")?;
+    let rest = semicolon(word(rest, b"ALL")?)?;
+    Ok((Command::BackupLogs, rest))
+}
+
+/// The command at the front by the first form of those that make backups, or of those behind, and what is behind it.
+#[tactic(auto, unfolding(crate::specs::Language::backup_forms))]
+pub fn saving(alloc: Global, tokens: &[Token]) -> Result<(Command, &[Token]), Unread>
+    ensures { Gives (λ x. (x.0, x.1.now)) result (command_in backup_forms tokens.now) }
+{
+    match backup(alloc, tokens) {
+        Err(Unread::Other) => {}
+        found => return found,
+    }
+    match backup_logs(tokens) {
+        Err(Unread::Other) => {}
+        found => return found,
+    }
+    upkeep(alloc, tokens)
+}

@@ -1,0 +1,143 @@
+//! The statements that look after records.
+ghost use Rattle.std.specs.Prelude.{◌≡◌};
+ghost use Rattle.rm_lang_grammar.specs.Reading.{Gives, read, one_of, begins};
+ghost use Rattle.rm_lang_grammar.specs.Forms.{command_by, command_in};
+ghost use Rattle.std.specs.Prelude.{codes};
+ghost use Rattle.rm_lang_grammar.specs.Grammar.{◌▸◌, word as word_part, end};
+ghost use Rattle.rm_lang_reading.specs.Upkeep.{copy_or_archived, withdrawing, one_or_expired, crosscheck, validate, change, deleting, delete};
+ghost use Rattle.rm_lang_reading.specs.Values.{class_choice, change_choice, deletion_choice};
+ghost use Rattle.rm_lang_reading.specs.Language.{upkeep_forms};
+
+use crate::asking::asking;
+use rm_base::Class;
+use rm_lang_grammar::Unread;
+use rm_lang_grammar::reading::{begins_with, noise, number, semicolon, word};
+use rm_lang_statement::{ChangeTo, Command};
+use rm_lang_token::Token;
+use std::alloc::Global;
+
+/// What a DELETE names.
+#[derive(Clone, Copy, PartialEq, Eq)]
+pub enum Deletion {
+    Obsolete,
+    One(u64),
+    Expired(Class),
+}
+
+// BACKUP, COPY or ARCHIVELOG ALL.
+fn class(tokens: &[Token]) -> Result<(Class, &[Token]), Unread>
+    ensures { Gives (λ x. (class_choice x.0, x.1.now)) result (one_of (begins (word_part (codes "BACKUP") ▸ end) tokens.now) (read (word_part (codes "BACKUP") ▸ end) tokens.now) (read copy_or_archived tokens.now)) }
+{
+    if begins_with(tokens, b"BACKUP") {
+        return Ok((Class::Backup, word(tokens, b"BACKUP")?));
+    }
+    if begins_with(tokens, b"COPY") {
+        return Ok((Class::Copy, word(tokens, b"COPY")?));
+    }
+    Ok((Class::Archived, word(word(tokens, b"ARCHIVELOG")?, b"ALL")?))
+}
+
+#[tactic(auto, using(crate::proofs::Parts::parts), unfolding(crate::specs::Upkeep::crosscheck))]
+fn crosscheck(tokens: &[Token]) -> Result<(Command, &[Token]), Unread>
+    ensures { Gives (λ x. (x.0, x.1.now)) result (command_by crosscheck tokens.now) }
+{
+    let (class, rest) = class(word(tokens, b"CROSSCHECK")?)?;
+    let rest = semicolon(rest)?;
+    Ok((Command::Crosscheck { class }, rest))
+}
+
+#[tactic(auto, unfolding(crate::specs::Upkeep::validate))]
+fn validate(tokens: &[Token]) -> Result<(Command, &[Token]), Unread>
+    ensures { Gives (λ x. (x.0, x.1.now)) result (command_by validate tokens.now) }
+{
+    let rest = semicolon(word(word(tokens, b"VALIDATE")?, b"ALL")?)?;
+    Ok((Command::ValidateAll, rest))
+}
+
+// AVAILABLE, UNAVAILABLE, UNCATALOG, KEEP FOREVER or NOKEEP.
+fn change_to(tokens: &[Token]) -> Result<(ChangeTo, &[Token]), Unread>
+    ensures { Gives (λ x. (change_choice x.0, x.1.now)) result (one_of (begins (word_part (codes "AVAILABLE") ▸ end) tokens.now) (read (word_part (codes "AVAILABLE") ▸ end) tokens.now) (read withdrawing tokens.now)) }
+{
+    if begins_with(tokens, b"AVAILABLE") {
+        return Ok((ChangeTo::Available, word(tokens, b"AVAILABLE")?));
+    }
+    if begins_with(tokens, b"UNAVAILABLE") {
+        return Ok((ChangeTo::Unavailable, word(tokens, b"UNAVAILABLE")?));
+    }
+    if begins_with(tokens, b"UNCATALOG") {
+        return Ok((ChangeTo::Uncatalog, word(tokens, b"UNCATALOG")?));
+    }
+    if begins_with(tokens, b"KEEP") {
+        return Ok((ChangeTo::Keep, word(word(tokens, b"KEEP")?, b"FOREVER")?));
+    }
+    Ok((ChangeTo::NoKeep, word(tokens, b"NOKEEP")?))
+}
+
+#[tactic(auto, using(crate::proofs::Parts::parts), unfolding(crate::specs::Upkeep::change))]
+fn change(tokens: &[Token]) -> Result<(Command, &[Token]), Unread>
+    ensures { Gives (λ x. (x.0, x.1.now)) result (command_by change tokens.now) }
+{
+    let (id, rest) = number(word(word(tokens, b"CHANGE")?, b"BACKUP")?)?;
+    let (to, rest) = change_to(rest)?;
+    let rest = semicolon(rest)?;
+    Ok((Command::ChangeBackup { id, to }, rest))
+}
+
+// OBSOLETE, BACKUP n or EXPIRED and a class.
+fn what_to_delete(tokens: &[Token]) -> Result<(Deletion, &[Token]), Unread>
+    ensures { Gives (λ x. (deletion_choice x.0, x.1.now)) result (one_of (begins (word_part (codes "OBSOLETE") ▸ end) tokens.now) (read (word_part (codes "OBSOLETE") ▸ end) tokens.now) (read one_or_expired tokens.now)) }
+{
+    if begins_with(tokens, b"OBSOLETE") {
+        return Ok((Deletion::Obsolete, word(tokens, b"OBSOLETE")?));
+    }
+    if begins_with(tokens, b"BACKUP") {
+        let (id, rest) = number(word(tokens, b"BACKUP")?)?;
+        return Ok((Deletion::One(id), rest));
+    }
+    let (class, rest) = class(word(tokens, b"EXPIRED")?)?;
+    Ok((Deletion::Expired(class), rest))
+}
+
+fn deleting(deletion: Deletion) -> Command
+    ensures { result ≡ deleting deletion }
+{
+    match deletion {
+        Deletion::Obsolete => Command::DeleteObsolete,
+        Deletion::One(id) => Command::DeleteBackup { id },
+        Deletion::Expired(class) => Command::DeleteExpired { class },
+    }
+}
+
+#[tactic(auto, using(crate::proofs::Parts::parts), unfolding(crate::specs::Upkeep::delete))]
+fn delete(tokens: &[Token]) -> Result<(Command, &[Token]), Unread>
+    ensures { Gives (λ x. (x.0, x.1.now)) result (command_by delete tokens.now) }
+{
+    let rest = noise(word(tokens, b"DELETE")?, b"NOPROMPT");
+    let (deletion, rest) = what_to_delete(rest)?;
+    let rest = semicolon(rest)?;
+    Ok((deleting(deletion), rest))
+}
+
+/// The command at the front by the first form of those that look after records, or of those behind, and what is behind it.
+#[tactic(auto, unfolding(crate::specs::Language::upkeep_forms))]
+pub fn upkeep(alloc: Global, tokens: &[Token]) -> Result<(Command, &[Token]), Unread>
+    ensures { Gives (λ x. (x.0, x.1.now)) result (command_in upkeep_forms tokens.now) }
+{
+    match crosscheck(tokens) {
+        Err(Unread::Other) => {}
+        found => return found,
+    }
+    match validate(tokens) {
+        Err(Unread::Other) => {}
+        found => return found,
+    }
+    match change(tokens) {
+        Err(Unread::Other) => {}
+        found => return found,
+    }
+    match delete(tokens) {
+        Err(Unread::Other) => {}
+        found => return found,
+    }
+    asking(alloc, tokens)
+}

@@ -1,0 +1,6 @@
+use Rattle.std.proofs.Common.{◌≡◌, ◌∷◌, take}
+use Rattle.std.specs.String.{string_bytes}
+use Rattle.rm_lang_token.proofs.scan.word_of.Given as goal
+
+abbrev pub invariant-loop-byte : goal.invariant-loop-byte
+invariant-loop-byte l = string_bytes l.word ≡ l.letter ∷ take l.byte-index l.rest

@@ -1,0 +1,84 @@
+//! The words of the program, and what they say.
+ghost use Rattle.std.specs.Prelude.{◌≡◌, ◌&&◌, IfOk, nat_le, option_map};
+ghost use Rattle.std.specs.Str.{all_ascii_digits};
+ghost use Rattle.rm_lang_words.specs.Words.{channels_in, said, whole};
+ghost use Rattle.rm_lang_words.specs.Reading.{Gives};
+
+use crate::clap_command::{Found, find};
+use crate::faults::WordsFault;
+use crate::options::one_words;
+use rm_base::{NoMemory, Text};
+use std::alloc::Global;
+
+/// What the words say.
+#[derive(Drop)]
+pub struct Words {
+    pub store: Text,
+    pub catalog: Text,
+    pub channels: Option<u32>,
+}
+
+/// The words `--store DIR --catalog FILE [--channels N]`, in any order, each option once. `--name=value` is
+/// `--name value`. A value may be empty, and does not begin with `-`. N is decimal digits, from 1 to 16.
+pub fn read_words(alloc: Global, words: &[Text]) -> Result<Words, WordsFault>
+    ensures { Gives (λ w. (w.store, w.catalog, w.channels)) result (said words.now) }
+{
+    let options = one_words(alloc, words)?;
+    let found = find(alloc, &options)?;
+    words_of(alloc, found)
+}
+
+// What is said by the values that were found.
+fn words_of(alloc: Global, found: Found<'_>) -> Result<Words, WordsFault>
+    ensures { Gives (λ w. (w.store, w.catalog, w.channels)) result (whole (option_map (λ s. s.now) found.entry.store) (option_map (λ s. s.now) found.entry.catalog) (option_map (λ s. s.now) found.entry.channels)) }
+{
+    let store = found.store.ok_or(WordsFault::Bad)?;
+    let catalog = found.catalog.ok_or(WordsFault::Bad)?;
+    let channels = match found.channels {
+        Some(text) => Some(channels_in(text).ok_or(WordsFault::Bad)?),
+        None => None,
+    };
+    Ok(Words {
+        store: text(alloc, store)?,
+        catalog: text(alloc, catalog)?,
+        channels,
+    })
+}
+
+// A text with these bytes.
+fn text(alloc: Global, bytes: &str) -> Result<Text, NoMemory>
+    ensures { IfOk result (λ t. t ≡ bytes.now) }
+{
+    let mut string = String::new(alloc);
+    string.push_str(bytes)?;
+    Ok(Text::from_string(string))
+}
+
+fn channels_in(text: &str) -> Option<u32>
+    ensures { result ≡ channels_in text.now }
+{
+    if !are_digits(text) {
+        return None;
+    }
+    match text.parse::<u32>() {
+        Ok(number) => { if is_count(number) { Some(number) } else { None } }
+        Err(_) => None,
+    }
+}
+
+fn is_count(number: u32) -> bool
+    ensures { result ≡ (nat_le 1 number && nat_le number 16) }
+{
+    1 <= number && number <= 16
+}
+
+fn are_digits(text: &str) -> bool
+    ensures { result ≡ all_ascii_digits text.now }
+{
+    for byte in text.as_bytes() {
+        if !byte.is_ascii_digit() {
+            return false;
+        }
+    }
+    true
+}

@@ -1,5 +1,0 @@
-use Rattle.rm_listing.proofs.Dates.{schema-front}
-use Rattle.rm_listing.proofs.schema.report_schema.Goals as goal
-
-pub returns-clause-dates : goal.returns-clause-dates
-returns-clause-dates c = schema-front c.args.state.now c.loop-index.lines _ c.loop-index.invariant

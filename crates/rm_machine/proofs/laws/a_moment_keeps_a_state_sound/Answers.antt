@@ -1,5 +1,0 @@
-use Rattle.rm_machine.proofs.Later.{sound-later}
-use Rattle.rm_machine.proofs.laws.a_moment_keeps_a_state_sound.Goals as goal
-
-pub returns : goal.returns
-returns c = sound-later

@@ -1,0 +1,27 @@
+-- A piece is recorded under the next id.
+use Rattle.std.proofs.Common.{◌≡◌, ◌+◌, [], ◌∷◌, arith, length, length-append}
+use Rattle.rm_catalog.specs.declared.record.PieceEntry.{PieceEntry}
+use Rattle.rm_catalog_typed.specs.Ledger.{ledger_records}
+use Rattle.rm_catalog_typed.specs.Changes.{with_new_piece}
+use Rattle.rm_catalog_typed.specs.Fitting.{FitsNewPiece}
+use Rattle.rm_catalog_typed.proofs.Fitted.{many, new_piece_fits}
+use Rattle.rm_machine.specs.Sound.{IsSound}
+use Rattle.rm_machine.specs.declared.state.State.{State}
+use Rattle.rm_machine.specs.State.{ledger}
+use Rattle.rm_machine_code.proofs.Later.{sound-with}
+
+-- the state with this record more, for which an id was drawn
+abbrev pub with_recorded : State → PieceEntry → State
+with_recorded s e = record s { catalog = with_new_piece s.catalog e }
+
+-- one record more
+pub count-recorded : (s : State) (e : PieceEntry) → length (ledger_records (ledger (with_recorded s e))) ≡ length (ledger_records (ledger s)) + 1
+count-recorded s e =
+    omega (arith, many (ledger s), many (ledger (with_recorded s e)), length-append s.catalog.ledger.pieces (e ∷ []))
+
+module _ (s : State) (e : PieceEntry) (sound : IsSound s) (fits : FitsNewPiece s.catalog e) where
+  abbrev pub q : State
+  q = with_recorded s e
+
+  pub sound-recorded : IsSound q
+  sound-recorded = sound-with s q.catalog (new_piece_fits s.catalog e sound.catalog fits) sound

@@ -1,0 +1,132 @@
+//! What a state shows.
+ghost use Rattle.std.specs.Prelude.{◌≡◌, ◌<◌, ◌≤◌, ◌↔◌, ◌==◌, ◌||◌, IfSome, IsTrue, nat_lt, not};
+ghost use Rattle.std.specs.Option.{option_copied};
+ghost use Rattle.rm_base.specs.Numbers.{last_scn};
+ghost use Rattle.rm_history.specs.Tree.{IsThere, end_of};
+ghost use Rattle.rm_history.specs.World.{exists, file_of};
+ghost use Rattle.rm_machine.specs.Loading.{has_lost};
+ghost use Rattle.rm_machine.specs.Mount.{first_lost};
+ghost use Rattle.rm_machine.specs.Sound.{IsSound};
+ghost use Rattle.rm_machine.specs.State.{current_of, datafile_at, ledger, now_of, on_path, placed, redo_end, tree, world};
+
+use rm_base::{FileNo, IncNo, Scn, ThreadNo};
+use rm_blocks::DataFile;
+use rm_history::Datafile;
+use rm_machine::State;
+use rm_redo::OnlineLogs;
+
+/// The SCN up to which an incarnation is known; 0 for one that is not there.
+pub(crate) fn end_of(state: &State, inc: IncNo) -> Scn
+    ensures { result ≡ end_of (tree state.now) inc }
+{
+    state.catalog.tree().get(inc).map_or(0, |node| node.end)
+}
+
+/// The SCN that the next change takes.
+pub fn now(state: &State) -> Scn
+    ensures { result ≡ now_of state.now }
+{
+    end_of(state, state.catalog.base().current)
+}
+
+/// The SCN up to which the online logs tell.
+pub fn redo_end(state: &State) -> Scn
+    ensures { result ≡ redo_end state.now }
+{
+    end_of(state, state.instance.logs.inc())
+}
+
+/// Whether a datafile exists at the address (i, s): it was created below `s`, on the path of `i`.
+pub fn exists(state: &State, i: IncNo, s: Scn, file: &Datafile) -> bool
+    requires there { IsThere (tree state.now) i }
+    requires created { 0 < file.now.creation }
+    ensures { result ≡ exists (world state.now) i s file.now }
+{
+    file.creation < s && state.catalog.tree().owner(i, file.creation) == Some(file.inc)
+}
+
+// The datafile of this number. None where it is not there.
+fn file(state: &State, number: u64) -> Option<Datafile>
+    ensures { result ≡ file_of (world state.now) number }
+{
+    let index = usize::try_from(number.checked_sub(1)?).ok()?;
+    state.catalog.files().get(index).copied()
+}
+
+/// The datafile of this number, where it exists at the address (i, s).
+pub fn datafile_at(state: &State, i: IncNo, s: Scn, number: u64) -> Option<Datafile>
+    requires sound { IsSound state.now }
+    requires inc { IsThere (tree state.now) i }
+    ensures value { result ≡ datafile_at state.now i s number }
+    ensures there { IfSome result (λ _. (0 < number) × (number ≤ 64)) }
+{
+    let datafile = file(state, number)?;
+    if exists(state, i, s, &datafile) {
+        Some(datafile)
+    } else {
+        None
+    }
+}
+
+/// The datafile of this number, where it is on the current path.
+pub fn on_path(state: &State, number: u64) -> Option<Datafile>
+    requires { IsSound state.now }
+    ensures value { result ≡ on_path state.now number }
+    ensures there { IfSome result (λ _. (0 < number) × (number ≤ 64)) }
+{
+    datafile_at(state, state.catalog.base().current, now(state), number)
+}
+
+/// What stands in place of the datafile of this number, at least 1.
+pub fn placed(state: &State, number: u64) -> Option<&DataFile>
+    requires { 0 < number }
+    ensures { option_copied result ≡ placed state.now number }
+{
+    let index = usize::try_from(number - 1).ok()?;
+    state.instance.place.as_slice().get(index)?.as_ref()
+}
+
+/// The number of redo threads: 1 to 4.
+pub fn threads(state: &State) -> ThreadNo
+    ensures value { result ≡ (ledger state.now).base.threads }
+    ensures some { 1 ≤ result }
+    ensures most { result ≤ 4 }
+{
+    state.catalog.base().threads
+}
+
+/// Whether the thread is one of the database.
+pub fn is_thread(state: &State, thread: u64) -> bool
+    ensures value { result ≡ not ((thread == 0) || nat_lt (ledger state.now).base.threads thread) }
+    ensures there { IsTrue result ↔ ((0 < thread) × (thread ≤ (ledger state.now).base.threads)) }
+    ensures most { IsTrue result → thread ≤ 4 }
+{
+    thread != 0 && thread <= u64::from(threads(state))
+}
+
+/// Whether one of the online logs is lost.
+pub fn has_lost(logs: &OnlineLogs) -> bool
+    ensures { result ≡ has_lost logs.now }
+{
+    for thread in 1..=logs.threads() {
+        if logs.is_lost(thread) {
+            return true;
+        }
+    }
+    false
+}
+
+/// The least datafile that exists at the address (i, s) and is lost.
+pub fn first_lost(state: &State, i: IncNo, s: Scn) -> Option<FileNo>
+    requires sound { IsSound state.now }
+    requires there { IsThere (tree state.now) i }
+    ensures { result ≡ first_lost (world state.now) i s 1 (ledger state.now).files state.now.instance.place }
+{
+    let place = state.instance.place.as_slice();
+    for (index, datafile) in state.catalog.files().iter().enumerate() {
+        if exists(state, i, s, datafile) && place[index].is_none() {
+            return Some(index as FileNo + 1);
+        }
+    }
+    None
+}

@@ -1,0 +1,84 @@
+//! The room for records, bytes and object ids.
+ghost use Rattle.std.specs.Prelude.{◌≡◌, ◌≤◌, ◌^◌, length, sum_by};
+ghost use Rattle.rm_catalog_typed.specs.Ledger.{ledger_records};
+ghost use Rattle.rm_machine.specs.Marks.{bytes_in, ids_refusal, lacks_bytes, lacks_ids, lacks_room};
+ghost use Rattle.rm_machine.specs.Sound.{IsSound};
+ghost use Rattle.rm_machine.specs.State.{ledger};
+
+use rm_base::{Limit, Refusal};
+use rm_catalog::{LogEntry, MOST_BYTES, MOST_RECORDS, PieceEntry};
+use rm_machine::State;
+
+// How many records the database has, a saved site left aside.
+fn record_count(state: &State) -> u64
+    requires { IsSound state.now }
+    ensures value { result ≡ length (ledger_records (ledger state.now)) }
+    ensures most { result ≤ 65536 }
+{
+    let catalog = &state.catalog;
+    let numbered = u64::from(catalog.tree().count()) + catalog.files().len() as u64;
+    let objects = catalog.logs().len() as u64 + catalog.pieces().len() as u64;
+    1 + numbered + objects + catalog.marks().len() as u64
+}
+
+/// Whether `count` records more would be too many.
+pub fn lacks_room(state: &State, count: u64) -> bool
+    requires sound { IsSound state.now }
+    ensures value { result ≡ lacks_room state.now count }
+{
+    count > MOST_RECORDS - record_count(state)
+}
+
+// The bytes of these logs.
+fn log_bytes(logs: &[LogEntry]) -> u64
+    requires { sum_by (λ e. e.size) logs.now ≤ 2 ^ 44 }
+    ensures { result ≡ sum_by (λ e. e.size) logs.now }
+{
+    logs.iter().map(|log| log.size).sum()
+}
+
+// The bytes of these pieces.
+fn piece_bytes(pieces: &[PieceEntry]) -> u64
+    requires { sum_by (λ p. p.size) pieces.now ≤ 2 ^ 44 }
+    ensures { result ≡ sum_by (λ p. p.size) pieces.now }
+{
+    pieces.iter().map(|piece| piece.size).sum()
+}
+
+// The bytes of which the records tell.
+fn recorded_bytes(state: &State) -> u64
+    requires { IsSound state.now }
+    ensures value { result ≡ bytes_in (ledger state.now) }
+    ensures most { result ≤ 2 ^ 45 }
+{
+    log_bytes(state.catalog.logs()) + piece_bytes(state.catalog.pieces())
+}
+
+/// Whether `count` bytes of objects more would be too many.
+pub fn lacks_bytes(state: &State, count: u64) -> bool
+    requires sound { IsSound state.now }
+    ensures value { result ≡ lacks_bytes state.now count }
+{
+    count > 0 && recorded_bytes(state).saturating_add(count) > MOST_BYTES
+}
+
+/// Whether too few object ids are left for `count` objects more: a save may draw 68 besides.
+pub fn lacks_ids(state: &State, count: u64) -> bool
+    requires sound { IsSound state.now }
+    ensures value { result ≡ lacks_ids state.now count }
+{
+    let next = u64::from(state.catalog.base().next_id);
+    (next + 68).saturating_add(count) > u64::from(u32::MAX)
+}
+
+/// Why a statement that changes something is refused, where too few ids are left for a save.
+pub fn ids_refusal(state: &State) -> Option<Refusal>
+    requires sound { IsSound state.now }
+    ensures value { result ≡ ids_refusal state.now }
+{
+    if lacks_ids(state, 0) {
+        Some(Refusal::Rm11(Limit::ObjectIds))
+    } else {
+        None
+    }
+}

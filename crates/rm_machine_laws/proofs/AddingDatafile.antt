@@ -1,0 +1,233 @@
+-- CREATE DATAFILE leads on: one SCN further, a datafile is added.
+use Rattle.std.proofs.Common.{◌≡◌, ◌≢◌, ◌<◌, ◌≤◌, ◌+◌, ◌-◌, ◌∙◌, ◌++◌, ◌⊎◌, ◌^◌, nat_le, inl, inr, ℕ, zero, suc, List, [], ◌∷◌, Option, Some, None, true, cond, refl, ap, sym, subst, arith, length, length-append, All, Contains, slice_get, slice_index_or}
+use Rattle.std.specs.Option.{option_map_or}
+use Rattle.std.proofs.lemmas.Bool.{and_parts, leb-true, ne_eqb}
+use Rattle.std.proofs.lemmas.List.Elements.{All-contains, All-contains_itself, All-nil, All-push, All-weaker}
+use Rattle.std.proofs.lemmas.Option.{slice_get_within}
+use Rattle.rm_base.specs.Store.{Held}
+use Rattle.rm_base.specs.declared.block.Change.{Change}
+use Rattle.rm_base.specs.declared.block.Row.{Row}
+use Rattle.rm_base.proofs.Slots.{get-index, get-push, index-get}
+use Rattle.rm_blocks.specs.File.{File, base_of, created, created_row, created_rows, standing}
+use Rattle.rm_blocks.proofs.Rows.{in_order-created, length-created}
+use Rattle.rm_lang_statement.specs.declared.command.Command.TheVariants.{CreateDatafile}
+use Rattle.rm_history.specs.Agrees.{BaseAgrees}
+use Rattle.rm_history.specs.declared.tree.Incarnation.{Incarnation}
+use Rattle.rm_history.specs.declared.world.Datafile.{Datafile}
+use Rattle.rm_history.specs.declared.world.World.{World}
+use Rattle.rm_history.specs.State.{state}
+use Rattle.rm_history.specs.Tree.{IsThere, reset_of}
+use Rattle.rm_history.specs.World.{creation_of, file_of, with_file}
+use Rattle.rm_history.proofs.Below.{state-untouched}
+use Rattle.rm_history.proofs.Highs.{high-bound}
+use Rattle.rm_history.proofs.Histories.{IsHistory-with_file}
+use Rattle.rm_history.proofs.Worlds.{BaseAgrees-with_file, Level1Agrees-with_file, file-there, state-kept}
+use Rattle.rm_lang_statement.specs.IsCommand.{is_command}
+use Rattle.rm_catalog_typed.specs.Fitting.{FitsFile}
+use Rattle.rm_catalog_typed.proofs.Fitted.{file_fits, many}
+use Rattle.rm_machine.specs.CreateDatafile.{with_datafile}
+use Rattle.rm_machine.specs.Effect.{Made}
+use Rattle.rm_machine.specs.Machine.{HistoryFits, IsBorneOut, RowsAre}
+use Rattle.rm_machine.specs.Marks.{one_further}
+use Rattle.rm_machine.specs.Sound.{IsPlaced, IsPlacedRow, IsSound}
+use Rattle.rm_machine.specs.declared.state.State.{State}
+use Rattle.rm_machine.specs.State.{world, now_of, placed}
+use Rattle.rm_machine_code.proofs.Further.{catalog-further, keeps-further, sound-further}
+use Rattle.rm_machine_laws.proofs.Further.{fits-further, rows-further, same-further}
+use Rattle.rm_machine_laws.proofs.Grown.{SameHistory, true-on}
+use Rattle.rm_machine_laws.proofs.Leading.{LeadsOnBy, StaysBy}
+use Rattle.rm_machine_laws.proofs.Opened.{rows-agree}
+use Rattle.rm_machine_code.proofs.Places.{counted-open, placed-is}
+use Rattle.rm_machine_laws.proofs.Quiet.{quiet-on, quiet-stays}
+use Rattle.rm_machine_code.proofs.AddingDatafile.{HasRoom, has-room}
+use Rattle.rm_machine_code.proofs.AddingDatafile as shared
+
+-- A new datafile
+
+-- what is true of the row of each block is true of all rows of a new datafile
+created-all : (P : Row → Type 0) (creation : ℕ) → ((b : ℕ) → P (created_row creation b)) → (blocks : ℕ) → All P (created_rows creation blocks)
+created-all P creation each zero = All-nil P
+created-all P creation each (suc b) = All-push P (created_rows creation b) (created_row creation b) (created-all P creation each b) (each b)
+
+get-last : (xs : List Datafile) (y : Datafile) → slice_get (xs ++ y ∷ []) (length xs) ≡ Some y
+get-last [] y = refl
+get-last (x ∷ xs) y = get-last xs y
+
+-- it has the next number
+file_of-new : (w : World) (new : Datafile) → file_of (with_file w new) (length w.files + 1) ≡ Some new
+file_of-new w new =
+    let back : length w.files + 1 - 1 ≡ length w.files = omega arith in
+    ap (λ b. cond b None (slice_get (w.files ++ new ∷ []) (length w.files + 1 - 1))) (ne_eqb (length w.files + 1) 0 (λ e. omega (arith, e)))
+    ∙ ap (slice_get (w.files ++ new ∷ [])) back ∙ get-last w.files new
+
+-- a datafile that is there has no higher number
+file-inside : (w : World) (f : ℕ) (d : Datafile) → file_of w f ≡ Some d → f ≤ length w.files
+file-inside w f d is =
+    let there = file-there w f d is in
+    omega (arith, there.0, slice_get_within w.files (f - 1) d there.1)
+
+-- what stands in place after one more was put there
+placed-push : (place : List (Option File)) (new : Option File) (k : ℕ) (x : File) → slice_index_or (place ++ new ∷ []) k None ≡ Some x → (slice_index_or place k None ≡ Some x) ⊎ (new ≡ Some x)
+placed-push place new k x is = elim (get-push place new (Some x) k (get-index (place ++ new ∷ []) k x is)) [
+  | inl last ↦ inr last.1
+  | inr old ↦ inl (index-get place k x old)
+]
+
+module _ (s : State) (blocks : ℕ) (sound : IsSound s) (a : HasRoom s blocks) (some : 1 ≤ blocks) where
+  abbrev i : ℕ
+  i = shared.i s blocks sound a some
+
+  abbrev now : ℕ
+  now = shared.now s blocks sound a some
+
+  abbrev p : State
+  p = shared.p s blocks sound a some
+
+  abbrev q : State
+  q = shared.q s blocks sound a some
+
+  abbrev tree : List Incarnation
+  tree = shared.tree s blocks sound a some
+
+  abbrev files : List Datafile
+  files = s.catalog.ledger.files
+
+  abbrev d : Datafile
+  d = shared.d s blocks sound a some
+
+  abbrev file : File
+  file = created (length files + 1) i now blocks
+
+  there : IsThere s.catalog.ledger.tree i
+  there = shared.there s blocks sound a some
+
+  end : now_of p ≡ now + 1
+  end = shared.end s blocks sound a some
+
+  begun : (1 ≤ now) × (reset_of tree i ≤ now)
+  begun = shared.begun s blocks sound a some
+
+  datafile-fits : FitsFile (one_further s) d
+  datafile-fits = shared.datafile-fits s blocks sound a some
+
+  -- What is in place
+
+  place-new : IsPlaced tree (length files) d (standing file i (now_of p))
+  place-new =
+      record {
+        file = refl;
+        blocks = length-created now blocks;
+        order = in_order-created now blocks;
+        rows = created-all IsPlacedRow now (λ b. record { version = begun.0; content = refl }) blocks;
+        there = (keeps-further s sound a.on).there i there;
+        checkpoint = omega (arith, end);
+        high = high-bound (now_of p) (now_of p) (created_rows now blocks) (omega arith)
+            (λ r has. All-contains (λ (r : Row). r.version < now_of p) (created_rows now blocks) r (created-all (λ r. r.version < now_of p) now (λ b. omega (arith, end)) blocks) has);
+      }
+
+  place-after : (k : ℕ) (e : Datafile) (x : File) → slice_get q.catalog.ledger.files k ≡ Some e → slice_get q.instance.place k ≡ Some (Some x) → IsPlaced tree k e (standing x i (now_of p))
+  place-after k e x at held =
+      elim (get-push files d e k at) [
+        | inl new ↦ elim (get-push s.instance.place (Some file) (Some x) k held) [
+          | inl put ↦
+              let same : file ≡ x = (let f : Some file ≡ Some x = put.1 in cc) in
+              subst (λ m. IsPlaced tree m e (standing x i (now_of p))) (sym new.0) (subst (λ g. IsPlaced tree (length files) g (standing x i (now_of p))) new.1 (subst (λ y. IsPlaced tree (length files) d (standing y i (now_of p))) same place-new))
+          | inr old ↦ absurd (let inside = slice_get_within s.instance.place k (Some x) old in let is = new.0 in omega (arith, is, inside, sound.place.many))
+        ]
+        | inr old ↦ elim (get-push s.instance.place (Some file) (Some x) k held) [
+          | inl put ↦ absurd (let inside = slice_get_within files k e old in let is = put.0 in omega (arith, is, inside, sound.place.many))
+          | inr kept ↦ subst (IsPlaced tree k e) (counted-open p x a.on.opened) ((sound-further s sound a.on).place.each k e x old kept)
+        ]
+      ]
+
+  pub sound-created : IsSound q
+  sound-created =
+      let was = sound-further s sound a.on in
+      let opened = was.in_open a.on.opened in
+      record {
+        catalog = file_fits (one_further s) d (catalog-further s sound a.on) datafile-fits;
+        dbid = sound.dbid;
+        place = record {
+          many = (let x = length-append s.instance.place (Some file ∷ []) in let y = length-append files (d ∷ []) in omega (arith, x, y, sound.place.many));
+          each = λ k e x at held. subst (IsPlaced tree k e) (sym (counted-open q x a.on.opened)) (place-after k e x at held);
+        };
+        logs = record { dbid = was.logs.dbid; there = was.logs.there; threads = was.logs.threads; each = was.logs.each };
+        in_open = λ _. record { inc = opened.inc; found = opened.found; point = opened.point };
+        point = λ n is. absurd (let none = opened.point in cc);
+      }
+
+  -- What the history tells
+
+  module _ (h : List Change) (keeps : HistoryFits s h) where
+    fits : HistoryFits p h
+    fits = fits-further s sound a.on h keeps
+
+    -- no change is of the new datafile
+    none-of-new : All (λ c. c.file ≢ length files + 1) h
+    none-of-new =
+        All-weaker (Contains h) (λ (c : Change). c.file ≢ length files + 1)
+        (λ c has met.
+        let change = keeps.history.changes c has in
+        absurd (omega (arith, met, file-inside (world s) c.file change.datafile change.is)))
+        h (All-contains_itself h)
+
+    rows-new : RowsAre (world q) h i (now_of p) file
+    rows-new =
+        let f = length files + 1 in
+        let creation : creation_of (world q) f ≡ now = ap (λ o. option_map_or (λ (e : Datafile). e.creation) o 0) (file_of-new (world p) d) in
+        created-all (λ r. r ≡ state (world q) h i (now_of p) f r.block) now
+        (λ b. sym (state-untouched (world q) h i (now_of p) f b none-of-new ∙ ap (λ n. created_row n b) creation)) blocks
+
+    -- the rows of the others are as they were
+    rows-old : (f : ℕ) (x : File) → placed s f ≡ Some x → RowsAre (world q) h i (now_of p) x
+    rows-old f x is =
+        let number = (placed-is s (f - 1) x sound.place is).file in
+        let inside = slice_get_within s.instance.place (f - 1) (Some x) (get-index s.instance.place (f - 1) x is) in
+        All-weaker (λ r. r ≡ state (world p) h i (now_of p) x.file r.block) (λ r. r ≡ state (world q) h i (now_of p) x.file r.block)
+        (λ r was. was ∙ sym (state-kept (world p) d h i (now_of p) x.file r.block (omega (arith, number, inside, sound.place.many))))
+        x.rows (rows-further s sound a.on h keeps f x is)
+
+    rows : (f : ℕ) (x : File) → placed q f ≡ Some x → RowsAre (world q) h i (now_of p) x
+    rows f x is = elim (placed-push s.instance.place (Some file) (f - 1) x is) [
+      | inl old ↦ rows-old f x old
+      | inr new ↦ let same : file ≡ x = (let e : Some file ≡ Some x = new in cc) in subst (RowsAre (world q) h i (now_of p)) same rows-new
+    ]
+
+    fits-created : HistoryFits q h
+    fits-created = record {
+      history = IsHistory-with_file (world p) d h fits.history;
+      below = fits.below;
+      online = fits.online;
+      place = λ f x is. subst (λ y. BaseAgrees (world q) h (base_of y)) (sym (counted-open q x a.on.opened)) (rows-agree (world q) h i (now_of p) x (rows f x is));
+      in_open = λ _ f x is. rows f x is;
+      point = λ n is. absurd (let none = (sound.in_open a.on.opened).point in cc);
+    }
+
+    same-created : SameHistory (world p) (world q) h
+    same-created = record {
+      keeps = record { there = λ j is. is; reset = λ j is. refl; end = λ j is. omega arith; owners = λ j g is. refl };
+      files = (let more = length-append files (d ∷ []) in omega (arith, more));
+      base = λ b known inside agrees. BaseAgrees-with_file (world p) d h b inside agrees;
+      level1 = λ b known inside agrees. Level1Agrees-with_file (world p) d h b inside agrees;
+    }
+
+  borne-created : (h : List Change) (objects : Held) (made : List Made) (touched : List (List ℕ)) → IsBorneOut s h objects made touched → IsBorneOut q h objects made touched
+  borne-created h objects made touched stands = record {
+    state = sound-created;
+    keeps = fits-created h stands.keeps;
+    artefacts = λ x has. true-on (world p) (world q) h (same-created h stands.keeps) x.artefact (true-on (world s) (world p) h (same-further s sound a.on h) x.artefact (stands.artefacts x has));
+    records = record { logs = stands.records.logs; pieces = stands.records.pieces };
+  }
+
+-- a CREATE DATAFILE of the grammar asks for a block
+some-blocks : (blocks : ℕ) → is_command (CreateDatafile blocks) ≡ true → 1 ≤ blocks
+some-blocks blocks is = leb-true 1 blocks (and_parts (nat_le 1 blocks) (nat_le blocks (2 ^ 64 - 1)) is).0
+
+pub create-on : (blocks : ℕ) → LeadsOnBy (CreateDatafile blocks)
+create-on blocks s h objects made touched said e t after well stands tell none does effect =
+    quiet-on (with_datafile s blocks) h objects made touched _ said e t after does effect
+    (borne-created s blocks stands.state (has-room s blocks none) (some-blocks blocks well.0) h objects made touched stands)
+
+pub create-stays : (blocks : ℕ) → StaysBy (CreateDatafile blocks)
+create-stays blocks s objects said e t well sound none accepted does =
+    quiet-stays (with_datafile s blocks) _ said e t does (sound-created s blocks sound (has-room s blocks accepted) (some-blocks blocks well.0)) none

@@ -1,0 +1,106 @@
+-- What is at hand agrees with the history, where digests tell.
+use Rattle.std.proofs.Common.{◌≡◌, ◌≢◌, ◌-◌, ◌∙◌, inl, inr, ℕ, suc, List, [], Option, Some, None, refl, ap, sym, subst, arith, Contains, slice_index_or}
+use Rattle.rm_base.specs.Store.{Held}
+use Rattle.rm_base.specs.declared.block.Change.{Change}
+use Rattle.rm_base.specs.declared.kinds.Kind.{Kind}
+use Rattle.rm_base.specs.declared.kinds.Kind.TheVariants.{Full, Level0, Level1, Place}
+use Rattle.rm_base.proofs.Lists.{map_from}
+use Rattle.rm_base.proofs.Members.{none-in}
+use Rattle.rm_base.proofs.Slots.{index-get}
+use Rattle.rm_catalog.specs.declared.record.LogEntry.{LogEntry}
+use Rattle.rm_catalog.specs.declared.record.PieceEntry.{PieceEntry}
+use Rattle.rm_evidence.specs.declared.evidence.Evidence.{Evidence}
+use Rattle.rm_evidence.specs.Available.{HasLogObject, HasPieceObject}
+use Rattle.rm_evidence.specs.Known.{known_of}
+use Rattle.rm_history.specs.declared.world.World.{World}
+use Rattle.rm_history.specs.Agrees.{BaseAgrees, Level1Agrees, LogAgrees}
+use Rattle.rm_history.specs.Evidence as known
+use Rattle.rm_evidence.specs.Names.{log_name, piece_name}
+use Rattle.rm_piece.specs.declared.piece.Piece.{Piece}
+use Rattle.rm_piece.specs.Artefacts.{base_of, level1_of}
+use Rattle.rm_piece.specs.Spelling as piece_format
+use Rattle.rm_piece.proofs.Fitting.{spelling_same as piece_same}
+use Rattle.rm_redo.specs.declared.log_file.LogFile.{LogFile}
+use Rattle.rm_redo.specs.LogFile.{log_of}
+use Rattle.rm_redo.specs.LogFormat as log_format
+use Rattle.rm_redo.proofs.LogFitting.{spelling_same as log_same}
+use Rattle.rm_machine.specs.Effect.{Made, a_log, a_piece}
+use Rattle.rm_machine.specs.Machine.{DigestsTell, DigestsTellFor, IsBorneOut, IsTrueArtefact, Machine, PieceAgrees, TellBy}
+use Rattle.rm_machine.specs.Recovery.{IsAtHand}
+use Rattle.rm_machine.specs.declared.state.State.{State}
+use Rattle.rm_machine.specs.State.{ledger, world}
+use Rattle.rm_machine_laws.proofs.AtHand.{BaseFrom, Level1From, LogFrom, base-from, from_copy, from_log, from_online, from_place, level1-from, log-from}
+
+-- a piece that is no level 1 agrees as a copy
+as-base : (w : World) (h : List Change) (k : Kind) (a : Piece) → k ≢ Level1 → PieceAgrees w h k a → BaseAgrees w h (base_of a)
+as-base w h Full a not agrees = agrees
+as-base w h Level0 a not agrees = agrees
+as-base w h Level1 a not agrees = absurd (not refl)
+as-base w h Place a not agrees = agrees
+
+module _ (s : State) (h : List Change) (objects : Held) (made : List Made) (touched : List (List ℕ)) (borne : IsBorneOut s h objects made touched) (tells : DigestsTellFor objects made touched (ledger s)) where
+  -- an available log is the one that was recorded
+  pub log-agrees : (l : LogEntry) (a : LogFile) → Contains (ledger s).logs l → HasLogObject objects l a → LogAgrees h (log_of a)
+  log-agrees l a has there =
+      let kept = borne.records.logs l has in
+      let was : Made = record { name = log_name l.id; artefact = a_log kept.artefact } in
+      let is : IsTrueArtefact (world s) h (a_log kept.artefact) = borne.artefacts was kept.is in
+      let bytes : there.bytes ≡ log_format.spelling kept.artefact = elim kept.there [
+        | inl given ↦ tells.logs l kept.artefact there.bytes given has kept.is kept.digest there.there there.object.digest
+        | inr stands ↦ let one : Some there.bytes ≡ Some (log_format.spelling kept.artefact) = sym there.there ∙ stands in cc
+      ] in
+      let same : kept.artefact ≡ a = log_same kept.artefact a is.valid there.object.valid (sym bytes ∙ there.object.spelled) in
+      subst (λ x. LogAgrees h (log_of x)) same is.agrees
+
+  -- an available piece is the one that was recorded
+  piece-agrees : (p : PieceEntry) (a : Piece) → Contains (ledger s).pieces p → HasPieceObject objects p a → PieceAgrees (world s) h a.kind a
+  piece-agrees p a has there =
+      let kept = borne.records.pieces p has in
+      let was : Made = record { name = piece_name p.copy p.id; artefact = a_piece kept.artefact } in
+      let is : IsTrueArtefact (world s) h (a_piece kept.artefact) = borne.artefacts was kept.is in
+      let bytes : there.bytes ≡ piece_format.spelling kept.artefact = elim kept.there [
+        | inl given ↦ tells.pieces p kept.artefact there.bytes given has kept.is kept.digest there.there there.object.digest
+        | inr stands ↦ let one : Some there.bytes ≡ Some (piece_format.spelling kept.artefact) = sym there.there ∙ stands in cc
+      ] in
+      let same : kept.artefact ≡ a = piece_same kept.artefact a is.valid there.object.valid (sym bytes ∙ there.object.spelled) in
+      subst (λ (x : Piece). PieceAgrees (world s) h x.kind x) same is.agrees
+
+  log-by : (a : LogFile) → LogFrom s objects a → LogAgrees h (log_of a)
+  log-by _ (from_online t low high found) = borne.keeps.online t low high found
+  log-by _ (from_log l a has there) = log-agrees l a has there
+
+  pub base-by : (a : Piece) → BaseFrom s objects a → BaseAgrees (world s) h (base_of a)
+  base-by _ (from_place k x at) =
+      let back : suc k - 1 ≡ k = omega arith in
+      borne.keeps.place (suc k) x (ap (λ n. slice_index_or s.instance.place n None) back ∙ index-get s.instance.place k x at)
+  base-by _ (from_copy p a has kind there) =
+      as-base (world s) h a.kind a (λ e. kind (sym there.object.fields.kind ∙ e)) (piece-agrees p a has there)
+
+  pub level1-by : (a : Piece) → Level1From s objects a → Level1Agrees (world s) h (level1_of a)
+  level1-by a from =
+      subst (λ k. PieceAgrees (world s) h k a) (from.has.object.fields.kind ∙ from.kind) (piece-agrees from.entry a from.recorded from.has)
+
+  -- all that is at hand agrees
+  pub evidence-agrees : (e : Evidence) → IsAtHand s objects e → known.Agrees (world s) h (known_of e)
+  evidence-agrees e gathered = record {
+    bases = λ a has.
+        let found = map_from (λ (x : ℕ × Piece). base_of x.1) e.bases a has in
+        subst (BaseAgrees (world s) h) found.is (base-by found.item.1 (base-from s objects borne.state e gathered found.item.0 found.item.1 found.held));
+    level1s = λ a has.
+        let found = map_from (λ (x : ℕ × Piece). level1_of x.1) e.level1s a has in
+        subst (Level1Agrees (world s) h) found.is (level1-by found.item.1 (level1-from s objects borne.state e gathered found.item.0 found.item.1 found.held));
+    logs = λ a has.
+        let found = map_from (λ (x : ℕ × LogFile). log_of x.1) e.logs a has in
+        subst (LogAgrees h) found.is (log-by found.item.1 (log-from s objects borne.state e gathered found.item.0 found.item.1 found.held));
+  }
+
+-- where HOST touched no name, digests tell
+untouched-by : (o : Option State) (objects : Held) (made : List Made) → TellBy o objects made []
+untouched-by None objects made = tt
+untouched-by (Some s) objects made = record {
+  logs = λ e a bytes given. absurd (none-in (log_name e.id) given);
+  pieces = λ e a bytes given. absurd (none-in (piece_name e.copy e.id) given);
+}
+
+pub untouched-tell : (m : Machine) → m.touched ≡ [] → DigestsTell m
+untouched-tell m none = subst (TellBy m.state m.objects m.made) (sym none) (untouched-by m.state m.objects m.made)

@@ -1,0 +1,80 @@
+-- Where what is at hand comes from: each artefact is in place, or the one of a record.
+use Rattle.std.proofs.Common.{◌≡◌, ◌≢◌, ◌<◌, ◌≤◌, ◌∙◌, inl, inr, ℕ, List, Some, false, ap, subst, arith, map, Contains, slice_get}
+use Rattle.std.specs.List.{filter_map}
+use Rattle.std.proofs.lemmas.List.Elements.{Contains-append_cases}
+use Rattle.rm_base.specs.Store.{Held}
+use Rattle.rm_base.specs.declared.kinds.Kind.TheVariants.{Level1}
+use Rattle.rm_base.proofs.Lists.{map_from}
+use Rattle.rm_blocks.specs.File.{File}
+use Rattle.rm_catalog.specs.declared.record.LogEntry.{LogEntry}
+use Rattle.rm_catalog.specs.declared.record.PieceEntry.{PieceEntry}
+use Rattle.rm_evidence.specs.declared.evidence.Evidence.{Evidence}
+use Rattle.rm_evidence.specs.Available.{HasLogObject, HasPieceObject}
+use Rattle.rm_evidence.specs.Gathered.{IsBaseOf, IsLevel1Of, IsLogOf, placed, placed_piece}
+use Rattle.rm_piece.specs.declared.piece.Piece.{Piece}
+use Rattle.rm_redo.specs.declared.log_file.LogFile.{LogFile}
+use Rattle.rm_catalog_typed.specs.TypedCatalog.{records_of}
+use Rattle.rm_catalog_typed.proofs.Members.{log-in, piece-in}
+use Rattle.rm_machine.specs.Recovery.{IsAtHand, in_place, online_logs}
+use Rattle.rm_machine.specs.Sound.{IsSound}
+use Rattle.rm_machine.specs.declared.state.State.{State}
+use Rattle.rm_machine.specs.State.{ledger, counted, online, is_lost}
+use Rattle.rm_machine_code.proofs.Standing.{present-in}
+use Rattle.rm_machine_code.proofs.AtHand.{online-in}
+
+-- a log at hand is an online one that is not lost, or the log of a record
+pub data LogFrom (s : State) (held : Held) : LogFile → Type 0 where
+  from_online : (t : ℕ) → 0 < t → t ≤ (ledger s).base.threads → is_lost s.instance.logs t ≡ false → LogFrom s held (online s t)
+  from_log : (e : LogEntry) (a : LogFile) → Contains (ledger s).logs e → HasLogObject held e a → LogFrom s held a
+
+-- a copy at hand is a datafile in place, or the piece of a record
+pub data BaseFrom (s : State) (held : Held) : Piece → Type 0 where
+  from_place : (k : ℕ) (x : File) → slice_get s.instance.place k ≡ Some (Some x) → BaseFrom s held (placed_piece (ledger s).base.dbid (counted s x))
+  from_copy : (p : PieceEntry) (a : Piece) → Contains (ledger s).pieces p → p.kind ≢ Level1 → HasPieceObject held p a → BaseFrom s held a
+
+-- a level 1 at hand is that of a record
+pub record Level1From (s : State) (held : Held) (a : Piece) : Type 0 where
+  pub entry : PieceEntry
+  pub recorded : Contains (ledger s).pieces entry
+  pub kind : entry.kind ≡ Level1
+  pub has : HasPieceObject held entry a
+
+-- what is in place stands under the id 0
+placed-from : {A : Type 0} (items : List A) (id : ℕ) (a : A) → Contains (placed items) (id, a) → Contains items a
+placed-from {A} items id a has =
+    let found = map_from (λ (x : A). (0, x)) items (id, a) has in
+    subst (Contains items) (ap (λ (p : ℕ × A). p.1) found.is) found.held
+
+module _ (s : State) (held : Held) (sound : IsSound s) (e : Evidence) (gathered : IsAtHand s held e) where
+  placed-log : (a : LogFile) → Contains (online_logs s 1 (ledger s).base.threads) a → LogFrom s held a
+  placed-log a has =
+      let found = online-in s 1 (ledger s).base.threads a has in
+      subst (LogFrom s held) found.is (from_online found.thread (omega (arith, found.low)) (omega (arith, found.high)) found.found)
+
+  placed-file : (a : Piece) → Contains (map (placed_piece (ledger s).base.dbid) (in_place s).files) a → BaseFrom s held a
+  placed-file a has =
+      let piece = map_from (placed_piece (ledger s).base.dbid) (in_place s).files a has in
+      let file = map_from (counted s) (filter_map (λ o. o) s.instance.place) piece.item piece.held in
+      let at = present-in s.instance.place file.item file.held in
+      subst (BaseFrom s held) (ap (placed_piece (ledger s).base.dbid) file.is ∙ piece.is) (from_place at.0 file.item at.1)
+
+  pub log-from : (id : ℕ) (a : LogFile) → Contains e.logs (id, a) → LogFrom s held a
+  log-from id a has = elim (Contains-append_cases (placed (in_place s).logs) gathered.logs.rest (id, a) (subst (λ xs. Contains xs (id, a)) gathered.logs.list has)) [
+    | inl here ↦ placed-log a (placed-from (in_place s).logs id a here)
+    | inr rest ↦
+        let is : IsLogOf held (records_of s.catalog) id a = (gathered.logs.exact id a).0 rest in
+        from_log is.0 a (log-in s.catalog is.0 sound.catalog is.1) is.3
+  ]
+
+  pub base-from : (id : ℕ) (a : Piece) → Contains e.bases (id, a) → BaseFrom s held a
+  base-from id a has = elim (Contains-append_cases (placed (map (placed_piece (ledger s).base.dbid) (in_place s).files)) gathered.bases.rest (id, a) (subst (λ xs. Contains xs (id, a)) gathered.bases.list has)) [
+    | inl here ↦ placed-file a (placed-from (map (placed_piece (ledger s).base.dbid) (in_place s).files) id a here)
+    | inr rest ↦
+        let is : IsBaseOf held (records_of s.catalog) id a = (gathered.bases.exact id a).0 rest in
+        from_copy is.0 a (piece-in s.catalog is.0 sound.catalog is.1) is.3 is.4
+  ]
+
+  pub level1-from : (id : ℕ) (a : Piece) → Contains e.level1s (id, a) → Level1From s held a
+  level1-from id a has =
+      let is : IsLevel1Of held (records_of s.catalog) id a = (gathered.level1s.exact id a).0 (subst (λ xs. Contains xs (id, a)) gathered.level1s.list has) in
+      record { entry = is.0; recorded = piece-in s.catalog is.0 sound.catalog is.1; kind = is.3; has = is.4 }

@@ -1,0 +1,115 @@
+-- OPEN RESETLOGS leads on: logs are archived, and the tree gains an incarnation.
+use Rattle.std.proofs.Common.{◌≡◌, ◌<◌, ◌≤◌, ◌∙◌, ◌++◌, ℕ, List, Option, Some, None, IsSomeAnd, refl, sym, subst, arith, get_or}
+use Rattle.std.proofs.lemmas.List.Elements.{All-weaker, Contains-get_or}
+use Rattle.rm_base.specs.Store.{Held}
+use Rattle.rm_base.specs.declared.block.Change.{Change}
+use Rattle.rm_base.specs.declared.block.Row.{Row}
+use Rattle.rm_blocks.specs.File.{File, base_of}
+use Rattle.rm_lang_statement.specs.declared.command.Command.TheVariants.{OpenResetlogs}
+use Rattle.rm_history.specs.Agrees.{BaseAgrees, LogAgrees}
+use Rattle.rm_history.specs.State.{state}
+use Rattle.rm_history.specs.Tree.{HasParentsBelow}
+use Rattle.rm_history.proofs.Branches.{end_of-with_branch}
+use Rattle.rm_history.proofs.Worlds.{BaseAgrees-with_branch, IsHistory-with_branch, Level1Agrees-with_branch, state-branched}
+use Rattle.rm_catalog_typed.proofs.Trees.{keeps_branch, parents_below}
+use Rattle.rm_redo.specs.LogFile.{log_of}
+use Rattle.rm_report.specs.declared.line.Line.{Line}
+use Rattle.rm_machine.specs.Archive.{after_all, archiving}
+use Rattle.rm_machine.specs.Effect.{Effect, Made, done}
+use Rattle.rm_machine.specs.Machine.{HistoryFits, IsBorneOut, RowsAre}
+use Rattle.rm_machine.specs.OpenResetlogs.{branched_off, resetlogs_lines}
+use Rattle.rm_machine.specs.Sound.{IsSound}
+use Rattle.rm_machine.specs.declared.state.State.{State}
+use Rattle.rm_machine.specs.State.{current_of, now_of, online, placed, world}
+use Rattle.rm_machine_laws.proofs.Archives.{threads-stand}
+use Rattle.rm_machine_code.proofs.BranchesSound.{CanBranchAt}
+use Rattle.rm_machine_laws.proofs.BranchesSound.{end-branched, sound-branched}
+use Rattle.rm_machine_laws.proofs.FreshLogs.{fresh-empty, fresh-first}
+use Rattle.rm_machine_laws.proofs.Grown.{SameHistory, true-on}
+use Rattle.rm_machine_laws.proofs.Leading.{LeadsOnBy, StaysBy}
+use Rattle.rm_machine_laws.proofs.Opened.{kept-rows, rows-agree}
+use Rattle.rm_machine_code.proofs.Places.{counted-open}
+use Rattle.rm_machine_laws.proofs.Switching.{empty-agrees}
+use Rattle.rm_machine_laws.proofs.Quiet.{same-stays, unchanged}
+use Rattle.rm_machine_code.proofs.Branching.{after-archiving, can-after, can-reset}
+
+module _ (s : State) (at : ℕ) (h : List Change) (sound : IsSound s) (keeps : HistoryFits s h) (can : CanBranchAt s at) where
+  abbrev i : ℕ
+  i = current_of s
+
+  abbrev q : State
+  q = branched_off s at
+
+  parents : HasParentsBelow s.catalog.ledger.tree
+  parents = parents_below s.catalog.ledger.tree sound.catalog.ledger.incarnations
+
+  end : now_of q ≡ at
+  end = end-branched s at sound can
+
+  -- what is kept in place has the state at the beginning of the new incarnation
+  rows : (f : ℕ) (x : File) → placed q f ≡ Some x → RowsAre (world q) h (current_of q) (now_of q) x
+  rows f x is =
+      subst (λ n. RowsAre (world q) h (current_of q) n x) (sym end)
+      (All-weaker (λ (r : Row). r ≡ state (world s) h i at x.file r.block) (λ (r : Row). r ≡ state (world q) h (current_of q) at x.file r.block)
+      (λ r same. same ∙ sym (state-branched (world s) i at parents sound.catalog.ledger.current h at x.file r.block (omega arith))) x.rows (kept-rows s at h sound keeps can.here f x is))
+
+  online-branched : (t : ℕ) → 0 < t → t ≤ s.catalog.ledger.base.threads → LogAgrees h (log_of (online q t))
+  online-branched t low inside =
+      let base = s.catalog.ledger.base in
+      let first = fresh-first base.dbid (current_of q) base.threads at t (now_of q) low inside in
+      empty-agrees h (online q t) (fresh-empty base.dbid (current_of q) base.threads at t (now_of q) low inside) (omega (arith, first, end))
+
+  keeps-branched : HistoryFits q h
+  keeps-branched = record {
+    history = IsHistory-with_branch (world s) i at parents sound.catalog.ledger.current h keeps.history;
+    below = λ k d inside.
+        let low = keeps.below k d inside in
+        let c : Change = get_or h k d in
+        let there = (keeps.history.changes c (Contains-get_or h k d inside)).there in
+        subst (λ n. c.scn < n) (sym (end_of-with_branch s.catalog.ledger.tree i at c.inc there)) low;
+    online = λ t low inside found. online-branched t low inside;
+    place = λ f x is. subst (λ y. BaseAgrees (world q) h (base_of y)) (sym (counted-open q x refl)) (rows-agree (world q) h (current_of q) (now_of q) x (rows f x is));
+    in_open = λ opened f x is. rows f x is;
+    point = λ n none. absurd (let e : None ≡ Some n = none in cc);
+  }
+
+  same : SameHistory (world s) (world q) h
+  same = record {
+    keeps = keeps_branch s.catalog.ledger.tree i at parents sound.catalog.ledger.current;
+    files = omega arith;
+    base = λ a there file agrees. BaseAgrees-with_branch (world s) i at parents sound.catalog.ledger.current h a there agrees;
+    level1 = λ a there file agrees. Level1Agrees-with_branch (world s) i at parents sound.catalog.ledger.current h a there agrees;
+  }
+
+  pub borne-branched : (objects : Held) (made : List Made) (touched : List (List ℕ)) → IsBorneOut s h objects made touched → IsBorneOut q h objects made touched
+  borne-branched objects made touched stands = record {
+    state = sound-branched s at sound can;
+    keeps = keeps-branched;
+    artefacts = λ a has. true-on (world s) (world q) h same a.artefact (stands.artefacts a has);
+    records = record { logs = stands.records.logs; pieces = stands.records.pieces };
+  }
+
+-- Why it was not refused
+
+-- the point at which it opens
+came : (s : State) (at : ℕ) (said : List Line) (e : Effect) (t : State) → s.instance.point ≡ Some at → IsSomeAnd s.instance.point (λ n. done said e t ≡ done (resetlogs_lines s n) (archiving s) (branched_off (after_all s) n))
+    → done said e t ≡ done (resetlogs_lines s at) (archiving s) (branched_off (after_all s) at)
+came s at said e t here is = subst (λ (o : Option ℕ). IsSomeAnd o (λ n. done said e t ≡ done (resetlogs_lines s n) (archiving s) (branched_off (after_all s) n))) here is
+
+pub resets-on : LeadsOnBy OpenResetlogs
+resets-on s h objects made touched said e t after well stands tell none does effect =
+    let can = can-reset s stands.state none in
+    let q : State = after_all s in
+    let is = after-archiving s stands.state can in
+    let by = came s can.at said e t can.here does in
+    unchanged (branched_off q can.at) (archiving s) h objects made touched e t after refl (cc) (cc) effect (λ left.
+    let mid : IsBorneOut q h after (made ++ (archiving s).made) touched =
+    threads-stand s.catalog.ledger.base.threads 1 s h objects made touched after 2 (omega arith) (omega arith) can.room stands (λ name. left.removes name ∙ left.puts name) in
+    borne-branched q can.at h is.sound mid.keeps (can-after s can is) after (made ++ (archiving s).made) touched mid)
+
+pub resets-stays : StaysBy OpenResetlogs
+resets-stays s objects said e t well sound none accepted does =
+    let can = can-reset s sound accepted in
+    let is = after-archiving s sound can in
+    let by = came s can.at said e t can.here does in
+    same-stays (branched_off (after_all s) can.at) t (cc) (sound-branched (after_all s) can.at is.sound (can-after s can is)) (is.beside.saved ∙ none)

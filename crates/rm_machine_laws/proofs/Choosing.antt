@@ -1,0 +1,76 @@
+-- RESET DATABASE leads on: another incarnation is chosen.
+use Rattle.std.proofs.Common.{◌≡◌, ◌∙◌, ℕ, List, Some, None, false, sym, subst, length, rules}
+use Rattle.std.proofs.lemmas.Bool.{false≢true}
+use Rattle.rm_base.specs.Store.{Held}
+use Rattle.rm_base.specs.declared.block.Change.{Change}
+use Rattle.rm_blocks.specs.File.{base_of}
+use Rattle.rm_history.specs.Agrees.{BaseAgrees}
+use Rattle.rm_history.specs.Tree.{IsThere}
+use Rattle.rm_catalog_typed.specs.Facts.{IsTypedCatalog}
+use Rattle.rm_machine.specs.Effect.{Made}
+use Rattle.rm_machine.specs.Machine.{HistoryFits, IsBorneOut}
+use Rattle.rm_machine.specs.ResetDatabase.{at_incarnation, reset_refusal}
+use Rattle.rm_machine.specs.Sound.{IsPlaced, IsSound}
+use Rattle.rm_machine.specs.declared.state.State.{State}
+use Rattle.rm_machine.specs.State.{world}
+use Rattle.rm_lang_statement.specs.declared.command.Command.TheVariants.{ResetDatabase}
+use Rattle.rm_machine_laws.proofs.CountedLogs.{counted-agree, counted-online}
+use Rattle.rm_machine_laws.proofs.Current.{current-kept}
+use Rattle.rm_machine_laws.proofs.Leading.{LeadsOnBy, StaysBy}
+use Rattle.rm_machine_code.proofs.Places.{counted-closed}
+use Rattle.rm_machine_laws.proofs.Quiet.{quiet-on, quiet-stays}
+use Rattle.rm_machine_code.proofs.Switching.{thread-of}
+
+pub record CanChoose (s : State) (i : ℕ) : Type 0 where
+  pub shut : s.instance.is_open ≡ false
+  pub there : IsThere s.catalog.ledger.tree i
+
+pub can-choose : (s : State) (i : ℕ) → reset_refusal s i ≡ None → CanChoose s i
+can-choose s i is = record { shut = search rules; there = thread-of (length s.catalog.ledger.tree) i (search rules) }
+
+module _ (s : State) (i : ℕ) (sound : IsSound s) (can : CanChoose s i) where
+  abbrev q : State
+  q = at_incarnation s i
+
+  catalog-after : IsTypedCatalog q.catalog
+  catalog-after = current-kept s.catalog i sound.catalog can.there
+
+  sound-chosen : IsSound q
+  sound-chosen =
+      let logs = counted-online s i can.there sound.logs in
+      record {
+        catalog = catalog-after;
+        dbid = sound.dbid;
+        place = record {
+          many = sound.place.many;
+          each = λ k d x file held. subst (IsPlaced s.catalog.ledger.tree k d) (counted-closed s x can.shut ∙ sym (counted-closed q x can.shut)) (sound.place.each k d x file held);
+        };
+        logs = record { dbid = logs.dbid; there = logs.there; threads = logs.threads; each = logs.each };
+        in_open = λ mode. absurd (false≢true (sym can.shut ∙ mode));
+        point = λ at is. absurd (let e : None ≡ Some at = is in cc);
+      }
+
+  keeps-chosen : (h : List Change) → HistoryFits s h → HistoryFits q h
+  keeps-chosen h keeps = record {
+    history = keeps.history;
+    below = keeps.below;
+    online = counted-agree s i h sound.logs keeps.online;
+    place = λ f x is. subst (λ y. BaseAgrees (world s) h (base_of y)) (counted-closed s x can.shut ∙ sym (counted-closed q x can.shut)) (keeps.place f x is);
+    in_open = λ mode. absurd (false≢true (sym can.shut ∙ mode));
+    point = λ at is. absurd (let e : None ≡ Some at = is in cc);
+  }
+
+  stands-chosen : (h : List Change) (objects : Held) (made : List Made) (touched : List (List ℕ)) → IsBorneOut s h objects made touched → IsBorneOut q h objects made touched
+  stands-chosen h objects made touched stands = record {
+    state = sound-chosen;
+    keeps = keeps-chosen h stands.keeps;
+    artefacts = stands.artefacts;
+    records = record { logs = stands.records.logs; pieces = stands.records.pieces };
+  }
+
+pub choose-on : (i : ℕ) → LeadsOnBy (ResetDatabase i)
+choose-on i s h objects made touched said e t after well stands tell none does effect =
+    quiet-on (at_incarnation s i) h objects made touched _ said e t after does effect (stands-chosen s i stands.state (can-choose s i none) h objects made touched stands)
+
+pub choose-stays : (i : ℕ) → StaysBy (ResetDatabase i)
+choose-stays i s objects said e t well sound none accepted does = quiet-stays (at_incarnation s i) _ said e t does (sound-chosen s i sound (can-choose s i accepted)) none

@@ -1,0 +1,49 @@
+-- A new database is sound.
+use Rattle.std.proofs.Common.{◌≡◌, ◌<◌, ◌≤◌, ◌^◌, ℕ, [], Some, None, refl, ap, arith}
+use Rattle.rm_base.specs.Numbers.{last_scn, last_moment}
+use Rattle.rm_base.specs.Store.{Held}
+use Rattle.rm_base.proofs.Members.{none-in}
+use Rattle.rm_catalog_typed.proofs.Fresh.{fresh_is_ledger}
+use Rattle.rm_redo.specs.LogFile.{changes_in}
+use Rattle.rm_machine.specs.CreateDatabase.{fresh_machine, fresh_state}
+use Rattle.rm_machine.specs.Machine.{HistoryFits, IsSoundMachine}
+use Rattle.rm_machine.specs.Sound.{IsSound}
+use Rattle.rm_machine.specs.declared.state.State.{State}
+use Rattle.rm_machine_laws.proofs.FreshLogs.{fresh-empty, fresh-found, fresh-many, fresh-online}
+
+module _ (dbid threads scn moment : ℕ) (some : 1 ≤ dbid) (small : dbid < 2 ^ 32) (least : 1 ≤ threads) (most : threads ≤ 4) (first : 1 ≤ scn) (last : scn ≤ last_scn) (kept : moment ≤ last_moment) where
+  abbrev s : State
+  s = fresh_state dbid threads scn moment
+
+  sound-fresh : IsSound s
+  sound-fresh = record {
+    catalog = record { ledger = fresh_is_ledger dbid threads scn moment some least most first last kept; saved = tt };
+    dbid = small;
+    place = record { many = refl; each = λ k d x file held. absurd (cc) };
+    logs = record {
+      dbid = refl;
+      there = (omega arith, omega arith);
+      threads = fresh-many dbid 1 threads scn;
+      each = λ t low high found. fresh-online dbid 1 threads scn s.catalog.ledger.tree t scn some small (omega arith) (omega arith) most first last (omega arith) low high refl;
+    };
+    in_open = λ opened. record { inc = refl; found = λ t low high. fresh-found dbid 1 threads scn t low high; point = refl };
+    point = λ at here. absurd (let none : None ≡ Some at = here in cc);
+  }
+
+  keeps-fresh : HistoryFits s []
+  keeps-fresh = record {
+    history = record { changes = λ c held. absurd (none-in c held); apart = λ i j d less inside. absurd (omega (arith, inside)) };
+    below = λ k d inside. absurd (omega (arith, inside));
+    online = λ t low high found. ap (changes_in 1 t) (fresh-empty dbid 1 threads scn t scn low high);
+    place = λ f x held. absurd (cc);
+    in_open = λ opened f x held. absurd (cc);
+    point = λ at here. absurd (let none : None ≡ Some at = here in cc);
+  }
+
+  pub fresh-sound : (objects : Held) → IsSoundMachine (fresh_machine objects dbid threads scn moment)
+  fresh-sound objects = record {
+    state = sound-fresh;
+    keeps = keeps-fresh;
+    artefacts = λ a has. absurd (none-in a has);
+    records = record { logs = λ e has. absurd (none-in e has); pieces = λ e has. absurd (none-in e has) };
+  }

@@ -1,0 +1,164 @@
+-- What a stop leaves, wherever it came.
+use Rattle.std.proofs.Common.{◌≡◌, ◌∙◌, ◌++◌, ◌⊎◌, inl, inr, ℕ, List, Option, Some, None, IsSomeAnd, true, refl, ap, sym, subst, Contains}
+use Rattle.std.proofs.lemmas.Bool.{cases_Bool}
+use Rattle.std.proofs.lemmas.List.Elements.{Contains-append_left, Contains-append_right}
+use Rattle.rm_base.specs.Store.{Held}
+use Rattle.rm_base.specs.declared.block.Change.{Change as BlockChange}
+use Rattle.rm_catalog.specs.declared.record.PartEntry.{PartEntry}
+use Rattle.rm_catalog.specs.declared.record.Record.{Record}
+use Rattle.rm_commit.specs.declared.commit.Commit.{Commit}
+use Rattle.rm_commit.specs.Carrying.{Halted, Leads, Outside, Tells, after_the_edits, before_the_edits}
+use Rattle.rm_commit.specs.Names.{SameBeyondPuts, after_all, is_named, itself, name_of, nothing}
+use Rattle.rm_commit.proofs.Named.{unnamed-stays}
+use Rattle.rm_lang_statement.specs.declared.command.Command.{Command}
+use Rattle.rm_report.specs.Reply.{said}
+use Rattle.rm_report.specs.declared.line.Line.{Line}
+use Rattle.rm_evidence.specs.Names.{site_name}
+use Rattle.rm_catalog_typed.specs.TypedCatalog.{Saved}
+use Rattle.rm_machine.specs.Effect.{Artefact, Effect, Made}
+use Rattle.rm_machine.specs.Laws.{LeadsOn, StaysSound}
+use Rattle.rm_machine.specs.Machine.{DigestsTell, HoldsUnder, IsBorneOut, IsSoundBy, IsSoundMachine, Machine}
+use Rattle.rm_machine.specs.Rest.{HaveParts, IsSoundRestBy, Rest, at_rest, catalog_in}
+use Rattle.rm_machine.specs.Saved.{saved_names, spelling_of}
+use Rattle.rm_machine.specs.declared.state.State.{State}
+use Rattle.rm_machine.specs.State.{ledger}
+use Rattle.rm_machine.specs.Step.{IsStatement, and_drops, names_in}
+use Rattle.rm_machine_code.proofs.Dropping.{IsNoSite, no-site}
+use Rattle.rm_machine_laws.proofs.Dropping.{named-left, unnamed-saved}
+use Rattle.rm_machine_code.proofs.Kept.{StandOn}
+use Rattle.rm_machine_code.proofs.Later.{borne-beside}
+use Rattle.rm_machine_laws.specs.Carries.{IsHanded}
+use Rattle.rm_machine_laws.specs.Holds.{Holds, HoldsRest, records, saved_in}
+use Rattle.rm_machine_laws.specs.Loose.{IsLoose, IsNamedBy, IsNamedIn, StaysLoose, of_object, of_part}
+use Rattle.rm_machine_laws.specs.Moments.{IsMomentIn}
+use Rattle.rm_machine_laws.specs.Stopped.{IsLeft, Stopped, StopsAt}
+use Rattle.rm_machine_laws.proofs.Carried.{edited, finished, no-parts}
+use Rattle.rm_machine_laws.proofs.Loosening.{loose-from}
+
+-- under each name of a record stands what stood there, but for those that were given
+abbrev pub StaysUnder : List (List ℕ) → Option State → Held → Held → Type 0
+StaysUnder given o before after = (name : List ℕ) → IsNamedIn o name → Contains given name ⊎ (after name ≡ before name)
+
+-- the machine n at rest, where other objects are left
+abbrev pub left : List (List ℕ) → Machine → Held → Rest
+left given n objects = record { catalog = catalog_in n.state; history = n.history; objects = objects; made = n.made; touched = given ++ n.touched }
+
+stand-left : (given : List (List ℕ)) (s : State) (before after : Held) (touched : List (List ℕ)) → StaysUnder given (Some s) before after → StandOn before after touched (given ++ touched) (ledger s) (ledger s)
+stand-left given s before after touched same name bytes names again (inl was) = inl (Contains-append_right given touched name was)
+stand-left given s before after touched same name bytes names again (inr is) = elim (same name (of_object name names)) [
+  | inl by ↦ inl (Contains-append_left given touched name by)
+  | inr still ↦ inr (still ∙ is)
+]
+
+-- the parts of a saved site go on to have their artefacts
+parts-left : (given : List (List ℕ)) (saved : Option Saved) (before after : Held) (made : List Made) (touched : List (List ℕ))
+    → ((p : PartEntry) → IsSomeAnd saved (λ site. Contains site.parts p) → Contains given (site_name p.id) ⊎ (after (site_name p.id) ≡ before (site_name p.id)))
+    → HaveParts before made touched saved → HaveParts after made (given ++ touched) saved
+parts-left given None before after made touched same have = tt
+parts-left given (Some site) before after made touched same have = λ p has.
+    let was = have p has in
+    record { artefact = was.artefact; of = was.of; is = was.is; digest = was.digest; there = there p has was.artefact was.there }
+  where
+    there : (p : PartEntry) (has : Contains site.parts p) (a : Artefact) → HoldsUnder before touched (site_name p.id) (spelling_of a) → HoldsUnder after (given ++ touched) (site_name p.id) (spelling_of a)
+    there p has a (inl was) = inl (Contains-append_right given touched (site_name p.id) was)
+    there p has a (inr is) = elim (same p has) [
+      | inl by ↦ inl (Contains-append_left given touched (site_name p.id) by)
+      | inr still ↦ inr (still ∙ is)
+    ]
+
+-- what is left of a database is sound
+rest-sound : (s : State) (h : List BlockChange) (objects : Held) (made : List Made) (touched : List (List ℕ)) → IsBorneOut s h objects made touched → HaveParts objects made touched s.catalog.saved → IsSoundRestBy (Some s.catalog) h objects made touched
+rest-sound s h objects made touched is parts = record {
+  catalog = is.state.catalog;
+  dbid = is.state.dbid;
+  history = is.keeps.history;
+  below = is.keeps.below;
+  artefacts = is.artefacts;
+  records = is.records;
+  parts = parts;
+}
+
+sound-by : (given : List (List ℕ)) (o : Option State) (h : List BlockChange) (before after : Held) (made : List Made) (touched : List (List ℕ)) → StaysUnder given o before after → IsSoundBy o h before made touched
+    → HaveParts before made touched (saved_in o) → IsSoundRestBy (catalog_in o) h after made (given ++ touched)
+sound-by given None h before after made touched same is parts = is
+sound-by given (Some s) h before after made touched same is parts =
+    rest-sound s h after made (given ++ touched) (borne-beside s h before after made touched (given ++ touched) is (stand-left given s before after touched same))
+    (parts-left given s.catalog.saved before after made touched (λ p has. same (site_name p.id) (of_part p has)) parts)
+
+-- and the devices hold it
+pub left-holds : (given : List (List ℕ)) (n : Machine) (w : Outside) (held : Option Held) (kept : Option (List Record)) → IsSoundMachine n → HaveParts n.objects n.made n.touched (saved_in n.state) → w.records ≡ records n → StaysUnder given n.state n.objects w.objects → Tells held kept w
+    → HoldsRest held kept (left given n w.objects)
+left-holds given n w held kept sound parts same objects tells = record {
+  store = tells.store;
+  keeper = tells.keeper ∙ ap Some same;
+  sound = sound-by given n.state n.history n.objects w.objects n.made n.touched objects sound parts;
+}
+
+pub is-left : (given : List (List ℕ)) (n : Machine) (objects : Held) → StaysUnder given n.state n.objects objects → IsLeft given n (left given n objects)
+is-left given n objects same = record { catalog = refl; history = refl; made = refl; touched = refl; objects = same }
+
+-- the name of a log or a piece is none of a part
+pub no-part : (t : State) (name : List ℕ) → t.catalog.saved ≡ None → IsNamedBy t name → IsNoSite name
+no-part t _ none (of_object name names) = no-site (ledger t) name names
+no-part t _ none (of_part p has) = absurd (subst (λ o. IsSomeAnd o (λ site. Contains site.parts p)) none has)
+
+-- so it goes by the effect alone
+named-first : (o : Option State) (e : Effect) (name : List ℕ) → IsNoSite name → is_named itself (and_drops o e).removes name ≡ true → is_named itself e.removes name ≡ true
+named-first None e name other named = named
+named-first (Some s) e name other named = named-left e.removes (saved_names s.catalog.saved) name (unnamed-saved s.catalog.saved name other) named
+
+module _ (c : Command) (law : LeadsOn c) (stays : StaysSound c) (loose : StaysLoose c) (held : Option Held) (kept : Option (List Record)) (o : Option State) (moment : ℕ) (lines : List Line) (x : Commit) (t : State)
+    (well : IsStatement c) (at : IsMomentIn o moment) (handed : IsHanded held o c moment lines x t) where
+  loose-of : (m : Machine) → m.state ≡ o → Holds held kept m → IsLoose o c handed.effect t
+  loose-of m is holds = loose-from c loose o m moment lines handed.effect t is holds.sound at (handed.comes m.objects holds.store)
+
+  before-stays : (m : Machine) → m.state ≡ o → Holds held kept m → (after : Held) → SameBeyondPuts x.objects m.objects after → StaysUnder (names_in c) m.state m.objects after
+  before-stays m is holds after same name names = elim (cases_Bool (is_named name_of x.objects name)) [
+    | inl put ↦ inl ((loose-of m is holds).puts name (subst (λ y. IsNamedIn y name) is names) (subst (λ ys. is_named name_of ys name ≡ true) handed.puts put))
+    | inr other ↦ inr (same name other)
+  ]
+
+  halted : (m : Machine) → m.state ≡ o → Holds held kept m → DigestsTell m → (held' : Option Held) (kept' : Option (List Record)) (w : Outside) → Halted x (record { objects = m.objects; records = records m }) w → Tells held' kept' w
+      → (r : Rest) × Stopped m c moment r × HoldsRest held' kept' r
+  halted m is holds tell held' kept' w (before_the_edits b) tells =
+      let same = before-stays m is holds w.objects b.objects in
+      (left (names_in c) m w.objects, record { machine = m; one = inl refl; left = is-left (names_in c) m w.objects same }, left-holds (names_in c) m w held' kept' holds.sound holds.parts b.records same tells)
+  halted m is holds tell held' kept' w (after_the_edits a) tells =
+      let all : Held = λ name. after_all itself nothing x.removes name (a.put name) in
+      let last = finished c law stays held kept o moment lines x t well at handed m is holds tell a.put all a.puts (λ name. refl) in
+      let n = last.machine in
+      let same : StaysUnder (names_in c) n.state n.objects w.objects = λ name names. elim (cases_Bool (is_named itself x.removes name)) [
+        | inl gone ↦
+            let named = subst (λ y. IsNamedIn y name) last.state names in
+            let by_effect = named-first o handed.effect name (no-part t name last.unsaved_is named) (subst (λ ys. is_named itself ys name ≡ true) handed.removes gone) in
+            inl ((loose-of m is holds).removes name named by_effect)
+        | inr stays ↦ inr (a.removes name stays ∙ sym (unnamed-stays itself nothing x.removes name (a.put name) stays) ∙ sym (ap (λ (h : Held). h name) last.objects_are))
+      ] in
+      let records_are = edited c law stays held kept o moment lines x t well at handed m n w.records is last.state a.records in
+      (left (names_in c) n w.objects, record { machine = n; one = inr (said lines, last.step); left = is-left (names_in c) n w.objects same }, left-holds (names_in c) n w held' kept' last.sound (no-parts n t last.state last.unsaved_is) records_are same tells)
+
+  pub halts : (held' : Option Held) (kept' : Option (List Record)) → Leads (Halted x) held kept held' kept' → StopsAt held kept o c moment held' kept'
+  halts held' kept' leads m is holds tell =
+      let w = leads (record { objects = m.objects; records = records m }) (record { store = holds.store; keeper = holds.keeper }) in
+      halted m is holds tell held' kept' w.0 w.1 w.2
+
+-- what the store and the keeper hold of a machine they hold of what is left of it
+pub ends-here : (held : Option Held) (kept : Option (List Record)) (c : Command) (n : Machine) → Holds held kept n → (r : Rest) × IsLeft (names_in c) n r × HoldsRest held kept r
+ends-here held kept c n holds =
+    let same : StaysUnder (names_in c) n.state n.objects n.objects = λ name names. inr refl in
+    let w : Outside = record { objects = n.objects; records = records n } in
+    (left (names_in c) n n.objects, is-left (names_in c) n n.objects same, left-holds (names_in c) n w held kept holds.sound holds.parts refl same (record { store = holds.store; keeper = holds.keeper }))
+
+-- and of it at rest
+pub rests : (held : Option Held) (kept : Option (List Record)) (m : Machine) → Holds held kept m → HoldsRest held kept (at_rest m)
+rests held kept m holds = record { store = holds.store; keeper = holds.keeper; sound = by m.state holds.sound holds.parts }
+  where
+    by : (o : Option State) → IsSoundBy o m.history m.objects m.made m.touched → HaveParts m.objects m.made m.touched (saved_in o) → IsSoundRestBy (catalog_in o) m.history m.objects m.made m.touched
+    by None is parts = is
+    by (Some s) is parts = rest-sound s m.history m.objects m.made m.touched is parts
+
+-- where nothing was done yet
+pub nothing-done : (held : Option Held) (kept : Option (List Record)) (o : Option State) (c : Command) (moment : ℕ) → StopsAt held kept o c moment held kept
+nothing-done held kept o c moment m is holds tell =
+    let left = ends-here held kept c m holds in
+    (left.0, record { machine = m; one = inl refl; left = left.1 }, left.2)

@@ -1,0 +1,62 @@
+mod AddingDatafile
+pub mod Agreeing
+mod Archives
+mod ArchivingAll
+mod AtHand
+mod BackingUp
+mod BackingUpLogs
+mod Beside
+mod BranchesSound
+mod Branching
+pub mod Carried
+mod Choosing
+mod Cleared
+mod CountedLogs
+pub mod Creating
+mod Current
+mod Deleting
+mod DeletingObsolete
+mod Mishaps
+mod Dropping
+pub mod Every
+mod Exchanging
+mod Found
+pub mod Founding
+mod FreshLogs
+mod Further
+mod Gaps
+mod Grown
+pub mod Halting
+pub mod Leading
+mod LooseBackup
+mod LooseCopies
+mod LooseMishaps
+mod LooseNew
+mod LooseQuiet
+mod LooseUpkeep
+mod Loosening
+mod Losing
+mod LosingLog
+mod Mounting
+mod NewObjects
+mod OldCopies
+mod Opened
+mod Opening
+mod Pieces
+mod Quiet
+mod Recording
+mod Recovered
+mod Renewals
+mod Renewing
+mod Restoring
+mod Roomy
+pub mod Safely
+mod Settings
+mod Switching
+mod Telling
+mod Told
+mod Upkeep
+mod Walk
+mod WindowStart
+mod WritesKeep
+mod Writing

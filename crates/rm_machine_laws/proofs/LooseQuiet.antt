@@ -1,0 +1,84 @@
+-- Statements that put nothing and take nothing away.
+use Rattle.std.proofs.Common.{◌≡◌, ℕ, List, [], Option, Some, None, true, inl, inr}
+use Rattle.rm_base.specs.Store.{Held}
+use Rattle.rm_lang_statement.specs.declared.command.Command.{Command}
+use Rattle.rm_lang_statement.specs.declared.command.Command.TheVariants.{CreateDatafile, LoseDatafile, LoseLog, Mount, OpenPlain, Parallelism, Recover, ResetDatabase, Restore, Retention, Write}
+use Rattle.rm_lang_statement.specs.declared.command.RetentionForm.{RetentionForm}
+use Rattle.rm_lang_statement.specs.declared.command.Until.{Until}
+use Rattle.rm_lang_statement.specs.declared.command.WriteForm.{WriteForm}
+use Rattle.rm_report.specs.declared.line.Line.{Line}
+use Rattle.rm_machine.specs.Configure.{policy_of, with_channels, with_policy}
+use Rattle.rm_machine.specs.Effect.{Effect, done, no_effect}
+use Rattle.rm_machine.specs.Laws.{only_tells}
+use Rattle.rm_machine.specs.LoseDatafile.{without_file}
+use Rattle.rm_machine.specs.LoseLog.{without_log}
+use Rattle.rm_machine.specs.Mount.{as_mounted}
+use Rattle.rm_machine.specs.Open.{opened}
+use Rattle.rm_machine.specs.ResetDatabase.{at_incarnation}
+use Rattle.rm_machine.specs.declared.state.State.{State}
+use Rattle.rm_machine.specs.State.{now_of}
+use Rattle.rm_machine.specs.CreateDatafile.{with_datafile}
+use Rattle.rm_machine.specs.Recover.{RecoversTo, recover_target, recovered}
+use Rattle.rm_machine.specs.Restore.{RestoresTo, restored}
+use Rattle.rm_machine.specs.Step.{IsDone, refusal_of}
+use Rattle.rm_machine.specs.Upkeep.{with_catalog}
+use Rattle.rm_machine_laws.proofs.Leading.{done-by}
+use Rattle.rm_machine_laws.proofs.Telling.{never-done}
+use Rattle.rm_machine_laws.specs.Loose.{IsLoose, StaysLoose}
+use Rattle.rm_machine_laws.proofs.Loosening.{nothing-named}
+use Rattle.rm_machine.specs.Sound.{IsSound}
+
+pub quiet-loose : (s : State) (c : Command) (lines said : List Line) (e : Effect) (q t : State) → done lines e t ≡ done said no_effect q → IsLoose (Some s) c e t
+quiet-loose s c lines said e q t is = nothing-named (Some s) c e t (let puts : e.puts ≡ [] = cc in puts) (let removes : e.removes ≡ [] = cc in removes)
+
+-- what was not refused, and was done
+pub loose-done : (c : Command) → ((s : State) (held : Held) (lines : List Line) (e : Effect) (t : State) → IsSound s → refusal_of s c ≡ None → IsDone s held c (done lines e t) → IsLoose (Some s) c e t) → StaysLoose c
+loose-done c by s held lines e t sound comes =
+    let both = done-by (refusal_of s c) s held c lines e t comes in
+    by s held lines e t sound both.0 both.1
+
+pub write-loose : (w : WriteForm) → StaysLoose (Write w)
+write-loose w = loose-done (Write w) (λ s held lines e t sound none is. nothing-named (Some s) (Write w) e t (cc) (cc))
+
+pub mount-loose : StaysLoose Mount
+mount-loose = loose-done Mount (λ s held lines e t sound none is. quiet-loose s Mount lines _ e (as_mounted s) t is)
+
+pub open-loose : StaysLoose OpenPlain
+open-loose = loose-done OpenPlain (λ s held lines e t sound none is. quiet-loose s OpenPlain lines _ e (opened s (now_of s)) t is)
+
+pub choose-loose : (i : ℕ) → StaysLoose (ResetDatabase i)
+choose-loose i = loose-done (ResetDatabase i) (λ s held lines e t sound none is. quiet-loose s (ResetDatabase i) lines _ e (at_incarnation s i) t is)
+
+pub create-loose : (blocks : ℕ) → StaysLoose (CreateDatafile blocks)
+create-loose blocks = loose-done (CreateDatafile blocks) (λ s held lines e t sound none is. quiet-loose s (CreateDatafile blocks) lines _ e (with_datafile s blocks) t is)
+
+pub retention-loose : (form : RetentionForm) → StaysLoose (Retention form)
+retention-loose form = loose-done (Retention form) (λ s held lines e t sound none is. quiet-loose s (Retention form) lines _ e (with_catalog s (with_policy s.catalog (policy_of form))) t is)
+
+pub parallelism-loose : (channels : ℕ) → StaysLoose (Parallelism channels)
+parallelism-loose channels = loose-done (Parallelism channels) (λ s held lines e t sound none is. quiet-loose s (Parallelism channels) lines _ e (with_catalog s (with_channels s.catalog channels)) t is)
+
+pub lose-loose : (f : ℕ) → StaysLoose (LoseDatafile f)
+lose-loose f = loose-done (LoseDatafile f) (λ s held lines e t sound none is. quiet-loose s (LoseDatafile f) lines _ e (without_file s f) t is)
+
+pub lose_log-loose : (thread : ℕ) → StaysLoose (LoseLog thread)
+lose_log-loose thread = loose-done (LoseLog thread) (λ s held lines e t sound none is. quiet-loose s (LoseLog thread) lines _ e (without_log (as_mounted s) thread) t is)
+
+recover-by : (o : Option ℕ) (until : Option Until) (s : State) (held : Held) (lines : List Line) (e : Effect) (t : State) → RecoversTo s held o (done lines e t) → IsLoose (Some s) (Recover until) e t
+recover-by None until s held lines e t does = absurd does
+recover-by (Some at) until s held lines e t (inl found) = absurd (let clash = found.is in cc)
+recover-by (Some at) until s held lines e t (inr all) = quiet-loose s (Recover until) lines _ e (recovered s at all.back.files) t all.is
+
+pub recover-loose : (until : Option Until) → StaysLoose (Recover until)
+recover-loose until = loose-done (Recover until) (λ s held lines e t sound none does. recover-by (recover_target s until) until s held lines e t does)
+
+restore-by : (o file : Option ℕ) (until : Option Until) (s : State) (held : Held) (lines : List Line) (e : Effect) (t : State) → RestoresTo s held file o (done lines e t) → IsLoose (Some s) (Restore file until) e t
+restore-by None file until s held lines e t does = absurd does
+restore-by (Some at) file until s held lines e t does = quiet-loose s (Restore file until) lines _ e (restored s does.back.files) t does.is
+
+pub restore-loose : (file : Option ℕ) (until : Option Until) → StaysLoose (Restore file until)
+restore-loose file until = loose-done (Restore file until) (λ s held lines e t sound none does. restore-by (recover_target s until) file until s held lines e t does)
+
+-- what only tells is never done
+pub told-loose : (c : Command) → only_tells c ≡ true → StaysLoose c
+told-loose c only = loose-done c (λ s held lines e t sound none is. absurd (never-done c only s held lines e t is))

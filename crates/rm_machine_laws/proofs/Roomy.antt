@@ -1,0 +1,341 @@
+-- What is done leaves the ids of a save.
+use Rattle.std.proofs.Common.{◌≡◌, ◌≤◌, ◌+◌, ◌∙◌, ◌∷◌, ◌==◌, ◌||◌, nat_lt, ℕ, zero, suc, List, [], Option, Some, None, IsSomeAnd, Bool, true, false, cond, inl, inr, refl, ap, sym, arith, rules, length, map}
+use Rattle.std.specs.Option.{option_map_or}
+use Rattle.std.proofs.lemmas.Bool.{le-ltb}
+use Rattle.rm_base.specs.Store.{Held}
+use Rattle.rm_base.specs.declared.kinds.Class.{Class}
+use Rattle.rm_base.specs.declared.kinds.Status.{Status}
+use Rattle.rm_base.specs.declared.refusal.Refusal.{Refusal}
+use Rattle.rm_base.specs.declared.refusal.Refusal.TheVariants.{Rm03, Rm05}
+use Rattle.rm_base.specs.declared.refusal.Absent.TheVariants.{File}
+use Rattle.rm_base.proofs.Conditions.{only-where, unless}
+use Rattle.rm_catalog.specs.declared.record.BaseEntry.{BaseEntry}
+use Rattle.rm_catalog.specs.declared.record.LogEntry.{LogEntry}
+use Rattle.rm_catalog.specs.declared.record.PieceEntry.{PieceEntry}
+use Rattle.rm_redo.specs.declared.log_file.LogFile.{LogFile}
+use Rattle.rm_report.specs.declared.line.Line.{Line}
+use Rattle.rm_catalog_typed.specs.Changes.{with_log, with_new_log, with_piece}
+use Rattle.rm_catalog_typed.specs.TypedCatalog.{TypedCatalog}
+use Rattle.rm_lang_statement.specs.declared.command.BackupForm.{BackupForm}
+use Rattle.rm_lang_statement.specs.declared.command.ChangeTo.{ChangeTo}
+use Rattle.rm_lang_statement.specs.declared.command.ChangeTo.TheVariants.{Available, Keep, NoKeep, Unavailable, Uncatalog}
+use Rattle.rm_lang_statement.specs.declared.command.Command.{Command}
+use Rattle.rm_lang_statement.specs.declared.command.Command.TheVariants.{ArchiveLogCurrent, Backup, BackupLogs, ChangeBackup, CreateDatabase, CreateDatafile, Crosscheck, Cut, Damage, DeleteBackup, DeleteExpired, DeleteObsolete, LoseDatafile, LoseLog, Mount, OpenPlain, OpenResetlogs, Recover, Remove, Rename, ResetDatabase, Restore, SwitchLogfile, Write, Parallelism, Retention, RecoverCopy}
+use Rattle.rm_lang_statement.specs.declared.command.Until.{Until}
+use Rattle.rm_lang_statement.specs.declared.command.RetentionForm.{RetentionForm}
+use Rattle.rm_lang_statement.specs.declared.command.WriteForm.{WriteForm}
+use Rattle.rm_machine.specs.Archive.{after_all, after_thread, after_threads, archiving, due_from}
+use Rattle.rm_machine.specs.BackupOutcome.{at_end, effect_of}
+use Rattle.rm_machine.specs.MadePieces.{Copied, after_piece, after_pieces, copied}
+use Rattle.rm_machine.specs.BackupLogs.{copies_of, copies_refusal, copy_entry, copying, numbered_from, with_copies}
+use Rattle.rm_machine.specs.CreateDatafile.{with_datafile}
+use Rattle.rm_machine.specs.Configure.{policy_of, with_channels, with_policy}
+use Rattle.rm_machine.specs.Effect.{Effect, done, no_effect, refused}
+use Rattle.rm_machine.specs.Laws.{only_tells}
+use Rattle.rm_machine.specs.LoseDatafile.{without_file}
+use Rattle.rm_machine.specs.LoseLog.{without_log}
+use Rattle.rm_machine.specs.Marks.{ids_refusal, lacks_ids}
+use Rattle.rm_machine.specs.Mount.{as_mounted, mounted}
+use Rattle.rm_machine.specs.Open.{opened}
+use Rattle.rm_machine.specs.OpenResetlogs.{branched_off, resetlogs_lines}
+use Rattle.rm_machine.specs.Recover.{RecoversTo, recover_target, recovered, target_refusal}
+use Rattle.rm_machine.specs.Until.{or_else}
+use Rattle.rm_machine_code.proofs.Untils.{until-none}
+use Rattle.rm_machine.specs.ResetDatabase.{at_incarnation}
+use Rattle.rm_machine.specs.Restore.{RestoresTo, place_refusal, restored}
+use Rattle.rm_machine.specs.Sound.{IsSound}
+use Rattle.rm_machine.specs.declared.state.State.{State}
+use Rattle.rm_machine.specs.State.{current_of, ledger, now_of, on_path, online}
+use Rattle.rm_machine.specs.Step.{IsDone, IsOutcome, refusal_of}
+use Rattle.rm_machine.specs.SwitchLogfile.{archive_refusal, archived, is_due, made_lines, none_lines, with_archived}
+use Rattle.rm_machine.specs.Until.{or_else}
+use Rattle.rm_machine.specs.Upkeep.{changed_to, log_at, log_changed, piece_at, piece_changed, with_catalog, with_keep, with_status, with_statuses, without_all, without_record}
+use Rattle.rm_machine.specs.Write.{block_refusal, with_write, write_refusal}
+use Rattle.rm_machine_code.proofs.Archives.{Took, took-thread}
+use Rattle.rm_machine_laws.proofs.ArchivingAll.{room}
+use Rattle.rm_machine_code.proofs.BackingUp.{base-at_end, jobs-many}
+use Rattle.rm_machine_code.proofs.BackupAccepted.{can-back_up}
+use Rattle.rm_machine_code.proofs.Copies.{few-copied}
+use Rattle.rm_machine_code.proofs.BackingUpLogs.{after_copies, room-for}
+use Rattle.rm_machine_laws.proofs.BackingUpLogs.{done-of}
+use Rattle.rm_machine_code.proofs.Branching.{can-reset}
+use Rattle.rm_machine_laws.proofs.Mishaps.{IsMishap, cut-by, damaged-by, removed-by, renamed-by}
+use Rattle.rm_machine_laws.proofs.Leading.{done-by}
+use Rattle.rm_machine_laws.proofs.Renewals.{leaves-renewed}
+use Rattle.rm_machine_code.proofs.Switching.{not-above}
+use Rattle.rm_machine_laws.proofs.Telling.{never-done}
+use Rattle.rm_machine_code.proofs.Untils.{until-none}
+
+-- what the statement does leaves the ids of a save
+abbrev pub LeavesIds : Command → Type 0
+LeavesIds c =
+    (s : State) (held : Held) (lines : List Line) (e : Effect) (t : State) → IsSound s → IsOutcome s held c (done lines e t) → lacks_ids t 0 ≡ false
+
+-- the next id of a catalog, and of a database
+abbrev next_in : TypedCatalog → ℕ
+next_in r = r.ledger.base.next_id
+
+abbrev next : State → ℕ
+next s = next_in s.catalog
+
+-- ids are left after it, by the state that it comes to
+left-after : (lines said : List Line) (e x : Effect) (q t : State) → done lines e t ≡ done said x q → next q + 68 ≤ 4294967295 → lacks_ids t 0 ≡ false
+left-after lines said e x q t is most =
+    let state : q ≡ t = cc in
+    ap (λ y. lacks_ids y 0) (sym state) ∙ le-ltb 4294967295 (next q + 0 + 68) (omega (arith, most))
+
+-- it draws none
+none-drawn : (s : State) (lines said : List Line) (e x : Effect) (q t : State) → done lines e t ≡ done said x q → next q ≡ next s → lacks_ids s 0 ≡ false → lacks_ids t 0 ≡ false
+none-drawn s lines said e x q t is same left =
+    left-after lines said e x q t is (omega (arith, not-above 4294967295 (next s + 0 + 68) left, same))
+
+-- Why it is refused: the ids of a save are asked for
+
+-- what is not refused has them
+abbrev Asks : State → Option Refusal → Type 0
+Asks s o = o ≡ None → lacks_ids s 0 ≡ false
+
+asks-of : {X : Type 0} (s : State) (f : X → Option Refusal) (r : Refusal) (o : Option X) → ((x : X) → Asks s (f x)) → Asks s (option_map_or f o (Some r))
+asks-of s f r None asks is = absurd (let clash : Some r ≡ None = is in cc)
+asks-of s f r (Some x) asks is = asks x is
+
+asks-else : (s : State) (o p : Option Refusal) → Asks s p → Asks s (or_else o p)
+asks-else s None p asks is = asks is
+asks-else s (Some r) p asks is = absurd (let clash : Some r ≡ None = is in cc)
+
+asks-ids : (s : State) → Asks s (ids_refusal s)
+asks-ids s is = search rules
+
+-- Statements that draw none
+
+-- what was not refused, and was done
+leaves : (c : Command) → ((s : State) (held : Held) (lines : List Line) (e : Effect) (t : State) → IsSound s → refusal_of s c ≡ None → IsDone s held c (done lines e t) → lacks_ids t 0 ≡ false) → LeavesIds c
+leaves c by s held lines e t sound comes =
+    let both = done-by (refusal_of s c) s held c lines e t comes in
+    by s held lines e t sound both.0 both.1
+
+-- a statement that asks for the ids, and comes to a state with the same next id
+draws-none : (c : Command) → ((s : State) → Asks s (refusal_of s c))
+    → ((s : State) (held : Held) (lines : List Line) (e : Effect) (t : State) → IsDone s held c (done lines e t) → lacks_ids s 0 ≡ false → lacks_ids t 0 ≡ false) → LeavesIds c
+draws-none c asks stays = leaves c (λ s held lines e t sound none is. stays s held lines e t is (asks s none))
+
+pub create-roomy : (blocks : ℕ) → LeavesIds (CreateDatafile blocks)
+create-roomy blocks = draws-none (CreateDatafile blocks) (λ s is. search rules)
+    (λ s held lines e t is left. none-drawn s lines _ e _ (with_datafile s blocks) t is refl left)
+
+write-asks : (w : WriteForm) (s : State) → Asks s (write_refusal s w)
+write-asks w s is =
+    let mode = only-where s.instance.is_open _ _ is in
+    let thread = unless ((w.thread == 0) || nat_lt (ledger s).base.threads w.thread) _ _ mode.1 in
+    asks-of s (block_refusal s w) (Rm05 (File w.file)) (on_path s w.file) (λ d none. search rules) thread.1
+
+pub write-roomy : (w : WriteForm) → LeavesIds (Write w)
+write-roomy w = draws-none (Write w) (write-asks w)
+    (λ s held lines e t is left. none-drawn s lines _ e _ (with_write s w) t is refl left)
+
+mounted-next : (b : Bool) (s : State) → next (cond b (mounted s) s) ≡ next s
+mounted-next true s = refl
+mounted-next false s = refl
+
+pub mount-roomy : LeavesIds Mount
+mount-roomy = draws-none Mount asks-ids
+    (λ s held lines e t is left. none-drawn s lines _ e _ (as_mounted s) t is (mounted-next s.instance.is_open s) left)
+
+pub open-roomy : LeavesIds OpenPlain
+open-roomy = draws-none OpenPlain (λ s is. search rules)
+    (λ s held lines e t is left. none-drawn s lines _ e _ (opened s (now_of s)) t is refl left)
+
+pub choose-roomy : (i : ℕ) → LeavesIds (ResetDatabase i)
+choose-roomy i = draws-none (ResetDatabase i) (λ s is. search rules)
+    (λ s held lines e t is left. none-drawn s lines _ e _ (at_incarnation s i) t is refl left)
+
+pub lose-roomy : (f : ℕ) → LeavesIds (LoseDatafile f)
+lose-roomy f = draws-none (LoseDatafile f) (λ s is. search rules)
+    (λ s held lines e t is left. none-drawn s lines _ e _ (without_file s f) t is refl left)
+
+pub lose_log-roomy : (thread : ℕ) → LeavesIds (LoseLog thread)
+lose_log-roomy thread = draws-none (LoseLog thread) (λ s is. search rules)
+    (λ s held lines e t is left. none-drawn s lines _ e _ (without_log (as_mounted s) thread) t is (mounted-next s.instance.is_open s) left)
+
+-- RECOVER and RESTORE, by their target
+
+recover-left : (o : Option ℕ) (s : State) (held : Held) (lines : List Line) (e : Effect) (t : State) → ((at : ℕ) → o ≡ Some at → target_refusal s at ≡ None) → RecoversTo s held o (done lines e t) → lacks_ids t 0 ≡ false
+recover-left None s held lines e t none does = absurd does
+recover-left (Some at) s held lines e t none (inl found) = absurd (let clash = found.is in cc)
+recover-left (Some at) s held lines e t none (inr all) =
+    none-drawn s lines _ e _ (recovered s at all.back.files) t all.is refl (asks-else s _ _ (asks-else s _ _ (asks-ids s)) (none at refl))
+
+pub recover-roomy : (until : Option Until) → LeavesIds (Recover until)
+recover-roomy until = leaves (Recover until) (λ s held lines e t sound none does.
+    recover-left (recover_target s until) s held lines e t (λ at is. until-none s (current_of s) until (target_refusal s) (ids_refusal s) at (unless s.instance.is_open _ _ none).1 is) does)
+
+restore-left : (o file : Option ℕ) (s : State) (held : Held) (lines : List Line) (e : Effect) (t : State) → ((at : ℕ) → o ≡ Some at → place_refusal s file at ≡ None) → RestoresTo s held file o (done lines e t) → lacks_ids t 0 ≡ false
+restore-left None file s held lines e t none does = absurd does
+restore-left (Some at) file s held lines e t none does =
+    none-drawn s lines _ e _ (restored s does.back.files) t does.is refl (asks-else s _ _ (asks-else s _ _ (asks-ids s)) (none at refl))
+
+pub restore-roomy : (file : Option ℕ) (until : Option Until) → LeavesIds (Restore file until)
+restore-roomy file until = leaves (Restore file until) (λ s held lines e t sound none does.
+    restore-left (recover_target s until) file s held lines e t (λ at is. until-none s (current_of s) until (place_refusal s file) (ids_refusal s) at (unless s.instance.is_open _ _ none).1 is) does)
+
+-- Statements on records
+
+map-next : {X : Type 0} (f : X → TypedCatalog) (o : Option X) (r : TypedCatalog) → ((x : X) → next_in (f x) ≡ next_in r) → next_in (option_map_or f o r) ≡ next_in r
+map-next f None r same = refl
+map-next f (Some x) r same = same x
+
+log-next : (f : LogEntry → LogEntry) (n : ℕ) (r : TypedCatalog) → next_in (log_changed f n r) ≡ next_in r
+log-next f n r = map-next (λ (e : LogEntry). with_log r (f e)) (log_at r n) r (λ e. refl)
+
+piece-next : (f : PieceEntry → PieceEntry) (n : ℕ) (r : TypedCatalog) → next_in (piece_changed f n r) ≡ next_in r
+piece-next f n r = map-next (λ (p : PieceEntry). with_piece r (f p)) (piece_at r n) r (λ p. refl)
+
+status-next : (st : Status) (n : ℕ) (r : TypedCatalog) → next_in (with_status st n r) ≡ next_in r
+status-next st n r = piece-next (λ p. record p { status = st }) n (log_changed (λ e. record e { status = st }) n r) ∙ log-next (λ e. record e { status = st }) n r
+
+keep-next : (keep : Bool) (n : ℕ) (r : TypedCatalog) → next_in (with_keep keep n r) ≡ next_in r
+keep-next keep n r = piece-next (λ p. record p { keep = keep }) n (log_changed (λ e. record e { keep = keep }) n r) ∙ log-next (λ e. record e { keep = keep }) n r
+
+change-next : (to : ChangeTo) (n : ℕ) (r : TypedCatalog) → next_in (changed_to to n r) ≡ next_in r
+change-next Available n r = status-next _ n r
+change-next Unavailable n r = status-next _ n r
+change-next Uncatalog n r = refl
+change-next Keep n r = keep-next true n r
+change-next NoKeep n r = keep-next false n r
+
+statuses-next : (xs : List (ℕ × Status)) (r : TypedCatalog) → next_in (with_statuses xs r) ≡ next_in r
+statuses-next [] r = refl
+statuses-next (x ∷ xs) r = statuses-next xs (with_status x.1 x.0 r) ∙ status-next x.1 x.0 r
+
+all-next : (ns : List ℕ) (r : TypedCatalog) → next_in (without_all ns r) ≡ next_in r
+all-next [] r = refl
+all-next (n ∷ ns) r = all-next ns (without_record n r)
+
+pub change-roomy : (n : ℕ) (to : ChangeTo) → LeavesIds (ChangeBackup n to)
+change-roomy n to = draws-none (ChangeBackup n to) (λ s is. search rules)
+    (λ s held lines e t is left. none-drawn s lines _ e _ (with_catalog s (changed_to to n s.catalog)) t is (change-next to n s.catalog) left)
+
+pub delete-roomy : (n : ℕ) → LeavesIds (DeleteBackup n)
+delete-roomy n = draws-none (DeleteBackup n) (λ s is. search rules)
+    (λ s held lines e t is left. none-drawn s lines _ e _ (with_catalog s (without_record n s.catalog)) t is refl left)
+
+pub check-roomy : (class : Class) → LeavesIds (Crosscheck class)
+check-roomy class = draws-none (Crosscheck class) asks-ids
+    (λ s held lines e t does left. none-drawn s lines _ e _ (with_catalog s (with_statuses does.checked s.catalog)) t does.is (statuses-next does.checked s.catalog) left)
+
+pub expire-roomy : (class : Class) → LeavesIds (DeleteExpired class)
+expire-roomy class = draws-none (DeleteExpired class) asks-ids
+    (λ s held lines e t does left. none-drawn s lines _ e _ (with_catalog s (without_all does.ids s.catalog)) t does.is (all-next does.ids s.catalog) left)
+
+pub obsolete-roomy : LeavesIds DeleteObsolete
+obsolete-roomy = draws-none DeleteObsolete asks-ids
+    (λ s held lines e t does left. none-drawn s lines _ e _ (with_catalog s (without_all does.ids s.catalog)) t does.is (all-next does.ids s.catalog) left)
+
+-- CONFIGURE
+
+pub retention-roomy : (form : RetentionForm) → LeavesIds (Retention form)
+retention-roomy form = draws-none (Retention form) (λ s is. search rules)
+    (λ s held lines e t is left. none-drawn s lines _ e _ (with_catalog s (with_policy s.catalog (policy_of form))) t is refl left)
+
+pub parallelism-roomy : (channels : ℕ) → LeavesIds (Parallelism channels)
+parallelism-roomy channels = draws-none (Parallelism channels) (λ s is. search rules)
+    (λ s held lines e t is left. none-drawn s lines _ e _ (with_catalog s (with_channels s.catalog channels)) t is refl left)
+
+-- HOST: the state stays as it is
+
+mishap-left : (s : State) (by e : Effect) (t : State) → IsMishap s by e t → lacks_ids s 0 ≡ false → lacks_ids t 0 ≡ false
+mishap-left s by e t mishap left = ap (λ y. lacks_ids y 0) (sym mishap.state) ∙ left
+
+pub remove-roomy : (name : List ℕ) → LeavesIds (Remove name)
+remove-roomy name = draws-none (Remove name) asks-ids (λ s held lines e t is left. mishap-left s _ e t (removed-by s name (held name) lines e t is) left)
+
+pub damage-roomy : (name : List ℕ) (at : ℕ) → LeavesIds (Damage name at)
+damage-roomy name at = draws-none (Damage name at) asks-ids (λ s held lines e t is left. mishap-left s _ e t (damaged-by s name at (held name) lines e t is).1 left)
+
+pub cut-roomy : (name : List ℕ) (to : ℕ) → LeavesIds (Cut name to)
+cut-roomy name to = draws-none (Cut name to) asks-ids (λ s held lines e t is left. mishap-left s _ e t (cut-by s name to (held name) lines e t is).1 left)
+
+pub rename-roomy : (old new : List ℕ) → LeavesIds (Rename old new)
+rename-roomy old new = draws-none (Rename old new) asks-ids (λ s held lines e t is left. mishap-left s _ e t (renamed-by s old new (held old) (held new) lines e t is).1 left)
+
+-- Statements that draw ids
+
+switch-left : (b : Bool) (s : State) (t : ℕ) (lines : List Line) (e : Effect) (q : State) → cond b (archive_refusal s t) (ids_refusal s) ≡ None
+    → done lines e q ≡ cond b (done (made_lines s t) (archived (next s) (online s t)) (with_archived s t)) (done (none_lines t) no_effect s) → lacks_ids q 0 ≡ false
+switch-left false s t lines e q none is = none-drawn s lines (none_lines t) e no_effect s q is refl (asks-ids s none)
+switch-left true s t lines e q none is =
+    let most : next s + 1 + 68 ≤ 4294967295 = search rules in
+    left-after lines (made_lines s t) e (archived (next s) (online s t)) (with_archived s t) q is (omega (arith, most))
+
+pub switch-roomy : (t : ℕ) → LeavesIds (SwitchLogfile t)
+switch-roomy t = leaves (SwitchLogfile t) (λ s held lines e q sound none is.
+    switch-left (is_due s t) s t lines e q (unless ((t == 0) || nat_lt (ledger s).base.threads t) _ _ (only-where s.instance.is_open _ _ none).1).1 is)
+
+-- each thread that is due draws one
+threads-next : (n t : ℕ) (s : State) → next (after_threads s t n) ≡ next s + due_from s t n
+threads-next zero t s = omega arith
+threads-next (suc n) t s =
+    let q : State = after_thread s t in
+    let took : Took s q (cond (is_due s t) 1 0) = took-thread s t (is_due s t) in
+    omega (arith, took.ids, threads-next n (t + 1) q)
+
+pub archive-roomy : LeavesIds ArchiveLogCurrent
+archive-roomy = leaves ArchiveLogCurrent (λ s held lines e t sound none is.
+    left-after lines _ e (archiving s) (after_all s) t is (omega (arith, (room s sound none).ids, threads-next (ledger s).base.threads 1 s)))
+
+branch-left : (o : Option ℕ) (s : State) (lines : List Line) (e : Effect) (t : State) → IsSomeAnd o (λ at. done lines e t ≡ done (resetlogs_lines s at) (archiving s) (branched_off (after_all s) at)) → next (after_all s) + 68 ≤ 4294967295 → lacks_ids t 0 ≡ false
+branch-left None s lines e t is most = absurd is
+branch-left (Some at) s lines e t is most = left-after lines (resetlogs_lines s at) e (archiving s) (branched_off (after_all s) at) t is most
+
+pub branch-roomy : LeavesIds OpenResetlogs
+branch-roomy = leaves OpenResetlogs (λ s held lines e t sound none is.
+    branch-left s.instance.point s lines e t is (omega (arith, (can-reset s sound none).room.ids, threads-next (ledger s).base.threads 1 s)))
+
+-- each piece draws one
+pieces-next : (b : BackupForm) (tag : List ℕ) (xs : List Copied) (s : State) → next (after_pieces s b tag xs) ≡ next s + length xs
+pieces-next b tag [] s = omega arith
+pieces-next b tag (x ∷ xs) s = let rest = pieces-next b tag xs (after_piece s b tag x.copy x.piece) in omega (arith, rest)
+
+pub backup-roomy : (b : BackupForm) → LeavesIds (Backup b)
+backup-roomy b s held lines e t sound comes =
+    let both = done-by (refusal_of s (Backup b)) s held (Backup b) lines e t comes in
+    let does = both.1 in
+    let xs = copied (ledger s).base b (now_of s) does.jobs does.rows in
+    let q : State = at_end s b does.events in
+    let same : next q ≡ next s = ap (λ (x : BaseEntry). x.next_id) (base-at_end s b does.events) in
+    let few = few-copied s b (now_of s) does.jobs does.rows in
+    let many = jobs-many s b does.jobs does.are in
+    let most = (can-back_up s b sound both.0).ids in
+    let up = pieces-next b does.tag xs q in
+    left-after lines _ e (effect_of s b does.tag does.events xs) (after_pieces q b does.tag xs) t does.is (omega (arith, same, few, many, most, up))
+
+-- and so does each backup of a log
+copies-next : (logs : List LogFile) (n : ℕ) (r : TypedCatalog) → next_in (with_copies r (numbered_from n logs)) ≡ next_in r + length logs
+copies-next [] n r = omega arith
+copies-next (a ∷ logs) n r = let rest = copies-next logs (n + 1) (with_new_log r (copy_entry (n, a))) in omega (arith, rest)
+
+pub back_logs-roomy : LeavesIds BackupLogs
+back_logs-roomy s held lines e t sound comes =
+    let does = (done-by (refusal_of s BackupLogs) s held BackupLogs lines e t comes).1 in
+    let logs = map (λ (x : ℕ × LogFile). x.1) does.found in
+    let is = done-of (copies_refusal s logs) _ lines (copying (copies_of s logs)) e (after_copies s logs) t does.is in
+    let most = (room-for s logs sound is.0).ids in
+    let up = copies-next logs (next s) s.catalog in
+    ap (λ y. lacks_ids y 0) (sym is.2) ∙ le-ltb 4294967295 (next (after_copies s logs) + 0 + 68) (omega (arith, most, up))
+
+-- and so does each copy that changed
+pub renew-roomy : (tag : List ℕ) (until : Option Until) → LeavesIds (RecoverCopy tag until)
+renew-roomy tag until s held lines e t sound comes =
+    let c = RecoverCopy tag until in
+    let most = (leaves-renewed (recover_target s until) s tag held lines e t sound (done-by (refusal_of s c) s held c lines e t comes).1).ids in
+    le-ltb 4294967295 (next t + 0 + 68) (omega (arith, most))
+
+-- Statements that are never done
+
+-- what only tells
+pub told-roomy : (c : Command) → only_tells c ≡ true → LeavesIds c
+told-roomy c only = leaves c (λ s held lines e t sound none is. absurd (never-done c only s held lines e t is))
+
+-- and CREATE DATABASE, where there is one
+pub never-roomy : (dbid threads scn : ℕ) → LeavesIds (CreateDatabase dbid threads scn)
+never-roomy dbid threads scn s held lines e t sound comes = absurd (let clash : done lines e t ≡ refused Rm03 = comes in cc)

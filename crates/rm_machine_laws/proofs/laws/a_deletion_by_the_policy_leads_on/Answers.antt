@@ -1,0 +1,10 @@
+use Rattle.rm_machine_laws.proofs.DeletingObsolete.{obsolete-on, obsolete-stays}
+use Rattle.rm_machine_laws.proofs.Leading.{leads, stays}
+use Rattle.rm_lang_statement.specs.declared.command.Command.TheVariants.{DeleteObsolete}
+use Rattle.rm_machine_laws.proofs.laws.a_deletion_by_the_policy_leads_on.Goals as goal
+
+pub returns-clause-leads : goal.returns-clause-leads
+returns-clause-leads c = leads DeleteObsolete obsolete-on
+
+pub returns-clause-stays : goal.returns-clause-stays
+returns-clause-stays c = stays DeleteObsolete obsolete-stays

@@ -1,0 +1,36 @@
+-- Names of records are touched by no statement but one of HOST that gives them.
+use Rattle.std.specs.Prelude.{ℕ, ◌≡◌, true, IsSomeAnd, Option, Some, None, List, Contains}
+use Rattle.rm_base.specs.Store.{Held}
+use Rattle.rm_catalog.specs.declared.record.PartEntry.{PartEntry}
+use Rattle.rm_commit.specs.Names.{is_named, itself, name_of}
+use Rattle.rm_lang_statement.specs.declared.command.Command.{Command}
+use Rattle.rm_evidence.specs.Names.{site_name}
+use Rattle.rm_report.specs.declared.line.Line.{Line}
+use Rattle.rm_machine.specs.Effect.{Effect, done}
+use Rattle.rm_machine.specs.Names.{IsObjectName}
+use Rattle.rm_machine.specs.Sound.{IsSound}
+use Rattle.rm_machine.specs.declared.state.State.{State}
+use Rattle.rm_machine.specs.State.{ledger}
+use Rattle.rm_machine.specs.Step.{IsOutcome, names_in}
+
+-- the object of one of the records has this name: of a log, of a piece, or of a part of a saved site
+pub data IsNamedBy (s : State) : List ℕ → Type 0 where
+  of_object : (name : List ℕ) → IsObjectName (ledger s) name → IsNamedBy s name
+  of_part : (p : PartEntry) → IsSomeAnd s.catalog.saved (λ site. Contains site.parts p) → IsNamedBy s (site_name p.id)
+
+-- the same, where there is a database
+abbrev pub IsNamedIn : Option State → List ℕ → Type 0
+IsNamedIn None name = ⊥
+IsNamedIn (Some s) name = IsNamedBy s name
+
+-- What is put has no name of a record before, nor that of a part of a saved site; what goes has none of a
+-- record after. The names that HOST gives are left aside.
+pub record IsLoose (o : Option State) (c : Command) (e : Effect) (t : State) : Type 0 where
+  pub puts : (name : List ℕ) → IsNamedIn o name → is_named name_of e.puts name ≡ true → Contains (names_in c) name
+  pub parts : (id : ℕ) → is_named name_of e.puts (site_name id) ≡ true → Contains (names_in c) (site_name id)
+  pub removes : (name : List ℕ) → IsNamedBy t name → is_named itself e.removes name ≡ true → Contains (names_in c) name
+
+-- so for the statement, from each sound state
+abbrev pub StaysLoose : Command → Type 0
+StaysLoose c =
+    (s : State) (held : Held) (lines : List Line) (e : Effect) (t : State) → IsSound s → IsOutcome s held c (done lines e t) → IsLoose (Some s) c e t

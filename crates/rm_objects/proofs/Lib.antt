@@ -1,6 +1,0 @@
-pub mod Current
-pub mod Files
-pub mod Found
-pub mod Names
-pub mod Telling
-pub mod Worlds

@@ -1,5 +1,0 @@
-use Rattle.rm_objects.proofs.Worlds.{is-sound}
-use Rattle.rm_objects.proofs.laws.a_catalog_has_a_world.Goals as goal
-
-pub returns : goal.returns
-returns c rs catalog database = is-sound rs catalog database

@@ -1,5 +1,0 @@
-use Rattle.rm_objects.proofs.Files.{file_of-is}
-use Rattle.rm_objects.proofs.laws.the_datafiles_are_those_of_the_records.Goals as goal
-
-pub returns : goal.returns
-returns c rs f catalog = file_of-is rs f catalog

@@ -1,3 +1,0 @@
-pub mod Database
-pub mod Names
-pub mod Objects

@@ -1,8 +1,0 @@
-use Rattle.std.proofs.Common.{◌∙◌, List, ℕ, length, ap, arith}
-use Rattle.rm_record_bytes.proofs.Told.{length-head}
-use Rattle.rm_record_bytes.proofs.reading.head_of.Goals as goal
-
-pub returns-then-bytes-ne13-clause-none : goal.returns-then-bytes-ne13-clause-none
-returns-then-bytes-ne13-clause-none c r fits is =
-    let len = ap (λ (x : List ℕ). length x) is ∙ length-head r in
-    omega (arith, len)

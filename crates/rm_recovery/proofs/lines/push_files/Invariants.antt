@@ -1,7 +1,0 @@
-use Rattle.std.proofs.Common.{◌≡◌, ◌++◌, drop}
-use Rattle.rm_machine.specs.RecoverTest.{files_lines}
-use Rattle.rm_machine.specs.State.{world}
-use Rattle.rm_recovery.proofs.lines.push_files.Given as goal
-
-abbrev pub invariant-loop-file : goal.invariant-loop-file
-invariant-loop-file l = l.lines ++ files_lines (world l.state) (drop l.file-index l.files) ≡ l.fn.lines ++ files_lines (world l.state) l.files

@@ -1,5 +1,0 @@
-use Rattle.rm_renewing.proofs.Walked.{AreRenewedBelow}
-use Rattle.rm_renewing.proofs.renewals.renewals.Given as goal
-
-abbrev pub invariant-loop-file : goal.invariant-loop-file
-invariant-loop-file l = AreRenewedBelow l.state l.evidence l.tag l.at l.file l.copies.items

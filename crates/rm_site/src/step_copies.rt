@@ -1,0 +1,47 @@
+//! RECOVER COPY: it looks at what the store holds.
+ghost use Rattle.std.specs.Prelude.{◌≡◌, ◌≤◌, None, IfOk, IsErrOf, OnOk};
+ghost use Rattle.rm_base.specs.Outside.{Rose};
+ghost use Rattle.rm_commit.specs.declared.commit.Stop.TheVariants.{StoreFault, KeeperFault};
+ghost use Rattle.rm_machine.specs.RecoverCopy.{recover_copy_refusal};
+ghost use Rattle.rm_machine.specs.Sound.{IsSound};
+ghost use Rattle.rm_machine.specs.Step.{IsStatement};
+ghost use Rattle.rm_catalog_typed.specs.Changes.{EditsFollow};
+ghost use Rattle.rm_site.specs.Comes.{IsAnswer};
+ghost use Rattle.rm_lang_statement.specs.declared.command.Command.TheVariants.{RecoverCopy};
+
+use crate::faults::stop_of;
+use crate::statement::Answer;
+use rm_base::{Store, Text};
+use rm_catalog::Edit;
+use rm_commit::Stop;
+use rm_lang_statement::Until;
+use rm_machine::State;
+use rm_step_copies::recover_copy;
+use std::alloc::Global;
+
+/// What RECOVER COPY comes to that the state does not refuse: it is done, or refused by what the store holds. After an error,
+/// which is a stop, nothing is said of the state and the edits.
+pub(crate) fn renew<D: Store>(
+    alloc: Global,
+    state: &mut State,
+    store: &mut D,
+    edits: &mut Vec<Edit>,
+    tag: &Text,
+    until: &Option<Until>,
+) -> Result<Answer, Stop>
+    requires command { IsStatement (RecoverCopy tag.now until.now) }
+    requires sound { IsSound state.old }
+    requires accepted { recover_copy_refusal state.old tag.now until.now ≡ None }
+    ensures answer { IfOk result (λ a. IsAnswer (D.held store.old) state.old (RecoverCopy tag.now until.now) a state.new) }
+    ensures edits { OnOk result (EditsFollow edits.old.items edits.new.items state.old.catalog state.new.catalog) }
+    ensures held { D.held store.new ≡ D.held store.old }
+    ensures store { IsErrOf result StoreFault → Rose (D.faults store.old) (D.faults store.new) }
+    ensures keeper { ¬ IsErrOf result KeeperFault }
+    ensures never_falls { D.faults store.old ≤ D.faults store.new }
+{
+    match recover_copy(alloc, state, store, edits, tag.as_str(), until) {
+        Ok(Ok(handed)) => Ok(Answer::Done(handed)),
+        Ok(Err(refusal)) => Ok(Answer::Refused(refusal)),
+        Err(fault) => Err(stop_of(fault)),
+    }
+}

@@ -1,0 +1,79 @@
+//! REPORT OBSOLETE, REPORT NEED BACKUP and DELETE OBSOLETE: they look at what the store holds.
+ghost use Rattle.std.specs.Prelude.{◌≡◌, ◌≤◌, None, IfOk, IsErrOf, OnOk};
+ghost use Rattle.rm_base.specs.Outside.{Rose};
+ghost use Rattle.rm_commit.specs.declared.commit.Stop.TheVariants.{StoreFault, KeeperFault};
+ghost use Rattle.rm_machine.specs.Marks.{ids_refusal};
+ghost use Rattle.rm_machine.specs.Sound.{IsSound};
+ghost use Rattle.rm_catalog_typed.specs.Changes.{EditsFollow};
+ghost use Rattle.rm_site.specs.Comes.{IsAnswer};
+ghost use Rattle.rm_lang_statement.specs.declared.command.Command.TheVariants.{DeleteObsolete, ReportNeedBackup, ReportObsolete};
+
+use crate::faults::stop_of;
+use crate::statement::Answer;
+use rm_base::Store;
+use rm_catalog::Edit;
+use rm_commit::Stop;
+use rm_machine::State;
+use rm_step_retain::{delete_obsolete, report_need_backup, report_obsolete};
+use std::alloc::Global;
+
+/// What REPORT OBSOLETE comes to: it tells. An error is a stop.
+pub(crate) fn tell_obsolete<D: Store>(
+    alloc: Global,
+    state: &State,
+    store: &mut D,
+) -> Result<Answer, Stop>
+    requires sound { IsSound state.now }
+    ensures answer { IfOk result (λ a. IsAnswer (D.held store.old) state.now ReportObsolete a state.now) }
+    ensures held { D.held store.new ≡ D.held store.old }
+    ensures store { IsErrOf result StoreFault → Rose (D.faults store.old) (D.faults store.new) }
+    ensures keeper { ¬ IsErrOf result KeeperFault }
+    ensures never_falls { D.faults store.old ≤ D.faults store.new }
+{
+    match report_obsolete(alloc, state, store) {
+        Ok(lines) => Ok(Answer::Told(lines)),
+        Err(fault) => Err(stop_of(fault)),
+    }
+}
+
+/// What REPORT NEED BACKUP comes to: it tells. An error is a stop.
+pub(crate) fn tell_needs<D: Store>(
+    alloc: Global,
+    state: &State,
+    store: &mut D,
+) -> Result<Answer, Stop>
+    requires sound { IsSound state.now }
+    ensures answer { IfOk result (λ a. IsAnswer (D.held store.old) state.now ReportNeedBackup a state.now) }
+    ensures held { D.held store.new ≡ D.held store.old }
+    ensures store { IsErrOf result StoreFault → Rose (D.faults store.old) (D.faults store.new) }
+    ensures keeper { ¬ IsErrOf result KeeperFault }
+    ensures never_falls { D.faults store.old ≤ D.faults store.new }
+{
+    match report_need_backup(alloc, state, store) {
+        Ok(lines) => Ok(Answer::Told(lines)),
+        Err(fault) => Err(stop_of(fault)),
+    }
+}
+
+/// What DELETE OBSOLETE comes to that the state does not refuse: it is done. After an error, which is a stop, nothing is
+/// said of the state and the edits.
+pub(crate) fn clear<D: Store>(
+    alloc: Global,
+    state: &mut State,
+    store: &mut D,
+    edits: &mut Vec<Edit>,
+) -> Result<Answer, Stop>
+    requires sound { IsSound state.old }
+    requires accepted { ids_refusal state.old ≡ None }
+    ensures answer { IfOk result (λ a. IsAnswer (D.held store.old) state.old DeleteObsolete a state.new) }
+    ensures edits { OnOk result (EditsFollow edits.old.items edits.new.items state.old.catalog state.new.catalog) }
+    ensures held { D.held store.new ≡ D.held store.old }
+    ensures store { IsErrOf result StoreFault → Rose (D.faults store.old) (D.faults store.new) }
+    ensures keeper { ¬ IsErrOf result KeeperFault }
+    ensures never_falls { D.faults store.old ≤ D.faults store.new }
+{
+    match delete_obsolete(alloc, state, store, edits) {
+        Ok(handed) => Ok(Answer::Done(handed)),
+        Err(fault) => Err(stop_of(fault)),
+    }
+}

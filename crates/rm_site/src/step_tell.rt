@@ -1,0 +1,71 @@
+//! The statements that tell: of the state alone, and VALIDATE ALL, which looks at the objects of records.
+ghost use Rattle.std.specs.Prelude.{◌≡◌, Option, None, true, All, IfOk, ◌≤◌, IsErrOf};
+ghost use Rattle.rm_base.specs.Store.{Held};
+ghost use Rattle.rm_machine.specs.Hands.{Tells};
+ghost use Rattle.rm_machine.specs.Sound.{IsSound};
+ghost use Rattle.rm_machine.specs.Step.{refusal_of};
+ghost use Rattle.rm_report.specs.Reply.{LineHasDate};
+ghost use Rattle.rm_site.specs.Comes.{IsAnswer, tells_state};
+ghost use Rattle.rm_base.specs.Outside.{Rose};
+ghost use Rattle.rm_commit.specs.declared.commit.Stop.TheVariants.{StoreFault, KeeperFault};
+ghost use Rattle.rm_lang_statement.specs.declared.command.Command.TheVariants.{ValidateAll};
+
+use crate::faults::stop_at;
+use crate::statement::Answer;
+use rm_base::{Class, NoMemory, Seq, Store};
+use rm_commit::Stop;
+use rm_lang_statement::Command;
+use rm_machine::State;
+use rm_report::Line;
+use rm_step_tell::{dump, list, list_incarnation, report_schema, show_all, validate_all};
+use std::alloc::Global;
+
+// The lines of a statement that tells of the state alone.
+fn lines_of(alloc: Global, state: &State, command: &Command) -> Result<Seq<Line>, NoMemory>
+    requires tells { tells_state command.now ≡ true }
+    requires sound { IsSound state.now }
+    requires accepted { refusal_of state.now command.now ≡ None }
+    ensures tells { IfOk result (λ lines. (held : Option Held) → Tells held state.now command.now lines) }
+    ensures dates { IfOk result (All LineHasDate) }
+{
+    match command {
+        Command::Dump { file, block } => dump(alloc, state, *file, *block),
+        Command::ListIncarnation => list_incarnation(alloc, state),
+        Command::ListBackup => list(alloc, state, Class::Backup),
+        Command::ListCopy => list(alloc, state, Class::Copy),
+        Command::ListArchived => list(alloc, state, Class::Archived),
+        Command::ReportSchema => report_schema(alloc, state),
+        Command::ShowAll => show_all(alloc, state),
+        _ => unreachable!(),
+    }
+}
+
+/// What a statement comes to that tells of the state alone, and that the state does not refuse. An error is want of
+/// memory.
+pub(crate) fn tell(alloc: Global, state: &State, command: &Command) -> Result<Answer, NoMemory>
+    requires tells { tells_state command.now ≡ true }
+    requires sound { IsSound state.now }
+    requires accepted { refusal_of state.now command.now ≡ None }
+    ensures answer { IfOk result (λ a. (held : Option Held) → IsAnswer held state.now command.now a state.now) }
+{
+    Ok(Answer::Told(lines_of(alloc, state, command)?))
+}
+
+/// What VALIDATE ALL comes to: it tells. An error is a stop.
+pub(crate) fn validate<D: Store>(
+    alloc: Global,
+    state: &State,
+    store: &mut D,
+) -> Result<Answer, Stop>
+    requires sound { IsSound state.now }
+    ensures answer { IfOk result (λ a. IsAnswer (D.held store.old) state.now ValidateAll a state.now) }
+    ensures held { D.held store.new ≡ D.held store.old }
+    ensures store { IsErrOf result StoreFault → Rose (D.faults store.old) (D.faults store.new) }
+    ensures keeper { ¬ IsErrOf result KeeperFault }
+    ensures never_falls { D.faults store.old ≤ D.faults store.new }
+{
+    match validate_all(alloc, state, store) {
+        Ok(lines) => Ok(Answer::Told(lines)),
+        Err(fault) => Err(stop_at(fault)),
+    }
+}

@@ -1,0 +1,181 @@
+//! BACKUP of datafiles, while the database may write.
+ghost use Rattle.std.specs.Prelude.{◌≡◌, ◌≤◌, ◌++◌, List, [], IfOk, None, OnOk, Option, false, length, map};
+ghost use Rattle.rm_base.specs.Store.{Held};
+ghost use Rattle.rm_catalog.specs.Objects.{IsTag};
+ghost use Rattle.rm_step_backup.specs.Running.{HasRunLive};
+ghost use Rattle.rm_channel.specs.Jobs.{lists, whole};
+ghost use Rattle.rm_channel.specs.declared.jobs.CopyJob.{CopyJob};
+ghost use Rattle.rm_machine.specs.Asked.{span_of, writers_of};
+ghost use Rattle.rm_machine.specs.MadePieces.{CanRecord, after_pieces, copied, piece_lines, pieces_put};
+ghost use Rattle.rm_machine.specs.BackupOutcome.{marked, write_lines};
+ghost use Rattle.rm_machine.specs.Hands.{Hands};
+ghost use Rattle.rm_machine.specs.Backup.{AreJobs, or_nothing};
+ghost use Rattle.rm_machine.specs.BackupRefusal.{mark_count};
+ghost use Rattle.rm_machine.specs.Marks.{lacks_room};
+ghost use Rattle.rm_machine.specs.Sound.{IsSound};
+ghost use Rattle.rm_machine.specs.State.{ledger};
+ghost use Rattle.rm_machine.specs.Step.{IsStatement, refusal_of};
+ghost use Rattle.rm_lang_statement.specs.declared.command.Command.TheVariants.{Backup};
+ghost use Rattle.rm_report.specs.declared.line.Line.TheVariants.{ThreadScn};
+ghost use Rattle.rm_catalog_typed.specs.Changes.{EditsFollow};
+
+use crate::asking::{copy_jobs, writers_of};
+use crate::jobs::jobs;
+use crate::pieces::{is_copy, piece_of, record_piece, tag_of};
+use crate::running::run_live;
+use rm_base::{NoMemory, Row, Scn, Seq, Text, ThreadNo};
+use rm_catalog::Edit;
+use rm_channel::{Gate, Work};
+use rm_lang_statement::BackupForm;
+use rm_machine::{Handed, Job, State};
+use rm_machine_code::facts::now;
+use rm_machine_code::marks::add_marks_before;
+use rm_report::Line;
+use std::alloc::Global;
+use std::sync::Wait;
+use std::thread::Threads;
+
+// Writes the mark that comes before the writes, where the BACKUP has a DURING.
+fn mark(state: &mut State, edits: &mut Vec<Edit>, form: &BackupForm) -> Result<(), NoMemory>
+    requires sound { IsSound state.old }
+    requires room { lacks_room state.old (mark_count state.old form.now) ≡ false }
+    ensures after { OnOk result (state.new ≡ marked state.old form.now) }
+    ensures edits { OnOk result (EditsFollow edits.old.items edits.new.items state.old.catalog state.new.catalog) }
+{
+    if form.during.is_some() {
+        add_marks_before(state, edits)?;
+    }
+    Ok(())
+}
+
+// Makes the copies of these jobs, and the writes of the DURING, behind its mark.
+fn run<G: Gate, R: Threads + Wait + Sync>(
+    rt: &R,
+    alloc: Global,
+    gate: &G,
+    channels: u32,
+    state: &mut State,
+    edits: &mut Vec<Edit>,
+    form: &BackupForm,
+    jobs: &[Job],
+) -> Result<Work, NoMemory>
+    requires sound { IsSound state.old }
+    requires channels { (1 ≤ channels) × (channels ≤ 16) }
+    requires accepted { refusal_of state.old (Backup form.now) ≡ None }
+    requires jobs { AreJobs state.old form.now jobs.now }
+    ensures ran { IfOk result (λ w. (copies : List CopyJob) × (map whole copies ≡ map (span_of state.old) jobs.now) × HasRunLive (marked state.old form.now) copies (writers_of state.old form.now) state.new w) }
+    ensures edits { OnOk result (EditsFollow edits.old.items edits.new.items state.old.catalog state.new.catalog) }
+{
+    let writers = writers_of(alloc, state, form)?;
+    let copies = copy_jobs(alloc, state, jobs)?;
+    mark(state, edits, form)?;
+    run_live(
+        rt,
+        alloc,
+        gate,
+        channels,
+        state,
+        edits,
+        copies.as_slice(),
+        writers.as_slice(),
+    )
+}
+
+// Records the pieces of these datafiles, of which these rows were read, one after another.
+fn record_all(
+    alloc: Global,
+    state: &mut State,
+    edits: &mut Vec<Edit>,
+    form: &BackupForm,
+    tag: &Text,
+    checkpoint: Scn,
+    jobs: &[Job],
+    rows: &[Vec<Row>],
+) -> Result<Handed, NoMemory>
+    requires sound { IsSound state.old }
+    requires tag { IsTag tag.now }
+    requires many { length rows.now ≡ length jobs.now }
+    requires can { CanRecord state.old form.now tag.now (copied (ledger state.old).base form.now checkpoint jobs.now (lists rows.now)) }
+    ensures after { OnOk result (state.new ≡ after_pieces state.old form.now tag.now (copied (ledger state.old).base form.now checkpoint jobs.now (lists rows.now))) }
+    ensures edits { OnOk result (EditsFollow edits.old.items edits.new.items state.old.catalog state.new.catalog) }
+    ensures lines { IfOk result (λ x. x.lines ≡ piece_lines state.old form.now tag.now (copied (ledger state.old).base form.now checkpoint jobs.now (lists rows.now))) }
+    ensures objects { IfOk result (λ x. x.objects ≡ pieces_put state.old form.now tag.now (copied (ledger state.old).base form.now checkpoint jobs.now (lists rows.now))) }
+    ensures removes { IfOk result (λ x. x.removes ≡ []) }
+{
+    let mut handed = Handed {
+        lines: Seq::new(alloc),
+        objects: Seq::new(alloc),
+        removes: Seq::new(alloc),
+    };
+    for (index, job) in jobs.iter().enumerate() {
+        let read = rows[index].as_slice();
+        let piece = piece_of(alloc, state, form, *job, checkpoint, read)?;
+        let copy = is_copy(form, *job);
+        record_piece(alloc, state, edits, &mut handed, form, tag, copy, &piece)?;
+    }
+    Ok(handed)
+}
+
+// Tells that no datafile is backed up, where there is no line.
+fn tell_none(lines: &mut Seq<Line>) -> Result<(), NoMemory>
+    ensures { OnOk result (lines.new ≡ or_nothing lines.old) }
+{
+    if lines.is_empty() {
+        lines.push(Line::NothingToBackUp)?;
+    }
+    Ok(())
+}
+
+// Tells the SCNs of a thread's writes.
+fn tell_thread(lines: &mut Seq<Line>, thread: ThreadNo, scns: &[Scn]) -> Result<(), NoMemory>
+    ensures { OnOk result (lines.new ≡ lines.old ++ map (ThreadScn thread) scns.now) }
+{
+    for scn in scns {
+        lines.push(Line::ThreadScn { thread, scn: *scn })?;
+    }
+    Ok(())
+}
+
+// Tells the SCNs of the writes, thread by thread.
+fn tell_writes(lines: &mut Seq<Line>, scns: &[Vec<Scn>]) -> Result<(), NoMemory>
+    requires few { length scns.now ≤ 4 }
+    ensures { OnOk result (lines.new ≡ lines.old ++ write_lines 1 (lists scns.now)) }
+{
+    for (index, list) in scns.iter().enumerate() {
+        tell_thread(lines, index as ThreadNo + 1, list.as_slice())?;
+    }
+    Ok(())
+}
+
+/// BACKUP of datafiles, full, of level 0 or of level 1, while the database writes: by so many channels, 1 to 16, which call the
+/// gate before each section, and a writer for each thread. Each block of each datafile is read once, in a turn of its own,
+/// and each write of the DURING is made once, those of a thread in their order; how their turns interleave is free. The
+/// pieces have `now` at the start as their checkpoint. An error is want of memory; then nothing is said of the state
+/// and the edits.
+pub fn backup<G: Gate, R: Threads + Wait + Sync>(
+    rt: &R,
+    alloc: Global,
+    gate: &G,
+    channels: u32,
+    state: &mut State,
+    edits: &mut Vec<Edit>,
+    form: &BackupForm,
+) -> Result<Handed, NoMemory>
+    requires sound { IsSound state.old }
+    requires statement { IsStatement (Backup form.now) }
+    requires channels { (1 ≤ channels) × (channels ≤ 16) }
+    requires accepted { refusal_of state.old (Backup form.now) ≡ None }
+    ensures hands { IfOk result (λ x. (held : Option Held) → Hands held state.old (Backup form.now) x state.new) }
+    ensures edits { OnOk result (EditsFollow edits.old.items edits.new.items state.old.catalog state.new.catalog) }
+{
+    let checkpoint = now(state);
+    let tag = tag_of(alloc, form, state.catalog.base().moment)?;
+    let made = jobs(alloc, state, form)?;
+    let jobs = made.as_slice();
+    let work = run(rt, alloc, gate, channels, state, edits, form, jobs)?;
+    let rows = work.rows.as_slice();
+    let mut handed = record_all(alloc, state, edits, form, &tag, checkpoint, jobs, rows)?;
+    tell_none(&mut handed.lines)?;
+    tell_writes(&mut handed.lines, work.scns.as_slice())?;
+    Ok(handed)
+}

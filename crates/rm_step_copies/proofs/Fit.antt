@@ -1,0 +1,221 @@
+-- Whatever the store tells: a copy that changed can be recorded, since what it was made of has the fields of its records.
+use Rattle.std.proofs.Common.{◌≡◌, ◌≢◌, ◌==◌, ◌<◌, ◌≤◌, ◌-◌, ◌∙◌, inl, inr, ℕ, List, Option, Some, None, Bool, true, false, refl, ap, sym, subst, arith, get_or, length, slice_get, All, AllPairs, Contains}
+use Rattle.std.specs.Prelude.{IfSome}
+use Rattle.std.specs.Option.{option_map}
+use Rattle.std.proofs.lemmas.Bool.{eqb-true}
+use Rattle.std.proofs.lemmas.List.{get_or-map, length-map}
+use Rattle.std.proofs.lemmas.List.Elements.{All-contains, Contains-get_or}
+use Rattle.std.proofs.lemmas.Option.{same_Some}
+use Rattle.rm_base.specs.declared.kinds.Kind.{Kind}
+use Rattle.rm_base.specs.declared.kinds.Kind.TheVariants.{Full, Level0, Level1, Place}
+use Rattle.rm_base.proofs.Keyed.{same_item}
+use Rattle.rm_base.proofs.Lists.{find_cases}
+use Rattle.rm_base.proofs.Sealing.{length-sealed}
+use Rattle.rm_backup.specs.declared.renewing.Renewed.{Renewed}
+use Rattle.rm_backup.specs.Level1s.{IsReached, next}
+use Rattle.rm_backup.specs.Records.{pieces}
+use Rattle.rm_backup.specs.Renewed.{IsMerged, IsRenewed, TakesOver, copy_at}
+use Rattle.rm_backup.proofs.Chained.{reached_valid}
+use Rattle.rm_catalog.specs.declared.record.PieceEntry.{PieceEntry}
+use Rattle.rm_catalog.specs.declared.record.Record.{Record}
+use Rattle.rm_catalog.specs.Objects.{FitsKind, FitsRows, IsTag}
+use Rattle.rm_catalog.specs.Trees.{nodes}
+use Rattle.rm_evidence.specs.declared.evidence.Evidence.{Evidence}
+use Rattle.rm_evidence.specs.Known.{AreRecorded, FitsPiece, FitsTree, IsRecorded}
+use Rattle.rm_history.specs.declared.world.Datafile.{Datafile}
+use Rattle.rm_history.specs.Tree.{IsThere, IsTree, end_of, owner}
+use Rattle.rm_history.proofs.Highs.{high-least}
+use Rattle.rm_catalog_typed.specs.LedgerFacts.{IsPieceEntry}
+use Rattle.rm_merge.specs.Merge.{merged}
+use Rattle.rm_evidence.specs.Objects.{HasPieceFields}
+use Rattle.rm_evidence.proofs.DatabaseWorlds.{is-tree}
+use Rattle.rm_piece.specs.declared.piece.Piece.{Piece}
+use Rattle.rm_piece.specs.Spelling.{body_of}
+use Rattle.rm_piece.specs.Valid.{IsPiece}
+use Rattle.rm_piece.proofs.Bodies.{length-body}
+use Rattle.rm_piece.proofs.Fitting.{few_rows, fits as fits-piece}
+use Rattle.rm_catalog_typed.specs.TypedCatalog.{records_of}
+use Rattle.rm_catalog_typed.proofs.Members.{piece-in}
+use Rattle.rm_catalog_typed.proofs.Valid.{typed_catalog-valid}
+use Rattle.rm_machine.specs.Backup.{piece_entry}
+use Rattle.rm_machine.specs.RecoverCopy.{AreRenewed}
+use Rattle.rm_machine.specs.Sound.{IsSound}
+use Rattle.rm_machine.specs.declared.state.State.{State}
+use Rattle.rm_machine.specs.State.{ledger, tree}
+use Rattle.rm_machine_code.proofs.Standing.{each-in}
+use Rattle.rm_step_copies.specs.Fit.{AreFit, CanRecord, IsFit, IsShort}
+use Rattle.rm_machine_code.proofs.Merges.{EndsIn, IsLast, KeepsOn, last-merge, reached-keeps}
+use Rattle.rm_machine_code.proofs.Records.{database-told, pieces-told, tree-told}
+
+-- an image copy is no level 1
+copy-kind : (k : Kind) (p : PieceEntry) → FitsKind k p → p.copy ≡ true → k ≢ Level1
+copy-kind Level1 p is copy same = let clash : false ≡ true = sym is.0 ∙ copy in absurd (cc)
+copy-kind Full p is copy same = absurd (cc)
+copy-kind Level0 p is copy same = absurd (cc)
+copy-kind Place p is copy same = absurd is
+
+-- and so it has all blocks
+all-rows : (k : Kind) (n m : ℕ) → k ≢ Level1 → FitsRows k n m → n ≡ m
+all-rows Level1 n m other is = absurd (other refl)
+all-rows Full n m other is = is
+all-rows Level0 n m other is = is
+all-rows Place n m other is = is
+
+-- a copy that is found is one of those at hand, with this id
+copy-held : (bases : List (ℕ × Piece)) (id : ℕ) (a : Piece) → copy_at bases id ≡ Some a → Contains bases (id, a)
+copy-held bases id a is = elim (find_cases (λ (x : ℕ × Piece). x.0 == id) bases) [
+  | inl none ↦ let both : None ≡ Some a = sym (ap (λ (o : Option (ℕ × Piece)). option_map (λ x. x.1) o) none) ∙ is in absurd (cc)
+  | inr found ↦
+      let same = same_Some found.item.1 a (sym (ap (λ (o : Option (ℕ × Piece)). option_map (λ x. x.1) o) found.is) ∙ is) in
+      coe 0 1 (i. Contains bases (eqb-true found.item.0 id found.passes i, same i)) found.held
+]
+
+module _ (s : State) (e : Evidence) (sound : IsSound s) (fits : FitsTree (tree s) e) (bases : AreRecorded (records_of s.catalog) e) (level1s : All (IsRecorded (records_of s.catalog)) e.level1s) where
+  abbrev rs : List Record
+  rs = records_of s.catalog
+
+  rule-of : (p : PieceEntry) → Contains (ledger s).pieces p → IsPieceEntry (tree s) (ledger s).files p
+  rule-of p has = All-contains (IsPieceEntry (tree s) (ledger s).files) (ledger s).pieces p sound.catalog.ledger.pieces has
+
+  a-tree : IsTree (tree s)
+  a-tree = subst IsTree (tree-told s.catalog) (is-tree rs (typed_catalog-valid s.catalog sound.catalog) (database-told s.catalog))
+
+  -- the artefact is one of a record
+  record Told (a : Piece) : Type 0 where
+    entry : PieceEntry
+    there : Contains (ledger s).pieces entry
+    fields : HasPieceFields entry a
+    valid : IsPiece a
+
+  -- so it lies within the end of its incarnation
+  told-high : (a : Piece) → Told a → a.high ≤ end_of (tree s) a.inc
+  told-high a told =
+      let is = told.fields in
+      coe 1 0 (i. is.high i ≤ end_of (tree s) (is.inc i)) (rule-of told.entry told.there).high
+
+  -- each level 1 is one
+  level1-told : (x : ℕ × Piece) → Contains e.level1s x → Told x.1
+  level1-told x has =
+      let is = All-contains (IsRecorded rs) e.level1s x level1s has in
+      record {
+        entry = is.0;
+        there = piece-in s.catalog is.0 sound.catalog is.1;
+        fields = is.3;
+        valid = (All-contains (λ (y : ℕ × Piece). FitsPiece (tree s) y.1) e.level1s x fits.level1s has).valid;
+      }
+
+  level1-ends : (x : ℕ × Piece) → Contains e.level1s x → EndsIn (tree s) x.1
+  level1-ends x has = record { fits = All-contains (λ (y : ℕ × Piece). FitsPiece (tree s) y.1) e.level1s x fits.level1s has; high = told-high x.1 (level1-told x has) }
+
+  level1s-fit : All (λ y. FitsPiece (nodes rs) y.1) e.level1s
+  level1s-fit = subst (λ ns. All (λ (y : ℕ × Piece). FitsPiece ns y.1) e.level1s) (sym (tree-told s.catalog)) fits.level1s
+
+  -- what is found of a record's copy has its fields
+  copy-told : (p : PieceEntry) (a : Piece) → Contains (ledger s).pieces p → copy_at e.bases p.id ≡ Some a → HasPieceFields p a × IsPiece a
+  copy-told p a has is =
+      let held = copy-held e.bases p.id a is in
+      let some = (All-contains (λ (x : PieceEntry). (1 ≤ x.id) × (x.id < (ledger s).base.next_id)) (ledger s).pieces p sound.catalog.ledger.ids.pieces has).0 in
+      let found = All-contains (λ (y : ℕ × Piece). 0 < y.0 → IsRecorded rs y) e.bases (p.id, a) bases held some in
+      let same = same_item (λ (x : PieceEntry). x.id) (ledger s).pieces sound.catalog.ledger.ids.pieces_ascend found.0 p (piece-in s.catalog found.0 sound.catalog found.1) has found.2 in
+      (subst (λ (q : PieceEntry). HasPieceFields q a) same found.3, (All-contains (λ (y : ℕ × Piece). FitsPiece (tree s) y.1) e.bases (p.id, a) fits.bases held).valid)
+
+  module _ (tag : List ℕ) (at f : ℕ) (p : PieceEntry) (has : Contains (ledger s).pieces p) (copy : p.copy ≡ true) (tagged : p.tag ≡ tag) (now last : Piece) (fields : HasPieceFields p now) (whole : IsPiece now) (takes : TakesOver rs f tag at e.level1s now last) where
+    ends : IsLast rs f tag at e.level1s now last
+    ends = last-merge rs f tag at e.level1s now takes.first last takes.next takes.end.reached
+
+    abbrev a : Piece
+    a = merged ends.before ends.level1.1
+
+    reached : IsReached rs f tag at e.level1s now a
+    reached = next ends.before ends.level1 ends.reached ends.chosen
+
+    valid : IsPiece a
+    valid = reached_valid rs f tag at e.level1s now a level1s-fit whole reached
+
+    keeps : KeepsOn (tree s) now a
+    keeps = reached-keeps rs f tag at e.level1s (tree s) (tree-told s.catalog) a-tree (λ i there. (sound.catalog.ledger.incarnations.ranges i there).1) level1-ends now a level1s-fit whole
+        (told-high now (record { entry = p; there = has; fields = fields; valid = whole })) reached
+
+    own : Told ends.level1.1
+    own = level1-told ends.level1 ends.chosen.held
+
+    file-is : ends.before.file ≡ p.file
+    file-is = keeps.file ∙ fields.file
+
+    -- the datafile of the copy is that of the last level 1
+    one-datafile : (rule-of own.entry own.there).file.datafile ≡ (rule-of p has).file.datafile
+    one-datafile =
+        let last_file = (rule-of own.entry own.there).file in
+        let first = (rule-of p has).file in
+        let number : own.entry.file ≡ p.file = sym own.fields.file ∙ sym ends.chosen.passes.meets.file ∙ file-is in
+        same_Some last_file.datafile first.datafile (sym last_file.is ∙ ap (λ k. slice_get (ledger s).files (k - 1)) number ∙ first.is)
+
+    merged-entry : (keep : Bool) (moment id : ℕ) → IsPieceEntry (tree s) (ledger s).files (piece_entry true keep tag moment id a)
+    merged-entry keep moment id =
+        let first = rule-of p has in
+        let rule = rule-of own.entry own.there in
+        let inc = own.fields.inc in
+        let d : Datafile = first.file.datafile in
+        record {
+          there = subst (IsThere (tree s)) (sym inc) rule.there;
+          file = record {
+            number = subst (λ k. 0 < k) (sym file-is) first.file.number;
+            datafile = d;
+            is = subst (λ k. slice_get (ledger s).files (k - 1) ≡ Some d) (sym file-is) first.file.is;
+            path = ap (λ i. owner (tree s) i d.creation) inc ∙ coe 0 1 (i. owner (tree s) own.entry.inc (one-datafile i).creation ≡ (one-datafile i).inc) rule.file.path;
+            rows = keeps.rows ∙ fields.rows ∙ all-rows p.kind p.rows d.blocks (copy-kind p.kind p first.kind copy) first.file.rows;
+          };
+          checkpoint = (valid.checkpoint.0, high-least a.checkpoint a.rows);
+          high = keeps.high;
+          kind = refl;
+          tag = subst IsTag tagged first.tag;
+          size = omega (arith, length-body a (fits-piece a valid), length-sealed (body_of a), few_rows a valid);
+        }
+
+    can-record : CanRecord s tag last
+    can-record = subst (CanRecord s tag) ends.is (record { valid = valid; entry = merged-entry })
+
+  merges-fit : (tag : List ℕ) (at f : ℕ) (p : PieceEntry) (now o : Option Piece) → Contains (ledger s).pieces p → p.copy ≡ true → p.tag ≡ tag → copy_at e.bases p.id ≡ now → IsMerged rs f tag at e.level1s now o → IfSome o (CanRecord s tag)
+  merges-fit tag at f p now None has copy tagged is merges = tt
+  merges-fit tag at f p None (Some last) has copy tagged is merges = absurd merges
+  merges-fit tag at f p (Some a) (Some last) has copy tagged is merges =
+      let told = copy-told p a has is in
+      can-record tag at f p has copy tagged a last told.0 told.1 merges
+
+  taken-in : (p : PieceEntry) → Contains (pieces rs) p → Contains (ledger s).pieces p
+  taken-in p has = subst (λ ps. Contains ps p) (pieces-told s.catalog) has
+
+  module _ (tag : List ℕ) (at : ℕ) where
+    renewed-fit : (x : ℕ × Renewed) → IsRenewed rs e x.0 tag at x.1 → IsFit s tag x
+    renewed-fit x is =
+        let has = taken-in is.copy is.taken.held in
+        record {
+          there = (is.copy, has, sym is.id);
+          changed = merges-fit tag at x.0 is.copy (copy_at e.bases is.copy.id) x.1.merged has is.taken.passes.copy is.taken.passes.is refl is.merged;
+        }
+
+    -- copies of two datafiles have two records
+    renewed-apart : (xs : List (ℕ × Renewed)) → AreRenewed s e tag at xs → AllPairs (λ x y. x.1.id ≢ y.1.id) xs
+    renewed-apart xs are i j d less inside same =
+        let x : ℕ × Renewed = get_or xs i d in
+        let y : ℕ × Renewed = get_or xs j d in
+        let before : i < length xs = omega (arith, less, inside) in
+        let first = are.each x (Contains-get_or xs i d before) in
+        let second = are.each y (Contains-get_or xs j d inside) in
+        let one = same_item (λ (p : PieceEntry). p.id) (ledger s).pieces sound.catalog.ledger.ids.pieces_ascend first.copy second.copy (taken-in first.copy first.taken.held) (taken-in second.copy second.taken.held) (sym first.id ∙ same ∙ second.id) in
+        let files : x.0 ≡ y.0 = sym first.taken.passes.on.file ∙ ap (λ (p : PieceEntry). p.file) one ∙ second.taken.passes.on.file in
+        let up = are.exact.ascends i j d.0 less (omega (arith, length-map xs (λ (z : ℕ × Renewed). z.0), inside)) in
+        let low = get_or-map (λ (z : ℕ × Renewed). z.0) xs i d d.0 before in
+        let high = get_or-map (λ (z : ℕ × Renewed). z.0) xs j d d.0 inside in
+        absurd (omega (arith, up, low, high, files))
+
+    pub all-fit : (xs : List (ℕ × Renewed)) → AreRenewed s e tag at xs → AreFit s tag xs
+    all-fit xs are = record { each = each-in (IsFit s tag) xs (λ x has. renewed-fit x (are.each x has)); apart = renewed-apart xs are }
+
+-- a copy that can be recorded is short
+short-by : (s : State) (tag : List ℕ) (o : Option Piece) → IfSome o (CanRecord s tag) → IfSome o (λ last. length last.rows ≤ 65536)
+short-by s tag None can = tt
+short-by s tag (Some last) can = omega (arith, few_rows last can.valid)
+
+pub all-short : (s : State) (tag : List ℕ) (xs : List (ℕ × Renewed)) → AreFit s tag xs → All IsShort xs
+all-short s tag xs fit = each-in IsShort xs (λ x has. short-by s tag x.1.merged (All-contains (IsFit s tag) xs x fit.each has).changed)

@@ -1,0 +1,70 @@
+-- Of the skipped records those of a copy or a level 1 with the tag.
+use Rattle.std.proofs.Common.{◌≡◌, ◌<◌, ◌∙◌, ◌==◌, inl, inr, ℕ, List, [], Some, true, false, refl, ap, sym, subst, eq-eqb, filter, Contains}
+use Rattle.std.specs.Option.{option_map_or}
+use Rattle.std.proofs.lemmas.Bool.{eqb-true}
+use Rattle.std.proofs.lemmas.List.Kept.{AllPairs-filter}
+use Rattle.rm_base.specs.Store.{Held}
+use Rattle.rm_base.specs.declared.kinds.Bad.{Bad}
+use Rattle.rm_base.proofs.Keyed.{same_item}
+use Rattle.rm_base.proofs.Lists.{filter_from, filter_to, find_cases, find_none, map_from, map_to}
+use Rattle.rm_catalog.specs.declared.record.LogEntry.{LogEntry}
+use Rattle.rm_catalog.specs.declared.record.PieceEntry.{PieceEntry}
+use Rattle.rm_catalog.specs.declared.record.Record.TheVariants.{Log, Piece}
+use Rattle.rm_evidence.specs.Available.{IsSkipped, a_log, a_piece}
+use Rattle.rm_evidence.specs.Gathered.{Lists}
+use Rattle.rm_machine.specs.RecoverCopy.{for_copies, is_for_copies}
+use Rattle.rm_machine.specs.Sound.{IsSound}
+use Rattle.rm_machine.specs.Upkeep.{piece_at}
+use Rattle.rm_machine.specs.declared.state.State.{State}
+use Rattle.rm_machine.specs.State.{ledger}
+use Rattle.rm_catalog_typed.specs.TypedCatalog.{records_of}
+use Rattle.rm_catalog_typed.proofs.Members.{log-in, piece-has, piece-in}
+use Rattle.rm_step_copies.specs.Skipped.{is_of_copies}
+
+module _ (s : State) (tag : List ℕ) (held : Held) (sound : IsSound s) where
+  abbrev ps : List PieceEntry
+  ps = (ledger s).pieces
+
+  -- a record is found by its id
+  found-at : (p : PieceEntry) → Contains ps p → piece_at s.catalog p.id ≡ Some p
+  found-at p has = elim (find_cases (λ (q : PieceEntry). q.id == p.id) ps) [
+    | inl none ↦ absurd (find_none (λ (q : PieceEntry). q.id == p.id) ps p none has (eq-eqb p.id p.id refl))
+    | inr found ↦ found.is ∙ ap Some (same_item (λ (q : PieceEntry). q.id) ps sound.catalog.ledger.ids.pieces_ascend found.item p found.held has (eqb-true found.item.id p.id found.passes))
+  ]
+
+  of-piece : (p : PieceEntry) → Contains ps p → is_of_copies s tag p.id ≡ is_for_copies tag p
+  of-piece p has = ap (λ o. option_map_or (is_for_copies tag) o false) (found-at p has)
+
+  -- a log's record is none of them
+  of-log : (l : LogEntry) → Contains (ledger s).logs l → is_of_copies s tag l.id ≡ false
+  of-log l has = elim (find_cases (λ (q : PieceEntry). q.id == l.id) ps) [
+    | inl none ↦ ap (λ o. option_map_or (is_for_copies tag) o false) none
+    | inr found ↦ absurd (sound.catalog.ledger.ids.apart l found.item has found.held (sym (eqb-true found.item.id l.id found.passes)))
+  ]
+
+  to-copies : (id : ℕ) (bad : Bad) → IsSkipped held (records_of s.catalog) id bad → is_of_copies s tag id ≡ true → IsSkipped held (for_copies s tag) id bad
+  to-copies _ _ (a_log l bad has status told) is = absurd (let clash : false ≡ true = sym (of-log l (log-in s.catalog l sound.catalog has)) ∙ is in cc)
+  to-copies _ _ (a_piece p bad has status told) is =
+      let there = piece-in s.catalog p sound.catalog has in
+      a_piece p bad (map_to Piece (filter (is_for_copies tag) ps) p (filter_to (is_for_copies tag) ps p there (sym (of-piece p there) ∙ is))) status told
+
+  from-copies : (id : ℕ) (bad : Bad) → IsSkipped held (for_copies s tag) id bad → IsSkipped held (records_of s.catalog) id bad × (is_of_copies s tag id ≡ true)
+  from-copies _ _ (a_log l bad has status told) =
+      let row = map_from Piece (filter (is_for_copies tag) ps) (Log l) has in
+      absurd (let clash : Piece row.item ≡ Log l = row.is in cc)
+  from-copies _ _ (a_piece p bad has status told) =
+      let row = map_from Piece (filter (is_for_copies tag) ps) (Piece p) has in
+      let same : row.item ≡ p = (let one : Piece row.item ≡ Piece p = row.is in cc) in
+      let is = filter_from (is_for_copies tag) ps p (subst (Contains (filter (is_for_copies tag) ps)) same row.held) in
+      (a_piece p bad (piece-has s.catalog p is.0) status told, of-piece p is.0 ∙ is.1)
+
+  pub skipped-of : (all : List (ℕ × Bad)) → Lists Bad [] (IsSkipped held (records_of s.catalog)) all → Lists Bad [] (IsSkipped held (for_copies s tag)) (filter (λ x. is_of_copies s tag x.0) all)
+  skipped-of all are = record {
+    rest = filter (λ (x : ℕ × Bad). is_of_copies s tag x.0) are.rest;
+    list = ap (λ (xs : List (ℕ × Bad)). filter (λ x. is_of_copies s tag x.0) xs) are.list;
+    ascends = AllPairs-filter (λ (x y : ℕ × Bad). x.0 < y.0) (λ (x : ℕ × Bad). is_of_copies s tag x.0) are.rest are.ascends;
+    exact = λ id bad. (
+      (λ has. let was = filter_from (λ (x : ℕ × Bad). is_of_copies s tag x.0) are.rest (id, bad) has in to-copies id bad ((are.exact id bad).0 was.0) was.1),
+      (λ is. let was = from-copies id bad is in filter_to (λ (x : ℕ × Bad). is_of_copies s tag x.0) are.rest (id, bad) ((are.exact id bad).1 was.0) was.1),
+    );
+  }

@@ -1,0 +1,5 @@
+pub mod Accepted
+pub mod Archiving
+pub mod Places
+pub mod Spaces
+pub mod Turns

@@ -1,0 +1,17 @@
+use Rattle.std.proofs.Common.{rules, refl}
+use Rattle.rm_lang_statement.specs.declared.command.Command.TheVariants.{ResetDatabase}
+use Rattle.rm_report.specs.declared.line.Line.TheVariants.{Chosen}
+use Rattle.std.specs.Prelude.{[], ◌∷◌}
+use Rattle.rm_machine.specs.Effect.{no_effect}
+use Rattle.rm_machine.specs.ResetDatabase.{at_incarnation}
+use Rattle.rm_machine.specs.declared.state.State.{State}
+use Rattle.rm_machine_code.proofs.Handing.{hands-by}
+use Rattle.rm_step_open.proofs.resetting.reset_database.Goals as goal
+
+pub returns-clause-hands : goal.returns-clause-hands
+returns-clause-hands c held =
+    let s : State = c.args.state.now in
+    let i = c.args.inc in
+    hands-by held s (ResetDatabase i) c.in_ok-handed.handed _ (Chosen i ∷ []) no_effect (at_incarnation s i) (λ objects tells. refl)
+    c.in_ok-handed.ensures.lines c.in_ok-handed.ensures.objects c.in_ok-handed.ensures.removes
+    (search rules)

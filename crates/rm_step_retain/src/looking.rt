@@ -1,0 +1,79 @@
+//! What the policy goes by: the records, what is at hand of them, and where its window starts.
+ghost use Rattle.std.specs.Prelude.{◌≡◌, ◌≤◌, IfOk, IfSome, IsErrOf};
+ghost use Rattle.rm_base.specs.Outside.{Rose};
+ghost use Rattle.rm_machine.specs.Obsolete.{start_by};
+ghost use Rattle.rm_machine.specs.Recovery.{IsAtHand};
+ghost use Rattle.rm_machine.specs.Sound.{IsSound};
+ghost use Rattle.rm_catalog_typed.specs.TypedCatalog.{records_of};
+ghost use Rattle.rm_retain.specs.Catalogued.{copies_in};
+ghost use Rattle.rm_retain.specs.Chosen.{AscendById};
+
+use rm_base::{Policy, Scn, Seq, Store};
+use rm_catalog::Catalog as Records;
+use rm_evidence::{Evidence, EvidenceFault, gather};
+use rm_machine::State;
+use rm_machine_code::hand::at_hand;
+use rm_retain::{do_ascend, window_start};
+use std::alloc::Global;
+
+/// The records of a catalog, and the artefacts at hand.
+#[derive(Drop)]
+pub(crate) struct Looked {
+    pub records: Records,
+    pub evidence: Evidence,
+}
+
+// The same artefacts where the copies among them ascend by id, as those do that come from a store that tells what it
+// holds. Else those without copies.
+fn in_order(alloc: Global, evidence: Evidence) -> Evidence
+    ensures ascend { AscendById (copies_in result) }
+    ensures same { AscendById (copies_in evidence) → result ≡ evidence }
+{
+    if do_ascend(&evidence) {
+        return evidence;
+    }
+    Evidence {
+        bases: Seq::new(alloc),
+        level1s: evidence.level1s,
+        logs: evidence.logs,
+        skipped: evidence.skipped,
+    }
+}
+
+/// The records, and what is at hand of those that count as available: its copies ascend by id. An error is a fault of the
+/// store, which is counted, or want of memory.
+pub(crate) fn look<D: Store>(
+    alloc: Global,
+    state: &State,
+    store: &mut D,
+) -> Result<Looked, EvidenceFault>
+    requires sound { IsSound state.now }
+    ensures records { IfOk result (λ x. x.records ≡ records_of state.now.catalog) }
+    ensures at_hand { IfOk result (λ x. IfSome (D.held store.old) (λ held. IsAtHand state.now held x.evidence)) }
+    ensures ascend { IfOk result (λ x. AscendById (copies_in x.evidence)) }
+    ensures same { D.held store.new ≡ D.held store.old }
+    ensures failed { IsErrOf result EvidenceFault.StoreFault → Rose (D.faults store.old) (D.faults store.new) }
+    ensures never_falls { D.faults store.old ≤ D.faults store.new }
+{
+    let hand = at_hand(alloc, state)?;
+    let evidence = gather(alloc, &hand.records, store, &hand.place)?;
+    Ok(Looked {
+        records: hand.records,
+        evidence: in_order(alloc, evidence),
+    })
+}
+
+/// The SCN at which the window of the policy starts: 0 for a policy without one.
+pub(crate) fn start_by(state: &State, policy: Policy) -> Scn
+    requires sound { IsSound state.now }
+    ensures { result ≡ start_by state.now policy }
+{
+    match policy {
+        Policy::Window(days) => {
+            let base = state.catalog.base();
+            let (tree, marks) = (state.catalog.tree(), state.catalog.marks());
+            window_start(tree, base.current, days, base.moment, marks).unwrap_or(0)
+        }
+        Policy::Redundancy(_) | Policy::Nothing => 0,
+    }
+}

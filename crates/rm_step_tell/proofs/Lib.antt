@@ -1,0 +1,7 @@
+pub mod Dates
+pub mod Dumped
+pub mod Few
+pub mod IncarnationLines
+pub mod Listed
+pub mod Picked
+pub mod Validated

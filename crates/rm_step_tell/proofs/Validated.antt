@@ -1,0 +1,65 @@
+-- What is told of the records whose objects can't be used.
+use Rattle.std.proofs.Common.{◌≡◌, ◌∙◌, ◌<◌, ◌≤◌, ◌^◌, ◌++◌, ℕ, List, [], ◌∷◌, Option, All, length, map, ap, sym, subst, arith}
+use Rattle.std.specs.Prelude.{IfSome}
+use Rattle.std.proofs.lemmas.List.Elements.{All-append, All-cons, All-contains, All-map, All-nil}
+use Rattle.rm_base.specs.Store.{Held}
+use Rattle.rm_base.specs.declared.kinds.Bad.{Bad}
+use Rattle.rm_catalog.specs.declared.record.LogEntry.{LogEntry}
+use Rattle.rm_catalog.specs.declared.record.PieceEntry.{PieceEntry}
+use Rattle.rm_catalog.specs.declared.record.Record.{Record}
+use Rattle.rm_evidence.specs.Available.{IsSkipped, a_log, a_piece}
+use Rattle.rm_evidence.specs.Gathered.{Lists}
+use Rattle.rm_report.specs.Reply.{LineHasDate}
+use Rattle.rm_report.specs.declared.line.Line.{Line}
+use Rattle.rm_report.specs.declared.line.Line.TheVariants.{BadOf, Checked}
+use Rattle.rm_catalog_typed.specs.TypedCatalog.{records_of}
+use Rattle.rm_catalog_typed.proofs.Members.{log-in, piece-in}
+use Rattle.rm_lang_statement.specs.declared.command.Command.TheVariants.{ValidateAll}
+use Rattle.rm_machine.specs.Effect.{told}
+use Rattle.rm_machine.specs.Hands.{Tells}
+use Rattle.rm_machine.specs.Sound.{IsSound}
+use Rattle.rm_machine.specs.State.{ledger}
+use Rattle.rm_machine.specs.Validate.{count_available}
+use Rattle.rm_machine.specs.declared.state.State.{State}
+use Rattle.rm_step_tell.proofs.Few.{few}
+
+-- the lines
+abbrev pub bad_lines : List (ℕ × Bad) → List Line
+bad_lines bad = map (λ x. BadOf x.0 x.1) bad
+
+-- once they are counted
+pub with-count : (bad seen : List (ℕ × Bad)) (before lines : List Line) (count n : ℕ) → seen ≡ bad → before ≡ bad_lines seen → lines ≡ before ++ Checked count n ∷ [] → lines ≡ bad_lines bad ++ Checked count n ∷ []
+with-count bad seen before lines count n same first is = is ∙ ap (λ (xs : List Line). xs ++ Checked count n ∷ []) (first ∙ ap bad_lines same)
+
+-- none has a moment
+pub validated-dated : (lines : List Line) (bad : List (ℕ × Bad)) (count n : ℕ) → lines ≡ bad_lines bad ++ Checked count n ∷ [] → All LineHasDate lines
+validated-dated lines bad count n is =
+    subst (All LineHasDate) (sym is)
+    (All-append LineHasDate (bad_lines bad) (Checked count n ∷ []) (All-map LineHasDate (λ (x : ℕ × Bad). BadOf x.0 x.1) bad (λ k d inside. tt)) (All-cons LineHasDate (Checked count n) [] tt (All-nil LineHasDate)))
+
+module _ (s : State) (sound : IsSound s) where
+  -- the id of a record that is bad is below the next one
+  bad-below : (held : Held) (id : ℕ) (bad : Bad) → IsSkipped held (records_of s.catalog) id bad → id < (ledger s).base.next_id
+  bad-below held _ _ (a_log l bad has status is) = (All-contains (λ (e : LogEntry). (1 ≤ e.id) × (e.id < (ledger s).base.next_id)) (ledger s).logs l sound.catalog.ledger.ids.logs (log-in s.catalog l sound.catalog has)).1
+  bad-below held _ _ (a_piece p bad has status is) = (All-contains (λ (e : PieceEntry). (1 ≤ e.id) × (e.id < (ledger s).base.next_id)) (ledger s).pieces p sound.catalog.ledger.ids.pieces (piece-in s.catalog p sound.catalog has)).1
+
+  -- so they can be counted
+  few-bad : (held : Held) (bad : List (ℕ × Bad)) → Lists Bad [] (IsSkipped held (records_of s.catalog)) bad → length bad < 2 ^ 32
+  few-bad held bad lists =
+      let most = few lists.rest (ledger s).base.next_id lists.ascends (λ x has. bad-below held x.0 x.1 ((lists.exact x.0 x.1).0 has)) in
+      let same = ap length lists.list in
+      let top = sound.catalog.ledger.base.next_id.1 in
+      omega (arith, most, same, top)
+
+  pub validated : (held : Option Held) (rs : List Record) (bad : List (ℕ × Bad)) (count n : ℕ) (lines : List Line) → rs ≡ records_of s.catalog → IfSome held (λ h. Lists Bad [] (IsSkipped h rs) bad) → count ≡ count_available (ledger s) → (length bad < 2 ^ 32 → n ≡ length bad)
+      → lines ≡ bad_lines bad ++ Checked count n ∷ [] → Tells held s ValidateAll lines
+  validated held rs bad count n lines same lists counted all is =
+      λ objects some.
+      let here : Lists Bad [] (IsSkipped objects rs) bad = subst (λ (o : Option Held). IfSome o (λ h. Lists Bad [] (IsSkipped h rs) bad)) some lists in
+      let exact : Lists Bad [] (IsSkipped objects (records_of s.catalog)) bad = subst (λ (xs : List Record). Lists Bad [] (IsSkipped objects xs) bad) same here in
+      let number : n ≡ length bad = all (few-bad objects bad exact) in
+      record {
+        bad = bad;
+        lists = exact;
+        is = ap told (is ∙ ap (λ (m : ℕ). bad_lines bad ++ Checked m n ∷ []) counted ∙ ap (λ (m : ℕ). bad_lines bad ++ Checked (count_available (ledger s)) m ∷ []) number);
+      }

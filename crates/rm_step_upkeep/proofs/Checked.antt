@@ -1,0 +1,46 @@
+-- What a crosscheck hands out.
+use Rattle.std.proofs.Common.{◌≡◌, ℕ, List, [], ◌∷◌, Option, Some, None, refl, sym, subst, map, All}
+use Rattle.std.specs.Prelude.{IfSome}
+use Rattle.std.proofs.lemmas.List.Elements.{All-cons, All-nil}
+use Rattle.std.proofs.lemmas.Option.{same_Some}
+use Rattle.rm_base.specs.Store.{Held}
+use Rattle.rm_base.specs.declared.kinds.Class.{Class}
+use Rattle.rm_base.specs.declared.kinds.Status.{Status}
+use Rattle.rm_catalog.specs.declared.record.Record.{Record}
+use Rattle.rm_evidence.specs.Gathered.{Lists}
+use Rattle.rm_report.specs.Reply.{LineHasDate}
+use Rattle.rm_report.specs.declared.line.Line.{Line}
+use Rattle.rm_catalog_typed.specs.TypedCatalog.{records_of}
+use Rattle.rm_lang_statement.specs.declared.command.Command.TheVariants.{Crosscheck}
+use Rattle.rm_verify.specs.Crosscheck.{IsChecked, stands_in}
+use Rattle.rm_machine.specs.Effect.{no_effect}
+use Rattle.rm_machine.specs.Hands.{Hands}
+use Rattle.rm_machine.specs.Upkeep.{with_catalog, with_statuses}
+use Rattle.rm_machine.specs.declared.handed.Handed.{Handed}
+use Rattle.rm_machine.specs.declared.state.State.{State}
+use Rattle.rm_machine_code.proofs.Handing.{hands-by}
+use Rattle.rm_step_upkeep.specs.Lines.{status_line}
+
+-- none of its lines is a refusal
+dated : (xs : List (ℕ × Status)) → All LineHasDate (map status_line xs)
+dated [] = All-nil LineHasDate
+dated (x ∷ xs) = All-cons LineHasDate (status_line x) (map status_line xs) tt (dated xs)
+
+pub checked-dated : (xs : List (ℕ × Status)) (lines : List Line) → lines ≡ map status_line xs → All LineHasDate lines
+checked-dated xs lines is = subst (All LineHasDate) (sym is) (dated xs)
+
+-- the statuses that a store that tells gives
+abbrev pub AreChecked : State → Class → List (ℕ × Status) → Held → Type 0
+AreChecked s class list h = Lists Status [] (IsChecked (stands_in h) (records_of s.catalog) class) list
+
+told : (held : Option Held) (s : State) (class : Class) (list : List (ℕ × Status)) → IfSome held (AreChecked s class list) → (objects : Held) → held ≡ Some objects → AreChecked s class list objects
+told None s class list are objects tells = absurd cc
+told (Some h) s class list are objects tells = subst (AreChecked s class list) (same_Some h objects tells) are
+
+pub checked-hands : (held : Option Held) (s : State) (class : Class) (x : Handed) (t : State) (list : List (ℕ × Status)) (rs : List Record)
+    → rs ≡ records_of s.catalog → IfSome held (λ h. Lists Status [] (IsChecked (stands_in h) rs class) list) → x.lines ≡ map status_line list → x.objects ≡ [] → x.removes ≡ []
+    → t ≡ with_catalog s (with_statuses list s.catalog) → Hands held s (Crosscheck class) x t
+checked-hands held s class x t list rs all are lines objects removes is =
+    let there = subst (λ (k : List Record). IfSome held (λ h. Lists Status [] (IsChecked (stands_in h) k class) list)) all are in
+    hands-by held s (Crosscheck class) x t (map status_line list) no_effect (with_catalog s (with_statuses list s.catalog))
+    (λ objects tells. record { checked = list; lists = told held s class list there objects tells; is = refl }) lines objects removes is

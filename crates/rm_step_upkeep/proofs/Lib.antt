@@ -1,0 +1,4 @@
+pub mod Checked
+pub mod Fits
+pub mod Known
+pub mod Listed

@@ -1,0 +1,22 @@
+-- What a statement changes of the record of a log or a piece.
+use Rattle.std.specs.Prelude.{ℕ}
+use Rattle.rm_catalog.specs.declared.record.LogEntry.{LogEntry}
+use Rattle.rm_catalog.specs.declared.record.PieceEntry.{PieceEntry}
+use Rattle.rm_machine.specs.Upkeep.{log_changed, piece_changed}
+use Rattle.rm_catalog_typed.specs.TypedCatalog.{TypedCatalog}
+use Rattle.rm_step_upkeep.specs.declared.amending.Amendment.{Amendment}
+use Rattle.rm_step_upkeep.specs.declared.amending.Amendment.TheVariants.{Keep, Status}
+
+-- the log, changed so
+abbrev pub log_by : Amendment → LogEntry → LogEntry
+log_by (Status st) e = record e { status = st }
+log_by (Keep keep) e = record e { keep = keep }
+
+-- the piece, changed so
+abbrev pub piece_by : Amendment → PieceEntry → PieceEntry
+piece_by (Status st) p = record p { status = st }
+piece_by (Keep keep) p = record p { keep = keep }
+
+-- the catalog where the record of this id is changed so
+abbrev pub amended : Amendment → ℕ → TypedCatalog → TypedCatalog
+amended a n r = piece_changed (piece_by a) n (log_changed (log_by a) n r)

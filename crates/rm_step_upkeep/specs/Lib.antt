@@ -1,0 +1,3 @@
+pub mod Amended
+pub mod Expired
+pub mod Lines

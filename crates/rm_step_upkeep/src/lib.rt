@@ -1,0 +1,20 @@
+//! The upkeep of records: CHANGE BACKUP, DELETE BACKUP, DELETE EXPIRED and CROSSCHECK; and the settings of a database:
+//! CONFIGURE RETENTION POLICY, and CONFIGURE DEVICE TYPE DISK PARALLELISM.
+#![tactic(auto)]
+
+mod amending;
+mod changing;
+mod crosschecking;
+mod deleting;
+mod expiring;
+mod parallelism;
+mod refusing;
+mod retention;
+
+pub use changing::change_backup;
+pub use crosschecking::crosscheck;
+pub use deleting::delete_backup;
+pub use expiring::delete_expired;
+pub use parallelism::{configure_parallelism, parallelism_refusal};
+pub use refusing::record_refusal;
+pub use retention::{configure_retention, retention_refusal};

@@ -1,0 +1,41 @@
+use Rattle.std.proofs.Common.{◌<◌, ◌-◌, ◌∙◌, List, [], ◌∷◌, Option, None, ap, refl, sym, subst, slice_get, slice_index_or}
+use Rattle.std.specs.Prelude.{IfSome}
+use Rattle.rm_base.specs.declared.block.Change.{Change}
+use Rattle.rm_blocks.specs.File.{File}
+use Rattle.rm_lang_statement.specs.declared.command.Command.TheVariants.{Write}
+use Rattle.rm_machine.specs.Effect.{no_effect}
+use Rattle.rm_machine.specs.declared.state.Instance.{Instance}
+use Rattle.rm_machine.specs.declared.state.State.{State}
+use Rattle.rm_machine.specs.State.{now_of}
+use Rattle.rm_machine.specs.Write.{change_of, with_write}
+use Rattle.rm_machine_code.proofs.Handing.{hands-by}
+use Rattle.rm_machine_code.proofs.Writes.{write-accepted}
+use Rattle.rm_report.specs.declared.line.Line.TheVariants.{Written}
+use Rattle.rm_step_write.proofs.Accepted.{rows-below}
+use Rattle.rm_step_write.proofs.Results.{after-write}
+use Rattle.rm_step_write.proofs.writing.write.Goals as goal
+
+abbrev IsAbove : List (Option File) → Change → Type 0
+IsAbove place c = IfSome (slice_index_or place (c.file - 1) None) (λ x. IfSome (slice_get x.rows c.block) (λ r. r.version < c.scn))
+
+pub put_row-requires-clause-above : goal.put_row-requires-clause-above
+put_row-requires-clause-above c =
+    let s : State = c.args.state.now in
+    let w = c.args.form.now in
+    let a = write-accepted s w c.requires.sound c.requires.accepted in
+    let place = c.into_vec-place.ensures ∙ c.replace.ensures.value ∙ ap (λ (x : Instance). x.place) c.in_ok-go_further.ensures.instance in
+    subst (IsAbove c.into_vec-place.result.items) (sym c.change_of-change.ensures)
+    (subst (λ p. IsAbove p (change_of s w)) (sym place) (rows-below s w.file w.block c.requires.sound a.on.opened))
+
+pub returns-clause-hands : goal.returns-clause-hands
+returns-clause-hands c held =
+    let s : State = c.args.state.now in
+    let w = c.args.form.now in
+    let change = c.change_of-change.ensures in
+    hands-by held s (Write w) _ _ (Written (now_of s) ∷ []) (record no_effect { changes = change_of s w ∷ [] }) (with_write s w)
+    (λ objects tells. refl)
+    (c.in_ok-handed.ensures.lines ∙ ap (λ (x : Change). Written x.scn ∷ []) change)
+    c.in_ok-handed.ensures.objects
+    c.in_ok-handed.ensures.removes
+    (after-write s c.go_further.new.state w c.change_of-change.result c.append.new.self c.into_vec-place.result.items c.from_vec.result
+    change c.in_ok-go_further.ensures.catalog c.in_ok-go_further.ensures.instance c.in-Ok.ensures.ok (c.into_vec-place.ensures ∙ c.replace.ensures.value) (c.from_vec.ensures ∙ c.put_row.ensures))

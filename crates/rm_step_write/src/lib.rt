@@ -1,0 +1,9 @@
+//! The statements that write into the database: WRITE and CREATE DATAFILE.
+#![tactic(auto)]
+
+mod creating;
+mod further;
+mod writing;
+
+pub use creating::{create_datafile, datafile_refusal};
+pub use writing::{write, write_refusal};

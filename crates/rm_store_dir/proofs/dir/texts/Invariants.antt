@@ -1,0 +1,6 @@
+use Rattle.std.proofs.Common.{◌≡◌, map}
+use Rattle.std.specs.String.{string_bytes}
+use Rattle.rm_store_dir.proofs.dir.texts.Given as goal
+
+abbrev pub invariant-loop-name : goal.invariant-loop-name
+invariant-loop-name l = l.texts.items ≡ map (λ name. string_bytes name.now) l.yielded

@@ -1,9 +1,0 @@
-use Rattle.std.proofs.Common.{ℕ, List, sym, subst}
-use Rattle.rm_token.specs.declared.token.Token.{Token}
-use Rattle.rm_token.specs.Pieces.{Spelled}
-use Rattle.rm_token.proofs.OneSpelling.{spelled-only}
-use Rattle.rm_token.proofs.Spelled.{tokens-Spelled}
-use Rattle.rm_token.proofs.laws.a_script_is_its_pieces.Goals as goal
-
-pub returns : goal.returns
-returns c = λ script ts. (spelled-only 1 script ts, λ same. subst (λ (xs : List (ℕ × Token)). Spelled 1 script xs) (sym same) (tokens-Spelled script))

@@ -1,9 +1,0 @@
-use Rattle.std.proofs.Common.{ℕ, List, sym, subst}
-use Rattle.rm_token.specs.declared.token.Token.{Token}
-use Rattle.rm_token.specs.Cuts.{Cuts}
-use Rattle.rm_token.specs.Tokens.{tokens}
-use Rattle.rm_token.proofs.Cutting.{cut-Cuts, cuts-only}
-use Rattle.rm_token.proofs.laws.statements_are_cut_at_their_endings.Goals as goal
-
-pub returns : goal.returns
-returns c = λ script ss. (λ cut. cuts-only (tokens script) ss cut 1, λ same. subst (λ (xs : List (ℕ × List Token)). Cuts (tokens script) xs) (sym same) (cut-Cuts (tokens script)))

@@ -1,7 +1,0 @@
--- What the splitter of a script holds.
-use Rattle.rm_token.specs.declared.split.Splitter.{Splitter}
-use Rattle.rm_token.specs.Statements.{Begun}
-
--- the statement that has begun
-abbrev pub begun_of : Splitter → Begun
-begun_of s = record { front = s.front.items; line = s.line; depth = s.depth }

@@ -1,4 +1,0 @@
-pub mod Amended
-pub mod Expired
-pub mod Lines
-pub mod Logs
