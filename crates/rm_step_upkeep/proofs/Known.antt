@@ -16,9 +16,9 @@ module _ (r : TypedCatalog) (rules : IsTypedCatalog r) where
   -- what is there has such an id
   pub known-id : (n : ℕ) → is_unknown r n ≡ false → IsId n
   known-id n known = elim (find_cases (λ (e : LogEntry). e.id == n) r.ledger.logs) [
-    | inr found ↦ subst IsId (eqb-true found.item.id n found.passes) (log-id found.item found.held)
+    | inr found ↦ subst IsId (eqb-true found.item.id n found.passes) (log-id r rules found.item found.held)
     | inl no_log ↦ elim (find_cases (λ (p : PieceEntry). p.id == n) r.ledger.pieces) [
-      | inr found ↦ subst IsId (eqb-true found.item.id n found.passes) (piece-id found.item found.held)
+      | inr found ↦ subst IsId (eqb-true found.item.id n found.passes) (piece-id r rules found.item found.held)
       | inl no_piece ↦ absurd (let none : is_unknown r n ≡ true = ap (λ o. is_none o && is_none (piece_at r n)) no_log ∙ ap is_none no_piece in cc)
     ]
   ]
