@@ -157,10 +157,10 @@ took=$(($(shortest "$room/expired") - show))
 same "$wanted" "$(sqlite3 "$place/catalog" "SELECT id, hex(body) FROM record WHERE $left;" | sha256sum)"
 echo "drops: 1000 of 16000 logs deleted in $took us, by sqlite3 $bare us, $(percent "$took" "$bare"); the opening $((show - few)) us"
 
-# A log takes 65,536 changes and no more, and after a switch it takes more.
+# A log takes 65,536 changes and no more, and after a switch it takes more. (The parts of the saved site have the ids 1 and 2.)
 begin
 (writes 65537 && echo 'ALTER SYSTEM SWITCH LOGFILE;' && writes 1) | run > "$room/out" || true
 same 'RM-11: limit log records 65536
-log 1 thread 1 sequence 1 first 1 next 65538
+log 3 thread 1 sequence 1 first 1 next 65538
 scn 65538' "$(tail -n 3 "$room/out")"
 echo 'a log: 65536 changes fill it'
