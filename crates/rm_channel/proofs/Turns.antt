@@ -1,6 +1,6 @@
 -- One turn of each worker's loop, and its end.
 use mathlib.Core.List.{map-append}
-use Rattle.std.proofs.Common.{◌≡◌, ℕ, ◌+◌, ◌-◌, ◌<◌, Option, Some, None, Result, Vec, List, [], ◌∷◌, ◌++◌, length, map, take, drop, get_or, sym, ap, ◌∙◌, subst, arith, append-nil, append_assoc, take-append-drop, IsErr, Ok, Err}
+use Rattle.std.proofs.Common.{◌≡◌, ℕ, ◌+◌, ◌-◌, ◌<◌, ◌≤◌, Option, Some, None, Result, Vec, List, [], ◌∷◌, ◌++◌, length, map, take, drop, get_or, refl, sym, ap, ◌∙◌, subst, arith, append-nil, append_assoc, length-append, take-append-drop, IsErr, Ok, Err}
 use Rattle.std.proofs.lemmas.List.{length-map}
 use Rattle.std.specs.Option.{option_map}
 use Rattle.std.specs.Result.{result_ok}
@@ -16,7 +16,7 @@ use Rattle.rm_live.specs.Passes.{Standing, IsLater}
 use Rattle.rm_channel.specs.declared.jobs.CopyJob.{CopyJob}
 use Rattle.rm_channel.specs.declared.jobs.WriteJob.{WriteJob}
 use Rattle.rm_channel.specs.Jobs.{Deed, Span, AreRows, blocks_in, found, found_of, lists, reads, reads_of, writes, wrote}
-use Rattle.rm_channel.specs.Made.{Did, Worked}
+use Rattle.rm_channel.specs.Made.{Did, DidMore, Worked}
 use Rattle.rm_channel.specs.Sections.{section, sections, cut}
 use Rattle.rm_channel.proofs.Spans.{found-append, found_of-append, reads_of-append, calls-found, calls-found_of}
 use Rattle.rm_channel.proofs.Steps.{did-then, worked-all, worked-some}
@@ -35,6 +35,33 @@ did-block p q seen f from b rows rows' r later did one at is =
     let more : found f from rows' ≡ found f from rows ++ (Read f b, Found (Some r)) ∷ [] =
     ap (found f from) is ∙ found-append f from rows (r ∷ []) ∙ ap (λ (n : ℕ). found f from rows ++ (Read f n, Found (Some r)) ∷ []) place in
     subst (Did p seen) (sym more) (did-then p q seen (found f from rows) ((Read f b, Found (Some r)) ∷ []) later did one)
+
+-- how many there are behind it
+pub more-length : {A : Type 0} (p : Standing) (seen : List Event) (deeds : List A → List Deed) (n : ℕ) (old new : List A) → DidMore p seen deeds n old new → length new ≡ length old + n
+more-length p seen deeds n old new m =
+    let count = m.count in
+    let e = length-append old m.more in
+    ap length m.is ∙ omega arith
+
+-- one block more of a run
+pub more-block : (p q : Standing) (seen : List Event) (f from b : ℕ) (old rows rows' : List Row) (r : Row) → from ≤ b → IsLater p q → DidMore p q.seen (found f from) (b - from) old rows
+    → Did q seen ((Read f b, Found (Some r)) ∷ []) → rows' ≡ rows ++ r ∷ [] → DidMore p seen (found f from) (b + 1 - from) old rows'
+more-block p q seen f from b old rows rows' r le later m one is =
+    let count = m.count in record {
+      more = m.more ++ r ∷ [];
+      count = let e = length-append m.more (r ∷ []) in omega arith;
+      is = is ∙ ap (λ (l : List Row). l ++ r ∷ []) m.is ∙ append_assoc old m.more (r ∷ []);
+      did = did-block p q seen f from b m.more (m.more ++ r ∷ []) r later m.did one (omega arith) refl;
+    }
+
+-- a run of reads behind the others
+pub did-reads : (p q : Standing) (seen : List Event) (f from b n : ℕ) (rows rows' : List Row) → IsLater p q → Did p q.seen (found f from rows) → length rows + from ≡ b
+    → DidMore q seen (found f b) n rows rows' → Did p seen (found f from rows')
+did-reads p q seen f from b n rows rows' later did at m =
+    let place : from + length rows ≡ b = omega arith in
+    let all : found f from rows' ≡ found f from rows ++ found f b m.more =
+    ap (found f from) m.is ∙ found-append f from rows m.more ∙ ap (λ (k : ℕ). found f from rows ++ found f k m.more) place in
+    subst (Did p seen) (sym all) (did-then p q seen (found f from rows) (found f b m.more) later did m.did)
 
 -- all blocks of a section
 pub worked-blocks : (p : Standing) (seen : List Event) (f from n : ℕ) (rows : List Row) → Did p seen (found f from rows) → length rows ≡ n → Worked p seen (reads f from n) (Some (found f from rows))
@@ -101,12 +128,36 @@ did-write p q seen t jobs w rs rs' a later did one fit is =
     ap (wrote t (jobs ++ w ∷ [])) is ∙ wrote-append t jobs (w ∷ []) rs (a ∷ []) fit in
     subst (Did p seen) (sym more) (did-then p q seen (wrote t jobs rs) ((Write t w.file w.block w.content, Wrote a) ∷ []) later did one)
 
+-- one write more of a run
+pub more-write : (p q : Standing) (seen : List Event) (t n : ℕ) (jobs : List WriteJob) (w : WriteJob) (old rs rs' : List (Result ℕ LiveFault)) (a : Result ℕ LiveFault) → length jobs ≡ n → IsLater p q
+    → DidMore p q.seen (wrote t jobs) n old rs → Did q seen ((Write t w.file w.block w.content, Wrote a) ∷ []) → rs' ≡ rs ++ a ∷ [] → DidMore p seen (wrote t (jobs ++ w ∷ [])) (n + 1) old rs'
+more-write p q seen t n jobs w old rs rs' a long later m one is =
+    let count = m.count in record {
+      more = m.more ++ a ∷ [];
+      count = let e = length-append m.more (a ∷ []) in omega arith;
+      is = is ∙ ap (λ (l : List (Result ℕ LiveFault)). l ++ a ∷ []) m.is ∙ append_assoc old m.more (a ∷ []);
+      did = did-write p q seen t jobs w m.more (m.more ++ a ∷ []) a later m.did one (omega arith) refl;
+    }
+
+-- a run of writes behind the others
+pub did-writes : (p q : Standing) (seen : List Event) (t n : ℕ) (jobs run : List WriteJob) (rs rs' : List (Result ℕ LiveFault)) → IsLater p q → Did p q.seen (wrote t jobs rs) → length rs ≡ length jobs
+    → DidMore q seen (wrote t run) n rs rs' → Did p seen (wrote t (jobs ++ run) rs')
+did-writes p q seen t n jobs run rs rs' later did long m =
+    let all : wrote t (jobs ++ run) rs' ≡ wrote t jobs rs ++ wrote t run m.more =
+    ap (wrote t (jobs ++ run)) m.is ∙ wrote-append t jobs run rs m.more (sym long) in
+    subst (Did p seen) (sym all) (did-then p q seen (wrote t jobs rs) (wrote t run m.more) later did m.did)
+
 pub worked-writes : (p : Standing) (seen : List Event) (t : ℕ) (jobs : List WriteJob) (rs : List (Result ℕ LiveFault)) → Did p seen (wrote t jobs rs) → length rs ≡ length jobs → Worked p seen (writes t jobs) (Some (wrote t jobs rs))
 worked-writes p seen t jobs rs did is = worked-all p seen (writes t jobs) (wrote t jobs rs) did (calls-wrote t jobs rs (sym is))
 
 -- one list more
 pub lists-more : {X : Type 0} (all all' : List (Vec X Global)) (v : Vec X Global) → all' ≡ all ++ v ∷ [] → lists all' ≡ lists all ++ v.items ∷ []
 lists-more all all' v is = ap lists is ∙ map-append (λ v. v.items) all (v ∷ [])
+
+-- nothing is left of a list
+pub all-done : {X : Type 0} (done left all : List X) → length left ≡ 0 → done ++ left ≡ all → done ≡ all
+all-done done [] all none is = sym (append-nil done) ∙ is
+all-done done (x ∷ left) all none is = absurd (omega arith)
 
 -- a list in three parts
 pub take-drop : {X : Type 0} (xs : List X) (k : ℕ) (d : X) → k < length xs → take k xs ++ get_or xs k d ∷ drop (k + 1) xs ≡ xs

@@ -1,5 +1,5 @@
 -- What calls of several workers leave in the history.
-use Rattle.std.specs.Prelude.{◌≡◌, ◌==◌, ◌≤◌, ℕ, Bool, false, Option, IfSome, List, [], ◌∷◌, ◌++◌, filter, map, nat_lt, if◌then◌else◌}
+use Rattle.std.specs.Prelude.{◌≡◌, ◌==◌, ◌≤◌, ℕ, Bool, false, Option, IfSome, List, [], ◌∷◌, ◌++◌, filter, length, map, nat_lt, if◌then◌else◌}
 use Rattle.rm_live.specs.declared.history.Call.{Call}
 use Rattle.rm_live.specs.declared.history.Call.TheVariants.{Read, Write}
 use Rattle.rm_live.specs.declared.history.Event.{Event}
@@ -55,6 +55,14 @@ pub record Did (p : Standing) (seen : List Event) (deeds : List Deed) : Type 0 w
   pub legal : IsLegal (fold_of p.opening p.seen) rest
   pub below : Below p.passes rest
   pub mine_is : mine p.numbers rest ≡ deeds
+
+-- So many answers came behind those that there were, and past the old list the events with the pass's
+-- numbers are those that were so answered.
+pub record DidMore {A : Type 0} (p : Standing) (seen : List Event) (deeds : List A → List Deed) (n : ℕ) (old new : List A) : Type 0 where
+  pub more : List A
+  pub count : length more ≡ n
+  pub is : new ≡ old ++ more
+  pub did : Did p seen (deeds more)
 
 -- it began with the first of the calls, and at the end made all of them, with these answers
 abbrev pub Worked : Standing → List Event → List Call → Option (List Deed) → Type 0

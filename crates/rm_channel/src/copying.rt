@@ -13,7 +13,7 @@ use rm_base::{NoMemory, Row, Scn};
 use rm_live::{Live, LiveFault, Pass};
 use std::alloc::Global;
 use std::slice;
-use std::sync::Wait;
+use std::sync::{Mutex, Wait};
 use std::thread::{Threads, join};
 
 // Adds to each job's rows those that stand beside them.
@@ -79,6 +79,7 @@ fn run<G: Gate, R: Threads + Wait + Sync>(
     rt: &R,
     alloc: Global,
     live: &Live,
+    pace: &Mutex<()>,
     mut pass: Pass,
     gate: &G,
     jobs: &[CopyJob],
@@ -91,7 +92,7 @@ fn run<G: Gate, R: Threads + Wait + Sync>(
 {
     let workers = share.sections() + writers.len();
     if workers == 1 {
-        return work(rt, alloc, live, pass, gate, jobs, writers, share);
+        return work(rt, alloc, live, pace, pass, gate, jobs, writers, share);
     }
     let half = workers - workers / 2;
     let cut = half.min(share.sections());
@@ -104,11 +105,11 @@ fn run<G: Gate, R: Threads + Wait + Sync>(
         move || -> (Pass, Result<Done, NoMemory>)
             requires { CanRun pass live.now jobs.now (lists front.now) left }
             ensures { IsLater pass result.0 × HasRun pass result.0.seen (sections left.channels left.from left.to jobs.entry.now) left.thread (lists front.entry.now) result.1 }
-        { run(rt, alloc, live, pass, gate, jobs, front, left) },
+        { run(rt, alloc, live, pace, pass, gate, jobs, front, left) },
         move || -> (Pass, Result<Done, NoMemory>)
             requires { CanRun other live.now jobs.now (lists back.now) right }
             ensures { IsLater other result.0 × HasRun other result.0.seen (sections right.channels right.from right.to jobs.entry.now) right.thread (lists back.entry.now) result.1 }
-        { run(rt, alloc, live, other, gate, jobs, back, right) },
+        { run(rt, alloc, live, pace, other, gate, jobs, back, right) },
     );
     live.join(&mut all, second);
     (all, gathered(first, last))
@@ -139,10 +140,12 @@ pub fn copy_file<G: Gate, R: Threads + Wait + Sync>(
         to: channels,
         thread: 1,
     };
+    let pace = Mutex::new(());
     let (pass, done) = run(
         rt,
         alloc,
         live,
+        &pace,
         pass,
         gate,
         slice::from_ref(job),
@@ -194,7 +197,8 @@ pub fn copy_during<G: Gate, R: Threads + Wait + Sync>(
         to: channels,
         thread: 1,
     };
-    let (pass, done) = run(rt, alloc, live, pass, gate, jobs, writers, share);
+    let pace = Mutex::new(());
+    let (pass, done) = run(rt, alloc, live, &pace, pass, gate, jobs, writers, share);
     (pass, work_of(alloc, jobs, done))
 }
 

@@ -5,6 +5,7 @@ pub mod applying;
 pub mod copying;
 pub mod cutting;
 pub mod jobs;
+pub mod pacing;
 pub mod working;
 
 pub use applying::apply_rows;

@@ -1,24 +1,23 @@
 //! What one worker does.
-ghost use Rattle.std.specs.Prelude.{ℕ, ◌≡◌, ◌+◌, ◌-◌, ◌≤◌, ◌<◌, [], ◌∷◌, length, replicate, All, IfOk, IsSome, Some};
+ghost use Rattle.std.specs.Prelude.{ℕ, ◌≡◌, ◌+◌, ◌-◌, ◌≤◌, ◌<◌, [], ◌∷◌, length, replicate, All, IfOk, IsSome};
 ghost use Rattle.std.specs.Option.{option_map};
 ghost use Rattle.std.specs.Result.{result_ok};
 ghost use Rattle.rm_redo.specs.Online.{IsThread, IsLost};
-ghost use Rattle.rm_live.specs.declared.history.Answer.TheVariants.{Found};
-ghost use Rattle.rm_live.specs.declared.history.Call.TheVariants.{Read};
 ghost use Rattle.rm_live.specs.Parts.{row_at};
 ghost use Rattle.rm_live.specs.Passes.{IsLater};
 ghost use Rattle.rm_channel.specs.Jobs.{AreAsLong, AreRows, found, found_of, lists, reads, reads_of, writes, wrote, wrote_of};
-ghost use Rattle.rm_channel.specs.Made.{Did, Worked};
+ghost use Rattle.rm_channel.specs.Made.{Worked};
 ghost use Rattle.rm_channel.specs.Room.{AreThreads, IsThere};
 ghost use Rattle.rm_channel.specs.Runs.{HasRun};
 ghost use Rattle.rm_channel.specs.Sections.{sections};
 
 use crate::cutting::cut_at;
 use crate::jobs::{CopyJob, Gate, Point, WriteJob};
+use crate::pacing::{RUN_OF_READS, RUN_OF_WRITES, read_run, write_run};
 use rm_base::{BlockNo, FileNo, NoMemory, Row, Scn, ThreadNo};
 use rm_live::{Live, LiveFault, Pass};
 use std::alloc::Global;
-use std::sync::Wait;
+use std::sync::{Mutex, Wait};
 
 /// What some of the workers did: of each job the rows of their sections, and of each of their lists the
 /// answers.
@@ -38,25 +37,12 @@ pub(crate) struct Share {
     pub thread: ThreadNo,
 }
 
-// Reads a block that is there.
-fn read_block<R: Wait>(rt: &R, live: &Live, pass: &mut Pass, file: FileNo, block: BlockNo) -> Row
-    requires home { pass.old.home ≡ live.now }
-    requires some { 0 < length pass.old.numbers }
-    requires there { IsSome (row_at pass.old.opening.files file block) }
-    ensures stays { IsLater pass.old pass.new }
-    ensures did { Did pass.old pass.new.seen ((Read file block, Found (Some result)) ∷ []) }
-{
-    match live.read(rt, pass, file, block) {
-        Some(row) => row,
-        None => unreachable!(),
-    }
-}
-
-// Reads blocks of a datafile, from one on and up to another.
+// Reads blocks of a datafile, from one on and up to another, run after run.
 fn read_blocks<R: Wait>(
     rt: &R,
     alloc: Global,
     live: &Live,
+    pace: &Mutex<()>,
     pass: &mut Pass,
     file: FileNo,
     from: BlockNo,
@@ -71,8 +57,11 @@ fn read_blocks<R: Wait>(
     ensures rows { IfOk result (λ v. length v.items ≡ to - from) }
 {
     let mut rows = Vec::with_capacity(alloc, (to - from) as usize)?;
-    for block in from..to {
-        rows.push_reserved(read_block(rt, live, pass, file, block));
+    let mut next = from;
+    'runs: while next < to {
+        let end = next + RUN_OF_READS.min(to - next);
+        read_run(rt, live, pace, pass, file, next, end, &mut rows);
+        next = end;
     }
     Ok(rows)
 }
@@ -82,6 +71,7 @@ fn read_sections<G: Gate, R: Wait>(
     rt: &R,
     alloc: Global,
     live: &Live,
+    pace: &Mutex<()>,
     pass: &mut Pass,
     gate: &G,
     jobs: &[CopyJob],
@@ -106,16 +96,17 @@ fn read_sections<G: Gate, R: Wait>(
             section,
             blocks: to - from,
         });
-        all.push_reserved(read_blocks(rt, alloc, live, pass, job.file, from, to)?);
+        all.push_reserved(read_blocks(rt, alloc, live, pace, pass, job.file, from, to)?);
     }
     Ok(all)
 }
 
-// Makes the writes of a list by one thread, in order, and keeps the answers as they come.
+// Makes the writes of a list by one thread, in order, run after run, and keeps the answers as they come.
 fn make_writes<R: Wait>(
     rt: &R,
     alloc: Global,
     live: &Live,
+    pace: &Mutex<()>,
     pass: &mut Pass,
     list: &[WriteJob],
     thread: ThreadNo,
@@ -128,8 +119,11 @@ fn make_writes<R: Wait>(
     ensures answers { IfOk result (λ v. length v.items ≡ length list.now) }
 {
     let mut answers = Vec::with_capacity(alloc, list.len())?;
-    for write in list {
-        answers.push_reserved(live.write(rt, pass, thread, write.file, write.block, write.content));
+    let mut left = list;
+    'runs: while !left.is_empty() {
+        let (run, rest) = left.split_at(RUN_OF_WRITES.min(left.len()));
+        write_run(rt, live, pace, pass, run, thread, &mut answers);
+        left = rest;
     }
     Ok(answers)
 }
@@ -139,6 +133,7 @@ fn copy_section<G: Gate, R: Wait>(
     rt: &R,
     alloc: Global,
     live: &Live,
+    pace: &Mutex<()>,
     pass: &mut Pass,
     gate: &G,
     jobs: &[CopyJob],
@@ -155,6 +150,7 @@ fn copy_section<G: Gate, R: Wait>(
         rt,
         alloc,
         live,
+        pace,
         pass,
         gate,
         jobs,
@@ -183,6 +179,7 @@ fn write_list<G: Gate, R: Wait>(
     rt: &R,
     alloc: Global,
     live: &Live,
+    pace: &Mutex<()>,
     pass: &mut Pass,
     gate: &G,
     jobs: usize,
@@ -205,7 +202,7 @@ fn write_list<G: Gate, R: Wait>(
     });
     let rows = no_rows(alloc, jobs)?;
     let mut answers = Vec::with_capacity(alloc, 1)?;
-    answers.push_reserved(make_writes(rt, alloc, live, pass, list, thread)?);
+    answers.push_reserved(make_writes(rt, alloc, live, pace, pass, list, thread)?);
     Ok(Done { rows, answers })
 }
 
@@ -214,6 +211,7 @@ pub(crate) fn work<G: Gate, R: Wait>(
     rt: &R,
     alloc: Global,
     live: &Live,
+    pace: &Mutex<()>,
     mut pass: Pass,
     gate: &G,
     jobs: &[CopyJob],
@@ -230,13 +228,14 @@ pub(crate) fn work<G: Gate, R: Wait>(
     ensures run { HasRun pass result.0.seen (sections share.channels share.from share.to jobs.now) share.thread (lists writers.now) result.1 }
 {
     let done = if share.from < share.to {
-        copy_section(rt, alloc, live, &mut pass, gate, jobs, share)
+        copy_section(rt, alloc, live, pace, &mut pass, gate, jobs, share)
     } else {
         let list = writers[0].as_slice();
         write_list(
             rt,
             alloc,
             live,
+            pace,
             &mut pass,
             gate,
             jobs.len(),

@@ -5,7 +5,7 @@ use Rattle.rm_live.specs.declared.history.Call.TheVariants.{Read}
 use Rattle.rm_live.specs.Passes.{Adds}
 use Rattle.rm_channel.proofs.Steps.{did-one}
 use Rattle.rm_channel.proofs.There.{found-there}
-use Rattle.rm_channel.proofs.working.read_block.Goals as goal
+use Rattle.rm_channel.proofs.pacing.read_block.Goals as goal
 
 abbrev no_row : Option Row
 no_row = None
