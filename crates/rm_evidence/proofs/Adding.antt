@@ -1,6 +1,6 @@
 -- What one record adds to the evidence.
-use Rattle.std.proofs.Common.{◌≡◌, ◌≢◌, ◌<◌, ◌∙◌, ℕ, Option, Some, None, [], ◌∷◌, ◌++◌, Contains, refl, ap, sym, subst}
-use Rattle.std.specs.Prelude.{Ok, Err, Result, IfSome}
+use Rattle.std.proofs.Common.{◌≡◌, ◌≢◌, ◌<◌, ◌∙◌, ℕ, [], ◌∷◌, ◌++◌, Contains, refl, ap, sym, subst}
+use Rattle.std.specs.Prelude.{Ok, Err, Result}
 use Rattle.rm_base.specs.Store.{Held}
 use Rattle.rm_base.specs.declared.kinds.Bad.{Bad}
 use Rattle.rm_base.specs.declared.kinds.Kind.{Kind}
@@ -21,11 +21,6 @@ use Rattle.rm_evidence.specs.Names.{log_name, piece_name}
 use Rattle.rm_evidence.specs.Objects.{IsLogObject, IsPieceObject}
 use Rattle.rm_piece.specs.declared.piece.Piece.{Piece}
 use Rattle.rm_redo.specs.declared.log_file.LogFile.{LogFile}
-
--- what holds of each value holds of the one that is there
-pub IfSome_all : {X : Type 0} {P : X → Type 0} (o : Option X) → ((x : X) → P x) → IfSome o P
-IfSome_all None all = tt
-IfSome_all (Some x) all = all x
 
 -- what is told of a log, and of a piece
 abbrev pub LogTold : Held → LogEntry → Result LogFile Bad → Type 0

@@ -79,3 +79,12 @@ extends-then {A} R P Q S xs ys zs e f cross both = record {
       | inl here ↦ Contains-append_left e.rest f.rest (i, x) ((e.exact i x).1 here)
       | inr there ↦ Contains-append_right e.rest f.rest (i, x) ((f.exact i x).1 there)
     ]
+
+-- a list that grew by what is so grew by what is so by other words
+pub extends-as : {A : Type 0} (R : ℕ → ℕ → Type 0) (Is As : ℕ → A → Type 0) (old new : List (ℕ × A)) → ((id : ℕ) (a : A) → Is id a → As id a) → ((id : ℕ) (a : A) → As id a → Is id a) → Extends A R old Is new → Extends A R old As new
+extends-as R Is As old new to from e = record {
+  rest = e.rest;
+  list = e.list;
+  related = e.related;
+  exact = λ id a. (λ has. to id a ((e.exact id a).0 has), λ is. (e.exact id a).1 (from id a is));
+}

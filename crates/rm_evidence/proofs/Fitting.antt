@@ -1,82 +1,24 @@
--- Evidence that fits a tree goes on to fit it.
-use Rattle.std.proofs.Common.{◌≡◌, ◌≢◌, ◌∙◌, ◌<◌, ℕ, List, [], ◌∷◌, ◌++◌, map, All, Contains, refl, sym, subst, arith, suc, ◌≤◌, length, get_or}
-use Rattle.std.proofs.lemmas.List.Elements.{All-cons, All-map, All-push}
-use Rattle.rm_base.specs.declared.kinds.Kind.{Kind}
-use Rattle.rm_base.specs.declared.kinds.Kind.TheVariants.{Full, Level0, Level1, Place}
-use Rattle.rm_catalog.specs.declared.record.LogEntry.{LogEntry}
-use Rattle.rm_catalog.specs.declared.record.PieceEntry.{PieceEntry}
+-- What is in place fits a catalog, and what is gathered.
+use Rattle.std.proofs.Common.{◌≡◌, ◌≢◌, ◌∙◌, ◌<◌, ◌≤◌, ℕ, suc, List, [], ◌∷◌, length, get_or, map, All, Contains, sym, subst, arith}
+use Rattle.std.proofs.lemmas.List.Elements.{All-append, All-cons, All-map, Contains-get_or}
+use Rattle.rm_base.specs.Store.{Held}
+use Rattle.rm_base.specs.declared.kinds.Kind.TheVariants.{Level1}
 use Rattle.rm_catalog.specs.declared.record.Record.{Record}
 use Rattle.rm_catalog.specs.declared.record.Record.TheVariants as kind
 use Rattle.rm_catalog.specs.Objects.{IsRange, LogRule, PieceRule}
 use Rattle.rm_catalog.specs.Rules.{IsCatalog}
 use Rattle.rm_catalog.specs.Trees.{nodes}
-use Rattle.rm_history.specs.declared.tree.Incarnation.{Incarnation}
 use Rattle.rm_history.specs.Tree.{IsThere}
-use Rattle.rm_evidence.specs.Objects.{HasLogFields, HasPieceFields}
 use Rattle.rm_evidence.proofs.Found.{obeys}
 use Rattle.rm_evidence.proofs.DatabaseWorlds.{some-there}
 use Rattle.rm_piece.specs.declared.piece.Piece.{Piece}
 use Rattle.rm_piece.specs.Valid.{IsPiece}
-use Rattle.rm_redo.specs.declared.log_file.LogFile.{LogFile}
-use Rattle.rm_redo.specs.LogFormat.{IsLogFile}
 use Rattle.rm_evidence.specs.declared.evidence.Evidence.{Evidence}
 use Rattle.rm_evidence.specs.declared.evidence.InPlace.{InPlace}
-use Rattle.rm_evidence.specs.Gathered.{dbid_in, placed, placed_piece}
+use Rattle.rm_evidence.specs.Gathered.{dbid_in, placed, placed_piece, IsBaseOf, IsGathered, IsLevel1Of, IsLogOf, Lists}
 use Rattle.rm_evidence.specs.Known.{AreRecorded, FitsLog, FitsPiece, FitsTree, IsRecorded}
 use Rattle.rm_evidence.specs.Place.{FitsPlace, placed_evidence}
-use Rattle.rm_evidence.specs.Taking.{HasIncarnation, with_piece, with_piece_of}
-
--- a log more of an incarnation that is there
-pub fits-log : (tree : List Incarnation) (l : LogEntry) (a : LogFile) (logs : List (ℕ × LogFile)) (old : Evidence) → logs ≡ old.logs ++ (l.id, a) ∷ [] → IsLogFile a → HasLogFields l a → IsThere tree l.inc → FitsTree tree old → FitsTree tree (record old { logs = logs })
-fits-log tree l a logs old is valid fields there fits = record {
-  bases = fits.bases;
-  no_level1 = fits.no_level1;
-  level1s = fits.level1s;
-  all_level1 = fits.all_level1;
-  logs = subst (λ (xs : List (ℕ × LogFile)). All (λ x. FitsLog tree x.1) xs) (sym is)
-      (All-push (λ (x : ℕ × LogFile). FitsLog tree x.1) old.logs (l.id, a) fits.logs (record { valid = valid; inc = subst (λ (i : ℕ). IsThere tree i) (sym fields.inc) there }));
-}
-
-with-base : (tree : List Incarnation) (id : ℕ) (a : Piece) (old : Evidence) → FitsPiece tree a → a.kind ≢ Level1 → FitsTree tree old → FitsTree tree (record old { bases = old.bases ++ (id, a) ∷ [] })
-with-base tree id a old one whole fits = record {
-  bases = All-push (λ (x : ℕ × Piece). FitsPiece tree x.1) old.bases (id, a) fits.bases one;
-  no_level1 = All-push (λ (x : ℕ × Piece). x.1.kind ≢ Level1) old.bases (id, a) fits.no_level1 whole;
-  level1s = fits.level1s;
-  all_level1 = fits.all_level1;
-  logs = fits.logs;
-}
-
-with-level1 : (tree : List Incarnation) (id : ℕ) (a : Piece) (old : Evidence) → FitsPiece tree a → a.kind ≡ Level1 → FitsTree tree old → FitsTree tree (record old { level1s = old.level1s ++ (id, a) ∷ [] })
-with-level1 tree id a old one level fits = record {
-  bases = fits.bases;
-  no_level1 = fits.no_level1;
-  level1s = All-push (λ (x : ℕ × Piece). FitsPiece tree x.1) old.level1s (id, a) fits.level1s one;
-  all_level1 = All-push (λ (x : ℕ × Piece). x.1.kind ≡ Level1) old.level1s (id, a) fits.all_level1 level;
-  logs = fits.logs;
-}
-
--- a piece more of an incarnation that is there
-pub fits-piece : (tree : List Incarnation) (p : PieceEntry) (a : Piece) (old : Evidence) → IsPiece a → HasPieceFields p a → IsThere tree p.inc → FitsTree tree old → FitsTree tree (with_piece old p.id a)
-fits-piece tree p a old valid fields there fits = step a.kind refl (record { valid = valid; inc = subst (λ (i : ℕ). IsThere tree i) (sym fields.inc) there })
-  where
-    step : (k : Kind) → a.kind ≡ k → FitsPiece tree a → FitsTree tree (with_piece_of k old p.id a)
-    step Full is one = with-base tree p.id a old one (λ e. absurd (let no : Full ≡ Level1 = sym is ∙ e in cc)) fits
-    step Level0 is one = with-base tree p.id a old one (λ e. absurd (let no : Level0 ≡ Level1 = sym is ∙ e in cc)) fits
-    step Level1 is one = with-level1 tree p.id a old one is fits
-    step Place is one = with-base tree p.id a old one (λ e. absurd (let no : Place ≡ Level1 = sym is ∙ e in cc)) fits
-
--- a piece more of a record
-pub recorded-piece : (rs : List Record) (p : PieceEntry) (a : Piece) (old : Evidence) → Contains rs (kind.Piece p) → HasPieceFields p a → AreRecorded rs old → AreRecorded rs (with_piece old p.id a)
-recorded-piece rs p a old has fields are = step a.kind
-  where
-    more : All (λ x. 0 < x.0 → IsRecorded rs x) (old.bases ++ (p.id, a) ∷ [])
-    more = All-push (λ (x : ℕ × Piece). 0 < x.0 → IsRecorded rs x) old.bases (p.id, a) are (λ above. (p, has, refl, fields))
-
-    step : (k : Kind) → AreRecorded rs (with_piece_of k old p.id a)
-    step Full = more
-    step Level0 = more
-    step Level1 = are
-    step Place = more
+use Rattle.rm_evidence.specs.Taking.{HasIncarnation}
 
 -- the incarnation of each record of a catalog is there
 pub incarnations-there : (rs : List Record) (r : Record) → IsCatalog rs → Contains rs r → HasIncarnation (nodes rs) r
@@ -113,6 +55,36 @@ recorded-placed rs place = no-id (map (placed_piece (dbid_in rs)) place.files)
     no-id : (pieces : List Piece) → All (λ x. 0 < x.0 → IsRecorded rs x) (placed pieces)
     no-id [] = λ k d inside. absurd (omega arith)
     no-id (a ∷ rest) = All-cons (λ (x : ℕ × Piece). 0 < x.0 → IsRecorded rs x) (0, a) (placed rest) (λ above. absurd (omega (arith, above))) (no-id rest)
+
+-- what holds of what comes first, and of all that Is, holds of the whole list
+all-listed : {A : Type 0} (P : ℕ × A → Type 0) (first : List (ℕ × A)) (Is : ℕ → A → Type 0) (all : List (ℕ × A)) → Lists A first Is all → All P first → ((id : ℕ) (a : A) → Is id a → P (id, a)) → All P all
+all-listed {A} P first Is all lists begins each =
+    subst (All P) (sym lists.list) (All-append P first lists.rest begins (λ k d inside.
+    let x : ℕ × A = get_or lists.rest k d in
+    each x.0 x.1 ((lists.exact x.0 x.1).0 (Contains-get_or lists.rest k d inside))))
+
+-- what is gathered fits
+pub gathered-fits : (held : Held) (rs : List Record) (place : InPlace) (e : Evidence) → IsCatalog rs → FitsPlace rs place → IsGathered held rs place e → FitsTree (nodes rs) e
+gathered-fits held rs place e c fits is =
+    let first = fits-placed rs place fits in
+    let there : (r : Record) → Contains rs r → HasIncarnation (nodes rs) r = λ r has. incarnations-there rs r c has in
+    record {
+      bases = all-listed (λ x. FitsPiece (nodes rs) x.1) _ (IsBaseOf held rs) e.bases is.bases first.bases
+          (λ id a of. record { valid = of.4.object.valid; inc = subst (IsThere (nodes rs)) (sym of.4.object.fields.inc) (there (kind.Piece of.0) of.1) });
+      no_level1 = all-listed (λ x. x.1.kind ≢ Level1) _ (IsBaseOf held rs) e.bases is.bases first.no_level1 (λ id a of. λ level. of.3 (sym of.4.object.fields.kind ∙ level));
+      level1s = all-listed (λ x. FitsPiece (nodes rs) x.1) [] (IsLevel1Of held rs) e.level1s is.level1s first.level1s
+          (λ id a of. record { valid = of.4.object.valid; inc = subst (IsThere (nodes rs)) (sym of.4.object.fields.inc) (there (kind.Piece of.0) of.1) });
+      all_level1 = all-listed (λ x. x.1.kind ≡ Level1) [] (IsLevel1Of held rs) e.level1s is.level1s first.all_level1 (λ id a of. of.4.object.fields.kind ∙ of.3);
+      logs = all-listed (λ x. FitsLog (nodes rs) x.1) _ (IsLogOf held rs) e.logs is.logs first.logs
+          (λ id a of. record { valid = of.3.object.valid; inc = subst (IsThere (nodes rs)) (sym of.3.object.fields.inc) (there (kind.Log of.0) of.1) });
+    }
+
+-- each copy that is gathered and not in place has the fields of its record, and each level 1
+pub gathered-recorded : (held : Held) (rs : List Record) (place : InPlace) (e : Evidence) → IsGathered held rs place e → AreRecorded rs e
+gathered-recorded held rs place e is = all-listed (λ x. 0 < x.0 → IsRecorded rs x) _ (IsBaseOf held rs) e.bases is.bases (recorded-placed rs place) (λ id a of above. (of.0, of.1, of.2, of.4.object.fields))
+
+pub level1s-recorded : (held : Held) (rs : List Record) (place : InPlace) (e : Evidence) → IsGathered held rs place e → All (IsRecorded rs) e.level1s
+level1s-recorded held rs place e is = all-listed (IsRecorded rs) [] (IsLevel1Of held rs) e.level1s is.level1s (λ k d inside. absurd (omega arith)) (λ id a of. (of.0, of.1, of.2, of.4.object.fields))
 
 -- each of them is valid
 pub valid-placed : (rs : List Record) (place : InPlace) → FitsPlace rs place → All (λ x. IsPiece (placed_piece (dbid_in rs) x)) place.files

@@ -8,6 +8,7 @@ pub mod Found
 pub mod Names
 pub mod Objects
 pub mod Runs
+pub mod Seen
 pub mod Sorting
 pub mod Telling
 pub mod Worlds

@@ -1,9 +1,7 @@
 -- What the records of a catalog add, one after the other.
-use Rattle.std.proofs.Common.{◌≡◌, ◌≢◌, ◌⊎◌, ◌∙◌, ◌+◌, ◌<◌, ◌≤◌, ℕ, List, [], ◌∷◌, ◌++◌, length, get_or, take, Option, Some, None, AllPairs, Contains, refl, ap, sym, subst, arith, inl, inr}
-use Rattle.std.specs.Prelude.{◌↔◌, IfSome, IsPermutation}
-use Rattle.std.proofs.Math.Seq.{take-length}
-use Rattle.std.proofs.lemmas.Option.{IfSome_then}
-use Rattle.std.proofs.lemmas.List.{get_or_default, get_or-take, length-take, take_more}
+use Rattle.std.proofs.Common.{◌≡◌, ◌≢◌, ◌⊎◌, ◌∙◌, ◌+◌, ◌<◌, ℕ, List, [], ◌∷◌, ◌++◌, length, get_or, take, AllPairs, Contains, refl, ap, sym, subst, arith, inl, inr}
+use Rattle.std.specs.Prelude.{◌↔◌, IsPermutation}
+use Rattle.std.proofs.lemmas.List.{get_or_default, get_or-take, length-take}
 use Rattle.std.proofs.lemmas.List.Elements.{Contains-append_cases, Contains-append_left, Contains-append_right, Contains-get_or}
 use Rattle.std.proofs.lemmas.List.Kept.{AllPairs-cons}
 use Rattle.std.proofs.lemmas.List.Sorted.{Contains-permutation, IsPermutation-sym}
@@ -189,28 +187,3 @@ gathered held rs place e new adds moved sorts b v g = record {
 
     listed : (id : ℕ) (bad : Bad) → IsSkipped held rs id bad → Contains {X = ℕ × Bad} new.skipped (id, bad)
     listed id bad is = Contains-permutation e.skipped new.skipped (id, bad) moved (subst (λ (xs : List (ℕ × Bad)). Contains xs (id, bad)) (sym adds.skipped.list) ((adds.skipped.exact id bad).1 is))
-
--- one record more, of a store that tells what it holds, or not
-pub told-more : (o p : Option Held) (xs rs : List Record) (i : ℕ) (r : Record) (a b c : Evidence) → p ≡ o → xs ≡ rs → IsCatalog rs → i < length xs → r ≡ get_or xs i r
-    → IfSome o (λ h. Adds h (take i xs) a b) → IfSome p (λ h. Adds h (r ∷ []) b c) → IfSome o (λ h. Adds h (take (i + 1) xs) a c)
-told-more o p xs rs i r a b c same all catalog inside is before after = step o before (subst (λ (q : Option Held). IfSome q (λ h. Adds h (r ∷ []) b c)) same after)
-  where
-    more : take (i + 1) xs ≡ take i xs ++ r ∷ []
-    more = take_more xs i r inside ∙ ap (λ (x : Record). take i xs ++ x ∷ []) (sym is)
-
-    ahead : IsAhead (take i xs) r
-    ahead = is-ahead xs i r (subst IsCatalog (sym all) catalog) inside is
-
-    step : (o : Option Held) → IfSome o (λ h. Adds h (take i xs) a b) → IfSome o (λ h. Adds h (r ∷ []) b c) → IfSome o (λ h. Adds h (take (i + 1) xs) a c)
-    step None before after = tt
-    step (Some h) before after = subst (λ (ys : List Record). Adds h ys a c) (sym more) (adds-then h (take i xs) r a b c ahead before after)
-
--- all records
-pub told-all : (o : Option Held) (xs rs : List Record) (i : ℕ) (place : InPlace) (first e new : Evidence) → xs ≡ rs → i ≤ length xs → length xs ≤ i → first ≡ placed_evidence (dbid_in rs) place
-    → IfSome o (λ h. Adds h (take i xs) first e) → IsPermutation e.skipped new.skipped → (AllPairs (λ x y. x.0 ≢ y.0) e.skipped → AllPairs (λ x y. x.0 < y.0) new.skipped)
-    → new.bases ≡ e.bases → new.level1s ≡ e.level1s → new.logs ≡ e.logs → IfSome o (λ h. IsGathered h rs place new)
-told-all o xs rs i place first e new same within past from told moved sorts b v g =
-    let end : i ≡ length xs = omega arith in
-    let all : take i xs ≡ rs = ap (λ (n : ℕ). take n xs) end ∙ take-length xs ∙ same in
-    IfSome_then o told (λ h adds.
-    gathered h rs place e new (subst (λ (x : Evidence). Adds h rs x e) from (subst (λ (ys : List Record). Adds h ys first e) all adds)) moved sorts b v g)

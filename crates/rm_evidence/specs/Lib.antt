@@ -6,4 +6,5 @@ pub mod Known
 pub mod Names
 pub mod Objects
 pub mod Place
+pub mod Seen
 pub mod Taking

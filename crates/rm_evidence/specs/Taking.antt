@@ -1,5 +1,5 @@
 -- What one record after the other adds to the evidence.
-use Rattle.std.specs.Prelude.{◌≡◌, ◌≢◌, ◌↔◌, ◌<◌, ℕ, List, [], ◌∷◌, ◌++◌, Contains, AllPairs, Option, Some, Result, Ok, Err}
+use Rattle.std.specs.Prelude.{◌≡◌, ◌≢◌, ◌↔◌, ◌<◌, ◌^◌, ℕ, List, [], ◌∷◌, ◌++◌, Contains, AllPairs, Option, Some, Result, Ok, Err}
 use Rattle.rm_base.specs.Store.{Held}
 use Rattle.rm_base.specs.declared.kinds.Bad.{Bad}
 use Rattle.rm_base.specs.declared.kinds.Kind.{Kind}
@@ -9,7 +9,6 @@ use Rattle.rm_catalog.specs.declared.record.Record.TheVariants as kind
 use Rattle.rm_evidence.specs.declared.evidence.Evidence.{Evidence}
 use Rattle.rm_evidence.specs.Available.{IsBad, IsSkipped}
 use Rattle.rm_evidence.specs.Gathered.{IsBaseOf, IsLevel1Of, IsLogOf}
-use Rattle.rm_evidence.specs.Known.{AreRecorded, FitsTree}
 use Rattle.rm_history.specs.declared.tree.Incarnation.{Incarnation}
 use Rattle.rm_history.specs.Tree.{IsThere}
 use Rattle.rm_piece.specs.declared.piece.Piece.{Piece}
@@ -48,10 +47,8 @@ HasIncarnation tree (kind.Log l) = IsThere tree l.inc
 HasIncarnation tree (kind.Piece p) = IsThere tree p.inc
 HasIncarnation tree _ = Unit {0}
 
--- evidence that fits a tree fits it after this record, where its incarnation is there
-abbrev pub KeepsFit : Record → Evidence → Evidence → Type 0
-KeepsFit r old new = (tree : List Incarnation) → HasIncarnation tree r → FitsTree tree old → FitsTree tree new
-
--- and where this record is one of them, evidence whose copies have their records goes on to have them
-abbrev pub KeepsRecords : Record → Evidence → Evidence → Type 0
-KeepsRecords r old new = (rs : List Record) → Contains rs r → AreRecorded rs old → AreRecorded rs new
+-- the id of a log or a piece is one of four bytes
+abbrev pub HasId : Record → Type 0
+HasId (kind.Log l) = l.id < 2 ^ 32
+HasId (kind.Piece p) = p.id < 2 ^ 32
+HasId _ = Unit {0}

@@ -1,13 +1,15 @@
 //! The evidence that a catalog, a store and what is in place give.
-ghost use Rattle.std.specs.Prelude.{◌≡◌, ◌≤◌, IfOk, IfSome, IsErrOf};
+ghost use Rattle.std.specs.Prelude.{◌≡◌, ◌≤◌, IfOk, IsErrOf};
 ghost use Rattle.rm_base.specs.Outside.{Rose};
 ghost use Rattle.rm_catalog.specs.Rules.{HasDatabase};
 ghost use Rattle.rm_catalog.specs.Trees.{nodes};
 ghost use Rattle.rm_evidence.specs.Gathered.{IsGathered};
-ghost use Rattle.rm_evidence.specs.Known.{AreRecorded, FitsTree};
+ghost use Rattle.rm_evidence.specs.Known.{FitsTree};
 ghost use Rattle.rm_evidence.specs.Place.{FitsPlace};
+ghost use Rattle.rm_evidence.specs.Seen.{IsSeen};
 
 use crate::evidence::{Evidence, InPlace};
+use crate::naming::id_fits;
 use crate::order::by_id;
 use crate::place::{dbid_of, in_place};
 use crate::taking::take_record;
@@ -47,7 +49,8 @@ impl From<StoreFail> for EvidenceFault {
 }
 
 /// The artefacts that are at hand: what is in place, and what the store has of the records that count
-/// as available. The records whose objects are missing or damaged are told as skipped.
+/// as available. The records whose objects are missing or damaged are told as skipped. Where the store tells nothing
+/// of what it holds, they are those of some bytes under each name.
 pub fn gather<D: Store>(
     alloc: Global,
     catalog: &Catalog,
@@ -56,9 +59,8 @@ pub fn gather<D: Store>(
 ) -> Result<Evidence, EvidenceFault>
     requires database { HasDatabase catalog.now }
     requires place { FitsPlace catalog.now place.now }
-    ensures gathered { IfOk result (λ e. IfSome (D.held store.old) (λ h. IsGathered h catalog.now place.now e)) }
+    ensures gathered { IfOk result (λ e. IsSeen (D.held store.old) (λ h. IsGathered h catalog.now place.now e)) }
     ensures fits { IfOk result (λ e. FitsTree (nodes catalog.now) e) }
-    ensures recorded { IfOk result (λ e. AreRecorded catalog.now e) }
     ensures same { D.held store.new ≡ D.held store.old }
     ensures failed { IsErrOf result EvidenceFault.StoreFault → Rose (D.faults store.old) (D.faults store.new) }
     ensures never_falls { D.faults store.old ≤ D.faults store.new }
@@ -66,6 +68,7 @@ pub fn gather<D: Store>(
     let mut evidence = in_place(alloc, dbid_of(catalog), place)?;
     let records = catalog.records();
     for row in records {
+        id_fits(row);
         take_record(alloc, store, row, &mut evidence)?;
     }
     let skipped = by_id(evidence.skipped);

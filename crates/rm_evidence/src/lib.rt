@@ -16,7 +16,7 @@ pub use database::{base_of, current_of, datafile, has_database, threads};
 pub use evidence::{Evidence, InPlace};
 pub use gathering::{EvidenceFault, gather};
 pub use looking::{look_for_log, look_for_piece};
-pub use naming::{log_name, piece_name, site_name};
+pub use naming::{id_fits, log_name, piece_name, site_name};
 pub use order::by_id;
 pub use place::fits_place;
 pub use reading::{log_object, piece_object};

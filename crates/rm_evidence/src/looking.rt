@@ -1,10 +1,9 @@
 //! What the store has of a record that counts as available.
-ghost use Rattle.std.specs.Prelude.{◌≡◌, ◌≤◌, IfOk, IfSome, IsErrOf};
+ghost use Rattle.std.specs.Prelude.{◌≡◌, ◌≤◌, IfOk, IsErrOf};
 ghost use Rattle.rm_base.specs.Outside.{Rose};
 ghost use Rattle.rm_evidence.specs.Names.{log_name, piece_name};
-ghost use Rattle.rm_evidence.specs.Objects.{HasLogFields, HasPieceFields, IsLogObject, IsPieceObject};
-ghost use Rattle.rm_piece.specs.Valid.{IsPiece};
-ghost use Rattle.rm_redo.specs.LogFormat.{IsLogFile};
+ghost use Rattle.rm_evidence.specs.Objects.{IsLogObject, IsPieceObject};
+ghost use Rattle.rm_evidence.specs.Seen.{IsSeen};
 ghost use Rattle.rm_evidence.specs.Taking.{IsTold};
 
 use crate::gathering::EvidenceFault;
@@ -23,9 +22,7 @@ pub fn look_for_log<D: Store>(
     store: &mut D,
     entry: &LogEntry,
 ) -> Result<Result<LogFile, Bad>, EvidenceFault>
-    ensures told { IfOk result (λ told. IfSome (D.held store.old) (λ h. IsTold (IsLogObject entry.now) (h (log_name entry.now.id)) told)) }
-    ensures valid { IfOk result (λ told. IfOk told (λ log. IsLogFile log)) }
-    ensures fields { IfOk result (λ told. IfOk told (λ log. HasLogFields entry.now log)) }
+    ensures told { IfOk result (λ told. IsSeen (D.held store.old) (λ h. IsTold (IsLogObject entry.now) (h (log_name entry.now.id)) told)) }
     ensures same { D.held store.new ≡ D.held store.old }
     ensures failed { IsErrOf result EvidenceFault.StoreFault → Rose (D.faults store.old) (D.faults store.new) }
     ensures never_falls { D.faults store.old ≤ D.faults store.new }
@@ -46,9 +43,7 @@ pub fn look_for_piece<D: Store>(
     store: &mut D,
     entry: &PieceEntry,
 ) -> Result<Result<Piece, Bad>, EvidenceFault>
-    ensures told { IfOk result (λ told. IfSome (D.held store.old) (λ h. IsTold (IsPieceObject entry.now) (h (piece_name entry.now.copy entry.now.id)) told)) }
-    ensures valid { IfOk result (λ told. IfOk told (λ piece. IsPiece piece)) }
-    ensures fields { IfOk result (λ told. IfOk told (λ piece. HasPieceFields entry.now piece)) }
+    ensures told { IfOk result (λ told. IsSeen (D.held store.old) (λ h. IsTold (IsPieceObject entry.now) (h (piece_name entry.now.copy entry.now.id)) told)) }
     ensures same { D.held store.new ≡ D.held store.old }
     ensures failed { IsErrOf result EvidenceFault.StoreFault → Rose (D.faults store.old) (D.faults store.new) }
     ensures never_falls { D.faults store.old ≤ D.faults store.new }

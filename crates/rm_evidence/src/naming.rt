@@ -1,8 +1,10 @@
 //! The names under which objects stand.
-ghost use Rattle.std.specs.Prelude.{◌≡◌, IfOk};
+ghost use Rattle.std.specs.Prelude.{◌≡◌, ◌<◌, ◌^◌, IfOk};
 ghost use Rattle.rm_evidence.specs.Names.{log_name, piece_name, site_name};
+ghost use Rattle.rm_evidence.specs.Taking.{HasId};
 
 use rm_base::{NoMemory, Text};
+use rm_catalog::Record;
 use std::alloc::Global;
 
 /// The name of an archived log, or of a backup of one: `log_` and the id.
@@ -29,4 +31,22 @@ pub fn site_name(alloc: Global, id: u32) -> Result<Text, NoMemory>
     ensures { IfOk result (λ name. name ≡ site_name id) }
 {
     Ok(Text::from_string(format!(in alloc; "site_{id}")?))
+}
+
+// An id is one of four bytes.
+fn fits(id: u32)
+    ensures { id < 2 ^ 32 }
+{
+    let _ = id;
+}
+
+/// The id of a log or a piece is one of four bytes, so its name tells it. Nothing is done.
+pub fn id_fits(row: &Record)
+    ensures { HasId row.now }
+{
+    match row {
+        Record::Log(entry) => fits(entry.id),
+        Record::Piece(entry) => fits(entry.id),
+        _ => {}
+    }
 }

@@ -1,8 +1,9 @@
 //! What one record adds to the evidence.
-ghost use Rattle.std.specs.Prelude.{◌≡◌, ◌≤◌, ◌∷◌, [], IfSome, OnOk, IsErrOf};
+ghost use Rattle.std.specs.Prelude.{◌≡◌, ◌≤◌, ◌∷◌, [], OnOk, IsErrOf};
 ghost use Rattle.rm_base.specs.Outside.{Rose};
 ghost use Rattle.rm_catalog.specs.declared.record.Record.TheVariants.{Log as OfLog, Piece as OfPiece};
-ghost use Rattle.rm_evidence.specs.Taking.{Adds, KeepsFit, KeepsRecords, with_piece};
+ghost use Rattle.rm_evidence.specs.Seen.{IsSeen};
+ghost use Rattle.rm_evidence.specs.Taking.{Adds, with_piece};
 
 use crate::evidence::Evidence;
 use crate::gathering::EvidenceFault;
@@ -19,9 +20,7 @@ fn take_log<D: Store>(
     entry: &LogEntry,
     evidence: &mut Evidence,
 ) -> Result<(), EvidenceFault>
-    ensures adds { OnOk result (IfSome (D.held store.old) (λ h. Adds h (OfLog entry.now ∷ []) evidence.old evidence.new)) }
-    ensures fits { OnOk result (KeepsFit (OfLog entry.now) evidence.old evidence.new) }
-    ensures recorded { OnOk result (KeepsRecords (OfLog entry.now) evidence.old evidence.new) }
+    ensures adds { OnOk result (IsSeen (D.held store.old) (λ h. Adds h (OfLog entry.now ∷ []) evidence.old evidence.new)) }
     ensures same { D.held store.new ≡ D.held store.old }
     ensures failed { IsErrOf result EvidenceFault.StoreFault → Rose (D.faults store.old) (D.faults store.new) }
     ensures never_falls { D.faults store.old ≤ D.faults store.new }
@@ -54,9 +53,7 @@ fn take_piece<D: Store>(
     entry: &PieceEntry,
     evidence: &mut Evidence,
 ) -> Result<(), EvidenceFault>
-    ensures adds { OnOk result (IfSome (D.held store.old) (λ h. Adds h (OfPiece entry.now ∷ []) evidence.old evidence.new)) }
-    ensures fits { OnOk result (KeepsFit (OfPiece entry.now) evidence.old evidence.new) }
-    ensures recorded { OnOk result (KeepsRecords (OfPiece entry.now) evidence.old evidence.new) }
+    ensures adds { OnOk result (IsSeen (D.held store.old) (λ h. Adds h (OfPiece entry.now ∷ []) evidence.old evidence.new)) }
     ensures same { D.held store.new ≡ D.held store.old }
     ensures failed { IsErrOf result EvidenceFault.StoreFault → Rose (D.faults store.old) (D.faults store.new) }
     ensures never_falls { D.faults store.old ≤ D.faults store.new }
@@ -78,9 +75,7 @@ pub(crate) fn take_record<D: Store>(
     row: &Record,
     evidence: &mut Evidence,
 ) -> Result<(), EvidenceFault>
-    ensures adds { OnOk result (IfSome (D.held store.old) (λ h. Adds h (row.now ∷ []) evidence.old evidence.new)) }
-    ensures fits { OnOk result (KeepsFit row.now evidence.old evidence.new) }
-    ensures recorded { OnOk result (KeepsRecords row.now evidence.old evidence.new) }
+    ensures adds { OnOk result (IsSeen (D.held store.old) (λ h. Adds h (row.now ∷ []) evidence.old evidence.new)) }
     ensures same { D.held store.new ≡ D.held store.old }
     ensures failed { IsErrOf result EvidenceFault.StoreFault → Rose (D.faults store.old) (D.faults store.new) }
     ensures never_falls { D.faults store.old ≤ D.faults store.new }
