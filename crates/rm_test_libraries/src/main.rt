@@ -1,5 +1,5 @@
 //! Tests of the public calls of the libraries below the machine, each of which prints a line: of rm_base, rm_lang_token, rm_history,
-//! rm_blocks and rm_lanes, of rm_catalog and rm_redo, of rm_piece, rm_evidence and rm_commit, of rm_merge and rm_backup, and of
+//! rm_blocks, rm_lanes and rm_track, of rm_catalog and rm_redo, of rm_piece, rm_evidence and rm_commit, of rm_merge and rm_backup, and of
 //! rm_retain. The long tables and the worked rows are files of `data/`, of which each line is a case or says what is there.
 #![tactic(auto)]
 
@@ -24,6 +24,7 @@ mod renewing;
 mod retention;
 mod scripts;
 mod stores;
+mod tracking;
 mod trees;
 mod values;
 mod windows;
@@ -69,7 +70,9 @@ fn tell_history(rt: &HostRuntime) -> io::Result<()> {
 fn tell_kernels(rt: &HostRuntime) -> io::Result<()> {
     let alloc = rt.alloc();
     tell(rt, "kernels are plain loops", kernels::plain(alloc))?;
-    tell::<Fault>(rt, "bits are least first", Ok(kernels::least_first()))
+    tell::<Fault>(rt, "bits are least first", Ok(kernels::least_first()))?;
+    tell(rt, "blocks with a bit each", tracking::blocks(alloc))?;
+    tell(rt, "level 1s of tracked blocks", tracking::level1s(alloc))
 }
 
 fn tell_catalogs(rt: &HostRuntime) -> io::Result<()> {

@@ -18,6 +18,7 @@
 //! |---|---|
 //! | `-- fail CALL N ..` | in the next run these calls fail, counted from 1: `read`, `write`, `get`, `put`, `remove`, `names`, `load` or `apply` |
 //! | `-- room N` | in the next run the sink has room for N bytes |
+//! | `-- most N` | in the next run one call of the sink takes at most N bytes |
 //! | `-- clock N ..` | the clock's answers, of which the last is repeated |
 //! | `-- words WORD ..` | the program's words, which else are `--store DIR --catalog FILE` |
 //! | `-- channels N` | the words `--channels N` follow the others |

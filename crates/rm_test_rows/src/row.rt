@@ -1,7 +1,7 @@
 //! A row, read line by line.
 use crate::calls::{Calls, call_of};
 use crate::digits::{bytes_in, record_of};
-use crate::trial::{ROOM, Trial, object};
+use crate::trial::{MOST, ROOM, Trial, object};
 use rm_base::{MemStore, Store, Text};
 use rm_catalog::{Edit, Keeper, Key, MemKeeper};
 use rm_test_harness::{Fault, differs};
@@ -19,6 +19,7 @@ pub struct Row {
     clock: Vec<u64>,
     failing: Calls,
     room: usize,
+    most: usize,
     site: Option<(MemStore, MemKeeper)>,
     goes_on: bool,
 }
@@ -34,6 +35,7 @@ impl Row {
             clock: Vec::new(alloc),
             failing: Calls::new(alloc),
             room: ROOM,
+            most: MOST,
             site: None,
             goes_on: false,
         };
@@ -75,6 +77,7 @@ impl Row {
             }
             ["fail", name, numbers @ ..] => self.fail(name, numbers),
             ["room", room] => self.set_room(room),
+            ["most", most] => self.set_most(most),
             ["clock", answers @ ..] => self.set_clock(answers),
             ["words", words @ ..] => {
                 self.words.clear();
@@ -132,6 +135,11 @@ impl Row {
         Ok(())
     }
 
+    fn set_most(&mut self, most: &str) -> Result<(), Fault> {
+        self.most = self.size(most)?;
+        Ok(())
+    }
+
     fn set_clock(&mut self, answers: &[&str]) -> Result<(), Fault> {
         self.clock.clear();
         for answer in answers {
@@ -169,6 +177,7 @@ impl Row {
             clock: &self.clock,
             failing: &self.failing,
             room: self.room,
+            most: self.most,
         };
         trial.gives(
             rt,
@@ -181,6 +190,7 @@ impl Row {
         self.site = Some((store, keeper));
         self.failing = Calls::new(self.alloc);
         self.room = ROOM;
+        self.most = MOST;
         Ok(())
     }
 

@@ -12,6 +12,9 @@ use std::thread::Threads;
 /// The room of a sink, where a row names no other.
 pub const ROOM: usize = 65_536;
 
+/// The most bytes that one call of a sink takes, where a row names no other number.
+pub const MOST: usize = 16;
+
 /// What a run is given, beside its store and its keeper.
 #[derive(Drop)]
 pub struct Trial<'a> {
@@ -21,6 +24,7 @@ pub struct Trial<'a> {
     pub clock: &'a [u64],
     pub failing: &'a Calls,
     pub room: usize,
+    pub most: usize,
 }
 
 impl Trial<'_> {
@@ -37,7 +41,7 @@ impl Trial<'_> {
         let alloc = self.alloc;
         let script = Vec::from_slice(alloc, self.script)?;
         let mut source = MemSource::new(script, 64, self.failing.of(Call::Read)?);
-        let mut sink = MemSink::new(alloc, self.room, 16, self.failing.of(Call::Write)?)?;
+        let mut sink = MemSink::new(alloc, self.room, self.most.max(1), self.failing.of(Call::Write)?)?;
         let mut clock = MemClock::new(Vec::from_slice(alloc, self.clock)?);
         let answer = run(
             rt,
