@@ -1,13 +1,13 @@
 -- What each statement keeps.
-use Rattle.std.specs.Prelude.{ℕ, ◌≡◌, ◌≤◌, Bool, true, false, Some, None, List}
+use Rattle.std.specs.Prelude.{ℕ, ◌≡◌, ◌≤◌, Bool, Some, None, List}
 use Rattle.rm_base.specs.Numbers.{last_moment}
 use Rattle.rm_base.specs.Store.{Held}
 use Rattle.rm_lang_statement.specs.declared.command.Command.{Command}
-use Rattle.rm_lang_statement.specs.declared.command.Command.TheVariants.{Dump, ListArchived, ListBackup, ListCopy, ListIncarnation, Preview, RecoverTest, ReportNeedBackup, ReportObsolete, ReportSchema, ShowAll, ValidateAll}
 use Rattle.rm_report.specs.declared.line.Line.{Line}
 use Rattle.rm_report.specs.Reply.{said}
 use Rattle.rm_machine.specs.Effect.{Effect, LeavesObjects, done, told}
 use Rattle.rm_machine.specs.Machine.{Machine, IsSoundMachine, DigestsTell}
+use Rattle.rm_machine.specs.Nature.{nature_of, tells}
 use Rattle.rm_machine.specs.Sound.{IsSound}
 use Rattle.rm_machine.specs.declared.state.State.{State}
 use Rattle.rm_machine.specs.State.{ledger, at_moment}
@@ -42,16 +42,4 @@ StaysSound c =
 
 -- the statement only tells
 abbrev pub only_tells : Command → Bool
-only_tells (RecoverTest until inc) = true
-only_tells (Preview until) = true
-only_tells (Dump file block) = true
-only_tells ListIncarnation = true
-only_tells ListBackup = true
-only_tells ListCopy = true
-only_tells ListArchived = true
-only_tells ReportObsolete = true
-only_tells ReportNeedBackup = true
-only_tells ReportSchema = true
-only_tells ShowAll = true
-only_tells ValidateAll = true
-only_tells _ = false
+only_tells c = tells (nature_of c)

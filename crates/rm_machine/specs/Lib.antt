@@ -25,6 +25,7 @@ pub mod Marks
 pub mod Meant
 pub mod Mount
 pub mod Names
+pub mod Nature
 pub mod Obsolete
 pub mod Open
 pub mod OpenResetlogs

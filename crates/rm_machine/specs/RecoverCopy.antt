@@ -45,21 +45,21 @@ use Rattle.rm_machine.specs.Validate.{is_available}
 abbrev pub is_copy_with : List ℕ → PieceEntry → Bool
 is_copy_with tag p = p.copy && bytes_eq p.tag tag && is_available p.status
 
--- why the tag is refused: no such record is there
+-- why a tag is refused that no such record has: too few ids are left, or since it has none
 abbrev pub tag_refusal : State → List ℕ → Option Refusal
-tag_refusal s tag = if list_any (is_copy_with tag) (ledger s).pieces then None else Some (Rm12 (Tag tag))
+tag_refusal s tag = if list_any (is_copy_with tag) (ledger s).pieces then None else or_else (ids_refusal s) (Some (Rm12 (Tag tag)))
 
--- why it is refused where its target does not count: too few ids are left, or by the tag
-abbrev pub copies_refusal : State → List ℕ → Option Refusal
-copies_refusal s tag = or_else (ids_refusal s) (tag_refusal s tag)
-
--- why a target is refused: it is out of range, or so
+-- Why a target is refused: it is out of range, or by the tag. Where neither is so, the copies that change say what limit is passed.
 abbrev pub copy_refusal_at : State → List ℕ → ℕ → Option Refusal
-copy_refusal_at s tag at = or_else (range_refusal (tree s) (current_of s) at) (copies_refusal s tag)
+copy_refusal_at s tag at = or_else (range_refusal (tree s) (current_of s) at) (tag_refusal s tag)
+
+-- why it is refused without a target, before that is told: too few ids are left, or by the tag
+abbrev pub targetless_refusal : State → List ℕ → Option Refusal
+targetless_refusal s tag = or_else (ids_refusal s) (tag_refusal s tag)
 
 -- why the state refuses it
 abbrev pub recover_copy_refusal : State → List ℕ → Option Until → Option Refusal
-recover_copy_refusal s tag until = until_refusal s (current_of s) until (copy_refusal_at s tag) (copies_refusal s tag)
+recover_copy_refusal s tag until = until_refusal s (current_of s) until (copy_refusal_at s tag) (targetless_refusal s tag)
 
 -- the record is one of an image copy or a level 1 with the tag
 abbrev pub is_level1 : Kind → Bool

@@ -6,7 +6,7 @@ use Rattle.rm_base.specs.declared.kinds.Class.TheVariants as class
 use Rattle.rm_base.specs.declared.refusal.Refusal.{Refusal}
 use Rattle.rm_base.specs.declared.refusal.Refusal.TheVariants.{Rm02, Rm03}
 use Rattle.rm_lang_statement.specs.declared.command.Command.{Command}
-use Rattle.rm_lang_statement.specs.declared.command.Command.TheVariants.{ArchiveLogCurrent, Backup, BackupLogs, ChangeBackup, CreateDatabase, CreateDatafile, Crosscheck, Cut, Damage, DeleteBackup, DeleteExpired, DeleteObsolete, Dump, ListArchived, ListBackup, ListCopy, ListIncarnation, LoseDatafile, LoseLog, Mount, OpenPlain, OpenResetlogs, Parallelism, Preview, Recover, RecoverCopy, RecoverTest, Remove, Rename, ReportNeedBackup, ReportObsolete, ReportSchema, ResetDatabase, Restore, Retention, ShowAll, SwitchLogfile, ValidateAll, Write}
+use Rattle.rm_lang_statement.specs.declared.command.Command.TheVariants.{ArchiveLogCurrent, Backup, BackupLogs, CatalogName, ChangeBackup, CreateDatabase, CreateDatafile, Crosscheck, Cut, Damage, DeleteBackup, DeleteExpired, DeleteObsolete, Dump, ListArchived, ListBackup, ListCopy, ListIncarnation, LoseDatafile, LoseLog, Mount, OpenPlain, OpenResetlogs, Parallelism, Preview, Recover, RecoverCopy, RecoverTest, Remove, Rename, ReportNeedBackup, ReportObsolete, ReportSchema, ResetDatabase, Restore, Retention, ShowAll, SwitchLogfile, Tracking, ValidateAll, Write}
 use Rattle.rm_lang_statement.specs.IsCommand.{is_command}
 use Rattle.rm_report.specs.Reply as reply
 use Rattle.rm_report.specs.declared.line.Reply.{Reply}
@@ -64,7 +64,7 @@ refusal_of s (Write w) = write_refusal s w
 refusal_of s (SwitchLogfile t) = switch_refusal s t
 refusal_of s ArchiveLogCurrent = archive_all_refusal s
 refusal_of s (Backup b) = backup_refusal s b
-refusal_of s BackupLogs = ids_refusal s
+refusal_of s BackupLogs = None
 refusal_of s Mount = ids_refusal s
 refusal_of s OpenPlain = open_refusal s
 refusal_of s OpenResetlogs = resetlogs_refusal s
@@ -87,7 +87,17 @@ refusal_of s (Remove name) = ids_refusal s
 refusal_of s (Damage name at) = ids_refusal s
 refusal_of s (Cut name to) = ids_refusal s
 refusal_of s (Rename old new) = ids_refusal s
-refusal_of s _ = None
+refusal_of s (Tracking on) = None
+refusal_of s ValidateAll = None
+refusal_of s ReportObsolete = None
+refusal_of s ReportNeedBackup = None
+refusal_of s ReportSchema = None
+refusal_of s ListIncarnation = None
+refusal_of s ListBackup = None
+refusal_of s ListCopy = None
+refusal_of s ListArchived = None
+refusal_of s ShowAll = None
+refusal_of s (CatalogName name) = None
 
 -- what it comes to otherwise, by what the store holds
 abbrev pub IsDone : State → Held → Command → Outcome → Type 0
@@ -129,7 +139,9 @@ IsDone s held (Remove name) o = IsRemoveOutcome s held name o
 IsDone s held (Damage name at) o = IsDamageOutcome s held name at o
 IsDone s held (Cut name to) o = IsCutOutcome s held name to o
 IsDone s held (Rename old new) o = IsRenameOutcome s held old new o
-IsDone s held _ o = ⊥
+IsDone s held (CreateDatabase dbid threads scn) o = ⊥
+IsDone s held (Tracking on) o = ⊥
+IsDone s held (CatalogName name) o = ⊥
 
 abbrev pub IsOutcomeBy : Option Refusal → State → Held → Command → Outcome → Type 0
 IsOutcomeBy (Some r) s held c o = o ≡ refused r
@@ -151,15 +163,95 @@ names_in (Remove name) = name ∷ []
 names_in (Damage name at) = name ∷ []
 names_in (Cut name to) = name ∷ []
 names_in (Rename old new) = old ∷ new ∷ []
-names_in _ = []
+names_in (CreateDatabase dbid threads scn) = []
+names_in (CreateDatafile blocks) = []
+names_in (Write w) = []
+names_in (SwitchLogfile thread) = []
+names_in ArchiveLogCurrent = []
+names_in Mount = []
+names_in OpenPlain = []
+names_in OpenResetlogs = []
+names_in (Tracking on) = []
+names_in (ResetDatabase inc) = []
+names_in (Restore file until) = []
+names_in (Preview until) = []
+names_in (Recover until) = []
+names_in (RecoverTest until inc) = []
+names_in (RecoverCopy tag until) = []
+names_in (Backup b) = []
+names_in BackupLogs = []
+names_in (Crosscheck class) = []
+names_in ValidateAll = []
+names_in (ChangeBackup id to) = []
+names_in DeleteObsolete = []
+names_in (DeleteBackup id) = []
+names_in (DeleteExpired class) = []
+names_in ReportObsolete = []
+names_in ReportNeedBackup = []
+names_in ReportSchema = []
+names_in ListIncarnation = []
+names_in ListBackup = []
+names_in ListCopy = []
+names_in ListArchived = []
+names_in ShowAll = []
+names_in (Dump file block) = []
+names_in (Retention form) = []
+names_in (Parallelism channels) = []
+names_in (CatalogName name) = []
+names_in (LoseDatafile file) = []
+names_in (LoseLog thread) = []
 
 -- What is known of an outcome beyond that, from the state on which the statement acts: what a recovery brings back or tells is what the
 -- history made, and what a deletion by the policy leaves keeps each target of the window.
 abbrev pub Means : Option State → List Change → Held → Command → Outcome → Held → Type 0
+Means None h held c o after = Unit {0}
 Means (Some s) h held (Recover until) (done lines effect t) after = BringsTruly h s until t
 Means (Some s) h held (RecoverTest until inc) (told lines) after = TellsTruly h s until inc lines
 Means (Some s) h held DeleteObsolete (done lines effect t) after = IsSafe s held t after
-Means _ h held _ _ after = Unit {0}
+Means (Some s) h held (CreateDatabase dbid threads scn) o after = Unit {0}
+Means (Some s) h held (CreateDatafile blocks) o after = Unit {0}
+Means (Some s) h held (Write w) o after = Unit {0}
+Means (Some s) h held (SwitchLogfile thread) o after = Unit {0}
+Means (Some s) h held ArchiveLogCurrent o after = Unit {0}
+Means (Some s) h held Mount o after = Unit {0}
+Means (Some s) h held OpenPlain o after = Unit {0}
+Means (Some s) h held OpenResetlogs o after = Unit {0}
+Means (Some s) h held (Tracking on) o after = Unit {0}
+Means (Some s) h held (ResetDatabase inc) o after = Unit {0}
+Means (Some s) h held (Restore file until) o after = Unit {0}
+Means (Some s) h held (Preview until) o after = Unit {0}
+Means (Some s) h held (Recover until) (told lines) after = Unit {0}
+Means (Some s) h held (Recover until) (refused r) after = Unit {0}
+Means (Some s) h held (RecoverTest until inc) (done lines effect t) after = Unit {0}
+Means (Some s) h held (RecoverTest until inc) (refused r) after = Unit {0}
+Means (Some s) h held (RecoverCopy tag until) o after = Unit {0}
+Means (Some s) h held (Backup b) o after = Unit {0}
+Means (Some s) h held BackupLogs o after = Unit {0}
+Means (Some s) h held (Crosscheck class) o after = Unit {0}
+Means (Some s) h held ValidateAll o after = Unit {0}
+Means (Some s) h held (ChangeBackup id to) o after = Unit {0}
+Means (Some s) h held DeleteObsolete (told lines) after = Unit {0}
+Means (Some s) h held DeleteObsolete (refused r) after = Unit {0}
+Means (Some s) h held (DeleteBackup id) o after = Unit {0}
+Means (Some s) h held (DeleteExpired class) o after = Unit {0}
+Means (Some s) h held ReportObsolete o after = Unit {0}
+Means (Some s) h held ReportNeedBackup o after = Unit {0}
+Means (Some s) h held ReportSchema o after = Unit {0}
+Means (Some s) h held ListIncarnation o after = Unit {0}
+Means (Some s) h held ListBackup o after = Unit {0}
+Means (Some s) h held ListCopy o after = Unit {0}
+Means (Some s) h held ListArchived o after = Unit {0}
+Means (Some s) h held ShowAll o after = Unit {0}
+Means (Some s) h held (Dump file block) o after = Unit {0}
+Means (Some s) h held (Retention form) o after = Unit {0}
+Means (Some s) h held (Parallelism channels) o after = Unit {0}
+Means (Some s) h held (CatalogName name) o after = Unit {0}
+Means (Some s) h held (LoseDatafile file) o after = Unit {0}
+Means (Some s) h held (LoseLog thread) o after = Unit {0}
+Means (Some s) h held (Remove name) o after = Unit {0}
+Means (Some s) h held (Damage name at) o after = Unit {0}
+Means (Some s) h held (Cut name to) o after = Unit {0}
+Means (Some s) h held (Rename old new) o after = Unit {0}
 
 -- What a statement does outside: its effect. The objects of a saved site go too, of which no record tells any longer.
 abbrev pub and_drops : Option State → Effect → Effect

@@ -3,8 +3,10 @@
 
 pub mod handed;
 pub mod job;
+pub mod nature;
 pub mod state;
 
 pub use handed::Handed;
 pub use job::Job;
+pub use nature::Nature;
 pub use state::{Instance, State};

@@ -1,12 +1,13 @@
 -- What the state refuses, and how it is answered.
-use Rattle.std.specs.Prelude.{ℕ, ◌≡◌, nat_lt, if◌then◌else◌, Bool, true, false, Option, Some, None}
+use Rattle.std.specs.Prelude.{ℕ, ◌≡◌, nat_lt, if◌then◌else◌, Bool, true, Option, Some, None}
 use Rattle.rm_base.specs.declared.refusal.Refusal.{Refusal}
 use Rattle.rm_base.specs.declared.refusal.Refusal.TheVariants.{Rm02, Rm11}
 use Rattle.rm_base.specs.declared.refusal.Limit.TheVariants.{Threads}
 use Rattle.rm_lang_statement.specs.declared.command.Command.{Command}
-use Rattle.rm_lang_statement.specs.declared.command.Command.TheVariants.{BackupLogs, CreateDatabase, Cut, Damage, Recover, RecoverCopy, RecoverTest, Remove, Rename}
+use Rattle.rm_lang_statement.specs.declared.command.Command.TheVariants.{CreateDatabase}
 use Rattle.rm_report.specs.Reply.{refused_by}
 use Rattle.rm_report.specs.declared.line.Reply.{Reply}
+use Rattle.rm_machine.specs.Nature.{nature_of, tries}
 use Rattle.rm_machine.specs.declared.state.State.{State}
 use Rattle.rm_machine.specs.State.{at_moment}
 use Rattle.rm_machine.specs.Step.{refusal_of}
@@ -27,15 +28,7 @@ refusal_in (Some s) c moment = refusal_of (at_moment s moment) c
 
 -- what the objects hold may refuse it too
 abbrev pub looks_at_objects : Command → Bool
-looks_at_objects BackupLogs = true
-looks_at_objects (Recover until) = true
-looks_at_objects (RecoverTest until inc) = true
-looks_at_objects (RecoverCopy tag until) = true
-looks_at_objects (Remove name) = true
-looks_at_objects (Damage name at) = true
-looks_at_objects (Cut name to) = true
-looks_at_objects (Rename old new) = true
-looks_at_objects _ = false
+looks_at_objects c = tries (nature_of c)
 
 -- The state did not refuse the statement: only what the objects hold may, and that changes nothing.
 pub record IsAccepted {S : Type 0} (c : Command) (reply : Reply) (s t : S) : Type 0 where

@@ -24,7 +24,7 @@ use Rattle.rm_machine.specs.Marks.{ids_refusal}
 use Rattle.rm_machine.specs.Open.{open_refusal}
 use Rattle.rm_machine.specs.OpenResetlogs.{resetlogs_refusal}
 use Rattle.rm_machine.specs.Recover.{recover_refusal, target_refusal}
-use Rattle.rm_machine.specs.RecoverCopy.{copies_refusal, copy_refusal_at, recover_copy_refusal, tag_refusal}
+use Rattle.rm_machine.specs.RecoverCopy.{copy_refusal_at, recover_copy_refusal, tag_refusal, targetless_refusal}
 use Rattle.rm_machine.specs.RecoverTest.{test_refusal, tested, tested_refusal}
 use Rattle.rm_machine.specs.ResetDatabase.{reset_refusal}
 use Rattle.rm_machine.specs.Recovery.{range_refusal}
@@ -141,15 +141,15 @@ test-dated : (s : State) → IsSound s → (u : Option Until) (inc : Option ℕ)
 test-dated s sound u inc = else-dated (thread_refusal s u) _ (thread-dated s u) (tested-dated s sound u (tested s inc))
 
 tag-dated : (s : State) (tag : List ℕ) → IsDated (tag_refusal s tag)
-tag-dated s tag = search (if-dated, never, once)
+tag-dated s tag = search (if-dated, else-dated, ids-dated, never, once)
 
-copies-dated : (s : State) (tag : List ℕ) → IsDated (copies_refusal s tag)
-copies-dated s tag = else-dated (ids_refusal s) (tag_refusal s tag) (ids-dated s) (tag-dated s tag)
+targetless-dated : (s : State) (tag : List ℕ) → IsDated (targetless_refusal s tag)
+targetless-dated s tag = else-dated (ids_refusal s) (tag_refusal s tag) (ids-dated s) (tag-dated s tag)
 
 copy-dated : (s : State) → IsSound s → (tag : List ℕ) (u : Option Until) → IsDated (recover_copy_refusal s tag u)
 copy-dated s sound tag u =
-    until-dated s sound (current_of s) u (copy_refusal_at s tag) (copies_refusal s tag)
-    (λ at. else-dated (range_refusal (tree s) (current_of s) at) (copies_refusal s tag) (range-dated s (current_of s) at) (copies-dated s tag)) (copies-dated s tag)
+    until-dated s sound (current_of s) u (copy_refusal_at s tag) (targetless_refusal s tag)
+    (λ at. else-dated (range_refusal (tree s) (current_of s) at) (tag_refusal s tag) (range-dated s (current_of s) at) (tag-dated s tag)) (targetless-dated s tag)
 
 absent-dated : (s : State) (at : ℕ) (file : Option ℕ) → IsDated (absent_refusal s at file)
 absent-dated s at None = never
@@ -194,7 +194,7 @@ every-refusal-dated s sound (Write w) = write-dated s w
 every-refusal-dated s sound (SwitchLogfile t) = switch-dated s t
 every-refusal-dated s sound ArchiveLogCurrent = archive-dated s
 every-refusal-dated s sound (Backup b) = backup-dated s b
-every-refusal-dated s sound BackupLogs = ids-dated s
+every-refusal-dated s sound BackupLogs = never
 every-refusal-dated s sound Mount = ids-dated s
 every-refusal-dated s sound OpenPlain = open-dated s
 every-refusal-dated s sound OpenResetlogs = resetlogs-dated s

@@ -26,7 +26,7 @@ pub(crate) fn refusal_of(
         Command::SwitchLogfile { thread } => Ok(rm_step_open::switch_refusal(state, *thread)),
         Command::ArchiveLogCurrent => Ok(rm_step_open::archive_all_refusal(state)),
         Command::Backup(form) => Ok(rm_step_backup::backup_refusal(state, form)),
-        Command::BackupLogs => Ok(ids_refusal(state)),
+        Command::BackupLogs => Ok(None),
         Command::Mount => Ok(ids_refusal(state)),
         Command::OpenPlain => Ok(rm_step_open::open_refusal(state)),
         Command::OpenResetlogs => Ok(rm_step_open::resetlogs_refusal(state)),

@@ -2,7 +2,6 @@
 ghost use Rattle.std.specs.Prelude.{◌≡◌, ◌≤◌, None, IfOk, IsErrOf, OnOk};
 ghost use Rattle.rm_base.specs.Outside.{Rose};
 ghost use Rattle.rm_commit.specs.declared.commit.Stop.TheVariants.{StoreFault, KeeperFault};
-ghost use Rattle.rm_machine.specs.Marks.{ids_refusal};
 ghost use Rattle.rm_machine.specs.Sound.{IsSound};
 ghost use Rattle.rm_catalog_typed.specs.Changes.{EditsFollow};
 ghost use Rattle.rm_site.specs.Comes.{IsAnswer};
@@ -26,7 +25,6 @@ pub(crate) fn back_up_logs<D: Store>(
     edits: &mut Vec<Edit>,
 ) -> Result<Answer, Stop>
     requires sound { IsSound state.old }
-    requires accepted { ids_refusal state.old ≡ None }
     ensures answer { IfOk result (λ a. IsAnswer (D.held store.old) state.old BackupLogs a state.new) }
     ensures edits { OnOk result (EditsFollow edits.old.items edits.new.items state.old.catalog state.new.catalog) }
     ensures held { D.held store.new ≡ D.held store.old }

@@ -1,7 +1,7 @@
 //! Why RECOVER COPY is refused by the state alone.
 ghost use Rattle.std.specs.Prelude.{◌≡◌, IfOk};
 ghost use Rattle.std.specs.List.{list_any};
-ghost use Rattle.rm_machine.specs.RecoverCopy.{copies_refusal, copy_refusal_at, is_copy_with, recover_copy_refusal, tag_refusal};
+ghost use Rattle.rm_machine.specs.RecoverCopy.{copy_refusal_at, is_copy_with, recover_copy_refusal, tag_refusal, targetless_refusal};
 ghost use Rattle.rm_machine.specs.Sound.{IsSound};
 ghost use Rattle.rm_machine.specs.State.{ledger};
 
@@ -28,21 +28,25 @@ fn has_copy_with(state: &State, tag: &str) -> bool
     pieces.iter().any(|piece| is_copy_with(tag, piece))
 }
 
-// Why the tag is refused, if it is: no such record is there.
+// Why a tag is refused that no such record has: too few ids are left, or since it has none.
 fn tag_refusal(alloc: Global, state: &State, tag: &str) -> Result<Option<Refusal>, NoMemory>
+    requires sound { IsSound state.now }
     ensures { IfOk result (λ o. o ≡ tag_refusal state.now tag.now) }
 {
     if has_copy_with(state, tag) {
         return Ok(None);
     }
+    if let Some(refusal) = ids_refusal(state) {
+        return Ok(Some(refusal));
+    }
     let tag = Text::from_string(String::from_str(alloc, tag)?);
     Ok(Some(Refusal::Rm12(Unknown::Tag(tag))))
 }
 
-// Why it is refused where its target does not count: too few ids are left, or by the tag.
-fn copies_refusal(alloc: Global, state: &State, tag: &str) -> Result<Option<Refusal>, NoMemory>
+// Why it is refused without a target, before that is told: too few ids are left, or by the tag.
+fn targetless_refusal(alloc: Global, state: &State, tag: &str) -> Result<Option<Refusal>, NoMemory>
     requires sound { IsSound state.now }
-    ensures { IfOk result (λ o. o ≡ copies_refusal state.now tag.now) }
+    ensures { IfOk result (λ o. o ≡ targetless_refusal state.now tag.now) }
 {
     match ids_refusal(state) {
         Some(refusal) => Ok(Some(refusal)),
@@ -50,7 +54,7 @@ fn copies_refusal(alloc: Global, state: &State, tag: &str) -> Result<Option<Refu
     }
 }
 
-// Why a target is refused: it is out of range, or so.
+// Why a target is refused: it is out of range, or by the tag.
 fn copy_refusal_at(
     alloc: Global,
     state: &State,
@@ -62,14 +66,14 @@ fn copy_refusal_at(
 {
     match range_refusal(state.catalog.tree(), state.catalog.base().current, at) {
         Some(refusal) => Ok(Some(refusal)),
-        None => copies_refusal(alloc, state, tag),
+        None => tag_refusal(alloc, state, tag),
     }
 }
 
 /// Why RECOVER COPY is refused by the state alone, if it is: the redo thread of its UNTIL is not there (RM-05), its
-/// target is out of the range of the current incarnation (RM-06), too few object ids are left (RM-11), no record of
-/// an image copy with the tag counts as available (RM-12), or its UNTIL leads nowhere (RM-12, RM-14). An error is want
-/// of memory.
+/// target is out of the range of the current incarnation (RM-06), no record of an image copy with the tag counts as
+/// available (RM-12), or its UNTIL leads nowhere (RM-12, RM-14). Where one of the last two is so, too few object ids
+/// (RM-11) come before it; else the copies that change say what limit is passed. An error is want of memory.
 pub fn recover_copy_refusal(
     alloc: Global,
     state: &State,
@@ -85,7 +89,7 @@ pub fn recover_copy_refusal(
     if let Some(at) = recover_target(state, until) {
         return copy_refusal_at(alloc, state, tag, at);
     }
-    match copies_refusal(alloc, state, tag)? {
+    match targetless_refusal(alloc, state, tag)? {
         Some(refusal) => Ok(Some(refusal)),
         None => Ok(nowhere_refusal(state, until)),
     }

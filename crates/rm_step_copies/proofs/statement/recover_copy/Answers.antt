@@ -1,7 +1,7 @@
 use Rattle.std.proofs.Common.{◌≡◌, ◌∙◌, ◌++◌, ℕ, List, None, Some, ap, sym}
 use Rattle.rm_commit.specs.declared.commit.Object.{Object}
 use Rattle.rm_machine.specs.Recover.{recover_target}
-use Rattle.rm_machine.specs.RecoverCopy.{AreRenewed, copies_gone, copies_lines, copies_put, copies_refusal, copy_refusal_at, renewed_refusal}
+use Rattle.rm_machine.specs.RecoverCopy.{AreRenewed, copies_gone, copies_lines, copies_put, copy_refusal_at, renewed_refusal, targetless_refusal}
 use Rattle.rm_machine.specs.Recovery.{skipped_lines}
 use Rattle.rm_machine.specs.State.{current_of}
 use Rattle.rm_report.specs.declared.line.Line.{Line}
@@ -13,7 +13,7 @@ pub unreachable-requires : goal.unreachable-requires
 unreachable-requires g c =
     let s = c.args.state.now in
     let tag = c.args.tag.now in
-    leads-on s (current_of s) c.args.until.now (copy_refusal_at s tag) (copies_refusal s tag) c.requires.accepted (sym c.recover_target.ensures.value ∙ c.in_default.is)
+    leads-on s (current_of s) c.args.until.now (copy_refusal_at s tag) (targetless_refusal s tag) c.requires.accepted (sym c.recover_target.ensures.value ∙ c.in_default.is)
 
 pub renewed_refusal-requires-clause-short : goal.renewed_refusal-requires-clause-short
 renewed_refusal-requires-clause-short g c =
