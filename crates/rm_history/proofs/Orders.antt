@@ -288,15 +288,18 @@ module _ (w : World) (k : List Change) (history : IsHistory w k) where
 
   -- so it agrees in its order
   pub ordered : (e : Evidence) → AgreesInAnyOrder w k e → (h : List Change) × IsOrdered w k e h
-  ordered e agrees = (in_order k, record {
-    history = ordered-history;
-    same = ordered-same;
-    agrees = record {
-      bases = λ a held. (base-same (in_order k) ordered-same a).1 (agrees.bases a held);
-      level1s = λ a held. (level1-same (in_order k) ordered-same a).1 (agrees.level1s a held);
-      logs = λ a held. ordered-log a (agrees.logs a held);
-    };
-  })
+  ordered e agrees = (
+    in_order k,
+    record {
+      history = ordered-history;
+      same = ordered-same;
+      agrees = record {
+        bases = λ a held. (base-same (in_order k) ordered-same a).1 (agrees.bases a held);
+        level1s = λ a held. (level1-same (in_order k) ordered-same a).1 (agrees.level1s a held);
+        logs = λ a held. ordered-log a (agrees.logs a held);
+      };
+    },
+  )
 
 -- and a history that agrees does so in any order, where the logs ascend
 pub any-order : (w : World) (h : List Change) (e : Evidence) → Agrees w h e → ((a : Log) → Contains e.logs a → AllPairs ComesBefore a.changes) → AgreesInAnyOrder w h e

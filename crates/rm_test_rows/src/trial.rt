@@ -41,7 +41,12 @@ impl Trial<'_> {
         let alloc = self.alloc;
         let script = Vec::from_slice(alloc, self.script)?;
         let mut source = MemSource::new(script, 64, self.failing.of(Call::Read)?);
-        let mut sink = MemSink::new(alloc, self.room, self.most.max(1), self.failing.of(Call::Write)?)?;
+        let mut sink = MemSink::new(
+            alloc,
+            self.room,
+            self.most.max(1),
+            self.failing.of(Call::Write)?,
+        )?;
         let mut clock = MemClock::new(Vec::from_slice(alloc, self.clock)?);
         let answer = run(
             rt,
