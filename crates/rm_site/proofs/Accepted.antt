@@ -1,14 +1,16 @@
 -- What a statement comes to that the state does not refuse.
-use Rattle.std.proofs.Common.{◌≡◌, true, Option, Some, None, refl, sym, subst}
+use Rattle.std.proofs.Common.{◌≡◌, Option, Some, None, refl, sym, subst}
 use Rattle.rm_base.specs.Store.{Held}
 use Rattle.rm_lang_statement.specs.declared.command.Command.{Command}
 use Rattle.rm_machine.specs.Hands.{Hands}
 use Rattle.rm_machine.specs.declared.handed.Handed.{Handed}
 use Rattle.rm_machine.specs.declared.state.State.{State}
+use Rattle.rm_machine.specs.Nature.{nature_of}
+use Rattle.rm_machine.specs.declared.nature.Nature.TheVariants.{Changes}
 use Rattle.rm_machine.specs.Sound.{IsSound}
 use Rattle.rm_machine.specs.Step.{IsStatement, refusal_of}
 use Rattle.rm_machine_laws.proofs.Every.{every-stays}
-use Rattle.rm_site.specs.Comes.{IsAnswer, IsRefusedBy, is_change}
+use Rattle.rm_site.specs.Comes.{IsAnswer, IsRefusedBy}
 use Rattle.rm_site.specs.declared.statement.Answer.TheVariants.{Done}
 use Rattle.rm_site.proofs.DatedLines.{change-dated}
 
@@ -18,7 +20,7 @@ nothing name = None
 
 module _ (held : Option Held) (s : State) (c : Command) (accepted : refusal_of s c ≡ None) (sound : IsSound s) where
   -- it is a change, and no store says anything of it
-  pub it-changes : (x : Handed) (t : State) → IsStatement c → is_change c ≡ true → s.catalog.saved ≡ None → ((h : Option Held) → Hands h s c x t) → IsAnswer held s c (Done x) t
+  pub it-changes : (x : Handed) (t : State) → IsStatement c → nature_of c ≡ Changes → s.catalog.saved ≡ None → ((h : Option Held) → Hands h s c x t) → IsAnswer held s c (Done x) t
   it-changes x t well change unsaved hands =
       let to = hands (Some nothing) in
       let does = to.comes nothing refl in

@@ -23,7 +23,8 @@ use Rattle.rm_machine.specs.Step.{IsDone}
 use Rattle.rm_machine.specs.SwitchLogfile.{archived, is_due, made_lines, none_lines, with_archived}
 use Rattle.rm_machine.specs.Upkeep.{change_line}
 use Rattle.rm_machine.specs.declared.state.State.{State}
-use Rattle.rm_site.specs.Comes.{is_change}
+use Rattle.rm_machine.specs.Nature.{nature_of}
+use Rattle.rm_machine.specs.declared.nature.Nature.TheVariants.{Changes}
 
 -- the moment of each RM-14 among the lines is at most the last
 record AreDated (lines : List Line) : Type 0 where
@@ -105,7 +106,7 @@ some-by : (at : Option ℕ) (f : ℕ → Outcome) (o : Outcome) → IsSomeAnd at
 some-by None f o is dated = absurd is
 some-by (Some n) f o is dated = by o (f n) is (dated n)
 
-every-dated : (c : Command) (s : State) (objects : Held) (o : Outcome) → is_change c ≡ true → IsDone s objects c o → IsDated o
+every-dated : (c : Command) (s : State) (objects : Held) (o : Outcome) → nature_of c ≡ Changes → IsDone s objects c o → IsDated o
 every-dated (CreateDatabase dbid threads scn) s objects o change is = absurd is
 every-dated (CreateDatafile blocks) s objects o change is = by o _ is (one-dated _ tt)
 every-dated (Write w) s objects o change is = by o _ is (one-dated _ tt)
@@ -149,7 +150,7 @@ every-dated (Rename old new) s objects o change is = absurd (cc)
 every-dated c s objects o change is = absurd is
 
 -- what a change says
-pub change-dated : (c : Command) (s : State) (objects : Held) (lines : List Line) (e : Effect) (t : State) → is_change c ≡ true → IsDone s objects c (done lines e t) → All LineHasDate lines
+pub change-dated : (c : Command) (s : State) (objects : Held) (lines : List Line) (e : Effect) (t : State) → nature_of c ≡ Changes → IsDone s objects c (done lines e t) → All LineHasDate lines
 change-dated c s objects lines e t change is = (every-dated c s objects (done lines e t) change is).dates
 
 -- what LIST INCARNATION and DUMP tell

@@ -1,9 +1,8 @@
 -- What a statement comes to, where there is a database.
-use Rattle.std.specs.Prelude.{◌≡◌, Bool, true, false, Option, Some, None, All}
+use Rattle.std.specs.Prelude.{◌≡◌, true, Option, Some, None, All}
 use Rattle.rm_base.specs.Store.{Held}
 use Rattle.rm_base.specs.declared.refusal.Refusal.{Refusal}
 use Rattle.rm_lang_statement.specs.declared.command.Command.{Command}
-use Rattle.rm_lang_statement.specs.declared.command.Command.TheVariants.{BackupLogs, Crosscheck, Cut, Damage, DeleteObsolete, Dump, ListArchived, ListBackup, ListCopy, ListIncarnation, Preview, Recover, RecoverCopy, RecoverTest, Remove, Rename, ReportNeedBackup, ReportObsolete, ReportSchema, Restore, ShowAll, ValidateAll}
 use Rattle.rm_report.specs.Reply.{LineHasDate, HasDate}
 use Rattle.rm_machine.specs.Effect.{refused, told}
 use Rattle.rm_machine.specs.Hands.{Hands}
@@ -33,51 +32,6 @@ abbrev pub AnswerHasDates : Answer → Type 0
 AnswerHasDates (Refused r) = HasDate r
 AnswerHasDates (Told lines) = All LineHasDate lines
 AnswerHasDates (Done x) = All LineHasDate x.lines
-
--- the statement changes an object, and looks at what the store holds
-abbrev pub is_mishap : Command → Bool
-is_mishap (Remove name) = true
-is_mishap (Damage name at) = true
-is_mishap (Cut name to) = true
-is_mishap (Rename old new) = true
-is_mishap _ = false
-
--- the statement tells of the state alone
-abbrev pub tells_state : Command → Bool
-tells_state (Dump file block) = true
-tells_state ListIncarnation = true
-tells_state ListBackup = true
-tells_state ListCopy = true
-tells_state ListArchived = true
-tells_state ReportSchema = true
-tells_state ShowAll = true
-tells_state _ = false
-
--- the statement changes the state, and looks at nothing else
-abbrev pub is_change : Command → Bool
-is_change (Crosscheck class) = false
-is_change BackupLogs = false
-is_change DeleteObsolete = false
-is_change (RecoverCopy tag until) = false
-is_change ReportObsolete = false
-is_change ReportNeedBackup = false
-is_change (Restore file until) = false
-is_change (Preview until) = false
-is_change (Recover until) = false
-is_change (RecoverTest until inc) = false
-is_change ListIncarnation = false
-is_change ListBackup = false
-is_change ListCopy = false
-is_change ListArchived = false
-is_change ReportSchema = false
-is_change ShowAll = false
-is_change ValidateAll = false
-is_change (Dump file block) = false
-is_change (Remove name) = false
-is_change (Damage name at) = false
-is_change (Cut name to) = false
-is_change (Rename old new) = false
-is_change _ = true
 
 -- what is known of an answer
 pub record IsAnswer (held : Option Held) (s : State) (c : Command) (a : Answer) (t : State) : Type 0 where

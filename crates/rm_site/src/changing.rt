@@ -1,12 +1,12 @@
 //! The statements that change the state, and look at nothing else.
-ghost use Rattle.std.specs.Prelude.{◌≡◌, Option, None, true, IfOk, IsTrue, OnOk, ◌≤◌, IfSome};
+ghost use Rattle.std.specs.Prelude.{◌≡◌, Option, None, IfOk, OnOk, ◌≤◌, IfSome};
 ghost use Rattle.rm_base.specs.Store.{Held};
-ghost use Rattle.rm_machine.specs.Built.{is_built};
 ghost use Rattle.rm_machine.specs.Hands.{Hands};
+ghost use Rattle.rm_machine.specs.Nature.{nature_of};
+ghost use Rattle.rm_machine.specs.declared.nature.Nature.TheVariants.{Changes};
 ghost use Rattle.rm_machine.specs.Sound.{IsSound};
 ghost use Rattle.rm_machine.specs.Step.{IsStatement, refusal_of};
 ghost use Rattle.rm_catalog_typed.specs.Changes.{EditsFollow};
-ghost use Rattle.rm_site.specs.Comes.{is_change};
 
 use crate::channels::channel_count;
 use rm_base::NoMemory;
@@ -31,8 +31,7 @@ pub(crate) fn change<R: Threads + Wait + Sync, G: Gate>(
 ) -> Result<Handed, NoMemory>
     requires channels { IfSome channels (λ n. (1 ≤ n) × (n ≤ 16)) }
     requires command { IsStatement command.now }
-    requires built { IsTrue (is_built command.now) }
-    requires change { is_change command.now ≡ true }
+    requires nature { nature_of command.now ≡ Changes }
     requires sound { IsSound state.old }
     requires accepted { refusal_of state.old command.now ≡ None }
     ensures hands { IfOk result (λ x. (held : Option Held) → Hands held state.old command.now x state.new) }

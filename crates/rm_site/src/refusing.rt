@@ -60,6 +60,16 @@ pub(crate) fn refusal_of(
         Command::Damage { .. } => Ok(ids_refusal(state)),
         Command::Cut { .. } => Ok(ids_refusal(state)),
         Command::Rename { .. } => Ok(ids_refusal(state)),
-        _ => Ok(None),
+        Command::Tracking { .. } => Ok(None),
+        Command::ValidateAll => Ok(None),
+        Command::ReportObsolete => Ok(None),
+        Command::ReportNeedBackup => Ok(None),
+        Command::ReportSchema => Ok(None),
+        Command::ListIncarnation => Ok(None),
+        Command::ListBackup => Ok(None),
+        Command::ListCopy => Ok(None),
+        Command::ListArchived => Ok(None),
+        Command::ShowAll => Ok(None),
+        Command::CatalogName { .. } => Ok(None),
     }
 }

@@ -4,6 +4,8 @@ ghost use Rattle.rm_base.specs.Outside.{Rose};
 ghost use Rattle.rm_commit.specs.declared.commit.Stop.TheVariants.{StoreFault, KeeperFault};
 ghost use Rattle.rm_catalog_typed.specs.Changes.{EditsFollow};
 ghost use Rattle.rm_machine.specs.Built.{is_built};
+ghost use Rattle.rm_machine.specs.Nature.{nature_of};
+ghost use Rattle.rm_machine.specs.declared.nature.Nature.TheVariants.{ChangesByHeld, TellsHeld, TestsHeld, TriesByHeld};
 ghost use Rattle.rm_machine.specs.Sound.{IsSound};
 ghost use Rattle.rm_machine.specs.Step.{IsStatement, refusal_of};
 ghost use Rattle.rm_site.specs.Comes.{AnswerHasDates, ComesTo, IsAnswer, IsRefusedBy};
@@ -18,7 +20,8 @@ use rm_catalog::Edit;
 use rm_channel::Gate;
 use rm_commit::Stop;
 use rm_lang_statement::Command;
-use rm_machine::{Handed, State};
+use rm_machine::{Handed, Nature, State};
+use rm_machine_code::nature_of;
 use rm_report::Line;
 use std::alloc::Global;
 use std::sync::Wait;
@@ -33,6 +36,120 @@ pub(crate) enum Answer {
     Told(Seq<Line>),
     /// It is done, but for what is carried out.
     Done(Handed),
+}
+
+// What a statement comes to that tells of what the store has, and that the state does not refuse.
+fn tell_held<D: Store>(
+    alloc: Global,
+    state: &State,
+    store: &mut D,
+    command: &Command,
+) -> Result<Answer, Stop>
+    requires nature { nature_of command.now ≡ TellsHeld }
+    requires sound { IsSound state.now }
+    requires accepted { refusal_of state.now command.now ≡ None }
+    ensures answer { IfOk result (λ a. IsAnswer (D.held store.old) state.now command.now a state.now) }
+    ensures held { D.held store.new ≡ D.held store.old }
+    ensures store { IsErrOf result StoreFault → Rose (D.faults store.old) (D.faults store.new) }
+    ensures keeper { ¬ IsErrOf result KeeperFault }
+    ensures never_falls { D.faults store.old ≤ D.faults store.new }
+{
+    match command {
+        Command::Preview { until } => step_recover::preview(alloc, state, store, until),
+        Command::ValidateAll => step_tell::validate(alloc, state, store),
+        Command::ReportObsolete => step_retain::tell_obsolete(alloc, state, store),
+        Command::ReportNeedBackup => step_retain::tell_needs(alloc, state, store),
+        _ => unreachable!(),
+    }
+}
+
+// The same of one that what the store has may refuse too.
+fn test_held<R: Threads + Sync, D: Store>(
+    rt: &R,
+    alloc: Global,
+    channels: Option<u32>,
+    state: &State,
+    store: &mut D,
+    command: &Command,
+) -> Result<Answer, Stop>
+    requires channels { IfSome channels (λ n. (1 ≤ n) × (n ≤ 16)) }
+    requires nature { nature_of command.now ≡ TestsHeld }
+    requires sound { IsSound state.now }
+    requires accepted { refusal_of state.now command.now ≡ None }
+    ensures answer { IfOk result (λ a. IsAnswer (D.held store.old) state.now command.now a state.now) }
+    ensures held { D.held store.new ≡ D.held store.old }
+    ensures store { IsErrOf result StoreFault → Rose (D.faults store.old) (D.faults store.new) }
+    ensures keeper { ¬ IsErrOf result KeeperFault }
+    ensures never_falls { D.faults store.old ≤ D.faults store.new }
+{
+    match command {
+        Command::RecoverTest { until, inc } => {
+            step_recover::recover_test(rt, alloc, channels, state, store, until, *inc)
+        }
+        _ => unreachable!(),
+    }
+}
+
+// What a statement comes to that changes the database by what the store has, and that the state does not refuse.
+fn change_by_held<D: Store>(
+    alloc: Global,
+    state: &mut State,
+    store: &mut D,
+    edits: &mut Vec<Edit>,
+    command: &Command,
+) -> Result<Answer, Stop>
+    requires nature { nature_of command.now ≡ ChangesByHeld }
+    requires sound { IsSound state.old }
+    requires accepted { refusal_of state.old command.now ≡ None }
+    ensures answer { IfOk result (λ a. IsAnswer (D.held store.old) state.old command.now a state.new) }
+    ensures edits { OnOk result (EditsFollow edits.old.items edits.new.items state.old.catalog state.new.catalog) }
+    ensures held { D.held store.new ≡ D.held store.old }
+    ensures store { IsErrOf result StoreFault → Rose (D.faults store.old) (D.faults store.new) }
+    ensures keeper { ¬ IsErrOf result KeeperFault }
+    ensures never_falls { D.faults store.old ≤ D.faults store.new }
+{
+    match command {
+        Command::Restore { file, until } => step_recover::restore(
+            alloc, state, store, *file, until,
+        ),
+        Command::Crosscheck { class } => step_upkeep::check(alloc, state, store, edits, *class),
+        Command::DeleteObsolete => step_retain::clear(alloc, state, store, edits),
+        _ => unreachable!(),
+    }
+}
+
+// The same of one that what the store has may refuse too.
+fn try_by_held<R: Threads + Sync, D: Store>(
+    rt: &R,
+    alloc: Global,
+    channels: Option<u32>,
+    state: &mut State,
+    store: &mut D,
+    edits: &mut Vec<Edit>,
+    command: &Command,
+) -> Result<Answer, Stop>
+    requires channels { IfSome channels (λ n. (1 ≤ n) × (n ≤ 16)) }
+    requires command { IsStatement command.now }
+    requires nature { nature_of command.now ≡ TriesByHeld }
+    requires sound { IsSound state.old }
+    requires accepted { refusal_of state.old command.now ≡ None }
+    ensures answer { IfOk result (λ a. IsAnswer (D.held store.old) state.old command.now a state.new) }
+    ensures edits { OnOk result (EditsFollow edits.old.items edits.new.items state.old.catalog state.new.catalog) }
+    ensures held { D.held store.new ≡ D.held store.old }
+    ensures store { IsErrOf result StoreFault → Rose (D.faults store.old) (D.faults store.new) }
+    ensures keeper { ¬ IsErrOf result KeeperFault }
+    ensures never_falls { D.faults store.old ≤ D.faults store.new }
+{
+    match command {
+        Command::Recover { until } => step_recover::recover(
+            rt, alloc, channels, state, store, until,
+        ),
+        Command::RecoverCopy { tag, until } => step_copies::renew(
+            alloc, state, store, edits, tag, until,
+        ),
+        Command::BackupLogs => step_backup::back_up_logs(alloc, state, store, edits),
+        _ => unreachable!(),
+    }
 }
 
 // What a statement comes to that the state does not refuse.
@@ -59,38 +176,17 @@ fn accepted<R: Threads + Wait + Sync, G: Gate, D: Store>(
     ensures keeper { ¬ IsErrOf result KeeperFault }
     ensures never_falls { D.faults store.old ≤ D.faults store.new }
 {
-    match command {
-        Command::Restore { file, until } => step_recover::restore(
-            alloc, state, store, *file, until,
-        ),
-        Command::Preview { until } => step_recover::preview(alloc, state, store, until),
-        Command::Recover { until } => step_recover::recover(
-            rt, alloc, channels, state, store, until,
-        ),
-        Command::RecoverTest { until, inc } => {
-            step_recover::recover_test(rt, alloc, channels, state, store, until, *inc)
-        }
-        Command::ValidateAll => step_tell::validate(alloc, state, store),
-        Command::Crosscheck { class } => step_upkeep::check(alloc, state, store, edits, *class),
-        Command::BackupLogs => step_backup::back_up_logs(alloc, state, store, edits),
-        Command::RecoverCopy { tag, until } => step_copies::renew(
-            alloc, state, store, edits, tag, until,
-        ),
-        Command::DeleteObsolete => step_retain::clear(alloc, state, store, edits),
-        Command::ReportObsolete => step_retain::tell_obsolete(alloc, state, store),
-        Command::ReportNeedBackup => step_retain::tell_needs(alloc, state, store),
-        Command::Dump { .. } => Ok(step_tell::tell(alloc, state, command)?),
-        Command::ListIncarnation => Ok(step_tell::tell(alloc, state, command)?),
-        Command::ListBackup => Ok(step_tell::tell(alloc, state, command)?),
-        Command::ListCopy => Ok(step_tell::tell(alloc, state, command)?),
-        Command::ListArchived => Ok(step_tell::tell(alloc, state, command)?),
-        Command::ReportSchema => Ok(step_tell::tell(alloc, state, command)?),
-        Command::ShowAll => Ok(step_tell::tell(alloc, state, command)?),
-        Command::Remove { .. } => step_host::mishap(alloc, state, store, command),
-        Command::Damage { .. } => step_host::mishap(alloc, state, store, command),
-        Command::Cut { .. } => step_host::mishap(alloc, state, store, command),
-        Command::Rename { .. } => step_host::mishap(alloc, state, store, command),
-        _ => Ok(Answer::Done(change(rt, alloc, gate, channels, state, edits, command)?)),
+    match nature_of(command) {
+        Nature::Unbuilt => unreachable!(),
+        Nature::TellsState => Ok(step_tell::tell(alloc, state, command)?),
+        Nature::TellsHeld => tell_held(alloc, state, store, command),
+        Nature::TestsHeld => test_held(rt, alloc, channels, state, store, command),
+        Nature::Changes => Ok(Answer::Done(change(
+            rt, alloc, gate, channels, state, edits, command,
+        )?)),
+        Nature::ChangesByHeld => change_by_held(alloc, state, store, edits, command),
+        Nature::TriesByHeld => try_by_held(rt, alloc, channels, state, store, edits, command),
+        Nature::Mishap => step_host::mishap(alloc, state, store, command),
     }
 }
 

@@ -27,7 +27,7 @@ use rm_commit::{Commit, Stop, carry_out};
 use rm_evidence::site_name;
 use rm_lang_statement::Command;
 use rm_machine::{Handed, State};
-use rm_machine_code::refusal_reply;
+use rm_machine_code::{only_tells, refusal_reply};
 use rm_report::{Line, Reply};
 use std::alloc::Global;
 use std::mem;
@@ -71,22 +71,7 @@ fn and_saved(alloc: Global, names: Seq<Text>, saved: &Option<Saved>) -> Result<S
 fn has_applied(before: bool, command: &Command, reply: &Reply) -> bool
     ensures { result ≡ (before || applies command.now reply.now) }
 {
-    let only_tells = matches!(
-        command,
-        Command::RecoverTest { .. }
-            | Command::Preview { .. }
-            | Command::Dump { .. }
-            | Command::ListIncarnation
-            | Command::ListBackup
-            | Command::ListCopy
-            | Command::ListArchived
-            | Command::ReportNeedBackup
-            | Command::ReportObsolete
-            | Command::ReportSchema
-            | Command::ShowAll
-            | Command::ValidateAll
-    );
-    before || (!reply.refused && !only_tells)
+    before || (!reply.refused && !only_tells(command))
 }
 
 // The answer to a statement where there is no database: CREATE DATABASE makes one.

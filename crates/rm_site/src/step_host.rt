@@ -1,10 +1,12 @@
 //! HOST REMOVE, DAMAGE, CUT and RENAME: they look at what the store holds, and change nothing but objects.
-ghost use Rattle.std.specs.Prelude.{◌≡◌, ◌≤◌, None, true, IfOk, IsErrOf};
+ghost use Rattle.std.specs.Prelude.{◌≡◌, ◌≤◌, None, IfOk, IsErrOf};
 ghost use Rattle.rm_base.specs.Outside.{Rose};
 ghost use Rattle.rm_commit.specs.declared.commit.Stop.TheVariants.{StoreFault, KeeperFault};
+ghost use Rattle.rm_machine.specs.Nature.{nature_of};
+ghost use Rattle.rm_machine.specs.declared.nature.Nature.TheVariants.{Mishap};
 ghost use Rattle.rm_machine.specs.Sound.{IsSound};
 ghost use Rattle.rm_machine.specs.Step.{refusal_of};
-ghost use Rattle.rm_site.specs.Comes.{IsAnswer, is_mishap};
+ghost use Rattle.rm_site.specs.Comes.{IsAnswer};
 
 use crate::statement::Answer;
 use rm_base::Store;
@@ -22,7 +24,7 @@ pub(crate) fn mishap<D: Store>(
     store: &mut D,
     command: &Command,
 ) -> Result<Answer, Stop>
-    requires mishap { is_mishap command.now ≡ true }
+    requires nature { nature_of command.now ≡ Mishap }
     requires sound { IsSound state.now }
     requires accepted { refusal_of state.now command.now ≡ None }
     ensures answer { IfOk result (λ a. IsAnswer (D.held store.old) state.now command.now a state.now) }

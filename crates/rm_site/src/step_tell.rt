@@ -1,11 +1,13 @@
 //! The statements that tell: of the state alone, and VALIDATE ALL, which looks at the objects of records.
-ghost use Rattle.std.specs.Prelude.{◌≡◌, Option, None, true, All, IfOk, ◌≤◌, IsErrOf};
+ghost use Rattle.std.specs.Prelude.{◌≡◌, Option, None, All, IfOk, ◌≤◌, IsErrOf};
 ghost use Rattle.rm_base.specs.Store.{Held};
 ghost use Rattle.rm_machine.specs.Hands.{Tells};
+ghost use Rattle.rm_machine.specs.Nature.{nature_of};
+ghost use Rattle.rm_machine.specs.declared.nature.Nature.TheVariants.{TellsState};
 ghost use Rattle.rm_machine.specs.Sound.{IsSound};
 ghost use Rattle.rm_machine.specs.Step.{refusal_of};
 ghost use Rattle.rm_report.specs.Reply.{LineHasDate};
-ghost use Rattle.rm_site.specs.Comes.{IsAnswer, tells_state};
+ghost use Rattle.rm_site.specs.Comes.{IsAnswer};
 ghost use Rattle.rm_base.specs.Outside.{Rose};
 ghost use Rattle.rm_commit.specs.declared.commit.Stop.TheVariants.{StoreFault, KeeperFault};
 ghost use Rattle.rm_lang_statement.specs.declared.command.Command.TheVariants.{ValidateAll};
@@ -22,7 +24,7 @@ use std::alloc::Global;
 
 // The lines of a statement that tells of the state alone.
 fn lines_of(alloc: Global, state: &State, command: &Command) -> Result<Seq<Line>, NoMemory>
-    requires tells { tells_state command.now ≡ true }
+    requires nature { nature_of command.now ≡ TellsState }
     requires sound { IsSound state.now }
     requires accepted { refusal_of state.now command.now ≡ None }
     ensures tells { IfOk result (λ lines. (held : Option Held) → Tells held state.now command.now lines) }
@@ -43,7 +45,7 @@ fn lines_of(alloc: Global, state: &State, command: &Command) -> Result<Seq<Line>
 /// What a statement comes to that tells of the state alone, and that the state does not refuse. An error is want of
 /// memory.
 pub(crate) fn tell(alloc: Global, state: &State, command: &Command) -> Result<Answer, NoMemory>
-    requires tells { tells_state command.now ≡ true }
+    requires nature { nature_of command.now ≡ TellsState }
     requires sound { IsSound state.now }
     requires accepted { refusal_of state.now command.now ≡ None }
     ensures answer { IfOk result (λ a. (held : Option Held) → IsAnswer held state.now command.now a state.now) }

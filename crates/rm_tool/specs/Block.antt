@@ -4,7 +4,7 @@ use Rattle.std.specs.Option.{option_or}
 use Rattle.rm_base.specs.declared.refusal.Limit.TheVariants.{Channels}
 use Rattle.rm_base.specs.declared.refusal.Refusal.TheVariants.{Rm02, Rm11}
 use Rattle.rm_lang_statement.specs.declared.command.Command.{Command}
-use Rattle.rm_lang_statement.specs.declared.command.Command.TheVariants.{Restore, Preview, Recover, RecoverTest, RecoverCopy}
+use Rattle.rm_lang_statement.specs.declared.command.Command.TheVariants.{ArchiveLogCurrent, Backup, BackupLogs, CatalogName, ChangeBackup, CreateDatabase, CreateDatafile, Crosscheck, Cut, Damage, DeleteBackup, DeleteExpired, DeleteObsolete, Dump, ListArchived, ListBackup, ListCopy, ListIncarnation, LoseDatafile, LoseLog, Mount, OpenPlain, OpenResetlogs, Parallelism, Preview, Recover, RecoverCopy, RecoverTest, Remove, Rename, ReportNeedBackup, ReportObsolete, ReportSchema, ResetDatabase, Restore, Retention, ShowAll, SwitchLogfile, Tracking, ValidateAll, Write}
 use Rattle.rm_lang_statement.specs.declared.command.Inner.{Inner}
 use Rattle.rm_lang_statement.specs.declared.command.Inner.TheVariants.{SetUntil, AllocateChannel, Plain as PlainInner}
 use Rattle.rm_lang_statement.specs.declared.command.Until.{Until}
@@ -37,7 +37,42 @@ with_until set (Preview until) = Preview (option_or until set)
 with_until set (Recover until) = Recover (option_or until set)
 with_until set (RecoverTest until inc) = RecoverTest (option_or until set) inc
 with_until set (RecoverCopy tag until) = RecoverCopy tag (option_or until set)
-with_until set c = c
+with_until set (CreateDatabase dbid threads scn) = CreateDatabase dbid threads scn
+with_until set (CreateDatafile blocks) = CreateDatafile blocks
+with_until set (Write w) = Write w
+with_until set (SwitchLogfile thread) = SwitchLogfile thread
+with_until set ArchiveLogCurrent = ArchiveLogCurrent
+with_until set Mount = Mount
+with_until set OpenPlain = OpenPlain
+with_until set OpenResetlogs = OpenResetlogs
+with_until set (Tracking on) = Tracking on
+with_until set (ResetDatabase inc) = ResetDatabase inc
+with_until set (Backup b) = Backup b
+with_until set BackupLogs = BackupLogs
+with_until set (Crosscheck class) = Crosscheck class
+with_until set ValidateAll = ValidateAll
+with_until set (ChangeBackup id to) = ChangeBackup id to
+with_until set DeleteObsolete = DeleteObsolete
+with_until set (DeleteBackup id) = DeleteBackup id
+with_until set (DeleteExpired class) = DeleteExpired class
+with_until set ReportObsolete = ReportObsolete
+with_until set ReportNeedBackup = ReportNeedBackup
+with_until set ReportSchema = ReportSchema
+with_until set ListIncarnation = ListIncarnation
+with_until set ListBackup = ListBackup
+with_until set ListCopy = ListCopy
+with_until set ListArchived = ListArchived
+with_until set ShowAll = ShowAll
+with_until set (Dump file block) = Dump file block
+with_until set (Retention form) = Retention form
+with_until set (Parallelism channels) = Parallelism channels
+with_until set (CatalogName name) = CatalogName name
+with_until set (LoseDatafile file) = LoseDatafile file
+with_until set (LoseLog thread) = LoseLog thread
+with_until set (Remove name) = Remove name
+with_until set (Damage name at) = Damage name at
+with_until set (Cut name to) = Cut name to
+with_until set (Rename old new) = Rename old new
 
 -- what is set behind a statement
 abbrev pub after_inner : Settings → Inner → Settings

@@ -60,6 +60,41 @@ pub fn with_until(alloc: Global, set: &Option<Until>, command: Command) -> Resul
             tag,
             until: or_set(alloc, until, set)?,
         }),
-        command => Ok(command),
+        Command::CreateDatabase { .. }
+        | Command::CreateDatafile { .. }
+        | Command::Write(_)
+        | Command::SwitchLogfile { .. }
+        | Command::ArchiveLogCurrent
+        | Command::Mount
+        | Command::OpenPlain
+        | Command::OpenResetlogs
+        | Command::Tracking { .. }
+        | Command::ResetDatabase { .. }
+        | Command::Backup(_)
+        | Command::BackupLogs
+        | Command::Crosscheck { .. }
+        | Command::ValidateAll
+        | Command::ChangeBackup { .. }
+        | Command::DeleteObsolete
+        | Command::DeleteBackup { .. }
+        | Command::DeleteExpired { .. }
+        | Command::ReportObsolete
+        | Command::ReportNeedBackup
+        | Command::ReportSchema
+        | Command::ListIncarnation
+        | Command::ListBackup
+        | Command::ListCopy
+        | Command::ListArchived
+        | Command::ShowAll
+        | Command::Dump { .. }
+        | Command::Retention(_)
+        | Command::Parallelism { .. }
+        | Command::CatalogName { .. }
+        | Command::LoseDatafile { .. }
+        | Command::LoseLog { .. }
+        | Command::Remove { .. }
+        | Command::Damage { .. }
+        | Command::Cut { .. }
+        | Command::Rename { .. } => Ok(command),
     }
 }
