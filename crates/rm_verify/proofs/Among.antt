@@ -1,5 +1,6 @@
 -- Whether a name is among names that ascend, by a binary search.
-use Rattle.std.proofs.Common.{◌≡◌, ◌∙◌, ◌+◌, ◌<◌, ℕ, Bool, true, false, List, [], length, get_or, Result, Ok, Err, is_ok, inl, inr, ap, refl, sym, arith}
+use Rattle.std.proofs.Common.{◌≡◌, ◌∙◌, ◌+◌, ◌<◌, ℕ, Bool, true, false, List, [], length, get_or, Option, Some, None, Result, Ok, Err, is_ok, inl, inr, ap, refl, sym, arith}
+use Rattle.std.specs.Prelude.{IfSome, is_some}
 use Rattle.std.specs.Cmp.Lexicographic.{slice_cmp}
 use Rattle.std.specs.List.Sorted.{IsSearchInRange, IsBinarySearchResult, IsNonDecreasingBy}
 use Rattle.std.specs.Ordering.{is_eq, is_lt, nat_cmp, ordering_index, ordering_reverse}
@@ -15,6 +16,7 @@ use Rattle.std.proofs.lemmas.Map.Text.{is_eq-slice_cmp}
 use Rattle.std.proofs.lemmas.Map.Views.{Contains-from_any, list_any-from_Contains}
 use Rattle.std.proofs.lemmas.Slice.Eq.{bytes_eq-Decides}
 use Rattle.rm_base.specs.Store.{AreTheNames, Ascends, Held}
+use Rattle.rm_evidence.specs.Seen.{IsSeen}
 use Rattle.rm_verify.specs.Crosscheck.{is_among, stands_in}
 
 compare : List ℕ → List ℕ → Ordering
@@ -57,3 +59,19 @@ names-stand names held name are =
     alike (is_among names name) (stands_in held name)
     (λ found. (are name).0 (Contains-from_any (λ x y. (bytes_eq-Decides x y).0) name names found))
     (λ stands. list_any-from_Contains nat_list_eq_equiv name names ((are name).1 stands))
+
+-- some bytes, or nothing
+abbrev bytes-if : Bool → Option (List ℕ)
+bytes-if true = Some []
+bytes-if false = None
+
+stands-if : (b : Bool) → b ≡ is_some (bytes-if b)
+stands-if true = refl
+stands-if false = refl
+
+-- the names that a store answers are seen of it
+pub names-seen : (o : Option Held) (names : List (List ℕ)) → IfSome o (AreTheNames names) → IsSeen o (λ held. (name : List ℕ) → is_among names name ≡ stands_in held name)
+names-seen None names are =
+    let held : Held = λ name. bytes-if (is_among names name) in
+    (held, λ name. stands-if (is_among names name))
+names-seen (Some held) names are = λ name. names-stand names held name are

@@ -1,8 +1,7 @@
 -- Which record that counts as available has no object that can be used.
-use Rattle.std.proofs.Common.{◌≡◌, ◌+◌, ◌<◌, ℕ, List, length, get_or, take, [], ◌∷◌, Option, Some, None, Result, Ok, Err, Contains, refl, sym, subst}
-use Rattle.std.specs.Prelude.{IfSome}
+use Rattle.std.proofs.Common.{◌≡◌, ◌≢◌, ◌+◌, ◌<◌, ℕ, List, length, get_or, take, [], ◌∷◌, Option, Some, None, Result, Ok, Err, Contains, refl, sym, subst}
 use Rattle.std.proofs.lemmas.Option.{same_Some}
-use Rattle.rm_base.proofs.Members.{in-front}
+use Rattle.rm_base.proofs.Members.{in-front, none-in}
 use Rattle.rm_base.specs.Store.{Held}
 use Rattle.rm_base.specs.declared.kinds.Bad.{Bad}
 use Rattle.rm_base.specs.declared.kinds.Bad.TheVariants.{Missing, Damaged}
@@ -13,8 +12,11 @@ use Rattle.rm_catalog.specs.declared.record.Record.{Record}
 use Rattle.rm_catalog.specs.declared.record.Record.TheVariants.{Log, Piece}
 use Rattle.rm_catalog.specs.Rules.{IsCatalog}
 use Rattle.rm_evidence.specs.Available.{IsBad, IsSkipped, a_log, a_piece}
-use Rattle.rm_evidence.specs.Taking.{IsTold}
-use Rattle.rm_evidence.proofs.Extending.{only-in}
+use Rattle.rm_evidence.specs.Seen.{IsSeen}
+use Rattle.rm_evidence.specs.Taking.{HasId, IsTold}
+use Rattle.rm_evidence.proofs.Extending.{extends-as, extends-none, only-in}
+use Rattle.rm_evidence.proofs.Runs.{is-ahead}
+use Rattle.rm_evidence.proofs.Seen.{SameFor, same-back, seen-all, seen-more, skipped-as}
 use Rattle.rm_evidence.specs.Names.{log_name, piece_name}
 use Rattle.rm_evidence.specs.Objects.{IsLogObject, IsPieceObject}
 use Rattle.rm_piece.specs.declared.piece.Piece.{Piece as PieceOf}
@@ -99,6 +101,15 @@ module _ (held : Held) where
       λ skipped. let both = back id b (only-bad r id b skipped) in one-answer n id bad b both.0 (one-reason Spells stands bad b told both.1),
     )
 
+  -- nothing is told of a record that is not bad
+  pub tells-none : (r : Record) → ((id : ℕ) (bad : Bad) → IsBadRecord held r id bad → ⊥) → Tells (IsSkipped held (r ∷ [])) None
+  tells-none r none = λ id bad. (λ same. absurd cc, λ is. absurd (none id bad (only-bad r id bad is)))
+
+  pub other-good : (r : Record) → ((l : LogEntry) → r ≡ Log l → ⊥) → ((p : PieceEntry) → r ≡ Piece p → ⊥) → (id : ℕ) (bad : Bad) → IsBadRecord held r id bad → ⊥
+  other-good (Log l) no_log no_piece id bad is = no_log l refl
+  other-good (Piece p) no_log no_piece id bad is = no_piece p refl
+  other-good _ no_log no_piece id bad is = is
+
   pub tells-log : (l : LogEntry) (looked : Result LogFile Bad) (found : Option (ℕ × Bad)) → l.status ≡ Available → found ≡ reason l.id looked → IsTold (IsLogObject l) (held (log_name l.id)) looked → Tells (IsSkipped held (Log l ∷ [])) found
   tells-log l looked found status same told =
       subst (λ (f : Option (ℕ × Bad)). Tells (IsSkipped held (Log l ∷ [])) f) (sym same) (tells (Log l) l.id (IsLogObject l) (held (log_name l.id)) (λ bad is. (refl, status, is)) (λ id bad is. (is.0, is.2)) looked told)
@@ -107,11 +118,22 @@ module _ (held : Held) where
   tells-piece p looked found status same told =
       subst (λ (f : Option (ℕ × Bad)). Tells (IsSkipped held (Piece p ∷ [])) f) (sym same) (tells (Piece p) p.id (IsPieceObject p) (held (piece_name p.copy p.id)) (λ bad is. (refl, status, is)) (λ id bad is. (is.0, is.2)) looked told)
 
--- one record more, of a store that tells what it holds, or not
-pub next-bad : (o p : Option Held) (xs rs : List Record) (i : ℕ) (r : Record) (old new : List (ℕ × Bad)) (found : Option (ℕ × Bad)) → p ≡ o → xs ≡ rs → IsCatalog rs → i < length xs → r ≡ get_or xs i r
-    → IfSome o (λ h. Has Bad (IsSkipped h (take i xs)) old) → IfSome p (λ h. Tells (IsSkipped h (r ∷ [])) found) → new ≡ with_found old found → IfSome o (λ h. Has Bad (IsSkipped h (take (i + 1) xs)) new)
-next-bad o p xs rs i r old new found same all catalog inside is before tells added = step o before (subst (λ (q : Option Held). IfSome q (λ h. Tells (IsSkipped h (r ∷ [])) found)) same tells)
-  where
-    step : (o : Option Held) → IfSome o (λ h. Has Bad (IsSkipped h (take i xs)) old) → IfSome o (λ h. Tells (IsSkipped h (r ∷ [])) found) → IfSome o (λ h. Has Bad (IsSkipped h (take (i + 1) xs)) new)
-    step None before tells = tt
-    step (Some h) before tells = next Bad (IsSkipped h) (is-of-one h) xs rs i r old new found all catalog inside is before tells added
+-- what is told by the one is told by the other
+tells-as : (r : Record) (held now : Held) (found : Option (ℕ × Bad)) → SameFor (r ∷ []) held now → Tells (IsSkipped held (r ∷ [])) found → Tells (IsSkipped now (r ∷ [])) found
+tells-as r held now found same tells = λ id bad. (
+  λ is. skipped-as (r ∷ []) held now same id bad ((tells id bad).0 is),
+  λ is. (tells id bad).1 (skipped-as (r ∷ []) now held (same-back (r ∷ []) held now same) id bad is),
+)
+
+-- of no record nothing is bad
+pub first-bad : (o : Option Held) (list : List (ℕ × Bad)) → list ≡ [] → IsSeen o (λ h. Has Bad (IsSkipped h []) list)
+first-bad o list is = seen-all o (λ h. extends-none (λ m n. m ≢ n) (IsSkipped h []) [] list is (λ id bad x. let row = bad-of h [] id bad x in none-in row.0 row.1))
+
+-- one record more
+pub next-bad : (o p : Option Held) (xs rs : List Record) (i : ℕ) (r : Record) (old new : List (ℕ × Bad)) (found : Option (ℕ × Bad)) → p ≡ o → xs ≡ rs → IsCatalog rs → i < length xs → r ≡ get_or xs i r → HasId r
+    → IsSeen o (λ h. Has Bad (IsSkipped h (take i xs)) old) → IsSeen p (λ h. Tells (IsSkipped h (r ∷ [])) found) → new ≡ with_found old found → IsSeen o (λ h. Has Bad (IsSkipped h (take (i + 1) xs)) new)
+next-bad o p xs rs i r old new found same all catalog inside is id before tells added =
+    seen-more o p (take i xs) r (λ h. Has Bad (IsSkipped h (take (i + 1) xs)) new) same (is-ahead xs i r (subst IsCatalog (sym all) catalog) inside is) id before tells
+    (λ held now for. extends-as (λ m n. m ≢ n) (IsSkipped held (take i xs)) (IsSkipped now (take i xs)) [] old (skipped-as (take i xs) held now for) (skipped-as (take i xs) now held (same-back (take i xs) held now for)))
+    (λ held now for. tells-as r held now found for)
+    (λ h has told. next Bad (IsSkipped h) (is-of-one h) xs rs i r old new found all catalog inside is has told added)

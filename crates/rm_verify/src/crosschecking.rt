@@ -1,9 +1,10 @@
 //! The crosscheck: which status each record of a class gets.
-ghost use Rattle.std.specs.Prelude.{◌≡◌, ◌≤◌, ℕ, [], Bool, List, IfOk, IfSome, IsErrOf};
+ghost use Rattle.std.specs.Prelude.{◌≡◌, ◌≤◌, [], IfOk, IsErrOf};
 ghost use Rattle.rm_base.specs.Outside.{Rose};
 ghost use Rattle.rm_base.specs.Store.{Ascends};
 ghost use Rattle.rm_base.specs.declared.kinds.Status.{Status as StatusOf};
 ghost use Rattle.rm_evidence.specs.Gathered.{Lists};
+ghost use Rattle.rm_evidence.specs.Seen.{IsSeen};
 ghost use Rattle.rm_verify.specs.Crosscheck.{IsChecked, checked, is_among, stands_in, status_after};
 
 use crate::fault::VerifyFault;
@@ -81,16 +82,15 @@ fn statuses(
 
 /// Of each record of the class its id and the status that it gets, ascending by id: UNAVAILABLE stays so; else it is
 /// AVAILABLE where an object stands under its name, and EXPIRED where none does. A backup is a piece that is no image
-/// copy, or a backup of a log. Also of a store that tells nothing each record of the class is listed, and no other. The
-/// store is asked for its names once, and no object is read. `StoreFault` where it failed, and counted it.
+/// copy, or a backup of a log. Where the store tells nothing of what it holds, it is so by some bytes under each name.
+/// The store is asked for its names once, and no object is read. `StoreFault` where it failed, and counted it.
 pub fn crosscheck<D: Store>(
     alloc: Global,
     catalog: &Catalog,
     store: &mut D,
     class: Class,
 ) -> Result<Seq<(u32, Status)>, VerifyFault>
-    ensures checked { IfOk result (λ list. IfSome (D.held store.old) (λ h. Lists StatusOf [] (IsChecked (stands_in h) catalog.now class) list)) }
-    ensures whatever { IfOk result (λ list. (stands : List ℕ → Bool) × Lists StatusOf [] (IsChecked stands catalog.now class) list) }
+    ensures checked { IfOk result (λ list. IsSeen (D.held store.old) (λ h. Lists StatusOf [] (IsChecked (stands_in h) catalog.now class) list)) }
     ensures same { D.held store.new ≡ D.held store.old }
     ensures failed { IsErrOf result VerifyFault.StoreFault → Rose (D.faults store.old) (D.faults store.new) }
     ensures never_falls { D.faults store.old ≤ D.faults store.new }

@@ -1,17 +1,18 @@
 //! Validation: the records that count as available, but whose objects can't be used.
-ghost use Rattle.std.specs.Prelude.{◌≡◌, ◌≤◌, ◌∷◌, [], IfOk, IfSome, IsErrOf};
+ghost use Rattle.std.specs.Prelude.{◌≡◌, ◌≤◌, ◌∷◌, [], IfOk, IsErrOf};
 ghost use Rattle.rm_base.specs.Outside.{Rose};
 ghost use Rattle.rm_base.specs.declared.kinds.Bad.{Bad as BadOf};
 ghost use Rattle.rm_catalog.specs.declared.record.Record.TheVariants.{Log as OfLog, Piece as OfPiece};
 ghost use Rattle.rm_evidence.specs.Available.{IsSkipped};
 ghost use Rattle.rm_evidence.specs.Gathered.{Lists};
+ghost use Rattle.rm_evidence.specs.Seen.{IsSeen};
 ghost use Rattle.rm_verify.specs.Told.{Tells};
 
 use crate::fault::VerifyFault;
 use crate::found::{add, reason};
 use rm_base::{Bad, Seq, Status, Store};
 use rm_catalog::{Catalog, LogEntry, PieceEntry, Record};
-use rm_evidence::{by_id, look_for_log, look_for_piece};
+use rm_evidence::{by_id, id_fits, look_for_log, look_for_piece};
 use std::alloc::Global;
 
 // The id of the log and why its object can't be used, where its record counts as available.
@@ -20,7 +21,7 @@ fn bad_log<D: Store>(
     store: &mut D,
     entry: &LogEntry,
 ) -> Result<Option<(u32, Bad)>, VerifyFault>
-    ensures told { IfOk result (λ found. IfSome (D.held store.old) (λ h. Tells (IsSkipped h (OfLog entry.now ∷ [])) found)) }
+    ensures told { IfOk result (λ found. IsSeen (D.held store.old) (λ h. Tells (IsSkipped h (OfLog entry.now ∷ [])) found)) }
     ensures same { D.held store.new ≡ D.held store.old }
     ensures failed { IsErrOf result VerifyFault.StoreFault → Rose (D.faults store.old) (D.faults store.new) }
     ensures never_falls { D.faults store.old ≤ D.faults store.new }
@@ -38,7 +39,7 @@ fn bad_piece<D: Store>(
     store: &mut D,
     entry: &PieceEntry,
 ) -> Result<Option<(u32, Bad)>, VerifyFault>
-    ensures told { IfOk result (λ found. IfSome (D.held store.old) (λ h. Tells (IsSkipped h (OfPiece entry.now ∷ [])) found)) }
+    ensures told { IfOk result (λ found. IsSeen (D.held store.old) (λ h. Tells (IsSkipped h (OfPiece entry.now ∷ [])) found)) }
     ensures same { D.held store.new ≡ D.held store.old }
     ensures failed { IsErrOf result VerifyFault.StoreFault → Rose (D.faults store.old) (D.faults store.new) }
     ensures never_falls { D.faults store.old ≤ D.faults store.new }
@@ -56,7 +57,7 @@ fn bad_record<D: Store>(
     store: &mut D,
     row: &Record,
 ) -> Result<Option<(u32, Bad)>, VerifyFault>
-    ensures told { IfOk result (λ found. IfSome (D.held store.old) (λ h. Tells (IsSkipped h (row.now ∷ [])) found)) }
+    ensures told { IfOk result (λ found. IsSeen (D.held store.old) (λ h. Tells (IsSkipped h (row.now ∷ [])) found)) }
     ensures same { D.held store.new ≡ D.held store.old }
     ensures failed { IsErrOf result VerifyFault.StoreFault → Rose (D.faults store.old) (D.faults store.new) }
     ensures never_falls { D.faults store.old ≤ D.faults store.new }
@@ -70,14 +71,14 @@ fn bad_record<D: Store>(
 
 /// The id of each record that counts as available and whose object is missing or damaged, and which of the two,
 /// ascending by id. An object is damaged where its bytes have not the size and the SHA-256 of the record, or spell
-/// nothing with the record's fields. Each is read and let go before the next. `StoreFault` where the store failed, and
-/// counted it.
+/// nothing with the record's fields. Where the store tells nothing of what it holds, it is so by some bytes under each
+/// name. Each object is read and let go before the next. `StoreFault` where the store failed, and counted it.
 pub fn validate<D: Store>(
     alloc: Global,
     catalog: &Catalog,
     store: &mut D,
 ) -> Result<Seq<(u32, Bad)>, VerifyFault>
-    ensures bad { IfOk result (λ list. IfSome (D.held store.old) (λ h. Lists BadOf [] (IsSkipped h catalog.now) list)) }
+    ensures bad { IfOk result (λ list. IsSeen (D.held store.old) (λ h. Lists BadOf [] (IsSkipped h catalog.now) list)) }
     ensures same { D.held store.new ≡ D.held store.old }
     ensures failed { IsErrOf result VerifyFault.StoreFault → Rose (D.faults store.old) (D.faults store.new) }
     ensures never_falls { D.faults store.old ≤ D.faults store.new }
@@ -85,6 +86,7 @@ pub fn validate<D: Store>(
     let mut list = Seq::new(alloc);
     let records = catalog.records();
     for row in records {
+        id_fits(row);
         let found = bad_record(alloc, store, row)?;
         add(&mut list, found)?;
     }
