@@ -3,11 +3,15 @@ use Rattle.std.proofs.Common.{◌≡◌, ◌<◌, ◌≤◌, ℕ, List, Some, fa
 use Rattle.std.specs.List.{filter_map}
 use Rattle.std.proofs.lemmas.List.Elements.{All-contains}
 use Rattle.std.proofs.lemmas.Option.{slice_get-get_or, slice_get_within}
+use Rattle.rm_base.specs.Store.{Held}
 use Rattle.rm_base.specs.declared.block.Row.{Row}
 use Rattle.rm_base.proofs.Lists.{map_from}
 use Rattle.rm_base.proofs.Slots.{all-get}
 use Rattle.rm_blocks.specs.File.{File, IsInOrder}
-use Rattle.rm_evidence.specs.Gathered.{placed_piece}
+use Rattle.rm_catalog.specs.declared.record.Record.{Record}
+use Rattle.rm_evidence.specs.declared.evidence.Evidence.{Evidence}
+use Rattle.rm_evidence.specs.declared.evidence.InPlace.{InPlace}
+use Rattle.rm_evidence.specs.Gathered.{IsGathered, placed_piece}
 use Rattle.rm_evidence.specs.Known.{FitsLog, FitsPiece}
 use Rattle.rm_evidence.specs.Place.{FitsPlace}
 use Rattle.rm_history.specs.declared.world.Datafile.{Datafile}
@@ -16,7 +20,7 @@ use Rattle.rm_catalog_typed.specs.LedgerFacts.{IsCreated}
 use Rattle.rm_catalog_typed.proofs.Lookups.{item-at}
 use Rattle.rm_piece.specs.Valid.{IsBefore, IsRow}
 use Rattle.rm_catalog_typed.specs.TypedCatalog.{records_of}
-use Rattle.rm_machine.specs.Recovery.{in_place}
+use Rattle.rm_machine.specs.Recovery.{IsAtHand, in_place}
 use Rattle.rm_machine.specs.Sound.{IsPlaced, IsPlacedRow, IsSound}
 use Rattle.rm_machine.specs.declared.state.State.{State}
 use Rattle.rm_machine.specs.State.{ledger, tree, counted, online, is_lost}
@@ -81,3 +85,7 @@ place-fits s sound = record {
       let found = online-in s 1 (ledger s).base.threads a has in
       subst (FitsLog (tree s)) found.is (online-valid s sound found.thread (omega (arith, found.low)) (omega (arith, found.high)) found.found)));
 }
+
+-- what is gathered is at hand
+pub gathered-hand : (s : State) (rs : List Record) (place : InPlace) (held : Held) (e : Evidence) → rs ≡ records_of s.catalog → place ≡ in_place s → IsGathered held rs place e → IsAtHand s held e
+gathered-hand s rs place held e records is gathered = coe 0 1 (i. IsGathered held (records i) (is i) e) gathered

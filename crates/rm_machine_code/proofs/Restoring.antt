@@ -17,6 +17,8 @@ use Rattle.rm_apply.specs.Restore.{AreRestored, IsBackupFor, IsRestoration, Rest
 use Rattle.rm_apply.proofs.Restorations.{chosen_in_order}
 use Rattle.rm_evidence.specs.declared.evidence.Evidence.{Evidence}
 use Rattle.rm_evidence.specs.Known.{FitsPiece, FitsTree, IsRecorded}
+use Rattle.rm_evidence.proofs.Fitting.{gathered-recorded}
+use Rattle.rm_evidence.proofs.Seen.{seen-so}
 use Rattle.rm_history.specs.declared.tree.Incarnation.{Incarnation}
 use Rattle.rm_history.specs.declared.world.Datafile.{Datafile}
 use Rattle.rm_history.specs.declared.world.World.{World}
@@ -74,7 +76,7 @@ module _ (s : State) (sound : IsSound s) (k : ℕ) (d : Datafile) (file : slice_
         let fits : FitsTree (tree s) e = subst (λ (ns : List Incarnation). FitsTree ns e) (tree-told s.catalog) hand.fits in
         let valid = (All-contains (λ (y : ℕ × Piece). FitsPiece (tree s) y.1) e.bases x fits.bases chosen.held).valid in
         let whole = All-contains (λ (y : ℕ × Piece). y.1.kind ≢ Level1) e.bases x fits.no_level1 chosen.held in
-        let is = All-contains (λ (y : ℕ × Piece). 0 < y.0 → IsRecorded (records_of s.catalog) y) e.bases x hand.recorded chosen.held chosen.passes.backup in
+        let is = All-contains (λ (y : ℕ × Piece). 0 < y.0 → IsRecorded (records_of s.catalog) y) e.bases x (seen-so held hand.at_hand (λ h at. gathered-recorded h (records_of s.catalog) (in_place s) e at)) chosen.held chosen.passes.backup in
         let p = is.0 in
         let fields = is.3 in
         let entry = All-contains (IsPieceEntry (tree s) (ledger s).files) (ledger s).pieces p sound.catalog.ledger.pieces (piece-in s.catalog p sound.catalog is.1) in

@@ -1,6 +1,6 @@
 pub mod Fit
+pub mod Hand
 pub mod Handing
-pub mod Kept
 pub mod Skipped
 pub mod Walked
 pub mod Ways

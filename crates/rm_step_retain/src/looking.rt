@@ -8,12 +8,12 @@ ghost use Rattle.rm_catalog_typed.specs.TypedCatalog.{records_of};
 ghost use Rattle.rm_retain.specs.Catalogued.{copies_in};
 ghost use Rattle.rm_retain.specs.Chosen.{AscendById};
 
-use rm_base::{Policy, Scn, Seq, Store};
+use rm_base::{Policy, Scn, Store};
 use rm_catalog::Catalog as Records;
 use rm_evidence::{Evidence, EvidenceFault, gather};
 use rm_machine::State;
 use rm_machine_code::hand::at_hand;
-use rm_retain::{do_ascend, window_start};
+use rm_retain::window_start;
 use std::alloc::Global;
 
 /// The records of a catalog, and the artefacts at hand.
@@ -23,25 +23,8 @@ pub(crate) struct Looked {
     pub evidence: Evidence,
 }
 
-// The same artefacts where the copies among them ascend by id, as those do that come from a store that tells what it
-// holds. Else those without copies.
-fn in_order(alloc: Global, evidence: Evidence) -> Evidence
-    ensures ascend { AscendById (copies_in result) }
-    ensures same { AscendById (copies_in evidence) → result ≡ evidence }
-{
-    if do_ascend(&evidence) {
-        return evidence;
-    }
-    Evidence {
-        bases: Seq::new(alloc),
-        level1s: evidence.level1s,
-        logs: evidence.logs,
-        skipped: evidence.skipped,
-    }
-}
-
-/// The records, and what is at hand of those that count as available: its copies ascend by id. An error is a fault of the
-/// store, which is counted, or want of memory.
+/// The records, and what is at hand of those that count as available: its copies ascend by id, whatever the store tells.
+/// An error is a fault of the store, which is counted, or want of memory.
 pub(crate) fn look<D: Store>(
     alloc: Global,
     state: &State,
@@ -59,7 +42,7 @@ pub(crate) fn look<D: Store>(
     let evidence = gather(alloc, &hand.records, store, &hand.place)?;
     Ok(Looked {
         records: hand.records,
-        evidence: in_order(alloc, evidence),
+        evidence,
     })
 }
 

@@ -1,14 +1,15 @@
-use Rattle.std.proofs.Common.{◌≡◌, ◌&&◌, true, false, refl, rules, subst}
-use Rattle.std.specs.Prelude.{Result, IfOk}
+use Rattle.std.proofs.Common.{◌≡◌, ◌&&◌, [], ◌∷◌, true, false, refl, rules, subst}
+use Rattle.std.specs.Prelude.{Result}
 use Rattle.std.proofs.lemmas.Option.{IfSome_then}
 use Rattle.rm_base.specs.declared.kinds.Bad.{Bad}
 use Rattle.rm_evidence.specs.Taking.{IsTold}
-use Rattle.rm_evidence.proofs.Adding.{IfSome_all}
+use Rattle.rm_evidence.specs.Seen.{IsSeen}
+use Rattle.rm_evidence.proofs.Seen.{seen-all, seen-object, seen-told}
 use Rattle.rm_machine.specs.Validate.{is_available}
 use Rattle.rm_evidence.specs.Names.{log_name}
-use Rattle.rm_evidence.specs.Objects.{HasLogFields, IsLogObject}
+use Rattle.rm_evidence.specs.Objects.{IsLogObject}
 use Rattle.rm_redo.specs.declared.log_file.LogFile.{LogFile}
-use Rattle.rm_redo.specs.LogFormat.{IsLogFile}
+use Rattle.rm_step_backup.specs.Logs.{Adds}
 use Rattle.rm_step_backup.specs.declared.looking.Looked.{Looked}
 use Rattle.rm_step_backup.proofs.Archived.{adds-bad, adds-found, adds-none, counted, keeps-more, not-counted}
 use Rattle.rm_step_backup.proofs.looking.look_at.Goals as goal
@@ -18,7 +19,8 @@ returns-then-not-counts-clause-adds g c =
     let e = c.args.entry.now in
     let old : Looked = c.args.looked.now in
     let not : (e.archived && is_available e.status) ≡ false = search rules in
-    IfSome_all (g.D.Store.held c.args.store.now) (λ h. adds-none h e old old refl (not-counted e not))
+    let held = g.D.Store.held c.args.store.now in
+    seen-told held (λ h. Adds h (e ∷ []) old old) (seen-all held (λ h. adds-none h e old old refl (not-counted e not)))
 
 pub returns-in_ok-push-in-Ok-clause-adds : goal.returns-in_ok-push-in-Ok-clause-adds
 returns-in_ok-push-in-Ok-clause-adds g c =
@@ -26,16 +28,18 @@ returns-in_ok-push-in-Ok-clause-adds g c =
     let old : Looked = c.args.looked.now in
     let counts : (e.archived && is_available e.status) ≡ true = search rules in
     let both = counted e counts in
-    IfSome_then (g.D.Store.held c.args.store.now) c.in_ok-log.ensures.told
+    let held = g.D.Store.held c.args.store.now in
+    IfSome_then held (seen-told held (λ h. IsTold (IsLogObject e) (h (log_name e.id)) c.in_ok-log.field-0) c.in_ok-log.ensures.told)
     (λ h told. adds-found h e c.in-Ok.log old (record old { found = c.push.new.self }) both.0 both.1 (subst (λ (t : Result LogFile Bad). IsTold (IsLogObject e) (h (log_name e.id)) t) c.in-Ok.is told) c.in_ok-push-in-Ok.ensures.ok refl)
 
 pub returns-in_ok-push-in-Ok-clause-recorded : goal.returns-in_ok-push-in-Ok-clause-recorded
 returns-in_ok-push-in-Ok-clause-recorded g c =
     let e = c.args.entry.now in
     let old : Looked = c.args.looked.now in
-    let valid : IsLogFile c.in-Ok.log = subst (λ (t : Result LogFile Bad). IfOk t (λ a. IsLogFile a)) c.in-Ok.is c.in_ok-log.ensures.valid in
-    let fields : HasLogFields e c.in-Ok.log = subst (λ (t : Result LogFile Bad). IfOk t (λ a. HasLogFields e a)) c.in-Ok.is c.in_ok-log.ensures.fields in
-    keeps-more e c.in-Ok.log old (record old { found = c.push.new.self }) c.in_ok-push-in-Ok.ensures.ok valid fields
+    let held = g.D.Store.held c.args.store.now in
+    let told = subst (λ (t : Result LogFile Bad). IsSeen held (λ h. IsTold (IsLogObject e) (h (log_name e.id)) t)) c.in-Ok.is c.in_ok-log.ensures.told in
+    let is = seen-object (IsLogObject e) (log_name e.id) c.in-Ok.log held told in
+    keeps-more e c.in-Ok.log old (record old { found = c.push.new.self }) c.in_ok-push-in-Ok.ensures.ok is.1.valid is.1.fields
 
 pub returns-in_ok-push-in-Err-clause-adds : goal.returns-in_ok-push-in-Err-clause-adds
 returns-in_ok-push-in-Err-clause-adds g c =
@@ -43,5 +47,6 @@ returns-in_ok-push-in-Err-clause-adds g c =
     let old : Looked = c.args.looked.now in
     let counts : (e.archived && is_available e.status) ≡ true = search rules in
     let both = counted e counts in
-    IfSome_then (g.D.Store.held c.args.store.now) c.in_ok-log.ensures.told
+    let held = g.D.Store.held c.args.store.now in
+    IfSome_then held (seen-told held (λ h. IsTold (IsLogObject e) (h (log_name e.id)) c.in_ok-log.field-0) c.in_ok-log.ensures.told)
     (λ h told. adds-bad h e c.in-Err.bad old (record old { skipped = c.push-in-Err.new.self }) both.0 both.1 (subst (λ (t : Result LogFile Bad). IsTold (IsLogObject e) (h (log_name e.id)) t) c.in-Err.is told) refl c.in_ok-push-in-Err.ensures.ok)

@@ -1,12 +1,14 @@
-use Rattle.std.proofs.Common.{◌≡◌, ◌∙◌, rules, List, All, sym, subst}
+use Rattle.std.proofs.Common.{List, All, subst, sym}
+use Rattle.std.proofs.lemmas.Option.{IfSome_then}
 use Rattle.rm_catalog.specs.declared.record.Record.{Record}
+use Rattle.rm_evidence.specs.Gathered.{IsGathered}
 use Rattle.rm_evidence.specs.Known.{AreRecorded, IsRecorded}
 use Rattle.rm_evidence.specs.Place.{FitsPlace}
+use Rattle.rm_evidence.proofs.Fitting.{gathered-recorded, level1s-recorded}
+use Rattle.rm_evidence.proofs.Seen.{seen-so, seen-told}
 use Rattle.rm_machine.specs.Recovery.{in_place}
-use Rattle.rm_machine_code.proofs.Fitting.{place-fits}
-use Rattle.rm_catalog_typed.specs.TypedCatalog.{records_of}
-use Rattle.std.proofs.lemmas.Fn.{All-from_retain}
-use Rattle.rm_step_copies.proofs.Kept.{all-kept, some-kept, still-at_hand, still-fits}
+use Rattle.rm_machine_code.proofs.Fitting.{gathered-hand, place-fits}
+use Rattle.rm_step_copies.proofs.Hand.{fits-state, ok-then}
 use Rattle.rm_step_copies.proofs.evidence.evidence_of.Goals as goal
 
 pub gather-requires-clause-place : goal.gather-requires-clause-place
@@ -16,27 +18,22 @@ gather-requires-clause-place g c =
 
 pub returns-clause-at_hand : goal.returns-clause-at_hand
 returns-clause-at_hand g c =
-    let s = c.args.state.now in
     let hand = c.args.hand.now in
-    let e = c.in_ok-evidence.evidence in
-    let was : c.into_vec-level1s.result.items ≡ e.level1s = c.into_vec-level1s.ensures in
-    still-at_hand s hand.records hand.place e c.from_vec.result c.requires.records c.requires.place (g.D.Store.held c.args.store.now) c.in_ok-evidence.ensures.gathered
-    (λ all.
-    c.from_vec.ensures
-    ∙ all-kept _ (IsRecorded (records_of s.catalog)) _ (λ x b q k. search rules) c.into_vec-level1s.result.items c.retain.new.self.items c.retain.ensures.filtered (subst (All (IsRecorded (records_of s.catalog))) (sym was) all)
-    ∙ was)
+    let held = g.D.Store.held c.args.store.now in
+    ok-then c.gather.result c.gather.ensures.gathered (λ e seen.
+    IfSome_then held (seen-told held (λ h. IsGathered h hand.records hand.place e) seen) (λ h is. gathered-hand c.args.state.now hand.records hand.place h e c.requires.records c.requires.place is))
 
 pub returns-clause-fits : goal.returns-clause-fits
-returns-clause-fits g c =
-    let e = c.in_ok-evidence.evidence in
-    let was : c.into_vec-level1s.result.items ≡ e.level1s = c.into_vec-level1s.ensures in
-    still-fits c.args.state.now c.args.hand.now.records c.args.hand.now.place e c.from_vec.result c.requires.records c.requires.place c.in_ok-evidence.ensures.fits
-    (λ P all. subst (All P) (sym c.from_vec.ensures) (some-kept _ _ P c.into_vec-level1s.result.items c.retain.new.self.items c.retain.ensures.filtered (subst (All P) (sym was) all)))
+returns-clause-fits g c = ok-then c.gather.result c.gather.ensures.fits (λ e fits. fits-state c.args.state.now c.args.hand.now.records e c.requires.records fits)
 
 pub returns-clause-recorded : goal.returns-clause-recorded
-returns-clause-recorded g c = subst (λ (xs : List Record). AreRecorded xs c.in_ok-evidence.evidence) c.requires.records c.in_ok-evidence.ensures.recorded
+returns-clause-recorded g c =
+    let hand = c.args.hand.now in
+    ok-then c.gather.result c.gather.ensures.gathered (λ e seen.
+    subst (λ (rs : List Record). AreRecorded rs e) c.requires.records (seen-so (g.D.Store.held c.args.store.now) seen (λ h is. gathered-recorded h hand.records hand.place e is)))
 
 pub returns-clause-level1s : goal.returns-clause-level1s
 returns-clause-level1s g c =
-    let Recorded = IsRecorded (records_of c.args.state.now.catalog) in
-    subst (All Recorded) (sym c.from_vec.ensures) (All-from_retain _ Recorded _ (λ x b q k. search rules) c.into_vec-level1s.result.items c.retain.new.self.items c.retain.ensures.filtered)
+    let hand = c.args.hand.now in
+    ok-then c.gather.result c.gather.ensures.gathered (λ e seen.
+    subst (λ (rs : List Record). All (IsRecorded rs) e.level1s) c.requires.records (seen-so (g.D.Store.held c.args.store.now) seen (λ h is. level1s-recorded h hand.records hand.place e is)))

@@ -1,4 +1,9 @@
-use Rattle.rm_step_retain.proofs.Hand.{fits, in-order}
+use Rattle.std.proofs.lemmas.Option.{IfSome_then}
+use Rattle.rm_evidence.specs.Gathered.{IsGathered}
+use Rattle.rm_evidence.proofs.Seen.{seen-so, seen-told}
+use Rattle.rm_retain.proofs.CopiesLeft.{gathered_ascend}
+use Rattle.rm_machine_code.proofs.Fitting.{gathered-hand}
+use Rattle.rm_step_retain.proofs.Hand.{fits}
 use Rattle.rm_step_retain.proofs.looking.look.Goals as goal
 
 pub gather-requires-clause-place : goal.gather-requires-clause-place
@@ -9,4 +14,12 @@ gather-requires-clause-place g c =
 pub returns-clause-at_hand : goal.returns-clause-at_hand
 returns-clause-at_hand g c =
     let hand = c.in_ok-hand.hand in
-    in-order c.args.state.now hand.records c.in_ok-hand.ensures.records (g.D.Store.held c.args.store.now) hand.place c.in_ok-evidence.evidence c.in_order.result c.in_ok-hand.ensures.place c.in_ok-evidence.ensures.gathered c.in_order.ensures.same
+    let e = c.in_ok-evidence.evidence in
+    let held = g.D.Store.held c.args.store.now in
+    IfSome_then held (seen-told held (λ h. IsGathered h hand.records hand.place e) c.in_ok-evidence.ensures.gathered)
+    (λ h at. gathered-hand c.args.state.now hand.records hand.place h e c.in_ok-hand.ensures.records c.in_ok-hand.ensures.place at)
+
+pub returns-clause-ascend : goal.returns-clause-ascend
+returns-clause-ascend g c =
+    let hand = c.in_ok-hand.hand in
+    seen-so (g.D.Store.held c.args.store.now) c.in_ok-evidence.ensures.gathered (λ h at. gathered_ascend h hand.records hand.place c.in_ok-evidence.evidence at)

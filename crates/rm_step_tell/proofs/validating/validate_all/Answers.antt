@@ -1,5 +1,8 @@
-use Rattle.std.proofs.Common.{◌≡◌, ◌<◌, ◌^◌, ℕ, List, length, subst}
+use Rattle.std.proofs.Common.{◌≡◌, ◌<◌, ◌^◌, ℕ, List, [], length, subst}
 use Rattle.rm_base.specs.declared.kinds.Bad.{Bad}
+use Rattle.rm_evidence.specs.Available.{IsSkipped}
+use Rattle.rm_evidence.specs.Gathered.{Lists}
+use Rattle.rm_evidence.proofs.Seen.{seen-told}
 use Rattle.rm_step_tell.proofs.Validated.{validated, validated-dated, with-count}
 use Rattle.rm_step_tell.proofs.validating.validate_all.Goals as goal
 
@@ -10,7 +13,9 @@ returns-clause-tells g c =
     let n = c.count_of.result in
     let counted : length bad < 2 ^ 32 → n ≡ length bad = subst (λ (xs : List (ℕ × Bad)). length xs < 2 ^ 32 → n ≡ length xs) c.as_slice-2.ensures c.count_of.ensures in
     let is = with-count bad c.as_slice.result.now c.in_ok-lines.lines c.push.new.self count n c.as_slice.ensures c.in_ok-lines.ensures c.in_ok-push.ensures.ok in
-    validated c.args.state.now c.requires.sound (g.D.Store.held c.args.store.now) c.in_ok-records.records bad count n c.push.new.self c.in_ok-records.ensures.records c.in_ok-bad.ensures.bad c.count_available.ensures counted is
+    let held = g.D.Store.held c.args.store.now in
+    validated c.args.state.now c.requires.sound held c.in_ok-records.records bad count n c.push.new.self c.in_ok-records.ensures.records
+    (seen-told held (λ h. Lists Bad [] (IsSkipped h c.in_ok-records.records) bad) c.in_ok-bad.ensures.bad) c.count_available.ensures counted is
 
 pub returns-clause-dates : goal.returns-clause-dates
 returns-clause-dates g c =
