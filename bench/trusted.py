@@ -262,8 +262,8 @@ Who wants to know what `run` promises reads its clauses (`crates/rm_tool/src/run
 of {lines} lines in {files} files of {crates} crates**, comments among them, `use` lines not. {specs} of them stand in `crates/*/specs`, of {all} that are there;
 the others are types and traits in `crates/*/src`. All other definitions and all lemmas may say what they like: the clauses hold all the same, since the
 toolchain has checked the proofs. A definition is here where a clause names it, or another definition that is here. They stand in the order in which
-they can be read: no crate rests on one below it, and within a crate what is named stands first where that can be. [DEFINITIONS.md](DEFINITIONS.md) says them
-in words, [GLOSSARY.md](GLOSSARY.md) the terms.
+they can be read: no crate rests on a later one, and within a crate what is named stands first where that can be. Names are followed by their spelling, so a
+few definitions may be here that are not needed; none is missing. [DEFINITIONS.md](DEFINITIONS.md) says them in words, [GLOSSARY.md](GLOSSARY.md) has the terms.
 
 | Crate | Definitions | Lines | Files |
 |---|---|---|---|
@@ -279,8 +279,8 @@ TAIL = """
 - **Ported crates**, whose contracts are taken as they stand. The definitions above cite of them:
 {ports}
   The proofs rest on the contracts of `sha2`, `jiff`, `clap`, `sqlite`, `byteorder` and `atomic_table`.
-- **The adapters.** That standard input, standard output and the clock (`crates/rm_tool/src/adapters.rt`), the folder (`Dir` in `crates/rm_store_dir/src/dir.rt`) and
-  the opening and closing of the catalog file (`crates/rm_keeper_sql/src/file.rt`) do what their calls say; they are proved to count their faults,
+- **The adapters.** That standard input, standard output and the clock (`crates/rm_tool/src/adapters.rt`), the folder (`Dir` in
+  `crates/rm_store_dir/src/dir.rt`) and the opening and closing of the catalog file (`crates/rm_keeper_sql/src/file.rt`) do what their calls say; they are proved to count their faults,
   and tell nothing else. And that `crates/rman/src/main.rt` makes them of the words and hands them to `run`.
 - **The machine.** That a file which was flushed has what was written, that a renaming is whole, that the clock tells the time of day.
 - **The one premise of the clauses.** Where HOST gave the name of a record's object, bytes under it with the record's size and SHA-256 are the object's.
