@@ -254,6 +254,7 @@ def all_in_specs():
     return count
 
 
+ADAPTERS = ["crates/rm_tool/src/adapters.rt", "crates/rm_store_dir/src/dir.rt", "crates/rm_keeper_sql/src/file.rt", "crates/rman/src/main.rt"]
 HEAD = """# What a reader has to read, and what has to be trusted
 
 Made by `bench/trusted.py --write` from the sources: no line of it is written by hand, and `bench/trusted.py --check` says whether it is up to date.
@@ -278,10 +279,11 @@ TAIL = """
 {std_names}
 - **Ported crates**, whose contracts are taken as they stand. The definitions above cite of them:
 {ports}
-  The proofs rest on the contracts of `sha2`, `jiff`, `clap`, `sqlite`, `byteorder` and `atomic_table`.
-- **The adapters.** That standard input, standard output and the clock (`crates/rm_tool/src/adapters.rt`), the folder (`Dir` in
-  `crates/rm_store_dir/src/dir.rt`) and the opening and closing of the catalog file (`crates/rm_keeper_sql/src/file.rt`) do what their calls say; they are proved to count their faults,
-  and tell nothing else. And that `crates/rman/src/main.rt` makes them of the words and hands them to `run`.
+  The proofs rest on the contracts of more of them, by crates.txt:
+{callers}
+- **The adapters**, {adapter_lines} lines: that standard input, standard output and the clock (`crates/rm_tool/src/adapters.rt`), the folder (`Dir` in
+  `crates/rm_store_dir/src/dir.rt`) and the opening and closing of the catalog file (`crates/rm_keeper_sql/src/file.rt`) do what their calls say; they
+  are proved to count their faults, and tell nothing else. And that `crates/rman/src/main.rt` makes them of the words and hands them to `run`.
 - **The machine.** That a file which was flushed has what was written, that a renaming is whole, that the clock tells the time of day.
 - **The one premise of the clauses.** Where HOST gave the name of a record's object, bytes under it with the record's size and SHA-256 are the object's.
 - **The meaning.** That these definitions are what one means by a history, a backup and a recovery: to read them is the only way to know. That they are
@@ -317,10 +319,22 @@ def names_of(names):
     return wrapped([f"`{it}`" for it in sorted(names)])
 
 
+def callers():
+    """Returns the ported crates, each with the crates of the program that stand on it, by crates.txt."""
+    found = collections.defaultdict(list)
+    for line in read("crates.txt").splitlines():
+        name, _, below = line.partition(":")
+        for port in below.split() if not name.startswith(("#", "rm_test", "rm_bench")) else []:
+            if not port.startswith("rm"):
+                found[port].append(name)
+    return wrapped([f"`{port}` ({' '.join(sorted(by))})" for port, by in sorted(found.items())])
+
+
 def head_of(root, items):
     in_specs = [it for it in items if it.file.endswith(".antt")]
-    return HEAD.format(first=root.first, last=root.last, count=f"{len(items):,}", lines=f"{lines_of(items):,}", files=len({it.file for it in items}),
-                       crates=len({it.file.split("/")[1] for it in items}), specs=f"{len(in_specs):,}", all=f"{all_in_specs():,}")
+    files = {it.file for it in items}
+    return HEAD.format(first=root.first, last=root.last, count=f"{len(items):,}", lines=f"{lines_of(items):,}", files=len(files),
+                       crates=len({it.split("/")[1] for it in files}), specs=f"{len(in_specs):,}", all=f"{all_in_specs():,}")
 
 
 def paper():
@@ -338,7 +352,8 @@ def paper():
             text += f"- **{path.split('/', 2)[2]}**, {lines_of(here)} lines:\n{wrapped([place_of(it) for it in here])}\n"
     std = shelf.outside.pop("std", set())
     ports = "\n".join(names_of(names) + f" of `{crate}`;" for crate, names in sorted(shelf.outside.items()))[:-1] + "."
-    return text + TAIL.format(std=len(std), std_names=names_of(std), ports=ports)
+    adapter_lines = sum(len(read(it).splitlines()) for it in ADAPTERS)
+    return text + TAIL.format(std=len(std), std_names=names_of(std), ports=ports, callers=callers(), adapter_lines=adapter_lines)
 
 
 def main(words):
