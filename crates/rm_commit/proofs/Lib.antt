@@ -1,4 +1,4 @@
 mod Carrying
 pub mod Named
 pub mod Standing
-mod Told
+pub mod Told

@@ -5,7 +5,7 @@ ghost use Rattle.rm_base.specs.Store.{Both};
 ghost use Rattle.rm_base.specs.declared.store.StoreFail.TheVariants.{Failed};
 ghost use Rattle.rm_commit.specs.declared.commit.Stop.TheVariants.{StoreFault, KeeperFault};
 ghost use Rattle.rm_commit.specs.Names.{HasPuts, SameBeyondPuts, HasRemoves, SameBeyondRemoves};
-ghost use Rattle.rm_commit.specs.Carrying.{Carried, Halted, Leads};
+ghost use Rattle.rm_commit.specs.Carrying.{Carried, Halted};
 
 use rm_base::{NoMemory, Seq, Store, StoreFail, Text};
 use rm_catalog::{Edit, Keeper, KeeperFail};
@@ -108,8 +108,8 @@ pub fn carry_out<D: Store, C: Keeper>(
     keeper: &mut C,
     change: &Commit,
 ) -> Result<(), Stop>
-    ensures carried { OnOk result (Leads (Carried change.now) (D.held store.old) (C.kept keeper.old) (D.held store.new) (C.kept keeper.new)) }
-    ensures stopped { OnErr result (Leads (Halted change.now) (D.held store.old) (C.kept keeper.old) (D.held store.new) (C.kept keeper.new)) }
+    ensures carried { OnOk result (Carried change.now (D.held store.old) (C.kept keeper.old) (D.held store.new) (C.kept keeper.new)) }
+    ensures stopped { OnErr result (Halted change.now (D.held store.old) (C.kept keeper.old) (D.held store.new) (C.kept keeper.new)) }
     ensures store { IsErrOf result StoreFault → Rose (D.faults store.old) (D.faults store.new) }
     ensures keeper { IsErrOf result KeeperFault → Rose (C.faults keeper.old) (C.faults keeper.new) }
     ensures store_never_falls { D.faults store.old ≤ D.faults store.new }
