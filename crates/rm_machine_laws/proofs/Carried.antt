@@ -1,12 +1,14 @@
 -- What is handed out and carried out is a step.
 use Rattle.std.proofs.Common.{◌≡◌, ◌∙◌, ℕ, List, Option, Some, None, refl, ap, sym, subst}
+use Rattle.std.specs.Option.{option_map}
 use Rattle.rm_base.specs.Store.{Held}
 use Rattle.rm_base.specs.declared.refusal.Refusal.{Refusal}
 use Rattle.rm_catalog.specs.declared.record.Record.{Record}
 use Rattle.rm_catalog.specs.Edits.{after_edits}
 use Rattle.rm_commit.specs.declared.commit.Commit.{Commit}
-use Rattle.rm_commit.specs.Carrying.{Carried, Leads, Outside}
+use Rattle.rm_commit.specs.Carrying.{AreMoved, Carried}
 use Rattle.rm_commit.specs.Names.{HasPuts, HasRemoves}
+use Rattle.rm_commit.proofs.Told.{both-told}
 use Rattle.rm_lang_statement.specs.declared.command.Command.{Command}
 use Rattle.rm_lang_statement.specs.declared.command.Command.TheVariants.{CreateDatabase}
 use Rattle.rm_report.specs.Reply.{refused_by, said}
@@ -101,21 +103,21 @@ module _ (c : Command) (law : LeadsOn c) (stays : StaysSound c) (held : Option H
         unsaved_is = unsaved c stays o m moment lines handed.effect t well is holds.sound at comes;
       }
 
-  -- the records after it
-  pub edited : (m n : Machine) (rs : List Record) → m.state ≡ o → n.state ≡ Some t → rs ≡ after_edits x.edits (records m) → rs ≡ records n
-  edited m n rs is to made = made ∙ ap (λ (y : Option State). after_edits x.edits (records_in y)) is ∙ handed.edits ∙ sym (ap records_in to)
+  -- the keeper has the records after it
+  pub edited : (kept' : Option (List Record)) (m n : Machine) → m.state ≡ o → n.state ≡ Some t → kept ≡ Some (records m) → kept' ≡ option_map (after_edits x.edits) kept → kept' ≡ Some (records n)
+  edited kept' m n is to keeper made =
+      made ∙ ap (option_map (after_edits x.edits)) keeper ∙ ap Some (ap (λ (y : Option State). after_edits x.edits (records_in y)) is ∙ handed.edits ∙ sym (ap records_in to))
 
-  pub carried-on : (held' : Option Held) (kept' : Option (List Record)) → Leads (Carried x) held kept held' kept' → StepsAt held kept o c moment (said lines) held' kept' (Some t)
-  carried-on held' kept' leads m is holds tell =
-      let before : Outside = record { objects = m.objects; records = records m } in
-      let all = leads before (record { store = holds.store; keeper = holds.keeper }) in
-      let last = finished m is holds tell all.1.put all.0.objects all.1.puts all.1.removes in (
+  pub carried-on : (held' : Option Held) (kept' : Option (List Record)) → Carried x held kept held' kept' → StepsAt held kept o c moment (said lines) held' kept' (Some t)
+  carried-on held' kept' all m is holds tell =
+      let now = both-told (AreMoved x) held held' m.objects holds.store all.objects in
+      let last = finished m is holds tell now.1.put now.0 now.1.puts now.1.removes in (
         last.machine,
         last.step,
         last.state,
         record {
-          store = all.2.store ∙ ap Some (sym last.objects_are);
-          keeper = all.2.keeper ∙ ap Some (edited m last.machine all.0.records is last.state all.1.records);
+          store = now.2 ∙ ap Some (sym last.objects_are);
+          keeper = edited kept' m last.machine is last.state holds.keeper all.records;
           sound = last.sound;
           parts = no-parts last.machine t last.state last.unsaved_is;
         },

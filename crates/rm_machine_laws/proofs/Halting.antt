@@ -7,9 +7,10 @@ use Rattle.rm_base.specs.declared.block.Change.{Change as BlockChange}
 use Rattle.rm_catalog.specs.declared.record.PartEntry.{PartEntry}
 use Rattle.rm_catalog.specs.declared.record.Record.{Record}
 use Rattle.rm_commit.specs.declared.commit.Commit.{Commit}
-use Rattle.rm_commit.specs.Carrying.{Halted, Leads, Outside, Tells, after_the_edits, before_the_edits}
+use Rattle.rm_commit.specs.Carrying.{ArePut, Halted, after_the_edits, before_the_edits}
 use Rattle.rm_commit.specs.Names.{SameBeyondPuts, after_all, is_named, itself, name_of, nothing}
 use Rattle.rm_commit.proofs.Named.{unnamed-stays}
+use Rattle.rm_commit.proofs.Told.{both-told}
 use Rattle.rm_lang_statement.specs.declared.command.Command.{Command}
 use Rattle.rm_report.specs.Reply.{said}
 use Rattle.rm_report.specs.declared.line.Line.{Line}
@@ -86,12 +87,12 @@ sound-by given (Some s) h before after made touched same is parts =
     (parts-left given s.catalog.saved before after made touched (λ p has. same (site_name p.id) (of_part p has)) parts)
 
 -- and the devices hold it
-pub left-holds : (given : List (List ℕ)) (n : Machine) (w : Outside) (held : Option Held) (kept : Option (List Record)) → IsSoundMachine n → HaveParts n.objects n.made n.touched (saved_in n.state) → w.records ≡ records n → StaysUnder given n.state n.objects w.objects → Tells held kept w
-    → HoldsRest held kept (left given n w.objects)
-left-holds given n w held kept sound parts same objects tells = record {
-  store = tells.store;
-  keeper = tells.keeper ∙ ap Some same;
-  sound = sound-by given n.state n.history n.objects w.objects n.made n.touched objects sound parts;
+pub left-holds : (given : List (List ℕ)) (n : Machine) (objects : Held) (held : Option Held) (kept : Option (List Record)) → IsSoundMachine n → HaveParts n.objects n.made n.touched (saved_in n.state) → StaysUnder given n.state n.objects objects
+    → held ≡ Some objects → kept ≡ Some (records n) → HoldsRest held kept (left given n objects)
+left-holds given n objects held kept sound parts same store keeper = record {
+  store = store;
+  keeper = keeper;
+  sound = sound-by given n.state n.history n.objects objects n.made n.touched same sound parts;
 }
 
 pub is-left : (given : List (List ℕ)) (n : Machine) (objects : Held) → StaysUnder given n.state n.objects objects → IsLeft given n (left given n objects)
@@ -118,36 +119,37 @@ module _ (c : Command) (law : LeadsOn c) (stays : StaysSound c) (loose : StaysLo
     | inr other ↦ inr (same name other)
   ]
 
-  halted : (m : Machine) → m.state ≡ o → Holds held kept m → DigestsTell m → (held' : Option Held) (kept' : Option (List Record)) (w : Outside) → Halted x (record { objects = m.objects; records = records m }) w → Tells held' kept' w
-      → (r : Rest) × Stopped m c moment r × HoldsRest held' kept' r
-  halted m is holds tell held' kept' w (before_the_edits b) tells =
-      let same = before-stays m is holds w.objects b.objects in
-      (left (names_in c) m w.objects, record { machine = m; one = inl refl; left = is-left (names_in c) m w.objects same }, left-holds (names_in c) m w held' kept' holds.sound holds.parts b.records same tells)
-  halted m is holds tell held' kept' w (after_the_edits a) tells =
-      let all : Held = λ name. after_all itself nothing x.removes name (a.put name) in
-      let last = finished c law stays held kept o moment lines x t well at handed m is holds tell a.put all a.puts (λ name. refl) in
+  pub halts : (held' : Option Held) (kept' : Option (List Record)) → Halted x held kept held' kept' → StopsAt held kept o c moment held' kept'
+  halts held' kept' (before_the_edits b) m is holds tell =
+      let now = both-told (SameBeyondPuts x.objects) held held' m.objects holds.store b.objects in
+      let same = before-stays m is holds now.0 now.1 in (
+        left (names_in c) m now.0,
+        record { machine = m; one = inl refl; left = is-left (names_in c) m now.0 same },
+        left-holds (names_in c) m now.0 held' kept' holds.sound holds.parts same now.2 (b.records ∙ holds.keeper),
+      )
+  halts held' kept' (after_the_edits a) m is holds tell =
+      let now = both-told (ArePut x) held held' m.objects holds.store a.objects in
+      let all : Held = λ name. after_all itself nothing x.removes name (now.1.put name) in
+      let last = finished c law stays held kept o moment lines x t well at handed m is holds tell now.1.put all now.1.puts (λ name. refl) in
       let n = last.machine in
-      let same : StaysUnder (names_in c) n.state n.objects w.objects = λ name names. elim (cases_Bool (is_named itself x.removes name)) [
+      let same : StaysUnder (names_in c) n.state n.objects now.0 = λ name names. elim (cases_Bool (is_named itself x.removes name)) [
         | inl gone ↦
             let named = subst (λ y. IsNamedIn y name) last.state names in
             let by_effect = named-first o handed.effect name (no-part t name last.unsaved_is named) (subst (λ ys. is_named itself ys name ≡ true) handed.removes gone) in
             inl ((loose-of m is holds).removes name named by_effect)
-        | inr stays ↦ inr (a.removes name stays ∙ sym (unnamed-stays itself nothing x.removes name (a.put name) stays) ∙ sym (ap (λ (h : Held). h name) last.objects_are))
+        | inr stays ↦ inr (now.1.removes name stays ∙ sym (unnamed-stays itself nothing x.removes name (now.1.put name) stays) ∙ sym (ap (λ (h : Held). h name) last.objects_are))
       ] in
-      let records_are = edited c law stays held kept o moment lines x t well at handed m n w.records is last.state a.records in
-      (left (names_in c) n w.objects, record { machine = n; one = inr (said lines, last.step); left = is-left (names_in c) n w.objects same }, left-holds (names_in c) n w held' kept' last.sound (no-parts n t last.state last.unsaved_is) records_are same tells)
-
-  pub halts : (held' : Option Held) (kept' : Option (List Record)) → Leads (Halted x) held kept held' kept' → StopsAt held kept o c moment held' kept'
-  halts held' kept' leads m is holds tell =
-      let w = leads (record { objects = m.objects; records = records m }) (record { store = holds.store; keeper = holds.keeper }) in
-      halted m is holds tell held' kept' w.0 w.1 w.2
+      let keeper = edited c law stays held kept o moment lines x t well at handed kept' m n is last.state holds.keeper a.records in (
+        left (names_in c) n now.0,
+        record { machine = n; one = inr (said lines, last.step); left = is-left (names_in c) n now.0 same },
+        left-holds (names_in c) n now.0 held' kept' last.sound (no-parts n t last.state last.unsaved_is) same now.2 keeper,
+      )
 
 -- what the store and the keeper hold of a machine they hold of what is left of it
 pub ends-here : (held : Option Held) (kept : Option (List Record)) (c : Command) (n : Machine) → Holds held kept n → (r : Rest) × IsLeft (names_in c) n r × HoldsRest held kept r
 ends-here held kept c n holds =
     let same : StaysUnder (names_in c) n.state n.objects n.objects = λ name names. inr refl in
-    let w : Outside = record { objects = n.objects; records = records n } in
-    (left (names_in c) n n.objects, is-left (names_in c) n n.objects same, left-holds (names_in c) n w held kept holds.sound holds.parts refl same (record { store = holds.store; keeper = holds.keeper }))
+    (left (names_in c) n n.objects, is-left (names_in c) n n.objects same, left-holds (names_in c) n n.objects held kept holds.sound holds.parts same holds.store holds.keeper)
 
 -- and of it at rest
 pub rests : (held : Option Held) (kept : Option (List Record)) (m : Machine) → Holds held kept m → HoldsRest held kept (at_rest m)

@@ -5,7 +5,7 @@ use Rattle.rm_base.specs.Store.{Held}
 use Rattle.rm_catalog.specs.declared.record.Record.{Record}
 use Rattle.rm_catalog.specs.Edits.{after_edits}
 use Rattle.rm_commit.specs.declared.commit.Commit.{Commit}
-use Rattle.rm_commit.specs.Carrying.{Carried, Halted, Leads}
+use Rattle.rm_commit.specs.Carrying.{Carried, Halted}
 use Rattle.rm_lang_statement.specs.declared.command.Command.{Command}
 use Rattle.rm_report.specs.Reply.{said}
 use Rattle.rm_report.specs.declared.line.Line.{Line}
@@ -45,12 +45,12 @@ pub record IsHanded (held : Option Held) (o : Option State) (c : Command) (momen
 abbrev pub CarriesOn : Command → Type 0
 CarriesOn c =
     (held held' : Option Held) (kept kept' : Option (List Record)) (o : Option State) (moment : ℕ) (lines : List Line) (x : Commit) (t : State)
-    → IsStatement c → IsMomentIn o moment → IsHanded held o c moment lines x t → Leads (Carried x) held kept held' kept'
+    → IsStatement c → IsMomentIn o moment → IsHanded held o c moment lines x t → Carried x held kept held' kept'
     → StepsAt held kept o c moment (said lines) held' kept' (Some t)
 
 -- And where carrying it out was stopped, the machine before it is left, or the one after it.
 abbrev pub StopsWell : Command → Type 0
 StopsWell c =
     (held held' : Option Held) (kept kept' : Option (List Record)) (o : Option State) (moment : ℕ) (lines : List Line) (x : Commit) (t : State)
-    → IsStatement c → IsMomentIn o moment → IsHanded held o c moment lines x t → Leads (Halted x) held kept held' kept'
+    → IsStatement c → IsMomentIn o moment → IsHanded held o c moment lines x t → Halted x held kept held' kept'
     → StopsAt held kept o c moment held' kept'

@@ -9,7 +9,7 @@ use Rattle.rm_catalog.specs.Edits.{after_edits}
 use Rattle.rm_catalog.specs.declared.record.Edit.{Edit}
 use Rattle.rm_catalog.specs.declared.record.Record.{Record}
 use Rattle.rm_commit.specs.declared.commit.Commit.{Commit}
-use Rattle.rm_commit.specs.Carrying.{Carried, Halted, Leads}
+use Rattle.rm_commit.specs.Carrying.{Carried, Halted}
 use Rattle.rm_lang_statement.specs.declared.command.Command.{Command}
 use Rattle.rm_report.specs.Reply.{refused_by, said}
 use Rattle.rm_report.specs.declared.line.Line.{Line}
@@ -74,17 +74,17 @@ module _ (held : Option Held) (kept : Option (List Record)) (c : Command) (momen
       (subst (λ (x : Reply). StepsAt held kept (Some s) c moment x held kept (Some s)) (sym said_is) (told-step held kept s c moment lines (every-tells c) well at comes)))
 
   pub is-carried : (before : Option Held) (o : Option State) (lines : List Line) (x : Commit) (t : State) (reply : Reply) (held' : Option Held) (kept' : Option (List Record)) → before ≡ held → reply ≡ said lines
-      → IsStatement c → IsMomentIn o moment → IsHanded held o c moment lines x t → Leads (Carried x) before kept held' kept' → IsStepAt held kept o c moment reply held' kept' (Some t)
+      → IsStatement c → IsMomentIn o moment → IsHanded held o c moment lines x t → Carried x before kept held' kept' → IsStepAt held kept o c moment reply held' kept' (Some t)
   unfolding IsStepAt
-  is-carried before o lines x t reply held' kept' stays said_is well at handed leads =
-      let on = subst (λ (h : Option Held). Leads (Carried x) h kept held' kept') stays leads in
+  is-carried before o lines x t reply held' kept' stays said_is well at handed all =
+      let on = subst (λ (h : Option Held). Carried x h kept held' kept') stays all in
       subst (λ (r : Reply). StepsAt held kept o c moment r held' kept' (Some t)) (sym said_is) (carried-on c (every-leads c) (keeps-sound c (every-stays c)) held kept o moment lines x t well at handed held' kept' on)
 
   pub is-halted : {T E : Type 0} (r : Result T E) (before : Option Held) (o : Option State) (lines : List Line) (x : Commit) (t : State) (held' : Option Held) (kept' : Option (List Record)) → before ≡ held
-      → IsStatement c → IsMomentIn o moment → IsHanded held o c moment lines x t → Leads (Halted x) before kept held' kept' → OnErr r (IsStopAt held kept o c moment held' kept')
+      → IsStatement c → IsMomentIn o moment → IsHanded held o c moment lines x t → Halted x before kept held' kept' → OnErr r (IsStopAt held kept o c moment held' kept')
   unfolding IsStopAt
-  is-halted r before o lines x t held' kept' stays well at handed leads =
-      let on = subst (λ (h : Option Held). Leads (Halted x) h kept held' kept') stays leads in
+  is-halted r before o lines x t held' kept' stays well at handed all =
+      let on = subst (λ (h : Option Held). Halted x h kept held' kept') stays all in
       on-err (StopsAt held kept o c moment held' kept') r (halts c (every-leads c) (keeps-sound c (every-stays c)) (every-loose c) held kept o moment lines x t well at handed held' kept' on)
 
   -- where nothing was done yet

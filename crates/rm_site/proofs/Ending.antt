@@ -1,6 +1,7 @@
 -- What a save of a database leaves, and what a stop leaves of it.
 use Rattle.std.proofs.Common.{◌≡◌, ◌∙◌, ◌++◌, ◌⊎◌, ◌+◌, ◌&&◌, inl, inr, ℕ, Bool, List, [], ◌∷◌, Option, Some, None, true, false, refl, ap, sym, subst}
 use Rattle.std.specs.Prelude.{is_none, MatchBool, Result, Ok, Err, OnOk, OnErr}
+use Rattle.std.specs.Option.{option_map}
 use Rattle.std.specs.Str.{bytes_eq}
 use Rattle.std.proofs.lemmas.Bool.{cases_Bool}
 use Rattle.std.proofs.lemmas.Slice.Eq.{bytes_eq-Decides}
@@ -8,8 +9,9 @@ use Rattle.rm_base.specs.Store.{Held}
 use Rattle.rm_catalog.specs.Edits.{after_edits}
 use Rattle.rm_catalog.specs.declared.record.Record.{Record}
 use Rattle.rm_commit.specs.declared.commit.Commit.{Commit}
-use Rattle.rm_commit.specs.Carrying.{Carried, Halted, Leads, Outside, Tells, after_the_edits, before_the_edits}
+use Rattle.rm_commit.specs.Carrying.{AreMoved, ArePut, Carried, Halted, after_the_edits, before_the_edits}
 use Rattle.rm_commit.specs.Names.{SameBeyondPuts, HasPuts, HasRemoves, is_named, itself, name_of}
+use Rattle.rm_commit.proofs.Told.{both-told}
 use Rattle.rm_catalog_typed.specs.TypedCatalog.{Saved, all_records, records_of}
 use Rattle.rm_machine.specs.Machine.{Machine}
 use Rattle.rm_machine.specs.Marks.{lacks_ids}
@@ -76,24 +78,24 @@ module _ (held : Option Held) (kept : Option (List Record)) (s : State) where
       touched = refl;
     }
 
-    records-are : (m : Machine) (rs : List Record) → m.state ≡ Some s → rs ≡ after_edits x.edits (records m) → rs ≡ records_of (with_site s)
-    records-are m rs is made = made ∙ ap (λ (o : Option State). after_edits x.edits (all_records (catalog_in o))) is ∙ edits
+    keeper-has : (kept' : Option (List Record)) (m : Machine) → m.state ≡ Some s → kept ≡ Some (records m) → kept' ≡ option_map (after_edits x.edits) kept → kept' ≡ Some (records_of (with_site s))
+    keeper-has kept' m is keeper made =
+        made ∙ ap (option_map (after_edits x.edits)) keeper ∙ ap Some (ap (λ (o : Option State). after_edits x.edits (all_records (catalog_in o))) is ∙ edits)
 
-    saved-holds : (m : Machine) (w : Outside) (held' : Option Held) (kept' : Option (List Record)) → m.state ≡ Some s → Holds held kept m → IsSavedAs m s (saved m w.objects)
-        → w.records ≡ after_edits x.edits (records m) → Tells held' kept' w → HoldsRest held' kept' (saved m w.objects)
-    saved-holds m w held' kept' is holds done made tells = record {
-      store = tells.store;
-      keeper = tells.keeper ∙ ap Some (records-are m w.records is made);
-      sound = saved-rests m s (saved m w.objects) holds.sound is none ids done;
+    saved-holds : (m : Machine) (objects : Held) (held' : Option Held) (kept' : Option (List Record)) → m.state ≡ Some s → Holds held kept m → IsSavedAs m s (saved m objects)
+        → held' ≡ Some objects → kept' ≡ option_map (after_edits x.edits) kept → HoldsRest held' kept' (saved m objects)
+    saved-holds m objects held' kept' is holds done store made = record {
+      store = store;
+      keeper = keeper-has kept' m is holds.keeper made;
+      sound = saved-rests m s (saved m objects) holds.sound is none ids done;
     }
 
-    pub saves-all : (held' : Option Held) (kept' : Option (List Record)) → Leads (Carried x) held kept held' kept' → SavesAt held kept s held' kept'
-    saves-all held' kept' leads m is holds =
-        let all = leads (record { objects = m.objects; records = records m }) (record { store = holds.store; keeper = holds.keeper }) in
-        let w = all.0 in
-        let same : (name : List ℕ) → w.objects name ≡ all.1.put name = subst (λ (ys : List (List ℕ)). HasRemoves ys all.1.put w.objects) removes all.1.removes in
-        let done = saved-as m all.1.put w.objects all.1.puts same in
-        (saved m w.objects, is-ended m (saved m w.objects) is done, saved-holds m w held' kept' is holds done all.1.records all.2)
+    pub saves-all : (held' : Option Held) (kept' : Option (List Record)) → Carried x held kept held' kept' → SavesAt held kept s held' kept'
+    saves-all held' kept' all m is holds =
+        let now = both-told (AreMoved x) held held' m.objects holds.store all.objects in
+        let same : (name : List ℕ) → now.0 name ≡ now.1.put name = subst (λ (ys : List (List ℕ)). HasRemoves ys now.1.put now.0) removes now.1.removes in
+        let done = saved-as m now.1.put now.0 now.1.puts same in
+        (saved m now.0, is-ended m (saved m now.0) is done, saved-holds m now.0 held' kept' is holds done now.2 all.records)
 
     -- the names of records are none of the new objects
     stays-under : (m : Machine) (objects : Held) → m.state ≡ Some s → SameBeyondPuts x.objects m.objects objects → StaysUnder [] m.state m.objects objects
@@ -101,20 +103,16 @@ module _ (held : Option Held) (kept : Option (List Record)) (s : State) where
         let other = no-part s name none (subst (λ o. IsNamedIn o name) is names) in
         inr (same name (ap (λ ys. is_named name_of ys name) puts ∙ unnamed-site (ledger s).base.next_id (parts_of s) name other))
 
-    halted : (m : Machine) → m.state ≡ Some s → Holds held kept m → (held' : Option Held) (kept' : Option (List Record)) (w : Outside) → Halted x (record { objects = m.objects; records = records m }) w → Tells held' kept' w
-        → (r : Rest) × (IsLeft [] m r ⊎ IsEnded true m r) × HoldsRest held' kept' r
-    halted m is holds held' kept' w (before_the_edits b) tells =
-        let same = stays-under m w.objects is b.objects in
-        (left [] m w.objects, inl (is-left [] m w.objects same), left-holds [] m w held' kept' holds.sound holds.parts b.records same tells)
-    halted m is holds held' kept' w (after_the_edits a) tells =
-        let same : (name : List ℕ) → w.objects name ≡ a.put name = λ name. a.removes name (ap (λ (ys : List (List ℕ)). is_named itself ys name) removes) in
-        let done = saved-as m a.put w.objects a.puts same in
-        (saved m w.objects, inr (is-ended m (saved m w.objects) is done), saved-holds m w held' kept' is holds done a.records tells)
-
-    pub stops-saving : (held' : Option Held) (kept' : Option (List Record)) → Leads (Halted x) held kept held' kept' → StopsSavingAt held kept s held' kept'
-    stops-saving held' kept' leads m is holds =
-        let w = leads (record { objects = m.objects; records = records m }) (record { store = holds.store; keeper = holds.keeper }) in
-        halted m is holds held' kept' w.0 w.1 w.2
+    pub stops-saving : (held' : Option Held) (kept' : Option (List Record)) → Halted x held kept held' kept' → StopsSavingAt held kept s held' kept'
+    stops-saving held' kept' (before_the_edits b) m is holds =
+        let now = both-told (SameBeyondPuts x.objects) held held' m.objects holds.store b.objects in
+        let same = stays-under m now.0 is now.1 in
+        (left [] m now.0, inl (is-left [] m now.0 same), left-holds [] m now.0 held' kept' holds.sound holds.parts same now.2 (b.records ∙ holds.keeper))
+    stops-saving held' kept' (after_the_edits a) m is holds =
+        let now = both-told (ArePut x) held held' m.objects holds.store a.objects in
+        let same : (name : List ℕ) → now.0 name ≡ now.1.put name = λ name. now.1.removes name (ap (λ (ys : List (List ℕ)). is_named itself ys name) removes) in
+        let done = saved-as m now.1.put now.0 now.1.puts same in
+        (saved m now.0, inr (is-ended m (saved m now.0) is done), saved-holds m now.0 held' kept' is holds done now.2 a.records)
 
   -- where nothing was done yet
   pub stops-before : StopsSavingAt held kept s held kept
