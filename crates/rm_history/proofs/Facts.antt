@@ -6,11 +6,12 @@ use Rattle.rm_base.specs.declared.block.Block.{Block}
 use Rattle.rm_history.specs.declared.world.World.{World}
 use Rattle.rm_history.specs.Tree.{owner}
 use Rattle.rm_history.specs.World.{blocks_of}
-use Rattle.rm_history.proofs.States.{concerns-parts}
+use Rattle.rm_history.proofs.States.{concerns-parts, state-members}
+use Rattle.rm_history.proofs.Orders.{ordered}
 use Rattle.rm_history.specs.Evidence.{Evidence}
 use Rattle.rm_history.specs.Known.{Determined, Quiet, IsGap}
 use Rattle.rm_history.specs.FirstGap.{IsTarget, IsDetermined, HasGap, IsRecoverable, IsBefore, IsFirstGap}
-use Rattle.rm_history.specs.Unknown.{IsWorld, IsKnown, IsUnknown}
+use Rattle.rm_history.specs.Unknown.{IsWorld, IsKnown, IsKnownInAnyOrder, IsUnknown, IsUnknownInAnyOrder}
 use Rattle.rm_history.proofs.KnownStates.{IsAt}
 use Rattle.rm_history.proofs.Sound.{quiet-still, seen-state}
 use Rattle.rm_history.proofs.Gaps.{could-be}
@@ -32,6 +33,12 @@ told-is-true w e i s f b v x target told h history agrees =
           absurd (quiet-still w h e agrees f b (owner w.tree i c.scn) c.scn history (target-inside w i s f b target) (told.quiet c.scn above parts.below) c held at)
     ]) told.seen
 
+-- and in each that agrees in any order: another one of the same changes agrees
+pub told-in-any-order : (w : World) (e : Evidence) (i s f b v : ℕ) (x : Block) → IsTarget w i s f b → Determined w e i s f b v x → IsKnownInAnyOrder w e i s f b v x
+told-in-any-order w e i s f b v x target told k history agrees =
+    let on = ordered w k history e agrees in
+    sym (state-members w on.0 k i s f b history on.1.same) ∙ told-is-true w e i s f b v x target told on.0 on.1.history on.1.agrees
+
 -- a block that is determined has no gap
 pub no-gap : (w : World) (e : Evidence) (i s f b m g : ℕ) → IsDetermined w e i s f b → ¬ HasGap w e i s f b m g
 no-gap w e i s f b m g told has =
@@ -46,6 +53,13 @@ pub behind-a-gap : (w : World) (e : Evidence) (i s f b m g : ℕ) → IsWorld w 
 behind-a-gap w e i s f b m g world target has = record {
   gap = has;
   two = λ h history agrees. could-be w e i s f b has.version m g has.is world target h history agrees;
+}
+
+-- and so whichever of them it was, in any order
+pub unknown-in-any-order : (w : World) (e : Evidence) (i s f b m g : ℕ) → IsWorld w → IsTarget w i s f b → HasGap w e i s f b m g → IsUnknownInAnyOrder w e i s f b m g
+unknown-in-any-order w e i s f b m g world target has = record {
+  gap = has;
+  two = λ k history agrees. let on = ordered w k history e agrees in (on.0, on.1.same, could-be w e i s f b has.version m g has.is world target on.0 on.1.history on.1.agrees);
 }
 
 -- a block has one gap at most

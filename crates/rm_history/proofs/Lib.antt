@@ -10,6 +10,7 @@ pub mod Highs
 pub mod Histories
 pub mod KnownStates
 pub mod Logs
+pub mod Orders
 pub mod Owners
 pub mod Past
 pub mod Paths

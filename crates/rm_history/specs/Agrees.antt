@@ -1,5 +1,5 @@
 -- What an artefact says of a history.
-use Rattle.std.specs.Prelude.{ℕ, ◌≡◌, ◌<◌, ◌≤◌, ◌==◌, ◌&&◌, nat_le, nat_lt, Bool, false, List, Contains, filter}
+use Rattle.std.specs.Prelude.{ℕ, ◌≡◌, ◌<◌, ◌≤◌, ◌↔◌, ◌⊎◌, ◌==◌, ◌&&◌, nat_le, nat_lt, Bool, true, false, List, Contains, AllPairs, filter}
 use Rattle.std.specs.List.{list_any}
 use Rattle.rm_base.specs.declared.block.Change.{Change}
 use Rattle.rm_base.specs.declared.block.Row.{Row}
@@ -40,3 +40,12 @@ is_of a c = (c.inc == a.inc) && (c.thread == a.thread) && nat_le a.first c.scn &
 -- its changes are exactly the history's of its incarnation, thread and range
 abbrev pub LogAgrees : List Change → Log → Type 0
 LogAgrees h a = a.changes ≡ filter (is_of a) h
+
+-- the order of the changes of a log: by SCN, then by datafile, then by block
+abbrev pub ComesBefore : Change → Change → Type 0
+ComesBefore c d = (c.scn < d.scn) ⊎ ((c.scn ≡ d.scn) × ((c.file < d.file) ⊎ ((c.file ≡ d.file) × (c.block < d.block))))
+
+-- its changes are exactly these, and ascend, however the history lists them
+pub record LogLists (h : List Change) (a : Log) : Type 0 where
+  pub exact : (c : Change) → Contains a.changes c ↔ (Contains h c × (is_of a c ≡ true))
+  pub ascends : AllPairs ComesBefore a.changes

@@ -1,5 +1,5 @@
 -- The histories that a database may have had: lists of changes.
-use Rattle.std.specs.Prelude.{◌≡◌, ◌<◌, ◌≤◌, Some, List, Contains, AllPairs}
+use Rattle.std.specs.Prelude.{◌≡◌, ◌<◌, ◌≤◌, ◌↔◌, Some, List, Contains, AllPairs}
 use Rattle.rm_base.specs.declared.block.Change.{Change}
 use Rattle.rm_history.specs.declared.world.Datafile.{Datafile}
 use Rattle.rm_history.specs.declared.world.World.{World}
@@ -31,3 +31,7 @@ pub record SamePlace (c d : Change) : Type 0 where
 pub record IsHistory (w : World) (h : List Change) : Type 0 where
   pub changes : (c : Change) → Contains h c → IsChange w c
   pub apart : AllPairs (λ c d. ¬ SamePlace c d) h
+
+-- the two list the same changes
+abbrev pub SameChanges : List Change → List Change → Type 0
+SameChanges h k = (c : Change) → Contains h c ↔ Contains k c

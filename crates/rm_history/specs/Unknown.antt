@@ -4,11 +4,11 @@ use Rattle.rm_base.specs.declared.block.Block.{Block}
 use Rattle.rm_base.specs.declared.block.Change.{Change}
 use Rattle.rm_history.specs.declared.world.Datafile.{Datafile}
 use Rattle.rm_history.specs.declared.world.World.{World}
-use Rattle.rm_history.specs.History.{IsHistory}
+use Rattle.rm_history.specs.History.{IsHistory, SameChanges}
 use Rattle.rm_history.specs.State.{concerns, state}
 use Rattle.rm_history.specs.Tree.{IsTree, reset_of}
 use Rattle.rm_history.specs.World.{file_of, IsThread}
-use Rattle.rm_history.specs.Evidence.{Evidence, Agrees}
+use Rattle.rm_history.specs.Evidence.{Evidence, Agrees, AgreesInAnyOrder}
 use Rattle.rm_history.specs.Known.{HasLog}
 use Rattle.rm_history.specs.FirstGap.{HasGap}
 
@@ -57,3 +57,19 @@ pub record IsUnknown (w : World) (e : Evidence) (i s f b m g : ℕ) : Type 0 whe
 abbrev pub IsKnown : World → Evidence → ℕ → ℕ → ℕ → ℕ → ℕ → Block → Type 0
 IsKnown w e i s f b v x =
     (h : List Change) → IsHistory w h → Agrees w h e → state w h i s f b ≡ record { block = b; version = v; content = x }
+
+-- the history h has the changes of k, and agrees with the evidence
+pub record IsOrdered (w : World) (k : List Change) (e : Evidence) (h : List Change) : Type 0 where
+  pub history : IsHistory w h
+  pub same : SameChanges h k
+  pub agrees : Agrees w h e
+
+-- so in every history that agrees in whatever order it lists its changes
+abbrev pub IsKnownInAnyOrder : World → Evidence → ℕ → ℕ → ℕ → ℕ → ℕ → Block → Type 0
+IsKnownInAnyOrder w e i s f b v x =
+    (k : List Change) → IsHistory w k → AgreesInAnyOrder w k e → state w k i s f b ≡ record { block = b; version = v; content = x }
+
+-- and the two histories stand behind the gap, in whatever order the one that agrees lists its changes
+pub record IsUnknownInAnyOrder (w : World) (e : Evidence) (i s f b m g : ℕ) : Type 0 where
+  pub gap : HasGap w e i s f b m g
+  pub two : (k : List Change) → IsHistory w k → AgreesInAnyOrder w k e → (h : List Change) × SameChanges h k × CouldBe w h e i s f b gap.version m g gap.is.greatest.content

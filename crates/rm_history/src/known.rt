@@ -1,14 +1,16 @@
 //! What the evidence makes known, and what nobody could know from it.
-ghost use Rattle.std.specs.Prelude.{ℕ, ◌≡◌, ◌<◌, List, [], ◌∷◌, ◌++◌, Some};
+ghost use Rattle.std.specs.Prelude.{ℕ, ◌≡◌, ◌<◌, List, [], ◌∷◌, ◌++◌, Some, Contains, AllPairs};
 ghost use Rattle.rm_base.specs.Content.{padded};
 ghost use Rattle.rm_base.specs.declared.block.Block.{Block};
 ghost use Rattle.rm_base.specs.declared.block.Change.{Change};
 ghost use Rattle.rm_history.specs.declared.world.World.{World};
 ghost use Rattle.rm_history.specs.History.{IsHistory};
-ghost use Rattle.rm_history.specs.Evidence.{Evidence, Agrees};
+ghost use Rattle.rm_history.specs.Agrees.{ComesBefore};
+ghost use Rattle.rm_history.specs.Artefacts.{Log};
+ghost use Rattle.rm_history.specs.Evidence.{Evidence, Agrees, AgreesInAnyOrder};
 ghost use Rattle.rm_history.specs.Known.{Determined};
 ghost use Rattle.rm_history.specs.FirstGap.{IsTarget, IsDetermined, HasGap, IsRecoverable, IsFirstGap};
-ghost use Rattle.rm_history.specs.Unknown.{IsWorld, IsKnown, IsUnknown};
+ghost use Rattle.rm_history.specs.Unknown.{IsWorld, IsKnown, IsKnownInAnyOrder, IsOrdered, IsUnknown, IsUnknownInAnyOrder};
 ghost use Rattle.rm_history.specs.Growth.{IsPast};
 ghost use Rattle.rm_history.specs.Example.{world, change, history, evidence};
 
@@ -21,6 +23,20 @@ pub fn told_is_true()
 /// other it was changed at the gap, to any content.
 pub fn nothing_more_could_be_known()
     ensures { (w : World) (e : Evidence) (i s f b m g : ℕ) → IsWorld w → IsTarget w i s f b → HasGap w e i s f b m g → IsUnknown w e i s f b m g }
+{}
+
+/// A history is free to list its changes in any order: where the logs list them, and the rest agrees, a history
+/// of the same changes agrees. And one that agrees does so in any order, where the logs ascend.
+pub fn the_order_of_a_history_is_free()
+    ensures ordered { (w : World) (k : List Change) (e : Evidence) → IsHistory w k → AgreesInAnyOrder w k e → (h : List Change) × IsOrdered w k e h }
+    ensures any { (w : World) (h : List Change) (e : Evidence) → Agrees w h e → ((a : Log) → Contains e.logs a → AllPairs ComesBefore a.changes) → AgreesInAnyOrder w h e }
+{}
+
+/// So what is determined is so in every history that agrees in any order, and behind a gap stand two histories
+/// whichever of them it was.
+pub fn what_is_known_goes_by_no_order()
+    ensures told { (w : World) (e : Evidence) (i s f b v : ℕ) (x : Block) → IsTarget w i s f b → Determined w e i s f b v x → IsKnownInAnyOrder w e i s f b v x }
+    ensures gap { (w : World) (e : Evidence) (i s f b m g : ℕ) → IsWorld w → IsTarget w i s f b → HasGap w e i s f b m g → IsUnknownInAnyOrder w e i s f b m g }
 {}
 
 /// A block that is determined has no gap.

@@ -8,7 +8,7 @@ ghost use Rattle.rm_history.specs.declared.world.Datafile.{Datafile};
 ghost use Rattle.rm_history.specs.declared.world.World.{World};
 ghost use Rattle.rm_history.specs.Tree.{IsThere, IsTree, IsProperAncestor, path, segment_end, standing, owner, parent_of, reset_of, end_of, with_end, with_branch};
 ghost use Rattle.rm_history.specs.World.{exists, with_tree, with_file};
-ghost use Rattle.rm_history.specs.History.{IsChange, IsHistory};
+ghost use Rattle.rm_history.specs.History.{IsChange, IsHistory, SameChanges};
 ghost use Rattle.rm_history.specs.State.{state, concerns, IsState};
 ghost use Rattle.rm_history.specs.Artefacts.{Base, Level1, Log, high_of};
 ghost use Rattle.rm_history.specs.Agrees.{BaseAgrees, Level1Agrees, LogAgrees, is_of};
@@ -27,6 +27,12 @@ pub fn state_is_one()
 /// The order in which a history lists its changes makes no difference.
 pub fn order_changes_no_state()
     ensures { (w : World) (h k : List Change) (i s f b : ℕ) → IsHistory w k → ((c : Change) → Contains h c ↔ Contains k c) → state w h i s f b ≡ state w k i s f b }
+{}
+
+/// And so what a copy and an increment say of it.
+pub fn order_changes_no_agreement()
+    ensures base { (w : World) (h k : List Change) (a : Base) → IsHistory w k → SameChanges h k → BaseAgrees w h a ↔ BaseAgrees w k a }
+    ensures level1 { (w : World) (h k : List Change) (a : Level1) → IsHistory w k → SameChanges h k → Level1Agrees w h a ↔ Level1Agrees w k a }
 {}
 
 /// A change more makes the state of a block that it concerns where none that does lies above it, and
