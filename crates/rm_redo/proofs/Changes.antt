@@ -1,10 +1,13 @@
 -- What the logs have after a list of changes.
-use Rattle.std.proofs.Common.{◌≡◌, ◌≢◌, ◌∙◌, ◌==◌, ℕ, List, [], ◌∷◌, ◌++◌, inl, inr, Bool, true, false, cond, refl, ap, sym, subst, append_assoc, map, filter, All}
+use Rattle.std.proofs.Common.{◌≡◌, ◌≢◌, ◌∙◌, ◌==◌, ℕ, List, [], ◌∷◌, ◌++◌, inl, inr, Bool, true, false, cond, refl, ap, sym, subst, append_assoc, arith, length, get_or, map, filter, All, AllPairs}
 use Rattle.std.proofs.lemmas.Bool.{cases_eq, eq-eqb, ne_eqb, eqb-true}
+use Rattle.std.proofs.lemmas.List.{get_or-map, length-map, map-append}
 use Rattle.std.proofs.lemmas.List.Elements.{All-head, All-tail, All-weaker}
 use Rattle.rm_base.specs.declared.block.Change.{Change}
 use Rattle.rm_redo.specs.declared.online.LogRecord.{LogRecord}
-use Rattle.rm_redo.specs.Logs.{Logs}
+use Rattle.rm_history.specs.Agrees.{ComesBefore}
+use Rattle.rm_redo.specs.declared.log_file.LogFile.{LogFile}
+use Rattle.rm_redo.specs.Logs.{IsBefore, Logs}
 use Rattle.rm_redo.specs.Online.{IsThread, record_of, thread_records, first_of, switched, with_change, with_changes}
 use Rattle.rm_redo.specs.LogFile.{changes_of, is_of_thread, log_file_of}
 use Rattle.rm_redo.proofs.Logs.{IsAround, around-with_change, around-switched, IsThread-switched, IsThread-with_change, thread_records-switched, thread_records-with_change, thread_records-with_change_other}
@@ -63,15 +66,37 @@ told-all inc t [] all = refl
 told-all inc t (c ∷ cs) all =
     told-by inc t c (filter (is_of_thread t) cs) (c.thread == t) refl (All-head (λ c. c.inc ≡ inc) c cs all) (told-all inc t cs (All-tail (λ c. c.inc ≡ inc) c cs all))
 
--- a log tells of the changes that were appended since its thread began anew
+-- a log tells of what it told, and of the changes that were appended
+pub log-grows : (logs : Logs) (t next : ℕ) (h : List Change) → IsThread logs t → All (λ c. IsThread logs c.thread × (c.inc ≡ logs.inc)) h
+    → changes_of (log_file_of (with_changes logs h) t next) ≡ changes_of (log_file_of logs t next) ++ filter (is_of_thread t) h
+log-grows logs t next h there all =
+    let threads : All (λ c. IsThread logs c.thread) h = All-weaker (λ c. IsThread logs c.thread × (c.inc ≡ logs.inc)) (λ c. IsThread logs c.thread) (λ c is. is.0) h all in
+    let incs : All (λ c. c.inc ≡ logs.inc) h = All-weaker (λ c. IsThread logs c.thread × (c.inc ≡ logs.inc)) (λ c. c.inc ≡ logs.inc) (λ c is. is.1) h all in
+    ap (λ i. map (told i t) (thread_records (with_changes logs h) t)) (around-with_changes logs h).inc
+    ∙ ap (map (told logs.inc t)) (thread_records-with_changes logs h t threads there)
+    ∙ map-append (told logs.inc t) (thread_records logs t) (records_in t h)
+    ∙ ap (λ cs. map (told logs.inc t) (thread_records logs t) ++ cs) (told-all logs.inc t h incs)
+
+-- so of these alone where it had no record
+pub log-fills : (logs : Logs) (t next : ℕ) (h : List Change) → IsThread logs t → thread_records logs t ≡ [] → All (λ c. IsThread logs c.thread × (c.inc ≡ logs.inc)) h
+    → changes_of (log_file_of (with_changes logs h) t next) ≡ filter (is_of_thread t) h
+log-fills logs t next h there none all = log-grows logs t next h there all ∙ ap (λ rs. map (told logs.inc t) rs ++ filter (is_of_thread t) h) none
+
+-- and of those since its thread began anew
 pub log-holds : (logs : Logs) (t now next : ℕ) (h : List Change) → IsThread logs t → first_of logs t ≢ now → All (λ c. IsThread logs c.thread × (c.inc ≡ logs.inc)) h → changes_of (log_file_of (with_changes (switched logs t now) h) t next) ≡ filter (is_of_thread t) h
 log-holds logs t now next h there other all =
-    let new : Logs = switched logs t now in
-    let last : Logs = with_changes new h in
-    let threads : All (λ c. IsThread new c.thread) h = All-weaker (λ c. IsThread logs c.thread × (c.inc ≡ logs.inc)) (λ c. IsThread new c.thread) (λ c is. IsThread-switched logs t c.thread now is.0) h all in
-    let inc : last.inc ≡ logs.inc = (around-with_changes new h).inc ∙ (around-switched logs t now).inc in
-    let incs : All (λ c. c.inc ≡ last.inc) h = All-weaker (λ c. IsThread logs c.thread × (c.inc ≡ logs.inc)) (λ c. c.inc ≡ last.inc) (λ c is. is.1 ∙ sym inc) h all in
-    let records : thread_records last t ≡ records_in t h =
-    thread_records-with_changes new h t threads (IsThread-switched logs t t now there)
-    ∙ ap (λ xs. xs ++ records_in t h) (thread_records-switched logs t now there other) in
-    ap (map (told last.inc t)) records ∙ told-all last.inc t h incs
+    let Before : Change → Type 0 = λ c. IsThread logs c.thread × (c.inc ≡ logs.inc) in
+    let After : Change → Type 0 = λ c. IsThread (switched logs t now) c.thread × (c.inc ≡ (switched logs t now).inc) in
+    log-fills (switched logs t now) t next h (IsThread-switched logs t t now there) (thread_records-switched logs t now there other)
+    (All-weaker Before After (λ c is. (IsThread-switched logs t c.thread now is.0, is.1 ∙ sym (around-switched logs t now).inc)) h all)
+
+pairs-map : {X Y : Type 0} (f : X → Y) (R : X → X → Type 0) (S : Y → Y → Type 0) → ((x y : X) → R x y → S (f x) (f y)) → (xs : List X) → AllPairs R xs → AllPairs S (map f xs)
+pairs-map f R S g [] all = λ i j d less inside. absurd (omega arith)
+pairs-map f R S g (x ∷ xs) all = λ i j d less inside.
+    let long : length (map f (x ∷ xs)) ≡ length (x ∷ xs) = length-map (x ∷ xs) f in
+    subst (λ u. S u (get_or (map f (x ∷ xs)) j d)) (sym (get_or-map f (x ∷ xs) i x d (omega arith)))
+    (subst (λ v. S (f (get_or (x ∷ xs) i x)) v) (sym (get_or-map f (x ∷ xs) j x d (omega arith))) (g _ _ (all i j x less (omega arith))))
+
+-- changes ascend as their records do
+pub changes-ascend : (l : LogFile) → AllPairs IsBefore l.records → AllPairs ComesBefore (changes_of l)
+changes-ascend l = pairs-map (told l.inc l.thread) IsBefore ComesBefore (λ r s before. before) l.records

@@ -1,6 +1,8 @@
 //! What the definitions of a log as bytes mean.
-ghost use Rattle.std.specs.Prelude.{ℕ, ◌≡◌, ◌+◌, ◌*◌, length};
+ghost use Rattle.std.specs.Prelude.{ℕ, ◌≡◌, ◌+◌, ◌*◌, length, AllPairs};
+ghost use Rattle.rm_history.specs.Agrees.{ComesBefore};
 ghost use Rattle.rm_redo.specs.declared.log_file.LogFile.{LogFile};
+ghost use Rattle.rm_redo.specs.LogFile.{changes_of};
 ghost use Rattle.rm_redo.specs.LogFormat.{spelling, IsLogFile};
 
 /// A valid log has one spelling, and bytes spell one valid log at most.
@@ -11,4 +13,9 @@ pub fn bytes_spell_one_log()
 /// A spelling has 70 bytes, and 80 for each record.
 pub fn a_log_has_a_length()
     ensures { (l : LogFile) → IsLogFile l → length (spelling l) ≡ 70 + 80 * length l.records }
+{}
+
+/// The changes of a valid log ascend, as `the_order_of_a_history_is_free` asks of logs.
+pub fn a_log_lists_its_changes_in_order()
+    ensures { (l : LogFile) → IsLogFile l → AllPairs ComesBefore (changes_of l) }
 {}
