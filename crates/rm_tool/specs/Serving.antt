@@ -129,8 +129,8 @@ pub record EndsAtStatement (From : (Machine → Type 0) → Type 0) (clock : Opt
   pub statement : ℕ × List Token
   pub next : slice_get ss (length replies) ≡ Some statement
   pub run : From
-  (λ first. DigestsTellAlong first answers ss replies
-  → (last : Machine) × (applied : Bool) × Run first answers (take (length replies) ss) replies applied last × IsCut last statement (behind (take (length replies) ss) answers 0) held' kept')
+      (λ first. DigestsTellAlong first answers ss replies
+      → (last : Machine) × (applied : Bool) × Run first answers (take (length replies) ss) replies applied last × IsCut last statement (behind (take (length replies) ss) answers 0) held' kept')
 
 -- All replies were written, from the machines that are meant those of a run, and the save after it was stopped: nothing of it is
 -- recorded, or all of it. The store and the keeper hold what is left.
