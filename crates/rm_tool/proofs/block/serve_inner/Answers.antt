@@ -38,4 +38,4 @@ returns-in-Plain-clause-quiet g c =
     IfOk-weaker c.step.result _ _
     (λ reply quiet tells.
     let own = subst (λ (y : Inner). only_tells_inner y ≡ true) c.in-Plain.is tells in
-    quiet (quiet-with c.args.settings.now.until c.in-Plain.command c.in_ok-command-in-Plain.command reply c.in_ok-command-in-Plain.ensures own)) c.step.ensures.quiet
+    quiet (quiet-with c.args.settings.now.until c.in-Plain.command _ reply c.in_ok-command-in-Plain.ensures own)) c.step.ensures.quiet
