@@ -29,8 +29,8 @@ of-script P Q left rest before mid held held' kept kept' ss script read cut sile
 }
 
 -- What a session leaves, from the machine on that wakes.
-module _ {clock : Option Answers} {before now : Option (List ℕ)} {held last_held : Option Held} {kept last_kept : Option (List Record)} (v : View) (opens : Opens held kept v) (ss : List (ℕ × List Token)) where
-  closes-from : {later : Option Answers} (refused : Bool) → Closes (FromEach held kept v) clock later before now held kept last_held last_kept refused ss → Closes (FromRest held kept) clock later before now held kept last_held last_kept refused ss
+module _ {clock later : Option Answers} {before now : Option (List ℕ)} {held last_held : Option Held} {kept last_kept : Option (List Record)} (v : View) (opens : Opens held kept v) (ss : List (ℕ × List Token)) where
+  closes-from : (refused : Bool) → Closes (FromEach held kept v) clock later before now held kept last_held last_kept refused ss → Closes (FromRest held kept) clock later before now held kept last_held last_kept refused ss
   closes-from refused s = record {
     answers = s.answers;
     told = s.told;
@@ -43,7 +43,7 @@ module _ {clock : Option Answers} {before now : Option (List ℕ)} {held last_he
     run = from-opening held kept v _ opens s.run;
   }
 
-  replies-from : {later : Option Answers} → EndsInReplies (FromEach held kept v) clock later before now held kept last_held last_kept ss → EndsInReplies (FromRest held kept) clock later before now held kept last_held last_kept ss
+  replies-from : EndsInReplies (FromEach held kept v) clock later before now held kept last_held last_kept ss → EndsInReplies (FromRest held kept) clock later before now held kept last_held last_kept ss
   replies-from s = record {
     answers = s.answers;
     told = s.told;
@@ -58,10 +58,11 @@ module _ {clock : Option Answers} {before now : Option (List ℕ)} {held last_he
     run = from-opening held kept v _ opens s.run;
   }
 
-  midway-from : EndsMidway (FromEach held kept v) clock before now last_held last_kept ss → EndsMidway (FromRest held kept) clock before now last_held last_kept ss
+  midway-from : EndsMidway (FromEach held kept v) clock later before now last_held last_kept ss → EndsMidway (FromRest held kept) clock later before now last_held last_kept ss
   midway-from (at_statement s) = at_statement (record {
     answers = s.answers;
     told = s.told;
+    asked = s.asked;
     replies = s.replies;
     written = s.written;
     statement = s.statement;
@@ -71,6 +72,7 @@ module _ {clock : Option Answers} {before now : Option (List ℕ)} {held last_he
   midway-from (at_saving s) = at_saving (record {
     answers = s.answers;
     told = s.told;
+    asked = s.asked;
     replies = s.replies;
     many = s.many;
     written = s.written;
@@ -78,12 +80,12 @@ module _ {clock : Option Answers} {before now : Option (List ℕ)} {held last_he
   })
 
 -- The same of the script that was read.
-module _ {left rest : Option (List ℕ)} {clock : Option Answers} {before mid now : Option (List ℕ)} {held held' last_held : Option Held} {kept kept' last_kept : Option (List Record)} {ss : List (ℕ × List Token)} {script : List ℕ} (v : View)
+module _ {left rest : Option (List ℕ)} {clock later : Option Answers} {before mid now : Option (List ℕ)} {held held' last_held : Option Held} {kept kept' last_kept : Option (List Record)} {ss : List (ℕ × List Token)} {script : List ℕ} (v : View)
     (read : Script left rest script) (cut : ss ≡ statements script) (silent : mid ≡ before) (held_same : held' ≡ held) (kept_same : kept' ≡ kept) (opens : Opens held kept v) where
   -- the status tells whether a statement was refused
-  pub finishes : {later : Option Answers} (refused : Bool) (status : ℕ) → status ≡ (if refused then 1 else 0) → Closes (FromEach held' kept' v) clock later mid now held' kept' last_held last_kept refused ss
+  pub finishes : (refused : Bool) (status : ℕ) → status ≡ (if refused then 1 else 0) → Closes (FromEach held' kept' v) clock later mid now held' kept' last_held last_kept refused ss
       → Finishes left rest clock later before now held kept last_held last_kept status
-  finishes {later = later} refused status tells s =
+  finishes refused status tells s =
       record {
         refused = refused;
         serves =
@@ -92,13 +94,13 @@ module _ {left rest : Option (List ℕ)} {clock : Option Answers} {before mid no
         tells = tells;
       }
 
-  pub ends-midway : EndsMidway (FromEach held' kept' v) clock mid now last_held last_kept ss → OfScript left rest (EndsMidway (FromRest held kept) clock before now last_held last_kept)
+  pub ends-midway : EndsMidway (FromEach held' kept' v) clock later mid now last_held last_kept ss → OfScript left rest (EndsMidway (FromRest held kept) clock later before now last_held last_kept)
   ends-midway =
-      of-script (λ h k b ts. EndsMidway (FromEach h k v) clock b now last_held last_kept ts) (EndsMidway (FromRest held kept) clock before now last_held last_kept)
+      of-script (λ h k b ts. EndsMidway (FromEach h k v) clock later b now last_held last_kept ts) (EndsMidway (FromRest held kept) clock later before now last_held last_kept)
       left rest before mid held held' kept kept' ss script read cut silent held_same kept_same (λ ts. midway-from v opens ts)
 
-  pub ends-in-replies : {later : Option Answers} → EndsInReplies (FromEach held' kept' v) clock later mid now held' kept' last_held last_kept ss → OfScript left rest (EndsInReplies (FromRest held kept) clock later before now held kept last_held last_kept)
-  ends-in-replies {later = later} =
+  pub ends-in-replies : EndsInReplies (FromEach held' kept' v) clock later mid now held' kept' last_held last_kept ss → OfScript left rest (EndsInReplies (FromRest held kept) clock later before now held kept last_held last_kept)
+  ends-in-replies =
       of-script (λ h k b ts. EndsInReplies (FromEach h k v) clock later b now h k last_held last_kept ts) (EndsInReplies (FromRest held kept) clock later before now held kept last_held last_kept)
       left rest before mid held held' kept kept' ss script read cut silent held_same kept_same (λ ts. replies-from v opens ts)
 

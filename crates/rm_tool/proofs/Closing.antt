@@ -31,12 +31,13 @@ module _ {clock later : Option Answers} {before now : Option (List ℕ)} {held :
       }
 
   -- it was stopped
-  pub ends-at-saving : StopsSaving mid mid_kept v' last last_kept → EndsMidway (FromEach held kept v) clock before now last last_kept ss
+  pub ends-at-saving : StopsSaving mid mid_kept v' last last_kept → EndsMidway (FromEach held kept v) clock later before now last last_kept ss
   ends-at-saving stops =
       at_saving
       (record {
         answers = s.answers;
         told = s.told;
+        asked = s.asked;
         replies = s.replies;
         many = s.many;
         written = s.written;

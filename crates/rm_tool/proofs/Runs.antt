@@ -1,5 +1,5 @@
 -- A run goes on by one statement.
-use Rattle.std.proofs.Common.{◌≡◌, ◌+◌, ◌≤◌, ◌∙◌, ◌++◌, ◌||◌, ◌&&◌, ℕ, zero, suc, List, [], ◌∷◌, Option, Some, None, IfSome, Bool, true, false, refl, ap, sym, subst, arith, append-nil, slice_get, take, drop, length}
+use Rattle.std.proofs.Common.{◌≡◌, ◌+◌, ◌≤◌, ◌∙◌, ◌++◌, ◌||◌, ◌&&◌, ◌⊎◌, inl, inr, ℕ, zero, suc, List, [], ◌∷◌, Option, Some, None, IfSome, Bool, true, false, refl, ap, sym, subst, arith, append-nil, slice_get, take, drop, length}
 use Rattle.std.specs.List.{list_any}
 use Rattle.std.proofs.lemmas.Bool.{and_parts}
 use Rattle.std.proofs.lemmas.Grind.{flat_map-append}
@@ -183,6 +183,21 @@ answers-with : (now : Option Answers) (a : ℕ) → IfSome now (λ coming. a ≡
 answers-with None a next = ((λ i. a), tt, refl)
 answers-with (Some coming) a next = (coming, (λ i. refl), sym next)
 
+told-past : (o : Option Statement) (f : Answers) (now later : Option Answers) → Both (IsPast o) now later → AreToCome now f → AreToCome later (past o f)
+told-past o f None None passed told = tt
+told-past o f None (Some l) passed told = absurd (cc)
+told-past o f (Some b) None passed told = absurd passed
+told-past None f (Some b) (Some l) passed told = λ i. told i ∙ sym (passed i)
+told-past (Some s) f (Some b) (Some l) passed told = λ i. told (suc i) ∙ sym (passed i)
+
+-- the answers to come are those behind the statements before one, or behind it
+asked-so : (now later : Option Answers) (ss ts : List (ℕ × List Token)) (s : ℕ × List Token) (f all : Answers) → ts ≡ ss ++ s ∷ [] → behind ss all ≡ f → AreToCome now f
+    → (later ≡ now) ⊎ Both (IsPast (statement_built_at s.1)) now later → AreToCome later (behind ss all) ⊎ AreToCome later (behind ts all)
+asked-so now later ss ts s f all more is told (inl same) = inl (subst (λ (o : Option Answers). AreToCome o (behind ss all)) (sym same) (subst (AreToCome now) (sym is) told))
+asked-so now later ss ts s f all more is told (inr passed) =
+    let behind-it : behind ts all ≡ past (statement_built_at s.1) f = ap (λ (us : List (ℕ × List Token)). behind us all) more ∙ behind-both ss (s ∷ []) all ∙ ap (past (statement_built_at s.1)) is in
+    inr (subst (AreToCome later) (sym behind-it) (told-past (statement_built_at s.1) f now later passed told))
+
 -- the statements before one, it, and those behind it
 in-two : (ss : List (ℕ × List Token)) (i : ℕ) (s : ℕ × List Token) → slice_get ss i ≡ Some s → ss ≡ take i ss ++ s ∷ drop (i + 1) ss
 in-two ss i s there =
@@ -229,10 +244,10 @@ module _ {told now : Option Answers} {before written : Option (List ℕ)} {first
       })
 
   -- the statement i was cut short
-  pub progress-cut : {held' : Option Held} {kept' : Option (List Record)} {s : ℕ × List Token} (i : ℕ) → slice_get ss i ≡ Some s
-      → Progress (take i ss) told now before written first_held first_kept origin held kept site refused → IsCutShort held kept site now s held' kept'
-      → EndsAtStatement (FromEach first_held first_kept origin) told before written held' kept' ss
-  progress-cut {held' = held'} {kept' = kept'} {s = s} i there p short =
+  pub progress-cut : {held' : Option Held} {kept' : Option (List Record)} {later : Option Answers} {s : ℕ × List Token} (i : ℕ) → slice_get ss i ≡ Some s
+      → Progress (take i ss) told now before written first_held first_kept origin held kept site refused → IsCutShort held kept site now s held' kept' later
+      → EndsAtStatement (FromEach first_held first_kept origin) told later before written held' kept' ss
+  progress-cut {held' = held'} {kept' = kept'} {later = later} {s = s} i there p short =
       let f = answers-with now short.answer short.next in
       let all = p.extends f.0 f.1 in
       let count : length p.replies ≡ i = p.many ∙ length-take-le i ss (omega (arith, slice_get_within ss i s there)) in
@@ -250,9 +265,13 @@ module _ {told now : Option Answers} {before written : Option (List ℕ)} {first
         last.2,
         subst (λ (a : ℕ). IsCut last.0 s a held' kept') (sym same) (short.cut last.0 last.3.0 last.3.1 (subst (λ (a : ℕ). TellWithin (statement_built_at s.1) last.0 a) same here)),
       ) in
+      let more : take (i + 1) ss ≡ take i ss ++ s ∷ [] = take_more ss i s (slice_get_within ss i s there) (sym (get_or_from_slice_get ss i s s there)) in
+      let asked : AreToCome later (behind (take i ss) all.0) ⊎ AreToCome later (behind (take (i + 1) ss) all.0) =
+      asked-so now later (take i ss) (take (i + 1) ss) s f.0 all.0 more all.2 f.1 short.asked in
       record {
         answers = all.0;
         told = all.1;
+        asked = subst (λ (n : ℕ). AreToCome later (behind (take n ss) all.0) ⊎ AreToCome later (behind (take (n + 1) ss) all.0)) (sym count) asked;
         replies = p.replies;
         written = p.appends;
         statement = s;

@@ -1,5 +1,5 @@
 -- One statement is served.
-use Rattle.std.proofs.Common.{◌≡◌, ◌+◌, ◌∙◌, ◌||◌, ℕ, suc, List, Option, Some, None, Result, Ok, Err, IfOk, OnErr, IfSome, Bool, true, false, inr, refl, ap, sym, subst, arith}
+use Rattle.std.proofs.Common.{◌≡◌, ◌+◌, ◌∙◌, ◌||◌, inl, ℕ, suc, List, Option, Some, None, Result, Ok, Err, IfOk, OnErr, IfSome, Bool, true, false, inr, refl, ap, sym, subst, arith}
 use Rattle.std.specs.List.{list_all}
 use Rattle.std.proofs.Math.Bool.{or-false}
 use Rattle.rm_base.specs.Store.{Held, Answers, Both, IsLater}
@@ -74,18 +74,22 @@ module _ {held : Option Held} {kept : Option (List Record)} {v : View} {clock : 
       }
 
   -- nothing was done
-  pub cut-before : IsCutShort held kept v clock s held kept
-  cut-before = record { answer = answers_from clock 0; next = next-from clock; cut = λ m stands holds tell. untouched (rests held kept m holds) }
+  pub cut-before : IsCutShort held kept v clock s held kept clock
+  cut-before = record { answer = answers_from clock 0; next = next-from clock; asked = inl refl; cut = λ m stands holds tell. untouched (rests held kept m holds) }
 
   -- One that is asked of the clock is a step or more of the site, or the site stopped it.
   module _ {held' : Option Held} {kept' : Option (List Record)} (answer : ℕ) (next : IfSome clock (λ coming. answer ≡ coming 0)) where
+    -- the clock was asked once
+    asked-once : {x : Statement} {clock' : Option Answers} → statement_built_at s.1 ≡ Some x → Both IsLater clock clock' → Both (IsPast (statement_built_at s.1)) clock clock'
+    asked-once {x = x} {clock' = clock'} some later = subst (λ (o : Option Statement). Both (IsPast o) clock clock') (sym some) (passes x clock clock' later)
+
     served-so : {x : Statement} → statement_built_at s.1 ≡ Some x → {v' : View} {clock' : Option Answers} (reply : Reply) → Both IsLater clock clock' → (is_quiet_statement (Some x) reply ≡ true → IsUntouched held kept v held' kept' v')
         → StatementSteps held kept v s answer reply held' kept' v' → IsServed held kept v clock s reply held' kept' v' clock'
     served-so {x = x} some {clock' = clock'} reply later quiet steps =
         record {
           answer = answer;
           next = next;
-          past = subst (λ (o : Option Statement). Both (IsPast o) clock clock') (sym some) (passes x clock clock' later);
+          past = asked-once some later;
           quiet = λ is. quiet (subst (λ (o : Option Statement). is_quiet_statement o reply ≡ true) some is);
           steps = steps;
         }
@@ -100,11 +104,12 @@ module _ {held : Option Held} {kept : Option (List Record)} {v : View} {clock : 
           let n = steps m stands holds (subst (λ (o : Option Statement). TellWithin o m answer) some tell) in
           (n.0, applies c reply, subst (λ (o : Option Statement). StepOf o m s.0 answer reply (applies c reply) n.0) (sym some) (n.1, refl), n.2, n.3, applied))
 
-      pub cut-step : Stops held kept v c answer held' kept' → IsCutShort held kept v clock s held' kept'
-      cut-step stops =
+      pub cut-step : {clock' : Option Answers} → Both IsLater clock clock' → Stops held kept v c answer held' kept' → IsCutShort held kept v clock s held' kept' clock'
+      cut-step {clock' = clock'} later stops =
           record {
             answer = answer;
             next = next;
+            asked = inr (asked-once some later);
             cut = λ m stands holds tell. let left = stops m stands holds (subst (λ (o : Option Statement). TellWithin o m answer) some tell) in stopped c left.0 some left.1 left.2;
           }
 
@@ -118,11 +123,12 @@ module _ {held : Option Held} {kept : Option (List Record)} {v : View} {clock : 
           let n = steps m stands holds (subst (λ (o : Option Statement). TellWithin o m answer) some tell) in
           (n.0, n.1, subst (λ (o : Option Statement). StepOf o m s.0 answer reply n.1 n.0) (sym some) n.2, n.3, n.4, n.5))
 
-      pub cut-run : RunStops held kept v block answer held' kept' → IsCutShort held kept v clock s held' kept'
-      cut-run stops =
+      pub cut-run : {clock' : Option Answers} → Both IsLater clock clock' → RunStops held kept v block answer held' kept' → IsCutShort held kept v clock s held' kept' clock'
+      cut-run {clock' = clock'} later stops =
           record {
             answer = answer;
             next = next;
+            asked = inr (asked-once some later);
             cut = λ m stands holds tell. let left = stops m stands holds (subst (λ (o : Option Statement). TellWithin o m answer) some tell) in inside block left.0 some left.1 left.2;
           }
 
@@ -136,10 +142,11 @@ cut-by (Some (Block block)) m n s answer reply applied held kept some steps hold
 
 -- the statement was served, and no word of its reply was written
 pub cut-served : {held held' : Option Held} {kept kept' : Option (List Record)} {v v' : View} {clock clock' : Option Answers} {s : ℕ × List Token} {reply : Reply}
-    → IsServed held kept v clock s reply held' kept' v' clock' → IsCutShort held kept v clock s held' kept'
+    → IsServed held kept v clock s reply held' kept' v' clock' → IsCutShort held kept v clock s held' kept' clock'
 cut-served {held' = held'} {kept' = kept'} {s = s} {reply = reply} served =
     record {
       answer = served.answer;
       next = served.next;
+      asked = inr served.past;
       cut = λ m stands holds tell. let n = served.steps m stands holds tell in cut-by (statement_built_at s.1) m n.0 s served.answer reply n.1 held' kept' refl n.2 n.4;
     }

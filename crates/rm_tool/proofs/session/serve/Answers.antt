@@ -30,10 +30,10 @@ pub returns-in-Plain-clause-cut : goal.returns-in-Plain-clause-cut
 returns-in-Plain-clause-cut g c =
     let s : ℕ × List Token = (c.args.line, c.args.tokens.now) in
     let some = sym c.in_ok-statement.ensures.value ∙ c.in-Some.is ∙ ap Some c.in-Plain.is in
-    err-map _ _ (cut-step {s = s} c.now-answer.result c.now-answer.ensures.next some) c.step.result c.step.ensures.stopped
+    err-map _ _ (cut-step {s = s} c.now-answer.result c.now-answer.ensures.next some c.now-answer.ensures.later) c.step.result c.step.ensures.stopped
 
 pub returns-in-Run-clause-cut : goal.returns-in-Run-clause-cut
 returns-in-Run-clause-cut g c =
     let s : ℕ × List Token = (c.args.line, c.args.tokens.now) in
     let some = sym c.in_ok-statement.ensures.value ∙ c.in-Some.is ∙ ap Some c.in-Run.is in
-    err-map _ _ (cut-run {s = s} c.now-answer.result c.now-answer.ensures.next some) c.serve_block.result c.serve_block.ensures.stopped
+    err-map _ _ (cut-run {s = s} c.now-answer.result c.now-answer.ensures.next some c.now-answer.ensures.later) c.serve_block.result c.serve_block.ensures.stopped
