@@ -1,12 +1,13 @@
 -- What a statement comes to that the state does not refuse.
-use Rattle.std.proofs.Common.{◌≡◌, Option, Some, None, refl, sym, subst}
+use Rattle.std.proofs.Common.{◌≡◌, false, Option, Some, None, refl, ap, sym, subst}
 use Rattle.rm_base.specs.Store.{Held}
 use Rattle.rm_lang_statement.specs.declared.command.Command.{Command}
 use Rattle.rm_machine.specs.Hands.{Hands}
+use Rattle.rm_machine.specs.Laws.{only_tells}
 use Rattle.rm_machine.specs.declared.handed.Handed.{Handed}
 use Rattle.rm_machine.specs.declared.state.State.{State}
-use Rattle.rm_machine.specs.Nature.{nature_of}
-use Rattle.rm_machine.specs.declared.nature.Nature.TheVariants.{Changes}
+use Rattle.rm_machine.specs.Nature.{nature_of, tells}
+use Rattle.rm_machine.specs.declared.nature.Nature.TheVariants.{Changes, Mishap}
 use Rattle.rm_machine.specs.Sound.{IsSound}
 use Rattle.rm_machine.specs.Step.{IsStatement, refusal_of}
 use Rattle.rm_machine_laws.proofs.Every.{every-stays}
@@ -17,6 +18,13 @@ use Rattle.rm_site.proofs.DatedLines.{change-dated}
 -- a store that holds nothing: what is so of every store is so of it
 pub nothing : Held
 nothing name = None
+
+-- a change does more than tell, and so does a mishap
+change-does : (c : Command) → nature_of c ≡ Changes → only_tells c ≡ false
+change-does c change = ap tells change
+
+pub mishap_does : (c : Command) → nature_of c ≡ Mishap → only_tells c ≡ false
+mishap_does c mishap = ap tells mishap
 
 module _ (held : Option Held) (s : State) (c : Command) (accepted : refusal_of s c ≡ None) (sound : IsSound s) where
   -- it is a change, and no store says anything of it
@@ -29,4 +37,5 @@ module _ (held : Option Held) (s : State) (c : Command) (accepted : refusal_of s
         refused = subst (λ o. IsRefusedBy o c (Done x)) (sym accepted) tt;
         sound = (every-stays c s nothing x.lines to.effect t well sound unsaved accepted does).0;
         dates = change-dated c s nothing x.lines to.effect t change does;
+        more = change-does c change;
       }

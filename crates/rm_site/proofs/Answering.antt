@@ -119,7 +119,7 @@ module _ {s : State} {moment : ℕ} {r : TypedCatalog} {earlier : ℕ} {saved : 
   pub valid-again : (t : State) → t ≡ b → IsSound s → IsTypedCatalog (with_earlier t.catalog earlier saved)
   valid-again t same is = subst IsTypedCatalog (sym (again t same)) is.catalog
 
-  back-again : (t : State) (u : TypedCatalog) → t ≡ b → u ≡ with_earlier t.catalog earlier saved → record t { catalog = u } ≡ s
+  pub back-again : (t : State) (u : TypedCatalog) → t ≡ b → u ≡ with_earlier t.catalog earlier saved → record t { catalog = u } ≡ s
   back-again t u same is = ap (λ (x : TypedCatalog). record t { catalog = x }) (is ∙ again t same) ∙ ap (λ (y : State). record y { catalog = s.catalog }) same
 
   pub sound-again : (t : State) (u : TypedCatalog) → t ≡ b → u ≡ with_earlier t.catalog earlier saved → IsSound s → IsSound (record t { catalog = u })

@@ -6,6 +6,7 @@ use Rattle.rm_lang_statement.specs.declared.command.Command.{Command}
 use Rattle.rm_report.specs.Reply.{LineHasDate, HasDate}
 use Rattle.rm_machine.specs.Effect.{refused, told}
 use Rattle.rm_machine.specs.Hands.{Hands}
+use Rattle.rm_machine.specs.Laws.{only_tells}
 use Rattle.rm_machine.specs.Sound.{IsSound}
 use Rattle.rm_machine.specs.declared.state.State.{State}
 use Rattle.rm_machine.specs.Step.{IsOutcome, refusal_of}
@@ -27,6 +28,12 @@ IsRefusedBy None c (Refused r) = looks_at_objects c ≡ true
 IsRefusedBy None c (Told lines) = Unit {0}
 IsRefusedBy None c (Done x) = Unit {0}
 
+-- what is done does more than tell
+abbrev pub DoesMore : Command → Answer → Type 0
+DoesMore c (Refused r) = Unit {0}
+DoesMore c (Told lines) = Unit {0}
+DoesMore c (Done x) = only_tells c ≡ false
+
 -- the moment of each RM-14 is at most the last
 abbrev pub AnswerHasDates : Answer → Type 0
 AnswerHasDates (Refused r) = HasDate r
@@ -39,3 +46,4 @@ pub record IsAnswer (held : Option Held) (s : State) (c : Command) (a : Answer) 
   pub refused : IsRefusedBy (refusal_of s c) c a
   pub sound : IsSound t
   pub dates : AnswerHasDates a
+  pub more : DoesMore c a

@@ -2,3 +2,4 @@ pub mod Comes
 pub mod Faults
 pub mod Opens
 pub mod Saved
+pub mod Untouched

@@ -6,6 +6,7 @@ ghost use Rattle.rm_machine_laws.specs.Saves.{Saves, StopsSaving};
 ghost use Rattle.rm_machine.specs.Marks.{lacks_ids};
 ghost use Rattle.rm_machine.specs.Sound.{IsSound};
 ghost use Rattle.rm_site.specs.Saved.{SavesAt, StopsSavingAt};
+ghost use Rattle.rm_site.specs.Untouched.{AreSame};
 
 use crate::site::Site;
 use rm_base::{Seq, Store};
@@ -66,6 +67,7 @@ impl Site {
         ensures saved { OnOk result (Saves (D.held store.old) (C.kept keeper.old) self.old (D.held store.new) (C.kept keeper.new)) }
         ensures stopped { OnErr result (StopsSaving (D.held store.old) (C.kept keeper.old) self.old (D.held store.new) (C.kept keeper.new)) }
         ensures spent { self.new ≡ record { state = None; live = false; applied = self.old.applied } }
+        ensures unapplied { self.old.applied ≡ false → AreSame (D.held store.old) (C.kept keeper.old) (D.held store.new) (C.kept keeper.new) }
         ensures store { IsErrOf result StoreFault → Rose (D.faults store.old) (D.faults store.new) }
         ensures keeper { IsErrOf result KeeperFault → Rose (C.faults keeper.old) (C.faults keeper.new) }
         ensures store_never_falls { D.faults store.old ≤ D.faults store.new }

@@ -14,6 +14,7 @@ ghost use Rattle.rm_machine_laws.specs.Refused.{AnsweredBy, refusal_in};
 ghost use Rattle.rm_machine_laws.specs.Saves.{applies};
 ghost use Rattle.rm_machine_laws.specs.Steps.{DeletesSafely, IsStepAt, Steps};
 ghost use Rattle.rm_machine_laws.specs.Stopped.{Stops, IsStopAt};
+ghost use Rattle.rm_site.specs.Untouched.{IsUntouched, is_quiet};
 
 use crate::create::{first_records, lines_of, new_database, refusal_without};
 use crate::moment::moment_of;
@@ -88,6 +89,7 @@ fn answer_without<D: Store, C: Keeper>(
     ensures sound { IfOk result (λ x. IfSome x.0 IsSound) }
     ensures step { IfOk result (λ x. IsStepAt (D.held store.old) (C.kept keeper.old) None command.now moment x.1 (D.held store.new) (C.kept keeper.new) x.0) }
     ensures answered { IfOk result (λ x. AnsweredBy (refusal_in None command.now moment) command.now x.1 None x.0) }
+    ensures quiet { IfOk result (λ x. is_quiet command.now x.1 ≡ true → IsUntouched (D.held store.old) (C.kept keeper.old) None (D.held store.new) (C.kept keeper.new) x.0) }
     ensures dates { IfOk result (λ x. HasDates x.1) }
     ensures stopped { OnErr result (IsStopAt (D.held store.old) (C.kept keeper.old) None command.now moment (D.held store.new) (C.kept keeper.new)) }
     ensures store { IsErrOf result StoreFault → Rose (D.faults store.old) (D.faults store.new) }
@@ -129,6 +131,7 @@ fn answer_in<R: Threads + Wait + Sync, G: Gate, D: Store, C: Keeper>(
     ensures sound { OnOk result (IsSound state.new) }
     ensures step { IfOk result (λ reply. IsStepAt (D.held store.old) (C.kept keeper.old) (Some state.old) command.now moment reply (D.held store.new) (C.kept keeper.new) (Some state.new)) }
     ensures answered { IfOk result (λ reply. AnsweredBy (refusal_in (Some state.old) command.now moment) command.now reply (Some state.old) (Some state.new)) }
+    ensures quiet { IfOk result (λ reply. is_quiet command.now reply ≡ true → IsUntouched (D.held store.old) (C.kept keeper.old) (Some state.old) (D.held store.new) (C.kept keeper.new) (Some state.new)) }
     ensures dates { IfOk result HasDates }
     ensures stopped { OnErr result (IsStopAt (D.held store.old) (C.kept keeper.old) (Some state.old) command.now moment (D.held store.new) (C.kept keeper.new)) }
     ensures store { IsErrOf result StoreFault → Rose (D.faults store.old) (D.faults store.new) }
@@ -184,6 +187,7 @@ fn answer<R: Threads + Wait + Sync, G: Gate, D: Store, C: Keeper>(
     ensures sound { IfOk result (λ x. IfSome x.0 IsSound) }
     ensures step { IfOk result (λ x. IsStepAt (D.held store.old) (C.kept keeper.old) state command.now moment x.1 (D.held store.new) (C.kept keeper.new) x.0) }
     ensures answered { IfOk result (λ x. AnsweredBy (refusal_in state command.now moment) command.now x.1 state x.0) }
+    ensures quiet { IfOk result (λ x. is_quiet command.now x.1 ≡ true → IsUntouched (D.held store.old) (C.kept keeper.old) state (D.held store.new) (C.kept keeper.new) x.0) }
     ensures dates { IfOk result (λ x. HasDates x.1) }
     ensures stopped { OnErr result (IsStopAt (D.held store.old) (C.kept keeper.old) state command.now moment (D.held store.new) (C.kept keeper.new)) }
     ensures store { IsErrOf result StoreFault → Rose (D.faults store.old) (D.faults store.new) }
@@ -206,7 +210,8 @@ fn answer<R: Threads + Wait + Sync, G: Gate, D: Store, C: Keeper>(
 impl Site {
     /// One step of the machine: the reply to a statement, where the clock answered `clock`. A refusal is a
     /// reply too, and changes nothing. A refusal that the state decides is answered exactly where the state
-    /// decides so, whatever the store and the keeper hold.
+    /// decides so, whatever the store and the keeper hold. Whatever these hold, they and the site stay as they are where the
+    /// statement is refused or only tells.
     ///
     /// BACKUP and RECOVER go by `channels` channels, or by as many as are configured where none are asked for. Those of a BACKUP and
     /// its writers call the gate.
@@ -240,6 +245,7 @@ impl Site {
         ensures step { IfOk result (λ reply. Steps (D.held store.old) (C.kept keeper.old) self.old command.now clock reply (D.held store.new) (C.kept keeper.new) self.new) }
         ensures safe { IfOk result (λ reply. DeletesSafely (D.held store.old) (C.kept keeper.old) self.old command.now clock reply (D.held store.new) self.new) }
         ensures answered { IfOk result (λ reply. AnsweredBy (refusal_in self.old.state command.now (moment_of self.old.state clock)) command.now reply self.old self.new) }
+        ensures quiet { IfOk result (λ reply. is_quiet command.now reply ≡ true → IsUntouched (D.held store.old) (C.kept keeper.old) self.old (D.held store.new) (C.kept keeper.new) self.new) }
         ensures dates { IfOk result HasDates }
         ensures stopped { OnErr result (Stops (D.held store.old) (C.kept keeper.old) self.old command.now clock (D.held store.new) (C.kept keeper.new)) }
         ensures live { OnOk result (self.new.live ≡ true) }

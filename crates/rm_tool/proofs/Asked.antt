@@ -1,9 +1,10 @@
 -- How many channels the words of the program ask for.
-use Rattle.std.proofs.Common.{ℕ, ◌≡◌, ◌≤◌, ◌&&◌, Bool, true, false, List, Option, Some, None, IfSome, if◌then◌else◌, length, nat_le, nat_lt, option_map, option_and_then, rules, ap, refl, subst, []}
+use Rattle.std.proofs.Common.{ℕ, ◌≡◌, ◌∙◌, ◌≤◌, ◌&&◌, Bool, true, false, List, Option, Some, None, IfSome, if◌then◌else◌, length, nat_le, nat_lt, option_map, option_and_then, rules, ap, refl, subst, []}
 use Rattle.std.specs.Str.{all_ascii_digits}
 use Rattle.rm_lang_words.specs.Options.{Given, Text, given_in}
 use Rattle.rm_lang_words.specs.Words.{Said, are_options, number_behind, said, said_by, whole, with_channels, value_of}
 use Rattle.std.specs.Prelude.{codes}
+use Rattle.rm_tool.specs.Words.{SaysChannels}
 use Rattle.rm_tool.specs.declared.words.Look.{Look}
 use Rattle.rm_tool.specs.declared.words.Look.TheVariants.{Accepted, Refused, NoMemory}
 
@@ -52,3 +53,7 @@ channels_of NoMemory = None
 pub accepted-few : (words : List Text) (s : Said) (channels : Option ℕ) → said words ≡ Some s → Accepted s.2 ≡ Accepted channels → IfSome channels (λ n. (1 ≤ n) × (n ≤ 16))
 accepted-few words s channels says is =
     subst AreFew (ap channels_of is) (subst SaysFew says (by-options (given_in words)))
+
+-- and say as many as the look gives
+pub accepted-says : (words : List Text) (s : Said) (channels : Option ℕ) → said words ≡ Some s → Accepted s.2 ≡ Accepted channels → SaysChannels words channels
+accepted-says words s channels says is = ap (option_map (λ (x : Said). x.2)) says ∙ ap (λ (l : Look). Some (channels_of l)) is

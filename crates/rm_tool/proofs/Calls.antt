@@ -5,59 +5,104 @@ use Rattle.rm_catalog.specs.declared.record.Record.{Record}
 use Rattle.rm_lang_token.specs.declared.token.Token.{Token}
 use Rattle.rm_lang_token.specs.Statements.{statements}
 use Rattle.rm_machine.specs.Machine.{Machine}
-use Rattle.rm_machine_laws.specs.Holds.{Holds, View}
+use Rattle.rm_machine_laws.specs.Holds.{View}
 use Rattle.rm_catalog.specs.declared.catalog.CatalogFault.TheVariants.{BadRow}
 use Rattle.rm_catalog.specs.Faults.{IsBadRow}
 use Rattle.rm_catalog.proofs.Unique.{none_valid}
 use Rattle.rm_site.specs.Opens.{AreValid, Opens}
-use Rattle.rm_tool.specs.Serving.{FromEach, Closes, EndsInReplies, EndsMidway}
+use Rattle.rm_tool.specs.Serving.{FromEach, Closes, EndsInReplies, EndsMidway, at_saving, at_statement}
 use Rattle.rm_tool.specs.Session.{Script, Finishes, FromRest, OfScript, TellsValid, WritesBadRecord}
 
 -- what is so of each machine that the opened site stands for is so of the one that wakes
-from-opening : (held held' : Option Held) (kept kept' : Option (List Record)) (v : View) (Is : Machine → Type 0) → held' ≡ held → kept' ≡ kept → Opens held kept v
-    → FromEach held' kept' v Is → FromRest held kept Is
-from-opening held held' kept kept' v Is held_same kept_same opens each r holds tell =
-    let o = opens r holds tell in
-    (o.0, o.1, each o.0 o.2 (subst (λ (h : Option Held). Holds h kept' o.0) (sym held_same) (subst (λ (k : Option (List Record)). Holds held k o.0) (sym kept_same) o.3)))
+from-opening : (held : Option Held) (kept : Option (List Record)) (v : View) (Is : Machine → Type 0) → Opens held kept v → FromEach held kept v Is → FromRest held kept Is
+from-opening held kept v Is opens each r holds tell = let o = opens r holds tell in (o.0, o.1, each o.0 o.2 o.3)
 
--- one after another
-rest-map : (held : Option Held) (kept : Option (List Record)) (Is Becomes : Machine → Type 0) → ((m : Machine) → Is m → Becomes m) → FromRest held kept Is → FromRest held kept Becomes
-rest-map held kept Is Becomes f from r holds tell = let o = from r holds tell in (o.0, o.1, f o.0 o.2)
+-- The site was opened over what there was, without a word to the sink, and the script was cut into statements: P speaks of what the store
+-- and the keeper held, of what the sink held, and of the statements.
+of-script : (P : Option Held → Option (List Record) → Option (List ℕ) → List (ℕ × List Token) → Type 0) (Q : List (ℕ × List Token) → Type 0)
+    → (left rest before mid : Option (List ℕ)) (held held' : Option Held) (kept kept' : Option (List Record)) (ss : List (ℕ × List Token)) (script : List ℕ)
+    → Script left rest script → ss ≡ statements script → mid ≡ before → held' ≡ held → kept' ≡ kept → ((ts : List (ℕ × List Token)) → P held kept before ts → Q ts) → P held' kept' mid ss → OfScript left rest Q
+of-script P Q left rest before mid held held' kept kept' ss script read cut silent held_same kept_same wakes is = record {
+  script = script;
+  read = read;
+  is = wakes (statements script) (coe 0 1 (i. P (held_same i) (kept_same i) (silent i) (cut i)) is);
+}
 
--- What is so of the statements and each machine that the opened site stands for is so of the script, from the machine on that
--- wakes. The script was read and cut into statements, and the site was opened over what there was, without a word to the sink:
--- P speaks of what the sink held.
-of-script : (P : Option (List ℕ) → List (ℕ × List Token) → Machine → Type 0)
-    → (left rest : Option (List ℕ)) (before mid : Option (List ℕ)) (held held' : Option Held) (kept kept' : Option (List Record)) (v : View) (ss : List (ℕ × List Token)) (script : List ℕ)
-    → Script left rest script → ss ≡ statements script → mid ≡ before → held' ≡ held → kept' ≡ kept → Opens held kept v
-    → FromEach held' kept' v (P mid ss) → FromRest held kept (OfScript left rest (P before))
-of-script P left rest before mid held held' kept kept' v ss script read cut silent held_same kept_same opens each =
-    rest-map held kept (P mid ss) (OfScript left rest (P before))
-    (λ m is. record {
-      script = script;
-      read = read;
-      is = subst (λ (b : Option (List ℕ)). P b (statements script) m) silent (subst (λ (ts : List (ℕ × List Token)). P mid ts m) cut is);
-    })
-    (from-opening held held' kept kept' v (P mid ss) held_same kept_same opens each)
+-- What a session leaves, from the machine on that wakes.
+module _ {clock later : Option Answers} {before now : Option (List ℕ)} {held last_held : Option Held} {kept last_kept : Option (List Record)} (v : View) (opens : Opens held kept v) (ss : List (ℕ × List Token)) where
+  closes-from : (refused : Bool) → Closes (FromEach held kept v) clock later before now held kept last_held last_kept refused ss → Closes (FromRest held kept) clock later before now held kept last_held last_kept refused ss
+  closes-from refused s = record {
+    answers = s.answers;
+    told = s.told;
+    asked = s.asked;
+    replies = s.replies;
+    many = s.many;
+    written = s.written;
+    some = s.some;
+    quiet = s.quiet;
+    run = from-opening held kept v _ opens s.run;
+  }
 
--- The same of what a session leaves.
-module _ {left rest : Option (List ℕ)} {clock : Option Answers} {before mid now : Option (List ℕ)} {held held' last_held : Option Held} {kept kept' last_kept : Option (List Record)} {ss : List (ℕ × List Token)} {script : List ℕ} (v : View)
+  replies-from : EndsInReplies (FromEach held kept v) clock later before now held kept last_held last_kept ss → EndsInReplies (FromRest held kept) clock later before now held kept last_held last_kept ss
+  replies-from s = record {
+    answers = s.answers;
+    told = s.told;
+    replies = s.replies;
+    last = s.last;
+    many = s.many;
+    asked = s.asked;
+    part = s.part;
+    within = s.within;
+    written = s.written;
+    quiet = s.quiet;
+    run = from-opening held kept v _ opens s.run;
+  }
+
+  midway-from : EndsMidway (FromEach held kept v) clock later before now last_held last_kept ss → EndsMidway (FromRest held kept) clock later before now last_held last_kept ss
+  midway-from (at_statement s) = at_statement (record {
+    answers = s.answers;
+    told = s.told;
+    asked = s.asked;
+    replies = s.replies;
+    written = s.written;
+    statement = s.statement;
+    next = s.next;
+    run = from-opening held kept v _ opens s.run;
+  })
+  midway-from (at_saving s) = at_saving (record {
+    answers = s.answers;
+    told = s.told;
+    asked = s.asked;
+    replies = s.replies;
+    many = s.many;
+    written = s.written;
+    run = from-opening held kept v _ opens s.run;
+  })
+
+-- The same of the script that was read.
+module _ {left rest : Option (List ℕ)} {clock later : Option Answers} {before mid now : Option (List ℕ)} {held held' last_held : Option Held} {kept kept' last_kept : Option (List Record)} {ss : List (ℕ × List Token)} {script : List ℕ} (v : View)
     (read : Script left rest script) (cut : ss ≡ statements script) (silent : mid ≡ before) (held_same : held' ≡ held) (kept_same : kept' ≡ kept) (opens : Opens held kept v) where
-  closes-script : {refused : Bool} → FromEach held' kept' v (Closes clock mid now last_held last_kept refused ss) → FromRest held kept (OfScript left rest (Closes clock before now last_held last_kept refused))
-  closes-script {refused = refused} = of-script (λ b. Closes clock b now last_held last_kept refused) left rest before mid held held' kept kept' v ss script read cut silent held_same kept_same opens
-
   -- the status tells whether a statement was refused
-  pub finishes : (refused : Bool) (status : ℕ) → status ≡ (if refused then 1 else 0) → FromEach held' kept' v (Closes clock mid now last_held last_kept refused ss)
-      → FromRest held kept (Finishes left rest clock before now last_held last_kept status)
-  finishes refused status tells each =
-      rest-map held kept (OfScript left rest (Closes clock before now last_held last_kept refused)) (Finishes left rest clock before now last_held last_kept status)
-      (λ m is. record { refused = refused; serves = is; tells = tells }) (closes-script each)
+  pub finishes : (refused : Bool) (status : ℕ) → status ≡ (if refused then 1 else 0) → Closes (FromEach held' kept' v) clock later mid now held' kept' last_held last_kept refused ss
+      → Finishes left rest clock later before now held kept last_held last_kept status
+  finishes refused status tells s =
+      record {
+        refused = refused;
+        serves =
+            of-script (λ h k b ts. Closes (FromEach h k v) clock later b now h k last_held last_kept refused ts) (Closes (FromRest held kept) clock later before now held kept last_held last_kept refused)
+            left rest before mid held held' kept kept' ss script read cut silent held_same kept_same (λ ts. closes-from v opens ts refused) s;
+        tells = tells;
+      }
 
-  pub ends-midway : FromEach held' kept' v (EndsMidway clock mid now last_held last_kept ss) → FromRest held kept (OfScript left rest (EndsMidway clock before now last_held last_kept))
-  ends-midway = of-script (λ b. EndsMidway clock b now last_held last_kept) left rest before mid held held' kept kept' v ss script read cut silent held_same kept_same opens
+  pub ends-midway : EndsMidway (FromEach held' kept' v) clock later mid now last_held last_kept ss → OfScript left rest (EndsMidway (FromRest held kept) clock later before now last_held last_kept)
+  ends-midway =
+      of-script (λ h k b ts. EndsMidway (FromEach h k v) clock later b now last_held last_kept ts) (EndsMidway (FromRest held kept) clock later before now last_held last_kept)
+      left rest before mid held held' kept kept' ss script read cut silent held_same kept_same (λ ts. midway-from v opens ts)
 
-  pub ends-in-replies : FromEach held' kept' v (EndsInReplies clock mid now last_held last_kept ss) → FromRest held kept (OfScript left rest (EndsInReplies clock before now last_held last_kept))
-  ends-in-replies = of-script (λ b. EndsInReplies clock b now last_held last_kept) left rest before mid held held' kept kept' v ss script read cut silent held_same kept_same opens
+  pub ends-in-replies : EndsInReplies (FromEach held' kept' v) clock later mid now held' kept' last_held last_kept ss → OfScript left rest (EndsInReplies (FromRest held kept) clock later before now held kept last_held last_kept)
+  ends-in-replies =
+      of-script (λ h k b ts. EndsInReplies (FromEach h k v) clock later b now h k last_held last_kept ts) (EndsInReplies (FromRest held kept) clock later before now held kept last_held last_kept)
+      left rest before mid held held' kept kept' ss script read cut silent held_same kept_same (λ ts. replies-from v opens ts)
 
 -- the records that are told are valid
 pub told-valid : {kept : Option (List Record)} (rs : List Record) → kept ≡ Some rs → TellsValid kept → AreValid rs

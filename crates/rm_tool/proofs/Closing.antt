@@ -6,41 +6,43 @@ use Rattle.rm_lang_token.specs.declared.token.Token.{Token}
 use Rattle.rm_machine_laws.specs.Holds.{View}
 use Rattle.rm_machine_laws.specs.Saves.{IsEnded, Saves, StopsSaving}
 use Rattle.rm_machine_laws.specs.Stopped.{IsLeft}
+use Rattle.rm_site.specs.Untouched.{AreSame}
 use Rattle.rm_tool.specs.Serving.{FromEach, Serves, Closes, EndsMidway, at_saving}
 
-module _ {clock : Option Answers} {before now : Option (List ℕ)} {held mid last : Option Held} {kept mid_kept last_kept : Option (List Record)} {v v' : View} {refused : Bool} {ss : List (ℕ × List Token)} (fresh : v.applied ≡ false)
-    (serves : FromEach held kept v (Serves clock before now mid mid_kept v v' refused ss)) where
+module _ {clock later : Option Answers} {before now : Option (List ℕ)} {held : Option Held} {kept : Option (List Record)} {v : View} {mid last : Option Held} {mid_kept last_kept : Option (List Record)} {v' : View} {refused : Bool} {ss : List (ℕ × List Token)}
+    (fresh : v.applied ≡ false) (s : Serves clock later before now held kept v mid mid_kept v' refused ss) where
   -- the site was saved
-  pub closes : Saves mid mid_kept v' last last_kept → FromEach held kept v (Closes clock before now last last_kept refused ss)
-  closes saves m stands holds =
-      let s = serves m stands holds in
+  pub closes : Saves mid mid_kept v' last last_kept → (v'.applied ≡ false → AreSame mid mid_kept last last_kept) → Closes (FromEach held kept v) clock later before now held kept last last_kept refused ss
+  closes saves same =
       record {
         answers = s.answers;
         told = s.told;
+        asked = s.asked;
         replies = s.replies;
         many = s.many;
         written = s.written;
         some = s.some;
-        run = λ tells.
-            let end = s.run tells in
+        quiet = λ is. let was = s.quiet is in let stays = same (ap (λ (x : View). x.applied) was.1 ∙ fresh) in (stays.0 ∙ was.0.0, stays.1 ∙ was.0.1);
+        run = λ m stands holds tells.
+            let end = s.run m stands holds tells in
             let applied : v'.applied ≡ end.1 = end.3.2 ∙ ap (λ b. b || end.1) fresh in
             let left = saves end.0 end.3.0 end.3.1 in
             (end.0, end.1, end.2, (left.0, subst (λ (b : Bool). IsEnded b end.0 left.0) applied left.1, left.2));
       }
 
   -- it was stopped
-  pub ends-at-saving : StopsSaving mid mid_kept v' last last_kept → FromEach held kept v (EndsMidway clock before now last last_kept ss)
-  ends-at-saving stops m stands holds =
-      let s = serves m stands holds in
+  pub ends-at-saving : StopsSaving mid mid_kept v' last last_kept → EndsMidway (FromEach held kept v) clock later before now last last_kept ss
+  ends-at-saving stops =
       at_saving
       (record {
         answers = s.answers;
         told = s.told;
+        asked = s.asked;
         replies = s.replies;
         many = s.many;
         written = s.written;
-        run = λ tells.
-            let end = s.run tells in
+        run = λ m stands holds tells.
+            let end = s.run m stands holds tells in
             let applied : v'.applied ≡ end.1 = end.3.2 ∙ ap (λ b. b || end.1) fresh in
             let left = stops end.0 end.3.0 end.3.1 in
             (end.0, end.1, end.2, (left.0, subst (λ (b : Bool). IsLeft [] end.0 left.0 ⊎ IsEnded b end.0 left.0) applied left.1, left.2));

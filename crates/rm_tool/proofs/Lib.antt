@@ -2,6 +2,7 @@ pub mod Asked
 pub mod Blocks
 pub mod Calls
 pub mod Closing
+pub mod Quiet
 pub mod Runs
 pub mod Setting
 pub mod Statements

@@ -1,12 +1,12 @@
 -- A run goes on by one statement.
-use Rattle.std.proofs.Common.{◌≡◌, ◌+◌, ◌≤◌, ◌∙◌, ◌++◌, ◌||◌, ℕ, zero, suc, List, [], ◌∷◌, Option, Some, None, IfSome, Bool, false, refl, ap, sym, subst, arith, append-nil, slice_get, take, drop, length}
+use Rattle.std.proofs.Common.{◌≡◌, ◌+◌, ◌≤◌, ◌∙◌, ◌++◌, ◌||◌, ◌&&◌, ◌⊎◌, inl, inr, ℕ, zero, suc, List, [], ◌∷◌, Option, Some, None, IfSome, Bool, true, false, refl, ap, sym, subst, arith, append-nil, slice_get, take, drop, length}
 use Rattle.std.specs.List.{list_any}
+use Rattle.std.proofs.lemmas.Bool.{and_parts}
 use Rattle.std.proofs.lemmas.Grind.{flat_map-append}
-use Rattle.std.proofs.lemmas.List.{drop_more, length-append, length-take-le, length_push, take-append-drop}
+use Rattle.std.proofs.lemmas.List.{drop_more, length-take-le, length_push, take-append-drop}
 use Rattle.std.proofs.lemmas.List.Folds.{list_any-append}
 use Rattle.std.proofs.lemmas.Option.{get_or_from_slice_get, slice_get_within}
 use Rattle.std.proofs.Math.Bool.{or-false, or_assoc}
-use Rattle.std.proofs.Math.Seq.{take-append-add}
 use Rattle.rm_base.specs.Outside.{Appends}
 use Rattle.rm_base.specs.Store.{Held, Answers, Both}
 use Rattle.rm_base.proofs.Lists.{take_more}
@@ -21,34 +21,41 @@ use Rattle.rm_machine.specs.Machine.{Machine}
 use Rattle.rm_machine.specs.Rest.{at_rest}
 use Rattle.rm_machine_laws.specs.Holds.{Holds, HoldsRest, Stands, View}
 use Rattle.rm_machine_laws.proofs.Halting.{rests}
+use Rattle.rm_site.specs.Untouched.{IsUntouched}
 use Rattle.rm_tool.specs.Ends.{WritesFront}
+use Rattle.rm_tool.specs.Quiet.{are_quiet, is_quiet_statement}
 use Rattle.rm_tool.specs.Run.{StepOf, StatementStep, past, behind, Run, DigestsTellAlong, TellWithin, RunsWhereTold, AreToCome, replies_text}
-use Rattle.rm_tool.specs.Serving.{IsPast, IsServed, IsCut, IsCutShort, Serves, EndsAtStatement, EndsInReplies}
+use Rattle.rm_tool.proofs.Quiet.{untouched-then}
+use Rattle.rm_tool.specs.Serving.{FromEach, IsPast, IsServed, IsCut, IsCutShort, Serves, EndsAtStatement, EndsInReplies}
 
 -- The machine's run over these statements, with these replies, as far as it came: each course of the clock from
--- here on is that of a whole one, and where digests tell along the run, this is so of the machine at its end.
-abbrev pub Extends : Machine → Option Answers → List (ℕ × List Token) → List Reply → Option Answers → (Bool → Machine → Type 0) → Type 0
-Extends first told ss rs now Is = (answers : Answers) → AreToCome now answers → (all : Answers) × AreToCome told all × (behind ss all ≡ answers) × RunsWhereTold first all ss rs Is
+-- here on is that of a whole one. Whatever machine the site stood for at the start, where digests tell along the run this is so of the
+-- machine at its end.
+abbrev pub Extends : Option Held → Option (List Record) → View → Option Answers → List (ℕ × List Token) → List Reply → Option Answers → (Bool → Machine → Type 0) → Type 0
+Extends held kept origin told ss rs now Is =
+    (answers : Answers) → AreToCome now answers → (all : Answers) × AreToCome told all × (behind ss all ≡ answers) × FromEach held kept origin (λ first. RunsWhereTold first all ss rs Is)
 
 -- the site stands for the machine, which the store and the keeper hold, and knows whether a list was applied
 abbrev pub IsAt : View → View → Option Held → Option (List Record) → Bool → Machine → Type 0
 IsAt origin site held kept applied m = Stands site m × Holds held kept m × (site.applied ≡ (origin.applied || applied))
 
--- a run over these statements from one machine on to one that the site stands for, whose replies were written
-pub record Progress (ss : List (ℕ × List Token)) (told now : Option Answers) (before written : Option (List ℕ)) (held : Option Held) (kept : Option (List Record)) (origin site : View) (refused : Bool) (first : Machine) : Type 0 where
+-- a run over these statements from where the site was at the start on to where it is, whose replies were written
+pub record Progress (ss : List (ℕ × List Token)) (told now : Option Answers) (before written : Option (List ℕ)) (first_held : Option Held) (first_kept : Option (List Record)) (origin : View) (held : Option Held) (kept : Option (List Record)) (site : View) (refused : Bool) : Type 0 where
   pub replies : List Reply
   pub many : length replies ≡ length ss
   pub appends : Appends before written (replies_text replies)
   pub some : refused ≡ list_any (λ r. r.refused) replies
-  pub extends : Extends first told ss replies now (IsAt origin site held kept)
+  pub quiet : are_quiet ss replies ≡ true → IsUntouched first_held first_kept origin held kept site
+  pub extends : Extends first_held first_kept origin told ss replies now (IsAt origin site held kept)
 
 -- a statement was served, and its reply was not written yet
-pub record Reached (ss : List (ℕ × List Token)) (told now : Option Answers) (before written : Option (List ℕ)) (held : Option Held) (kept : Option (List Record)) (origin site : View) (refused : Bool) (r : Reply) (first : Machine) : Type 0 where
+pub record Reached (ss : List (ℕ × List Token)) (told now : Option Answers) (before written : Option (List ℕ)) (first_held : Option Held) (first_kept : Option (List Record)) (origin : View) (held : Option Held) (kept : Option (List Record)) (site : View) (refused : Bool) (r : Reply) : Type 0 where
   pub replies : List Reply
   pub many : length replies + 1 ≡ length ss
   pub appends : Appends before written (replies_text replies)
   pub some : refused ≡ list_any (λ q. q.refused) replies
-  pub extends : Extends first told ss (replies ++ r ∷ []) now (IsAt origin site held kept)
+  pub quiet : are_quiet ss (replies ++ r ∷ []) ≡ true → IsUntouched first_held first_kept origin held kept site
+  pub extends : Extends first_held first_kept origin told ss (replies ++ r ∷ []) now (IsAt origin site held kept)
 
 -- an answer before others
 abbrev before_all : ℕ → Answers → Answers
@@ -118,20 +125,31 @@ along-next (t ∷ ss) ts s [] qs first last all applied run tells = absurd run
 along-next (t ∷ ss) ts s (r ∷ rs) qs first last all applied run tells = along-next ss ts s rs qs run.0 last (past (statement_built_at t.1) all) run.2 run.4 (tells.1 run.1 run.0 run.3)
 
 -- one statement more
-extends-more : (first : Machine) (told now later : Option Answers) (ss : List (ℕ × List Token)) (rs : List Reply) (s : ℕ × List Token) (r : Reply) (a : ℕ) (Is Becomes : Bool → Machine → Type 0)
+extends-more : (held : Option Held) (kept : Option (List Record)) (origin : View) (told now later : Option Answers) (ss : List (ℕ × List Token)) (rs : List Reply) (s : ℕ × List Token) (r : Reply) (a : ℕ) (Is Becomes : Bool → Machine → Type 0)
     → length rs ≡ length ss → IfSome now (λ coming. a ≡ coming 0) → Both (IsPast (statement_built_at s.1)) now later
     → ((applied : Bool) (m : Machine) → Is applied m → TellWithin (statement_built_at s.1) m a → (n : Machine) × (here : Bool) × StatementStep m s a r here n × Becomes (applied || here) n)
-    → Extends first told ss rs now Is → Extends first told (ss ++ s ∷ []) (rs ++ r ∷ []) later Becomes
-extends-more first told now later ss rs s r a Is Becomes many next passed step extends = λ answers come.
+    → Extends held kept origin told ss rs now Is → Extends held kept origin told (ss ++ s ∷ []) (rs ++ r ∷ []) later Becomes
+extends-more held kept origin told now later ss rs s r a Is Becomes many next passed step extends = λ answers come.
     let o : Option Statement = statement_built_at s.1 in
     let all = extends (from o a answers) (told-from o a answers now later next passed come) in
-    let goes : RunsWhereTold first all.0 (ss ++ s ∷ []) (rs ++ r ∷ []) Becomes = λ tells.
-    let mid = all.3 (along-first ss (s ∷ []) rs (r ∷ []) first all.0 many tells) in
+    let goes : FromEach held kept origin (λ first. RunsWhereTold first all.0 (ss ++ s ∷ []) (rs ++ r ∷ []) Becomes) = λ first stands holds tells.
+    let mid = all.3 first stands holds (along-first ss (s ∷ []) rs (r ∷ []) first all.0 many tells) in
     let here : TellWithin o mid.0 (behind ss all.0 0) = along-next ss [] s rs (r ∷ []) first mid.0 all.0 mid.1 mid.2 tells in
     let n = step mid.1 mid.0 mid.3 (within-from o mid.0 a answers (subst (λ (f : Answers). TellWithin o mid.0 (f 0)) all.2 here)) in
     let at : StatementStep mid.0 s (behind ss all.0 0) r n.1 n.0 = subst (λ (f : Answers). StatementStep mid.0 s (f 0) r n.1 n.0) (sym all.2) (step-from o mid.0 n.0 s.0 a answers r n.1 n.2) in
     (n.0, mid.1 || n.1, run-more ss rs first mid.0 n.0 all.0 s r mid.1 n.1 mid.2 at, n.3) in
     (all.0, all.1, behind-both ss (s ∷ []) all.0 ∙ ap (past o) all.2 ∙ past-from o a answers, goes)
+
+-- where a statement more leaves all quiet, those before it did, and it does
+quiet-push : (ss : List (ℕ × List Token)) (rs : List Reply) (s : ℕ × List Token) (r : Reply) → length rs ≡ length ss → are_quiet (ss ++ s ∷ []) (rs ++ r ∷ []) ≡ true
+    → (are_quiet ss rs ≡ true) × (is_quiet_statement (statement_built_at s.1) r ≡ true)
+quiet-push [] [] s r many is = (refl, (and_parts (is_quiet_statement (statement_built_at s.1) r) true is).0)
+quiet-push [] (q ∷ rs) s r many is = absurd (omega (arith, many))
+quiet-push (t ∷ ss) [] s r many is = absurd (omega (arith, many))
+quiet-push (t ∷ ss) (q ∷ rs) s r many is =
+    let parts = and_parts (is_quiet_statement (statement_built_at t.1) q) (are_quiet (ss ++ s ∷ []) (rs ++ r ∷ [])) is in
+    let behind = quiet-push ss rs s r (omega (arith, many)) parts.1 in
+    (ap (λ b. b && are_quiet ss rs) parts.0 ∙ behind.0, behind.1)
 
 any-push : (rs : List Reply) (r : Reply) → list_any (λ q. q.refused) (rs ++ r ∷ []) ≡ (list_any (λ q. q.refused) rs || r.refused)
 any-push rs r = list_any-append (λ (q : Reply). q.refused) rs (r ∷ []) ∙ ap (λ b. list_any (λ (q : Reply). q.refused) rs || b) (or-false r.refused)
@@ -140,14 +158,15 @@ text-push : (rs : List Reply) (r : Reply) → replies_text (rs ++ r ∷ []) ≡ 
 text-push rs r = flat_map-append reply_text rs (r ∷ []) ∙ ap (λ t. replies_text rs ++ t) (append-nil (reply_text r))
 
 -- before the first statement
-pub progress-none : {told : Option Answers} {o : Option (List ℕ)} {held : Option Held} {kept : Option (List Record)} {site : View} {first : Machine} → Stands site first → Holds held kept first → Progress [] told told o o held kept site site false first
-progress-none {site = site} stands holds =
+pub progress-none : {told : Option Answers} {o : Option (List ℕ)} {held : Option Held} {kept : Option (List Record)} {site : View} → Progress [] told told o o held kept site held kept site false
+progress-none {site = site} =
     record {
       replies = [];
       many = refl;
       appends = appends-nothing _;
       some = refl;
-      extends = λ answers come. (answers, come, refl, λ tells. (_, false, (refl, refl), (stands, holds, sym (or-false site.applied))));
+      quiet = λ is. ((refl, refl), refl);
+      extends = λ answers come. (answers, come, refl, λ first stands holds tells. (first, false, (refl, refl), (stands, holds, sym (or-false site.applied))));
     }
 
 -- answers that a clock may give from here on
@@ -164,48 +183,60 @@ answers-with : (now : Option Answers) (a : ℕ) → IfSome now (λ coming. a ≡
 answers-with None a next = ((λ i. a), tt, refl)
 answers-with (Some coming) a next = (coming, (λ i. refl), sym next)
 
+told-past : (o : Option Statement) (f : Answers) (now later : Option Answers) → Both (IsPast o) now later → AreToCome now f → AreToCome later (past o f)
+told-past o f None None passed told = tt
+told-past o f None (Some l) passed told = absurd (cc)
+told-past o f (Some b) None passed told = absurd passed
+told-past None f (Some b) (Some l) passed told = λ i. told i ∙ sym (passed i)
+told-past (Some s) f (Some b) (Some l) passed told = λ i. told (suc i) ∙ sym (passed i)
+
+-- the answers to come are those behind the statements before one, or behind it
+asked-so : (now later : Option Answers) (ss ts : List (ℕ × List Token)) (s : ℕ × List Token) (f all : Answers) → ts ≡ ss ++ s ∷ [] → behind ss all ≡ f → AreToCome now f
+    → (later ≡ now) ⊎ Both (IsPast (statement_built_at s.1)) now later → AreToCome later (behind ss all) ⊎ AreToCome later (behind ts all)
+asked-so now later ss ts s f all more is told (inl same) = inl (subst (λ (o : Option Answers). AreToCome o (behind ss all)) (sym same) (subst (AreToCome now) (sym is) told))
+asked-so now later ss ts s f all more is told (inr passed) =
+    let behind-it : behind ts all ≡ past (statement_built_at s.1) f = ap (λ (us : List (ℕ × List Token)). behind us all) more ∙ behind-both ss (s ∷ []) all ∙ ap (past (statement_built_at s.1)) is in
+    inr (subst (AreToCome later) (sym behind-it) (told-past (statement_built_at s.1) f now later passed told))
+
 -- the statements before one, it, and those behind it
 in-two : (ss : List (ℕ × List Token)) (i : ℕ) (s : ℕ × List Token) → slice_get ss i ≡ Some s → ss ≡ take i ss ++ s ∷ drop (i + 1) ss
 in-two ss i s there =
     let rest : List (ℕ × List Token) = drop (i + 1) ss in
     sym (take-append-drop i ss) ∙ ap (λ (ts : List (ℕ × List Token)). take i ss ++ ts) (drop_more ss i s (slice_get_within ss i s there) ∙ ap (λ (t : ℕ × List Token). t ∷ rest) (get_or_from_slice_get ss i s s there))
 
-front-behind : (before now after : Option (List ℕ)) (xs ys : List ℕ) → Appends before now xs → WritesFront now after ys → WritesFront before after (xs ++ ys)
-front-behind before now after xs ys h (n, within, k) = (
-  length xs + n,
-  omega (arith, within, length-append xs ys),
-  subst (Appends before after) (sym (take-append-add xs ys n)) (appends-then before now after xs (take n ys) h k),
-)
-
 -- From one point of a session on
-module _ {told now : Option Answers} {before written : Option (List ℕ)} {held : Option Held} {kept : Option (List Record)} {origin site : View} {refused : Bool} {first : Machine} (ss : List (ℕ × List Token)) where
+module _ {told now : Option Answers} {before written : Option (List ℕ)} {first_held : Option Held} {first_kept : Option (List Record)} {origin : View} {held : Option Held} {kept : Option (List Record)} {site : View} {refused : Bool} (ss : List (ℕ × List Token)) where
   -- all statements were served
-  pub progress-serves : Progress ss told now before written held kept origin site refused first → Serves told before written held kept origin site refused ss first
+  pub progress-serves : Progress ss told now before written first_held first_kept origin held kept site refused → Serves told now before written first_held first_kept origin held kept site refused ss
   progress-serves p =
       let all = p.extends (answers_from now) (come-from now) in
       record {
         answers = all.0;
         told = all.1;
+        asked = subst (AreToCome now) (sym all.2) (come-from now);
         replies = p.replies;
         many = p.many;
         written = p.appends;
         some = p.some;
+        quiet = p.quiet;
         run = all.3;
       }
 
   -- the statement i is served
   pub progress-reached : {held' : Option Held} {kept' : Option (List Record)} {site' : View} {later : Option Answers} {s : ℕ × List Token} {r : Reply} (i : ℕ) → slice_get ss i ≡ Some s
-      → Progress (take i ss) told now before written held kept origin site refused first → IsServed held kept site now s r held' kept' site' later → Reached (take (i + 1) ss) told later before written held' kept' origin site' refused r first
+      → Progress (take i ss) told now before written first_held first_kept origin held kept site refused → IsServed held kept site now s r held' kept' site' later
+      → Reached (take (i + 1) ss) told later before written first_held first_kept origin held' kept' site' refused r
   progress-reached {held' = held'} {kept' = kept'} {site' = site'} {later = later} {s = s} {r = r} i there p served =
       let more : take (i + 1) ss ≡ take i ss ++ s ∷ [] = take_more ss i s (slice_get_within ss i s there) (sym (get_or_from_slice_get ss i s s there)) in
-      subst (λ (ts : List (ℕ × List Token)). Reached ts told later before written held' kept' origin site' refused r first) (sym more)
+      subst (λ (ts : List (ℕ × List Token)). Reached ts told later before written first_held first_kept origin held' kept' site' refused r) (sym more)
       (record {
         replies = p.replies;
         many = omega (arith, p.many, length_push (take i ss) s);
         appends = p.appends;
         some = p.some;
+        quiet = λ is. let parts = quiet-push (take i ss) p.replies s r p.many is in untouched-then (p.quiet parts.0) (served.quiet parts.1);
         extends =
-            extends-more first told now later (take i ss) p.replies s r served.answer (IsAt origin site held kept) (IsAt origin site' held' kept') p.many served.next served.past
+            extends-more first_held first_kept origin told now later (take i ss) p.replies s r served.answer (IsAt origin site held kept) (IsAt origin site' held' kept') p.many served.next served.past
             (λ applied m is tell.
             let n = served.steps m is.0 is.1 tell in
             (n.0, n.1, n.2, (n.3, n.4, n.5 ∙ ap (λ b. b || n.1) is.2 ∙ or_assoc origin.applied applied n.1)))
@@ -213,18 +244,20 @@ module _ {told now : Option Answers} {before written : Option (List ℕ)} {held 
       })
 
   -- the statement i was cut short
-  pub progress-cut : {held' : Option Held} {kept' : Option (List Record)} {s : ℕ × List Token} (i : ℕ) → slice_get ss i ≡ Some s
-      → Progress (take i ss) told now before written held kept origin site refused first → IsCutShort held kept site now s held' kept' → EndsAtStatement told before written held' kept' ss first
-  progress-cut {held' = held'} {kept' = kept'} {s = s} i there p short =
+  pub progress-cut : {held' : Option Held} {kept' : Option (List Record)} {later : Option Answers} {s : ℕ × List Token} (i : ℕ) → slice_get ss i ≡ Some s
+      → Progress (take i ss) told now before written first_held first_kept origin held kept site refused → IsCutShort held kept site now s held' kept' later
+      → EndsAtStatement (FromEach first_held first_kept origin) told later before written held' kept' ss
+  progress-cut {held' = held'} {kept' = kept'} {later = later} {s = s} i there p short =
       let f = answers-with now short.answer short.next in
       let all = p.extends f.0 f.1 in
       let count : length p.replies ≡ i = p.many ∙ length-take-le i ss (omega (arith, slice_get_within ss i s there)) in
       let rest : List (ℕ × List Token) = drop (i + 1) ss in
       let parts : ss ≡ take i ss ++ s ∷ rest = in-two ss i s there in
-      let cut : DigestsTellAlong first all.0 ss p.replies → (last : Machine) × (applied : Bool) × Run first all.0 (take i ss) p.replies applied last × IsCut last s (behind (take i ss) all.0 0) held' kept' = λ tells.
+      let cut : FromEach first_held first_kept origin (λ first. DigestsTellAlong first all.0 ss p.replies
+      → (last : Machine) × (applied : Bool) × Run first all.0 (take i ss) p.replies applied last × IsCut last s (behind (take i ss) all.0 0) held' kept') = λ first stands holds tells.
       let along : DigestsTellAlong first all.0 (take i ss ++ s ∷ rest) (p.replies ++ []) =
       subst (λ (ts : List (ℕ × List Token)). DigestsTellAlong first all.0 ts (p.replies ++ [])) parts (subst (λ (qs : List Reply). DigestsTellAlong first all.0 ss qs) (sym (append-nil p.replies)) tells) in
-      let last = all.3 (along-first (take i ss) (s ∷ rest) p.replies [] first all.0 p.many along) in
+      let last = all.3 first stands holds (along-first (take i ss) (s ∷ rest) p.replies [] first all.0 p.many along) in
       let here : TellWithin (statement_built_at s.1) last.0 (behind (take i ss) all.0 0) = along-next (take i ss) rest s p.replies [] first last.0 all.0 last.1 last.2 along in
       let same : behind (take i ss) all.0 0 ≡ short.answer = ap (λ (g : Answers). g 0) all.2 ∙ f.2 in (
         last.0,
@@ -232,43 +265,55 @@ module _ {told now : Option Answers} {before written : Option (List ℕ)} {held 
         last.2,
         subst (λ (a : ℕ). IsCut last.0 s a held' kept') (sym same) (short.cut last.0 last.3.0 last.3.1 (subst (λ (a : ℕ). TellWithin (statement_built_at s.1) last.0 a) same here)),
       ) in
+      let more : take (i + 1) ss ≡ take i ss ++ s ∷ [] = take_more ss i s (slice_get_within ss i s there) (sym (get_or_from_slice_get ss i s s there)) in
+      let asked : AreToCome later (behind (take i ss) all.0) ⊎ AreToCome later (behind (take (i + 1) ss) all.0) =
+      asked-so now later (take i ss) (take (i + 1) ss) s f.0 all.0 more all.2 f.1 short.asked in
       record {
         answers = all.0;
         told = all.1;
+        asked = subst (λ (n : ℕ). AreToCome later (behind (take n ss) all.0) ⊎ AreToCome later (behind (take (n + 1) ss) all.0)) (sym count) asked;
         replies = p.replies;
         written = p.appends;
         statement = s;
         next = subst (λ (n : ℕ). slice_get ss n ≡ Some s) (sym count) there;
         run =
-            subst (λ (n : ℕ). DigestsTellAlong first all.0 ss p.replies → (last : Machine) × (applied : Bool) × Run first all.0 (take n ss) p.replies applied last × IsCut last s (behind (take n ss) all.0 0) held' kept')
+            subst (λ (n : ℕ). FromEach first_held first_kept origin (λ first. DigestsTellAlong first all.0 ss p.replies
+            → (last : Machine) × (applied : Bool) × Run first all.0 (take n ss) p.replies applied last × IsCut last s (behind (take n ss) all.0 0) held' kept'))
             (sym count) cut;
       }
 
   -- the reply to the last statement was written
-  pub reached-more : {after : Option (List ℕ)} {r : Reply} → Reached ss told now before written held kept origin site refused r first → Appends written after (reply_text r)
-      → Progress ss told now before after held kept origin site (refused || r.refused) first
+  pub reached-more : {after : Option (List ℕ)} {r : Reply} → Reached ss told now before written first_held first_kept origin held kept site refused r → Appends written after (reply_text r)
+      → Progress ss told now before after first_held first_kept origin held kept site (refused || r.refused)
   reached-more {after = after} {r = r} p grows =
       record {
         replies = p.replies ++ r ∷ [];
         many = length_push p.replies r ∙ p.many;
         appends = subst (Appends before after) (sym (text-push p.replies r)) (appends-then before written after (replies_text p.replies) (reply_text r) p.appends grows);
         some = ap (λ b. b || r.refused) p.some ∙ sym (any-push p.replies r);
+        quiet = p.quiet;
         extends = p.extends;
       }
 
   -- the sink failed in the reply to the statement before n
-  pub reached-ends : {after : Option (List ℕ)} {r : Reply} (n : ℕ) → n ≤ length ss → Reached (take n ss) told now before written held kept origin site refused r first → WritesFront written after (reply_text r)
-      → EndsInReplies told before after held kept ss first
+  pub reached-ends : {after : Option (List ℕ)} {r : Reply} (n : ℕ) → n ≤ length ss → Reached (take n ss) told now before written first_held first_kept origin held kept site refused r → WritesFront written after (reply_text r)
+      → EndsInReplies (FromEach first_held first_kept origin) told now before after first_held first_kept held kept ss
   reached-ends {after = after} {r = r} n low p front =
       let replies : List Reply = p.replies ++ r ∷ [] in
       let all = p.extends (answers_from now) (come-from now) in
-      let count : length replies ≡ n = length_push p.replies r ∙ p.many ∙ length-take-le n ss low in
-      let run : RunsWhereTold first all.0 (take n ss) replies (λ applied m. HoldsRest held kept (at_rest m)) = λ tells. let last = all.3 tells in (last.0, last.1, last.2, rests held kept last.0 last.3.1) in
+      let count : length p.replies + 1 ≡ n = p.many ∙ length-take-le n ss low in
+      let run : FromEach first_held first_kept origin (λ first. RunsWhereTold first all.0 (take n ss) replies (λ applied m. HoldsRest held kept (at_rest m))) = λ first stands holds tells.
+      let last = all.3 first stands holds tells in (last.0, last.1, last.2, rests held kept last.0 last.3.1) in
       record {
         answers = all.0;
         told = all.1;
-        replies = replies;
+        replies = p.replies;
+        last = r;
         many = omega (arith, count, low);
-        written = subst (WritesFront before after) (sym (text-push p.replies r)) (front-behind before written after (replies_text p.replies) (reply_text r) p.appends front);
-        run = subst (λ (k : ℕ). RunsWhereTold first all.0 (take k ss) replies (λ applied m. HoldsRest held kept (at_rest m))) (sym count) run;
+        asked = subst (λ (k : ℕ). AreToCome now (behind (take k ss) all.0)) (sym count) (subst (AreToCome now) (sym all.2) (come-from now));
+        part = front.0;
+        within = front.1;
+        written = appends-then before written after (replies_text p.replies) (take front.0 (reply_text r)) p.appends front.2;
+        quiet = λ is. (p.quiet (subst (λ (k : ℕ). are_quiet (take k ss) replies ≡ true) count is)).0;
+        run = subst (λ (k : ℕ). FromEach first_held first_kept origin (λ first. RunsWhereTold first all.0 (take k ss) replies (λ applied m. HoldsRest held kept (at_rest m)))) (sym count) run;
       }

@@ -1,5 +1,6 @@
 -- One statement is served.
-use Rattle.std.proofs.Common.{◌≡◌, ◌+◌, ◌∙◌, ◌||◌, ℕ, suc, List, Option, Some, None, Result, Ok, Err, IfOk, OnErr, IfSome, Bool, false, inr, refl, ap, sym, subst, arith}
+use Rattle.std.proofs.Common.{◌≡◌, ◌+◌, ◌∙◌, ◌||◌, inl, ℕ, suc, List, Option, Some, None, Result, Ok, Err, IfOk, OnErr, IfSome, Bool, true, false, inr, refl, ap, sym, subst, arith}
+use Rattle.std.specs.List.{list_all}
 use Rattle.std.proofs.Math.Bool.{or-false}
 use Rattle.rm_base.specs.Store.{Held, Answers, Both, IsLater}
 use Rattle.rm_base.specs.declared.refusal.Refusal.TheVariants.{Rm01}
@@ -20,14 +21,20 @@ use Rattle.rm_machine_laws.specs.Saves.{applies}
 use Rattle.rm_machine_laws.specs.Steps.{Steps}
 use Rattle.rm_machine_laws.specs.Stopped.{Stops}
 use Rattle.rm_machine_laws.proofs.Halting.{ends-here, rests}
+use Rattle.rm_site.specs.Untouched.{IsUntouched, is_quiet}
+use Rattle.rm_tool.specs.Quiet.{is_quiet_statement, only_tells_inner}
 use Rattle.rm_tool.specs.Run.{StepOf, TellWithin}
-use Rattle.rm_tool.specs.Serving.{IsPast, IsServed, IsCut, untouched, stopped, inside, IsCutShort, RunStops, StatementSteps}
+use Rattle.rm_tool.specs.Serving.{IsPast, IsServed, IsCut, untouched, stopped, inside, IsCutShort, RunSteps, RunStops, StatementSteps}
 use Rattle.rm_tool.proofs.Blocks.{block-leaves}
 use Rattle.rm_tool.proofs.Runs.{answers_from}
 
 pub ok-both : {A E : Type 0} (P Q R : A → Type 0) → ((a : A) → P a → Q a → R a) → (r : Result A E) → IfOk r P → IfOk r Q → IfOk r R
 ok-both P Q R f (Ok a) h k = f a h k
 ok-both P Q R f (Err e) h k = tt
+
+pub ok-three : {A E : Type 0} (P Q S R : A → Type 0) → ((a : A) → P a → Q a → S a → R a) → (r : Result A E) → IfOk r P → IfOk r Q → IfOk r S → IfOk r R
+ok-three P Q S R f (Ok a) h k l = f a h k l
+ok-three P Q S R f (Err e) h k l = tt
 
 pub on-err : {A E : Type 0} (P : Type 0) (r : Result A E) → P → OnErr r P
 on-err P (Ok a) p = tt
@@ -61,49 +68,67 @@ module _ {held : Option Held} {kept : Option (List Record)} {v : View} {clock : 
         answer = answers_from clock 0;
         next = next-from clock;
         past = subst (λ (o : Option Statement). Both (IsPast o) clock clock) (sym none) (stays clock);
+        quiet = λ is. ((refl, refl), refl);
         steps = λ m stands holds tell.
             (m, false, subst (λ (o : Option Statement). StepOf o m s.0 (answers_from clock 0) reply false m) (sym none) (is, refl, refl), stands, holds, sym (or-false v.applied));
       }
 
   -- nothing was done
-  pub cut-before : IsCutShort held kept v clock s held kept
-  cut-before = record { answer = answers_from clock 0; next = next-from clock; cut = λ m stands holds tell. untouched (rests held kept m holds) }
+  pub cut-before : IsCutShort held kept v clock s held kept clock
+  cut-before = record { answer = answers_from clock 0; next = next-from clock; asked = inl refl; cut = λ m stands holds tell. untouched (rests held kept m holds) }
 
   -- One that is asked of the clock is a step or more of the site, or the site stopped it.
   module _ {held' : Option Held} {kept' : Option (List Record)} (answer : ℕ) (next : IfSome clock (λ coming. answer ≡ coming 0)) where
-    served-so : {x : Statement} → statement_built_at s.1 ≡ Some x → {v' : View} {clock' : Option Answers} (reply : Reply) → Both IsLater clock clock' → StatementSteps held kept v s answer reply held' kept' v' → IsServed held kept v clock s reply held' kept' v' clock'
-    served-so {x = x} some {clock' = clock'} reply later steps =
+    -- the clock was asked once
+    asked-once : {x : Statement} {clock' : Option Answers} → statement_built_at s.1 ≡ Some x → Both IsLater clock clock' → Both (IsPast (statement_built_at s.1)) clock clock'
+    asked-once {x = x} {clock' = clock'} some later = subst (λ (o : Option Statement). Both (IsPast o) clock clock') (sym some) (passes x clock clock' later)
+
+    served-so : {x : Statement} → statement_built_at s.1 ≡ Some x → {v' : View} {clock' : Option Answers} (reply : Reply) → Both IsLater clock clock' → (is_quiet_statement (Some x) reply ≡ true → IsUntouched held kept v held' kept' v')
+        → StatementSteps held kept v s answer reply held' kept' v' → IsServed held kept v clock s reply held' kept' v' clock'
+    served-so {x = x} some {clock' = clock'} reply later quiet steps =
         record {
           answer = answer;
           next = next;
-          past = subst (λ (o : Option Statement). Both (IsPast o) clock clock') (sym some) (passes x clock clock' later);
+          past = asked-once some later;
+          quiet = λ is. quiet (subst (λ (o : Option Statement). is_quiet_statement o reply ≡ true) some is);
           steps = steps;
         }
 
     -- a command
     module _ {c : Command} (some : statement_built_at s.1 ≡ Some (Plain c)) where
-      pub served-step : {v' : View} {clock' : Option Answers} (reply : Reply) → Both IsLater clock clock' → Steps held kept v c answer reply held' kept' v' → v'.applied ≡ (v.applied || applies c reply) → IsServed held kept v clock s reply held' kept' v' clock'
-      served-step reply later steps applied =
-          served-so some reply later
+      pub served-step : {v' : View} {clock' : Option Answers} (reply : Reply) → Both IsLater clock clock' → Steps held kept v c answer reply held' kept' v' → v'.applied ≡ (v.applied || applies c reply)
+          → (is_quiet c reply ≡ true → IsUntouched held kept v held' kept' v') → IsServed held kept v clock s reply held' kept' v' clock'
+      served-step reply later steps applied quiet =
+          served-so some reply later quiet
           (λ m stands holds tell.
           let n = steps m stands holds (subst (λ (o : Option Statement). TellWithin o m answer) some tell) in
           (n.0, applies c reply, subst (λ (o : Option Statement). StepOf o m s.0 answer reply (applies c reply) n.0) (sym some) (n.1, refl), n.2, n.3, applied))
 
-      pub cut-step : Stops held kept v c answer held' kept' → IsCutShort held kept v clock s held' kept'
-      cut-step stops =
+      pub cut-step : {clock' : Option Answers} → Both IsLater clock clock' → Stops held kept v c answer held' kept' → IsCutShort held kept v clock s held' kept' clock'
+      cut-step {clock' = clock'} later stops =
           record {
             answer = answer;
             next = next;
+            asked = inr (asked-once some later);
             cut = λ m stands holds tell. let left = stops m stands holds (subst (λ (o : Option Statement). TellWithin o m answer) some tell) in stopped c left.0 some left.1 left.2;
           }
 
     -- a RUN
     module _ {block : List Inner} (some : statement_built_at s.1 ≡ Some (Block block)) where
-      pub cut-run : RunStops held kept v block answer held' kept' → IsCutShort held kept v clock s held' kept'
-      cut-run stops =
+      pub served-run : {v' : View} {clock' : Option Answers} (reply : Reply) → Both IsLater clock clock' → RunSteps held kept v block answer reply held' kept' v'
+          → (list_all only_tells_inner block ≡ true → IsUntouched held kept v held' kept' v') → IsServed held kept v clock s reply held' kept' v' clock'
+      served-run reply later steps quiet =
+          served-so some reply later quiet
+          (λ m stands holds tell.
+          let n = steps m stands holds (subst (λ (o : Option Statement). TellWithin o m answer) some tell) in
+          (n.0, n.1, subst (λ (o : Option Statement). StepOf o m s.0 answer reply n.1 n.0) (sym some) n.2, n.3, n.4, n.5))
+
+      pub cut-run : {clock' : Option Answers} → Both IsLater clock clock' → RunStops held kept v block answer held' kept' → IsCutShort held kept v clock s held' kept' clock'
+      cut-run {clock' = clock'} later stops =
           record {
             answer = answer;
             next = next;
+            asked = inr (asked-once some later);
             cut = λ m stands holds tell. let left = stops m stands holds (subst (λ (o : Option Statement). TellWithin o m answer) some tell) in inside block left.0 some left.1 left.2;
           }
 
@@ -117,10 +142,11 @@ cut-by (Some (Block block)) m n s answer reply applied held kept some steps hold
 
 -- the statement was served, and no word of its reply was written
 pub cut-served : {held held' : Option Held} {kept kept' : Option (List Record)} {v v' : View} {clock clock' : Option Answers} {s : ℕ × List Token} {reply : Reply}
-    → IsServed held kept v clock s reply held' kept' v' clock' → IsCutShort held kept v clock s held' kept'
+    → IsServed held kept v clock s reply held' kept' v' clock' → IsCutShort held kept v clock s held' kept' clock'
 cut-served {held' = held'} {kept' = kept'} {s = s} {reply = reply} served =
     record {
       answer = served.answer;
       next = served.next;
+      asked = inr served.past;
       cut = λ m stands holds tell. let n = served.steps m stands holds tell in cut-by (statement_built_at s.1) m n.0 s served.answer reply n.1 held' kept' refl n.2 n.4;
     }

@@ -1,5 +1,5 @@
 -- What serving the statements of a script leaves.
-use Rattle.std.specs.Prelude.{ℕ, ◌≡◌, ◌≤◌, ◌⊎◌, ◌||◌, Bool, Option, Some, IfSome, List, [], slice_get, take, length}
+use Rattle.std.specs.Prelude.{ℕ, ◌≡◌, ◌<◌, ◌+◌, ◌++◌, ◌⊎◌, ◌||◌, Bool, true, Option, Some, IfSome, List, [], ◌∷◌, slice_get, take, length}
 use Rattle.std.specs.List.{list_any}
 use Rattle.rm_base.specs.Outside.{Appends}
 use Rattle.rm_base.specs.Store.{Held, Answers, Both}
@@ -15,6 +15,7 @@ use Rattle.rm_tool.specs.Built.{statement_built_at}
 use Rattle.rm_tool.specs.declared.block.Settings.{Settings}
 use Rattle.rm_lang_token.specs.declared.token.Token.{Token}
 use Rattle.rm_report.specs.declared.line.Reply.{Reply}
+use Rattle.rm_report.specs.Text.{reply_text}
 use Rattle.rm_machine.specs.Machine.{Machine, DigestsTell}
 use Rattle.rm_machine.specs.Rest.{Rest, at_rest}
 use Rattle.rm_machine_laws.specs.Holds.{Holds, HoldsRest, Stands, View}
@@ -23,7 +24,8 @@ use Rattle.rm_machine_laws.specs.Saves.{IsEnded}
 use Rattle.rm_machine_laws.specs.Stopped.{IsLeft, Stopped}
 use Rattle.rm_tool.specs.declared.session.Halt.{Halt}
 use Rattle.rm_tool.specs.declared.session.Halt.TheVariants as halt
-use Rattle.rm_tool.specs.Ends.{WritesFront}
+use Rattle.rm_site.specs.Untouched.{AreSame, IsUntouched}
+use Rattle.rm_tool.specs.Quiet.{are_quiet, is_quiet_statement}
 use Rattle.rm_tool.specs.Run.{StatementStep, Run, RunsWhereTold, DigestsTellAlong, TellWithin, past, behind, AreToCome, replies_text}
 
 -- what ends a session where the site was stopped
@@ -65,11 +67,12 @@ StatementSteps held kept v s clock reply held' kept' v' =
     (m : Machine) → Stands v m → Holds held kept m → TellWithin (statement_built_at s.1) m clock
     → (n : Machine) × (applied : Bool) × StatementStep m s clock reply applied n × Stands v' n × Holds held' kept' n × (v'.applied ≡ (v.applied || applied))
 
--- a step of the machine at the clock's next answer
+-- A step of the machine at the clock's next answer. Where the statement is quiet all is as it was, whatever the store and the keeper hold.
 pub record IsServed (held : Option Held) (kept : Option (List Record)) (v : View) (clock : Option Answers) (s : ℕ × List Token) (reply : Reply) (held' : Option Held) (kept' : Option (List Record)) (v' : View) (clock' : Option Answers) : Type 0 where
   pub answer : ℕ
   pub next : IfSome clock (λ coming. answer ≡ coming 0)
   pub past : Both (IsPast (statement_built_at s.1)) clock clock'
+  pub quiet : is_quiet_statement (statement_built_at s.1) reply ≡ true → IsUntouched held kept v held' kept' v'
   pub steps : StatementSteps held kept v s answer reply held' kept' v'
 
 -- What is left of the machine where a statement was cut short: it is held at rest as it was, or what a stop of the
@@ -79,71 +82,88 @@ pub data IsCut (m : Machine) (s : ℕ × List Token) (answer : ℕ) (held : Opti
   stopped : (c : Command) (r : Rest) → statement_built_at s.1 ≡ Some (Plain c) → Stopped m c (moment_of m.state answer) r → HoldsRest held kept r → IsCut m s answer held kept
   inside : (inner : List Inner) (r : Rest) → statement_built_at s.1 ≡ Some (Block inner) → BlockLeaves unset m inner answer r → HoldsRest held kept r → IsCut m s answer held kept
 
--- the statement was cut short, whatever machine the site stands for, where digests tell
-pub record IsCutShort (held : Option Held) (kept : Option (List Record)) (v : View) (clock : Option Answers) (s : ℕ × List Token) (held' : Option Held) (kept' : Option (List Record)) : Type 0 where
+-- The statement was cut short, and the clock asked for it, or not yet. Whatever machine the site stands for, where digests tell this is
+-- left of it.
+pub record IsCutShort (held : Option Held) (kept : Option (List Record)) (v : View) (clock : Option Answers) (s : ℕ × List Token) (held' : Option Held) (kept' : Option (List Record)) (clock' : Option Answers) : Type 0 where
   pub answer : ℕ
   pub next : IfSome clock (λ coming. answer ≡ coming 0)
+  pub asked : (clock' ≡ clock) ⊎ Both (IsPast (statement_built_at s.1)) clock clock'
   pub cut : (m : Machine) → Stands v m → Holds held kept m → TellWithin (statement_built_at s.1) m answer → IsCut m s answer held' kept'
 
 -- whatever machine the site stands for, this is so of it
 abbrev pub FromEach : Option Held → Option (List Record) → View → (Machine → Type 0) → Type 0
 FromEach held kept v Is = (m : Machine) → Stands v m → Holds held kept m → Is m
 
--- All replies were written, and `refused` says whether one is a refusal. They are those of a run from the machine
--- `first` on, and the site, the store and the keeper hold what the machine has at its end.
-pub record Serves (clock : Option Answers) (before now : Option (List ℕ)) (held : Option Held) (kept : Option (List Record)) (v v' : View) (refused : Bool) (ss : List (ℕ × List Token)) (first : Machine) : Type 0 where
+-- All replies were written, `refused` says whether one is a refusal, and the clock was asked for each statement that is built. They are
+-- those of a run from whatever machine the site stands for, and the site, the store and the keeper hold what the machine has at its end.
+-- Where all were quiet nothing changed, whatever the store and the keeper hold.
+pub record Serves (clock later : Option Answers) (before now : Option (List ℕ)) (held : Option Held) (kept : Option (List Record)) (v : View) (held' : Option Held) (kept' : Option (List Record)) (v' : View) (refused : Bool) (ss : List (ℕ × List Token)) : Type 0 where
   pub answers : Answers
   pub told : AreToCome clock answers
+  pub asked : AreToCome later (behind ss answers)
   pub replies : List Reply
   pub many : length replies ≡ length ss
   pub written : Appends before now (replies_text replies)
   pub some : refused ≡ list_any (λ r. r.refused) replies
-  pub run : RunsWhereTold first answers ss replies (λ applied m. Stands v' m × Holds held kept m × (v'.applied ≡ (v.applied || applied)))
+  pub quiet : are_quiet ss replies ≡ true → IsUntouched held kept v held' kept' v'
+  pub run : FromEach held kept v (λ first. RunsWhereTold first answers ss replies (λ applied m. Stands v' m × Holds held' kept' m × (v'.applied ≡ (v.applied || applied))))
 
--- The same, and then the session ended: its site was saved, where a list was applied. The store and the keeper hold what is
--- at rest then.
-pub record Closes (clock : Option Answers) (before now : Option (List ℕ)) (held : Option Held) (kept : Option (List Record)) (refused : Bool) (ss : List (ℕ × List Token)) (first : Machine) : Type 0 where
+-- The same, and then the session ended: its site was saved, where a list was applied. From the machines that are meant, the store and
+-- the keeper hold what is at rest then.
+pub record Closes (From : (Machine → Type 0) → Type 0) (clock later : Option Answers) (before now : Option (List ℕ)) (held : Option Held) (kept : Option (List Record)) (held' : Option Held) (kept' : Option (List Record)) (refused : Bool) (ss : List (ℕ × List Token)) : Type 0 where
   pub answers : Answers
   pub told : AreToCome clock answers
+  pub asked : AreToCome later (behind ss answers)
   pub replies : List Reply
   pub many : length replies ≡ length ss
   pub written : Appends before now (replies_text replies)
   pub some : refused ≡ list_any (λ r. r.refused) replies
-  pub run : RunsWhereTold first answers ss replies (λ applied m. (r : Rest) × IsEnded applied m r × HoldsRest held kept r)
+  pub quiet : are_quiet ss replies ≡ true → AreSame held kept held' kept'
+  pub run : From (λ first. RunsWhereTold first answers ss replies (λ applied m. (r : Rest) × IsEnded applied m r × HoldsRest held' kept' r))
 
--- The replies to the first statements were written, and nothing else. They are those of a run from the machine
--- `first` on. The statement after them was cut short, and the store and the keeper hold what is left.
-pub record EndsAtStatement (clock : Option Answers) (before now : Option (List ℕ)) (held : Option Held) (kept : Option (List Record)) (ss : List (ℕ × List Token)) (first : Machine) : Type 0 where
+-- The replies to the first statements were written, and nothing else. The statement after them was cut short: the clock was asked for
+-- those before it, and for none behind it. From the machines that are meant the replies are those of a run, and the store and the keeper
+-- hold what is left.
+pub record EndsAtStatement (From : (Machine → Type 0) → Type 0) (clock later : Option Answers) (before now : Option (List ℕ)) (held' : Option Held) (kept' : Option (List Record)) (ss : List (ℕ × List Token)) : Type 0 where
   pub answers : Answers
   pub told : AreToCome clock answers
   pub replies : List Reply
   pub written : Appends before now (replies_text replies)
   pub statement : ℕ × List Token
   pub next : slice_get ss (length replies) ≡ Some statement
-  pub run : DigestsTellAlong first answers ss replies
-      → (last : Machine) × (applied : Bool) × Run first answers (take (length replies) ss) replies applied last × IsCut last statement (behind (take (length replies) ss) answers 0) held kept
+  pub asked : AreToCome later (behind (take (length replies) ss) answers) ⊎ AreToCome later (behind (take (length replies + 1) ss) answers)
+  pub run : From
+      (λ first. DigestsTellAlong first answers ss replies
+      → (last : Machine) × (applied : Bool) × Run first answers (take (length replies) ss) replies applied last × IsCut last statement (behind (take (length replies) ss) answers 0) held' kept')
 
--- All replies were written, those of a run from the machine `first` on, and the save after it was stopped: nothing of it is
+-- All replies were written, from the machines that are meant those of a run, and the save after it was stopped: nothing of it is
 -- recorded, or all of it. The store and the keeper hold what is left.
-pub record EndsAtSaving (clock : Option Answers) (before now : Option (List ℕ)) (held : Option Held) (kept : Option (List Record)) (ss : List (ℕ × List Token)) (first : Machine) : Type 0 where
+pub record EndsAtSaving (From : (Machine → Type 0) → Type 0) (clock later : Option Answers) (before now : Option (List ℕ)) (held' : Option Held) (kept' : Option (List Record)) (ss : List (ℕ × List Token)) : Type 0 where
   pub answers : Answers
   pub told : AreToCome clock answers
+  pub asked : AreToCome later (behind ss answers)
   pub replies : List Reply
   pub many : length replies ≡ length ss
   pub written : Appends before now (replies_text replies)
-  pub run : RunsWhereTold first answers ss replies (λ applied m. (r : Rest) × (IsLeft [] m r ⊎ IsEnded applied m r) × HoldsRest held kept r)
+  pub run : From (λ first. RunsWhereTold first answers ss replies (λ applied m. (r : Rest) × (IsLeft [] m r ⊎ IsEnded applied m r) × HoldsRest held' kept' r))
 
 -- the session ended at a statement, or at its save
-pub data EndsMidway (clock : Option Answers) (before now : Option (List ℕ)) (held : Option Held) (kept : Option (List Record)) (ss : List (ℕ × List Token)) (first : Machine) : Type 0 where
-  at_statement : EndsAtStatement clock before now held kept ss first → EndsMidway clock before now held kept ss first
-  at_saving : EndsAtSaving clock before now held kept ss first → EndsMidway clock before now held kept ss first
+pub data EndsMidway (From : (Machine → Type 0) → Type 0) (clock later : Option Answers) (before now : Option (List ℕ)) (held' : Option Held) (kept' : Option (List Record)) (ss : List (ℕ × List Token)) : Type 0 where
+  at_statement : EndsAtStatement From clock later before now held' kept' ss → EndsMidway From clock later before now held' kept' ss
+  at_saving : EndsAtSaving From clock later before now held' kept' ss → EndsMidway From clock later before now held' kept' ss
 
--- A front of the replies to the first statements was written. They are those of a run from the machine `first` on,
--- and the store and the keeper hold, at rest, what the machine has after these statements.
-pub record EndsInReplies (clock : Option Answers) (before now : Option (List ℕ)) (held : Option Held) (kept : Option (List Record)) (ss : List (ℕ × List Token)) (first : Machine) : Type 0 where
+-- The sink failed in a reply: those before it were written, and a front of it that is not all of it. The clock was asked for no statement
+-- behind. From the machines that are meant they are the replies of a run, and the store and the keeper hold, at rest, what the machine has
+-- after the statement of the last. Where all were quiet nothing changed.
+pub record EndsInReplies (From : (Machine → Type 0) → Type 0) (clock later : Option Answers) (before now : Option (List ℕ)) (held : Option Held) (kept : Option (List Record)) (held' : Option Held) (kept' : Option (List Record)) (ss : List (ℕ × List Token)) : Type 0 where
   pub answers : Answers
   pub told : AreToCome clock answers
   pub replies : List Reply
-  pub many : length replies ≤ length ss
-  pub written : WritesFront before now (replies_text replies)
-  pub run : RunsWhereTold first answers (take (length replies) ss) replies (λ applied m. HoldsRest held kept (at_rest m))
+  pub last : Reply
+  pub many : length replies < length ss
+  pub asked : AreToCome later (behind (take (length replies + 1) ss) answers)
+  pub part : ℕ
+  pub within : part < length (reply_text last)
+  pub written : Appends before now (replies_text replies ++ take part (reply_text last))
+  pub quiet : are_quiet (take (length replies + 1) ss) (replies ++ last ∷ []) ≡ true → AreSame held kept held' kept'
+  pub run : From (λ first. RunsWhereTold first answers (take (length replies + 1) ss) (replies ++ last ∷ []) (λ applied m. HoldsRest held' kept' (at_rest m)))

@@ -13,6 +13,7 @@ use Rattle.rm_machine.specs.Machine.{Machine}
 use Rattle.rm_machine.specs.Rest.{PartsTell, Rest, Wakes}
 use Rattle.rm_machine_laws.specs.Holds.{HoldsRest}
 use Rattle.rm_site.specs.Opens.{AreValid}
+use Rattle.rm_site.specs.Untouched.{AreSame}
 use Rattle.rm_tool.specs.Ends.{WritesFront}
 use Rattle.rm_tool.specs.Serving.{Closes, EndsInReplies, EndsMidway}
 use Rattle.rm_tool.specs.Words.{accepts}
@@ -37,9 +38,9 @@ IsDone status = (status ≡ 0) ⊎ (status ≡ 1)
 abbrev pub IsEarly : ℕ → Type 0
 IsEarly status = (status ≡ 2) ⊎ (status ≡ 3) ⊎ (status ≡ 8) ⊎ (status ≡ 9)
 
--- the store and the keeper hold what they held
-abbrev pub AreSame : Option Held → Option (List Record) → Option Held → Option (List Record) → Type 0
-AreSame held kept held' kept' = (held' ≡ held) × (kept' ≡ kept)
+-- no statement ran: the clock was not asked, and the store and the keeper hold what they held
+abbrev pub NoneRan : Option Answers → Option Answers → Option Held → Option (List Record) → Option Held → Option (List Record) → Type 0
+NoneRan clock later held kept held' kept' = (later ≡ clock) × AreSame held kept held' kept'
 
 -- Whatever database at rest the store and the keeper hold: where digests tell of its saved site it wakes, and this is so of
 -- the machine.
@@ -51,30 +52,30 @@ pub record Script (left rest : Option (List ℕ)) (script : List ℕ) : Type 0 w
   pub taken : HasTaken left rest script
   pub whole : IfSome left (λ bytes. bytes ≡ script)
 
--- the script was taken, and this is so of its statements, from this machine on
-pub record OfScript (left rest : Option (List ℕ)) (Is : List (ℕ × List Token) → Machine → Type 0) (first : Machine) : Type 0 where
+-- the script was taken, and this is so of its statements
+pub record OfScript (left rest : Option (List ℕ)) (Is : List (ℕ × List Token) → Type 0) : Type 0 where
   pub script : List ℕ
   pub read : Script left rest script
-  pub is : Is (statements script) first
+  pub is : Is (statements script)
 
--- Status 0 and 1: from this machine on it ran over the statements of the script with the clock's answers, and what was
--- written are exactly its replies. The status tells whether one of them is a refusal. Then the session ended, and the store
--- and the keeper hold what is at rest.
-pub record Finishes (left rest : Option (List ℕ)) (clock : Option Answers) (before now : Option (List ℕ)) (held : Option Held) (kept : Option (List Record)) (status : ℕ) (first : Machine) : Type 0 where
+-- Status 0 and 1: each statement of the script has its reply, and exactly these were written. The status tells whether one of them is a
+-- refusal. From whatever database at rest the store and the keeper hold the machine ran over the statements with the clock's answers, and
+-- these are its replies. Then the session ended, and the store and the keeper hold what is at rest.
+pub record Finishes (left rest : Option (List ℕ)) (clock later : Option Answers) (before now : Option (List ℕ)) (held : Option Held) (kept : Option (List Record)) (held' : Option Held) (kept' : Option (List Record)) (status : ℕ) : Type 0 where
   pub refused : Bool
-  pub serves : OfScript left rest (Closes clock before now held kept refused) first
+  pub serves : OfScript left rest (Closes (FromRest held kept) clock later before now held kept held' kept' refused)
   pub tells : status ≡ (if refused then 1 else 0)
 
 -- the keeper's records are valid, where it tells them
 abbrev pub TellsValid : Option (List Record) → Type 0
 TellsValid kept = IfSome kept AreValid
 
--- Status 5, 6 and 7: the call ended before the first statement, with nothing written and nothing done; or at a
+-- Status 5, 6 and 7: the call ended before the first statement, with nothing written and no statement run; or at a
 -- statement, and what was written are exactly the replies to those before it; or at the save, after all replies. The store and
 -- the keeper hold what is left.
-pub data EndsEarly (left rest : Option (List ℕ)) (clock : Option Answers) (before now : Option (List ℕ)) (held : Option Held) (kept : Option (List Record)) (held' : Option Held) (kept' : Option (List Record)) : Type 0 where
-  before_statements : now ≡ before → AreSame held kept held' kept' → EndsEarly left rest clock before now held kept held' kept'
-  midway : TellsValid kept → FromRest held kept (OfScript left rest (EndsMidway clock before now held' kept')) → EndsEarly left rest clock before now held kept held' kept'
+pub data EndsEarly (left rest : Option (List ℕ)) (clock later : Option Answers) (before now : Option (List ℕ)) (held : Option Held) (kept : Option (List Record)) (held' : Option Held) (kept' : Option (List Record)) : Type 0 where
+  before_statements : now ≡ before → NoneRan clock later held kept held' kept' → EndsEarly left rest clock later before now held kept held' kept'
+  midway : TellsValid kept → OfScript left rest (EndsMidway (FromRest held kept) clock later before now held' kept') → EndsEarly left rest clock later before now held kept held' kept'
 
 -- the line of the first of the keeper's records, in order, that breaks a rule, where it tells them
 pub record IsBadRecord (kept : Option (List Record)) (line : List ℕ) : Type 0 where
@@ -88,15 +89,15 @@ pub record WritesBadRecord (kept : Option (List Record)) (before now : Option (L
   pub bad : IsBadRecord kept line
   pub written : Appends before now line
 
--- a front of that line was written
+-- a front of that line was written, not all of it
 pub record BeginsBadRecord (kept : Option (List Record)) (before now : Option (List ℕ)) : Type 0 where
   pub line : List ℕ
   pub bad : IsBadRecord kept line
   pub written : WritesFront before now line
 
--- Status 4: what was written is a front of the line of status 2, 8 or 9, and nothing was done; or of the replies.
-pub data WritesPart (words : List (List ℕ)) (left rest : Option (List ℕ)) (clock : Option Answers) (before now : Option (List ℕ)) (held : Option Held) (kept : Option (List Record)) (held' : Option Held) (kept' : Option (List Record)) : Type 0 where
-  in_bad_words : accepts words ≡ false → AreSame held kept held' kept' → WritesFront before now bad_words → WritesPart words left rest clock before now held kept held' kept'
-  in_over_long : IfSome left (λ bytes. 4194304 < length bytes) → AreSame held kept held' kept' → WritesFront before now over_long → WritesPart words left rest clock before now held kept held' kept'
-  in_bad_record : AreSame held kept held' kept' → BeginsBadRecord kept before now → WritesPart words left rest clock before now held kept held' kept'
-  in_replies : TellsValid kept → FromRest held kept (OfScript left rest (EndsInReplies clock before now held' kept')) → WritesPart words left rest clock before now held kept held' kept'
+-- Status 4: what was written is a front of the line of status 2, 8 or 9, not all of it, and no statement ran; or the sink failed in a reply.
+pub data WritesPart (words : List (List ℕ)) (left rest : Option (List ℕ)) (clock later : Option Answers) (before now : Option (List ℕ)) (held : Option Held) (kept : Option (List Record)) (held' : Option Held) (kept' : Option (List Record)) : Type 0 where
+  in_bad_words : accepts words ≡ false → NoneRan clock later held kept held' kept' → WritesFront before now bad_words → WritesPart words left rest clock later before now held kept held' kept'
+  in_over_long : IfSome left (λ bytes. 4194304 < length bytes) → NoneRan clock later held kept held' kept' → WritesFront before now over_long → WritesPart words left rest clock later before now held kept held' kept'
+  in_bad_record : NoneRan clock later held kept held' kept' → BeginsBadRecord kept before now → WritesPart words left rest clock later before now held kept held' kept'
+  in_replies : TellsValid kept → OfScript left rest (EndsInReplies (FromRest held kept) clock later before now held kept held' kept') → WritesPart words left rest clock later before now held kept held' kept'

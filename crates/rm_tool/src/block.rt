@@ -5,8 +5,10 @@ ghost use Rattle.rm_base.specs.Outside.{Rose};
 ghost use Rattle.rm_commit.specs.declared.commit.Stop.TheVariants.{StoreFault, KeeperFault};
 ghost use Rattle.rm_lang_statement.specs.IsCommand.{is_inner};
 ghost use Rattle.rm_report.specs.Reply.{HasDates, said};
+ghost use Rattle.rm_site.specs.Untouched.{IsUntouched};
 ghost use Rattle.rm_tool.specs.Block.{AreSet, after_inner, channel_reply, channels_of, inner_applies, set_reply};
 ghost use Rattle.rm_tool.specs.Built.{is_built_inner};
+ghost use Rattle.rm_tool.specs.Quiet.{only_tells_inner};
 ghost use Rattle.rm_tool.specs.Serving.{InnerSteps, InnerStops, RunSteps, RunStops};
 
 use crate::untils::with_until;
@@ -113,6 +115,7 @@ fn serve_inner<R: Threads + Wait + Sync, G: Gate, D: Store, C: Keeper>(
     ensures set { OnOk result (AreSet settings.new) }
     ensures steps { IfOk result (λ reply. InnerSteps (D.held store.old) (C.kept keeper.old) site.old settings.old inner clock reply (D.held store.new) (C.kept keeper.new) site.new) }
     ensures applied { IfOk result (λ reply. site.new.applied ≡ (site.old.applied || inner_applies settings.old inner reply)) }
+    ensures quiet { IfOk result (λ _. only_tells_inner inner ≡ true → IsUntouched (D.held store.old) (C.kept keeper.old) site.old (D.held store.new) (C.kept keeper.new) site.new) }
     ensures after { IfOk result (λ reply. reply.refused ≡ false → settings.new ≡ after_inner settings.old inner) }
     ensures stopped { OnErr result (InnerStops (D.held store.old) (C.kept keeper.old) site.old settings.old inner clock (D.held store.new) (C.kept keeper.new)) }
     ensures dates { IfOk result HasDates }
@@ -162,6 +165,7 @@ pub fn serve_block<R: Threads + Wait + Sync, G: Gate, D: Store, C: Keeper>(
     requires built { IsTrue (list_all is_built_inner block) }
     ensures live { OnOk result (site.new.live ≡ true) }
     ensures steps { IfOk result (λ reply. RunSteps (D.held store.old) (C.kept keeper.old) site.old block clock reply (D.held store.new) (C.kept keeper.new) site.new) }
+    ensures quiet { IfOk result (λ _. list_all only_tells_inner block ≡ true → IsUntouched (D.held store.old) (C.kept keeper.old) site.old (D.held store.new) (C.kept keeper.new) site.new) }
     ensures stopped { OnErr result (RunStops (D.held store.old) (C.kept keeper.old) site.old block clock (D.held store.new) (C.kept keeper.new)) }
     ensures dates { IfOk result HasDates }
     ensures store { IsErrOf result StoreFault → Rose (D.faults store.old) (D.faults store.new) }

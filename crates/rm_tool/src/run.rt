@@ -4,7 +4,7 @@ ghost use Rattle.rm_base.specs.Outside.{Appends, Rose};
 ghost use Rattle.rm_catalog.specs.declared.record.Record.{Record};
 ghost use Rattle.rm_site.specs.Opens.{AreValid};
 ghost use Rattle.rm_tool.specs.Ends.{Counted, TakesMany};
-ghost use Rattle.rm_tool.specs.Session.{Script, Finishes, EndsEarly, WritesPart, WritesBadRecord, FromRest, TellsValid, IsDone, IsEarly, AreSame, bad_words, over_long};
+ghost use Rattle.rm_tool.specs.Session.{Script, Finishes, EndsEarly, WritesPart, WritesBadRecord, TellsValid, IsDone, IsEarly, NoneRan, bad_words, over_long};
 ghost use Rattle.rm_tool.specs.Words.{accepts};
 
 use crate::ends::{ReadFault, read_all, write_all};
@@ -44,7 +44,7 @@ pub fn run<R: Threads + Wait + Sync, G: Gate, S: Source, K: Sink, D: Store, C: K
     clock: &mut T,
 ) -> u8
     // 0 and 1: the headline.
-    ensures done { IsDone result → FromRest (D.held store.old) (C.kept keeper.old) (Finishes (S.left source.old) (S.left source.new) (T.answers clock.old) (K.contents sink.old) (K.contents sink.new) (D.held store.new) (C.kept keeper.new) result) }
+    ensures done { IsDone result → Finishes (S.left source.old) (S.left source.new) (T.answers clock.old) (T.answers clock.new) (K.contents sink.old) (K.contents sink.new) (D.held store.old) (C.kept keeper.old) (D.held store.new) (C.kept keeper.new) result }
     ensures ended { IsDone result → S.at_end source.new ≡ true }
     ensures read { IsDone result → (script : List ℕ) × Script (S.left source.old) (S.left source.new) script }
     ensures done_from { IsDone result → TellsValid (C.kept keeper.old) }
@@ -59,16 +59,16 @@ pub fn run<R: Threads + Wait + Sync, G: Gate, S: Source, K: Sink, D: Store, C: K
     ensures source { result ≡ 3 → Rose (S.faults source.old) (S.faults source.new) }
     ensures source_written { result ≡ 3 → K.contents sink.new ≡ K.contents sink.old }
     ensures sink { result ≡ 4 → Rose (K.faults sink.old) (K.faults sink.new) }
-    ensures sink_written { result ≡ 4 → WritesPart words.now (S.left source.old) (S.left source.new) (T.answers clock.old) (K.contents sink.old) (K.contents sink.new) (D.held store.old) (C.kept keeper.old) (D.held store.new) (C.kept keeper.new) }
+    ensures sink_written { result ≡ 4 → WritesPart words.now (S.left source.old) (S.left source.new) (T.answers clock.old) (T.answers clock.new) (K.contents sink.old) (K.contents sink.new) (D.held store.old) (C.kept keeper.old) (D.held store.new) (C.kept keeper.new) }
 
     // 5 and 6: only where the count of that object rose, and what was written and done then.
     ensures store { result ≡ 5 → Rose (D.faults store.old) (D.faults store.new) }
-    ensures store_written { result ≡ 5 → EndsEarly (S.left source.old) (S.left source.new) (T.answers clock.old) (K.contents sink.old) (K.contents sink.new) (D.held store.old) (C.kept keeper.old) (D.held store.new) (C.kept keeper.new) }
+    ensures store_written { result ≡ 5 → EndsEarly (S.left source.old) (S.left source.new) (T.answers clock.old) (T.answers clock.new) (K.contents sink.old) (K.contents sink.new) (D.held store.old) (C.kept keeper.old) (D.held store.new) (C.kept keeper.new) }
     ensures keeper { result ≡ 6 → Rose (C.faults keeper.old) (C.faults keeper.new) }
-    ensures keeper_written { result ≡ 6 → EndsEarly (S.left source.old) (S.left source.new) (T.answers clock.old) (K.contents sink.old) (K.contents sink.new) (D.held store.old) (C.kept keeper.old) (D.held store.new) (C.kept keeper.new) }
+    ensures keeper_written { result ≡ 6 → EndsEarly (S.left source.old) (S.left source.new) (T.answers clock.old) (T.answers clock.new) (K.contents sink.old) (K.contents sink.new) (D.held store.old) (C.kept keeper.old) (D.held store.new) (C.kept keeper.new) }
 
     // 7: what was written and done.
-    ensures memory_written { result ≡ 7 → EndsEarly (S.left source.old) (S.left source.new) (T.answers clock.old) (K.contents sink.old) (K.contents sink.new) (D.held store.old) (C.kept keeper.old) (D.held store.new) (C.kept keeper.new) }
+    ensures memory_written { result ≡ 7 → EndsEarly (S.left source.old) (S.left source.new) (T.answers clock.old) (T.answers clock.new) (K.contents sink.old) (K.contents sink.new) (D.held store.old) (C.kept keeper.old) (D.held store.new) (C.kept keeper.new) }
 
     // 8: exactly where more than the limit was taken, and its line was written.
     ensures long { result ≡ 8 → Counted (S.taken source.old) → TakesMany (S.taken source.old) (S.taken source.new) }
@@ -81,7 +81,7 @@ pub fn run<R: Threads + Wait + Sync, G: Gate, S: Source, K: Sink, D: Store, C: K
     ensures bad_only { (rs : List Record) → accepts words.now ≡ true → Counted (S.taken source.old) → ¬ TakesMany (S.taken source.old) (S.taken source.new) → C.kept keeper.old ≡ Some rs → ¬ AreValid rs → Contains (9 ∷ 4 ∷ 3 ∷ 6 ∷ 7 ∷ []) result }
 
     // At 2, 3, 8 and 9 no statement ran.
-    ensures same { IsEarly result → AreSame (D.held store.old) (C.kept keeper.old) (D.held store.new) (C.kept keeper.new) }
+    ensures same { IsEarly result → NoneRan (T.answers clock.old) (T.answers clock.new) (D.held store.old) (C.kept keeper.old) (D.held store.new) (C.kept keeper.new) }
 
     // There is no other status, and without a cause there is 0, 1 or 7.
     ensures statuses { Contains (0 ∷ 1 ∷ 2 ∷ 3 ∷ 4 ∷ 5 ∷ 6 ∷ 7 ∷ 8 ∷ 9 ∷ []) result }

@@ -82,7 +82,7 @@ fn serve<R: Threads + Wait + Sync, G: Gate, D: Store, C: Keeper, T: Clock>(
     requires live { site.old.live ≡ true }
     ensures live { OnOk result (site.new.live ≡ true) }
     ensures served { IfOk result (λ reply. IsServed (D.held store.old) (C.kept keeper.old) site.old (T.answers clock.old) (line, tokens.now) reply (D.held store.new) (C.kept keeper.new) site.new (T.answers clock.new)) }
-    ensures cut { OnErr result (IsCutShort (D.held store.old) (C.kept keeper.old) site.old (T.answers clock.old) (line, tokens.now) (D.held store.new) (C.kept keeper.new)) }
+    ensures cut { OnErr result (IsCutShort (D.held store.old) (C.kept keeper.old) site.old (T.answers clock.old) (line, tokens.now) (D.held store.new) (C.kept keeper.new) (T.answers clock.new)) }
     ensures dates { IfOk result HasDates }
     ensures store { IsErrOf result StoreFault → Rose (D.faults store.old) (D.faults store.new) }
     ensures keeper { IsErrOf result KeeperFault → Rose (C.faults keeper.old) (C.faults keeper.new) }
@@ -122,13 +122,13 @@ fn serve_all<R: Threads + Wait + Sync, G: Gate, K: Sink, D: Store, C: Keeper, T:
     requires channels { IfSome channels (λ n. (1 ≤ n) × (n ≤ 16)) }
     requires live { site.old.live ≡ true }
     ensures live { OnOk result (site.new.live ≡ true) }
-    ensures ok { IfOk result (λ refused. FromEach (D.held store.old) (C.kept keeper.old) site.old (Serves (T.answers clock.old) (K.contents sink.old) (K.contents sink.new) (D.held store.new) (C.kept keeper.new) site.old site.new refused statements.now)) }
+    ensures ok { IfOk result (λ refused. Serves (T.answers clock.old) (T.answers clock.new) (K.contents sink.old) (K.contents sink.new) (D.held store.old) (C.kept keeper.old) site.old (D.held store.new) (C.kept keeper.new) site.new refused statements.now) }
 
     // What was written where it ended early, and what the store and the keeper hold.
-    ensures sink { IsErrOf result Halt.Sink → FromEach (D.held store.old) (C.kept keeper.old) site.old (EndsInReplies (T.answers clock.old) (K.contents sink.old) (K.contents sink.new) (D.held store.new) (C.kept keeper.new) statements.now) }
-    ensures store { IsErrOf result Halt.Store → FromEach (D.held store.old) (C.kept keeper.old) site.old (EndsAtStatement (T.answers clock.old) (K.contents sink.old) (K.contents sink.new) (D.held store.new) (C.kept keeper.new) statements.now) }
-    ensures keeper { IsErrOf result Halt.Keeper → FromEach (D.held store.old) (C.kept keeper.old) site.old (EndsAtStatement (T.answers clock.old) (K.contents sink.old) (K.contents sink.new) (D.held store.new) (C.kept keeper.new) statements.now) }
-    ensures memory { IsErrOf result Halt.NoMemory → FromEach (D.held store.old) (C.kept keeper.old) site.old (EndsAtStatement (T.answers clock.old) (K.contents sink.old) (K.contents sink.new) (D.held store.new) (C.kept keeper.new) statements.now) }
+    ensures sink { IsErrOf result Halt.Sink → EndsInReplies (FromEach (D.held store.old) (C.kept keeper.old) site.old) (T.answers clock.old) (T.answers clock.new) (K.contents sink.old) (K.contents sink.new) (D.held store.old) (C.kept keeper.old) (D.held store.new) (C.kept keeper.new) statements.now }
+    ensures store { IsErrOf result Halt.Store → EndsAtStatement (FromEach (D.held store.old) (C.kept keeper.old) site.old) (T.answers clock.old) (T.answers clock.new) (K.contents sink.old) (K.contents sink.new) (D.held store.new) (C.kept keeper.new) statements.now }
+    ensures keeper { IsErrOf result Halt.Keeper → EndsAtStatement (FromEach (D.held store.old) (C.kept keeper.old) site.old) (T.answers clock.old) (T.answers clock.new) (K.contents sink.old) (K.contents sink.new) (D.held store.new) (C.kept keeper.new) statements.now }
+    ensures memory { IsErrOf result Halt.NoMemory → EndsAtStatement (FromEach (D.held store.old) (C.kept keeper.old) site.old) (T.answers clock.old) (T.answers clock.new) (K.contents sink.old) (K.contents sink.new) (D.held store.new) (C.kept keeper.new) statements.now }
 
     // Whose count rose.
     ensures sink_failed { IsErrOf result Halt.Sink → Rose (K.faults sink.old) (K.faults sink.new) }
@@ -178,13 +178,13 @@ pub fn serve_session<R: Threads + Wait + Sync, G: Gate, K: Sink, D: Store, C: Ke
     requires channels { IfSome channels (λ n. (1 ≤ n) × (n ≤ 16)) }
     requires live { site.live ≡ true }
     requires fresh { site.applied ≡ false }
-    ensures ok { IfOk result (λ refused. FromEach (D.held store.old) (C.kept keeper.old) site (Closes (T.answers clock.old) (K.contents sink.old) (K.contents sink.new) (D.held store.new) (C.kept keeper.new) refused statements.now)) }
+    ensures ok { IfOk result (λ refused. Closes (FromEach (D.held store.old) (C.kept keeper.old) site) (T.answers clock.old) (T.answers clock.new) (K.contents sink.old) (K.contents sink.new) (D.held store.old) (C.kept keeper.old) (D.held store.new) (C.kept keeper.new) refused statements.now) }
 
     // What was written where it ended early, and what the store and the keeper hold.
-    ensures sink { IsErrOf result Halt.Sink → FromEach (D.held store.old) (C.kept keeper.old) site (EndsInReplies (T.answers clock.old) (K.contents sink.old) (K.contents sink.new) (D.held store.new) (C.kept keeper.new) statements.now) }
-    ensures store { IsErrOf result Halt.Store → FromEach (D.held store.old) (C.kept keeper.old) site (EndsMidway (T.answers clock.old) (K.contents sink.old) (K.contents sink.new) (D.held store.new) (C.kept keeper.new) statements.now) }
-    ensures keeper { IsErrOf result Halt.Keeper → FromEach (D.held store.old) (C.kept keeper.old) site (EndsMidway (T.answers clock.old) (K.contents sink.old) (K.contents sink.new) (D.held store.new) (C.kept keeper.new) statements.now) }
-    ensures memory { IsErrOf result Halt.NoMemory → FromEach (D.held store.old) (C.kept keeper.old) site (EndsMidway (T.answers clock.old) (K.contents sink.old) (K.contents sink.new) (D.held store.new) (C.kept keeper.new) statements.now) }
+    ensures sink { IsErrOf result Halt.Sink → EndsInReplies (FromEach (D.held store.old) (C.kept keeper.old) site) (T.answers clock.old) (T.answers clock.new) (K.contents sink.old) (K.contents sink.new) (D.held store.old) (C.kept keeper.old) (D.held store.new) (C.kept keeper.new) statements.now }
+    ensures store { IsErrOf result Halt.Store → EndsMidway (FromEach (D.held store.old) (C.kept keeper.old) site) (T.answers clock.old) (T.answers clock.new) (K.contents sink.old) (K.contents sink.new) (D.held store.new) (C.kept keeper.new) statements.now }
+    ensures keeper { IsErrOf result Halt.Keeper → EndsMidway (FromEach (D.held store.old) (C.kept keeper.old) site) (T.answers clock.old) (T.answers clock.new) (K.contents sink.old) (K.contents sink.new) (D.held store.new) (C.kept keeper.new) statements.now }
+    ensures memory { IsErrOf result Halt.NoMemory → EndsMidway (FromEach (D.held store.old) (C.kept keeper.old) site) (T.answers clock.old) (T.answers clock.new) (K.contents sink.old) (K.contents sink.new) (D.held store.new) (C.kept keeper.new) statements.now }
 
     // Whose count rose.
     ensures sink_failed { IsErrOf result Halt.Sink → Rose (K.faults sink.old) (K.faults sink.new) }

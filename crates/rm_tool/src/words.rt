@@ -1,6 +1,6 @@
 //! The words of the program.
 ghost use Rattle.std.specs.Prelude.{◌≡◌, ◌≤◌, ℕ, IfSome, Option, true, false};
-ghost use Rattle.rm_tool.specs.Words.{accepts};
+ghost use Rattle.rm_tool.specs.Words.{SaysChannels, accepts};
 ghost use Rattle.rm_tool.specs.declared.words.Look.TheVariants.{Accepted, Refused};
 
 use rm_base::Text;
@@ -19,6 +19,7 @@ pub enum Look {
 /// Looks at the words of the program.
 pub fn look_at(alloc: Global, words: &[Text]) -> Look
     ensures accepted { (channels : Option ℕ) → result ≡ Accepted channels → accepts words.now ≡ true }
+    ensures said { (channels : Option ℕ) → result ≡ Accepted channels → SaysChannels words.now channels }
     ensures channels { (channels : Option ℕ) → result ≡ Accepted channels → IfSome channels (λ n. (1 ≤ n) × (n ≤ 16)) }
     ensures refused { result ≡ Refused → accepts words.now ≡ false }
 {

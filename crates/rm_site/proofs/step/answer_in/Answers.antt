@@ -1,4 +1,6 @@
-use Rattle.rm_site.proofs.Answering.{Begins, answered-in, begins-sound, handed-in, is-carried, is-halted, quiet-refused, quiet-told, refused-in, sound-again, told-in, valid-again}
+use Rattle.std.proofs.Common.{Some, ap, refl}
+use Rattle.rm_site.proofs.Answering.{Begins, answered-in, back-again, begins-sound, handed-in, is-carried, is-halted, quiet-refused, quiet-told, refused-in, sound-again, told-in, valid-again}
+use Rattle.rm_site.proofs.Quiet.{done-not-quiet}
 use Rattle.rm_site.proofs.step.answer_in.Goals as goal
 
 pub come_to-requires-clause-sound : goal.come_to-requires-clause-sound
@@ -66,3 +68,21 @@ returns-in_err-carry_out-in-Done-clause-stopped g c =
     c.in-Done.handed _ _ _ _ _ c.in-Done.is c.new-edits.ensures.items was.edits c.in_ok-refusal.ensures.edits c.from_vec.ensures c.in_ok-and_saved-in-Done.ensures in
     is-halted (g.D.Store.held c.args.store.now) _ c.args.command.now c.args.moment _ _ _ c.in-Done.handed.lines _ c.come_to.new.state _ _
     c.in_ok-refusal.ensures.held c.requires.command c.requires.moment handed c.in_err-carry_out-in-Done.ensures.stopped
+
+pub returns-in_ok-refusal_reply-in-Refused-clause-quiet : goal.returns-in_ok-refusal_reply-in-Refused-clause-quiet
+returns-in_ok-refusal_reply-in-Refused-clause-quiet g c = λ quiet.
+    let was = c.in_ok-earlier.ensures in
+    let begins : Begins c.args.state.now c.args.moment c.begin.new.self c.in_ok-earlier.earlier.moment c.in_ok-earlier.earlier.saved = record { after = was.after; moment_is = was.moment; saved_is = was.saved } in
+    let same = quiet-refused begins (g.D.Store.held c.args.store.now) c.args.command.now c.in_ok-refusal.field-0 c.come_to.new.state c.in_ok-refusal.ensures.comes c.in-Refused.refusal c.in-Refused.is in
+    ((c.in_ok-refusal.ensures.held, refl), ap Some (back-again begins c.come_to.new.state c.revert.new.self same c.revert.ensures))
+
+pub returns-in-Told-clause-quiet : goal.returns-in-Told-clause-quiet
+returns-in-Told-clause-quiet g c = λ quiet.
+    let was = c.in_ok-earlier.ensures in
+    let begins : Begins c.args.state.now c.args.moment c.begin.new.self c.in_ok-earlier.earlier.moment c.in_ok-earlier.earlier.saved = record { after = was.after; moment_is = was.moment; saved_is = was.saved } in
+    let same = quiet-told begins (g.D.Store.held c.args.store.now) c.args.command.now c.in_ok-refusal.field-0 c.come_to.new.state c.in_ok-refusal.ensures.comes c.in-Told.lines c.in-Told.is in
+    ((c.in_ok-refusal.ensures.held, refl), ap Some (back-again begins c.come_to.new.state c.revert-in-Told.new.self same c.revert-in-Told.ensures))
+
+pub returns-in_ok-carry_out-in-Done-clause-quiet : goal.returns-in_ok-carry_out-in-Done-clause-quiet
+returns-in_ok-carry_out-in-Done-clause-quiet g c = λ quiet.
+    absurd (done-not-quiet c.args.command.now c.in_ok-refusal.field-0 c.in-Done.handed _ c.in-Done.handed.lines c.in-Done.is c.in_ok-refusal.ensures.more c.reply_of-in-Done.ensures quiet)

@@ -1,7 +1,9 @@
-use Rattle.std.proofs.Common.{◌≡◌, ◌∙◌, None, Some, refl, sym}
+use Rattle.std.proofs.Common.{◌≡◌, ◌∙◌, None, Some, ap, refl, sym}
+use Rattle.rm_machine.specs.Laws.{only_tells}
 use Rattle.rm_machine_laws.specs.Refused.{refusal_without}
 use Rattle.rm_site.proofs.Answering.{is-carried, is-halted, is-refused}
 use Rattle.rm_site.proofs.Creating.{comes-refused, founded, founded-sound}
+use Rattle.rm_site.proofs.Quiet.{not-quiet}
 use Rattle.rm_site.proofs.step.answer_without.Goals as goal
 
 pub returns-in-Some-clause-step : goal.returns-in-Some-clause-step
@@ -30,3 +32,6 @@ returns-in_err-carry_out-clause-stopped g c =
     let handed = founded c.args.command.now k.dbid k.threads k.scn c.args.moment k.is c.requires.command.0 (sym c.refusal_without.ensures ∙ c.in_default.is) c.requires.moment.last
     (g.D.Store.held c.args.store.now) c.in_ok-change.change c.in_ok-state.state c.in_ok-lines.lines was.objects was.edits was.removes c.in_ok-state.ensures c.in_ok-lines.ensures in
     is-halted _ _ c.args.command.now c.args.moment _ _ None c.in_ok-lines.lines c.in_ok-change.change c.in_ok-state.state _ _ refl c.requires.command c.requires.moment handed c.in_err-carry_out.ensures.stopped
+
+pub returns-clause-quiet : goal.returns-clause-quiet
+returns-clause-quiet g c = λ quiet. absurd (not-quiet c.args.command.now _ c.in_ok-lines.lines (ap only_tells c.in-CreateDatabase.is) c.reply_of.ensures quiet)

@@ -1,7 +1,9 @@
 use Rattle.std.proofs.Common.{◌∙◌, ap, arith, length, sym}
 use Rattle.rm_lang_statement.specs.IsCommand.{is_inner}
 use Rattle.rm_tool.specs.Built.{is_built_inner}
+use Rattle.rm_tool.specs.Quiet.{only_tells_inner}
 use Rattle.rm_tool.proofs.Blocks.{inside-done, inside-more, inside-refused, inside-all, others-pass, dates-added}
+use Rattle.rm_tool.proofs.Quiet.{first-passes, untouched-then}
 use Rattle.rm_tool.proofs.Statements.{on-err}
 use Rattle.rm_tool.proofs.block.serve_block.Goals as goal
 
@@ -16,6 +18,11 @@ returns-then-reply-clause-steps g c = λ m stands holds tells.
     inside-refused (c.loop-inner.invariant.inside m stands holds tells) c.in-Some.ensures.steps.0 c.serve_inner.new.site c.in_ok-reply.reply done.steps
     c.add_lines.new.lines c.in_ok-add_lines.ensures done.applied c.if-reply.true
 
+pub returns-then-reply-clause-quiet : goal.returns-then-reply-clause-quiet
+returns-then-reply-clause-quiet g c = λ all.
+    let was = c.loop-inner.invariant.quiet all in
+    untouched-then was.1 (c.in_ok-reply.ensures.quiet (first-passes only_tells_inner _ _ c.in-Some.ensures.steps.0 was.0))
+
 pub returns-then-reply-clause-dates : goal.returns-then-reply-clause-dates
 returns-then-reply-clause-dates g c =
     dates-added c.loop-inner.lines c.in_ok-reply.reply.lines c.add_lines.new.lines c.in_ok-add_lines.ensures c.loop-inner.invariant.dates c.in_ok-reply.ensures.dates
@@ -27,6 +34,9 @@ loop-inner-preserved g c =
       inside = λ m stands holds tells.
           inside-more (c.loop-inner.invariant.inside m stands holds tells) c.in-Some.ensures.steps.0 c.serve_inner.new.site c.in_ok-reply.reply done.steps
           c.add_lines.new.lines c.in_ok-add_lines.ensures done.applied c.serve_inner.new.settings (done.after c.if-reply.false) c.if-reply.false;
+      quiet = λ all.
+          let was = c.loop-inner.invariant.quiet all in
+          (others-pass only_tells_inner _ _ c.in-Some.ensures.steps.0 was.0, untouched-then was.1 (done.quiet (first-passes only_tells_inner _ _ c.in-Some.ensures.steps.0 was.0)));
       live = done.live;
       set = done.set;
       grammar = others-pass is_inner _ _ c.in-Some.ensures.steps.0 c.loop-inner.invariant.grammar;
@@ -39,3 +49,6 @@ loop-inner-preserved g c =
 
 pub returns-clause-steps : goal.returns-clause-steps
 returns-clause-steps g c = λ m stands holds tells. inside-all (c.loop-inner.invariant.inside m stands holds tells) (sym c.loop-inner.invariant.count ∙ c.in-None.ensures.steps.0)
+
+pub returns-clause-quiet : goal.returns-clause-quiet
+returns-clause-quiet g c = λ all. (c.loop-inner.invariant.quiet all).1

@@ -3,8 +3,10 @@ use Rattle.std.specs.List.{list_all}
 use Rattle.std.specs.Vec.Iter.{into_iter_items, into_iter_len}
 use Rattle.rm_report.specs.Reply.{LineHasDate}
 use Rattle.rm_lang_statement.specs.IsCommand.{is_inner}
+use Rattle.rm_site.specs.Untouched.{IsUntouched}
 use Rattle.rm_tool.specs.Block.{AreSet}
 use Rattle.rm_tool.specs.Built.{is_built_inner}
+use Rattle.rm_tool.specs.Quiet.{only_tells_inner}
 use Rattle.rm_tool.proofs.Blocks.{InsideEach}
 use Rattle.rm_tool.proofs.block.serve_block.Given as goal
 
@@ -14,6 +16,7 @@ invariant-loop-inner g l =
     let kept = g.C.Keeper.kept in
     record {
       inside : InsideEach (held l.fn.store) (kept l.fn.keeper) l.fn.site (held l.store) (kept l.keeper) l.site l.settings l.fn.block (into_iter_items l.inner-iterator) l.fn.clock l.lines;
+      quiet : list_all only_tells_inner l.fn.block ≡ true → (list_all only_tells_inner (into_iter_items l.inner-iterator) ≡ true) × IsUntouched (held l.fn.store) (kept l.fn.keeper) l.fn.site (held l.store) (kept l.keeper) l.site;
       live : l.site.live ≡ true;
       set : AreSet l.settings;
       grammar : IsTrue (list_all is_inner (into_iter_items l.inner-iterator));

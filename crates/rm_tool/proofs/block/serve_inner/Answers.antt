@@ -1,10 +1,13 @@
 use Rattle.std.proofs.Common.{◌≡◌, sym, subst, true}
+use Rattle.std.proofs.lemmas.Result.{IfOk-weaker}
 use Rattle.rm_machine.specs.Built.{is_built}
 use Rattle.rm_lang_statement.specs.IsCommand.{is_command, is_inner}
 use Rattle.rm_lang_statement.specs.declared.command.Command.{Command}
 use Rattle.rm_lang_statement.specs.declared.command.Inner.{Inner}
 use Rattle.rm_tool.specs.Built.{is_built_inner}
+use Rattle.rm_tool.specs.Quiet.{only_tells_inner}
 use Rattle.rm_tool.proofs.Blocks.{inner-untouched}
+use Rattle.rm_tool.proofs.Quiet.{quiet-with}
 use Rattle.rm_tool.proofs.Setting.{built_with, command_with}
 use Rattle.rm_tool.proofs.Statements.{on-err}
 use Rattle.rm_tool.proofs.block.serve_inner.Goals as goal
@@ -29,3 +32,10 @@ returns-in_err-set_reply-in-SetUntil-clause-stopped g c =
 pub returns-in_err-reply-in-AllocateChannel-clause-stopped : goal.returns-in_err-reply-in-AllocateChannel-clause-stopped
 returns-in_err-reply-in-AllocateChannel-clause-stopped g c =
     on-err _ c.from_residual-in_err-reply-in-AllocateChannel.result (inner-untouched c.args.site.now c.args.settings.now c.args.inner c.args.clock)
+
+pub returns-in-Plain-clause-quiet : goal.returns-in-Plain-clause-quiet
+returns-in-Plain-clause-quiet g c =
+    IfOk-weaker c.step.result _ _
+    (λ reply quiet tells.
+    let own = subst (λ (y : Inner). only_tells_inner y ≡ true) c.in-Plain.is tells in
+    quiet (quiet-with c.args.settings.now.until c.in-Plain.command _ reply c.in_ok-command-in-Plain.ensures own)) c.step.ensures.quiet

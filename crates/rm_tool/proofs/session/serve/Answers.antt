@@ -1,6 +1,6 @@
 use Rattle.std.proofs.Common.{◌∙◌, ℕ, List, Some, ap, sym}
 use Rattle.rm_lang_token.specs.declared.token.Token.{Token}
-use Rattle.rm_tool.proofs.Statements.{ok-both, err-map, on-err, served-refused, served-step, cut-before, cut-step, cut-run}
+use Rattle.rm_tool.proofs.Statements.{ok-both, ok-three, err-map, on-err, served-refused, served-run, served-step, cut-before, cut-step, cut-run}
 use Rattle.rm_tool.proofs.session.serve.Goals as goal
 
 pub returns-in_default-clause-served : goal.returns-in_default-clause-served
@@ -10,8 +10,15 @@ pub returns-in-Plain-clause-served : goal.returns-in-Plain-clause-served
 returns-in-Plain-clause-served g c =
     let s : ℕ × List Token = (c.args.line, c.args.tokens.now) in
     let some = sym c.in_ok-statement.ensures.value ∙ c.in-Some.is ∙ ap Some c.in-Plain.is in
-    ok-both _ _ _ (λ reply steps applied. served-step {s = s} c.now-answer.result c.now-answer.ensures.next some {v' = c.step.new.self} reply c.now-answer.ensures.later steps applied)
-    c.step.result c.step.ensures.step c.step.ensures.applied
+    ok-three _ _ _ _ (λ reply steps applied quiet. served-step {s = s} c.now-answer.result c.now-answer.ensures.next some {v' = c.step.new.self} reply c.now-answer.ensures.later steps applied quiet)
+    c.step.result c.step.ensures.step c.step.ensures.applied c.step.ensures.quiet
+
+pub returns-in-Run-clause-served : goal.returns-in-Run-clause-served
+returns-in-Run-clause-served g c =
+    let s : ℕ × List Token = (c.args.line, c.args.tokens.now) in
+    let some = sym c.in_ok-statement.ensures.value ∙ c.in-Some.is ∙ ap Some c.in-Run.is in
+    ok-both _ _ _ (λ reply steps quiet. served-run {s = s} c.now-answer.result c.now-answer.ensures.next some {v' = c.serve_block.new.site} reply c.now-answer.ensures.later steps quiet)
+    c.serve_block.result c.serve_block.ensures.steps c.serve_block.ensures.quiet
 
 pub returns-in_err-statement-clause-cut : goal.returns-in_err-statement-clause-cut
 returns-in_err-statement-clause-cut g c = on-err _ c.from_residual.result cut-before
@@ -23,10 +30,10 @@ pub returns-in-Plain-clause-cut : goal.returns-in-Plain-clause-cut
 returns-in-Plain-clause-cut g c =
     let s : ℕ × List Token = (c.args.line, c.args.tokens.now) in
     let some = sym c.in_ok-statement.ensures.value ∙ c.in-Some.is ∙ ap Some c.in-Plain.is in
-    err-map _ _ (cut-step {s = s} c.now-answer.result c.now-answer.ensures.next some) c.step.result c.step.ensures.stopped
+    err-map _ _ (cut-step {s = s} c.now-answer.result c.now-answer.ensures.next some c.now-answer.ensures.later) c.step.result c.step.ensures.stopped
 
 pub returns-in-Run-clause-cut : goal.returns-in-Run-clause-cut
 returns-in-Run-clause-cut g c =
     let s : ℕ × List Token = (c.args.line, c.args.tokens.now) in
     let some = sym c.in_ok-statement.ensures.value ∙ c.in-Some.is ∙ ap Some c.in-Run.is in
-    err-map _ _ (cut-run {s = s} c.now-answer.result c.now-answer.ensures.next some) c.serve_block.result c.serve_block.ensures.stopped
+    err-map _ _ (cut-run {s = s} c.now-answer.result c.now-answer.ensures.next some c.now-answer.ensures.later) c.serve_block.result c.serve_block.ensures.stopped

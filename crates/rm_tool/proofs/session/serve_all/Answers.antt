@@ -15,7 +15,7 @@ at-hand ss i s ts below is given = slice_get_read ss (length ss) i s refl below 
 pub loop-line-init : goal.loop-line-init
 loop-line-init g c =
     record {
-      progress = λ m stands holds. progress-none stands holds;
+      progress = progress-none;
       live = c.requires.live;
       sink = omega arith;
       store = omega arith;
@@ -23,32 +23,32 @@ loop-line-init g c =
     }
 
 pub returns-in_err-reply-clause-store : goal.returns-in_err-reply-clause-store
-returns-in_err-reply-clause-store g c = λ is m stands holds.
+returns-in_err-reply-clause-store g c = λ is.
     let there = at-hand c.args.statements.now c.loop-line.line-index c.loop-line-item.result c.as_slice.result.now c.loop-line-test.true c.loop-line-item.is c.as_slice.ensures in
-    progress-cut c.args.statements.now c.loop-line.line-index there (c.loop-line.invariant.progress m stands holds) c.in_err-reply.ensures.cut
+    progress-cut c.args.statements.now c.loop-line.line-index there c.loop-line.invariant.progress c.in_err-reply.ensures.cut
 
 pub returns-in_err-reply-clause-keeper : goal.returns-in_err-reply-clause-keeper
-returns-in_err-reply-clause-keeper g c = λ is m stands holds.
+returns-in_err-reply-clause-keeper g c = λ is.
     let there = at-hand c.args.statements.now c.loop-line.line-index c.loop-line-item.result c.as_slice.result.now c.loop-line-test.true c.loop-line-item.is c.as_slice.ensures in
-    progress-cut c.args.statements.now c.loop-line.line-index there (c.loop-line.invariant.progress m stands holds) c.in_err-reply.ensures.cut
+    progress-cut c.args.statements.now c.loop-line.line-index there c.loop-line.invariant.progress c.in_err-reply.ensures.cut
 
 pub returns-in_err-reply-clause-memory : goal.returns-in_err-reply-clause-memory
-returns-in_err-reply-clause-memory g c = λ is m stands holds.
+returns-in_err-reply-clause-memory g c = λ is.
     let there = at-hand c.args.statements.now c.loop-line.line-index c.loop-line-item.result c.as_slice.result.now c.loop-line-test.true c.loop-line-item.is c.as_slice.ensures in
-    progress-cut c.args.statements.now c.loop-line.line-index there (c.loop-line.invariant.progress m stands holds) c.in_err-reply.ensures.cut
+    progress-cut c.args.statements.now c.loop-line.line-index there c.loop-line.invariant.progress c.in_err-reply.ensures.cut
 
 pub returns-in_err-bytes-clause-memory : goal.returns-in_err-bytes-clause-memory
-returns-in_err-bytes-clause-memory g c = λ is m stands holds.
+returns-in_err-bytes-clause-memory g c = λ is.
     let there = at-hand c.args.statements.now c.loop-line.line-index c.loop-line-item.result c.as_slice.result.now c.loop-line-test.true c.loop-line-item.is c.as_slice.ensures in
-    progress-cut c.args.statements.now c.loop-line.line-index there (c.loop-line.invariant.progress m stands holds) (cut-served {s = (c.loop-line-item.result.0, c.as_slice.result.now)} c.in_ok-reply.ensures.served)
+    progress-cut c.args.statements.now c.loop-line.line-index there c.loop-line.invariant.progress (cut-served {s = (c.loop-line-item.result.0, c.as_slice.result.now)} c.in_ok-reply.ensures.served)
 
 pub returns-in_err-write_all-clause-sink : goal.returns-in_err-write_all-clause-sink
-returns-in_err-write_all-clause-sink g c = λ is m stands holds.
+returns-in_err-write_all-clause-sink g c = λ is.
     let told = g.K.Sink.contents in
     let ss = c.args.statements.now in
     let i = c.loop-line.line-index in
     let there = at-hand ss i c.loop-line-item.result c.as_slice.result.now c.loop-line-test.true c.loop-line-item.is c.as_slice.ensures in
-    let reached = progress-reached ss i there (c.loop-line.invariant.progress m stands holds) c.in_ok-reply.ensures.served in
+    let reached = progress-reached ss i there c.loop-line.invariant.progress c.in_ok-reply.ensures.served in
     reached-ends ss (i + 1) (omega (arith, c.loop-line-test.true)) reached
     (subst (WritesFront (told c.loop-line.sink) (told c.write_all.new.sink)) (c.as_slice-in-loop-line.ensures ∙ c.in_ok-bytes.ensures) c.in_err-write_all.ensures.prefix)
 
@@ -60,7 +60,7 @@ loop-line-preserved g c =
     let there = at-hand ss i c.loop-line-item.result c.as_slice.result.now c.loop-line-test.true c.loop-line-item.is c.as_slice.ensures in
     let grows = subst (Appends (told c.loop-line.sink) (told c.write_all.new.sink)) (c.as_slice-in-loop-line.ensures ∙ c.in_ok-bytes.ensures) c.in_ok-write_all.ensures.ok in
     record {
-      progress = λ m stands holds. reached-more (take (i + 1) ss) (progress-reached ss i there (c.loop-line.invariant.progress m stands holds) c.in_ok-reply.ensures.served) grows;
+      progress = reached-more (take (i + 1) ss) (progress-reached ss i there c.loop-line.invariant.progress c.in_ok-reply.ensures.served) grows;
       live = c.in_ok-reply.ensures.live;
       sink = omega (arith, c.loop-line.invariant.sink, c.write_all.ensures.never_falls);
       store = omega (arith, c.loop-line.invariant.store, c.serve.ensures.store_never_falls);
@@ -68,8 +68,8 @@ loop-line-preserved g c =
     }
 
 pub returns-clause-ok : goal.returns-clause-ok
-returns-clause-ok g c = λ m stands holds.
+returns-clause-ok g c =
     let ss = c.args.statements.now in
     let end : c.loop-line.line-index ≡ length ss = omega (arith, c.loop-line-test.false, c.loop-line.auto.line-index-end) in
     let all : take c.loop-line.line-index ss ≡ ss = ap (λ (n : ℕ). take n ss) end ∙ take-length ss in
-    progress-serves ss (rw all at (c.loop-line.invariant.progress m stands holds))
+    progress-serves ss (rw all at c.loop-line.invariant.progress)

@@ -1,5 +1,4 @@
 use Rattle.std.proofs.Common.{◌≡◌, ◌≤◌, take, true}
-use Rattle.rm_tool.specs.Serving.{FromEach}
 use Rattle.rm_tool.proofs.Runs.{Progress}
 use Rattle.rm_tool.proofs.session.serve_all.Given as goal
 
@@ -10,7 +9,7 @@ invariant-loop-line g l =
     let kept = g.C.Keeper.kept in
     let answers = g.T.Clock.answers in
     record {
-      progress : FromEach (held l.fn.store) (kept l.fn.keeper) l.fn.site (Progress (take l.line-index l.statements) (answers l.fn.clock) (answers l.clock) (told l.fn.sink) (told l.sink) (held l.store) (kept l.keeper) l.fn.site l.site l.refused);
+      progress : Progress (take l.line-index l.statements) (answers l.fn.clock) (answers l.clock) (told l.fn.sink) (told l.sink) (held l.fn.store) (kept l.fn.keeper) l.fn.site (held l.store) (kept l.keeper) l.site l.refused;
       live : l.site.live ≡ true;
       sink : g.K.Sink.faults l.fn.sink ≤ g.K.Sink.faults l.sink;
       store : g.D.Store.faults l.fn.store ≤ g.D.Store.faults l.store;

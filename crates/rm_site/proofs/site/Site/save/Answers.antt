@@ -1,4 +1,4 @@
-use Rattle.std.proofs.Common.{◌∙◌, ap, sym}
+use Rattle.std.proofs.Common.{◌≡◌, ◌∙◌, false, true, ap, sym}
 use Rattle.rm_machine_laws.specs.Holds.{View}
 use Rattle.rm_site.proofs.Ending.{err-then, nothing-saves, ok-then, state-saves, state-stops, unapplied-saves, unsaved-saves}
 use Rattle.rm_site.proofs.site.Site.save.Goals as goal
@@ -29,3 +29,8 @@ returns-clause-stopped g c =
     (state-stops (g.D.Store.held c.args.store.now) (g.C.Keeper.kept c.args.keeper.now) c.args.self.now c.in-Some.state (g.D.Store.held c.save_state.new.store) (g.C.Keeper.kept c.save_state.new.keeper)
     (sym (ap (λ (v : View). v.state) c.self.view_is) ∙ sym c.replace.ensures.value ∙ c.in-Some.is) (sym (ap (λ (v : View). v.applied) c.self.view_is) ∙ c.if-not-self.false))
     c.save_state.ensures.stopped
+
+pub returns-clause-unapplied : goal.returns-clause-unapplied
+returns-clause-unapplied g c = λ none.
+    let both : false ≡ true = sym none ∙ sym (ap (λ (v : View). v.applied) c.self.view_is) ∙ c.if-not-self.false in
+    absurd (cc)

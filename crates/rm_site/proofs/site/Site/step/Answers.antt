@@ -4,6 +4,7 @@ use Rattle.rm_machine_laws.specs.Saves.{applies}
 use Rattle.rm_machine_laws.proofs.Safely.{deletes-safely}
 use Rattle.rm_site.proofs.Answering.{answered-of, steps-of, stops-of}
 use Rattle.rm_site.proofs.Contents.{has-content}
+use Rattle.rm_site.proofs.Quiet.{untouched-of}
 use Rattle.rm_site.proofs.site.Site.step.Goals as goal
 
 pub answer-requires-clause-command : goal.answer-requires-clause-command
@@ -27,3 +28,9 @@ returns-clause-answered g c =
 pub returns-clause-safe : goal.returns-clause-safe
 returns-clause-safe g c =
     deletes-safely _ _ _ _ c.args.self.now (record { state = c.in_ok-state.state; live = true; applied = c.has_applied-self-inside.result }) _ _ _ (returns-clause-step g c)
+
+pub returns-clause-quiet : goal.returns-clause-quiet
+returns-clause-quiet g c = λ quiet.
+    let from = c.replace-state.ensures.value ∙ ap (λ (v : View). v.state) c.self.view_is in
+    untouched-of c.replace-state.result c.args.self.now c.args.command.now c.in_ok-state.reply c.in_ok-state.state c.has_applied-self-inside.result from c.requires.live
+    (c.has_applied-self-inside.ensures ∙ ap (λ (v : View). v.applied || applies c.args.command.now c.in_ok-state.reply) c.self.view_is) quiet (c.in_ok-state.ensures.quiet quiet)
