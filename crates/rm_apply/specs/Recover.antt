@@ -6,7 +6,8 @@ use Rattle.rm_catalog.specs.Trees.{nodes}
 use Rattle.rm_evidence.specs.declared.evidence.Evidence.{Evidence}
 use Rattle.rm_evidence.specs.declared.evidence.InPlace.{InPlace}
 use Rattle.rm_evidence.specs.Gathered.{IsGathered}
-use Rattle.rm_evidence.specs.Known.{AreRecorded, FitsTree, known_of}
+use Rattle.rm_evidence.specs.Known.{FitsTree, known_of}
+use Rattle.rm_evidence.specs.Seen.{IsSeen}
 use Rattle.rm_history.specs.declared.tree.Incarnation.{Incarnation}
 use Rattle.rm_history.specs.Tree.{reset_of, end_of}
 use Rattle.rm_evidence.specs.Database.{world_of}
@@ -35,12 +36,11 @@ abbrev pub IfGap : RecoverFault → (Gap → Type 0) → Type 0
 IfGap (fault.Gap x) P = P x
 IfGap _ P = Unit {0}
 
--- The evidence is what is at hand, where the store tells what it holds; whatever it tells, each artefact is valid, and
--- each backup has the fields of its record.
+-- The evidence is what is at hand by what the store tells, or else by some bytes under each name; each artefact of it is
+-- valid.
 pub record IsEvidence (held : Option Held) (rs : List Record) (place : InPlace) (e : Evidence) : Type 0 where
-  pub at_hand : IfSome held (λ h. IsGathered h rs place e)
+  pub at_hand : IsSeen held (λ h. IsGathered h rs place e)
   pub fits : FitsTree (nodes rs) e
-  pub recorded : AreRecorded rs e
 
 -- what is at hand tells each block of the target: the datafiles are these, and these records were skipped
 pub record TellsAll (held : Option Held) (rs : List Record) (place : InPlace) (i s : ℕ) (r : Recovered) : Type 0 where

@@ -15,7 +15,7 @@ returns-clause-previews g c =
     let gap = c.in_ok-gap.ensures in
     record {
       evidence = e;
-      is = record { at_hand = c.in_ok-evidence.ensures.gathered; fits = c.in_ok-evidence.ensures.fits; recorded = c.in_ok-evidence.ensures.recorded };
+      is = record { at_hand = c.in_ok-evidence.ensures.gathered; fits = c.in_ok-evidence.ensures.fits };
       numbers = map number ts;
       targets = unnamed w c.args.i c.args.s ts ts refl c.in_ok-targets.ensures.numbers;
       from = subst (λ (us : List TargetFile). AreOrigins w e.bases c.args.i c.args.s (map number us) c.in_ok-origins.origins) c.as_slice.ensures c.in_ok-origins.ensures;
