@@ -1,5 +1,5 @@
--- The fields of a record fit their types, and the text of its tag is of ASCII.
-use Rattle.std.specs.Prelude.{◌≡◌, ◌<◌, ◌^◌, length, All}
+-- The fields of a record fit their types, as of every record that is at hand.
+use Rattle.std.specs.Prelude.{◌≡◌, ◌<◌, ◌^◌, length, IsUtf8}
 use Rattle.rm_catalog.specs.declared.record.BaseEntry.{BaseEntry}
 use Rattle.rm_catalog.specs.declared.record.IncarnationEntry.{IncarnationEntry}
 use Rattle.rm_catalog.specs.declared.record.DatafileEntry.{DatafileEntry}
@@ -52,7 +52,7 @@ pub record PieceHeadFits (r : PieceEntry) : Type 0 where
 pub record PieceFits (r : PieceEntry) : Type 0 where
   pub head : PieceHeadFits r
   pub tag : length r.tag < 2 ^ 64
-  pub letters : All (λ b. b < 128) r.tag
+  pub letters : IsUtf8 r.tag
   pub moment : r.moment < 2 ^ 64
 
 pub record MarkFits (r : MarkEntry) : Type 0 where
@@ -69,6 +69,7 @@ pub record HeadFits (r : HeadEntry) : Type 0 where
   pub inc : r.inc < 2 ^ 32
   pub scn : r.scn < 2 ^ 64
 
+-- each number fits its type, a digest has 32 bytes, and a tag is UTF-8
 abbrev pub Fits : Record → Type 0
 Fits (Base r) = BaseFits r
 Fits (Incarnation r) = IncarnationFits r

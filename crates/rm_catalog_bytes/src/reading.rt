@@ -1,6 +1,7 @@
 //! A record from its key and its bytes.
-ghost use Rattle.std.specs.Prelude.{◌≡◌, ◌≢◌, ◌+◌, ◌≤◌, ◌<◌, ◌^◌, ◌++◌, ℕ, Bool, List, length, IfOk, IfErr, ◌↔◌, IsTrue, All, IfSome, IfNone};
+ghost use Rattle.std.specs.Prelude.{◌≡◌, ◌≢◌, ◌+◌, ◌≤◌, ◌<◌, ◌^◌, ◌++◌, ℕ, Bool, List, length, IfOk, IfErr, IfSome, IfNone, IsUtf8};
 ghost use Rattle.rm_base.specs.Formats.{Reads};
+ghost use Rattle.rm_base.specs.declared.faults.FormatFault.TheVariants.{NoMemory};
 ghost use Rattle.rm_base.specs.declared.kinds.Kind.{Kind};
 ghost use Rattle.rm_base.specs.declared.kinds.Status.{Status};
 ghost use Rattle.rm_base.specs.declared.kinds.Policy.{Policy};
@@ -405,6 +406,21 @@ fn head_of(bytes: &[u8]) -> Option<HeadEntry>
     Some(entry)
 }
 
+// The text of these bytes, where they are UTF-8.
+fn text_of(alloc: Global, letters: &[u8]) -> Result<Text, FormatFault>
+    ensures text { IfOk result (λ t. t ≡ letters.now) }
+    ensures letters { IfOk result (λ _. IsUtf8 letters.now) }
+    ensures only { IfErr result (λ fault. IsUtf8 letters.now → fault ≡ NoMemory) }
+{
+    let Ok(letters) = str::from_utf8(letters) else {
+        return Err(FormatFault::Bad);
+    };
+    match String::from_str(alloc, letters) {
+        Ok(string) => Ok(Text::from_string(string)),
+        Err(_) => Err(FormatFault::NoMemory),
+    }
+}
+
 fn piece_of(alloc: Global, id: u32, bytes: &[u8]) -> Result<PieceEntry, FormatFault>
     ensures found { IfOk result (λ r. bytes.now ≡ piece_bytes r) }
     ensures fits { IfOk result (λ r. PieceFits r) }
@@ -422,24 +438,13 @@ fn piece_of(alloc: Global, id: u32, bytes: &[u8]) -> Result<PieceEntry, FormatFa
         return Err(FormatFault::Bad);
     }
     let (letters, rest) = rest.split_at(len);
-    if !is_ascii(letters) {
-        return Err(FormatFault::Bad);
-    }
+    let tag = text_of(alloc, letters)?;
     let (moment, _) = take_u64(rest);
-    let Ok(tag) = Text::from_ascii(alloc, letters) else {
-        return Err(FormatFault::NoMemory);
-    };
     Ok(PieceEntry {
         tag,
         moment,
         ..head
     })
-}
-
-fn is_ascii(letters: &[u8]) -> bool
-    ensures { IsTrue result ↔ All (λ b. b < 128) letters.now }
-{
-    letters.iter().all(|b| *b < 128)
 }
 
 /// The record of this key that the bytes spell. `Bad` exactly where they spell none.

@@ -1,6 +1,7 @@
 //! A record as bytes.
-ghost use Rattle.std.specs.Prelude.{◌≡◌, ◌++◌, length, OnOk, IfOk};
+ghost use Rattle.std.specs.Prelude.{◌≡◌, ◌<◌, ◌^◌, ◌++◌, length, OnOk, IfOk};
 ghost use Rattle.rm_catalog_bytes.specs.Spelling.{flag, status_code, kind_code, policy_code, policy_number, base_bytes, incarnation_bytes, datafile_bytes, log_bytes, piece_head, piece_bytes, mark_bytes, part_bytes, head_bytes, body_of};
+ghost use Rattle.rm_catalog_bytes.specs.Fits.{BaseFits, IncarnationFits, DatafileFits, LogFits, PieceFits, PieceHeadFits, MarkFits, PartFits, HeadFits, Fits};
 
 use crate::numbers::{push_u32, push_u64};
 use rm_base::{Kind, NoMemory, Policy, Seq, Status};
@@ -58,7 +59,8 @@ fn policy_number(policy: Policy) -> u32
 
 #[tactic(auto, unfolding(crate::specs::Spelling::base_bytes))]
 fn push_base(out: &mut Vec<u8>, r: &BaseEntry) -> Result<(), NoMemory>
-    ensures { OnOk result (out.new.items ≡ out.old.items ++ base_bytes r.now) }
+    ensures bytes { OnOk result (out.new.items ≡ out.old.items ++ base_bytes r.now) }
+    ensures fits { OnOk result (BaseFits r.now) }
 {
     push_u32(out, r.dbid)?;
     out.push(r.threads)?;
@@ -74,7 +76,8 @@ fn push_base(out: &mut Vec<u8>, r: &BaseEntry) -> Result<(), NoMemory>
 
 #[tactic(auto, unfolding(crate::specs::Spelling::incarnation_bytes))]
 fn push_incarnation(out: &mut Vec<u8>, r: &IncarnationEntry) -> Result<(), NoMemory>
-    ensures { OnOk result (out.new.items ≡ out.old.items ++ incarnation_bytes r.now) }
+    ensures bytes { OnOk result (out.new.items ≡ out.old.items ++ incarnation_bytes r.now) }
+    ensures fits { OnOk result (IncarnationFits r.now) }
 {
     push_u32(out, r.parent)?;
     push_u64(out, r.reset)?;
@@ -83,7 +86,8 @@ fn push_incarnation(out: &mut Vec<u8>, r: &IncarnationEntry) -> Result<(), NoMem
 
 #[tactic(auto, unfolding(crate::specs::Spelling::datafile_bytes))]
 fn push_datafile(out: &mut Vec<u8>, r: &DatafileEntry) -> Result<(), NoMemory>
-    ensures { OnOk result (out.new.items ≡ out.old.items ++ datafile_bytes r.now) }
+    ensures bytes { OnOk result (out.new.items ≡ out.old.items ++ datafile_bytes r.now) }
+    ensures fits { OnOk result (DatafileFits r.now) }
 {
     push_u32(out, r.inc)?;
     push_u64(out, r.creation)?;
@@ -92,7 +96,8 @@ fn push_datafile(out: &mut Vec<u8>, r: &DatafileEntry) -> Result<(), NoMemory>
 
 #[tactic(auto, unfolding(crate::specs::Spelling::log_bytes))]
 fn push_log(out: &mut Vec<u8>, r: &LogEntry) -> Result<(), NoMemory>
-    ensures { OnOk result (out.new.items ≡ out.old.items ++ log_bytes r.now) }
+    ensures bytes { OnOk result (out.new.items ≡ out.old.items ++ log_bytes r.now) }
+    ensures fits { OnOk result (LogFits r.now) }
 {
     out.push(flag(r.archived))?;
     push_u32(out, r.inc)?;
@@ -109,7 +114,8 @@ fn push_log(out: &mut Vec<u8>, r: &LogEntry) -> Result<(), NoMemory>
 // Appends what stands before the bytes of the tag.
 #[tactic(auto, unfolding(crate::specs::Spelling::piece_head))]
 fn push_piece_head(out: &mut Vec<u8>, r: &PieceEntry) -> Result<(), NoMemory>
-    ensures { OnOk result (out.new.items ≡ out.old.items ++ piece_head r.now (length r.now.tag)) }
+    ensures bytes { OnOk result (out.new.items ≡ out.old.items ++ piece_head r.now (length r.now.tag)) }
+    ensures fits { OnOk result (PieceHeadFits r.now × (length r.now.tag < 2 ^ 64)) }
 {
     out.extend_from_slice(&[flag(r.copy), kind_code(r.kind)])?;
     push_u32(out, r.inc)?;
@@ -125,16 +131,18 @@ fn push_piece_head(out: &mut Vec<u8>, r: &PieceEntry) -> Result<(), NoMemory>
 }
 
 fn push_piece(out: &mut Vec<u8>, r: &PieceEntry) -> Result<(), NoMemory>
-    ensures { OnOk result (out.new.items ≡ out.old.items ++ piece_bytes r.now) }
+    ensures bytes { OnOk result (out.new.items ≡ out.old.items ++ piece_bytes r.now) }
+    ensures fits { OnOk result (PieceFits r.now) }
 {
     push_piece_head(out, r)?;
-    out.extend_from_slice(r.tag.as_bytes())?;
+    out.extend_from_slice(r.tag.as_str().as_bytes())?;
     push_u64(out, r.moment)
 }
 
 #[tactic(auto, unfolding(crate::specs::Spelling::mark_bytes))]
 fn push_mark(out: &mut Vec<u8>, r: &MarkEntry) -> Result<(), NoMemory>
-    ensures { OnOk result (out.new.items ≡ out.old.items ++ mark_bytes r.now) }
+    ensures bytes { OnOk result (out.new.items ≡ out.old.items ++ mark_bytes r.now) }
+    ensures fits { OnOk result (MarkFits r.now) }
 {
     push_u64(out, r.moment)?;
     push_u32(out, r.inc)?;
@@ -143,7 +151,8 @@ fn push_mark(out: &mut Vec<u8>, r: &MarkEntry) -> Result<(), NoMemory>
 
 #[tactic(auto, unfolding(crate::specs::Spelling::part_bytes))]
 fn push_part(out: &mut Vec<u8>, r: &PartEntry) -> Result<(), NoMemory>
-    ensures { OnOk result (out.new.items ≡ out.old.items ++ part_bytes r.now) }
+    ensures bytes { OnOk result (out.new.items ≡ out.old.items ++ part_bytes r.now) }
+    ensures fits { OnOk result (PartFits r.now) }
 {
     push_u32(out, r.file)?;
     out.push(r.thread)?;
@@ -154,7 +163,8 @@ fn push_part(out: &mut Vec<u8>, r: &PartEntry) -> Result<(), NoMemory>
 
 #[tactic(auto, unfolding(crate::specs::Spelling::head_bytes))]
 fn push_head(out: &mut Vec<u8>, r: &HeadEntry) -> Result<(), NoMemory>
-    ensures { OnOk result (out.new.items ≡ out.old.items ++ head_bytes r.now) }
+    ensures bytes { OnOk result (out.new.items ≡ out.old.items ++ head_bytes r.now) }
+    ensures fits { OnOk result (HeadFits r.now) }
 {
     out.push(flag(r.opened))?;
     push_u32(out, r.inc)?;
@@ -163,7 +173,8 @@ fn push_head(out: &mut Vec<u8>, r: &HeadEntry) -> Result<(), NoMemory>
 
 /// The fields of a record without its key.
 pub fn encode_record(alloc: Global, entry: &Record) -> Result<Seq<u8>, NoMemory>
-    ensures { IfOk result (λ bytes. bytes ≡ body_of entry.now) }
+    ensures spelled { IfOk result (λ bytes. bytes ≡ body_of entry.now) }
+    ensures fits { IfOk result (λ _. Fits entry.now) }
 {
     let mut out = Vec::new(alloc);
     match entry {

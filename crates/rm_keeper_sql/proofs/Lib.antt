@@ -1,2 +1,12 @@
 pub mod Making
 pub mod Rows
+pub mod Reading
+pub mod Upsert
+pub mod Delete
+pub mod Select
+pub mod Telling
+pub mod Applied
+pub mod Loaded
+pub mod Kept
+pub mod Opened
+pub mod Again

@@ -5,10 +5,12 @@ use Rattle.std.proofs.lemmas.List.Elements.{All-push}
 use Rattle.sqlite_value.specs.Order.{Row}
 use Rattle.rm_catalog.specs.declared.record.Record.{Record}
 use Rattle.rm_catalog_bytes.specs.Fits.{Fits}
-use Rattle.rm_keeper_sql.specs.Loads.{columns, row_of, AreRows}
+use Rattle.rm_keeper_sql.specs.Loads.{columns, AreRows}
+use Rattle.rm_keeper_sql.specs.Table.{row_of}
 
 -- one row more, and its record
-pub rows_more : (records : List Record) (r : Record) (rows : List Row) (row : Row) → AreRows records rows → columns row ≡ row_of r → Fits r → AreRows (records ++ r ∷ []) (rows ++ row ∷ [])
+pub rows_more : (records : List Record) (r : Record) (rows : List Row) (row : Row) → AreRows records rows → columns row ≡ row_of r → Fits r
+    → AreRows (records ++ r ∷ []) (rows ++ row ∷ [])
 rows_more records r rows row so_far same fits = record {
   told = map-append columns rows (row ∷ []) ∙ ap₂ (λ (a : List Row) (b : Row). a ++ b ∷ []) so_far.told same ∙ sym (map-append row_of records (r ∷ []));
   fit = All-push Fits records r so_far.fit fits;

@@ -1,10 +1,16 @@
 -- A keeper over a file, or in place of one.
-use Rattle.std.specs.Prelude.{ℕ}
+use Rattle.std.specs.Prelude.{◌≡◌, ℕ, List, IsTrue}
+use Rattle.sqlite.specs.State.{HasCleanDisk}
+use Rattle.sqlite_trees.specs.declared.store.Store.{Ghosts}
+use Rattle.rm_catalog.specs.declared.record.Record.{Record}
+use Rattle.rm_catalog.specs.declared.record.Edit.{Edit}
+use Rattle.rm_keeper_sql.specs.Tables.{IsOurs}
+use Rattle.rm_keeper_sql.specs.Table.{Takes, Reads}
 use Rattle.rm_catalog.specs.declared.keeper.KeeperFail.{KeeperFail}
 use Rattle.rm_keeper_sql.specs.declared.file.Unopened.{Unopened}
 use Rattle.rm_keeper_sql.specs.declared.file.CatalogFile.{CatalogFile}
 use Rattle.rm_keeper_sql.specs.declared.file.CatalogFile.TheVariants.{Opened, NotOpened}
-use Rattle.rm_keeper_sql.specs.SqlKeeper.{faults_of}
+use Rattle.rm_keeper_sql.specs.SqlKeeper.{state_of, faults_of, number_of}
 
 -- why each call of it fails
 abbrev pub cause_of : Unopened → KeeperFail
@@ -18,3 +24,26 @@ faults_without u = u.faults
 abbrev pub faults_in : {S : Type 0} → CatalogFile S → ℕ
 faults_in (Opened k) = faults_of k
 faults_in (NotOpened u) = faults_without u
+
+-- A file that is opened stays so, and where the disk gives back what was written its table stays. One that is
+-- not opened fails for the same cause.
+abbrev pub Stays : {S : Type 0} → Ghosts S → CatalogFile S → CatalogFile S → Type 0
+Stays g (Opened old) (Opened new) = HasCleanDisk (state_of g new) → IsTrue (state_of g new).is_open → (state_of g new).committed ≡ (state_of g old).committed
+Stays g (Opened old) (NotOpened u) = ⊥
+Stays g (NotOpened u) (Opened new) = ⊥
+Stays g (NotOpened u) (NotOpened v) = cause_of v ≡ cause_of u
+
+-- The file is opened and ours, and where the disk gives back what was written: whatever edits its table
+-- holds, these are the records after them.
+abbrev pub ReadsOf : {S : Type 0} → Ghosts S → List Record → CatalogFile S → CatalogFile S → Type 0
+ReadsOf g rs (Opened old) (Opened new) = IsOurs (state_of g old).now.schema × (HasCleanDisk (state_of g new) → Reads (number_of old) rs (state_of g old).committed)
+ReadsOf g rs (Opened old) (NotOpened u) = ⊥
+ReadsOf g rs (NotOpened u) new = ⊥
+
+-- The file is opened and ours, and where the disk gives back what was written: whatever edits its table held,
+-- it holds these too.
+abbrev pub TakesOf : {S : Type 0} → Ghosts S → List Edit → CatalogFile S → CatalogFile S → Type 0
+TakesOf g edits (Opened old) (Opened new) =
+    IsOurs (state_of g old).now.schema × (HasCleanDisk (state_of g new) → Takes (number_of old) edits (state_of g old).committed (state_of g new).committed)
+TakesOf g edits (Opened old) (NotOpened u) = ⊥
+TakesOf g edits (NotOpened u) new = ⊥

@@ -1,3 +1,7 @@
+pub mod Tables
+pub mod Entries
+pub mod Shelves
+pub mod Table
 pub mod Texts
 pub mod Applies
 pub mod Loads

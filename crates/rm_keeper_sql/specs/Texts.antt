@@ -28,7 +28,7 @@ abbrev pub text_of : Edit → List ℕ
 text_of (Put r) = upsert_text
 text_of (Drop k) = delete_text
 
--- what is given to it: number 0, the key, and the bytes of a record
-abbrev pub params_of : Edit → Row
-params_of (Put r) = Int (pos 0) ∷ Int (pos (key_of r).kind) ∷ Int (pos (key_of r).id) ∷ Blob (body_of r) ∷ []
-params_of (Drop k) = Int (pos 0) ∷ Int (pos k.kind) ∷ Int (pos k.id) ∷ []
+-- what is given to it: the number of the database, the key, and the bytes of a record
+abbrev pub params_of : ℕ → Edit → Row
+params_of n (Put r) = Int (pos n) ∷ Int (pos (key_of r).kind) ∷ Int (pos (key_of r).id) ∷ Blob (body_of r) ∷ []
+params_of n (Drop k) = Int (pos n) ∷ Int (pos k.kind) ∷ Int (pos k.id) ∷ []

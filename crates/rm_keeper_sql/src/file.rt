@@ -3,8 +3,8 @@ ghost use Rattle.std.specs.Prelude.{◌≡◌, ◌≤◌};
 ghost use Rattle.rm_base.specs.Outside.{Rose};
 ghost use Rattle.rm_catalog.specs.declared.keeper.KeeperFail.TheVariants.{Failed};
 
+use crate::fault::{Fault, fail_of, words_of};
 use crate::keeper::SqlKeeper;
-use crate::sql::fail_of;
 use rm_base::Seq;
 use rm_catalog::{Edit, Keeper, KeeperFail, Record};
 use sqlite::{Alter, Connection, Error, File, FileFrom, FileStore, Start};
@@ -19,17 +19,22 @@ use std::os::unix::fs::OpenOptionsExt;
 pub struct Unopened {
     cause: KeeperFail,
     faults: u64,
+    words: Option<String>,
 }
 
 impl Unopened {
     ghost use Rattle.rm_keeper_sql.specs.CatalogFile.{cause_of, faults_without};
 
-    /// One whose calls fail for this cause. It has not failed yet.
-    pub fn new(cause: KeeperFail) -> Self
+    /// One whose calls fail for this cause, in these words. It has not failed yet.
+    pub fn new(cause: KeeperFail, words: Option<String>) -> Self
         ensures cause { cause_of result ≡ cause }
         ensures faults { faults_without result ≡ 0 }
     {
-        Unopened { cause, faults: 0 }
+        Unopened {
+            cause,
+            faults: 0,
+            words,
+        }
     }
 
     // Counts a failure, and no want of memory.
@@ -63,6 +68,7 @@ impl Keeper for Unopened {
         ensures same { ◌≡◌ {A = Option (List Record)} None None }
         ensures failed { IsErrOf result Failed → Rose (faults_without self.old) (faults_without self.new) }
         ensures never_falls { faults_without self.old ≤ faults_without self.new }
+        ensures cause { cause_of self.new ≡ cause_of self.old }
 
         // It never loads.
         ensures fails { result ≡ Err (cause_of self.old) }
@@ -75,6 +81,7 @@ impl Keeper for Unopened {
         ensures err { OnErr result (◌≡◌ {A = Option (List Record)} None None) }
         ensures failed { IsErrOf result Failed → Rose (faults_without self.old) (faults_without self.new) }
         ensures never_falls { faults_without self.old ≤ faults_without self.new }
+        ensures cause { cause_of self.new ≡ cause_of self.old }
 
         // It never applies.
         ensures fails { result ≡ Err (cause_of self.old) }
@@ -94,7 +101,7 @@ pub enum CatalogFile<S: Alter> {
 
 // Makes the file where it is missing, empty and for its owner alone. What is put beside it later has the
 // same rights.
-fn make(rt: &HostRuntime, path: &str) -> Result<(), KeeperFail> {
+fn make(rt: &HostRuntime, path: &str) -> Result<(), Fault> {
     let made = OpenOptions::new()
         .write(true)
         .create_new(true)
@@ -102,11 +109,8 @@ fn make(rt: &HostRuntime, path: &str) -> Result<(), KeeperFail> {
         .open(rt, path);
     match made {
         Ok(_) => Ok(()),
-        Err(error) => match error.kind() {
-            ErrorKind::AlreadyExists => Ok(()),
-            ErrorKind::OutOfMemory => Err(KeeperFail::NoMemory),
-            _ => Err(KeeperFail::Failed),
-        },
+        Err(error) if error.kind() == ErrorKind::AlreadyExists => Ok(()),
+        Err(error) => Err(Fault::System(error)),
     }
 }
 
@@ -120,7 +124,7 @@ impl CatalogFile<FileStore<File>> {
     {
         match make(rt, path) {
             Ok(()) => CatalogFile::over(rt.alloc(), Connection::open(rt, path)),
-            Err(cause) => CatalogFile::NotOpened(Unopened::new(cause)),
+            Err(fault) => CatalogFile::not(rt.alloc(), fault),
         }
     }
 }
@@ -132,7 +136,7 @@ impl<S: Start> CatalogFile<FileStore<FileFrom<S>>> {
         match self {
             CatalogFile::Opened(keeper) => match keeper.close().close() {
                 Ok(()) => Ok(()),
-                Err(error) => Err(fail_of(error)),
+                Err(error) => Err(fail_of(Fault::Sqlite(error))),
             },
             CatalogFile::NotOpened(_) => Ok(()),
         }
@@ -142,13 +146,20 @@ impl<S: Start> CatalogFile<FileStore<FileFrom<S>>> {
 impl<S: Alter> CatalogFile<S> {
     ghost use Rattle.rm_keeper_sql.specs.CatalogFile.{faults_in};
 
+    // In place of one that could not be opened.
+    fn not(alloc: Global, fault: Fault) -> Self
+        ensures { faults_in result ≡ 0 }
+    {
+        CatalogFile::NotOpened(Unopened::new(fail_of(fault), words_of(alloc, fault)))
+    }
+
     // Over a connection, or in place of one that could not be opened.
     fn over(alloc: Global, opened: Result<Connection<S>, Error>) -> Self
         ensures { faults_in result ≡ 0 }
     {
         match opened {
             Ok(connection) => CatalogFile::Opened(SqlKeeper::open(alloc, connection)),
-            Err(error) => CatalogFile::NotOpened(Unopened::new(fail_of(error))),
+            Err(error) => CatalogFile::not(alloc, Fault::Sqlite(error)),
         }
     }
 
@@ -161,24 +172,55 @@ impl<S: Alter> CatalogFile<S> {
             CatalogFile::NotOpened(unopened) => unopened.faults,
         }
     }
+
+    /// Why it failed last, in words of sqlite or of the system. None where it has not failed, or where memory
+    /// was wanting for the words.
+    pub fn last_fault(&self) -> Option<&str> {
+        match self {
+            CatalogFile::Opened(keeper) => keeper.last_fault(),
+            CatalogFile::NotOpened(unopened) => unopened.words.as_deref(),
+        }
+    }
 }
 
 impl<S: Alter> Keeper for CatalogFile<S> {
-    ghost use Rattle.std.specs.Prelude.{None};
-    ghost use Rattle.rm_keeper_sql.specs.CatalogFile.{faults_in};
+    ghost use Rattle.std.specs.Prelude.{List, Option, None, IfOk, OnOk, OnErr, IsErrOf};
+    ghost use Rattle.std.specs.Option.{option_map};
+    ghost use Rattle.rm_catalog.specs.Edits.{after_edits};
+    ghost use Rattle.rm_catalog.specs.Faults.{Answers};
+    ghost use Rattle.rm_catalog.specs.declared.record.Record.{Record};
+    ghost use Rattle.rm_keeper_sql.specs.CatalogFile.{faults_in, Stays, ReadsOf, TakesOf};
 
     ghost kept = { λ _. None };
 
     ghost faults = { λ c. faults_in c };
 
-    fn load(&mut self) -> Result<Seq<Record>, KeeperFail> {
+    fn load(&mut self) -> Result<Seq<Record>, KeeperFail>
+        ensures records { IfOk result (λ rs. Answers None rs) }
+        ensures same { ◌≡◌ {A = Option (List Record)} None None }
+        ensures failed { IsErrOf result Failed → Rose (faults_in self.old) (faults_in self.new) }
+        ensures never_falls { faults_in self.old ≤ faults_in self.new }
+
+        // What a file that is opened loads. Whatever comes of it, its table stays.
+        ensures reads { IfOk result (λ rs. ReadsOf S.Store rs self.old self.new) }
+        ensures stays { Stays S.Store self.old self.new }
+    {
         match self {
             CatalogFile::Opened(keeper) => keeper.load(),
             CatalogFile::NotOpened(unopened) => unopened.load(),
         }
     }
 
-    fn apply(&mut self, edits: &[Edit]) -> Result<(), KeeperFail> {
+    fn apply(&mut self, edits: &[Edit]) -> Result<(), KeeperFail>
+        ensures ok { OnOk result (None ≡ option_map (after_edits edits.now) None) }
+        ensures err { OnErr result (◌≡◌ {A = Option (List Record)} None None) }
+        ensures failed { IsErrOf result Failed → Rose (faults_in self.old) (faults_in self.new) }
+        ensures never_falls { faults_in self.old ≤ faults_in self.new }
+
+        // A file that is opened takes the edits, or its table stays.
+        ensures takes { OnOk result (TakesOf S.Store edits.now self.old self.new) }
+        ensures none { OnErr result (Stays S.Store self.old self.new) }
+    {
         match self {
             CatalogFile::Opened(keeper) => keeper.apply(edits),
             CatalogFile::NotOpened(unopened) => unopened.apply(edits),

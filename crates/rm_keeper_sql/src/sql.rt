@@ -1,22 +1,26 @@
 //! The four texts, and what is asked of a connection.
-ghost use Rattle.std.specs.Prelude.{◌≡◌, [], ◌∷◌, pos, map, All, IsTrue, IfOk, OnOk, OnErr};
+ghost use Rattle.std.specs.Prelude.{◌≡◌, ◌<◌, ◌^◌, ◌↔◌, [], ◌∷◌, pos, false, IsTrue, IfOk, OnOk, OnErr};
 ghost use Rattle.sqlite_value.specs.declared.value.Value.TheVariants.{Int, Blob};
 ghost use Rattle.sqlite.specs.State.{HasCleanDisk, Shown};
 ghost use Rattle.sqlite.specs.Held.{state};
 ghost use Rattle.rm_catalog.specs.Keys.{key_of};
 ghost use Rattle.rm_catalog_bytes.specs.Spelling.{body_of};
 ghost use Rattle.rm_catalog_bytes.specs.Fits.{Fits};
-ghost use Rattle.rm_keeper_sql.specs.Texts.{create_text, select_text, upsert_text, delete_text, text_of, params_of};
-ghost use Rattle.rm_keeper_sql.specs.Applies.{Ran, MakesAll, Begins, Applies, Keeps, Goes};
-ghost use Rattle.rm_keeper_sql.specs.Loads.{columns, row_of, AreRows, Selects, Loads};
+ghost use Rattle.rm_keeper_sql.specs.Texts.{create_text, select_text, upsert_text, delete_text};
+ghost use Rattle.rm_keeper_sql.specs.Tables.{IsOurs};
+ghost use Rattle.rm_keeper_sql.specs.Table.{row_of, Takes, Reads};
+ghost use Rattle.rm_keeper_sql.specs.Applies.{Ran, Makes, MakesAll, Readies, Keeps, Goes};
+ghost use Rattle.rm_keeper_sql.specs.Loads.{columns, AreRows, Selects};
 
+use crate::fault::Fault;
+use crate::ours::is_new;
 use rm_base::{FormatFault, Seq};
-use rm_catalog::{Edit, KeeperFail, Key, Record};
+use rm_catalog::{Edit, Key, Record};
 use rm_catalog_bytes::{decode_record, encode_record};
 use sqlite::{Alter, Connection, Error, ErrorCode, Row, Transaction, params};
 use std::alloc::Global;
 
-// Makes the table where it is missing.
+// Makes the table.
 const CREATE: &str =
     "CREATE TABLE IF NOT EXISTS record (number INTEGER NOT NULL, kind INTEGER NOT NULL, id INTEGER NOT NULL, body BLOB NOT NULL, PRIMARY KEY (number, kind, id)) STRICT";
 
@@ -30,58 +34,65 @@ const DELETE: &str = "DELETE FROM record WHERE number = ?1 AND kind = ?2 AND id 
 // The rows of one number.
 const SELECT: &str = "SELECT kind, id, body FROM record WHERE number = ?1 ORDER BY kind, id";
 
-// The number under which the records stand.
-const NUMBER: u32 = 0;
+// What any file answers.
+const PROBE: &str = "SELECT 1";
 
-/// Want of memory is no failure.
-pub(crate) fn fail_of(error: Error) -> KeeperFail {
-    match error {
-        Error::SqliteFailure(ErrorCode::OutOfMemory) => KeeperFail::NoMemory,
-        _ => KeeperFail::Failed,
-    }
-}
+// A transaction of its owner's is open.
+const BUSY: Fault = Fault::Sqlite(Error::SqliteFailure(ErrorCode::TransactionState));
 
-fn create<S: Alter>(tx: &mut Transaction<'_, S>) -> Result<(), KeeperFail>
+fn create<S: Alter>(tx: &mut Transaction<'_, S>) -> Result<(), Fault>
     ensures same_reference { tx.new.conn.ghost_name ≡ tx.old.conn.ghost_name }
     ensures keeps { Keeps S.Store tx.old.conn.now tx.new.conn.now }
     ensures ran { OnOk result (Goes S.Store (Ran S.Store create_text [] tx.old.conn.now tx.new.conn.now) tx.old.conn.now tx.new.conn.now) }
 {
     match tx.execute(CREATE, &[]) {
         Ok(_) => Ok(()),
-        Err(error) => Err(fail_of(error)),
+        Err(error) => Err(Fault::Sqlite(error)),
     }
 }
 
-fn upsert<S: Alter>(tx: &mut Transaction<'_, S>, key: Key, body: &[u8]) -> Result<(), KeeperFail>
+fn upsert<S: Alter>(
+    tx: &mut Transaction<'_, S>,
+    number: u32,
+    key: Key,
+    body: &[u8],
+) -> Result<(), Fault>
     ensures same_reference { tx.new.conn.ghost_name ≡ tx.old.conn.ghost_name }
     ensures keeps { Keeps S.Store tx.old.conn.now tx.new.conn.now }
-    ensures ran { OnOk result (Goes S.Store (Ran S.Store upsert_text (Int (pos 0) ∷ Int (pos key.kind) ∷ Int (pos key.id) ∷ Blob body.now ∷ []) tx.old.conn.now tx.new.conn.now) tx.old.conn.now tx.new.conn.now) }
+    ensures ran { OnOk result
+        (Goes S.Store (Ran S.Store upsert_text (Int (pos number) ∷ Int (pos key.kind) ∷ Int (pos key.id) ∷ Blob body.now ∷ []) tx.old.conn.now tx.new.conn.now)
+        tx.old.conn.now tx.new.conn.now) }
+    ensures typed { key.id < 2 ^ 32 }
 {
-    match tx.execute(UPSERT, params![NUMBER, u32::from(key.kind), key.id, body]) {
+    match tx.execute(UPSERT, params![number, u32::from(key.kind), key.id, body]) {
         Ok(_) => Ok(()),
-        Err(error) => Err(fail_of(error)),
+        Err(error) => Err(Fault::Sqlite(error)),
     }
 }
 
-fn delete<S: Alter>(tx: &mut Transaction<'_, S>, key: Key) -> Result<(), KeeperFail>
+fn delete<S: Alter>(tx: &mut Transaction<'_, S>, number: u32, key: Key) -> Result<(), Fault>
     ensures same_reference { tx.new.conn.ghost_name ≡ tx.old.conn.ghost_name }
     ensures keeps { Keeps S.Store tx.old.conn.now tx.new.conn.now }
-    ensures ran { OnOk result (Goes S.Store (Ran S.Store delete_text (Int (pos 0) ∷ Int (pos key.kind) ∷ Int (pos key.id) ∷ []) tx.old.conn.now tx.new.conn.now) tx.old.conn.now tx.new.conn.now) }
+    ensures ran { OnOk result
+        (Goes S.Store (Ran S.Store delete_text (Int (pos number) ∷ Int (pos key.kind) ∷ Int (pos key.id) ∷ []) tx.old.conn.now tx.new.conn.now)
+        tx.old.conn.now tx.new.conn.now) }
+    ensures typed { key.id < 2 ^ 32 }
 {
-    match tx.execute(DELETE, params![NUMBER, u32::from(key.kind), key.id]) {
+    match tx.execute(DELETE, params![number, u32::from(key.kind), key.id]) {
         Ok(_) => Ok(()),
-        Err(error) => Err(fail_of(error)),
+        Err(error) => Err(Fault::Sqlite(error)),
     }
 }
 
-fn select<S: Alter>(tx: &mut Transaction<'_, S>) -> Result<Vec<Row>, KeeperFail>
+fn select<S: Alter>(tx: &mut Transaction<'_, S>, number: u32) -> Result<Vec<Row>, Fault>
     ensures same_reference { tx.new.conn.ghost_name ≡ tx.old.conn.ghost_name }
-    ensures clean { HasCleanDisk (state S.Store tx.new.conn.now) → HasCleanDisk (state S.Store tx.old.conn.now) }
-    ensures shown { HasCleanDisk (state S.Store tx.new.conn.now) → IfOk result (λ rows. Shown select_text (Int (pos 0) ∷ []) (state S.Store tx.old.conn.now) (state S.Store tx.new.conn.now) rows.items) }
+    ensures keeps { Keeps S.Store tx.old.conn.now tx.new.conn.now }
+    ensures shown { HasCleanDisk (state S.Store tx.new.conn.now)
+        → IfOk result (λ rows. Shown select_text (Int (pos number) ∷ []) (state S.Store tx.old.conn.now) (state S.Store tx.new.conn.now) rows.items) }
 {
-    match tx.query_all(SELECT, params![NUMBER]) {
+    match tx.query_all(SELECT, params![number]) {
         Ok(rows) => Ok(rows),
-        Err(error) => Err(fail_of(error)),
+        Err(error) => Err(Fault::Sqlite(error)),
     }
 }
 
@@ -92,34 +103,34 @@ fn fields_of(row: &Row) -> Result<(u32, u32, Vec<u8>), Error>
 }
 
 // The record of a kind, an id and bytes.
-fn spelled(alloc: Global, kind: u32, id: u32, body: &[u8]) -> Result<Record, KeeperFail>
+fn spelled(alloc: Global, kind: u32, id: u32, body: &[u8]) -> Result<Record, Fault>
     ensures kind { IfOk result (λ r. (key_of r).kind ≡ kind) }
     ensures id { IfOk result (λ r. (key_of r).id ≡ id) }
     ensures body { IfOk result (λ r. body_of r ≡ body.now) }
     ensures fits { IfOk result Fits }
 {
     let Ok(kind) = u8::try_from(kind) else {
-        return Err(KeeperFail::Failed);
+        return Err(Fault::NoRecord);
     };
     match decode_record(alloc, Key { kind, id }, body) {
         Ok(found) => Ok(found),
-        Err(FormatFault::Bad) => Err(KeeperFail::Failed),
-        Err(FormatFault::NoMemory) => Err(KeeperFail::NoMemory),
+        Err(FormatFault::Bad) => Err(Fault::NoRecord),
+        Err(FormatFault::NoMemory) => Err(Fault::NoMemory),
     }
 }
 
 // The record of a row.
-fn record_of(alloc: Global, row: &Row) -> Result<Record, KeeperFail>
+fn record_of(alloc: Global, row: &Row) -> Result<Record, Fault>
     ensures row { IfOk result (λ r. columns row.now ≡ row_of r) }
     ensures fits { IfOk result Fits }
 {
     match fields_of(row) {
         Ok((kind, id, body)) => spelled(alloc, kind, id, &body),
-        Err(error) => Err(fail_of(error)),
+        Err(error) => Err(Fault::Sqlite(error)),
     }
 }
 
-fn records_of(alloc: Global, rows: &[Row]) -> Result<Seq<Record>, KeeperFail>
+fn records_of(alloc: Global, rows: &[Row]) -> Result<Seq<Record>, Fault>
     ensures { IfOk result (λ rs. AreRows rs rows.now) }
 {
     let mut records = Seq::new(alloc);
@@ -129,81 +140,126 @@ fn records_of(alloc: Global, rows: &[Row]) -> Result<Seq<Record>, KeeperFail>
     Ok(records)
 }
 
-fn make<S: Alter>(tx: &mut Transaction<'_, S>, alloc: Global, edit: &Edit) -> Result<(), KeeperFail>
+fn make<S: Alter>(
+    tx: &mut Transaction<'_, S>,
+    alloc: Global,
+    number: u32,
+    edit: &Edit,
+) -> Result<(), Fault>
     ensures same_reference { tx.new.conn.ghost_name ≡ tx.old.conn.ghost_name }
     ensures keeps { Keeps S.Store tx.old.conn.now tx.new.conn.now }
-    ensures ran { OnOk result (Goes S.Store (Ran S.Store (text_of edit.now) (params_of edit.now) tx.old.conn.now tx.new.conn.now) tx.old.conn.now tx.new.conn.now) }
+    ensures made { OnOk result (Goes S.Store (Makes S.Store number edit.now tx.old.conn.now tx.new.conn.now) tx.old.conn.now tx.new.conn.now) }
 {
     match edit {
         Edit::Put(row) => {
             let body = encode_record(alloc, row)?;
-            upsert(tx, row.key(), body.as_slice())
+            upsert(tx, number, row.key(), body.as_slice())
         }
-        Edit::Drop(key) => delete(tx, *key),
+        Edit::Drop(key) => delete(tx, number, *key),
     }
 }
 
 fn make_all<S: Alter>(
     tx: &mut Transaction<'_, S>,
     alloc: Global,
+    number: u32,
     edits: &[Edit],
-) -> Result<(), KeeperFail>
+) -> Result<(), Fault>
     ensures same_reference { tx.new.conn.ghost_name ≡ tx.old.conn.ghost_name }
     ensures keeps { Keeps S.Store tx.old.conn.now tx.new.conn.now }
-    ensures ran { OnOk result (Goes S.Store (MakesAll S.Store edits.now tx.old.conn.now tx.new.conn.now) tx.old.conn.now tx.new.conn.now) }
+    ensures made { OnOk result (Goes S.Store (MakesAll S.Store number edits.now tx.old.conn.now tx.new.conn.now) tx.old.conn.now tx.new.conn.now) }
 {
     for edit in edits {
-        make(tx, alloc, edit)?;
+        make(tx, alloc, number, edit)?;
     }
     Ok(())
 }
 
-/// Makes the edits in one transaction, and the table before them where it is missing. A call that fails
-/// leaves the database as it was.
+// Makes the table in a file that is new.
+fn ready<S: Alter>(tx: &mut Transaction<'_, S>, is_new: bool) -> Result<(), Fault>
+    ensures same_reference { tx.new.conn.ghost_name ≡ tx.old.conn.ghost_name }
+    ensures keeps { Keeps S.Store tx.old.conn.now tx.new.conn.now }
+    ensures ran { OnOk result (Goes S.Store (Readies S.Store is_new tx.old.conn.now tx.new.conn.now) tx.old.conn.now tx.new.conn.now) }
+{
+    if is_new { create(tx) } else { Ok(()) }
+}
+
+/// Makes the edits of one number in one transaction, and the table before them in a file that is new. A call
+/// that fails leaves the database as it was.
 pub(crate) fn apply_to<S: Alter>(
     conn: &mut Connection<S>,
     alloc: Global,
+    number: u32,
     edits: &[Edit],
-) -> Result<(), KeeperFail>
-    ensures done { HasCleanDisk (state S.Store conn.new) → OnOk result (Applies S.Store edits.now conn.old (state S.Store conn.new).committed) }
+) -> Result<(), Fault>
+    ensures ours { OnOk result (IsOurs (state S.Store conn.old).now.schema) }
+    ensures takes { HasCleanDisk (state S.Store conn.new)
+        → OnOk result (Takes number edits.now (state S.Store conn.old).committed (state S.Store conn.new).committed) }
     ensures none { HasCleanDisk (state S.Store conn.new) → IsTrue (state S.Store conn.new).is_open
-        → OnErr result (((state S.Store conn.new).now ≡ (state S.Store conn.old).now) × ((state S.Store conn.new).committed ≡ (state S.Store conn.old).committed)) }
+        → OnErr result ((state S.Store conn.new).committed ≡ (state S.Store conn.old).committed) }
+    ensures shuts { HasCleanDisk (state S.Store conn.new) → IsTrue (state S.Store conn.new).is_open → IsTrue (state S.Store conn.old).is_open }
 {
     if !conn.is_autocommit() {
-        return Err(KeeperFail::Failed);
+        return Err(BUSY);
     }
+    let fresh = is_new(conn)?;
     let mut tx = conn.transaction();
-    create(&mut tx)?;
-    make_all(&mut tx, alloc, edits)?;
+    ready(&mut tx, fresh)?;
+    make_all(&mut tx, alloc, number, edits)?;
     match tx.commit() {
         Ok(()) => Ok(()),
-        Err(cause) => Err(fail_of(cause)),
+        Err(cause) => Err(Fault::Sqlite(cause)),
     }
 }
 
-// The rows of the table, which one transaction makes where it is missing.
-fn rows_in<S: Alter>(conn: &mut Connection<S>) -> Result<Vec<Row>, KeeperFail>
-    ensures { HasCleanDisk (state S.Store conn.new) → IfOk result (λ rows. Selects S.Store rows.items conn.old (state S.Store conn.new).committed) }
+// Fails where the connection is shut.
+fn probe<S: Alter>(conn: &mut Connection<S>) -> Result<(), Fault>
+    ensures open { HasCleanDisk (state S.Store conn.new) → OnOk result (IsTrue (state S.Store conn.old).is_open) }
+    ensures kept { HasCleanDisk (state S.Store conn.new) → IsTrue (state S.Store conn.new).is_open
+        → (state S.Store conn.new).committed ≡ (state S.Store conn.old).committed }
+    ensures shuts { HasCleanDisk (state S.Store conn.new) → IsTrue (state S.Store conn.new).is_open → IsTrue (state S.Store conn.old).is_open }
 {
-    if !conn.is_autocommit() {
-        return Err(KeeperFail::Failed);
-    }
-    let mut tx = conn.transaction();
-    create(&mut tx)?;
-    let rows = select(&mut tx)?;
-    match tx.commit() {
-        Ok(()) => Ok(rows),
-        Err(fault) => Err(fail_of(fault)),
+    match conn.prepare(PROBE) {
+        Ok(_) => Ok(()),
+        Err(error) => Err(Fault::Sqlite(error)),
     }
 }
 
-/// The records of the table's rows, read in one transaction, which makes the table where it is missing.
+// The rows of a number. The transaction is rolled back.
+fn rows_in<S: Alter>(conn: &mut Connection<S>, number: u32) -> Result<Vec<Row>, Fault>
+    requires { (state S.Store conn.old).in_transaction ≡ false }
+    ensures rows { HasCleanDisk (state S.Store conn.new) → IfOk result (λ rows. Selects S.Store number rows.items conn.old) }
+    ensures kept { HasCleanDisk (state S.Store conn.new) → IsTrue (state S.Store conn.new).is_open
+        → (state S.Store conn.new).committed ≡ (state S.Store conn.old).committed }
+    ensures shuts { HasCleanDisk (state S.Store conn.new) → IsTrue (state S.Store conn.new).is_open → IsTrue (state S.Store conn.old).is_open }
+{
+    let mut tx = conn.transaction();
+    let rows = select(&mut tx, number)?;
+    tx.rollback();
+    Ok(rows)
+}
+
+/// The records of the rows of one number. Nothing is written, and a file that is new has none.
 pub(crate) fn load_from<S: Alter>(
     conn: &mut Connection<S>,
     alloc: Global,
-) -> Result<Seq<Record>, KeeperFail>
-    ensures { HasCleanDisk (state S.Store conn.new) → IfOk result (λ rs. Loads S.Store rs conn.old (state S.Store conn.new).committed) }
+    number: u32,
+) -> Result<Seq<Record>, Fault>
+    ensures ours { IfOk result (λ _. IsOurs (state S.Store conn.old).now.schema) }
+    ensures reads { HasCleanDisk (state S.Store conn.new)
+        → IfOk result (λ rs. IsTrue (state S.Store conn.old).is_open × Reads number rs (state S.Store conn.old).committed) }
+    ensures kept { HasCleanDisk (state S.Store conn.new) → IsTrue (state S.Store conn.new).is_open
+        → (state S.Store conn.new).committed ≡ (state S.Store conn.old).committed }
+    ensures shuts { HasCleanDisk (state S.Store conn.new) → IsTrue (state S.Store conn.new).is_open → IsTrue (state S.Store conn.old).is_open }
 {
-    let rows = rows_in(conn)?;
+    if !conn.is_autocommit() {
+        return Err(BUSY);
+    }
+    let fresh = is_new(conn)?;
+    if fresh {
+        probe(conn)?;
+        return Ok(Seq::new(alloc));
+    }
+    let rows = rows_in(conn, number)?;
     records_of(alloc, &rows)
 }

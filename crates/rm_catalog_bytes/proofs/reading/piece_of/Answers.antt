@@ -1,4 +1,5 @@
-use Rattle.std.proofs.Common.{◌≡◌, ◌∙◌, ◌++◌, ◌<◌, ◌^◌, All, List, ℕ, length, take, drop, ap, ap₂, sym, subst, arith}
+use Rattle.std.proofs.Common.{◌≡◌, ◌∙◌, ◌++◌, ◌<◌, ◌^◌, List, ℕ, length, take, drop, ap, ap₂, sym, subst, arith, rules}
+use Rattle.std.specs.Prelude.{IsUtf8}
 use Rattle.std.proofs.lemmas.List.{take-append-drop}
 use Rattle.rm_base.specs.Number.{eight}
 use Rattle.rm_catalog_bytes.specs.Fits.{PieceFits}
@@ -23,28 +24,26 @@ returns-then-len-count-clause-only c r fits id is =
     let other = c.if-len-count.true in
     absurd (omega (arith, long, few, other))
 
-pub returns-then-not-is_ascii-clause-only : goal.returns-then-not-is_ascii-clause-only
-returns-then-not-is_ascii-clause-only c r fits id is =
+pub returns-in_err-tag-clause-only : goal.returns-in_err-tag-clause-only
+returns-in_err-tag-clause-only c r fits id is =
     let tail = tail_told c.in-Some.head r c.in-Some.count _ c.in-Some.rest.now c.in-Some.ensures.fits c.in-Some.ensures.count fits c.in-Some.ensures.parts is in
     let parts = parted _ c.in-Some.rest.now c.split_at.result.0.now c.split_at.result.1.now c.split_at.ensures.front c.split_at.ensures.back in
     let same : c.split_at.result.0.now ≡ r.tag = letters_told r c.in-Some.count c.in-Some.rest.now _ _ tail.0 tail.1 parts (omega (arith, c.split_at.ensures.front_len)) in
-    let letters : All (λ b. b < 128) c.split_at.result.0.now = subst (λ (z : List ℕ). All (λ b. b < 128) z) (sym same) fits.letters in
-    let y = c.is_ascii.ensures.1 letters in
-    let n = c.if-not-is_ascii.true in
-    absurd (cc (y, n))
+    let utf8 : IsUtf8 c.split_at.result.0.now = subst IsUtf8 (sym same) fits.letters in
+    search rules
 
 pub returns-clause-found : goal.returns-clause-found
 returns-clause-found c =
     let parts = parted _ c.in-Some.rest.now c.split_at.result.0.now c.split_at.result.1.now c.split_at.ensures.front c.split_at.ensures.back in
     let last : c.split_at.result.1.now ≡ eight c.take_u64-moment.result.0 = whole 8 c.split_at.result.1.now (eight c.take_u64-moment.result.0) _ c.take_u64-moment.ensures.parts (omega arith) c.take_u64-moment.ensures.len in
-    made_of c.in-Some.head c.in-Some.count c.args.bytes.now c.in-Some.rest.now c.split_at.result.0.now c.split_at.result.1.now c.in-Ok.tag c.take_u64-moment.result.0 c.in-Some.ensures.parts parts last (omega (arith, c.split_at.ensures.front_len)) c.in-Ok.ensures
+    made_of c.in-Some.head c.in-Some.count c.args.bytes.now c.in-Some.rest.now c.split_at.result.0.now c.split_at.result.1.now c.in_ok-tag.tag c.take_u64-moment.result.0 c.in-Some.ensures.parts parts last (omega (arith, c.split_at.ensures.front_len)) c.in_ok-tag.ensures.text
 
 pub returns-clause-only : goal.returns-clause-only
 returns-clause-only c r fits id is =
-    let made = with_tag c.in-Some.head c.in-Ok.tag c.take_u64-moment.result.0 in
+    let made = with_tag c.in-Some.head c.in_ok-tag.tag c.take_u64-moment.result.0 in
     let found : c.args.bytes.now ≡ piece_bytes made = returns-clause-found c in
-    let few : length c.in-Ok.tag < 2 ^ 64 = let t = ap (λ (z : List ℕ). length z) c.in-Ok.ensures in let few = c.in-Some.ensures.count in omega (arith, t, few, c.split_at.ensures.front_len) in
-    let letters : All (λ b. b < 128) c.in-Ok.tag = subst (λ (z : List ℕ). All (λ b. b < 128) z) (sym c.in-Ok.ensures) (c.is_ascii.ensures.0 c.if-not-is_ascii.false) in
+    let few : length c.in_ok-tag.tag < 2 ^ 64 = let t = ap (λ (z : List ℕ). length z) c.in_ok-tag.ensures.text in let few = c.in-Some.ensures.count in omega (arith, t, few, c.split_at.ensures.front_len) in
+    let letters : IsUtf8 c.in_ok-tag.tag = subst IsUtf8 (sym c.in_ok-tag.ensures.text) c.in_ok-tag.ensures.letters in
     let last : c.take_u64-moment.result.0 < 2 ^ 64 = omega arith in
-    let good : PieceFits made = record { head = made_fits c.in-Some.head c.in-Ok.tag c.take_u64-moment.result.0 c.in-Some.ensures.fits; tag = few; letters = letters; moment = last } in
+    let good : PieceFits made = record { head = made_fits c.in-Some.head c.in_ok-tag.tag c.take_u64-moment.result.0 c.in-Some.ensures.fits; tag = few; letters = letters; moment = last } in
     piece_same made r good fits (c.in-Some.ensures.id ∙ sym id) (sym found ∙ is)
