@@ -20,7 +20,7 @@ impl Gate for Wide {
     fn at(&self, _point: Point) {}
 }
 
-/// Tells whether 1, 2 and 4 channels copy what a plain loop copies, and for `large` how long they take.
+/// Tells whether 1, 2, 4 and 16 channels copy what a plain loop copies, and for `large` how long they take.
 pub fn run<R: Threads + Wait + Clock + Print + Sync>(
     rt: &R,
     alloc: Global,
@@ -29,7 +29,7 @@ pub fn run<R: Threads + Wait + Clock + Print + Sync>(
     let blocks = if large { 65_536 } else { 100 };
     let plain = by_plain_loop(rt, alloc, blocks)?;
     let mut same = true;
-    for channels in [1u32, 2, 4] {
+    for channels in [1u32, 2, 4, 16] {
         let Shortest { made, micros } = by_channels(rt, alloc, blocks, channels)?;
         same = same && made == plain.made;
         if large {
@@ -59,7 +59,7 @@ fn by_channels<R: Threads + Wait + Clock + Sync>(
     channels: u32,
 ) -> io::Result<Shortest<Vec<Row>>>
     requires blocks { (1 ≤ blocks) × (blocks ≤ 65536) }
-    requires channels { (1 ≤ channels) × (channels ≤ 4) }
+    requires channels { (1 ≤ channels) × (channels ≤ 16) }
 {
     let Ok((live, pass)) = open(alloc, blocks) else {
         return Err(AllocError.into());

@@ -62,15 +62,15 @@ fn tell_turns<R: Print>(
     )
 }
 
-/// A live database of datafile 1, of so many blocks, for four passes, and the first of them.
+/// A live database of datafile 1, of so many blocks, for 16 passes, and the first of them.
 pub fn open(alloc: Global, blocks: u32) -> Result<(Live, Pass), NoMemory>
     requires { (1 ≤ blocks) × (blocks ≤ 65536) }
     ensures home { IfOk result (λ r. r.1.home ≡ r.0) }
-    ensures numbers { IfOk result (λ r. r.1.numbers ≡ upto 0 4) }
+    ensures numbers { IfOk result (λ r. r.1.numbers ≡ upto 0 16) }
     ensures files { IfOk result (λ r. r.1.opening.files ≡ created 1 1 1 blocks ∷ []) }
 {
     let database = database(alloc, blocks)?;
-    Live::open(alloc, database, 4)
+    Live::open(alloc, database, 16)
 }
 
 // Datafile 1 of so many blocks, which was created at 1, and one redo thread.
@@ -140,7 +140,7 @@ fn two_passes<R: Threads + Wait + Sync>(rt: &R, live: &Live, mut pass: Pass, cou
 
 fn four_passes<R: Threads + Wait + Sync>(rt: &R, live: &Live, mut pass: Pass, count: u32) -> u32
     requires home { pass.home ≡ live.now }
-    requires numbers { pass.numbers ≡ upto 0 4 }
+    requires numbers { pass.numbers ≡ upto 0 16 }
 {
     let other = live.split(&mut pass);
     let (one, two) = join(

@@ -1,7 +1,7 @@
 //! Runs each kernel beside a plain loop, makes and reads the bytes of a piece and of a log, plans made datafiles, takes
 //! turns at a live database beside a plain lock, and copies it by channels beside a plain loop: with no word it tells
-//! whether both gave the same, and with the word `large` it tells the times. What the whole program takes is timed from
-//! outside, by the scripts under bench.
+//! whether both gave the same, and with the word `large` it tells the times; with the word `copies` it tells those of the
+//! copies alone. What the whole program takes is timed from outside, by the scripts under bench.
 #![tactic(auto)]
 
 mod copies;
@@ -24,8 +24,13 @@ use std::{env, io};
 
 fn main(rt: HostRuntime) -> io::Result<()> {
     let mut large = false;
+    let mut copies = false;
     for word in env::args(&rt)?.skip(1) {
         large = word.as_str() == "large";
+        copies = word.as_str() == "copies";
+    }
+    if copies {
+        return copies::run(&rt, rt.alloc(), true);
     }
     run::<OrInto>(&rt, "or_into", large)?;
     run::<CountOnes>(&rt, "count_ones", large)?;
