@@ -51,11 +51,15 @@ module _ (held : Option Held) (kept : Option (List Record)) (o : Option State) (
           is = handed.comes objects tells;
           objects_are = w.0.objects;
           holds = w.2.store;
-          gives = (said_is, refl, record {
-            put = w.1.put;
-            puts = subst (λ y. HasPuts y objects w.1.put) (handed.puts ∙ sym (same-puts o handed.effect)) w.1.puts;
-            removes = subst (λ y. HasRemoves y w.1.put w.0.objects) handed.removes w.1.removes;
-          });
+          gives = (
+            said_is,
+            refl,
+            record {
+              put = w.1.put;
+              puts = subst (λ y. HasPuts y objects w.1.put) (handed.puts ∙ sym (same-puts o handed.effect)) w.1.puts;
+              removes = subst (λ y. HasRemoves y w.1.put w.0.objects) handed.removes w.1.removes;
+            },
+          );
         },
         λ is. w.2.keeper ∙ ap Some (w.1.records ∙ ap (after_edits x.edits) is ∙ handed.edits),
       )
