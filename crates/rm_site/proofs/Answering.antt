@@ -133,19 +133,22 @@ module _ {s : State} {moment : ℕ} {r : TypedCatalog} {earlier : ℕ} {saved : 
     pub quiet-told : (lines : List Line) → a ≡ Told lines → t ≡ b
     quiet-told lines is = (subst (λ (x : Answer). ComesTo held b c x t) is comes).0
 
+    -- what it comes to then, on the state at its moment
+    pub comes-refused : (q : Refusal) → a ≡ Refused q → (objects : Held) → held ≡ Some objects → IsOutcome (at_moment s moment) objects c (refused q)
+    comes-refused q is objects tells = subst (λ (x : State). IsOutcome x objects c (refused q)) at-moment ((subst (λ (x : Answer). ComesTo held b c x t) is comes).1 objects tells)
+
+    pub comes-told : (lines : List Line) → a ≡ Told lines → (objects : Held) → held ≡ Some objects → IsOutcome (at_moment s moment) objects c (told lines)
+    comes-told lines is objects tells = subst (λ (x : State). IsOutcome x objects c (told lines)) at-moment ((subst (λ (x : Answer). ComesTo held b c x t) is comes).1 objects tells)
+
     pub refused-in : (kept : Option (List Record)) (q : Refusal) (u : TypedCatalog) (reply : Reply) (held' : Option Held) → a ≡ Refused q → u ≡ with_earlier t.catalog earlier saved → held' ≡ held → reply ≡ refused_by q
         → IsStepAt held kept (Some s) c moment reply held' kept (Some (record t { catalog = u }))
     refused-in kept q u reply held' is back stays said_is =
-        let this = subst (λ (x : Answer). ComesTo held b c x t) is comes in
-        is-refused held kept c moment (Some s) (Some (record t { catalog = u })) q reply held' (ap Some (back-again t u this.0 back)) stays said_is
-        (λ objects tells. subst (λ (x : State). IsOutcome x objects c (refused q)) at-moment (this.1 objects tells))
+        is-refused held kept c moment (Some s) (Some (record t { catalog = u })) q reply held' (ap Some (back-again t u (quiet-refused q is) back)) stays said_is (comes-refused q is)
 
     pub told-in : (kept : Option (List Record)) (lines : List Line) (u : TypedCatalog) (reply : Reply) (held' : Option Held) → a ≡ Told lines → u ≡ with_earlier t.catalog earlier saved → held' ≡ held → reply ≡ said lines
         → IsStatement c → IsMomentIn (Some s) moment → IsStepAt held kept (Some s) c moment reply held' kept (Some (record t { catalog = u }))
     told-in kept lines u reply held' is back stays said_is well at =
-        let this = subst (λ (x : Answer). ComesTo held b c x t) is comes in
-        is-told held kept c moment s (Some (record t { catalog = u })) lines reply held' (ap Some (back-again t u this.0 back)) stays said_is well at
-        (λ objects tells. subst (λ (x : State). IsOutcome x objects c (told lines)) at-moment (this.1 objects tells))
+        is-told held kept c moment s (Some (record t { catalog = u })) lines reply held' (ap Some (back-again t u (quiet-told lines is) back)) stays said_is well at (comes-told lines is)
 
     -- what is done is handed out, with the edits of the moment and then its own
     pub handed-in : (x : Handed) (none first all edits : List Edit) (names : List (List ℕ)) → a ≡ Done x → none ≡ [] → EditsFollow none first s.catalog r → EditsFollow first all r t.catalog → edits ≡ all

@@ -1,4 +1,5 @@
 pub mod Comes
+pub mod ComesOut
 pub mod Faults
 pub mod Opens
 pub mod Saved

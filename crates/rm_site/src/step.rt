@@ -14,6 +14,7 @@ ghost use Rattle.rm_machine_laws.specs.Refused.{AnsweredBy, refusal_in};
 ghost use Rattle.rm_machine_laws.specs.Saves.{applies};
 ghost use Rattle.rm_machine_laws.specs.Steps.{DeletesSafely, IsStepAt, Steps};
 ghost use Rattle.rm_machine_laws.specs.Stopped.{Stops, IsStopAt};
+ghost use Rattle.rm_site.specs.ComesOut.{ComesOut};
 ghost use Rattle.rm_site.specs.Untouched.{IsUntouched, is_quiet};
 
 use crate::create::{first_records, lines_of, new_database, refusal_without};
@@ -88,6 +89,7 @@ fn answer_without<D: Store, C: Keeper>(
     requires moment { IsMomentIn None moment }
     ensures sound { IfOk result (λ x. IfSome x.0 IsSound) }
     ensures step { IfOk result (λ x. IsStepAt (D.held store.old) (C.kept keeper.old) None command.now moment x.1 (D.held store.new) (C.kept keeper.new) x.0) }
+    ensures comes { IfOk result (λ x. ComesOut (D.held store.old) (C.kept keeper.old) None command.now moment x.1 (D.held store.new) (C.kept keeper.new) x.0) }
     ensures answered { IfOk result (λ x. AnsweredBy (refusal_in None command.now moment) command.now x.1 None x.0) }
     ensures quiet { IfOk result (λ x. is_quiet command.now x.1 ≡ true → IsUntouched (D.held store.old) (C.kept keeper.old) None (D.held store.new) (C.kept keeper.new) x.0) }
     ensures dates { IfOk result (λ x. HasDates x.1) }
@@ -130,6 +132,7 @@ fn answer_in<R: Threads + Wait + Sync, G: Gate, D: Store, C: Keeper>(
     requires moment { IsMomentIn (Some state.old) moment }
     ensures sound { OnOk result (IsSound state.new) }
     ensures step { IfOk result (λ reply. IsStepAt (D.held store.old) (C.kept keeper.old) (Some state.old) command.now moment reply (D.held store.new) (C.kept keeper.new) (Some state.new)) }
+    ensures comes { IfOk result (λ reply. ComesOut (D.held store.old) (C.kept keeper.old) (Some state.old) command.now moment reply (D.held store.new) (C.kept keeper.new) (Some state.new)) }
     ensures answered { IfOk result (λ reply. AnsweredBy (refusal_in (Some state.old) command.now moment) command.now reply (Some state.old) (Some state.new)) }
     ensures quiet { IfOk result (λ reply. is_quiet command.now reply ≡ true → IsUntouched (D.held store.old) (C.kept keeper.old) (Some state.old) (D.held store.new) (C.kept keeper.new) (Some state.new)) }
     ensures dates { IfOk result HasDates }
@@ -186,6 +189,7 @@ fn answer<R: Threads + Wait + Sync, G: Gate, D: Store, C: Keeper>(
     requires moment { IsMomentIn state moment }
     ensures sound { IfOk result (λ x. IfSome x.0 IsSound) }
     ensures step { IfOk result (λ x. IsStepAt (D.held store.old) (C.kept keeper.old) state command.now moment x.1 (D.held store.new) (C.kept keeper.new) x.0) }
+    ensures comes { IfOk result (λ x. ComesOut (D.held store.old) (C.kept keeper.old) state command.now moment x.1 (D.held store.new) (C.kept keeper.new) x.0) }
     ensures answered { IfOk result (λ x. AnsweredBy (refusal_in state command.now moment) command.now x.1 state x.0) }
     ensures quiet { IfOk result (λ x. is_quiet command.now x.1 ≡ true → IsUntouched (D.held store.old) (C.kept keeper.old) state (D.held store.new) (C.kept keeper.new) x.0) }
     ensures dates { IfOk result (λ x. HasDates x.1) }
@@ -243,6 +247,7 @@ impl Site {
         requires command { IsTrue (is_command command.now) }
         requires built { IsTrue (is_built command.now) }
         ensures step { IfOk result (λ reply. Steps (D.held store.old) (C.kept keeper.old) self.old command.now clock reply (D.held store.new) (C.kept keeper.new) self.new) }
+        ensures comes { IfOk result (λ reply. ComesOut (D.held store.old) (C.kept keeper.old) self.old.state command.now (moment_of self.old.state clock) reply (D.held store.new) (C.kept keeper.new) self.new.state) }
         ensures safe { IfOk result (λ reply. DeletesSafely (D.held store.old) (C.kept keeper.old) self.old command.now clock reply (D.held store.new) self.new) }
         ensures answered { IfOk result (λ reply. AnsweredBy (refusal_in self.old.state command.now (moment_of self.old.state clock)) command.now reply self.old self.new) }
         ensures quiet { IfOk result (λ reply. is_quiet command.now reply ≡ true → IsUntouched (D.held store.old) (C.kept keeper.old) self.old (D.held store.new) (C.kept keeper.new) self.new) }

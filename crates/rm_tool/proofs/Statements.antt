@@ -60,6 +60,10 @@ passes s (Some b) (Some a) h = λ i. h i ∙ ap b (next i)
     next : (i : ℕ) → i + 1 ≡ suc i
     next i = omega arith
 
+-- the clock was asked once for a statement that is built
+asked-once : (o : Option Statement) (x : Statement) (before after : Option Answers) → o ≡ Some x → Both IsLater before after → Both (IsPast o) before after
+asked-once o x before after some later = subst (λ (p : Option Statement). Both (IsPast p) before after) (sym some) (passes x before after later)
+
 module _ {held : Option Held} {kept : Option (List Record)} {v : View} {clock : Option Answers} {s : ℕ × List Token} where
   -- a statement that is none is refused, and the clock is not asked
   pub served-refused : {reply : Reply} → statement_built_at s.1 ≡ None → reply ≡ refused_by (Rm01 s.0) → IsServed held kept v clock s reply held kept v clock
@@ -79,17 +83,13 @@ module _ {held : Option Held} {kept : Option (List Record)} {v : View} {clock : 
 
   -- One that is asked of the clock is a step or more of the site, or the site stopped it.
   module _ {held' : Option Held} {kept' : Option (List Record)} (answer : ℕ) (next : IfSome clock (λ coming. answer ≡ coming 0)) where
-    -- the clock was asked once
-    asked-once : {x : Statement} {clock' : Option Answers} → statement_built_at s.1 ≡ Some x → Both IsLater clock clock' → Both (IsPast (statement_built_at s.1)) clock clock'
-    asked-once {x = x} {clock' = clock'} some later = subst (λ (o : Option Statement). Both (IsPast o) clock clock') (sym some) (passes x clock clock' later)
-
     served-so : {x : Statement} → statement_built_at s.1 ≡ Some x → {v' : View} {clock' : Option Answers} (reply : Reply) → Both IsLater clock clock' → (is_quiet_statement (Some x) reply ≡ true → IsUntouched held kept v held' kept' v')
         → StatementSteps held kept v s answer reply held' kept' v' → IsServed held kept v clock s reply held' kept' v' clock'
     served-so {x = x} some {clock' = clock'} reply later quiet steps =
         record {
           answer = answer;
           next = next;
-          past = asked-once some later;
+          past = asked-once (statement_built_at s.1) x clock clock' some later;
           quiet = λ is. quiet (subst (λ (o : Option Statement). is_quiet_statement o reply ≡ true) some is);
           steps = steps;
         }
@@ -109,7 +109,7 @@ module _ {held : Option Held} {kept : Option (List Record)} {v : View} {clock : 
           record {
             answer = answer;
             next = next;
-            asked = inr (asked-once some later);
+            asked = inr (asked-once (statement_built_at s.1) (Plain c) clock clock' some later);
             cut = λ m stands holds tell. let left = stops m stands holds (subst (λ (o : Option Statement). TellWithin o m answer) some tell) in stopped c left.0 some left.1 left.2;
           }
 
@@ -128,7 +128,7 @@ module _ {held : Option Held} {kept : Option (List Record)} {v : View} {clock : 
           record {
             answer = answer;
             next = next;
-            asked = inr (asked-once some later);
+            asked = inr (asked-once (statement_built_at s.1) (Block block) clock clock' some later);
             cut = λ m stands holds tell. let left = stops m stands holds (subst (λ (o : Option Statement). TellWithin o m answer) some tell) in inside block left.0 some left.1 left.2;
           }
 

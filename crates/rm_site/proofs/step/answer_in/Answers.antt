@@ -1,5 +1,6 @@
 use Rattle.std.proofs.Common.{Some, ap, refl}
-use Rattle.rm_site.proofs.Answering.{Begins, answered-in, back-again, begins-sound, handed-in, is-carried, is-halted, quiet-refused, quiet-told, refused-in, sound-again, told-in, valid-again}
+use Rattle.rm_site.proofs.Answering.{Begins, answered-in, back-again, begins-sound, comes-refused, comes-told, handed-in, is-carried, is-halted, quiet-refused, quiet-told, refused-in, sound-again, told-in, valid-again}
+use Rattle.rm_site.proofs.ComesOut.{out-done, out-refused, out-told}
 use Rattle.rm_site.proofs.Quiet.{done-not-quiet}
 use Rattle.rm_site.proofs.step.answer_in.Goals as goal
 
@@ -86,3 +87,28 @@ returns-in-Told-clause-quiet g c = λ quiet.
 pub returns-in_ok-carry_out-in-Done-clause-quiet : goal.returns-in_ok-carry_out-in-Done-clause-quiet
 returns-in_ok-carry_out-in-Done-clause-quiet g c = λ quiet.
     absurd (done-not-quiet c.args.command.now c.in_ok-refusal.field-0 c.in-Done.handed _ c.in-Done.handed.lines c.in-Done.is c.in_ok-refusal.ensures.more c.reply_of-in-Done.ensures quiet)
+
+pub returns-in_ok-refusal_reply-in-Refused-clause-comes : goal.returns-in_ok-refusal_reply-in-Refused-clause-comes
+returns-in_ok-refusal_reply-in-Refused-clause-comes g c =
+    let was = c.in_ok-earlier.ensures in
+    let begins : Begins c.args.state.now c.args.moment c.begin.new.self c.in_ok-earlier.earlier.moment c.in_ok-earlier.earlier.saved = record { after = was.after; moment_is = was.moment; saved_is = was.saved } in
+    let same = quiet-refused begins (g.D.Store.held c.args.store.now) c.args.command.now c.in_ok-refusal.field-0 c.come_to.new.state c.in_ok-refusal.ensures.comes c.in-Refused.refusal c.in-Refused.is in
+    out-refused (g.D.Store.held c.args.store.now) (g.C.Keeper.kept c.args.keeper.now) (Some c.args.state.now) c.args.command.now c.args.moment _ c.in-Refused.refusal _ _ (ap Some (back-again begins c.come_to.new.state c.revert.new.self same c.revert.ensures))
+    c.in_ok-refusal.ensures.held c.in_ok-refusal_reply-in-Refused.ensures (comes-refused begins (g.D.Store.held c.args.store.now) c.args.command.now c.in_ok-refusal.field-0 c.come_to.new.state c.in_ok-refusal.ensures.comes c.in-Refused.refusal c.in-Refused.is)
+
+pub returns-in-Told-clause-comes : goal.returns-in-Told-clause-comes
+returns-in-Told-clause-comes g c =
+    let was = c.in_ok-earlier.ensures in
+    let begins : Begins c.args.state.now c.args.moment c.begin.new.self c.in_ok-earlier.earlier.moment c.in_ok-earlier.earlier.saved = record { after = was.after; moment_is = was.moment; saved_is = was.saved } in
+    let same = quiet-told begins (g.D.Store.held c.args.store.now) c.args.command.now c.in_ok-refusal.field-0 c.come_to.new.state c.in_ok-refusal.ensures.comes c.in-Told.lines c.in-Told.is in
+    out-told (g.D.Store.held c.args.store.now) (g.C.Keeper.kept c.args.keeper.now) (Some c.args.state.now) c.args.command.now c.args.moment _ c.in-Told.lines _ _ (ap Some (back-again begins c.come_to.new.state c.revert-in-Told.new.self same c.revert-in-Told.ensures))
+    c.in_ok-refusal.ensures.held c.reply_of.ensures (comes-told begins (g.D.Store.held c.args.store.now) c.args.command.now c.in_ok-refusal.field-0 c.come_to.new.state c.in_ok-refusal.ensures.comes c.in-Told.lines c.in-Told.is)
+
+pub returns-in_ok-carry_out-in-Done-clause-comes : goal.returns-in_ok-carry_out-in-Done-clause-comes
+returns-in_ok-carry_out-in-Done-clause-comes g c =
+    let was = c.in_ok-earlier.ensures in
+    let begins : Begins c.args.state.now c.args.moment c.begin.new.self c.in_ok-earlier.earlier.moment c.in_ok-earlier.earlier.saved = record { after = was.after; moment_is = was.moment; saved_is = was.saved } in
+    let handed = handed-in begins (g.D.Store.held c.args.store.now) c.args.command.now c.in_ok-refusal.field-0 c.come_to.new.state c.in_ok-refusal.ensures.comes
+    c.in-Done.handed _ _ _ _ _ c.in-Done.is c.new-edits.ensures.items was.edits c.in_ok-refusal.ensures.edits c.from_vec.ensures c.in_ok-and_saved-in-Done.ensures in
+    out-done (g.D.Store.held c.args.store.now) _ (Some c.args.state.now) c.args.command.now c.args.moment _ c.in-Done.handed.lines _ c.come_to.new.state _ _ _
+    c.in_ok-refusal.ensures.held c.reply_of-in-Done.ensures handed c.in_ok-carry_out-in-Done.ensures.carried

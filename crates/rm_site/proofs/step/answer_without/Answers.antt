@@ -3,6 +3,7 @@ use Rattle.rm_machine.specs.Laws.{only_tells}
 use Rattle.rm_machine_laws.specs.Refused.{refusal_without}
 use Rattle.rm_site.proofs.Answering.{is-carried, is-halted, is-refused}
 use Rattle.rm_site.proofs.Creating.{comes-refused, founded, founded-sound}
+use Rattle.rm_site.proofs.ComesOut.{out-done, out-refused}
 use Rattle.rm_site.proofs.Quiet.{not-quiet}
 use Rattle.rm_site.proofs.step.answer_without.Goals as goal
 
@@ -35,3 +36,17 @@ returns-in_err-carry_out-clause-stopped g c =
 
 pub returns-clause-quiet : goal.returns-clause-quiet
 returns-clause-quiet g c = λ quiet. absurd (not-quiet c.args.command.now _ c.in_ok-lines.lines (ap only_tells c.in-CreateDatabase.is) c.reply_of.ensures quiet)
+
+pub returns-in-Some-clause-comes : goal.returns-in-Some-clause-comes
+returns-in-Some-clause-comes g c =
+    let refusal : refusal_without c.args.command.now ≡ Some c.in-Some.refusal = sym c.refusal_without.ensures ∙ c.in-Some.is in
+    out-refused _ _ None c.args.command.now c.args.moment None c.in-Some.refusal _ _ refl refl c.in_ok-refusal_reply.ensures
+    (λ objects told. comes-refused c.args.command.now c.args.moment c.in-Some.refusal refusal)
+
+pub returns-clause-comes : goal.returns-clause-comes
+returns-clause-comes g c =
+    let k = c.in-CreateDatabase in
+    let was = c.in_ok-change.ensures in
+    let handed = founded c.args.command.now k.dbid k.threads k.scn c.args.moment k.is c.requires.command.0 (sym c.refusal_without.ensures ∙ c.in_default.is) c.requires.moment.last
+    (g.D.Store.held c.args.store.now) c.in_ok-change.change c.in_ok-state.state c.in_ok-lines.lines was.objects was.edits was.removes c.in_ok-state.ensures c.in_ok-lines.ensures in
+    out-done _ _ None c.args.command.now c.args.moment _ c.in_ok-lines.lines c.in_ok-change.change c.in_ok-state.state _ _ _ refl c.reply_of.ensures handed c.in_ok-carry_out.ensures.carried

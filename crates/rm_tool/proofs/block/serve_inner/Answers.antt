@@ -33,8 +33,8 @@ pub returns-in_err-reply-in-AllocateChannel-clause-stopped : goal.returns-in_err
 returns-in_err-reply-in-AllocateChannel-clause-stopped g c =
     on-err _ c.from_residual-in_err-reply-in-AllocateChannel.result (inner-untouched c.args.site.now c.args.settings.now c.args.inner c.args.clock)
 
-pub returns-in-Plain-clause-quiet : goal.returns-in-Plain-clause-quiet
-returns-in-Plain-clause-quiet g c =
+pub returns-in_ok-command-in-Plain-clause-quiet : goal.returns-in_ok-command-in-Plain-clause-quiet
+returns-in_ok-command-in-Plain-clause-quiet g c =
     IfOk-weaker c.step.result _ _
     (λ reply quiet tells.
     let own = subst (λ (y : Inner). only_tells_inner y ≡ true) c.in-Plain.is tells in

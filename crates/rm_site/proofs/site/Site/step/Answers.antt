@@ -3,6 +3,7 @@ use Rattle.rm_machine_laws.specs.Holds.{View}
 use Rattle.rm_machine_laws.specs.Saves.{applies}
 use Rattle.rm_machine_laws.proofs.Safely.{deletes-safely}
 use Rattle.rm_site.proofs.Answering.{answered-of, steps-of, stops-of}
+use Rattle.rm_site.proofs.ComesOut.{out-of}
 use Rattle.rm_site.proofs.Contents.{has-content}
 use Rattle.rm_site.proofs.Quiet.{untouched-of}
 use Rattle.rm_site.proofs.site.Site.step.Goals as goal
@@ -34,3 +35,8 @@ returns-clause-quiet g c = λ quiet.
     let from = c.replace-state.ensures.value ∙ ap (λ (v : View). v.state) c.self.view_is in
     untouched-of c.replace-state.result c.args.self.now c.args.command.now c.in_ok-state.reply c.in_ok-state.state c.has_applied-self-inside.result from c.requires.live
     (c.has_applied-self-inside.ensures ∙ ap (λ (v : View). v.applied || applies c.args.command.now c.in_ok-state.reply) c.self.view_is) quiet (c.in_ok-state.ensures.quiet quiet)
+
+pub returns-clause-comes : goal.returns-clause-comes
+returns-clause-comes g c =
+    let from = c.replace-state.ensures.value ∙ ap (λ (v : View). v.state) c.self.view_is in
+    out-of c.replace-state.result c.args.self.now _ c.args.clock _ _ _ _ _ _ _ from c.moment_of-moment.ensures.value c.in_ok-state.ensures.comes

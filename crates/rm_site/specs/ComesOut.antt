@@ -1,0 +1,32 @@
+-- How a statement comes out, whether or not a machine stands behind what the store and the keeper hold.
+use Rattle.std.specs.Prelude.{ℕ, ◌≡◌, Option, Some, List}
+use Rattle.rm_base.specs.Store.{Held}
+use Rattle.rm_catalog.specs.declared.record.Record.{Record}
+use Rattle.rm_lang_statement.specs.declared.command.Command.{Command}
+use Rattle.rm_machine.specs.Effect.{LeavesObjects, Outcome, done, refused, told}
+use Rattle.rm_machine.specs.Step.{and_drops}
+use Rattle.rm_machine.specs.declared.state.State.{State}
+use Rattle.rm_machine_laws.specs.Carries.{IsOutcomeIn}
+use Rattle.rm_machine_laws.specs.Holds.{records_in}
+use Rattle.rm_report.specs.Reply.{refused_by, said}
+use Rattle.rm_report.specs.declared.line.Reply.{Reply}
+
+-- The outcome gives this reply, and leaves this database, or none, and these objects.
+abbrev pub Gives : Option State → Outcome → Reply → Held → Option State → Held → Type 0
+Gives o (refused r) reply objects p objects' = (reply ≡ refused_by r) × (p ≡ o) × (objects' ≡ objects)
+Gives o (told lines) reply objects p objects' = (reply ≡ said lines) × (p ≡ o) × (objects' ≡ objects)
+Gives o (done lines effect t) reply objects p objects' = (reply ≡ said lines) × (p ≡ Some t) × LeavesObjects (and_drops o effect) objects objects'
+
+-- what it comes to, where the store holds these objects, and what it then holds
+pub record ComesOver (o : Option State) (c : Command) (moment : ℕ) (reply : Reply) (objects : Held) (held' : Option Held) (p : Option State) : Type 0 where
+  pub outcome : Outcome
+  pub is : IsOutcomeIn o objects c moment outcome
+  pub objects_are : Held
+  pub holds : held' ≡ Some objects_are
+  pub gives : Gives o outcome reply objects p objects_are
+
+-- Where the store and the keeper tell what they hold, the statement comes to what the objects at hand and the state say, and the store
+-- holds what that leaves. If the keeper has the records of the database, it comes to have those of the one after it.
+unfoldable pub ComesOut : Option Held → Option (List Record) → Option State → Command → ℕ → Reply → Option Held → Option (List Record) → Option State → Type 0
+ComesOut held kept o c moment reply held' kept' p =
+    (objects : Held) (rs : List Record) → held ≡ Some objects → kept ≡ Some rs → ComesOver o c moment reply objects held' p × (rs ≡ records_in o → kept' ≡ Some (records_in p))
