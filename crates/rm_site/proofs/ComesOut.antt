@@ -1,68 +1,67 @@
 -- How a statement comes out.
 use Rattle.std.proofs.Common.{◌≡◌, ◌∙◌, ℕ, List, Option, Some, None, refl, ap, sym, subst}
+use Rattle.std.specs.Option.{option_map}
 use Rattle.rm_base.specs.Store.{Held}
 use Rattle.rm_base.specs.declared.refusal.Refusal.{Refusal}
 use Rattle.rm_catalog.specs.Edits.{after_edits}
 use Rattle.rm_catalog.specs.declared.record.Record.{Record}
-use Rattle.rm_commit.specs.Carrying.{Carried, Leads}
+use Rattle.rm_commit.specs.Carrying.{AreMoved, Carried}
 use Rattle.rm_commit.specs.Names.{HasPuts, HasRemoves}
 use Rattle.rm_commit.specs.declared.commit.Commit.{Commit}
+use Rattle.rm_commit.proofs.Told.{both-told}
 use Rattle.rm_lang_statement.specs.declared.command.Command.{Command}
-use Rattle.rm_machine.specs.Effect.{Effect, done, refused, told}
-use Rattle.rm_machine.specs.Step.{and_drops}
+use Rattle.rm_machine.specs.Effect.{done, refused, told}
 use Rattle.rm_machine.specs.declared.state.State.{State}
 use Rattle.rm_machine_laws.specs.Carries.{IsHanded, IsOutcomeIn}
 use Rattle.rm_machine_laws.specs.Holds.{View, records_in}
 use Rattle.rm_machine_laws.specs.Moments.{moment_of}
+use Rattle.rm_machine_laws.proofs.Carried.{same-puts}
 use Rattle.rm_report.specs.Reply.{refused_by, said}
 use Rattle.rm_report.specs.declared.line.Line.{Line}
 use Rattle.rm_report.specs.declared.line.Reply.{Reply}
 use Rattle.rm_site.specs.ComesOut.{ComesOut}
 
--- the objects of a saved site only go
-same-puts : (o : Option State) (e : Effect) → (and_drops o e).puts ≡ e.puts
-same-puts None e = refl
-same-puts (Some s) e = refl
-
 module _ (held : Option Held) (kept : Option (List Record)) (o : Option State) (c : Command) (moment : ℕ) where
   -- the records stay
-  same-records : (p : Option State) (rs : List Record) → p ≡ o → kept ≡ Some rs → rs ≡ records_in o → kept ≡ Some (records_in p)
-  same-records p rs same tells is = tells ∙ ap Some (is ∙ sym (ap (λ (x : Option State). records_in x) same))
+  same-records : (p : Option State) → p ≡ o → kept ≡ Some (records_in o) → kept ≡ Some (records_in p)
+  same-records p same tells = tells ∙ ap Some (sym (ap (λ (x : Option State). records_in x) same))
 
   pub out-refused : (p : Option State) (r : Refusal) (reply : Reply) (held' : Option Held) → p ≡ o → held' ≡ held → reply ≡ refused_by r
       → ((objects : Held) → held ≡ Some objects → IsOutcomeIn o objects c moment (refused r)) → ComesOut held kept o c moment reply held' kept p
-  unfolding ComesOut
-  out-refused p r reply held' same stays said_is comes objects rs tells knows =
-      (record { outcome = refused r; is = comes objects tells; objects_are = objects; holds = stays ∙ tells; gives = (said_is, same, refl) }, same-records p rs same knows)
+  out-refused p r reply held' same stays said_is comes = record {
+    store = λ objects tells. record { outcome = refused r; is = comes objects tells; objects_are = objects; holds = stays ∙ tells; gives = (said_is, same, refl) };
+    keeper = same-records p same;
+  }
 
   pub out-told : (p : Option State) (lines : List Line) (reply : Reply) (held' : Option Held) → p ≡ o → held' ≡ held → reply ≡ said lines
       → ((objects : Held) → held ≡ Some objects → IsOutcomeIn o objects c moment (told lines)) → ComesOut held kept o c moment reply held' kept p
-  unfolding ComesOut
-  out-told p lines reply held' same stays said_is comes objects rs tells knows =
-      (record { outcome = told lines; is = comes objects tells; objects_are = objects; holds = stays ∙ tells; gives = (said_is, same, refl) }, same-records p rs same knows)
+  out-told p lines reply held' same stays said_is comes = record {
+    store = λ objects tells. record { outcome = told lines; is = comes objects tells; objects_are = objects; holds = stays ∙ tells; gives = (said_is, same, refl) };
+    keeper = same-records p same;
+  }
 
   pub out-done : (before : Option Held) (lines : List Line) (x : Commit) (t : State) (reply : Reply) (held' : Option Held) (kept' : Option (List Record)) → before ≡ held → reply ≡ said lines
-      → IsHanded held o c moment lines x t → Leads (Carried x) before kept held' kept' → ComesOut held kept o c moment reply held' kept' (Some t)
-  unfolding ComesOut
-  out-done before lines x t reply held' kept' stays said_is handed leads objects rs tells knows =
-      let w = leads (record { objects = objects; records = rs }) (record { store = stays ∙ tells; keeper = knows }) in (
+      → IsHanded held o c moment lines x t → Carried x before kept held' kept' → ComesOut held kept o c moment reply held' kept' (Some t)
+  out-done before lines x t reply held' kept' stays said_is handed carried = record {
+    store = λ objects tells.
+        let w = both-told (AreMoved x) before held' objects (stays ∙ tells) carried.objects in
         record {
           outcome = done lines handed.effect t;
           is = handed.comes objects tells;
-          objects_are = w.0.objects;
-          holds = w.2.store;
+          objects_are = w.0;
+          holds = w.2;
           gives = (
             said_is,
             refl,
             record {
               put = w.1.put;
               puts = subst (λ y. HasPuts y objects w.1.put) (handed.puts ∙ sym (same-puts o handed.effect)) w.1.puts;
-              removes = subst (λ y. HasRemoves y w.1.put w.0.objects) handed.removes w.1.removes;
+              removes = subst (λ y. HasRemoves y w.1.put w.0) handed.removes w.1.removes;
             },
           );
-        },
-        λ is. w.2.keeper ∙ ap Some (w.1.records ∙ ap (after_edits x.edits) is ∙ handed.edits),
-      )
+        };
+    keeper = λ tells. carried.records ∙ ap (option_map (after_edits x.edits)) tells ∙ ap Some handed.edits;
+  }
 
 -- and over the site
 pub out-of : (o : Option State) (v : View) (c : Command) (clock moment : ℕ) (held held' : Option Held) (kept kept' : Option (List Record)) (reply : Reply) (p : Option State)

@@ -25,8 +25,8 @@ pub record ComesOver (o : Option State) (c : Command) (moment : ℕ) (reply : Re
   pub holds : held' ≡ Some objects_are
   pub gives : Gives o outcome reply objects p objects_are
 
--- Where the store and the keeper tell what they hold, the statement comes to what the objects at hand and the state say, and the store
--- holds what that leaves. If the keeper has the records of the database, it comes to have those of the one after it.
-unfoldable pub ComesOut : Option Held → Option (List Record) → Option State → Command → ℕ → Reply → Option Held → Option (List Record) → Option State → Type 0
-ComesOut held kept o c moment reply held' kept' p =
-    (objects : Held) (rs : List Record) → held ≡ Some objects → kept ≡ Some rs → ComesOver o c moment reply objects held' p × (rs ≡ records_in o → kept' ≡ Some (records_in p))
+-- Where the store tells what it holds, the statement comes to what the objects at hand and the state say, and the store holds what that
+-- leaves. And where the keeper tells the records of the database, it then has those of the one after it.
+pub record ComesOut (held : Option Held) (kept : Option (List Record)) (o : Option State) (c : Command) (moment : ℕ) (reply : Reply) (held' : Option Held) (kept' : Option (List Record)) (p : Option State) : Type 0 where
+  pub store : (objects : Held) → held ≡ Some objects → ComesOver o c moment reply objects held' p
+  pub keeper : kept ≡ Some (records_in o) → kept' ≡ Some (records_in p)
