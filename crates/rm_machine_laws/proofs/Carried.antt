@@ -64,7 +64,7 @@ no-parts n t is none =
     subst (λ o. HaveParts n.objects n.made n.touched (saved_in o)) (sym is) (subst (HaveParts n.objects n.made n.touched) (sym none) tt)
 
 -- the objects of a saved site only go
-same-puts : (o : Option State) (e : Effect) → (and_drops o e).puts ≡ e.puts
+pub same-puts : (o : Option State) (e : Effect) → (and_drops o e).puts ≡ e.puts
 same-puts None e = refl
 same-puts (Some s) e = refl
 

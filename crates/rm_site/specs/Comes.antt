@@ -1,5 +1,5 @@
 -- What a statement comes to, where there is a database.
-use Rattle.std.specs.Prelude.{◌≡◌, true, Option, Some, None, All}
+use Rattle.std.specs.Prelude.{◌≡◌, true, false, Option, Some, None, All}
 use Rattle.rm_base.specs.Store.{Held}
 use Rattle.rm_base.specs.declared.refusal.Refusal.{Refusal}
 use Rattle.rm_lang_statement.specs.declared.command.Command.{Command}
