@@ -97,20 +97,22 @@ pub(crate) fn take(rt: &HostRuntime, path: &str) -> io::Result<File> {
     Ok(file)
 }
 
-/// Writes into the file that is locked of which catalog the directory is from now on. Where it was another one's last,
-/// that one's path is answered.
-pub(crate) fn claim(
-    rt: &HostRuntime,
-    mut file: &File,
-    catalog: &str,
-) -> io::Result<Option<String>> {
-    let catalog = fs::canonicalize(rt, catalog)?;
-    let mut before = String::new(rt.alloc());
-    file.read_to_string(&mut before)?;
-    if before.as_str() == catalog.as_str() {
-        return Ok(None);
-    }
+fn write_claim(file: &File, catalog: &str) -> io::Result<()> {
     file.set_len(0)?;
-    file.write_all_at(catalog.as_str().as_bytes(), 0)?;
-    Ok((!before.is_empty()).then_some(before))
+    file.write_all_at(catalog.as_bytes(), 0)
+}
+
+/// Writes into the file that is locked of which catalog the directory is from now on. Where it was another one's last,
+/// that one's path is answered. What can't be told or written is left.
+pub(crate) fn claim(rt: &HostRuntime, mut file: &File, catalog: &str) -> Option<String> {
+    let Ok(catalog) = fs::canonicalize(rt, catalog) else {
+        return None;
+    };
+    let mut before = String::new(rt.alloc());
+    let _ = file.read_to_string(&mut before);
+    if before.as_str() == catalog.as_str() {
+        return None;
+    }
+    let _ = write_claim(file, catalog.as_str());
+    (!before.is_empty()).then_some(before)
 }

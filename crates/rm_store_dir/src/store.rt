@@ -65,7 +65,7 @@ impl<'a> DirStore<Dir<'a>> {
 
     /// From now on it is the directory of this catalog. Where it was that of another one last, that one's path
     /// is answered.
-    pub fn claim(&self, catalog: &str) -> io::Result<Option<String>> {
+    pub fn claim(&self, catalog: &str) -> Option<String> {
         self.folder.claim(catalog)
     }
 }
