@@ -124,6 +124,13 @@ echo '-- a name in the folder that is no text'
 touch "objects/$(printf 'x\377')"
 "$program" names objects 0 x
 
+echo '-- a FIFO is not there, and is not replaced; another program has the folder'
+mkfifo objects/piece_3
+"$program" get objects 0 piece_3 | tr '\n' ' '
+"$program" put objects 10 piece_3 | tr '\n' ' '
+stat -c %F objects/piece_3
+flock objects/.rman-lock "$program" names objects 0 x
+
 echo '-- a second program while the first applies'
 rm -f one.db*
 "$program" applies one.db 100000 x > first &
@@ -165,7 +172,7 @@ echo '-- a full disk'
 mkdir -p small
 if mount -t tmpfs -o size=400k tmpfs small 2> /dev/null; then
     "$program" put small/objects 1000000 piece_1 | tr '\n' ' '
-    echo "names $(find small/objects -type f | wc -l)"
+    echo "names $(find small/objects -type f ! -name '.*' | wc -l)"
     "$program" put small/objects 10000 piece_1 | tr '\n' ' '
     echo "names $(ls small/objects)"
     "$program" logs small/one.db 10000 x | tr '\n' ' '

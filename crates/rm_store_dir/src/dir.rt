@@ -3,42 +3,117 @@ ghost use Rattle.std.specs.Prelude.{IfOk};
 ghost use Rattle.rm_base.specs.Store.{Ascends};
 
 use crate::folder::Folder;
-use crate::names::is_object;
+use crate::lock::{claim, make, take};
+use crate::names::{MOST_BYTES, is_object};
 use rm_base::{Seq, Text};
 use std::alloc::AllocError;
 use std::collections::BTreeMap;
-use std::fs::{self, DirBuilder, DirEntry, File, OpenOptions};
+use std::fs::{self, DirEntry, File, Metadata, OpenOptions};
 use std::io::{self, ErrorKind, Read, Write};
-use std::os::unix::fs::{DirBuilderExt, OpenOptionsExt};
+use std::os::unix::fs::OpenOptionsExt;
 
-/// The files of a directory.
+/// The files of a directory, which no other process has meanwhile.
 #[derive(Drop)]
 pub struct Dir<'a> {
     rt: &'a HostRuntime,
     path: String,
+    // The lock on it, or why it is not open.
+    lock: io::Result<File>,
 }
 
 impl<'a> Dir<'a> {
-    /// The directory of this path. It is made where it is missing and its parent is there, for its owner
-    /// alone. One that can't be made or opened fails at each call.
+    /// The directory of this path, with its lock. One that can't be opened or locked fails at each call for the
+    /// same cause.
     pub fn open(rt: &'a HostRuntime, path: String) -> Self {
-        // That it is there already is no error, and any other one comes again with the first call.
-        let _ = DirBuilder::new().mode(0o700).create(rt, path.as_str());
-        Dir { rt, path }
+        let lock = take(rt, path.as_str());
+        Dir { rt, path, lock }
     }
 
-    fn path_of(&self, name: &str) -> Result<String, AllocError> {
-        let mut path = self.path.clone()?;
+    /// Whether it is not open since nothing stands at its path.
+    pub fn is_missing(&self) -> bool {
+        match &self.lock {
+            Ok(_) => false,
+            Err(error) => error.kind() == ErrorKind::NotFound,
+        }
+    }
+
+    /// Makes it where it is missing and its parent is there, for its owner alone, and opens it.
+    pub fn make(&mut self) {
+        if self.is_missing() {
+            self.lock = match make(self.rt, self.path.as_str()) {
+                Ok(()) => take(self.rt, self.path.as_str()),
+                Err(error) => Err(error),
+            };
+        }
+    }
+
+    /// Its path, as it was given.
+    pub fn given_path(&self) -> &str {
+        self.path.as_str()
+    }
+
+    /// Why it is not open.
+    pub fn unopened(&self) -> Option<io::Error> {
+        match &self.lock {
+            Ok(_) => None,
+            Err(error) => Some(*error),
+        }
+    }
+
+    /// From now on it is the directory of this catalog. Where it was that of another one last, that one's path
+    /// is answered.
+    pub fn claim(&self, catalog: &str) -> Option<String> {
+        match &self.lock {
+            Ok(lock) => claim(self.rt, lock, catalog),
+            Err(_) => None,
+        }
+    }
+
+    // Its path, if it is open.
+    fn path(&self) -> io::Result<&str> {
+        match &self.lock {
+            Ok(_) => Ok(self.path.as_str()),
+            Err(error) => Err(*error),
+        }
+    }
+
+    fn path_of(&self, name: &str) -> io::Result<String> {
+        let mut path = String::from_str(self.rt.alloc(), self.path()?)?;
         path.push_str("/")?;
         path.push_str(name)?;
         Ok(path)
     }
 
     // Nothing stands there, if the directory is there.
-    fn nothing(&self) -> io::Result<Option<Seq<u8>>> {
+    fn nothing(&self) -> io::Result<Place> {
         let _ = fs::metadata(self.rt, self.path.as_str())?;
-        Ok(None)
+        Ok(Place::Nothing)
     }
+
+    // What stands under this path. No link is followed.
+    fn place(&self, path: &str) -> io::Result<Place> {
+        match fs::symlink_metadata(self.rt, path) {
+            Ok(found) if is_whole(&found) => Ok(Place::File(found.len())),
+            Ok(_) => Ok(Place::Other),
+            Err(error) if error.kind() == ErrorKind::NotFound => self.nothing(),
+            Err(error) => Err(error),
+        }
+    }
+}
+
+// What stands under a path.
+#[derive(Clone, Copy)]
+enum Place {
+    Nothing,
+    /// A file of so many bytes, which an object may be.
+    File(u64),
+    /// A directory, a link, a device, or a file that is longer than an object.
+    Other,
+}
+
+// Whether it is a file that an object may be.
+fn is_whole(found: &Metadata) -> bool {
+    found.is_file() && found.len() <= MOST_BYTES
 }
 
 // The name of an entry that is an object.
@@ -52,7 +127,7 @@ fn listed(
         Err(error) if error.kind() == ErrorKind::InvalidFilename => return Ok(None),
         Err(error) => return Err(error),
     };
-    if is_object(entry.file_name().as_bytes()) && entry.file_type()?.is_file() {
+    if is_object(entry.file_name().as_bytes()) && is_whole(&entry.metadata()?) {
         return Ok(Some(String::from_str(rt.alloc(), entry.file_name())?));
     }
     Ok(None)
@@ -82,29 +157,32 @@ fn sorted_names(rt: &HostRuntime, path: &str) -> io::Result<Seq<Text>>
 }
 
 impl Folder for Dir<'_> {
-    ghost use Rattle.std.specs.Prelude.{None};
+    ghost use Rattle.std.specs.Prelude.{None, false, []};
 
     ghost files = { λ _. None };
 
-    // A link is an error, and so is each thing but a file.
+    ghost blocked = { λ _ _. false };
+
+    ghost keeps = { λ _ _. [] };
+
     fn read(&self, name: &str) -> io::Result<Option<Seq<u8>>> {
         let path = self.path_of(name)?;
-        let found = match fs::symlink_metadata(self.rt, path.as_str()) {
-            Ok(found) => found,
-            Err(error) if error.kind() == ErrorKind::NotFound => return self.nothing(),
-            Err(error) => return Err(error),
+        let Place::File(len) = self.place(path.as_str())? else {
+            return Ok(None);
         };
-        if !found.is_file() {
-            return Err(io::Error::from(ErrorKind::InvalidFilename));
-        }
-        let len = usize::try_from(found.len()).unwrap_or(0);
+        let len = usize::try_from(len).unwrap_or(0);
         let mut bytes = Vec::with_capacity(self.rt.alloc(), len)?;
         File::open(self.rt, path.as_str())?.read_to_end(&mut bytes)?;
         Ok(Some(Seq::from_vec(bytes)))
     }
 
+    fn is_blocked(&self, name: &str) -> io::Result<bool> {
+        let path = self.path_of(name)?;
+        Ok(matches!(self.place(path.as_str())?, Place::Other))
+    }
+
     fn names(&self) -> io::Result<Seq<Text>> {
-        sorted_names(self.rt, self.path.as_str())
+        sorted_names(self.rt, self.path()?)
     }
 
     // The file is its owner's alone. That it is new leaves no stale one, whose rights it would have, and
@@ -128,13 +206,13 @@ impl Folder for Dir<'_> {
 
     fn remove(&mut self, name: &str) -> io::Result<()> {
         let path = self.path_of(name)?;
-        match fs::remove_file(self.rt, path.as_str()) {
-            Err(error) if error.kind() == ErrorKind::NotFound => Ok(()),
-            result => result,
-        }
+        let Place::File(_) = self.place(path.as_str())? else {
+            return Ok(());
+        };
+        fs::remove_file(self.rt, path.as_str())
     }
 
     fn sync(&mut self) -> io::Result<()> {
-        File::open(self.rt, self.path.as_str())?.sync_all()
+        File::open(self.rt, self.path()?)?.sync_all()
     }
 }

@@ -3,10 +3,11 @@
 
 pub mod dir;
 pub mod folder;
+mod lock;
 pub mod names;
 pub mod store;
 
 pub use dir::Dir;
-pub use folder::{Folder, put_whole};
-pub use names::is_object;
-pub use store::DirStore;
+pub use folder::{Folder, put_whole, remove_whole};
+pub use names::{MOST_BYTES, is_object};
+pub use store::{DirStore, Failure};

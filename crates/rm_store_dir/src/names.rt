@@ -8,6 +8,12 @@ ghost use Rattle.rm_store_dir.specs.DirStore.{is_object};
 use rm_lang_token::is_word_byte;
 use std::alloc::{AllocError, Global};
 
+/// The most bytes of an object, 2^28.
+pub const MOST_BYTES: u64 = 268_435_456;
+
+// What the name begins with under which the bytes of an object are written first.
+const BESIDE: &str = ".rman-new-";
+
 fn are_word_bytes(bytes: &[u8]) -> bool
     ensures { result ≡ list_all is_word_byte bytes.now }
 {
@@ -25,7 +31,15 @@ pub fn is_object(name: &[u8]) -> bool
 pub(crate) fn beside(alloc: Global, name: &str) -> Result<String, AllocError>
     ensures { IfOk result (λ b. is_object (string_bytes b) ≡ false) }
 {
-    let mut beside = String::from_str(alloc, name)?;
-    beside.push_str(".new")?;
+    let mut beside = String::from_str(alloc, BESIDE)?;
+    beside.push_str(name)?;
     Ok(beside)
+}
+
+/// Whether the bytes of an object are written under this name first.
+pub(crate) fn is_beside(name: &str) -> bool {
+    match name.strip_prefix(BESIDE) {
+        Some(object) => is_object(object.as_bytes()),
+        None => false,
+    }
 }

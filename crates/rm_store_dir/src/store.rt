@@ -1,36 +1,72 @@
 //! The objects of a folder.
-ghost use Rattle.std.specs.Prelude.{◌≡◌, ◌≤◌, IsTrue, Some, None, OnOk};
+ghost use Rattle.std.specs.Prelude.{◌≡◌, ◌<◌, ◌≤◌, ◌∷◌, [], true, length, IsTrue, IsErr, Some, None, IfSome, OnOk, IsErrOf};
 ghost use Rattle.rm_base.specs.Outside.{Rose};
 ghost use Rattle.rm_base.specs.Store.{Both, HasNow};
 ghost use Rattle.rm_base.specs.declared.store.StoreFail.TheVariants.{Failed};
-ghost use Rattle.rm_store_dir.specs.DirStore.{is_object, objects_of, KeepsOthers};
+ghost use Rattle.rm_store_dir.specs.DirStore.{is_object, most_bytes, objects_of, KeepsOthers};
+ghost use Rattle.rm_store_dir.specs.Folder.{MayHave};
 
 use crate::dir::Dir;
-use crate::folder::{Folder, put_whole};
-use crate::names::{beside, is_object};
+use crate::folder::{Folder, put_whole, remove_whole};
+use crate::names::{MOST_BYTES, beside, is_object};
 use rm_base::{Seq, Store, StoreFail, Text};
 use std::alloc::Global;
 use std::io::{self, ErrorKind};
 
-/// The objects of a folder: its files whose names are 1 to 64 letters, digits and `_`. Each error of the
-/// folder is a fault, but want of memory.
+/// A call that failed: under which name, and why. The name is empty for the list of names.
+#[derive(Drop)]
+pub struct Failure {
+    pub name: String,
+    pub error: io::Error,
+}
+
+/// The objects of a folder: its files of at most 268,435,456 bytes whose names are 1 to 64 letters, digits and
+/// `_`. Each error of the folder is a fault, but want of memory.
 #[derive(Drop)]
 pub struct DirStore<F: Folder> {
     folder: F,
     alloc: Global,
     faults: u64,
+    last: Option<Failure>,
 }
 
 impl<'a> DirStore<Dir<'a>> {
     ghost use Rattle.rm_store_dir.specs.DirStore.{faults_of};
 
-    /// The store of the directory of this path, which has not failed. The directory is made where it is
-    /// missing and its parent is there, for its owner alone. Where that or opening it fails, each call
-    /// fails.
+    /// The store of the directory of this path, which has not failed. Where opening it or its lock fails, as
+    /// while another process has it, each call fails.
     pub fn open(rt: &'a HostRuntime, path: String) -> Self
         ensures { faults_of result ≡ 0 }
     {
         DirStore::over(rt.alloc(), Dir::open(rt, path))
+    }
+
+    /// Whether the directory is not open since nothing stands at its path.
+    pub fn is_missing(&self) -> bool {
+        self.folder.is_missing()
+    }
+
+    /// Makes the directory where it is missing and its parent is there, for its owner alone, and opens it.
+    pub fn make(&mut self)
+        ensures { faults_of self.new ≡ faults_of self.old }
+    {
+        self.folder.make();
+    }
+
+    /// The path of the directory, as it was given.
+    pub fn path(&self) -> &str {
+        self.folder.given_path()
+    }
+
+    /// Why the directory is not open.
+    pub fn unopened(&self) -> Option<io::Error> {
+        self.folder.unopened()
+    }
+
+    /// From now on it is the directory of this catalog. Where it was that of another one last, that one's path
+    /// is answered.
+    pub fn claim(&self, catalog: &str) -> Option<String> {
+        self.folder.claim(catalog)
     }
 }
 
@@ -47,6 +83,7 @@ impl<F: Folder> DirStore<F> {
             folder,
             alloc,
             faults: 0,
+            last: None,
         }
     }
 
@@ -57,8 +94,13 @@ impl<F: Folder> DirStore<F> {
         self.faults
     }
 
-    // Counts a fault, but for want of memory.
-    fn fail(&mut self, error: &io::Error) -> StoreFail
+    /// What failed last, but for want of memory.
+    pub fn last_failure(&self) -> Option<&Failure> {
+        self.last.as_ref()
+    }
+
+    // Counts a fault and keeps it, but for want of memory.
+    fn fail(&mut self, name: &str, error: io::Error) -> StoreFail
         ensures same { folder_of self.new ≡ folder_of self.old }
         ensures failed { result ≡ Failed → Rose (faults_of self.old) (faults_of self.new) }
         ensures never_falls { faults_of self.old ≤ faults_of self.new }
@@ -67,15 +109,27 @@ impl<F: Folder> DirStore<F> {
             return StoreFail::NoMemory;
         }
         self.faults = self.faults.saturating_add(1);
+        self.last = match String::from_str(self.alloc, name) {
+            Ok(name) => Some(Failure { name, error }),
+            Err(_) => None,
+        };
         StoreFail::Failed
     }
 
     fn write(&mut self, name: &str, bytes: &[u8]) -> io::Result<()>
-        requires { IsTrue (is_object name.now) }
+        requires object { IsTrue (is_object name.now) }
         ensures stands { OnOk result (Both (HasNow name.now (Some bytes.now)) (F.files (folder_of self.old)) (F.files (folder_of self.new))) }
         ensures others { Both (KeepsOthers name.now) (F.files (folder_of self.old)) (F.files (folder_of self.new)) }
         ensures faults { faults_of self.new ≡ faults_of self.old }
+        ensures blocked { F.blocked (folder_of self.new) ≡ F.blocked (folder_of self.old) }
+        ensures refused { IfSome (F.files (folder_of self.old)) (λ _. F.blocked (folder_of self.old) name.now ≡ true → IsErr result) }
+        ensures long { most_bytes < length bytes.now → IsErr result }
+        ensures durable { OnOk result (IfSome (F.files (folder_of self.new)) (λ _. F.keeps (folder_of self.new) name.now ≡ Some bytes.now ∷ [])) }
+        ensures keeps { IfSome (F.files (folder_of self.old)) (λ _. MayHave name.now (Some bytes.now) (F.keeps (folder_of self.old)) (F.keeps (folder_of self.new))) }
     {
+        if bytes.len() as u64 > MOST_BYTES {
+            return Err(io::Error::from(ErrorKind::FileTooLarge));
+        }
         let beside = beside(self.alloc, name)?;
         put_whole(&mut self.folder, name, beside.as_str(), bytes)
     }
@@ -84,55 +138,87 @@ impl<F: Folder> DirStore<F> {
         ensures gone { OnOk result (Both (HasNow name.now None) (F.files (folder_of self.old)) (F.files (folder_of self.new))) }
         ensures others { Both (KeepsOthers name.now) (F.files (folder_of self.old)) (F.files (folder_of self.new)) }
         ensures faults { faults_of self.new ≡ faults_of self.old }
+        ensures blocked { F.blocked (folder_of self.new) ≡ F.blocked (folder_of self.old) }
+        ensures durable { OnOk result (IfSome (F.files (folder_of self.new)) (λ _. F.keeps (folder_of self.new) name.now ≡ None ∷ [])) }
+        ensures keeps { IfSome (F.files (folder_of self.old)) (λ _. MayHave name.now None (F.keeps (folder_of self.old)) (F.keeps (folder_of self.new))) }
     {
-        self.folder.remove(name)?;
-        self.folder.sync()
+        remove_whole(&mut self.folder, name)
     }
 }
 
 impl<F: Folder> Store for DirStore<F> {
     ghost use Rattle.std.specs.Option.{option_map};
+    ghost use Rattle.rm_base.specs.Store.{SameBut};
     ghost use Rattle.rm_store_dir.specs.DirStore.{folder_of, faults_of};
 
     ghost held = { λ s. option_map objects_of (F.files (folder_of s)) };
 
     ghost faults = { λ s. faults_of s };
 
+    /// Where no file of at most 268,435,456 bytes stands there, nothing does.
     fn get(&mut self, name: &str) -> Result<Option<Seq<u8>>, StoreFail> {
         if !is_object(name.as_bytes()) {
             return Ok(None);
         }
         match self.folder.read(name) {
             Ok(found) => Ok(found),
-            Err(error) => Err(self.fail(&error)),
+            Err(error) => Err(self.fail(name, error)),
         }
     }
 
-    /// A name that is no object's is a fault.
-    fn put(&mut self, name: &str, bytes: &[u8]) -> Result<(), StoreFail> {
+    /// A name that is no object's is a fault, and so are more than 268,435,456 bytes. Where something stands there that
+    /// is no file of an object, that is a fault and stays.
+    fn put(&mut self, name: &str, bytes: &[u8]) -> Result<(), StoreFail>
+        ensures stands { OnOk result (Both (HasNow name.now (Some bytes.now)) (option_map objects_of (F.files (folder_of self.old))) (option_map objects_of (F.files (folder_of self.new)))) }
+        ensures others { Both (SameBut name.now) (option_map objects_of (F.files (folder_of self.old))) (option_map objects_of (F.files (folder_of self.new))) }
+        ensures failed { IsErrOf result Failed → Rose (faults_of self.old) (faults_of self.new) }
+        ensures never_falls { faults_of self.old ≤ faults_of self.new }
+
+        // What is no file of an object stays.
+        ensures blocked { F.blocked (folder_of self.new) ≡ F.blocked (folder_of self.old) }
+        ensures refused { IfSome (F.files (folder_of self.old)) (λ _. F.blocked (folder_of self.old) name.now ≡ true → IsErr result) }
+        ensures long { most_bytes < length bytes.now → IsErr result }
+
+        // What the machine keeps where it stops: behind an answer these bytes; else what it might have kept, or all of them.
+        ensures durable { OnOk result (IfSome (F.files (folder_of self.new)) (λ _. F.keeps (folder_of self.new) name.now ≡ Some bytes.now ∷ [])) }
+        ensures keeps { IfSome (F.files (folder_of self.old)) (λ _. MayHave name.now (Some bytes.now) (F.keeps (folder_of self.old)) (F.keeps (folder_of self.new))) }
+    {
         if !is_object(name.as_bytes()) {
-            return Err(self.fail(&io::Error::from(ErrorKind::InvalidFilename)));
+            return Err(self.fail(name, io::Error::from(ErrorKind::InvalidFilename)));
         }
         match self.write(name, bytes) {
             Ok(()) => Ok(()),
-            Err(error) => Err(self.fail(&error)),
+            Err(error) => Err(self.fail(name, error)),
         }
     }
 
-    fn remove(&mut self, name: &str) -> Result<(), StoreFail> {
+    /// What is no file of an object stays, which is no fault: nothing stands there for any call.
+    fn remove(&mut self, name: &str) -> Result<(), StoreFail>
+        ensures gone { OnOk result (Both (HasNow name.now None) (option_map objects_of (F.files (folder_of self.old))) (option_map objects_of (F.files (folder_of self.new)))) }
+        ensures others { Both (SameBut name.now) (option_map objects_of (F.files (folder_of self.old))) (option_map objects_of (F.files (folder_of self.new))) }
+        ensures failed { IsErrOf result Failed → Rose (faults_of self.old) (faults_of self.new) }
+        ensures never_falls { faults_of self.old ≤ faults_of self.new }
+
+        // What is no file of an object stays.
+        ensures blocked { F.blocked (folder_of self.new) ≡ F.blocked (folder_of self.old) }
+
+        // What the machine keeps where it stops: behind an answer nothing; else what it might have kept, or nothing.
+        ensures durable { OnOk result (IsTrue (is_object name.now) → IfSome (F.files (folder_of self.new)) (λ _. F.keeps (folder_of self.new) name.now ≡ None ∷ [])) }
+        ensures keeps { IfSome (F.files (folder_of self.old)) (λ _. MayHave name.now None (F.keeps (folder_of self.old)) (F.keeps (folder_of self.new))) }
+    {
         if !is_object(name.as_bytes()) {
             return Ok(());
         }
         match self.erase(name) {
             Ok(()) => Ok(()),
-            Err(error) => Err(self.fail(&error)),
+            Err(error) => Err(self.fail(name, error)),
         }
     }
 
     fn names(&mut self) -> Result<Seq<Text>, StoreFail> {
         match self.folder.names() {
             Ok(names) => Ok(names),
-            Err(error) => Err(self.fail(&error)),
+            Err(error) => Err(self.fail("", error)),
         }
     }
 }

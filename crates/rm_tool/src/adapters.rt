@@ -3,7 +3,7 @@
 ghost use Rattle.std.specs.Prelude.{◌≡◌, false};
 
 use rm_base::{Clock, Failed, Sink, Source};
-use std::io::{Read, Write};
+use std::io::{Error, ErrorKind, Read, Write};
 use std::time::{SystemTime, UNIX_EPOCH};
 
 /// A reader as a source. Each error of the reader is a fault, an interrupted call too.
@@ -13,6 +13,8 @@ pub struct ReadSource<R> {
     pub taken: u64,
     pub at_end: bool,
     pub faults: u64,
+    /// The error that was counted last.
+    pub last: Option<Error>,
 }
 
 impl<R> ReadSource<R> {
@@ -27,6 +29,7 @@ impl<R> ReadSource<R> {
             taken: 0,
             at_end: false,
             faults: 0,
+            last: None,
         }
     }
 }
@@ -43,9 +46,13 @@ impl<R: Read + Drop> Source for ReadSource<R> {
     ghost faults = { λ s. s.faults };
 
     fn read(&mut self, buf: &mut [u8]) -> Result<usize, Failed> {
-        let Ok(n) = self.reader.read(buf) else {
-            self.faults = self.faults.saturating_add(1);
-            return Err(Failed);
+        let n = match self.reader.read(buf) {
+            Ok(n) => n,
+            Err(error) => {
+                self.faults = self.faults.saturating_add(1);
+                self.last = Some(error);
+                return Err(Failed);
+            }
         };
         self.taken = self.taken.saturating_add(n as u64);
         if !buf.is_empty() {
@@ -61,6 +68,8 @@ impl<R: Read + Drop> Source for ReadSource<R> {
 pub struct WriteSink<W> {
     writer: W,
     pub faults: u64,
+    /// The error that was counted last.
+    pub last: Option<Error>,
 }
 
 impl<W> WriteSink<W> {
@@ -68,7 +77,11 @@ impl<W> WriteSink<W> {
     pub fn new(writer: W) -> Self
         ensures { result.faults ≡ 0 }
     {
-        WriteSink { writer, faults: 0 }
+        WriteSink {
+            writer,
+            faults: 0,
+            last: None,
+        }
     }
 }
 
@@ -80,13 +93,14 @@ impl<W: Write + Drop> Sink for WriteSink<W> {
     ghost faults = { λ s. s.faults };
 
     fn write(&mut self, bytes: &[u8]) -> Result<usize, Failed> {
-        match self.writer.write(bytes) {
-            Ok(n) if n > 0 || bytes.is_empty() => Ok(n),
-            _ => {
-                self.faults = self.faults.saturating_add(1);
-                Err(Failed)
-            }
-        }
+        let error = match self.writer.write(bytes) {
+            Ok(n) if n > 0 || bytes.is_empty() => return Ok(n),
+            Ok(_) => Error::from(ErrorKind::WriteZero),
+            Err(error) => error,
+        };
+        self.faults = self.faults.saturating_add(1);
+        self.last = Some(error);
+        Err(Failed)
     }
 }
 

@@ -1,10 +1,14 @@
 //! Recovers a database as its script says.
 #![tactic(auto)]
 
+mod bad_words;
+mod told;
+
 use rm_base::{NoMemory, Text};
+use rm_catalog::Keeper;
 use rm_keeper_sql::CatalogFile;
 use rm_lang_words::read_words;
-use rm_store_dir::DirStore;
+use rm_store_dir::{Dir, DirStore};
 use rm_tool::run::run;
 use rm_tool::{OpenGate, ReadSource, SystemClock, WriteSink};
 use std::alloc::Global;
@@ -36,16 +40,43 @@ fn words(rt: &HostRuntime) -> Result<Vec<Text>, NoMemory> {
     Ok(words)
 }
 
+// Whether the catalog is known to have no records.
+fn is_empty<K: Keeper>(keeper: &mut K) -> bool {
+    match keeper.load() {
+        Ok(records) => records.as_slice().is_empty(),
+        Err(_) => false,
+    }
+}
+
+// Opens the folder. One that is missing is made only where the catalog has no records: else the path is wrong, and all
+// objects would be missing. That another catalog had it last is warned of.
+fn open_store<'a, K: Keeper>(
+    rt: &'a HostRuntime,
+    folder: String,
+    file: &str,
+    keeper: &mut K,
+) -> DirStore<Dir<'a>> {
+    let mut store = DirStore::open(rt, folder);
+    if store.is_missing() && is_empty(keeper) {
+        store.make();
+    }
+    if let Some(other) = store.claim(file) {
+        told::other_catalog(rt, store.path(), other.as_str());
+    }
+    store
+}
+
 fn main(rt: HostRuntime) -> ExitCode {
     let alloc = rt.alloc();
     let Ok(words) = words(&rt) else {
+        told::memory(&rt);
         return ExitCode::from(7);
     };
     let (folder, file) = paths(alloc, &words);
     let mut source = ReadSource::new(rt.reader());
     let mut sink = WriteSink::new(io::writer(&rt));
-    let mut store = DirStore::open(&rt, folder);
     let mut keeper = CatalogFile::open(&rt, file.as_str());
+    let mut store = open_store(&rt, folder, file.as_str(), &mut keeper);
     let mut clock = SystemClock::new(&rt);
     let status = run(
         &rt,
@@ -58,6 +89,17 @@ fn main(rt: HostRuntime) -> ExitCode {
         &mut keeper,
         &mut clock,
     );
+    match status {
+        2 => told::words(&rt, &words),
+        3 => told::stream(&rt, "standard input", source.last),
+        4 => told::stream(&rt, "standard output", sink.last),
+        5 => told::store(&rt, &store),
+        6 => told::catalog(&rt, file.as_str(), "failed"),
+        7 => told::memory(&rt),
+        8 => told::long(&rt),
+        9 => told::catalog(&rt, file.as_str(), "a record breaks a rule"),
+        _ => {}
+    }
     // What was applied is durable without it.
     let _ = keeper.close();
     ExitCode::from(status)

@@ -1,7 +1,9 @@
 use Rattle.std.proofs.Common.{◌≡◌, sym, subst, rules, true, false, None}
 use Rattle.std.specs.Option.{option_map}
+use Rattle.std.specs.Prelude.{IfSome}
 use Rattle.rm_base.specs.Store.{Both, SameBut}
 use Rattle.rm_store_dir.specs.DirStore.{is_object, objects_of, folder_of}
+use Rattle.rm_store_dir.specs.Folder.{MayHave}
 use Rattle.rm_store_dir.proofs.Objects.{now_has, none_gone, others_stay}
 use Rattle.rm_store_dir.proofs.store.DirStoreStore.remove.Goals as goal
 
@@ -23,3 +25,9 @@ returns-in-Err-clause-others g c =
     let old = g.F.Folder.files (folder_of c.args.self.now) in
     subst (λ f. Both (SameBut c.args.name.now) (option_map objects_of old) (option_map objects_of (g.F.Folder.files f))) (sym c.fail.ensures.same)
     (others_stay c.args.name.now old (g.F.Folder.files (folder_of c.erase.new.self)) c.erase.ensures.others)
+
+pub returns-in-Err-clause-keeps : goal.returns-in-Err-clause-keeps
+returns-in-Err-clause-keeps g c =
+    let old = folder_of c.args.self.now in
+    subst (λ f. IfSome (g.F.Folder.files old) (λ x. MayHave c.args.name.now None (g.F.Folder.keeps old) (g.F.Folder.keeps f))) (sym c.fail.ensures.same)
+    c.erase.ensures.keeps
