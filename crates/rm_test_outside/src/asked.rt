@@ -4,7 +4,6 @@ use crate::records::{apply, word_of};
 use crate::{made, objects};
 use rm_base::{NoMemory, Policy, Status, Store};
 use rm_catalog::{Edit, Keeper, KeeperFail};
-use rm_store_dir::DirStore;
 use sqlite::{Alter, Connection, Error, ErrorCode, params};
 use std::alloc::Global;
 use std::io;
@@ -116,7 +115,7 @@ fn bare(rt: &HostRuntime, path: &str, times: u32) -> io::Result<()> {
 }
 
 fn folder(rt: &HostRuntime, what: &str, path: &str, times: u32, name: &str) -> io::Result<()> {
-    let mut store = DirStore::open(rt, String::from_str(rt.alloc(), path)?);
+    let mut store = objects::open(rt, path, true)?;
     let bytes = vec![in rt.alloc(); 165; times as usize]?;
     let start = Instant::now(rt)?;
     let word = match what {

@@ -2,7 +2,7 @@
 use crate::records::tell_bytes;
 use crate::tables::tell_mode;
 use rm_base::{Store, StoreFail};
-use rm_store_dir::DirStore;
+use rm_store_dir::{Dir, DirStore};
 use std::os::unix::fs::symlink;
 use std::{fs, io};
 
@@ -86,37 +86,63 @@ const WRONG: [(&str, &str); 12] = [
     ("is there", ".hidden"),
 ];
 
-// A directory and a link in an object's place.
-const PLACES: [(&str, &str); 7] = [
+// A directory, a link and a file that is too long in an object's place: nothing stands there, and nothing is put there. One of
+// the most bytes is an object.
+const PLACES: [(&str, &str); 19] = [
     ("folder", "piece_4"),
     ("link", "piece_5"),
+    ("long", "piece_6"),
+    ("most", "piece_7"),
     ("names", ""),
     ("get", "piece_4"),
     ("put", "piece_4"),
     ("remove", "piece_4"),
+    ("is there", "piece_4"),
     ("get", "piece_5"),
-];
-
-// A link is replaced, and what it leads to stays.
-const IN_PLACE: [(&str, &str); 4] = [
     ("put", "piece_5"),
-    ("get", "piece_5"),
-    ("get", "Z"),
-    ("is there", "piece_4.new"),
+    ("remove", "piece_5"),
+    ("is there", "piece_5"),
+    ("get", "piece_6"),
+    ("put", "piece_6"),
+    ("remove", "piece_6"),
+    ("is there", "piece_6"),
+    ("remove", "piece_7"),
+    ("is there", "piece_7"),
 ];
 
 // A directory and a link where bytes are written first.
 const NEW: [(&str, &str); 9] = [
-    ("folder", "piece_6.new"),
-    ("put", "piece_6"),
-    ("get", "piece_6"),
-    ("is there", "piece_6.new"),
-    ("link", "piece_7.new"),
-    ("put", "piece_7"),
-    ("get", "piece_7"),
+    ("folder", ".rman-new-piece_8"),
+    ("put", "piece_8"),
+    ("get", "piece_8"),
+    ("is there", ".rman-new-piece_8"),
+    ("link", ".rman-new-piece_9"),
+    ("put", "piece_9"),
+    ("get", "piece_9"),
     ("get", "Z"),
-    ("is there", "piece_7.new"),
+    ("is there", ".rman-new-piece_9"),
 ];
+
+// What a run that was stopped leaves, and what others may have written.
+const LEFT: [(&str, &str); 5] = [
+    ("file", ".rman-new-piece_1"),
+    ("file", ".rman-new-a-b"),
+    ("file", "piece_1.new"),
+    ("is there", ".rman-new-piece_1"),
+    ("names", ""),
+];
+
+// The next one takes away its own alone.
+const CLEARED: [(&str, &str); 5] = [
+    ("is there", ".rman-new-piece_1"),
+    ("is there", ".rman-new-a-b"),
+    ("is there", "piece_1.new"),
+    ("is there", ".rman-new-piece_8"),
+    ("names", ""),
+];
+
+// The file that is locked is its owner's alone, and no object.
+const LOCKED: [(&str, &str); 2] = [("mode", ".rman-lock"), ("get", ".rman-lock")];
 
 // Each call, where the directory can't be opened.
 const CALLS: [(&str, &str); 4] = [
@@ -179,6 +205,8 @@ fn beside(rt: &HostRuntime, verb: &str, name: &str) -> io::Result<()> {
     match verb {
         "file" => fs::write(rt, path.as_str(), "by another hand"),
         "folder" => fs::create_dir(rt, path.as_str()),
+        "long" => fs::File::create(rt, path.as_str())?.set_len(268_435_457),
+        "most" => fs::File::create(rt, path.as_str())?.set_len(268_435_456),
         "link" => symlink(rt, "Z", path.as_str()),
         "mode" => tell_mode(rt, path.as_str()),
         _ => tell_there(rt, path.as_str()),
@@ -195,26 +223,86 @@ fn step<D: Store>(rt: &HostRuntime, store: &mut D, verb: &str, name: &str) -> io
     }
 }
 
-fn steps(rt: &HostRuntime, path: &str, steps: &[(&str, &str)]) -> io::Result<()> {
+/// The store of a directory, which is made where it may be and is missing.
+pub fn open<'a>(rt: &'a HostRuntime, path: &str, may_make: bool) -> io::Result<DirStore<Dir<'a>>> {
     let mut store = DirStore::open(rt, String::from_str(rt.alloc(), path)?);
+    if may_make {
+        store.make();
+    }
+    Ok(store)
+}
+
+// How often it has failed, and the last time.
+fn tell_faults(rt: &HostRuntime, store: &DirStore<Dir<'_>>) -> io::Result<()> {
+    match store.last_failure() {
+        Some(failure) => rt.println(format_args!(
+            "faults {}, the last {}: {}",
+            store.faults(),
+            failure.name.as_str(),
+            failure.error
+        )),
+        None => rt.println(format_args!("faults {}", store.faults())),
+    }
+}
+
+fn steps(rt: &HostRuntime, path: &str, may_make: bool, steps: &[(&str, &str)]) -> io::Result<()> {
+    let mut store = open(rt, path, may_make)?;
     for (verb, name) in steps {
         step(rt, &mut store, verb, name)?;
     }
-    rt.println(format_args!("faults {}", store.faults()))
+    tell_faults(rt, &store)
+}
+
+// What can't be opened.
+fn unopened(rt: &HostRuntime) -> io::Result<()> {
+    rt.println("below a file")?;
+    steps(rt, "objects/Z", true, &CALLS)?;
+    rt.println("no parent")?;
+    steps(rt, "objects/none/none", true, &CALLS)?;
+    rt.println("no path")?;
+    steps(rt, "", true, &CALLS)?;
+    rt.println("not to be made")?;
+    steps(rt, "objects/none", false, &CALLS)?;
+    tell_there(rt, "objects/none")
+}
+
+// A second one while the first has the directory, and behind it.
+fn second(rt: &HostRuntime) -> io::Result<()> {
+    let mut first = open(rt, "objects", false)?;
+    steps(rt, "objects", false, &LOCKED)?;
+    steps(rt, "objects", true, &CALLS)?;
+    get(rt, &mut first, "Z")?;
+    tell_faults(rt, &first)
+}
+
+// Whether the directory was last the one of another catalog.
+fn claim(rt: &HostRuntime, catalog: &str) -> io::Result<()> {
+    let store = open(rt, "objects", false)?;
+    let is_other = store.claim(catalog).is_some();
+    rt.println(format_args!("{catalog}: of another {is_other}"))
+}
+
+fn claims(rt: &HostRuntime) -> io::Result<()> {
+    claim(rt, "objects/Z")?;
+    claim(rt, "./objects/../objects/Z")?;
+    claim(rt, "objects/piece_1")?;
+    claim(rt, "objects/piece_1")?;
+    claim(rt, "objects/Z")
 }
 
 /// What a directory answers.
 pub fn run(rt: &HostRuntime) -> io::Result<()> {
     let _ = fs::remove_dir_all(rt, "objects");
-    steps(rt, "objects", &GOOD)?;
-    steps(rt, "objects", &NAMES)?;
-    steps(rt, "objects", &WRONG)?;
-    steps(rt, "objects", &PLACES)?;
-    steps(rt, "objects", &IN_PLACE)?;
-    steps(rt, "objects", &NEW)?;
-    rt.println("below a file")?;
-    steps(rt, "objects/Z", &CALLS)?;
-    rt.println("no parent")?;
-    steps(rt, "objects/none/none", &CALLS)?;
+    steps(rt, "objects", true, &GOOD)?;
+    steps(rt, "objects", true, &NAMES)?;
+    steps(rt, "objects", false, &WRONG)?;
+    steps(rt, "objects", false, &PLACES)?;
+    steps(rt, "objects", false, &NEW)?;
+    steps(rt, "objects", false, &LEFT)?;
+    steps(rt, "objects", false, &CLEARED)?;
+    second(rt)?;
+    steps(rt, "objects", false, &[("get", "Z")])?;
+    claims(rt)?;
+    unopened(rt)?;
     fs::remove_dir_all(rt, "objects")
 }
