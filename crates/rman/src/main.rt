@@ -94,7 +94,7 @@ fn main(rt: HostRuntime) -> ExitCode {
         3 => told::stream(&rt, "standard input", source.last),
         4 => told::stream(&rt, "standard output", sink.last),
         5 => told::store(&rt, &store),
-        6 => told::catalog(&rt, file.as_str(), "failed"),
+        6 => told::catalog(&rt, file.as_str(), keeper.last_fault().unwrap_or("failed")),
         7 => told::memory(&rt),
         8 => told::long(&rt),
         9 => told::catalog(&rt, file.as_str(), "a record breaks a rule"),
