@@ -7,7 +7,7 @@ mod told;
 use rm_base::{NoMemory, Text};
 use rm_catalog::Keeper;
 use rm_keeper_sql::CatalogFile;
-use rm_lang_words::read_words;
+use rm_lang_words::{WordsFault, read_words};
 use rm_store_dir::{Dir, DirStore};
 use rm_tool::run::run;
 use rm_tool::{OpenGate, ReadSource, SystemClock, WriteSink};
@@ -18,10 +18,11 @@ use std::{env, io};
 
 // The paths of the folder and of the catalog that the words say. Where these are refused nothing is opened by the empty
 // ones, and `run` asks neither.
-fn paths(alloc: Global, words: &[Text]) -> (String, String) {
+fn paths(alloc: Global, words: &[Text]) -> Result<(String, String), NoMemory> {
     match read_words(alloc, words) {
-        Ok(said) => (said.store.into_string(), said.catalog.into_string()),
-        Err(_) => (String::new(alloc), String::new(alloc)),
+        Ok(said) => Ok((said.store.into_string(), said.catalog.into_string())),
+        Err(WordsFault::Bad) => Ok((String::new(alloc), String::new(alloc))),
+        Err(WordsFault::NoMemory) => Err(NoMemory),
     }
 }
 
@@ -66,20 +67,18 @@ fn open_store<'a, K: Keeper>(
     store
 }
 
-fn main(rt: HostRuntime) -> ExitCode {
+// A session by the program's words: its status. An error is want of memory before it began.
+fn session(rt: &HostRuntime) -> Result<u8, NoMemory> {
     let alloc = rt.alloc();
-    let Ok(words) = words(&rt) else {
-        told::memory(&rt);
-        return ExitCode::from(7);
-    };
-    let (folder, file) = paths(alloc, &words);
+    let words = words(rt)?;
+    let (folder, file) = paths(alloc, &words)?;
     let mut source = ReadSource::new(rt.reader());
-    let mut sink = WriteSink::new(io::writer(&rt));
-    let mut keeper = CatalogFile::open(&rt, file.as_str());
-    let mut store = open_store(&rt, folder, file.as_str(), &mut keeper);
-    let mut clock = SystemClock::new(&rt);
+    let mut sink = WriteSink::new(io::writer(rt));
+    let mut keeper = CatalogFile::open(rt, file.as_str());
+    let mut store = open_store(rt, folder, file.as_str(), &mut keeper);
+    let mut clock = SystemClock::new(rt);
     let status = run(
-        &rt,
+        rt,
         alloc,
         &OpenGate,
         &words,
@@ -89,18 +88,26 @@ fn main(rt: HostRuntime) -> ExitCode {
         &mut keeper,
         &mut clock,
     );
-    match status {
-        2 => told::words(&rt, &words),
-        3 => told::stream(&rt, "standard input", source.last),
-        4 => told::stream(&rt, "standard output", sink.last),
-        5 => told::store(&rt, &store),
-        6 => told::catalog(&rt, file.as_str(), keeper.last_fault().unwrap_or("failed")),
-        7 => told::memory(&rt),
-        8 => told::long(&rt),
-        9 => told::catalog(&rt, file.as_str(), "a record breaks a rule"),
-        _ => {}
-    }
+    told::end(
+        rt,
+        status,
+        &words,
+        source.last.or(sink.last),
+        &store,
+        file.as_str(),
+        keeper.last_fault(),
+    );
     // What was applied is durable without it.
     let _ = keeper.close();
-    ExitCode::from(status)
+    Ok(status)
+}
+
+fn main(rt: HostRuntime) -> ExitCode {
+    match session(&rt) {
+        Ok(status) => ExitCode::from(status),
+        Err(NoMemory) => {
+            told::memory(&rt);
+            ExitCode::from(7)
+        }
+    }
 }

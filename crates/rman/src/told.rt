@@ -9,8 +9,8 @@ pub fn memory(rt: &HostRuntime) {
     let _ = eprintln!(rt; "rman: memory ran out");
 }
 
-/// The words are refused: the one that is known to be wrong.
-pub fn words(rt: &HostRuntime, words: &[Text]) {
+// The words are refused: the one that is known to be wrong.
+fn words(rt: &HostRuntime, words: &[Text]) {
     let _ = match bad_word(words) {
         Some(word) => eprintln!(rt; "rman: bad words: {word}"),
         None => {
@@ -21,16 +21,16 @@ pub fn words(rt: &HostRuntime, words: &[Text]) {
     };
 }
 
-/// Why the source or the sink failed.
-pub fn stream(rt: &HostRuntime, name: &str, last: Option<io::Error>) {
+// Why the source or the sink failed.
+fn stream(rt: &HostRuntime, name: &str, last: Option<io::Error>) {
     let _ = match last {
         Some(error) => eprintln!(rt; "rman: {name}: {error}"),
         None => eprintln!(rt; "rman: {name}: failed"),
     };
 }
 
-/// Why the store failed: the folder that is not open, or the object of the call that failed last.
-pub fn store(rt: &HostRuntime, store: &DirStore<Dir<'_>>) {
+// Why the store failed: the folder that is not open, or the object of the call that failed last.
+fn store(rt: &HostRuntime, store: &DirStore<Dir<'_>>) {
     let path = store.path();
     let _ = match (store.unopened(), store.last_failure()) {
         (Some(error), _) => eprintln!(rt; "rman: store: {path}: {error}"),
@@ -46,14 +46,38 @@ pub fn store(rt: &HostRuntime, store: &DirStore<Dir<'_>>) {
     };
 }
 
-/// Why the catalog failed, or is refused.
-pub fn catalog(rt: &HostRuntime, path: &str, why: &str) {
+// Why the catalog failed, or is refused.
+fn catalog(rt: &HostRuntime, path: &str, why: &str) {
     let _ = eprintln!(rt; "rman: catalog: {path}: {why}");
 }
 
-/// The script is too long.
-pub fn long(rt: &HostRuntime) {
+// The script is too long.
+fn long(rt: &HostRuntime) {
     let _ = eprintln!(rt; "rman: script over 4194304 bytes");
+}
+
+/// Why the session ended with this status, where it is none of 0 and 1: by the words, by the error of the source or the sink, by
+/// the store, or by the catalog in this file, whose last fault is told.
+pub fn end(
+    rt: &HostRuntime,
+    status: u8,
+    given: &[Text],
+    of_stream: Option<io::Error>,
+    of_store: &DirStore<Dir<'_>>,
+    file: &str,
+    fault: Option<&str>,
+) {
+    match status {
+        2 => words(rt, given),
+        3 => stream(rt, "standard input", of_stream),
+        4 => stream(rt, "standard output", of_stream),
+        5 => store(rt, of_store),
+        6 => catalog(rt, file, fault.unwrap_or("failed")),
+        7 => memory(rt),
+        8 => long(rt),
+        9 => catalog(rt, file, "a record breaks a rule"),
+        _ => {}
+    }
 }
 
 /// The folder was last used with this other catalog.
