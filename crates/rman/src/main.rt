@@ -5,7 +5,7 @@ mod bad_words;
 mod told;
 
 use rm_base::{NoMemory, Text};
-use rm_catalog::Keeper;
+use rm_catalog::{Keeper, KeeperFail};
 use rm_keeper_sql::CatalogFile;
 use rm_lang_words::{WordsFault, read_words};
 use rm_store_dir::{Dir, DirStore};
@@ -42,29 +42,33 @@ fn words(rt: &HostRuntime) -> Result<Vec<Text>, NoMemory> {
 }
 
 // Whether the catalog is known to have no records.
-fn is_empty<K: Keeper>(keeper: &mut K) -> bool {
+fn is_empty<K: Keeper>(keeper: &mut K) -> Result<bool, NoMemory> {
     match keeper.load() {
-        Ok(records) => records.as_slice().is_empty(),
-        Err(_) => false,
+        Ok(records) => Ok(records.as_slice().is_empty()),
+        Err(KeeperFail::Failed) => Ok(false),
+        Err(KeeperFail::NoMemory) => Err(NoMemory),
     }
 }
 
 // Opens the folder. One that is missing is made only where the catalog has no records: else the path is wrong, and all
-// objects would be missing. That another catalog had it last is warned of.
+// objects would be missing.
 fn open_store<'a, K: Keeper>(
     rt: &'a HostRuntime,
     folder: String,
-    file: &str,
     keeper: &mut K,
-) -> DirStore<Dir<'a>> {
+) -> Result<DirStore<Dir<'a>>, NoMemory> {
     let mut store = DirStore::open(rt, folder);
-    if store.is_missing() && is_empty(keeper) {
+    if store.is_missing() && is_empty(keeper)? {
         store.make();
     }
+    Ok(store)
+}
+
+// The folder is that of this catalog from now on. That another one had it last is warned of.
+fn claim(rt: &HostRuntime, store: &DirStore<Dir<'_>>, file: &str) {
     if let Some(other) = store.claim(file) {
         told::other_catalog(rt, store.path(), other.as_str());
     }
-    store
 }
 
 // A session by the program's words: its status. An error is want of memory before it began.
@@ -75,7 +79,10 @@ fn session(rt: &HostRuntime) -> Result<u8, NoMemory> {
     let mut source = ReadSource::new(rt.reader());
     let mut sink = WriteSink::new(io::writer(rt));
     let mut keeper = CatalogFile::open(rt, file.as_str());
-    let mut store = open_store(rt, folder, file.as_str(), &mut keeper);
+    let mut store = open_store(rt, folder, &mut keeper)?;
+    if matches!(keeper, CatalogFile::Opened(_)) {
+        claim(rt, &store, file.as_str());
+    }
     let mut clock = SystemClock::new(rt);
     let status = run(
         rt,

@@ -33,6 +33,7 @@ fn stream(rt: &HostRuntime, name: &str, last: Option<io::Error>) {
 fn store(rt: &HostRuntime, store: &DirStore<Dir<'_>>) {
     let path = store.path();
     let _ = match (store.unopened(), store.last_failure()) {
+        (Some(error), _) if path.is_empty() => eprintln!(rt; "rman: store: {error}"),
         (Some(error), _) => eprintln!(rt; "rman: store: {path}: {error}"),
         (None, Some(failure)) => {
             let name = failure.name.as_str();
