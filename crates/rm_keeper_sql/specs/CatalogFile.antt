@@ -25,6 +25,18 @@ abbrev pub faults_in : {S : Type 0} → CatalogFile S → ℕ
 faults_in (Opened k) = faults_of k
 faults_in (NotOpened u) = faults_without u
 
+-- the number whose records it loads and edits; 0 where no file is opened
+abbrev pub number_in : {S : Type 0} → CatalogFile S → ℕ
+number_in (Opened k) = number_of k
+number_in (NotOpened u) = 0
+
+-- where the disk gives back what was written, a connection that is open was so before
+abbrev pub Shuts : {S : Type 0} → Ghosts S → CatalogFile S → CatalogFile S → Type 0
+Shuts g (Opened old) (Opened new) = HasCleanDisk (state_of g new) → IsTrue (state_of g new).is_open → IsTrue (state_of g old).is_open
+Shuts g (Opened old) (NotOpened u) = ⊥
+Shuts g (NotOpened u) (Opened new) = ⊥
+Shuts g (NotOpened u) (NotOpened v) = Unit {0}
+
 -- A file that is opened stays so, and where the disk gives back what was written its table stays. One that is
 -- not opened fails for the same cause.
 abbrev pub Stays : {S : Type 0} → Ghosts S → CatalogFile S → CatalogFile S → Type 0

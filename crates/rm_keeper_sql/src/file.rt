@@ -115,12 +115,13 @@ fn make(rt: &HostRuntime, path: &str) -> Result<(), Fault> {
 }
 
 impl CatalogFile<FileStore<File>> {
-    ghost use Rattle.rm_keeper_sql.specs.CatalogFile.{faults_in};
+    ghost use Rattle.rm_keeper_sql.specs.CatalogFile.{faults_in, number_in};
 
     /// The catalog of this path. The file is made where it is missing and its parent is there, for its owner
     /// alone. Where that or opening it fails, or another program has it open, each call fails.
     pub fn open(rt: &HostRuntime, path: &str) -> Self
-        ensures { faults_in result ≡ 0 }
+        ensures faults { faults_in result ≡ 0 }
+        ensures number { number_in result ≡ 0 }
     {
         match make(rt, path) {
             Ok(()) => CatalogFile::over(rt.alloc(), Connection::open(rt, path)),
@@ -144,18 +145,20 @@ impl<S: Start> CatalogFile<FileStore<FileFrom<S>>> {
 }
 
 impl<S: Alter> CatalogFile<S> {
-    ghost use Rattle.rm_keeper_sql.specs.CatalogFile.{faults_in};
+    ghost use Rattle.rm_keeper_sql.specs.CatalogFile.{faults_in, number_in};
 
     // In place of one that could not be opened.
     fn not(alloc: Global, fault: Fault) -> Self
-        ensures { faults_in result ≡ 0 }
+        ensures faults { faults_in result ≡ 0 }
+        ensures number { number_in result ≡ 0 }
     {
         CatalogFile::NotOpened(Unopened::new(fail_of(fault), words_of(alloc, fault)))
     }
 
     // Over a connection, or in place of one that could not be opened.
     fn over(alloc: Global, opened: Result<Connection<S>, Error>) -> Self
-        ensures { faults_in result ≡ 0 }
+        ensures faults { faults_in result ≡ 0 }
+        ensures number { number_in result ≡ 0 }
     {
         match opened {
             Ok(connection) => CatalogFile::Opened(SqlKeeper::open(alloc, connection)),
@@ -189,7 +192,7 @@ impl<S: Alter> Keeper for CatalogFile<S> {
     ghost use Rattle.rm_catalog.specs.Edits.{after_edits};
     ghost use Rattle.rm_catalog.specs.Faults.{Answers};
     ghost use Rattle.rm_catalog.specs.declared.record.Record.{Record};
-    ghost use Rattle.rm_keeper_sql.specs.CatalogFile.{faults_in, Stays, ReadsOf, TakesOf};
+    ghost use Rattle.rm_keeper_sql.specs.CatalogFile.{faults_in, number_in, Shuts, Stays, ReadsOf, TakesOf};
 
     ghost kept = { λ _. None };
 
@@ -204,6 +207,8 @@ impl<S: Alter> Keeper for CatalogFile<S> {
         // What a file that is opened loads. Whatever comes of it, its table stays.
         ensures reads { IfOk result (λ rs. ReadsOf S.Store rs self.old self.new) }
         ensures stays { Stays S.Store self.old self.new }
+        ensures shuts { Shuts S.Store self.old self.new }
+        ensures number { number_in self.new ≡ number_in self.old }
     {
         match self {
             CatalogFile::Opened(keeper) => keeper.load(),
@@ -220,6 +225,8 @@ impl<S: Alter> Keeper for CatalogFile<S> {
         // A file that is opened takes the edits, or its table stays.
         ensures takes { OnOk result (TakesOf S.Store edits.now self.old self.new) }
         ensures none { OnErr result (Stays S.Store self.old self.new) }
+        ensures shuts { Shuts S.Store self.old self.new }
+        ensures number { number_in self.new ≡ number_in self.old }
     {
         match self {
             CatalogFile::Opened(keeper) => keeper.apply(edits),

@@ -3,7 +3,7 @@ ghost use Rattle.std.specs.Prelude.{IfOk};
 ghost use Rattle.rm_base.specs.Store.{Ascends};
 
 use crate::folder::Folder;
-use crate::lock::{claim, make, take};
+use crate::lock::{Last, claim, last_used, make, take};
 use crate::names::{MOST_BYTES, is_object};
 use rm_base::{Seq, Text};
 use std::alloc::AllocError;
@@ -60,13 +60,24 @@ impl<'a> Dir<'a> {
         }
     }
 
-    /// From now on it is the directory of this catalog. Where it was that of another one last, that one's path
-    /// is answered.
-    pub fn claim(&self, catalog: &str) -> Option<String> {
+    /// Whose it was last, asked by this catalog. One that is not open is as if it were this one's.
+    pub fn last_used(&self, catalog: &str) -> Last {
         match &self.lock {
-            Ok(lock) => claim(self.rt, lock, catalog),
-            Err(_) => None,
+            Ok(lock) => last_used(self.rt, lock, catalog),
+            Err(_) => Last::This,
         }
+    }
+
+    /// From now on it is the directory of this catalog.
+    pub fn claim(&self, catalog: &str) {
+        if let Ok(lock) = &self.lock {
+            claim(self.rt, lock, catalog);
+        }
+    }
+
+    /// From now on each call fails for this cause.
+    pub fn refuse(&mut self, cause: io::Error) {
+        self.lock = Err(cause);
     }
 
     // Its path, if it is open.

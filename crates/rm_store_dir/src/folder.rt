@@ -115,7 +115,7 @@ pub fn put_whole<F: Folder>(
     if folder.is_blocked(name)? {
         return Err(io::Error::new(
             ErrorKind::AlreadyExists,
-            "no file of an object stands there",
+            "what stands there is no object's file",
         ));
     }
     folder.remove(beside)?;

@@ -9,5 +9,6 @@ pub mod store;
 
 pub use dir::Dir;
 pub use folder::{Folder, put_whole, remove_whole};
+pub use lock::Last;
 pub use names::{MOST_BYTES, is_object};
 pub use store::{DirStore, Failure};

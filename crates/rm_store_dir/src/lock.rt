@@ -97,22 +97,40 @@ pub(crate) fn take(rt: &HostRuntime, path: &str) -> io::Result<File> {
     Ok(file)
 }
 
-fn write_claim(file: &File, catalog: &str) -> io::Result<()> {
-    file.set_len(0)?;
-    file.write_all_at(catalog.as_bytes(), 0)
+/// Whose the directory was last, by what its lock says.
+#[derive(Drop)]
+pub enum Last {
+    /// No catalog had it.
+    Nobody,
+    /// That of the catalog that is asked about.
+    This,
+    /// That of another catalog, of this path.
+    Other(String),
 }
 
-/// Writes into the file that is locked of which catalog the directory is from now on. Where it was another one's last,
-/// that one's path is answered. What can't be told or written is left.
-pub(crate) fn claim(rt: &HostRuntime, mut file: &File, catalog: &str) -> Option<String> {
-    let Ok(catalog) = fs::canonicalize(rt, catalog) else {
-        return None;
-    };
-    let mut before = String::new(rt.alloc());
-    let _ = file.read_to_string(&mut before);
-    if before.as_str() == catalog.as_str() {
-        return None;
+/// Whose the directory of this lock was last, asked by this catalog.
+pub(crate) fn last_used(rt: &HostRuntime, mut file: &File, catalog: &str) -> Last {
+    let mut last = String::new(rt.alloc());
+    let _ = file.read_to_string(&mut last);
+    if last.is_empty() {
+        return Last::Nobody;
     }
-    let _ = write_claim(file, catalog.as_str());
-    (!before.is_empty()).then_some(before)
+    match fs::canonicalize(rt, catalog) {
+        Ok(path) if path.as_str() == last.as_str() => Last::This,
+        _ => Last::Other(last),
+    }
+}
+
+// (What stood there is cut only behind what is written.)
+fn write_claim(file: &File, catalog: &str) -> io::Result<()> {
+    file.write_all_at(catalog.as_bytes(), 0)?;
+    file.set_len(catalog.len() as u64)
+}
+
+/// Writes into the file that is locked of which catalog the directory is from now on. What can't be told or written is
+/// left.
+pub(crate) fn claim(rt: &HostRuntime, file: &File, catalog: &str) {
+    if let Ok(path) = fs::canonicalize(rt, catalog) {
+        let _ = write_claim(file, path.as_str());
+    }
 }

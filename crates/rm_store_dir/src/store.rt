@@ -8,6 +8,7 @@ ghost use Rattle.rm_store_dir.specs.Folder.{MayHave};
 
 use crate::dir::Dir;
 use crate::folder::{Folder, put_whole, remove_whole};
+use crate::lock::Last;
 use crate::names::{MOST_BYTES, beside, is_object};
 use rm_base::{Seq, Store, StoreFail, Text};
 use std::alloc::Global;
@@ -63,10 +64,21 @@ impl<'a> DirStore<Dir<'a>> {
         self.folder.unopened()
     }
 
-    /// From now on it is the directory of this catalog. Where it was that of another one last, that one's path
-    /// is answered.
-    pub fn claim(&self, catalog: &str) -> Option<String> {
-        self.folder.claim(catalog)
+    /// Whose the directory was last, asked by this catalog. One that is not open is as if it were this one's.
+    pub fn last_used(&self, catalog: &str) -> Last {
+        self.folder.last_used(catalog)
+    }
+
+    /// From now on it is the directory of this catalog.
+    pub fn claim(&self, catalog: &str) {
+        self.folder.claim(catalog);
+    }
+
+    /// From now on each call fails for this cause.
+    pub fn refuse(&mut self, cause: io::Error)
+        ensures { faults_of self.new ≡ faults_of self.old }
+    {
+        self.folder.refuse(cause);
     }
 }
 

@@ -2,7 +2,7 @@
 use crate::records::tell_bytes;
 use crate::tables::tell_mode;
 use rm_base::{Store, StoreFail};
-use rm_store_dir::{Dir, DirStore};
+use rm_store_dir::{Dir, DirStore, Last};
 use std::os::unix::fs::symlink;
 use std::{fs, io};
 
@@ -278,7 +278,8 @@ fn second(rt: &HostRuntime) -> io::Result<()> {
 // Whether the directory was last the one of another catalog.
 fn claim(rt: &HostRuntime, catalog: &str) -> io::Result<()> {
     let store = open(rt, "objects", false)?;
-    let is_other = store.claim(catalog).is_some();
+    let is_other = matches!(store.last_used(catalog), Last::Other(_));
+    store.claim(catalog);
     rt.println(format_args!("{catalog}: of another {is_other}"))
 }
 

@@ -4,17 +4,17 @@
 mod bad_words;
 mod told;
 
-use rm_base::{NoMemory, Text};
+use rm_base::{NoMemory, Store, Text};
 use rm_catalog::{Keeper, KeeperFail};
 use rm_keeper_sql::CatalogFile;
 use rm_lang_words::{WordsFault, read_words};
-use rm_store_dir::{Dir, DirStore};
+use rm_store_dir::{Dir, DirStore, Last};
 use rm_tool::run::run;
 use rm_tool::{OpenGate, ReadSource, SystemClock, WriteSink};
 use std::alloc::Global;
 use std::io::ErrorKind;
 use std::process::ExitCode;
-use std::{env, io};
+use std::{env, fs, io};
 
 // The paths of the folder and of the catalog that the words say. Where these are refused nothing is opened by the empty
 // ones, and `run` asks neither.
@@ -64,10 +64,48 @@ fn open_store<'a, K: Keeper>(
     Ok(store)
 }
 
-// The folder is that of this catalog from now on. That another one had it last is warned of.
-fn claim(rt: &HostRuntime, store: &DirStore<Dir<'_>>, file: &str) {
-    if let Some(other) = store.claim(file) {
-        told::other_catalog(rt, store.path(), other.as_str());
+// Whether the catalog has records. A file of no bytes may have some in what stands beside it.
+fn has_records<K: Keeper>(rt: &HostRuntime, file: &str, keeper: &mut K) -> Result<bool, NoMemory> {
+    match fs::metadata(rt, file) {
+        Ok(found) if found.len() > 0 => Ok(true),
+        _ => Ok(!is_empty(keeper)?),
+    }
+}
+
+fn has_objects<D: Store>(store: &mut D) -> bool {
+    match store.names() {
+        Ok(names) => !names.is_empty(),
+        Err(_) => true,
+    }
+}
+
+// Holds the folder and the catalog against each other, before anything is put. A folder that no catalog had and that has
+// no object is not that of records that are there. That another catalog had it last is warned of, and so are objects
+// that a new database would replace.
+fn meet(rt: &HostRuntime, store: &mut DirStore<Dir<'_>>, file: &str, has_records: bool) {
+    match store.last_used(file) {
+        Last::This if has_records => {}
+        Last::This => {
+            if has_objects(store) {
+                told::used_folder(rt, store.path());
+            }
+        }
+        Last::Other(other) => {
+            told::other_catalog(rt, store.path(), other.as_str());
+            if has_records {
+                store.claim(file);
+            }
+        }
+        Last::Nobody if has_records && !has_objects(store) => store.refuse(io::Error::new(
+            ErrorKind::InvalidInput,
+            "it has no object and was no catalog's yet, and this catalog has records",
+        )),
+        Last::Nobody => {
+            if !has_records && has_objects(store) {
+                told::used_folder(rt, store.path());
+            }
+            store.claim(file);
+        }
     }
 }
 
@@ -81,7 +119,8 @@ fn session(rt: &HostRuntime) -> Result<u8, NoMemory> {
     let mut keeper = CatalogFile::open(rt, file.as_str());
     let mut store = open_store(rt, folder, &mut keeper)?;
     if matches!(keeper, CatalogFile::Opened(_)) {
-        claim(rt, &store, file.as_str());
+        let has_records = has_records(rt, file.as_str(), &mut keeper)?;
+        meet(rt, &mut store, file.as_str(), has_records);
     }
     let mut clock = SystemClock::new(rt);
     let status = run(

@@ -85,3 +85,10 @@ pub fn end(
 pub fn other_catalog(rt: &HostRuntime, path: &str, other: &str) {
     let _ = eprintln!(rt; "rman: warning: {path} was last used with the catalog {other}");
 }
+
+/// The folder has objects, and the catalog no records: a new database would replace them.
+pub fn used_folder(rt: &HostRuntime, path: &str) {
+    let _ = eprintln!(rt;
+        "rman: warning: {path} has objects, and the catalog has no records: a new database may replace them"
+    );
+}
