@@ -72,7 +72,8 @@ fn tell_kernels(rt: &HostRuntime) -> io::Result<()> {
     tell(rt, "kernels are plain loops", kernels::plain(alloc))?;
     tell::<Fault>(rt, "bits are least first", Ok(kernels::least_first()))?;
     tell(rt, "blocks with a bit each", tracking::blocks(alloc))?;
-    tell(rt, "level 1s of tracked blocks", tracking::level1s(alloc))
+    tell(rt, "a level 1 behind six", tracking::behind_six(alloc))?;
+    tell(rt, "a level 1 behind seven", tracking::behind_seven(alloc))
 }
 
 fn tell_catalogs(rt: &HostRuntime) -> io::Result<()> {

@@ -1,5 +1,5 @@
 //! Which blocks a level 1 reads where changes are tracked: the worked rows, by the tracker alone, for a datafile of 8 blocks.
-ghost use Rattle.std.specs.Prelude.{◌+◌, ◌≤◌, IfSome, OnOk};
+ghost use Rattle.std.specs.Prelude.{◌+◌, ◌≤◌, IfOk, IfSome, OnOk};
 ghost use Rattle.rm_track.specs.Bitmaps.{tracked_at};
 
 use rm_base::{NoMemory, Scn};
@@ -7,55 +7,58 @@ use rm_test_harness::Fault;
 use rm_track::{Bits, Tracker};
 use std::alloc::Global;
 
-// How many blocks a level 1 from `from` at this checkpoint reads.
-fn read(alloc: Global, tracker: &mut Tracker, from: Scn, checkpoint: Scn) -> Result<u64, NoMemory>
-    requires { IfSome (tracked_at tracker.old 1) (λ t. t.start ≤ checkpoint) }
-    ensures { OnOk result (IfSome (tracked_at tracker.new 1) (λ t. t.start ≤ checkpoint)) }
+// The datafile is tracked from SCN 2 on.
+fn tracked(alloc: Global) -> Result<Tracker, NoMemory>
+    ensures { IfOk result (λ ts. IfSome (tracked_at ts 1) (λ t. t.start ≤ 2)) }
 {
-    tracker.switch(alloc, 1, checkpoint)?;
+    let mut tracker = Tracker::new(alloc);
+    tracker.add_file(alloc, 1, 8, 2)?;
+    Ok(tracker)
+}
+
+// How many blocks a level 1 from `from` reads behind a write of this block, which has SCN 2 + block.
+fn reads(alloc: Global, tracker: &mut Tracker, block: u32, from: Scn) -> Result<u64, NoMemory>
+    requires { IfSome (tracked_at tracker.old 1) (λ t. t.start ≤ 2 + block) }
+    ensures { OnOk result (IfSome (tracked_at tracker.new 1) (λ t. t.start ≤ 3 + block)) }
+{
+    tracker.mark(1, block);
+    tracker.switch(alloc, 1, 3 + Scn::from(block))?;
     match tracker.candidates(alloc, 1, from)? {
         Some(bits) => Ok(bits.count()),
         None => Ok(8),
     }
 }
 
-// A write of the block at the checkpoint of the backup before, and a level 1 from there: how many blocks it reads.
-fn write_and_read(alloc: Global, tracker: &mut Tracker, block: u32) -> Result<u64, NoMemory>
-    requires { IfSome (tracked_at tracker.old 1) (λ t. t.start ≤ 2 + block) }
-    ensures { OnOk result (IfSome (tracked_at tracker.new 1) (λ t. t.start ≤ 3 + block)) }
+// Whether six level 1s, each behind a write, read one block each.
+fn six_read_one_each(alloc: Global, tracker: &mut Tracker) -> Result<bool, NoMemory>
+    requires { IfSome (tracked_at tracker.old 1) (λ t. t.start ≤ 2) }
+    ensures { OnOk result (IfSome (tracked_at tracker.new 1) (λ t. t.start ≤ 8)) }
 {
-    tracker.mark(1, block);
-    let from = 2 + Scn::from(block);
-    read(alloc, tracker, from, from + 1)
+    let first = reads(alloc, tracker, 0, 2)?;
+    let second = reads(alloc, tracker, 1, 3)?;
+    let third = reads(alloc, tracker, 2, 4)?;
+    let fourth = reads(alloc, tracker, 3, 5)?;
+    let fifth = reads(alloc, tracker, 4, 6)?;
+    let sixth = reads(alloc, tracker, 5, 7)?;
+    Ok([first, second, third, fourth, fifth, sixth] == [1; 6])
 }
 
-// A level 0 at SCN 2, so many times a write and a level 1, a write more, and a cumulative level 1: whether each level 1 reads
-// one block and the cumulative one so many.
-fn reads(alloc: Global, differentials: u32, cumulative: u64) -> Result<bool, Fault> {
-    let mut tracker = Tracker::new(alloc);
-    tracker.add_file(alloc, 1, 8, 2)?;
-    tracker.switch(alloc, 1, 2)?;
-    let mut each_reads_one = true;
-    for block in 0..differentials {
-        let read = write_and_read(alloc, &mut tracker, block)?;
-        each_reads_one = each_reads_one && read == 1;
-    }
-    tracker.mark(1, differentials);
-    // (what is not there is not marked)
-    tracker.mark(1, 8);
-    tracker.mark(2, 0);
-    let last = 3 + Scn::from(differentials);
-    let all = read(alloc, &mut tracker, 2, last)?;
-    let again = read(alloc, &mut tracker, last, last)?;
-    Ok(each_reads_one && all == cumulative && again == 0)
+/// Behind six level 1s a cumulative one reads the blocks that changed.
+pub fn behind_six(alloc: Global) -> Result<bool, Fault> {
+    let mut tracker = tracked(alloc)?;
+    let each = six_read_one_each(alloc, &mut tracker)?;
+    Ok(each && reads(alloc, &mut tracker, 6, 2)? == 7)
 }
 
-/// Eight bitmaps are kept: behind seven level 1s a cumulative one reads all blocks, and behind six those that changed.
-pub fn level1s(alloc: Global) -> Result<bool, Fault> {
-    Ok(reads(alloc, 7, 8)? && reads(alloc, 6, 7)?)
+/// Behind seven it reads all: eight bitmaps are kept.
+pub fn behind_seven(alloc: Global) -> Result<bool, Fault> {
+    let mut tracker = tracked(alloc)?;
+    let each = six_read_one_each(alloc, &mut tracker)?;
+    let seventh = reads(alloc, &mut tracker, 6, 8)?;
+    Ok(each && seventh == 1 && reads(alloc, &mut tracker, 7, 2)? == 8)
 }
 
-/// Blocks are added, joined, counted and walked.
+/// Blocks are added, joined, counted and walked; one that is not there is not marked.
 pub fn blocks(alloc: Global) -> Result<bool, Fault> {
     let mut some = Bits::none(alloc, 20)?;
     some.add(3);
