@@ -14,6 +14,8 @@ use rm_tool::{OpenGate, ReadSource, SystemClock, WriteSink};
 use std::alloc::Global;
 use std::io::ErrorKind;
 use std::process::ExitCode;
+use std::sync::Wait;
+use std::thread::Threads;
 use std::{env, fs, io};
 
 // The paths of the folder and of the catalog that the words say. Where these are refused nothing is opened by the empty
@@ -109,8 +111,8 @@ fn meet(rt: &HostRuntime, store: &mut DirStore<Dir<'_>>, file: &str, has_records
     }
 }
 
-// A session by the program's words: its status. An error is want of memory before it began.
-fn session(rt: &HostRuntime) -> Result<u8, NoMemory> {
+// A session by the program's words, with threads by the second handle: its status. An error is want of memory before it began.
+fn session<R: Threads + Wait + Sync>(rt: &HostRuntime, threads: &R) -> Result<u8, NoMemory> {
     let alloc = rt.alloc();
     let words = words(rt)?;
     let (folder, file) = paths(alloc, &words)?;
@@ -124,7 +126,7 @@ fn session(rt: &HostRuntime) -> Result<u8, NoMemory> {
     }
     let mut clock = SystemClock::new(rt);
     let status = run(
-        rt,
+        threads,
         alloc,
         &OpenGate,
         &words,
@@ -149,7 +151,7 @@ fn session(rt: &HostRuntime) -> Result<u8, NoMemory> {
 }
 
 fn main(rt: HostRuntime) -> ExitCode {
-    match session(&rt) {
+    match session(&rt, &rt) {
         Ok(status) => ExitCode::from(status),
         Err(NoMemory) => {
             told::memory(&rt);
