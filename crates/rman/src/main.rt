@@ -16,7 +16,7 @@ use std::io::ErrorKind;
 use std::process::ExitCode;
 use std::sync::Wait;
 use std::thread::Threads;
-use std::{env, fs, io};
+use std::{env, io};
 
 // The paths of the folder and of the catalog that the words say. Where these are refused nothing is opened by the empty
 // ones, and `run` asks neither.
@@ -43,35 +43,23 @@ fn words(rt: &HostRuntime) -> Result<Vec<Text>, NoMemory> {
     Ok(words)
 }
 
-// Whether the catalog is known to have no records.
-fn is_empty<K: Keeper>(keeper: &mut K) -> Result<bool, NoMemory> {
+// Whether the catalog has records, or can't be read: then it may have some.
+fn has_records<K: Keeper>(keeper: &mut K) -> Result<bool, NoMemory> {
     match keeper.load() {
-        Ok(records) => Ok(records.as_slice().is_empty()),
-        Err(KeeperFail::Failed) => Ok(false),
+        Ok(records) => Ok(!records.as_slice().is_empty()),
+        Err(KeeperFail::Failed) => Ok(true),
         Err(KeeperFail::NoMemory) => Err(NoMemory),
     }
 }
 
 // Opens the folder. One that is missing is made only where the catalog has no records: else the path is wrong, and all
 // objects would be missing.
-fn open_store<'a, K: Keeper>(
-    rt: &'a HostRuntime,
-    folder: String,
-    keeper: &mut K,
-) -> Result<DirStore<Dir<'a>>, NoMemory> {
+fn open_store(rt: &HostRuntime, folder: String, has_records: bool) -> DirStore<Dir<'_>> {
     let mut store = DirStore::open(rt, folder);
-    if store.is_missing() && is_empty(keeper)? {
+    if store.is_missing() && !has_records {
         store.make();
     }
-    Ok(store)
-}
-
-// Whether the catalog has records. A file of no bytes may have some in what stands beside it.
-fn has_records<K: Keeper>(rt: &HostRuntime, file: &str, keeper: &mut K) -> Result<bool, NoMemory> {
-    match fs::metadata(rt, file) {
-        Ok(found) if found.len() > 0 => Ok(true),
-        _ => Ok(!is_empty(keeper)?),
-    }
+    store
 }
 
 fn has_objects<D: Store>(store: &mut D) -> bool {
@@ -119,9 +107,9 @@ fn session<R: Threads + Wait + Sync>(rt: &HostRuntime, threads: &R) -> Result<u8
     let mut source = ReadSource::new(rt.reader());
     let mut sink = WriteSink::new(io::writer(rt));
     let mut keeper = CatalogFile::open(rt, file.as_str());
-    let mut store = open_store(rt, folder, &mut keeper)?;
+    let has_records = has_records(&mut keeper)?;
+    let mut store = open_store(rt, folder, has_records);
     if matches!(keeper, CatalogFile::Opened(_)) {
-        let has_records = has_records(rt, file.as_str(), &mut keeper)?;
         meet(rt, &mut store, file.as_str(), has_records);
     }
     let mut clock = SystemClock::new(rt);
