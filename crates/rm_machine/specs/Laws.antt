@@ -6,7 +6,8 @@ use Rattle.rm_lang_statement.specs.declared.command.Command.{Command}
 use Rattle.rm_report.specs.declared.line.Line.{Line}
 use Rattle.rm_report.specs.Reply.{said}
 use Rattle.rm_machine.specs.Effect.{Effect, LeavesObjects, done, told}
-use Rattle.rm_machine.specs.Machine.{Machine, IsSoundMachine, DigestsTell}
+use Rattle.rm_machine.specs.Honest.{IsHonest}
+use Rattle.rm_machine.specs.Machine.{Machine, IsSoundMachine}
 use Rattle.rm_machine.specs.Nature.{nature_of, tells}
 use Rattle.rm_machine.specs.Sound.{IsSound}
 use Rattle.rm_machine.specs.declared.state.State.{State}
@@ -18,19 +19,19 @@ pub record IsMomentOf (s : State) (moment : ℕ) : Type 0 where
   pub kept : (ledger s).base.moment ≤ moment
   pub last : moment ≤ last_moment
 
--- Where digests tell, what is at hand is a step of the machine: from a sound one to a sound one.
+-- Where the world is honest, what is at hand is a step of the machine: from a sound one to a sound one.
 abbrev pub LeadsOn : Command → Type 0
 LeadsOn c =
     (m : Machine) (s : State) (moment : ℕ) (lines : List Line) (effect : Effect) (t : State) (after : Held)
-    → IsStatement c → m.state ≡ Some s → IsSoundMachine m → DigestsTell m → IsMomentOf s moment
+    → IsStatement c → m.state ≡ Some s → IsSoundMachine m → IsHonest m c → IsMomentOf s moment
     → IsOutcome (at_moment s moment) m.objects c (done lines effect t) → LeavesObjects (and_drops (Some s) effect) m.objects after
     → (n : Machine) × StepBy (Some (at_moment s moment)) m c (done lines effect t) (said lines) n × (n.objects ≡ after) × IsSoundMachine n
 
--- Where digests tell, what a statement tells is a step of the machine, from a sound one to itself.
+-- Where the world is honest, what a statement tells is a step of the machine, from a sound one to itself.
 abbrev pub TellsOn : Command → Type 0
 TellsOn c =
     (m : Machine) (s : State) (moment : ℕ) (lines : List Line)
-    → IsStatement c → m.state ≡ Some s → IsSoundMachine m → DigestsTell m → IsMomentOf s moment
+    → IsStatement c → m.state ≡ Some s → IsSoundMachine m → IsHonest m c → IsMomentOf s moment
     → IsOutcome (at_moment s moment) m.objects c (told lines) → StepBy (Some (at_moment s moment)) m c (told lines) (said lines) m
 
 -- Whatever the devices hold, and whatever was ever written, the statement leaves a sound state, and no saved site.

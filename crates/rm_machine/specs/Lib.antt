@@ -5,6 +5,7 @@ pub mod BackupLogs
 pub mod BackupOutcome
 pub mod BackupRefusal
 pub mod Built
+pub mod CatalogName
 pub mod Configure
 pub mod CreateDatabase
 pub mod CreateDatafile
@@ -13,6 +14,7 @@ pub mod Dump
 pub mod Effect
 pub mod Events
 pub mod Hands
+pub mod Honest
 pub mod Laws
 pub mod ListIncarnation
 pub mod Lists

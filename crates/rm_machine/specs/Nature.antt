@@ -3,7 +3,7 @@ use Rattle.std.specs.Prelude.{Bool, true, false}
 use Rattle.rm_lang_statement.specs.declared.command.Command.{Command}
 use Rattle.rm_lang_statement.specs.declared.command.Command.TheVariants.{CreateDatabase, CreateDatafile, Write, SwitchLogfile, ArchiveLogCurrent, Mount, OpenPlain, OpenResetlogs, Tracking, ResetDatabase, Restore, Preview, Recover, RecoverTest, RecoverCopy, Backup, BackupLogs, Crosscheck, ValidateAll, ChangeBackup, DeleteObsolete, DeleteBackup, DeleteExpired, ReportObsolete, ReportNeedBackup, ReportSchema, ListIncarnation, ListBackup, ListCopy, ListArchived, ShowAll, Dump, Retention, Parallelism, CatalogName, LoseDatafile, LoseLog, Remove, Damage, Cut, Rename}
 use Rattle.rm_machine.specs.declared.nature.Nature.{Nature}
-use Rattle.rm_machine.specs.declared.nature.Nature.TheVariants.{Changes, ChangesByHeld, Mishap, TellsHeld, TellsState, TestsHeld, TriesByHeld, Unbuilt}
+use Rattle.rm_machine.specs.declared.nature.Nature.TheVariants.{Changes, ChangesByHeld, Mishap, Records, TellsHeld, TellsState, TestsHeld, TriesByHeld, Unbuilt}
 
 -- the nature of each form
 abbrev pub nature_of : Command → Nature
@@ -41,7 +41,7 @@ nature_of ShowAll = TellsState
 nature_of (Dump file block) = TellsState
 nature_of (Retention form) = Changes
 nature_of (Parallelism channels) = Changes
-nature_of (CatalogName name) = Unbuilt
+nature_of (CatalogName name) = Records
 nature_of (LoseDatafile file) = Changes
 nature_of (LoseLog thread) = Changes
 nature_of (Remove name) = Mishap
@@ -58,6 +58,7 @@ has_step TestsHeld = true
 has_step Changes = true
 has_step ChangesByHeld = true
 has_step TriesByHeld = true
+has_step Records = true
 has_step Mishap = true
 
 -- it tells, and changes nothing
@@ -69,7 +70,20 @@ tells TestsHeld = true
 tells Changes = false
 tells ChangesByHeld = false
 tells TriesByHeld = false
+tells Records = false
 tells Mishap = false
+
+-- it gives a name of an object
+abbrev pub gives_name : Nature → Bool
+gives_name Unbuilt = false
+gives_name TellsState = false
+gives_name TellsHeld = false
+gives_name TestsHeld = false
+gives_name Changes = false
+gives_name ChangesByHeld = false
+gives_name TriesByHeld = false
+gives_name Records = true
+gives_name Mishap = true
 
 -- what the store has may refuse it
 abbrev pub tries : Nature → Bool
@@ -80,4 +94,5 @@ tries TestsHeld = true
 tries Changes = false
 tries ChangesByHeld = false
 tries TriesByHeld = true
+tries Records = true
 tries Mishap = true

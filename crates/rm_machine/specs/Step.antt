@@ -15,6 +15,7 @@ use Rattle.rm_machine.specs.Asked.{writes_in}
 use Rattle.rm_machine.specs.BackupOutcome.{IsBackupOutcome}
 use Rattle.rm_machine.specs.BackupRefusal.{backup_refusal}
 use Rattle.rm_machine.specs.BackupLogs.{IsBackupLogsOutcome}
+use Rattle.rm_machine.specs.CatalogName.{IsCatalogOutcome}
 use Rattle.rm_machine.specs.Configure.{parallelism_refusal, retention_refusal, IsParallelismOutcome, IsRetentionOutcome}
 use Rattle.rm_machine.specs.CreateDatabase.{IsCreateOutcome}
 use Rattle.rm_machine.specs.CreateDatafile.{datafile_refusal, IsDatafileOutcome}
@@ -25,7 +26,7 @@ use Rattle.rm_machine.specs.ListIncarnation.{IsListIncarnationOutcome}
 use Rattle.rm_machine.specs.Lists.{IsListOutcome}
 use Rattle.rm_machine.specs.LoseDatafile.{lose_refusal, IsLoseOutcome}
 use Rattle.rm_machine.specs.LoseLog.{lose_log_refusal, IsLoseLogOutcome}
-use Rattle.rm_machine.specs.Machine.{Machine, DigestsTell}
+use Rattle.rm_machine.specs.Machine.{Machine}
 use Rattle.rm_machine.specs.Marks.{ids_refusal}
 use Rattle.rm_machine.specs.Mount.{IsMountOutcome}
 use Rattle.rm_machine.specs.Obsolete.{IsDeleteObsoleteOutcome, IsNeedOutcome, IsReportOutcome, IsSafe}
@@ -141,7 +142,7 @@ IsDone s held (Cut name to) o = IsCutOutcome s held name to o
 IsDone s held (Rename old new) o = IsRenameOutcome s held old new o
 IsDone s held (CreateDatabase dbid threads scn) o = ⊥
 IsDone s held (Tracking on) o = ⊥
-IsDone s held (CatalogName name) o = ⊥
+IsDone s held (CatalogName name) o = IsCatalogOutcome s held name o
 
 abbrev pub IsOutcomeBy : Option Refusal → State → Held → Command → Outcome → Type 0
 IsOutcomeBy (Some r) s held c o = o ≡ refused r
@@ -280,9 +281,3 @@ StepIn (Some s) m c moment said n = (o : Outcome) × IsOutcome (at_moment s mome
 -- the database as it is at its moment, which is kept by what is done.
 abbrev pub Step : Machine → Command → ℕ → Reply → Machine → Type 0
 Step m c moment said n = StepIn m.state m c moment said n
-
--- A run: as long as digests tell at each machine of it, the next step is there.
-abbrev pub Runs : Machine → List (Command × ℕ) → List Reply → (Machine → Type 0) → Type 0
-Runs m [] replies Ends = Ends m
-Runs m (c ∷ cs) [] Ends = ⊥
-Runs m (c ∷ cs) (r ∷ rs) Ends = DigestsTell m → (n : Machine) × Step m c.0 c.1 r n × Runs n cs rs Ends

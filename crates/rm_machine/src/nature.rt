@@ -17,6 +17,8 @@ pub enum Nature {
     ChangesByHeld,
     /// It changes the database by what the store has too, which may refuse it.
     TriesByHeld,
+    /// It records an object of which no record tells: what the store has may refuse it.
+    Records,
     /// It is a mishap of an object, whose name it gives: what the store has may refuse it.
     Mishap,
 }

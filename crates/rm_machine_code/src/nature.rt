@@ -46,7 +46,7 @@ pub fn nature_of(command: &Command) -> Nature
         Command::Dump { .. } => Nature::TellsState,
         Command::Retention(_) => Nature::Changes,
         Command::Parallelism { .. } => Nature::Changes,
-        Command::CatalogName { .. } => Nature::Unbuilt,
+        Command::CatalogName { .. } => Nature::Records,
         Command::LoseDatafile { .. } => Nature::Changes,
         Command::LoseLog { .. } => Nature::Changes,
         Command::Remove { .. } => Nature::Mishap,
@@ -68,6 +68,7 @@ pub fn is_built(command: &Command) -> bool
         Nature::Changes => true,
         Nature::ChangesByHeld => true,
         Nature::TriesByHeld => true,
+        Nature::Records => true,
         Nature::Mishap => true,
     }
 }
@@ -84,6 +85,7 @@ pub fn only_tells(command: &Command) -> bool
         Nature::Changes => false,
         Nature::ChangesByHeld => false,
         Nature::TriesByHeld => false,
+        Nature::Records => false,
         Nature::Mishap => false,
     }
 }

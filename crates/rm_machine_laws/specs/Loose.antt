@@ -1,11 +1,12 @@
 -- Names of records are touched by no statement but one of HOST that gives them.
-use Rattle.std.specs.Prelude.{ℕ, ◌≡◌, true, IsSomeAnd, Option, Some, None, List, Contains}
+use Rattle.std.specs.Prelude.{ℕ, ◌≡◌, ◌<◌, true, IsSomeAnd, Option, Some, None, List, Contains}
 use Rattle.rm_base.specs.Store.{Held}
 use Rattle.rm_catalog.specs.declared.record.PartEntry.{PartEntry}
 use Rattle.rm_commit.specs.Names.{is_named, itself, name_of}
 use Rattle.rm_lang_statement.specs.declared.command.Command.{Command}
 use Rattle.rm_evidence.specs.Names.{site_name}
 use Rattle.rm_report.specs.declared.line.Line.{Line}
+use Rattle.rm_machine.specs.CatalogName.{IsNamed}
 use Rattle.rm_machine.specs.Effect.{Effect, done}
 use Rattle.rm_machine.specs.Names.{IsObjectName}
 use Rattle.rm_machine.specs.Sound.{IsSound}
@@ -23,10 +24,16 @@ abbrev pub IsNamedIn : Option State → List ℕ → Type 0
 IsNamedIn None name = ⊥
 IsNamedIn (Some s) name = IsNamedBy s name
 
--- What is put has no name of a record before, nor that of a part of a saved site; what goes has none of a
--- record after. The names that HOST gives are left aside.
+-- the name is of a log, a piece or an image copy, of an id below the next one
+abbrev pub IsLowIn : Option State → List ℕ → Type 0
+IsLowIn None name = ⊥
+IsLowIn (Some s) name = (id : ℕ) × IsNamed name id × (id < (ledger s).base.next_id)
+
+-- What is put has no name of a record before, nor that of a part of a saved site, and its id is none that was given; what goes
+-- has no name of a record after. The names that HOST gives are left aside.
 pub record IsLoose (o : Option State) (c : Command) (e : Effect) (t : State) : Type 0 where
   pub puts : (name : List ℕ) → IsNamedIn o name → is_named name_of e.puts name ≡ true → Contains (names_in c) name
+  pub low : (name : List ℕ) → IsLowIn o name → is_named name_of e.puts name ≡ true → Contains (names_in c) name
   pub parts : (id : ℕ) → is_named name_of e.puts (site_name id) ≡ true → Contains (names_in c) (site_name id)
   pub removes : (name : List ℕ) → IsNamedBy t name → is_named itself e.removes name ≡ true → Contains (names_in c) name
 

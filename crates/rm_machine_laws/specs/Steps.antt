@@ -5,6 +5,7 @@ use Rattle.rm_catalog.specs.declared.record.Record.{Record}
 use Rattle.rm_lang_statement.specs.declared.command.Command.{Command}
 use Rattle.rm_lang_statement.specs.declared.command.Command.TheVariants.{DeleteObsolete}
 use Rattle.rm_report.specs.declared.line.Reply.{Reply}
+use Rattle.rm_machine.specs.Honest.{IsHonest}
 use Rattle.rm_machine.specs.Machine.{DigestsTell, Machine}
 use Rattle.rm_machine.specs.Obsolete.{IsSafe}
 use Rattle.rm_machine.specs.declared.state.State.{State}
@@ -13,18 +14,18 @@ use Rattle.rm_machine.specs.Step.{Step}
 use Rattle.rm_machine_laws.specs.Holds.{Holds, Stands, View}
 use Rattle.rm_machine_laws.specs.Moments.{moment_of}
 
--- Whatever machine this database is of: where digests tell, the step is that machine's, and what there is then
+-- Whatever machine this database is of: where the world is honest, the step is that machine's, and what there is then
 -- is of the machine after it.
 abbrev pub StepsAt : Option Held → Option (List Record) → Option State → Command → ℕ → Reply → Option Held → Option (List Record) → Option State → Type 0
 StepsAt held kept o c moment reply held' kept' o' =
-    (m : Machine) → m.state ≡ o → Holds held kept m → DigestsTell m
+    (m : Machine) → m.state ≡ o → Holds held kept m → IsHonest m c
     → (n : Machine) × Step m c moment reply n × (n.state ≡ o') × Holds held' kept' n
 
--- Whatever machine the site stands for: where digests tell, the step is that machine's, and the site stands for
+-- Whatever machine the site stands for: where the world is honest, the step is that machine's, and the site stands for
 -- the one after it.
 abbrev pub Steps : Option Held → Option (List Record) → View → Command → ℕ → Reply → Option Held → Option (List Record) → View → Type 0
 Steps held kept v c clock reply held' kept' v' =
-    (m : Machine) → Stands v m → Holds held kept m → DigestsTell m
+    (m : Machine) → Stands v m → Holds held kept m → IsHonest m c
     → (n : Machine) × Step m c (moment_of m.state clock) reply n × Stands v' n × Holds held' kept' n
 
 -- StepsAt as a word of its own, which a proof opens where it needs it

@@ -1,15 +1,16 @@
 -- What a stop leaves of a statement: a database at rest, which the next session wakes.
-use Rattle.std.specs.Prelude.{ℕ, ◌≡◌, ◌⊎◌, ◌++◌, Option, List, Contains}
+use Rattle.std.specs.Prelude.{ℕ, ◌≡◌, ◌⊎◌, ◌++◌, Option, None, List, Contains}
 use Rattle.rm_base.specs.Store.{Held}
 use Rattle.rm_catalog.specs.declared.record.Record.{Record}
 use Rattle.rm_lang_statement.specs.declared.command.Command.{Command}
 use Rattle.rm_report.specs.declared.line.Reply.{Reply}
-use Rattle.rm_machine.specs.Machine.{DigestsTell, Machine}
+use Rattle.rm_machine.specs.Honest.{IsHonest}
+use Rattle.rm_machine.specs.Machine.{Machine}
 use Rattle.rm_machine.specs.Rest.{Rest, catalog_in}
 use Rattle.rm_machine.specs.declared.state.State.{State}
 use Rattle.rm_machine.specs.Step.{Step, names_in}
 use Rattle.rm_machine_laws.specs.Holds.{Holds, HoldsRest, Stands, View}
-use Rattle.rm_machine_laws.specs.Loose.{IsNamedIn}
+use Rattle.rm_machine_laws.specs.Loose.{IsLowIn, IsNamedIn}
 use Rattle.rm_machine_laws.specs.Moments.{moment_of}
 
 -- What is left of the machine n is at rest. Objects that no record names, and those under the names that HOST gives, may
@@ -26,16 +27,18 @@ pub record Stopped (m : Machine) (c : Command) (moment : ℕ) (r : Rest) : Type 
   pub machine : Machine
   pub one : (machine ≡ m) ⊎ ((reply : Reply) × Step m c moment reply machine)
   pub left : IsLeft (names_in c) machine r
+  -- under an id that was given stands what stood there, or nothing any longer: what a stop left has a higher one
+  pub low : (name : List ℕ) → IsLowIn m.state name → Contains (names_in c) name ⊎ (r.objects name ≡ m.objects name) ⊎ (r.objects name ≡ None)
 
--- so for whatever machine this database is of, where digests tell
+-- so for whatever machine this database is of, where the world is honest
 abbrev pub StopsAt : Option Held → Option (List Record) → Option State → Command → ℕ → Option Held → Option (List Record) → Type 0
 StopsAt held kept o c moment held' kept' =
-    (m : Machine) → m.state ≡ o → Holds held kept m → DigestsTell m → (r : Rest) × Stopped m c moment r × HoldsRest held' kept' r
+    (m : Machine) → m.state ≡ o → Holds held kept m → IsHonest m c → (r : Rest) × Stopped m c moment r × HoldsRest held' kept' r
 
 -- and for whatever machine the site stands for, where the clock answered so
 abbrev pub Stops : Option Held → Option (List Record) → View → Command → ℕ → Option Held → Option (List Record) → Type 0
 Stops held kept v c clock held' kept' =
-    (m : Machine) → Stands v m → Holds held kept m → DigestsTell m → (r : Rest) × Stopped m c (moment_of m.state clock) r × HoldsRest held' kept' r
+    (m : Machine) → Stands v m → Holds held kept m → IsHonest m c → (r : Rest) × Stopped m c (moment_of m.state clock) r × HoldsRest held' kept' r
 
 -- StopsAt as a word of its own
 unfoldable pub IsStopAt : Option Held → Option (List Record) → Option State → Command → ℕ → Option Held → Option (List Record) → Type 0

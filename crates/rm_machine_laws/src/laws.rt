@@ -1,5 +1,5 @@
 //! What the machine does.
-ghost use Rattle.std.specs.Prelude.{ℕ, ◌≡◌, [], ◌<◌, ◌≤◌, ◌^◌, List, Option, Some, true};
+ghost use Rattle.std.specs.Prelude.{ℕ, ◌≡◌, ◌≢◌, [], ◌<◌, ◌≤◌, ◌^◌, List, Option, Some, true};
 ghost use Rattle.rm_base.specs.Numbers.{last_moment, last_scn};
 ghost use Rattle.rm_base.specs.Store.{Held};
 ghost use Rattle.rm_base.specs.declared.block.Change.{Change};
@@ -21,15 +21,18 @@ ghost use Rattle.rm_history.specs.Unknown.{IsUnknown};
 ghost use Rattle.rm_apply.specs.declared.recovering.Recovered.{Recovered};
 ghost use Rattle.rm_machine.specs.CreateDatabase.{fresh_machine};
 ghost use Rattle.rm_machine.specs.Effect.{Effect, LeavesObjects, Made, Outcome, done};
+ghost use Rattle.rm_machine.specs.Honest.{IsHonest};
 ghost use Rattle.rm_machine.specs.Laws.{IsMomentOf, LeadsOn, StaysSound, TellsOn, only_tells};
 ghost use Rattle.rm_machine.specs.Machine.{DigestsTell, DigestsTellFor, IsBorneOut, IsSoundMachine, Machine};
+ghost use Rattle.rm_machine.specs.Nature.{nature_of};
+ghost use Rattle.rm_machine.specs.declared.nature.Nature.TheVariants.{Records};
 ghost use Rattle.rm_machine.specs.Obsolete.{AreObsoleteIn, start_by};
 ghost use Rattle.rm_machine.specs.Recovery.{IsAtHand, IsGapOutcome, IsToldOutcome};
 ghost use Rattle.rm_machine.specs.Sound.{IsSound};
 ghost use Rattle.rm_machine.specs.Step.{IsDone};
 ghost use Rattle.rm_machine.specs.declared.state.State.{State};
 ghost use Rattle.rm_machine.specs.State.{at_moment, current_of, ledger, tree, world};
-ghost use Rattle.rm_lang_statement.specs.declared.command.Command.TheVariants.{ArchiveLogCurrent, Backup, BackupLogs, ChangeBackup, CreateDatafile, Crosscheck, Cut, Damage, DeleteBackup, DeleteExpired, DeleteObsolete, LoseDatafile, LoseLog, Mount, OpenPlain, OpenResetlogs, Parallelism, Recover, RecoverCopy, RecoverTest, Remove, Rename, ResetDatabase, Restore, Retention, SwitchLogfile, Write};
+ghost use Rattle.rm_lang_statement.specs.declared.command.Command.TheVariants.{ArchiveLogCurrent, Backup, BackupLogs, CatalogName, ChangeBackup, CreateDatafile, Crosscheck, Cut, Damage, DeleteBackup, DeleteExpired, DeleteObsolete, LoseDatafile, LoseLog, Mount, OpenPlain, OpenResetlogs, Parallelism, Recover, RecoverCopy, RecoverTest, Remove, Rename, ResetDatabase, Restore, Retention, SwitchLogfile, Write};
 
 /// There are sound machines: that of a new database is one.
 pub fn a_new_database_is_sound()
@@ -217,4 +220,15 @@ pub fn digests_tell_of_what_nobody_touched()
 /// What is at hand decides: where it leaves a gap, not each block is told.
 pub fn a_gap_and_a_recovery_exclude_each_other()
     ensures { (s : State) (held : Held) (i at : ℕ) (come : Recovered → Outcome) (o p : Outcome) → IsGapOutcome s held i at o → ¬ IsToldOutcome s held i at come p }
+{}
+
+/// Of no statement but CATALOG more is asked than that digests tell.
+pub fn only_a_catalogue_asks_more()
+    ensures { (m : Machine) (c : Command) → nature_of c ≢ Records → DigestsTell m → IsHonest m c }
+{}
+
+/// CATALOG, likewise: where its object was recorded before, by a finished statement, the artefact has a record again.
+pub fn a_catalogue_leads_on()
+    ensures leads { (name : List ℕ) → LeadsOn (CatalogName name) }
+    ensures stays { (name : List ℕ) → StaysSound (CatalogName name) }
 {}

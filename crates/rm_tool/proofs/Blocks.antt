@@ -17,7 +17,7 @@ use Rattle.rm_machine.specs.Machine.{Machine}
 use Rattle.rm_machine.specs.Rest.{Rest, at_rest}
 use Rattle.rm_machine_laws.specs.Holds.{Holds, HoldsRest, Stands, View}
 use Rattle.rm_machine_laws.proofs.Halting.{rests}
-use Rattle.rm_tool.specs.Block.{BlockLeaves, BlockSteps, InnerLeaves, TellInside, after_inner, inner_applies, joined, unset, with_until}
+use Rattle.rm_tool.specs.Block.{BlockLeaves, BlockSteps, InnerLeaves, IsHonestInside, after_inner, inner_applies, joined, unset, with_until}
 use Rattle.rm_tool.specs.Serving.{InnerSteps, InnerStops}
 use Rattle.rm_tool.specs.declared.block.Settings.{Settings}
 
@@ -28,14 +28,14 @@ pub record Inside (held : Option Held) (kept : Option (List Record)) (origin v :
   pub applied : Bool
   pub stands : Stands v machine
   pub holds : Holds held kept machine
-  pub tells : TellInside x machine left clock
+  pub tells : IsHonestInside x machine left clock
   pub knows : v.applied ≡ (origin.applied || applied)
   pub goes : (reply : Reply) (more : Bool) (n : Machine) → BlockSteps x machine left clock reply more n → BlockSteps unset first block clock (joined (said lines) reply) (applied || more) n
   pub leaves : (r : Rest) → BlockLeaves x machine left clock r → BlockLeaves unset first block clock r
 
 -- so for whatever machine the site stood for at the start
 abbrev pub InsideEach : Option Held → Option (List Record) → View → Option Held → Option (List Record) → View → Settings → List Inner → List Inner → ℕ → List Line → Type 0
-InsideEach held kept origin held' kept' v x block left clock lines = (m : Machine) → Stands origin m → Holds held kept m → TellInside unset m block clock → Inside held' kept' origin v x block left clock lines m
+InsideEach held kept origin held' kept' v x block left clock lines = (m : Machine) → Stands origin m → Holds held kept m → IsHonestInside unset m block clock → Inside held' kept' origin v x block left clock lines m
 
 -- the reply to a whole RUN of the machine `first`, and what there is then
 abbrev pub IsWhole : Option Held → Option (List Record) → View → View → List Inner → ℕ → Reply → Machine → Type 0

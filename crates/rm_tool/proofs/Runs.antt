@@ -24,7 +24,7 @@ use Rattle.rm_machine_laws.proofs.Halting.{rests}
 use Rattle.rm_site.specs.Untouched.{IsUntouched}
 use Rattle.rm_tool.specs.Ends.{WritesFront}
 use Rattle.rm_tool.specs.Quiet.{are_quiet, is_quiet_statement}
-use Rattle.rm_tool.specs.Run.{StepOf, StatementStep, past, behind, Run, DigestsTellAlong, TellWithin, RunsWhereTold, AreToCome, replies_text}
+use Rattle.rm_tool.specs.Run.{StepOf, StatementStep, past, behind, Run, IsHonestAlong, IsHonestWithin, RunsWhereHonest, AreToCome, replies_text}
 use Rattle.rm_tool.proofs.Quiet.{untouched-then}
 use Rattle.rm_tool.specs.Serving.{FromEach, IsPast, IsServed, IsCut, IsCutShort, Serves, EndsAtStatement, EndsInReplies}
 
@@ -33,7 +33,7 @@ use Rattle.rm_tool.specs.Serving.{FromEach, IsPast, IsServed, IsCut, IsCutShort,
 -- machine at its end.
 abbrev pub Extends : Option Held → Option (List Record) → View → Option Answers → List (ℕ × List Token) → List Reply → Option Answers → (Bool → Machine → Type 0) → Type 0
 Extends held kept origin told ss rs now Is =
-    (answers : Answers) → AreToCome now answers → (all : Answers) × AreToCome told all × (behind ss all ≡ answers) × FromEach held kept origin (λ first. RunsWhereTold first all ss rs Is)
+    (answers : Answers) → AreToCome now answers → (all : Answers) × AreToCome told all × (behind ss all ≡ answers) × FromEach held kept origin (λ first. RunsWhereHonest first all ss rs Is)
 
 -- the site stands for the machine, which the store and the keeper hold, and knows whether a list was applied
 abbrev pub IsAt : View → View → Option Held → Option (List Record) → Bool → Machine → Type 0
@@ -71,7 +71,7 @@ step-from : (o : Option Statement) (old new : Machine) (line a : ℕ) (f : Answe
 step-from None old new line a f r applied h = h
 step-from (Some s) old new line a f r applied h = h
 
-within-from : (o : Option Statement) (m : Machine) (a : ℕ) (f : Answers) → TellWithin o m (from o a f 0) → TellWithin o m a
+within-from : (o : Option Statement) (m : Machine) (a : ℕ) (f : Answers) → IsHonestWithin o m (from o a f 0) → IsHonestWithin o m a
 within-from None m a f h = h
 within-from (Some s) m a f h = h
 
@@ -106,20 +106,20 @@ run-more (t ∷ ts) (q ∷ qs) first mid new all s r before here run step =
     (run.0, run.1, run.2 || here, run.3, more, ap (λ b. b || here) run.5 ∙ or_assoc run.1 run.2 here)
 
 -- digests tell along the first statements of a run
-along-first : (ss ts : List (ℕ × List Token)) (rs qs : List Reply) (first : Machine) (all : Answers) → length rs ≡ length ss → DigestsTellAlong first all (ss ++ ts) (rs ++ qs) → DigestsTellAlong first all ss rs
+along-first : (ss ts : List (ℕ × List Token)) (rs qs : List Reply) (first : Machine) (all : Answers) → length rs ≡ length ss → IsHonestAlong first all (ss ++ ts) (rs ++ qs) → IsHonestAlong first all ss rs
 along-first [] ts rs qs first all many tells = tt
 along-first (s ∷ ss) ts [] qs first all many tells = absurd (omega (arith, many))
 along-first (s ∷ ss) ts (r ∷ rs) qs first all many tells =
     (tells.0, λ applied m step. along-first ss ts rs qs m (past (statement_built_at s.1) all) (omega (arith, many)) (tells.1 applied m step))
 
-at-head : (s : ℕ × List Token) (ss : List (ℕ × List Token)) (rs : List Reply) (m : Machine) (all : Answers) → DigestsTellAlong m all (s ∷ ss) rs → TellWithin (statement_built_at s.1) m (all 0)
+at-head : (s : ℕ × List Token) (ss : List (ℕ × List Token)) (rs : List Reply) (m : Machine) (all : Answers) → IsHonestAlong m all (s ∷ ss) rs → IsHonestWithin (statement_built_at s.1) m (all 0)
 at-head s ss [] m all tells = tells
 at-head s ss (r ∷ rs) m all tells = tells.0
 
 -- and within the statement behind them
 along-next : (ss ts : List (ℕ × List Token)) (s : ℕ × List Token) (rs qs : List Reply) (first last : Machine) (all : Answers) (applied : Bool)
-    → Run first all ss rs applied last → DigestsTellAlong first all (ss ++ s ∷ ts) (rs ++ qs) → TellWithin (statement_built_at s.1) last (behind ss all 0)
-along-next [] ts s [] qs first last all applied run tells = subst (λ (m : Machine). TellWithin (statement_built_at s.1) m (all 0)) (sym run.1) (at-head s ts qs first all tells)
+    → Run first all ss rs applied last → IsHonestAlong first all (ss ++ s ∷ ts) (rs ++ qs) → IsHonestWithin (statement_built_at s.1) last (behind ss all 0)
+along-next [] ts s [] qs first last all applied run tells = subst (λ (m : Machine). IsHonestWithin (statement_built_at s.1) m (all 0)) (sym run.1) (at-head s ts qs first all tells)
 along-next [] ts s (r ∷ rs) qs first last all applied run tells = absurd run
 along-next (t ∷ ss) ts s [] qs first last all applied run tells = absurd run
 along-next (t ∷ ss) ts s (r ∷ rs) qs first last all applied run tells = along-next ss ts s rs qs run.0 last (past (statement_built_at t.1) all) run.2 run.4 (tells.1 run.1 run.0 run.3)
@@ -127,15 +127,15 @@ along-next (t ∷ ss) ts s (r ∷ rs) qs first last all applied run tells = alon
 -- one statement more
 extends-more : (held : Option Held) (kept : Option (List Record)) (origin : View) (told now later : Option Answers) (ss : List (ℕ × List Token)) (rs : List Reply) (s : ℕ × List Token) (r : Reply) (a : ℕ) (Is Becomes : Bool → Machine → Type 0)
     → length rs ≡ length ss → IfSome now (λ coming. a ≡ coming 0) → Both (IsPast (statement_built_at s.1)) now later
-    → ((applied : Bool) (m : Machine) → Is applied m → TellWithin (statement_built_at s.1) m a → (n : Machine) × (here : Bool) × StatementStep m s a r here n × Becomes (applied || here) n)
+    → ((applied : Bool) (m : Machine) → Is applied m → IsHonestWithin (statement_built_at s.1) m a → (n : Machine) × (here : Bool) × StatementStep m s a r here n × Becomes (applied || here) n)
     → Extends held kept origin told ss rs now Is → Extends held kept origin told (ss ++ s ∷ []) (rs ++ r ∷ []) later Becomes
 extends-more held kept origin told now later ss rs s r a Is Becomes many next passed step extends = λ answers come.
     let o : Option Statement = statement_built_at s.1 in
     let all = extends (from o a answers) (told-from o a answers now later next passed come) in
-    let goes : FromEach held kept origin (λ first. RunsWhereTold first all.0 (ss ++ s ∷ []) (rs ++ r ∷ []) Becomes) = λ first stands holds tells.
+    let goes : FromEach held kept origin (λ first. RunsWhereHonest first all.0 (ss ++ s ∷ []) (rs ++ r ∷ []) Becomes) = λ first stands holds tells.
     let mid = all.3 first stands holds (along-first ss (s ∷ []) rs (r ∷ []) first all.0 many tells) in
-    let here : TellWithin o mid.0 (behind ss all.0 0) = along-next ss [] s rs (r ∷ []) first mid.0 all.0 mid.1 mid.2 tells in
-    let n = step mid.1 mid.0 mid.3 (within-from o mid.0 a answers (subst (λ (f : Answers). TellWithin o mid.0 (f 0)) all.2 here)) in
+    let here : IsHonestWithin o mid.0 (behind ss all.0 0) = along-next ss [] s rs (r ∷ []) first mid.0 all.0 mid.1 mid.2 tells in
+    let n = step mid.1 mid.0 mid.3 (within-from o mid.0 a answers (subst (λ (f : Answers). IsHonestWithin o mid.0 (f 0)) all.2 here)) in
     let at : StatementStep mid.0 s (behind ss all.0 0) r n.1 n.0 = subst (λ (f : Answers). StatementStep mid.0 s (f 0) r n.1 n.0) (sym all.2) (step-from o mid.0 n.0 s.0 a answers r n.1 n.2) in
     (n.0, mid.1 || n.1, run-more ss rs first mid.0 n.0 all.0 s r mid.1 n.1 mid.2 at, n.3) in
     (all.0, all.1, behind-both ss (s ∷ []) all.0 ∙ ap (past o) all.2 ∙ past-from o a answers, goes)
@@ -253,17 +253,17 @@ module _ {told now : Option Answers} {before written : Option (List ℕ)} {first
       let count : length p.replies ≡ i = p.many ∙ length-take-le i ss (omega (arith, slice_get_within ss i s there)) in
       let rest : List (ℕ × List Token) = drop (i + 1) ss in
       let parts : ss ≡ take i ss ++ s ∷ rest = in-two ss i s there in
-      let cut : FromEach first_held first_kept origin (λ first. DigestsTellAlong first all.0 ss p.replies
+      let cut : FromEach first_held first_kept origin (λ first. IsHonestAlong first all.0 ss p.replies
       → (last : Machine) × (applied : Bool) × Run first all.0 (take i ss) p.replies applied last × IsCut last s (behind (take i ss) all.0 0) held' kept') = λ first stands holds tells.
-      let along : DigestsTellAlong first all.0 (take i ss ++ s ∷ rest) (p.replies ++ []) =
-      subst (λ (ts : List (ℕ × List Token)). DigestsTellAlong first all.0 ts (p.replies ++ [])) parts (subst (λ (qs : List Reply). DigestsTellAlong first all.0 ss qs) (sym (append-nil p.replies)) tells) in
+      let along : IsHonestAlong first all.0 (take i ss ++ s ∷ rest) (p.replies ++ []) =
+      subst (λ (ts : List (ℕ × List Token)). IsHonestAlong first all.0 ts (p.replies ++ [])) parts (subst (λ (qs : List Reply). IsHonestAlong first all.0 ss qs) (sym (append-nil p.replies)) tells) in
       let last = all.3 first stands holds (along-first (take i ss) (s ∷ rest) p.replies [] first all.0 p.many along) in
-      let here : TellWithin (statement_built_at s.1) last.0 (behind (take i ss) all.0 0) = along-next (take i ss) rest s p.replies [] first last.0 all.0 last.1 last.2 along in
+      let here : IsHonestWithin (statement_built_at s.1) last.0 (behind (take i ss) all.0 0) = along-next (take i ss) rest s p.replies [] first last.0 all.0 last.1 last.2 along in
       let same : behind (take i ss) all.0 0 ≡ short.answer = ap (λ (g : Answers). g 0) all.2 ∙ f.2 in (
         last.0,
         last.1,
         last.2,
-        subst (λ (a : ℕ). IsCut last.0 s a held' kept') (sym same) (short.cut last.0 last.3.0 last.3.1 (subst (λ (a : ℕ). TellWithin (statement_built_at s.1) last.0 a) same here)),
+        subst (λ (a : ℕ). IsCut last.0 s a held' kept') (sym same) (short.cut last.0 last.3.0 last.3.1 (subst (λ (a : ℕ). IsHonestWithin (statement_built_at s.1) last.0 a) same here)),
       ) in
       let more : take (i + 1) ss ≡ take i ss ++ s ∷ [] = take_more ss i s (slice_get_within ss i s there) (sym (get_or_from_slice_get ss i s s there)) in
       let asked : AreToCome later (behind (take i ss) all.0) ⊎ AreToCome later (behind (take (i + 1) ss) all.0) =
@@ -277,7 +277,7 @@ module _ {told now : Option Answers} {before written : Option (List ℕ)} {first
         statement = s;
         next = subst (λ (n : ℕ). slice_get ss n ≡ Some s) (sym count) there;
         run =
-            subst (λ (n : ℕ). FromEach first_held first_kept origin (λ first. DigestsTellAlong first all.0 ss p.replies
+            subst (λ (n : ℕ). FromEach first_held first_kept origin (λ first. IsHonestAlong first all.0 ss p.replies
             → (last : Machine) × (applied : Bool) × Run first all.0 (take n ss) p.replies applied last × IsCut last s (behind (take n ss) all.0 0) held' kept'))
             (sym count) cut;
       }
@@ -302,7 +302,7 @@ module _ {told now : Option Answers} {before written : Option (List ℕ)} {first
       let replies : List Reply = p.replies ++ r ∷ [] in
       let all = p.extends (answers_from now) (come-from now) in
       let count : length p.replies + 1 ≡ n = p.many ∙ length-take-le n ss low in
-      let run : FromEach first_held first_kept origin (λ first. RunsWhereTold first all.0 (take n ss) replies (λ applied m. HoldsRest held kept (at_rest m))) = λ first stands holds tells.
+      let run : FromEach first_held first_kept origin (λ first. RunsWhereHonest first all.0 (take n ss) replies (λ applied m. HoldsRest held kept (at_rest m))) = λ first stands holds tells.
       let last = all.3 first stands holds tells in (last.0, last.1, last.2, rests held kept last.0 last.3.1) in
       record {
         answers = all.0;
@@ -315,5 +315,5 @@ module _ {told now : Option Answers} {before written : Option (List ℕ)} {first
         within = front.1;
         written = appends-then before written after (replies_text p.replies) (take front.0 (reply_text r)) p.appends front.2;
         quiet = λ is. (p.quiet (subst (λ (k : ℕ). are_quiet (take k ss) replies ≡ true) count is)).0;
-        run = subst (λ (k : ℕ). FromEach first_held first_kept origin (λ first. RunsWhereTold first all.0 (take k ss) replies (λ applied m. HoldsRest held kept (at_rest m)))) (sym count) run;
+        run = subst (λ (k : ℕ). FromEach first_held first_kept origin (λ first. RunsWhereHonest first all.0 (take k ss) replies (λ applied m. HoldsRest held kept (at_rest m)))) (sym count) run;
       }

@@ -23,7 +23,7 @@ use Rattle.rm_machine_laws.specs.Stopped.{Stops}
 use Rattle.rm_machine_laws.proofs.Halting.{ends-here, rests}
 use Rattle.rm_site.specs.Untouched.{IsUntouched, is_quiet}
 use Rattle.rm_tool.specs.Quiet.{is_quiet_statement, only_tells_inner}
-use Rattle.rm_tool.specs.Run.{StepOf, TellWithin}
+use Rattle.rm_tool.specs.Run.{StepOf, IsHonestWithin}
 use Rattle.rm_tool.specs.Serving.{IsPast, IsServed, IsCut, untouched, stopped, inside, IsCutShort, RunSteps, RunStops, StatementSteps}
 use Rattle.rm_tool.proofs.Blocks.{block-leaves}
 use Rattle.rm_tool.proofs.Runs.{answers_from}
@@ -101,7 +101,7 @@ module _ {held : Option Held} {kept : Option (List Record)} {v : View} {clock : 
       served-step reply later steps applied quiet =
           served-so some reply later quiet
           (λ m stands holds tell.
-          let n = steps m stands holds (subst (λ (o : Option Statement). TellWithin o m answer) some tell) in
+          let n = steps m stands holds (subst (λ (o : Option Statement). IsHonestWithin o m answer) some tell) in
           (n.0, applies c reply, subst (λ (o : Option Statement). StepOf o m s.0 answer reply (applies c reply) n.0) (sym some) (n.1, refl), n.2, n.3, applied))
 
       pub cut-step : {clock' : Option Answers} → Both IsLater clock clock' → Stops held kept v c answer held' kept' → IsCutShort held kept v clock s held' kept' clock'
@@ -110,7 +110,7 @@ module _ {held : Option Held} {kept : Option (List Record)} {v : View} {clock : 
             answer = answer;
             next = next;
             asked = inr (asked-once (statement_built_at s.1) (Plain c) clock clock' some later);
-            cut = λ m stands holds tell. let left = stops m stands holds (subst (λ (o : Option Statement). TellWithin o m answer) some tell) in stopped c left.0 some left.1 left.2;
+            cut = λ m stands holds tell. let left = stops m stands holds (subst (λ (o : Option Statement). IsHonestWithin o m answer) some tell) in stopped c left.0 some left.1 left.2;
           }
 
     -- a RUN
@@ -120,7 +120,7 @@ module _ {held : Option Held} {kept : Option (List Record)} {v : View} {clock : 
       served-run reply later steps quiet =
           served-so some reply later quiet
           (λ m stands holds tell.
-          let n = steps m stands holds (subst (λ (o : Option Statement). TellWithin o m answer) some tell) in
+          let n = steps m stands holds (subst (λ (o : Option Statement). IsHonestWithin o m answer) some tell) in
           (n.0, n.1, subst (λ (o : Option Statement). StepOf o m s.0 answer reply n.1 n.0) (sym some) n.2, n.3, n.4, n.5))
 
       pub cut-run : {clock' : Option Answers} → Both IsLater clock clock' → RunStops held kept v block answer held' kept' → IsCutShort held kept v clock s held' kept' clock'
@@ -129,7 +129,7 @@ module _ {held : Option Held} {kept : Option (List Record)} {v : View} {clock : 
             answer = answer;
             next = next;
             asked = inr (asked-once (statement_built_at s.1) (Block block) clock clock' some later);
-            cut = λ m stands holds tell. let left = stops m stands holds (subst (λ (o : Option Statement). TellWithin o m answer) some tell) in inside block left.0 some left.1 left.2;
+            cut = λ m stands holds tell. let left = stops m stands holds (subst (λ (o : Option Statement). IsHonestWithin o m answer) some tell) in inside block left.0 some left.1 left.2;
           }
 
 cut-by : (o : Option Statement) (m n : Machine) (s : ℕ × List Token) (answer : ℕ) (reply : Reply) (applied : Bool) (held : Option Held) (kept : Option (List Record))

@@ -19,9 +19,9 @@ use Rattle.rm_machine.specs.Step.{StepBy, StepIn, names_in}
 use Rattle.rm_machine_laws.proofs.Agreeing.{untouched-tell}
 use Rattle.rm_machine_laws.specs.Holds.{HoldsRest, nothing}
 use Rattle.rm_machine_laws.specs.Moments.{moment_of}
-use Rattle.rm_tool.specs.Block.{BlockSteps, InnerStep, TellInside, after_inner, unset, with_until}
+use Rattle.rm_tool.specs.Block.{BlockSteps, InnerStep, IsHonestInside, after_inner, unset, with_until}
 use Rattle.rm_tool.specs.Built.{statement_built_at}
-use Rattle.rm_tool.specs.Run.{DigestsTellAlong, GiveNoName, StepOf, TellWithin, names_given, names_of_inner, past}
+use Rattle.rm_tool.specs.Run.{IsHonestAlong, GiveNoName, StepOf, IsHonestWithin, names_given, names_of_inner, past}
 use Rattle.rm_tool.specs.declared.block.Settings.{Settings}
 use Rattle.rm_tool.proofs.Setting.{names_with}
 
@@ -67,7 +67,7 @@ by-statement (Some (Plain c)) m n line clock r applied free none step = by-step 
 by-statement (Some (Block block)) m n line clock r applied free none steps = by-block unset block m n clock r applied free none steps
 
 -- inside a RUN digests tell
-tell-inside : (x : Settings) (ys : List Inner) (m : Machine) (clock : ℕ) → flat_map names_of_inner ys ≡ [] → m.touched ≡ [] → TellInside x m ys clock
+tell-inside : (x : Settings) (ys : List Inner) (m : Machine) (clock : ℕ) → flat_map names_of_inner ys ≡ [] → m.touched ≡ [] → IsHonestInside x m ys clock
 tell-inside x [] m clock free none = tt
 tell-inside x (y ∷ ys) m clock free none =
     let names : List (List ℕ) = flat_map names_of_inner ys in (
@@ -75,12 +75,12 @@ tell-inside x (y ∷ ys) m clock free none =
       λ r n step accepted. tell-inside (after_inner x y) ys n clock (none-behind (names_of_inner y) names free) (by-inner x y m n clock r (none-first (names_of_inner y) names free) none step),
     )
 
-tell-within : (o : Option Statement) (m : Machine) (clock : ℕ) → names_given o ≡ [] → m.touched ≡ [] → TellWithin o m clock
+tell-within : (o : Option Statement) (m : Machine) (clock : ℕ) → names_given o ≡ [] → m.touched ≡ [] → IsHonestWithin o m clock
 tell-within None m clock free none = tt
 tell-within (Some (Plain c)) m clock free none = untouched-tell m none
 tell-within (Some (Block block)) m clock free none = tell-inside unset block m clock free none
 
-pub tell-along : (first : Machine) → first.touched ≡ [] → (answers : Answers) (ss : List (ℕ × List Token)) (replies : List Reply) → GiveNoName ss → DigestsTellAlong first answers ss replies
+pub tell-along : (first : Machine) → first.touched ≡ [] → (answers : Answers) (ss : List (ℕ × List Token)) (replies : List Reply) → GiveNoName ss → IsHonestAlong first answers ss replies
 tell-along first none answers [] replies free = tt
 tell-along first none answers (s ∷ ss) [] free = tell-within (statement_built_at s.1) first (answers 0) free.0 none
 tell-along first none answers (s ∷ ss) (r ∷ rs) free =

@@ -12,7 +12,8 @@ use Rattle.rm_lang_statement.specs.IsCommand.{is_until_or_none}
 use Rattle.rm_report.specs.declared.line.Line.TheVariants.{UntilSet, ChannelAllocated}
 use Rattle.rm_report.specs.declared.line.Reply.{Reply}
 use Rattle.rm_report.specs.Reply.{said, refused_by}
-use Rattle.rm_machine.specs.Machine.{Machine, DigestsTell}
+use Rattle.rm_machine.specs.Honest.{IsHonest}
+use Rattle.rm_machine.specs.Machine.{Machine}
 use Rattle.rm_machine.specs.Rest.{Rest, at_rest}
 use Rattle.rm_machine.specs.Step.{Step}
 use Rattle.rm_machine.specs.declared.state.State.{State}
@@ -119,11 +120,17 @@ BlockSteps x m (y ∷ ys) clock reply applied n =
     ((reply ≡ first) × (applied ≡ false) × (n ≡ mid))
     ((rest : Reply) × (more : Bool) × BlockSteps (after_inner x y) mid ys clock rest more n × (reply ≡ joined first rest) × (applied ≡ (inner_applies x y first || more)))
 
--- digests tell at each machine from which one of these statements goes on
-abbrev pub TellInside : Settings → Machine → List Inner → ℕ → Type 0
-TellInside x m [] clock = Unit {0}
-TellInside x m (y ∷ ys) clock =
-    DigestsTell m × ((reply : Reply) (n : Machine) → InnerStep x m y clock reply n → reply.refused ≡ false → TellInside (after_inner x y) n ys clock)
+-- the world is honest at a statement of a RUN: only of a command anything is asked
+abbrev pub IsHonestAt : Settings → Machine → Inner → Type 0
+IsHonestAt x m (PlainInner c) = IsHonest m (with_until x.until c)
+IsHonestAt x m (SetUntil until) = Unit {0}
+IsHonestAt x m AllocateChannel = Unit {0}
+
+-- and at each machine from which one of these statements goes on
+abbrev pub IsHonestInside : Settings → Machine → List Inner → ℕ → Type 0
+IsHonestInside x m [] clock = Unit {0}
+IsHonestInside x m (y ∷ ys) clock =
+    IsHonestAt x m y × ((reply : Reply) (n : Machine) → InnerStep x m y clock reply n → reply.refused ≡ false → IsHonestInside (after_inner x y) n ys clock)
 
 -- what is left where a statement of a RUN was cut short: nothing of it was done, or a stop of the command leaves this
 abbrev pub InnerLeaves : Settings → Machine → Inner → ℕ → Rest → Type 0

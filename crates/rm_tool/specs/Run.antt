@@ -1,20 +1,22 @@
 -- The machine's run over the statements of a script, and the clock's answers to them.
 use Rattle.std.specs.Prelude.{ℕ, suc, ◌≡◌, ◌||◌, Bool, false, Option, Some, None, IfSome, List, [], ◌∷◌}
-use Rattle.std.specs.List.{flat_map}
+use Rattle.std.specs.List.{flat_map, list_any}
 use Rattle.rm_base.specs.Store.{Answers}
 use Rattle.rm_base.specs.declared.refusal.Refusal.TheVariants.{Rm01}
 use Rattle.rm_lang_token.specs.declared.token.Token.{Token}
 use Rattle.rm_lang_statement.specs.declared.command.Inner.{Inner}
-use Rattle.rm_lang_statement.specs.declared.command.Inner.TheVariants.{Plain as PlainInner}
+use Rattle.rm_lang_statement.specs.declared.command.Inner.TheVariants.{AllocateChannel, Plain as PlainInner, SetUntil}
 use Rattle.rm_lang_statement.specs.declared.command.Statement.{Statement}
 use Rattle.rm_lang_statement.specs.declared.command.Statement.TheVariants.{Plain, Run as Block}
-use Rattle.rm_tool.specs.Block.{BlockSteps, TellInside, unset}
+use Rattle.rm_tool.specs.Block.{BlockSteps, IsHonestInside, unset}
 use Rattle.rm_tool.specs.Built.{statement_built_at}
 use Rattle.rm_report.specs.declared.line.Reply.{Reply}
 use Rattle.rm_report.specs.Reply.{refused_by}
 use Rattle.rm_report.specs.Text.{reply_text}
-use Rattle.rm_machine.specs.Machine.{Machine, DigestsTell}
-use Rattle.rm_machine.specs.Step.{Step, names_in}
+use Rattle.rm_machine.specs.Honest.{IsHonest}
+use Rattle.rm_machine.specs.Machine.{Machine}
+use Rattle.rm_machine.specs.Nature.{gives_name, nature_of}
+use Rattle.rm_machine.specs.Step.{Step}
 use Rattle.rm_machine_laws.specs.Moments.{moment_of}
 use Rattle.rm_machine_laws.specs.Saves.{applies}
 
@@ -45,43 +47,44 @@ Run old answers (s ∷ ss) (r ∷ rs) applied new =
 Run old answers [] (r ∷ rs) applied new = ⊥
 Run old answers (s ∷ ss) [] applied new = ⊥
 
--- digests tell at each machine from which the statement goes on: a command from the one before it, a RUN from those
--- before its statements
-abbrev pub TellWithin : Option Statement → Machine → ℕ → Type 0
-TellWithin None m clock = Unit {0}
-TellWithin (Some (Plain c)) m clock = DigestsTell m
-TellWithin (Some (Block inner)) m clock = TellInside unset m inner clock
+-- the world is honest at each machine from which the statement goes on: a command from the one before it, a RUN from
+-- those before its statements
+abbrev pub IsHonestWithin : Option Statement → Machine → ℕ → Type 0
+IsHonestWithin None m clock = Unit {0}
+IsHonestWithin (Some (Plain c)) m clock = IsHonest m c
+IsHonestWithin (Some (Block inner)) m clock = IsHonestInside unset m inner clock
 
--- Digests tell along a run: within each of these statements, from the machine to which those before it lead, where the clock
+-- The world is honest along a run: within each of these statements, from the machine to which those before it lead, where the clock
 -- gives these answers and the machine these replies. That is asked of the first statement without a reply too, which was cut
 -- short, and of none behind it.
-abbrev pub DigestsTellAlong : Machine → Answers → List (ℕ × List Token) → List Reply → Type 0
-DigestsTellAlong first answers [] replies = Unit {0}
-DigestsTellAlong first answers (s ∷ ss) [] = TellWithin (statement_built_at s.1) first (answers 0)
-DigestsTellAlong first answers (s ∷ ss) (r ∷ rs) =
-    TellWithin (statement_built_at s.1) first (answers 0)
-    × ((applied : Bool) (m : Machine) → StatementStep first s (answers 0) r applied m → DigestsTellAlong m (past (statement_built_at s.1) answers) ss rs)
+abbrev pub IsHonestAlong : Machine → Answers → List (ℕ × List Token) → List Reply → Type 0
+IsHonestAlong first answers [] replies = Unit {0}
+IsHonestAlong first answers (s ∷ ss) [] = IsHonestWithin (statement_built_at s.1) first (answers 0)
+IsHonestAlong first answers (s ∷ ss) (r ∷ rs) =
+    IsHonestWithin (statement_built_at s.1) first (answers 0)
+    × ((applied : Bool) (m : Machine) → StatementStep first s (answers 0) r applied m → IsHonestAlong m (past (statement_built_at s.1) answers) ss rs)
 
--- the names of objects that a statement gives
-abbrev pub names_of_inner : Inner → List (List ℕ)
-names_of_inner (PlainInner c) = names_in c
-names_of_inner _ = []
+-- a statement gives a name of an object: one of HOST, or CATALOG
+abbrev pub gives_in : Inner → Bool
+gives_in (PlainInner c) = gives_name (nature_of c)
+gives_in (SetUntil until) = false
+gives_in AllocateChannel = false
 
-abbrev pub names_given : Option Statement → List (List ℕ)
-names_given None = []
-names_given (Some (Plain c)) = names_in c
-names_given (Some (Block inner)) = flat_map names_of_inner inner
+abbrev pub gives_names : Option Statement → Bool
+gives_names None = false
+gives_names (Some (Plain c)) = gives_name (nature_of c)
+gives_names (Some (Block inner)) = list_any gives_in inner
 
 -- none of these statements gives a name of an object
 abbrev pub GiveNoName : List (ℕ × List Token) → Type 0
 GiveNoName [] = Unit {0}
-GiveNoName (s ∷ ss) = (names_given (statement_built_at s.1) ≡ []) × GiveNoName ss
+GiveNoName (s ∷ ss) = (gives_names (statement_built_at s.1) ≡ false) × GiveNoName ss
 
--- Where digests tell along it, the machine has a run over these statements with these replies, and this is so of the
+-- Where the world is honest along it, the machine has a run over these statements with these replies, and this is so of the
 -- machine at its end, and of whether a list of edits was applied.
-abbrev pub RunsWhereTold : Machine → Answers → List (ℕ × List Token) → List Reply → (Bool → Machine → Type 0) → Type 0
-RunsWhereTold first answers ss replies Is =
-    DigestsTellAlong first answers ss replies → (last : Machine) × (applied : Bool) × Run first answers ss replies applied last × Is applied last
+abbrev pub RunsWhereHonest : Machine → Answers → List (ℕ × List Token) → List Reply → (Bool → Machine → Type 0) → Type 0
+RunsWhereHonest first answers ss replies Is =
+    IsHonestAlong first answers ss replies → (last : Machine) × (applied : Bool) × Run first answers ss replies applied last × Is applied last
 
 -- the answers behind those that these statements use
 abbrev pub behind : List (ℕ × List Token) → Answers → Answers

@@ -10,13 +10,13 @@ use Rattle.rm_lang_statement.specs.declared.command.Command.{Command}
 use Rattle.rm_lang_statement.specs.declared.command.Inner.{Inner}
 use Rattle.rm_lang_statement.specs.declared.command.Statement.{Statement}
 use Rattle.rm_lang_statement.specs.declared.command.Statement.TheVariants.{Plain, Run as Block}
-use Rattle.rm_tool.specs.Block.{BlockLeaves, BlockSteps, InnerLeaves, InnerStep, TellInside, unset}
+use Rattle.rm_tool.specs.Block.{BlockLeaves, BlockSteps, InnerLeaves, InnerStep, IsHonestAt, IsHonestInside, unset}
 use Rattle.rm_tool.specs.Built.{statement_built_at}
 use Rattle.rm_tool.specs.declared.block.Settings.{Settings}
 use Rattle.rm_lang_token.specs.declared.token.Token.{Token}
 use Rattle.rm_report.specs.declared.line.Reply.{Reply}
 use Rattle.rm_report.specs.Text.{reply_text}
-use Rattle.rm_machine.specs.Machine.{Machine, DigestsTell}
+use Rattle.rm_machine.specs.Machine.{Machine}
 use Rattle.rm_machine.specs.Rest.{Rest, at_rest}
 use Rattle.rm_machine_laws.specs.Holds.{Holds, HoldsRest, Stands, View}
 use Rattle.rm_machine_laws.specs.Moments.{moment_of}
@@ -26,7 +26,7 @@ use Rattle.rm_tool.specs.declared.session.Halt.{Halt}
 use Rattle.rm_tool.specs.declared.session.Halt.TheVariants as halt
 use Rattle.rm_site.specs.Untouched.{AreSame, IsUntouched}
 use Rattle.rm_tool.specs.Quiet.{are_quiet, is_quiet_statement}
-use Rattle.rm_tool.specs.Run.{StatementStep, Run, RunsWhereTold, DigestsTellAlong, TellWithin, past, behind, AreToCome, replies_text}
+use Rattle.rm_tool.specs.Run.{StatementStep, Run, RunsWhereHonest, IsHonestAlong, IsHonestWithin, past, behind, AreToCome, replies_text}
 
 -- what ends a session where the site was stopped
 abbrev pub halt_of : Stop → Halt
@@ -34,37 +34,37 @@ halt_of stop.StoreFault = halt.Store
 halt_of stop.KeeperFault = halt.Keeper
 halt_of stop.NoMemory = halt.NoMemory
 
--- Whatever machine the site stands for: where digests tell, the step of a RUN's statement is that machine's, and the site
+-- Whatever machine the site stands for: where the world is honest, the step of a RUN's statement is that machine's, and the site
 -- stands for the one after it.
 abbrev pub InnerSteps : Option Held → Option (List Record) → View → Settings → Inner → ℕ → Reply → Option Held → Option (List Record) → View → Type 0
 InnerSteps held kept v x y clock reply held' kept' v' =
-    (m : Machine) → Stands v m → Holds held kept m → DigestsTell m
+    (m : Machine) → Stands v m → Holds held kept m → IsHonestAt x m y
     → (n : Machine) × InnerStep x m y clock reply n × Stands v' n × Holds held' kept' n
 
 -- and where it was cut short, this is left of that machine
 abbrev pub InnerStops : Option Held → Option (List Record) → View → Settings → Inner → ℕ → Option Held → Option (List Record) → Type 0
 InnerStops held kept v x y clock held' kept' =
-    (m : Machine) → Stands v m → Holds held kept m → DigestsTell m → (r : Rest) × InnerLeaves x m y clock r × HoldsRest held' kept' r
+    (m : Machine) → Stands v m → Holds held kept m → IsHonestAt x m y → (r : Rest) × InnerLeaves x m y clock r × HoldsRest held' kept' r
 
 -- the same of a whole RUN; the site knows whether a list was applied
 abbrev pub RunSteps : Option Held → Option (List Record) → View → List Inner → ℕ → Reply → Option Held → Option (List Record) → View → Type 0
 RunSteps held kept v inner clock reply held' kept' v' =
-    (m : Machine) → Stands v m → Holds held kept m → TellInside unset m inner clock
+    (m : Machine) → Stands v m → Holds held kept m → IsHonestInside unset m inner clock
     → (n : Machine) × (applied : Bool) × BlockSteps unset m inner clock reply applied n × Stands v' n × Holds held' kept' n × (v'.applied ≡ (v.applied || applied))
 
 abbrev pub RunStops : Option Held → Option (List Record) → View → List Inner → ℕ → Option Held → Option (List Record) → Type 0
 RunStops held kept v inner clock held' kept' =
-    (m : Machine) → Stands v m → Holds held kept m → TellInside unset m inner clock → (r : Rest) × BlockLeaves unset m inner clock r × HoldsRest held' kept' r
+    (m : Machine) → Stands v m → Holds held kept m → IsHonestInside unset m inner clock → (r : Rest) × BlockLeaves unset m inner clock r × HoldsRest held' kept' r
 
 -- the clock was asked once for a statement, and not for what is none
 abbrev pub IsPast : Option Statement → Answers → Answers → Type 0
 IsPast s before after = (i : ℕ) → after i ≡ past s before i
 
--- Whatever machine the site stands for: where digests tell, the step is that machine's, where the clock answered
+-- Whatever machine the site stands for: where the world is honest, the step is that machine's, where the clock answered
 -- so, and the site stands for the one after it, and knows whether a list was applied.
 abbrev pub StatementSteps : Option Held → Option (List Record) → View → ℕ × List Token → ℕ → Reply → Option Held → Option (List Record) → View → Type 0
 StatementSteps held kept v s clock reply held' kept' v' =
-    (m : Machine) → Stands v m → Holds held kept m → TellWithin (statement_built_at s.1) m clock
+    (m : Machine) → Stands v m → Holds held kept m → IsHonestWithin (statement_built_at s.1) m clock
     → (n : Machine) × (applied : Bool) × StatementStep m s clock reply applied n × Stands v' n × Holds held' kept' n × (v'.applied ≡ (v.applied || applied))
 
 -- A step of the machine at the clock's next answer. Where the statement is quiet all is as it was, whatever the store and the keeper hold.
@@ -82,13 +82,13 @@ pub data IsCut (m : Machine) (s : ℕ × List Token) (answer : ℕ) (held : Opti
   stopped : (c : Command) (r : Rest) → statement_built_at s.1 ≡ Some (Plain c) → Stopped m c (moment_of m.state answer) r → HoldsRest held kept r → IsCut m s answer held kept
   inside : (inner : List Inner) (r : Rest) → statement_built_at s.1 ≡ Some (Block inner) → BlockLeaves unset m inner answer r → HoldsRest held kept r → IsCut m s answer held kept
 
--- The statement was cut short, and the clock asked for it, or not yet. Whatever machine the site stands for, where digests tell this is
--- left of it.
+-- The statement was cut short, and the clock asked for it, or not yet. Whatever machine the site stands for, where the world is honest this
+-- is left of it.
 pub record IsCutShort (held : Option Held) (kept : Option (List Record)) (v : View) (clock : Option Answers) (s : ℕ × List Token) (held' : Option Held) (kept' : Option (List Record)) (clock' : Option Answers) : Type 0 where
   pub answer : ℕ
   pub next : IfSome clock (λ coming. answer ≡ coming 0)
   pub asked : (clock' ≡ clock) ⊎ Both (IsPast (statement_built_at s.1)) clock clock'
-  pub cut : (m : Machine) → Stands v m → Holds held kept m → TellWithin (statement_built_at s.1) m answer → IsCut m s answer held' kept'
+  pub cut : (m : Machine) → Stands v m → Holds held kept m → IsHonestWithin (statement_built_at s.1) m answer → IsCut m s answer held' kept'
 
 -- whatever machine the site stands for, this is so of it
 abbrev pub FromEach : Option Held → Option (List Record) → View → (Machine → Type 0) → Type 0
@@ -106,7 +106,7 @@ pub record Serves (clock later : Option Answers) (before now : Option (List ℕ)
   pub written : Appends before now (replies_text replies)
   pub some : refused ≡ list_any (λ r. r.refused) replies
   pub quiet : are_quiet ss replies ≡ true → IsUntouched held kept v held' kept' v'
-  pub run : FromEach held kept v (λ first. RunsWhereTold first answers ss replies (λ applied m. Stands v' m × Holds held' kept' m × (v'.applied ≡ (v.applied || applied))))
+  pub run : FromEach held kept v (λ first. RunsWhereHonest first answers ss replies (λ applied m. Stands v' m × Holds held' kept' m × (v'.applied ≡ (v.applied || applied))))
 
 -- The same, and then the session ended: its site was saved, where a list was applied. From the machines that are meant, the store and
 -- the keeper hold what is at rest then.
@@ -119,7 +119,7 @@ pub record Closes (From : (Machine → Type 0) → Type 0) (clock later : Option
   pub written : Appends before now (replies_text replies)
   pub some : refused ≡ list_any (λ r. r.refused) replies
   pub quiet : are_quiet ss replies ≡ true → AreSame held kept held' kept'
-  pub run : From (λ first. RunsWhereTold first answers ss replies (λ applied m. (r : Rest) × IsEnded applied m r × HoldsRest held' kept' r))
+  pub run : From (λ first. RunsWhereHonest first answers ss replies (λ applied m. (r : Rest) × IsEnded applied m r × HoldsRest held' kept' r))
 
 -- The replies to the first statements were written, and nothing else. The statement after them was cut short: the clock was asked for
 -- those before it, and for none behind it. From the machines that are meant the replies are those of a run, and the store and the keeper
@@ -133,7 +133,7 @@ pub record EndsAtStatement (From : (Machine → Type 0) → Type 0) (clock later
   pub next : slice_get ss (length replies) ≡ Some statement
   pub asked : AreToCome later (behind (take (length replies) ss) answers) ⊎ AreToCome later (behind (take (length replies + 1) ss) answers)
   pub run : From
-      (λ first. DigestsTellAlong first answers ss replies
+      (λ first. IsHonestAlong first answers ss replies
       → (last : Machine) × (applied : Bool) × Run first answers (take (length replies) ss) replies applied last × IsCut last statement (behind (take (length replies) ss) answers 0) held' kept')
 
 -- All replies were written, from the machines that are meant those of a run, and the save after it was stopped: nothing of it is
@@ -145,7 +145,7 @@ pub record EndsAtSaving (From : (Machine → Type 0) → Type 0) (clock later : 
   pub replies : List Reply
   pub many : length replies ≡ length ss
   pub written : Appends before now (replies_text replies)
-  pub run : From (λ first. RunsWhereTold first answers ss replies (λ applied m. (r : Rest) × (IsLeft [] m r ⊎ IsEnded applied m r) × HoldsRest held' kept' r))
+  pub run : From (λ first. RunsWhereHonest first answers ss replies (λ applied m. (r : Rest) × (IsLeft [] m r ⊎ IsEnded applied m r) × HoldsRest held' kept' r))
 
 -- the session ended at a statement, or at its save
 pub data EndsMidway (From : (Machine → Type 0) → Type 0) (clock later : Option Answers) (before now : Option (List ℕ)) (held' : Option Held) (kept' : Option (List Record)) (ss : List (ℕ × List Token)) : Type 0 where
@@ -166,4 +166,4 @@ pub record EndsInReplies (From : (Machine → Type 0) → Type 0) (clock later :
   pub within : part < length (reply_text last)
   pub written : Appends before now (replies_text replies ++ take part (reply_text last))
   pub quiet : are_quiet (take (length replies + 1) ss) (replies ++ last ∷ []) ≡ true → AreSame held kept held' kept'
-  pub run : From (λ first. RunsWhereTold first answers (take (length replies + 1) ss) (replies ++ last ∷ []) (λ applied m. HoldsRest held' kept' (at_rest m)))
+  pub run : From (λ first. RunsWhereHonest first answers (take (length replies + 1) ss) (replies ++ last ∷ []) (λ applied m. HoldsRest held' kept' (at_rest m)))
