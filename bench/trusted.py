@@ -285,7 +285,8 @@ TAIL = """
   `crates/rm_store_dir/src/dir.rt`) and the opening and closing of the catalog file (`crates/rm_keeper_sql/src/file.rt`) do what their calls say; they
   are proved to count their faults, and tell nothing else. And that `crates/rman/src/main.rt` makes them of the words and hands them to `run`.
 - **The machine.** That a file which was flushed has what was written, that a renaming is whole, that the clock tells the time of day.
-- **The one premise of the clauses.** Where HOST gave the name of a record's object, bytes under it with the record's size and SHA-256 are the object's.
+- **The two premises of the clauses.** Where HOST gave the name of a record's object, bytes under it with the record's size and SHA-256 are the object's.
+  What CATALOG records is the spelling of an artefact that a finished statement recorded.
 - **The meaning.** That these definitions are what one means by a history, a backup and a recovery: to read them is the only way to know. That they are
   Oracle's is not claimed.
 """
