@@ -154,11 +154,11 @@ module _ (c : Command) (law : LeadsOn c) (stays : StaysSound c) (loose : StaysLo
         left-holds (names_in c) n now.0 held' kept' last.sound (no-parts n t last.state last.unsaved_is) same now.2 keeper,
       )
 
--- what the store and the keeper hold of a machine they hold of what is left of it
-pub ends-here : (held : Option Held) (kept : Option (List Record)) (c : Command) (n : Machine) → Holds held kept n → (r : Rest) × IsLeft (names_in c) n r × HoldsRest held kept r
+-- what the store and the keeper hold of a machine they hold of what is left of it, with its objects
+pub ends-here : (held : Option Held) (kept : Option (List Record)) (c : Command) (n : Machine) → Holds held kept n → (r : Rest) × IsLeft (names_in c) n r × HoldsRest held kept r × (r.objects ≡ n.objects)
 ends-here held kept c n holds =
     let same : StaysUnder (names_in c) n.state n.objects n.objects = λ name names. inr refl in
-    (left (names_in c) n n.objects, is-left (names_in c) n n.objects same, left-holds (names_in c) n n.objects held kept holds.sound holds.parts same holds.store holds.keeper)
+    (left (names_in c) n n.objects, is-left (names_in c) n n.objects same, left-holds (names_in c) n n.objects held kept holds.sound holds.parts same holds.store holds.keeper, refl)
 
 -- and of it at rest
 pub rests : (held : Option Held) (kept : Option (List Record)) (m : Machine) → Holds held kept m → HoldsRest held kept (at_rest m)
@@ -172,4 +172,4 @@ rests held kept m holds = record { store = holds.store; keeper = holds.keeper; s
 pub nothing-done : (held : Option Held) (kept : Option (List Record)) (o : Option State) (c : Command) (moment : ℕ) → StopsAt held kept o c moment held kept
 nothing-done held kept o c moment m is holds tell =
     let left = ends-here held kept c m holds in
-    (left.0, record { machine = m; one = inl refl; left = left.1; low = λ name low. inr (inl refl) }, left.2)
+    (left.0, record { machine = m; one = inl refl; left = left.1; low = λ name low. inr (inl (ap (λ (h : Held). h name) left.3)) }, left.2)

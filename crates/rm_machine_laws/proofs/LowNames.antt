@@ -19,14 +19,14 @@ use Rattle.rm_machine_laws.specs.Moments.{IsMomentIn}
 use Rattle.rm_machine_laws.proofs.Carried.{acts_on, same-puts}
 use Rattle.rm_machine_laws.proofs.Loosening.{loose-from}
 
+either : (b : Bool) (o : Option (List ℕ)) → cond b o o ≡ o
+either true o = refl
+either false o = refl
+
 -- under each name that is taken away stands nothing
 none-stays : (xs : List (List ℕ)) (name : List ℕ) → after_all itself nothing xs name None ≡ None
 none-stays [] name = refl
-none-stays (x ∷ xs) name = ap (after_all itself nothing xs name) (either (bytes_eq name x)) ∙ none-stays xs name
-  where
-    either : (b : Bool) → cond b None None ≡ None
-    either true = refl
-    either false = refl
+none-stays (x ∷ xs) name = ap (after_all itself nothing xs name) (either (bytes_eq name x) None) ∙ none-stays xs name
 
 named-gone : (xs : List (List ℕ)) (name : List ℕ) (old : Option (List ℕ)) → is_named itself xs name ≡ true → after_all itself nothing xs name old ≡ None
 named-gone [] name old named = absurd (cc)
@@ -64,16 +64,16 @@ module _ (c : Command) (loose : StaysLoose c) (m n : Machine) (moment : ℕ) (re
   by-outcome : (o : Option State) (r : Outcome) → m.state ≡ o → IsMomentIn o moment → IsOutcomeIn o m.objects c moment r → StepBy (acts_on o moment) m c r reply n → StaysLow (names_in c) o m.objects n.objects n.objects
   by-outcome o (refused r) is at comes by name low = inr (inl (ap (λ (x : Machine). x.objects name) by.1))
   by-outcome o (told lines) is at comes by name low = inr (inl (ap (λ (x : Machine). x.objects name) by.1))
-  by-outcome o (done lines e t) is at comes by =
+  by-outcome o (done lines e t) is at comes by name low =
       let goes = by.1.objects in
       let removes = (and_drops m.state e).removes in
       low-removed (names_in c) o e.puts (loose-from c loose o m moment lines e t is sound at comes).low m.objects removes goes.put n.objects n.objects
       (subst (λ ys. HasPuts ys m.objects goes.put) (same-puts m.state e) goes.puts)
-      (λ name other. goes.removes name ∙ unnamed-stays itself nothing removes name (goes.put name) other) goes.removes
+      (λ name other. goes.removes name ∙ unnamed-stays itself nothing removes name (goes.put name) other) goes.removes name low
 
   by-state : (o : Option State) → m.state ≡ o → IsMomentIn o moment → StepIn o m c moment reply n → StaysLow (names_in c) o m.objects n.objects n.objects
   by-state None is at step name low = absurd low
-  by-state (Some s) is at step = by-outcome (Some s) step.0 is at step.1 step.2
+  by-state (Some s) is at step name low = by-outcome (Some s) step.0 is at step.1 step.2 name low
 
   pub step-low : IsMomentIn m.state moment → Step m c moment reply n → StaysLow (names_in c) m.state m.objects n.objects n.objects
   step-low at step = by-state m.state refl at step
