@@ -10,7 +10,6 @@ use Rattle.rm_lang_statement.specs.declared.command.Command.{Command}
 use Rattle.rm_report.specs.declared.line.Reply.{Reply}
 use Rattle.rm_machine.specs.Effect.{Outcome, done, refused, told}
 use Rattle.rm_machine.specs.Machine.{IsSoundMachine, Machine}
-use Rattle.rm_machine.specs.State.{at_moment}
 use Rattle.rm_machine.specs.Step.{Step, StepBy, StepIn, and_drops, names_in}
 use Rattle.rm_machine.specs.declared.state.State.{State}
 use Rattle.rm_machine_laws.specs.Carries.{IsOutcomeIn}
