@@ -18,7 +18,7 @@ use Rattle.rm_evidence.specs.Names.{site_name}
 use Rattle.rm_catalog_typed.specs.TypedCatalog.{Saved}
 use Rattle.rm_machine.specs.Effect.{Artefact, Effect, Made}
 use Rattle.rm_machine.specs.Laws.{LeadsOn, StaysSound}
-use Rattle.rm_machine.specs.Machine.{DigestsTell, HoldsUnder, IsBorneOut, IsSoundBy, IsSoundMachine, Machine}
+use Rattle.rm_machine.specs.Machine.{HoldsUnder, IsBorneOut, IsSoundBy, IsSoundMachine, Machine}
 use Rattle.rm_machine.specs.Rest.{HaveParts, IsSoundRestBy, Rest, at_rest, catalog_in}
 use Rattle.rm_machine.specs.Saved.{saved_names, spelling_of}
 use Rattle.rm_machine.specs.declared.state.State.{State}
@@ -30,11 +30,12 @@ use Rattle.rm_machine_code.proofs.Kept.{StandOn}
 use Rattle.rm_machine_code.proofs.Later.{borne-beside}
 use Rattle.rm_machine_laws.specs.Carries.{IsHanded}
 use Rattle.rm_machine_laws.specs.Holds.{Holds, HoldsRest, records, saved_in}
-use Rattle.rm_machine_laws.specs.Loose.{IsLoose, IsNamedBy, IsNamedIn, StaysLoose, of_object, of_part}
+use Rattle.rm_machine_laws.specs.Loose.{IsLoose, IsLowIn, IsNamedBy, IsNamedIn, StaysLoose, of_object, of_part}
 use Rattle.rm_machine_laws.specs.Moments.{IsMomentIn}
 use Rattle.rm_machine_laws.specs.Stopped.{IsLeft, Stopped, StopsAt}
 use Rattle.rm_machine_laws.proofs.Carried.{edited, finished, no-parts}
 use Rattle.rm_machine_laws.proofs.Loosening.{loose-from}
+use Rattle.rm_machine_laws.proofs.LowNames.{low-put, low-removed}
 
 -- under each name of a record stands what stood there, but for those that were given
 abbrev pub StaysUnder : List (List ℕ) → Option State → Held → Held → Type 0
@@ -119,12 +120,15 @@ module _ (c : Command) (law : LeadsOn c) (stays : StaysSound c) (loose : StaysLo
     | inr other ↦ inr (same name other)
   ]
 
+  low-of : (m : Machine) → m.state ≡ o → Holds held kept m → (name : List ℕ) → IsLowIn m.state name → is_named name_of x.objects name ≡ true → Contains (names_in c) name
+  low-of m is holds name low put = (loose-of m is holds).low name (subst (λ y. IsLowIn y name) is low) (subst (λ ys. is_named name_of ys name ≡ true) handed.puts put)
+
   pub halts : (held' : Option Held) (kept' : Option (List Record)) → Halted x held kept held' kept' → StopsAt held kept o c moment held' kept'
   halts held' kept' (before_the_edits b) m is holds tell =
       let now = both-told (SameBeyondPuts x.objects) held held' m.objects holds.store b.objects in
       let same = before-stays m is holds now.0 now.1 in (
         left (names_in c) m now.0,
-        record { machine = m; one = inl refl; left = is-left (names_in c) m now.0 same },
+        record { machine = m; one = inl refl; left = is-left (names_in c) m now.0 same; low = low-put (names_in c) m.state x.objects (low-of m is holds) m.objects now.0 m.objects now.1 },
         left-holds (names_in c) m now.0 held' kept' holds.sound holds.parts same now.2 (b.records ∙ holds.keeper),
       )
   halts held' kept' (after_the_edits a) m is holds tell =
@@ -141,15 +145,20 @@ module _ (c : Command) (law : LeadsOn c) (stays : StaysSound c) (loose : StaysLo
       ] in
       let keeper = edited c law stays held kept o moment lines x t well at handed kept' m n is last.state holds.keeper a.records in (
         left (names_in c) n now.0,
-        record { machine = n; one = inr (said lines, last.step); left = is-left (names_in c) n now.0 same },
+        record {
+          machine = n;
+          one = inr (said lines, last.step);
+          left = is-left (names_in c) n now.0 same;
+          low = low-removed (names_in c) m.state x.objects (low-of m is holds) m.objects x.removes now.1.put now.0 n.objects now.1.puts now.1.removes (λ name. ap (λ (h : Held). h name) last.objects_are);
+        },
         left-holds (names_in c) n now.0 held' kept' last.sound (no-parts n t last.state last.unsaved_is) same now.2 keeper,
       )
 
--- what the store and the keeper hold of a machine they hold of what is left of it
-pub ends-here : (held : Option Held) (kept : Option (List Record)) (c : Command) (n : Machine) → Holds held kept n → (r : Rest) × IsLeft (names_in c) n r × HoldsRest held kept r
+-- what the store and the keeper hold of a machine they hold of what is left of it, with its objects
+pub ends-here : (held : Option Held) (kept : Option (List Record)) (c : Command) (n : Machine) → Holds held kept n → (r : Rest) × IsLeft (names_in c) n r × HoldsRest held kept r × (r.objects ≡ n.objects)
 ends-here held kept c n holds =
     let same : StaysUnder (names_in c) n.state n.objects n.objects = λ name names. inr refl in
-    (left (names_in c) n n.objects, is-left (names_in c) n n.objects same, left-holds (names_in c) n n.objects held kept holds.sound holds.parts same holds.store holds.keeper)
+    (left (names_in c) n n.objects, is-left (names_in c) n n.objects same, left-holds (names_in c) n n.objects held kept holds.sound holds.parts same holds.store holds.keeper, refl)
 
 -- and of it at rest
 pub rests : (held : Option Held) (kept : Option (List Record)) (m : Machine) → Holds held kept m → HoldsRest held kept (at_rest m)
@@ -163,4 +172,4 @@ rests held kept m holds = record { store = holds.store; keeper = holds.keeper; s
 pub nothing-done : (held : Option Held) (kept : Option (List Record)) (o : Option State) (c : Command) (moment : ℕ) → StopsAt held kept o c moment held kept
 nothing-done held kept o c moment m is holds tell =
     let left = ends-here held kept c m holds in
-    (left.0, record { machine = m; one = inl refl; left = left.1 }, left.2)
+    (left.0, record { machine = m; one = inl refl; left = left.1; low = λ name low. inr (inl (ap (λ (h : Held). h name) left.3)) }, left.2)

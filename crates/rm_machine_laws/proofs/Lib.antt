@@ -8,6 +8,7 @@ mod BackingUpLogs
 mod Beside
 mod BranchesSound
 mod Branching
+mod Cataloguing
 pub mod Carried
 mod Choosing
 mod Cleared
@@ -36,6 +37,7 @@ mod LooseQuiet
 mod LooseUpkeep
 mod Loosening
 mod Losing
+pub mod LowNames
 mod LosingLog
 mod Mounting
 mod NewObjects
