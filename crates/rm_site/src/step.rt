@@ -3,7 +3,7 @@ ghost use Rattle.std.specs.Prelude.{◌≡◌, ◌≤◌, ◌++◌, ◌||◌, tr
 ghost use Rattle.rm_base.specs.Outside.{Rose};
 ghost use Rattle.rm_commit.specs.declared.commit.Stop.TheVariants.{StoreFault, KeeperFault};
 ghost use Rattle.rm_lang_statement.specs.IsCommand.{is_command};
-ghost use Rattle.rm_report.specs.Reply.{HasDates, said};
+ghost use Rattle.rm_report.specs.Reply.{HasDates, IsFlagged, said};
 ghost use Rattle.rm_evidence.specs.Names.{site_name};
 ghost use Rattle.rm_machine.specs.Built.{is_built};
 ghost use Rattle.rm_machine.specs.Saved.{saved_names};
@@ -93,6 +93,7 @@ fn answer_without<D: Store, C: Keeper>(
     ensures answered { IfOk result (λ x. AnsweredBy (refusal_in None command.now moment) command.now x.1 None x.0) }
     ensures quiet { IfOk result (λ x. is_quiet command.now x.1 ≡ true → IsUntouched (D.held store.old) (C.kept keeper.old) None (D.held store.new) (C.kept keeper.new) x.0) }
     ensures dates { IfOk result (λ x. HasDates x.1) }
+    ensures flagged { IfOk result (λ x. IsFlagged x.1) }
     ensures stopped { OnErr result (IsStopAt (D.held store.old) (C.kept keeper.old) None command.now moment (D.held store.new) (C.kept keeper.new)) }
     ensures store { IsErrOf result StoreFault → Rose (D.faults store.old) (D.faults store.new) }
     ensures keeper { IsErrOf result KeeperFault → Rose (C.faults keeper.old) (C.faults keeper.new) }
@@ -136,6 +137,7 @@ fn answer_in<R: Threads + Wait + Sync, G: Gate, D: Store, C: Keeper>(
     ensures answered { IfOk result (λ reply. AnsweredBy (refusal_in (Some state.old) command.now moment) command.now reply (Some state.old) (Some state.new)) }
     ensures quiet { IfOk result (λ reply. is_quiet command.now reply ≡ true → IsUntouched (D.held store.old) (C.kept keeper.old) (Some state.old) (D.held store.new) (C.kept keeper.new) (Some state.new)) }
     ensures dates { IfOk result HasDates }
+    ensures flagged { IfOk result IsFlagged }
     ensures stopped { OnErr result (IsStopAt (D.held store.old) (C.kept keeper.old) (Some state.old) command.now moment (D.held store.new) (C.kept keeper.new)) }
     ensures store { IsErrOf result StoreFault → Rose (D.faults store.old) (D.faults store.new) }
     ensures keeper { IsErrOf result KeeperFault → Rose (C.faults keeper.old) (C.faults keeper.new) }
@@ -193,6 +195,7 @@ fn answer<R: Threads + Wait + Sync, G: Gate, D: Store, C: Keeper>(
     ensures answered { IfOk result (λ x. AnsweredBy (refusal_in state command.now moment) command.now x.1 state x.0) }
     ensures quiet { IfOk result (λ x. is_quiet command.now x.1 ≡ true → IsUntouched (D.held store.old) (C.kept keeper.old) state (D.held store.new) (C.kept keeper.new) x.0) }
     ensures dates { IfOk result (λ x. HasDates x.1) }
+    ensures flagged { IfOk result (λ x. IsFlagged x.1) }
     ensures stopped { OnErr result (IsStopAt (D.held store.old) (C.kept keeper.old) state command.now moment (D.held store.new) (C.kept keeper.new)) }
     ensures store { IsErrOf result StoreFault → Rose (D.faults store.old) (D.faults store.new) }
     ensures keeper { IsErrOf result KeeperFault → Rose (C.faults keeper.old) (C.faults keeper.new) }
@@ -220,7 +223,7 @@ impl Site {
     /// BACKUP and RECOVER go by `channels` channels, or by as many as are configured where none are asked for. Those of a BACKUP and
     /// its writers call the gate.
     ///
-    /// Each line of the reply has a text.
+    /// Each line of the reply has a text, and the reply counts as refused exactly where one of them is a refusal.
     ///
     /// Under a policy with a window DELETE OBSOLETE keeps each target of the window: what was told of a block there is told still, and
     /// a target that could be recovered can be.
@@ -252,6 +255,7 @@ impl Site {
         ensures answered { IfOk result (λ reply. AnsweredBy (refusal_in self.old.state command.now (moment_of self.old.state clock)) command.now reply self.old self.new) }
         ensures quiet { IfOk result (λ reply. is_quiet command.now reply ≡ true → IsUntouched (D.held store.old) (C.kept keeper.old) self.old (D.held store.new) (C.kept keeper.new) self.new) }
         ensures dates { IfOk result HasDates }
+        ensures flagged { IfOk result IsFlagged }
         ensures stopped { OnErr result (Stops (D.held store.old) (C.kept keeper.old) self.old command.now clock (D.held store.new) (C.kept keeper.new)) }
         ensures live { OnOk result (self.new.live ≡ true) }
         ensures applied { IfOk result (λ reply. self.new.applied ≡ (self.old.applied || applies command.now reply)) }

@@ -39,6 +39,7 @@ module _ {clock later : Option Answers} {before now : Option (List ℕ)} {held l
     many = s.many;
     written = s.written;
     some = s.some;
+    flags = s.flags;
     quiet = s.quiet;
     run = from-opening held kept v _ opens s.run;
   }
@@ -53,6 +54,7 @@ module _ {clock later : Option Answers} {before now : Option (List ℕ)} {held l
     asked = s.asked;
     part = s.part;
     within = s.within;
+    flags = s.flags;
     written = s.written;
     quiet = s.quiet;
     run = from-opening held kept v _ opens s.run;

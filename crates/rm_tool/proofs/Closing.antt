@@ -22,6 +22,7 @@ module _ {clock later : Option Answers} {before now : Option (List ℕ)} {held :
         many = s.many;
         written = s.written;
         some = s.some;
+        flags = s.flags;
         quiet = λ is. let was = s.quiet is in let stays = same (ap (λ (x : View). x.applied) was.1 ∙ fresh) in (stays.0 ∙ was.0.0, stays.1 ∙ was.0.1);
         run = λ m stands holds tells.
             let end = s.run m stands holds tells in

@@ -1,5 +1,5 @@
 -- What serving the statements of a script leaves.
-use Rattle.std.specs.Prelude.{ℕ, ◌≡◌, ◌<◌, ◌+◌, ◌++◌, ◌⊎◌, ◌||◌, Bool, true, Option, Some, IfSome, List, [], ◌∷◌, slice_get, take, length}
+use Rattle.std.specs.Prelude.{ℕ, ◌≡◌, ◌<◌, ◌+◌, ◌++◌, ◌⊎◌, ◌||◌, Bool, true, Option, Some, IfSome, List, [], ◌∷◌, slice_get, take, length, All}
 use Rattle.std.specs.List.{list_any}
 use Rattle.rm_base.specs.Outside.{Appends}
 use Rattle.rm_base.specs.Store.{Held, Answers, Both}
@@ -15,6 +15,7 @@ use Rattle.rm_tool.specs.Built.{statement_built_at}
 use Rattle.rm_tool.specs.declared.block.Settings.{Settings}
 use Rattle.rm_lang_token.specs.declared.token.Token.{Token}
 use Rattle.rm_report.specs.declared.line.Reply.{Reply}
+use Rattle.rm_report.specs.Reply.{IsFlagged}
 use Rattle.rm_report.specs.Text.{reply_text}
 use Rattle.rm_machine.specs.Machine.{Machine, DigestsTell}
 use Rattle.rm_machine.specs.Rest.{Rest, at_rest}
@@ -94,7 +95,7 @@ pub record IsCutShort (held : Option Held) (kept : Option (List Record)) (v : Vi
 abbrev pub FromEach : Option Held → Option (List Record) → View → (Machine → Type 0) → Type 0
 FromEach held kept v Is = (m : Machine) → Stands v m → Holds held kept m → Is m
 
--- All replies were written, `refused` says whether one is a refusal, and the clock was asked for each statement that is built. They are
+-- All replies were written, `refused` says whether one is refused, which is so exactly where a line of it is a refusal, and the clock was asked for each statement that is built. They are
 -- those of a run from whatever machine the site stands for, and the site, the store and the keeper hold what the machine has at its end.
 -- Where all were quiet nothing changed, whatever the store and the keeper hold.
 pub record Serves (clock later : Option Answers) (before now : Option (List ℕ)) (held : Option Held) (kept : Option (List Record)) (v : View) (held' : Option Held) (kept' : Option (List Record)) (v' : View) (refused : Bool) (ss : List (ℕ × List Token)) : Type 0 where
@@ -105,6 +106,7 @@ pub record Serves (clock later : Option Answers) (before now : Option (List ℕ)
   pub many : length replies ≡ length ss
   pub written : Appends before now (replies_text replies)
   pub some : refused ≡ list_any (λ r. r.refused) replies
+  pub flags : All IsFlagged replies
   pub quiet : are_quiet ss replies ≡ true → IsUntouched held kept v held' kept' v'
   pub run : FromEach held kept v (λ first. RunsWhereTold first answers ss replies (λ applied m. Stands v' m × Holds held' kept' m × (v'.applied ≡ (v.applied || applied))))
 
@@ -118,6 +120,7 @@ pub record Closes (From : (Machine → Type 0) → Type 0) (clock later : Option
   pub many : length replies ≡ length ss
   pub written : Appends before now (replies_text replies)
   pub some : refused ≡ list_any (λ r. r.refused) replies
+  pub flags : All IsFlagged replies
   pub quiet : are_quiet ss replies ≡ true → AreSame held kept held' kept'
   pub run : From (λ first. RunsWhereTold first answers ss replies (λ applied m. (r : Rest) × IsEnded applied m r × HoldsRest held' kept' r))
 
@@ -164,6 +167,7 @@ pub record EndsInReplies (From : (Machine → Type 0) → Type 0) (clock later :
   pub asked : AreToCome later (behind (take (length replies + 1) ss) answers)
   pub part : ℕ
   pub within : part < length (reply_text last)
+  pub flags : All IsFlagged (replies ++ last ∷ [])
   pub written : Appends before now (replies_text replies ++ take part (reply_text last))
   pub quiet : are_quiet (take (length replies + 1) ss) (replies ++ last ∷ []) ≡ true → AreSame held kept held' kept'
   pub run : From (λ first. RunsWhereTold first answers (take (length replies + 1) ss) (replies ++ last ∷ []) (λ applied m. HoldsRest held' kept' (at_rest m)))
