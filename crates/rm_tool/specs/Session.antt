@@ -52,6 +52,10 @@ pub record Script (left rest : Option (List ℕ)) (script : List ℕ) : Type 0 w
   pub taken : HasTaken left rest script
   pub whole : IfSome left (λ bytes. bytes ≡ script)
 
+-- some script was taken
+abbrev pub TakesScript : Option (List ℕ) → Option (List ℕ) → Type 0
+TakesScript left rest = (script : List ℕ) × Script left rest script
+
 -- the script was taken, and this is so of its statements
 pub record OfScript (left rest : Option (List ℕ)) (Is : List (ℕ × List Token) → Type 0) : Type 0 where
   pub script : List ℕ
