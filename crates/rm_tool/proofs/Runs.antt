@@ -27,7 +27,7 @@ use Rattle.rm_site.specs.Untouched.{IsUntouched}
 use Rattle.rm_tool.specs.Ends.{WritesFront}
 use Rattle.rm_tool.specs.Quiet.{are_quiet, is_quiet_statement}
 use Rattle.rm_tool.specs.Run.{StepOf, StatementStep, past, behind, Run, DigestsTellAlong, TellWithin, RunsWhereTold, AreToCome, replies_text}
-use Rattle.rm_tool.proofs.Quiet.{untouched-then}
+use Rattle.rm_tool.proofs.Quiet.{same-then, untouched-then}
 use Rattle.rm_tool.specs.Serving.{FromEach, IsPast, IsServed, IsCut, IsCutShort, Serves, EndsAtStatement, EndsInReplies}
 
 -- The machine's run over these statements, with these replies, as far as it came: each course of the clock from
@@ -253,7 +253,7 @@ module _ {told now : Option Answers} {before written : Option (List ℕ)} {first
   -- the statement i was cut short
   pub progress-cut : {held' : Option Held} {kept' : Option (List Record)} {later : Option Answers} {s : ℕ × List Token} (i : ℕ) → slice_get ss i ≡ Some s
       → Progress (take i ss) told now before written first_held first_kept origin held kept site refused → IsCutShort held kept site now s held' kept' later
-      → EndsAtStatement (FromEach first_held first_kept origin) told later before written held' kept' ss
+      → EndsAtStatement (FromEach first_held first_kept origin) told later before written first_held first_kept held' kept' ss
   progress-cut {held' = held'} {kept' = kept'} {later = later} {s = s} i there p short =
       let f = answers-with now short.answer short.next in
       let all = p.extends f.0 f.1 in
@@ -283,6 +283,9 @@ module _ {told now : Option Answers} {before written : Option (List ℕ)} {first
         written = p.appends;
         statement = s;
         next = subst (λ (n : ℕ). slice_get ss n ≡ Some s) (sym count) there;
+        quiet = λ are tells.
+            let was = p.quiet (subst (λ (n : ℕ). are_quiet (take n ss) p.replies ≡ true) count are) in
+            same-then was.0 (short.quiet tells);
         run =
             subst (λ (n : ℕ). FromEach first_held first_kept origin (λ first. DigestsTellAlong first all.0 ss p.replies
             → (last : Machine) × (applied : Bool) × Run first all.0 (take n ss) p.replies applied last × IsCut last s (behind (take n ss) all.0 0) held' kept'))

@@ -26,7 +26,7 @@ use Rattle.rm_machine_laws.specs.Stopped.{IsLeft, Stopped}
 use Rattle.rm_tool.specs.declared.session.Halt.{Halt}
 use Rattle.rm_tool.specs.declared.session.Halt.TheVariants as halt
 use Rattle.rm_site.specs.Untouched.{AreSame, IsUntouched}
-use Rattle.rm_tool.specs.Quiet.{are_quiet, is_quiet_statement}
+use Rattle.rm_tool.specs.Quiet.{are_quiet, is_quiet_statement, only_tells_statement}
 use Rattle.rm_tool.specs.Run.{StatementStep, Run, RunsWhereTold, DigestsTellAlong, TellWithin, past, behind, AreToCome, replies_text}
 
 -- what ends a session where the site was stopped
@@ -84,11 +84,12 @@ pub data IsCut (m : Machine) (s : ℕ × List Token) (answer : ℕ) (held : Opti
   inside : (inner : List Inner) (r : Rest) → statement_built_at s.1 ≡ Some (Block inner) → BlockLeaves unset m inner answer r → HoldsRest held kept r → IsCut m s answer held kept
 
 -- The statement was cut short, and the clock asked for it, or not yet. Whatever machine the site stands for, where digests tell this is
--- left of it.
+-- left of it. Where it only tells all is as it was, whatever the store and the keeper hold.
 pub record IsCutShort (held : Option Held) (kept : Option (List Record)) (v : View) (clock : Option Answers) (s : ℕ × List Token) (held' : Option Held) (kept' : Option (List Record)) (clock' : Option Answers) : Type 0 where
   pub answer : ℕ
   pub next : IfSome clock (λ coming. answer ≡ coming 0)
   pub asked : (clock' ≡ clock) ⊎ Both (IsPast (statement_built_at s.1)) clock clock'
+  pub quiet : only_tells_statement (statement_built_at s.1) ≡ true → AreSame held kept held' kept'
   pub cut : (m : Machine) → Stands v m → Holds held kept m → TellWithin (statement_built_at s.1) m answer → IsCut m s answer held' kept'
 
 -- whatever machine the site stands for, this is so of it
@@ -125,9 +126,9 @@ pub record Closes (From : (Machine → Type 0) → Type 0) (clock later : Option
   pub run : From (λ first. RunsWhereTold first answers ss replies (λ applied m. (r : Rest) × IsEnded applied m r × HoldsRest held' kept' r))
 
 -- The replies to the first statements were written, and nothing else. The statement after them was cut short: the clock was asked for
--- those before it, and for none behind it. From the machines that are meant the replies are those of a run, and the store and the keeper
--- hold what is left.
-pub record EndsAtStatement (From : (Machine → Type 0) → Type 0) (clock later : Option Answers) (before now : Option (List ℕ)) (held' : Option Held) (kept' : Option (List Record)) (ss : List (ℕ × List Token)) : Type 0 where
+-- those before it, and for none behind it. Where those were quiet and it only tells nothing changed. From the machines that are meant the
+-- replies are those of a run, and the store and the keeper hold what is left.
+pub record EndsAtStatement (From : (Machine → Type 0) → Type 0) (clock later : Option Answers) (before now : Option (List ℕ)) (held : Option Held) (kept : Option (List Record)) (held' : Option Held) (kept' : Option (List Record)) (ss : List (ℕ × List Token)) : Type 0 where
   pub answers : Answers
   pub told : AreToCome clock answers
   pub replies : List Reply
@@ -135,25 +136,27 @@ pub record EndsAtStatement (From : (Machine → Type 0) → Type 0) (clock later
   pub statement : ℕ × List Token
   pub next : slice_get ss (length replies) ≡ Some statement
   pub asked : AreToCome later (behind (take (length replies) ss) answers) ⊎ AreToCome later (behind (take (length replies + 1) ss) answers)
+  pub quiet : are_quiet (take (length replies) ss) replies ≡ true → only_tells_statement (statement_built_at statement.1) ≡ true → AreSame held kept held' kept'
   pub run : From
       (λ first. DigestsTellAlong first answers ss replies
       → (last : Machine) × (applied : Bool) × Run first answers (take (length replies) ss) replies applied last × IsCut last statement (behind (take (length replies) ss) answers 0) held' kept')
 
 -- All replies were written, from the machines that are meant those of a run, and the save after it was stopped: nothing of it is
 -- recorded, or all of it. The store and the keeper hold what is left.
-pub record EndsAtSaving (From : (Machine → Type 0) → Type 0) (clock later : Option Answers) (before now : Option (List ℕ)) (held' : Option Held) (kept' : Option (List Record)) (ss : List (ℕ × List Token)) : Type 0 where
+pub record EndsAtSaving (From : (Machine → Type 0) → Type 0) (clock later : Option Answers) (before now : Option (List ℕ)) (held : Option Held) (kept : Option (List Record)) (held' : Option Held) (kept' : Option (List Record)) (ss : List (ℕ × List Token)) : Type 0 where
   pub answers : Answers
   pub told : AreToCome clock answers
   pub asked : AreToCome later (behind ss answers)
   pub replies : List Reply
   pub many : length replies ≡ length ss
   pub written : Appends before now (replies_text replies)
+  pub quiet : are_quiet ss replies ≡ true → AreSame held kept held' kept'
   pub run : From (λ first. RunsWhereTold first answers ss replies (λ applied m. (r : Rest) × (IsLeft [] m r ⊎ IsEnded applied m r) × HoldsRest held' kept' r))
 
 -- the session ended at a statement, or at its save
-pub data EndsMidway (From : (Machine → Type 0) → Type 0) (clock later : Option Answers) (before now : Option (List ℕ)) (held' : Option Held) (kept' : Option (List Record)) (ss : List (ℕ × List Token)) : Type 0 where
-  at_statement : EndsAtStatement From clock later before now held' kept' ss → EndsMidway From clock later before now held' kept' ss
-  at_saving : EndsAtSaving From clock later before now held' kept' ss → EndsMidway From clock later before now held' kept' ss
+pub data EndsMidway (From : (Machine → Type 0) → Type 0) (clock later : Option Answers) (before now : Option (List ℕ)) (held : Option Held) (kept : Option (List Record)) (held' : Option Held) (kept' : Option (List Record)) (ss : List (ℕ × List Token)) : Type 0 where
+  at_statement : EndsAtStatement From clock later before now held kept held' kept' ss → EndsMidway From clock later before now held kept held' kept' ss
+  at_saving : EndsAtSaving From clock later before now held kept held' kept' ss → EndsMidway From clock later before now held kept held' kept' ss
 
 -- The sink failed in a reply: those before it were written, and a front of it that is not all of it. The clock was asked for no statement
 -- behind. From the machines that are meant they are the replies of a run, and the store and the keeper hold, at rest, what the machine has

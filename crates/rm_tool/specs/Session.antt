@@ -79,7 +79,7 @@ TellsValid kept = IfSome kept AreValid
 -- the keeper hold what is left.
 pub data EndsEarly (left rest : Option (List ℕ)) (clock later : Option Answers) (before now : Option (List ℕ)) (held : Option Held) (kept : Option (List Record)) (held' : Option Held) (kept' : Option (List Record)) : Type 0 where
   before_statements : now ≡ before → NoneRan clock later held kept held' kept' → EndsEarly left rest clock later before now held kept held' kept'
-  midway : TellsValid kept → OfScript left rest (EndsMidway (FromRest held kept) clock later before now held' kept') → EndsEarly left rest clock later before now held kept held' kept'
+  midway : TellsValid kept → OfScript left rest (EndsMidway (FromRest held kept) clock later before now held kept held' kept') → EndsEarly left rest clock later before now held kept held' kept'
 
 -- the line of the first of the keeper's records, in order, that breaks a rule, where it tells them
 pub record IsBadRecord (kept : Option (List Record)) (line : List ℕ) : Type 0 where

@@ -127,9 +127,9 @@ fn serve_all<R: Threads + Wait + Sync, G: Gate, K: Sink, D: Store, C: Keeper, T:
 
     // What was written where it ended early, and what the store and the keeper hold.
     ensures sink { IsErrOf result Halt.Sink → EndsInReplies (FromEach (D.held store.old) (C.kept keeper.old) site.old) (T.answers clock.old) (T.answers clock.new) (K.contents sink.old) (K.contents sink.new) (D.held store.old) (C.kept keeper.old) (D.held store.new) (C.kept keeper.new) statements.now }
-    ensures store { IsErrOf result Halt.Store → EndsAtStatement (FromEach (D.held store.old) (C.kept keeper.old) site.old) (T.answers clock.old) (T.answers clock.new) (K.contents sink.old) (K.contents sink.new) (D.held store.new) (C.kept keeper.new) statements.now }
-    ensures keeper { IsErrOf result Halt.Keeper → EndsAtStatement (FromEach (D.held store.old) (C.kept keeper.old) site.old) (T.answers clock.old) (T.answers clock.new) (K.contents sink.old) (K.contents sink.new) (D.held store.new) (C.kept keeper.new) statements.now }
-    ensures memory { IsErrOf result Halt.NoMemory → EndsAtStatement (FromEach (D.held store.old) (C.kept keeper.old) site.old) (T.answers clock.old) (T.answers clock.new) (K.contents sink.old) (K.contents sink.new) (D.held store.new) (C.kept keeper.new) statements.now }
+    ensures store { IsErrOf result Halt.Store → EndsAtStatement (FromEach (D.held store.old) (C.kept keeper.old) site.old) (T.answers clock.old) (T.answers clock.new) (K.contents sink.old) (K.contents sink.new) (D.held store.old) (C.kept keeper.old) (D.held store.new) (C.kept keeper.new) statements.now }
+    ensures keeper { IsErrOf result Halt.Keeper → EndsAtStatement (FromEach (D.held store.old) (C.kept keeper.old) site.old) (T.answers clock.old) (T.answers clock.new) (K.contents sink.old) (K.contents sink.new) (D.held store.old) (C.kept keeper.old) (D.held store.new) (C.kept keeper.new) statements.now }
+    ensures memory { IsErrOf result Halt.NoMemory → EndsAtStatement (FromEach (D.held store.old) (C.kept keeper.old) site.old) (T.answers clock.old) (T.answers clock.new) (K.contents sink.old) (K.contents sink.new) (D.held store.old) (C.kept keeper.old) (D.held store.new) (C.kept keeper.new) statements.now }
 
     // Whose count rose.
     ensures sink_failed { IsErrOf result Halt.Sink → Rose (K.faults sink.old) (K.faults sink.new) }
@@ -183,9 +183,9 @@ pub fn serve_session<R: Threads + Wait + Sync, G: Gate, K: Sink, D: Store, C: Ke
 
     // What was written where it ended early, and what the store and the keeper hold.
     ensures sink { IsErrOf result Halt.Sink → EndsInReplies (FromEach (D.held store.old) (C.kept keeper.old) site) (T.answers clock.old) (T.answers clock.new) (K.contents sink.old) (K.contents sink.new) (D.held store.old) (C.kept keeper.old) (D.held store.new) (C.kept keeper.new) statements.now }
-    ensures store { IsErrOf result Halt.Store → EndsMidway (FromEach (D.held store.old) (C.kept keeper.old) site) (T.answers clock.old) (T.answers clock.new) (K.contents sink.old) (K.contents sink.new) (D.held store.new) (C.kept keeper.new) statements.now }
-    ensures keeper { IsErrOf result Halt.Keeper → EndsMidway (FromEach (D.held store.old) (C.kept keeper.old) site) (T.answers clock.old) (T.answers clock.new) (K.contents sink.old) (K.contents sink.new) (D.held store.new) (C.kept keeper.new) statements.now }
-    ensures memory { IsErrOf result Halt.NoMemory → EndsMidway (FromEach (D.held store.old) (C.kept keeper.old) site) (T.answers clock.old) (T.answers clock.new) (K.contents sink.old) (K.contents sink.new) (D.held store.new) (C.kept keeper.new) statements.now }
+    ensures store { IsErrOf result Halt.Store → EndsMidway (FromEach (D.held store.old) (C.kept keeper.old) site) (T.answers clock.old) (T.answers clock.new) (K.contents sink.old) (K.contents sink.new) (D.held store.old) (C.kept keeper.old) (D.held store.new) (C.kept keeper.new) statements.now }
+    ensures keeper { IsErrOf result Halt.Keeper → EndsMidway (FromEach (D.held store.old) (C.kept keeper.old) site) (T.answers clock.old) (T.answers clock.new) (K.contents sink.old) (K.contents sink.new) (D.held store.old) (C.kept keeper.old) (D.held store.new) (C.kept keeper.new) statements.now }
+    ensures memory { IsErrOf result Halt.NoMemory → EndsMidway (FromEach (D.held store.old) (C.kept keeper.old) site) (T.answers clock.old) (T.answers clock.new) (K.contents sink.old) (K.contents sink.new) (D.held store.old) (C.kept keeper.old) (D.held store.new) (C.kept keeper.new) statements.now }
 
     // Whose count rose.
     ensures sink_failed { IsErrOf result Halt.Sink → Rose (K.faults sink.old) (K.faults sink.new) }

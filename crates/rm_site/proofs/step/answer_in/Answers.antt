@@ -1,7 +1,7 @@
 use Rattle.std.proofs.Common.{Some, ap, refl, subst, sym}
-use Rattle.rm_site.proofs.Answering.{Begins, answered-in, back-again, begins-sound, comes-refused, comes-told, handed-in, is-carried, is-halted, quiet-refused, quiet-told, refused-in, sound-again, told-in, valid-again}
+use Rattle.rm_site.proofs.Answering.{Begins, answered-in, back-again, begins-sound, comes-refused, comes-told, handed-in, is-carried, on-err, is-halted, quiet-refused, quiet-told, refused-in, sound-again, told-in, valid-again}
 use Rattle.rm_site.proofs.ComesOut.{out-done, out-refused, out-told}
-use Rattle.rm_site.proofs.Quiet.{done-not-quiet}
+use Rattle.rm_site.proofs.Quiet.{done-more, done-not-quiet}
 use Rattle.rm_report.proofs.Plain.{plain-dated, refused-flagged, said-flagged}
 use Rattle.rm_report.specs.Reply.{HasDates}
 use Rattle.rm_site.proofs.Plain.{done-plain, told-plain}
@@ -133,3 +133,7 @@ returns-in_ok-carry_out-in-Done-clause-dates g c =
 pub returns-in_ok-carry_out-in-Done-clause-flagged : goal.returns-in_ok-carry_out-in-Done-clause-flagged
 returns-in_ok-carry_out-in-Done-clause-flagged g c =
     said-flagged _ c.in-Done.handed.lines c.reply_of-in-Done.ensures (done-plain c.in_ok-refusal.field-0 c.in-Done.handed c.in-Done.is c.in_ok-refusal.ensures.dates)
+
+pub returns-in_err-carry_out-in-Done-clause-untouched : goal.returns-in_err-carry_out-in-Done-clause-untouched
+returns-in_err-carry_out-in-Done-clause-untouched g c =
+    on-err _ c.from_residual-in_err-carry_out-in-Done.result (λ only. absurd (done-more c.args.command.now c.in_ok-refusal.field-0 c.in-Done.handed c.in-Done.is c.in_ok-refusal.ensures.more only))

@@ -1,8 +1,8 @@
-use Rattle.std.proofs.Common.{◌≡◌, ◌∙◌, None, Some, [], All, ap, refl, subst, sym}
+use Rattle.std.proofs.Common.{◌≡◌, ◌∙◌, None, Some, [], All, ap, refl, subst, sym, true, false}
 use Rattle.std.proofs.lemmas.List.Elements.{All-cons, All-nil}
 use Rattle.rm_machine.specs.Laws.{only_tells}
 use Rattle.rm_machine_laws.specs.Refused.{refusal_without}
-use Rattle.rm_site.proofs.Answering.{is-carried, is-halted, is-refused}
+use Rattle.rm_site.proofs.Answering.{is-carried, is-halted, is-refused, on-err}
 use Rattle.rm_site.proofs.Creating.{comes-refused, founded, founded-sound}
 use Rattle.rm_site.proofs.ComesOut.{out-done, out-refused}
 use Rattle.rm_site.proofs.Quiet.{not-quiet}
@@ -62,3 +62,7 @@ pub returns-clause-flagged : goal.returns-clause-flagged
 returns-clause-flagged g c =
     let k = c.in-CreateDatabase in
     said-flagged _ c.in_ok-lines.lines c.reply_of.ensures (subst (All IsPlain) (sym c.in_ok-lines.ensures) (All-cons IsPlain (DatabaseAt k.dbid k.scn) [] tt (All-nil IsPlain)))
+
+pub returns-in_err-carry_out-clause-untouched : goal.returns-in_err-carry_out-clause-untouched
+returns-in_err-carry_out-clause-untouched g c =
+    on-err _ c.from_residual-in_err-carry_out.result (λ only. absurd (let both : true ≡ false = sym only ∙ ap only_tells c.in-CreateDatabase.is in cc))

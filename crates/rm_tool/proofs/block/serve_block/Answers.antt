@@ -6,8 +6,8 @@ use Rattle.rm_tool.proofs.Blocks.{inside-done, inside-more, inside-refused, insi
 use Rattle.rm_report.proofs.Plain.{plain-dated, plain-lines, refused-behind}
 use Rattle.rm_report.specs.Reply.{IsPlain, LineHasDate}
 use Rattle.rm_report.specs.declared.line.Line.{Line}
-use Rattle.rm_tool.proofs.Quiet.{first-passes, untouched-then}
-use Rattle.rm_tool.proofs.Statements.{on-err}
+use Rattle.rm_tool.proofs.Quiet.{first-passes, same-then, untouched-then}
+use Rattle.rm_tool.proofs.Statements.{err-map, on-err}
 use Rattle.rm_tool.proofs.block.serve_block.Goals as goal
 
 pub returns-in_err-add_lines-clause-stopped : goal.returns-in_err-add_lines-clause-stopped
@@ -68,3 +68,17 @@ returns-clause-dates g c = plain-dated c.loop-inner.lines c.loop-inner.invariant
 
 pub returns-clause-flagged : goal.returns-clause-flagged
 returns-clause-flagged g c = c.loop-inner.invariant.plain
+
+pub returns-in_err-reply-clause-untouched : goal.returns-in_err-reply-clause-untouched
+returns-in_err-reply-clause-untouched g c =
+    on-err _ c.from_residual.result
+    (λ all.
+    let was = c.loop-inner.invariant.quiet all in
+    same-then was.1.0 (c.in_err-reply.ensures.untouched (first-passes only_tells_inner _ _ c.in-Some.ensures.steps.0 was.0)))
+
+pub returns-in_err-add_lines-clause-untouched : goal.returns-in_err-add_lines-clause-untouched
+returns-in_err-add_lines-clause-untouched g c =
+    on-err _ c.from_residual-in_err-add_lines.result
+    (λ all.
+    let was = c.loop-inner.invariant.quiet all in
+    (untouched-then was.1 (c.in_ok-reply.ensures.quiet (first-passes only_tells_inner _ _ c.in-Some.ensures.steps.0 was.0))).0)
