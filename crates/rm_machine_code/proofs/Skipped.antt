@@ -4,9 +4,9 @@ use Rattle.std.proofs.lemmas.List.Elements.{All-cons, All-nil}
 use Rattle.rm_base.specs.declared.kinds.Bad.{Bad}
 use Rattle.rm_machine.specs.Recovery.{skipped_lines}
 use Rattle.rm_report.specs.declared.line.Line.TheVariants.{Skipped}
-use Rattle.rm_report.specs.Reply.{LineHasDate}
+use Rattle.rm_report.specs.Reply.{IsPlain}
 
 -- no line of it tells a moment
-pub skipped-dated : (xs : List (ℕ × Bad)) → All LineHasDate (skipped_lines xs)
-skipped-dated [] = All-nil LineHasDate
-skipped-dated (x ∷ xs) = All-cons LineHasDate (Skipped x.0 x.1) (skipped_lines xs) tt (skipped-dated xs)
+pub skipped-dated : (xs : List (ℕ × Bad)) → All IsPlain (skipped_lines xs)
+skipped-dated [] = All-nil IsPlain
+skipped-dated (x ∷ xs) = All-cons IsPlain (Skipped x.0 x.1) (skipped_lines xs) tt (skipped-dated xs)

@@ -1,7 +1,7 @@
 //! The reply of a refusal, and lines that several statements have.
 ghost use Rattle.std.specs.Prelude.{◌≡◌, All, IfOk};
 ghost use Rattle.rm_machine.specs.Recovery.{skipped_lines};
-ghost use Rattle.rm_report.specs.Reply.{LineHasDate, refused_by};
+ghost use Rattle.rm_report.specs.Reply.{IsPlain, refused_by};
 
 use rm_base::{Bad, NoMemory, Refusal, Seq};
 use rm_report::{Line, Reply};
@@ -22,7 +22,7 @@ pub fn refusal_reply(alloc: Global, refusal: Refusal) -> Result<Reply, NoMemory>
 /// A line for each record that was skipped.
 pub fn skipped_lines(alloc: Global, skipped: &[(u32, Bad)]) -> Result<Seq<Line>, NoMemory>
     ensures lines { IfOk result (λ lines. lines ≡ skipped_lines skipped.now) }
-    ensures dates { IfOk result (All LineHasDate) }
+    ensures dates { IfOk result (All IsPlain) }
 {
     let mut lines = Seq::new(alloc);
     for (id, bad) in skipped {

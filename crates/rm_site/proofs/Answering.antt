@@ -1,5 +1,5 @@
 -- How a statement is answered where there is a database, and over the site.
-use Rattle.std.proofs.Common.{◌≡◌, ◌∙◌, ◌++◌, ◌&&◌, ◌||◌, not, ℕ, Bool, List, [], Option, Some, None, true, ap, sym, subst}
+use Rattle.std.proofs.Common.{◌≡◌, ◌∙◌, ◌++◌, ◌&&◌, ◌||◌, not, ℕ, Bool, List, [], Option, Some, None, true, ap, refl, sym, subst}
 use Rattle.std.specs.Prelude.{Result, Ok, Err, OnErr}
 use Rattle.std.proofs.Math.Bool.{or-false}
 use Rattle.std.proofs.lemmas.List.{append-nil}
@@ -39,6 +39,7 @@ use Rattle.rm_machine_laws.proofs.Carried.{carried-on, refused-step, told-step}
 use Rattle.rm_machine_laws.proofs.Every.{every-leads, every-loose, every-stays, every-tells}
 use Rattle.rm_machine_laws.proofs.Halting.{halts, nothing-done}
 use Rattle.rm_site.specs.Comes.{ComesTo, IsRefusedBy}
+use Rattle.rm_site.specs.Untouched.{AreSame}
 use Rattle.rm_site.specs.declared.statement.Answer.{Answer}
 use Rattle.rm_site.specs.declared.statement.Answer.TheVariants.{Refused, Told, Done}
 
@@ -48,6 +49,10 @@ no_more_names names = sym (append-nil names)
 pub on-err : {T E : Type 0} (P : Type 0) (r : Result T E) → P → OnErr r P
 on-err P (Ok x) p = tt
 on-err P (Err e) p = p
+
+-- nothing was done, whatever the statement
+pub still_same : {T E : Type 0} (r : Result T E) (P : Type 0) (held held' : Option Held) (kept : Option (List Record)) → held' ≡ held → OnErr r (P → AreSame held kept held' kept)
+still_same r P held held' kept same = on-err (P → AreSame held kept held' kept) r (λ p. (same, refl))
 
 -- a refusal is the one of the state, or one by what the objects hold
 answered-by : (o : Option Refusal) (c : Command) (r : Refusal) (reply : Reply) (s t : Option State) → IsRefusedBy o c (Refused r) → reply ≡ refused_by r → t ≡ s → AnsweredBy o c reply s t

@@ -7,7 +7,7 @@ use Rattle.rm_lang_statement.specs.declared.command.BackupForm.{BackupForm}
 use Rattle.rm_lang_statement.specs.declared.command.Command.{Command}
 use Rattle.rm_lang_statement.specs.declared.command.Command.TheVariants.{ArchiveLogCurrent, Backup, BackupLogs, ChangeBackup, CreateDatabase, CreateDatafile, Crosscheck, Cut, Damage, DeleteBackup, DeleteExpired, DeleteObsolete, Dump, ListArchived, ListBackup, ListCopy, ListIncarnation, LoseDatafile, LoseLog, Mount, OpenPlain, OpenResetlogs, Parallelism, Preview, Recover, RecoverCopy, RecoverTest, Remove, Rename, ReportNeedBackup, ReportObsolete, ReportSchema, ResetDatabase, Restore, Retention, ShowAll, SwitchLogfile, ValidateAll, Write}
 use Rattle.rm_history.specs.declared.tree.Incarnation.{Incarnation}
-use Rattle.rm_report.specs.Reply.{HasDate, LineHasDate}
+use Rattle.rm_report.specs.Reply.{HasDate, IsPlain}
 use Rattle.rm_report.specs.declared.line.Line.{Line}
 use Rattle.rm_report.specs.declared.line.Line.TheVariants.{Deleted, ThreadScn}
 use Rattle.rm_lang_statement.specs.declared.command.ChangeTo.{ChangeTo}
@@ -28,19 +28,19 @@ use Rattle.rm_machine.specs.declared.nature.Nature.TheVariants.{Changes}
 
 -- the moment of each RM-14 among the lines is at most the last
 record AreDated (lines : List Line) : Type 0 where
-  dates : All LineHasDate lines
+  dates : All IsPlain lines
 
 none-dated : AreDated []
-none-dated = record { dates = All-nil LineHasDate }
+none-dated = record { dates = All-nil IsPlain }
 
-more-dated : (line : Line) (lines : List Line) → LineHasDate line → AreDated lines → AreDated (line ∷ lines)
-more-dated line lines one two = record { dates = All-cons LineHasDate line lines one two.dates }
+more-dated : (line : Line) (lines : List Line) → IsPlain line → AreDated lines → AreDated (line ∷ lines)
+more-dated line lines one two = record { dates = All-cons IsPlain line lines one two.dates }
 
-one-dated : (line : Line) → LineHasDate line → AreDated (line ∷ [])
+one-dated : (line : Line) → IsPlain line → AreDated (line ∷ [])
 one-dated line one = more-dated line [] one none-dated
 
 join-dated : (xs ys : List Line) → AreDated xs → AreDated ys → AreDated (xs ++ ys)
-join-dated xs ys one two = record { dates = All-append LineHasDate xs ys one.dates two.dates }
+join-dated xs ys one two = record { dates = All-append IsPlain xs ys one.dates two.dates }
 
 if-dated : (b : Bool) (xs ys : List Line) → AreDated xs → AreDated ys → AreDated (if b then xs else ys)
 if-dated true xs ys one two = one
@@ -77,7 +77,7 @@ incarnations-dated ns current i (suc n) = more-dated _ _ tt (incarnations-dated 
 
 -- The lines of upkeep
 
-change-dated_line : (to : ChangeTo) (n : ℕ) → LineHasDate (change_line to n)
+change-dated_line : (to : ChangeTo) (n : ℕ) → IsPlain (change_line to n)
 change-dated_line Available n = tt
 change-dated_line Unavailable n = tt
 change-dated_line Uncatalog n = tt
@@ -150,12 +150,12 @@ every-dated (Rename old new) s objects o change is = absurd (cc)
 every-dated c s objects o change is = absurd is
 
 -- what a change says
-pub change-dated : (c : Command) (s : State) (objects : Held) (lines : List Line) (e : Effect) (t : State) → nature_of c ≡ Changes → IsDone s objects c (done lines e t) → All LineHasDate lines
+pub change-dated : (c : Command) (s : State) (objects : Held) (lines : List Line) (e : Effect) (t : State) → nature_of c ≡ Changes → IsDone s objects c (done lines e t) → All IsPlain lines
 change-dated c s objects lines e t change is = (every-dated c s objects (done lines e t) change is).dates
 
 -- what LIST INCARNATION and DUMP tell
-pub list-dated : (s : State) (lines : List Line) (objects : Held) → IsDone s objects ListIncarnation (told lines) → All LineHasDate lines
+pub list-dated : (s : State) (lines : List Line) (objects : Held) → IsDone s objects ListIncarnation (told lines) → All IsPlain lines
 list-dated s lines objects is = (by (told lines) _ is (incarnations-dated (tree s) (current_of s) 1 (length (tree s)))).dates
 
-pub dump-dated : (file block : ℕ) (s : State) (lines : List Line) (objects : Held) → IsDone s objects (Dump file block) (told lines) → All LineHasDate lines
+pub dump-dated : (file block : ℕ) (s : State) (lines : List Line) (objects : Held) → IsDone s objects (Dump file block) (told lines) → All IsPlain lines
 dump-dated file block s lines objects is = (by (told lines) _ is.2 (one-dated _ tt)).dates

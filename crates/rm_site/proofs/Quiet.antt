@@ -41,3 +41,9 @@ untouched-of o v c reply p applied from live is quiet same =
     let knows : applied ≡ v.applied = is ∙ neither v.applied reply.refused (only_tells c) quiet in
     let shows : record { state = p; live = true; applied = applied } ≡ v = λ i. record { state = state i; live = sym live i; applied = knows i } in
     (same.0, shows)
+
+-- what is done does not only tell
+pub done-more : (c : Command) (a : Answer) (x : Handed) → a ≡ Done x → DoesMore c a → only_tells c ≡ true → ⊥
+done-more c a x is does only =
+    let both : true ≡ false = sym only ∙ subst (λ (y : Answer). DoesMore c y) is does in
+    absurd (cc)

@@ -3,7 +3,7 @@ use Rattle.std.specs.Prelude.{◌≡◌, true, false, Option, Some, None, All}
 use Rattle.rm_base.specs.Store.{Held}
 use Rattle.rm_base.specs.declared.refusal.Refusal.{Refusal}
 use Rattle.rm_lang_statement.specs.declared.command.Command.{Command}
-use Rattle.rm_report.specs.Reply.{LineHasDate, HasDate}
+use Rattle.rm_report.specs.Reply.{IsPlain, HasDate}
 use Rattle.rm_machine.specs.Effect.{refused, told}
 use Rattle.rm_machine.specs.Hands.{Hands}
 use Rattle.rm_machine.specs.Laws.{only_tells}
@@ -34,16 +34,16 @@ DoesMore c (Refused r) = Unit {0}
 DoesMore c (Told lines) = Unit {0}
 DoesMore c (Done x) = only_tells c ≡ false
 
--- the moment of each RM-14 is at most the last
-abbrev pub AnswerHasDates : Answer → Type 0
-AnswerHasDates (Refused r) = HasDate r
-AnswerHasDates (Told lines) = All LineHasDate lines
-AnswerHasDates (Done x) = All LineHasDate x.lines
+-- the moment of an RM-14 is at most the last, and no line of what is told or done is a refusal
+abbrev pub AnswersPlainly : Answer → Type 0
+AnswersPlainly (Refused r) = HasDate r
+AnswersPlainly (Told lines) = All IsPlain lines
+AnswersPlainly (Done x) = All IsPlain x.lines
 
 -- what is known of an answer
 pub record IsAnswer (held : Option Held) (s : State) (c : Command) (a : Answer) (t : State) : Type 0 where
   pub comes : ComesTo held s c a t
   pub refused : IsRefusedBy (refusal_of s c) c a
   pub sound : IsSound t
-  pub dates : AnswerHasDates a
+  pub dates : AnswersPlainly a
   pub more : DoesMore c a

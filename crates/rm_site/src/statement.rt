@@ -8,7 +8,7 @@ ghost use Rattle.rm_machine.specs.Nature.{nature_of};
 ghost use Rattle.rm_machine.specs.declared.nature.Nature.TheVariants.{ChangesByHeld, TellsHeld, TestsHeld, TriesByHeld};
 ghost use Rattle.rm_machine.specs.Sound.{IsSound};
 ghost use Rattle.rm_machine.specs.Step.{IsStatement, refusal_of};
-ghost use Rattle.rm_site.specs.Comes.{AnswerHasDates, ComesTo, DoesMore, IsAnswer, IsRefusedBy};
+ghost use Rattle.rm_site.specs.Comes.{AnswersPlainly, ComesTo, DoesMore, IsAnswer, IsRefusedBy};
 
 use crate::changing::change;
 use crate::refusing::refusal_of;
@@ -211,7 +211,7 @@ pub(crate) fn come_to<R: Threads + Wait + Sync, G: Gate, D: Store>(
     ensures refused { IfOk result (IsRefusedBy (refusal_of state.old command.now) command.now) }
     ensures edits { OnOk result (EditsFollow edits.old.items edits.new.items state.old.catalog state.new.catalog) }
     ensures sound { OnOk result (IsSound state.new) }
-    ensures dates { IfOk result AnswerHasDates }
+    ensures dates { IfOk result AnswersPlainly }
     ensures more { IfOk result (DoesMore command.now) }
     ensures held { D.held store.new ≡ D.held store.old }
     ensures store { IsErrOf result StoreFault → Rose (D.faults store.old) (D.faults store.new) }

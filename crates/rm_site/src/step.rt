@@ -3,9 +3,10 @@ ghost use Rattle.std.specs.Prelude.{◌≡◌, ◌≤◌, ◌++◌, ◌||◌, tr
 ghost use Rattle.rm_base.specs.Outside.{Rose};
 ghost use Rattle.rm_commit.specs.declared.commit.Stop.TheVariants.{StoreFault, KeeperFault};
 ghost use Rattle.rm_lang_statement.specs.IsCommand.{is_command};
-ghost use Rattle.rm_report.specs.Reply.{HasDates, said};
+ghost use Rattle.rm_report.specs.Reply.{HasDates, IsFlagged, said};
 ghost use Rattle.rm_evidence.specs.Names.{site_name};
 ghost use Rattle.rm_machine.specs.Built.{is_built};
+ghost use Rattle.rm_machine.specs.Laws.{only_tells};
 ghost use Rattle.rm_machine.specs.Saved.{saved_names};
 ghost use Rattle.rm_machine.specs.Sound.{IsSound};
 ghost use Rattle.rm_machine.specs.Step.{IsStatement};
@@ -15,7 +16,7 @@ ghost use Rattle.rm_machine_laws.specs.Saves.{applies};
 ghost use Rattle.rm_machine_laws.specs.Steps.{DeletesSafely, IsStepAt, Steps};
 ghost use Rattle.rm_machine_laws.specs.Stopped.{Stops, IsStopAt};
 ghost use Rattle.rm_site.specs.ComesOut.{ComesOut};
-ghost use Rattle.rm_site.specs.Untouched.{IsUntouched, is_quiet};
+ghost use Rattle.rm_site.specs.Untouched.{AreSame, IsUntouched, is_quiet};
 
 use crate::create::{first_records, lines_of, new_database, refusal_without};
 use crate::moment::moment_of;
@@ -77,7 +78,7 @@ fn has_applied(before: bool, command: &Command, reply: &Reply) -> bool
 }
 
 // The answer to a statement where there is no database: CREATE DATABASE makes one.
-#[tactic(auto, using(crate::proofs::Answering::untouched))]
+#[tactic(auto, using(crate::proofs::Answering::untouched, crate::proofs::Answering::still_same))]
 fn answer_without<D: Store, C: Keeper>(
     alloc: Global,
     store: &mut D,
@@ -93,7 +94,9 @@ fn answer_without<D: Store, C: Keeper>(
     ensures answered { IfOk result (λ x. AnsweredBy (refusal_in None command.now moment) command.now x.1 None x.0) }
     ensures quiet { IfOk result (λ x. is_quiet command.now x.1 ≡ true → IsUntouched (D.held store.old) (C.kept keeper.old) None (D.held store.new) (C.kept keeper.new) x.0) }
     ensures dates { IfOk result (λ x. HasDates x.1) }
+    ensures flagged { IfOk result (λ x. IsFlagged x.1) }
     ensures stopped { OnErr result (IsStopAt (D.held store.old) (C.kept keeper.old) None command.now moment (D.held store.new) (C.kept keeper.new)) }
+    ensures untouched { OnErr result (only_tells command.now ≡ true → AreSame (D.held store.old) (C.kept keeper.old) (D.held store.new) (C.kept keeper.new)) }
     ensures store { IsErrOf result StoreFault → Rose (D.faults store.old) (D.faults store.new) }
     ensures keeper { IsErrOf result KeeperFault → Rose (C.faults keeper.old) (C.faults keeper.new) }
     ensures store_never_falls { D.faults store.old ≤ D.faults store.new }
@@ -113,7 +116,7 @@ fn answer_without<D: Store, C: Keeper>(
 }
 
 // The answer to a statement where there is a database. After a stop nothing is said of the state.
-#[tactic(auto, using(crate::proofs::Answering::untouched))]
+#[tactic(auto, using(crate::proofs::Answering::untouched, crate::proofs::Answering::still_same))]
 fn answer_in<R: Threads + Wait + Sync, G: Gate, D: Store, C: Keeper>(
     rt: &R,
     alloc: Global,
@@ -136,7 +139,9 @@ fn answer_in<R: Threads + Wait + Sync, G: Gate, D: Store, C: Keeper>(
     ensures answered { IfOk result (λ reply. AnsweredBy (refusal_in (Some state.old) command.now moment) command.now reply (Some state.old) (Some state.new)) }
     ensures quiet { IfOk result (λ reply. is_quiet command.now reply ≡ true → IsUntouched (D.held store.old) (C.kept keeper.old) (Some state.old) (D.held store.new) (C.kept keeper.new) (Some state.new)) }
     ensures dates { IfOk result HasDates }
+    ensures flagged { IfOk result IsFlagged }
     ensures stopped { OnErr result (IsStopAt (D.held store.old) (C.kept keeper.old) (Some state.old) command.now moment (D.held store.new) (C.kept keeper.new)) }
+    ensures untouched { OnErr result (only_tells command.now ≡ true → AreSame (D.held store.old) (C.kept keeper.old) (D.held store.new) (C.kept keeper.new)) }
     ensures store { IsErrOf result StoreFault → Rose (D.faults store.old) (D.faults store.new) }
     ensures keeper { IsErrOf result KeeperFault → Rose (C.faults keeper.old) (C.faults keeper.new) }
     ensures store_never_falls { D.faults store.old ≤ D.faults store.new }
@@ -193,7 +198,9 @@ fn answer<R: Threads + Wait + Sync, G: Gate, D: Store, C: Keeper>(
     ensures answered { IfOk result (λ x. AnsweredBy (refusal_in state command.now moment) command.now x.1 state x.0) }
     ensures quiet { IfOk result (λ x. is_quiet command.now x.1 ≡ true → IsUntouched (D.held store.old) (C.kept keeper.old) state (D.held store.new) (C.kept keeper.new) x.0) }
     ensures dates { IfOk result (λ x. HasDates x.1) }
+    ensures flagged { IfOk result (λ x. IsFlagged x.1) }
     ensures stopped { OnErr result (IsStopAt (D.held store.old) (C.kept keeper.old) state command.now moment (D.held store.new) (C.kept keeper.new)) }
+    ensures untouched { OnErr result (only_tells command.now ≡ true → AreSame (D.held store.old) (C.kept keeper.old) (D.held store.new) (C.kept keeper.new)) }
     ensures store { IsErrOf result StoreFault → Rose (D.faults store.old) (D.faults store.new) }
     ensures keeper { IsErrOf result KeeperFault → Rose (C.faults keeper.old) (C.faults keeper.new) }
     ensures store_never_falls { D.faults store.old ≤ D.faults store.new }
@@ -220,7 +227,7 @@ impl Site {
     /// BACKUP and RECOVER go by `channels` channels, or by as many as are configured where none are asked for. Those of a BACKUP and
     /// its writers call the gate.
     ///
-    /// Each line of the reply has a text.
+    /// Each line of the reply has a text, and the reply counts as refused exactly where one of them is a refusal.
     ///
     /// Under a policy with a window DELETE OBSOLETE keeps each target of the window: what was told of a block there is told still, and
     /// a target that could be recovered can be.
@@ -231,7 +238,8 @@ impl Site {
     /// or the keeper, which that object counted, or want of memory.
     ///
     /// A stop leaves the records before the statement or those after it, whole, and each object that one of
-    /// them names, as a database at rest, which the next session wakes. Other objects may hold anything.
+    /// them names, as a database at rest, which the next session wakes. Other objects may hold anything. A stop of a statement
+    /// that only tells leaves the store and the keeper as they were, whatever they hold.
     pub fn step<R: Threads + Wait + Sync, G: Gate, D: Store, C: Keeper>(
         &mut self,
         rt: &R,
@@ -252,7 +260,9 @@ impl Site {
         ensures answered { IfOk result (λ reply. AnsweredBy (refusal_in self.old.state command.now (moment_of self.old.state clock)) command.now reply self.old self.new) }
         ensures quiet { IfOk result (λ reply. is_quiet command.now reply ≡ true → IsUntouched (D.held store.old) (C.kept keeper.old) self.old (D.held store.new) (C.kept keeper.new) self.new) }
         ensures dates { IfOk result HasDates }
+        ensures flagged { IfOk result IsFlagged }
         ensures stopped { OnErr result (Stops (D.held store.old) (C.kept keeper.old) self.old command.now clock (D.held store.new) (C.kept keeper.new)) }
+        ensures untouched { OnErr result (only_tells command.now ≡ true → AreSame (D.held store.old) (C.kept keeper.old) (D.held store.new) (C.kept keeper.new)) }
         ensures live { OnOk result (self.new.live ≡ true) }
         ensures applied { IfOk result (λ reply. self.new.applied ≡ (self.old.applied || applies command.now reply)) }
         ensures spent { OnErr result (self.new ≡ record { state = None; live = false; applied = self.old.applied }) }

@@ -6,7 +6,7 @@ ghost use Rattle.rm_machine.specs.Nature.{nature_of};
 ghost use Rattle.rm_machine.specs.declared.nature.Nature.TheVariants.{TellsState};
 ghost use Rattle.rm_machine.specs.Sound.{IsSound};
 ghost use Rattle.rm_machine.specs.Step.{refusal_of};
-ghost use Rattle.rm_report.specs.Reply.{LineHasDate};
+ghost use Rattle.rm_report.specs.Reply.{IsPlain};
 ghost use Rattle.rm_site.specs.Comes.{IsAnswer};
 ghost use Rattle.rm_base.specs.Outside.{Rose};
 ghost use Rattle.rm_commit.specs.declared.commit.Stop.TheVariants.{StoreFault, KeeperFault};
@@ -28,7 +28,7 @@ fn lines_of(alloc: Global, state: &State, command: &Command) -> Result<Seq<Line>
     requires sound { IsSound state.now }
     requires accepted { refusal_of state.now command.now ≡ None }
     ensures tells { IfOk result (λ lines. (held : Option Held) → Tells held state.now command.now lines) }
-    ensures dates { IfOk result (All LineHasDate) }
+    ensures dates { IfOk result (All IsPlain) }
 {
     match command {
         Command::Dump { file, block } => dump(alloc, state, *file, *block),

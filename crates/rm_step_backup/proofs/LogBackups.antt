@@ -14,7 +14,7 @@ use Rattle.rm_catalog.specs.declared.record.Edit.{Edit}
 use Rattle.rm_commit.specs.declared.commit.Object.{Object}
 use Rattle.rm_redo.specs.declared.log_file.LogFile.{LogFile}
 use Rattle.rm_redo.specs.LogFormat.{IsLogFile}
-use Rattle.rm_report.specs.Reply.{LineHasDate}
+use Rattle.rm_report.specs.Reply.{IsPlain}
 use Rattle.rm_report.specs.declared.line.Line.{Line}
 use Rattle.rm_report.specs.declared.line.Line.TheVariants.{NothingToBackUp}
 use Rattle.rm_catalog_typed.specs.Changes.{EditsFollow}
@@ -126,12 +126,12 @@ lines-of s skipped (x ∷ found) =
     ap (λ ls. ls ++ map copy_line (copies_of s (logs_in (x ∷ found)))) (ap (λ b. skipped_lines skipped ++ cond b (NothingToBackUp ∷ []) []) some ∙ append-nil (skipped_lines skipped))
 
 -- no line of it tells a moment
-copies-dated : (xs : List (ℕ × LogFile)) → All LineHasDate (map copy_line xs)
-copies-dated [] = All-nil LineHasDate
-copies-dated (x ∷ xs) = All-cons LineHasDate (copy_line x) (map copy_line xs) tt (copies-dated xs)
+copies-dated : (xs : List (ℕ × LogFile)) → All IsPlain (map copy_line xs)
+copies-dated [] = All-nil IsPlain
+copies-dated (x ∷ xs) = All-cons IsPlain (copy_line x) (map copy_line xs) tt (copies-dated xs)
 
-pub all-dated : (xs : List (ℕ × LogFile)) (mid lines : List Line) → All LineHasDate mid → lines ≡ mid ++ map copy_line xs → All LineHasDate lines
-all-dated xs mid lines dated is = subst (All LineHasDate) (sym is) (All-append LineHasDate mid (map copy_line xs) dated (copies-dated xs))
+pub all-dated : (xs : List (ℕ × LogFile)) (mid lines : List Line) → All IsPlain mid → lines ≡ mid ++ map copy_line xs → All IsPlain lines
+all-dated xs mid lines dated is = subst (All IsPlain) (sym is) (All-append IsPlain mid (map copy_line xs) dated (copies-dated xs))
 
 -- What it hands out
 

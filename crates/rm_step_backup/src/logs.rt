@@ -8,7 +8,7 @@ ghost use Rattle.rm_machine.specs.Sound.{IsSound};
 ghost use Rattle.rm_machine.specs.State.{ledger};
 ghost use Rattle.rm_machine.specs.Upkeep.{with_catalog};
 ghost use Rattle.rm_redo.specs.LogFormat.{IsLogFile, spelling};
-ghost use Rattle.rm_report.specs.Reply.{HasDate, LineHasDate};
+ghost use Rattle.rm_report.specs.Reply.{HasDate, IsPlain};
 ghost use Rattle.rm_report.specs.declared.line.Line.TheVariants.{NothingToBackUp};
 ghost use Rattle.rm_catalog_typed.specs.Changes.{EditsFollow, with_new_log};
 ghost use Rattle.rm_catalog_typed.specs.Fitting.{FitsNewLog};
@@ -165,7 +165,7 @@ fn first_lines(
     found: &[(u32, LogFile)],
 ) -> Result<Seq<Line>, NoMemory>
     ensures value { IfOk result (λ lines. lines ≡ skipped_lines skipped.now ++ (if length found.now == 0 then NothingToBackUp ∷ [] else [])) }
-    ensures dates { IfOk result (λ lines. All LineHasDate lines) }
+    ensures dates { IfOk result (λ lines. All IsPlain lines) }
 {
     let mut lines = skipped_lines(alloc, skipped)?;
     if found.is_empty() {
@@ -191,7 +191,7 @@ pub fn backup_logs<D: Store>(
     ensures edits { OnOk result (EditsFollow edits.old.items edits.new.items state.old.catalog state.new.catalog) }
     ensures sound { OnOk result (IsSound state.new) }
     ensures refused { IfOk result (λ x. IfErr x (λ _. state.new ≡ state.old)) }
-    ensures dates { IfOk result (λ x. IfOk x (λ handed. All LineHasDate handed.lines)) }
+    ensures dates { IfOk result (λ x. IfOk x (λ handed. All IsPlain handed.lines)) }
     ensures date { IfOk result (λ x. IfErr x HasDate) }
     ensures same { D.held store.new ≡ D.held store.old }
     ensures store { IsErrOf result VerifyFault.StoreFault → Rose (D.faults store.old) (D.faults store.new) }

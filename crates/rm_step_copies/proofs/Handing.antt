@@ -10,7 +10,7 @@ use Rattle.rm_base.specs.declared.refusal.Refusal.{Refusal}
 use Rattle.rm_backup.specs.declared.renewing.Renewed.{Renewed}
 use Rattle.rm_evidence.specs.declared.evidence.Evidence.{Evidence}
 use Rattle.rm_piece.specs.declared.piece.Piece.{Piece}
-use Rattle.rm_report.specs.Reply.{LineHasDate}
+use Rattle.rm_report.specs.Reply.{IsPlain}
 use Rattle.rm_report.specs.declared.line.Line.{Line}
 use Rattle.rm_report.specs.declared.line.Line.TheVariants.{Merged, StartsAbove, Stays}
 use Rattle.rm_lang_statement.specs.declared.command.Command.TheVariants.{RecoverCopy}
@@ -45,23 +45,23 @@ leads-on s i until by_target otherwise accepted none =
     nowhere-by s i until none (second-none otherwise (nowhere_refusal s until) (sym (ap (λ o. option_map_or by_target o (or_else otherwise (nowhere_refusal s until))) none) ∙ by))
 
 -- no line of it tells a moment
-line-dated : (s : State) (x : ℕ × Renewed) (o : Option Piece) → LineHasDate (option_map_or (λ last. Merged (ledger s).base.next_id x.0 x.1.checkpoint) o (Stays x.1.id x.0 x.1.checkpoint))
+line-dated : (s : State) (x : ℕ × Renewed) (o : Option Piece) → IsPlain (option_map_or (λ last. Merged (ledger s).base.next_id x.0 x.1.checkpoint) o (Stays x.1.id x.0 x.1.checkpoint))
 line-dated s x None = tt
 line-dated s x (Some last) = tt
 
-above-dated : (checkpoint : ℕ) (above : List (ℕ × ℕ)) → All LineHasDate (map (λ y. StartsAbove y.0 y.1 checkpoint) above)
-above-dated checkpoint [] = All-nil LineHasDate
-above-dated checkpoint (y ∷ ys) = All-cons LineHasDate (StartsAbove y.0 y.1 checkpoint) (map (λ z. StartsAbove z.0 z.1 checkpoint) ys) tt (above-dated checkpoint ys)
+above-dated : (checkpoint : ℕ) (above : List (ℕ × ℕ)) → All IsPlain (map (λ y. StartsAbove y.0 y.1 checkpoint) above)
+above-dated checkpoint [] = All-nil IsPlain
+above-dated checkpoint (y ∷ ys) = All-cons IsPlain (StartsAbove y.0 y.1 checkpoint) (map (λ z. StartsAbove z.0 z.1 checkpoint) ys) tt (above-dated checkpoint ys)
 
-copies-dated : (s : State) (tag : List ℕ) (xs : List (ℕ × Renewed)) → All LineHasDate (copies_lines s tag xs)
-copies-dated s tag [] = All-nil LineHasDate
+copies-dated : (s : State) (tag : List ℕ) (xs : List (ℕ × Renewed)) → All IsPlain (copies_lines s tag xs)
+copies-dated s tag [] = All-nil IsPlain
 copies-dated s tag (x ∷ xs) =
-    All-append LineHasDate (renewed_lines s x) (copies_lines (after_copy s tag x) tag xs)
-    (All-cons LineHasDate (renewed_line s x) (map (λ y. StartsAbove y.0 y.1 x.1.checkpoint) x.1.above) (line-dated s x x.1.merged) (above-dated x.1.checkpoint x.1.above))
+    All-append IsPlain (renewed_lines s x) (copies_lines (after_copy s tag x) tag xs)
+    (All-cons IsPlain (renewed_line s x) (map (λ y. StartsAbove y.0 y.1 x.1.checkpoint) x.1.above) (line-dated s x x.1.merged) (above-dated x.1.checkpoint x.1.above))
     (copies-dated (after_copy s tag x) tag xs)
 
-pub all-dated : (s : State) (tag : List ℕ) (xs : List (ℕ × Renewed)) (first lines : List Line) → All LineHasDate first → lines ≡ first ++ copies_lines s tag xs → All LineHasDate lines
-all-dated s tag xs first lines dated is = subst (All LineHasDate) (sym is) (All-append LineHasDate first (copies_lines s tag xs) dated (copies-dated s tag xs))
+pub all-dated : (s : State) (tag : List ℕ) (xs : List (ℕ × Renewed)) (first lines : List Line) → All IsPlain first → lines ≡ first ++ copies_lines s tag xs → All IsPlain lines
+all-dated s tag xs first lines dated is = subst (All IsPlain) (sym is) (All-append IsPlain first (copies_lines s tag xs) dated (copies-dated s tag xs))
 
 -- By what is at hand
 module _ (held : Option Held) (s : State) (tag : List ℕ) (until : Option Until) (at : ℕ) (e : Evidence) (xs : List (ℕ × Renewed)) (sound : IsSound s) (target : recover_target s until ≡ Some at)

@@ -4,7 +4,7 @@ ghost use Rattle.rm_base.specs.Outside.{Rose};
 ghost use Rattle.rm_machine.specs.Hands.{Hands, Refuses};
 ghost use Rattle.rm_machine.specs.RecoverCopy.{recover_copy_refusal};
 ghost use Rattle.rm_machine.specs.Sound.{IsSound};
-ghost use Rattle.rm_report.specs.Reply.{HasDate, LineHasDate};
+ghost use Rattle.rm_report.specs.Reply.{HasDate, IsPlain};
 ghost use Rattle.rm_catalog_typed.specs.Changes.{EditsFollow};
 ghost use Rattle.rm_lang_statement.specs.declared.command.Command.TheVariants.{RecoverCopy};
 
@@ -44,7 +44,7 @@ pub fn recover_copy<D: Store>(
     ensures edits { OnOk result (EditsFollow edits.old.items edits.new.items state.old.catalog state.new.catalog) }
     ensures sound { OnOk result (IsSound state.new) }
     ensures refused { IfOk result (λ x. IfErr x (λ _. state.new ≡ state.old)) }
-    ensures dates { IfOk result (λ x. IfOk x (λ handed. All LineHasDate handed.lines)) }
+    ensures dates { IfOk result (λ x. IfOk x (λ handed. All IsPlain handed.lines)) }
     ensures date { IfOk result (λ x. IfErr x HasDate) }
     ensures same { D.held store.new ≡ D.held store.old }
     ensures failed { IsErrOf result EvidenceFault.StoreFault → Rose (D.faults store.old) (D.faults store.new) }

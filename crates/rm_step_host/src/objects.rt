@@ -7,7 +7,7 @@ ghost use Rattle.rm_commit.specs.declared.commit.Stop.TheVariants.{KeeperFault, 
 ghost use Rattle.rm_lang_statement.specs.declared.command.Command.TheVariants.{Cut, Damage, Remove, Rename};
 ghost use Rattle.rm_machine.specs.Mishaps.{damaged};
 ghost use Rattle.rm_machine.specs.Hands.{Hands, Refuses};
-ghost use Rattle.rm_report.specs.Reply.{HasDate, LineHasDate};
+ghost use Rattle.rm_report.specs.Reply.{HasDate, IsPlain};
 
 use rm_base::{NoMemory, Refusal, Seq, Store, Text, Unknown};
 use rm_commit::{Object, Stop};
@@ -60,7 +60,7 @@ pub fn remove<D: Store>(
 ) -> Result<Result<Handed, Refusal>, Stop>
     ensures hands { IfOk result (λ x. IfOk x (λ handed. Hands (D.held store.old) state.now (Remove name.now) handed state.now)) }
     ensures refuses { IfOk result (λ x. IfErr x (λ refusal. Refuses (D.held store.old) state.now (Remove name.now) refusal)) }
-    ensures dates { IfOk result (λ x. IfOk x (λ handed. All LineHasDate handed.lines)) }
+    ensures dates { IfOk result (λ x. IfOk x (λ handed. All IsPlain handed.lines)) }
     ensures date { IfOk result (λ x. IfErr x HasDate) }
     ensures same { D.held store.new ≡ D.held store.old }
     ensures store { IsErrOf result StoreFault → Rose (D.faults store.old) (D.faults store.new) }
@@ -96,7 +96,7 @@ pub fn damage<D: Store>(
 ) -> Result<Result<Handed, Refusal>, Stop>
     ensures hands { IfOk result (λ x. IfOk x (λ handed. Hands (D.held store.old) state.now (Damage name.now at) handed state.now)) }
     ensures refuses { IfOk result (λ x. IfErr x (λ refusal. Refuses (D.held store.old) state.now (Damage name.now at) refusal)) }
-    ensures dates { IfOk result (λ x. IfOk x (λ handed. All LineHasDate handed.lines)) }
+    ensures dates { IfOk result (λ x. IfOk x (λ handed. All IsPlain handed.lines)) }
     ensures date { IfOk result (λ x. IfErr x HasDate) }
     ensures same { D.held store.new ≡ D.held store.old }
     ensures store { IsErrOf result StoreFault → Rose (D.faults store.old) (D.faults store.new) }
@@ -134,7 +134,7 @@ pub fn cut<D: Store>(
 ) -> Result<Result<Handed, Refusal>, Stop>
     ensures hands { IfOk result (λ x. IfOk x (λ handed. Hands (D.held store.old) state.now (Cut name.now to) handed state.now)) }
     ensures refuses { IfOk result (λ x. IfErr x (λ refusal. Refuses (D.held store.old) state.now (Cut name.now to) refusal)) }
-    ensures dates { IfOk result (λ x. IfOk x (λ handed. All LineHasDate handed.lines)) }
+    ensures dates { IfOk result (λ x. IfOk x (λ handed. All IsPlain handed.lines)) }
     ensures date { IfOk result (λ x. IfErr x HasDate) }
     ensures same { D.held store.new ≡ D.held store.old }
     ensures store { IsErrOf result StoreFault → Rose (D.faults store.old) (D.faults store.new) }
@@ -162,7 +162,7 @@ pub fn rename<D: Store>(
 ) -> Result<Result<Handed, Refusal>, Stop>
     ensures hands { IfOk result (λ x. IfOk x (λ handed. Hands (D.held store.old) state.now (Rename old.now new_name.now) handed state.now)) }
     ensures refuses { IfOk result (λ x. IfErr x (λ refusal. Refuses (D.held store.old) state.now (Rename old.now new_name.now) refusal)) }
-    ensures dates { IfOk result (λ x. IfOk x (λ handed. All LineHasDate handed.lines)) }
+    ensures dates { IfOk result (λ x. IfOk x (λ handed. All IsPlain handed.lines)) }
     ensures date { IfOk result (λ x. IfErr x HasDate) }
     ensures same { D.held store.new ≡ D.held store.old }
     ensures store { IsErrOf result StoreFault → Rose (D.faults store.old) (D.faults store.new) }

@@ -5,7 +5,7 @@ ghost use Rattle.rm_machine.specs.Hands.{Tells};
 ghost use Rattle.rm_machine.specs.Recovery.{skipped_lines};
 ghost use Rattle.rm_machine.specs.Restore.{gap_line, origin_lines, preview_refusal};
 ghost use Rattle.rm_machine.specs.Sound.{IsSound};
-ghost use Rattle.rm_report.specs.Reply.{LineHasDate};
+ghost use Rattle.rm_report.specs.Reply.{IsPlain};
 ghost use Rattle.rm_lang_statement.specs.declared.command.Command.TheVariants.{Preview};
 
 use crate::faults::fault_of;
@@ -87,7 +87,7 @@ pub fn preview<D: Store>(
     requires sound { IsSound state.now }
     requires accepted { preview_refusal state.now until.now ≡ None }
     ensures tells { IfOk result (λ lines. Tells (D.held store.old) state.now (Preview until.now) lines) }
-    ensures dates { IfOk result (All LineHasDate) }
+    ensures dates { IfOk result (All IsPlain) }
     ensures same { D.held store.new ≡ D.held store.old }
     ensures store { IsErrOf result EvidenceFault.StoreFault → Rose (D.faults store.old) (D.faults store.new) }
     ensures never_falls { D.faults store.old ≤ D.faults store.new }

@@ -6,7 +6,7 @@ ghost use Rattle.rm_machine.specs.Hands.{Hands, Refuses};
 ghost use Rattle.rm_machine.specs.Recover.{recover_refusal, target_refusal};
 ghost use Rattle.rm_machine.specs.Recovery.{skipped_lines};
 ghost use Rattle.rm_machine.specs.Sound.{IsSound};
-ghost use Rattle.rm_report.specs.Reply.{HasDate, LineHasDate};
+ghost use Rattle.rm_report.specs.Reply.{HasDate, IsPlain};
 ghost use Rattle.rm_report.specs.declared.line.Line.TheVariants.{Recovered as recovered_line};
 
 use crate::lines::of_lines;
@@ -97,7 +97,7 @@ pub fn recover<R: Threads + Sync, D: Store>(
     ensures refused { IfOk result (λ x. IfErr x (λ _. state.new ≡ state.old)) }
     ensures failed { IfErr result (λ _. state.new ≡ state.old) }
     ensures catalog { state.new.catalog ≡ state.old.catalog }
-    ensures dates { IfOk result (λ x. IfOk x (λ handed. All LineHasDate handed.lines)) }
+    ensures dates { IfOk result (λ x. IfOk x (λ handed. All IsPlain handed.lines)) }
     ensures date { IfOk result (λ x. IfErr x HasDate) }
     ensures same { D.held store.new ≡ D.held store.old }
     ensures store { IsErrOf result EvidenceFault.StoreFault → Rose (D.faults store.old) (D.faults store.new) }

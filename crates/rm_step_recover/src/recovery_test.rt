@@ -5,7 +5,7 @@ ghost use Rattle.rm_lang_statement.specs.declared.command.Command.TheVariants.{R
 ghost use Rattle.rm_machine.specs.Hands.{Refuses, Tells};
 ghost use Rattle.rm_machine.specs.RecoverTest.{test_refusal, tested, tested_refusal};
 ghost use Rattle.rm_machine.specs.Sound.{IsSound};
-ghost use Rattle.rm_report.specs.Reply.{HasDate, LineHasDate};
+ghost use Rattle.rm_report.specs.Reply.{HasDate, IsPlain};
 
 use crate::lines::push_test;
 use crate::recovered_files::recovered_at;
@@ -71,7 +71,7 @@ pub fn recover_test<R: Threads + Sync, D: Store>(
     requires accepted { test_refusal state.now until.now inc ≡ None }
     ensures tells { IfOk result (λ x. IfOk x (λ lines. Tells (D.held store.old) state.now (RecoverTest until.now inc) lines)) }
     ensures refuses { IfOk result (λ x. IfErr x (λ refusal. Refuses (D.held store.old) state.now (RecoverTest until.now inc) refusal)) }
-    ensures dates { IfOk result (λ x. IfOk x (All LineHasDate)) }
+    ensures dates { IfOk result (λ x. IfOk x (All IsPlain)) }
     ensures date { IfOk result (λ x. IfErr x HasDate) }
     ensures same { D.held store.new ≡ D.held store.old }
     ensures store { IsErrOf result EvidenceFault.StoreFault → Rose (D.faults store.old) (D.faults store.new) }

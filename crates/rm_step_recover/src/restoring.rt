@@ -7,7 +7,7 @@ ghost use Rattle.rm_machine.specs.Recovery.{in_place, range_refusal, skipped_lin
 ghost use Rattle.rm_machine.specs.Restore.{absent_refusal, origin_lines, place_refusal, restore_refusal};
 ghost use Rattle.rm_machine.specs.Sound.{IsSound};
 ghost use Rattle.rm_machine.specs.State.{current_of, tree};
-ghost use Rattle.rm_report.specs.Reply.{LineHasDate};
+ghost use Rattle.rm_report.specs.Reply.{IsPlain};
 ghost use Rattle.rm_catalog_typed.specs.TypedCatalog.{records_of};
 ghost use Rattle.rm_lang_statement.specs.declared.command.Command.TheVariants.{Restore};
 
@@ -142,7 +142,7 @@ pub fn restore<D: Store>(
     ensures sound { OnOk result (IsSound state.new) }
     ensures failed { IfErr result (λ _. state.new ≡ state.old) }
     ensures catalog { state.new.catalog ≡ state.old.catalog }
-    ensures dates { IfOk result (λ handed. All LineHasDate handed.lines) }
+    ensures dates { IfOk result (λ handed. All IsPlain handed.lines) }
     ensures same { D.held store.new ≡ D.held store.old }
     ensures store { IsErrOf result EvidenceFault.StoreFault → Rose (D.faults store.old) (D.faults store.new) }
     ensures never_falls { D.faults store.old ≤ D.faults store.new }

@@ -5,7 +5,7 @@ ghost use Rattle.rm_base.specs.Outside.{Rose};
 ghost use Rattle.rm_machine.specs.Hands.{Hands};
 ghost use Rattle.rm_machine.specs.Sound.{IsSound};
 ghost use Rattle.rm_machine.specs.Upkeep.{names_at};
-ghost use Rattle.rm_report.specs.Reply.{LineHasDate};
+ghost use Rattle.rm_report.specs.Reply.{IsPlain};
 ghost use Rattle.rm_catalog_typed.specs.Changes.{EditsFollow};
 ghost use Rattle.rm_lang_statement.specs.declared.command.Command.TheVariants.{DeleteObsolete};
 
@@ -43,7 +43,7 @@ pub fn delete_obsolete<D: Store>(
     ensures hands { IfOk result (λ x. Hands (D.held store.old) state.old DeleteObsolete x state.new) }
     ensures edits { OnOk result (EditsFollow edits.old.items edits.new.items state.old.catalog state.new.catalog) }
     ensures sound { OnOk result (IsSound state.new) }
-    ensures dates { IfOk result (λ x. All LineHasDate x.lines) }
+    ensures dates { IfOk result (λ x. All IsPlain x.lines) }
     ensures same { D.held store.new ≡ D.held store.old }
     ensures failed { IsErrOf result EvidenceFault.StoreFault → Rose (D.faults store.old) (D.faults store.new) }
     ensures never_falls { D.faults store.old ≤ D.faults store.new }

@@ -6,7 +6,7 @@ ghost use Rattle.rm_machine.specs.Hands.{Tells};
 ghost use Rattle.rm_machine.specs.Obsolete.{NeedsBackup as Needs, retention_of};
 ghost use Rattle.rm_machine.specs.Sound.{IsSound};
 ghost use Rattle.rm_machine.specs.State.{ledger};
-ghost use Rattle.rm_report.specs.Reply.{LineHasDate};
+ghost use Rattle.rm_report.specs.Reply.{IsPlain};
 ghost use Rattle.rm_report.specs.declared.line.Line.TheVariants.{NeedsBackup, NeedCount};
 ghost use Rattle.rm_catalog_typed.specs.TypedCatalog.{records_of};
 ghost use Rattle.rm_retain.specs.Catalogued.{copies_in};
@@ -113,7 +113,7 @@ pub fn report_need_backup<D: Store>(
 ) -> Result<Seq<Line>, EvidenceFault>
     requires sound { IsSound state.now }
     ensures tells { IfOk result (λ lines. Tells (D.held store.old) state.now ReportNeedBackup lines) }
-    ensures dates { IfOk result (All LineHasDate) }
+    ensures dates { IfOk result (All IsPlain) }
     ensures same { D.held store.new ≡ D.held store.old }
     ensures failed { IsErrOf result EvidenceFault.StoreFault → Rose (D.faults store.old) (D.faults store.new) }
     ensures never_falls { D.faults store.old ≤ D.faults store.new }

@@ -3,7 +3,7 @@ ghost use Rattle.std.specs.Prelude.{◌≡◌, ◌≤◌, ◌<◌, ◌^◌, ◌+
 ghost use Rattle.rm_base.specs.Outside.{Rose};
 ghost use Rattle.rm_machine.specs.Hands.{Tells};
 ghost use Rattle.rm_machine.specs.Sound.{IsSound};
-ghost use Rattle.rm_report.specs.Reply.{LineHasDate};
+ghost use Rattle.rm_report.specs.Reply.{IsPlain};
 ghost use Rattle.rm_report.specs.declared.line.Line.TheVariants.{Obsolete, ObsoleteCount};
 ghost use Rattle.rm_lang_statement.specs.declared.command.Command.TheVariants.{ReportObsolete};
 
@@ -38,7 +38,7 @@ pub fn report_obsolete<D: Store>(
 ) -> Result<Seq<Line>, EvidenceFault>
     requires sound { IsSound state.now }
     ensures tells { IfOk result (λ lines. Tells (D.held store.old) state.now ReportObsolete lines) }
-    ensures dates { IfOk result (All LineHasDate) }
+    ensures dates { IfOk result (All IsPlain) }
     ensures same { D.held store.new ≡ D.held store.old }
     ensures failed { IsErrOf result EvidenceFault.StoreFault → Rose (D.faults store.old) (D.faults store.new) }
     ensures never_falls { D.faults store.old ≤ D.faults store.new }

@@ -2,19 +2,19 @@
 use Rattle.std.proofs.Common.{◌≡◌, ◌+◌, ◌++◌, ℕ, List, [], ◌∷◌, All, get_or, subst, sym}
 use Rattle.std.proofs.lemmas.List.Elements.{All-cons, All-contains, All-nil, Contains-append_left, Contains-get_or}
 use Rattle.rm_history.specs.declared.world.Datafile.{Datafile}
-use Rattle.rm_report.specs.Reply.{LineHasDate}
+use Rattle.rm_report.specs.Reply.{IsPlain}
 use Rattle.rm_report.specs.declared.line.Line.{Line}
 use Rattle.rm_report.specs.declared.line.Line.TheVariants.{Schema}
 use Rattle.rm_machine.specs.Shown.{place_of, schema_lines}
 use Rattle.rm_machine.specs.State.{ledger}
 use Rattle.rm_machine.specs.declared.state.State.{State}
 
-schema-dated : (s : State) (f : ℕ) (ds : List Datafile) → All LineHasDate (schema_lines s f ds)
-schema-dated s f [] = All-nil LineHasDate
-schema-dated s f (d ∷ ds) = All-cons LineHasDate (Schema f d.blocks d.creation d.inc (place_of s f d)) (schema_lines s (f + 1) ds) tt (schema-dated s (f + 1) ds)
+schema-dated : (s : State) (f : ℕ) (ds : List Datafile) → All IsPlain (schema_lines s f ds)
+schema-dated s f [] = All-nil IsPlain
+schema-dated s f (d ∷ ds) = All-cons IsPlain (Schema f d.blocks d.creation d.inc (place_of s f d)) (schema_lines s (f + 1) ds) tt (schema-dated s (f + 1) ds)
 
 -- nor has one of the first of them
-pub schema-front : (s : State) (lines rest : List Line) → lines ++ rest ≡ schema_lines s 1 (ledger s).files → All LineHasDate lines
+pub schema-front : (s : State) (lines rest : List Line) → lines ++ rest ≡ schema_lines s 1 (ledger s).files → All IsPlain lines
 schema-front s lines rest is =
-    let all : All LineHasDate (lines ++ rest) = subst (All LineHasDate) (sym is) (schema-dated s 1 (ledger s).files) in
-    λ k d inside. All-contains LineHasDate (lines ++ rest) (get_or lines k d) all (Contains-append_left lines rest (get_or lines k d) (Contains-get_or lines k d inside))
+    let all : All IsPlain (lines ++ rest) = subst (All IsPlain) (sym is) (schema-dated s 1 (ledger s).files) in
+    λ k d inside. All-contains IsPlain (lines ++ rest) (get_or lines k d) all (Contains-append_left lines rest (get_or lines k d) (Contains-get_or lines k d inside))

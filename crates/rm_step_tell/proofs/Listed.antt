@@ -12,7 +12,7 @@ use Rattle.rm_catalog.specs.declared.record.Record.{Record}
 use Rattle.rm_catalog.specs.declared.record.Record.TheVariants.{Log, Piece}
 use Rattle.rm_evidence.specs.Gathered.{Lists}
 use Rattle.rm_evidence.proofs.Extending.{pairs-append}
-use Rattle.rm_report.specs.Reply.{LineHasDate}
+use Rattle.rm_report.specs.Reply.{IsPlain}
 use Rattle.rm_report.specs.declared.line.Line.{Line}
 use Rattle.rm_catalog_typed.specs.TypedCatalog.{records_of}
 use Rattle.rm_catalog_typed.proofs.Members.{log-has, log-in, piece-has, piece-in}
@@ -33,9 +33,9 @@ abbrev pub Ascend : ℕ × Line → ℕ × Line → Type 0
 Ascend x y = x.0 < y.0
 
 -- the line of a record has no moment
-line-dated : (r : Record) (x : ℕ × Line) → line_in r ≡ Some x → LineHasDate x.1
-line-dated (Log l) x is = subst (λ (y : ℕ × Line). LineHasDate y.1) (same_Some _ x is) tt
-line-dated (Piece p) x is = subst (λ (y : ℕ × Line). LineHasDate y.1) (same_Some _ x is) tt
+line-dated : (r : Record) (x : ℕ × Line) → line_in r ≡ Some x → IsPlain x.1
+line-dated (Log l) x is = subst (λ (y : ℕ × Line). IsPlain y.1) (same_Some _ x is) tt
+line-dated (Piece p) x is = subst (λ (y : ℕ × Line). IsPlain y.1) (same_Some _ x is) tt
 line-dated _ x is = absurd cc
 
 -- what gives nothing is not listed
@@ -113,12 +113,12 @@ module _ (s : State) (class : Class) (all : List (ℕ × Line)) (is : Lists Line
   pub lists : IsListOutcome s class (told lines)
   lists = record { all = all; lists = is; is = ap told same }
 
-  pub dated : All LineHasDate lines
+  pub dated : All IsPlain lines
   dated =
-      let each : All LineHasDate (map (λ (x : ℕ × Line). x.1) is.rest) =
-      All-map LineHasDate (λ (x : ℕ × Line). x.1) is.rest
+      let each : All IsPlain (map (λ (x : ℕ × Line). x.1) is.rest) =
+      All-map IsPlain (λ (x : ℕ × Line). x.1) is.rest
       (λ k d inside.
       let x = get_or is.rest k d in
       let from = (is.exact x.0 x.1).0 (Contains-get_or is.rest k d inside) in
       line-dated from.0 x (passed (is_of class from.0) (line_in from.0) x from.2).1) in
-      subst (All LineHasDate) (sym (same ∙ ap (map (λ (x : ℕ × Line). x.1)) is.list)) each
+      subst (All IsPlain) (sym (same ∙ ap (map (λ (x : ℕ × Line). x.1)) is.list)) each

@@ -9,7 +9,7 @@ use Rattle.rm_catalog.specs.declared.record.PieceEntry.{PieceEntry}
 use Rattle.rm_catalog.specs.declared.record.Record.{Record}
 use Rattle.rm_evidence.specs.Available.{IsSkipped, a_log, a_piece}
 use Rattle.rm_evidence.specs.Gathered.{Lists}
-use Rattle.rm_report.specs.Reply.{LineHasDate}
+use Rattle.rm_report.specs.Reply.{IsPlain}
 use Rattle.rm_report.specs.declared.line.Line.{Line}
 use Rattle.rm_report.specs.declared.line.Line.TheVariants.{BadOf, Checked}
 use Rattle.rm_catalog_typed.specs.TypedCatalog.{records_of}
@@ -32,10 +32,10 @@ pub with-count : (bad seen : List (ℕ × Bad)) (before lines : List Line) (coun
 with-count bad seen before lines count n same first is = is ∙ ap (λ (xs : List Line). xs ++ Checked count n ∷ []) (first ∙ ap bad_lines same)
 
 -- none has a moment
-pub validated-dated : (lines : List Line) (bad : List (ℕ × Bad)) (count n : ℕ) → lines ≡ bad_lines bad ++ Checked count n ∷ [] → All LineHasDate lines
+pub validated-dated : (lines : List Line) (bad : List (ℕ × Bad)) (count n : ℕ) → lines ≡ bad_lines bad ++ Checked count n ∷ [] → All IsPlain lines
 validated-dated lines bad count n is =
-    subst (All LineHasDate) (sym is)
-    (All-append LineHasDate (bad_lines bad) (Checked count n ∷ []) (All-map LineHasDate (λ (x : ℕ × Bad). BadOf x.0 x.1) bad (λ k d inside. tt)) (All-cons LineHasDate (Checked count n) [] tt (All-nil LineHasDate)))
+    subst (All IsPlain) (sym is)
+    (All-append IsPlain (bad_lines bad) (Checked count n ∷ []) (All-map IsPlain (λ (x : ℕ × Bad). BadOf x.0 x.1) bad (λ k d inside. tt)) (All-cons IsPlain (Checked count n) [] tt (All-nil IsPlain)))
 
 module _ (s : State) (sound : IsSound s) where
   -- the id of a record that is bad is below the next one

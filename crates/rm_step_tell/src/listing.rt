@@ -6,7 +6,7 @@ ghost use Rattle.rm_evidence.specs.Gathered.{Lists};
 ghost use Rattle.rm_machine.specs.Effect.{told};
 ghost use Rattle.rm_machine.specs.Lists.{IsListOutcome, IsListed, line_in, listed, shape_by};
 ghost use Rattle.rm_machine.specs.Sound.{IsSound};
-ghost use Rattle.rm_report.specs.Reply.{LineHasDate};
+ghost use Rattle.rm_report.specs.Reply.{IsPlain};
 ghost use Rattle.rm_report.specs.declared.line.Line.{Line as LineOf};
 ghost use Rattle.rm_catalog_typed.specs.TypedCatalog.{records_of};
 ghost use Rattle.rm_verify.specs.Classes.{is_of};
@@ -161,7 +161,7 @@ fn all_listed(alloc: Global, state: &State, class: Class) -> Result<Seq<(u32, Li
 pub fn list(alloc: Global, state: &State, class: Class) -> Result<Seq<Line>, NoMemory>
     requires sound { IsSound state.now }
     ensures lists { IfOk result (λ lines. IsListOutcome state.now class (told lines)) }
-    ensures dates { IfOk result (All LineHasDate) }
+    ensures dates { IfOk result (All IsPlain) }
 {
     let all = all_listed(alloc, state, class)?;
     lines_of(alloc, all)

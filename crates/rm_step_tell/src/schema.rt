@@ -4,7 +4,7 @@ ghost use Rattle.rm_machine.specs.Effect.{told};
 ghost use Rattle.rm_machine.specs.Shown.{IsSchemaOutcome, place_of, stands_at};
 ghost use Rattle.rm_machine.specs.Sound.{IsSound};
 ghost use Rattle.rm_machine.specs.State.{counted, placed};
-ghost use Rattle.rm_report.specs.Reply.{LineHasDate};
+ghost use Rattle.rm_report.specs.Reply.{IsPlain};
 ghost use Rattle.rm_report.specs.declared.line.Line.TheVariants.{Schema};
 
 use rm_base::{FileNo, NoMemory, Scn, Seq};
@@ -73,7 +73,7 @@ fn line_of(state: &State, number: FileNo, datafile: &Datafile) -> Line
 pub fn report_schema(alloc: Global, state: &State) -> Result<Seq<Line>, NoMemory>
     requires sound { IsSound state.now }
     ensures tells { IfOk result (λ lines. IsSchemaOutcome state.now (told lines)) }
-    ensures dates { IfOk result (All LineHasDate) }
+    ensures dates { IfOk result (All IsPlain) }
 {
     let mut lines = Seq::new(alloc);
     for (index, datafile) in state.catalog.files().iter().enumerate() {

@@ -2,7 +2,7 @@
 ghost use Rattle.std.specs.Prelude.{All, IfOk};
 ghost use Rattle.rm_machine.specs.Effect.{told};
 ghost use Rattle.rm_machine.specs.Shown.{IsShowOutcome};
-ghost use Rattle.rm_report.specs.Reply.{LineHasDate};
+ghost use Rattle.rm_report.specs.Reply.{IsPlain};
 
 use rm_base::{NoMemory, Seq};
 use rm_machine::State;
@@ -13,7 +13,7 @@ use std::alloc::Global;
 /// are tracked. Nothing changes. An error is want of memory.
 pub fn show_all(alloc: Global, state: &State) -> Result<Seq<Line>, NoMemory>
     ensures tells { IfOk result (λ lines. IsShowOutcome state.now (told lines)) }
-    ensures dates { IfOk result (All LineHasDate) }
+    ensures dates { IfOk result (All IsPlain) }
 {
     let base = state.catalog.base();
     let mut lines = Seq::new(alloc);

@@ -6,7 +6,7 @@ ghost use Rattle.rm_machine.specs.Hands.{Tells};
 ghost use Rattle.rm_machine.specs.Sound.{IsSound};
 ghost use Rattle.rm_machine.specs.State.{ledger};
 ghost use Rattle.rm_machine.specs.Validate.{count_available, is_available};
-ghost use Rattle.rm_report.specs.Reply.{LineHasDate};
+ghost use Rattle.rm_report.specs.Reply.{IsPlain};
 ghost use Rattle.rm_report.specs.declared.line.Line.TheVariants.{BadOf};
 
 use rm_base::{Bad, NoMemory, Seq, Status, Store};
@@ -63,7 +63,7 @@ pub fn validate_all<D: Store>(
 ) -> Result<Seq<Line>, VerifyFault>
     requires sound { IsSound state.now }
     ensures tells { IfOk result (λ lines. Tells (D.held store.old) state.now ValidateAll lines) }
-    ensures dates { IfOk result (All LineHasDate) }
+    ensures dates { IfOk result (All IsPlain) }
     ensures same { D.held store.new ≡ D.held store.old }
     ensures store { IsErrOf result VerifyFault.StoreFault → Rose (D.faults store.old) (D.faults store.new) }
     ensures never_falls { D.faults store.old ≤ D.faults store.new }

@@ -8,7 +8,7 @@ use Rattle.rm_base.specs.declared.kinds.Class.{Class}
 use Rattle.rm_base.specs.declared.kinds.Status.{Status}
 use Rattle.rm_catalog.specs.declared.record.Record.{Record}
 use Rattle.rm_evidence.specs.Gathered.{Lists}
-use Rattle.rm_report.specs.Reply.{LineHasDate}
+use Rattle.rm_report.specs.Reply.{IsPlain}
 use Rattle.rm_report.specs.declared.line.Line.{Line}
 use Rattle.rm_catalog_typed.specs.TypedCatalog.{records_of}
 use Rattle.rm_lang_statement.specs.declared.command.Command.TheVariants.{Crosscheck}
@@ -22,12 +22,12 @@ use Rattle.rm_machine_code.proofs.Handing.{hands-by}
 use Rattle.rm_step_upkeep.specs.Lines.{status_line}
 
 -- none of its lines is a refusal
-dated : (xs : List (ℕ × Status)) → All LineHasDate (map status_line xs)
-dated [] = All-nil LineHasDate
-dated (x ∷ xs) = All-cons LineHasDate (status_line x) (map status_line xs) tt (dated xs)
+dated : (xs : List (ℕ × Status)) → All IsPlain (map status_line xs)
+dated [] = All-nil IsPlain
+dated (x ∷ xs) = All-cons IsPlain (status_line x) (map status_line xs) tt (dated xs)
 
-pub checked-dated : (xs : List (ℕ × Status)) (lines : List Line) → lines ≡ map status_line xs → All LineHasDate lines
-checked-dated xs lines is = subst (All LineHasDate) (sym is) (dated xs)
+pub checked-dated : (xs : List (ℕ × Status)) (lines : List Line) → lines ≡ map status_line xs → All IsPlain lines
+checked-dated xs lines is = subst (All IsPlain) (sym is) (dated xs)
 
 -- the statuses that a store that tells gives
 abbrev pub AreChecked : State → Class → List (ℕ × Status) → Held → Type 0

@@ -1,7 +1,7 @@
 //! CROSSCHECK
 ghost use Rattle.std.specs.Prelude.{◌≡◌, ◌≤◌, All, IfOk, IsErrOf, OnOk, map};
 ghost use Rattle.rm_base.specs.Outside.{Rose};
-ghost use Rattle.rm_report.specs.Reply.{LineHasDate};
+ghost use Rattle.rm_report.specs.Reply.{IsPlain};
 ghost use Rattle.rm_lang_statement.specs.declared.command.Command.TheVariants.{Crosscheck};
 ghost use Rattle.rm_machine.specs.Hands.{Hands};
 ghost use Rattle.rm_machine.specs.Sound.{IsSound};
@@ -54,7 +54,7 @@ pub fn crosscheck<D: Store>(
     ensures hands { IfOk result (λ x. Hands (D.held store.old) state.old (Crosscheck class) x state.new) }
     ensures edits { OnOk result (EditsFollow edits.old.items edits.new.items state.old.catalog state.new.catalog) }
     ensures sound { OnOk result (IsSound state.new) }
-    ensures dates { IfOk result (λ x. All LineHasDate x.lines) }
+    ensures dates { IfOk result (λ x. All IsPlain x.lines) }
     ensures same { D.held store.new ≡ D.held store.old }
     ensures store { IsErrOf result VerifyFault.StoreFault → Rose (D.faults store.old) (D.faults store.new) }
     ensures never_falls { D.faults store.old ≤ D.faults store.new }

@@ -1,9 +1,9 @@
 -- A RUN goes on by one statement.
-use Rattle.std.proofs.Common.{All, ◌≡◌, ◌∙◌, ◌++◌, ◌||◌, ◌&&◌, not, ℕ, List, [], ◌∷◌, Option, Bool, true, false, MatchBool, inl, inr, refl, ap, sym, subst, append-nil, append_assoc, length}
+use Rattle.std.proofs.Common.{All, ◌≡◌, ◌∙◌, ◌++◌, ◌||◌, ◌&&◌, not, nat_lt, if◌then◌else◌, ℕ, List, [], ◌∷◌, Option, Some, None, Bool, true, false, MatchBool, inl, inr, refl, ap, sym, subst, append-nil, append_assoc, length}
 use Rattle.std.specs.List.{list_all}
 use Rattle.std.proofs.lemmas.Bool.{and_parts}
 use Rattle.std.proofs.lemmas.List.{nil_from_length}
-use Rattle.std.proofs.lemmas.List.Elements.{All-append}
+use Rattle.std.proofs.lemmas.List.Elements.{All-append, All-cons, All-nil}
 use Rattle.std.proofs.Math.Bool.{or-false, or_assoc}
 use Rattle.rm_base.specs.Store.{Held}
 use Rattle.rm_catalog.specs.declared.record.Record.{Record}
@@ -11,13 +11,18 @@ use Rattle.rm_lang_statement.specs.declared.command.Inner.{Inner}
 use Rattle.rm_lang_statement.specs.declared.command.Inner.TheVariants.{SetUntil, AllocateChannel, Plain as PlainInner}
 use Rattle.rm_report.specs.declared.line.Line.{Line}
 use Rattle.rm_report.specs.declared.line.Reply.{Reply}
-use Rattle.rm_report.specs.Reply.{LineHasDate, said}
+use Rattle.rm_base.specs.declared.refusal.Limit.TheVariants.{Channels}
+use Rattle.rm_base.specs.declared.refusal.Refusal.TheVariants.{Rm02, Rm11}
+use Rattle.rm_report.proofs.Plain.{refused-flagged, said-flagged}
+use Rattle.rm_report.specs.Reply.{IsFlagged, IsPlain, refused_by, said}
+use Rattle.rm_report.specs.declared.line.Line.TheVariants.{ChannelAllocated, UntilSet}
 use Rattle.rm_machine.specs.Laws.{only_tells}
 use Rattle.rm_machine.specs.Machine.{Machine}
 use Rattle.rm_machine.specs.Rest.{Rest, at_rest}
+use Rattle.rm_machine.specs.declared.state.State.{State}
 use Rattle.rm_machine_laws.specs.Holds.{Holds, HoldsRest, Stands, View}
 use Rattle.rm_machine_laws.proofs.Halting.{rests}
-use Rattle.rm_tool.specs.Block.{BlockLeaves, BlockSteps, InnerLeaves, IsHonestInside, after_inner, inner_applies, joined, unset, with_until}
+use Rattle.rm_tool.specs.Block.{BlockLeaves, BlockSteps, InnerLeaves, IsHonestInside, after_inner, channel_reply, inner_applies, joined, set_reply, unset, with_until}
 use Rattle.rm_tool.specs.Serving.{InnerSteps, InnerStops}
 use Rattle.rm_tool.specs.declared.block.Settings.{Settings}
 
@@ -86,9 +91,9 @@ match-both false P Q p q = q
 pub others-pass : (p : Inner → Bool) {all : List Inner} (y : Inner) (ys : List Inner) → all ≡ y ∷ ys → list_all p all ≡ true → list_all p ys ≡ true
 others-pass p y ys is pass = (and_parts (p y) (list_all p ys) (subst (λ (xs : List Inner). list_all p xs ≡ true) is pass)).1
 
--- lines and more have their dates
-pub dates-added : (lines more all : List Line) → all ≡ lines ++ more → All LineHasDate lines → All LineHasDate more → All LineHasDate all
-dates-added lines more all added had have = subst (λ (ls : List Line). All LineHasDate ls) (sym added) (All-append LineHasDate lines more had have)
+-- what is so of all lines, and of all that are added
+pub all-added : (P : Line → Type 0) (lines more all : List Line) → all ≡ lines ++ more → All P lines → All P more → All P all
+all-added P lines more all added had have = subst (All P) (sym added) (All-append P lines more had have)
 
 -- From where it came, where the statement y is the next one
 module _ {held : Option Held} {kept : Option (List Record)} {origin v : View} {x : Settings} {y : Inner} {block left others : List Inner} {clock : ℕ} {lines : List Line} {first : Machine}
@@ -146,3 +151,16 @@ inside-all {held = held} {kept = kept} {origin = origin} {v = v} {x = x} {block 
     let whole : BlockSteps unset first block clock (joined (said lines) (said [])) (p.applied || false) p.machine = p.goes (said []) false p.machine (refl, refl, refl) in
     let ends : BlockSteps unset first block clock (joined (said lines) (said [])) p.applied p.machine = subst (λ (b : Bool). BlockSteps unset first block clock (joined (said lines) (said [])) b p.machine) (or-false p.applied) whole in
     (p.machine, p.applied, subst (λ (ls : List Line). BlockSteps unset first block clock (said ls) p.applied p.machine) (append-nil lines) ends, p.stands, p.holds, p.knows)
+
+-- the replies to what a RUN sets are flagged rightly
+pub set-flagged : (o : Option State) → IsFlagged (set_reply o)
+set-flagged None = refused-flagged (refused_by Rm02) Rm02 refl
+set-flagged (Some s) = said-flagged (said (UntilSet ∷ [])) (UntilSet ∷ []) refl (All-cons IsPlain UntilSet [] tt (All-nil IsPlain))
+
+allocated-flagged : (b : Bool) → IsFlagged (if b then said (ChannelAllocated ∷ []) else refused_by (Rm11 Channels))
+allocated-flagged true = said-flagged (said (ChannelAllocated ∷ [])) (ChannelAllocated ∷ []) refl (All-cons IsPlain ChannelAllocated [] tt (All-nil IsPlain))
+allocated-flagged false = refused-flagged (refused_by (Rm11 Channels)) (Rm11 Channels) refl
+
+pub channel-flagged : (o : Option State) (channels : ℕ) → IsFlagged (channel_reply o channels)
+channel-flagged None channels = refused-flagged (refused_by Rm02) Rm02 refl
+channel-flagged (Some s) channels = allocated-flagged (nat_lt channels 16)

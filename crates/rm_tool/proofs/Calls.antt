@@ -39,6 +39,7 @@ module _ {clock later : Option Answers} {before now : Option (List ℕ)} {held l
     many = s.many;
     written = s.written;
     some = s.some;
+    flags = s.flags;
     quiet = s.quiet;
     run = from-opening held kept v _ opens s.run;
   }
@@ -53,12 +54,13 @@ module _ {clock later : Option Answers} {before now : Option (List ℕ)} {held l
     asked = s.asked;
     part = s.part;
     within = s.within;
+    flags = s.flags;
     written = s.written;
     quiet = s.quiet;
     run = from-opening held kept v _ opens s.run;
   }
 
-  midway-from : EndsMidway (FromEach held kept v) clock later before now last_held last_kept ss → EndsMidway (FromRest held kept) clock later before now last_held last_kept ss
+  midway-from : EndsMidway (FromEach held kept v) clock later before now held kept last_held last_kept ss → EndsMidway (FromRest held kept) clock later before now held kept last_held last_kept ss
   midway-from (at_statement s) = at_statement (record {
     answers = s.answers;
     told = s.told;
@@ -67,6 +69,7 @@ module _ {clock later : Option Answers} {before now : Option (List ℕ)} {held l
     written = s.written;
     statement = s.statement;
     next = s.next;
+    quiet = s.quiet;
     run = from-opening held kept v _ opens s.run;
   })
   midway-from (at_saving s) = at_saving (record {
@@ -76,6 +79,7 @@ module _ {clock later : Option Answers} {before now : Option (List ℕ)} {held l
     replies = s.replies;
     many = s.many;
     written = s.written;
+    quiet = s.quiet;
     run = from-opening held kept v _ opens s.run;
   })
 
@@ -94,9 +98,9 @@ module _ {left rest : Option (List ℕ)} {clock later : Option Answers} {before 
         tells = tells;
       }
 
-  pub ends-midway : EndsMidway (FromEach held' kept' v) clock later mid now last_held last_kept ss → OfScript left rest (EndsMidway (FromRest held kept) clock later before now last_held last_kept)
+  pub ends-midway : EndsMidway (FromEach held' kept' v) clock later mid now held' kept' last_held last_kept ss → OfScript left rest (EndsMidway (FromRest held kept) clock later before now held kept last_held last_kept)
   ends-midway =
-      of-script (λ h k b ts. EndsMidway (FromEach h k v) clock later b now last_held last_kept ts) (EndsMidway (FromRest held kept) clock later before now last_held last_kept)
+      of-script (λ h k b ts. EndsMidway (FromEach h k v) clock later b now h k last_held last_kept ts) (EndsMidway (FromRest held kept) clock later before now held kept last_held last_kept)
       left rest before mid held held' kept kept' ss script read cut silent held_same kept_same (λ ts. midway-from v opens ts)
 
   pub ends-in-replies : EndsInReplies (FromEach held' kept' v) clock later mid now held' kept' last_held last_kept ss → OfScript left rest (EndsInReplies (FromRest held kept) clock later before now held kept last_held last_kept)

@@ -7,6 +7,7 @@ use Rattle.rm_machine_laws.specs.Holds.{View}
 use Rattle.rm_machine_laws.specs.Saves.{IsEnded, Saves, StopsSaving}
 use Rattle.rm_machine_laws.specs.Stopped.{IsLeft}
 use Rattle.rm_site.specs.Untouched.{AreSame}
+use Rattle.rm_tool.proofs.Quiet.{same-then}
 use Rattle.rm_tool.specs.Serving.{FromEach, Serves, Closes, EndsMidway, at_saving}
 
 module _ {clock later : Option Answers} {before now : Option (List ℕ)} {held : Option Held} {kept : Option (List Record)} {v : View} {mid last : Option Held} {mid_kept last_kept : Option (List Record)} {v' : View} {refused : Bool} {ss : List (ℕ × List Token)}
@@ -22,7 +23,8 @@ module _ {clock later : Option Answers} {before now : Option (List ℕ)} {held :
         many = s.many;
         written = s.written;
         some = s.some;
-        quiet = λ is. let was = s.quiet is in let stays = same (ap (λ (x : View). x.applied) was.1 ∙ fresh) in (stays.0 ∙ was.0.0, stays.1 ∙ was.0.1);
+        flags = s.flags;
+        quiet = λ is. let was = s.quiet is in same-then was.0 (same (ap (λ (x : View). x.applied) was.1 ∙ fresh));
         run = λ m stands holds tells.
             let end = s.run m stands holds tells in
             let applied : v'.applied ≡ end.1 = end.3.2 ∙ ap (λ b. b || end.1) fresh in
@@ -31,8 +33,8 @@ module _ {clock later : Option Answers} {before now : Option (List ℕ)} {held :
       }
 
   -- it was stopped
-  pub ends-at-saving : StopsSaving mid mid_kept v' last last_kept → EndsMidway (FromEach held kept v) clock later before now last last_kept ss
-  ends-at-saving stops =
+  pub ends-at-saving : StopsSaving mid mid_kept v' last last_kept → (v'.applied ≡ false → AreSame mid mid_kept last last_kept) → EndsMidway (FromEach held kept v) clock later before now held kept last last_kept ss
+  ends-at-saving stops same =
       at_saving
       (record {
         answers = s.answers;
@@ -41,6 +43,7 @@ module _ {clock later : Option Answers} {before now : Option (List ℕ)} {held :
         replies = s.replies;
         many = s.many;
         written = s.written;
+        quiet = λ is. let was = s.quiet is in same-then was.0 (same (ap (λ (x : View). x.applied) was.1 ∙ fresh));
         run = λ m stands holds tells.
             let end = s.run m stands holds tells in
             let applied : v'.applied ≡ end.1 = end.3.2 ∙ ap (λ b. b || end.1) fresh in

@@ -1,9 +1,10 @@
 -- A run goes on by one statement.
-use Rattle.std.proofs.Common.{◌≡◌, ◌+◌, ◌≤◌, ◌∙◌, ◌++◌, ◌||◌, ◌&&◌, ◌⊎◌, inl, inr, ℕ, zero, suc, List, [], ◌∷◌, Option, Some, None, IfSome, Bool, true, false, refl, ap, sym, subst, arith, append-nil, slice_get, take, drop, length}
+use Rattle.std.proofs.Common.{◌≡◌, ◌+◌, ◌≤◌, ◌∙◌, ◌++◌, ◌||◌, ◌&&◌, ◌⊎◌, inl, inr, ℕ, zero, suc, List, [], ◌∷◌, Option, Some, None, IfSome, Bool, true, false, refl, ap, sym, subst, arith, append-nil, slice_get, take, drop, length, All}
 use Rattle.std.specs.List.{list_any}
 use Rattle.std.proofs.lemmas.Bool.{and_parts}
 use Rattle.std.proofs.lemmas.Grind.{flat_map-append}
 use Rattle.std.proofs.lemmas.List.{drop_more, length-take-le, length_push, take-append-drop}
+use Rattle.std.proofs.lemmas.List.Elements.{All-append, All-cons, All-nil}
 use Rattle.std.proofs.lemmas.List.Folds.{list_any-append}
 use Rattle.std.proofs.lemmas.Option.{get_or_from_slice_get, slice_get_within}
 use Rattle.std.proofs.Math.Bool.{or-false, or_assoc}
@@ -16,6 +17,7 @@ use Rattle.rm_lang_statement.specs.declared.command.Statement.{Statement}
 use Rattle.rm_tool.specs.Built.{statement_built_at}
 use Rattle.rm_lang_token.specs.declared.token.Token.{Token}
 use Rattle.rm_report.specs.declared.line.Reply.{Reply}
+use Rattle.rm_report.specs.Reply.{IsFlagged}
 use Rattle.rm_report.specs.Text.{reply_text}
 use Rattle.rm_machine.specs.Machine.{Machine}
 use Rattle.rm_machine.specs.Rest.{at_rest}
@@ -25,7 +27,7 @@ use Rattle.rm_site.specs.Untouched.{IsUntouched}
 use Rattle.rm_tool.specs.Ends.{WritesFront}
 use Rattle.rm_tool.specs.Quiet.{are_quiet, is_quiet_statement}
 use Rattle.rm_tool.specs.Run.{StepOf, StatementStep, past, behind, Run, IsHonestAlong, IsHonestWithin, RunsWhereHonest, AreToCome, replies_text}
-use Rattle.rm_tool.proofs.Quiet.{untouched-then}
+use Rattle.rm_tool.proofs.Quiet.{same-then, untouched-then}
 use Rattle.rm_tool.specs.Serving.{FromEach, IsPast, IsServed, IsCut, IsCutShort, Serves, EndsAtStatement, EndsInReplies}
 
 -- The machine's run over these statements, with these replies, as far as it came: each course of the clock from
@@ -45,6 +47,7 @@ pub record Progress (ss : List (ℕ × List Token)) (told now : Option Answers) 
   pub many : length replies ≡ length ss
   pub appends : Appends before written (replies_text replies)
   pub some : refused ≡ list_any (λ r. r.refused) replies
+  pub flags : All IsFlagged replies
   pub quiet : are_quiet ss replies ≡ true → IsUntouched first_held first_kept origin held kept site
   pub extends : Extends first_held first_kept origin told ss replies now (IsAt origin site held kept)
 
@@ -54,6 +57,7 @@ pub record Reached (ss : List (ℕ × List Token)) (told now : Option Answers) (
   pub many : length replies + 1 ≡ length ss
   pub appends : Appends before written (replies_text replies)
   pub some : refused ≡ list_any (λ q. q.refused) replies
+  pub flags : All IsFlagged (replies ++ r ∷ [])
   pub quiet : are_quiet ss (replies ++ r ∷ []) ≡ true → IsUntouched first_held first_kept origin held kept site
   pub extends : Extends first_held first_kept origin told ss (replies ++ r ∷ []) now (IsAt origin site held kept)
 
@@ -165,6 +169,7 @@ progress-none {site = site} =
       many = refl;
       appends = appends-nothing _;
       some = refl;
+      flags = All-nil IsFlagged;
       quiet = λ is. ((refl, refl), refl);
       extends = λ answers come. (answers, come, refl, λ first stands holds tells. (first, false, (refl, refl), (stands, holds, sym (or-false site.applied))));
     }
@@ -218,15 +223,16 @@ module _ {told now : Option Answers} {before written : Option (List ℕ)} {first
         many = p.many;
         written = p.appends;
         some = p.some;
+        flags = p.flags;
         quiet = p.quiet;
         run = all.3;
       }
 
   -- the statement i is served
   pub progress-reached : {held' : Option Held} {kept' : Option (List Record)} {site' : View} {later : Option Answers} {s : ℕ × List Token} {r : Reply} (i : ℕ) → slice_get ss i ≡ Some s
-      → Progress (take i ss) told now before written first_held first_kept origin held kept site refused → IsServed held kept site now s r held' kept' site' later
+      → Progress (take i ss) told now before written first_held first_kept origin held kept site refused → IsServed held kept site now s r held' kept' site' later → IsFlagged r
       → Reached (take (i + 1) ss) told later before written first_held first_kept origin held' kept' site' refused r
-  progress-reached {held' = held'} {kept' = kept'} {site' = site'} {later = later} {s = s} {r = r} i there p served =
+  progress-reached {held' = held'} {kept' = kept'} {site' = site'} {later = later} {s = s} {r = r} i there p served flagged =
       let more : take (i + 1) ss ≡ take i ss ++ s ∷ [] = take_more ss i s (slice_get_within ss i s there) (sym (get_or_from_slice_get ss i s s there)) in
       subst (λ (ts : List (ℕ × List Token)). Reached ts told later before written first_held first_kept origin held' kept' site' refused r) (sym more)
       (record {
@@ -234,6 +240,7 @@ module _ {told now : Option Answers} {before written : Option (List ℕ)} {first
         many = omega (arith, p.many, length_push (take i ss) s);
         appends = p.appends;
         some = p.some;
+        flags = All-append IsFlagged p.replies (r ∷ []) p.flags (All-cons IsFlagged r [] flagged (All-nil IsFlagged));
         quiet = λ is. let parts = quiet-push (take i ss) p.replies s r p.many is in untouched-then (p.quiet parts.0) (served.quiet parts.1);
         extends =
             extends-more first_held first_kept origin told now later (take i ss) p.replies s r served.answer (IsAt origin site held kept) (IsAt origin site' held' kept') p.many served.next served.past
@@ -246,7 +253,7 @@ module _ {told now : Option Answers} {before written : Option (List ℕ)} {first
   -- the statement i was cut short
   pub progress-cut : {held' : Option Held} {kept' : Option (List Record)} {later : Option Answers} {s : ℕ × List Token} (i : ℕ) → slice_get ss i ≡ Some s
       → Progress (take i ss) told now before written first_held first_kept origin held kept site refused → IsCutShort held kept site now s held' kept' later
-      → EndsAtStatement (FromEach first_held first_kept origin) told later before written held' kept' ss
+      → EndsAtStatement (FromEach first_held first_kept origin) told later before written first_held first_kept held' kept' ss
   progress-cut {held' = held'} {kept' = kept'} {later = later} {s = s} i there p short =
       let f = answers-with now short.answer short.next in
       let all = p.extends f.0 f.1 in
@@ -276,6 +283,9 @@ module _ {told now : Option Answers} {before written : Option (List ℕ)} {first
         written = p.appends;
         statement = s;
         next = subst (λ (n : ℕ). slice_get ss n ≡ Some s) (sym count) there;
+        quiet = λ are tells.
+            let was = p.quiet (subst (λ (n : ℕ). are_quiet (take n ss) p.replies ≡ true) count are) in
+            same-then was.0 (short.quiet tells);
         run =
             subst (λ (n : ℕ). FromEach first_held first_kept origin (λ first. IsHonestAlong first all.0 ss p.replies
             → (last : Machine) × (applied : Bool) × Run first all.0 (take n ss) p.replies applied last × IsCut last s (behind (take n ss) all.0 0) held' kept'))
@@ -291,6 +301,7 @@ module _ {told now : Option Answers} {before written : Option (List ℕ)} {first
         many = length_push p.replies r ∙ p.many;
         appends = subst (Appends before after) (sym (text-push p.replies r)) (appends-then before written after (replies_text p.replies) (reply_text r) p.appends grows);
         some = ap (λ b. b || r.refused) p.some ∙ sym (any-push p.replies r);
+        flags = p.flags;
         quiet = p.quiet;
         extends = p.extends;
       }
@@ -313,6 +324,7 @@ module _ {told now : Option Answers} {before written : Option (List ℕ)} {first
         asked = subst (λ (k : ℕ). AreToCome now (behind (take k ss) all.0)) (sym count) (subst (AreToCome now) (sym all.2) (come-from now));
         part = front.0;
         within = front.1;
+        flags = p.flags;
         written = appends-then before written after (replies_text p.replies) (take front.0 (reply_text r)) p.appends front.2;
         quiet = λ is. (p.quiet (subst (λ (k : ℕ). are_quiet (take k ss) replies ≡ true) count is)).0;
         run = subst (λ (k : ℕ). FromEach first_held first_kept origin (λ first. RunsWhereHonest first all.0 (take k ss) replies (λ applied m. HoldsRest held kept (at_rest m)))) (sym count) run;

@@ -21,8 +21,10 @@ use Rattle.rm_machine_laws.specs.Saves.{applies}
 use Rattle.rm_machine_laws.specs.Steps.{Steps}
 use Rattle.rm_machine_laws.specs.Stopped.{Stops}
 use Rattle.rm_machine_laws.proofs.Halting.{ends-here, rests}
-use Rattle.rm_site.specs.Untouched.{IsUntouched, is_quiet}
-use Rattle.rm_tool.specs.Quiet.{is_quiet_statement, only_tells_inner}
+use Rattle.rm_machine.specs.Laws.{only_tells}
+use Rattle.rm_site.specs.Untouched.{AreSame, IsUntouched, is_quiet}
+use Rattle.rm_tool.proofs.Quiet.{telling-quiet}
+use Rattle.rm_tool.specs.Quiet.{is_quiet_statement, only_tells_inner, only_tells_statement}
 use Rattle.rm_tool.specs.Run.{StepOf, IsHonestWithin}
 use Rattle.rm_tool.specs.Serving.{IsPast, IsServed, IsCut, untouched, stopped, inside, IsCutShort, RunSteps, RunStops, StatementSteps}
 use Rattle.rm_tool.proofs.Blocks.{block-leaves}
@@ -39,6 +41,10 @@ ok-three P Q S R f (Err e) h k l = tt
 pub on-err : {A E : Type 0} (P : Type 0) (r : Result A E) → P → OnErr r P
 on-err P (Ok a) p = tt
 on-err P (Err e) p = p
+
+pub err-both : {A E : Type 0} (P Q R : Type 0) → (P → Q → R) → (r : Result A E) → OnErr r P → OnErr r Q → OnErr r R
+err-both P Q R f (Ok a) h k = h
+err-both P Q R f (Err e) h k = f h k
 
 pub err-map : {A E : Type 0} (P Q : Type 0) → (P → Q) → (r : Result A E) → OnErr r P → OnErr r Q
 err-map P Q f (Ok a) h = h
@@ -79,7 +85,7 @@ module _ {held : Option Held} {kept : Option (List Record)} {v : View} {clock : 
 
   -- nothing was done
   pub cut-before : IsCutShort held kept v clock s held kept clock
-  cut-before = record { answer = answers_from clock 0; next = next-from clock; asked = inl refl; cut = λ m stands holds tell. untouched (rests held kept m holds) }
+  cut-before = record { answer = answers_from clock 0; next = next-from clock; asked = inl refl; quiet = λ tells. (refl, refl); cut = λ m stands holds tell. untouched (rests held kept m holds) }
 
   -- One that is asked of the clock is a step or more of the site, or the site stopped it.
   module _ {held' : Option Held} {kept' : Option (List Record)} (answer : ℕ) (next : IfSome clock (λ coming. answer ≡ coming 0)) where
@@ -104,12 +110,13 @@ module _ {held : Option Held} {kept : Option (List Record)} {v : View} {clock : 
           let n = steps m stands holds (subst (λ (o : Option Statement). IsHonestWithin o m answer) some tell) in
           (n.0, applies c reply, subst (λ (o : Option Statement). StepOf o m s.0 answer reply (applies c reply) n.0) (sym some) (n.1, refl), n.2, n.3, applied))
 
-      pub cut-step : {clock' : Option Answers} → Both IsLater clock clock' → Stops held kept v c answer held' kept' → IsCutShort held kept v clock s held' kept' clock'
-      cut-step {clock' = clock'} later stops =
+      pub cut-step : {clock' : Option Answers} → Both IsLater clock clock' → Stops held kept v c answer held' kept' → (only_tells c ≡ true → AreSame held kept held' kept') → IsCutShort held kept v clock s held' kept' clock'
+      cut-step {clock' = clock'} later stops same =
           record {
             answer = answer;
             next = next;
             asked = inr (asked-once (statement_built_at s.1) (Plain c) clock clock' some later);
+            quiet = λ tells. same (subst (λ (o : Option Statement). only_tells_statement o ≡ true) some tells);
             cut = λ m stands holds tell. let left = stops m stands holds (subst (λ (o : Option Statement). IsHonestWithin o m answer) some tell) in stopped c left.0 some left.1 left.2;
           }
 
@@ -123,12 +130,13 @@ module _ {held : Option Held} {kept : Option (List Record)} {v : View} {clock : 
           let n = steps m stands holds (subst (λ (o : Option Statement). IsHonestWithin o m answer) some tell) in
           (n.0, n.1, subst (λ (o : Option Statement). StepOf o m s.0 answer reply n.1 n.0) (sym some) n.2, n.3, n.4, n.5))
 
-      pub cut-run : {clock' : Option Answers} → Both IsLater clock clock' → RunStops held kept v block answer held' kept' → IsCutShort held kept v clock s held' kept' clock'
-      cut-run {clock' = clock'} later stops =
+      pub cut-run : {clock' : Option Answers} → Both IsLater clock clock' → RunStops held kept v block answer held' kept' → (list_all only_tells_inner block ≡ true → AreSame held kept held' kept') → IsCutShort held kept v clock s held' kept' clock'
+      cut-run {clock' = clock'} later stops same =
           record {
             answer = answer;
             next = next;
             asked = inr (asked-once (statement_built_at s.1) (Block block) clock clock' some later);
+            quiet = λ tells. same (subst (λ (o : Option Statement). only_tells_statement o ≡ true) some tells);
             cut = λ m stands holds tell. let left = stops m stands holds (subst (λ (o : Option Statement). IsHonestWithin o m answer) some tell) in inside block left.0 some left.1 left.2;
           }
 
@@ -148,5 +156,6 @@ cut-served {held' = held'} {kept' = kept'} {s = s} {reply = reply} served =
       answer = served.answer;
       next = served.next;
       asked = inr served.past;
+      quiet = λ tells. (served.quiet (telling-quiet (statement_built_at s.1) reply tells)).0;
       cut = λ m stands holds tell. let n = served.steps m stands holds tell in cut-by (statement_built_at s.1) m n.0 s served.answer reply n.1 held' kept' refl n.2 n.4;
     }

@@ -17,6 +17,12 @@ only_tells_inner (PlainInner c) = only_tells c
 only_tells_inner (SetUntil until) = true
 only_tells_inner AllocateChannel = true
 
+-- whatever is answered it leaves all as it was: it is none that is built, or it only tells, and so does each statement of a RUN
+abbrev pub only_tells_statement : Option Statement → Bool
+only_tells_statement None = true
+only_tells_statement (Some (Plain c)) = only_tells c
+only_tells_statement (Some (Block inner)) = list_all only_tells_inner inner
+
 -- It is no statement that is built, or it was refused, or it only tells. Of a RUN each statement only tells or sets.
 abbrev pub is_quiet_statement : Option Statement → Reply → Bool
 is_quiet_statement None reply = true

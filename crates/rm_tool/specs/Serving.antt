@@ -1,5 +1,5 @@
 -- What serving the statements of a script leaves.
-use Rattle.std.specs.Prelude.{ℕ, ◌≡◌, ◌<◌, ◌+◌, ◌++◌, ◌⊎◌, ◌||◌, Bool, true, Option, Some, IfSome, List, [], ◌∷◌, slice_get, take, length}
+use Rattle.std.specs.Prelude.{ℕ, ◌≡◌, ◌<◌, ◌+◌, ◌++◌, ◌⊎◌, ◌||◌, Bool, true, Option, Some, IfSome, List, [], ◌∷◌, slice_get, take, length, All}
 use Rattle.std.specs.List.{list_any}
 use Rattle.rm_base.specs.Outside.{Appends}
 use Rattle.rm_base.specs.Store.{Held, Answers, Both}
@@ -15,6 +15,7 @@ use Rattle.rm_tool.specs.Built.{statement_built_at}
 use Rattle.rm_tool.specs.declared.block.Settings.{Settings}
 use Rattle.rm_lang_token.specs.declared.token.Token.{Token}
 use Rattle.rm_report.specs.declared.line.Reply.{Reply}
+use Rattle.rm_report.specs.Reply.{IsFlagged}
 use Rattle.rm_report.specs.Text.{reply_text}
 use Rattle.rm_machine.specs.Machine.{Machine}
 use Rattle.rm_machine.specs.Rest.{Rest, at_rest}
@@ -25,7 +26,7 @@ use Rattle.rm_machine_laws.specs.Stopped.{IsLeft, Stopped}
 use Rattle.rm_tool.specs.declared.session.Halt.{Halt}
 use Rattle.rm_tool.specs.declared.session.Halt.TheVariants as halt
 use Rattle.rm_site.specs.Untouched.{AreSame, IsUntouched}
-use Rattle.rm_tool.specs.Quiet.{are_quiet, is_quiet_statement}
+use Rattle.rm_tool.specs.Quiet.{are_quiet, is_quiet_statement, only_tells_statement}
 use Rattle.rm_tool.specs.Run.{StatementStep, Run, RunsWhereHonest, IsHonestAlong, IsHonestWithin, past, behind, AreToCome, replies_text}
 
 -- what ends a session where the site was stopped
@@ -83,18 +84,19 @@ pub data IsCut (m : Machine) (s : ℕ × List Token) (answer : ℕ) (held : Opti
   inside : (inner : List Inner) (r : Rest) → statement_built_at s.1 ≡ Some (Block inner) → BlockLeaves unset m inner answer r → HoldsRest held kept r → IsCut m s answer held kept
 
 -- The statement was cut short, and the clock asked for it, or not yet. Whatever machine the site stands for, where the world is honest this
--- is left of it.
+-- is left of it. Where it only tells all is as it was, whatever the store and the keeper hold.
 pub record IsCutShort (held : Option Held) (kept : Option (List Record)) (v : View) (clock : Option Answers) (s : ℕ × List Token) (held' : Option Held) (kept' : Option (List Record)) (clock' : Option Answers) : Type 0 where
   pub answer : ℕ
   pub next : IfSome clock (λ coming. answer ≡ coming 0)
   pub asked : (clock' ≡ clock) ⊎ Both (IsPast (statement_built_at s.1)) clock clock'
+  pub quiet : only_tells_statement (statement_built_at s.1) ≡ true → AreSame held kept held' kept'
   pub cut : (m : Machine) → Stands v m → Holds held kept m → IsHonestWithin (statement_built_at s.1) m answer → IsCut m s answer held' kept'
 
 -- whatever machine the site stands for, this is so of it
 abbrev pub FromEach : Option Held → Option (List Record) → View → (Machine → Type 0) → Type 0
 FromEach held kept v Is = (m : Machine) → Stands v m → Holds held kept m → Is m
 
--- All replies were written, `refused` says whether one is a refusal, and the clock was asked for each statement that is built. They are
+-- All replies were written, `refused` says whether one is refused, which is so exactly where a line of it is a refusal, and the clock was asked for each statement that is built. They are
 -- those of a run from whatever machine the site stands for, and the site, the store and the keeper hold what the machine has at its end.
 -- Where all were quiet nothing changed, whatever the store and the keeper hold.
 pub record Serves (clock later : Option Answers) (before now : Option (List ℕ)) (held : Option Held) (kept : Option (List Record)) (v : View) (held' : Option Held) (kept' : Option (List Record)) (v' : View) (refused : Bool) (ss : List (ℕ × List Token)) : Type 0 where
@@ -105,6 +107,7 @@ pub record Serves (clock later : Option Answers) (before now : Option (List ℕ)
   pub many : length replies ≡ length ss
   pub written : Appends before now (replies_text replies)
   pub some : refused ≡ list_any (λ r. r.refused) replies
+  pub flags : All IsFlagged replies
   pub quiet : are_quiet ss replies ≡ true → IsUntouched held kept v held' kept' v'
   pub run : FromEach held kept v (λ first. RunsWhereHonest first answers ss replies (λ applied m. Stands v' m × Holds held' kept' m × (v'.applied ≡ (v.applied || applied))))
 
@@ -118,13 +121,14 @@ pub record Closes (From : (Machine → Type 0) → Type 0) (clock later : Option
   pub many : length replies ≡ length ss
   pub written : Appends before now (replies_text replies)
   pub some : refused ≡ list_any (λ r. r.refused) replies
+  pub flags : All IsFlagged replies
   pub quiet : are_quiet ss replies ≡ true → AreSame held kept held' kept'
   pub run : From (λ first. RunsWhereHonest first answers ss replies (λ applied m. (r : Rest) × IsEnded applied m r × HoldsRest held' kept' r))
 
 -- The replies to the first statements were written, and nothing else. The statement after them was cut short: the clock was asked for
--- those before it, and for none behind it. From the machines that are meant the replies are those of a run, and the store and the keeper
--- hold what is left.
-pub record EndsAtStatement (From : (Machine → Type 0) → Type 0) (clock later : Option Answers) (before now : Option (List ℕ)) (held' : Option Held) (kept' : Option (List Record)) (ss : List (ℕ × List Token)) : Type 0 where
+-- those before it, and for none behind it. Where those were quiet and it only tells nothing changed. From the machines that are meant the
+-- replies are those of a run, and the store and the keeper hold what is left.
+pub record EndsAtStatement (From : (Machine → Type 0) → Type 0) (clock later : Option Answers) (before now : Option (List ℕ)) (held : Option Held) (kept : Option (List Record)) (held' : Option Held) (kept' : Option (List Record)) (ss : List (ℕ × List Token)) : Type 0 where
   pub answers : Answers
   pub told : AreToCome clock answers
   pub replies : List Reply
@@ -132,25 +136,27 @@ pub record EndsAtStatement (From : (Machine → Type 0) → Type 0) (clock later
   pub statement : ℕ × List Token
   pub next : slice_get ss (length replies) ≡ Some statement
   pub asked : AreToCome later (behind (take (length replies) ss) answers) ⊎ AreToCome later (behind (take (length replies + 1) ss) answers)
+  pub quiet : are_quiet (take (length replies) ss) replies ≡ true → only_tells_statement (statement_built_at statement.1) ≡ true → AreSame held kept held' kept'
   pub run : From
       (λ first. IsHonestAlong first answers ss replies
       → (last : Machine) × (applied : Bool) × Run first answers (take (length replies) ss) replies applied last × IsCut last statement (behind (take (length replies) ss) answers 0) held' kept')
 
 -- All replies were written, from the machines that are meant those of a run, and the save after it was stopped: nothing of it is
 -- recorded, or all of it. The store and the keeper hold what is left.
-pub record EndsAtSaving (From : (Machine → Type 0) → Type 0) (clock later : Option Answers) (before now : Option (List ℕ)) (held' : Option Held) (kept' : Option (List Record)) (ss : List (ℕ × List Token)) : Type 0 where
+pub record EndsAtSaving (From : (Machine → Type 0) → Type 0) (clock later : Option Answers) (before now : Option (List ℕ)) (held : Option Held) (kept : Option (List Record)) (held' : Option Held) (kept' : Option (List Record)) (ss : List (ℕ × List Token)) : Type 0 where
   pub answers : Answers
   pub told : AreToCome clock answers
   pub asked : AreToCome later (behind ss answers)
   pub replies : List Reply
   pub many : length replies ≡ length ss
   pub written : Appends before now (replies_text replies)
+  pub quiet : are_quiet ss replies ≡ true → AreSame held kept held' kept'
   pub run : From (λ first. RunsWhereHonest first answers ss replies (λ applied m. (r : Rest) × (IsLeft [] m r ⊎ IsEnded applied m r) × HoldsRest held' kept' r))
 
 -- the session ended at a statement, or at its save
-pub data EndsMidway (From : (Machine → Type 0) → Type 0) (clock later : Option Answers) (before now : Option (List ℕ)) (held' : Option Held) (kept' : Option (List Record)) (ss : List (ℕ × List Token)) : Type 0 where
-  at_statement : EndsAtStatement From clock later before now held' kept' ss → EndsMidway From clock later before now held' kept' ss
-  at_saving : EndsAtSaving From clock later before now held' kept' ss → EndsMidway From clock later before now held' kept' ss
+pub data EndsMidway (From : (Machine → Type 0) → Type 0) (clock later : Option Answers) (before now : Option (List ℕ)) (held : Option Held) (kept : Option (List Record)) (held' : Option Held) (kept' : Option (List Record)) (ss : List (ℕ × List Token)) : Type 0 where
+  at_statement : EndsAtStatement From clock later before now held kept held' kept' ss → EndsMidway From clock later before now held kept held' kept' ss
+  at_saving : EndsAtSaving From clock later before now held kept held' kept' ss → EndsMidway From clock later before now held kept held' kept' ss
 
 -- The sink failed in a reply: those before it were written, and a front of it that is not all of it. The clock was asked for no statement
 -- behind. From the machines that are meant they are the replies of a run, and the store and the keeper hold, at rest, what the machine has
@@ -164,6 +170,7 @@ pub record EndsInReplies (From : (Machine → Type 0) → Type 0) (clock later :
   pub asked : AreToCome later (behind (take (length replies + 1) ss) answers)
   pub part : ℕ
   pub within : part < length (reply_text last)
+  pub flags : All IsFlagged (replies ++ last ∷ [])
   pub written : Appends before now (replies_text replies ++ take part (reply_text last))
   pub quiet : are_quiet (take (length replies + 1) ss) (replies ++ last ∷ []) ≡ true → AreSame held kept held' kept'
   pub run : From (λ first. RunsWhereHonest first answers (take (length replies + 1) ss) (replies ++ last ∷ []) (λ applied m. HoldsRest held' kept' (at_rest m)))

@@ -52,6 +52,10 @@ pub record Script (left rest : Option (List ℕ)) (script : List ℕ) : Type 0 w
   pub taken : HasTaken left rest script
   pub whole : IfSome left (λ bytes. bytes ≡ script)
 
+-- some script was taken
+abbrev pub TakesScript : Option (List ℕ) → Option (List ℕ) → Type 0
+TakesScript left rest = (script : List ℕ) × Script left rest script
+
 -- the script was taken, and this is so of its statements
 pub record OfScript (left rest : Option (List ℕ)) (Is : List (ℕ × List Token) → Type 0) : Type 0 where
   pub script : List ℕ
@@ -75,7 +79,7 @@ TellsValid kept = IfSome kept AreValid
 -- the keeper hold what is left.
 pub data EndsEarly (left rest : Option (List ℕ)) (clock later : Option Answers) (before now : Option (List ℕ)) (held : Option Held) (kept : Option (List Record)) (held' : Option Held) (kept' : Option (List Record)) : Type 0 where
   before_statements : now ≡ before → NoneRan clock later held kept held' kept' → EndsEarly left rest clock later before now held kept held' kept'
-  midway : TellsValid kept → OfScript left rest (EndsMidway (FromRest held kept) clock later before now held' kept') → EndsEarly left rest clock later before now held kept held' kept'
+  midway : TellsValid kept → OfScript left rest (EndsMidway (FromRest held kept) clock later before now held kept held' kept') → EndsEarly left rest clock later before now held kept held' kept'
 
 -- the line of the first of the keeper's records, in order, that breaks a rule, where it tells them
 pub record IsBadRecord (kept : Option (List Record)) (line : List ℕ) : Type 0 where

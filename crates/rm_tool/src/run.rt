@@ -4,7 +4,7 @@ ghost use Rattle.rm_base.specs.Outside.{Appends, Rose};
 ghost use Rattle.rm_catalog.specs.declared.record.Record.{Record};
 ghost use Rattle.rm_site.specs.Opens.{AreValid};
 ghost use Rattle.rm_tool.specs.Ends.{Counted, TakesMany};
-ghost use Rattle.rm_tool.specs.Session.{Script, Finishes, EndsEarly, WritesPart, WritesBadRecord, TellsValid, IsDone, IsEarly, NoneRan, bad_words, over_long};
+ghost use Rattle.rm_tool.specs.Session.{Script, TakesScript, Finishes, EndsEarly, WritesPart, WritesBadRecord, TellsValid, IsDone, IsEarly, NoneRan, bad_words, over_long};
 ghost use Rattle.rm_tool.specs.Words.{accepts};
 
 use crate::ends::{ReadFault, read_all, write_all};
@@ -76,8 +76,9 @@ pub fn run<R: Threads + Wait + Sync, G: Gate, S: Source, K: Sink, D: Store, C: K
     ensures long_line { result ≡ 8 → Appends (K.contents sink.old) (K.contents sink.new) over_long }
     ensures long_only { Counted (S.taken source.old) → TakesMany (S.taken source.old) (S.taken source.new) → Contains (8 ∷ 4 ∷ 7 ∷ []) result }
 
-    // 9: exactly where the keeper's records are not valid, and the line of the first that breaks a rule was written.
+    // 9: exactly where the keeper's records are not valid, after the script was read; and the line of the first that breaks a rule was written.
     ensures bad { result ≡ 9 → WritesBadRecord (C.kept keeper.old) (K.contents sink.old) (K.contents sink.new) }
+    ensures bad_read { result ≡ 9 → TakesScript (S.left source.old) (S.left source.new) }
     ensures bad_only { (rs : List Record) → accepts words.now ≡ true → Counted (S.taken source.old) → ¬ TakesMany (S.taken source.old) (S.taken source.new) → C.kept keeper.old ≡ Some rs → ¬ AreValid rs → Contains (9 ∷ 4 ∷ 3 ∷ 6 ∷ 7 ∷ []) result }
 
     // At 2, 3, 8 and 9 no statement ran.

@@ -2,7 +2,7 @@
 ghost use Rattle.std.specs.Prelude.{◌≡◌, ◌≤◌, true, false, IfOk, OnOk, OnErr, IsErrOf, IfSome};
 ghost use Rattle.rm_base.specs.Outside.{Rose};
 ghost use Rattle.rm_commit.specs.declared.commit.Stop.TheVariants.{StoreFault, KeeperFault};
-ghost use Rattle.rm_report.specs.Reply.{HasDates};
+ghost use Rattle.rm_report.specs.Reply.{HasDates, IsFlagged};
 ghost use Rattle.rm_tool.specs.Serving.{IsServed, IsCutShort, FromEach, Serves, Closes, EndsAtStatement, EndsInReplies, EndsMidway};
 
 use crate::block::serve_block;
@@ -84,6 +84,7 @@ fn serve<R: Threads + Wait + Sync, G: Gate, D: Store, C: Keeper, T: Clock>(
     ensures served { IfOk result (λ reply. IsServed (D.held store.old) (C.kept keeper.old) site.old (T.answers clock.old) (line, tokens.now) reply (D.held store.new) (C.kept keeper.new) site.new (T.answers clock.new)) }
     ensures cut { OnErr result (IsCutShort (D.held store.old) (C.kept keeper.old) site.old (T.answers clock.old) (line, tokens.now) (D.held store.new) (C.kept keeper.new) (T.answers clock.new)) }
     ensures dates { IfOk result HasDates }
+    ensures flagged { IfOk result IsFlagged }
     ensures store { IsErrOf result StoreFault → Rose (D.faults store.old) (D.faults store.new) }
     ensures keeper { IsErrOf result KeeperFault → Rose (C.faults keeper.old) (C.faults keeper.new) }
     ensures store_never_falls { D.faults store.old ≤ D.faults store.new }
@@ -126,9 +127,9 @@ fn serve_all<R: Threads + Wait + Sync, G: Gate, K: Sink, D: Store, C: Keeper, T:
 
     // What was written where it ended early, and what the store and the keeper hold.
     ensures sink { IsErrOf result Halt.Sink → EndsInReplies (FromEach (D.held store.old) (C.kept keeper.old) site.old) (T.answers clock.old) (T.answers clock.new) (K.contents sink.old) (K.contents sink.new) (D.held store.old) (C.kept keeper.old) (D.held store.new) (C.kept keeper.new) statements.now }
-    ensures store { IsErrOf result Halt.Store → EndsAtStatement (FromEach (D.held store.old) (C.kept keeper.old) site.old) (T.answers clock.old) (T.answers clock.new) (K.contents sink.old) (K.contents sink.new) (D.held store.new) (C.kept keeper.new) statements.now }
-    ensures keeper { IsErrOf result Halt.Keeper → EndsAtStatement (FromEach (D.held store.old) (C.kept keeper.old) site.old) (T.answers clock.old) (T.answers clock.new) (K.contents sink.old) (K.contents sink.new) (D.held store.new) (C.kept keeper.new) statements.now }
-    ensures memory { IsErrOf result Halt.NoMemory → EndsAtStatement (FromEach (D.held store.old) (C.kept keeper.old) site.old) (T.answers clock.old) (T.answers clock.new) (K.contents sink.old) (K.contents sink.new) (D.held store.new) (C.kept keeper.new) statements.now }
+    ensures store { IsErrOf result Halt.Store → EndsAtStatement (FromEach (D.held store.old) (C.kept keeper.old) site.old) (T.answers clock.old) (T.answers clock.new) (K.contents sink.old) (K.contents sink.new) (D.held store.old) (C.kept keeper.old) (D.held store.new) (C.kept keeper.new) statements.now }
+    ensures keeper { IsErrOf result Halt.Keeper → EndsAtStatement (FromEach (D.held store.old) (C.kept keeper.old) site.old) (T.answers clock.old) (T.answers clock.new) (K.contents sink.old) (K.contents sink.new) (D.held store.old) (C.kept keeper.old) (D.held store.new) (C.kept keeper.new) statements.now }
+    ensures memory { IsErrOf result Halt.NoMemory → EndsAtStatement (FromEach (D.held store.old) (C.kept keeper.old) site.old) (T.answers clock.old) (T.answers clock.new) (K.contents sink.old) (K.contents sink.new) (D.held store.old) (C.kept keeper.old) (D.held store.new) (C.kept keeper.new) statements.now }
 
     // Whose count rose.
     ensures sink_failed { IsErrOf result Halt.Sink → Rose (K.faults sink.old) (K.faults sink.new) }
@@ -182,9 +183,9 @@ pub fn serve_session<R: Threads + Wait + Sync, G: Gate, K: Sink, D: Store, C: Ke
 
     // What was written where it ended early, and what the store and the keeper hold.
     ensures sink { IsErrOf result Halt.Sink → EndsInReplies (FromEach (D.held store.old) (C.kept keeper.old) site) (T.answers clock.old) (T.answers clock.new) (K.contents sink.old) (K.contents sink.new) (D.held store.old) (C.kept keeper.old) (D.held store.new) (C.kept keeper.new) statements.now }
-    ensures store { IsErrOf result Halt.Store → EndsMidway (FromEach (D.held store.old) (C.kept keeper.old) site) (T.answers clock.old) (T.answers clock.new) (K.contents sink.old) (K.contents sink.new) (D.held store.new) (C.kept keeper.new) statements.now }
-    ensures keeper { IsErrOf result Halt.Keeper → EndsMidway (FromEach (D.held store.old) (C.kept keeper.old) site) (T.answers clock.old) (T.answers clock.new) (K.contents sink.old) (K.contents sink.new) (D.held store.new) (C.kept keeper.new) statements.now }
-    ensures memory { IsErrOf result Halt.NoMemory → EndsMidway (FromEach (D.held store.old) (C.kept keeper.old) site) (T.answers clock.old) (T.answers clock.new) (K.contents sink.old) (K.contents sink.new) (D.held store.new) (C.kept keeper.new) statements.now }
+    ensures store { IsErrOf result Halt.Store → EndsMidway (FromEach (D.held store.old) (C.kept keeper.old) site) (T.answers clock.old) (T.answers clock.new) (K.contents sink.old) (K.contents sink.new) (D.held store.old) (C.kept keeper.old) (D.held store.new) (C.kept keeper.new) statements.now }
+    ensures keeper { IsErrOf result Halt.Keeper → EndsMidway (FromEach (D.held store.old) (C.kept keeper.old) site) (T.answers clock.old) (T.answers clock.new) (K.contents sink.old) (K.contents sink.new) (D.held store.old) (C.kept keeper.old) (D.held store.new) (C.kept keeper.new) statements.now }
+    ensures memory { IsErrOf result Halt.NoMemory → EndsMidway (FromEach (D.held store.old) (C.kept keeper.old) site) (T.answers clock.old) (T.answers clock.new) (K.contents sink.old) (K.contents sink.new) (D.held store.old) (C.kept keeper.old) (D.held store.new) (C.kept keeper.new) statements.now }
 
     // Whose count rose.
     ensures sink_failed { IsErrOf result Halt.Sink → Rose (K.faults sink.old) (K.faults sink.new) }

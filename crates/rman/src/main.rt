@@ -62,10 +62,11 @@ fn open_store(rt: &HostRuntime, folder: String, has_records: bool) -> DirStore<D
     store
 }
 
-fn has_objects<D: Store>(store: &mut D) -> bool {
+// Whether the folder has objects; nothing where it can't be listed, which `run` tells as a fault.
+fn has_objects<D: Store>(store: &mut D) -> Option<bool> {
     match store.names() {
-        Ok(names) => !names.is_empty(),
-        Err(_) => true,
+        Ok(names) => Some(!names.is_empty()),
+        Err(_) => None,
     }
 }
 
@@ -76,7 +77,7 @@ fn meet(rt: &HostRuntime, store: &mut DirStore<Dir<'_>>, file: &str, has_records
     match store.last_used(file) {
         Last::This if has_records => {}
         Last::This => {
-            if has_objects(store) {
+            if has_objects(store) == Some(true) {
                 told::used_folder(rt, store.path());
             }
         }
@@ -86,12 +87,12 @@ fn meet(rt: &HostRuntime, store: &mut DirStore<Dir<'_>>, file: &str, has_records
                 store.claim(file);
             }
         }
-        Last::Nobody if has_records && !has_objects(store) => store.refuse(io::Error::new(
+        Last::Nobody if has_records && has_objects(store) == Some(false) => store.refuse(io::Error::new(
             ErrorKind::InvalidInput,
             "it has no object and was no catalog's yet, and this catalog has records",
         )),
         Last::Nobody => {
-            if !has_records && has_objects(store) {
+            if !has_records && has_objects(store) == Some(true) {
                 told::used_folder(rt, store.path());
             }
             store.claim(file);

@@ -1,7 +1,10 @@
-use Rattle.std.proofs.Common.{Some, ap, refl}
-use Rattle.rm_site.proofs.Answering.{Begins, answered-in, back-again, begins-sound, comes-refused, comes-told, handed-in, is-carried, is-halted, quiet-refused, quiet-told, refused-in, sound-again, told-in, valid-again}
+use Rattle.std.proofs.Common.{Some, ap, refl, subst, sym}
+use Rattle.rm_site.proofs.Answering.{Begins, answered-in, back-again, begins-sound, comes-refused, comes-told, handed-in, is-carried, on-err, is-halted, quiet-refused, quiet-told, refused-in, sound-again, told-in, valid-again}
 use Rattle.rm_site.proofs.ComesOut.{out-done, out-refused, out-told}
-use Rattle.rm_site.proofs.Quiet.{done-not-quiet}
+use Rattle.rm_site.proofs.Quiet.{done-more, done-not-quiet}
+use Rattle.rm_report.proofs.Plain.{plain-dated, refused-flagged, said-flagged}
+use Rattle.rm_report.specs.Reply.{HasDates}
+use Rattle.rm_site.proofs.Plain.{done-plain, told-plain}
 use Rattle.rm_site.proofs.step.answer_in.Goals as goal
 
 pub come_to-requires-clause-sound : goal.come_to-requires-clause-sound
@@ -112,3 +115,25 @@ returns-in_ok-carry_out-in-Done-clause-comes g c =
     c.in-Done.handed _ _ _ _ _ c.in-Done.is c.new-edits.ensures.items was.edits c.in_ok-refusal.ensures.edits c.from_vec.ensures c.in_ok-and_saved-in-Done.ensures in
     out-done (g.D.Store.held c.args.store.now) _ (Some c.args.state.now) c.args.command.now c.args.moment _ c.in-Done.handed.lines _ c.come_to.new.state _ _ _
     c.in_ok-refusal.ensures.held c.reply_of-in-Done.ensures handed c.in_ok-carry_out-in-Done.ensures.carried
+
+pub returns-in_ok-refusal_reply-in-Refused-clause-flagged : goal.returns-in_ok-refusal_reply-in-Refused-clause-flagged
+returns-in_ok-refusal_reply-in-Refused-clause-flagged g c = refused-flagged _ c.in-Refused.refusal c.in_ok-refusal_reply-in-Refused.ensures
+
+pub returns-in-Told-clause-dates : goal.returns-in-Told-clause-dates
+returns-in-Told-clause-dates g c =
+    subst HasDates (sym c.reply_of.ensures) (plain-dated c.in-Told.lines (told-plain c.in_ok-refusal.field-0 c.in-Told.lines c.in-Told.is c.in_ok-refusal.ensures.dates))
+
+pub returns-in-Told-clause-flagged : goal.returns-in-Told-clause-flagged
+returns-in-Told-clause-flagged g c = said-flagged _ c.in-Told.lines c.reply_of.ensures (told-plain c.in_ok-refusal.field-0 c.in-Told.lines c.in-Told.is c.in_ok-refusal.ensures.dates)
+
+pub returns-in_ok-carry_out-in-Done-clause-dates : goal.returns-in_ok-carry_out-in-Done-clause-dates
+returns-in_ok-carry_out-in-Done-clause-dates g c =
+    subst HasDates (sym c.reply_of-in-Done.ensures) (plain-dated c.in-Done.handed.lines (done-plain c.in_ok-refusal.field-0 c.in-Done.handed c.in-Done.is c.in_ok-refusal.ensures.dates))
+
+pub returns-in_ok-carry_out-in-Done-clause-flagged : goal.returns-in_ok-carry_out-in-Done-clause-flagged
+returns-in_ok-carry_out-in-Done-clause-flagged g c =
+    said-flagged _ c.in-Done.handed.lines c.reply_of-in-Done.ensures (done-plain c.in_ok-refusal.field-0 c.in-Done.handed c.in-Done.is c.in_ok-refusal.ensures.dates)
+
+pub returns-in_err-carry_out-in-Done-clause-untouched : goal.returns-in_err-carry_out-in-Done-clause-untouched
+returns-in_err-carry_out-in-Done-clause-untouched g c =
+    on-err _ c.from_residual-in_err-carry_out-in-Done.result (λ only. absurd (done-more c.args.command.now c.in_ok-refusal.field-0 c.in-Done.handed c.in-Done.is c.in_ok-refusal.ensures.more only))

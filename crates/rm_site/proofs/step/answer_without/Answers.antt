@@ -1,10 +1,14 @@
-use Rattle.std.proofs.Common.{◌≡◌, ◌∙◌, None, Some, ap, refl, sym}
+use Rattle.std.proofs.Common.{◌≡◌, ◌∙◌, None, Some, [], All, ap, refl, subst, sym, true, false}
+use Rattle.std.proofs.lemmas.List.Elements.{All-cons, All-nil}
 use Rattle.rm_machine.specs.Laws.{only_tells}
 use Rattle.rm_machine_laws.specs.Refused.{refusal_without}
-use Rattle.rm_site.proofs.Answering.{is-carried, is-halted, is-refused}
+use Rattle.rm_site.proofs.Answering.{is-carried, is-halted, is-refused, on-err}
 use Rattle.rm_site.proofs.Creating.{comes-refused, founded, founded-sound}
 use Rattle.rm_site.proofs.ComesOut.{out-done, out-refused}
 use Rattle.rm_site.proofs.Quiet.{not-quiet}
+use Rattle.rm_report.proofs.Plain.{refused-flagged, said-flagged}
+use Rattle.rm_report.specs.Reply.{IsPlain}
+use Rattle.rm_report.specs.declared.line.Line.TheVariants.{DatabaseAt}
 use Rattle.rm_site.proofs.step.answer_without.Goals as goal
 
 pub returns-in-Some-clause-step : goal.returns-in-Some-clause-step
@@ -50,3 +54,15 @@ returns-clause-comes g c =
     let handed = founded c.args.command.now k.dbid k.threads k.scn c.args.moment k.is c.requires.command.0 (sym c.refusal_without.ensures ∙ c.in_default.is) c.requires.moment.last
     (g.D.Store.held c.args.store.now) c.in_ok-change.change c.in_ok-state.state c.in_ok-lines.lines was.objects was.edits was.removes c.in_ok-state.ensures c.in_ok-lines.ensures in
     out-done _ _ None c.args.command.now c.args.moment _ c.in_ok-lines.lines c.in_ok-change.change c.in_ok-state.state _ _ _ refl c.reply_of.ensures handed c.in_ok-carry_out.ensures.carried
+
+pub returns-in-Some-clause-flagged : goal.returns-in-Some-clause-flagged
+returns-in-Some-clause-flagged g c = refused-flagged _ c.in-Some.refusal c.in_ok-refusal_reply.ensures
+
+pub returns-clause-flagged : goal.returns-clause-flagged
+returns-clause-flagged g c =
+    let k = c.in-CreateDatabase in
+    said-flagged _ c.in_ok-lines.lines c.reply_of.ensures (subst (All IsPlain) (sym c.in_ok-lines.ensures) (All-cons IsPlain (DatabaseAt k.dbid k.scn) [] tt (All-nil IsPlain)))
+
+pub returns-in_err-carry_out-clause-untouched : goal.returns-in_err-carry_out-clause-untouched
+returns-in_err-carry_out-clause-untouched g c =
+    on-err _ c.from_residual-in_err-carry_out.result (λ only. absurd (let both : true ≡ false = sym only ∙ ap only_tells c.in-CreateDatabase.is in cc))

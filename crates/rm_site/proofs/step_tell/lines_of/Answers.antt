@@ -2,7 +2,7 @@ use Rattle.std.proofs.Common.{Option, Some, List, All, IfOk, refl, subst, sym}
 use Rattle.std.proofs.lemmas.Result.{IfOk-weaker}
 use Rattle.rm_base.specs.Store.{Held}
 use Rattle.rm_machine.specs.Hands.{Tells}
-use Rattle.rm_report.specs.Reply.{LineHasDate}
+use Rattle.rm_report.specs.Reply.{IsPlain}
 use Rattle.rm_report.specs.declared.line.Line.{Line}
 use Rattle.rm_lang_statement.specs.declared.command.Command.{Command}
 use Rattle.rm_lang_statement.specs.declared.command.Command.TheVariants.{Dump, ListIncarnation}
@@ -16,7 +16,7 @@ returns-in-Dump-clause-tells c =
 
 pub returns-in-Dump-clause-dates : goal.returns-in-Dump-clause-dates
 returns-in-Dump-clause-dates c =
-    IfOk-weaker c.dump.result (λ (lines : List Line). (held : Option Held) → Tells held c.args.state.now (Dump c.in-Dump.file c.in-Dump.block) lines) (All LineHasDate)
+    IfOk-weaker c.dump.result (λ (lines : List Line). (held : Option Held) → Tells held c.args.state.now (Dump c.in-Dump.file c.in-Dump.block) lines) (All IsPlain)
     (λ lines tells. dump-dated c.in-Dump.file c.in-Dump.block c.args.state.now lines nothing (tells (Some nothing) nothing refl)) c.dump.ensures.tells
 
 pub returns-in-ListIncarnation-clause-tells : goal.returns-in-ListIncarnation-clause-tells
@@ -25,5 +25,5 @@ returns-in-ListIncarnation-clause-tells c =
 
 pub returns-in-ListIncarnation-clause-dates : goal.returns-in-ListIncarnation-clause-dates
 returns-in-ListIncarnation-clause-dates c =
-    IfOk-weaker c.list_incarnation.result (λ (lines : List Line). (held : Option Held) → Tells held c.args.state.now ListIncarnation lines) (All LineHasDate)
+    IfOk-weaker c.list_incarnation.result (λ (lines : List Line). (held : Option Held) → Tells held c.args.state.now ListIncarnation lines) (All IsPlain)
     (λ lines tells. list-dated c.args.state.now lines nothing (tells (Some nothing) nothing refl)) c.list_incarnation.ensures.tells

@@ -1,10 +1,13 @@
-use Rattle.std.proofs.Common.{◌∙◌, ap, arith, length, sym}
+use Rattle.std.proofs.Common.{◌∙◌, List, ap, arith, length, sym, true}
 use Rattle.rm_lang_statement.specs.IsCommand.{is_inner}
 use Rattle.rm_tool.specs.Built.{is_built_inner}
 use Rattle.rm_tool.specs.Quiet.{only_tells_inner}
-use Rattle.rm_tool.proofs.Blocks.{inside-done, inside-more, inside-refused, inside-all, others-pass, dates-added}
-use Rattle.rm_tool.proofs.Quiet.{first-passes, untouched-then}
-use Rattle.rm_tool.proofs.Statements.{on-err}
+use Rattle.rm_tool.proofs.Blocks.{inside-done, inside-more, inside-refused, inside-all, others-pass, all-added}
+use Rattle.rm_report.proofs.Plain.{plain-dated, plain-lines, refused-behind}
+use Rattle.rm_report.specs.Reply.{IsPlain, LineHasDate}
+use Rattle.rm_report.specs.declared.line.Line.{Line}
+use Rattle.rm_tool.proofs.Quiet.{first-passes, same-then, untouched-then}
+use Rattle.rm_tool.proofs.Statements.{err-map, on-err}
 use Rattle.rm_tool.proofs.block.serve_block.Goals as goal
 
 pub returns-in_err-add_lines-clause-stopped : goal.returns-in_err-add_lines-clause-stopped
@@ -25,7 +28,12 @@ returns-then-reply-clause-quiet g c = λ all.
 
 pub returns-then-reply-clause-dates : goal.returns-then-reply-clause-dates
 returns-then-reply-clause-dates g c =
-    dates-added c.loop-inner.lines c.in_ok-reply.reply.lines c.add_lines.new.lines c.in_ok-add_lines.ensures c.loop-inner.invariant.dates c.in_ok-reply.ensures.dates
+    all-added LineHasDate c.loop-inner.lines c.in_ok-reply.reply.lines c.add_lines.new.lines c.in_ok-add_lines.ensures (plain-dated c.loop-inner.lines c.loop-inner.invariant.plain)
+    c.in_ok-reply.ensures.dates
+
+pub returns-then-reply-clause-flagged : goal.returns-then-reply-clause-flagged
+returns-then-reply-clause-flagged g c =
+    refused-behind c.loop-inner.lines c.in_ok-reply.reply _ c.in_ok-reply.ensures.flagged c.if-reply.true (ap (λ (ls : List Line). record { lines = ls; refused = true }) c.in_ok-add_lines.ensures)
 
 pub loop-inner-preserved : goal.loop-inner-preserved
 loop-inner-preserved g c =
@@ -42,7 +50,9 @@ loop-inner-preserved g c =
       grammar = others-pass is_inner _ _ c.in-Some.ensures.steps.0 c.loop-inner.invariant.grammar;
       built = others-pass is_built_inner _ _ c.in-Some.ensures.steps.0 c.loop-inner.invariant.built;
       count = let was = c.loop-inner.invariant.count in let gone = c.in-Some.ensures.steps.1 in let short = ap length c.in-Some.ensures.steps.0 in omega arith;
-      dates = dates-added c.loop-inner.lines c.in_ok-reply.reply.lines c.add_lines.new.lines c.in_ok-add_lines.ensures c.loop-inner.invariant.dates done.dates;
+      plain =
+          all-added IsPlain c.loop-inner.lines c.in_ok-reply.reply.lines c.add_lines.new.lines c.in_ok-add_lines.ensures c.loop-inner.invariant.plain
+          (plain-lines c.in_ok-reply.reply done.flagged c.if-reply.false);
       store = omega (arith, c.loop-inner.invariant.store, c.serve_inner.ensures.store_never_falls);
       keeper = omega (arith, c.loop-inner.invariant.keeper, c.serve_inner.ensures.keeper_never_falls);
     }
@@ -52,3 +62,23 @@ returns-clause-steps g c = λ m stands holds tells. inside-all (c.loop-inner.inv
 
 pub returns-clause-quiet : goal.returns-clause-quiet
 returns-clause-quiet g c = λ all. (c.loop-inner.invariant.quiet all).1
+
+pub returns-clause-dates : goal.returns-clause-dates
+returns-clause-dates g c = plain-dated c.loop-inner.lines c.loop-inner.invariant.plain
+
+pub returns-clause-flagged : goal.returns-clause-flagged
+returns-clause-flagged g c = c.loop-inner.invariant.plain
+
+pub returns-in_err-reply-clause-untouched : goal.returns-in_err-reply-clause-untouched
+returns-in_err-reply-clause-untouched g c =
+    on-err _ c.from_residual.result
+    (λ all.
+    let was = c.loop-inner.invariant.quiet all in
+    same-then was.1.0 (c.in_err-reply.ensures.untouched (first-passes only_tells_inner _ _ c.in-Some.ensures.steps.0 was.0)))
+
+pub returns-in_err-add_lines-clause-untouched : goal.returns-in_err-add_lines-clause-untouched
+returns-in_err-add_lines-clause-untouched g c =
+    on-err _ c.from_residual-in_err-add_lines.result
+    (λ all.
+    let was = c.loop-inner.invariant.quiet all in
+    (untouched-then was.1 (c.in_ok-reply.ensures.quiet (first-passes only_tells_inner _ _ c.in-Some.ensures.steps.0 was.0))).0)

@@ -1,7 +1,7 @@
 use Rattle.std.proofs.Common.{◌≡◌, ◌≤◌, All, IsTrue, true, length}
 use Rattle.std.specs.List.{list_all}
 use Rattle.std.specs.Vec.Iter.{into_iter_items, into_iter_len}
-use Rattle.rm_report.specs.Reply.{LineHasDate}
+use Rattle.rm_report.specs.Reply.{IsPlain}
 use Rattle.rm_lang_statement.specs.IsCommand.{is_inner}
 use Rattle.rm_site.specs.Untouched.{IsUntouched}
 use Rattle.rm_tool.specs.Block.{AreSet}
@@ -22,7 +22,7 @@ invariant-loop-inner g l =
       grammar : IsTrue (list_all is_inner (into_iter_items l.inner-iterator));
       built : IsTrue (list_all is_built_inner (into_iter_items l.inner-iterator));
       count : into_iter_len l.inner-iterator ≡ length (into_iter_items l.inner-iterator);
-      dates : All LineHasDate l.lines;
+      plain : All IsPlain l.lines;
       store : g.D.Store.faults l.fn.store ≤ g.D.Store.faults l.store;
       keeper : g.C.Keeper.faults l.fn.keeper ≤ g.C.Keeper.faults l.keeper;
     }

@@ -1,4 +1,4 @@
-use Rattle.std.proofs.Common.{◌≡◌, sym, subst, true}
+use Rattle.std.proofs.Common.{◌≡◌, refl, sym, subst, true}
 use Rattle.std.proofs.lemmas.Result.{IfOk-weaker}
 use Rattle.rm_machine.specs.Built.{is_built}
 use Rattle.rm_lang_statement.specs.IsCommand.{is_command, is_inner}
@@ -6,10 +6,11 @@ use Rattle.rm_lang_statement.specs.declared.command.Command.{Command}
 use Rattle.rm_lang_statement.specs.declared.command.Inner.{Inner}
 use Rattle.rm_tool.specs.Built.{is_built_inner}
 use Rattle.rm_tool.specs.Quiet.{only_tells_inner}
-use Rattle.rm_tool.proofs.Blocks.{inner-untouched}
-use Rattle.rm_tool.proofs.Quiet.{quiet-with}
+use Rattle.rm_report.specs.Reply.{IsFlagged}
+use Rattle.rm_tool.proofs.Blocks.{channel-flagged, inner-untouched, set-flagged}
+use Rattle.rm_tool.proofs.Quiet.{quiet-with, tells-so}
 use Rattle.rm_tool.proofs.Setting.{built_with, command_with}
-use Rattle.rm_tool.proofs.Statements.{on-err}
+use Rattle.rm_tool.proofs.Statements.{err-map, on-err}
 use Rattle.rm_tool.proofs.block.serve_inner.Goals as goal
 
 pub returns-in_err-command-in-Plain-clause-stopped : goal.returns-in_err-command-in-Plain-clause-stopped
@@ -39,3 +40,22 @@ returns-in_ok-command-in-Plain-clause-quiet g c =
     (λ reply quiet tells.
     let own = subst (λ (y : Inner). only_tells_inner y ≡ true) c.in-Plain.is tells in
     quiet (quiet-with c.args.settings.now.until c.in-Plain.command _ reply c.in_ok-command-in-Plain.ensures own)) c.step.ensures.quiet
+
+pub returns-in_err-command-in-Plain-clause-untouched : goal.returns-in_err-command-in-Plain-clause-untouched
+returns-in_err-command-in-Plain-clause-untouched g c = on-err _ c.from_residual.result (λ tells. (refl, refl))
+
+pub returns-in_ok-command-in-Plain-clause-untouched : goal.returns-in_ok-command-in-Plain-clause-untouched
+returns-in_ok-command-in-Plain-clause-untouched g c =
+    err-map _ _
+    (λ same tells.
+    let own = subst (λ (y : Inner). only_tells_inner y ≡ true) c.in-Plain.is tells in
+    same (tells-so c.args.settings.now.until c.in-Plain.command _ c.in_ok-command-in-Plain.ensures own)) c.step.result c.step.ensures.untouched
+
+pub returns-in_err-set_reply-in-SetUntil-clause-untouched : goal.returns-in_err-set_reply-in-SetUntil-clause-untouched
+returns-in_err-set_reply-in-SetUntil-clause-untouched g c = on-err _ c.from_residual-in_err-set_reply-in-SetUntil.result (λ tells. (refl, refl))
+
+pub returns-in_err-reply-in-AllocateChannel-clause-untouched : goal.returns-in_err-reply-in-AllocateChannel-clause-untouched
+returns-in_err-reply-in-AllocateChannel-clause-untouched g c = on-err _ c.from_residual-in_err-reply-in-AllocateChannel.result (λ tells. (refl, refl))
+
+pub returns-in_ok-set_reply-in-SetUntil-clause-flagged : goal.returns-in_ok-set_reply-in-SetUntil-clause-flagged
+returns-in_ok-set_reply-in-SetUntil-clause-flagged g c = subst IsFlagged (sym c.in_ok-set_reply-in-SetUntil.ensures) (set-flagged c.args.site.now.state)

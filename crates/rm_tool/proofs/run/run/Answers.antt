@@ -100,6 +100,11 @@ returns-clause-statuses g c = (7, lit< tt, refl)
 pub returns-in-NoMemory-clause-statuses : goal.returns-in-NoMemory-clause-statuses
 returns-in-NoMemory-clause-statuses g c = (7, lit< tt, refl)
 
+pub returns-in-Err-BadRecord-clause-bad_read : goal.returns-in-Err-BadRecord-clause-bad_read
+returns-in-Err-BadRecord-clause-bad_read g c = λ is.
+    let read = c.in-Ok-read_all.ensures in
+    (c.in-Ok-read_all.script.items, record { taken = read.taken; whole = read.whole })
+
 pub returns-in-Err-Failed-clause-bad_only : goal.returns-in-Err-Failed-clause-bad_only
 returns-in-Err-Failed-clause-bad_only g c = λ rs words counted few is some. (2, lit< tt, refl)
 

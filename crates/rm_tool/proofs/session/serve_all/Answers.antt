@@ -48,7 +48,7 @@ returns-in_err-write_all-clause-sink g c = λ is.
     let ss = c.args.statements.now in
     let i = c.loop-line.line-index in
     let there = at-hand ss i c.loop-line-item.result c.as_slice.result.now c.loop-line-test.true c.loop-line-item.is c.as_slice.ensures in
-    let reached = progress-reached ss i there c.loop-line.invariant.progress c.in_ok-reply.ensures.served in
+    let reached = progress-reached ss i there c.loop-line.invariant.progress c.in_ok-reply.ensures.served c.in_ok-reply.ensures.flagged in
     reached-ends ss (i + 1) (omega (arith, c.loop-line-test.true)) reached
     (subst (WritesFront (told c.loop-line.sink) (told c.write_all.new.sink)) (c.as_slice-in-loop-line.ensures ∙ c.in_ok-bytes.ensures) c.in_err-write_all.ensures.prefix)
 
@@ -60,7 +60,7 @@ loop-line-preserved g c =
     let there = at-hand ss i c.loop-line-item.result c.as_slice.result.now c.loop-line-test.true c.loop-line-item.is c.as_slice.ensures in
     let grows = subst (Appends (told c.loop-line.sink) (told c.write_all.new.sink)) (c.as_slice-in-loop-line.ensures ∙ c.in_ok-bytes.ensures) c.in_ok-write_all.ensures.ok in
     record {
-      progress = reached-more (take (i + 1) ss) (progress-reached ss i there c.loop-line.invariant.progress c.in_ok-reply.ensures.served) grows;
+      progress = reached-more (take (i + 1) ss) (progress-reached ss i there c.loop-line.invariant.progress c.in_ok-reply.ensures.served c.in_ok-reply.ensures.flagged) grows;
       live = c.in_ok-reply.ensures.live;
       sink = omega (arith, c.loop-line.invariant.sink, c.write_all.ensures.never_falls);
       store = omega (arith, c.loop-line.invariant.store, c.serve.ensures.store_never_falls);
