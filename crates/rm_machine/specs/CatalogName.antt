@@ -30,7 +30,7 @@ use Rattle.rm_machine.specs.declared.state.State.{State}
 -- the name is one of a log, a piece or an image copy of this id
 pub record IsNamed (name : List ℕ) (id : ℕ) : Type 0 where
   pub number : (1 ≤ id) × (id < 4294967295)
-  pub name : (name ≡ log_name id) ⊎ (name ≡ piece_name false id) ⊎ (name ≡ piece_name true id)
+  pub is : (name ≡ log_name id) ⊎ (name ≡ piece_name false id) ⊎ (name ≡ piece_name true id)
 
 -- the id that a name tells, 0 where it is of no such form
 pub data TellsId (name : List ℕ) : ℕ → Type 0 where
@@ -95,7 +95,7 @@ Obeys s (found_piece copy id a) =
 
 -- this stands under the name: its bytes are its spelling, it is of the database, and it can have a record
 pub record IsFound (s : State) (held : Held) (name : List ℕ) (x : Found) : Type 0 where
-  pub name : name ≡ name_of x
+  pub is : name ≡ name_of x
   pub number : (1 ≤ id_of x) × (id_of x < 4294967295)
   pub stands : held name ≡ Some (spelling_of (artefact_of x))
   pub valid : IsValidArtefact (artefact_of x)

@@ -8,6 +8,7 @@ pub mod BackupMarks
 pub mod Backups
 pub mod BranchesSound
 pub mod Branching
+pub mod Cataloguing
 mod Contents
 pub mod Copies
 pub mod Deeds

@@ -15,8 +15,9 @@ use Rattle.rm_report.specs.Reply.{refused_by, said}
 use Rattle.rm_report.specs.declared.line.Line.{Line}
 use Rattle.rm_report.specs.declared.line.Reply.{Reply}
 use Rattle.rm_machine.specs.Effect.{Effect, LeavesObjects, Outcome, done, refused, told}
+use Rattle.rm_machine.specs.Honest.{IsHonest}
 use Rattle.rm_machine.specs.Laws.{LeadsOn, StaysSound, TellsOn}
-use Rattle.rm_machine.specs.Machine.{DigestsTell, IsBorneOut, IsSoundBy, IsSoundMachine, Machine}
+use Rattle.rm_machine.specs.Machine.{IsBorneOut, IsSoundBy, IsSoundMachine, Machine}
 use Rattle.rm_machine.specs.Rest.{HaveParts}
 use Rattle.rm_machine.specs.declared.state.State.{State}
 use Rattle.rm_machine.specs.State.{at_moment}
@@ -36,7 +37,7 @@ acts_on (Some s) moment = Some (at_moment s moment)
 abbrev pub LeadsFrom : Option State → Command → Type 0
 LeadsFrom o c =
     (m : Machine) (moment : ℕ) (lines : List Line) (effect : Effect) (t : State) (after : Held)
-    → IsStatement c → m.state ≡ o → IsSoundMachine m → DigestsTell m → IsMomentIn o moment
+    → IsStatement c → m.state ≡ o → IsSoundMachine m → IsHonest m c → IsMomentIn o moment
     → IsOutcomeIn o m.objects c moment (done lines effect t) → LeavesObjects (and_drops o effect) m.objects after
     → (n : Machine) × StepBy (acts_on o moment) m c (done lines effect t) (said lines) n × (n.objects ≡ after) × IsSoundMachine n
 
@@ -84,7 +85,7 @@ pub record IsFinished (m : Machine) (c : Command) (moment : ℕ) (lines : List L
 
 module _ (c : Command) (law : LeadsOn c) (stays : StaysSound c) (held : Option Held) (kept : Option (List Record)) (o : Option State) (moment : ℕ) (lines : List Line) (x : Commit) (t : State)
     (well : IsStatement c) (at : IsMomentIn o moment) (handed : IsHanded held o c moment lines x t) where
-  pub finished : (m : Machine) → m.state ≡ o → Holds held kept m → DigestsTell m → (put objects : Held) → HasPuts x.objects m.objects put → HasRemoves x.removes put objects
+  pub finished : (m : Machine) → m.state ≡ o → Holds held kept m → IsHonest m c → (put objects : Held) → HasPuts x.objects m.objects put → HasRemoves x.removes put objects
       → IsFinished m c moment lines t objects
   finished m is holds tell put objects puts removes =
       let comes = handed.comes m.objects holds.store in

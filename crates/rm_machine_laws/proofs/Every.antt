@@ -1,13 +1,14 @@
 -- The laws of every statement. One that is not in the machine yet comes to nothing.
 use Rattle.std.proofs.Common.{◌≡◌, true, refl}
 use Rattle.rm_lang_statement.specs.declared.command.Command.{Command}
-use Rattle.rm_lang_statement.specs.declared.command.Command.TheVariants.{ArchiveLogCurrent, Backup, BackupLogs, ChangeBackup, CreateDatabase, CreateDatafile, Crosscheck, Cut, Damage, DeleteBackup, DeleteExpired, DeleteObsolete, Dump, ListArchived, ListBackup, ListCopy, ListIncarnation, LoseDatafile, LoseLog, Mount, OpenPlain, OpenResetlogs, Parallelism, Preview, Recover, RecoverTest, Remove, Rename, ReportNeedBackup, ReportObsolete, ReportSchema, ResetDatabase, Restore, Retention, ShowAll, SwitchLogfile, ValidateAll, Write, RecoverCopy}
+use Rattle.rm_lang_statement.specs.declared.command.Command.TheVariants.{ArchiveLogCurrent, Backup, BackupLogs, CatalogName, ChangeBackup, CreateDatabase, CreateDatafile, Crosscheck, Cut, Damage, DeleteBackup, DeleteExpired, DeleteObsolete, Dump, ListArchived, ListBackup, ListCopy, ListIncarnation, LoseDatafile, LoseLog, Mount, OpenPlain, OpenResetlogs, Parallelism, Preview, Recover, RecoverTest, Remove, Rename, ReportNeedBackup, ReportObsolete, ReportSchema, ResetDatabase, Restore, Retention, ShowAll, SwitchLogfile, ValidateAll, Write, RecoverCopy}
 use Rattle.rm_machine.specs.Laws.{LeadsOn, TellsOn, only_tells}
 use Rattle.rm_machine_laws.proofs.AddingDatafile.{create-on, create-stays}
 use Rattle.rm_machine_laws.proofs.ArchivingAll.{all-on, all-stays}
 use Rattle.rm_machine_laws.proofs.BackingUp.{backup-on, backup-stays}
 use Rattle.rm_machine_laws.proofs.BackingUpLogs.{back_logs-on, back_logs-stays}
 use Rattle.rm_machine_laws.proofs.Branching.{resets-on, resets-stays}
+use Rattle.rm_machine_laws.proofs.Cataloguing.{catalog-leads, catalog-loose, catalog-roomy, catalog-stays}
 use Rattle.rm_machine_laws.proofs.Choosing.{choose-on, choose-stays}
 use Rattle.rm_machine_laws.proofs.Deleting.{delete-on, delete-stays}
 use Rattle.rm_machine_laws.proofs.DeletingObsolete.{obsolete-on, obsolete-stays}
@@ -88,6 +89,7 @@ every (DeleteExpired class) = lawful (DeleteExpired class) (expired-on class) (e
 every DeleteObsolete = lawful DeleteObsolete obsolete-on obsolete-stays obsolete-loose obsolete-roomy
 every (Retention form) = lawful (Retention form) (retention-on form) (retention-stays form) (retention-loose form) (retention-roomy form)
 every (Parallelism channels) = lawful (Parallelism channels) (parallelism-on channels) (parallelism-stays channels) (parallelism-loose channels) (parallelism-roomy channels)
+every (CatalogName name) = record { leads_on = catalog-leads name; stays_by = catalog-stays name; loose = catalog-loose name; roomy = catalog-roomy name }
 every (LoseDatafile file) = lawful (LoseDatafile file) (lose-on file) (lose-stays file) (lose-loose file) (lose-roomy file)
 every (LoseLog thread) = lawful (LoseLog thread) (lose_log-on thread) (lose_log-stays thread) (lose_log-loose thread) (lose_log-roomy thread)
 every (Remove name) = lawful (Remove name) (remove-on name) (remove-stays name) (remove-loose name) (remove-roomy name)

@@ -7,12 +7,13 @@ use Rattle.rm_machine.specs.Effect.{Effect, LeavesObjects, Made, done, told}
 use Rattle.rm_lang_statement.specs.declared.command.Command.{Command}
 use Rattle.rm_lang_statement.specs.declared.command.Command.TheVariants.{DeleteObsolete, Recover}
 use Rattle.rm_report.specs.declared.line.Line.{Line}
+use Rattle.rm_machine.specs.Honest.{IsHonest}
 use Rattle.rm_machine.specs.Laws.{LeadsOn, StaysSound, TellsOn}
 use Rattle.rm_machine.specs.Machine.{Machine, IsSoundBy, IsBorneOut, DigestsTellFor, TellBy}
 use Rattle.rm_machine.specs.Sound.{IsSound}
 use Rattle.rm_machine.specs.declared.state.State.{State}
 use Rattle.rm_machine.specs.State.{ledger, at_moment}
-use Rattle.rm_machine.specs.Step.{IsStatement, IsDone, IsOutcomeBy, Means, and_drops, names_in, refusal_of}
+use Rattle.rm_machine.specs.Step.{IsStatement, IsDone, IsOutcome, IsOutcomeBy, Means, and_drops, names_in, refusal_of}
 use Rattle.rm_machine_laws.proofs.Beside.{safe-beside}
 use Rattle.rm_machine_code.proofs.Dropping.{IsNoSite}
 use Rattle.rm_machine_laws.proofs.Dropping.{leaves-first, left_by, stand-beyond, stays-beyond}
@@ -51,22 +52,40 @@ means-beside (Recover until) s h held said e t after last same means = means
 means-beside DeleteObsolete s h held said e t after last same means = safe-beside (ledger s).base.policy s held t after last same means
 means-beside _ s h held said e t after last same means = tt
 
-pub leads : (c : Command) → LeadsOnBy c → LeadsOn c
-leads c law m s moment said e t after well is sound tell at goes effect =
+-- the same of a statement of which more is asked: this of its state, of the objects, and of what was ever made
+abbrev pub LeadsOnAsking : Command → (State → Held → List Made → Type 0) → Type 0
+LeadsOnAsking c Asks =
+    (s : State) (h : List Change) (objects : Held) (made : List Made) (touched : List (List ℕ)) (said : List Line) (e : Effect) (t : State) (after : Held)
+    → IsStatement c → IsBorneOut s h objects made touched → DigestsTellFor objects made touched (ledger s) → Asks s objects made
+    → refusal_of s c ≡ None → IsDone s objects c (done said e t) → LeavesObjects e objects after
+    → ShownBy c (IsBorneOut t (h ++ e.changes) after (made ++ e.made) (names_in c ++ touched)) (Means (Some s) h objects c (done said e t) after)
+
+-- it is so in an honest world
+abbrev pub IsGiven : Command → (State → Held → List Made → Type 0) → Type 0
+IsGiven c Asks =
+    (m : Machine) (s : State) (moment : ℕ) (said : List Line) (e : Effect) (t : State)
+    → IsHonest m c → m.state ≡ Some s → IsOutcome (at_moment s moment) m.objects c (done said e t) → Asks (at_moment s moment) m.objects m.made
+
+pub leads-asking : (c : Command) (Asks : State → Held → List Made → Type 0) → IsGiven c Asks → LeadsOnAsking c Asks → LeadsOn c
+leads-asking c Asks given law m s moment said e t after well is sound honest at goes effect =
     let was : IsBorneOut s m.history m.objects m.made m.touched = subst (λ o. IsSoundBy o m.history m.objects m.made m.touched) is sound in
     let begun : State = at_moment s moment in
     let stands : IsBorneOut begun m.history m.objects m.made m.touched = borne-later s m.history m.objects m.objects m.made m.touched m.touched moment was at (stand-same m.objects m.objects m.touched (ledger s) (ledger s) (λ n. refl)) in
-    let told : DigestsTellFor m.objects m.made m.touched (ledger s) = subst (λ o. TellBy o m.objects m.made m.touched) is tell in
+    let told : DigestsTellFor m.objects m.made m.touched (ledger s) = subst (λ o. TellBy o m.objects m.made m.touched) is honest.digests in
     let tells : DigestsTellFor m.objects m.made m.touched (ledger begun) = record { logs = told.logs; pieces = told.pieces } in
     let both = done-by (refusal_of begun c) begun m.objects c said e t goes in
     let n : Machine = record { state = Some t; history = m.history ++ e.changes; objects = after; made = m.made ++ e.made; touched = names_in c ++ m.touched } in
     let first : Held = left_by s e m.objects after effect in
     let on = shown c begun m.history m.objects said e t first (IsBorneOut t n.history first n.made n.touched)
-    (law begun m.history m.objects m.made m.touched said e t first well stands tells both.0 both.1 (leaves-first s e m.objects after effect)) in
+    (law begun m.history m.objects m.made m.touched said e t first well stands tells (given m s moment said e t honest is goes) both.0 both.1 (leaves-first s e m.objects after effect)) in
     let borne = borne-beside t n.history first after n.made n.touched n.touched on.0 (stand-beyond s e m.objects after effect n.touched (ledger t)) in
     let leaves : LeavesObjects (and_drops m.state e) m.objects after = subst (λ o. LeavesObjects (and_drops o e) m.objects after) (sym is) effect in
     let means : Means (Some begun) m.history m.objects c (done said e t) after = means-beside c begun m.history m.objects said e t first after (stays-beyond s e m.objects after effect) on.1 in
     (n, (refl, record { state = refl; history = refl; objects = leaves; made = refl; touched = refl }, means), refl, borne)
+
+-- of each other statement no more is asked
+pub leads : (c : Command) → LeadsOnBy c → LeadsOn c
+leads c law = leads-asking c (λ s objects made. Unit {0}) (λ m s moment said e t honest is goes. tt) (λ s h objects made touched said e t after well stands tells more. law s h objects made touched said e t after well stands tells)
 
 -- what tells was not refused
 told-by : (r : Option Refusal) (s : State) (held : Held) (c : Command) (lines : List Line) → IsOutcomeBy r s held c (told lines) → (r ≡ None) × IsDone s held c (told lines)
@@ -81,11 +100,11 @@ TellsOnBy c =
     → refusal_of s c ≡ None → IsDone s objects c (told lines) → Means (Some s) h objects c (told lines) objects
 
 pub tells : (c : Command) → TellsOnBy c → TellsOn c
-tells c law m s moment lines well is sound tell at goes =
+tells c law m s moment lines well is sound honest at goes =
     let was : IsBorneOut s m.history m.objects m.made m.touched = subst (λ o. IsSoundBy o m.history m.objects m.made m.touched) is sound in
     let begun : State = at_moment s moment in
     let stands : IsBorneOut begun m.history m.objects m.made m.touched = borne-later s m.history m.objects m.objects m.made m.touched m.touched moment was at (stand-same m.objects m.objects m.touched (ledger s) (ledger s) (λ n. refl)) in
-    let known : DigestsTellFor m.objects m.made m.touched (ledger s) = subst (λ o. TellBy o m.objects m.made m.touched) is tell in
+    let known : DigestsTellFor m.objects m.made m.touched (ledger s) = subst (λ o. TellBy o m.objects m.made m.touched) is honest.digests in
     let knows : DigestsTellFor m.objects m.made m.touched (ledger begun) = record { logs = known.logs; pieces = known.pieces } in
     let both = told-by (refusal_of begun c) begun m.objects c lines goes in
     (refl, refl, law begun m.history m.objects m.made m.touched lines well stands knows both.0 both.1)

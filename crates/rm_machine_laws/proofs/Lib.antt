@@ -8,6 +8,7 @@ mod BackingUpLogs
 mod Beside
 mod BranchesSound
 mod Branching
+mod Cataloguing
 pub mod Carried
 mod Choosing
 mod Cleared

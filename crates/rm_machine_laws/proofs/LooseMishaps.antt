@@ -22,7 +22,12 @@ one-named n name is = elim (cases_Bool (bytes_eq n name)) [
 ]
 
 removal-loose : (s t : State) (name : List ℕ) → IsLoose (Some s) (Remove name) (removal name) t
-removal-loose s t name = record { puts = λ n names named. absurd (false≢true named); parts = λ id named. absurd (false≢true named); removes = λ n names named. one-named n name named }
+removal-loose s t name = record {
+  puts = λ n names named. absurd (false≢true named);
+  low = λ n low named. absurd (false≢true named);
+  parts = λ id named. absurd (false≢true named);
+  removes = λ n names named. one-named n name named;
+}
 
 pub remove-loose : (name : List ℕ) → StaysLoose (Remove name)
 remove-loose name s held lines e t sound comes =
@@ -35,7 +40,12 @@ damage-loose name at s held lines e t sound comes =
     subst (λ x. IsLoose (Some s) (Damage name at) x t) by.1.effect (loose by.0)
   where
     loose : (bytes : List ℕ) → IsLoose (Some s) (Damage name at) (replacement name bytes) t
-    loose bytes = record { puts = λ n names named. one-named n name named; parts = λ id named. one-named (site_name id) name named; removes = λ n names named. absurd (false≢true named) }
+    loose bytes = record {
+      puts = λ n names named. one-named n name named;
+      low = λ n low named. one-named n name named;
+      parts = λ id named. one-named (site_name id) name named;
+      removes = λ n names named. absurd (false≢true named);
+    }
 
 pub cut-loose : (name : List ℕ) (to : ℕ) → StaysLoose (Cut name to)
 cut-loose name to s held lines e t sound comes =
@@ -43,7 +53,12 @@ cut-loose name to s held lines e t sound comes =
     subst (λ x. IsLoose (Some s) (Cut name to) x t) by.1.effect (loose by.0)
   where
     loose : (bytes : List ℕ) → IsLoose (Some s) (Cut name to) (replacement name bytes) t
-    loose bytes = record { puts = λ n names named. one-named n name named; parts = λ id named. one-named (site_name id) name named; removes = λ n names named. absurd (false≢true named) }
+    loose bytes = record {
+      puts = λ n names named. one-named n name named;
+      low = λ n low named. one-named n name named;
+      parts = λ id named. one-named (site_name id) name named;
+      removes = λ n names named. absurd (false≢true named);
+    }
 
 pub rename-loose : (old new : List ℕ) → StaysLoose (Rename old new)
 rename-loose old new s held lines e t sound comes =
@@ -53,6 +68,7 @@ rename-loose old new s held lines e t sound comes =
     loose : (bytes : List ℕ) → IsLoose (Some s) (Rename old new) (renaming old new bytes) t
     loose bytes = record {
       puts = λ n names named. behind old (new ∷ []) n (one-named n new named);
+      low = λ n low named. behind old (new ∷ []) n (one-named n new named);
       parts = λ id named. behind old (new ∷ []) (site_name id) (one-named (site_name id) new named);
       removes = λ n names named. Contains-append_left (old ∷ []) (new ∷ []) n (one-named n old named);
     }

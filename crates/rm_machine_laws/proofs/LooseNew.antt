@@ -1,5 +1,5 @@
 -- New objects bear no name of a record.
-use Rattle.std.proofs.Common.{◌≡◌, ◌≢◌, ◌≤◌, ◌+◌, ◌∙◌, ◌∷◌, ℕ, zero, suc, List, [], Option, Some, None, Bool, true, false, cond, refl, ap, sym, subst, arith, All}
+use Rattle.std.proofs.Common.{◌≡◌, ◌≢◌, ◌<◌, ◌≤◌, ◌+◌, ◌∙◌, ◌∷◌, inl, inr, ℕ, zero, suc, List, [], Option, Some, None, Bool, true, false, cond, refl, ap, sym, subst, arith, All}
 use Rattle.std.specs.Prelude.{IsSomeAnd}
 use Rattle.std.proofs.lemmas.List.Elements.{All-append, All-cons, All-nil}
 use Rattle.rm_commit.specs.declared.commit.Object.{Object}
@@ -8,7 +8,7 @@ use Rattle.rm_commit.proofs.Standing.{unnamed}
 use Rattle.rm_lang_statement.specs.declared.command.Command.{Command}
 use Rattle.rm_lang_statement.specs.declared.command.Command.TheVariants.{ArchiveLogCurrent, OpenResetlogs, SwitchLogfile}
 use Rattle.rm_evidence.specs.Names.{log_name, piece_name, site_name}
-use Rattle.rm_evidence.proofs.Names.{log-no-site, piece-no-site}
+use Rattle.rm_evidence.proofs.Names.{log-name-tells, log-no-piece, log-no-site, piece-name-tells, piece-no-site}
 use Rattle.rm_redo.specs.LogFormat.{spelling}
 use Rattle.rm_report.specs.declared.line.Line.{Line}
 use Rattle.rm_machine.specs.Archive.{after_all, after_thread, archiving, puts_from}
@@ -23,12 +23,13 @@ use Rattle.rm_machine_laws.proofs.ArchivingAll.{room}
 use Rattle.rm_machine_code.proofs.Branching.{can-reset}
 use Rattle.rm_machine_laws.proofs.NewObjects.{log-apart, piece-apart}
 use Rattle.rm_machine_laws.proofs.Switching.{CanSwitch, can-archive, can-switch}
-use Rattle.rm_machine_laws.specs.Loose.{IsLoose, IsNamedBy, StaysLoose, of_object, of_part}
+use Rattle.rm_machine_laws.specs.Loose.{IsLoose, IsLowIn, IsNamedBy, StaysLoose, of_object, of_part}
 use Rattle.rm_machine_laws.proofs.LooseQuiet.{loose-done, quiet-loose}
 
--- no record of the database names it, and it is no name of a part of a saved site
+-- no record of the database names it, its id is none that was given, and it is no name of a part of a saved site
 pub record IsNewName (s : State) (new : List ℕ) : Type 0 where
   pub names : (name : List ℕ) → IsNamedBy s name → name ≢ new
+  pub low : (name : List ℕ) → IsLowIn (Some s) name → name ≢ new
   pub parts : (id : ℕ) → site_name id ≢ new
 
 -- an id that is not drawn yet
@@ -38,15 +39,32 @@ pub record IsFree (s : State) (id : ℕ) : Type 0 where
 
 -- names of new ids are new
 pub new-log : (s : State) (id : ℕ) → IsSound s → IsFree s id → IsNewName s (log_name id)
-new-log s id sound free = record { names = apart; parts = λ part same. log-no-site id part (sym same) }
+new-log s id sound free = record { names = apart; low = above; parts = λ part same. log-no-site id part (sym same) }
   where
+    above : (name : List ℕ) → IsLowIn (Some s) name → name ≢ log_name id
+    above name (lower, of, below) same = elim of.is [
+      | inl log ↦ omega (arith, log-name-tells lower id (omega (arith, below, free.next, free.most)) (omega (arith, free.most)) (sym log ∙ same), below, free.next)
+      | inr (inl piece) ↦ log-no-piece id false lower (sym same ∙ piece)
+      | inr (inr copy) ↦ log-no-piece id true lower (sym same ∙ copy)
+    ]
+
     apart : (name : List ℕ) → IsNamedBy s name → name ≢ log_name id
     apart _ (of_object name names) same = log-apart (ledger s) id name sound.catalog.ledger free.next free.most names same
     apart _ (of_part p has) same = log-no-site id p.id (sym same)
 
 pub new-piece : (s : State) (copy : Bool) (id : ℕ) → IsSound s → IsFree s id → IsNewName s (piece_name copy id)
-new-piece s copy id sound free = record { names = apart; parts = λ part same. piece-no-site copy id part (sym same) }
+new-piece s copy id sound free = record { names = apart; low = above; parts = λ part same. piece-no-site copy id part (sym same) }
   where
+    other : (kind : Bool) (lower : ℕ) → lower < (ledger s).base.next_id → piece_name kind lower ≢ piece_name copy id
+    other kind lower below same = omega (arith, (piece-name-tells kind copy lower id (omega (arith, below, free.next, free.most)) (omega (arith, free.most)) same).1, below, free.next)
+
+    above : (name : List ℕ) → IsLowIn (Some s) name → name ≢ piece_name copy id
+    above name (lower, of, below) same = elim of.is [
+      | inl log ↦ log-no-piece lower copy id (sym log ∙ same)
+      | inr (inl piece) ↦ other false lower below (sym piece ∙ same)
+      | inr (inr image) ↦ other true lower below (sym image ∙ same)
+    ]
+
     apart : (name : List ℕ) → IsNamedBy s name → name ≢ piece_name copy id
     apart _ (of_object name names) same = piece-apart (ledger s) copy id name sound.catalog.ledger free.next free.most names same
     apart _ (of_part p has) same = piece-no-site copy id p.id (sym same)
@@ -61,6 +79,7 @@ none-named n xs apart named = let clash : false ≡ true = sym (unnamed name_of 
 pub loose-by : (s : State) (c : Command) (e : Effect) (t : State) → AreNew s e.puts → ((name : List ℕ) → IsNamedBy t name → ¬ (is_named itself e.removes name ≡ true)) → IsLoose (Some s) c e t
 loose-by s c e t new free = record {
   puts = λ name names named. absurd (none-named name e.puts (λ k d inside. (new k d inside).names name names) named);
+  low = λ name low named. absurd (none-named name e.puts (λ k d inside. (new k d inside).low name low) named);
   parts = λ id named. absurd (none-named (site_name id) e.puts (λ k d inside. (new k d inside).parts id) named);
   removes = λ name names named. absurd (free name names named);
 }

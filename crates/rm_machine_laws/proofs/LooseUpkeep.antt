@@ -35,6 +35,7 @@ goes-loose s c ids names lines said e t sound are is =
     let state : with_catalog s (without_all ids s.catalog) ≡ t = cc in
     subst (IsLoose (Some s) c e) state (subst (λ (x : Effect). IsLoose (Some s) c x (with_catalog s (without_all ids s.catalog))) effect (record {
       puts = λ name names named. absurd (false≢true named);
+      low = λ name low named. absurd (false≢true named);
       parts = λ part named. absurd (false≢true named);
       removes = removes;
     }))

@@ -109,7 +109,7 @@ asks-ids s is = search rules
 -- Statements that draw none
 
 -- what was not refused, and was done
-leaves : (c : Command) → ((s : State) (held : Held) (lines : List Line) (e : Effect) (t : State) → IsSound s → refusal_of s c ≡ None → IsDone s held c (done lines e t) → lacks_ids t 0 ≡ false) → LeavesIds c
+pub leaves : (c : Command) → ((s : State) (held : Held) (lines : List Line) (e : Effect) (t : State) → IsSound s → refusal_of s c ≡ None → IsDone s held c (done lines e t) → lacks_ids t 0 ≡ false) → LeavesIds c
 leaves c by s held lines e t sound comes =
     let both = done-by (refusal_of s c) s held c lines e t comes in
     by s held lines e t sound both.0 both.1

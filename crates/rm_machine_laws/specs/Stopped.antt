@@ -27,8 +27,8 @@ pub record Stopped (m : Machine) (c : Command) (moment : ℕ) (r : Rest) : Type 
   pub machine : Machine
   pub one : (machine ≡ m) ⊎ ((reply : Reply) × Step m c moment reply machine)
   pub left : IsLeft (names_in c) machine r
-  -- under an id that was given stands what stood there, or nothing any longer: what a stop left has a higher one
-  pub low : (name : List ℕ) → IsLowIn m.state name → Contains (names_in c) name ⊎ (r.objects name ≡ m.objects name) ⊎ (r.objects name ≡ None)
+  -- Under an id that was given stands what stood there, unless the statement takes it away: what else a stop left has a higher one.
+  pub low : (name : List ℕ) → IsLowIn m.state name → Contains (names_in c) name ⊎ (r.objects name ≡ m.objects name) ⊎ (machine.objects name ≡ None)
 
 -- so for whatever machine this database is of, where the world is honest
 abbrev pub StopsAt : Option Held → Option (List Record) → Option State → Command → ℕ → Option Held → Option (List Record) → Type 0
