@@ -1,5 +1,5 @@
 -- CATALOG 'name': an object of which no record tells gets one
-use Rattle.std.specs.Prelude.{ℕ, ◌≡◌, ◌⊎◌, ◌×◌, ◌+◌, ◌-◌, ◌<◌, ◌≤◌, max, if◌then◌else◌, Bool, false, Option, Some, None, MatchOption, List, [], ◌∷◌, codes, length, slice_get}
+use Rattle.std.specs.Prelude.{ℕ, ◌≡◌, ◌⊎◌, ◌+◌, ◌-◌, ◌<◌, ◌≤◌, max, if◌then◌else◌, Bool, true, false, Option, Some, None, MatchOption, List, [], ◌∷◌, codes, length, slice_get}
 use Rattle.std.specs.Option.{option_map_or}
 use Rattle.rm_base.specs.Store.{Held}
 use Rattle.rm_base.specs.declared.refusal.Limit.TheVariants.{Records, Bytes, ObjectIds}

@@ -1,5 +1,5 @@
 -- What is read of a name and of the object under it is exact.
-use Rattle.std.proofs.Common.{◌≡◌, ◌≢◌, ◌∙◌, ◌<◌, ◌≤◌, ◌++◌, ◌×◌, ◌^◌, inl, inr, ℕ, Bool, true, false, List, refl, ap, sym, subst, arith, codes, eqb, length, length-append, max, lit≤, Option, Some, None, ◌-◌}
+use Rattle.std.proofs.Common.{◌≡◌, ◌≢◌, ◌∙◌, ◌<◌, ◌≤◌, ◌++◌, ◌^◌, inl, inr, ℕ, Bool, true, false, List, refl, ap, sym, subst, arith, codes, eqb, length, length-append, max, lit≤, Option, Some, None, ◌-◌}
 use Rattle.std.specs.Prelude.{IfSome}
 use Rattle.std.specs.Fmt.{decimal}
 use Rattle.std.specs.List.{after_first, position_or_len}

@@ -1,5 +1,5 @@
 -- What is read of a name and of the object under it, and the record that it gets.
-use Rattle.std.specs.Prelude.{ℕ, ◌≡◌, ◌×◌, ◌+◌, ◌-◌, ◌<◌, ◌≤◌, max, if◌then◌else◌, Bool, true, false, Option, Some, None, List, codes, length, slice_get}
+use Rattle.std.specs.Prelude.{ℕ, ◌≡◌, ◌+◌, ◌-◌, ◌<◌, ◌≤◌, max, if◌then◌else◌, Bool, true, false, Option, Some, None, List, codes, length, slice_get}
 use Rattle.rm_base.specs.Numbers.{last_scn}
 use Rattle.rm_base.specs.Store.{Held}
 use Rattle.rm_base.specs.declared.kinds.Kind.{Kind}
