@@ -5,6 +5,7 @@ use Rattle.std.specs.Fmt.{decimal}
 use Rattle.std.specs.List.{after_first, position_or_len}
 use Rattle.std.proofs.lemmas.List.{length-set}
 use Rattle.std.proofs.lemmas.Option.{same_Some}
+use Rattle.sha2.specs.Sha256.{sha256}
 use Rattle.rm_base.specs.Store.{Held}
 use Rattle.rm_base.specs.declared.kinds.Kind.{Kind}
 use Rattle.rm_base.specs.declared.kinds.Kind.TheVariants.{Full, Level0, Level1, Place}
@@ -21,6 +22,7 @@ use Rattle.rm_machine.specs.Backup.{piece_entry}
 use Rattle.rm_machine.specs.CatalogName.{Found, IsFound, IsNamed, Obeys, artefact_of, found_log, found_piece, id_of, name_of}
 use Rattle.rm_machine.specs.Saved.{spelling_of}
 use Rattle.rm_machine.specs.State.{ledger, tree}
+use Rattle.rm_machine.specs.SwitchLogfile.{log_entry}
 use Rattle.rm_machine.specs.declared.state.State.{State}
 use Rattle.rm_piece.specs.declared.piece.Piece.{Piece}
 use Rattle.rm_piece.specs.Spelling.{body_of as piece_body, spelling as piece_spelling}
@@ -32,8 +34,9 @@ use Rattle.rm_redo.specs.declared.log_file.LogFile.{LogFile}
 use Rattle.rm_redo.specs.LogFormat.{IsLogFile, body_of as log_body, spelling as log_spelling}
 use Rattle.rm_redo.proofs.LogBodies.{length-body as length-log}
 use Rattle.rm_redo.proofs.LogFitting.{fits as log-fits, spelling_same as same-log}
-use Rattle.rm_step_upkeep.specs.Catalogued.{Finds, IsBackup, IsEntryOf, IsLogHere, IsOf, IsPieceHere, IsReadAs, ReadsAs, entry_of, id_in, name_by, named_of}
+use Rattle.rm_step_upkeep.specs.Catalogued.{Finds, IsBackup, IsEntryOf, IsLogHere, IsOf, IsPieceHere, IsReadAs, ReadsAs, id_in, name_by, named_of}
 use Rattle.rm_step_upkeep.specs.declared.finding.Entry.{Entry}
+use Rattle.rm_step_upkeep.specs.declared.finding.Entry.TheVariants as entry
 use Rattle.rm_step_upkeep.specs.declared.naming.Named.{Named}
 use Rattle.rm_step_upkeep.specs.declared.naming.Named.TheVariants as named
 
@@ -57,7 +60,7 @@ copy-digits : (ds : List ℕ) → HasDigits (codes "copy_" ++ ds) ds
 copy-digits ds = record { inside = omega (arith, length-append (codes "copy_") ds); behind = refl }
 
 pub named-digits : (name : List ℕ) (id : ℕ) → IsNamed name id → HasDigits name (decimal id)
-named-digits name id named = elim named.name [
+named-digits name id named = elim named.is [
   | inl of_log ↦ subst (λ (n : List ℕ). HasDigits n (decimal id)) (sym of_log) (log-digits (decimal id))
   | inr (inl of_piece) ↦ subst (λ (n : List ℕ). HasDigits n (decimal id)) (sym of_piece) (piece-digits (decimal id))
   | inr (inr of_copy) ↦ subst (λ (n : List ℕ). HasDigits n (decimal id)) (sym of_copy) (copy-digits (decimal id))
@@ -65,9 +68,9 @@ named-digits name id named = elim named.name [
 
 -- a name that is of something tells its id
 pub of-named : (name : List ℕ) (n : Named) → IsOf name n → IsNamed name (id_in n)
-of-named name (named.Log id) of = record { number = of.number; name = inl of.name }
-of-named name (named.Piece false id) of = record { number = of.number; name = inr (inl of.name) }
-of-named name (named.Piece true id) of = record { number = of.number; name = inr (inr of.name) }
+of-named name (named.Log id) of = record { number = of.number; is = inl of.is }
+of-named name (named.Piece false id) of = record { number = of.number; is = inr (inl of.is) }
+of-named name (named.Piece true id) of = record { number = of.number; is = inr (inr of.is) }
 
 -- what is found has the name and the id of what it is of
 named-name : (x : Found) → name_by (named_of x) ≡ name_of x
@@ -103,9 +106,13 @@ module _ (s : State) (id : ℕ) (a : LogFile) where
         size = omega (arith, length-log a (log-fits a valid), length-sealed (log_body a), valid.few);
       }
 
-  pub log-read : (bytes : List ℕ) (e : Entry) → IsLogFile a → bytes ≡ log_spelling a → IsLogHere s a → e ≡ entry_of s (found_log id a) → IsEntryOf s (named.Log id) bytes e
-  log-read bytes e valid spelled here is =
-      record { found = found_log id a; named = refl; read = record { spelled = spelled; valid = valid; dbid = here.dbid; obeys = log-obeys valid here }; is = is }
+  pub log-read : (bytes sha : List ℕ) → IsLogFile a → bytes ≡ log_spelling a → sha ≡ sha256 bytes → IsLogHere s a → IsEntryOf s (named.Log id) bytes (entry.Log (record (log_entry id a) { size = length bytes; sha = sha }))
+  log-read bytes sha valid spelled digest here = record {
+    found = found_log id a;
+    named = refl;
+    read = record { spelled = spelled; valid = valid; dbid = here.dbid; obeys = log-obeys valid here };
+    is = λ i. entry.Log (record (log_entry id a) { size = length (spelled i); sha = (digest ∙ ap sha256 spelled) i });
+  }
 
   log-here : (bytes : List ℕ) → IsReadAs s bytes (found_log id a) → IsLogHere s a
   log-here bytes read =
@@ -173,9 +180,13 @@ module _ (s : State) (copy : Bool) (id : ℕ) (a : Piece) where
         λ d is. here.of.blocks ∙ ap (λ (f : Datafile). f.blocks) (same_Some here.datafile d (sym here.is ∙ is)),
       )
 
-  pub piece-read : (bytes : List ℕ) (e : Entry) → IsPiece a → bytes ≡ piece_spelling a → IsPieceHere s copy a → e ≡ entry_of s (found_piece copy id a) → IsEntryOf s (named.Piece copy id) bytes e
-  piece-read bytes e valid spelled here is =
-      record { found = found_piece copy id a; named = refl; read = record { spelled = spelled; valid = valid; dbid = here.dbid; obeys = piece-obeys valid here }; is = is }
+  pub piece-read : (bytes sha : List ℕ) → IsPiece a → bytes ≡ piece_spelling a → sha ≡ sha256 bytes → IsPieceHere s copy a → IsEntryOf s (named.Piece copy id) bytes (entry.Piece (record its_entry { size = length bytes; sha = sha }))
+  piece-read bytes sha valid spelled digest here = record {
+    found = found_piece copy id a;
+    named = refl;
+    read = record { spelled = spelled; valid = valid; dbid = here.dbid; obeys = piece-obeys valid here };
+    is = λ i. entry.Piece (record its_entry { size = length (spelled i); sha = (digest ∙ ap sha256 spelled) i });
+  }
 
   piece-here : (bytes : List ℕ) → IsReadAs s bytes (found_piece copy id a) → IsPieceHere s copy a
   piece-here bytes read =
@@ -213,11 +224,11 @@ small n below = omega (arith, below)
 
 -- it is of what the name is of
 found-named : (s : State) (h : Held) (name : List ℕ) (n : Named) (x : Found) → IsOf name n → IsFound s h name x → named_of x ≡ n
-found-named s h name (named.Log id) (found_log m a) of found = ap named.Log (log-name-tells m id (small m found.number.1) (small id of.number.1) (sym found.name ∙ of.name))
-found-named s h name (named.Log id) (found_piece c m a) of found = absurd (log-no-piece id c m (sym of.name ∙ found.name))
-found-named s h name (named.Piece copy id) (found_log m a) of found = absurd (log-no-piece m copy id (sym found.name ∙ of.name))
+found-named s h name (named.Log id) (found_log m a) of found = ap named.Log (log-name-tells m id (small m found.number.1) (small id of.number.1) (sym found.is ∙ of.is))
+found-named s h name (named.Log id) (found_piece c m a) of found = absurd (log-no-piece id c m (sym of.is ∙ found.is))
+found-named s h name (named.Piece copy id) (found_log m a) of found = absurd (log-no-piece m copy id (sym found.is ∙ of.is))
 found-named s h name (named.Piece copy id) (found_piece c m a) of found =
-    let same = piece-name-tells c copy m id (small m found.number.1) (small id of.number.1) (sym found.name ∙ of.name) in
+    let same = piece-name-tells c copy m id (small m found.number.1) (small id of.number.1) (sym found.is ∙ of.is) in
     λ i. named.Piece (same.0 i) (same.1 i)
 
 -- nothing stands there
@@ -231,17 +242,12 @@ read-there held s name n bytes None of told none = λ objects tells x found.
     none x (found-named s objects name n x of found) (record { spelled = same_Some bytes (spelling_of (artefact_of x)) (sym there ∙ found.stands); valid = found.valid; dbid = found.dbid; obeys = found.obeys })
 read-there held s name n bytes (Some e) of told is =
     let x = is.found in
-    record {
-      found = x;
+    let found : (h : Held) → h name ≡ Some bytes → IsFound s h name x = λ h at. record {
+      is = of.is ∙ ap name_by (sym is.named) ∙ named-name x;
+      number = subst (λ (n : ℕ). (1 ≤ n) × (n < 4294967295)) (ap id_in (sym is.named) ∙ named-id x) of.number;
+      stands = at ∙ ap Some is.read.spelled;
       valid = is.read.valid;
+      dbid = is.read.dbid;
       obeys = is.read.obeys;
-      is = is.is;
-      stands = λ objects tells. record {
-        name = of.name ∙ ap name_by (sym is.named) ∙ named-name x;
-        number = subst (λ (n : ℕ). (1 ≤ n) × (n < 4294967295)) (ap id_in (sym is.named) ∙ named-id x) of.number;
-        stands = told-of held name (Some bytes) told objects tells ∙ ap Some is.read.spelled;
-        valid = is.read.valid;
-        dbid = is.read.dbid;
-        obeys = is.read.obeys;
-      };
-    }
+    } in
+    record { found = x; is = is.is; seen = λ _. Some bytes; there = found (λ _. Some bytes) refl; stands = λ objects tells. found objects (told-of held name (Some bytes) told objects tells) }

@@ -1,5 +1,5 @@
 -- What is read of a name and of the object under it, and the record that it gets.
-use Rattle.std.specs.Prelude.{ℕ, ◌≡◌, ◌+◌, ◌-◌, ◌<◌, ◌≤◌, max, if◌then◌else◌, Bool, true, false, Option, Some, None, List, codes, length, slice_get}
+use Rattle.std.specs.Prelude.{ℕ, ◌≡◌, ◌+◌, ◌-◌, ◌<◌, ◌≤◌, max, if◌then◌else◌, Bool, false, Option, Some, None, List, codes, slice_get}
 use Rattle.rm_base.specs.Numbers.{last_scn}
 use Rattle.rm_base.specs.Store.{Held}
 use Rattle.rm_base.specs.declared.kinds.Kind.{Kind}
@@ -7,8 +7,9 @@ use Rattle.rm_base.specs.declared.kinds.Kind.TheVariants.{Full, Level0, Level1, 
 use Rattle.rm_base.specs.declared.refusal.Limit.TheVariants.{Records, Bytes, ObjectIds}
 use Rattle.rm_base.specs.declared.refusal.Refusal.{Refusal}
 use Rattle.rm_base.specs.declared.refusal.Refusal.TheVariants.{Rm11, Rm13}
+use Rattle.rm_catalog.specs.declared.record.BaseEntry.{BaseEntry}
 use Rattle.rm_catalog_typed.specs.Changes.{with_base, with_end_at, with_log, with_piece}
-use Rattle.rm_catalog_typed.specs.LedgerFacts.{IsLogEntry, IsPieceEntry}
+use Rattle.rm_catalog_typed.specs.Fitting.{FitsBase, FitsLog, FitsPiece}
 use Rattle.rm_catalog_typed.specs.TypedCatalog.{TypedCatalog}
 use Rattle.rm_evidence.specs.Names.{log_name, piece_name}
 use Rattle.rm_history.specs.Tree.{IsThere, end_of, owner, reset_of}
@@ -41,7 +42,7 @@ name_by (named.Piece copy id) = piece_name copy id
 
 -- the name is of this, whose id is one of an object
 pub record IsOf (name : List ℕ) (n : Named) : Type 0 where
-  pub name : name ≡ name_by n
+  pub is : name ≡ name_by n
   pub number : (1 ≤ id_in n) × (id_in n < 4294967295)
 
 -- what is found under a name is of this
@@ -103,12 +104,12 @@ abbrev pub ReadsAs : State → Named → List ℕ → Option Entry → Type 0
 ReadsAs s n bytes None = (x : Found) → named_of x ≡ n → ¬ IsReadAs s bytes x
 ReadsAs s n bytes (Some e) = IsEntryOf s n bytes e
 
--- what is found can have a record, and gets this one; where the store tells what it holds, it stands there
+-- This is found in some store, and gets this record. Where the store tells what it holds, it is found there.
 pub record IsFoundAs (held : Option Held) (s : State) (name : List ℕ) (e : Entry) : Type 0 where
   pub found : Found
-  pub valid : IsValidArtefact (artefact_of found)
-  pub obeys : Obeys s found
   pub is : e ≡ entry_of s found
+  pub seen : Held
+  pub there : IsFound s seen name found
   pub stands : (objects : Held) → held ≡ Some objects → IsFound s objects name found
 
 -- the record of what is found, if anything is
@@ -150,27 +151,31 @@ refusal_by s name e =
     else if lacks_ids_behind s (id_of e) then Some (Rm11 ObjectIds)
     else Some (Rm13 name)
 
--- the catalog where no id up to its own is free, and where its incarnation ends no lower than it tells
-abbrev pub raised_by : State → Entry → TypedCatalog
-raised_by s e =
-    with_end_at (with_base s.catalog (record (ledger s).base { next_id = (ledger s).base.next_id + ids_up_to s (id_of e) }))
-    (inc_of e) (max (end_of (tree s) (inc_of e)) (top_of e))
+-- the base facts where no id up to its own is free
+abbrev pub base_by : State → Entry → BaseEntry
+base_by s e = record (ledger s).base { next_id = (ledger s).base.next_id + ids_up_to s (id_of e) }
 
--- and with it
+-- the end of its incarnation, which is no lower than it tells
+abbrev pub end_by : State → Entry → ℕ
+end_by s e = max (end_of (tree s) (inc_of e)) (top_of e)
+
+-- the catalog with both
+abbrev pub raised_by : State → Entry → TypedCatalog
+raised_by s e = with_end_at (with_base s.catalog (base_by s e)) (inc_of e) (end_by s e)
+
+-- and with the record
 abbrev pub recorded : State → Entry → TypedCatalog
 recorded s (entry.Log e) = with_log (raised_by s (entry.Log e)) e
 recorded s (entry.Piece p) = with_piece (raised_by s (entry.Piece p)) p
 
--- it obeys the rules of records there
-abbrev pub IsObedient : State → Entry → Type 0
-IsObedient s (entry.Log e) = IsLogEntry (raised_by s (entry.Log e)).ledger.tree (ledger s).base.threads e
-IsObedient s (entry.Piece p) = IsPieceEntry (raised_by s (entry.Piece p)).ledger.tree (ledger s).files p
+-- it fits there
+abbrev pub FitsEntry : State → Entry → Type 0
+FitsEntry s (entry.Log e) = FitsLog (raised_by s (entry.Log e)) e
+FitsEntry s (entry.Piece p) = FitsPiece (raised_by s (entry.Piece p)) p
 
--- it can be recorded: its id is one that no record has, its incarnation is there, and there is room
+-- the base facts, the end and then the record fit
 pub record CanBeRecorded (s : State) (e : Entry) : Type 0 where
-  pub number : (1 ≤ id_of e) × (id_of e < 4294967295)
+  pub base : FitsBase s.catalog (base_by s e)
   pub there : IsThere (tree s) (inc_of e)
-  pub top : top_of e ≤ last_scn
-  pub obeys : IsObedient s e
-  pub unknown : is_unknown s.catalog (id_of e) ≡ true
-  pub room : lacks_room s 1 ≡ false
+  pub end : end_by s e ≤ last_scn
+  pub fits : FitsEntry s e

@@ -1,9 +1,10 @@
 //! CATALOG 'name'
-ghost use Rattle.std.specs.Prelude.{◌≡◌, ◌≤◌, ◌<◌, All, IfErr, IfOk, IsErrOf, None, OnOk};
+ghost use Rattle.std.specs.Prelude.{◌≡◌, ◌≤◌, All, IfErr, IfOk, IsErrOf, None, OnOk};
 ghost use Rattle.rm_base.specs.Numbers.{last_scn};
 ghost use Rattle.rm_base.specs.Outside.{Rose};
 ghost use Rattle.rm_commit.specs.declared.commit.Stop.TheVariants.{KeeperFault, StoreFault};
 ghost use Rattle.rm_catalog_typed.specs.Changes.{EditsFollow};
+ghost use Rattle.rm_catalog_typed.specs.Fitting.{FitsBase};
 ghost use Rattle.rm_history.specs.Tree.{IsThere};
 ghost use Rattle.rm_lang_statement.specs.declared.command.Command.TheVariants.{CatalogName};
 ghost use Rattle.rm_machine.specs.CatalogName.{catalog_by, ids_up_to, lacks_ids_behind};
@@ -13,12 +14,12 @@ ghost use Rattle.rm_machine.specs.Sound.{IsSound};
 ghost use Rattle.rm_machine.specs.State.{tree};
 ghost use Rattle.rm_machine.specs.Upkeep.{with_catalog};
 ghost use Rattle.rm_report.specs.Reply.{HasDate, LineHasDate};
-ghost use Rattle.rm_step_upkeep.specs.Catalogued.{CanBeRecorded, id_of, inc_of, raised_by, recorded, refusal_by, room_refusal, size_of, top_of};
+ghost use Rattle.rm_step_upkeep.specs.Catalogued.{CanBeRecorded, base_by, end_by, inc_of, raised_by, recorded, refusal_by, room_refusal};
 
 use crate::finding::{Entry, find};
 use crate::naming::read_name;
 use crate::refusing::is_unknown;
-use rm_base::{Limit, NoMemory, Refusal, Store, Text, Unknown};
+use rm_base::{Limit, NoMemory, Refusal, Scn, Store, Text, Unknown};
 use rm_catalog::{BaseEntry, Edit};
 use rm_commit::Stop;
 use rm_machine::handed::of_line;
@@ -100,24 +101,32 @@ fn entry_refusal(
     }
 }
 
+// The end of its incarnation, which is no lower than it tells.
+fn end_of(state: &State, entry: &Entry) -> Scn
+    requires there { IsThere (tree state.now) (inc_of entry.now) }
+    ensures { result ≡ end_by state.now entry.now }
+{
+    let Some(inc) = state.catalog.tree().get(entry.inc()) else {
+        unreachable!()
+    };
+    inc.end.max(entry.top())
+}
+
 // No id up to its own is free, and its incarnation ends no lower than it tells.
 fn raise(state: &mut State, edits: &mut Vec<Edit>, entry: &Entry) -> Result<(), NoMemory>
-    requires last { id_of entry.now < 4294967295 }
+    requires base { FitsBase state.old.catalog (base_by state.old entry.now) }
     requires there { IsThere (tree state.old) (inc_of entry.now) }
-    requires top { top_of entry.now ≤ last_scn }
+    requires end { end_by state.old entry.now ≤ last_scn }
     ensures value { OnOk result (state.new ≡ with_catalog state.old (raised_by state.old entry.now)) }
     ensures edits { OnOk result (EditsFollow edits.old.items edits.new.items state.old.catalog state.new.catalog) }
 {
     let base = state.catalog.base();
+    let end = end_of(state, entry);
     let base = BaseEntry {
-        next_id: base.next_id + ids_up_to(state, entry.id()) as u32,
+        next_id: base.next_id.max(entry.id() + 1),
         ..base
     };
-    let Some(inc) = state.catalog.tree().get(entry.inc()) else {
-        unreachable!()
-    };
     state.catalog.set_base(edits, base)?;
-    let end = inc.end.max(entry.top());
     state.catalog.raise_end(edits, entry.inc(), end)
 }
 

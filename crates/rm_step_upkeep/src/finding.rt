@@ -82,9 +82,10 @@ fn read_log(alloc: Global, bytes: &[u8]) -> Result<Option<(LogFile, [u8; 32])>, 
     ensures digest { IfOk result (λ o. IfSome o (λ x. x.1 ≡ sha256 bytes.now)) }
     ensures none { IfOk result (λ o. IfNone o ((a : LogFile) → IsLogFile a → bytes.now ≢ log.spelling a)) }
 {
-    let Some((body, sha)) = unseal_with_digest(bytes) else {
+    let Some(sealed) = unseal_with_digest(bytes) else {
         return Ok(None);
     };
+    let (body, sha) = sealed;
     match log_of_body(alloc, body) {
         Ok(log) => Ok(Some((log, sha))),
         Err(FormatFault::Bad) => Ok(None),
@@ -99,9 +100,10 @@ fn read_piece(alloc: Global, bytes: &[u8]) -> Result<Option<(Piece, [u8; 32])>, 
     ensures digest { IfOk result (λ o. IfSome o (λ x. x.1 ≡ sha256 bytes.now)) }
     ensures none { IfOk result (λ o. IfNone o ((a : Piece) → IsPiece a → bytes.now ≢ piece.spelling a)) }
 {
-    let Some((body, sha)) = unseal_with_digest(bytes) else {
+    let Some(sealed) = unseal_with_digest(bytes) else {
         return Ok(None);
     };
+    let (body, sha) = sealed;
     match piece_of_body(alloc, body) {
         Ok(piece) => Ok(Some((piece, sha))),
         Err(FormatFault::Bad) => Ok(None),
@@ -159,19 +161,15 @@ fn is_piece_here(state: &State, copy: bool, piece: &Piece) -> bool
 }
 
 // The record of the log that the bytes spell, under this id. None where it can't have one.
-fn log_in(
-    alloc: Global,
-    state: &State,
-    id: u32,
-    bytes: &[u8],
-) -> Result<Option<Entry>, NoMemory>
+fn log_in(alloc: Global, state: &State, id: u32, bytes: &[u8]) -> Result<Option<Entry>, NoMemory>
     requires sound { IsSound state.now }
     ensures { IfOk result (ReadsAs state.now (named.Log id) bytes.now) }
 {
-    let Some((log, sha)) = read_log(alloc, bytes)? else {
+    let Some(read) = read_log(alloc, bytes)? else {
         return Ok(None);
     };
-    if !is_log_here(state, &log) {
+    let (log, sha) = (&read.0, read.1);
+    if !is_log_here(state, log) {
         return Ok(None);
     }
     Ok(Some(Entry::Log(LogEntry {
@@ -232,14 +230,15 @@ fn piece_in(
     requires sound { IsSound state.now }
     ensures { IfOk result (ReadsAs state.now (named.Piece copy id) bytes.now) }
 {
-    let Some((piece, sha)) = read_piece(alloc, bytes)? else {
+    let Some(read) = read_piece(alloc, bytes)? else {
         return Ok(None);
     };
-    if !is_piece_here(state, copy, &piece) {
+    let (piece, sha) = (&read.0, read.1);
+    if !is_piece_here(state, copy, piece) {
         return Ok(None);
     }
     let size = bytes.len() as u64;
-    let entry = piece_entry(alloc, state, copy, id, &piece, size, sha)?;
+    let entry = piece_entry(alloc, state, copy, id, piece, size, sha)?;
     Ok(Some(Entry::Piece(entry)))
 }
 
