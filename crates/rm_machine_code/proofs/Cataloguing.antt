@@ -12,7 +12,6 @@ use Rattle.rm_blocks.specs.File.{File, standing}
 use Rattle.rm_catalog.specs.declared.record.BaseEntry.{BaseEntry}
 use Rattle.rm_catalog.specs.declared.record.LogEntry.{LogEntry}
 use Rattle.rm_catalog.specs.declared.record.PieceEntry.{PieceEntry}
-use Rattle.rm_history.specs.declared.tree.Incarnation.{Incarnation}
 use Rattle.rm_history.specs.declared.world.Datafile.{Datafile}
 use Rattle.rm_history.specs.Tree.{IsThere, end_of, parent_of, reset_of}
 use Rattle.rm_history.proofs.Highs.{high-above, high-bound}
@@ -20,7 +19,7 @@ use Rattle.rm_catalog_typed.specs.Changes.{with_base, with_end_at}
 use Rattle.rm_catalog_typed.specs.Facts.{IsTypedCatalog}
 use Rattle.rm_catalog_typed.specs.Fitting.{FitsBase, FitsLog, FitsPiece, IsObjectId, LacksId}
 use Rattle.rm_catalog_typed.specs.Ledger.{ledger_records}
-use Rattle.rm_catalog_typed.specs.TypedCatalog.{TypedCatalog, Saved}
+use Rattle.rm_catalog_typed.specs.TypedCatalog.{Saved}
 use Rattle.rm_catalog_typed.proofs.Fitted.{base_fits, end_fits, log_fits, many, piece_fits}
 use Rattle.rm_catalog_typed.proofs.Trees.{Keeps, keeps_end}
 use Rattle.rm_piece.specs.Valid.{IsRow}
@@ -33,7 +32,7 @@ use Rattle.rm_machine.specs.Saved.{spelling_of}
 use Rattle.rm_machine.specs.SwitchLogfile.{log_entry}
 use Rattle.rm_machine.specs.Upkeep.{is_unknown, log_at, piece_at, with_catalog}
 use Rattle.rm_machine.specs.declared.state.State.{State}
-use Rattle.rm_machine.specs.State.{counted, current_of, is_lost, ledger, now_of, online, redo_end, tree, world}
+use Rattle.rm_machine.specs.State.{counted, current_of, is_lost, ledger, now_of, online, tree}
 use Rattle.rm_machine_code.proofs.FurtherLogs.{log-further}
 use Rattle.rm_machine_code.proofs.Later.{sound-with}
 use Rattle.rm_machine_code.proofs.Places.{counted-closed, counted-open}

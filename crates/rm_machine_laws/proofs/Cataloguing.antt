@@ -131,7 +131,7 @@ settled s (found_piece copy id a) same = ap (with_tree (catalogued s (found_piec
 module _ (s : State) (after : Held) (made : List Made) (touched : List (List ℕ)) where
   logs-of : (x : Found) → Contains made (record { name = name_of x; artefact = artefact_of x }) → after (name_of x) ≡ Some (spelling_of (artefact_of x))
       → (e : LogEntry) → Contains (catalogued s x).ledger.logs e → Contains (ledger s).logs e ⊎ HasLogArtefact after made touched e
-  logs-of (found_piece copy id a) is stands e has = inl has
+  logs-of (found_piece copy id a) is stands = λ e has. inl has
   logs-of (found_log id a) is stands =
       contains-with (λ (e : LogEntry). e.id) (λ e. Contains (ledger s).logs e ⊎ HasLogArtefact after made touched e) (log_entry id a) (ledger s).logs (λ e was. inl was)
       (inr (record {
@@ -144,7 +144,7 @@ module _ (s : State) (after : Held) (made : List Made) (touched : List (List ℕ
 
   pieces-of : (x : Found) → Contains made (record { name = name_of x; artefact = artefact_of x }) → after (name_of x) ≡ Some (spelling_of (artefact_of x))
       → (e : PieceEntry) → Contains (catalogued s x).ledger.pieces e → Contains (ledger s).pieces e ⊎ HasPieceArtefact after made touched e
-  pieces-of (found_log id a) is stands e has = inl has
+  pieces-of (found_log id a) is stands = λ e has. inl has
   pieces-of (found_piece copy id a) is stands =
       let new = piece_entry copy false (codes "CATALOGUED") (ledger s).base.moment id a in
       contains-with (λ (e : PieceEntry). e.id) (λ e. Contains (ledger s).pieces e ⊎ HasPieceArtefact after made touched e) new (ledger s).pieces (λ e was. inl was)

@@ -1,6 +1,5 @@
 -- What a stop leaves, wherever it came.
-use Rattle.std.proofs.Common.{◌≡◌, ◌∙◌, ◌++◌, ◌||◌, ◌⊎◌, inl, inr, ℕ, List, [], ◌∷◌, Option, Some, None, IsSomeAnd, Bool, true, false, cond, refl, ap, sym, subst, Contains}
-use Rattle.std.specs.Str.{bytes_eq}
+use Rattle.std.proofs.Common.{◌≡◌, ◌∙◌, ◌++◌, ◌⊎◌, inl, inr, ℕ, List, Option, Some, None, IsSomeAnd, true, refl, ap, sym, subst, Contains}
 use Rattle.std.proofs.lemmas.Bool.{cases_Bool}
 use Rattle.std.proofs.lemmas.List.Elements.{Contains-append_left, Contains-append_right}
 use Rattle.rm_base.specs.Store.{Held}
@@ -9,7 +8,7 @@ use Rattle.rm_catalog.specs.declared.record.PartEntry.{PartEntry}
 use Rattle.rm_catalog.specs.declared.record.Record.{Record}
 use Rattle.rm_commit.specs.declared.commit.Commit.{Commit}
 use Rattle.rm_commit.specs.Carrying.{ArePut, Halted, after_the_edits, before_the_edits}
-use Rattle.rm_commit.specs.Names.{SameBeyondPuts, after_all, bytes_of, is_named, itself, name_of, nothing}
+use Rattle.rm_commit.specs.Names.{SameBeyondPuts, after_all, is_named, itself, name_of, nothing}
 use Rattle.rm_commit.proofs.Named.{unnamed-stays}
 use Rattle.rm_commit.proofs.Told.{both-told}
 use Rattle.rm_lang_statement.specs.declared.command.Command.{Command}
@@ -36,6 +35,7 @@ use Rattle.rm_machine_laws.specs.Moments.{IsMomentIn}
 use Rattle.rm_machine_laws.specs.Stopped.{IsLeft, Stopped, StopsAt}
 use Rattle.rm_machine_laws.proofs.Carried.{edited, finished, no-parts}
 use Rattle.rm_machine_laws.proofs.Loosening.{loose-from}
+use Rattle.rm_machine_laws.proofs.LowNames.{low-put, low-removed}
 
 -- under each name of a record stands what stood there, but for those that were given
 abbrev pub StaysUnder : List (List ℕ) → Option State → Held → Held → Type 0
@@ -109,26 +109,6 @@ named-first : (o : Option State) (e : Effect) (name : List ℕ) → IsNoSite nam
 named-first None e name other named = named
 named-first (Some s) e name other named = named-left e.removes (saved_names s.catalog.saved) name (unnamed-saved s.catalog.saved name other) named
 
--- under each name that is taken away stands nothing
-none-stays : (xs : List (List ℕ)) (name : List ℕ) → after_all itself nothing xs name None ≡ None
-none-stays [] name = refl
-none-stays (x ∷ xs) name = ap (after_all itself nothing xs name) (either (bytes_eq name x)) ∙ none-stays xs name
-  where
-    either : (b : Bool) → cond b None None ≡ None
-    either true = refl
-    either false = refl
-
-named-gone : (xs : List (List ℕ)) (name : List ℕ) (old : Option (List ℕ)) → is_named itself xs name ≡ true → after_all itself nothing xs name old ≡ None
-named-gone [] name old named = absurd (cc)
-named-gone (x ∷ xs) name old named = elim (cases_Bool (bytes_eq name x)) [
-  | inl same ↦ ap (λ b. after_all itself nothing xs name (cond b None old)) same ∙ none-stays xs name
-  | inr other ↦ named-gone xs name (cond (bytes_eq name x) None old) (sym (ap (λ b. b || is_named itself xs name) other) ∙ named)
-]
-
--- under an id that was given stands what stood there, but for the names that were given, and those that are taken away
-abbrev StaysLow : List (List ℕ) → Option State → Held → Held → Held → Type 0
-StaysLow given o before after last = (name : List ℕ) → IsLowIn o name → Contains given name ⊎ (after name ≡ before name) ⊎ (last name ≡ None)
-
 module _ (c : Command) (law : LeadsOn c) (stays : StaysSound c) (loose : StaysLoose c) (held : Option Held) (kept : Option (List Record)) (o : Option State) (moment : ℕ) (lines : List Line) (x : Commit) (t : State)
     (well : IsStatement c) (at : IsMomentIn o moment) (handed : IsHanded held o c moment lines x t) where
   loose-of : (m : Machine) → m.state ≡ o → Holds held kept m → IsLoose o c handed.effect t
@@ -140,30 +120,15 @@ module _ (c : Command) (law : LeadsOn c) (stays : StaysSound c) (loose : StaysLo
     | inr other ↦ inr (same name other)
   ]
 
-  before-low : (m : Machine) → m.state ≡ o → Holds held kept m → (after last : Held) → SameBeyondPuts x.objects m.objects after → StaysLow (names_in c) m.state m.objects after last
-  before-low m is holds after last same name low = elim (cases_Bool (is_named name_of x.objects name)) [
-    | inl put ↦ inl ((loose-of m is holds).low name (subst (λ y. IsLowIn y name) is low) (subst (λ ys. is_named name_of ys name ≡ true) handed.puts put))
-    | inr other ↦ inr (inl (same name other))
-  ]
-
-  after-low : (m : Machine) → m.state ≡ o → Holds held kept m → (after : Held) (put : ArePut x m.objects after) (last : Held) → ((name : List ℕ) → last name ≡ after_all itself nothing x.removes name (put.put name)) → StaysLow (names_in c) m.state m.objects after last
-  after-low m is holds after put last all name low = elim (cases_Bool (is_named itself x.removes name)) [
-    | inl gone ↦ inr (inr (all name ∙ named-gone x.removes name (put.put name) gone))
-    | inr stays ↦
-        let first = before-low m is holds put.put last (λ n other. put.puts n ∙ unnamed-stays name_of bytes_of x.objects n (m.objects n) other) name low in
-        elim first [
-          | inl given ↦ inl given
-          | inr (inl same) ↦ inr (inl (put.removes name stays ∙ same))
-          | inr (inr none) ↦ inr (inr none)
-        ]
-  ]
+  low-of : (m : Machine) → m.state ≡ o → Holds held kept m → (name : List ℕ) → IsLowIn m.state name → is_named name_of x.objects name ≡ true → Contains (names_in c) name
+  low-of m is holds name low put = (loose-of m is holds).low name (subst (λ y. IsLowIn y name) is low) (subst (λ ys. is_named name_of ys name ≡ true) handed.puts put)
 
   pub halts : (held' : Option Held) (kept' : Option (List Record)) → Halted x held kept held' kept' → StopsAt held kept o c moment held' kept'
   halts held' kept' (before_the_edits b) m is holds tell =
       let now = both-told (SameBeyondPuts x.objects) held held' m.objects holds.store b.objects in
       let same = before-stays m is holds now.0 now.1 in (
         left (names_in c) m now.0,
-        record { machine = m; one = inl refl; left = is-left (names_in c) m now.0 same; low = before-low m is holds now.0 m.objects now.1 },
+        record { machine = m; one = inl refl; left = is-left (names_in c) m now.0 same; low = low-put (names_in c) m.state x.objects (low-of m is holds) m.objects now.0 m.objects now.1 },
         left-holds (names_in c) m now.0 held' kept' holds.sound holds.parts same now.2 (b.records ∙ holds.keeper),
       )
   halts held' kept' (after_the_edits a) m is holds tell =
@@ -184,16 +149,16 @@ module _ (c : Command) (law : LeadsOn c) (stays : StaysSound c) (loose : StaysLo
           machine = n;
           one = inr (said lines, last.step);
           left = is-left (names_in c) n now.0 same;
-          low = after-low m is holds now.0 now.1 n.objects (λ name. ap (λ (h : Held). h name) last.objects_are);
+          low = low-removed (names_in c) m.state x.objects (low-of m is holds) m.objects x.removes now.1.put now.0 n.objects now.1.puts now.1.removes (λ name. ap (λ (h : Held). h name) last.objects_are);
         },
         left-holds (names_in c) n now.0 held' kept' last.sound (no-parts n t last.state last.unsaved_is) same now.2 keeper,
       )
 
--- what the store and the keeper hold of a machine they hold of what is left of it
-pub ends-here : (held : Option Held) (kept : Option (List Record)) (c : Command) (n : Machine) → Holds held kept n → (r : Rest) × IsLeft (names_in c) n r × HoldsRest held kept r
+-- what the store and the keeper hold of a machine they hold of what is left of it, with its objects
+pub ends-here : (held : Option Held) (kept : Option (List Record)) (c : Command) (n : Machine) → Holds held kept n → (r : Rest) × IsLeft (names_in c) n r × HoldsRest held kept r × (r.objects ≡ n.objects)
 ends-here held kept c n holds =
     let same : StaysUnder (names_in c) n.state n.objects n.objects = λ name names. inr refl in
-    (left (names_in c) n n.objects, is-left (names_in c) n n.objects same, left-holds (names_in c) n n.objects held kept holds.sound holds.parts same holds.store holds.keeper)
+    (left (names_in c) n n.objects, is-left (names_in c) n n.objects same, left-holds (names_in c) n n.objects held kept holds.sound holds.parts same holds.store holds.keeper, refl)
 
 -- and of it at rest
 pub rests : (held : Option Held) (kept : Option (List Record)) (m : Machine) → Holds held kept m → HoldsRest held kept (at_rest m)
@@ -207,4 +172,4 @@ rests held kept m holds = record { store = holds.store; keeper = holds.keeper; s
 pub nothing-done : (held : Option Held) (kept : Option (List Record)) (o : Option State) (c : Command) (moment : ℕ) → StopsAt held kept o c moment held kept
 nothing-done held kept o c moment m is holds tell =
     let left = ends-here held kept c m holds in
-    (left.0, record { machine = m; one = inl refl; left = left.1; low = λ name low. inr (inl refl) }, left.2)
+    (left.0, record { machine = m; one = inl refl; left = left.1; low = λ name low. inr (inl (ap (λ (h : Held). h name) left.3)) }, left.2)

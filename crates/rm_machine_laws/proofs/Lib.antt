@@ -37,6 +37,7 @@ mod LooseQuiet
 mod LooseUpkeep
 mod Loosening
 mod Losing
+pub mod LowNames
 mod LosingLog
 mod Mounting
 mod NewObjects

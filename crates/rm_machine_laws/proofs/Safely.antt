@@ -16,6 +16,7 @@ use Rattle.rm_machine.specs.Step.{IsOutcome, IsOutcomeBy, StepBy, StepIn, refusa
 use Rattle.rm_machine_laws.specs.Holds.{View}
 use Rattle.rm_machine_laws.specs.Moments.{moment_of}
 use Rattle.rm_machine_laws.specs.Steps.{DeletesSafely, Steps}
+use Rattle.rm_machine_laws.proofs.Cataloguing.{asks-no-more}
 
 -- it never only tells
 never-tells : (r : Option Refusal) (s : State) (held : Held) (lines : List Line) → IsOutcomeBy r s held DeleteObsolete (told lines) → ⊥
@@ -33,7 +34,7 @@ safe-by (done lines effect q) s t m n reply is by kept there =
 
 pub deletes-safely : (held held' : Option Held) (kept kept' : Option (List Record)) (v v' : View) (c : Command) (clock : ℕ) (reply : Reply) → Steps held kept v c clock reply held' kept' v' → DeletesSafely held kept v c clock reply held' v'
 deletes-safely held held' kept kept' v v' DeleteObsolete clock reply steps = λ m stands holds tell kept s t objects objects' was now before after.
-    let on = steps m stands holds tell in
+    let on = steps m stands holds (asks-no-more m DeleteObsolete (λ e. cc) tell) in
     let n = on.0 in
     let moment = moment_of m.state clock in
     let step : StepIn (Some s) m DeleteObsolete moment reply n = subst (λ o. StepIn o m DeleteObsolete moment reply n) (stands ∙ was) on.1 in
