@@ -63,11 +63,13 @@ module _ (s : State) (held : Held) (name : List ℕ) (lines : List Line) (e : Ef
   never-refused true r q is = cc
   never-refused false r q is = cc
 
-  by-refusal : (x : Found) (o : Option Refusal) → IsFound s held name x → catalog_refusal s name x ≡ o → done lines e t ≡ option_map_or refused o (catalogues s x) → IsCatalogued s held name e t
+  by-refusal : (x : Found) (o : Option Refusal) → IsFound s held name x → catalog_refusal s name x ≡ o
+      → done lines e t ≡ option_map_or refused o (catalogues s x) → IsCatalogued s held name e t
   by-refusal x (Some r) found none is = absurd (cc)
   by-refusal x None found none is = record { found = x; is = found; accepted_is = none; effect = cc; state = cc }
 
-  by-found : (id : ℕ) (o : Option Found) → MatchOption o ((x : Found) → ¬ IsFound s held name x) (IsFound s held name) → done lines e t ≡ catalog_by s name id o → IsCatalogued s held name e t
+  by-found : (id : ℕ) (o : Option Found) → MatchOption o ((x : Found) → ¬ IsFound s held name x) (IsFound s held name)
+      → done lines e t ≡ catalog_by s name id o → IsCatalogued s held name e t
   by-found id None none is = absurd (never-refused _ _ _ is)
   by-found id (Some x) found is = by-refusal x (catalog_refusal s name x) found refl is
 
@@ -91,7 +93,8 @@ same-artefact (a_piece a) (a_piece b) is other same = ap a_piece (piece_same a b
 abbrev WasRecorded : List ℕ → State → Held → List Made → Type 0
 WasRecorded name s objects made = (s.catalog.saved ≡ None) × ((bytes : List ℕ) → objects name ≡ Some bytes → IsRecorded made bytes)
 
-true-again : (s : State) (h : List Change) (made : List Made) (a : Artefact) → ((x : Made) → Contains made x → IsTrueArtefact (world s) h x.artefact) → IsValidArtefact a → IsRecorded made (spelling_of a) → IsTrueArtefact (world s) h a
+true-again : (s : State) (h : List Change) (made : List Made) (a : Artefact)
+    → ((x : Made) → Contains made x → IsTrueArtefact (world s) h x.artefact) → IsValidArtefact a → IsRecorded made (spelling_of a) → IsTrueArtefact (world s) h a
 true-again s h made a all valid was =
     let one = all was.one was.is in
     subst (IsTrueArtefact (world s) h) (same-artefact was.one.artefact a one.valid valid (sym was.spelled)) one
@@ -164,7 +167,8 @@ module _ (s : State) (x : Found) (h : List Change) (objects after : Held) (made 
   abbrev q : TypedCatalog
   q = catalogued s x
 
-  borne-catalogued : IsSound (with_catalog s q) → IsTrueArtefact (world s) h (artefact_of x) → ((n : List ℕ) → after n ≡ objects n) → objects (name_of x) ≡ Some (spelling_of (artefact_of x))
+  borne-catalogued : IsSound (with_catalog s q) → IsTrueArtefact (world s) h (artefact_of x)
+      → ((n : List ℕ) → after n ≡ objects n) → objects (name_of x) ≡ Some (spelling_of (artefact_of x))
       → IsBorneOut s h objects made touched → IsBorneOut (with_catalog s q) h after (made ++ new ∷ []) touched
   borne-catalogued sound is same stands borne =
       let there = within (tree s) x is.within in
@@ -188,21 +192,24 @@ module _ (s : State) (x : Found) (h : List Change) (objects after : Held) (made 
 
 -- The laws of the statement
 
-sound-after : (s : State) (held : Held) (name : List ℕ) (e : Effect) (t : State) → IsSound s → s.catalog.saved ≡ None → (by : IsCatalogued s held name e t) → IsSound (with_catalog s (catalogued s by.found))
+sound-after : (s : State) (held : Held) (name : List ℕ) (e : Effect) (t : State) → IsSound s → s.catalog.saved ≡ None
+    → (by : IsCatalogued s held name e t) → IsSound (with_catalog s (catalogued s by.found))
 sound-after s held name e t sound unsaved by = sound-catalogued s by.found sound (found-fits s held name by.found sound unsaved by.is by.accepted_is)
 
 pub catalog-on : (name : List ℕ) → LeadsOnAsking (CatalogName name) (WasRecorded name)
 catalog-on name s h objects made touched lines e t after well borne tells was none does leaves =
     let by = catalogued-by s objects name lines e t does in
     let x = by.found in
-    let stands : objects (name_of x) ≡ Some (spelling_of (artefact_of x)) = subst (λ n. objects n ≡ Some (spelling_of (artefact_of x))) by.is.is by.is.stands in
+    let stands = subst (λ n. objects n ≡ Some (spelling_of (artefact_of x))) by.is.is by.is.stands in
     let again = true-again s h made (artefact_of x) borne.artefacts by.is.valid (was.1 (spelling_of (artefact_of x)) by.is.stands) in
     unchanged (with_catalog s (catalogued s x)) (cataloguing x) h objects made touched e t after refl by.effect by.state leaves (λ left.
-    borne-catalogued s x h objects after made touched (sound-after s objects name e t borne.state was.0 by) again (λ n. left.removes n ∙ left.puts n) stands borne)
+    borne-catalogued s x h objects after made touched (sound-after s objects name e t borne.state was.0 by) again
+    (λ n. left.removes n ∙ left.puts n) stands borne)
 
 pub catalog-leads : (name : List ℕ) → LeadsOn (CatalogName name)
 catalog-leads name =
-    leads-asking (CatalogName name) (WasRecorded name) (λ m s moment lines e t honest is comes. (refl, λ bytes at. honest.catalogues name bytes s t moment lines e refl is comes at)) (catalog-on name)
+    leads-asking (CatalogName name) (WasRecorded name)
+    (λ m s moment lines e t honest is comes. (refl, λ bytes at. honest.catalogues name bytes s t moment lines e refl is comes at)) (catalog-on name)
 
 pub catalog-stays : (name : List ℕ) → StaysBy (CatalogName name)
 catalog-stays name s objects lines e t well sound unsaved none does =

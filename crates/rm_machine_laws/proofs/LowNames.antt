@@ -38,7 +38,8 @@ named-gone (x ∷ xs) name old named = elim (cases_Bool (bytes_eq name x)) [
 abbrev pub StaysLow : List (List ℕ) → Option State → Held → Held → Held → Type 0
 StaysLow given o before after last = (name : List ℕ) → IsLowIn o name → Contains given name ⊎ (after name ≡ before name) ⊎ (last name ≡ None)
 
-module _ (given : List (List ℕ)) (o : Option State) (puts : List Object) (loose : (name : List ℕ) → IsLowIn o name → is_named name_of puts name ≡ true → Contains given name) (before : Held) where
+module _ (given : List (List ℕ)) (o : Option State) (puts : List Object)
+    (loose : (name : List ℕ) → IsLowIn o name → is_named name_of puts name ≡ true → Contains given name) (before : Held) where
   -- where objects were put, or some of them
   pub low-put : (after last : Held) → SameBeyondPuts puts before after → StaysLow given o before after last
   low-put after last same name low = elim (cases_Bool (is_named name_of puts name)) [
@@ -47,7 +48,8 @@ module _ (given : List (List ℕ)) (o : Option State) (puts : List Object) (loos
   ]
 
   -- and others taken away, or some of them
-  pub low-removed : (removes : List (List ℕ)) (put after last : Held) → HasPuts puts before put → SameBeyondRemoves removes put after → HasRemoves removes put last → StaysLow given o before after last
+  pub low-removed : (removes : List (List ℕ)) (put after last : Held) → HasPuts puts before put → SameBeyondRemoves removes put after
+      → HasRemoves removes put last → StaysLow given o before after last
   low-removed removes put after last puts_are same gone name low = elim (cases_Bool (is_named itself removes name)) [
     | inl named ↦ inr (inr (gone name ∙ named-gone removes name (put name) named))
     | inr other ↦ elim (low-put put last (λ n free. puts_are n ∙ unnamed-stays name_of bytes_of puts n (before n) free) name low) [
@@ -60,7 +62,8 @@ module _ (given : List (List ℕ)) (o : Option State) (puts : List Object) (loos
 -- A whole step
 
 module _ (c : Command) (loose : StaysLoose c) (m n : Machine) (moment : ℕ) (reply : Reply) (sound : IsSoundMachine m) where
-  by-outcome : (o : Option State) (r : Outcome) → m.state ≡ o → IsMomentIn o moment → IsOutcomeIn o m.objects c moment r → StepBy (acts_on o moment) m c r reply n → StaysLow (names_in c) o m.objects n.objects n.objects
+  by-outcome : (o : Option State) (r : Outcome) → m.state ≡ o → IsMomentIn o moment → IsOutcomeIn o m.objects c moment r
+      → StepBy (acts_on o moment) m c r reply n → StaysLow (names_in c) o m.objects n.objects n.objects
   by-outcome o (refused r) is at comes by name low = inr (inl (ap (λ (x : Machine). x.objects name) by.1))
   by-outcome o (told lines) is at comes by name low = inr (inl (ap (λ (x : Machine). x.objects name) by.1))
   by-outcome o (done lines e t) is at comes by name low =
