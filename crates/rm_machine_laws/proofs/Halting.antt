@@ -1,5 +1,5 @@
 -- What a stop leaves, wherever it came.
-use Rattle.std.proofs.Common.{◌≡◌, ◌∙◌, ◌++◌, ◌⊎◌, inl, inr, ℕ, List, Option, Some, None, IsSomeAnd, true, refl, ap, sym, subst, Contains}
+use Rattle.std.proofs.Common.{◌≡◌, ◌∙◌, ◌++◌, ◌⊎◌, inl, inr, ℕ, List, Option, Some, None, IsSomeAnd, true, refl, ap, sym, subst, arith, Contains}
 use Rattle.std.proofs.lemmas.Bool.{cases_Bool}
 use Rattle.std.proofs.lemmas.List.Elements.{Contains-append_left, Contains-append_right}
 use Rattle.rm_base.specs.Store.{Held}
@@ -14,6 +14,7 @@ use Rattle.rm_commit.proofs.Told.{both-told}
 use Rattle.rm_lang_statement.specs.declared.command.Command.{Command}
 use Rattle.rm_report.specs.Reply.{said}
 use Rattle.rm_report.specs.declared.line.Line.{Line}
+use Rattle.rm_report.specs.declared.line.Reply.{Reply}
 use Rattle.rm_evidence.specs.Names.{site_name}
 use Rattle.rm_catalog_typed.specs.TypedCatalog.{Saved}
 use Rattle.rm_machine.specs.Effect.{Artefact, Effect, Made}
@@ -23,7 +24,7 @@ use Rattle.rm_machine.specs.Rest.{HaveParts, IsSoundRestBy, Rest, at_rest, catal
 use Rattle.rm_machine.specs.Saved.{saved_names, spelling_of}
 use Rattle.rm_machine.specs.declared.state.State.{State}
 use Rattle.rm_machine.specs.State.{ledger}
-use Rattle.rm_machine.specs.Step.{IsStatement, and_drops, names_in}
+use Rattle.rm_machine.specs.Step.{IsStatement, Step, and_drops, names_in}
 use Rattle.rm_machine_code.proofs.Dropping.{IsNoSite, no-site}
 use Rattle.rm_machine_laws.proofs.Dropping.{named-left, unnamed-saved}
 use Rattle.rm_machine_code.proofs.Kept.{StandOn}
@@ -31,11 +32,11 @@ use Rattle.rm_machine_code.proofs.Later.{borne-beside}
 use Rattle.rm_machine_laws.specs.Carries.{IsHanded}
 use Rattle.rm_machine_laws.specs.Holds.{Holds, HoldsRest, records, saved_in}
 use Rattle.rm_machine_laws.specs.Loose.{IsLoose, IsLowIn, IsNamedBy, IsNamedIn, StaysLoose, of_object, of_part}
-use Rattle.rm_machine_laws.specs.Moments.{IsMomentIn}
+use Rattle.rm_machine_laws.specs.Moments.{IsMomentIn, moment_of}
 use Rattle.rm_machine_laws.specs.Stopped.{IsLeft, Stopped, StopsAt}
 use Rattle.rm_machine_laws.proofs.Carried.{edited, finished, no-parts}
 use Rattle.rm_machine_laws.proofs.Loosening.{loose-from}
-use Rattle.rm_machine_laws.proofs.LowNames.{low-put, low-removed}
+use Rattle.rm_machine_laws.proofs.LowNames.{StaysLow, low-put, low-removed, step-low}
 
 -- under each name of a record stands what stood there, but for those that were given
 abbrev pub StaysUnder : List (List ℕ) → Option State → Held → Held → Type 0
@@ -149,7 +150,8 @@ module _ (c : Command) (law : LeadsOn c) (stays : StaysSound c) (loose : StaysLo
           machine = n;
           one = inr (said lines, last.step);
           left = is-left (names_in c) n now.0 same;
-          low = low-removed (names_in c) m.state x.objects (low-of m is holds) m.objects x.removes now.1.put now.0 n.objects now.1.puts now.1.removes (λ name. ap (λ (h : Held). h name) last.objects_are);
+          low = low-removed (names_in c) m.state x.objects (low-of m is holds) m.objects x.removes now.1.put now.0 n.objects now.1.puts now.1.removes
+              (λ name. ap (λ (h : Held). h name) last.objects_are);
         },
         left-holds (names_in c) n now.0 held' kept' last.sound (no-parts n t last.state last.unsaved_is) same now.2 keeper,
       )
@@ -173,3 +175,20 @@ pub nothing-done : (held : Option Held) (kept : Option (List Record)) (o : Optio
 nothing-done held kept o c moment m is holds tell =
     let left = ends-here held kept c m holds in
     (left.0, record { machine = m; one = inl refl; left = left.1; low = λ name low. inr (inl (ap (λ (h : Held). h name) left.3)) }, left.2)
+
+-- the clock's answer makes a moment
+pub moment-in : (o : Option State) (h : List BlockChange) (objects : Held) (made : List Made) (touched : List (List ℕ)) (clock : ℕ)
+    → IsSoundBy o h objects made touched → IsMomentIn o (moment_of o clock)
+moment-in None h objects made touched clock sound = record { kept = omega arith; last = omega arith }
+moment-in (Some s) h objects made touched clock sound = record { kept = omega arith; last = omega (arith, sound.state.catalog.ledger.base.moment) }
+
+-- where all of it was done, and no word of its reply written
+pub stopped-after : (c : Command) → StaysLoose c → (m n : Machine) (clock : ℕ) (reply : Reply) (held : Option Held) (kept : Option (List Record))
+    → IsSoundMachine m → Step m c (moment_of m.state clock) reply n → Holds held kept n
+    → (r : Rest) × Stopped m c (moment_of m.state clock) r × HoldsRest held kept r
+stopped-after c loose m n clock reply held kept sound step holds =
+    let left = ends-here held kept c n holds in
+    let at = moment-in m.state m.history m.objects m.made m.touched clock sound in
+    let low = step-low c loose m n (moment_of m.state clock) reply sound at step in
+    let still = subst (λ (objects : Held). StaysLow (names_in c) m.state m.objects objects n.objects) (sym left.3) low in
+    (left.0, record { machine = n; one = inr (reply, step); left = left.1; low = still }, left.2)
