@@ -1,9 +1,8 @@
 -- One statement is served.
-use Rattle.std.proofs.Common.{◌≡◌, ◌⊎◌, ◌+◌, ◌∙◌, ◌||◌, Contains, inl, ℕ, suc, List, Option, Some, None, Result, Ok, Err, IfOk, OnErr, IfSome, Bool, true, false, inr, refl, ap, sym, subst, arith}
+use Rattle.std.proofs.Common.{◌≡◌, ◌+◌, ◌∙◌, ◌||◌, inl, ℕ, suc, List, Option, Some, None, Result, Ok, Err, IfOk, OnErr, IfSome, Bool, true, false, inr, refl, ap, sym, subst, arith}
 use Rattle.std.specs.List.{list_all}
 use Rattle.std.proofs.Math.Bool.{or-false}
 use Rattle.rm_base.specs.Store.{Held, Answers, Both, IsLater}
-use Rattle.rm_base.specs.declared.block.Change.{Change}
 use Rattle.rm_base.specs.declared.refusal.Refusal.TheVariants.{Rm01}
 use Rattle.rm_catalog.specs.declared.record.Record.{Record}
 use Rattle.rm_lang_statement.specs.declared.command.Command.{Command}
@@ -15,19 +14,14 @@ use Rattle.rm_tool.specs.Built.{statement_built_at}
 use Rattle.rm_lang_token.specs.declared.token.Token.{Token}
 use Rattle.rm_report.specs.declared.line.Reply.{Reply}
 use Rattle.rm_report.specs.Reply.{refused_by}
-use Rattle.rm_machine.specs.Effect.{Made}
-use Rattle.rm_machine.specs.Machine.{IsSoundBy, IsSoundMachine, Machine}
-use Rattle.rm_machine.specs.Rest.{Rest, at_rest}
-use Rattle.rm_machine.specs.Step.{Step, names_in}
-use Rattle.rm_machine.specs.declared.state.State.{State}
+use Rattle.rm_machine.specs.Machine.{IsSoundMachine, Machine}
+use Rattle.rm_machine.specs.Rest.{at_rest}
 use Rattle.rm_machine_laws.specs.Holds.{Holds, HoldsRest, View}
-use Rattle.rm_machine_laws.specs.Moments.{IsMomentIn, moment_of}
 use Rattle.rm_machine_laws.specs.Saves.{applies}
 use Rattle.rm_machine_laws.specs.Steps.{Steps}
-use Rattle.rm_machine_laws.specs.Stopped.{Stopped, Stops}
+use Rattle.rm_machine_laws.specs.Stopped.{Stops}
 use Rattle.rm_machine_laws.proofs.Every.{every-loose}
-use Rattle.rm_machine_laws.proofs.Halting.{ends-here, rests}
-use Rattle.rm_machine_laws.proofs.LowNames.{step-low}
+use Rattle.rm_machine_laws.proofs.Halting.{rests, stopped-after}
 use Rattle.rm_site.specs.Untouched.{IsUntouched, is_quiet}
 use Rattle.rm_tool.specs.Quiet.{is_quiet_statement, only_tells_inner}
 use Rattle.rm_tool.specs.Run.{StepOf, IsHonestWithin}
@@ -139,33 +133,11 @@ module _ {held : Option Held} {kept : Option (List Record)} {v : View} {clock : 
             cut = λ m stands holds tell. let left = stops m stands holds (subst (λ (o : Option Statement). IsHonestWithin o m answer) some tell) in inside block left.0 some left.1 left.2;
           }
 
--- the moment of a statement of a sound machine is one
-moment-in : (o : Option State) (h : List Change) (objects : Held) (made : List Made) (touched : List (List ℕ)) (clock : ℕ) → IsSoundBy o h objects made touched → IsMomentIn o (moment_of o clock)
-moment-in None h objects made touched clock sound = record { kept = omega arith; last = omega arith }
-moment-in (Some s) h objects made touched clock sound = record { kept = omega arith; last = omega (arith, sound.state.catalog.ledger.base.moment) }
-
--- what a whole step leaves is what a stop leaves
-step-stops : (held : Option Held) (kept : Option (List Record)) (c : Command) (m n : Machine) (clock : ℕ) (reply : Reply) → IsSoundMachine m → Step m c (moment_of m.state clock) reply n → Holds held kept n
-    → (r : Rest) × Stopped m c (moment_of m.state clock) r × HoldsRest held kept r
-step-stops held kept c m n clock reply sound step holds =
-    let left = ends-here held kept c n holds in
-    let at = moment-in m.state m.history m.objects m.made m.touched clock sound in
-    let low = step-low c (every-loose c) m n (moment_of m.state clock) reply sound at step in (
-      left.0,
-      record {
-        machine = n;
-        one = inr (reply, step);
-        left = left.1;
-        low = λ name given. subst (λ (h : Held). Contains (names_in c) name ⊎ (h name ≡ m.objects name) ⊎ (n.objects name ≡ None)) (sym left.3) (low name given);
-      },
-      left.2,
-    )
-
 cut-by : (o : Option Statement) (m n : Machine) (s : ℕ × List Token) (answer : ℕ) (reply : Reply) (applied : Bool) (held : Option Held) (kept : Option (List Record))
     → IsSoundMachine m → statement_built_at s.1 ≡ o → StepOf o m s.0 answer reply applied n → Holds held kept n → IsCut m s answer held kept
 cut-by None m n s answer reply applied held kept sound none step holds = untouched (subst (λ (x : Machine). HoldsRest held kept (at_rest x)) step.2 (rests held kept n holds))
 cut-by (Some (Plain c)) m n s answer reply applied held kept sound some step holds =
-    let left = step-stops held kept c m n answer reply sound step.0 holds in
+    let left = stopped-after c (every-loose c) m n answer reply held kept sound step.0 holds in
     stopped c left.0 some left.1 left.2
 cut-by (Some (Block block)) m n s answer reply applied held kept sound some steps holds = inside block (at_rest n) some (block-leaves unset m block answer reply applied n steps) (rests held kept n holds)
 
