@@ -186,6 +186,7 @@ fn accepted<R: Threads + Wait + Sync, G: Gate, D: Store>(
         )?)),
         Nature::ChangesByHeld => change_by_held(alloc, state, store, edits, command),
         Nature::TriesByHeld => try_by_held(rt, alloc, channels, state, store, edits, command),
+        Nature::Records => step_upkeep::record(alloc, state, store, edits, command),
         Nature::Mishap => step_host::mishap(alloc, state, store, command),
     }
 }

@@ -1,3 +1,4 @@
 pub mod Amended
+pub mod Catalogued
 pub mod Expired
 pub mod Lines

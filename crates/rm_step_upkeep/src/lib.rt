@@ -1,16 +1,20 @@
-//! The upkeep of records: CHANGE BACKUP, DELETE BACKUP, DELETE EXPIRED and CROSSCHECK; and the settings of a database:
+//! The upkeep of records: CATALOG, CHANGE BACKUP, DELETE BACKUP, DELETE EXPIRED and CROSSCHECK; and the settings of a database:
 //! CONFIGURE RETENTION POLICY, and CONFIGURE DEVICE TYPE DISK PARALLELISM.
 #![tactic(auto)]
 
 mod amending;
+mod cataloguing;
 mod changing;
 mod crosschecking;
 mod deleting;
 mod expiring;
+mod finding;
+mod naming;
 mod parallelism;
 mod refusing;
 mod retention;
 
+pub use cataloguing::catalog;
 pub use changing::change_backup;
 pub use crosschecking::crosscheck;
 pub use deleting::delete_backup;

@@ -7,8 +7,8 @@ use rm_base::{Limit, Refusal, Unknown};
 use rm_machine::State;
 use rm_machine_code::room::lacks_ids;
 
-// Whether no log and no piece has the id.
-fn is_unknown(state: &State, id: u64) -> bool
+/// Whether no log and no piece has the id.
+pub(crate) fn is_unknown(state: &State, id: u64) -> bool
     requires sound { IsSound state.now }
     ensures value { result ≡ is_unknown state.now.catalog id }
 {

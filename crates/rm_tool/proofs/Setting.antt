@@ -5,7 +5,7 @@ use Rattle.rm_lang_statement.specs.declared.command.Command.TheVariants.{Restore
 use Rattle.rm_lang_statement.specs.declared.command.Until.{Until}
 use Rattle.rm_lang_statement.specs.IsCommand.{is_command, is_until_or_none}
 use Rattle.rm_machine.specs.Built.{is_built}
-use Rattle.rm_machine.specs.Step.{names_in}
+use Rattle.rm_machine.specs.Nature.{nature_of}
 use Rattle.rm_tool.specs.Block.{with_until}
 
 -- it is built
@@ -34,11 +34,11 @@ command_with set (RecoverCopy tag None) is command = both-true _ _ command is
 command_with set (RecoverCopy tag (Some until)) is command = command
 command_with set _ is command = command
 
--- and it gives the names that it gave
-pub names_with : (set : Option Until) (c : Command) → names_in (with_until set c) ≡ names_in c
-names_with set (Restore file until) = refl
-names_with set (Preview until) = refl
-names_with set (Recover until) = refl
-names_with set (RecoverTest until inc) = refl
-names_with set (RecoverCopy tag until) = refl
-names_with set _ = refl
+-- and it is of the same nature
+pub nature_with : (set : Option Until) (c : Command) → nature_of (with_until set c) ≡ nature_of c
+nature_with set (Restore file until) = refl
+nature_with set (Preview until) = refl
+nature_with set (Recover until) = refl
+nature_with set (RecoverTest until inc) = refl
+nature_with set (RecoverCopy tag until) = refl
+nature_with set _ = refl

@@ -14,13 +14,14 @@ use Rattle.rm_tool.specs.Built.{statement_built_at}
 use Rattle.rm_lang_token.specs.declared.token.Token.{Token}
 use Rattle.rm_report.specs.declared.line.Reply.{Reply}
 use Rattle.rm_report.specs.Reply.{refused_by}
-use Rattle.rm_machine.specs.Machine.{Machine}
+use Rattle.rm_machine.specs.Machine.{IsSoundMachine, Machine}
 use Rattle.rm_machine.specs.Rest.{at_rest}
 use Rattle.rm_machine_laws.specs.Holds.{Holds, HoldsRest, View}
 use Rattle.rm_machine_laws.specs.Saves.{applies}
 use Rattle.rm_machine_laws.specs.Steps.{Steps}
 use Rattle.rm_machine_laws.specs.Stopped.{Stops}
-use Rattle.rm_machine_laws.proofs.Halting.{ends-here, rests}
+use Rattle.rm_machine_laws.proofs.Every.{every-loose}
+use Rattle.rm_machine_laws.proofs.Halting.{rests, stopped-after}
 use Rattle.rm_machine.specs.Laws.{only_tells}
 use Rattle.rm_site.specs.Untouched.{AreSame, IsUntouched, is_quiet}
 use Rattle.rm_tool.proofs.Quiet.{telling-quiet}
@@ -141,12 +142,12 @@ module _ {held : Option Held} {kept : Option (List Record)} {v : View} {clock : 
           }
 
 cut-by : (o : Option Statement) (m n : Machine) (s : ℕ × List Token) (answer : ℕ) (reply : Reply) (applied : Bool) (held : Option Held) (kept : Option (List Record))
-    → statement_built_at s.1 ≡ o → StepOf o m s.0 answer reply applied n → Holds held kept n → IsCut m s answer held kept
-cut-by None m n s answer reply applied held kept none step holds = untouched (subst (λ (x : Machine). HoldsRest held kept (at_rest x)) step.2 (rests held kept n holds))
-cut-by (Some (Plain c)) m n s answer reply applied held kept some step holds =
-    let left = ends-here held kept c n holds in
-    stopped c left.0 some (record { machine = n; one = inr (reply, step.0); left = left.1 }) left.2
-cut-by (Some (Block block)) m n s answer reply applied held kept some steps holds = inside block (at_rest n) some (block-leaves unset m block answer reply applied n steps) (rests held kept n holds)
+    → IsSoundMachine m → statement_built_at s.1 ≡ o → StepOf o m s.0 answer reply applied n → Holds held kept n → IsCut m s answer held kept
+cut-by None m n s answer reply applied held kept sound none step holds = untouched (subst (λ (x : Machine). HoldsRest held kept (at_rest x)) step.2 (rests held kept n holds))
+cut-by (Some (Plain c)) m n s answer reply applied held kept sound some step holds =
+    let left = stopped-after c (every-loose c) m n answer reply held kept sound step.0 holds in
+    stopped c left.0 some left.1 left.2
+cut-by (Some (Block block)) m n s answer reply applied held kept sound some steps holds = inside block (at_rest n) some (block-leaves unset m block answer reply applied n steps) (rests held kept n holds)
 
 -- the statement was served, and no word of its reply was written
 pub cut-served : {held held' : Option Held} {kept kept' : Option (List Record)} {v v' : View} {clock clock' : Option Answers} {s : ℕ × List Token} {reply : Reply}
@@ -157,5 +158,5 @@ cut-served {held' = held'} {kept' = kept'} {s = s} {reply = reply} served =
       next = served.next;
       asked = inr served.past;
       quiet = λ tells. (served.quiet (telling-quiet (statement_built_at s.1) reply tells)).0;
-      cut = λ m stands holds tell. let n = served.steps m stands holds tell in cut-by (statement_built_at s.1) m n.0 s served.answer reply n.1 held' kept' refl n.2 n.4;
+      cut = λ m stands holds tell. let n = served.steps m stands holds tell in cut-by (statement_built_at s.1) m n.0 s served.answer reply n.1 held' kept' holds.sound refl n.2 n.4;
     }
