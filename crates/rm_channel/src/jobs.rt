@@ -7,7 +7,7 @@ use rm_track::Bits;
 pub enum Wanted {
     /// Each of its blocks, of which there are so many.
     All(u32),
-    /// These of its blocks.
+    /// Those of its blocks that are in these bits, which are of as many blocks as it has.
     Blocks(Bits),
 }
 

@@ -1,5 +1,5 @@
 //! What one worker does.
-ghost use Rattle.std.specs.Prelude.{ℕ, ◌≡◌, ◌+◌, ◌-◌, ◌≤◌, ◌<◌, [], ◌∷◌, length, replicate, All, IfOk, IsSome};
+ghost use Rattle.std.specs.Prelude.{ℕ, ◌≡◌, ◌+◌, ◌-◌, ◌≤◌, ◌<◌, List, [], ◌∷◌, length, replicate, All, IfOk, IsSome};
 ghost use Rattle.std.specs.Option.{option_map};
 ghost use Rattle.std.specs.Result.{result_ok};
 ghost use Rattle.rm_redo.specs.Online.{IsThread, IsLost};
@@ -83,7 +83,7 @@ fn read_blocks<R: Wait>(
     requires within { to ≤ blocks_in wanted.now }
     requires there { All (λ b. IsSome (row_at pass.old.opening.files file b)) (wanted_blocks wanted.now) }
     ensures stays { IsLater pass.old pass.new }
-    ensures worked { Worked pass.old pass.new.seen (reads file (between from to (wanted_blocks wanted.now))) (option_map (λ v. found file (between from to (wanted_blocks wanted.now)) v.items) (result_ok result)) }
+    ensures worked { let bs : List ℕ = between from to (wanted_blocks wanted.now) in Worked pass.old pass.new.seen (reads file bs) (option_map (λ v. found file bs v.items) (result_ok result)) }
     ensures rows { IfOk result (λ v. length v.items ≡ length (between from to (wanted_blocks wanted.now))) }
 {
     let blocks = wanted.part(alloc, from, to)?;
