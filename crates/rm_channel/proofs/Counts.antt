@@ -1,5 +1,5 @@
 -- How often calls of a list pass a test.
-use Rattle.std.proofs.Common.{◌≡◌, ◌≢◌, ℕ, zero, suc, ◌+◌, ◌<◌, ◌≤◌, Bool, false, Option, Some, None, Ok, Err, IsSome, is_none, List, [], ◌∷◌, length, map, All, refl, sym, ap, ◌∙◌, subst, arith}
+use Rattle.std.proofs.Common.{◌≡◌, ◌≢◌, ℕ, suc, ◌+◌, ◌<◌, ◌≤◌, Bool, true, false, Option, Some, None, Ok, Err, IsSome, is_none, List, [], ◌∷◌, length, map, All, refl, sym, ap, ◌∙◌, subst, arith}
 use mathlib.Core.Logic.{dite}
 use native.Mathlib.Decide.{ℕ_discrete}
 use Rattle.std.proofs.lemmas.List.Elements.{All-head, All-tail}
@@ -8,9 +8,9 @@ use Rattle.rm_redo.specs.Logs.{Logs}
 use Rattle.rm_redo.specs.Online.{IsThread, thread_records}
 use Rattle.rm_redo.proofs.Logs.{IsThread-with_change}
 use Rattle.rm_live.specs.declared.history.Answer.{Answer}
-use Rattle.rm_live.specs.declared.history.Answer.TheVariants.{Found, Wrote}
+use Rattle.rm_live.specs.declared.history.Answer.TheVariants.{Found, Mended, Wrote}
 use Rattle.rm_live.specs.declared.history.Call.{Call}
-use Rattle.rm_live.specs.declared.history.Call.TheVariants.{Read, Write}
+use Rattle.rm_live.specs.declared.history.Call.TheVariants.{Mend, Read, Write}
 use Rattle.rm_live.specs.declared.history.Event.{Event}
 use Rattle.rm_live.specs.Parts.{Parts, row_at}
 use Rattle.rm_live.specs.History.{after, fold_of}
@@ -29,15 +29,15 @@ ones f c = one_if (f c)
 abbrev IsOfWrites : (Call → Bool) → Type 0
 IsOfWrites f = (g b : ℕ) → f (Read g b) ≡ false
 
-no-reads : (f : Call → Bool) (g b n : ℕ) → IsOfWrites f → total (ones f) (reads g b n) ≡ 0
-no-reads f g b zero off = refl
-no-reads f g b (suc n) off = let e = ap one_if (off g b) in let h = no-reads f g (suc b) n off in omega arith
+no-reads : (f : Call → Bool) (g : ℕ) (bs : List ℕ) → IsOfWrites f → total (ones f) (reads g bs) ≡ 0
+no-reads f g [] off = refl
+no-reads f g (b ∷ bs) off = let e = ap one_if (off g b) in let h = no-reads f g bs off in omega arith
 
 no-reads_of : (f : Call → Bool) (ss : List Span) → IsOfWrites f → total (ones f) (reads_of ss) ≡ 0
 no-reads_of f [] off = refl
 no-reads_of f (s ∷ ss) off =
-    let a = total-append (ones f) (reads s.file s.first s.count) (reads_of ss) in
-    let b = no-reads f s.file s.first s.count off in
+    let a = total-append (ones f) (reads s.file s.blocks) (reads_of ss) in
+    let b = no-reads f s.file s.blocks off in
     let h = no-reads_of f ss off in
     omega arith
 
@@ -127,8 +127,13 @@ thread-room o now t u (ws ∷ writers) threads room pos =
 thread-after : (o : Parts) (c : Call) (a : Answer) (t : ℕ) → IsThread o.logs t → IsThread (after o c a).logs t
 thread-after o (Read f b) a t there = there
 thread-after o (Write u f b content) (Found row) t there = there
+thread-after o (Write u f b content) (Mended made) t there = there
 thread-after o (Write u f b content) (Wrote (Ok scn)) t there = IsThread-with_change o.logs (record { inc = o.inc; thread = u; scn = scn; file = f; block = b; content = content }) t there
 thread-after o (Write u f b content) (Wrote (Err fault)) t there = there
+thread-after o (Mend f row) (Found found) t there = there
+thread-after o (Mend f row) (Wrote w) t there = there
+thread-after o (Mend f row) (Mended true) t there = there
+thread-after o (Mend f row) (Mended false) t there = there
 
 thread-fold : (o : Parts) (es : List Event) (t : ℕ) → IsThread o.logs t → IsThread (fold_of o es).logs t
 thread-fold o [] t there = there

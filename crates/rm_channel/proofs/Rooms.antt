@@ -10,13 +10,13 @@ use Rattle.rm_base.specs.declared.block.Row.{Row}
 use Rattle.rm_redo.specs.Online.{IsThread, thread_records, record_of, with_change}
 use Rattle.rm_redo.proofs.Logs.{IsThread-with_change, thread_records-with_change, thread_records-with_change_other}
 use Rattle.rm_live.specs.declared.history.Answer.{Answer}
-use Rattle.rm_live.specs.declared.history.Answer.TheVariants.{Found, Wrote}
+use Rattle.rm_live.specs.declared.history.Answer.TheVariants.{Found, Mended, Wrote}
 use Rattle.rm_live.specs.declared.history.Call.{Call}
-use Rattle.rm_live.specs.declared.history.Call.TheVariants.{Read, Write}
+use Rattle.rm_live.specs.declared.history.Call.TheVariants.{Mend, Read, Write}
 use Rattle.rm_live.specs.declared.history.Event.{Event}
 use Rattle.rm_live.specs.declared.history.LiveFault.{LiveFault}
 use Rattle.rm_live.specs.declared.history.LiveFault.TheVariants.{NoBlock, Full, LastScn, NoMemory}
-use Rattle.rm_live.specs.Parts.{Parts, row_at, refusal_by, refusal_of}
+use Rattle.rm_live.specs.Parts.{Parts, row_at, refusal_by, refusal_of, with_put}
 use Rattle.rm_live.specs.History.{IsLegal, IsRight, IsWrite, after, with_write}
 use Rattle.rm_live.specs.Ruled.{total, one_if}
 use Rattle.rm_channel.specs.Made.{is_by}
@@ -27,11 +27,13 @@ use Rattle.rm_channel.proofs.There.{there-after}
 abbrev pub is_lost : Parts → Call → Bool
 is_lost p (Read f b) = false
 is_lost p (Write t f b content) = is_none (row_at p.files f b)
+is_lost p (Mend f row) = false
 
 -- a write
 abbrev pub is_write : Call → Bool
 is_write (Read f b) = false
 is_write (Write t f b content) = true
+is_write (Mend f row) = false
 
 -- how many of the events pass a test of their calls
 abbrev pub count : (Call → Bool) → List Event → ℕ
@@ -60,6 +62,7 @@ lost-by (Some x) (Some y) h = omega arith
 -- a call loses no block that is there
 lost-call : (p : Parts) (c : Call) (a : Answer) (d : Call) → one_if (is_lost (after p c a) d) ≤ one_if (is_lost p d)
 lost-call p c a (Read f b) = omega arith
+lost-call p c a (Mend f row) = omega arith
 lost-call p c a (Write t f b content) = lost-by (row_at p.files f b) (row_at (after p c a).files f b) (there-after p c a f b)
 
 lost-after : (p : Parts) (c : Call) (a : Answer) (es : List Event) → count (is_lost (after p c a)) es ≤ count (is_lost p) es
@@ -104,10 +107,24 @@ room-write p t f b scn content es e is at room = record {
     there : IsThread p.logs t
     there = let here : one_if (is_by t e.call) ≡ 1 = ap (λ (c : Call). one_if (is_by t c)) is ∙ by-self t in room.threads t (omega arith)
 
+-- one mend
+room-mend : (p : Parts) (f : ℕ) (row : Row) (es : List Event) (e : Event) → e.call ≡ Mend f row → HasRoom p (e ∷ es) → HasRoom (record p { files = with_put p.files f row }) es
+room-mend p f row es e is room = record {
+  blocks = let h = room.blocks in let k = lost-after p (Mend f row) (Mended true) es in omega arith;
+  threads = λ t pos. room.threads t (omega arith);
+  logs = λ t pos. let h = room.logs t (omega arith) in omega arith;
+  scns = let h = room.scns in omega arith;
+}
+
 -- one event less
 room-by : (p : Parts) (c : Call) (a : Answer) (es : List Event) (e : Event) → e.call ≡ c → HasRoom p (e ∷ es) → IsRight p c a → HasRoom (after p c a) es
 room-by p (Read f b) a es e is room right = room-less p (Read f b) es e is room
 room-by p (Write t f b content) (Found row) es e is room right = absurd right
+room-by p (Write t f b content) (Mended made) es e is room right = absurd right
+room-by p (Mend f row) (Found found) es e is room right = absurd right
+room-by p (Mend f row) (Wrote w) es e is room right = absurd right
+room-by p (Mend f row) (Mended true) es e is room right = room-mend p f row es e is room
+room-by p (Mend f row) (Mended false) es e is room right = room-less p (Mend f row) es e is room
 room-by p (Write t f b content) (Wrote (Ok scn)) es e is room right = room-write p t f b scn content es e is right.1 room
 room-by p (Write t f b content) (Wrote (Err fault)) es e is room right = room-less p (Write t f b content) es e is room
 
@@ -117,6 +134,7 @@ none-by (Some row) full last there f l records now is is' = rw (is, f, is', l) r
 
 allowed-by : (refusal : Option LiveFault) (a : Answer) (p : Parts) → refusal ≡ None → IsWrite p refusal a → is_refused a ≡ false
 allowed-by refusal (Found row) p none right = refl
+allowed-by refusal (Mended made) p none right = refl
 allowed-by refusal (Wrote (Ok scn)) p none right = refl
 allowed-by refusal (Wrote (Err NoMemory)) p none right = refl
 allowed-by refusal (Wrote (Err NoBlock)) p none right = let bad = sym none ∙ right in absurd (cc bad)
@@ -131,6 +149,10 @@ off-by false e = refl
 right-by : (p : Parts) (c : Call) (a : Answer) (es : List Event) (e : Event) → e.call ≡ c → HasRoom p (e ∷ es) → IsRight p c a → is_refused a ≡ false
 right-by p (Read f b) (Found row) es e is room right = refl
 right-by p (Read f b) (Wrote w) es e is room right = absurd right
+right-by p (Read f b) (Mended made) es e is room right = absurd right
+right-by p (Mend f row) (Found found) es e is room right = absurd right
+right-by p (Mend f row) (Wrote w) es e is room right = absurd right
+right-by p (Mend f row) (Mended made) es e is room right = refl
 right-by p (Write t f b content) a es e is room right =
     let lost : one_if (is_none (row_at p.files f b)) ≡ 0 = ap (λ (c : Call). one_if (is_lost p c)) (sym is) ∙ (let h = room.blocks in let k : one_if (is_lost p e.call) ≡ 0 = omega arith in k) in
     let here : one_if (is_by t e.call) ≡ 1 = ap (λ (c : Call). one_if (is_by t c)) is ∙ by-self t in

@@ -1,7 +1,7 @@
 -- What calls of several workers leave in the history.
 use Rattle.std.specs.Prelude.{◌≡◌, ◌==◌, ◌≤◌, ℕ, Bool, false, Option, IfSome, List, [], ◌∷◌, ◌++◌, filter, length, map, nat_lt, if◌then◌else◌}
 use Rattle.rm_live.specs.declared.history.Call.{Call}
-use Rattle.rm_live.specs.declared.history.Call.TheVariants.{Read, Write}
+use Rattle.rm_live.specs.declared.history.Call.TheVariants.{Mend, Read, Write}
 use Rattle.rm_live.specs.declared.history.Event.{Event}
 use Rattle.rm_live.specs.History.{IsLegal, fold_of, times}
 use Rattle.rm_live.specs.Passes.{Standing}
@@ -23,6 +23,7 @@ mine numbers (e ∷ es) = if nat_lt 0 (times e.by numbers) then deed e ∷ mine 
 abbrev pub is_by : ℕ → Call → Bool
 is_by t (Read f b) = false
 is_by t (Write u f b content) = t == u
+is_by t (Mend f row) = false
 
 abbrev pub did_by : ℕ → Deed → Bool
 did_by t d = is_by t d.0

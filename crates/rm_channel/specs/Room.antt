@@ -8,13 +8,14 @@ use Rattle.rm_redo.specs.Logs.{Logs}
 use Rattle.rm_redo.specs.Online.{IsThread, IsLost, thread_records}
 use Rattle.rm_live.specs.Parts.{Parts, row_at}
 use Rattle.rm_live.specs.Ruled.{total}
-use Rattle.rm_channel.specs.Jobs.{blocks_in}
+use Rattle.rm_channel.specs.Jobs.{IsWanted, size_of}
 use Rattle.rm_channel.specs.declared.jobs.CopyJob.{CopyJob}
 use Rattle.rm_channel.specs.declared.jobs.WriteJob.{WriteJob}
 
--- the datafile of the job is there, and has so many blocks
-abbrev pub IsThere : List File → CopyJob → Type 0
-IsThere files j = option_map (λ (x : File). length x.rows) (find (λ (x : File). x.file == j.file) files) ≡ Some (blocks_in j.wanted)
+-- The datafile of the job is there, and has as many blocks as the job says.
+pub record IsThere (files : List File) (j : CopyJob) : Type 0 where
+  pub size : option_map (λ (x : File). length x.rows) (find (λ (x : File). x.file == j.file) files) ≡ Some (size_of j.wanted)
+  pub wanted : IsWanted j.wanted
 
 -- the block of the write is there
 abbrev pub HasBlock : List File → WriteJob → Type 0

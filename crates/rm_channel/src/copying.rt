@@ -2,7 +2,7 @@
 ghost use Rattle.std.specs.Prelude.{◌≡◌, ◌+◌, ◌-◌, ◌<◌, ◌≤◌, Ok, [], ◌∷◌, length, map, All, IfOk};
 ghost use Rattle.rm_live.specs.History.{fold_of};
 ghost use Rattle.rm_live.specs.Passes.{IsLater, IsOnly};
-ghost use Rattle.rm_channel.specs.Jobs.{blocks_in, lists};
+ghost use Rattle.rm_channel.specs.Jobs.{IsWanted, blocks_in, lists};
 ghost use Rattle.rm_channel.specs.Room.{AreThreads, CanWrite, IsThere};
 ghost use Rattle.rm_channel.specs.Runs.{CanRun, HasCopied, HasRead, HasRun, IsGathered, IsWork, side_by_side};
 ghost use Rattle.rm_channel.specs.Sections.{sections};
@@ -115,8 +115,8 @@ fn run<G: Gate, R: Threads + Wait + Sync>(
     (all, gathered(first, last))
 }
 
-/// Copies a datafile by so many channels, 1 to 16: each of its blocks is read once. Channel k reads
-/// section k of the blocks, and calls the gate once before. The pass has at least as many numbers as
+/// Copies a datafile by so many channels, 1 to 16: each of its wanted blocks is read once. Channel k reads
+/// section k of them, and calls the gate once before. The pass has at least as many numbers as
 /// there are channels, and gets them back, also where memory is wanting.
 pub fn copy_file<G: Gate, R: Threads + Wait + Sync>(
     rt: &R,
@@ -165,7 +165,7 @@ fn rows_of(done: Result<Done, NoMemory>) -> Result<Vec<Row>, NoMemory>
 }
 
 /// Copies datafiles by so many channels, 1 to 16, while others write: past what the pass has seen stand
-/// exactly one read of each block of each job, and one write of each of `writers`, those of list k by
+/// exactly one read of each wanted block of each job, and one write of each of `writers`, those of list k by
 /// thread k + 1 in their order. Channel k reads section k of each job, and calls the gate once before
 /// each; each list has a worker of its own, which calls it once before its writes. The pass is the only
 /// one and has a number for each of them; there are at most four lists, and room for all writes. It
@@ -204,6 +204,7 @@ pub fn copy_during<G: Gate, R: Threads + Wait + Sync>(
 
 // What a whole copy gives.
 fn work_of(alloc: Global, jobs: &[CopyJob], done: Result<Done, NoMemory>) -> Result<Work, NoMemory>
+    requires { All (λ j. IsWanted j.wanted) jobs.now }
     ensures { IsWork jobs.now done result }
 {
     let Done { rows, answers } = done?;
@@ -214,6 +215,7 @@ fn work_of(alloc: Global, jobs: &[CopyJob], done: Result<Done, NoMemory>) -> Res
 
 // Of each job how many blocks were read.
 fn reads_of(alloc: Global, jobs: &[CopyJob]) -> Result<Vec<u64>, NoMemory>
+    requires { All (λ j. IsWanted j.wanted) jobs.now }
     ensures { IfOk result (λ v. v.items ≡ map (λ j. blocks_in j.wanted) jobs.now) }
 {
     let mut reads = Vec::with_capacity(alloc, jobs.len())?;

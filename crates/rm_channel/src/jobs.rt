@@ -1,15 +1,18 @@
 //! What a copy is asked for, and what it gives.
 use rm_base::{Block, BlockNo, FileNo, Row, Scn};
+use rm_track::Bits;
 
 /// Which blocks of a datafile are wanted.
-#[derive(Clone, Copy, PartialEq, Eq)]
+#[derive(Drop)]
 pub enum Wanted {
     /// Each of its blocks, of which there are so many.
     All(u32),
+    /// Those of its blocks that are in these bits, which are of as many blocks as it has.
+    Blocks(Bits),
 }
 
 /// A datafile to be copied.
-#[derive(Clone, Copy, PartialEq, Eq)]
+#[derive(Drop)]
 pub struct CopyJob {
     pub file: FileNo,
     pub wanted: Wanted,

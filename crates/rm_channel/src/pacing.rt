@@ -4,7 +4,7 @@
 //! have to wait for a processor. So the workers of a copy share a plain lock, and one of them holds it for a run of its
 //! turns, while the others draw no ticket: each turn is still one event. Under the lock nothing is called but the
 //! live database, and no other lock is taken.
-ghost use Rattle.std.specs.Prelude.{ℕ, ◌≡◌, ◌+◌, ◌-◌, ◌≤◌, ◌<◌, [], ◌∷◌, length, IsSome, Some};
+ghost use Rattle.std.specs.Prelude.{◌≡◌, ◌+◌, ◌≤◌, ◌<◌, [], ◌∷◌, length, All, IsSome, Some};
 ghost use Rattle.std.specs.Vec.{vec_capacity, vec_len};
 ghost use Rattle.rm_redo.specs.Online.{IsThread, IsLost};
 ghost use Rattle.rm_live.specs.declared.history.Answer.TheVariants.{Found};
@@ -20,7 +20,7 @@ use rm_live::{Live, LiveFault, Pass};
 use std::sync::{Mutex, Wait};
 
 // The reads of a run: some millionths of a second, which is long beside taking the lock, and short for who waits for it.
-pub(crate) const RUN_OF_READS: u32 = 256;
+pub(crate) const RUN_OF_READS: usize = 256;
 
 // The writes of a run: fewer, so that threads with short lists still write in turn.
 pub(crate) const RUN_OF_WRITES: usize = 16;
@@ -39,30 +39,28 @@ fn read_block<R: Wait>(rt: &R, live: &Live, pass: &mut Pass, file: FileNo, block
     }
 }
 
-// Reads blocks of a datafile, from one on and up to another, behind rows that have room for them, while no other worker
-// takes a turn.
+// Reads these blocks of a datafile, in order, while no other worker takes a turn. Their rows come behind those that have
+// room for them.
 pub(crate) fn read_run<R: Wait>(
     rt: &R,
     live: &Live,
     pace: &Mutex<()>,
     pass: &mut Pass,
     file: FileNo,
-    from: BlockNo,
-    to: BlockNo,
+    blocks: &[BlockNo],
     rows: &mut Vec<Row>,
 )
     requires home { pass.old.home ≡ live.now }
     requires some { 0 < length pass.old.numbers }
-    requires order { from ≤ to }
-    requires there { (b : ℕ) → b < to → IsSome (row_at pass.old.opening.files file b) }
-    requires room { vec_len rows.old + (to - from) ≤ vec_capacity rows.old }
+    requires there { All (λ b. IsSome (row_at pass.old.opening.files file b)) blocks.now }
+    requires room { vec_len rows.old + length blocks.now ≤ vec_capacity rows.old }
     ensures stays { IsLater pass.old pass.new }
     ensures capacity { vec_capacity rows.new ≡ vec_capacity rows.old }
-    ensures did { DidMore pass.old pass.new.seen (found file from) (to - from) rows.old.items rows.new.items }
+    ensures did { DidMore pass.old pass.new.seen (found file blocks.now) (length blocks.now) rows.old.items rows.new.items }
 {
     let _run = pace.lock(rt);
-    for block in from..to {
-        rows.push_reserved(read_block(rt, live, pass, file, block));
+    for block in blocks {
+        rows.push_reserved(read_block(rt, live, pass, file, *block));
     }
 }
 

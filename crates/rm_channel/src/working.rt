@@ -1,18 +1,18 @@
 //! What one worker does.
-ghost use Rattle.std.specs.Prelude.{ℕ, ◌≡◌, ◌+◌, ◌-◌, ◌≤◌, ◌<◌, [], ◌∷◌, length, replicate, All, IfOk, IsSome};
+ghost use Rattle.std.specs.Prelude.{ℕ, ◌≡◌, ◌+◌, ◌-◌, ◌≤◌, ◌<◌, List, [], ◌∷◌, length, replicate, All, IfOk, IsSome};
 ghost use Rattle.std.specs.Option.{option_map};
 ghost use Rattle.std.specs.Result.{result_ok};
 ghost use Rattle.rm_redo.specs.Online.{IsThread, IsLost};
 ghost use Rattle.rm_live.specs.Parts.{row_at};
 ghost use Rattle.rm_live.specs.Passes.{IsLater};
-ghost use Rattle.rm_channel.specs.Jobs.{AreAsLong, AreRows, found, found_of, lists, reads, reads_of, writes, wrote, wrote_of};
+ghost use Rattle.rm_channel.specs.Jobs.{AreAsLong, AreRows, IsWanted, blocks_in, found, found_of, lists, reads, reads_of, wanted_blocks, writes, wrote, wrote_of};
 ghost use Rattle.rm_channel.specs.Made.{Worked};
 ghost use Rattle.rm_channel.specs.Room.{AreThreads, IsThere};
 ghost use Rattle.rm_channel.specs.Runs.{HasRun};
-ghost use Rattle.rm_channel.specs.Sections.{sections};
+ghost use Rattle.rm_channel.specs.Sections.{between, sections};
 
 use crate::cutting::cut_at;
-use crate::jobs::{CopyJob, Gate, Point, WriteJob};
+use crate::jobs::{CopyJob, Gate, Point, Wanted, WriteJob};
 use crate::pacing::{RUN_OF_READS, RUN_OF_WRITES, read_run, write_run};
 use rm_base::{BlockNo, FileNo, NoMemory, Row, Scn, ThreadNo};
 use rm_live::{Live, LiveFault, Pass};
@@ -37,7 +37,34 @@ pub(crate) struct Share {
     pub thread: ThreadNo,
 }
 
-// Reads blocks of a datafile, from one on and up to another, run after run.
+// Reads these blocks of a datafile, run after run.
+fn read_list<R: Wait>(
+    rt: &R,
+    alloc: Global,
+    live: &Live,
+    pace: &Mutex<()>,
+    pass: &mut Pass,
+    file: FileNo,
+    blocks: &[BlockNo],
+) -> Result<Vec<Row>, NoMemory>
+    requires home { pass.old.home ≡ live.now }
+    requires some { 0 < length pass.old.numbers }
+    requires there { All (λ b. IsSome (row_at pass.old.opening.files file b)) blocks.now }
+    ensures stays { IsLater pass.old pass.new }
+    ensures worked { Worked pass.old pass.new.seen (reads file blocks.now) (option_map (λ v. found file blocks.now v.items) (result_ok result)) }
+    ensures rows { IfOk result (λ v. length v.items ≡ length blocks.now) }
+{
+    let mut rows = Vec::with_capacity(alloc, blocks.len())?;
+    let mut left = blocks;
+    'runs: while !left.is_empty() {
+        let (run, rest) = left.split_at(RUN_OF_READS.min(left.len()));
+        read_run(rt, live, pace, pass, file, run, &mut rows);
+        left = rest;
+    }
+    Ok(rows)
+}
+
+// Reads the wanted blocks of a datafile from place `from` on and up to place `to`.
 fn read_blocks<R: Wait>(
     rt: &R,
     alloc: Global,
@@ -45,25 +72,22 @@ fn read_blocks<R: Wait>(
     pace: &Mutex<()>,
     pass: &mut Pass,
     file: FileNo,
-    from: BlockNo,
-    to: BlockNo,
+    wanted: &Wanted,
+    from: u32,
+    to: u32,
 ) -> Result<Vec<Row>, NoMemory>
     requires home { pass.old.home ≡ live.now }
     requires some { 0 < length pass.old.numbers }
+    requires wanted { IsWanted wanted.now }
     requires order { from ≤ to }
-    requires there { (b : ℕ) → b < to → IsSome (row_at pass.old.opening.files file b) }
+    requires within { to ≤ blocks_in wanted.now }
+    requires there { All (λ b. IsSome (row_at pass.old.opening.files file b)) (wanted_blocks wanted.now) }
     ensures stays { IsLater pass.old pass.new }
-    ensures worked { Worked pass.old pass.new.seen (reads file from (to - from)) (option_map (λ v. found file from v.items) (result_ok result)) }
-    ensures rows { IfOk result (λ v. length v.items ≡ to - from) }
+    ensures worked { let bs : List ℕ = between from to (wanted_blocks wanted.now) in Worked pass.old pass.new.seen (reads file bs) (option_map (λ v. found file bs v.items) (result_ok result)) }
+    ensures rows { IfOk result (λ v. length v.items ≡ length (between from to (wanted_blocks wanted.now))) }
 {
-    let mut rows = Vec::with_capacity(alloc, (to - from) as usize)?;
-    let mut next = from;
-    'runs: while next < to {
-        let end = next + RUN_OF_READS.min(to - next);
-        read_run(rt, live, pace, pass, file, next, end, &mut rows);
-        next = end;
-    }
-    Ok(rows)
+    let blocks = wanted.part(alloc, from, to)?;
+    read_list(rt, alloc, live, pace, pass, file, blocks.as_slice())
 }
 
 // Reads one section of each job, job after job, and calls the gate before each.
@@ -96,7 +120,17 @@ fn read_sections<G: Gate, R: Wait>(
             section,
             blocks: to - from,
         });
-        all.push_reserved(read_blocks(rt, alloc, live, pace, pass, job.file, from, to)?);
+        all.push_reserved(read_blocks(
+            rt,
+            alloc,
+            live,
+            pace,
+            pass,
+            job.file,
+            &job.wanted,
+            from,
+            to,
+        )?);
     }
     Ok(all)
 }

@@ -15,14 +15,14 @@ use Rattle.rm_redo.specs.Logs.{Logs}
 use Rattle.rm_redo.specs.Online.{IsThread, IsLost, thread_records, record_of, with_change, with_record}
 use Rattle.rm_redo.proofs.Logs.{IsThread-with_change, IsLost-with_change, inc-with_change}
 use Rattle.rm_live.specs.declared.history.Answer.{Answer}
-use Rattle.rm_live.specs.declared.history.Answer.TheVariants.{Found, Wrote}
+use Rattle.rm_live.specs.declared.history.Answer.TheVariants.{Found, Mended, Wrote}
 use Rattle.rm_live.specs.declared.history.Call.{Call}
-use Rattle.rm_live.specs.declared.history.Call.TheVariants.{Read, Write}
+use Rattle.rm_live.specs.declared.history.Call.TheVariants.{Mend, Read, Write}
 use Rattle.rm_live.specs.declared.history.Event.{Event}
 use Rattle.rm_live.specs.declared.history.LiveFault.TheVariants.{Full, LastScn}
-use Rattle.rm_live.specs.Parts.{Parts, IsSound, refusal_by, refusal_of, row_at}
+use Rattle.rm_live.specs.Parts.{Parts, IsSound, refusal_by, refusal_of, row_at, with_put}
 use Rattle.rm_live.specs.History.{IsRight, IsLegal, after, fold_of, with_write}
-use Rattle.rm_live.proofs.Files.{All-with_row}
+use Rattle.rm_live.proofs.Files.{All-with_put}
 
 not-eq : (m n : ℕ) → (m == n) ≡ false → m ≢ n
 not-eq m n is same = true≢false (sym (eq-eqb m n same) ∙ is)
@@ -71,9 +71,20 @@ write-sound p t f b content sound room =
       begun = omega (arith, sound.begun);
       last = omega (arith, sound.last, room);
       first = All-with_change (λ (l : ThreadLog). l.first ≤ s) p.logs c (λ l le. le) first;
-      rows = All-with_row (λ (x : File). All (λ (r : Row). r.version < s) x.rows) p.files f b p.now content (λ x all. row-below s x.rows b (record { block = b; version = p.now; content = content }) (omega arith) all) rows;
+      rows = All-with_put (λ (x : File). All (λ (r : Row). r.version < s) x.rows) p.files f (record { block = b; version = p.now; content = content }) (λ x all. row-below s x.rows b (record { block = b; version = p.now; content = content }) (omega arith) all) rows;
       records = All-with_change (λ (l : ThreadLog). All (λ (r : LogRecord). r.scn < s) l.records) p.logs c (λ l all. All-push (λ (r : LogRecord). r.scn < s) l.records (record_of c) all (omega arith)) records;
     }
+
+-- so does a row that is older than the next write
+mend-sound : (p : Parts) (f : ℕ) (row : Row) → IsSound p → row.version < p.now → IsSound (record p { files = with_put p.files f row })
+mend-sound p f row sound older = record {
+  inc = sound.inc;
+  begun = sound.begun;
+  last = sound.last;
+  first = sound.first;
+  rows = All-with_put (λ (x : File). All (λ (r : Row). r.version < p.now) x.rows) p.files f row (λ x all. row-below p.now x.rows row.block row older all) sound.rows;
+  records = sound.records;
+}
 
 -- a call that is rightly answered keeps it so
 pub after-sound : (p : Parts) (c : Call) (a : Answer) → IsSound p → IsRight p c a → IsSound (after p c a)
@@ -82,6 +93,11 @@ after-sound p (Write t f b content) (Found row) sound right = sound
 after-sound p (Write t f b content) (Wrote (Ok scn)) sound right =
     subst (λ n. IsSound (with_write p t f b content n)) (sym right.1) (write-sound p t f b content sound (allowed p t f b right.0).1)
 after-sound p (Write t f b content) (Wrote (Err fault)) sound right = sound
+after-sound p (Write t f b content) (Mended made) sound right = sound
+after-sound p (Mend f row) (Found found) sound right = sound
+after-sound p (Mend f row) (Wrote w) sound right = sound
+after-sound p (Mend f row) (Mended true) sound right = mend-sound p f row sound right.1
+after-sound p (Mend f row) (Mended false) sound right = sound
 
 -- and so does a legal list of events
 pub fold-sound : (p : Parts) (log : List Event) → IsSound p → IsLegal p log → IsSound (fold_of p log)
@@ -94,6 +110,11 @@ after-thread p (Write u f b content) (Found row) t is = is
 after-thread p (Write u f b content) (Wrote (Ok scn)) t is =
     IsThread-with_change p.logs (record { inc = p.inc; thread = u; scn = scn; file = f; block = b; content = content }) t is
 after-thread p (Write u f b content) (Wrote (Err fault)) t is = is
+after-thread p (Write u f b content) (Mended made) t is = is
+after-thread p (Mend f row) (Found found) t is = is
+after-thread p (Mend f row) (Wrote w) t is = is
+after-thread p (Mend f row) (Mended true) t is = is
+after-thread p (Mend f row) (Mended false) t is = is
 
 -- a thread that is there stays there
 pub fold-thread : (p : Parts) (log : List Event) (t : ℕ) → IsThread p.logs t → IsThread (fold_of p log).logs t
@@ -106,8 +127,29 @@ after-found p (Write u f b content) (Found row) t is = is
 after-found p (Write u f b content) (Wrote (Ok scn)) t is =
     IsLost-with_change p.logs (record { inc = p.inc; thread = u; scn = scn; file = f; block = b; content = content }) t is
 after-found p (Write u f b content) (Wrote (Err fault)) t is = is
+after-found p (Write u f b content) (Mended made) t is = is
+after-found p (Mend f row) (Found found) t is = is
+after-found p (Mend f row) (Wrote w) t is = is
+after-found p (Mend f row) (Mended true) t is = is
+after-found p (Mend f row) (Mended false) t is = is
 
 -- and one that is not lost is not lost later
 pub fold-found : (p : Parts) (log : List Event) (t : ℕ) → ¬ IsLost p.logs t → ¬ IsLost (fold_of p log).logs t
 fold-found p [] t is = is
 fold-found p (e ∷ es) t is = fold-found (after p e.call e.answer) es t (after-found p e.call e.answer t is)
+
+after-now : (p : Parts) (c : Call) (a : Answer) → IsRight p c a → p.now ≤ (after p c a).now
+after-now p (Read f b) a right = omega arith
+after-now p (Write t f b content) (Found row) right = omega arith
+after-now p (Write t f b content) (Mended made) right = omega arith
+after-now p (Write t f b content) (Wrote (Ok scn)) right = omega (arith, right.1)
+after-now p (Write t f b content) (Wrote (Err fault)) right = omega arith
+after-now p (Mend f row) (Found found) right = omega arith
+after-now p (Mend f row) (Wrote w) right = omega arith
+after-now p (Mend f row) (Mended true) right = omega arith
+after-now p (Mend f row) (Mended false) right = omega arith
+
+-- `now` never falls
+pub fold-now : (p : Parts) (log : List Event) → IsLegal p log → p.now ≤ (fold_of p log).now
+fold-now p [] legal = omega arith
+fold-now p (e ∷ es) legal = omega (arith, after-now p e.call e.answer legal.0, fold-now (after p e.call e.answer) es legal.1)

@@ -5,32 +5,37 @@ use Rattle.std.specs.Option.{option_map_or}
 use Rattle.rm_base.specs.Numbers.{last_scn}
 use Rattle.rm_base.specs.declared.block.Block.{Block}
 use Rattle.rm_base.specs.declared.block.Row.{Row}
-use Rattle.rm_blocks.specs.File.{File, written}
+use Rattle.rm_blocks.specs.File.{File, put}
 use Rattle.rm_redo.specs.Logs.{Logs}
 use Rattle.rm_redo.specs.Online.{thread_records}
+use Rattle.rm_track.specs.Bitmaps.{Tracked}
 use Rattle.rm_live.specs.declared.database.Database.{Database}
 use Rattle.rm_live.specs.declared.history.LiveFault.{LiveFault}
 use Rattle.rm_live.specs.declared.history.LiveFault.TheVariants.{NoBlock, Full, LastScn}
 
--- its incarnation, the SCN that the next write takes, its datafiles and its online logs
+-- its incarnation, the SCN that the next write takes, its datafiles, its online logs, and the bitmaps of its datafiles
 pub record Parts : Type 0 where
   pub inc : ℕ
   pub now : ℕ
   pub files : List File
   pub logs : Logs
+  pub tracker : List Tracked
 
 abbrev pub parts_of : Database → Parts
-parts_of d = record { inc = d.inc; now = d.now; files = d.files.items; logs = d.logs }
+parts_of d = record { inc = d.inc; now = d.now; files = d.files.items; logs = d.logs; tracker = d.tracker }
 
 -- the row of block b of file f, if there is one
 abbrev pub row_at : List File → ℕ → ℕ → Option Row
 row_at files f b = option_map_or (λ (x : File). slice_get x.rows b) (find (λ (x : File). x.file == f) files) None
 
--- the datafiles with another content of block b of file f, of that version
+-- the datafiles with a row of file f in place of the one of its block
+abbrev pub with_put : List File → ℕ → Row → List File
+with_put [] f row = []
+with_put (x ∷ xs) f row = if x.file == f then put x row ∷ xs else x ∷ with_put xs f row
+
+-- with another content of block b of file f, of that version
 abbrev pub with_row : List File → ℕ → ℕ → ℕ → Block → List File
-with_row [] f b scn content = []
-with_row (x ∷ xs) f b scn content =
-    if x.file == f then written x b scn content ∷ xs else x ∷ with_row xs f b scn content
+with_row files f b scn content = with_put files f (record { block = b; version = scn; content = content })
 
 -- why a write is refused, if it is, that finds this row, so many records of its thread, and this `now`
 abbrev pub refusal_by : Option Row → ℕ → ℕ → Option LiveFault

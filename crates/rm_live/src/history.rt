@@ -34,6 +34,8 @@ impl From<LogFault> for LiveFault {
 pub enum Call {
     Read(FileNo, BlockNo),
     Write(ThreadNo, FileNo, BlockNo, Block),
+    /// A row takes the place of the one of its block.
+    Mend(FileNo, Row),
 }
 
 /// Its answer.
@@ -41,6 +43,7 @@ pub enum Call {
 pub enum Answer {
     Found(Option<Row>),
     Wrote(Result<Scn, LiveFault>),
+    Mended(bool),
 }
 
 /// A call with its answer, and the number of its caller.

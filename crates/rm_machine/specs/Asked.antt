@@ -1,6 +1,8 @@
 -- What a BACKUP asks of its channels and writers.
 use Rattle.std.specs.Prelude.{ℕ, zero, suc, ◌<◌, ◌^◌, ◌==◌, unwrap_or, List, [], ◌∷◌, filter, length, map}
-use Rattle.rm_channel.specs.Jobs.{Span}
+use Rattle.rm_channel.specs.Jobs.{Span, whole}
+use Rattle.rm_channel.specs.declared.jobs.CopyJob.{CopyJob}
+use Rattle.rm_channel.specs.declared.jobs.Wanted.TheVariants.{All}
 use Rattle.rm_channel.specs.declared.jobs.WriteJob.{WriteJob}
 use Rattle.rm_lang_statement.specs.declared.command.BackupForm.{BackupForm}
 use Rattle.rm_lang_statement.specs.declared.command.WriteForm.{WriteForm}
@@ -34,6 +36,10 @@ lists_from t (suc n) ws = by_thread t ws ∷ lists_from (suc t) n ws
 abbrev pub writers_of : State → BackupForm → List (List WriteJob)
 writers_of s b = lists_from 1 (ledger s).base.threads (writes_in b)
 
--- all blocks of a datafile that is backed up
+-- a copy of all blocks of a datafile that is backed up
+abbrev pub copy_job : State → Job → CopyJob
+copy_job s j = record { file = j.file; wanted = All (length (rows_in s j.file)) }
+
+-- these blocks
 abbrev pub span_of : State → Job → Span
-span_of s j = record { file = j.file; first = 0; count = length (rows_in s j.file) }
+span_of s j = whole (copy_job s j)

@@ -1,31 +1,37 @@
 -- The database of a state as its channels and writers find it, and what their events leave of the state.
-use Rattle.std.specs.Prelude.{ℕ, Ok, Err, List, [], ◌∷◌, ◌++◌}
+use Rattle.std.specs.Prelude.{ℕ, ◌-◌, true, false, Ok, Err, List, [], ◌∷◌, ◌++◌, slice_set}
 use Rattle.std.specs.List.{filter_map}
+use Rattle.std.specs.Option.{option_map}
 use Rattle.rm_base.specs.declared.block.Block.{Block}
 use Rattle.rm_base.specs.declared.block.Change.{Change}
-use Rattle.rm_blocks.specs.File.{File}
+use Rattle.rm_base.specs.declared.block.Row.{Row}
+use Rattle.rm_blocks.specs.File.{File, put}
 use Rattle.rm_live.specs.declared.history.Answer.{Answer}
-use Rattle.rm_live.specs.declared.history.Answer.TheVariants.{Found, Wrote}
+use Rattle.rm_live.specs.declared.history.Answer.TheVariants.{Found, Mended, Wrote}
 use Rattle.rm_live.specs.declared.history.Call.{Call}
-use Rattle.rm_live.specs.declared.history.Call.TheVariants.{Read, Write}
+use Rattle.rm_live.specs.declared.history.Call.TheVariants.{Mend, Read, Write}
 use Rattle.rm_live.specs.declared.history.Event.{Event}
 use Rattle.rm_live.specs.Parts.{Parts}
 use Rattle.rm_lang_statement.specs.declared.command.WriteForm.{WriteForm}
 use Rattle.rm_machine.specs.declared.state.State.{State}
-use Rattle.rm_machine.specs.State.{current_of, now_of}
+use Rattle.rm_machine.specs.State.{current_of, now_of, placed}
 use Rattle.rm_machine.specs.Write.{change_of, with_write}
 
 -- the datafiles that stand in place
 abbrev pub standing_in : State → List File
 standing_in s = filter_map (λ o. o) s.instance.place
 
--- what its channels and writers find
+-- what its channels and writers find; no datafile is tracked
 abbrev pub opening : State → Parts
-opening s = record { inc = current_of s; now = now_of s; files = standing_in s; logs = s.instance.logs }
+opening s = record { inc = current_of s; now = now_of s; files = standing_in s; logs = s.instance.logs; tracker = [] }
 
 -- a WRITE
 abbrev pub write_form : ℕ → ℕ → ℕ → Block → WriteForm
 write_form t f b content = record { thread = t; file = f; block = b; content = content }
+
+-- the state with a row of datafile f in place of the one of its block
+abbrev pub with_mend : State → ℕ → Row → State
+with_mend s f row = record s { instance = record s.instance { place = slice_set s.instance.place (f - 1) (option_map (λ x. put x row) (placed s f)) } }
 
 -- the state after an event: an accepted write is one WRITE more
 abbrev pub after_event : State → Call → Answer → State
@@ -33,6 +39,11 @@ after_event s (Read f b) answer = s
 after_event s (Write t f b content) (Found row) = s
 after_event s (Write t f b content) (Wrote (Ok scn)) = with_write s (write_form t f b content)
 after_event s (Write t f b content) (Wrote (Err fault)) = s
+after_event s (Write t f b content) (Mended made) = s
+after_event s (Mend f row) (Found found) = s
+after_event s (Mend f row) (Wrote w) = s
+after_event s (Mend f row) (Mended true) = with_mend s f row
+after_event s (Mend f row) (Mended false) = s
 
 -- the change that it makes
 abbrev pub change_by : State → Call → Answer → List Change
@@ -40,6 +51,8 @@ change_by s (Read f b) answer = []
 change_by s (Write t f b content) (Found row) = []
 change_by s (Write t f b content) (Wrote (Ok scn)) = change_of s (write_form t f b content) ∷ []
 change_by s (Write t f b content) (Wrote (Err fault)) = []
+change_by s (Write t f b content) (Mended made) = []
+change_by s (Mend f row) answer = []
 
 -- the state after the events, and their changes
 abbrev pub after_events : State → List Event → State

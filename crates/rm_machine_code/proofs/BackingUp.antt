@@ -82,7 +82,7 @@ can-marked s false ws all =
 
 -- the base facts stay until the pieces are recorded
 pub base-at_end : (s : State) (b : BackupForm) (events : List Event) → (ledger (at_end s b events)).base ≡ (ledger s).base
-base-at_end s b events = events-same (λ (q : State). (ledger q).base) (λ q w. refl) events (marked s b) ∙ marked-same (λ (q : State). (ledger q).base) s b refl
+base-at_end s b events = events-same (λ (q : State). (ledger q).base) (λ q w. refl) (λ q f row. refl) events (marked s b) ∙ marked-same (λ (q : State). (ledger q).base) s b refl
 
 begins-below : (s : State) (from : Option ℕ) → BeginsWithin s from → BeginsBelow (now_of s) from
 begins-below s None is = tt
@@ -139,7 +139,7 @@ module _ (s : State) (b : BackupForm) (contents : All (λ (w : WriteForm). lengt
   base-end = base-at_end s b events
 
   files-end : (ledger t).files ≡ (ledger s).files
-  files-end = events-same (λ (q : State). (ledger q).files) (λ q w. refl) events u ∙ marked-same (λ (q : State). (ledger q).files) s b refl
+  files-end = events-same (λ (q : State). (ledger q).files) (λ q w. refl) (λ q f row. refl) events u ∙ marked-same (λ (q : State). (ledger q).files) s b refl
 
   pub at : IsCheckpoint t (now_of s)
   at =

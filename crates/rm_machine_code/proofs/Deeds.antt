@@ -11,11 +11,12 @@ use Rattle.rm_channel.specs.Jobs.{AreRows, Deed, Span, deeds_of, found, found_of
 use Rattle.rm_channel.specs.Made.{AreThese, deed, did_by}
 use Rattle.rm_channel.specs.declared.jobs.WriteJob.{WriteJob}
 use Rattle.rm_live.specs.declared.history.Answer.{Answer}
-use Rattle.rm_live.specs.declared.history.Answer.TheVariants.{Found, Wrote}
+use Rattle.rm_live.specs.declared.history.Answer.TheVariants.{Found, Mended, Wrote}
 use Rattle.rm_live.specs.declared.history.Call.{Call}
-use Rattle.rm_live.specs.declared.history.Call.TheVariants.{Read, Write}
+use Rattle.rm_live.specs.declared.history.Call.TheVariants.{Mend, Read, Write}
 use Rattle.rm_live.specs.declared.history.Event.{Event}
-use Rattle.rm_live.specs.Ruled.{one_if, total}
+use Rattle.rm_live.specs.Ruled.{one_if, total, upto}
+use Rattle.rm_live.proofs.Totals.{length_upto}
 use Rattle.rm_lang_statement.specs.declared.command.WriteForm.{WriteForm}
 use Rattle.rm_machine.specs.Backup.{rows_in}
 use Rattle.rm_machine.specs.declared.job.Job.{Job}
@@ -30,18 +31,19 @@ abbrev Asked : List WriteForm → Deed → Type 0
 Asked ws d = IsAsked ws d.0 d.1
 
 -- a read is asked for
-read-asked : (ws : List WriteForm) (f b : ℕ) (rs : List Row) (d : Deed) → Contains (found f b rs) d → Asked ws d
-read-asked ws f b [] d has = absurd (none-in d has)
-read-asked ws f b (r ∷ rs) d has = elim (first-or-rest (Read f b, Found (Some r)) (found f (suc b) rs) d has) [
+read-asked : (ws : List WriteForm) (f : ℕ) (bs : List ℕ) (rs : List Row) (d : Deed) → Contains (found f bs rs) d → Asked ws d
+read-asked ws f [] rs d has = absurd (none-in d has)
+read-asked ws f (b ∷ bs) [] d has = absurd (none-in d has)
+read-asked ws f (b ∷ bs) (r ∷ rs) d has = elim (first-or-rest (Read f b, Found (Some r)) (found f bs rs) d has) [
   | inl same ↦ subst (Asked ws) same tt
-  | inr rest ↦ read-asked ws f (suc b) rs d rest
+  | inr rest ↦ read-asked ws f bs rs d rest
 ]
 
 reads-asked : (ws : List WriteForm) (spans : List Span) (rows : List (List Row)) (d : Deed) → Contains (found_of spans rows) d → Asked ws d
 reads-asked ws [] rows d has = absurd (none-in d has)
 reads-asked ws (s ∷ ss) [] d has = absurd (none-in d has)
-reads-asked ws (s ∷ ss) (rs ∷ rows) d has = elim (Contains-append_cases (found s.file s.first rs) (found_of ss rows) d has) [
-  | inl first ↦ read-asked ws s.file s.first rs d first
+reads-asked ws (s ∷ ss) (rs ∷ rows) d has = elim (Contains-append_cases (found s.file s.blocks rs) (found_of ss rows) d has) [
+  | inl first ↦ read-asked ws s.file s.blocks rs d first
   | inr rest ↦ reads-asked ws ss rows d rest
 ]
 
@@ -76,6 +78,35 @@ deeds-asked ws n spans rows scns d has = elim (Contains-append_cases (found_of s
   | inr rest ↦ writes-asked ws 1 n scns d rest
 ]
 
+-- what a list has is counted, and what is counted it has
+counted : (p : Deed → Bool) (ds : List Deed) (d : Deed) → Contains ds d → p d ≡ true → 1 ≤ total (λ x. one_if (p x)) ds
+counted p [] d has is = absurd (none-in d has)
+counted p (x ∷ xs) d has is = elim (first-or-rest x xs d has) [
+  | inl same ↦ let one : one_if (p x) ≡ 1 = ap one_if (ap p same ∙ is) in omega (arith, one)
+  | inr rest ↦ let more = counted p xs d rest is in omega (arith, more)
+]
+
+had : (p : Deed → Bool) (ds : List Deed) → 1 ≤ total (λ x. one_if (p x)) ds → (d : Deed) × Contains ds d × (p d ≡ true)
+had p [] some = absurd (omega (arith, some))
+had p (x ∷ xs) some = elim (cases_Bool (p x)) [
+  | inl is ↦ (x, in-front x xs, is)
+  | inr not ↦
+      let none : one_if (p x) ≡ 0 = ap one_if not in
+      let rest = had p xs (omega (arith, some, none)) in
+      (rest.0, behind x xs rest.0 rest.1, rest.2)
+]
+
+-- no row is mended
+abbrev is_mend : Deed → Bool
+is_mend (Read f b, answer) = false
+is_mend (Write t f b content, answer) = false
+is_mend (Mend f row, answer) = true
+
+never-mend : (ws : List WriteForm) (d : Deed) → Asked ws d → is_mend d ≡ true → ⊥
+never-mend ws (Read f b, answer) asked is = absurd (cc is)
+never-mend ws (Write t f b content, answer) asked is = absurd (cc is)
+never-mend ws (Mend f row, answer) asked is = asked
+
 -- the writes among the events are among the deeds, in the order of their threads
 these-asked : (ws : List WriteForm) (xs ys : List Deed) → AreThese xs ys → ((d : Deed) → Contains xs d → Asked ws d) → (d : Deed) → Contains ys d → Asked ws d
 these-asked ws xs ys these all (Read f b, answer) has = tt
@@ -83,6 +114,10 @@ these-asked ws xs ys these all (Write t f b content, answer) has =
     let d : Deed = (Write t f b content, answer) in
     let mine = subst (λ (zs : List Deed). Contains zs d) (these.in_order t) (filter_to (did_by t) ys d has (eq-eqb t t refl)) in
     all d (filter_from (did_by t) xs d mine).0
+these-asked ws xs ys these all (Mend f row, answer) has =
+    let same = these.each_once (λ d. one_if (is_mend d)) in
+    let it = had is_mend xs (omega (arith, counted is_mend ys (Mend f row, answer) has refl, same)) in
+    absurd (never-mend ws it.0 (all it.0 it.1) it.2)
 
 asked-all : (ws : List WriteForm) (es : List Event) → ((d : Deed) → Contains (map deed es) d → Asked ws d) → AreAsked ws es
 asked-all ws [] all = tt
@@ -100,11 +135,13 @@ same_row q r = (q.block == r.block) && ((q.version == r.version) && bytes_eq q.c
 abbrev is_read : ℕ → ℕ → Call → Bool
 is_read f b (Read g c) = (g == f) && (c == b)
 is_read f b (Write t g c content) = false
+is_read f b (Mend g row) = false
 
 abbrev has_found : Row → Answer → Bool
 has_found r (Found (Some q)) = same_row q r
 has_found r (Found None) = false
 has_found r (Wrote w) = false
+has_found r (Mended made) = false
 
 abbrev is_reading : ℕ → ℕ → Row → Deed → Bool
 is_reading f b r d = is_read f b d.0 && has_found r d.1
@@ -128,30 +165,14 @@ reading-is f b r (Read g c, Found (Some q)) is =
     cc
 reading-is f b r (Read g c, Found None) is = let both = and_parts (is_read f b (Read g c)) false is in absurd (let no = both.1 in cc)
 reading-is f b r (Read g c, Wrote w) is = let both = and_parts (is_read f b (Read g c)) false is in absurd (let no = both.1 in cc)
+reading-is f b r (Read g c, Mended made) is = let both = and_parts (is_read f b (Read g c)) false is in absurd (let no = both.1 in cc)
 reading-is f b r (Write t g c content, answer) is = absurd (cc)
+reading-is f b r (Mend g row, answer) is = absurd (cc)
 
 reading-itself : (f b : ℕ) (r : Row) → is_reading f b r (reading f b r) ≡ true
 reading-itself f b r =
     and_from ((f == f) && (b == b)) (same_row r r) (and_from (f == f) (b == b) (eq-eqb f f refl) (eq-eqb b b refl))
     (and_from (r.block == r.block) _ (eq-eqb r.block r.block refl) (and_from (r.version == r.version) _ (eq-eqb r.version r.version refl) ((bytes_eq-Decides r.content.0 r.content.0).1 refl)))
-
--- what a list has is counted, and what is counted it has
-counted : (p : Deed → Bool) (ds : List Deed) (d : Deed) → Contains ds d → p d ≡ true → 1 ≤ total (λ x. one_if (p x)) ds
-counted p [] d has is = absurd (none-in d has)
-counted p (x ∷ xs) d has is = elim (first-or-rest x xs d has) [
-  | inl same ↦ let one : one_if (p x) ≡ 1 = ap one_if (ap p same ∙ is) in omega (arith, one)
-  | inr rest ↦ let more = counted p xs d rest is in omega (arith, more)
-]
-
-had : (p : Deed → Bool) (ds : List Deed) → 1 ≤ total (λ x. one_if (p x)) ds → (d : Deed) × Contains ds d × (p d ≡ true)
-had p [] some = absurd (omega (arith, some))
-had p (x ∷ xs) some = elim (cases_Bool (p x)) [
-  | inl is ↦ (x, in-front x xs, is)
-  | inr not ↦
-      let none : one_if (p x) ≡ 0 = ap one_if not in
-      let rest = had p xs (omega (arith, some, none)) in
-      (rest.0, behind x xs rest.0 rest.1, rest.2)
-]
 
 these-read : (xs ys : List Deed) (f b : ℕ) (r : Row) → AreThese xs ys → Contains xs (reading f b r) → Contains ys (reading f b r)
 these-read xs ys f b r these has =
@@ -159,16 +180,18 @@ these-read xs ys f b r these has =
     let it = had (is_reading f b r) ys (omega (arith, counted (is_reading f b r) xs (reading f b r) has (reading-itself f b r), same)) in
     subst (Contains ys) (reading-is f b r it.0 it.2) it.1
 
--- the rows of a datafile that is read from block b on
-found-in : (f b : ℕ) (rs : List Row) (k : ℕ) (r : Row) → slice_get rs k ≡ Some r → Contains (found f b rs) (reading f (b + k) r)
-found-in f b [] k r is = absurd (cc)
-found-in f b (q ∷ rs) zero r is =
+-- the rows of a datafile of which so many blocks are read, from block b on
+found-in : (f b n : ℕ) (rs : List Row) (k : ℕ) (r : Row) → length rs ≤ n → slice_get rs k ≡ Some r → Contains (found f (upto b n) rs) (reading f (b + k) r)
+found-in f b n [] k r few is = absurd (cc)
+found-in f b zero (q ∷ rs) k r few is = absurd (omega (arith, few))
+found-in f b (suc n) (q ∷ rs) zero r few is =
     let same : q ≡ r = cc in
     let here : b ≡ b + 0 = omega arith in
-    subst (λ n. Contains (found f b (q ∷ rs)) (reading f n r)) here (subst (λ x. Contains (found f b (q ∷ rs)) (reading f b x)) same (in-front (reading f b q) (found f (suc b) rs)))
-found-in f b (q ∷ rs) (suc k) r is =
+    coe 0 1 (i. Contains (found f (upto b (suc n)) (q ∷ rs)) (reading f (here i) (same i))) (in-front (reading f b q) (found f (upto (suc b) n) rs))
+found-in f b (suc n) (q ∷ rs) (suc k) r few is =
     let next : suc b + k ≡ b + suc k = omega arith in
-    behind (reading f b q) (found f (suc b) rs) (reading f (b + suc k) r) (subst (λ n. Contains (found f (suc b) rs) (reading f n r)) next (found-in f (suc b) rs k r is))
+    let rest = found f (upto (suc b) n) rs in
+    behind (reading f b q) rest (reading f (b + suc k) r) (subst (λ m. Contains rest (reading f m r)) next (found-in f (suc b) n rs k r (omega (arith, few)) is))
 
 -- of each datafile and its rows
 abbrev pub AllOf : (Job → List Row → Type 0) → List Job → List (List Row) → Type 0
@@ -190,15 +213,16 @@ rows-read : (s : State) (ds : List Deed) (js : List Job) (rows : List (List Row)
 rows-read s ds [] rows are all = tt
 rows-read s ds (j ∷ js) [] are all = tt
 rows-read s ds (j ∷ js) (rs ∷ rows) are all =
-    let first : length rs ≡ length (rows_in s j.file) = cc in
+    let all_blocks : length rs ≡ length (upto 0 (length (rows_in s j.file))) = cc in
+    let first : length rs ≡ length (rows_in s j.file) = all_blocks ∙ length_upto 0 (length (rows_in s j.file)) in
     let rest : AreRows rows (map (span_of s) js) = cc in
-    let reads = found j.file 0 rs in
+    let reads = found j.file (upto 0 (length (rows_in s j.file))) rs in
     let others = found_of (map (span_of s) js) rows in (
       record {
         many = first;
         each = λ k r is.
             let at : 0 + k ≡ k = omega arith in
-            all (reading j.file k r) (Contains-append_left reads others (reading j.file k r) (subst (λ n. Contains reads (reading j.file n r)) at (found-in j.file 0 rs k r is)));
+            all (reading j.file k r) (Contains-append_left reads others (reading j.file k r) (subst (λ n. Contains reads (reading j.file n r)) at (found-in j.file 0 (length (rows_in s j.file)) rs k r (omega (arith, first)) is)));
       },
       rows-read s ds js rows rest (λ d has. all d (Contains-append_right reads others d has)),
     )

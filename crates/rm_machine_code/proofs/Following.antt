@@ -1,22 +1,22 @@
 -- The state goes along with the live database: after each event its database is the live one.
-use Rattle.std.proofs.Common.{◌≡◌, ◌≤◌, ◌+◌, ◌-◌, ◌∙◌, ◌==◌, inl, inr, ℕ, zero, suc, List, [], ◌∷◌, Option, Some, None, Ok, Err, true, cond, refl, ap, sym, subst, arith, find, slice_get, slice_set, slice_index_or}
+use Rattle.std.proofs.Common.{◌≡◌, ◌≢◌, ◌<◌, ◌≤◌, ◌+◌, ◌-◌, ◌∙◌, ◌==◌, inl, inr, ℕ, zero, suc, List, [], ◌∷◌, Option, Some, None, Ok, Err, true, false, is_some, cond, refl, ap, sym, subst, arith, find, length, slice_get, slice_set, slice_index_or}
 use Rattle.std.specs.List.{filter_map}
 use Rattle.std.specs.Option.{option_map, option_map_or}
 use Rattle.std.proofs.lemmas.Bool.{eq-eqb, ne_eqb}
 use Rattle.rm_base.specs.declared.block.Block.{Block}
+use Rattle.rm_base.specs.declared.block.Row.{Row}
 use Rattle.rm_base.proofs.Slots.{get-index, get-set, index-get}
-use Rattle.rm_blocks.specs.File.{File, written}
+use Rattle.rm_blocks.specs.File.{File, put}
 use Rattle.rm_history.specs.Tree.{IsThere}
 use Rattle.rm_history.proofs.Ends.{IsThere-with_end, end_of-with_end}
 use Rattle.rm_live.specs.declared.history.Answer.{Answer}
-use Rattle.rm_live.specs.declared.history.Answer.TheVariants.{Found, Wrote}
+use Rattle.rm_live.specs.declared.history.Answer.TheVariants.{Found, Mended, Wrote}
 use Rattle.rm_live.specs.declared.history.Call.{Call}
-use Rattle.rm_live.specs.declared.history.Call.TheVariants.{Read, Write}
+use Rattle.rm_live.specs.declared.history.Call.TheVariants.{Mend, Read, Write}
 use Rattle.rm_live.specs.declared.history.Event.{Event}
-use Rattle.rm_live.specs.declared.history.LiveFault.TheVariants.{NoBlock}
 use Rattle.rm_live.specs.History.{IsLegal, IsRight, after, fold_of, with_write as with_live_write}
-use Rattle.rm_live.specs.Parts.{Parts, refusal_by, refusal_of, row_at, with_row}
-use Rattle.rm_redo.specs.Online.{with_change}
+use Rattle.rm_live.specs.Parts.{Parts, refusal_by, refusal_of, row_at, with_put}
+use Rattle.rm_redo.specs.Online.{thread_records, with_change}
 use Rattle.rm_redo.proofs.Logs.{inc-with_change}
 use Rattle.rm_machine.specs.Sound.{IsSound}
 use Rattle.rm_machine.specs.declared.state.State.{State}
@@ -46,13 +46,13 @@ find-below (Some x ∷ place) n f are low =
     ap (λ b. cond b (Some x) (find (λ (y : File). y.file == f) (present place))) (ne_eqb x.file f (λ e. omega (arith, e, number, low)))
     ∙ find-below place (n + 1) f (from-next n (Some x) place are) (omega (arith, low))
 
-row-below : (place : List (Option File)) (n f b scn : ℕ) (content : Block) → AreFrom n place → f ≤ n → with_row (present place) f b scn content ≡ present place
-row-below [] n f b scn content are low = refl
-row-below (None ∷ place) n f b scn content are low = row-below place (n + 1) f b scn content (from-next n None place are) (omega (arith, low))
-row-below (Some x ∷ place) n f b scn content are low =
+put-below : (place : List (Option File)) (n f : ℕ) (row : Row) → AreFrom n place → f ≤ n → with_put (present place) f row ≡ present place
+put-below [] n f row are low = refl
+put-below (None ∷ place) n f row are low = put-below place (n + 1) f row (from-next n None place are) (omega (arith, low))
+put-below (Some x ∷ place) n f row are low =
     let number = are 0 x refl in
-    ap (λ t. cond t (written x b scn content ∷ present place) (x ∷ with_row (present place) f b scn content)) (ne_eqb x.file f (λ e. omega (arith, e, number, low)))
-    ∙ ap (λ xs. x ∷ xs) (row-below place (n + 1) f b scn content (from-next n (Some x) place are) (omega (arith, low)))
+    ap (λ t. cond t (put x row ∷ present place) (x ∷ with_put (present place) f row)) (ne_eqb x.file f (λ e. omega (arith, e, number, low)))
+    ∙ ap (λ xs. x ∷ xs) (put-below place (n + 1) f row (from-next n (Some x) place are) (omega (arith, low)))
 
 -- The number of the m-th place after it
 
@@ -70,23 +70,23 @@ find-at (Some x ∷ place) n (suc m) are =
     ap (λ b. cond b (Some x) (find (λ (y : File). y.file == n + suc m + 1) (present place))) (ne_eqb x.file (n + suc m + 1) (λ e. omega (arith, e, number)))
     ∙ ap (λ f. find (λ (y : File). y.file == f) (present place)) same ∙ find-at place (n + 1) m (from-next n (Some x) place are)
 
--- the write of a row of what stands in place is the write in its place
-abbrev set_at : List (Option File) → ℕ → ℕ → ℕ → Block → List (Option File)
-set_at place m b scn content = slice_set place m (option_map (λ x. written x b scn content) (slice_index_or place m None))
+-- a row that is put into what stands in place is put into its place
+abbrev set_at : List (Option File) → ℕ → Row → List (Option File)
+set_at place m row = slice_set place m (option_map (λ x. put x row) (slice_index_or place m None))
 
-row-at : (place : List (Option File)) (n m b scn : ℕ) (content : Block) → AreFrom n place → with_row (present place) (n + m + 1) b scn content ≡ present (set_at place m b scn content)
-row-at [] n m b scn content are = refl
-row-at (None ∷ place) n zero b scn content are = row-below place (n + 1) (n + 0 + 1) b scn content (from-next n None place are) (omega arith)
-row-at (None ∷ place) n (suc m) b scn content are =
+put-at : (place : List (Option File)) (n m : ℕ) (row : Row) → AreFrom n place → with_put (present place) (n + m + 1) row ≡ present (set_at place m row)
+put-at [] n m row are = refl
+put-at (None ∷ place) n zero row are = put-below place (n + 1) (n + 0 + 1) row (from-next n None place are) (omega arith)
+put-at (None ∷ place) n (suc m) row are =
     let same : n + suc m + 1 ≡ n + 1 + m + 1 = omega arith in
-    ap (λ f. with_row (present place) f b scn content) same ∙ row-at place (n + 1) m b scn content (from-next n None place are)
-row-at (Some x ∷ place) n zero b scn content are =
-    ap (λ t. cond t (written x b scn content ∷ present place) (x ∷ with_row (present place) (n + 0 + 1) b scn content)) (eq-eqb x.file (n + 0 + 1) (are 0 x refl))
-row-at (Some x ∷ place) n (suc m) b scn content are =
+    ap (λ f. with_put (present place) f row) same ∙ put-at place (n + 1) m row (from-next n None place are)
+put-at (Some x ∷ place) n zero row are =
+    ap (λ t. cond t (put x row ∷ present place) (x ∷ with_put (present place) (n + 0 + 1) row)) (eq-eqb x.file (n + 0 + 1) (are 0 x refl))
+put-at (Some x ∷ place) n (suc m) row are =
     let number = are 0 x refl in
     let same : n + suc m + 1 ≡ n + 1 + m + 1 = omega arith in
-    ap (λ t. cond t (written x b scn content ∷ present place) (x ∷ with_row (present place) (n + suc m + 1) b scn content)) (ne_eqb x.file (n + suc m + 1) (λ e. omega (arith, e, number)))
-    ∙ ap (λ xs. x ∷ xs) (ap (λ f. with_row (present place) f b scn content) same ∙ row-at place (n + 1) m b scn content (from-next n (Some x) place are))
+    ap (λ t. cond t (put x row ∷ present place) (x ∷ with_put (present place) (n + suc m + 1) row)) (ne_eqb x.file (n + suc m + 1) (λ e. omega (arith, e, number)))
+    ∙ ap (λ xs. x ∷ xs) (ap (λ f. with_put (present place) f row) same ∙ put-at place (n + 1) m row (from-next n (Some x) place are))
 
 -- what the live database needs to be that of the state
 pub record GoesAlong (s : State) : Type 0 where
@@ -102,21 +102,24 @@ goes-along s sound opened = record {
   numbered = λ k x is. (placed-is s k x sound.place (index-get s.instance.place k x is)).file;
 }
 
-written-by : (o : Option File) (b scn : ℕ) (content : Block) (x : File) → option_map (λ y. written y b scn content) o ≡ Some x → (y : File) × (o ≡ Some y) × (y.file ≡ x.file)
-written-by None b scn content x is = absurd (cc)
-written-by (Some y) b scn content x is = (y, refl, (let same : written y b scn content ≡ x = cc is in ap (λ (z : File). z.file) same))
+put-by : (o : Option File) (row : Row) (x : File) → option_map (λ y. put y row) o ≡ Some x → (y : File) × (o ≡ Some y) × (y.file ≡ x.file)
+put-by None row x is = absurd (cc)
+put-by (Some y) row x is = (y, refl, (let same : put y row ≡ x = cc is in ap (λ (z : File). z.file) same))
+
+-- a row in place leaves the numbers
+numbered-put : (s : State) (f : ℕ) (row : Row) → GoesAlong s → (k : ℕ) (x : File) → slice_get (set_at s.instance.place (f - 1) row) k ≡ Some (Some x) → x.file ≡ k + 1
+numbered-put s f row goes k x is = elim (get-set s.instance.place (f - 1) k (option_map (λ y. put y row) (placed s f)) (Some x) is) [
+  | inl one ↦
+      let by = put-by (placed s f) row x one.1 in
+      omega (arith, goes.numbered (f - 1) by.0 (get-index s.instance.place (f - 1) by.0 by.1), by.2, one.0)
+  | inr other ↦ goes.numbered k x other.1
+]
 
 goes-with_write : (s : State) (t f b : ℕ) (content : Block) → GoesAlong s → GoesAlong (with_write s (write_form t f b content))
 goes-with_write s t f b content goes = record {
   there = IsThere-with_end (tree s) (current_of s) (now_of s + 1) (current_of s) goes.there;
   inc = inc-with_change s.instance.logs (change_of s (write_form t f b content)) ∙ goes.inc;
-  numbered = λ k x is.
-      elim (get-set s.instance.place (f - 1) k (option_map (λ y. written y b (now_of s) content) (placed s f)) (Some x) is) [
-        | inl one ↦
-            let by = written-by (placed s f) b (now_of s) content x one.1 in
-            omega (arith, goes.numbered (f - 1) by.0 (get-index s.instance.place (f - 1) by.0 by.1), by.2, one.0)
-        | inr other ↦ goes.numbered k x other.1
-      ];
+  numbered = numbered-put s f (record { block = b; version = now_of s; content = content }) goes;
 }
 
 -- an event keeps it
@@ -125,34 +128,39 @@ goes-after s (Read f b) a goes = goes
 goes-after s (Write t f b content) (Found row) goes = goes
 goes-after s (Write t f b content) (Wrote (Ok scn)) goes = goes-with_write s t f b content goes
 goes-after s (Write t f b content) (Wrote (Err fault)) goes = goes
+goes-after s (Write t f b content) (Mended made) goes = goes
+goes-after s (Mend f row) (Found found) goes = goes
+goes-after s (Mend f row) (Wrote w) goes = goes
+goes-after s (Mend f row) (Mended true) goes = record { there = goes.there; inc = goes.inc; numbered = numbered-put s f row goes }
+goes-after s (Mend f row) (Mended false) goes = goes
 
 numbers-from : (s : State) → GoesAlong s → AreFrom 0 s.instance.place
 numbers-from s goes k x is = let e = goes.numbered k x is in omega (arith, e)
 
 -- no datafile has the number 0
-row-none : (place : List (Option File)) (b records now : ℕ) → AreFrom 0 place → refusal_by (row_at (present place) 0 b) records now ≡ None → ⊥
-row-none place b records now are accepted =
-    let none : row_at (present place) 0 b ≡ None = ap (λ o. option_map_or (λ (x : File). slice_get x.rows b) o None) (find-below place 0 0 are (omega arith)) in
-    let refused : refusal_by (row_at (present place) 0 b) records now ≡ Some NoBlock = ap (λ o. refusal_by o records now) none in
-    absurd (let clash = sym refused ∙ accepted in cc clash)
+some-number : (s : State) (f b : ℕ) → GoesAlong s → row_at (standing_in s) f b ≢ None → 0 < f
+some-number s zero b goes some =
+    absurd (some (ap (λ o. option_map_or (λ (x : File). slice_get x.rows b) o None) (find-below s.instance.place 0 0 (numbers-from s goes) (omega arith))))
+some-number s (suc m) b goes some = omega arith
 
--- a write in its place is the write of the live database
-files-with_write : (s : State) (t f b : ℕ) (content : Block) → GoesAlong s → refusal_of (opening s) t f b ≡ None → standing_in (with_write s (write_form t f b content)) ≡ with_row (standing_in s) f b (now_of s) content
-files-with_write s t zero b content goes accepted =
-    absurd (row-none s.instance.place b _ _ (numbers-from s goes) accepted)
-files-with_write s t (suc m) b content goes accepted =
+-- a row that is put into its place is put into the live database
+files-with_put : (s : State) (f : ℕ) (row : Row) → GoesAlong s → 0 < f → present (set_at s.instance.place (f - 1) row) ≡ with_put (standing_in s) f row
+files-with_put s zero row goes some = absurd (omega (arith, some))
+files-with_put s (suc m) row goes some =
     let place : suc m - 1 ≡ m = omega arith in
     let number : 0 + m + 1 ≡ suc m = omega arith in
-    ap (λ k. present (set_at s.instance.place k b (now_of s) content)) place
-    ∙ sym (row-at s.instance.place 0 m b (now_of s) content (numbers-from s goes))
-    ∙ ap (λ f. with_row (present s.instance.place) f b (now_of s) content) number
+    ap (λ k. present (set_at s.instance.place k row)) place
+    ∙ sym (put-at s.instance.place 0 m row (numbers-from s goes))
+    ∙ ap (λ f. with_put (present s.instance.place) f row) number
 
 opening-with_write : (s : State) (t f b scn : ℕ) (content : Block) → GoesAlong s → refusal_of (opening s) t f b ≡ None → scn ≡ now_of s → opening (with_write s (write_form t f b content)) ≡ with_live_write (opening s) t f b content scn
 opening-with_write s t f b scn content goes accepted at =
     let logs = with_change s.instance.logs (change_of s (write_form t f b content)) in
-    let of_both : ℕ → List File → Parts = λ now files. record { inc = current_of s; now = now; files = files; logs = logs } in
+    let of_both : ℕ → List File → Parts = λ now files. record { inc = current_of s; now = now; files = files; logs = logs; tracker = [] } in
+    let row : Row = record { block = b; version = now_of s; content = content } in
+    let number = some-number s f b goes (λ none. absurd (let clash = ap (λ o. refusal_by o (length (thread_records s.instance.logs t)) (now_of s)) (sym none) ∙ accepted in cc clash)) in
     ap (λ n. of_both n (standing_in (with_write s (write_form t f b content)))) (end_of-with_end (tree s) (current_of s) (now_of s + 1) goes.there)
-    ∙ ap (of_both (now_of s + 1)) (files-with_write s t f b content goes accepted)
+    ∙ ap (of_both (now_of s + 1)) (files-with_put s f row goes number)
     ∙ ap (with_live_write (opening s) t f b content) (sym at)
 
 -- after an answer that is right the state's database is the live one
@@ -161,6 +169,13 @@ opening-after s (Read f b) a goes right = refl
 opening-after s (Write t f b content) (Found row) goes right = refl
 opening-after s (Write t f b content) (Wrote (Ok scn)) goes right = opening-with_write s t f b scn content goes right.0 right.1
 opening-after s (Write t f b content) (Wrote (Err fault)) goes right = refl
+opening-after s (Write t f b content) (Mended made) goes right = refl
+opening-after s (Mend f row) (Found found) goes right = refl
+opening-after s (Mend f row) (Wrote w) goes right = refl
+opening-after s (Mend f row) (Mended true) goes right =
+    let number = some-number s f row.block goes (λ none. absurd (let clash = right.0 ∙ ap is_some none in cc clash)) in
+    ap (λ (files : List File). record (opening s) { files = files }) (files-with_put s f row goes number)
+opening-after s (Mend f row) (Mended false) goes right = refl
 
 -- and so after all events
 pub opening-events : (s : State) (es : List Event) → GoesAlong s → IsLegal (opening s) es → opening (after_events s es) ≡ fold_of (opening s) es

@@ -18,9 +18,9 @@ use Rattle.rm_history.specs.World.{exists}
 use Rattle.rm_history.proofs.Worlds.{exists-with_end}
 use Rattle.rm_catalog_typed.specs.Ledger.{ledger_records}
 use Rattle.rm_live.specs.declared.history.Answer.{Answer}
-use Rattle.rm_live.specs.declared.history.Answer.TheVariants.{Found, Wrote}
+use Rattle.rm_live.specs.declared.history.Answer.TheVariants.{Found, Mended, Wrote}
 use Rattle.rm_live.specs.declared.history.Call.{Call}
-use Rattle.rm_live.specs.declared.history.Call.TheVariants.{Read, Write}
+use Rattle.rm_live.specs.declared.history.Call.TheVariants.{Mend, Read, Write}
 use Rattle.rm_live.specs.declared.history.Event.{Event}
 use Rattle.rm_live.specs.History.{IsLegal, IsRight}
 use Rattle.rm_live.specs.Parts.{refusal_by, row_at}
@@ -35,7 +35,7 @@ use Rattle.rm_machine.specs.State.{current_of, ledger, now_of, placed, world}
 use Rattle.rm_machine_code.proofs.Further.{now-further}
 use Rattle.rm_machine_code.proofs.Writes.{Accepted}
 use Rattle.rm_machine_code.proofs.WritesSound.{sound-write}
-use Rattle.rm_machine.specs.Events.{after_event, after_events, change_by, opening, standing_in, write_form}
+use Rattle.rm_machine.specs.Events.{after_event, after_events, change_by, opening, standing_in, with_mend, write_form}
 use Rattle.rm_machine_code.proofs.BackupAccepted.{CanBeWritten}
 use Rattle.rm_machine_code.proofs.Following.{goes-along, opening-after}
 use Rattle.rm_machine_code.proofs.Found.{read-found, read-of}
@@ -48,6 +48,8 @@ IsAsked ws (Read f b) answer = Unit {0}
 IsAsked ws (Write t f b content) (Found row) = ⊥
 IsAsked ws (Write t f b content) (Wrote (Ok scn)) = Contains ws (write_form t f b content)
 IsAsked ws (Write t f b content) (Wrote (Err fault)) = ⊥
+IsAsked ws (Write t f b content) (Mended made) = ⊥
+IsAsked ws (Mend f row) answer = ⊥
 
 abbrev pub AreAsked : List WriteForm → List Event → Type 0
 AreAsked ws [] = Unit {0}
@@ -163,6 +165,8 @@ by-event P u ws same wrote (Read f b) answer right asked = same
 by-event P u ws same wrote (Write t f b content) (Found row) right asked = absurd asked
 by-event P u ws same wrote (Write t f b content) (Wrote (Ok scn)) right asked = wrote (write_form t f b content) asked scn right
 by-event P u ws same wrote (Write t f b content) (Wrote (Err fault)) right asked = absurd asked
+by-event P u ws same wrote (Write t f b content) (Mended made) right asked = absurd asked
+by-event P u ws same wrote (Mend f row) answer right asked = absurd asked
 
 module _ (u : State) (ws : List WriteForm) (can : CanGoOn u ws) where
   pub event-on : (c : Call) (answer : Answer) → IsRight (opening u) c answer → IsAsked ws c answer → CanGoOn (after_event u c answer) ws
@@ -183,16 +187,22 @@ module _ (u : State) (ws : List WriteForm) (can : CanGoOn u ws) where
   records-event : (c : Call) (answer : Answer) → IsRight (opening u) c answer → IsAsked ws c answer → length (ledger_records (ledger (after_event u c answer))) ≡ length (ledger_records (ledger u))
   records-event = by-event (λ q cs. length (ledger_records (ledger q)) ≡ length (ledger_records (ledger u))) u ws refl (λ w has scn right. records-write u w (can.unmarked w has))
 
--- what no write changes no event changes
-event-same : {X : Type 0} (f : State → X) → ((u : State) (w : WriteForm) → f (with_write u w) ≡ f u) → (u : State) (c : Call) (answer : Answer) → f (after_event u c answer) ≡ f u
-event-same f same u (Read g b) answer = refl
-event-same f same u (Write t g b content) (Found row) = refl
-event-same f same u (Write t g b content) (Wrote (Ok scn)) = same u (write_form t g b content)
-event-same f same u (Write t g b content) (Wrote (Err fault)) = refl
+-- what no write and no mend changes no event changes
+module _ {X : Type 0} (f : State → X) (written : (u : State) (w : WriteForm) → f (with_write u w) ≡ f u) (mended : (u : State) (g : ℕ) (row : Row) → f (with_mend u g row) ≡ f u) where
+  event-same : (u : State) (c : Call) (answer : Answer) → f (after_event u c answer) ≡ f u
+  event-same u (Read g b) answer = refl
+  event-same u (Write t g b content) (Found row) = refl
+  event-same u (Write t g b content) (Wrote (Ok scn)) = written u (write_form t g b content)
+  event-same u (Write t g b content) (Wrote (Err fault)) = refl
+  event-same u (Write t g b content) (Mended made) = refl
+  event-same u (Mend g row) (Found found) = refl
+  event-same u (Mend g row) (Wrote w) = refl
+  event-same u (Mend g row) (Mended true) = mended u g row
+  event-same u (Mend g row) (Mended false) = refl
 
-pub events-same : {X : Type 0} (f : State → X) → ((u : State) (w : WriteForm) → f (with_write u w) ≡ f u) → (es : List Event) (u : State) → f (after_events u es) ≡ f u
-events-same f same [] u = refl
-events-same f same (e ∷ es) u = events-same f same es (after_event u e.call e.answer) ∙ event-same f same u e.call e.answer
+  pub events-same : (es : List Event) (u : State) → f (after_events u es) ≡ f u
+  events-same [] u = refl
+  events-same (e ∷ es) u = events-same es (after_event u e.call e.answer) ∙ event-same u e.call e.answer
 
 -- All events
 

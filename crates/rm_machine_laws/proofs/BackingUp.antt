@@ -92,7 +92,7 @@ module _ (s : State) (b : BackupForm) (contents : All (λ (w : WriteForm). lengt
   during-sound = pieces-sound b tag xs t walked.can.sound can-record
 
   pub during-unsaved : (after_pieces t b tag xs).catalog.saved ≡ s.catalog.saved
-  during-unsaved = pieces-saved b tag xs t ∙ events-same (λ (q : State). q.catalog.saved) (λ q w. refl) events u ∙ marked-same (λ (q : State). q.catalog.saved) s b refl
+  during-unsaved = pieces-saved b tag xs t ∙ events-same (λ (q : State). q.catalog.saved) (λ q w. refl) (λ q f row. refl) events u ∙ marked-same (λ (q : State). q.catalog.saved) s b refl
 
   module _ (h : List Change) (objects : Held) (made : List Made) (touched : List (List ℕ)) (stands : IsBorneOut s h objects made touched) where
     abbrev later : List Change

@@ -101,7 +101,7 @@ module _ (s : State) (b : BackupForm) (sound : IsSound s) (well : IsStatement (B
   pub rows-many : length w.rows.items ≡ length jobs
   rows-many =
       sym (length-map w.rows.items (λ v. v.items)) ∙ sym (length-map rows length)
-      ∙ ap (λ (ns : List ℕ). length ns) whole-rows ∙ length-map (map (span_of s) jobs) (λ (p : Span). p.count) ∙ length-map jobs (span_of s)
+      ∙ ap (λ (ns : List ℕ). length ns) whole-rows ∙ length-map (map (span_of s) jobs) (λ (p : Span). length p.blocks) ∙ length-map jobs (span_of s)
 
   pub ran-record : CanRecord t b tag (copied (ledger t).base b (now_of s) jobs rows)
   ran-record =

@@ -7,9 +7,9 @@ use Rattle.rm_history.specs.declared.tree.Incarnation.{Incarnation}
 use Rattle.rm_history.specs.Tree.{IsThere, end_of, parent_of, reset_of, with_end}
 use Rattle.rm_history.proofs.Ends.{end_of-with_end, parent_of-with_end, reset_of-with_end}
 use Rattle.rm_live.specs.declared.history.Answer.{Answer}
-use Rattle.rm_live.specs.declared.history.Answer.TheVariants.{Found, Wrote}
+use Rattle.rm_live.specs.declared.history.Answer.TheVariants.{Found, Mended, Wrote}
 use Rattle.rm_live.specs.declared.history.Call.{Call}
-use Rattle.rm_live.specs.declared.history.Call.TheVariants.{Read, Write}
+use Rattle.rm_live.specs.declared.history.Call.TheVariants.{Mend, Read, Write}
 use Rattle.rm_live.specs.declared.history.Event.{Event}
 use Rattle.rm_live.specs.declared.history.LiveFault.{LiveFault}
 use Rattle.rm_live.specs.Ruled.{total}
@@ -40,6 +40,11 @@ after-one s (Read f b) a = record { mode = refl; point = refl; many = refl }
 after-one s (Write t f b content) (Found row) = record { mode = refl; point = refl; many = refl }
 after-one s (Write t f b content) (Wrote (Ok scn)) = record { mode = refl; point = refl; many = length-set s.instance.place (f - 1) _ }
 after-one s (Write t f b content) (Wrote (Err fault)) = record { mode = refl; point = refl; many = refl }
+after-one s (Write t f b content) (Mended made) = record { mode = refl; point = refl; many = refl }
+after-one s (Mend f row) (Found found) = record { mode = refl; point = refl; many = refl }
+after-one s (Mend f row) (Wrote w) = record { mode = refl; point = refl; many = refl }
+after-one s (Mend f row) (Mended true) = record { mode = refl; point = refl; many = length-set s.instance.place (f - 1) _ }
+after-one s (Mend f row) (Mended false) = record { mode = refl; point = refl; many = refl }
 
 pub after-all : (s : State) (es : List Event) → IsAfter s (after_events s es)
 after-all s [] = record { mode = refl; point = refl; many = refl }
@@ -77,6 +82,11 @@ quiet-one s (Write t f b content) (Wrote (Ok scn)) quiet =
     let due = none-due (nat_lt (last_marked 0 (ledger s).marks) (ledger s).base.moment) (mark_now s) quiet in
     ap (λ b. cond b (mark_now q ∷ []) []) (ap (λ ms. nat_lt (last_marked 0 ms) (ledger s).base.moment) (quiet-marks s quiet) ∙ due)
 quiet-one s (Write t f b content) (Wrote (Err fault)) quiet = quiet
+quiet-one s (Write t f b content) (Mended made) quiet = quiet
+quiet-one s (Mend f row) (Found found) quiet = quiet
+quiet-one s (Mend f row) (Wrote w) quiet = quiet
+quiet-one s (Mend f row) (Mended true) quiet = quiet
+quiet-one s (Mend f row) (Mended false) quiet = quiet
 
 quiet-further : (s : State) → marks_before s ≡ [] → one_further s ≡ with_end_at s.catalog (current_of s) (now_of s + 1)
 quiet-further s quiet = λ i. with_end_at (record s.catalog { ledger = record s.catalog.ledger { marks = quiet-marks s quiet i } }) (current_of s) (now_of s + 1)
@@ -85,6 +95,7 @@ quiet-further s quiet = λ i. with_end_at (record s.catalog { ledger = record s.
 abbrev pub once : Call → ℕ
 once (Read f b) = 0
 once (Write t f b content) = 1
+once (Mend f row) = 0
 
 abbrev pub count_writes : List Event → ℕ
 count_writes [] = 0
@@ -119,6 +130,11 @@ ended-one s (Write t f b content) (Wrote (Ok scn)) goes quiet =
     let next : now_of q ≡ now_of s + 1 = end_of-with_end (tree s) (current_of s) (now_of s + 1) goes.there in
     inr (omega (arith, next), quiet-further s (quiet (omega arith)) ∙ ap (with_end_at s.catalog (current_of s)) (sym next))
 ended-one s (Write t f b content) (Wrote (Err fault)) goes quiet = inl refl
+ended-one s (Write t f b content) (Mended made) goes quiet = inl refl
+ended-one s (Mend f row) (Found found) goes quiet = inl refl
+ended-one s (Mend f row) (Wrote w) goes quiet = inl refl
+ended-one s (Mend f row) (Mended true) goes quiet = inl refl
+ended-one s (Mend f row) (Mended false) goes quiet = inl refl
 
 ended-all : (s : State) (es : List Event) → GoesAlong s → (0 < count_writes es → marks_before s ≡ []) → IsEnded s (after_events s es)
 ended-all s [] goes quiet = inl refl
@@ -144,15 +160,16 @@ risen-all s es goes quiet =
 abbrev is_once : Deed → ℕ
 is_once d = once d.0
 
-once-found : (f b : ℕ) (rows : List Row) → total is_once (found f b rows) ≡ 0
-once-found f b [] = refl
-once-found f b (r ∷ rows) = let more = once-found f (suc b) rows in omega (arith, more)
+once-found : (f : ℕ) (bs : List ℕ) (rows : List Row) → total is_once (found f bs rows) ≡ 0
+once-found f [] rows = refl
+once-found f (b ∷ bs) [] = refl
+once-found f (b ∷ bs) (r ∷ rows) = let more = once-found f bs rows in omega (arith, more)
 
 once-found_of : (spans : List Span) (rows : List (List Row)) → total is_once (found_of spans rows) ≡ 0
 once-found_of [] rows = refl
 once-found_of (s ∷ ss) [] = refl
 once-found_of (s ∷ ss) (rs ∷ rows) =
-    omega (arith, total-append is_once (found s.file s.first rs) (found_of ss rows), once-found s.file s.first rs, once-found_of ss rows)
+    omega (arith, total-append is_once (found s.file s.blocks rs) (found_of ss rows), once-found s.file s.blocks rs, once-found_of ss rows)
 
 once-wrote : (t : ℕ) (ws : List WriteJob) (answers : List (Result ℕ LiveFault)) → total is_once (wrote t ws answers) ≤ length ws
 once-wrote t [] answers = omega arith

@@ -5,11 +5,10 @@ use Rattle.std.specs.Option.{option_map, option_map_or}
 use Rattle.std.proofs.lemmas.Bool.{eq-eqb, ne_eqb}
 use Rattle.std.proofs.lemmas.Bool.Decides.{nat_tests}
 use Rattle.std.proofs.lemmas.List.{length-map}
-use Rattle.std.proofs.lemmas.List.Elements.{All-cons, All-filter, All-head, All-map, All-nil, All-tail, All-weaker}
+use Rattle.std.proofs.lemmas.List.Elements.{All-cons, All-filter, All-map, All-nil, All-weaker}
 use Rattle.rm_base.specs.declared.block.Row.{Row}
 use Rattle.rm_base.proofs.Slots.{get-index, index-get}
 use Rattle.rm_blocks.specs.File.{File}
-use Rattle.rm_channel.specs.Jobs.{Span, blocks_in, whole}
 use Rattle.rm_channel.specs.Room.{AreThreads, CanWrite, HasBlock, HaveRoom, IsThere}
 use Rattle.rm_channel.specs.declared.jobs.CopyJob.{CopyJob}
 use Rattle.rm_channel.specs.declared.jobs.WriteJob.{WriteJob}
@@ -27,7 +26,7 @@ use Rattle.rm_machine.specs.State.{ledger, tree, is_lost, placed}
 use Rattle.rm_machine_code.proofs.Backups.{IsTaken}
 use Rattle.rm_machine_code.proofs.BackingUp.{IsReadyToRead, jobs-ready}
 use Rattle.rm_machine_code.proofs.Places.{counted-open, placed-is}
-use Rattle.rm_machine.specs.Asked.{FitsNumbers, by_thread, lists_from, span_of, write_job, writers_of, writes_in}
+use Rattle.rm_machine.specs.Asked.{FitsNumbers, by_thread, copy_job, lists_from, write_job, writers_of, writes_in}
 use Rattle.rm_machine.specs.Events.{opening, standing_in}
 use Rattle.rm_machine.specs.BackupOutcome.{marked}
 use Rattle.rm_machine_code.proofs.BackupAccepted.{CanBeWritten, CanBackUp}
@@ -167,23 +166,13 @@ few-writers s b sound =
 
 -- The datafiles that are copied
 
-pub is-there : (s : State) (f : ℕ) (j : CopyJob) → IsSound s → IsTaken s f → j.file ≡ f → blocks_in j.wanted ≡ length (rows_in s f) → IsThere (standing_in s) j
-is-there s f j sound t file blocks =
-    let found : find (λ (x : File). x.file == j.file) (standing_in s) ≡ Some t.file = ap (λ n. find (λ (x : File). x.file == n) (standing_in s)) file ∙ file-found s f t.file sound t.some t.stands in
-    let rows : rows_in s f ≡ t.file.rows = ap (λ o. option_map_or (λ (x : File). x.rows) o []) t.stands in
-    ap (option_map (λ (x : File). length x.rows)) found ∙ ap Some (sym (blocks ∙ ap (λ (rs : List Row). length rs) rows))
+is-there : (s : State) (j : Job) → IsSound s → IsTaken s j.file → IsThere (standing_in s) (copy_job s j)
+is-there s j sound t =
+    let rows : rows_in s j.file ≡ t.file.rows = ap (λ o. option_map_or (λ (x : File). x.rows) o []) t.stands in
+    record { size = ap (option_map (λ (x : File). length x.rows)) (file-found s j.file t.file sound t.some t.stands) ∙ ap (λ (rs : List Row). Some (length rs)) (sym rows); wanted = tt }
 
-pub room-there : (s : State) (jobs : List Job) (js : List CopyJob) → IsSound s → All (λ (j : Job). IsTaken s j.file) jobs → map whole js ≡ map (span_of s) jobs → All (IsThere (standing_in s)) js
-room-there s [] [] sound all are = All-nil (IsThere (standing_in s))
-room-there s [] (k ∷ ks) sound all are = absurd (cc)
-room-there s (j ∷ jobs) [] sound all are = absurd (cc)
-room-there s (j ∷ jobs) (k ∷ ks) sound all are =
-    let both : whole k ∷ map whole ks ≡ span_of s j ∷ map (span_of s) jobs = are in
-    let first : whole k ≡ span_of s j = cc in
-    let rest : map whole ks ≡ map (span_of s) jobs = cc in
-    All-cons (IsThere (standing_in s)) k ks
-    (is-there s j.file k sound (All-head (λ (x : Job). IsTaken s x.file) j jobs all) (ap (λ (p : Span). p.file) first) (ap (λ (p : Span). p.count) first))
-    (room-there s jobs ks sound (All-tail (λ (x : Job). IsTaken s x.file) j jobs all) rest)
+pub room-there : (s : State) (jobs : List Job) → IsSound s → All (λ (j : Job). IsTaken s j.file) jobs → All (IsThere (standing_in s)) (map (copy_job s) jobs)
+room-there s jobs sound all = All-map (IsThere (standing_in s)) (copy_job s) jobs (All-weaker (λ (j : Job). IsTaken s j.file) (λ j. IsThere (standing_in s) (copy_job s j)) (λ j t. is-there s j sound t) jobs all)
 
 -- the datafile of each job stands in place
 pub jobs-taken : (s : State) (b : BackupForm) (jobs : List Job) → IsSound s → CanBackUp s b → AreJobs s b jobs → All (λ (j : Job). IsTaken s j.file) jobs
@@ -197,6 +186,6 @@ marked-threads s b sound can = subst (λ (p : Parts). AreThreads p.logs 1 (write
 pub marked-writes : (s : State) (b : BackupForm) → IsSound s → CanBackUp s b → CanWrite (opening (marked s b)) (writers_of s b)
 marked-writes s b sound can = subst (λ (p : Parts). CanWrite p (writers_of s b)) (sym (marked-same opening s b refl)) (room-writes s b sound can)
 
-pub marked-there : (s : State) (b : BackupForm) (jobs : List Job) (js : List CopyJob) → IsSound s → CanBackUp s b → AreJobs s b jobs → map whole js ≡ map (span_of s) jobs → All (IsThere (opening (marked s b)).files) js
-marked-there s b jobs js sound can are spans =
-    subst (λ (p : Parts). All (IsThere p.files) js) (sym (marked-same opening s b refl)) (room-there s jobs js sound (jobs-taken s b jobs sound can are) spans)
+pub marked-there : (s : State) (b : BackupForm) (jobs : List Job) (js : List CopyJob) → IsSound s → CanBackUp s b → AreJobs s b jobs → js ≡ map (copy_job s) jobs → All (IsThere (opening (marked s b)).files) js
+marked-there s b jobs js sound can are copies =
+    coe 1 0 (i. All (IsThere (marked-same opening s b refl i).files) (copies i)) (room-there s jobs sound (jobs-taken s b jobs sound can are))

@@ -1,7 +1,7 @@
 //! What a BACKUP asks of its channels and writers.
 ghost use Rattle.std.specs.Prelude.{◌≡◌, ◌<◌, All, IfOk, map};
-ghost use Rattle.rm_channel.specs.Jobs.{lists, whole};
-ghost use Rattle.rm_machine.specs.Asked.{FitsNumbers, by_thread, span_of, write_job, writers_of, writes_in};
+ghost use Rattle.rm_channel.specs.Jobs.{lists};
+ghost use Rattle.rm_machine.specs.Asked.{FitsNumbers, by_thread, copy_job, write_job, writers_of, writes_in};
 ghost use Rattle.rm_machine.specs.Sound.{IsSound};
 
 use crate::pieces::rows_in;
@@ -65,11 +65,11 @@ pub(crate) fn writers_of(
     Ok(writers)
 }
 
-// All blocks of a datafile that is backed up.
+// A copy of all blocks of a datafile that is backed up.
 fn copy_job(state: &State, job: &Job) -> CopyJob
     requires sound { IsSound state.now }
     requires some { 0 < job.now.file }
-    ensures { whole result ≡ span_of state.now job.now }
+    ensures { result ≡ copy_job state.now job.now }
 {
     CopyJob {
         file: job.file,
@@ -77,7 +77,7 @@ fn copy_job(state: &State, job: &Job) -> CopyJob
     }
 }
 
-/// What the channels read: all blocks of each of these datafiles.
+/// What the channels copy: all blocks of each of these datafiles.
 pub(crate) fn copy_jobs(
     alloc: Global,
     state: &State,
@@ -85,7 +85,7 @@ pub(crate) fn copy_jobs(
 ) -> Result<Vec<CopyJob>, NoMemory>
     requires sound { IsSound state.now }
     requires some { All (λ j. 0 < j.file) jobs.now }
-    ensures { IfOk result (λ all. map whole all.items ≡ map (span_of state.now) jobs.now) }
+    ensures { IfOk result (λ all. all.items ≡ map (copy_job state.now) jobs.now) }
 {
     let mut all = Vec::new(alloc);
     for job in jobs {

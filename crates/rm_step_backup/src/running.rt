@@ -20,6 +20,7 @@ use rm_live::{Database, Live};
 use rm_machine::State;
 use rm_machine_code::facts::now;
 use rm_redo::OnlineLogs;
+use rm_track::Tracker;
 use std::alloc::Global;
 use std::mem;
 use std::sync::Wait;
@@ -84,6 +85,7 @@ fn take_out(alloc: Global, state: &mut State) -> Result<Database, NoMemory>
         now,
         files: standing_in(alloc, place)?,
         logs: mem::replace(&mut state.instance.logs, nothing),
+        tracker: Tracker::new(alloc),
     })
 }
 

@@ -6,7 +6,8 @@ use Rattle.rm_channel.specs.declared.jobs.WriteJob.{WriteJob}
 use Rattle.rm_channel.specs.Jobs.{wrote}
 use Rattle.rm_channel.specs.Made.{DidMore}
 use Rattle.rm_channel.proofs.Steps.{did-one, later-then}
-use Rattle.rm_channel.proofs.Turns.{more-write}
+use Rattle.rm_channel.proofs.Turns.{more-done}
+use Rattle.rm_channel.proofs.Writes.{wrote-append}
 use Rattle.rm_channel.proofs.pacing.write_run.Goals as goal
 
 abbrev no_write : WriteJob
@@ -22,7 +23,7 @@ loop-write-preserved g c =
       search rules,
       search rules,
       subst (λ (ws : List WriteJob). DidMore c.args.pass.now c.write.new.pass.seen (wrote c.args.thread ws) (n + 1) c.args.answers.now.items c.push_reserved.new.self.items) (sym (take_more c.args.list.now n no_write c.loop-write-test.true))
-          (more-write c.args.pass.now c.loop-write.pass c.write.new.pass.seen c.args.thread n (take n c.args.list.now) w c.args.answers.now.items c.loop-write.answers.items c.push_reserved.new.self.items c.write.result
+          (more-done (wrote c.args.thread) (wrote-append c.args.thread) c.args.pass.now c.loop-write.pass c.write.new.pass.seen n (take n c.args.list.now) w c.args.answers.now.items c.loop-write.answers.items c.push_reserved.new.self.items c.write.result
           (let e = length-take n c.args.list.now in search rules) i.0 i.3 wrote_one c.push_reserved.ensures.items),
     )
 

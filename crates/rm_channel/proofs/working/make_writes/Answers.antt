@@ -3,7 +3,8 @@ use Rattle.rm_channel.specs.declared.jobs.WriteJob.{WriteJob}
 use Rattle.rm_channel.specs.Jobs.{wrote, writes}
 use Rattle.rm_channel.specs.Made.{Did}
 use Rattle.rm_channel.proofs.Steps.{worked-none, later-then}
-use Rattle.rm_channel.proofs.Turns.{all-done, did-writes, more-length, worked-writes, worked-err}
+use Rattle.rm_channel.proofs.Turns.{all-done, did-run, more-length, worked-writes, worked-err}
+use Rattle.rm_channel.proofs.Writes.{wrote-append}
 use Rattle.rm_channel.proofs.working.make_writes.Goals as goal
 
 pub returns-in_err-answers-clause-worked : goal.returns-in_err-answers-clause-worked
@@ -28,7 +29,7 @@ runs-preserved g c =
       (
         done ++ run,
         append_assoc done run rest ∙ ap (λ (l : List WriteJob). done ++ l) parts ∙ i.3.1,
-        did-writes c.args.pass.now c.runs.pass c.write_run.new.pass.seen c.args.thread _ done run c.runs.answers.items c.write_run.new.answers.items i.0 i.3.2 (search rules) did,
+        did-run (wrote c.args.thread) (wrote-append c.args.thread) c.args.pass.now c.runs.pass c.write_run.new.pass.seen _ done run c.runs.answers.items c.write_run.new.answers.items i.0 i.3.2 (search rules) did,
       ),
     )
 

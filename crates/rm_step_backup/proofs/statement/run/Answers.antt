@@ -1,7 +1,9 @@
 use Rattle.std.proofs.Common.{◌∙◌, ap, map, All}
 use Rattle.std.proofs.lemmas.Result.{IfOk-weaker}
+use Rattle.std.proofs.lemmas.Simd.{map-map}
 use Rattle.rm_channel.specs.Jobs.{lists, whole}
 use Rattle.rm_channel.specs.Room.{AreThreads, CanWrite, IsThere}
+use Rattle.rm_machine.specs.Asked.{copy_job}
 use Rattle.rm_machine.specs.Events.{opening}
 use Rattle.rm_machine.specs.Sound.{IsSound}
 use Rattle.rm_machine_code.proofs.BackupAccepted.{can-back_up}
@@ -36,7 +38,7 @@ pub run_live-requires-clause-there : goal.run_live-requires-clause-there
 run_live-requires-clause-there g c κs within =
     let can = can-back_up c.args.state.now c.args.form.now c.requires.sound c.requires.accepted in
     coe 1 0 (i. All (IsThere (opening (c.in_ok-mark.ensures.after i)).files) c.as_slice.result.now)
-    (marked-there c.args.state.now c.args.form.now c.args.jobs.now c.as_slice.result.now c.requires.sound can c.requires.jobs (ap (map whole) c.as_slice.ensures.value ∙ c.in_ok-copies.ensures))
+    (marked-there c.args.state.now c.args.form.now c.args.jobs.now c.as_slice.result.now c.requires.sound can c.requires.jobs (c.as_slice.ensures.value ∙ c.in_ok-copies.ensures))
 
 pub run_live-requires-clause-threads : goal.run_live-requires-clause-threads
 run_live-requires-clause-threads g c κs within =
@@ -52,7 +54,7 @@ run_live-requires-clause-room g c κs within =
 
 pub returns-clause-ran : goal.returns-clause-ran
 returns-clause-ran g c =
-    let spans = ap (map whole) c.as_slice.ensures.value ∙ c.in_ok-copies.ensures in
+    let spans = ap (map whole) (c.as_slice.ensures.value ∙ c.in_ok-copies.ensures) ∙ map-map whole (copy_job c.args.state.now) c.args.jobs.now in
     let written = ap lists c.as_slice-2.ensures.value ∙ c.in_ok-writers.ensures.lists in
     IfOk-weaker c.run_live.result (HasRunLive c.mark.new.state c.as_slice.result.now (lists c.as_slice-2.result.now) c.run_live.new.state) (HasWorked c.args.state.now c.args.form.now c.args.jobs.now c.run_live.new.state)
     (λ w ran. (c.as_slice.result.now, spans, coe 0 1 (i. HasRunLive (c.in_ok-mark.ensures.after i) c.as_slice.result.now (written i) c.run_live.new.state w) ran)) c.run_live.ensures.ran
