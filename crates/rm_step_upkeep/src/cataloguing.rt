@@ -13,7 +13,7 @@ ghost use Rattle.rm_machine.specs.Hands.{Hands, Refuses};
 ghost use Rattle.rm_machine.specs.Sound.{IsSound};
 ghost use Rattle.rm_machine.specs.State.{tree};
 ghost use Rattle.rm_machine.specs.Upkeep.{with_catalog};
-ghost use Rattle.rm_report.specs.Reply.{HasDate, LineHasDate};
+ghost use Rattle.rm_report.specs.Reply.{HasDate, IsPlain};
 ghost use Rattle.rm_step_upkeep.specs.Catalogued.{CanBeRecorded, base_by, end_by, inc_of, raised_by, recorded, refusal_by, room_refusal};
 
 use crate::finding::{Entry, find};
@@ -169,7 +169,7 @@ pub fn catalog<D: Store>(
     ensures sound { OnOk result (IsSound state.new) }
     ensures refused { IfOk result (λ x. IfErr x (λ _. state.new ≡ state.old)) }
     ensures unedited { IfOk result (λ x. IfErr x (λ _. edits.new.items ≡ edits.old.items)) }
-    ensures dates { IfOk result (λ x. IfOk x (λ handed. All LineHasDate handed.lines)) }
+    ensures dates { IfOk result (λ x. IfOk x (λ handed. All IsPlain handed.lines)) }
     ensures date { IfOk result (λ x. IfErr x HasDate) }
     ensures same { D.held store.new ≡ D.held store.old }
     ensures store { IsErrOf result StoreFault → Rose (D.faults store.old) (D.faults store.new) }
