@@ -16,7 +16,7 @@ use Rattle.rm_channel.specs.Jobs.{lists}
 use Rattle.rm_channel.specs.Room.{AreThreads, CanWrite, HasBlock, HaveRoom, IsThere}
 use Rattle.rm_channel.specs.declared.jobs.CopyJob.{CopyJob}
 use Rattle.rm_channel.specs.declared.jobs.WriteJob.{WriteJob}
-use Rattle.rm_test_channel.specs.Small.{AreWrites, opening, whole_file}
+use Rattle.rm_test_channel.specs.Small.{AreWrites, IsOfFile, opening}
 
 rows-below : (blocks : ℕ) → All (λ (r : Row). r.version < 2) (created_rows 1 blocks)
 rows-below zero = All-nil (λ (r : Row). r.version < 2)
@@ -35,12 +35,12 @@ sound blocks = record {
 pub sound-as : (o : Parts) (blocks : ℕ) → o ≡ opening blocks → IsSound o
 sound-as o blocks is = subst IsSound (sym is) (sound blocks)
 
-pub there-as : (o : Parts) (j : CopyJob) (blocks : ℕ) → o ≡ opening blocks → j ≡ whole_file blocks → IsThere o.files j
-there-as o j blocks is all = rw (is, all) (ap Some (length-created 1 blocks))
+pub there-as : (o : Parts) (j : CopyJob) (blocks : ℕ) → o ≡ opening blocks → IsOfFile blocks j → IsThere o.files j
+there-as o j blocks is of = record { size = rw (is, of.file, of.size) (ap Some (length-created 1 blocks)); wanted = of.wanted }
 
 -- .. also behind two calls
-pub there-later : (p q r : Standing) (j : CopyJob) (blocks : ℕ) → p.opening ≡ opening blocks → IsLater p q → IsLater q r → j ≡ whole_file blocks → IsThere r.opening.files j
-there-later p q r j blocks is one two all = there-as r.opening j blocks (ap (λ (s : Standing). s.opening) (two ∙ (λ i. record (one i) { seen = r.seen })) ∙ is) all
+pub there-later : (p q r : Standing) (j : CopyJob) (blocks : ℕ) → p.opening ≡ opening blocks → IsLater p q → IsLater q r → IsOfFile blocks j → IsThere r.opening.files j
+there-later p q r j blocks is one two of = there-as r.opening j blocks (ap (λ (s : Standing). s.opening) (two ∙ (λ i. record (one i) { seen = r.seen })) ∙ is) of
 
 -- a log is as it began, or there is none
 log-at : (P : Option ThreadLog → Type 0) (l : ThreadLog) (n k : ℕ) → P None → P (Some l) → P (slice_get (replicate n l) k)

@@ -6,21 +6,23 @@ use Rattle.rm_redo.specs.Online.{fresh_logs}
 use Rattle.rm_live.specs.Parts.{Parts}
 use Rattle.rm_live.specs.Passes.{Standing}
 use Rattle.rm_live.specs.Ruled.{upto}
+use Rattle.rm_channel.specs.Jobs.{IsWanted, size_of}
 use Rattle.rm_channel.specs.declared.jobs.CopyJob.{CopyJob}
-use Rattle.rm_channel.specs.declared.jobs.Wanted.TheVariants.{All as Each}
 use Rattle.rm_channel.specs.declared.jobs.WriteJob.{WriteJob}
 
 -- file 1 of so many blocks, and four threads
 abbrev pub opening : ℕ → Parts
-opening blocks = record { inc = 1; now = 2; files = created 1 1 1 blocks ∷ []; logs = fresh_logs 7 1 4 1 }
+opening blocks = record { inc = 1; now = 2; files = created 1 1 1 blocks ∷ []; logs = fresh_logs 7 1 4 1; tracker = [] }
 
 -- its only pass, before its first call
 abbrev pub opened : TableId → ℕ → Standing
 opened home blocks = record { home = home; opening = opening blocks; passes = 20; numbers = upto 0 20; seen = [] }
 
--- all of its blocks
-abbrev pub whole_file : ℕ → CopyJob
-whole_file blocks = record { file = 1; wanted = Each blocks }
+-- all of its blocks, or some
+pub record IsOfFile (blocks : ℕ) (j : CopyJob) : Type 0 where
+  pub file : j.file ≡ 1
+  pub size : size_of j.wanted ≡ blocks
+  pub wanted : IsWanted j.wanted
 
 -- at most three writes of its first block
 abbrev pub AreWrites : List WriteJob → Type 0

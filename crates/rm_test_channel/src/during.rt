@@ -1,7 +1,7 @@
 //! Copies beside a writer.
 ghost use Rattle.std.specs.Prelude.{◌≡◌, ◌≤◌, All, IfOk, length};
 ghost use Rattle.rm_channel.specs.Jobs.{lists};
-ghost use Rattle.rm_test_channel.specs.Small.{AreWrites, whole_file};
+ghost use Rattle.rm_test_channel.specs.Small.{AreWrites, IsOfFile};
 
 use crate::gates::Holding;
 use crate::small::{open, whole_file};
@@ -22,7 +22,7 @@ pub fn copied<R: Threads + Wait + Sync, G: Gate>(
     gate: &G,
 ) -> Result<Work, NoMemory>
     requires blocks { (1 ≤ blocks) × (blocks ≤ 100) }
-    requires jobs { All (λ j. j ≡ whole_file blocks) jobs.now }
+    requires jobs { All (IsOfFile blocks) jobs.now }
     requires few { length writers.now ≤ 4 }
     requires writers { All AreWrites (lists writers.now) }
     requires channels { (1 ≤ channels) × (channels ≤ 16) }

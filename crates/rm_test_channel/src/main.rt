@@ -30,7 +30,9 @@ fn main(rt: HostRuntime) -> io::Result<()> {
         passes::a_full_log(&rt, alloc),
     )?;
     tell(&rt, "the last SCN", passes::the_last_scn(&rt, alloc))?;
+    tell(&rt, "a row that is put back", passes::a_mend(&rt, alloc))?;
     tell(&rt, "1, 2, 4 and 16 channels", small::same_rows(&rt, alloc))?;
+    tell(&rt, "the marked blocks", small::marked_rows(&rt, alloc))?;
     tell(&rt, "the lengths of sections", small::lengths(&rt, alloc))?;
     tell(&rt, "two channels that meet", small::meeting(&rt, alloc))?;
     tell(&rt, "gate-holds-section", during::holding(&rt, alloc))?;

@@ -10,6 +10,7 @@ use rm_base::{Block, BlockNo, NoMemory, Row, Scn, ThreadNo};
 use rm_blocks::DataFile;
 use rm_live::{Database, Live, LiveFault, Pass};
 use rm_redo::OnlineLogs;
+use rm_track::Tracker;
 use std::alloc::Global;
 use std::sync::Wait;
 use std::thread::{Threads, join};
@@ -18,6 +19,7 @@ use std::thread::{Threads, join};
 fn small(alloc: Global, threads: u8, now: Scn) -> Result<Database, NoMemory>
     requires threads { (1 ≤ threads) × (threads ≤ 4) }
     requires now { (2 ≤ now) × (now ≤ last_scn) }
+    ensures now { IfOk result (λ d. d.now ≡ now) }
     ensures logs { IfOk result (λ d. d.logs ≡ fresh_logs 7 1 threads 1) }
     ensures numbered { IfOk result (λ d. IsNumbered (parts_of d).files) }
     ensures sound { IfOk result (λ d. IsSound (parts_of d)) }
@@ -29,6 +31,7 @@ fn small(alloc: Global, threads: u8, now: Scn) -> Result<Database, NoMemory>
         now,
         files,
         logs: OnlineLogs::new(alloc, 7, 1, threads, 1)?,
+        tracker: Tracker::new(alloc),
     })
 }
 
@@ -38,6 +41,7 @@ fn open(alloc: Global, threads: u8, now: Scn, passes: usize) -> Result<(Live, Pa
     requires now { (2 ≤ now) × (now ≤ last_scn) }
     requires passes { 1 ≤ passes }
     ensures home { IfOk result (λ r. r.1.home ≡ r.0) }
+    ensures now { IfOk result (λ r. r.1.opening.now ≡ now) }
     ensures logs { IfOk result (λ r. r.1.opening.logs ≡ fresh_logs 7 1 threads 1) }
     ensures passes { IfOk result (λ r. r.1.passes ≡ passes) }
     ensures numbers { IfOk result (λ r. r.1.numbers ≡ upto 0 passes) }
@@ -162,6 +166,24 @@ pub fn a_full_log<R: Wait>(rt: &R, alloc: Global) -> Result<bool, NoMemory> {
     let database = live.close(p);
     let wanted = [Err(LiveFault::Full), Err(LiveFault::NoBlock), Ok(65_538)];
     Ok(room && [full, absent, other] == wanted && database.now == 65_539)
+}
+
+/// A row that is put back is what it was, and takes no SCN.
+pub fn a_mend<R: Wait>(rt: &R, alloc: Global) -> Result<bool, NoMemory> {
+    let (live, mut p) = open(alloc, 1, 2, 1)?;
+    let row = Row {
+        block: 0,
+        version: 1,
+        content: Block::padded(b"Z"),
+    };
+    let first = write(rt, &live, &mut p, 1, 0, b"A");
+    let there = live.mend(rt, &mut p, 1, row);
+    let beyond = live.mend(rt, &mut p, 1, Row { block: 2, ..row });
+    let back = live.read(rt, &mut p, 1, 0);
+    let second = write(rt, &live, &mut p, 1, 1, b"B");
+    let database = live.close(p);
+    let are_told = [first, second] == [Ok(2), Ok(3)] && there && !beyond;
+    Ok(are_told && is_row(back, 1, b"Z") && database.now == 4)
 }
 
 /// No write takes the last SCN.

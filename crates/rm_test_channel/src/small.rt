@@ -1,6 +1,6 @@
 //! A small live database, and copies of its datafile.
 ghost use Rattle.std.specs.Prelude.{◌≡◌, ◌≤◌, IfOk, length};
-ghost use Rattle.rm_test_channel.specs.Small.{opened, whole_file};
+ghost use Rattle.rm_test_channel.specs.Small.{IsOfFile, opened};
 
 use crate::gates::{Adding, Meeting, Wide};
 use rm_base::{Block, BlockNo, NoMemory, Row, Scn};
@@ -8,6 +8,7 @@ use rm_blocks::DataFile;
 use rm_channel::{CopyJob, Gate, Wanted, copy_file};
 use rm_live::{Database, Live, Pass};
 use rm_redo::OnlineLogs;
+use rm_track::{Bits, Tracker};
 use std::alloc::Global;
 use std::sync::Wait;
 use std::thread::Threads;
@@ -24,13 +25,14 @@ pub fn open(alloc: Global, blocks: u32) -> Result<(Live, Pass), NoMemory>
         now: 2,
         files,
         logs: OnlineLogs::new(alloc, 7, 1, 4, 1)?,
+        tracker: Tracker::new(alloc),
     };
     Live::open(alloc, database, 20)
 }
 
 /// All of file 1.
 pub fn whole_file(blocks: u32) -> CopyJob
-    ensures { result ≡ whole_file blocks }
+    ensures { IsOfFile blocks result }
 {
     CopyJob {
         file: 1,
@@ -38,22 +40,36 @@ pub fn whole_file(blocks: u32) -> CopyJob
     }
 }
 
+// Blocks 1 and 3 of file 1.
+fn marked_blocks(alloc: Global, blocks: u32) -> Result<CopyJob, NoMemory>
+    ensures { IfOk result (IsOfFile blocks) }
+{
+    let mut bits = Bits::none(alloc, blocks)?;
+    bits.add(1);
+    bits.add(3);
+    Ok(CopyJob {
+        file: 1,
+        wanted: Wanted::Blocks(bits),
+    })
+}
+
 // A copy of file 1 by so many channels, after a write of block 1 and one of block 3.
 fn copied<R: Threads + Wait + Sync, G: Gate>(
     rt: &R,
     alloc: Global,
+    job: &CopyJob,
     blocks: u32,
     channels: u32,
     gate: &G,
 ) -> Result<Vec<Row>, NoMemory>
+    requires job { IsOfFile blocks job.now }
     requires blocks { (1 ≤ blocks) × (blocks ≤ 100) }
     requires channels { (1 ≤ channels) × (channels ≤ 16) }
 {
     let (live, mut pass) = open(alloc, blocks)?;
     let _ = live.write(rt, &mut pass, 1, 1, 1, Block::padded(b"A"));
     let _ = live.write(rt, &mut pass, 2, 1, 3, Block::padded(b"B"));
-    let job = whole_file(blocks);
-    let (_, rows) = copy_file(rt, alloc, &live, pass, &job, channels, gate);
+    let (_, rows) = copy_file(rt, alloc, &live, pass, job, channels, gate);
     rows
 }
 
@@ -67,15 +83,28 @@ fn is_row(row: Option<&Row>, block: BlockNo, version: Scn, text: &[u8]) -> bool
 
 /// Each number of channels gives the same rows, which are those of the datafile.
 pub fn same_rows<R: Threads + Wait + Sync>(rt: &R, alloc: Global) -> Result<bool, NoMemory> {
-    let one = copied(rt, alloc, 4, 1, &Wide)?;
-    let two = copied(rt, alloc, 4, 2, &Wide)?;
-    let four = copied(rt, alloc, 4, 4, &Wide)?;
-    let many = copied(rt, alloc, 4, 16, &Wide)?;
+    let job = whole_file(4);
+    let one = copied(rt, alloc, &job, 4, 1, &Wide)?;
+    let two = copied(rt, alloc, &job, 4, 2, &Wide)?;
+    let four = copied(rt, alloc, &job, 4, 4, &Wide)?;
+    let many = copied(rt, alloc, &job, 4, 16, &Wide)?;
     let rows = one.as_slice();
     let are_same = rows == two.as_slice() && rows == four.as_slice() && rows == many.as_slice();
     let first = is_row(rows.get(0), 0, 1, b"") && is_row(rows.get(1), 1, 2, b"A");
     let last = is_row(rows.get(2), 2, 1, b"") && is_row(rows.get(3), 3, 3, b"B");
     Ok(are_same && rows.len() == 4 && first && last)
+}
+
+/// Of the marked blocks each number of channels gives the rows.
+pub fn marked_rows<R: Threads + Wait + Sync>(rt: &R, alloc: Global) -> Result<bool, NoMemory> {
+    let job = marked_blocks(alloc, 4)?;
+    let one = copied(rt, alloc, &job, 4, 1, &Wide)?;
+    let two = copied(rt, alloc, &job, 4, 2, &Wide)?;
+    let many = copied(rt, alloc, &job, 4, 16, &Wide)?;
+    let rows = one.as_slice();
+    let are_same = rows == two.as_slice() && rows == many.as_slice();
+    let are_marked = is_row(rows.get(0), 1, 2, b"A") && is_row(rows.get(1), 3, 3, b"B");
+    Ok(are_same && rows.len() == 2 && are_marked)
 }
 
 // Whether so many channels come to the gate once each, for ten blocks, each for so many or one more.
@@ -88,7 +117,7 @@ fn adds_up<R: Threads + Wait + Sync>(
     requires { (1 ≤ channels) × (channels ≤ 16) }
 {
     let gate = Adding::new(least);
-    let rows = copied(rt, alloc, 10, channels, &gate)?;
+    let rows = copied(rt, alloc, &whole_file(10), 10, channels, &gate)?;
     Ok(rows.len() == 10 && gate.counts() == (u64::from(channels), 10, 0))
 }
 
@@ -102,6 +131,6 @@ pub fn lengths<R: Threads + Wait + Sync>(rt: &R, alloc: Global) -> Result<bool, 
 /// Two channels are at the gate at once.
 pub fn meeting<R: Threads + Wait + Sync>(rt: &R, alloc: Global) -> Result<bool, NoMemory> {
     let gate = Meeting::new();
-    let rows = copied(rt, alloc, 4, 2, &gate)?;
+    let rows = copied(rt, alloc, &whole_file(4), 4, 2, &gate)?;
     Ok(!gate.is_given_up() && rows.len() == 4)
 }

@@ -102,8 +102,7 @@ fn are_taken(scns: &[Vec<Scn>]) -> bool {
 /// Each row that was found is explained, and the SCNs are those of twelve writes.
 pub fn many<R: Threads + Wait + Sync>(rt: &R, alloc: Global) -> Result<bool, NoMemory> {
     let writers = four_lists(alloc)?;
-    let job = whole_file(1);
-    let jobs = [job, job, job, job];
+    let jobs = [whole_file(1), whole_file(1), whole_file(1), whole_file(1)];
     let Work { rows, reads, scns } = copied(rt, alloc, 1, &jobs, writers.as_slice(), 16, &Wide)?;
     let is_read = reads.as_slice() == [1, 1, 1, 1].as_slice();
     let is_explained = are_explained(rows.as_slice(), writers.as_slice(), scns.as_slice());
