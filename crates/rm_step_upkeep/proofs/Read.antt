@@ -102,11 +102,16 @@ module _ (s : State) (id : ℕ) (a : LogFile) where
         there = IsThere-with_end (tree s) a.inc log_end a.inc here.there;
         thread = here.thread;
         sequence = valid.sequence.0;
-        range = (omega (arith, reset_of-with_end (tree s) a.inc log_end a.inc here.there, here.range.0), here.range.1, omega (arith, end_of-with_end (tree s) a.inc log_end here.there));
+        range = (
+          omega (arith, reset_of-with_end (tree s) a.inc log_end a.inc here.there, here.range.0),
+          here.range.1,
+          omega (arith, end_of-with_end (tree s) a.inc log_end here.there),
+        );
         size = omega (arith, length-log a (log-fits a valid), length-sealed (log_body a), valid.few);
       }
 
-  pub log-read : (bytes sha : List ℕ) → IsLogFile a → bytes ≡ log_spelling a → sha ≡ sha256 bytes → IsLogHere s a → IsEntryOf s (named.Log id) bytes (entry.Log (record (log_entry id a) { size = length bytes; sha = sha }))
+  pub log-read : (bytes sha : List ℕ) → IsLogFile a → bytes ≡ log_spelling a → sha ≡ sha256 bytes → IsLogHere s a
+      → IsEntryOf s (named.Log id) bytes (entry.Log (record (log_entry id a) { size = length bytes; sha = sha }))
   log-read bytes sha valid spelled digest here = record {
     found = found_log id a;
     named = refl;
@@ -118,15 +123,18 @@ module _ (s : State) (id : ℕ) (a : LogFile) where
   log-here bytes read =
       let is = read.obeys in
       let there = was-there (tree s) a.inc log_end is.there in
-      record { dbid = read.dbid; there = there; thread = is.thread; range = (omega (arith, reset_of-with_end (tree s) a.inc log_end a.inc there, is.range.0), is.range.1) }
+      let low = reset_of-with_end (tree s) a.inc log_end a.inc there in
+      record { dbid = read.dbid; there = there; thread = is.thread; range = (omega (arith, low, is.range.0), is.range.1) }
 
 -- bytes that spell no log are none
-pub no-log : (s : State) (id : ℕ) (bytes : List ℕ) → ((a : LogFile) → IsLogFile a → bytes ≢ log_spelling a) → (x : Found) → named_of x ≡ named.Log id → ¬ IsReadAs s bytes x
+pub no-log : (s : State) (id : ℕ) (bytes : List ℕ) → ((a : LogFile) → IsLogFile a → bytes ≢ log_spelling a) → (x : Found) → named_of x ≡ named.Log id
+    → ¬ IsReadAs s bytes x
 no-log s id bytes none (found_log n a) is read = none a read.valid read.spelled
 no-log s id bytes none (found_piece copy n a) is read = absurd cc
 
 -- nor are those of a log that is not here
-pub other-log : (s : State) (id : ℕ) (bytes : List ℕ) (a : LogFile) → IsLogFile a → bytes ≡ log_spelling a → ¬ IsLogHere s a → (x : Found) → named_of x ≡ named.Log id → ¬ IsReadAs s bytes x
+pub other-log : (s : State) (id : ℕ) (bytes : List ℕ) (a : LogFile) → IsLogFile a → bytes ≡ log_spelling a → ¬ IsLogHere s a → (x : Found)
+    → named_of x ≡ named.Log id → ¬ IsReadAs s bytes x
 other-log s id bytes a valid spelled elsewhere (found_log n b) is read =
     let same : b ≡ a = same-log b a read.valid valid (sym read.spelled ∙ spelled) in
     elsewhere (subst (IsLogHere s) same (log-here s n b bytes read))
@@ -180,7 +188,8 @@ module _ (s : State) (copy : Bool) (id : ℕ) (a : Piece) where
         λ d is. here.of.blocks ∙ ap (λ (f : Datafile). f.blocks) (same_Some here.datafile d (sym here.is ∙ is)),
       )
 
-  pub piece-read : (bytes sha : List ℕ) → IsPiece a → bytes ≡ piece_spelling a → sha ≡ sha256 bytes → IsPieceHere s copy a → IsEntryOf s (named.Piece copy id) bytes (entry.Piece (record its_entry { size = length bytes; sha = sha }))
+  pub piece-read : (bytes sha : List ℕ) → IsPiece a → bytes ≡ piece_spelling a → sha ≡ sha256 bytes → IsPieceHere s copy a
+      → IsEntryOf s (named.Piece copy id) bytes (entry.Piece (record its_entry { size = length bytes; sha = sha }))
   piece-read bytes sha valid spelled digest here = record {
     found = found_piece copy id a;
     named = refl;
@@ -205,12 +214,14 @@ module _ (s : State) (copy : Bool) (id : ℕ) (a : Piece) where
       }
 
 -- bytes that spell no piece are none
-pub no-piece : (s : State) (copy : Bool) (id : ℕ) (bytes : List ℕ) → ((a : Piece) → IsPiece a → bytes ≢ piece_spelling a) → (x : Found) → named_of x ≡ named.Piece copy id → ¬ IsReadAs s bytes x
+pub no-piece : (s : State) (copy : Bool) (id : ℕ) (bytes : List ℕ) → ((a : Piece) → IsPiece a → bytes ≢ piece_spelling a) → (x : Found)
+    → named_of x ≡ named.Piece copy id → ¬ IsReadAs s bytes x
 no-piece s copy id bytes none (found_log n a) is read = absurd cc
 no-piece s copy id bytes none (found_piece c n a) is read = none a read.valid read.spelled
 
 -- nor are those of a piece that is not here
-pub other-piece : (s : State) (copy : Bool) (id : ℕ) (bytes : List ℕ) (a : Piece) → IsPiece a → bytes ≡ piece_spelling a → ¬ IsPieceHere s copy a → (x : Found) → named_of x ≡ named.Piece copy id → ¬ IsReadAs s bytes x
+pub other-piece : (s : State) (copy : Bool) (id : ℕ) (bytes : List ℕ) (a : Piece) → IsPiece a → bytes ≡ piece_spelling a → ¬ IsPieceHere s copy a
+    → (x : Found) → named_of x ≡ named.Piece copy id → ¬ IsReadAs s bytes x
 other-piece s copy id bytes a valid spelled elsewhere (found_log n b) is read = absurd cc
 other-piece s copy id bytes a valid spelled elsewhere (found_piece c n b) is read =
     let same : b ≡ a = same-piece b a read.valid valid (sym read.spelled ∙ spelled) in
@@ -224,7 +235,8 @@ small n below = omega (arith, below)
 
 -- it is of what the name is of
 found-named : (s : State) (h : Held) (name : List ℕ) (n : Named) (x : Found) → IsOf name n → IsFound s h name x → named_of x ≡ n
-found-named s h name (named.Log id) (found_log m a) of found = ap named.Log (log-name-tells m id (small m found.number.1) (small id of.number.1) (sym found.is ∙ of.is))
+found-named s h name (named.Log id) (found_log m a) of found =
+    ap named.Log (log-name-tells m id (small m found.number.1) (small id of.number.1) (sym found.is ∙ of.is))
 found-named s h name (named.Log id) (found_piece c m a) of found = absurd (log-no-piece id c m (sym of.is ∙ found.is))
 found-named s h name (named.Piece copy id) (found_log m a) of found = absurd (log-no-piece m copy id (sym found.is ∙ of.is))
 found-named s h name (named.Piece copy id) (found_piece c m a) of found =
@@ -233,13 +245,15 @@ found-named s h name (named.Piece copy id) (found_piece c m a) of found =
 
 -- nothing stands there
 pub none-there : (held : Option Held) (s : State) (name : List ℕ) → IfSome held (λ h. h name ≡ None) → Finds held s name None
-none-there held s name none objects tells x found = absurd (let clash : None ≡ Some (spelling_of (artefact_of x)) = sym (told-of held name None none objects tells) ∙ found.stands in cc)
+none-there held s name none objects tells x found =
+    absurd (let clash : None ≡ Some (spelling_of (artefact_of x)) = sym (told-of held name None none objects tells) ∙ found.stands in cc)
 
 -- these bytes do
-pub read-there : (held : Option Held) (s : State) (name : List ℕ) (n : Named) (bytes : List ℕ) (o : Option Entry) → IsOf name n → IfSome held (λ h. h name ≡ Some bytes) → ReadsAs s n bytes o → Finds held s name o
+pub read-there : (held : Option Held) (s : State) (name : List ℕ) (n : Named) (bytes : List ℕ) (o : Option Entry) → IsOf name n
+    → IfSome held (λ h. h name ≡ Some bytes) → ReadsAs s n bytes o → Finds held s name o
 read-there held s name n bytes None of told none = λ objects tells x found.
-    let there = told-of held name (Some bytes) told objects tells in
-    none x (found-named s objects name n x of found) (record { spelled = same_Some bytes (spelling_of (artefact_of x)) (sym there ∙ found.stands); valid = found.valid; dbid = found.dbid; obeys = found.obeys })
+    let there = same_Some bytes (spelling_of (artefact_of x)) (sym (told-of held name (Some bytes) told objects tells) ∙ found.stands) in
+    none x (found-named s objects name n x of found) (record { spelled = there; valid = found.valid; dbid = found.dbid; obeys = found.obeys })
 read-there held s name n bytes (Some e) of told is =
     let x = is.found in
     let found : (h : Held) → h name ≡ Some bytes → IsFound s h name x = λ h at. record {
@@ -250,4 +264,10 @@ read-there held s name n bytes (Some e) of told is =
       dbid = is.read.dbid;
       obeys = is.read.obeys;
     } in
-    record { found = x; is = is.is; seen = λ _. Some bytes; there = found (λ _. Some bytes) refl; stands = λ objects tells. found objects (told-of held name (Some bytes) told objects tells) }
+    record {
+      found = x;
+      is = is.is;
+      seen = λ _. Some bytes;
+      there = found (λ _. Some bytes) refl;
+      stands = λ objects tells. found objects (told-of held name (Some bytes) told objects tells);
+    }

@@ -30,12 +30,16 @@ found-name s h name x found = named-by name x found.is found.number
 
 -- Where nothing is found
 
-pub absent-refused : (held : Option Held) (s : State) (name : List ℕ) (n : Named) (r : Refusal) → IsOf name n → Finds held s name None → refused r ≡ catalog_by s name (id_in n) None → Refuses held s (CatalogName name) r
-absent-refused held s name n r of none is = λ objects tells. record { id = id_in n; tells = an_id (id_in n) (of-named name n of); found = None; finds = none objects tells; is = is }
+pub absent-refused : (held : Option Held) (s : State) (name : List ℕ) (n : Named) (r : Refusal) → IsOf name n → Finds held s name None
+    → refused r ≡ catalog_by s name (id_in n) None → Refuses held s (CatalogName name) r
+absent-refused held s name n r of none is = λ objects tells.
+    record { id = id_in n; tells = an_id (id_in n) (of-named name n of); found = None; finds = none objects tells; is = is }
 
 -- nor under a name that tells no id
-pub unnamed-refused : (held : Option Held) (s : State) (name : List ℕ) (r : Refusal) → ((id : ℕ) → ¬ IsNamed name id) → refused r ≡ catalog_by s name 0 None → Refuses held s (CatalogName name) r
-unnamed-refused held s name r none is = λ objects tells. record { id = 0; tells = no_id none; found = None; finds = λ x found. none (id_found x) (found-name s objects name x found); is = is }
+pub unnamed-refused : (held : Option Held) (s : State) (name : List ℕ) (r : Refusal) → ((id : ℕ) → ¬ IsNamed name id) → refused r ≡ catalog_by s name 0 None
+    → Refuses held s (CatalogName name) r
+unnamed-refused held s name r none is = λ objects tells.
+    record { id = 0; tells = no_id none; found = None; finds = λ x found. none (id_found x) (found-name s objects name x found); is = is }
 
 -- Its record tells why it is refused, and what becomes of the catalog
 
@@ -68,7 +72,8 @@ module _ (held : Option Held) (s : State) (name : List ℕ) (e : Entry) (found :
   pub found-refused : (r : Refusal) → refusal_by s name e ≡ Some r → Refuses held s (CatalogName name) r
   found-refused r is = λ objects tells.
       let at = found.stands objects tells in
-      record { id = id_found x; tells = an_id (id_found x) (found-name s objects name x at); found = Some x; finds = at; is = sym (ap comes_by (sym refusal-is ∙ is)) }
+      let tells = an_id (id_found x) (found-name s objects name x at) in
+      record { id = id_found x; tells = tells; found = Some x; finds = at; is = sym (ap comes_by (sym refusal-is ∙ is)) }
 
   module _ (accepted : refusal_by s name e ≡ None) (sound : IsSound s) (unsaved : s.catalog.saved ≡ None) where
     found-fit : FitsFound s x
@@ -83,10 +88,12 @@ module _ (held : Option Held) (s : State) (name : List ℕ) (e : Entry) (found :
     pub recorded-sound : IsSound (with_catalog s (recorded s e))
     recorded-sound = subst (λ r. IsSound (with_catalog s r)) (sym after-is) (sound-catalogued s x sound found-fit)
 
-    pub found-hands : (h : Handed) (t : State) → h.lines ≡ Catalogued (id_of e) ∷ [] → h.objects ≡ [] → h.removes ≡ [] → t ≡ with_catalog s (recorded s e) → Hands held s (CatalogName name) h t
+    pub found-hands : (h : Handed) (t : State) → h.lines ≡ Catalogued (id_of e) ∷ [] → h.objects ≡ [] → h.removes ≡ [] → t ≡ with_catalog s (recorded s e)
+        → Hands held s (CatalogName name) h t
     found-hands h t lines objects removes is =
         hands-by held s (CatalogName name) h t (Catalogued (id_found x) ∷ []) (cataloguing x) (with_catalog s (catalogued s x))
         (λ store tells.
         let at = found.stands store tells in
-        record { id = id_found x; tells = an_id (id_found x) (found-name s store name x at); found = Some x; finds = at; is = sym (ap comes_by (sym refusal-is ∙ accepted)) })
+        let tells = an_id (id_found x) (found-name s store name x at) in
+        record { id = id_found x; tells = tells; found = Some x; finds = at; is = sym (ap comes_by (sym refusal-is ∙ accepted)) })
         (lines ∙ ap (λ n. Catalogued n ∷ []) (ap id_of found.is ∙ same-id s x)) objects removes (is ∙ ap (with_catalog s) after-is)

@@ -87,8 +87,8 @@ fn entry_refusal(
     name: &Text,
     entry: &Entry,
 ) -> Result<Option<Refusal>, NoMemory>
-    requires sound { IsSound state.now }
-    ensures value { IfOk result (λ o. o ≡ refusal_by state.now name.now entry.now) }
+    requires { IsSound state.now }
+    ensures { IfOk result (λ o. o ≡ refusal_by state.now name.now entry.now) }
 {
     let id = entry.id();
     if is_unknown(state, u64::from(id)) {
@@ -137,8 +137,7 @@ fn put(
     edits: &mut Vec<Edit>,
     entry: Entry,
 ) -> Result<(), NoMemory>
-    requires unsaved { state.old.catalog.saved ≡ None }
-    requires can { CanBeRecorded state.old entry }
+    requires { CanBeRecorded state.old entry }
     ensures value { OnOk result (state.new ≡ with_catalog state.old (recorded state.old entry)) }
     ensures edits { OnOk result (EditsFollow edits.old.items edits.new.items state.old.catalog state.new.catalog) }
 {

@@ -26,25 +26,28 @@ returns-in-Some-3-clause-refuses g c =
     let held = g.D.Store.held c.args.store.now in
     let s = c.args.state.now in
     let name = c.args.name.now in
-    let is : refusal_by s name c.in-Some-2.entry ≡ Some c.in-Some-3.refusal = sym c.in_ok-refusal.ensures.value ∙ c.in-Some-3.is in
-    found-refused held s name c.in-Some-2.entry (subst (Finds held s name) c.in-Some-2.is c.in_ok-entry.ensures.finds) c.in-Some-3.refusal is
+    let found = subst (Finds held s name) c.in-Some-2.is c.in_ok-entry.ensures.finds in
+    let is : refusal_by s name c.in-Some-2.entry ≡ Some c.in-Some-3.refusal = sym c.in_ok-refusal.ensures ∙ c.in-Some-3.is in
+    found-refused held s name c.in-Some-2.entry found c.in-Some-3.refusal is
 
-pub put-requires-clause-can : goal.put-requires-clause-can
-put-requires-clause-can g c =
+pub put-requires : goal.put-requires
+put-requires g c =
     let held = g.D.Store.held c.args.store.now in
     let s = c.args.state.now in
     let name = c.args.name.now in
-    let accepted : refusal_by s name c.in-Some-2.entry ≡ None = sym c.in_ok-refusal.ensures.value ∙ c.in_default-3.is in
-    can-be-recorded held s name c.in-Some-2.entry (subst (Finds held s name) c.in-Some-2.is c.in_ok-entry.ensures.finds) accepted c.requires.sound c.requires.unsaved
+    let found = subst (Finds held s name) c.in-Some-2.is c.in_ok-entry.ensures.finds in
+    let accepted : refusal_by s name c.in-Some-2.entry ≡ None = sym c.in_ok-refusal.ensures ∙ c.in_default-3.is in
+    can-be-recorded held s name c.in-Some-2.entry found accepted c.requires.sound c.requires.unsaved
 
 pub returns-clause-hands : goal.returns-clause-hands
 returns-clause-hands g c =
     let held = g.D.Store.held c.args.store.now in
     let s = c.args.state.now in
     let name = c.args.name.now in
-    let accepted : refusal_by s name c.in-Some-2.entry ≡ None = sym c.in_ok-refusal.ensures.value ∙ c.in_default-3.is in
+    let found = subst (Finds held s name) c.in-Some-2.is c.in_ok-entry.ensures.finds in
+    let accepted : refusal_by s name c.in-Some-2.entry ≡ None = sym c.in_ok-refusal.ensures ∙ c.in_default-3.is in
     let made = c.in_ok-handed.ensures in
-    found-hands held s name c.in-Some-2.entry (subst (Finds held s name) c.in-Some-2.is c.in_ok-entry.ensures.finds) accepted c.requires.sound c.requires.unsaved
+    found-hands held s name c.in-Some-2.entry found accepted c.requires.sound c.requires.unsaved
     c.in_ok-handed.handed c.put.new.state (made.lines ∙ ap (λ n. Catalogued n ∷ []) c.id-2.ensures) made.objects made.removes c.in_ok-put.ensures.value
 
 pub returns-clause-sound : goal.returns-clause-sound
@@ -52,5 +55,6 @@ returns-clause-sound g c =
     let held = g.D.Store.held c.args.store.now in
     let s = c.args.state.now in
     let name = c.args.name.now in
-    let accepted : refusal_by s name c.in-Some-2.entry ≡ None = sym c.in_ok-refusal.ensures.value ∙ c.in_default-3.is in
-    subst IsSound (sym c.in_ok-put.ensures.value) (recorded-sound held s name c.in-Some-2.entry (subst (Finds held s name) c.in-Some-2.is c.in_ok-entry.ensures.finds) accepted c.requires.sound c.requires.unsaved)
+    let found = subst (Finds held s name) c.in-Some-2.is c.in_ok-entry.ensures.finds in
+    let accepted : refusal_by s name c.in-Some-2.entry ≡ None = sym c.in_ok-refusal.ensures ∙ c.in_default-3.is in
+    subst IsSound (sym c.in_ok-put.ensures.value) (recorded-sound held s name c.in-Some-2.entry found accepted c.requires.sound c.requires.unsaved)

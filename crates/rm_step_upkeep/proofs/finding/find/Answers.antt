@@ -10,5 +10,6 @@ returns-clause-finds g c =
     let s = c.args.state.now in
     let n = c.args.named in
     let o = c.in_ok-entry_in.field-0 in
-    read-there held s c.args.name.now n c.in-Some.bytes o c.requires.named (coe 0 1 (i. IfSome held (λ h. h (c.as_str.ensures i) ≡ c.in-Some.is i)) c.in_ok-bytes.ensures.found)
+    let there = coe 0 1 (i. IfSome held (λ h. h (c.as_str.ensures i) ≡ c.in-Some.is i)) c.in_ok-bytes.ensures.found in
+    read-there held s c.args.name.now n c.in-Some.bytes o c.requires.named there
     (subst (λ (bytes : List ℕ). ReadsAs s n bytes o) c.as_slice.ensures c.in_ok-entry_in.ensures)

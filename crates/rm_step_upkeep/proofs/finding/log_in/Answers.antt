@@ -8,7 +8,8 @@ pub returns-then-not-is_log_here : goal.returns-then-not-is_log_here
 returns-then-not-is_log_here c =
     let valid : IsLogFile c.in-Some.read.0 = search rules in
     let spelled : c.args.bytes.now ≡ spelling c.in-Some.read.0 = search rules in
-    other-log c.args.state.now c.args.id c.args.bytes.now c.in-Some.read.0 valid spelled (λ here. let clash = c.if-not-is_log_here.ensures.1 here in absurd cc)
+    let elsewhere = c.if-not-is_log_here.ensures.1 in
+    other-log c.args.state.now c.args.id c.args.bytes.now c.in-Some.read.0 valid spelled (λ here. let clash = elsewhere here in absurd cc)
 
 pub returns : goal.returns
 returns c =

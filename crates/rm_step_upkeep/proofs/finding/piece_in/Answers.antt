@@ -13,7 +13,8 @@ pub returns-then-not-is_piece_here : goal.returns-then-not-is_piece_here
 returns-then-not-is_piece_here c =
     let valid : IsPiece c.in-Some.read.0 = search rules in
     let spelled : c.args.bytes.now ≡ spelling c.in-Some.read.0 = search rules in
-    other-piece c.args.state.now c.args.copy c.args.id c.args.bytes.now c.in-Some.read.0 valid spelled (λ here. let clash = c.if-not-is_piece_here.ensures.1 here in absurd cc)
+    let elsewhere = c.if-not-is_piece_here.ensures.1 in
+    other-piece c.args.state.now c.args.copy c.args.id c.args.bytes.now c.in-Some.read.0 valid spelled (λ here. let clash = elsewhere here in absurd cc)
 
 pub returns : goal.returns
 returns c =
