@@ -9,6 +9,7 @@ use rm_base::{BlockNo, NoMemory, Row};
 use rm_blocks::DataFile;
 use rm_live::{Database, Live, Pass};
 use rm_redo::OnlineLogs;
+use rm_track::Tracker;
 use std::alloc::{AllocError, Global};
 use std::io;
 use std::sync::{Mutex, Wait};
@@ -87,6 +88,7 @@ fn database(alloc: Global, blocks: u32) -> Result<Database, NoMemory>
         now: 2,
         files,
         logs: OnlineLogs::new(alloc, 7, 1, 1, 1)?,
+        tracker: Tracker::new(alloc),
     })
 }
 
