@@ -68,10 +68,11 @@ impl<'a> Dir<'a> {
         }
     }
 
-    /// From now on it is the directory of this catalog.
-    pub fn claim(&self, catalog: &str) {
-        if let Ok(lock) = &self.lock {
-            claim(self.rt, lock, catalog);
+    /// From now on it is the directory of this catalog, also after a stop. Nothing is done where it is not open.
+    pub fn claim(&self, catalog: &str) -> io::Result<()> {
+        match &self.lock {
+            Ok(lock) => claim(self.rt, self.path.as_str(), lock, catalog),
+            Err(_) => Ok(()),
         }
     }
 

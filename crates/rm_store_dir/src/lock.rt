@@ -127,10 +127,13 @@ fn write_claim(file: &File, catalog: &str) -> io::Result<()> {
     file.set_len(catalog.len() as u64)
 }
 
-/// Writes into the file that is locked of which catalog the directory is from now on. What can't be told or written is
-/// left.
-pub(crate) fn claim(rt: &HostRuntime, file: &File, catalog: &str) {
-    if let Ok(path) = fs::canonicalize(rt, catalog) {
-        let _ = write_claim(file, path.as_str());
-    }
+/// Writes into the file that is locked of which catalog the directory of this path is from now on, durably. A catalog
+/// that is no file is not told.
+pub(crate) fn claim(rt: &HostRuntime, path: &str, file: &File, catalog: &str) -> io::Result<()> {
+    let Ok(catalog) = fs::canonicalize(rt, catalog) else {
+        return Ok(());
+    };
+    write_claim(file, catalog.as_str())?;
+    file.sync_all()?;
+    File::open(rt, path)?.sync_all()
 }

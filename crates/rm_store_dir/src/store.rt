@@ -69,9 +69,9 @@ impl<'a> DirStore<Dir<'a>> {
         self.folder.last_used(catalog)
     }
 
-    /// From now on it is the directory of this catalog.
-    pub fn claim(&self, catalog: &str) {
-        self.folder.claim(catalog);
+    /// From now on it is the directory of this catalog, also after a stop. Nothing is done where it is not open.
+    pub fn claim(&self, catalog: &str) -> io::Result<()> {
+        self.folder.claim(catalog)
     }
 
     /// From now on each call fails for this cause.

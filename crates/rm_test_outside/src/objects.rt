@@ -279,7 +279,7 @@ fn second(rt: &HostRuntime) -> io::Result<()> {
 fn claim(rt: &HostRuntime, catalog: &str) -> io::Result<()> {
     let store = open(rt, "objects", false)?;
     let is_other = matches!(store.last_used(catalog), Last::Other(_));
-    store.claim(catalog);
+    store.claim(catalog)?;
     rt.println(format_args!("{catalog}: of another {is_other}"))
 }
 

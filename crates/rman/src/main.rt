@@ -62,7 +62,7 @@ fn open_store(rt: &HostRuntime, folder: String, has_records: bool) -> DirStore<D
     store
 }
 
-// Whether the folder has objects; nothing where it can't be listed, which `run` tells as a fault.
+// Whether the folder has objects; nothing where it can't be listed, which is told as a fault.
 fn has_objects<D: Store>(store: &mut D) -> Option<bool> {
     match store.names() {
         Ok(names) => Some(!names.is_empty()),
@@ -70,37 +70,64 @@ fn has_objects<D: Store>(store: &mut D) -> Option<bool> {
     }
 }
 
-// Holds the folder and the catalog against each other, before anything is put. A folder that no catalog had and that has
-// no object is not that of records that are there. That another catalog had it last is warned of, and so are objects
-// that a new database would replace.
-fn meet(rt: &HostRuntime, store: &mut DirStore<Dir<'_>>, file: &str, has_records: bool) {
+// Holds the folder and a catalog without records against each other: objects that a new database would replace are warned
+// of, and the folder is this catalog's from now on. Where that can't be kept nothing may be recorded: without it and without
+// an object the folder would be none of these records.
+fn meet_new(rt: &HostRuntime, store: &mut DirStore<Dir<'_>>, file: &str) {
+    if let Last::Other(other) = store.last_used(file) {
+        told::other_catalog(rt, store.path(), other.as_str());
+        return;
+    }
+    if has_objects(store) == Some(true) {
+        told::used_folder(rt, store.path());
+    }
+    if let Err(error) = store.claim(file) {
+        store.refuse(error);
+    }
+}
+
+// Holds the folder and a catalog with records against each other. A folder that no catalog had and that has no object is not
+// that of records that are there; that another catalog had it last is warned of.
+fn meet(rt: &HostRuntime, store: &mut DirStore<Dir<'_>>, file: &str) {
     match store.last_used(file) {
-        Last::This if has_records => {}
-        Last::This => {
-            if has_objects(store) == Some(true) {
-                told::used_folder(rt, store.path());
-            }
-        }
+        Last::This => {}
         Last::Other(other) => {
             told::other_catalog(rt, store.path(), other.as_str());
-            if has_records {
-                store.claim(file);
-            }
+            let _ = store.claim(file);
         }
-        Last::Nobody if has_records && has_objects(store) == Some(false) => store.refuse(io::Error::new(
+        Last::Nobody if has_objects(store) == Some(false) => store.refuse(io::Error::new(
             ErrorKind::InvalidInput,
             "it has no object and was no catalog's yet, and this catalog has records",
         )),
         Last::Nobody => {
-            if !has_records && has_objects(store) == Some(true) {
-                told::used_folder(rt, store.path());
-            }
-            store.claim(file);
+            let _ = store.claim(file);
         }
     }
 }
 
-// A session by the program's words, with threads by the second handle: its status. An error is want of memory before it began.
+// The folder beside a catalog that is open or not, before anything is put. `run` asks the catalog first, so that the folder
+// of one that is not open is left to others.
+fn store_beside<'a>(
+    rt: &'a HostRuntime,
+    folder: String,
+    file: &str,
+    is_open: bool,
+    has_records: bool,
+) -> DirStore<Dir<'a>> {
+    if !is_open {
+        return DirStore::open(rt, String::new(rt.alloc()));
+    }
+    let mut store = open_store(rt, folder, has_records);
+    if has_records {
+        meet(rt, &mut store, file);
+    } else {
+        meet_new(rt, &mut store, file);
+    }
+    store
+}
+
+// A session by the program's words, with threads by the second handle: its status. Over a folder that can't be used none
+// begins, so that nothing is answered that couldn't be kept. An error is want of memory before it began.
 fn session<R: Threads + Wait + Sync>(rt: &HostRuntime, threads: &R) -> Result<u8, NoMemory> {
     let alloc = rt.alloc();
     let words = words(rt)?;
@@ -108,23 +135,25 @@ fn session<R: Threads + Wait + Sync>(rt: &HostRuntime, threads: &R) -> Result<u8
     let mut source = ReadSource::new(rt.reader());
     let mut sink = WriteSink::new(io::writer(rt));
     let mut keeper = CatalogFile::open(rt, file.as_str());
+    let is_open = matches!(keeper, CatalogFile::Opened(_));
     let has_records = has_records(&mut keeper)?;
-    let mut store = open_store(rt, folder, has_records);
-    if matches!(keeper, CatalogFile::Opened(_)) {
-        meet(rt, &mut store, file.as_str(), has_records);
-    }
+    let mut store = store_beside(rt, folder, file.as_str(), is_open, has_records);
     let mut clock = SystemClock::new(rt);
-    let status = run(
-        threads,
-        alloc,
-        &OpenGate,
-        &words,
-        &mut source,
-        &mut sink,
-        &mut store,
-        &mut keeper,
-        &mut clock,
-    );
+    let status = if is_open && store.unopened().is_some() {
+        5
+    } else {
+        run(
+            threads,
+            alloc,
+            &OpenGate,
+            &words,
+            &mut source,
+            &mut sink,
+            &mut store,
+            &mut keeper,
+            &mut clock,
+        )
+    };
     told::end(
         rt,
         status,
