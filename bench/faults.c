@@ -17,7 +17,7 @@
 #include <unistd.h>
 
 enum { LOG = 900, FDS = 1024 };
-enum kind { LOOKS, CHANGES };
+enum kind { LOOKS, CHANGES, WRITES };
 enum { HALF = -1, TORN = -2 }; /* half of the bytes are written, and the call answers so, or fails */
 
 static const char *room, *way = "";
@@ -50,10 +50,11 @@ static int fault(int counts, enum kind kind) {
     long number = __atomic_add_fetch(&calls, 1, __ATOMIC_SEQ_CST);
     if (at == 0 || number < at) return 0;
     if (is("dead")) return EIO;
-    if (is("full")) return kind == CHANGES ? ENOSPC : 0;
+    if (is("full")) return kind == LOOKS ? 0 : ENOSPC;
     if (number > at) return 0;
     if (is("slow")) return usleep(50000), 0;
-    return is("half") ? HALF : is("torn") ? TORN : is("enospc") ? ENOSPC : is("eintr") ? EINTR : EIO;
+    if (is("half") || is("torn")) return kind != WRITES ? 0 : is("half") ? HALF : TORN;
+    return is("enospc") ? ENOSPC : is("eintr") ? EINTR : EIO;
 }
 
 /* Tells a call, and passes its answer on. */
@@ -89,17 +90,12 @@ ON_FD(int, fdatasync, CHANGES, (int fd), 0, SYS_fdatasync, fd)
 ON_FD(int, ftruncate, CHANGES, (int fd, off_t length), length, SYS_ftruncate, fd, length)
 ON_FD(int, fchmod, LOOKS, (int fd, mode_t mode), mode, SYS_fchmod, fd, mode)
 ON_FD(int, fchown, LOOKS, (int fd, uid_t user, gid_t group), user, SYS_fchown, fd, user, group)
+ON_FD(int, posix_fadvise, LOOKS, (int fd, off_t from, off_t n, int advice), from, SYS_fadvise64, fd, from, n, advice)
 ON_FD(int, flock, LOOKS, (int fd, int how), how, SYS_flock, fd, how)
 ON_FD(off_t, lseek, LOOKS, (int fd, off_t to, int whence), whence, SYS_lseek, fd, to, whence)
 ON_FD(ssize_t, read, LOOKS, (int fd, void *bytes, size_t n), n, SYS_read, fd, bytes, n)
 ON_FD(ssize_t, pread, LOOKS, (int fd, void *bytes, size_t n, off_t from), from, SYS_pread64, fd, bytes, n, from)
 ON_FD(ssize_t, getdents64, LOOKS, (int fd, void *bytes, size_t n), n, SYS_getdents64, fd, bytes, n)
-
-/* It answers the error itself. */
-int posix_fadvise(int fd, off_t from, off_t n, int advice) {
-    int counts = is_inside(fd), error = fault(counts, LOOKS);
-    return (int)tell("posix_fadvise", counts, error > 0 ? error : syscall(SYS_fadvise64, fd, from, n, advice), fd, from, "", 0);
-}
 
 int rename(const char *from, const char *to) {
     char paths[1500];
@@ -121,11 +117,11 @@ char *realpath(const char *path, char *found) {
     return answer;
 }
 
+/* What a call with words that may be left out has as the next one. */
+#define NEXT(type, word, last) va_list rest; va_start(rest, last); type word = va_arg(rest, type); va_end(rest)
+
 int fcntl(int fd, int command, ...) {
-    va_list rest;
-    va_start(rest, command);
-    long word = va_arg(rest, long);
-    va_end(rest);
+    NEXT(long, word, command);
     int counts = is_inside(fd), error = fault(counts, LOOKS);
     return (int)tell("fcntl", counts, error ? failed(error) : syscall(SYS_fcntl, fd, command, word), fd, command, "", 0);
 }
@@ -140,19 +136,20 @@ int close(int fd) {
 
 /* The number that is told is 1 where the file is made. */
 static int opened(int dir, const char *path, int flags, mode_t mode) {
-    int counts = below(path), makes = flags & O_CREAT && syscall(SYS_access, path, F_OK), error = fault(counts, makes ? CHANGES : LOOKS);
-    long fd = error ? failed(error) : syscall(SYS_openat, dir, path, flags, mode);
+    int counts = below(path), makes = flags & O_CREAT && syscall(SYS_access, path, F_OK);
+    int error = fault(counts, makes ? CHANGES : LOOKS);
+    long fd = error ? failed(error) : syscall(SYS_openat, dir, path, flags, flags & O_CREAT ? mode : 0);
     if (fd >= 0 && fd < FDS) inside[fd] = (char)counts;
     return (int)tell("open", counts, fd, (int)fd, makes, path, 0);
 }
-#define MODE(mode, flags) mode_t mode = 0; va_list rest; va_start(rest, flags); if (flags & O_CREAT) mode = va_arg(rest, mode_t); va_end(rest)
-int open(const char *path, int flags, ...) { MODE(mode, flags); return opened(AT_FDCWD, path, flags, mode); }
-int openat(int dir, const char *path, int flags, ...) { MODE(mode, flags); return opened(dir, path, flags, mode); }
+int open(const char *path, int flags, ...) { NEXT(mode_t, mode, flags); return opened(AT_FDCWD, path, flags, mode); }
+int openat(int dir, const char *path, int flags, ...) { NEXT(mode_t, mode, flags); return opened(dir, path, flags, mode); }
 
 static ssize_t written(const char *name, int fd, const void *bytes, size_t n, off_t to) {
-    int counts = is_inside(fd), error = fault(counts, CHANGES);
+    int counts = is_inside(fd), error = fault(counts, WRITES);
     size_t part = error < 0 ? (n + 1) / 2 : n;
-    long answer = error > 0 ? failed(error) : to < 0 ? syscall(SYS_write, fd, bytes, part) : syscall(SYS_pwrite64, fd, bytes, part, to);
+    long answer = error > 0 ? failed(error) : to < 0 ? syscall(SYS_write, fd, bytes, part)
+                                                     : syscall(SYS_pwrite64, fd, bytes, part, to);
     tell(name, counts, answer, fd, (long)to, "", bytes);
     return error == TORN ? failed(EIO) : answer;
 }

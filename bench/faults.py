@@ -49,6 +49,8 @@ DELETE OBSOLETE;
 VALIDATE ALL;
 WRITE DATAFILE 1 BLOCK 1 VALUE 'j';""",
 ]
+# After so many transactions the log of the catalog file is brought into it.
+LONG = "".join(f"WRITE DATAFILE 1 BLOCK {place % 8} VALUE 'w{place}';" for place in range(520))
 FILES = {1: 8, 2: 4}
 TARGETS = [(incarnation, scn) for incarnation in (1, 2) for scn in range(2, 13)]
 
@@ -89,9 +91,12 @@ class Folder:
 
     def put(self, state):
         self.clear()
+        self.add(state)
+
+    def add(self, state):
         for name in sorted(state):
             if state[name] is None:
-                os.mkdir(f"{self.path}/{name}", 0o700)
+                os.makedirs(f"{self.path}/{name}", 0o700, exist_ok=True)
             else:
                 with open(os.open(f"{self.path}/{name}", os.O_WRONLY | os.O_CREAT, 0o600), "wb") as file:
                     file.write(state[name])
@@ -134,13 +139,13 @@ def open_text(text):
 
 
 def ended(begun, script=None):
-    """How a session ended. One that takes 20 s counts as stopped by a signal."""
+    """How a session ended. One that takes 60 s counts as stopped by a signal."""
     try:
-        out, err = begun.communicate(script and script.encode(), timeout=20)
+        out, err = begun.communicate(script and script.encode(), timeout=60)
     except subprocess.TimeoutExpired:
         begun.kill()
         out, err = begun.communicate()
-        return Ended(-signal.SIGALRM, out, "it did not end within 20 s")
+        return Ended(-signal.SIGALRM, out, "it did not end within 60 s")
     return Ended(begun.returncode, out, err.decode())
 
 
@@ -205,20 +210,17 @@ class History:
 class Reference:
     """A session as it goes without a fault, and what the next one finds where it stops behind each of its replies."""
 
-    def __init__(self, folder, number, before, history):
-        self.folder, self.name, self.script, self.before = folder, f"session {number + 1}", SESSIONS[number], before
+    def __init__(self, folder, name, script, before):
+        self.folder, self.name, self.script, self.before = folder, name, script, before
         folder.put(before)
-        how = folder.run(self.script, log=folder.log)
-        assert how.status == 0 and not how.err, f"{self.name}: {how}"
+        how = folder.run(script, log=folder.log)
+        assert how.status <= 1 and not without_warnings(how.err), f"{name}: {how}"
         self.calls, self.after, self.out = list(calls_of(folder.log)), folder.take(), how.out
         assert self.left(None, "all") == self.after, "the folder is not what the calls make of it"
         self.saved = folder.finds()
-        self.replies, self.stopped = [b""], [self.found_behind(0)]
-        for place, call in enumerate(self.calls):
-            if call.fd == 1:
-                self.replies.append(self.replies[-1] + call.bytes)
-                self.stopped.append(self.found_behind(place + 1))
-        self.hold_to(history)
+        self.ends = [0] + [place + 1 for place, call in enumerate(self.calls) if call.fd == 1]
+        self.replies = [b"".join(call.bytes for call in self.calls[:end] if call.fd == 1) for end in self.ends]
+        self.found = {}
 
     def hold_to(self, history):
         """Holds what is found behind each reply to what the replies tell."""
@@ -226,28 +228,47 @@ class Reference:
         assert len(self.replies) == len(statements) + 1
         for place, statement in enumerate(statements):
             history.take(statement, self.replies[place + 1][len(self.replies[place]) :].decode())
-            assert history.is_kept(self.stopped[place + 1]), f"{self.name}, a stop behind {statement}: {self.stopped[place + 1][0]}"
+            found = self.stopped(place + 1)
+            assert history.is_kept(found), f"{self.name}, a stop behind {statement}: {found[0]}"
         assert history.is_kept(self.saved), f"{self.name}: {self.saved[0]}"
 
     def left(self, count, way, rng=None):
         """What a stop behind so many calls leaves."""
         return left_by(self.folder.path, self.before, self.calls[:count], way, rng)
 
-    def found_behind(self, count):
-        self.folder.put(self.left(count, "all"))
-        return self.folder.finds()
+    def stopped(self, answered):
+        """What is found where it stops behind so many replies."""
+        if answered not in self.found:
+            self.folder.put(self.left(self.ends[answered], "all"))
+            self.found[answered] = self.folder.finds()
+        return self.found[answered]
 
     def answered(self, out):
         """How many statements these bytes answer; None where they are no front of the replies."""
         return self.replies.index(out) if out in self.replies else None
+
+    def kinds(self):
+        """The places of the calls, by name and file. Numbers of objects make no difference."""
+        kinds = collections.defaultdict(list)
+        for place, call in enumerate(self.calls):
+            kinds[call.name, *(re.sub(r"\d+$", "", path) for path in call.paths)].append(place)
+        return kinds
+
+    def somewhere(self, rng):
+        """Up to which call a session may come: any, or one of a kind that was drawn, so that rare ones are met as often."""
+        if rng.random() < 0.5:
+            return rng.randrange(len(self.calls))
+        places = rng.choice(sorted(self.kinds().items()))[1]
+        return rng.choice(places) + rng.randrange(2)
 
     def is_lost(self, how, found):
         """Why that may not be found behind a session that ended so: what it answered is done, and one statement more, or the save, may be."""
         answered = self.answered(how.out)
         if answered is None:
             return None
-        allowed = [self.saved] if how.status == 0 else self.stopped[answered : answered + 2]
-        if answered == len(self.replies) - 1:
+        last = len(self.replies) - 1
+        allowed = [] if how.status == 0 else [self.stopped(count) for count in (answered, answered + 1) if count <= last]
+        if answered == last:
             allowed.append(self.saved)
         if found in allowed:
             return None
@@ -291,9 +312,10 @@ class Tally:
         self.outcomes[outcome] += 1
         self.bad += bool(problems)
         for problem in problems:
-            self.problems[problem] += 1
-            if self.problems[problem] <= 3:
-                print(f"BAD {self.part}: {what}: {problem}", flush=True)
+            kind = re.sub("^status .* statements, then ", "", problem)
+            self.problems[kind] += 1
+            if self.problems[kind] <= 3:
+                print(f"BAD {self.part}: {what}: {re.sub('/[^ ]*/now/', '', problem)}", flush=True)
 
     def tell(self, unit):
         outcomes = ", ".join(f"{outcome} {count}" for outcome, count in sorted(self.outcomes.items()))
@@ -301,30 +323,39 @@ class Tally:
         return self.bad == 0
 
 
-def try_call(folder, ref, call, way, tally):
+def long_session(folder, refs):
+    return Reference(folder, "a long session", LONG, refs[-1].after)
+
+
+def try_call(folder, ref, call, way, rng, tally):
     folder.put(ref.before)
     how = folder.run(ref.script, number=call.number, way=way, log=folder.log)
     devices = (5, 6) if way in ("dead", "full") else (5,) if "/objects" in call.paths[0] else (6,)
-    paths = " ".join(os.path.relpath(path, folder.path) for path in call.paths)
-    problems = [ref.is_no_end(how, devices), ref.is_lost(how, folder.finds())]
-    if call.name in ("fsync", "fdatasync"):
-        # The system may have forgotten what it was to make safe.
+    what = f"{ref.name}, call {call.number}, {call.name} of {' '.join(os.path.relpath(path, folder.path) for path in call.paths)}, {way}"
+    problems = [ref.is_no_end(how, devices)]
+    if call.name in ("fsync", "fdatasync") and rng.random() < 0.5:
+        what += ", and what was not synced is lost"
         folder.put(left_by(folder.path, ref.before, calls_of(folder.log), "least"))
-        problems.append(ref.is_lost(how, folder.finds()))
-    tally.add(f"status {how.status}", f"{ref.name}, call {call.number}, {call.name} of {paths}, {way}", *problems)
+    if rng.random() < 0.5:
+        number, again = rng.randrange(1, 150), rng.choice(WAYS_OF_WRITES)
+        what += f", then call {number} of the next session, {again}"
+        asks = folder.run(ASKS, number=number, way=again)
+        problems.append(asks.status not in (0, 1, 5, 6) and f"then status {asks.status} and {asks.err!r}")
+    tally.add(f"status {how.status}", what, *problems, ref.is_lost(how, folder.finds()))
 
 
 def part_calls(folder, refs, number, rng):
+    long = long_session(folder, refs)
+    calls = [(ref, call) for ref in refs for call in ref.calls if call.number]
+    calls += [(long, long.calls[place]) for places in long.kinds().values() if len(places) < 20 for place in places if long.calls[place].number]
     faults = [
         (ref, call, way)
-        for ref in refs
-        for call in ref.calls
-        if call.number
+        for ref, call in calls
         for way in (WAYS_OF_WRITES if call.name in ("write", "pwrite") else WAYS)
     ]
     tally = Tally("calls")
     for fault in rng.sample(faults, number) if 0 < number < len(faults) else faults:
-        try_call(folder, *fault, tally)
+        try_call(folder, *fault, rng, tally)
     return tally.tell("calls that failed")
 
 
@@ -343,12 +374,23 @@ def try_cut(folder, ref, count, way, is_twice, rng, tally):
     tally.add(way, what, ref.is_lost(how, folder.finds()))
 
 
+def way_back(folder, ref, rng):
+    """The session that goes on behind a power cut; None where it does not come to its end, which a cut there tells too."""
+    state = ref.left(ref.somewhere(rng), rng.choice(("least", "all", "some")), rng)
+    folder.put(state)
+    if folder.run(GOES_ON).status > 1:
+        return None
+    return Reference(folder, f"the way back behind a cut of {ref.name}", GOES_ON, state)
+
+
 def part_cuts(folder, refs, number, rng):
     tally = Tally("cuts")
+    refs = [*refs, long_session(folder, refs)]
     for place in range(number or 1000):
         ref = rng.choice(refs)
-        count = len(ref.calls) if place % 20 == 0 else rng.randrange(len(ref.calls))
-        try_cut(folder, ref, count, ("least", "all", "some")[place % 3], place % 2 == 1, rng, tally)
+        ref = place % 4 == 3 and way_back(folder, ref, rng) or ref
+        count = len(ref.calls) if place % 20 == 0 else ref.somewhere(rng)
+        try_cut(folder, ref, count, ("least", "all", "some")[place % 3], place % 4 == 1, rng, tally)
     return tally.tell("power cuts")
 
 
@@ -435,21 +477,29 @@ def fill(path, room):
         os.posix_fallocate(file.fileno(), 0, max(1, file.tell() + free - room))
 
 
-def try_full(folder, ref, room, tally):
-    """A session on a disk of its own that has so little room, and the next one with none at all."""
-    subprocess.run(["mount", "-t", "tmpfs", "-o", "size=8m,mode=755", "tmpfs", folder.path], check=True)
+def try_full(folder, ref, place, room, tally):
+    """A session where that folder is a disk of its own that has so little room, and the next one where it has none at all, but where no
+    database was made yet."""
+    disk = os.path.normpath(f"{folder.path}/{place}")
+    folder.clear()
+    os.makedirs(disk, exist_ok=True)
+    subprocess.run(["mount", "-t", "tmpfs", "-o", "size=8m,mode=755", "tmpfs", disk], check=True)
     try:
-        folder.put(ref.before)
-        fill(f"{folder.path}/filler", room)
+        folder.add(ref.before)
+        fill(f"{disk}/.filler", room)
         how = folder.run(ref.script)
-        fill(f"{folder.path}/filler", 0)
+        if ref.before or how.out:
+            fill(f"{disk}/.filler", 0)
+        else:
+            os.truncate(f"{disk}/.filler", 0)
         asks = folder.run(ASKS)
-        os.unlink(f"{folder.path}/filler")
+        os.unlink(f"{disk}/.filler")
         goes_on = folder.run(GOES_ON)
     finally:
-        subprocess.run(["umount", folder.path], check=True)
+        subprocess.run(["umount", disk], check=True)
     found = tuple(Ended(one.status, one.out, without_warnings(one.err)) for one in (asks, goes_on))
-    tally.add(f"status {how.status}", f"{ref.name} on a disk with {room} bytes", ref.is_no_end(how, (5, 6)), ref.is_lost(how, found))
+    what = f"{ref.name}, where {place} is a disk with {room} bytes"
+    tally.add(f"status {how.status}", what, ref.is_no_end(how, (5, 6)), ref.is_lost(how, found))
 
 
 def try_limited(folder, ref, size, tally):
@@ -460,12 +510,11 @@ def try_limited(folder, ref, size, tally):
 
 def part_disks(folder, refs, number, rng):
     tally = Tally("disks")
-    folder.clear()
-    for place in range(number or 200):
-        if place % 2 and os.geteuid() == 0:
-            try_full(folder, rng.choice(refs), rng.randrange(0, 150) * 4096, tally)
-        else:
+    for place in range(number or 300):
+        if place % 3 == 0 or os.geteuid() != 0:
             try_limited(folder, rng.choice(refs), rng.choice((rng.randrange(600), rng.randrange(300_000))), tally)
+        else:
+            try_full(folder, rng.choice(refs), *((".", rng.randrange(150) * 4096) if place % 3 == 1 else ("objects", rng.randrange(30) * 4096)), tally)
     return tally.tell("full disks")
 
 
@@ -508,13 +557,30 @@ def part_rights(folder, refs, number, rng):
     return tally.tell("folders and files without rights")
 
 
+def objects_in(folder):
+    return {name for name in os.listdir(f"{folder.path}/objects") if not name.startswith(".")}
+
+
 def part_many(folder, refs, number, rng):
-    """A folder of so many objects: most have records, the others are strange."""
-    tally, number = Tally("many"), number or 65536
+    """A folder of so many objects: those of 64 datafiles, backed up until the records are full, and strange ones."""
+    tally, number = Tally("many"), max(number or 65536, 256)
+    count = min(number // 64 - 1, 1020)
     folder.put({})
-    backups = min(number, 65280) // 64
-    made = folder.run("CREATE DATABASE;" + "CREATE DATAFILE BLOCKS 1;" * 64 + "WRITE DATAFILE 1 BLOCK 0 VALUE 'a';" + "BACKUP DATABASE TAG t;" * backups)
-    raise NotImplementedError(made)
+    files = "CREATE DATABASE;" + "CREATE DATAFILE BLOCKS 1;" * 64 + "WRITE DATAFILE 1 BLOCK 0 VALUE 'a';"
+    how = folder.run(files + "BACKUP DATABASE TAG t;" * count)
+    tally.add("made", f"{64 * count} pieces", how.status != 0 and f"status {how.status}: {how.err!r}")
+    strange = {f"strange_{place}" for place in range(number - len(objects_in(folder)))}
+    for name in strange:
+        with open(f"{folder.path}/objects/{name}", "wb") as file:
+            file.write(b"strange")
+    how = folder.run("VALIDATE ALL; CROSSCHECK BACKUP;")
+    wanted = f"{64 * count} checked, 0 bad\n".encode() + b"".join(b"%d available\n" % (place + 1) for place in range(64 * count))
+    tally.add("asked", f"{len(objects_in(folder))} objects", how != Ended(0, wanted, "") and f"status {how.status}: {how.out[:60]!r} {how.err!r}")
+    how = folder.run("DELETE OBSOLETE; VALIDATE ALL;")
+    wanted = f"{64 * (count - 1)} deleted\n64 checked, 0 bad\n".encode()
+    problem = not how.out.endswith(wanted) and f"status {how.status}: {how.out[-60:]!r} {how.err!r}"
+    tally.add("deleted", f"{number} objects", problem, not strange <= objects_in(folder) and "a strange object is gone")
+    return tally.tell(f"sessions over {number} objects")
 
 
 PARTS = {"calls": part_calls, "cuts": part_cuts, "pairs": part_pairs, "disks": part_disks, "rights": part_rights, "many": part_many}
@@ -522,8 +588,9 @@ PARTS = {"calls": part_calls, "cuts": part_cuts, "pairs": part_pairs, "disks": p
 
 def references(folder):
     state, history, found = {}, History(), []
-    for number in range(len(SESSIONS)):
-        found.append(Reference(folder, number, state, history))
+    for number, script in enumerate(SESSIONS):
+        found.append(Reference(folder, f"session {number + 1}", script, state))
+        found[-1].hold_to(history)
         state = found[-1].after
     return found
 

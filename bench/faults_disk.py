@@ -39,16 +39,18 @@ class File:
     """The bytes of a file that are safe, and what was done to it since: writes and lengths."""
 
     def __init__(self, safe=b""):
-        self.safe, self.steps = bytes(safe), []
+        self.safe, self.steps = bytearray(safe), []
 
     def now(self):
         now = bytearray(self.safe)
         for at, part in self.steps:
             apply(now, at, part)
-        return bytes(now)
+        return now
 
     def settle(self):
-        self.safe, self.steps = self.now(), []
+        for at, part in self.steps:
+            apply(self.safe, at, part)
+        self.steps = []
 
     def mixed(self, rng):
         """What a stop may leave: of each write any sectors or a front of them, and where none is, behind the safe end, anything."""
@@ -60,7 +62,7 @@ class File:
                     apply(left, begin, piece if piece is None or rng.random() < 0.9 else piece[: rng.randrange(len(piece) + 1)])
                 elif spoils and piece is not None and begin >= len(self.safe):
                     apply(left, begin, rng.randbytes(len(piece)))
-        return bytes(left)
+        return left
 
 
 class Disk:
@@ -128,7 +130,7 @@ class Disk:
             if what is None or parent not in (".", *state):
                 continue
             if isinstance(what, File) and what not in contents:
-                contents[what] = what.safe if way == "least" else what.now() if way == "all" else what.mixed(rng)
+                contents[what] = bytes(what.safe if way == "least" else what.now() if way == "all" else what.mixed(rng))
             state[name] = contents.get(what)
         return state
 
