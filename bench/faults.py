@@ -448,7 +448,8 @@ def try_race(folder, ref, rng, tally, has_own):
         problems.append(ref.is_lost(one, folder.finds()))
     elif ends == "one":
         problems.append(ref.is_lost(one if one.status == 0 else two, folder.finds(catalog="catalog" if one.status == 0 else "other")))
-    tally.add(f"{ends} of a race", f"{ref.name}, both at once, {'two catalogs' if has_own else 'one catalog'}: {one.status} and {two.status}", *problems)
+    what = f"{ref.name}, both at once, {'two catalogs' if has_own else 'one catalog'}: {one.status} and {two.status}"
+    tally.add(f"{ends} of a race", what, *problems)
 
 
 def part_pairs(folder, refs, number, rng):
@@ -511,10 +512,13 @@ def try_limited(folder, ref, size, tally):
 def part_disks(folder, refs, number, rng):
     tally = Tally("disks")
     for place in range(number or 300):
+        ref = rng.choice(refs)
         if place % 3 == 0 or os.geteuid() != 0:
-            try_limited(folder, rng.choice(refs), rng.choice((rng.randrange(600), rng.randrange(300_000))), tally)
+            try_limited(folder, ref, rng.choice((rng.randrange(600), rng.randrange(300_000))), tally)
+        elif place % 3 == 1:
+            try_full(folder, ref, ".", rng.randrange(150) * 4096, tally)
         else:
-            try_full(folder, rng.choice(refs), *((".", rng.randrange(150) * 4096) if place % 3 == 1 else ("objects", rng.randrange(30) * 4096)), tally)
+            try_full(folder, ref, "objects", rng.randrange(30) * 4096, tally)
     return tally.tell("full disks")
 
 
@@ -575,7 +579,8 @@ def part_many(folder, refs, number, rng):
             file.write(b"strange")
     how = folder.run("VALIDATE ALL; CROSSCHECK BACKUP;")
     wanted = f"{64 * count} checked, 0 bad\n".encode() + b"".join(b"%d available\n" % (place + 1) for place in range(64 * count))
-    tally.add("asked", f"{len(objects_in(folder))} objects", how != Ended(0, wanted, "") and f"status {how.status}: {how.out[:60]!r} {how.err!r}")
+    problem = how != Ended(0, wanted, "") and f"status {how.status}: {how.out[:60]!r} {how.err!r}"
+    tally.add("asked", f"{len(objects_in(folder))} objects", problem)
     how = folder.run("DELETE OBSOLETE; VALIDATE ALL;")
     wanted = f"{64 * (count - 1)} deleted\n64 checked, 0 bad\n".encode()
     problem = not how.out.endswith(wanted) and f"status {how.status}: {how.out[-60:]!r} {how.err!r}"
@@ -598,8 +603,11 @@ def references(folder):
 def main():
     program, library, room, part = sys.argv[1:5]
     number = int(sys.argv[5]) if len(sys.argv) > 5 else 0
-    folder = Folder(f"{room}/now", program, library)
-    return 0 if PARTS[part](folder, references(folder), number, random.Random()) else 1
+    folder, seed = Folder(f"{room}/now", program, library), os.environ.get("FAULTS_SEED") or str(random.randrange(2**32))
+    if PARTS[part](folder, references(folder), number, random.Random(seed)):
+        return 0
+    print(f"{part}: the seed was {seed}")
+    return 1
 
 
 if __name__ == "__main__":
