@@ -7,7 +7,7 @@
 # stop of a session without a fault leaves behind the statements that were answered, or behind one more; and that to what replies tell.
 #     calls   each call on a file of the store and the catalog fails, in each way: EIO, ENOSPC, EINTR, from there on all, half a write.
 #             The status is that of the device, and a line names it. Each second time what a failed sync was to make safe is lost, and
-#             a call of the next session fails (about 7,300)
+#             a call of the next session fails (about 7,900)
 #     cuts    the power is cut: a third keep what syncs made safe alone, a third all, a third some sectors of each write and any name that
 #             a folder had since its sync. Each fourth time the next session is cut too, each fourth the one that goes on. A fourth
 #             session is so long that the log of the catalog file is brought into it midway (1,000)
