@@ -59,3 +59,6 @@ returns-in_err-reply-in-AllocateChannel-clause-untouched g c = on-err _ c.from_r
 
 pub returns-in_ok-set_reply-in-SetUntil-clause-flagged : goal.returns-in_ok-set_reply-in-SetUntil-clause-flagged
 returns-in_ok-set_reply-in-SetUntil-clause-flagged g c = subst IsFlagged (sym c.in_ok-set_reply-in-SetUntil.ensures) (set-flagged c.args.site.now.state)
+
+pub returns-after-not-reply-clause-flagged : goal.returns-after-not-reply-clause-flagged
+returns-after-not-reply-clause-flagged g c = subst IsFlagged (sym c.in_ok-reply-in-AllocateChannel.ensures) (channel-flagged c.args.site.now.state c.args.settings.now.channels)

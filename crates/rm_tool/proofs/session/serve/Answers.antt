@@ -1,6 +1,7 @@
 use Rattle.std.proofs.Common.{◌∙◌, ℕ, List, Some, ap, sym}
 use Rattle.rm_lang_token.specs.declared.token.Token.{Token}
 use Rattle.rm_tool.proofs.Statements.{ok-both, ok-three, err-both, on-err, served-refused, served-run, served-step, cut-before, cut-step, cut-run}
+use Rattle.rm_report.proofs.Plain.{refused-flagged}
 use Rattle.rm_tool.proofs.session.serve.Goals as goal
 
 pub returns-in_default-clause-served : goal.returns-in_default-clause-served
@@ -37,3 +38,6 @@ returns-in-Run-clause-cut g c =
     let s : ℕ × List Token = (c.args.line, c.args.tokens.now) in
     let some = sym c.in_ok-statement.ensures.value ∙ c.in-Some.is ∙ ap Some c.in-Run.is in
     err-both _ _ _ (cut-run {s = s} c.now-answer.result c.now-answer.ensures.next some c.now-answer.ensures.later) c.serve_block.result c.serve_block.ensures.stopped c.serve_block.ensures.untouched
+
+pub returns-in_default-clause-flagged : goal.returns-in_default-clause-flagged
+returns-in_default-clause-flagged g c = refused-flagged _ _ c.in_ok-refusal_reply.ensures
