@@ -1,11 +1,13 @@
 -- What a BACKUP asks of its channels and writers.
-use Rattle.std.specs.Prelude.{ℕ, zero, suc, ◌<◌, ◌^◌, ◌==◌, unwrap_or, List, [], ◌∷◌, filter, length, map}
-use Rattle.rm_channel.specs.Jobs.{Span, whole}
-use Rattle.rm_channel.specs.declared.jobs.CopyJob.{CopyJob}
-use Rattle.rm_channel.specs.declared.jobs.Wanted.TheVariants.{All}
+use Rattle.std.specs.Prelude.{ℕ, zero, suc, ◌<◌, ◌^◌, ◌==◌, unwrap_or, Bool, Option, List, [], ◌∷◌, filter, length, map}
+use Rattle.std.specs.Option.{option_and_then, option_map_or}
+use Rattle.rm_channel.specs.Jobs.{Span}
 use Rattle.rm_channel.specs.declared.jobs.WriteJob.{WriteJob}
 use Rattle.rm_lang_statement.specs.declared.command.BackupForm.{BackupForm}
 use Rattle.rm_lang_statement.specs.declared.command.WriteForm.{WriteForm}
+use Rattle.rm_live.specs.Ruled.{upto}
+use Rattle.rm_track.specs.Bitmaps.{candidates_at}
+use Rattle.rm_track.specs.Bits.{blocks_from}
 use Rattle.rm_machine.specs.Backup.{rows_in}
 use Rattle.rm_machine.specs.declared.job.Job.{Job}
 use Rattle.rm_machine.specs.declared.state.State.{State}
@@ -36,10 +38,14 @@ lists_from t (suc n) ws = by_thread t ws ∷ lists_from (suc t) n ws
 abbrev pub writers_of : State → BackupForm → List (List WriteJob)
 writers_of s b = lists_from 1 (ledger s).base.threads (writes_in b)
 
--- a copy of all blocks of a datafile that is backed up
-abbrev pub copy_job : State → Job → CopyJob
-copy_job s j = record { file = j.file; wanted = All (length (rows_in s j.file)) }
+-- The blocks of a datafile that changed since the checkpoint of its level 1's parent, as its bitmaps tell. None where all blocks are
+-- backed up, or the bitmaps do not go so far back.
+abbrev pub candidates_in : State → Job → Option (List Bool)
+candidates_in s j = option_and_then (candidates_at s.instance.tracker j.file) j.from
 
--- these blocks
+-- the blocks that are read of a datafile, ascending: those, or else all
+abbrev pub blocks_read : State → Job → List ℕ
+blocks_read s j = option_map_or (blocks_from 0) (candidates_in s j) (upto 0 (length (rows_in s j.file)))
+
 abbrev pub span_of : State → Job → Span
-span_of s j = whole (copy_job s j)
+span_of s j = record { file = j.file; blocks = blocks_read s j }

@@ -9,7 +9,7 @@ use Rattle.rm_report.specs.declared.line.Line.{Line}
 use Rattle.rm_report.specs.declared.line.Line.TheVariants.{ThreadScn}
 use Rattle.rm_lang_statement.specs.declared.command.BackupForm.{BackupForm}
 use Rattle.rm_machine.specs.Asked.{span_of, writers_of}
-use Rattle.rm_machine.specs.Backup.{AreJobs, IsTagBy, named_tag, or_nothing}
+use Rattle.rm_machine.specs.Backup.{AreJobs, IsTagBy, named_tag, or_nothing, taken}
 use Rattle.rm_machine.specs.Effect.{Effect, Outcome, done}
 use Rattle.rm_machine.specs.Events.{after_events, changes_of, opening}
 use Rattle.rm_machine.specs.MadePieces.{Copied, after_pieces, copied, piece_lines, pieces_made, pieces_put}
@@ -17,6 +17,7 @@ use Rattle.rm_machine.specs.Marks.{marks_before, with_marks}
 use Rattle.rm_machine.specs.declared.job.Job.{Job}
 use Rattle.rm_machine.specs.declared.state.State.{State}
 use Rattle.rm_machine.specs.State.{ledger, now_of}
+use Rattle.rm_machine.specs.Tracked.{switch_all, with_tracker}
 
 -- the SCNs of the writes, thread by thread from t on
 abbrev pub write_lines : ℕ → List (List ℕ) → List Line
@@ -27,15 +28,19 @@ write_lines t (scns ∷ rest) = map (λ scn. ThreadScn t scn) scns ++ write_line
 abbrev pub marked : State → BackupForm → State
 marked s b = if is_none b.during then s else record s { catalog = with_marks s.catalog (marks_before s) }
 
--- the database after the mark and the events
+-- the database as channels and writers find it: behind the mark, and of each datafile that is backed up the current bitmap ends at `now`
+abbrev pub begun : State → BackupForm → State
+begun s b = with_tracker (marked s b) (switch_all (now_of s) (taken s b) s.instance.tracker)
+
+-- the database after the events
 abbrev pub at_end : State → BackupForm → List Event → State
-at_end s b events = after_events (marked s b) events
+at_end s b events = after_events (begun s b) events
 
 -- what pieces and events leave outside
 abbrev pub effect_of : State → BackupForm → List ℕ → List Event → List Copied → Effect
 effect_of s b tag events xs =
     record {
-      changes = changes_of (marked s b) events;
+      changes = changes_of (begun s b) events;
       made = pieces_made (at_end s b events) b tag xs;
       puts = pieces_put (at_end s b events) b tag xs;
       removes = [];
@@ -45,21 +50,21 @@ effect_of s b tag events xs =
 abbrev pub lines_by : State → BackupForm → List ℕ → List Copied → List (List ℕ) → List Line
 lines_by t b tag xs scns = or_nothing (piece_lines t b tag xs) ++ write_lines 1 scns
 
--- There is a legal list of events over the database at its start: one read of each block of each datafile and one write of each that is
--- asked for, those of a thread in their order, and nothing else. Each write took an SCN. The pieces have the rows that the reads found,
--- and `now` at the start as their checkpoint; the database has the writes.
+-- There is a legal list of events over the database at its start: one read of each block that is wanted of each datafile and one write
+-- of each that is asked for, those of a thread in their order, and nothing else. Each write took an SCN. The pieces have the rows that
+-- the reads found, and `now` at the start as their checkpoint; the database has the writes.
 pub record IsBackupOutcome (s : State) (b : BackupForm) (o : Outcome) : Type 0 where
   pub tag : List ℕ
   pub tagged : IsTagBy (named_tag b) (ledger s).base.moment tag
   pub jobs : List Job
   pub are : AreJobs s b jobs
   pub rows : List (List Row)
-  pub whole : AreRows rows (map (span_of s) jobs)
+  pub whole : AreRows rows (map (span_of (begun s b)) jobs)
   pub scns : List (List ℕ)
   pub each : AreAsLong scns (writers_of s b)
   pub events : List Event
-  pub legal : IsLegal (opening s) events
-  pub these : AreThese (deeds_of (map (span_of s) jobs) rows 1 (writers_of s b) (map (map Ok) scns)) (map deed events)
-  pub is : o ≡ done (lines_by (at_end s b events) b tag (copied (ledger s).base b (now_of s) jobs rows) scns)
-      (effect_of s b tag events (copied (ledger s).base b (now_of s) jobs rows))
-      (after_pieces (at_end s b events) b tag (copied (ledger s).base b (now_of s) jobs rows))
+  pub legal : IsLegal (opening (begun s b)) events
+  pub these : AreThese (deeds_of (map (span_of (begun s b)) jobs) rows 1 (writers_of s b) (map (map Ok) scns)) (map deed events)
+  pub is : o ≡ done (lines_by (at_end s b events) b tag (copied (ledger s) b (now_of s) jobs rows) scns)
+      (effect_of s b tag events (copied (ledger s) b (now_of s) jobs rows))
+      (after_pieces (at_end s b events) b tag (copied (ledger s) b (now_of s) jobs rows))

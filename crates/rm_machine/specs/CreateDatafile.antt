@@ -1,5 +1,5 @@
 -- CREATE DATAFILE BLOCKS n
-use Rattle.std.specs.Prelude.{ℕ, ◌≡◌, ◌+◌, nat_lt, nat_le, if◌then◌else◌, true, Option, Some, None, [], ◌∷◌, ◌++◌, length, sum_by}
+use Rattle.std.specs.Prelude.{ℕ, ◌≡◌, ◌+◌, nat_lt, nat_le, if◌then◌else◌, true, Option, Some, None, List, [], ◌∷◌, ◌++◌, length, sum_by}
 use Rattle.rm_base.specs.Numbers.{last_scn}
 use Rattle.rm_base.specs.declared.refusal.Refusal.{Refusal}
 use Rattle.rm_base.specs.declared.refusal.Refusal.TheVariants.{Rm04, Rm11, Rm15}
@@ -7,11 +7,13 @@ use Rattle.rm_base.specs.declared.refusal.Limit.TheVariants.{Files, FileBlocks, 
 use Rattle.rm_blocks.specs.File.{created}
 use Rattle.rm_history.specs.declared.world.Datafile.{Datafile}
 use Rattle.rm_report.specs.declared.line.Line.TheVariants.{DatafileAt}
+use Rattle.rm_track.specs.Bitmaps.{Tracked, fresh, with_file as with_tracked}
 use Rattle.rm_catalog_typed.specs.Changes.{with_file}
 use Rattle.rm_machine.specs.Effect.{Outcome, done, no_effect}
 use Rattle.rm_machine.specs.Marks.{lacks_ids, lacks_room, marks_before, one_further}
 use Rattle.rm_machine.specs.declared.state.State.{State}
 use Rattle.rm_machine.specs.State.{ledger, current_of, now_of}
+use Rattle.rm_machine.specs.Tracked.{tracks}
 
 -- why it is refused in an open database
 abbrev pub room_refusal : State → ℕ → Option Refusal
@@ -36,12 +38,17 @@ next_file s = length (ledger s).files + 1
 abbrev pub new_datafile : State → ℕ → Datafile
 new_datafile s blocks = record { inc = current_of s; creation = now_of s; blocks = blocks }
 
+-- the bitmaps with those of the new datafile, where changes are tracked: from the `now` on that stands after it
+abbrev pub tracker_with : State → ℕ → List Tracked
+tracker_with s blocks =
+    if tracks s.instance.is_open (ledger s) then with_tracked s.instance.tracker (fresh (next_file s) blocks (now_of s + 1)) else s.instance.tracker
+
 -- the database with the new datafile, which stands in place as it was created, one SCN further
 abbrev pub with_datafile : State → ℕ → State
 with_datafile s blocks =
     record {
       catalog = with_file (one_further s) (new_datafile s blocks);
-      instance = record s.instance { place = s.instance.place ++ Some (created (next_file s) (current_of s) (now_of s) blocks) ∷ [] };
+      instance = record s.instance { place = s.instance.place ++ Some (created (next_file s) (current_of s) (now_of s) blocks) ∷ []; tracker = tracker_with s blocks };
     }
 
 -- it adds the datafile, which takes the next number

@@ -21,9 +21,9 @@ use Rattle.rm_machine.specs.Write.{change_of, with_write}
 abbrev pub standing_in : State → List File
 standing_in s = filter_map (λ o. o) s.instance.place
 
--- what its channels and writers find; no datafile is tracked
+-- what its channels and writers find
 abbrev pub opening : State → Parts
-opening s = record { inc = current_of s; now = now_of s; files = standing_in s; logs = s.instance.logs; tracker = [] }
+opening s = record { inc = current_of s; now = now_of s; files = standing_in s; logs = s.instance.logs; tracker = s.instance.tracker }
 
 -- a WRITE
 abbrev pub write_form : ℕ → ℕ → ℕ → Block → WriteForm

@@ -45,6 +45,8 @@ pub mod Sound
 pub mod State
 pub mod Step
 pub mod SwitchLogfile
+pub mod Tracked
+pub mod Tracking
 pub mod Until
 pub mod Upkeep
 pub mod Validate

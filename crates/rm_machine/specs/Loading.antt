@@ -18,6 +18,7 @@ use Rattle.rm_machine.specs.Mount.{mount_point}
 use Rattle.rm_machine.specs.Saved.{IsGoodFile, IsGoodLog}
 use Rattle.rm_machine.specs.Sound.{IsPoint}
 use Rattle.rm_machine.specs.State.{ledger, current_of}
+use Rattle.rm_machine.specs.Tracked.{first_tracker}
 
 -- what there is of which this is so, or that there is none
 abbrev pub IsTheOne : {A : Type 0} → (A → Type 0) → Option A → Type 0
@@ -81,6 +82,7 @@ pub record IsLoadedOf (held : Held) (s : State) (site : Saved) : Type 0 where
   pub logs : AreLoadedLogs held (ledger s) site s.instance.logs
   pub is_open : s.instance.is_open ≡ (site.head.opened && not (has_lost s.instance.logs))
   pub point : IsLoadedPoint s site.head site.head.opened s.instance.is_open
+  pub tracker : s.instance.tracker ≡ first_tracker s.instance.is_open (ledger s)
 
 -- without a saved site the database is mounted, each datafile and each online log is lost, and there is no point
 abbrev pub lost_instance : Ledger → Instance
@@ -90,6 +92,7 @@ lost_instance l =
       point = None;
       place = replicate (length l.files) None;
       logs = logs_of l.base.dbid l.base.current (replicate l.base.threads None);
+      tracker = [];
     }
 
 abbrev pub IsLoadedBy : Held → State → Option Saved → Type 0

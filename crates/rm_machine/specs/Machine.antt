@@ -15,6 +15,7 @@ use Rattle.rm_history.specs.History.{IsHistory}
 use Rattle.rm_history.specs.State.{state}
 use Rattle.rm_history.specs.Tree.{IsThere, end_of}
 use Rattle.rm_history.specs.World.{exists}
+use Rattle.rm_track.specs.Told.{Tell}
 use Rattle.rm_catalog_typed.specs.Ledger.{Ledger}
 use Rattle.rm_evidence.specs.Names.{log_name, piece_name}
 use Rattle.rm_evidence.specs.Objects.{HasDigest, HasLogFields, HasPieceFields}
@@ -111,6 +112,8 @@ pub record HistoryFits (s : State) (h : List Change) : Type 0 where
   -- each online log that is not lost agrees, and so does each datafile in place
   pub online : (t : ℕ) → 0 < t → t ≤ (ledger s).base.threads → is_lost s.instance.logs t ≡ false → LogAgrees h (log_of (online s t))
   pub place : (f : ℕ) (x : File) → placed s f ≡ Some x → BaseAgrees (world s) h (base_of (counted s x))
+  -- the bitmaps tell the changes of the current incarnation
+  pub tracker : Tell (current_of s) h (now_of s) s.instance.tracker
   -- in an open database it has the state at `now`
   pub in_open : s.instance.is_open ≡ true → (f : ℕ) (x : File) → placed s f ≡ Some x → RowsAre (world s) h (current_of s) (now_of s) x
   -- and what stands at the point has the state there

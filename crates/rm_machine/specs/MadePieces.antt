@@ -1,12 +1,12 @@
 -- The pieces that are made of what was read of datafiles, and what their recording comes to.
 use Rattle.std.specs.Prelude.{ℕ, ◌≤◌, ◌+◌, unwrap_or, Bool, List, [], ◌∷◌, All, length}
 use Rattle.rm_base.specs.declared.block.Row.{Row}
-use Rattle.rm_catalog.specs.declared.record.BaseEntry.{BaseEntry}
 use Rattle.rm_catalog.specs.declared.record.PieceEntry.{PieceEntry}
 use Rattle.rm_commit.specs.declared.commit.Object.{Object}
 use Rattle.rm_history.specs.Artefacts.{high_of}
+use Rattle.rm_history.specs.World.{blocks_of}
 use Rattle.rm_catalog_typed.specs.LedgerFacts.{IsPieceEntry}
-use Rattle.rm_catalog_typed.specs.Ledger.{ledger_records}
+use Rattle.rm_catalog_typed.specs.Ledger.{Ledger, ledger_records}
 use Rattle.rm_evidence.specs.Names.{piece_name}
 use Rattle.rm_piece.specs.declared.piece.Piece.{Piece}
 use Rattle.rm_piece.specs.Spelling.{spelling}
@@ -20,24 +20,24 @@ use Rattle.rm_machine.specs.Effect.{Made, a_piece}
 use Rattle.rm_machine.specs.Lists.{shape_by}
 use Rattle.rm_machine.specs.declared.job.Job.{Job}
 use Rattle.rm_machine.specs.declared.state.State.{State}
-use Rattle.rm_machine.specs.State.{ledger, tree}
+use Rattle.rm_machine.specs.State.{ledger, tree, world_of}
 
--- by the base facts, the piece of a datafile of which these rows were read, one of each block, with this checkpoint
-abbrev pub piece_by : BaseEntry → BackupForm → ℕ → Job → List Row → Piece
-piece_by base b checkpoint j rows =
+-- by the records, the piece of a datafile of which these rows were read, with this checkpoint
+abbrev pub piece_by : Ledger → BackupForm → ℕ → Job → List Row → Piece
+piece_by l b checkpoint j rows =
     record {
       kind = kind_by b j.from;
-      dbid = base.dbid;
-      inc = base.current;
+      dbid = l.base.dbid;
+      inc = l.base.current;
       file = j.file;
-      blocks = length rows;
+      blocks = blocks_of (world_of l) j.file;
       from = unwrap_or j.from 0;
       checkpoint = checkpoint;
       high = high_of checkpoint (rows_from j.from rows);
       rows = rows_from j.from rows;
     }
 
--- its record under the next id, the piece as an artefact, its object, and its line
+-- its record under the next id, the piece as an artefact, and its object
 abbrev pub entry_for : State → BackupForm → List ℕ → Bool → Piece → PieceEntry
 entry_for s b tag copy a = piece_entry copy b.keep tag (ledger s).base.moment (ledger s).base.next_id a
 
@@ -47,23 +47,27 @@ made_for s copy a = record { name = piece_name copy (ledger s).base.next_id; art
 abbrev pub object_for : State → Bool → Piece → Object
 object_for s copy a = record { name = piece_name copy (ledger s).base.next_id; bytes = spelling a }
 
-abbrev pub line_for : State → Bool → Piece → Line
-line_for s copy a = BackedUp copy (ledger s).base.next_id a.file (shape_by a.kind a.from) a.checkpoint (length a.rows) a.blocks
-
 -- the database after it is recorded
 abbrev pub after_piece : State → BackupForm → List ℕ → Bool → Piece → State
 after_piece s b tag copy a = record s { catalog = with_new_piece s.catalog (entry_for s b tag copy a) }
 
--- a piece that is recorded, an image copy or not
+-- a piece that is recorded, an image copy or not, and how many blocks were read for it
 pub record Copied : Type 0 where
   pub copy : Bool
   pub piece : Piece
+  pub reads : ℕ
 
--- by the base facts, the pieces of these datafiles, of which these rows were read, with this checkpoint
-abbrev pub copied : BaseEntry → BackupForm → ℕ → List Job → List (List Row) → List Copied
-copied base b checkpoint [] rows = []
-copied base b checkpoint (j ∷ js) [] = []
-copied base b checkpoint (j ∷ js) (rs ∷ rows) = record { copy = is_copy b j; piece = piece_by base b checkpoint j rs } ∷ copied base b checkpoint js rows
+-- its line, under the next id
+abbrev pub line_for : State → Copied → Line
+line_for s x =
+    BackedUp x.copy (ledger s).base.next_id x.piece.file (shape_by x.piece.kind x.piece.from) x.piece.checkpoint (length x.piece.rows) x.reads
+
+-- by the records, the pieces of these datafiles, of which these rows were read, with this checkpoint
+abbrev pub copied : Ledger → BackupForm → ℕ → List Job → List (List Row) → List Copied
+copied l b checkpoint [] rows = []
+copied l b checkpoint (j ∷ js) [] = []
+copied l b checkpoint (j ∷ js) (rs ∷ rows) =
+    record { copy = is_copy b j; piece = piece_by l b checkpoint j rs; reads = length rs } ∷ copied l b checkpoint js rows
 
 -- the database after these pieces are recorded, one after another, with what is made, the objects and the lines
 abbrev pub after_pieces : State → BackupForm → List ℕ → List Copied → State
@@ -80,7 +84,7 @@ pieces_put s b tag (x ∷ xs) = object_for s x.copy x.piece ∷ pieces_put (afte
 
 abbrev pub piece_lines : State → BackupForm → List ℕ → List Copied → List Line
 piece_lines s b tag [] = []
-piece_lines s b tag (x ∷ xs) = line_for s x.copy x.piece ∷ piece_lines (after_piece s b tag x.copy x.piece) b tag xs
+piece_lines s b tag (x ∷ xs) = line_for s x ∷ piece_lines (after_piece s b tag x.copy x.piece) b tag xs
 
 -- the pieces can be recorded: each is valid, its record would be one of the database, and there is room for all
 pub record CanRecord (s : State) (b : BackupForm) (tag : List ℕ) (xs : List Copied) : Type 0 where

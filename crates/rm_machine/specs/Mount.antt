@@ -20,7 +20,7 @@ first_lost w i s f (d ∷ ds) (x ∷ xs) = if exists w i s d && is_none x then S
 abbrev pub mount_point : State → Option ℕ
 mount_point s = if is_none (first_lost (world s) (current_of s) (now_of s) 1 (ledger s).files s.instance.place) then Some (now_of s) else None
 
--- the mounted database: what is in place stands at `now`
+-- the mounted database: what is in place stands at `now`, and no change is tracked any longer
 abbrev pub mounted : State → State
 mounted s =
     record s {
@@ -28,6 +28,7 @@ mounted s =
         is_open = false;
         point = mount_point s;
         place = map (option_map (λ x. standing x (current_of s) (now_of s))) s.instance.place;
+        tracker = [];
       };
     }
 

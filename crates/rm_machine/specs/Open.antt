@@ -13,6 +13,7 @@ use Rattle.rm_machine.specs.Effect.{Outcome, done, no_effect}
 use Rattle.rm_machine.specs.Marks.{ids_refusal}
 use Rattle.rm_machine.specs.declared.state.State.{State}
 use Rattle.rm_machine.specs.State.{ledger, world, current_of, now_of}
+use Rattle.rm_machine.specs.Tracked.{first_tracker}
 
 -- what stands in place, without the datafiles that do not exist at (i, s)
 abbrev pub kept_in_place : World → ℕ → ℕ → List Datafile → List (Option File) → List (Option File)
@@ -20,7 +21,7 @@ kept_in_place w i s [] place = []
 kept_in_place w i s (d ∷ ds) [] = []
 kept_in_place w i s (d ∷ ds) (x ∷ xs) = (if exists w i s d then x else None) ∷ kept_in_place w i s ds xs
 
--- the database opened at an SCN: the datafiles that do not exist there go out of place
+-- the database opened at an SCN: the datafiles that do not exist there go out of place, and changes are tracked anew
 abbrev pub opened : State → ℕ → State
 opened s at =
     record s {
@@ -28,6 +29,7 @@ opened s at =
         is_open = true;
         point = None;
         place = kept_in_place (world s) (current_of s) at (ledger s).files s.instance.place;
+        tracker = first_tracker true (ledger s);
       };
     }
 

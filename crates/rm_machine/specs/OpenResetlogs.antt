@@ -1,5 +1,5 @@
 -- ALTER DATABASE OPEN RESETLOGS
-use Rattle.std.specs.Prelude.{ℕ, ◌≡◌, ◌+◌, nat_le, if◌then◌else◌, false, Option, Some, List, [], ◌∷◌, ◌++◌, length, IsSomeAnd}
+use Rattle.std.specs.Prelude.{ℕ, ◌≡◌, ◌+◌, nat_le, if◌then◌else◌, true, false, Option, Some, List, [], ◌∷◌, ◌++◌, length, IsSomeAnd}
 use Rattle.std.specs.Option.{option_map_or}
 use Rattle.rm_base.specs.declared.refusal.Refusal.{Refusal}
 use Rattle.rm_base.specs.declared.refusal.Refusal.TheVariants.{Rm04, Rm10, Rm11}
@@ -14,6 +14,7 @@ use Rattle.rm_machine.specs.Effect.{Outcome, done}
 use Rattle.rm_machine.specs.Open.{opened}
 use Rattle.rm_machine.specs.declared.state.State.{State}
 use Rattle.rm_machine.specs.State.{ledger, tree, current_of}
+use Rattle.rm_machine.specs.Tracked.{first_tracker}
 
 -- why it is refused at a point: no incarnation is left, or the logs can't be archived, where the new incarnation
 -- and its mark are two records more
@@ -34,12 +35,15 @@ abbrev pub with_branched_off : State → ℕ → TypedCatalog
 with_branched_off s at =
     with_base (with_incarnation s.catalog (current_of s) at (ledger s).base.moment) (record (ledger s).base { current = next_incarnation s })
 
--- the database opened there as the new incarnation: its logs begin anew, with sequence 1 at that SCN
+-- the database opened there as the new incarnation: its logs begin anew, with sequence 1 at that SCN, and changes are tracked anew
 abbrev pub branched_off : State → ℕ → State
 branched_off s at =
     record {
       catalog = with_branched_off s at;
-      instance = record (opened s at).instance { logs = fresh_logs (ledger s).base.dbid (next_incarnation s) (ledger s).base.threads at };
+      instance = record (opened s at).instance {
+        logs = fresh_logs (ledger s).base.dbid (next_incarnation s) (ledger s).base.threads at;
+        tracker = first_tracker true (with_branched_off s at).ledger;
+      };
     }
 
 -- the line of each log that is archived, and that of the opening

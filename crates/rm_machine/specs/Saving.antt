@@ -21,6 +21,7 @@ use Rattle.rm_machine.specs.Marks.{lacks_ids}
 use Rattle.rm_machine.specs.Rest.{Rest, at_rest}
 use Rattle.rm_machine.specs.Saved.{spelling_of}
 use Rattle.rm_machine.specs.State.{ledger, current_of, counted, online}
+use Rattle.rm_machine.specs.Tracked.{first_tracker}
 
 -- a part: of a datafile, and then thread is 0, or of a redo thread, and then file is 0
 pub record SitePart : Type 0 where
@@ -85,7 +86,7 @@ IsSavedBy (Some s) m r = MatchBool (lacks_ids s 0) (r ≡ at_rest m) (IsSavedAs 
 abbrev pub a_log_kept : ThreadLog → ThreadLog
 a_log_kept l = if l.is_lost then lost_log else l
 
--- what the next session loads of it: the same, with what is in place as it counts, and nothing known of lost logs
+-- what the next session loads of it: the same, with what is in place as it counts, nothing known of lost logs, and changes tracked anew
 abbrev pub saved_logs : State → Logs
 saved_logs s = counted_as (record s.instance.logs { threads = map a_log_kept s.instance.logs.threads }) (current_of s)
 
@@ -93,5 +94,9 @@ abbrev pub rested : State → State
 rested s =
     record s {
       catalog = with_site s;
-      instance = record s.instance { place = map (option_map (counted s)) s.instance.place; logs = saved_logs s };
+      instance = record s.instance {
+        place = map (option_map (counted s)) s.instance.place;
+        logs = saved_logs s;
+        tracker = first_tracker s.instance.is_open (ledger s);
+      };
     }

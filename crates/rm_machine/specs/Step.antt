@@ -42,6 +42,7 @@ use Rattle.rm_machine.specs.Shown.{IsSchemaOutcome, IsShowOutcome}
 use Rattle.rm_machine.specs.declared.state.State.{State}
 use Rattle.rm_machine.specs.State.{at_moment}
 use Rattle.rm_machine.specs.SwitchLogfile.{switch_refusal, IsSwitchOutcome}
+use Rattle.rm_machine.specs.Tracking.{IsTrackingOutcome}
 use Rattle.rm_machine.specs.Upkeep.{record_refusal, IsChangeOutcome, IsCrosscheckOutcome, IsDeleteExpiredOutcome, IsDeleteOutcome}
 use Rattle.rm_machine.specs.Validate.{IsValidateOutcome}
 use Rattle.rm_machine.specs.Write.{write_refusal, IsWriteOutcome}
@@ -88,7 +89,7 @@ refusal_of s (Remove name) = ids_refusal s
 refusal_of s (Damage name at) = ids_refusal s
 refusal_of s (Cut name to) = ids_refusal s
 refusal_of s (Rename old new) = ids_refusal s
-refusal_of s (Tracking on) = None
+refusal_of s (Tracking on) = ids_refusal s
 refusal_of s ValidateAll = None
 refusal_of s ReportObsolete = None
 refusal_of s ReportNeedBackup = None
@@ -141,7 +142,7 @@ IsDone s held (Damage name at) o = IsDamageOutcome s held name at o
 IsDone s held (Cut name to) o = IsCutOutcome s held name to o
 IsDone s held (Rename old new) o = IsRenameOutcome s held old new o
 IsDone s held (CreateDatabase dbid threads scn) o = ⊥
-IsDone s held (Tracking on) o = ⊥
+IsDone s held (Tracking on) o = IsTrackingOutcome s on o
 IsDone s held (CatalogName name) o = IsCatalogOutcome s held name o
 
 abbrev pub IsOutcomeBy : Option Refusal → State → Held → Command → Outcome → Type 0

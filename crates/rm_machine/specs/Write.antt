@@ -10,6 +10,7 @@ use Rattle.rm_base.specs.declared.refusal.Limit.TheVariants.{Records, ObjectIds,
 use Rattle.rm_blocks.specs.File.{written}
 use Rattle.rm_history.specs.declared.world.Datafile.{Datafile}
 use Rattle.rm_redo.specs.Online.{thread_records, with_change}
+use Rattle.rm_track.specs.Bitmaps.{mark_at}
 use Rattle.rm_lang_statement.specs.declared.command.WriteForm.{WriteForm}
 use Rattle.rm_report.specs.declared.line.Line.TheVariants.{Written}
 use Rattle.rm_machine.specs.Effect.{Outcome, done, no_effect}
@@ -42,7 +43,7 @@ write_refusal s w = if s.instance.is_open then place_refusal s w else Some (Rm04
 abbrev pub change_of : State → WriteForm → Change
 change_of s w = record { inc = current_of s; thread = w.thread; scn = now_of s; file = w.file; block = w.block; content = w.content }
 
--- the database with the change in its row and in the log of its thread, one SCN further
+-- the database with the change in its row and in the log of its thread, and its block marked, one SCN further
 abbrev pub with_write : State → WriteForm → State
 with_write s w =
     record {
@@ -50,6 +51,7 @@ with_write s w =
       instance = record s.instance {
         logs = with_change s.instance.logs (change_of s w);
         place = slice_set s.instance.place (w.file - 1) (option_map (λ x. written x w.block (now_of s) w.content) (placed s w.file));
+        tracker = mark_at s.instance.tracker w.file w.block;
       };
     }
 

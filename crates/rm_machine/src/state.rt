@@ -3,6 +3,7 @@ use rm_base::{Scn, Seq};
 use rm_blocks::DataFile;
 use rm_catalog_typed::TypedCatalog;
 use rm_redo::OnlineLogs;
+use rm_track::Tracker;
 
 /// What runs: nothing of it stands in the catalog.
 #[derive(Drop)]
@@ -16,6 +17,8 @@ pub struct Instance {
     pub place: Seq<Option<DataFile>>,
     /// The online logs; each may be lost.
     pub logs: OnlineLogs,
+    /// The bitmaps of the datafiles, where the database is open and changes are tracked; else none.
+    pub tracker: Tracker,
 }
 
 /// A database.

@@ -1,7 +1,6 @@
 -- CREATE DATAFILE: there is room, and the new datafile fits.
 use Rattle.std.proofs.Common.{◌≡◌, ◌<◌, ◌≤◌, ◌+◌, ◌-◌, inl, inr, ℕ, List, None, arith, length, length-append, sum_by, rules}
 use Rattle.std.proofs.lemmas.List.{length-set}
-use Rattle.rm_blocks.specs.File.{created}
 use Rattle.rm_history.specs.declared.tree.Incarnation.{Incarnation}
 use Rattle.rm_history.specs.declared.world.Datafile.{Datafile}
 use Rattle.rm_history.specs.Tree.{IsThere, reset_of}

@@ -1,7 +1,8 @@
--- BACKUP: what stands at the end of its events is sound, and its pieces can be recorded.
-use Rattle.std.proofs.Common.{◌≡◌, ◌≤◌, ◌+◌, ◌-◌, ◌∙◌, ℕ, List, [], ◌∷◌, Option, Some, None, Ok, Bool, true, false, cond, is_none, refl, ap, sym, subst, arith, length, map, unwrap_or, All, Contains, slice_get, slice_index_or}
-use Rattle.std.specs.Option.{option_map_or}
-use Rattle.std.proofs.lemmas.List.{length-map}
+-- BACKUP: what stands at the end of its events is sound, its pieces can be recorded, and what was not read is no candidate.
+use Rattle.std.proofs.Common.{◌≡◌, ◌⊎◌, ◌<◌, ◌≤◌, ◌+◌, ◌-◌, ◌∙◌, inl, inr, ℕ, List, [], ◌∷◌, Option, Some, None, Ok, Bool, true, false, true≢false, cond, is_none, refl, ap, sym, subst, arith, length, map, unwrap_or, All, AllPairs, Contains, get_or, slice_get, slice_index_or}
+use Rattle.std.specs.Option.{option_and_then, option_map_or}
+use Rattle.std.proofs.lemmas.Bool.{cases_Bool}
+use Rattle.std.proofs.lemmas.List.{get_or_default, length-map, length-replicate}
 use Rattle.std.proofs.lemmas.List.Elements.{All-cons, All-head, All-nil, All-tail, All-weaker, Contains-get_or}
 use Rattle.std.proofs.lemmas.Option.{slice_get-get_or}
 use Rattle.rm_base.specs.declared.block.Row.{Row}
@@ -13,33 +14,41 @@ use Rattle.rm_catalog.specs.Objects.{IsTag}
 use Rattle.rm_channel.specs.Jobs.{AreRows, deeds_of}
 use Rattle.rm_channel.specs.Made.{AreThese, deed}
 use Rattle.rm_history.specs.declared.world.Datafile.{Datafile}
-use Rattle.rm_history.specs.World.{exists}
+use Rattle.rm_history.specs.World.{blocks_of, exists, file_of}
+use Rattle.rm_track.specs.Bitmaps.{Tracked, candidates_at, candidates_of, tracked_at}
+use Rattle.rm_track.specs.Bits.{IsMarked, blocks_from}
+use Rattle.rm_track.proofs.Marks.{marked-below}
 use Rattle.rm_catalog_typed.specs.LedgerFacts.{IsPieceEntry}
 use Rattle.rm_catalog_typed.specs.Ledger.{ledger_records}
 use Rattle.rm_live.specs.declared.history.Event.{Event}
 use Rattle.rm_live.specs.History.{IsLegal}
-use Rattle.rm_piece.specs.Valid.{IsPiece}
+use Rattle.rm_live.proofs.Totals.{length_upto}
+use Rattle.rm_piece.specs.Level1s.{IsRead}
+use Rattle.rm_piece.specs.Valid.{IsBefore, IsPiece}
 use Rattle.rm_lang_statement.specs.declared.command.BackupForm.{BackupForm}
 use Rattle.rm_lang_statement.specs.declared.command.WriteForm.{WriteForm}
 use Rattle.rm_machine.specs.MadePieces.{entry_for, piece_by}
 use Rattle.rm_machine.specs.Backup.{AreJobs, is_copy, rows_in, taken}
 use Rattle.rm_machine.specs.Marks.{marks_before}
 use Rattle.rm_machine.specs.Sound.{IsPlaced, IsSound}
+use Rattle.rm_machine.specs.Tracked.{AreTracked, switch_all, with_tracker}
 use Rattle.rm_machine.specs.declared.job.Job.{Job}
 use Rattle.rm_machine.specs.declared.state.State.{State}
-use Rattle.rm_machine.specs.State.{current_of, ledger, now_of, tree, world}
+use Rattle.rm_machine.specs.State.{current_of, ledger, now_of, placed, tree, world}
 use Rattle.rm_machine_code.proofs.Backups.{IsTaken}
 use Rattle.rm_machine_code.proofs.Parents.{BeginsWithin, begins-within}
 use Rattle.rm_machine_code.proofs.Places.{counted-open}
-use Rattle.rm_machine.specs.Asked.{span_of, writers_of, writes_in}
+use Rattle.rm_machine_code.proofs.ReadBlocks.{AreKnown, all-marked, blocks-marked, blocks-rise, candidates-long, known-by, marked-block, marks_by, read-by}
+use Rattle.rm_machine_code.proofs.Tracked.{tracked-switch_all}
+use Rattle.rm_machine.specs.Asked.{blocks_read, candidates_in, span_of, writers_of, writes_in}
 use Rattle.rm_machine.specs.Events.{opening}
 use Rattle.rm_machine.specs.MadePieces.{CanRecord, Copied, copied}
-use Rattle.rm_machine.specs.BackupOutcome.{at_end, marked}
+use Rattle.rm_machine.specs.BackupOutcome.{at_end, begun, marked}
 use Rattle.rm_machine.specs.BackupRefusal.{mark_count}
 use Rattle.rm_machine_code.proofs.BackupAccepted.{CanBeWritten, CanBackUp}
-use Rattle.rm_machine_code.proofs.Copies.{IsReady, all-copied, few-copied, ready-entry, ready-valid}
+use Rattle.rm_machine_code.proofs.Copies.{IsReady, all-copied, copied-same, few-copied, ready-entry, ready-valid}
 use Rattle.rm_machine_code.proofs.BackupMarks.{count-marked, marked-same, sound-marked, unmarked-mark, with_mark}
-use Rattle.rm_machine_code.proofs.PiecesRead.{BeginsBelow, IsCheckpoint}
+use Rattle.rm_machine_code.proofs.PiecesRead.{AreAll, BeginsBelow, IsCheckpoint, blocks-by}
 use Rattle.rm_machine_code.proofs.Deeds.{AllOf, WereRead, all-of, are-asked, are-read}
 use Rattle.rm_machine_code.proofs.Walk.{AreAsked, CanGoOn, HasWalked, events-same, walk}
 
@@ -73,16 +82,56 @@ pub during-marks : (s : State) (d : Option (List WriteForm)) (w : WriteForm) →
 during-marks s None w has = absurd (none-in w has)
 during-marks s (Some ws) w has = unmarked-mark s
 
--- what a write finds it finds beside the mark
-can-marked : (s : State) (t : Bool) (ws : List WriteForm) → All (CanBeWritten s) ws → All (CanBeWritten (cond t s (with_mark s))) ws
-can-marked s true ws all = all
-can-marked s false ws all =
-    All-weaker (CanBeWritten s) (CanBeWritten (with_mark s))
-    (λ w it. record { thread = it.thread; datafile = it.datafile; is = it.is; here = it.here; block = it.block; file = it.file; stands = it.stands }) ws all
+-- other bitmaps, which could be so, leave the database sound
+pub sound-tracker : (q : State) (ts : List Tracked) → IsSound q → AreTracked (with_tracker q ts) → IsSound (with_tracker q ts)
+sound-tracker q ts is tracked = record {
+  catalog = is.catalog;
+  dbid = is.dbid;
+  place = record { many = is.place.many; each = is.place.each };
+  logs = record { dbid = is.logs.dbid; there = is.logs.there; threads = is.logs.threads; each = is.logs.each };
+  tracker = tracked;
+  in_open = λ opened. let was = is.in_open opened in record { inc = was.inc; found = was.found; point = was.point };
+  point = λ at here. let was = is.point at here in record { low = was.low; high = was.high; stands = was.stands };
+}
+
+-- so do those that a backup leaves at its beginning
+pub sound-begun : (s : State) (b : BackupForm) → length (ledger_records (ledger s)) + mark_count s b ≤ 65536 → IsSound s → IsSound (begun s b)
+sound-begun s b room sound =
+    let q : State = marked s b in
+    let is = sound-marked s b room sound in
+    let now : now_of q ≡ now_of s = marked-same now_of s b refl in
+    let ts : q.instance.tracker ≡ s.instance.tracker = marked-same (λ (p : State). p.instance.tracker) s b refl in
+    sound-tracker q (switch_all (now_of s) (taken s b) s.instance.tracker) is
+    (coe 0 1 (i. AreTracked (with_tracker q (switch_all (now i) (taken s b) (ts i)))) (tracked-switch_all q (taken s b) is.tracker))
+
+-- what a write finds it finds there
+can-begun : (s : State) (b : BackupForm) (ws : List WriteForm) → All (CanBeWritten s) ws → All (CanBeWritten (begun s b)) ws
+can-begun s b ws all =
+    All-weaker (CanBeWritten s) (CanBeWritten (begun s b))
+    (λ w it.
+    let threads = marked-same (λ (q : State). (ledger q).base.threads) s b refl in
+    record {
+      thread = (it.thread.0, omega (arith, it.thread.1, threads));
+      datafile = it.datafile;
+      is = marked-same (λ (q : State). file_of (world q) w.file) s b refl ∙ it.is;
+      here = marked-same (λ (q : State). exists (world q) (current_of q) (now_of q) it.datafile) s b refl ∙ it.here;
+      block = it.block;
+      file = it.file;
+      stands = marked-same (λ (q : State). placed q w.file) s b refl ∙ it.stands;
+    }) ws all
 
 -- the base facts stay until the pieces are recorded
 pub base-at_end : (s : State) (b : BackupForm) (events : List Event) → (ledger (at_end s b events)).base ≡ (ledger s).base
-base-at_end s b events = events-same (λ (q : State). (ledger q).base) (λ q w. refl) (λ q f row. refl) events (marked s b) ∙ marked-same (λ (q : State). (ledger q).base) s b refl
+base-at_end s b events = events-same (λ (q : State). (ledger q).base) (λ q w. refl) (λ q f row. refl) events (begun s b) ∙ marked-same (λ (q : State). (ledger q).base) s b refl
+
+pub files-at_end : (s : State) (b : BackupForm) (events : List Event) → (ledger (at_end s b events)).files ≡ (ledger s).files
+files-at_end s b events = events-same (λ (q : State). (ledger q).files) (λ q w. refl) (λ q f row. refl) events (begun s b) ∙ marked-same (λ (q : State). (ledger q).files) s b refl
+
+-- so the pieces are those of the records at the start
+pub copied-at_end : (s : State) (b : BackupForm) (events : List Event) (checkpoint : ℕ) (jobs : List Job) (rows : List (List Row)) → copied (ledger (at_end s b events)) b checkpoint jobs rows ≡ copied (ledger s) b checkpoint jobs rows
+copied-at_end s b events checkpoint jobs rows =
+    let base = base-at_end s b events in
+    copied-same (ledger (at_end s b events)) (ledger s) b checkpoint jobs rows (ap (λ (x : BaseEntry). x.dbid) base) (ap (λ (x : BaseEntry). x.current) base) (files-at_end s b events)
 
 begins-below : (s : State) (from : Option ℕ) → BeginsWithin s from → BeginsBelow (now_of s) from
 begins-below s None is = tt
@@ -94,10 +143,21 @@ of-each P Q R on [] rows all both = tt
 of-each P Q R on (j ∷ js) [] all both = tt
 of-each P Q R on (j ∷ js) (rs ∷ rows) all both = (on j rs (All-head P j js all) both.0, of-each P Q R on js rows (All-tail P j js all) both.1)
 
-module _ (s : State) (b : BackupForm) (contents : All (λ (w : WriteForm). length w.content.0 ≡ 64) (writes_in b)) (sound : IsSound s) (can : CanBackUp s b) (tag : List ℕ) (tagged : IsTag tag) (jobs : List Job) (are : AreJobs s b jobs) (rows : List (List Row)) (whole : AreRows rows (map (span_of s) jobs))
-    (scns : List (List ℕ)) (events : List Event) (legal : IsLegal (opening s) events) (these : AreThese (deeds_of (map (span_of s) jobs) rows 1 (writers_of s b) (map (map Ok) scns)) (map deed events)) where
+-- the block is none of the candidates of a level 1
+pub record IsNoCandidate (u : State) (j : Job) (k : ℕ) : Type 0 where
+  pub tracked : Tracked
+  pub found : tracked_at u.instance.tracker j.file ≡ Some tracked
+  pub from : ℕ
+  pub begins : j.from ≡ Some from
+  pub marks : List Bool
+  pub are : candidates_at u.instance.tracker j.file from ≡ Some marks
+  pub inside : k < length tracked.marks
+  pub unmarked : ¬ IsMarked marks k
+
+module _ (s : State) (b : BackupForm) (contents : All (λ (w : WriteForm). length w.content.0 ≡ 64) (writes_in b)) (sound : IsSound s) (can : CanBackUp s b) (tag : List ℕ) (tagged : IsTag tag) (jobs : List Job) (are : AreJobs s b jobs) (rows : List (List Row)) (whole : AreRows rows (map (span_of (begun s b)) jobs))
+    (scns : List (List ℕ)) (events : List Event) (legal : IsLegal (opening (begun s b)) events) (these : AreThese (deeds_of (map (span_of (begun s b)) jobs) rows 1 (writers_of s b) (map (map Ok) scns)) (map deed events)) where
   abbrev pub u : State
-  u = marked s b
+  u = begun s b
 
   abbrev pub t : State
   t = at_end s b events
@@ -106,85 +166,162 @@ module _ (s : State) (b : BackupForm) (contents : All (λ (w : WriteForm). lengt
   ws = writes_in b
 
   abbrev pub xs : List Copied
-  xs = copied (ledger s).base b (now_of s) jobs rows
+  xs = copied (ledger s) b (now_of s) jobs rows
 
   pub room : length (ledger_records (ledger s)) + mark_count s b ≤ 65536
   room = let all = can.records in omega (arith, all)
 
-  pub begun : CanGoOn u ws
-  begun = record {
-    sound = sound-marked s b room sound;
+  pub goes-on : CanGoOn u ws
+  goes-on = record {
+    sound = sound-begun s b room sound;
     opened = marked-same (λ (q : State). q.instance.is_open) s b refl ∙ can.opened;
     unmarked = λ w has. during-marks s b.during w has;
-    writes = can-marked s (is_none b.during) ws can.writes;
+    writes = can-begun s b ws can.writes;
     contents = contents;
   }
 
-  pub right : IsLegal (opening u) events
-  right = subst (λ p. IsLegal p events) (sym (marked-same opening s b refl)) legal
-
   pub asked : AreAsked ws events
-  asked = are-asked ws (ledger s).base.threads (map (span_of s) jobs) rows scns events these
+  asked = are-asked ws (ledger s).base.threads (map (span_of u) jobs) rows scns events these
 
   pub walked : HasWalked u ws events t
-  walked = walk ws events u begun right asked
+  walked = walk ws events u goes-on legal asked
 
   pub end-sound : IsSound t
   end-sound = walked.can.sound
 
-  pub now-marked : now_of u ≡ now_of s
-  now-marked = marked-same now_of s b refl
-
-  base-end : (ledger t).base ≡ (ledger s).base
-  base-end = base-at_end s b events
-
-  files-end : (ledger t).files ≡ (ledger s).files
-  files-end = events-same (λ (q : State). (ledger q).files) (λ q w. refl) (λ q f row. refl) events u ∙ marked-same (λ (q : State). (ledger q).files) s b refl
+  pub now-begun : now_of u ≡ now_of s
+  now-begun = marked-same now_of s b refl
 
   pub at : IsCheckpoint t (now_of s)
   at =
       let range = sound.catalog.ledger.incarnations.ranges (current_of s) sound.catalog.ledger.current in
-      record { some = omega (arith, range.0, range.1); most = omega (arith, walked.now, now-marked) }
+      record { some = omega (arith, range.0, range.1); most = omega (arith, walked.now, now-begun) }
 
   -- What was read of a datafile
-  module _ (j : Job) (rs : List Row) (is : IsReadyToRead s j) (were : WereRead s (map deed events) j rs) where
-    blocks : length (rows_in s j.file) ≡ is.taken.datafile.blocks
-    blocks =
+  module _ (j : Job) (rs : List Row) (is : IsReadyToRead s j) (were : WereRead u (map deed events) j rs) where
+    abbrev d : Datafile
+    d = is.taken.datafile
+
+    rows-many : length (rows_in u j.file) ≡ d.blocks
+    rows-many =
         let held = get-index s.instance.place (j.file - 1) is.taken.file is.taken.stands in
-        let place : IsPlaced (tree s) (j.file - 1) is.taken.datafile (standing is.taken.file (current_of s) (now_of s)) =
-        subst (IsPlaced (tree s) (j.file - 1) is.taken.datafile) (counted-open s is.taken.file can.opened) (sound.place.each (j.file - 1) is.taken.datafile is.taken.file is.taken.is held) in
-        ap (λ o. length (option_map_or (λ (x : File). x.rows) o [])) is.taken.stands ∙ place.blocks
+        let place : IsPlaced (tree s) (j.file - 1) d (standing is.taken.file (current_of s) (now_of s)) =
+        subst (IsPlaced (tree s) (j.file - 1) d) (counted-open s is.taken.file can.opened) (sound.place.each (j.file - 1) d is.taken.file is.taken.is held) in
+        let here : placed u j.file ≡ Some is.taken.file = marked-same (λ (q : State). placed q j.file) s b refl ∙ is.taken.stands in
+        ap (λ o. length (option_map_or (λ (x : File). x.rows) o [])) here ∙ place.blocks
+
+    blocks-end : blocks_of (world t) j.file ≡ d.blocks
+    blocks-end = blocks-by t j.file d is.taken.some (ap (λ (ds : List Datafile). slice_get ds (j.file - 1)) (files-at_end s b events) ∙ is.taken.is)
+
+    -- of which blocks
+    abbrev marks : List Bool
+    marks = marks_by (candidates_in u j) (length (rows_in u j.file))
+
+    reads-are : blocks_read u j ≡ blocks_from 0 marks
+    reads-are = read-by (candidates_in u j) (length (rows_in u j.file))
+
+    tracked-long : (ms : List Bool) (it : AreKnown u.instance.tracker j.file j.from ms) → (length it.tracked.marks ≡ d.blocks) × (length ms ≡ d.blocks)
+    tracked-long ms it =
+        let tracked = goes-on.sound.tracker.each j.file it.tracked it.found in
+        let blocks : blocks_of (world u) j.file ≡ d.blocks = blocks-by u j.file d is.taken.some (marked-same (λ (q : State). slice_get (ledger q).files (j.file - 1)) s b refl ∙ is.taken.is) in
+        (tracked.blocks ∙ blocks, candidates-long it.from (blocks_of (world u) j.file) it.tracked ms tracked.blocks tracked.ended it.are ∙ blocks)
+
+    marks-long : length marks ≡ d.blocks
+    marks-long = by (candidates_in u j) refl
+      where
+        by : (o : Option (List Bool)) → candidates_in u j ≡ o → length (marks_by o (length (rows_in u j.file))) ≡ d.blocks
+        by None none = length-replicate (length (rows_in u j.file)) true ∙ rows-many
+        by (Some ms) some = (tracked-long ms (known-by u.instance.tracker j.file j.from ms some)).1
+
+    block-is : (k : ℕ) (r : Row) → slice_get rs k ≡ Some r → r.block ≡ get_or (blocks_from 0 marks) k 0
+    block-is k r got = (walked.found j.file (get_or (blocks_read u j) k 0) r (were.each k r got)).0 ∙ ap (λ (bs : List ℕ). get_or bs k 0) reads-are
+
+    many : length rs ≡ length (blocks_from 0 marks)
+    many = were.many ∙ ap (λ (bs : List ℕ). length bs) reads-are
+
+    ascend : AllPairs IsBefore rs
+    ascend i k e less inside =
+        let first = block-is i (get_or rs i e) (slice_get-get_or rs i e (omega (arith, less, inside))) in
+        let second = block-is k (get_or rs k e) (slice_get-get_or rs k e inside) in
+        omega (arith, first, second, blocks-rise 0 marks i k less (omega (arith, inside, many)))
+
+    inside-all : All (λ (r : Row). r.block < d.blocks) rs
+    inside-all k e inside =
+        let n : ℕ = get_or (blocks_from 0 marks) k 0 in
+        let it = blocks-marked 0 marks n (Contains-get_or (blocks_from 0 marks) k 0 (omega (arith, inside, many))) in
+        omega (arith, block-is k (get_or rs k e) (slice_get-get_or rs k e inside), it.1, marked-below marks it.0 it.2, marks-long)
+
+    all-read : (from : Option ℕ) → length rs ≡ length (blocks_read u (record { file = j.file; from = from })) → AreAll from (length rs) d.blocks
+    all-read None same = same ∙ length_upto 0 (length (rows_in u j.file)) ∙ rows-many
+    all-read (Some from) same = tt
 
     pub ready-one : IsReady t (now_of s) j rs
     ready-one = record {
       read = record {
         some = is.taken.some;
-        datafile = is.taken.datafile;
-        is = ap (λ (ds : List Datafile). slice_get ds (j.file - 1)) files-end ∙ is.taken.is;
-        here = walked.here is.taken.datafile (marked-same (λ (q : State). exists (world q) (current_of q) (now_of q) is.taken.datafile) s b refl ∙ is.taken.here);
-        many = were.many ∙ blocks;
-        order = λ k r got. (walked.found j.file k r (were.each k r got)).0;
-        each = λ k d inside. (walked.found j.file k (slice_index_or rs k d) (were.each k (slice_index_or rs k d) (slice_get-get_or rs k d inside))).1;
+        datafile = d;
+        is = ap (λ (ds : List Datafile). slice_get ds (j.file - 1)) (files-at_end s b events) ∙ is.taken.is;
+        here = walked.here d (marked-same (λ (q : State). exists (world q) (current_of q) (now_of q) d) s b refl ∙ is.taken.here);
+        ascend = ascend;
+        inside = inside-all;
+        each = λ k e inside. (walked.found j.file (get_or (blocks_read u j) k 0) (get_or rs k e) (were.each k (get_or rs k e) (slice_get-get_or rs k e inside))).1;
       };
+      all = all-read j.from were.many;
       begins = begins-below s j.from is.begins;
     }
 
+    -- of a marked block a row was read
+    marked-read : (k : ℕ) → IsMarked marks k → IsRead rs k
+    marked-read k marked =
+        let bs : List ℕ = blocks_from 0 marks in
+        let has = marked-block 0 marks k marked in
+        let within : has.0 < length rs = omega (arith, has.1, many) in
+        let none : Row = record { block = 0; version = 0; content = record { 0 = [] } } in
+        let at = get_or_default bs has.0 (0 + k) 0 has.1 in
+        record {
+          row = get_or rs has.0 none;
+          held = Contains-get_or rs has.0 none within;
+          is = omega (arith, block-is has.0 (get_or rs has.0 none) (slice_get-get_or rs has.0 none within), at, has.2);
+        }
+
+    -- one of which none was read is no candidate
+    pub not-read : (k : ℕ) → k < blocks_of (world t) j.file → IsRead rs k ⊎ IsNoCandidate u j k
+    not-read k inside = elim (cases_Bool (get_or marks k false)) [
+      | inl marked ↦ inl (marked-read k marked)
+      | inr off ↦ inr (by (candidates_in u j) refl off)
+    ]
+      where
+        by : (o : Option (List Bool)) → candidates_in u j ≡ o → get_or (marks_by o (length (rows_in u j.file))) k false ≡ false → IsNoCandidate u j k
+        by None none off = absurd (true≢false (sym (all-marked (length (rows_in u j.file)) k (omega (arith, inside, blocks-end, rows-many))) ∙ off))
+        by (Some ms) some off =
+            let it = known-by u.instance.tracker j.file j.from ms some in
+            record {
+              tracked = it.tracked;
+              found = it.found;
+              from = it.from;
+              begins = it.begun;
+              marks = ms;
+              are = ap (option_and_then (candidates_of it.from)) it.found ∙ it.are;
+              inside = omega (arith, inside, blocks-end, (tracked-long ms it).0);
+              unmarked = λ on. true≢false (sym on ∙ off);
+            }
+
   ready : AllOf (IsReady t (now_of s)) jobs rows
   ready =
-      of-each (IsReadyToRead s) (WereRead s (map deed events)) (IsReady t (now_of s)) ready-one jobs rows (jobs-ready s b jobs sound are can.taken)
-      (are-read s (writers_of s b) jobs rows scns events whole these)
+      of-each (IsReadyToRead s) (WereRead u (map deed events)) (IsReady t (now_of s)) ready-one jobs rows (jobs-ready s b jobs sound are can.taken)
+      (are-read u (writers_of s b) jobs rows scns events whole these)
 
-  pub same : copied (ledger t).base b (now_of s) jobs rows ≡ xs
-  same = ap (λ (base : BaseEntry). copied base b (now_of s) jobs rows) base-end
+  pub same : copied (ledger t) b (now_of s) jobs rows ≡ xs
+  same = copied-at_end s b events (now_of s) jobs rows
 
   pub can-record : CanRecord t b tag xs
   can-record = subst (CanRecord t b tag) same (record {
-    valid = all-copied (λ x. IsPiece x.piece) t b (now_of s) jobs rows (all-of (IsReady t (now_of s)) (λ j rs. IsPiece (piece_by (ledger t).base b (now_of s) j rs)) (ready-valid t b (now_of s) walked.can.sound at) jobs rows ready);
+    valid = all-copied (λ x. IsPiece x.piece) t b (now_of s) jobs rows (all-of (IsReady t (now_of s)) (λ j rs. IsPiece (piece_by (ledger t) b (now_of s) j rs)) (ready-valid t b (now_of s) walked.can.sound at) jobs rows ready);
     entries = all-copied (λ x. IsPieceEntry (tree t) (ledger t).files (entry_for t b tag x.copy x.piece)) t b (now_of s) jobs rows
-        (all-of (IsReady t (now_of s)) (λ j rs. IsPieceEntry (tree t) (ledger t).files (entry_for t b tag (is_copy b j) (piece_by (ledger t).base b (now_of s) j rs))) (ready-entry t b (now_of s) walked.can.sound at tag tagged) jobs rows ready);
+        (all-of (IsReady t (now_of s)) (λ j rs. IsPieceEntry (tree t) (ledger t).files (entry_for t b tag (is_copy b j) (piece_by (ledger t) b (now_of s) j rs))) (ready-entry t b (now_of s) walked.can.sound at tag tagged) jobs rows ready);
     records =
         omega (arith, few-copied t b (now_of s) jobs rows, jobs-many s b jobs are, can.records, count-marked s b, walked.records);
     ids =
-        let next : (ledger t).base.next_id ≡ (ledger s).base.next_id = ap (λ (x : BaseEntry). x.next_id) base-end in
+        let next : (ledger t).base.next_id ≡ (ledger s).base.next_id = ap (λ (x : BaseEntry). x.next_id) (base-at_end s b events) in
         omega (arith, few-copied t b (now_of s) jobs rows, jobs-many s b jobs are, can.ids, next);
   })

@@ -1,5 +1,5 @@
 -- What the list of all answers says of the events: each is a read, or a write that was asked for; and what the reads found.
-use Rattle.std.proofs.Common.{◌≡◌, ◌≤◌, ◌+◌, ◌∙◌, ◌++◌, ◌==◌, ◌&&◌, inl, inr, ℕ, zero, suc, List, [], ◌∷◌, Some, None, Ok, Bool, true, false, refl, ap, subst, arith, length, map, filter, Contains, slice_get}
+use Rattle.std.proofs.Common.{◌≡◌, ◌≤◌, ◌∙◌, ◌++◌, ◌==◌, ◌&&◌, inl, inr, ℕ, zero, suc, List, [], ◌∷◌, Some, None, Ok, Bool, true, false, refl, ap, subst, arith, length, map, filter, Contains, get_or, slice_get}
 use Rattle.std.specs.Str.{bytes_eq}
 use Rattle.std.proofs.lemmas.Bool.{and_from, and_parts, cases_Bool, eq-eqb, eqb-true}
 use Rattle.std.proofs.lemmas.List.Elements.{Contains-append_cases, Contains-append_left, Contains-append_right}
@@ -15,13 +15,11 @@ use Rattle.rm_live.specs.declared.history.Answer.TheVariants.{Found, Mended, Wro
 use Rattle.rm_live.specs.declared.history.Call.{Call}
 use Rattle.rm_live.specs.declared.history.Call.TheVariants.{Mend, Read, Write}
 use Rattle.rm_live.specs.declared.history.Event.{Event}
-use Rattle.rm_live.specs.Ruled.{one_if, total, upto}
-use Rattle.rm_live.proofs.Totals.{length_upto}
+use Rattle.rm_live.specs.Ruled.{one_if, total}
 use Rattle.rm_lang_statement.specs.declared.command.WriteForm.{WriteForm}
-use Rattle.rm_machine.specs.Backup.{rows_in}
 use Rattle.rm_machine.specs.declared.job.Job.{Job}
 use Rattle.rm_machine.specs.declared.state.State.{State}
-use Rattle.rm_machine.specs.Asked.{by_thread, lists_from, span_of, write_job}
+use Rattle.rm_machine.specs.Asked.{blocks_read, by_thread, lists_from, span_of, write_job}
 use Rattle.rm_machine.specs.Events.{write_form}
 use Rattle.rm_machine_code.proofs.Walk.{AreAsked, IsAsked, reading}
 
@@ -180,18 +178,14 @@ these-read xs ys f b r these has =
     let it = had (is_reading f b r) ys (omega (arith, counted (is_reading f b r) xs (reading f b r) has (reading-itself f b r), same)) in
     subst (Contains ys) (reading-is f b r it.0 it.2) it.1
 
--- the rows of a datafile of which so many blocks are read, from block b on
-found-in : (f b n : ℕ) (rs : List Row) (k : ℕ) (r : Row) → length rs ≤ n → slice_get rs k ≡ Some r → Contains (found f (upto b n) rs) (reading f (b + k) r)
-found-in f b n [] k r few is = absurd (cc)
-found-in f b zero (q ∷ rs) k r few is = absurd (omega (arith, few))
-found-in f b (suc n) (q ∷ rs) zero r few is =
+-- the rows of a datafile of which these blocks are read
+found-in : (f : ℕ) (bs : List ℕ) (rs : List Row) (k : ℕ) (r : Row) → length rs ≡ length bs → slice_get rs k ≡ Some r → Contains (found f bs rs) (reading f (get_or bs k 0) r)
+found-in f bs [] k r many is = absurd (cc)
+found-in f [] (q ∷ rs) k r many is = absurd (omega (arith, many))
+found-in f (b ∷ bs) (q ∷ rs) zero r many is =
     let same : q ≡ r = cc in
-    let here : b ≡ b + 0 = omega arith in
-    coe 0 1 (i. Contains (found f (upto b (suc n)) (q ∷ rs)) (reading f (here i) (same i))) (in-front (reading f b q) (found f (upto (suc b) n) rs))
-found-in f b (suc n) (q ∷ rs) (suc k) r few is =
-    let next : suc b + k ≡ b + suc k = omega arith in
-    let rest = found f (upto (suc b) n) rs in
-    behind (reading f b q) rest (reading f (b + suc k) r) (subst (λ m. Contains rest (reading f m r)) next (found-in f (suc b) n rs k r (omega (arith, few)) is))
+    subst (λ (x : Row). Contains (found f (b ∷ bs) (q ∷ rs)) (reading f b x)) same (in-front (reading f b q) (found f bs rs))
+found-in f (b ∷ bs) (q ∷ rs) (suc k) r many is = behind (reading f b q) (found f bs rs) (reading f (get_or bs k 0) r) (found-in f bs rs k r (omega (arith, many)) is)
 
 -- of each datafile and its rows
 abbrev pub AllOf : (Job → List Row → Type 0) → List Job → List (List Row) → Type 0
@@ -204,25 +198,24 @@ all-of P Q on [] rows all = tt
 all-of P Q on (j ∷ js) [] all = tt
 all-of P Q on (j ∷ js) (rs ∷ rows) all = (on j rs all.0, all-of P Q on js rows all.1)
 
--- one row was read of each block
+-- one row was read of each block that was to be read, in their order
 pub record WereRead (s : State) (ds : List Deed) (j : Job) (rs : List Row) : Type 0 where
-  pub many : length rs ≡ length (rows_in s j.file)
-  pub each : (k : ℕ) (r : Row) → slice_get rs k ≡ Some r → Contains ds (reading j.file k r)
+  pub many : length rs ≡ length (blocks_read s j)
+  pub each : (k : ℕ) (r : Row) → slice_get rs k ≡ Some r → Contains ds (reading j.file (get_or (blocks_read s j) k 0) r)
 
 rows-read : (s : State) (ds : List Deed) (js : List Job) (rows : List (List Row)) → AreRows rows (map (span_of s) js) → ((d : Deed) → Contains (found_of (map (span_of s) js) rows) d → Contains ds d) → AllOf (WereRead s ds) js rows
 rows-read s ds [] rows are all = tt
 rows-read s ds (j ∷ js) [] are all = tt
 rows-read s ds (j ∷ js) (rs ∷ rows) are all =
-    let all_blocks : length rs ≡ length (upto 0 (length (rows_in s j.file))) = cc in
-    let first : length rs ≡ length (rows_in s j.file) = all_blocks ∙ length_upto 0 (length (rows_in s j.file)) in
+    let first : length rs ≡ length (blocks_read s j) = cc in
     let rest : AreRows rows (map (span_of s) js) = cc in
-    let reads = found j.file (upto 0 (length (rows_in s j.file))) rs in
+    let reads = found j.file (blocks_read s j) rs in
     let others = found_of (map (span_of s) js) rows in (
       record {
         many = first;
         each = λ k r is.
-            let at : 0 + k ≡ k = omega arith in
-            all (reading j.file k r) (Contains-append_left reads others (reading j.file k r) (subst (λ n. Contains reads (reading j.file n r)) at (found-in j.file 0 (length (rows_in s j.file)) rs k r (omega (arith, first)) is)));
+            let n : ℕ = get_or (blocks_read s j) k 0 in
+            all (reading j.file n r) (Contains-append_left reads others (reading j.file n r) (found-in j.file (blocks_read s j) rs k r first is));
       },
       rows-read s ds js rows rest (λ d has. all d (Contains-append_right reads others d has)),
     )
@@ -233,5 +226,10 @@ are-read s writers js rows scns es are these =
     let reads = found_of (map (span_of s) js) rows in
     let writes = wrote_of 1 writers (map (map Ok) scns) in
     all-of (WereRead s reads) (WereRead s (map deed es))
-    (λ j rs was. record { many = was.many; each = λ k r is. these-read (reads ++ writes) (map deed es) j.file k r these (Contains-append_left reads writes (reading j.file k r) (was.each k r is)) })
+    (λ j rs was. record {
+      many = was.many;
+      each = λ k r is.
+          let n : ℕ = get_or (blocks_read s j) k 0 in
+          these-read (reads ++ writes) (map deed es) j.file n r these (Contains-append_left reads writes (reading j.file n r) (was.each k r is));
+    })
     js rows (rows-read s reads js rows are (λ d has. has))

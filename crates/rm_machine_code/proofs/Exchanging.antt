@@ -1,5 +1,5 @@
 -- A mounted database with other datafiles in place.
-use Rattle.std.proofs.Common.{◌≡◌, ◌-◌, ◌∙◌, ◌⊎◌, inl, inr, ℕ, List, Option, Some, false, sym, subst, length, slice_get}
+use Rattle.std.proofs.Common.{◌≡◌, ◌∙◌, ◌⊎◌, inl, inr, ℕ, List, Option, Some, false, sym, subst, length, slice_get}
 use Rattle.std.proofs.lemmas.Bool.{both_ways}
 use Rattle.rm_blocks.specs.File.{File}
 use Rattle.rm_history.specs.declared.world.Datafile.{Datafile}
@@ -7,6 +7,7 @@ use Rattle.rm_machine.specs.Sound.{IsPlaced, IsPoint, IsSound}
 use Rattle.rm_machine.specs.declared.state.State.{State}
 use Rattle.rm_machine.specs.State.{ledger, tree}
 use Rattle.rm_machine_code.proofs.Places.{counted-closed}
+use Rattle.rm_machine_code.proofs.Tracked.{tracked-same}
 
 -- the database with this in place, at this point
 abbrev pub exchanged : State → Option ℕ → List (Option File) → State
@@ -29,6 +30,7 @@ module _ (s : State) (point : Option ℕ) (place : List (Option File)) (sound : 
       ]);
     };
     logs = record { dbid = sound.logs.dbid; there = sound.logs.there; threads = sound.logs.threads; each = sound.logs.each };
+    tracker = tracked-same s (exchanged s point place) sound.tracker;
     in_open = λ opened. absurd (both_ways s.instance.is_open closed opened);
     point = at_point;
   }

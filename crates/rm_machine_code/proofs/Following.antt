@@ -18,6 +18,7 @@ use Rattle.rm_live.specs.History.{IsLegal, IsRight, after, fold_of, with_write a
 use Rattle.rm_live.specs.Parts.{Parts, refusal_by, refusal_of, row_at, with_put}
 use Rattle.rm_redo.specs.Online.{thread_records, with_change}
 use Rattle.rm_redo.proofs.Logs.{inc-with_change}
+use Rattle.rm_track.specs.Bitmaps.{mark_at}
 use Rattle.rm_machine.specs.Sound.{IsSound}
 use Rattle.rm_machine.specs.declared.state.State.{State}
 use Rattle.rm_machine.specs.State.{current_of, now_of, placed, tree}
@@ -156,7 +157,7 @@ files-with_put s (suc m) row goes some =
 opening-with_write : (s : State) (t f b scn : ℕ) (content : Block) → GoesAlong s → refusal_of (opening s) t f b ≡ None → scn ≡ now_of s → opening (with_write s (write_form t f b content)) ≡ with_live_write (opening s) t f b content scn
 opening-with_write s t f b scn content goes accepted at =
     let logs = with_change s.instance.logs (change_of s (write_form t f b content)) in
-    let of_both : ℕ → List File → Parts = λ now files. record { inc = current_of s; now = now; files = files; logs = logs; tracker = [] } in
+    let of_both : ℕ → List File → Parts = λ now files. record { inc = current_of s; now = now; files = files; logs = logs; tracker = mark_at s.instance.tracker f b } in
     let row : Row = record { block = b; version = now_of s; content = content } in
     let number = some-number s f b goes (λ none. absurd (let clash = ap (λ o. refusal_by o (length (thread_records s.instance.logs t)) (now_of s)) (sym none) ∙ accepted in cc clash)) in
     ap (λ n. of_both n (standing_in (with_write s (write_form t f b content)))) (end_of-with_end (tree s) (current_of s) (now_of s + 1) goes.there)

@@ -17,12 +17,13 @@ use Rattle.rm_machine.specs.declared.state.State.{State}
 use Rattle.rm_machine.specs.State.{at_moment, ledger}
 use Rattle.rm_machine.specs.Upkeep.{with_catalog}
 use Rattle.rm_machine_code.proofs.Kept.{StandOn, kept-on, names-of, stand-same}
+use Rattle.rm_machine_code.proofs.Tracked.{tracked-same}
 
 -- other records, with the facts on which what runs rests
 abbrev pub resting : State → TypedCatalog → TypedCatalog
 resting s r = record r {
   ledger = record r.ledger {
-    base = record r.ledger.base { dbid = (ledger s).base.dbid; threads = (ledger s).base.threads; current = (ledger s).base.current };
+    base = record r.ledger.base { dbid = (ledger s).base.dbid; threads = (ledger s).base.threads; current = (ledger s).base.current; tracking = (ledger s).base.tracking };
     tree = (ledger s).tree;
     files = (ledger s).files;
   };
@@ -39,13 +40,14 @@ module _ (s : State) (r : TypedCatalog) (rules : IsTypedCatalog (resting s r)) w
     dbid = is.dbid;
     place = record { many = is.place.many; each = is.place.each };
     logs = record { dbid = is.logs.dbid; there = is.logs.there; threads = is.logs.threads; each = is.logs.each };
+    tracker = tracked-same s rested is.tracker;
     in_open = λ opened. let was = is.in_open opened in record { inc = was.inc; found = was.found; point = was.point };
     point = λ at here. let was = is.point at here in record { low = was.low; high = was.high; stands = was.stands };
   }
 
   -- and goes on to fit its history
   pub fits-with : (h : List Change) → HistoryFits s h → HistoryFits rested h
-  fits-with h is = record { history = is.history; below = is.below; online = is.online; place = is.place; in_open = is.in_open; point = is.point }
+  fits-with h is = record { history = is.history; below = is.below; online = is.online; place = is.place; tracker = is.tracker; in_open = is.in_open; point = is.point }
 
   -- where each record was there, or has its artefact
   pub borne-with : (h : List Change) (objects after : Held) (made : List Made) (touched touched' : List (List ℕ)) → IsBorneOut s h objects made touched → StandOn objects after touched touched' (ledger s) (ledger rested)

@@ -16,6 +16,7 @@ pub mod Deleting
 pub mod Dropping
 pub mod Entries
 pub mod Exchanging
+pub mod FirstTold
 pub mod Fitting
 pub mod Following
 pub mod Found
@@ -43,6 +44,7 @@ pub mod PiecesRead
 pub mod Places
 pub mod Placing
 pub mod Recording
+pub mod ReadBlocks
 pub mod Records
 pub mod Recovering
 pub mod Renewing
@@ -54,6 +56,7 @@ pub mod Switching
 pub mod Tags
 mod Taken
 pub mod Told
+pub mod Tracked
 pub mod Untils
 pub mod Upkeep
 pub mod Walk

@@ -1,5 +1,5 @@
 -- SHUTDOWN and STARTUP: the mode changes, and the database stays sound.
-use Rattle.std.proofs.Common.{◌≡◌, ◌<◌, ◌+◌, ◌-◌, ◌∙◌, ◌&&◌, ℕ, zero, suc, List, [], ◌∷◌, Option, Some, None, Bool, true, false, cond, is_none, refl, ap, sym, subst, arith, length, All, get_or, slice_get, slice_index_or}
+use Rattle.std.proofs.Common.{◌≡◌, ◌<◌, ◌+◌, ◌∙◌, ◌&&◌, ℕ, zero, suc, List, [], ◌∷◌, Option, Some, None, Bool, true, false, cond, is_none, refl, ap, sym, subst, arith, length, All, get_or, slice_get, slice_index_or}
 use Rattle.std.specs.Option.{option_map}
 use Rattle.std.proofs.lemmas.Bool.{false≢true}
 use Rattle.std.proofs.lemmas.List.{length-map}
@@ -16,6 +16,7 @@ use Rattle.rm_machine.specs.declared.state.State.{State}
 use Rattle.rm_machine.specs.State.{world, current_of, now_of, counted}
 use Rattle.rm_base.proofs.Conditions.{given-where, unless}
 use Rattle.rm_machine_code.proofs.Places.{counted-closed, counted-open, placed-mapped}
+use Rattle.rm_machine_code.proofs.Tracked.{tracked-none}
 
 in-place : (o : Option File) (b : Bool) → b ≡ true → (b && is_none o) ≡ false → (x : File) × (o ≡ Some x)
 in-place (Some x) b here is = (x, refl)
@@ -89,6 +90,7 @@ module _ (s : State) (sound : IsSound s) (opened : s.instance.is_open ≡ true) 
     dbid = sound.dbid;
     place = record { many = length-map s.instance.place (option_map stand) ∙ sound.place.many; each = place-after };
     logs = record { dbid = sound.logs.dbid; there = sound.logs.there; threads = sound.logs.threads; each = sound.logs.each };
+    tracker = tracked-none q refl;
     in_open = λ mode. absurd (false≢true mode);
     point = point-after;
   }

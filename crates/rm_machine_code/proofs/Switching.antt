@@ -26,6 +26,7 @@ use Rattle.rm_machine.specs.declared.state.State.{State}
 use Rattle.rm_machine.specs.State.{is_lost, online, redo_end}
 use Rattle.rm_machine.specs.SwitchLogfile.{is_due, log_entry, with_archived}
 use Rattle.rm_machine_code.proofs.Further.{roomy-either}
+use Rattle.rm_machine_code.proofs.Tracked.{tracked-same}
 
 -- An empty log
 
@@ -166,6 +167,7 @@ module _ (s : State) (t : ℕ) (sound : IsSound s) (low : 0 < t) (high : t ≤ s
           threads = around.threads ∙ sound.logs.threads;
           each = log-after;
         };
+        tracker = tracked-same s q sound.tracker;
         in_open = λ opened.
             let was = sound.in_open opened in
             record { inc = around.inc ∙ was.inc; found = λ u here inside. is_lost-switched s.instance.logs t u (redo_end s) ∙ was.found u here inside; point = was.point };

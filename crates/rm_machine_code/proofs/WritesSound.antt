@@ -22,13 +22,16 @@ use Rattle.rm_redo.specs.declared.online.LogRecord.{LogRecord}
 use Rattle.rm_redo.specs.LogFormat.{IsLogRecord}
 use Rattle.rm_redo.specs.Online.{record_of}
 use Rattle.rm_redo.proofs.Logs.{around-with_change, first_of-with_change, inc-with_change, is_lost-with_change, thread_records-with_change, thread_records-with_change_other, sequence_of-with_change}
+use Rattle.rm_track.specs.Bitmaps.{mark_at}
 use Rattle.rm_machine.specs.Sound.{IsOnline, IsPlaced, IsPlacedRow, IsSound}
 use Rattle.rm_machine.specs.declared.state.State.{State}
 use Rattle.rm_machine.specs.State.{current_of, is_lost, now_of, online, placed, redo_end, world}
+use Rattle.rm_machine.specs.Tracked.{with_tracker}
 use Rattle.rm_machine.specs.Write.{change_of, with_write}
 use Rattle.rm_machine_code.proofs.Further.{further, keeps-further, now-further, redo-now, sound-further}
 use Rattle.rm_machine_code.proofs.FurtherLogs.{IsPushed, log-further}
 use Rattle.rm_machine_code.proofs.Places.{counted-open}
+use Rattle.rm_machine_code.proofs.Tracked.{tracked-marked, tracked-same}
 use Rattle.rm_machine_code.proofs.Writes.{Accepted}
 
 module _ (s : State) (w : WriteForm) (sound : IsSound s) (a : Accepted s w) (full : length w.content.0 ≡ 64) where
@@ -164,6 +167,7 @@ module _ (s : State) (w : WriteForm) (sound : IsSound s) (a : Accepted s w) (ful
           threads = around.threads ∙ sound.logs.threads;
           each = λ t low high found. log-after t low high (sym (is_lost-with_change s.instance.logs c t) ∙ found);
         };
+        tracker = tracked-same (with_tracker p (mark_at p.instance.tracker w.file w.block)) q (tracked-marked p w.file w.block wide.tracker);
         in_open = λ _. record {
           inc = around.inc ∙ opened.inc;
           found = λ t low high. is_lost-with_change s.instance.logs c t ∙ opened.found t low high;

@@ -1,8 +1,8 @@
 //! What a state shows.
-ghost use Rattle.std.specs.Prelude.{◌≡◌, ◌<◌, ◌≤◌, ◌↔◌, ◌==◌, ◌||◌, IfSome, IsTrue, nat_lt, not};
+ghost use Rattle.std.specs.Prelude.{◌≡◌, ◌<◌, ◌≤◌, ◌↔◌, ◌==◌, ◌&&◌, ◌||◌, IfSome, IsTrue, nat_lt, not};
 ghost use Rattle.std.specs.Option.{option_copied};
 ghost use Rattle.rm_base.specs.Numbers.{last_scn};
-ghost use Rattle.rm_history.specs.Tree.{IsThere, end_of};
+ghost use Rattle.rm_history.specs.Tree.{IsThere, end_of, owner};
 ghost use Rattle.rm_history.specs.World.{exists, file_of};
 ghost use Rattle.rm_machine.specs.Loading.{has_lost};
 ghost use Rattle.rm_machine.specs.Mount.{first_lost};
@@ -11,15 +11,22 @@ ghost use Rattle.rm_machine.specs.State.{current_of, datafile_at, ledger, now_of
 
 use rm_base::{FileNo, IncNo, Scn, ThreadNo};
 use rm_blocks::DataFile;
-use rm_history::Datafile;
+use rm_history::{Datafile, Tree};
 use rm_machine::State;
 use rm_redo::OnlineLogs;
+
+// The SCN up to which an incarnation is known; 0 for one that is not there.
+pub(crate) fn end_in(tree: &Tree, inc: IncNo) -> Scn
+    ensures { result ≡ end_of tree.now inc }
+{
+    tree.get(inc).map_or(0, |node| node.end)
+}
 
 /// The SCN up to which an incarnation is known; 0 for one that is not there.
 pub(crate) fn end_of(state: &State, inc: IncNo) -> Scn
     ensures { result ≡ end_of (tree state.now) inc }
 {
-    state.catalog.tree().get(inc).map_or(0, |node| node.end)
+    end_in(state.catalog.tree(), inc)
 }
 
 /// The SCN that the next change takes.
@@ -36,13 +43,22 @@ pub fn redo_end(state: &State) -> Scn
     end_of(state, state.instance.logs.inc())
 }
 
+// Whether a datafile was created below `s`, on the path of `i`.
+pub(crate) fn exists_in(tree: &Tree, i: IncNo, s: Scn, file: &Datafile) -> bool
+    requires there { IsThere tree.now i }
+    requires created { 0 < file.now.creation }
+    ensures { result ≡ (nat_lt file.now.creation s && (owner tree.now i file.now.creation == file.now.inc)) }
+{
+    file.creation < s && tree.owner(i, file.creation) == Some(file.inc)
+}
+
 /// Whether a datafile exists at the address (i, s): it was created below `s`, on the path of `i`.
 pub fn exists(state: &State, i: IncNo, s: Scn, file: &Datafile) -> bool
     requires there { IsThere (tree state.now) i }
     requires created { 0 < file.now.creation }
     ensures { result ≡ exists (world state.now) i s file.now }
 {
-    file.creation < s && state.catalog.tree().owner(i, file.creation) == Some(file.inc)
+    exists_in(state.catalog.tree(), i, s, file)
 }
 
 // The datafile of this number. None where it is not there.

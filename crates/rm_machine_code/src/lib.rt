@@ -11,6 +11,7 @@ pub mod nature;
 pub mod recorded;
 pub mod replies;
 pub mod room;
+pub mod tracking;
 pub mod until;
 
 pub use nature::{is_built, nature_of, only_tells};

@@ -9,6 +9,7 @@ use crate::facts::{first_lost, now};
 use rm_base::{IncNo, Scn, Seq};
 use rm_blocks::DataFile;
 use rm_machine::State;
+use rm_track::Tracker;
 use std::alloc::Global;
 use std::mem;
 
@@ -49,6 +50,7 @@ fn mount_open(alloc: Global, state: &mut State)
     state.instance.place = Seq::from_vec(place);
     state.instance.point = point;
     state.instance.is_open = false;
+    state.instance.tracker = Tracker::new(alloc);
 }
 
 /// Mounts an open database: what is in place stands at `now`. A mounted one stays as it is. It takes no memory.

@@ -20,7 +20,7 @@ pub fn nature_of(command: &Command) -> Nature
         Command::Mount => Nature::Changes,
         Command::OpenPlain => Nature::Changes,
         Command::OpenResetlogs => Nature::Changes,
-        Command::Tracking { .. } => Nature::Unbuilt,
+        Command::Tracking { .. } => Nature::Changes,
         Command::ResetDatabase { .. } => Nature::Changes,
         Command::Restore { .. } => Nature::ChangesByHeld,
         Command::Preview { .. } => Nature::TellsHeld,

@@ -1,12 +1,14 @@
 -- CREATE DATAFILE leads on: one SCN further, a datafile is added.
-use Rattle.std.proofs.Common.{◌≡◌, ◌≢◌, ◌<◌, ◌≤◌, ◌+◌, ◌-◌, ◌∙◌, ◌++◌, ◌⊎◌, ◌^◌, nat_le, inl, inr, ℕ, zero, suc, List, [], ◌∷◌, Option, Some, None, true, cond, refl, ap, sym, subst, arith, length, length-append, All, Contains, slice_get, slice_index_or}
+use Rattle.std.proofs.Common.{◌≡◌, ◌≢◌, ◌<◌, ◌≤◌, ◌+◌, ◌-◌, ◌∙◌, ◌++◌, ◌⊎◌, ◌^◌, nat_le, inl, inr, ℕ, zero, suc, List, [], ◌∷◌, Option, Some, None, Bool, true, false, cond, refl, ap, sym, subst, arith, length, length-append, All, Contains, slice_get, slice_index_or}
 use Rattle.std.specs.Option.{option_map_or}
-use Rattle.std.proofs.lemmas.Bool.{and_parts, leb-true, ne_eqb}
+use Rattle.std.proofs.lemmas.Bool.{and_parts, cases_eq, cases_lt, leb-true, ne_eqb}
+use Rattle.std.proofs.lemmas.List.{length-replicate}
 use Rattle.std.proofs.lemmas.List.Elements.{All-contains, All-contains_itself, All-nil, All-push, All-weaker}
-use Rattle.std.proofs.lemmas.Option.{slice_get_within}
+use Rattle.std.proofs.lemmas.Option.{slice_get_past, slice_get_within}
 use Rattle.rm_base.specs.Store.{Held}
 use Rattle.rm_base.specs.declared.block.Change.{Change}
 use Rattle.rm_base.specs.declared.block.Row.{Row}
+use Rattle.rm_base.proofs.Members.{first-or-rest, none-in}
 use Rattle.rm_base.proofs.Slots.{get-index, get-push, index-get}
 use Rattle.rm_blocks.specs.File.{File, base_of, created, created_row, created_rows, standing}
 use Rattle.rm_blocks.proofs.Rows.{in_order-created, length-created}
@@ -17,22 +19,28 @@ use Rattle.rm_history.specs.declared.world.Datafile.{Datafile}
 use Rattle.rm_history.specs.declared.world.World.{World}
 use Rattle.rm_history.specs.State.{state}
 use Rattle.rm_history.specs.Tree.{IsThere, reset_of}
-use Rattle.rm_history.specs.World.{creation_of, file_of, with_file}
+use Rattle.rm_history.specs.World.{blocks_of, creation_of, file_of, with_file}
 use Rattle.rm_history.proofs.Below.{state-untouched}
 use Rattle.rm_history.proofs.Highs.{high-bound}
 use Rattle.rm_history.proofs.Histories.{IsHistory-with_file}
-use Rattle.rm_history.proofs.Worlds.{BaseAgrees-with_file, Level1Agrees-with_file, file-there, state-kept}
+use Rattle.rm_history.proofs.Worlds.{BaseAgrees-with_file, Level1Agrees-with_file, file-there, file_of-kept, state-kept}
 use Rattle.rm_lang_statement.specs.IsCommand.{is_command}
+use Rattle.rm_track.specs.Bitmaps.{Bitmap, Tracked, fresh, tracked_at, with_file as with_tracked}
+use Rattle.rm_track.specs.Told.{Tell}
+use Rattle.rm_track.proofs.Places.{found-beside, found-new}
+use Rattle.rm_track.proofs.Telling.{new-file-tells}
 use Rattle.rm_catalog_typed.specs.Fitting.{FitsFile}
-use Rattle.rm_catalog_typed.proofs.Fitted.{file_fits, many}
+use Rattle.rm_catalog_typed.proofs.Fitted.{file_fits}
 use Rattle.rm_machine.specs.CreateDatafile.{with_datafile}
 use Rattle.rm_machine.specs.Effect.{Made}
 use Rattle.rm_machine.specs.Machine.{HistoryFits, IsBorneOut, RowsAre}
 use Rattle.rm_machine.specs.Marks.{one_further}
 use Rattle.rm_machine.specs.Sound.{IsPlaced, IsPlacedRow, IsSound}
+use Rattle.rm_machine.specs.Tracked.{AreTracked, IsTracked, tracks}
 use Rattle.rm_machine.specs.declared.state.State.{State}
 use Rattle.rm_machine.specs.State.{world, now_of, placed}
 use Rattle.rm_machine_code.proofs.Further.{catalog-further, keeps-further, sound-further}
+use Rattle.rm_machine_code.proofs.FirstTold.{lie-below}
 use Rattle.rm_machine_laws.proofs.Further.{fits-further, rows-further, same-further}
 use Rattle.rm_machine_laws.proofs.Grown.{SameHistory, true-on}
 use Rattle.rm_machine_laws.proofs.Leading.{LeadsOnBy, StaysBy}
@@ -59,6 +67,16 @@ file_of-new w new =
     let back : length w.files + 1 - 1 ≡ length w.files = omega arith in
     ap (λ b. cond b None (slice_get (w.files ++ new ∷ []) (length w.files + 1 - 1))) (ne_eqb (length w.files + 1) 0 (λ e. omega (arith, e)))
     ∙ ap (slice_get (w.files ++ new ∷ [])) back ∙ get-last w.files new
+
+-- and of each other number the same datafile or none
+file_of-past : (w : World) (f : ℕ) → length w.files < f → file_of w f ≡ None
+file_of-past w f past = ap (λ b. cond b None (slice_get w.files (f - 1))) (ne_eqb f 0 (λ e. omega (arith, e, past))) ∙ slice_get_past w.files (f - 1) (omega (arith, past))
+
+file_of-other : (w : World) (new : Datafile) (f : ℕ) → f ≢ length w.files + 1 → file_of (with_file w new) f ≡ file_of w f
+file_of-other w new f other = elim (cases_lt (length w.files) f) [
+  | inl past ↦ file_of-past (with_file w new) f (omega (arith, past, other, length-append w.files (new ∷ []))) ∙ sym (file_of-past w f past)
+  | inr inside ↦ file_of-kept w new f inside
+]
 
 -- a datafile that is there has no higher number
 file-inside : (w : World) (f : ℕ) (d : Datafile) → file_of w f ≡ Some d → f ≤ length w.files
@@ -140,6 +158,59 @@ module _ (s : State) (blocks : ℕ) (sound : IsSound s) (a : HasRoom s blocks) (
         ]
       ]
 
+  -- What is tracked
+
+  abbrev ts : List Tracked
+  ts = s.instance.tracker
+
+  abbrev new : Tracked
+  new = fresh (length files + 1) blocks (now + 1)
+
+  abbrev tracked : Bool
+  tracked = tracks s.instance.is_open s.catalog.ledger
+
+  creation-new : creation_of (world q) (length files + 1) ≡ now
+  creation-new = ap (λ o. option_map_or (λ (e : Datafile). e.creation) o 0) (file_of-new (world p) d)
+
+  tracked-new : IsTracked q (length files + 1) new
+  tracked-new = record {
+    blocks = length-replicate blocks false ∙ sym (ap (λ o. option_map_or (λ (e : Datafile). e.blocks) o 0) (file_of-new (world p) d));
+    ended = All-nil _;
+    begun = omega (arith, end);
+    kept = λ low has. elim (first-or-rest (now + 1) [] low has) [
+      | inl same ↦ record { reset = omega (arith, begun.1, same); created = omega (arith, creation-new, same) }
+      | inr none ↦ absurd (none-in low none)
+    ];
+  }
+
+  -- the bitmaps of another number are of the same datafile
+  tracked-old : (f : ℕ) (t : Tracked) → f ≢ length files + 1 → IsTracked p f t → IsTracked q f t
+  tracked-old f t other is =
+      let same : file_of (world p) f ≡ file_of (world q) f = sym (file_of-other (world p) d f other) in
+      let many : blocks_of (world p) f ≡ blocks_of (world q) f = ap (λ o. option_map_or (λ (e : Datafile). e.blocks) o 0) same in
+      let creation : creation_of (world p) f ≡ creation_of (world q) f = ap (λ o. option_map_or (λ (e : Datafile). e.creation) o 0) same in
+      record {
+        blocks = is.blocks ∙ many;
+        ended = subst (λ n. All (λ (x : Bitmap). length x.marks ≡ n) t.ended) many is.ended;
+        begun = is.begun;
+        kept = λ low has. let start = is.kept low has in record { reset = start.reset; created = omega (arith, start.created, creation) };
+      }
+
+  each-tracked : AreTracked p → (b : Bool) → tracked ≡ b → (f : ℕ) (t : Tracked) → tracked_at (cond b (with_tracked ts new) ts) f ≡ Some t → IsTracked q f t
+  each-tracked was true on f t found = elim (cases_eq f (length files + 1)) [
+    | inl same ↦
+        let is : new ≡ t = (let e : Some new ≡ Some t = sym (found-new new ts) ∙ ap (tracked_at (with_tracked ts new)) (sym same) ∙ found in cc) in
+        subst (λ n. IsTracked q n t) (sym same) (subst (IsTracked q (length files + 1)) is tracked-new)
+    | inr other ↦ tracked-old f t other (was.each f t (sym (found-beside f new ts other) ∙ found))
+  ]
+  each-tracked was false off f t found = absurd (let none : None ≡ Some t = sym (ap (λ (xs : List Tracked). tracked_at xs f) (sound.tracker.idle off)) ∙ found in cc)
+
+  tracked-created : AreTracked q
+  tracked-created = record {
+    idle = λ off. ap (λ b. cond b (with_tracked ts new) ts) off ∙ sound.tracker.idle off;
+    each = λ f t found. each-tracked (sound-further s sound a.on).tracker tracked refl f t found;
+  }
+
   pub sound-created : IsSound q
   sound-created =
       let was = sound-further s sound a.on in
@@ -152,6 +223,7 @@ module _ (s : State) (blocks : ℕ) (sound : IsSound s) (a : HasRoom s blocks) (
           each = λ k e x at held. subst (IsPlaced tree k e) (sym (counted-open q x a.on.opened)) (place-after k e x at held);
         };
         logs = record { dbid = was.logs.dbid; there = was.logs.there; threads = was.logs.threads; each = was.logs.each };
+        tracker = tracked-created;
         in_open = λ _. record { inc = opened.inc; found = opened.found; point = opened.point };
         point = λ n is. absurd (let none = opened.point in cc);
       }
@@ -174,9 +246,8 @@ module _ (s : State) (blocks : ℕ) (sound : IsSound s) (a : HasRoom s blocks) (
     rows-new : RowsAre (world q) h i (now_of p) file
     rows-new =
         let f = length files + 1 in
-        let creation : creation_of (world q) f ≡ now = ap (λ o. option_map_or (λ (e : Datafile). e.creation) o 0) (file_of-new (world p) d) in
         created-all (λ r. r ≡ state (world q) h i (now_of p) f r.block) now
-        (λ b. sym (state-untouched (world q) h i (now_of p) f b none-of-new ∙ ap (λ n. created_row n b) creation)) blocks
+        (λ b. sym (state-untouched (world q) h i (now_of p) f b none-of-new ∙ ap (λ n. created_row n b) creation-new)) blocks
 
     -- the rows of the others are as they were
     rows-old : (f : ℕ) (x : File) → placed s f ≡ Some x → RowsAre (world q) h i (now_of p) x
@@ -193,12 +264,19 @@ module _ (s : State) (blocks : ℕ) (sound : IsSound s) (a : HasRoom s blocks) (
       | inr new ↦ let same : file ≡ x = (let e : Some file ≡ Some x = new in cc) in subst (RowsAre (world q) h i (now_of p)) same rows-new
     ]
 
+    tell-created : (b : Bool) → Tell i h (now_of p) (cond b (with_tracked ts new) ts)
+    tell-created true =
+        subst (λ n. Tell i h (now_of p) (with_tracked ts (fresh (length files + 1) blocks n))) end
+        (new-file-tells i (now_of p) (length files + 1) blocks h ts (lie-below tree i h fits.below) fits.tracker)
+    tell-created false = fits.tracker
+
     fits-created : HistoryFits q h
     fits-created = record {
       history = IsHistory-with_file (world p) d h fits.history;
       below = fits.below;
       online = fits.online;
       place = λ f x is. subst (λ y. BaseAgrees (world q) h (base_of y)) (sym (counted-open q x a.on.opened)) (rows-agree (world q) h i (now_of p) x (rows f x is));
+      tracker = tell-created tracked;
       in_open = λ _ f x is. rows f x is;
       point = λ n is. absurd (let none = (sound.in_open a.on.opened).point in cc);
     }

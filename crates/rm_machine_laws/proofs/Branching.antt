@@ -1,5 +1,5 @@
 -- OPEN RESETLOGS leads on: logs are archived, and the tree gains an incarnation.
-use Rattle.std.proofs.Common.{◌≡◌, ◌<◌, ◌≤◌, ◌∙◌, ◌++◌, ℕ, List, Option, Some, None, IsSomeAnd, refl, sym, subst, arith, get_or}
+use Rattle.std.proofs.Common.{◌≡◌, ◌<◌, ◌≤◌, ◌∙◌, ◌++◌, ℕ, List, Option, Some, None, true, IsSomeAnd, All, refl, sym, subst, arith, get_or}
 use Rattle.std.proofs.lemmas.List.Elements.{All-weaker, Contains-get_or}
 use Rattle.rm_base.specs.Store.{Held}
 use Rattle.rm_base.specs.declared.block.Change.{Change}
@@ -8,7 +8,7 @@ use Rattle.rm_blocks.specs.File.{File, base_of}
 use Rattle.rm_lang_statement.specs.declared.command.Command.TheVariants.{OpenResetlogs}
 use Rattle.rm_history.specs.Agrees.{BaseAgrees, LogAgrees}
 use Rattle.rm_history.specs.State.{state}
-use Rattle.rm_history.specs.Tree.{HasParentsBelow}
+use Rattle.rm_history.specs.Tree.{HasParentsBelow, end_of}
 use Rattle.rm_history.proofs.Branches.{end_of-with_branch}
 use Rattle.rm_history.proofs.Worlds.{BaseAgrees-with_branch, IsHistory-with_branch, Level1Agrees-with_branch, state-branched}
 use Rattle.rm_catalog_typed.proofs.Trees.{keeps_branch, parents_below}
@@ -23,6 +23,7 @@ use Rattle.rm_machine.specs.declared.state.State.{State}
 use Rattle.rm_machine.specs.State.{current_of, now_of, online, placed, world}
 use Rattle.rm_machine_laws.proofs.Archives.{threads-stand}
 use Rattle.rm_machine_code.proofs.BranchesSound.{CanBranchAt}
+use Rattle.rm_machine_code.proofs.FirstTold.{tell-first}
 use Rattle.rm_machine_laws.proofs.BranchesSound.{end-branched, sound-branched}
 use Rattle.rm_machine_laws.proofs.FreshLogs.{fresh-empty, fresh-first}
 use Rattle.rm_machine_laws.proofs.Grown.{SameHistory, true-on}
@@ -59,16 +60,20 @@ module _ (s : State) (at : ℕ) (h : List Change) (sound : IsSound s) (keeps : H
       let first = fresh-first base.dbid (current_of q) base.threads at t (now_of q) low inside in
       empty-agrees h (online q t) (fresh-empty base.dbid (current_of q) base.threads at t (now_of q) low inside) (omega (arith, first, end))
 
+  below-branched : All (λ c. c.scn < end_of q.catalog.ledger.tree c.inc) h
+  below-branched k d inside =
+      let low = keeps.below k d inside in
+      let c : Change = get_or h k d in
+      let there = (keeps.history.changes c (Contains-get_or h k d inside)).there in
+      subst (λ n. c.scn < n) (sym (end_of-with_branch s.catalog.ledger.tree i at c.inc there)) low
+
   keeps-branched : HistoryFits q h
   keeps-branched = record {
     history = IsHistory-with_branch (world s) i at parents sound.catalog.ledger.current h keeps.history;
-    below = λ k d inside.
-        let low = keeps.below k d inside in
-        let c : Change = get_or h k d in
-        let there = (keeps.history.changes c (Contains-get_or h k d inside)).there in
-        subst (λ n. c.scn < n) (sym (end_of-with_branch s.catalog.ledger.tree i at c.inc there)) low;
+    below = below-branched;
     online = λ t low inside found. online-branched t low inside;
     place = λ f x is. subst (λ y. BaseAgrees (world q) h (base_of y)) (sym (counted-open q x refl)) (rows-agree (world q) h (current_of q) (now_of q) x (rows f x is));
+    tracker = tell-first q.catalog.ledger true h below-branched;
     in_open = λ opened f x is. rows f x is;
     point = λ n none. absurd (let e : None ≡ Some n = none in cc);
   }

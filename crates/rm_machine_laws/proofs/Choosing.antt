@@ -1,19 +1,22 @@
 -- RESET DATABASE leads on: another incarnation is chosen.
-use Rattle.std.proofs.Common.{◌≡◌, ◌∙◌, ℕ, List, Some, None, false, sym, subst, length, rules}
+use Rattle.std.proofs.Common.{◌≡◌, ◌∙◌, ◌&&◌, ℕ, List, [], Some, None, false, ap, sym, subst, length, rules}
 use Rattle.std.proofs.lemmas.Bool.{false≢true}
 use Rattle.rm_base.specs.Store.{Held}
 use Rattle.rm_base.specs.declared.block.Change.{Change}
 use Rattle.rm_blocks.specs.File.{base_of}
 use Rattle.rm_history.specs.Agrees.{BaseAgrees}
 use Rattle.rm_history.specs.Tree.{IsThere}
+use Rattle.rm_track.specs.Told.{Tell}
 use Rattle.rm_catalog_typed.specs.Facts.{IsTypedCatalog}
 use Rattle.rm_machine.specs.Effect.{Made}
 use Rattle.rm_machine.specs.Machine.{HistoryFits, IsBorneOut}
 use Rattle.rm_machine.specs.ResetDatabase.{at_incarnation, reset_refusal}
 use Rattle.rm_machine.specs.Sound.{IsPlaced, IsSound}
 use Rattle.rm_machine.specs.declared.state.State.{State}
-use Rattle.rm_machine.specs.State.{world}
+use Rattle.rm_machine.specs.State.{current_of, now_of, world}
 use Rattle.rm_lang_statement.specs.declared.command.Command.TheVariants.{ResetDatabase}
+use Rattle.rm_machine_code.proofs.Tracked.{tracked-none}
+use Rattle.rm_machine_code.proofs.FirstTold.{tell-none}
 use Rattle.rm_machine_laws.proofs.CountedLogs.{counted-agree, counted-online}
 use Rattle.rm_machine_laws.proofs.Current.{current-kept}
 use Rattle.rm_machine_laws.proofs.Leading.{LeadsOnBy, StaysBy}
@@ -35,6 +38,10 @@ module _ (s : State) (i : ℕ) (sound : IsSound s) (can : CanChoose s i) where
   catalog-after : IsTypedCatalog q.catalog
   catalog-after = current-kept s.catalog i sound.catalog can.there
 
+  -- no change is tracked in a database that is not open
+  untracked : s.instance.tracker ≡ []
+  untracked = sound.tracker.idle (ap (λ b. b && s.catalog.ledger.base.tracking) can.shut)
+
   sound-chosen : IsSound q
   sound-chosen =
       let logs = counted-online s i can.there sound.logs in
@@ -46,6 +53,7 @@ module _ (s : State) (i : ℕ) (sound : IsSound s) (can : CanChoose s i) where
           each = λ k d x file held. subst (IsPlaced s.catalog.ledger.tree k d) (counted-closed s x can.shut ∙ sym (counted-closed q x can.shut)) (sound.place.each k d x file held);
         };
         logs = record { dbid = logs.dbid; there = logs.there; threads = logs.threads; each = logs.each };
+        tracker = tracked-none q untracked;
         in_open = λ mode. absurd (false≢true (sym can.shut ∙ mode));
         point = λ at is. absurd (let e : None ≡ Some at = is in cc);
       }
@@ -56,6 +64,7 @@ module _ (s : State) (i : ℕ) (sound : IsSound s) (can : CanChoose s i) where
     below = keeps.below;
     online = counted-agree s i h sound.logs keeps.online;
     place = λ f x is. subst (λ y. BaseAgrees (world s) h (base_of y)) (counted-closed s x can.shut ∙ sym (counted-closed q x can.shut)) (keeps.place f x is);
+    tracker = subst (Tell (current_of q) h (now_of q)) (sym untracked) (tell-none (current_of q) h (now_of q));
     in_open = λ mode. absurd (false≢true (sym can.shut ∙ mode));
     point = λ at is. absurd (let e : None ≡ Some at = is in cc);
   }

@@ -1,7 +1,7 @@
--- The laws of every statement. One that is not in the machine yet comes to nothing.
+-- The laws of every statement.
 use Rattle.std.proofs.Common.{◌≡◌, true, refl}
 use Rattle.rm_lang_statement.specs.declared.command.Command.{Command}
-use Rattle.rm_lang_statement.specs.declared.command.Command.TheVariants.{ArchiveLogCurrent, Backup, BackupLogs, CatalogName, ChangeBackup, CreateDatabase, CreateDatafile, Crosscheck, Cut, Damage, DeleteBackup, DeleteExpired, DeleteObsolete, Dump, ListArchived, ListBackup, ListCopy, ListIncarnation, LoseDatafile, LoseLog, Mount, OpenPlain, OpenResetlogs, Parallelism, Preview, Recover, RecoverTest, Remove, Rename, ReportNeedBackup, ReportObsolete, ReportSchema, ResetDatabase, Restore, Retention, ShowAll, SwitchLogfile, ValidateAll, Write, RecoverCopy}
+use Rattle.rm_lang_statement.specs.declared.command.Command.TheVariants.{ArchiveLogCurrent, Backup, BackupLogs, CatalogName, ChangeBackup, CreateDatabase, CreateDatafile, Crosscheck, Cut, Damage, DeleteBackup, DeleteExpired, DeleteObsolete, Dump, ListArchived, ListBackup, ListCopy, ListIncarnation, LoseDatafile, LoseLog, Mount, OpenPlain, OpenResetlogs, Parallelism, Preview, Recover, RecoverTest, Remove, Rename, ReportNeedBackup, ReportObsolete, ReportSchema, ResetDatabase, Restore, Retention, ShowAll, SwitchLogfile, Tracking, ValidateAll, Write, RecoverCopy}
 use Rattle.rm_machine.specs.Laws.{LeadsOn, TellsOn, only_tells}
 use Rattle.rm_machine_laws.proofs.AddingDatafile.{create-on, create-stays}
 use Rattle.rm_machine_laws.proofs.ArchivingAll.{all-on, all-stays}
@@ -24,6 +24,7 @@ use Rattle.rm_machine_laws.proofs.Restoring.{restore-on, restore-stays}
 use Rattle.rm_machine_laws.proofs.Settings.{parallelism-on, parallelism-stays, retention-on, retention-stays}
 use Rattle.rm_machine_laws.proofs.Switching.{switch-on, switch-stays}
 use Rattle.rm_machine_laws.proofs.Telling.{every-tells-by, tells-on, tells-stays}
+use Rattle.rm_machine_laws.proofs.Tracking.{tracking-on, tracking-stays}
 use Rattle.rm_machine_laws.proofs.Upkeep.{changed-on, changed-stays, checked-on, checked-stays, expired-on, expired-stays}
 use Rattle.rm_machine_laws.proofs.Writing.{write-on, write-stays}
 use Rattle.rm_machine_laws.specs.Loose.{StaysLoose}
@@ -33,8 +34,8 @@ use Rattle.rm_machine_laws.proofs.LooseCopies.{renew-loose}
 use Rattle.rm_machine_laws.proofs.LooseMishaps.{cut-loose, damage-loose, remove-loose, rename-loose}
 use Rattle.rm_machine_laws.proofs.LooseNew.{archive-loose, branch-loose, switch-loose}
 use Rattle.rm_machine_laws.proofs.LooseUpkeep.{change-loose, check-loose, delete-loose, expire-loose, obsolete-loose}
-use Rattle.rm_machine_laws.proofs.LooseQuiet.{choose-loose, create-loose, lose-loose, lose_log-loose, mount-loose, open-loose, parallelism-loose, recover-loose, restore-loose, retention-loose, told-loose, write-loose}
-use Rattle.rm_machine_laws.proofs.Roomy.{LeavesIds, archive-roomy, back_logs-roomy, backup-roomy, branch-roomy, change-roomy, check-roomy, choose-roomy, create-roomy, cut-roomy, damage-roomy, delete-roomy, expire-roomy, lose-roomy, lose_log-roomy, mount-roomy, never-roomy, obsolete-roomy, open-roomy, parallelism-roomy, recover-roomy, remove-roomy, rename-roomy, restore-roomy, retention-roomy, switch-roomy, told-roomy, write-roomy, renew-roomy}
+use Rattle.rm_machine_laws.proofs.LooseQuiet.{choose-loose, create-loose, lose-loose, lose_log-loose, mount-loose, open-loose, parallelism-loose, recover-loose, restore-loose, retention-loose, told-loose, tracking-loose, write-loose}
+use Rattle.rm_machine_laws.proofs.Roomy.{LeavesIds, archive-roomy, back_logs-roomy, backup-roomy, branch-roomy, change-roomy, check-roomy, choose-roomy, create-roomy, cut-roomy, damage-roomy, delete-roomy, expire-roomy, lose-roomy, lose_log-roomy, mount-roomy, never-roomy, obsolete-roomy, open-roomy, parallelism-roomy, recover-roomy, remove-roomy, rename-roomy, restore-roomy, retention-roomy, switch-roomy, told-roomy, tracking-roomy, write-roomy, renew-roomy}
 
 -- what is shown of each statement
 record IsLawful (c : Command) : Type 0 where
@@ -89,6 +90,7 @@ every (DeleteExpired class) = lawful (DeleteExpired class) (expired-on class) (e
 every DeleteObsolete = lawful DeleteObsolete obsolete-on obsolete-stays obsolete-loose obsolete-roomy
 every (Retention form) = lawful (Retention form) (retention-on form) (retention-stays form) (retention-loose form) (retention-roomy form)
 every (Parallelism channels) = lawful (Parallelism channels) (parallelism-on channels) (parallelism-stays channels) (parallelism-loose channels) (parallelism-roomy channels)
+every (Tracking on) = lawful (Tracking on) (tracking-on on) (tracking-stays on) (tracking-loose on) (tracking-roomy on)
 every (CatalogName name) = record { leads_on = catalog-leads name; stays_by = catalog-stays name; loose = catalog-loose name; roomy = catalog-roomy name }
 every (LoseDatafile file) = lawful (LoseDatafile file) (lose-on file) (lose-stays file) (lose-loose file) (lose-roomy file)
 every (LoseLog thread) = lawful (LoseLog thread) (lose_log-on thread) (lose_log-stays thread) (lose_log-loose thread) (lose_log-roomy thread)
@@ -96,12 +98,6 @@ every (Remove name) = lawful (Remove name) (remove-on name) (remove-stays name) 
 every (Damage name at) = lawful (Damage name at) (damage-on name at) (damage-stays name at) (damage-loose name at) (damage-roomy name at)
 every (Cut name to) = lawful (Cut name to) (cut-on name to) (cut-stays name to) (cut-loose name to) (cut-roomy name to)
 every (Rename old new) = lawful (Rename old new) (rename-on old new) (rename-stays old new) (rename-loose old new) (rename-roomy old new)
-every c = record {
-  leads_on = λ m s moment lines effect t after well is sound tell at comes leaves. absurd comes;
-  stays_by = λ s objects said e t well sound unsaved none does. absurd does;
-  loose = λ s held lines e t sound comes. absurd comes;
-  roomy = λ s held lines e t sound comes. absurd comes;
-}
 
 pub every-leads : (c : Command) → LeadsOn c
 every-leads c = (every c).leads_on

@@ -42,6 +42,7 @@ module _ (s : State) (point : Option ℕ) (place : List (Option File)) (sound : 
           let at = get-index place (f - 1) x is in
           let file = item-at (ledger s).files (f - 1) (omega (arith, slice_get_within place (f - 1) (Some x) at, many, sound.place.many)) in
           subst (λ y. BaseAgrees (world s) h (base_of y)) (sym (counted-closed (exchanged s point place) x closed)) (agrees-at (f - 1) file.0 x file.1 at);
+      tracker = keeps.tracker;
       in_open = λ opened. absurd (both_ways s.instance.is_open closed opened);
       point = rows;
     }

@@ -17,6 +17,7 @@ use Rattle.rm_machine.specs.Machine.{HistoryFits, RowsAre}
 use Rattle.rm_machine.specs.Sound.{IsSound}
 use Rattle.rm_machine.specs.declared.state.State.{State}
 use Rattle.rm_machine.specs.State.{world, now_of, redo_end, placed, online}
+use Rattle.rm_machine_laws.proofs.Bitmaps.{tell-later}
 use Rattle.rm_machine_laws.proofs.Grown.{SameHistory}
 use Rattle.rm_machine_laws.proofs.Opened.{rows-agree}
 use Rattle.rm_machine_code.proofs.Places.{counted-open}
@@ -81,6 +82,7 @@ module _ (s : State) (sound : IsSound s) (on : GoesOn s) where
       below = below-risen old i (now + 1) h there (omega arith) (λ c held. (keeps.history.changes c held).there) keeps.below;
       online = λ t low high found. agrees-further h (log_of (online s t)) (log_of (online q t)) (logs-further t) refl (below-redo s h keeps.below) (keeps.online t low high found);
       place = λ f x is. subst (λ y. BaseAgrees (world q) h (base_of y)) (sym (counted-open q x on.opened)) (rows-agree (world q) h i (now_of q) x (rows-further f x is));
+      tracker = tell-later i h now (now_of q) s.instance.tracker (omega (arith, now-further)) keeps.tracker;
       in_open = λ _ f x is. rows-further f x is;
       point = λ n is. let none = (sound.in_open on.opened).point in absurd (cc);
     }

@@ -9,6 +9,7 @@ mod Beside
 mod BranchesSound
 mod Branching
 mod Cataloguing
+mod Bitmaps
 pub mod Carried
 mod Choosing
 mod Cleared
@@ -57,8 +58,10 @@ mod Settings
 mod Switching
 mod Telling
 mod Told
+mod Tracking
 mod Upkeep
 mod Walk
+mod Wanted
 mod WindowStart
 mod WritesKeep
 mod Writing

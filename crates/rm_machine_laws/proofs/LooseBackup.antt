@@ -34,7 +34,7 @@ pub backup-loose : (b : BackupForm) → StaysLoose (Backup b)
 backup-loose b s held lines e t sound comes =
     let both = done-by (refusal_of s (Backup b)) s held (Backup b) lines e t comes in
     let does = both.1 in
-    let xs = copied (ledger s).base b (now_of s) does.jobs does.rows in
+    let xs = copied (ledger s) b (now_of s) does.jobs does.rows in
     let is = does.is in
     let same : effect_of s b does.tag does.events xs ≡ e = cc in
     let next : (ledger (at_end s b does.events)).base.next_id ≡ (ledger s).base.next_id = ap (λ (x : BaseEntry). x.next_id) (base-at_end s b does.events) in

@@ -1,8 +1,8 @@
 -- Statements that put nothing and take nothing away.
-use Rattle.std.proofs.Common.{◌≡◌, ℕ, List, [], Option, Some, None, true, inl, inr}
+use Rattle.std.proofs.Common.{◌≡◌, ℕ, List, [], Option, Some, None, Bool, true, inl, inr}
 use Rattle.rm_base.specs.Store.{Held}
 use Rattle.rm_lang_statement.specs.declared.command.Command.{Command}
-use Rattle.rm_lang_statement.specs.declared.command.Command.TheVariants.{CreateDatafile, LoseDatafile, LoseLog, Mount, OpenPlain, Parallelism, Recover, ResetDatabase, Restore, Retention, Write}
+use Rattle.rm_lang_statement.specs.declared.command.Command.TheVariants.{CreateDatafile, LoseDatafile, LoseLog, Mount, OpenPlain, Parallelism, Recover, ResetDatabase, Restore, Retention, Tracking, Write}
 use Rattle.rm_lang_statement.specs.declared.command.RetentionForm.{RetentionForm}
 use Rattle.rm_lang_statement.specs.declared.command.Until.{Until}
 use Rattle.rm_lang_statement.specs.declared.command.WriteForm.{WriteForm}
@@ -21,6 +21,7 @@ use Rattle.rm_machine.specs.CreateDatafile.{with_datafile}
 use Rattle.rm_machine.specs.Recover.{RecoversTo, recover_target, recovered}
 use Rattle.rm_machine.specs.Restore.{RestoresTo, restored}
 use Rattle.rm_machine.specs.Step.{IsDone, refusal_of}
+use Rattle.rm_machine.specs.Tracking.{with_tracking}
 use Rattle.rm_machine.specs.Upkeep.{with_catalog}
 use Rattle.rm_machine_laws.proofs.Leading.{done-by}
 use Rattle.rm_machine_laws.proofs.Telling.{never-done}
@@ -57,6 +58,9 @@ retention-loose form = loose-done (Retention form) (λ s held lines e t sound no
 
 pub parallelism-loose : (channels : ℕ) → StaysLoose (Parallelism channels)
 parallelism-loose channels = loose-done (Parallelism channels) (λ s held lines e t sound none is. quiet-loose s (Parallelism channels) lines _ e (with_catalog s (with_channels s.catalog channels)) t is)
+
+pub tracking-loose : (on : Bool) → StaysLoose (Tracking on)
+tracking-loose on = loose-done (Tracking on) (λ s held lines e t sound none is. quiet-loose s (Tracking on) lines _ e (with_tracking s on) t is)
 
 pub lose-loose : (f : ℕ) → StaysLoose (LoseDatafile f)
 lose-loose f = loose-done (LoseDatafile f) (λ s held lines e t sound none is. quiet-loose s (LoseDatafile f) lines _ e (without_file s f) t is)

@@ -12,6 +12,7 @@ use Rattle.rm_machine.specs.Machine.{HistoryFits, IsBorneOut}
 use Rattle.rm_machine.specs.Sound.{IsSound}
 use Rattle.rm_machine.specs.declared.state.State.{State}
 use Rattle.rm_machine.specs.State.{placed}
+use Rattle.rm_machine_code.proofs.Tracked.{tracked-same}
 use Rattle.rm_machine_laws.proofs.Leading.{LeadsOnBy, StaysBy}
 use Rattle.rm_machine_laws.proofs.Quiet.{quiet-on, quiet-stays}
 
@@ -37,6 +38,7 @@ sound-lost s f is = record {
     each = λ k d x file held. is.place.each k d x file (still s.instance.place (f - 1) k x held);
   };
   logs = record { dbid = is.logs.dbid; there = is.logs.there; threads = is.logs.threads; each = is.logs.each };
+  tracker = tracked-same s (without_file s f) is.tracker;
   in_open = λ opened. let was = is.in_open opened in record { inc = was.inc; found = was.found; point = refl };
   point = λ at here. absurd (let none : None ≡ Some at = here in cc);
 }
@@ -47,6 +49,7 @@ fits-lost s f h is = record {
   below = is.below;
   online = is.online;
   place = λ g x held. is.place g x (still-placed s f g x held);
+  tracker = is.tracker;
   in_open = λ opened g x held. is.in_open opened g x (still-placed s f g x held);
   point = λ at here. absurd (let none : None ≡ Some at = here in cc);
 }

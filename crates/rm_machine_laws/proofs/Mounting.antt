@@ -14,6 +14,7 @@ use Rattle.rm_machine.specs.declared.state.State.{State}
 use Rattle.rm_machine.specs.State.{world, placed, counted}
 use Rattle.rm_lang_statement.specs.declared.command.Command.TheVariants.{Mount}
 use Rattle.rm_base.proofs.Conditions.{given-where}
+use Rattle.rm_machine_code.proofs.FirstTold.{tell-none}
 use Rattle.rm_machine_laws.proofs.Leading.{LeadsOnBy, StaysBy}
 use Rattle.rm_machine_code.proofs.Places.{counted-closed, counted-open, placed-map}
 use Rattle.rm_machine_laws.proofs.Quiet.{quiet-on, quiet-stays}
@@ -57,6 +58,7 @@ module _ (s : State) (sound : IsSound s) (opened : s.instance.is_open ≡ true) 
       below = keeps.below;
       online = keeps.online;
       place = agrees-after;
+      tracker = tell-none i h now;
       in_open = λ mode. absurd (false≢true mode);
       point = λ at is k d x file here held. rows-after at is k x held;
     }

@@ -18,6 +18,8 @@ use Rattle.rm_machine.specs.Sound.{IsPlaced, IsSound}
 use Rattle.rm_machine.specs.declared.state.State.{State}
 use Rattle.rm_machine.specs.State.{world, current_of, now_of, placed, counted, is_lost}
 use Rattle.rm_lang_statement.specs.declared.command.Command.TheVariants.{OpenPlain}
+use Rattle.rm_machine_code.proofs.Tracked.{tracked-fresh}
+use Rattle.rm_machine_code.proofs.FirstTold.{tell-first}
 use Rattle.rm_machine_laws.proofs.Opened.{below-point, kept-get, kept-length, kept-rows, placed-standing, rows-agree}
 use Rattle.rm_base.proofs.Conditions.{only-where, unless}
 use Rattle.rm_machine_laws.proofs.Leading.{LeadsOnBy, StaysBy}
@@ -79,6 +81,7 @@ module _ (s : State) (sound : IsSound s) (can : CanOpen s) where
     dbid = sound.dbid;
     place = record { many = kept-length (world s) i now s.catalog.ledger.files s.instance.place sound.place.many; each = place-after };
     logs = record { dbid = sound.logs.dbid; there = sound.logs.there; threads = sound.logs.threads; each = sound.logs.each };
+    tracker = tracked-fresh q sound.catalog refl;
     in_open = λ mode. record { inc = can.inc; found = λ t low high. can.found t; point = refl };
     point = λ at is. absurd (let e : None ≡ Some at = is in cc);
   }
@@ -93,6 +96,7 @@ module _ (s : State) (sound : IsSound s) (can : CanOpen s) where
       below = keeps.below;
       online = keeps.online;
       place = λ f x is. subst (λ y. BaseAgrees (world s) h (base_of y)) (sym (counted-open q x refl)) (rows-agree (world s) h i now x (rows f x is));
+      tracker = tell-first s.catalog.ledger true h keeps.below;
       in_open = λ mode f x is. rows f x is;
       point = λ at is. absurd (let e : None ≡ Some at = is in cc);
     }

@@ -1,5 +1,5 @@
 -- RESTORE leads on: each datafile comes to stand in place as a backup has it, or as it was created.
-use Rattle.std.proofs.Common.{◌≡◌, ◌+◌, ◌-◌, ◌++◌, inl, inr, ℕ, List, Option, Some, None, false}
+use Rattle.std.proofs.Common.{◌≡◌, ◌++◌, inl, inr, ℕ, List, Option, Some, None, false}
 use Rattle.rm_base.specs.Store.{Held}
 use Rattle.rm_base.specs.declared.block.Change.{Change}
 use Rattle.rm_apply.proofs.Agreeing.{restored-agrees}

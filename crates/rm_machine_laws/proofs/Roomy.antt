@@ -20,7 +20,7 @@ use Rattle.rm_lang_statement.specs.declared.command.BackupForm.{BackupForm}
 use Rattle.rm_lang_statement.specs.declared.command.ChangeTo.{ChangeTo}
 use Rattle.rm_lang_statement.specs.declared.command.ChangeTo.TheVariants.{Available, Keep, NoKeep, Unavailable, Uncatalog}
 use Rattle.rm_lang_statement.specs.declared.command.Command.{Command}
-use Rattle.rm_lang_statement.specs.declared.command.Command.TheVariants.{ArchiveLogCurrent, Backup, BackupLogs, ChangeBackup, CreateDatabase, CreateDatafile, Crosscheck, Cut, Damage, DeleteBackup, DeleteExpired, DeleteObsolete, LoseDatafile, LoseLog, Mount, OpenPlain, OpenResetlogs, Recover, Remove, Rename, ResetDatabase, Restore, SwitchLogfile, Write, Parallelism, Retention, RecoverCopy}
+use Rattle.rm_lang_statement.specs.declared.command.Command.TheVariants.{ArchiveLogCurrent, Backup, BackupLogs, ChangeBackup, CreateDatabase, CreateDatafile, Crosscheck, Cut, Damage, DeleteBackup, DeleteExpired, DeleteObsolete, LoseDatafile, LoseLog, Mount, OpenPlain, OpenResetlogs, Recover, Remove, Rename, ResetDatabase, Restore, SwitchLogfile, Tracking, Write, Parallelism, Retention, RecoverCopy}
 use Rattle.rm_lang_statement.specs.declared.command.Until.{Until}
 use Rattle.rm_lang_statement.specs.declared.command.RetentionForm.{RetentionForm}
 use Rattle.rm_lang_statement.specs.declared.command.WriteForm.{WriteForm}
@@ -48,6 +48,7 @@ use Rattle.rm_machine.specs.declared.state.State.{State}
 use Rattle.rm_machine.specs.State.{current_of, ledger, now_of, on_path, online}
 use Rattle.rm_machine.specs.Step.{IsDone, IsOutcome, refusal_of}
 use Rattle.rm_machine.specs.SwitchLogfile.{archive_refusal, archived, is_due, made_lines, none_lines, with_archived}
+use Rattle.rm_machine.specs.Tracking.{with_tracking}
 use Rattle.rm_machine.specs.Until.{or_else}
 use Rattle.rm_machine.specs.Upkeep.{changed_to, log_at, log_changed, piece_at, piece_changed, with_catalog, with_keep, with_status, with_statuses, without_all, without_record}
 use Rattle.rm_machine.specs.Write.{block_refusal, with_write, write_refusal}
@@ -231,7 +232,7 @@ pub obsolete-roomy : LeavesIds DeleteObsolete
 obsolete-roomy = draws-none DeleteObsolete asks-ids
     (λ s held lines e t does left. none-drawn s lines _ e _ (with_catalog s (without_all does.ids s.catalog)) t does.is (all-next does.ids s.catalog) left)
 
--- CONFIGURE
+-- CONFIGURE, ENABLE and DISABLE
 
 pub retention-roomy : (form : RetentionForm) → LeavesIds (Retention form)
 retention-roomy form = draws-none (Retention form) (λ s is. search rules)
@@ -240,6 +241,10 @@ retention-roomy form = draws-none (Retention form) (λ s is. search rules)
 pub parallelism-roomy : (channels : ℕ) → LeavesIds (Parallelism channels)
 parallelism-roomy channels = draws-none (Parallelism channels) (λ s is. search rules)
     (λ s held lines e t is left. none-drawn s lines _ e _ (with_catalog s (with_channels s.catalog channels)) t is refl left)
+
+pub tracking-roomy : (on : Bool) → LeavesIds (Tracking on)
+tracking-roomy on = draws-none (Tracking on) asks-ids
+    (λ s held lines e t is left. none-drawn s lines _ e _ (with_tracking s on) t is refl left)
 
 -- HOST: the state stays as it is
 
@@ -300,7 +305,7 @@ pub backup-roomy : (b : BackupForm) → LeavesIds (Backup b)
 backup-roomy b s held lines e t sound comes =
     let both = done-by (refusal_of s (Backup b)) s held (Backup b) lines e t comes in
     let does = both.1 in
-    let xs = copied (ledger s).base b (now_of s) does.jobs does.rows in
+    let xs = copied (ledger s) b (now_of s) does.jobs does.rows in
     let q : State = at_end s b does.events in
     let same : next q ≡ next s = ap (λ (x : BaseEntry). x.next_id) (base-at_end s b does.events) in
     let few = few-copied s b (now_of s) does.jobs does.rows in

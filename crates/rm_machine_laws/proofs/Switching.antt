@@ -1,5 +1,5 @@
 -- SWITCH LOGFILE leads on: a record is added with its artefact and its object.
-use Rattle.std.proofs.Common.{◌≡◌, ◌≢◌, ◌<◌, ◌≤◌, ◌+◌, ◌-◌, ◌∙◌, ◌++◌, ◌==◌, ◌||◌, ◌&&◌, nat_le, nat_lt, inl, inr, ℕ, List, [], ◌∷◌, Option, None, Bool, true, false, cond, refl, ap, sym, subst, arith, filter, rules}
+use Rattle.std.proofs.Common.{◌≡◌, ◌≢◌, ◌<◌, ◌≤◌, ◌+◌, ◌∙◌, ◌++◌, ◌==◌, ◌||◌, ◌&&◌, nat_le, nat_lt, inl, inr, ℕ, List, [], ◌∷◌, Option, None, Bool, true, false, cond, refl, ap, sym, subst, arith, filter, rules}
 use Rattle.std.proofs.lemmas.Bool.{and_left, and_right, cases_eq, cases_lt, le-ltb, lt-leb}
 use Rattle.rm_base.specs.Store.{Held}
 use Rattle.rm_base.specs.declared.block.Change.{Change}
@@ -106,7 +106,7 @@ module _ (s : State) (t : ℕ) (sound : IsSound s) (low : 0 < t) (high : t ≤ s
     ]
 
     keeps-after : HistoryFits q h
-    keeps-after = record { history = keeps.history; below = keeps.below; online = online-after; place = keeps.place; in_open = keeps.in_open; point = keeps.point }
+    keeps-after = record { history = keeps.history; below = keeps.below; online = online-after; place = keeps.place; tracker = keeps.tracker; in_open = keeps.in_open; point = keeps.point }
 
     made-after : IsTrueArtefact (world s) h (a_log log)
     made-after = record {

@@ -1,12 +1,13 @@
 -- Along the events of a BACKUP the database stays sound and fits its history, and what was read stays true.
-use Rattle.std.proofs.Common.{◌≤◌, ◌+◌, ◌-◌, ◌++◌, inl, inr, ℕ, List, [], ◌∷◌, sym, subst, arith, append_assoc, map, Contains}
+use Rattle.std.proofs.Common.{◌≤◌, ◌<◌, ◌++◌, inl, inr, ℕ, List, [], ◌∷◌, refl, sym, subst, arith, append_assoc, map, Contains}
 use Rattle.std.proofs.lemmas.List.{append-nil}
 use Rattle.rm_base.specs.Store.{Held}
 use Rattle.rm_base.specs.declared.block.Change.{Change}
 use Rattle.rm_base.specs.declared.block.Row.{Row}
 use Rattle.rm_base.proofs.Members.{first-or-rest, none-in}
 use Rattle.rm_channel.specs.Made.{deed}
-use Rattle.rm_history.specs.Agrees.{IsRow}
+use Rattle.rm_history.specs.Agrees.{IsBelow, IsRow}
+use Rattle.rm_history.specs.State.{state}
 use Rattle.rm_live.specs.declared.history.Answer.{Answer}
 use Rattle.rm_live.specs.declared.history.Call.{Call}
 use Rattle.rm_live.specs.declared.history.Event.{Event}
@@ -56,6 +57,14 @@ borne-events ws (e ∷ es) u h objects made touched can stands legal asked =
     let q : State = after_event u e.call e.answer in
     subst (λ k. IsBorneOut (after_events q es) k objects made touched) (append_assoc h (change_by u e.call e.answer) (changes_of q es))
     (borne-events ws es q (h ++ change_by u e.call e.answer) objects made touched (event-on u ws can e.call e.answer legal.0 asked.0) (borne-event u ws can e.call e.answer legal.0 asked.0 h objects made touched stands) (legal-on u ws can e es legal) asked.1)
+
+-- and a block that was below an SCN at a checkpoint was so
+pub below-events : (ws : List WriteForm) (es : List Event) (u : State) (h : List Change) (objects : Held) (made : List Made) (touched : List (List ℕ)) → CanGoOn u ws → IsBorneOut u h objects made touched → IsLegal (opening u) es → AreAsked ws es
+    → (f b checkpoint from : ℕ) → checkpoint ≤ now_of u → IsBelow (world u) h (current_of u) f checkpoint from b → IsBelow (world (after_events u es)) (h ++ changes_of u es) (current_of (after_events u es)) f checkpoint from b
+below-events ws es u h objects made touched can stands legal asked f b checkpoint from most low =
+    let r = state (world u) h (current_of u) low.position f b in
+    let is = row-events ws es u h objects made touched can stands legal asked f checkpoint r most (record { position = low.position; after = low.after; is = refl }) in
+    record { position = is.position; after = is.after; below = subst (λ (x : Row). x.version < from) (sym is.is) low.below }
 
 -- each row that a read found is true at the end
 pub true-events : (ws : List WriteForm) (es : List Event) (u : State) (h : List Change) (objects : Held) (made : List Made) (touched : List (List ℕ)) → CanGoOn u ws → IsBorneOut u h objects made touched → IsLegal (opening u) es → AreAsked ws es

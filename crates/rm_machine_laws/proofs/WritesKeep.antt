@@ -1,5 +1,5 @@
 -- What a WRITE keeps of the history: one SCN further, its change is the last one.
-use Rattle.std.proofs.Common.{◌≡◌, ◌≢◌, ◌<◌, ◌≤◌, ◌+◌, ◌-◌, ◌∙◌, ◌++◌, ◌==◌, nat_lt, inl, inr, ℕ, List, [], ◌∷◌, Some, true, false, refl, ap, sym, subst, arith}
+use Rattle.std.proofs.Common.{◌≡◌, ◌≢◌, ◌<◌, ◌≤◌, ◌+◌, ◌-◌, ◌∙◌, ◌++◌, ◌==◌, nat_lt, inl, inr, ℕ, suc, List, [], ◌∷◌, Some, true, false, refl, ap, sym, subst, arith}
 use Rattle.std.specs.Option.{option_map}
 use Rattle.std.proofs.lemmas.Bool.{and_parts, cases_eq, eqb-true, ltb-true}
 use Rattle.std.proofs.lemmas.List.{map_push}
@@ -30,6 +30,8 @@ use Rattle.rm_redo.specs.declared.online.LogRecord.{LogRecord}
 use Rattle.rm_redo.specs.LogFile.{changes_in, log_of}
 use Rattle.rm_redo.specs.Online.{record_of, thread_records, with_change}
 use Rattle.rm_redo.proofs.Logs.{first_of-with_change, inc-with_change, is_lost-with_change, thread_records-with_change, thread_records-with_change_other}
+use Rattle.rm_track.specs.Bitmaps.{mark_at}
+use Rattle.rm_track.proofs.Telling.{marked-told}
 use Rattle.rm_machine.specs.Effect.{Artefact, a_log, a_piece}
 use Rattle.rm_machine.specs.Machine.{ArtefactAgrees, EndsWithin, HistoryFits, IsTrueArtefact, PieceAgrees, RowsAre}
 use Rattle.rm_machine.specs.Sound.{IsSound}
@@ -37,6 +39,7 @@ use Rattle.rm_machine.specs.declared.state.State.{State}
 use Rattle.rm_machine.specs.State.{current_of, is_lost, now_of, online, placed, redo_end, world}
 use Rattle.rm_machine.specs.Write.{change_of, with_write}
 use Rattle.rm_machine_code.proofs.Further.{further, inc-now, now-further, redo-now}
+use Rattle.rm_machine_laws.proofs.Bitmaps.{tell-later}
 use Rattle.rm_machine_laws.proofs.Further.{below-redo, fits-further, owns-now, rows-further, same-further}
 use Rattle.rm_machine_laws.proofs.Grown.{true-on}
 use Rattle.rm_machine_laws.proofs.Opened.{rows-agree}
@@ -200,6 +203,7 @@ module _ (s : State) (w : WriteForm) (h : List Change) (sound : IsSound s) (keep
     below = All-push (λ d. d.scn < end_of risen.tree d.inc) h c wide.below (let next = end in omega (arith, next));
     online = λ t low high found. online-write t low high (sym (is_lost-with_change s.instance.logs c t) ∙ found);
     place = λ f x is. subst (λ y. BaseAgrees risen (h ++ c ∷ []) (base_of y)) (sym (counted-open q x a.on.opened)) (rows-agree risen (h ++ c ∷ []) i (now_of p) x (rows-write f x is));
+    tracker = tell-later i (h ++ c ∷ []) (suc now) (now_of q) (mark_at s.instance.tracker w.file w.block) (omega (arith, end)) (marked-told now h c s.instance.tracker (omega arith) keeps.tracker);
     in_open = λ still f x is. rows-write f x is;
     point = λ n is. let none = (sound.in_open a.on.opened).point in absurd (cc);
   }

@@ -6,3 +6,4 @@ pub mod Refused
 pub mod Saves
 pub mod Steps
 pub mod Stopped
+pub mod Wanted

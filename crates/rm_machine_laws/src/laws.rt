@@ -1,11 +1,13 @@
 //! What the machine does.
-ghost use Rattle.std.specs.Prelude.{ℕ, ◌≡◌, ◌≢◌, [], ◌<◌, ◌≤◌, ◌^◌, List, Option, Some, true};
+ghost use Rattle.std.specs.Prelude.{ℕ, ◌≡◌, ◌≢◌, ◌↔◌, [], ◌<◌, ◌≤◌, ◌^◌, Bool, Contains, List, Option, Some, true};
 ghost use Rattle.rm_base.specs.Numbers.{last_moment, last_scn};
 ghost use Rattle.rm_base.specs.Store.{Held};
 ghost use Rattle.rm_base.specs.declared.block.Change.{Change};
 ghost use Rattle.rm_base.specs.declared.kinds.Class.{Class};
 ghost use Rattle.rm_base.specs.declared.kinds.Policy.TheVariants.{Window};
+ghost use Rattle.rm_history.specs.State.{state};
 ghost use Rattle.rm_history.specs.Tree.{reset_of};
+ghost use Rattle.rm_history.specs.World.{blocks_of};
 ghost use Rattle.rm_retain.specs.Window.{window_start};
 ghost use Rattle.rm_report.specs.declared.line.Line.{Line};
 ghost use Rattle.rm_lang_statement.specs.declared.command.ChangeTo.{ChangeTo};
@@ -19,20 +21,27 @@ ghost use Rattle.rm_evidence.specs.Known.{known_of};
 ghost use Rattle.rm_history.specs.Evidence.{Agrees};
 ghost use Rattle.rm_history.specs.Unknown.{IsUnknown};
 ghost use Rattle.rm_apply.specs.declared.recovering.Recovered.{Recovered};
+ghost use Rattle.rm_track.specs.Bitmaps.{Tracked, tracked_at};
+ghost use Rattle.rm_track.specs.Told.{IsStartFor, starts};
+ghost use Rattle.rm_machine.specs.Asked.{blocks_read, candidates_in};
+ghost use Rattle.rm_machine.specs.Backup.{AreJobs};
+ghost use Rattle.rm_machine.specs.BackupOutcome.{begun};
 ghost use Rattle.rm_machine.specs.CreateDatabase.{fresh_machine};
 ghost use Rattle.rm_machine.specs.Effect.{Effect, LeavesObjects, Made, Outcome, done};
 ghost use Rattle.rm_machine.specs.Honest.{IsHonest};
 ghost use Rattle.rm_machine.specs.Laws.{IsMomentOf, LeadsOn, StaysSound, TellsOn, only_tells};
-ghost use Rattle.rm_machine.specs.Machine.{DigestsTell, DigestsTellFor, IsBorneOut, IsSoundMachine, Machine};
+ghost use Rattle.rm_machine.specs.Machine.{DigestsTell, DigestsTellFor, HistoryFits, IsBorneOut, IsSoundMachine, Machine};
 ghost use Rattle.rm_machine.specs.Nature.{nature_of};
 ghost use Rattle.rm_machine.specs.declared.nature.Nature.TheVariants.{Records};
 ghost use Rattle.rm_machine.specs.Obsolete.{AreObsoleteIn, start_by};
 ghost use Rattle.rm_machine.specs.Recovery.{IsAtHand, IsGapOutcome, IsToldOutcome};
 ghost use Rattle.rm_machine.specs.Sound.{IsSound};
 ghost use Rattle.rm_machine.specs.Step.{IsDone};
+ghost use Rattle.rm_machine.specs.declared.job.Job.{Job};
 ghost use Rattle.rm_machine.specs.declared.state.State.{State};
-ghost use Rattle.rm_machine.specs.State.{at_moment, current_of, ledger, tree, world};
-ghost use Rattle.rm_lang_statement.specs.declared.command.Command.TheVariants.{ArchiveLogCurrent, Backup, BackupLogs, CatalogName, ChangeBackup, CreateDatafile, Crosscheck, Cut, Damage, DeleteBackup, DeleteExpired, DeleteObsolete, LoseDatafile, LoseLog, Mount, OpenPlain, OpenResetlogs, Parallelism, Recover, RecoverCopy, RecoverTest, Remove, Rename, ResetDatabase, Restore, Retention, SwitchLogfile, Write};
+ghost use Rattle.rm_machine.specs.State.{at_moment, current_of, ledger, now_of, tree, world};
+ghost use Rattle.rm_machine_laws.specs.Wanted.{HasChangedSince};
+ghost use Rattle.rm_lang_statement.specs.declared.command.Command.TheVariants.{ArchiveLogCurrent, Backup, BackupLogs, CatalogName, ChangeBackup, CreateDatafile, Crosscheck, Cut, Damage, DeleteBackup, DeleteExpired, DeleteObsolete, LoseDatafile, LoseLog, Mount, OpenPlain, OpenResetlogs, Parallelism, Recover, RecoverCopy, RecoverTest, Remove, Rename, ResetDatabase, Restore, Retention, SwitchLogfile, Tracking, Write};
 
 /// There are sound machines: that of a new database is one.
 pub fn a_new_database_is_sound()
@@ -69,11 +78,27 @@ pub fn archiving_leads_on()
     ensures stays { StaysSound ArchiveLogCurrent }
 {}
 
-/// BACKUP of datafiles, likewise, also while the database writes: its pieces, level 1s among them, agree with the history, which has
-/// the writes. Each row of them is what the history made of its block at or after the checkpoint.
+/// BACKUP of datafiles, likewise, also while the database writes: its pieces, among them level 1s that were read by bitmaps, agree with
+/// the history, which has the writes. Each row of them is what the history made of its block at or after the checkpoint.
 pub fn a_backup_leads_on()
     ensures leads { (form : BackupForm) → LeadsOn (Backup form) }
     ensures stays { (form : BackupForm) → StaysSound (Backup form) }
+{}
+
+/// Where its bitmaps go back so far, a level 1 reads exactly the blocks with a change at or above the greatest kept start that is at
+/// most its parent's checkpoint, and below its own checkpoint.
+pub fn a_level_1_reads_what_changed()
+    ensures { (s : State) (h : List Change) (b : BackupForm) (jobs : List Job) (j : Job) (from low : ℕ) (t : Tracked) (marks : List Bool) → IsSound s → HistoryFits s h → AreJobs s b jobs → Contains jobs j → j.from ≡ Some from
+        → tracked_at (begun s b).instance.tracker j.file ≡ Some t → candidates_in (begun s b) j ≡ Some marks → IsStartFor (starts t) from low
+        → (k : ℕ) → k < blocks_of (world s) j.file → (Contains (blocks_read (begun s b) j) k ↔ HasChangedSince s h j.file low k) }
+{}
+
+/// A block that a level 1 does not read had a version below its parent's checkpoint when the backup began: so a level 1 has the rows of a
+/// read of all blocks in which those that it leaves out stand as they stood at its checkpoint.
+pub fn what_a_level_1_leaves_out_stood_below()
+    ensures { (s : State) (h : List Change) (b : BackupForm) (jobs : List Job) (j : Job) (from : ℕ) (t : Tracked) (marks : List Bool) → IsSound s → HistoryFits s h → AreJobs s b jobs → Contains jobs j → j.from ≡ Some from
+        → tracked_at (begun s b).instance.tracker j.file ≡ Some t → candidates_in (begun s b) j ≡ Some marks
+        → (k : ℕ) → k < blocks_of (world s) j.file → ¬ Contains (blocks_read (begun s b) j) k → (state (world s) h (current_of s) (now_of s) j.file k).version < from }
 {}
 
 /// BACKUP ARCHIVELOG ALL, likewise: a second object of a log agrees with the history as the log does.
@@ -177,6 +202,12 @@ pub fn settings_lead_on()
     ensures parallelism { (channels : ℕ) → LeadsOn (Parallelism channels) }
     ensures retention_stays { (form : RetentionForm) → StaysSound (Retention form) }
     ensures parallelism_stays { (channels : ℕ) → StaysSound (Parallelism channels) }
+{}
+
+/// ALTER DATABASE ENABLE and DISABLE BLOCK CHANGE TRACKING, likewise: from `now` on changes are tracked, or no longer.
+pub fn tracking_leads_on()
+    ensures leads { (on : Bool) → LeadsOn (Tracking on) }
+    ensures stays { (on : Bool) → StaysSound (Tracking on) }
 {}
 
 /// HOST LOSE DATAFILE, likewise: what stood in place is lost, and the rest stays as it is.

@@ -53,6 +53,7 @@ lost-fits l = record {
   };
   is_open = refl;
   point = refl;
+  tracker = refl;
 }
 
 fit-lost : (l : Ledger) (i : Instance) → i ≡ lost_instance l → IsFit l nothing i
@@ -81,4 +82,5 @@ loaded-by h s (Some site) p had told =
       logs = had.logs;
       is_open = had.is_open;
       point = told;
+      tracker = had.tracker;
     }

@@ -1,5 +1,5 @@
 -- Where all is lost, nothing is told.
-use Rattle.std.proofs.Common.{◌≡◌, ◌<◌, ◌≤◌, ◌-◌, ◌∙◌, ℕ, zero, suc, List, Option, Some, None, true, false, refl, ap, sym, arith, All, replicate, slice_get, slice_index_or}
+use Rattle.std.proofs.Common.{◌≡◌, ◌<◌, ◌≤◌, ◌-◌, ◌∙◌, ℕ, zero, suc, List, Option, Some, None, true, false, refl, ap, sym, subst, arith, All, replicate, slice_get, slice_index_or}
 use Rattle.std.specs.Option.{option_map, option_map_or}
 use Rattle.std.proofs.lemmas.Bool.{false≢true}
 use Rattle.std.proofs.lemmas.List.{get_or-replicate, length-replicate}
@@ -9,13 +9,15 @@ use Rattle.rm_blocks.specs.File.{File}
 use Rattle.rm_history.specs.History.{IsHistory}
 use Rattle.rm_history.specs.Tree.{end_of}
 use Rattle.rm_catalog_typed.specs.Ledger.{Ledger}
+use Rattle.rm_track.specs.Told.{Tell}
 use Rattle.rm_redo.specs.declared.log_file.LogFile.{LogFile}
 use Rattle.rm_redo.specs.Online.{thread_log}
 use Rattle.rm_machine.specs.declared.state.Instance.{Instance}
 use Rattle.rm_machine.specs.Loading.{lost_instance}
 use Rattle.rm_machine.specs.Machine.{HistoryFits}
 use Rattle.rm_machine.specs.declared.state.State.{State}
-use Rattle.rm_machine.specs.State.{ledger, tree, world, is_lost, placed}
+use Rattle.rm_machine.specs.State.{current_of, ledger, now_of, tree, world, is_lost, placed}
+use Rattle.rm_machine_code.proofs.FirstTold.{tell-none}
 
 -- an item of so many equal ones
 get-replicate : {X : Type 0} (n k : ℕ) (x : X) → k < n → slice_get (replicate n x) k ≡ Some x
@@ -60,6 +62,7 @@ module _ (s : State) (h : List Change) (history : IsHistory (world s) h) (below 
     below = below;
     online = λ t low high found. absurd (no-log t low high found);
     place = λ f x held. absurd (no-file f x held);
+    tracker = subst (Tell (current_of s) h (now_of s)) (ap (λ (y : Instance). y.tracker) (sym lost)) (tell-none (current_of s) h (now_of s));
     in_open = λ opened f x held. absurd (no-file f x held);
     point = λ at here. absurd (no-point at here);
   }

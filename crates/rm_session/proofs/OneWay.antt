@@ -13,6 +13,7 @@ use Rattle.rm_machine.specs.Loading.{AreLoadedLogs, IsHeadPoint, IsLoaded, IsLoa
 use Rattle.rm_machine.specs.Mount.{mount_point}
 use Rattle.rm_machine.specs.Saved.{IsGoodFile, IsGoodLog}
 use Rattle.rm_machine.specs.Sound.{StandsAt}
+use Rattle.rm_machine.specs.Tracked.{first_tracker}
 use Rattle.rm_machine.specs.declared.state.Instance.{Instance}
 use Rattle.rm_machine.specs.declared.state.State.{State}
 use Rattle.rm_session.proofs.Goods.{file-one, log-one}
@@ -76,6 +77,9 @@ module _ (held : Held) (c : TypedCatalog) (site : Saved) where
     mode-same : a.is_open ≡ b.is_open
     mode-same = first.is_open ∙ ap (λ (x : Logs). site.head.opened && not (has_lost x)) both-logs ∙ sym second.is_open
 
+    tracker-same : a.tracker ≡ b.tracker
+    tracker-same = first.tracker ∙ ap (λ (opened : Bool). first_tracker opened c.ledger) mode-same ∙ sym second.tracker
+
     -- the point of a site that was open, and of one that was mounted
     point-by : (opened : Bool) → IsLoadedPoint (running c a) site.head opened a.is_open → IsLoadedPoint (running c b) site.head opened b.is_open → a.point ≡ b.point
     point-by true here there =
@@ -84,7 +88,7 @@ module _ (held : Held) (c : TypedCatalog) (site : Saved) where
         the-one (IsHeadPoint (running c a) site.head) a.point b.point (λ x y one two. sym one.scn ∙ two.scn) here (point-moves c site.head a b place-same b.point there)
 
     pub site-same : a ≡ b
-    site-same = λ i. record { is_open = mode-same i; point = point-by site.head.opened first.point second.point i; place = place-same i; logs = both-logs i }
+    site-same = λ i. record { is_open = mode-same i; point = point-by site.head.opened first.point second.point i; place = place-same i; logs = both-logs i; tracker = tracker-same i }
 
 one-by : (held : Held) (c : TypedCatalog) (a b : Instance) (o : Option Saved) → IsLoadedBy held (running c a) o → IsLoadedBy held (running c b) o → a ≡ b
 one-by held c a b None first second = first ∙ sym second

@@ -65,4 +65,5 @@ loaded m s r sound is none ids saved =
       logs = loaded-logs s m.history borne.state borne.keeps r.objects have;
       is_open = opened-is s borne.state;
       point = point-is s borne.state s.instance.is_open refl;
+      tracker = refl;
     }

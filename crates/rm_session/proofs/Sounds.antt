@@ -12,6 +12,7 @@ use Rattle.rm_machine.specs.Sound.{AreOnline, ArePlaced, IsOnline, IsOpen, IsPla
 use Rattle.rm_machine.specs.declared.state.State.{State}
 use Rattle.rm_machine.specs.State.{counted, is_lost, ledger, online, tree}
 use Rattle.rm_machine_code.proofs.Places.{counted-closed, counted-open}
+use Rattle.rm_machine_code.proofs.Tracked.{tracked-fresh}
 use Rattle.rm_piece.proofs.Whole.{full}
 use Rattle.rm_redo.specs.Logs.{Logs}
 use Rattle.rm_redo.specs.Online.{thread_log}
@@ -121,6 +122,7 @@ module _ (s : State) (site : Saved) (rules : IsTypedCatalog s.catalog) (fit : Is
     dbid = dbid;
     place = are-placed;
     logs = are-online;
+    tracker = tracked-fresh s rules fit.tracker;
     in_open = is-open;
     point = λ at is. absurd (none-some at (sym fit.point ∙ is));
   }

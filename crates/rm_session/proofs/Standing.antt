@@ -2,7 +2,7 @@
 use Rattle.std.proofs.Common.{◌≡◌, ◌<◌, ◌+◌, ◌∙◌, inl, inr, ℕ, List, Option, Some, None, true, false, is_none, refl, sym, ap, subst, arith, get_or, slice_get}
 use Rattle.std.proofs.lemmas.Bool.{cases_lt, false≢true}
 use Rattle.std.proofs.lemmas.List.Elements.{Contains-get_or}
-use Rattle.std.proofs.lemmas.Option.{same_Some}
+use Rattle.std.proofs.lemmas.Option.{none-some, same_Some}
 use Rattle.rm_base.proofs.Conditions.{given-where}
 use Rattle.rm_base.proofs.Slots.{get-index}
 use Rattle.rm_blocks.specs.File.{File}
@@ -16,6 +16,7 @@ use Rattle.rm_machine.specs.declared.state.State.{State}
 use Rattle.rm_machine.specs.State.{current_of, ledger, now_of, tree, world}
 use Rattle.rm_machine_code.proofs.Mounting.{none-lost}
 use Rattle.rm_machine_code.proofs.Places.{counted-closed}
+use Rattle.rm_machine_code.proofs.Tracked.{tracked-same}
 use Rattle.rm_session.specs.Fit.{IsStanding, StandNow, with_point}
 
 -- what stands at a place, and the other way round
@@ -40,17 +41,22 @@ stand-more s i at m d file here before k e inside is there = elim (cases_lt k m)
       subst (StandsAt s.instance.place i at) (sym last) (here (subst (λ x. exists (world s) i at x ≡ true) same there))
 ]
 
--- the point of a mounted database changes nothing else
+-- a point changes nothing else; an open database has none
 module _ (s : State) (p : Option ℕ) where
-  pub sound-with : IsSound s → s.instance.is_open ≡ false → ((at : ℕ) → p ≡ Some at → IsPoint s at) → IsSound (with_point s p)
-  sound-with sound closed points = record {
+  pub sound-with : IsSound s → (s.instance.is_open ≡ true → p ≡ None) → ((at : ℕ) → p ≡ Some at → IsPoint s at) → IsSound (with_point s p)
+  sound-with sound none points = record {
     catalog = sound.catalog;
     dbid = sound.dbid;
     place = record { many = sound.place.many; each = sound.place.each };
     logs = record { dbid = sound.logs.dbid; there = sound.logs.there; threads = sound.logs.threads; each = sound.logs.each };
-    in_open = λ opened. absurd (false≢true (sym closed ∙ opened));
+    tracker = tracked-same s (with_point s p) sound.tracker;
+    in_open = λ opened. let is = sound.in_open opened in record { inc = is.inc; found = is.found; point = none opened };
     point = λ at is. let it = points at is in record { low = it.low; high = it.high; stands = it.stands };
   }
+
+-- without a point
+pub sound-without : (s : State) → IsSound s → IsSound (with_point s None)
+sound-without s sound = sound-with s None sound (λ opened. refl) (λ at is. absurd (none-some at is))
 
 is-none : {X : Type 0} (o : Option X) → is_none o ≡ true → o ≡ None
 is-none None is = refl
@@ -82,4 +88,4 @@ module _ (s : State) (sound : IsSound s) (closed : s.instance.is_open ≡ false)
       subst (IsPoint s) (same_Some (now_of s) at both.1) (record { low = range; high = omega arith; stands = λ k d file here. stands-there k d none file here })
 
   pub sound-mounted : IsSound (with_point s (mount_point s))
-  sound-mounted = sound-with s (mount_point s) sound closed points-mounted
+  sound-mounted = sound-with s (mount_point s) sound (λ opened. absurd (false≢true (sym closed ∙ opened))) points-mounted

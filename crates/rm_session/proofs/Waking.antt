@@ -16,6 +16,7 @@ use Rattle.rm_history.specs.Tree.{end_of}
 use Rattle.rm_history.specs.World.{exists}
 use Rattle.rm_history.proofs.Highs.{high-above}
 use Rattle.rm_catalog_typed.proofs.Lookups.{item-at}
+use Rattle.rm_track.specs.Told.{Tell}
 use Rattle.rm_piece.specs.declared.piece.Piece.{Piece}
 use Rattle.rm_redo.specs.LogFile.{log_of}
 use Rattle.rm_catalog_typed.specs.TypedCatalog.{Saved}
@@ -27,6 +28,7 @@ use Rattle.rm_machine.specs.Saved.{IsGoodFile, IsGoodLog}
 use Rattle.rm_machine.specs.Sound.{IsSound}
 use Rattle.rm_machine.specs.declared.state.State.{State}
 use Rattle.rm_machine.specs.State.{counted, current_of, is_lost, ledger, now_of, online, world}
+use Rattle.rm_machine_code.proofs.FirstTold.{tell-first}
 use Rattle.rm_machine_code.proofs.Places.{counted-closed, counted-open}
 use Rattle.rm_session.proofs.GoodParts.{file-agrees, log-agrees}
 use Rattle.rm_session.proofs.Lost.{lost-fits}
@@ -114,6 +116,7 @@ module _ (s : State) (h : List Change) (objects : Held) (made : List Made) (touc
       below = borne.below;
       online = log-is;
       place = λ f x here. subst (λ y. BaseAgrees (world s) h (base_of y)) (sym (counted-same (f - 1) x here)) (agrees (f - 1) x here);
+      tracker = subst (Tell (current_of s) h (now_of s)) (sym loaded.tracker) (tell-first (ledger s) s.instance.is_open h borne.below);
       in_open = λ is f x here. open-rows is (f - 1) x here;
       point = point-rows;
     }

@@ -10,6 +10,7 @@ use Rattle.rm_machine.specs.Loading.{AreLoadedLogs, IsLoadedFile, IsLoadedPoint,
 use Rattle.rm_machine.specs.Saved.{FitsInPlace, FitsOnline, HasPart, IsGoodLog}
 use Rattle.rm_machine.specs.Sound.{StandsAt}
 use Rattle.rm_machine.specs.State.{current_of, ledger, now_of, world}
+use Rattle.rm_machine.specs.Tracked.{first_tracker}
 use Rattle.rm_machine.specs.declared.state.Instance.{Instance}
 use Rattle.rm_machine.specs.declared.state.State.{State}
 use Rattle.rm_evidence.specs.Objects.{HasDigest}
@@ -99,6 +100,7 @@ pub record IsFit (l : Ledger) (site : Saved) (i : Instance) : Type 0 where
   pub logs : AreFitLogs l site.head.opened i.logs
   pub is_open : i.is_open ≡ (site.head.opened && not (has_lost i.logs))
   pub point : i.point ≡ None
+  pub tracker : i.tracker ≡ first_tracker i.is_open l
 
 -- and what is loaded of it where the store has these objects
 pub record IsHad (held : Held) (l : Ledger) (site : Saved) (i : Instance) : Type 0 where
@@ -106,6 +108,7 @@ pub record IsHad (held : Held) (l : Ledger) (site : Saved) (i : Instance) : Type
   pub place : AllAt (IsLoadedAt held l site) i.place
   pub logs : AreLoadedLogs held l site i.logs
   pub is_open : i.is_open ≡ (site.head.opened && not (has_lost i.logs))
+  pub tracker : i.tracker ≡ first_tracker i.is_open l
 
 -- by the catalog: without a saved site all is lost
 abbrev pub IsFitBy : Ledger → Option Saved → Instance → Type 0

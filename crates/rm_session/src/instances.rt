@@ -1,7 +1,7 @@
 //! What runs, as it is loaded, its point left aside.
-ghost use Rattle.std.specs.Prelude.{◌≡◌, ◌≤◌, None, IfOk, IfSome, IsErrOf, replicate};
+ghost use Rattle.std.specs.Prelude.{◌≡◌, ◌≤◌, ◌&&◌, None, IfOk, IfSome, IsErrOf, not, replicate};
 ghost use Rattle.rm_base.specs.Outside.{Rose};
-ghost use Rattle.rm_machine.specs.Loading.{lost_instance};
+ghost use Rattle.rm_machine.specs.Loading.{has_lost, lost_instance};
 ghost use Rattle.rm_catalog_typed.specs.Facts.{IsTypedCatalog};
 ghost use Rattle.rm_session.specs.Fit.{IsFit, IsHad};
 
@@ -12,7 +12,9 @@ use rm_base::{NoMemory, Seq, Store};
 use rm_catalog_typed::{Saved, TypedCatalog};
 use rm_machine::Instance;
 use rm_machine_code::facts::has_lost;
+use rm_machine_code::tracking::first_tracker;
 use rm_redo::OnlineLogs;
+use rm_track::Tracker;
 use std::alloc::Global;
 
 // So many that are lost.
@@ -40,7 +42,15 @@ pub(crate) fn lost_instance(alloc: Global, catalog: &TypedCatalog) -> Result<Ins
         point: None,
         place,
         logs,
+        tracker: Tracker::new(alloc),
     })
+}
+
+// Whether the database of a saved site is open with these logs: it was, and none of them is lost.
+fn stays_open(site: &Saved, logs: &OnlineLogs) -> bool
+    ensures { result ≡ (site.now.head.opened && not (has_lost logs.now)) }
+{
+    site.head().opened && !has_lost(logs)
 }
 
 /// What runs, as it is loaded of a saved site, without a point. An error is a fault of the store, which is counted, or want
@@ -61,11 +71,13 @@ pub(crate) fn load_instance<D: Store>(
     let place = load_files(alloc, store, catalog, site)?;
     let parts = load_logs(alloc, store, catalog, site)?;
     let logs = online_of(alloc, catalog, parts)?;
-    let is_open = site.head().opened && !has_lost(&logs);
+    let is_open = stays_open(site, &logs);
+    let tracker = first_tracker(alloc, catalog, is_open)?;
     Ok(Instance {
         is_open,
         point: None,
         place,
         logs,
+        tracker,
     })
 }

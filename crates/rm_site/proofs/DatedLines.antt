@@ -5,7 +5,7 @@ use Rattle.std.proofs.lemmas.List.Elements.{All-append, All-cons, All-nil}
 use Rattle.rm_base.specs.Store.{Held}
 use Rattle.rm_lang_statement.specs.declared.command.BackupForm.{BackupForm}
 use Rattle.rm_lang_statement.specs.declared.command.Command.{Command}
-use Rattle.rm_lang_statement.specs.declared.command.Command.TheVariants.{ArchiveLogCurrent, Backup, BackupLogs, CatalogName, ChangeBackup, CreateDatabase, CreateDatafile, Crosscheck, Cut, Damage, DeleteBackup, DeleteExpired, DeleteObsolete, Dump, ListArchived, ListBackup, ListCopy, ListIncarnation, LoseDatafile, LoseLog, Mount, OpenPlain, OpenResetlogs, Parallelism, Preview, Recover, RecoverCopy, RecoverTest, Remove, Rename, ReportNeedBackup, ReportObsolete, ReportSchema, ResetDatabase, Restore, Retention, ShowAll, SwitchLogfile, ValidateAll, Write}
+use Rattle.rm_lang_statement.specs.declared.command.Command.TheVariants.{ArchiveLogCurrent, Backup, BackupLogs, CatalogName, ChangeBackup, CreateDatabase, CreateDatafile, Crosscheck, Cut, Damage, DeleteBackup, DeleteExpired, DeleteObsolete, Dump, ListArchived, ListBackup, ListCopy, ListIncarnation, LoseDatafile, LoseLog, Mount, OpenPlain, OpenResetlogs, Parallelism, Preview, Recover, RecoverCopy, RecoverTest, Remove, Rename, ReportNeedBackup, ReportObsolete, ReportSchema, ResetDatabase, Restore, Retention, ShowAll, SwitchLogfile, Tracking, ValidateAll, Write}
 use Rattle.rm_history.specs.declared.tree.Incarnation.{Incarnation}
 use Rattle.rm_report.specs.Reply.{HasDate, IsPlain}
 use Rattle.rm_report.specs.declared.line.Line.{Line}
@@ -113,7 +113,7 @@ every-dated (Write w) s objects o change is = by o _ is (one-dated _ tt)
 every-dated (SwitchLogfile t) s objects o change is = by o _ is (if-by (is_due s t) (done (made_lines s t) (archived (ledger s).base.next_id (online s t)) (with_archived s t)) (done (none_lines t) no_effect s) (one-dated _ tt) (one-dated _ tt))
 every-dated ArchiveLogCurrent s objects o change is = by o _ is (archived-dated true s 1 (ledger s).base.threads)
 every-dated (Backup b) s objects o change is = by o _ is.is
-    (join-dated _ (write_lines 1 is.scns) (nothing-dated _ (pieces-dated (at_end s b is.events) b is.tag (copied (ledger s).base b (now_of s) is.jobs is.rows))) (writes-dated 1 is.scns))
+    (join-dated _ (write_lines 1 is.scns) (nothing-dated _ (pieces-dated (at_end s b is.events) b is.tag (copied (ledger s) b (now_of s) is.jobs is.rows))) (writes-dated 1 is.scns))
 every-dated BackupLogs s objects o change is = absurd (cc)
 every-dated Mount s objects o change is = by o _ is (one-dated _ tt)
 every-dated OpenPlain s objects o change is = by o _ is (one-dated _ tt)
@@ -141,6 +141,7 @@ every-dated DeleteObsolete s objects o change is = absurd (cc)
 every-dated (DeleteExpired class) s objects o change is = by o _ is.is (join-dated _ _ (deleted-dated is.ids) (one-dated _ tt))
 every-dated (Retention form) s objects o change is = by o _ is (one-dated _ tt)
 every-dated (Parallelism channels) s objects o change is = by o _ is (one-dated _ tt)
+every-dated (Tracking on) s objects o change is = by o _ is (one-dated _ tt)
 every-dated (CatalogName name) s objects o change is = absurd (cc)
 every-dated (LoseDatafile file) s objects o change is = by o _ is (one-dated _ tt)
 every-dated (LoseLog thread) s objects o change is = by o _ is (one-dated _ tt)
@@ -148,7 +149,6 @@ every-dated (Remove name) s objects o change is = absurd (cc)
 every-dated (Damage name at) s objects o change is = absurd (cc)
 every-dated (Cut name to) s objects o change is = absurd (cc)
 every-dated (Rename old new) s objects o change is = absurd (cc)
-every-dated c s objects o change is = absurd is
 
 -- what a change says
 pub change-dated : (c : Command) (s : State) (objects : Held) (lines : List Line) (e : Effect) (t : State) → nature_of c ≡ Changes → IsDone s objects c (done lines e t) → All IsPlain lines

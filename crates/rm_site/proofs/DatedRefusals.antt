@@ -5,7 +5,7 @@ use Rattle.std.specs.Option.{option_map, option_map_or}
 use Rattle.rm_base.specs.declared.refusal.Refusal.{Refusal}
 use Rattle.rm_lang_statement.specs.declared.command.BackupForm.{BackupForm}
 use Rattle.rm_lang_statement.specs.declared.command.Command.{Command}
-use Rattle.rm_lang_statement.specs.declared.command.Command.TheVariants.{ArchiveLogCurrent, Backup, BackupLogs, ChangeBackup, CreateDatabase, CreateDatafile, Crosscheck, Cut, Damage, DeleteBackup, DeleteExpired, DeleteObsolete, Dump, LoseDatafile, LoseLog, Mount, OpenPlain, OpenResetlogs, Parallelism, Preview, Recover, RecoverCopy, RecoverTest, Remove, Rename, ResetDatabase, Restore, Retention, SwitchLogfile, Write}
+use Rattle.rm_lang_statement.specs.declared.command.Command.TheVariants.{ArchiveLogCurrent, Backup, BackupLogs, ChangeBackup, CreateDatabase, CreateDatafile, Crosscheck, Cut, Damage, DeleteBackup, DeleteExpired, DeleteObsolete, Dump, LoseDatafile, LoseLog, Mount, OpenPlain, OpenResetlogs, Parallelism, Preview, Recover, RecoverCopy, RecoverTest, Remove, Rename, ResetDatabase, Restore, Retention, SwitchLogfile, Tracking, Write}
 use Rattle.rm_lang_statement.specs.declared.command.RetentionForm.{RetentionForm}
 use Rattle.rm_lang_statement.specs.declared.command.RetentionForm.TheVariants as form
 use Rattle.rm_lang_statement.specs.declared.command.Until.{Until}
@@ -211,6 +211,7 @@ every-refusal-dated s sound (DeleteExpired class) = ids-dated s
 every-refusal-dated s sound DeleteObsolete = ids-dated s
 every-refusal-dated s sound (Retention form) = retention-dated s form
 every-refusal-dated s sound (Parallelism channels) = parallelism-dated s channels
+every-refusal-dated s sound (Tracking on) = ids-dated s
 every-refusal-dated s sound (LoseDatafile f) = lose-dated s f
 every-refusal-dated s sound (LoseLog t) = lose_log-dated s t
 every-refusal-dated s sound (Remove name) = ids-dated s

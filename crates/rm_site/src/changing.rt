@@ -65,6 +65,7 @@ pub(crate) fn change<R: Threads + Wait + Sync, G: Gate>(
         Command::Parallelism { channels } => rm_step_upkeep::configure_parallelism(
             alloc, state, edits, *channels,
         ),
+        Command::Tracking { on } => rm_step_upkeep::track_changes(alloc, state, edits, *on),
         Command::LoseDatafile { file } => rm_step_host::lose_datafile(alloc, state, *file),
         Command::LoseLog { thread } => rm_step_host::lose_log(alloc, state, *thread),
         _ => unreachable!(),

@@ -15,6 +15,7 @@ use rm_lang_statement::Command;
 use rm_machine::{Instance, State};
 use rm_redo::OnlineLogs;
 use rm_report::Line;
+use rm_track::Tracker;
 use std::alloc::Global;
 
 // Why CREATE DATABASE is refused where there is no database: it wants more than 4 redo threads.
@@ -60,6 +61,7 @@ pub(crate) fn new_database(
             point: None,
             place: Seq::new(alloc),
             logs: OnlineLogs::new(alloc, dbid, 1, threads, scn)?,
+            tracker: Tracker::new(alloc),
         },
     })
 }

@@ -1,12 +1,10 @@
 -- A BACKUP that was done comes to what the machine says.
-use Rattle.std.proofs.Common.{◌≡◌, ◌<◌, ◌≤◌, ◌∙◌, ◌++◌, ℕ, zero, suc, List, [], ◌∷◌, Option, None, Ok, refl, ap, sym, subst, arith, length, map, All, Contains}
+use Rattle.std.proofs.Common.{◌≡◌, ◌<◌, ◌≤◌, ◌∙◌, ◌++◌, ℕ, zero, suc, List, [], ◌∷◌, Option, None, Ok, refl, ap, sym, subst, arith, length, map, Contains}
 use Rattle.std.specs.Global.{Global}
 use Rattle.std.specs.Prelude.{Vec}
 use Rattle.std.proofs.lemmas.List.{length-map}
-use Rattle.std.proofs.lemmas.List.Elements.{All-weaker}
 use Rattle.rm_base.specs.Store.{Held}
 use Rattle.rm_base.specs.declared.block.Row.{Row}
-use Rattle.rm_catalog.specs.declared.record.BaseEntry.{BaseEntry}
 use Rattle.rm_catalog.specs.Objects.{IsTag}
 use Rattle.rm_base.proofs.Members.{in-front}
 use Rattle.rm_channel.specs.Jobs.{AreRows, Span, deeds_of, lists, whole}
@@ -14,7 +12,6 @@ use Rattle.rm_channel.specs.Made.{AreThese, deed}
 use Rattle.rm_channel.specs.declared.jobs.CopyJob.{CopyJob}
 use Rattle.rm_channel.specs.declared.jobs.Work.{Work}
 use Rattle.rm_channel.specs.declared.jobs.WriteJob.{WriteJob}
-use Rattle.rm_live.specs.History.{IsLegal}
 use Rattle.rm_live.specs.Ruled.{total}
 use Rattle.rm_report.specs.declared.line.Line.{Line}
 use Rattle.rm_lang_statement.specs.declared.command.BackupForm.{BackupForm}
@@ -22,9 +19,8 @@ use Rattle.rm_lang_statement.specs.declared.command.Command.TheVariants.{Backup}
 use Rattle.rm_lang_statement.specs.declared.command.WriteForm.{WriteForm}
 use Rattle.rm_machine.specs.Asked.{lists_from, span_of, writers_of, writes_in}
 use Rattle.rm_machine.specs.Backup.{AreJobs, IsTagBy, named_tag, or_nothing}
-use Rattle.rm_machine.specs.BackupOutcome.{at_end, effect_of, marked, write_lines}
+use Rattle.rm_machine.specs.BackupOutcome.{at_end, begun, effect_of, write_lines}
 use Rattle.rm_machine.specs.Effect.{done}
-use Rattle.rm_machine.specs.Events.{opening}
 use Rattle.rm_machine.specs.Hands.{Hands}
 use Rattle.rm_machine.specs.MadePieces.{CanRecord, Copied, after_pieces, copied, piece_lines, pieces_put}
 use Rattle.rm_machine.specs.Sound.{IsSound}
@@ -34,17 +30,13 @@ use Rattle.rm_machine.specs.declared.handed.Handed.{Handed}
 use Rattle.rm_machine.specs.declared.job.Job.{Job}
 use Rattle.rm_machine.specs.declared.state.State.{State}
 use Rattle.rm_machine.specs.State.{ledger, now_of}
-use Rattle.rm_machine_code.proofs.Backups.{IsTaken}
-use Rattle.rm_machine_code.proofs.BackingUp.{base-at_end, can-record, during-marks, end-sound}
+use Rattle.rm_machine_code.proofs.BackingUp.{can-record, copied-at_end, during-marks, end-sound, sound-begun}
 use Rattle.rm_machine_code.proofs.BackupAccepted.{CanBackUp, can-back_up}
-use Rattle.rm_machine_code.proofs.BackupMarks.{marked-same, sound-marked}
+use Rattle.rm_machine_code.proofs.BackupMarks.{marked-same}
 use Rattle.rm_step_backup.specs.Running.{CanFollow, HasRunLive}
-use Rattle.rm_step_backup.proofs.Room.{few-writers, jobs-taken}
+use Rattle.rm_step_backup.proofs.Room.{few-writers}
 
 -- Before the first event
-
-pub jobs-some : (s : State) (b : BackupForm) (jobs : List Job) → IsSound s → CanBackUp s b → AreJobs s b jobs → All (λ (j : Job). 0 < j.file) jobs
-jobs-some s b jobs sound can are = All-weaker (λ (j : Job). IsTaken s j.file) (λ (j : Job). 0 < j.file) (λ j is. is.some) jobs (jobs-taken s b jobs sound can are)
 
 -- without a write no list has one
 no-writes : (t n : ℕ) → total length (lists_from t n []) ≡ 0
@@ -55,23 +47,23 @@ first-write : (ws : List WriteForm) (n : ℕ) → 0 < total length (lists_from 1
 first-write [] n some = let none = no-writes 1 n in absurd (omega (arith, some, none))
 first-write (w ∷ ws) n some = (w, in-front w ws)
 
-pub can-follow : (s : State) (b : BackupForm) → CanBackUp s b → CanFollow (marked s b) (writers_of s b)
+pub can-follow : (s : State) (b : BackupForm) → CanBackUp s b → CanFollow (begun s b) (writers_of s b)
 can-follow s b can = record {
   opened = marked-same (λ (q : State). q.instance.is_open) s b refl ∙ can.opened;
   marked = λ some. let it = first-write (writes_in b) (ledger s).base.threads some in during-marks s b.during it.0 it.1;
 }
 
-pub marked-sound : (s : State) (b : BackupForm) → IsSound s → CanBackUp s b → IsSound (marked s b)
-marked-sound s b sound can = sound-marked s b (omega (arith, can.records)) sound
+pub begun-sound : (s : State) (b : BackupForm) → IsSound s → CanBackUp s b → IsSound (begun s b)
+begun-sound s b sound can = sound-begun s b (omega (arith, can.records)) sound
 
 -- the copies of these jobs are made, and the writes of the DURING
 abbrev pub HasWorked : State → BackupForm → List Job → State → Work → Type 0
-HasWorked s b jobs t w = (copies : List CopyJob) × (map whole copies ≡ map (span_of s) jobs) × HasRunLive (marked s b) copies (writers_of s b) t w
+HasWorked s b jobs t w = (copies : List CopyJob) × (map whole copies ≡ map (span_of (begun s b)) jobs) × HasRunLive (begun s b) copies (writers_of s b) t w
 
 -- Behind the last event
 module _ (s : State) (b : BackupForm) (sound : IsSound s) (well : IsStatement (Backup b)) (accepted : refusal_of s (Backup b) ≡ None) (tag : List ℕ) (by : IsTagBy (named_tag b) (ledger s).base.moment tag)
     (jobs : List Job) (are : AreJobs s b jobs) (t : State) (w : Work) (worked : HasWorked s b jobs t w) where
-  abbrev ran : HasRunLive (marked s b) worked.0 (writers_of s b) t w
+  abbrev ran : HasRunLive (begun s b) worked.0 (writers_of s b) t w
   ran = worked.2
 
   can : CanBackUp s b
@@ -83,30 +75,28 @@ module _ (s : State) (b : BackupForm) (sound : IsSound s) (well : IsStatement (B
   abbrev rows : List (List Row)
   rows = lists w.rows.items
 
-  whole-rows : AreRows rows (map (span_of s) jobs)
+  whole-rows : AreRows rows (map (span_of (begun s b)) jobs)
   whole-rows = subst (AreRows rows) worked.1 ran.rows
 
-  legal : IsLegal (opening s) ran.events
-  legal = subst (λ p. IsLegal p ran.events) (marked-same opening s b refl) ran.legal
-
-  these : AreThese (deeds_of (map (span_of s) jobs) rows 1 (writers_of s b) (map (map Ok) (lists w.scns.items))) (map deed ran.events)
+  these : AreThese (deeds_of (map (span_of (begun s b)) jobs) rows 1 (writers_of s b) (map (map Ok) (lists w.scns.items))) (map deed ran.events)
   these = coe 0 1 (i. AreThese (deeds_of (worked.1 i) rows 1 (writers_of s b) (map (map Ok) (lists w.scns.items))) (map deed ran.events)) ran.these
 
-  same-base : (ledger t).base ≡ (ledger s).base
-  same-base = ap (λ (q : State). (ledger q).base) ran.state ∙ base-at_end s b ran.events
-
   pub ran-sound : IsSound t
-  ran-sound = subst IsSound (sym ran.state) (end-sound s b well.1 sound can tag tagged jobs are rows whole-rows (lists w.scns.items) ran.events legal these)
+  ran-sound = subst IsSound (sym ran.state) (end-sound s b well.1 sound can tag tagged jobs are rows whole-rows (lists w.scns.items) ran.events ran.legal these)
 
   pub rows-many : length w.rows.items ≡ length jobs
   rows-many =
       sym (length-map w.rows.items (λ v. v.items)) ∙ sym (length-map rows length)
-      ∙ ap (λ (ns : List ℕ). length ns) whole-rows ∙ length-map (map (span_of s) jobs) (λ (p : Span). length p.blocks) ∙ length-map jobs (span_of s)
+      ∙ ap (λ (ns : List ℕ). length ns) whole-rows ∙ length-map (map (span_of (begun s b)) jobs) (λ (p : Span). length p.blocks) ∙ length-map jobs (span_of (begun s b))
 
-  pub ran-record : CanRecord t b tag (copied (ledger t).base b (now_of s) jobs rows)
+  -- the pieces are those of the records at the start
+  same-pieces : copied (ledger t) b (now_of s) jobs rows ≡ copied (ledger s) b (now_of s) jobs rows
+  same-pieces = ap (λ (q : State). copied (ledger q) b (now_of s) jobs rows) ran.state ∙ copied-at_end s b ran.events (now_of s) jobs rows
+
+  pub ran-record : CanRecord t b tag (copied (ledger t) b (now_of s) jobs rows)
   ran-record =
-      coe 1 0 (i. CanRecord (ran.state i) b tag (copied (same-base i) b (now_of s) jobs rows))
-      (can-record s b well.1 sound can tag tagged jobs are rows whole-rows (lists w.scns.items) ran.events legal these)
+      coe 1 0 (i. CanRecord (ran.state i) b tag (same-pieces i))
+      (can-record s b well.1 sound can tag tagged jobs are rows whole-rows (lists w.scns.items) ran.events ran.legal these)
 
   pub few-told : (told : List (Vec ℕ Global)) → told ≡ w.scns.items → length told ≤ 4
   few-told told same =
@@ -116,15 +106,15 @@ module _ (s : State) (b : BackupForm) (sound : IsSound s) (well : IsStatement (B
       omega (arith, length-map w.scns.items (λ v. v.items), long, each, alike, (few-writers s b sound).1, ap (λ (vs : List (Vec ℕ Global)). length vs) same)
 
   -- it comes to what the machine says
-  pub hands : (ys : List Copied) → ys ≡ copied (ledger t).base b (now_of s) jobs rows → (q : State) (x : Handed) (lines said : List Line) → q ≡ after_pieces t b tag ys → x.lines ≡ piece_lines t b tag ys → x.objects ≡ pieces_put t b tag ys → x.removes ≡ []
-      → lines ≡ or_nothing x.lines → said ≡ lines ++ write_lines 1 (lists w.scns.items) → (held : Option Held) → Hands held s (Backup b) (record x { lines = said }) q
-  hands ys same q x lines said state told put gone none all held =
-      let xs : List Copied = copied (ledger s).base b (now_of s) jobs rows in
+  pub hands : (ys : List Copied) → ys ≡ copied (ledger t) b (now_of s) jobs rows → (q : State) (x : Handed) (lines said : List Line) → q ≡ after_pieces t b tag ys → x.lines ≡ piece_lines t b tag ys → x.objects ≡ pieces_put t b tag ys → x.removes ≡ []
+      → lines ≡ or_nothing x.lines → (told_scns : List (Vec ℕ Global)) → told_scns ≡ w.scns.items → said ≡ lines ++ write_lines 1 (lists told_scns) → (held : Option Held) → Hands held s (Backup b) (record x { lines = said }) q
+  hands ys same q x lines said state told put gone none told_scns scns all held =
+      let xs : List Copied = copied (ledger s) b (now_of s) jobs rows in
       let end : State = at_end s b ran.events in
-      let is : ys ≡ xs = same ∙ ap (λ (base : BaseEntry). copied base b (now_of s) jobs rows) same-base in
+      let is : ys ≡ xs = same ∙ same-pieces in
       let state_is : q ≡ after_pieces end b tag xs = state ∙ (λ i. after_pieces (ran.state i) b tag (is i)) in
       let told_is : x.lines ≡ piece_lines end b tag xs = told ∙ (λ i. piece_lines (ran.state i) b tag (is i)) in
-      let said_is : said ≡ or_nothing (piece_lines end b tag xs) ++ write_lines 1 (lists w.scns.items) = all ∙ ap (λ (ls : List Line). ls ++ write_lines 1 (lists w.scns.items)) (none ∙ ap or_nothing told_is) in
+      let said_is : said ≡ or_nothing (piece_lines end b tag xs) ++ write_lines 1 (lists w.scns.items) = all ∙ (λ i. (none ∙ ap or_nothing told_is) i ++ write_lines 1 (lists (scns i))) in
       record {
         effect = effect_of s b tag ran.events xs;
         comes = λ store tells. record {
@@ -137,7 +127,7 @@ module _ (s : State) (b : BackupForm) (sound : IsSound s) (well : IsStatement (B
           scns = lists w.scns.items;
           each = ran.scns;
           events = ran.events;
-          legal = legal;
+          legal = ran.legal;
           these = these;
           is = λ i. done (said_is i) (effect_of s b tag ran.events xs) (state_is i);
         };

@@ -13,7 +13,8 @@ use Rattle.rm_machine.specs.declared.state.State.{State}
 use Rattle.rm_machine.specs.State.{counted, ledger, placed, tree}
 use Rattle.rm_machine_code.proofs.Places.{counted-closed, counted-open}
 
-counted-rows : (s : State) (x : File) → length (counted s x).rows ≡ length x.rows
+-- it counts with as many rows
+pub counted-rows : (s : State) (x : File) → length (counted s x).rows ≡ length x.rows
 counted-rows s x = elim (cases_Bool s.instance.is_open) [
   | inl opened ↦ ap (λ (y : File). length y.rows) (counted-open s x opened)
   | inr closed ↦ ap (λ (y : File). length y.rows) (counted-closed s x closed)

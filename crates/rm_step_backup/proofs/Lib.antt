@@ -2,6 +2,7 @@ pub mod Archived
 pub mod Backed
 pub mod Begins
 pub mod LogBackups
+pub mod Copying
 pub mod Counted
 pub mod Ended
 pub mod Files

@@ -5,7 +5,6 @@ use Rattle.std.proofs.lemmas.List.Elements.{All-head}
 use Rattle.std.specs.Prelude.{Vec}
 use Rattle.std.specs.Global.{Global}
 use Rattle.rm_base.specs.declared.block.Row.{Row}
-use Rattle.rm_catalog.specs.declared.record.BaseEntry.{BaseEntry}
 use Rattle.rm_catalog.specs.declared.record.Edit.{Edit}
 use Rattle.rm_channel.specs.Jobs.{lists}
 use Rattle.rm_piece.specs.declared.piece.Piece.{Piece}
@@ -14,6 +13,7 @@ use Rattle.rm_report.specs.declared.line.Line.{Line}
 use Rattle.rm_report.specs.declared.line.Line.TheVariants.{ThreadScn}
 use Rattle.rm_catalog_typed.specs.Changes.{EditsFollow}
 use Rattle.rm_catalog_typed.specs.Fitting.{FitsNewPiece}
+use Rattle.rm_catalog_typed.specs.Ledger.{Ledger}
 use Rattle.rm_catalog_typed.proofs.Changed.{follows-then}
 use Rattle.rm_lang_statement.specs.declared.command.BackupForm.{BackupForm}
 use Rattle.rm_machine.specs.Backup.{is_copy}
@@ -24,6 +24,7 @@ use Rattle.rm_machine.specs.declared.handed.Handed.{Handed}
 use Rattle.rm_machine.specs.declared.job.Job.{Job}
 use Rattle.rm_machine.specs.declared.state.State.{State}
 use Rattle.rm_machine.specs.State.{ledger}
+use Rattle.rm_machine_code.proofs.Copies.{piece-same}
 use Rattle.rm_machine_code.proofs.Recording.{can-next, next-fits, next-sound}
 
 -- The SCNs of the writes
@@ -52,11 +53,11 @@ told-next scns k d before lines inside was =
 -- Pieces
 
 -- those from place k on
-pub copies-at : (base : BaseEntry) (b : BackupForm) (checkpoint : ℕ) (js : List Job) (rows : List (Vec Row Global)) (k : ℕ) (d : Job) (v : Vec Row Global) → k < length js → k < length rows
-    → copied base b checkpoint (drop k js) (drop k (lists rows)) ≡ record { copy = is_copy b (get_or js k d); piece = piece_by base b checkpoint (get_or js k d) (get_or rows k v).items } ∷ copied base b checkpoint (drop (k + 1) js) (drop (k + 1) (lists rows))
-copies-at base b checkpoint js rows k d v inside within =
+pub copies-at : (l : Ledger) (b : BackupForm) (checkpoint : ℕ) (js : List Job) (rows : List (Vec Row Global)) (k : ℕ) (d : Job) (v : Vec Row Global) → k < length js → k < length rows
+    → copied l b checkpoint (drop k js) (drop k (lists rows)) ≡ record { copy = is_copy b (get_or js k d); piece = piece_by l b checkpoint (get_or js k d) (get_or rows k v).items; reads = length (get_or rows k v).items } ∷ copied l b checkpoint (drop (k + 1) js) (drop (k + 1) (lists rows))
+copies-at l b checkpoint js rows k d v inside within =
     let next : suc k ≡ k + 1 = omega arith in
-    λ i. copied base b checkpoint ((drop-cons js k d inside ∙ ap (λ n. get_or js k d ∷ drop n js) next) i) (lists-at rows k v within i)
+    λ i. copied l b checkpoint ((drop-cons js k d inside ∙ ap (λ n. get_or js k d ∷ drop n js) next) i) (lists-at rows k v within i)
 
 -- from the state s on all of these pieces but the rest are recorded: the state is t
 pub record IsUnderWay (s : State) (b : BackupForm) (tag : List ℕ) (xs rest : List Copied) (before after : List Edit) (t : State) (handed : Handed) : Type 0 where
@@ -64,17 +65,12 @@ pub record IsUnderWay (s : State) (b : BackupForm) (tag : List ℕ) (xs rest : L
   pub can : CanRecord t b tag rest
   pub dbid : (ledger t).base.dbid ≡ (ledger s).base.dbid
   pub current : (ledger t).base.current ≡ (ledger s).base.current
+  pub files : (ledger t).files ≡ (ledger s).files
   pub state : after_pieces t b tag rest ≡ after_pieces s b tag xs
   pub edits : EditsFollow before after s.catalog t.catalog
   pub lines : handed.lines ++ piece_lines t b tag rest ≡ piece_lines s b tag xs
   pub objects : handed.objects ++ pieces_put t b tag rest ≡ pieces_put s b tag xs
   pub removes : handed.removes ≡ []
-
--- the base facts of which a piece tells are those at the start
-pub piece-same : (s t : State) (b : BackupForm) (checkpoint : ℕ) (j : Job) (rs : List Row) → (ledger t).base.dbid ≡ (ledger s).base.dbid → (ledger t).base.current ≡ (ledger s).base.current
-    → piece_by (ledger t).base b checkpoint j rs ≡ piece_by (ledger s).base b checkpoint j rs
-piece-same s t b checkpoint j rs dbid current =
-    λ i. record (piece_by (ledger s).base b checkpoint j rs) { dbid = dbid i; inc = current i }
 
 -- the next one
 module _ (s t : State) (b : BackupForm) (tag : List ℕ) (xs : List Copied) (x : Copied) (rest : List Copied) (before mid : List Edit) (y : Handed) (way : IsUnderWay s b tag xs (x ∷ rest) before mid t y) where
@@ -85,7 +81,7 @@ module _ (s t : State) (b : BackupForm) (tag : List ℕ) (xs : List Copied) (x :
   next-fit = next-fits b tag t x rest way.can
 
   pub way-on : (q : State) (after : List Edit) (z : Handed) → q ≡ after_piece t b tag x.copy x.piece → EditsFollow mid after t.catalog q.catalog
-      → z.lines ≡ y.lines ++ line_for t x.copy x.piece ∷ [] → z.objects ≡ y.objects ++ object_for t x.copy x.piece ∷ [] → z.removes ≡ y.removes → IsUnderWay s b tag xs rest before after q z
+      → z.lines ≡ y.lines ++ line_for t x ∷ [] → z.objects ≡ y.objects ++ object_for t x.copy x.piece ∷ [] → z.removes ≡ y.removes → IsUnderWay s b tag xs rest before after q z
   way-on q after z is follow lines objects removes =
       let p : State = after_piece t b tag x.copy x.piece in
       subst (λ u. IsUnderWay s b tag xs rest before after u z) (sym is) (record {
@@ -93,38 +89,42 @@ module _ (s t : State) (b : BackupForm) (tag : List ℕ) (xs : List Copied) (x :
         can = can-next b tag t x rest way.can;
         dbid = way.dbid;
         current = way.current;
+        files = way.files;
         state = way.state;
         edits = follows-then before mid after s.catalog t.catalog p.catalog way.edits (subst (λ (u : State). EditsFollow mid after t.catalog u.catalog) is follow);
-        lines = ap (λ (ls : List Line). ls ++ piece_lines p b tag rest) lines ∙ append_assoc y.lines (line_for t x.copy x.piece ∷ []) (piece_lines p b tag rest) ∙ way.lines;
+        lines = ap (λ (ls : List Line). ls ++ piece_lines p b tag rest) lines ∙ append_assoc y.lines (line_for t x ∷ []) (piece_lines p b tag rest) ∙ way.lines;
         objects = ap (λ os. os ++ pieces_put p b tag rest) objects ∙ append_assoc y.objects (object_for t x.copy x.piece ∷ []) (pieces_put p b tag rest) ∙ way.objects;
         removes = removes ∙ way.removes;
       })
 
 -- the one at place k
 module _ (s t : State) (b : BackupForm) (tag : List ℕ) (checkpoint : ℕ) (js : List Job) (rows : List (Vec Row Global)) (k : ℕ) (d : Job) (v : Vec Row Global) (inside : k < length js) (within : k < length rows) (before mid : List Edit) (y : Handed)
-    (way : IsUnderWay s b tag (copied (ledger s).base b checkpoint js (lists rows)) (copied (ledger s).base b checkpoint (drop k js) (drop k (lists rows))) before mid t y) (is : v ≡ get_or rows k v) (read : List Row) (found : read ≡ v.items) where
+    (way : IsUnderWay s b tag (copied (ledger s) b checkpoint js (lists rows)) (copied (ledger s) b checkpoint (drop k js) (drop k (lists rows))) before mid t y) (is : v ≡ get_or rows k v) (read : List Row) (found : read ≡ v.items) where
   abbrev j : Job
   j = get_or js k d
 
   abbrev xs : List Copied
-  xs = copied (ledger s).base b checkpoint js (lists rows)
+  xs = copied (ledger s) b checkpoint js (lists rows)
 
   abbrev x : Copied
-  x = record { copy = is_copy b j; piece = piece_by (ledger s).base b checkpoint j (get_or rows k v).items }
+  x = record { copy = is_copy b j; piece = piece_by (ledger s) b checkpoint j (get_or rows k v).items; reads = length (get_or rows k v).items }
 
   abbrev rest : List Copied
-  rest = copied (ledger s).base b checkpoint (drop (k + 1) js) (drop (k + 1) (lists rows))
+  rest = copied (ledger s) b checkpoint (drop (k + 1) js) (drop (k + 1) (lists rows))
 
   way-here : IsUnderWay s b tag xs (x ∷ rest) before mid t y
-  way-here = subst (λ zs. IsUnderWay s b tag xs zs before mid t y) (copies-at (ledger s).base b checkpoint js rows k d v inside within) way
+  way-here = subst (λ zs. IsUnderWay s b tag xs zs before mid t y) (copies-at (ledger s) b checkpoint js rows k d v inside within) way
 
-  here : piece_by (ledger t).base b checkpoint j read ≡ x.piece
-  here = piece-same s t b checkpoint j read way.dbid way.current ∙ ap (piece_by (ledger s).base b checkpoint j) (found ∙ ap (λ (u : Vec Row Global). u.items) is)
+  rows-are : read ≡ (get_or rows k v).items
+  rows-are = found ∙ ap (λ (u : Vec Row Global). u.items) is
 
-  pub valid-here : IsPiece (piece_by (ledger t).base b checkpoint j read)
+  here : piece_by (ledger t) b checkpoint j read ≡ x.piece
+  here = piece-same (ledger t) (ledger s) b checkpoint j read way.dbid way.current way.files ∙ ap (piece_by (ledger s) b checkpoint j) rows-are
+
+  pub valid-here : IsPiece (piece_by (ledger t) b checkpoint j read)
   valid-here = subst IsPiece (sym here) (next-valid s t b tag xs x rest before mid y way-here)
 
-  module _ (a : Piece) (copy : Bool) (made : a ≡ piece_by (ledger t).base b checkpoint j read) (kind : copy ≡ is_copy b j) where
+  module _ (a : Piece) (copy : Bool) (made : a ≡ piece_by (ledger t) b checkpoint j read) (kind : copy ≡ is_copy b j) where
     same : a ≡ x.piece
     same = made ∙ here
 
@@ -135,7 +135,7 @@ module _ (s t : State) (b : BackupForm) (tag : List ℕ) (checkpoint : ℕ) (js 
     fit-here = at (λ c p. FitsNewPiece t.catalog (entry_for t b tag c p)) (next-fit s t b tag xs x rest before mid y way-here)
 
     pub way-next : (q : State) (after : List Edit) (z : Handed) → q ≡ after_piece t b tag copy a → EditsFollow mid after t.catalog q.catalog
-        → z.lines ≡ y.lines ++ line_for t copy a ∷ [] → z.objects ≡ y.objects ++ object_for t copy a ∷ [] → z.removes ≡ y.removes → IsUnderWay s b tag xs rest before after q z
+        → z.lines ≡ y.lines ++ line_for t (record { copy = copy; piece = a; reads = length read }) ∷ [] → z.objects ≡ y.objects ++ object_for t copy a ∷ [] → z.removes ≡ y.removes → IsUnderWay s b tag xs rest before after q z
     way-next q after z left follow lines objects removes =
         way-on s t b tag xs x rest before mid y way-here q after z
-        (left ∙ (λ i. after_piece t b tag (kind i) (same i))) follow (lines ∙ (λ i. y.lines ++ line_for t (kind i) (same i) ∷ [])) (objects ∙ (λ i. y.objects ++ object_for t (kind i) (same i) ∷ [])) removes
+        (left ∙ (λ i. after_piece t b tag (kind i) (same i))) follow (lines ∙ (λ i. y.lines ++ line_for t (record { copy = kind i; piece = same i; reads = length (rows-are i) }) ∷ [])) (objects ∙ (λ i. y.objects ++ object_for t (kind i) (same i) ∷ [])) removes

@@ -24,6 +24,7 @@ use Rattle.rm_step_backup.proofs.Opening.{opening-sound}
 pub record IsReturned (s : State) (q : Parts) (t : State) : Type 0 where
   pub place : t.instance.place ≡ at_home (replicate (length (ledger s).files) None) q.files
   pub logs : t.instance.logs ≡ q.logs
+  pub tracker : t.instance.tracker ≡ q.tracker
   pub mode : t.instance.is_open ≡ s.instance.is_open
   pub point : t.instance.point ≡ s.instance.point
   pub catalog : t.catalog ≡ risen s.catalog q.now
@@ -66,9 +67,10 @@ module _ (s : State) (sound : IsSound s) (jobs : List CopyJob) (writers : List (
   state-is u is =
       let kept = after-all s gone.events in
       let logs = is.logs ∙ ap (λ (p : Parts). p.logs) parts in
+      let tracker = is.tracker ∙ ap (λ (p : Parts). p.tracker) parts in
       λ i. record {
         catalog = (is.catalog ∙ catalog-is) i;
-        instance = record { is_open = (is.mode ∙ sym kept.mode) i; point = (is.point ∙ sym kept.point) i; place = (is.place ∙ place-is) i; logs = logs i };
+        instance = record { is_open = (is.mode ∙ sym kept.mode) i; point = (is.point ∙ sym kept.point) i; place = (is.place ∙ place-is) i; logs = logs i; tracker = tracker i };
       }
 
   pub returned : (u : State) → IsReturned s q u → HasRunLive s jobs writers u w
@@ -83,11 +85,12 @@ module _ (s : State) (sound : IsSound s) (jobs : List CopyJob) (writers : List (
 
 -- so it is when it was taken out, given back, and its end raised
 pub returned-by : (s a b u : State) (q : Parts) → a.catalog ≡ s.catalog → a.instance.is_open ≡ s.instance.is_open → a.instance.point ≡ s.instance.point
-    → b.instance.place ≡ at_home (replicate (length (ledger a).files) None) q.files → b.instance.logs ≡ q.logs → b.catalog ≡ a.catalog → b.instance.is_open ≡ a.instance.is_open → b.instance.point ≡ a.instance.point
+    → b.instance.place ≡ at_home (replicate (length (ledger a).files) None) q.files → b.instance.logs ≡ q.logs → b.instance.tracker ≡ q.tracker → b.catalog ≡ a.catalog → b.instance.is_open ≡ a.instance.is_open → b.instance.point ≡ a.instance.point
     → u.catalog ≡ risen b.catalog q.now → u.instance ≡ b.instance → IsReturned s q u
-returned-by s a b u q catalog mode point place logs catalog_b mode_b point_b raised instance = record {
+returned-by s a b u q catalog mode point place logs tracker catalog_b mode_b point_b raised instance = record {
   place = ap (λ (i : Instance). i.place) instance ∙ place ∙ ap (λ (r : TypedCatalog). at_home (replicate (length r.ledger.files) None) q.files) catalog;
   logs = ap (λ (i : Instance). i.logs) instance ∙ logs;
+  tracker = ap (λ (i : Instance). i.tracker) instance ∙ tracker;
   mode = ap (λ (i : Instance). i.is_open) instance ∙ mode_b ∙ mode;
   point = ap (λ (i : Instance). i.point) instance ∙ point_b ∙ point;
   catalog = raised ∙ ap (λ (r : TypedCatalog). risen r q.now) (catalog_b ∙ catalog);

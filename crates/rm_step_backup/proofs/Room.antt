@@ -1,7 +1,7 @@
 -- What a BACKUP that was not refused has for its channels and writers.
-use Rattle.std.proofs.Common.{◌≡◌, ◌<◌, ◌≤◌, ◌+◌, ◌-◌, ◌∙◌, ◌==◌, ℕ, zero, suc, List, [], ◌∷◌, Option, Some, None, Bool, true, false, cond, nat_le, refl, ap, sym, subst, arith, filter, find, length, map, All, IsSome, slice_get}
+use Rattle.std.proofs.Common.{◌≡◌, ◌<◌, ◌≤◌, ◌+◌, ◌-◌, ◌∙◌, ◌==◌, ℕ, zero, suc, List, [], ◌∷◌, Option, Some, None, Bool, true, false, cond, nat_le, refl, ap, sym, subst, arith, filter, find, length, All, IsSome, slice_get}
 use Rattle.std.specs.List.{filter_map}
-use Rattle.std.specs.Option.{option_map, option_map_or}
+use Rattle.std.specs.Option.{option_map_or}
 use Rattle.std.proofs.lemmas.Bool.{eq-eqb, ne_eqb}
 use Rattle.std.proofs.lemmas.Bool.Decides.{nat_tests}
 use Rattle.std.proofs.lemmas.List.{length-map}
@@ -9,8 +9,7 @@ use Rattle.std.proofs.lemmas.List.Elements.{All-cons, All-filter, All-map, All-n
 use Rattle.rm_base.specs.declared.block.Row.{Row}
 use Rattle.rm_base.proofs.Slots.{get-index, index-get}
 use Rattle.rm_blocks.specs.File.{File}
-use Rattle.rm_channel.specs.Room.{AreThreads, CanWrite, HasBlock, HaveRoom, IsThere}
-use Rattle.rm_channel.specs.declared.jobs.CopyJob.{CopyJob}
+use Rattle.rm_channel.specs.Room.{AreThreads, CanWrite, HasBlock, HaveRoom}
 use Rattle.rm_channel.specs.declared.jobs.WriteJob.{WriteJob}
 use Rattle.rm_history.specs.declared.world.Datafile.{Datafile}
 use Rattle.rm_catalog_typed.proofs.Lookups.{item-at}
@@ -18,7 +17,7 @@ use Rattle.rm_live.specs.Parts.{Parts, row_at}
 use Rattle.rm_live.specs.Ruled.{one_if, total}
 use Rattle.rm_lang_statement.specs.declared.command.BackupForm.{BackupForm}
 use Rattle.rm_lang_statement.specs.declared.command.WriteForm.{WriteForm}
-use Rattle.rm_machine.specs.Backup.{AreJobs, rows_in}
+use Rattle.rm_machine.specs.Backup.{AreJobs}
 use Rattle.rm_machine.specs.Sound.{IsPlaced, IsSound}
 use Rattle.rm_machine.specs.declared.job.Job.{Job}
 use Rattle.rm_machine.specs.declared.state.State.{State}
@@ -26,11 +25,12 @@ use Rattle.rm_machine.specs.State.{ledger, tree, is_lost, placed}
 use Rattle.rm_machine_code.proofs.Backups.{IsTaken}
 use Rattle.rm_machine_code.proofs.BackingUp.{IsReadyToRead, jobs-ready}
 use Rattle.rm_machine_code.proofs.Places.{counted-open, placed-is}
-use Rattle.rm_machine.specs.Asked.{FitsNumbers, by_thread, copy_job, lists_from, write_job, writers_of, writes_in}
+use Rattle.rm_machine.specs.Asked.{FitsNumbers, by_thread, lists_from, write_job, writers_of, writes_in}
 use Rattle.rm_machine.specs.Events.{opening, standing_in}
-use Rattle.rm_machine.specs.BackupOutcome.{marked}
+use Rattle.rm_machine.specs.BackupOutcome.{begun}
 use Rattle.rm_machine_code.proofs.BackupAccepted.{CanBeWritten, CanBackUp}
 use Rattle.rm_machine_code.proofs.BackupMarks.{marked-same}
+use Rattle.rm_step_backup.specs.Copying.{Stands}
 use Rattle.rm_step_backup.proofs.Files.{numbered}
 
 -- The datafiles that stand in place
@@ -164,28 +164,25 @@ few-writers s b sound =
     let many = lists-many 1 (ledger s).base.threads (writes_in b) in
     (many, omega (arith, many, sound.catalog.ledger.base.threads.1))
 
--- The datafiles that are copied
-
-is-there : (s : State) (j : Job) → IsSound s → IsTaken s j.file → IsThere (standing_in s) (copy_job s j)
-is-there s j sound t =
-    let rows : rows_in s j.file ≡ t.file.rows = ap (λ o. option_map_or (λ (x : File). x.rows) o []) t.stands in
-    record { size = ap (option_map (λ (x : File). length x.rows)) (file-found s j.file t.file sound t.some t.stands) ∙ ap (λ (rs : List Row). Some (length rs)) (sym rows); wanted = tt }
-
-pub room-there : (s : State) (jobs : List Job) → IsSound s → All (λ (j : Job). IsTaken s j.file) jobs → All (IsThere (standing_in s)) (map (copy_job s) jobs)
-room-there s jobs sound all = All-map (IsThere (standing_in s)) (copy_job s) jobs (All-weaker (λ (j : Job). IsTaken s j.file) (λ j. IsThere (standing_in s) (copy_job s j)) (λ j t. is-there s j sound t) jobs all)
-
 -- the datafile of each job stands in place
 pub jobs-taken : (s : State) (b : BackupForm) (jobs : List Job) → IsSound s → CanBackUp s b → AreJobs s b jobs → All (λ (j : Job). IsTaken s j.file) jobs
 jobs-taken s b jobs sound can are = All-weaker (IsReadyToRead s) (λ (j : Job). IsTaken s j.file) (λ j is. is.taken) jobs (jobs-ready s b jobs sound are can.taken)
 
--- With the mark that comes before the writes
+-- At its beginning, behind the mark and with other bitmaps
 
-pub marked-threads : (s : State) (b : BackupForm) → IsSound s → CanBackUp s b → AreThreads (opening (marked s b)).logs 1 (writers_of s b)
-marked-threads s b sound can = subst (λ (p : Parts). AreThreads p.logs 1 (writers_of s b)) (sym (marked-same opening s b refl)) (room-threads s b sound can)
+-- the live database is that of the state, but for its bitmaps
+begun-opening : (s : State) (b : BackupForm) → opening (begun s b) ≡ record (opening s) { tracker = (begun s b).instance.tracker }
+begun-opening s b = marked-same (λ (q : State). record (opening q) { tracker = (begun s b).instance.tracker }) s b refl
 
-pub marked-writes : (s : State) (b : BackupForm) → IsSound s → CanBackUp s b → CanWrite (opening (marked s b)) (writers_of s b)
-marked-writes s b sound can = subst (λ (p : Parts). CanWrite p (writers_of s b)) (sym (marked-same opening s b refl)) (room-writes s b sound can)
+pub begun-threads : (s : State) (b : BackupForm) → IsSound s → CanBackUp s b → AreThreads (opening (begun s b)).logs 1 (writers_of s b)
+begun-threads s b sound can = subst (λ (p : Parts). AreThreads p.logs 1 (writers_of s b)) (sym (begun-opening s b)) (room-threads s b sound can)
 
-pub marked-there : (s : State) (b : BackupForm) (jobs : List Job) (js : List CopyJob) → IsSound s → CanBackUp s b → AreJobs s b jobs → js ≡ map (copy_job s) jobs → All (IsThere (opening (marked s b)).files) js
-marked-there s b jobs js sound can are copies =
-    coe 1 0 (i. All (IsThere (marked-same opening s b refl i).files) (copies i)) (room-there s jobs sound (jobs-taken s b jobs sound can are))
+pub begun-writes : (s : State) (b : BackupForm) → IsSound s → CanBackUp s b → CanWrite (opening (begun s b)) (writers_of s b)
+begun-writes s b sound can =
+    let was = room-writes s b sound can in
+    subst (λ (p : Parts). CanWrite p (writers_of s b)) (sym (begun-opening s b)) (record { blocks = was.blocks; logs = was.logs; scns = was.scns })
+
+pub begun-stand : (s : State) (b : BackupForm) (jobs : List Job) → IsSound s → CanBackUp s b → AreJobs s b jobs → All (λ (j : Job). Stands (begun s b) j.file) jobs
+begun-stand s b jobs sound can are =
+    All-weaker (λ (j : Job). IsTaken s j.file) (λ (j : Job). Stands (begun s b) j.file)
+    (λ j is. record { some = is.some; file = is.file; is = marked-same (λ (q : State). placed q j.file) s b refl ∙ is.stands }) jobs (jobs-taken s b jobs sound can are)

@@ -1,3 +1,4 @@
 pub mod Begins
+pub mod Copying
 pub mod Logs
 pub mod Running

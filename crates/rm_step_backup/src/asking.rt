@@ -1,8 +1,11 @@
 //! What a BACKUP asks of its channels and writers.
-ghost use Rattle.std.specs.Prelude.{◌≡◌, ◌<◌, All, IfOk, map};
+ghost use Rattle.std.specs.Prelude.{◌≡◌, All, IfOk, IfSome};
+ghost use Rattle.std.specs.Option.{option_map};
 ghost use Rattle.rm_channel.specs.Jobs.{lists};
-ghost use Rattle.rm_machine.specs.Asked.{FitsNumbers, by_thread, copy_job, write_job, writers_of, writes_in};
+ghost use Rattle.rm_machine.specs.Asked.{FitsNumbers, by_thread, candidates_in, write_job, writers_of, writes_in};
 ghost use Rattle.rm_machine.specs.Sound.{IsSound};
+ghost use Rattle.rm_step_backup.specs.Copying.{AreCopiesOf, IsCopyOf, Stands};
+ghost use Rattle.rm_track.specs.Bits.{IsBits, marks_of};
 
 use crate::pieces::rows_in;
 use rm_base::{BlockNo, FileNo, NoMemory};
@@ -10,6 +13,7 @@ use rm_channel::{CopyJob, Wanted, WriteJob};
 use rm_lang_statement::{BackupForm, WriteForm};
 use rm_machine::{Job, State};
 use rm_machine_code::facts::threads;
+use rm_track::Bits;
 use std::alloc::Global;
 
 /// The writes that a BACKUP asks for, in the order of the text.
@@ -65,31 +69,48 @@ pub(crate) fn writers_of(
     Ok(writers)
 }
 
-// A copy of all blocks of a datafile that is backed up.
-fn copy_job(state: &State, job: &Job) -> CopyJob
-    requires sound { IsSound state.now }
-    requires some { 0 < job.now.file }
-    ensures { result ≡ copy_job state.now job.now }
+// The blocks of a datafile that changed since the checkpoint of its level 1's parent. None where all blocks are backed up, or
+// the bitmaps do not go so far back. An error is want of memory.
+fn candidates(alloc: Global, state: &State, job: &Job) -> Result<Option<Bits>, NoMemory>
+    ensures bits { IfOk result (λ o. IfSome o IsBits) }
+    ensures marks { IfOk result (λ o. option_map marks_of o ≡ candidates_in state.now job.now) }
 {
-    CopyJob {
-        file: job.file,
-        wanted: Wanted::All(rows_in(state, job.file).len() as u32),
+    match job.from {
+        Some(from) => state.instance.tracker.candidates(alloc, job.file, from),
+        None => Ok(None),
     }
 }
 
-/// What the channels copy: all blocks of each of these datafiles.
+// A copy of the blocks that are read of a datafile.
+fn copy_job(alloc: Global, state: &State, job: &Job) -> Result<CopyJob, NoMemory>
+    requires sound { IsSound state.now }
+    requires stands { Stands state.now job.now.file }
+    ensures { IfOk result (IsCopyOf state.now job.now) }
+{
+    let wanted = match candidates(alloc, state, job)? {
+        Some(bits) => Wanted::Blocks(bits),
+        None => Wanted::All(rows_in(state, job.file).len() as u32),
+    };
+    Ok(CopyJob {
+        file: job.file,
+        wanted,
+    })
+}
+
+/// What the channels copy of each of these datafiles: the blocks that changed since the parent of its level 1, where the
+/// bitmaps tell, or else all. An error is want of memory.
 pub(crate) fn copy_jobs(
     alloc: Global,
     state: &State,
     jobs: &[Job],
 ) -> Result<Vec<CopyJob>, NoMemory>
     requires sound { IsSound state.now }
-    requires some { All (λ j. 0 < j.file) jobs.now }
-    ensures { IfOk result (λ all. all.items ≡ map (copy_job state.now) jobs.now) }
+    requires stand { All (λ j. Stands state.now j.file) jobs.now }
+    ensures { IfOk result (λ all. AreCopiesOf state.now jobs.now all.items) }
 {
     let mut all = Vec::new(alloc);
     for job in jobs {
-        all.push(copy_job(state, job))?;
+        all.push(copy_job(alloc, state, job)?)?;
     }
     Ok(all)
 }

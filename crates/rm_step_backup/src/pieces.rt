@@ -2,11 +2,12 @@
 ghost use Rattle.std.specs.Prelude.{◌≡◌, ◌<◌, ◌≤◌, ◌∷◌, ◌++◌, [], IfOk, OnOk};
 ghost use Rattle.std.specs.Option.{option_copied};
 ghost use Rattle.rm_base.specs.Numbers.{last_moment};
+ghost use Rattle.rm_history.specs.World.{blocks_of};
 ghost use Rattle.rm_machine.specs.MadePieces.{after_piece, entry_for, line_for, object_for, piece_by};
 ghost use Rattle.rm_machine.specs.Backup.{IsTagBy, is_copy, kind_by, named_tag, piece_entry, rows_from, rows_in};
 ghost use Rattle.rm_machine.specs.Lists.{shape_by};
 ghost use Rattle.rm_machine.specs.Sound.{IsSound};
-ghost use Rattle.rm_machine.specs.State.{ledger};
+ghost use Rattle.rm_machine.specs.State.{ledger, world};
 ghost use Rattle.rm_piece.specs.Spelling.{spelling};
 ghost use Rattle.rm_piece.specs.Valid.{IsPiece};
 ghost use Rattle.rm_catalog_typed.specs.Changes.{EditsFollow};
@@ -103,7 +104,16 @@ fn rows_from(alloc: Global, from: Option<Scn>, rows: &[Row]) -> Result<Seq<Row>,
     }
 }
 
-/// The piece of a datafile of which these rows were read, one of each block, with this checkpoint. A level 1 has the rows of
+// How many blocks a datafile has.
+fn blocks_of(state: &State, file: FileNo) -> u32
+    requires { 0 < file }
+    ensures { result ≡ blocks_of (world state.now) file }
+{
+    let index = file as usize - 1;
+    state.catalog.files().get(index).map_or(0, |it| it.blocks)
+}
+
+/// The piece of a datafile of which these rows were read, with this checkpoint. A level 1 has the rows of
 /// versions at or above the checkpoint of its parent. An error is want of memory.
 pub(crate) fn piece_of(
     alloc: Global,
@@ -113,10 +123,9 @@ pub(crate) fn piece_of(
     checkpoint: Scn,
     rows: &[Row],
 ) -> Result<Piece, NoMemory>
-    requires valid { IsPiece (piece_by (ledger state.now).base form.now checkpoint job rows.now) }
-    ensures { IfOk result (λ piece. piece ≡ piece_by (ledger state.now).base form.now checkpoint job rows.now) }
+    requires valid { IsPiece (piece_by (ledger state.now) form.now checkpoint job rows.now) }
+    ensures { IfOk result (λ piece. piece ≡ piece_by (ledger state.now) form.now checkpoint job rows.now) }
 {
-    let blocks = rows.len() as u32;
     let rows = rows_from(alloc, job.from, rows)?;
     let base = state.catalog.base();
     Ok(Piece {
@@ -124,7 +133,7 @@ pub(crate) fn piece_of(
         dbid: base.dbid,
         inc: base.current,
         file: job.file,
-        blocks,
+        blocks: blocks_of(state, job.file),
         from: job.from.unwrap_or(0),
         checkpoint,
         high: high_of(checkpoint, rows.as_slice()),
@@ -167,10 +176,10 @@ fn entry_of(
     })
 }
 
-// The line of a piece under the next id: each block was read.
-fn piece_line(state: &State, copy: bool, piece: &Piece) -> Line
+// The line of a piece under the next id, for which so many blocks were read.
+fn piece_line(state: &State, copy: bool, piece: &Piece, reads: u64) -> Line
     requires valid { IsPiece piece.now }
-    ensures { result ≡ line_for state.now copy piece.now }
+    ensures { result ≡ line_for state.now (record { copy = copy; piece = piece.now; reads = reads }) }
 {
     Line::BackedUp {
         copy,
@@ -179,12 +188,12 @@ fn piece_line(state: &State, copy: bool, piece: &Piece) -> Line
         shape: shape_by(piece.kind, piece.from),
         checkpoint: piece.checkpoint,
         rows: piece.rows.len() as u32,
-        reads: u64::from(piece.blocks),
+        reads,
     }
 }
 
-/// Records a piece under the next id, and adds its object and its line. Without memory nothing is said of the state, the
-/// edits and what is handed out.
+/// Records a piece under the next id, for which so many blocks were read, and adds its object and its line. Without memory
+/// nothing is said of the state, the edits and what is handed out.
 pub(crate) fn record_piece(
     alloc: Global,
     state: &mut State,
@@ -194,13 +203,14 @@ pub(crate) fn record_piece(
     tag: &Text,
     copy: bool,
     piece: &Piece,
+    reads: u64,
 ) -> Result<(), NoMemory>
     requires sound { IsSound state.old }
     requires valid { IsPiece piece.now }
     requires fits { FitsNewPiece state.old.catalog (entry_for state.old form.now tag.now copy piece.now) }
     ensures after { OnOk result (state.new ≡ after_piece state.old form.now tag.now copy piece.now) }
     ensures edits { OnOk result (EditsFollow edits.old.items edits.new.items state.old.catalog state.new.catalog) }
-    ensures lines { OnOk result (handed.new.lines ≡ handed.old.lines ++ line_for state.old copy piece.now ∷ []) }
+    ensures lines { OnOk result (handed.new.lines ≡ handed.old.lines ++ line_for state.old (record { copy = copy; piece = piece.now; reads = reads }) ∷ []) }
     ensures objects { OnOk result (handed.new.objects ≡ handed.old.objects ++ object_for state.old copy piece.now ∷ []) }
     ensures removes { OnOk result (handed.new.removes ≡ handed.old.removes) }
 {
@@ -210,7 +220,7 @@ pub(crate) fn record_piece(
         name: piece_name(alloc, copy, entry.id)?,
         bytes: encoded.bytes,
     };
-    handed.lines.push(piece_line(state, copy, piece))?;
+    handed.lines.push(piece_line(state, copy, piece, reads))?;
     handed.objects.push(object)?;
     state.catalog.add_piece(alloc, edits, entry)
 }

@@ -85,7 +85,7 @@ fn take_out(alloc: Global, state: &mut State) -> Result<Database, NoMemory>
         now,
         files: standing_in(alloc, place)?,
         logs: mem::replace(&mut state.instance.logs, nothing),
-        tracker: Tracker::new(alloc),
+        tracker: mem::replace(&mut state.instance.tracker, Tracker::new(alloc)),
     })
 }
 
@@ -94,18 +94,25 @@ fn give_back(alloc: Global, state: &mut State, database: Database) -> Result<(),
     requires numbers { All (HasNumber (length (ledger state.old).files)) database.files.items }
     ensures place { OnOk result (state.new.instance.place ≡ at_home (replicate (length (ledger state.old).files) None) database.files.items) }
     ensures logs { OnOk result (state.new.instance.logs ≡ database.logs) }
+    ensures tracker { OnOk result (state.new.instance.tracker ≡ database.tracker) }
     ensures catalog { state.new.catalog ≡ state.old.catalog }
     ensures mode { state.new.instance.is_open ≡ state.old.instance.is_open }
     ensures point { state.new.instance.point ≡ state.old.instance.point }
 {
-    let Database { files, logs, .. } = database;
+    let Database {
+        files,
+        logs,
+        tracker,
+        ..
+    } = database;
     let place = at_home(alloc, state.catalog.files().len(), files)?;
     state.instance.place = Seq::from_vec(place);
     state.instance.logs = logs;
+    state.instance.tracker = tracker;
     Ok(())
 }
 
-// Reads each block of each job and makes each write, by so many channels and a writer for each list, at this database, which is
+// Reads each wanted block of each job and makes each write, by so many channels and a writer for each list, at this database, which is
 // live for that. Without memory it is dropped.
 fn go_live<G: Gate, R: Threads + Wait + Sync>(
     rt: &R,
@@ -149,7 +156,7 @@ fn raise_to(state: &mut State, edits: &mut Vec<Edit>, end: Scn) -> Result<(), No
     state.catalog.raise_end(edits, current, end)
 }
 
-/// Reads each block of each job and makes each write, by so many channels and a writer for each list: the running database
+/// Reads each wanted block of each job and makes each write, by so many channels and a writer for each list: the running database
 /// is live for that, and goes on as these events leave it. No write of them has a mark to make. Without memory nothing is
 /// said of the state and the edits.
 pub(crate) fn run_live<G: Gate, R: Threads + Wait + Sync>(

@@ -2,19 +2,21 @@
 ghost use Rattle.std.specs.Prelude.{◌≡◌, ◌≤◌, ◌++◌, List, [], IfOk, None, OnOk, Option, false, length, map};
 ghost use Rattle.rm_base.specs.Store.{Held};
 ghost use Rattle.rm_catalog.specs.Objects.{IsTag};
+ghost use Rattle.rm_step_backup.specs.Copying.{StartBelow};
 ghost use Rattle.rm_step_backup.specs.Running.{HasRunLive};
 ghost use Rattle.rm_channel.specs.Jobs.{lists, whole};
 ghost use Rattle.rm_channel.specs.declared.jobs.CopyJob.{CopyJob};
 ghost use Rattle.rm_machine.specs.Asked.{span_of, writers_of};
 ghost use Rattle.rm_machine.specs.MadePieces.{CanRecord, after_pieces, copied, piece_lines, pieces_put};
-ghost use Rattle.rm_machine.specs.BackupOutcome.{marked, write_lines};
+ghost use Rattle.rm_machine.specs.BackupOutcome.{begun, marked, write_lines};
 ghost use Rattle.rm_machine.specs.Hands.{Hands};
-ghost use Rattle.rm_machine.specs.Backup.{AreJobs, or_nothing};
+ghost use Rattle.rm_machine.specs.Backup.{AreJobs, or_nothing, taken};
 ghost use Rattle.rm_machine.specs.BackupRefusal.{mark_count};
 ghost use Rattle.rm_machine.specs.Marks.{lacks_room};
 ghost use Rattle.rm_machine.specs.Sound.{IsSound};
 ghost use Rattle.rm_machine.specs.State.{ledger};
 ghost use Rattle.rm_machine.specs.Step.{IsStatement, refusal_of};
+ghost use Rattle.rm_machine.specs.Tracked.{switch_all};
 ghost use Rattle.rm_lang_statement.specs.declared.command.Command.TheVariants.{Backup};
 ghost use Rattle.rm_report.specs.declared.line.Line.TheVariants.{ThreadScn};
 ghost use Rattle.rm_catalog_typed.specs.Changes.{EditsFollow};
@@ -31,6 +33,7 @@ use rm_machine::{Handed, Job, State};
 use rm_machine_code::facts::now;
 use rm_machine_code::marks::add_marks_before;
 use rm_report::Line;
+use rm_track::Tracker;
 use std::alloc::Global;
 use std::sync::Wait;
 use std::thread::Threads;
@@ -48,6 +51,41 @@ fn mark(state: &mut State, edits: &mut Vec<Edit>, form: &BackupForm) -> Result<(
     Ok(())
 }
 
+// Ends the current bitmap of each of these datafiles at the checkpoint. Without memory nothing is said of the bitmaps.
+fn switch_all(
+    alloc: Global,
+    tracker: &mut Tracker,
+    checkpoint: Scn,
+    jobs: &[Job],
+) -> Result<(), NoMemory>
+    requires { StartBelow checkpoint tracker.old }
+    ensures { OnOk result (tracker.new ≡ switch_all checkpoint (map (λ j. j.file) jobs.now) tracker.old) }
+{
+    for job in jobs {
+        tracker.switch(alloc, job.file, checkpoint)?;
+    }
+    Ok(())
+}
+
+// Begins the backup: writes the mark that comes before its writes, and ends the current bitmap of each datafile that is backed up.
+fn begin(
+    alloc: Global,
+    state: &mut State,
+    edits: &mut Vec<Edit>,
+    form: &BackupForm,
+    jobs: &[Job],
+) -> Result<(), NoMemory>
+    requires sound { IsSound state.old }
+    requires room { lacks_room state.old (mark_count state.old form.now) ≡ false }
+    requires jobs { map (λ j. j.file) jobs.now ≡ taken state.old form.now }
+    ensures after { OnOk result (state.new ≡ begun state.old form.now) }
+    ensures edits { OnOk result (EditsFollow edits.old.items edits.new.items state.old.catalog state.new.catalog) }
+{
+    let checkpoint = now(state);
+    mark(state, edits, form)?;
+    switch_all(alloc, &mut state.instance.tracker, checkpoint, jobs)
+}
+
 // Makes the copies of these jobs, and the writes of the DURING, behind its mark.
 fn run<G: Gate, R: Threads + Wait + Sync>(
     rt: &R,
@@ -63,12 +101,12 @@ fn run<G: Gate, R: Threads + Wait + Sync>(
     requires channels { (1 ≤ channels) × (channels ≤ 16) }
     requires accepted { refusal_of state.old (Backup form.now) ≡ None }
     requires jobs { AreJobs state.old form.now jobs.now }
-    ensures ran { IfOk result (λ w. (copies : List CopyJob) × (map whole copies ≡ map (span_of state.old) jobs.now) × HasRunLive (marked state.old form.now) copies (writers_of state.old form.now) state.new w) }
+    ensures ran { IfOk result (λ w. (copies : List CopyJob) × (map whole copies ≡ map (span_of (begun state.old form.now)) jobs.now) × HasRunLive (begun state.old form.now) copies (writers_of state.old form.now) state.new w) }
     ensures edits { OnOk result (EditsFollow edits.old.items edits.new.items state.old.catalog state.new.catalog) }
 {
     let writers = writers_of(alloc, state, form)?;
+    begin(alloc, state, edits, form, jobs)?;
     let copies = copy_jobs(alloc, state, jobs)?;
-    mark(state, edits, form)?;
     run_live(
         rt,
         alloc,
@@ -95,11 +133,11 @@ fn record_all(
     requires sound { IsSound state.old }
     requires tag { IsTag tag.now }
     requires many { length rows.now ≡ length jobs.now }
-    requires can { CanRecord state.old form.now tag.now (copied (ledger state.old).base form.now checkpoint jobs.now (lists rows.now)) }
-    ensures after { OnOk result (state.new ≡ after_pieces state.old form.now tag.now (copied (ledger state.old).base form.now checkpoint jobs.now (lists rows.now))) }
+    requires can { CanRecord state.old form.now tag.now (copied (ledger state.old) form.now checkpoint jobs.now (lists rows.now)) }
+    ensures after { OnOk result (state.new ≡ after_pieces state.old form.now tag.now (copied (ledger state.old) form.now checkpoint jobs.now (lists rows.now))) }
     ensures edits { OnOk result (EditsFollow edits.old.items edits.new.items state.old.catalog state.new.catalog) }
-    ensures lines { IfOk result (λ x. x.lines ≡ piece_lines state.old form.now tag.now (copied (ledger state.old).base form.now checkpoint jobs.now (lists rows.now))) }
-    ensures objects { IfOk result (λ x. x.objects ≡ pieces_put state.old form.now tag.now (copied (ledger state.old).base form.now checkpoint jobs.now (lists rows.now))) }
+    ensures lines { IfOk result (λ x. x.lines ≡ piece_lines state.old form.now tag.now (copied (ledger state.old) form.now checkpoint jobs.now (lists rows.now))) }
+    ensures objects { IfOk result (λ x. x.objects ≡ pieces_put state.old form.now tag.now (copied (ledger state.old) form.now checkpoint jobs.now (lists rows.now))) }
     ensures removes { IfOk result (λ x. x.removes ≡ []) }
 {
     let mut handed = Handed {
@@ -111,7 +149,18 @@ fn record_all(
         let read = rows[index].as_slice();
         let piece = piece_of(alloc, state, form, *job, checkpoint, read)?;
         let copy = is_copy(form, *job);
-        record_piece(alloc, state, edits, &mut handed, form, tag, copy, &piece)?;
+        let reads = read.len() as u64;
+        record_piece(
+            alloc,
+            state,
+            edits,
+            &mut handed,
+            form,
+            tag,
+            copy,
+            &piece,
+            reads,
+        )?;
     }
     Ok(handed)
 }
@@ -148,8 +197,8 @@ fn tell_writes(lines: &mut Seq<Line>, scns: &[Vec<Scn>]) -> Result<(), NoMemory>
 }
 
 /// BACKUP of datafiles, full, of level 0 or of level 1, while the database writes: by so many channels, 1 to 16, which call the
-/// gate before each section, and a writer for each thread. Each block of each datafile is read once, in a turn of its own,
-/// and each write of the DURING is made once, those of a thread in their order; how their turns interleave is free. The
+/// gate before each section, and a writer for each thread. Each block that is wanted of each datafile is read once, in a turn of its
+/// own, and each write of the DURING is made once, those of a thread in their order; how their turns interleave is free. The
 /// pieces have `now` at the start as their checkpoint. An error is want of memory; then nothing is said of the state
 /// and the edits.
 pub fn backup<G: Gate, R: Threads + Wait + Sync>(

@@ -15,6 +15,7 @@ use crate::opening::open_at;
 use rm_base::{Limit, NoMemory, Refusal, Scn, Seq};
 use rm_catalog::{BaseEntry, Edit};
 use rm_machine::{Handed, State};
+use rm_machine_code::tracking::first_tracker;
 use rm_redo::OnlineLogs;
 use rm_report::Line;
 use std::alloc::Global;
@@ -70,13 +71,15 @@ fn branch_off(
         ..base
     };
     state.catalog.set_base(edits, base)?;
+    let tracker = first_tracker(alloc, &state.catalog, true)?;
     state.instance.logs = logs;
+    state.instance.tracker = tracker;
     Ok(())
 }
 
 /// OPEN RESETLOGS: archives what there is of each online log, and opens the database at its point as a new
-/// incarnation, with its mark and with fresh logs. An error is want of memory; then nothing is said of the state
-/// and the edits.
+/// incarnation, with its mark and with fresh logs; where changes are tracked they are from there on. An error is want
+/// of memory; then nothing is said of the state and the edits.
 pub fn open_resetlogs(
     alloc: Global,
     state: &mut State,

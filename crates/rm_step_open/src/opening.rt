@@ -5,6 +5,7 @@ ghost use Rattle.rm_lang_statement.specs.declared.command.Command.TheVariants.{O
 ghost use Rattle.rm_machine.specs.Hands.{Hands};
 ghost use Rattle.rm_machine.specs.Open.{is_recovered, open_refusal, opened};
 ghost use Rattle.rm_machine.specs.Sound.{IsSound};
+ghost use Rattle.rm_machine.specs.Tracked.{with_tracker};
 
 use crate::place::keep_in_place;
 use rm_base::{NoMemory, Refusal, Scn, Seq};
@@ -12,6 +13,7 @@ use rm_machine::handed::of_line;
 use rm_machine::{Handed, State};
 use rm_machine_code::facts::{has_lost, now};
 use rm_machine_code::room::ids_refusal;
+use rm_machine_code::tracking::first_tracker;
 use rm_report::Line;
 use std::alloc::Global;
 use std::mem;
@@ -42,10 +44,11 @@ pub fn open_refusal(state: &State) -> Option<Refusal>
     }
 }
 
-/// Opens a sound database at an SCN of the current incarnation: what does not exist there goes out of place.
+/// Opens a sound database at an SCN of the current incarnation: what does not exist there goes out of place. Its bitmaps
+/// stay as they are.
 pub(crate) fn open_at(alloc: Global, state: &mut State, at: Scn)
     requires sound { IsSound state.old }
-    ensures value { state.new ≡ opened state.old at }
+    ensures value { state.new ≡ with_tracker (opened state.old at) state.old.instance.tracker }
 {
     let current = state.catalog.base().current;
     let mut place = mem::replace(&mut state.instance.place, Seq::new(alloc)).into_vec();
@@ -55,8 +58,8 @@ pub(crate) fn open_at(alloc: Global, state: &mut State, at: Scn)
     state.instance.is_open = true;
 }
 
-/// OPEN: opens the database as it was recovered, at its end. The catalog stays. An error is want of memory; then
-/// nothing changes.
+/// OPEN: opens the database as it was recovered, at its end, and tracks changes from there on where that is asked for.
+/// The catalog stays. An error is want of memory; then nothing changes.
 pub fn open(alloc: Global, state: &mut State) -> Result<Handed, NoMemory>
     requires sound { IsSound state.old }
     requires accepted { open_refusal state.old ≡ None }
@@ -64,7 +67,9 @@ pub fn open(alloc: Global, state: &mut State) -> Result<Handed, NoMemory>
     ensures catalog { OnOk result (state.new.catalog ≡ state.old.catalog) }
 {
     let (inc, scn) = (state.catalog.base().current, now(state));
+    let tracker = first_tracker(alloc, &state.catalog, true)?;
     let handed = of_line(alloc, Line::Opened { inc, scn })?;
     open_at(alloc, state, scn);
+    state.instance.tracker = tracker;
     Ok(handed)
 }

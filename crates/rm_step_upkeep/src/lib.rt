@@ -1,5 +1,5 @@
 //! The upkeep of records: CATALOG, CHANGE BACKUP, DELETE BACKUP, DELETE EXPIRED and CROSSCHECK; and the settings of a database:
-//! CONFIGURE RETENTION POLICY, and CONFIGURE DEVICE TYPE DISK PARALLELISM.
+//! CONFIGURE RETENTION POLICY and DEVICE TYPE DISK PARALLELISM, and ENABLE and DISABLE BLOCK CHANGE TRACKING.
 #![tactic(auto)]
 
 mod amending;
@@ -13,6 +13,7 @@ mod naming;
 mod parallelism;
 mod refusing;
 mod retention;
+mod tracking;
 
 pub use cataloguing::catalog;
 pub use changing::change_backup;
@@ -22,3 +23,4 @@ pub use expiring::delete_expired;
 pub use parallelism::{configure_parallelism, parallelism_refusal};
 pub use refusing::record_refusal;
 pub use retention::{configure_retention, retention_refusal};
+pub use tracking::track_changes;

@@ -1,48 +1,51 @@
 -- The states that the statements leave, put together from their parts.
-use Rattle.std.proofs.Common.{◌≡◌, ◌-◌, ◌∙◌, ℕ, List, Option, Some, None, [], ◌∷◌, ◌++◌, ap, slice_index_or, slice_set}
+use Rattle.std.proofs.Common.{◌≡◌, ◌+◌, ◌-◌, ◌∙◌, ℕ, List, Option, Some, None, [], ◌∷◌, ◌++◌, ap, slice_index_or, slice_set}
 use Rattle.std.specs.Option.{option_map}
 use Rattle.rm_base.specs.declared.block.Change.{Change}
 use Rattle.rm_blocks.specs.File.{File, created, written}
+use Rattle.rm_history.specs.declared.world.Datafile.{Datafile}
 use Rattle.rm_lang_statement.specs.declared.command.WriteForm.{WriteForm}
 use Rattle.rm_redo.specs.Logs.{Logs}
 use Rattle.rm_redo.specs.Online.{with_change}
+use Rattle.rm_track.specs.Bitmaps.{Tracked, fresh, mark_at}
 use Rattle.rm_catalog_typed.specs.Changes.{with_file}
 use Rattle.rm_catalog_typed.specs.TypedCatalog.{TypedCatalog}
 use Rattle.rm_machine.specs.CreateDatafile.{new_datafile, next_file, with_datafile}
 use Rattle.rm_machine.specs.Marks.{one_further}
-use Rattle.rm_machine.specs.State.{current_of, now_of}
 use Rattle.rm_machine.specs.Write.{change_of, with_write}
 use Rattle.rm_machine.specs.declared.state.Instance.{Instance}
 use Rattle.rm_machine.specs.declared.state.State.{State}
+use Rattle.rm_step_write.specs.Tracking.{tracking_too}
 
 -- what is in place, with the change in its row
 abbrev pub with_row : List (Option File) → Change → List (Option File)
 with_row place c = slice_set place (c.file - 1) (option_map (λ x. written x c.block c.scn c.content) (slice_index_or place (c.file - 1) None))
 
 abbrev changed : TypedCatalog → Instance → Change → State
-changed r i c = record { catalog = r; instance = record i { logs = with_change i.logs c; place = with_row i.place c } }
+changed r i c = record { catalog = r; instance = record i { logs = with_change i.logs c; place = with_row i.place c; tracker = mark_at i.tracker c.file c.block } }
 
--- p is one SCN further than s, and then the change goes to the logs and to its row
-pub after-write : (s p : State) (w : WriteForm) (c : Change) (logs : Logs) (old new : List (Option File))
-    → c ≡ change_of s w → p.catalog ≡ one_further s → p.instance ≡ s.instance → logs ≡ with_change p.instance.logs c → old ≡ p.instance.place → new ≡ with_row old c
-    → record { catalog = p.catalog; instance = record p.instance { logs = logs; place = new } } ≡ with_write s w
-after-write s p w c logs old new made catalog instance logged took put =
-    ap (λ l. record { catalog = p.catalog; instance = record p.instance { logs = l; place = new } }) logged
-    ∙ ap (λ x. record { catalog = p.catalog; instance = record p.instance { logs = with_change p.instance.logs c; place = x } }) (put ∙ ap (λ x. with_row x c) took)
-    ∙ ap (λ r. changed r p.instance c) catalog
-    ∙ ap (λ i. changed (one_further s) i c) instance
-    ∙ ap (changed (one_further s) s.instance) made
+-- p is one SCN further than s, and then the change goes to the logs and to its row, and its block is marked
+pub after-write : (s p : State) (w : WriteForm) (c : Change) (logs : Logs) (old new : List (Option File)) (tracker : List Tracked)
+    → c ≡ change_of s w → p.catalog ≡ one_further s → p.instance ≡ s.instance → logs ≡ with_change p.instance.logs c → old ≡ p.instance.place → new ≡ with_row old c → tracker ≡ mark_at p.instance.tracker c.file c.block
+    → record { catalog = p.catalog; instance = record p.instance { logs = logs; place = new; tracker = tracker } } ≡ with_write s w
+after-write s p w c logs old new tracker made catalog instance logged took put marked =
+    let row : new ≡ with_row p.instance.place c = put ∙ ap (λ x. with_row x c) took in
+    let parts : record { catalog = p.catalog; instance = record p.instance { logs = logs; place = new; tracker = tracker } } ≡ changed p.catalog p.instance c = λ i. record { catalog = p.catalog; instance = record p.instance { logs = logged i; place = row i; tracker = marked i } } in
+    let whole : changed p.catalog p.instance c ≡ changed (one_further s) s.instance (change_of s w) = λ i. changed (catalog i) (instance i) (made i) in
+    parts ∙ whole
 
-abbrev added : TypedCatalog → Instance → File → State
-added r i x = record { catalog = r; instance = record i { place = i.place ++ Some x ∷ [] } }
+-- with datafile n in the catalog and in its place, and tracked where changes are
+abbrev added : TypedCatalog → Instance → ℕ → Datafile → State
+added r i n d =
+    tracking_too (record { catalog = with_file r d; instance = record i { place = i.place ++ Some (created n d.inc d.creation d.blocks) ∷ [] } }) (fresh n d.blocks (d.creation + 1))
 
--- p is one SCN further than s, and then the datafile comes to the catalog and into its place
-pub after-datafile : (s p : State) (blocks : ℕ) (catalog : TypedCatalog) (x : File) (place : List (Option File))
-    → p.catalog ≡ one_further s → p.instance ≡ s.instance → catalog ≡ with_file p.catalog (new_datafile s blocks)
-    → x ≡ created (next_file s) (current_of s) (now_of s) blocks → place ≡ p.instance.place ++ Some x ∷ []
-    → record { catalog = catalog; instance = record p.instance { place = place } } ≡ with_datafile s blocks
-after-datafile s p blocks catalog x place went instance grew empty put =
-    ap (λ l. record { catalog = catalog; instance = record p.instance { place = l } }) put
-    ∙ ap (λ r. added r p.instance x) (grew ∙ ap (λ r. with_file r (new_datafile s blocks)) went)
-    ∙ ap (λ i. added (with_file (one_further s) (new_datafile s blocks)) i x) instance
-    ∙ ap (added (with_file (one_further s) (new_datafile s blocks)) s.instance) empty
+-- p is one SCN further than s, and then the datafile comes to the catalog and into its place, and is tracked where changes are
+pub after-datafile : (s p : State) (blocks n : ℕ) (d : Datafile) (catalog : TypedCatalog) (x : File) (place : List (Option File))
+    → n ≡ next_file s → d ≡ new_datafile s blocks → p.catalog ≡ one_further s → p.instance ≡ s.instance → catalog ≡ with_file p.catalog d
+    → x ≡ created n d.inc d.creation d.blocks → place ≡ p.instance.place ++ Some x ∷ []
+    → tracking_too (record { catalog = catalog; instance = record p.instance { place = place } }) (fresh n d.blocks (d.creation + 1)) ≡ with_datafile s blocks
+after-datafile s p blocks n d catalog x place number made went instance grew empty put =
+    let stands : place ≡ p.instance.place ++ Some (created n d.inc d.creation d.blocks) ∷ [] = put ∙ ap (λ (y : File). p.instance.place ++ Some y ∷ []) empty in
+    let parts : tracking_too (record { catalog = catalog; instance = record p.instance { place = place } }) (fresh n d.blocks (d.creation + 1)) ≡ added p.catalog p.instance n d = λ i. tracking_too (record { catalog = grew i; instance = record p.instance { place = stands i } }) (fresh n d.blocks (d.creation + 1)) in
+    let whole : added p.catalog p.instance n d ≡ added (one_further s) s.instance (next_file s) (new_datafile s blocks) = λ i. added (went i) (instance i) (number i) (made i) in
+    parts ∙ whole

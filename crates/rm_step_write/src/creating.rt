@@ -6,10 +6,13 @@ ghost use Rattle.rm_machine.specs.CreateDatafile.{datafile_refusal, new_datafile
 ghost use Rattle.rm_machine.specs.Hands.{Hands};
 ghost use Rattle.rm_machine.specs.Sound.{IsSound};
 ghost use Rattle.rm_machine.specs.State.{ledger};
+ghost use Rattle.rm_machine.specs.Tracked.{tracks};
+ghost use Rattle.rm_track.specs.Bitmaps.{fresh};
 ghost use Rattle.rm_catalog_typed.specs.Changes.{EditsFollow};
+ghost use Rattle.rm_step_write.specs.Tracking.{tracking_too};
 
 use crate::further::{go_further, mark_count};
-use rm_base::{FileNo, LAST_SCN, Limit, NoMemory, Refusal};
+use rm_base::{FileNo, LAST_SCN, Limit, NoMemory, Refusal, Scn};
 use rm_blocks::DataFile;
 use rm_catalog::Edit;
 use rm_history::Datafile;
@@ -88,8 +91,34 @@ fn new_datafile(state: &State, blocks: u32) -> Datafile
     }
 }
 
+// Whether changes are tracked.
+fn tracks(state: &State) -> bool
+    ensures { result ≡ tracks state.now.instance.is_open (ledger state.now) }
+{
+    state.instance.is_open && state.catalog.base().tracking
+}
+
+// Tracks a datafile of so many blocks from `start` on, where changes are tracked. An error is want of memory; then nothing
+// is said of the state.
+fn track(
+    alloc: Global,
+    state: &mut State,
+    file: FileNo,
+    blocks: u32,
+    start: Scn,
+) -> Result<(), NoMemory>
+    ensures { OnOk result (state.new ≡ tracking_too state.old (fresh file blocks start)) }
+{
+    if tracks(state) {
+        state.instance.tracker.add_file(alloc, file, blocks, start)
+    } else {
+        Ok(())
+    }
+}
+
 /// CREATE DATAFILE: a datafile of 1 block at least takes the next number and the SCN `now`, and stands in place as
-/// it was created. An error is want of memory; then nothing is said of the state and the edits.
+/// it was created. Where changes are tracked its own are from the next SCN on. An error is want of memory; then
+/// nothing is said of the state and the edits.
 pub fn create_datafile(
     alloc: Global,
     state: &mut State,
@@ -119,5 +148,6 @@ pub fn create_datafile(
     go_further(state, edits)?;
     state.catalog.add_file(edits, datafile)?;
     state.instance.place.push(Some(empty))?;
+    track(alloc, state, file, datafile.blocks, datafile.creation + 1)?;
     Ok(handed)
 }

@@ -118,8 +118,8 @@ fn put_row(place: &mut Vec<Option<DataFile>>, change: Change)
     }
 }
 
-/// WRITE: the change takes the SCN `now`, and goes to its row in place and to the online log of its thread. An error
-/// is want of memory; then nothing is said of the state and the edits.
+/// WRITE: the change takes the SCN `now`, and goes to its row in place and to the online log of its thread; its block is
+/// marked where changes are tracked. An error is want of memory; then nothing is said of the state and the edits.
 pub fn write(
     alloc: Global,
     state: &mut State,
@@ -141,5 +141,6 @@ pub fn write(
     let mut place = mem::replace(&mut state.instance.place, Seq::new(alloc)).into_vec();
     put_row(&mut place, change);
     state.instance.place = Seq::from_vec(place);
+    state.instance.tracker.mark(change.file, change.block);
     Ok(handed)
 }

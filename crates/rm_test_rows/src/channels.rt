@@ -63,35 +63,87 @@ pub fn held<R: Threads + Wait + Sync>(rt: &R, alloc: Global) -> Result<bool, NoM
     Ok(status == 0 && is_told && !gate.is_given_up.load(Ordering::SeqCst))
 }
 
-// It counts the sections of datafiles.
+// It counts the sections of datafiles, and the blocks that are read of them.
 #[derive(Drop)]
 struct Counting {
     sections: AtomicU64,
+    blocks: AtomicU64,
 }
 
 impl Gate for Counting {
     fn at(&self, point: Point) {
         if point.file > 0 {
             self.sections.fetch_add(1, Ordering::SeqCst);
+            self.blocks
+                .fetch_add(u64::from(point.blocks), Ordering::SeqCst);
         }
     }
 }
 
-// How many sections the only datafile is read in by a script, with these words.
+// In how many sections, and how many blocks, a script reads datafiles, with these words.
+fn reads<R: Threads + Wait + Sync>(
+    rt: &R,
+    alloc: Global,
+    words: &[&str],
+    script: &[u8],
+) -> Result<(u64, u64), NoMemory> {
+    let gate = Counting {
+        sections: AtomicU64::new(0),
+        blocks: AtomicU64::new(0),
+    };
+    let script = Vec::from_slice(alloc, script)?;
+    let mut sink = sink(alloc)?;
+    let status = run_script(rt, alloc, &gate, words, script, &mut sink)?;
+    let sections = gate.sections.load(Ordering::SeqCst);
+    let blocks = gate.blocks.load(Ordering::SeqCst);
+    Ok(if status == 0 {
+        (sections, blocks)
+    } else {
+        (0, 0)
+    })
+}
+
+// In how many sections a script reads the only datafile, with these words.
 fn sections<R: Threads + Wait + Sync>(
     rt: &R,
     alloc: Global,
     words: &[&str],
     script: &[u8],
 ) -> Result<u64, NoMemory> {
-    let gate = Counting {
-        sections: AtomicU64::new(0),
-    };
-    let script = Vec::from_slice(alloc, script)?;
-    let mut sink = sink(alloc)?;
-    let status = run_script(rt, alloc, &gate, words, script, &mut sink)?;
-    let sections = gate.sections.load(Ordering::SeqCst);
-    Ok(if status == 0 { sections } else { 0 })
+    Ok(reads(rt, alloc, words, script)?.0)
+}
+
+// A level 0 of a tracked datafile, so many writes with a level 1 each, another write, and a cumulative one.
+fn tracked_script(alloc: Global, writes: u32) -> Result<Vec<u8>, NoMemory> {
+    let mut script = Vec::from_slice(
+        alloc,
+        b"CREATE DATABASE; CREATE DATAFILE BLOCKS 8; ALTER DATABASE ENABLE BLOCK CHANGE TRACKING; BACKUP INCREMENTAL LEVEL 0 DATABASE;",
+    )?;
+    for block in 0..writes {
+        let text = format!(in alloc;
+            "WRITE DATAFILE 1 BLOCK {block} VALUE 'a'; BACKUP INCREMENTAL LEVEL 1 DATABASE;"
+        )?;
+        script.extend_from_slice(text.as_bytes())?;
+    }
+    let text = format!(in alloc;
+        "WRITE DATAFILE 1 BLOCK {writes} VALUE 'a'; BACKUP INCREMENTAL LEVEL 1 CUMULATIVE DATABASE;"
+    )?;
+    script.extend_from_slice(text.as_bytes())?;
+    Ok(script)
+}
+
+/// The channels read just the blocks that a level 1 wants, by whatever channels: 8 + 7 + 8 where the bitmaps do not go back to
+/// the level 0, and 8 + 6 + 7 where they do.
+pub fn tracked<R: Threads + Wait + Sync>(rt: &R, alloc: Global) -> Result<bool, NoMemory> {
+    let seven = tracked_script(alloc, 7)?;
+    let six = tracked_script(alloc, 6)?;
+    let words = ["--channels", "4"];
+    Ok(
+        reads(rt, alloc, &[], seven.as_slice())?.1 == 23
+            && reads(rt, alloc, &[], six.as_slice())?.1 == 21
+            && reads(rt, alloc, &words, seven.as_slice())?.1 == 23
+            && reads(rt, alloc, &words, six.as_slice())?.1 == 21,
+    )
 }
 
 /// The channels are those of the RUN, or else those of the words, or else those that are configured.

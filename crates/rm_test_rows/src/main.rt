@@ -103,6 +103,7 @@ fn tell_runs<R: Threads + Wait + Sync>(rt: &HostRuntime, threads: &R) -> io::Res
     let alloc = rt.alloc();
     tell(rt, "gate-holds-section", channels::held(threads, alloc))?;
     tell(rt, "how many channels", channels::counted(threads, alloc))?;
+    tell(rt, "how many blocks", channels::tracked(threads, alloc))?;
     tell(rt, "a script too long", runs::too_long(threads, alloc))?;
     tell(rt, "a full log", full_log::full(threads, alloc))
 }

@@ -4,7 +4,7 @@ use Rattle.rm_machine.specs.Sound.{IsSound}
 use Rattle.rm_machine.specs.declared.state.State.{State}
 use Rattle.rm_catalog_typed.specs.TypedCatalog.{Saved}
 use Rattle.rm_session.specs.Fit.{StandNow, with_point}
-use Rattle.rm_session.proofs.Standing.{sound-mounted}
+use Rattle.rm_session.proofs.Standing.{sound-mounted, sound-without}
 use Rattle.rm_session.proofs.point.point_of.Goals as goal
 
 stand-by : (s : State) (o : Option Saved) (site : Saved) → Some site ≡ o → IfSome o (λ site. site.head.opened ≡ true → StandNow s) → site.head.opened ≡ true → StandNow s
@@ -17,3 +17,6 @@ returns-then-head-clause-sound c =
     let opened : site.head.opened ≡ true = ap (λ (h : HeadEntry). h.opened) (sym c.head-head.ensures) ∙ c.if-head.true in
     let now : StandNow c.args.state.now = stand-by c.args.state.now c.args.state.now.catalog.saved site is c.requires.stand opened in
     subst (λ p. IsSound (with_point c.args.state.now p)) (sym c.mount_point.ensures) (sound-mounted c.args.state.now c.requires.sound c.if-state.false now)
+
+pub returns-in_err-saved-clause-sound : goal.returns-in_err-saved-clause-sound
+returns-in_err-saved-clause-sound c = subst (λ p. IsSound (with_point c.args.state.now p)) (sym c.from_residual.ensures) (sound-without c.args.state.now c.requires.sound)

@@ -12,7 +12,7 @@ pub returns-in_err-objects-clause-stopped : goal.returns-in_err-objects-clause-s
 returns-in_err-objects-clause-stopped g c = on-err _ c.from_residual.result (stops-before (g.D.Store.held c.args.store.now) (g.C.Keeper.kept c.args.keeper.now) c.args.state)
 
 -- the edits of the save lead to the catalog with the saved site
-edits : (g : Over) (c : goal.After-drop-state-9 g) → after_edits c.from_vec.result (records_of c.args.state.catalog) ≡ records_of (with_site c.args.state)
+edits : (g : Over) (c : goal.After-drop-state-10 g) → after_edits c.from_vec.result (records_of c.args.state.catalog) ≡ records_of (with_site c.args.state)
 edits g c =
     let s = c.args.state in
     let put = c.in_ok-objects.ensures in

@@ -41,4 +41,4 @@ returns-clause-ran g c =
     let back = c.in_ok-give_back.ensures in
     let risen = c.in_ok-raise_to.ensures in
     returned c.args.state.now c.requires.sound c.args.jobs.now (lists c.args.writers.now) c.requires.follow q w gone c.raise_to.new.state
-    (returned-by c.args.state.now c.take_out.new.state c.give_back.new.state c.raise_to.new.state q out.catalog out.mode out.point back.place back.logs back.catalog back.mode back.point risen.catalog risen.instance)
+    (returned-by c.args.state.now c.take_out.new.state c.give_back.new.state c.raise_to.new.state q out.catalog out.mode out.point back.place back.logs back.tracker back.catalog back.mode back.point risen.catalog risen.instance)

@@ -1,8 +1,6 @@
-use Rattle.std.proofs.Common.{◌∙◌, ◌++◌, ℕ, List, Vec, ap, length, rules}
-use Rattle.std.specs.Global.{Global}
+use Rattle.std.proofs.Common.{◌∙◌, ap, length, rules}
 use Rattle.rm_channel.specs.Jobs.{lists}
 use Rattle.rm_machine.specs.Backup.{AreJobs, IsTagBy, named_tag}
-use Rattle.rm_machine.specs.BackupOutcome.{write_lines}
 use Rattle.rm_machine.specs.MadePieces.{CanRecord, copied}
 use Rattle.rm_machine.specs.State.{ledger}
 use Rattle.rm_machine_code.proofs.Tags.{tag-fits}
@@ -38,7 +36,7 @@ record_all-requires-clause-can g c =
     let t = c.run.new.state in
     let by : IsTagBy (named_tag c.args.form.now) c.args.state.now.catalog.ledger.base.moment c.in_ok-tag.tag = search rules in
     let are = coe 1 0 (i. AreJobs c.args.state.now c.args.form.now (c.as_slice-jobs.ensures.value i)) c.in_ok-made.ensures in
-    coe 1 0 (i. CanRecord t c.args.form.now c.in_ok-tag.tag (copied (ledger t).base c.args.form.now (c.now-checkpoint.ensures i) c.as_slice-jobs.result.now (lists (c.as_slice-rows.ensures.value i))))
+    coe 1 0 (i. CanRecord t c.args.form.now c.in_ok-tag.tag (copied (ledger t) c.args.form.now (c.now-checkpoint.ensures i) c.as_slice-jobs.result.now (lists (c.as_slice-rows.ensures.value i))))
     (ran-record c.args.state.now c.args.form.now c.requires.sound c.requires.statement c.requires.accepted c.in_ok-tag.tag by c.as_slice-jobs.result.now are c.run.new.state c.in_ok-work.work c.in_ok-work.ensures.ran)
 
 pub tell_writes-requires : goal.tell_writes-requires
@@ -49,12 +47,12 @@ tell_writes-requires g c =
 
 pub returns-clause-hands : goal.returns-clause-hands
 returns-clause-hands g c held =
-    let base = (ledger c.run.new.state).base in
+    let records = ledger c.run.new.state in
     let js = c.as_slice-jobs.result.now in
     let made = c.in_ok-handed.ensures in
     let by : IsTagBy (named_tag c.args.form.now) c.args.state.now.catalog.ledger.base.moment c.in_ok-tag.tag = search rules in
     let are = coe 1 0 (i. AreJobs c.args.state.now c.args.form.now (c.as_slice-jobs.ensures.value i)) c.in_ok-made.ensures in
     hands c.args.state.now c.args.form.now c.requires.sound c.requires.statement c.requires.accepted c.in_ok-tag.tag by c.as_slice-jobs.result.now are c.run.new.state c.in_ok-work.work c.in_ok-work.ensures.ran
-    (copied base c.args.form.now c.now-checkpoint.result js (lists c.as_slice-rows.result.now)) (λ i. copied base c.args.form.now (c.now-checkpoint.ensures i) js (lists (c.as_slice-rows.ensures.value i)))
+    (copied records c.args.form.now c.now-checkpoint.result js (lists c.as_slice-rows.result.now)) (λ i. copied records c.args.form.now (c.now-checkpoint.ensures i) js (lists (c.as_slice-rows.ensures.value i)))
     c.record_all.new.state c.in_ok-handed.handed c.tell_none.new.lines c.tell_writes.new.lines made.after made.lines made.objects made.removes
-    c.in_ok-tell_none.ensures (c.in_ok-tell_writes.ensures ∙ ap (λ (vs : List (Vec ℕ Global)). c.tell_none.new.lines ++ write_lines 1 (lists vs)) c.as_slice.ensures.value) held
+    c.in_ok-tell_none.ensures c.as_slice.result.now c.as_slice.ensures.value c.in_ok-tell_writes.ensures held

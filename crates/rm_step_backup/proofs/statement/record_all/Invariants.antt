@@ -7,5 +7,5 @@ use Rattle.rm_step_backup.proofs.statement.record_all.Given as goal
 
 abbrev pub invariant-loop-index : goal.invariant-loop-index
 invariant-loop-index l =
-    let base = (ledger l.fn.state).base in
-    IsUnderWay l.fn.state l.form l.tag (copied base l.form l.checkpoint l.jobs (lists l.rows)) (copied base l.form l.checkpoint (drop l.index l.jobs) (drop l.index (lists l.rows))) l.fn.edits.items l.edits.items l.state l.handed
+    let records = ledger l.fn.state in
+    IsUnderWay l.fn.state l.form l.tag (copied records l.form l.checkpoint l.jobs (lists l.rows)) (copied records l.form l.checkpoint (drop l.index l.jobs) (drop l.index (lists l.rows))) l.fn.edits.items l.edits.items l.state l.handed

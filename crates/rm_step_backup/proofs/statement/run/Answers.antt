@@ -1,60 +1,67 @@
-use Rattle.std.proofs.Common.{◌∙◌, ap, map, All}
+use Rattle.std.proofs.Common.{◌∙◌, ap, sym, subst, All}
 use Rattle.std.proofs.lemmas.Result.{IfOk-weaker}
-use Rattle.std.proofs.lemmas.Simd.{map-map}
-use Rattle.rm_channel.specs.Jobs.{lists, whole}
+use Rattle.rm_channel.specs.Jobs.{lists}
 use Rattle.rm_channel.specs.Room.{AreThreads, CanWrite, IsThere}
-use Rattle.rm_machine.specs.Asked.{copy_job}
 use Rattle.rm_machine.specs.Events.{opening}
 use Rattle.rm_machine.specs.Sound.{IsSound}
+use Rattle.rm_machine.specs.declared.job.Job.{Job}
 use Rattle.rm_machine_code.proofs.BackupAccepted.{can-back_up}
+use Rattle.rm_step_backup.specs.Copying.{AreCopiesOf, Stands}
 use Rattle.rm_step_backup.specs.Running.{CanFollow, HasRunLive}
-use Rattle.rm_step_backup.proofs.Backed.{HasWorked, can-follow, few-lists, jobs-some, marked-sound}
-use Rattle.rm_step_backup.proofs.Room.{fits-numbers, marked-there, marked-threads, marked-writes}
+use Rattle.rm_step_backup.proofs.Backed.{HasWorked, begun-sound, can-follow, few-lists}
+use Rattle.rm_step_backup.proofs.Room.{begun-stand, begun-threads, begun-writes, fits-numbers}
 use Rattle.rm_step_backup.proofs.statement.run.Goals as goal
 
 pub writers_of-requires : goal.writers_of-requires
 writers_of-requires g c = record { fits = fits-numbers c.args.state.now c.args.form.now c.requires.sound (can-back_up c.args.state.now c.args.form.now c.requires.sound c.requires.accepted) }
 
-pub copy_jobs-requires-clause-some : goal.copy_jobs-requires-clause-some
-copy_jobs-requires-clause-some g c =
-    jobs-some c.args.state.now c.args.form.now c.args.jobs.now c.requires.sound (can-back_up c.args.state.now c.args.form.now c.requires.sound c.requires.accepted) c.requires.jobs
+pub begin-requires-clause-jobs : goal.begin-requires-clause-jobs
+begin-requires-clause-jobs g c = c.requires.jobs.files
+
+pub copy_jobs-requires-clause-sound : goal.copy_jobs-requires-clause-sound
+copy_jobs-requires-clause-sound g c =
+    let can = can-back_up c.args.state.now c.args.form.now c.requires.sound c.requires.accepted in
+    coe 1 0 (i. IsSound (c.in_ok-begin.ensures.after i)) (begun-sound c.args.state.now c.args.form.now c.requires.sound can)
+
+pub copy_jobs-requires-clause-stand : goal.copy_jobs-requires-clause-stand
+copy_jobs-requires-clause-stand g c =
+    let can = can-back_up c.args.state.now c.args.form.now c.requires.sound c.requires.accepted in
+    coe 1 0 (i. All (λ (j : Job). Stands (c.in_ok-begin.ensures.after i) j.file) c.args.jobs.now) (begun-stand c.args.state.now c.args.form.now c.args.jobs.now c.requires.sound can c.requires.jobs)
 
 pub run_live-requires-clause-sound : goal.run_live-requires-clause-sound
 run_live-requires-clause-sound g c κs within =
     let can = can-back_up c.args.state.now c.args.form.now c.requires.sound c.requires.accepted in
-    coe 1 0 (i. IsSound (c.in_ok-mark.ensures.after i)) (marked-sound c.args.state.now c.args.form.now c.requires.sound can)
+    coe 1 0 (i. IsSound (c.in_ok-begin.ensures.after i)) (begun-sound c.args.state.now c.args.form.now c.requires.sound can)
 
 pub run_live-requires-clause-follow : goal.run_live-requires-clause-follow
 run_live-requires-clause-follow g c κs within =
     let can = can-back_up c.args.state.now c.args.form.now c.requires.sound c.requires.accepted in
     let written = ap lists c.as_slice-2.ensures.value ∙ c.in_ok-writers.ensures.lists in
-    coe 1 0 (i. CanFollow (c.in_ok-mark.ensures.after i) (written i)) (can-follow c.args.state.now c.args.form.now can)
+    coe 1 0 (i. CanFollow (c.in_ok-begin.ensures.after i) (written i)) (can-follow c.args.state.now c.args.form.now can)
 
 pub run_live-requires-clause-lists : goal.run_live-requires-clause-lists
 run_live-requires-clause-lists g c κs within =
     few-lists c.args.state.now c.args.form.now c.as_slice-2.result.now c.requires.sound (ap lists c.as_slice-2.ensures.value ∙ c.in_ok-writers.ensures.lists)
 
 pub run_live-requires-clause-there : goal.run_live-requires-clause-there
-run_live-requires-clause-there g c κs within =
-    let can = can-back_up c.args.state.now c.args.form.now c.requires.sound c.requires.accepted in
-    coe 1 0 (i. All (IsThere (opening (c.in_ok-mark.ensures.after i)).files) c.as_slice.result.now)
-    (marked-there c.args.state.now c.args.form.now c.args.jobs.now c.as_slice.result.now c.requires.sound can c.requires.jobs (c.as_slice.ensures.value ∙ c.in_ok-copies.ensures))
+run_live-requires-clause-there g c κs within = subst (All (IsThere (opening c.begin.new.state).files)) (sym c.as_slice.ensures.value) c.in_ok-copies.ensures.there
 
 pub run_live-requires-clause-threads : goal.run_live-requires-clause-threads
 run_live-requires-clause-threads g c κs within =
     let can = can-back_up c.args.state.now c.args.form.now c.requires.sound c.requires.accepted in
     let written = ap lists c.as_slice-2.ensures.value ∙ c.in_ok-writers.ensures.lists in
-    coe 1 0 (i. AreThreads (opening (c.in_ok-mark.ensures.after i)).logs 1 (written i)) (marked-threads c.args.state.now c.args.form.now c.requires.sound can)
+    coe 1 0 (i. AreThreads (opening (c.in_ok-begin.ensures.after i)).logs 1 (written i)) (begun-threads c.args.state.now c.args.form.now c.requires.sound can)
 
 pub run_live-requires-clause-room : goal.run_live-requires-clause-room
 run_live-requires-clause-room g c κs within =
     let can = can-back_up c.args.state.now c.args.form.now c.requires.sound c.requires.accepted in
     let written = ap lists c.as_slice-2.ensures.value ∙ c.in_ok-writers.ensures.lists in
-    coe 1 0 (i. CanWrite (opening (c.in_ok-mark.ensures.after i)) (written i)) (marked-writes c.args.state.now c.args.form.now c.requires.sound can)
+    coe 1 0 (i. CanWrite (opening (c.in_ok-begin.ensures.after i)) (written i)) (begun-writes c.args.state.now c.args.form.now c.requires.sound can)
 
 pub returns-clause-ran : goal.returns-clause-ran
 returns-clause-ran g c =
-    let spans = ap (map whole) (c.as_slice.ensures.value ∙ c.in_ok-copies.ensures) ∙ map-map whole (copy_job c.args.state.now) c.args.jobs.now in
+    let begun = c.in_ok-begin.ensures.after in
+    let copies = coe 0 1 (i. AreCopiesOf (begun i) c.args.jobs.now (sym c.as_slice.ensures.value i)) c.in_ok-copies.ensures in
     let written = ap lists c.as_slice-2.ensures.value ∙ c.in_ok-writers.ensures.lists in
-    IfOk-weaker c.run_live.result (HasRunLive c.mark.new.state c.as_slice.result.now (lists c.as_slice-2.result.now) c.run_live.new.state) (HasWorked c.args.state.now c.args.form.now c.args.jobs.now c.run_live.new.state)
-    (λ w ran. (c.as_slice.result.now, spans, coe 0 1 (i. HasRunLive (c.in_ok-mark.ensures.after i) c.as_slice.result.now (written i) c.run_live.new.state w) ran)) c.run_live.ensures.ran
+    IfOk-weaker c.run_live.result (HasRunLive c.begin.new.state c.as_slice.result.now (lists c.as_slice-2.result.now) c.run_live.new.state) (HasWorked c.args.state.now c.args.form.now c.args.jobs.now c.run_live.new.state)
+    (λ w ran. (c.as_slice.result.now, copies.spans, coe 0 1 (i. HasRunLive (begun i) c.as_slice.result.now (written i) c.run_live.new.state w) ran)) c.run_live.ensures.ran

@@ -1,9 +1,7 @@
 use Rattle.std.proofs.Common.{ℕ, ◌≡◌, ◌∙◌, [], ◌∷◌, ap, refl, sym, subst}
-use Rattle.rm_blocks.specs.File.{created}
 use Rattle.rm_lang_statement.specs.declared.command.Command.TheVariants.{CreateDatafile}
 use Rattle.rm_history.specs.declared.world.Datafile.{Datafile}
 use Rattle.rm_catalog_typed.specs.Fitting.{FitsFile}
-use Rattle.rm_catalog_typed.specs.Changes.{with_file}
 use Rattle.rm_catalog_typed.specs.TypedCatalog.{TypedCatalog}
 use Rattle.rm_machine.specs.CreateDatafile.{new_datafile, next_file, with_datafile}
 use Rattle.rm_machine.specs.Effect.{no_effect}
@@ -37,8 +35,6 @@ returns-clause-hands c held =
     (c.in_ok-handed.ensures.lines ∙ ap (λ (n : ℕ). DatafileAt n d.creation d.blocks ∷ []) number ∙ ap (λ (x : Datafile). DatafileAt (next_file s) x.creation x.blocks ∷ []) new)
     c.in_ok-handed.ensures.objects
     c.in_ok-handed.ensures.removes
-    (after-datafile s c.go_further.new.state blocks c.add_file.new.self c.in_ok-empty.empty c.push.new.self
-    c.in_ok-go_further.ensures.catalog c.in_ok-go_further.ensures.instance
-    (c.in_ok-add_file.ensures.after ∙ ap (with_file c.go_further.new.state.catalog) new)
-    (c.in_ok-empty.ensures ∙ ap (λ (n : ℕ). created n d.inc d.creation d.blocks) number ∙ ap (λ (x : Datafile). created (next_file s) x.inc x.creation x.blocks) new)
-    c.in_ok-push.ensures.ok)
+    (c.in_ok-track.ensures
+    ∙ after-datafile s c.go_further.new.state blocks c.next_file-file.result d c.add_file.new.self c.in_ok-empty.empty c.push.new.self
+    number new c.in_ok-go_further.ensures.catalog c.in_ok-go_further.ensures.instance c.in_ok-add_file.ensures.after c.in_ok-empty.ensures c.in_ok-push.ensures.ok)

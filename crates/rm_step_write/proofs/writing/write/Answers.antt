@@ -37,5 +37,5 @@ returns-clause-hands c held =
     (c.in_ok-handed.ensures.lines ∙ ap (λ (x : Change). Written x.scn ∷ []) change)
     c.in_ok-handed.ensures.objects
     c.in_ok-handed.ensures.removes
-    (after-write s c.go_further.new.state w c.change_of-change.result c.append.new.self c.into_vec-place.result.items c.from_vec.result
-    change c.in_ok-go_further.ensures.catalog c.in_ok-go_further.ensures.instance c.in-Ok.ensures.ok (c.into_vec-place.ensures ∙ c.replace.ensures.value) (c.from_vec.ensures ∙ c.put_row.ensures))
+    (after-write s c.go_further.new.state w c.change_of-change.result c.append.new.self c.into_vec-place.result.items c.from_vec.result c.mark.new.self
+    change c.in_ok-go_further.ensures.catalog c.in_ok-go_further.ensures.instance c.in-Ok.ensures.ok (c.into_vec-place.ensures ∙ c.replace.ensures.value) (c.from_vec.ensures ∙ c.put_row.ensures) c.mark.ensures)
