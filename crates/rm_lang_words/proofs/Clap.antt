@@ -25,7 +25,7 @@ abbrev pub rule : Text → Bool → Rule
 rule n q = with_index 1 (filled (record (option_named n) { required = q }))
 
 abbrev pub rules : List Rule
-rules = rule (codes "store") true ∷ rule (codes "catalog") true ∷ rule (codes "channels") false ∷ []
+rules = rule (codes "store") true ∷ rule (codes "catalog") true ∷ rule (codes "channels") false ∷ rule (codes "drill") false ∷ []
 
 abbrev pub shape : Shape
 shape = (built rman_app).top
@@ -83,10 +83,12 @@ abbrev pub at : List Given → Walk
 at seen = walk_from (held (map row seen))
 
 -- the rule of the name
-abbrev pub by_tests : Bool → Bool → Bool → Option Rule
-by_tests a b c = cond (a || false) (Some (rule (codes "store") true)) (cond (b || false) (Some (rule (codes "catalog") true)) (cond (c || false) (Some (rule (codes "channels") false)) None))
+abbrev pub by_tests : Bool → Bool → Bool → Bool → Option Rule
+by_tests a b c d =
+    cond (a || false) (Some (rule (codes "store") true)) (cond (b || false) (Some (rule (codes "catalog") true))
+    (cond (c || false) (Some (rule (codes "channels") false)) (cond (d || false) (Some (rule (codes "drill") false)) None)))
 
-by_long : (n : Text) → arg_by_long rules n ≡ by_tests (bytes_eq (codes "store") n) (bytes_eq (codes "catalog") n) (bytes_eq (codes "channels") n)
+by_long : (n : Text) → arg_by_long rules n ≡ by_tests (bytes_eq (codes "store") n) (bytes_eq (codes "catalog") n) (bytes_eq (codes "channels") n) (bytes_eq (codes "drill") n)
 by_long n = refl
 
 same : (m n : Text) → bytes_eq m n ≡ true → m ≡ n
@@ -98,13 +100,14 @@ Known n false = arg_by_long rules n ≡ None
 
 pub known : (n : Text) → Known n (is_name n)
 unfolding Known
-known n = go _ _ _ refl refl refl
+known n = go _ _ _ _ refl refl refl refl
   where
-    go : (a b c : Bool) → bytes_eq (codes "store") n ≡ a → bytes_eq (codes "catalog") n ≡ b → bytes_eq (codes "channels") n ≡ c → Known n (a || (b || c))
-    go true b c e f g = (true, by_long n ∙ ap (λ t. by_tests t (bytes_eq (codes "catalog") n) (bytes_eq (codes "channels") n)) e ∙ ap (λ m. Some (rule m true)) (same _ n e))
-    go false true c e f g = (true, by_long n ∙ ap (λ t. by_tests t (bytes_eq (codes "catalog") n) (bytes_eq (codes "channels") n)) e ∙ ap (λ t. by_tests false t (bytes_eq (codes "channels") n)) f ∙ ap (λ m. Some (rule m true)) (same _ n f))
-    go false false true e f g = (false, by_long n ∙ ap (λ t. by_tests t (bytes_eq (codes "catalog") n) (bytes_eq (codes "channels") n)) e ∙ ap (λ t. by_tests false t (bytes_eq (codes "channels") n)) f ∙ ap (by_tests false false) g ∙ ap (λ m. Some (rule m false)) (same _ n g))
-    go false false false e f g = by_long n ∙ ap (λ t. by_tests t (bytes_eq (codes "catalog") n) (bytes_eq (codes "channels") n)) e ∙ ap (λ t. by_tests false t (bytes_eq (codes "channels") n)) f ∙ ap (by_tests false false) g
+    go : (a b c d : Bool) → bytes_eq (codes "store") n ≡ a → bytes_eq (codes "catalog") n ≡ b → bytes_eq (codes "channels") n ≡ c → bytes_eq (codes "drill") n ≡ d → Known n (a || (b || (c || d)))
+    go true b c d e f g h = (true, by_long n ∙ (λ i. by_tests (e i) (f i) (g i) (h i)) ∙ ap (λ m. Some (rule m true)) (same _ n e))
+    go false true c d e f g h = (true, by_long n ∙ (λ i. by_tests (e i) (f i) (g i) (h i)) ∙ ap (λ m. Some (rule m true)) (same _ n f))
+    go false false true d e f g h = (false, by_long n ∙ (λ i. by_tests (e i) (f i) (g i) (h i)) ∙ ap (λ m. Some (rule m false)) (same _ n g))
+    go false false false true e f g h = (false, by_long n ∙ (λ i. by_tests (e i) (f i) (g i) (h i)) ∙ ap (λ m. Some (rule m false)) (same _ n h))
+    go false false false false e f g h = by_long n ∙ (λ i. by_tests (e i) (f i) (g i) (h i))
 
 -- one word of the walk
 module _ (x : ℕ) (xs n v : Text) (parts : name_and_value (x ∷ xs) ≡ (n, Some v)) (seen : List Given) where

@@ -45,14 +45,15 @@ no_default : (n : Text) (q : Bool) (rows : List Row) → with_default rows (rule
 no_default n q rows = either_way (has_row n rows) rows rows refl
 
 no_defaults : (rows : List Row) → fold with_default rows rules ≡ rows
-no_defaults rows = no_default (codes "channels") false _ ∙ no_default (codes "catalog") true _ ∙ no_default (codes "store") true rows
+no_defaults rows = no_default (codes "drill") false _ ∙ no_default (codes "channels") false _ ∙ no_default (codes "catalog") true _ ∙ no_default (codes "store") true rows
 
 no_faults : (rows : List Row) → defaults_fault rows rules ≡ []
 unfolding defaults_fault
 no_faults rows =
     ap₂ or_else (no_fault (codes "store") true rows)
     (ap₂ or_else (no_fault (codes "catalog") true (with_default rows (rule (codes "store") true)))
-    (ap₂ or_else (no_fault (codes "channels") false (with_default (with_default rows (rule (codes "store") true)) (rule (codes "catalog") true))) refl))
+    (ap₂ or_else (no_fault (codes "channels") false (with_default (with_default rows (rule (codes "store") true)) (rule (codes "catalog") true)))
+    (ap₂ or_else (no_fault (codes "drill") false (with_default (with_default (with_default rows (rule (codes "store") true)) (rule (codes "catalog") true)) (rule (codes "channels") false))) refl)))
 
 -- ---- at the end
 

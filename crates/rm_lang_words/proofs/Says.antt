@@ -10,10 +10,10 @@ use Rattle.rm_lang_words.proofs.Names.{PlainIn, plain_behind}
 use Rattle.rm_lang_words.proofs.Finds.{Finds, finds, missing}
 
 abbrev pub whole_found : List Text → Option Said
-whole_found words = whole (found (codes "store") words) (found (codes "catalog") words) (found (codes "channels") words)
+whole_found words = whole (found (codes "store") words) (found (codes "catalog") words) (found (codes "channels") words) (found (codes "drill") words)
 
 abbrev whole_of : List Given → Option Said
-whole_of os = whole (value_of (codes "store") os) (value_of (codes "catalog") os) (value_of (codes "channels") os)
+whole_of os = whole (value_of (codes "store") os) (value_of (codes "catalog") os) (value_of (codes "channels") os) (value_of (codes "drill") os)
 
 taken : (os : List Given) → Plain os → faults (map one_word os) ≡ [] → said_by os ≡ whole_found (map one_word os)
 unfolding Finds
@@ -21,22 +21,21 @@ taken os plain none = go (are_options [] os) (finds os plain)
   where
     go : (b : Bool) → Finds b os → (if b then whole_of os else None) ≡ whole_found (map one_word os)
     go true f =
-        ap (λ s. whole s (value_of (codes "catalog") os) (value_of (codes "channels") os)) (sym (f.1 (codes "store")))
-        ∙ ap (λ s. whole (found (codes "store") (map one_word os)) s (value_of (codes "channels") os)) (sym (f.1 (codes "catalog")))
-        ∙ ap (whole (found (codes "store") (map one_word os)) (found (codes "catalog") (map one_word os))) (sym (f.1 (codes "channels")))
+        let is : (n : Text) → value_of n os ≡ found n (map one_word os) = λ n. sym (f.1 n) in
+        λ i. whole (is (codes "store") i) (is (codes "catalog") i) (is (codes "channels") i) (is (codes "drill") i)
     go false f = absurd (filled _ f none)
 
 refused : (os : List Given) → Plain os → faults (map one_word os) ≢ [] → said_by os ≡ None
 unfolding Finds
 refused os plain some = go (are_options [] os) (finds os plain)
   where
-    lacks : (store catalog channels : Option Text) → faults (map one_word os) ≡ missing (is_some store) (is_some catalog) → whole store catalog channels ≡ None
-    lacks None catalog channels e = refl
-    lacks (Some s) None channels e = refl
-    lacks (Some s) (Some c) channels e = absurd (some e)
+    lacks : (store catalog channels drill : Option Text) → faults (map one_word os) ≡ missing (is_some store) (is_some catalog) → whole store catalog channels drill ≡ None
+    lacks None catalog channels drill e = refl
+    lacks (Some s) None channels drill e = refl
+    lacks (Some s) (Some c) channels drill e = absurd (some e)
 
     go : (b : Bool) → Finds b os → (if b then whole_of os else None) ≡ None
-    go true f = lacks (value_of (codes "store") os) (value_of (codes "catalog") os) (value_of (codes "channels") os) f.0
+    go true f = lacks (value_of (codes "store") os) (value_of (codes "catalog") os) (value_of (codes "channels") os) (value_of (codes "drill") os) f.0
     go false f = refl
 
 some_is : (a b : List Text) → ◌≡◌ {A = Option (List Text)} (Some a) (Some b) → a ≡ b

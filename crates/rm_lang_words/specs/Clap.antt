@@ -20,7 +20,7 @@ abbrev pub base : App
 base = on_top (λ s. record s { no_binary_name = true; disable_help_flag = true; disable_version_flag = true }) (new_app (codes "rman"))
 
 abbrev pub rman_app : App
-rman_app = with_rule (with_rule (with_rule base (needed (codes "store"))) (needed (codes "catalog"))) (option_named (codes "channels"))
+rman_app = with_rule (with_rule (with_rule (with_rule base (needed (codes "store"))) (needed (codes "catalog"))) (option_named (codes "channels"))) (option_named (codes "drill"))
 
 -- the faults that `clap` finds in the words
 unfoldable pub faults : List Text → Kinds

@@ -16,6 +16,7 @@ pub struct Found<'a> {
     pub store: Option<&'a str>,
     pub catalog: Option<&'a str>,
     pub channels: Option<&'a str>,
+    pub drill: Option<&'a str>,
 }
 
 fn command<'a>(alloc: Global) -> Result<Command<'a>, AllocError>
@@ -32,13 +33,17 @@ fn command<'a>(alloc: Global) -> Result<Command<'a>, AllocError>
     let channels = Arg::new(alloc, "channels")
         .long("channels")
         .action(ArgAction::Set);
+    let drill = Arg::new(alloc, "drill")
+        .long("drill")
+        .action(ArgAction::Set);
     let bare = Command::new(alloc, "rman")
         .no_binary_name(true)
         .disable_help_flag(true)
         .disable_version_flag(true);
     let one = bare.arg(store)?;
     let two = one.arg(catalog)?;
-    two.arg(channels)
+    let three = two.arg(channels)?;
+    three.arg(drill)
 }
 
 /// What `clap` finds in the words.
@@ -48,6 +53,7 @@ pub fn find<'a>(alloc: Global, words: &'a [String]) -> Result<Found<'a>, WordsFa
     ensures store { IfOk result (λ f. option_map (λ s. s.now) f.store ≡ found (codes "store") (map string_bytes words.now)) }
     ensures catalog { IfOk result (λ f. option_map (λ s. s.now) f.catalog ≡ found (codes "catalog") (map string_bytes words.now)) }
     ensures channels { IfOk result (λ f. option_map (λ s. s.now) f.channels ≡ found (codes "channels") (map string_bytes words.now)) }
+    ensures drill { IfOk result (λ f. option_map (λ s. s.now) f.drill ≡ found (codes "drill") (map string_bytes words.now)) }
 {
     let command = command(alloc)?;
     match command.try_get_matches_from(words) {
@@ -55,6 +61,7 @@ pub fn find<'a>(alloc: Global, words: &'a [String]) -> Result<Found<'a>, WordsFa
             store: matches.get_str("store"),
             catalog: matches.get_str("catalog"),
             channels: matches.get_str("channels"),
+            drill: matches.get_str("drill"),
         }),
         Err(error) => {
             if error.kind() == ErrorKind::OutOfMemory {

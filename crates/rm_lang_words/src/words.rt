@@ -1,8 +1,8 @@
 //! The words of the program, and what they say.
-ghost use Rattle.std.specs.Prelude.{◌≡◌, ◌&&◌, IfOk, nat_le, option_map};
+ghost use Rattle.std.specs.Prelude.{◌≡◌, ◌≤◌, ◌&&◌, IfOk, IfSome, nat_le, option_map};
 ghost use Rattle.std.specs.Str.{all_ascii_digits};
-ghost use Rattle.rm_lang_words.specs.Words.{channels_in, said, whole};
-ghost use Rattle.rm_lang_words.specs.Reading.{Gives};
+ghost use Rattle.rm_lang_words.specs.Words.{channels_in, drill_in, number_in, said, whole};
+ghost use Rattle.rm_lang_words.specs.Reading.{Gives, said_of};
 
 use crate::clap_command::{Found, find};
 use crate::faults::WordsFault;
@@ -16,12 +16,15 @@ pub struct Words {
     pub store: Text,
     pub catalog: Text,
     pub channels: Option<u32>,
+    /// The number of the drill.
+    pub drill: Option<u64>,
 }
 
-/// The words `--store DIR --catalog FILE [--channels N]`, in any order, each option once. `--name=value` is
-/// `--name value`. A value may be empty, and does not begin with `-`. N is decimal digits, from 1 to 16.
+/// The words `--store DIR --catalog FILE [--channels N] [--drill N]`, in any order, each option once. `--name=value` is
+/// `--name value`. A value may be empty, and does not begin with `-`. N is decimal digits: of the channels from 1 to 16,
+/// of a drill from 0 to 2^64 - 1.
 pub fn read_words(alloc: Global, words: &[Text]) -> Result<Words, WordsFault>
-    ensures { Gives (λ w. (w.store, w.catalog, w.channels)) result (said words.now) }
+    ensures { Gives said_of result (said words.now) }
 {
     let options = one_words(alloc, words)?;
     let found = find(alloc, &options)?;
@@ -30,7 +33,7 @@ pub fn read_words(alloc: Global, words: &[Text]) -> Result<Words, WordsFault>
 
 // What is said by the values that were found.
 fn words_of(alloc: Global, found: Found<'_>) -> Result<Words, WordsFault>
-    ensures { Gives (λ w. (w.store, w.catalog, w.channels)) result (whole (option_map (λ s. s.now) found.entry.store) (option_map (λ s. s.now) found.entry.catalog) (option_map (λ s. s.now) found.entry.channels)) }
+    ensures { Gives said_of result (whole (option_map (λ s. s.now) found.entry.store) (option_map (λ s. s.now) found.entry.catalog) (option_map (λ s. s.now) found.entry.channels) (option_map (λ s. s.now) found.entry.drill)) }
 {
     let store = found.store.ok_or(WordsFault::Bad)?;
     let catalog = found.catalog.ok_or(WordsFault::Bad)?;
@@ -38,10 +41,15 @@ fn words_of(alloc: Global, found: Found<'_>) -> Result<Words, WordsFault>
         Some(text) => Some(channels_in(text).ok_or(WordsFault::Bad)?),
         None => None,
     };
+    let drill = match found.drill {
+        Some(text) => Some(drill_in(text).ok_or(WordsFault::Bad)?),
+        None => None,
+    };
     Ok(Words {
         store: text(alloc, store)?,
         catalog: text(alloc, catalog)?,
         channels,
+        drill,
     })
 }
 
@@ -57,19 +65,40 @@ fn text(alloc: Global, bytes: &str) -> Result<Text, NoMemory>
 fn channels_in(text: &str) -> Option<u32>
     ensures { result ≡ channels_in text.now }
 {
+    let number = number_in(text, 1, 16)?;
+    Some(number as u32)
+}
+
+fn drill_in(text: &str) -> Option<u64>
+    ensures { result ≡ drill_in text.now }
+{
+    number_in(text, 0, u64::MAX)
+}
+
+// The number that the digits spell, if it is from `low` to `high`.
+fn number_in(text: &str, low: u64, high: u64) -> Option<u64>
+    ensures is { result ≡ number_in low high text.now }
+    ensures between { IfSome result (λ n. (low ≤ n) × (n ≤ high)) }
+{
     if !are_digits(text) {
         return None;
     }
-    match text.parse::<u32>() {
-        Ok(number) => { if is_count(number) { Some(number) } else { None } }
+    match text.parse::<u64>() {
+        Ok(number) => {
+            if is_between(number, low, high) {
+                Some(number)
+            } else {
+                None
+            }
+        }
         Err(_) => None,
     }
 }
 
-fn is_count(number: u32) -> bool
-    ensures { result ≡ (nat_le 1 number && nat_le number 16) }
+fn is_between(number: u64, low: u64, high: u64) -> bool
+    ensures { result ≡ (nat_le low number && nat_le number high) }
 {
-    1 <= number && number <= 16
+    low <= number && number <= high
 }
 
 fn are_digits(text: &str) -> bool

@@ -1,7 +1,11 @@
 //! The site: a database or none, which is stepped over a store and a keeper.
-ghost use Rattle.std.specs.Prelude.{◌≡◌, is_some};
+ghost use Rattle.std.specs.Prelude.{◌≡◌, ◌+◌, is_some, length};
+ghost use Rattle.rm_machine.specs.State.{ledger};
+ghost use Rattle.rm_site.specs.Shown.{next_scn, objects_in};
 
+use rm_base::Scn;
 use rm_machine::State;
+use rm_machine_code::facts::now;
 use std::alloc::Global;
 use std::marker::Model;
 
@@ -40,4 +44,31 @@ impl Site {
     {
         self.state.is_some()
     }
+
+    /// The SCN that the next change takes; 0 without a database.
+    pub fn next_scn(&self) -> Scn
+        ensures { result ≡ next_scn self.now.state }
+    {
+        match &self.state {
+            Some(state) => now(state),
+            None => 0,
+        }
+    }
+
+    /// How many logs and pieces are recorded; 0 without a database.
+    pub fn objects(&self) -> u64
+        ensures { result ≡ objects_in self.now.state }
+    {
+        match &self.state {
+            Some(state) => object_count(state),
+            None => 0,
+        }
+    }
+}
+
+// How many logs and pieces are recorded.
+fn object_count(state: &State) -> u64
+    ensures { result ≡ length (ledger state.now).logs + length (ledger state.now).pieces }
+{
+    state.catalog.logs().len() as u64 + state.catalog.pieces().len() as u64
 }

@@ -15,8 +15,14 @@ pub fn said(alloc: Global, line: &str) -> Result<String, NoMemory> {
         Err(WordsFault::NoMemory) => return Err(NoMemory),
     };
     let (store, catalog) = (words.store.as_str(), words.catalog.as_str());
+    let mut said = format!(in alloc; "{store}|{catalog}")?;
     match words.channels {
-        Some(channels) => Ok(format!(in alloc; "{store}|{catalog}|{channels}")?),
-        None => Ok(format!(in alloc; "{store}|{catalog}|-")?),
+        Some(channels) => write!(said, "|{channels}")?,
+        None => said.push_str("|-")?,
     }
+    match words.drill {
+        Some(drill) => write!(said, "|{drill}")?,
+        None => said.push_str("|-")?,
+    }
+    Ok(said)
 }

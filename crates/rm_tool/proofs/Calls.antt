@@ -1,5 +1,5 @@
 -- What serving left, of the script that was read and the site that was opened.
-use Rattle.std.proofs.Common.{◌≡◌, ℕ, Bool, List, Option, IfSome, Some, if◌then◌else◌, sym, subst}
+use Rattle.std.proofs.Common.{◌≡◌, ℕ, Bool, List, Option, IfSome, Some, None, if◌then◌else◌, sym, subst}
 use Rattle.rm_base.specs.Store.{Held, Answers}
 use Rattle.rm_catalog.specs.declared.record.Record.{Record}
 use Rattle.rm_lang_token.specs.declared.token.Token.{Token}
@@ -10,8 +10,8 @@ use Rattle.rm_catalog.specs.declared.catalog.CatalogFault.TheVariants.{BadRow}
 use Rattle.rm_catalog.specs.Faults.{IsBadRow}
 use Rattle.rm_catalog.proofs.Unique.{none_valid}
 use Rattle.rm_site.specs.Opens.{AreValid, Opens}
-use Rattle.rm_tool.specs.Serving.{FromEach, Closes, EndsInReplies, EndsMidway, at_saving, at_statement}
-use Rattle.rm_tool.specs.Session.{Script, Finishes, FromRest, OfScript, TellsValid, WritesBadRecord}
+use Rattle.rm_tool.specs.Serving.{FromEach, Closes, EndsInOutput, EndsMidway, at_saving, at_statement}
+use Rattle.rm_tool.specs.Session.{Finishes, FromRest, HasScript, OfScript, ScriptOf, TellsValid, WritesBadRecord}
 
 -- what is so of each machine that the opened site stands for is so of the one that wakes
 from-opening : (held : Option Held) (kept : Option (List Record)) (v : View) (Is : Machine → Type 0) → Opens held kept v → FromEach held kept v Is → FromRest held kept Is
@@ -20,9 +20,9 @@ from-opening held kept v Is opens each r holds tell = let o = opens r holds tell
 -- The site was opened over what there was, without a word to the sink, and the script was cut into statements: P speaks of what the store
 -- and the keeper held, of what the sink held, and of the statements.
 of-script : (P : Option Held → Option (List Record) → Option (List ℕ) → List (ℕ × List Token) → Type 0) (Q : List (ℕ × List Token) → Type 0)
-    → (left rest before mid : Option (List ℕ)) (held held' : Option Held) (kept kept' : Option (List Record)) (ss : List (ℕ × List Token)) (script : List ℕ)
-    → Script left rest script → ss ≡ statements script → mid ≡ before → held' ≡ held → kept' ≡ kept → ((ts : List (ℕ × List Token)) → P held kept before ts → Q ts) → P held' kept' mid ss → OfScript left rest Q
-of-script P Q left rest before mid held held' kept kept' ss script read cut silent held_same kept_same wakes is = record {
+    → (drill : Option ℕ) (left rest before mid : Option (List ℕ)) (held held' : Option Held) (kept kept' : Option (List Record)) (ss : List (ℕ × List Token)) (script : List ℕ)
+    → ScriptOf drill left rest script → ss ≡ statements script → mid ≡ before → held' ≡ held → kept' ≡ kept → ((ts : List (ℕ × List Token)) → P held kept before ts → Q ts) → P held' kept' mid ss → OfScript drill left rest Q
+of-script P Q drill left rest before mid held held' kept kept' ss script read cut silent held_same kept_same wakes is = record {
   script = script;
   read = read;
   is = wakes (statements script) (coe 0 1 (i. P (held_same i) (kept_same i) (silent i) (cut i)) is);
@@ -30,13 +30,14 @@ of-script P Q left rest before mid held held' kept kept' ss script read cut sile
 
 -- What a session leaves, from the machine on that wakes.
 module _ {clock later : Option Answers} {before now : Option (List ℕ)} {held last_held : Option Held} {kept last_kept : Option (List Record)} (v : View) (opens : Opens held kept v) (ss : List (ℕ × List Token)) where
-  closes-from : (refused : Bool) → Closes (FromEach held kept v) clock later before now held kept last_held last_kept refused ss → Closes (FromRest held kept) clock later before now held kept last_held last_kept refused ss
-  closes-from refused s = record {
+  closes-from : (drill : Option ℕ) (refused : Bool) → Closes (FromEach held kept v) drill clock later before now held kept last_held last_kept refused ss → Closes (FromRest held kept) drill clock later before now held kept last_held last_kept refused ss
+  closes-from drill refused s = record {
     answers = s.answers;
     told = s.told;
     asked = s.asked;
     replies = s.replies;
     many = s.many;
+    shown = s.shown;
     written = s.written;
     some = s.some;
     flags = s.flags;
@@ -44,24 +45,8 @@ module _ {clock later : Option Answers} {before now : Option (List ℕ)} {held l
     run = from-opening held kept v _ opens s.run;
   }
 
-  replies-from : EndsInReplies (FromEach held kept v) clock later before now held kept last_held last_kept ss → EndsInReplies (FromRest held kept) clock later before now held kept last_held last_kept ss
-  replies-from s = record {
-    answers = s.answers;
-    told = s.told;
-    replies = s.replies;
-    last = s.last;
-    many = s.many;
-    asked = s.asked;
-    part = s.part;
-    within = s.within;
-    flags = s.flags;
-    written = s.written;
-    quiet = s.quiet;
-    run = from-opening held kept v _ opens s.run;
-  }
-
-  midway-from : EndsMidway (FromEach held kept v) clock later before now held kept last_held last_kept ss → EndsMidway (FromRest held kept) clock later before now held kept last_held last_kept ss
-  midway-from (at_statement s) = at_statement (record {
+  midway-from : (drill : Option ℕ) → EndsMidway (FromEach held kept v) drill clock later before now held kept last_held last_kept ss → EndsMidway (FromRest held kept) drill clock later before now held kept last_held last_kept ss
+  midway-from drill (at_statement s) = at_statement (record {
     answers = s.answers;
     told = s.told;
     asked = s.asked;
@@ -72,41 +57,84 @@ module _ {clock later : Option Answers} {before now : Option (List ℕ)} {held l
     quiet = s.quiet;
     run = from-opening held kept v _ opens s.run;
   })
-  midway-from (at_saving s) = at_saving (record {
+  midway-from drill (at_saving s) = at_saving (record {
     answers = s.answers;
     told = s.told;
     asked = s.asked;
     replies = s.replies;
     many = s.many;
+    shown = s.shown;
     written = s.written;
     quiet = s.quiet;
     run = from-opening held kept v _ opens s.run;
   })
 
--- The same of the script that was read.
-module _ {left rest : Option (List ℕ)} {clock later : Option Answers} {before mid now : Option (List ℕ)} {held held' last_held : Option Held} {kept kept' last_kept : Option (List Record)} {ss : List (ℕ × List Token)} {script : List ℕ} (v : View)
-    (read : Script left rest script) (cut : ss ≡ statements script) (silent : mid ≡ before) (held_same : held' ≡ held) (kept_same : kept' ≡ kept) (opens : Opens held kept v) where
+-- the same, where the sink failed
+output-from : (v : View) (held last_held : Option Held) (kept last_kept : Option (List Record)) (clock later : Option Answers) (before now : Option (List ℕ)) (ss : List (ℕ × List Token)) (drill : Option ℕ) → Opens held kept v
+    → EndsInOutput (FromEach held kept v) drill clock later before now held kept last_held last_kept ss → EndsInOutput (FromRest held kept) drill clock later before now held kept last_held last_kept ss
+output-from v held last_held kept last_kept clock later before now ss None opens s = record {
+  answers = s.answers;
+  told = s.told;
+  replies = s.replies;
+  last = s.last;
+  many = s.many;
+  asked = s.asked;
+  part = s.part;
+  within = s.within;
+  flags = s.flags;
+  written = s.written;
+  quiet = s.quiet;
+  run = from-opening held kept v _ opens s.run;
+}
+output-from v held last_held kept last_kept clock later before now ss (Some n) opens s = record {
+  answers = s.answers;
+  told = s.told;
+  asked = s.asked;
+  replies = s.replies;
+  many = s.many;
+  shown = s.shown;
+  part = s.part;
+  within = s.within;
+  flags = s.flags;
+  written = s.written;
+  quiet = s.quiet;
+  run = from-opening held kept v _ opens s.run;
+}
+
+-- The same of the script of the session, where the words say this drill.
+module _ {said : Option ℕ} {left rest : Option (List ℕ)} {clock later : Option Answers} {before mid now : Option (List ℕ)} {held held' last_held : Option Held} {kept kept' last_kept : Option (List Record)} {ss : List (ℕ × List Token)} (drill : Option ℕ) (says : said ≡ drill) (script : List ℕ) (v : View)
+    (read : ScriptOf drill left rest script) (cut : ss ≡ statements script) (silent : mid ≡ before) (held_same : held' ≡ held) (kept_same : kept' ≡ kept) (opens : Opens held kept v) where
   -- the status tells whether a statement was refused
-  pub finishes : (refused : Bool) (status : ℕ) → status ≡ (if refused then 1 else 0) → Closes (FromEach held' kept' v) clock later mid now held' kept' last_held last_kept refused ss
-      → Finishes left rest clock later before now held kept last_held last_kept status
+  pub finishes : (refused : Bool) (status : ℕ) → status ≡ (if refused then 1 else 0) → Closes (FromEach held' kept' v) drill clock later mid now held' kept' last_held last_kept refused ss
+      → Finishes said left rest clock later before now held kept last_held last_kept status
   finishes refused status tells s =
-      record {
+      subst (λ (d : Option ℕ). Finishes d left rest clock later before now held kept last_held last_kept status) (sym says)
+      (record {
         refused = refused;
         serves =
-            of-script (λ h k b ts. Closes (FromEach h k v) clock later b now h k last_held last_kept refused ts) (Closes (FromRest held kept) clock later before now held kept last_held last_kept refused)
-            left rest before mid held held' kept kept' ss script read cut silent held_same kept_same (λ ts. closes-from v opens ts refused) s;
+            of-script (λ h k b ts. Closes (FromEach h k v) drill clock later b now h k last_held last_kept refused ts) (Closes (FromRest held kept) drill clock later before now held kept last_held last_kept refused)
+            drill left rest before mid held held' kept kept' ss script read cut silent held_same kept_same (λ ts. closes-from v opens ts drill refused) s;
         tells = tells;
-      }
+      })
 
-  pub ends-midway : EndsMidway (FromEach held' kept' v) clock later mid now held' kept' last_held last_kept ss → OfScript left rest (EndsMidway (FromRest held kept) clock later before now held kept last_held last_kept)
-  ends-midway =
-      of-script (λ h k b ts. EndsMidway (FromEach h k v) clock later b now h k last_held last_kept ts) (EndsMidway (FromRest held kept) clock later before now held kept last_held last_kept)
-      left rest before mid held held' kept kept' ss script read cut silent held_same kept_same (λ ts. midway-from v opens ts)
+  pub ends-midway : EndsMidway (FromEach held' kept' v) drill clock later mid now held' kept' last_held last_kept ss → OfScript said left rest (EndsMidway (FromRest held kept) said clock later before now held kept last_held last_kept)
+  ends-midway s =
+      subst (λ (d : Option ℕ). OfScript d left rest (EndsMidway (FromRest held kept) d clock later before now held kept last_held last_kept)) (sym says)
+      (of-script (λ h k b ts. EndsMidway (FromEach h k v) drill clock later b now h k last_held last_kept ts) (EndsMidway (FromRest held kept) drill clock later before now held kept last_held last_kept)
+      drill left rest before mid held held' kept kept' ss script read cut silent held_same kept_same (λ ts. midway-from v opens ts drill) s)
 
-  pub ends-in-replies : EndsInReplies (FromEach held' kept' v) clock later mid now held' kept' last_held last_kept ss → OfScript left rest (EndsInReplies (FromRest held kept) clock later before now held kept last_held last_kept)
-  ends-in-replies =
-      of-script (λ h k b ts. EndsInReplies (FromEach h k v) clock later b now h k last_held last_kept ts) (EndsInReplies (FromRest held kept) clock later before now held kept last_held last_kept)
-      left rest before mid held held' kept kept' ss script read cut silent held_same kept_same (λ ts. replies-from v opens ts)
+-- The same, where the sink failed.
+module _ {said : Option ℕ} {left rest : Option (List ℕ)} {before mid : Option (List ℕ)} {held held' : Option Held} {kept kept' : Option (List Record)} {ss : List (ℕ × List Token)} (drill : Option ℕ) (says : said ≡ drill) (script : List ℕ) (v : View)
+    (read : ScriptOf drill left rest script) (cut : ss ≡ statements script) (silent : mid ≡ before) (held_same : held' ≡ held) (kept_same : kept' ≡ kept) (opens : Opens held kept v) where
+  pub ends-in-output : (clock later : Option Answers) (now : Option (List ℕ)) (last_held : Option Held) (last_kept : Option (List Record)) → EndsInOutput (FromEach held' kept' v) drill clock later mid now held' kept' last_held last_kept ss → OfScript said left rest (EndsInOutput (FromRest held kept) said clock later before now held kept last_held last_kept)
+  ends-in-output clock later now last_held last_kept s =
+      subst (λ (d : Option ℕ). OfScript d left rest (EndsInOutput (FromRest held kept) d clock later before now held kept last_held last_kept)) (sym says)
+      (of-script (λ h k b ts. EndsInOutput (FromEach h k v) drill clock later b now h k last_held last_kept ts) (EndsInOutput (FromRest held kept) drill clock later before now held kept last_held last_kept)
+      drill left rest before mid held held' kept kept' ss script read cut silent held_same kept_same (λ ts. output-from v held last_held kept last_kept clock later before now ts drill opens) s)
+
+-- there is a script, where the words say this drill
+pub has-script : {said : Option ℕ} (left rest : Option (List ℕ)) (drill : Option ℕ) → said ≡ drill → (script : List ℕ) → ScriptOf drill left rest script → HasScript said left rest
+has-script left rest drill says script read = subst (λ (d : Option ℕ). HasScript d left rest) (sym says) (script, read)
 
 -- the records that are told are valid
 pub told-valid : {kept : Option (List Record)} (rs : List Record) → kept ≡ Some rs → TellsValid kept → AreValid rs

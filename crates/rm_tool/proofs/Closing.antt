@@ -8,12 +8,12 @@ use Rattle.rm_machine_laws.specs.Saves.{IsEnded, Saves, StopsSaving}
 use Rattle.rm_machine_laws.specs.Stopped.{IsLeft}
 use Rattle.rm_site.specs.Untouched.{AreSame}
 use Rattle.rm_tool.proofs.Quiet.{same-then}
-use Rattle.rm_tool.specs.Serving.{FromEach, Serves, Closes, EndsMidway, at_saving}
+use Rattle.rm_tool.specs.Serving.{FromEach, Shows, Closes, EndsMidway, at_saving}
 
 module _ {clock later : Option Answers} {before now : Option (List ℕ)} {held : Option Held} {kept : Option (List Record)} {v : View} {mid last : Option Held} {mid_kept last_kept : Option (List Record)} {v' : View} {refused : Bool} {ss : List (ℕ × List Token)}
-    (fresh : v.applied ≡ false) (s : Serves clock later before now held kept v mid mid_kept v' refused ss) where
+    (fresh : v.applied ≡ false) (drill : Option ℕ) (s : Shows drill clock later before now held kept v mid mid_kept v' refused ss) where
   -- the site was saved
-  pub closes : Saves mid mid_kept v' last last_kept → (v'.applied ≡ false → AreSame mid mid_kept last last_kept) → Closes (FromEach held kept v) clock later before now held kept last last_kept refused ss
+  pub closes : Saves mid mid_kept v' last last_kept → (v'.applied ≡ false → AreSame mid mid_kept last last_kept) → Closes (FromEach held kept v) drill clock later before now held kept last last_kept refused ss
   closes saves same =
       record {
         answers = s.answers;
@@ -21,6 +21,7 @@ module _ {clock later : Option Answers} {before now : Option (List ℕ)} {held :
         asked = s.asked;
         replies = s.replies;
         many = s.many;
+        shown = v'.state;
         written = s.written;
         some = s.some;
         flags = s.flags;
@@ -29,11 +30,11 @@ module _ {clock later : Option Answers} {before now : Option (List ℕ)} {held :
             let end = s.run m stands holds tells in
             let applied : v'.applied ≡ end.1 = end.3.2 ∙ ap (λ b. b || end.1) fresh in
             let left = saves end.0 end.3.0 end.3.1 in
-            (end.0, end.1, end.2, (left.0, subst (λ (b : Bool). IsEnded b end.0 left.0) applied left.1, left.2));
+            (end.0, end.1, end.2, (end.3.0, (left.0, subst (λ (b : Bool). IsEnded b end.0 left.0) applied left.1, left.2)));
       }
 
   -- it was stopped
-  pub ends-at-saving : StopsSaving mid mid_kept v' last last_kept → (v'.applied ≡ false → AreSame mid mid_kept last last_kept) → EndsMidway (FromEach held kept v) clock later before now held kept last last_kept ss
+  pub ends-at-saving : StopsSaving mid mid_kept v' last last_kept → (v'.applied ≡ false → AreSame mid mid_kept last last_kept) → EndsMidway (FromEach held kept v) drill clock later before now held kept last last_kept ss
   ends-at-saving stops same =
       at_saving
       (record {
@@ -42,11 +43,12 @@ module _ {clock later : Option Answers} {before now : Option (List ℕ)} {held :
         asked = s.asked;
         replies = s.replies;
         many = s.many;
+        shown = v'.state;
         written = s.written;
         quiet = λ is. let was = s.quiet is in same-then was.0 (same (ap (λ (x : View). x.applied) was.1 ∙ fresh));
         run = λ m stands holds tells.
             let end = s.run m stands holds tells in
             let applied : v'.applied ≡ end.1 = end.3.2 ∙ ap (λ b. b || end.1) fresh in
             let left = stops end.0 end.3.0 end.3.1 in
-            (end.0, end.1, end.2, (left.0, subst (λ (b : Bool). IsLeft [] end.0 left.0 ⊎ IsEnded b end.0 left.0) applied left.1, left.2));
+            (end.0, end.1, end.2, (end.3.0, (left.0, subst (λ (b : Bool). IsLeft [] end.0 left.0 ⊎ IsEnded b end.0 left.0) applied left.1, left.2)));
       })

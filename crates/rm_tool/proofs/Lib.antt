@@ -2,8 +2,11 @@ pub mod Asked
 pub mod Blocks
 pub mod Calls
 pub mod Closing
+pub mod Drilling
+pub mod Lines
 pub mod Quiet
 pub mod Runs
 pub mod Setting
 pub mod Statements
+pub mod Tallies
 pub mod Telling

@@ -1,11 +1,9 @@
 -- A run goes on by one statement.
 use Rattle.std.proofs.Common.{◌≡◌, ◌+◌, ◌≤◌, ◌∙◌, ◌++◌, ◌||◌, ◌&&◌, ◌⊎◌, inl, inr, ℕ, zero, suc, List, [], ◌∷◌, Option, Some, None, IfSome, Bool, true, false, refl, ap, sym, subst, arith, append-nil, slice_get, take, drop, length, All}
-use Rattle.std.specs.List.{list_any}
 use Rattle.std.proofs.lemmas.Bool.{and_parts}
 use Rattle.std.proofs.lemmas.Grind.{flat_map-append}
 use Rattle.std.proofs.lemmas.List.{drop_more, length-take-le, length_push, take-append-drop}
 use Rattle.std.proofs.lemmas.List.Elements.{All-append, All-cons, All-nil}
-use Rattle.std.proofs.lemmas.List.Folds.{list_any-append}
 use Rattle.std.proofs.lemmas.Option.{get_or_from_slice_get, slice_get_within}
 use Rattle.std.proofs.Math.Bool.{or-false, or_assoc}
 use Rattle.rm_base.specs.Outside.{Appends}
@@ -24,9 +22,11 @@ use Rattle.rm_machine.specs.Rest.{at_rest}
 use Rattle.rm_machine_laws.specs.Holds.{Holds, HoldsRest, Stands, View}
 use Rattle.rm_machine_laws.proofs.Halting.{rests}
 use Rattle.rm_site.specs.Untouched.{IsUntouched}
+use Rattle.rm_tool.specs.Drill.{IsTally}
 use Rattle.rm_tool.specs.Ends.{WritesFront}
 use Rattle.rm_tool.specs.Quiet.{are_quiet, is_quiet_statement}
 use Rattle.rm_tool.specs.Run.{StepOf, StatementStep, past, behind, Run, IsHonestAlong, IsHonestWithin, RunsWhereHonest, AreToCome, replies_text}
+use Rattle.rm_tool.specs.declared.tally.Tally.{Tally}
 use Rattle.rm_tool.proofs.Quiet.{same-then, untouched-then}
 use Rattle.rm_tool.specs.Serving.{FromEach, IsPast, IsServed, IsCut, IsCutShort, Serves, EndsAtStatement, EndsInReplies}
 
@@ -42,21 +42,21 @@ abbrev pub IsAt : View → View → Option Held → Option (List Record) → Boo
 IsAt origin site held kept applied m = Stands site m × Holds held kept m × (site.applied ≡ (origin.applied || applied))
 
 -- a run over these statements from where the site was at the start on to where it is, whose replies were written
-pub record Progress (ss : List (ℕ × List Token)) (told now : Option Answers) (before written : Option (List ℕ)) (first_held : Option Held) (first_kept : Option (List Record)) (origin : View) (held : Option Held) (kept : Option (List Record)) (site : View) (refused : Bool) : Type 0 where
+pub record Progress (ss : List (ℕ × List Token)) (told now : Option Answers) (before written : Option (List ℕ)) (first_held : Option Held) (first_kept : Option (List Record)) (origin : View) (held : Option Held) (kept : Option (List Record)) (site : View) (sum : Tally) : Type 0 where
   pub replies : List Reply
   pub many : length replies ≡ length ss
   pub appends : Appends before written (replies_text replies)
-  pub some : refused ≡ list_any (λ r. r.refused) replies
+  pub tally : IsTally sum replies
   pub flags : All IsFlagged replies
   pub quiet : are_quiet ss replies ≡ true → IsUntouched first_held first_kept origin held kept site
   pub extends : Extends first_held first_kept origin told ss replies now (IsAt origin site held kept)
 
 -- a statement was served, and its reply was not written yet
-pub record Reached (ss : List (ℕ × List Token)) (told now : Option Answers) (before written : Option (List ℕ)) (first_held : Option Held) (first_kept : Option (List Record)) (origin : View) (held : Option Held) (kept : Option (List Record)) (site : View) (refused : Bool) (r : Reply) : Type 0 where
+pub record Reached (ss : List (ℕ × List Token)) (told now : Option Answers) (before written : Option (List ℕ)) (first_held : Option Held) (first_kept : Option (List Record)) (origin : View) (held : Option Held) (kept : Option (List Record)) (site : View) (sum : Tally) (r : Reply) : Type 0 where
   pub replies : List Reply
   pub many : length replies + 1 ≡ length ss
   pub appends : Appends before written (replies_text replies)
-  pub some : refused ≡ list_any (λ q. q.refused) replies
+  pub tally : IsTally sum replies
   pub flags : All IsFlagged (replies ++ r ∷ [])
   pub quiet : are_quiet ss (replies ++ r ∷ []) ≡ true → IsUntouched first_held first_kept origin held kept site
   pub extends : Extends first_held first_kept origin told ss (replies ++ r ∷ []) now (IsAt origin site held kept)
@@ -155,20 +155,17 @@ quiet-push (t ∷ ss) (q ∷ rs) s r many is =
     let behind = quiet-push ss rs s r (omega (arith, many)) parts.1 in
     (ap (λ b. b && are_quiet ss rs) parts.0 ∙ behind.0, behind.1)
 
-any-push : (rs : List Reply) (r : Reply) → list_any (λ q. q.refused) (rs ++ r ∷ []) ≡ (list_any (λ q. q.refused) rs || r.refused)
-any-push rs r = list_any-append (λ (q : Reply). q.refused) rs (r ∷ []) ∙ ap (λ b. list_any (λ (q : Reply). q.refused) rs || b) (or-false r.refused)
-
 text-push : (rs : List Reply) (r : Reply) → replies_text (rs ++ r ∷ []) ≡ replies_text rs ++ reply_text r
 text-push rs r = flat_map-append reply_text rs (r ∷ []) ∙ ap (λ t. replies_text rs ++ t) (append-nil (reply_text r))
 
 -- before the first statement
-pub progress-none : {told : Option Answers} {o : Option (List ℕ)} {held : Option Held} {kept : Option (List Record)} {site : View} → Progress [] told told o o held kept site held kept site false
-progress-none {site = site} =
+pub progress-none : {told : Option Answers} {o : Option (List ℕ)} {held : Option Held} {kept : Option (List Record)} {site : View} {sum : Tally} → IsTally sum [] → Progress [] told told o o held kept site held kept site sum
+progress-none {site = site} tally =
     record {
       replies = [];
       many = refl;
       appends = appends-nothing _;
-      some = refl;
+      tally = tally;
       flags = All-nil IsFlagged;
       quiet = λ is. ((refl, refl), refl);
       extends = λ answers come. (answers, come, refl, λ first stands holds tells. (first, false, (refl, refl), (stands, holds, sym (or-false site.applied))));
@@ -210,9 +207,9 @@ in-two ss i s there =
     sym (take-append-drop i ss) ∙ ap (λ (ts : List (ℕ × List Token)). take i ss ++ ts) (drop_more ss i s (slice_get_within ss i s there) ∙ ap (λ (t : ℕ × List Token). t ∷ rest) (get_or_from_slice_get ss i s s there))
 
 -- From one point of a session on
-module _ {told now : Option Answers} {before written : Option (List ℕ)} {first_held : Option Held} {first_kept : Option (List Record)} {origin : View} {held : Option Held} {kept : Option (List Record)} {site : View} {refused : Bool} (ss : List (ℕ × List Token)) where
+module _ {told now : Option Answers} {before written : Option (List ℕ)} {first_held : Option Held} {first_kept : Option (List Record)} {origin : View} {held : Option Held} {kept : Option (List Record)} {site : View} {sum : Tally} (ss : List (ℕ × List Token)) where
   -- all statements were served
-  pub progress-serves : Progress ss told now before written first_held first_kept origin held kept site refused → Serves told now before written first_held first_kept origin held kept site refused ss
+  pub progress-serves : Progress ss told now before written first_held first_kept origin held kept site sum → Serves told now before written first_held first_kept origin held kept site sum ss
   progress-serves p =
       let all = p.extends (answers_from now) (come-from now) in
       record {
@@ -222,7 +219,7 @@ module _ {told now : Option Answers} {before written : Option (List ℕ)} {first
         replies = p.replies;
         many = p.many;
         written = p.appends;
-        some = p.some;
+        tally = p.tally;
         flags = p.flags;
         quiet = p.quiet;
         run = all.3;
@@ -230,16 +227,16 @@ module _ {told now : Option Answers} {before written : Option (List ℕ)} {first
 
   -- the statement i is served
   pub progress-reached : {held' : Option Held} {kept' : Option (List Record)} {site' : View} {later : Option Answers} {s : ℕ × List Token} {r : Reply} (i : ℕ) → slice_get ss i ≡ Some s
-      → Progress (take i ss) told now before written first_held first_kept origin held kept site refused → IsServed held kept site now s r held' kept' site' later → IsFlagged r
-      → Reached (take (i + 1) ss) told later before written first_held first_kept origin held' kept' site' refused r
+      → Progress (take i ss) told now before written first_held first_kept origin held kept site sum → IsServed held kept site now s r held' kept' site' later → IsFlagged r
+      → Reached (take (i + 1) ss) told later before written first_held first_kept origin held' kept' site' sum r
   progress-reached {held' = held'} {kept' = kept'} {site' = site'} {later = later} {s = s} {r = r} i there p served flagged =
       let more : take (i + 1) ss ≡ take i ss ++ s ∷ [] = take_more ss i s (slice_get_within ss i s there) (sym (get_or_from_slice_get ss i s s there)) in
-      subst (λ (ts : List (ℕ × List Token)). Reached ts told later before written first_held first_kept origin held' kept' site' refused r) (sym more)
+      subst (λ (ts : List (ℕ × List Token)). Reached ts told later before written first_held first_kept origin held' kept' site' sum r) (sym more)
       (record {
         replies = p.replies;
         many = omega (arith, p.many, length_push (take i ss) s);
         appends = p.appends;
-        some = p.some;
+        tally = p.tally;
         flags = All-append IsFlagged p.replies (r ∷ []) p.flags (All-cons IsFlagged r [] flagged (All-nil IsFlagged));
         quiet = λ is. let parts = quiet-push (take i ss) p.replies s r p.many is in untouched-then (p.quiet parts.0) (served.quiet parts.1);
         extends =
@@ -252,8 +249,8 @@ module _ {told now : Option Answers} {before written : Option (List ℕ)} {first
 
   -- the statement i was cut short
   pub progress-cut : {held' : Option Held} {kept' : Option (List Record)} {later : Option Answers} {s : ℕ × List Token} (i : ℕ) → slice_get ss i ≡ Some s
-      → Progress (take i ss) told now before written first_held first_kept origin held kept site refused → IsCutShort held kept site now s held' kept' later
-      → EndsAtStatement (FromEach first_held first_kept origin) told later before written first_held first_kept held' kept' ss
+      → Progress (take i ss) told now before written first_held first_kept origin held kept site sum → IsCutShort held kept site now s held' kept' later
+      → EndsAtStatement (FromEach first_held first_kept origin) None told later before written first_held first_kept held' kept' ss
   progress-cut {held' = held'} {kept' = kept'} {later = later} {s = s} i there p short =
       let f = answers-with now short.answer short.next in
       let all = p.extends f.0 f.1 in
@@ -293,21 +290,21 @@ module _ {told now : Option Answers} {before written : Option (List ℕ)} {first
       }
 
   -- the reply to the last statement was written
-  pub reached-more : {after : Option (List ℕ)} {r : Reply} → Reached ss told now before written first_held first_kept origin held kept site refused r → Appends written after (reply_text r)
-      → Progress ss told now before after first_held first_kept origin held kept site (refused || r.refused)
-  reached-more {after = after} {r = r} p grows =
+  pub reached-more : {after : Option (List ℕ)} {r : Reply} {next : Tally} → Reached ss told now before written first_held first_kept origin held kept site sum r → Appends written after (reply_text r)
+      → ((replies : List Reply) → IsTally sum replies → IsTally next (replies ++ r ∷ [])) → Progress ss told now before after first_held first_kept origin held kept site next
+  reached-more {after = after} {r = r} p grows tallies =
       record {
         replies = p.replies ++ r ∷ [];
         many = length_push p.replies r ∙ p.many;
         appends = subst (Appends before after) (sym (text-push p.replies r)) (appends-then before written after (replies_text p.replies) (reply_text r) p.appends grows);
-        some = ap (λ b. b || r.refused) p.some ∙ sym (any-push p.replies r);
+        tally = tallies p.replies p.tally;
         flags = p.flags;
         quiet = p.quiet;
         extends = p.extends;
       }
 
   -- the sink failed in the reply to the statement before n
-  pub reached-ends : {after : Option (List ℕ)} {r : Reply} (n : ℕ) → n ≤ length ss → Reached (take n ss) told now before written first_held first_kept origin held kept site refused r → WritesFront written after (reply_text r)
+  pub reached-ends : {after : Option (List ℕ)} {r : Reply} (n : ℕ) → n ≤ length ss → Reached (take n ss) told now before written first_held first_kept origin held kept site sum r → WritesFront written after (reply_text r)
       → EndsInReplies (FromEach first_held first_kept origin) told now before after first_held first_kept held kept ss
   reached-ends {after = after} {r = r} n low p front =
       let replies : List Reply = p.replies ++ r ∷ [] in

@@ -1,5 +1,5 @@
 -- What serving the statements of a script leaves.
-use Rattle.std.specs.Prelude.{ℕ, ◌≡◌, ◌<◌, ◌+◌, ◌++◌, ◌⊎◌, ◌||◌, Bool, true, Option, Some, IfSome, List, [], ◌∷◌, slice_get, take, length, All}
+use Rattle.std.specs.Prelude.{ℕ, ◌≡◌, ◌<◌, ◌+◌, ◌++◌, ◌⊎◌, ◌||◌, Bool, true, Option, Some, None, IfSome, List, [], ◌∷◌, slice_get, take, length, All}
 use Rattle.std.specs.List.{list_any}
 use Rattle.rm_base.specs.Outside.{Appends}
 use Rattle.rm_base.specs.Store.{Held, Answers, Both}
@@ -19,14 +19,17 @@ use Rattle.rm_report.specs.Reply.{IsFlagged}
 use Rattle.rm_report.specs.Text.{reply_text}
 use Rattle.rm_machine.specs.Machine.{Machine}
 use Rattle.rm_machine.specs.Rest.{Rest, at_rest}
+use Rattle.rm_machine.specs.declared.state.State.{State}
 use Rattle.rm_machine_laws.specs.Holds.{Holds, HoldsRest, Stands, View}
 use Rattle.rm_machine_laws.specs.Moments.{moment_of}
 use Rattle.rm_machine_laws.specs.Saves.{IsEnded}
 use Rattle.rm_machine_laws.specs.Stopped.{IsLeft, Stopped}
 use Rattle.rm_tool.specs.declared.session.Halt.{Halt}
 use Rattle.rm_tool.specs.declared.session.Halt.TheVariants as halt
+use Rattle.rm_tool.specs.declared.tally.Tally.{Tally}
 use Rattle.rm_site.specs.Untouched.{AreSame, IsUntouched}
 use Rattle.rm_tool.specs.Quiet.{are_quiet, is_quiet_statement, only_tells_statement}
+use Rattle.rm_tool.specs.Drill.{IsTally, drill_line, output_of, output_so_far}
 use Rattle.rm_tool.specs.Run.{StatementStep, Run, RunsWhereHonest, IsHonestAlong, IsHonestWithin, past, behind, AreToCome, replies_text}
 
 -- what ends a session where the site was stopped
@@ -96,43 +99,57 @@ pub record IsCutShort (held : Option Held) (kept : Option (List Record)) (v : Vi
 abbrev pub FromEach : Option Held → Option (List Record) → View → (Machine → Type 0) → Type 0
 FromEach held kept v Is = (m : Machine) → Stands v m → Holds held kept m → Is m
 
--- All replies were written, `refused` says whether one is refused, which is so exactly where a line of it is a refusal, and the clock was asked for each statement that is built. They are
--- those of a run from whatever machine the site stands for, and the site, the store and the keeper hold what the machine has at its end.
--- Where all were quiet nothing changed, whatever the store and the keeper hold.
-pub record Serves (clock later : Option Answers) (before now : Option (List ℕ)) (held : Option Held) (kept : Option (List Record)) (v : View) (held' : Option Held) (kept' : Option (List Record)) (v' : View) (refused : Bool) (ss : List (ℕ × List Token)) : Type 0 where
+-- All replies were written, `sum` is their tally, each is a refusal exactly where a line of it is one, and the clock was asked for each
+-- statement that is built. They are those of a run from whatever machine the site stands for, and the site, the store and the keeper hold
+-- what the machine has at its end. Where all were quiet nothing changed, whatever the store and the keeper hold.
+pub record Serves (clock later : Option Answers) (before now : Option (List ℕ)) (held : Option Held) (kept : Option (List Record)) (v : View) (held' : Option Held) (kept' : Option (List Record)) (v' : View) (sum : Tally) (ss : List (ℕ × List Token)) : Type 0 where
   pub answers : Answers
   pub told : AreToCome clock answers
   pub asked : AreToCome later (behind ss answers)
   pub replies : List Reply
   pub many : length replies ≡ length ss
   pub written : Appends before now (replies_text replies)
+  pub tally : IsTally sum replies
+  pub flags : All IsFlagged replies
+  pub quiet : are_quiet ss replies ≡ true → IsUntouched held kept v held' kept' v'
+  pub run : FromEach held kept v (λ first. RunsWhereHonest first answers ss replies (λ applied m. Stands v' m × Holds held' kept' m × (v'.applied ≡ (v.applied || applied))))
+
+-- The same, where what the session writes was written: the replies, or the line of a drill. `refused` says whether one is refused.
+pub record Shows (drill : Option ℕ) (clock later : Option Answers) (before now : Option (List ℕ)) (held : Option Held) (kept : Option (List Record)) (v : View) (held' : Option Held) (kept' : Option (List Record)) (v' : View) (refused : Bool) (ss : List (ℕ × List Token)) : Type 0 where
+  pub answers : Answers
+  pub told : AreToCome clock answers
+  pub asked : AreToCome later (behind ss answers)
+  pub replies : List Reply
+  pub many : length replies ≡ length ss
+  pub written : Appends before now (output_of drill replies v'.state)
   pub some : refused ≡ list_any (λ r. r.refused) replies
   pub flags : All IsFlagged replies
   pub quiet : are_quiet ss replies ≡ true → IsUntouched held kept v held' kept' v'
   pub run : FromEach held kept v (λ first. RunsWhereHonest first answers ss replies (λ applied m. Stands v' m × Holds held' kept' m × (v'.applied ≡ (v.applied || applied))))
 
--- The same, and then the session ended: its site was saved, where a list was applied. From the machines that are meant, the store and
--- the keeper hold what is at rest then.
-pub record Closes (From : (Machine → Type 0) → Type 0) (clock later : Option Answers) (before now : Option (List ℕ)) (held : Option Held) (kept : Option (List Record)) (held' : Option Held) (kept' : Option (List Record)) (refused : Bool) (ss : List (ℕ × List Token)) : Type 0 where
+-- All statements were served, and what the session writes was written; `shown` is the database at the end. Then the session ended: its site
+-- was saved, where a list was applied. From the machines that are meant, the store and the keeper hold what is at rest then.
+pub record Closes (From : (Machine → Type 0) → Type 0) (drill : Option ℕ) (clock later : Option Answers) (before now : Option (List ℕ)) (held : Option Held) (kept : Option (List Record)) (held' : Option Held) (kept' : Option (List Record)) (refused : Bool) (ss : List (ℕ × List Token)) : Type 0 where
   pub answers : Answers
   pub told : AreToCome clock answers
   pub asked : AreToCome later (behind ss answers)
   pub replies : List Reply
   pub many : length replies ≡ length ss
-  pub written : Appends before now (replies_text replies)
+  pub shown : Option State
+  pub written : Appends before now (output_of drill replies shown)
   pub some : refused ≡ list_any (λ r. r.refused) replies
   pub flags : All IsFlagged replies
   pub quiet : are_quiet ss replies ≡ true → AreSame held kept held' kept'
-  pub run : From (λ first. RunsWhereHonest first answers ss replies (λ applied m. (r : Rest) × IsEnded applied m r × HoldsRest held' kept' r))
+  pub run : From (λ first. RunsWhereHonest first answers ss replies (λ applied m. (m.state ≡ shown) × ((r : Rest) × IsEnded applied m r × HoldsRest held' kept' r)))
 
--- The replies to the first statements were written, and nothing else. The statement after them was cut short: the clock was asked for
+-- The replies to the first statements were written, of a drill nothing, and nothing else. The statement after them was cut short: the clock was asked for
 -- those before it, and for none behind it. Where those were quiet and it only tells nothing changed. From the machines that are meant the
 -- replies are those of a run, and the store and the keeper hold what is left.
-pub record EndsAtStatement (From : (Machine → Type 0) → Type 0) (clock later : Option Answers) (before now : Option (List ℕ)) (held : Option Held) (kept : Option (List Record)) (held' : Option Held) (kept' : Option (List Record)) (ss : List (ℕ × List Token)) : Type 0 where
+pub record EndsAtStatement (From : (Machine → Type 0) → Type 0) (drill : Option ℕ) (clock later : Option Answers) (before now : Option (List ℕ)) (held : Option Held) (kept : Option (List Record)) (held' : Option Held) (kept' : Option (List Record)) (ss : List (ℕ × List Token)) : Type 0 where
   pub answers : Answers
   pub told : AreToCome clock answers
   pub replies : List Reply
-  pub written : Appends before now (replies_text replies)
+  pub written : Appends before now (output_so_far drill replies)
   pub statement : ℕ × List Token
   pub next : slice_get ss (length replies) ≡ Some statement
   pub asked : AreToCome later (behind (take (length replies) ss) answers) ⊎ AreToCome later (behind (take (length replies + 1) ss) answers)
@@ -141,22 +158,24 @@ pub record EndsAtStatement (From : (Machine → Type 0) → Type 0) (clock later
       (λ first. IsHonestAlong first answers ss replies
       → (last : Machine) × (applied : Bool) × Run first answers (take (length replies) ss) replies applied last × IsCut last statement (behind (take (length replies) ss) answers 0) held' kept')
 
--- All replies were written, from the machines that are meant those of a run, and the save after it was stopped: nothing of it is
+-- What the session writes was written, from the machines that are meant by a run, and the save after it was stopped: nothing of it is
 -- recorded, or all of it. The store and the keeper hold what is left.
-pub record EndsAtSaving (From : (Machine → Type 0) → Type 0) (clock later : Option Answers) (before now : Option (List ℕ)) (held : Option Held) (kept : Option (List Record)) (held' : Option Held) (kept' : Option (List Record)) (ss : List (ℕ × List Token)) : Type 0 where
+pub record EndsAtSaving (From : (Machine → Type 0) → Type 0) (drill : Option ℕ) (clock later : Option Answers) (before now : Option (List ℕ)) (held : Option Held) (kept : Option (List Record)) (held' : Option Held) (kept' : Option (List Record)) (ss : List (ℕ × List Token)) : Type 0 where
   pub answers : Answers
   pub told : AreToCome clock answers
   pub asked : AreToCome later (behind ss answers)
   pub replies : List Reply
   pub many : length replies ≡ length ss
-  pub written : Appends before now (replies_text replies)
+  pub shown : Option State
+  pub written : Appends before now (output_of drill replies shown)
   pub quiet : are_quiet ss replies ≡ true → AreSame held kept held' kept'
-  pub run : From (λ first. RunsWhereHonest first answers ss replies (λ applied m. (r : Rest) × (IsLeft [] m r ⊎ IsEnded applied m r) × HoldsRest held' kept' r))
+  pub run : From
+      (λ first. RunsWhereHonest first answers ss replies (λ applied m. (m.state ≡ shown) × ((r : Rest) × (IsLeft [] m r ⊎ IsEnded applied m r) × HoldsRest held' kept' r)))
 
 -- the session ended at a statement, or at its save
-pub data EndsMidway (From : (Machine → Type 0) → Type 0) (clock later : Option Answers) (before now : Option (List ℕ)) (held : Option Held) (kept : Option (List Record)) (held' : Option Held) (kept' : Option (List Record)) (ss : List (ℕ × List Token)) : Type 0 where
-  at_statement : EndsAtStatement From clock later before now held kept held' kept' ss → EndsMidway From clock later before now held kept held' kept' ss
-  at_saving : EndsAtSaving From clock later before now held kept held' kept' ss → EndsMidway From clock later before now held kept held' kept' ss
+pub data EndsMidway (From : (Machine → Type 0) → Type 0) (drill : Option ℕ) (clock later : Option Answers) (before now : Option (List ℕ)) (held : Option Held) (kept : Option (List Record)) (held' : Option Held) (kept' : Option (List Record)) (ss : List (ℕ × List Token)) : Type 0 where
+  at_statement : EndsAtStatement From drill clock later before now held kept held' kept' ss → EndsMidway From drill clock later before now held kept held' kept' ss
+  at_saving : EndsAtSaving From drill clock later before now held kept held' kept' ss → EndsMidway From drill clock later before now held kept held' kept' ss
 
 -- The sink failed in a reply: those before it were written, and a front of it that is not all of it. The clock was asked for no statement
 -- behind. From the machines that are meant they are the replies of a run, and the store and the keeper hold, at rest, what the machine has
@@ -174,3 +193,24 @@ pub record EndsInReplies (From : (Machine → Type 0) → Type 0) (clock later :
   pub written : Appends before now (replies_text replies ++ take part (reply_text last))
   pub quiet : are_quiet (take (length replies + 1) ss) (replies ++ last ∷ []) ≡ true → AreSame held kept held' kept'
   pub run : From (λ first. RunsWhereHonest first answers (take (length replies + 1) ss) (replies ++ last ∷ []) (λ applied m. HoldsRest held' kept' (at_rest m)))
+
+-- The sink failed in the line of a drill, behind all its statements: a front of it was written that is not all of it. From the machines that
+-- are meant their replies are those of a run, and the store and the keeper hold, at rest, what the machine has at its end.
+pub record EndsInLine (From : (Machine → Type 0) → Type 0) (drill : ℕ) (clock later : Option Answers) (before now : Option (List ℕ)) (held : Option Held) (kept : Option (List Record)) (held' : Option Held) (kept' : Option (List Record)) (ss : List (ℕ × List Token)) : Type 0 where
+  pub answers : Answers
+  pub told : AreToCome clock answers
+  pub asked : AreToCome later (behind ss answers)
+  pub replies : List Reply
+  pub many : length replies ≡ length ss
+  pub shown : Option State
+  pub part : ℕ
+  pub within : part < length (drill_line drill replies shown)
+  pub flags : All IsFlagged replies
+  pub written : Appends before now (take part (drill_line drill replies shown))
+  pub quiet : are_quiet ss replies ≡ true → AreSame held kept held' kept'
+  pub run : From (λ first. RunsWhereHonest first answers ss replies (λ applied m. (m.state ≡ shown) × HoldsRest held' kept' (at_rest m)))
+
+-- the sink failed in what the session writes
+abbrev pub EndsInOutput : (From : (Machine → Type 0) → Type 0) (drill : Option ℕ) (clock later : Option Answers) (before now : Option (List ℕ)) (held : Option Held) (kept : Option (List Record)) (held' : Option Held) (kept' : Option (List Record)) (ss : List (ℕ × List Token)) → Type 0
+EndsInOutput From None clock later before now held kept held' kept' ss = EndsInReplies From clock later before now held kept held' kept' ss
+EndsInOutput From (Some n) clock later before now held kept held' kept' ss = EndsInLine From n clock later before now held kept held' kept' ss

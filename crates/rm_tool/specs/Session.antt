@@ -1,5 +1,5 @@
 -- What a whole call of `run` leaves.
-use Rattle.std.specs.Prelude.{ℕ, ◌≡◌, ◌⊎◌, ◌<◌, Bool, false, Option, List, [], ◌∷◌, ◌++◌, codes, if◌then◌else◌, IfSome, length}
+use Rattle.std.specs.Prelude.{ℕ, ◌≡◌, ◌⊎◌, ◌<◌, Bool, false, Option, Some, None, List, [], ◌∷◌, ◌++◌, codes, if◌then◌else◌, IfSome, length}
 use Rattle.std.specs.Fmt.{decimal}
 use Rattle.rm_base.specs.Outside.{Appends, HasTaken}
 use Rattle.rm_base.specs.Store.{Held, Answers}
@@ -7,6 +7,7 @@ use Rattle.rm_catalog.specs.Faults.{IsBadRow}
 use Rattle.rm_catalog.specs.declared.catalog.CatalogFault.TheVariants.{BadRow}
 use Rattle.rm_catalog.specs.declared.record.Key.{Key}
 use Rattle.rm_catalog.specs.declared.record.Record.{Record}
+use Rattle.rm_drill.specs.Script.{script_text}
 use Rattle.rm_lang_token.specs.Statements.{statements}
 use Rattle.rm_lang_token.specs.declared.token.Token.{Token}
 use Rattle.rm_machine.specs.Machine.{Machine}
@@ -15,8 +16,8 @@ use Rattle.rm_machine_laws.specs.Holds.{HoldsRest}
 use Rattle.rm_site.specs.Opens.{AreValid}
 use Rattle.rm_site.specs.Untouched.{AreSame}
 use Rattle.rm_tool.specs.Ends.{WritesFront}
-use Rattle.rm_tool.specs.Serving.{Closes, EndsInReplies, EndsMidway}
-use Rattle.rm_tool.specs.Words.{accepts}
+use Rattle.rm_tool.specs.Serving.{Closes, EndsInOutput, EndsMidway}
+use Rattle.rm_tool.specs.Words.{accepts, drill_of}
 
 -- the line of status 2
 abbrev pub bad_words : List ℕ
@@ -52,22 +53,27 @@ pub record Script (left rest : Option (List ℕ)) (script : List ℕ) : Type 0 w
   pub taken : HasTaken left rest script
   pub whole : IfSome left (λ bytes. bytes ≡ script)
 
--- some script was taken
-abbrev pub TakesScript : Option (List ℕ) → Option (List ℕ) → Type 0
-TakesScript left rest = (script : List ℕ) × Script left rest script
+-- the script of a session: what was taken from the source, or of a drill its own, and then the source has what it had
+abbrev pub ScriptOf : Option ℕ → Option (List ℕ) → Option (List ℕ) → List ℕ → Type 0
+ScriptOf None left rest script = Script left rest script
+ScriptOf (Some n) left rest script = (script ≡ script_text n) × (rest ≡ left)
 
--- the script was taken, and this is so of its statements
-pub record OfScript (left rest : Option (List ℕ)) (Is : List (ℕ × List Token) → Type 0) : Type 0 where
+-- there is some script
+abbrev pub HasScript : Option ℕ → Option (List ℕ) → Option (List ℕ) → Type 0
+HasScript drill left rest = (script : List ℕ) × ScriptOf drill left rest script
+
+-- there is a script, and this is so of its statements
+pub record OfScript (drill : Option ℕ) (left rest : Option (List ℕ)) (Is : List (ℕ × List Token) → Type 0) : Type 0 where
   pub script : List ℕ
-  pub read : Script left rest script
+  pub read : ScriptOf drill left rest script
   pub is : Is (statements script)
 
--- Status 0 and 1: each statement of the script has its reply, and exactly these were written. The status tells whether one of them is a
+-- Status 0 and 1: each statement of the script has its reply, and exactly these were written, or of a drill its line. The status tells whether one of them is a
 -- refusal. From whatever database at rest the store and the keeper hold the machine ran over the statements with the clock's answers, and
 -- these are its replies. Then the session ended, and the store and the keeper hold what is at rest.
-pub record Finishes (left rest : Option (List ℕ)) (clock later : Option Answers) (before now : Option (List ℕ)) (held : Option Held) (kept : Option (List Record)) (held' : Option Held) (kept' : Option (List Record)) (status : ℕ) : Type 0 where
+pub record Finishes (drill : Option ℕ) (left rest : Option (List ℕ)) (clock later : Option Answers) (before now : Option (List ℕ)) (held : Option Held) (kept : Option (List Record)) (held' : Option Held) (kept' : Option (List Record)) (status : ℕ) : Type 0 where
   pub refused : Bool
-  pub serves : OfScript left rest (Closes (FromRest held kept) clock later before now held kept held' kept' refused)
+  pub serves : OfScript drill left rest (Closes (FromRest held kept) drill clock later before now held kept held' kept' refused)
   pub tells : status ≡ (if refused then 1 else 0)
 
 -- the keeper's records are valid, where it tells them
@@ -75,11 +81,11 @@ abbrev pub TellsValid : Option (List Record) → Type 0
 TellsValid kept = IfSome kept AreValid
 
 -- Status 5, 6 and 7: the call ended before the first statement, with nothing written and no statement run; or at a
--- statement, and what was written are exactly the replies to those before it; or at the save, after all replies. The store and
+-- statement, and what was written are exactly the replies to those before it, of a drill nothing; or at the save, after all that is written. The store and
 -- the keeper hold what is left.
-pub data EndsEarly (left rest : Option (List ℕ)) (clock later : Option Answers) (before now : Option (List ℕ)) (held : Option Held) (kept : Option (List Record)) (held' : Option Held) (kept' : Option (List Record)) : Type 0 where
-  before_statements : now ≡ before → NoneRan clock later held kept held' kept' → EndsEarly left rest clock later before now held kept held' kept'
-  midway : TellsValid kept → OfScript left rest (EndsMidway (FromRest held kept) clock later before now held kept held' kept') → EndsEarly left rest clock later before now held kept held' kept'
+pub data EndsEarly (drill : Option ℕ) (left rest : Option (List ℕ)) (clock later : Option Answers) (before now : Option (List ℕ)) (held : Option Held) (kept : Option (List Record)) (held' : Option Held) (kept' : Option (List Record)) : Type 0 where
+  before_statements : now ≡ before → NoneRan clock later held kept held' kept' → EndsEarly drill left rest clock later before now held kept held' kept'
+  midway : TellsValid kept → OfScript drill left rest (EndsMidway (FromRest held kept) drill clock later before now held kept held' kept') → EndsEarly drill left rest clock later before now held kept held' kept'
 
 -- the line of the first of the keeper's records, in order, that breaks a rule, where it tells them
 pub record IsBadRecord (kept : Option (List Record)) (line : List ℕ) : Type 0 where
@@ -99,9 +105,10 @@ pub record BeginsBadRecord (kept : Option (List Record)) (before now : Option (L
   pub bad : IsBadRecord kept line
   pub written : WritesFront before now line
 
--- Status 4: what was written is a front of the line of status 2, 8 or 9, not all of it, and no statement ran; or the sink failed in a reply.
+-- Status 4: what was written is a front of the line of status 2, 8 or 9, not all of it, and no statement ran; or the sink failed in what the
+-- session writes.
 pub data WritesPart (words : List (List ℕ)) (left rest : Option (List ℕ)) (clock later : Option Answers) (before now : Option (List ℕ)) (held : Option Held) (kept : Option (List Record)) (held' : Option Held) (kept' : Option (List Record)) : Type 0 where
   in_bad_words : accepts words ≡ false → NoneRan clock later held kept held' kept' → WritesFront before now bad_words → WritesPart words left rest clock later before now held kept held' kept'
   in_over_long : IfSome left (λ bytes. 4194304 < length bytes) → NoneRan clock later held kept held' kept' → WritesFront before now over_long → WritesPart words left rest clock later before now held kept held' kept'
   in_bad_record : NoneRan clock later held kept held' kept' → BeginsBadRecord kept before now → WritesPart words left rest clock later before now held kept held' kept'
-  in_replies : TellsValid kept → OfScript left rest (EndsInReplies (FromRest held kept) clock later before now held kept held' kept') → WritesPart words left rest clock later before now held kept held' kept'
+  in_output : TellsValid kept → OfScript (drill_of words) left rest (EndsInOutput (FromRest held kept) (drill_of words) clock later before now held kept held' kept') → WritesPart words left rest clock later before now held kept held' kept'

@@ -1,9 +1,11 @@
 //! All that a source gives, and all bytes to a sink.
-ghost use Rattle.std.specs.Prelude.{◌≡◌, ◌+◌, ◌<◌, ◌≤◌, length, true, IfOk, IfSome, OnOk, OnErr, IsErrOf};
+ghost use Rattle.std.specs.Prelude.{◌≡◌, ◌+◌, ◌<◌, ◌≤◌, length, true, None, IfOk, IfSome, IsSome, OnOk, OnErr, IsErrOf};
 ghost use Rattle.rm_base.specs.Outside.{Appends, HasTaken, Rose};
 ghost use Rattle.rm_tool.specs.Ends.{Counted, TakesMany, WritesFront};
+ghost use Rattle.rm_tool.specs.Session.{ScriptOf};
 
-use rm_base::{Failed, Sink, Source};
+use rm_base::{Failed, NoMemory, Sink, Source};
+use rm_drill::drill_script;
 use std::alloc::{AllocError, Global};
 
 /// The most bytes of a script.
@@ -25,6 +27,16 @@ impl From<AllocError> for ReadFault {
     ghost from_gives = { λ _ e. e ≡ WithoutMemory };
 
     fn from(_: AllocError) -> Self {
+        ReadFault::NoMemory
+    }
+}
+
+impl From<NoMemory> for ReadFault {
+    ghost use Rattle.rm_tool.specs.declared.ends.ReadFault.TheVariants.{NoMemory as WithoutMemory};
+
+    ghost from_gives = { λ _ e. e ≡ WithoutMemory };
+
+    fn from(_: NoMemory) -> Self {
         ReadFault::NoMemory
     }
 }
@@ -65,6 +77,31 @@ pub fn read_all<S: Source>(alloc: Global, source: &mut S) -> Result<Vec<u8>, Rea
         script.extend_from_slice(&piece[..n])?;
     }
     Err(ReadFault::TooLong)
+}
+
+/// The script of a session: all that the source gives, or of a drill its own, and then the source is left alone. After want of memory
+/// nothing is known but that the source's faults did not fall.
+pub fn script_for<S: Source>(
+    alloc: Global,
+    source: &mut S,
+    drill: Option<u64>,
+) -> Result<Vec<u8>, ReadFault>
+    ensures script { IfOk result (λ script. ScriptOf drill (S.left source.old) (S.left source.new) script.items) }
+    ensures end { OnOk result (drill ≡ None → S.at_end source.new ≡ true) }
+    ensures unread { IsSome drill → source.new ≡ source.old }
+    ensures within { IfOk result (λ script. length script.items ≤ 4194304) }
+    ensures few { OnOk result (Counted (S.taken source.old) → S.taken source.new ≤ S.taken source.old + 4194304) }
+
+    ensures failed { IsErrOf result ReadFault.Failed → Rose (S.faults source.old) (S.faults source.new) }
+    ensures failed_early { IsErrOf result ReadFault.Failed → Counted (S.taken source.old) → S.taken source.new ≤ S.taken source.old + 4194304 }
+    ensures long { IsErrOf result ReadFault.TooLong → Counted (S.taken source.old) → TakesMany (S.taken source.old) (S.taken source.new) }
+    ensures long_left { IsErrOf result ReadFault.TooLong → IfSome (S.left source.old) (λ left. 4194304 < length left) }
+    ensures never_falls { S.faults source.old ≤ S.faults source.new }
+{
+    match drill {
+        Some(number) => Ok(drill_script(alloc, number)?.into_vec()),
+        None => read_all(alloc, source),
+    }
 }
 
 /// Writes all bytes, in order. It stops at the first failure, and where a write takes none of them;

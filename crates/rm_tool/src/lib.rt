@@ -4,11 +4,13 @@
 mod adapters;
 mod block;
 mod built;
+mod drill;
 pub mod ends;
 pub mod laws;
 mod opening;
 pub mod run;
 mod session;
+mod tally;
 mod untils;
 mod words;
 

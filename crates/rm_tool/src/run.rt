@@ -1,13 +1,13 @@
 //! The whole run, from the words and the source to the sink.
-ghost use Rattle.std.specs.Prelude.{◌≡◌, ◌<◌, ◌∷◌, [], Contains, IfSome, Some, List, ℕ, length, true, false};
+ghost use Rattle.std.specs.Prelude.{◌≡◌, ◌<◌, ◌∷◌, [], Contains, IfSome, IsSome, Some, None, List, ℕ, length, true, false};
 ghost use Rattle.rm_base.specs.Outside.{Appends, Rose};
 ghost use Rattle.rm_catalog.specs.declared.record.Record.{Record};
 ghost use Rattle.rm_site.specs.Opens.{AreValid};
 ghost use Rattle.rm_tool.specs.Ends.{Counted, TakesMany};
-ghost use Rattle.rm_tool.specs.Session.{Script, TakesScript, Finishes, EndsEarly, WritesPart, WritesBadRecord, TellsValid, IsDone, IsEarly, NoneRan, bad_words, over_long};
-ghost use Rattle.rm_tool.specs.Words.{accepts};
+ghost use Rattle.rm_tool.specs.Session.{HasScript, Finishes, EndsEarly, WritesPart, WritesBadRecord, TellsValid, IsDone, IsEarly, NoneRan, bad_words, over_long};
+ghost use Rattle.rm_tool.specs.Words.{accepts, drill_of};
 
-use crate::ends::{ReadFault, read_all, write_all};
+use crate::ends::{ReadFault, script_for, write_all};
 use crate::opening::{Unopened, open_site};
 use crate::session::{Halt, serve_session};
 use crate::words::{Look, look_at};
@@ -22,7 +22,8 @@ use std::thread::Threads;
 /// Runs a script against the site of a store and a keeper, and answers the status of the program.
 ///
 /// The words are read first, then the script to its end, then the site is opened, then each statement is a
-/// step and its reply is written, and then the site is saved. The clock is asked once for each statement of the
+/// step and its reply is written, and then the site is saved. With the word `--drill` the script is the drill's, the source is not
+/// read, and before the site is saved one line is written in the place of all replies. The clock is asked once for each statement of the
 /// grammar. The channels of a BACKUP or RECOVER are threads of `rt`, and so are the writers of a BACKUP; its threads
 /// call `gate`. The status is
 /// - 0 where no reply is a refusal, 1 where one is,
@@ -44,9 +45,10 @@ pub fn run<R: Threads + Wait + Sync, G: Gate, S: Source, K: Sink, D: Store, C: K
     clock: &mut T,
 ) -> u8
     // 0 and 1: the headline.
-    ensures done { IsDone result → Finishes (S.left source.old) (S.left source.new) (T.answers clock.old) (T.answers clock.new) (K.contents sink.old) (K.contents sink.new) (D.held store.old) (C.kept keeper.old) (D.held store.new) (C.kept keeper.new) result }
-    ensures ended { IsDone result → S.at_end source.new ≡ true }
-    ensures read { IsDone result → (script : List ℕ) × Script (S.left source.old) (S.left source.new) script }
+    ensures done { IsDone result → Finishes (drill_of words.now) (S.left source.old) (S.left source.new) (T.answers clock.old) (T.answers clock.new) (K.contents sink.old) (K.contents sink.new) (D.held store.old) (C.kept keeper.old) (D.held store.new) (C.kept keeper.new) result }
+    ensures ended { IsDone result → drill_of words.now ≡ None → S.at_end source.new ≡ true }
+    ensures drill_unread { IsSome (drill_of words.now) → source.new ≡ source.old }
+    ensures read { IsDone result → HasScript (drill_of words.now) (S.left source.old) (S.left source.new) }
     ensures done_from { IsDone result → TellsValid (C.kept keeper.old) }
 
     // 2: exactly where the words are refused, and their line was written.
@@ -63,12 +65,12 @@ pub fn run<R: Threads + Wait + Sync, G: Gate, S: Source, K: Sink, D: Store, C: K
 
     // 5 and 6: only where the count of that object rose, and what was written and done then.
     ensures store { result ≡ 5 → Rose (D.faults store.old) (D.faults store.new) }
-    ensures store_written { result ≡ 5 → EndsEarly (S.left source.old) (S.left source.new) (T.answers clock.old) (T.answers clock.new) (K.contents sink.old) (K.contents sink.new) (D.held store.old) (C.kept keeper.old) (D.held store.new) (C.kept keeper.new) }
+    ensures store_written { result ≡ 5 → EndsEarly (drill_of words.now) (S.left source.old) (S.left source.new) (T.answers clock.old) (T.answers clock.new) (K.contents sink.old) (K.contents sink.new) (D.held store.old) (C.kept keeper.old) (D.held store.new) (C.kept keeper.new) }
     ensures keeper { result ≡ 6 → Rose (C.faults keeper.old) (C.faults keeper.new) }
-    ensures keeper_written { result ≡ 6 → EndsEarly (S.left source.old) (S.left source.new) (T.answers clock.old) (T.answers clock.new) (K.contents sink.old) (K.contents sink.new) (D.held store.old) (C.kept keeper.old) (D.held store.new) (C.kept keeper.new) }
+    ensures keeper_written { result ≡ 6 → EndsEarly (drill_of words.now) (S.left source.old) (S.left source.new) (T.answers clock.old) (T.answers clock.new) (K.contents sink.old) (K.contents sink.new) (D.held store.old) (C.kept keeper.old) (D.held store.new) (C.kept keeper.new) }
 
     // 7: what was written and done.
-    ensures memory_written { result ≡ 7 → EndsEarly (S.left source.old) (S.left source.new) (T.answers clock.old) (T.answers clock.new) (K.contents sink.old) (K.contents sink.new) (D.held store.old) (C.kept keeper.old) (D.held store.new) (C.kept keeper.new) }
+    ensures memory_written { result ≡ 7 → EndsEarly (drill_of words.now) (S.left source.old) (S.left source.new) (T.answers clock.old) (T.answers clock.new) (K.contents sink.old) (K.contents sink.new) (D.held store.old) (C.kept keeper.old) (D.held store.new) (C.kept keeper.new) }
 
     // 8: exactly where more than the limit was taken, and its line was written.
     ensures long { result ≡ 8 → Counted (S.taken source.old) → TakesMany (S.taken source.old) (S.taken source.new) }
@@ -78,7 +80,7 @@ pub fn run<R: Threads + Wait + Sync, G: Gate, S: Source, K: Sink, D: Store, C: K
 
     // 9: exactly where the keeper's records are not valid, after the script was read; and the line of the first that breaks a rule was written.
     ensures bad { result ≡ 9 → WritesBadRecord (C.kept keeper.old) (K.contents sink.old) (K.contents sink.new) }
-    ensures bad_read { result ≡ 9 → TakesScript (S.left source.old) (S.left source.new) }
+    ensures bad_read { result ≡ 9 → HasScript (drill_of words.now) (S.left source.old) (S.left source.new) }
     ensures bad_only { (rs : List Record) → accepts words.now ≡ true → Counted (S.taken source.old) → ¬ TakesMany (S.taken source.old) (S.taken source.new) → C.kept keeper.old ≡ Some rs → ¬ AreValid rs → Contains (9 ∷ 4 ∷ 3 ∷ 6 ∷ 7 ∷ []) result }
 
     // At 2, 3, 8 and 9 no statement ran.
@@ -88,8 +90,8 @@ pub fn run<R: Threads + Wait + Sync, G: Gate, S: Source, K: Sink, D: Store, C: K
     ensures statuses { Contains (0 ∷ 1 ∷ 2 ∷ 3 ∷ 4 ∷ 5 ∷ 6 ∷ 7 ∷ 8 ∷ 9 ∷ []) result }
     ensures complete { accepts words.now ≡ true → Counted (S.taken source.old) → ¬ TakesMany (S.taken source.old) (S.taken source.new) → (rs : List Record) → C.kept keeper.old ≡ Some rs → AreValid rs → ¬ Rose (S.faults source.old) (S.faults source.new) → ¬ Rose (K.faults sink.old) (K.faults sink.new) → ¬ Rose (D.faults store.old) (D.faults store.new) → ¬ Rose (C.faults keeper.old) (C.faults keeper.new) → Contains (0 ∷ 1 ∷ 7 ∷ []) result }
 {
-    let channels = match look_at(alloc, words) {
-        Look::Accepted(channels) => channels,
+    let (channels, drill) = match look_at(alloc, words) {
+        Look::Accepted { channels, drill } => (channels, drill),
         Look::Refused => {
             return match write_all(sink, b"rman: bad words\n") {
                 Ok(()) => 2,
@@ -98,7 +100,7 @@ pub fn run<R: Threads + Wait + Sync, G: Gate, S: Source, K: Sink, D: Store, C: K
         }
         Look::NoMemory => return 7,
     };
-    let script = match read_all(alloc, source) {
+    let script = match script_for(alloc, source, drill) {
         Ok(script) => script,
         Err(ReadFault::Failed) => return 3,
         Err(ReadFault::NoMemory) => return 7,
@@ -125,6 +127,7 @@ pub fn run<R: Threads + Wait + Sync, G: Gate, S: Source, K: Sink, D: Store, C: K
         alloc,
         gate,
         channels,
+        drill,
         sink,
         site,
         store,

@@ -1,13 +1,15 @@
 //! A run over the statements of a script.
-ghost use Rattle.std.specs.Prelude.{◌≡◌, ◌≤◌, true, false, IfOk, OnOk, OnErr, IsErrOf, IfSome};
+ghost use Rattle.std.specs.Prelude.{◌≡◌, ◌≤◌, true, false, None, Some, IfOk, OnOk, OnErr, IsErrOf, IfSome};
 ghost use Rattle.rm_base.specs.Outside.{Rose};
 ghost use Rattle.rm_commit.specs.declared.commit.Stop.TheVariants.{StoreFault, KeeperFault};
 ghost use Rattle.rm_report.specs.Reply.{HasDates, IsFlagged};
-ghost use Rattle.rm_tool.specs.Serving.{IsServed, IsCutShort, FromEach, Serves, Closes, EndsAtStatement, EndsInReplies, EndsMidway};
+ghost use Rattle.rm_tool.specs.Serving.{IsServed, IsCutShort, FromEach, Serves, Shows, Closes, EndsAtStatement, EndsInLine, EndsInOutput, EndsInReplies, EndsMidway};
 
 use crate::block::serve_block;
 use crate::built::built_statement;
+use crate::drill::{Nowhere, Summary, write_line};
 use crate::ends::write_all;
+use crate::tally::Tally;
 use rm_base::{Clock, Failed, NoMemory, Refusal, Seq, Sink, Store};
 use rm_catalog::Keeper;
 use rm_channel::Gate;
@@ -104,7 +106,7 @@ fn serve<R: Threads + Wait + Sync, G: Gate, D: Store, C: Keeper, T: Clock>(
     }
 }
 
-// All statements over a live site, each reply written before the next statement. Answers whether one was refused.
+// All statements over a live site, each reply written before the next statement. Answers the tally of the replies.
 //
 // An error ends the session: the sink failed, the site was stopped by its store or its keeper, or
 // memory was wanting.
@@ -119,17 +121,17 @@ fn serve_all<R: Threads + Wait + Sync, G: Gate, K: Sink, D: Store, C: Keeper, T:
     keeper: &mut C,
     clock: &mut T,
     statements: &[(u32, Seq<Token>)],
-) -> Result<bool, Halt>
+) -> Result<Tally, Halt>
     requires channels { IfSome channels (λ n. (1 ≤ n) × (n ≤ 16)) }
     requires live { site.old.live ≡ true }
     ensures live { OnOk result (site.new.live ≡ true) }
-    ensures ok { IfOk result (λ refused. Serves (T.answers clock.old) (T.answers clock.new) (K.contents sink.old) (K.contents sink.new) (D.held store.old) (C.kept keeper.old) site.old (D.held store.new) (C.kept keeper.new) site.new refused statements.now) }
+    ensures ok { IfOk result (λ tally. Serves (T.answers clock.old) (T.answers clock.new) (K.contents sink.old) (K.contents sink.new) (D.held store.old) (C.kept keeper.old) site.old (D.held store.new) (C.kept keeper.new) site.new tally statements.now) }
 
     // What was written where it ended early, and what the store and the keeper hold.
     ensures sink { IsErrOf result Halt.Sink → EndsInReplies (FromEach (D.held store.old) (C.kept keeper.old) site.old) (T.answers clock.old) (T.answers clock.new) (K.contents sink.old) (K.contents sink.new) (D.held store.old) (C.kept keeper.old) (D.held store.new) (C.kept keeper.new) statements.now }
-    ensures store { IsErrOf result Halt.Store → EndsAtStatement (FromEach (D.held store.old) (C.kept keeper.old) site.old) (T.answers clock.old) (T.answers clock.new) (K.contents sink.old) (K.contents sink.new) (D.held store.old) (C.kept keeper.old) (D.held store.new) (C.kept keeper.new) statements.now }
-    ensures keeper { IsErrOf result Halt.Keeper → EndsAtStatement (FromEach (D.held store.old) (C.kept keeper.old) site.old) (T.answers clock.old) (T.answers clock.new) (K.contents sink.old) (K.contents sink.new) (D.held store.old) (C.kept keeper.old) (D.held store.new) (C.kept keeper.new) statements.now }
-    ensures memory { IsErrOf result Halt.NoMemory → EndsAtStatement (FromEach (D.held store.old) (C.kept keeper.old) site.old) (T.answers clock.old) (T.answers clock.new) (K.contents sink.old) (K.contents sink.new) (D.held store.old) (C.kept keeper.old) (D.held store.new) (C.kept keeper.new) statements.now }
+    ensures store { IsErrOf result Halt.Store → EndsAtStatement (FromEach (D.held store.old) (C.kept keeper.old) site.old) None (T.answers clock.old) (T.answers clock.new) (K.contents sink.old) (K.contents sink.new) (D.held store.old) (C.kept keeper.old) (D.held store.new) (C.kept keeper.new) statements.now }
+    ensures keeper { IsErrOf result Halt.Keeper → EndsAtStatement (FromEach (D.held store.old) (C.kept keeper.old) site.old) None (T.answers clock.old) (T.answers clock.new) (K.contents sink.old) (K.contents sink.new) (D.held store.old) (C.kept keeper.old) (D.held store.new) (C.kept keeper.new) statements.now }
+    ensures memory { IsErrOf result Halt.NoMemory → EndsAtStatement (FromEach (D.held store.old) (C.kept keeper.old) site.old) None (T.answers clock.old) (T.answers clock.new) (K.contents sink.old) (K.contents sink.new) (D.held store.old) (C.kept keeper.old) (D.held store.new) (C.kept keeper.new) statements.now }
 
     // Whose count rose.
     ensures sink_failed { IsErrOf result Halt.Sink → Rose (K.faults sink.old) (K.faults sink.new) }
@@ -139,7 +141,7 @@ fn serve_all<R: Threads + Wait + Sync, G: Gate, K: Sink, D: Store, C: Keeper, T:
     ensures store_never_falls { D.faults store.old ≤ D.faults store.new }
     ensures keeper_never_falls { C.faults keeper.old ≤ C.faults keeper.new }
 {
-    let mut refused = false;
+    let mut tally = Tally::new();
     for (line, tokens) in statements {
         let reply = serve(
             rt,
@@ -155,13 +157,113 @@ fn serve_all<R: Threads + Wait + Sync, G: Gate, K: Sink, D: Store, C: Keeper, T:
         )?;
         let bytes = bytes_of(alloc, &reply)?;
         write_all(sink, bytes.as_slice())?;
-        refused |= reply.refused;
+        tally = tally.after(&reply);
     }
-    Ok(refused)
+    Ok(tally)
 }
 
-/// A session over a site that was just opened: all statements, each reply written before the next statement, and then the
-/// site is saved. Answers whether a statement was refused.
+// All statements of a drill, of whose replies nothing is written, and then its line. Answers whether a statement was refused.
+fn serve_drill<R: Threads + Wait + Sync, G: Gate, K: Sink, D: Store, C: Keeper, T: Clock>(
+    rt: &R,
+    alloc: Global,
+    gate: &G,
+    channels: Option<u32>,
+    number: u64,
+    sink: &mut K,
+    site: &mut Site,
+    store: &mut D,
+    keeper: &mut C,
+    clock: &mut T,
+    statements: &[(u32, Seq<Token>)],
+) -> Result<bool, Halt>
+    requires channels { IfSome channels (λ n. (1 ≤ n) × (n ≤ 16)) }
+    requires live { site.old.live ≡ true }
+    ensures live { OnOk result (site.new.live ≡ true) }
+    ensures ok { IfOk result (λ refused. Shows (Some number) (T.answers clock.old) (T.answers clock.new) (K.contents sink.old) (K.contents sink.new) (D.held store.old) (C.kept keeper.old) site.old (D.held store.new) (C.kept keeper.new) site.new refused statements.now) }
+
+    // What was written where it ended early, and what the store and the keeper hold.
+    ensures sink { IsErrOf result Halt.Sink → EndsInLine (FromEach (D.held store.old) (C.kept keeper.old) site.old) number (T.answers clock.old) (T.answers clock.new) (K.contents sink.old) (K.contents sink.new) (D.held store.old) (C.kept keeper.old) (D.held store.new) (C.kept keeper.new) statements.now }
+    ensures store { IsErrOf result Halt.Store → EndsAtStatement (FromEach (D.held store.old) (C.kept keeper.old) site.old) (Some number) (T.answers clock.old) (T.answers clock.new) (K.contents sink.old) (K.contents sink.new) (D.held store.old) (C.kept keeper.old) (D.held store.new) (C.kept keeper.new) statements.now }
+    ensures keeper { IsErrOf result Halt.Keeper → EndsAtStatement (FromEach (D.held store.old) (C.kept keeper.old) site.old) (Some number) (T.answers clock.old) (T.answers clock.new) (K.contents sink.old) (K.contents sink.new) (D.held store.old) (C.kept keeper.old) (D.held store.new) (C.kept keeper.new) statements.now }
+    ensures memory { IsErrOf result Halt.NoMemory → EndsAtStatement (FromEach (D.held store.old) (C.kept keeper.old) site.old) (Some number) (T.answers clock.old) (T.answers clock.new) (K.contents sink.old) (K.contents sink.new) (D.held store.old) (C.kept keeper.old) (D.held store.new) (C.kept keeper.new) statements.now }
+
+    // Whose count rose.
+    ensures sink_failed { IsErrOf result Halt.Sink → Rose (K.faults sink.old) (K.faults sink.new) }
+    ensures store_failed { IsErrOf result Halt.Store → Rose (D.faults store.old) (D.faults store.new) }
+    ensures keeper_failed { IsErrOf result Halt.Keeper → Rose (C.faults keeper.old) (C.faults keeper.new) }
+    ensures sink_never_falls { K.faults sink.old ≤ K.faults sink.new }
+    ensures store_never_falls { D.faults store.old ≤ D.faults store.new }
+    ensures keeper_never_falls { C.faults keeper.old ≤ C.faults keeper.new }
+{
+    let tally = serve_all(
+        rt,
+        alloc,
+        gate,
+        channels,
+        &mut Nowhere,
+        site,
+        store,
+        keeper,
+        clock,
+        statements,
+    )?;
+    let summary = Summary {
+        number,
+        statements: statements.len() as u64,
+        tally,
+        next_scn: site.next_scn(),
+        objects: site.objects(),
+    };
+    write_line(sink, summary)?;
+    Ok(tally.has_refused())
+}
+
+// All statements, and what the session writes of them: each reply, or of a drill its line. Answers whether a statement was refused.
+fn serve_shown<R: Threads + Wait + Sync, G: Gate, K: Sink, D: Store, C: Keeper, T: Clock>(
+    rt: &R,
+    alloc: Global,
+    gate: &G,
+    channels: Option<u32>,
+    drill: Option<u64>,
+    sink: &mut K,
+    site: &mut Site,
+    store: &mut D,
+    keeper: &mut C,
+    clock: &mut T,
+    statements: &[(u32, Seq<Token>)],
+) -> Result<bool, Halt>
+    requires channels { IfSome channels (λ n. (1 ≤ n) × (n ≤ 16)) }
+    requires live { site.old.live ≡ true }
+    ensures live { OnOk result (site.new.live ≡ true) }
+    ensures ok { IfOk result (λ refused. Shows drill (T.answers clock.old) (T.answers clock.new) (K.contents sink.old) (K.contents sink.new) (D.held store.old) (C.kept keeper.old) site.old (D.held store.new) (C.kept keeper.new) site.new refused statements.now) }
+
+    // What was written where it ended early, and what the store and the keeper hold.
+    ensures sink { IsErrOf result Halt.Sink → EndsInOutput (FromEach (D.held store.old) (C.kept keeper.old) site.old) drill (T.answers clock.old) (T.answers clock.new) (K.contents sink.old) (K.contents sink.new) (D.held store.old) (C.kept keeper.old) (D.held store.new) (C.kept keeper.new) statements.now }
+    ensures store { IsErrOf result Halt.Store → EndsAtStatement (FromEach (D.held store.old) (C.kept keeper.old) site.old) drill (T.answers clock.old) (T.answers clock.new) (K.contents sink.old) (K.contents sink.new) (D.held store.old) (C.kept keeper.old) (D.held store.new) (C.kept keeper.new) statements.now }
+    ensures keeper { IsErrOf result Halt.Keeper → EndsAtStatement (FromEach (D.held store.old) (C.kept keeper.old) site.old) drill (T.answers clock.old) (T.answers clock.new) (K.contents sink.old) (K.contents sink.new) (D.held store.old) (C.kept keeper.old) (D.held store.new) (C.kept keeper.new) statements.now }
+    ensures memory { IsErrOf result Halt.NoMemory → EndsAtStatement (FromEach (D.held store.old) (C.kept keeper.old) site.old) drill (T.answers clock.old) (T.answers clock.new) (K.contents sink.old) (K.contents sink.new) (D.held store.old) (C.kept keeper.old) (D.held store.new) (C.kept keeper.new) statements.now }
+
+    // Whose count rose.
+    ensures sink_failed { IsErrOf result Halt.Sink → Rose (K.faults sink.old) (K.faults sink.new) }
+    ensures store_failed { IsErrOf result Halt.Store → Rose (D.faults store.old) (D.faults store.new) }
+    ensures keeper_failed { IsErrOf result Halt.Keeper → Rose (C.faults keeper.old) (C.faults keeper.new) }
+    ensures sink_never_falls { K.faults sink.old ≤ K.faults sink.new }
+    ensures store_never_falls { D.faults store.old ≤ D.faults store.new }
+    ensures keeper_never_falls { C.faults keeper.old ≤ C.faults keeper.new }
+{
+    if let Some(number) = drill {
+        return serve_drill(
+            rt, alloc, gate, channels, number, sink, site, store, keeper, clock, statements,
+        );
+    }
+    let tally = serve_all(
+        rt, alloc, gate, channels, sink, site, store, keeper, clock, statements,
+    )?;
+    Ok(tally.has_refused())
+}
+
+/// A session over a site that was just opened: all statements, each reply written before the next statement, or of a drill
+/// its line behind all of them, and then the site is saved. Answers whether a statement was refused.
 ///
 /// An error ends the session: the sink failed, the site was stopped by its store or its keeper, or memory was wanting.
 pub fn serve_session<R: Threads + Wait + Sync, G: Gate, K: Sink, D: Store, C: Keeper, T: Clock>(
@@ -169,6 +271,7 @@ pub fn serve_session<R: Threads + Wait + Sync, G: Gate, K: Sink, D: Store, C: Ke
     alloc: Global,
     gate: &G,
     channels: Option<u32>,
+    drill: Option<u64>,
     sink: &mut K,
     site: Site,
     store: &mut D,
@@ -179,13 +282,13 @@ pub fn serve_session<R: Threads + Wait + Sync, G: Gate, K: Sink, D: Store, C: Ke
     requires channels { IfSome channels (λ n. (1 ≤ n) × (n ≤ 16)) }
     requires live { site.live ≡ true }
     requires fresh { site.applied ≡ false }
-    ensures ok { IfOk result (λ refused. Closes (FromEach (D.held store.old) (C.kept keeper.old) site) (T.answers clock.old) (T.answers clock.new) (K.contents sink.old) (K.contents sink.new) (D.held store.old) (C.kept keeper.old) (D.held store.new) (C.kept keeper.new) refused statements.now) }
+    ensures ok { IfOk result (λ refused. Closes (FromEach (D.held store.old) (C.kept keeper.old) site) drill (T.answers clock.old) (T.answers clock.new) (K.contents sink.old) (K.contents sink.new) (D.held store.old) (C.kept keeper.old) (D.held store.new) (C.kept keeper.new) refused statements.now) }
 
     // What was written where it ended early, and what the store and the keeper hold.
-    ensures sink { IsErrOf result Halt.Sink → EndsInReplies (FromEach (D.held store.old) (C.kept keeper.old) site) (T.answers clock.old) (T.answers clock.new) (K.contents sink.old) (K.contents sink.new) (D.held store.old) (C.kept keeper.old) (D.held store.new) (C.kept keeper.new) statements.now }
-    ensures store { IsErrOf result Halt.Store → EndsMidway (FromEach (D.held store.old) (C.kept keeper.old) site) (T.answers clock.old) (T.answers clock.new) (K.contents sink.old) (K.contents sink.new) (D.held store.old) (C.kept keeper.old) (D.held store.new) (C.kept keeper.new) statements.now }
-    ensures keeper { IsErrOf result Halt.Keeper → EndsMidway (FromEach (D.held store.old) (C.kept keeper.old) site) (T.answers clock.old) (T.answers clock.new) (K.contents sink.old) (K.contents sink.new) (D.held store.old) (C.kept keeper.old) (D.held store.new) (C.kept keeper.new) statements.now }
-    ensures memory { IsErrOf result Halt.NoMemory → EndsMidway (FromEach (D.held store.old) (C.kept keeper.old) site) (T.answers clock.old) (T.answers clock.new) (K.contents sink.old) (K.contents sink.new) (D.held store.old) (C.kept keeper.old) (D.held store.new) (C.kept keeper.new) statements.now }
+    ensures sink { IsErrOf result Halt.Sink → EndsInOutput (FromEach (D.held store.old) (C.kept keeper.old) site) drill (T.answers clock.old) (T.answers clock.new) (K.contents sink.old) (K.contents sink.new) (D.held store.old) (C.kept keeper.old) (D.held store.new) (C.kept keeper.new) statements.now }
+    ensures store { IsErrOf result Halt.Store → EndsMidway (FromEach (D.held store.old) (C.kept keeper.old) site) drill (T.answers clock.old) (T.answers clock.new) (K.contents sink.old) (K.contents sink.new) (D.held store.old) (C.kept keeper.old) (D.held store.new) (C.kept keeper.new) statements.now }
+    ensures keeper { IsErrOf result Halt.Keeper → EndsMidway (FromEach (D.held store.old) (C.kept keeper.old) site) drill (T.answers clock.old) (T.answers clock.new) (K.contents sink.old) (K.contents sink.new) (D.held store.old) (C.kept keeper.old) (D.held store.new) (C.kept keeper.new) statements.now }
+    ensures memory { IsErrOf result Halt.NoMemory → EndsMidway (FromEach (D.held store.old) (C.kept keeper.old) site) drill (T.answers clock.old) (T.answers clock.new) (K.contents sink.old) (K.contents sink.new) (D.held store.old) (C.kept keeper.old) (D.held store.new) (C.kept keeper.new) statements.now }
 
     // Whose count rose.
     ensures sink_failed { IsErrOf result Halt.Sink → Rose (K.faults sink.old) (K.faults sink.new) }
@@ -196,8 +299,8 @@ pub fn serve_session<R: Threads + Wait + Sync, G: Gate, K: Sink, D: Store, C: Ke
     ensures keeper_never_falls { C.faults keeper.old ≤ C.faults keeper.new }
 {
     let mut site = site;
-    let refused = serve_all(
-        rt, alloc, gate, channels, sink, &mut site, store, keeper, clock, statements,
+    let refused = serve_shown(
+        rt, alloc, gate, channels, drill, sink, &mut site, store, keeper, clock, statements,
     )?;
     site.save(store, keeper)?;
     Ok(refused)

@@ -7,7 +7,7 @@ fn option(word: &str) -> Option<bool> {
         Some((name, _)) => (name, true),
         None => (word, false),
     };
-    let is_known = name == "--store" || name == "--catalog" || name == "--channels";
+    let is_known = matches!(name, "--store" | "--catalog" | "--channels" | "--drill");
     is_known.then_some(is_whole)
 }
 

@@ -15,7 +15,7 @@ fn words(rt: &HostRuntime, words: &[Text]) {
         Some(word) => eprintln!(rt; "rman: bad words: {word}"),
         None => {
             eprintln!(rt;
-                "rman: bad words: --store DIR and --catalog FILE once each, --channels N from 1 to 16 at most once"
+                "rman: bad words: --store DIR and --catalog FILE once each, --channels N from 1 to 16 and --drill N at most once"
             )
         }
     };

@@ -17,11 +17,14 @@ returns c =
     let catalog_set = c.action-catalog.ensures ∙ ap (λ (a : Arg). record a { action = Some Set }) (c.required-2.ensures ∙ ap (λ (a : Arg). record a { required = true }) c.long-2.ensures) in
     let catalog_is : rule_of c.action-catalog.result ≡ needed (codes "catalog") = ap rule_of catalog_set ∙ ap (λ (r : Rule). record r { long = Some (codes "catalog"); action = Some Set; required = true }) c.new-2.ensures.rule in
     let channels_is : rule_of c.action-channels.result ≡ option_named (codes "channels") = search rules in
+    let drill_is : rule_of c.action-drill.result ≡ option_named (codes "drill") = search rules in
     let set = c.disable_version_flag-bare.ensures
     ∙ ap (λ (f : Command-F Command). record f { disable_version_flag = true }) (c.disable_help_flag.ensures ∙ ap (λ (f : Command-F Command). record f { disable_help_flag = true }) c.no_binary_name.ensures) in
     let base_is : app_of c.disable_version_flag-bare.result ≡ base =
-    ap app_of_fields set ∙ ap (on_top (λ (s : Shape). record s { no_binary_name = true; disable_help_flag = true; disable_version_flag = true })) c.new-4.ensures.app in
+    ap app_of_fields set ∙ ap (on_top (λ (s : Shape). record s { no_binary_name = true; disable_help_flag = true; disable_version_flag = true })) c.new-5.ensures.app in
     let channels_set = c.action-channels.ensures ∙ ap (λ (a : Arg). record a { action = Some Set }) c.long-3.ensures in
+    let drill_set = c.action-drill.ensures ∙ ap (λ (a : Arg). record a { action = Some Set }) c.long-4.ensures in
     let one_is = c.in_ok-one.ensures.shape (ap (λ (a : Arg). a.global) store_set ∙ c.new.ensures.optional.1) ∙ ap₂ with_rule base_is store_is in
     let two_is = c.in_ok-two.ensures.shape (ap (λ (a : Arg). a.global) catalog_set ∙ c.new-2.ensures.optional.1) ∙ ap₂ with_rule one_is catalog_is in
-    IfOk-weaker c.arg-3.result _ _ (λ r h. h.shape (ap (λ (a : Arg). a.global) channels_set ∙ c.new-3.ensures.optional.1) ∙ ap₂ with_rule two_is channels_is) c.arg-3.ensures
+    let three_is = c.in_ok-three.ensures.shape (ap (λ (a : Arg). a.global) channels_set ∙ c.new-3.ensures.optional.1) ∙ ap₂ with_rule two_is channels_is in
+    IfOk-weaker c.arg-4.result _ _ (λ r h. h.shape (ap (λ (a : Arg). a.global) drill_set ∙ c.new-4.ensures.optional.1) ∙ ap₂ with_rule three_is drill_is) c.arg-4.ensures

@@ -45,6 +45,13 @@ returns-in-Ok-clause-channels c =
     let rows = c.in-Ok.ensures.matches (ap is_simple is ∙ simple) in
     c.get_str-in-Ok-2.ensures ∙ first_value-rows (found_of c.in-Ok.matches) (codes "channels") ∙ ap (first_of (codes "channels")) (rows.0 ∙ ap (λ a. matches_of a (map string_bytes c.args.words.now)) is)
 
+pub returns-in-Ok-clause-drill : goal.returns-in-Ok-clause-drill
+unfolding found
+returns-in-Ok-clause-drill c =
+    let is = c.in_ok-command.ensures in
+    let rows = c.in-Ok.ensures.matches (ap is_simple is ∙ simple) in
+    c.get_str-in-Ok-3.ensures ∙ first_value-rows (found_of c.in-Ok.matches) (codes "drill") ∙ ap (first_of (codes "drill")) (rows.0 ∙ ap (λ a. matches_of a (map string_bytes c.args.words.now)) is)
+
 among : (e : Error) (ks : Kinds) → ks ≡ [] → HasKind ks e → kind_of e ≡ OutOfMemory
 among e [] none (inl is) = is
 among e [] none (inr is) = absurd is

@@ -1,13 +1,16 @@
-use Rattle.std.proofs.Common.{◌≡◌, ◌∙◌, Option, Some, None, Result, Ok, Err, refl, option_map, map, subst, sym, ap, codes}
+use Rattle.std.proofs.Common.{◌≡◌, ◌∙◌, Option, Some, None, Result, Ok, Err, refl, map, subst, sym, ap}
 use Rattle.std.specs.String.{string_bytes}
+use Rattle.rm_lang_words.specs.Options.{Text}
 use Rattle.rm_lang_words.specs.Words.{Said, said, whole}
 use Rattle.std.specs.Result.{IsErrAnd}
 use Rattle.rm_lang_words.specs.declared.faults.WordsFault.{WordsFault}
 use Rattle.rm_lang_words.specs.declared.faults.WordsFault.TheVariants.{Bad, NoMemory}
-use Rattle.rm_lang_words.specs.Reading.{Fails, Gives}
-use Rattle.rm_lang_words.specs.Clap.{found}
+use Rattle.rm_lang_words.specs.Reading.{Fails, Gives, said_of}
 use Rattle.rm_lang_words.proofs.Says.{says, says_none}
 use Rattle.rm_lang_words.proofs.words.read_words.Goals as goal
+
+whole_same : {s s' c c' n n' d d' : Option Text} → s ≡ s' → c ≡ c' → n ≡ n' → d ≡ d' → whole s c n d ≡ whole s' c' n' d'
+whole_same s c n d = λ i. whole (s i) (c i) (n i) (d i)
 
 of_fault : (x : WordsFault) (s : Option Said) → (x ≡ Bad → s ≡ None) → Fails x s
 of_fault Bad s h = h refl
@@ -21,7 +24,7 @@ pub returns-in_err-found : goal.returns-in_err-found
 returns-in_err-found c =
     let ws = map string_bytes c.deref.result.now in
     let are = c.in_ok-options.ensures ∙ ap (λ os. Some (map string_bytes os)) (sym c.deref.ensures.value) in
-    fails (λ w. (w.store, w.catalog, w.channels)) c.from_residual-in_err-found.result c.in_err-found.field-0.0 (said c.args.words.now) c.from_residual-in_err-found.ensures.1
+    fails said_of c.from_residual-in_err-found.result c.in_err-found.field-0.0 (said c.args.words.now) c.from_residual-in_err-found.ensures.1
     (λ bad. says_none c.args.words.now ws are (c.in_err-found.ensures.refused bad))
 
 pub returns : goal.returns
@@ -29,8 +32,5 @@ returns c =
     let ws = map string_bytes c.deref.result.now in
     let are = c.in_ok-options.ensures ∙ ap (λ os. Some (map string_bytes os)) (sym c.deref.ensures.value) in
     let f = c.in_ok-found.ensures in
-    let is = says c.args.words.now ws are f.taken
-    ∙ ap (λ s. whole s (found (codes "catalog") ws) (found (codes "channels") ws)) (sym f.store)
-    ∙ ap (λ s. whole (option_map (λ s. s.now) c.in_ok-found.found.store) s (found (codes "channels") ws)) (sym f.catalog)
-    ∙ ap (whole (option_map (λ s. s.now) c.in_ok-found.found.store) (option_map (λ s. s.now) c.in_ok-found.found.catalog)) (sym f.channels) in
-    subst (λ (s : Option Said). Gives (λ w. (w.store, w.catalog, w.channels)) c.words_of.result s) (sym is) c.words_of.ensures
+    let found_is = says c.args.words.now ws are f.taken in
+    subst (Gives said_of c.words_of.result) (sym (found_is ∙ whole_same (sym f.store) (sym f.catalog) (sym f.channels) (sym f.drill))) c.words_of.ensures

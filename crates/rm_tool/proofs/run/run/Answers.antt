@@ -1,52 +1,50 @@
 use Rattle.std.proofs.Common.{rules, ◌∙◌, Err, ap, refl, arith, lit<}
 use Rattle.rm_lang_token.specs.Statements.{statements}
 use Rattle.rm_lang_token.proofs.Reading.{feeds_within}
-use Rattle.rm_tool.specs.Session.{in_replies, midway}
-use Rattle.rm_tool.proofs.Calls.{finishes, ends-midway, ends-in-replies, none-bad, told-valid}
+use Rattle.rm_tool.specs.Session.{in_output, midway}
+use Rattle.rm_tool.proofs.Calls.{finishes, ends-midway, ends-in-output, has-script, none-bad, told-valid}
 use Rattle.rm_tool.proofs.run.run.Goals as goal
 
 pub statements-requires : goal.statements-requires
 statements-requires g c =
-    let lines = feeds_within c.in-Ok-read_all.script.items in
-    rw c.deref.ensures.value (omega (arith, lines, c.in-Ok-read_all.ensures.within))
+    let lines = feeds_within c.in-Ok-script_for.script.items in
+    rw c.deref.ensures.value (omega (arith, lines, c.in-Ok-script_for.ensures.within))
+
+pub serve_session-requires-clause-channels : goal.serve_session-requires-clause-channels
+serve_session-requires-clause-channels g c κs within = c.look_at.ensures.channels c.in-Accepted.channels c.in-Accepted.drill c.in-Accepted.is
 
 pub returns-in-Ok-serve_session-clause-done : goal.returns-in-Ok-serve_session-clause-done
 returns-in-Ok-serve_session-clause-done g c = λ is.
     let opened = c.in-Ok-open_site.ensures in
-    let read = c.in-Ok-read_all.ensures in
-    finishes c.in-Ok-open_site.site (record { taken = read.taken; whole = read.whole }) (c.as_slice.ensures ∙ c.in-Ok-statements.ensures ∙ ap statements c.deref.ensures.value)
+    finishes c.in-Accepted.drill (c.look_at.ensures.drill c.in-Accepted.channels c.in-Accepted.drill c.in-Accepted.is) c.in-Ok-script_for.script.items c.in-Ok-open_site.site c.in-Ok-script_for.ensures.script (c.as_slice.ensures ∙ c.in-Ok-statements.ensures ∙ ap statements c.deref.ensures.value)
     opened.ok opened.held opened.kept opened.opened c.in-Ok-serve_session.refused _ (search rules) c.in-Ok-serve_session.ensures.ok
 
 pub returns-in-Err-Sink-serve_session-clause-sink_written : goal.returns-in-Err-Sink-serve_session-clause-sink_written
 returns-in-Err-Sink-serve_session-clause-sink_written g c = λ is.
     let opened = c.in-Ok-open_site.ensures in
-    let read = c.in-Ok-read_all.ensures in
-    in_replies opened.valid
-    (ends-in-replies c.in-Ok-open_site.site (record { taken = read.taken; whole = read.whole }) (c.as_slice.ensures ∙ c.in-Ok-statements.ensures ∙ ap statements c.deref.ensures.value)
-    opened.ok opened.held opened.kept opened.opened (c.in-Err-Sink-serve_session.ensures.sink (ap Err c.in-Err-Sink-serve_session.field-0-is)))
+    in_output opened.valid
+    (ends-in-output c.in-Accepted.drill (c.look_at.ensures.drill c.in-Accepted.channels c.in-Accepted.drill c.in-Accepted.is) c.in-Ok-script_for.script.items c.in-Ok-open_site.site c.in-Ok-script_for.ensures.script (c.as_slice.ensures ∙ c.in-Ok-statements.ensures ∙ ap statements c.deref.ensures.value)
+    opened.ok opened.held opened.kept opened.opened _ _ _ _ _ (c.in-Err-Sink-serve_session.ensures.sink (ap Err c.in-Err-Sink-serve_session.field-0-is)))
 
 pub returns-in-Err-Store-serve_session-clause-store_written : goal.returns-in-Err-Store-serve_session-clause-store_written
 returns-in-Err-Store-serve_session-clause-store_written g c = λ is.
     let opened = c.in-Ok-open_site.ensures in
-    let read = c.in-Ok-read_all.ensures in
     midway opened.valid
-    (ends-midway c.in-Ok-open_site.site (record { taken = read.taken; whole = read.whole }) (c.as_slice.ensures ∙ c.in-Ok-statements.ensures ∙ ap statements c.deref.ensures.value)
+    (ends-midway c.in-Accepted.drill (c.look_at.ensures.drill c.in-Accepted.channels c.in-Accepted.drill c.in-Accepted.is) c.in-Ok-script_for.script.items c.in-Ok-open_site.site c.in-Ok-script_for.ensures.script (c.as_slice.ensures ∙ c.in-Ok-statements.ensures ∙ ap statements c.deref.ensures.value)
     opened.ok opened.held opened.kept opened.opened (c.in-Err-Store-serve_session.ensures.store (ap Err c.in-Err-Store-serve_session.field-0-is)))
 
 pub returns-in-Err-Keeper-serve_session-clause-keeper_written : goal.returns-in-Err-Keeper-serve_session-clause-keeper_written
 returns-in-Err-Keeper-serve_session-clause-keeper_written g c = λ is.
     let opened = c.in-Ok-open_site.ensures in
-    let read = c.in-Ok-read_all.ensures in
     midway opened.valid
-    (ends-midway c.in-Ok-open_site.site (record { taken = read.taken; whole = read.whole }) (c.as_slice.ensures ∙ c.in-Ok-statements.ensures ∙ ap statements c.deref.ensures.value)
+    (ends-midway c.in-Accepted.drill (c.look_at.ensures.drill c.in-Accepted.channels c.in-Accepted.drill c.in-Accepted.is) c.in-Ok-script_for.script.items c.in-Ok-open_site.site c.in-Ok-script_for.ensures.script (c.as_slice.ensures ∙ c.in-Ok-statements.ensures ∙ ap statements c.deref.ensures.value)
     opened.ok opened.held opened.kept opened.opened (c.in-Err-Keeper-serve_session.ensures.keeper (ap Err c.in-Err-Keeper-serve_session.field-0-is)))
 
 pub returns-clause-memory_written : goal.returns-clause-memory_written
 returns-clause-memory_written g c = λ is.
     let opened = c.in-Ok-open_site.ensures in
-    let read = c.in-Ok-read_all.ensures in
     midway opened.valid
-    (ends-midway c.in-Ok-open_site.site (record { taken = read.taken; whole = read.whole }) (c.as_slice.ensures ∙ c.in-Ok-statements.ensures ∙ ap statements c.deref.ensures.value)
+    (ends-midway c.in-Accepted.drill (c.look_at.ensures.drill c.in-Accepted.channels c.in-Accepted.drill c.in-Accepted.is) c.in-Ok-script_for.script.items c.in-Ok-open_site.site c.in-Ok-script_for.ensures.script (c.as_slice.ensures ∙ c.in-Ok-statements.ensures ∙ ap statements c.deref.ensures.value)
     opened.ok opened.held opened.kept opened.opened (c.in-Err-NoMemory-serve_session.ensures.memory (ap Err c.in-Err-NoMemory-serve_session.field-0-is)))
 
 pub returns-in-Ok-clause-statuses : goal.returns-in-Ok-clause-statuses
@@ -102,8 +100,7 @@ returns-in-NoMemory-clause-statuses g c = (7, lit< tt, refl)
 
 pub returns-in-Err-BadRecord-clause-bad_read : goal.returns-in-Err-BadRecord-clause-bad_read
 returns-in-Err-BadRecord-clause-bad_read g c = λ is.
-    let read = c.in-Ok-read_all.ensures in
-    (c.in-Ok-read_all.script.items, record { taken = read.taken; whole = read.whole })
+    has-script _ _ c.in-Accepted.drill (c.look_at.ensures.drill c.in-Accepted.channels c.in-Accepted.drill c.in-Accepted.is) c.in-Ok-script_for.script.items c.in-Ok-script_for.ensures.script
 
 pub returns-in-Err-Failed-clause-bad_only : goal.returns-in-Err-Failed-clause-bad_only
 returns-in-Err-Failed-clause-bad_only g c = λ rs words counted few is some. (2, lit< tt, refl)

@@ -15,7 +15,7 @@ at-hand ss i s ts below is given = slice_get_read ss (length ss) i s refl below 
 pub loop-line-init : goal.loop-line-init
 loop-line-init g c =
     record {
-      progress = progress-none;
+      progress = progress-none c.new-tally.ensures;
       live = c.requires.live;
       sink = omega arith;
       store = omega arith;
@@ -60,7 +60,7 @@ loop-line-preserved g c =
     let there = at-hand ss i c.loop-line-item.result c.as_slice.result.now c.loop-line-test.true c.loop-line-item.is c.as_slice.ensures in
     let grows = subst (Appends (told c.loop-line.sink) (told c.write_all.new.sink)) (c.as_slice-in-loop-line.ensures ∙ c.in_ok-bytes.ensures) c.in_ok-write_all.ensures.ok in
     record {
-      progress = reached-more (take (i + 1) ss) (progress-reached ss i there c.loop-line.invariant.progress c.in_ok-reply.ensures.served c.in_ok-reply.ensures.flagged) grows;
+      progress = reached-more (take (i + 1) ss) (progress-reached ss i there c.loop-line.invariant.progress c.in_ok-reply.ensures.served c.in_ok-reply.ensures.flagged) grows c.after-tally.ensures;
       live = c.in_ok-reply.ensures.live;
       sink = omega (arith, c.loop-line.invariant.sink, c.write_all.ensures.never_falls);
       store = omega (arith, c.loop-line.invariant.store, c.serve.ensures.store_never_falls);

@@ -9,7 +9,7 @@ invariant-loop-line g l =
     let kept = g.C.Keeper.kept in
     let answers = g.T.Clock.answers in
     record {
-      progress : Progress (take l.line-index l.statements) (answers l.fn.clock) (answers l.clock) (told l.fn.sink) (told l.sink) (held l.fn.store) (kept l.fn.keeper) l.fn.site (held l.store) (kept l.keeper) l.site l.refused;
+      progress : Progress (take l.line-index l.statements) (answers l.fn.clock) (answers l.clock) (told l.fn.sink) (told l.sink) (held l.fn.store) (kept l.fn.keeper) l.fn.site (held l.store) (kept l.keeper) l.site l.tally;
       live : l.site.live ≡ true;
       sink : g.K.Sink.faults l.fn.sink ≤ g.K.Sink.faults l.sink;
       store : g.D.Store.faults l.fn.store ≤ g.D.Store.faults l.store;

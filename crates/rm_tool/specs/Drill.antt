@@ -1,0 +1,67 @@
+-- The drill: a script of its own, and one line in the place of all replies.
+use Rattle.std.specs.Prelude.{ℕ, ◌≡◌, ◌++◌, ◌∷◌, [], Option, Some, None, List, codes, filter, fold, if◌then◌else◌, length, nat_lt, sum_by}
+use Rattle.std.specs.Fmt.{decimal}
+use Rattle.std.specs.Borrow.{Bor}
+use Rattle.rm_report.specs.declared.line.Line.{Line}
+use Rattle.rm_report.specs.declared.line.Line.TheVariants.{ThreadScn, Written}
+use Rattle.rm_report.specs.declared.line.Reply.{Reply}
+use Rattle.rm_machine.specs.declared.state.State.{State}
+use Rattle.rm_site.specs.Shown.{next_scn, objects_in}
+use Rattle.rm_tool.specs.Run.{replies_text}
+use Rattle.rm_tool.specs.declared.drill.Summary.{Summary}
+use Rattle.rm_tool.specs.declared.tally.Tally.{Tally}
+
+-- a line tells of a write that took an SCN
+abbrev pub writes_in : Line → ℕ
+writes_in (Written scn) = 1
+writes_in (ThreadScn thread scn) = 1
+writes_in _ = 0
+
+-- more than a number of 64 bits can say counts as its greatest
+abbrev pub capped : ℕ → ℕ
+capped n = if nat_lt 18446744073709551615 n then 18446744073709551615 else n
+
+-- how many writes replies tell of; more than a number of 64 bits can say count as its greatest
+abbrev pub writes_told : List Reply → ℕ
+writes_told replies =
+    let all = sum_by (λ r. sum_by writes_in r.lines) replies in
+    if nat_lt 18446744073709551615 all then 18446744073709551615 else all
+
+-- how many of them are refusals
+abbrev pub refusals_told : List Reply → ℕ
+refusals_told replies = length (filter (λ r. r.refused) replies)
+
+-- they come to this
+pub record IsTally (tally : Tally) (replies : List Reply) : Type 0 where
+  pub refused : tally.refused ≡ capped (refusals_told replies)
+  pub writes : tally.writes ≡ writes_told replies
+
+-- texts, and a number behind each
+abbrev pub with_part : List ℕ → Bor (List ℕ) × ℕ → List ℕ
+with_part front part = front ++ part.0.now ++ decimal part.1
+
+abbrev pub parts_text : List (Bor (List ℕ) × ℕ) → List ℕ
+parts_text parts = fold with_part [] parts
+
+-- the line of a drill, as text
+unfoldable pub summary_text : Summary → List ℕ
+summary_text s =
+    codes "drill " ++ decimal s.number ++ codes ": " ++ decimal s.statements ++ codes " statements, " ++ decimal s.tally.refused ++ codes " refused, " ++ decimal s.tally.writes ++ codes " writes, next SCN "
+    ++ decimal s.next_scn ++ codes ", " ++ decimal s.objects ++ codes " objects" ++ 10 ∷ []
+
+-- the line of a drill: its statements, the refusals among their replies, the writes, and what the database is at the end
+unfoldable pub drill_line : ℕ → List Reply → Option State → List ℕ
+drill_line n replies o =
+    codes "drill " ++ decimal n ++ codes ": " ++ decimal (length replies) ++ codes " statements, " ++ decimal (refusals_told replies) ++ codes " refused, " ++ decimal (writes_told replies) ++ codes " writes, next SCN "
+    ++ decimal (next_scn o) ++ codes ", " ++ decimal (objects_in o) ++ codes " objects" ++ 10 ∷ []
+
+-- What a session writes that served all its statements with these replies, and shows this database at the end: the replies, or of a
+-- drill its line.
+abbrev pub output_of : Option ℕ → List Reply → Option State → List ℕ
+output_of None replies o = replies_text replies
+output_of (Some n) replies o = drill_line n replies o
+
+-- and what it has written that has more to serve: the replies so far, or of a drill nothing
+abbrev pub output_so_far : Option ℕ → List Reply → List ℕ
+output_so_far None replies = replies_text replies
+output_so_far (Some n) replies = []
