@@ -22,7 +22,7 @@ class Model:
     def __init__(self):
         self.files, self.changes, self.starts = {}, [], {}
         self.now, self.inc, self.on = 1, 1, False
-        # A branch goes back to here: no datafile was made later, and it is on the current incarnation.
+        # A branch goes back to here: no datafile was made later, no backup has a row from later, and it is on the current incarnation.
         self.low = 1
 
     def begin(self):
@@ -99,6 +99,8 @@ class Script:
         self.checks += [(file, snapshot[file], self.model.files[file], bool(during)) for file in files]
         for file, block, _ in during:
             self.model.write(file, block)
+        if during:
+            self.model.low = self.model.now
 
     def during(self):
         self.backup([self.write_text() for _ in range(self.rng.randint(1, 12))])
