@@ -27,6 +27,7 @@ def drill(number=7):
 
     yield "CREATE DATABASE THREADS 2;"
     yield from ["CREATE DATAFILE BLOCKS 1024;"] * 4
+    yield "ALTER DATABASE ENABLE BLOCK CHANGE TRACKING;"
     yield "BACKUP INCREMENTAL LEVEL 0 DATABASE;"
     for turn in range(1, 21):
         writes = (f"WRITE THREAD {1 + k % 2} DATAFILE {1 + draw() % 4} BLOCK {draw() % 1024} VALUE 'r{turn}k{k}';" for k in range(1000))
