@@ -1,14 +1,9 @@
 -- The first of the items that pass, where one item more is looked at.
 use Rattle.std.proofs.Common.{inl, inr, List, Option, Some, None, [], ◌∷◌, ◌++◌, sym, subst}
 use Rattle.rm_base.specs.Choice.{IsChoice}
-use Rattle.rm_base.proofs.Members.{none-in}
 use Rattle.rm_base.proofs.Lists.{in_front_part, at_end, front_or_end}
 
 module _ {X : Type 0} (P : X → Type 0) (R : X → X → Type 0) where
-  -- nothing passes in an empty list
-  pub choice_start : IsChoice P R [] None
-  choice_start = λ y held passes. none-in y held
-
   -- one that does not pass changes nothing
   pub choice_passed : (xs : List X) (x : X) (o : Option X) → IsChoice P R xs o → ¬ P x → IsChoice P R (xs ++ x ∷ []) o
   choice_passed xs x None none fails = λ y held passes. elim (front_or_end xs x y held) [

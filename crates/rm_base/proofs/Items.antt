@@ -40,6 +40,3 @@ pub AllPairs-from_adjacent : {A : Type 0} (R : A → A → Type 0) → ((a b c :
 AllPairs-from_adjacent R steps xs up i j d less inside =
     let place : i + suc (j - suc i) ≡ j = omega arith in
     subst (λ k. R (get_or xs i d) (get_or xs k d)) place (pairs-step R steps xs up i (j - suc i) d (omega arith))
-
-pub AllAdjacentBelow-from_pairs : {A : Type 0} (R : A → A → Type 0) (xs : List A) → AllPairs R xs → AllAdjacentBelow R xs (length xs)
-AllAdjacentBelow-from_pairs R xs all k d inside = all k (k + 1) d (omega arith) inside

@@ -49,6 +49,13 @@ pub struct Row {
     pub content: Block,
 }
 
+/// A block of a datafile, by their numbers.
+#[derive(Clone, Copy, PartialEq, Eq)]
+pub struct BlockId {
+    pub file: FileNo,
+    pub block: BlockNo,
+}
+
 /// A new content of one block, at one SCN of one incarnation, by one redo thread.
 #[derive(Clone, Copy, PartialEq, Eq)]
 pub struct Change {

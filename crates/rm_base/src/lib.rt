@@ -17,7 +17,7 @@ pub mod seq;
 pub mod store;
 pub mod text;
 
-pub use block::{Block, Change, Mark, Part, Row};
+pub use block::{Block, BlockId, Change, Mark, Part, Row};
 pub use faults::{Failed, FormatFault, NoMemory};
 pub use kinds::{Bad, Class, Kind, Policy, Status};
 pub use mem_store::{MemClock, MemStore, StoreFailing};

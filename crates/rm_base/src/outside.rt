@@ -1,5 +1,5 @@
 //! What the program reads from and writes to. Each object counts its faults, and the count never falls.
-ghost use Rattle.std.specs.Prelude.{◌≡◌, ◌<◌, ◌≤◌, ℕ, Bool, List, [], Option, length, take, IfOk, OnOk, OnErr};
+ghost use Rattle.std.specs.Prelude.{◌≡◌, ◌<◌, ◌≤◌, ℕ, Bool, List, Option, length, take, IfOk, OnErr};
 ghost use Rattle.rm_base.specs.Outside.{HasTaken, Appends, Counts, EndsAt, Rose};
 
 use crate::faults::Failed;

@@ -1,5 +1,5 @@
 //! Tests of numbers for their ranges.
-ghost use Rattle.std.specs.Prelude.{◌≡◌, ◌↔◌, ◌<◌, ◌≤◌, ◌^◌, IsTrue};
+ghost use Rattle.std.specs.Prelude.{◌↔◌, ◌<◌, ◌≤◌, ◌^◌, IsTrue};
 
 /// Whether the number, of 32 bits, is at least 1.
 pub fn is_positive(n: u32) -> bool

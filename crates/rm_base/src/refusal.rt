@@ -92,4 +92,14 @@ pub enum Refusal {
     },
     /// No SCN is left.
     Rm15,
+    /// The block, which is needed in place, is damaged.
+    Rm17 {
+        file: FileNo,
+        block: BlockNo,
+    },
+    /// The block, which is to be mended, is not damaged.
+    Rm18 {
+        file: FileNo,
+        block: BlockNo,
+    },
 }

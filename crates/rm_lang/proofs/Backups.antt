@@ -13,25 +13,25 @@ use Rattle.rm_lang_statement.specs.declared.command.WriteForm.{WriteForm}
 use Rattle.rm_lang_statement.specs.declared.command.BackupForm.{BackupForm}
 use Rattle.rm_lang_statement.specs.declared.command.Command.{Command}
 use Rattle.rm_lang_statement.specs.declared.command.Command.TheVariants.{Backup}
-use Rattle.rm_lang_statement.specs.Files.{in_order, are_files}
+use Rattle.rm_lang_statement.specs.Named.{in_order, are_named}
 use Rattle.rm_lang_statement.specs.Texts.{content}
 use Rattle.rm_lang_reading.specs.Creating.{write_part, written}
 use Rattle.rm_lang_reading.specs.Backups.{as_line, kind_of, is_copy, level_line, level_of, number_of, is_cumulative, merge_line, merge_tag_of, database_line, files_line, files_of, tag_line, tag_of, keep_line, during_line, during_of, backup_line, backup_of, agreed}
 use Rattle.rm_lang_statement.specs.Agreed.{is_one, agrees_in_level, agrees_in_merge, agrees}
 use Rattle.rm_lang_statement.specs.IsCommand.{is_write, is_backup}
 use Rattle.rm_lang_reading.specs.Values.{write_values, kind_values, kind_asked, level_values, level_asked, merge_values, files_values, tag_values, keep_values, during_values, backup_values}
-use Rattle.rm_lang_reading.proofs.InOrder.{in_order-files, files-in_order}
+use Rattle.rm_lang_reading.proofs.InOrder.{in_order-named, named-in_order}
 use Rattle.rm_lang_reading.proofs.Parts.{copy_again, merge_again, files_again, tag_again, keep_again, during_again}
 
 -- files that are in order stay so
-files_kept : (o : Option (List ℕ)) → maybe_valid are_files o ≡ true → option_map in_order o ≡ o
+files_kept : (o : Option (List ℕ)) → maybe_valid are_named o ≡ true → option_map in_order o ≡ o
 files_kept None h = refl
-files_kept (Some ns) h = ap (λ (ms : List ℕ). Some ms) (files-in_order ns h)
+files_kept (Some ns) h = ap (λ (ms : List ℕ). Some ms) (named-in_order ns h)
 
 -- what the test of a backup says of its parts
 pub record IsTested (b : BackupForm) : Type 0 where
   pub level : maybe_valid (in_range 0 1) b.level ≡ true
-  pub files : maybe_valid are_files b.files ≡ true
+  pub files : maybe_valid are_named b.files ≡ true
   pub tag : maybe_valid is_capital_tag b.tag ≡ true
   pub merge : maybe_valid is_capital_tag b.merge_tag ≡ true
   pub during : maybe_valid (list_all is_write) b.during ≡ true
@@ -40,7 +40,7 @@ pub record IsTested (b : BackupForm) : Type 0 where
 pub tested : (b : BackupForm) → is_backup b ≡ true → IsTested b
 tested b h =
     let level = maybe_valid (in_range 0 1) b.level in
-    let files = maybe_valid are_files b.files in
+    let files = maybe_valid are_named b.files in
     let tag = maybe_valid is_capital_tag b.tag in
     let merge = maybe_valid is_capital_tag b.merge_tag in
     let during = maybe_valid (list_all is_write) b.during in
@@ -92,7 +92,7 @@ merge_valid : (o : Option (List ℕ)) → maybe_valid is_capital_tag o ≡ true 
 merge_valid None h = refl
 merge_valid (Some w) h = and_from (is_capital_tag w) true h refl
 
-files_valid : (o : Option (List ℕ)) → maybe_valid are_files o ≡ true → one_valid (valid database_line) (valid files_line) (files_values o) ≡ true
+files_valid : (o : Option (List ℕ)) → maybe_valid are_named o ≡ true → one_valid (valid database_line) (valid files_line) (files_values o) ≡ true
 files_valid None h = refl
 files_valid (Some []) h = absurd (cc)
 files_valid (Some (n ∷ ns)) h = refl
@@ -111,7 +111,7 @@ writes_valid (w ∷ ws) h =
     let b = and_parts (is_write w) (list_all is_write ws) h in
     and_from (is_shown content w.content.0 && true) (list_all (valid write_part) (map write_values ws)) (and_from (is_shown content w.content.0) true b.0 refl) (writes_valid ws b.1)
 
-during_valid : (o : Option (List WriteForm)) → maybe_valid (list_all is_write) o ≡ true → maybe_valid (valid during_line) (option_map during_values o) ≡ true
+pub during_valid : (o : Option (List WriteForm)) → maybe_valid (list_all is_write) o ≡ true → maybe_valid (valid during_line) (option_map during_values o) ≡ true
 during_valid None h = refl
 during_valid (Some ws) h = and_from (list_all (valid write_part) (map write_values ws)) true (writes_valid ws h) refl
 
@@ -129,9 +129,9 @@ merge_passes : (o : Option (Values merge_line)) → maybe_valid (valid merge_lin
 merge_passes None h = refl
 merge_passes (Some v) h = (and_parts (is_capital_tag v.0) true h).0
 
-files_pass : (v : Choice (Values database_line) (Values files_line)) → one_valid (valid database_line) (valid files_line) v ≡ true → maybe_valid are_files (files_of v) ≡ true
+files_pass : (v : Choice (Values database_line) (Values files_line)) → one_valid (valid database_line) (valid files_line) v ≡ true → maybe_valid are_named (files_of v) ≡ true
 files_pass (first v) h = refl
-files_pass (second v) h = in_order-files v.0 (and_parts (is_some_list v.0) true h).0
+files_pass (second v) h = in_order-named v.0 (and_parts (is_some_list v.0) true h).0
 
 tag_passes : (o : Option (Values tag_line)) → maybe_valid (valid tag_line) o ≡ true → maybe_valid is_capital_tag (option_map tag_of o) ≡ true
 tag_passes None h = refl
@@ -143,7 +143,7 @@ writes_pass (v ∷ vs) h =
     let b = and_parts (is_shown content v.1.1.1.0 && true) (list_all (valid write_part) vs) h in
     and_from (is_shown content v.1.1.1.0) (list_all is_write (map written vs)) (and_parts (is_shown content v.1.1.1.0) true b.0).0 (writes_pass vs b.1)
 
-during_passes : (o : Option (Values during_line)) → maybe_valid (valid during_line) o ≡ true → maybe_valid (list_all is_write) (option_map during_of o) ≡ true
+pub during_passes : (o : Option (Values during_line)) → maybe_valid (valid during_line) o ≡ true → maybe_valid (list_all is_write) (option_map during_of o) ≡ true
 during_passes None h = refl
 during_passes (Some v) h = writes_pass v.0 (and_parts (list_all (valid write_part) v.0) true h).0
 

@@ -11,21 +11,23 @@ use Rattle.rm_lang_reading.specs.declared.upkeep.Deletion.{Deletion}
 use Rattle.rm_lang_reading.specs.declared.upkeep.Deletion.TheVariants.{Obsolete, One, Expired}
 use Rattle.rm_lang_statement.specs.declared.command.Until.{Until}
 use Rattle.rm_lang_statement.specs.declared.command.Command.{Command}
-use Rattle.rm_lang_statement.specs.declared.command.Command.TheVariants.{CreateDatabase, CreateDatafile, Write, SwitchLogfile, ArchiveLogCurrent, Mount, Tracking, ResetDatabase, Restore, RecoverCopy, BackupLogs, Crosscheck, ValidateAll, ChangeBackup, ReportObsolete, ReportNeedBackup, ReportSchema, ListIncarnation, ListBackup, ListCopy, ListArchived, ShowAll, Dump, Retention, Parallelism, CatalogName, LoseDatafile, LoseLog, Remove, Damage, Cut, Rename}
+use Rattle.rm_lang_statement.specs.declared.command.Command.TheVariants.{CreateDatabase, CreateDatafile, Write, SwitchLogfile, ArchiveLogCurrent, Mount, Tracking, ResetDatabase, Restore, RecoverCopy, BackupLogs, Crosscheck, ValidateAll, ChangeBackup, ReportObsolete, ReportNeedBackup, ReportSchema, ListIncarnation, ListBackup, ListCopy, ListArchived, ShowAll, Dump, Retention, Parallelism, CatalogName, LoseDatafile, LoseLog, Remove, Damage, Cut, Rename, Corrupt, ListCorruption, BlockRecover}
 use Rattle.rm_lang_statement.specs.IsCommand.{is_command, is_until_or_none, is_retention}
-use Rattle.rm_lang_reading.specs.Language.{mishap_forms, setting_forms, asking_forms, upkeep_forms, backup_forms, recovery_forms, mode_forms, forms}
+use Rattle.rm_lang_reading.specs.Language.{mishap_forms, setting_forms, asking_forms, upkeep_forms, backup_forms, repair_forms, recovery_forms, mode_forms, forms}
 use Rattle.rm_lang_statement.specs.Texts.{content, anything, plain, is_new_name, new_name, is_text}
 use Rattle.rm_lang_reading.specs.Creating.{create_database, write, written, create_datafile, switch_logfile, archive_log, track, untrack}
 use Rattle.rm_lang_reading.specs.Modes.{shutdown, startup, reset_database, open_database, open_command}
 use Rattle.rm_lang_reading.specs.Recovering.{until_line, until_of, incarnation_line, incarnation_of, restoring, restore, restore_datafile, recovery, recover, recover_copy}
+use Rattle.rm_lang_reading.specs.Repairs.{block_recover, repair_of}
 use Rattle.rm_lang_reading.specs.Backups.{backup, backup_logs}
 use Rattle.rm_lang_reading.specs.Upkeep.{class_by, crosscheck, validate, change_by, change, deletion_by, deleting, delete}
-use Rattle.rm_lang_reading.specs.Asking.{report_obsolete, report_need_backup, report_schema, list_incarnation, list_backup, list_copy, list_archived, show, dump}
+use Rattle.rm_lang_reading.specs.Asking.{report_obsolete, report_need_backup, report_schema, list_incarnation, list_backup, list_copy, list_archived, list_corruption, show, dump}
 use Rattle.rm_lang_reading.specs.Settings.{window_part, redundancy_part, redundancy_or_none, policy_part, redundancy_or_none_by, policy_by, retention_by, retention, parallelism, catalog}
-use Rattle.rm_lang_reading.specs.Mishaps.{lose_datafile, lose_log, remove, damage, cut, rename}
+use Rattle.rm_lang_reading.specs.Mishaps.{lose_datafile, lose_log, corrupt, remove, damage, cut, rename}
 use Rattle.rm_lang.proofs.Contents.{content-faithful}
 use Rattle.rm_lang.proofs.Strings.{tested-faithful, tested-shown, until_passes}
 use Rattle.rm_lang.proofs.Backups.{backup_passes}
+use Rattle.rm_lang.proofs.Repairs.{repair_passes}
 
 -- the command that a form means passes the test
 by_meaning : (c d : Command) → is_command c ≡ true → Some c ≡ Some d → is_command d ≡ true
@@ -121,6 +123,13 @@ unfolding backup
 backup_form_passes = record {
   are_faithful = ((tt, tt, tt), (tt, (tt, (tt, tt, (tt, (tt, ((((content-faithful, tt), tt)), tt)))))));
   passed = λ vs c v m. let p = backup_passes vs c v m in subst (λ d. is_command d ≡ true) p.1 p.0;
+}
+
+block_recover_passes : Passes is_command block_recover
+unfolding block_recover
+block_recover_passes = record {
+  are_faithful = (tt, tt, (((content-faithful, tt), tt), tt));
+  passed = λ vs c v m. by_meaning (BlockRecover (repair_of vs)) c (repair_passes vs v) m;
 }
 
 backup_logs_passes : Passes is_command backup_logs
@@ -227,6 +236,10 @@ list_archived_passes : Passes is_command list_archived
 unfolding list_archived
 list_archived_passes = record { are_faithful = tt; passed = λ vs c v m. by_meaning ListArchived c refl m }
 
+list_corruption_passes : Passes is_command list_corruption
+unfolding list_corruption
+list_corruption_passes = record { are_faithful = tt; passed = λ vs c v m. by_meaning ListCorruption c refl m }
+
 show_passes : Passes is_command show
 unfolding show
 show_passes = record { are_faithful = tt; passed = λ vs c v m. by_meaning ShowAll c refl m }
@@ -251,6 +264,10 @@ lose_log_passes : Passes is_command lose_log
 unfolding lose_log
 lose_log_passes = record { are_faithful = tt; passed = λ vs c v m. by_meaning (LoseLog vs.0) c refl m }
 
+corrupt_passes : Passes is_command corrupt
+unfolding corrupt
+corrupt_passes = record { are_faithful = tt; passed = λ vs c v m. by_meaning (Corrupt vs.0 vs.1.0) c refl m }
+
 remove_passes : Passes is_command remove
 unfolding remove
 remove_passes = record { are_faithful = (tested-faithful anything, tt); passed = λ vs c v m. by_meaning (Remove vs.0) c (tested-shown anything vs.0 (and_parts (is_shown plain vs.0) true v).0) m }
@@ -269,7 +286,7 @@ rename_passes = record { are_faithful = (tested-faithful anything, (tested-faith
 
 mishap_pass : AllPass is_command mishap_forms
 unfolding mishap_forms
-mishap_pass = (lose_datafile_passes, (lose_log_passes, (remove_passes, (damage_passes, (cut_passes, (rename_passes, tt))))))
+mishap_pass = (lose_datafile_passes, (lose_log_passes, (corrupt_passes, (remove_passes, (damage_passes, (cut_passes, (rename_passes, tt)))))))
 
 setting_pass : AllPass is_command setting_forms
 unfolding setting_forms
@@ -277,7 +294,7 @@ setting_pass = (retention_passes, (parallelism_passes, (catalog_passes, mishap_p
 
 asking_pass : AllPass is_command asking_forms
 unfolding asking_forms
-asking_pass = (report_obsolete_passes, (report_need_backup_passes, (report_schema_passes, (list_incarnation_passes, (list_backup_passes, (list_copy_passes, (list_archived_passes, (show_passes, (dump_passes, setting_pass)))))))))
+asking_pass = (report_obsolete_passes, (report_need_backup_passes, (report_schema_passes, (list_incarnation_passes, (list_backup_passes, (list_copy_passes, (list_archived_passes, (list_corruption_passes, (show_passes, (dump_passes, setting_pass))))))))))
 
 upkeep_pass : AllPass is_command upkeep_forms
 unfolding upkeep_forms
@@ -287,9 +304,13 @@ backup_pass : AllPass is_command backup_forms
 unfolding backup_forms
 backup_pass = (backup_form_passes, (backup_logs_passes, upkeep_pass))
 
+repair_pass : AllPass is_command repair_forms
+unfolding repair_forms
+repair_pass = (block_recover_passes, backup_pass)
+
 recovery_pass : AllPass is_command recovery_forms
 unfolding recovery_forms
-recovery_pass = (restore_passes, (restore_datafile_passes, (recover_passes, (recover_copy_passes, backup_pass))))
+recovery_pass = (restore_passes, (restore_datafile_passes, (recover_passes, (recover_copy_passes, repair_pass))))
 
 mode_pass : AllPass is_command mode_forms
 unfolding mode_forms

@@ -8,7 +8,7 @@ use Rattle.rm_lang_token.specs.Statements.{statements}
 use Rattle.rm_lang_grammar.specs.Spelling.{spelled}
 use Rattle.rm_lang_reading.specs.declared.upkeep.Deletion.TheVariants.{Obsolete, One, Expired}
 use Rattle.rm_lang_statement.specs.declared.command.Command.{Command}
-use Rattle.rm_lang_statement.specs.declared.command.Command.TheVariants.{CreateDatabase, CreateDatafile, Write, SwitchLogfile, ArchiveLogCurrent, Mount, OpenPlain, OpenResetlogs, Tracking, ResetDatabase, Restore, Preview, Recover, RecoverTest, RecoverCopy, Backup, BackupLogs, Crosscheck, ValidateAll, ChangeBackup, DeleteObsolete, DeleteBackup, DeleteExpired, ReportObsolete, ReportNeedBackup, ReportSchema, ListIncarnation, ListBackup, ListCopy, ListArchived, ShowAll, Dump, Retention, Parallelism, CatalogName, LoseDatafile, LoseLog, Remove, Damage, Cut, Rename}
+use Rattle.rm_lang_statement.specs.declared.command.Command.TheVariants.{CreateDatabase, CreateDatafile, Write, SwitchLogfile, ArchiveLogCurrent, Mount, OpenPlain, OpenResetlogs, Tracking, ResetDatabase, Restore, Preview, Recover, RecoverTest, RecoverCopy, Backup, BackupLogs, Crosscheck, ValidateAll, ChangeBackup, DeleteObsolete, DeleteBackup, DeleteExpired, ReportObsolete, ReportNeedBackup, ReportSchema, ListIncarnation, ListBackup, ListCopy, ListArchived, ShowAll, Dump, Retention, Parallelism, CatalogName, LoseDatafile, LoseLog, Remove, Damage, Cut, Rename, Corrupt, ListCorruption, BlockRecover}
 use Rattle.rm_lang_statement.specs.declared.command.Inner.{Inner}
 use Rattle.rm_lang_statement.specs.declared.command.Inner.TheVariants.{SetUntil, AllocateChannel, Plain as PlainInner}
 use Rattle.rm_lang_statement.specs.declared.command.Statement.{Statement}
@@ -16,13 +16,14 @@ use Rattle.rm_lang_statement.specs.declared.command.Statement.TheVariants.{Plain
 use Rattle.rm_lang_reading.specs.Creating.{create_database_line, write_line, create_datafile_line, switch_logfile_line, archive_log_line, track_line, untrack_line}
 use Rattle.rm_lang_reading.specs.Modes.{startup_line, reset_database_line, open_database_line}
 use Rattle.rm_lang_reading.specs.Recovering.{restore_line, restore_datafile_line, recover_line, recover_copy_line}
+use Rattle.rm_lang_reading.specs.Repairs.{block_recover_line}
 use Rattle.rm_lang_reading.specs.Backups.{backup_line, backup_logs_line}
 use Rattle.rm_lang_reading.specs.Upkeep.{crosscheck_line, validate_line, change_line, delete_line}
-use Rattle.rm_lang_reading.specs.Asking.{report_obsolete_line, report_need_backup_line, report_schema_line, list_incarnation_line, list_backup_line, list_copy_line, list_archived_line, show_line, dump_line}
+use Rattle.rm_lang_reading.specs.Asking.{report_obsolete_line, report_need_backup_line, report_schema_line, list_incarnation_line, list_backup_line, list_copy_line, list_archived_line, list_corruption_line, show_line, dump_line}
 use Rattle.rm_lang_reading.specs.Settings.{retention_line, parallelism_line, catalog_line}
-use Rattle.rm_lang_reading.specs.Mishaps.{lose_datafile_line, lose_log_line, remove_line, damage_line, cut_line, rename_line}
+use Rattle.rm_lang_reading.specs.Mishaps.{lose_datafile_line, lose_log_line, corrupt_line, remove_line, damage_line, cut_line, rename_line}
 use Rattle.rm_lang_reading.specs.Language.{set_until_line, allocate_line, IsStatement}
-use Rattle.rm_lang_reading.specs.Values.{write_values, until_values, incarnation_values, backup_values, class_choice, change_choice, deletion_choice, retention_choice}
+use Rattle.rm_lang_reading.specs.Values.{write_values, until_values, incarnation_values, backup_values, repair_values, class_choice, change_choice, deletion_choice, retention_choice}
 
 -- the tokens that spell the command
 abbrev pub tokens_of : Command → List Token
@@ -45,6 +46,7 @@ tokens_of (RecoverTest until inc) = spelled recover_line (option_map until_value
 tokens_of (RecoverCopy tag until) = spelled recover_copy_line (tag, (option_map until_values until, tt))
 tokens_of (Backup b) = spelled backup_line (backup_values b)
 tokens_of BackupLogs = spelled backup_logs_line tt
+tokens_of (BlockRecover form) = spelled block_recover_line (repair_values form)
 tokens_of (Crosscheck class) = spelled crosscheck_line (class_choice class, tt)
 tokens_of ValidateAll = spelled validate_line tt
 tokens_of (ChangeBackup id to) = spelled change_line (id, (change_choice to, tt))
@@ -58,6 +60,7 @@ tokens_of ListIncarnation = spelled list_incarnation_line tt
 tokens_of ListBackup = spelled list_backup_line tt
 tokens_of ListCopy = spelled list_copy_line tt
 tokens_of ListArchived = spelled list_archived_line tt
+tokens_of ListCorruption = spelled list_corruption_line tt
 tokens_of ShowAll = spelled show_line tt
 tokens_of (Dump file block) = spelled dump_line (file, (block, tt))
 tokens_of (Retention form) = spelled retention_line (retention_choice form, tt)
@@ -65,6 +68,7 @@ tokens_of (Parallelism channels) = spelled parallelism_line (channels, tt)
 tokens_of (CatalogName name) = spelled catalog_line (name, tt)
 tokens_of (LoseDatafile file) = spelled lose_datafile_line (file, tt)
 tokens_of (LoseLog thread) = spelled lose_log_line (thread, tt)
+tokens_of (Corrupt file block) = spelled corrupt_line (file, (block, tt))
 tokens_of (Remove name) = spelled remove_line (name, tt)
 tokens_of (Damage name at) = spelled damage_line (name, (at, tt))
 tokens_of (Cut name to) = spelled cut_line (name, (to, tt))

@@ -135,8 +135,8 @@ fn writes(alloc: Global, writes: &[WriteForm]) -> Result<Spelling, NoMemory>
     Ok(spelling)
 }
 
-// DURING and the writes, if it stands there.
-fn during(alloc: Global, during: &Option<Seq<WriteForm>>) -> Result<Spelling, NoMemory>
+/// DURING and the writes, if it stands there.
+pub fn during(alloc: Global, during: &Option<Seq<WriteForm>>) -> Result<Spelling, NoMemory>
     requires { IsTrue (maybe_valid (list_all is_write) during.now) }
     ensures { IfOk result (λ ts. ts ≡ maybe_spelled (spelled during_line) (option_map during_values during.now)) }
 {

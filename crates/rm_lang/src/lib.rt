@@ -6,13 +6,15 @@ pub mod laws;
 mod parts;
 mod plain;
 mod reading;
+mod repair;
 mod spelling;
 mod valid;
 mod with_parts;
 
 pub use reading::statement_of;
 pub use rm_lang_statement::{
-    BackupForm, ChangeTo, Command, Inner, RetentionForm, Statement, Until, WriteForm,
+    BackupForm, ChangeTo, Command, Inner, NamedBlocks, RepairForm, RetentionForm, Statement, Until,
+    WriteForm,
 };
 pub use rm_lang_token::{Token, statements};
 pub use spelling::text_of;

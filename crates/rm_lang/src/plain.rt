@@ -6,9 +6,9 @@ ghost use Rattle.rm_lang_reading.specs.Creating.{create_database_line, create_da
 ghost use Rattle.rm_lang_reading.specs.Modes.{startup_line, reset_database_line, open_database_line};
 ghost use Rattle.rm_lang_reading.specs.Backups.{backup_logs_line};
 ghost use Rattle.rm_lang_reading.specs.Upkeep.{validate_line};
-ghost use Rattle.rm_lang_reading.specs.Asking.{report_obsolete_line, report_need_backup_line, report_schema_line, list_incarnation_line, list_backup_line, list_copy_line, list_archived_line, show_line, dump_line};
+ghost use Rattle.rm_lang_reading.specs.Asking.{report_obsolete_line, report_need_backup_line, report_schema_line, list_incarnation_line, list_backup_line, list_copy_line, list_archived_line, list_corruption_line, show_line, dump_line};
 ghost use Rattle.rm_lang_reading.specs.Settings.{parallelism_line, catalog_line};
-ghost use Rattle.rm_lang_reading.specs.Mishaps.{lose_datafile_line, lose_log_line, remove_line, damage_line, cut_line, rename_line};
+ghost use Rattle.rm_lang_reading.specs.Mishaps.{lose_datafile_line, lose_log_line, corrupt_line, remove_line, damage_line, cut_line, rename_line};
 ghost use Rattle.rm_lang_reading.specs.Language.{allocate_line};
 
 use rm_base::{NoMemory, Scn, Text};
@@ -204,6 +204,16 @@ pub fn list_archived(alloc: Global) -> Result<Spelling, NoMemory>
     Ok(spelling)
 }
 
+pub fn list_corruption(alloc: Global) -> Result<Spelling, NoMemory>
+    ensures { IfOk result (λ ts. ts ≡ spelled list_corruption_line tt) }
+{
+    let mut spelling = Spelling::new(alloc);
+    spelling.word("LIST")?;
+    spelling.word("CORRUPTION")?;
+    spelling.sign(b';')?;
+    Ok(spelling)
+}
+
 pub fn show(alloc: Global) -> Result<Spelling, NoMemory>
     ensures { IfOk result (λ ts. ts ≡ spelled show_line tt) }
 {
@@ -273,6 +283,20 @@ pub fn lose_log(alloc: Global, thread: u64) -> Result<Spelling, NoMemory>
     spelling.word("LOG")?;
     spelling.word("THREAD")?;
     spelling.number(thread)?;
+    spelling.sign(b';')?;
+    Ok(spelling)
+}
+
+pub fn corrupt(alloc: Global, file: u64, block: u64) -> Result<Spelling, NoMemory>
+    ensures { IfOk result (λ ts. ts ≡ spelled corrupt_line (file, (block, tt))) }
+{
+    let mut spelling = Spelling::new(alloc);
+    spelling.word("HOST")?;
+    spelling.word("CORRUPT")?;
+    spelling.word("DATAFILE")?;
+    spelling.number(file)?;
+    spelling.word("BLOCK")?;
+    spelling.number(block)?;
     spelling.sign(b';')?;
     Ok(spelling)
 }

@@ -7,11 +7,13 @@ ghost use Rattle.rm_lang.specs.Spelling.{tokens_of, inner_tokens, statement_toke
 
 use crate::backup::{backup, write};
 use crate::plain::{
-    allocate, archive_log, backup_logs, catalog, create_database, create_datafile, cut, damage,
-    dump, list_archived, list_backup, list_copy, list_incarnation, lose_datafile, lose_log,
-    open_database, parallelism, remove, rename, report_need_backup, report_obsolete, report_schema,
-    reset_database, show, startup, switch_logfile, track, untrack, validate,
+    allocate, archive_log, backup_logs, catalog, corrupt, create_database, create_datafile, cut,
+    damage, dump, list_archived, list_backup, list_copy, list_corruption, list_incarnation,
+    lose_datafile, lose_log, open_database, parallelism, remove, rename, report_need_backup,
+    report_obsolete, report_schema, reset_database, show, startup, switch_logfile, track, untrack,
+    validate,
 };
+use crate::repair::block_recover;
 use crate::with_parts::{
     change, crosscheck, delete_backup, delete_expired, delete_obsolete, recover, recover_copy,
     recover_test, restore, restore_datafile, retention, set_until,
@@ -52,6 +54,7 @@ fn command(alloc: Global, command: &Command) -> Result<Spelling, NoMemory>
         Command::RecoverCopy { tag, until } => recover_copy(alloc, tag, until),
         Command::Backup(form) => backup(alloc, form),
         Command::BackupLogs => backup_logs(alloc),
+        Command::BlockRecover(form) => block_recover(alloc, form),
         Command::Crosscheck { class } => crosscheck(alloc, *class),
         Command::ValidateAll => validate(alloc),
         Command::ChangeBackup { id, to } => change(alloc, *id, *to),
@@ -65,6 +68,7 @@ fn command(alloc: Global, command: &Command) -> Result<Spelling, NoMemory>
         Command::ListBackup => list_backup(alloc),
         Command::ListCopy => list_copy(alloc),
         Command::ListArchived => list_archived(alloc),
+        Command::ListCorruption => list_corruption(alloc),
         Command::ShowAll => show(alloc),
         Command::Dump { file, block } => dump(alloc, *file, *block),
         Command::Retention(form) => retention(alloc, *form),
@@ -72,6 +76,7 @@ fn command(alloc: Global, command: &Command) -> Result<Spelling, NoMemory>
         Command::CatalogName { name } => catalog(alloc, name),
         Command::LoseDatafile { file } => lose_datafile(alloc, *file),
         Command::LoseLog { thread } => lose_log(alloc, *thread),
+        Command::Corrupt { file, block } => corrupt(alloc, *file, *block),
         Command::Remove { name } => remove(alloc, name),
         Command::Damage { name, at } => damage(alloc, name, *at),
         Command::Cut { name, to } => cut(alloc, name, *to),

@@ -2,15 +2,17 @@
 ghost use Rattle.std.specs.Prelude.{◌≡◌, ◌↔◌, IsTrue};
 ghost use Rattle.std.specs.List.{list_all};
 ghost use Rattle.rm_lang_grammar.specs.Spelling.{is_shown, is_capital_tag, maybe_valid};
-ghost use Rattle.rm_lang_statement.specs.Files.{ascend_above, are_files};
+ghost use Rattle.rm_lang_statement.specs.Named.{ascend_above, are_named};
 ghost use Rattle.rm_lang_statement.specs.Texts.{content, anything, is_new_name, is_text};
-ghost use Rattle.rm_lang_statement.specs.IsCommand.{is_until, is_until_or_none, is_write, is_backup, is_retention, is_command, is_inner, is_statement};
+ghost use Rattle.rm_lang_statement.specs.IsCommand.{is_until, is_until_or_none, is_write, is_backup, is_repair, is_retention, is_command, is_inner, is_statement};
 ghost use Rattle.rm_lang_reading.specs.Language.{IsSpelled};
 
 use rm_base::{Block, LAST_SCN, Text};
 use rm_lang_grammar::is_capital_tag;
 use rm_lang_reading::{agrees, is_new_name};
-use rm_lang_statement::{BackupForm, Command, Inner, RetentionForm, Statement, Until, WriteForm};
+use rm_lang_statement::{
+    BackupForm, Command, Inner, RepairForm, RetentionForm, Statement, Until, WriteForm,
+};
 use rm_lang_token::are_string_bytes;
 use rm_moments::is_time;
 
@@ -53,8 +55,8 @@ fn ascend_above(least: u64, numbers: &[u64]) -> bool
 }
 
 // One number or more, ascending and each once.
-fn are_files(numbers: &[u64]) -> bool
-    ensures { result ≡ are_files numbers.now }
+fn are_named(numbers: &[u64]) -> bool
+    ensures { result ≡ are_named numbers.now }
 {
     match numbers {
         [first, others @ ..] => ascend_above(*first, others),
@@ -80,7 +82,7 @@ fn is_backup(form: &BackupForm) -> bool
         && form
             .files
             .as_ref()
-            .is_none_or(|files| are_files(files.as_slice()))
+            .is_none_or(|files| are_named(files.as_slice()))
         && is_tag_or_none(&form.tag)
         && is_tag_or_none(&form.merge_tag)
         && form
@@ -88,6 +90,19 @@ fn is_backup(form: &BackupForm) -> bool
             .as_ref()
             .is_none_or(|forms| are_writes(forms.as_slice()))
         && agrees(form.copy, form)
+}
+
+// The repair is one of a statement.
+fn is_repair(form: &RepairForm) -> bool
+    ensures { result ≡ is_repair form.now }
+{
+    form.blocks
+        .as_ref()
+        .is_none_or(|named| are_named(named.blocks.as_slice()))
+        && form
+            .during
+            .as_ref()
+            .is_none_or(|forms| are_writes(forms.as_slice()))
 }
 
 fn is_until(until: &Until) -> bool
@@ -161,6 +176,7 @@ pub fn is_command(command: &Command) -> bool
         }
         Command::Backup(form) => is_backup(form),
         Command::BackupLogs => true,
+        Command::BlockRecover(form) => is_repair(form),
         Command::Crosscheck { .. } => true,
         Command::ValidateAll => true,
         Command::ChangeBackup { .. } => true,
@@ -174,6 +190,7 @@ pub fn is_command(command: &Command) -> bool
         Command::ListBackup => true,
         Command::ListCopy => true,
         Command::ListArchived => true,
+        Command::ListCorruption => true,
         Command::ShowAll => true,
         Command::Dump { .. } => true,
         Command::Retention(form) => is_retention(*form),
@@ -181,6 +198,7 @@ pub fn is_command(command: &Command) -> bool
         Command::CatalogName { name } => is_plain(name),
         Command::LoseDatafile { .. } => true,
         Command::LoseLog { .. } => true,
+        Command::Corrupt { .. } => true,
         Command::Remove { name } => is_plain(name),
         Command::Damage { name, .. } => is_plain(name),
         Command::Cut { name, .. } => is_plain(name),

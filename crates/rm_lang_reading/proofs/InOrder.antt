@@ -11,7 +11,7 @@ use Rattle.std.proofs.lemmas.List.Kept.{Contains-dedup_nat, Contains-from_dedup}
 use Rattle.std.proofs.lemmas.List.Sorted.{Contains-permutation, IsPermutation-sym}
 use Rattle.std.proofs.lemmas.Map.Keys.{IsStrictlyIncreasing-dedup, sorted_from_strictly_increasing, sorted_tail, below_from_sorted}
 use Rattle.rm_lang_grammar.specs.Spelling.{is_some_list}
-use Rattle.rm_lang_statement.specs.Files.{placed, in_order, ascend_above, are_files}
+use Rattle.rm_lang_statement.specs.Named.{placed, in_order, ascend_above, are_named}
 
 -- x is one of the numbers
 abbrev Has : List ℕ → ℕ → Type 0
@@ -120,35 +120,35 @@ placed-above k n (m ∷ ms) h a =
     placed_by-above (nat_lt n m) (n == m) k n m ms refl refl h a
     (λ l. placed-above m n ms l (and_parts (nat_lt k m) (ascend_above m ms) a).1)
 
-placed_by-files : (less equal : Bool) (n m : ℕ) (ms : List ℕ) → nat_lt n m ≡ less → (n == m) ≡ equal → ascend_above m ms ≡ true → are_files (placed_by less equal n m ms) ≡ true
-placed_by-files true equal n m ms l e a = and_from (nat_lt n m) (ascend_above m ms) l a
-placed_by-files false true n m ms l e a = a
-placed_by-files false false n m ms l e a = placed-above m n ms (last_place n m l e) a
+placed_by-named : (less equal : Bool) (n m : ℕ) (ms : List ℕ) → nat_lt n m ≡ less → (n == m) ≡ equal → ascend_above m ms ≡ true → are_named (placed_by less equal n m ms) ≡ true
+placed_by-named true equal n m ms l e a = and_from (nat_lt n m) (ascend_above m ms) l a
+placed_by-named false true n m ms l e a = a
+placed_by-named false false n m ms l e a = placed-above m n ms (last_place n m l e) a
 
-placed-files : (n : ℕ) (ms : List ℕ) → ascends ms ≡ true → are_files (placed n ms) ≡ true
-placed-files n [] a = refl
-placed-files n (m ∷ ms) a = placed_by-files (nat_lt n m) (n == m) n m ms refl refl a
+placed-named : (n : ℕ) (ms : List ℕ) → ascends ms ≡ true → are_named (placed n ms) ≡ true
+placed-named n [] a = refl
+placed-named n (m ∷ ms) a = placed_by-named (nat_lt n m) (n == m) n m ms refl refl a
 
-files-ascend : (ns : List ℕ) → are_files ns ≡ true → ascends ns ≡ true
-files-ascend [] h = refl
-files-ascend (n ∷ ns) h = h
+named-ascend : (ns : List ℕ) → are_named ns ≡ true → ascends ns ≡ true
+named-ascend [] h = refl
+named-ascend (n ∷ ns) h = h
 
 in_order-ascends : (ns : List ℕ) → ascends (in_order ns) ≡ true
 in_order-ascends [] = refl
-in_order-ascends (n ∷ ns) = files-ascend (placed n (in_order ns)) (placed-files n (in_order ns) (in_order-ascends ns))
+in_order-ascends (n ∷ ns) = named-ascend (placed n (in_order ns)) (placed-named n (in_order ns) (in_order-ascends ns))
 
 -- some numbers in order are ascending, and there is one
-pub in_order-files : (ns : List ℕ) → is_some_list ns ≡ true → are_files (in_order ns) ≡ true
-in_order-files [] h = absurd (cc)
-in_order-files (n ∷ ns) h = placed-files n (in_order ns) (in_order-ascends ns)
+pub in_order-named : (ns : List ℕ) → is_some_list ns ≡ true → are_named (in_order ns) ≡ true
+in_order-named [] h = absurd (cc)
+in_order-named (n ∷ ns) h = placed-named n (in_order ns) (in_order-ascends ns)
 
 -- the numbers of a list, in order, are any ascending list that has the same
 in_order-is : (ns ms : List ℕ) → ascends ms ≡ true → ((x : ℕ) → Has ms x → Has ns x) → ((x : ℕ) → Has ns x → Has ms x) → ms ≡ in_order ns
 in_order-is ns ms a f g = same ms (in_order ns) a (in_order-ascends ns) (λ x h. has-in_order ns x (f x h)) (λ x h. g x (in_order-has ns x h))
 
 -- what is in order stays as it is
-pub files-in_order : (ns : List ℕ) → are_files ns ≡ true → in_order ns ≡ ns
-files-in_order ns h = sym (in_order-is ns ns (files-ascend ns h) (λ x k. k) (λ x k. k))
+pub named-in_order : (ns : List ℕ) → are_named ns ≡ true → in_order ns ≡ ns
+named-in_order ns h = sym (in_order-is ns ns (named-ascend ns h) (λ x k. k) (λ x k. k))
 
 contained : (n x : ℕ) → Contains [] x ⊎ (n ≡ x) → (ns : List ℕ) → Has (n ∷ ns) x
 contained n x (inl h) ns = absurd (omega (arith, h.1))

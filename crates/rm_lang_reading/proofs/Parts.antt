@@ -11,17 +11,19 @@ use Rattle.rm_lang_reading.specs.declared.upkeep.Deletion.TheVariants.{Obsolete,
 use Rattle.rm_lang_statement.specs.declared.command.Until.{Until}
 use Rattle.rm_lang_statement.specs.declared.command.Until.TheVariants.{Scn, Sequence, Time}
 use Rattle.rm_lang_statement.specs.declared.command.WriteForm.{WriteForm}
+use Rattle.rm_lang_statement.specs.declared.command.NamedBlocks.{NamedBlocks}
 use Rattle.rm_lang_statement.specs.declared.command.ChangeTo.{ChangeTo}
 use Rattle.rm_lang_statement.specs.declared.command.ChangeTo.TheVariants.{Available, Unavailable, Uncatalog, Keep, NoKeep}
 use Rattle.rm_lang_statement.specs.declared.command.RetentionForm.{RetentionForm}
 use Rattle.rm_lang_statement.specs.declared.command.RetentionForm.TheVariants.{Window, Redundancy, Nothing, Clear}
-use Rattle.rm_lang_statement.specs.Files.{in_order}
+use Rattle.rm_lang_statement.specs.Named.{in_order}
 use Rattle.rm_lang_reading.specs.Creating.{written}
 use Rattle.rm_lang_reading.specs.Recovering.{until_by, until_of, incarnation_of}
 use Rattle.rm_lang_reading.specs.Backups.{kind_of, is_copy, level_of, merge_tag_of, files_of, tag_of, stands, during_of}
+use Rattle.rm_lang_reading.specs.Repairs.{ordered, blocks_of}
 use Rattle.rm_lang_reading.specs.Upkeep.{class_by, change_by, deletion_by}
 use Rattle.rm_lang_reading.specs.Settings.{retention_by}
-use Rattle.rm_lang_reading.specs.Values.{write_values, until_choice, until_values, incarnation_values, kind_values, kind_asked, level_values, merge_values, files_values, tag_values, keep_values, during_values, class_choice, change_choice, deletion_choice, retention_choice}
+use Rattle.rm_lang_reading.specs.Values.{write_values, until_choice, until_values, incarnation_values, kind_values, kind_asked, level_values, merge_values, files_values, tag_values, keep_values, during_values, blocks_values, class_choice, change_choice, deletion_choice, retention_choice}
 
 pub choice_again : (u : Until) → until_by (until_choice u) ≡ u
 choice_again (Scn n) = refl
@@ -73,6 +75,10 @@ pub during_again : (o : Option (List WriteForm)) → option_map during_of (optio
 during_again None = refl
 during_again (Some ws) = ap (λ (vs : List WriteForm). Some vs) (writes_again ws)
 
+pub blocks_again : (o : Option NamedBlocks) → blocks_of (blocks_values o) ≡ option_map ordered o
+blocks_again None = refl
+blocks_again (Some n) = refl
+
 pub class_again : (c : Class) → class_by (class_choice c) ≡ c
 class_again BackupClass = refl
 class_again CopyClass = refl
@@ -96,4 +102,4 @@ retention_again (Redundancy count) = refl
 retention_again Nothing = refl
 retention_again Clear = refl
 
-pub ruleset parts = (choice_again, until_again, incarnation_again, kind_again, level_again, merge_again, files_again, tag_again, keep_again, during_again, class_again, change_again, deletion_again, retention_again)
+pub ruleset parts = (choice_again, until_again, incarnation_again, kind_again, level_again, merge_again, files_again, tag_again, keep_again, during_again, blocks_again, class_again, change_again, deletion_again, retention_again)

@@ -3,7 +3,7 @@ use Rattle.std.specs.Prelude.{Some, codes}
 use Rattle.rm_lang_grammar.specs.Grammar.{◌▸◌, Grammar, semicolon, word, number, any}
 use Rattle.rm_lang_grammar.specs.Forms.{Form}
 use Rattle.rm_lang_statement.specs.declared.command.Command.{Command}
-use Rattle.rm_lang_statement.specs.declared.command.Command.TheVariants.{ReportObsolete, ReportNeedBackup, ReportSchema, ListIncarnation, ListBackup, ListCopy, ListArchived, ShowAll, Dump}
+use Rattle.rm_lang_statement.specs.declared.command.Command.TheVariants.{ReportObsolete, ReportNeedBackup, ReportSchema, ListIncarnation, ListBackup, ListCopy, ListArchived, ListCorruption, ShowAll, Dump}
 
 -- REPORT OBSOLETE
 abbrev pub report_obsolete_line : Grammar
@@ -53,6 +53,13 @@ list_archived_line = word (codes "LIST") ▸ word (codes "ARCHIVELOG") ▸ word 
 
 unfoldable pub list_archived : Form Command
 list_archived = record { line = list_archived_line; meaning = λ v. Some ListArchived }
+
+-- LIST CORRUPTION
+abbrev pub list_corruption_line : Grammar
+list_corruption_line = word (codes "LIST") ▸ word (codes "CORRUPTION") ▸ semicolon
+
+unfoldable pub list_corruption : Form Command
+list_corruption = record { line = list_corruption_line; meaning = λ v. Some ListCorruption }
 
 -- SHOW ALL
 abbrev pub show_line : Grammar

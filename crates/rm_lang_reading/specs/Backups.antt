@@ -12,7 +12,7 @@ use Rattle.rm_lang_statement.specs.declared.command.WriteForm.{WriteForm}
 use Rattle.rm_lang_statement.specs.declared.command.BackupForm.{BackupForm}
 use Rattle.rm_lang_statement.specs.declared.command.Command.{Command}
 use Rattle.rm_lang_statement.specs.declared.command.Command.TheVariants.{Backup, BackupLogs}
-use Rattle.rm_lang_statement.specs.Files.{in_order}
+use Rattle.rm_lang_statement.specs.Named.{in_order}
 use Rattle.rm_lang_reading.specs.Creating.{write_part, written}
 use Rattle.rm_lang_statement.specs.Agreed.{agrees}
 

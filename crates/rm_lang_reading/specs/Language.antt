@@ -13,15 +13,16 @@ use Rattle.rm_lang_statement.specs.declared.command.Statement.TheVariants.{Plain
 use Rattle.rm_lang_reading.specs.Creating.{create_database, write, create_datafile, switch_logfile, archive_log, track, untrack}
 use Rattle.rm_lang_reading.specs.Modes.{shutdown, startup, reset_database, open_database}
 use Rattle.rm_lang_reading.specs.Recovering.{until, until_by, restore, restore_datafile, recover, recover_copy}
+use Rattle.rm_lang_reading.specs.Repairs.{block_recover}
 use Rattle.rm_lang_reading.specs.Backups.{backup, backup_logs}
 use Rattle.rm_lang_reading.specs.Upkeep.{crosscheck, validate, change, delete}
-use Rattle.rm_lang_reading.specs.Asking.{report_obsolete, report_need_backup, report_schema, list_incarnation, list_backup, list_copy, list_archived, show, dump}
+use Rattle.rm_lang_reading.specs.Asking.{report_obsolete, report_need_backup, report_schema, list_incarnation, list_backup, list_copy, list_archived, list_corruption, show, dump}
 use Rattle.rm_lang_reading.specs.Settings.{retention, parallelism, catalog}
-use Rattle.rm_lang_reading.specs.Mishaps.{lose_datafile, lose_log, remove, damage, cut, rename}
+use Rattle.rm_lang_reading.specs.Mishaps.{lose_datafile, lose_log, corrupt, remove, damage, cut, rename}
 
 -- the forms that stand for what may befall the devices
 unfoldable pub mishap_forms : List (Form Command)
-mishap_forms = lose_datafile ∷ lose_log ∷ remove ∷ damage ∷ cut ∷ rename ∷ []
+mishap_forms = lose_datafile ∷ lose_log ∷ corrupt ∷ remove ∷ damage ∷ cut ∷ rename ∷ []
 
 -- those that set something, and the ones above
 unfoldable pub setting_forms : List (Form Command)
@@ -29,7 +30,7 @@ setting_forms = retention ∷ parallelism ∷ catalog ∷ mishap_forms
 
 -- those that ask and answer, and the ones above
 unfoldable pub asking_forms : List (Form Command)
-asking_forms = report_obsolete ∷ report_need_backup ∷ report_schema ∷ list_incarnation ∷ list_backup ∷ list_copy ∷ list_archived ∷ show ∷ dump ∷ setting_forms
+asking_forms = report_obsolete ∷ report_need_backup ∷ report_schema ∷ list_incarnation ∷ list_backup ∷ list_copy ∷ list_archived ∷ list_corruption ∷ show ∷ dump ∷ setting_forms
 
 -- those that look after records, and the ones above
 unfoldable pub upkeep_forms : List (Form Command)
@@ -39,9 +40,13 @@ upkeep_forms = crosscheck ∷ validate ∷ change ∷ delete ∷ asking_forms
 unfoldable pub backup_forms : List (Form Command)
 backup_forms = backup ∷ backup_logs ∷ upkeep_forms
 
+-- those that mend blocks, and the ones above
+unfoldable pub repair_forms : List (Form Command)
+repair_forms = block_recover ∷ backup_forms
+
 -- those that restore and recover, and the ones above
 unfoldable pub recovery_forms : List (Form Command)
-recovery_forms = restore ∷ restore_datafile ∷ recover ∷ recover_copy ∷ backup_forms
+recovery_forms = restore ∷ restore_datafile ∷ recover ∷ recover_copy ∷ repair_forms
 
 -- those of modes, and the ones above
 unfoldable pub mode_forms : List (Form Command)

@@ -5,6 +5,7 @@ pub mod Mishaps
 pub mod Language
 pub mod Modes
 pub mod Recovering
+pub mod Repairs
 pub mod Settings
 pub mod Upkeep
 pub mod Values

@@ -3,7 +3,7 @@ use Rattle.std.specs.Prelude.{Some, codes}
 use Rattle.rm_lang_grammar.specs.Grammar.{◌▸◌, Grammar, semicolon, word, number, text, any}
 use Rattle.rm_lang_grammar.specs.Forms.{Form}
 use Rattle.rm_lang_statement.specs.declared.command.Command.{Command}
-use Rattle.rm_lang_statement.specs.declared.command.Command.TheVariants.{LoseDatafile, LoseLog, Remove, Damage, Cut, Rename}
+use Rattle.rm_lang_statement.specs.declared.command.Command.TheVariants.{LoseDatafile, LoseLog, Corrupt, Remove, Damage, Cut, Rename}
 use Rattle.rm_lang_statement.specs.Texts.{plain, new_name}
 
 -- HOST LOSE DATAFILE n
@@ -19,6 +19,13 @@ lose_log_line = word (codes "HOST") ▸ word (codes "LOSE") ▸ word (codes "LOG
 
 unfoldable pub lose_log : Form Command
 lose_log = record { line = lose_log_line; meaning = λ v. Some (LoseLog v.0) }
+
+-- HOST CORRUPT DATAFILE n BLOCK n
+abbrev pub corrupt_line : Grammar
+corrupt_line = word (codes "HOST") ▸ word (codes "CORRUPT") ▸ word (codes "DATAFILE") ▸ number any ▸ word (codes "BLOCK") ▸ number any ▸ semicolon
+
+unfoldable pub corrupt : Form Command
+corrupt = record { line = corrupt_line; meaning = λ v. Some (Corrupt v.0 v.1.0) }
 
 -- HOST REMOVE 't'
 abbrev pub remove_line : Grammar

@@ -13,6 +13,8 @@ use Rattle.rm_lang_statement.specs.declared.command.Until.{Until}
 use Rattle.rm_lang_statement.specs.declared.command.Until.TheVariants.{Scn, Sequence, Time}
 use Rattle.rm_lang_statement.specs.declared.command.WriteForm.{WriteForm}
 use Rattle.rm_lang_statement.specs.declared.command.BackupForm.{BackupForm}
+use Rattle.rm_lang_statement.specs.declared.command.NamedBlocks.{NamedBlocks}
+use Rattle.rm_lang_statement.specs.declared.command.RepairForm.{RepairForm}
 use Rattle.rm_lang_statement.specs.declared.command.ChangeTo.{ChangeTo}
 use Rattle.rm_lang_statement.specs.declared.command.ChangeTo.TheVariants.{Available, Unavailable, Uncatalog, Keep, NoKeep}
 use Rattle.rm_lang_statement.specs.declared.command.RetentionForm.{RetentionForm}
@@ -20,6 +22,7 @@ use Rattle.rm_lang_statement.specs.declared.command.RetentionForm.TheVariants.{W
 use Rattle.rm_lang_reading.specs.Creating.{write_part}
 use Rattle.rm_lang_reading.specs.Recovering.{scn_part, log_or_time, until_line, incarnation_line}
 use Rattle.rm_lang_reading.specs.Backups.{as_line, level_line, merge_line, database_line, files_line, tag_line, keep_line, during_line, backup_line}
+use Rattle.rm_lang_reading.specs.Repairs.{corruption_line, blocks_line, block_recover_line}
 use Rattle.rm_lang_reading.specs.Upkeep.{copy_or_archived, withdrawing, one_or_expired}
 use Rattle.rm_lang_reading.specs.Settings.{policy_part}
 
@@ -92,6 +95,15 @@ backup_values b = (
     ),
   ),
 )
+
+-- what CORRUPTION LIST or the blocks of a datafile say
+abbrev pub blocks_values : Option NamedBlocks → Choice (Values corruption_line) (Values blocks_line)
+blocks_values None = first tt
+blocks_values (Some n) = second (n.file, (n.blocks, tt))
+
+-- what a BLOCKRECOVER says
+abbrev pub repair_values : RepairForm → Values block_recover_line
+repair_values r = (blocks_values r.blocks, (option_map during_values r.during, tt))
 
 -- what a class is named by
 abbrev pub class_choice : Class → Choice (Unit {0}) (Values copy_or_archived)

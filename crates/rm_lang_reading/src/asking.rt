@@ -1,7 +1,7 @@
 //! The statements that ask and answer.
 ghost use Rattle.rm_lang_grammar.specs.Reading.{Gives};
 ghost use Rattle.rm_lang_grammar.specs.Forms.{command_by, command_in};
-ghost use Rattle.rm_lang_reading.specs.Asking.{report_obsolete, report_need_backup, report_schema, list_incarnation, list_backup, list_copy, list_archived, show, dump};
+ghost use Rattle.rm_lang_reading.specs.Asking.{report_obsolete, report_need_backup, report_schema, list_incarnation, list_backup, list_copy, list_archived, list_corruption, show, dump};
 ghost use Rattle.rm_lang_reading.specs.Language.{asking_forms};
 
 use crate::settings::setting;
@@ -69,6 +69,14 @@ fn list_archived(tokens: &[Token]) -> Result<(Command, &[Token]), Unread>
     Ok((Command::ListArchived, rest))
 }
 
+#[tactic(auto, unfolding(crate::specs::Asking::list_corruption))]
+fn list_corruption(tokens: &[Token]) -> Result<(Command, &[Token]), Unread>
+    ensures { Gives (λ x. (x.0, x.1.now)) result (command_by list_corruption tokens.now) }
+{
+    let rest = semicolon(word(word(tokens, b"LIST")?, b"CORRUPTION")?)?;
+    Ok((Command::ListCorruption, rest))
+}
+
 #[tactic(auto, unfolding(crate::specs::Asking::show))]
 fn show(tokens: &[Token]) -> Result<(Command, &[Token]), Unread>
     ensures { Gives (λ x. (x.0, x.1.now)) result (command_by show tokens.now) }
@@ -117,6 +125,10 @@ pub fn asking(alloc: Global, tokens: &[Token]) -> Result<(Command, &[Token]), Un
         found => return found,
     }
     match list_archived(tokens) {
+        Err(Unread::Other) => {}
+        found => return found,
+    }
+    match list_corruption(tokens) {
         Err(Unread::Other) => {}
         found => return found,
     }

@@ -4,7 +4,7 @@ ghost use Rattle.std.specs.Prelude.{codes, map, length};
 ghost use Rattle.std.specs.Option.{option_map};
 ghost use Rattle.rm_lang_grammar.specs.Reading.{Gives, read, maybe, one_of, begins, begins_with, many_at};
 ghost use Rattle.rm_lang_grammar.specs.Forms.{command_by, command_in};
-ghost use Rattle.rm_lang_statement.specs.Files.{in_order};
+ghost use Rattle.rm_lang_statement.specs.Named.{in_order};
 ghost use Rattle.rm_lang_reading.specs.Backups.{as_line, is_copy, level_line, number_of, is_cumulative, merge_line, database_line, files_line, tag_line, keep_line, during_line, write_at, backup, backup_logs};
 ghost use Rattle.rm_lang_statement.specs.Agreed.{agrees_in_level, agrees_in_merge, agrees};
 ghost use Rattle.rm_lang_reading.specs.Values.{write_values, kind_values, level_values, merge_values, files_values, tag_values, keep_values, during_values};
@@ -113,8 +113,8 @@ fn named_files(alloc: Global, tokens: &[Token]) -> Result<(Option<Seq<u64>>, &[T
     Ok((Some(files), rest))
 }
 
-// The numbers, ascending and each once. It takes no memory.
-fn in_order(numbers: Seq<u64>) -> Seq<u64>
+/// The numbers, ascending and each once. It takes no memory.
+pub fn in_order(numbers: Seq<u64>) -> Seq<u64>
     ensures { result ≡ in_order numbers }
 {
     let mut numbers = numbers.into_vec();
@@ -176,8 +176,8 @@ fn writes(alloc: Global, tokens: &[Token]) -> Result<(Seq<WriteForm>, &[Token]),
     Ok((Seq::from_vec(writes), rest))
 }
 
-// DURING { {write ;}* }, or nothing.
-fn optional_during(
+/// DURING { {write ;}* }, or nothing.
+pub fn optional_during(
     alloc: Global,
     tokens: &[Token],
 ) -> Result<(Option<Seq<WriteForm>>, &[Token]), Unread>

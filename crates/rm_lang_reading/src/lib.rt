@@ -8,6 +8,7 @@ mod mishaps;
 mod modes;
 mod reading;
 mod recovering;
+mod repairs;
 mod run;
 mod settings;
 mod texts;

@@ -1,7 +1,7 @@
 //! The statements that stand for what may befall the devices.
 ghost use Rattle.rm_lang_grammar.specs.Reading.{Gives};
 ghost use Rattle.rm_lang_grammar.specs.Forms.{command_by, command_in};
-ghost use Rattle.rm_lang_reading.specs.Mishaps.{lose_datafile, lose_log, remove, damage, cut, rename};
+ghost use Rattle.rm_lang_reading.specs.Mishaps.{lose_datafile, lose_log, corrupt, remove, damage, cut, rename};
 ghost use Rattle.rm_lang_reading.specs.Language.{mishap_forms};
 
 use crate::texts::{new_name, plain};
@@ -29,6 +29,17 @@ fn lose_log(tokens: &[Token]) -> Result<(Command, &[Token]), Unread>
     let (thread, rest) = number(word(word(rest, b"LOG")?, b"THREAD")?)?;
     let rest = semicolon(rest)?;
     Ok((Command::LoseLog { thread }, rest))
+}
+
+#[tactic(auto, unfolding(crate::specs::Mishaps::corrupt))]
+fn corrupt(tokens: &[Token]) -> Result<(Command, &[Token]), Unread>
+    ensures { Gives (λ x. (x.0, x.1.now)) result (command_by corrupt tokens.now) }
+{
+    let rest = word(word(tokens, b"HOST")?, b"CORRUPT")?;
+    let (file, rest) = number(word(rest, b"DATAFILE")?)?;
+    let (block, rest) = number(word(rest, b"BLOCK")?)?;
+    let rest = semicolon(rest)?;
+    Ok((Command::Corrupt { file, block }, rest))
 }
 
 #[tactic(auto, unfolding(crate::specs::Mishaps::remove))]
@@ -80,6 +91,10 @@ pub fn mishap(alloc: Global, tokens: &[Token]) -> Result<(Command, &[Token]), Un
         found => return found,
     }
     match lose_log(tokens) {
+        Err(Unread::Other) => {}
+        found => return found,
+    }
+    match corrupt(tokens) {
         Err(Unread::Other) => {}
         found => return found,
     }

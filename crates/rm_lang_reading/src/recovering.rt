@@ -7,7 +7,7 @@ ghost use Rattle.rm_lang_reading.specs.Recovering.{scn_part, log_or_time, until_
 ghost use Rattle.rm_lang_reading.specs.Values.{until_choice, until_values, incarnation_values};
 ghost use Rattle.rm_lang_reading.specs.Language.{recovery_forms};
 
-use crate::backup::saving;
+use crate::repairs::repairing;
 use crate::texts::time;
 use rm_lang_grammar::Unread;
 use rm_lang_grammar::reading::{begins_with, flag, number, number_or, semicolon, tag, word};
@@ -148,5 +148,5 @@ pub fn recovering(alloc: Global, tokens: &[Token]) -> Result<(Command, &[Token])
         Err(Unread::Other) => {}
         found => return found,
     }
-    saving(alloc, tokens)
+    repairing(alloc, tokens)
 }

@@ -7,15 +7,17 @@ use Rattle.rm_lang_statement.specs.declared.command.Until.{Until}
 use Rattle.rm_lang_statement.specs.declared.command.Until.TheVariants.{Scn, Sequence, Time}
 use Rattle.rm_lang_statement.specs.declared.command.WriteForm.{WriteForm}
 use Rattle.rm_lang_statement.specs.declared.command.BackupForm.{BackupForm}
+use Rattle.rm_lang_statement.specs.declared.command.NamedBlocks.{NamedBlocks}
+use Rattle.rm_lang_statement.specs.declared.command.RepairForm.{RepairForm}
 use Rattle.rm_lang_statement.specs.declared.command.RetentionForm.{RetentionForm}
 use Rattle.rm_lang_statement.specs.declared.command.RetentionForm.TheVariants.{Window, Redundancy, Nothing, Clear}
 use Rattle.rm_lang_statement.specs.declared.command.Command.{Command}
-use Rattle.rm_lang_statement.specs.declared.command.Command.TheVariants.{CreateDatabase, CreateDatafile, Write, SwitchLogfile, ArchiveLogCurrent, Mount, OpenPlain, OpenResetlogs, Tracking, ResetDatabase, Restore, Preview, Recover, RecoverTest, RecoverCopy, Backup, BackupLogs, Crosscheck, ValidateAll, ChangeBackup, DeleteObsolete, DeleteBackup, DeleteExpired, ReportObsolete, ReportNeedBackup, ReportSchema, ListIncarnation, ListBackup, ListCopy, ListArchived, ShowAll, Dump, Retention, Parallelism, CatalogName, LoseDatafile, LoseLog, Remove, Damage, Cut, Rename}
+use Rattle.rm_lang_statement.specs.declared.command.Command.TheVariants.{CreateDatabase, CreateDatafile, Write, SwitchLogfile, ArchiveLogCurrent, Mount, OpenPlain, OpenResetlogs, Tracking, ResetDatabase, Restore, Preview, Recover, RecoverTest, RecoverCopy, Backup, BackupLogs, Crosscheck, ValidateAll, ChangeBackup, DeleteObsolete, DeleteBackup, DeleteExpired, ReportObsolete, ReportNeedBackup, ReportSchema, ListIncarnation, ListBackup, ListCopy, ListArchived, ShowAll, Dump, Retention, Parallelism, CatalogName, LoseDatafile, LoseLog, Remove, Damage, Cut, Rename, Corrupt, ListCorruption, BlockRecover}
 use Rattle.rm_lang_statement.specs.declared.command.Inner.{Inner}
 use Rattle.rm_lang_statement.specs.declared.command.Inner.TheVariants.{SetUntil, AllocateChannel, Plain as PlainInner}
 use Rattle.rm_lang_statement.specs.declared.command.Statement.{Statement}
 use Rattle.rm_lang_statement.specs.declared.command.Statement.TheVariants.{Plain, Run}
-use Rattle.rm_lang_statement.specs.Files.{are_files}
+use Rattle.rm_lang_statement.specs.Named.{are_named}
 use Rattle.rm_lang_statement.specs.Texts.{content, anything, is_new_name, is_text}
 use Rattle.rm_lang_statement.specs.Agreed.{agrees}
 use Rattle.rm_moments.specs.Times.{is_time_text}
@@ -36,8 +38,16 @@ is_write w = is_shown content w.content.0
 -- a backup of level 0 or 1 or none, of all datafiles or of one and more in order, with tags in capitals or none, whose parts can stand together
 abbrev pub is_backup : BackupForm → Bool
 is_backup b =
-    (maybe_valid (in_range 0 1) b.level && (maybe_valid are_files b.files && (maybe_valid is_capital_tag b.tag && (maybe_valid is_capital_tag b.merge_tag && maybe_valid (list_all is_write) b.during))))
+    (maybe_valid (in_range 0 1) b.level && (maybe_valid are_named b.files && (maybe_valid is_capital_tag b.tag && (maybe_valid is_capital_tag b.merge_tag && maybe_valid (list_all is_write) b.during))))
     && agrees b.copy b
+
+-- blocks that a statement names: one or more, in order
+abbrev pub is_named : NamedBlocks → Bool
+is_named n = are_named n.blocks
+
+-- a repair of all damaged blocks, or of those that are named
+abbrev pub is_repair : RepairForm → Bool
+is_repair r = maybe_valid is_named r.blocks && maybe_valid (list_all is_write) r.during
 
 -- no count of 0
 abbrev pub is_retention : RetentionForm → Bool
@@ -65,6 +75,7 @@ is_command (RecoverTest until inc) = is_until_or_none until
 is_command (RecoverCopy tag until) = is_capital_tag tag && is_until_or_none until
 is_command (Backup b) = is_backup b
 is_command BackupLogs = true
+is_command (BlockRecover form) = is_repair form
 is_command (Crosscheck class) = true
 is_command ValidateAll = true
 is_command (ChangeBackup id to) = true
@@ -78,6 +89,7 @@ is_command ListIncarnation = true
 is_command ListBackup = true
 is_command ListCopy = true
 is_command ListArchived = true
+is_command ListCorruption = true
 is_command ShowAll = true
 is_command (Dump file block) = true
 is_command (Retention form) = is_retention form
@@ -85,6 +97,7 @@ is_command (Parallelism channels) = in_range 1 (2 ^ 64 - 1) channels
 is_command (CatalogName name) = is_text anything name
 is_command (LoseDatafile file) = true
 is_command (LoseLog thread) = true
+is_command (Corrupt file block) = true
 is_command (Remove name) = is_text anything name
 is_command (Damage name at) = is_text anything name
 is_command (Cut name to) = is_text anything name

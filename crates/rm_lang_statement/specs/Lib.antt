@@ -1,4 +1,4 @@
 pub mod Agreed
-pub mod Files
 pub mod IsCommand
+pub mod Named
 pub mod Texts

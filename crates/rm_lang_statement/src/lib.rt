@@ -4,5 +4,6 @@
 pub mod command;
 
 pub use command::{
-    BackupForm, ChangeTo, Command, Inner, RetentionForm, Statement, Until, WriteForm,
+    BackupForm, ChangeTo, Command, Inner, NamedBlocks, RepairForm, RetentionForm, Statement, Until,
+    WriteForm,
 };

@@ -11,7 +11,7 @@ use Rattle.rm_base.specs.declared.refusal.Limit.TheVariants.{Threads, Files, Fil
 use Rattle.rm_base.specs.declared.refusal.Unknown.{Unknown}
 use Rattle.rm_base.specs.declared.refusal.Unknown.TheVariants.{Entry, Tag, Log, Object, Byte}
 use Rattle.rm_base.specs.declared.refusal.Refusal.{Refusal}
-use Rattle.rm_base.specs.declared.refusal.Refusal.TheVariants.{Rm01, Rm02, Rm03, Rm04, Rm05, Rm06, Rm07, Rm08, Rm09, Rm10, Rm11, Rm12, Rm13, Rm14, Rm15}
+use Rattle.rm_base.specs.declared.refusal.Refusal.TheVariants.{Rm01, Rm02, Rm03, Rm04, Rm05, Rm06, Rm07, Rm08, Rm09, Rm10, Rm11, Rm12, Rm13, Rm14, Rm15, Rm17, Rm18}
 use Rattle.rm_moments.specs.Shown.{moment_text}
 use Rattle.rm_history.specs.declared.tree.Standing.{Standing}
 use Rattle.rm_history.specs.declared.tree.Standing.TheVariants.{Current, Parent, Orphan}
@@ -26,7 +26,7 @@ use Rattle.rm_base.specs.declared.kinds.Policy.TheVariants.{Window, Redundancy a
 use Rattle.rm_report.specs.declared.line.SchemaPlace.{SchemaPlace}
 use Rattle.rm_report.specs.declared.line.SchemaPlace.TheVariants.{At, Lost, OffPath}
 use Rattle.rm_report.specs.declared.line.Line.{Line}
-use Rattle.rm_report.specs.declared.line.Line.TheVariants.{DatabaseAt, DatafileAt, Written, LogMade, NothingToArchive, Mounted, Opened, Chosen, Recovered, UntilIs, FileIs, BlockIs, BackedUp, NothingToBackUp, IncarnationIs, Dumped, Tracking, Skipped, RestoredFrom, CreatedEmpty, Complete, GapIn, Merged, Stays, StartsAbove, ThreadScn, StatusOf, BadOf, Checked, Uncatalogued, Kept, NotKept, Deleted, DeletedCount, Obsolete, ObsoleteCount, NeedsBackup, NeedCount, Parallelism, Catalogued, FileLost, LogLost, Removed, Damaged, Cut, Renamed, UntilSet, ChannelAllocated, Schema, PieceIs, LogIs, Retention, Refused}
+use Rattle.rm_report.specs.declared.line.Line.TheVariants.{DatabaseAt, DatafileAt, Written, LogMade, NothingToArchive, Mounted, Opened, Chosen, Recovered, UntilIs, FileIs, BlockIs, BackedUp, NothingToBackUp, IncarnationIs, Dumped, Tracking, Skipped, RestoredFrom, CreatedEmpty, Complete, GapIn, Merged, Stays, StartsAbove, BlockDamaged, Mended, ThreadScn, StatusOf, BadOf, Checked, Uncatalogued, Kept, NotKept, Deleted, DeletedCount, Obsolete, ObsoleteCount, NeedsBackup, NeedCount, Parallelism, Catalogued, FileLost, LogLost, Removed, Damaged, Cut, Renamed, UntilSet, ChannelAllocated, Schema, PieceIs, LogIs, Retention, Refused}
 use Rattle.rm_report.specs.declared.line.Reply.{Reply}
 
 -- a byte's two digits in lower-case hexadecimal
@@ -90,6 +90,8 @@ refusal_text (Rm12 unknown) = unknown_text unknown
 refusal_text (Rm13 name) = codes "RM-13: name " ++ (name ++ codes " is taken")
 refusal_text (Rm14 moment) = codes "RM-14: no mark at or before " ++ moment_text moment
 refusal_text Rm15 = codes "RM-15: last SCN"
+refusal_text (Rm17 file block) = codes "RM-17: block " ++ (decimal block ++ (codes " of datafile " ++ (decimal file ++ codes " is damaged")))
+refusal_text (Rm18 file block) = codes "RM-18: block " ++ (decimal block ++ (codes " of datafile " ++ (decimal file ++ codes " isn't damaged")))
 
 -- a block's number, version and content
 abbrev pub block_text : ℕ → ℕ → Block → List ℕ
@@ -172,6 +174,8 @@ line_text (GapIn file block scn inc) = codes "gap in datafile " ++ (decimal file
 line_text (Merged id file checkpoint) = codes "copy " ++ (decimal id ++ (codes " datafile " ++ (decimal file ++ (codes " merged to checkpoint " ++ decimal checkpoint))))
 line_text (Stays id file checkpoint) = codes "copy " ++ (decimal id ++ (codes " datafile " ++ (decimal file ++ (codes " stays at checkpoint " ++ decimal checkpoint))))
 line_text (StartsAbove id from checkpoint) = codes "level 1 " ++ (decimal id ++ (codes " from " ++ (decimal from ++ (codes " starts above checkpoint " ++ decimal checkpoint))))
+line_text (BlockDamaged file block) = codes "datafile " ++ (decimal file ++ (codes " block " ++ (decimal block ++ codes " damaged")))
+line_text (Mended file block version) = codes "datafile " ++ (decimal file ++ (codes " block " ++ (decimal block ++ (codes " mended to version " ++ decimal version))))
 line_text (ThreadScn thread scn) = codes "thread " ++ (decimal thread ++ (codes " scn " ++ decimal scn))
 line_text (StatusOf id status) = decimal id ++ (codes " " ++ status_text status)
 line_text (BadOf id bad) = decimal id ++ (codes " " ++ bad_text bad)

@@ -8,9 +8,9 @@ ghost use Rattle.rm_report.specs.Text.{tells_blocks, tells_history, tells_backup
 
 use crate::line::{Line, Reply, Shape};
 use crate::lines::{
-    push_bad_of, push_checked, push_gap_in, push_merged, push_policy, push_record,
-    push_restored_from, push_schema, push_skipped, push_starts_above, push_status_of, push_stays,
-    push_thread_scn, push_tracking,
+    push_bad_of, push_block_damaged, push_checked, push_gap_in, push_mended, push_merged,
+    push_policy, push_record, push_restored_from, push_schema, push_skipped, push_starts_above,
+    push_status_of, push_stays, push_thread_scn, push_tracking,
 };
 use rm_base::{Absent, Block, BlockNo, Limit, Moment, NoMemory, Refusal, Scn, Seq, Unknown};
 use rm_history::Standing;
@@ -92,6 +92,12 @@ fn push_line(alloc: Global, out: &mut String, line: &Line) -> Result<(), AllocEr
             from,
             checkpoint,
         } => push_starts_above(out, *id, *from, *checkpoint),
+        Line::BlockDamaged { file, block } => push_block_damaged(out, *file, *block),
+        Line::Mended {
+            file,
+            block,
+            version,
+        } => push_mended(out, *file, *block, *version),
         Line::ThreadScn { thread, scn } => push_thread_scn(out, *thread, *scn),
         Line::StatusOf { id, status } => push_status_of(out, *id, *status),
         Line::BadOf { id, bad } => push_bad_of(out, *id, *bad),
@@ -309,6 +315,12 @@ fn push_refusal(alloc: Global, out: &mut String, refusal: &Refusal) -> Result<()
         Refusal::Rm13 { name } => write!(out, "RM-13: name {} is taken", name.as_str()),
         Refusal::Rm14 { moment } => push_unmarked(alloc, out, *moment),
         Refusal::Rm15 => write!(out, "RM-15: last SCN"),
+        Refusal::Rm17 { file, block } => {
+            write!(out, "RM-17: block {block} of datafile {file} is damaged")
+        }
+        Refusal::Rm18 { file, block } => {
+            write!(out, "RM-18: block {block} of datafile {file} isn't damaged")
+        }
     }
 }
 

@@ -163,6 +163,11 @@ pub fn recovering(number: u32) -> Option<Line>
             from: 12,
             checkpoint: 9,
         },
+        20 => Line::Mended {
+            file: 1,
+            block: 2,
+            version: 281_474_976_710_654,
+        },
         _ => return None,
     })
 }
@@ -252,12 +257,13 @@ pub fn upkeep(number: u32) -> Option<Line>
         5 => Line::Catalogued { id: 5 },
         6 => Line::FileLost { file: 1 },
         7 => Line::LogLost { thread: 2 },
-        8 => Line::Removed,
-        9 => Line::Damaged,
-        10 => Line::Cut,
-        11 => Line::Renamed,
-        12 => Line::UntilSet,
-        13 => Line::ChannelAllocated,
+        8 => Line::BlockDamaged { file: 1, block: 0 },
+        9 => Line::Removed,
+        10 => Line::Damaged,
+        11 => Line::Cut,
+        12 => Line::Renamed,
+        13 => Line::UntilSet,
+        14 => Line::ChannelAllocated,
         _ => return None,
     })
 }
@@ -376,6 +382,11 @@ fn refusal(number: u32) -> Option<Refusal>
             moment: LAST_MOMENT,
         },
         18 => Refusal::Rm15,
+        19 => Refusal::Rm17 { file: 1, block: 3 },
+        20 => Refusal::Rm18 {
+            file: 2,
+            block: 65535,
+        },
         _ => return None,
     })
 }

@@ -1,5 +1,5 @@
 use Rattle.std.proofs.Common.{◌≡◌, drop}
-use Rattle.rm_lang_statement.specs.Files.{ascend_above}
+use Rattle.rm_lang_statement.specs.Named.{ascend_above}
 use Rattle.rm_lang.proofs.valid.ascend_above.Given as goal
 
 abbrev pub invariant-loop-number : goal.invariant-loop-number

@@ -1,6 +1,6 @@
 use Rattle.std.proofs.Common.{◌∙◌, ap}
 use Rattle.std.proofs.lemmas.List.Filters.{dedup_is}
-use Rattle.rm_lang_statement.specs.Files.{in_order}
+use Rattle.rm_lang_statement.specs.Named.{in_order}
 use Rattle.rm_lang_reading.proofs.InOrder.{in_order-sorted}
 use Rattle.rm_lang_reading.proofs.backup.in_order.Goals as goal
 
