@@ -1,5 +1,5 @@
 -- What a recovery answers.
-use Rattle.std.specs.Prelude.{ℕ, ◌≡◌, ◌||◌, nat_lt, if◌then◌else◌, Option, Some, None, List, Result, Ok, Err, IfSome}
+use Rattle.std.specs.Prelude.{ℕ, ◌≡◌, ◌||◌, nat_lt, if◌then◌else◌, Option, Some, None, List, Result, Ok, Err}
 use Rattle.rm_base.specs.Store.{Held}
 use Rattle.rm_catalog.specs.declared.record.Record.{Record}
 use Rattle.rm_catalog.specs.Trees.{nodes}

@@ -1,5 +1,5 @@
 -- The records of a datafile's backups, and which of them hold on the current path.
-use Rattle.std.specs.Prelude.{ℕ, ◌≡◌, ◌<◌, ◌≤◌, ◌⊎◌, IsTrue, Option, Some, None, List, option_and_then}
+use Rattle.std.specs.Prelude.{ℕ, ◌≡◌, ◌<◌, ◌≤◌, ◌⊎◌, IsTrue, Option, List, option_and_then}
 use Rattle.std.specs.List.{filter_map}
 use Rattle.rm_base.specs.declared.kinds.Status.TheVariants.{Available}
 use Rattle.rm_catalog.specs.declared.record.PieceEntry.{PieceEntry}

@@ -1,5 +1,5 @@
 -- Rows in order, and what keeps them so.
-use Rattle.std.proofs.Common.{◌≡◌, ◌≢◌, ◌+◌, ◌∙◌, ℕ, zero, suc, List, [], ◌∷◌, ◌++◌, ◌⊎◌, inl, inr, Some, refl, ap, sym, subst, arith, add-one, length, slice_get, slice_set}
+use Rattle.std.proofs.Common.{◌≡◌, ◌≢◌, ◌∙◌, ℕ, zero, suc, List, [], ◌∷◌, ◌++◌, ◌⊎◌, inl, inr, Some, refl, ap, sym, subst, arith, length, slice_get, slice_set}
 use Rattle.std.proofs.lemmas.Bool.{cases_eq}
 use Rattle.std.proofs.lemmas.List.{length-append}
 use Rattle.rm_base.specs.declared.block.Row.{Row}
@@ -49,7 +49,3 @@ created-row creation (suc b) k r is = elim (slice_get-push_cases (created_rows c
 
 pub in_order-created : (creation blocks : ℕ) → IsInOrder (created_rows creation blocks)
 in_order-created creation blocks k r is = sym (ap (λ (x : Row). x.block) (created-row creation blocks k r is))
-
--- one row more
-pub created-more : (creation b : ℕ) → created_rows creation (b + 1) ≡ created_rows creation b ++ created_row creation b ∷ []
-created-more creation b = ap (created_rows creation) (add-one b)

@@ -153,9 +153,6 @@ made_after p first made made' all left left' e is after low h = record {
     moves : (rest : List Record) → AllFromPlace p rest → after_edit e (made ++ rest) ≡ made' ++ rest
     moves rest from = after_append e made rest (λ k d lt. let h = from k d lt in omega arith) ∙ ap (λ (x : List Record). x ++ rest) (sym after)
 
-pub made_none : (p : ℕ) (made : List Record) (left : List Edit) → HasMade p made left made left
-made_none p made left = record { same = λ rest from. refl; order = λ rest from order. order }
-
 -- all records left behind stand at or below the place of the next edit
 pub all_behind : (made : List Record) (left left' : List Edit) (e : Edit) → left ≡ e ∷ left' → IsReady made left → All (λ r. place_of r ≤ place_of_edit e) made
 all_behind made left left' e is ready k d lt = ready.behind (get_or made k d) e (k, lt, get_or_default made k (get_or made k d) d lt) (subst (λ (x : List Edit). Contains x e) (sym is) (0, omega arith, refl))

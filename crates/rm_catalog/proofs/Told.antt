@@ -103,9 +103,6 @@ one_is (r ∷ rs) q x y a b e f few = elim (head_or_tail r rs x a) [
     less (inl here) = let one = alike_here r rs q here in omega arith
     less (inr n) = let one = alike_past r rs q n in omega arith
 
-alike_moves : (s t : List Record) (q : ℕ) → IsPermutation s t → alike q t ≡ alike q s
-alike_moves s t q there = alike_count q t ∙ sum_by-IsPermutation (λ (r : Record). cond (eqb (place_of r) q) 1 0) s t there ∙ sym (alike_count q s)
-
 -- where one record at most stands at a place, each order has the same there
 same_at : (s t : List Record) (q : ℕ) → IsPermutation s t → alike q t ≤ 1 → at q s ≡ at q t
 same_at s t q there few = decide (at q s) (at q t) refl refl
@@ -206,7 +203,7 @@ own_moves s t (records.Datafile f) there agree h = record {
 own_moves s t (records.Log l) there agree h = record {
   id = id_moves s t l.id 5 7 there (base_same s t _ agree (omega arith)) h.id;
   size = h.size;
-  thread = subst (λ (o : Option BaseEntry). IsSomeAnd o (λ (b : BaseEntry). l.thread ≤ b.threads)) (base_same s t _ agree (omega arith)) h.thread;
+  thread = (h.thread.0, subst (λ (o : Option BaseEntry). IsSomeAnd o (λ (b : BaseEntry). l.thread ≤ b.threads)) (base_same s t _ agree (omega arith)) h.thread.1);
   sequence = h.sequence;
   range = subst (λ (o : Option IncarnationEntry). IsSomeAnd o (IsRange l)) (incarnation_same s t _ l.inc agree (omega arith)) h.range;
 }

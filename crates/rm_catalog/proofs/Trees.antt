@@ -70,20 +70,6 @@ pub known_is : (ns : List tree.Incarnation) → known_in (as_tree ns) ≡ ns
 known_is [] = refl
 known_is (n ∷ ns) = refl
 
-pub as_tree_push : (ns : List tree.Incarnation) (n : tree.Incarnation) → as_tree (ns ++ n ∷ []) ≡ Some (ns ++ n ∷ [])
-as_tree_push [] n = refl
-as_tree_push (m ∷ ns) n = refl
-
-pub no_node : (r : Record) → ((i : IncarnationEntry) → r ≡ records.Incarnation i → ⊥) → node_in r ≡ None
-no_node (records.Base b) h = refl
-no_node (records.Incarnation i) h = absurd (h i refl)
-no_node (records.Datafile f) h = refl
-no_node (records.Log l) h = refl
-no_node (records.Piece p) h = refl
-no_node (records.Mark m) h = refl
-no_node (records.Part p) h = refl
-no_node (records.Head h) e = refl
-
 pub nodes_more : (rs : List Record) (k : ℕ) (r : Record) → k < length rs → r ≡ get_or rs k r → nodes (take (k + 1) rs) ≡ nodes (take k rs) ++ option_to_list (node_in r)
 nodes_more rs k r lt is =
     ap (λ (x : List Record). nodes x) (take_more rs k r lt ∙ ap (λ (x : Record). take k rs ++ x ∷ []) (sym is)) ∙ filter_map-append node_in (take k rs) (r ∷ []) ∙ ap (λ (x : List tree.Incarnation). nodes (take k rs) ++ x) (one (node_in r))

@@ -1,5 +1,5 @@
 //! Edits of records in order, all made in one pass.
-ghost use Rattle.std.specs.Prelude.{◌≡◌, ◌<◌, ◌≤◌, ◌+◌, ◌^◌, [], ◌∷◌, ◌++◌, List, IfOk, OnOk, OnErr, IfSome, IfNone, All, length, take, reverse};
+ghost use Rattle.std.specs.Prelude.{◌≡◌, ◌<◌, ◌≤◌, ◌+◌, [], ◌∷◌, ◌++◌, List, IfOk, OnOk, OnErr, IfSome, IfNone, All, reverse};
 ghost use Rattle.std.specs.Vec.{vec_len, vec_capacity};
 ghost use Rattle.rm_catalog.specs.declared.record.Record.{Record};
 ghost use Rattle.rm_catalog.specs.Keys.{place_of, InOrder};

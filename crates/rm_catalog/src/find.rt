@@ -1,5 +1,5 @@
 //! The record at a place of a list in order.
-ghost use Rattle.std.specs.Prelude.{◌≡◌, ◌<◌, ◌≤◌, ◌+◌, ◌*◌, ℕ, length, IsTrue, IsSome, ◌↔◌, slice_index_or};
+ghost use Rattle.std.specs.Prelude.{◌≡◌, ◌<◌, ◌≤◌, ℕ, length, IsTrue, ◌↔◌, slice_index_or};
 ghost use Rattle.std.specs.Option.{option_copied};
 ghost use Rattle.rm_catalog.specs.declared.record.Record.{Record};
 ghost use Rattle.rm_catalog.specs.Keys.{place, place_of, InOrder, at, IsThere, base, incarnation, mark, datafile};

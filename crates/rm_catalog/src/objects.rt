@@ -62,6 +62,7 @@ pub fn log_obeys(records: &[Record], l: &LogEntry) -> bool
 {
     id_obeys(records, l.id, 5, 7)
         && l.size <= MOST_BYTES
+        && 1 <= l.thread
         && has_thread(records, l.thread)
         && 1 <= l.sequence
         && is_range(records, l)

@@ -44,7 +44,7 @@ module _ (rs : List Record) (b : BaseEntry) (c : IsCatalog rs) (is : base rs ≡
       let on = on-incarnation rs e.inc (IsRange e) c rule.range in
       record {
         there = on.there;
-        thread = on-base rs b (λ b. e.thread ≤ b.threads) is rule.thread;
+        thread = (rule.thread.0, on-base rs b (λ b. e.thread ≤ b.threads) is rule.thread.1);
         sequence = rule.sequence;
         range = (omega arith, on.holds.some, omega arith);
         size = rule.size;

@@ -48,7 +48,7 @@ pub record AreDatafiles (tree : List Incarnation) (files : List Datafile) : Type
 -- a log holds some SCNs of its incarnation, by a thread of the database
 pub record IsLogEntry (tree : List Incarnation) (threads : ℕ) (l : LogEntry) : Type 0 where
   pub there : IsThere tree l.inc
-  pub thread : l.thread ≤ threads
+  pub thread : (1 ≤ l.thread) × (l.thread ≤ threads)
   pub sequence : 1 ≤ l.sequence
   pub range : (reset_of tree l.inc ≤ l.first) × (l.first < l.next) × (l.next ≤ end_of tree l.inc)
   pub size : l.size ≤ most_bytes

@@ -1,14 +1,14 @@
 //! Valid records become a catalog.
-ghost use Rattle.std.specs.Prelude.{◌≡◌, ◌≤◌, ◌<◌, ◌^◌, List, All, IfOk, IfErr, OnOk, Some, []};
+ghost use Rattle.std.specs.Prelude.{◌≡◌, ◌≤◌, ◌<◌, ◌^◌, List, All, IfOk, IfErr, OnOk, []};
 ghost use Rattle.rm_catalog.specs.declared.record.Key.{Key};
 ghost use Rattle.rm_catalog.specs.declared.record.Record.{Record};
 ghost use Rattle.rm_catalog.specs.Faults.{IsBadRow, IsTaken, IsTold};
-ghost use Rattle.rm_catalog.specs.Rules.{HasDatabase, IsCatalog, IsFirstBad, IsOrderOf, IsValid};
-ghost use Rattle.rm_catalog.specs.Trees.{as_tree, nodes};
+ghost use Rattle.rm_catalog.specs.Rules.{IsCatalog, IsFirstBad, IsOrderOf, IsValid};
+ghost use Rattle.rm_catalog.specs.Trees.{nodes};
 ghost use Rattle.rm_catalog_typed.specs.Kinds.{IsSmall, told_by, with_record};
 ghost use Rattle.rm_catalog_typed.specs.Facts.{IsTypedCatalog};
 ghost use Rattle.rm_catalog_typed.specs.Loading.{gathered, records_in};
-ghost use Rattle.rm_catalog_typed.specs.TypedCatalog.{TypedCatalog, all_records, records_of};
+ghost use Rattle.rm_catalog_typed.specs.TypedCatalog.{all_records, records_of};
 
 use crate::catalog::{Saved, TypedCatalog};
 use rm_base::{Mark, NoMemory, Seq};

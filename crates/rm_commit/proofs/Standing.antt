@@ -1,5 +1,5 @@
 -- What stands under the names of a list, after all of it.
-use Rattle.std.proofs.Common.{◌≡◌, ◌≢◌, ℕ, zero, suc, ◌||◌, Bool, true, false, cond, List, [], ◌∷◌, get_or, map, All, Option, refl, ap, ◌∙◌, arith}
+use Rattle.std.proofs.Common.{◌≡◌, ◌≢◌, ℕ, zero, suc, ◌||◌, Bool, true, false, cond, List, [], ◌∷◌, get_or, All, Option, refl, ap, ◌∙◌, arith}
 use Rattle.std.specs.Prelude.{AllPairs}
 use Rattle.std.specs.Str.{bytes_eq}
 use Rattle.std.proofs.lemmas.List.Elements.{All-head, All-tail}
@@ -48,13 +48,3 @@ each-left name value (x ∷ xs) old apart (suc k) d inside =
 pub each-stands : {X : Type 0} (name : X → List ℕ) (value : X → Option (List ℕ)) (xs : List X) (before after : Held)
     → HasAll name value xs before after → AreApart name xs → All (λ x. after (name x) ≡ value x) xs
 each-stands name value xs before after done apart k d inside = done (name (get_or xs k d)) ∙ each-left name value xs before apart k d inside
-
-mapped : {X Y : Type 0} (name : X → List ℕ) (value : X → Option (List ℕ)) (f : Y → X) (ys : List Y) (n : List ℕ) (o : Option (List ℕ))
-    → after_all name value (map f ys) n o ≡ after_all (λ y. name (f y)) (λ y. value (f y)) ys n o
-mapped name value f [] n o = refl
-mapped name value f (y ∷ ys) n o = mapped name value f ys n (cond (bytes_eq n (name (f y))) (value (f y)) o)
-
--- what is done for what f makes of them is done for them
-pub of-made : {X Y : Type 0} (name : X → List ℕ) (value : X → Option (List ℕ)) (f : Y → X) (ys : List Y) (before after : Held)
-    → HasAll name value (map f ys) before after → HasAll (λ y. name (f y)) (λ y. value (f y)) ys before after
-of-made name value f ys before after done n = done n ∙ mapped name value f ys n (before n)

@@ -14,10 +14,6 @@ both-map R S f None y r = r
 both-map R S f (Some a) None r = absurd r
 both-map R S f (Some a) (Some b) r = f a b r
 
-pub both-same : {X : Type 0} (S : X → X → Type 0) → ((a : X) → S a a) → (x : Option X) → Both S x x
-both-same S f None = refl
-both-same S f (Some a) = f a
-
 -- what is told afterwards, where something was told before
 pub both-told : {X : Type 0} (R : X → X → Type 0) (x y : Option X) (a : X) → x ≡ Some a → Both R x y → (b : X) × R a b × (y ≡ Some b)
 both-told R None y a e r = absurd (cc)

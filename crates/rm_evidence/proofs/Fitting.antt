@@ -12,7 +12,6 @@ use Rattle.rm_history.specs.Tree.{IsThere}
 use Rattle.rm_evidence.proofs.Found.{obeys}
 use Rattle.rm_evidence.proofs.DatabaseWorlds.{some-there}
 use Rattle.rm_piece.specs.declared.piece.Piece.{Piece}
-use Rattle.rm_piece.specs.Valid.{IsPiece}
 use Rattle.rm_evidence.specs.declared.evidence.Evidence.{Evidence}
 use Rattle.rm_evidence.specs.declared.evidence.InPlace.{InPlace}
 use Rattle.rm_evidence.specs.Gathered.{dbid_in, placed, placed_piece, IsBaseOf, IsGathered, IsLevel1Of, IsLogOf, Lists}
@@ -85,10 +84,6 @@ gathered-recorded held rs place e is = all-listed (λ x. 0 < x.0 → IsRecorded 
 
 pub level1s-recorded : (held : Held) (rs : List Record) (place : InPlace) (e : Evidence) → IsGathered held rs place e → All (IsRecorded rs) e.level1s
 level1s-recorded held rs place e is = all-listed (IsRecorded rs) [] (IsLevel1Of held rs) e.level1s is.level1s (λ k d inside. absurd (omega arith)) (λ id a of. (of.0, of.1, of.2, of.4.object.fields))
-
--- each of them is valid
-pub valid-placed : (rs : List Record) (place : InPlace) → FitsPlace rs place → All (λ x. IsPiece (placed_piece (dbid_in rs) x)) place.files
-valid-placed rs place fits = λ k d inside. (fits.files k d inside).valid
 
 -- each item of the list of records is one of them
 pub item-in : (xs rs : List Record) (i : ℕ) (r : Record) → xs ≡ rs → i < length xs → r ≡ get_or xs i r → Contains rs r

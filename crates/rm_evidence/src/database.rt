@@ -1,7 +1,7 @@
 //! The database of which the records of a catalog tell.
 ghost use Rattle.std.specs.Prelude.{◌≡◌, ◌↔◌, IsTrue};
 ghost use Rattle.rm_catalog.specs.Keys.{base, datafile as entry_of};
-ghost use Rattle.rm_catalog.specs.Rules.{HasDatabase, IsCatalog};
+ghost use Rattle.rm_catalog.specs.Rules.{HasDatabase};
 ghost use Rattle.rm_catalog.specs.Trees.{nodes};
 ghost use Rattle.rm_history.specs.Tree.{IsThere};
 ghost use Rattle.rm_history.specs.World.{file_of};

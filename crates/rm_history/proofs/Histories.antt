@@ -1,12 +1,8 @@
 -- What stays true of a history where the database grows, and where the history does.
 use Rattle.std.proofs.Common.{◌≡◌, ◌<◌, ◌≤◌, ◌-◌, ◌∙◌, inl, inr, ◌&&◌, nat_lt, ℕ, zero, suc, List, [], ◌∷◌, ◌++◌, Option, Some, None, Bool, true, false, cond, refl, ap, sym, subst, arith, eqb, All, Contains, slice_get}
-use Rattle.std.specs.Option.{option_map_or}
-use Rattle.std.proofs.lemmas.Bool.Decides.{nat_tests}
-use Rattle.std.proofs.lemmas.List.Elements.{All-contains, All-head, All-tail, Contains-get_or, Contains-push_cases}
+use Rattle.std.proofs.lemmas.List.Elements.{All-contains, Contains-get_or, Contains-push_cases}
 use Rattle.std.proofs.lemmas.List.Quantifiers.{all_pairs_push}
-use Rattle.rm_base.specs.Content.{zero_block}
 use Rattle.rm_base.specs.declared.block.Change.{Change}
-use Rattle.rm_base.specs.declared.block.Row.{Row}
 use Rattle.rm_history.specs.declared.world.Datafile.{Datafile}
 use Rattle.rm_history.specs.declared.world.World.{World}
 use Rattle.rm_history.specs.Tree.{IsThere, with_end}
@@ -102,39 +98,11 @@ state-with_end w j end h i s f b there =
     ap (row_of w f b) (latest-same (concerns (world-with_end w j end) i s f b) (concerns w i s f b)
     (λ c. ap (λ o. eqb c.file f && eqb c.block b && nat_lt c.scn s && eqb o c.inc) (owner-with_end w.tree j end i c.scn there)) h)
 
--- a datafile more changes the state of no block of the others
-pub state-with_file : (w : World) (new d : Datafile) (h : List Change) (i s f b : ℕ) → file_of w f ≡ Some d → state (world-with_file w new) h i s f b ≡ state w h i s f b
-state-with_file w new d h i s f b is =
-    let o = latest (concerns w i s f b) h in
-    let row : ℕ → Row = λ creation. record { block = b; version = option_map_or (λ c. c.scn) o creation; content = option_map_or (λ c. c.content) o zero_block } in
-    ap row (ap (λ x. option_map_or (λ d. d.creation) x 0) (file_of-with_file w new d f is ∙ sym is))
-
 latest-push_other : (p : Change → Bool) (h : List Change) (c : Change) → p c ≡ false → latest p (h ++ c ∷ []) ≡ latest p h
 latest-push_other p [] c fails = ap (λ b. cond b (Some c) None) fails
 latest-push_other p (d ∷ ds) c fails = ap (λ o. cond (p d) (Some (later d o)) o) (latest-push_other p ds c fails)
-
--- a change at or above another is the later one
-later-above : (d c : Change) → d.scn ≤ c.scn → later d (Some c) ≡ c
-later-above d c low = let not : nat_lt c.scn d.scn ≡ false = grind (arith, nat_tests) in ap (λ b. cond b d c) not
-
-both-some : (b : Bool) (c : Change) → cond b (Some c) (Some c) ≡ Some c
-both-some true c = refl
-both-some false c = refl
-
-latest-push_above : (p : Change → Bool) (h : List Change) (c : Change) → p c ≡ true → All (λ d. d.scn < c.scn) h → latest p (h ++ c ∷ []) ≡ Some c
-latest-push_above p [] c passes above = ap (λ b. cond b (Some c) None) passes
-latest-push_above p (d ∷ ds) c passes above =
-    let less : d.scn < c.scn = All-head (λ x. x.scn < c.scn) d ds above in
-    ap (λ o. cond (p d) (Some (later d o)) o) (latest-push_above p ds c passes (All-tail (λ x. x.scn < c.scn) d ds above))
-    ∙ ap (λ x. cond (p d) (Some x) (Some c)) (later-above d c (omega (arith, less)))
-    ∙ both-some (p d) c
 
 -- a change that doesn't concern a block leaves its state
 pub state-push_other : (w : World) (h : List Change) (c : Change) (i s f b : ℕ) → concerns w i s f b c ≡ false → state w (h ++ c ∷ []) i s f b ≡ state w h i s f b
 state-push_other w h c i s f b fails =
     ap (row_of w f b) (latest-push_other (concerns w i s f b) h c fails)
-
--- a change above all others makes the state of the block that it concerns
-pub state-push_above : (w : World) (h : List Change) (c : Change) (i s f b : ℕ) → concerns w i s f b c ≡ true → All (λ d. d.scn < c.scn) h → state w (h ++ c ∷ []) i s f b ≡ record { block = b; version = c.scn; content = c.content }
-state-push_above w h c i s f b passes above =
-    ap (row_of w f b) (latest-push_above (concerns w i s f b) h c passes above)

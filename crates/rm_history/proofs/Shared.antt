@@ -1,9 +1,9 @@
 -- Where two paths part.
-use Rattle.std.proofs.Common.{◌≡◌, ◌≢◌, ◌<◌, ◌≤◌, ◌∙◌, inl, inr, ℕ, List, refl, ap, sym, arith, min, max}
+use Rattle.std.proofs.Common.{◌≡◌, ◌≢◌, ◌<◌, ◌≤◌, ◌∙◌, inl, inr, ℕ, List, sym, arith, min}
 use Rattle.std.proofs.lemmas.Bool.{cases_lt}
 use Rattle.rm_base.specs.Numbers.{last_scn}
 use Rattle.rm_history.specs.declared.tree.Incarnation.{Incarnation}
-use Rattle.rm_history.specs.Tree.{HasParentsBelow, IsShared, owner, parent_of, reset_of}
+use Rattle.rm_history.specs.Tree.{HasParentsBelow, owner, parent_of, reset_of}
 use Rattle.rm_history.proofs.Owners.{owner-here, owner-above, owner-below}
 
 -- Below `fork` the paths of i and j have the owners of those of a and b. From it on they have others.
@@ -12,9 +12,6 @@ pub record IsFork (tree : List Incarnation) (i j a b fork : ℕ) : Type 0 where
   pub second : (g : ℕ) → g < fork → owner tree j g ≡ owner tree b g
   pub apart : (g : ℕ) → fork ≤ g → g < last_scn → owner tree i g ≢ owner tree j g
   pub last : fork ≤ last_scn
-
-pub fork-start : (tree : List Incarnation) (i j : ℕ) → IsFork tree i j i j last_scn
-fork-start tree i j = record { first = λ g low. refl; second = λ g low. refl; apart = λ g high low. absurd (omega arith); last = omega arith }
 
 pub fork-back : (tree : List Incarnation) (i j a b fork : ℕ) → IsFork tree i j a b fork → IsFork tree j i b a fork
 fork-back tree i j a b fork is = record { first = is.second; second = is.first; apart = λ g high low same. is.apart g high low (sym same); last = is.last }
@@ -38,12 +35,3 @@ fork-first tree below i j a b fork new is up later least = record {
 pub fork-second : (tree : List Incarnation) → HasParentsBelow tree → (i j a b fork new : ℕ) → IsFork tree i j a b fork → 0 < a → a < b → new ≡ min fork (reset_of tree b) → IsFork tree i j a (parent_of tree b) new
 fork-second tree below i j a b fork new is up later least =
     fork-back tree j i (parent_of tree b) a new (fork-first tree below j i b a fork new (fork-back tree i j a b fork is) up later least)
-
--- where both have come to one member, the fork is where they part
-pub fork-end : (tree : List Incarnation) (i j a b fork s : ℕ) → IsFork tree i j a b fork → a ≡ b → s ≡ max fork 1 → IsShared tree i j s
-fork-end tree i j a b fork s is met most = record {
-  first = omega (arith, most);
-  last = let low = is.last in omega (arith, most, low);
-  alike = λ g some low. is.first g (omega (arith, most)) ∙ ap (λ k. owner tree k g) met ∙ sym (is.second g (omega (arith, most)));
-  apart = λ low. is.apart s (omega (arith, most)) low;
-}

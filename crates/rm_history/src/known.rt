@@ -1,5 +1,5 @@
 //! What the evidence makes known, and what nobody could know from it.
-ghost use Rattle.std.specs.Prelude.{ℕ, ◌≡◌, ◌<◌, List, [], ◌∷◌, ◌++◌, Some, Contains, AllPairs};
+ghost use Rattle.std.specs.Prelude.{ℕ, ◌≡◌, List, [], ◌∷◌, ◌++◌, Contains, AllPairs};
 ghost use Rattle.rm_base.specs.Content.{padded};
 ghost use Rattle.rm_base.specs.declared.block.Block.{Block};
 ghost use Rattle.rm_base.specs.declared.block.Change.{Change};

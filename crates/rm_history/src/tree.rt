@@ -1,5 +1,5 @@
 //! The incarnations of a database, and which of them owns an SCN.
-ghost use Rattle.std.specs.Prelude.{◌≡◌, ◌<◌, ◌≤◌, ◌↔◌, ◌⊎◌, ◌∷◌, [], ◌+◌, ◌-◌, length, IsTrue, IsSome, IfSome, IfOk, OnOk, OnErr, IsErrOf, false};
+ghost use Rattle.std.specs.Prelude.{◌≡◌, ◌<◌, ◌≤◌, ◌↔◌, ◌⊎◌, ◌∷◌, [], ◌+◌, length, IsTrue, IsSome, IfSome, IfOk, OnOk, OnErr, IsErrOf, false};
 ghost use Rattle.rm_history.specs.Tree.{IsThere, IsTree, HasParentsBelow, IsProperAncestor, IsShared, is_on_path as path_has, owner, incarnation, reset_of, end_of, with_end, with_branch, segment_end, standing, is_within};
 
 use rm_base::{IncNo, LAST_SCN, NoMemory, Scn};

@@ -1,5 +1,6 @@
 -- Bytes as bits: bit k is bit k mod 8, the least first, of byte k / 8.
-use Rattle.std.specs.Prelude.{◌≤◌, ◌<◌, ◌/◌, ◌%◌, ℕ, List, [], ◌∷◌, bit_or, count_ones, slice_index, sum_by, IsBitSet}
+use Rattle.std.specs.Prelude.{◌==◌, ◌≤◌, ◌<◌, ◌/◌, ◌%◌, ℕ, Bool, List, [], ◌∷◌, bit_or, count_ones, slice_index, sum_by, IsBitSet}
+use Rattle.std.specs.Int.{bit_at}
 
 -- the bitwise or of bytes at the same places
 abbrev pub bitwise_or : List ℕ → List ℕ → List ℕ
@@ -14,6 +15,10 @@ set_count bytes = sum_by count_ones bytes
 -- bit k is set; past the last byte none is
 abbrev pub IsSet : List ℕ → ℕ → Type 0
 IsSet bytes k = IsBitSet (slice_index bytes (k / 8)) (k % 8)
+
+-- the same as a test
+abbrev pub is_set : List ℕ → ℕ → Bool
+is_set bytes k = bit_at (slice_index bytes (k / 8)) (k % 8) == 1
 
 -- k is the least set bit at or above `from`
 pub record IsNextSet (bytes : List ℕ) (from k : ℕ) : Type 0 where

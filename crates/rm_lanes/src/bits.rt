@@ -1,5 +1,5 @@
 //! Bytes as bits: bit k is bit k mod 8, the least first, of byte k / 8.
-ghost use Rattle.std.specs.Prelude.{ℕ, ◌≡◌, ◌≢◌, ◌↔◌, take, drop, replicate, ◌+◌, ◌*◌, ◌<◌, ◌≤◌, ◌^◌, length, slice_index, IfSome, IfNone, IsTrue, IsBitSet};
+ghost use Rattle.std.specs.Prelude.{ℕ, ◌≡◌, ◌≢◌, ◌↔◌, take, drop, replicate, ◌+◌, ◌<◌, ◌≤◌, ◌^◌, length, slice_index, IfSome, IfNone, IsTrue, IsBitSet};
 ghost use Rattle.rm_lanes.specs.Bits.{bitwise_or, set_count, IsNextSet, NoneSet};
 
 use std::simd::prelude::*;

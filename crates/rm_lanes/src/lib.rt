@@ -3,6 +3,7 @@
 
 pub mod bits;
 pub mod blocks;
+pub mod laws;
 
 pub use bits::{count_ones, next_set, or_into};
 pub use blocks::{is_zero, same};

@@ -18,9 +18,6 @@ slot_snoc : (o : Parts) (log : List Event) (homes : List (Slot Database)) (views
 slot_snoc o log homes views w (inl h) = inl h
 slot_snoc o log homes views w (inr h) = inr (h.0, (h.1.0, h.1.1, at_longer views (w ∷ []) h.1.0 h.1.1 h.1.2, h.1.3))
 
-none_waits : (v : View) → v.waits ≡ false → waiting v ≡ 0
-none_waits v idle = ap one_if idle
-
 pub splits : (id : ℕ) (v : View) → v.waits ≡ false → v.turn ≡ false → 2 ≤ length v.numbers → Splits Ruled id v (keeps_half v) (gives_half v)
 splits id v idle still two s r at =
     let w : View = keeps_half v in

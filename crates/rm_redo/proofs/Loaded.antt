@@ -1,11 +1,11 @@
 -- Online logs that log files tell are valid where these are.
-use Rattle.std.proofs.Common.{◌<◌, ◌≤◌, ℕ, List, Option, Some, None, All, IfSome, arith, length, map, subst, sym}
+use Rattle.std.proofs.Common.{◌<◌, ◌≤◌, ℕ, List, Option, Some, None, All, IfSome, arith, length, subst, sym}
 use Rattle.std.proofs.lemmas.List.{length-map}
 use Rattle.std.proofs.lemmas.List.Elements.{All-map}
 use Rattle.rm_redo.specs.declared.log_file.LogFile.{LogFile}
 use Rattle.rm_redo.specs.LogFormat.{IsLogFile}
 use Rattle.rm_redo.specs.Logs.{IsLog, IsLogs}
-use Rattle.rm_redo.specs.Online.{lost_log, logs_of, thread_log}
+use Rattle.rm_redo.specs.Online.{logs_of, thread_log}
 use Rattle.rm_redo.proofs.Logs.{fresh-is_log}
 
 is-log : (o : Option LogFile) → IfSome o IsLogFile → IsLog (thread_log o)

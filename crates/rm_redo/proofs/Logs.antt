@@ -3,7 +3,7 @@ use Rattle.std.proofs.Common.{◌≡◌, ◌<◌, ◌≤◌, ◌+◌, ◌-◌, �
 use Rattle.std.specs.Option.{option_map_or}
 use Rattle.std.proofs.lemmas.Bool.{cases_eq, eq-eqb, ne_eqb}
 use Rattle.std.proofs.lemmas.List.{length-set, set-get_or}
-use Rattle.std.proofs.lemmas.List.Elements.{All-nil, All-get_or, All-push, All-set}
+use Rattle.std.proofs.lemmas.List.Elements.{All-get_or, All-push, All-set}
 use Rattle.std.proofs.lemmas.List.Quantifiers.{all_pairs_push}
 use Rattle.std.proofs.lemmas.List.{length-append}
 use Rattle.std.proofs.lemmas.Option.{get_or_from_slice_get, slice_get_cases, slice_get_read, slice_get_within}
@@ -160,20 +160,12 @@ IsLost-with_change logs c t here lost = here (sym (is_lost-with_change logs c t)
 pub around-with_change : (logs : Logs) (c : Change) → IsAround logs (with_change logs c)
 around-with_change logs c = around-with_log (with_record (record_of c)) logs c.thread
 
--- there are as many threads
-pub threads-with_change : (logs : Logs) (c : Change) → length (with_change logs c).threads ≡ length logs.threads
-threads-with_change logs c = (around-with_change logs c).threads
-
 pub IsThread-with_change : (logs : Logs) (c : Change) (t : ℕ) → IsThread logs t → IsThread (with_change logs c) t
 IsThread-with_change logs c t there = IsThread-around logs (with_change logs c) t (around-with_change logs c) there
 
 -- they are of the same incarnation
 pub inc-with_change : (logs : Logs) (c : Change) → (with_change logs c).inc ≡ logs.inc
 inc-with_change logs c = (around-with_change logs c).inc
-
--- and of the same database
-pub dbid-with_change : (logs : Logs) (c : Change) → (with_change logs c).dbid ≡ logs.dbid
-dbid-with_change logs c = (around-with_change logs c).dbid
 
 pushed-by : (r : LogRecord) (o : Option ThreadLog) → o ≢ None → option_map_or (λ l. l.records ++ r ∷ []) o [] ≡ option_map_or (λ l. l.records) o [] ++ r ∷ []
 pushed-by r None some = absurd (some refl)
@@ -189,15 +181,6 @@ thread_records-with_change logs c there =
 pub thread_records-with_change_other : (logs : Logs) (c : Change) (t : ℕ) → 0 < c.thread → 0 < t → t ≢ c.thread → thread_records (with_change logs c) t ≡ thread_records logs t
 thread_records-with_change_other logs c t here there other =
     ap (λ o. option_map_or (λ l. l.records) o []) (other-with_log (with_record (record_of c)) logs c.thread t here there other)
-
--- what is true of the records and of the change is true of all records after it
-pub All-records-with_change : (P : LogRecord → Type 0) (logs : Logs) (c : Change) (t : ℕ) → IsThread logs c.thread → 0 < t → All P (thread_records logs t) → P (record_of c) → All P (thread_records (with_change logs c) t)
-All-records-with_change P logs c t there here all new = elim (cases_eq t c.thread) [
-  | inl same ↦
-      let grown = All-push P (thread_records logs c.thread) (record_of c) (subst (λ n. All P (thread_records logs n)) same all) new in
-      subst (λ n. All P (thread_records (with_change logs c) n)) (sym same) (subst (All P) (sym (thread_records-with_change logs c there)) grown)
-  | inr other ↦ subst (All P) (sym (thread_records-with_change_other logs c t there.0 here other)) all
-]
 
 -- A switch
 
@@ -267,32 +250,10 @@ pub other-switched : (logs : Logs) (t u now : ℕ) → 0 < t → 0 < u → u ≢
 other-switched logs t u now here there other =
     switched-either (λ x. slice_get x.threads (u - 1) ≡ slice_get logs.threads (u - 1)) logs t now refl (other-with_log (begun_anew now) logs t u here there other)
 
-pub first_of-switched_other : (logs : Logs) (t u now : ℕ) → 0 < t → 0 < u → u ≢ t → first_of (switched logs t now) u ≡ first_of logs u
-first_of-switched_other logs t u now here there other = ap (λ o. option_map_or (λ l. l.first) o 0) (other-switched logs t u now here there other)
-
-pub sequence_of-switched_other : (logs : Logs) (t u now : ℕ) → 0 < t → 0 < u → u ≢ t → sequence_of (switched logs t now) u ≡ sequence_of logs u
-sequence_of-switched_other logs t u now here there other = ap (λ o. option_map_or (λ l. l.sequence) o 0) (other-switched logs t u now here there other)
-
-pub thread_records-switched_other : (logs : Logs) (t u now : ℕ) → 0 < t → 0 < u → u ≢ t → thread_records (switched logs t now) u ≡ thread_records logs u
-thread_records-switched_other logs t u now here there other = ap (λ o. option_map_or (λ l. l.records) o []) (other-switched logs t u now here there other)
-
--- what is true of all records stays true of all
-pub All-records-switched : (P : LogRecord → Type 0) (logs : Logs) (t u now : ℕ) → IsThread logs t → 0 < u → All P (thread_records logs u) → All P (thread_records (switched logs t now) u)
-All-records-switched P logs t u now there here all = elim (cases_eq u t) [
-  | inl same ↦ elim (cases_eq (first_of logs t) now) [
-    | inl stays ↦ subst (λ x. All P (thread_records x u)) (sym (switched-stays logs t now stays)) all
-    | inr anew ↦ subst (All P) (sym (ap (thread_records (switched logs t now)) same ∙ thread_records-switched logs t now there anew)) (All-nil P)
-  ]
-  | inr other ↦ subst (All P) (sym (thread_records-switched_other logs t u now there.0 here other)) all
-]
-
 -- no log is lost or found
 pub is_lost-switched : (logs : Logs) (t u now : ℕ) → field_of (λ l. l.is_lost) false (switched logs t now) u ≡ field_of (λ l. l.is_lost) false logs u
 is_lost-switched logs t u now =
     switched-either (λ x. field_of (λ l. l.is_lost) false x u ≡ field_of (λ l. l.is_lost) false logs u) logs t now refl (kept-with_log (λ l. l.is_lost) false (begun_anew now) (λ l. refl) logs t u)
-
-pub IsLost-switched : (logs : Logs) (t u now : ℕ) → ¬ IsLost logs u → ¬ IsLost (switched logs t now) u
-IsLost-switched logs t u now here lost = here (sym (is_lost-switched logs t u now) ∙ lost)
 
 -- there are as many threads, of the same incarnation and database
 pub around-switched : (logs : Logs) (t now : ℕ) → IsAround logs (switched logs t now)
@@ -343,13 +304,3 @@ is_lost-with_loss_other logs t u here there other = ap (λ o. option_map_or (λ 
 -- there are as many threads, of the same incarnation and database
 pub around-with_loss : (logs : Logs) (t : ℕ) → IsAround logs (with_loss logs t)
 around-with_loss logs t = around-with_log as_lost logs t
-
-pub IsThread-with_loss : (logs : Logs) (t u : ℕ) → IsThread logs u → IsThread (with_loss logs t) u
-IsThread-with_loss logs t u there = IsThread-around logs (with_loss logs t) u (around-with_loss logs t) there
-
-lost-is_log : (l : ThreadLog) → IsLog l → IsLog (as_lost l)
-lost-is_log l is = record { numbered = is.numbered; begun = is.begun; from = is.from; ascends = is.ascends; few = is.few }
-
--- logs stay logs
-pub IsLogs-with_loss : (logs : Logs) (t : ℕ) → IsLogs logs → IsLogs (with_loss logs t)
-IsLogs-with_loss logs t sound = IsLogs-with_log as_lost lost-is_log logs t sound

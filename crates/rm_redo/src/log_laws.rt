@@ -1,5 +1,5 @@
 //! What the definitions of a log as bytes mean.
-ghost use Rattle.std.specs.Prelude.{ℕ, ◌≡◌, ◌+◌, ◌*◌, length, AllPairs};
+ghost use Rattle.std.specs.Prelude.{◌≡◌, ◌+◌, ◌*◌, length, AllPairs};
 ghost use Rattle.rm_history.specs.Agrees.{ComesBefore};
 ghost use Rattle.rm_redo.specs.declared.log_file.LogFile.{LogFile};
 ghost use Rattle.rm_redo.specs.LogFile.{changes_of};

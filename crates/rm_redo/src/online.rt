@@ -1,5 +1,5 @@
 //! The online logs, one for each redo thread.
-ghost use Rattle.std.specs.Prelude.{◌≡◌, ◌+◌, ◌<◌, ◌≤◌, ◌↔◌, All, OnOk, OnErr, IfOk, IfSome, IsTrue, IsErrOf, length, map};
+ghost use Rattle.std.specs.Prelude.{◌≡◌, ◌<◌, ◌≤◌, ◌↔◌, All, OnOk, OnErr, IfOk, IfSome, IsTrue, IsErrOf, length, map};
 ghost use Rattle.rm_base.specs.Numbers.{last_scn};
 ghost use Rattle.rm_redo.specs.Logs.{IsLogs};
 ghost use Rattle.rm_redo.specs.LogFile.{log_file_of};

@@ -15,10 +15,6 @@ use Rattle.rm_evidence.proofs.Runs.{IsAhead}
 use Rattle.rm_retain.specs.Chosen.{Retention}
 use Rattle.rm_retain.specs.Catalogued.{IsObsoleteRecord, AreObsolete}
 
--- no records, no ids
-pub exactly_none : (r : Retention) → AreObsolete [] r []
-exactly_none r id = (λ held. absurd (none-in id held), λ is. absurd (none-in is.row is.held))
-
 -- a record more that is obsolete
 pub exactly_more : (r : Retention) (rs : List Record) (row : Record) (ids : List ℕ) → AreObsolete rs r ids → IsObsoleteRecord r row → AreObsolete (rs ++ row ∷ []) r (ids ++ (key_of row).id ∷ [])
 exactly_more r rs row ids all is id = (

@@ -36,39 +36,11 @@ pub rising_filter : (p : Backup → Bool) (xs : List Backup) → IsRising xs →
 rising_filter p [] is = tt
 rising_filter p (x ∷ xs) is = rising_kept p x xs (p x) is.0 (rising_filter p xs is.1)
 
--- what is a member of one is a member of the other
-abbrev pub SameItems : List Backup → List Backup → Type 0
-SameItems xs ys = ((x : Backup) → Contains xs x → Contains ys x) × ((x : Backup) → Contains ys x → Contains xs x)
-
 drop_first : (x : Backup) (xs ys : List Backup) → IsRising (x ∷ xs) → ((z : Backup) → Contains (x ∷ xs) z → Contains (x ∷ ys) z) → (z : Backup) → Contains xs z → Contains ys z
 drop_first x xs ys rise to z held = elim (first-or-rest x ys z (to z (behind x xs z held))) [
   | inr rest ↦ rest
   | inl same ↦ let up : x.id < z.id = rise.0 z held in let one : x.id ≡ z.id = ap (λ (y : Backup). y.id) same in absurd (omega (arith, up, one))
 ]
-
-heads_same : (x y : Backup) (xs ys : List Backup) → IsRising (x ∷ xs) → IsRising (y ∷ ys) → SameItems (x ∷ xs) (y ∷ ys) → x ≡ y
-heads_same x y xs ys first second same = elim (first-or-rest y ys x (same.0 x (in-front x xs))) [
-  | inl is ↦ sym is
-  | inr later ↦ elim (first-or-rest x xs y (same.1 y (in-front y ys))) [
-    | inl is ↦ is
-    | inr behind_x ↦
-        let up : y.id < x.id = second.0 x later in
-        let down : x.id < y.id = first.0 y behind_x in
-        absurd (omega (arith, up, down))
-  ]
-]
-
--- lists that ascend and have the same members are one
-pub rising_same : (xs ys : List Backup) → IsRising xs → IsRising ys → SameItems xs ys → xs ≡ ys
-rising_same [] [] first second same = refl
-rising_same [] (y ∷ ys) first second same = absurd (none-in y (same.1 y (in-front y ys)))
-rising_same (x ∷ xs) [] first second same = absurd (none-in x (same.0 x (in-front x xs)))
-rising_same (x ∷ xs) (y ∷ ys) first second same =
-    let head = heads_same x y xs ys first second same in
-    let moved : SameItems (x ∷ xs) (x ∷ ys) = subst (λ z. SameItems (x ∷ xs) (z ∷ ys)) (sym head) same in
-    let rise : IsRising (x ∷ ys) = subst (λ z. IsRising (z ∷ ys)) (sym head) second in
-    let rest = rising_same xs ys first.1 second.1 (drop_first x xs ys first moved.0, drop_first x ys xs rise moved.1) in
-    ap (λ zs. x ∷ zs) rest ∙ ap (λ z. z ∷ ys) head
 
 pub after_first : (x : Backup) (xs ys : List Backup) (y : Backup) → IsRising (x ∷ xs) → y.id < x.id → ((z : Backup) → Contains (x ∷ xs) z → Contains (y ∷ ys) z) → (z : Backup) → Contains (x ∷ xs) z → Contains ys z
 after_first x xs ys y rise less to z held = elim (first-or-rest y ys z (to z held)) [

@@ -1,5 +1,5 @@
 //! What the definitions of the crosscheck and of validation mean together.
-ghost use Rattle.std.specs.Prelude.{◌≡◌, ◌↔◌, ℕ, Bool, List, Contains, IsTrue, Some};
+ghost use Rattle.std.specs.Prelude.{◌≡◌, ◌↔◌, Bool, List, Contains, IsTrue, Some};
 ghost use Rattle.rm_base.specs.Store.{Held};
 ghost use Rattle.rm_base.specs.declared.kinds.Bad.TheVariants.{Missing};
 ghost use Rattle.rm_base.specs.declared.kinds.Class.{Class};
