@@ -1,52 +1,73 @@
--- A whole copy by the only pass: all events are its own, and no write is refused.
-use Rattle.std.proofs.Common.{◌≡◌, ℕ, ◌<◌, IfSome, Result, Ok, Err, IfOk, List, [], ◌∷◌, length, map, refl, sym, ap, ◌∙◌, subst}
+-- Calls of the only pass: all events are its own, and no write is refused. So is a whole copy.
+use Rattle.std.proofs.Common.{◌≡◌, ℕ, ◌<◌, IfSome, Option, Result, Ok, Err, IfOk, List, [], ◌∷◌, ◌++◌, All, false, length, map, refl, sym, ap, ◌∙◌, subst}
 use Rattle.std.proofs.lemmas.List.{length-map}
 use Rattle.rm_base.specs.declared.block.Row.{Row}
+use Rattle.rm_live.specs.declared.history.Call.{Call}
 use Rattle.rm_live.specs.declared.history.Event.{Event}
 use Rattle.rm_live.specs.declared.history.LiveFault.{LiveFault}
-use Rattle.rm_live.specs.History.{fold_of}
+use Rattle.rm_live.specs.History.{IsLegal, fold_of}
 use Rattle.rm_live.specs.Passes.{Standing, IsOnly}
 use Rattle.rm_channel.specs.declared.jobs.CopyJob.{CopyJob}
 use Rattle.rm_channel.specs.declared.jobs.Work.{Work}
 use Rattle.rm_channel.specs.declared.jobs.WriteJob.{WriteJob}
 use Rattle.rm_channel.specs.declared.working.Done.{Done}
-use Rattle.rm_channel.specs.Jobs.{Deed, Span, AreAsLong, AreRows, blocks_in, calls_of, deeds_of, lists, whole}
-use Rattle.rm_channel.specs.Made.{deed, AreBegun, AreThese}
+use Rattle.rm_channel.specs.Jobs.{Deed, Span, AreAsLong, AreRows, blocks_in, deeds_of, lists, reads_of, whole, writes_of}
+use Rattle.rm_channel.specs.Made.{deed, AreBegun, AreThese, Ran}
 use Rattle.rm_channel.specs.Room.{AreThreads, CanWrite}
-use Rattle.rm_channel.specs.Runs.{HasCopied, HasRun, IsWork, told_of, work_told}
+use Rattle.rm_channel.specs.Runs.{HasCopied, HasRun, IsWork, is_refused, told_of, work_told}
 use Rattle.rm_channel.specs.Sections.{sections}
-use Rattle.rm_channel.proofs.Counts.{has-room}
+use Rattle.rm_channel.proofs.Counts.{NoWrites, has-room, no-reads_of}
 use Rattle.rm_channel.proofs.Mine.{mine-all}
 use Rattle.rm_channel.proofs.Rooms.{accepted}
 use Rattle.rm_channel.proofs.Whole.{whole-sections}
 
 -- SCNs, as answers
-abbrev as_answers : List (List ℕ) → List (List (Result ℕ LiveFault))
+abbrev pub as_answers : List (List ℕ) → List (List (Result ℕ LiveFault))
 as_answers xs = map (map Ok) xs
 
 abbrev as_answer : ℕ → Result ℕ LiveFault
 as_answer n = Ok n
 
-long-answers : (xs : List (List ℕ)) → map length (as_answers xs) ≡ map length xs
+pub long-answers : (xs : List (List ℕ)) → map length (as_answers xs) ≡ map length xs
 long-answers [] = refl
 long-answers (x ∷ xs) = λ i. length-map x as_answer i ∷ long-answers xs i
+
+-- what calls of the only pass leave, writes among them for which there is room
+pub record RanAlone (p : Standing) (seen : List Event) (calls : List Call) (told : Option (List Deed)) : Type 0 where
+  pub rest : List Event
+  pub is : seen ≡ p.seen ++ rest
+  pub legal : IsLegal (fold_of p.opening p.seen) rest
+  pub begun : AreBegun calls (map deed rest)
+  pub made : IfSome told (λ ds. AreThese ds (map deed rest))
+  pub accepted : All (λ e. is_refused e.answer ≡ false) rest
+
+pub ran-alone : (p : Standing) (seen : List Event) (others : List Call) (writers : List (List WriteJob)) (told : Option (List Deed)) → NoWrites others → IsOnly p → AreThreads p.opening.logs 1 writers
+    → CanWrite (fold_of p.opening p.seen) writers → Ran p seen (others ++ writes_of 1 writers) told → RanAlone p seen (others ++ writes_of 1 writers) told
+ran-alone p seen others writers told none only threads can ran =
+    let mine = mine-all p.numbers p.passes ran.rest only ran.below in
+    let begun = subst (AreBegun (others ++ writes_of 1 writers)) mine ran.begun in record {
+      rest = ran.rest;
+      is = ran.is;
+      legal = ran.legal;
+      begun = begun;
+      made = subst (λ (ds : List Deed). IfSome told (λ t. AreThese t ds)) mine ran.told;
+      accepted = accepted (fold_of p.opening p.seen) ran.rest (has-room p.opening p.seen others writers ran.rest none threads can begun) ran.legal;
+    }
 
 pub copied : {E : Type 0} (p : Standing) (seen : List Event) (c : ℕ) (jobs : List CopyJob) (writers : List (List WriteJob)) (done : Result Done E) (r : Result Work E) → 0 < c → IsOnly p → AreThreads p.opening.logs 1 writers
     → CanWrite (fold_of p.opening p.seen) writers → HasRun p seen (sections c 0 c jobs) 1 writers done → IsWork jobs done r → HasCopied p seen jobs writers r
 copied {E = E} p seen c jobs writers done r pos only threads can sections_run work =
     let run = subst (λ (ss : List Span). HasRun p seen ss 1 writers done) (whole-sections c jobs pos) sections_run in
-    let ran = run.ran in
-    let mine = mine-all p.numbers p.passes ran.rest only ran.below in
-    let begun = subst (AreBegun (calls_of all 1 writers)) mine ran.begun in record {
-      rest = ran.rest;
-      is = ran.is;
-      legal = ran.legal;
-      begun = begun;
-      made = made_by (map deed ran.rest) r work (subst (λ (ds : List Deed). IfSome (told_of all 1 writers done) (λ told. AreThese told ds)) mine ran.told);
+    let alone = ran-alone p seen (reads_of all) writers (told_of all 1 writers done) (no-reads_of all) only threads can run.ran in record {
+      rest = alone.rest;
+      is = alone.is;
+      legal = alone.legal;
+      begun = alone.begun;
+      made = made_by (map deed alone.rest) r work alone.made;
       rows = rows_by r work run.rows;
       reads = reads_by r work;
       scns = scns_by r work run.answers;
-      accepted = accepted (fold_of p.opening p.seen) ran.rest (has-room p.opening p.seen all writers ran.rest threads can begun) ran.legal;
+      accepted = alone.accepted;
     }
   where
     all : List Span

@@ -1,5 +1,5 @@
 -- How often calls of a list pass a test.
-use Rattle.std.proofs.Common.{◌≡◌, ◌≢◌, ℕ, suc, ◌+◌, ◌<◌, ◌≤◌, Bool, true, false, Option, Some, None, Ok, Err, IsSome, is_none, List, [], ◌∷◌, length, map, All, refl, sym, ap, ◌∙◌, subst, arith}
+use Rattle.std.proofs.Common.{◌≡◌, ◌≢◌, ℕ, suc, ◌+◌, ◌<◌, ◌≤◌, Bool, true, false, Option, Some, None, Ok, Err, IsSome, is_none, List, [], ◌∷◌, ◌++◌, length, map, All, refl, sym, ap, ◌∙◌, subst, arith}
 use mathlib.Core.Logic.{dite}
 use native.Mathlib.Decide.{ℕ_discrete}
 use Rattle.std.proofs.lemmas.List.Elements.{All-head, All-tail}
@@ -16,43 +16,65 @@ use Rattle.rm_live.specs.Parts.{Parts, row_at}
 use Rattle.rm_live.specs.History.{after, fold_of}
 use Rattle.rm_live.specs.Ruled.{one_if, total}
 use Rattle.rm_channel.specs.declared.jobs.WriteJob.{WriteJob}
-use Rattle.rm_channel.specs.Jobs.{Deed, Span, calls_of, reads, reads_of, writes, writes_of}
+use Rattle.rm_channel.specs.Jobs.{Deed, Span, reads, reads_of, writes, writes_of}
 use Rattle.rm_channel.specs.Made.{deed, is_by, AreBegun}
 use Rattle.rm_channel.specs.Room.{AreThreads, CanWrite, HasBlock, HaveRoom}
 use Rattle.rm_channel.proofs.Mine.{total-append}
-use Rattle.rm_channel.proofs.Rooms.{HasRoom, by-self, by-other, count, is_lost, is_write}
+use Rattle.rm_channel.proofs.Rooms.{HasRoom, by-self, by-other, count, is_lost, is_write, off-by}
 
 abbrev ones : (Call → Bool) → Call → ℕ
 ones f c = one_if (f c)
 
--- a test that no read passes
+-- a test that no other call passes
 abbrev IsOfWrites : (Call → Bool) → Type 0
-IsOfWrites f = (g b : ℕ) → f (Read g b) ≡ false
+IsOfWrites f = (c : Call) → is_write c ≡ false → f c ≡ false
 
-no-reads : (f : Call → Bool) (g : ℕ) (bs : List ℕ) → IsOfWrites f → total (ones f) (reads g bs) ≡ 0
-no-reads f g [] off = refl
-no-reads f g (b ∷ bs) off = let e = ap one_if (off g b) in let h = no-reads f g bs off in omega arith
+-- none of the calls is a write
+abbrev pub NoWrites : List Call → Type 0
+NoWrites others = total (ones is_write) others ≡ 0
 
-no-reads_of : (f : Call → Bool) (ss : List Span) → IsOfWrites f → total (ones f) (reads_of ss) ≡ 0
-no-reads_of f [] off = refl
-no-reads_of f (s ∷ ss) off =
-    let a = total-append (ones f) (reads s.file s.blocks) (reads_of ss) in
-    let b = no-reads f s.file s.blocks off in
-    let h = no-reads_of f ss off in
+no-reads : (g : ℕ) (bs : List ℕ) → NoWrites (reads g bs)
+no-reads g [] = refl
+no-reads g (b ∷ bs) = let h = no-reads g bs in omega arith
+
+pub no-reads_of : (ss : List Span) → NoWrites (reads_of ss)
+no-reads_of [] = refl
+no-reads_of (s ∷ ss) =
+    let a = total-append (ones is_write) (reads s.file s.blocks) (reads_of ss) in
+    let b = no-reads s.file s.blocks in
+    let h = no-reads_of ss in
+    omega arith
+
+none-pass : (f : Call → Bool) (others : List Call) → IsOfWrites f → NoWrites others → total (ones f) others ≡ 0
+none-pass f [] off none = refl
+none-pass f (c ∷ others) off none =
+    let e = ap one_if (off c (off-by (is_write c) (let k : one_if (is_write c) ≡ 0 = omega arith in k))) in
+    let h = none-pass f others off (omega arith) in
     omega arith
 
 total-deeds : (g : Call → ℕ) (es : List Event) → total (λ (d : Deed). g d.0) (map deed es) ≡ total (λ (e : Event). g e.call) es
 total-deeds g [] = refl
 total-deeds g (e ∷ es) = ap (λ (n : ℕ). g e.call + n) (total-deeds g es)
 
--- no more events pass it than writes of the lists
-at-most : (f : Call → Bool) (ss : List Span) (t : ℕ) (writers : List (List WriteJob)) (es : List Event) → IsOfWrites f → AreBegun (calls_of ss t writers) (map deed es) → count f es ≤ total (ones f) (writes_of t writers)
-at-most f ss t writers es off begun =
+-- no more events pass it than writes of the lists, beside other calls
+at-most : (f : Call → Bool) (others : List Call) (t : ℕ) (writers : List (List WriteJob)) (es : List Event) → NoWrites others → IsOfWrites f → AreBegun (others ++ writes_of t writers) (map deed es)
+    → count f es ≤ total (ones f) (writes_of t writers)
+at-most f others t writers es none off begun =
     let a = begun.none_twice (ones f) in
     let b = total-deeds (ones f) es in
-    let d = total-append (ones f) (reads_of ss) (writes_of t writers) in
-    let e = no-reads_of f ss off in
+    let d = total-append (ones f) others (writes_of t writers) in
+    let e = none-pass f others off none in
     omega arith
+
+lost-writes : (p : Parts) → IsOfWrites (is_lost p)
+lost-writes p (Read f b) off = refl
+lost-writes p (Write t f b content) off = absurd (cc off)
+lost-writes p (Mend f row) off = refl
+
+by-writes : (u : ℕ) → IsOfWrites (is_by u)
+by-writes u (Read f b) off = refl
+by-writes u (Write t f b content) off = absurd (cc off)
+by-writes u (Mend f row) off = refl
 
 -- all are writes
 all-writes : (t : ℕ) (ws : List WriteJob) → total (ones is_write) (writes t ws) ≡ length ws
@@ -140,12 +162,12 @@ thread-fold o [] t there = there
 thread-fold o (e ∷ es) t there = thread-fold (after o e.call e.answer) es t (thread-after o e.call e.answer t there)
 
 -- so there is room for the events
-pub has-room : (o : Parts) (seen : List Event) (ss : List Span) (writers : List (List WriteJob)) (es : List Event) → AreThreads o.logs 1 writers → CanWrite (fold_of o seen) writers → AreBegun (calls_of ss 1 writers) (map deed es)
-    → HasRoom (fold_of o seen) es
-has-room o seen ss writers es threads can begun =
+pub has-room : (o : Parts) (seen : List Event) (others : List Call) (writers : List (List WriteJob)) (es : List Event) → NoWrites others → AreThreads o.logs 1 writers → CanWrite (fold_of o seen) writers
+    → AreBegun (others ++ writes_of 1 writers) (map deed es) → HasRoom (fold_of o seen) es
+has-room o seen others writers es none threads can begun =
     let p : Parts = fold_of o seen in record {
-      blocks = let a = at-most (is_lost p) ss 1 writers es (λ g b. refl) begun in let b = none-lost_of p 1 writers can.blocks in omega arith;
-      threads = λ t pos. let a = at-most (is_by t) ss 1 writers es (λ g b. refl) begun in thread-fold o seen t (thread-room o.logs p.logs 1 t writers threads can.logs (omega arith)).0;
-      logs = λ t pos. let a = at-most (is_by t) ss 1 writers es (λ g b. refl) begun in let h = (thread-room o.logs p.logs 1 t writers threads can.logs (omega arith)).1 in omega arith;
-      scns = let a = at-most is_write ss 1 writers es (λ g b. refl) begun in let b = all-writes_of 1 writers in let d = can.scns in omega arith;
+      blocks = let a = at-most (is_lost p) others 1 writers es none (lost-writes p) begun in let b = none-lost_of p 1 writers can.blocks in omega arith;
+      threads = λ t pos. let a = at-most (is_by t) others 1 writers es none (by-writes t) begun in thread-fold o seen t (thread-room o.logs p.logs 1 t writers threads can.logs (omega arith)).0;
+      logs = λ t pos. let a = at-most (is_by t) others 1 writers es none (by-writes t) begun in let h = (thread-room o.logs p.logs 1 t writers threads can.logs (omega arith)).1 in omega arith;
+      scns = let a = at-most is_write others 1 writers es none (λ c off. off) begun in let b = all-writes_of 1 writers in let d = can.scns in omega arith;
     }

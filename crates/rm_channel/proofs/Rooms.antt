@@ -141,7 +141,7 @@ allowed-by refusal (Wrote (Err NoBlock)) p none right = let bad = sym none ∙ r
 allowed-by refusal (Wrote (Err Full)) p none right = let bad = sym none ∙ right in absurd (cc bad)
 allowed-by refusal (Wrote (Err LastScn)) p none right = let bad = sym none ∙ right in absurd (cc bad)
 
-off-by : (b : Bool) → one_if b ≡ 0 → b ≡ false
+pub off-by : (b : Bool) → one_if b ≡ 0 → b ≡ false
 off-by true e = absurd (omega arith)
 off-by false e = refl
 

@@ -7,9 +7,7 @@ use Rattle.std.specs.Result.{result_ok}
 use Rattle.std.specs.Global.{Global}
 use Rattle.std.proofs.lemmas.List.{take_more}
 use Rattle.rm_base.specs.declared.block.Row.{Row}
-use Rattle.rm_live.specs.declared.history.Answer.TheVariants.{Found, Wrote}
 use Rattle.rm_live.specs.declared.history.Call.{Call}
-use Rattle.rm_live.specs.declared.history.Call.TheVariants.{Read, Write}
 use Rattle.rm_live.specs.declared.history.Event.{Event}
 use Rattle.rm_live.specs.declared.history.LiveFault.{LiveFault}
 use Rattle.rm_live.specs.Passes.{Standing, IsLater}

@@ -75,7 +75,7 @@ impl Share {
 }
 
 // The workers of a share, each in a thread of its own: half of them beside the others, and so on.
-fn run<G: Gate, R: Threads + Wait + Sync>(
+pub(crate) fn run<G: Gate, R: Threads + Wait + Sync>(
     rt: &R,
     alloc: Global,
     live: &Live,
@@ -225,8 +225,9 @@ fn reads_of(alloc: Global, jobs: &[CopyJob]) -> Result<Vec<u64>, NoMemory>
     Ok(reads)
 }
 
-// Of each list the SCNs that its writes took. A write that took none wanted memory.
-fn scns_of(
+/// Of each list of answers the SCNs that its writes took. `NoMemory` where a write took none, which no write
+/// does that has room, save for want of memory.
+pub fn scns_of(
     alloc: Global,
     answers: &[Vec<Result<Scn, LiveFault>>],
 ) -> Result<Vec<Vec<Scn>>, NoMemory>

@@ -1,5 +1,6 @@
 pub mod Agreeing
 pub mod Artefacts
+pub mod Chosen
 pub mod Conditions
 pub mod Determining
 pub mod Faults

@@ -1,3 +1,5 @@
+pub mod Blocks
+pub mod Chosen
 pub mod Covers
 pub mod Entries
 pub mod FirstGap

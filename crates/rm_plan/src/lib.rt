@@ -12,4 +12,4 @@ mod target;
 mod ways;
 
 pub use first::first_gap;
-pub use plan::{Gap, PlanFault, Told, plan_file};
+pub use plan::{Gap, PlanFault, Told, plan_blocks, plan_file};

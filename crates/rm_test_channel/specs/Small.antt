@@ -9,6 +9,7 @@ use Rattle.rm_live.specs.Ruled.{upto}
 use Rattle.rm_channel.specs.Jobs.{IsWanted, size_of}
 use Rattle.rm_channel.specs.declared.jobs.CopyJob.{CopyJob}
 use Rattle.rm_channel.specs.declared.jobs.WriteJob.{WriteJob}
+use Rattle.rm_repair.specs.declared.jobs.MendJob.{MendJob}
 
 -- file 1 of so many blocks, and four threads
 abbrev pub opening : ℕ → Parts
@@ -27,3 +28,9 @@ pub record IsOfFile (blocks : ℕ) (j : CopyJob) : Type 0 where
 -- at most three writes of its first block
 abbrev pub AreWrites : List WriteJob → Type 0
 AreWrites ws = All (λ w. (w.file ≡ 1) × (w.block ≡ 0)) ws × (length ws ≤ 3)
+
+-- a row of one of its first four blocks, as old as the datafile
+pub record IsMend (j : MendJob) : Type 0 where
+  pub file : j.file ≡ 1
+  pub block : j.row.block ≤ 3
+  pub version : j.row.version ≡ 1

@@ -4,6 +4,7 @@
 
 mod during;
 mod gates;
+mod mending;
 mod parts;
 mod passes;
 mod small;
@@ -37,6 +38,13 @@ fn main(rt: HostRuntime) -> io::Result<()> {
     tell(&rt, "two channels that meet", small::meeting(&rt, alloc))?;
     tell(&rt, "gate-holds-section", during::holding(&rt, alloc))?;
     tell(&rt, "16 channels and 4 writers", writers::many(&rt, alloc))?;
+    tell(&rt, "two lists of writes", mending::lists_alone(&rt, alloc))?;
+    tell(&rt, "rows put in place", mending::alone(&rt, alloc))?;
+    tell(
+        &rt,
+        "rows put in place beside writers",
+        mending::beside(&rt, alloc),
+    )?;
     tell(
         &rt,
         "parts by 1, 2 and 16 channels",

@@ -3,11 +3,12 @@ ghost use Rattle.std.specs.Prelude.{◌≡◌, ◌≢◌, ◌<◌, All, IsTrue};
 ghost use Rattle.rm_base.specs.declared.kinds.Kind.TheVariants.{Level1 as AnIncrement};
 ghost use Rattle.rm_catalog.specs.Rules.{HasDatabase};
 ghost use Rattle.rm_evidence.specs.Known.{FitsLog, FitsPiece, FitsTree};
+ghost use Rattle.rm_history.specs.FirstGap.{IsTarget};
 ghost use Rattle.rm_history.specs.World.{blocks_of};
 ghost use Rattle.rm_evidence.specs.Database.{world_of};
 ghost use Rattle.rm_plan.specs.Plan.{IsFileTarget};
 
-use rm_base::{BlockNo, FileNo, IncNo, Kind, NoMemory, Part, Scn, Seq};
+use rm_base::{BlockId, BlockNo, FileNo, IncNo, Kind, NoMemory, Part, Scn, Seq};
 use rm_catalog::Catalog;
 use rm_evidence::{Evidence, datafile, has_database};
 use rm_history::Tree;
@@ -15,6 +16,7 @@ use rm_piece::{Piece, is_valid};
 use rm_plan::plan::{plan, plan_file};
 use rm_plan::{Gap, PlanFault, Told, first_gap};
 use rm_redo::{LogFile, is_valid_log};
+use rm_repair::{MendJob, mend_jobs};
 use std::alloc::Global;
 
 fn does_fit(tree: &Tree, piece: &Piece) -> bool
@@ -98,6 +100,25 @@ fn has_block(catalog: &Catalog, file: FileNo, block: BlockNo) -> bool
     datafile(catalog, file).is_some_and(|found| block < found.blocks)
 }
 
+fn is_block(catalog: &Catalog, i: IncNo, s: Scn, at: BlockId) -> bool
+    requires { HasDatabase catalog.now }
+    ensures { IsTrue result → IsTarget (world_of catalog.now) i s at.file at.block }
+{
+    is_file(catalog, i, s, at.file) && has_block(catalog, at.file, at.block)
+}
+
+fn are_blocks(catalog: &Catalog, i: IncNo, s: Scn, blocks: &[BlockId]) -> bool
+    requires { HasDatabase catalog.now }
+    ensures { IsTrue result → All (λ x. IsTarget (world_of catalog.now) i s x.file x.block) blocks.now }
+{
+    for at in blocks {
+        if !is_block(catalog, i, s, *at) {
+            return false;
+        }
+    }
+    true
+}
+
 /// What the planner answers of a block; None where it may not be asked.
 pub fn asked(
     alloc: Global,
@@ -133,6 +154,24 @@ pub fn asked_file(
         return None;
     }
     Some(plan_file(alloc, evidence, catalog, i, s, file))
+}
+
+/// The rows that mend these blocks; None where they may not be asked for.
+pub fn asked_jobs(
+    alloc: Global,
+    evidence: &Evidence,
+    catalog: &Catalog,
+    i: IncNo,
+    s: Scn,
+    blocks: &[BlockId],
+) -> Option<Result<Vec<MendJob>, PlanFault>> {
+    if !has_database(catalog)
+        || !is_fit(catalog.tree(), evidence)
+        || !are_blocks(catalog, i, s, blocks)
+    {
+        return None;
+    }
+    Some(mend_jobs(alloc, evidence, catalog, i, s, blocks))
 }
 
 /// What the planner answers of all datafiles; None where it may not be asked.

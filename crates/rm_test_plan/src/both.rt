@@ -1,18 +1,29 @@
 //! Both planners, over the artefacts of 200 made databases.
-use crate::asked::{asked, asked_first};
+use crate::asked::{asked, asked_first, asked_jobs};
 use crate::branches::{BLOCKS, END, catalog, evidence, incarnations, row_at};
 use crate::draws::Draws;
 use crate::slow::{Target, plan_slowly};
-use rm_base::{BlockNo, FileNo, IncNo, Scn};
+use rm_base::{BlockId, BlockNo, FileNo, IncNo, Scn};
 use rm_catalog::Catalog;
 use rm_evidence::{Evidence, has_database};
 use rm_history::Tree;
 use rm_plan::{Gap, PlanFault, Told};
+use rm_repair::MendJob;
 use rm_test_harness::{Fault, differs};
 use std::alloc::Global;
 
 // The datafiles, and how many blocks each has.
 const FILES: [(FileNo, u32); 2] = [(1, BLOCKS), (2, 1)];
+
+// Blocks whose rows are asked for together, in this order.
+const TOGETHER: [BlockId; 3] = [
+    BlockId {
+        file: 1,
+        block: BLOCKS - 1,
+    },
+    BlockId { file: 1, block: 0 },
+    BlockId { file: 2, block: 0 },
+];
 
 // A made database, and what is at hand of it.
 #[derive(Drop)]
@@ -91,6 +102,46 @@ fn all_agree(alloc: Global, tree: &Tree, case: &Case, i: IncNo, s: Scn) -> bool 
     true
 }
 
+// Whether the job puts in place what is told of the block.
+fn is_job(tree: &Tree, case: &Case, i: IncNo, s: Scn, at: BlockId, job: &MendJob) -> bool {
+    let told = Told {
+        version: job.row.version,
+        content: job.row.content,
+    };
+    job.file == at.file
+        && job.row.block == at.block
+        && slowly(tree, case, i, s, at.file, at.block) == Ok(told)
+}
+
+// The gap of the first of the blocks together that has one.
+fn first_together(tree: &Tree, case: &Case, i: IncNo, s: Scn) -> Option<Gap> {
+    for at in TOGETHER {
+        if let Err(gap) = slowly(tree, case, i, s, at.file, at.block) {
+            return Some(gap);
+        }
+    }
+    None
+}
+
+// Whether there is a job for each of them, in order.
+fn are_jobs(tree: &Tree, case: &Case, i: IncNo, s: Scn, jobs: &[MendJob]) -> bool {
+    for (at, job) in TOGETHER.iter().zip(jobs) {
+        if !is_job(tree, case, i, s, *at, job) {
+            return false;
+        }
+    }
+    jobs.len() == TOGETHER.len()
+}
+
+// Whether both planners answer the same of them together.
+fn agree_together(alloc: Global, tree: &Tree, case: &Case, i: IncNo, s: Scn) -> bool {
+    match asked_jobs(alloc, &case.evidence, &case.catalog, i, s, &TOGETHER) {
+        Some(Ok(jobs)) => are_jobs(tree, case, i, s, jobs.as_slice()),
+        Some(Err(PlanFault::Gap(gap))) => first_together(tree, case, i, s) == Some(gap),
+        _ => false,
+    }
+}
+
 // The gap of the least block that has one.
 fn first_slowly(tree: &Tree, case: &Case, i: IncNo, s: Scn) -> Option<Gap> {
     for (file, blocks) in FILES {
@@ -131,7 +182,8 @@ struct Counts {
 fn has_gap(alloc: Global, tree: &Tree, case: &Case, i: IncNo, s: Scn) -> Result<bool, Fault> {
     let first = first_slowly(tree, case, i, s);
     let asked = asked_first(alloc, &case.evidence, &case.catalog, i, s);
-    if all_agree(alloc, tree, case, i, s) && asked == Some(Ok(first)) {
+    let all_agree = all_agree(alloc, tree, case, i, s) && agree_together(alloc, tree, case, i, s);
+    if all_agree && asked == Some(Ok(first)) {
         return Ok(first.is_some());
     }
     Err(Fault::Differs(format!(in alloc; "{}: {i} until {s}", case.number)?))

@@ -1,0 +1,4 @@
+pub mod Beside
+pub mod Mends
+pub mod Rows
+pub mod Told
