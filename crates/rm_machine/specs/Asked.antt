@@ -1,4 +1,4 @@
--- What a BACKUP asks of its channels and writers.
+-- What a BACKUP asks of its channels, and a DURING of its writers.
 use Rattle.std.specs.Prelude.{ℕ, zero, suc, ◌<◌, ◌^◌, ◌==◌, unwrap_or, Bool, Option, List, [], ◌∷◌, filter, length, map}
 use Rattle.std.specs.Option.{option_and_then, option_map_or}
 use Rattle.rm_channel.specs.Jobs.{Span}
@@ -13,9 +13,13 @@ use Rattle.rm_machine.specs.declared.job.Job.{Job}
 use Rattle.rm_machine.specs.declared.state.State.{State}
 use Rattle.rm_machine.specs.State.{ledger}
 
--- the writes that it asks for, in the order of the text
+-- the writes that a DURING asks for, in the order of the text
+abbrev pub asked : Option (List WriteForm) → List WriteForm
+asked during = unwrap_or during []
+
+-- those of a BACKUP
 abbrev pub writes_in : BackupForm → List WriteForm
-writes_in b = unwrap_or b.during []
+writes_in b = asked b.during
 
 -- its numbers are those of a datafile and a block
 abbrev pub FitsNumbers : WriteForm → Type 0
@@ -35,8 +39,12 @@ lists_from t zero ws = []
 lists_from t (suc n) ws = by_thread t ws ∷ lists_from (suc t) n ws
 
 -- a list for each thread of the database
+abbrev pub writers_in : State → Option (List WriteForm) → List (List WriteJob)
+writers_in s during = lists_from 1 (ledger s).base.threads (asked during)
+
+-- those of a BACKUP
 abbrev pub writers_of : State → BackupForm → List (List WriteJob)
-writers_of s b = lists_from 1 (ledger s).base.threads (writes_in b)
+writers_of s b = writers_in s b.during
 
 -- The blocks of a datafile that changed since the checkpoint of its level 1's parent, as its bitmaps tell. None where all blocks are
 -- backed up, or the bitmaps do not go so far back.

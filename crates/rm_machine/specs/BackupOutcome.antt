@@ -1,5 +1,5 @@
 -- BACKUP of datafiles: full, of level 0 or of level 1, while the database may write
-use Rattle.std.specs.Prelude.{ℕ, suc, ◌≡◌, if◌then◌else◌, is_none, Ok, List, [], ◌∷◌, ◌++◌, map}
+use Rattle.std.specs.Prelude.{ℕ, suc, ◌≡◌, Ok, List, [], ◌∷◌, ◌++◌, map}
 use Rattle.rm_base.specs.declared.block.Row.{Row}
 use Rattle.rm_channel.specs.Jobs.{AreAsLong, AreRows, deeds_of}
 use Rattle.rm_channel.specs.Made.{AreThese, deed}
@@ -13,7 +13,7 @@ use Rattle.rm_machine.specs.Backup.{AreJobs, IsTagBy, named_tag, or_nothing, tak
 use Rattle.rm_machine.specs.Effect.{Effect, Outcome, done}
 use Rattle.rm_machine.specs.Events.{after_events, changes_of, opening}
 use Rattle.rm_machine.specs.MadePieces.{Copied, after_pieces, copied, piece_lines, pieces_made, pieces_put}
-use Rattle.rm_machine.specs.Marks.{marks_before, with_marks}
+use Rattle.rm_machine.specs.Marks.{marked_for}
 use Rattle.rm_machine.specs.declared.job.Job.{Job}
 use Rattle.rm_machine.specs.declared.state.State.{State}
 use Rattle.rm_machine.specs.State.{ledger, now_of}
@@ -26,7 +26,7 @@ write_lines t (scns ∷ rest) = map (λ scn. ThreadScn t scn) scns ++ write_line
 
 -- the database after the mark that comes before the writes, where it has a DURING
 abbrev pub marked : State → BackupForm → State
-marked s b = if is_none b.during then s else record s { catalog = with_marks s.catalog (marks_before s) }
+marked s b = marked_for s b.during
 
 -- the database as channels and writers find it: behind the mark, and of each datafile that is backed up the current bitmap ends at `now`
 abbrev pub begun : State → BackupForm → State

@@ -15,7 +15,7 @@ abbrev pub fresh_state : (dbid threads scn moment : ℕ) → State
 fresh_state dbid threads scn moment =
     record {
       catalog = record { ledger = fresh dbid threads scn moment; saved = None };
-      instance = record { is_open = true; point = None; place = []; logs = fresh_logs dbid 1 threads scn; tracker = [] };
+      instance = record { is_open = true; point = None; place = []; logs = fresh_logs dbid 1 threads scn; damaged = []; tracker = [] };
     }
 
 -- the machine of it: nothing was written or recorded

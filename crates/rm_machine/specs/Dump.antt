@@ -3,10 +3,11 @@ use Rattle.std.specs.Prelude.{ℕ, ◌≡◌, nat_le, if◌then◌else◌, is_no
 use Rattle.std.specs.Option.{option_and_then, option_map_or}
 use Rattle.rm_base.specs.declared.block.Row.{Row}
 use Rattle.rm_base.specs.declared.refusal.Refusal.{Refusal}
-use Rattle.rm_base.specs.declared.refusal.Refusal.TheVariants.{Rm05, Rm09}
+use Rattle.rm_base.specs.declared.refusal.Refusal.TheVariants.{Rm05, Rm09, Rm17}
 use Rattle.rm_base.specs.declared.refusal.Absent.TheVariants.{File, Block}
 use Rattle.rm_history.specs.declared.world.Datafile.{Datafile}
 use Rattle.rm_report.specs.declared.line.Line.TheVariants.{Dumped}
+use Rattle.rm_machine.specs.Damage.{has_block}
 use Rattle.rm_machine.specs.Effect.{Outcome, told}
 use Rattle.rm_machine.specs.declared.state.State.{State}
 use Rattle.rm_machine.specs.State.{on_path, placed}
@@ -16,6 +17,7 @@ abbrev pub row_refusal : State → ℕ → ℕ → Datafile → Option Refusal
 row_refusal s f b d =
     if nat_le d.blocks b then Some (Rm05 (Block b f))
     else if is_none (placed s f) then Some (Rm09 f)
+    else if has_block s.instance.damaged f b then Some (Rm17 f b)
     else None
 
 -- why it is refused

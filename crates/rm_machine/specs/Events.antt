@@ -30,8 +30,8 @@ abbrev pub write_form : ℕ → ℕ → ℕ → Block → WriteForm
 write_form t f b content = record { thread = t; file = f; block = b; content = content }
 
 -- the state with a row of datafile f in place of the one of its block
-abbrev pub with_mend : State → ℕ → Row → State
-with_mend s f row = record s { instance = record s.instance { place = slice_set s.instance.place (f - 1) (option_map (λ x. put x row) (placed s f)) } }
+abbrev pub with_placed_row : State → ℕ → Row → State
+with_placed_row s f row = record s { instance = record s.instance { place = slice_set s.instance.place (f - 1) (option_map (λ x. put x row) (placed s f)) } }
 
 -- the state after an event: an accepted write is one WRITE more
 abbrev pub after_event : State → Call → Answer → State
@@ -42,7 +42,7 @@ after_event s (Write t f b content) (Wrote (Err fault)) = s
 after_event s (Write t f b content) (Mended made) = s
 after_event s (Mend f row) (Found found) = s
 after_event s (Mend f row) (Wrote w) = s
-after_event s (Mend f row) (Mended true) = with_mend s f row
+after_event s (Mend f row) (Mended true) = with_placed_row s f row
 after_event s (Mend f row) (Mended false) = s
 
 -- the change that it makes

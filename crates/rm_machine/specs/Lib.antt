@@ -4,11 +4,15 @@ pub mod Backup
 pub mod BackupLogs
 pub mod BackupOutcome
 pub mod BackupRefusal
+pub mod BlockRecover
+pub mod BlockRecoverRefusal
 pub mod Built
 pub mod CatalogName
 pub mod Configure
+pub mod Corrupt
 pub mod CreateDatabase
 pub mod CreateDatafile
+pub mod Damage
 pub mod Mishaps
 pub mod Dump
 pub mod Effect
@@ -35,9 +39,11 @@ pub mod Recover
 pub mod RecoverCopy
 pub mod RecoverTest
 pub mod Recovery
+pub mod Repair
 pub mod ResetDatabase
 pub mod Rest
 pub mod Restore
+pub mod Running
 pub mod Saved
 pub mod Saving
 pub mod Shown

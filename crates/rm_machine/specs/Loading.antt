@@ -82,6 +82,7 @@ pub record IsLoadedOf (held : Held) (s : State) (site : Saved) : Type 0 where
   pub logs : AreLoadedLogs held (ledger s) site s.instance.logs
   pub is_open : s.instance.is_open ≡ (site.head.opened && not (has_lost s.instance.logs))
   pub point : IsLoadedPoint s site.head site.head.opened s.instance.is_open
+  pub damaged : s.instance.damaged ≡ []
   pub tracker : s.instance.tracker ≡ first_tracker s.instance.is_open (ledger s)
 
 -- without a saved site the database is mounted, each datafile and each online log is lost, and there is no point
@@ -92,6 +93,7 @@ lost_instance l =
       point = None;
       place = replicate (length l.files) None;
       logs = logs_of l.base.dbid l.base.current (replicate l.base.threads None);
+      damaged = [];
       tracker = [];
     }
 

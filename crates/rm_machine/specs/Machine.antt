@@ -1,6 +1,7 @@
 -- The machine: a database, and what nobody sees of it.
 use Rattle.std.specs.Prelude.{ℕ, ◌≡◌, ◌⊎◌, ◌≤◌, ◌<◌, true, false, Option, Some, None, List, [], All, Contains, length, slice_get}
 use Rattle.rm_base.specs.Store.{Held}
+use Rattle.rm_base.specs.declared.block.BlockId.{BlockId}
 use Rattle.rm_base.specs.declared.block.Change.{Change}
 use Rattle.rm_base.specs.declared.kinds.Kind.{Kind}
 use Rattle.rm_base.specs.declared.kinds.Kind.TheVariants.{Level1}
@@ -27,6 +28,7 @@ use Rattle.rm_redo.specs.declared.log_file.LogFile.{LogFile}
 use Rattle.rm_redo.specs.LogFile.{log_of}
 use Rattle.rm_redo.specs.LogFormat as log_format
 use Rattle.rm_redo.specs.LogFormat.{IsLogFile}
+use Rattle.rm_machine.specs.Damage.{has_block, has_file}
 use Rattle.rm_machine.specs.Effect.{Artefact, a_log, a_piece, Made}
 use Rattle.rm_machine.specs.Sound.{IsSound}
 use Rattle.rm_machine.specs.declared.state.State.{State}
@@ -104,18 +106,22 @@ pub record HaveArtefacts (objects : Held) (made : List Made) (touched : List (Li
 abbrev pub RowsAre : World → List Change → ℕ → ℕ → File → Type 0
 RowsAre w h i s x = All (λ r. r ≡ state w h i s x.file r.block) x.rows
 
+-- each row, but for those of blocks on the list
+abbrev pub SoundRowsAre : List BlockId → World → List Change → ℕ → ℕ → File → Type 0
+SoundRowsAre damaged w h i s x = All (λ r. has_block damaged x.file r.block ≡ false → r ≡ state w h i s x.file r.block) x.rows
+
 -- the history and what is in place go together
 pub record HistoryFits (s : State) (h : List Change) : Type 0 where
   pub history : IsHistory (world s) h
   -- each change lies below the end of its incarnation
   pub below : All (λ c. c.scn < end_of (tree s) c.inc) h
-  -- each online log that is not lost agrees, and so does each datafile in place
+  -- each online log that is not lost agrees, and so does each datafile in place of which no block is damaged
   pub online : (t : ℕ) → 0 < t → t ≤ (ledger s).base.threads → is_lost s.instance.logs t ≡ false → LogAgrees h (log_of (online s t))
-  pub place : (f : ℕ) (x : File) → placed s f ≡ Some x → BaseAgrees (world s) h (base_of (counted s x))
+  pub place : (f : ℕ) (x : File) → placed s f ≡ Some x → has_file s.instance.damaged x.file ≡ false → BaseAgrees (world s) h (base_of (counted s x))
   -- the bitmaps tell the changes of the current incarnation
   pub tracker : Tell (current_of s) h (now_of s) s.instance.tracker
-  -- in an open database it has the state at `now`
-  pub in_open : s.instance.is_open ≡ true → (f : ℕ) (x : File) → placed s f ≡ Some x → RowsAre (world s) h (current_of s) (now_of s) x
+  -- in an open database it has the state at `now`, but for damaged blocks
+  pub in_open : s.instance.is_open ≡ true → (f : ℕ) (x : File) → placed s f ≡ Some x → SoundRowsAre s.instance.damaged (world s) h (current_of s) (now_of s) x
   -- and what stands at the point has the state there
   pub point : (at : ℕ) → s.instance.point ≡ Some at → (k : ℕ) (d : Datafile) (x : File) → slice_get (ledger s).files k ≡ Some d → exists (world s) (current_of s) at d ≡ true → slice_get s.instance.place k ≡ Some (Some x) → RowsAre (world s) h (current_of s) at x
 

@@ -1,5 +1,5 @@
 -- The marks that statements write, and the room for records, bytes and ids.
-use Rattle.std.specs.Prelude.{ℕ, ◌+◌, ◌&&◌, ◌++◌, nat_lt, if◌then◌else◌, Bool, Option, Some, None, List, [], ◌∷◌, length, sum_by}
+use Rattle.std.specs.Prelude.{ℕ, ◌+◌, ◌&&◌, ◌++◌, nat_lt, if◌then◌else◌, is_none, Bool, Option, Some, None, List, [], ◌∷◌, length, sum_by}
 use Rattle.rm_base.specs.declared.block.Mark.{Mark}
 use Rattle.rm_base.specs.declared.refusal.Refusal.{Refusal}
 use Rattle.rm_base.specs.declared.refusal.Refusal.TheVariants.{Rm11}
@@ -32,6 +32,10 @@ listed (Some m) = m ∷ []
 -- with these marks more
 abbrev pub with_marks : TypedCatalog → List Mark → TypedCatalog
 with_marks r marks = record r { ledger = record r.ledger { marks = r.ledger.marks ++ marks } }
+
+-- the database after the mark that comes before writes, where a statement has a DURING
+abbrev pub marked_for : {W : Type 0} → State → Option W → State
+marked_for s during = if is_none during then s else record s { catalog = with_marks s.catalog (marks_before s) }
 
 -- the catalog with the mark before a change, and one SCN further
 abbrev pub one_further : State → TypedCatalog

@@ -6,6 +6,7 @@ use Rattle.rm_history.specs.declared.world.Datafile.{Datafile}
 use Rattle.rm_history.specs.declared.world.World.{World}
 use Rattle.rm_history.specs.World.{exists}
 use Rattle.rm_report.specs.declared.line.Line.TheVariants.{Mounted}
+use Rattle.rm_machine.specs.Damage.{without_damaged}
 use Rattle.rm_machine.specs.Effect.{Outcome, done, no_effect}
 use Rattle.rm_machine.specs.declared.state.State.{State}
 use Rattle.rm_machine.specs.State.{ledger, world, current_of, now_of}
@@ -32,8 +33,9 @@ mounted s =
       };
     }
 
+-- an open database is mounted, where each datafile of which a block is damaged is lost before
 abbrev pub as_mounted : State → State
-as_mounted s = if s.instance.is_open then mounted s else s
+as_mounted s = if s.instance.is_open then mounted (without_damaged s) else s
 
 -- it mounts an open database, and leaves a mounted one as it is
 abbrev pub IsMountOutcome : State → Outcome → Type 0

@@ -1,7 +1,7 @@
 -- The nature of a statement: what it does, and by what. What is said of several forms alike is said of natures, so that each form is told once.
 use Rattle.std.specs.Prelude.{Bool, true, false}
 use Rattle.rm_lang_statement.specs.declared.command.Command.{Command}
-use Rattle.rm_lang_statement.specs.declared.command.Command.TheVariants.{CreateDatabase, CreateDatafile, Write, SwitchLogfile, ArchiveLogCurrent, Mount, OpenPlain, OpenResetlogs, Tracking, ResetDatabase, Restore, Preview, Recover, RecoverTest, RecoverCopy, Backup, BackupLogs, Crosscheck, ValidateAll, ChangeBackup, DeleteObsolete, DeleteBackup, DeleteExpired, ReportObsolete, ReportNeedBackup, ReportSchema, ListIncarnation, ListBackup, ListCopy, ListArchived, ShowAll, Dump, Retention, Parallelism, CatalogName, LoseDatafile, LoseLog, Remove, Damage, Cut, Rename}
+use Rattle.rm_lang_statement.specs.declared.command.Command.TheVariants.{CreateDatabase, CreateDatafile, Write, SwitchLogfile, ArchiveLogCurrent, Mount, OpenPlain, OpenResetlogs, Tracking, ResetDatabase, Restore, Preview, Recover, RecoverTest, RecoverCopy, Backup, BackupLogs, Crosscheck, ValidateAll, ChangeBackup, DeleteObsolete, DeleteBackup, DeleteExpired, ReportObsolete, ReportNeedBackup, ReportSchema, ListIncarnation, ListBackup, ListCopy, ListArchived, ShowAll, Dump, Retention, Parallelism, CatalogName, LoseDatafile, LoseLog, Remove, Damage, Cut, Rename, Corrupt, ListCorruption, BlockRecover}
 use Rattle.rm_machine.specs.declared.nature.Nature.{Nature}
 use Rattle.rm_machine.specs.declared.nature.Nature.TheVariants.{Changes, ChangesByHeld, Mishap, Records, TellsHeld, TellsState, TestsHeld, TriesByHeld, Unbuilt}
 
@@ -24,6 +24,7 @@ nature_of (RecoverTest until inc) = TestsHeld
 nature_of (RecoverCopy tag until) = TriesByHeld
 nature_of (Backup b) = Changes
 nature_of BackupLogs = TriesByHeld
+nature_of (BlockRecover form) = TriesByHeld
 nature_of (Crosscheck class) = ChangesByHeld
 nature_of ValidateAll = TellsHeld
 nature_of (ChangeBackup id to) = Changes
@@ -37,6 +38,7 @@ nature_of ListIncarnation = TellsState
 nature_of ListBackup = TellsState
 nature_of ListCopy = TellsState
 nature_of ListArchived = TellsState
+nature_of ListCorruption = TellsState
 nature_of ShowAll = TellsState
 nature_of (Dump file block) = TellsState
 nature_of (Retention form) = Changes
@@ -44,6 +46,7 @@ nature_of (Parallelism channels) = Changes
 nature_of (CatalogName name) = Records
 nature_of (LoseDatafile file) = Changes
 nature_of (LoseLog thread) = Changes
+nature_of (Corrupt file block) = Changes
 nature_of (Remove name) = Mishap
 nature_of (Damage name at) = Mishap
 nature_of (Cut name to) = Mishap

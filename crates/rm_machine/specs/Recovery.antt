@@ -24,6 +24,7 @@ use Rattle.rm_redo.specs.declared.log_file.LogFile.{LogFile}
 use Rattle.rm_report.specs.declared.line.Line.{Line}
 use Rattle.rm_report.specs.declared.line.Line.TheVariants.{Skipped}
 use Rattle.rm_catalog_typed.specs.TypedCatalog.{records_of}
+use Rattle.rm_machine.specs.Damage.{undamaged}
 use Rattle.rm_machine.specs.Effect.{Outcome, refused}
 use Rattle.rm_machine.specs.declared.state.State.{State}
 use Rattle.rm_machine.specs.State.{ledger, counted, online, is_lost}
@@ -37,9 +38,9 @@ abbrev pub online_logs : State → ℕ → ℕ → List LogFile
 online_logs s t zero = []
 online_logs s t (suc n) = (if is_lost s.instance.logs t then [] else online s t ∷ []) ++ online_logs s (t + 1) n
 
--- what is in place, and not lost
+-- what is in place, and not lost; a datafile of which a block is damaged counts as lost
 abbrev pub in_place : State → InPlace
-in_place s = record { files = map (counted s) (filter_map (λ o. o) s.instance.place); logs = online_logs s 1 (ledger s).base.threads }
+in_place s = record { files = map (counted s) (filter_map (λ o. o) (undamaged s.instance.damaged 1 s.instance.place)); logs = online_logs s 1 (ledger s).base.threads }
 
 -- The evidence is what is at hand: what the store has of the records that count as available, and what is in
 -- place.

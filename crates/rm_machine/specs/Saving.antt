@@ -15,6 +15,7 @@ use Rattle.rm_redo.specs.Online.{counted_as, lost_log}
 use Rattle.rm_catalog_typed.specs.Changes.{with_base, with_saved}
 use Rattle.rm_catalog_typed.specs.TypedCatalog.{TypedCatalog, Saved}
 use Rattle.rm_machine.specs.declared.state.State.{State}
+use Rattle.rm_machine.specs.Damage.{without_damaged}
 use Rattle.rm_machine.specs.Effect.{Artefact, a_log, a_piece, Made}
 use Rattle.rm_machine.specs.Machine.{Machine}
 use Rattle.rm_machine.specs.Marks.{lacks_ids}
@@ -77,11 +78,11 @@ pub record IsSavedAs (m : Machine) (s : State) (r : Rest) : Type 0 where
   pub made : r.made ≡ m.made ++ with_ids made_of (ledger s).base.next_id (parts_of s)
   pub touched : r.touched ≡ m.touched
 
--- A session that applied a list saves its site, where the ids of a save are left; each list leaves them. One that applied
--- none leaves the machine as it is.
+-- A session that applied a list saves its site, where the ids of a save are left; each list leaves them. Each datafile of which a block
+-- is damaged is lost before. One that applied none leaves the machine as it is.
 abbrev pub IsSavedBy : Option State → Machine → Rest → Type 0
 IsSavedBy None m r = r ≡ at_rest m
-IsSavedBy (Some s) m r = MatchBool (lacks_ids s 0) (r ≡ at_rest m) (IsSavedAs m s r)
+IsSavedBy (Some s) m r = MatchBool (lacks_ids s 0) (r ≡ at_rest m) (IsSavedAs m (without_damaged s) r)
 
 abbrev pub a_log_kept : ThreadLog → ThreadLog
 a_log_kept l = if l.is_lost then lost_log else l

@@ -12,6 +12,7 @@ use Rattle.rm_redo.specs.LogFormat.{IsLogFile}
 use Rattle.rm_catalog_typed.specs.Facts.{IsTypedCatalog}
 use Rattle.rm_machine.specs.declared.state.State.{State}
 use Rattle.rm_machine.specs.State.{ledger, tree, world, current_of, now_of, counted, online, is_lost}
+use Rattle.rm_machine.specs.Damage.{AreDamaged}
 use Rattle.rm_machine.specs.Tracked.{AreTracked}
 
 -- the version is that of a change, and the content has 64 bytes
@@ -72,6 +73,7 @@ pub record IsSound (s : State) : Type 0 where
   pub dbid : (ledger s).base.dbid < 2 ^ 32
   pub place : ArePlaced s
   pub logs : AreOnline s
+  pub damaged : AreDamaged s
   pub tracker : AreTracked s
   pub in_open : s.instance.is_open ≡ true → IsOpen s
   pub point : (at : ℕ) → s.instance.point ≡ Some at → IsPoint s at

@@ -6,17 +6,20 @@ use Rattle.rm_base.specs.declared.kinds.Class.TheVariants as class
 use Rattle.rm_base.specs.declared.refusal.Refusal.{Refusal}
 use Rattle.rm_base.specs.declared.refusal.Refusal.TheVariants.{Rm02, Rm03}
 use Rattle.rm_lang_statement.specs.declared.command.Command.{Command}
-use Rattle.rm_lang_statement.specs.declared.command.Command.TheVariants.{ArchiveLogCurrent, Backup, BackupLogs, CatalogName, ChangeBackup, CreateDatabase, CreateDatafile, Crosscheck, Cut, Damage, DeleteBackup, DeleteExpired, DeleteObsolete, Dump, ListArchived, ListBackup, ListCopy, ListIncarnation, LoseDatafile, LoseLog, Mount, OpenPlain, OpenResetlogs, Parallelism, Preview, Recover, RecoverCopy, RecoverTest, Remove, Rename, ReportNeedBackup, ReportObsolete, ReportSchema, ResetDatabase, Restore, Retention, ShowAll, SwitchLogfile, Tracking, ValidateAll, Write}
+use Rattle.rm_lang_statement.specs.declared.command.Command.TheVariants.{ArchiveLogCurrent, Backup, BackupLogs, BlockRecover, CatalogName, ChangeBackup, Corrupt, CreateDatabase, CreateDatafile, Crosscheck, Cut, Damage, DeleteBackup, DeleteExpired, DeleteObsolete, Dump, ListArchived, ListBackup, ListCopy, ListCorruption, ListIncarnation, LoseDatafile, LoseLog, Mount, OpenPlain, OpenResetlogs, Parallelism, Preview, Recover, RecoverCopy, RecoverTest, Remove, Rename, ReportNeedBackup, ReportObsolete, ReportSchema, ResetDatabase, Restore, Retention, ShowAll, SwitchLogfile, Tracking, ValidateAll, Write}
 use Rattle.rm_lang_statement.specs.IsCommand.{is_command}
 use Rattle.rm_report.specs.Reply as reply
 use Rattle.rm_report.specs.declared.line.Reply.{Reply}
 use Rattle.rm_machine.specs.Archive.{archive_all_refusal, IsArchiveOutcome}
-use Rattle.rm_machine.specs.Asked.{writes_in}
+use Rattle.rm_machine.specs.Asked.{asked, writes_in}
 use Rattle.rm_machine.specs.BackupOutcome.{IsBackupOutcome}
 use Rattle.rm_machine.specs.BackupRefusal.{backup_refusal}
 use Rattle.rm_machine.specs.BackupLogs.{IsBackupLogsOutcome}
+use Rattle.rm_machine.specs.BlockRecover.{IsBlockRecoverOutcome}
+use Rattle.rm_machine.specs.BlockRecoverRefusal.{repair_refusal}
 use Rattle.rm_machine.specs.CatalogName.{IsCatalogOutcome}
 use Rattle.rm_machine.specs.Configure.{parallelism_refusal, retention_refusal, IsParallelismOutcome, IsRetentionOutcome}
+use Rattle.rm_machine.specs.Corrupt.{corrupt_refusal, IsCorruptOutcome, IsCorruptionOutcome}
 use Rattle.rm_machine.specs.CreateDatabase.{IsCreateOutcome}
 use Rattle.rm_machine.specs.CreateDatafile.{datafile_refusal, IsDatafileOutcome}
 use Rattle.rm_machine.specs.Mishaps.{IsCutOutcome, IsDamageOutcome, IsRemoveOutcome, IsRenameOutcome}
@@ -35,6 +38,7 @@ use Rattle.rm_machine.specs.OpenResetlogs.{resetlogs_refusal, IsResetlogsOutcome
 use Rattle.rm_machine.specs.Recover.{BringsTruly, IsRecoverOutcome, recover_refusal}
 use Rattle.rm_machine.specs.RecoverCopy.{recover_copy_refusal, IsRecoverCopyOutcome}
 use Rattle.rm_machine.specs.RecoverTest.{IsTestOutcome, TellsTruly, test_refusal}
+use Rattle.rm_machine.specs.Repair.{RepairsTruly}
 use Rattle.rm_machine.specs.ResetDatabase.{reset_refusal, IsResetOutcome}
 use Rattle.rm_machine.specs.Restore.{preview_refusal, restore_refusal, IsPreviewOutcome, IsRestoreOutcome}
 use Rattle.rm_machine.specs.Saved.{saved_names}
@@ -51,6 +55,7 @@ use Rattle.rm_machine.specs.Write.{write_refusal, IsWriteOutcome}
 abbrev pub HasContent : Command → Type 0
 HasContent (Write w) = length w.content.0 ≡ 64
 HasContent (Backup b) = All (λ w. length w.content.0 ≡ 64) (writes_in b)
+HasContent (BlockRecover form) = All (λ w. length w.content.0 ≡ 64) (asked form.during)
 HasContent _ = Unit {0}
 
 -- the command is a statement of the grammar
@@ -67,6 +72,7 @@ refusal_of s (SwitchLogfile t) = switch_refusal s t
 refusal_of s ArchiveLogCurrent = archive_all_refusal s
 refusal_of s (Backup b) = backup_refusal s b
 refusal_of s BackupLogs = None
+refusal_of s (BlockRecover form) = repair_refusal s form
 refusal_of s Mount = ids_refusal s
 refusal_of s OpenPlain = open_refusal s
 refusal_of s OpenResetlogs = resetlogs_refusal s
@@ -85,6 +91,7 @@ refusal_of s (Retention form) = retention_refusal s form
 refusal_of s (Parallelism channels) = parallelism_refusal s channels
 refusal_of s (LoseDatafile f) = lose_refusal s f
 refusal_of s (LoseLog t) = lose_log_refusal s t
+refusal_of s (Corrupt f b) = corrupt_refusal s f b
 refusal_of s (Remove name) = ids_refusal s
 refusal_of s (Damage name at) = ids_refusal s
 refusal_of s (Cut name to) = ids_refusal s
@@ -98,6 +105,7 @@ refusal_of s ListIncarnation = None
 refusal_of s ListBackup = None
 refusal_of s ListCopy = None
 refusal_of s ListArchived = None
+refusal_of s ListCorruption = None
 refusal_of s ShowAll = None
 refusal_of s (CatalogName name) = None
 
@@ -110,6 +118,7 @@ IsDone s held (SwitchLogfile t) o = IsSwitchOutcome s t o
 IsDone s held ArchiveLogCurrent o = IsArchiveOutcome s o
 IsDone s held (Backup b) o = IsBackupOutcome s b o
 IsDone s held BackupLogs o = IsBackupLogsOutcome s held o
+IsDone s held (BlockRecover form) o = IsBlockRecoverOutcome s held form o
 IsDone s held Mount o = IsMountOutcome s o
 IsDone s held OpenPlain o = IsOpenOutcome s o
 IsDone s held OpenResetlogs o = IsResetlogsOutcome s o
@@ -131,12 +140,14 @@ IsDone s held ListIncarnation o = IsListIncarnationOutcome s o
 IsDone s held ListBackup o = IsListOutcome s class.Backup o
 IsDone s held ListCopy o = IsListOutcome s class.Copy o
 IsDone s held ListArchived o = IsListOutcome s class.Archived o
+IsDone s held ListCorruption o = IsCorruptionOutcome s o
 IsDone s held ReportSchema o = IsSchemaOutcome s o
 IsDone s held ShowAll o = IsShowOutcome s o
 IsDone s held (Retention form) o = IsRetentionOutcome s form o
 IsDone s held (Parallelism channels) o = IsParallelismOutcome s channels o
 IsDone s held (LoseDatafile f) o = IsLoseOutcome s f o
 IsDone s held (LoseLog t) o = IsLoseLogOutcome s t o
+IsDone s held (Corrupt f b) o = IsCorruptOutcome s f b o
 IsDone s held (Remove name) o = IsRemoveOutcome s held name o
 IsDone s held (Damage name at) o = IsDamageOutcome s held name at o
 IsDone s held (Cut name to) o = IsCutOutcome s held name to o
@@ -182,6 +193,7 @@ names_in (RecoverTest until inc) = []
 names_in (RecoverCopy tag until) = []
 names_in (Backup b) = []
 names_in BackupLogs = []
+names_in (BlockRecover form) = []
 names_in (Crosscheck class) = []
 names_in ValidateAll = []
 names_in (ChangeBackup id to) = []
@@ -195,6 +207,7 @@ names_in ListIncarnation = []
 names_in ListBackup = []
 names_in ListCopy = []
 names_in ListArchived = []
+names_in ListCorruption = []
 names_in ShowAll = []
 names_in (Dump file block) = []
 names_in (Retention form) = []
@@ -202,6 +215,7 @@ names_in (Parallelism channels) = []
 names_in (CatalogName name) = []
 names_in (LoseDatafile file) = []
 names_in (LoseLog thread) = []
+names_in (Corrupt file block) = []
 
 -- What is known of an outcome beyond that, from the state on which the statement acts: what a recovery brings back or tells is what the
 -- history made, and what a deletion by the policy leaves keeps each target of the window.
@@ -210,6 +224,7 @@ Means None h held c o after = Unit {0}
 Means (Some s) h held (Recover until) (done lines effect t) after = BringsTruly h s until t
 Means (Some s) h held (RecoverTest until inc) (told lines) after = TellsTruly h s until inc lines
 Means (Some s) h held DeleteObsolete (done lines effect t) after = IsSafe s held t after
+Means (Some s) h held (BlockRecover form) (done lines effect t) after = RepairsTruly h s form effect t
 Means (Some s) h held (CreateDatabase dbid threads scn) o after = Unit {0}
 Means (Some s) h held (CreateDatafile blocks) o after = Unit {0}
 Means (Some s) h held (Write w) o after = Unit {0}
@@ -229,6 +244,8 @@ Means (Some s) h held (RecoverTest until inc) (refused r) after = Unit {0}
 Means (Some s) h held (RecoverCopy tag until) o after = Unit {0}
 Means (Some s) h held (Backup b) o after = Unit {0}
 Means (Some s) h held BackupLogs o after = Unit {0}
+Means (Some s) h held (BlockRecover form) (told lines) after = Unit {0}
+Means (Some s) h held (BlockRecover form) (refused r) after = Unit {0}
 Means (Some s) h held (Crosscheck class) o after = Unit {0}
 Means (Some s) h held ValidateAll o after = Unit {0}
 Means (Some s) h held (ChangeBackup id to) o after = Unit {0}
@@ -243,6 +260,7 @@ Means (Some s) h held ListIncarnation o after = Unit {0}
 Means (Some s) h held ListBackup o after = Unit {0}
 Means (Some s) h held ListCopy o after = Unit {0}
 Means (Some s) h held ListArchived o after = Unit {0}
+Means (Some s) h held ListCorruption o after = Unit {0}
 Means (Some s) h held ShowAll o after = Unit {0}
 Means (Some s) h held (Dump file block) o after = Unit {0}
 Means (Some s) h held (Retention form) o after = Unit {0}
@@ -250,6 +268,7 @@ Means (Some s) h held (Parallelism channels) o after = Unit {0}
 Means (Some s) h held (CatalogName name) o after = Unit {0}
 Means (Some s) h held (LoseDatafile file) o after = Unit {0}
 Means (Some s) h held (LoseLog thread) o after = Unit {0}
+Means (Some s) h held (Corrupt file block) o after = Unit {0}
 Means (Some s) h held (Remove name) o after = Unit {0}
 Means (Some s) h held (Damage name at) o after = Unit {0}
 Means (Some s) h held (Cut name to) o after = Unit {0}

@@ -1,5 +1,5 @@
 -- The bitmaps of an open database in which changes are tracked: which they are at its opening, and what is true of them.
-use Rattle.std.specs.Prelude.{ℕ, ◌≡◌, ◌≤◌, ◌<◌, ◌+◌, ◌&&◌, if◌then◌else◌, Bool, false, Some, List, [], ◌∷◌, All, Contains, length}
+use Rattle.std.specs.Prelude.{ℕ, ◌≡◌, ◌≤◌, ◌<◌, ◌+◌, ◌&&◌, if◌then◌else◌, Bool, true, false, Some, IsSome, List, [], ◌∷◌, All, Contains, length}
 use Rattle.rm_history.specs.declared.world.Datafile.{Datafile}
 use Rattle.rm_history.specs.declared.world.World.{World}
 use Rattle.rm_history.specs.Tree.{end_of, reset_of}
@@ -8,7 +8,7 @@ use Rattle.rm_track.specs.Bitmaps.{Bitmap, Tracked, fresh, switch_at, tracked_at
 use Rattle.rm_track.specs.Told.{starts}
 use Rattle.rm_catalog_typed.specs.Ledger.{Ledger}
 use Rattle.rm_machine.specs.declared.state.State.{State}
-use Rattle.rm_machine.specs.State.{ledger, tree, world, world_of, current_of, now_of}
+use Rattle.rm_machine.specs.State.{ledger, tree, world, world_of, current_of, now_of, on_path}
 
 -- of these datafiles, the first of number f, those that exist at (i, start), each tracked from `start` on
 abbrev pub fresh_from : World → ℕ → ℕ → ℕ → List Datafile → List Tracked
@@ -47,7 +47,9 @@ pub record IsTracked (s : State) (f : ℕ) (t : Tracked) : Type 0 where
   pub begun : t.start ≤ now_of s
   pub kept : (low : ℕ) → Contains (starts t) low → IsStart s f low
 
--- where changes are not tracked there are no bitmaps, and else those that are there could be so
+-- Where changes are not tracked there are no bitmaps, and else each datafile of the current path is tracked. Those that are there could
+-- be so.
 pub record AreTracked (s : State) : Type 0 where
   pub idle : tracks s.instance.is_open (ledger s) ≡ false → s.instance.tracker ≡ []
+  pub full : tracks s.instance.is_open (ledger s) ≡ true → (f : ℕ) (d : Datafile) → on_path s f ≡ Some d → IsSome (tracked_at s.instance.tracker f)
   pub each : (f : ℕ) (t : Tracked) → tracked_at s.instance.tracker f ≡ Some t → IsTracked s f t

@@ -4,7 +4,7 @@ use Rattle.std.specs.Option.{option_map, option_map_or}
 use Rattle.rm_base.specs.Numbers.{last_scn}
 use Rattle.rm_base.specs.declared.block.Change.{Change}
 use Rattle.rm_base.specs.declared.refusal.Refusal.{Refusal}
-use Rattle.rm_base.specs.declared.refusal.Refusal.TheVariants.{Rm04, Rm05, Rm09, Rm11, Rm15}
+use Rattle.rm_base.specs.declared.refusal.Refusal.TheVariants.{Rm04, Rm05, Rm09, Rm11, Rm15, Rm17}
 use Rattle.rm_base.specs.declared.refusal.Absent.TheVariants.{Thread, File, Block}
 use Rattle.rm_base.specs.declared.refusal.Limit.TheVariants.{Records, ObjectIds, LogRecords}
 use Rattle.rm_blocks.specs.File.{written}
@@ -14,6 +14,7 @@ use Rattle.rm_track.specs.Bitmaps.{mark_at}
 use Rattle.rm_lang_statement.specs.declared.command.WriteForm.{WriteForm}
 use Rattle.rm_report.specs.declared.line.Line.TheVariants.{Written}
 use Rattle.rm_machine.specs.Effect.{Outcome, done, no_effect}
+use Rattle.rm_machine.specs.Damage.{has_block}
 use Rattle.rm_machine.specs.Marks.{lacks_ids, lacks_room, marks_before, one_further}
 use Rattle.rm_machine.specs.declared.state.State.{State}
 use Rattle.rm_machine.specs.State.{ledger, current_of, now_of, on_path, placed}
@@ -27,6 +28,7 @@ block_refusal s w d =
     else if lacks_ids s 0 then Some (Rm11 ObjectIds)
     else if nat_le 65536 (length (thread_records s.instance.logs w.thread)) then Some (Rm11 LogRecords)
     else if nat_le last_scn (now_of s) then Some Rm15
+    else if has_block s.instance.damaged w.file w.block then Some (Rm17 w.file w.block)
     else None
 
 -- why it is refused in an open database

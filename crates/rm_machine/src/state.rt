@@ -1,5 +1,5 @@
 //! A database as it is at hand: its catalog, and what runs. Nothing stands in both.
-use rm_base::{Scn, Seq};
+use rm_base::{BlockId, Scn, Seq};
 use rm_blocks::DataFile;
 use rm_catalog_typed::TypedCatalog;
 use rm_redo::OnlineLogs;
@@ -17,6 +17,8 @@ pub struct Instance {
     pub place: Seq<Option<DataFile>>,
     /// The online logs; each may be lost.
     pub logs: OnlineLogs,
+    /// The blocks in place that are damaged, ascending by datafile and block; none where the database is mounted.
+    pub damaged: Seq<BlockId>,
     /// The bitmaps of the datafiles, where the database is open and changes are tracked; else none.
     pub tracker: Tracker,
 }

@@ -51,6 +51,7 @@ use Rattle.rm_machine_code.proofs.BackupMarks.{count-marked, marked-same, sound-
 use Rattle.rm_machine_code.proofs.PiecesRead.{AreAll, BeginsBelow, IsCheckpoint, blocks-by}
 use Rattle.rm_machine_code.proofs.Deeds.{AllOf, WereRead, all-of, are-asked, are-read}
 use Rattle.rm_machine_code.proofs.Walk.{AreAsked, CanGoOn, HasWalked, events-same, walk}
+use Rattle.rm_machine_code.proofs.Damaged.{damaged-same}
 
 -- The datafiles of a BACKUP
 
@@ -89,6 +90,7 @@ sound-tracker q ts is tracked = record {
   dbid = is.dbid;
   place = record { many = is.place.many; each = is.place.each };
   logs = record { dbid = is.logs.dbid; there = is.logs.there; threads = is.logs.threads; each = is.logs.each };
+  damaged = damaged-same q (with_tracker q ts) is.damaged;
   tracker = tracked;
   in_open = λ opened. let was = is.in_open opened in record { inc = was.inc; found = was.found; point = was.point };
   point = λ at here. let was = is.point at here in record { low = was.low; high = was.high; stands = was.stands };

@@ -1,5 +1,5 @@
 -- A BACKUP that was not refused.
-use Rattle.std.proofs.Common.{◌≡◌, ◌<◌, ◌≤◌, ◌+◌, ◌==◌, ◌||◌, inl, inr, ℕ, zero, suc, List, [], ◌∷◌, Option, Some, None, true, false, cond, is_none, nat_le, nat_lt, refl, subst, arith, length, All, rules}
+use Rattle.std.proofs.Common.{◌≡◌, ◌<◌, ◌≤◌, ◌+◌, ◌==◌, ◌||◌, inl, inr, ℕ, zero, suc, List, [], ◌∷◌, Option, Some, None, true, false, cond, is_none, nat_le, nat_lt, refl, subst, arith, length, sum_by, All, rules}
 use Rattle.std.specs.Option.{option_map_or}
 use Rattle.std.proofs.lemmas.Bool.{cases_eq, leb-false, ltb-false, or_parts}
 use Rattle.std.proofs.lemmas.List.Elements.{All-cons, All-nil}
@@ -7,7 +7,8 @@ use Rattle.rm_base.specs.Numbers.{last_scn}
 use Rattle.rm_base.specs.declared.refusal.Absent.{Absent}
 use Rattle.rm_base.specs.declared.refusal.Absent.TheVariants.{Thread, File as AbsentFile, Block}
 use Rattle.rm_base.specs.declared.refusal.Refusal.{Refusal}
-use Rattle.rm_base.specs.declared.refusal.Refusal.TheVariants.{Rm05, Rm09}
+use Rattle.rm_base.specs.declared.refusal.Limit.TheVariants.{Bytes, LogRecords, ObjectIds, Records}
+use Rattle.rm_base.specs.declared.refusal.Refusal.TheVariants.{Rm05, Rm09, Rm11, Rm15}
 use Rattle.rm_base.proofs.Conditions.{not-none, only-where, unless}
 use Rattle.rm_blocks.specs.File.{File}
 use Rattle.rm_history.specs.declared.world.Datafile.{Datafile}
@@ -16,15 +17,16 @@ use Rattle.rm_catalog_typed.specs.Ledger.{ledger_records}
 use Rattle.rm_redo.specs.Online.{thread_records as log_records}
 use Rattle.rm_lang_statement.specs.declared.command.BackupForm.{BackupForm}
 use Rattle.rm_lang_statement.specs.declared.command.WriteForm.{WriteForm}
-use Rattle.rm_machine.specs.Backup.{absent, lost_taken, taken as taken_by}
+use Rattle.rm_machine.specs.Backup.{absent, lost_taken, piece_bytes, taken as taken_by}
+use Rattle.rm_machine.specs.Marks.{lacks_bytes, lacks_ids, lacks_room}
 use Rattle.rm_machine.specs.Sound.{IsSound}
 use Rattle.rm_machine.specs.declared.state.State.{State}
 use Rattle.rm_machine.specs.State.{ledger, world, current_of, now_of, on_path, placed}
 use Rattle.rm_machine_code.proofs.Backups.{IsTaken, taken-all}
 use Rattle.rm_machine_code.proofs.Further.{roomy}
-use Rattle.rm_machine_code.proofs.Writes.{on-path}
+use Rattle.rm_machine_code.proofs.Tracked.{on-path}
 use Rattle.rm_machine.specs.Asked.{by_thread, writes_in}
-use Rattle.rm_machine.specs.BackupRefusal.{absent_in, absent_of, backup_refusal, lacks_log, lacks_logs, lost_of, mark_count, room_refusal}
+use Rattle.rm_machine.specs.BackupRefusal.{absent_in, absent_of, backup_refusal, damage_refusal, lacks_log, lacks_logs, lost_of, mark_count, room_refusal}
 use Rattle.rm_machine_code.proofs.Switching.{thread-of}
 
 -- a write finds its thread, its block, and its datafile in place
@@ -45,6 +47,7 @@ pub record CanBackUp (s : State) (b : BackupForm) : Type 0 where
   pub writes : All (CanBeWritten s) (writes_in b)
   pub logs : (t : ℕ) → 0 < t → t ≤ (ledger s).base.threads → length (log_records s.instance.logs t) + length (by_thread t (writes_in b)) ≤ 65536
   pub scns : now_of s + length (writes_in b) ≤ last_scn
+  pub clean : damage_refusal s b ≡ None
 
 -- What a write names
 
@@ -86,7 +89,7 @@ with-file s w is found =
     let file = not-none (placed s w.file) found in
     record { thread = is.thread; datafile = is.datafile; is = is.is; here = is.here; block = is.block; file = file.0; stands = file.1 }
 
-writes-can : (s : State) (ws : List WriteForm) → absent_of s ws ≡ None → lost_of s ws ≡ None → All (CanBeWritten s) ws
+pub writes-can : (s : State) (ws : List WriteForm) → absent_of s ws ≡ None → lost_of s ws ≡ None → All (CanBeWritten s) ws
 writes-can s [] there found = All-nil (CanBeWritten s)
 writes-can s (w ∷ ws) there found =
     let first = first-none (absent_in s w) (absent_of s ws) there in
@@ -107,7 +110,7 @@ logs-have s ws t (suc n) none u low high =
 
 -- Why it was not refused
 
-unless-some : {X : Type 0} (r : X → Refusal) (o : Option X) (other : Option Refusal) → option_map_or (λ x. Some (r x)) o other ≡ None → (o ≡ None) × (other ≡ None)
+pub unless-some : {X : Type 0} (r : X → Refusal) (o : Option X) (other : Option Refusal) → option_map_or (λ x. Some (r x)) o other ≡ None → (o ≡ None) × (other ≡ None)
 unless-some r None other is = (refl, is)
 unless-some r (Some x) other is = absurd (let e : Some (r x) ≡ None = is in cc)
 
@@ -120,6 +123,11 @@ can-back_up s b sound is =
     let found = unless-some (λ f. Rm09 f) (lost_taken s b) _ names.1 in
     let held = unless-some (λ f. Rm09 f) (lost_of s ws) _ found.1 in
     let rest : room_refusal s b ≡ None = held.1 in
+    let more = unless (lacks_room s (length (taken_by s b) + mark_count s b)) (Rm11 Records) _ rest in
+    let bytes = unless (lacks_bytes s (sum_by (piece_bytes s) (taken_by s b))) (Rm11 Bytes) _ more.1 in
+    let numbers = unless (lacks_ids s (length (taken_by s b))) (Rm11 ObjectIds) _ bytes.1 in
+    let kept = unless (lacks_logs s ws 1 (ledger s).base.threads) (Rm11 LogRecords) _ numbers.1 in
+    let clean : damage_refusal s b ≡ None = (unless (nat_lt last_scn (now_of s + length ws)) Rm15 _ kept.1).1 in
     record {
       opened = mode.0;
       taken = taken-all s b found.0;
@@ -128,4 +136,5 @@ can-back_up s b sound is =
       writes = writes-can s ws names.0 held.0;
       logs = λ t low high. ltb-false 65536 (length (log_records s.instance.logs t) + length (by_thread t ws)) (logs-have s ws 1 (ledger s).base.threads (search rules) t (omega (arith, low)) (omega (arith, high)));
       scns = search rules;
+      clean = clean;
     }

@@ -39,6 +39,7 @@ use Rattle.rm_machine_code.proofs.Places.{counted-closed, counted-open}
 use Rattle.rm_machine_code.proofs.Standing.{each-in}
 use Rattle.rm_machine_code.proofs.Switching.{not-above}
 use Rattle.rm_machine_code.proofs.Tracked.{tracked-later}
+use Rattle.rm_machine_code.proofs.Damaged.{damaged-later}
 
 -- The end of an incarnation rises
 
@@ -108,7 +109,8 @@ module _ (s : State) (sound : IsSound s) (j end : ℕ) (there : IsThere (tree s)
     dbid = sound.dbid;
     place = record { many = sound.place.many; each = λ k d x file is. placed-risen k d x (sound.place.each k d x file is) };
     logs = record { dbid = sound.logs.dbid; there = keeps.there s.instance.logs.inc sound.logs.there; threads = sound.logs.threads; each = online-risen };
-    tracker = tracked-later s risen sound.catalog.ledger.current keeps sound.tracker;
+    damaged = damaged-later s risen sound.catalog keeps sound.damaged;
+    tracker = tracked-later s risen sound.catalog keeps sound.tracker;
     in_open = λ opened. let was = sound.in_open opened in record { inc = was.inc; found = was.found; point = was.point };
     point = λ at is. point-risen at (sound.point at is);
   }

@@ -62,7 +62,7 @@ of-thread ws t j has =
     subst (λ (k : WriteJob). Contains ws (write_form t k.file k.block k.content)) from.is
     (subst (λ n. Contains ws (write_form n from.item.file from.item.block from.item.content)) (eqb-true from.item.thread t both.1) both.0)
 
-writes-asked : (ws : List WriteForm) (t n : ℕ) (scns : List (List ℕ)) (d : Deed) → Contains (wrote_of t (lists_from t n ws) (map (map Ok) scns)) d → Asked ws d
+pub writes-asked : (ws : List WriteForm) (t n : ℕ) (scns : List (List ℕ)) (d : Deed) → Contains (wrote_of t (lists_from t n ws) (map (map Ok) scns)) d → Asked ws d
 writes-asked ws t zero scns d has = absurd (none-in d has)
 writes-asked ws t (suc n) [] d has = absurd (none-in d has)
 writes-asked ws t (suc n) (one ∷ scns) d has = elim (Contains-append_cases (wrote t (by_thread t ws) (map Ok one)) (wrote_of (suc t) (lists_from (suc t) n ws) (map (map Ok) scns)) d has) [
@@ -77,14 +77,14 @@ deeds-asked ws n spans rows scns d has = elim (Contains-append_cases (found_of s
 ]
 
 -- what a list has is counted, and what is counted it has
-counted : (p : Deed → Bool) (ds : List Deed) (d : Deed) → Contains ds d → p d ≡ true → 1 ≤ total (λ x. one_if (p x)) ds
+pub counted : (p : Deed → Bool) (ds : List Deed) (d : Deed) → Contains ds d → p d ≡ true → 1 ≤ total (λ x. one_if (p x)) ds
 counted p [] d has is = absurd (none-in d has)
 counted p (x ∷ xs) d has is = elim (first-or-rest x xs d has) [
   | inl same ↦ let one : one_if (p x) ≡ 1 = ap one_if (ap p same ∙ is) in omega (arith, one)
   | inr rest ↦ let more = counted p xs d rest is in omega (arith, more)
 ]
 
-had : (p : Deed → Bool) (ds : List Deed) → 1 ≤ total (λ x. one_if (p x)) ds → (d : Deed) × Contains ds d × (p d ≡ true)
+pub had : (p : Deed → Bool) (ds : List Deed) → 1 ≤ total (λ x. one_if (p x)) ds → (d : Deed) × Contains ds d × (p d ≡ true)
 had p [] some = absurd (omega (arith, some))
 had p (x ∷ xs) some = elim (cases_Bool (p x)) [
   | inl is ↦ (x, in-front x xs, is)
@@ -127,7 +127,7 @@ are-asked ws n spans rows scns es these = asked-all ws es (these-asked ws _ (map
 
 -- Reads
 
-abbrev same_row : Row → Row → Bool
+abbrev pub same_row : Row → Row → Bool
 same_row q r = (q.block == r.block) && ((q.version == r.version) && bytes_eq q.content.0 r.content.0)
 
 abbrev is_read : ℕ → ℕ → Call → Bool
@@ -144,7 +144,7 @@ has_found r (Mended made) = false
 abbrev is_reading : ℕ → ℕ → Row → Deed → Bool
 is_reading f b r d = is_read f b d.0 && has_found r d.1
 
-row-same : (q r : Row) → same_row q r ≡ true → q ≡ r
+pub row-same : (q r : Row) → same_row q r ≡ true → q ≡ r
 row-same q r is =
     let block = and_parts (q.block == r.block) ((q.version == r.version) && bytes_eq q.content.0 r.content.0) is in
     let rest = and_parts (q.version == r.version) (bytes_eq q.content.0 r.content.0) block.1 in

@@ -8,6 +8,7 @@ use Rattle.rm_machine.specs.declared.state.State.{State}
 use Rattle.rm_machine.specs.State.{ledger, tree}
 use Rattle.rm_machine_code.proofs.Places.{counted-closed}
 use Rattle.rm_machine_code.proofs.Tracked.{tracked-same}
+use Rattle.rm_machine_code.proofs.Damaged.{damaged-none}
 
 -- the database with this in place, at this point
 abbrev pub exchanged : State → Option ℕ → List (Option File) → State
@@ -30,6 +31,7 @@ module _ (s : State) (point : Option ℕ) (place : List (Option File)) (sound : 
       ]);
     };
     logs = record { dbid = sound.logs.dbid; there = sound.logs.there; threads = sound.logs.threads; each = sound.logs.each };
+    damaged = damaged-none (exchanged s point place) (sound.damaged.idle closed);
     tracker = tracked-same s (exchanged s point place) sound.tracker;
     in_open = λ opened. absurd (both_ways s.instance.is_open closed opened);
     point = at_point;

@@ -20,6 +20,7 @@ use Rattle.rm_catalog_typed.specs.LedgerFacts.{IsCreated}
 use Rattle.rm_catalog_typed.proofs.Lookups.{item-at}
 use Rattle.rm_piece.specs.Valid.{IsBefore, IsRow}
 use Rattle.rm_catalog_typed.specs.TypedCatalog.{records_of}
+use Rattle.rm_machine.specs.Damage.{undamaged}
 use Rattle.rm_machine.specs.Recovery.{IsAtHand, in_place}
 use Rattle.rm_machine.specs.Sound.{IsPlaced, IsPlacedRow, IsSound}
 use Rattle.rm_machine.specs.declared.state.State.{State}
@@ -27,6 +28,7 @@ use Rattle.rm_machine.specs.State.{ledger, tree, counted, online, is_lost}
 use Rattle.rm_machine_code.proofs.AtHand.{online-in}
 use Rattle.rm_machine_code.proofs.Records.{tree-told}
 use Rattle.rm_machine_code.proofs.Standing.{at-place, each-in, present-in}
+use Rattle.rm_machine_code.proofs.Undamaged.{undamaged-at}
 
 -- blocks in order ascend
 pub ascends : (rows : List Row) → IsInOrder rows → AllPairs IsBefore rows
@@ -77,9 +79,11 @@ pub place-fits : (s : State) → IsSound s → FitsPlace (records_of s.catalog) 
 place-fits s sound = record {
   files = subst (λ ns. All (λ x. FitsPiece ns (placed_piece (ledger s).base.dbid x)) (in_place s).files) (sym (tree-told s.catalog))
       (each-in (λ x. FitsPiece (tree s) (placed_piece (ledger s).base.dbid x)) (in_place s).files (λ x has.
-      let file = map_from (counted s) (filter_map (λ o. o) s.instance.place) x has in
-      let at = present-in s.instance.place file.item file.held in
-      subst (λ y. FitsPiece (tree s) (placed_piece (ledger s).base.dbid y)) file.is (stands-valid s sound at.0 file.item at.1)));
+      let place = undamaged s.instance.damaged 1 s.instance.place in
+      let file = map_from (counted s) (filter_map (λ o. o) place) x has in
+      let at = present-in place file.item file.held in
+      let was = undamaged-at s.instance.damaged 1 s.instance.place at.0 file.item at.1 in
+      subst (λ y. FitsPiece (tree s) (placed_piece (ledger s).base.dbid y)) file.is (stands-valid s sound at.0 file.item was.0)));
   logs = subst (λ ns. All (FitsLog ns) (in_place s).logs) (sym (tree-told s.catalog))
       (each-in (FitsLog (tree s)) (in_place s).logs (λ a has.
       let found = online-in s 1 (ledger s).base.threads a has in

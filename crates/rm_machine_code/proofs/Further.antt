@@ -20,6 +20,7 @@ use Rattle.rm_machine_code.proofs.FurtherLogs.{log-further}
 use Rattle.rm_machine_code.proofs.Places.{counted-open}
 use Rattle.rm_machine_code.proofs.BackupMarks.{marks-fit}
 use Rattle.rm_machine_code.proofs.Tracked.{tracked-later}
+use Rattle.rm_machine_code.proofs.Damaged.{damaged-later}
 
 -- so many records are not too many
 pub roomy-either : (n total : ℕ) → (nat_lt 0 n && nat_lt 65536 total) ≡ false → (n ≡ 0) ⊎ (total ≤ 65536)
@@ -120,7 +121,8 @@ module _ (s : State) (sound : IsSound s) (on : GoesOn s) where
           each = λ k d x file held. subst (IsPlaced tree k d) (sym (counted-open q x on.opened)) (placed-further k d x (subst (IsPlaced old k d) (counted-open s x on.opened) (sound.place.each k d x file held)));
         };
         logs = record { dbid = sound.logs.dbid; there = keeps-further.there s.instance.logs.inc sound.logs.there; threads = sound.logs.threads; each = online-further };
-        tracker = tracked-later s q there keeps-further sound.tracker;
+        damaged = damaged-later s q sound.catalog keeps-further sound.damaged;
+        tracker = tracked-later s q sound.catalog keeps-further sound.tracker;
         in_open = λ _. record { inc = opened.inc; found = opened.found; point = opened.point };
         point = λ n is. absurd (let none = opened.point in cc);
       }

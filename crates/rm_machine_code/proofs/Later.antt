@@ -18,6 +18,7 @@ use Rattle.rm_machine.specs.State.{at_moment, ledger}
 use Rattle.rm_machine.specs.Upkeep.{with_catalog}
 use Rattle.rm_machine_code.proofs.Kept.{StandOn, kept-on, names-of, stand-same}
 use Rattle.rm_machine_code.proofs.Tracked.{tracked-same}
+use Rattle.rm_machine_code.proofs.Damaged.{damaged-same}
 
 -- other records, with the facts on which what runs rests
 abbrev pub resting : State → TypedCatalog → TypedCatalog
@@ -40,6 +41,7 @@ module _ (s : State) (r : TypedCatalog) (rules : IsTypedCatalog (resting s r)) w
     dbid = is.dbid;
     place = record { many = is.place.many; each = is.place.each };
     logs = record { dbid = is.logs.dbid; there = is.logs.there; threads = is.logs.threads; each = is.logs.each };
+    damaged = damaged-same s rested is.damaged;
     tracker = tracked-same s rested is.tracker;
     in_open = λ opened. let was = is.in_open opened in record { inc = was.inc; found = was.found; point = was.point };
     point = λ at here. let was = is.point at here in record { low = was.low; high = was.high; stands = was.stands };

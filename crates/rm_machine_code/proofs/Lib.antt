@@ -8,12 +8,16 @@ pub mod BackupMarks
 pub mod Backups
 pub mod BranchesSound
 pub mod Branching
+pub mod ByThread
 pub mod Cataloguing
 mod Contents
 pub mod Copies
+mod DamageLoops
+pub mod Damaged
 pub mod Deeds
 pub mod Deleting
 pub mod Dropping
+pub mod Ended
 pub mod Entries
 pub mod Exchanging
 pub mod FirstTold
@@ -23,32 +27,44 @@ pub mod Found
 pub mod Further
 mod FurtherLogs
 pub mod Handing
+mod Homes
 pub mod Ids
 mod InPlace
 pub mod Kept
 mod LastMarks
 pub mod Later
 pub mod Left
+pub mod LosingFits
 mod Losses
 pub mod LostLogs
 mod Marked
 pub mod Meant
+pub mod Mending
 pub mod Merges
 pub mod Mounting
 pub mod Named
 pub mod NewObjects
+mod Numbered
 pub mod Numbers
+pub mod Opening
 mod Parents
 pub mod Pieces
 pub mod PiecesRead
+pub mod PlacedRows
 pub mod Places
 pub mod Placing
-pub mod Recording
+pub mod Putting
 pub mod ReadBlocks
+pub mod Recording
 pub mod Records
 pub mod Recovering
+pub mod Refused
 pub mod Renewing
+pub mod RepairAccepted
+pub mod Repaired
+pub mod Repairs
 pub mod Restoring
+pub mod Returned
 mod Sizes
 pub mod Skipped
 pub mod Standing
@@ -56,9 +72,12 @@ pub mod Switching
 pub mod Tags
 mod Taken
 pub mod Told
+pub mod ToldRows
 pub mod Tracked
+pub mod Undamaged
 pub mod Untils
 pub mod Upkeep
 pub mod Walk
+pub mod WritersRoom
 pub mod Writes
 pub mod WritesSound

@@ -10,13 +10,16 @@ use Rattle.rm_history.specs.declared.world.Datafile.{Datafile}
 use Rattle.rm_history.specs.declared.world.World.{World}
 use Rattle.rm_history.specs.World.{exists}
 use Rattle.rm_history.proofs.Highs.{high-above}
+use Rattle.rm_machine.specs.Damage.{without_damaged}
 use Rattle.rm_machine.specs.Mount.{as_mounted, first_lost, mount_point, mounted}
 use Rattle.rm_machine.specs.Sound.{IsPlaced, IsPoint, IsSound, StandsAt}
 use Rattle.rm_machine.specs.declared.state.State.{State}
 use Rattle.rm_machine.specs.State.{world, current_of, now_of, counted}
 use Rattle.rm_base.proofs.Conditions.{given-where, unless}
 use Rattle.rm_machine_code.proofs.Places.{counted-closed, counted-open, placed-mapped}
+use Rattle.rm_machine_code.proofs.Damaged.{damaged-none}
 use Rattle.rm_machine_code.proofs.Tracked.{tracked-none}
+use Rattle.rm_machine_code.proofs.Undamaged.{sound-undamaged}
 
 in-place : (o : Option File) (b : Bool) → b ≡ true → (b && is_none o) ≡ false → (x : File) × (o ≡ Some x)
 in-place (Some x) b here is = (x, refl)
@@ -84,20 +87,21 @@ module _ (s : State) (sound : IsSound s) (opened : s.instance.is_open ≡ true) 
       let range = (sound.catalog.ledger.incarnations.ranges i sound.catalog.ledger.current).1 in
       subst (IsPoint q) same (record { low = range; high = omega arith; stands = λ k d file here. stands-there k d none file here })
 
-  pub sound-mounted : IsSound q
-  sound-mounted = record {
+  pub sound-mounted : s.instance.damaged ≡ [] → IsSound q
+  sound-mounted none = record {
     catalog = sound.catalog;
     dbid = sound.dbid;
     place = record { many = length-map s.instance.place (option_map stand) ∙ sound.place.many; each = place-after };
     logs = record { dbid = sound.logs.dbid; there = sound.logs.there; threads = sound.logs.threads; each = sound.logs.each };
-    tracker = tracked-none q refl;
+    damaged = damaged-none q none;
+    tracker = tracked-none q refl refl;
     in_open = λ mode. absurd (false≢true mode);
     point = point-after;
   }
 
-pub mode-either : (P : State → Type 0) (s : State) (b : Bool) → (b ≡ true → P (mounted s)) → P s → P (cond b (mounted s) s)
+pub mode-either : (P : State → Type 0) (s : State) (b : Bool) → (b ≡ true → P (mounted (without_damaged s))) → P s → P (cond b (mounted (without_damaged s)) s)
 mode-either P s true there other = there refl
 mode-either P s false there other = other
 
 pub sound-as_mounted : (s : State) → IsSound s → IsSound (as_mounted s)
-sound-as_mounted s sound = mode-either IsSound s s.instance.is_open (λ opened. sound-mounted s sound opened) sound
+sound-as_mounted s sound = mode-either IsSound s s.instance.is_open (λ opened. sound-mounted (without_damaged s) (sound-undamaged s sound) opened refl) sound

@@ -1,10 +1,17 @@
 -- The datafiles of a database, by their numbers.
-use Rattle.std.proofs.Common.{◌≡◌, ◌+◌, ◌-◌, ◌∙◌, ◌==◌, inl, inr, ℕ, Option, Some, None, true, false, cond, eq-eqb, ap, sym, arith, slice_get}
+use Rattle.std.proofs.Common.{◌≡◌, ◌<◌, ◌≤◌, ◌+◌, ◌-◌, ◌∙◌, ◌==◌, inl, inr, ℕ, Option, Some, None, true, false, cond, eq-eqb, ap, sym, arith, slice_get}
 use Rattle.std.specs.Option.{option_map_or}
 use Rattle.std.proofs.lemmas.Bool.{cases_Bool, ne_eqb}
+use Rattle.std.proofs.lemmas.Option.{slice_get_within}
+use Rattle.rm_base.proofs.Slots.{all-get}
 use Rattle.rm_history.specs.declared.world.Datafile.{Datafile}
 use Rattle.rm_history.specs.declared.world.World.{World}
 use Rattle.rm_history.specs.World.{blocks_of, file_of}
+use Rattle.rm_history.proofs.Worlds.{file-there}
+use Rattle.rm_catalog_typed.specs.LedgerFacts.{IsCreated}
+use Rattle.rm_machine.specs.Sound.{IsSound}
+use Rattle.rm_machine.specs.declared.state.State.{State}
+use Rattle.rm_machine.specs.State.{ledger, tree, world}
 
 -- the datafile at a place of the list has the next number
 pub file-at : (w : World) (k : ℕ) (d : Datafile) → slice_get w.files k ≡ Some d → file_of w (1 + k) ≡ Some d
@@ -30,3 +37,17 @@ file-place w f d is = elim (cases_Bool (f == 0)) [
       let some : ¬ (f ≡ 0) = λ e. let clash : true ≡ false = sym (eq-eqb f 0 e) ∙ above in absurd (cc) in
       record { place = f - 1; is = sym (ap (λ b. cond b None (slice_get w.files (f - 1))) above) ∙ is; number = omega (arith, some) }
 ]
+
+-- the number of a datafile is at most 64, and its blocks are 65,536 at most
+pub record IsNumbered (s : State) (f : ℕ) (d : Datafile) : Type 0 where
+  pub some : 0 < f
+  pub is : slice_get (ledger s).files (f - 1) ≡ Some d
+  pub most : f ≤ 64
+  pub blocks : d.blocks ≤ 65536
+
+pub numbered : (s : State) (f : ℕ) (d : Datafile) → IsSound s → file_of (world s) f ≡ Some d → IsNumbered s f d
+numbered s f d sound is =
+    let there = file-there (world s) f d is in
+    let inside = slice_get_within (ledger s).files (f - 1) d there.1 in
+    let made = all-get (IsCreated (tree s)) (ledger s).files (f - 1) d there.1 sound.catalog.ledger.datafiles.each in
+    record { some = there.0; is = there.1; most = omega (arith, inside, sound.catalog.ledger.datafiles.few); blocks = made.blocks.1 }

@@ -27,6 +27,7 @@ use Rattle.rm_machine.specs.State.{is_lost, online, redo_end}
 use Rattle.rm_machine.specs.SwitchLogfile.{is_due, log_entry, with_archived}
 use Rattle.rm_machine_code.proofs.Further.{roomy-either}
 use Rattle.rm_machine_code.proofs.Tracked.{tracked-same}
+use Rattle.rm_machine_code.proofs.Damaged.{damaged-same}
 
 -- An empty log
 
@@ -94,7 +95,7 @@ module _ (s : State) (t : ℕ) (sound : IsSound s) (low : 0 < t) (high : t ≤ s
   entry-is =
       record {
         there = sound.logs.there;
-        thread = high;
+        thread = (log-is.valid.thread.0, high);
         sequence = log-is.valid.sequence.0;
         range = (log-is.begun, a.some, omega arith);
         size = omega (arith, length-body log (fits-log log log-is.valid), length-sealed (body_of log), log-is.valid.few);
@@ -167,6 +168,7 @@ module _ (s : State) (t : ℕ) (sound : IsSound s) (low : 0 < t) (high : t ≤ s
           threads = around.threads ∙ sound.logs.threads;
           each = log-after;
         };
+        damaged = damaged-same s q sound.damaged;
         tracker = tracked-same s q sound.tracker;
         in_open = λ opened.
             let was = sound.in_open opened in

@@ -1,23 +1,28 @@
 -- The bitmaps of a state: what a mark, a switch and a new start make of those of a datafile, and in which states they stay as they should be.
-use Rattle.std.proofs.Common.{◌≡◌, ◌≢◌, ◌⊎◌, inl, inr, ℕ, zero, suc, ◌<◌, ◌≤◌, ◌+◌, ◌-◌, ◌==◌, ◌∙◌, nat_lt, Bool, true, false, cond, Option, Some, None, List, [], ◌∷◌, ◌++◌, drop, take, get_or, length, slice_get, Contains, refl, ap, sym, subst, arith, eqb-true, ltb-true, ne_eqb}
-use Rattle.std.specs.Option.{option_map, option_map_or}
-use Rattle.std.proofs.lemmas.Bool.{and_parts, cases_eq}
+use Rattle.std.proofs.Common.{◌≡◌, ◌≢◌, ◌⊎◌, inl, inr, ℕ, zero, suc, ◌<◌, ◌≤◌, ◌+◌, ◌-◌, ◌==◌, ◌&&◌, ◌∙◌, nat_lt, Bool, true, false, cond, Option, Some, None, List, [], ◌∷◌, ◌++◌, drop, take, get_or, length, slice_get, Contains, IsSome, refl, ap, sym, subst, arith, eqb-true, ltb-true, ne_eqb}
+use Rattle.std.specs.Option.{option_and_then, option_map, option_map_or}
+use Rattle.std.proofs.lemmas.Bool.{and_parts, cases_eq, eq-eqb, lt-ltb}
 use Rattle.std.proofs.lemmas.List.{length-replicate, length-set, length-take-le, take_more}
+use Rattle.std.proofs.lemmas.Option.{cond_some, option_and_then_some}
 use Rattle.std.proofs.lemmas.List.Elements.{All-drop, All-nil, All-push, Contains-append_cases}
+use Rattle.rm_base.proofs.Slots.{all-get}
 use Rattle.rm_base.proofs.Members.{behind, first-or-rest, in-front, none-in}
 use Rattle.rm_history.specs.declared.world.Datafile.{Datafile}
 use Rattle.rm_history.specs.declared.world.World.{World}
 use Rattle.rm_history.specs.Tree.{IsThere, end_of, owner, reset_of}
 use Rattle.rm_history.specs.World.{blocks_of, creation_of, exists, file_of}
+use Rattle.rm_history.proofs.Owners.{owner-cases}
 use Rattle.rm_track.specs.Bitmaps.{Bitmap, Tracked, at_file, ending, fresh, mark_at, newest, switch_at, switched, tracked_at, with_file, with_mark}
 use Rattle.rm_track.specs.Told.{starts, starts_of}
 use Rattle.rm_track.proofs.Places.{found-other, found-same}
 use Rattle.rm_catalog_typed.specs.Facts.{IsTypedCatalog}
-use Rattle.rm_catalog_typed.proofs.Trees.{Keeps}
+use Rattle.rm_catalog_typed.specs.Ledger.{Ledger}
+use Rattle.rm_catalog_typed.specs.LedgerFacts.{IsCreated, IsLedger}
+use Rattle.rm_catalog_typed.proofs.Trees.{Keeps, parents_below}
 use Rattle.rm_machine.specs.declared.state.State.{State}
-use Rattle.rm_machine.specs.State.{ledger, tree, world, current_of, now_of}
+use Rattle.rm_machine.specs.State.{ledger, tree, world, current_of, now_of, on_path}
 use Rattle.rm_machine.specs.Tracked.{AreTracked, IsTracked, first_tracker, fresh_from, switch_all, tracks, with_tracker}
-use Rattle.rm_machine_code.proofs.Numbers.{file-at}
+use Rattle.rm_machine_code.proofs.Numbers.{file-at, file-place}
 
 -- Where the bitmaps start
 
@@ -86,6 +91,10 @@ mapped-from : (step : Tracked → Tracked) (o : Option Tracked) (t : Tracked) �
 mapped-from step None t is = absurd (cc)
 mapped-from step (Some u) t is = let same : step u ≡ t = cc in (u, refl, sym same)
 
+mapped-some : (step : Tracked → Tracked) (o : Option Tracked) → IsSome o → IsSome (option_map step o)
+mapped-some step None is = absurd (cc)
+mapped-some step (Some u) is = refl
+
 -- after one of them became another: what was found before, or what became of that
 pub at-file : (f : ℕ) (step : Tracked → Tracked) (ts : List Tracked) (g : ℕ) (t : Tracked) → ((u : Tracked) → (step u).file ≡ u.file) → tracked_at (at_file f step ts) g ≡ Some t
     → (u : Tracked) × (tracked_at ts g ≡ Some u) × ((t ≡ u) ⊎ (t ≡ step u))
@@ -127,6 +136,30 @@ pub at-fresh_from : (w : World) (i at f : ℕ) (ds : List Datafile) (g : ℕ) (t
 at-fresh_from w i at f [] g t is = absurd (cc)
 at-fresh_from w i at f (d ∷ ds) g t is = fresh-by w i at f d ds g t (exists w i at d) refl (at-fresh_from w i at (f + 1) ds g t) is
 
+-- each that exists there is tracked
+some-by : (first : Bool) (x : Tracked) (rest : Option Tracked) → (first ≡ true) ⊎ IsSome rest → IsSome (cond first (Some x) rest)
+some-by true x rest is = refl
+some-by false x rest is = elim is [
+  | inl first ↦ absurd (cc)
+  | inr later ↦ later
+]
+
+later-by : (here : Bool) (x : Tracked) (ts : List Tracked) (g : ℕ) → IsSome (tracked_at ts g) → IsSome (tracked_at (cond here (x ∷ ts) ts) g)
+later-by true x ts g is = some-by (x.file == g) x (tracked_at ts g) (inr is)
+later-by false x ts g is = is
+
+fresh-found : (w : World) (i at f : ℕ) (ds : List Datafile) (k : ℕ) (d : Datafile) → slice_get ds k ≡ Some d → exists w i at d ≡ true → IsSome (tracked_at (fresh_from w i at f ds) (f + k))
+fresh-found w i at f [] k d is here = absurd (cc)
+fresh-found w i at f (e ∷ ds) zero d is here =
+    let same : e ≡ d = (let found : Some e ≡ Some d = is in cc) in
+    let number : f ≡ f + 0 = omega arith in
+    subst (λ b. IsSome (tracked_at (cond b (fresh f e.blocks at ∷ fresh_from w i at (f + 1) ds) (fresh_from w i at (f + 1) ds)) (f + 0))) (sym (ap (exists w i at) same ∙ here))
+    (some-by (f == f + 0) (fresh f e.blocks at) (tracked_at (fresh_from w i at (f + 1) ds) (f + 0)) (inl (eq-eqb f (f + 0) number)))
+fresh-found w i at f (e ∷ ds) (suc k) d is here =
+    let number : f + 1 + k ≡ f + suc k = omega arith in
+    later-by (exists w i at e) (fresh f e.blocks at) (fresh_from w i at (f + 1) ds) (f + suc k)
+    (subst (λ n. IsSome (tracked_at (fresh_from w i at (f + 1) ds) n)) number (fresh-found w i at (f + 1) ds k d is here))
+
 -- One datafile more of which changes are tracked anew
 
 push-by : (x new next : Tracked) (ts : List Tracked) (last first : Bool) → new ≡ next → x.file ≢ next.file
@@ -159,10 +192,25 @@ fresh-next w i at ds k d old new inside was is =
 
 -- In which states they are as they should be
 
--- where there are none
-pub tracked-none : (q : State) → q.instance.tracker ≡ [] → AreTracked q
-tracked-none q none = record {
-  idle = λ off. none;
+-- a datafile on the current path is there, and exists at `now`
+pub on-path : (s : State) (f : ℕ) (d : Datafile) → on_path s f ≡ Some d → (file_of (world s) f ≡ Some d) × (exists (world s) (current_of s) (now_of s) d ≡ true)
+on-path s f d is =
+    option_and_then_some (λ e. cond (exists (world s) (current_of s) (now_of s) e) (Some e) None) (file_of (world s) f) d is
+    (λ e known kept.
+    let both = cond_some (exists (world s) (current_of s) (now_of s) e) e d kept in
+    (known ∙ ap Some both.1, ap (exists (world s) (current_of s) (now_of s)) (sym both.1) ∙ both.0))
+
+-- and one that is so is on it
+pub path-on : (s : State) (f : ℕ) (d : Datafile) → file_of (world s) f ≡ Some d → exists (world s) (current_of s) (now_of s) d ≡ true → on_path s f ≡ Some d
+path-on s f d is here =
+    ap (λ (o : Option Datafile). option_and_then (λ e. cond (exists (world s) (current_of s) (now_of s) e) (Some e) None) o) is
+    ∙ ap (λ b. cond b (Some d) None) here
+
+-- where there are none, since changes are not tracked
+pub tracked-none : (q : State) → tracks q.instance.is_open (ledger q) ≡ false → q.instance.tracker ≡ [] → AreTracked q
+tracked-none q off none = record {
+  idle = λ _. none;
+  full = λ on. absurd (let clash : true ≡ false = sym on ∙ off in cc);
   each = λ f t found. absurd (let clash : None ≡ Some t = ap (λ ts. tracked_at ts f) (sym none) ∙ found in cc);
 }
 
@@ -179,9 +227,10 @@ tracking_as s q =
       instance = record q.instance { is_open = s.instance.is_open; tracker = s.instance.tracker };
     }
 
-kept-in : (s q : State) → reset_of (tree q) (current_of s) ≤ reset_of (tree s) (current_of s) → now_of s ≤ end_of (tree q) (current_of s) → AreTracked s → AreTracked (tracking_as s q)
-kept-in s q reset later is = record {
+kept-in : (s q : State) → reset_of (tree q) (current_of s) ≤ reset_of (tree s) (current_of s) → now_of s ≤ end_of (tree q) (current_of s) → ((f : ℕ) (d : Datafile) → on_path (tracking_as s q) f ≡ Some d → on_path s f ≡ Some d) → AreTracked s → AreTracked (tracking_as s q)
+kept-in s q reset later same is = record {
   idle = is.idle;
+  full = λ on f d here. is.full on f d (same f d here);
   each = λ f t found.
       let was = is.each f t found in
       record {
@@ -192,22 +241,66 @@ kept-in s q reset later is = record {
       };
 }
 
--- where the tree grew
-pub tracked-later : (s q : State) → IsThere (tree s) (current_of s) → Keeps (tree s) (tree q) → AreTracked s → AreTracked (tracking_as s q)
-tracked-later s q there keeps is = kept-in s q (omega (arith, keeps.reset (current_of s) there)) (keeps.end (current_of s) there) is
+-- a datafile on the path of an incarnation was created below its end
+created-below : (l : Ledger) (i : ℕ) (d : Datafile) → IsLedger l → IsThere l.tree i → IsCreated l.tree d → owner l.tree i d.creation ≡ d.inc → d.creation < end_of l.tree i
+created-below l i d rules there made own = elim (owner-cases l.tree (parents_below l.tree rules.incarnations) i d.creation there.0) [
+  | inl here ↦ subst (λ j. d.creation < end_of l.tree j) (sym own ∙ here.1) made.creation.1
+  | inr above ↦ let range = rules.incarnations.ranges i there in omega (arith, above.0, range.1)
+]
+
+pub some-is : {X : Type 0} (o : Option X) → IsSome o → (x : X) × (o ≡ Some x)
+some-is None some = absurd (cc)
+some-is (Some x) some = (x, refl)
+
+-- where the tree grew, a datafile is on the current path only if it was
+pub on_path-later : (s q : State) → IsTypedCatalog s.catalog → Keeps (tree s) (tree q) → (f : ℕ) (d : Datafile) → on_path (tracking_as s q) f ≡ Some d → on_path s f ≡ Some d
+on_path-later s q rules keeps f d is =
+    let there = rules.ledger.current in
+    let found = on-path (tracking_as s q) f d is in
+    let own : owner (tree s) (current_of s) d.creation ≡ d.inc = sym (keeps.owners (current_of s) d.creation there)
+    ∙ eqb-true (owner (tree q) (current_of s) d.creation) d.inc (and_parts (nat_lt d.creation (end_of (tree q) (current_of s))) (owner (tree q) (current_of s) d.creation == d.inc) found.1).1 in
+    let place = file-place (world s) f d found.0 in
+    let made = all-get (IsCreated (tree s)) (ledger s).files place.place d place.is rules.ledger.datafiles.each in
+    let below = created-below (ledger s) (current_of s) d rules.ledger there made own in
+    path-on s f d found.0 ((λ i. lt-ltb d.creation (now_of s) below i && eq-eqb (owner (tree s) (current_of s) d.creation) d.inc own i))
+
+-- and then it still is
+pub on_path-stays : (s q : State) → IsTypedCatalog s.catalog → Keeps (tree s) (tree q) → (f : ℕ) → IsSome (on_path s f) → IsSome (on_path (tracking_as s q) f)
+on_path-stays s q rules keeps f some =
+    let there = rules.ledger.current in
+    let known = some-is (on_path s f) some in
+    let d = known.0 in
+    let found = on-path s f d known.1 in
+    let both = and_parts (nat_lt d.creation (now_of s)) (owner (tree s) (current_of s) d.creation == d.inc) found.1 in
+    let below : d.creation < end_of (tree q) (current_of s) = omega (arith, ltb-true d.creation (now_of s) both.0, keeps.end (current_of s) there) in
+    let own : owner (tree q) (current_of s) d.creation ≡ d.inc = keeps.owners (current_of s) d.creation there ∙ eqb-true (owner (tree s) (current_of s) d.creation) d.inc both.1 in
+    let is : on_path (tracking_as s q) f ≡ Some d = path-on (tracking_as s q) f d found.0 (λ i. lt-ltb d.creation (end_of (tree q) (current_of s)) below i && eq-eqb (owner (tree q) (current_of s) d.creation) d.inc own i) in
+    subst (λ (o : Option Datafile). IsSome o) (sym is) refl
+
+pub tracked-later : (s q : State) → IsTypedCatalog s.catalog → Keeps (tree s) (tree q) → AreTracked s → AreTracked (tracking_as s q)
+tracked-later s q rules keeps is =
+    let there = rules.ledger.current in
+    kept-in s q (omega (arith, keeps.reset (current_of s) there)) (keeps.end (current_of s) there) (on_path-later s q rules keeps) is
 
 -- where it is the same
 abbrev pub on_tree_of : State → State → State
 on_tree_of s q = record q { catalog = record q.catalog { ledger = record (ledger q) { tree = tree s } } }
 
 pub tracked-same : (s q : State) → AreTracked s → AreTracked (tracking_as s (on_tree_of s q))
-tracked-same s q is = kept-in s (on_tree_of s q) (omega arith) (omega arith) is
+tracked-same s q is = kept-in s (on_tree_of s q) (omega arith) (omega arith) (λ f d here. here) is
 
 -- where those of one datafile became others, which are as they should be
 pub tracked-at_file : (s : State) (f : ℕ) (step : Tracked → Tracked) → ((u : Tracked) → (step u).file ≡ u.file) → ((g : ℕ) (u : Tracked) → IsTracked s g u → IsTracked s g (step u))
     → AreTracked s → AreTracked (with_tracker s (at_file f step s.instance.tracker))
 tracked-at_file s f step stays good is = record {
   idle = λ off. ap (at_file f step) (is.idle off);
+  full = λ on g d here. elim (cases_eq g f) [
+    | inl same ↦
+        let at : tracked_at (at_file f step s.instance.tracker) g ≡ option_map step (tracked_at s.instance.tracker g) =
+        ap (tracked_at (at_file f step s.instance.tracker)) same ∙ found-same f step s.instance.tracker stays ∙ ap (λ n. option_map step (tracked_at s.instance.tracker n)) (sym same) in
+        subst (λ (o : Option Tracked). IsSome o) (sym at) (mapped-some step (tracked_at s.instance.tracker g) (is.full on g d here))
+    | inr other ↦ subst (λ (o : Option Tracked). IsSome o) (sym (found-other f g step s.instance.tracker stays other)) (is.full on g d here)
+  ];
   each = λ g t found.
       let was = at-file f step s.instance.tracker g t stays found in
       let so : IsTracked s g t = elim was.2 [
@@ -265,9 +358,13 @@ fresh-is q rules g t is =
 
 first-is : (q : State) (on : Bool) → tracks q.instance.is_open (ledger q) ≡ on → IsTypedCatalog q.catalog
     → q.instance.tracker ≡ cond on (fresh_from (world q) (current_of q) (now_of q) 1 (ledger q).files) [] → AreTracked q
-first-is q false on rules is = tracked-none q is
+first-is q false on rules is = tracked-none q on is
 first-is q true on rules is = record {
   idle = λ off. absurd (let clash : true ≡ false = sym on ∙ off in cc);
+  full = λ _ g d here.
+      let known = on-path q g d here in
+      let place = file-place (world q) g d known.0 in
+      coe 1 0 (i. IsSome (tracked_at (is i) (sym place.number i))) (fresh-found (world q) (current_of q) (now_of q) 1 (ledger q).files place.place d place.is known.1);
   each = λ g t found. fresh-is q rules g t (at-fresh_from (world q) (current_of q) (now_of q) 1 (ledger q).files g t (ap (λ ts. tracked_at ts g) (sym is) ∙ found));
 }
 

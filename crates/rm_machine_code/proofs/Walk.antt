@@ -35,7 +35,7 @@ use Rattle.rm_machine.specs.State.{current_of, ledger, now_of, placed, world}
 use Rattle.rm_machine_code.proofs.Further.{now-further}
 use Rattle.rm_machine_code.proofs.Writes.{Accepted}
 use Rattle.rm_machine_code.proofs.WritesSound.{sound-write}
-use Rattle.rm_machine.specs.Events.{after_event, after_events, change_by, opening, standing_in, with_mend, write_form}
+use Rattle.rm_machine.specs.Events.{after_event, after_events, change_by, opening, standing_in, with_placed_row, write_form}
 use Rattle.rm_machine_code.proofs.BackupAccepted.{CanBeWritten}
 use Rattle.rm_machine_code.proofs.Following.{goes-along, opening-after}
 use Rattle.rm_machine_code.proofs.Found.{read-found, read-of}
@@ -188,7 +188,7 @@ module _ (u : State) (ws : List WriteForm) (can : CanGoOn u ws) where
   records-event = by-event (λ q cs. length (ledger_records (ledger q)) ≡ length (ledger_records (ledger u))) u ws refl (λ w has scn right. records-write u w (can.unmarked w has))
 
 -- what no write and no mend changes no event changes
-module _ {X : Type 0} (f : State → X) (written : (u : State) (w : WriteForm) → f (with_write u w) ≡ f u) (mended : (u : State) (g : ℕ) (row : Row) → f (with_mend u g row) ≡ f u) where
+module _ {X : Type 0} (f : State → X) (written : (u : State) (w : WriteForm) → f (with_write u w) ≡ f u) (mended : (u : State) (g : ℕ) (row : Row) → f (with_placed_row u g row) ≡ f u) where
   event-same : (u : State) (c : Call) (answer : Answer) → f (after_event u c answer) ≡ f u
   event-same u (Read g b) answer = refl
   event-same u (Write t g b content) (Found row) = refl

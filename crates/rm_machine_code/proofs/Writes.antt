@@ -1,7 +1,6 @@
 -- A WRITE that was not refused.
-use Rattle.std.proofs.Common.{◌≡◌, ◌<◌, ◌≤◌, ◌∙◌, ◌==◌, ◌||◌, nat_lt, ℕ, Option, Some, None, true, cond, refl, ap, sym, length, rules}
+use Rattle.std.proofs.Common.{◌≡◌, ◌<◌, ◌≤◌, ◌==◌, ◌||◌, nat_lt, Option, Some, None, true, refl, length, rules}
 use Rattle.std.specs.Option.{option_map_or}
-use Rattle.std.proofs.lemmas.Option.{cond_some, option_and_then_some}
 use Rattle.rm_base.specs.declared.refusal.Refusal.TheVariants.{Rm05}
 use Rattle.rm_base.specs.declared.refusal.Absent.TheVariants.{File as AbsentFile}
 use Rattle.rm_blocks.specs.File.{File}
@@ -18,6 +17,7 @@ use Rattle.rm_machine.specs.Sound.{IsSound}
 use Rattle.rm_machine_code.proofs.Further.{GoesOn, roomy}
 use Rattle.rm_machine.specs.Write.{block_refusal, write_refusal}
 use Rattle.rm_machine_code.proofs.Switching.{thread-of}
+use Rattle.rm_machine_code.proofs.Tracked.{on-path}
 
 pub record Accepted (s : State) (w : WriteForm) : Type 0 where
   pub on : GoesOn s
@@ -33,13 +33,6 @@ pub record Accepted (s : State) (w : WriteForm) : Type 0 where
 found-by : (s : State) (w : WriteForm) (o : Option Datafile) → option_map_or (block_refusal s w) o (Some (Rm05 (AbsentFile w.file))) ≡ None → (d : Datafile) × (o ≡ Some d) × (block_refusal s w d ≡ None)
 found-by s w None is = absurd (cc)
 found-by s w (Some d) is = (d, refl, is)
-
-pub on-path : (s : State) (f : ℕ) (d : Datafile) → on_path s f ≡ Some d → (file_of (world s) f ≡ Some d) × (exists (world s) (current_of s) (now_of s) d ≡ true)
-on-path s f d is =
-    option_and_then_some (λ e. cond (exists (world s) (current_of s) (now_of s) e) (Some e) None) (file_of (world s) f) d is
-    (λ e known kept.
-    let both = cond_some (exists (world s) (current_of s) (now_of s) e) e d kept in
-    (known ∙ ap Some both.1, ap (exists (world s) (current_of s) (now_of s)) (sym both.1) ∙ both.0))
 
 pub write-accepted : (s : State) (w : WriteForm) → IsSound s → write_refusal s w ≡ None → Accepted s w
 write-accepted s w sound is =

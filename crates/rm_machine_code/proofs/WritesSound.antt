@@ -33,6 +33,8 @@ use Rattle.rm_machine_code.proofs.FurtherLogs.{IsPushed, log-further}
 use Rattle.rm_machine_code.proofs.Places.{counted-open}
 use Rattle.rm_machine_code.proofs.Tracked.{tracked-marked, tracked-same}
 use Rattle.rm_machine_code.proofs.Writes.{Accepted}
+use Rattle.rm_machine_code.proofs.Damaged.{damaged-put, damaged-same}
+use Rattle.rm_machine.specs.Events.{with_placed_row}
 
 module _ (s : State) (w : WriteForm) (sound : IsSound s) (a : Accepted s w) (full : length w.content.0 ≡ 64) where
   abbrev l : Ledger
@@ -167,6 +169,7 @@ module _ (s : State) (w : WriteForm) (sound : IsSound s) (a : Accepted s w) (ful
           threads = around.threads ∙ sound.logs.threads;
           each = λ t low high found. log-after t low high (sym (is_lost-with_change s.instance.logs c t) ∙ found);
         };
+        damaged = damaged-same (with_placed_row p w.file new) q (damaged-put p w.file new wide.damaged);
         tracker = tracked-same (with_tracker p (mark_at p.instance.tracker w.file w.block)) q (tracked-marked p w.file w.block wide.tracker);
         in_open = λ _. record {
           inc = around.inc ∙ opened.inc;

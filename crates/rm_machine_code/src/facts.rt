@@ -4,12 +4,13 @@ ghost use Rattle.std.specs.Option.{option_copied};
 ghost use Rattle.rm_base.specs.Numbers.{last_scn};
 ghost use Rattle.rm_history.specs.Tree.{IsThere, end_of, owner};
 ghost use Rattle.rm_history.specs.World.{exists, file_of};
+ghost use Rattle.rm_machine.specs.Dump.{placed_row};
 ghost use Rattle.rm_machine.specs.Loading.{has_lost};
 ghost use Rattle.rm_machine.specs.Mount.{first_lost};
 ghost use Rattle.rm_machine.specs.Sound.{IsSound};
 ghost use Rattle.rm_machine.specs.State.{current_of, datafile_at, ledger, now_of, on_path, placed, redo_end, tree, world};
 
-use rm_base::{FileNo, IncNo, Scn, ThreadNo};
+use rm_base::{BlockNo, FileNo, IncNo, Row, Scn, ThreadNo};
 use rm_blocks::DataFile;
 use rm_history::{Datafile, Tree};
 use rm_machine::State;
@@ -100,6 +101,15 @@ pub fn placed(state: &State, number: u64) -> Option<&DataFile>
 {
     let index = usize::try_from(number - 1).ok()?;
     state.instance.place.as_slice().get(index)?.as_ref()
+}
+
+/// The row of a block of the datafile of this number, at least 1, in place. None where the datafile is lost, or has no
+/// such block.
+pub fn placed_row(state: &State, number: u64, block: BlockNo) -> Option<Row>
+    requires { 0 < number }
+    ensures { result ≡ placed_row state.now number block }
+{
+    placed(state, number)?.read(block)
 }
 
 /// The number of redo threads: 1 to 4.

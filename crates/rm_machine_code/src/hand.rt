@@ -1,14 +1,17 @@
 //! What is at hand beside the store: the records of the catalog, and what is in place.
-ghost use Rattle.std.specs.Prelude.{◌≡◌, ◌≤◌, ◌<◌, ◌∷◌, ◌++◌, [], IfOk, OnOk, map, cond};
+ghost use Rattle.std.specs.Prelude.{◌≡◌, ◌≤◌, ◌<◌, ◌∷◌, ◌++◌, [], if◌then◌else◌, IfOk, None, OnOk, map, cond};
 ghost use Rattle.std.specs.List.{filter_map};
+ghost use Rattle.std.specs.Option.{option_copied};
+ghost use Rattle.rm_machine.specs.Damage.{has_file, undamaged};
 ghost use Rattle.rm_machine.specs.Recovery.{in_place, online_logs};
 ghost use Rattle.rm_machine.specs.Sound.{IsSound};
 ghost use Rattle.rm_machine.specs.State.{counted, is_lost, ledger, online};
 ghost use Rattle.rm_catalog_typed.specs.TypedCatalog.{records_of};
 
+use crate::damage::has_file;
 use crate::facts::{now, redo_end, threads};
 use crate::recorded::records_of;
-use rm_base::{NoMemory, Seq, ThreadNo};
+use rm_base::{BlockId, NoMemory, Seq, ThreadNo};
 use rm_blocks::DataFile;
 use rm_catalog::Catalog as Records;
 use rm_evidence::InPlace;
@@ -38,14 +41,29 @@ fn counted_copy(alloc: Global, state: &State, file: &DataFile) -> Result<DataFil
     Ok(copy)
 }
 
-// The datafiles in place that are not lost, as what they count.
+// What stands in place of a datafile, where no block of it is damaged.
+fn undamaged<'p>(
+    damaged: &[BlockId],
+    number: u64,
+    placed: &'p Option<DataFile>,
+) -> Option<&'p DataFile>
+    ensures { option_copied result ≡ (if has_file damaged.now number then None else placed.now) }
+{
+    if has_file(damaged, number) {
+        return None;
+    }
+    placed.as_ref()
+}
+
+// The datafiles in place that are not lost, as what they count. One of which a block is damaged counts as lost.
 fn files_in_place(alloc: Global, state: &State) -> Result<Seq<DataFile>, NoMemory>
     requires sound { IsSound state.now }
-    ensures { IfOk result (λ files. files ≡ map (counted state.now) (filter_map (λ o. o) state.now.instance.place)) }
+    ensures { IfOk result (λ files. files ≡ map (counted state.now) (filter_map (λ o. o) (undamaged state.now.instance.damaged 1 state.now.instance.place))) }
 {
+    let damaged = state.instance.damaged.as_slice();
     let mut files = Seq::new(alloc);
-    for placed in state.instance.place.as_slice() {
-        if let Some(file) = placed {
+    for (index, placed) in state.instance.place.as_slice().iter().enumerate() {
+        if let Some(file) = undamaged(damaged, index as u64 + 1, placed) {
             files.push(counted_copy(alloc, state, file)?)?;
         }
     }

@@ -1,7 +1,10 @@
-//! What the statements share as code: facts of a state, what is at hand of it, room, marks, and where an UNTIL leads.
+//! What the statements share as code: facts of a state, what is at hand of it, room, marks, where an UNTIL leads,
+//! what is damaged, and what a DURING writes.
 #![tactic(auto)]
 
+pub mod damage;
 pub mod drops;
+pub mod during;
 pub mod facts;
 pub mod hand;
 pub mod marks;
@@ -11,8 +14,10 @@ pub mod nature;
 pub mod recorded;
 pub mod replies;
 pub mod room;
+pub mod running;
 pub mod tracking;
 pub mod until;
+pub mod writers;
 
 pub use nature::{is_built, nature_of, only_tells};
 pub use replies::refusal_reply;

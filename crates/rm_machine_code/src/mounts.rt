@@ -5,6 +5,7 @@ ghost use Rattle.rm_blocks.specs.File.{standing};
 ghost use Rattle.rm_machine.specs.Mount.{as_mounted, mount_point, mounted};
 ghost use Rattle.rm_machine.specs.Sound.{IsSound};
 
+use crate::damage::lose_damaged;
 use crate::facts::{first_lost, now};
 use rm_base::{IncNo, Scn, Seq};
 use rm_blocks::DataFile;
@@ -53,12 +54,14 @@ fn mount_open(alloc: Global, state: &mut State)
     state.instance.tracker = Tracker::new(alloc);
 }
 
-/// Mounts an open database: what is in place stands at `now`. A mounted one stays as it is. It takes no memory.
+/// Mounts an open database: each datafile of which a block is damaged is lost, and what is in place stands at `now`. A mounted
+/// one stays as it is. It takes no memory.
 pub fn become_mounted(alloc: Global, state: &mut State)
     requires sound { IsSound state.old }
     ensures value { state.new ≡ as_mounted state.old }
 {
     if state.instance.is_open {
+        lose_damaged(alloc, state);
         mount_open(alloc, state);
     }
 }

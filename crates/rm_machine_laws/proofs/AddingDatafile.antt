@@ -1,6 +1,6 @@
 -- CREATE DATAFILE leads on: one SCN further, a datafile is added.
-use Rattle.std.proofs.Common.{◌≡◌, ◌≢◌, ◌<◌, ◌≤◌, ◌+◌, ◌-◌, ◌∙◌, ◌++◌, ◌⊎◌, ◌^◌, nat_le, inl, inr, ℕ, zero, suc, List, [], ◌∷◌, Option, Some, None, Bool, true, false, cond, refl, ap, sym, subst, arith, length, length-append, All, Contains, slice_get, slice_index_or}
-use Rattle.std.specs.Option.{option_map_or}
+use Rattle.std.proofs.Common.{◌≡◌, ◌≢◌, ◌<◌, ◌≤◌, ◌+◌, ◌-◌, ◌∙◌, ◌++◌, ◌⊎◌, ◌^◌, nat_le, inl, inr, ℕ, zero, suc, List, [], ◌∷◌, Option, Some, None, IsSome, is_some, Bool, true, false, cond, refl, ap, sym, subst, arith, length, length-append, All, Contains, slice_get, slice_index_or}
+use Rattle.std.specs.Option.{option_and_then, option_map_or}
 use Rattle.std.proofs.lemmas.Bool.{and_parts, cases_eq, cases_lt, leb-true, ne_eqb}
 use Rattle.std.proofs.lemmas.List.{length-replicate}
 use Rattle.std.proofs.lemmas.List.Elements.{All-contains, All-contains_itself, All-nil, All-push, All-weaker}
@@ -10,16 +10,15 @@ use Rattle.rm_base.specs.declared.block.Change.{Change}
 use Rattle.rm_base.specs.declared.block.Row.{Row}
 use Rattle.rm_base.proofs.Members.{first-or-rest, none-in}
 use Rattle.rm_base.proofs.Slots.{get-index, get-push, index-get}
-use Rattle.rm_blocks.specs.File.{File, base_of, created, created_row, created_rows, standing}
+use Rattle.rm_blocks.specs.File.{File, created, created_row, created_rows, standing}
 use Rattle.rm_blocks.proofs.Rows.{in_order-created, length-created}
 use Rattle.rm_lang_statement.specs.declared.command.Command.TheVariants.{CreateDatafile}
-use Rattle.rm_history.specs.Agrees.{BaseAgrees}
 use Rattle.rm_history.specs.declared.tree.Incarnation.{Incarnation}
 use Rattle.rm_history.specs.declared.world.Datafile.{Datafile}
 use Rattle.rm_history.specs.declared.world.World.{World}
 use Rattle.rm_history.specs.State.{state}
 use Rattle.rm_history.specs.Tree.{IsThere, reset_of}
-use Rattle.rm_history.specs.World.{blocks_of, creation_of, file_of, with_file}
+use Rattle.rm_history.specs.World.{blocks_of, creation_of, exists, file_of, with_file}
 use Rattle.rm_history.proofs.Below.{state-untouched}
 use Rattle.rm_history.proofs.Highs.{high-bound}
 use Rattle.rm_history.proofs.Histories.{IsHistory-with_file}
@@ -32,19 +31,21 @@ use Rattle.rm_track.proofs.Telling.{new-file-tells}
 use Rattle.rm_catalog_typed.specs.Fitting.{FitsFile}
 use Rattle.rm_catalog_typed.proofs.Fitted.{file_fits}
 use Rattle.rm_machine.specs.CreateDatafile.{with_datafile}
+use Rattle.rm_machine.specs.Damage.{has_block}
 use Rattle.rm_machine.specs.Effect.{Made}
-use Rattle.rm_machine.specs.Machine.{HistoryFits, IsBorneOut, RowsAre}
+use Rattle.rm_machine.specs.Machine.{HistoryFits, IsBorneOut, RowsAre, SoundRowsAre}
 use Rattle.rm_machine.specs.Marks.{one_further}
 use Rattle.rm_machine.specs.Sound.{IsPlaced, IsPlacedRow, IsSound}
 use Rattle.rm_machine.specs.Tracked.{AreTracked, IsTracked, tracks}
 use Rattle.rm_machine.specs.declared.state.State.{State}
-use Rattle.rm_machine.specs.State.{world, now_of, placed}
+use Rattle.rm_machine.specs.State.{world, now_of, on_path, placed}
+use Rattle.rm_machine_code.proofs.Damaged.{damaged-kept}
 use Rattle.rm_machine_code.proofs.Further.{catalog-further, keeps-further, sound-further}
 use Rattle.rm_machine_code.proofs.FirstTold.{lie-below}
+use Rattle.rm_machine_laws.proofs.DamagedRows.{but-damaged, sound-agrees}
 use Rattle.rm_machine_laws.proofs.Further.{fits-further, rows-further, same-further}
 use Rattle.rm_machine_laws.proofs.Grown.{SameHistory, true-on}
 use Rattle.rm_machine_laws.proofs.Leading.{LeadsOnBy, StaysBy}
-use Rattle.rm_machine_laws.proofs.Opened.{rows-agree}
 use Rattle.rm_machine_code.proofs.Places.{counted-open, placed-is}
 use Rattle.rm_machine_laws.proofs.Quiet.{quiet-on, quiet-stays}
 use Rattle.rm_machine_code.proofs.AddingDatafile.{HasRoom, has-room}
@@ -90,6 +91,11 @@ placed-push place new k x is = elim (get-push place new (Some x) k (get-index (p
   | inl last ↦ inr last.1
   | inr old ↦ inl (index-get place k x old)
 ]
+
+placed-pushed : (place : List (Option File)) (new : Option File) (k : ℕ) (x : File) → slice_index_or place k None ≡ Some x → slice_index_or (place ++ new ∷ []) k None ≡ Some x
+placed-pushed [] new k x is = absurd (cc)
+placed-pushed (o ∷ place) new zero x is = is
+placed-pushed (o ∷ place) new (suc k) x is = placed-pushed place new k x is
 
 module _ (s : State) (blocks : ℕ) (sound : IsSound s) (a : HasRoom s blocks) (some : 1 ≤ blocks) where
   abbrev i : ℕ
@@ -205,9 +211,26 @@ module _ (s : State) (blocks : ℕ) (sound : IsSound s) (a : HasRoom s blocks) (
   ]
   each-tracked was false off f t found = absurd (let none : None ≡ Some t = sym (ap (λ (xs : List Tracked). tracked_at xs f) (sound.tracker.idle off)) ∙ found in cc)
 
+  -- a datafile of the current path is one still
+  path-stays : (f : ℕ) → IsSome (on_path p f) → IsSome (on_path q f)
+  path-stays f some = elim (cases_eq f (length files + 1)) [
+    | inl same ↦ absurd (let none : on_path p f ≡ None = ap (option_and_then (λ c. cond (exists (world p) i (now_of p) c) (Some c) None)) (file_of-past (world p) f (omega (arith, same))) in let clash : false ≡ true = sym (ap is_some none) ∙ some in cc)
+    | inr other ↦ ap (λ o. is_some (option_and_then (λ c. cond (exists (world q) i (now_of q) c) (Some c) None) o)) (file_of-other (world p) d f other) ∙ some
+  ]
+
+  -- where changes are tracked each datafile of the current path is, the new one too
+  full-tracked : tracked ≡ true → (f : ℕ) (e : Datafile) → on_path q f ≡ Some e → IsSome (tracked_at (cond tracked (with_tracked ts new) ts) f)
+  full-tracked on f e here = ap (λ b. is_some (tracked_at (cond b (with_tracked ts new) ts) f)) on ∙ elim (cases_eq f (length files + 1)) [
+    | inl same ↦ ap (λ n. is_some (tracked_at (with_tracked ts new) n)) same ∙ ap is_some (found-new new ts)
+    | inr other ↦
+        let was : on_path p f ≡ Some e = ap (option_and_then (λ c. cond (exists (world q) i (now_of q) c) (Some c) None)) (sym (file_of-other (world p) d f other)) ∙ here in
+        ap is_some (found-beside f new ts other) ∙ (sound-further s sound a.on).tracker.full on f e was
+  ]
+
   tracked-created : AreTracked q
   tracked-created = record {
     idle = λ off. ap (λ b. cond b (with_tracked ts new) ts) off ∙ sound.tracker.idle off;
+    full = full-tracked;
     each = λ f t found. each-tracked (sound-further s sound a.on).tracker tracked refl f t found;
   }
 
@@ -223,6 +246,7 @@ module _ (s : State) (blocks : ℕ) (sound : IsSound s) (a : HasRoom s blocks) (
           each = λ k e x at held. subst (IsPlaced tree k e) (sym (counted-open q x a.on.opened)) (place-after k e x at held);
         };
         logs = record { dbid = was.logs.dbid; there = was.logs.there; threads = was.logs.threads; each = was.logs.each };
+        damaged = damaged-kept p q refl refl (λ f x at. (x, placed-pushed s.instance.place (Some file) (f - 1) x at, omega arith)) path-stays was.damaged;
         tracker = tracked-created;
         in_open = λ _. record { inc = opened.inc; found = opened.found; point = opened.point };
         point = λ n is. absurd (let none = opened.point in cc);
@@ -250,18 +274,18 @@ module _ (s : State) (blocks : ℕ) (sound : IsSound s) (a : HasRoom s blocks) (
         (λ b. sym (state-untouched (world q) h i (now_of p) f b none-of-new ∙ ap (λ n. created_row n b) creation-new)) blocks
 
     -- the rows of the others are as they were
-    rows-old : (f : ℕ) (x : File) → placed s f ≡ Some x → RowsAre (world q) h i (now_of p) x
+    rows-old : (f : ℕ) (x : File) → placed s f ≡ Some x → SoundRowsAre s.instance.damaged (world q) h i (now_of p) x
     rows-old f x is =
         let number = (placed-is s (f - 1) x sound.place is).file in
         let inside = slice_get_within s.instance.place (f - 1) (Some x) (get-index s.instance.place (f - 1) x is) in
-        All-weaker (λ r. r ≡ state (world p) h i (now_of p) x.file r.block) (λ r. r ≡ state (world q) h i (now_of p) x.file r.block)
-        (λ r was. was ∙ sym (state-kept (world p) d h i (now_of p) x.file r.block (omega (arith, number, inside, sound.place.many))))
+        All-weaker (λ r. has_block s.instance.damaged x.file r.block ≡ false → r ≡ state (world p) h i (now_of p) x.file r.block) (λ r. has_block s.instance.damaged x.file r.block ≡ false → r ≡ state (world q) h i (now_of p) x.file r.block)
+        (λ r was clear. was clear ∙ sym (state-kept (world p) d h i (now_of p) x.file r.block (omega (arith, number, inside, sound.place.many))))
         x.rows (rows-further s sound a.on h keeps f x is)
 
-    rows : (f : ℕ) (x : File) → placed q f ≡ Some x → RowsAre (world q) h i (now_of p) x
+    rows : (f : ℕ) (x : File) → placed q f ≡ Some x → SoundRowsAre s.instance.damaged (world q) h i (now_of p) x
     rows f x is = elim (placed-push s.instance.place (Some file) (f - 1) x is) [
       | inl old ↦ rows-old f x old
-      | inr new ↦ let same : file ≡ x = (let e : Some file ≡ Some x = new in cc) in subst (RowsAre (world q) h i (now_of p)) same rows-new
+      | inr new ↦ let same : file ≡ x = (let e : Some file ≡ Some x = new in cc) in subst (SoundRowsAre s.instance.damaged (world q) h i (now_of p)) same (but-damaged s.instance.damaged (world q) h i (now_of p) file rows-new)
     ]
 
     tell-created : (b : Bool) → Tell i h (now_of p) (cond b (with_tracked ts new) ts)
@@ -275,7 +299,7 @@ module _ (s : State) (blocks : ℕ) (sound : IsSound s) (a : HasRoom s blocks) (
       history = IsHistory-with_file (world p) d h fits.history;
       below = fits.below;
       online = fits.online;
-      place = λ f x is. subst (λ y. BaseAgrees (world q) h (base_of y)) (sym (counted-open q x a.on.opened)) (rows-agree (world q) h i (now_of p) x (rows f x is));
+      place = λ f x is none. sound-agrees q h x a.on.opened (rows f x is) none;
       tracker = tell-created tracked;
       in_open = λ _ f x is. rows f x is;
       point = λ n is. absurd (let none = (sound.in_open a.on.opened).point in cc);

@@ -1,5 +1,5 @@
 -- What is at hand agrees with the history, where digests tell.
-use Rattle.std.proofs.Common.{◌≡◌, ◌≢◌, ◌-◌, ◌∙◌, inl, inr, ℕ, suc, List, [], Option, Some, None, refl, ap, sym, subst, arith, Contains, slice_index_or}
+use Rattle.std.proofs.Common.{◌≡◌, ◌≢◌, ◌+◌, ◌-◌, ◌∙◌, inl, inr, ℕ, suc, List, [], Option, Some, None, refl, ap, sym, subst, arith, Contains, slice_index_or}
 use Rattle.rm_base.specs.Store.{Held}
 use Rattle.rm_base.specs.declared.block.Change.{Change}
 use Rattle.rm_base.specs.declared.kinds.Kind.{Kind}
@@ -24,11 +24,13 @@ use Rattle.rm_redo.specs.declared.log_file.LogFile.{LogFile}
 use Rattle.rm_redo.specs.LogFile.{log_of}
 use Rattle.rm_redo.specs.LogFormat as log_format
 use Rattle.rm_redo.proofs.LogFitting.{spelling_same as log_same}
+use Rattle.rm_machine.specs.Damage.{has_file}
 use Rattle.rm_machine.specs.Effect.{Made, a_log, a_piece}
 use Rattle.rm_machine.specs.Machine.{DigestsTell, DigestsTellFor, IsBorneOut, IsTrueArtefact, Machine, PieceAgrees, TellBy}
 use Rattle.rm_machine.specs.Recovery.{IsAtHand}
 use Rattle.rm_machine.specs.declared.state.State.{State}
 use Rattle.rm_machine.specs.State.{ledger, world}
+use Rattle.rm_machine_code.proofs.Places.{placed-is}
 use Rattle.rm_machine_laws.proofs.AtHand.{BaseFrom, Level1From, LogFrom, base-from, from_copy, from_log, from_online, from_place, level1-from, log-from}
 
 -- a piece that is no level 1 agrees as a copy
@@ -70,9 +72,11 @@ module _ (s : State) (h : List Change) (objects : Held) (made : List Made) (touc
   log-by _ (from_log l a has there) = log-agrees l a has there
 
   pub base-by : (a : Piece) → BaseFrom s objects a → BaseAgrees (world s) h (base_of a)
-  base-by _ (from_place k x at) =
+  base-by _ (from_place k x at clear) =
       let back : suc k - 1 ≡ k = omega arith in
-      borne.keeps.place (suc k) x (ap (λ n. slice_index_or s.instance.place n None) back ∙ index-get s.instance.place k x at)
+      let stands = index-get s.instance.place k x at in
+      let number : x.file ≡ 1 + k = omega (arith, (placed-is s k x borne.state.place stands).file) in
+      borne.keeps.place (suc k) x (ap (λ n. slice_index_or s.instance.place n None) back ∙ stands) (ap (has_file s.instance.damaged) number ∙ clear)
   base-by _ (from_copy p a has kind there) =
       as-base (world s) h a.kind a (λ e. kind (sym there.object.fields.kind ∙ e)) (piece-agrees p a has there)
 

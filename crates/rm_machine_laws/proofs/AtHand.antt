@@ -1,5 +1,5 @@
 -- Where what is at hand comes from: each artefact is in place, or the one of a record.
-use Rattle.std.proofs.Common.{◌≡◌, ◌≢◌, ◌<◌, ◌≤◌, ◌∙◌, inl, inr, ℕ, List, Some, false, ap, subst, arith, map, Contains, slice_get}
+use Rattle.std.proofs.Common.{◌≡◌, ◌≢◌, ◌<◌, ◌≤◌, ◌∙◌, ◌+◌, inl, inr, ℕ, List, Some, false, ap, subst, arith, map, Contains, slice_get}
 use Rattle.std.specs.List.{filter_map}
 use Rattle.std.proofs.lemmas.List.Elements.{Contains-append_cases}
 use Rattle.rm_base.specs.Store.{Held}
@@ -15,10 +15,12 @@ use Rattle.rm_piece.specs.declared.piece.Piece.{Piece}
 use Rattle.rm_redo.specs.declared.log_file.LogFile.{LogFile}
 use Rattle.rm_catalog_typed.specs.TypedCatalog.{records_of}
 use Rattle.rm_catalog_typed.proofs.Members.{log-in, piece-in}
+use Rattle.rm_machine.specs.Damage.{has_file, undamaged}
 use Rattle.rm_machine.specs.Recovery.{IsAtHand, in_place, online_logs}
 use Rattle.rm_machine.specs.Sound.{IsSound}
 use Rattle.rm_machine.specs.declared.state.State.{State}
 use Rattle.rm_machine.specs.State.{ledger, counted, online, is_lost}
+use Rattle.rm_machine_code.proofs.Undamaged.{undamaged-at}
 use Rattle.rm_machine_code.proofs.Standing.{present-in}
 use Rattle.rm_machine_code.proofs.AtHand.{online-in}
 
@@ -27,9 +29,9 @@ pub data LogFrom (s : State) (held : Held) : LogFile → Type 0 where
   from_online : (t : ℕ) → 0 < t → t ≤ (ledger s).base.threads → is_lost s.instance.logs t ≡ false → LogFrom s held (online s t)
   from_log : (e : LogEntry) (a : LogFile) → Contains (ledger s).logs e → HasLogObject held e a → LogFrom s held a
 
--- a copy at hand is a datafile in place, or the piece of a record
+-- a copy at hand is a datafile in place of which no block is damaged, or the piece of a record
 pub data BaseFrom (s : State) (held : Held) : Piece → Type 0 where
-  from_place : (k : ℕ) (x : File) → slice_get s.instance.place k ≡ Some (Some x) → BaseFrom s held (placed_piece (ledger s).base.dbid (counted s x))
+  from_place : (k : ℕ) (x : File) → slice_get s.instance.place k ≡ Some (Some x) → has_file s.instance.damaged (1 + k) ≡ false → BaseFrom s held (placed_piece (ledger s).base.dbid (counted s x))
   from_copy : (p : PieceEntry) (a : Piece) → Contains (ledger s).pieces p → p.kind ≢ Level1 → HasPieceObject held p a → BaseFrom s held a
 
 -- a level 1 at hand is that of a record
@@ -54,9 +56,11 @@ module _ (s : State) (held : Held) (sound : IsSound s) (e : Evidence) (gathered 
   placed-file : (a : Piece) → Contains (map (placed_piece (ledger s).base.dbid) (in_place s).files) a → BaseFrom s held a
   placed-file a has =
       let piece = map_from (placed_piece (ledger s).base.dbid) (in_place s).files a has in
-      let file = map_from (counted s) (filter_map (λ o. o) s.instance.place) piece.item piece.held in
-      let at = present-in s.instance.place file.item file.held in
-      subst (BaseFrom s held) (ap (placed_piece (ledger s).base.dbid) file.is ∙ piece.is) (from_place at.0 file.item at.1)
+      let place = undamaged s.instance.damaged 1 s.instance.place in
+      let file = map_from (counted s) (filter_map (λ o. o) place) piece.item piece.held in
+      let at = present-in place file.item file.held in
+      let was = undamaged-at s.instance.damaged 1 s.instance.place at.0 file.item at.1 in
+      subst (BaseFrom s held) (ap (placed_piece (ledger s).base.dbid) file.is ∙ piece.is) (from_place at.0 file.item was.0 was.1)
 
   pub log-from : (id : ℕ) (a : LogFile) → Contains e.logs (id, a) → LogFrom s held a
   log-from id a has = elim (Contains-append_cases (placed (in_place s).logs) gathered.logs.rest (id, a) (subst (λ xs. Contains xs (id, a)) gathered.logs.list has)) [

@@ -1,7 +1,13 @@
 -- BACKUP leads on: the mark, the events, and then the pieces.
-use Rattle.std.proofs.Common.{◌≡◌, ◌⊎◌, ◌<◌, ◌≤◌, ◌+◌, ◌∙◌, ◌++◌, inl, inr, ℕ, List, Some, Ok, refl, sym, subst, arith, get_or, length, map, All, Contains}
+use Rattle.std.proofs.Common.{◌≡◌, ◌⊎◌, ◌<◌, ◌≤◌, ◌+◌, ◌∙◌, ◌++◌, ◌==◌, inl, inr, ℕ, List, Option, Some, None, Ok, false, refl, sym, subst, arith, get_or, length, map, All, Contains}
 use Rattle.std.proofs.lemmas.List.Elements.{Contains-get_or}
+use Rattle.std.specs.List.{list_any}
+use Rattle.std.specs.Option.{option_map}
+use Rattle.std.proofs.lemmas.Bool.{cases_Bool, eq-eqb, eqb-true}
 use Rattle.rm_base.specs.Store.{Held}
+use Rattle.rm_base.specs.declared.block.BlockId.{BlockId}
+use Rattle.rm_base.specs.declared.refusal.Refusal.TheVariants.{Rm17}
+use Rattle.rm_base.proofs.Lists.{any_fails, any_to, find_none}
 use Rattle.rm_base.specs.declared.block.Change.{Change}
 use Rattle.rm_base.specs.declared.block.Row.{Row}
 use Rattle.rm_catalog.specs.Objects.{IsTag}
@@ -30,8 +36,10 @@ use Rattle.rm_machine.specs.Asked.{blocks_read, span_of, writers_of, writes_in}
 use Rattle.rm_machine.specs.Events.{changes_of, opening}
 use Rattle.rm_machine.specs.MadePieces.{CanRecord, Copied, after_pieces, copied, pieces_made, pieces_put}
 use Rattle.rm_machine.specs.BackupOutcome.{at_end, begun, effect_of}
-use Rattle.rm_machine.specs.BackupRefusal.{mark_count}
-use Rattle.rm_machine_code.proofs.BackupAccepted.{CanBackUp, can-back_up}
+use Rattle.rm_machine.specs.BackupRefusal.{damage_refusal, damaged_taken, damaged_write, mark_count}
+use Rattle.rm_machine.specs.Damage.{has_block, has_file}
+use Rattle.rm_machine_code.proofs.BackupAccepted.{CanBackUp, can-back_up, unless-some}
+use Rattle.rm_machine_code.proofs.LosingFits.{no-block}
 use Rattle.rm_machine_code.proofs.Copies.{IsReady, all-copied, ready-true}
 use Rattle.rm_machine_code.proofs.BackupMarks.{borne-marked, marked-same}
 use Rattle.rm_machine_code.proofs.PiecesRead.{AreOthers, IsCheckpoint}
@@ -46,10 +54,31 @@ use Rattle.rm_machine_laws.proofs.Quiet.{landed, same-stays}
 use Rattle.rm_machine_code.proofs.BackingUp.{IsNoCandidate, IsReadyToRead, jobs-ready, of-each}
 use Rattle.rm_machine_code.proofs.BackingUp as shared
 
--- a datafile that is backed up, and can be
+-- of a datafile that is backed up no block is damaged
+pub taken-clean : (s : State) (b : BackupForm) → damage_refusal s b ≡ None → (f : ℕ) → Contains (taken s b) f → has_file s.instance.damaged f ≡ false
+taken-clean s b is f has =
+    any_fails (λ x. x.file == f) s.instance.damaged (λ x on same.
+    let none = (unless-some (λ (y : BlockId). Rm17 y.file y.block) (damaged_taken s b) _ is).0 in
+    find_none (λ y. list_any (λ g. g == y.file) (taken s b)) s.instance.damaged x none on (any_to (λ g. g == x.file) (taken s b) f has (eq-eqb f x.file (sym (eqb-true x.file f same)))))
+
+-- and none that is written is
+pub written-clean : (s : State) (b : BackupForm) → damage_refusal s b ≡ None → (w : WriteForm) → Contains (writes_in b) w → has_block s.instance.damaged w.file w.block ≡ false
+written-clean s b is w has = elim (cases_Bool (has_block s.instance.damaged w.file w.block)) [
+  | inr sound ↦ sound
+  | inl bad ↦
+      let rest = (unless-some (λ (y : BlockId). Rm17 y.file y.block) (damaged_taken s b) _ is).1 in
+      absurd (find_none (λ v. has_block s.instance.damaged v.file v.block) (writes_in b) w (mapped-none (damaged_write s (writes_in b)) rest) has bad)
+]
+  where
+    mapped-none : (o : Option WriteForm) → option_map (λ w. Rm17 w.file w.block) o ≡ None → o ≡ None
+    mapped-none None none = refl
+    mapped-none (Some v) none = absurd (cc)
+
+-- a datafile that is backed up, and can be, and of which no block is damaged
 record IsWanted (s : State) (b : BackupForm) (j : Job) : Type 0 where
   ready : IsReadyToRead s j
   asked : Contains (taken s b) j.file
+  clean : has_file s.instance.damaged j.file ≡ false
 
 -- The mark before its writes, and the bitmaps that end there
 
@@ -109,6 +138,7 @@ module _ (s : State) (b : BackupForm) (contents : All (λ (w : WriteForm). lengt
   all-wanted k d inside = record {
     ready = jobs-ready s b jobs sound are can.taken k d inside;
     asked = is-taken s b jobs are (get_or jobs k d) (Contains-get_or jobs k d inside);
+    clean = taken-clean s b can.clean (get_or jobs k d).file (is-taken s b jobs are (get_or jobs k d) (Contains-get_or jobs k d inside));
   }
 
   module _ (h : List Change) (objects : Held) (made : List Made) (touched : List (List ℕ)) (stands : IsBorneOut s h objects made touched) where
@@ -150,7 +180,8 @@ module _ (s : State) (b : BackupForm) (contents : All (λ (w : WriteForm). lengt
     true-one : (j : Job) (rs : List Row) → IsWanted s b j → WereRead u (map deed events) j rs → IsTrueArtefact (world t) later (a_piece (piece_by (ledger t) b (now_of s) j rs))
     true-one j rs is were =
         ready-true t b (now_of s) walked.can.sound at later j rs (ready-one j rs is.ready were)
-        (λ k r got. true-events ws events u h objects made touched goes-on borne-begun legal asked j.file (get_or (blocks_read u j) k 0) (now_of s) r (omega (arith, now-begun)) (were.each k r got))
+        (λ k r got. true-events ws events u h objects made touched goes-on borne-begun legal asked j.file (get_or (blocks_read u j) k 0) (now_of s) r
+        (no-block u.instance.damaged j.file (get_or (blocks_read u j) k 0) (marked-same (λ (q : State). has_file q.instance.damaged j.file) s b refl ∙ is.clean)) (omega (arith, now-begun)) (were.each k r got))
         (others j rs is were)
 
     true-all : All (λ x. IsTrueArtefact (world t) later (a_piece x.piece)) xs

@@ -17,6 +17,7 @@ use Rattle.rm_machine.specs.OpenResetlogs.{branched_off, next_incarnation, with_
 use Rattle.rm_machine.specs.Sound.{IsPlaced, IsPoint, IsSound}
 use Rattle.rm_machine.specs.declared.state.State.{State}
 use Rattle.rm_machine.specs.State.{ledger, world, current_of, redo_end}
+use Rattle.rm_machine_code.proofs.Damaged.{damaged-none}
 use Rattle.rm_machine_code.proofs.Tracked.{tracked-fresh}
 use Rattle.rm_machine_laws.proofs.Current.{current-kept}
 use Rattle.rm_machine_laws.proofs.FreshLogs.{fresh-found, fresh-many, fresh-online}
@@ -99,6 +100,7 @@ module _ (s : State) (at : ℕ) (sound : IsSound s) (can : CanBranchAt s at) whe
           each = λ t low inside found.
               fresh-online l.base.dbid n l.base.threads at tree t (redo_end q) base.dbid sound.dbid (omega arith) (omega (arith, few)) base.threads.1 begun (omega (arith, high, last)) (omega (arith, reset)) low inside end;
         };
+        damaged = damaged-none q (sound.damaged.idle can.shut);
         tracker = tracked-fresh q catalog-after refl;
         in_open = λ _. record { inc = refl; found = λ t low inside. fresh-found l.base.dbid n l.base.threads at t low inside; point = refl };
         point = λ m is. absurd (let none : None ≡ Some m = is in cc);

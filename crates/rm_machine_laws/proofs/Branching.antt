@@ -25,6 +25,7 @@ use Rattle.rm_machine_laws.proofs.Archives.{threads-stand}
 use Rattle.rm_machine_code.proofs.BranchesSound.{CanBranchAt}
 use Rattle.rm_machine_code.proofs.FirstTold.{tell-first}
 use Rattle.rm_machine_laws.proofs.BranchesSound.{end-branched, sound-branched}
+use Rattle.rm_machine_laws.proofs.DamagedRows.{but-damaged}
 use Rattle.rm_machine_laws.proofs.FreshLogs.{fresh-empty, fresh-first}
 use Rattle.rm_machine_laws.proofs.Grown.{SameHistory, true-on}
 use Rattle.rm_machine_laws.proofs.Leading.{LeadsOnBy, StaysBy}
@@ -72,9 +73,9 @@ module _ (s : State) (at : ℕ) (h : List Change) (sound : IsSound s) (keeps : H
     history = IsHistory-with_branch (world s) i at parents sound.catalog.ledger.current h keeps.history;
     below = below-branched;
     online = λ t low inside found. online-branched t low inside;
-    place = λ f x is. subst (λ y. BaseAgrees (world q) h (base_of y)) (sym (counted-open q x refl)) (rows-agree (world q) h (current_of q) (now_of q) x (rows f x is));
+    place = λ f x is none. subst (λ y. BaseAgrees (world q) h (base_of y)) (sym (counted-open q x refl)) (rows-agree (world q) h (current_of q) (now_of q) x (rows f x is));
     tracker = tell-first q.catalog.ledger true h below-branched;
-    in_open = λ opened f x is. rows f x is;
+    in_open = λ opened f x is. but-damaged q.instance.damaged (world q) h (current_of q) (now_of q) x (rows f x is);
     point = λ n none. absurd (let e : None ≡ Some n = none in cc);
   }
 

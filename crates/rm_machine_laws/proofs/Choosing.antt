@@ -15,6 +15,7 @@ use Rattle.rm_machine.specs.Sound.{IsPlaced, IsSound}
 use Rattle.rm_machine.specs.declared.state.State.{State}
 use Rattle.rm_machine.specs.State.{current_of, now_of, world}
 use Rattle.rm_lang_statement.specs.declared.command.Command.TheVariants.{ResetDatabase}
+use Rattle.rm_machine_code.proofs.Damaged.{damaged-none}
 use Rattle.rm_machine_code.proofs.Tracked.{tracked-none}
 use Rattle.rm_machine_code.proofs.FirstTold.{tell-none}
 use Rattle.rm_machine_laws.proofs.CountedLogs.{counted-agree, counted-online}
@@ -53,7 +54,8 @@ module _ (s : State) (i : ℕ) (sound : IsSound s) (can : CanChoose s i) where
           each = λ k d x file held. subst (IsPlaced s.catalog.ledger.tree k d) (counted-closed s x can.shut ∙ sym (counted-closed q x can.shut)) (sound.place.each k d x file held);
         };
         logs = record { dbid = logs.dbid; there = logs.there; threads = logs.threads; each = logs.each };
-        tracker = tracked-none q untracked;
+        damaged = damaged-none q (sound.damaged.idle can.shut);
+        tracker = tracked-none q (ap (λ b. b && s.catalog.ledger.base.tracking) can.shut) untracked;
         in_open = λ mode. absurd (false≢true (sym can.shut ∙ mode));
         point = λ at is. absurd (let e : None ≡ Some at = is in cc);
       }
@@ -63,7 +65,7 @@ module _ (s : State) (i : ℕ) (sound : IsSound s) (can : CanChoose s i) where
     history = keeps.history;
     below = keeps.below;
     online = counted-agree s i h sound.logs keeps.online;
-    place = λ f x is. subst (λ y. BaseAgrees (world s) h (base_of y)) (counted-closed s x can.shut ∙ sym (counted-closed q x can.shut)) (keeps.place f x is);
+    place = λ f x is none. subst (λ y. BaseAgrees (world s) h (base_of y)) (counted-closed s x can.shut ∙ sym (counted-closed q x can.shut)) (keeps.place f x is none);
     tracker = subst (Tell (current_of q) h (now_of q)) (sym untracked) (tell-none (current_of q) h (now_of q));
     in_open = λ mode. absurd (false≢true (sym can.shut ∙ mode));
     point = λ at is. absurd (let e : None ≡ Some at = is in cc);

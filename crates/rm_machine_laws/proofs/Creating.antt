@@ -9,6 +9,7 @@ use Rattle.rm_machine.specs.CreateDatabase.{fresh_machine, fresh_state}
 use Rattle.rm_machine.specs.Machine.{HistoryFits, IsSoundMachine}
 use Rattle.rm_machine.specs.Sound.{IsSound}
 use Rattle.rm_machine.specs.declared.state.State.{State}
+use Rattle.rm_machine_code.proofs.Damaged.{damaged-none}
 use Rattle.rm_machine_code.proofs.Tracked.{tracked-none}
 use Rattle.rm_machine_code.proofs.FirstTold.{tell-none}
 use Rattle.rm_machine_laws.proofs.FreshLogs.{fresh-empty, fresh-found, fresh-many, fresh-online}
@@ -28,7 +29,8 @@ module _ (dbid threads scn moment : ℕ) (some : 1 ≤ dbid) (small : dbid < 2 ^
       threads = fresh-many dbid 1 threads scn;
       each = λ t low high found. fresh-online dbid 1 threads scn s.catalog.ledger.tree t scn some small (omega arith) (omega arith) most first last (omega arith) low high refl;
     };
-    tracker = tracked-none s refl;
+    damaged = damaged-none s refl;
+    tracker = tracked-none s refl refl;
     in_open = λ opened. record { inc = refl; found = λ t low high. fresh-found dbid 1 threads scn t low high; point = refl };
     point = λ at here. absurd (let none : None ≡ Some at = here in cc);
   }
@@ -38,7 +40,7 @@ module _ (dbid threads scn moment : ℕ) (some : 1 ≤ dbid) (small : dbid < 2 ^
     history = record { changes = λ c held. absurd (none-in c held); apart = λ i j d less inside. absurd (omega (arith, inside)) };
     below = λ k d inside. absurd (omega (arith, inside));
     online = λ t low high found. ap (changes_in 1 t) (fresh-empty dbid 1 threads scn t scn low high);
-    place = λ f x held. absurd (cc);
+    place = λ f x held none. absurd (cc);
     tracker = tell-none 1 [] scn;
     in_open = λ opened f x held. absurd (cc);
     point = λ at here. absurd (let none : None ≡ Some at = here in cc);

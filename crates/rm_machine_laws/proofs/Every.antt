@@ -1,7 +1,7 @@
 -- The laws of every statement.
 use Rattle.std.proofs.Common.{◌≡◌, true, refl}
 use Rattle.rm_lang_statement.specs.declared.command.Command.{Command}
-use Rattle.rm_lang_statement.specs.declared.command.Command.TheVariants.{ArchiveLogCurrent, Backup, BackupLogs, CatalogName, ChangeBackup, CreateDatabase, CreateDatafile, Crosscheck, Cut, Damage, DeleteBackup, DeleteExpired, DeleteObsolete, Dump, ListArchived, ListBackup, ListCopy, ListIncarnation, LoseDatafile, LoseLog, Mount, OpenPlain, OpenResetlogs, Parallelism, Preview, Recover, RecoverTest, Remove, Rename, ReportNeedBackup, ReportObsolete, ReportSchema, ResetDatabase, Restore, Retention, ShowAll, SwitchLogfile, Tracking, ValidateAll, Write, RecoverCopy}
+use Rattle.rm_lang_statement.specs.declared.command.Command.TheVariants.{ArchiveLogCurrent, Backup, BackupLogs, BlockRecover, CatalogName, ChangeBackup, Corrupt, CreateDatabase, CreateDatafile, Crosscheck, Cut, Damage, DeleteBackup, DeleteExpired, DeleteObsolete, Dump, ListArchived, ListBackup, ListCopy, ListCorruption, ListIncarnation, LoseDatafile, LoseLog, Mount, OpenPlain, OpenResetlogs, Parallelism, Preview, Recover, RecoverTest, Remove, Rename, ReportNeedBackup, ReportObsolete, ReportSchema, ResetDatabase, Restore, Retention, ShowAll, SwitchLogfile, Tracking, ValidateAll, Write, RecoverCopy}
 use Rattle.rm_machine.specs.Laws.{LeadsOn, TellsOn, only_tells}
 use Rattle.rm_machine_laws.proofs.AddingDatafile.{create-on, create-stays}
 use Rattle.rm_machine_laws.proofs.ArchivingAll.{all-on, all-stays}
@@ -10,6 +10,7 @@ use Rattle.rm_machine_laws.proofs.BackingUpLogs.{back_logs-on, back_logs-stays}
 use Rattle.rm_machine_laws.proofs.Branching.{resets-on, resets-stays}
 use Rattle.rm_machine_laws.proofs.Cataloguing.{catalog-leads, catalog-loose, catalog-roomy, catalog-stays}
 use Rattle.rm_machine_laws.proofs.Choosing.{choose-on, choose-stays}
+use Rattle.rm_machine_laws.proofs.Corrupting.{corrupt-on, corrupt-stays}
 use Rattle.rm_machine_laws.proofs.Deleting.{delete-on, delete-stays}
 use Rattle.rm_machine_laws.proofs.DeletingObsolete.{obsolete-on, obsolete-stays}
 use Rattle.rm_machine_laws.proofs.Mishaps.{cut-on, cut-stays, damage-on, damage-stays, remove-on, remove-stays, rename-on, rename-stays}
@@ -20,6 +21,7 @@ use Rattle.rm_machine_laws.proofs.Mounting.{mount-on, mount-stays}
 use Rattle.rm_machine_laws.proofs.Opening.{open-on, open-stays}
 use Rattle.rm_machine_laws.proofs.Recovered.{recover-on, recover-stays}
 use Rattle.rm_machine_laws.proofs.Renewals.{renew-on, renew-stays}
+use Rattle.rm_machine_laws.proofs.Repairing.{repair-on, repair-stays}
 use Rattle.rm_machine_laws.proofs.Restoring.{restore-on, restore-stays}
 use Rattle.rm_machine_laws.proofs.Settings.{parallelism-on, parallelism-stays, retention-on, retention-stays}
 use Rattle.rm_machine_laws.proofs.Switching.{switch-on, switch-stays}
@@ -34,8 +36,8 @@ use Rattle.rm_machine_laws.proofs.LooseCopies.{renew-loose}
 use Rattle.rm_machine_laws.proofs.LooseMishaps.{cut-loose, damage-loose, remove-loose, rename-loose}
 use Rattle.rm_machine_laws.proofs.LooseNew.{archive-loose, branch-loose, switch-loose}
 use Rattle.rm_machine_laws.proofs.LooseUpkeep.{change-loose, check-loose, delete-loose, expire-loose, obsolete-loose}
-use Rattle.rm_machine_laws.proofs.LooseQuiet.{choose-loose, create-loose, lose-loose, lose_log-loose, mount-loose, open-loose, parallelism-loose, recover-loose, restore-loose, retention-loose, told-loose, tracking-loose, write-loose}
-use Rattle.rm_machine_laws.proofs.Roomy.{LeavesIds, archive-roomy, back_logs-roomy, backup-roomy, branch-roomy, change-roomy, check-roomy, choose-roomy, create-roomy, cut-roomy, damage-roomy, delete-roomy, expire-roomy, lose-roomy, lose_log-roomy, mount-roomy, never-roomy, obsolete-roomy, open-roomy, parallelism-roomy, recover-roomy, remove-roomy, rename-roomy, restore-roomy, retention-roomy, switch-roomy, told-roomy, tracking-roomy, write-roomy, renew-roomy}
+use Rattle.rm_machine_laws.proofs.LooseQuiet.{choose-loose, corrupt-loose, create-loose, lose-loose, lose_log-loose, mount-loose, open-loose, parallelism-loose, recover-loose, repair-loose, restore-loose, retention-loose, told-loose, tracking-loose, write-loose}
+use Rattle.rm_machine_laws.proofs.Roomy.{LeavesIds, archive-roomy, back_logs-roomy, backup-roomy, branch-roomy, change-roomy, check-roomy, choose-roomy, corrupt-roomy, create-roomy, cut-roomy, damage-roomy, delete-roomy, expire-roomy, lose-roomy, lose_log-roomy, mount-roomy, never-roomy, obsolete-roomy, open-roomy, parallelism-roomy, recover-roomy, remove-roomy, rename-roomy, repair-roomy, restore-roomy, retention-roomy, switch-roomy, told-roomy, tracking-roomy, write-roomy, renew-roomy}
 
 -- what is shown of each statement
 record IsLawful (c : Command) : Type 0 where
@@ -68,6 +70,7 @@ every OpenResetlogs = lawful OpenResetlogs resets-on resets-stays branch-loose b
 every (ResetDatabase i) = lawful (ResetDatabase i) (choose-on i) (choose-stays i) (choose-loose i) (choose-roomy i)
 every (Backup b) = lawful (Backup b) (backup-on b) (backup-stays b) (backup-loose b) (backup-roomy b)
 every BackupLogs = lawful BackupLogs back_logs-on back_logs-stays back_logs-loose back_logs-roomy
+every (BlockRecover form) = lawful (BlockRecover form) (repair-on form) (repair-stays form) (repair-loose form) (repair-roomy form)
 every (Restore file until) = lawful (Restore file until) (restore-on file until) (restore-stays file until) (restore-loose file until) (restore-roomy file until)
 every (Recover until) = lawful (Recover until) (recover-on until) (recover-stays until) (recover-loose until) (recover-roomy until)
 every (RecoverCopy tag until) = lawful (RecoverCopy tag until) (renew-on tag until) (renew-stays tag until) (renew-loose tag until) (renew-roomy tag until)
@@ -78,6 +81,7 @@ every ListIncarnation = telling ListIncarnation refl
 every ListBackup = telling ListBackup refl
 every ListCopy = telling ListCopy refl
 every ListArchived = telling ListArchived refl
+every ListCorruption = telling ListCorruption refl
 every ReportObsolete = telling ReportObsolete refl
 every ReportNeedBackup = telling ReportNeedBackup refl
 every ReportSchema = telling ReportSchema refl
@@ -94,6 +98,7 @@ every (Tracking on) = lawful (Tracking on) (tracking-on on) (tracking-stays on) 
 every (CatalogName name) = record { leads_on = catalog-leads name; stays_by = catalog-stays name; loose = catalog-loose name; roomy = catalog-roomy name }
 every (LoseDatafile file) = lawful (LoseDatafile file) (lose-on file) (lose-stays file) (lose-loose file) (lose-roomy file)
 every (LoseLog thread) = lawful (LoseLog thread) (lose_log-on thread) (lose_log-stays thread) (lose_log-loose thread) (lose_log-roomy thread)
+every (Corrupt file block) = lawful (Corrupt file block) (corrupt-on file block) (corrupt-stays file block) (corrupt-loose file block) (corrupt-roomy file block)
 every (Remove name) = lawful (Remove name) (remove-on name) (remove-stays name) (remove-loose name) (remove-roomy name)
 every (Damage name at) = lawful (Damage name at) (damage-on name at) (damage-stays name at) (damage-loose name at) (damage-roomy name at)
 every (Cut name to) = lawful (Cut name to) (cut-on name to) (cut-stays name to) (cut-loose name to) (cut-roomy name to)

@@ -13,6 +13,7 @@ use Rattle.rm_machine.specs.Machine.{HistoryFits, RowsAre}
 use Rattle.rm_machine.specs.Sound.{IsSound}
 use Rattle.rm_machine.specs.declared.state.State.{State}
 use Rattle.rm_machine.specs.State.{ledger, world, current_of}
+use Rattle.rm_machine_laws.proofs.DamagedRows.{closed-file}
 use Rattle.rm_machine_code.proofs.Places.{counted-closed}
 use Rattle.rm_machine_code.proofs.Exchanging.{exchanged}
 use Rattle.rm_machine_code.proofs.Exchanging as shared
@@ -29,7 +30,7 @@ module _ (s : State) (point : Option ℕ) (place : List (Option File)) (sound : 
       | inl old ↦
           let back : k + 1 - 1 ≡ k = omega arith in
           subst (λ y. BaseAgrees (world s) h (base_of y)) (counted-closed s x closed)
-          (keeps.place (k + 1) x (ap (λ n. slice_index_or s.instance.place n None) back ∙ index-get s.instance.place k x old))
+          (keeps.place (k + 1) x (ap (λ n. slice_index_or s.instance.place n None) back ∙ index-get s.instance.place k x old) (closed-file s x.file sound closed))
     ]
 
     -- the history goes together with it, where that is so at the point
@@ -38,7 +39,7 @@ module _ (s : State) (point : Option ℕ) (place : List (Option File)) (sound : 
       history = keeps.history;
       below = keeps.below;
       online = keeps.online;
-      place = λ f x is.
+      place = λ f x is none.
           let at = get-index place (f - 1) x is in
           let file = item-at (ledger s).files (f - 1) (omega (arith, slice_get_within place (f - 1) (Some x) at, many, sound.place.many)) in
           subst (λ y. BaseAgrees (world s) h (base_of y)) (sym (counted-closed (exchanged s point place) x closed)) (agrees-at (f - 1) file.0 x file.1 at);

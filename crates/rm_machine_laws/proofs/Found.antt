@@ -1,5 +1,5 @@
 -- What a read finds in an open database, and that it stays true.
-use Rattle.std.proofs.Common.{◌≡◌, ◌≤◌, ◌+◌, ◌++◌, inl, inr, ℕ, List, [], ◌∷◌, true, sym, subst}
+use Rattle.std.proofs.Common.{◌≡◌, ◌≤◌, ◌+◌, ◌++◌, ◌∙◌, inl, inr, ℕ, List, [], ◌∷◌, true, false, ap, sym, subst}
 use Rattle.rm_base.specs.declared.block.Change.{Change}
 use Rattle.rm_base.specs.declared.block.Row.{Row}
 use Rattle.rm_base.proofs.Members.{first-or-rest, in-front, none-in}
@@ -10,6 +10,7 @@ use Rattle.rm_history.specs.State.{state}
 use Rattle.rm_history.proofs.Growth.{BaseAgrees-grown}
 use Rattle.rm_history.proofs.Worlds.{BaseAgrees-with_end}
 use Rattle.rm_lang_statement.specs.declared.command.WriteForm.{WriteForm}
+use Rattle.rm_machine.specs.Damage.{has_block}
 use Rattle.rm_machine.specs.Machine.{HistoryFits}
 use Rattle.rm_machine.specs.Sound.{IsSound}
 use Rattle.rm_machine.specs.Write.{change_of, with_write}
@@ -17,14 +18,16 @@ use Rattle.rm_machine.specs.declared.state.State.{State}
 use Rattle.rm_machine.specs.State.{current_of, now_of, world}
 use Rattle.rm_machine_code.proofs.Writes.{Accepted}
 use Rattle.rm_machine_laws.proofs.WritesKeep.{keeps-write}
-use Rattle.rm_machine_code.proofs.Found.{IsReadOf}
+use Rattle.rm_machine_code.proofs.Found.{IsReadOf, read-found}
 
 module _ (u : State) (f b : ℕ) (r : Row) (sound : IsSound u) (opened : u.instance.is_open ≡ true) (is : IsReadOf u f b r) where
-  -- and the state of its block now
-  pub read-true : (h : List Change) (checkpoint : ℕ) → HistoryFits u h → checkpoint ≤ now_of u → IsRow (world u) h (current_of u) f checkpoint r
-  read-true h checkpoint keeps most =
+  -- and the state of its block now, where that is not damaged
+  pub read-true : (h : List Change) (checkpoint : ℕ) → HistoryFits u h → has_block u.instance.damaged f b ≡ false → checkpoint ≤ now_of u → IsRow (world u) h (current_of u) f checkpoint r
+  read-true h checkpoint keeps clear most =
       let states = keeps.in_open opened f is.file is.stands in
-      let one = all-get (λ (y : Row). y ≡ state (world u) h (current_of u) (now_of u) is.file.file y.block) is.file.rows b r is.row states in
+      let block = (read-found u f b r sound opened is).0 in
+      let of : has_block u.instance.damaged is.file.file r.block ≡ false = ap (λ g. has_block u.instance.damaged g r.block) is.number ∙ ap (has_block u.instance.damaged f) block ∙ clear in
+      let one = all-get (λ (y : Row). has_block u.instance.damaged is.file.file y.block ≡ false → y ≡ state (world u) h (current_of u) (now_of u) is.file.file y.block) is.file.rows b r is.row states of in
       record { position = now_of u; after = most; is = sym (subst (λ n. r ≡ state (world u) h (current_of u) (now_of u) n r.block) is.number one) }
 
 -- a row that was true at or after a checkpoint is so after one WRITE more

@@ -1,9 +1,8 @@
 -- One SCN further: the current incarnation of an open database ends one SCN later, behind the mark of `now`.
-use Rattle.std.proofs.Common.{◌≡◌, ◌<◌, ◌≤◌, ◌+◌, ◌∙◌, ℕ, List, Some, refl, ap, sym, subst, arith, All}
+use Rattle.std.proofs.Common.{◌≡◌, ◌<◌, ◌≤◌, ◌+◌, ◌∙◌, ℕ, List, Some, false, refl, ap, sym, subst, arith, All}
 use Rattle.std.proofs.lemmas.List.Elements.{All-weaker}
 use Rattle.rm_base.specs.declared.block.Change.{Change}
-use Rattle.rm_blocks.specs.File.{File, base_of}
-use Rattle.rm_history.specs.Agrees.{BaseAgrees}
+use Rattle.rm_blocks.specs.File.{File}
 use Rattle.rm_history.specs.declared.tree.Incarnation.{Incarnation}
 use Rattle.rm_history.specs.State.{state}
 use Rattle.rm_history.specs.Tree.{IsThere, end_of, owner, reset_of}
@@ -13,14 +12,14 @@ use Rattle.rm_history.proofs.Owners.{owner-here}
 use Rattle.rm_history.proofs.Worlds.{BaseAgrees-with_end, Level1Agrees-with_end}
 use Rattle.rm_catalog_typed.proofs.Trees.{Keeps, parents_below}
 use Rattle.rm_redo.specs.LogFile.{log_of}
-use Rattle.rm_machine.specs.Machine.{HistoryFits, RowsAre}
+use Rattle.rm_machine.specs.Damage.{has_block}
+use Rattle.rm_machine.specs.Machine.{HistoryFits, SoundRowsAre}
 use Rattle.rm_machine.specs.Sound.{IsSound}
 use Rattle.rm_machine.specs.declared.state.State.{State}
 use Rattle.rm_machine.specs.State.{world, now_of, redo_end, placed, online}
 use Rattle.rm_machine_laws.proofs.Bitmaps.{tell-later}
 use Rattle.rm_machine_laws.proofs.Grown.{SameHistory}
-use Rattle.rm_machine_laws.proofs.Opened.{rows-agree}
-use Rattle.rm_machine_code.proofs.Places.{counted-open}
+use Rattle.rm_machine_laws.proofs.DamagedRows.{sound-agrees}
 use Rattle.rm_machine_code.proofs.Further.{GoesOn}
 use Rattle.rm_machine_code.proofs.Further as shared
 
@@ -63,15 +62,15 @@ module _ (s : State) (sound : IsSound s) (on : GoesOn s) where
   owns-now = owner-here old (parents_below old sound.catalog.ledger.incarnations) i now there.0 range.1
 
   module _ (h : List Change) (keeps : HistoryFits s h) where
-    state-further : (f b : ℕ) → state (world q) h i (now_of q) f b ≡ state (world s) h i now f b
+    pub state-further : (f b : ℕ) → state (world q) h i (now_of q) f b ≡ state (world s) h i now f b
     state-further f b =
         ap (λ n. state (world q) h i n f b) now-further
         ∙ state-with_end (world s) i (now + 1) h i (now + 1) f b there ∙ state-end (world s) h i f b owns-now keeps.below
 
-    pub rows-further : (f : ℕ) (x : File) → placed s f ≡ Some x → RowsAre (world q) h i (now_of q) x
+    pub rows-further : (f : ℕ) (x : File) → placed s f ≡ Some x → SoundRowsAre s.instance.damaged (world q) h i (now_of q) x
     rows-further f x is =
-        All-weaker (λ r. r ≡ state (world s) h i now x.file r.block) (λ r. r ≡ state (world q) h i (now_of q) x.file r.block)
-        (λ r was. was ∙ sym (state-further x.file r.block)) x.rows (keeps.in_open on.opened f x is)
+        All-weaker (λ r. has_block s.instance.damaged x.file r.block ≡ false → r ≡ state (world s) h i now x.file r.block) (λ r. has_block s.instance.damaged x.file r.block ≡ false → r ≡ state (world q) h i (now_of q) x.file r.block)
+        (λ r was clear. was clear ∙ sym (state-further x.file r.block)) x.rows (keeps.in_open on.opened f x is)
 
     logs-further : (t : ℕ) → Further (log_of (online s t)) (log_of (online q t))
     logs-further t = record { inc = refl; thread = refl; first = refl; next = keeps-further.end s.instance.logs.inc sound.logs.there }
@@ -81,7 +80,7 @@ module _ (s : State) (sound : IsSound s) (on : GoesOn s) where
       history = IsHistory-with_end (world s) i (now + 1) h there keeps.history;
       below = below-risen old i (now + 1) h there (omega arith) (λ c held. (keeps.history.changes c held).there) keeps.below;
       online = λ t low high found. agrees-further h (log_of (online s t)) (log_of (online q t)) (logs-further t) refl (below-redo s h keeps.below) (keeps.online t low high found);
-      place = λ f x is. subst (λ y. BaseAgrees (world q) h (base_of y)) (sym (counted-open q x on.opened)) (rows-agree (world q) h i (now_of q) x (rows-further f x is));
+      place = λ f x is none. sound-agrees q h x on.opened (rows-further f x is) none;
       tracker = tell-later i h now (now_of q) s.instance.tracker (omega (arith, now-further)) keeps.tracker;
       in_open = λ _ f x is. rows-further f x is;
       point = λ n is. let none = (sound.in_open on.opened).point in absurd (cc);

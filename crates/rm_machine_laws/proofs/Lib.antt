@@ -13,11 +13,15 @@ mod Bitmaps
 pub mod Carried
 mod Choosing
 mod Cleared
+mod Corrupting
 mod CountedLogs
 pub mod Creating
 mod Current
+mod DamagedLists
+mod DamagedRows
 mod Deleting
 mod DeletingObsolete
+mod Mended
 mod Mishaps
 mod Dropping
 pub mod Every
@@ -51,6 +55,7 @@ mod Recording
 mod Recovered
 mod Renewals
 mod Renewing
+mod Repairing
 mod Restoring
 mod Roomy
 pub mod Safely

@@ -1,13 +1,17 @@
 -- Statements that put nothing and take nothing away.
-use Rattle.std.proofs.Common.{◌≡◌, ℕ, List, [], Option, Some, None, Bool, true, inl, inr}
+use Rattle.std.proofs.Common.{◌≡◌, ◌⊎◌, ℕ, List, [], Option, Some, None, Bool, true, inl, inr}
 use Rattle.rm_base.specs.Store.{Held}
 use Rattle.rm_lang_statement.specs.declared.command.Command.{Command}
-use Rattle.rm_lang_statement.specs.declared.command.Command.TheVariants.{CreateDatafile, LoseDatafile, LoseLog, Mount, OpenPlain, Parallelism, Recover, ResetDatabase, Restore, Retention, Tracking, Write}
+use Rattle.rm_lang_statement.specs.declared.command.Command.TheVariants.{BlockRecover, Corrupt, CreateDatafile, LoseDatafile, LoseLog, Mount, OpenPlain, Parallelism, Recover, ResetDatabase, Restore, Retention, Tracking, Write}
+use Rattle.rm_evidence.specs.declared.evidence.Evidence.{Evidence}
+use Rattle.rm_lang_statement.specs.declared.command.RepairForm.{RepairForm}
 use Rattle.rm_lang_statement.specs.declared.command.RetentionForm.{RetentionForm}
 use Rattle.rm_lang_statement.specs.declared.command.Until.{Until}
 use Rattle.rm_lang_statement.specs.declared.command.WriteForm.{WriteForm}
 use Rattle.rm_report.specs.declared.line.Line.{Line}
 use Rattle.rm_machine.specs.Configure.{policy_of, with_channels, with_policy}
+use Rattle.rm_machine.specs.BlockRecover.{MendsBlocks, MissesBlock}
+use Rattle.rm_machine.specs.Corrupt.{corrupted}
 use Rattle.rm_machine.specs.Effect.{Effect, done, no_effect}
 use Rattle.rm_machine.specs.Laws.{only_tells}
 use Rattle.rm_machine.specs.LoseDatafile.{without_file}
@@ -82,6 +86,16 @@ restore-by (Some at) file until s held lines e t does = quiet-loose s (Restore f
 
 pub restore-loose : (file : Option ℕ) (until : Option Until) → StaysLoose (Restore file until)
 restore-loose file until = loose-done (Restore file until) (λ s held lines e t sound none does. restore-by (recover_target s until) file until s held lines e t does)
+
+pub corrupt-loose : (f b : ℕ) → StaysLoose (Corrupt f b)
+corrupt-loose f b = loose-done (Corrupt f b) (λ s held lines e t sound none does. quiet-loose s (Corrupt f b) lines _ e (corrupted s f does.0) t does.2)
+
+repair-by : (form : RepairForm) (s : State) (evidence : Evidence) (lines : List Line) (e : Effect) (t : State) → MissesBlock s evidence form (done lines e t) ⊎ MendsBlocks s evidence form (done lines e t) → IsLoose (Some s) (BlockRecover form) e t
+repair-by form s evidence lines e t (inl misses) = absurd (let clash = misses.is in cc)
+repair-by form s evidence lines e t (inr it) = let is = it.is in nothing-named (Some s) (BlockRecover form) e t (let puts : e.puts ≡ [] = cc in puts) (let removes : e.removes ≡ [] = cc in removes)
+
+pub repair-loose : (form : RepairForm) → StaysLoose (BlockRecover form)
+repair-loose form = loose-done (BlockRecover form) (λ s held lines e t sound none does. repair-by form s does.evidence lines e t does.comes)
 
 -- what only tells is never done
 pub told-loose : (c : Command) → only_tells c ≡ true → StaysLoose c

@@ -19,6 +19,7 @@ use Rattle.rm_machine.specs.Mount.{as_mounted}
 use Rattle.rm_machine.specs.Sound.{AreOnline, IsOnline, IsSound}
 use Rattle.rm_machine.specs.declared.state.State.{State}
 use Rattle.rm_machine.specs.State.{ledger, tree, current_of, is_lost, online, redo_end}
+use Rattle.rm_machine_code.proofs.Damaged.{damaged-none}
 use Rattle.rm_machine_code.proofs.Tracked.{tracked-same}
 use Rattle.rm_machine_laws.proofs.CountedLogs.{AgreeOnline, counted-agree, counted-online, with_logs}
 use Rattle.rm_machine_laws.proofs.Leading.{LeadsOnBy, StaysBy}
@@ -83,6 +84,7 @@ module _ (s : State) (t : ℕ) (sound : IsSound s) (shut : s.instance.is_open �
         dbid = sound.dbid;
         place = record { many = sound.place.many; each = sound.place.each };
         logs = record { dbid = logs.dbid; there = logs.there; threads = logs.threads; each = logs.each };
+        damaged = damaged-none q (sound.damaged.idle shut);
         tracker = tracked-same s q sound.tracker;
         in_open = λ mode. absurd (false≢true (sym shut ∙ mode));
         point = λ at here. let was = sound.point at here in record { low = was.low; high = was.high; stands = was.stands };

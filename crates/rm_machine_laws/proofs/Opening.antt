@@ -18,8 +18,10 @@ use Rattle.rm_machine.specs.Sound.{IsPlaced, IsSound}
 use Rattle.rm_machine.specs.declared.state.State.{State}
 use Rattle.rm_machine.specs.State.{world, current_of, now_of, placed, counted, is_lost}
 use Rattle.rm_lang_statement.specs.declared.command.Command.TheVariants.{OpenPlain}
+use Rattle.rm_machine_code.proofs.Damaged.{damaged-none}
 use Rattle.rm_machine_code.proofs.Tracked.{tracked-fresh}
 use Rattle.rm_machine_code.proofs.FirstTold.{tell-first}
+use Rattle.rm_machine_laws.proofs.DamagedRows.{but-damaged}
 use Rattle.rm_machine_laws.proofs.Opened.{below-point, kept-get, kept-length, kept-rows, placed-standing, rows-agree}
 use Rattle.rm_base.proofs.Conditions.{only-where, unless}
 use Rattle.rm_machine_laws.proofs.Leading.{LeadsOnBy, StaysBy}
@@ -81,6 +83,7 @@ module _ (s : State) (sound : IsSound s) (can : CanOpen s) where
     dbid = sound.dbid;
     place = record { many = kept-length (world s) i now s.catalog.ledger.files s.instance.place sound.place.many; each = place-after };
     logs = record { dbid = sound.logs.dbid; there = sound.logs.there; threads = sound.logs.threads; each = sound.logs.each };
+    damaged = damaged-none q (sound.damaged.idle can.shut);
     tracker = tracked-fresh q sound.catalog refl;
     in_open = λ mode. record { inc = can.inc; found = λ t low high. can.found t; point = refl };
     point = λ at is. absurd (let e : None ≡ Some at = is in cc);
@@ -95,9 +98,9 @@ module _ (s : State) (sound : IsSound s) (can : CanOpen s) where
       history = keeps.history;
       below = keeps.below;
       online = keeps.online;
-      place = λ f x is. subst (λ y. BaseAgrees (world s) h (base_of y)) (sym (counted-open q x refl)) (rows-agree (world s) h i now x (rows f x is));
+      place = λ f x is none. subst (λ y. BaseAgrees (world s) h (base_of y)) (sym (counted-open q x refl)) (rows-agree (world s) h i now x (rows f x is));
       tracker = tell-first s.catalog.ledger true h keeps.below;
-      in_open = λ mode f x is. rows f x is;
+      in_open = λ mode f x is. but-damaged q.instance.damaged (world s) h i now x (rows f x is);
       point = λ at is. absurd (let e : None ≡ Some at = is in cc);
     }
 

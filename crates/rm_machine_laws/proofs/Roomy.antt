@@ -1,12 +1,13 @@
 -- What is done leaves the ids of a save.
-use Rattle.std.proofs.Common.{◌≡◌, ◌≤◌, ◌+◌, ◌∙◌, ◌∷◌, ◌==◌, ◌||◌, nat_lt, ℕ, zero, suc, List, [], Option, Some, None, IsSomeAnd, Bool, true, false, cond, inl, inr, refl, ap, sym, arith, rules, length, map}
-use Rattle.std.specs.Option.{option_map_or}
+use Rattle.std.proofs.Common.{◌≡◌, ◌⊎◌, ◌≤◌, ◌+◌, ◌∙◌, ◌∷◌, ◌==◌, ◌||◌, nat_lt, ℕ, zero, suc, List, [], Option, Some, None, IsSomeAnd, is_none, Bool, true, false, cond, inl, inr, refl, ap, sym, arith, rules, length, map}
+use Rattle.std.specs.Option.{option_and_then, option_map_or}
 use Rattle.std.proofs.lemmas.Bool.{le-ltb}
 use Rattle.rm_base.specs.Store.{Held}
+use Rattle.rm_base.specs.declared.block.Row.{Row}
 use Rattle.rm_base.specs.declared.kinds.Class.{Class}
 use Rattle.rm_base.specs.declared.kinds.Status.{Status}
 use Rattle.rm_base.specs.declared.refusal.Refusal.{Refusal}
-use Rattle.rm_base.specs.declared.refusal.Refusal.TheVariants.{Rm03, Rm05}
+use Rattle.rm_base.specs.declared.refusal.Refusal.TheVariants.{Rm03, Rm05, Rm09}
 use Rattle.rm_base.specs.declared.refusal.Absent.TheVariants.{File}
 use Rattle.rm_base.proofs.Conditions.{only-where, unless}
 use Rattle.rm_catalog.specs.declared.record.BaseEntry.{BaseEntry}
@@ -20,21 +21,30 @@ use Rattle.rm_lang_statement.specs.declared.command.BackupForm.{BackupForm}
 use Rattle.rm_lang_statement.specs.declared.command.ChangeTo.{ChangeTo}
 use Rattle.rm_lang_statement.specs.declared.command.ChangeTo.TheVariants.{Available, Keep, NoKeep, Unavailable, Uncatalog}
 use Rattle.rm_lang_statement.specs.declared.command.Command.{Command}
-use Rattle.rm_lang_statement.specs.declared.command.Command.TheVariants.{ArchiveLogCurrent, Backup, BackupLogs, ChangeBackup, CreateDatabase, CreateDatafile, Crosscheck, Cut, Damage, DeleteBackup, DeleteExpired, DeleteObsolete, LoseDatafile, LoseLog, Mount, OpenPlain, OpenResetlogs, Recover, Remove, Rename, ResetDatabase, Restore, SwitchLogfile, Tracking, Write, Parallelism, Retention, RecoverCopy}
+use Rattle.rm_lang_statement.specs.declared.command.Command.TheVariants.{ArchiveLogCurrent, Backup, BackupLogs, BlockRecover, ChangeBackup, Corrupt, CreateDatabase, CreateDatafile, Crosscheck, Cut, Damage, DeleteBackup, DeleteExpired, DeleteObsolete, LoseDatafile, LoseLog, Mount, OpenPlain, OpenResetlogs, Recover, Remove, Rename, ResetDatabase, Restore, SwitchLogfile, Tracking, Write, Parallelism, Retention, RecoverCopy}
 use Rattle.rm_lang_statement.specs.declared.command.Until.{Until}
+use Rattle.rm_evidence.specs.declared.evidence.Evidence.{Evidence}
+use Rattle.rm_lang_statement.specs.declared.command.RepairForm.{RepairForm}
 use Rattle.rm_lang_statement.specs.declared.command.RetentionForm.{RetentionForm}
 use Rattle.rm_lang_statement.specs.declared.command.WriteForm.{WriteForm}
 use Rattle.rm_machine.specs.Archive.{after_all, after_thread, after_threads, archiving, due_from}
+use Rattle.rm_machine.specs.Asked.{asked}
 use Rattle.rm_machine.specs.BackupOutcome.{at_end, effect_of}
+use Rattle.rm_machine.specs.BackupRefusal.{absent_of, lost_of}
+use Rattle.rm_machine.specs.BlockRecover.{MendsBlocks, MissesBlock, repair_begun, without_mended}
+use Rattle.rm_machine.specs.BlockRecoverRefusal.{absent_named, lost_named, repair_refusal, repair_room_refusal}
+use Rattle.rm_machine.specs.Corrupt.{corrupt_block_refusal, corrupt_refusal, corrupted, with_damage}
 use Rattle.rm_machine.specs.MadePieces.{Copied, after_piece, after_pieces, copied}
 use Rattle.rm_machine.specs.BackupLogs.{copies_of, copies_refusal, copy_entry, copying, numbered_from, with_copies}
 use Rattle.rm_machine.specs.CreateDatafile.{with_datafile}
+use Rattle.rm_machine.specs.Damage.{has_block, without_damaged}
+use Rattle.rm_machine.specs.Events.{after_events}
 use Rattle.rm_machine.specs.Configure.{policy_of, with_channels, with_policy}
 use Rattle.rm_machine.specs.Effect.{Effect, done, no_effect, refused}
 use Rattle.rm_machine.specs.Laws.{only_tells}
 use Rattle.rm_machine.specs.LoseDatafile.{without_file}
 use Rattle.rm_machine.specs.LoseLog.{without_log}
-use Rattle.rm_machine.specs.Marks.{ids_refusal, lacks_ids}
+use Rattle.rm_machine.specs.Marks.{ids_refusal, lacks_ids, marks_before, with_marks}
 use Rattle.rm_machine.specs.Mount.{as_mounted, mounted}
 use Rattle.rm_machine.specs.Open.{opened}
 use Rattle.rm_machine.specs.OpenResetlogs.{branched_off, resetlogs_lines}
@@ -64,6 +74,7 @@ use Rattle.rm_machine_laws.proofs.Mishaps.{IsMishap, cut-by, damaged-by, removed
 use Rattle.rm_machine_laws.proofs.Leading.{done-by}
 use Rattle.rm_machine_laws.proofs.Renewals.{leaves-renewed}
 use Rattle.rm_machine_code.proofs.Switching.{not-above}
+use Rattle.rm_machine_code.proofs.Walk.{events-same}
 use Rattle.rm_machine_laws.proofs.Telling.{never-done}
 use Rattle.rm_machine_code.proofs.Untils.{until-none}
 
@@ -134,7 +145,7 @@ pub write-roomy : (w : WriteForm) → LeavesIds (Write w)
 write-roomy w = draws-none (Write w) (write-asks w)
     (λ s held lines e t is left. none-drawn s lines _ e _ (with_write s w) t is refl left)
 
-mounted-next : (b : Bool) (s : State) → next (cond b (mounted s) s) ≡ next s
+mounted-next : (b : Bool) (s : State) → next (cond b (mounted (without_damaged s)) s) ≡ next s
 mounted-next true s = refl
 mounted-next false s = refl
 
@@ -157,6 +168,50 @@ lose-roomy f = draws-none (LoseDatafile f) (λ s is. search rules)
 pub lose_log-roomy : (thread : ℕ) → LeavesIds (LoseLog thread)
 lose_log-roomy thread = draws-none (LoseLog thread) (λ s is. search rules)
     (λ s held lines e t is left. none-drawn s lines _ e _ (without_log (as_mounted s) thread) t is (mounted-next s.instance.is_open s) left)
+
+-- Damage, and its repair
+
+corrupted-next : (b : Bool) (s : State) (f : ℕ) (r : Row) → next (cond b s (with_damage s f r)) ≡ next s
+corrupted-next true s f r = refl
+corrupted-next false s f r = refl
+
+corrupt-asks : (f b : ℕ) (s : State) → Asks s (corrupt_refusal s f b)
+corrupt-asks f b s is =
+    let mode = only-where s.instance.is_open _ _ is in
+    asks-of s (corrupt_block_refusal s f b) (Rm05 (File f)) (on_path s f) (λ d none. search rules) mode.1
+
+pub corrupt-roomy : (f b : ℕ) → LeavesIds (Corrupt f b)
+corrupt-roomy f b = draws-none (Corrupt f b) (corrupt-asks f b)
+    (λ s held lines e t does left. none-drawn s lines _ e _ (corrupted s f does.0) t does.2 (corrupted-next (has_block s.instance.damaged f does.0.block) s f does.0) left)
+
+asks-more : {X : Type 0} (s : State) (r : X → Refusal) (o : Option X) (p : Option Refusal) → Asks s p → Asks s (option_map_or (λ x. Some (r x)) o p)
+asks-more s r None p asks is = asks is
+asks-more s r (Some x) p asks is = absurd (let clash : Some (r x) ≡ None = is in cc)
+
+room-asks : (s : State) (form : RepairForm) → Asks s (repair_room_refusal s form)
+room-asks s form is = search rules
+
+repair-asks : (form : RepairForm) (s : State) → Asks s (repair_refusal s form)
+repair-asks form s is =
+    let mode = only-where s.instance.is_open _ _ is in
+    asks-more s (λ a. Rm05 a) (option_and_then (absent_named s) form.blocks) _
+    (asks-more s (λ a. Rm05 a) (absent_of s (asked form.during)) _
+    (asks-more s (λ f. Rm09 f) (option_and_then (lost_named s) form.blocks) _
+    (asks-more s (λ f. Rm09 f) (lost_of s (asked form.during)) _ (room-asks s form)))) mode.1
+
+marked-next : (b : Bool) (s : State) → next (cond b s (record s { catalog = with_marks s.catalog (marks_before s) })) ≡ next s
+marked-next true s = refl
+marked-next false s = refl
+
+repair-left : (form : RepairForm) (s : State) (evidence : Evidence) (lines : List Line) (e : Effect) (t : State) → MissesBlock s evidence form (done lines e t) ⊎ MendsBlocks s evidence form (done lines e t) → lacks_ids s 0 ≡ false → lacks_ids t 0 ≡ false
+repair-left form s evidence lines e t (inl misses) left = absurd (let clash = misses.is in cc)
+repair-left form s evidence lines e t (inr it) left =
+    none-drawn s lines _ e _ (without_mended (after_events (repair_begun s form) it.events) form) t it.is
+    (events-same next (λ q w. refl) (λ q f row. refl) it.events (repair_begun s form) ∙ marked-next (is_none form.during) s) left
+
+pub repair-roomy : (form : RepairForm) → LeavesIds (BlockRecover form)
+repair-roomy form = draws-none (BlockRecover form) (repair-asks form)
+    (λ s held lines e t does left. repair-left form s does.evidence lines e t does.comes left)
 
 -- RECOVER and RESTORE, by their target
 

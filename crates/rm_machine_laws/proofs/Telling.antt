@@ -2,7 +2,7 @@
 use Rattle.std.proofs.Common.{◌≡◌, ℕ, List, Option, Some, None, true, inl, inr}
 use Rattle.rm_base.specs.Store.{Held}
 use Rattle.rm_lang_statement.specs.declared.command.Command.{Command}
-use Rattle.rm_lang_statement.specs.declared.command.Command.TheVariants.{Dump, ListArchived, ListBackup, ListCopy, ListIncarnation, Preview, RecoverTest, ReportNeedBackup, ReportObsolete, ReportSchema, ShowAll, ValidateAll}
+use Rattle.rm_lang_statement.specs.declared.command.Command.TheVariants.{Dump, ListArchived, ListBackup, ListCopy, ListCorruption, ListIncarnation, Preview, RecoverTest, ReportNeedBackup, ReportObsolete, ReportSchema, ShowAll, ValidateAll}
 use Rattle.rm_report.specs.declared.line.Line.{Line}
 use Rattle.rm_machine.specs.Effect.{Effect, done}
 use Rattle.rm_machine.specs.Laws.{only_tells}
@@ -37,6 +37,7 @@ never-done ListArchived only s held said e t is = absurd (let told = is.is in cc
 never-done ReportObsolete only s held said e t is = absurd (let told = is.is in cc)
 never-done ReportNeedBackup only s held said e t is = absurd (let told = is.is in cc)
 never-done ReportSchema only s held said e t is = absurd (cc)
+never-done ListCorruption only s held said e t is = absurd (cc)
 never-done ShowAll only s held said e t is = absurd (cc)
 never-done ValidateAll only s held said e t is = absurd (let told = is.is in cc)
 never-done c only s held said e t is = absurd (let clash = only in cc)

@@ -11,6 +11,7 @@ use Rattle.rm_machine.specs.Sound.{IsSound}
 use Rattle.rm_machine.specs.Tracking.{with_tracking}
 use Rattle.rm_machine.specs.declared.state.State.{State}
 use Rattle.rm_machine.specs.State.{ledger}
+use Rattle.rm_machine_code.proofs.Damaged.{damaged-same}
 use Rattle.rm_machine_code.proofs.Tracked.{tracked-fresh}
 use Rattle.rm_machine_code.proofs.FirstTold.{tell-first}
 use Rattle.rm_machine_laws.proofs.Leading.{LeadsOnBy, StaysBy}
@@ -37,6 +38,7 @@ module _ (s : State) (on : Bool) (sound : IsSound s) where
     dbid = sound.dbid;
     place = record { many = sound.place.many; each = sound.place.each };
     logs = record { dbid = sound.logs.dbid; there = sound.logs.there; threads = sound.logs.threads; each = sound.logs.each };
+    damaged = damaged-same s q sound.damaged;
     tracker = tracked-fresh q setting-fits refl;
     in_open = λ opened. let was = sound.in_open opened in record { inc = was.inc; found = was.found; point = was.point };
     point = λ at here. let was = sound.point at here in record { low = was.low; high = was.high; stands = was.stands };

@@ -1,5 +1,5 @@
 -- Along the events of a BACKUP the database stays sound and fits its history, and what was read stays true.
-use Rattle.std.proofs.Common.{◌≤◌, ◌<◌, ◌++◌, inl, inr, ℕ, List, [], ◌∷◌, refl, sym, subst, arith, append_assoc, map, Contains}
+use Rattle.std.proofs.Common.{◌≡◌, ◌≤◌, ◌<◌, ◌++◌, inl, inr, ℕ, List, [], ◌∷◌, false, refl, sym, subst, arith, append_assoc, map, Contains}
 use Rattle.std.proofs.lemmas.List.{append-nil}
 use Rattle.rm_base.specs.Store.{Held}
 use Rattle.rm_base.specs.declared.block.Change.{Change}
@@ -13,6 +13,7 @@ use Rattle.rm_live.specs.declared.history.Call.{Call}
 use Rattle.rm_live.specs.declared.history.Event.{Event}
 use Rattle.rm_live.specs.History.{IsLegal, IsRight}
 use Rattle.rm_lang_statement.specs.declared.command.WriteForm.{WriteForm}
+use Rattle.rm_machine.specs.Damage.{has_block}
 use Rattle.rm_machine.specs.Effect.{Made}
 use Rattle.rm_machine.specs.Machine.{HistoryFits, IsBorneOut}
 use Rattle.rm_machine.specs.declared.state.State.{State}
@@ -66,17 +67,18 @@ below-events ws es u h objects made touched can stands legal asked f b checkpoin
     let is = row-events ws es u h objects made touched can stands legal asked f checkpoint r most (record { position = low.position; after = low.after; is = refl }) in
     record { position = is.position; after = is.after; below = subst (λ (x : Row). x.version < from) (sym is.is) low.below }
 
--- each row that a read found is true at the end
+-- each row that a read found of a block that is not damaged is true at the end
 pub true-events : (ws : List WriteForm) (es : List Event) (u : State) (h : List Change) (objects : Held) (made : List Made) (touched : List (List ℕ)) → CanGoOn u ws → IsBorneOut u h objects made touched → IsLegal (opening u) es → AreAsked ws es
-    → (f b checkpoint : ℕ) (r : Row) → checkpoint ≤ now_of u → Contains (map deed es) (reading f b r) → IsRow (world (after_events u es)) (h ++ changes_of u es) (current_of (after_events u es)) f checkpoint r
-true-events ws [] u h objects made touched can stands legal asked f b checkpoint r most has = absurd (none-in (reading f b r) has)
-true-events ws (e ∷ es) u h objects made touched can stands legal asked f b checkpoint r most has = elim (first-or-rest (deed e) (map deed es) (reading f b r) has) [
+    → (f b checkpoint : ℕ) (r : Row) → has_block u.instance.damaged f b ≡ false → checkpoint ≤ now_of u → Contains (map deed es) (reading f b r) → IsRow (world (after_events u es)) (h ++ changes_of u es) (current_of (after_events u es)) f checkpoint r
+true-events ws [] u h objects made touched can stands legal asked f b checkpoint r clear most has = absurd (none-in (reading f b r) has)
+true-events ws (e ∷ es) u h objects made touched can stands legal asked f b checkpoint r clear most has = elim (first-or-rest (deed e) (map deed es) (reading f b r) has) [
   | inl same ↦
       let at = read-of u f b r can.sound (found-here u e f b r legal.0 same) in
-      row-events ws (e ∷ es) u h objects made touched can stands legal asked f checkpoint r most (read-true u f b r can.sound can.opened at h checkpoint stands.keeps most)
+      row-events ws (e ∷ es) u h objects made touched can stands legal asked f checkpoint r most (read-true u f b r can.sound can.opened at h checkpoint stands.keeps clear most)
   | inr later ↦
       let q : State = after_event u e.call e.answer in
       let first = now-event u ws can e.call e.answer legal.0 asked.0 in
       subst (λ k. IsRow (world (after_events q es)) k (current_of (after_events q es)) f checkpoint r) (append_assoc h (change_by u e.call e.answer) (changes_of q es))
-      (true-events ws es q (h ++ change_by u e.call e.answer) objects made touched (event-on u ws can e.call e.answer legal.0 asked.0) (borne-event u ws can e.call e.answer legal.0 asked.0 h objects made touched stands) (legal-on u ws can e es legal) asked.1 f b checkpoint r (omega (arith, most, first)) later)
+      (true-events ws es q (h ++ change_by u e.call e.answer) objects made touched (event-on u ws can e.call e.answer legal.0 asked.0) (borne-event u ws can e.call e.answer legal.0 asked.0 h objects made touched stands) (legal-on u ws can e es legal) asked.1 f b checkpoint r
+      (by-event (λ q cs. has_block q.instance.damaged f b ≡ false) u ws clear (λ w has scn is. clear) e.call e.answer legal.0 asked.0) (omega (arith, most, first)) later)
 ]

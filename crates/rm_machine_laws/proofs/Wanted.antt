@@ -1,6 +1,7 @@
 -- The blocks that a BACKUP wants, by its bitmaps: those that changed. The others had a version below the parent's checkpoint.
-use Rattle.std.proofs.Common.{◌≡◌, ◌↔◌, ◌+◌, ◌<◌, ◌∙◌, inl, inr, ℕ, Bool, List, [], ◌∷◌, Option, Some, None, Contains, length, refl, ap, sym, subst, arith}
+use Rattle.std.proofs.Common.{◌≡◌, ◌↔◌, ◌+◌, ◌<◌, ◌∙◌, inl, inr, ℕ, Bool, List, [], ◌∷◌, Option, Some, None, IsSome, is_some, true, cond, Contains, length, refl, ap, sym, subst, arith}
 use Rattle.std.specs.Option.{option_and_then, option_map, option_map_or}
+use Rattle.std.proofs.lemmas.Bool.{le-ltb, lt-ltb}
 use Rattle.rm_base.proofs.Lists.{map_to}
 use Rattle.rm_base.proofs.Members.{first-or-rest, none-in}
 use Rattle.rm_base.specs.declared.block.Change.{Change}
@@ -8,7 +9,7 @@ use Rattle.rm_history.specs.Agrees.{IsBelow}
 use Rattle.rm_history.specs.State.{state}
 use Rattle.rm_history.specs.World.{blocks_of}
 use Rattle.rm_track.specs.Bits.{IsMarked, blocks_from}
-use Rattle.rm_track.specs.Bitmaps.{Tracked, candidates_at, switch_at, switched, tracked_at}
+use Rattle.rm_track.specs.Bitmaps.{Tracked, candidates_at, candidates_of, joined, oldest, switch_at, switched, tracked_at, unmarked}
 use Rattle.rm_track.specs.Told.{HasChange, IsChanged, IsStartFor, Tell, starts}
 use Rattle.rm_track.proofs.Places.{found-same}
 use Rattle.rm_track.proofs.Telling.{candidates-found}
@@ -20,14 +21,14 @@ use Rattle.rm_machine.specs.Backup.{AreJobs, rows_in, taken}
 use Rattle.rm_machine.specs.BackupOutcome.{begun}
 use Rattle.rm_machine.specs.Machine.{HistoryFits}
 use Rattle.rm_machine.specs.Sound.{IsSound}
-use Rattle.rm_machine.specs.Tracked.{AreTracked, IsTracked, switch_all, with_tracker}
+use Rattle.rm_machine.specs.Tracked.{AreTracked, IsTracked, switch_all, tracks, with_tracker}
 use Rattle.rm_machine.specs.declared.job.Job.{Job}
 use Rattle.rm_machine.specs.declared.state.State.{State}
-use Rattle.rm_machine.specs.State.{current_of, now_of, tree, world}
+use Rattle.rm_machine.specs.State.{current_of, ledger, now_of, on_path, tree, world}
 use Rattle.rm_machine_code.proofs.BackingUp.{IsNoCandidate}
 use Rattle.rm_machine_code.proofs.ReadBlocks.{blocks-marked, marked-block}
-use Rattle.rm_machine_code.proofs.Tracked.{at-file, tracked-switch_all}
-use Rattle.rm_machine_laws.specs.Wanted.{HasChangedSince}
+use Rattle.rm_machine_code.proofs.Tracked.{at-file, some-is, tracked-switch_all}
+use Rattle.rm_machine_laws.specs.Wanted.{HasChangedSince, IsReadByBitmaps}
 use Rattle.rm_machine_code.proofs.FirstTold.{lie-below}
 use Rattle.rm_machine_laws.proofs.Bitmaps.{not-wanted, tell-switch_all}
 
@@ -70,6 +71,22 @@ starts-switched c (g ∷ gs) ts f has = elim (first-or-rest g gs f has) [
 -- the datafile of a job is backed up
 pub is-taken : (s : State) (b : BackupForm) (jobs : List Job) → AreJobs s b jobs → (j : Job) → Contains jobs j → Contains (taken s b) j.file
 is-taken s b jobs are j has = subst (λ fs. Contains fs j.file) are.files (map_to (λ (x : Job). x.file) jobs j has)
+
+-- where changes are tracked each datafile of the current path has bitmaps
+pub read-by : (s : State) (b : BackupForm) → IsSound s → tracks s.instance.is_open (ledger s) ≡ true → (j : Job) (from : ℕ) → IsSome (on_path s j.file) → j.from ≡ Some from → IsReadByBitmaps (begun s b) j from
+read-by s b sound on j from path begins =
+    let ts = switch_all (now_of s) (taken s b) s.instance.tracker in
+    let d = some-is (on_path s j.file) path in
+    let t = some-is (tracked_at ts j.file) ((tracked-switch_all s (taken s b) sound.tracker).full on j.file d.0 d.1) in
+    let by : candidates_in (begun s b) j ≡ candidates_of from t.0 = ap (option_and_then (candidates_at ts j.file)) begins ∙ ap (option_and_then (candidates_of from)) t.1 in
+    let old = oldest t.0.ended t.0.start in
+    let told : Bool → Option (List Bool) = λ c. cond c None (Some (joined from t.0.ended (unmarked (length t.0.marks)))) in
+    record {
+      bitmaps = t.0;
+      are = t.1;
+      known = λ low. ap is_some (by ∙ ap told (le-ltb from old low));
+      unknown = λ high. ap (λ (o : Option (List Bool)). option_map_or (blocks_from 0) o (upto 0 (length (rows_in (begun s b) j.file)))) (by ∙ ap told (lt-ltb from old high));
+    }
 
 module _ (s : State) (b : BackupForm) (h : List Change) (sound : IsSound s) (keeps : HistoryFits s h) where
   abbrev i : ℕ

@@ -4,16 +4,17 @@ use Rattle.std.specs.Option.{option_map}
 use Rattle.std.proofs.lemmas.Bool.{and_parts, cases_eq, eqb-true, ltb-true}
 use Rattle.std.proofs.lemmas.List.{map_push}
 use Rattle.std.proofs.lemmas.List.Elements.{All-contains, All-push, All-weaker}
+use Rattle.rm_base.specs.declared.block.BlockId.{BlockId}
 use Rattle.rm_base.specs.declared.block.Change.{Change}
 use Rattle.rm_base.specs.declared.block.Row.{Row}
 use Rattle.rm_base.specs.declared.kinds.Kind.{Kind}
 use Rattle.rm_base.specs.declared.kinds.Kind.TheVariants.{Full, Level0, Level1, Place}
 use Rattle.rm_base.proofs.Slots.{all-get, all-set_others, index-set}
-use Rattle.rm_blocks.specs.File.{File, IsInOrder, base_of, written}
+use Rattle.rm_blocks.specs.File.{File, IsInOrder, written}
 use Rattle.rm_lang_statement.specs.declared.command.WriteForm.{WriteForm}
 use Rattle.rm_history.specs.declared.tree.Incarnation.{Incarnation}
 use Rattle.rm_history.specs.declared.world.World.{World}
-use Rattle.rm_history.specs.Agrees.{BaseAgrees, LogAgrees, is_of}
+use Rattle.rm_history.specs.Agrees.{LogAgrees, is_of}
 use Rattle.rm_history.specs.History.{IsChange, IsHistory}
 use Rattle.rm_history.specs.State.{state}
 use Rattle.rm_history.specs.Tree.{IsThere, end_of, owner}
@@ -32,18 +33,19 @@ use Rattle.rm_redo.specs.Online.{record_of, thread_records, with_change}
 use Rattle.rm_redo.proofs.Logs.{first_of-with_change, inc-with_change, is_lost-with_change, thread_records-with_change, thread_records-with_change_other}
 use Rattle.rm_track.specs.Bitmaps.{mark_at}
 use Rattle.rm_track.proofs.Telling.{marked-told}
+use Rattle.rm_machine.specs.Damage.{has_block}
 use Rattle.rm_machine.specs.Effect.{Artefact, a_log, a_piece}
-use Rattle.rm_machine.specs.Machine.{ArtefactAgrees, EndsWithin, HistoryFits, IsTrueArtefact, PieceAgrees, RowsAre}
+use Rattle.rm_machine.specs.Machine.{ArtefactAgrees, EndsWithin, HistoryFits, IsTrueArtefact, PieceAgrees, SoundRowsAre}
 use Rattle.rm_machine.specs.Sound.{IsSound}
 use Rattle.rm_machine.specs.declared.state.State.{State}
 use Rattle.rm_machine.specs.State.{current_of, is_lost, now_of, online, placed, redo_end, world}
 use Rattle.rm_machine.specs.Write.{change_of, with_write}
 use Rattle.rm_machine_code.proofs.Further.{further, inc-now, now-further, redo-now}
 use Rattle.rm_machine_laws.proofs.Bitmaps.{tell-later}
-use Rattle.rm_machine_laws.proofs.Further.{below-redo, fits-further, owns-now, rows-further, same-further}
+use Rattle.rm_machine_laws.proofs.DamagedRows.{sound-agrees}
+use Rattle.rm_machine_laws.proofs.Further.{below-redo, fits-further, owns-now, rows-further, same-further, state-further}
 use Rattle.rm_machine_laws.proofs.Grown.{true-on}
-use Rattle.rm_machine_laws.proofs.Opened.{rows-agree}
-use Rattle.rm_machine_code.proofs.Places.{counted-open, placed-is}
+use Rattle.rm_machine_code.proofs.Places.{placed-is}
 use Rattle.rm_machine_code.proofs.Writes.{Accepted}
 
 -- a record as the change of which it tells
@@ -155,11 +157,31 @@ module _ (s : State) (w : WriteForm) (h : List Change) (sound : IsSound s) (keep
 
   -- What is in place
 
-  rows-apart : (x : File) → x.file ≢ w.file → RowsAre risen h i (now_of p) x → RowsAre risen (h ++ c ∷ []) i (now_of p) x
+  -- the blocks that are damaged
+  abbrev bad : List BlockId
+  bad = s.instance.damaged
+
+  -- a row is the state of its block, where that is not damaged, and is so with the change
+  abbrev WasRow : ℕ → Row → Type 0
+  WasRow f r = has_block bad f r.block ≡ false → r ≡ state risen h i (now_of p) f r.block
+
+  abbrev IsRow : ℕ → Row → Type 0
+  IsRow f r = has_block bad f r.block ≡ false → r ≡ state risen (h ++ c ∷ []) i (now_of p) f r.block
+
+  rows-apart : (x : File) → x.file ≢ w.file → SoundRowsAre bad risen h i (now_of p) x → SoundRowsAre bad risen (h ++ c ∷ []) i (now_of p) x
   rows-apart x other rows =
-      All-weaker (λ r. r ≡ state risen h i (now_of p) x.file r.block) (λ r. r ≡ state risen (h ++ c ∷ []) i (now_of p) x.file r.block)
-      (λ r is. is ∙ sym (state-push_other risen h c i (now_of p) x.file r.block (concerns-other_file risen i (now_of p) x.file r.block c (λ e. other (sym e)))))
+      All-weaker (WasRow x.file) (IsRow x.file)
+      (λ r was clear. was clear ∙ sym (state-push_other risen h c i (now_of p) x.file r.block (concerns-other_file risen i (now_of p) x.file r.block c (λ e. other (sym e)))))
       x.rows rows
+
+  -- another block is as it was
+  pub state-write : (f b : ℕ) → (f ≡ w.file → b ≢ w.block) → state risen (h ++ c ∷ []) i (now_of q) f b ≡ state (world s) h i now f b
+  state-write f b other =
+      state-push_other risen h c i (now_of p) f b (elim (cases_eq f w.file) [
+        | inl same ↦ concerns-other_block risen i (now_of p) f b c (λ e. other same (sym e))
+        | inr apart ↦ concerns-other_file risen i (now_of p) f b c (λ e. apart (sym e))
+      ])
+      ∙ state-further s sound a.on h keeps f b
 
   -- the change concerns its block, and is the last that does
   written-row : state risen (h ++ c ∷ []) i (now_of p) w.file w.block ≡ record { block = w.block; version = now; content = w.content }
@@ -173,16 +195,16 @@ module _ (s : State) (w : WriteForm) (h : List Change) (sound : IsSound s) (keep
       }))
       (λ d held passes. let below = (concerns-parts risen i (now_of p) w.file w.block d passes).below in omega (arith, below, end))
 
-  rows-written : (x : File) → x.file ≡ w.file → IsInOrder x.rows → RowsAre risen h i (now_of p) x → RowsAre risen (h ++ c ∷ []) i (now_of p) (written x w.block now w.content)
+  rows-written : (x : File) → x.file ≡ w.file → IsInOrder x.rows → SoundRowsAre bad risen h i (now_of p) x → SoundRowsAre bad risen (h ++ c ∷ []) i (now_of p) (written x w.block now w.content)
   rows-written x number order rows =
       let new : Row = record { block = w.block; version = now; content = w.content } in
-      all-set_others (λ r. r ≡ state risen (h ++ c ∷ []) i (now_of p) x.file r.block) x.rows w.block new
-      (subst (λ f. new ≡ state risen (h ++ c ∷ []) i (now_of p) f w.block) (sym number) (sym written-row))
-      (λ n r is other.
-      all-get (λ (y : Row). y ≡ state risen h i (now_of p) x.file y.block) x.rows n r is rows
+      all-set_others (IsRow x.file) x.rows w.block new
+      (λ clear. subst (λ f. new ≡ state risen (h ++ c ∷ []) i (now_of p) f w.block) (sym number) (sym written-row))
+      (λ n r is other clear.
+      all-get (WasRow x.file) x.rows n r is rows clear
       ∙ sym (state-push_other risen h c i (now_of p) x.file r.block (concerns-other_block risen i (now_of p) x.file r.block c (λ e. other (sym (order n r is) ∙ sym e)))))
 
-  rows-write : (f : ℕ) (x : File) → placed q f ≡ Some x → RowsAre risen (h ++ c ∷ []) i (now_of p) x
+  rows-write : (f : ℕ) (x : File) → placed q f ≡ Some x → SoundRowsAre bad risen (h ++ c ∷ []) i (now_of p) x
   rows-write f x is =
       let write : File → File = λ y. written y w.block now w.content in
       elim (index-set s.instance.place (w.file - 1) (f - 1) (option_map write (placed s w.file)) x is) [
@@ -191,7 +213,7 @@ module _ (s : State) (w : WriteForm) (h : List Change) (sound : IsSound s) (keep
             let number : a.file.file ≡ w.file = omega (arith, it.file, (file-there (world s) w.file a.datafile a.is).0) in
             let got : Some (write a.file) ≡ Some x = sym (ap (option_map write) a.stands) ∙ same.1 in
             let made : write a.file ≡ x = cc in
-            subst (RowsAre risen (h ++ c ∷ []) i (now_of p)) made (rows-written a.file number it.order (rows-further s sound a.on h keeps w.file a.file a.stands))
+            subst (SoundRowsAre bad risen (h ++ c ∷ []) i (now_of p)) made (rows-written a.file number it.order (rows-further s sound a.on h keeps w.file a.file a.stands))
         | inr other ↦
             let it = placed-is s (f - 1) x sound.place other.1 in
             rows-apart x (λ e. other.0 (omega (arith, e, it.file))) (rows-further s sound a.on h keeps f x other.1)
@@ -202,7 +224,7 @@ module _ (s : State) (w : WriteForm) (h : List Change) (sound : IsSound s) (keep
     history = history-write;
     below = All-push (λ d. d.scn < end_of risen.tree d.inc) h c wide.below (let next = end in omega (arith, next));
     online = λ t low high found. online-write t low high (sym (is_lost-with_change s.instance.logs c t) ∙ found);
-    place = λ f x is. subst (λ y. BaseAgrees risen (h ++ c ∷ []) (base_of y)) (sym (counted-open q x a.on.opened)) (rows-agree risen (h ++ c ∷ []) i (now_of p) x (rows-write f x is));
+    place = λ f x is none. sound-agrees q (h ++ c ∷ []) x a.on.opened (rows-write f x is) none;
     tracker = tell-later i (h ++ c ∷ []) (suc now) (now_of q) (mark_at s.instance.tracker w.file w.block) (omega (arith, end)) (marked-told now h c s.instance.tracker (omega arith) keeps.tracker);
     in_open = λ still f x is. rows-write f x is;
     point = λ n is. let none = (sound.in_open a.on.opened).point in absurd (cc);

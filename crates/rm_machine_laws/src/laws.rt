@@ -1,5 +1,5 @@
 //! What the machine does.
-ghost use Rattle.std.specs.Prelude.{ℕ, ◌≡◌, ◌≢◌, ◌↔◌, [], ◌<◌, ◌≤◌, ◌^◌, Bool, Contains, List, Option, Some, true};
+ghost use Rattle.std.specs.Prelude.{ℕ, ◌≡◌, ◌≢◌, ◌↔◌, [], ◌<◌, ◌≤◌, ◌^◌, not, Bool, Contains, IsSome, List, None, Option, Some, filter, false, true};
 ghost use Rattle.rm_base.specs.Numbers.{last_moment, last_scn};
 ghost use Rattle.rm_base.specs.Store.{Held};
 ghost use Rattle.rm_base.specs.declared.block.Change.{Change};
@@ -12,6 +12,7 @@ ghost use Rattle.rm_retain.specs.Window.{window_start};
 ghost use Rattle.rm_report.specs.declared.line.Line.{Line};
 ghost use Rattle.rm_lang_statement.specs.declared.command.ChangeTo.{ChangeTo};
 ghost use Rattle.rm_lang_statement.specs.declared.command.Command.{Command};
+ghost use Rattle.rm_lang_statement.specs.declared.command.RepairForm.{RepairForm};
 ghost use Rattle.rm_lang_statement.specs.declared.command.RetentionForm.{RetentionForm};
 ghost use Rattle.rm_lang_statement.specs.declared.command.Until.{Until};
 ghost use Rattle.rm_lang_statement.specs.declared.command.BackupForm.{BackupForm};
@@ -23,10 +24,13 @@ ghost use Rattle.rm_history.specs.Unknown.{IsUnknown};
 ghost use Rattle.rm_apply.specs.declared.recovering.Recovered.{Recovered};
 ghost use Rattle.rm_track.specs.Bitmaps.{Tracked, tracked_at};
 ghost use Rattle.rm_track.specs.Told.{IsStartFor, starts};
-ghost use Rattle.rm_machine.specs.Asked.{blocks_read, candidates_in};
-ghost use Rattle.rm_machine.specs.Backup.{AreJobs};
+ghost use Rattle.rm_machine.specs.Asked.{blocks_read, candidates_in, writes_in};
+ghost use Rattle.rm_machine.specs.Backup.{AreJobs, taken};
 ghost use Rattle.rm_machine.specs.BackupOutcome.{begun};
+ghost use Rattle.rm_machine.specs.BackupRefusal.{backup_refusal};
+ghost use Rattle.rm_machine.specs.BlockRecover.{asks_for};
 ghost use Rattle.rm_machine.specs.CreateDatabase.{fresh_machine};
+ghost use Rattle.rm_machine.specs.Damage.{has_block, has_file};
 ghost use Rattle.rm_machine.specs.Effect.{Effect, LeavesObjects, Made, Outcome, done};
 ghost use Rattle.rm_machine.specs.Honest.{IsHonest};
 ghost use Rattle.rm_machine.specs.Laws.{IsMomentOf, LeadsOn, StaysSound, TellsOn, only_tells};
@@ -37,11 +41,12 @@ ghost use Rattle.rm_machine.specs.Obsolete.{AreObsoleteIn, start_by};
 ghost use Rattle.rm_machine.specs.Recovery.{IsAtHand, IsGapOutcome, IsToldOutcome};
 ghost use Rattle.rm_machine.specs.Sound.{IsSound};
 ghost use Rattle.rm_machine.specs.Step.{IsDone};
+ghost use Rattle.rm_machine.specs.Tracked.{tracks};
 ghost use Rattle.rm_machine.specs.declared.job.Job.{Job};
 ghost use Rattle.rm_machine.specs.declared.state.State.{State};
-ghost use Rattle.rm_machine.specs.State.{at_moment, current_of, ledger, now_of, tree, world};
-ghost use Rattle.rm_machine_laws.specs.Wanted.{HasChangedSince};
-ghost use Rattle.rm_lang_statement.specs.declared.command.Command.TheVariants.{ArchiveLogCurrent, Backup, BackupLogs, CatalogName, ChangeBackup, CreateDatafile, Crosscheck, Cut, Damage, DeleteBackup, DeleteExpired, DeleteObsolete, LoseDatafile, LoseLog, Mount, OpenPlain, OpenResetlogs, Parallelism, Recover, RecoverCopy, RecoverTest, Remove, Rename, ResetDatabase, Restore, Retention, SwitchLogfile, Tracking, Write};
+ghost use Rattle.rm_machine.specs.State.{at_moment, current_of, ledger, now_of, on_path, tree, world};
+ghost use Rattle.rm_machine_laws.specs.Wanted.{HasChangedSince, IsReadByBitmaps};
+ghost use Rattle.rm_lang_statement.specs.declared.command.Command.TheVariants.{ArchiveLogCurrent, Backup, BackupLogs, BlockRecover, CatalogName, ChangeBackup, Corrupt, CreateDatafile, Crosscheck, Cut, Damage, DeleteBackup, DeleteExpired, DeleteObsolete, LoseDatafile, LoseLog, Mount, OpenPlain, OpenResetlogs, Parallelism, Recover, RecoverCopy, RecoverTest, Remove, Rename, ResetDatabase, Restore, Retention, SwitchLogfile, Tracking, Write};
 
 /// There are sound machines: that of a new database is one.
 pub fn a_new_database_is_sound()
@@ -91,6 +96,12 @@ pub fn a_level_1_reads_what_changed()
     ensures { (s : State) (h : List Change) (b : BackupForm) (jobs : List Job) (j : Job) (from low : ℕ) (t : Tracked) (marks : List Bool) → IsSound s → HistoryFits s h → AreJobs s b jobs → Contains jobs j → j.from ≡ Some from
         → tracked_at (begun s b).instance.tracker j.file ≡ Some t → candidates_in (begun s b) j ≡ Some marks → IsStartFor (starts t) from low
         → (k : ℕ) → k < blocks_of (world s) j.file → (Contains (blocks_read (begun s b) j) k ↔ HasChangedSince s h j.file low k) }
+{}
+
+/// Where changes are tracked, each datafile of the current path has bitmaps. A level 1 of it is read by them where they go back to its
+/// parent's checkpoint, and else all its blocks are.
+pub fn a_level_1_is_read_by_its_bitmaps()
+    ensures { (s : State) (b : BackupForm) (j : Job) (from : ℕ) → IsSound s → tracks s.instance.is_open (ledger s) ≡ true → IsSome (on_path s j.file) → j.from ≡ Some from → IsReadByBitmaps (begun s b) j from }
 {}
 
 /// A block that a level 1 does not read had a version below its parent's checkpoint when the backup began: so a level 1 has the rows of a
@@ -220,6 +231,31 @@ pub fn a_lost_datafile_leads_on()
 pub fn a_lost_log_leads_on()
     ensures leads { (thread : ℕ) → LeadsOn (LoseLog thread) }
     ensures stays { (thread : ℕ) → StaysSound (LoseLog thread) }
+{}
+
+/// HOST CORRUPT, likewise: the block in place is damaged, and all others stay as they are.
+pub fn a_corruption_leads_on()
+    ensures leads { (file block : ℕ) → LeadsOn (Corrupt file block) }
+    ensures stays { (file block : ℕ) → StaysSound (Corrupt file block) }
+{}
+
+/// BLOCKRECOVER, likewise, also while the database writes: where digests tell, exactly the damaged blocks that are asked for are mended,
+/// each to what the history has, at the turn of its mend and at each later one; a block that is neither mended nor written stays as it is.
+pub fn a_block_recovery_leads_on()
+    ensures leads { (form : RepairForm) → LeadsOn (BlockRecover form) }
+    ensures stays { (form : RepairForm) → StaysSound (BlockRecover form) }
+{}
+
+/// After a BLOCKRECOVER exactly the blocks that it was asked for are off the list of damaged ones: after one of the whole list none is damaged.
+pub fn what_is_mended_is_off_the_list()
+    ensures exact { (form : RepairForm) (s : State) (held : Held) (lines : List Line) (effect : Effect) (t : State) → IsDone s held (BlockRecover form) (done lines effect t) → t.instance.damaged ≡ filter (λ x. not (asks_for form x)) s.instance.damaged }
+    ensures all { (form : RepairForm) (s : State) (held : Held) (lines : List Line) (effect : Effect) (t : State) → form.blocks ≡ None → IsDone s held (BlockRecover form) (done lines effect t) → t.instance.damaged ≡ [] }
+{}
+
+/// A BACKUP that is not refused reads no damaged block, and writes none.
+pub fn a_backup_meets_no_damaged_block()
+    ensures reads { (s : State) (b : BackupForm) → IsSound s → backup_refusal s b ≡ None → (f : ℕ) → Contains (taken s b) f → has_file s.instance.damaged f ≡ false }
+    ensures writes { (s : State) (b : BackupForm) → IsSound s → backup_refusal s b ≡ None → (w : WriteForm) → Contains (writes_in b) w → has_block s.instance.damaged w.file w.block ≡ false }
 {}
 
 /// HOST REMOVE, DAMAGE, CUT and RENAME, likewise: no record and nothing in place changes, the names count as

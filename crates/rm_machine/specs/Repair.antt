@@ -1,0 +1,53 @@
+-- What the history says of a BLOCKRECOVER: repair while writers run.
+use Rattle.std.specs.Prelude.{ℕ, ◌≡◌, ◌<◌, ◌==◌, ◌&&◌, ◌||◌, ◌↔◌, Bool, true, false, Some, List, [], ◌∷◌, ◌++◌}
+use Rattle.std.specs.List.{list_any}
+use Rattle.rm_base.specs.declared.block.Change.{Change}
+use Rattle.rm_history.specs.State.{state}
+use Rattle.rm_lang_statement.specs.declared.command.RepairForm.{RepairForm}
+use Rattle.rm_live.specs.declared.history.Call.{Call}
+use Rattle.rm_live.specs.declared.history.Call.TheVariants.{Mend, Read, Write}
+use Rattle.rm_live.specs.declared.history.Event.{Event}
+use Rattle.rm_live.specs.History.{IsLegal}
+use Rattle.rm_machine.specs.BlockRecover.{asks_for, repair_begun, without_mended}
+use Rattle.rm_machine.specs.Damage.{has_block}
+use Rattle.rm_machine.specs.Dump.{placed_row}
+use Rattle.rm_machine.specs.Effect.{Effect}
+use Rattle.rm_machine.specs.Events.{after_events, changes_of, opening}
+use Rattle.rm_machine.specs.declared.state.State.{State}
+use Rattle.rm_machine.specs.State.{current_of, now_of, world}
+
+-- the call mends block b of datafile f
+abbrev pub is_mend_of : ℕ → ℕ → Call → Bool
+is_mend_of f b (Read g c) = false
+is_mend_of f b (Write t g c content) = false
+is_mend_of f b (Mend g row) = (g == f) && (row.block == b)
+
+-- the call writes it
+abbrev pub is_write_of : ℕ → ℕ → Call → Bool
+is_write_of f b (Read g c) = false
+is_write_of f b (Write t g c content) = (g == f) && (c == b)
+is_write_of f b (Mend g row) = false
+
+-- one of the events mends it, and one mends or writes it
+abbrev pub is_mended : List Event → ℕ → ℕ → Bool
+is_mended es f b = list_any (λ e. is_mend_of f b e.call) es
+
+abbrev pub is_touched : List Event → ℕ → ℕ → Bool
+is_touched es f b = list_any (λ e. is_mend_of f b e.call || is_write_of f b e.call) es
+
+-- From the state s, behind these events: a block that was mended is what the history of that turn has at `now`, and a block that was
+-- neither mended nor written is what it was.
+pub record RepairsSoFar (s : State) (h : List Change) (es : List Event) : Type 0 where
+  pub mended : (f b : ℕ) → is_mended es f b ≡ true
+      → placed_row (after_events s es) f b ≡ Some (state (world (after_events s es)) (h ++ changes_of s es) (current_of s) (now_of (after_events s es)) f b)
+  pub alone : (f b : ℕ) → 0 < f → is_touched es f b ≡ false → placed_row (after_events s es) f b ≡ placed_row s f b
+
+-- Repair while writers run: there is a legal list of events that made these changes and left this state, which mends exactly the damaged
+-- blocks that are asked for; and so it is behind each front of it, at each later turn too.
+pub record RepairsTruly (h : List Change) (s : State) (form : RepairForm) (effect : Effect) (t : State) : Type 0 where
+  pub events : List Event
+  pub legal : IsLegal (opening (repair_begun s form)) events
+  pub changes : effect.changes ≡ changes_of (repair_begun s form) events
+  pub left : t ≡ without_mended (after_events (repair_begun s form) events) form
+  pub mends : (f b : ℕ) → is_mended events f b ≡ (has_block s.instance.damaged f b && asks_for form (record { file = f; block = b }))
+  pub front : (es rest : List Event) → events ≡ es ++ rest → RepairsSoFar (repair_begun s form) h es
