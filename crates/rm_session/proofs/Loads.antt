@@ -1,20 +1,21 @@
 -- What is loaded by a catalog: of its saved site, or else nothing.
-use Rattle.std.proofs.Common.{◌≡◌, ◌<◌, ◌+◌, ◌^◌, ◌∙◌, ℕ, zero, suc, List, [], ◌∷◌, Option, Some, None, IfSome, true, false, refl, sym, ap, subst, arith, length, map, replicate, get_or, slice_get}
+use Rattle.std.proofs.Common.{◌≡◌, ◌<◌, ◌+◌, ◌^◌, ◌∙◌, ◌&&◌, not, ℕ, zero, suc, List, [], ◌∷◌, Option, Some, None, IfSome, true, false, refl, sym, ap, subst, arith, length, map, replicate, get_or, slice_get}
 use Rattle.std.proofs.lemmas.List.{length-replicate}
 use Rattle.std.proofs.lemmas.Option.{same_Some, slice_get-get_or, slice_get_within}
 use Rattle.rm_base.specs.Store.{Held}
 use Rattle.rm_blocks.specs.File.{File}
 use Rattle.rm_catalog_typed.specs.Ledger.{Ledger}
-use Rattle.rm_machine.specs.Loading.{IsLoadedBy, inc_of_first, lost_instance, online_of, where_of}
+use Rattle.rm_machine.specs.Loading.{IsLoadedBy, has_lost, inc_of_first, lost_instance, online_of, where_of}
 use Rattle.rm_machine.specs.Sound.{IsSound}
 use Rattle.rm_machine.specs.declared.state.Instance.{Instance}
 use Rattle.rm_machine.specs.declared.state.State.{State}
 use Rattle.rm_machine.specs.State.{ledger}
+use Rattle.rm_machine.specs.Tracked.{first_tracker}
 use Rattle.rm_redo.specs.Online.{logs_of}
 use Rattle.rm_redo.specs.declared.log_file.LogFile.{LogFile}
 use Rattle.rm_catalog_typed.specs.Facts.{IsTypedCatalog}
 use Rattle.rm_catalog_typed.specs.TypedCatalog.{Saved}
-use Rattle.rm_session.specs.Fit.{IsFit, IsFitBy, IsFitFile, IsFitLog, IsHadBy, IsPointBy, StandNow, with_point}
+use Rattle.rm_session.specs.Fit.{AllAt, IsFit, IsFitBy, IsFitFile, IsFitLog, IsHad, IsHadBy, IsLoadedAt, IsLogAt, IsPointBy, StandNow, with_point}
 use Rattle.rm_session.proofs.Sounds.{sound-fit, stand-now}
 
 -- nothing is at any place of a list that is lost
@@ -53,6 +54,7 @@ lost-fits l = record {
   };
   is_open = refl;
   point = refl;
+  damaged = refl;
   tracker = refl;
 }
 
@@ -82,5 +84,19 @@ loaded-by h s (Some site) p had told =
       logs = had.logs;
       is_open = had.is_open;
       point = told;
+      damaged = had.damaged;
       tracker = had.tracker;
     }
+
+-- what is loaded of a saved site, part by part
+pub had-of : (o : Option Held) (l : Ledger) (site : Saved) (i : Instance) (parts : List (Option LogFile)) → length i.place ≡ length l.files → IfSome o (λ h. AllAt (IsLoadedAt h l site) i.place) → length parts ≡ l.base.threads
+    → IfSome o (λ h. AllAt (IsLogAt h l site) parts) → i.logs ≡ online_of l parts → i.is_open ≡ (site.head.opened && not (has_lost i.logs)) → i.damaged ≡ [] → i.tracker ≡ first_tracker i.is_open l → IfSome o (λ h. IsHad h l site i)
+had-of None l site i parts many place threads logs online mode none tracker = tt
+had-of (Some h) l site i parts many place threads logs online mode none tracker = record {
+  many = many;
+  place = place;
+  logs = record { parts = parts; many = threads; good = logs; are = online };
+  is_open = mode;
+  damaged = none;
+  tracker = tracker;
+}

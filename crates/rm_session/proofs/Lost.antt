@@ -61,7 +61,7 @@ module _ (s : State) (h : List Change) (history : IsHistory (world s) h) (below 
     history = history;
     below = below;
     online = λ t low high found. absurd (no-log t low high found);
-    place = λ f x held. absurd (no-file f x held);
+    place = λ f x held _. absurd (no-file f x held);
     tracker = subst (Tell (current_of s) h (now_of s)) (ap (λ (y : Instance). y.tracker) (sym lost)) (tell-none (current_of s) h (now_of s));
     in_open = λ opened f x held. absurd (no-file f x held);
     point = λ at here. absurd (no-point at here);

@@ -87,8 +87,11 @@ module _ (held : Held) (c : TypedCatalog) (site : Saved) where
     point-by false here there =
         the-one (IsHeadPoint (running c a) site.head) a.point b.point (λ x y one two. sym one.scn ∙ two.scn) here (point-moves c site.head a b place-same b.point there)
 
+    damaged-same : a.damaged ≡ b.damaged
+    damaged-same = first.damaged ∙ sym second.damaged
+
     pub site-same : a ≡ b
-    site-same = λ i. record { is_open = mode-same i; point = point-by site.head.opened first.point second.point i; place = place-same i; logs = both-logs i; tracker = tracker-same i }
+    site-same = λ i. record { is_open = mode-same i; point = point-by site.head.opened first.point second.point i; place = place-same i; logs = both-logs i; damaged = damaged-same i; tracker = tracker-same i }
 
 one-by : (held : Held) (c : TypedCatalog) (a b : Instance) (o : Option Saved) → IsLoadedBy held (running c a) o → IsLoadedBy held (running c b) o → a ≡ b
 one-by held c a b None first second = first ∙ sym second

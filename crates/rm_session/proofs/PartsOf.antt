@@ -13,12 +13,16 @@ use Rattle.rm_evidence.specs.Gathered.{placed_piece}
 use Rattle.rm_evidence.specs.Known.{FitsPiece}
 use Rattle.rm_catalog_typed.proofs.Keeping.{pairs_append}
 use Rattle.rm_machine.specs.declared.state.State.{State}
+use Rattle.rm_machine.specs.Damage.{undamaged}
 use Rattle.rm_machine.specs.Recovery.{in_place}
 use Rattle.rm_machine.specs.Saving.{SitePart, file_parts, log_parts, parts_of}
 use Rattle.rm_machine.specs.Sound.{IsSound}
 use Rattle.rm_machine.specs.State.{ledger, counted, is_lost}
+use Rattle.rm_machine_code.proofs.Damaged.{damaged-none}
 use Rattle.rm_machine_code.proofs.Fitting.{place-fits}
 use Rattle.rm_machine_code.proofs.Standing.{each-in}
+use Rattle.rm_machine_code.proofs.Tracked.{tracked-same}
+use Rattle.rm_machine_code.proofs.Undamaged.{undamaged-none}
 use Rattle.rm_piece.specs.Valid.{IsPiece}
 use Rattle.rm_redo.specs.declared.online.ThreadLog.{ThreadLog}
 use Rattle.rm_catalog_typed.specs.TypedCatalog.{records_of}
@@ -31,11 +35,29 @@ present-to (Some y ∷ os) zero x at = let same : y ≡ x = (let is : Some (Some
 present-to (None ∷ os) (suc k) x at = present-to os k x at
 present-to (Some y ∷ os) (suc k) x at = behind y (filter_map (λ o. o) os) x (present-to os k x at)
 
+-- the database as if no block were damaged
+abbrev as_whole : State → State
+as_whole s = record s { instance = record s.instance { damaged = [] } }
+
+whole-sound : (s : State) → IsSound s → IsSound (as_whole s)
+whole-sound s sound = record {
+  catalog = sound.catalog;
+  dbid = sound.dbid;
+  place = record { many = sound.place.many; each = sound.place.each };
+  logs = record { dbid = sound.logs.dbid; there = sound.logs.there; threads = sound.logs.threads; each = sound.logs.each };
+  damaged = damaged-none (as_whole s) refl;
+  tracker = tracked-same s (as_whole s) sound.tracker;
+  in_open = λ opened. let is = sound.in_open opened in record { inc = is.inc; found = is.found; point = is.point };
+  point = λ at is. let it = sound.point at is in record { low = it.low; high = it.high; stands = it.stands };
+}
+
 -- what stands in place is valid as a piece
 pub file-valid : (s : State) → IsSound s → (k : ℕ) (x : File) → slice_get s.instance.place k ≡ Some (Some x) → IsPiece (placed_piece (ledger s).base.dbid (counted s x))
 file-valid s sound k x at =
-    let fits = place-fits s sound in
-    (All-contains (λ y. FitsPiece (nodes (records_of s.catalog)) (placed_piece (ledger s).base.dbid y)) (in_place s).files (counted s x) fits.files (map_to (counted s) (filter_map (λ o. o) s.instance.place) x (present-to s.instance.place k x at))).valid
+    let fits = place-fits (as_whole s) (whole-sound s sound) in
+    let place = undamaged [] 1 s.instance.place in
+    let here = ap (λ xs. slice_get xs k) (undamaged-none 1 s.instance.place) ∙ at in
+    (All-contains (λ y. FitsPiece (nodes (records_of s.catalog)) (placed_piece (ledger s).base.dbid y)) (in_place (as_whole s)).files (counted s x) fits.files (map_to (counted s) (filter_map (λ o. o) place) x (present-to place k x here))).valid
 
 -- What a part is of
 

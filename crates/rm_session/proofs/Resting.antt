@@ -1,5 +1,5 @@
 -- What was saved is at rest.
-use Rattle.std.proofs.Common.{◌≡◌, ◌≢◌, ◌<◌, ◌+◌, ◌-◌, ◌^◌, ◌∙◌, inl, inr, ℕ, List, Some, None, false, refl, ap, sym, subst, arith, Contains, codes, slice_index_or}
+use Rattle.std.proofs.Common.{◌≡◌, ◌≢◌, ◌<◌, ◌+◌, ◌-◌, ◌^◌, ◌∙◌, inl, inr, ℕ, List, [], Some, None, false, refl, ap, sym, subst, arith, Contains, codes, slice_index_or}
 use Rattle.std.specs.Fmt.{decimal}
 use Rattle.std.proofs.lemmas.Fmt.{decimal_injective}
 use Rattle.std.proofs.lemmas.List.{append_cancel_left}
@@ -14,6 +14,7 @@ use Rattle.rm_history.proofs.Highs.{high-least}
 use Rattle.rm_catalog_typed.proofs.Lookups.{item-at}
 use Rattle.rm_evidence.specs.Names.{site_name}
 use Rattle.rm_machine.specs.declared.state.State.{State}
+use Rattle.rm_machine.specs.Damage.{has_file, without_damaged}
 use Rattle.rm_machine.specs.Effect.{Made}
 use Rattle.rm_machine.specs.Machine.{HaveArtefacts, HistoryFits, IsBorneOut, IsSoundBy, IsSoundMachine, IsTrueArtefact, Machine}
 use Rattle.rm_machine.specs.Marks.{lacks_ids}
@@ -24,7 +25,9 @@ use Rattle.rm_machine.specs.Sound.{IsSound}
 use Rattle.rm_machine.specs.State.{ledger, counted, placed, world}
 use Rattle.rm_machine_code.proofs.Dropping.{no-site}
 use Rattle.rm_machine_code.proofs.Kept.{StandOn, kept-on}
+use Rattle.rm_machine_code.proofs.LosingFits.{losing-fits}
 use Rattle.rm_machine_code.proofs.Standing.{each-in}
+use Rattle.rm_machine_code.proofs.Undamaged.{sound-undamaged}
 use Rattle.rm_session.proofs.Ids.{ids-from, ids-pairs}
 use Rattle.rm_session.proofs.PartsOf.{IsOther, IsPartOf, file-valid, of_file, of_thread, part-of, parts-apart}
 use Rattle.rm_session.proofs.Sites.{ids-left, next_after, site-typed_catalog}
@@ -37,8 +40,8 @@ abbrev pub objects_of : State → List Object
 objects_of s = with_ids object_of (ledger s).base.next_id (parts_of s)
 
 -- the artefact of each part is true
-part-true : (s : State) (h : List Change) → IsSound s → HistoryFits s h → (p : SitePart) → IsPartOf s p → IsTrueArtefact (world s) h p.artefact
-part-true s h sound keeps _ (of_file k x at) =
+part-true : (s : State) (h : List Change) → IsSound s → HistoryFits s h → s.instance.damaged ≡ [] → (p : SitePart) → IsPartOf s p → IsTrueArtefact (world s) h p.artefact
+part-true s h sound keeps none _ (of_file k x at) =
     let inside = slice_get_within s.instance.place k (Some x) at in
     let many = sound.place.many in
     let file = item-at (ledger s).files k (omega (arith, inside, many)) in
@@ -46,12 +49,12 @@ part-true s h sound keeps _ (of_file k x at) =
     let back : k + 1 - 1 ≡ k = omega arith in
     let stands : placed s (k + 1) ≡ Some x = ap (λ n. slice_index_or s.instance.place n None) back ∙ index-get s.instance.place k x at in
     record {
-      agrees = keeps.place (k + 1) x stands;
+      agrees = keeps.place (k + 1) x stands (ap (λ ds. has_file ds x.file) none);
       valid = file-valid s sound k x at;
       within = (is.there, high-least (counted s x).checkpoint (counted s x).rows, is.high);
       of = omega (arith, is.file, inside, many);
     }
-part-true s h sound keeps _ (of_thread t some upto found) = record {
+part-true s h sound keeps none _ (of_thread t some upto found) = record {
   agrees = keeps.online t some upto found;
   valid = (sound.logs.each t some upto found).valid;
   within = (sound.logs.there, omega arith);
@@ -63,7 +66,7 @@ of-part : (s : State) (p : SitePart) (id : ℕ) → IsPartOf s p → IsOfPart (e
 of-part s _ id (of_file k x at) = omega arith
 of-part s _ id (of_thread t some upto found) = refl
 
-module _ (m : Machine) (s : State) (r : Rest) (borne : IsBorneOut s m.history m.objects m.made m.touched) (ids : lacks_ids s 0 ≡ false) (saved : IsSavedAs m s r) where
+module _ (m : Machine) (s : State) (r : Rest) (borne : IsBorneOut s m.history m.objects m.made m.touched) (none : s.instance.damaged ≡ []) (ids : lacks_ids s 0 ≡ false) (saved : IsSavedAs m s r) where
   abbrev next : ℕ
   next = (ledger s).base.next_id
 
@@ -113,7 +116,7 @@ module _ (m : Machine) (s : State) (r : Rest) (borne : IsBorneOut s m.history m.
     | inl old ↦ borne.artefacts a old
     | inr new ↦
         let from = ids-from made_of next (parts_of s) a new in
-        subst (λ (x : Made). IsTrueArtefact (world s) m.history x.artefact) from.is (part-true s m.history borne.state borne.keeps from.part (part-of s borne.state from.part from.held))
+        subst (λ (x : Made). IsTrueArtefact (world s) m.history x.artefact) from.is (part-true s m.history borne.state borne.keeps none from.part (part-of s borne.state from.part from.held))
   ]
 
   pub rest-borne : IsRestBorneOut (with_site s) r.history r.objects r.made r.touched
@@ -127,9 +130,15 @@ module _ (m : Machine) (s : State) (r : Rest) (borne : IsBorneOut s m.history m.
     parts = parts-have;
   })
 
-pub borne-out : (m : Machine) (s : State) → IsSoundMachine m → m.state ≡ Some s → IsBorneOut s m.history m.objects m.made m.touched
+borne-out : (m : Machine) (s : State) → IsSoundMachine m → m.state ≡ Some s → IsBorneOut s m.history m.objects m.made m.touched
 borne-out m s sound is = subst (λ o. IsSoundBy o m.history m.objects m.made m.touched) is sound
 
-pub rests : (m : Machine) (s : State) (r : Rest) → IsSoundMachine m → m.state ≡ Some s → s.catalog.saved ≡ None → lacks_ids s 0 ≡ false → IsSavedAs m s r → IsSoundRest r
+-- and so is the database where each datafile with a damaged block is lost
+pub borne-without : (m : Machine) (s : State) → IsSoundMachine m → m.state ≡ Some s → IsBorneOut (without_damaged s) m.history m.objects m.made m.touched
+borne-without m s sound is =
+    let borne = borne-out m s sound is in
+    record { state = sound-undamaged s borne.state; keeps = losing-fits s m.history borne.state borne.keeps; artefacts = borne.artefacts; records = borne.records }
+
+pub rests : (m : Machine) (s : State) (r : Rest) → IsSoundMachine m → m.state ≡ Some s → s.catalog.saved ≡ None → lacks_ids s 0 ≡ false → IsSavedAs m (without_damaged s) r → IsSoundRest r
 rests m s r sound is none ids saved =
-    subst (λ o. IsSoundRestBy o r.history r.objects r.made r.touched) (sym saved.catalog) (rest-borne m s r (borne-out m s sound is) ids saved)
+    subst (λ o. IsSoundRestBy o r.history r.objects r.made r.touched) (sym saved.catalog) (rest-borne m (without_damaged s) r (borne-without m s sound is) refl ids saved)

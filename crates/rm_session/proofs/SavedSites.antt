@@ -5,6 +5,7 @@ use Rattle.std.proofs.lemmas.List.{length-map}
 use Rattle.std.proofs.lemmas.Option.{slice_get-map}
 use Rattle.rm_catalog.specs.declared.record.HeadEntry.{HeadEntry}
 use Rattle.rm_machine.specs.declared.state.State.{State}
+use Rattle.rm_machine.specs.Damage.{without_damaged}
 use Rattle.rm_machine.specs.Loading.{IsHeadPoint, IsLoaded, IsLoadedPoint, IsTheOne, has_lost}
 use Rattle.rm_machine.specs.Machine.{IsSoundMachine, Machine}
 use Rattle.rm_machine.specs.Marks.{lacks_ids}
@@ -13,7 +14,7 @@ use Rattle.rm_machine.specs.Saving.{IsSavedAs, head_of, rested, saved_logs}
 use Rattle.rm_machine.specs.Sound.{IsPoint, IsSound}
 use Rattle.rm_machine.specs.State.{counted, current_of}
 use Rattle.rm_machine_code.proofs.Places.{counted-closed}
-use Rattle.rm_session.proofs.Resting.{borne-out, object-stands}
+use Rattle.rm_session.proofs.Resting.{borne-without, object-stands}
 use Rattle.rm_session.proofs.SavedFiles.{HaveObjects, loaded-file}
 use Rattle.rm_session.proofs.SavedLogs.{loaded-logs, none-lost}
 
@@ -55,15 +56,17 @@ module _ (s : State) (sound : IsSound s) where
   point-is true opened = (sound.in_open opened).point
   point-is false closed = point-at s.instance.point closed refl
 
-pub loaded : (m : Machine) (s : State) (r : Rest) → IsSoundMachine m → m.state ≡ Some s → s.catalog.saved ≡ None → lacks_ids s 0 ≡ false → IsSavedAs m s r → IsLoaded r.objects (rested s)
+pub loaded : (m : Machine) (s : State) (r : Rest) → IsSoundMachine m → m.state ≡ Some s → s.catalog.saved ≡ None → lacks_ids s 0 ≡ false → IsSavedAs m (without_damaged s) r → IsLoaded r.objects (rested (without_damaged s))
 loaded m s r sound is none ids saved =
-    let borne = borne-out m s sound is in
-    let have : HaveObjects s r.objects = object-stands m s r borne ids saved in
+    let t = without_damaged s in
+    let borne = borne-without m s sound is in
+    let have : HaveObjects t r.objects = object-stands m t r borne refl ids saved in
     record {
-      many = length-map s.instance.place (option_map (counted s)) ∙ borne.state.place.many;
-      place = λ k d at. loaded-file s borne.state r.objects have k d at;
-      logs = loaded-logs s m.history borne.state borne.keeps r.objects have;
-      is_open = opened-is s borne.state;
-      point = point-is s borne.state s.instance.is_open refl;
+      many = length-map t.instance.place (option_map (counted t)) ∙ borne.state.place.many;
+      place = λ k d at. loaded-file t borne.state r.objects have k d at;
+      logs = loaded-logs t m.history borne.state borne.keeps r.objects have;
+      is_open = opened-is t borne.state;
+      point = point-is t borne.state t.instance.is_open refl;
+      damaged = refl;
       tracker = refl;
     }

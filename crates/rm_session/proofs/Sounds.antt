@@ -11,6 +11,7 @@ use Rattle.rm_machine.specs.Loading.{file_in, has_lost, inc_of_first, where_of}
 use Rattle.rm_machine.specs.Sound.{AreOnline, ArePlaced, IsOnline, IsOpen, IsPlaced, IsSound}
 use Rattle.rm_machine.specs.declared.state.State.{State}
 use Rattle.rm_machine.specs.State.{counted, is_lost, ledger, online, tree}
+use Rattle.rm_machine_code.proofs.Damaged.{damaged-none}
 use Rattle.rm_machine_code.proofs.Places.{counted-closed, counted-open}
 use Rattle.rm_machine_code.proofs.Tracked.{tracked-fresh}
 use Rattle.rm_piece.proofs.Whole.{full}
@@ -122,6 +123,7 @@ module _ (s : State) (site : Saved) (rules : IsTypedCatalog s.catalog) (fit : Is
     dbid = dbid;
     place = are-placed;
     logs = are-online;
+    damaged = damaged-none s fit.damaged;
     tracker = tracked-fresh s rules fit.tracker;
     in_open = is-open;
     point = λ at is. absurd (none-some at (sym fit.point ∙ is));

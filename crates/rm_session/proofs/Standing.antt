@@ -14,6 +14,7 @@ use Rattle.rm_machine.specs.Mount.{first_lost, mount_point}
 use Rattle.rm_machine.specs.Sound.{IsPlaced, IsPoint, IsSound, StandsAt}
 use Rattle.rm_machine.specs.declared.state.State.{State}
 use Rattle.rm_machine.specs.State.{current_of, ledger, now_of, tree, world}
+use Rattle.rm_machine_code.proofs.Damaged.{damaged-same}
 use Rattle.rm_machine_code.proofs.Mounting.{none-lost}
 use Rattle.rm_machine_code.proofs.Places.{counted-closed}
 use Rattle.rm_machine_code.proofs.Tracked.{tracked-same}
@@ -49,6 +50,7 @@ module _ (s : State) (p : Option ℕ) where
     dbid = sound.dbid;
     place = record { many = sound.place.many; each = sound.place.each };
     logs = record { dbid = sound.logs.dbid; there = sound.logs.there; threads = sound.logs.threads; each = sound.logs.each };
+    damaged = damaged-same s (with_point s p) sound.damaged;
     tracker = tracked-same s (with_point s p) sound.tracker;
     in_open = λ opened. let is = sound.in_open opened in record { inc = is.inc; found = is.found; point = none opened };
     point = λ at is. let it = points at is in record { low = it.low; high = it.high; stands = it.stands };

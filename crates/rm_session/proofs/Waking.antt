@@ -115,9 +115,9 @@ module _ (s : State) (h : List Change) (objects : Held) (made : List Made) (touc
       history = borne.history;
       below = borne.below;
       online = log-is;
-      place = λ f x here. subst (λ y. BaseAgrees (world s) h (base_of y)) (sym (counted-same (f - 1) x here)) (agrees (f - 1) x here);
+      place = λ f x here _. subst (λ y. BaseAgrees (world s) h (base_of y)) (sym (counted-same (f - 1) x here)) (agrees (f - 1) x here);
       tracker = subst (Tell (current_of s) h (now_of s)) (sym loaded.tracker) (tell-first (ledger s) s.instance.is_open h borne.below);
-      in_open = λ is f x here. open-rows is (f - 1) x here;
+      in_open = λ is f x here j e inside. λ _. open-rows is (f - 1) x here j e inside;
       point = point-rows;
     }
 

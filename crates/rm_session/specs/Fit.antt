@@ -1,5 +1,5 @@
 -- What is loaded of a saved site: what the store has of one part, and what fits whatever the store holds.
-use Rattle.std.specs.Prelude.{ℕ, ◌≡◌, ◌+◌, ◌<◌, ◌&&◌, not, Bool, true, Option, Some, None, IfSome, List, All, length, slice_get}
+use Rattle.std.specs.Prelude.{ℕ, ◌≡◌, ◌+◌, ◌<◌, ◌&&◌, not, Bool, true, Option, Some, None, IfSome, List, [], All, length, slice_get}
 use Rattle.rm_base.specs.Store.{Held}
 use Rattle.rm_blocks.specs.File.{File}
 use Rattle.rm_catalog.specs.declared.record.PartEntry.{PartEntry}
@@ -100,6 +100,7 @@ pub record IsFit (l : Ledger) (site : Saved) (i : Instance) : Type 0 where
   pub logs : AreFitLogs l site.head.opened i.logs
   pub is_open : i.is_open ≡ (site.head.opened && not (has_lost i.logs))
   pub point : i.point ≡ None
+  pub damaged : i.damaged ≡ []
   pub tracker : i.tracker ≡ first_tracker i.is_open l
 
 -- and what is loaded of it where the store has these objects
@@ -108,6 +109,7 @@ pub record IsHad (held : Held) (l : Ledger) (site : Saved) (i : Instance) : Type
   pub place : AllAt (IsLoadedAt held l site) i.place
   pub logs : AreLoadedLogs held l site i.logs
   pub is_open : i.is_open ≡ (site.head.opened && not (has_lost i.logs))
+  pub damaged : i.damaged ≡ []
   pub tracker : i.tracker ≡ first_tracker i.is_open l
 
 -- by the catalog: without a saved site all is lost

@@ -42,6 +42,7 @@ pub(crate) fn lost_instance(alloc: Global, catalog: &TypedCatalog) -> Result<Ins
         point: None,
         place,
         logs,
+        damaged: Seq::new(alloc),
         tracker: Tracker::new(alloc),
     })
 }
@@ -78,6 +79,7 @@ pub(crate) fn load_instance<D: Store>(
         point: None,
         place,
         logs,
+        damaged: Seq::new(alloc),
         tracker,
     })
 }

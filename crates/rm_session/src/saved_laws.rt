@@ -1,5 +1,6 @@
 //! What a saved site is worth.
 ghost use Rattle.std.specs.Prelude.{◌≡◌, None, Some, false};
+ghost use Rattle.rm_machine.specs.Damage.{without_damaged};
 ghost use Rattle.rm_machine.specs.Loading.{IsLoaded};
 ghost use Rattle.rm_machine.specs.Machine.{IsSoundMachine, Machine};
 ghost use Rattle.rm_machine.specs.Marks.{lacks_ids};
@@ -7,12 +8,12 @@ ghost use Rattle.rm_machine.specs.Rest.{IsSoundRest, Rest};
 ghost use Rattle.rm_machine.specs.Saving.{IsSavedAs, rested};
 ghost use Rattle.rm_machine.specs.declared.state.State.{State};
 
-/// What was saved is at rest: each part has its artefact, which agrees with the history.
+/// What was saved, where each datafile with a damaged block was lost before, is at rest: each part has its artefact, which agrees with the history.
 pub fn what_is_saved_rests()
-    ensures { (m : Machine) (s : State) (r : Rest) → IsSoundMachine m → m.state ≡ Some s → s.catalog.saved ≡ None → lacks_ids s 0 ≡ false → IsSavedAs m s r → IsSoundRest r }
+    ensures { (m : Machine) (s : State) (r : Rest) → IsSoundMachine m → m.state ≡ Some s → s.catalog.saved ≡ None → lacks_ids s 0 ≡ false → IsSavedAs m (without_damaged s) r → IsSoundRest r }
 {}
 
-/// What is loaded of it is what stood in place.
+/// What is loaded of it is what stood in place then.
 pub fn what_is_saved_is_loaded()
-    ensures { (m : Machine) (s : State) (r : Rest) → IsSoundMachine m → m.state ≡ Some s → s.catalog.saved ≡ None → lacks_ids s 0 ≡ false → IsSavedAs m s r → IsLoaded r.objects (rested s) }
+    ensures { (m : Machine) (s : State) (r : Rest) → IsSoundMachine m → m.state ≡ Some s → s.catalog.saved ≡ None → lacks_ids s 0 ≡ false → IsSavedAs m (without_damaged s) r → IsLoaded r.objects (rested (without_damaged s)) }
 {}

@@ -10,11 +10,11 @@ use Rattle.rm_lang_token.specs.Spelling.{are_string_bytes}
 use Rattle.rm_lang_grammar.specs.Spelling.{is_capital_tag, keeps, maybe_valid}
 use Rattle.rm_lang_grammar.specs.Grammar.{in_range}
 use Rattle.rm_lang_statement.specs.Agreed.{agrees}
-use Rattle.rm_lang_statement.specs.Files.{are_files}
+use Rattle.rm_lang_statement.specs.Named.{are_named}
 use Rattle.rm_lang_statement.specs.declared.command.WriteForm.{WriteForm}
 use Rattle.rm_lang_statement.specs.declared.command.Command.{Command}
-use Rattle.rm_lang_statement.specs.declared.command.Command.TheVariants.{Write, Backup}
-use Rattle.rm_lang_statement.specs.IsCommand.{is_command, is_write}
+use Rattle.rm_lang_statement.specs.declared.command.Command.TheVariants.{Backup, BlockRecover, Write}
+use Rattle.rm_lang_statement.specs.IsCommand.{is_command, is_named, is_write}
 use Rattle.rm_machine.specs.Step.{HasContent}
 
 -- a text of at most 64 bytes becomes a whole block
@@ -41,7 +41,7 @@ all (w ∷ ws) e =
     let b = and_parts (is_write w) (list_all is_write ws) e in
     All-cons (λ (w : WriteForm). length w.content.0 ≡ 64) w ws (one w b.0) (all ws b.1)
 
--- those of a BACKUP, if it has any
+-- those of a DURING, if there is one
 has-contents : (o : Option (List WriteForm)) → maybe_valid (list_all is_write) o ≡ true → All (λ (w : WriteForm). length w.content.0 ≡ 64) (unwrap_or o [])
 has-contents None e = All-nil (λ (w : WriteForm). length w.content.0 ≡ 64)
 has-contents (Some ws) e = all ws e
@@ -59,5 +59,6 @@ fifth a b c d e f h =
 pub has-content : (c : Command) → is_command c ≡ true → HasContent c
 has-content (Write w) h = one w h
 has-content (Backup b) h =
-    has-contents b.during (fifth (maybe_valid (in_range 0 1) b.level) (maybe_valid are_files b.files) (maybe_valid is_capital_tag b.tag) (maybe_valid is_capital_tag b.merge_tag) (maybe_valid (list_all is_write) b.during) (agrees b.copy b) h)
+    has-contents b.during (fifth (maybe_valid (in_range 0 1) b.level) (maybe_valid are_named b.files) (maybe_valid is_capital_tag b.tag) (maybe_valid is_capital_tag b.merge_tag) (maybe_valid (list_all is_write) b.during) (agrees b.copy b) h)
+has-content (BlockRecover form) h = has-contents form.during (and_parts (maybe_valid is_named form.blocks) (maybe_valid (list_all is_write) form.during) h).1
 has-content c h = tt

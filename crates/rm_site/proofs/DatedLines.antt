@@ -5,7 +5,7 @@ use Rattle.std.proofs.lemmas.List.Elements.{All-append, All-cons, All-nil}
 use Rattle.rm_base.specs.Store.{Held}
 use Rattle.rm_lang_statement.specs.declared.command.BackupForm.{BackupForm}
 use Rattle.rm_lang_statement.specs.declared.command.Command.{Command}
-use Rattle.rm_lang_statement.specs.declared.command.Command.TheVariants.{ArchiveLogCurrent, Backup, BackupLogs, CatalogName, ChangeBackup, CreateDatabase, CreateDatafile, Crosscheck, Cut, Damage, DeleteBackup, DeleteExpired, DeleteObsolete, Dump, ListArchived, ListBackup, ListCopy, ListIncarnation, LoseDatafile, LoseLog, Mount, OpenPlain, OpenResetlogs, Parallelism, Preview, Recover, RecoverCopy, RecoverTest, Remove, Rename, ReportNeedBackup, ReportObsolete, ReportSchema, ResetDatabase, Restore, Retention, ShowAll, SwitchLogfile, Tracking, ValidateAll, Write}
+use Rattle.rm_lang_statement.specs.declared.command.Command.TheVariants.{ArchiveLogCurrent, Backup, BackupLogs, BlockRecover, CatalogName, ChangeBackup, Corrupt, CreateDatabase, CreateDatafile, Crosscheck, Cut, Damage, DeleteBackup, DeleteExpired, DeleteObsolete, Dump, ListArchived, ListBackup, ListCopy, ListCorruption, ListIncarnation, LoseDatafile, LoseLog, Mount, OpenPlain, OpenResetlogs, Parallelism, Preview, Recover, RecoverCopy, RecoverTest, Remove, Rename, ReportNeedBackup, ReportObsolete, ReportSchema, ResetDatabase, Restore, Retention, ShowAll, SwitchLogfile, Tracking, ValidateAll, Write}
 use Rattle.rm_history.specs.declared.tree.Incarnation.{Incarnation}
 use Rattle.rm_report.specs.Reply.{HasDate, IsPlain}
 use Rattle.rm_report.specs.declared.line.Line.{Line}
@@ -115,6 +115,7 @@ every-dated ArchiveLogCurrent s objects o change is = by o _ is (archived-dated 
 every-dated (Backup b) s objects o change is = by o _ is.is
     (join-dated _ (write_lines 1 is.scns) (nothing-dated _ (pieces-dated (at_end s b is.events) b is.tag (copied (ledger s) b (now_of s) is.jobs is.rows))) (writes-dated 1 is.scns))
 every-dated BackupLogs s objects o change is = absurd (cc)
+every-dated (BlockRecover form) s objects o change is = absurd (cc)
 every-dated Mount s objects o change is = by o _ is (one-dated _ tt)
 every-dated OpenPlain s objects o change is = by o _ is (one-dated _ tt)
 every-dated OpenResetlogs s objects o change is = some-by s.instance.point _ o is (λ at. join-dated _ _ (archived-dated false s 1 (ledger s).base.threads) (one-dated _ tt))
@@ -128,6 +129,7 @@ every-dated ListIncarnation s objects o change is = absurd (cc)
 every-dated ListBackup s objects o change is = absurd (cc)
 every-dated ListCopy s objects o change is = absurd (cc)
 every-dated ListArchived s objects o change is = absurd (cc)
+every-dated ListCorruption s objects o change is = absurd (cc)
 every-dated ReportObsolete s objects o change is = absurd (cc)
 every-dated ReportNeedBackup s objects o change is = absurd (cc)
 every-dated ReportSchema s objects o change is = absurd (cc)
@@ -145,6 +147,7 @@ every-dated (Tracking on) s objects o change is = by o _ is (one-dated _ tt)
 every-dated (CatalogName name) s objects o change is = absurd (cc)
 every-dated (LoseDatafile file) s objects o change is = by o _ is (one-dated _ tt)
 every-dated (LoseLog thread) s objects o change is = by o _ is (one-dated _ tt)
+every-dated (Corrupt file block) s objects o change is = by o _ is.2 (one-dated _ tt)
 every-dated (Remove name) s objects o change is = absurd (cc)
 every-dated (Damage name at) s objects o change is = absurd (cc)
 every-dated (Cut name to) s objects o change is = absurd (cc)

@@ -1,11 +1,12 @@
 -- No refusal of a sound state tells a moment past the last.
 use Rattle.std.proofs.Common.{◌≡◌, ℕ, Bool, true, false, List, Option, Some, None, sym, subst}
 use Rattle.std.specs.Prelude.{IfSome, if◌then◌else◌}
-use Rattle.std.specs.Option.{option_map, option_map_or}
+use Rattle.std.specs.Option.{option_and_then, option_map, option_map_or}
 use Rattle.rm_base.specs.declared.refusal.Refusal.{Refusal}
 use Rattle.rm_lang_statement.specs.declared.command.BackupForm.{BackupForm}
 use Rattle.rm_lang_statement.specs.declared.command.Command.{Command}
-use Rattle.rm_lang_statement.specs.declared.command.Command.TheVariants.{ArchiveLogCurrent, Backup, BackupLogs, ChangeBackup, CreateDatabase, CreateDatafile, Crosscheck, Cut, Damage, DeleteBackup, DeleteExpired, DeleteObsolete, Dump, LoseDatafile, LoseLog, Mount, OpenPlain, OpenResetlogs, Parallelism, Preview, Recover, RecoverCopy, RecoverTest, Remove, Rename, ResetDatabase, Restore, Retention, SwitchLogfile, Tracking, Write}
+use Rattle.rm_lang_statement.specs.declared.command.Command.TheVariants.{ArchiveLogCurrent, Backup, BackupLogs, BlockRecover, ChangeBackup, Corrupt, CreateDatabase, CreateDatafile, Crosscheck, Cut, Damage, DeleteBackup, DeleteExpired, DeleteObsolete, Dump, LoseDatafile, LoseLog, Mount, OpenPlain, OpenResetlogs, Parallelism, Preview, Recover, RecoverCopy, RecoverTest, Remove, Rename, ResetDatabase, Restore, Retention, SwitchLogfile, Tracking, Write}
+use Rattle.rm_lang_statement.specs.declared.command.RepairForm.{RepairForm}
 use Rattle.rm_lang_statement.specs.declared.command.RetentionForm.{RetentionForm}
 use Rattle.rm_lang_statement.specs.declared.command.RetentionForm.TheVariants as form
 use Rattle.rm_lang_statement.specs.declared.command.Until.{Until}
@@ -14,8 +15,10 @@ use Rattle.rm_lang_statement.specs.declared.command.WriteForm.{WriteForm}
 use Rattle.rm_history.specs.declared.world.Datafile.{Datafile}
 use Rattle.rm_report.specs.Reply.{HasDate}
 use Rattle.rm_machine.specs.Archive.{archive_all_refusal, archiving_refusal}
-use Rattle.rm_machine.specs.BackupRefusal.{backup_refusal, room_refusal}
+use Rattle.rm_machine.specs.BackupRefusal.{backup_refusal, damage_refusal, room_refusal}
+use Rattle.rm_machine.specs.BlockRecoverRefusal.{repair_damage_refusal, repair_refusal, repair_room_refusal}
 use Rattle.rm_machine.specs.Configure.{parallelism_refusal, policy_refusal, retention_refusal}
+use Rattle.rm_machine.specs.Corrupt.{corrupt_refusal}
 use Rattle.rm_machine.specs.CreateDatafile.{datafile_refusal}
 use Rattle.rm_machine.specs.Dump.{dump_refusal}
 use Rattle.rm_machine.specs.LoseDatafile.{lose_refusal}
@@ -65,6 +68,10 @@ map-dated : {X : Type 0} (f : X → Refusal) (o : Option X) → ((x : X) → Has
 map-dated f None one = never
 map-dated f (Some x) one = once (f x) (one x)
 
+then-dated : {X : Type 0} (f : X → Option Refusal) (o : Option X) → ((x : X) → IsDated (f x)) → IsDated (option_and_then f o)
+then-dated f None one = never
+then-dated f (Some x) one = one x
+
 else-dated : (x y : Option Refusal) → IsDated x → IsDated y → IsDated (or_else x y)
 else-dated None y one two = two
 else-dated (Some r) y one two = one
@@ -82,7 +89,7 @@ write-dated : (s : State) (w : WriteForm) → IsDated (write_refusal s w)
 write-dated s w = search (if-dated, unless-dated, or-dated, block-dated, once)
 
 dump-dated : (s : State) (f b : ℕ) → IsDated (dump_refusal s f b)
-dump-dated s f b = search (unless-dated, or-dated, never, once)
+dump-dated s f b = search (unless-dated, or-dated, never, once) depth 9
 
 switch-dated : (s : State) (t : ℕ) → IsDated (switch_refusal s t)
 switch-dated s t = search (if-dated, unless-dated, ids-dated, never, once) depth 9
@@ -93,8 +100,11 @@ archiving-dated s more = search (unless-dated, never)
 archive-dated : (s : State) → IsDated (archive_all_refusal s)
 archive-dated s = search (if-dated, archiving-dated, once)
 
+damage-dated : (s : State) (b : BackupForm) → IsDated (damage_refusal s b)
+damage-dated s b = search (or-dated, map-dated, once)
+
 room-dated : (s : State) (b : BackupForm) → IsDated (room_refusal s b)
-room-dated s b = search (unless-dated, never) depth 9
+room-dated s b = search (unless-dated, damage-dated) depth 9
 
 backup-dated : (s : State) (b : BackupForm) → IsDated (backup_refusal s b)
 backup-dated s b = search (if-dated, or-dated, room-dated, once) depth 9
@@ -171,6 +181,18 @@ lose-dated s f = search (unless-dated, ids-dated)
 lose_log-dated : (s : State) (t : ℕ) → IsDated (lose_log_refusal s t)
 lose_log-dated s t = search (unless-dated, ids-dated)
 
+corrupt-dated : (s : State) (f b : ℕ) → IsDated (corrupt_refusal s f b)
+corrupt-dated s f b = search (if-dated, unless-dated, or-dated, ids-dated, once) depth 9
+
+repair_damage-dated : (s : State) (form : RepairForm) → IsDated (repair_damage_refusal s form)
+repair_damage-dated s form = search (or-dated, then-dated, map-dated, once)
+
+repair_room-dated : (s : State) (form : RepairForm) → IsDated (repair_room_refusal s form)
+repair_room-dated s form = search (unless-dated, repair_damage-dated)
+
+repair-dated : (s : State) (form : RepairForm) → IsDated (repair_refusal s form)
+repair-dated s form = search (if-dated, or-dated, repair_room-dated, once) depth 9
+
 record-dated : (s : State) (n : ℕ) → IsDated (record_refusal s n)
 record-dated s n = search (unless-dated, never)
 
@@ -195,6 +217,7 @@ every-refusal-dated s sound (SwitchLogfile t) = switch-dated s t
 every-refusal-dated s sound ArchiveLogCurrent = archive-dated s
 every-refusal-dated s sound (Backup b) = backup-dated s b
 every-refusal-dated s sound BackupLogs = never
+every-refusal-dated s sound (BlockRecover form) = repair-dated s form
 every-refusal-dated s sound Mount = ids-dated s
 every-refusal-dated s sound OpenPlain = open-dated s
 every-refusal-dated s sound OpenResetlogs = resetlogs-dated s
@@ -214,6 +237,7 @@ every-refusal-dated s sound (Parallelism channels) = parallelism-dated s channel
 every-refusal-dated s sound (Tracking on) = ids-dated s
 every-refusal-dated s sound (LoseDatafile f) = lose-dated s f
 every-refusal-dated s sound (LoseLog t) = lose_log-dated s t
+every-refusal-dated s sound (Corrupt f b) = corrupt-dated s f b
 every-refusal-dated s sound (Remove name) = ids-dated s
 every-refusal-dated s sound (Damage name at) = ids-dated s
 every-refusal-dated s sound (Cut name to) = ids-dated s

@@ -13,6 +13,7 @@ use Rattle.rm_commit.specs.Carrying.{AreMoved, ArePut, Carried, Halted, after_th
 use Rattle.rm_commit.specs.Names.{SameBeyondPuts, HasPuts, HasRemoves, is_named, itself, name_of}
 use Rattle.rm_commit.proofs.Told.{both-told}
 use Rattle.rm_catalog_typed.specs.TypedCatalog.{Saved, all_records, records_of}
+use Rattle.rm_machine.specs.Damage.{without_damaged}
 use Rattle.rm_machine.specs.Machine.{Machine}
 use Rattle.rm_machine.specs.Marks.{lacks_ids}
 use Rattle.rm_machine.specs.Rest.{Rest, at_rest, catalog_in}
@@ -47,7 +48,7 @@ unnamed-site id (p ∷ ps) name other = elim (cases_Bool (bytes_eq name (object_
 module _ (held : Option Held) (kept : Option (List Record)) (s : State) where
   -- where a saved site stands, or the ids of a save are not left, all stays as it is
   ended-same : (m : Machine) (saved : Option Saved) (lacks : Bool) → (is_none saved ≡ false) ⊎ (lacks ≡ true)
-      → MatchBool (true && is_none saved) (MatchBool lacks (at_rest m ≡ at_rest m) (IsSavedAs m s (at_rest m))) (at_rest m ≡ at_rest m)
+      → MatchBool (true && is_none saved) (MatchBool lacks (at_rest m ≡ at_rest m) (IsSavedAs m (without_damaged s) (at_rest m))) (at_rest m ≡ at_rest m)
   ended-same m None true why = refl
   ended-same m None false (inl is) = absurd (cc)
   ended-same m None false (inr is) = absurd (cc)
@@ -57,19 +58,23 @@ module _ (held : Option Held) (kept : Option (List Record)) (s : State) where
   saves-nothing why m is holds =
       (at_rest m, subst (λ o. MatchBool (true && is_none (saved_in o)) (IsSavedBy o m (at_rest m)) (at_rest m ≡ at_rest m)) (sym is) (ended-same m s.catalog.saved (lacks_ids s 0) why), rests held kept m holds)
 
-  module _ (none : s.catalog.saved ≡ None) (ids : lacks_ids s 0 ≡ false) (x : Commit) (puts : x.objects ≡ with_ids object_of (ledger s).base.next_id (parts_of s))
-      (edits : after_edits x.edits (records_of s.catalog) ≡ records_of (with_site s)) (removes : x.removes ≡ []) where
+  module _ (none : s.catalog.saved ≡ None) (ids : lacks_ids s 0 ≡ false) (x : Commit) (puts : x.objects ≡ with_ids object_of (ledger s).base.next_id (parts_of (without_damaged s)))
+      (edits : after_edits x.edits (records_of s.catalog) ≡ records_of (with_site (without_damaged s))) (removes : x.removes ≡ []) where
+    -- what is saved: each datafile of which a block is damaged is lost
+    abbrev t : State
+    t = without_damaged s
+
     -- the machine at rest, where its site was saved
     abbrev saved : Machine → Held → Rest
-    saved m objects = record { catalog = Some (with_site s); history = m.history; objects = objects; made = m.made ++ with_ids made_of (ledger s).base.next_id (parts_of s); touched = m.touched }
+    saved m objects = record { catalog = Some (with_site t); history = m.history; objects = objects; made = m.made ++ with_ids made_of (ledger s).base.next_id (parts_of t); touched = m.touched }
 
-    is-ended : (m : Machine) (r : Rest) → m.state ≡ Some s → IsSavedAs m s r → IsEnded true m r
+    is-ended : (m : Machine) (r : Rest) → m.state ≡ Some s → IsSavedAs m t r → IsEnded true m r
     is-ended m r is done =
         subst (λ o. MatchBool (true && is_none (saved_in o)) (IsSavedBy o m r) (r ≡ at_rest m)) (sym is)
-        (subst (λ (v : Option Saved). MatchBool (true && is_none v) (MatchBool (lacks_ids s 0) (r ≡ at_rest m) (IsSavedAs m s r)) (r ≡ at_rest m)) (sym none)
-        (subst (λ (b : Bool). MatchBool b (r ≡ at_rest m) (IsSavedAs m s r)) (sym ids) done))
+        (subst (λ (v : Option Saved). MatchBool (true && is_none v) (MatchBool (lacks_ids s 0) (r ≡ at_rest m) (IsSavedAs m t r)) (r ≡ at_rest m)) (sym none)
+        (subst (λ (b : Bool). MatchBool b (r ≡ at_rest m) (IsSavedAs m t r)) (sym ids) done))
 
-    saved-as : (m : Machine) (put objects : Held) → HasPuts x.objects m.objects put → ((name : List ℕ) → objects name ≡ put name) → IsSavedAs m s (saved m objects)
+    saved-as : (m : Machine) (put objects : Held) → HasPuts x.objects m.objects put → ((name : List ℕ) → objects name ≡ put name) → IsSavedAs m t (saved m objects)
     saved-as m put objects has same = record {
       catalog = refl;
       history = refl;
@@ -78,11 +83,11 @@ module _ (held : Option Held) (kept : Option (List Record)) (s : State) where
       touched = refl;
     }
 
-    keeper-has : (kept' : Option (List Record)) (m : Machine) → m.state ≡ Some s → kept ≡ Some (records m) → kept' ≡ option_map (after_edits x.edits) kept → kept' ≡ Some (records_of (with_site s))
+    keeper-has : (kept' : Option (List Record)) (m : Machine) → m.state ≡ Some s → kept ≡ Some (records m) → kept' ≡ option_map (after_edits x.edits) kept → kept' ≡ Some (records_of (with_site t))
     keeper-has kept' m is keeper made =
         made ∙ ap (option_map (after_edits x.edits)) keeper ∙ ap Some (ap (λ (o : Option State). after_edits x.edits (all_records (catalog_in o))) is ∙ edits)
 
-    saved-holds : (m : Machine) (objects : Held) (held' : Option Held) (kept' : Option (List Record)) → m.state ≡ Some s → Holds held kept m → IsSavedAs m s (saved m objects)
+    saved-holds : (m : Machine) (objects : Held) (held' : Option Held) (kept' : Option (List Record)) → m.state ≡ Some s → Holds held kept m → IsSavedAs m t (saved m objects)
         → held' ≡ Some objects → kept' ≡ option_map (after_edits x.edits) kept → HoldsRest held' kept' (saved m objects)
     saved-holds m objects held' kept' is holds done store made = record {
       store = store;
@@ -101,7 +106,7 @@ module _ (held : Option Held) (kept : Option (List Record)) (s : State) where
     stays-under : (m : Machine) (objects : Held) → m.state ≡ Some s → SameBeyondPuts x.objects m.objects objects → StaysUnder [] m.state m.objects objects
     stays-under m objects is same name names =
         let other = no-part s name none (subst (λ o. IsNamedIn o name) is names) in
-        inr (same name (ap (λ ys. is_named name_of ys name) puts ∙ unnamed-site (ledger s).base.next_id (parts_of s) name other))
+        inr (same name (ap (λ ys. is_named name_of ys name) puts ∙ unnamed-site (ledger s).base.next_id (parts_of t) name other))
 
     pub stops-saving : (held' : Option Held) (kept' : Option (List Record)) → Halted x held kept held' kept' → StopsSavingAt held kept s held' kept'
     stops-saving held' kept' (before_the_edits b) m is holds =

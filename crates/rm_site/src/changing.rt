@@ -68,6 +68,7 @@ pub(crate) fn change<R: Threads + Wait + Sync, G: Gate>(
         Command::Tracking { on } => rm_step_upkeep::track_changes(alloc, state, edits, *on),
         Command::LoseDatafile { file } => rm_step_host::lose_datafile(alloc, state, *file),
         Command::LoseLog { thread } => rm_step_host::lose_log(alloc, state, *thread),
+        Command::Corrupt { file, block } => rm_step_host::corrupt(alloc, state, *file, *block),
         _ => unreachable!(),
     }
 }

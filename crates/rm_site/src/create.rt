@@ -61,6 +61,7 @@ pub(crate) fn new_database(
             point: None,
             place: Seq::new(alloc),
             logs: OnlineLogs::new(alloc, dbid, 1, threads, scn)?,
+            damaged: Seq::new(alloc),
             tracker: Tracker::new(alloc),
         },
     })

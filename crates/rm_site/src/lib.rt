@@ -17,6 +17,7 @@ mod step_backup;
 mod step_copies;
 mod step_host;
 mod step_recover;
+mod step_repair;
 mod step_retain;
 mod step_tell;
 mod step_upkeep;

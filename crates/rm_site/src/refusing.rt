@@ -27,6 +27,7 @@ pub(crate) fn refusal_of(
         Command::ArchiveLogCurrent => Ok(rm_step_open::archive_all_refusal(state)),
         Command::Backup(form) => Ok(rm_step_backup::backup_refusal(state, form)),
         Command::BackupLogs => Ok(None),
+        Command::BlockRecover(form) => Ok(rm_step_repair::repair_refusal(state, form)),
         Command::Mount => Ok(ids_refusal(state)),
         Command::OpenPlain => Ok(rm_step_open::open_refusal(state)),
         Command::OpenResetlogs => Ok(rm_step_open::resetlogs_refusal(state)),
@@ -57,6 +58,7 @@ pub(crate) fn refusal_of(
         Command::Tracking { .. } => Ok(ids_refusal(state)),
         Command::LoseDatafile { file } => Ok(rm_step_host::lose_refusal(state, *file)),
         Command::LoseLog { thread } => Ok(rm_step_host::lose_log_refusal(state, *thread)),
+        Command::Corrupt { file, block } => Ok(rm_step_host::corrupt_refusal(state, *file, *block)),
         Command::Remove { .. } => Ok(ids_refusal(state)),
         Command::Damage { .. } => Ok(ids_refusal(state)),
         Command::Cut { .. } => Ok(ids_refusal(state)),
@@ -69,6 +71,7 @@ pub(crate) fn refusal_of(
         Command::ListBackup => Ok(None),
         Command::ListCopy => Ok(None),
         Command::ListArchived => Ok(None),
+        Command::ListCorruption => Ok(None),
         Command::ShowAll => Ok(None),
         Command::CatalogName { .. } => Ok(None),
     }

@@ -57,8 +57,9 @@ fn save_state<D: Store, C: Keeper>(
 }
 
 impl Site {
-    /// Ends the session. Where it has applied a list, what runs is saved: each datafile in place and each online log that is
-    /// not lost is put as an object, and then the records come to tell of them. Else all stays as it is. The site is spent.
+    /// Ends the session. Where it has applied a list, what runs is saved: each datafile of which a block is damaged is lost, each
+    /// other one in place and each online log that is not lost is put as an object, and then the records come to tell of them.
+    /// Else all stays as it is. The site is spent.
     ///
     /// An error is a stop: a fault of the store or the keeper, which that object counted, or want of memory. It leaves
     /// nothing of the save recorded, or all of it.

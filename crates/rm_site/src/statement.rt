@@ -13,7 +13,8 @@ ghost use Rattle.rm_site.specs.Comes.{AnswersPlainly, ComesTo, DoesMore, IsAnswe
 use crate::changing::change;
 use crate::refusing::refusal_of;
 use crate::{
-    step_backup, step_copies, step_host, step_recover, step_retain, step_tell, step_upkeep,
+    step_backup, step_copies, step_host, step_recover, step_repair, step_retain, step_tell,
+    step_upkeep,
 };
 use rm_base::{Refusal, Seq, Store};
 use rm_catalog::Edit;
@@ -119,7 +120,7 @@ fn change_by_held<D: Store>(
 }
 
 // The same of one that what the store has may refuse too.
-fn try_by_held<R: Threads + Sync, D: Store>(
+fn try_by_held<R: Threads + Wait + Sync, D: Store>(
     rt: &R,
     alloc: Global,
     channels: Option<u32>,
@@ -148,6 +149,7 @@ fn try_by_held<R: Threads + Sync, D: Store>(
             alloc, state, store, edits, tag, until,
         ),
         Command::BackupLogs => step_backup::back_up_logs(alloc, state, store, edits),
+        Command::BlockRecover(form) => step_repair::mend(rt, alloc, state, store, edits, form),
         _ => unreachable!(),
     }
 }

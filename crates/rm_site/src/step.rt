@@ -232,6 +232,9 @@ impl Site {
     /// Under a policy with a window DELETE OBSOLETE keeps each target of the window: what was told of a block there is told still, and
     /// a target that could be recovered can be.
     ///
+    /// BLOCKRECOVER mends exactly the damaged blocks that it asks for, while its writers run: from its turn on each is what the
+    /// history tells of it.
+    ///
     /// New objects are put first, then all records are edited at once, then objects go that no record names; with the first
     /// list of a session those of its saved site.
     /// An error is a stop, after which the site is spent and has no database any more: a fault of the store

@@ -19,7 +19,9 @@ use rm_commit::Stop;
 use rm_lang_statement::Command;
 use rm_machine::State;
 use rm_report::Line;
-use rm_step_tell::{dump, list, list_incarnation, report_schema, show_all, validate_all};
+use rm_step_tell::{
+    dump, list, list_corruption, list_incarnation, report_schema, show_all, validate_all,
+};
 use std::alloc::Global;
 
 // The lines of a statement that tells of the state alone.
@@ -36,6 +38,7 @@ fn lines_of(alloc: Global, state: &State, command: &Command) -> Result<Seq<Line>
         Command::ListBackup => list(alloc, state, Class::Backup),
         Command::ListCopy => list(alloc, state, Class::Copy),
         Command::ListArchived => list(alloc, state, Class::Archived),
+        Command::ListCorruption => list_corruption(alloc, state),
         Command::ReportSchema => report_schema(alloc, state),
         Command::ShowAll => show_all(alloc, state),
         _ => unreachable!(),

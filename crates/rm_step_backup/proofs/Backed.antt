@@ -11,7 +11,6 @@ use Rattle.rm_channel.specs.Jobs.{AreRows, Span, deeds_of, lists, whole}
 use Rattle.rm_channel.specs.Made.{AreThese, deed}
 use Rattle.rm_channel.specs.declared.jobs.CopyJob.{CopyJob}
 use Rattle.rm_channel.specs.declared.jobs.Work.{Work}
-use Rattle.rm_channel.specs.declared.jobs.WriteJob.{WriteJob}
 use Rattle.rm_live.specs.Ruled.{total}
 use Rattle.rm_report.specs.declared.line.Line.{Line}
 use Rattle.rm_lang_statement.specs.declared.command.BackupForm.{BackupForm}
@@ -33,8 +32,9 @@ use Rattle.rm_machine.specs.State.{ledger, now_of}
 use Rattle.rm_machine_code.proofs.BackingUp.{can-record, copied-at_end, during-marks, end-sound, sound-begun}
 use Rattle.rm_machine_code.proofs.BackupAccepted.{CanBackUp, can-back_up}
 use Rattle.rm_machine_code.proofs.BackupMarks.{marked-same}
-use Rattle.rm_step_backup.specs.Running.{CanFollow, HasRunLive}
-use Rattle.rm_step_backup.proofs.Room.{few-writers}
+use Rattle.rm_machine.specs.Running.{CanFollow}
+use Rattle.rm_step_backup.specs.Running.{HasRunLive}
+use Rattle.rm_machine_code.proofs.WritersRoom.{few-writers}
 
 -- Before the first event
 
@@ -103,7 +103,7 @@ module _ (s : State) (b : BackupForm) (sound : IsSound s) (well : IsStatement (B
       let long = length-map (lists w.scns.items) length in
       let each = length-map (writers_of s b) length in
       let alike = ap (λ (ns : List ℕ). length ns) ran.scns in
-      omega (arith, length-map w.scns.items (λ v. v.items), long, each, alike, (few-writers s b sound).1, ap (λ (vs : List (Vec ℕ Global)). length vs) same)
+      omega (arith, length-map w.scns.items (λ v. v.items), long, each, alike, (few-writers s (writes_in b) sound).1, ap (λ (vs : List (Vec ℕ Global)). length vs) same)
 
   -- it comes to what the machine says
   pub hands : (ys : List Copied) → ys ≡ copied (ledger t) b (now_of s) jobs rows → (q : State) (x : Handed) (lines said : List Line) → q ≡ after_pieces t b tag ys → x.lines ≡ piece_lines t b tag ys → x.objects ≡ pieces_put t b tag ys → x.removes ≡ []
@@ -134,8 +134,3 @@ module _ (s : State) (b : BackupForm) (sound : IsSound s) (well : IsStatement (B
         puts = put ∙ (λ i. pieces_put (ran.state i) b tag (is i));
         removes = gone;
       }
-
--- the writers' lists are no more than four
-pub few-lists : (s : State) (b : BackupForm) (vs : List (Vec WriteJob Global)) → IsSound s → lists vs ≡ writers_of s b → length vs ≤ 4
-few-lists s b vs sound written =
-    omega (arith, length-map vs (λ v. v.items), ap (λ (ws : List (List WriteJob)). length ws) written, (few-writers s b sound).1)

@@ -1,6 +1,5 @@
 -- A BACKUP under way: some pieces are recorded, and the rest lead on from there.
-use Rattle.std.proofs.Common.{◌≡◌, ◌<◌, ◌+◌, ◌∙◌, ◌++◌, ℕ, suc, Bool, List, [], ◌∷◌, ap, sym, subst, arith, append_assoc, drop-cons, drop, get_or, length, map}
-use Rattle.std.proofs.lemmas.List.{get_or-map, length-map}
+use Rattle.std.proofs.Common.{◌≡◌, ◌<◌, ◌+◌, ◌∙◌, ◌++◌, ℕ, suc, Bool, List, [], ◌∷◌, ap, sym, subst, arith, append_assoc, drop-cons, drop, get_or, length}
 use Rattle.std.proofs.lemmas.List.Elements.{All-head}
 use Rattle.std.specs.Prelude.{Vec}
 use Rattle.std.specs.Global.{Global}
@@ -10,45 +9,21 @@ use Rattle.rm_channel.specs.Jobs.{lists}
 use Rattle.rm_piece.specs.declared.piece.Piece.{Piece}
 use Rattle.rm_piece.specs.Valid.{IsPiece}
 use Rattle.rm_report.specs.declared.line.Line.{Line}
-use Rattle.rm_report.specs.declared.line.Line.TheVariants.{ThreadScn}
 use Rattle.rm_catalog_typed.specs.Changes.{EditsFollow}
 use Rattle.rm_catalog_typed.specs.Fitting.{FitsNewPiece}
 use Rattle.rm_catalog_typed.specs.Ledger.{Ledger}
 use Rattle.rm_catalog_typed.proofs.Changed.{follows-then}
 use Rattle.rm_lang_statement.specs.declared.command.BackupForm.{BackupForm}
 use Rattle.rm_machine.specs.Backup.{is_copy}
-use Rattle.rm_machine.specs.BackupOutcome.{write_lines}
 use Rattle.rm_machine.specs.MadePieces.{CanRecord, Copied, after_piece, after_pieces, copied, entry_for, line_for, object_for, piece_by, piece_lines, pieces_put}
 use Rattle.rm_machine.specs.Sound.{IsSound}
 use Rattle.rm_machine.specs.declared.handed.Handed.{Handed}
 use Rattle.rm_machine.specs.declared.job.Job.{Job}
 use Rattle.rm_machine.specs.declared.state.State.{State}
 use Rattle.rm_machine.specs.State.{ledger}
+use Rattle.rm_machine_code.proofs.ByThread.{lists-at}
 use Rattle.rm_machine_code.proofs.Copies.{piece-same}
 use Rattle.rm_machine_code.proofs.Recording.{can-next, next-fits, next-sound}
-
--- The SCNs of the writes
-
--- the lists from place k on
-lists-at : {X : Type 0} (vs : List (Vec X Global)) (k : ℕ) (d : Vec X Global) → k < length vs → drop k (lists vs) ≡ (get_or vs k d).items ∷ drop (k + 1) (lists vs)
-lists-at vs k d inside =
-    let next : suc k ≡ k + 1 = omega arith in
-    let long = length-map vs (λ v. v.items) in
-    drop-cons (lists vs) k d.items (omega (arith, long, inside))
-    ∙ ap (λ xs. xs ∷ drop (suc k) (lists vs)) (get_or-map (λ v. v.items) vs k d d.items inside)
-    ∙ ap (λ n. (get_or vs k d).items ∷ drop n (lists vs)) next
-
--- those of one thread more are told
-pub told-next : (scns : List (Vec ℕ Global)) (k : ℕ) (d : Vec ℕ Global) (before lines : List Line) → k < length scns
-    → before ++ write_lines (1 + k) (drop k (lists scns)) ≡ lines
-    → (before ++ map (ThreadScn (k + 1)) (get_or scns k d).items) ++ write_lines (1 + (k + 1)) (drop (k + 1) (lists scns)) ≡ lines
-told-next scns k d before lines inside was =
-    let rest = drop (k + 1) (lists scns) in
-    let thread : k + 1 ≡ 1 + k = omega arith in
-    let next : 1 + (k + 1) ≡ suc (1 + k) = omega arith in
-    append_assoc before (map (ThreadScn (k + 1)) (get_or scns k d).items) (write_lines (1 + (k + 1)) rest)
-    ∙ (λ i. before ++ (map (ThreadScn (thread i)) (get_or scns k d).items ++ write_lines (next i) rest))
-    ∙ ap (λ ls. before ++ write_lines (1 + k) ls) (sym (lists-at scns k d inside)) ∙ was
 
 -- Pieces
 

@@ -1,5 +1,6 @@
 //! The datafiles that a backup takes.
-ghost use Rattle.std.specs.Prelude.{◌≡◌, ◌<◌, IfOk, is_none, length, sum_by};
+ghost use Rattle.std.specs.Prelude.{◌≡◌, ◌<◌, ◌==◌, IfOk, is_none, length, sum_by};
+ghost use Rattle.std.specs.List.{list_any};
 ghost use Rattle.rm_machine.specs.Backup.{asks_for, is_taken, lost_taken, piece_bytes, taken};
 ghost use Rattle.rm_machine.specs.Sound.{IsSound};
 ghost use Rattle.rm_machine.specs.State.{placed};
@@ -8,7 +9,7 @@ use rm_base::{FileNo, NoMemory};
 use rm_history::Datafile;
 use rm_lang_statement::BackupForm;
 use rm_machine::State;
-use rm_machine_code::facts::{exists, now, placed};
+use rm_machine_code::facts::{exists, now, on_path, placed};
 use std::alloc::Global;
 
 // Whether the backup asks for the datafile of this number.
@@ -98,4 +99,15 @@ pub(crate) fn taken(
         }
     }
     Ok(files)
+}
+
+/// Whether the datafile of this number is one of them.
+pub(crate) fn takes(state: &State, form: &BackupForm, number: FileNo) -> bool
+    requires sound { IsSound state.now }
+    ensures { result ≡ list_any (λ f. f == number) (taken state.now form.now) }
+{
+    match on_path(state, u64::from(number)) {
+        Some(_) => asks_for(form, number),
+        None => false,
+    }
 }

@@ -1,20 +1,20 @@
 //! Why BACKUP is refused.
-ghost use Rattle.std.specs.Prelude.{◌≡◌, ◌<◌, ◌≤◌, ◌+◌, None, length, nat_lt};
-ghost use Rattle.rm_base.specs.Numbers.{last_scn};
-ghost use Rattle.rm_machine.specs.Asked.{by_thread, writes_in};
-ghost use Rattle.rm_machine.specs.BackupRefusal.{absent_in, absent_of, backup_refusal, lacks_log, lacks_logs, lost_of, lost_refusal, mark_count, room_refusal};
+ghost use Rattle.std.specs.Prelude.{◌≡◌, None};
+ghost use Rattle.rm_machine.specs.Asked.{writes_in};
+ghost use Rattle.rm_machine.specs.BackupRefusal.{absent_of, backup_refusal, damage_refusal, damaged_taken, lost_refusal, room_refusal};
 ghost use Rattle.rm_machine.specs.Backup.{absent};
 ghost use Rattle.rm_machine.specs.Sound.{IsSound};
-ghost use Rattle.rm_machine.specs.State.{ledger, now_of};
 
-use crate::asking::writes_in;
-use crate::datafiles::{lost_taken, taken_bytes, taken_count};
-use rm_base::{Absent, FileNo, LAST_SCN, Limit, Refusal, ThreadNo};
-use rm_lang_statement::{BackupForm, WriteForm};
+use crate::datafiles::{lost_taken, taken_bytes, taken_count, takes};
+use rm_base::{Absent, BlockId, Limit, Refusal};
+use rm_lang_statement::BackupForm;
 use rm_machine::State;
-use rm_machine_code::facts::{is_thread, now, on_path, placed, threads};
-use rm_machine_code::marks::marks_before;
+use rm_machine_code::during::{
+    absent_of, damaged_write, lacks_logs, lacks_scns, lost_of, marks_for,
+};
+use rm_machine_code::facts::on_path;
 use rm_machine_code::room::{lacks_bytes, lacks_ids, lacks_room};
+use rm_machine_code::writers::asked;
 
 // The first datafile that the backup names and that is not on the current path.
 fn absent(state: &State, form: &BackupForm) -> Option<u64>
@@ -28,109 +28,38 @@ fn absent(state: &State, form: &BackupForm) -> Option<u64>
         .copied()
 }
 
-// What a write names that is not there.
-fn absent_in(state: &State, write: &WriteForm) -> Option<Absent>
+// The least damaged block of the datafiles that are backed up.
+fn damaged_taken(state: &State, form: &BackupForm) -> Option<BlockId>
     requires sound { IsSound state.now }
-    ensures { result ≡ absent_in state.now write.now }
+    ensures { result ≡ damaged_taken state.now form.now }
 {
-    if !is_thread(state, write.thread) {
-        return Some(Absent::Thread(write.thread));
-    }
-    let Some(datafile) = on_path(state, write.file) else {
-        return Some(Absent::File(write.file));
-    };
-    if write.block >= u64::from(datafile.blocks) {
-        Some(Absent::Block {
-            block: write.block,
-            file: write.file,
-        })
-    } else {
-        None
-    }
+    let damaged = state.instance.damaged.as_slice();
+    damaged
+        .iter()
+        .find(|id| takes(state, form, id.file))
+        .copied()
 }
 
-// What the first of the writes names that is not there.
-fn absent_of(state: &State, writes: &[WriteForm]) -> Option<Absent>
+// A block is damaged, one of a datafile that is backed up or one that is written.
+fn damage_refusal(state: &State, form: &BackupForm) -> Option<Refusal>
     requires sound { IsSound state.now }
-    ensures { result ≡ absent_of state.now writes.now }
+    requires there { absent_of state.now (writes_in form.now) ≡ None }
+    ensures { result ≡ damage_refusal state.now form.now }
 {
-    for write in writes {
-        if let Some(absent) = absent_in(state, write) {
-            return Some(absent);
-        }
-    }
-    None
+    let taken = damaged_taken(state, form);
+    let BlockId { file, block } = taken.or_else(|| damaged_write(state, asked(&form.during)))?;
+    Some(Refusal::Rm17 { file, block })
 }
 
-// The datafile of the first of the writes whose datafile is lost.
-fn lost_of(state: &State, writes: &[WriteForm]) -> Option<u64>
-    requires sound { IsSound state.now }
-    requires there { absent_of state.now writes.now ≡ None }
-    ensures { result ≡ lost_of state.now writes.now }
-{
-    for write in writes {
-        if placed(state, write.file).is_none() {
-            return Some(write.file);
-        }
-    }
-    None
-}
-
-// How many marks a BACKUP writes: 1 or none.
-fn mark_count(state: &State, form: &BackupForm) -> u64
-    requires sound { IsSound state.now }
-    ensures value { result ≡ mark_count state.now form.now }
-    ensures most { result ≤ 1 }
-{
-    u64::from(form.during.is_some() && marks_before(state).is_some())
-}
-
-// How many of the writes are by a thread.
-fn count_by(thread: u64, writes: &[WriteForm]) -> u64
-    ensures { result ≡ length (by_thread thread writes.now) }
-{
-    writes.iter().filter(|write| write.thread == thread).count() as u64
-}
-
-// Whether the log of a thread has no room for the thread's writes.
-fn lacks_log(state: &State, writes: &[WriteForm], thread: ThreadNo) -> bool
-    requires sound { IsSound state.now }
-    requires thread { (0 < thread) × (thread ≤ (ledger state.now).base.threads) }
-    ensures { result ≡ lacks_log state.now writes.now thread }
-{
-    let more = count_by(u64::from(thread), writes);
-    more > 65_536 - u64::from(state.instance.logs.count(thread))
-}
-
-// Whether the log of one of the threads has no room for the thread's writes.
-fn lacks_logs(state: &State, writes: &[WriteForm]) -> bool
-    requires sound { IsSound state.now }
-    ensures { result ≡ lacks_logs state.now writes.now 1 (ledger state.now).base.threads }
-{
-    for index in 0..threads(state) {
-        if lacks_log(state, writes, index + 1) {
-            return true;
-        }
-    }
-    false
-}
-
-// Whether too few SCNs are left for so many writes.
-fn lacks_scns(state: &State, count: u64) -> bool
-    requires sound { IsSound state.now }
-    ensures { result ≡ nat_lt last_scn (now_of state.now + count) }
-{
-    count > LAST_SCN - now(state)
-}
-
-// Why the pieces can't be made or the writes not be kept.
+// Why the pieces can't be made or the writes not be kept, or a block that is damaged.
 fn room_refusal(state: &State, form: &BackupForm) -> Option<Refusal>
     requires sound { IsSound state.now }
+    requires there { absent_of state.now (writes_in form.now) ≡ None }
     ensures { result ≡ room_refusal state.now form.now }
 {
     let count = taken_count(state, form);
-    let writes = writes_in(form);
-    if lacks_room(state, count + mark_count(state, form)) {
+    let writes = asked(&form.during);
+    if lacks_room(state, count + marks_for(state, &form.during)) {
         Some(Refusal::Rm11(Limit::Records))
     } else if lacks_bytes(state, taken_bytes(state, form)) {
         Some(Refusal::Rm11(Limit::Bytes))
@@ -141,7 +70,7 @@ fn room_refusal(state: &State, form: &BackupForm) -> Option<Refusal>
     } else if lacks_scns(state, writes.len() as u64) {
         Some(Refusal::Rm15)
     } else {
-        None
+        damage_refusal(state, form)
     }
 }
 
@@ -154,10 +83,8 @@ fn lost_refusal(state: &State, form: &BackupForm) -> Option<Refusal>
     if let Some(file) = lost_taken(state, form) {
         return Some(Refusal::Rm09 { file });
     }
-    if let Some(file) = lost_of(state, writes_in(form)) {
-        return Some(Refusal::Rm09 {
-            file: file as FileNo,
-        });
+    if let Some(file) = lost_of(state, asked(&form.during)) {
+        return Some(Refusal::Rm09 { file });
     }
     room_refusal(state, form)
 }
@@ -165,8 +92,9 @@ fn lost_refusal(state: &State, form: &BackupForm) -> Option<Refusal>
 /// Why a BACKUP is refused, if it is, with the writes that are made meanwhile: the database is mounted (RM-04); a named datafile
 /// is not on the current path, or a write's thread, datafile on the current path or block is not there (RM-05); one that would be
 /// backed up, or a write's datafile, is lost (RM-09); too few records, bytes, ids or log records are left (RM-11, in this
-/// order); or too few SCNs (RM-15). Of several with one number the datafiles of the backup come first, then the writes in
-/// the order of the text.
+/// order); too few SCNs (RM-15); or a block of a datafile that would be backed up, or one that is written, is damaged (RM-17). Of
+/// several with one number the datafiles of the backup come first, the least damaged block of all of them, then the writes in the
+/// order of the text.
 pub fn backup_refusal(state: &State, form: &BackupForm) -> Option<Refusal>
     requires sound { IsSound state.now }
     ensures value { result ≡ backup_refusal state.now form.now }
@@ -177,7 +105,7 @@ pub fn backup_refusal(state: &State, form: &BackupForm) -> Option<Refusal>
     if let Some(file) = absent(state, form) {
         return Some(Refusal::Rm05(Absent::File(file)));
     }
-    if let Some(absent) = absent_of(state, writes_in(form)) {
+    if let Some(absent) = absent_of(state, asked(&form.during)) {
         return Some(Refusal::Rm05(absent));
     }
     lost_refusal(state, form)

@@ -1,5 +1,5 @@
 //! BACKUP of datafiles, while the database may write.
-ghost use Rattle.std.specs.Prelude.{◌≡◌, ◌≤◌, ◌++◌, List, [], IfOk, None, OnOk, Option, false, length, map};
+ghost use Rattle.std.specs.Prelude.{◌≡◌, ◌≤◌, List, [], IfOk, None, OnOk, Option, false, length, map};
 ghost use Rattle.rm_base.specs.Store.{Held};
 ghost use Rattle.rm_catalog.specs.Objects.{IsTag};
 ghost use Rattle.rm_step_backup.specs.Copying.{StartBelow};
@@ -8,7 +8,7 @@ ghost use Rattle.rm_channel.specs.Jobs.{lists, whole};
 ghost use Rattle.rm_channel.specs.declared.jobs.CopyJob.{CopyJob};
 ghost use Rattle.rm_machine.specs.Asked.{span_of, writers_of};
 ghost use Rattle.rm_machine.specs.MadePieces.{CanRecord, after_pieces, copied, piece_lines, pieces_put};
-ghost use Rattle.rm_machine.specs.BackupOutcome.{begun, marked, write_lines};
+ghost use Rattle.rm_machine.specs.BackupOutcome.{begun};
 ghost use Rattle.rm_machine.specs.Hands.{Hands};
 ghost use Rattle.rm_machine.specs.Backup.{AreJobs, or_nothing, taken};
 ghost use Rattle.rm_machine.specs.BackupRefusal.{mark_count};
@@ -18,38 +18,25 @@ ghost use Rattle.rm_machine.specs.State.{ledger};
 ghost use Rattle.rm_machine.specs.Step.{IsStatement, refusal_of};
 ghost use Rattle.rm_machine.specs.Tracked.{switch_all};
 ghost use Rattle.rm_lang_statement.specs.declared.command.Command.TheVariants.{Backup};
-ghost use Rattle.rm_report.specs.declared.line.Line.TheVariants.{ThreadScn};
 ghost use Rattle.rm_catalog_typed.specs.Changes.{EditsFollow};
 
-use crate::asking::{copy_jobs, writers_of};
+use crate::asking::copy_jobs;
 use crate::jobs::jobs;
 use crate::pieces::{is_copy, piece_of, record_piece, tag_of};
 use crate::running::run_live;
-use rm_base::{NoMemory, Row, Scn, Seq, Text, ThreadNo};
+use rm_base::{NoMemory, Row, Scn, Seq, Text};
 use rm_catalog::Edit;
 use rm_channel::{Gate, Work};
 use rm_lang_statement::BackupForm;
 use rm_machine::{Handed, Job, State};
 use rm_machine_code::facts::now;
-use rm_machine_code::marks::add_marks_before;
+use rm_machine_code::marks::add_marks_for;
+use rm_machine_code::writers::{tell_writes, writers_in};
 use rm_report::Line;
 use rm_track::Tracker;
 use std::alloc::Global;
 use std::sync::Wait;
 use std::thread::Threads;
-
-// Writes the mark that comes before the writes, where the BACKUP has a DURING.
-fn mark(state: &mut State, edits: &mut Vec<Edit>, form: &BackupForm) -> Result<(), NoMemory>
-    requires sound { IsSound state.old }
-    requires room { lacks_room state.old (mark_count state.old form.now) ≡ false }
-    ensures after { OnOk result (state.new ≡ marked state.old form.now) }
-    ensures edits { OnOk result (EditsFollow edits.old.items edits.new.items state.old.catalog state.new.catalog) }
-{
-    if form.during.is_some() {
-        add_marks_before(state, edits)?;
-    }
-    Ok(())
-}
 
 // Ends the current bitmap of each of these datafiles at the checkpoint. Without memory nothing is said of the bitmaps.
 fn switch_all(
@@ -82,7 +69,7 @@ fn begin(
     ensures edits { OnOk result (EditsFollow edits.old.items edits.new.items state.old.catalog state.new.catalog) }
 {
     let checkpoint = now(state);
-    mark(state, edits, form)?;
+    add_marks_for(state, edits, &form.during)?;
     switch_all(alloc, &mut state.instance.tracker, checkpoint, jobs)
 }
 
@@ -104,7 +91,7 @@ fn run<G: Gate, R: Threads + Wait + Sync>(
     ensures ran { IfOk result (λ w. (copies : List CopyJob) × (map whole copies ≡ map (span_of (begun state.old form.now)) jobs.now) × HasRunLive (begun state.old form.now) copies (writers_of state.old form.now) state.new w) }
     ensures edits { OnOk result (EditsFollow edits.old.items edits.new.items state.old.catalog state.new.catalog) }
 {
-    let writers = writers_of(alloc, state, form)?;
+    let writers = writers_in(alloc, state, &form.during)?;
     begin(alloc, state, edits, form, jobs)?;
     let copies = copy_jobs(alloc, state, jobs)?;
     run_live(
@@ -171,27 +158,6 @@ fn tell_none(lines: &mut Seq<Line>) -> Result<(), NoMemory>
 {
     if lines.is_empty() {
         lines.push(Line::NothingToBackUp)?;
-    }
-    Ok(())
-}
-
-// Tells the SCNs of a thread's writes.
-fn tell_thread(lines: &mut Seq<Line>, thread: ThreadNo, scns: &[Scn]) -> Result<(), NoMemory>
-    ensures { OnOk result (lines.new ≡ lines.old ++ map (ThreadScn thread) scns.now) }
-{
-    for scn in scns {
-        lines.push(Line::ThreadScn { thread, scn: *scn })?;
-    }
-    Ok(())
-}
-
-// Tells the SCNs of the writes, thread by thread.
-fn tell_writes(lines: &mut Seq<Line>, scns: &[Vec<Scn>]) -> Result<(), NoMemory>
-    requires few { length scns.now ≤ 4 }
-    ensures { OnOk result (lines.new ≡ lines.old ++ write_lines 1 (lists scns.now)) }
-{
-    for (index, list) in scns.iter().enumerate() {
-        tell_thread(lines, index as ThreadNo + 1, list.as_slice())?;
     }
     Ok(())
 }

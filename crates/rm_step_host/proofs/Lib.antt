@@ -1,1 +1,2 @@
+pub mod Corrupted
 pub mod Handing

@@ -1,5 +1,5 @@
 //! HOST LOSE DATAFILE n and HOST LOSE LOG THREAD n
-ghost use Rattle.std.specs.Prelude.{◌≡◌, ◌-◌, ◌<◌, IfOk, None, OnOk, Option, length};
+ghost use Rattle.std.specs.Prelude.{◌≡◌, ◌-◌, ◌<◌, ◌==◌, IfOk, None, OnErr, OnOk, Option, filter, length, not};
 ghost use Rattle.rm_base.specs.Store.{Held};
 ghost use Rattle.rm_lang_statement.specs.declared.command.Command.TheVariants.{LoseDatafile, LoseLog};
 ghost use Rattle.rm_machine.specs.Hands.{Hands};
@@ -8,7 +8,7 @@ ghost use Rattle.rm_machine.specs.LoseLog.{lose_log_refusal, without_log};
 ghost use Rattle.rm_machine.specs.Sound.{IsSound};
 ghost use Rattle.rm_redo.specs.Online.{IsThread};
 
-use rm_base::{Absent, FileNo, NoMemory, Refusal, Seq, ThreadNo};
+use rm_base::{Absent, BlockId, FileNo, NoMemory, Refusal, Seq, ThreadNo};
 use rm_machine::handed::of_line;
 use rm_machine::{Handed, State};
 use rm_machine_code::facts::{is_thread, on_path};
@@ -31,7 +31,16 @@ pub fn lose_refusal(state: &State, file: u64) -> Option<Refusal>
     }
 }
 
-// Takes what stands in place of a datafile away. The database stands at no point then.
+// The damaged blocks of other datafiles.
+fn of_others(damaged: Seq<BlockId>, file: FileNo) -> Seq<BlockId>
+    ensures { result ≡ filter (λ x. not (x.file == file)) damaged }
+{
+    let mut damaged = damaged.into_vec();
+    damaged.retain(|id| id.file != file);
+    Seq::from_vec(damaged)
+}
+
+// Takes what stands in place of a datafile away, with its damaged blocks. The database stands at no point then.
 fn lose_file(alloc: Global, state: &mut State, file: FileNo)
     requires some { 0 < file }
     requires there { file - 1 < length state.old.instance.place }
@@ -40,16 +49,19 @@ fn lose_file(alloc: Global, state: &mut State, file: FileNo)
     let mut place = mem::replace(&mut state.instance.place, Seq::new(alloc)).into_vec();
     place[file as usize - 1] = None;
     state.instance.place = Seq::from_vec(place);
+    let damaged = mem::replace(&mut state.instance.damaged, Seq::new(alloc));
+    state.instance.damaged = of_others(damaged, file);
     state.instance.point = None;
 }
 
-/// HOST LOSE DATAFILE: what stands in place of the datafile is lost, if it was not. The catalog stays. An error is want
-/// of memory; then nothing changes.
+/// HOST LOSE DATAFILE: what stands in place of the datafile is lost, if it was not, and none of its blocks is damaged any
+/// longer. The catalog stays. An error is want of memory; then nothing changes.
 pub fn lose_datafile(alloc: Global, state: &mut State, file: u64) -> Result<Handed, NoMemory>
     requires sound { IsSound state.old }
     requires accepted { lose_refusal state.old file ≡ None }
     ensures hands { IfOk result (λ x. (held : Option Held) → Hands held state.old (LoseDatafile file) x state.new) }
     ensures catalog { OnOk result (state.new.catalog ≡ state.old.catalog) }
+    ensures same { OnErr result (state.new ≡ state.old) }
 {
     let file = file as FileNo;
     let handed = of_line(alloc, Line::FileLost { file })?;
@@ -80,13 +92,14 @@ fn lose_thread(state: &mut State, thread: ThreadNo)
     state.instance.logs.count_as(current);
 }
 
-/// HOST LOSE LOG: an open database is mounted, and then the online log of the thread is lost. The catalog stays. An
-/// error is want of memory; then nothing changes.
+/// HOST LOSE LOG: an open database is mounted, as by STARTUP MOUNT, and then the online log of the thread is lost. The
+/// catalog stays. An error is want of memory; then nothing changes.
 pub fn lose_log(alloc: Global, state: &mut State, thread: u64) -> Result<Handed, NoMemory>
     requires sound { IsSound state.old }
     requires accepted { lose_log_refusal state.old thread ≡ None }
     ensures hands { IfOk result (λ x. (held : Option Held) → Hands held state.old (LoseLog thread) x state.new) }
     ensures catalog { OnOk result (state.new.catalog ≡ state.old.catalog) }
+    ensures same { OnErr result (state.new ≡ state.old) }
 {
     let thread = thread as ThreadNo;
     let handed = of_line(alloc, Line::LogLost { thread })?;

@@ -1,5 +1,5 @@
 //! ALTER DATABASE OPEN
-ghost use Rattle.std.specs.Prelude.{◌≡◌, IfOk, None, OnOk, Option};
+ghost use Rattle.std.specs.Prelude.{◌≡◌, IfOk, None, OnErr, OnOk, Option};
 ghost use Rattle.rm_base.specs.Store.{Held};
 ghost use Rattle.rm_lang_statement.specs.declared.command.Command.TheVariants.{OpenPlain};
 ghost use Rattle.rm_machine.specs.Hands.{Hands};
@@ -65,6 +65,7 @@ pub fn open(alloc: Global, state: &mut State) -> Result<Handed, NoMemory>
     requires accepted { open_refusal state.old ≡ None }
     ensures hands { IfOk result (λ x. (held : Option Held) → Hands held state.old OpenPlain x state.new) }
     ensures catalog { OnOk result (state.new.catalog ≡ state.old.catalog) }
+    ensures same { OnErr result (state.new ≡ state.old) }
 {
     let (inc, scn) = (state.catalog.base().current, now(state));
     let tracker = first_tracker(alloc, &state.catalog, true)?;

@@ -1,19 +1,20 @@
 //! DUMP DATAFILE f BLOCK b
-ghost use Rattle.std.specs.Prelude.{◌≡◌, ◌<◌, IfOk, Option, None};
+ghost use Rattle.std.specs.Prelude.{◌≡◌, IfOk, Option, None};
 ghost use Rattle.rm_base.specs.Store.{Held};
 ghost use Rattle.rm_lang_statement.specs.declared.command.Command.TheVariants.{Dump};
-ghost use Rattle.rm_machine.specs.Dump.{dump_refusal, placed_row};
+ghost use Rattle.rm_machine.specs.Dump.{dump_refusal};
 ghost use Rattle.rm_machine.specs.Hands.{Tells};
 ghost use Rattle.rm_machine.specs.Sound.{IsSound};
 
-use rm_base::{Absent, BlockNo, FileNo, NoMemory, Refusal, Row, Seq};
+use rm_base::{Absent, BlockNo, FileNo, NoMemory, Refusal, Seq};
 use rm_machine::State;
-use rm_machine_code::facts::{on_path, placed};
+use rm_machine_code::damage::is_damaged;
+use rm_machine_code::facts::{on_path, placed, placed_row};
 use rm_report::Line;
 use std::alloc::Global;
 
 /// Why DUMP is refused, if it is: there is no such datafile on the current path, or no such block (RM-05, in this
-/// order), or the datafile is lost (RM-09).
+/// order), the datafile is lost (RM-09), or the block is damaged (RM-17).
 pub fn dump_refusal(state: &State, file: u64, block: u64) -> Option<Refusal>
     requires sound { IsSound state.now }
     ensures value { result ≡ dump_refusal state.now file block }
@@ -25,17 +26,14 @@ pub fn dump_refusal(state: &State, file: u64, block: u64) -> Option<Refusal>
         Some(Refusal::Rm05(Absent::Block { block, file }))
     } else if placed(state, file).is_none() {
         Some(Refusal::Rm09 { file: file as u32 })
+    } else if is_damaged(state, file, block) {
+        Some(Refusal::Rm17 {
+            file: file as u32,
+            block: block as u32,
+        })
     } else {
         None
     }
-}
-
-// The row of the block in place.
-fn placed_row(state: &State, file: u64, block: BlockNo) -> Option<Row>
-    requires { 0 < file }
-    ensures { result ≡ placed_row state.now file block }
-{
-    placed(state, file)?.read(block)
 }
 
 /// DUMP: the line of the row in place. Nothing changes. An error is want of memory.

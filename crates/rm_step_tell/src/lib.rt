@@ -1,6 +1,7 @@
 //! The statements that only tell: LIST, REPORT SCHEMA, SHOW ALL, DUMP and VALIDATE ALL.
 #![tactic(auto)]
 
+mod corruption;
 mod dumping;
 mod incarnations;
 mod listing;
@@ -8,6 +9,7 @@ mod schema;
 mod settings;
 mod validating;
 
+pub use corruption::list_corruption;
 pub use dumping::{dump, dump_refusal};
 pub use incarnations::list_incarnation;
 pub use listing::list;

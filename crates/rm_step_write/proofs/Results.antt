@@ -1,5 +1,5 @@
 -- The states that the statements leave, put together from their parts.
-use Rattle.std.proofs.Common.{◌≡◌, ◌+◌, ◌-◌, ◌∙◌, ℕ, List, Option, Some, None, [], ◌∷◌, ◌++◌, ap, slice_index_or, slice_set}
+use Rattle.std.proofs.Common.{◌≡◌, ◌+◌, ◌-◌, ◌∙◌, ℕ, Bool, cond, List, Option, Some, None, [], ◌∷◌, ◌++◌, ap, slice_index_or, slice_set}
 use Rattle.std.specs.Option.{option_map}
 use Rattle.rm_base.specs.declared.block.Change.{Change}
 use Rattle.rm_blocks.specs.File.{File, created, written}
@@ -7,7 +7,7 @@ use Rattle.rm_history.specs.declared.world.Datafile.{Datafile}
 use Rattle.rm_lang_statement.specs.declared.command.WriteForm.{WriteForm}
 use Rattle.rm_redo.specs.Logs.{Logs}
 use Rattle.rm_redo.specs.Online.{with_change}
-use Rattle.rm_track.specs.Bitmaps.{Tracked, fresh, mark_at}
+use Rattle.rm_track.specs.Bitmaps.{Tracked, fresh, mark_at, with_file as with_tracked}
 use Rattle.rm_catalog_typed.specs.Changes.{with_file}
 use Rattle.rm_catalog_typed.specs.TypedCatalog.{TypedCatalog}
 use Rattle.rm_machine.specs.CreateDatafile.{new_datafile, next_file, with_datafile}
@@ -15,7 +15,8 @@ use Rattle.rm_machine.specs.Marks.{one_further}
 use Rattle.rm_machine.specs.Write.{change_of, with_write}
 use Rattle.rm_machine.specs.declared.state.Instance.{Instance}
 use Rattle.rm_machine.specs.declared.state.State.{State}
-use Rattle.rm_step_write.specs.Tracking.{tracking_too}
+use Rattle.rm_machine.specs.State.{ledger}
+use Rattle.rm_machine.specs.Tracked.{tracks}
 
 -- what is in place, with the change in its row
 abbrev pub with_row : List (Option File) → Change → List (Option File)
@@ -35,17 +36,19 @@ after-write s p w c logs old new tracker made catalog instance logged took put m
     parts ∙ whole
 
 -- with datafile n in the catalog and in its place, and tracked where changes are
-abbrev added : TypedCatalog → Instance → ℕ → Datafile → State
-added r i n d =
-    tracking_too (record { catalog = with_file r d; instance = record i { place = i.place ++ Some (created n d.inc d.creation d.blocks) ∷ [] } }) (fresh n d.blocks (d.creation + 1))
+abbrev added : TypedCatalog → Instance → Bool → ℕ → Datafile → State
+added r i b n d = record {
+  catalog = with_file r d;
+  instance = record i { place = i.place ++ Some (created n d.inc d.creation d.blocks) ∷ []; tracker = cond b (with_tracked i.tracker (fresh n d.blocks (d.creation + 1))) i.tracker };
+}
 
 -- p is one SCN further than s, and then the datafile comes to the catalog and into its place, and is tracked where changes are
-pub after-datafile : (s p : State) (blocks n : ℕ) (d : Datafile) (catalog : TypedCatalog) (x : File) (place : List (Option File))
-    → n ≡ next_file s → d ≡ new_datafile s blocks → p.catalog ≡ one_further s → p.instance ≡ s.instance → catalog ≡ with_file p.catalog d
-    → x ≡ created n d.inc d.creation d.blocks → place ≡ p.instance.place ++ Some x ∷ []
-    → tracking_too (record { catalog = catalog; instance = record p.instance { place = place } }) (fresh n d.blocks (d.creation + 1)) ≡ with_datafile s blocks
-after-datafile s p blocks n d catalog x place number made went instance grew empty put =
+pub after-datafile : (s p : State) (blocks n : ℕ) (d : Datafile) (b : Bool) (catalog : TypedCatalog) (x : File) (place : List (Option File)) (tracker : List Tracked)
+    → n ≡ next_file s → d ≡ new_datafile s blocks → b ≡ tracks s.instance.is_open (ledger s) → p.catalog ≡ one_further s → p.instance ≡ s.instance → catalog ≡ with_file p.catalog d
+    → x ≡ created n d.inc d.creation d.blocks → place ≡ p.instance.place ++ Some x ∷ [] → tracker ≡ cond b (with_tracked p.instance.tracker (fresh n d.blocks (d.creation + 1))) p.instance.tracker
+    → record { catalog = catalog; instance = record p.instance { place = place; tracker = tracker } } ≡ with_datafile s blocks
+after-datafile s p blocks n d b catalog x place tracker number made is_tracked went instance grew empty put marks =
     let stands : place ≡ p.instance.place ++ Some (created n d.inc d.creation d.blocks) ∷ [] = put ∙ ap (λ (y : File). p.instance.place ++ Some y ∷ []) empty in
-    let parts : tracking_too (record { catalog = catalog; instance = record p.instance { place = place } }) (fresh n d.blocks (d.creation + 1)) ≡ added p.catalog p.instance n d = λ i. tracking_too (record { catalog = grew i; instance = record p.instance { place = stands i } }) (fresh n d.blocks (d.creation + 1)) in
-    let whole : added p.catalog p.instance n d ≡ added (one_further s) s.instance (next_file s) (new_datafile s blocks) = λ i. added (went i) (instance i) (number i) (made i) in
+    let parts : record { catalog = catalog; instance = record p.instance { place = place; tracker = tracker } } ≡ added p.catalog p.instance b n d = λ i. record { catalog = grew i; instance = record p.instance { place = stands i; tracker = marks i } } in
+    let whole : added p.catalog p.instance b n d ≡ added (one_further s) s.instance (tracks s.instance.is_open (ledger s)) (next_file s) (new_datafile s blocks) = λ i. added (went i) (instance i) (is_tracked i) (number i) (made i) in
     parts ∙ whole

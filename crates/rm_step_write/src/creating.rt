@@ -1,5 +1,6 @@
 //! CREATE DATAFILE BLOCKS n
-ghost use Rattle.std.specs.Prelude.{◌≡◌, ◌≤◌, IfOk, OnOk, Option, None, sum_by};
+ghost use Rattle.std.specs.Prelude.{◌≡◌, ◌<◌, ◌≤◌, ◌+◌, if◌then◌else◌, IfOk, OnOk, Option, None, sum_by};
+ghost use Rattle.rm_base.specs.Numbers.{last_scn};
 ghost use Rattle.rm_base.specs.Store.{Held};
 ghost use Rattle.rm_lang_statement.specs.declared.command.Command.TheVariants.{CreateDatafile};
 ghost use Rattle.rm_machine.specs.CreateDatafile.{datafile_refusal, new_datafile, next_file, room_refusal};
@@ -7,12 +8,11 @@ ghost use Rattle.rm_machine.specs.Hands.{Hands};
 ghost use Rattle.rm_machine.specs.Sound.{IsSound};
 ghost use Rattle.rm_machine.specs.State.{ledger};
 ghost use Rattle.rm_machine.specs.Tracked.{tracks};
-ghost use Rattle.rm_track.specs.Bitmaps.{fresh};
+ghost use Rattle.rm_track.specs.Bitmaps.{fresh, with_file};
 ghost use Rattle.rm_catalog_typed.specs.Changes.{EditsFollow};
-ghost use Rattle.rm_step_write.specs.Tracking.{tracking_too};
 
 use crate::further::{go_further, mark_count};
-use rm_base::{FileNo, LAST_SCN, Limit, NoMemory, Refusal, Scn};
+use rm_base::{FileNo, LAST_SCN, Limit, NoMemory, Refusal};
 use rm_blocks::DataFile;
 use rm_catalog::Edit;
 use rm_history::Datafile;
@@ -21,6 +21,7 @@ use rm_machine::{Handed, State};
 use rm_machine_code::facts::now;
 use rm_machine_code::room::{lacks_ids, lacks_room};
 use rm_report::Line;
+use rm_track::Tracker;
 use std::alloc::Global;
 
 // The number of blocks of all datafiles.
@@ -98,19 +99,20 @@ fn tracks(state: &State) -> bool
     state.instance.is_open && state.catalog.base().tracking
 }
 
-// Tracks a datafile of so many blocks from `start` on, where changes are tracked. An error is want of memory; then nothing
-// is said of the state.
+// Tracks a new datafile from the SCN after its creation on, where changes are tracked. An error is want of memory; then
+// nothing is said of the bitmaps.
 fn track(
     alloc: Global,
-    state: &mut State,
+    tracker: &mut Tracker,
+    is_tracked: bool,
     file: FileNo,
-    blocks: u32,
-    start: Scn,
+    datafile: Datafile,
 ) -> Result<(), NoMemory>
-    ensures { OnOk result (state.new ≡ tracking_too state.old (fresh file blocks start)) }
+    requires below { datafile.creation < last_scn }
+    ensures { OnOk result (tracker.new ≡ if is_tracked then with_file tracker.old (fresh file datafile.blocks (datafile.creation + 1)) else tracker.old) }
 {
-    if tracks(state) {
-        state.instance.tracker.add_file(alloc, file, blocks, start)
+    if is_tracked {
+        tracker.add_file(alloc, file, datafile.blocks, datafile.creation + 1)
     } else {
         Ok(())
     }
@@ -132,6 +134,7 @@ pub fn create_datafile(
     ensures edits { OnOk result (EditsFollow edits.old.items edits.new.items state.old.catalog state.new.catalog) }
 {
     let (file, datafile) = (next_file(state), new_datafile(state, blocks as u32));
+    let is_tracked = tracks(state);
     let line = Line::DatafileAt {
         file,
         scn: datafile.creation,
@@ -148,6 +151,12 @@ pub fn create_datafile(
     go_further(state, edits)?;
     state.catalog.add_file(edits, datafile)?;
     state.instance.place.push(Some(empty))?;
-    track(alloc, state, file, datafile.blocks, datafile.creation + 1)?;
+    track(
+        alloc,
+        &mut state.instance.tracker,
+        is_tracked,
+        file,
+        datafile,
+    )?;
     Ok(handed)
 }

@@ -18,6 +18,7 @@ use rm_history::Datafile;
 use rm_lang_statement::WriteForm;
 use rm_machine::handed::of_line;
 use rm_machine::{Handed, State};
+use rm_machine_code::damage::is_damaged;
 use rm_machine_code::facts::{is_thread, now, on_path, placed};
 use rm_machine_code::room::{lacks_ids, lacks_room};
 use rm_report::Line;
@@ -48,6 +49,11 @@ fn block_refusal(state: &State, form: &WriteForm, datafile: Datafile) -> Option<
         Some(Refusal::Rm11(Limit::LogRecords))
     } else if now(state) >= LAST_SCN {
         Some(Refusal::Rm15)
+    } else if is_damaged(state, form.file, form.block) {
+        Some(Refusal::Rm17 {
+            file: form.file as u32,
+            block: form.block as u32,
+        })
     } else {
         None
     }
@@ -69,7 +75,7 @@ fn place_refusal(state: &State, form: &WriteForm) -> Option<Refusal>
 
 /// Why WRITE is refused, if it is: the database is mounted (RM-04); there is no such thread, datafile on the current
 /// path, or block (RM-05, in this order); the datafile is lost (RM-09); too many records, too few object ids, or a
-/// full log (RM-11, in this order); or no SCN is left (RM-15).
+/// full log (RM-11, in this order); no SCN is left (RM-15); or the block is damaged (RM-17).
 pub fn write_refusal(state: &State, form: &WriteForm) -> Option<Refusal>
     requires sound { IsSound state.now }
     ensures value { result ≡ write_refusal state.now form.now }

@@ -1,5 +1,5 @@
 -- What a drill shows, of which no reply is kept.
-use Rattle.std.proofs.Common.{◌≡◌, ◌≤◌, ◌∙◌, ◌+◌, ◌-◌, ◌^◌, ℕ, Bool, List, Option, Some, None, ap, subst, sym, arith, length, min}
+use Rattle.std.proofs.Common.{◌≡◌, ◌≤◌, ◌∙◌, ◌-◌, ℕ, Bool, List, Option, Some, None, subst, sym, arith, length}
 use Rattle.std.specs.List.{list_any}
 use Rattle.rm_base.specs.Outside.{Appends}
 use Rattle.rm_base.specs.Store.{Held, Answers}
@@ -14,7 +14,6 @@ use Rattle.rm_tool.specs.Drill.{IsTally, drill_line, summary_text}
 use Rattle.rm_tool.specs.Ends.{WritesFront}
 use Rattle.rm_tool.specs.Serving.{FromEach, EndsInLine, Serves, Shows}
 use Rattle.rm_tool.specs.declared.drill.Summary.{Summary}
-use Rattle.rm_tool.specs.declared.tally.Tally.{Tally}
 
 -- All statements were served, and this is what the line tells of them.
 module _ {clock later : Option Answers} {held : Option Held} {kept : Option (List Record)} {v : View} {held' : Option Held} {kept' : Option (List Record)} {ss : List (ℕ × List Token)} {v' : View} (line : Summary) (s : Serves clock later None None held kept v held' kept' v' line.tally ss) (many : line.statements ≡ length ss) (most : length ss ≤ 18446744073709551615) (scn : line.next_scn ≡ next_scn v'.state) (objects : line.objects ≡ objects_in v'.state) where

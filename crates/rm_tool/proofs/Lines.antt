@@ -1,5 +1,5 @@
 -- What was written of a line that is written part by part.
-use Rattle.std.proofs.Common.{◌≡◌, ◌≤◌, ◌<◌, Result, Ok, Err, OnErr, OnOk, ◌+◌, ◌∙◌, ◌++◌, ◌∷◌, [], ℕ, List, Option, sym, subst, arith, take, drop, length, ap, append-nil, codes}
+use Rattle.std.proofs.Common.{◌≡◌, ◌<◌, Result, Ok, Err, OnErr, OnOk, ◌+◌, ◌∙◌, ◌++◌, ◌∷◌, [], ℕ, List, Option, sym, subst, arith, take, drop, length, ap, append-nil, codes}
 use Rattle.std.specs.Borrow.{Bor}
 use Rattle.std.specs.Fmt.{decimal}
 use Rattle.std.specs.Prelude.{fold, get_or}

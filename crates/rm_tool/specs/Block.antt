@@ -4,7 +4,7 @@ use Rattle.std.specs.Option.{option_or}
 use Rattle.rm_base.specs.declared.refusal.Limit.TheVariants.{Channels}
 use Rattle.rm_base.specs.declared.refusal.Refusal.TheVariants.{Rm02, Rm11}
 use Rattle.rm_lang_statement.specs.declared.command.Command.{Command}
-use Rattle.rm_lang_statement.specs.declared.command.Command.TheVariants.{ArchiveLogCurrent, Backup, BackupLogs, CatalogName, ChangeBackup, CreateDatabase, CreateDatafile, Crosscheck, Cut, Damage, DeleteBackup, DeleteExpired, DeleteObsolete, Dump, ListArchived, ListBackup, ListCopy, ListIncarnation, LoseDatafile, LoseLog, Mount, OpenPlain, OpenResetlogs, Parallelism, Preview, Recover, RecoverCopy, RecoverTest, Remove, Rename, ReportNeedBackup, ReportObsolete, ReportSchema, ResetDatabase, Restore, Retention, ShowAll, SwitchLogfile, Tracking, ValidateAll, Write}
+use Rattle.rm_lang_statement.specs.declared.command.Command.TheVariants.{ArchiveLogCurrent, Backup, BackupLogs, BlockRecover, CatalogName, ChangeBackup, Corrupt, CreateDatabase, CreateDatafile, Crosscheck, Cut, Damage, DeleteBackup, DeleteExpired, DeleteObsolete, Dump, ListArchived, ListBackup, ListCopy, ListCorruption, ListIncarnation, LoseDatafile, LoseLog, Mount, OpenPlain, OpenResetlogs, Parallelism, Preview, Recover, RecoverCopy, RecoverTest, Remove, Rename, ReportNeedBackup, ReportObsolete, ReportSchema, ResetDatabase, Restore, Retention, ShowAll, SwitchLogfile, Tracking, ValidateAll, Write}
 use Rattle.rm_lang_statement.specs.declared.command.Inner.{Inner}
 use Rattle.rm_lang_statement.specs.declared.command.Inner.TheVariants.{SetUntil, AllocateChannel, Plain as PlainInner}
 use Rattle.rm_lang_statement.specs.declared.command.Until.{Until}
@@ -50,6 +50,7 @@ with_until set (Tracking on) = Tracking on
 with_until set (ResetDatabase inc) = ResetDatabase inc
 with_until set (Backup b) = Backup b
 with_until set BackupLogs = BackupLogs
+with_until set (BlockRecover form) = BlockRecover form
 with_until set (Crosscheck class) = Crosscheck class
 with_until set ValidateAll = ValidateAll
 with_until set (ChangeBackup id to) = ChangeBackup id to
@@ -63,6 +64,7 @@ with_until set ListIncarnation = ListIncarnation
 with_until set ListBackup = ListBackup
 with_until set ListCopy = ListCopy
 with_until set ListArchived = ListArchived
+with_until set ListCorruption = ListCorruption
 with_until set ShowAll = ShowAll
 with_until set (Dump file block) = Dump file block
 with_until set (Retention form) = Retention form
@@ -70,6 +72,7 @@ with_until set (Parallelism channels) = Parallelism channels
 with_until set (CatalogName name) = CatalogName name
 with_until set (LoseDatafile file) = LoseDatafile file
 with_until set (LoseLog thread) = LoseLog thread
+with_until set (Corrupt file block) = Corrupt file block
 with_until set (Remove name) = Remove name
 with_until set (Damage name at) = Damage name at
 with_until set (Cut name to) = Cut name to

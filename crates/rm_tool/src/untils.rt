@@ -72,6 +72,7 @@ pub fn with_until(alloc: Global, set: &Option<Until>, command: Command) -> Resul
         | Command::ResetDatabase { .. }
         | Command::Backup(_)
         | Command::BackupLogs
+        | Command::BlockRecover(_)
         | Command::Crosscheck { .. }
         | Command::ValidateAll
         | Command::ChangeBackup { .. }
@@ -85,6 +86,7 @@ pub fn with_until(alloc: Global, set: &Option<Until>, command: Command) -> Resul
         | Command::ListBackup
         | Command::ListCopy
         | Command::ListArchived
+        | Command::ListCorruption
         | Command::ShowAll
         | Command::Dump { .. }
         | Command::Retention(_)
@@ -92,6 +94,7 @@ pub fn with_until(alloc: Global, set: &Option<Until>, command: Command) -> Resul
         | Command::CatalogName { .. }
         | Command::LoseDatafile { .. }
         | Command::LoseLog { .. }
+        | Command::Corrupt { .. }
         | Command::Remove { .. }
         | Command::Damage { .. }
         | Command::Cut { .. }

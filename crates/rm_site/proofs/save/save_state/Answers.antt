@@ -2,6 +2,7 @@ use Rattle.std.proofs.Common.{◌≡◌, ◌∙◌, List, ap}
 use Rattle.rm_catalog.specs.Edits.{after_edits}
 use Rattle.rm_catalog.specs.declared.record.Edit.{Edit}
 use Rattle.rm_catalog_typed.specs.TypedCatalog.{TypedCatalog, records_of}
+use Rattle.rm_machine.specs.Damage.{without_damaged}
 use Rattle.rm_machine.specs.Saving.{with_site}
 use Rattle.rm_site.proofs.Answering.{on-err}
 use Rattle.rm_site.proofs.Ending.{err-then, ok-then, saves-all, stops-before, stops-saving}
@@ -12,7 +13,7 @@ pub returns-in_err-objects-clause-stopped : goal.returns-in_err-objects-clause-s
 returns-in_err-objects-clause-stopped g c = on-err _ c.from_residual.result (stops-before (g.D.Store.held c.args.store.now) (g.C.Keeper.kept c.args.keeper.now) c.args.state)
 
 -- the edits of the save lead to the catalog with the saved site
-edits : (g : Over) (c : goal.After-drop-state-10 g) → after_edits c.from_vec.result (records_of c.args.state.catalog) ≡ records_of (with_site c.args.state)
+edits : (g : Over) (c : goal.After-drop-state-11 g) → after_edits c.from_vec.result (records_of c.args.state.catalog) ≡ records_of (with_site (without_damaged c.args.state))
 edits g c =
     let s = c.args.state in
     let put = c.in_ok-objects.ensures in

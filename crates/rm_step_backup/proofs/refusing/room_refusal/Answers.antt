@@ -3,4 +3,4 @@ use Rattle.rm_step_backup.proofs.Files.{taken-few}
 use Rattle.rm_step_backup.proofs.refusing.room_refusal.Goals as goal
 
 pub overflow_add-count : goal.overflow_add-count
-overflow_add-count c = omega (arith, taken-few c.args.state.now c.args.form.now c.requires.sound, c.taken_count-count.ensures, c.mark_count.ensures.most)
+overflow_add-count c = omega (arith, taken-few c.args.state.now c.args.form.now c.requires.sound, c.taken_count-count.ensures, c.marks_for.ensures.most)

@@ -9,6 +9,6 @@ pub switch_all-requires : goal.switch_all-requires
 switch_all-requires c =
     let s = c.args.state.now in
     let same = marked-same (λ (q : State). q.instance.tracker) s c.args.form.now (λ i. s.instance.tracker) in
-    let after = c.in_ok-mark.ensures.after in
+    let after = c.in_ok-add_marks_for.ensures.after in
     let bitmaps = ap (λ (q : State). q.instance.tracker) after ∙ same in
     coe 1 0 (i. StartBelow (c.now-checkpoint.ensures i) (bitmaps i)) (below-now s c.requires.sound)

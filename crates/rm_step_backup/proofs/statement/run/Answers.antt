@@ -1,19 +1,24 @@
-use Rattle.std.proofs.Common.{◌∙◌, ap, sym, subst, All}
+use Rattle.std.proofs.Common.{◌≤◌, ◌∙◌, List, Vec, ap, sym, subst, length, All}
+use Rattle.std.specs.Global.{Global}
 use Rattle.std.proofs.lemmas.Result.{IfOk-weaker}
 use Rattle.rm_channel.specs.Jobs.{lists}
 use Rattle.rm_channel.specs.Room.{AreThreads, CanWrite, IsThere}
+use Rattle.rm_channel.specs.declared.jobs.WriteJob.{WriteJob}
+use Rattle.rm_machine.specs.Asked.{writes_in}
 use Rattle.rm_machine.specs.Events.{opening}
 use Rattle.rm_machine.specs.Sound.{IsSound}
 use Rattle.rm_machine.specs.declared.job.Job.{Job}
 use Rattle.rm_machine_code.proofs.BackupAccepted.{can-back_up}
 use Rattle.rm_step_backup.specs.Copying.{AreCopiesOf, Stands}
-use Rattle.rm_step_backup.specs.Running.{CanFollow, HasRunLive}
-use Rattle.rm_step_backup.proofs.Backed.{HasWorked, begun-sound, can-follow, few-lists}
-use Rattle.rm_step_backup.proofs.Room.{begun-stand, begun-threads, begun-writes, fits-numbers}
+use Rattle.rm_machine.specs.Running.{CanFollow}
+use Rattle.rm_step_backup.specs.Running.{HasRunLive}
+use Rattle.rm_step_backup.proofs.Backed.{HasWorked, begun-sound, can-follow}
+use Rattle.rm_machine_code.proofs.WritersRoom.{fits-numbers}
+use Rattle.rm_step_backup.proofs.Room.{begun-stand, begun-threads, begun-writes}
 use Rattle.rm_step_backup.proofs.statement.run.Goals as goal
 
-pub writers_of-requires : goal.writers_of-requires
-writers_of-requires g c = record { fits = fits-numbers c.args.state.now c.args.form.now c.requires.sound (can-back_up c.args.state.now c.args.form.now c.requires.sound c.requires.accepted) }
+pub writers_in-requires : goal.writers_in-requires
+writers_in-requires g c = record { fits = fits-numbers c.args.state.now (writes_in c.args.form.now) c.requires.sound (can-back_up c.args.state.now c.args.form.now c.requires.sound c.requires.accepted).writes }
 
 pub begin-requires-clause-jobs : goal.begin-requires-clause-jobs
 begin-requires-clause-jobs g c = c.requires.jobs.files
@@ -40,8 +45,7 @@ run_live-requires-clause-follow g c κs within =
     coe 1 0 (i. CanFollow (c.in_ok-begin.ensures.after i) (written i)) (can-follow c.args.state.now c.args.form.now can)
 
 pub run_live-requires-clause-lists : goal.run_live-requires-clause-lists
-run_live-requires-clause-lists g c κs within =
-    few-lists c.args.state.now c.args.form.now c.as_slice-2.result.now c.requires.sound (ap lists c.as_slice-2.ensures.value ∙ c.in_ok-writers.ensures.lists)
+run_live-requires-clause-lists g c κs within = subst (λ (vs : List (Vec WriteJob Global)). length vs ≤ 4) (sym c.as_slice-2.ensures.value) c.in_ok-writers.ensures.few
 
 pub run_live-requires-clause-there : goal.run_live-requires-clause-there
 run_live-requires-clause-there g c κs within = subst (All (IsThere (opening c.begin.new.state).files)) (sym c.as_slice.ensures.value) c.in_ok-copies.ensures.there

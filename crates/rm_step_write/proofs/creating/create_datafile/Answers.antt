@@ -35,6 +35,5 @@ returns-clause-hands c held =
     (c.in_ok-handed.ensures.lines ∙ ap (λ (n : ℕ). DatafileAt n d.creation d.blocks ∷ []) number ∙ ap (λ (x : Datafile). DatafileAt (next_file s) x.creation x.blocks ∷ []) new)
     c.in_ok-handed.ensures.objects
     c.in_ok-handed.ensures.removes
-    (c.in_ok-track.ensures
-    ∙ after-datafile s c.go_further.new.state blocks c.next_file-file.result d c.add_file.new.self c.in_ok-empty.empty c.push.new.self
-    number new c.in_ok-go_further.ensures.catalog c.in_ok-go_further.ensures.instance c.in_ok-add_file.ensures.after c.in_ok-empty.ensures c.in_ok-push.ensures.ok)
+    (after-datafile s c.go_further.new.state blocks c.next_file-file.result d c.tracks-is_tracked.result c.add_file.new.self c.in_ok-empty.empty c.push.new.self c.track.new.tracker
+    number new c.tracks-is_tracked.ensures c.in_ok-go_further.ensures.catalog c.in_ok-go_further.ensures.instance c.in_ok-add_file.ensures.after c.in_ok-empty.ensures c.in_ok-push.ensures.ok c.in_ok-track.ensures)

@@ -7,7 +7,7 @@ use Rattle.rm_report.proofs.Plain.{plain-dated, plain-lines, refused-behind}
 use Rattle.rm_report.specs.Reply.{IsPlain, LineHasDate}
 use Rattle.rm_report.specs.declared.line.Line.{Line}
 use Rattle.rm_tool.proofs.Quiet.{first-passes, same-then, untouched-then}
-use Rattle.rm_tool.proofs.Statements.{err-map, on-err}
+use Rattle.rm_tool.proofs.Statements.{on-err}
 use Rattle.rm_tool.proofs.block.serve_block.Goals as goal
 
 pub returns-in_err-add_lines-clause-stopped : goal.returns-in_err-add_lines-clause-stopped

@@ -1,4 +1,4 @@
-use Rattle.std.proofs.Common.{subst, ap, sym, ◌∙◌, List, ℕ}
+use Rattle.std.proofs.Common.{subst, ◌∙◌, List, ℕ}
 use Rattle.std.specs.Fmt.{decimal}
 use Rattle.rm_base.specs.Outside.{Appends}
 use Rattle.rm_tool.proofs.Lines.{err-after}

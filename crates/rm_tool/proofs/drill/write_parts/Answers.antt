@@ -1,4 +1,3 @@
-use Rattle.std.proofs.Common.{refl}
 use Rattle.rm_tool.proofs.Lines.{parts-front}
 use Rattle.rm_tool.proofs.Statements.{on-err}
 use Rattle.rm_tool.proofs.drill.write_parts.Goals as goal

@@ -1,0 +1,62 @@
+-- The database as those who mend and write find it, behind the mark that comes before the writes.
+use Rattle.std.proofs.Common.{◌≡◌, ◌<◌, ◌∙◌, ℕ, zero, suc, List, [], Option, Some, None, cond, is_none, refl, sym, subst, arith, length, All}
+use Rattle.rm_channel.specs.Room.{AreThreads, CanWrite}
+use Rattle.rm_channel.specs.declared.jobs.WriteJob.{WriteJob}
+use Rattle.rm_lang_statement.specs.declared.command.RepairForm.{RepairForm}
+use Rattle.rm_lang_statement.specs.declared.command.WriteForm.{WriteForm}
+use Rattle.rm_live.specs.Parts.{Parts}
+use Rattle.rm_live.specs.Ruled.{total}
+use Rattle.rm_machine.specs.Asked.{FitsNumbers, asked, lists_from, writers_in}
+use Rattle.rm_machine.specs.BlockRecover.{repair_begun}
+use Rattle.rm_machine.specs.Events.{opening}
+use Rattle.rm_machine.specs.Marks.{marks_before}
+use Rattle.rm_machine.specs.Running.{CanFollow}
+use Rattle.rm_machine.specs.Sound.{IsSound}
+use Rattle.rm_machine.specs.declared.state.State.{State}
+use Rattle.rm_machine.specs.State.{ledger}
+use Rattle.rm_machine_code.proofs.BackupMarks.{marked-same, sound-marked, unmarked-mark, with_mark}
+use Rattle.rm_machine_code.proofs.RepairAccepted.{CanRepair}
+use Rattle.rm_machine_code.proofs.Repaired.{marking}
+use Rattle.rm_machine_code.proofs.WritersRoom.{fits-numbers, room-threads, room-writes}
+
+-- without a write no list has one
+no-writes : (t n : ℕ) → total length (lists_from t n []) ≡ 0
+no-writes t zero = refl
+no-writes t (suc n) = let rest = no-writes (suc t) n in omega (arith, rest)
+
+-- behind the mark no write needs one
+unmarked : (s : State) (d : Option (List WriteForm)) (n : ℕ) → 0 < total length (lists_from 1 n (asked d)) → marks_before (cond (is_none d) s (with_mark s)) ≡ []
+unmarked s None n some = let none = no-writes 1 n in absurd (omega (arith, some, none))
+unmarked s (Some ws) n some = unmarked-mark s
+
+module _ (s : State) (form : RepairForm) (sound : IsSound s) (can : CanRepair s form) where
+  abbrev u : State
+  u = repair_begun s form
+
+  abbrev ws : List WriteForm
+  ws = asked form.during
+
+  abbrev writers : List (List WriteJob)
+  writers = writers_in s form.during
+
+  pub begun-sound : IsSound u
+  begun-sound = sound-marked s (marking form) can.records sound
+
+  -- it is the same running database
+  pub begun-opening : opening u ≡ opening s
+  begun-opening = marked-same opening s (marking form) refl
+
+  pub begun-follow : CanFollow u writers
+  begun-follow = record {
+    opened = marked-same (λ (q : State). q.instance.is_open) s (marking form) refl ∙ can.opened;
+    marked = unmarked s form.during (ledger s).base.threads;
+  }
+
+  pub begun-threads : AreThreads (opening u).logs 1 writers
+  begun-threads = subst (λ (p : Parts). AreThreads p.logs 1 writers) (sym begun-opening) (room-threads s ws sound can.opened)
+
+  pub begun-writes : CanWrite (opening u) writers
+  begun-writes = subst (λ (p : Parts). CanWrite p writers) (sym begun-opening) (room-writes s ws sound can.opened can.writes can.logs can.scns)
+
+  pub asked-fit : All FitsNumbers ws
+  asked-fit = fits-numbers s ws sound can.writes

@@ -1,0 +1,113 @@
+-- What BLOCKRECOVER hands out, and what refuses it by what is at hand.
+use Rattle.std.proofs.Common.{◌≡◌, ◌≤◌, ◌∙◌, ◌++◌, inl, inr, ℕ, List, [], Option, Some, None, Result, Ok, refl, ap, sym, subst, arith, length, map, All}
+use Rattle.std.specs.Global.{Global}
+use Rattle.std.specs.Prelude.{IfOk, IfSome, Vec}
+use Rattle.std.proofs.lemmas.List.{length-map}
+use Rattle.std.proofs.lemmas.Option.{same_Some}
+use Rattle.rm_base.specs.Store.{Held}
+use Rattle.rm_base.specs.declared.block.BlockId.{BlockId}
+use Rattle.rm_base.specs.declared.refusal.Refusal.{Refusal}
+use Rattle.rm_channel.specs.Jobs.{Deed, lists, wrote_of}
+use Rattle.rm_channel.specs.Made.{AreThese, deed}
+use Rattle.rm_evidence.specs.declared.evidence.Evidence.{Evidence}
+use Rattle.rm_evidence.specs.Known.{known_of}
+use Rattle.rm_lang_statement.specs.declared.command.Command.TheVariants.{BlockRecover}
+use Rattle.rm_lang_statement.specs.declared.command.RepairForm.{RepairForm}
+use Rattle.rm_repair.specs.declared.jobs.MendJob.{MendJob}
+use Rattle.rm_repair.specs.Mended.{HasBlock, IsOlder}
+use Rattle.rm_machine.specs.Asked.{asked, writers_in}
+use Rattle.rm_machine.specs.BackupOutcome.{write_lines}
+use Rattle.rm_machine.specs.BlockRecover.{blocks_mended, mend_lines, mends_of, repair_begun, without_mended}
+use Rattle.rm_machine.specs.BlockRecoverRefusal.{repair_refusal}
+use Rattle.rm_machine.specs.Effect.{no_effect, refused}
+use Rattle.rm_machine.specs.Events.{after_events, changes_of, opening}
+use Rattle.rm_machine.specs.Hands.{Hands, Refuses}
+use Rattle.rm_machine.specs.Recovery.{IsAtHand, skipped_lines}
+use Rattle.rm_machine.specs.Sound.{IsSound}
+use Rattle.rm_machine.specs.Step.{IsStatement}
+use Rattle.rm_machine.specs.declared.handed.Handed.{Handed}
+use Rattle.rm_machine.specs.declared.state.State.{State}
+use Rattle.rm_machine.specs.State.{now_of}
+use Rattle.rm_machine_code.proofs.Handing.{hands-by}
+use Rattle.rm_machine_code.proofs.RepairAccepted.{CanRepair, can-repair}
+use Rattle.rm_machine_code.proofs.Repaired.{repaired-sound}
+use Rattle.rm_machine_code.proofs.ToldRows.{CanStand}
+use Rattle.rm_machine_code.proofs.WritersRoom.{few-writers}
+use Rattle.rm_step_repair.specs.Gone.{HasRepaired}
+use Rattle.rm_step_repair.specs.Told.{IsTold, NamesGap, mended_line}
+use Rattle.rm_step_repair.specs.declared.telling.Told.{Told}
+use Rattle.rm_step_repair.proofs.Mends.{jobs-older, jobs-there, lines-are, mended-is, mended-stand, rows-stand, rows_of}
+
+-- what is at hand where the store tells
+told-hand : (held : Option Held) (s : State) (e : Evidence) → IfSome held (λ h. IsAtHand s h e) → (objects : Held) → held ≡ Some objects → IsAtHand s objects e
+told-hand None s e is objects tells = absurd (cc)
+told-hand (Some h) s e is objects tells = subst (λ (k : Held). IsAtHand s k e) (same_Some h objects tells) is
+
+-- a block is not told
+pub repair-refused : (held : Option Held) (s : State) (form : RepairForm) (xs : List BlockId) (r : Refusal) → xs ≡ blocks_mended s form → NamesGap held s xs r → Refuses held s (BlockRecover form) r
+repair-refused held s form xs r same is objects tells =
+    let names = subst (λ (ys : List BlockId). NamesGap held s ys r) same is in
+    record {
+      evidence = names.evidence;
+      at_hand = told-hand held s names.evidence names.at_hand objects tells;
+      comes = inl (record { gap = names.gap; first = names.first; is = ap refused names.names });
+    }
+
+-- all are
+module _ (held : Option Held) (s : State) (form : RepairForm) (sound : IsSound s) (accepted : repair_refusal s form ≡ None) (slice : List BlockId) (same : slice ≡ blocks_mended s form) (x : Result Told Refusal) (t : Told) (is : x ≡ Ok t) (tells : IfOk x (IsTold held s slice)) where
+  abbrev xs : List BlockId
+  xs = blocks_mended s form
+
+  abbrev jobs : List MendJob
+  jobs = t.jobs.items
+
+  can : CanRepair s form
+  can = can-repair s form sound accepted
+
+  told : IsTold held s xs t
+  told = subst (λ (y : Result Told Refusal). IfOk y (IsTold held s xs)) is (subst (λ ys. IfOk x (IsTold held s ys)) same tells)
+
+  stand : All (CanStand s) (rows_of jobs)
+  stand = rows-stand s sound can.opened told.evidence told.fits xs jobs (mended-stand s sound can.opened form) told.are
+
+  pub run-there : All (HasBlock (opening s).files) jobs
+  run-there = jobs-there s sound can.opened told.evidence told.fits xs jobs (mended-stand s sound can.opened form) told.are
+
+  pub run-older : All (IsOlder (now_of s)) jobs
+  run-older = jobs-older s sound can.opened told.evidence told.fits jobs stand
+
+  module _ (well : IsStatement (BlockRecover form)) (q : State) (scns : List (List ℕ)) (ran : HasRepaired (repair_begun s form) jobs (writers_in s form.during) q scns) where
+    these : AreThese (mends_of xs (rows_of jobs) ++ wrote_of 1 (writers_in s form.during) (map (map Ok) scns)) (map deed ran.events)
+    these = subst (λ (ds : List Deed). AreThese (ds ++ wrote_of 1 (writers_in s form.during) (map (map Ok) scns)) (map deed ran.events)) (mended-is xs jobs told.are.files) ran.these
+
+    left-is : (u : State) → u ≡ without_mended q form → u ≡ without_mended (after_events (repair_begun s form) ran.events) form
+    left-is u left = left ∙ ap (λ p. without_mended p form) ran.left
+
+    pub left-sound : (u : State) → u ≡ without_mended q form → IsSound u
+    left-sound u left = subst IsSound (sym (left-is u left)) (repaired-sound s form well.1 sound can (known_of told.evidence) (rows_of jobs) told.are.rows stand scns ran.events ran.legal these)
+
+    -- the SCNs are told of no more than four threads
+    pub few-told : (vs : List (Vec ℕ Global)) → lists vs ≡ scns → length vs ≤ 4
+    few-told vs alike =
+        let each = ap (λ (ns : List ℕ). length ns) ran.each in
+        omega (arith, length-map vs (λ v. v.items), ap (λ (ns : List (List ℕ)). length ns) alike, length-map scns length, length-map (writers_in s form.during) length, each, (few-writers s (asked form.during) sound).1)
+
+    pub repair-hands : (y : Handed) (u : State) → u ≡ without_mended q form → y.lines ≡ skipped_lines t.skipped ++ map mended_line jobs ++ write_lines 1 scns → y.objects ≡ [] → y.removes ≡ [] → Hands held s (BlockRecover form) y u
+    repair-hands y u left said puts removes =
+        hands-by held s (BlockRecover form) y u (skipped_lines told.evidence.skipped ++ mend_lines xs (rows_of jobs) ++ write_lines 1 scns) (record no_effect { changes = changes_of (repair_begun s form) ran.events })
+        (without_mended (after_events (repair_begun s form) ran.events) form)
+        (λ objects here. record {
+          evidence = told.evidence;
+          at_hand = told-hand held s told.evidence told.at_hand objects here;
+          comes = inr (record {
+            rows = rows_of jobs;
+            told = told.are.rows;
+            scns = scns;
+            each = ran.each;
+            events = ran.events;
+            legal = ran.legal;
+            these = these;
+            is = refl;
+          });
+        })
+        (said ∙ (λ i. skipped_lines (told.misses i) ++ lines-are xs jobs told.are.files i ++ write_lines 1 scns)) puts removes (left-is u left)

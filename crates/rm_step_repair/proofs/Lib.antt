@@ -1,0 +1,7 @@
+pub mod Begun
+pub mod Fresh
+pub mod Gathering
+pub mod Handing
+pub mod Mends
+pub mod Named
+pub mod Ran
