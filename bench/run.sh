@@ -1,14 +1,18 @@
 #!/bin/sh
-# Proves and builds rm_bench, and tells the times of each kernel beside a plain loop, of the bytes of a
-# piece and a log beside SHA-256 alone, of planning a datafile and of gathering what tells of it, of turns of
-# a live database beside a plain lock, and of its copies by channels:
-#     bench/run.sh [PROGRAM]
-# Then it tells the time of sha256sum on a file of the size of the largest piece, read 20 times in one run, and what
-# PROGRAM (./rman) takes, by scripts.sh and growth.sh.
+# Tells the lines of the page of figures:
+#     bench/run.sh [PROGRAM [KERNELS]] | tee LINES | bench/page.py
+# PROGRAM is the program as it was built (./rman), and KERNELS rm_bench, which is proved and built where it is not named. First come the
+# kernels beside plain loops, the bytes of pieces and logs beside SHA-256 alone, gathering and planning, turns of a live database and
+# its copies by channels; then sha256sum alone, and what PROGRAM takes: scripts.sh, growth.sh, sessions.sh and drill.py in time, level1.py
+# and mending.py in instructions (of a program as it was built; they want valgrind). It takes some ten minutes.
 set -eu
 cd "$(dirname "$0")/.."
 program=${1:-./rman}
-(cd crates/rm_bench && rt run -- large)
+if [ $# -gt 1 ]; then
+    "$2" large
+else
+    (cd crates/rm_bench && rt run -- large)
+fi
 
 size=4980818
 file=$(mktemp)
@@ -27,3 +31,9 @@ echo "sha256sum: $size bytes, $micros us, $((size / micros)) MB/s"
 
 bench/scripts.sh "$program"
 bench/growth.sh "$program"
+bench/sessions.sh "$program"
+bench/drill.py 0 "$program"
+if [ "$program" != ./rman ] && command -v valgrind > /dev/null; then
+    bench/level1.py "$program"
+    bench/mending.py --figures "$program"
+fi

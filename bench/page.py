@@ -1,0 +1,64 @@
+#!/usr/bin/env python3
+"""The tables of docs/BENCHMARKS.md, from what the scripts of bench/run.sh say on standard input:
+    bench/run.sh PROGRAM | tee LINES | bench/page.py > TABLES
+A table is a subject. It has a row for each line of its form, and says what was wanted. Times are the shortest of several, as the script says
+that tells them; a ratio is of two times of one run."""
+import re
+import sys
+
+
+def ms(micros):
+    return f"{int(micros) / 1000:,.1f}"
+
+
+def number(text):
+    return f"{int(text):,}"
+
+
+# Of each table its subject, what is told and wanted, its columns, and the form of a line with what a row makes of its parts.
+TABLES = [
+    ("Kernels", "1,000 runs over 65,536 bytes or blocks, by lanes and by a plain loop.", ["Kernel", "Lanes, ms", "Plain loop, ms", "Of it"],
+     r"^(\w+): lanes (\d+) us, plain loop (\d+) us, lanes / plain (\d+) %", lambda g: [f"`{g[0]}`", ms(g[1]), ms(g[2]), f"{g[3]} %"]),
+    ("Formats beside SHA-256", "Wanted: all but the digest takes less than a quarter of the time.", ["What", "ms", "MB/s", "SHA-256 is of it"],
+     r"^((?:piece|log|  )[^:\n]*?)(?: of (\d+): (\d+) bytes|: (\d+) us, (\d+) MB/s, SHA-256 is (\d+) %)", lambda g: [f"**{g[0]} of {number(g[1])}**", "", "", ""] if g[1] else [g[0].strip(), ms(g[3]), g[4], f"{g[5]} %"]),
+    ("Planning beside gathering", "Wanted: planning takes less than gathering.", ["Blocks", "Changed behind the target", "Level 1s and logs", "`plan_file`, ms"],
+     r"^plan: (\d+) blocks, (\d+) changed behind the target, \d+ copies, (\d+) level 1s, (\d+) logs (\d+) us", lambda g: [number(g[0]), number(g[1]), f"{g[2]}, {g[3]}", ms(g[4])]),
+    ("Gathering beside SHA-256", "Each object that counts is read and hashed once.", ["Bytes of the objects", "`gather`, ms", "Getting them and SHA-256, ms", "Of it"],
+     r"^gather: \d+ objects of (\d+) bytes (\d+) us, getting them and SHA-256 (\d+) us .*, gather / SHA-256 (\d+) %", lambda g: [number(g[0]), ms(g[1]), ms(g[2]), f"{g[3]} %"]),
+    ("Turns of the live database", "Beside a plain lock, which one thread can take many times in a row.", ["Threads", "Turns", "`Live`, ms", "Plain lock, ms", "Of it"],
+     r"^live, threads (\d+): (\d+) turns (\d+) us, \d+ a second, plain lock (\d+) us, \d+ a second, live / plain lock (\d+) %", lambda g: [g[0], number(g[1]), ms(g[2]), ms(g[3]), f"{g[4]} %"]),
+    ("Copies by channels", "Of a datafile of 65,536 blocks, beside a plain loop.", ["Channels", "ms", "Plain loop, ms", "Of it"],
+     r"^copy, channels (\d+): \d+ blocks (\d+) us, plain loop (\d+) us, channels / plain loop (\d+) %", lambda g: [g[0], ms(g[1]), ms(g[2]), f"{g[3]} %"]),
+    ("BACKUP, RESTORE and RECOVER beside sha256sum", "Two datafiles of 65,536 blocks, beside `sha256sum` of as many bytes as the objects have. Wanted: RECOVER of the lost database within three times it.",
+     ["Statement", "ms", "Of sha256sum"], r"^(backup|recover|restore)( by \d channels| of a lost database)?:(?: \d+ blocks in)? (\d+) us, .*?(\d+) %$", lambda g: [(g[0].upper() + (g[1] or "")), ms(g[2]), f"{g[3]} %"]),
+    ("RECOVER from more and more logs", "Wanted: linear.", ["Logs of 4,096 records", "ms"], r"^recover from (\d+) logs of 4096 records: (\d+) us", lambda g: [g[0], ms(g[1])]),
+    ("RECOVER and RECOVER COPY from more and more level 1s", "Wanted: linear.", ["Level 1s of 4,096 blocks", "RECOVER, ms", "RECOVER COPY, ms"],
+     r"^recover from (\d+) level 1s of 4096 blocks: (\d+) us; recover copy over them: (\d+) us", lambda g: [g[0], ms(g[1]), ms(g[2])]),
+    ("Level 1 with tracking, in instructions", "A datafile of 65,536 blocks. Wanted: a WRITE with tracking within a tenth of one without.", ["What", "With tracking, thousands", "Without", "Of it"],
+     r"^(a level 1 of \d+ blocks of which \d+ changed|a WRITE, of \d+): ([\d,.]+) thousand with tracking, ([\d,.]+) without: ([\d.]+)", list),
+    ("Mending beside a restore, in instructions", "", ["What", "Millions", "RESTORE and RECOVER", "Of it"],
+     r"^(mending \d+ of \d+ blocks): ([\d,]+) million instructions; RESTORE and RECOVER: ([\d,]+) million; ([\d.]+)", list),
+    ("WRITE over many records", "10,000 WRITEs. Wanted: the same within a fifth.", ["Over no log, ms", "Over 16,000 logs, ms", "Second / first"],
+     r"^writes: 10000 WRITEs over no log (\d+) us, over 16000 logs (\d+) us, second / first (\d+) %", lambda g: [ms(g[0]), ms(g[1]), f"{g[2]} %"]),
+    ("Opening a catalog", "Wanted: n log n, which is 213 %.", ["32,768 records, ms", "65,536, ms", "Second / first"],
+     r"^opening: 32768 records (\d+) us, 65536 (\d+) us, second / first (\d+) %", lambda g: [ms(g[0]), ms(g[1]), f"{g[2]} %"]),
+    ("Sessions beside bare transactions", "1,000 WRITEs over a real folder and file, beside 1,000 transactions of sqlite3's shell.", ["1,000 WRITEs, ms", "Transactions, ms", "Of it"],
+     r"^a session of 1000 WRITEs: (\d+) us, 1000 bare transactions (\d+) us, (\d+) %", lambda g: [ms(g[0]), ms(g[1]), f"{g[2]} %"]),
+    ("Many drops in one list", "DELETE EXPIRED of 1,000 of 16,000 logs, beside sqlite3's shell.", ["ms", "sqlite3, ms", "Of it"],
+     r"^drops: 1000 of 16000 logs deleted in (\d+) us, by sqlite3 (\d+) us, (\d+) %", lambda g: [ms(g[0]), ms(g[1]), f"{g[2]} %"]),
+    ("Scripts that are read", "", ["Bytes", "Statements", "ms"], r"^script: (\d+) bytes, (\d+) statements refused (\d+) us", lambda g: [number(g[0]), number(g[1]), ms(g[2])]),
+    ("The drill", "36 statements, 20,000 writes, 20 backups meanwhile, all lost and back. Wanted: below 10 s.", ["Channels", "Seconds", "Peak memory so far, MB"],
+     r"^drill 7 by (\d+) channels: ([\d.]+) s, peak memory so far (\d+) MB", list),
+]
+
+
+def main():
+    text = sys.stdin.read()
+    for subject, wanted, columns, form, row in TABLES:
+        rows = [row(match.groups()) for match in re.finditer(form, text, re.MULTILINE)]
+        if rows:
+            print(f"### {subject}\n\n{wanted + chr(10) * 2 if wanted else ''}| {' | '.join(columns)} |\n|{'---|' * len(columns)}")
+            print("".join(f"| {' | '.join(cells)} |\n" for cells in rows))
+
+
+main()
