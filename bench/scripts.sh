@@ -4,9 +4,9 @@
 # It is the shortest of five runs of each script, less the shortest of the same
 # script without the statements that are measured. Beside BACKUP, by 1, 2 and 4 channels, and RECOVER of a database of
 # 8 MB stands the shortest of five runs of sha256sum on a file as long as the two pieces. Then the database is lost: beside its RESTORE and
-# RECOVER, from a level 0 and a log of 65,536 records, stands sha256sum of these objects, and at last RECOVER from 1, 4
-# and 16 logs of 4,096 records each. Over 1, 4 and 16 level 1s of 4,096 blocks each, without a log, RECOVER and RECOVER COPY are sessions
-# of their own, less one that only shows the settings.
+# RECOVER, from a level 0 and a log of 65,536 records, stands sha256sum of these objects; then come RECOVER from 1, 4 and 16 logs of 4,096
+# records each, and RECOVER and RECOVER COPY over 1, 4 and 16 level 1s of 4,096 blocks each, without a log. These are sessions of their
+# own over what an earlier one left, the shortest of seven, less one that only shows the settings: what they save at their end is in it.
 set -euo pipefail
 cd "$(dirname "$0")/.."
 program=${1:-./rman}
@@ -69,30 +69,6 @@ lose() {
     echo 'HOST LOSE DATAFILE 1; HOST LOSE DATAFILE 2; STARTUP FORCE MOUNT;'
 }
 
-(database && echo 'BACKUP INCREMENTAL LEVEL 0 DATABASE;' && writes 0 65536 && echo 'ALTER SYSTEM ARCHIVE LOG CURRENT;' && lose) > "$room/lost"
-(cat "$room/lost" && echo 'RESTORE DATABASE;') > "$room/restored"
-(cat "$room/restored" && echo 'RECOVER DATABASE;') > "$room/recovered"
-head -c 15204586 /dev/urandom > "$room/bytes"
-lost=$(shortest run_script "$room/lost")
-restored=$(shortest run_script "$room/restored")
-recovered=$(shortest run_script "$room/recovered")
-digest=$(shortest sha256sum "$room/bytes")
-echo "restore of a lost database: $((restored - lost)) us, sha256sum of 15204586 bytes $digest us, $(((restored - lost) * 100 / digest)) %"
-echo "recover of a lost database: $((recovered - restored)) us, sha256sum of 15204586 bytes $digest us, $(((recovered - restored) * 100 / digest)) %"
-
-for logs in 1 4 16; do
-    (database && echo 'BACKUP DATABASE;'
-        for k in $(seq 0 $((logs - 1))); do
-            writes $((k * 4096)) $((k * 4096 + 4096))
-            echo 'ALTER SYSTEM SWITCH LOGFILE;'
-        done
-        lose && echo 'RESTORE DATABASE;') > "$room/restored"
-    (cat "$room/restored" && echo 'RECOVER DATABASE;') > "$room/recovered"
-    restored=$(shortest run_script "$room/restored")
-    recovered=$(shortest run_script "$room/recovered")
-    echo "recover from $logs logs of 4096 records: $((recovered - restored)) us"
-done
-
 # The shortest of seven sessions of this statement alone, each over what the session before left.
 next_session() {
     local best=
@@ -108,6 +84,35 @@ next_session() {
     echo "$best"
 }
 
+# What the next sessions begin with is what this script leaves.
+begin_with() {
+    run_script "$1" > /dev/null
+    rm -rf "$place/before" && mkdir "$place/before" && cp -r "$place/objects" "$place/catalog"* "$place/before"
+    show=$(next_session 'SHOW ALL;')
+}
+
+(database && echo 'BACKUP INCREMENTAL LEVEL 0 DATABASE;' && writes 0 65536 && echo 'ALTER SYSTEM ARCHIVE LOG CURRENT;' && lose) > "$room/lost"
+(cat "$room/lost" && echo 'RESTORE DATABASE;') > "$room/restored"
+head -c 15204586 /dev/urandom > "$room/bytes"
+digest=$(shortest sha256sum "$room/bytes")
+begin_with "$room/lost"
+restore=$(($(next_session 'RESTORE DATABASE;') - show))
+echo "restore of a lost database: $restore us, sha256sum of 15204586 bytes $digest us, $((restore * 100 / digest)) %"
+begin_with "$room/restored"
+recover=$(($(next_session 'RECOVER DATABASE;') - show))
+echo "recover of a lost database: $recover us, sha256sum of 15204586 bytes $digest us, $((recover * 100 / digest)) %"
+
+for logs in 1 4 16; do
+    (database && echo 'BACKUP DATABASE;'
+        for k in $(seq 0 $((logs - 1))); do
+            writes $((k * 4096)) $((k * 4096 + 4096))
+            echo 'ALTER SYSTEM SWITCH LOGFILE;'
+        done
+        lose && echo 'RESTORE DATABASE;') > "$room/restored"
+    begin_with "$room/restored"
+    echo "recover from $logs logs of 4096 records: $(($(next_session 'RECOVER DATABASE;') - show)) us"
+done
+
 for level1s in 1 4 16; do
     (database && echo 'BACKUP INCREMENTAL LEVEL 1 FOR RECOVER OF COPY WITH TAG inc DATABASE;'
         for k in $(seq 0 $((level1s - 1))); do
@@ -115,9 +120,7 @@ for level1s in 1 4 16; do
             echo 'BACKUP INCREMENTAL LEVEL 1 FOR RECOVER OF COPY WITH TAG inc DATABASE;'
         done
         echo 'HOST LOSE LOG THREAD 1;' && lose && echo 'RESTORE DATABASE;') > "$room/restored"
-    run_script "$room/restored" > /dev/null
-    rm -rf "$place/before" && mkdir "$place/before" && cp -r "$place/objects" "$place/catalog"* "$place/before"
-    show=$(next_session 'SHOW ALL;')
+    begin_with "$room/restored"
     recover=$(next_session 'RECOVER DATABASE;')
     renewed=$(next_session 'RECOVER COPY OF DATABASE WITH TAG inc;')
     echo "recover from $level1s level 1s of 4096 blocks: $((recover - show)) us; recover copy over them: $((renewed - show)) us"
