@@ -1,5 +1,11 @@
 pub mod Bodies
+pub mod Filled
 pub mod Fitting
+pub mod Fronts
 pub mod Highs
 pub mod Picked
+pub mod Risen
+pub mod SetBodies
+pub mod SetFitting
+pub mod SetReading
 pub mod Whole
