@@ -1,5 +1,5 @@
 -- Whatever the order of the records, the first that breaks a rule has one place.
-use Rattle.std.proofs.Common.{◌≡◌, ℕ, zero, suc, ◌+◌, ◌-◌, ◌<◌, ◌≤◌, Bool, true, false, eqb, leb, ltb, cond, List, [], ◌∷◌, length, get_or, Option, Some, None, refl, ap, sym, subst, ◌∙◌, arith, eq-eqb, ◌⊎◌, inl, inr}
+use Rattle.std.proofs.Common.{◌≡◌, ℕ, zero, suc, ◌+◌, ◌-◌, ◌<◌, ◌≤◌, Bool, true, false, eqb, leb, ltb, cond, ◌&&◌, List, [], ◌∷◌, length, get_or, Option, Some, None, refl, ap, sym, subst, ◌∙◌, arith, eq-eqb, ◌⊎◌, inl, inr}
 use Rattle.std.specs.Prelude.{Contains, IsPermutation, IsSome, IsTrue, IsSomeAnd, MatchBool, option_and_then}
 use Rattle.std.specs.Option.{option_map_or}
 use Rattle.std.proofs.lemmas.List.Sorted.{IsPermutation-sym, IsPermutation-trans, Contains-permutation, sum_by-IsPermutation, list_any-IsPermutation}
@@ -16,7 +16,9 @@ use Rattle.rm_catalog.specs.Keys.{place, place_of, place_of_key, at, InOrder, Is
 use Rattle.rm_catalog.specs.Facts.{BeginsOn, is_mark_of, IsCreatedOn, blocks_to, IsWithin}
 use Rattle.rm_catalog.specs.Objects.{IdRule, IsRange, owner_in, FitsDatafile}
 use Rattle.rm_catalog.specs.Saved.{is_part_of}
-use Rattle.rm_catalog.specs.Rules.{Obeys, OwnRule, IsOrderOf, IsFirstBad}
+use Rattle.rm_catalog.specs.Rules.{Obeys, OwnRule, IsOrderOf, IsFirstBad, is_lasting}
+use Rattle.rm_catalog.specs.SetRules.{FitsSetFile, SetPartRule}
+use Rattle.rm_catalog.specs.declared.record.SetPart.{SetPart}
 use Rattle.rm_catalog.proofs.Found.{differ}
 use Rattle.rm_catalog.proofs.Counts.{alike, alike_count}
 use Rattle.rm_catalog.proofs.Unique.{none_alike, head_or_tail, in_tail, middle}
@@ -159,12 +161,13 @@ owner_same (suc n) i g s t same =
     further lower (Some x) = ap (λ (y : ℕ). cond (leb x.reset g) i y) (lower x.parent)
     further lower None = refl
 
-id_moves : (s t : List Record) (id second third : ℕ) → IsPermutation s t → base s ≡ base t → IdRule s id second third → IdRule t id second third
-id_moves s t id second third there same h = record {
+id_moves : (s t : List Record) (id second third fourth : ℕ) → IsPermutation s t → base s ≡ base t → IdRule s id second third fourth → IdRule t id second third fourth
+id_moves s t id second third fourth there same h = record {
   number = h.number;
   below = subst (λ (o : Option BaseEntry). IsSomeAnd o (λ (b : BaseEntry). id < b.next_id)) same h.below;
   not_second = λ yes. h.not_second (there_moves t s (place second id) (IsPermutation-sym s t there) yes);
   not_third = λ yes. h.not_third (there_moves t s (place third id) (IsPermutation-sym s t there) yes);
+  not_fourth = λ yes. h.not_fourth (there_moves t s (place fourth id) (IsPermutation-sym s t there) yes);
 }
 
 own_moves : (s t : List Record) (r : Record) → IsPermutation s t → Agree s t (place_of r) → OwnRule s r → OwnRule t r
@@ -201,14 +204,14 @@ own_moves s t (records.Datafile f) there agree h = record {
   room = record { blocks = let same = sum_by-IsPermutation (blocks_to f.file) s t there in let all = h.room.blocks in omega arith };
 }
 own_moves s t (records.Log l) there agree h = record {
-  id = id_moves s t l.id 5 7 there (base_same s t _ agree (omega arith)) h.id;
+  id = id_moves s t l.id 5 7 9 there (base_same s t _ agree (omega arith)) h.id;
   size = h.size;
   thread = (h.thread.0, subst (λ (o : Option BaseEntry). IsSomeAnd o (λ (b : BaseEntry). l.thread ≤ b.threads)) (base_same s t _ agree (omega arith)) h.thread.1);
   sequence = h.sequence;
   range = subst (λ (o : Option IncarnationEntry). IsSomeAnd o (IsRange l)) (incarnation_same s t _ l.inc agree (omega arith)) h.range;
 }
 own_moves s t (records.Piece p) there agree h = record {
-  id = id_moves s t p.id 4 7 there (base_same s t _ agree (omega arith)) h.id;
+  id = id_moves s t p.id 4 7 9 there (base_same s t _ agree (omega arith)) h.id;
   size = h.size;
   end = subst (λ (o : Option IncarnationEntry). IsSomeAnd o (λ (i : IncarnationEntry). p.high ≤ i.end)) (incarnation_same s t _ p.inc agree (omega arith)) h.end;
   file = fits (datafile p.file s) (subst (λ (o : Option DatafileEntry). o ≡ datafile p.file s) refl refl) h.file;
@@ -236,7 +239,7 @@ own_moves s t (records.Mark m) there agree h = record {
   moment = subst (λ (o : Option BaseEntry). IsSomeAnd o (λ (b : BaseEntry). m.moment ≤ b.moment)) (base_same s t _ agree (omega arith)) h.moment;
 }
 own_moves s t (records.Part p) there agree h = record {
-  id = id_moves s t p.id 4 5 there (base_same s t _ agree (omega arith)) h.id;
+  id = id_moves s t p.id 4 5 9 there (base_same s t _ agree (omega arith)) h.id;
   size = h.size;
   head = there_moves s t (place 8 0) there h.head;
   one = names (eqb p.file 0) h.one;
@@ -249,12 +252,38 @@ own_moves s t (records.Part p) there agree h = record {
 own_moves s t (records.Head h) there agree o = record {
   point = λ some. there_moves s t (place 2 h.inc) there (o.point some);
 }
+own_moves s t (records.Set e) there agree h = record {
+  id = id_moves s t e.id 4 5 7 there (base_same s t _ agree (omega arith)) h.id;
+  size = h.size;
+  checkpoint = h.checkpoint;
+  parts = record { some = h.parts.some; few = h.parts.few; ascend = h.parts.ascend; each = λ k d inside. part_moves _ (h.parts.each k d inside) };
+  tag = h.tag;
+}
+  where
+    file_moves : (p : SetPart) (f : DatafileEntry) → FitsSetFile s e p f → FitsSetFile t e p f
+    file_moves p f fit = record {
+      path = sym (owner_same 256 e.inc f.creation s t (λ j. incarnation_same s t _ j agree (omega arith))) ∙ fit.path;
+      creation = fit.creation;
+      rows = fit.rows;
+    }
+
+    both : (p : SetPart) (o : Option DatafileEntry) → IsSomeAnd o (FitsSetFile s e p) → IsSomeAnd o (FitsSetFile t e p)
+    both p (Some f) fit = file_moves p f fit
+    both p None fit = absurd fit
+
+    part_moves : (p : SetPart) → SetPartRule s e p → SetPartRule t e p
+    part_moves p h = record {
+      file = subst (λ (o : Option DatafileEntry). IsSomeAnd o (FitsSetFile t e p)) (datafile_same s t _ p.file agree (omega arith)) (both p (datafile p.file s) h.file);
+      kind = h.kind;
+      high = h.high;
+      end = subst (λ (o : Option IncarnationEntry). IsSomeAnd o (λ (i : IncarnationEntry). p.high ≤ i.end)) (incarnation_same s t _ e.inc agree (omega arith)) h.end;
+    }
 
 -- a record obeys in each order in which the places up to its own have the same
 obeys_moves : (s t : List Record) (r : Record) → IsPermutation s t → Agree s t (place_of r) → Obeys s r → Obeys t r
 obeys_moves s t r there agree h = record {
   once = record { once = sum_by-IsPermutation (λ (q : Record). cond (eqb (place_of q) (place_of r)) 1 0) s t there ∙ h.once.once };
-  few = record { few = λ low. let same = sum_by-IsPermutation (λ (q : Record). cond (ltb (place_of q) (place_of r)) 1 0) s t there in let few = h.few.few low in omega arith };
+  few = record { few = λ low. let same = sum_by-IsPermutation (λ (q : Record). cond (is_lasting (place_of q) && ltb (place_of q) (place_of r)) 1 0) s t there in let few = h.few.few low in omega arith };
   base = there_moves s t (place 1 0) there h.base;
   own = own_moves s t r there agree h.own;
 }

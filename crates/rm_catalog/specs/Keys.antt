@@ -1,5 +1,6 @@
 -- The key of a record, the order of keys, and the record that stands under a key.
-use Rattle.std.specs.Prelude.{ℕ, ◌+◌, ◌*◌, ◌==◌, List, Option, Some, None, IsSome, find, min, option_and_then}
+use Rattle.std.specs.Prelude.{ℕ, ◌+◌, ◌*◌, ◌==◌, false, List, [], ◌∷◌, Option, Some, None, IsSome, find, map, min, option_and_then}
+use Rattle.std.specs.List.{flat_map}
 use Rattle.std.specs.List.Sorted.{IsNonDecreasingBy}
 use Rattle.rm_catalog.specs.declared.record.Key.{Key}
 use Rattle.rm_catalog.specs.declared.record.BaseEntry.{BaseEntry}
@@ -10,8 +11,10 @@ use Rattle.rm_catalog.specs.declared.record.PieceEntry.{PieceEntry}
 use Rattle.rm_catalog.specs.declared.record.MarkEntry.{MarkEntry}
 use Rattle.rm_catalog.specs.declared.record.PartEntry.{PartEntry}
 use Rattle.rm_catalog.specs.declared.record.HeadEntry.{HeadEntry}
+use Rattle.rm_catalog.specs.declared.record.SetEntry.{SetEntry}
+use Rattle.rm_catalog.specs.declared.record.SetPart.{SetPart}
 use Rattle.rm_catalog.specs.declared.record.Record.{Record}
-use Rattle.rm_catalog.specs.declared.record.Record.TheVariants.{Base, Incarnation, Datafile, Log, Piece, Mark, Part, Head}
+use Rattle.rm_catalog.specs.declared.record.Record.TheVariants.{Base, Incarnation, Datafile, Log, Piece, Mark, Part, Head, Set}
 
 -- the key of a record
 abbrev pub key_of : Record → Key
@@ -23,6 +26,7 @@ key_of (Piece r) = record { kind = 5; id = r.id }
 key_of (Mark r) = record { kind = 6; id = r.id }
 key_of (Part r) = record { kind = 7; id = r.id }
 key_of (Head r) = record { kind = 8; id = 0 }
+key_of (Set r) = record { kind = 9; id = r.id }
 
 -- The place of a key: kind * 2^32 + id. Ids are at most 2^32 - 1, so keys stand in order of kind and
 -- then of id as their places do. A greater number, which is no id, stands where the last id does.
@@ -69,7 +73,7 @@ abbrev pub mark_in : Record → Option MarkEntry
 mark_in (Mark m) = Some m
 mark_in _ = None
 
--- what records of kind 4, 5, 7 and 8 say
+-- what records of kind 4, 5, 7, 8 and 9 say
 abbrev pub log_in : Record → Option LogEntry
 log_in (Log e) = Some e
 log_in _ = None
@@ -85,6 +89,40 @@ part_in _ = None
 abbrev pub head_in : Record → Option HeadEntry
 head_in (Head e) = Some e
 head_in _ = None
+
+abbrev pub set_in : Record → Option SetEntry
+set_in (Set e) = Some e
+set_in _ = None
+
+-- what a set has of one datafile, as a backup with the set's id, object, status and tag
+abbrev pub part_piece : SetEntry → SetPart → PieceEntry
+part_piece e p = record {
+  id = e.id;
+  copy = false;
+  kind = p.kind;
+  inc = e.inc;
+  file = p.file;
+  from = p.from;
+  checkpoint = e.checkpoint;
+  high = p.high;
+  rows = p.rows;
+  size = e.size;
+  sha = e.sha;
+  status = e.status;
+  keep = e.keep;
+  tag = e.tag;
+  moment = e.moment;
+}
+
+-- the backups of datafiles of which a record tells: a piece or an image copy of itself, a set of its parts
+abbrev pub backups_in : Record → List PieceEntry
+backups_in (Piece e) = e ∷ []
+backups_in (Set e) = map (part_piece e) e.parts
+backups_in _ = []
+
+-- those of all records
+abbrev pub backups : List Record → List PieceEntry
+backups rs = flat_map backups_in rs
 
 -- the base facts
 abbrev pub base : List Record → Option BaseEntry

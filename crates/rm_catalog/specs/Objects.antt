@@ -15,12 +15,13 @@ use Rattle.rm_catalog.specs.Keys.{IsThere, base, incarnation, datafile}
 abbrev pub most_bytes : ℕ
 most_bytes = 268435456
 
--- an object id, which no record of either other kind of objects has
-pub record IdRule (rs : List Record) (id second third : ℕ) : Type 0 where
+-- an object id, which no record of the three other kinds of objects has
+pub record IdRule (rs : List Record) (id second third fourth : ℕ) : Type 0 where
   pub number : 1 ≤ id
   pub below : IsSomeAnd (base rs) (λ b. id < b.next_id)
   pub not_second : ¬ IsThere second id rs
   pub not_third : ¬ IsThere third id rs
+  pub not_fourth : ¬ IsThere fourth id rs
 
 -- the log's SCNs are some of the incarnation
 pub record IsRange (l : LogEntry) (i : IncarnationEntry) : Type 0 where
@@ -30,7 +31,7 @@ pub record IsRange (l : LogEntry) (i : IncarnationEntry) : Type 0 where
 
 -- a log, by a redo thread that is there
 pub record LogRule (rs : List Record) (l : LogEntry) : Type 0 where
-  pub id : IdRule rs l.id 5 7
+  pub id : IdRule rs l.id 5 7 9
   pub size : l.size ≤ most_bytes
   pub thread : (1 ≤ l.thread) × IsSomeAnd (base rs) (λ b. l.thread ≤ b.threads)
   pub sequence : 1 ≤ l.sequence
@@ -71,7 +72,7 @@ pub record IsTag (tag : List ℕ) : Type 0 where
 
 -- a piece
 pub record PieceRule (rs : List Record) (p : PieceEntry) : Type 0 where
-  pub id : IdRule rs p.id 4 7
+  pub id : IdRule rs p.id 4 7 9
   pub size : p.size ≤ most_bytes
   pub end : IsSomeAnd (incarnation p.inc rs) (λ i. p.high ≤ i.end)
   pub file : IsSomeAnd (datafile p.file rs) (FitsDatafile rs p)

@@ -22,15 +22,16 @@ fn is_below_next(records: &[Record], id: u32) -> bool
     }
 }
 
-/// Whether an object id obeys. The other kinds of objects are `second` and `third`.
-pub fn id_obeys(records: &[Record], id: u32, second: u8, third: u8) -> bool
+/// Whether an object id obeys. The other kinds of objects are `second`, `third` and `fourth`.
+pub fn id_obeys(records: &[Record], id: u32, second: u8, third: u8, fourth: u8) -> bool
     requires { InOrder records.now }
-    ensures { IsTrue result ↔ IdRule records.now id second third }
+    ensures { IsTrue result ↔ IdRule records.now id second third fourth }
 {
     1 <= id
         && is_below_next(records, id)
         && !is_there(records, second, id)
         && !is_there(records, third, id)
+        && !is_there(records, fourth, id)
 }
 
 /// Whether the number is not above that of the redo threads.
@@ -60,7 +61,7 @@ pub fn log_obeys(records: &[Record], l: &LogEntry) -> bool
     requires { InOrder records.now }
     ensures { IsTrue result ↔ LogRule records.now l.now }
 {
-    id_obeys(records, l.id, 5, 7)
+    id_obeys(records, l.id, 5, 7, 9)
         && l.size <= MOST_BYTES
         && 1 <= l.thread
         && has_thread(records, l.thread)
@@ -68,8 +69,8 @@ pub fn log_obeys(records: &[Record], l: &LogEntry) -> bool
         && is_range(records, l)
 }
 
-// The incarnation that owns `g` on the path of `inc`, by at most so many steps.
-fn owner_in(records: &[Record], steps: u32, inc: IncNo, g: Scn) -> IncNo
+/// The incarnation that owns `g` on the path of `inc`, by at most so many steps.
+pub(crate) fn owner_in(records: &[Record], steps: u32, inc: IncNo, g: Scn) -> IncNo
     requires { InOrder records.now }
     ensures { result ≡ owner_in steps inc g records.now }
 {
@@ -118,13 +119,13 @@ fn fits_kind(p: &PieceEntry) -> bool
     }
 }
 
-// Whether the incarnation is there, and the piece ends within it.
-fn ends_within(records: &[Record], p: &PieceEntry) -> bool
+/// Whether the incarnation is there, and ends at this SCN or above it.
+pub(crate) fn ends_within(records: &[Record], inc: IncNo, high: Scn) -> bool
     requires { InOrder records.now }
-    ensures { IsTrue result ↔ IsSomeAnd (incarnation p.now.inc records.now) (λ i. p.now.high ≤ i.end) }
+    ensures { IsTrue result ↔ IsSomeAnd (incarnation inc records.now) (λ i. high ≤ i.end) }
 {
-    match incarnation(records, p.inc) {
-        Some(i) => p.high <= i.end,
+    match incarnation(records, inc) {
+        Some(i) => high <= i.end,
         None => false,
     }
 }
@@ -146,7 +147,8 @@ fn are_tag_bytes(bytes: &[u8]) -> bool
     true
 }
 
-fn is_tag(bytes: &[u8]) -> bool
+/// Whether these are 1 to 30 letters, digits and `_`.
+pub(crate) fn is_tag(bytes: &[u8]) -> bool
     ensures { IsTrue result ↔ IsTag bytes.now }
 {
     1 <= bytes.len() && bytes.len() <= 30 && are_tag_bytes(bytes)
@@ -157,12 +159,12 @@ pub fn piece_obeys(records: &[Record], p: &PieceEntry) -> bool
     requires { InOrder records.now }
     ensures { IsTrue result ↔ PieceRule records.now p.now }
 {
-    id_obeys(records, p.id, 4, 7)
+    id_obeys(records, p.id, 4, 7, 9)
         && p.size <= MOST_BYTES
         && 1 <= p.checkpoint
         && p.checkpoint <= p.high
         && fits_kind(p)
         && is_tag(p.tag.as_bytes())
-        && ends_within(records, p)
+        && ends_within(records, p.inc, p.high)
         && fits_datafile(records, p)
 }

@@ -2,10 +2,10 @@
 ghost use Rattle.std.specs.Prelude.{◌≡◌, ◌<◌, ◌^◌, IfOk};
 ghost use Rattle.rm_catalog.specs.Keys.{key_of, place_of_key, place_of};
 
-use rm_base::{FileNo, IncNo, Kind, Moment, NoMemory, Policy, Scn, Status, Text, ThreadNo};
+use rm_base::{FileNo, IncNo, Kind, Moment, NoMemory, Policy, Scn, Seq, Status, Text, ThreadNo};
 use std::alloc::Global;
 
-/// The kind of a record, 1 to 8, and its id. Each record has a key of its own.
+/// The kind of a record, 1 to 9, and its id. Each record has a key of its own.
 #[derive(Clone, Copy, PartialEq, Eq)]
 pub struct Key {
     pub kind: u8,
@@ -142,6 +142,41 @@ pub struct HeadEntry {
     pub scn: Scn,
 }
 
+/// What a backup set has of one datafile.
+#[derive(Clone, Copy, PartialEq, Eq)]
+pub struct SetPart {
+    pub file: FileNo,
+    /// Full, level 0 or level 1.
+    pub kind: Kind,
+    /// The SCN from which on a level 1 has the changed blocks; 0 for each other kind.
+    pub from: Scn,
+    /// The greatest SCN that it speaks of.
+    pub high: Scn,
+    /// How many blocks stand in the bytes. Those that were never written do not.
+    pub rows: u32,
+}
+
+/// Kind 9: a backup set, one object with several datafiles.
+#[derive(Drop)]
+pub struct SetEntry {
+    pub id: u32,
+    pub inc: IncNo,
+    pub checkpoint: Scn,
+    /// 1 to 64, by ascending datafile.
+    pub parts: Seq<SetPart>,
+    /// How many bytes it has: at most 268,435,456.
+    pub size: u64,
+    /// The SHA-256 of its bytes.
+    pub sha: [u8; 32],
+    pub status: Status,
+    /// Whether it is kept whatever the policy.
+    pub keep: bool,
+    /// 1 to 30 letters, digits and `_`.
+    pub tag: Text,
+    /// When it was made.
+    pub moment: Moment,
+}
+
 /// A record of the catalog.
 #[derive(Drop)]
 pub enum Record {
@@ -153,6 +188,7 @@ pub enum Record {
     Mark(MarkEntry),
     Part(PartEntry),
     Head(HeadEntry),
+    Set(SetEntry),
 }
 
 /// A change of the records.
@@ -199,6 +235,26 @@ impl PieceEntry {
     }
 }
 
+impl SetEntry {
+    /// An equal set.
+    pub fn copy(&self, alloc: Global) -> Result<SetEntry, NoMemory>
+        ensures { IfOk result (λ s. s ≡ self.now) }
+    {
+        Ok(SetEntry {
+            parts: Seq::from_vec(Vec::from_slice(alloc, self.parts.as_slice())?),
+            tag: Text::from_string(String::from_str(alloc, self.tag.as_str())?),
+            id: self.id,
+            inc: self.inc,
+            checkpoint: self.checkpoint,
+            size: self.size,
+            sha: self.sha,
+            status: self.status,
+            keep: self.keep,
+            moment: self.moment,
+        })
+    }
+}
+
 impl Record {
     /// The record's key.
     pub fn key(&self) -> Key
@@ -213,6 +269,7 @@ impl Record {
             Record::Mark(r) => (6, r.id),
             Record::Part(r) => (7, r.id),
             Record::Head(_) => (8, 0),
+            Record::Set(r) => (9, r.id),
         };
         Key { kind, id }
     }
@@ -238,6 +295,7 @@ impl Record {
             Record::Mark(r) => Record::Mark(*r),
             Record::Part(r) => Record::Part(*r),
             Record::Head(r) => Record::Head(*r),
+            Record::Set(r) => Record::Set(r.copy(alloc)?),
         })
     }
 }

@@ -9,7 +9,10 @@ use Rattle.rm_catalog.specs.declared.record.PieceEntry.{PieceEntry}
 use Rattle.rm_catalog.specs.declared.record.MarkEntry.{MarkEntry}
 use Rattle.rm_catalog.specs.declared.record.PartEntry.{PartEntry}
 use Rattle.rm_catalog.specs.declared.record.HeadEntry.{HeadEntry}
-use Rattle.rm_catalog_bytes.specs.Spelling.{flag, status_code, kind_code, policy_code, policy_number, base_bytes, incarnation_bytes, datafile_bytes, log_bytes, piece_head, mark_bytes, part_bytes, head_bytes}
+use Rattle.rm_catalog.specs.declared.record.SetEntry.{SetEntry}
+use Rattle.rm_catalog.specs.declared.record.SetPart.{SetPart}
+use Rattle.rm_catalog_bytes.specs.declared.ending.Ending.{Ending}
+use Rattle.rm_catalog_bytes.specs.Spelling.{flag, status_code, kind_code, policy_code, policy_number, base_bytes, incarnation_bytes, datafile_bytes, log_bytes, ending_front, piece_head, mark_bytes, part_bytes, head_bytes, set_part_bytes, set_head}
 
 -- ---- each field, and what follows it
 
@@ -29,9 +32,13 @@ pub log_fields : (r : LogEntry) (x : List ℕ) → log_bytes r ++ x ≡ flag r.a
 unfolding log_bytes
 log_fields r x = simp append_assoc
 
-pub piece_fields : (r : PieceEntry) (n : ℕ) (x : List ℕ) → piece_head r n ++ x ≡ flag r.copy ∷ kind_code r.kind ∷ (four r.inc ++ (four r.file ++ (eight r.from ++ (eight r.checkpoint ++ (eight r.high ++ (four r.rows ++ (eight r.size ++ (r.sha ++ (status_code r.status ∷ flag r.keep ∷ (eight n ++ x))))))))))
+pub ending_fields : (e : Ending) (n : ℕ) (x : List ℕ) → ending_front e n ++ x ≡ eight e.size ++ (e.sha ++ (status_code e.status ∷ flag e.keep ∷ (eight n ++ x)))
+unfolding ending_front
+ending_fields e n x = simp append_assoc
+
+pub piece_fields : (r : PieceEntry) (x : List ℕ) → piece_head r ++ x ≡ flag r.copy ∷ kind_code r.kind ∷ (four r.inc ++ (four r.file ++ (eight r.from ++ (eight r.checkpoint ++ (eight r.high ++ (four r.rows ++ x))))))
 unfolding piece_head
-piece_fields r n x = simp append_assoc
+piece_fields r x = simp append_assoc
 
 pub mark_fields : (r : MarkEntry) (x : List ℕ) → mark_bytes r ++ x ≡ eight r.moment ++ (four r.inc ++ (eight r.scn ++ x))
 unfolding mark_bytes
@@ -44,3 +51,11 @@ part_fields r x = simp append_assoc
 pub head_fields : (r : HeadEntry) (x : List ℕ) → head_bytes r ++ x ≡ flag r.opened ∷ (four r.inc ++ (eight r.scn ++ x))
 unfolding head_bytes
 head_fields r x = simp append_assoc
+
+pub set_part_fields : (p : SetPart) (x : List ℕ) → set_part_bytes p ++ x ≡ four p.file ++ (kind_code p.kind ∷ (eight p.from ++ (eight p.high ++ (four p.rows ++ x))))
+unfolding set_part_bytes
+set_part_fields p x = simp append_assoc
+
+pub set_fields : (r : SetEntry) (n : ℕ) (x : List ℕ) → set_head r n ++ x ≡ four r.inc ++ (eight r.checkpoint ++ (eight n ++ x))
+unfolding set_head
+set_fields r n x = simp append_assoc

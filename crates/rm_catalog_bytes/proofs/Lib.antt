@@ -2,5 +2,7 @@ pub mod Wide
 pub mod Bodies
 pub mod Told
 pub mod Fronts
+pub mod Endings
 pub mod Pieces
+pub mod SetTold
 pub mod Records

@@ -17,9 +17,12 @@ use Rattle.rm_catalog.specs.declared.record.PieceEntry.{PieceEntry}
 use Rattle.rm_catalog.specs.declared.record.MarkEntry.{MarkEntry}
 use Rattle.rm_catalog.specs.declared.record.PartEntry.{PartEntry}
 use Rattle.rm_catalog.specs.declared.record.HeadEntry.{HeadEntry}
-use Rattle.rm_catalog_bytes.specs.Fits.{BaseFits, IncarnationFits, DatafileFits, LogFits, PieceHeadFits, MarkFits, PartFits, HeadFits}
-use Rattle.rm_catalog_bytes.specs.Spelling.{flag, status_code, kind_code, policy_code, policy_number, base_bytes, incarnation_bytes, datafile_bytes, log_bytes, piece_head, mark_bytes, part_bytes, head_bytes}
-use Rattle.rm_catalog_bytes.proofs.Bodies.{base_fields, incarnation_fields, datafile_fields, log_fields, piece_fields, mark_fields, part_fields, head_fields}
+use Rattle.rm_catalog.specs.declared.record.SetEntry.{SetEntry}
+use Rattle.rm_catalog.specs.declared.record.SetPart.{SetPart}
+use Rattle.rm_catalog_bytes.specs.declared.ending.Ending.{Ending}
+use Rattle.rm_catalog_bytes.specs.Fits.{BaseFits, IncarnationFits, DatafileFits, LogFits, EndingFrontFits, PieceHeadFits, MarkFits, PartFits, HeadFits, SetPartFits, SetFits}
+use Rattle.rm_catalog_bytes.specs.Spelling.{flag, status_code, kind_code, policy_code, policy_number, base_bytes, incarnation_bytes, datafile_bytes, log_bytes, ending_front, piece_head, mark_bytes, part_bytes, head_bytes, set_part_bytes, set_head}
+use Rattle.rm_catalog_bytes.proofs.Bodies.{base_fields, incarnation_fields, datafile_fields, log_fields, ending_fields, piece_fields, mark_fields, part_fields, head_fields, set_part_fields, set_fields}
 
 cons_same : (a b : ℕ) (x y : List ℕ) → a ∷ x ≡ b ∷ y → (a ≡ b) × (x ≡ y)
 cons_same a b x y e = (cc, cc)
@@ -248,9 +251,32 @@ log_same r s fr fs same_key e =
     let made : log_of r.id r.archived r.inc r.thread r.sequence r.first r.next r.size r.sha r.status r.keep ≡ log_of s.id s.archived s.inc s.thread s.sequence s.first s.next s.size s.sha s.status s.keep = cc (e_archived, e_inc, e_thread, e_sequence, e_first, e_next, e_size, e_sha, e_status, e_keep, same_key) in
     sym (log_is r) ∙ made ∙ log_is s
 
+-- ---- ending
+
+pub record EndingTold (e : Ending) (m n0 n2 n3 n4 : ℕ) (s1 : List ℕ) (x y : List ℕ) : Type 0 where
+  pub size : n0 ≡ e.size
+  pub sha : s1 ≡ e.sha
+  pub status : n2 ≡ status_code e.status
+  pub keep : n3 ≡ flag e.keep
+  pub count : n4 ≡ m
+  pub rest : x ≡ y
+
+pub ending_told : (e : Ending) (m n0 n2 n3 n4 : ℕ) (s1 : List ℕ) (x y : List ℕ) → EndingFrontFits e → m < 2 ^ 64 → n0 < 2 ^ 64 → length s1 ≡ 32 → n4 < 2 ^ 64 → eight n0 ++ (s1 ++ (n2 ∷ (n3 ∷ (eight n4 ++ x)))) ≡ ending_front e m ++ y → EndingTold e m n0 n2 n3 n4 s1 x y
+ending_told e m n0 n2 n3 n4 s1 x y fits lm l0 l1 l4 is =
+    let t0 = eight_same n0 e.size _ _ l0 fits.size (is ∙ ending_fields e m y) in
+    let t1 = fronts_same s1 e.sha _ _ (l1 ∙ sym fits.sha) t0.1 in
+    let t2 = cons_same n2 (status_code e.status) _ _ t1.1 in
+    let t3 = cons_same n3 (flag e.keep) _ _ t2.1 in
+    let t4 = eight_same n4 m _ _ l4 lm t3.1 in
+    record { size = t0.0; sha = t1.0; status = t2.0; keep = t3.0; count = t4.0; rest = t4.1 }
+
+pub length-ending : (e : Ending) (n : ℕ) → EndingFrontFits e → length (ending_front e n) ≡ 50
+unfolding ending_front
+length-ending e n fits = let digest = fits.sha in simp (length-append, length-eight) (omega arith)
+
 -- ---- piece
 
-pub record PieceTold (r : PieceEntry) (m n0 n1 n2 n3 n4 n5 n6 n7 n8 n10 n11 n12 : ℕ) (s9 : List ℕ) (x y : List ℕ) : Type 0 where
+pub record PieceTold (r : PieceEntry) (n0 n1 n2 n3 n4 n5 n6 n7 : ℕ) (x y : List ℕ) : Type 0 where
   pub copy : n0 ≡ flag r.copy
   pub kind : n1 ≡ kind_code r.kind
   pub inc : n2 ≡ r.inc
@@ -259,16 +285,11 @@ pub record PieceTold (r : PieceEntry) (m n0 n1 n2 n3 n4 n5 n6 n7 n8 n10 n11 n12 
   pub checkpoint : n5 ≡ r.checkpoint
   pub high : n6 ≡ r.high
   pub rows : n7 ≡ r.rows
-  pub size : n8 ≡ r.size
-  pub sha : s9 ≡ r.sha
-  pub status : n10 ≡ status_code r.status
-  pub keep : n11 ≡ flag r.keep
-  pub count : n12 ≡ m
   pub rest : x ≡ y
 
-pub piece_told : (r : PieceEntry) (m n0 n1 n2 n3 n4 n5 n6 n7 n8 n10 n11 n12 : ℕ) (s9 : List ℕ) (x y : List ℕ) → PieceHeadFits r → m < 2 ^ 64 → n2 < 2 ^ 32 → n3 < 2 ^ 32 → n4 < 2 ^ 64 → n5 < 2 ^ 64 → n6 < 2 ^ 64 → n7 < 2 ^ 32 → n8 < 2 ^ 64 → length s9 ≡ 32 → n12 < 2 ^ 64 → n0 ∷ (n1 ∷ (four n2 ++ (four n3 ++ (eight n4 ++ (eight n5 ++ (eight n6 ++ (four n7 ++ (eight n8 ++ (s9 ++ (n10 ∷ (n11 ∷ (eight n12 ++ x)))))))))))) ≡ piece_head r m ++ y → PieceTold r m n0 n1 n2 n3 n4 n5 n6 n7 n8 n10 n11 n12 s9 x y
-piece_told r m n0 n1 n2 n3 n4 n5 n6 n7 n8 n10 n11 n12 s9 x y fits lm l2 l3 l4 l5 l6 l7 l8 l9 l12 e =
-    let t0 = cons_same n0 (flag r.copy) _ _ (e ∙ piece_fields r m y) in
+pub piece_told : (r : PieceEntry) (n0 n1 n2 n3 n4 n5 n6 n7 : ℕ) (x y : List ℕ) → PieceHeadFits r → n2 < 2 ^ 32 → n3 < 2 ^ 32 → n4 < 2 ^ 64 → n5 < 2 ^ 64 → n6 < 2 ^ 64 → n7 < 2 ^ 32 → n0 ∷ (n1 ∷ (four n2 ++ (four n3 ++ (eight n4 ++ (eight n5 ++ (eight n6 ++ (four n7 ++ x))))))) ≡ piece_head r ++ y → PieceTold r n0 n1 n2 n3 n4 n5 n6 n7 x y
+piece_told r n0 n1 n2 n3 n4 n5 n6 n7 x y fits l2 l3 l4 l5 l6 l7 e =
+    let t0 = cons_same n0 (flag r.copy) _ _ (e ∙ piece_fields r y) in
     let t1 = cons_same n1 (kind_code r.kind) _ _ t0.1 in
     let t2 = four_same n2 r.inc _ _ l2 fits.inc t1.1 in
     let t3 = four_same n3 r.file _ _ l3 fits.file t2.1 in
@@ -276,16 +297,11 @@ piece_told r m n0 n1 n2 n3 n4 n5 n6 n7 n8 n10 n11 n12 s9 x y fits lm l2 l3 l4 l5
     let t5 = eight_same n5 r.checkpoint _ _ l5 fits.checkpoint t4.1 in
     let t6 = eight_same n6 r.high _ _ l6 fits.high t5.1 in
     let t7 = four_same n7 r.rows _ _ l7 fits.rows t6.1 in
-    let t8 = eight_same n8 r.size _ _ l8 fits.size t7.1 in
-    let t9 = fronts_same s9 r.sha _ _ (l9 ∙ sym fits.sha) t8.1 in
-    let t10 = cons_same n10 (status_code r.status) _ _ t9.1 in
-    let t11 = cons_same n11 (flag r.keep) _ _ t10.1 in
-    let t12 = eight_same n12 m _ _ l12 lm t11.1 in
-    record { copy = t0.0; kind = t1.0; inc = t2.0; file = t3.0; from = t4.0; checkpoint = t5.0; high = t6.0; rows = t7.0; size = t8.0; sha = t9.0; status = t10.0; keep = t11.0; count = t12.0; rest = t12.1 }
+    record { copy = t0.0; kind = t1.0; inc = t2.0; file = t3.0; from = t4.0; checkpoint = t5.0; high = t6.0; rows = t7.0; rest = t7.1 }
 
-pub length-piece : (r : PieceEntry) (n : ℕ) → PieceHeadFits r → length (piece_head r n) ≡ 88
+pub length-piece : (r : PieceEntry) → length (piece_head r) ≡ 38
 unfolding piece_head
-length-piece r n fits = let digest = fits.sha in simp (length-append, length-four, length-eight) (omega arith)
+length-piece r = simp (length-append, length-four, length-eight)
 
 -- ---- mark
 
@@ -394,3 +410,43 @@ head_same r s fr fs e =
     let e_scn : r.scn ≡ s.scn = told.scn in
     let made : head_of r.opened r.inc r.scn ≡ head_of s.opened s.inc s.scn = cc (e_opened, e_inc, e_scn) in
     sym (head_is r) ∙ made ∙ head_is s
+
+-- ---- set
+
+pub record SetPartTold (p : SetPart) (n0 n1 n2 n3 n4 : ℕ) (x y : List ℕ) : Type 0 where
+  pub file : n0 ≡ p.file
+  pub kind : n1 ≡ kind_code p.kind
+  pub from : n2 ≡ p.from
+  pub high : n3 ≡ p.high
+  pub rows : n4 ≡ p.rows
+  pub rest : x ≡ y
+
+pub set_part_told : (p : SetPart) (n0 n1 n2 n3 n4 : ℕ) (x y : List ℕ) → SetPartFits p → n0 < 2 ^ 32 → n2 < 2 ^ 64 → n3 < 2 ^ 64 → n4 < 2 ^ 32 → four n0 ++ (n1 ∷ (eight n2 ++ (eight n3 ++ (four n4 ++ x)))) ≡ set_part_bytes p ++ y → SetPartTold p n0 n1 n2 n3 n4 x y
+set_part_told p n0 n1 n2 n3 n4 x y fits l0 l2 l3 l4 e =
+    let t0 = four_same n0 p.file _ _ l0 fits.file (e ∙ set_part_fields p y) in
+    let t1 = cons_same n1 (kind_code p.kind) _ _ t0.1 in
+    let t2 = eight_same n2 p.from _ _ l2 fits.from t1.1 in
+    let t3 = eight_same n3 p.high _ _ l3 fits.high t2.1 in
+    let t4 = four_same n4 p.rows _ _ l4 fits.rows t3.1 in
+    record { file = t0.0; kind = t1.0; from = t2.0; high = t3.0; rows = t4.0; rest = t4.1 }
+
+pub length-set_part : (p : SetPart) → length (set_part_bytes p) ≡ 25
+unfolding set_part_bytes
+length-set_part p = simp (length-append, length-four, length-eight)
+
+pub record SetTold (r : SetEntry) (m n0 n1 n2 : ℕ) (x y : List ℕ) : Type 0 where
+  pub inc : n0 ≡ r.inc
+  pub checkpoint : n1 ≡ r.checkpoint
+  pub count : n2 ≡ m
+  pub rest : x ≡ y
+
+pub set_told : (r : SetEntry) (m n0 n1 n2 : ℕ) (x y : List ℕ) → SetFits r → m < 2 ^ 64 → n0 < 2 ^ 32 → n1 < 2 ^ 64 → n2 < 2 ^ 64 → four n0 ++ (eight n1 ++ (eight n2 ++ x)) ≡ set_head r m ++ y → SetTold r m n0 n1 n2 x y
+set_told r m n0 n1 n2 x y fits lm l0 l1 l2 e =
+    let t0 = four_same n0 r.inc _ _ l0 fits.inc (e ∙ set_fields r m y) in
+    let t1 = eight_same n1 r.checkpoint _ _ l1 fits.checkpoint t0.1 in
+    let t2 = eight_same n2 m _ _ l2 lm t1.1 in
+    record { inc = t0.0; checkpoint = t1.0; count = t2.0; rest = t2.1 }
+
+pub length-set : (r : SetEntry) (n : ℕ) → length (set_head r n) ≡ 20
+unfolding set_head
+length-set r n = simp (length-append, length-four, length-eight)

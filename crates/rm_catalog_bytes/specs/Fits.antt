@@ -1,5 +1,5 @@
 -- The fields of a record fit their types, as of every record that is at hand.
-use Rattle.std.specs.Prelude.{◌≡◌, ◌<◌, ◌^◌, length, IsUtf8}
+use Rattle.std.specs.Prelude.{◌≡◌, ◌<◌, ◌^◌, length, All, IsUtf8}
 use Rattle.rm_catalog.specs.declared.record.BaseEntry.{BaseEntry}
 use Rattle.rm_catalog.specs.declared.record.IncarnationEntry.{IncarnationEntry}
 use Rattle.rm_catalog.specs.declared.record.DatafileEntry.{DatafileEntry}
@@ -8,9 +8,12 @@ use Rattle.rm_catalog.specs.declared.record.PieceEntry.{PieceEntry}
 use Rattle.rm_catalog.specs.declared.record.MarkEntry.{MarkEntry}
 use Rattle.rm_catalog.specs.declared.record.PartEntry.{PartEntry}
 use Rattle.rm_catalog.specs.declared.record.HeadEntry.{HeadEntry}
+use Rattle.rm_catalog.specs.declared.record.SetEntry.{SetEntry}
+use Rattle.rm_catalog.specs.declared.record.SetPart.{SetPart}
 use Rattle.rm_catalog.specs.declared.record.Record.{Record}
-use Rattle.rm_catalog_bytes.specs.Spelling.{policy_number}
-use Rattle.rm_catalog.specs.declared.record.Record.TheVariants.{Base, Incarnation, Datafile, Log, Piece, Mark, Part, Head}
+use Rattle.rm_catalog.specs.declared.record.Record.TheVariants.{Base, Incarnation, Datafile, Log, Piece, Mark, Part, Head, Set}
+use Rattle.rm_catalog_bytes.specs.declared.ending.Ending.{Ending}
+use Rattle.rm_catalog_bytes.specs.Spelling.{policy_number, piece_ending, set_ending}
 
 pub record BaseFits (r : BaseEntry) : Type 0 where
   pub dbid : r.dbid < 2 ^ 32
@@ -38,7 +41,17 @@ pub record LogFits (r : LogEntry) : Type 0 where
   pub size : r.size < 2 ^ 64
   pub sha : length r.sha ≡ 32
 
--- all but the tag and the moment
+pub record EndingFrontFits (e : Ending) : Type 0 where
+  pub size : e.size < 2 ^ 64
+  pub sha : length e.sha ≡ 32
+
+pub record EndingFits (e : Ending) : Type 0 where
+  pub front : EndingFrontFits e
+  pub tag : length e.tag < 2 ^ 64
+  pub letters : IsUtf8 e.tag
+  pub moment : e.moment < 2 ^ 64
+
+-- all but the ending
 pub record PieceHeadFits (r : PieceEntry) : Type 0 where
   pub inc : r.inc < 2 ^ 32
   pub file : r.file < 2 ^ 32
@@ -46,14 +59,10 @@ pub record PieceHeadFits (r : PieceEntry) : Type 0 where
   pub checkpoint : r.checkpoint < 2 ^ 64
   pub high : r.high < 2 ^ 64
   pub rows : r.rows < 2 ^ 32
-  pub size : r.size < 2 ^ 64
-  pub sha : length r.sha ≡ 32
 
 pub record PieceFits (r : PieceEntry) : Type 0 where
   pub head : PieceHeadFits r
-  pub tag : length r.tag < 2 ^ 64
-  pub letters : IsUtf8 r.tag
-  pub moment : r.moment < 2 ^ 64
+  pub ending : EndingFits (piece_ending r)
 
 pub record MarkFits (r : MarkEntry) : Type 0 where
   pub moment : r.moment < 2 ^ 64
@@ -69,6 +78,19 @@ pub record HeadFits (r : HeadEntry) : Type 0 where
   pub inc : r.inc < 2 ^ 32
   pub scn : r.scn < 2 ^ 64
 
+pub record SetPartFits (p : SetPart) : Type 0 where
+  pub file : p.file < 2 ^ 32
+  pub from : p.from < 2 ^ 64
+  pub high : p.high < 2 ^ 64
+  pub rows : p.rows < 2 ^ 32
+
+pub record SetFits (r : SetEntry) : Type 0 where
+  pub inc : r.inc < 2 ^ 32
+  pub checkpoint : r.checkpoint < 2 ^ 64
+  pub count : length r.parts < 2 ^ 64
+  pub parts : All SetPartFits r.parts
+  pub ending : EndingFits (set_ending r)
+
 -- each number fits its type, a digest has 32 bytes, and a tag is UTF-8
 abbrev pub Fits : Record → Type 0
 Fits (Base r) = BaseFits r
@@ -79,3 +101,4 @@ Fits (Piece r) = PieceFits r
 Fits (Mark r) = MarkFits r
 Fits (Part r) = PartFits r
 Fits (Head r) = HeadFits r
+Fits (Set r) = SetFits r

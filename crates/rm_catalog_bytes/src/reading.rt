@@ -1,10 +1,6 @@
 //! A record from its key and its bytes.
-ghost use Rattle.std.specs.Prelude.{◌≡◌, ◌≢◌, ◌+◌, ◌≤◌, ◌<◌, ◌^◌, ◌++◌, ℕ, Bool, List, length, IfOk, IfErr, IfSome, IfNone, IsUtf8};
+ghost use Rattle.std.specs.Prelude.{◌≡◌, ◌≢◌, ◌+◌, ◌≤◌, ◌++◌, ℕ, List, length, IfOk, IfSome, IfNone};
 ghost use Rattle.rm_base.specs.Formats.{Reads};
-ghost use Rattle.rm_base.specs.declared.faults.FormatFault.TheVariants.{NoMemory};
-ghost use Rattle.rm_base.specs.declared.kinds.Kind.{Kind};
-ghost use Rattle.rm_base.specs.declared.kinds.Status.{Status};
-ghost use Rattle.rm_base.specs.declared.kinds.Policy.{Policy};
 ghost use Rattle.rm_catalog.specs.Keys.{key_of};
 ghost use Rattle.rm_catalog.specs.declared.record.BaseEntry.{BaseEntry};
 ghost use Rattle.rm_catalog.specs.declared.record.IncarnationEntry.{IncarnationEntry};
@@ -15,66 +11,20 @@ ghost use Rattle.rm_catalog.specs.declared.record.LogEntry.{LogEntry};
 ghost use Rattle.rm_catalog.specs.declared.record.PieceEntry.{PieceEntry};
 ghost use Rattle.rm_catalog.specs.declared.record.HeadEntry.{HeadEntry};
 ghost use Rattle.rm_catalog.specs.declared.record.Record.{Record};
-ghost use Rattle.rm_catalog_bytes.specs.Spelling.{flag, status_code, kind_code, policy_code, policy_number, base_bytes, incarnation_bytes, datafile_bytes, log_bytes, piece_head, piece_bytes, mark_bytes, part_bytes, head_bytes, body_of};
+ghost use Rattle.rm_catalog_bytes.specs.Spelling.{base_bytes, incarnation_bytes, datafile_bytes, log_bytes, piece_head, piece_ending, piece_bytes, mark_bytes, part_bytes, head_bytes, body_of};
 ghost use Rattle.rm_catalog_bytes.specs.Fits.{BaseFits, IncarnationFits, DatafileFits, LogFits, PieceFits, PieceHeadFits, MarkFits, PartFits, HeadFits, Fits};
 
+use crate::codes::{flag_of, kind_of, policy_of, status_of};
+use crate::ending::{Ending, ending_of};
 use crate::numbers::{take_digest, take_u32, take_u64};
+use crate::sets::set_of;
+use rm_base::FormatFault;
 use rm_base::bytes::take_u8;
-use rm_base::{FormatFault, Kind, Policy, Status, Text};
 use rm_catalog::{
     BaseEntry, DatafileEntry, HeadEntry, IncarnationEntry, Key, LogEntry, MarkEntry, PartEntry,
     PieceEntry, Record,
 };
 use std::alloc::Global;
-
-fn flag_of(code: u8) -> Option<bool>
-    ensures some { IfSome result (λ b. flag b ≡ code) }
-    ensures none { IfNone result ((b : Bool) → flag b ≢ code) }
-{
-    match code {
-        0 => Some(false),
-        1 => Some(true),
-        _ => None,
-    }
-}
-
-fn status_of(code: u8) -> Option<Status>
-    ensures some { IfSome result (λ s. status_code s ≡ code) }
-    ensures none { IfNone result ((s : Status) → status_code s ≢ code) }
-{
-    match code {
-        1 => Some(Status::Available),
-        2 => Some(Status::Unavailable),
-        3 => Some(Status::Expired),
-        _ => None,
-    }
-}
-
-fn kind_of(code: u8) -> Option<Kind>
-    ensures some { IfSome result (λ k. kind_code k ≡ code) }
-    ensures none { IfNone result ((k : Kind) → kind_code k ≢ code) }
-{
-    match code {
-        1 => Some(Kind::Full),
-        2 => Some(Kind::Level0),
-        3 => Some(Kind::Level1),
-        4 => Some(Kind::Place),
-        _ => None,
-    }
-}
-
-fn policy_of(code: u8, n: u32) -> Option<Policy>
-    ensures code { IfSome result (λ p. policy_code p ≡ code) }
-    ensures number { IfSome result (λ p. policy_number p ≡ n) }
-    ensures none { IfNone result ((p : Policy) → policy_code p ≡ code → policy_number p ≢ n) }
-{
-    match code {
-        1 => Some(Policy::Window(n)),
-        2 => Some(Policy::Redundancy(n)),
-        3 if n == 0 => Some(Policy::Nothing),
-        _ => None,
-    }
-}
 
 #[tactic(auto, using(crate::proofs::Bodies::base_fields))]
 fn take_base(bytes: &[u8]) -> Option<(BaseEntry, &[u8])>
@@ -196,16 +146,16 @@ fn take_log(id: u32, bytes: &[u8]) -> Option<(LogEntry, &[u8])>
     Some((entry, rest))
 }
 
-// A piece without its tag and its moment, the length of its tag, and what follows.
+// A piece with this ending, and what follows the fields before it.
 #[tactic(auto, using(crate::proofs::Bodies::piece_fields))]
-fn take_piece_head(alloc: Global, id: u32, bytes: &[u8]) -> Option<(PieceEntry, u64, &[u8])>
-    requires { 88 ≤ length bytes.now }
-    ensures parts { IfSome result (λ r. bytes.now ≡ piece_head r.0 r.1 ++ r.2.now) }
-    ensures len { IfSome result (λ r. length bytes.now ≡ 88 + length r.2.now) }
+fn take_piece_head(id: u32, ending: Ending, bytes: &[u8]) -> Option<(PieceEntry, &[u8])>
+    requires { 38 ≤ length bytes.now }
+    ensures parts { IfSome result (λ r. bytes.now ≡ piece_head r.0 ++ r.1.now) }
+    ensures len { IfSome result (λ r. length bytes.now ≡ 38 + length r.1.now) }
     ensures fits { IfSome result (λ r. PieceHeadFits r.0) }
+    ensures ending { IfSome result (λ r. piece_ending r.0 ≡ ending) }
     ensures id { IfSome result (λ r. r.0.id ≡ id) }
-    ensures count { IfSome result (λ r. r.1 < 2 ^ 64) }
-    ensures none { IfNone result ((r : PieceEntry) (n : ℕ) (rest : List ℕ) → PieceHeadFits r → n < 2 ^ 64 → bytes.now ≢ piece_head r n ++ rest) }
+    ensures none { IfNone result ((r : PieceEntry) (rest : List ℕ) → PieceHeadFits r → bytes.now ≢ piece_head r ++ rest) }
 {
     let (copy, rest) = take_u8(bytes);
     let (kind, rest) = take_u8(rest);
@@ -215,23 +165,20 @@ fn take_piece_head(alloc: Global, id: u32, bytes: &[u8]) -> Option<(PieceEntry, 
     let (checkpoint, rest) = take_u64(rest);
     let (high, rest) = take_u64(rest);
     let (rows, rest) = take_u32(rest);
-    let (size, rest) = take_u64(rest);
-    let (sha, rest) = take_digest(rest);
-    let (status, rest) = take_u8(rest);
-    let (keep, rest) = take_u8(rest);
-    let (count, rest) = take_u64(rest);
     let Some(copy) = flag_of(copy) else {
         return None;
     };
     let Some(kind) = kind_of(kind) else {
         return None;
     };
-    let Some(status) = status_of(status) else {
-        return None;
-    };
-    let Some(keep) = flag_of(keep) else {
-        return None;
-    };
+    let Ending {
+        size,
+        sha,
+        status,
+        keep,
+        tag,
+        moment,
+    } = ending;
     let entry = PieceEntry {
         id,
         copy,
@@ -246,10 +193,10 @@ fn take_piece_head(alloc: Global, id: u32, bytes: &[u8]) -> Option<(PieceEntry, 
         sha,
         status,
         keep,
-        tag: Text::new(alloc),
-        moment: 0,
+        tag,
+        moment,
     };
-    Some((entry, count, rest))
+    Some((entry, rest))
 }
 
 #[tactic(auto, using(crate::proofs::Bodies::mark_fields))]
@@ -406,45 +353,21 @@ fn head_of(bytes: &[u8]) -> Option<HeadEntry>
     Some(entry)
 }
 
-// The text of these bytes, where they are UTF-8.
-fn text_of(alloc: Global, letters: &[u8]) -> Result<Text, FormatFault>
-    ensures text { IfOk result (λ t. t ≡ letters.now) }
-    ensures letters { IfOk result (λ _. IsUtf8 letters.now) }
-    ensures only { IfErr result (λ fault. IsUtf8 letters.now → fault ≡ NoMemory) }
-{
-    let Ok(letters) = str::from_utf8(letters) else {
-        return Err(FormatFault::Bad);
-    };
-    match String::from_str(alloc, letters) {
-        Ok(string) => Ok(Text::from_string(string)),
-        Err(_) => Err(FormatFault::NoMemory),
-    }
-}
-
 fn piece_of(alloc: Global, id: u32, bytes: &[u8]) -> Result<PieceEntry, FormatFault>
     ensures found { IfOk result (λ r. bytes.now ≡ piece_bytes r) }
     ensures fits { IfOk result (λ r. PieceFits r) }
     ensures id { IfOk result (λ r. r.id ≡ id) }
     ensures only { (r : PieceEntry) → PieceFits r → r.id ≡ id → bytes.now ≡ piece_bytes r → Reads result r }
 {
-    if bytes.len() < 96 {
+    if bytes.len() < 38 {
         return Err(FormatFault::Bad);
     }
-    let Some((head, count, rest)) = take_piece_head(alloc, id, bytes) else {
+    let (front, rest) = bytes.split_at(38);
+    let ending = ending_of(alloc, rest)?;
+    let Some((entry, _)) = take_piece_head(id, ending, front) else {
         return Err(FormatFault::Bad);
     };
-    let len = rest.len() - 8;
-    if len as u64 != count {
-        return Err(FormatFault::Bad);
-    }
-    let (letters, rest) = rest.split_at(len);
-    let tag = text_of(alloc, letters)?;
-    let (moment, _) = take_u64(rest);
-    Ok(PieceEntry {
-        tag,
-        moment,
-        ..head
-    })
+    Ok(entry)
 }
 
 /// The record of this key that the bytes spell. `Bad` exactly where they spell none.
@@ -486,6 +409,7 @@ pub fn decode_record(alloc: Global, key: Key, bytes: &[u8]) -> Result<Record, Fo
             Some(r) => Ok(Record::Head(r)),
             None => Err(FormatFault::Bad),
         },
+        9 => Ok(Record::Set(set_of(alloc, key.id, bytes)?)),
         _ => Err(FormatFault::Bad),
     }
 }

@@ -1,61 +1,18 @@
 //! A record as bytes.
-ghost use Rattle.std.specs.Prelude.{◌≡◌, ◌<◌, ◌^◌, ◌++◌, length, OnOk, IfOk};
-ghost use Rattle.rm_catalog_bytes.specs.Spelling.{flag, status_code, kind_code, policy_code, policy_number, base_bytes, incarnation_bytes, datafile_bytes, log_bytes, piece_head, piece_bytes, mark_bytes, part_bytes, head_bytes, body_of};
+ghost use Rattle.std.specs.Prelude.{◌≡◌, ◌++◌, OnOk, IfOk};
+ghost use Rattle.rm_catalog_bytes.specs.Spelling.{base_bytes, incarnation_bytes, datafile_bytes, log_bytes, piece_head, piece_bytes, mark_bytes, part_bytes, head_bytes, body_of};
 ghost use Rattle.rm_catalog_bytes.specs.Fits.{BaseFits, IncarnationFits, DatafileFits, LogFits, PieceFits, PieceHeadFits, MarkFits, PartFits, HeadFits, Fits};
 
+use crate::codes::{flag, kind_code, policy_code, policy_number, status_code};
+use crate::ending::push_ending;
 use crate::numbers::{push_u32, push_u64};
-use rm_base::{Kind, NoMemory, Policy, Seq, Status};
+use crate::sets::push_set;
+use rm_base::{NoMemory, Seq};
 use rm_catalog::{
     BaseEntry, DatafileEntry, HeadEntry, IncarnationEntry, LogEntry, MarkEntry, PartEntry,
     PieceEntry, Record,
 };
 use std::alloc::Global;
-
-fn flag(value: bool) -> u8
-    ensures { result ≡ flag value }
-{
-    if value { 1 } else { 0 }
-}
-
-fn status_code(status: Status) -> u8
-    ensures { result ≡ status_code status }
-{
-    match status {
-        Status::Available => 1,
-        Status::Unavailable => 2,
-        Status::Expired => 3,
-    }
-}
-
-fn kind_code(kind: Kind) -> u8
-    ensures { result ≡ kind_code kind }
-{
-    match kind {
-        Kind::Full => 1,
-        Kind::Level0 => 2,
-        Kind::Level1 => 3,
-        Kind::Place => 4,
-    }
-}
-
-fn policy_code(policy: Policy) -> u8
-    ensures { result ≡ policy_code policy }
-{
-    match policy {
-        Policy::Window(_) => 1,
-        Policy::Redundancy(_) => 2,
-        Policy::Nothing => 3,
-    }
-}
-
-fn policy_number(policy: Policy) -> u32
-    ensures { result ≡ policy_number policy }
-{
-    match policy {
-        Policy::Window(n) | Policy::Redundancy(n) => n,
-        Policy::Nothing => 0,
-    }
-}
 
 #[tactic(auto, unfolding(crate::specs::Spelling::base_bytes))]
 fn push_base(out: &mut Vec<u8>, r: &BaseEntry) -> Result<(), NoMemory>
@@ -111,11 +68,11 @@ fn push_log(out: &mut Vec<u8>, r: &LogEntry) -> Result<(), NoMemory>
     Ok(())
 }
 
-// Appends what stands before the bytes of the tag.
+// Appends what stands before the ending.
 #[tactic(auto, unfolding(crate::specs::Spelling::piece_head))]
 fn push_piece_head(out: &mut Vec<u8>, r: &PieceEntry) -> Result<(), NoMemory>
-    ensures bytes { OnOk result (out.new.items ≡ out.old.items ++ piece_head r.now (length r.now.tag)) }
-    ensures fits { OnOk result (PieceHeadFits r.now × (length r.now.tag < 2 ^ 64)) }
+    ensures bytes { OnOk result (out.new.items ≡ out.old.items ++ piece_head r.now) }
+    ensures fits { OnOk result (PieceHeadFits r.now) }
 {
     out.extend_from_slice(&[flag(r.copy), kind_code(r.kind)])?;
     push_u32(out, r.inc)?;
@@ -123,11 +80,7 @@ fn push_piece_head(out: &mut Vec<u8>, r: &PieceEntry) -> Result<(), NoMemory>
     push_u64(out, r.from)?;
     push_u64(out, r.checkpoint)?;
     push_u64(out, r.high)?;
-    push_u32(out, r.rows)?;
-    push_u64(out, r.size)?;
-    out.extend_from_slice(&r.sha)?;
-    out.extend_from_slice(&[status_code(r.status), flag(r.keep)])?;
-    push_u64(out, r.tag.as_bytes().len() as u64)
+    push_u32(out, r.rows)
 }
 
 fn push_piece(out: &mut Vec<u8>, r: &PieceEntry) -> Result<(), NoMemory>
@@ -135,8 +88,7 @@ fn push_piece(out: &mut Vec<u8>, r: &PieceEntry) -> Result<(), NoMemory>
     ensures fits { OnOk result (PieceFits r.now) }
 {
     push_piece_head(out, r)?;
-    out.extend_from_slice(r.tag.as_str().as_bytes())?;
-    push_u64(out, r.moment)
+    push_ending(out, r.size, &r.sha, r.status, r.keep, &r.tag, r.moment)
 }
 
 #[tactic(auto, unfolding(crate::specs::Spelling::mark_bytes))]
@@ -186,6 +138,7 @@ pub fn encode_record(alloc: Global, entry: &Record) -> Result<Seq<u8>, NoMemory>
         Record::Mark(r) => push_mark(&mut out, r)?,
         Record::Part(r) => push_part(&mut out, r)?,
         Record::Head(r) => push_head(&mut out, r)?,
+        Record::Set(r) => push_set(&mut out, r)?,
     }
     Ok(Seq::from_vec(out))
 }

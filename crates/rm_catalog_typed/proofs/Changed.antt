@@ -3,7 +3,7 @@ use Rattle.std.proofs.Common.{◌≡◌, ◌∙◌, ℕ, ◌+◌, ◌-◌, ◌<�
 use Rattle.std.specs.Prelude.{IfSome, nat_lt}
 use Rattle.std.specs.List.{filter}
 use Rattle.std.proofs.lemmas.Bool.{cases_lt, lt-ltb, le-ltb}
-use Rattle.std.proofs.lemmas.List.{append_assoc, map-append}
+use Rattle.std.proofs.lemmas.List.{append-nil, append_assoc, map-append}
 use Rattle.std.proofs.lemmas.List.Elements.{All-nil, All-cons, All-map, All-push, All-weaker}
 use Rattle.rm_base.specs.declared.block.Mark.{Mark}
 use Rattle.rm_history.specs.declared.tree.Incarnation.{Incarnation}
@@ -19,19 +19,20 @@ use Rattle.rm_catalog.specs.declared.record.PartEntry.{PartEntry}
 use Rattle.rm_catalog.specs.declared.record.PieceEntry.{PieceEntry}
 use Rattle.rm_catalog.specs.declared.record.Record.{Record}
 use Rattle.rm_catalog.specs.declared.record.Record.TheVariants as kind
+use Rattle.rm_catalog.specs.declared.record.SetEntry.{SetEntry}
 use Rattle.rm_catalog.specs.Edits.{above, after_edit, after_edits, below, place_of_edit}
 use Rattle.rm_catalog.specs.Keys.{place, place_of, place_of_key}
 use Rattle.rm_catalog.proofs.Filters.{above_all, above_append, above_none, below_none}
 use Rattle.rm_catalog_typed.specs.Ledger.{incarnation_record, datafile_record, mark_record}
-use Rattle.rm_catalog_typed.proofs.Order.{Runs, incarnations_of, datafiles_of, logs_of, pieces_of, marks_of, incarnations-run, datafiles-run, logs-run, pieces-run, marks-run, marks-few, runs-append, runs-lower, runs-objects, runs-within}
+use Rattle.rm_catalog_typed.proofs.Order.{Runs, incarnations_of, datafiles_of, logs_of, pieces_of, marks_of, sets_of, incarnations-run, datafiles-run, logs-run, pieces-run, marks-run, sets-run, marks-few, runs-append, runs-lower, runs-objects, runs-within}
 use Rattle.rm_catalog_typed.proofs.Parts.{IsPart, after_both, more_part, part_then, put_part}
 use Rattle.rm_catalog_typed.proofs.Sections.{numbered_part, replaced}
-use Rattle.rm_catalog_typed.specs.Changes.{EditsFollow, higher, lower, with_base, with_end_at, with_file, with_incarnation, with_log, with_mark, with_new_log, with_new_piece, with_piece, without_log, without_piece, part_drop, saved_edits, unsaved_edits, with_saved, without_saved}
+use Rattle.rm_catalog_typed.specs.Changes.{EditsFollow, higher, lower, with_base, with_end_at, with_file, with_incarnation, with_log, with_mark, with_new_log, with_new_piece, with_new_set, with_piece, with_set, without_log, without_piece, without_set, part_drop, saved_edits, unsaved_edits, with_saved, without_saved}
 use Rattle.rm_base.specs.Numbers.{last_scn}
 use Rattle.rm_catalog_typed.specs.Facts.{IsTypedCatalog, IsSaved}
-use Rattle.rm_catalog_typed.specs.Fitting.{FitsBranch, FitsFile, FitsLog, FitsMark, FitsNewLog, FitsNewPiece, FitsPiece}
+use Rattle.rm_catalog_typed.specs.Fitting.{FitsBranch, FitsFile, FitsLog, FitsMark, FitsNewLog, FitsNewPiece, FitsNewSet, FitsPiece, FitsSet}
 use Rattle.rm_catalog_typed.specs.TypedCatalog.{TypedCatalog, Saved, records_of, saved_records}
-use Rattle.rm_catalog_typed.proofs.Fitted.{branch_fits, drawn-log, drawn-piece, end_fits, file_fits, log-last, log_fits, mark_fits, next_fits, no_log_fits, no_piece_fits, piece-last, piece_fits, with_next}
+use Rattle.rm_catalog_typed.proofs.Fitted.{branch_fits, drawn-log, drawn-piece, drawn-set, end_fits, file_fits, log-last, log_fits, mark_fits, next_fits, no_log_fits, no_piece_fits, no_set_fits, piece-last, piece_fits, set-last, set_fits, with_next}
 
 -- a part without edits
 same_part : (low high : ℕ) (rs : List Record) → Runs low high rs → IsPart low high [] rs rs
@@ -52,7 +53,7 @@ drop_part low high key old new within up down same = record {
   same = same;
 }
 
--- the records of a saved site run on behind all others
+-- the records of a saved site run on behind all others but those of sets
 pub saved-run : (r : TypedCatalog) → IsTypedCatalog r → Runs (place 7 0) (place 9 0) (saved_records r.saved)
 unfolding Runs
 saved-run r is = decide r.saved is.saved
@@ -68,19 +69,20 @@ abbrev base_of : TypedCatalog → List Record
 base_of r = kind.Base r.ledger.base ∷ []
 
 -- edits kind by kind
-by-parts : (r s : TypedCatalog) (b t f l p m x : List Edit)
+by-parts : (r s : TypedCatalog) (b t f l p m x z : List Edit)
     → IsPart (place 1 0) (place 2 0) b (base_of r) (base_of s) → IsPart (place 2 1) (place 3 0) t (incarnations_of r.ledger) (incarnations_of s.ledger)
     → IsPart (place 3 1) (place 4 0) f (datafiles_of r.ledger) (datafiles_of s.ledger) → IsPart (place 4 1) (place 5 0) l (logs_of r.ledger) (logs_of s.ledger)
     → IsPart (place 5 1) (place 6 0) p (pieces_of r.ledger) (pieces_of s.ledger) → IsPart (place 6 1) (place 7 0) m (marks_of r.ledger) (marks_of s.ledger)
-    → IsPart (place 7 0) (place 9 0) x (saved_records r.saved) (saved_records s.saved)
-    → after_edits ((b ++ ((((t ++ f) ++ l) ++ p) ++ m)) ++ x) (records_of r) ≡ records_of s
-by-parts r s b t f l p m x of-b of-t of-f of-l of-p of-m of-x =
+    → IsPart (place 7 0) (place 9 0) x (saved_records r.saved) (saved_records s.saved) → IsPart (place 9 1) (place 10 0) z (sets_of r.ledger) (sets_of s.ledger)
+    → after_edits (((b ++ ((((t ++ f) ++ l) ++ p) ++ m)) ++ x) ++ z) (records_of r) ≡ records_of s
+by-parts r s b t f l p m x z of-b of-t of-f of-l of-p of-m of-x of-z =
     let two = part_then (place 2 1) (place 3 0) (place 3 1) (place 4 0) _ _ _ _ _ _ (omega arith) (omega arith) (omega arith) of-t of-f in
     let three = part_then (place 2 1) (place 4 0) (place 4 1) (place 5 0) _ _ _ _ _ _ (omega arith) (omega arith) (omega arith) two of-l in
     let four = part_then (place 2 1) (place 5 0) (place 5 1) (place 6 0) _ _ _ _ _ _ (omega arith) (omega arith) (omega arith) three of-p in
     let five = part_then (place 2 1) (place 6 0) (place 6 1) (place 7 0) _ _ _ _ _ _ (omega arith) (omega arith) (omega arith) four of-m in
     let six = part_then (place 1 0) (place 2 0) (place 2 1) (place 7 0) _ _ _ _ _ _ (omega arith) (omega arith) (omega arith) of-b five in
-    let all = part_then (place 1 0) (place 7 0) (place 7 0) (place 9 0) _ _ _ _ _ _ (omega arith) (omega arith) (omega arith) six of-x in
+    let seven = part_then (place 1 0) (place 7 0) (place 7 0) (place 9 0) _ _ _ _ _ _ (omega arith) (omega arith) (omega arith) six of-x in
+    let all = part_then (place 1 0) (place 9 0) (place 9 1) (place 10 0) _ _ _ _ _ _ (omega arith) (omega arith) (omega arith) seven of-z in
     all.same
 
 base-run : (b : BaseEntry) → Runs (place 1 0) (place 2 0) (kind.Base b ∷ [])
@@ -113,6 +115,9 @@ module _ (r : TypedCatalog) (is : IsTypedCatalog r) where
 
   keep-x : IsPart (place 7 0) (place 9 0) [] (saved_records r.saved) (saved_records r.saved)
   keep-x = same_part (place 7 0) (place 9 0) (saved_records r.saved) (saved-run r is)
+
+  keep-z : IsPart (place 9 1) (place 10 0) [] (sets_of r.ledger) (sets_of r.ledger)
+  keep-z = same_part (place 9 1) (place 10 0) (sets_of r.ledger) (sets-run r.ledger is.ledger)
 
 same-order : (a b c d : ℕ) → (a < b → c < d) → (b ≤ a → d ≤ c) → nat_lt a b ≡ nat_lt c d
 same-order a b c d up down = elim (cases_lt a b) [ inl less ↦ lt-ltb a b less ∙ sym (lt-ltb c d (up less)) | inr le ↦ le-ltb a b le ∙ sym (le-ltb c d (down le)) ]
@@ -166,32 +171,32 @@ follows-then old mid new r s t first then = record { lead = λ rs from. then.lea
 module _ (old new : List Edit) (r t : TypedCatalog) (is : IsTypedCatalog r) where
   pub follows_base : (b : BaseEntry) → new ≡ old ++ Put (kind.Base b) ∷ [] → t ≡ with_base r b → EditsFollow old new r t
   follows_base b more out =
-      follows-of old new (Put (kind.Base b) ∷ []) r (with_base r b) t more (by-parts r (with_base r b) (Put (kind.Base b) ∷ []) [] [] [] [] [] []
+      follows-of old new (Put (kind.Base b) ∷ []) r (with_base r b) t more (by-parts r (with_base r b) (Put (kind.Base b) ∷ []) [] [] [] [] [] [] []
       (put_part (place 1 0) (place 2 0) (kind.Base b) (base_of r) (kind.Base b ∷ []) (omega arith, omega arith) (base-run r.ledger.base) (base-run b) refl)
-      (keep-t r is) (keep-f r is) (keep-l r is) (keep-p r is) (keep-m r is) (keep-x r is)) out
+      (keep-t r is) (keep-f r is) (keep-l r is) (keep-p r is) (keep-m r is) (keep-x r is) (keep-z r is)) out
 
   pub follows_end : (i end : ℕ) → IsThere r.ledger.tree i → end_of r.ledger.tree i ≤ end → end ≤ last_scn
       → new ≡ old ++ Put (incarnation_record i (record { parent = parent_of r.ledger.tree i; reset = reset_of r.ledger.tree i; end = end })) ∷ [] → t ≡ with_end_at r i end → EditsFollow old new r t
   follows_end i end there up last more out =
       let n : Incarnation = record { parent = parent_of r.ledger.tree i; reset = reset_of r.ledger.tree i; end = end } in
       let after = end_fits r i end is there up last in
-      follows-of old new (Put (incarnation_record i n) ∷ []) r (with_end_at r i end) t more (by-parts r (with_end_at r i end) [] (Put (incarnation_record i n) ∷ []) [] [] [] [] [] (keep-b r is)
+      follows-of old new (Put (incarnation_record i n) ∷ []) r (with_end_at r i end) t more (by-parts r (with_end_at r i end) [] (Put (incarnation_record i n) ∷ []) [] [] [] [] [] [] (keep-b r is)
       (put_part (place 2 1) (place 3 0) (incarnation_record i n) (incarnations_of r.ledger) (incarnations_of (with_end_at r i end).ledger) (omega arith, omega arith) (incarnations-run r.ledger is.ledger) (incarnations-run (with_end_at r i end).ledger after.ledger)
       (replaced n r.ledger.tree 1 (i - 1) i (omega arith) (omega arith) (omega arith)))
-      (keep-f r is) (keep-l r is) (keep-p r is) (keep-m r is) (keep-x r is)) out
+      (keep-f r is) (keep-l r is) (keep-p r is) (keep-m r is) (keep-x r is) (keep-z r is)) out
 
   pub follows_file : (d : Datafile) → FitsFile r d → new ≡ old ++ Put (datafile_record (length r.ledger.files + 1) d) ∷ [] → t ≡ with_file r d → EditsFollow old new r t
   follows_file d fits more out =
       let after = file_fits r d is fits in
-      follows-of old new (Put (datafile_record (length r.ledger.files + 1) d) ∷ []) r (with_file r d) t more (by-parts r (with_file r d) [] [] (Put (datafile_record (length r.ledger.files + 1) d) ∷ []) [] [] [] []
-      (keep-b r is) (keep-t r is) (numbered_part datafile_record 3 r.ledger.files (d ∷ []) (λ k x. refl) (omega arith)) (keep-l r is) (keep-p r is) (keep-m r is) (keep-x r is)) out
+      follows-of old new (Put (datafile_record (length r.ledger.files + 1) d) ∷ []) r (with_file r d) t more (by-parts r (with_file r d) [] [] (Put (datafile_record (length r.ledger.files + 1) d) ∷ []) [] [] [] [] []
+      (keep-b r is) (keep-t r is) (numbered_part datafile_record 3 r.ledger.files (d ∷ []) (λ k x. refl) (omega arith)) (keep-l r is) (keep-p r is) (keep-m r is) (keep-x r is) (keep-z r is)) out
 
   pub follows_mark : (m : Mark) → FitsMark r m → new ≡ old ++ Put (mark_record (length r.ledger.marks + 1) m) ∷ [] → t ≡ with_mark r m → EditsFollow old new r t
   follows_mark m fits more out =
       let after = mark_fits r m is fits in
       let most = marks-few (with_mark r m).ledger in
-      follows-of old new (Put (mark_record (length r.ledger.marks + 1) m) ∷ []) r (with_mark r m) t more (by-parts r (with_mark r m) [] [] [] [] [] (Put (mark_record (length r.ledger.marks + 1) m) ∷ []) []
-      (keep-b r is) (keep-t r is) (keep-f r is) (keep-l r is) (keep-p r is) (numbered_part mark_record 6 r.ledger.marks (m ∷ []) (λ k x. refl) (omega arith)) (keep-x r is)) out
+      follows-of old new (Put (mark_record (length r.ledger.marks + 1) m) ∷ []) r (with_mark r m) t more (by-parts r (with_mark r m) [] [] [] [] [] (Put (mark_record (length r.ledger.marks + 1) m) ∷ []) [] []
+      (keep-b r is) (keep-t r is) (keep-f r is) (keep-l r is) (keep-p r is) (numbered_part mark_record 6 r.ledger.marks (m ∷ []) (λ k x. refl) (omega arith)) (keep-x r is) (keep-z r is)) out
 
   pub follows_branch : (parent at moment : ℕ) → FitsBranch r parent at moment
       → new ≡ old ++ Put (incarnation_record (length r.ledger.tree + 1) (branched parent at)) ∷ Put (mark_record (length r.ledger.marks + 1) (first_mark r at moment)) ∷ [] → t ≡ with_incarnation r parent at moment → EditsFollow old new r t
@@ -200,12 +205,15 @@ module _ (old new : List Edit) (r t : TypedCatalog) (is : IsTypedCatalog r) wher
       let m = Put (mark_record (length r.ledger.marks + 1) (first_mark r at moment)) in
       let after = branch_fits r parent at moment is fits in
       let most = marks-few (with_incarnation r parent at moment).ledger in
-      follows-of old new (n ∷ m ∷ []) r (with_incarnation r parent at moment) t more (by-parts r (with_incarnation r parent at moment) [] (n ∷ []) [] [] [] (m ∷ []) []
+      follows-of old new (n ∷ m ∷ []) r (with_incarnation r parent at moment) t more (by-parts r (with_incarnation r parent at moment) [] (n ∷ []) [] [] [] (m ∷ []) [] []
       (keep-b r is) (numbered_part incarnation_record 2 r.ledger.tree (branched parent at ∷ []) (λ k x. refl) (omega arith)) (keep-f r is) (keep-l r is) (keep-p r is)
-      (numbered_part mark_record 6 r.ledger.marks (first_mark r at moment ∷ []) (λ k x. refl) (omega arith)) (keep-x r is)) out
+      (numbered_part mark_record 6 r.ledger.marks (first_mark r at moment ∷ []) (λ k x. refl) (omega arith)) (keep-x r is) (keep-z r is)) out
 
   logs-small : All (λ y. y.id < 4294967295) r.ledger.logs
   logs-small = All-weaker (λ y. (1 ≤ y.id) × (y.id < r.ledger.base.next_id)) (λ y. y.id < 4294967295) (λ y id. omega arith) r.ledger.logs is.ledger.ids.logs
+
+  sets-small : All (λ y. y.id < 4294967295) r.ledger.sets
+  sets-small = All-weaker (λ y. (1 ≤ y.id) × (y.id < r.ledger.base.next_id)) (λ y. y.id < 4294967295) (λ y id. omega arith) r.ledger.sets is.ledger.ids.sets
 
   pieces-small : All (λ y. y.id < 4294967295) r.ledger.pieces
   pieces-small = All-weaker (λ y. (1 ≤ y.id) × (y.id < r.ledger.base.next_id)) (λ y. y.id < 4294967295) (λ y id. omega arith) r.ledger.pieces is.ledger.ids.pieces
@@ -213,12 +221,17 @@ module _ (old new : List Edit) (r t : TypedCatalog) (is : IsTypedCatalog r) wher
   logs-follow : (e : Edit) (logs : List LogEntry) → IsPart (place 4 1) (place 5 0) (e ∷ []) (logs_of r.ledger) (map kind.Log logs) → new ≡ old ++ e ∷ [] → t ≡ record r { ledger = record r.ledger { logs = logs } } → EditsFollow old new r t
   logs-follow e logs part more out =
       let s = record r { ledger = record r.ledger { logs = logs } } in
-      follows-of old new (e ∷ []) r s t more (by-parts r s [] [] [] (e ∷ []) [] [] [] (keep-b r is) (keep-t r is) (keep-f r is) part (keep-p r is) (keep-m r is) (keep-x r is)) out
+      follows-of old new (e ∷ []) r s t more (by-parts r s [] [] [] (e ∷ []) [] [] [] [] (keep-b r is) (keep-t r is) (keep-f r is) part (keep-p r is) (keep-m r is) (keep-x r is) (keep-z r is)) out
 
   pieces-follow : (e : Edit) (pieces : List PieceEntry) → IsPart (place 5 1) (place 6 0) (e ∷ []) (pieces_of r.ledger) (map kind.Piece pieces) → new ≡ old ++ e ∷ [] → t ≡ record r { ledger = record r.ledger { pieces = pieces } } → EditsFollow old new r t
   pieces-follow e pieces part more out =
       let s = record r { ledger = record r.ledger { pieces = pieces } } in
-      follows-of old new (e ∷ []) r s t more (by-parts r s [] [] [] [] (e ∷ []) [] [] (keep-b r is) (keep-t r is) (keep-f r is) (keep-l r is) part (keep-m r is) (keep-x r is)) out
+      follows-of old new (e ∷ []) r s t more (by-parts r s [] [] [] [] (e ∷ []) [] [] [] (keep-b r is) (keep-t r is) (keep-f r is) (keep-l r is) part (keep-m r is) (keep-x r is) (keep-z r is)) out
+
+  sets-follow : (e : Edit) (sets : List SetEntry) → IsPart (place 9 1) (place 10 0) (e ∷ []) (sets_of r.ledger) (map kind.Set sets) → new ≡ old ++ e ∷ [] → t ≡ record r { ledger = record r.ledger { sets = sets } } → EditsFollow old new r t
+  sets-follow e sets part more out =
+      let s = record r { ledger = record r.ledger { sets = sets } } in
+      follows-of old new (e ∷ []) r s t more (by-parts r s [] [] [] [] [] [] [] (e ∷ []) (keep-b r is) (keep-t r is) (keep-f r is) (keep-l r is) (keep-p r is) (keep-m r is) (keep-x r is) part) out
 
   pub follows_log : (e : LogEntry) → FitsLog r e → new ≡ old ++ Put (kind.Log e) ∷ [] → t ≡ with_log r e → EditsFollow old new r t
   follows_log e fits =
@@ -246,6 +259,19 @@ module _ (old new : List Edit) (r t : TypedCatalog) (is : IsTypedCatalog r) wher
       (drop_part (place 5 1) (place 6 0) (record { kind = 5; id = n }) (pieces_of r.ledger) (pieces_of (without_piece r n).ledger) (omega arith, omega arith) (pieces-run r.ledger is.ledger) (pieces-run (without_piece r n).ledger (no_piece_fits r n is).ledger)
       (drop-one kind.Piece (λ x. x.id) 5 n (λ x. refl) (omega arith) (record { kind = 5; id = n }) refl r.ledger.pieces pieces-small))
 
+  pub follows_set : (e : SetEntry) → FitsSet r e → new ≡ old ++ Put (kind.Set e) ∷ [] → t ≡ with_set r e → EditsFollow old new r t
+  follows_set e fits =
+      let range = fits.id.range in
+      sets-follow (Put (kind.Set e)) (with_set r e).ledger.sets
+      (put_part (place 9 1) (place 10 0) (kind.Set e) (sets_of r.ledger) (sets_of (with_set r e).ledger) (omega arith, omega arith) (sets-run r.ledger is.ledger) (sets-run (with_set r e).ledger (set_fits r e is fits).ledger)
+      (put-one kind.Set (λ x. x.id) 9 e.id (λ x. refl) (omega arith) e refl r.ledger.sets sets-small))
+
+  pub follows_no_set : (n : ℕ) → 1 ≤ n → n < 4294967296 → new ≡ old ++ Drop (record { kind = 9; id = n }) ∷ [] → t ≡ without_set r n → EditsFollow old new r t
+  follows_no_set n low small =
+      sets-follow (Drop (record { kind = 9; id = n })) (without_set r n).ledger.sets
+      (drop_part (place 9 1) (place 10 0) (record { kind = 9; id = n }) (sets_of r.ledger) (sets_of (without_set r n).ledger) (omega arith, omega arith) (sets-run r.ledger is.ledger) (sets-run (without_set r n).ledger (no_set_fits r n is).ledger)
+      (drop-one kind.Set (λ x. x.id) 9 n (λ x. refl) (omega arith) (record { kind = 9; id = n }) refl r.ledger.sets sets-small))
+
 -- a new object after the id that it takes
 module _ (old new : List Edit) (r t : TypedCatalog) (is : IsTypedCatalog r) where
   abbrev drawn : BaseEntry
@@ -269,6 +295,13 @@ module _ (old new : List Edit) (r t : TypedCatalog) (is : IsTypedCatalog r) wher
       let n = r.ledger.base.next_id + 1 in
       follows-drawn (Put (kind.Piece e)) more
       (λ then. follows_piece (old ++ Put (kind.Base drawn) ∷ []) new (with_next r n) t (next_fits r n is (omega arith) (omega arith)) e (drawn-piece r is e fits) then (out ∙ sym (piece-last r is e fits)))
+
+  pub follows_new_set : (e : SetEntry) → FitsNewSet r e → new ≡ old ++ Put (kind.Base drawn) ∷ Put (kind.Set e) ∷ [] → t ≡ with_new_set r e → EditsFollow old new r t
+  unfolding with_next
+  follows_new_set e fits more out =
+      let n = r.ledger.base.next_id + 1 in
+      follows-drawn (Put (kind.Set e)) more
+      (λ then. follows_set (old ++ Put (kind.Base drawn) ∷ []) new (with_next r n) t (next_fits r n is (omega arith) (omega arith)) e (drawn-set r is e fits) then (out ∙ sym (set-last r is e fits)))
 
 -- taking away what stands first
 drop-first : (key : Key) (r : Record) (rs : List Record) → place_of r ≡ place_of_key key → All (λ x. place_of_key key < place_of x) rs → after_edit (Drop key) (r ∷ rs) ≡ rs
@@ -319,16 +352,21 @@ pub saved_fits : (r : TypedCatalog) (s : Saved) → IsTypedCatalog r → IsSaved
 saved_fits r s is fits = record { ledger = is.ledger; saved = fits }
 
 module _ (old new : List Edit) (r t : TypedCatalog) (is : IsTypedCatalog r) where
+  -- edits of the saved site alone
+  site-follows : (x : List Edit) (o : Option Saved) → IsPart (place 7 0) (place 9 0) x (saved_records r.saved) (saved_records o) → new ≡ old ++ x → t ≡ record r { saved = o } → EditsFollow old new r t
+  site-follows x o part more out =
+      let s = record r { saved = o } in
+      follows-of old new x r s t more
+      (ap (λ (es : List Edit). after_edits es (records_of r)) (sym (append-nil x)) ∙ by-parts r s [] [] [] [] [] [] x [] (keep-b r is) (keep-t r is) (keep-f r is) (keep-l r is) (keep-p r is) (keep-m r is) part (keep-z r is)) out
+
   pub follows_unsaved : new ≡ old ++ unsaved_edits r.saved → t ≡ without_saved r → EditsFollow old new r t
-  follows_unsaved more out =
-      follows-of old new (unsaved_edits r.saved) r (without_saved r) t more
-      (by-parts r (without_saved r) [] [] [] [] [] [] (unsaved_edits r.saved) (keep-b r is) (keep-t r is) (keep-f r is) (keep-l r is) (keep-p r is) (keep-m r is) (unsaved-part r is)) out
+  follows_unsaved = site-follows (unsaved_edits r.saved) None (unsaved-part r is)
 
   pub follows_saved : (s : Saved) → r.saved ≡ None → IsSaved r.ledger s → new ≡ old ++ saved_edits s → t ≡ with_saved r s → EditsFollow old new r t
-  follows_saved s none fits more out =
-      follows-of old new (saved_edits s) r (with_saved r s) t more (by-parts r (with_saved r s) [] [] [] [] [] [] (saved_edits s) (keep-b r is) (keep-t r is) (keep-f r is) (keep-l r is) (keep-p r is) (keep-m r is)
+  follows_saved s none fits =
+      site-follows (saved_edits s) (Some s)
       (subst (λ (o : Option Saved). IsPart (place 7 0) (place 9 0) (saved_edits s) (saved_records o) (saved_records (Some s))) (sym none)
-      (more_part (place 7 0) (place 9 0) [] (saved_records (Some s)) no-run (saved-run (with_saved r s) (saved_fits r s is fits))))) out
+      (more_part (place 7 0) (place 9 0) [] (saved_records (Some s)) no-run (saved-run (with_saved r s) (saved_fits r s is fits))))
 
 -- the number of a mark more fits into 32 bits
 pub marks_few : (r : TypedCatalog) → IsTypedCatalog r → length r.ledger.marks ≤ 65536

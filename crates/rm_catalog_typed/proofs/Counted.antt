@@ -1,6 +1,6 @@
 -- Counts and sums over the records of a ledger.
 use Rattle.std.proofs.Common.{◌≡◌, ◌∙◌, ℕ, zero, suc, ◌+◌, ◌<◌, ◌≤◌, Bool, true, false, cond, ltb, leb, List, [], ◌∷◌, ◌++◌, length, map, slice_get, Some, refl, ap, sym, arith, eq-eqb, le-ltb}
-use Rattle.std.specs.Prelude.{Contains, IsTrue, count_by, sum_by}
+use Rattle.std.specs.Prelude.{◌&&◌, Contains, IsTrue, count_by, sum_by}
 use Rattle.std.specs.List.{list_any}
 use Rattle.std.proofs.lemmas.Option.{slice_get-get_or}
 use Rattle.std.proofs.lemmas.List.Folds.{list_any_at}
@@ -11,13 +11,13 @@ use Rattle.rm_catalog.specs.declared.record.Record.{Record}
 use Rattle.rm_catalog.specs.declared.record.Record.TheVariants as kind
 use Rattle.rm_catalog.specs.Keys.{place, place_of}
 use Rattle.rm_catalog.specs.Facts.{is_mark_of, blocks_to}
-use Rattle.rm_catalog.specs.Rules.{IsOnce, IsAmongFirst}
+use Rattle.rm_catalog.specs.Rules.{IsOnce, IsAmongFirst, is_lasting}
 use Rattle.rm_catalog.proofs.Found.{differ}
 use Rattle.rm_catalog.proofs.Counts.{alike, alike_count}
 use Rattle.rm_catalog.proofs.Unique.{Rises, all_above}
-use Rattle.rm_catalog_typed.specs.Ledger.{Ledger, ledger_records, numbered, incarnation_record, datafile_record, mark_record}
+use Rattle.rm_catalog_typed.specs.Ledger.{Ledger, front_records, ledger_records, numbered, incarnation_record, datafile_record, mark_record}
 use Rattle.rm_catalog_typed.specs.LedgerFacts.{IsLedger, HasMark}
-use Rattle.rm_catalog_typed.proofs.Order.{runs-rise, records-run, incarnations_of, datafiles_of, logs_of, pieces_of, marks_of}
+use Rattle.rm_catalog_typed.proofs.Order.{runs-rise, records-run, incarnations_of, datafiles_of, logs_of, pieces_of, marks_of, sets_of}
 use Rattle.rm_catalog_typed.proofs.Lookups.{has-mark}
 
 -- records that rise from above a place have none at it
@@ -43,7 +43,7 @@ rises-once low (r ∷ rs) x up (suc k, lt, is) =
 
 pub record-once : (l : Ledger) (r : Record) → IsLedger l → Contains (ledger_records l) r → IsOnce (place_of r) (ledger_records l)
 record-once l r is has = record {
-  once = sym (alike_count (place_of r) (ledger_records l)) ∙ rises-once (place 1 0) (ledger_records l) r (runs-rise (place 1 0) (place 7 0) (ledger_records l) (records-run l is)) has;
+  once = sym (alike_count (place_of r) (ledger_records l)) ∙ rises-once (place 1 0) (ledger_records l) r (runs-rise (place 1 0) (place 10 0) (ledger_records l) (records-run l is)) has;
 }
 
 -- where an item fails a test, fewer than all pass it
@@ -70,8 +70,9 @@ count-short p (y ∷ ys) x (suc k, lt, is) fails =
 
 pub record-few : (l : Ledger) (r : Record) → IsLedger l → Contains (ledger_records l) r → IsAmongFirst (place_of r) (ledger_records l)
 record-few l r is has = record {
-  few = λ low.
-      let short = count-short (λ (x : Record). ltb (place_of x) (place_of r)) (ledger_records l) r has (le-ltb (place_of r) (place_of r) (omega arith)) in
+  few = λ lasting.
+      let fails : (is_lasting (place_of r) && ltb (place_of r) (place_of r)) ≡ false = rw (lasting, le-ltb (place_of r) (place_of r) (omega arith)) in
+      let short = count-short (λ (x : Record). is_lasting (place_of x) && ltb (place_of x) (place_of r)) (ledger_records l) r has fails in
       let most = is.few in
       omega arith;
 }
@@ -110,6 +111,7 @@ sum-files f n (d ∷ ds) =
 pub blocks-few : (l : Ledger) (f : ℕ) → sum_by (blocks_to f) (ledger_records l) ≤ sum_by (λ d. d.blocks) l.files
 blocks-few l f =
     let first = sum_by-cons (blocks_to f) (kind.Base l.base) (incarnations_of l ++ datafiles_of l ++ logs_of l ++ pieces_of l ++ marks_of l) in
+    let six = sum_by-append (blocks_to f) (front_records l) (sets_of l) in
     let five = sum_by-append (blocks_to f) (incarnations_of l ++ datafiles_of l ++ logs_of l ++ pieces_of l) (marks_of l) in
     let four = sum_by-append (blocks_to f) (incarnations_of l ++ datafiles_of l ++ logs_of l) (pieces_of l) in
     let three = sum_by-append (blocks_to f) (incarnations_of l ++ datafiles_of l) (logs_of l) in
@@ -119,6 +121,7 @@ blocks-few l f =
     let logs = sum-none-map f kind.Log l.logs (λ e. refl) in
     let pieces = sum-none-map f kind.Piece l.pieces (λ p. refl) in
     let marks = sum-none f mark_record 1 l.marks (λ k m. refl) in
+    let sets = sum-none-map f kind.Set l.sets (λ e. refl) in
     omega arith
 
 -- where an incarnation has a mark, a record says so

@@ -13,20 +13,21 @@ use Rattle.rm_catalog.specs.declared.record.LogEntry.{LogEntry}
 use Rattle.rm_catalog.specs.declared.record.PartEntry.{PartEntry}
 use Rattle.rm_catalog.specs.declared.record.PieceEntry.{PieceEntry}
 use Rattle.rm_catalog.specs.declared.record.Record.TheVariants as kind
+use Rattle.rm_catalog.specs.declared.record.SetEntry.{SetEntry}
 use Rattle.rm_history.specs.declared.tree.Incarnation.{Incarnation}
 use Rattle.rm_history.specs.declared.world.Datafile.{Datafile}
 use Rattle.rm_history.specs.Tree.{IsThere, parent_of, reset_of, end_of, with_branch, with_end}
 use Rattle.rm_history.proofs.Branches.{IsThere-branched, end_of-branched, end_of-with_branch, length-with_branch, parent_of-branched, parent_of-with_branch, reset_of-branched, reset_of-with_branch}
 use Rattle.rm_history.proofs.Ends.{parent_of-with_end, end_of-with_end, end_of-with_end_other}
-use Rattle.rm_catalog_typed.specs.LedgerFacts.{AreDatafiles, AreIds, AreIncarnations, AreMarks, HasMark, IsBranch, IsCreated, IsLogEntry, IsMark, IsPieceEntry}
+use Rattle.rm_catalog_typed.specs.LedgerFacts.{AreDatafiles, AreIds, AreIncarnations, AreMarks, HasMark, IsBranch, IsCreated, IsLogEntry, IsMark, IsPieceEntry, IsSetEntry}
 use Rattle.rm_catalog_typed.specs.Ledger.{Ledger, incarnation_record, datafile_record, mark_record}
 use Rattle.rm_catalog_typed.specs.Ledger.{ledger_records}
-use Rattle.rm_catalog_typed.proofs.Keeping.{FilesGrow, log_kept, mark_kept, piece_kept}
-use Rattle.rm_catalog_typed.proofs.Order.{incarnations_of, datafiles_of, logs_of, pieces_of, marks_of, length-numbered}
+use Rattle.rm_catalog_typed.proofs.Keeping.{FilesGrow, log_kept, mark_kept, piece_kept, set_kept}
+use Rattle.rm_catalog_typed.proofs.Order.{incarnations_of, datafiles_of, logs_of, pieces_of, marks_of, sets_of, length-numbered}
 use Rattle.rm_catalog_typed.proofs.Trees.{Keeps, keeps_branch, keeps_end, parents_below}
-use Rattle.rm_catalog_typed.specs.Changes.{with_base, with_end_at, with_file, with_incarnation, with_log, with_mark, with_new_log, with_new_piece, with_one, with_piece, without_log, without_one, without_piece}
+use Rattle.rm_catalog_typed.specs.Changes.{with_base, with_end_at, with_file, with_incarnation, with_log, with_mark, with_new_log, with_new_piece, with_new_set, with_one, with_piece, with_set, without_log, without_one, without_piece, without_set}
 use Rattle.rm_catalog_typed.specs.Facts.{IsPartEntry, IsTypedCatalog, IsSaved}
-use Rattle.rm_catalog_typed.specs.Fitting.{FitsBase, FitsBranch, FitsFile, FitsLog, FitsMark, FitsNewLog, FitsNewPiece, FitsPiece, IsObjectId, LacksId}
+use Rattle.rm_catalog_typed.specs.Fitting.{FitsBase, FitsBranch, FitsFile, FitsLog, FitsMark, FitsNewLog, FitsNewPiece, FitsNewSet, FitsPiece, FitsSet, IsObjectId, LacksId}
 use Rattle.rm_catalog_typed.specs.TypedCatalog.{TypedCatalog, Saved}
 use Rattle.rm_catalog_typed.proofs.Ones.{all-with, all-without, ascend-with, ascend-without, contains-with, contains-without, length-replaced, length-with, length-without, with-last}
 
@@ -37,9 +38,15 @@ record HasAll (l m : Ledger) : Type 0 where
   pub files : length l.files ≤ length m.files
   pub there : (i : ℕ) → IsThere l.tree i → IsThere m.tree i
 
+-- the ids of a saved site's parts are not those of objects
+record AreFree (s : Saved) (of_logs : List LogEntry) (of_pieces : List PieceEntry) (of_sets : List SetEntry) : Type 0 where
+  pub logs : (e : LogEntry) (p : PartEntry) → Contains of_logs e → Contains s.parts p → e.id ≡ p.id → ⊥
+  pub pieces : (e : PieceEntry) (p : PartEntry) → Contains of_pieces e → Contains s.parts p → e.id ≡ p.id → ⊥
+  pub sets : (e : SetEntry) (p : PartEntry) → Contains of_sets e → Contains s.parts p → e.id ≡ p.id → ⊥
+
 -- so a saved site of the one is one of the other, if no object has the id of a part
-site_kept : (l m : Ledger) (s : Saved) → HasAll l m → IsSaved l s → ((e : LogEntry) (p : PartEntry) → Contains m.logs e → Contains s.parts p → e.id ≡ p.id → ⊥) → ((e : PieceEntry) (p : PartEntry) → Contains m.pieces e → Contains s.parts p → e.id ≡ p.id → ⊥) → IsSaved m s
-site_kept l m s has is logs pieces =
+site_kept : (l m : Ledger) (s : Saved) → HasAll l m → IsSaved l s → AreFree s m.logs m.pieces m.sets → IsSaved m s
+site_kept l m s has is free =
     record {
       parts = All-weaker (IsPartEntry l) (IsPartEntry m) (λ (p : PartEntry) was. record {
         id = (was.id.0, omega arith);
@@ -48,21 +55,24 @@ site_kept l m s has is logs pieces =
         file = λ some. let f = (was.file some).1 in ((was.file some).0, omega arith);
       }) s.parts is.parts;
       apart = is.apart;
-      logs = logs;
-      pieces = pieces;
+      logs = free.logs;
+      pieces = free.pieces;
+      sets = free.sets;
       point = λ some. has.there s.head.inc (is.point some);
     }
 
-saved_kept : (l m : Ledger) → HasAll l m → m.logs ≡ l.logs → m.pieces ≡ l.pieces → (o : Option Saved) → IfSome o (IsSaved l) → IfSome o (IsSaved m)
-saved_kept l m has logs pieces None none = tt
-saved_kept l m has logs pieces (Some s) is =
-    site_kept l m s has is
-    (λ e p one other. is.logs e p (subst (λ (x : List LogEntry). Contains x e) logs one) other)
-    (λ e p one other. is.pieces e p (subst (λ (x : List PieceEntry). Contains x e) pieces one) other)
+saved_kept : (l m : Ledger) → HasAll l m → m.logs ≡ l.logs → m.pieces ≡ l.pieces → m.sets ≡ l.sets → (o : Option Saved) → IfSome o (IsSaved l) → IfSome o (IsSaved m)
+saved_kept l m has logs pieces sets None none = tt
+saved_kept l m has logs pieces sets (Some s) is = site_kept l m s has is (record {
+  logs = λ e p one other. is.logs e p (subst (λ (x : List LogEntry). Contains x e) logs one) other;
+  pieces = λ e p one other. is.pieces e p (subst (λ (x : List PieceEntry). Contains x e) pieces one) other;
+  sets = λ e p one other. is.sets e p (subst (λ (x : List SetEntry). Contains x e) sets one) other;
+})
 
 -- so many records
-pub many : (l : Ledger) → length (ledger_records l) ≡ 1 + length l.tree + length l.files + length l.logs + length l.pieces + length l.marks
+pub many : (l : Ledger) → length (ledger_records l) ≡ 1 + length l.tree + length l.files + length l.logs + length l.pieces + length l.marks + length l.sets
 many l =
+    let six = length-append (incarnations_of l ++ datafiles_of l ++ logs_of l ++ pieces_of l ++ marks_of l) (sets_of l) in
     let five = length-append (incarnations_of l ++ datafiles_of l ++ logs_of l ++ pieces_of l) (marks_of l) in
     let four = length-append (incarnations_of l ++ datafiles_of l ++ logs_of l) (pieces_of l) in
     let three = length-append (incarnations_of l ++ datafiles_of l) (logs_of l) in
@@ -72,6 +82,7 @@ many l =
     let logs = length-map l.logs (λ e. kind.Log e) in
     let pieces = length-map l.pieces (λ e. kind.Piece e) in
     let marks = length-numbered mark_record 1 l.marks in
+    let sets = length-map l.sets (λ e. kind.Set e) in
     omega arith
 
 -- other base facts
@@ -90,12 +101,17 @@ base_fits r b rules fits =
         datafiles = is.datafiles;
         logs = subst (λ (n : ℕ). All (IsLogEntry l.tree n) l.logs) (sym threads) is.logs;
         pieces = is.pieces;
+        sets = is.sets;
         ids = record {
           logs = All-weaker (λ (e : LogEntry). (1 ≤ e.id) × (e.id < l.base.next_id)) (λ (e : LogEntry). (1 ≤ e.id) × (e.id < b.next_id)) (λ e was. (was.0, omega arith)) l.logs is.ids.logs;
           pieces = All-weaker (λ (e : PieceEntry). (1 ≤ e.id) × (e.id < l.base.next_id)) (λ (e : PieceEntry). (1 ≤ e.id) × (e.id < b.next_id)) (λ e was. (was.0, omega arith)) l.pieces is.ids.pieces;
+          sets = All-weaker (λ (e : SetEntry). (1 ≤ e.id) × (e.id < l.base.next_id)) (λ (e : SetEntry). (1 ≤ e.id) × (e.id < b.next_id)) (λ e was. (was.0, omega arith)) l.sets is.ids.sets;
           logs_ascend = is.ids.logs_ascend;
           pieces_ascend = is.ids.pieces_ascend;
+          sets_ascend = is.ids.sets_ascend;
           apart = is.ids.apart;
+          logs_apart = is.ids.logs_apart;
+          pieces_apart = is.ids.pieces_apart;
         };
         marks = record {
           each = All-weaker (IsMark l.tree l.base.moment) (IsMark l.tree b.moment) (λ (m : Mark) was. record { there = was.there; scn = was.scn; moment = omega arith }) l.marks is.marks.each;
@@ -104,7 +120,7 @@ base_fits r b rules fits =
         };
         few = is.few;
       };
-      saved = saved_kept l m (record { ids = next; threads = omega arith; files = omega arith; there = λ i there. there }) refl refl r.saved rules.saved;
+      saved = saved_kept l m (record { ids = next; threads = omega arith; files = omega arith; there = λ i there. there }) refl refl refl r.saved rules.saved;
     }
 
 -- a later moment
@@ -193,11 +209,12 @@ regrown r tree files marks rules keeps grows of-tree of-files of-marks room =
         datafiles = of-files;
         logs = All-weaker (IsLogEntry l.tree l.base.threads) (IsLogEntry tree l.base.threads) (log_kept l.tree tree l.base.threads keeps) l.logs is.logs;
         pieces = All-weaker (IsPieceEntry l.tree l.files) (IsPieceEntry tree files) (piece_kept l.tree tree l.files files keeps grows) l.pieces is.pieces;
+        sets = All-weaker (IsSetEntry l.tree l.files) (IsSetEntry tree files) (set_kept l.tree tree l.files files keeps grows) l.sets is.sets;
         ids = is.ids;
         marks = of-marks;
         few = omega arith;
       };
-      saved = saved_kept l m (record { ids = omega arith; threads = omega arith; files = files-grow l.files files grows; there = λ i there. keeps.there i there }) refl refl r.saved rules.saved;
+      saved = saved_kept l m (record { ids = omega arith; threads = omega arith; files = files-grow l.files files grows; there = λ i there. keeps.there i there }) refl refl refl r.saved rules.saved;
     }
 
 same-tree : (tree : List Incarnation) → Keeps tree tree
@@ -310,27 +327,25 @@ branch_fits r parent at moment rules fits =
     fits.next.0 (record { there = IsThere-branched l.tree parent at; scn = (omega arith, omega arith); moment = fits.next.1 }) is.marks.rise (λ i has. first-mark i (old-or-new l.tree parent at i has)))
     (omega arith)
 
--- the ids of a saved site's parts are not those of objects
-abbrev AreFree : Saved → List LogEntry → List PieceEntry → Type 0
-AreFree s logs pieces = ((e : LogEntry) (p : PartEntry) → Contains logs e → Contains s.parts p → e.id ≡ p.id → ⊥) × ((e : PieceEntry) (p : PartEntry) → Contains pieces e → Contains s.parts p → e.id ≡ p.id → ⊥)
-
--- other logs and pieces
-refit : (r : TypedCatalog) (logs : List LogEntry) (pieces : List PieceEntry) → IsTypedCatalog r → All (IsLogEntry r.ledger.tree r.ledger.base.threads) logs → All (IsPieceEntry r.ledger.tree r.ledger.files) pieces → AreIds 1 r.ledger.base.next_id logs pieces
-    → length (ledger_records r.ledger) + length logs + length pieces ≤ 65536 + length r.ledger.logs + length r.ledger.pieces → ((s : Saved) → r.saved ≡ Some s → IsSaved r.ledger s → AreFree s logs pieces)
-    → IsTypedCatalog (record r { ledger = record r.ledger { logs = logs; pieces = pieces } })
-refit r logs pieces rules of-logs of-pieces ids room free =
+-- other logs, pieces and sets
+refit : (r : TypedCatalog) (logs : List LogEntry) (pieces : List PieceEntry) (sets : List SetEntry) → IsTypedCatalog r
+    → All (IsLogEntry r.ledger.tree r.ledger.base.threads) logs → All (IsPieceEntry r.ledger.tree r.ledger.files) pieces → All (IsSetEntry r.ledger.tree r.ledger.files) sets → AreIds 1 r.ledger.base.next_id logs pieces sets
+    → length (ledger_records r.ledger) + length logs + length pieces + length sets ≤ 65536 + length r.ledger.logs + length r.ledger.pieces + length r.ledger.sets
+    → ((s : Saved) → r.saved ≡ Some s → IsSaved r.ledger s → AreFree s logs pieces sets)
+    → IsTypedCatalog (record r { ledger = record r.ledger { logs = logs; pieces = pieces; sets = sets } })
+refit r logs pieces sets rules of-logs of-pieces of-sets ids room free =
     let is = rules.ledger in
     let old = many r.ledger in
-    let new = many (record r.ledger { logs = logs; pieces = pieces }) in
+    let new = many (record r.ledger { logs = logs; pieces = pieces; sets = sets }) in
     record {
-      ledger = record { base = is.base; current = is.current; incarnations = is.incarnations; datafiles = is.datafiles; logs = of-logs; pieces = of-pieces; ids = ids; marks = is.marks; few = omega arith };
+      ledger = record { base = is.base; current = is.current; incarnations = is.incarnations; datafiles = is.datafiles; logs = of-logs; pieces = of-pieces; sets = of-sets; ids = ids; marks = is.marks; few = omega arith };
       saved = decide r.saved rules.saved (λ s some. free s some);
     }
   where
-    decide : (o : Option Saved) → IfSome o (IsSaved r.ledger) → ((s : Saved) → o ≡ Some s → IsSaved r.ledger s → AreFree s logs pieces) → IfSome o (IsSaved (record r.ledger { logs = logs; pieces = pieces }))
+    decide : (o : Option Saved) → IfSome o (IsSaved r.ledger) → ((s : Saved) → o ≡ Some s → IsSaved r.ledger s → AreFree s logs pieces sets) → IfSome o (IsSaved (record r.ledger { logs = logs; pieces = pieces; sets = sets }))
     decide None none free = tt
     decide (Some s) is free =
-        site_kept r.ledger (record r.ledger { logs = logs; pieces = pieces }) s (record { ids = omega arith; threads = omega arith; files = omega arith; there = λ i there. there }) is (free s refl is).0 (free s refl is).1
+        site_kept r.ledger (record r.ledger { logs = logs; pieces = pieces; sets = sets }) s (record { ids = omega arith; threads = omega arith; files = omega arith; there = λ i there. there }) is (free s refl is)
 
 -- none of those that lack an id has it
 other-id : {A : Type 0} (id : A → ℕ) (n : ℕ) (xs : List A) (x : A) → LacksId id n xs → Contains xs x → n ≡ id x → ⊥
@@ -339,25 +354,83 @@ other-id id n xs x lacks has same = All-contains (λ y. id y ≡ n → ⊥) xs x
 no-part-has : (r : TypedCatalog) (n : ℕ) (s : Saved) (p : PartEntry) → IsObjectId r n → r.saved ≡ Some s → Contains s.parts p → n ≡ p.id → ⊥
 no-part-has r n s p is some has = other-id (λ q. q.id) n s.parts p (subst (λ (o : Option Saved). IfSome o (λ s. LacksId (λ q. q.id) n s.parts)) some is.parts) has
 
+-- what is asked of objects that are put among the others or taken away
+module _ (r : TypedCatalog) (rules : IsTypedCatalog r) where
+  logs-for : (logs : List LogEntry) → All (IsLogEntry r.ledger.tree r.ledger.base.threads) logs → All (λ x. (1 ≤ x.id) × (x.id < r.ledger.base.next_id)) logs → AllPairs (λ x y. x.id < y.id) logs
+      → ((p : PieceEntry) → Contains r.ledger.pieces p → (x : LogEntry) → Contains logs x → x.id ≡ p.id → ⊥) → ((e : SetEntry) → Contains r.ledger.sets e → (x : LogEntry) → Contains logs x → x.id ≡ e.id → ⊥)
+      → length (ledger_records r.ledger) + length logs ≤ 65536 + length r.ledger.logs → ((s : Saved) → r.saved ≡ Some s → IsSaved r.ledger s → (p : PartEntry) → Contains s.parts p → (x : LogEntry) → Contains logs x → x.id ≡ p.id → ⊥)
+      → IsTypedCatalog (record r { ledger = record r.ledger { logs = logs } })
+  logs-for logs each within up pieces sets room parts =
+      let is = rules.ledger in
+      refit r logs r.ledger.pieces r.ledger.sets rules each is.pieces is.sets
+      (record {
+        logs = within;
+        pieces = is.ids.pieces;
+        sets = is.ids.sets;
+        logs_ascend = up;
+        pieces_ascend = is.ids.pieces_ascend;
+        sets_ascend = is.ids.sets_ascend;
+        apart = λ x p has other. pieces p other x has;
+        logs_apart = λ x e has other. sets e other x has;
+        pieces_apart = is.ids.pieces_apart;
+      })
+      (omega arith) (λ s some saved. record { logs = λ x p has other. parts s some saved p other x has; pieces = saved.pieces; sets = saved.sets })
+
+  pieces-for : (pieces : List PieceEntry) → All (IsPieceEntry r.ledger.tree r.ledger.files) pieces → All (λ x. (1 ≤ x.id) × (x.id < r.ledger.base.next_id)) pieces → AllPairs (λ x y. x.id < y.id) pieces
+      → ((e : LogEntry) → Contains r.ledger.logs e → (x : PieceEntry) → Contains pieces x → x.id ≡ e.id → ⊥) → ((e : SetEntry) → Contains r.ledger.sets e → (x : PieceEntry) → Contains pieces x → x.id ≡ e.id → ⊥)
+      → length (ledger_records r.ledger) + length pieces ≤ 65536 + length r.ledger.pieces → ((s : Saved) → r.saved ≡ Some s → IsSaved r.ledger s → (p : PartEntry) → Contains s.parts p → (x : PieceEntry) → Contains pieces x → x.id ≡ p.id → ⊥)
+      → IsTypedCatalog (record r { ledger = record r.ledger { pieces = pieces } })
+  pieces-for pieces each within up logs sets room parts =
+      let is = rules.ledger in
+      refit r r.ledger.logs pieces r.ledger.sets rules is.logs each is.sets
+      (record {
+        logs = is.ids.logs;
+        pieces = within;
+        sets = is.ids.sets;
+        logs_ascend = is.ids.logs_ascend;
+        pieces_ascend = up;
+        sets_ascend = is.ids.sets_ascend;
+        apart = λ e x other has same. logs e other x has (sym same);
+        logs_apart = is.ids.logs_apart;
+        pieces_apart = λ x e has other. sets e other x has;
+      })
+      (omega arith) (λ s some saved. record { logs = saved.logs; pieces = λ x p has other. parts s some saved p other x has; sets = saved.sets })
+
+  sets-for : (sets : List SetEntry) → All (IsSetEntry r.ledger.tree r.ledger.files) sets → All (λ x. (1 ≤ x.id) × (x.id < r.ledger.base.next_id)) sets → AllPairs (λ x y. x.id < y.id) sets
+      → ((e : LogEntry) → Contains r.ledger.logs e → (x : SetEntry) → Contains sets x → x.id ≡ e.id → ⊥) → ((p : PieceEntry) → Contains r.ledger.pieces p → (x : SetEntry) → Contains sets x → x.id ≡ p.id → ⊥)
+      → length (ledger_records r.ledger) + length sets ≤ 65536 + length r.ledger.sets → ((s : Saved) → r.saved ≡ Some s → IsSaved r.ledger s → (p : PartEntry) → Contains s.parts p → (x : SetEntry) → Contains sets x → x.id ≡ p.id → ⊥)
+      → IsTypedCatalog (record r { ledger = record r.ledger { sets = sets } })
+  sets-for sets each within up logs pieces room parts =
+      let is = rules.ledger in
+      refit r r.ledger.logs r.ledger.pieces sets rules is.logs is.pieces each
+      (record {
+        logs = is.ids.logs;
+        pieces = is.ids.pieces;
+        sets = within;
+        logs_ascend = is.ids.logs_ascend;
+        pieces_ascend = is.ids.pieces_ascend;
+        sets_ascend = up;
+        apart = is.ids.apart;
+        logs_apart = λ e x other has same. logs e other x has (sym same);
+        pieces_apart = λ p x other has same. pieces p other x has (sym same);
+      })
+      (omega arith) (λ s some saved. record { logs = saved.logs; pieces = saved.pieces; sets = λ x p has other. parts s some saved p other x has })
+
 -- a log, put
 pub log_fits : (r : TypedCatalog) (e : LogEntry) → IsTypedCatalog r → FitsLog r e → IsTypedCatalog (with_log r e)
 log_fits r e rules fits =
     let is = rules.ledger in
     let l = r.ledger in
     let id = λ (x : LogEntry). x.id in
-    refit r (with_one id e l.logs) l.pieces rules (all-with id (IsLogEntry l.tree l.base.threads) e l.logs is.logs fits.log) is.pieces
-    (record {
-      logs = all-with id (λ x. (1 ≤ x.id) × (x.id < l.base.next_id)) e l.logs is.ids.logs fits.id.range;
-      pieces = is.ids.pieces;
-      logs_ascend = ascend-with id e l.logs is.ids.logs_ascend;
-      pieces_ascend = is.ids.pieces_ascend;
-      apart = λ x p has other. contains-with id (λ x. x.id ≡ p.id → ⊥) e l.logs (λ y was. is.ids.apart y p was other) (other-id (λ q. q.id) e.id l.pieces p fits.other other) x has;
-    })
+    logs-for r rules (with_one id e l.logs) (all-with id (IsLogEntry l.tree l.base.threads) e l.logs is.logs fits.log)
+    (all-with id (λ x. (1 ≤ x.id) × (x.id < l.base.next_id)) e l.logs is.ids.logs fits.id.range) (ascend-with id e l.logs is.ids.logs_ascend)
+    (λ p other. contains-with id (λ x. x.id ≡ p.id → ⊥) e l.logs (λ y was same. is.ids.apart y p was other same) (other-id (λ q. q.id) e.id l.pieces p fits.pieces other))
+    (λ p other. contains-with id (λ x. x.id ≡ p.id → ⊥) e l.logs (λ y was same. is.ids.logs_apart y p was other same) (other-id (λ q. q.id) e.id l.sets p fits.sets other))
     (elim fits.room [
       | inl was ↦ let short = length-replaced id e l.logs is.ids.logs_ascend was in omega arith
       | inr room ↦ let short = length-with id e l.logs in omega arith
     ])
-    (λ s some saved. (λ x p has other. contains-with id (λ x. x.id ≡ p.id → ⊥) e l.logs (λ y was. saved.logs y p was other) (no-part-has r e.id s p fits.id some other) x has, saved.pieces))
+    (λ s some saved p other. contains-with id (λ x. x.id ≡ p.id → ⊥) e l.logs (λ y was. saved.logs y p was other) (no-part-has r e.id s p fits.id some other))
 
 -- a piece, put
 pub piece_fits : (r : TypedCatalog) (e : PieceEntry) → IsTypedCatalog r → FitsPiece r e → IsTypedCatalog (with_piece r e)
@@ -365,52 +438,73 @@ piece_fits r e rules fits =
     let is = rules.ledger in
     let l = r.ledger in
     let id = λ (x : PieceEntry). x.id in
-    refit r l.logs (with_one id e l.pieces) rules is.logs (all-with id (IsPieceEntry l.tree l.files) e l.pieces is.pieces fits.piece)
-    (record {
-      logs = is.ids.logs;
-      pieces = all-with id (λ x. (1 ≤ x.id) × (x.id < l.base.next_id)) e l.pieces is.ids.pieces fits.id.range;
-      logs_ascend = is.ids.logs_ascend;
-      pieces_ascend = ascend-with id e l.pieces is.ids.pieces_ascend;
-      apart = λ x p has other same. contains-with id (λ y. y.id ≡ x.id → ⊥) e l.pieces (λ y was alike. is.ids.apart x y has was (sym alike)) (other-id (λ q. q.id) e.id l.logs x fits.other has) p other (sym same);
-    })
+    pieces-for r rules (with_one id e l.pieces) (all-with id (IsPieceEntry l.tree l.files) e l.pieces is.pieces fits.piece)
+    (all-with id (λ x. (1 ≤ x.id) × (x.id < l.base.next_id)) e l.pieces is.ids.pieces fits.id.range) (ascend-with id e l.pieces is.ids.pieces_ascend)
+    (λ p other. contains-with id (λ x. x.id ≡ p.id → ⊥) e l.pieces (λ y was same. is.ids.apart p y other was (sym same)) (other-id (λ q. q.id) e.id l.logs p fits.logs other))
+    (λ p other. contains-with id (λ x. x.id ≡ p.id → ⊥) e l.pieces (λ y was same. is.ids.pieces_apart y p was other same) (other-id (λ q. q.id) e.id l.sets p fits.sets other))
     (elim fits.room [
       | inl was ↦ let short = length-replaced id e l.pieces is.ids.pieces_ascend was in omega arith
       | inr room ↦ let short = length-with id e l.pieces in omega arith
     ])
-    (λ s some saved. (saved.logs, λ x p has other. contains-with id (λ x. x.id ≡ p.id → ⊥) e l.pieces (λ y was. saved.pieces y p was other) (no-part-has r e.id s p fits.id some other) x has))
+    (λ s some saved p other. contains-with id (λ x. x.id ≡ p.id → ⊥) e l.pieces (λ y was. saved.pieces y p was other) (no-part-has r e.id s p fits.id some other))
 
--- a log or a piece, dropped
+-- a set, put
+pub set_fits : (r : TypedCatalog) (e : SetEntry) → IsTypedCatalog r → FitsSet r e → IsTypedCatalog (with_set r e)
+set_fits r e rules fits =
+    let is = rules.ledger in
+    let l = r.ledger in
+    let id = λ (x : SetEntry). x.id in
+    sets-for r rules (with_one id e l.sets) (all-with id (IsSetEntry l.tree l.files) e l.sets is.sets fits.set)
+    (all-with id (λ x. (1 ≤ x.id) × (x.id < l.base.next_id)) e l.sets is.ids.sets fits.id.range) (ascend-with id e l.sets is.ids.sets_ascend)
+    (λ p other. contains-with id (λ x. x.id ≡ p.id → ⊥) e l.sets (λ y was same. is.ids.logs_apart p y other was (sym same)) (other-id (λ q. q.id) e.id l.logs p fits.logs other))
+    (λ p other. contains-with id (λ x. x.id ≡ p.id → ⊥) e l.sets (λ y was same. is.ids.pieces_apart p y other was (sym same)) (other-id (λ q. q.id) e.id l.pieces p fits.pieces other))
+    (elim fits.room [
+      | inl was ↦ let short = length-replaced id e l.sets is.ids.sets_ascend was in omega arith
+      | inr room ↦ let short = length-with id e l.sets in omega arith
+    ])
+    (λ s some saved p other. contains-with id (λ x. x.id ≡ p.id → ⊥) e l.sets (λ y was. saved.sets y p was other) (no-part-has r e.id s p fits.id some other))
+
+-- a log, dropped
 pub no_log_fits : (r : TypedCatalog) (n : ℕ) → IsTypedCatalog r → IsTypedCatalog (without_log r n)
 no_log_fits r n rules =
     let is = rules.ledger in
     let l = r.ledger in
     let id = λ (x : LogEntry). x.id in
     let short = length-without id n l.logs in
-    refit r (without_one id n l.logs) l.pieces rules (all-without id (IsLogEntry l.tree l.base.threads) n l.logs is.logs) is.pieces
-    (record {
-      logs = all-without id (λ x. (1 ≤ x.id) × (x.id < l.base.next_id)) n l.logs is.ids.logs;
-      pieces = is.ids.pieces;
-      logs_ascend = ascend-without id n l.logs is.ids.logs_ascend;
-      pieces_ascend = is.ids.pieces_ascend;
-      apart = λ x p has other. contains-without id (λ x. x.id ≡ p.id → ⊥) n l.logs (λ y was. is.ids.apart y p was other) x has;
-    })
-    (omega arith) (λ s some saved. (λ x p has other. contains-without id (λ x. x.id ≡ p.id → ⊥) n l.logs (λ y was. saved.logs y p was other) x has, saved.pieces))
+    let few = is.few in
+    logs-for r rules (without_one id n l.logs) (all-without id (IsLogEntry l.tree l.base.threads) n l.logs is.logs)
+    (all-without id (λ x. (1 ≤ x.id) × (x.id < l.base.next_id)) n l.logs is.ids.logs) (ascend-without id n l.logs is.ids.logs_ascend)
+    (λ p other. contains-without id (λ x. x.id ≡ p.id → ⊥) n l.logs (λ y was same. is.ids.apart y p was other same))
+    (λ p other. contains-without id (λ x. x.id ≡ p.id → ⊥) n l.logs (λ y was same. is.ids.logs_apart y p was other same))
+    (omega arith) (λ s some saved p other. contains-without id (λ x. x.id ≡ p.id → ⊥) n l.logs (λ y was. saved.logs y p was other))
 
+-- a piece, dropped
 pub no_piece_fits : (r : TypedCatalog) (n : ℕ) → IsTypedCatalog r → IsTypedCatalog (without_piece r n)
 no_piece_fits r n rules =
     let is = rules.ledger in
     let l = r.ledger in
     let id = λ (x : PieceEntry). x.id in
     let short = length-without id n l.pieces in
-    refit r l.logs (without_one id n l.pieces) rules is.logs (all-without id (IsPieceEntry l.tree l.files) n l.pieces is.pieces)
-    (record {
-      logs = is.ids.logs;
-      pieces = all-without id (λ x. (1 ≤ x.id) × (x.id < l.base.next_id)) n l.pieces is.ids.pieces;
-      logs_ascend = is.ids.logs_ascend;
-      pieces_ascend = ascend-without id n l.pieces is.ids.pieces_ascend;
-      apart = λ x p has other. contains-without id (λ y. x.id ≡ y.id → ⊥) n l.pieces (λ y was. is.ids.apart x y has was) p other;
-    })
-    (omega arith) (λ s some saved. (saved.logs, λ x p has other. contains-without id (λ x. x.id ≡ p.id → ⊥) n l.pieces (λ y was. saved.pieces y p was other) x has))
+    let few = is.few in
+    pieces-for r rules (without_one id n l.pieces) (all-without id (IsPieceEntry l.tree l.files) n l.pieces is.pieces)
+    (all-without id (λ x. (1 ≤ x.id) × (x.id < l.base.next_id)) n l.pieces is.ids.pieces) (ascend-without id n l.pieces is.ids.pieces_ascend)
+    (λ p other. contains-without id (λ x. x.id ≡ p.id → ⊥) n l.pieces (λ y was same. is.ids.apart p y other was (sym same)))
+    (λ p other. contains-without id (λ x. x.id ≡ p.id → ⊥) n l.pieces (λ y was same. is.ids.pieces_apart y p was other same))
+    (omega arith) (λ s some saved p other. contains-without id (λ x. x.id ≡ p.id → ⊥) n l.pieces (λ y was. saved.pieces y p was other))
+
+-- a set, dropped
+pub no_set_fits : (r : TypedCatalog) (n : ℕ) → IsTypedCatalog r → IsTypedCatalog (without_set r n)
+no_set_fits r n rules =
+    let is = rules.ledger in
+    let l = r.ledger in
+    let id = λ (x : SetEntry). x.id in
+    let short = length-without id n l.sets in
+    let few = is.few in
+    sets-for r rules (without_one id n l.sets) (all-without id (IsSetEntry l.tree l.files) n l.sets is.sets)
+    (all-without id (λ x. (1 ≤ x.id) × (x.id < l.base.next_id)) n l.sets is.ids.sets) (ascend-without id n l.sets is.ids.sets_ascend)
+    (λ p other. contains-without id (λ x. x.id ≡ p.id → ⊥) n l.sets (λ y was same. is.ids.logs_apart p y other was (sym same)))
+    (λ p other. contains-without id (λ x. x.id ≡ p.id → ⊥) n l.sets (λ y was same. is.ids.pieces_apart p y other was (sym same)))
+    (omega arith) (λ s some saved p other. contains-without id (λ x. x.id ≡ p.id → ⊥) n l.sets (λ y was. saved.sets y p was other))
 
 -- A new object takes the next id.
 
@@ -452,7 +546,7 @@ module _ (r : TypedCatalog) (rules : IsTypedCatalog r) where
   -- a new object fits where its id was drawn, and then stands behind all others
   pub drawn-log : (e : LogEntry) → FitsNewLog r e → FitsLog (with_next r (next + 1)) e
   unfolding with_next
-  drawn-log e fits = record { log = fits.log; id = next-id r e.id rules fits.id; other = lacks-next (λ p. p.id) next e.id r.ledger.pieces fits.id rules.ledger.ids.pieces; room = inr fits.room }
+  drawn-log e fits = record { log = fits.log; id = next-id r e.id rules fits.id; pieces = lacks-next (λ p. p.id) next e.id r.ledger.pieces fits.id rules.ledger.ids.pieces; sets = lacks-next (λ x. x.id) next e.id r.ledger.sets fits.id rules.ledger.ids.sets; room = inr fits.room }
 
   pub log-last : (e : LogEntry) → FitsNewLog r e → with_log (with_next r (next + 1)) e ≡ with_new_log r e
   unfolding with_next
@@ -462,7 +556,7 @@ module _ (r : TypedCatalog) (rules : IsTypedCatalog r) where
 
   pub drawn-piece : (e : PieceEntry) → FitsNewPiece r e → FitsPiece (with_next r (next + 1)) e
   unfolding with_next
-  drawn-piece e fits = record { piece = fits.piece; id = next-id r e.id rules fits.id; other = lacks-next (λ x. x.id) next e.id r.ledger.logs fits.id rules.ledger.ids.logs; room = inr fits.room }
+  drawn-piece e fits = record { piece = fits.piece; id = next-id r e.id rules fits.id; logs = lacks-next (λ x. x.id) next e.id r.ledger.logs fits.id rules.ledger.ids.logs; sets = lacks-next (λ x. x.id) next e.id r.ledger.sets fits.id rules.ledger.ids.sets; room = inr fits.room }
 
   pub piece-last : (e : PieceEntry) → FitsNewPiece r e → with_piece (with_next r (next + 1)) e ≡ with_new_piece r e
   unfolding with_next
@@ -470,7 +564,23 @@ module _ (r : TypedCatalog) (rules : IsTypedCatalog r) where
       ap (λ (pieces : List PieceEntry). record r { ledger = record r.ledger { base = record r.ledger.base { next_id = next + 1 }; pieces = pieces } })
       (with-last (λ x. x.id) e r.ledger.pieces (below-next (λ x. x.id) next e.id r.ledger.pieces fits.id rules.ledger.ids.pieces))
 
--- a new log or piece
+  pub drawn-set : (e : SetEntry) → FitsNewSet r e → FitsSet (with_next r (next + 1)) e
+  unfolding with_next
+  drawn-set e fits = record {
+    set = fits.set;
+    id = next-id r e.id rules fits.id;
+    logs = lacks-next (λ x. x.id) next e.id r.ledger.logs fits.id rules.ledger.ids.logs;
+    pieces = lacks-next (λ p. p.id) next e.id r.ledger.pieces fits.id rules.ledger.ids.pieces;
+    room = inr fits.room;
+  }
+
+  pub set-last : (e : SetEntry) → FitsNewSet r e → with_set (with_next r (next + 1)) e ≡ with_new_set r e
+  unfolding with_next
+  set-last e fits =
+      ap (λ (sets : List SetEntry). record r { ledger = record r.ledger { base = record r.ledger.base { next_id = next + 1 }; sets = sets } })
+      (with-last (λ x. x.id) e r.ledger.sets (below-next (λ x. x.id) next e.id r.ledger.sets fits.id rules.ledger.ids.sets))
+
+-- a new log, piece or set
 pub new_log_fits : (r : TypedCatalog) (e : LogEntry) → IsTypedCatalog r → FitsNewLog r e → IsTypedCatalog (with_new_log r e)
 new_log_fits r e rules fits =
     let n = r.ledger.base.next_id in
@@ -480,3 +590,8 @@ pub new_piece_fits : (r : TypedCatalog) (e : PieceEntry) → IsTypedCatalog r �
 new_piece_fits r e rules fits =
     let n = r.ledger.base.next_id in
     subst IsTypedCatalog (piece-last r rules e fits) (piece_fits (with_next r (n + 1)) e (next_fits r (n + 1) rules (omega arith) (omega arith)) (drawn-piece r rules e fits))
+
+pub new_set_fits : (r : TypedCatalog) (e : SetEntry) → IsTypedCatalog r → FitsNewSet r e → IsTypedCatalog (with_new_set r e)
+new_set_fits r e rules fits =
+    let n = r.ledger.base.next_id in
+    subst IsTypedCatalog (set-last r rules e fits) (set_fits (with_next r (n + 1)) e (next_fits r (n + 1) rules (omega arith) (omega arith)) (drawn-set r rules e fits))

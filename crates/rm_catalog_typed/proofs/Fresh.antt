@@ -6,9 +6,10 @@ use Rattle.rm_base.specs.Numbers.{last_scn, last_moment}
 use Rattle.rm_base.specs.declared.block.Mark.{Mark}
 use Rattle.rm_catalog.specs.declared.record.LogEntry.{LogEntry}
 use Rattle.rm_catalog.specs.declared.record.PieceEntry.{PieceEntry}
+use Rattle.rm_catalog.specs.declared.record.SetEntry.{SetEntry}
 use Rattle.rm_history.specs.Tree.{IsThere, reset_of, end_of, branched}
 use Rattle.rm_base.proofs.Members.{none-in, in-front}
-use Rattle.rm_catalog_typed.specs.LedgerFacts.{IsLedger, AreIncarnations, IsCreated, IsLogEntry, IsPieceEntry, AreMarks, IsMark}
+use Rattle.rm_catalog_typed.specs.LedgerFacts.{IsLedger, AreIncarnations, IsCreated, IsLogEntry, IsPieceEntry, IsSetEntry, AreMarks, IsMark}
 use Rattle.rm_catalog_typed.specs.Fresh.{fresh}
 
 -- only the first incarnation is there
@@ -51,12 +52,17 @@ fresh_is_ledger dbid threads scn moment one some four from most late =
       datafiles = record { each = All-nil (IsCreated tree); few = omega arith; room = omega arith };
       logs = All-nil (IsLogEntry tree threads);
       pieces = All-nil (IsPieceEntry tree []);
+      sets = All-nil (IsSetEntry tree []);
       ids = record {
         logs = All-nil (λ (l : LogEntry). (1 ≤ l.id) × (l.id < 1));
         pieces = All-nil (λ (p : PieceEntry). (1 ≤ p.id) × (p.id < 1));
+        sets = All-nil (λ (e : SetEntry). (1 ≤ e.id) × (e.id < 1));
         logs_ascend = pairs_none (λ (l k : LogEntry). l.id < k.id);
         pieces_ascend = pairs_none (λ (p q : PieceEntry). p.id < q.id);
+        sets_ascend = pairs_none (λ (e d : SetEntry). e.id < d.id);
         apart = λ l p has. absurd (none-in l has);
+        logs_apart = λ l e has. absurd (none-in l has);
+        pieces_apart = λ p e has. absurd (none-in p has);
       };
       marks = fresh_marks scn moment;
       few = omega arith;

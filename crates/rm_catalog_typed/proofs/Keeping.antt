@@ -4,15 +4,16 @@ use Rattle.std.specs.Prelude.{Contains}
 use Rattle.std.specs.List.{AllPairs}
 use Rattle.std.proofs.lemmas.Bool.{cases_lt}
 use Rattle.std.proofs.lemmas.List.{get_or_append_left, get_or-append_right}
-use Rattle.std.proofs.lemmas.List.Elements.{Contains-get_or}
+use Rattle.std.proofs.lemmas.List.Elements.{All-weaker, Contains-get_or}
 use Rattle.std.proofs.lemmas.Option.{slice_get_within}
 use Rattle.rm_base.specs.declared.block.Mark.{Mark}
 use Rattle.rm_catalog.specs.declared.record.LogEntry.{LogEntry}
 use Rattle.rm_catalog.specs.declared.record.PieceEntry.{PieceEntry}
+use Rattle.rm_catalog.specs.declared.record.SetEntry.{SetEntry}
 use Rattle.rm_history.specs.declared.tree.Incarnation.{Incarnation}
 use Rattle.rm_history.specs.declared.world.Datafile.{Datafile}
 use Rattle.rm_base.proofs.Members.{slice_get-front}
-use Rattle.rm_catalog_typed.specs.LedgerFacts.{IsLogEntry, IsPieceEntry, IsMark}
+use Rattle.rm_catalog_typed.specs.LedgerFacts.{IsLogEntry, IsMark, IsPieceEntry, IsSetEntry, IsSetPart}
 use Rattle.rm_catalog_typed.proofs.Trees.{Keeps}
 
 -- a log's entry keeps its facts
@@ -56,6 +57,31 @@ piece_kept old new files more keeps grows p is =
       checkpoint = is.checkpoint;
       high = omega arith;
       kind = is.kind;
+      tag = is.tag;
+      size = is.size;
+    }
+
+-- a set's entry keeps its facts
+pub set_kept : (old new : List Incarnation) (files more : List Datafile) → Keeps old new → FilesGrow files more → (e : SetEntry) → IsSetEntry old files e → IsSetEntry new more e
+set_kept old new files more keeps grows e is =
+    let end = keeps.end e.inc is.there in
+    record {
+      there = keeps.there e.inc is.there;
+      checkpoint = is.checkpoint;
+      count = is.count;
+      ascend = is.ascend;
+      parts = All-weaker (IsSetPart old files e) (IsSetPart new more e) (λ p was.
+          let high = was.high in
+          record {
+            number = was.number;
+            datafile = was.datafile;
+            is = file_kept files more (p.file - 1) was.datafile grows was.is;
+            path = keeps.owners e.inc was.datafile.creation is.there ∙ was.path;
+            creation = was.creation;
+            rows = was.rows;
+            kind = was.kind;
+            high = (high.0, omega arith);
+          }) e.parts is.parts;
       tag = is.tag;
       size = is.size;
     }

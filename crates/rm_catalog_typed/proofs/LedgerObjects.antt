@@ -1,22 +1,33 @@
--- The logs and the pieces of a ledger obey their rules.
-use Rattle.std.proofs.Common.{◌≡◌, ◌∙◌, ℕ, ◌+◌, ◌-◌, ◌≤◌, Option, Some, ap, sym, subst, arith}
+-- The logs, the pieces and the sets of a ledger obey their rules.
+use Rattle.std.proofs.Common.{◌≡◌, ◌∙◌, ℕ, ◌+◌, ◌-◌, ◌<◌, ◌≤◌, Option, Some, ap, sym, subst, arith, slice_get}
 use Rattle.std.specs.Prelude.{Contains, IsSomeAnd}
-use Rattle.std.proofs.lemmas.List.Elements.{All-contains}
+use Rattle.std.proofs.lemmas.List.Elements.{All-contains, All-weaker}
+use Rattle.rm_history.specs.declared.world.Datafile.{Datafile}
+use Rattle.rm_history.specs.Tree.{IsThere}
 use Rattle.rm_catalog.specs.declared.record.DatafileEntry.{DatafileEntry}
 use Rattle.rm_catalog.specs.declared.record.LogEntry.{LogEntry}
 use Rattle.rm_catalog.specs.declared.record.PieceEntry.{PieceEntry}
+use Rattle.rm_catalog.specs.declared.record.SetEntry.{SetEntry}
+use Rattle.rm_catalog.specs.declared.record.SetPart.{SetPart}
 use Rattle.rm_catalog.specs.Keys.{datafile}
 use Rattle.rm_catalog.specs.Objects.{IdRule, IsRange, LogRule, FitsDatafile, PieceRule}
+use Rattle.rm_catalog.specs.SetRules.{FitsSetFile, SetPartRule, SetRule}
 use Rattle.rm_catalog_typed.specs.Ledger.{Ledger, ledger_records}
-use Rattle.rm_catalog_typed.specs.LedgerFacts.{IsLedger, IsLogEntry, IsPieceEntry}
-use Rattle.rm_catalog_typed.proofs.Lookups.{datafile-found, log-id-within, piece-id-within, log-no-piece, piece-no-log, no-part}
+use Rattle.rm_catalog_typed.specs.LedgerFacts.{IsLedger, IsLogEntry, IsPieceEntry, IsSetEntry, IsSetPart}
+use Rattle.rm_catalog_typed.proofs.Lookups.{datafile-found, log-id-within, no-log, no-part, no-piece, no-set, piece-id-within, set-id-within}
 use Rattle.rm_catalog_typed.proofs.Paths.{path-is}
 use Rattle.rm_catalog_typed.proofs.LedgerThings.{on-incarnation, datafile_entry}
 
-log-id : (l : Ledger) (e : LogEntry) → IsLedger l → Contains l.logs e → IdRule (ledger_records l) e.id 5 7
+log-id : (l : Ledger) (e : LogEntry) → IsLedger l → Contains l.logs e → IdRule (ledger_records l) e.id 5 7 9
 log-id l e is has =
     let within = log-id-within l e is has in
-    record { number = within.0; below = within.1; not_second = log-no-piece l e is has; not_third = no-part l e.id is }
+    record {
+      number = within.0;
+      below = within.1;
+      not_second = no-piece l e.id is within.1 (λ p other. is.ids.apart e p has other);
+      not_third = no-part l e.id;
+      not_fourth = no-set l e.id is within.1 (λ s other. is.ids.logs_apart e s has other);
+    }
 
 pub log-rule : (l : Ledger) (e : LogEntry) → IsLedger l → Contains l.logs e → LogRule (ledger_records l) e
 log-rule l e is has =
@@ -29,29 +40,69 @@ log-rule l e is has =
       range = on-incarnation l e.inc (IsRange e) is f.there (record { first = f.range.0; some = f.range.1; next = f.range.2 });
     }
 
-piece-id : (l : Ledger) (p : PieceEntry) → IsLedger l → Contains l.pieces p → IdRule (ledger_records l) p.id 4 7
+piece-id : (l : Ledger) (p : PieceEntry) → IsLedger l → Contains l.pieces p → IdRule (ledger_records l) p.id 4 7 9
 piece-id l p is has =
     let within = piece-id-within l p is has in
-    record { number = within.0; below = within.1; not_second = piece-no-log l p is has; not_third = no-part l p.id is }
+    record {
+      number = within.0;
+      below = within.1;
+      not_second = no-log l p.id is within.1 (λ e other same. is.ids.apart e p other has (sym same));
+      not_third = no-part l p.id;
+      not_fourth = no-set l p.id is within.1 (λ s other. is.ids.pieces_apart p s has other);
+    }
 
--- the piece fits the record of its datafile
-piece-file : (l : Ledger) (p : PieceEntry) → IsLedger l → IsPieceEntry l.tree l.files p → IsSomeAnd (datafile p.file (ledger_records l)) (FitsDatafile (ledger_records l) p)
-piece-file l p is f =
-    let some = f.file.number in
-    let d = f.file.datafile in
-    let number : 1 + (p.file - 1) ≡ p.file = omega arith in
-    let found : datafile p.file (ledger_records l) ≡ Some (datafile_entry (p.file - 1) d) = ap (λ (n : ℕ). datafile n (ledger_records l)) (sym number) ∙ datafile-found l (p.file - 1) d is f.file.is in
-    subst (λ (o : Option DatafileEntry). IsSomeAnd o (FitsDatafile (ledger_records l) p)) (sym found) (record { path = path-is l p.inc d.creation is f.there ∙ f.file.path; rows = f.file.rows })
+-- what holds of a datafile of the list holds of its record
+on-file : (l : Ledger) (file : ℕ) (d : Datafile) (P : DatafileEntry → Type 0) → IsLedger l → 0 < file → slice_get l.files (file - 1) ≡ Some d → P (datafile_entry (file - 1) d) → IsSomeAnd (datafile file (ledger_records l)) P
+on-file l file d P is some there holds =
+    let number : 1 + (file - 1) ≡ file = omega arith in
+    let found : datafile file (ledger_records l) ≡ Some (datafile_entry (file - 1) d) = ap (λ (n : ℕ). datafile n (ledger_records l)) (sym number) ∙ datafile-found l (file - 1) d is there in
+    subst (λ (o : Option DatafileEntry). IsSomeAnd o P) (sym found) holds
 
 pub piece-rule : (l : Ledger) (p : PieceEntry) → IsLedger l → Contains l.pieces p → PieceRule (ledger_records l) p
 piece-rule l p is has =
     let f = All-contains (IsPieceEntry l.tree l.files) l.pieces p is.pieces has in
+    let d = f.file.datafile in
     record {
       id = piece-id l p is has;
       size = f.size;
       end = on-incarnation l p.inc (λ i. p.high ≤ i.end) is f.there f.high;
-      file = piece-file l p is f;
+      file = on-file l p.file d (FitsDatafile (ledger_records l) p) is f.file.number f.file.is (record { path = path-is l p.inc d.creation is f.there ∙ f.file.path; rows = f.file.rows });
       checkpoint = f.checkpoint;
       kind = f.kind;
+      tag = f.tag;
+    }
+
+set-id : (l : Ledger) (e : SetEntry) → IsLedger l → Contains l.sets e → IdRule (ledger_records l) e.id 4 5 7
+set-id l e is has =
+    let within = set-id-within l e is has in
+    record {
+      number = within.0;
+      below = within.1;
+      not_second = no-log l e.id is within.1 (λ x other same. is.ids.logs_apart x e other has (sym same));
+      not_third = no-piece l e.id is within.1 (λ p other same. is.ids.pieces_apart p e other has (sym same));
+      not_fourth = no-part l e.id;
+    }
+
+set-part-rule : (l : Ledger) (e : SetEntry) (p : SetPart) → IsLedger l → IsThere l.tree e.inc → IsSetPart l.tree l.files e p → SetPartRule (ledger_records l) e p
+set-part-rule l e p is there f = record {
+  file = on-file l p.file f.datafile (FitsSetFile (ledger_records l) e p) is f.number f.is (record { path = path-is l e.inc f.datafile.creation is there ∙ f.path; creation = f.creation; rows = f.rows });
+  kind = f.kind;
+  high = f.high.0;
+  end = on-incarnation l e.inc (λ i. p.high ≤ i.end) is there f.high.1;
+}
+
+pub set-rule : (l : Ledger) (e : SetEntry) → IsLedger l → Contains l.sets e → SetRule (ledger_records l) e
+set-rule l e is has =
+    let f = All-contains (IsSetEntry l.tree l.files) l.sets e is.sets has in
+    record {
+      id = set-id l e is has;
+      size = f.size;
+      checkpoint = f.checkpoint;
+      parts = record {
+        some = f.count.0;
+        few = f.count.1;
+        ascend = f.ascend;
+        each = All-weaker (IsSetPart l.tree l.files e) (SetPartRule (ledger_records l) e) (λ p fits. set-part-rule l e p is f.there fits) e.parts f.parts;
+      };
       tag = f.tag;
     }

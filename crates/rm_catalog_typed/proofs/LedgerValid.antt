@@ -6,10 +6,10 @@ use Rattle.rm_catalog.specs.Rules.{OwnRule, IsCatalog}
 use Rattle.rm_catalog_typed.specs.Ledger.{Ledger, ledger_records}
 use Rattle.rm_catalog_typed.specs.LedgerFacts.{IsLedger}
 use Rattle.rm_catalog_typed.proofs.Order.{records-order}
-use Rattle.rm_catalog_typed.proofs.Lookups.{IsOf, of_base, of_incarnation, of_datafile, of_log, of_piece, of_mark, record-is, has-database}
+use Rattle.rm_catalog_typed.proofs.Lookups.{IsOf, of_base, of_incarnation, of_datafile, of_log, of_piece, of_mark, of_set, record-is, has-database}
 use Rattle.rm_catalog_typed.proofs.Counted.{record-once, record-few}
 use Rattle.rm_catalog_typed.proofs.LedgerThings.{base-rule, incarnation-rule, datafile-rule, mark-rule}
-use Rattle.rm_catalog_typed.proofs.LedgerObjects.{log-rule, piece-rule}
+use Rattle.rm_catalog_typed.proofs.LedgerObjects.{log-rule, piece-rule, set-rule}
 
 -- each record obeys the rule of its kind
 own-rule : (l : Ledger) (r : Record) → IsLedger l → IsOf l r → OwnRule (ledger_records l) r
@@ -19,6 +19,7 @@ own-rule l r is (of_datafile k d there q) = subst (OwnRule (ledger_records l)) (
 own-rule l r is (of_log e there q) = subst (OwnRule (ledger_records l)) (sym q) (log-rule l e is there)
 own-rule l r is (of_piece p there q) = subst (OwnRule (ledger_records l)) (sym q) (piece-rule l p is there)
 own-rule l r is (of_mark k m there q) = subst (OwnRule (ledger_records l)) (sym q) (mark-rule l k m is there)
+own-rule l r is (of_set e there q) = subst (OwnRule (ledger_records l)) (sym q) (set-rule l e is there)
 
 pub ledger-valid : (l : Ledger) → IsLedger l → IsCatalog (ledger_records l)
 ledger-valid l is = record {

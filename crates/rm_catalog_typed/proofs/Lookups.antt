@@ -1,5 +1,5 @@
 -- What the records of a ledger are, and what is found at each place.
-use Rattle.std.proofs.Common.{◌≡◌, ◌≢◌, ◌∙◌, Bool, cond, ℕ, zero, suc, ◌+◌, ◌-◌, ◌<◌, ◌≤◌, List, [], ◌∷◌, ◌++◌, length, map, slice_get, Option, Some, None, refl, ap, sym, subst, arith, All, get_or}
+use Rattle.std.proofs.Common.{◌≡◌, ◌≢◌, ◌∙◌, Bool, cond, ℕ, zero, suc, ◌+◌, ◌-◌, ◌<◌, ◌≤◌, ◌⊎◌, inl, inr, List, [], ◌∷◌, ◌++◌, length, map, slice_get, Option, Some, None, refl, ap, sym, subst, arith, All, get_or}
 use Rattle.std.specs.Prelude.{Contains, IsSome, option_and_then}
 use Rattle.std.specs.Option.{option_map_or}
 use Rattle.std.proofs.lemmas.Bool.{false≢true, ne_eqb}
@@ -14,14 +14,15 @@ use Rattle.rm_catalog.specs.declared.record.IncarnationEntry.{IncarnationEntry}
 use Rattle.rm_catalog.specs.declared.record.LogEntry.{LogEntry}
 use Rattle.rm_catalog.specs.declared.record.PieceEntry.{PieceEntry}
 use Rattle.rm_catalog.specs.declared.record.Record.{Record}
+use Rattle.rm_catalog.specs.declared.record.SetEntry.{SetEntry}
 use Rattle.rm_catalog.specs.declared.record.Record.TheVariants as kind
 use Rattle.rm_catalog.specs.Keys.{place, place_of, at, incarnation, datafile, mark, incarnation_in, datafile_in, mark_in}
 use Rattle.rm_catalog.specs.Keys.{IsThere as HasKey}
 use Rattle.rm_catalog.proofs.Told.{found_is}
 use Rattle.rm_catalog.proofs.Unique.{in_tail}
-use Rattle.rm_catalog_typed.specs.Ledger.{Ledger, ledger_records, numbered, incarnation_record, datafile_record, mark_record}
+use Rattle.rm_catalog_typed.specs.Ledger.{Ledger, front_records, ledger_records, numbered, incarnation_record, datafile_record, mark_record}
 use Rattle.rm_catalog_typed.specs.LedgerFacts.{IsLedger}
-use Rattle.rm_catalog_typed.proofs.Order.{incarnations_of, datafiles_of, logs_of, pieces_of, marks_of, record-found, records-run, runs-within}
+use Rattle.rm_catalog_typed.proofs.Order.{incarnations_of, datafiles_of, logs_of, pieces_of, marks_of, sets_of, record-found}
 
 -- things that are numbered from n on have their records
 in-numbered : {X : Type 0} (make : ℕ → X → Record) (n : ℕ) (xs : List X) (k : ℕ) (x : X) → slice_get xs k ≡ Some x → Contains (numbered make n xs) (make (n + k) x)
@@ -85,6 +86,7 @@ pub data IsOf (l : Ledger) (r : Record) : Type 0 where
   of_log : (e : LogEntry) → Contains l.logs e → r ≡ kind.Log e → IsOf l r
   of_piece : (p : PieceEntry) → Contains l.pieces p → r ≡ kind.Piece p → IsOf l r
   of_mark : (k : ℕ) (m : Mark) → slice_get l.marks k ≡ Some m → r ≡ mark_record (1 + k) m → IsOf l r
+  of_set : (e : SetEntry) → Contains l.sets e → r ≡ kind.Set e → IsOf l r
 
 all-are : (l : Ledger) → All (IsOf l) (ledger_records l)
 all-are l =
@@ -98,12 +100,13 @@ all-are l =
     let three = All-append P (incarnations_of l ++ datafiles_of l) (logs_of l) two logs in
     let four = All-append P (incarnations_of l ++ datafiles_of l ++ logs_of l) (pieces_of l) three pieces in
     let five = All-append P (incarnations_of l ++ datafiles_of l ++ logs_of l ++ pieces_of l) (marks_of l) four marks in
-    All-cons P (kind.Base l.base) (incarnations_of l ++ datafiles_of l ++ logs_of l ++ pieces_of l ++ marks_of l) (of_base refl) five
+    let front = All-cons P (kind.Base l.base) (incarnations_of l ++ datafiles_of l ++ logs_of l ++ pieces_of l ++ marks_of l) (of_base refl) five in
+    All-append P (front_records l) (sets_of l) front (All-map P kind.Set l.sets (λ k d lt. of_set (get_or l.sets k d) (Contains-get_or l.sets k d lt) refl))
 
 pub record-is : (l : Ledger) (r : Record) → Contains (ledger_records l) r → IsOf l r
 record-is l r has = All-contains (IsOf l) (ledger_records l) r (all-are l) has
 
--- what stands at the place of an incarnation, of a log or of a piece
+-- what stands at the place of an incarnation, of a log, of a piece or of a set
 pub incarnation-told : (l : Ledger) (r : Record) (id : ℕ) → IsOf l r → place_of r ≡ place 2 id → (i : ℕ) × IsThere l.tree i × (r ≡ kind.Incarnation (entry_of l.tree i))
 incarnation-told l r id (of_base q) same = absurd (let here = ap place_of q in omega arith)
 incarnation-told l r id (of_incarnation i there q) same = (i, there, q)
@@ -111,6 +114,7 @@ incarnation-told l r id (of_datafile k d there q) same = absurd (let here = ap p
 incarnation-told l r id (of_log e there q) same = absurd (let here = ap place_of q in omega arith)
 incarnation-told l r id (of_piece p there q) same = absurd (let here = ap place_of q in omega arith)
 incarnation-told l r id (of_mark k m there q) same = absurd (let here = ap place_of q in omega arith)
+incarnation-told l r id (of_set e there q) same = absurd (let here = ap place_of q in omega arith)
 
 pub log-told : (l : Ledger) (r : Record) (id : ℕ) → IsOf l r → place_of r ≡ place 4 id → (e : LogEntry) × Contains l.logs e × (r ≡ kind.Log e)
 log-told l r id (of_base q) same = absurd (let here = ap place_of q in omega arith)
@@ -119,6 +123,7 @@ log-told l r id (of_datafile k d there q) same = absurd (let here = ap place_of 
 log-told l r id (of_log e there q) same = (e, there, q)
 log-told l r id (of_piece p there q) same = absurd (let here = ap place_of q in omega arith)
 log-told l r id (of_mark k m there q) same = absurd (let here = ap place_of q in omega arith)
+log-told l r id (of_set e there q) same = absurd (let here = ap place_of q in omega arith)
 
 pub piece-told : (l : Ledger) (r : Record) (id : ℕ) → IsOf l r → place_of r ≡ place 5 id → (p : PieceEntry) × Contains l.pieces p × (r ≡ kind.Piece p)
 piece-told l r id (of_base q) same = absurd (let here = ap place_of q in omega arith)
@@ -127,11 +132,31 @@ piece-told l r id (of_datafile k d there q) same = absurd (let here = ap place_o
 piece-told l r id (of_log e there q) same = absurd (let here = ap place_of q in omega arith)
 piece-told l r id (of_piece p there q) same = (p, there, q)
 piece-told l r id (of_mark k m there q) same = absurd (let here = ap place_of q in omega arith)
+piece-told l r id (of_set e there q) same = absurd (let here = ap place_of q in omega arith)
+
+pub set-told : (l : Ledger) (r : Record) (id : ℕ) → IsOf l r → place_of r ≡ place 9 id → (e : SetEntry) × Contains l.sets e × (r ≡ kind.Set e)
+set-told l r id (of_base q) same = absurd (let here = ap place_of q in omega arith)
+set-told l r id (of_incarnation i there q) same = absurd (let here = ap place_of q in omega arith)
+set-told l r id (of_datafile k d there q) same = absurd (let here = ap place_of q in omega arith)
+set-told l r id (of_log e there q) same = absurd (let here = ap place_of q in omega arith)
+set-told l r id (of_piece p there q) same = absurd (let here = ap place_of q in omega arith)
+set-told l r id (of_mark k m there q) same = absurd (let here = ap place_of q in omega arith)
+set-told l r id (of_set e there q) same = (e, there, q)
+
+-- none stands where the records of a saved site do
+pub apart-from-site : (l : Ledger) (r : Record) → IsOf l r → (place_of r < place 7 0) ⊎ (place 9 0 ≤ place_of r)
+apart-from-site l r (of_base q) = inl (let here = ap place_of q in omega arith)
+apart-from-site l r (of_incarnation i there q) = inl (let here = ap place_of q in omega arith)
+apart-from-site l r (of_datafile k d there q) = inl (let here = ap place_of q in omega arith)
+apart-from-site l r (of_log e there q) = inl (let here = ap place_of q in omega arith)
+apart-from-site l r (of_piece p there q) = inl (let here = ap place_of q in omega arith)
+apart-from-site l r (of_mark k m there q) = inl (let here = ap place_of q in omega arith)
+apart-from-site l r (of_set e there q) = inr (let here = ap place_of q in omega arith)
 
 module _ (l : Ledger) where
   -- what a section of the records has, the records have
   in-rest : (r : Record) → Contains (incarnations_of l ++ datafiles_of l ++ logs_of l ++ pieces_of l ++ marks_of l) r → Contains (ledger_records l) r
-  in-rest r has = in_tail (kind.Base l.base) (incarnations_of l ++ datafiles_of l ++ logs_of l ++ pieces_of l ++ marks_of l) r has
+  in-rest r has = Contains-append_left (front_records l) (sets_of l) r (in_tail (kind.Base l.base) (incarnations_of l ++ datafiles_of l ++ logs_of l ++ pieces_of l ++ marks_of l) r has)
 
   in-five : (r : Record) → Contains (incarnations_of l ++ datafiles_of l ++ logs_of l ++ pieces_of l) r → Contains (ledger_records l) r
   in-five r has = in-rest r (Contains-append_left (incarnations_of l ++ datafiles_of l ++ logs_of l ++ pieces_of l) (marks_of l) r has)
@@ -163,6 +188,9 @@ module _ (l : Ledger) where
 
   pub has-mark : (k : ℕ) (m : Mark) → slice_get l.marks k ≡ Some m → Contains (ledger_records l) (mark_record (1 + k) m)
   has-mark k m is = let r = mark_record (1 + k) m in in-rest r (Contains-append_right (incarnations_of l ++ datafiles_of l ++ logs_of l ++ pieces_of l) (marks_of l) r (in-numbered mark_record 1 l.marks k m is))
+
+  pub has-set : (e : SetEntry) → Contains l.sets e → Contains (ledger_records l) (kind.Set e)
+  has-set e has = Contains-append_right (front_records l) (sets_of l) (kind.Set e) (in-map kind.Set l.sets e has)
 
 pub has-database : (l : Ledger) → HasKey 1 0 (ledger_records l)
 has-database l = refl
@@ -204,34 +232,41 @@ no-incarnation l = none-there l 2 0 (λ r has same.
     omega arith)
 
 -- no ledger has a record of a saved site
-pub no-part : (l : Ledger) (id : ℕ) → IsLedger l → ¬ HasKey 7 id (ledger_records l)
-no-part l id is = none-there l 7 id (λ r has same.
-    let within = All-contains (λ (x : Record). (place 1 0 ≤ place_of x) × (place_of x < place 7 0)) (ledger_records l) r (runs-within (place 1 0) (place 7 0) (ledger_records l) (records-run l is)) has in
-    let high = within.1 in
-    omega arith)
+pub no-part : (l : Ledger) (id : ℕ) → ¬ HasKey 7 id (ledger_records l)
+no-part l id = none-there l 7 id (λ r has same. elim (apart-from-site l r (record-is l r has)) [ inl low ↦ omega arith | inr late ↦ omega arith ])
 
--- the ids of a log and of a piece lie within their bounds
+-- the ids of a log, of a piece and of a set lie within their bounds
 pub log-id-within : (l : Ledger) (e : LogEntry) → IsLedger l → Contains l.logs e → (1 ≤ e.id) × (e.id < l.base.next_id)
 log-id-within l e is has = All-contains (λ (x : LogEntry). (1 ≤ x.id) × (x.id < l.base.next_id)) l.logs e is.ids.logs has
 
 pub piece-id-within : (l : Ledger) (p : PieceEntry) → IsLedger l → Contains l.pieces p → (1 ≤ p.id) × (p.id < l.base.next_id)
 piece-id-within l p is has = All-contains (λ (x : PieceEntry). (1 ≤ x.id) × (x.id < l.base.next_id)) l.pieces p is.ids.pieces has
 
--- no record of a piece has the id of a log, and the other way round
-pub log-no-piece : (l : Ledger) (e : LogEntry) → IsLedger l → Contains l.logs e → ¬ HasKey 5 e.id (ledger_records l)
-log-no-piece l e is has = none-there l 5 e.id (λ r there same.
-    let p = piece-told l r e.id (record-is l r there) same in
-    let here = ap place_of p.2 in
-    let one = (log-id-within l e is has).1 in
-    let other = (piece-id-within l p.0 is p.1).1 in
-    let most = is.base.next_id.1 in
-    is.ids.apart e p.0 has p.1 (omega arith))
+pub set-id-within : (l : Ledger) (e : SetEntry) → IsLedger l → Contains l.sets e → (1 ≤ e.id) × (e.id < l.base.next_id)
+set-id-within l e is has = All-contains (λ (x : SetEntry). (1 ≤ x.id) × (x.id < l.base.next_id)) l.sets e is.ids.sets has
 
-pub piece-no-log : (l : Ledger) (p : PieceEntry) → IsLedger l → Contains l.pieces p → ¬ HasKey 4 p.id (ledger_records l)
-piece-no-log l p is has = none-there l 4 p.id (λ r there same.
-    let e = log-told l r p.id (record-is l r there) same in
-    let here = ap place_of e.2 in
-    let one = (piece-id-within l p is has).1 in
-    let other = (log-id-within l e.0 is e.1).1 in
-    let most = is.base.next_id.1 in
-    is.ids.apart e.0 p e.1 has (omega arith))
+-- no record of a kind of objects has an id below the next one that none of those objects has
+module _ (l : Ledger) (id : ℕ) (is : IsLedger l) (low : id < l.base.next_id) where
+  pub no-log : ((e : LogEntry) → Contains l.logs e → id ≢ e.id) → ¬ HasKey 4 id (ledger_records l)
+  no-log apart = none-there l 4 id (λ r there same.
+      let e = log-told l r id (record-is l r there) same in
+      let here = ap place_of e.2 in
+      let own = (log-id-within l e.0 is e.1).1 in
+      let most = is.base.next_id.1 in
+      apart e.0 e.1 (omega arith))
+
+  pub no-piece : ((p : PieceEntry) → Contains l.pieces p → id ≢ p.id) → ¬ HasKey 5 id (ledger_records l)
+  no-piece apart = none-there l 5 id (λ r there same.
+      let p = piece-told l r id (record-is l r there) same in
+      let here = ap place_of p.2 in
+      let own = (piece-id-within l p.0 is p.1).1 in
+      let most = is.base.next_id.1 in
+      apart p.0 p.1 (omega arith))
+
+  pub no-set : ((e : SetEntry) → Contains l.sets e → id ≢ e.id) → ¬ HasKey 9 id (ledger_records l)
+  no-set apart = none-there l 9 id (λ r there same.
+      let e = set-told l r id (record-is l r there) same in
+      let here = ap place_of e.2 in
+      let own = (set-id-within l e.0 is e.1).1 in
+      let most = is.base.next_id.1 in
+      apart e.0 e.1 (omega arith))

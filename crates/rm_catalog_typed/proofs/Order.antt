@@ -9,7 +9,7 @@ use Rattle.rm_catalog.specs.declared.record.Record.TheVariants as kind
 use Rattle.rm_catalog.specs.Keys.{place, place_of, at, InOrder}
 use Rattle.rm_catalog.proofs.Unique.{Rises, all_above}
 use Rattle.rm_catalog.proofs.Told.{at_here, at_past}
-use Rattle.rm_catalog_typed.specs.Ledger.{Ledger, ledger_records, numbered, incarnation_record, datafile_record, mark_record}
+use Rattle.rm_catalog_typed.specs.Ledger.{Ledger, front_records, ledger_records, numbered, incarnation_record, datafile_record, mark_record}
 use Rattle.rm_catalog_typed.specs.LedgerFacts.{IsLedger}
 
 -- the places rise strictly, all from `low` on and below `high`
@@ -96,10 +96,14 @@ pieces_of l = map kind.Piece l.pieces
 abbrev pub marks_of : Ledger → List Record
 marks_of l = numbered mark_record 1 l.marks
 
+abbrev pub sets_of : Ledger → List Record
+sets_of l = map kind.Set l.sets
+
 -- a ledger has at least as many records as marks
 pub marks-few : (l : Ledger) → length l.marks ≤ length (ledger_records l)
 marks-few l =
     let front = incarnations_of l ++ datafiles_of l ++ logs_of l ++ pieces_of l in
+    let all = length-append (front ++ marks_of l) (sets_of l) in
     let both = length-append front (marks_of l) in
     let marks = length-numbered mark_record 1 l.marks in
     omega arith
@@ -124,18 +128,27 @@ pieces-run l is =
 pub marks-run : (l : Ledger) → IsLedger l → Runs (place 6 1) (place 7 0) (marks_of l)
 marks-run l is = let most = marks-few l in let few = is.few in runs-numbered mark_record 6 1 l.marks (λ k m. refl) (omega arith)
 
--- the records of a ledger run on, kind by kind, below the places of a saved site
-pub records-run : (l : Ledger) → IsLedger l → Runs (place 1 0) (place 7 0) (ledger_records l)
+pub sets-run : (l : Ledger) → IsLedger l → Runs (place 9 1) (place 10 0) (sets_of l)
+sets-run l is =
+    let next = is.base.next_id.1 in
+    runs-objects kind.Set (λ e. e.id) 9 1 l.sets (λ e. refl) (λ k d lt. let e = is.ids.sets k d lt in let high = e.1 in (e.0, omega arith)) is.ids.sets_ascend
+
+-- what goes on behind a gap
+pub runs-join : (mid low from high : ℕ) (rs qs : List Record) → mid ≤ from → Runs low mid rs → Runs from high qs → Runs low high (rs ++ qs)
+runs-join mid low from high rs qs le up down = runs-append low mid high rs qs up (runs-lower mid from high qs le down)
+
+-- the records of a ledger run on, kind by kind, below the places of a saved site, and behind them
+pub front-run : (l : Ledger) → IsLedger l → Runs (place 1 0) (place 7 0) (front_records l)
 unfolding Runs
-records-run l is =
+front-run l is =
     let two = runs-join (place 3 0) (place 2 1) (place 3 1) (place 4 0) (incarnations_of l) (datafiles_of l) (omega arith) (incarnations-run l is) (datafiles-run l is) in
     let three = runs-join (place 4 0) (place 2 1) (place 4 1) (place 5 0) (incarnations_of l ++ datafiles_of l) (logs_of l) (omega arith) two (logs-run l is) in
     let four = runs-join (place 5 0) (place 2 1) (place 5 1) (place 6 0) (incarnations_of l ++ datafiles_of l ++ logs_of l) (pieces_of l) (omega arith) three (pieces-run l is) in
     let five = runs-join (place 6 0) (place 2 1) (place 6 1) (place 7 0) (incarnations_of l ++ datafiles_of l ++ logs_of l ++ pieces_of l) (marks_of l) (omega arith) four (marks-run l is) in
     (omega arith, runs-lower (place 1 0 + 1) (place 2 1) (place 7 0) (incarnations_of l ++ datafiles_of l ++ logs_of l ++ pieces_of l ++ marks_of l) (omega arith) five)
-  where
-    runs-join : (mid low from high : ℕ) (rs qs : List Record) → mid ≤ from → Runs low mid rs → Runs from high qs → Runs low high (rs ++ qs)
-    runs-join mid low from high rs qs le up down = runs-append low mid high rs qs up (runs-lower mid from high qs le down)
+
+pub records-run : (l : Ledger) → IsLedger l → Runs (place 1 0) (place 10 0) (ledger_records l)
+records-run l is = runs-join (place 7 0) (place 1 0) (place 9 1) (place 10 0) (front_records l) (sets_of l) (omega arith) (front-run l is) (sets-run l is)
 
 -- records that rise are in order
 pub rises-order : (low : ℕ) (rs : List Record) → Rises low rs → InOrder rs
@@ -158,8 +171,8 @@ rises-found low (r ∷ rs) x up (suc k, lt, is) =
 
 -- the records of a ledger are in order
 pub records-order : (l : Ledger) → IsLedger l → InOrder (ledger_records l)
-records-order l is = rises-order (place 1 0) (ledger_records l) (runs-rise (place 1 0) (place 7 0) (ledger_records l) (records-run l is))
+records-order l is = rises-order (place 1 0) (ledger_records l) (runs-rise (place 1 0) (place 10 0) (ledger_records l) (records-run l is))
 
 -- a record of a ledger is found at its place
 pub record-found : (l : Ledger) (r : Record) → IsLedger l → Contains (ledger_records l) r → at (place_of r) (ledger_records l) ≡ Some r
-record-found l r is has = rises-found (place 1 0) (ledger_records l) r (runs-rise (place 1 0) (place 7 0) (ledger_records l) (records-run l is)) has
+record-found l r is has = rises-found (place 1 0) (ledger_records l) r (runs-rise (place 1 0) (place 10 0) (ledger_records l) (records-run l is)) has

@@ -26,7 +26,7 @@ use Rattle.rm_catalog_typed.specs.Kinds.{AreSmall, ledger_in, typed_catalog_in, 
 use Rattle.rm_catalog_typed.proofs.ByKind.{is-datafile, is-part, made, placed, told-in-order}
 use Rattle.rm_catalog_typed.proofs.Ledgers.{long}
 use Rattle.rm_catalog_typed.proofs.Loads.{ledger-is}
-use Rattle.rm_catalog_typed.proofs.Told.{has-key, head-rule, key-there, log-rule, on-base, part-rule, piece-rule}
+use Rattle.rm_catalog_typed.proofs.Told.{has-key, head-rule, key-there, log-rule, on-base, part-rule, piece-rule, set-rule}
 
 -- a datafile whose key is there is one of the list
 file-there : (rs : List Record) (n : ℕ) → IsCatalog rs → HasKey 3 n rs → n ≤ length (datafiles rs)
@@ -103,6 +103,7 @@ module _ (rs : List Record) (b : BaseEntry) (c : IsCatalog rs) (is : base rs ≡
     apart = parts-apart;
     logs = λ e p has other same. (log-rule rs e c has).id.not_third (has-key rs (records.Part p) 7 e.id c (made records.Part part_in 7 is-part rs p other) (ap (place 7) (sym same)));
     pieces = λ e p has other same. (piece-rule rs e c has).id.not_third (has-key rs (records.Part p) 7 e.id c (made records.Part part_in 7 is-part rs p other) (ap (place 7) (sym same)));
+    sets = λ e p has other same. (set-rule rs e c has).id.not_fourth (has-key rs (records.Part p) 7 e.id c (made records.Part part_in 7 is-part rs p other) (ap (place 7) (sym same)));
     point = λ some. key-there rs h.inc c ((head-rule rs h c (there h (in-front h hs))).point some);
   }
 

@@ -1,13 +1,13 @@
--- The logs, pieces and marks of a catalog are those of a ledger.
+-- The logs, pieces, sets and marks of a catalog are those of a ledger.
 use Rattle.std.proofs.Common.{◌≡◌, ◌∙◌, ℕ, ◌+◌, ◌-◌, ◌<◌, ◌≤◌, List, get_or, map, Option, Some, None, refl, ap, sym, subst, arith, All, Contains, slice_get}
 use Rattle.std.specs.Prelude.{IsSomeAnd, IsTrue}
 use Rattle.std.specs.List.{filter_map}
 use Rattle.std.specs.Option.{option_map}
 use Rattle.std.proofs.lemmas.Bool.{eqb-true}
 use Rattle.std.proofs.lemmas.List.{get_or-map, length-map}
-use Rattle.std.proofs.lemmas.List.Elements.{All-map, Contains-get_or}
+use Rattle.std.proofs.lemmas.List.Elements.{All-contains, All-map, All-weaker, Contains-get_or}
 use Rattle.std.proofs.lemmas.List.Folds.{Any-from_list_any}
-use Rattle.std.proofs.lemmas.Option.{slice_get-map}
+use Rattle.std.proofs.lemmas.Option.{get_or_from_slice_get, slice_get-map}
 use Rattle.rm_base.specs.declared.block.Mark.{Mark}
 use Rattle.rm_base.proofs.Lists.{map_to}
 use Rattle.rm_history.specs.declared.world.Datafile.{Datafile}
@@ -18,11 +18,14 @@ use Rattle.rm_catalog.specs.declared.record.LogEntry.{LogEntry}
 use Rattle.rm_catalog.specs.declared.record.MarkEntry.{MarkEntry}
 use Rattle.rm_catalog.specs.declared.record.PieceEntry.{PieceEntry}
 use Rattle.rm_catalog.specs.declared.record.Record.{Record}
+use Rattle.rm_catalog.specs.declared.record.SetEntry.{SetEntry}
+use Rattle.rm_catalog.specs.declared.record.SetPart.{SetPart}
 use Rattle.rm_catalog.specs.declared.record.Record.TheVariants as records
-use Rattle.rm_catalog.specs.Keys.{base, datafile, log_in, piece_in, place}
+use Rattle.rm_catalog.specs.Keys.{base, datafile, log_in, piece_in, place, set_in}
 use Rattle.rm_catalog.specs.Facts.{IsWithin, is_mark_of}
 use Rattle.rm_catalog.specs.Objects.{IsRange, FitsDatafile}
 use Rattle.rm_catalog.specs.Rules.{IsCatalog}
+use Rattle.rm_catalog.specs.SetRules.{FitsSetFile, SetPartRule}
 use Rattle.rm_catalog.specs.Trees.{nodes}
 use Rattle.rm_catalog.proofs.Trees.{path_is}
 use Rattle.rm_evidence.specs.Database.{created_by, datafiles}
@@ -30,12 +33,13 @@ use Rattle.rm_evidence.proofs.Files.{entries, datafiles-are, entry-is}
 use Rattle.rm_evidence.proofs.Found.{datafile-rule, datafile-there}
 use Rattle.rm_evidence.proofs.Telling.{record-told}
 use Rattle.rm_evidence.proofs.DatabaseWorlds.{entry-of}
-use Rattle.rm_catalog_typed.specs.LedgerFacts.{AreIds, AreMarks, HasMark, IsBase, IsLogEntry, IsMark, IsOfFile, IsPieceEntry, Rise}
+use Rattle.rm_catalog_typed.specs.LedgerFacts.{AreIds, AreMarks, HasMark, IsBase, IsLogEntry, IsMark, IsPieceEntry, IsSetEntry, IsSetPart, Rise}
 use Rattle.rm_catalog_typed.specs.Kinds.{AreSmall, marked_by}
-use Rattle.rm_catalog_typed.proofs.ByKind.{is-log, is-piece, made, told-in-order}
+use Rattle.rm_catalog_typed.proofs.ByKind.{is-log, is-piece, is-set, made, told-in-order}
+use Rattle.rm_catalog_typed.proofs.Lookups.{item-at}
 use Rattle.rm_catalog_typed.proofs.Marks.{mark-rule, moments-rise}
 use Rattle.rm_catalog_typed.proofs.Marks.{entries as mark_entries, entry-record as mark-record}
-use Rattle.rm_catalog_typed.proofs.Told.{base-rule, has-key, log-rule, on-base, on-incarnation, piece-rule}
+use Rattle.rm_catalog_typed.proofs.Told.{base-rule, has-key, log-rule, on-base, on-incarnation, piece-rule, set-rule}
 
 module _ (rs : List Record) (b : BaseEntry) (c : IsCatalog rs) (is : base rs ≡ Some b) where
   log-fits : (e : LogEntry) → Contains (filter_map log_in rs) e → IsLogEntry (nodes rs) b.threads e
@@ -53,31 +57,37 @@ module _ (rs : List Record) (b : BaseEntry) (c : IsCatalog rs) (is : base rs ≡
   pub logs-fit : All (IsLogEntry (nodes rs) b.threads) (filter_map log_in rs)
   logs-fit k d lt = log-fits (get_or (filter_map log_in rs) k d) (Contains-get_or (filter_map log_in rs) k d lt)
 
-  -- the datafile of a piece
-  of-file : (p : PieceEntry) → IsThere (nodes rs) p.inc → IsSomeAnd (datafile p.file rs) (FitsDatafile rs p) → IsOfFile (nodes rs) (datafiles rs) p
-  of-file p inc some = decide (datafile p.file rs) refl some
+  -- a datafile of which something holds
+  record OnFile (file : ℕ) (P : DatafileEntry → Type 0) : Type 0 where
+    pub some : 0 < file
+    pub entry : DatafileEntry
+    pub found : slice_get (datafiles rs) (file - 1) ≡ Some (created_by entry)
+    pub holds : P entry
+
+  on-file : (file : ℕ) (P : DatafileEntry → Type 0) → IsSomeAnd (datafile file rs) P → OnFile file P
+  on-file file P some = decide (datafile file rs) refl some
     where
-      decide : (o : Option DatafileEntry) → datafile p.file rs ≡ o → IsSomeAnd o (FitsDatafile rs p) → IsOfFile (nodes rs) (datafiles rs) p
+      decide : (o : Option DatafileEntry) → datafile file rs ≡ o → IsSomeAnd o P → OnFile file P
       decide None e some = absurd some
-      decide (Some f) e fits =
-          let there = datafile-there rs p.file f c e in
+      decide (Some f) e holds =
+          let there = datafile-there rs file f c e in
           let number = (datafile-rule rs f c there.0).number.0 in
-          let next : p.file ≡ (p.file - 1) + 1 = omega arith in
+          let next : file ≡ (file - 1) + 1 = omega arith in
           record {
-            number = omega arith;
-            datafile = created_by f;
-            is = ap (λ (x : List Datafile). slice_get x (p.file - 1)) (datafiles-are rs) ∙ slice_get-map created_by (entries rs) (p.file - 1) ∙ ap (option_map created_by) (entry-is rs (p.file - 1) p.file c next ∙ e);
-            path = sym (path_is rs p.inc f.creation c inc) ∙ fits.path;
-            rows = fits.rows;
+            some = omega arith;
+            entry = f;
+            found = ap (λ (x : List Datafile). slice_get x (file - 1)) (datafiles-are rs) ∙ slice_get-map created_by (entries rs) (file - 1) ∙ ap (option_map created_by) (entry-is rs (file - 1) file c next ∙ e);
+            holds = holds;
           }
 
   piece-fits : (p : PieceEntry) → Contains (filter_map piece_in rs) p → IsPieceEntry (nodes rs) (datafiles rs) p
   piece-fits p has =
       let rule = piece-rule rs p c has in
       let on = on-incarnation rs p.inc (λ i. p.high ≤ i.end) c rule.end in
+      let f = on-file p.file (FitsDatafile rs p) rule.file in
       record {
         there = on.there;
-        file = of-file p on.there rule.file;
+        file = record { number = f.some; datafile = created_by f.entry; is = f.found; path = sym (path_is rs p.inc f.entry.creation c on.there) ∙ f.holds.path; rows = f.holds.rows };
         checkpoint = rule.checkpoint;
         high = omega arith;
         kind = rule.kind;
@@ -88,7 +98,48 @@ module _ (rs : List Record) (b : BaseEntry) (c : IsCatalog rs) (is : base rs ≡
   pub pieces-fit : All (IsPieceEntry (nodes rs) (datafiles rs)) (filter_map piece_in rs)
   pieces-fit k d lt = piece-fits (get_or (filter_map piece_in rs) k d) (Contains-get_or (filter_map piece_in rs) k d lt)
 
-  pub ids-fit : AreIds 1 b.next_id (filter_map log_in rs) (filter_map piece_in rs)
+  -- the first part of a set tells its incarnation
+  set-there : (e : SetEntry) → Contains (filter_map set_in rs) e → IsThere (nodes rs) e.inc
+  set-there e has =
+      let parts = (set-rule rs e c has).parts in
+      let some = parts.some in
+      let first = item-at e.parts 0 (omega arith) in
+      let end = (All-contains (SetPartRule rs e) e.parts first.0 parts.each (0, omega arith, get_or_from_slice_get e.parts 0 first.0 first.0 first.1)).end in
+      (on-incarnation rs e.inc (λ i. first.0.high ≤ i.end) c end).there
+
+  set-part-fits : (e : SetEntry) (p : SetPart) → IsThere (nodes rs) e.inc → SetPartRule rs e p → IsSetPart (nodes rs) (datafiles rs) e p
+  set-part-fits e p there rule =
+      let on = on-incarnation rs e.inc (λ i. p.high ≤ i.end) c rule.end in
+      let f = on-file p.file (FitsSetFile rs e p) rule.file in
+      record {
+        number = f.some;
+        datafile = created_by f.entry;
+        is = f.found;
+        path = sym (path_is rs e.inc f.entry.creation c there) ∙ f.holds.path;
+        creation = f.holds.creation;
+        rows = f.holds.rows;
+        kind = rule.kind;
+        high = (rule.high, omega arith);
+      }
+
+  set-fits : (e : SetEntry) → Contains (filter_map set_in rs) e → IsSetEntry (nodes rs) (datafiles rs) e
+  set-fits e has =
+      let rule = set-rule rs e c has in
+      let there = set-there e has in
+      record {
+        there = there;
+        checkpoint = rule.checkpoint;
+        count = (rule.parts.some, rule.parts.few);
+        ascend = rule.parts.ascend;
+        parts = All-weaker (SetPartRule rs e) (IsSetPart (nodes rs) (datafiles rs) e) (λ p own. set-part-fits e p there own) e.parts rule.parts.each;
+        tag = rule.tag;
+        size = rule.size;
+      }
+
+  pub sets-fit : All (IsSetEntry (nodes rs) (datafiles rs)) (filter_map set_in rs)
+  sets-fit k d lt = set-fits (get_or (filter_map set_in rs) k d) (Contains-get_or (filter_map set_in rs) k d lt)
+
+  pub ids-fit : AreIds 1 b.next_id (filter_map log_in rs) (filter_map piece_in rs) (filter_map set_in rs)
   ids-fit = record {
     logs = λ k d lt.
         let e = get_or (filter_map log_in rs) k d in
@@ -98,10 +149,18 @@ module _ (rs : List Record) (b : BaseEntry) (c : IsCatalog rs) (is : base rs ≡
         let e = get_or (filter_map piece_in rs) k d in
         let rule = piece-rule rs e c (Contains-get_or (filter_map piece_in rs) k d lt) in
         (rule.id.number, on-base rs b (λ b. e.id < b.next_id) is rule.id.below);
+    sets = λ k d lt.
+        let e = get_or (filter_map set_in rs) k d in
+        let rule = set-rule rs e c (Contains-get_or (filter_map set_in rs) k d lt) in
+        (rule.id.number, on-base rs b (λ b. e.id < b.next_id) is rule.id.below);
     logs_ascend = told-in-order records.Log log_in 4 is-log (λ e. e.id) (λ e. refl) rs c;
     pieces_ascend = told-in-order records.Piece piece_in 5 is-piece (λ p. p.id) (λ p. refl) rs c;
+    sets_ascend = told-in-order records.Set set_in 9 is-set (λ e. e.id) (λ e. refl) rs c;
     apart = λ e p has other same.
         (log-rule rs e c has).id.not_second (has-key rs (records.Piece p) 5 e.id c (made records.Piece piece_in 5 is-piece rs p other) (ap (place 5) (sym same)));
+    logs_apart = λ e s has other same. (log-rule rs e c has).id.not_fourth (has-key rs (records.Set s) 9 e.id c (made records.Set set_in 9 is-set rs s other) (ap (place 9) (sym same)));
+    pieces_apart = λ p s has other same.
+        (piece-rule rs p c has).id.not_fourth (has-key rs (records.Set s) 9 p.id c (made records.Set set_in 9 is-set rs s other) (ap (place 9) (sym same)));
   }
 
   -- the marks

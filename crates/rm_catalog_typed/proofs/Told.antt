@@ -11,12 +11,14 @@ use Rattle.rm_catalog.specs.declared.record.LogEntry.{LogEntry}
 use Rattle.rm_catalog.specs.declared.record.PartEntry.{PartEntry}
 use Rattle.rm_catalog.specs.declared.record.PieceEntry.{PieceEntry}
 use Rattle.rm_catalog.specs.declared.record.Record.{Record}
+use Rattle.rm_catalog.specs.declared.record.SetEntry.{SetEntry}
 use Rattle.rm_catalog.specs.declared.record.Record.TheVariants as records
-use Rattle.rm_catalog.specs.Keys.{at, base, base_in, head_in, incarnation, incarnation_in, log_in, part_in, piece_in, place, place_of}
+use Rattle.rm_catalog.specs.Keys.{at, base, base_in, head_in, incarnation, incarnation_in, log_in, part_in, piece_in, place, place_of, set_in}
 use Rattle.rm_catalog.specs.Keys.{IsThere as HasKey}
 use Rattle.rm_catalog.specs.Facts.{BaseRule}
 use Rattle.rm_catalog.specs.Objects.{LogRule, PieceRule}
 use Rattle.rm_catalog.specs.Saved.{HeadRule, PartRule}
+use Rattle.rm_catalog.specs.SetRules.{SetRule}
 use Rattle.rm_catalog.specs.Rules.{IsCatalog}
 use Rattle.rm_catalog.specs.Trees.{nodes}
 use Rattle.rm_catalog.proofs.Told.{found_is}
@@ -26,13 +28,16 @@ use Rattle.rm_history.specs.declared.tree.Incarnation as tree
 use Rattle.rm_history.specs.Tree.{IsThere, reset_of, end_of}
 use Rattle.rm_evidence.proofs.Found.{at-is, obeys}
 use Rattle.rm_evidence.proofs.DatabaseWorlds.{found-there, reset-is}
-use Rattle.rm_catalog_typed.proofs.ByKind.{is-base, is-head, is-incarnation, is-log, is-part, is-piece, made, placed, told-in-order, told-is}
+use Rattle.rm_catalog_typed.proofs.ByKind.{is-base, is-head, is-incarnation, is-log, is-part, is-piece, is-set, made, placed, told-in-order, told-is}
 
 pub log-rule : (rs : List Record) (e : LogEntry) → IsCatalog rs → Contains (filter_map log_in rs) e → LogRule rs e
 log-rule rs e c has = (obeys rs (records.Log e) c (made records.Log log_in 4 is-log rs e has)).own
 
 pub piece-rule : (rs : List Record) (e : PieceEntry) → IsCatalog rs → Contains (filter_map piece_in rs) e → PieceRule rs e
 piece-rule rs e c has = (obeys rs (records.Piece e) c (made records.Piece piece_in 5 is-piece rs e has)).own
+
+pub set-rule : (rs : List Record) (e : SetEntry) → IsCatalog rs → Contains (filter_map set_in rs) e → SetRule rs e
+set-rule rs e c has = (obeys rs (records.Set e) c (made records.Set set_in 9 is-set rs e has)).own
 
 pub part-rule : (rs : List Record) (e : PartEntry) → IsCatalog rs → Contains (filter_map part_in rs) e → PartRule rs e
 part-rule rs e c has = (obeys rs (records.Part e) c (made records.Part part_in 7 is-part rs e has)).own

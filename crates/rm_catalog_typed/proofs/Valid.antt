@@ -1,10 +1,11 @@
--- The records of a typed catalog are valid: those of a saved site stand behind all others, of which each rule holds as before.
-use Rattle.std.proofs.Common.{◌≡◌, ◌∙◌, ℕ, zero, suc, ◌+◌, ◌-◌, ◌<◌, ◌≤◌, ◌==◌, inl, inr, Bool, false, true, cond, leb, List, [], ◌∷◌, ◌++◌, map, get_or, length, Option, Some, None, refl, ap, sym, subst, arith, All, AllPairs, Contains, eq-eqb, le-ltb}
-use Rattle.std.specs.Prelude.{IfSome, IsSome, IsSomeAnd, MatchBool, ◌||◌, count_by, nat_lt, option_and_then, sum_by}
+-- The records of a typed catalog are valid: those of a saved site stand among the others, of which each rule holds as before.
+use Rattle.std.proofs.Common.{◌≡◌, ◌≢◌, ◌∙◌, ℕ, zero, suc, ◌+◌, ◌-◌, ◌<◌, ◌≤◌, ◌==◌, ◌⊎◌, inl, inr, Bool, false, true, cond, leb, List, [], ◌∷◌, ◌++◌, map, get_or, length, Option, Some, None, refl, ap, sym, subst, arith, All, AllPairs, Contains, eq-eqb}
+use Rattle.std.specs.Prelude.{IfSome, IsSome, IsSomeAnd, MatchBool, ◌&&◌, ◌||◌, count_by, nat_lt, option_and_then, sum_by}
 use Rattle.std.specs.List.{list_any}
 use Rattle.std.specs.Option.{option_map_or}
-use Rattle.std.proofs.lemmas.Bool.{and_parts, cases_Bool, cases_eq, eqb-true, false_from_ne_true, ne_eqb}
-use Rattle.std.proofs.lemmas.List.Elements.{All-contains, All-map, Contains-append_cases, Contains-append_left, Contains-append_right, Contains-get_or, Contains-push_cases}
+use Rattle.std.proofs.lemmas.Bool.{and_parts, cases_Bool, cases_eq, eqb-true, false_from_ne_true, ne_eqb, true≢false}
+use Rattle.std.proofs.lemmas.Bool.Decides.{nat_tests}
+use Rattle.std.proofs.lemmas.List.Elements.{All-contains, All-map, All-weaker, Contains-append_cases, Contains-append_left, Contains-append_right, Contains-get_or, Contains-push_cases}
 use Rattle.std.proofs.lemmas.List.Folds.{list_any-append}
 use Rattle.std.proofs.lemmas.List.Sums.{length-filter, sum_by-append, sum_by-cons}
 use Rattle.rm_catalog.specs.declared.record.DatafileEntry.{DatafileEntry}
@@ -13,45 +14,67 @@ use Rattle.rm_catalog.specs.declared.record.LogEntry.{LogEntry}
 use Rattle.rm_catalog.specs.declared.record.PartEntry.{PartEntry}
 use Rattle.rm_catalog.specs.declared.record.PieceEntry.{PieceEntry}
 use Rattle.rm_catalog.specs.declared.record.Record.{Record}
+use Rattle.rm_catalog.specs.declared.record.SetEntry.{SetEntry}
+use Rattle.rm_catalog.specs.declared.record.SetPart.{SetPart}
 use Rattle.rm_catalog.specs.declared.record.Record.TheVariants as kind
 use Rattle.rm_catalog.specs.Facts.{BeginsOn, IsCreatedOn, IsWithin, blocks_to, is_mark_of}
 use Rattle.rm_catalog.specs.Keys.{place, place_of, at, datafile, datafile_in, incarnation, incarnation_in, mark_in, part_in}
 use Rattle.rm_catalog.specs.Keys.{IsThere as HasKey}
 use Rattle.rm_catalog.specs.Objects.{FitsDatafile, IsRange, owner_in}
-use Rattle.rm_catalog.specs.Rules.{IsAmongFirst, IsCatalog, Obeys, OwnRule}
+use Rattle.rm_catalog.specs.Rules.{IsAmongFirst, IsCatalog, Obeys, OwnRule, is_lasting}
 use Rattle.rm_catalog.specs.Saved.{HeadRule, NamesOne, PartRule, is_part_of}
+use Rattle.rm_catalog.specs.SetRules.{FitsSetFile, SetPartRule}
 use Rattle.rm_catalog.proofs.Counts.{alike_count}
 use Rattle.rm_catalog.proofs.Filters.{filter_none}
 use Rattle.rm_catalog.proofs.Told.{at_here, at_past}
 use Rattle.rm_base.proofs.Members.{in-front, none-in}
 use Rattle.rm_base.proofs.Lists.{map_from}
-use Rattle.rm_catalog_typed.specs.Ledger.{ledger_records}
+use Rattle.rm_catalog_typed.specs.Ledger.{front_records, ledger_records, set_records}
 use Rattle.rm_catalog_typed.proofs.Counted.{rises-once, sum-none-map}
-use Rattle.rm_catalog_typed.proofs.Lookups.{datafile-at, incarnation-there, item-at, log-id-within, log-told, none-there, piece-id-within, piece-told, record-is}
-use Rattle.rm_catalog_typed.proofs.Order.{Runs, records-run, rises-found, rises-order, runs-append, runs-rise, runs-within}
+use Rattle.rm_catalog_typed.proofs.Lookups.{apart-from-site, datafile-at, incarnation-there, item-at, log-id-within, no-log, no-piece, no-set, piece-id-within, record-is, set-id-within}
+use Rattle.rm_catalog_typed.proofs.Order.{Runs, front-run, rises-found, rises-order, runs-append, runs-join, runs-rise, runs-within, sets-run}
 use Rattle.rm_catalog_typed.proofs.LedgerValid.{ledger-valid}
 use Rattle.rm_catalog_typed.specs.Facts.{AreApart, IsPartEntry, IsTypedCatalog, IsSaved}
 use Rattle.rm_catalog_typed.specs.TypedCatalog.{TypedCatalog, Saved, records_of, saved_records}
 use Rattle.rm_catalog_typed.proofs.ByKind.{is-part, placed}
 use Rattle.rm_catalog_typed.proofs.Changed.{saved-run}
-use Rattle.rm_catalog_typed.proofs.Members.{log-in, piece-in}
+use Rattle.rm_catalog_typed.proofs.Members.{ledger-has, log-in, piece-in, set-in, site-has}
 
--- what stands above a place is not found there
-none-at : (p : ℕ) (rs : List Record) → All (λ x. p < place_of x) rs → at p rs ≡ None
-none-at p [] high = refl
-none-at p (r ∷ rs) high = let first = high 0 r (omega arith) in at_past r rs p (λ e. omega arith) ∙ none-at p rs (λ k d lt. high (suc k) d (omega arith))
+-- records at other places may stand in front, and among others
+at-behind : (p : ℕ) (ys zs : List Record) → All (λ x. place_of x ≢ p) ys → at p (ys ++ zs) ≡ at p zs
+at-behind p [] zs apart = refl
+at-behind p (y ∷ ys) zs apart = at_past y (ys ++ zs) p (apart 0 y (omega arith)) ∙ at-behind p ys zs (λ k d lt. apart (suc k) d (omega arith))
 
--- so records above a place may follow
-at-front : (p : ℕ) (rs qs : List Record) → All (λ x. p < place_of x) qs → at p (rs ++ qs) ≡ at p rs
-at-front p [] qs high = none-at p qs high
-at-front p (r ∷ rs) qs high = elim (cases_eq (place_of r) p) [
-  | inl here ↦ at_here r (rs ++ qs) p here ∙ sym (at_here r rs p here)
-  | inr past ↦ at_past r (rs ++ qs) p past ∙ at-front p rs qs high ∙ sym (at_past r rs p past)
+at-around : (p : ℕ) (xs ys zs : List Record) → All (λ x. place_of x ≢ p) ys → at p (xs ++ ys ++ zs) ≡ at p (xs ++ zs)
+at-around p [] ys zs apart = at-behind p ys zs apart
+at-around p (x ∷ xs) ys zs apart = elim (cases_eq (place_of x) p) [
+  | inl here ↦ at_here x (xs ++ ys ++ zs) p here ∙ sym (at_here x (xs ++ zs) p here)
+  | inr past ↦ at_past x (xs ++ ys ++ zs) p past ∙ at-around p xs ys zs apart ∙ sym (at_past x (xs ++ zs) p past)
 ]
+
+-- what one passes passes among others
+any-among : {X : Type 0} (p : X → Bool) (xs ys zs : List X) → list_any p (xs ++ zs) ≡ true → list_any p (xs ++ ys ++ zs) ≡ true
+any-among p xs ys zs some =
+    list_any-append p (xs ++ ys) zs ∙ ap (λ (b : Bool). b || list_any p zs) (list_any-append p xs ys) ∙ decide (list_any p xs) (list_any p ys) (list_any p zs) (sym (list_any-append p xs zs) ∙ some)
+  where
+    decide : (a b d : Bool) → (a || d) ≡ true → ((a || b) || d) ≡ true
+    decide true b d is = refl
+    decide false true d is = refl
+    decide false false d is = is
 
 -- where none passes a test, none is counted
 count-none : {X : Type 0} (p : X → Bool) (xs : List X) → All (λ x. p x ≡ false) xs → count_by p xs ≡ 0
 count-none p xs none = sym (length-filter p xs) ∙ ap length (filter_none p xs none)
+
+-- and where none of the others passes, so many pass as without them
+count-among : {X : Type 0} (p : X → Bool) (xs ys zs : List X) → All (λ y. p y ≡ false) ys → count_by p (xs ++ ys ++ zs) ≡ count_by p (xs ++ zs)
+count-among {X} p xs ys zs none =
+    let test : X → ℕ = λ x. cond (p x) 1 0 in
+    let all = sum_by-append test (xs ++ ys) zs in
+    let two = sum_by-append test xs ys in
+    let both = sum_by-append test xs zs in
+    let no-more = count-none p ys none in
+    omega arith
 
 -- where no two pass it, one at most is counted
 count-few : {X Y : Type 0} (p : Y → Bool) (make : X → Y) (xs : List X) → AllPairs (λ x y. p (make x) ≡ true → p (make y) ≡ false) xs → count_by p (map make xs) ≤ 1
@@ -96,64 +119,78 @@ part-of (Some s) p has = elim (Contains-push_cases (map kind.Part s.parts) (kind
 ]
 
 module _ (r : TypedCatalog) (is : IsTypedCatalog r) where
-  abbrev front : List Record
-  front = ledger_records r.ledger
+  abbrev own-records : List Record
+  own-records = ledger_records r.ledger
 
-  abbrev rear : List Record
-  rear = saved_records r.saved
+  abbrev site : List Record
+  site = saved_records r.saved
 
-  high : (p : ℕ) → p < place 7 0 → All (λ x. p < place_of x) rear
-  high p low k d lt = let w = (runs-within (place 7 0) (place 9 0) rear (saved-run r is) k d lt).0 in omega arith
+  abbrev Elsewhere : ℕ → Type 0
+  Elsewhere p = (p < place 7 0) ⊎ (place 9 0 ≤ p)
 
-  front-low : (x : Record) → Contains front x → place_of x < place 7 0
-  front-low x has = (All-contains (λ y. (place 1 0 ≤ place_of y) × (place_of y < place 7 0)) front x (runs-within (place 1 0) (place 7 0) front (records-run r.ledger is.ledger)) has).1
+  in-site : All (λ x. (place 7 0 ≤ place_of x) × (place_of x < place 9 0)) site
+  in-site = runs-within (place 7 0) (place 9 0) site (saved-run r is)
+
+  not-in-site : (p : ℕ) → Elsewhere p → All (λ x. place_of x ≢ p) site
+  not-in-site p elsewhere k d lt same = let w = in-site k d lt in elim elsewhere [ inl low ↦ omega arith | inr high ↦ omega arith ]
+
+  elsewhere : (x : Record) → Contains own-records x → Elsewhere (place_of x)
+  elsewhere x has = apart-from-site r.ledger x (record-is r.ledger x has)
 
   -- no record of the ledger is a part
-  no-parts : (file thread : ℕ) → All (λ x. is_part_of file thread x ≡ false) front
-  no-parts file thread k d lt = none (get_or front k d) (front-low (get_or front k d) (Contains-get_or front k d lt))
+  no-parts : (file thread : ℕ) → All (λ x. is_part_of file thread x ≡ false) own-records
+  no-parts file thread k d lt = none (get_or own-records k d) (elsewhere (get_or own-records k d) (Contains-get_or own-records k d lt))
     where
-      none : (x : Record) → place_of x < place 7 0 → is_part_of file thread x ≡ false
-      none (kind.Part p) low = absurd (omega arith)
-      none x low = refl
+      none : (x : Record) → Elsewhere (place_of x) → is_part_of file thread x ≡ false
+      none (kind.Part p) apart = absurd (elim apart [ inl low ↦ omega arith | inr high ↦ omega arith ])
+      none x apart = refl
 
-  rises : Runs (place 1 0) (place 9 0) (records_of r)
-  rises = runs-append (place 1 0) (place 7 0) (place 9 0) front rear (records-run r.ledger is.ledger) (saved-run r is)
+  -- a record of the ledger, or of the saved site
+  which : (x : Record) → Contains (records_of r) x → Contains own-records x ⊎ Contains site x
+  which x has = elim (Contains-append_cases (front_records r.ledger ++ site) (set_records r.ledger) x has) [
+    | inl early ↦ elim (Contains-append_cases (front_records r.ledger) site x early) [ inl low ↦ inl (Contains-append_left (front_records r.ledger) (set_records r.ledger) x low) | inr here ↦ inr here ]
+    | inr late ↦ inl (Contains-append_right (front_records r.ledger) (set_records r.ledger) x late)
+  ]
+
+  rises : Runs (place 1 0) (place 10 0) (records_of r)
+  rises = runs-join (place 9 0) (place 1 0) (place 9 1) (place 10 0) (front_records r.ledger ++ site) (set_records r.ledger) (omega arith)
+      (runs-append (place 1 0) (place 7 0) (place 9 0) (front_records r.ledger) site (front-run r.ledger is.ledger) (saved-run r is)) (sets-run r.ledger is.ledger)
 
   found : (x : Record) → Contains (records_of r) x → at (place_of x) (records_of r) ≡ Some x
-  found x has = rises-found (place 1 0) (records_of r) x (runs-rise (place 1 0) (place 9 0) (records_of r) rises) has
+  found x has = rises-found (place 1 0) (records_of r) x (runs-rise (place 1 0) (place 10 0) (records_of r) rises) has
 
-  -- what is looked up of kinds 1 to 6
-  same-at : (p : ℕ) → p < place 7 0 → at p (records_of r) ≡ at p front
-  same-at p low = at-front p front rear (high p low)
+  -- what is looked up elsewhere than in the saved site
+  same-at : (p : ℕ) → Elsewhere p → at p (records_of r) ≡ at p own-records
+  same-at p apart = at-around p (front_records r.ledger) site (set_records r.ledger) (not-in-site p apart)
 
-  same-key : (of id : ℕ) → of ≤ 6 → HasKey of id front → HasKey of id (records_of r)
-  same-key of id low has = subst (λ (o : Option Record). IsSome o) (sym (same-at (place of id) (omega arith))) has
+  same-key : (of id : ℕ) → Elsewhere (place of id) → HasKey of id own-records → HasKey of id (records_of r)
+  same-key of id apart has = subst (λ (o : Option Record). IsSome o) (sym (same-at (place of id) apart)) has
 
-  no-key : (of id : ℕ) → of ≤ 6 → (HasKey of id front → ⊥) → HasKey of id (records_of r) → ⊥
-  no-key of id low none has = none (subst (λ (o : Option Record). IsSome o) (same-at (place of id) (omega arith)) has)
+  no-key : (of id : ℕ) → Elsewhere (place of id) → (HasKey of id own-records → ⊥) → HasKey of id (records_of r) → ⊥
+  no-key of id apart none has = none (subst (λ (o : Option Record). IsSome o) (same-at (place of id) apart) has)
 
-  on-told : {A : Type 0} (tell : Record → Option A) (p : ℕ) → p < place 7 0 → (P : A → Type 0) → IsSomeAnd (option_and_then tell (at p front)) P → IsSomeAnd (option_and_then tell (at p (records_of r))) P
-  on-told tell p low P was = subst (λ (o : Option Record). IsSomeAnd (option_and_then tell o) P) (sym (same-at p low)) was
+  on-told : {A : Type 0} (tell : Record → Option A) (p : ℕ) → p < place 7 0 → (P : A → Type 0) → IsSomeAnd (option_and_then tell (at p own-records)) P → IsSomeAnd (option_and_then tell (at p (records_of r))) P
+  on-told tell p low P was = subst (λ (o : Option Record). IsSomeAnd (option_and_then tell o) P) (sym (same-at p (inl low))) was
 
   -- the path stays
   abbrev owner_by : (n i g : ℕ) → List Record → Option IncarnationEntry → ℕ
   owner_by n i g rs o = option_map_or (λ (x : IncarnationEntry). cond (leb x.reset g) i (owner_in n x.parent g rs)) o 1
 
-  same-incarnation : (i : ℕ) → incarnation i (records_of r) ≡ incarnation i front
-  same-incarnation i = ap (option_and_then incarnation_in) (same-at (place 2 i) (omega arith))
+  same-incarnation : (i : ℕ) → incarnation i (records_of r) ≡ incarnation i own-records
+  same-incarnation i = ap (option_and_then incarnation_in) (same-at (place 2 i) (inl (omega arith)))
 
-  same-owner : (n i g : ℕ) → owner_in n i g (records_of r) ≡ owner_in n i g front
+  same-owner : (n i g : ℕ) → owner_in n i g (records_of r) ≡ owner_in n i g own-records
   unfolding owner_in
   same-owner zero i g = refl
-  same-owner (suc n) i g = decide (incarnation i front) refl (λ p. same-owner n p g)
+  same-owner (suc n) i g = decide (incarnation i own-records) refl (λ p. same-owner n p g)
     where
-      decide : (o : Option IncarnationEntry) → incarnation i front ≡ o → ((p : ℕ) → owner_in n p g (records_of r) ≡ owner_in n p g front) → owner_by n i g (records_of r) (incarnation i (records_of r)) ≡ owner_by n i g front (incarnation i front)
-      decide None e back = ap (owner_by n i g (records_of r)) (same-incarnation i ∙ e) ∙ sym (ap (owner_by n i g front) e)
+      decide : (o : Option IncarnationEntry) → incarnation i own-records ≡ o → ((p : ℕ) → owner_in n p g (records_of r) ≡ owner_in n p g own-records) → owner_by n i g (records_of r) (incarnation i (records_of r)) ≡ owner_by n i g own-records (incarnation i own-records)
+      decide None e back = ap (owner_by n i g (records_of r)) (same-incarnation i ∙ e) ∙ sym (ap (owner_by n i g own-records) e)
       decide (Some x) e back =
           ap (owner_by n i g (records_of r)) (same-incarnation i ∙ e)
-          ∙ ap (λ (m : ℕ). cond (leb x.reset g) i m) (back x.parent) ∙ sym (ap (owner_by n i g front) e)
+          ∙ ap (λ (m : ℕ). cond (leb x.reset g) i m) (back x.parent) ∙ sym (ap (owner_by n i g own-records) e)
 
-  no-blocks : (f : ℕ) → sum_by (blocks_to f) rear ≡ 0
+  no-blocks : (f : ℕ) → sum_by (blocks_to f) site ≡ 0
   no-blocks f = decide r.saved
     where
       decide : (o : Option Saved) → sum_by (blocks_to f) (saved_records o) ≡ 0
@@ -171,10 +208,10 @@ module _ (r : TypedCatalog) (is : IsTypedCatalog r) where
   no-part : (id : ℕ) → id < 4294967295 → ((s : Saved) (p : PartEntry) → r.saved ≡ Some s → Contains s.parts p → id ≡ p.id → ⊥) → HasKey 7 id (records_of r) → ⊥
   no-part id small apart some =
       let p = placed kind.Part part_in 7 is-part (records_of r) id some in
-      elim (Contains-append_cases front rear (kind.Part p.entry) p.has) [
-        | inl low ↦ let under = front-low (kind.Part p.entry) low in absurd (omega arith)
-        | inr late ↦
-            let of = part-of r.saved p.entry late in
+      elim (which (kind.Part p.entry) p.has) [
+        | inl own ↦ elim (elsewhere (kind.Part p.entry) own) [ inl low ↦ omega arith | inr high ↦ omega arith ]
+        | inr here ↦
+            let of = part-of r.saved p.entry here in
             let own = (All-contains (IsPartEntry r.ledger) of.site.parts p.entry (is_saved of.site of.is).parts of.has).id in
             apart of.site p.entry of.is of.has (omega arith)
       ]
@@ -189,41 +226,78 @@ module _ (r : TypedCatalog) (is : IsTypedCatalog r) where
       let high = (piece-id-within r.ledger e is.ledger has).1 in
       no-part e.id (omega arith) (λ s p some other. (is_saved s some).pieces e p has other)
 
-  piece-file : (p : PieceEntry) (o : Option DatafileEntry) → IsSomeAnd o (FitsDatafile front p) → IsSomeAnd o (FitsDatafile (records_of r) p)
+  no-part-of_set : (e : SetEntry) → Contains r.ledger.sets e → HasKey 7 e.id (records_of r) → ⊥
+  no-part-of_set e has =
+      let high = (set-id-within r.ledger e is.ledger has).1 in
+      no-part e.id (omega arith) (λ s p some other. (is_saved s some).sets e p has other)
+
+  piece-file : (p : PieceEntry) (o : Option DatafileEntry) → IsSomeAnd o (FitsDatafile own-records p) → IsSomeAnd o (FitsDatafile (records_of r) p)
   piece-file p None some = absurd some
   piece-file p (Some f) fits = record { path = same-owner 256 p.inc f.creation ∙ fits.path; rows = fits.rows }
 
+  set-file : (e : SetEntry) (p : SetPart) (o : Option DatafileEntry) → IsSomeAnd o (FitsSetFile own-records e p) → IsSomeAnd o (FitsSetFile (records_of r) e p)
+  set-file e p None some = absurd some
+  set-file e p (Some f) fits = record { path = same-owner 256 e.inc f.creation ∙ fits.path; creation = fits.creation; rows = fits.rows }
+
+  set-part : (e : SetEntry) (p : SetPart) → SetPartRule own-records e p → SetPartRule (records_of r) e p
+  set-part e p was = record {
+    file = on-told datafile_in (place 3 p.file) (omega arith) (FitsSetFile (records_of r) e p) (set-file e p (datafile p.file own-records) was.file);
+    kind = was.kind;
+    high = was.high;
+    end = on-told incarnation_in (place 2 e.inc) (omega arith) (λ i. p.high ≤ i.end) was.end;
+  }
+
   -- each rule of the ledger's records
-  lifted : (x : Record) → Contains front x → OwnRule front x → OwnRule (records_of r) x
-  lifted (kind.Base b) has was = record { dbid = was.dbid; threads = was.threads; current = same-key 2 b.current (omega arith) was.current; next_id = was.next_id; moment = was.moment; policy = was.policy; parallelism = was.parallelism }
+  lifted : (x : Record) → Contains own-records x → OwnRule own-records x → OwnRule (records_of r) x
+  lifted (kind.Base b) has was = record { dbid = was.dbid; threads = was.threads; current = same-key 2 b.current (inl (omega arith)) was.current; next_id = was.next_id; moment = was.moment; policy = was.policy; parallelism = was.parallelism }
   lifted (kind.Incarnation i) has was = record {
     number = was.number;
     origin = record {
       first = was.origin.first;
-      branch = λ later. let b = was.origin.branch later in record { no_gap = same-key 2 (i.inc - 1) (omega arith) b.no_gap; below = b.below; parent = on-told incarnation_in (place 2 i.parent) (omega arith) (BeginsOn i) b.parent };
+      branch = λ later. let b = was.origin.branch later in record { no_gap = same-key 2 (i.inc - 1) (inl (omega arith)) b.no_gap; below = b.below; parent = on-told incarnation_in (place 2 i.parent) (omega arith) (BeginsOn i) b.parent };
     };
     range = was.range;
-    mark = list_any-append (is_mark_of i.inc) front rear ∙ ap (λ (b : Bool). b || list_any (is_mark_of i.inc) rear) was.mark;
+    mark = any-among (is_mark_of i.inc) (front_records r.ledger) site (set_records r.ledger) was.mark;
   }
   lifted (kind.Datafile f) has was = record {
     number = was.number;
-    no_gap = record { no_gap = λ later. same-key 3 (f.file - 1) (omega arith) (was.no_gap.no_gap later) };
+    no_gap = record { no_gap = λ later. same-key 3 (f.file - 1) (inl (omega arith)) (was.no_gap.no_gap later) };
     creation = on-told incarnation_in (place 2 f.inc) (omega arith) (IsCreatedOn f) was.creation;
     blocks = was.blocks;
-    room = record { blocks = let both = sum_by-append (blocks_to f.file) front rear in let none = no-blocks f.file in let low = was.room.blocks in omega arith };
+    room = record {
+      blocks =
+          let all = sum_by-append (blocks_to f.file) (front_records r.ledger ++ site) (set_records r.ledger) in
+          let two = sum_by-append (blocks_to f.file) (front_records r.ledger) site in
+          let both = sum_by-append (blocks_to f.file) (front_records r.ledger) (set_records r.ledger) in
+          let none = no-blocks f.file in
+          let low = was.room.blocks in
+          omega arith;
+    };
   }
   lifted (kind.Log e) has was = record {
-    id = record { number = was.id.number; below = was.id.below; not_second = no-key 5 e.id (omega arith) was.id.not_second; not_third = no-part-of_log e (log-in r e is (Contains-append_left front rear (kind.Log e) has)) };
+    id = record {
+      number = was.id.number;
+      below = was.id.below;
+      not_second = no-key 5 e.id (inl (omega arith)) was.id.not_second;
+      not_third = no-part-of_log e (log-in r e is (ledger-has r (kind.Log e) has));
+      not_fourth = no-key 9 e.id (inr (omega arith)) was.id.not_fourth;
+    };
     size = was.size;
     thread = was.thread;
     sequence = was.sequence;
     range = on-told incarnation_in (place 2 e.inc) (omega arith) (IsRange e) was.range;
   }
   lifted (kind.Piece p) has was = record {
-    id = record { number = was.id.number; below = was.id.below; not_second = no-key 4 p.id (omega arith) was.id.not_second; not_third = no-part-of_piece p (piece-in r p is (Contains-append_left front rear (kind.Piece p) has)) };
+    id = record {
+      number = was.id.number;
+      below = was.id.below;
+      not_second = no-key 4 p.id (inl (omega arith)) was.id.not_second;
+      not_third = no-part-of_piece p (piece-in r p is (ledger-has r (kind.Piece p) has));
+      not_fourth = no-key 9 p.id (inr (omega arith)) was.id.not_fourth;
+    };
     size = was.size;
     end = on-told incarnation_in (place 2 p.inc) (omega arith) (λ i. p.high ≤ i.end) was.end;
-    file = on-told datafile_in (place 3 p.file) (omega arith) (FitsDatafile (records_of r) p) (piece-file p (datafile p.file front) was.file);
+    file = on-told datafile_in (place 3 p.file) (omega arith) (FitsDatafile (records_of r) p) (piece-file p (datafile p.file own-records) was.file);
     checkpoint = was.checkpoint;
     kind = was.kind;
     tag = was.tag;
@@ -234,8 +308,26 @@ module _ (r : TypedCatalog) (is : IsTypedCatalog r) where
     scn = on-told incarnation_in (place 2 m.inc) (omega arith) (IsWithin m.scn) was.scn;
     moment = was.moment;
   }
-  lifted (kind.Part p) has was = let low = front-low (kind.Part p) has in absurd (omega arith)
-  lifted (kind.Head h) has was = let low = front-low (kind.Head h) has in absurd (omega arith)
+  lifted (kind.Part p) has was = absurd (elim (elsewhere (kind.Part p) has) [ inl low ↦ omega arith | inr high ↦ omega arith ])
+  lifted (kind.Head h) has was = absurd (elim (elsewhere (kind.Head h) has) [ inl low ↦ omega arith | inr high ↦ omega arith ])
+  lifted (kind.Set e) has was = record {
+    id = record {
+      number = was.id.number;
+      below = was.id.below;
+      not_second = no-key 4 e.id (inl (omega arith)) was.id.not_second;
+      not_third = no-key 5 e.id (inl (omega arith)) was.id.not_third;
+      not_fourth = no-part-of_set e (set-in r e is (ledger-has r (kind.Set e) has));
+    };
+    size = was.size;
+    checkpoint = was.checkpoint;
+    parts = record {
+      some = was.parts.some;
+      few = was.parts.few;
+      ascend = was.parts.ascend;
+      each = All-weaker (SetPartRule own-records e) (SetPartRule (records_of r) e) (set-part e) e.parts was.parts.each;
+    };
+    tag = was.tag;
+  }
 
   -- a part
   names-one : (s : Saved) (p : PartEntry) → IsPartEntry r.ledger p → NamesOne (records_of r) p
@@ -246,46 +338,42 @@ module _ (r : TypedCatalog) (is : IsTypedCatalog r) where
         let named = fits.file some in
         let d = item-at r.ledger.files (p.file - 1) (omega arith) in
         let number : 1 + (p.file - 1) ≡ p.file = omega arith in
-        let there : HasKey 3 p.file front = subst (λ (n : ℕ). HasKey 3 n front) number (subst (λ (o : Option Record). IsSome o) (sym (datafile-at r.ledger (p.file - 1) d.0 is.ledger d.1)) refl) in
-        subst (λ (b : Bool). MatchBool b ((1 ≤ p.thread) × (p.thread ≤ r.ledger.base.threads)) ((p.thread ≡ 0) × HasKey 3 p.file (records_of r))) (sym (ne_eqb p.file 0 other)) (named.0, same-key 3 p.file (omega arith) there)
+        let there : HasKey 3 p.file own-records = subst (λ (n : ℕ). HasKey 3 n own-records) number (subst (λ (o : Option Record). IsSome o) (sym (datafile-at r.ledger (p.file - 1) d.0 is.ledger d.1)) refl) in
+        subst (λ (b : Bool). MatchBool b ((1 ≤ p.thread) × (p.thread ≤ r.ledger.base.threads)) ((p.thread ≡ 0) × HasKey 3 p.file (records_of r))) (sym (ne_eqb p.file 0 other)) (named.0, same-key 3 p.file (inl (omega arith)) there)
   ]
 
-  in-rear : (s : Saved) (x : Record) → r.saved ≡ Some s → Contains (saved_records (Some s)) x → Contains (records_of r) x
-  in-rear s x some has = Contains-append_right front rear x (subst (λ (o : Option Saved). Contains (saved_records o) x) (sym some) has)
+  of-site : (s : Saved) (x : Record) → r.saved ≡ Some s → Contains (saved_records (Some s)) x → Contains (records_of r) x
+  of-site s x some has = site-has r x (subst (λ (o : Option Saved). Contains (saved_records o) x) (sym some) has)
 
   part-rule : (s : Saved) (p : PartEntry) → r.saved ≡ Some s → Contains s.parts p → PartRule (records_of r) p
   part-rule s p some has =
       let saved = is_saved s some in
       let fits = All-contains (IsPartEntry r.ledger) s.parts p saved.parts has in
-      let both = sum_by-append (λ z. cond (is_part_of p.file p.thread z) 1 0) front rear in
-      let none = count-none (is_part_of p.file p.thread) front (no-parts p.file p.thread) in
-      let site = ap (λ (o : Option Saved). count_by (is_part_of p.file p.thread) (saved_records o)) some in
-      let split = sum_by-append (λ z. cond (is_part_of p.file p.thread z) 1 0) (map kind.Part s.parts) (kind.Head s.head ∷ []) in
-      let last = sum_by-cons (λ z. cond (is_part_of p.file p.thread z) 1 0) (kind.Head s.head) [] in
+      let test : Record → ℕ = λ z. cond (is_part_of p.file p.thread z) 1 0 in
+      let all = sum_by-append test (front_records r.ledger ++ site) (set_records r.ledger) in
+      let two = sum_by-append test (front_records r.ledger) site in
+      let both = sum_by-append test (front_records r.ledger) (set_records r.ledger) in
+      let none = count-none (is_part_of p.file p.thread) own-records (no-parts p.file p.thread) in
+      let own = ap (λ (o : Option Saved). count_by (is_part_of p.file p.thread) (saved_records o)) some in
+      let split = sum_by-append test (map kind.Part s.parts) (kind.Head s.head ∷ []) in
+      let last = sum_by-cons test (kind.Head s.head) [] in
       let few = parts-few p.file p.thread s.parts saved.apart in
       record {
         id = record {
           number = fits.id.0;
           below = fits.id.1;
-          not_second = no-key 4 p.id (omega arith) (none-there r.ledger 4 p.id (λ x there same.
-              let e = log-told r.ledger x p.id (record-is r.ledger x there) same in
-              let here = ap place_of e.2 in
-              let own = (log-id-within r.ledger e.0 is.ledger e.1).1 in
-              saved.logs e.0 p e.1 has (omega arith)));
-          not_third = no-key 5 p.id (omega arith) (none-there r.ledger 5 p.id (λ x there same.
-              let e = piece-told r.ledger x p.id (record-is r.ledger x there) same in
-              let here = ap place_of e.2 in
-              let own = (piece-id-within r.ledger e.0 is.ledger e.1).1 in
-              saved.pieces e.0 p e.1 has (omega arith)));
+          not_second = no-key 4 p.id (inl (omega arith)) (no-log r.ledger p.id is.ledger fits.id.1 (λ e other same. saved.logs e p other has (sym same)));
+          not_third = no-key 5 p.id (inl (omega arith)) (no-piece r.ledger p.id is.ledger fits.id.1 (λ e other same. saved.pieces e p other has (sym same)));
+          not_fourth = no-key 9 p.id (inr (omega arith)) (no-set r.ledger p.id is.ledger fits.id.1 (λ e other same. saved.sets e p other has (sym same)));
         };
         size = fits.size;
-        head = subst (λ (o : Option Record). IsSome o) (sym (found (kind.Head s.head) (in-rear s (kind.Head s.head) some (Contains-append_right (map kind.Part s.parts) (kind.Head s.head ∷ []) (kind.Head s.head) (in-front (kind.Head s.head) []))))) refl;
+        head = subst (λ (o : Option Record). IsSome o) (sym (found (kind.Head s.head) (of-site s (kind.Head s.head) some (Contains-append_right (map kind.Part s.parts) (kind.Head s.head ∷ []) (kind.Head s.head) (in-front (kind.Head s.head) []))))) refl;
         one = names-one s p fits;
         alone = record { alone = omega arith };
       }
 
   head-rule : (s : Saved) → r.saved ≡ Some s → HeadRule (records_of r) s.head
-  head-rule s some = record { point = λ has. same-key 2 s.head.inc (omega arith) (incarnation-there r.ledger s.head.inc is.ledger ((is_saved s some).point has)) }
+  head-rule s some = record { point = λ has. same-key 2 s.head.inc (inl (omega arith)) (incarnation-there r.ledger s.head.inc is.ledger ((is_saved s some).point has)) }
 
   site-rule : (o : Option Saved) (x : Record) → r.saved ≡ o → Contains (saved_records o) x → OwnRule (records_of r) x
   site-rule None x none has = absurd (none-in x has)
@@ -294,33 +382,36 @@ module _ (r : TypedCatalog) (is : IsTypedCatalog r) where
     | inr same ↦ subst (OwnRule (records_of r)) same (head-rule s some)
   ]
 
+  obeys-own : (x : Record) → Contains own-records x → Obeys own-records x
+  obeys-own x has = All-contains (Obeys own-records) own-records x (ledger-valid r.ledger is.ledger).valid has
+
   own : (x : Record) → Contains (records_of r) x → OwnRule (records_of r) x
-  own x has = elim (Contains-append_cases front rear x has) [
-    | inl low ↦ lifted x low (All-contains (Obeys front) front x (ledger-valid r.ledger is.ledger).valid low).own
-    | inr late ↦ site-rule r.saved x refl late
-  ]
+  own x has = elim (which x has) [ inl here ↦ lifted x here (obeys-own x here).own | inr there ↦ site-rule r.saved x refl there ]
+
+  site-goes : (x : Record) → Contains site x → is_lasting (place_of x) ≡ false
+  site-goes x has = let w = All-contains (λ (y : Record). (place 7 0 ≤ place_of y) × (place_of y < place 9 0)) site x in-site has in grind (arith, nat_tests)
 
   few : (x : Record) → Contains (records_of r) x → IsAmongFirst (place_of x) (records_of r)
   few x has = record {
-    few = λ low. elim (Contains-append_cases front rear x has) [
+    few = λ lasting. elim (which x has) [
       | inl here ↦
           let p = place_of x in
-          let short = (All-contains (Obeys front) front x (ledger-valid r.ledger is.ledger).valid here).few.few low in
-          let both = sum_by-append (λ q. cond (nat_lt (place_of q) p) 1 0) front rear in
-          let none = count-none (λ q. nat_lt (place_of q) p) rear (λ k d lt. let over = high p low k d lt in le-ltb (place_of (get_or rear k d)) p (omega arith)) in
+          let short = (obeys-own x here).few.few lasting in
+          let none : All (λ q. (is_lasting (place_of q) && nat_lt (place_of q) p) ≡ false) site = λ k d lt. rw (site-goes (get_or site k d) (Contains-get_or site k d lt)) in
+          let same = count-among (λ q. is_lasting (place_of q) && nat_lt (place_of q) p) (front_records r.ledger) site (set_records r.ledger) none in
           omega arith
-      | inr late ↦ let w = (All-contains (λ (y : Record). (place 7 0 ≤ place_of y) × (place_of y < place 9 0)) rear x (runs-within (place 7 0) (place 9 0) rear (saved-run r is)) late).0 in absurd (omega arith)
+      | inr there ↦ absurd (let gone = site-goes x there in true≢false (sym lasting ∙ gone))
     ];
   }
 
 pub typed_catalog-valid : (r : TypedCatalog) → IsTypedCatalog r → IsCatalog (records_of r)
 typed_catalog-valid r is = record {
-  order = rises-order (place 1 0) (records_of r) (runs-rise (place 1 0) (place 9 0) (records_of r) (rises r is));
+  order = rises-order (place 1 0) (records_of r) (runs-rise (place 1 0) (place 10 0) (records_of r) (rises r is));
   valid = λ k d lt.
       let x = get_or (records_of r) k d in
       let has = Contains-get_or (records_of r) k d lt in
       record {
-        once = record { once = sym (alike_count (place_of x) (records_of r)) ∙ rises-once (place 1 0) (records_of r) x (runs-rise (place 1 0) (place 9 0) (records_of r) (rises r is)) has };
+        once = record { once = sym (alike_count (place_of x) (records_of r)) ∙ rises-once (place 1 0) (records_of r) x (runs-rise (place 1 0) (place 10 0) (records_of r) (rises r is)) has };
         few = few r is x has;
         base = refl;
         own = own r is x has;

@@ -9,6 +9,7 @@ use Rattle.rm_catalog.specs.declared.record.LogEntry.{LogEntry}
 use Rattle.rm_catalog.specs.declared.record.PartEntry.{PartEntry}
 use Rattle.rm_catalog.specs.declared.record.PieceEntry.{PieceEntry}
 use Rattle.rm_catalog.specs.declared.record.Record.{Record}
+use Rattle.rm_catalog.specs.declared.record.SetEntry.{SetEntry}
 use Rattle.rm_history.specs.declared.world.Datafile.{Datafile}
 use Rattle.rm_history.specs.Tree.{with_branch, with_end}
 use Rattle.rm_catalog_typed.specs.Ledger.{Ledger}
@@ -59,12 +60,15 @@ with_one id x xs = lower id (id x) xs ++ x ∷ higher id (id x) xs
 abbrev pub without_one : {A : Type 0} → (A → ℕ) → ℕ → List A → List A
 without_one id n xs = lower id n xs ++ higher id n xs
 
--- with this log or piece
+-- with this log, piece or set
 abbrev pub with_log : TypedCatalog → LogEntry → TypedCatalog
 with_log r e = with_ledger r (record r.ledger { logs = with_one (λ x. x.id) e r.ledger.logs })
 
 abbrev pub with_piece : TypedCatalog → PieceEntry → TypedCatalog
 with_piece r e = with_ledger r (record r.ledger { pieces = with_one (λ x. x.id) e r.ledger.pieces })
+
+abbrev pub with_set : TypedCatalog → SetEntry → TypedCatalog
+with_set r e = with_ledger r (record r.ledger { sets = with_one (λ x. x.id) e r.ledger.sets })
 
 -- with a log more, which takes the next id
 abbrev pub with_new_log : TypedCatalog → LogEntry → TypedCatalog
@@ -74,12 +78,19 @@ with_new_log r e = with_ledger r (record r.ledger { base = record r.ledger.base 
 abbrev pub with_new_piece : TypedCatalog → PieceEntry → TypedCatalog
 with_new_piece r e = with_ledger r (record r.ledger { base = record r.ledger.base { next_id = r.ledger.base.next_id + 1 }; pieces = r.ledger.pieces ++ e ∷ [] })
 
--- without the log or the piece of this id
+-- with a set more, which takes the next id
+abbrev pub with_new_set : TypedCatalog → SetEntry → TypedCatalog
+with_new_set r e = with_ledger r (record r.ledger { base = record r.ledger.base { next_id = r.ledger.base.next_id + 1 }; sets = r.ledger.sets ++ e ∷ [] })
+
+-- without the log, the piece or the set of this id
 abbrev pub without_log : TypedCatalog → ℕ → TypedCatalog
 without_log r n = with_ledger r (record r.ledger { logs = without_one (λ x. x.id) n r.ledger.logs })
 
 abbrev pub without_piece : TypedCatalog → ℕ → TypedCatalog
 without_piece r n = with_ledger r (record r.ledger { pieces = without_one (λ x. x.id) n r.ledger.pieces })
+
+abbrev pub without_set : TypedCatalog → ℕ → TypedCatalog
+without_set r n = with_ledger r (record r.ledger { sets = without_one (λ x. x.id) n r.ledger.sets })
 
 -- with this saved site, and without one
 abbrev pub with_saved : TypedCatalog → Saved → TypedCatalog

@@ -4,6 +4,7 @@ use Rattle.rm_catalog.specs.declared.record.PartEntry.{PartEntry}
 use Rattle.rm_catalog.specs.Objects.{most_bytes}
 use Rattle.rm_catalog.specs.declared.record.LogEntry.{LogEntry}
 use Rattle.rm_catalog.specs.declared.record.PieceEntry.{PieceEntry}
+use Rattle.rm_catalog.specs.declared.record.SetEntry.{SetEntry}
 use Rattle.rm_history.specs.Tree.{IsThere}
 use Rattle.rm_catalog_typed.specs.LedgerFacts.{IsLedger}
 use Rattle.rm_catalog_typed.specs.Ledger.{Ledger}
@@ -27,6 +28,7 @@ pub record IsSaved (l : Ledger) (s : Saved) : Type 0 where
   pub apart : AllPairs AreApart s.parts
   pub logs : (e : LogEntry) (p : PartEntry) → Contains l.logs e → Contains s.parts p → e.id ≢ p.id
   pub pieces : (e : PieceEntry) (p : PartEntry) → Contains l.pieces e → Contains s.parts p → e.id ≢ p.id
+  pub sets : (e : SetEntry) (p : PartEntry) → Contains l.sets e → Contains s.parts p → e.id ≢ p.id
   pub point : 0 < s.head.inc → IsThere l.tree s.head.inc
 
 pub record IsTypedCatalog (r : TypedCatalog) : Type 0 where

@@ -4,9 +4,10 @@ use Rattle.rm_base.specs.declared.block.Mark.{Mark}
 use Rattle.rm_catalog.specs.declared.record.BaseEntry.{BaseEntry}
 use Rattle.rm_catalog.specs.declared.record.LogEntry.{LogEntry}
 use Rattle.rm_catalog.specs.declared.record.PieceEntry.{PieceEntry}
+use Rattle.rm_catalog.specs.declared.record.SetEntry.{SetEntry}
 use Rattle.rm_history.specs.declared.world.Datafile.{Datafile}
 use Rattle.rm_history.specs.Tree.{IsThere, reset_of, end_of}
-use Rattle.rm_catalog_typed.specs.LedgerFacts.{IsBase, IsCreated, IsLogEntry, IsMark, IsPieceEntry}
+use Rattle.rm_catalog_typed.specs.LedgerFacts.{IsBase, IsCreated, IsLogEntry, IsMark, IsPieceEntry, IsSetEntry}
 use Rattle.rm_catalog_typed.specs.Ledger.{ledger_records}
 use Rattle.rm_catalog_typed.specs.TypedCatalog.{TypedCatalog}
 
@@ -64,7 +65,8 @@ pub record IsObjectId (r : TypedCatalog) (n : ℕ) : Type 0 where
 pub record FitsLog (r : TypedCatalog) (e : LogEntry) : Type 0 where
   pub log : IsLogEntry r.ledger.tree r.ledger.base.threads e
   pub id : IsObjectId r e.id
-  pub other : LacksId (λ p. p.id) e.id r.ledger.pieces
+  pub pieces : LacksId (λ p. p.id) e.id r.ledger.pieces
+  pub sets : LacksId (λ x. x.id) e.id r.ledger.sets
   pub room : HasId (λ x. x.id) e.id r.ledger.logs ⊎ HasRoomFor r 1
 
 -- a log more, which takes the next id
@@ -78,7 +80,8 @@ pub record FitsNewLog (r : TypedCatalog) (e : LogEntry) : Type 0 where
 pub record FitsPiece (r : TypedCatalog) (p : PieceEntry) : Type 0 where
   pub piece : IsPieceEntry r.ledger.tree r.ledger.files p
   pub id : IsObjectId r p.id
-  pub other : LacksId (λ e. e.id) p.id r.ledger.logs
+  pub logs : LacksId (λ e. e.id) p.id r.ledger.logs
+  pub sets : LacksId (λ x. x.id) p.id r.ledger.sets
   pub room : HasId (λ x. x.id) p.id r.ledger.pieces ⊎ HasRoomFor r 1
 
 -- a piece more, which takes the next id
@@ -86,4 +89,19 @@ pub record FitsNewPiece (r : TypedCatalog) (p : PieceEntry) : Type 0 where
   pub piece : IsPieceEntry r.ledger.tree r.ledger.files p
   pub id : p.id ≡ r.ledger.base.next_id
   pub last : p.id < 4294967295
+  pub room : HasRoomFor r 1
+
+-- a set, which comes in place of that of its id, or for which there is room
+pub record FitsSet (r : TypedCatalog) (e : SetEntry) : Type 0 where
+  pub set : IsSetEntry r.ledger.tree r.ledger.files e
+  pub id : IsObjectId r e.id
+  pub logs : LacksId (λ x. x.id) e.id r.ledger.logs
+  pub pieces : LacksId (λ p. p.id) e.id r.ledger.pieces
+  pub room : HasId (λ x. x.id) e.id r.ledger.sets ⊎ HasRoomFor r 1
+
+-- a set more, which takes the next id
+pub record FitsNewSet (r : TypedCatalog) (e : SetEntry) : Type 0 where
+  pub set : IsSetEntry r.ledger.tree r.ledger.files e
+  pub id : e.id ≡ r.ledger.base.next_id
+  pub last : e.id < 4294967295
   pub room : HasRoomFor r 1

@@ -24,6 +24,7 @@ fresh dbid threads scn moment =
       files = [];
       logs = [];
       pieces = [];
+      sets = [];
       marks = record { moment = moment; inc = 1; scn = scn } ∷ [];
     }
 

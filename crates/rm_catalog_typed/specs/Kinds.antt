@@ -9,8 +9,9 @@ use Rattle.rm_catalog.specs.declared.record.MarkEntry.{MarkEntry}
 use Rattle.rm_catalog.specs.declared.record.PartEntry.{PartEntry}
 use Rattle.rm_catalog.specs.declared.record.PieceEntry.{PieceEntry}
 use Rattle.rm_catalog.specs.declared.record.Record.{Record}
+use Rattle.rm_catalog.specs.declared.record.SetEntry.{SetEntry}
 use Rattle.rm_catalog.specs.declared.record.Record.TheVariants as kind
-use Rattle.rm_catalog.specs.Keys.{base_in, datafile_in, head_in, incarnation_in, log_in, mark_in, part_in, piece_in}
+use Rattle.rm_catalog.specs.Keys.{base_in, datafile_in, head_in, incarnation_in, log_in, mark_in, part_in, piece_in, set_in}
 use Rattle.rm_catalog.specs.Trees.{nodes}
 use Rattle.rm_history.specs.declared.world.Datafile.{Datafile}
 use Rattle.rm_catalog_typed.specs.Ledger.{Ledger}
@@ -22,7 +23,7 @@ abbrev pub by_kind : List Record → List Record
 by_kind rs =
     map kind.Base (filter_map base_in rs) ++ (map kind.Incarnation (filter_map incarnation_in rs) ++ (map kind.Datafile (filter_map datafile_in rs)
     ++ (map kind.Log (filter_map log_in rs) ++ (map kind.Piece (filter_map piece_in rs) ++ (map kind.Mark (filter_map mark_in rs)
-    ++ (map kind.Part (filter_map part_in rs) ++ map kind.Head (filter_map head_in rs)))))))
+    ++ (map kind.Part (filter_map part_in rs) ++ (map kind.Head (filter_map head_in rs) ++ map kind.Set (filter_map set_in rs))))))))
 
 -- a mark without its number
 abbrev pub marked_by : MarkEntry → Mark
@@ -37,6 +38,7 @@ ledger_in b rs =
       files = datafiles rs;
       logs = filter_map log_in rs;
       pieces = filter_map piece_in rs;
+      sets = filter_map set_in rs;
       marks = map marked_by (filter_map mark_in rs);
     }
 
@@ -60,6 +62,7 @@ pub record Told : Type 0 where
   pub marks : List Mark
   pub parts : List PartEntry
   pub heads : List HeadEntry
+  pub sets : List SetEntry
 
 abbrev pub told_by : List Record → Told
 told_by rs =
@@ -71,6 +74,7 @@ told_by rs =
       marks = map marked_by (filter_map mark_in rs);
       parts = filter_map part_in rs;
       heads = filter_map head_in rs;
+      sets = filter_map set_in rs;
     }
 
 -- one record more
@@ -83,6 +87,7 @@ with_record (kind.Piece x) t = record t { pieces = t.pieces ++ x ∷ [] }
 with_record (kind.Mark x) t = record t { marks = t.marks ++ marked_by x ∷ [] }
 with_record (kind.Part x) t = record t { parts = t.parts ++ x ∷ [] }
 with_record (kind.Head x) t = record t { heads = t.heads ++ x ∷ [] }
+with_record (kind.Set x) t = record t { sets = t.sets ++ x ∷ [] }
 
 -- its number fits into 32 bits, where it is a mark
 abbrev pub IsSmall : Record → Type 0

@@ -5,6 +5,7 @@ use Rattle.rm_catalog.specs.declared.record.BaseEntry.{BaseEntry}
 use Rattle.rm_catalog.specs.declared.record.LogEntry.{LogEntry}
 use Rattle.rm_catalog.specs.declared.record.PieceEntry.{PieceEntry}
 use Rattle.rm_catalog.specs.declared.record.Record.{Record}
+use Rattle.rm_catalog.specs.declared.record.SetEntry.{SetEntry}
 use Rattle.rm_catalog.specs.declared.record.Record.TheVariants as kind
 use Rattle.rm_history.specs.declared.tree.Incarnation.{Incarnation}
 use Rattle.rm_history.specs.declared.world.Datafile.{Datafile}
@@ -18,6 +19,7 @@ pub record Ledger : Type 0 where
   -- by ascending id
   pub logs : List LogEntry
   pub pieces : List PieceEntry
+  pub sets : List SetEntry
   -- marks 1, 2, 3 and so on
   pub marks : List Mark
 
@@ -38,8 +40,16 @@ abbrev pub numbered : {A : Type 0} → (ℕ → A → Record) → ℕ → List A
 numbered make k [] = []
 numbered make k (x ∷ xs) = make k x ∷ numbered make (k + 1) xs
 
--- all records, ascending by kind and then id
-abbrev pub ledger_records : Ledger → List Record
-ledger_records l =
+-- the records that stand in front of a saved site's, ascending by kind and then id
+abbrev pub front_records : Ledger → List Record
+front_records l =
     kind.Base l.base ∷ numbered incarnation_record 1 l.tree ++ numbered datafile_record 1 l.files
     ++ map kind.Log l.logs ++ map kind.Piece l.pieces ++ numbered mark_record 1 l.marks
+
+-- and those behind them, of backup sets
+abbrev pub set_records : Ledger → List Record
+set_records l = map kind.Set l.sets
+
+-- all records but those of a saved site
+abbrev pub ledger_records : Ledger → List Record
+ledger_records l = front_records l ++ set_records l

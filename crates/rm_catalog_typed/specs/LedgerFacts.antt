@@ -5,8 +5,11 @@ use Rattle.rm_base.specs.declared.block.Mark.{Mark}
 use Rattle.rm_catalog.specs.declared.record.BaseEntry.{BaseEntry}
 use Rattle.rm_catalog.specs.declared.record.LogEntry.{LogEntry}
 use Rattle.rm_catalog.specs.declared.record.PieceEntry.{PieceEntry}
+use Rattle.rm_catalog.specs.declared.record.SetEntry.{SetEntry}
+use Rattle.rm_catalog.specs.declared.record.SetPart.{SetPart}
 use Rattle.rm_catalog.specs.Facts.{IsPolicy}
 use Rattle.rm_catalog.specs.Objects.{most_bytes, FitsKind, FitsRows, IsTag}
+use Rattle.rm_catalog.specs.SetRules.{FitsPartKind, IsBeforePart}
 use Rattle.rm_history.specs.declared.tree.Incarnation.{Incarnation}
 use Rattle.rm_history.specs.declared.world.Datafile.{Datafile}
 use Rattle.rm_history.specs.Tree.{IsThere, parent_of, reset_of, end_of, owner}
@@ -70,13 +73,37 @@ pub record IsPieceEntry (tree : List Incarnation) (files : List Datafile) (p : P
   pub tag : IsTag p.tag
   pub size : p.size ≤ most_bytes
 
+-- what a set has of a datafile, which was created on the path of the set's incarnation, below its checkpoint
+pub record IsSetPart (tree : List Incarnation) (files : List Datafile) (e : SetEntry) (p : SetPart) : Type 0 where
+  pub number : 0 < p.file
+  pub datafile : Datafile
+  pub is : slice_get files (p.file - 1) ≡ Some datafile
+  pub path : owner tree e.inc datafile.creation ≡ datafile.inc
+  pub creation : datafile.creation < e.checkpoint
+  pub rows : p.rows ≤ datafile.blocks
+  pub kind : FitsPartKind p.kind e.checkpoint p
+  pub high : (e.checkpoint ≤ p.high) × (p.high ≤ end_of tree e.inc)
+
+pub record IsSetEntry (tree : List Incarnation) (files : List Datafile) (e : SetEntry) : Type 0 where
+  pub there : IsThere tree e.inc
+  pub checkpoint : 1 ≤ e.checkpoint
+  pub count : (1 ≤ length e.parts) × (length e.parts ≤ 64)
+  pub ascend : AllPairs IsBeforePart e.parts
+  pub parts : All (IsSetPart tree files e) e.parts
+  pub tag : IsTag e.tag
+  pub size : e.size ≤ most_bytes
+
 -- the ids of objects lie from `low` up to, and without, `next`; they ascend in each kind, and no two are one
-pub record AreIds (low next : ℕ) (of_logs : List LogEntry) (of_pieces : List PieceEntry) : Type 0 where
+pub record AreIds (low next : ℕ) (of_logs : List LogEntry) (of_pieces : List PieceEntry) (of_sets : List SetEntry) : Type 0 where
   pub logs : All (λ l. (low ≤ l.id) × (l.id < next)) of_logs
   pub pieces : All (λ p. (low ≤ p.id) × (p.id < next)) of_pieces
+  pub sets : All (λ e. (low ≤ e.id) × (e.id < next)) of_sets
   pub logs_ascend : AllPairs (λ l k. l.id < k.id) of_logs
   pub pieces_ascend : AllPairs (λ p q. p.id < q.id) of_pieces
+  pub sets_ascend : AllPairs (λ e d. e.id < d.id) of_sets
   pub apart : (l : LogEntry) (p : PieceEntry) → Contains of_logs l → Contains of_pieces p → l.id ≢ p.id
+  pub logs_apart : (l : LogEntry) (e : SetEntry) → Contains of_logs l → Contains of_sets e → l.id ≢ e.id
+  pub pieces_apart : (p : PieceEntry) (e : SetEntry) → Contains of_pieces p → Contains of_sets e → p.id ≢ e.id
 
 -- a mark has an SCN of its incarnation, and no later moment than the latest
 pub record IsMark (tree : List Incarnation) (latest : ℕ) (m : Mark) : Type 0 where
@@ -104,6 +131,7 @@ pub record IsLedger (l : Ledger) : Type 0 where
   pub datafiles : AreDatafiles l.tree l.files
   pub logs : All (IsLogEntry l.tree l.base.threads) l.logs
   pub pieces : All (IsPieceEntry l.tree l.files) l.pieces
-  pub ids : AreIds 1 l.base.next_id l.logs l.pieces
+  pub sets : All (IsSetEntry l.tree l.files) l.sets
+  pub ids : AreIds 1 l.base.next_id l.logs l.pieces l.sets
   pub marks : AreMarks l.tree l.base.moment l.marks
   pub few : length (ledger_records l) ≤ 65536

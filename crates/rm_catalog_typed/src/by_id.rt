@@ -1,11 +1,11 @@
-//! Logs and pieces, which ascend by id: one is found, put or taken away.
+//! Logs, pieces and sets, which ascend by id: one is found, put or taken away.
 ghost use Rattle.std.specs.Prelude.{ℕ, ◌≡◌, ◌<◌, ◌==◌, AllPairs, MatchResult, find, OnOk, OnErr};
 ghost use Rattle.std.specs.Option.{option_copied};
 ghost use Rattle.rm_catalog_typed.specs.Changes.{with_one, without_one};
 ghost use Rattle.rm_catalog_typed.specs.Places.{IsAt, IsGap};
 
 use rm_base::NoMemory;
-use rm_catalog::{LogEntry, PieceEntry};
+use rm_catalog::{LogEntry, PieceEntry, SetEntry};
 
 // What has an id.
 pub(crate) trait Entry: Drop {
@@ -24,6 +24,14 @@ impl Entry for LogEntry {
 }
 
 impl Entry for PieceEntry {
+    ghost number = { λ e. e.id };
+
+    fn id(&self) -> u32 {
+        self.id
+    }
+}
+
+impl Entry for SetEntry {
     ghost number = { λ e. e.id };
 
     fn id(&self) -> u32 {

@@ -5,7 +5,7 @@ ghost use Rattle.rm_catalog_typed.specs.Facts.{IsTypedCatalog};
 
 use crate::by_id;
 use rm_base::{Mark, Seq};
-use rm_catalog::{BaseEntry, HeadEntry, LogEntry, PartEntry, PieceEntry};
+use rm_catalog::{BaseEntry, HeadEntry, LogEntry, PartEntry, PieceEntry, SetEntry};
 use rm_history::{Datafile, Tree};
 use std::marker::Model;
 
@@ -32,6 +32,7 @@ pub struct TypedCatalog {
     pub(crate) files: Vec<Datafile>,
     pub(crate) logs: Vec<LogEntry>,
     pub(crate) pieces: Vec<PieceEntry>,
+    pub(crate) sets: Vec<SetEntry>,
     pub(crate) marks: Vec<Mark>,
     pub(crate) saved: Option<Saved>,
 }
@@ -42,9 +43,9 @@ impl Model for TypedCatalog {
 
     ghost Value = { TypedCatalog };
 
-    ghost view = { λ c. record { ledger = record { base = c.base; tree = c.tree; files = c.files.items; logs = c.logs.items; pieces = c.pieces.items; marks = c.marks.items }; saved = c.saved } };
+    ghost view = { λ c. record { ledger = record { base = c.base; tree = c.tree; files = c.files.items; logs = c.logs.items; pieces = c.pieces.items; sets = c.sets.items; marks = c.marks.items }; saved = c.saved } };
 
-    ghost invariant = { λ c. IsTypedCatalog (record { ledger = record { base = c.base; tree = c.tree; files = c.files.items; logs = c.logs.items; pieces = c.pieces.items; marks = c.marks.items }; saved = c.saved }) };
+    ghost invariant = { λ c. IsTypedCatalog (record { ledger = record { base = c.base; tree = c.tree; files = c.files.items; logs = c.logs.items; pieces = c.pieces.items; sets = c.sets.items; marks = c.marks.items }; saved = c.saved }) };
 }
 
 impl Saved {
@@ -111,6 +112,13 @@ impl TypedCatalog {
         &self.pieces
     }
 
+    /// The backup sets, by ascending id.
+    pub fn sets(&self) -> &[SetEntry]
+        ensures { result.now ≡ self.now.ledger.sets }
+    {
+        &self.sets
+    }
+
     /// Marks 1, 2, 3 and so on.
     pub fn marks(&self) -> &[Mark]
         ensures { result.now ≡ self.now.ledger.marks }
@@ -137,5 +145,12 @@ impl TypedCatalog {
         ensures { option_copied result ≡ find (λ x. x.id == id) self.now.ledger.pieces }
     {
         by_id::get(&self.pieces, id)
+    }
+
+    /// The backup set of an id.
+    pub fn set(&self, id: u32) -> Option<&SetEntry>
+        ensures { option_copied result ≡ find (λ x. x.id == id) self.now.ledger.sets }
+    {
+        by_id::get(&self.sets, id)
     }
 }

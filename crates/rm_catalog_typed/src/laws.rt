@@ -5,6 +5,7 @@ ghost use Rattle.rm_catalog.specs.declared.record.BaseEntry.{BaseEntry};
 ghost use Rattle.rm_catalog.specs.declared.record.LogEntry.{LogEntry};
 ghost use Rattle.rm_catalog.specs.declared.record.PieceEntry.{PieceEntry};
 ghost use Rattle.rm_catalog.specs.declared.record.Record.{Record};
+ghost use Rattle.rm_catalog.specs.declared.record.SetEntry.{SetEntry};
 ghost use Rattle.rm_catalog.specs.declared.record.Record.TheVariants as kind;
 ghost use Rattle.rm_catalog.specs.Rules.{IsCatalog};
 ghost use Rattle.rm_catalog_typed.specs.Facts.{IsTypedCatalog};
@@ -17,11 +18,12 @@ pub fn valid_records_are_a_typed_catalog()
     ensures rules { (rs : List Record) (b : BaseEntry) → IsCatalog rs → base rs ≡ Some b → AreSmall rs → b.next_id ≤ 4294967295 → IsTypedCatalog (typed_catalog_in b rs) }
 {}
 
-/// The records have the base facts, the logs and the pieces of the typed catalog, and no others.
+/// The records have the base facts, the logs, the pieces and the sets of the typed catalog, and no others.
 pub fn records_have_what_stands()
     ensures base { (r : TypedCatalog) → base (records_of r) ≡ Some r.ledger.base }
     ensures logs { (r : TypedCatalog) (e : LogEntry) → IsTypedCatalog r → Contains (records_of r) (kind.Log e) ↔ Contains r.ledger.logs e }
     ensures pieces { (r : TypedCatalog) (e : PieceEntry) → IsTypedCatalog r → Contains (records_of r) (kind.Piece e) ↔ Contains r.ledger.pieces e }
+    ensures sets { (r : TypedCatalog) (e : SetEntry) → IsTypedCatalog r → Contains (records_of r) (kind.Set e) ↔ Contains r.ledger.sets e }
 {}
 
 /// The records of a typed catalog are a catalog's.

@@ -11,6 +11,7 @@ pub mod ledger_laws;
 mod loading;
 mod objects;
 mod saved;
+mod sets;
 mod starting;
 mod telling;
 

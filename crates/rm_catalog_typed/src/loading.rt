@@ -12,7 +12,9 @@ ghost use Rattle.rm_catalog_typed.specs.TypedCatalog.{all_records, records_of};
 
 use crate::catalog::{Saved, TypedCatalog};
 use rm_base::{Mark, NoMemory, Seq};
-use rm_catalog::{BaseEntry, CatalogFault, HeadEntry, LogEntry, PartEntry, PieceEntry, Record};
+use rm_catalog::{
+    BaseEntry, CatalogFault, HeadEntry, LogEntry, PartEntry, PieceEntry, Record, SetEntry,
+};
 use rm_history::{Datafile, Tree};
 use std::alloc::Global;
 use std::marker::Model;
@@ -27,6 +29,7 @@ struct Kinds {
     marks: Vec<Mark>,
     parts: Vec<PartEntry>,
     heads: Vec<HeadEntry>,
+    sets: Vec<SetEntry>,
 }
 
 impl Model for Kinds {
@@ -34,7 +37,7 @@ impl Model for Kinds {
 
     ghost Value = { Told };
 
-    ghost view = { λ k. record { bases = k.bases.items; files = k.files.items; logs = k.logs.items; pieces = k.pieces.items; marks = k.marks.items; parts = k.parts.items; heads = k.heads.items } };
+    ghost view = { λ k. record { bases = k.bases.items; files = k.files.items; logs = k.logs.items; pieces = k.pieces.items; marks = k.marks.items; parts = k.parts.items; heads = k.heads.items; sets = k.sets.items } };
 }
 
 impl Kinds {
@@ -49,6 +52,7 @@ impl Kinds {
             marks: Vec::new(alloc),
             parts: Vec::new(alloc),
             heads: Vec::new(alloc),
+            sets: Vec::new(alloc),
         }
     }
 
@@ -74,6 +78,7 @@ impl Kinds {
             })?,
             Record::Part(part) => self.parts.push(part)?,
             Record::Head(head) => self.heads.push(head)?,
+            Record::Set(set) => self.sets.push(set)?,
         }
         Ok(())
     }
@@ -104,6 +109,7 @@ fn assembled(base: BaseEntry, tree: Tree, kinds: Kinds) -> TypedCatalog
         marks,
         parts,
         heads,
+        sets,
     } = kinds;
     let saved = match heads.first() {
         None => None,
@@ -115,6 +121,7 @@ fn assembled(base: BaseEntry, tree: Tree, kinds: Kinds) -> TypedCatalog
         files,
         logs,
         pieces,
+        sets,
         marks,
         saved,
     }

@@ -62,6 +62,7 @@ impl TypedCatalog {
             files: Vec::new(alloc),
             logs: Vec::new(alloc),
             pieces: Vec::new(alloc),
+            sets: Vec::new(alloc),
             marks,
             saved: None,
         })

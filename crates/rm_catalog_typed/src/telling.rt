@@ -7,7 +7,7 @@ ghost use Rattle.rm_catalog_typed.specs.TypedCatalog.{records_of, saved_records}
 use crate::catalog::{Saved, TypedCatalog};
 use rm_base::{Mark, NoMemory, Seq};
 use rm_catalog::{
-    DatafileEntry, IncarnationEntry, LogEntry, MarkEntry, PartEntry, PieceEntry, Record,
+    DatafileEntry, IncarnationEntry, LogEntry, MarkEntry, PartEntry, PieceEntry, Record, SetEntry,
 };
 use rm_history::{Datafile, Tree};
 use std::alloc::Global;
@@ -104,6 +104,15 @@ fn tell_saved(records: &mut Vec<Record>, saved: &Option<Saved>) -> Result<(), No
     Ok(())
 }
 
+fn tell_sets(alloc: Global, records: &mut Vec<Record>, sets: &[SetEntry]) -> Result<(), NoMemory>
+    ensures { OnOk result (records.new.items ≡ records.old.items ++ map kind.Set sets.now) }
+{
+    for set in sets {
+        records.push(Record::Set(set.copy(alloc)?))?;
+    }
+    Ok(())
+}
+
 impl TypedCatalog {
     /// All records, ascending by kind and then id. An error is want of memory.
     pub fn records(&self, alloc: Global) -> Result<Seq<Record>, NoMemory>
@@ -117,6 +126,7 @@ impl TypedCatalog {
         tell_pieces(alloc, &mut records, &self.pieces)?;
         tell_marks(&mut records, &self.marks)?;
         tell_saved(&mut records, &self.saved)?;
+        tell_sets(alloc, &mut records, &self.sets)?;
         Ok(Seq::from_vec(records))
     }
 }

@@ -5,25 +5,13 @@ use Rattle.rm_catalog_bytes.proofs.Told.{piece_told}
 use Rattle.rm_catalog_bytes.proofs.reading.take_piece_head.Goals as goal
 
 pub returns-in_default-clause-none : goal.returns-in_default-clause-none
-returns-in_default-clause-none c r n rest fits few same =
-    let whole : c.take_u8-copy.result.0 ∷ (c.take_u8-kind.result.0 ∷ (four c.take_u32-inc.result.0 ++ (four c.take_u32-file.result.0 ++ (eight c.take_u64-from.result.0 ++ (eight c.take_u64-checkpoint.result.0 ++ (eight c.take_u64-high.result.0 ++ (four c.take_u32-rows.result.0 ++ (eight c.take_u64-size.result.0 ++ (c.take_digest.result.0 ++ (c.take_u8-status.result.0 ∷ (c.take_u8-keep.result.0 ∷ (eight c.take_u64-count.result.0 ++ c.take_u64-count.result.1.now)))))))))))) ≡ piece_head r n ++ rest = cc in
-    let told = piece_told r n _ _ _ _ _ _ _ _ _ _ _ _ _ _ _ fits few (omega arith) (omega arith) (omega arith) (omega arith) (omega arith) (omega arith) (omega arith) c.take_digest.ensures.size (omega arith) whole in
+returns-in_default-clause-none c r rest fits same =
+    let whole : c.take_u8-copy.result.0 ∷ (c.take_u8-kind.result.0 ∷ (four c.take_u32-inc.result.0 ++ (four c.take_u32-file.result.0 ++ (eight c.take_u64-from.result.0 ++ (eight c.take_u64-checkpoint.result.0 ++ (eight c.take_u64-high.result.0 ++ (four c.take_u32-rows.result.0 ++ c.take_u32-rows.result.1.now))))))) ≡ piece_head r ++ rest = cc in
+    let told = piece_told r _ _ _ _ _ _ _ _ _ _ fits (omega arith) (omega arith) (omega arith) (omega arith) (omega arith) (omega arith) whole in
     c.in_default.ensures.none r.copy (sym told.copy)
 
 pub returns-in_default-kind_of-clause-none : goal.returns-in_default-kind_of-clause-none
-returns-in_default-kind_of-clause-none c r n rest fits few same =
-    let whole : c.take_u8-copy.result.0 ∷ (c.take_u8-kind.result.0 ∷ (four c.take_u32-inc.result.0 ++ (four c.take_u32-file.result.0 ++ (eight c.take_u64-from.result.0 ++ (eight c.take_u64-checkpoint.result.0 ++ (eight c.take_u64-high.result.0 ++ (four c.take_u32-rows.result.0 ++ (eight c.take_u64-size.result.0 ++ (c.take_digest.result.0 ++ (c.take_u8-status.result.0 ∷ (c.take_u8-keep.result.0 ∷ (eight c.take_u64-count.result.0 ++ c.take_u64-count.result.1.now)))))))))))) ≡ piece_head r n ++ rest = cc in
-    let told = piece_told r n _ _ _ _ _ _ _ _ _ _ _ _ _ _ _ fits few (omega arith) (omega arith) (omega arith) (omega arith) (omega arith) (omega arith) (omega arith) c.take_digest.ensures.size (omega arith) whole in
+returns-in_default-kind_of-clause-none c r rest fits same =
+    let whole : c.take_u8-copy.result.0 ∷ (c.take_u8-kind.result.0 ∷ (four c.take_u32-inc.result.0 ++ (four c.take_u32-file.result.0 ++ (eight c.take_u64-from.result.0 ++ (eight c.take_u64-checkpoint.result.0 ++ (eight c.take_u64-high.result.0 ++ (four c.take_u32-rows.result.0 ++ c.take_u32-rows.result.1.now))))))) ≡ piece_head r ++ rest = cc in
+    let told = piece_told r _ _ _ _ _ _ _ _ _ _ fits (omega arith) (omega arith) (omega arith) (omega arith) (omega arith) (omega arith) whole in
     c.in_default-kind_of.ensures.none r.kind (sym told.kind)
-
-pub returns-in_default-status_of-clause-none : goal.returns-in_default-status_of-clause-none
-returns-in_default-status_of-clause-none c r n rest fits few same =
-    let whole : c.take_u8-copy.result.0 ∷ (c.take_u8-kind.result.0 ∷ (four c.take_u32-inc.result.0 ++ (four c.take_u32-file.result.0 ++ (eight c.take_u64-from.result.0 ++ (eight c.take_u64-checkpoint.result.0 ++ (eight c.take_u64-high.result.0 ++ (four c.take_u32-rows.result.0 ++ (eight c.take_u64-size.result.0 ++ (c.take_digest.result.0 ++ (c.take_u8-status.result.0 ∷ (c.take_u8-keep.result.0 ∷ (eight c.take_u64-count.result.0 ++ c.take_u64-count.result.1.now)))))))))))) ≡ piece_head r n ++ rest = cc in
-    let told = piece_told r n _ _ _ _ _ _ _ _ _ _ _ _ _ _ _ fits few (omega arith) (omega arith) (omega arith) (omega arith) (omega arith) (omega arith) (omega arith) c.take_digest.ensures.size (omega arith) whole in
-    c.in_default-status_of.ensures.none r.status (sym told.status)
-
-pub returns-in_default-flag_of-clause-none : goal.returns-in_default-flag_of-clause-none
-returns-in_default-flag_of-clause-none c r n rest fits few same =
-    let whole : c.take_u8-copy.result.0 ∷ (c.take_u8-kind.result.0 ∷ (four c.take_u32-inc.result.0 ++ (four c.take_u32-file.result.0 ++ (eight c.take_u64-from.result.0 ++ (eight c.take_u64-checkpoint.result.0 ++ (eight c.take_u64-high.result.0 ++ (four c.take_u32-rows.result.0 ++ (eight c.take_u64-size.result.0 ++ (c.take_digest.result.0 ++ (c.take_u8-status.result.0 ∷ (c.take_u8-keep.result.0 ∷ (eight c.take_u64-count.result.0 ++ c.take_u64-count.result.1.now)))))))))))) ≡ piece_head r n ++ rest = cc in
-    let told = piece_told r n _ _ _ _ _ _ _ _ _ _ _ _ _ _ _ fits few (omega arith) (omega arith) (omega arith) (omega arith) (omega arith) (omega arith) (omega arith) c.take_digest.ensures.size (omega arith) whole in
-    c.in_default-flag_of.ensures.none r.keep (sym told.keep)
