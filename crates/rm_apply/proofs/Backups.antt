@@ -8,7 +8,8 @@ use Rattle.rm_catalog.specs.declared.record.Record.TheVariants as kind
 use Rattle.rm_catalog.specs.Rules.{IsCatalog}
 use Rattle.rm_evidence.specs.declared.evidence.Evidence.{Evidence}
 use Rattle.rm_evidence.specs.declared.evidence.InPlace.{InPlace}
-use Rattle.rm_evidence.specs.Gathered.{IsBaseOf, IsGathered, dbid_in, placed, placed_piece}
+use Rattle.rm_evidence.specs.Database.{database_in, dbid_in}
+use Rattle.rm_evidence.specs.Gathered.{IsBaseOf, IsGathered, IsPieceAmong, placed, placed_piece}
 use Rattle.rm_base.proofs.Members.{first-or-rest, none-in}
 use Rattle.rm_evidence.proofs.Found.{obeys}
 use Rattle.rm_piece.specs.declared.piece.Piece.{Piece}
@@ -30,11 +31,19 @@ backups held rs place e id a catalog gathered = ((λ both. to both.0 (Contains-a
     rest = gathered.bases.rest
 
     to : 0 < id → Contains first (id, a) ⊎ Contains rest (id, a) → IsBaseOf held rs id a
-    to some (inl here) = let zero-is : id ≡ 0 = placed-zero (map (placed_piece (dbid_in rs)) place.files) (id, a) here in absurd (omega (arith, some, zero-is))
-    to some (inr there) = (gathered.bases.exact id a).0 there
+    to above (inl here) = let zero-is : id ≡ 0 = placed-zero (map (placed_piece (dbid_in rs)) place.files) (id, a) here in absurd (omega (arith, above, zero-is))
+    to above (inr there) = (gathered.bases.exact id a).0 there
+
+    -- a record of an object has an id above 0
+    some : IsPieceAmong held (database_in rs) rs id a → 0 < id
+    some (inl own) =
+        let number = (obeys rs (kind.Piece own.0) catalog own.1).own.id.number in
+        let same = own.2 in
+        omega (arith, number, same)
+    some (inr of) =
+        let number = (obeys rs (kind.Set of.0) catalog of.1).own.id.number in
+        let same = of.2 in
+        omega (arith, number, same)
 
     from : IsBaseOf held rs id a → (0 < id) × Contains e.bases (id, a)
-    from is =
-        let number = (obeys rs (kind.Piece is.0) catalog is.1).own.id.number in
-        let same = is.2 in
-        (omega (arith, number, same), subst (λ (xs : List (ℕ × Piece)). Contains {X = ℕ × Piece} xs (id, a)) (sym gathered.bases.list) (Contains-append_right first rest (id, a) ((gathered.bases.exact id a).1 is)))
+    from is = (some is.0, subst (λ (xs : List (ℕ × Piece)). Contains {X = ℕ × Piece} xs (id, a)) (sym gathered.bases.list) (Contains-append_right first rest (id, a) ((gathered.bases.exact id a).1 is)))

@@ -1,34 +1,43 @@
 -- What is at hand is one: the store and the records leave no choice.
-use Rattle.std.proofs.Common.{◌≡◌, ◌<◌, ◌∙◌, ◌++◌, inl, inr, ℕ, List, [], ◌∷◌, ap, sym, refl, arith, AllPairs, Contains}
+use Rattle.std.proofs.Common.{◌≡◌, ◌∙◌, ◌++◌, inl, inr, ℕ, List, [], ◌∷◌, ap, sym, refl, subst, arith, AllPairs, Contains}
 use Rattle.rm_base.specs.Store.{Held}
 use Rattle.rm_base.specs.declared.kinds.Bad.{Bad}
 use Rattle.rm_base.proofs.Members.{behind, first-or-rest, in-front, none-in}
 use Rattle.rm_catalog.specs.declared.record.Record.{Record}
 use Rattle.rm_evidence.specs.declared.evidence.Evidence.{Evidence}
 use Rattle.rm_evidence.specs.declared.evidence.InPlace.{InPlace}
-use Rattle.rm_evidence.specs.Gathered.{IsGathered, Lists}
+use Rattle.rm_evidence.specs.Gathered.{ById, ByIdAndFile, IsGathered, ListsBy}
 use Rattle.rm_evidence.proofs.Extending.{pairs-head, pairs-tail}
 use Rattle.rm_piece.specs.declared.piece.Piece.{Piece}
 use Rattle.rm_redo.specs.declared.log_file.LogFile.{LogFile}
 
-module _ {A : Type 0} where
-  abbrev IsLower : ℕ × A → ℕ × A → Type 0
-  IsLower x y = x.0 < y.0
+-- no two stand before each other
+abbrev IsOneWay : {X : Type 0} → (X → X → Type 0) → Type 0
+IsOneWay {X} R = (x y : X) → R x y → R y x → ⊥
 
-  -- behind the first stands another than an item with its id
-  not_behind : (x y p : ℕ × A) (xs : List (ℕ × A)) → AllPairs IsLower (x ∷ xs) → y ≡ x → Contains xs p → y ≡ p → ⊥
+by_id : {A : Type 0} → IsOneWay {X = ℕ × A} ById
+by_id x y less more = omega (arith, less, more)
+
+by_id_and_file : IsOneWay ByIdAndFile
+by_id_and_file x y (inl less) (inl more) = omega (arith, less, more)
+by_id_and_file x y (inl less) (inr same) = let id = same.0 in omega (arith, less, id)
+by_id_and_file x y (inr same) (inl more) = let id = same.0 in omega (arith, more, id)
+by_id_and_file x y (inr same) (inr also) = let less = same.1 in let more = also.1 in omega (arith, less, more)
+
+module _ {A : Type 0} (R : ℕ × A → ℕ × A → Type 0) (one-way : IsOneWay R) where
+  -- behind the first stands another item
+  not_behind : (x y p : ℕ × A) (xs : List (ℕ × A)) → AllPairs R (x ∷ xs) → y ≡ x → Contains xs p → y ≡ p → ⊥
   not_behind x y p xs up same has is =
-      let less = pairs-head IsLower x xs p up has in
-      let id : p.0 ≡ x.0 = ap (λ (z : ℕ × A). z.0) (sym is ∙ same) in
-      omega (arith, less, id)
+      let before : R x x = subst (λ (z : ℕ × A). R x z) (sym is ∙ same) (pairs-head R x xs p up has) in
+      one-way x x before before
 
   -- ascending lists with the same members are the same
-  same_members : (xs ys : List (ℕ × A)) → AllPairs IsLower xs → AllPairs IsLower ys → ((p : ℕ × A) → Contains xs p → Contains ys p) → ((p : ℕ × A) → Contains ys p → Contains xs p) → xs ≡ ys
+  same_members : (xs ys : List (ℕ × A)) → AllPairs R xs → AllPairs R ys → ((p : ℕ × A) → Contains xs p → Contains ys p) → ((p : ℕ × A) → Contains ys p → Contains xs p) → xs ≡ ys
   same_members [] [] up down to from = refl
   same_members [] (y ∷ ys) up down to from = absurd (none-in y (from y (in-front y ys)))
   same_members (x ∷ xs) [] up down to from = absurd (none-in x (to x (in-front x xs)))
   same_members (x ∷ xs) (y ∷ ys) up down to from =
-      ap (λ z. z ∷ xs) (sym same) ∙ ap (λ zs. y ∷ zs) (same_members xs ys (pairs-tail IsLower x xs up) (pairs-tail IsLower y ys down)
+      ap (λ z. z ∷ xs) (sym same) ∙ ap (λ zs. y ∷ zs) (same_members xs ys (pairs-tail R x xs up) (pairs-tail R y ys down)
       (λ p has. elim (first-or-rest y ys p (to p (behind x xs p has))) [
         | inr rest ↦ rest
         | inl is ↦ absurd (not_behind x y p xs up same has is)
@@ -43,11 +52,11 @@ module _ {A : Type 0} where
         | inl is ↦ sym is
         | inr late ↦ elim (first-or-rest y ys x (to x (in-front x xs))) [
           | inl is ↦ is
-          | inr later ↦ absurd (let less = pairs-head IsLower x xs y up late in let more = pairs-head IsLower y ys x down later in omega (arith, less, more))
+          | inr later ↦ absurd (one-way x y (pairs-head R x xs y up late) (pairs-head R y ys x down later))
         ]
       ]
 
-  lists_one : (first : List (ℕ × A)) (Is : ℕ → A → Type 0) (xs ys : List (ℕ × A)) → Lists A first Is xs → Lists A first Is ys → xs ≡ ys
+  lists_one : (first : List (ℕ × A)) (Is : ℕ → A → Type 0) (xs ys : List (ℕ × A)) → ListsBy A R first Is xs → ListsBy A R first Is ys → xs ≡ ys
   lists_one first Is xs ys one two =
       one.list ∙ ap (λ rest. first ++ rest) (same_members one.rest two.rest one.ascends two.ascends
       (λ p has. (two.exact p.0 p.1).1 ((one.exact p.0 p.1).0 has))
@@ -56,7 +65,7 @@ module _ {A : Type 0} where
 
 pub evidence_one : (held : Held) (rs : List Record) (place : InPlace) (e d : Evidence) → IsGathered held rs place e → IsGathered held rs place d → e ≡ d
 evidence_one held rs place e d one two =
-    ap (λ (xs : List (ℕ × Piece)). record e { bases = xs }) (lists_one _ _ e.bases d.bases one.bases two.bases)
-    ∙ ap (λ (xs : List (ℕ × Piece)). record e { bases = d.bases; level1s = xs }) (lists_one _ _ e.level1s d.level1s one.level1s two.level1s)
-    ∙ ap (λ (xs : List (ℕ × LogFile)). record e { bases = d.bases; level1s = d.level1s; logs = xs }) (lists_one _ _ e.logs d.logs one.logs two.logs)
-    ∙ ap (λ (xs : List (ℕ × Bad)). record e { bases = d.bases; level1s = d.level1s; logs = d.logs; skipped = xs }) (lists_one _ _ e.skipped d.skipped one.skipped two.skipped)
+    ap (λ (xs : List (ℕ × Piece)). record e { bases = xs }) (lists_one ByIdAndFile by_id_and_file _ _ e.bases d.bases one.bases two.bases)
+    ∙ ap (λ (xs : List (ℕ × Piece)). record e { bases = d.bases; level1s = xs }) (lists_one ByIdAndFile by_id_and_file _ _ e.level1s d.level1s one.level1s two.level1s)
+    ∙ ap (λ (xs : List (ℕ × LogFile)). record e { bases = d.bases; level1s = d.level1s; logs = xs }) (lists_one ById by_id _ _ e.logs d.logs one.logs two.logs)
+    ∙ ap (λ (xs : List (ℕ × Bad)). record e { bases = d.bases; level1s = d.level1s; logs = d.logs; skipped = xs }) (lists_one ById by_id _ _ e.skipped d.skipped one.skipped two.skipped)

@@ -38,8 +38,8 @@ pub fn either_all_comes_back_or_there_is_a_gap()
     ensures either { (held : Held) (rs : List Record) (place : InPlace) (i s : ℕ) (r : Recovered) (x : Gap) → TellsAll (Some held) rs place i s r → ¬ FindsGap (Some held) rs place i s x }
 {}
 
-/// The backups among what is at hand are exactly the full and level 0 pieces of the records that the store
-/// has.
+/// The backups among what is at hand are exactly the full and level 0 pieces that the store has, each of a
+/// record of its own or in a record's set.
 pub fn backups_are_those_of_the_records()
     ensures { (held : Held) (rs : List Record) (place : InPlace) (e : Evidence) (id : ℕ) (a : Piece) → IsCatalog rs → IsGathered held rs place e → ((0 < id) × Contains e.bases (id, a)) ↔ IsBaseOf held rs id a }
 {}

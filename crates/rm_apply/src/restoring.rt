@@ -108,8 +108,8 @@ fn restore_files(
 
 /// The datafiles that exist at SCN `s` on the path of incarnation `i`, or of these the one that is named, each
 /// from its available backup on that path of the greatest checkpoint up to `s`, ties by the greatest id, or
-/// else as it was created; and these origins, in the same order. `Until` where `s` lies outside the
-/// incarnation.
+/// else as it was created; and these origins, in the same order. What a set has of a datafile is a backup with
+/// the set's id. `Until` where `s` lies outside the incarnation.
 pub fn restore<D: Store>(
     alloc: Global,
     catalog: &Catalog,

@@ -1,9 +1,10 @@
--- Lists that grow, each two ids related.
-use Rattle.std.proofs.Common.{◌≡◌, ◌⊎◌, ◌∙◌, ℕ, suc, List, [], ◌∷◌, ◌++◌, get_or, AllPairs, Contains, ap, sym, subst, arith, inl, inr}
+-- Lists that grow, each two items related.
+use Rattle.std.proofs.Common.{◌≡◌, ◌⊎◌, ◌∙◌, ℕ, suc, List, [], ◌∷◌, ◌++◌, get_or, map, AllPairs, Contains, ap, sym, subst, arith, inl, inr}
 use Rattle.std.specs.Prelude.{◌↔◌}
 use Rattle.std.proofs.lemmas.List.{append-nil, append_assoc}
 use Rattle.std.proofs.lemmas.List.Elements.{Contains-append_cases, Contains-append_left, Contains-append_right, Contains-get_or}
 use Rattle.std.proofs.lemmas.List.Kept.{AllPairs-cons}
+use Rattle.rm_base.proofs.Lists.{map_from}
 use Rattle.rm_base.proofs.Members.{in-front, behind, none-in, first-or-rest}
 use Rattle.rm_evidence.specs.Taking.{Extends}
 
@@ -32,8 +33,16 @@ pairs-append {X} R (x ∷ xs) ys first second cross =
       | inr there ↦ cross x y (in-front x xs) there
     ]
 
+-- what holds of all pairs of items holds of what is made of them
+pub pairs-mapped : {X Y : Type 0} (f : X → Y) (R : X → X → Type 0) (S : Y → Y → Type 0) → ((x y : X) → R x y → S (f x) (f y)) → (xs : List X) → AllPairs R xs → AllPairs S (map f xs)
+pairs-mapped f R S to [] all = λ i j d less inside. absurd (omega arith)
+pairs-mapped f R S to (x ∷ xs) all =
+    AllPairs-cons S (f x) (map f xs)
+    (λ k d inside. let from = map_from f xs (get_or (map f xs) k d) (Contains-get_or (map f xs) k d inside) in subst (S (f x)) from.is (to x from.item (pairs-head R x xs from.item all from.held)))
+    (pairs-mapped f R S to xs (pairs-tail R x xs all))
+
 -- nothing is told, and nothing is added
-pub extends-none : {A : Type 0} (R : ℕ → ℕ → Type 0) (Is : ℕ → A → Type 0) (old new : List (ℕ × A)) → new ≡ old → ((id : ℕ) (a : A) → Is id a → ⊥) → Extends A R old Is new
+pub extends-none : {A : Type 0} (R : ℕ × A → ℕ × A → Type 0) (Is : ℕ → A → Type 0) (old new : List (ℕ × A)) → new ≡ old → ((id : ℕ) (a : A) → Is id a → ⊥) → Extends A R old Is new
 extends-none {A} R Is old new same none = record {
   rest = [];
   list = same ∙ sym (append-nil old);
@@ -42,7 +51,7 @@ extends-none {A} R Is old new same none = record {
 }
 
 -- one is told, and no other, and it is added
-pub extends-one : {A : Type 0} (R : ℕ → ℕ → Type 0) (Is : ℕ → A → Type 0) (old new : List (ℕ × A)) (id : ℕ) (a : A) → new ≡ old ++ (id, a) ∷ [] → Is id a → ((j : ℕ) (b : A) → Is j b → (id ≡ j) × (a ≡ b)) → Extends A R old Is new
+pub extends-one : {A : Type 0} (R : ℕ × A → ℕ × A → Type 0) (Is : ℕ → A → Type 0) (old new : List (ℕ × A)) (id : ℕ) (a : A) → new ≡ old ++ (id, a) ∷ [] → Is id a → ((j : ℕ) (b : A) → Is j b → (id ≡ j) × (a ≡ b)) → Extends A R old Is new
 extends-one {A} R Is old new id a same is one = record {
   rest = (id, a) ∷ [];
   list = same;
@@ -60,11 +69,11 @@ extends-one {A} R Is old new id a same is one = record {
     here j b is = let both = one j b is in (0, omega arith, pair j b both.0 both.1)
 
 -- one after the other
-pub extends-then : {A : Type 0} (R : ℕ → ℕ → Type 0) (P Q S : ℕ → A → Type 0) (xs ys zs : List (ℕ × A)) → Extends A R xs P ys → Extends A R ys Q zs → ((i j : ℕ) (x y : A) → P i x → Q j y → R i j) → ((i : ℕ) (x : A) → (P i x ⊎ Q i x) ↔ S i x) → Extends A R xs S zs
+pub extends-then : {A : Type 0} (R : ℕ × A → ℕ × A → Type 0) (P Q S : ℕ → A → Type 0) (xs ys zs : List (ℕ × A)) → Extends A R xs P ys → Extends A R ys Q zs → ((i j : ℕ) (x y : A) → P i x → Q j y → R (i, x) (j, y)) → ((i : ℕ) (x : A) → (P i x ⊎ Q i x) ↔ S i x) → Extends A R xs S zs
 extends-then {A} R P Q S xs ys zs e f cross both = record {
   rest = e.rest ++ f.rest;
   list = f.list ∙ ap (λ (u : List (ℕ × A)). u ++ f.rest) e.list ∙ append_assoc xs e.rest f.rest;
-  related = pairs-append (λ (x y : ℕ × A). R x.0 y.0) e.rest f.rest e.related f.related (λ x y here there. cross x.0 y.0 x.1 y.1 ((e.exact x.0 x.1).0 here) ((f.exact y.0 y.1).0 there));
+  related = pairs-append R e.rest f.rest e.related f.related (λ x y here there. cross x.0 y.0 x.1 y.1 ((e.exact x.0 x.1).0 here) ((f.exact y.0 y.1).0 there));
   exact = λ i x. (told i x, listed i x);
 }
   where
@@ -81,7 +90,7 @@ extends-then {A} R P Q S xs ys zs e f cross both = record {
     ]
 
 -- a list that grew by what is so grew by what is so by other words
-pub extends-as : {A : Type 0} (R : ℕ → ℕ → Type 0) (Is As : ℕ → A → Type 0) (old new : List (ℕ × A)) → ((id : ℕ) (a : A) → Is id a → As id a) → ((id : ℕ) (a : A) → As id a → Is id a) → Extends A R old Is new → Extends A R old As new
+pub extends-as : {A : Type 0} (R : ℕ × A → ℕ × A → Type 0) (Is As : ℕ → A → Type 0) (old new : List (ℕ × A)) → ((id : ℕ) (a : A) → Is id a → As id a) → ((id : ℕ) (a : A) → As id a → Is id a) → Extends A R old Is new → Extends A R old As new
 extends-as R Is As old new to from e = record {
   rest = e.rest;
   list = e.list;

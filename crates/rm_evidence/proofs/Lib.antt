@@ -7,8 +7,13 @@ pub mod Fitting
 pub mod Found
 pub mod Names
 pub mod Objects
+pub mod Ordered
+pub mod Parts
+pub mod Pieces
+pub mod Records
 pub mod Runs
 pub mod Seen
+pub mod Single
 pub mod Sorting
 pub mod Telling
 pub mod Worlds

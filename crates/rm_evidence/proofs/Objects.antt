@@ -6,9 +6,12 @@ use Rattle.rm_base.specs.declared.kinds.Bad.{Bad}
 use Rattle.rm_base.specs.declared.kinds.Bad.TheVariants.{Missing, Damaged}
 use Rattle.rm_catalog.specs.declared.record.LogEntry.{LogEntry}
 use Rattle.rm_catalog.specs.declared.record.PieceEntry.{PieceEntry}
+use Rattle.rm_catalog.specs.declared.record.SetEntry.{SetEntry}
+use Rattle.rm_evidence.specs.Database.{Database}
 use Rattle.rm_evidence.specs.Taking.{IsTold}
-use Rattle.rm_evidence.specs.Objects.{IsLogObject, IsPieceObject}
+use Rattle.rm_evidence.specs.Objects.{IsLogObject, IsPieceObject, IsSetObject}
 use Rattle.rm_piece.proofs.Fitting.{spelling_same as piece_same}
+use Rattle.rm_piece.proofs.SetFitting.{spelling_same as set_same}
 use Rattle.rm_redo.proofs.LogFitting.{spelling_same as log_same}
 
 -- bytes spell one artefact at most
@@ -20,6 +23,9 @@ one-log l bytes a b x y = log_same a b x.valid y.valid (sym x.spelled ∙ y.spel
 
 pub one-piece : (p : PieceEntry) → IsUnique (IsPieceObject p)
 one-piece p bytes a b x y = piece_same a b x.valid y.valid (sym x.spelled ∙ y.spelled)
+
+pub one-set : (base : Database) (e : SetEntry) → IsUnique (IsSetObject base e)
+one-set base e bytes a b x y = set_same a b x.valid y.valid (sym x.spelled ∙ y.spelled)
 
 pub told-one : {A : Type 0} (Is : List ℕ → A → Type 0) (stands : Option (List ℕ)) (a b : A) → IsUnique Is → IsTold Is stands (Ok a) → IsTold Is stands (Ok b) → a ≡ b
 told-one Is stands a b unique x y =

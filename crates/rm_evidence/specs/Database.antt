@@ -25,9 +25,22 @@ datafiles rs = filter_map (λ r. option_map created_by (datafile_in r)) rs
 abbrev pub threads_in : List Record → ℕ
 threads_in rs = option_map_or (λ b. b.threads) (base rs) 0
 
+-- the number of the database; 0 without one
+abbrev pub dbid_in : List Record → ℕ
+dbid_in rs = option_map_or (λ b. b.dbid) (base rs) 0
+
 -- the current incarnation; 0 without a database
 abbrev pub current_in : List Record → ℕ
 current_in rs = option_map_or (λ b. b.current) (base rs) 0
+
+-- what the object of a set is compared with beside its record: the number of the database, and its datafiles as they were created
+pub record Database : Type 0 where
+  pub dbid : ℕ
+  pub files : List Datafile
+
+-- the database of these records
+abbrev pub database_in : List Record → Database
+database_in rs = record { dbid = dbid_in rs; files = datafiles rs }
 
 abbrev pub world_of : List Record → World
 world_of rs = record { tree = nodes rs; threads = threads_in rs; files = datafiles rs }

@@ -1,9 +1,12 @@
 -- The artefacts of the evidence, and which evidence fits a database.
-use Rattle.std.specs.Prelude.{ℕ, ◌≡◌, ◌≢◌, ◌<◌, List, map, All, Contains}
+use Rattle.std.specs.Prelude.{ℕ, ◌≡◌, ◌≢◌, ◌<◌, ◌⊎◌, ◌-◌, List, slice_get, map, All, Contains, IsSomeAnd}
 use Rattle.rm_base.specs.declared.kinds.Kind.TheVariants.{Level1}
 use Rattle.rm_catalog.specs.declared.record.PieceEntry.{PieceEntry}
 use Rattle.rm_catalog.specs.declared.record.Record.{Record}
 use Rattle.rm_catalog.specs.declared.record.Record.TheVariants as kind
+use Rattle.rm_catalog.specs.declared.record.SetEntry.{SetEntry}
+use Rattle.rm_catalog.specs.declared.record.SetPart.{SetPart}
+use Rattle.rm_evidence.specs.Database.{datafiles}
 use Rattle.rm_evidence.specs.declared.evidence.Evidence.{Evidence}
 use Rattle.rm_history.specs.declared.tree.Incarnation.{Incarnation}
 use Rattle.rm_history.specs.Tree.{IsThere}
@@ -43,9 +46,23 @@ pub record FitsTree (tree : List Incarnation) (e : Evidence) : Type 0 where
   pub all_level1 : All (λ x. x.1.kind ≡ Level1) e.level1s
   pub logs : All (λ x. FitsLog tree x.1) e.logs
 
--- the piece has the fields of a record of this id
+-- the piece has the fields of a part of the set's record, and as many blocks as its datafile
+pub record IsPartOf (rs : List Record) (e : SetEntry) (a : Piece) : Type 0 where
+  pub part : SetPart
+  pub held : Contains e.parts part
+  pub inc : a.inc ≡ e.inc
+  pub checkpoint : a.checkpoint ≡ e.checkpoint
+  pub file : a.file ≡ part.file
+  pub kind : a.kind ≡ part.kind
+  pub from : a.from ≡ part.from
+  pub high : a.high ≡ part.high
+  pub blocks : IsSomeAnd (slice_get (datafiles rs) (a.file - 1)) (λ d. a.blocks ≡ d.blocks)
+
+-- the piece has the fields of a record of this id, or of a part of a set's record of this id
 abbrev pub IsRecorded : List Record → ℕ × Piece → Type 0
-IsRecorded rs x = (p : PieceEntry) × Contains rs (kind.Piece p) × (p.id ≡ x.0) × HasPieceFields p x.1
+IsRecorded rs x =
+    ((p : PieceEntry) × Contains rs (kind.Piece p) × (p.id ≡ x.0) × HasPieceFields p x.1)
+    ⊎ ((e : SetEntry) × Contains rs (kind.Set e) × (e.id ≡ x.0) × IsPartOf rs e x.1)
 
 -- each copy that is not in place has the fields of its record, whatever the store tells
 abbrev pub AreRecorded : List Record → Evidence → Type 0

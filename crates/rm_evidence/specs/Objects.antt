@@ -1,9 +1,17 @@
 -- Which bytes are the object of a record.
-use Rattle.std.specs.Prelude.{◌≡◌, ℕ, List, length}
+use Rattle.std.specs.Prelude.{◌≡◌, ℕ, ◌-◌, List, [], ◌∷◌, length, slice_get, All, IsSomeAnd}
 use Rattle.sha2.specs.Sha256.{sha256}
 use Rattle.rm_catalog.specs.declared.record.LogEntry.{LogEntry}
 use Rattle.rm_catalog.specs.declared.record.PieceEntry.{PieceEntry}
+use Rattle.rm_catalog.specs.declared.record.SetEntry.{SetEntry}
+use Rattle.rm_catalog.specs.declared.record.SetPart.{SetPart}
+use Rattle.rm_evidence.specs.Database.{Database}
+use Rattle.rm_history.specs.declared.world.Datafile.{Datafile}
 use Rattle.rm_piece.specs.declared.piece.Piece.{Piece}
+use Rattle.rm_piece.specs.declared.set.Set.{Set}
+use Rattle.rm_piece.specs.declared.set.SetFile.{SetFile}
+use Rattle.rm_piece.specs.SetSpelling.{set_spelling, spelled}
+use Rattle.rm_piece.specs.Sets.{IsSet}
 use Rattle.rm_piece.specs.Spelling as piece
 use Rattle.rm_piece.specs.Valid.{IsPiece}
 use Rattle.rm_redo.specs.declared.log_file.LogFile.{LogFile}
@@ -46,3 +54,38 @@ pub record IsPieceObject (p : PieceEntry) (bytes : List ℕ) (a : Piece) : Type 
   pub valid : IsPiece a
   pub spelled : bytes ≡ piece.spelling a
   pub fields : HasPieceFields p a
+
+-- the member has the fields of its part of the record; the rows that are counted are those that stand in the bytes
+pub record HasPartFields (p : SetPart) (m : SetFile) : Type 0 where
+  pub file : m.piece.file ≡ p.file
+  pub kind : m.piece.kind ≡ p.kind
+  pub from : m.piece.from ≡ p.from
+  pub high : m.piece.high ≡ p.high
+  pub rows : length (spelled m) ≡ p.rows
+
+-- one member for each part, in order
+abbrev pub AreParts : List SetPart → List SetFile → Type 0
+AreParts [] [] = Unit {0}
+AreParts [] (m ∷ ms) = ⊥
+AreParts (p ∷ ps) [] = ⊥
+AreParts (p ∷ ps) (m ∷ ms) = HasPartFields p m × AreParts ps ms
+
+-- the member is of this datafile, as it was created
+pub record IsAsCreated (m : SetFile) (d : Datafile) : Type 0 where
+  pub creation : m.creation ≡ d.creation
+  pub blocks : m.piece.blocks ≡ d.blocks
+
+-- the set has the fields that its record has, is of this database, and its members are of its datafiles
+pub record HasSetFields (base : Database) (e : SetEntry) (s : Set) : Type 0 where
+  pub dbid : s.dbid ≡ base.dbid
+  pub inc : s.inc ≡ e.inc
+  pub checkpoint : s.checkpoint ≡ e.checkpoint
+  pub parts : AreParts e.parts s.members
+  pub files : All (λ m. IsSomeAnd (slice_get base.files (m.piece.file - 1)) (IsAsCreated m)) s.members
+
+-- the bytes are the record's, and spell this set
+pub record IsSetObject (base : Database) (e : SetEntry) (bytes : List ℕ) (s : Set) : Type 0 where
+  pub digest : HasDigest bytes e.size e.sha
+  pub valid : IsSet s
+  pub spelled : bytes ≡ set_spelling s
+  pub fields : HasSetFields base e s

@@ -4,7 +4,8 @@ use Rattle.rm_catalog.specs.declared.record.Record.{Record}
 use Rattle.rm_catalog.specs.Trees.{nodes}
 use Rattle.rm_evidence.specs.declared.evidence.Evidence.{Evidence}
 use Rattle.rm_evidence.specs.declared.evidence.InPlace.{InPlace}
-use Rattle.rm_evidence.specs.Gathered.{dbid_in, placed, placed_piece}
+use Rattle.rm_evidence.specs.Database.{dbid_in}
+use Rattle.rm_evidence.specs.Gathered.{placed, placed_piece}
 use Rattle.rm_evidence.specs.Known.{FitsPiece, FitsLog}
 
 -- each datafile and each log in place is valid, and of an incarnation that is there

@@ -5,7 +5,7 @@ ghost use Rattle.rm_catalog.specs.Rules.{HasDatabase};
 ghost use Rattle.rm_catalog.specs.Trees.{nodes};
 ghost use Rattle.rm_history.specs.Tree.{IsThere};
 ghost use Rattle.rm_history.specs.World.{file_of};
-ghost use Rattle.rm_evidence.specs.Database.{current_in, threads_in, world_of};
+ghost use Rattle.rm_evidence.specs.Database.{current_in, dbid_in, threads_in, world_of};
 
 use rm_base::{FileNo, IncNo, ThreadNo};
 use rm_catalog::{BaseEntry, Catalog, DatafileEntry, Key, Record};
@@ -50,6 +50,16 @@ pub fn datafile(catalog: &Catalog, file: FileNo) -> Option<Datafile>
         creation: entry.creation,
         blocks: entry.blocks,
     })
+}
+
+// The number of the database; 0 without one.
+pub(crate) fn dbid_of(catalog: &Catalog) -> u32
+    ensures { result ≡ dbid_in catalog.now }
+{
+    match base_of(catalog) {
+        Some(base) => base.dbid,
+        None => 0,
+    }
 }
 
 /// How many redo threads there are; 0 without a database.

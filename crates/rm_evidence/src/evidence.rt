@@ -12,7 +12,7 @@ pub struct InPlace {
 }
 
 /// The artefacts that are at hand, each with the id of its object, or 0 where it is in place, ascending
-/// by id.
+/// by id. The pieces of a set stand under its id, ascending by datafile.
 #[derive(Drop)]
 pub struct Evidence {
     /// Full and level 0 backups, image copies, and datafiles in place.

@@ -8,13 +8,14 @@ ghost use Rattle.rm_evidence.specs.Known.{FitsTree};
 ghost use Rattle.rm_evidence.specs.Place.{FitsPlace};
 ghost use Rattle.rm_evidence.specs.Seen.{IsSeen};
 
+use crate::database::dbid_of;
 use crate::evidence::{Evidence, InPlace};
 use crate::naming::id_fits;
-use crate::order::by_id;
-use crate::place::{dbid_of, in_place};
+use crate::order::objects;
+use crate::place::in_place;
 use crate::taking::take_record;
 use rm_base::{NoMemory, Store, StoreFail};
-use rm_catalog::Catalog;
+use rm_catalog::{Catalog, Record};
 use std::alloc::Global;
 
 /// Why no evidence was gathered.
@@ -49,8 +50,9 @@ impl From<StoreFail> for EvidenceFault {
 }
 
 /// The artefacts that are at hand: what is in place, and what the store has of the records that count
-/// as available. The records whose objects are missing or damaged are told as skipped. Where the store tells nothing
-/// of what it holds, they are those of some bytes under each name.
+/// as available. The pieces of a set stand under its id, ascending by datafile. The records whose objects are missing
+/// or damaged are told as skipped. Where the store tells nothing of what it holds, they are those of some bytes under
+/// each name.
 pub fn gather<D: Store>(
     alloc: Global,
     catalog: &Catalog,
@@ -66,16 +68,11 @@ pub fn gather<D: Store>(
     ensures never_falls { D.faults store.old ≤ D.faults store.new }
 {
     let mut evidence = in_place(alloc, dbid_of(catalog), place)?;
-    let records = catalog.records();
-    for row in records {
+    let objects = objects(alloc, catalog.records())?;
+    for object in objects.as_slice() {
+        let row: &Record = object.1;
         id_fits(row);
-        take_record(alloc, store, row, &mut evidence)?;
+        take_record(alloc, catalog, store, row, &mut evidence)?;
     }
-    let skipped = by_id(evidence.skipped);
-    Ok(Evidence {
-        skipped,
-        bases: evidence.bases,
-        level1s: evidence.level1s,
-        logs: evidence.logs,
-    })
+    Ok(evidence)
 }

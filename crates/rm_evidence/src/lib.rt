@@ -10,13 +10,15 @@ pub mod naming;
 pub mod order;
 pub mod place;
 pub mod reading;
+pub mod sets;
 mod taking;
 
 pub use database::{base_of, current_of, datafile, has_database, threads};
 pub use evidence::{Evidence, InPlace};
 pub use gathering::{EvidenceFault, gather};
-pub use looking::{look_for_log, look_for_piece};
-pub use naming::{id_fits, log_name, piece_name, site_name};
+pub use looking::{look_for_log, look_for_piece, look_for_set};
+pub use naming::{id_fits, log_name, object_id, piece_name, set_name, site_name};
 pub use order::by_id;
 pub use place::fits_place;
 pub use reading::{log_object, piece_object};
+pub use sets::set_object;

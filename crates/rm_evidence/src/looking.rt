@@ -1,16 +1,17 @@
 //! What the store has of a record that counts as available.
 ghost use Rattle.std.specs.Prelude.{◌≡◌, ◌≤◌, IfOk, IsErrOf};
 ghost use Rattle.rm_base.specs.Outside.{Rose};
-ghost use Rattle.rm_evidence.specs.Names.{log_name, piece_name};
-ghost use Rattle.rm_evidence.specs.Objects.{IsLogObject, IsPieceObject};
+ghost use Rattle.rm_evidence.specs.Database.{database_in};
+ghost use Rattle.rm_evidence.specs.Names.{log_name, piece_name, set_name};
+ghost use Rattle.rm_evidence.specs.Objects.{IsLogObject, IsPieceObject, IsSetObject};
 ghost use Rattle.rm_evidence.specs.Seen.{IsSeen};
 ghost use Rattle.rm_evidence.specs.Taking.{IsTold};
 
 use crate::gathering::EvidenceFault;
-use crate::{log_name, log_object, piece_name, piece_object};
+use crate::{log_name, log_object, piece_name, piece_object, set_name, set_object};
 use rm_base::{Bad, Store};
-use rm_catalog::{LogEntry, PieceEntry};
-use rm_piece::Piece;
+use rm_catalog::{Catalog, LogEntry, PieceEntry, SetEntry};
+use rm_piece::{Piece, Set};
 use rm_redo::LogFile;
 use std::alloc::Global;
 
@@ -54,6 +55,28 @@ pub fn look_for_piece<D: Store>(
     };
     match piece_object(alloc, entry, bytes.as_slice())? {
         Some(piece) => Ok(Ok(piece)),
+        None => Ok(Err(Bad::Damaged)),
+    }
+}
+
+/// The set of the record, likewise. What it holds of each datafile is compared with the catalog's record of the datafile, too.
+pub fn look_for_set<D: Store>(
+    alloc: Global,
+    catalog: &Catalog,
+    store: &mut D,
+    entry: &SetEntry,
+) -> Result<Result<Set, Bad>, EvidenceFault>
+    ensures told { IfOk result (λ told. IsSeen (D.held store.old) (λ h. IsTold (IsSetObject (database_in catalog.now) entry.now) (h (set_name entry.now.id)) told)) }
+    ensures same { D.held store.new ≡ D.held store.old }
+    ensures failed { IsErrOf result EvidenceFault.StoreFault → Rose (D.faults store.old) (D.faults store.new) }
+    ensures never_falls { D.faults store.old ≤ D.faults store.new }
+{
+    let name = set_name(alloc, entry.id)?;
+    let Some(bytes) = store.get(name.as_str())? else {
+        return Ok(Err(Bad::Missing));
+    };
+    match set_object(alloc, catalog, entry, bytes.as_slice())? {
+        Some(set) => Ok(Ok(set)),
         None => Ok(Err(Bad::Damaged)),
     }
 }

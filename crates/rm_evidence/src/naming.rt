@@ -1,6 +1,6 @@
 //! The names under which objects stand.
 ghost use Rattle.std.specs.Prelude.{◌≡◌, ◌<◌, ◌^◌, IfOk};
-ghost use Rattle.rm_evidence.specs.Names.{log_name, piece_name, site_name};
+ghost use Rattle.rm_evidence.specs.Names.{log_name, object_id, piece_name, set_name, site_name};
 ghost use Rattle.rm_evidence.specs.Taking.{HasId};
 
 use rm_base::{NoMemory, Text};
@@ -26,6 +26,13 @@ pub fn piece_name(alloc: Global, copy: bool, id: u32) -> Result<Text, NoMemory>
     Ok(Text::from_string(name))
 }
 
+/// The name of a backup set: `set_` and the id.
+pub fn set_name(alloc: Global, id: u32) -> Result<Text, NoMemory>
+    ensures { IfOk result (λ name. name ≡ set_name id) }
+{
+    Ok(Text::from_string(format!(in alloc; "set_{id}")?))
+}
+
 /// The name of a saved part of what stands in place: `site_` and the id.
 pub fn site_name(alloc: Global, id: u32) -> Result<Text, NoMemory>
     ensures { IfOk result (λ name. name ≡ site_name id) }
@@ -40,13 +47,27 @@ fn fits(id: u32)
     let _ = id;
 }
 
-/// The id of a log or a piece is one of four bytes, so its name tells it. Nothing is done.
+/// The id of the object of a log, a piece or a set. None of another record.
+pub fn object_id(row: &Record) -> Option<u32>
+    ensures { result ≡ object_id row.now }
+{
+    match row {
+        Record::Log(entry) => Some(entry.id),
+        Record::Piece(entry) => Some(entry.id),
+        Record::Set(entry) => Some(entry.id),
+        Record::Base(_) | Record::Incarnation(_) | Record::Datafile(_) => None,
+        Record::Mark(_) | Record::Part(_) | Record::Head(_) => None,
+    }
+}
+
+/// The id of a log, a piece or a set is one of four bytes, so its name tells it. Nothing is done.
 pub fn id_fits(row: &Record)
     ensures { HasId row.now }
 {
     match row {
         Record::Log(entry) => fits(entry.id),
         Record::Piece(entry) => fits(entry.id),
+        Record::Set(entry) => fits(entry.id),
         _ => {}
     }
 }

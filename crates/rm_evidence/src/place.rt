@@ -3,11 +3,12 @@ ghost use Rattle.std.specs.Prelude.{◌≡◌, ◌↔◌, ◌<◌, ◌≤◌, Al
 ghost use Rattle.rm_base.specs.Numbers.{last_scn};
 ghost use Rattle.rm_catalog.specs.Rules.{HasDatabase};
 ghost use Rattle.rm_piece.specs.Valid.{IsPiece};
-ghost use Rattle.rm_evidence.specs.Gathered.{dbid_in, placed, placed_piece};
+ghost use Rattle.rm_evidence.specs.Database.{dbid_in};
+ghost use Rattle.rm_evidence.specs.Gathered.{placed, placed_piece};
 ghost use Rattle.rm_evidence.specs.Known.{FitsLog, FitsPiece};
 ghost use Rattle.rm_evidence.specs.Place.{FitsPlace, placed_evidence};
 
-use crate::base_of;
+use crate::database::dbid_of;
 use crate::evidence::{Evidence, InPlace};
 use rm_base::{Kind, LAST_SCN, NoMemory, Row, Seq};
 use rm_blocks::DataFile;
@@ -19,16 +20,6 @@ use std::alloc::Global;
 
 // The most blocks of a datafile.
 const MOST_BLOCKS: usize = 65536;
-
-// The number of the database; 0 where there is none.
-pub(crate) fn dbid_of(catalog: &Catalog) -> u32
-    ensures { result ≡ dbid_in catalog.now }
-{
-    match base_of(catalog) {
-        Some(base) => base.dbid,
-        None => 0,
-    }
-}
 
 // Whether there are as many rows as a datafile may have, and each version is that of a change.
 fn are_rows(rows: &[Row]) -> bool

@@ -82,8 +82,8 @@ fn statuses(
 
 /// Of each record of the class its id and the status that it gets, ascending by id: UNAVAILABLE stays so; else it is
 /// AVAILABLE where an object stands under its name, and EXPIRED where none does. A backup is a piece that is no image
-/// copy, or a backup of a log. Where the store tells nothing of what it holds, it is so by some bytes under each name.
-/// The store is asked for its names once, and no object is read. `StoreFault` where it failed, and counted it.
+/// copy, a set, or a backup of a log. Where the store tells nothing of what it holds, it is so by some bytes under each
+/// name. The store is asked for its names once, and no object is read. `StoreFault` where it failed, and counted it.
 pub fn crosscheck<D: Store>(
     alloc: Global,
     catalog: &Catalog,

@@ -4,11 +4,8 @@ ghost use Rattle.rm_verify.specs.Told.{reason, with_found};
 
 use rm_base::{Bad, NoMemory, Seq};
 
-// Adds what was found, if anything was.
-pub(crate) fn add<T: Drop>(
-    list: &mut Seq<(u32, T)>,
-    found: Option<(u32, T)>,
-) -> Result<(), NoMemory>
+/// Adds what was found, if anything was. An error is want of memory.
+pub fn add<T: Drop>(list: &mut Seq<(u32, T)>, found: Option<(u32, T)>) -> Result<(), NoMemory>
     ensures { OnOk result (list.new ≡ with_found list.old found) }
 {
     match found {

@@ -3,11 +3,12 @@
 
 pub mod crosschecking;
 pub mod fault;
-mod found;
+pub mod found;
 pub mod laws;
 mod object;
 pub mod validating;
 
 pub use crosschecking::crosscheck;
 pub use fault::VerifyFault;
+pub use object::is_of;
 pub use validating::validate;

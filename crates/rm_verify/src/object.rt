@@ -4,10 +4,10 @@ ghost use Rattle.rm_verify.specs.Classes.{is_of, object_in};
 
 use rm_base::{Class, NoMemory, Status, Text};
 use rm_catalog::Record;
-use rm_evidence::{log_name, piece_name};
+use rm_evidence::{log_name, piece_name, set_name};
 use std::alloc::Global;
 
-/// What a record of a log or a piece says of its object.
+/// What a record of a log, a piece or a set says of its object.
 #[derive(Drop)]
 pub struct Expected {
     pub id: u32,
@@ -16,8 +16,9 @@ pub struct Expected {
     pub name: Text,
 }
 
-// Whether the record is of the class. A log that is no archived one is a backup of one.
-pub(crate) fn is_of(class: Class, row: &Record) -> bool
+/// Whether the record is of the class. A backup is a piece that is no image copy, a set, or a backup of a log, which is no
+/// archived one.
+pub fn is_of(class: Class, row: &Record) -> bool
     ensures { result ≡ is_of class row.now }
 {
     match row {
@@ -31,11 +32,15 @@ pub(crate) fn is_of(class: Class, row: &Record) -> bool
             Class::Copy => piece.copy,
             Class::Archived => false,
         },
+        Record::Set(_) => match class {
+            Class::Backup => true,
+            Class::Copy | Class::Archived => false,
+        },
         _ => false,
     }
 }
 
-// What the record says of its object. None where it is of no log and no piece.
+// What the record says of its object. None where it is of no log, piece or set.
 pub(crate) fn object_in(alloc: Global, row: &Record) -> Result<Option<Expected>, NoMemory>
     ensures { IfOk result (λ object. object ≡ object_in row.now) }
 {
@@ -49,6 +54,11 @@ pub(crate) fn object_in(alloc: Global, row: &Record) -> Result<Option<Expected>,
             name: piece_name(alloc, piece.copy, piece.id)?,
             id: piece.id,
             status: piece.status,
+        })),
+        Record::Set(set) => Ok(Some(Expected {
+            name: set_name(alloc, set.id)?,
+            id: set.id,
+            status: set.status,
         })),
         _ => Ok(None),
     }

@@ -1,11 +1,13 @@
-use Rattle.std.proofs.Common.{◌≡◌, ◌≤◌, take}
+use Rattle.std.proofs.Common.{◌≡◌, ◌≤◌, map, take}
+use Rattle.rm_evidence.specs.Database.{database_in}
 use Rattle.rm_evidence.specs.Seen.{IsSeen}
 use Rattle.rm_evidence.specs.Taking.{Adds}
+use Rattle.rm_evidence.proofs.Ordered.{rows_of}
 use Rattle.rm_evidence.proofs.gathering.gather.Given as goal
 
-abbrev pub invariant-loop-row : goal.invariant-loop-row
-invariant-loop-row g l = record {
-  adds : IsSeen (g.D.Store.held l.fn.store) (λ h. Adds h (take l.row-index l.records) l.initial.evidence l.evidence);
+abbrev pub invariant-loop-object : goal.invariant-loop-object
+invariant-loop-object g l = record {
+  adds : IsSeen (g.D.Store.held l.fn.store) (λ h. Adds h (database_in l.fn.catalog) (rows_of (take l.object-index (map (λ x. (x.0, x.1.now)) l.object-items))) l.initial.evidence l.evidence);
   same : g.D.Store.held l.store ≡ g.D.Store.held l.fn.store;
   never_falls : g.D.Store.faults l.fn.store ≤ g.D.Store.faults l.store;
 }
