@@ -11,17 +11,19 @@ use Rattle.rm_base.specs.declared.kinds.Kind.TheVariants.{Level1}
 use Rattle.rm_catalog.specs.declared.record.PieceEntry.{PieceEntry}
 use Rattle.rm_catalog.specs.declared.record.Record.{Record}
 use Rattle.rm_catalog.specs.declared.record.Record.TheVariants as records
-use Rattle.rm_catalog.specs.Keys.{at, piece_in, place}
+use Rattle.rm_catalog.specs.Keys.{at, piece_in, place as place_of_id}
 use Rattle.rm_catalog.specs.Rules.{IsCatalog}
+use Rattle.rm_catalog.proofs.Told.{some_is}
 use Rattle.rm_evidence.specs.declared.evidence.Evidence.{Evidence}
 use Rattle.rm_evidence.specs.declared.evidence.InPlace.{InPlace}
 use Rattle.rm_evidence.specs.Available.{HasPieceObject}
-use Rattle.rm_evidence.specs.Gathered.{IsGathered, placed, placed_piece, dbid_in}
+use Rattle.rm_evidence.specs.Database.{database_in, dbid_in}
+use Rattle.rm_evidence.specs.Gathered.{IsGathered, IsPieceAmong, placed, placed_piece}
 use Rattle.rm_evidence.specs.Known.{FitsPiece}
 use Rattle.rm_history.specs.declared.tree.Incarnation.{Incarnation}
-use Rattle.rm_base.proofs.Keyed.{same_item}
 use Rattle.rm_evidence.proofs.Found.{at-is, obeys}
 use Rattle.rm_piece.specs.declared.piece.Piece.{Piece}
+use Rattle.rm_piece.proofs.Fitting.{spelling_same}
 use Rattle.rm_backup.specs.Renewed.{copy_at}
 
 -- a copy that is found is one of those at hand, with this id
@@ -41,7 +43,7 @@ copy_fits tree bases id a all is = All-contains (λ (x : ℕ × Piece). FitsPiec
 -- a catalog has one piece of each id
 same_piece : (rs : List Record) (p q : PieceEntry) → IsCatalog rs → Contains rs (records.Piece p) → Contains rs (records.Piece q) → q.id ≡ p.id → q ≡ p
 same_piece rs p q catalog has_p has_q same =
-    let both = sym (at-is rs (records.Piece q) catalog has_q) ∙ ap (λ (n : ℕ). at (place 5 n) rs) same ∙ at-is rs (records.Piece p) catalog has_p in
+    let both = sym (at-is rs (records.Piece q) catalog has_q) ∙ ap (λ (n : ℕ). at (place_of_id 5 n) rs) same ∙ at-is rs (records.Piece p) catalog has_p in
     same_Some q p (ap (λ (o : Option Record). option_and_then piece_in o) both)
 
 -- what stands in place has the id 0
@@ -55,20 +57,29 @@ module _ (held : Held) (rs : List Record) (place : InPlace) (e : Evidence) (p : 
   some_id : 1 ≤ p.id
   some_id = (obeys rs (records.Piece p) catalog has).own.id.number
 
+  -- what is at hand under the id of the record is its own, and no set's
+  own : (b : Piece) → IsPieceAmong held (database_in rs) rs p.id b → HasPieceObject held p b
+  own b (inl (q, there, same, has_object)) = subst (λ (r : PieceEntry). HasPieceObject held r b) (same_piece rs p q catalog has there same) has_object
+  own b (inr is) = absurd ((obeys rs (records.Piece p) catalog has).own.id.not_fourth (some_is rs (place_of_id 9 p.id) (records.Set is.0) is.1 (ap (λ (n : ℕ). place_of_id 9 n) is.2)))
+
+  -- and it is one
+  one : (b c : Piece) → HasPieceObject held p b → HasPieceObject held p c → b ≡ c
+  one b c first second =
+      spelling_same b c first.object.valid second.object.valid
+      (sym first.object.spelled ∙ same_Some first.bytes second.bytes (sym first.there ∙ second.there) ∙ second.object.spelled)
+
   pub level1_at_hand : p.kind ≡ Level1 → Contains e.level1s (p.id, a) ↔ HasPieceObject held p a
   level1_at_hand kind =
       let all = gathered.level1s in (
-        λ at_hand.
-            let from = (all.exact p.id a).0 (subst (λ (xs : List (ℕ × Piece)). Contains xs (p.id, a)) all.list at_hand) in
-            subst (λ (q : PieceEntry). HasPieceObject held q a) (same_piece rs p from.0 catalog has from.1 from.2) from.4,
-        λ available. subst (λ (xs : List (ℕ × Piece)). Contains xs (p.id, a)) (sym all.list) ((all.exact p.id a).1 (p, has, refl, kind, available)),
+        λ at_hand. own a ((all.exact p.id a).0 (subst (λ (xs : List (ℕ × Piece)). Contains xs (p.id, a)) all.list at_hand)).0,
+        λ available. subst (λ (xs : List (ℕ × Piece)). Contains xs (p.id, a)) (sym all.list) ((all.exact p.id a).1 (inl (p, has, refl, available), available.object.fields.kind ∙ kind)),
       )
 
   -- a base of this id at hand is one of the store
-  stored : (b : Piece) → Contains e.bases (p.id, b) → Contains gathered.bases.rest (p.id, b)
+  stored : (b : Piece) → Contains e.bases (p.id, b) → HasPieceObject held p b
   stored b at_hand = elim (Contains-append_cases (placed (map (placed_piece (dbid_in rs)) place.files)) gathered.bases.rest (p.id, b) (subst (λ (xs : List (ℕ × Piece)). Contains xs (p.id, b)) gathered.bases.list at_hand)) [
     | inl there ↦ absurd (in_place (map (placed_piece (dbid_in rs)) place.files) p.id b some_id there)
-    | inr rest ↦ rest
+    | inr rest ↦ own b ((gathered.bases.exact p.id b).0 rest).0
   ]
 
   -- and it is the only one
@@ -78,15 +89,12 @@ module _ (held : Held) (rs : List Record) (place : InPlace) (e : Evidence) (p : 
     | inr found ↦
         let number = eqb-true found.item.0 p.id found.passes in
         let other = subst (λ (n : ℕ). Contains e.bases (n, found.item.1)) number found.held in
-        let one = same_item (λ (x : ℕ × Piece). x.0) gathered.bases.rest gathered.bases.ascends (p.id, found.item.1) (p.id, b) (stored found.item.1 other) (stored b at_hand) refl in
-        ap (λ (o : Option (ℕ × Piece)). option_map (λ x. x.1) o) found.is ∙ ap (λ (x : ℕ × Piece). Some x.1) one
+        ap (λ (o : Option (ℕ × Piece)). option_map (λ x. x.1) o) found.is ∙ ap (λ (x : Piece). Some x) (one found.item.1 b (stored found.item.1 other) (stored b at_hand))
   ]
 
   pub copy_at_hand : p.kind ≢ Level1 → (copy_at e.bases p.id ≡ Some a) ↔ HasPieceObject held p a
   copy_at_hand kind = (
-    λ is.
-        let from = (gathered.bases.exact p.id a).0 (stored a (copy_held e.bases p.id a is)) in
-        subst (λ (q : PieceEntry). HasPieceObject held q a) (same_piece rs p from.0 catalog has from.1 from.2) from.4,
+    λ is. stored a (copy_held e.bases p.id a is),
     λ available. found_one a (subst (λ (xs : List (ℕ × Piece)). Contains xs (p.id, a)) (sym gathered.bases.list)
-        (Contains-append_right (placed (map (placed_piece (dbid_in rs)) place.files)) gathered.bases.rest (p.id, a) ((gathered.bases.exact p.id a).1 (p, has, refl, kind, available)))),
+        (Contains-append_right (placed (map (placed_piece (dbid_in rs)) place.files)) gathered.bases.rest (p.id, a) ((gathered.bases.exact p.id a).1 (inl (p, has, refl, available), λ level1. kind (sym available.object.fields.kind ∙ level1))))),
   )

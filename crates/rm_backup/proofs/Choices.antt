@@ -1,20 +1,24 @@
 -- The choice among the records, where one record more is looked at.
-use Rattle.std.proofs.Common.{◌≡◌, ◌∙◌, inl, inr, List, Option, Some, None, [], ◌∷◌, ◌++◌, refl, ap, sym, subst, arith}
+use Rattle.std.proofs.Common.{◌≡◌, ◌∙◌, inl, inr, ℕ, List, Option, Some, None, [], ◌∷◌, ◌++◌, refl, ap, sym, subst, arith, ◌+◌, ◌<◌, length, get_or, map, take, All, Contains}
 use Rattle.std.specs.List.{cons_option}
+use Rattle.std.specs.Option.{option_map}
 use Rattle.std.proofs.lemmas.Bool.{cases_lt}
+use Rattle.std.proofs.lemmas.Grind.{flat_map-append}
 use Rattle.std.proofs.lemmas.List.{append-nil}
-use Rattle.std.proofs.lemmas.List.Elements.{filter_map-append}
-use Rattle.rm_catalog.specs.Keys.{piece_in}
+use Rattle.std.proofs.lemmas.List.Elements.{All-contains, Contains-append_cases, Contains-append_left, Contains-append_right, filter_map-append}
 use Rattle.rm_base.specs.Choice.{IsChoice}
-use Rattle.rm_base.proofs.Choices.{choice_passed, choice_only, choice_taken, choice_stays}
+use Rattle.rm_base.proofs.Lists.{map_from, map_to, take_more}
+use Rattle.rm_base.proofs.Members.{in-front, none-in}
+use Rattle.rm_catalog.specs.Keys.{backups_in, part_piece, piece_in}
 use Rattle.rm_catalog.specs.declared.record.PieceEntry.{PieceEntry}
 use Rattle.rm_catalog.specs.declared.record.Record.{Record}
-use Rattle.rm_catalog.specs.declared.record.Record.TheVariants.{Base, Incarnation, Datafile, Log, Piece, Mark, Part, Head}
-use Rattle.rm_backup.specs.Looking.{IsFirstOf, IsPassing}
+use Rattle.rm_catalog.specs.declared.record.Record.TheVariants.{Piece}
+use Rattle.rm_catalog.specs.declared.record.SetEntry.{SetEntry}
+use Rattle.rm_catalog.specs.declared.record.SetPart.{SetPart}
+use Rattle.rm_evidence.proofs.Extending.{only-in}
+use Rattle.rm_backup.specs.Looking.{IsBefore, IsFirstOf, TellsFirst, told}
+use Rattle.rm_backup.specs.Parents.{among}
 use Rattle.rm_backup.specs.Records.{ComesFirst, pieces}
-
-itself : (x : PieceEntry) → ComesFirst x x
-itself x = inr (refl, omega arith)
 
 through : (x b y : PieceEntry) → ComesFirst x b → ComesFirst b y → ComesFirst x y
 through x b y (inl first) (inl second) = inl (omega (arith, first, second))
@@ -49,27 +53,67 @@ pieces_none xs x none =
     ∙ ap (λ (o : Option PieceEntry). pieces xs ++ cons_option o []) none
     ∙ append-nil (pieces xs)
 
--- the first of two that pass
-first_taken : (P : PieceEntry → Type 0) (ps : List PieceEntry) (q r : PieceEntry) (o : Option PieceEntry) → IsChoice P ComesFirst ps o → P q → IsFirstOf o q r → IsChoice P ComesFirst (ps ++ q ∷ []) (Some r)
-first_taken P ps q r None none passes is = subst (λ (x : PieceEntry). IsChoice P ComesFirst (ps ++ q ∷ []) (Some x)) (sym is) (choice_only P ComesFirst ps q none passes (itself q))
-first_taken P ps q r (Some b) was passes (inl stays) = subst (λ (x : PieceEntry). IsChoice P ComesFirst (ps ++ q ∷ []) (Some x)) (sym stays.1) (choice_stays P ComesFirst ps q b was stays.0)
-first_taken P ps q r (Some b) was passes (inr taken) = subst (λ (x : PieceEntry). IsChoice P ComesFirst (ps ++ q ∷ []) (Some x)) (sym taken.1) (choice_taken P ComesFirst ps q b was passes (itself q) (other_way b q taken.0) (λ y. through q b y))
+-- a record more, with the backups of which it tells
+pub among_more : (tag : Option (List ℕ)) (xs : List Record) (x : Record) → among tag (xs ++ x ∷ []) ≡ among tag xs ++ among tag (x ∷ [])
+among_more None xs x = flat_map-append backups_in xs (x ∷ [])
+among_more (Some tag) xs x = filter_map-append piece_in xs (x ∷ [])
 
--- the record is one of a backup that passes
-pub record_taken : (P : PieceEntry → Type 0) (xs : List Record) (x : Record) (q r : PieceEntry) (o : Option PieceEntry) → IsChoice P ComesFirst (pieces xs) o → IsPassing P x (Some q) → IsFirstOf o q r → IsChoice P ComesFirst (pieces (xs ++ x ∷ [])) (Some r)
-record_taken P xs x q r o was passing is =
-    subst (λ (ps : List PieceEntry). IsChoice P ComesFirst ps (Some r)) (sym (ap (λ y. pieces (xs ++ y ∷ [])) passing.0 ∙ pieces_more xs q)) (first_taken P (pieces xs) q r o was passing.1 is)
+module _ (P : PieceEntry → Type 0) where
+  -- one that comes before each that passes in two lists is the first of both
+  chosen : (xs ys : List PieceEntry) (x : PieceEntry) → Contains (xs ++ ys) x → P x → ((y : PieceEntry) → Contains xs y → P y → ComesFirst x y) → ((y : PieceEntry) → Contains ys y → P y → ComesFirst x y) → IsChoice P ComesFirst (xs ++ ys) (Some x)
+  chosen xs ys x held passes left right = record {
+    held = held;
+    passes = passes;
+    first = λ y there also. elim (Contains-append_cases xs ys y there) [
+      | inl front ↦ left y front also
+      | inr back ↦ right y back also
+    ];
+  }
 
-none_more : (P : PieceEntry → Type 0) (xs : List Record) (x : Record) (o : Option PieceEntry) → IsChoice P ComesFirst (pieces xs) o → piece_in x ≡ None → IsChoice P ComesFirst (pieces (xs ++ x ∷ [])) o
-none_more P xs x o was none = subst (λ (ps : List PieceEntry). IsChoice P ComesFirst ps o) (sym (pieces_none xs x none)) was
+  both : (xs ys : List PieceEntry) (o q : Option PieceEntry) (r : Option (ℕ × ℕ)) → IsChoice P ComesFirst xs o → IsChoice P ComesFirst ys q → IsFirstOf (option_map told o) (option_map told q) r → TellsFirst P (xs ++ ys) r
+  both xs ys None None r first second is = (None, (λ y there passes. elim (Contains-append_cases xs ys y there) [ inl front ↦ first y front passes | inr back ↦ second y back passes ]), is)
+  both xs ys (Some p) None r first second is = (Some p, chosen xs ys p (Contains-append_left xs ys p first.held) first.passes first.first (λ y back also. absurd (second y back also)), is)
+  both xs ys None (Some q) r first second is = (Some q, chosen xs ys q (Contains-append_right xs ys q second.held) second.passes (λ y front also. absurd (first y front also)) second.first, is)
+  both xs ys (Some p) (Some q) r first second (inl stays) =
+      (Some p, chosen xs ys p (Contains-append_left xs ys p first.held) first.passes first.first (λ y back also. through p q y stays.0 (second.first y back also)), stays.1)
+  both xs ys (Some p) (Some q) r first second (inr goes) =
+      (Some q, chosen xs ys q (Contains-append_right xs ys q second.held) second.passes (λ y front also. through q p y (other_way p q goes.0) (first.first y front also)) second.first, goes.1)
 
--- it is none
-pub record_passed : (P : PieceEntry → Type 0) (xs : List Record) (x : Record) (o : Option PieceEntry) → IsChoice P ComesFirst (pieces xs) o → IsPassing P x None → IsChoice P ComesFirst (pieces (xs ++ x ∷ [])) o
-record_passed P xs (Base b) o was none = none_more P xs (Base b) o was refl
-record_passed P xs (Incarnation i) o was none = none_more P xs (Incarnation i) o was refl
-record_passed P xs (Datafile f) o was none = none_more P xs (Datafile f) o was refl
-record_passed P xs (Log l) o was none = none_more P xs (Log l) o was refl
-record_passed P xs (Piece p) o was none = subst (λ (ps : List PieceEntry). IsChoice P ComesFirst ps o) (sym (pieces_more xs p)) (choice_passed P ComesFirst (pieces xs) p o was (none p refl))
-record_passed P xs (Mark m) o was none = none_more P xs (Mark m) o was refl
-record_passed P xs (Part p) o was none = none_more P xs (Part p) o was refl
-record_passed P xs (Head h) o was none = none_more P xs (Head h) o was refl
+  -- the first of two lists
+  pub tells_both : (xs ys : List PieceEntry) (a b r : Option (ℕ × ℕ)) → TellsFirst P xs a → TellsFirst P ys b → IsFirstOf a b r → TellsFirst P (xs ++ ys) r
+  tells_both xs ys a b r (o, first, is) (q, second, same) of =
+      both xs ys o q r first second (subst (λ (c : Option (ℕ × ℕ)). IsFirstOf c (option_map told q) r) is (subst (λ (c : Option (ℕ × ℕ)). IsFirstOf a c r) same of))
+
+  -- of backups that are told alike, one of which passes; and of such that fail
+  pub tells_alike : (xs : List PieceEntry) (x : PieceEntry) → Contains xs x → P x → ((y : PieceEntry) → Contains xs y → told y ≡ told x) → TellsFirst P xs (Some (told x))
+  tells_alike xs x held passes alike = (Some x, record { held = held; passes = passes; first = λ y there also. subst (λ (t : ℕ × ℕ). IsBefore (told x) t) (sym (alike y there)) (inr (refl, omega arith)) }, refl)
+
+  pub tells_none : (xs : List PieceEntry) → ((y : PieceEntry) → Contains xs y → ¬ P y) → TellsFirst P xs None
+  tells_none xs fail = (None, fail, refl)
+
+  -- of one backup
+  pub tells_one : (x : PieceEntry) → P x → TellsFirst P (x ∷ []) (Some (told x))
+  tells_one x passes = tells_alike (x ∷ []) x (in-front x []) passes (λ y held. ap told (sym (only-in x y held)))
+
+  -- of the records up to one, and of one more
+  pub tells_start : (tag : Option (List ℕ)) → TellsFirst P (among tag []) None
+  tells_start None = tells_none [] (λ y held passes. none-in y held)
+  tells_start (Some tag) = tells_none [] (λ y held passes. none-in y held)
+
+  pub tells_more : (tag : Option (List ℕ)) (rs : List Record) (i : ℕ) (r : Record) (a b c : Option (ℕ × ℕ)) → i < length rs → r ≡ get_or rs i r
+      → TellsFirst P (among tag (take i rs)) a → TellsFirst P (among tag (r ∷ [])) b → IsFirstOf a b c → TellsFirst P (among tag (take (i + 1) rs)) c
+  tells_more tag rs i r a b c inside is before here first =
+      subst (λ (ps : List PieceEntry). TellsFirst P ps c) (sym (ap (among tag) (take_more rs i r inside is) ∙ among_more tag (take i rs) r))
+      (tells_both (among tag (take i rs)) (among tag (r ∷ [])) a b c before here first)
+
+  module _ (e : SetEntry) where
+    -- a set of which a part passes, and one of which none does
+    pub tells_set : (ps : List SetPart) (p : SetPart) → ps ≡ e.parts → Contains ps p → P (part_piece e p) → TellsFirst P (map (part_piece e) e.parts) (Some (e.id, e.checkpoint))
+    tells_set ps p same held passes =
+        tells_alike (map (part_piece e) e.parts) (part_piece e p) (map_to (part_piece e) e.parts p (subst (λ (qs : List SetPart). Contains qs p) same held)) passes
+        (λ y there. let s = map_from (part_piece e) e.parts y there in ap told (sym s.is))
+
+    pub tells_no_set : (ps : List SetPart) → ps ≡ e.parts → All (λ p. ¬ P (part_piece e p)) ps → TellsFirst P (map (part_piece e) e.parts) None
+    tells_no_set ps same fail = tells_none (map (part_piece e) e.parts) (λ y there passes.
+        let s = map_from (part_piece e) e.parts y there in
+        All-contains (λ (p : SetPart). ¬ P (part_piece e p)) ps s.item fail (subst (λ (qs : List SetPart). Contains qs s.item) (sym same) s.held) (subst P (sym s.is) passes))

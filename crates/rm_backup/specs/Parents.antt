@@ -6,6 +6,7 @@ use Rattle.rm_base.specs.declared.kinds.Kind.TheVariants.{Full, Level0, Level1, 
 use Rattle.rm_base.specs.Choice.{IsChoice}
 use Rattle.rm_catalog.specs.declared.record.PieceEntry.{PieceEntry}
 use Rattle.rm_catalog.specs.declared.record.Record.{Record}
+use Rattle.rm_catalog.specs.Keys.{backups}
 use Rattle.rm_backup.specs.Records.{ComesFirst, IsOnPath, pieces}
 
 -- level 0, or level 1 where it need not be cumulative
@@ -24,15 +25,20 @@ abbrev pub IsTagged : Option (List ℕ) → PieceEntry → Type 0
 IsTagged None p = Unit {0}
 IsTagged (Some tag) p = IsOfTag tag p
 
--- a record among which the parent is chosen
+-- a backup that may be the parent
 pub record MayBeParent (rs : List Record) (f : ℕ) (cumulative : Bool) (tag : Option (List ℕ)) (p : PieceEntry) : Type 0 where
   pub on : IsOnPath rs f p
   pub level : IsLevel cumulative p.kind
   pub tagged : IsTagged tag p
 
+-- the backups among which it is chosen: pieces, copies and the parts of sets, and with a tag no part of a set
+abbrev pub among : Option (List ℕ) → List Record → List PieceEntry
+among None rs = backups rs
+among (Some tag) rs = pieces rs
+
 -- of these the one of the greatest checkpoint, ties by the greatest id
 abbrev pub IsLast : List Record → ℕ → Bool → Option (List ℕ) → Option PieceEntry → Type 0
-IsLast rs f cumulative tag o = IsChoice (MayBeParent rs f cumulative tag) ComesFirst (pieces rs) o
+IsLast rs f cumulative tag o = IsChoice (MayBeParent rs f cumulative tag) ComesFirst (among tag rs) o
 
 -- with a tag: some level 0 image copy that has it may be a parent
 abbrev pub HasCopy : List Record → ℕ → Option (List ℕ) → Type 0

@@ -9,11 +9,11 @@ use Rattle.rm_catalog.specs.Trees.{nodes}
 use Rattle.rm_history.specs.Tree.{is_within}
 use Rattle.rm_evidence.specs.Database.{current_in}
 
--- the backups of datafiles, in order
+-- the pieces and image copies, in order
 abbrev pub pieces : List Record → List PieceEntry
 pieces rs = filter_map piece_in rs
 
--- the backup of this id
+-- the piece or image copy of this id
 abbrev pub piece : ℕ → List Record → Option PieceEntry
 piece id rs = option_and_then piece_in (at (place 5 id) rs)
 

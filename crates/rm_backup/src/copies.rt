@@ -1,47 +1,41 @@
 //! The image copies that take over level 1s.
-ghost use Rattle.std.specs.Prelude.{◌≡◌, Option};
-ghost use Rattle.std.specs.Option.{option_copied, option_map};
+ghost use Rattle.std.specs.Prelude.{◌≡◌, ◌∷◌, [], Option};
+ghost use Rattle.std.specs.Option.{option_map};
 ghost use Rattle.rm_catalog.specs.declared.record.PieceEntry.{PieceEntry};
 ghost use Rattle.rm_catalog.specs.Rules.{HasDatabase};
-ghost use Rattle.rm_backup.specs.Looking.{IsPassing};
+ghost use Rattle.rm_backup.specs.Looking.{TellsFirst};
+ghost use Rattle.rm_backup.specs.Records.{pieces};
 ghost use Rattle.rm_backup.specs.Taken.{IsTaken, MayBeTaken};
 
 use crate::records::{first_of, is_on_path};
-use rm_base::FileNo;
-use rm_catalog::{Catalog, PieceEntry, Record};
+use rm_base::{FileNo, Scn};
+use rm_catalog::{Catalog, Record};
 
-// The backup of which a record tells, if it is an image copy that may take over level 1s.
-fn image_copy<'a>(
-    catalog: &Catalog,
-    file: FileNo,
-    tag: &str,
-    row: &'a Record,
-) -> Option<&'a PieceEntry>
+// The id and the checkpoint of the record, if it is one of an image copy that may take over level 1s.
+fn image_copy(catalog: &Catalog, file: FileNo, tag: &str, row: &Record) -> Option<(u32, Scn)>
     requires database { HasDatabase catalog.now }
-    ensures { IsPassing (MayBeTaken catalog.now file tag.now) row.now (option_copied result) }
+    ensures { TellsFirst (MayBeTaken catalog.now file tag.now) (pieces (row.now ∷ [])) result }
 {
     match row {
         Record::Piece(piece)
             if piece.copy && piece.tag.as_str() == tag && is_on_path(catalog, file, piece) => {
-            Some(piece)
+            Some((piece.id, piece.checkpoint))
         }
         _ => None,
     }
 }
 
-/// The record of the image copy of a datafile that takes over level 1s with the tag: of the available
-/// copies with it that hold on the current path the one of the greatest checkpoint, ties by the greatest
-/// id. None where there is none.
-pub(crate) fn last_copy<'a>(catalog: &'a Catalog, file: FileNo, tag: &str) -> Option<&'a PieceEntry>
+/// The id and the checkpoint of the image copy of a datafile that takes over level 1s with the tag: of the
+/// available copies with it that hold on the current path the one of the greatest checkpoint, ties by the
+/// greatest id. None where there is none.
+pub(crate) fn last_copy(catalog: &Catalog, file: FileNo, tag: &str) -> Option<(u32, Scn)>
     requires database { HasDatabase catalog.now }
-    ensures { IsTaken catalog.now file tag.now (option_copied result) }
+    ensures { TellsFirst (MayBeTaken catalog.now file tag.now) (pieces catalog.now) result }
 {
     let records = catalog.records();
-    let mut best: Option<&'a PieceEntry> = None;
+    let mut best = None;
     for row in records {
-        if let Some(piece) = image_copy(catalog, file, tag, row) {
-            best = Some(first_of(best, piece));
-        }
+        best = first_of(best, image_copy(catalog, file, tag, row));
     }
     best
 }
@@ -53,5 +47,5 @@ pub fn taken(catalog: &Catalog, file: FileNo, tag: &str) -> Option<u32>
     requires database { HasDatabase catalog.now }
     ensures { (o : Option PieceEntry) × IsTaken catalog.now file tag.now o × (result ≡ option_map (λ p. p.id) o) }
 {
-    Some(last_copy(catalog, file, tag)?.id)
+    Some(last_copy(catalog, file, tag)?.0)
 }

@@ -2,10 +2,10 @@
 ghost use Rattle.std.specs.Prelude.{◌≡◌, ◌↔◌, IsTrue};
 ghost use Rattle.std.specs.Option.{option_copied};
 ghost use Rattle.rm_catalog.specs.Rules.{HasDatabase};
-ghost use Rattle.rm_backup.specs.Looking.{IsFirstOf};
-ghost use Rattle.rm_backup.specs.Records.{ComesFirst, IsOnPath, piece as piece_of};
+ghost use Rattle.rm_backup.specs.Looking.{IsBefore, IsFirstOf};
+ghost use Rattle.rm_backup.specs.Records.{IsOnPath, piece as piece_of};
 
-use rm_base::{FileNo, Status};
+use rm_base::{FileNo, Scn, Status};
 use rm_catalog::{Catalog, Key, PieceEntry, Record};
 use rm_evidence::current_of;
 
@@ -32,18 +32,21 @@ pub fn piece(catalog: &Catalog, id: u32) -> Option<&PieceEntry>
 }
 
 // Whether x has a greater checkpoint than y, or the same and no lesser id.
-fn comes_first(x: &PieceEntry, y: &PieceEntry) -> bool
-    ensures { IsTrue result ↔ ComesFirst x.now y.now }
+fn comes_first(x: (u32, Scn), y: (u32, Scn)) -> bool
+    ensures { IsTrue result ↔ IsBefore x y }
 {
-    y.checkpoint < x.checkpoint || (y.checkpoint == x.checkpoint && y.id <= x.id)
+    y.1 < x.1 || (y.1 == x.1 && y.0 <= x.0)
 }
 
-/// The first of both.
-pub fn first_of<'a>(best: Option<&'a PieceEntry>, new: &'a PieceEntry) -> &'a PieceEntry
-    ensures { IsFirstOf (option_copied best.entry) new.now result.now }
+/// The first of what is told of two lists of backups, by id and checkpoint.
+pub fn first_of(best: Option<(u32, Scn)>, new: Option<(u32, Scn)>) -> Option<(u32, Scn)>
+    ensures { IsFirstOf best new result }
 {
-    match best {
-        Some(best) => { if comes_first(best, new) { best } else { new } }
-        None => new,
+    match new {
+        Some(y) => match best {
+            Some(x) => { if comes_first(x, y) { Some(x) } else { Some(y) } }
+            None => Some(y),
+        },
+        None => best,
     }
 }

@@ -110,13 +110,13 @@ pub fn recover_copy(
     ensures none { IfOk result (λ o. IfNone o (IsTaken catalog.now file tag.now None)) }
     ensures renewed { IfOk result (λ o. IfSome o (IsRenewed catalog.now evidence.now file tag.now until)) }
 {
-    let Some(entry) = last_copy(catalog, file, tag) else {
+    let Some((id, was)) = last_copy(catalog, file, tag) else {
         return Ok(None);
     };
-    let merged = merged_copy(alloc, catalog, evidence, file, tag, until, entry.id)?;
-    let checkpoint = checkpoint_after(&merged, entry.checkpoint);
+    let merged = merged_copy(alloc, catalog, evidence, file, tag, until, id)?;
+    let checkpoint = checkpoint_after(&merged, was);
     Ok(Some(Renewed {
-        id: entry.id,
+        id,
         merged,
         checkpoint,
         above: start_above(alloc, catalog, file, tag, checkpoint)?,

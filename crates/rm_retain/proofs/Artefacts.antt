@@ -1,7 +1,7 @@
 -- Artefacts that records name, before and after obsolete records went.
 use Rattle.std.proofs.Common.{◌≡◌, ◌∙◌, ◌⊎◌, ◌++◌, inl, inr, ℕ, List, sym, subst, map, Contains}
 use Rattle.std.proofs.lemmas.List.Elements.{Contains-append_left, Contains-append_right, Contains-append_cases}
-use Rattle.rm_evidence.specs.Gathered.{Lists}
+use Rattle.rm_evidence.specs.Gathered.{ListsBy}
 use Rattle.rm_base.proofs.Lists.{map_to, map_from}
 
 -- an artefact at hand, of a record or in place
@@ -15,7 +15,7 @@ pub record IsOfGone {A B : Type 0} (f : A → B) (Gone : ℕ → A → Type 0) (
   pub is : f item ≡ b
   pub gone : Gone id item
 
-module _ {A B : Type 0} (f : A → B) (first last all new : List (ℕ × A)) (Was Is : ℕ → A → Type 0) (before : Lists A first Was all) (after : Lists A last Is new) where
+module _ {A B : Type 0} {R : ℕ × A → ℕ × A → Type 0} (f : A → B) (first last all new : List (ℕ × A)) (Was Is : ℕ → A → Type 0) (before : ListsBy A R first Was all) (after : ListsBy A R last Is new) where
   pub named_had : ((x : ℕ × A) → Contains last x → Contains (seen f first) (f x.1)) → ((id : ℕ) (a : A) → Is id a → Was id a) → (b : B) → Contains (seen f new) b → Contains (seen f all) b
   named_had placed had b held =
       let s = map_from (λ (x : ℕ × A). f x.1) new b held in

@@ -1,44 +1,56 @@
 -- What is gathered before and after obsolete records went.
 use Rattle.std.proofs.Common.{◌≡◌, ◌<◌, ◌∙◌, ◌⊎◌, inl, inr, nat_lt, ℕ, List, [], refl, ap, sym, subst, arith, map, filter, Contains}
-use Rattle.std.proofs.lemmas.List.Elements.{Contains-append_cases}
+use Rattle.std.proofs.lemmas.List.Elements.{All-contains, Contains-append_cases}
 use Rattle.std.proofs.lemmas.Bool.{ltb-true}
 use Rattle.rm_base.specs.Store.{Held}
 use Rattle.rm_catalog.specs.declared.record.PieceEntry.{PieceEntry}
 use Rattle.rm_catalog.specs.declared.record.Record.{Record}
 use Rattle.rm_catalog.specs.declared.record.Record.TheVariants as records
+use Rattle.rm_catalog.specs.declared.record.SetEntry.{SetEntry}
+use Rattle.rm_catalog.specs.declared.record.SetPart.{SetPart}
+use Rattle.rm_catalog.specs.Keys.{part_piece}
 use Rattle.rm_blocks.specs.File.{File}
 use Rattle.rm_evidence.specs.declared.evidence.Evidence.{Evidence}
 use Rattle.rm_evidence.specs.declared.evidence.InPlace.{InPlace}
-use Rattle.rm_evidence.specs.Available.{HasPieceObject}
-use Rattle.rm_evidence.specs.Gathered.{IsGathered, IsBaseOf, IsLevel1Of, IsLogOf, placed, placed_piece, dbid_in}
+use Rattle.rm_evidence.specs.Available.{HasPieceObject, HasSetObject}
+use Rattle.rm_evidence.specs.Database.{Database, database_in, dbid_in}
+use Rattle.rm_evidence.specs.Gathered.{IsGathered, IsPieceAmong, IsBaseOf, IsLevel1Of, IsLogOf, placed, placed_piece}
 use Rattle.rm_evidence.specs.Known.{known_of}
+use Rattle.rm_evidence.specs.Names.{piece_name, set_name}
+use Rattle.rm_evidence.specs.Objects.{IsSetObject}
+use Rattle.rm_evidence.proofs.Parts.{part-of}
 use Rattle.rm_history.specs.declared.world.World.{World}
-use Rattle.rm_history.specs.Artefacts.{Base, Level1, Log, high_of}
+use Rattle.rm_history.specs.Artefacts.{Base, Level1, Log}
 use Rattle.rm_base.proofs.Members.{none-in}
 use Rattle.rm_base.proofs.Lists.{filter_from, map_from, map_to}
 use Rattle.rm_piece.specs.declared.piece.Piece.{Piece}
+use Rattle.rm_piece.specs.declared.set.Set.{Set}
+use Rattle.rm_piece.specs.declared.set.SetFile.{SetFile}
 use Rattle.rm_piece.specs.Artefacts.{base_of, level1_of}
+use Rattle.rm_piece.specs.Sets.{IsMember}
+use Rattle.rm_piece.specs.Valid.{IsPiece}
 use Rattle.rm_redo.specs.declared.log_file.LogFile.{LogFile}
 use Rattle.rm_redo.specs.LogFile.{log_of}
 use Rattle.rm_retain.specs.declared.copies.Backup.{Backup}
 use Rattle.rm_retain.specs.Chosen.{Retention}
 use Rattle.rm_retain.specs.Obsolete.{IsNeedlessBackup, IsNeedlessLog}
-use Rattle.rm_retain.specs.Catalogued.{backup_of, backup_in, copies_in}
+use Rattle.rm_retain.specs.Catalogued.{backup_of, backup_in, backups_of, copies_in}
 use Rattle.rm_retain.specs.Losing.{Describes, IsWhole, HasCopy, IsGone, LosesNeedless}
 use Rattle.rm_retain.specs.Cleared.{IsCleared}
 use Rattle.rm_retain.proofs.Artefacts.{seen, IsOfGone, named_had, named_seen, named_stays}
 
--- a piece of a record that is needless
+-- a piece that a needless record describes
 pub record PieceGone (r : Retention) (id : ℕ) (a : Piece) : Type 0 where
-  pub entry : PieceEntry
-  pub number : entry.id ≡ id
-  pub described : Describes (backup_in entry) a.inc a.file a.checkpoint a.rows
-  pub needless : IsNeedlessBackup r (backup_in entry)
+  pub valid : IsPiece a
+  pub needless : IsNeedlessBackup r (backup_of (id, a))
 
-pub piece_described : (held : Held) (p : PieceEntry) (a : Piece) → HasPieceObject held p a → Describes (backup_in p) a.inc a.file a.checkpoint a.rows
-piece_described held p a has =
-    let f = has.object.fields in
-    record { inc = sym f.inc; file = sym f.file; checkpoint = sym f.checkpoint; high = sym f.high ∙ has.object.valid.high }
+described : (id : ℕ) (a : Piece) → IsPiece a → Describes (backup_of (id, a)) a.inc a.file a.checkpoint a.rows
+described id a valid = record { inc = refl; file = refl; checkpoint = refl; high = valid.high }
+
+-- what is at hand of a record is valid
+pub piece_valid : (held : Held) (base : Database) (rs : List Record) (id : ℕ) (a : Piece) → IsPieceAmong held base rs id a → IsPiece a
+piece_valid held base rs id a (inl own) = own.3.object.valid
+piece_valid held base rs id a (inr set) = subst IsPiece set.7 (All-contains (IsMember set.3) set.3.members set.5 set.4.object.valid.members set.6).piece
 
 -- files in place are the same copies, whatever number the database has
 placed_base : (d e : ℕ) (files : List File) (x : ℕ × Piece) → Contains (placed (map (placed_piece d) files)) x → Contains (seen base_of (placed (map (placed_piece e) files))) (base_of x.1)
@@ -61,33 +73,64 @@ same_backup x y id inc file checkpoint high =
     let fifth : ℕ → Backup = λ n. record { id = y.id; inc = y.inc; file = y.file; checkpoint = y.checkpoint; high = n } in
     ap first id ∙ ap second inc ∙ ap third file ∙ ap fourth checkpoint ∙ ap fifth high
 
-module _ (held now : Held) (rs left : List Record) (r : Retention) (cleared : IsCleared r rs left held now) where
-  piece_had : (p : PieceEntry) (a : Piece) → Contains left (records.Piece p) → HasPieceObject now p a → HasPieceObject held p a
-  piece_had p a row has = record { status = has.status; bytes = has.bytes; there = sym (cleared.pieces p row) ∙ has.there; object = has.object }
+-- the record of a piece describes its piece
+own_backup : (held : Held) (p : PieceEntry) (id : ℕ) (a : Piece) → p.id ≡ id → HasPieceObject held p a → backup_in p ≡ backup_of (id, a)
+own_backup held p id a number has =
+    let f = has.object.fields in
+    same_backup (backup_in p) (backup_of (id, a)) number (sym f.inc) (sym f.file) (sym f.checkpoint) (sym f.high)
 
-  pub piece_kept : (p : PieceEntry) (a : Piece) → Contains left (records.Piece p) → HasPieceObject held p a → HasPieceObject now p a
-  piece_kept p a row has = record { status = has.status; bytes = has.bytes; there = cleared.pieces p row ∙ has.there; object = has.object }
+-- and a part of the record of a set its member
+part_backup : (held : Held) (base : Database) (e : SetEntry) (s : Set) (m : SetFile) (id : ℕ) (a : Piece) → e.id ≡ id → HasSetObject held base e s → Contains s.members m → m.piece ≡ a → Contains (backups_of e) (backup_of (id, a))
+part_backup held base e s m id a number has member is =
+    let f = has.object.fields in
+    let of = (All-contains (IsMember s) s.members m has.object.valid.members member).of in
+    let found = part-of e.parts s.members m f.parts member in
+    let p = found.2 in
+    let same : backup_in (part_piece e found.0) ≡ backup_of (id, m.piece) =
+    same_backup (backup_in (part_piece e found.0)) (backup_of (id, m.piece)) number (sym (of.inc ∙ f.inc)) (sym p.file) (sym (of.checkpoint ∙ f.checkpoint)) (sym p.high) in
+    subst (Contains (backups_of e)) (same ∙ ap (λ (b : Piece). backup_of (id, b)) is) (map_to (λ (q : SetPart). backup_in (part_piece e q)) e.parts found.0 found.1)
+
+-- an object that stands in another store is one there
+piece_moved : (held now : Held) (p : PieceEntry) (a : Piece) → now (piece_name p.copy p.id) ≡ held (piece_name p.copy p.id) → HasPieceObject held p a → HasPieceObject now p a
+piece_moved held now p a stands has = record { status = has.status; bytes = has.bytes; there = stands ∙ has.there; object = has.object }
+
+set_moved : (held now : Held) (base other : Database) (e : SetEntry) (s : Set) → base ≡ other → now (set_name e.id) ≡ held (set_name e.id) → HasSetObject held base e s → HasSetObject now other e s
+set_moved held now base other e s same stands has =
+    record { status = has.status; bytes = has.bytes; there = stands ∙ has.there; object = subst (λ (d : Database). IsSetObject d e has.bytes s) same has.object }
+
+module _ (held now : Held) (rs left : List Record) (r : Retention) (cleared : IsCleared r rs left held now) (same : database_in left ≡ database_in rs) where
+  among_had : (id : ℕ) (a : Piece) → IsPieceAmong now (database_in left) left id a → IsPieceAmong held (database_in rs) rs id a
+  among_had id a (inl own) = inl (own.0, cleared.had (records.Piece own.0) own.1, own.2, piece_moved now held own.0 a (sym (cleared.pieces own.0 own.1)) own.3)
+  among_had id a (inr set) = inr (set.0, cleared.had (records.Set set.0) set.1, set.2, set.3, set_moved now held (database_in left) (database_in rs) set.0 set.3 same (sym (cleared.sets set.0 set.1)) set.4, set.5, set.6, set.7)
+
+  piece_stays : (id : ℕ) (a : Piece) → IsPieceAmong held (database_in rs) rs id a → IsPieceAmong now (database_in left) left id a ⊎ PieceGone r id a
+  piece_stays id a (inl own) = elim (cleared.stays (records.Piece own.0) own.1) [
+    | inl row ↦ inl (inl (own.0, row, own.2, piece_moved held now own.0 a (cleared.pieces own.0 row) own.3))
+    | inr obsolete ↦ inr (record { valid = own.3.object.valid; needless = subst (IsNeedlessBackup r) (own_backup held own.0 id a own.2 own.3) obsolete.needless })
+  ]
+  piece_stays id a (inr set) = elim (cleared.stays (records.Set set.0) set.1) [
+    | inl row ↦ inl (inr (set.0, row, set.2, set.3, set_moved held now (database_in rs) (database_in left) set.0 set.3 (sym same) (cleared.sets set.0 row) set.4, set.5, set.6, set.7))
+    | inr obsolete ↦ inr (record {
+      valid = piece_valid held (database_in rs) rs id a (inr set);
+      needless = All-contains (IsNeedlessBackup r) (backups_of set.0) (backup_of (id, a)) obsolete.needless (part_backup held (database_in rs) set.0 set.3 set.5 id a set.2 set.4 set.6 set.7);
+    })
+  ]
 
   pub base_had : (id : ℕ) (a : Piece) → IsBaseOf now left id a → IsBaseOf held rs id a
-  base_had id a is = (is.0, cleared.had (records.Piece is.0) is.1, is.2, is.3, piece_had is.0 a is.1 is.4)
+  base_had id a is = (among_had id a is.0, is.1)
 
   level1_had : (id : ℕ) (a : Piece) → IsLevel1Of now left id a → IsLevel1Of held rs id a
-  level1_had id a is = (is.0, cleared.had (records.Piece is.0) is.1, is.2, is.3, piece_had is.0 a is.1 is.4)
+  level1_had id a is = (among_had id a is.0, is.1)
+
+  -- a copy of a record is at hand, or needless
+  pub base_stays : (id : ℕ) (a : Piece) → IsBaseOf held rs id a → IsBaseOf now left id a ⊎ PieceGone r id a
+  base_stays id a is = elim (piece_stays id a is.0) [ inl stay ↦ inl (stay, is.1) | inr gone ↦ inr gone ]
+
+  level1_stays : (id : ℕ) (a : Piece) → IsLevel1Of held rs id a → IsLevel1Of now left id a ⊎ PieceGone r id a
+  level1_stays id a is = elim (piece_stays id a is.0) [ inl stay ↦ inl (stay, is.1) | inr gone ↦ inr gone ]
 
   log_had : (id : ℕ) (a : LogFile) → IsLogOf now left id a → IsLogOf held rs id a
   log_had id a is = (is.0, cleared.had (records.Log is.0) is.1, is.2, record { status = is.3.status; bytes = is.3.bytes; there = sym (cleared.logs is.0 is.1) ∙ is.3.there; object = is.3.object })
-
-  base_stays : (id : ℕ) (a : Piece) → IsBaseOf held rs id a → IsBaseOf now left id a ⊎ PieceGone r id a
-  base_stays id a is = elim (cleared.stays (records.Piece is.0) is.1) [
-    | inl row ↦ inl (is.0, row, is.2, is.3, piece_kept is.0 a row is.4)
-    | inr obsolete ↦ inr (record { entry = is.0; number = is.2; described = piece_described held is.0 a is.4; needless = obsolete.needless })
-  ]
-
-  level1_stays : (id : ℕ) (a : Piece) → IsLevel1Of held rs id a → IsLevel1Of now left id a ⊎ PieceGone r id a
-  level1_stays id a is = elim (cleared.stays (records.Piece is.0) is.1) [
-    | inl row ↦ inl (is.0, row, is.2, is.3, piece_kept is.0 a row is.4)
-    | inr obsolete ↦ inr (record { entry = is.0; number = is.2; described = piece_described held is.0 a is.4; needless = obsolete.needless })
-  ]
 
   log_stays : (id : ℕ) (a : LogFile) → IsLogOf held rs id a → IsLogOf now left id a ⊎ IsNeedlessLog r a.inc a.next
   log_stays id a is = elim (cleared.stays (records.Log is.0) is.1) [
@@ -107,36 +150,28 @@ module _ (held now : Held) (rs left : List Record) (r : Retention) (cleared : Is
       elim (Contains-append_cases first before.bases.rest s.item (subst (λ (xs : List (ℕ × Piece)). Contains xs s.item) before.bases.list from.0)) [
         | inl in_place ↦ let none = placed_number (map (placed_piece (dbid_in rs)) place.files) s.item in_place in absurd (omega (arith, some, none))
         | inr named ↦
-            let a = s.item.1 in
-            let was = (before.bases.exact s.item.0 a).0 named in
-            let described = piece_described held was.0 a was.4 in
-            let high : a.high ≡ (backup_in was.0).high = was.4.object.fields.high in
-            let same : backup_in was.0 ≡ x = same_backup (backup_in was.0) (backup_of s.item) was.2 described.inc described.file described.checkpoint (sym high) ∙ s.is in
-            elim (cleared.stays (records.Piece was.0) was.1) [
-              | inl row ↦ inl (record {
-                copy = base_of a;
-                held = named_seen base_of first (placed (map (placed_piece (dbid_in left)) place.files)) old.bases new.bases (IsBaseOf held rs) (IsBaseOf now left) before.bases after.bases s.item.0 a (was.0, row, was.2, was.3, piece_kept was.0 a row was.4);
-                described = subst (λ (y : Backup). Describes y a.inc a.file a.checkpoint a.rows) same described;
+            let is = (before.bases.exact s.item.0 s.item.1).0 named in
+            elim (base_stays s.item.0 s.item.1 is) [
+              | inl stay ↦ inl (record {
+                copy = base_of s.item.1;
+                held = named_seen base_of first (placed (map (placed_piece (dbid_in left)) place.files)) old.bases new.bases (IsBaseOf held rs) (IsBaseOf now left) before.bases after.bases s.item.0 s.item.1 stay;
+                described = subst (λ (y : Backup). Describes y s.item.1.inc s.item.1.file s.item.1.checkpoint s.item.1.rows) s.is (described s.item.0 s.item.1 (piece_valid held (database_in rs) rs s.item.0 s.item.1 is.0));
                 whole = whole s.item from.0 some;
               })
-              | inr obsolete ↦ inr (subst (IsNeedlessBackup r) same obsolete.needless)
+              | inr gone ↦ inr (subst (IsNeedlessBackup r) s.is gone.needless)
             ]
       ]
 
-  is_gone : (j f c : ℕ) (a : Piece) (id : ℕ) → a.inc ≡ j → a.file ≡ f → a.checkpoint ≡ c → PieceGone r id a → IsGone r j f c a.rows
-  is_gone j f c a id inc file checkpoint gone = record {
-    backup = backup_in gone.entry;
-    described = record { inc = gone.described.inc ∙ inc; file = gone.described.file ∙ file; checkpoint = gone.described.checkpoint ∙ checkpoint; high = gone.described.high ∙ ap (λ k. high_of k a.rows) checkpoint };
-    needless = gone.needless;
-  }
+  is_gone : (id : ℕ) (a : Piece) → PieceGone r id a → IsGone r a.inc a.file a.checkpoint a.rows
+  is_gone id a gone = record { backup = backup_of (id, a); described = described id a gone.valid; needless = gone.needless }
 
   gone_base : (b : Base) → IsOfGone base_of (PieceGone r) b → IsGone r b.inc b.file b.checkpoint b.rows
   gone_base b gone =
-      subst (λ (y : Base). IsGone r y.inc y.file y.checkpoint y.rows) gone.is (is_gone gone.item.inc gone.item.file gone.item.checkpoint gone.item gone.id refl refl refl gone.gone)
+      subst (λ (y : Base). IsGone r y.inc y.file y.checkpoint y.rows) gone.is (is_gone gone.id gone.item gone.gone)
 
   gone_level1 : (b : Level1) → IsOfGone level1_of (PieceGone r) b → IsGone r b.inc b.file b.checkpoint b.rows
   gone_level1 b gone =
-      subst (λ (y : Level1). IsGone r y.inc y.file y.checkpoint y.rows) gone.is (is_gone gone.item.inc gone.item.file gone.item.checkpoint gone.item gone.id refl refl refl gone.gone)
+      subst (λ (y : Level1). IsGone r y.inc y.file y.checkpoint y.rows) gone.is (is_gone gone.id gone.item gone.gone)
 
   gone_log : (b : Log) → IsOfGone log_of (λ id a. IsNeedlessLog r a.inc a.next) b → IsNeedlessLog r b.inc b.next
   gone_log b gone = subst (λ (y : Log). IsNeedlessLog r y.inc y.next) gone.is gone.gone

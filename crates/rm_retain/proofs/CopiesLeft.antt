@@ -1,5 +1,5 @@
 -- The copies that are gathered before and after needless records went.
-use Rattle.std.proofs.Common.{◌≡◌, ◌<◌, ◌∙◌, ◌++◌, inl, inr, nat_lt, ℕ, List, [], ◌∷◌, Bool, ap, sym, subst, arith, map, filter, AllPairs, Contains}
+use Rattle.std.proofs.Common.{◌≡◌, ◌<◌, ◌∙◌, ◌++◌, inl, inr, nat_lt, ℕ, List, [], ◌∷◌, Bool, ap, sym, subst, arith, map, filter, get_or, AllPairs, Contains}
 use Rattle.std.proofs.lemmas.Bool.{lt-ltb, ltb-true}
 use Rattle.std.proofs.lemmas.List.Elements.{Contains-append_right, Contains-append_cases, filter-append}
 use Rattle.std.proofs.lemmas.List.Kept.{AllPairs-filter}
@@ -9,46 +9,39 @@ use Rattle.rm_catalog.specs.declared.record.Record.{Record}
 use Rattle.rm_catalog.specs.declared.record.Record.TheVariants as records
 use Rattle.rm_evidence.specs.declared.evidence.Evidence.{Evidence}
 use Rattle.rm_evidence.specs.declared.evidence.InPlace.{InPlace}
-use Rattle.rm_evidence.specs.Gathered.{IsGathered, IsBaseOf, placed, placed_piece, dbid_in}
-use Rattle.rm_evidence.proofs.Extending.{pairs-append, pairs-head, pairs-tail}
+use Rattle.rm_evidence.specs.Gathered.{ByIdAndFile, IsGathered, IsBaseOf, placed, placed_piece}
+use Rattle.rm_evidence.proofs.Extending.{only-in, pairs-append, pairs-head, pairs-tail}
 use Rattle.rm_history.specs.declared.world.World.{World}
-use Rattle.rm_base.proofs.Members.{none-in}
-use Rattle.rm_base.proofs.Lists.{front_or_end, filter_from, filter_to, map_from, map_to}
-use Rattle.rm_evidence.specs.Database.{current_in, world_of}
+use Rattle.rm_base.proofs.Lists.{filter_from, filter_to, map_from, map_to}
+use Rattle.rm_evidence.specs.Database.{current_in, database_in, dbid_in, world_of}
 use Rattle.rm_piece.specs.declared.piece.Piece.{Piece}
 use Rattle.rm_retain.specs.declared.copies.Backup.{Backup}
-use Rattle.rm_retain.specs.Chosen.{Retention, AscendById}
+use Rattle.rm_retain.specs.Chosen.{Retention, Ascend}
 use Rattle.rm_retain.specs.Obsolete.{IsNeedlessBackup}
-use Rattle.rm_retain.specs.Catalogued.{backup_of, backup_in, copies_in, by_records, IsObsoleteRecord}
+use Rattle.rm_retain.specs.Catalogued.{backup_of, backup_in, backups_of, copies_in, by_records, IsObsoleteRecord}
 use Rattle.rm_retain.specs.Cleared.{IsCleared}
 use Rattle.rm_retain.specs.Remaining.{AreRemaining, with_copies}
-use Rattle.rm_retain.proofs.Ranks.{none_kept}
-use Rattle.rm_retain.proofs.Clearing.{base_had, piece_kept, piece_described, same_backup, placed_number}
+use Rattle.rm_retain.proofs.Ranks.{IsEarlier, none_kept}
+use Rattle.rm_retain.proofs.Clearing.{base_had, base_stays, placed_number}
 use Rattle.rm_retain.proofs.SecondTime.{backup_again, log_again}
 
-ascend_copies : (xs : List (ℕ × Piece)) → AllPairs (λ x y. x.0 < y.0) xs → AscendById (map backup_of xs)
+ascend_copies : (xs : List (ℕ × Piece)) → AllPairs ByIdAndFile xs → Ascend (map backup_of xs)
 ascend_copies [] ascend = λ i j d less inside. absurd (omega arith)
 ascend_copies (x ∷ xs) ascend =
-    pairs-append (λ (a b : Backup). a.id < b.id) (backup_of x ∷ []) (map backup_of xs) (λ i j d less inside. absurd (omega arith))
-    (ascend_copies xs (pairs-tail (λ (x y : ℕ × Piece). x.0 < y.0) x xs ascend))
+    pairs-append IsEarlier (backup_of x ∷ []) (map backup_of xs) (λ i j d less inside. absurd (omega arith)) (ascend_copies xs (pairs-tail ByIdAndFile x xs ascend))
     (λ a b first later.
     let s = map_from backup_of xs b later in
-    let less : x.0 < s.item.0 = pairs-head (λ (x y : ℕ × Piece). x.0 < y.0) x xs s.item ascend s.held in
-    let id : s.item.0 ≡ b.id = ap (λ (z : Backup). z.id) s.is in
-    elim (front_or_end [] (backup_of x) a first) [
-      | inl none ↦ absurd (none-in a none)
-      | inr same ↦ let own : x.0 ≡ a.id = ap (λ (z : Backup). z.id) same in omega (arith, less, id, own)
-    ])
+    subst (λ (y : Backup). IsEarlier y b) (only-in (backup_of x) a first) (subst (IsEarlier (backup_of x)) s.is (pairs-head ByIdAndFile x xs s.item ascend s.held)))
 
 -- copies that are gathered ascend
-pub gathered_ascend : (held : Held) (rs : List Record) (place : InPlace) (e : Evidence) → IsGathered held rs place e → AscendById (copies_in e)
+pub gathered_ascend : (held : Held) (rs : List Record) (place : InPlace) (e : Evidence) → IsGathered held rs place e → Ascend (copies_in e)
 gathered_ascend held rs place e gathered =
     let p : (ℕ × Piece) → Bool = λ x. nat_lt 0 x.0 in
     let files = map (placed_piece (dbid_in rs)) place.files in
     let rest = gathered.bases.rest in
     let none : filter p (placed files) ≡ [] = none_kept p (placed files) (λ x in_place passes. let some = ltb-true 0 x.0 passes in let zero_is = placed_number files x in_place in absurd (omega (arith, some, zero_is))) in
     let list : filter p e.bases ≡ filter p rest = ap (filter p) gathered.bases.list ∙ filter-append p (placed files) rest ∙ ap (λ (xs : List (ℕ × Piece)). xs ++ filter p rest) none in
-    subst (λ (xs : List (ℕ × Piece)). AscendById (map backup_of xs)) (sym list) (ascend_copies (filter p rest) (AllPairs-filter (λ (x y : ℕ × Piece). x.0 < y.0) p rest gathered.bases.ascends))
+    subst (λ (xs : List (ℕ × Piece)). Ascend (map backup_of xs)) (sym list) (ascend_copies (filter p rest) (AllPairs-filter ByIdAndFile p rest gathered.bases.ascends))
 
 -- a copy of a record, among those gathered
 named_copy : (held : Held) (rs : List Record) (place : InPlace) (e : Evidence) → IsGathered held rs place e → (id : ℕ) (a : Piece) → 0 < id → IsBaseOf held rs id a → Contains (copies_in e) (backup_of (id, a))
@@ -78,7 +71,7 @@ copy_named held rs place e gathered x in_copies =
       | inr rest ↦ record { id = s.item.0; piece = s.item.1; some = some; base = (gathered.bases.exact s.item.0 s.item.1).0 rest; is = s.is }
     ]
 
-module _ (held now : Held) (rs left : List Record) (place : InPlace) (old new : Evidence) (policy : Policy) (start : ℕ) (before : IsGathered held rs place old) (after : IsGathered now left place new) (cleared : IsCleared (by_records rs old policy start) rs left held now) where
+module _ (held now : Held) (rs left : List Record) (place : InPlace) (old new : Evidence) (policy : Policy) (start : ℕ) (before : IsGathered held rs place old) (after : IsGathered now left place new) (cleared : IsCleared (by_records rs old policy start) rs left held now) (same : database_in left ≡ database_in rs) where
   copies_left : AreRemaining (by_records rs old policy start) (copies_in new)
   copies_left =
       let r = by_records rs old policy start in
@@ -87,22 +80,19 @@ module _ (held now : Held) (rs left : List Record) (place : InPlace) (old new : 
         ascend_left = gathered_ascend now left place new after;
         had = λ x in_new.
             let c = copy_named now left place new after x in_new in
-            subst (Contains (copies_in old)) c.is (named_copy held rs place old before c.id c.piece c.some (base_had held now rs left r cleared c.id c.piece c.base));
+            subst (Contains (copies_in old)) c.is (named_copy held rs place old before c.id c.piece c.some (base_had held now rs left r cleared same c.id c.piece c.base));
         stays = λ x in_old.
             let c = copy_named held rs place old before x in_old in
-            let was = c.base in
-            elim (cleared.stays (records.Piece was.0) was.1) [
-              | inl row ↦ inl (subst (Contains (copies_in new)) c.is (named_copy now left place new after c.id c.piece c.some (was.0, row, was.2, was.3, piece_kept held now rs left r cleared was.0 c.piece row was.4)))
-              | inr obsolete ↦
-                  let described = piece_described held was.0 c.piece was.4 in
-                  let same : backup_in was.0 ≡ x = same_backup (backup_in was.0) (backup_of (c.id, c.piece)) was.2 described.inc described.file described.checkpoint (sym was.4.object.fields.high) ∙ c.is in
-                  inr (subst (IsNeedlessBackup r) same obsolete.needless)
+            elim (base_stays held now rs left r cleared same c.id c.piece c.base) [
+              | inl stay ↦ inl (subst (Contains (copies_in new)) c.is (named_copy now left place new after c.id c.piece c.some stay))
+              | inr gone ↦ inr (subst (IsNeedlessBackup r) c.is gone.needless)
             ];
       }
 
   obsolete_again : (row : Record) → IsObsoleteRecord (with_copies (by_records rs old policy start) (copies_in new)) row → IsObsoleteRecord (by_records rs old policy start) row
   obsolete_again (records.Log l) is = record { policy = is.policy; not_kept = is.not_kept; needless = log_again (by_records rs old policy start) (copies_in new) copies_left l.inc l.next is.needless }
   obsolete_again (records.Piece p) is = record { policy = is.policy; not_kept = is.not_kept; needless = backup_again (by_records rs old policy start) (copies_in new) copies_left (backup_in p) is.needless }
+  obsolete_again (records.Set e) is = record { policy = is.policy; not_kept = is.not_kept; needless = λ k d inside. backup_again (by_records rs old policy start) (copies_in new) copies_left (get_or (backups_of e) k d) (is.needless k d inside) }
   obsolete_again _ is = absurd is
 
   -- what is obsolete by what is left was obsolete

@@ -1,5 +1,5 @@
 -- The ids of obsolete records, one record after the other, and in order.
-use Rattle.std.proofs.Common.{◌≡◌, ◌≢◌, ◌<◌, ◌≤◌, ◌+◌, eqb, ◌∙◌, ◌∷◌, ◌++◌, [], ℕ, List, inl, inr, take, length, get_or, AllPairs, Contains, refl, ap, sym, subst, arith}
+use Rattle.std.proofs.Common.{◌≡◌, ◌≢◌, ◌<◌, ◌≤◌, ◌+◌, eqb, ◌∙◌, ◌∷◌, ◌++◌, [], ℕ, List, Some, inl, inr, take, length, get_or, AllPairs, Contains, refl, ap, sym, subst, arith}
 use Rattle.std.specs.Bool.{Decides}
 use Rattle.std.specs.List.Sorted.{IsNonDecreasingBy, IsPermutation}
 use Rattle.std.proofs.lemmas.Bool.Decides.{Decides-eqb, nat_tests}
@@ -9,9 +9,9 @@ use Rattle.rm_catalog.specs.declared.record.Record.{Record}
 use Rattle.rm_catalog.specs.declared.record.Record.TheVariants as records
 use Rattle.rm_catalog.specs.Keys.{key_of}
 use Rattle.rm_base.proofs.Lists.{at_end, front_or_end, in_front_part, take_more}
-use Rattle.rm_base.proofs.Members.{none-in}
-use Rattle.rm_evidence.proofs.Extending.{pairs-append}
-use Rattle.rm_evidence.proofs.Runs.{IsAhead}
+use Rattle.rm_evidence.specs.Names.{object_id}
+use Rattle.rm_evidence.proofs.Extending.{only-in, pairs-append}
+use Rattle.rm_evidence.proofs.Single.{AreRelated}
 use Rattle.rm_retain.specs.Chosen.{Retention}
 use Rattle.rm_retain.specs.Catalogued.{IsObsoleteRecord, AreObsolete}
 
@@ -40,15 +40,12 @@ exactly_same r rs row ids all off id = (
   ],
 )
 
--- a record before has another id
-other_id : (r : Retention) (xs : List Record) (s row : Record) → IsAhead xs row → Contains xs s → IsObsoleteRecord r s → IsObsoleteRecord r row → (key_of s).id ≢ (key_of row).id
-other_id r xs (records.Log l) (records.Log m) ahead held a b = λ same. let less = ahead.logs l m held refl in absurd (omega (arith, less, same))
-other_id r xs (records.Log l) (records.Piece q) ahead held a b = ahead.log_piece l q held refl
-other_id r xs (records.Piece p) (records.Log m) ahead held a b = ahead.piece_log p m held refl
-other_id r xs (records.Piece p) (records.Piece q) ahead held a b = λ same. let less = ahead.pieces p q held refl in absurd (omega (arith, less, same))
-other_id r xs (records.Log l) _ ahead held a b = absurd b
-other_id r xs (records.Piece l) _ ahead held a b = absurd b
-other_id r xs _ _ ahead held a b = absurd a
+-- an obsolete record has an object, and its id
+object_of : (r : Retention) (s : Record) → IsObsoleteRecord r s → object_id s ≡ Some (key_of s).id
+object_of r (records.Log l) is = refl
+object_of r (records.Piece p) is = refl
+object_of r (records.Set e) is = refl
+object_of r _ is = absurd is
 
 -- one row more of a list that is read in order
 pub exactly_taken : (r : Retention) (xs : List Record) (i : ℕ) (row : Record) (ids : List ℕ) → i < length xs → row ≡ get_or xs i row → AreObsolete (take i xs) r ids → IsObsoleteRecord r row → AreObsolete (take (i + 1) xs) r (ids ++ (key_of row).id ∷ [])
@@ -60,14 +57,13 @@ exactly_passed r xs i row ids inside is all off =
     subst (λ ys. AreObsolete ys r ids) (sym (take_more xs i row inside is)) (exactly_same r (take i xs) row ids all off)
 
 -- its id is another than those before
-pub apart_taken : (r : Retention) (xs : List Record) (i : ℕ) (row : Record) (ids : List ℕ) → IsAhead (take i xs) row → AreObsolete (take i xs) r ids → IsObsoleteRecord r row → AllPairs (λ i j. i ≢ j) ids → AllPairs (λ i j. i ≢ j) (ids ++ (key_of row).id ∷ [])
-apart_taken r xs i row ids ahead all gone apart =
+pub apart_taken : (r : Retention) (xs : List Record) (i : ℕ) (row : Record) (ids : List ℕ) → AreRelated (λ m n. m ≢ n) (take i xs) row → AreObsolete (take i xs) r ids → IsObsoleteRecord r row → AllPairs (λ i j. i ≢ j) ids → AllPairs (λ i j. i ≢ j) (ids ++ (key_of row).id ∷ [])
+apart_taken r xs i row ids others all gone apart =
     pairs-append (λ (i j : ℕ). i ≢ j) ids ((key_of row).id ∷ []) apart (λ j k d less inside. absurd (omega arith))
     (λ x y held one.
     let before = (all x).0 held in
-    let number = before.number in
-    let last : (key_of row).id ≡ y = elim (front_or_end [] (key_of row).id y one) [ inl none ↦ absurd (none-in y none) | inr same ↦ same ] in
-    λ same. other_id r (take i xs) before.row row ahead before.held before.is gone (number ∙ same ∙ sym last))
+    let last = only-in (key_of row).id y one in
+    λ same. others before.row (key_of before.row).id (key_of row).id before.held (object_of r before.row before.is) (object_of r row gone) (before.number ∙ same ∙ sym last))
 
 decides : (a b : ℕ) → Decides (eqb a b) (a ≡ b)
 decides a b = Decides-eqb a b

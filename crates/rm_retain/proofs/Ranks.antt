@@ -1,14 +1,21 @@
 -- Lists that ascend by id, and how many come before one.
-use Rattle.std.proofs.Common.{◌≡◌, ◌<◌, ◌≤◌, ◌∙◌, ◌==◌, inl, inr, ℕ, List, [], ◌∷◌, Bool, true, false, cond, not, refl, ap, sym, subst, arith, filter, length, Contains, map, get_or, AllPairs}
-use Rattle.std.proofs.lemmas.Bool.{cases_Bool, ne_eqb, eq-eqb, false_from_ne_true}
+use Rattle.std.proofs.Common.{◌≡◌, ◌<◌, ◌≤◌, ◌∙◌, ◌⊎◌, ◌==◌, ◌&&◌, inl, inr, ℕ, List, [], ◌∷◌, Bool, true, false, cond, not, refl, ap, sym, subst, arith, filter, length, Contains, map, get_or, AllPairs}
+use Rattle.std.proofs.lemmas.Bool.{and_parts, cases_Bool, ne_eqb, eq-eqb, eqb-true, false_from_ne_true}
 use Rattle.std.proofs.lemmas.List.Elements.{Contains-get_or}
 use Rattle.std.proofs.lemmas.List.Kept.{AllPairs-cons, AllPairs-filter}
 use Rattle.std.proofs.lemmas.List.Sums.{length-filter, count_by-le-length}
 use Rattle.rm_base.proofs.Members.{in-front, behind, none-in, first-or-rest}
 use Rattle.rm_base.proofs.Lists.{filter_from, filter_to, map_from}
+use Rattle.rm_base.specs.declared.kinds.Policy.{Policy}
+use Rattle.rm_history.specs.declared.tree.Incarnation.{Incarnation}
+use Rattle.rm_history.specs.Tree.{is_within}
 use Rattle.rm_evidence.proofs.Extending.{pairs-head, pairs-tail}
 use Rattle.rm_retain.specs.declared.copies.Backup.{Backup}
-use Rattle.rm_retain.specs.Chosen.{AscendById}
+use Rattle.rm_retain.specs.Chosen.{is_before_window, is_candidate, Ascend, AscendById}
+
+-- x stands before y: its id is lower, or in the same set its datafile
+abbrev pub IsEarlier : Backup → Backup → Type 0
+IsEarlier x y = (x.id < y.id) ⊎ ((x.id ≡ y.id) × (x.file < y.file))
 
 -- each id lies below those behind it
 abbrev pub IsRising : List Backup → Type 0
@@ -101,6 +108,26 @@ part_shorter xs ys y first second to held out =
 
 pub ascend_filter : (p : Backup → Bool) (xs : List Backup) → AscendById xs → AscendById (filter p xs)
 ascend_filter p xs ascend = AllPairs-filter (λ (x y : Backup). x.id < y.id) p xs ascend
+
+candidate_file : (tree : List Incarnation) (current : ℕ) (policy : Policy) (start f : ℕ) (x : Backup) → is_candidate tree current policy start f x ≡ true → x.file ≡ f
+candidate_file tree current policy start f x is =
+    let first = and_parts ((x.file == f) && is_within tree x.inc current x.high) (is_before_window policy start x) is in
+    eqb-true x.file f (and_parts (x.file == f) (is_within tree x.inc current x.high) first.0).0
+
+-- of one datafile no two have the same id
+pub candidates_ascend : (tree : List Incarnation) (current : ℕ) (policy : Policy) (start f : ℕ) (xs : List Backup) → Ascend xs → AscendById (filter (is_candidate tree current policy start f) xs)
+candidates_ascend tree current policy start f xs ascend =
+    let p = is_candidate tree current policy start f in
+    let file : (k : ℕ) (d : Backup) → k < length (filter p xs) → (get_or (filter p xs) k d).file ≡ f =
+    λ k d inside. candidate_file tree current policy start f (get_or (filter p xs) k d) (filter_from p xs (get_or (filter p xs) k d) (Contains-get_or (filter p xs) k d inside)).1 in
+    λ i j d less inside. elim (AllPairs-filter IsEarlier p xs ascend i j d less inside) [
+      | inl up ↦ up
+      | inr same ↦
+          let over = same.1 in
+          let first = file i d (omega (arith, less, inside)) in
+          let second = file j d inside in
+          absurd (omega (arith, over, first, second))
+    ]
 
 pub ids_ascend : (xs : List Backup) → AscendById xs → AllPairs (λ i j. i < j) (map (λ x. x.id) xs)
 ids_ascend [] ascend = λ i j d less inside. absurd (omega arith)

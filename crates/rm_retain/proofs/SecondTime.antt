@@ -12,7 +12,7 @@ use Rattle.rm_retain.specs.Chosen.{Retention, is_candidate, candidates, is_newer
 use Rattle.rm_retain.specs.Obsolete.{ClipsTo, IsOnPath, IsNeedlessBackup, IsNeedlessLog}
 use Rattle.rm_retain.specs.Remaining.{AreRemaining, with_copies}
 use Rattle.rm_retain.proofs.FloorCopies.{candidate_parts}
-use Rattle.rm_retain.proofs.Ranks.{IsRising, rising_filter, rising_from, part_length, part_shorter}
+use Rattle.rm_retain.proofs.Ranks.{IsRising, candidates_ascend, rising_filter, rising_from, part_length, part_shorter}
 
 trans_of : (a b c i j k : ℕ) → (nat_lt b a || ((a == b) && nat_lt j i)) ≡ true → (nat_lt c b || ((b == c) && nat_lt k j)) ≡ true → (nat_lt c a || ((a == c) && nat_lt k i)) ≡ true
 trans_of a b c i j k first second = grind (arith, nat_tests)
@@ -191,10 +191,10 @@ module _ (r : Retention) (left : List Backup) (f : ℕ) (are : AreRemaining r le
       ]
 
   rise : IsRising (candidates r f)
-  rise = rising_filter (is_candidate r.world.tree r.current r.policy r.start f) r.copies (rising_from r.copies are.ascend)
+  rise = rising_from (candidates r f) (candidates_ascend r.world.tree r.current r.policy r.start f r.copies are.ascend)
 
   rise_left : IsRising (candidates (with_copies r left) f)
-  rise_left = rising_filter (is_candidate r.world.tree r.current r.policy r.start f) left (rising_from left are.ascend_left)
+  rise_left = rising_from (candidates (with_copies r left) f) (candidates_ascend r.world.tree r.current r.policy r.start f left are.ascend_left)
 
   pub floor_stays : floor (with_copies r left) f ≡ floor r f
   floor_stays = last_stays (candidates r f) (candidates (with_copies r left) f) (wanted r.policy) rise rise_left had_candidate first_stays (creation_of r.world f)

@@ -1,9 +1,9 @@
 -- A copy that a record names has each block of its datafile.
-use Rattle.std.proofs.Common.{◌≡◌, ◌≢◌, ◌<◌, ◌≤◌, ◌+◌, ◌∙◌, map, inl, inr, ℕ, List, [], ◌∷◌, length, Option, Some, None, AllPairs, Contains, refl, ap, sym, subst, arith}
+use Rattle.std.proofs.Common.{◌≡◌, ◌≢◌, ◌<◌, ◌∙◌, ◌-◌, map, inl, inr, ℕ, List, length, get_or, slice_get, Option, Some, None, Contains, refl, ap, sym, subst, arith}
 use Rattle.std.specs.Prelude.{IsSomeAnd}
 use Rattle.std.specs.Option.{option_map, option_map_or}
-use Rattle.std.proofs.lemmas.Bool.{cases_lt}
-use Rattle.std.proofs.lemmas.List.Elements.{Contains-append_cases, All-contains}
+use Rattle.std.proofs.lemmas.List.Elements.{All-contains, Contains-append_cases, Contains-get_or}
+use Rattle.rm_base.specs.Content.{zero_block}
 use Rattle.rm_base.specs.Store.{Held}
 use Rattle.rm_base.specs.declared.block.Row.{Row}
 use Rattle.rm_base.specs.declared.kinds.Kind.{Kind}
@@ -17,65 +17,23 @@ use Rattle.rm_catalog.specs.Objects.{FitsRows, FitsDatafile, PieceRule}
 use Rattle.rm_catalog.specs.Rules.{IsCatalog}
 use Rattle.rm_evidence.specs.declared.evidence.Evidence.{Evidence}
 use Rattle.rm_evidence.specs.declared.evidence.InPlace.{InPlace}
-use Rattle.rm_evidence.specs.Available.{HasPieceObject}
-use Rattle.rm_evidence.specs.Gathered.{IsGathered, placed, placed_piece, dbid_in}
-use Rattle.rm_evidence.proofs.Extending.{pairs-head, pairs-tail}
+use Rattle.rm_evidence.specs.Gathered.{IsGathered, IsPieceAmong, placed, placed_piece}
+use Rattle.rm_evidence.specs.Objects.{IsAsCreated}
 use Rattle.rm_history.specs.declared.world.Datafile.{Datafile}
+use Rattle.rm_history.specs.declared.world.World.{World}
 use Rattle.rm_history.specs.World.{blocks_of}
-use Rattle.rm_base.proofs.Members.{in-front, behind}
-use Rattle.rm_evidence.specs.Database.{created_by, world_of}
+use Rattle.rm_evidence.specs.Database.{created_by, database_in, dbid_in, world_of}
 use Rattle.rm_evidence.proofs.Files.{file_of-is}
 use Rattle.rm_evidence.proofs.Found.{obeys}
+use Rattle.rm_evidence.proofs.Parts.{file-at}
 use Rattle.rm_piece.specs.declared.piece.Piece.{Piece}
+use Rattle.rm_piece.specs.declared.set.SetFile.{SetFile}
 use Rattle.rm_piece.specs.Artefacts.{base_of}
-use Rattle.rm_piece.specs.Valid.{IsRow, IsBefore, FitsKind}
+use Rattle.rm_piece.specs.Sets.{IsMember}
+use Rattle.rm_piece.specs.Valid.{IsPiece}
+use Rattle.rm_piece.proofs.Whole.{full, placed as rows_placed}
 use Rattle.rm_retain.specs.Losing.{IsWhole}
-use Rattle.rm_retain.proofs.Clearing.{placed_number}
-
--- the row of a block
-pub record HasBlock (rows : List Row) (b : ℕ) : Type 0 where
-  pub row : Row
-  pub held : Contains rows row
-  pub is : row.block ≡ b
-
--- each block lies from low on, and there are no more than rows
-abbrev pub AreWithin : ℕ → List Row → Type 0
-AreWithin low rows = (r : Row) → Contains rows r → (low ≤ r.block) × (r.block < low + length rows)
-
-within_rest : (r : Row) (rs : List Row) (low : ℕ) → AllPairs IsBefore (r ∷ rs) → AreWithin low (r ∷ rs) → AreWithin (low + 1) rs
-within_rest r rs low ascend within s held =
-    let first = within r (in-front r rs) in
-    let other = within s (behind r rs s held) in
-    let over : r.block < s.block = pairs-head IsBefore r rs s ascend held in
-    (omega (arith, first.0, over), omega (arith, other.1))
-
--- so ascending blocks are all of them
-pub all_blocks : (rows : List Row) (low b : ℕ) → AllPairs IsBefore rows → AreWithin low rows → low ≤ b → b < low + length rows → HasBlock rows b
-all_blocks [] low b ascend within from below = absurd (omega (arith, from, below))
-all_blocks (r ∷ rs) low b ascend within from below = elim (cases_lt low b) [
-  | inl above ↦ behind_first r rs b (all_blocks rs (low + 1) b (pairs-tail IsBefore r rs ascend) (within_rest r rs low ascend within) (omega (arith, above)) (omega (arith, below)))
-  | inr here ↦ elim (cases_lt 0 (length rs)) [
-    | inr none ↦
-        let first = within r (in-front r rs) in
-        record { row = r; held = in-front r rs; is = omega (arith, first.0, first.1, none, from, here) }
-    | inl some ↦
-        let next = all_blocks rs (low + 1) (low + 1) (pairs-tail IsBefore r rs ascend) (within_rest r rs low ascend within) (omega arith) (omega (arith, some)) in
-        let first = within r (in-front r rs) in
-        let over : r.block < next.row.block = pairs-head IsBefore r rs next.row ascend next.held in
-        let at = next.is in
-        record { row = r; held = in-front r rs; is = omega (arith, first.0, over, at, from, here) }
-  ]
-]
-  where
-    behind_first : (r : Row) (rs : List Row) (b : ℕ) → HasBlock rs b → HasBlock (r ∷ rs) b
-    behind_first r rs b has = record { row = has.row; held = behind r rs has.row has.held; is = has.is }
-
--- a piece of another kind than level 1 has all rows
-rows_all : (k : Kind) (a : Piece) → k ≢ Level1 → FitsKind k a → length a.rows ≡ a.blocks
-rows_all Full a other fits = fits.1
-rows_all Level0 a other fits = fits.1
-rows_all Level1 a other fits = absurd (other refl)
-rows_all Place a other fits = fits.1
+use Rattle.rm_retain.proofs.Clearing.{piece_valid, placed_number}
 
 entry_all : (k : Kind) (rows blocks : ℕ) → k ≢ Level1 → FitsRows k rows blocks → rows ≡ blocks
 entry_all Full rows blocks other fits = fits
@@ -96,16 +54,33 @@ entry_blocks rs p catalog held other = by (datafile p.file rs) refl rule.file
         ap (λ (o : Option Datafile). option_map_or (λ d. d.blocks) o 0) (file_of-is rs p.file catalog ∙ ap (λ (o : Option DatafileEntry). option_map created_by o) e)
         ∙ sym (entry_all p.kind p.rows f.blocks other fits.rows)
 
-piece_whole : (held : Held) (rs : List Record) (p : PieceEntry) (a : Piece) → IsCatalog rs → Contains rs (records.Piece p) → p.kind ≢ Level1 → HasPieceObject held p a → IsWhole (world_of rs) (base_of a)
-piece_whole held rs p a catalog row other has b inside =
-    let fields = has.object.fields in
-    let valid = has.object.valid in
-    let blocks : length a.rows ≡ a.blocks = rows_all p.kind a other (subst (λ k. FitsKind k a) fields.kind valid.kind) in
-    let known : blocks_of (world_of rs) a.file ≡ p.rows = ap (blocks_of (world_of rs)) fields.file ∙ entry_blocks rs p catalog row other in
-    let rows = fields.rows in
-    let all : AreWithin 0 a.rows = λ r at. let under = (All-contains (IsRow a.blocks a.from) a.rows r valid.rows at).block in (omega arith, omega (arith, under, blocks)) in
-    let has_block = all_blocks a.rows 0 b valid.ascend all (omega arith) (omega (arith, inside, known, rows)) in
-    (has_block.row, has_block.held, has_block.is)
+created_blocks : (m : SetFile) (o : Option Datafile) → IsSomeAnd o (IsAsCreated m) → option_map_or (λ (d : Datafile). d.blocks) o 0 ≡ m.piece.blocks
+created_blocks m None some = absurd some
+created_blocks m (Some d) is = sym is.blocks
+
+-- so has each member of a set
+member_blocks : (w : World) (m : SetFile) → IsPiece m.piece → IsSomeAnd (slice_get w.files (m.piece.file - 1)) (IsAsCreated m) → blocks_of w m.piece.file ≡ m.piece.blocks
+member_blocks w m valid is =
+    ap (λ (o : Option Datafile). option_map_or (λ d. d.blocks) o 0) (file-at w m.piece.file valid.file.0) ∙ created_blocks m (slice_get w.files (m.piece.file - 1)) is
+
+base_blocks : (held : Held) (rs : List Record) (id : ℕ) (a : Piece) → IsCatalog rs → a.kind ≢ Level1 → IsPieceAmong held (database_in rs) rs id a → blocks_of (world_of rs) a.file ≡ a.blocks
+base_blocks held rs id a catalog other (inl own) =
+    let object = own.3.object in
+    let fields = object.fields in
+    ap (blocks_of (world_of rs)) fields.file ∙ entry_blocks rs own.0 catalog own.1 (λ level. other (fields.kind ∙ level)) ∙ sym fields.rows ∙ full a object.valid other
+base_blocks held rs id a catalog other (inr set) =
+    let object = set.4.object in
+    let m = set.5 in
+    let valid = (All-contains (IsMember set.3) set.3.members m object.valid.members set.6).piece in
+    let created = All-contains (λ (m : SetFile). IsSomeAnd (slice_get (world_of rs).files (m.piece.file - 1)) (IsAsCreated m)) set.3.members m object.fields.files set.6 in
+    subst (λ (b : Piece). blocks_of (world_of rs) b.file ≡ b.blocks) set.7 (member_blocks (world_of rs) m valid created)
+
+base_whole : (w : World) (a : Piece) → IsPiece a → a.kind ≢ Level1 → blocks_of w a.file ≡ a.blocks → IsWhole w (base_of a)
+base_whole w a valid other blocks b inside =
+    let all = full a valid other in
+    let within : b < length a.rows = omega (arith, inside, blocks, all) in
+    let none : Row = record { block = 0; version = 0; content = zero_block } in
+    (get_or a.rows b none, Contains-get_or a.rows b none within, rows_placed a valid other b none within)
 
 -- each copy that a record names has a row of each block of its datafile
 abbrev pub HasWholeCopies : List Record → Evidence → Type 0
@@ -118,5 +93,5 @@ copies_whole held rs place e catalog gathered x at some =
       | inl in_place ↦ let none = placed_number (map (placed_piece (dbid_in rs)) place.files) x in_place in absurd (omega (arith, some, none))
       | inr named ↦
           let is = (gathered.bases.exact x.0 x.1).0 named in
-          piece_whole held rs is.0 x.1 catalog is.1 is.3 is.4
+          base_whole (world_of rs) x.1 (piece_valid held (database_in rs) rs x.0 x.1 is.0) is.1 (base_blocks held rs x.0 x.1 catalog is.1 is.0)
     ]

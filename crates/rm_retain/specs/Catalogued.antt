@@ -3,14 +3,15 @@ use Rattle.std.specs.Prelude.{ℕ, ◌≡◌, ◌↔◌, nat_lt, List, map, filt
 use Rattle.rm_base.specs.declared.kinds.Policy.{Policy}
 use Rattle.rm_catalog.specs.declared.record.PieceEntry.{PieceEntry}
 use Rattle.rm_catalog.specs.declared.record.Record.{Record}
-use Rattle.rm_catalog.specs.declared.record.Record.TheVariants.{Log, Piece}
-use Rattle.rm_catalog.specs.Keys.{key_of}
+use Rattle.rm_catalog.specs.declared.record.Record.TheVariants.{Log, Piece, Set}
+use Rattle.rm_catalog.specs.declared.record.SetEntry.{SetEntry}
+use Rattle.rm_catalog.specs.Keys.{key_of, part_piece}
 use Rattle.rm_evidence.specs.declared.evidence.Evidence.{Evidence}
 use Rattle.rm_evidence.specs.Database.{current_in, world_of}
 use Rattle.rm_piece.specs.declared.piece as artefact
 use Rattle.rm_retain.specs.declared.copies.Backup.{Backup}
 use Rattle.rm_retain.specs.Chosen.{Retention}
-use Rattle.rm_retain.specs.Obsolete.{IsObsoleteBackup, IsObsoleteLog}
+use Rattle.rm_retain.specs.Obsolete.{IsObsoleteBackup, IsObsoleteLog, IsObsoleteSet}
 
 -- a piece at hand, as its record describes it
 abbrev pub backup_of : (ℕ × artefact.Piece.Piece) → Backup
@@ -19,6 +20,10 @@ backup_of x = record { id = x.0; inc = x.1.inc; file = x.1.file; checkpoint = x.
 -- the backup that the record of a piece describes
 abbrev pub backup_in : PieceEntry → Backup
 backup_in p = record { id = p.id; inc = p.inc; file = p.file; checkpoint = p.checkpoint; high = p.high }
+
+-- the backups that the parts of a set describe
+abbrev pub backups_of : SetEntry → List Backup
+backups_of e = map (λ p. backup_in (part_piece e p)) e.parts
 
 -- the copies at hand that have a record; what is in place has the id 0
 abbrev pub copies_in : Evidence → List Backup
@@ -32,10 +37,11 @@ on_copies rs policy start copies =
 abbrev pub by_records : List Record → Evidence → Policy → ℕ → Retention
 by_records rs e policy start = on_copies rs policy start (copies_in e)
 
--- the record is one of a log or a piece, and is obsolete
+-- the record is one of a log, a piece or a set, and is obsolete
 abbrev pub IsObsoleteRecord : Retention → Record → Type 0
 IsObsoleteRecord r (Log l) = IsObsoleteLog r l.inc l.next l.keep
 IsObsoleteRecord r (Piece p) = IsObsoleteBackup r (backup_in p) p.keep
+IsObsoleteRecord r (Set e) = IsObsoleteSet r (backups_of e) e.keep
 IsObsoleteRecord r _ = ⊥
 
 -- one of the records has this id, and is obsolete

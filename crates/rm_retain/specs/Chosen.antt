@@ -1,5 +1,5 @@
 -- Which copies of a datafile the policy chooses, and the floor of the datafile.
-use Rattle.std.specs.Prelude.{ℕ, ◌≡◌, ◌<◌, ◌+◌, ◌==◌, ◌&&◌, ◌||◌, nat_le, nat_lt, not, Bool, true, Option, Some, None, List, map, filter, find, count_by, AllPairs, Contains}
+use Rattle.std.specs.Prelude.{ℕ, ◌≡◌, ◌<◌, ◌⊎◌, ◌+◌, ◌==◌, ◌&&◌, ◌||◌, nat_le, nat_lt, not, Bool, true, Option, Some, None, List, map, filter, find, count_by, AllPairs, Contains}
 use Rattle.std.specs.Option.{option_map_or}
 use Rattle.rm_base.specs.declared.kinds.Policy.{Policy}
 use Rattle.rm_base.specs.declared.kinds.Policy.TheVariants.{Window, Redundancy, Nothing}
@@ -36,9 +36,13 @@ candidates r f = filter (is_candidate r.world.tree r.current r.policy r.start f)
 abbrev pub is_newer : Backup → Backup → Bool
 is_newer x y = nat_lt y.checkpoint x.checkpoint || ((x.checkpoint == y.checkpoint) && nat_lt y.id x.id)
 
--- the copies ascend by id
+-- the copies of one datafile ascend by id
 abbrev pub AscendById : List Backup → Type 0
 AscendById xs = AllPairs (λ x y. x.id < y.id) xs
+
+-- copies ascend by id, and those of one set by datafile
+abbrev pub Ascend : List Backup → Type 0
+Ascend xs = AllPairs (λ x y. (x.id < y.id) ⊎ ((x.id ≡ y.id) × (x.file < y.file))) xs
 
 -- how many copies are newer than x
 abbrev pub rank : List Backup → Backup → ℕ

@@ -5,7 +5,8 @@ use Rattle.rm_catalog.specs.declared.record.LogEntry.{LogEntry}
 use Rattle.rm_catalog.specs.declared.record.PieceEntry.{PieceEntry}
 use Rattle.rm_catalog.specs.declared.record.Record.{Record}
 use Rattle.rm_catalog.specs.declared.record.Record.TheVariants as records
-use Rattle.rm_evidence.specs.Names.{log_name, piece_name}
+use Rattle.rm_catalog.specs.declared.record.SetEntry.{SetEntry}
+use Rattle.rm_evidence.specs.Names.{log_name, piece_name, set_name}
 use Rattle.rm_retain.specs.Chosen.{Retention}
 use Rattle.rm_retain.specs.Catalogued.{IsObsoleteRecord}
 
@@ -15,3 +16,4 @@ pub record IsCleared (r : Retention) (rs left : List Record) (held now : Held) :
   pub stays : (row : Record) → Contains rs row → Contains left row ⊎ IsObsoleteRecord r row
   pub logs : (l : LogEntry) → Contains left (records.Log l) → now (log_name l.id) ≡ held (log_name l.id)
   pub pieces : (p : PieceEntry) → Contains left (records.Piece p) → now (piece_name p.copy p.id) ≡ held (piece_name p.copy p.id)
+  pub sets : (e : SetEntry) → Contains left (records.Set e) → now (set_name e.id) ≡ held (set_name e.id)

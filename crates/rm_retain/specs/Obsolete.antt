@@ -1,5 +1,5 @@
 -- Which records the policy does not need.
-use Rattle.std.specs.Prelude.{ℕ, List, ◌≡◌, ◌≢◌, ◌≤◌, min, Bool, true, false, Some}
+use Rattle.std.specs.Prelude.{ℕ, List, ◌≡◌, ◌≢◌, ◌≤◌, min, All, Bool, true, false, Some}
 use Rattle.rm_base.specs.declared.kinds.Policy.TheVariants.{Nothing}
 use Rattle.rm_history.specs.declared.tree.Incarnation.{Incarnation}
 use Rattle.rm_history.specs.declared.world.Datafile.{Datafile}
@@ -41,6 +41,12 @@ pub record IsObsoleteBackup (r : Retention) (x : Backup) (keep : Bool) : Type 0 
   pub policy : r.policy ≢ Nothing
   pub not_kept : keep ≡ false
   pub needless : IsNeedlessBackup r x
+
+-- A set goes as a whole: where what it has of each of its datafiles is needless.
+pub record IsObsoleteSet (r : Retention) (xs : List Backup) (keep : Bool) : Type 0 where
+  pub policy : r.policy ≢ Nothing
+  pub not_kept : keep ≡ false
+  pub needless : All (IsNeedlessBackup r) xs
 
 pub record IsObsoleteLog (r : Retention) (inc next : ℕ) (keep : Bool) : Type 0 where
   pub policy : r.policy ≢ Nothing

@@ -1,7 +1,7 @@
 -- Retention by the copies that remain.
 use Rattle.std.specs.Prelude.{◌⊎◌, List, Contains}
 use Rattle.rm_retain.specs.declared.copies.Backup.{Backup}
-use Rattle.rm_retain.specs.Chosen.{Retention, AscendById}
+use Rattle.rm_retain.specs.Chosen.{Retention, Ascend}
 use Rattle.rm_retain.specs.Obsolete.{IsNeedlessBackup}
 
 -- retention by other copies
@@ -10,7 +10,7 @@ with_copies r left = record r { copies = left }
 
 -- `left` is what remains of the copies when some needless ones went
 pub record AreRemaining (r : Retention) (left : List Backup) : Type 0 where
-  pub ascend : AscendById r.copies
-  pub ascend_left : AscendById left
+  pub ascend : Ascend r.copies
+  pub ascend_left : Ascend left
   pub had : (x : Backup) → Contains left x → Contains r.copies x
   pub stays : (x : Backup) → Contains r.copies x → Contains left x ⊎ IsNeedlessBackup r x

@@ -10,6 +10,7 @@ use std::alloc::Global;
 /// A backup of one datafile, by its record.
 #[derive(Clone, Copy, PartialEq, Eq)]
 pub struct Backup {
+    /// The id of its object: those of one set have the same.
     pub id: u32,
     pub inc: IncNo,
     pub file: FileNo,

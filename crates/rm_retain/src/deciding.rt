@@ -1,20 +1,22 @@
 //! Which records the policy does not need.
-ghost use Rattle.std.specs.Prelude.{◌≡◌, ◌≢◌, ◌<◌, ◌↔◌, ◌==◌, ℕ, false, AllPairs, Contains, IfOk, IsTrue};
+ghost use Rattle.std.specs.Prelude.{◌≡◌, ◌≢◌, ◌<◌, ◌↔◌, ◌==◌, ℕ, false, All, AllPairs, Contains, IfOk, IsTrue};
 ghost use Rattle.std.specs.List.{list_any};
 ghost use Rattle.rm_base.specs.declared.kinds.Policy.TheVariants.{Nothing as OfNothing};
+ghost use Rattle.rm_catalog.specs.Keys.{part_piece};
 ghost use Rattle.rm_catalog.specs.Rules.{HasDatabase};
 ghost use Rattle.rm_catalog.specs.Trees.{nodes};
 ghost use Rattle.rm_evidence.specs.Taking.{HasIncarnation};
 ghost use Rattle.rm_history.specs.Tree.{IsThere};
-ghost use Rattle.rm_retain.specs.Catalogued.{backup_in, by_records, copies_in, AreObsolete, IsObsoleteRecord};
-ghost use Rattle.rm_retain.specs.Chosen.{AscendById};
+ghost use Rattle.rm_retain.specs.Catalogued.{backup_in, backups_of, by_records, copies_in, AreObsolete, IsObsoleteRecord};
+ghost use Rattle.rm_retain.specs.Chosen.{Ascend};
 ghost use Rattle.rm_retain.specs.Needs.{needed_by, needs_backup, needs_clip, AreNeeds};
-ghost use Rattle.rm_retain.specs.Obsolete.{IsClip, IsObsoleteBackup, IsObsoleteLog};
+ghost use Rattle.rm_retain.specs.Obsolete.{IsClip, IsNeedlessBackup, IsObsoleteBackup, IsObsoleteLog, IsObsoleteSet};
 
+use crate::copies::Backup;
 use crate::file_need::FileNeed;
 use crate::needs::{Needs, needs_of};
 use rm_base::{FileNo, IncNo, NoMemory, Policy, Scn};
-use rm_catalog::{Catalog, LogEntry, PieceEntry, Record};
+use rm_catalog::{Catalog, LogEntry, PieceEntry, Record, SetEntry, SetPart};
 use rm_evidence::Evidence;
 use rm_history::Tree;
 use std::alloc::Global;
@@ -88,16 +90,73 @@ fn is_obsolete_log(catalog: &Catalog, needs: &Needs, log: &LogEntry) -> bool
     may_go(needs.policy, log.keep) && !needs_log(&needs.files, clip)
 }
 
+fn backup_in(piece: &PieceEntry) -> Backup
+    ensures { result ≡ backup_in piece.now }
+{
+    Backup {
+        id: piece.id,
+        inc: piece.inc,
+        file: piece.file,
+        checkpoint: piece.checkpoint,
+        high: piece.high,
+    }
+}
+
+// Whether the policy does not need a backup.
+fn is_needless(catalog: &Catalog, needs: &Needs, copy: Backup) -> bool
+    requires needs { AreNeeds catalog.now needs.now }
+    requires there { IsThere (nodes catalog.now) copy.inc }
+    ensures { IsTrue result ↔ IsNeedlessBackup (needed_by catalog.now needs.now) copy }
+{
+    let clip = clip(catalog.tree(), needs.current, copy.inc, copy.high);
+    !needs_backup(&needs.files, copy.file, copy.id, clip)
+}
+
 fn is_obsolete_piece(catalog: &Catalog, needs: &Needs, piece: &PieceEntry) -> bool
     requires needs { AreNeeds catalog.now needs.now }
     requires there { IsThere (nodes catalog.now) piece.now.inc }
     ensures { IsTrue result ↔ IsObsoleteBackup (needed_by catalog.now needs.now) (backup_in piece.now) piece.now.keep }
 {
-    let clip = clip(catalog.tree(), needs.current, piece.inc, piece.high);
-    may_go(needs.policy, piece.keep) && !needs_backup(&needs.files, piece.file, piece.id, clip)
+    may_go(needs.policy, piece.keep) && is_needless(catalog, needs, backup_in(piece))
 }
 
-// Whether the record is one of a log or a piece, and is obsolete.
+// Whether the policy does not need what a set has of one datafile.
+fn is_part_needless(catalog: &Catalog, needs: &Needs, set: &SetEntry, part: &SetPart) -> bool
+    requires needs { AreNeeds catalog.now needs.now }
+    requires there { IsThere (nodes catalog.now) set.now.inc }
+    ensures { IsTrue result ↔ IsNeedlessBackup (needed_by catalog.now needs.now) (backup_in (part_piece set.now part.now)) }
+{
+    let copy = Backup {
+        id: set.id,
+        inc: set.inc,
+        file: part.file,
+        checkpoint: set.checkpoint,
+        high: part.high,
+    };
+    is_needless(catalog, needs, copy)
+}
+
+// Whether it needs nothing that the set has.
+fn are_parts_needless(catalog: &Catalog, needs: &Needs, set: &SetEntry) -> bool
+    requires needs { AreNeeds catalog.now needs.now }
+    requires there { IsThere (nodes catalog.now) set.now.inc }
+    ensures { IsTrue result ↔ All (λ p. IsNeedlessBackup (needed_by catalog.now needs.now) (backup_in (part_piece set.now p))) set.now.parts }
+{
+    let parts = set.parts.as_slice();
+    parts
+        .iter()
+        .all(|part| is_part_needless(catalog, needs, set, part))
+}
+
+fn is_obsolete_set(catalog: &Catalog, needs: &Needs, set: &SetEntry) -> bool
+    requires needs { AreNeeds catalog.now needs.now }
+    requires there { IsThere (nodes catalog.now) set.now.inc }
+    ensures { IsTrue result ↔ IsObsoleteSet (needed_by catalog.now needs.now) (backups_of set.now) set.now.keep }
+{
+    may_go(needs.policy, set.keep) && are_parts_needless(catalog, needs, set)
+}
+
+// Whether the record is one of a log, a piece or a set, and is obsolete.
 fn is_obsolete(catalog: &Catalog, needs: &Needs, row: &Record) -> bool
     requires needs { AreNeeds catalog.now needs.now }
     requires there { HasIncarnation (nodes catalog.now) row.now }
@@ -106,6 +165,7 @@ fn is_obsolete(catalog: &Catalog, needs: &Needs, row: &Record) -> bool
     match row {
         Record::Log(log) => is_obsolete_log(catalog, needs, log),
         Record::Piece(piece) => is_obsolete_piece(catalog, needs, piece),
+        Record::Set(set) => is_obsolete_set(catalog, needs, set),
         _ => false,
     }
 }
@@ -135,7 +195,8 @@ fn in_order(mut ids: Vec<u32>) -> Vec<u32>
     ids
 }
 
-/// The ids of the obsolete records, ascending. `start` is the SCN at which the window of the policy begins.
+/// The ids of the obsolete records, ascending. A set goes as a whole, where it has nothing that is needed. `start` is
+/// the SCN at which the window of the policy begins.
 pub fn obsolete(
     alloc: Global,
     catalog: &Catalog,
@@ -144,7 +205,7 @@ pub fn obsolete(
     start: Scn,
 ) -> Result<Vec<u32>, NoMemory>
     requires database { HasDatabase catalog.now }
-    requires ascend { AscendById (copies_in evidence.now) }
+    requires ascend { Ascend (copies_in evidence.now) }
     ensures exact { IfOk result (λ ids. AreObsolete catalog.now (by_records catalog.now evidence.now policy start) ids.items) }
     ensures ascends { IfOk result (λ ids. AllPairs (λ i j. i < j) ids.items) }
 {

@@ -18,7 +18,7 @@ ghost use Rattle.rm_history.specs.Tree.{reset_of};
 ghost use Rattle.rm_history.specs.Evidence.{Evidence, Agrees};
 ghost use Rattle.rm_history.specs.Known.{Determined};
 ghost use Rattle.rm_history.specs.FirstGap.{IsTarget, IsDetermined, IsRecoverable};
-ghost use Rattle.rm_evidence.specs.Database.{current_in, world_of};
+ghost use Rattle.rm_evidence.specs.Database.{current_in, database_in, world_of};
 ghost use Rattle.rm_retain.specs.Catalogued.{by_records, IsObsoleteRecord};
 ghost use Rattle.rm_retain.specs.Chosen.{Retention, IsChosen, floor};
 ghost use Rattle.rm_retain.specs.Cleared.{IsCleared};
@@ -36,10 +36,10 @@ pub fn safe_retention()
     ensures recoverable { (h : List Change) (r : Retention) (old new : Evidence) (days i s : ℕ) → r.policy ≡ Window days → FitsHistory h r old → LosesNeedless r old new → IsInWindow r i s → IsRecoverable r.world old i s → IsRecoverable r.world new i s }
 {}
 
-/// The same of the records of a catalog and the objects of a store.
+/// The same of the records of a catalog and the objects of a store, where the database stays the same.
 pub fn safe_deletion()
-    ensures told { (h : List Change) (held now : Held) (rs left : List Record) (place : InPlace) (old new : Gathered) (days start i s f b v : ℕ) (x : Block) → IsCatalog rs → HasDatabase rs → IsGathered held rs place old → IsGathered now left place new → IsHistory (world_of rs) h → Agrees (world_of rs) h (known_of old) → IsCleared (by_records rs old (Window days) start) rs left held now → IsInWindow (by_records rs old (Window days) start) i s → IsTarget (world_of rs) i s f b → Determined (world_of rs) (known_of old) i s f b v x → Determined (world_of rs) (known_of new) i s f b v x }
-    ensures recoverable { (h : List Change) (held now : Held) (rs left : List Record) (place : InPlace) (old new : Gathered) (days start i s : ℕ) → IsCatalog rs → HasDatabase rs → IsGathered held rs place old → IsGathered now left place new → IsHistory (world_of rs) h → Agrees (world_of rs) h (known_of old) → IsCleared (by_records rs old (Window days) start) rs left held now → IsInWindow (by_records rs old (Window days) start) i s → IsRecoverable (world_of rs) (known_of old) i s → IsRecoverable (world_of rs) (known_of new) i s }
+    ensures told { (h : List Change) (held now : Held) (rs left : List Record) (place : InPlace) (old new : Gathered) (days start i s f b v : ℕ) (x : Block) → IsCatalog rs → HasDatabase rs → IsGathered held rs place old → IsGathered now left place new → database_in left ≡ database_in rs → IsHistory (world_of rs) h → Agrees (world_of rs) h (known_of old) → IsCleared (by_records rs old (Window days) start) rs left held now → IsInWindow (by_records rs old (Window days) start) i s → IsTarget (world_of rs) i s f b → Determined (world_of rs) (known_of old) i s f b v x → Determined (world_of rs) (known_of new) i s f b v x }
+    ensures recoverable { (h : List Change) (held now : Held) (rs left : List Record) (place : InPlace) (old new : Gathered) (days start i s : ℕ) → IsCatalog rs → HasDatabase rs → IsGathered held rs place old → IsGathered now left place new → database_in left ≡ database_in rs → IsHistory (world_of rs) h → Agrees (world_of rs) h (known_of old) → IsCleared (by_records rs old (Window days) start) rs left held now → IsInWindow (by_records rs old (Window days) start) i s → IsRecoverable (world_of rs) (known_of old) i s → IsRecoverable (world_of rs) (known_of new) i s }
 {}
 
 /// When needless copies went, the floors are what they were, what was chosen is chosen, and only what
@@ -54,7 +54,7 @@ pub fn nothing_goes_twice()
 /// Of the records that are left none is obsolete that was not: where all obsolete ones went, a second
 /// deletion at the same moment finds none.
 pub fn deletion_leaves_nothing_obsolete()
-    ensures { (held now : Held) (rs left : List Record) (place : InPlace) (old new : Gathered) (policy : Policy) (start : ℕ) (row : Record) → IsGathered held rs place old → IsGathered now left place new → IsCleared (by_records rs old policy start) rs left held now → world_of left ≡ world_of rs → current_in left ≡ current_in rs → IsObsoleteRecord (by_records left new policy start) row → IsObsoleteRecord (by_records rs old policy start) row }
+    ensures { (held now : Held) (rs left : List Record) (place : InPlace) (old new : Gathered) (policy : Policy) (start : ℕ) (row : Record) → IsGathered held rs place old → IsGathered now left place new → IsCleared (by_records rs old policy start) rs left held now → world_of left ≡ world_of rs → database_in left ≡ database_in rs → current_in left ≡ current_in rs → IsObsoleteRecord (by_records left new policy start) row → IsObsoleteRecord (by_records rs old policy start) row }
 {}
 
 /// Each target of the window is one of the incarnation that owns it, where the window starts no earlier

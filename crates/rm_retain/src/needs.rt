@@ -1,5 +1,5 @@
 //! What the policy needs of each datafile on the current path.
-ghost use Rattle.std.specs.Prelude.{◌≡◌, ◌<◌, ◌↔◌, AllPairs, IfOk, IfSome, IfNone, IsTrue, map, nat_lt};
+ghost use Rattle.std.specs.Prelude.{◌≡◌, ◌<◌, ◌↔◌, ◌&&◌, ◌||◌, ◌==◌, AllPairs, IfOk, IfSome, IfNone, IsTrue, map, nat_lt};
 ghost use Rattle.std.specs.Option.{option_map_or};
 ghost use Rattle.rm_catalog.specs.Rules.{HasDatabase};
 ghost use Rattle.rm_catalog.specs.Trees.{nodes};
@@ -7,7 +7,7 @@ ghost use Rattle.rm_history.specs.Tree.{IsThere, end_of};
 ghost use Rattle.rm_history.specs.World.{exists, creation_of};
 ghost use Rattle.rm_evidence.specs.Database.{world_of};
 ghost use Rattle.rm_retain.specs.Catalogued.{backup_of, by_records, copies_in, on_copies};
-ghost use Rattle.rm_retain.specs.Chosen.{nth_newest, wanted, chosen as chosen_of, AscendById};
+ghost use Rattle.rm_retain.specs.Chosen.{nth_newest, wanted, chosen as chosen_of, Ascend, AscendById};
 ghost use Rattle.rm_retain.specs.Needs.{AreFileNeeds, AreNeeds, HaveFileNeeds, IsFileNeed, needed_by};
 ghost use Rattle.rm_retain.specs.Obsolete.{IsOnPath};
 
@@ -64,17 +64,28 @@ fn copies(alloc: Global, evidence: &Evidence) -> Result<Vec<Backup>, NoMemory>
     Ok(found)
 }
 
-/// Whether the copies at hand ascend by id, as those do that are gathered.
-pub fn do_ascend(evidence: &Evidence) -> bool
-    ensures { IsTrue result ↔ AscendById (copies_in evidence.now) }
+// Whether the piece stands behind one of this id and datafile: its id is greater, or its datafile in the same set.
+fn is_behind(id: u32, file: FileNo, piece: &(u32, Piece)) -> bool
+    ensures { result ≡ (nat_lt id piece.now.0 || ((id == piece.now.0) && nat_lt file piece.now.1.file)) }
 {
-    let mut last = 0;
+    id < piece.0 || (id == piece.0 && file < piece.1.file)
+}
+
+/// Whether the copies at hand ascend by id, and those of one set by datafile, as those do that are gathered.
+pub fn do_ascend(evidence: &Evidence) -> bool
+    ensures { IsTrue result ↔ Ascend (copies_in evidence.now) }
+{
+    let mut id = 0;
+    let mut file = 0;
     let bases = evidence.bases.as_slice();
     for piece in bases {
-        if has_record(piece) && piece.0 <= last {
-            return false;
+        if has_record(piece) {
+            if !is_behind(id, file, piece) {
+                return false;
+            }
+            id = piece.0;
+            file = piece.1.file;
         }
-        last = last.max(piece.0);
     }
     true
 }
@@ -121,7 +132,7 @@ fn need_on(
     creation: Scn,
 ) -> Result<FileNeed, NoMemory>
     requires database { HasDatabase catalog.now }
-    requires ascend { AscendById copies.now }
+    requires ascend { Ascend copies.now }
     requires creation { creation ≡ creation_of (world_of catalog.now) file }
     ensures { IfOk result (λ x. IsFileNeed (on_copies catalog.now policy start copies.now) file x) }
 {
@@ -144,7 +155,7 @@ fn need_of(
     file: FileNo,
 ) -> Result<Option<FileNeed>, NoMemory>
     requires database { HasDatabase catalog.now }
-    requires ascend { AscendById copies.now }
+    requires ascend { Ascend copies.now }
     ensures some { IfOk result (λ o. IfSome o (λ x. IsOnPath (on_copies catalog.now policy start copies.now) file × IsFileNeed (on_copies catalog.now policy start copies.now) file x)) }
     ensures none { IfOk result (λ o. IfNone o (¬ IsOnPath (on_copies catalog.now policy start copies.now) file)) }
 {
@@ -168,7 +179,7 @@ fn file_needs(
     start: Scn,
 ) -> Result<Vec<FileNeed>, NoMemory>
     requires database { HasDatabase catalog.now }
-    requires ascend { AscendById copies.now }
+    requires ascend { Ascend copies.now }
     ensures sound { IfOk result (λ xs. AreFileNeeds (on_copies catalog.now policy start copies.now) xs.items) }
     ensures complete { IfOk result (λ xs. HaveFileNeeds (on_copies catalog.now policy start copies.now) 65 xs.items) }
 {
@@ -190,7 +201,7 @@ pub(crate) fn needs_of(
     start: Scn,
 ) -> Result<Needs, NoMemory>
     requires database { HasDatabase catalog.now }
-    requires ascend { AscendById (copies_in evidence.now) }
+    requires ascend { Ascend (copies_in evidence.now) }
     ensures are { IfOk result (λ x. AreNeeds catalog.now x) }
     ensures by { IfOk result (λ x. needed_by catalog.now x ≡ by_records catalog.now evidence.now policy start) }
 {
@@ -207,7 +218,8 @@ pub(crate) fn needs_of(
     })
 }
 
-/// The ids of the copies of a datafile that the policy chooses, ascending: none without a policy. `start` is the SCN at which the window of the policy begins.
+/// The ids of the copies of a datafile that the policy chooses, ascending: none without a policy. A copy in a set has
+/// the set's id. `start` is the SCN at which the window of the policy begins.
 pub fn chosen(
     alloc: Global,
     catalog: &Catalog,
@@ -217,7 +229,7 @@ pub fn chosen(
     file: FileNo,
 ) -> Result<Vec<u32>, NoMemory>
     requires database { HasDatabase catalog.now }
-    requires ascend { AscendById (copies_in evidence.now) }
+    requires ascend { Ascend (copies_in evidence.now) }
     ensures exact { IfOk result (λ ids. ids.items ≡ map (λ x. x.id) (chosen_of (by_records catalog.now evidence.now policy start) file)) }
     ensures ascends { IfOk result (λ ids. AllPairs (λ i j. i < j) ids.items) }
 {

@@ -1,9 +1,8 @@
 use Rattle.std.proofs.Common.{take}
 use Rattle.std.specs.Option.{option_copied}
-use Rattle.rm_base.specs.Choice.{IsChoice}
-use Rattle.rm_backup.specs.Records.{ComesFirst, pieces}
-use Rattle.rm_backup.specs.Parents.{MayBeParent}
+use Rattle.rm_backup.specs.Looking.{TellsFirst}
+use Rattle.rm_backup.specs.Parents.{MayBeParent, among}
 use Rattle.rm_backup.proofs.parents.last.Given as goal
 
 abbrev pub invariant-loop-row : goal.invariant-loop-row
-invariant-loop-row l = IsChoice (MayBeParent l.catalog l.file l.cumulative (option_copied l.tag)) ComesFirst (pieces (take l.row-index l.records)) (option_copied l.best)
+invariant-loop-row l = TellsFirst (MayBeParent l.catalog l.file l.cumulative (option_copied l.tag)) (among (option_copied l.tag) (take l.row-index l.records)) l.best

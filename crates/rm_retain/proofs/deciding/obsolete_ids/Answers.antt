@@ -5,7 +5,7 @@ use Rattle.rm_catalog.specs.declared.record.Key.{Key}
 use Rattle.rm_catalog.specs.Keys.{key_of}
 use Rattle.rm_catalog.specs.Rules.{IsCatalog}
 use Rattle.rm_evidence.proofs.Fitting.{item-there}
-use Rattle.rm_evidence.proofs.Runs.{is-ahead}
+use Rattle.rm_evidence.proofs.Runs.{is-apart}
 use Rattle.rm_retain.specs.Needs.{needed_by}
 use Rattle.rm_retain.specs.Catalogued.{AreObsolete, IsObsoleteRecord}
 use Rattle.rm_retain.proofs.Ids.{exactly_taken, exactly_passed, apart_taken}
@@ -31,7 +31,7 @@ loop-row-preserved c =
           let catalog : IsCatalog xs = subst IsCatalog (sym c.records-records.ensures.records) c.records-records.ensures.catalog in
           record {
             exact = subst (λ (js : List ℕ). AreObsolete (take (i + 1) xs) r js) (sym key) (exactly_taken r xs i row ids c.loop-row-test.true c.row-item.is exact gone);
-            apart = subst (λ (js : List ℕ). AllPairs (λ i j. i ≢ j) js) (sym key) (apart_taken r xs i row ids (is-ahead xs i row catalog c.loop-row-test.true c.row-item.is) exact gone c.loop-row.invariant.apart);
+            apart = subst (λ (js : List ℕ). AllPairs (λ i j. i ≢ j) js) (sym key) (apart_taken r xs i row ids (is-apart xs i row catalog c.loop-row-test.true c.row-item.is) exact gone c.loop-row.invariant.apart);
           }
       | else-is_obsolete w ↦
           let same : c.if-is_obsolete.ids.items ≡ ids = ap (λ (v : Vec ℕ Global). v.items) w.ids-is in

@@ -23,11 +23,11 @@ fits_history h rs old days start catalog database history agrees =
     record { world = is_world rs catalog database; there = current.there; end = current.end; history = history; agrees = agrees }
 
 pub returns-clause-told : goal.returns-clause-told
-returns-clause-told c h held now rs left place old new days start i s f b v x catalog database before after history agrees cleared target block told =
+returns-clause-told c h held now rs left place old new days start i s f b v x catalog database before after same history agrees cleared target block told =
     let r = by_records rs old (Window days) start in
-    safe_told h r (known_of old) (known_of new) days i s refl (fits_history h rs old days start catalog database history agrees) (gathered_left held now rs left r cleared place old new refl (copies_whole held rs place old catalog before) before after) target f b v x block told
+    safe_told h r (known_of old) (known_of new) days i s refl (fits_history h rs old days start catalog database history agrees) (gathered_left held now rs left r cleared same place old new refl (copies_whole held rs place old catalog before) before after) target f b v x block told
 
 pub returns-clause-recoverable : goal.returns-clause-recoverable
-returns-clause-recoverable c h held now rs left place old new days start i s catalog database before after history agrees cleared target recoverable =
+returns-clause-recoverable c h held now rs left place old new days start i s catalog database before after same history agrees cleared target recoverable =
     let r = by_records rs old (Window days) start in
-    safe_recoverable h r (known_of old) (known_of new) days i s refl (fits_history h rs old days start catalog database history agrees) (gathered_left held now rs left r cleared place old new refl (copies_whole held rs place old catalog before) before after) target recoverable
+    safe_recoverable h r (known_of old) (known_of new) days i s refl (fits_history h rs old days start catalog database history agrees) (gathered_left held now rs left r cleared same place old new refl (copies_whole held rs place old catalog before) before after) target recoverable

@@ -3,4 +3,4 @@ use Rattle.rm_retain.proofs.Taking.{copies_of, AscendTo}
 use Rattle.rm_retain.proofs.needs.do_ascend.Given as goal
 
 abbrev pub invariant-loop-piece : goal.invariant-loop-piece
-invariant-loop-piece l = AscendTo l.last (copies_of (take l.piece-index l.bases))
+invariant-loop-piece l = AscendTo l.id l.file (copies_of (take l.piece-index l.bases))
