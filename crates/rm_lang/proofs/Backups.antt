@@ -16,12 +16,12 @@ use Rattle.rm_lang_statement.specs.declared.command.Command.TheVariants.{Backup}
 use Rattle.rm_lang_statement.specs.Named.{in_order, are_named}
 use Rattle.rm_lang_statement.specs.Texts.{content}
 use Rattle.rm_lang_reading.specs.Creating.{write_part, written}
-use Rattle.rm_lang_reading.specs.Backups.{as_line, kind_of, is_copy, level_line, level_of, number_of, is_cumulative, merge_line, merge_tag_of, database_line, files_line, files_of, tag_line, tag_of, keep_line, during_line, during_of, backup_line, backup_of, agreed}
-use Rattle.rm_lang_statement.specs.Agreed.{is_one, agrees_in_level, agrees_in_merge, agrees}
+use Rattle.rm_lang_reading.specs.Backups.{as_line, kind_of, is_copy, level_line, level_of, number_of, is_cumulative, merge_line, merge_tag_of, database_line, files_line, files_of, sets_line, per_set_of, tag_line, tag_of, keep_line, during_line, during_of, backup_line, backup_of, agreed}
+use Rattle.rm_lang_statement.specs.Agreed.{is_one, agrees_in_level, agrees_in_merge, agrees_in_sets, agrees}
 use Rattle.rm_lang_statement.specs.IsCommand.{is_write, is_backup}
-use Rattle.rm_lang_reading.specs.Values.{write_values, kind_values, kind_asked, level_values, level_asked, merge_values, files_values, tag_values, keep_values, during_values, backup_values}
+use Rattle.rm_lang_reading.specs.Values.{write_values, kind_values, kind_asked, level_values, level_asked, merge_values, files_values, sets_values, tag_values, keep_values, during_values, backup_values}
 use Rattle.rm_lang_reading.proofs.InOrder.{in_order-named, named-in_order}
-use Rattle.rm_lang_reading.proofs.Parts.{copy_again, merge_again, files_again, tag_again, keep_again, during_again}
+use Rattle.rm_lang_reading.proofs.Parts.{copy_again, merge_again, files_again, sets_again, tag_again, keep_again, during_again}
 
 -- files that are in order stay so
 files_kept : (o : Option (List ℕ)) → maybe_valid are_named o ≡ true → option_map in_order o ≡ o
@@ -32,6 +32,7 @@ files_kept (Some ns) h = ap (λ (ms : List ℕ). Some ms) (named-in_order ns h)
 pub record IsTested (b : BackupForm) : Type 0 where
   pub level : maybe_valid (in_range 0 1) b.level ≡ true
   pub files : maybe_valid are_named b.files ≡ true
+  pub sets : maybe_valid (in_range 1 64) b.files_per_set ≡ true
   pub tag : maybe_valid is_capital_tag b.tag ≡ true
   pub merge : maybe_valid is_capital_tag b.merge_tag ≡ true
   pub during : maybe_valid (list_all is_write) b.during ≡ true
@@ -41,15 +42,17 @@ pub tested : (b : BackupForm) → is_backup b ≡ true → IsTested b
 tested b h =
     let level = maybe_valid (in_range 0 1) b.level in
     let files = maybe_valid are_named b.files in
+    let sets = maybe_valid (in_range 1 64) b.files_per_set in
     let tag = maybe_valid is_capital_tag b.tag in
     let merge = maybe_valid is_capital_tag b.merge_tag in
     let during = maybe_valid (list_all is_write) b.during in
-    let all = and_parts (level && (files && (tag && (merge && during)))) (agrees b.copy b) h in
-    let one = and_parts level (files && (tag && (merge && during))) all.0 in
-    let two = and_parts files (tag && (merge && during)) one.1 in
-    let three = and_parts tag (merge && during) two.1 in
-    let four = and_parts merge during three.1 in
-    record { level = one.0; files = two.0; tag = three.0; merge = four.0; during = four.1; apart = all.1 }
+    let all = and_parts (level && (files && (sets && (tag && (merge && during))))) (agrees b.copy b) h in
+    let one = and_parts level (files && (sets && (tag && (merge && during)))) all.0 in
+    let two = and_parts files (sets && (tag && (merge && during))) one.1 in
+    let three = and_parts sets (tag && (merge && during)) two.1 in
+    let four = and_parts tag (merge && during) three.1 in
+    let five = and_parts merge during four.1 in
+    record { level = one.0; files = two.0; sets = three.0; tag = four.0; merge = five.0; during = five.1; apart = all.1 }
 
 level_kept : (cumulative : Bool) (o : Option ℕ) → option_map number_of (option_map level_of (option_map level_values (option_map (level_asked cumulative) o))) ≡ o
 level_kept cumulative None = refl
@@ -65,9 +68,10 @@ backup_again : (b : BackupForm) → is_backup b ≡ true → backup_of (backup_v
 backup_again b h =
     let t = tested b h in
     let files = files_again b.files ∙ files_kept b.files t.files in
-    let first = (and_parts (agrees_in_level b) (agrees_in_merge b.copy b) t.apart).0 in
+    let both = (and_parts (agrees_in_level b && agrees_in_merge b.copy b) (agrees_in_sets b) t.apart).0 in
+    let first = (and_parts (agrees_in_level b) (agrees_in_merge b.copy b) both).0 in
     let cumulative = (and_parts (not b.cumulative || is_one b.level) (not (b.copy && is_one b.level)) first).0 in
-    rw (copy_again b.copy, level_kept b.cumulative b.level, cumulative_kept b.cumulative b.level cumulative, merge_again b.merge_tag, files, tag_again b.tag, keep_again b.keep, during_again b.during) refl
+    rw (copy_again b.copy, level_kept b.cumulative b.level, cumulative_kept b.cumulative b.level cumulative, merge_again b.merge_tag, files, sets_again b.files_per_set, tag_again b.tag, keep_again b.keep, during_again b.during) refl
 
 with_as : (copy : Bool) → is_some (option_map kind_of (option_map kind_values (kind_asked copy))) ≡ copy
 with_as true = refl
@@ -97,6 +101,10 @@ files_valid None h = refl
 files_valid (Some []) h = absurd (cc)
 files_valid (Some (n ∷ ns)) h = refl
 
+sets_valid : (o : Option ℕ) → maybe_valid (in_range 1 64) o ≡ true → maybe_valid (valid sets_line) (option_map sets_values o) ≡ true
+sets_valid None h = refl
+sets_valid (Some n) h = and_from (in_range 1 64 n) true h refl
+
 tag_valid : (o : Option (List ℕ)) → maybe_valid is_capital_tag o ≡ true → maybe_valid (valid tag_line) (option_map tag_values o) ≡ true
 tag_valid None h = refl
 tag_valid (Some w) h = and_from (is_capital_tag w) true h refl
@@ -118,7 +126,7 @@ during_valid (Some ws) h = and_from (list_all (valid write_part) (map write_valu
 pub backup_valid : (b : BackupForm) → is_backup b ≡ true → valid backup_line (backup_values b) ≡ true
 backup_valid b h =
     let t = tested b h in
-    rw (kind_valid b.copy, level_valid b.cumulative b.level t.level, merge_valid b.merge_tag t.merge, files_valid b.files t.files, tag_valid b.tag t.tag, keep_valid b.keep, during_valid b.during t.during) refl
+    rw (kind_valid b.copy, level_valid b.cumulative b.level t.level, merge_valid b.merge_tag t.merge, files_valid b.files t.files, sets_valid b.files_per_set t.sets, tag_valid b.tag t.tag, keep_valid b.keep, during_valid b.during t.during) refl
 
 -- the backup of valid values passes the test
 level_passes : (o : Option (Values level_line)) → maybe_valid (valid level_line) o ≡ true → maybe_valid (in_range 0 1) (option_map number_of (option_map level_of o)) ≡ true
@@ -132,6 +140,10 @@ merge_passes (Some v) h = (and_parts (is_capital_tag v.0) true h).0
 files_pass : (v : Choice (Values database_line) (Values files_line)) → one_valid (valid database_line) (valid files_line) v ≡ true → maybe_valid are_named (files_of v) ≡ true
 files_pass (first v) h = refl
 files_pass (second v) h = in_order-named v.0 (and_parts (is_some_list v.0) true h).0
+
+sets_pass : (o : Option (Values sets_line)) → maybe_valid (valid sets_line) o ≡ true → maybe_valid (in_range 1 64) (option_map per_set_of o) ≡ true
+sets_pass None h = refl
+sets_pass (Some v) h = (and_parts (in_range 1 64 v.0) true h).0
 
 tag_passes : (o : Option (Values tag_line)) → maybe_valid (valid tag_line) o ≡ true → maybe_valid is_capital_tag (option_map tag_of o) ≡ true
 tag_passes None h = refl
@@ -164,20 +176,24 @@ agreed_parts false b c e = absurd (cc)
 
 pub backup_passes : (v : Values backup_line) (c : Command) → valid backup_line v ≡ true → agreed (is_some (option_map kind_of v.0)) (backup_of v) ≡ Some c → (is_backup (backup_of v) ≡ true) × (Backup (backup_of v) ≡ c)
 backup_passes v c h m =
-    let during = maybe_valid (valid during_line) v.1.1.1.1.1.1.0 && true in
-    let keep = maybe_valid (valid keep_line) v.1.1.1.1.1.0 in
-    let tag = maybe_valid (valid tag_line) v.1.1.1.1.0 in
+    let during = maybe_valid (valid during_line) v.1.1.1.1.1.1.1.0 && true in
+    let keep = maybe_valid (valid keep_line) v.1.1.1.1.1.1.0 in
+    let tag = maybe_valid (valid tag_line) v.1.1.1.1.1.0 in
+    let sets = maybe_valid (valid sets_line) v.1.1.1.1.0 in
     let files = one_valid (valid database_line) (valid files_line) v.1.1.1.0 in
     let merge = maybe_valid (valid merge_line) v.1.1.0 in
     let level = maybe_valid (valid level_line) v.1.0 in
-    let p = and_parts (maybe_valid (valid as_line) v.0) (level && (merge && (files && (tag && (keep && during))))) h in
-    let q = and_parts level (merge && (files && (tag && (keep && during)))) p.1 in
-    let r = and_parts merge (files && (tag && (keep && during))) q.1 in
-    let s = and_parts files (tag && (keep && during)) r.1 in
-    let t = and_parts tag (keep && during) s.1 in
+    let p = and_parts (maybe_valid (valid as_line) v.0) (level && (merge && (files && (sets && (tag && (keep && during)))))) h in
+    let q = and_parts level (merge && (files && (sets && (tag && (keep && during))))) p.1 in
+    let r = and_parts merge (files && (sets && (tag && (keep && during)))) q.1 in
+    let s = and_parts files (sets && (tag && (keep && during))) r.1 in
+    let n = and_parts sets (tag && (keep && during)) s.1 in
+    let t = and_parts tag (keep && during) n.1 in
     let u = and_parts keep during t.1 in
-    let w = and_parts (maybe_valid (valid during_line) v.1.1.1.1.1.1.0) true u.1 in
-    let k = agreed_parts (agrees (is_some (option_map kind_of v.0)) (backup_of v)) (backup_of v) c m in
-    let a = and_parts (agrees_in_level (backup_of v)) (agrees_in_merge (is_some (option_map kind_of v.0)) (backup_of v)) k.0 in
+    let w = and_parts (maybe_valid (valid during_line) v.1.1.1.1.1.1.1.0) true u.1 in
+    let kind = is_some (option_map kind_of v.0) in
+    let k = agreed_parts (agrees kind (backup_of v)) (backup_of v) c m in
+    let both = and_parts (agrees_in_level (backup_of v) && agrees_in_merge kind (backup_of v)) (agrees_in_sets (backup_of v)) k.0 in
+    let a = and_parts (agrees_in_level (backup_of v)) (agrees_in_merge kind (backup_of v)) both.0 in
     let merged = agrees_too (option_map kind_of v.0) (backup_of v) a.1 in
-    (rw (level_passes v.1.0 q.0, merge_passes v.1.1.0 r.0, files_pass v.1.1.1.0 s.0, tag_passes v.1.1.1.1.0 t.0, during_passes v.1.1.1.1.1.1.0 w.0, a.0, merged) refl, k.1)
+    (rw (level_passes v.1.0 q.0, merge_passes v.1.1.0 r.0, files_pass v.1.1.1.0 s.0, sets_pass v.1.1.1.1.0 n.0, tag_passes v.1.1.1.1.1.0 t.0, during_passes v.1.1.1.1.1.1.1.0 w.0, a.0, merged, both.1) refl, k.1)

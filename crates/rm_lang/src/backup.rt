@@ -4,9 +4,9 @@ ghost use Rattle.std.specs.Option.{option_map};
 ghost use Rattle.std.specs.List.{list_all};
 ghost use Rattle.rm_lang_grammar.specs.Spelling.{spelled, maybe_spelled, one_spelled, many_spelled, is_capital_tag, maybe_valid};
 ghost use Rattle.rm_lang_reading.specs.Creating.{write_part, write_line};
-ghost use Rattle.rm_lang_reading.specs.Backups.{as_line, level_line, merge_line, database_line, files_line, tag_line, keep_line, during_line, backup_line};
+ghost use Rattle.rm_lang_reading.specs.Backups.{as_line, level_line, merge_line, database_line, files_line, sets_line, tag_line, keep_line, during_line, backup_line};
 ghost use Rattle.rm_lang_statement.specs.IsCommand.{is_write, is_backup};
-ghost use Rattle.rm_lang_reading.specs.Values.{write_values, kind_values, kind_asked, level_values, level_asked, merge_values, files_values, tag_values, keep_values, during_values, backup_values};
+ghost use Rattle.rm_lang_reading.specs.Values.{write_values, kind_values, kind_asked, level_values, level_asked, merge_values, files_values, sets_values, tag_values, keep_values, during_values, backup_values};
 
 use rm_base::{NoMemory, Seq, Text};
 use rm_lang_grammar::Spelling;
@@ -99,6 +99,18 @@ fn files(alloc: Global, files: &Option<Seq<u64>>) -> Result<Spelling, NoMemory>
     Ok(spelling)
 }
 
+// FILESPERSET and how many files a set holds, where sets are made.
+fn sets(alloc: Global, per_set: Option<u8>) -> Result<Spelling, NoMemory>
+    ensures { IfOk result (λ ts. ts ≡ maybe_spelled (spelled sets_line) (option_map sets_values per_set)) }
+{
+    let mut spelling = Spelling::new(alloc);
+    if let Some(number) = per_set {
+        spelling.word("FILESPERSET")?;
+        spelling.number(number as u64)?;
+    }
+    Ok(spelling)
+}
+
 // The tag, if there is one.
 fn tag(alloc: Global, tag: &Option<Text>) -> Result<Spelling, NoMemory>
     requires { IsTrue (maybe_valid is_capital_tag tag.now) }
@@ -160,6 +172,7 @@ pub fn backup(alloc: Global, form: &BackupForm) -> Result<Spelling, NoMemory>
     spelling.append(level(alloc, form.level, form.cumulative)?)?;
     spelling.append(merge(alloc, &form.merge_tag)?)?;
     spelling.append(files(alloc, &form.files)?)?;
+    spelling.append(sets(alloc, form.files_per_set)?)?;
     spelling.append(tag(alloc, &form.tag)?)?;
     spelling.append(keep(alloc, form.keep)?)?;
     spelling.append(during(alloc, &form.during)?)?;

@@ -1,6 +1,7 @@
 //! Which statements can be spelled.
 ghost use Rattle.std.specs.Prelude.{◌≡◌, ◌↔◌, IsTrue};
 ghost use Rattle.std.specs.List.{list_all};
+ghost use Rattle.rm_lang_grammar.specs.Grammar.{in_range};
 ghost use Rattle.rm_lang_grammar.specs.Spelling.{is_shown, is_capital_tag, maybe_valid};
 ghost use Rattle.rm_lang_statement.specs.Named.{ascend_above, are_named};
 ghost use Rattle.rm_lang_statement.specs.Texts.{content, anything, is_new_name, is_text};
@@ -74,6 +75,16 @@ fn is_tag_or_none(tag: &Option<Text>) -> bool
     }
 }
 
+// A set may hold so many datafiles, where sets are made.
+fn is_per_set_or_none(number: Option<u8>) -> bool
+    ensures { result ≡ maybe_valid (in_range 1 64) number }
+{
+    match number {
+        Some(number) => (1..=64).contains(&number),
+        None => true,
+    }
+}
+
 // The backup is one of a statement.
 fn is_backup(form: &BackupForm) -> bool
     ensures { result ≡ is_backup form.now }
@@ -83,6 +94,7 @@ fn is_backup(form: &BackupForm) -> bool
             .files
             .as_ref()
             .is_none_or(|files| are_named(files.as_slice()))
+        && is_per_set_or_none(form.files_per_set)
         && is_tag_or_none(&form.tag)
         && is_tag_or_none(&form.merge_tag)
         && form

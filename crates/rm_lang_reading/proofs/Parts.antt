@@ -19,11 +19,11 @@ use Rattle.rm_lang_statement.specs.declared.command.RetentionForm.TheVariants.{W
 use Rattle.rm_lang_statement.specs.Named.{in_order}
 use Rattle.rm_lang_reading.specs.Creating.{written}
 use Rattle.rm_lang_reading.specs.Recovering.{until_by, until_of, incarnation_of}
-use Rattle.rm_lang_reading.specs.Backups.{kind_of, is_copy, level_of, merge_tag_of, files_of, tag_of, stands, during_of}
+use Rattle.rm_lang_reading.specs.Backups.{kind_of, is_copy, level_of, merge_tag_of, files_of, per_set_of, tag_of, stands, during_of}
 use Rattle.rm_lang_reading.specs.Repairs.{ordered, blocks_of}
 use Rattle.rm_lang_reading.specs.Upkeep.{class_by, change_by, deletion_by}
 use Rattle.rm_lang_reading.specs.Settings.{retention_by}
-use Rattle.rm_lang_reading.specs.Values.{write_values, until_choice, until_values, incarnation_values, kind_values, kind_asked, level_values, merge_values, files_values, tag_values, keep_values, during_values, blocks_values, class_choice, change_choice, deletion_choice, retention_choice}
+use Rattle.rm_lang_reading.specs.Values.{write_values, until_choice, until_values, incarnation_values, kind_values, kind_asked, level_values, merge_values, files_values, sets_values, tag_values, keep_values, during_values, blocks_values, class_choice, change_choice, deletion_choice, retention_choice}
 
 pub choice_again : (u : Until) → until_by (until_choice u) ≡ u
 choice_again (Scn n) = refl
@@ -58,6 +58,10 @@ merge_again (Some w) = refl
 pub files_again : (o : Option (List ℕ)) → files_of (files_values o) ≡ option_map in_order o
 files_again None = refl
 files_again (Some ns) = refl
+
+pub sets_again : (o : Option ℕ) → option_map per_set_of (option_map sets_values o) ≡ o
+sets_again None = refl
+sets_again (Some n) = refl
 
 pub tag_again : (o : Option (List ℕ)) → option_map tag_of (option_map tag_values o) ≡ o
 tag_again None = refl
@@ -102,4 +106,4 @@ retention_again (Redundancy count) = refl
 retention_again Nothing = refl
 retention_again Clear = refl
 
-pub ruleset parts = (choice_again, until_again, incarnation_again, kind_again, level_again, merge_again, files_again, tag_again, keep_again, during_again, blocks_again, class_again, change_again, deletion_again, retention_again)
+pub ruleset parts = (choice_again, until_again, incarnation_again, kind_again, level_again, merge_again, files_again, sets_again, tag_again, keep_again, during_again, blocks_again, class_again, change_again, deletion_again, retention_again)

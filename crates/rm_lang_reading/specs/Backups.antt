@@ -67,6 +67,13 @@ abbrev pub files_of : Choice (Values database_line) (Values files_line) → Opti
 files_of (first v) = None
 files_of (second v) = Some (in_order v.0)
 
+-- FILESPERSET n
+abbrev pub sets_line : Grammar
+sets_line = word (codes "FILESPERSET") ▸ number (in_range 1 64) ▸ end
+
+abbrev pub per_set_of : Values sets_line → ℕ
+per_set_of v = v.0
+
 -- TAG tag
 abbrev pub tag_line : Grammar
 tag_line = tag ▸ end
@@ -94,9 +101,9 @@ abbrev pub during_of : Values during_line → List WriteForm
 during_of v = map written v.0
 
 -- BACKUP [AS COPY | AS BACKUPSET] [INCREMENTAL LEVEL n [CUMULATIVE]] [FOR RECOVER OF COPY WITH TAG tag]
--- (DATABASE | DATAFILE n {, n}*) [TAG tag] [KEEP FOREVER] [DURING { {write ;}* }]
+-- (DATABASE | DATAFILE n {, n}*) [FILESPERSET n] [TAG tag] [KEEP FOREVER] [DURING { {write ;}* }]
 abbrev pub backup_line : Grammar
-backup_line = word (codes "BACKUP") ▸ optional as_line ▸ optional level_line ▸ optional merge_line ▸ either database_line files_line ▸ optional tag_line ▸ optional keep_line ▸ optional during_line ▸ semicolon
+backup_line = word (codes "BACKUP") ▸ optional as_line ▸ optional level_line ▸ optional merge_line ▸ either database_line files_line ▸ optional sets_line ▸ optional tag_line ▸ optional keep_line ▸ optional during_line ▸ semicolon
 
 abbrev pub backup_of : Values backup_line → BackupForm
 backup_of v = record {
@@ -105,9 +112,10 @@ backup_of v = record {
   cumulative = is_cumulative (option_map level_of v.1.0);
   merge_tag = option_map merge_tag_of v.1.1.0;
   files = files_of v.1.1.1.0;
-  tag = option_map tag_of v.1.1.1.1.0;
-  keep = stands v.1.1.1.1.1.0;
-  during = option_map during_of v.1.1.1.1.1.1.0;
+  files_per_set = option_map per_set_of v.1.1.1.1.0;
+  tag = option_map tag_of v.1.1.1.1.1.0;
+  keep = stands v.1.1.1.1.1.1.0;
+  during = option_map during_of v.1.1.1.1.1.1.1.0;
 }
 
 -- a backup, where its parts can stand together

@@ -21,7 +21,7 @@ use Rattle.rm_lang_statement.specs.declared.command.RetentionForm.{RetentionForm
 use Rattle.rm_lang_statement.specs.declared.command.RetentionForm.TheVariants.{Window, Redundancy, Nothing, Clear}
 use Rattle.rm_lang_reading.specs.Creating.{write_part}
 use Rattle.rm_lang_reading.specs.Recovering.{scn_part, log_or_time, until_line, incarnation_line}
-use Rattle.rm_lang_reading.specs.Backups.{as_line, level_line, merge_line, database_line, files_line, tag_line, keep_line, during_line, backup_line}
+use Rattle.rm_lang_reading.specs.Backups.{as_line, level_line, merge_line, database_line, files_line, sets_line, tag_line, keep_line, during_line, backup_line}
 use Rattle.rm_lang_reading.specs.Repairs.{corruption_line, blocks_line, block_recover_line}
 use Rattle.rm_lang_reading.specs.Upkeep.{copy_or_archived, withdrawing, one_or_expired}
 use Rattle.rm_lang_reading.specs.Settings.{policy_part}
@@ -70,6 +70,10 @@ abbrev pub files_values : Option (List ℕ) → Choice (Values database_line) (V
 files_values None = first tt
 files_values (Some ns) = second (ns, tt)
 
+-- what a FILESPERSET says
+abbrev pub sets_values : ℕ → Values sets_line
+sets_values n = (n, tt)
+
 -- what a TAG says
 abbrev pub tag_values : List ℕ → Values tag_line
 tag_values w = (w, tt)
@@ -91,7 +95,13 @@ backup_values b = (
     option_map level_values (option_map (level_asked b.cumulative) b.level),
     (
       option_map merge_values b.merge_tag,
-      (files_values b.files, (option_map tag_values b.tag, (keep_values b.keep, (option_map during_values b.during, tt)))),
+      (
+        files_values b.files,
+        (
+          option_map sets_values b.files_per_set,
+          (option_map tag_values b.tag, (keep_values b.keep, (option_map during_values b.during, tt))),
+        ),
+      ),
     ),
   ),
 )

@@ -5,9 +5,9 @@ ghost use Rattle.std.specs.Option.{option_map};
 ghost use Rattle.rm_lang_grammar.specs.Reading.{Gives, read, maybe, one_of, begins, begins_with, many_at};
 ghost use Rattle.rm_lang_grammar.specs.Forms.{command_by, command_in};
 ghost use Rattle.rm_lang_statement.specs.Named.{in_order};
-ghost use Rattle.rm_lang_reading.specs.Backups.{as_line, is_copy, level_line, number_of, is_cumulative, merge_line, database_line, files_line, tag_line, keep_line, during_line, write_at, backup, backup_logs};
-ghost use Rattle.rm_lang_statement.specs.Agreed.{agrees_in_level, agrees_in_merge, agrees};
-ghost use Rattle.rm_lang_reading.specs.Values.{write_values, kind_values, level_values, merge_values, files_values, tag_values, keep_values, during_values};
+ghost use Rattle.rm_lang_reading.specs.Backups.{as_line, is_copy, level_line, number_of, is_cumulative, merge_line, database_line, files_line, sets_line, tag_line, keep_line, during_line, write_at, backup, backup_logs};
+ghost use Rattle.rm_lang_statement.specs.Agreed.{agrees_in_level, agrees_in_merge, agrees_in_sets, agrees};
+ghost use Rattle.rm_lang_reading.specs.Values.{write_values, kind_values, level_values, merge_values, files_values, sets_values, tag_values, keep_values, during_values};
 ghost use Rattle.rm_lang_reading.specs.Language.{backup_forms};
 
 use crate::creating::write_part;
@@ -123,6 +123,17 @@ pub fn in_order(numbers: Seq<u64>) -> Seq<u64>
     Seq::from_vec(numbers)
 }
 
+// FILESPERSET n, or nothing.
+fn optional_sets(tokens: &[Token]) -> Result<(Option<u8>, &[Token]), Unread>
+    ensures { Gives (λ x. (option_map sets_values x.0, x.1.now)) result (maybe (begins sets_line tokens.now) (read sets_line tokens.now) tokens.now) }
+{
+    if !begins_with(tokens, b"FILESPERSET") {
+        return Ok((None, tokens));
+    }
+    let (number, rest) = number_in(word(tokens, b"FILESPERSET")?, 1, 64)?;
+    Ok((Some(number as u8), rest))
+}
+
 // TAG tag, or nothing.
 fn optional_tag(alloc: Global, tokens: &[Token]) -> Result<(Option<Text>, &[Token]), Unread>
     ensures { Gives (λ x. (option_map tag_values x.0, x.1.now)) result (maybe (begins tag_line tokens.now) (read tag_line tokens.now) tokens.now) }
@@ -206,11 +217,18 @@ fn agrees_in_merge(with_as: bool, form: &BackupForm) -> bool
     form.merge_tag.is_none() || (is_level_1 && !with_as && !form.cumulative && form.tag.is_none())
 }
 
+// FILESPERSET stands without AS COPY and FOR RECOVER OF COPY.
+fn agrees_in_sets(form: &BackupForm) -> bool
+    ensures { result ≡ agrees_in_sets form.now }
+{
+    form.files_per_set.is_none() || (!form.copy && form.merge_tag.is_none())
+}
+
 /// The parts of a backup, of which one may be an AS, can stand together.
 pub fn agrees(with_as: bool, form: &BackupForm) -> bool
     ensures { result ≡ agrees with_as form.now }
 {
-    agrees_in_level(form) && agrees_in_merge(with_as, form)
+    agrees_in_level(form) && agrees_in_merge(with_as, form) && agrees_in_sets(form)
 }
 
 #[tactic(auto, using(crate::proofs::Parts::parts), unfolding(crate::specs::Backups::backup))]
@@ -221,6 +239,7 @@ fn backup(alloc: Global, tokens: &[Token]) -> Result<(Command, &[Token]), Unread
     let (level, rest) = optional_level(rest)?;
     let (merge_tag, rest) = optional_merge(alloc, rest)?;
     let (files, rest) = named_files(alloc, rest)?;
+    let (files_per_set, rest) = optional_sets(rest)?;
     let (tag, rest) = optional_tag(alloc, rest)?;
     let (keep, rest) = optional_keep(rest)?;
     let (during, rest) = optional_during(alloc, rest)?;
@@ -231,6 +250,7 @@ fn backup(alloc: Global, tokens: &[Token]) -> Result<(Command, &[Token]), Unread
         cumulative: is_cumulative(level),
         merge_tag,
         files: files.map(in_order),
+        files_per_set,
         tag,
         keep,
         during,

@@ -35,10 +35,10 @@ is_until_or_none until = maybe_valid is_until until
 abbrev pub is_write : WriteForm → Bool
 is_write w = is_shown content w.content.0
 
--- a backup of level 0 or 1 or none, of all datafiles or of one and more in order, with tags in capitals or none, whose parts can stand together
+-- a backup of level 0 or 1 or none, of all datafiles or of one and more in order, in sets of 1 to 64 or none, with tags in capitals or none, whose parts can stand together
 abbrev pub is_backup : BackupForm → Bool
 is_backup b =
-    (maybe_valid (in_range 0 1) b.level && (maybe_valid are_named b.files && (maybe_valid is_capital_tag b.tag && (maybe_valid is_capital_tag b.merge_tag && maybe_valid (list_all is_write) b.during))))
+    (maybe_valid (in_range 0 1) b.level && (maybe_valid are_named b.files && (maybe_valid (in_range 1 64) b.files_per_set && (maybe_valid is_capital_tag b.tag && (maybe_valid is_capital_tag b.merge_tag && maybe_valid (list_all is_write) b.during)))))
     && agrees b.copy b
 
 -- blocks that a statement names: one or more, in order

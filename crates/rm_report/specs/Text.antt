@@ -15,6 +15,8 @@ use Rattle.rm_base.specs.declared.refusal.Refusal.TheVariants.{Rm01, Rm02, Rm03,
 use Rattle.rm_moments.specs.Shown.{moment_text}
 use Rattle.rm_history.specs.declared.tree.Standing.{Standing}
 use Rattle.rm_history.specs.declared.tree.Standing.TheVariants.{Current, Parent, Orphan}
+use Rattle.rm_report.specs.declared.line.Packing.{Packing}
+use Rattle.rm_report.specs.declared.line.Packing.TheVariants.{Piece, Copy, Set}
 use Rattle.rm_report.specs.declared.line.Shape.{Shape}
 use Rattle.rm_report.specs.declared.line.Shape.TheVariants.{Full, Level0, Level1}
 use Rattle.rm_base.specs.declared.kinds.Bad.{Bad}
@@ -103,10 +105,11 @@ standing_text Current = codes "current"
 standing_text Parent = codes "parent"
 standing_text Orphan = codes "orphan"
 
--- what a backup is: a copy or a piece
-abbrev pub backup_text : Bool → List ℕ
-backup_text true = codes "copy"
-backup_text false = codes "piece"
+-- what a backup is: a piece, a copy or a set
+abbrev pub backup_text : Packing → List ℕ
+backup_text Piece = codes "piece"
+backup_text Copy = codes "copy"
+backup_text Set = codes "set"
 
 -- what a backup holds
 abbrev pub shape_text : Shape → List ℕ
@@ -161,7 +164,7 @@ line_text (Recovered until inc files) = codes "recovered until " ++ (decimal unt
 line_text (UntilIs until inc files) = codes "until " ++ (decimal until ++ (codes " of incarnation " ++ (decimal inc ++ (codes ": files " ++ decimal files))))
 line_text (FileIs file blocks written) = codes "datafile " ++ (decimal file ++ (codes ": " ++ (decimal blocks ++ (codes " blocks, " ++ (decimal written ++ codes " written")))))
 line_text (BlockIs block version content) = block_text block version content
-line_text (BackedUp copy id file shape checkpoint rows reads) = backup_text copy ++ (codes " " ++ (decimal id ++ (codes " datafile " ++ (decimal file ++ (codes " " ++ (shape_text shape ++ (codes " checkpoint " ++ (decimal checkpoint ++ (codes " rows " ++ (decimal rows ++ (codes " read " ++ decimal reads)))))))))))
+line_text (BackedUp packing id file shape checkpoint rows reads) = backup_text packing ++ (codes " " ++ (decimal id ++ (codes " datafile " ++ (decimal file ++ (codes " " ++ (shape_text shape ++ (codes " checkpoint " ++ (decimal checkpoint ++ (codes " rows " ++ (decimal rows ++ (codes " read " ++ decimal reads)))))))))))
 line_text NothingToBackUp = codes "nothing to back up"
 line_text (IncarnationIs inc parent reset end standing) = codes "incarnation " ++ (decimal inc ++ (codes " parent " ++ (decimal parent ++ (codes " reset at " ++ (decimal reset ++ (codes " end " ++ (decimal end ++ (codes " " ++ standing_text standing))))))))
 line_text (Dumped file block version content) = codes "datafile " ++ (decimal file ++ (codes " " ++ block_text block version content))
@@ -200,7 +203,7 @@ line_text Renamed = codes "renamed"
 line_text UntilSet = codes "until set"
 line_text ChannelAllocated = codes "channel allocated"
 line_text (Schema file blocks scn inc place) = codes "datafile " ++ (decimal file ++ (codes " blocks " ++ (decimal blocks ++ (codes " created at " ++ (decimal scn ++ (codes " of incarnation " ++ (decimal inc ++ place_text place)))))))
-line_text (PieceIs copy id file shape checkpoint high status tag keep) = backup_text copy ++ (codes " " ++ (decimal id ++ (codes " datafile " ++ (decimal file ++ (codes " " ++ (shape_text shape ++ (codes " checkpoint " ++ (decimal checkpoint ++ (codes " high " ++ (decimal high ++ (codes " " ++ (status_text status ++ (codes " tag " ++ (tag ++ keep_text keep))))))))))))))
+line_text (PieceIs packing id file shape checkpoint high status tag keep) = backup_text packing ++ (codes " " ++ (decimal id ++ (codes " datafile " ++ (decimal file ++ (codes " " ++ (shape_text shape ++ (codes " checkpoint " ++ (decimal checkpoint ++ (codes " high " ++ (decimal high ++ (codes " " ++ (status_text status ++ (codes " tag " ++ (tag ++ keep_text keep))))))))))))))
 line_text (LogIs id thread sequence from next inc status keep) = codes "log " ++ (decimal id ++ (codes " thread " ++ (decimal thread ++ (codes " sequence " ++ (decimal sequence ++ (codes " first " ++ (decimal from ++ (codes " next " ++ (decimal next ++ (codes " of incarnation " ++ (decimal inc ++ (codes " " ++ (status_text status ++ keep_text keep)))))))))))))
 line_text (Retention policy) = policy_text policy
 line_text (Refused refusal) = refusal_text refusal
@@ -220,12 +223,12 @@ tells_history line = false
 
 -- the line tells of a backup
 abbrev pub tells_backup : Line → Bool
-tells_backup (BackedUp copy id file shape checkpoint rows reads) = true
+tells_backup (BackedUp packing id file shape checkpoint rows reads) = true
 tells_backup line = false
 
 -- the line tells of a record
 abbrev pub tells_record : Line → Bool
-tells_record (PieceIs copy id file shape checkpoint high status tag keep) = true
+tells_record (PieceIs packing id file shape checkpoint high status tag keep) = true
 tells_record (LogIs id thread sequence from next inc status keep) = true
 tells_record line = false
 

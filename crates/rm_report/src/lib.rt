@@ -8,5 +8,5 @@ mod lines;
 pub mod text;
 
 pub use dates::has_dates;
-pub use line::{Line, Reply, SchemaPlace, Shape};
+pub use line::{Line, Packing, Reply, SchemaPlace, Shape};
 pub use text::bytes_of;

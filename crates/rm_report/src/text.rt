@@ -6,7 +6,7 @@ ghost use Rattle.rm_base.specs.declared.refusal.Refusal.TheVariants.{Rm14};
 ghost use Rattle.rm_report.specs.Reply.{HasDate, LineHasDate, HasDates};
 ghost use Rattle.rm_report.specs.Text.{tells_blocks, tells_history, tells_backup, line_text, block_text, backup_text, shape_text, standing_text, refusal_text, absent_text, unknown_text, limit_text, content_text, byte_text, reply_text};
 
-use crate::line::{Line, Reply, Shape};
+use crate::line::{Line, Packing, Reply, Shape};
 use crate::lines::{
     push_bad_of, push_block_damaged, push_checked, push_gap_in, push_mended, push_merged,
     push_policy, push_record, push_restored_from, push_schema, push_skipped, push_starts_above,
@@ -204,7 +204,7 @@ fn push_backup(out: &mut String, line: &Line) -> Result<(), AllocError>
 {
     match line {
         Line::BackedUp {
-            copy,
+            packing,
             id,
             file,
             shape,
@@ -212,7 +212,7 @@ fn push_backup(out: &mut String, line: &Line) -> Result<(), AllocError>
             rows,
             reads,
         } => {
-            write!(out, "{} {id} datafile {file} ", backup_text(*copy))?;
+            write!(out, "{} {id} datafile {file} ", backup_text(*packing))?;
             push_shape(out, *shape)?;
             write!(out, " checkpoint {checkpoint} rows {rows} read {reads}")
         }
@@ -220,11 +220,15 @@ fn push_backup(out: &mut String, line: &Line) -> Result<(), AllocError>
     }
 }
 
-/// A copy or a piece.
-pub fn backup_text(copy: bool) -> &'static str
-    ensures { result.now ≡ backup_text copy }
+/// A piece, a copy or a set.
+pub fn backup_text(packing: Packing) -> &'static str
+    ensures { result.now ≡ backup_text packing }
 {
-    if copy { "copy" } else { "piece" }
+    match packing {
+        Packing::Piece => "piece",
+        Packing::Copy => "copy",
+        Packing::Set => "set",
+    }
 }
 
 /// Appends what a backup holds.

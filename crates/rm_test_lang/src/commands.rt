@@ -35,10 +35,11 @@ pub fn none() -> bool {
     is_command(&write(b"#;,")) && is_statement(&Statement::Plain(create(1, 1, 1)))
 }
 
-// A backup of these datafiles alone, with this tag: a copy, if it is of level 0.
+// A backup of these datafiles alone, in sets or none, with this tag: a copy, if it is of level 0.
 fn backup(
     alloc: Global,
     level: Option<u8>,
+    files_per_set: Option<u8>,
     tag: &str,
     files: Vec<u64>,
 ) -> Result<Command, NoMemory> {
@@ -48,23 +49,26 @@ fn backup(
         cumulative: false,
         merge_tag: None,
         files: Some(Seq::from_vec(files)),
+        files_per_set,
         tag: Some(Text::from_string(String::from_str(alloc, tag)?)),
         keep: false,
         during: None,
     }))
 }
 
-/// Backups, each by its level, its tag and its datafiles.
+/// Backups, each by its level, how many datafiles a set holds, its tag and its datafiles.
 #[derive(Drop)]
 pub struct Backups;
 
 impl Told for Backups {
     fn told(&mut self, alloc: Global, asked: &str) -> Result<String, Fault> {
         let (level, rest) = head(asked);
+        let (per_set, rest) = head(rest);
         let (tag, files) = head(rest);
         let level = level.parse::<u8>().ok();
+        let per_set = per_set.parse::<u8>().ok();
         let files = numbers::<u64>(alloc, files)?;
-        let backup = backup(alloc, level, unquoted(tag), files)?;
+        let backup = backup(alloc, level, per_set, unquoted(tag), files)?;
         shown(alloc, is_command(&backup))
     }
 }

@@ -6,7 +6,7 @@ use rm_base::{
     Absent, Bad, Block, LAST_MOMENT, Limit, NoMemory, Policy, Refusal, Seq, Status, Text, Unknown,
 };
 use rm_history::Standing;
-use rm_report::{Line, Reply, SchemaPlace, Shape, bytes_of};
+use rm_report::{Line, Packing, Reply, SchemaPlace, Shape, bytes_of};
 use std::alloc::Global;
 
 /// How many numbers there are for the lines of one kind.
@@ -59,11 +59,11 @@ pub fn changing(number: u32) -> Option<Line>
 }
 
 // A backup of datafile 1 at checkpoint 5.
-fn backed_up(copy: bool, shape: Shape, reads: u64) -> Line
+fn backed_up(packing: Packing, shape: Shape, reads: u64) -> Line
     ensures { LineHasDate result }
 {
     Line::BackedUp {
-        copy,
+        packing,
         id: 1,
         file: 1,
         shape,
@@ -87,10 +87,14 @@ pub fn recovering(number: u32) -> Option<Line>
     ensures { IfSome result LineHasDate }
 {
     Some(match number {
-        0 => backed_up(true, Shape::Full, 2),
-        1 => backed_up(true, Shape::Level0, 2),
-        2 => backed_up(false, Shape::Full, 2),
-        3 => backed_up(false, Shape::Level1 { from: 3 }, 18_446_744_073_709_551_615),
+        0 => backed_up(Packing::Copy, Shape::Full, 2),
+        1 => backed_up(Packing::Copy, Shape::Level0, 2),
+        2 => backed_up(Packing::Piece, Shape::Full, 2),
+        3 => backed_up(
+            Packing::Piece,
+            Shape::Level1 { from: 3 },
+            18_446_744_073_709_551_615,
+        ),
         4 => Line::Skipped {
             id: 7,
             bad: Bad::Missing,
@@ -168,6 +172,8 @@ pub fn recovering(number: u32) -> Option<Line>
             block: 2,
             version: 281_474_976_710_654,
         },
+        21 => backed_up(Packing::Set, Shape::Level0, 8),
+        22 => backed_up(Packing::Set, Shape::Level1 { from: 3 }, 0),
         _ => return None,
     })
 }
@@ -284,12 +290,12 @@ fn log(keep: bool, status: Status) -> Line
     }
 }
 
-// A piece or a copy that is recorded.
-fn piece(copy: bool, shape: Shape, tag: Text, keep: bool) -> Line
+// A piece, a copy or a part of a set that is recorded.
+fn piece(packing: Packing, shape: Shape, tag: Text, keep: bool) -> Line
     ensures { LineHasDate result }
 {
     Line::PieceIs {
-        copy,
+        packing,
         id: 3,
         file: 1,
         shape,
@@ -308,8 +314,14 @@ pub fn records(alloc: Global, number: u32) -> Result<Option<Line>, NoMemory>
     let line = match number {
         0 => log(false, Status::Available),
         1 => log(true, Status::Expired),
-        2 => piece(false, Shape::Level1 { from: 2 }, name(alloc, "INC")?, false),
-        3 => piece(true, Shape::Level0, name(alloc, "WEEK_1")?, true),
+        2 => piece(
+            Packing::Piece,
+            Shape::Level1 { from: 2 },
+            name(alloc, "INC")?,
+            false,
+        ),
+        3 => piece(Packing::Copy, Shape::Level0, name(alloc, "WEEK_1")?, true),
+        4 => piece(Packing::Set, Shape::Full, name(alloc, "ALL")?, false),
         _ => return Ok(None),
     };
     Ok(Some(line))

@@ -20,8 +20,9 @@ returns c =
     let level = rw kind at c.in_ok-append-2.ensures in
     let merge = rw level at c.in_ok-append-3.ensures in
     let files = rw merge at c.in_ok-append-4.ensures in
-    let tag = rw files at c.in_ok-append-5.ensures in
-    let keep = rw tag at c.in_ok-append-6.ensures in
-    let during = rw keep at c.in_ok-append-7.ensures in
-    let told = (rw during at c.in_ok-sign.ensures) ∙ joined (Word (codes "BACKUP") ∷ []) c.in_ok-kind.field-0 c.in_ok-level.field-0 c.in_ok-merge.field-0 c.in_ok-files.field-0 c.in_ok-tag.field-0 c.in_ok-keep.field-0 c.in_ok-during.field-0 (Sign 59 ∷ []) in
-    rw (c.in_ok-kind.ensures, c.in_ok-level.ensures, c.in_ok-merge.ensures, c.in_ok-files.ensures, c.in_ok-tag.ensures, c.in_ok-keep.ensures, c.in_ok-during.ensures) at told
+    let sets = rw files at c.in_ok-append-5.ensures in
+    let tag = rw sets at c.in_ok-append-6.ensures in
+    let keep = rw tag at c.in_ok-append-7.ensures in
+    let during = rw keep at c.in_ok-append-8.ensures in
+    let told = (rw during at c.in_ok-sign.ensures) ∙ joined (Word (codes "BACKUP") ∷ []) c.in_ok-kind.field-0 c.in_ok-level.field-0 c.in_ok-merge.field-0 c.in_ok-files.field-0 c.in_ok-sets.field-0 c.in_ok-tag.field-0 c.in_ok-keep.field-0 c.in_ok-during.field-0 (Sign 59 ∷ []) in
+    rw (c.in_ok-kind.ensures, c.in_ok-level.ensures, c.in_ok-merge.ensures, c.in_ok-files.ensures, c.in_ok-sets.ensures, c.in_ok-tag.ensures, c.in_ok-keep.ensures, c.in_ok-during.ensures) at told
