@@ -1,5 +1,5 @@
 -- Which datafiles a BACKUP takes, where the backup of each begins, and of which kind it is.
-use Rattle.std.specs.Prelude.{MatchBool, ℕ, ◌≡◌, ◌==◌, ◌&&◌, ◌||◌, ◌+◌, ◌*◌, not, if◌then◌else◌, is_none, Bool, true, false, Option, Some, None, List, [], ◌∷◌, Contains, length, map}
+use Rattle.std.specs.Prelude.{MatchBool, ℕ, zero, suc, ◌≡◌, ◌==◌, ◌&&◌, ◌||◌, ◌+◌, ◌*◌, not, if◌then◌else◌, is_none, Bool, true, false, Option, Some, None, List, [], ◌∷◌, Contains, drop, length, map, sum_by, take}
 use Rattle.std.specs.List.{find, list_any}
 use Rattle.std.specs.Option.{option_and_then, option_map, option_map_or}
 use Rattle.sha2.specs.Sha256.{sha256}
@@ -9,11 +9,16 @@ use Rattle.rm_base.specs.declared.kinds.Kind.TheVariants as kind
 use Rattle.rm_base.specs.declared.kinds.Status.TheVariants.{Available}
 use Rattle.rm_backup.specs.Parents.{IsParent}
 use Rattle.rm_catalog.specs.declared.record.PieceEntry.{PieceEntry}
+use Rattle.rm_catalog.specs.declared.record.SetEntry.{SetEntry}
+use Rattle.rm_catalog.specs.declared.record.SetPart.{SetPart}
 use Rattle.rm_lang_statement.specs.declared.command.BackupForm.{BackupForm}
 use Rattle.rm_history.specs.declared.world.Datafile.{Datafile}
 use Rattle.rm_history.specs.World.{exists, file_of}
 use Rattle.rm_moments.specs.Text.{IsTag}
 use Rattle.rm_piece.specs.declared.piece.Piece.{Piece}
+use Rattle.rm_piece.specs.declared.set.Set.{Set}
+use Rattle.rm_piece.specs.declared.set.SetFile.{SetFile}
+use Rattle.rm_piece.specs.SetSpelling.{set_spelling, spelled}
 use Rattle.rm_piece.specs.Rows.{from_on}
 use Rattle.rm_piece.specs.Spelling.{spelling}
 use Rattle.rm_report.specs.declared.line.Line.{Line}
@@ -21,6 +26,7 @@ use Rattle.rm_report.specs.declared.line.Line.TheVariants.{NothingToBackUp}
 use Rattle.rm_catalog_typed.specs.TypedCatalog.{records_of}
 use Rattle.rm_machine.specs.declared.job.Job.{Job}
 use Rattle.rm_machine.specs.declared.state.State.{State}
+use Rattle.rm_machine.specs.Marks.{set_bytes}
 use Rattle.rm_machine.specs.State.{ledger, world, current_of, now_of, on_path, placed}
 use Rattle.rm_machine.specs.Until.{or_else}
 
@@ -99,6 +105,27 @@ abbrev pub IsTagBy : Option (List ℕ) → ℕ → List ℕ → Type 0
 IsTagBy (Some name) moment tag = tag ≡ name
 IsTagBy None moment tag = IsTag moment tag
 
+-- The objects that are made
+
+-- lists of n, the last one possibly shorter: n at a time of what is left, at most `most` times
+abbrev pub cut : {A : Type 0} → ℕ → ℕ → List A → List (List A)
+cut zero n xs = []
+cut (suc most) n [] = []
+cut (suc most) n (x ∷ xs) = take n (x ∷ xs) ∷ cut most n (drop n (x ∷ xs))
+
+-- what goes into one object: each datafile by itself, or n of them
+abbrev pub grouped : {A : Type 0} → Option ℕ → List A → List (List A)
+grouped None xs = map (λ x. x ∷ []) xs
+grouped (Some n) xs = cut (length xs) n xs
+
+-- the datafiles of each object
+abbrev pub objects_of : State → BackupForm → List (List ℕ)
+objects_of s b = grouped b.files_per_set (taken s b)
+
+-- what an object of these datafiles counts as
+abbrev pub object_bytes : State → BackupForm → List ℕ → ℕ
+object_bytes s b files = if is_none b.files_per_set then sum_by (piece_bytes s) files else set_bytes (world s) files
+
 -- the record of a piece, under this id
 abbrev pub piece_entry : Bool → Bool → List ℕ → ℕ → ℕ → Piece → PieceEntry
 piece_entry copy keep tag moment id a =
@@ -114,6 +141,26 @@ piece_entry copy keep tag moment id a =
       rows = length a.rows;
       size = length (spelling a);
       sha = sha256 (spelling a);
+      status = Available;
+      keep = keep;
+      tag = tag;
+      moment = moment;
+    }
+
+-- what a set's record says of a member; the rows that are counted are those that stand in the bytes
+abbrev pub part_of : SetFile → SetPart
+part_of m = record { file = m.piece.file; kind = m.piece.kind; from = m.piece.from; high = m.piece.high; rows = length (spelled m) }
+
+-- the record of a set, under this id
+abbrev pub set_entry : Bool → List ℕ → ℕ → ℕ → Set → SetEntry
+set_entry keep tag moment id a =
+    record {
+      id = id;
+      inc = a.inc;
+      checkpoint = a.checkpoint;
+      parts = map part_of a.members;
+      size = length (set_spelling a);
+      sha = sha256 (set_spelling a);
       status = Available;
       keep = keep;
       tag = tag;

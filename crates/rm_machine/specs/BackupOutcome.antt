@@ -12,7 +12,7 @@ use Rattle.rm_machine.specs.Asked.{span_of, writers_of}
 use Rattle.rm_machine.specs.Backup.{AreJobs, IsTagBy, named_tag, or_nothing, taken}
 use Rattle.rm_machine.specs.Effect.{Effect, Outcome, done}
 use Rattle.rm_machine.specs.Events.{after_events, changes_of, opening}
-use Rattle.rm_machine.specs.MadePieces.{Copied, after_pieces, copied, piece_lines, pieces_made, pieces_put}
+use Rattle.rm_machine.specs.MadeObjects.{Packed, after_objects, object_lines, objects_made, objects_put, packed}
 use Rattle.rm_machine.specs.Marks.{marked_for}
 use Rattle.rm_machine.specs.declared.job.Job.{Job}
 use Rattle.rm_machine.specs.declared.state.State.{State}
@@ -36,23 +36,23 @@ begun s b = with_tracker (marked s b) (switch_all (now_of s) (taken s b) s.insta
 abbrev pub at_end : State → BackupForm → List Event → State
 at_end s b events = after_events (begun s b) events
 
--- what pieces and events leave outside
-abbrev pub effect_of : State → BackupForm → List ℕ → List Event → List Copied → Effect
+-- what objects and events leave outside
+abbrev pub effect_of : State → BackupForm → List ℕ → List Event → List Packed → Effect
 effect_of s b tag events xs =
     record {
       changes = changes_of (begun s b) events;
-      made = pieces_made (at_end s b events) b tag xs;
-      puts = pieces_put (at_end s b events) b tag xs;
+      made = objects_made (at_end s b events) b tag xs;
+      puts = objects_put (at_end s b events) b tag xs;
       removes = [];
     }
 
--- the lines of pieces and writes
-abbrev pub lines_by : State → BackupForm → List ℕ → List Copied → List (List ℕ) → List Line
-lines_by t b tag xs scns = or_nothing (piece_lines t b tag xs) ++ write_lines 1 scns
+-- the lines of objects and writes
+abbrev pub lines_by : State → BackupForm → List ℕ → List Packed → List (List ℕ) → List Line
+lines_by t b tag xs scns = or_nothing (object_lines t b tag xs) ++ write_lines 1 scns
 
 -- There is a legal list of events over the database at its start: one read of each block that is wanted of each datafile and one write
--- of each that is asked for, those of a thread in their order, and nothing else. Each write took an SCN. The pieces have the rows that
--- the reads found, and `now` at the start as their checkpoint; the database has the writes.
+-- of each that is asked for, those of a thread in their order, and nothing else. Each write took an SCN. The objects have the rows
+-- that the reads found, and `now` at the start as their checkpoint; the database has the writes.
 pub record IsBackupOutcome (s : State) (b : BackupForm) (o : Outcome) : Type 0 where
   pub tag : List ℕ
   pub tagged : IsTagBy (named_tag b) (ledger s).base.moment tag
@@ -65,6 +65,6 @@ pub record IsBackupOutcome (s : State) (b : BackupForm) (o : Outcome) : Type 0 w
   pub events : List Event
   pub legal : IsLegal (opening (begun s b)) events
   pub these : AreThese (deeds_of (map (span_of (begun s b)) jobs) rows 1 (writers_of s b) (map (map Ok) scns)) (map deed events)
-  pub is : o ≡ done (lines_by (at_end s b events) b tag (copied (ledger s) b (now_of s) jobs rows) scns)
-      (effect_of s b tag events (copied (ledger s) b (now_of s) jobs rows))
-      (after_pieces (at_end s b events) b tag (copied (ledger s) b (now_of s) jobs rows))
+  pub is : o ≡ done (lines_by (at_end s b events) b tag (packed (ledger s) b (now_of s) jobs rows) scns)
+      (effect_of s b tag events (packed (ledger s) b (now_of s) jobs rows))
+      (after_objects (at_end s b events) b tag (packed (ledger s) b (now_of s) jobs rows))

@@ -13,7 +13,7 @@ use Rattle.rm_history.specs.declared.world.Datafile.{Datafile}
 use Rattle.rm_redo.specs.Online.{thread_records}
 use Rattle.rm_lang_statement.specs.declared.command.BackupForm.{BackupForm}
 use Rattle.rm_lang_statement.specs.declared.command.WriteForm.{WriteForm}
-use Rattle.rm_machine.specs.Backup.{absent, lost_taken, piece_bytes, taken}
+use Rattle.rm_machine.specs.Backup.{absent, lost_taken, object_bytes, objects_of, taken}
 use Rattle.rm_machine.specs.Damage.{has_block}
 use Rattle.rm_machine.specs.Marks.{lacks_bytes, lacks_ids, lacks_room, marks_before}
 use Rattle.rm_machine.specs.declared.state.State.{State}
@@ -70,12 +70,12 @@ damage_refusal s b =
     option_map_or (λ x. Some (Rm17 x.file x.block)) (damaged_taken s b)
     (option_map (λ w. Rm17 w.file w.block) (damaged_write s (writes_in b)))
 
--- why the pieces can't be made or the writes not be kept: too few records, bytes, ids, or log records are left, or SCNs; or a block is damaged
+-- why the objects can't be made or the writes not be kept: too few records, bytes, ids, or log records are left, or SCNs; or a block is damaged
 abbrev pub room_refusal : State → BackupForm → Option Refusal
 room_refusal s b =
-    if lacks_room s (length (taken s b) + mark_count s b) then Some (Rm11 Records)
-    else if lacks_bytes s (sum_by (piece_bytes s) (taken s b)) then Some (Rm11 Bytes)
-    else if lacks_ids s (length (taken s b)) then Some (Rm11 ObjectIds)
+    if lacks_room s (length (objects_of s b) + mark_count s b) then Some (Rm11 Records)
+    else if lacks_bytes s (sum_by (object_bytes s b) (objects_of s b)) then Some (Rm11 Bytes)
+    else if lacks_ids s (length (objects_of s b)) then Some (Rm11 ObjectIds)
     else if lacks_logs s (writes_in b) 1 (ledger s).base.threads then Some (Rm11 LogRecords)
     else if nat_lt last_scn (now_of s + length (writes_in b)) then Some Rm15
     else damage_refusal s b

@@ -1,5 +1,5 @@
 -- Why a BLOCKRECOVER is refused.
-use Rattle.std.specs.Prelude.{ℕ, ◌+◌, not, nat_lt, nat_le, if◌then◌else◌, is_none, true, Option, Some, None, List, find, length}
+use Rattle.std.specs.Prelude.{ℕ, ◌+◌, not, nat_lt, nat_le, if◌then◌else◌, is_none, true, Option, Some, None, find, length}
 use Rattle.std.specs.Option.{option_and_then, option_map, option_map_or}
 use Rattle.rm_base.specs.Numbers.{last_scn}
 use Rattle.rm_base.specs.declared.refusal.Absent.{Absent}

@@ -6,6 +6,7 @@ use Rattle.rm_base.specs.declared.refusal.Refusal.{Refusal}
 use Rattle.rm_commit.specs.declared.commit.Object.{Object}
 use Rattle.rm_commit.specs.Names.{HasPuts, HasRemoves}
 use Rattle.rm_piece.specs.declared.piece.Piece.{Piece}
+use Rattle.rm_piece.specs.declared.set.Set.{Set}
 use Rattle.rm_redo.specs.declared.log_file.LogFile.{LogFile}
 use Rattle.rm_report.specs.declared.line.Line.{Line}
 use Rattle.rm_machine.specs.declared.state.State.{State}
@@ -14,6 +15,7 @@ use Rattle.rm_machine.specs.declared.state.State.{State}
 pub data Artefact : Type 0 where
   a_log : LogFile → Artefact
   a_piece : Piece → Artefact
+  a_set : Set → Artefact
 
 -- an artefact, under the name of its object
 pub record Made : Type 0 where

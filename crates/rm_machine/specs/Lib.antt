@@ -26,7 +26,9 @@ pub mod Loading
 pub mod LoseDatafile
 pub mod LoseLog
 pub mod Machine
+pub mod MadeObjects
 pub mod MadePieces
+pub mod MadeSets
 pub mod Marks
 pub mod Meant
 pub mod Mount

@@ -8,6 +8,7 @@ use Rattle.rm_base.specs.declared.kinds.Kind.TheVariants.{Level1}
 use Rattle.rm_blocks.specs.File.{File, base_of}
 use Rattle.rm_catalog.specs.declared.record.LogEntry.{LogEntry}
 use Rattle.rm_catalog.specs.declared.record.PieceEntry.{PieceEntry}
+use Rattle.rm_catalog.specs.declared.record.SetEntry.{SetEntry}
 use Rattle.rm_history.specs.declared.tree.Incarnation.{Incarnation}
 use Rattle.rm_history.specs.declared.world.Datafile.{Datafile}
 use Rattle.rm_history.specs.declared.world.World.{World}
@@ -18,9 +19,13 @@ use Rattle.rm_history.specs.Tree.{IsThere, end_of}
 use Rattle.rm_history.specs.World.{exists}
 use Rattle.rm_track.specs.Told.{Tell}
 use Rattle.rm_catalog_typed.specs.Ledger.{Ledger}
-use Rattle.rm_evidence.specs.Names.{log_name, piece_name}
-use Rattle.rm_evidence.specs.Objects.{HasDigest, HasLogFields, HasPieceFields}
+use Rattle.rm_evidence.specs.Database.{Database}
+use Rattle.rm_evidence.specs.Names.{log_name, piece_name, set_name}
+use Rattle.rm_evidence.specs.Objects.{HasDigest, HasLogFields, HasPieceFields, HasSetFields}
 use Rattle.rm_piece.specs.declared.piece.Piece.{Piece}
+use Rattle.rm_piece.specs.declared.set.Set.{Set}
+use Rattle.rm_piece.specs.Sets.{IsSet}
+use Rattle.rm_piece.specs.SetSpelling.{set_spelling}
 use Rattle.rm_piece.specs.Artefacts as piece
 use Rattle.rm_piece.specs.Spelling as piece_format
 use Rattle.rm_piece.specs.Valid.{IsPiece}
@@ -29,10 +34,10 @@ use Rattle.rm_redo.specs.LogFile.{log_of}
 use Rattle.rm_redo.specs.LogFormat as log_format
 use Rattle.rm_redo.specs.LogFormat.{IsLogFile}
 use Rattle.rm_machine.specs.Damage.{has_block, has_file}
-use Rattle.rm_machine.specs.Effect.{Artefact, a_log, a_piece, Made}
+use Rattle.rm_machine.specs.Effect.{Artefact, a_log, a_piece, a_set, Made}
 use Rattle.rm_machine.specs.Sound.{IsSound}
 use Rattle.rm_machine.specs.declared.state.State.{State}
-use Rattle.rm_machine.specs.State.{ledger, tree, world, current_of, now_of, placed, counted, online, is_lost}
+use Rattle.rm_machine.specs.State.{ledger, tree, world, database_of, current_of, now_of, placed, counted, online, is_lost}
 
 pub record Machine : Type 0 where
   -- the database, where there is one
@@ -55,21 +60,29 @@ PieceAgrees w h _ a = BaseAgrees w h (piece.base_of a)
 abbrev pub ArtefactAgrees : World → List Change → Artefact → Type 0
 ArtefactAgrees w h (a_log a) = LogAgrees h (log_of a)
 ArtefactAgrees w h (a_piece a) = PieceAgrees w h a.kind a
+ArtefactAgrees w h (a_set a) = All (λ m. PieceAgrees w h m.piece.kind m.piece) a.members
 
 -- it is valid
 abbrev pub IsValidArtefact : Artefact → Type 0
 IsValidArtefact (a_log a) = IsLogFile a
 IsValidArtefact (a_piece a) = IsPiece a
+IsValidArtefact (a_set a) = IsSet a
 
--- it is of an incarnation that is there, up to its end
+-- the piece is of an incarnation that is there, up to its end
+abbrev pub PieceEndsWithin : List Incarnation → Piece → Type 0
+PieceEndsWithin tree a = IsThere tree a.inc × (a.checkpoint ≤ a.high) × (a.high ≤ end_of tree a.inc)
+
+-- so is the artefact, a set by each of its pieces
 abbrev pub EndsWithin : List Incarnation → Artefact → Type 0
 EndsWithin tree (a_log a) = IsThere tree a.inc × (a.next ≤ end_of tree a.inc)
-EndsWithin tree (a_piece a) = IsThere tree a.inc × (a.checkpoint ≤ a.high) × (a.high ≤ end_of tree a.inc)
+EndsWithin tree (a_piece a) = PieceEndsWithin tree a
+EndsWithin tree (a_set a) = All (λ m. PieceEndsWithin tree m.piece) a.members
 
--- a piece is of a datafile that is there
+-- a piece is of a datafile that is there, and so is each piece of a set
 abbrev pub IsOfDatafile : World → Artefact → Type 0
 IsOfDatafile w (a_log a) = Unit {0}
 IsOfDatafile w (a_piece a) = a.file ≤ length w.files
+IsOfDatafile w (a_set a) = All (λ m. m.piece.file ≤ length w.files) a.members
 
 -- what is true of each artefact that was ever recorded
 pub record IsTrueArtefact (w : World) (h : List Change) (a : Artefact) : Type 0 where
@@ -97,10 +110,18 @@ pub record HasPieceArtefact (objects : Held) (made : List Made) (touched : List 
   pub digest : HasDigest (piece_format.spelling artefact) p.size p.sha
   pub there : HoldsUnder objects touched (piece_name p.copy p.id) (piece_format.spelling artefact)
 
+pub record HasSetArtefact (objects : Held) (made : List Made) (touched : List (List ℕ)) (base : Database) (e : SetEntry) : Type 0 where
+  pub artefact : Set
+  pub is : Contains made (record { name = set_name e.id; artefact = a_set artefact })
+  pub fields : HasSetFields base e artefact
+  pub digest : HasDigest (set_spelling artefact) e.size e.sha
+  pub there : HoldsUnder objects touched (set_name e.id) (set_spelling artefact)
+
 -- each record has its artefact
 pub record HaveArtefacts (objects : Held) (made : List Made) (touched : List (List ℕ)) (l : Ledger) : Type 0 where
   pub logs : (e : LogEntry) → Contains l.logs e → HasLogArtefact objects made touched e
   pub pieces : (e : PieceEntry) → Contains l.pieces e → HasPieceArtefact objects made touched e
+  pub sets : (e : SetEntry) → Contains l.sets e → HasSetArtefact objects made touched (database_of l) e
 
 -- each row is the state of its block at (i, s)
 abbrev pub RowsAre : World → List Change → ℕ → ℕ → File → Type 0
@@ -147,6 +168,8 @@ pub record DigestsTellFor (objects : Held) (made : List Made) (touched : List (L
       → objects (log_name e.id) ≡ Some bytes → HasDigest bytes e.size e.sha → bytes ≡ log_format.spelling a
   pub pieces : (e : PieceEntry) (a : Piece) (bytes : List ℕ) → Contains touched (piece_name e.copy e.id) → Contains l.pieces e → Contains made (record { name = piece_name e.copy e.id; artefact = a_piece a }) → HasDigest (piece_format.spelling a) e.size e.sha
       → objects (piece_name e.copy e.id) ≡ Some bytes → HasDigest bytes e.size e.sha → bytes ≡ piece_format.spelling a
+  pub sets : (e : SetEntry) (a : Set) (bytes : List ℕ) → Contains touched (set_name e.id) → Contains l.sets e → Contains made (record { name = set_name e.id; artefact = a_set a }) → HasDigest (set_spelling a) e.size e.sha
+      → objects (set_name e.id) ≡ Some bytes → HasDigest bytes e.size e.sha → bytes ≡ set_spelling a
 
 abbrev pub TellBy : Option State → Held → List Made → List (List ℕ) → Type 0
 TellBy None objects made touched = Unit {0}

@@ -1,26 +1,24 @@
--- The pieces that are made of what was read of datafiles, and what their recording comes to.
-use Rattle.std.specs.Prelude.{ℕ, ◌≤◌, ◌+◌, unwrap_or, Bool, List, [], ◌∷◌, All, length}
+-- A piece that is made of what was read of a datafile, and what its recording comes to.
+use Rattle.std.specs.Prelude.{ℕ, unwrap_or, Bool, List, [], ◌∷◌, length}
 use Rattle.rm_base.specs.declared.block.Row.{Row}
 use Rattle.rm_catalog.specs.declared.record.PieceEntry.{PieceEntry}
 use Rattle.rm_commit.specs.declared.commit.Object.{Object}
 use Rattle.rm_history.specs.Artefacts.{high_of}
 use Rattle.rm_history.specs.World.{blocks_of}
-use Rattle.rm_catalog_typed.specs.LedgerFacts.{IsPieceEntry}
-use Rattle.rm_catalog_typed.specs.Ledger.{Ledger, ledger_records}
+use Rattle.rm_catalog_typed.specs.Ledger.{Ledger}
 use Rattle.rm_evidence.specs.Names.{piece_name}
 use Rattle.rm_piece.specs.declared.piece.Piece.{Piece}
 use Rattle.rm_piece.specs.Spelling.{spelling}
-use Rattle.rm_piece.specs.Valid.{IsPiece}
 use Rattle.rm_report.specs.declared.line.Line.{Line}
 use Rattle.rm_report.specs.declared.line.Line.TheVariants.{BackedUp}
 use Rattle.rm_catalog_typed.specs.Changes.{with_new_piece}
 use Rattle.rm_lang_statement.specs.declared.command.BackupForm.{BackupForm}
 use Rattle.rm_machine.specs.Backup.{is_copy, kind_by, piece_entry, rows_from}
 use Rattle.rm_machine.specs.Effect.{Made, a_piece}
-use Rattle.rm_machine.specs.Lists.{shape_by}
+use Rattle.rm_machine.specs.Lists.{packing_by, shape_by}
 use Rattle.rm_machine.specs.declared.job.Job.{Job}
 use Rattle.rm_machine.specs.declared.state.State.{State}
-use Rattle.rm_machine.specs.State.{ledger, tree, world_of}
+use Rattle.rm_machine.specs.State.{ledger, world_of}
 
 -- by the records, the piece of a datafile of which these rows were read, with this checkpoint
 abbrev pub piece_by : Ledger → BackupForm → ℕ → Job → List Row → Piece
@@ -60,7 +58,7 @@ pub record Copied : Type 0 where
 -- its line, under the next id
 abbrev pub line_for : State → Copied → Line
 line_for s x =
-    BackedUp x.copy (ledger s).base.next_id x.piece.file (shape_by x.piece.kind x.piece.from) x.piece.checkpoint (length x.piece.rows) x.reads
+    BackedUp (packing_by x.copy) (ledger s).base.next_id x.piece.file (shape_by x.piece.kind x.piece.from) x.piece.checkpoint (length x.piece.rows) x.reads
 
 -- by the records, the pieces of these datafiles, of which these rows were read, with this checkpoint
 abbrev pub copied : Ledger → BackupForm → ℕ → List Job → List (List Row) → List Copied
@@ -68,27 +66,3 @@ copied l b checkpoint [] rows = []
 copied l b checkpoint (j ∷ js) [] = []
 copied l b checkpoint (j ∷ js) (rs ∷ rows) =
     record { copy = is_copy b j; piece = piece_by l b checkpoint j rs; reads = length rs } ∷ copied l b checkpoint js rows
-
--- the database after these pieces are recorded, one after another, with what is made, the objects and the lines
-abbrev pub after_pieces : State → BackupForm → List ℕ → List Copied → State
-after_pieces s b tag [] = s
-after_pieces s b tag (x ∷ xs) = after_pieces (after_piece s b tag x.copy x.piece) b tag xs
-
-abbrev pub pieces_made : State → BackupForm → List ℕ → List Copied → List Made
-pieces_made s b tag [] = []
-pieces_made s b tag (x ∷ xs) = made_for s x.copy x.piece ∷ pieces_made (after_piece s b tag x.copy x.piece) b tag xs
-
-abbrev pub pieces_put : State → BackupForm → List ℕ → List Copied → List Object
-pieces_put s b tag [] = []
-pieces_put s b tag (x ∷ xs) = object_for s x.copy x.piece ∷ pieces_put (after_piece s b tag x.copy x.piece) b tag xs
-
-abbrev pub piece_lines : State → BackupForm → List ℕ → List Copied → List Line
-piece_lines s b tag [] = []
-piece_lines s b tag (x ∷ xs) = line_for s x ∷ piece_lines (after_piece s b tag x.copy x.piece) b tag xs
-
--- the pieces can be recorded: each is valid, its record would be one of the database, and there is room for all
-pub record CanRecord (s : State) (b : BackupForm) (tag : List ℕ) (xs : List Copied) : Type 0 where
-  pub valid : All (λ x. IsPiece x.piece) xs
-  pub entries : All (λ x. IsPieceEntry (tree s) (ledger s).files (entry_for s b tag x.copy x.piece)) xs
-  pub records : length (ledger_records (ledger s)) + length xs ≤ 65536
-  pub ids : (ledger s).base.next_id + length xs + 68 ≤ 4294967295

@@ -1,15 +1,17 @@
 -- The marks that statements write, and the room for records, bytes and ids.
-use Rattle.std.specs.Prelude.{ℕ, ◌+◌, ◌&&◌, ◌++◌, nat_lt, if◌then◌else◌, is_none, Bool, Option, Some, None, List, [], ◌∷◌, length, sum_by}
+use Rattle.std.specs.Prelude.{ℕ, ◌+◌, ◌*◌, ◌&&◌, ◌++◌, nat_lt, if◌then◌else◌, is_none, Bool, Option, Some, None, List, [], ◌∷◌, length, map, sum_by}
 use Rattle.rm_base.specs.declared.block.Mark.{Mark}
 use Rattle.rm_base.specs.declared.refusal.Refusal.{Refusal}
 use Rattle.rm_base.specs.declared.refusal.Refusal.TheVariants.{Rm11}
 use Rattle.rm_base.specs.declared.refusal.Limit.TheVariants.{ObjectIds}
 use Rattle.rm_catalog.specs.Objects.{most_bytes}
+use Rattle.rm_history.specs.declared.world.World.{World}
+use Rattle.rm_history.specs.World.{blocks_of}
 use Rattle.rm_catalog_typed.specs.Ledger.{Ledger, ledger_records}
 use Rattle.rm_catalog_typed.specs.Changes.{with_end_at}
 use Rattle.rm_catalog_typed.specs.TypedCatalog.{TypedCatalog}
 use Rattle.rm_machine.specs.declared.state.State.{State}
-use Rattle.rm_machine.specs.State.{ledger, current_of, now_of}
+use Rattle.rm_machine.specs.State.{ledger, current_of, now_of, world_of}
 
 -- the moment of the last mark, 0 before the first
 abbrev pub last_marked : ℕ → List Mark → ℕ
@@ -45,9 +47,13 @@ one_further s = with_end_at (with_marks s.catalog (marks_before s)) (current_of 
 abbrev pub lacks_room : State → ℕ → Bool
 lacks_room s n = nat_lt 0 n && nat_lt 65536 (length (ledger_records (ledger s)) + n)
 
--- the sizes that stand in records
+-- what a set of these datafiles counts as: 57 bytes, 37 for each of them, and 76 for each of their blocks, be they written or not
+abbrev pub set_bytes : World → List ℕ → ℕ
+set_bytes w files = 57 + 37 * length files + 76 * sum_by (blocks_of w) files
+
+-- what the recorded objects count as: logs and pieces by the sizes that stand in their records, sets by their datafiles
 abbrev pub bytes_in : Ledger → ℕ
-bytes_in l = sum_by (λ e. e.size) l.logs + sum_by (λ p. p.size) l.pieces
+bytes_in l = sum_by (λ e. e.size) l.logs + sum_by (λ p. p.size) l.pieces + sum_by (λ e. set_bytes (world_of l) (map (λ p. p.file) e.parts)) l.sets
 
 -- n bytes more would be too many
 abbrev pub lacks_bytes : State → ℕ → Bool

@@ -9,6 +9,7 @@ use Rattle.rm_catalog_typed.specs.Ledger.{Ledger}
 use Rattle.rm_evidence.specs.Names.{site_name}
 use Rattle.rm_evidence.specs.Objects.{HasDigest}
 use Rattle.rm_piece.specs.declared.piece.Piece.{Piece}
+use Rattle.rm_piece.specs.SetSpelling.{set_spelling}
 use Rattle.rm_piece.specs.Spelling as piece_format
 use Rattle.rm_piece.specs.Valid.{IsPiece}
 use Rattle.rm_redo.specs.declared.log_file.LogFile.{LogFile}
@@ -16,7 +17,7 @@ use Rattle.rm_redo.specs.declared.online.LogRecord.{LogRecord}
 use Rattle.rm_redo.specs.LogFormat as log_format
 use Rattle.rm_redo.specs.LogFormat.{IsLogFile}
 use Rattle.rm_catalog_typed.specs.TypedCatalog.{Saved}
-use Rattle.rm_machine.specs.Effect.{Artefact, a_log, a_piece}
+use Rattle.rm_machine.specs.Effect.{Artefact, a_log, a_piece, a_set}
 
 -- the part of a datafile, and that of a redo thread
 abbrev pub file_part : Saved → ℕ → Option PartEntry
@@ -81,8 +82,10 @@ pub record IsGoodLog (held : Held) (l : Ledger) (site : Saved) (t : ℕ) (a : Lo
 abbrev pub spelling_of : Artefact → List ℕ
 spelling_of (a_log a) = log_format.spelling a
 spelling_of (a_piece a) = piece_format.spelling a
+spelling_of (a_set a) = set_spelling a
 
 -- a part of a datafile is a piece, and one of a thread a log
 abbrev pub IsOfPart : PartEntry → Artefact → Type 0
 IsOfPart p (a_log a) = p.file ≡ 0
 IsOfPart p (a_piece a) = 0 < p.file
+IsOfPart p (a_set a) = ⊥

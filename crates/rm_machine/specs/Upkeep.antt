@@ -1,4 +1,4 @@
--- CHANGE BACKUP, DELETE BACKUP, CROSSCHECK and DELETE EXPIRED: records of logs and pieces, by their ids and classes
+-- CHANGE BACKUP, DELETE BACKUP, CROSSCHECK and DELETE EXPIRED: records of logs, pieces and sets, by their ids and classes
 use Rattle.std.specs.Prelude.{ℕ, ◌≡◌, ◌==◌, ◌&&◌, is_none, if◌then◌else◌, Bool, true, false, Option, Some, None, List, [], ◌∷◌, ◌++◌, Contains, filter, find, length, map}
 use Rattle.std.specs.Option.{option_map_or}
 use Rattle.rm_base.specs.Store.{Held}
@@ -12,12 +12,13 @@ use Rattle.rm_base.specs.declared.refusal.Unknown.TheVariants.{Entry}
 use Rattle.rm_apply.specs.Files.{AreExactly}
 use Rattle.rm_catalog.specs.declared.record.LogEntry.{LogEntry}
 use Rattle.rm_catalog.specs.declared.record.PieceEntry.{PieceEntry}
+use Rattle.rm_catalog.specs.declared.record.SetEntry.{SetEntry}
 use Rattle.rm_catalog.specs.declared.record.Record.{Record}
 use Rattle.rm_evidence.specs.Gathered.{Lists}
-use Rattle.rm_evidence.specs.Names.{log_name, piece_name}
+use Rattle.rm_evidence.specs.Names.{log_name, piece_name, set_name}
 use Rattle.rm_report.specs.declared.line.Line.{Line}
 use Rattle.rm_report.specs.declared.line.Line.TheVariants as line
-use Rattle.rm_catalog_typed.specs.Changes.{with_log, with_piece, without_log, without_piece}
+use Rattle.rm_catalog_typed.specs.Changes.{with_log, with_piece, with_set, without_log, without_piece, without_set}
 use Rattle.rm_catalog_typed.specs.TypedCatalog.{TypedCatalog, records_of}
 use Rattle.rm_lang_statement.specs.declared.command.ChangeTo.{ChangeTo}
 use Rattle.rm_lang_statement.specs.declared.command.ChangeTo.TheVariants.{Available, Keep, NoKeep, Unavailable, Uncatalog}
@@ -32,39 +33,45 @@ use Rattle.rm_machine.specs.declared.state.State.{State}
 abbrev pub with_catalog : State → TypedCatalog → State
 with_catalog s r = record s { catalog = r }
 
--- the log of this id, and the piece of this id
+-- the log of this id, the piece and the set
 abbrev pub log_at : TypedCatalog → ℕ → Option LogEntry
 log_at r n = find (λ e. e.id == n) r.ledger.logs
 
 abbrev pub piece_at : TypedCatalog → ℕ → Option PieceEntry
 piece_at r n = find (λ p. p.id == n) r.ledger.pieces
 
--- no log and no piece has this id
+abbrev pub set_at : TypedCatalog → ℕ → Option SetEntry
+set_at r n = find (λ e. e.id == n) r.ledger.sets
+
+-- no log, no piece and no set has this id
 abbrev pub is_unknown : TypedCatalog → ℕ → Bool
-is_unknown r n = is_none (log_at r n) && is_none (piece_at r n)
+is_unknown r n = is_none (log_at r n) && is_none (piece_at r n) && is_none (set_at r n)
 
 -- why a statement on the record of this id is refused: too few ids are left, or there is none
 abbrev pub record_refusal : State → ℕ → Option Refusal
 record_refusal s n = if lacks_ids s 0 then Some (Rm11 ObjectIds) else if is_unknown s.catalog n then Some (Rm12 (Entry n)) else None
 
--- the catalog where the log of this id, or the piece, is changed so
+-- the catalog where the log of this id, the piece or the set is changed so
 abbrev pub log_changed : (LogEntry → LogEntry) → ℕ → TypedCatalog → TypedCatalog
 log_changed f n r = option_map_or (λ e. with_log r (f e)) (log_at r n) r
 
 abbrev pub piece_changed : (PieceEntry → PieceEntry) → ℕ → TypedCatalog → TypedCatalog
 piece_changed f n r = option_map_or (λ p. with_piece r (f p)) (piece_at r n) r
 
--- where the record of this id has this status
+abbrev pub set_changed : (SetEntry → SetEntry) → ℕ → TypedCatalog → TypedCatalog
+set_changed f n r = option_map_or (λ e. with_set r (f e)) (set_at r n) r
+
+-- where the record of this id has this status; a set has one status for all of its parts
 abbrev pub with_status : Status → ℕ → TypedCatalog → TypedCatalog
-with_status st n r = piece_changed (λ p. record p { status = st }) n (log_changed (λ e. record e { status = st }) n r)
+with_status st n r = set_changed (λ e. record e { status = st }) n (piece_changed (λ p. record p { status = st }) n (log_changed (λ e. record e { status = st }) n r))
 
 -- where it is kept forever, or not
 abbrev pub with_keep : Bool → ℕ → TypedCatalog → TypedCatalog
-with_keep keep n r = piece_changed (λ p. record p { keep = keep }) n (log_changed (λ e. record e { keep = keep }) n r)
+with_keep keep n r = set_changed (λ e. record e { keep = keep }) n (piece_changed (λ p. record p { keep = keep }) n (log_changed (λ e. record e { keep = keep }) n r))
 
 -- without the record of this id
 abbrev pub without_record : ℕ → TypedCatalog → TypedCatalog
-without_record n r = without_piece (without_log r n) n
+without_record n r = without_set (without_piece (without_log r n) n) n
 
 -- the catalog after CHANGE BACKUP
 abbrev pub changed_to : ChangeTo → ℕ → TypedCatalog → TypedCatalog
@@ -88,7 +95,9 @@ IsChangeOutcome s n to o = o ≡ done (change_line to n ∷ []) no_effect (with_
 
 -- the name of the object of the record of this id
 abbrev pub names_at : ℕ → TypedCatalog → List (List ℕ)
-names_at n r = map (λ e. log_name e.id) (filter (λ e. e.id == n) r.ledger.logs) ++ map (λ p. piece_name p.copy p.id) (filter (λ p. p.id == n) r.ledger.pieces)
+names_at n r =
+    map (λ e. log_name e.id) (filter (λ e. e.id == n) r.ledger.logs) ++ map (λ p. piece_name p.copy p.id) (filter (λ p. p.id == n) r.ledger.pieces)
+    ++ map (λ e. set_name e.id) (filter (λ e. e.id == n) r.ledger.sets)
 
 -- an effect by which these names go
 abbrev pub removing : List (List ℕ) → Effect

@@ -18,9 +18,9 @@ abbrev pub is_available : Status → Bool
 is_available Available = true
 is_available _ = false
 
--- how many records of logs and pieces count as available
+-- how many records of logs, pieces and sets count as available
 abbrev pub count_available : Ledger → ℕ
-count_available l = count_by (λ e. is_available e.status) l.logs + count_by (λ p. is_available p.status) l.pieces
+count_available l = count_by (λ e. is_available e.status) l.logs + count_by (λ p. is_available p.status) l.pieces + count_by (λ e. is_available e.status) l.sets
 
 -- it tells exactly those that count as available and whose objects are missing or damaged, ascending by id, and how many were looked at
 pub record IsValidateOutcome (s : State) (held : Held) (o : Outcome) : Type 0 where

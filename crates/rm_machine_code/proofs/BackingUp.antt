@@ -1,34 +1,40 @@
--- BACKUP: what stands at the end of its events is sound, its pieces can be recorded, and what was not read is no candidate.
-use Rattle.std.proofs.Common.{◌≡◌, ◌⊎◌, ◌<◌, ◌≤◌, ◌+◌, ◌-◌, ◌∙◌, inl, inr, ℕ, List, [], ◌∷◌, Option, Some, None, Ok, Bool, true, false, true≢false, cond, is_none, refl, ap, sym, subst, arith, length, map, unwrap_or, All, AllPairs, Contains, get_or, slice_get, slice_index_or}
+-- BACKUP: what stands at the end of its events is sound, its objects can be recorded, and what was not read is no candidate.
+use Rattle.std.proofs.Common.{◌≡◌, ◌⊎◌, ◌<◌, ◌≤◌, ◌+◌, ◌-◌, ◌∙◌, ◌==◌, inl, inr, ℕ, List, [], ◌∷◌, Option, Some, None, Ok, Bool, true, false, true≢false, cond, is_none, refl, ap, sym, subst, arith, length, map, nat_le, nat_lt, sum_by, unwrap_or, All, AllPairs, Contains, IfSome, get_or, slice_get, slice_index_or}
 use Rattle.std.specs.Option.{option_and_then, option_map_or}
-use Rattle.std.proofs.lemmas.Bool.{cases_Bool}
+use Rattle.std.proofs.lemmas.Bool.{and_parts, cases_Bool, leb-true, ltb-false, ltb-true}
 use Rattle.std.proofs.lemmas.List.{get_or_default, length-map, length-replicate}
 use Rattle.std.proofs.lemmas.List.Elements.{All-cons, All-head, All-nil, All-tail, All-weaker, Contains-get_or}
 use Rattle.std.proofs.lemmas.Option.{slice_get-get_or}
 use Rattle.rm_base.specs.declared.block.Row.{Row}
-use Rattle.rm_base.proofs.Members.{none-in}
+use Rattle.rm_base.proofs.Members.{in-front, none-in}
 use Rattle.rm_base.proofs.Slots.{get-index}
 use Rattle.rm_blocks.specs.File.{File, standing}
 use Rattle.rm_catalog.specs.declared.record.BaseEntry.{BaseEntry}
 use Rattle.rm_catalog.specs.Objects.{IsTag}
-use Rattle.rm_channel.specs.Jobs.{AreRows, deeds_of}
+use Rattle.rm_channel.specs.Jobs.{AreRows, Span, deeds_of}
 use Rattle.rm_channel.specs.Made.{AreThese, deed}
 use Rattle.rm_history.specs.declared.world.Datafile.{Datafile}
+use Rattle.rm_history.specs.Tree.{owner}
 use Rattle.rm_history.specs.World.{blocks_of, exists, file_of}
-use Rattle.rm_track.specs.Bitmaps.{Tracked, candidates_at, candidates_of, tracked_at}
+use Rattle.rm_track.specs.Bitmaps.{Bitmap, Tracked, candidates_at, candidates_of, joined, oldest, tracked_at, unmarked}
 use Rattle.rm_track.specs.Bits.{IsMarked, blocks_from}
+use Rattle.rm_track.specs.Told.{starts_of}
 use Rattle.rm_track.proofs.Marks.{marked-below}
-use Rattle.rm_catalog_typed.specs.LedgerFacts.{IsPieceEntry}
 use Rattle.rm_catalog_typed.specs.Ledger.{ledger_records}
 use Rattle.rm_live.specs.declared.history.Event.{Event}
 use Rattle.rm_live.specs.History.{IsLegal}
+use Rattle.rm_live.specs.Ruled.{upto}
 use Rattle.rm_live.proofs.Totals.{length_upto}
 use Rattle.rm_piece.specs.Level1s.{IsRead}
-use Rattle.rm_piece.specs.Valid.{IsBefore, IsPiece}
+use Rattle.rm_piece.specs.Valid.{IsBefore}
+use Rattle.rm_lang_grammar.specs.Grammar.{in_range}
+use Rattle.rm_lang_grammar.specs.Spelling.{maybe_valid}
+use Rattle.rm_lang_statement.specs.Agreed.{agrees}
+use Rattle.rm_lang_statement.specs.IsCommand.{is_backup}
+use Rattle.rm_lang_statement.specs.Named.{are_named}
 use Rattle.rm_lang_statement.specs.declared.command.BackupForm.{BackupForm}
 use Rattle.rm_lang_statement.specs.declared.command.WriteForm.{WriteForm}
-use Rattle.rm_machine.specs.MadePieces.{entry_for, piece_by}
-use Rattle.rm_machine.specs.Backup.{AreJobs, is_copy, rows_in, taken}
+use Rattle.rm_machine.specs.Backup.{AreJobs, objects_of, rows_in, taken}
 use Rattle.rm_machine.specs.Marks.{marks_before}
 use Rattle.rm_machine.specs.Sound.{IsPlaced, IsSound}
 use Rattle.rm_machine.specs.Tracked.{AreTracked, switch_all, with_tracker}
@@ -42,14 +48,17 @@ use Rattle.rm_machine_code.proofs.ReadBlocks.{AreKnown, all-marked, blocks-marke
 use Rattle.rm_machine_code.proofs.Tracked.{tracked-switch_all}
 use Rattle.rm_machine.specs.Asked.{blocks_read, candidates_in, span_of, writers_of, writes_in}
 use Rattle.rm_machine.specs.Events.{opening}
-use Rattle.rm_machine.specs.MadePieces.{CanRecord, Copied, copied}
+use Rattle.rm_machine.specs.MadeObjects.{CanRecord, IsRecordable, Packed, packed}
 use Rattle.rm_machine.specs.BackupOutcome.{at_end, begun, marked}
 use Rattle.rm_machine.specs.BackupRefusal.{mark_count}
 use Rattle.rm_machine_code.proofs.BackupAccepted.{CanBeWritten, CanBackUp}
-use Rattle.rm_machine_code.proofs.Copies.{IsReady, all-copied, copied-same, few-copied, ready-entry, ready-valid}
+use Rattle.rm_machine_code.proofs.Copies.{IsReady, each-recordable, packed-many, packed-same}
+use Rattle.rm_machine_code.proofs.Groups.{mapped-sum, unmapped-pairs}
+use Rattle.rm_machine_code.proofs.MembersRead.{creation-by}
+use Rattle.rm_machine_code.proofs.TakenFiles.{taken-blocks, taken-few, taken-rise}
 use Rattle.rm_machine_code.proofs.BackupMarks.{count-marked, marked-same, sound-marked, unmarked-mark, with_mark}
 use Rattle.rm_machine_code.proofs.PiecesRead.{AreAll, BeginsBelow, IsCheckpoint, blocks-by}
-use Rattle.rm_machine_code.proofs.Deeds.{AllOf, WereRead, all-of, are-asked, are-read}
+use Rattle.rm_machine_code.proofs.Deeds.{AllOf, WereRead, are-asked, are-read}
 use Rattle.rm_machine_code.proofs.Walk.{AreAsked, CanGoOn, HasWalked, events-same, walk}
 use Rattle.rm_machine_code.proofs.Damaged.{damaged-same}
 
@@ -75,6 +84,32 @@ jobs-ready s b jobs sound are all k d inside =
 -- no more than are taken
 pub jobs-many : (s : State) (b : BackupForm) (jobs : List Job) → AreJobs s b jobs → length jobs ≡ length (taken s b)
 jobs-many s b jobs are = sym (length-map jobs (λ (j : Job). j.file)) ∙ ap (λ (fs : List ℕ). length fs) are.files
+
+-- their datafiles ascend
+jobs-rise : (s : State) (b : BackupForm) (jobs : List Job) → AreJobs s b jobs → AllPairs (λ (i j : Job). i.file < j.file) jobs
+jobs-rise s b jobs are = unmapped-pairs (λ m n. m < n) (λ (j : Job). j.file) jobs (subst (AllPairs (λ m n. m < n)) (sym are.files) (taken-rise s b))
+
+-- and have no more blocks than all together
+jobs-blocks : (s : State) (b : BackupForm) (jobs : List Job) → IsSound s → AreJobs s b jobs → sum_by (λ (j : Job). blocks_of (world s) j.file) jobs ≤ 131072
+jobs-blocks s b jobs sound are =
+    omega (arith, mapped-sum (blocks_of (world s)) (λ (j : Job). j.file) jobs, ap (sum_by (blocks_of (world s))) are.files, taken-blocks s b sound)
+
+-- one list of rows for each datafile
+pub rows-as-many : (u : State) (jobs : List Job) (rows : List (List Row)) → AreRows rows (map (span_of u) jobs) → length rows ≡ length jobs
+rows-as-many u jobs rows whole =
+    sym (length-map rows length) ∙ ap (λ (ns : List ℕ). length ns) whole ∙ length-map (map (span_of u) jobs) (λ (p : Span). length p.blocks) ∙ length-map jobs (span_of u)
+
+-- as many objects as were asked for
+pub objects-many : (s : State) (b : BackupForm) (jobs : List Job) (rows : List (List Row)) → AreJobs s b jobs → AreRows rows (map (span_of (begun s b)) jobs) → length (packed (ledger s) b (now_of s) jobs rows) ≡ length (objects_of s b)
+objects-many s b jobs rows are whole = packed-many (ledger s) b (now_of s) jobs rows (taken s b) (rows-as-many (begun s b) jobs rows whole) (jobs-many s b jobs are)
+
+-- a set that is asked for has one datafile or more
+pub per_set-some : (b : BackupForm) → is_backup b ≡ true → IfSome b.files_per_set (λ n. 1 ≤ n)
+per_set-some b valid = by b.files_per_set (and_parts (maybe_valid (in_range 1 64) b.files_per_set) _ (and_parts (maybe_valid are_named b.files) _ (and_parts (maybe_valid (in_range 0 1) b.level) _ (and_parts _ (agrees b.copy b) valid).0).1).1).0
+  where
+    by : (o : Option ℕ) → maybe_valid (in_range 1 64) o ≡ true → IfSome o (λ n. 1 ≤ n)
+    by None is = tt
+    by (Some n) is = leb-true 1 n (and_parts (nat_le 1 n) (nat_le n 64) is).0
 
 -- The mark before its writes
 
@@ -122,18 +157,30 @@ can-begun s b ws all =
       stands = marked-same (λ (q : State). placed q w.file) s b refl ∙ it.stands;
     }) ws all
 
--- the base facts stay until the pieces are recorded
+-- the base facts stay until the objects are recorded
 pub base-at_end : (s : State) (b : BackupForm) (events : List Event) → (ledger (at_end s b events)).base ≡ (ledger s).base
 base-at_end s b events = events-same (λ (q : State). (ledger q).base) (λ q w. refl) (λ q f row. refl) events (begun s b) ∙ marked-same (λ (q : State). (ledger q).base) s b refl
 
 pub files-at_end : (s : State) (b : BackupForm) (events : List Event) → (ledger (at_end s b events)).files ≡ (ledger s).files
 files-at_end s b events = events-same (λ (q : State). (ledger q).files) (λ q w. refl) (λ q f row. refl) events (begun s b) ∙ marked-same (λ (q : State). (ledger q).files) s b refl
 
--- so the pieces are those of the records at the start
-pub copied-at_end : (s : State) (b : BackupForm) (events : List Event) (checkpoint : ℕ) (jobs : List Job) (rows : List (List Row)) → copied (ledger (at_end s b events)) b checkpoint jobs rows ≡ copied (ledger s) b checkpoint jobs rows
-copied-at_end s b events checkpoint jobs rows =
+-- so the objects are those of the records at the start
+pub packed-at_end : (s : State) (b : BackupForm) (events : List Event) (checkpoint : ℕ) (jobs : List Job) (rows : List (List Row)) → packed (ledger (at_end s b events)) b checkpoint jobs rows ≡ packed (ledger s) b checkpoint jobs rows
+packed-at_end s b events checkpoint jobs rows =
     let base = base-at_end s b events in
-    copied-same (ledger (at_end s b events)) (ledger s) b checkpoint jobs rows (ap (λ (x : BaseEntry). x.dbid) base) (ap (λ (x : BaseEntry). x.current) base) (files-at_end s b events)
+    packed-same (ledger (at_end s b events)) (ledger s) b checkpoint jobs rows (ap (λ (x : BaseEntry). x.dbid) base) (ap (λ (x : BaseEntry). x.current) base) (files-at_end s b events)
+
+-- candidates are known from the oldest start on
+oldest-start : (xs : List Bitmap) (start : ℕ) → Contains (starts_of xs start) (oldest xs start)
+oldest-start [] start = in-front start []
+oldest-start (x ∷ xs) start = in-front x.start (starts_of xs start)
+
+known-from : (from : ℕ) (t : Tracked) (marks : List Bool) → candidates_of from t ≡ Some marks → oldest t.ended t.start ≤ from
+known-from from t marks is = by (nat_lt from (oldest t.ended t.start)) refl is
+  where
+    by : (below : Bool) → nat_lt from (oldest t.ended t.start) ≡ below → cond below None (Some (joined from t.ended (unmarked (length t.marks)))) ≡ Some marks → oldest t.ended t.start ≤ from
+    by true low none = absurd (cc none)
+    by false low some = ltb-false from (oldest t.ended t.start) low
 
 begins-below : (s : State) (from : Option ℕ) → BeginsWithin s from → BeginsBelow (now_of s) from
 begins-below s None is = tt
@@ -167,8 +214,8 @@ module _ (s : State) (b : BackupForm) (contents : All (λ (w : WriteForm). lengt
   abbrev pub ws : List WriteForm
   ws = writes_in b
 
-  abbrev pub xs : List Copied
-  xs = copied (ledger s) b (now_of s) jobs rows
+  abbrev pub xs : List Packed
+  xs = packed (ledger s) b (now_of s) jobs rows
 
   pub room : length (ledger_records (ledger s)) + mark_count s b ≤ 65536
   room = let all = can.records in omega (arith, all)
@@ -253,9 +300,29 @@ module _ (s : State) (b : BackupForm) (contents : All (λ (w : WriteForm). lengt
         let it = blocks-marked 0 marks n (Contains-get_or (blocks_from 0 marks) k 0 (omega (arith, inside, many))) in
         omega (arith, block-is k (get_or rs k e) (slice_get-get_or rs k e inside), it.1, marked-below marks it.0 it.2, marks-long)
 
-    all-read : (from : Option ℕ) → length rs ≡ length (blocks_read u (record { file = j.file; from = from })) → AreAll from (length rs) d.blocks
-    all-read None same = same ∙ length_upto 0 (length (rows_in u j.file)) ∙ rows-many
-    all-read (Some from) same = tt
+    -- it was created below the checkpoint
+    above : d.creation < now_of s
+    above = ltb-true d.creation (now_of s) (and_parts (nat_lt d.creation (now_of s)) (owner (tree s) (current_of s) d.creation == d.inc) is.taken.here).0
+
+    -- the bitmaps do not go back to its creation
+    known-above : (from : ℕ) (ms : List Bool) → AreKnown u.instance.tracker j.file (Some from) ms → d.creation < from
+    known-above from ms it =
+        let same : Some from ≡ Some it.from = it.begun in
+        let is_from : from ≡ it.from = cc in
+        let low : ℕ = oldest it.tracked.ended it.tracked.start in
+        let start = (goes-on.sound.tracker.each j.file it.tracked it.found).kept low (oldest-start it.tracked.ended it.tracked.start) in
+        let creation = creation-by u j.file d is.taken.some (marked-same (λ (q : State). slice_get (ledger q).files (j.file - 1)) s b refl ∙ is.taken.is) in
+        omega (arith, is_from, start.created, creation, known-from it.from it.tracked ms it.are)
+
+    -- so all blocks are read where the backup begins up to there
+    all-read : (from : Option ℕ) → length rs ≡ length (blocks_read u (record { file = j.file; from = from })) → AreAll d.creation from (length rs) d.blocks
+    all-read None same low = same ∙ length_upto 0 (length (rows_in u j.file)) ∙ rows-many
+    all-read (Some from) same low = by (candidates_at u.instance.tracker j.file from) refl
+      where
+        by : (o : Option (List Bool)) → candidates_at u.instance.tracker j.file from ≡ o → length rs ≡ d.blocks
+        by None none =
+            same ∙ ap (λ (o : Option (List Bool)). length (option_map_or (blocks_from 0) o (upto 0 (length (rows_in u j.file))))) none ∙ length_upto 0 (length (rows_in u j.file)) ∙ rows-many
+        by (Some ms) some = absurd (omega (arith, low, known-above from ms (known-by u.instance.tracker j.file (Some from) ms some)))
 
     pub ready-one : IsReady t (now_of s) j rs
     ready-one = record {
@@ -268,6 +335,7 @@ module _ (s : State) (b : BackupForm) (contents : All (λ (w : WriteForm). lengt
         inside = inside-all;
         each = λ k e inside. (walked.found j.file (get_or (blocks_read u j) k 0) (get_or rs k e) (were.each k (get_or rs k e) (slice_get-get_or rs k e inside))).1;
       };
+      above = above;
       all = all-read j.from were.many;
       begins = begins-below s j.from is.begins;
     }
@@ -313,17 +381,17 @@ module _ (s : State) (b : BackupForm) (contents : All (λ (w : WriteForm). lengt
       of-each (IsReadyToRead s) (WereRead u (map deed events)) (IsReady t (now_of s)) ready-one jobs rows (jobs-ready s b jobs sound are can.taken)
       (are-read u (writers_of s b) jobs rows scns events whole these)
 
-  pub same : copied (ledger t) b (now_of s) jobs rows ≡ xs
-  same = copied-at_end s b events (now_of s) jobs rows
+  pub same : packed (ledger t) b (now_of s) jobs rows ≡ xs
+  same = packed-at_end s b events (now_of s) jobs rows
 
-  pub can-record : CanRecord t b tag xs
-  can-record = subst (CanRecord t b tag) same (record {
-    valid = all-copied (λ x. IsPiece x.piece) t b (now_of s) jobs rows (all-of (IsReady t (now_of s)) (λ j rs. IsPiece (piece_by (ledger t) b (now_of s) j rs)) (ready-valid t b (now_of s) walked.can.sound at) jobs rows ready);
-    entries = all-copied (λ x. IsPieceEntry (tree t) (ledger t).files (entry_for t b tag x.copy x.piece)) t b (now_of s) jobs rows
-        (all-of (IsReady t (now_of s)) (λ j rs. IsPieceEntry (tree t) (ledger t).files (entry_for t b tag (is_copy b j) (piece_by (ledger t) b (now_of s) j rs))) (ready-entry t b (now_of s) walked.can.sound at tag tagged) jobs rows ready);
-    records =
-        omega (arith, few-copied t b (now_of s) jobs rows, jobs-many s b jobs are, can.records, count-marked s b, walked.records);
+  pub can-record : IfSome b.files_per_set (λ n. 1 ≤ n) → CanRecord t b tag xs
+  can-record some = record {
+    each = subst (All (IsRecordable t b tag)) same
+        (each-recordable t b (now_of s) walked.can.sound at tag tagged jobs rows ready (jobs-rise s b jobs are)
+        (coe 1 0 (i. sum_by (λ (j : Job). blocks_of (record (world t) { files = files-at_end s b events i }) j.file) jobs ≤ 131072) (jobs-blocks s b jobs sound are))
+        (omega (arith, jobs-many s b jobs are, taken-few s b sound)) (rows-as-many u jobs rows whole) some);
+    records = omega (arith, objects-many s b jobs rows are whole, can.records, count-marked s b, walked.records);
     ids =
         let next : (ledger t).base.next_id ≡ (ledger s).base.next_id = ap (λ (x : BaseEntry). x.next_id) (base-at_end s b events) in
-        omega (arith, few-copied t b (now_of s) jobs rows, jobs-many s b jobs are, can.ids, next);
-  })
+        omega (arith, objects-many s b jobs rows are whole, can.ids, next);
+  }

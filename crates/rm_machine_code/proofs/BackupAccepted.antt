@@ -17,7 +17,7 @@ use Rattle.rm_catalog_typed.specs.Ledger.{ledger_records}
 use Rattle.rm_redo.specs.Online.{thread_records as log_records}
 use Rattle.rm_lang_statement.specs.declared.command.BackupForm.{BackupForm}
 use Rattle.rm_lang_statement.specs.declared.command.WriteForm.{WriteForm}
-use Rattle.rm_machine.specs.Backup.{absent, lost_taken, piece_bytes, taken as taken_by}
+use Rattle.rm_machine.specs.Backup.{absent, lost_taken, object_bytes, objects_of, taken as taken_by}
 use Rattle.rm_machine.specs.Marks.{lacks_bytes, lacks_ids, lacks_room}
 use Rattle.rm_machine.specs.Sound.{IsSound}
 use Rattle.rm_machine.specs.declared.state.State.{State}
@@ -42,8 +42,8 @@ pub record CanBeWritten (s : State) (w : WriteForm) : Type 0 where
 pub record CanBackUp (s : State) (b : BackupForm) : Type 0 where
   pub opened : s.instance.is_open ≡ true
   pub taken : All (IsTaken s) (taken_by s b)
-  pub records : length (ledger_records (ledger s)) + (length (taken_by s b) + mark_count s b) ≤ 65536
-  pub ids : (ledger s).base.next_id + length (taken_by s b) + 68 ≤ 4294967295
+  pub records : length (ledger_records (ledger s)) + (length (objects_of s b) + mark_count s b) ≤ 65536
+  pub ids : (ledger s).base.next_id + length (objects_of s b) + 68 ≤ 4294967295
   pub writes : All (CanBeWritten s) (writes_in b)
   pub logs : (t : ℕ) → 0 < t → t ≤ (ledger s).base.threads → length (log_records s.instance.logs t) + length (by_thread t (writes_in b)) ≤ 65536
   pub scns : now_of s + length (writes_in b) ≤ last_scn
@@ -123,15 +123,15 @@ can-back_up s b sound is =
     let found = unless-some (λ f. Rm09 f) (lost_taken s b) _ names.1 in
     let held = unless-some (λ f. Rm09 f) (lost_of s ws) _ found.1 in
     let rest : room_refusal s b ≡ None = held.1 in
-    let more = unless (lacks_room s (length (taken_by s b) + mark_count s b)) (Rm11 Records) _ rest in
-    let bytes = unless (lacks_bytes s (sum_by (piece_bytes s) (taken_by s b))) (Rm11 Bytes) _ more.1 in
-    let numbers = unless (lacks_ids s (length (taken_by s b))) (Rm11 ObjectIds) _ bytes.1 in
+    let more = unless (lacks_room s (length (objects_of s b) + mark_count s b)) (Rm11 Records) _ rest in
+    let bytes = unless (lacks_bytes s (sum_by (object_bytes s b) (objects_of s b))) (Rm11 Bytes) _ more.1 in
+    let numbers = unless (lacks_ids s (length (objects_of s b))) (Rm11 ObjectIds) _ bytes.1 in
     let kept = unless (lacks_logs s ws 1 (ledger s).base.threads) (Rm11 LogRecords) _ numbers.1 in
     let clean : damage_refusal s b ≡ None = (unless (nat_lt last_scn (now_of s + length ws)) Rm15 _ kept.1).1 in
     record {
       opened = mode.0;
       taken = taken-all s b found.0;
-      records = roomy (length (taken_by s b) + mark_count s b) (length (ledger_records (ledger s))) (search rules) sound.catalog.ledger.few;
+      records = roomy (length (objects_of s b) + mark_count s b) (length (ledger_records (ledger s))) (search rules) sound.catalog.ledger.few;
       ids = search rules;
       writes = writes-can s ws names.0 held.0;
       logs = λ t low high. ltb-false 65536 (length (log_records s.instance.logs t) + length (by_thread t ws)) (logs-have s ws 1 (ledger s).base.threads (search rules) t (omega (arith, low)) (omega (arith, high)));

@@ -40,7 +40,7 @@ sound-mark s sound room = sound-with s (with_mark s).catalog (marks-fit s sound 
 
 borne-mark : (s : State) (h : List Change) (objects : Held) (made : List Made) (touched : List (List ℕ)) → length (ledger_records (ledger s)) + length (marks_before s) ≤ 65536 → IsBorneOut s h objects made touched → IsBorneOut (with_mark s) h objects made touched
 borne-mark s h objects made touched room stands =
-    borne-same s (with_mark s).catalog (sound-mark s stands.state room).catalog h objects made touched stands (λ e has. inl has) (λ p has. inl has)
+    borne-same s (with_mark s).catalog (sound-mark s stands.state room).catalog h objects made touched stands (λ e has. inl has) (λ p has. inl has) (λ e has. inl has)
 
 -- no mark is to be made after it: it is of the moment of the statement
 last-push : (d : ℕ) (ms : List Mark) (m : Mark) → last_marked d (ms ++ m ∷ []) ≡ m.moment

@@ -12,6 +12,7 @@ use Rattle.rm_blocks.specs.File.{File, standing}
 use Rattle.rm_catalog.specs.declared.record.BaseEntry.{BaseEntry}
 use Rattle.rm_catalog.specs.declared.record.LogEntry.{LogEntry}
 use Rattle.rm_catalog.specs.declared.record.PieceEntry.{PieceEntry}
+use Rattle.rm_catalog.specs.declared.record.SetEntry.{SetEntry}
 use Rattle.rm_history.specs.declared.world.Datafile.{Datafile}
 use Rattle.rm_history.specs.Tree.{IsThere, end_of, parent_of, reset_of}
 use Rattle.rm_history.proofs.Highs.{high-above, high-bound}
@@ -30,7 +31,7 @@ use Rattle.rm_machine.specs.Marks.{lacks_bytes, lacks_room}
 use Rattle.rm_machine.specs.Sound.{IsOnline, IsPlaced, IsPoint, IsSound}
 use Rattle.rm_machine.specs.Saved.{spelling_of}
 use Rattle.rm_machine.specs.SwitchLogfile.{log_entry}
-use Rattle.rm_machine.specs.Upkeep.{is_unknown, log_at, piece_at, with_catalog}
+use Rattle.rm_machine.specs.Upkeep.{is_unknown, log_at, piece_at, set_at, with_catalog}
 use Rattle.rm_machine.specs.declared.state.State.{State}
 use Rattle.rm_machine.specs.State.{counted, current_of, is_lost, ledger, now_of, online, tree}
 use Rattle.rm_machine_code.proofs.FurtherLogs.{log-further}
@@ -149,6 +150,22 @@ none-is (Some x) is = absurd (cc)
 unknown-id : {X : Type 0} (id : X → ℕ) (n : ℕ) (xs : List X) → is_none (find (λ x. id x == n) xs) ≡ true → LacksId id n xs
 unknown-id id n xs none = each-in (λ x. id x ≢ n) xs (λ x has same. find_none (λ y. id y == n) xs x (none-is (find (λ y. id y == n) xs) none) has (eq-eqb (id x) n same))
 
+-- no log, no piece and no set has an id that is unknown
+record IsFree (s : State) (n : ℕ) : Type 0 where
+  logs : LacksId (λ (e : LogEntry). e.id) n (ledger s).logs
+  pieces : LacksId (λ (p : PieceEntry). p.id) n (ledger s).pieces
+  sets : LacksId (λ (e : SetEntry). e.id) n (ledger s).sets
+
+free-id : (s : State) (n : ℕ) → is_unknown s.catalog n ≡ true → IsFree s n
+free-id s n unknown =
+    let all = and_parts (is_none (log_at s.catalog n) && is_none (piece_at s.catalog n)) (is_none (set_at s.catalog n)) unknown in
+    let first = and_parts (is_none (log_at s.catalog n)) (is_none (piece_at s.catalog n)) all.0 in
+    record {
+      logs = unknown-id (λ (e : LogEntry). e.id) n (ledger s).logs first.0;
+      pieces = unknown-id (λ (p : PieceEntry). p.id) n (ledger s).pieces first.1;
+      sets = unknown-id (λ (e : SetEntry). e.id) n (ledger s).sets all.1;
+    }
+
 -- What fits
 
 -- the base facts where no id up to its own is free, and the end of its incarnation
@@ -209,20 +226,22 @@ module _ (s : State) (x : Found) where
 entry-fits : (s : State) (x : Found) → IsSound s → s.catalog.saved ≡ None → IsAccepted s x → (1 ≤ id_of x) × (id_of x < 4294967295) → Obeys s x → FitsEntry s x
 entry-fits s (found_log id a) sound none ok number obeys =
     let x = found_log id a in
-    let free = and_parts (is_none (log_at s.catalog id)) (is_none (piece_at s.catalog id)) ok.unknown in
+    let free = free-id s id ok.unknown in
     record {
       log = obeys;
       id = id-raised s x sound none ok number;
-      other = unknown-id (λ (p : PieceEntry). p.id) id (ledger s).pieces free.1;
+      pieces = free.pieces;
+      sets = free.sets;
       room = inr (omega (arith, raised-records s x, ok.records));
     }
 entry-fits s (found_piece copy id a) sound none ok number obeys =
     let x = found_piece copy id a in
-    let free = and_parts (is_none (log_at s.catalog id)) (is_none (piece_at s.catalog id)) ok.unknown in
+    let free = free-id s id ok.unknown in
     record {
       piece = obeys.0;
       id = id-raised s x sound none ok number;
-      other = unknown-id (λ (e : LogEntry). e.id) id (ledger s).logs free.0;
+      logs = free.logs;
+      sets = free.sets;
       room = inr (omega (arith, raised-records s x, ok.records));
     }
 

@@ -1,15 +1,17 @@
 -- Ids of records, ascending: each can be one, and they can be counted.
-use Rattle.std.proofs.Common.{◌≤◌, ◌<◌, ◌+◌, ◌^◌, ℕ, zero, suc, List, [], ◌∷◌, arith, length, get_or, All, AllPairs, Contains}
+use Rattle.std.proofs.Common.{◌≡◌, ◌≤◌, ◌<◌, ◌+◌, ◌^◌, ℕ, zero, suc, List, [], ◌∷◌, Some, subst, arith, length, get_or, All, AllPairs, Contains}
 use Rattle.std.proofs.lemmas.List.Elements.{Contains-get_or, All-contains}
 use Rattle.rm_base.proofs.Members.{behind, in-front}
 use Rattle.rm_catalog.specs.declared.record.Record.{Record}
+use Rattle.rm_catalog.specs.declared.record.Record.TheVariants as kind
+use Rattle.rm_evidence.specs.Names.{object_id}
 use Rattle.rm_evidence.proofs.Extending.{pairs-head, pairs-tail}
 use Rattle.rm_catalog_typed.specs.Facts.{IsTypedCatalog}
 use Rattle.rm_catalog_typed.specs.TypedCatalog.{TypedCatalog, records_of}
-use Rattle.rm_catalog_typed.proofs.Members.{log-in, piece-in}
-use Rattle.rm_verify.proofs.Growing.{HasNumber, of_log, of_piece}
+use Rattle.rm_catalog_typed.proofs.Members.{log-in, piece-in, set-in}
 use Rattle.rm_catalog.specs.declared.record.LogEntry.{LogEntry}
 use Rattle.rm_catalog.specs.declared.record.PieceEntry.{PieceEntry}
+use Rattle.rm_catalog.specs.declared.record.SetEntry.{SetEntry}
 
 -- an id that can be one
 abbrev pub IsId : ℕ → Type 0
@@ -26,10 +28,17 @@ module _ (r : TypedCatalog) (rules : IsTypedCatalog r) where
       let range = All-contains (λ (x : PieceEntry). (1 ≤ x.id) × (x.id < r.ledger.base.next_id)) r.ledger.pieces p rules.ledger.ids.pieces has in
       (range.0, omega (arith, range.1, rules.ledger.base.next_id.1))
 
--- a record of a log or a piece has an id that can be one
-pub row-id : (r : TypedCatalog) (x : Record) (n : ℕ) → IsTypedCatalog r → HasNumber x n → Contains (records_of r) x → IsId n
-row-id r _ _ rules (of_log l) has = log-id r rules l (log-in r l rules has)
-row-id r _ _ rules (of_piece p) has = piece-id r rules p (piece-in r p rules has)
+  pub set-id : (e : SetEntry) → Contains r.ledger.sets e → IsId e.id
+  set-id e has =
+      let range = All-contains (λ (x : SetEntry). (1 ≤ x.id) × (x.id < r.ledger.base.next_id)) r.ledger.sets e rules.ledger.ids.sets has in
+      (range.0, omega (arith, range.1, rules.ledger.base.next_id.1))
+
+-- a record of a log, a piece or a set has an id that can be one
+pub row-id : (r : TypedCatalog) (x : Record) (n : ℕ) → IsTypedCatalog r → object_id x ≡ Some n → Contains (records_of r) x → IsId n
+row-id r (kind.Log l) n rules is has = let same : l.id ≡ n = cc in subst IsId same (log-id r rules l (log-in r l rules has))
+row-id r (kind.Piece p) n rules is has = let same : p.id ≡ n = cc in subst IsId same (piece-id r rules p (piece-in r p rules has))
+row-id r (kind.Set e) n rules is has = let same : e.id ≡ n = cc in subst IsId same (set-id r rules e (set-in r e rules has))
+row-id r x n rules is has = absurd (cc)
 
 -- numbers that ascend from `low` on, below low + n, are at most n
 few-between : (ns : List ℕ) (low n : ℕ) → AllPairs (λ (a b : ℕ). a < b) ns → ((m : ℕ) → Contains ns m → (low ≤ m) × (m < low + n)) → length ns ≤ n

@@ -4,6 +4,7 @@ use Rattle.rm_base.specs.Store.{Held}
 use Rattle.rm_base.specs.declared.block.Change.{Change}
 use Rattle.rm_catalog.specs.declared.record.LogEntry.{LogEntry}
 use Rattle.rm_catalog.specs.declared.record.PieceEntry.{PieceEntry}
+use Rattle.rm_catalog.specs.declared.record.SetEntry.{SetEntry}
 use Rattle.rm_catalog_typed.specs.Changes.{with_moment}
 use Rattle.rm_catalog_typed.specs.Facts.{IsTypedCatalog}
 use Rattle.rm_catalog_typed.specs.TypedCatalog.{TypedCatalog}
@@ -11,12 +12,12 @@ use Rattle.rm_catalog_typed.proofs.Changed.{unsaved_fits}
 use Rattle.rm_catalog_typed.proofs.Fitted.{base_fits, moment_fits}
 use Rattle.rm_machine.specs.Effect.{Made}
 use Rattle.rm_machine.specs.Laws.{IsMomentOf}
-use Rattle.rm_machine.specs.Machine.{HasLogArtefact, HasPieceArtefact, HistoryFits, IsBorneOut}
+use Rattle.rm_machine.specs.Machine.{HasLogArtefact, HasPieceArtefact, HasSetArtefact, HistoryFits, IsBorneOut}
 use Rattle.rm_machine.specs.Sound.{IsSound}
 use Rattle.rm_machine.specs.declared.state.State.{State}
-use Rattle.rm_machine.specs.State.{at_moment, ledger}
+use Rattle.rm_machine.specs.State.{at_moment, database_of, ledger}
 use Rattle.rm_machine.specs.Upkeep.{with_catalog}
-use Rattle.rm_machine_code.proofs.Kept.{StandOn, kept-on, names-of, stand-same}
+use Rattle.rm_machine_code.proofs.Kept.{StandOn, kept-on, names-of, stand-same, stays-so}
 use Rattle.rm_machine_code.proofs.Tracked.{tracked-same}
 use Rattle.rm_machine_code.proofs.Damaged.{damaged-same}
 
@@ -55,18 +56,20 @@ module _ (s : State) (r : TypedCatalog) (rules : IsTypedCatalog (resting s r)) w
   pub borne-with : (h : List Change) (objects after : Held) (made : List Made) (touched touched' : List (List ℕ)) → IsBorneOut s h objects made touched → StandOn objects after touched touched' (ledger s) (ledger rested)
       → ((e : LogEntry) → Contains (ledger rested).logs e → Contains (ledger s).logs e ⊎ HasLogArtefact after made touched' e)
       → ((p : PieceEntry) → Contains (ledger rested).pieces p → Contains (ledger s).pieces p ⊎ HasPieceArtefact after made touched' p)
+      → ((e : SetEntry) → Contains (ledger rested).sets e → Contains (ledger s).sets e ⊎ HasSetArtefact after made touched' (database_of (ledger s)) e)
       → IsBorneOut rested h after made touched'
-  borne-with h objects after made touched touched' is stand logs pieces = record {
+  borne-with h objects after made touched touched' is stand logs pieces sets = record {
     state = sound-with is.state;
     keeps = fits-with h is.keeps;
     artefacts = is.artefacts;
-    records = kept-on objects after made made touched touched' (ledger s) (ledger rested) stand (λ a has. has) logs pieces is.records;
+    records = kept-on objects after made made touched touched' (ledger s) (ledger rested) (stays-so (database_of (ledger s))) stand (λ a has. has) logs pieces sets is.records;
   }
 
   -- and the objects are the same
   pub borne-same : (h : List Change) (objects : Held) (made : List Made) (touched : List (List ℕ)) → IsBorneOut s h objects made touched
       → ((e : LogEntry) → Contains (ledger rested).logs e → Contains (ledger s).logs e ⊎ HasLogArtefact objects made touched e)
       → ((p : PieceEntry) → Contains (ledger rested).pieces p → Contains (ledger s).pieces p ⊎ HasPieceArtefact objects made touched p)
+      → ((e : SetEntry) → Contains (ledger rested).sets e → Contains (ledger s).sets e ⊎ HasSetArtefact objects made touched (database_of (ledger s)) e)
       → IsBorneOut rested h objects made touched
   borne-same h objects made touched is = borne-with h objects objects made touched touched is (stand-same objects objects touched (ledger s) (ledger rested) (λ n. refl))
 
@@ -79,7 +82,7 @@ pub borne-later : (s : State) (h : List Change) (objects after : Held) (made : L
     → IsBorneOut s h objects made touched → IsMomentOf s moment → StandOn objects after touched touched' (ledger s) (ledger s) → IsBorneOut (at_moment s moment) h after made touched'
 borne-later s h objects after made touched touched' moment is next stand =
     borne-with s (at_moment s moment).catalog (sound-later s moment is.state next).catalog h objects after made touched touched' is
-    (λ name bytes names names' was. stand name bytes names (names-of (ledger s) (ledger (at_moment s moment)) (λ e has. has) (λ e has. has) name names') was) (λ e has. inl has) (λ e has. inl has)
+    (λ name bytes names names' was. stand name bytes names (names-of (ledger s) (ledger (at_moment s moment)) (λ e has. has) (λ e has. has) (λ e has. has) name names') was) (λ e has. inl has) (λ e has. inl has) (λ e has. inl has)
 
 -- other objects under names that the records do not tell of
 pub borne-beside : (s : State) (h : List Change) (objects after : Held) (made : List Made) (touched touched' : List (List ℕ))
@@ -88,5 +91,5 @@ borne-beside s h objects after made touched touched' is stand = record {
   state = is.state;
   keeps = is.keeps;
   artefacts = is.artefacts;
-  records = kept-on objects after made made touched touched' (ledger s) (ledger s) stand (λ a has. has) (λ e has. inl has) (λ e has. inl has) is.records;
+  records = kept-on objects after made made touched touched' (ledger s) (ledger s) (stays-so (database_of (ledger s))) stand (λ a has. has) (λ e has. inl has) (λ e has. inl has) (λ e has. inl has) is.records;
 }

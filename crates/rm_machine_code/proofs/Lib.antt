@@ -26,6 +26,7 @@ pub mod Following
 pub mod Found
 pub mod Further
 mod FurtherLogs
+pub mod Groups
 pub mod Handing
 mod Homes
 pub mod Ids
@@ -39,6 +40,7 @@ mod Losses
 pub mod LostLogs
 mod Marked
 pub mod Meant
+pub mod MembersRead
 pub mod Mending
 pub mod Merges
 pub mod Mounting
@@ -71,6 +73,7 @@ pub mod Standing
 pub mod Switching
 pub mod Tags
 mod Taken
+pub mod TakenFiles
 pub mod Told
 pub mod ToldRows
 pub mod Tracked

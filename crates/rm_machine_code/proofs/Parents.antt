@@ -1,24 +1,30 @@
 -- Where a level 1 begins: at the checkpoint of a record that holds on the current path, and so up to now.
-use Rattle.std.proofs.Common.{◌≡◌, ◌≤◌, ◌∙◌, inl, inr, ℕ, List, Option, Some, None, Bool, true, false, ap, sym, subst, arith, MatchBool, nat_le, option_map, Contains}
+use Rattle.std.proofs.Common.{◌≡◌, ◌≤◌, ◌∙◌, inl, inr, ℕ, List, [], ◌∷◌, Option, Some, None, Bool, true, false, ap, sym, subst, arith, MatchBool, nat_le, option_map, Contains}
+use Rattle.std.specs.List.{flat_map}
 use Rattle.std.specs.Option.{option_map_or}
 use Rattle.std.proofs.lemmas.Bool.{and_parts, cases_lt}
-use Rattle.std.proofs.lemmas.List.Elements.{All-contains}
-use Rattle.rm_backup.specs.Parents.{HasCopy, IsLast}
-use Rattle.rm_backup.specs.Records.{IsOnPath, pieces}
+use Rattle.std.proofs.lemmas.List.Elements.{All-contains, Contains-append_cases}
+use Rattle.rm_base.proofs.Lists.{map_from}
+use Rattle.rm_base.proofs.Members.{behind, first-or-rest, in-front, none-in}
+use Rattle.rm_backup.specs.Parents.{HasCopy, IsLast, among}
+use Rattle.rm_backup.specs.Records.{IsOnPath}
 use Rattle.rm_catalog.specs.declared.record.PieceEntry.{PieceEntry}
+use Rattle.rm_catalog.specs.declared.record.Record.{Record}
 use Rattle.rm_catalog.specs.declared.record.Record.TheVariants as kind
-use Rattle.rm_catalog.specs.Keys.{piece_in}
+use Rattle.rm_catalog.specs.declared.record.SetEntry.{SetEntry}
+use Rattle.rm_catalog.specs.declared.record.SetPart.{SetPart}
+use Rattle.rm_catalog.specs.Keys.{backups_in, part_piece, piece_in}
 use Rattle.rm_lang_statement.specs.declared.command.BackupForm.{BackupForm}
 use Rattle.rm_history.specs.declared.tree.Incarnation.{Incarnation}
 use Rattle.rm_history.specs.Tree.{IsThere, IsTree, end_of, is_on_path, is_within, reset_of, segment_end}
 use Rattle.rm_history.proofs.Owners.{owner-below, owner-here}
 use Rattle.rm_history.proofs.Paths.{is_on_path-member, path-below}
 use Rattle.rm_history.proofs.Segments.{is_within_alike}
-use Rattle.rm_catalog_typed.specs.LedgerFacts.{IsPieceEntry}
+use Rattle.rm_catalog_typed.specs.LedgerFacts.{IsPieceEntry, IsSetEntry, IsSetPart}
 use Rattle.rm_evidence.proofs.DatabaseWorlds.{is-tree}
 use Rattle.rm_catalog_typed.specs.TypedCatalog.{records_of}
 use Rattle.rm_catalog_typed.proofs.ByKind.{is-piece, made}
-use Rattle.rm_catalog_typed.proofs.Members.{piece-in}
+use Rattle.rm_catalog_typed.proofs.Members.{piece-in, set-in}
 use Rattle.rm_catalog_typed.proofs.Valid.{typed_catalog-valid}
 use Rattle.rm_machine.specs.Backup.{BeginsAt, HasParent, is_level1}
 use Rattle.rm_machine.specs.Sound.{IsSound}
@@ -53,24 +59,63 @@ decided a n twice = elim (cases_lt 0 a) [
   | inr zero ↦ absurd (twice (λ both. let least = both.0 in omega (arith, zero, least)))
 ]
 
+-- what is in one of the lists is in the list of one of these
+listed-by : {X Y : Type 0} (f : X → List Y) (xs : List X) (y : Y) → Contains (flat_map f xs) y → (x : X) × Contains xs x × Contains (f x) y
+listed-by f [] y has = absurd (none-in y has)
+listed-by f (x ∷ xs) y has = elim (Contains-append_cases (f x) (flat_map f xs) y has) [
+  | inl here ↦ (x, in-front x xs, here)
+  | inr rest ↦ let it = listed-by f xs y rest in (it.0, behind x xs it.0 it.1, it.2)
+]
+
+-- a backup of a datafile as it is recorded: from its checkpoint on, up to the end of its incarnation
+record IsKnown (s : State) (p : PieceEntry) : Type 0 where
+  some : 1 ≤ p.checkpoint
+  high : p.checkpoint ≤ p.high
+  end : p.high ≤ end_of (tree s) p.inc
+
 module _ (s : State) (sound : IsSound s) where
+  piece-known : (p : PieceEntry) → Contains (ledger s).pieces p → IsKnown s p
+  piece-known p has =
+      let fits = All-contains (IsPieceEntry (tree s) (ledger s).files) (ledger s).pieces p sound.catalog.ledger.pieces has in
+      record { some = fits.checkpoint.0; high = fits.checkpoint.1; end = fits.high }
+
+  part-known : (e : SetEntry) (q : SetPart) → Contains (ledger s).sets e → Contains e.parts q → IsKnown s (part_piece e q)
+  part-known e q has in_set =
+      let fits = All-contains (IsSetEntry (tree s) (ledger s).files) (ledger s).sets e sound.catalog.ledger.sets has in
+      let part = All-contains (IsSetPart (tree s) (ledger s).files e) e.parts q fits.parts in_set in
+      record { some = fits.checkpoint; high = part.high.0; end = part.high.1 }
+
+  known-by : (r : Record) (p : PieceEntry) → Contains (records_of s.catalog) r → Contains (backups_in r) p → IsKnown s p
+  known-by (kind.Piece e) p has is = elim (first-or-rest e [] p is) [
+    | inl same ↦ subst (IsKnown s) same (piece-known e (piece-in s.catalog e sound.catalog has))
+    | inr rest ↦ absurd (none-in p rest)
+  ]
+  known-by (kind.Set e) p has is =
+      let q = map_from (part_piece e) e.parts p is in
+      subst (IsKnown s) q.is (part-known e q.item (set-in s.catalog e sound.catalog has) q.held)
+  known-by r p has is = absurd (none-in p is)
+
+  known-among : (tag : Option (List ℕ)) (p : PieceEntry) → Contains (among tag (records_of s.catalog)) p → IsKnown s p
+  known-among None p has = let from = listed-by backups_in (records_of s.catalog) p has in known-by from.0 p from.1 from.2
+  known-among (Some tag) p has = piece-known p (piece-in s.catalog p sound.catalog (made kind.Piece piece_in 5 is-piece (records_of s.catalog) p has))
+
   -- a record that holds on the current path was made up to now
-  pub up-to_now : (f : ℕ) (p : PieceEntry) → Contains (pieces (records_of s.catalog)) p → IsOnPath (records_of s.catalog) f p → (1 ≤ p.checkpoint) × (p.checkpoint ≤ now_of s)
-  up-to_now f p has on =
+  pub up-to_now : (f : ℕ) (tag : Option (List ℕ)) (p : PieceEntry) → Contains (among tag (records_of s.catalog)) p → IsOnPath (records_of s.catalog) f p → (1 ≤ p.checkpoint) × (p.checkpoint ≤ now_of s)
+  up-to_now f tag p has on =
       let rs = records_of s.catalog in
       let there = sound.catalog.ledger.current in
-      let fits = All-contains (IsPieceEntry (tree s) (ledger s).files) (ledger s).pieces p sound.catalog.ledger.pieces (piece-in s.catalog p sound.catalog (made kind.Piece piece_in 5 is-piece rs p has)) in
+      let known = known-among tag p has in
       let is = subst IsTree (tree-told s.catalog) (is-tree rs (typed_catalog-valid s.catalog sound.catalog) (database-told s.catalog)) in
       let range = (sound.catalog.ledger.incarnations.ranges (current_of s) there).1 in
-      let most = within-end (tree s) is (current_of s) p.inc p.high there range fits.high (subst (λ (ns : List Incarnation). is_within ns p.inc (current_of s) p.high ≡ true) (tree-told s.catalog) on.within) in
-      (fits.checkpoint.0, omega (arith, fits.checkpoint.1, most))
+      let most = within-end (tree s) is (current_of s) p.inc p.high there range known.end (subst (λ (ns : List Incarnation). is_within ns p.inc (current_of s) p.high ≡ true) (tree-told s.catalog) on.within) in
+      (known.some, omega (arith, known.high, most))
 
   -- a parent is one: whether a copy with the tag is there need not be decided
   parent-within : (f : ℕ) (cumulative : Bool) (tag : Option (List ℕ)) (o : Option PieceEntry) → (HasCopy (records_of s.catalog) f tag → IsLast (records_of s.catalog) f cumulative tag o) → (¬ HasCopy (records_of s.catalog) f tag → o ≡ None)
       → BeginsWithin s (option_map (λ (p : ℕ × ℕ). p.1) (option_map (λ (p : PieceEntry). (p.id, p.checkpoint)) o))
   parent-within f cumulative tag None last none = tt
   parent-within f cumulative tag (Some p) last none = decided p.checkpoint (now_of s) (λ not.
-      let clash : Some p ≡ None = none (λ copy. let is = last copy in not (up-to_now f p is.held is.passes.on)) in
+      let clash : Some p ≡ None = none (λ copy. let is = last copy in not (up-to_now f tag p is.held is.passes.on)) in
       cc)
 
   begins-by : (b : BackupForm) (f : ℕ) (from : Option ℕ) (t : Bool) → MatchBool t (HasParent s b f from) (from ≡ None) → BeginsWithin s from

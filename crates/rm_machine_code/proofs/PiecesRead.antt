@@ -1,5 +1,5 @@
 -- The piece of what was read of a datafile is valid, and true where the rows agree with the history.
-use Rattle.std.proofs.Common.{◌≡◌, ◌⊎◌, ◌<◌, ◌≤◌, ◌+◌, ◌-◌, ◌∙◌, ◌==◌, ℕ, List, Option, Some, None, Bool, true, false, cond, refl, sym, subst, arith, length, All, AllPairs, Contains, is_none, nat_le, nat_lt, slice_get, slice_index_or}
+use Rattle.std.proofs.Common.{◌≡◌, ◌⊎◌, ◌<◌, ◌≤◌, ◌+◌, ◌-◌, ◌∙◌, ◌==◌, ℕ, List, Option, Some, None, Bool, true, false, cond, refl, sym, subst, arith, length, All, AllPairs, Contains, is_none, nat_le, nat_lt, slice_get, slice_index_or, unwrap_or}
 use Rattle.std.proofs.lemmas.Bool.{and_parts, eqb-true}
 use Rattle.std.proofs.lemmas.List.Elements.{All-contains}
 use Rattle.std.proofs.lemmas.List.Sums.{count_by-le-length, length-filter}
@@ -54,10 +54,9 @@ pub record AreRead (t : State) (f : ℕ) (rows : List Row) : Type 0 where
   pub inside : All (λ (r : Row). r.block < datafile.blocks) rows
   pub each : All (IsFound t) rows
 
--- all blocks are read for a backup that has no beginning
-abbrev pub AreAll : Option ℕ → ℕ → ℕ → Type 0
-AreAll None rows blocks = rows ≡ blocks
-AreAll (Some from) rows blocks = Unit {0}
+-- all blocks are read for a backup that begins up to the creation of its datafile
+abbrev pub AreAll : ℕ → Option ℕ → ℕ → ℕ → Type 0
+AreAll creation from rows blocks = unwrap_or from 0 ≤ creation → rows ≡ blocks
 
 -- the checkpoint of a backup, and where it begins
 pub record IsCheckpoint (t : State) (checkpoint : ℕ) : Type 0 where
@@ -81,7 +80,7 @@ AreOthers t h f checkpoint rows begins =
 
 -- What a full backup and one of level 0 have in common
 
-whole-by : (P : Kind → Type 0) (k : Bool) → P Full → P Level0 → P (cond k Full Level0)
+pub whole-by : (P : Kind → Type 0) (k : Bool) → P Full → P Level0 → P (cond k Full Level0)
 whole-by P true full level0 = full
 whole-by P false full level0 = level0
 
@@ -92,10 +91,10 @@ module _ (t : State) (b : BackupForm) (f checkpoint : ℕ) (rows : List Row) (so
   abbrev of : Option ℕ → Piece
   of from = piece_by (ledger t) b checkpoint (job from) rows
 
-  created : IsCreated (tree t) are.datafile
+  pub created : IsCreated (tree t) are.datafile
   created = all-get (IsCreated (tree t)) (ledger t).files (f - 1) are.datafile are.is sound.catalog.ledger.datafiles.each
 
-  blocks-are : blocks_of (world t) f ≡ are.datafile.blocks
+  pub blocks-are : blocks_of (world t) f ≡ are.datafile.blocks
   blocks-are = blocks-by t f are.datafile are.some are.is
 
   -- the rows alone, as a piece of this kind that begins here
@@ -130,16 +129,16 @@ module _ (t : State) (b : BackupForm) (f checkpoint : ℕ) (rows : List Row) (so
         high = refl;
       }
 
-  pub piece-valid : (from : Option ℕ) → BeginsBelow checkpoint from → AreAll from (length rows) are.datafile.blocks → IsPiece (of from)
+  pub piece-valid : (from : Option ℕ) → BeginsBelow checkpoint from → AreAll are.datafile.creation from (length rows) are.datafile.blocks → IsPiece (of from)
   piece-valid None begins all =
-      let many : length rows ≡ blocks_of (world t) f = all ∙ sym blocks-are in
+      let many : length rows ≡ blocks_of (world t) f = all (omega arith) ∙ sym blocks-are in
       valid-as (kind_by b None) 0 (omega arith) (whole-by (λ k. FitsKind k (of_kind k 0)) (is_none b.level) (refl, many) (refl, many))
   piece-valid (Some from) begins all = picked_valid (of_kind Level1 1) from (valid-as Level1 1 (omega arith) (omega arith, at.some)) begins.0 begins.1
 
   few-read : length rows ≤ are.datafile.blocks
   few-read = omega (arith, count_fits rows (blocks_of (world t) f) 0 are.ascend (rows-are 0 (omega arith)), blocks-are)
 
-  few-rows : (from : Option ℕ) → length (rows_from from rows) ≤ are.datafile.blocks
+  pub few-rows : (from : Option ℕ) → length (rows_from from rows) ≤ are.datafile.blocks
   few-rows None = few-read
   few-rows (Some from) =
       let kept = length-filter (λ (r : Row). nat_le from r.version) rows in
@@ -150,19 +149,19 @@ module _ (t : State) (b : BackupForm) (f checkpoint : ℕ) (rows : List Row) (so
   found-in None r has = has
   found-in (Some from) r has = (filter_from (λ x. nat_le from x.version) rows r has).0
 
-  high-most : (from : Option ℕ) → high_of checkpoint (rows_from from rows) ≤ now_of t
+  pub high-most : (from : Option ℕ) → high_of checkpoint (rows_from from rows) ≤ now_of t
   high-most from = high-bound checkpoint (now_of t) (rows_from from rows) at.most (λ r has.
       omega (arith, (All-contains (IsFound t) rows r are.each (found-in from r has)).below))
 
-  rows-fit : (from : Option ℕ) → AreAll from (length rows) are.datafile.blocks → FitsRows (kind_by b from) (length (rows_from from rows)) are.datafile.blocks
-  rows-fit None all = whole-by (λ k. FitsRows k (length rows) are.datafile.blocks) (is_none b.level) all all
+  rows-fit : (from : Option ℕ) → AreAll are.datafile.creation from (length rows) are.datafile.blocks → FitsRows (kind_by b from) (length (rows_from from rows)) are.datafile.blocks
+  rows-fit None all = let many = all (omega arith) in whole-by (λ k. FitsRows k (length rows) are.datafile.blocks) (is_none b.level) many many
   rows-fit (Some from) all = few-rows (Some from)
 
   kind-fits : (tag : List ℕ) (from : Option ℕ) → BeginsBelow checkpoint from → FitsEntry (kind_by b from) (entry_for t b tag (is_copy b (job from)) (of from))
   kind-fits tag None begins = whole-by (λ k. FitsEntry k (entry_for t b tag (is_copy b (job None)) (of None))) (is_none b.level) refl refl
   kind-fits tag (Some from) begins = (refl, begins.0, begins.1)
 
-  pub entry-is : (tag : List ℕ) → IsTag tag → (from : Option ℕ) → BeginsBelow checkpoint from → AreAll from (length rows) are.datafile.blocks → IsPieceEntry (tree t) (ledger t).files (entry_for t b tag (is_copy b (job from)) (of from))
+  pub entry-is : (tag : List ℕ) → IsTag tag → (from : Option ℕ) → BeginsBelow checkpoint from → AreAll are.datafile.creation from (length rows) are.datafile.blocks → IsPieceEntry (tree t) (ledger t).files (entry_for t b tag (is_copy b (job from)) (of from))
   entry-is tag tagged from begins all =
       let parts = and_parts (nat_lt are.datafile.creation (now_of t)) (owner (tree t) (current_of t) are.datafile.creation == are.datafile.inc) are.here in
       let body = length-body (of from) (fits (of from) (piece-valid from begins all)) in
@@ -186,7 +185,7 @@ module _ (t : State) (b : BackupForm) (f checkpoint : ℕ) (rows : List Row) (so
   piece-agrees h agrees None others = whole-by (λ k. PieceAgrees (world t) h k (of None)) (is_none b.level) agrees agrees
   piece-agrees h agrees (Some from) others = picked_agrees (world t) h (current_of t) f checkpoint from rows (record { read = agrees; others = others from refl })
 
-  pub piece-true : (h : List Change) → BaseAgrees (world t) h (piece.base_of (of None)) → (from : Option ℕ) → BeginsBelow checkpoint from → AreAll from (length rows) are.datafile.blocks → AreOthers t h f checkpoint rows from
+  pub piece-true : (h : List Change) → BaseAgrees (world t) h (piece.base_of (of None)) → (from : Option ℕ) → BeginsBelow checkpoint from → AreAll are.datafile.creation from (length rows) are.datafile.blocks → AreOthers t h f checkpoint rows from
       → IsTrueArtefact (world t) h (a_piece (of from))
   piece-true h agrees from begins all others =
       record {

@@ -7,6 +7,7 @@ use Rattle.std.proofs.lemmas.List.Elements.{filter_map-append}
 use Rattle.rm_catalog.specs.declared.record.HeadEntry.{HeadEntry}
 use Rattle.rm_catalog.specs.declared.record.PartEntry.{PartEntry}
 use Rattle.rm_catalog.specs.declared.record.Record.{Record}
+use Rattle.rm_catalog.specs.declared.record.SetEntry.{SetEntry}
 use Rattle.rm_catalog.specs.declared.record.Record.TheVariants as kind
 use Rattle.rm_catalog.specs.Keys.{datafile_in, piece_in}
 use Rattle.rm_catalog.specs.Rules.{HasDatabase}
@@ -15,10 +16,10 @@ use Rattle.rm_history.specs.declared.tree.Incarnation.{Incarnation}
 use Rattle.rm_history.specs.declared.world.Datafile.{Datafile}
 use Rattle.rm_history.specs.declared.world.World.{World}
 use Rattle.rm_catalog_typed.specs.Ledger.{datafile_record, incarnation_record, mark_record, numbered}
-use Rattle.rm_evidence.specs.Database.{created_by, datafiles}
+use Rattle.rm_evidence.specs.Database.{created_by, database_in, datafiles}
 use Rattle.rm_evidence.specs.Database.{world_of as told_world}
 use Rattle.rm_catalog_typed.specs.TypedCatalog.{TypedCatalog, Saved, records_of, saved_records}
-use Rattle.rm_machine.specs.State.{world_of}
+use Rattle.rm_machine.specs.State.{database_of, world_of}
 use Rattle.rm_base.specs.declared.block.Mark.{Mark}
 
 module _ {B : Type 0} (tell : Record → Option B) where
@@ -51,25 +52,27 @@ module _ {B : Type 0} (tell : Record → Option B) where
       ∙ ap (λ (xs : List B). xs ++ filter_map tell (kind.Head s.head ∷ [])) (none-mapped kind.Part parts s.parts)
       ∙ ap (λ (o : Option B). cons_option o []) (heads s.head)
 
-  -- a list of six parts
-  of-parts : (a b c d e f : List Record) → filter_map tell (a ++ b ++ c ++ d ++ e ++ f) ≡ filter_map tell a ++ filter_map tell b ++ filter_map tell c ++ filter_map tell d ++ filter_map tell e ++ filter_map tell f
-  of-parts a b c d e f = simp (filter_map-append {X = Record} {Y = B})
+  -- a list of seven parts
+  of-parts : (a b c d e f g : List Record)
+      → filter_map tell (a ++ b ++ c ++ d ++ e ++ f ++ g) ≡ filter_map tell a ++ filter_map tell b ++ filter_map tell c ++ filter_map tell d ++ filter_map tell e ++ filter_map tell f ++ filter_map tell g
+  of-parts a b c d e f g = simp (filter_map-append {X = Record} {Y = B})
 
-  -- what the records of a catalog tell, where marks and saved sites tell nothing
+  -- what the records of a catalog tell, where marks, saved sites and sets tell nothing
   all-told : (r : TypedCatalog) (tree files logs pieces : List B) → filter_map tell (numbered incarnation_record 1 r.ledger.tree) ≡ tree → filter_map tell (numbered datafile_record 1 r.ledger.files) ≡ files
       → filter_map tell (map kind.Log r.ledger.logs) ≡ logs → filter_map tell (map kind.Piece r.ledger.pieces) ≡ pieces → tell (kind.Base r.ledger.base) ≡ None
-      → ((k : ℕ) (m : Mark) → tell (mark_record k m) ≡ None) → ((p : PartEntry) → tell (kind.Part p) ≡ None) → ((h : HeadEntry) → tell (kind.Head h) ≡ None) → filter_map tell (records_of r) ≡ tree ++ files ++ logs ++ pieces
-  all-told r tree files logs pieces is_tree is_files are_logs are_pieces base marks parts heads =
+      → ((k : ℕ) (m : Mark) → tell (mark_record k m) ≡ None) → ((p : PartEntry) → tell (kind.Part p) ≡ None) → ((h : HeadEntry) → tell (kind.Head h) ≡ None) → ((e : SetEntry) → tell (kind.Set e) ≡ None)
+      → filter_map tell (records_of r) ≡ tree ++ files ++ logs ++ pieces
+  all-told r tree files logs pieces is_tree is_files are_logs are_pieces base marks parts heads sets =
       let l = r.ledger in
       let first : filter_map tell (kind.Base l.base ∷ numbered incarnation_record 1 l.tree) ≡ tree = ap (λ o. cons_option o (filter_map tell (numbered incarnation_record 1 l.tree))) base ∙ is_tree in
-      of-parts (kind.Base l.base ∷ numbered incarnation_record 1 l.tree) (numbered datafile_record 1 l.files) (map kind.Log l.logs) (map kind.Piece l.pieces) (numbered mark_record 1 l.marks) (saved_records r.saved)
-      ∙ simp (first, is_files, are_logs, are_pieces, none-numbered mark_record marks 1 l.marks, none-saved parts heads r.saved, append-nil)
+      of-parts (kind.Base l.base ∷ numbered incarnation_record 1 l.tree) (numbered datafile_record 1 l.files) (map kind.Log l.logs) (map kind.Piece l.pieces) (numbered mark_record 1 l.marks) (saved_records r.saved) (map kind.Set l.sets)
+      ∙ simp (first, is_files, are_logs, are_pieces, none-numbered mark_record marks 1 l.marks, none-saved parts heads r.saved, none-mapped kind.Set sets l.sets, append-nil)
 
 -- the incarnations
 pub tree-told : (r : TypedCatalog) → nodes (records_of r) ≡ r.ledger.tree
 tree-told r =
     all-told node_in r r.ledger.tree [] [] [] (told-numbered node_in incarnation_record (λ k n. refl) 1 r.ledger.tree) (none-numbered node_in datafile_record (λ k d. refl) 1 r.ledger.files)
-    (none-mapped node_in kind.Log (λ e. refl) r.ledger.logs) (none-mapped node_in kind.Piece (λ p. refl) r.ledger.pieces) refl (λ k m. refl) (λ p. refl) (λ h. refl)
+    (none-mapped node_in kind.Log (λ e. refl) r.ledger.logs) (none-mapped node_in kind.Piece (λ p. refl) r.ledger.pieces) refl (λ k m. refl) (λ p. refl) (λ h. refl) (λ e. refl)
     ∙ simp append-nil
 
 -- the datafiles
@@ -77,20 +80,24 @@ pub files-told : (r : TypedCatalog) → datafiles (records_of r) ≡ r.ledger.fi
 files-told r =
     let tell : Record → Option Datafile = λ r. option_map created_by (datafile_in r) in
     all-told tell r [] r.ledger.files [] [] (none-numbered tell incarnation_record (λ k n. refl) 1 r.ledger.tree) (told-numbered tell datafile_record (λ k d. refl) 1 r.ledger.files)
-    (none-mapped tell kind.Log (λ e. refl) r.ledger.logs) (none-mapped tell kind.Piece (λ p. refl) r.ledger.pieces) refl (λ k m. refl) (λ p. refl) (λ h. refl)
+    (none-mapped tell kind.Log (λ e. refl) r.ledger.logs) (none-mapped tell kind.Piece (λ p. refl) r.ledger.pieces) refl (λ k m. refl) (λ p. refl) (λ h. refl) (λ e. refl)
     ∙ simp append-nil
 
 -- the pieces
 pub pieces-told : (r : TypedCatalog) → filter_map piece_in (records_of r) ≡ r.ledger.pieces
 pieces-told r =
     all-told piece_in r [] [] [] r.ledger.pieces (none-numbered piece_in incarnation_record (λ k n. refl) 1 r.ledger.tree) (none-numbered piece_in datafile_record (λ k d. refl) 1 r.ledger.files)
-    (none-mapped piece_in kind.Log (λ e. refl) r.ledger.logs) (told-mapped piece_in kind.Piece (λ p. refl) r.ledger.pieces) refl (λ k m. refl) (λ p. refl) (λ h. refl)
+    (none-mapped piece_in kind.Log (λ e. refl) r.ledger.logs) (told-mapped piece_in kind.Piece (λ p. refl) r.ledger.pieces) refl (λ k m. refl) (λ p. refl) (λ h. refl) (λ e. refl)
 
 -- and so the database, whose threads stand in the base facts
 pub world-told : (r : TypedCatalog) → told_world (records_of r) ≡ world_of r.ledger
 world-told r =
     let make : List Incarnation → List Datafile → World = λ ns ds. record { tree = ns; threads = r.ledger.base.threads; files = ds } in
     ap (λ ns. make ns (datafiles (records_of r))) (tree-told r) ∙ ap (make r.ledger.tree) (files-told r)
+
+-- what the objects of sets are compared with
+pub base-told : (r : TypedCatalog) → database_in (records_of r) ≡ database_of r.ledger
+base-told r = ap (λ (ds : List Datafile). record { dbid = r.ledger.base.dbid; files = ds }) (files-told r)
 
 pub database-told : (r : TypedCatalog) → HasDatabase (records_of r)
 database-told r = refl

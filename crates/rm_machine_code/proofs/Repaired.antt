@@ -34,7 +34,7 @@ use Rattle.rm_machine_code.proofs.Walk.{CanGoOn, events-same}
 
 -- a BACKUP of the same writes: the mark before them is the same
 abbrev pub marking : RepairForm → BackupForm
-marking form = record { copy = false; level = None; cumulative = false; merge_tag = None; files = None; tag = None; keep = false; during = form.during }
+marking form = record { copy = false; level = None; cumulative = false; merge_tag = None; files = None; files_per_set = None; tag = None; keep = false; during = form.during }
 
 -- each of the rows is one of these
 patch-row : (xs : List BlockId) (rows : List Row) (m : Patch) → Contains (patches xs rows) m → Contains rows m.1

@@ -5,10 +5,12 @@ use Rattle.std.proofs.lemmas.Bool.{and_parts, and_from, leb-true}
 use Rattle.std.proofs.lemmas.Bool.Decides.{nat_tests}
 use Rattle.std.proofs.lemmas.List.Elements.{All-head, All-tail}
 use Rattle.rm_lang_token.specs.Tokens.{is_word_byte}
-use Rattle.rm_lang_grammar.specs.Grammar.{capitals, is_tag}
+use Rattle.rm_lang_grammar.specs.Grammar.{capitals, in_range, is_tag}
 use Rattle.rm_lang_grammar.specs.Spelling.{is_capital_tag, maybe_valid}
 use Rattle.rm_lang_statement.specs.declared.command.BackupForm.{BackupForm}
+use Rattle.rm_lang_statement.specs.Agreed.{agrees}
 use Rattle.rm_lang_statement.specs.IsCommand.{is_backup}
+use Rattle.rm_lang_statement.specs.Named.{are_named}
 use Rattle.rm_catalog.specs.Objects.{IsTag, is_tag_byte}
 use Rattle.rm_moments.specs.Tags.{IsTagByte}
 use Rattle.rm_moments.specs.Text as text
@@ -59,5 +61,9 @@ valid-either (Some name) second one other = one
 
 pub tag-fits : (b : BackupForm) (moment : ℕ) (tag : List ℕ) → is_backup b ≡ true → IsTagBy (named_tag b) moment tag → IsTag tag
 tag-fits b moment tag valid is =
-    let tags = (and_parts _ _ (and_parts _ _ (and_parts _ _ valid).0).1).1 in
-    tag-by (named_tag b) moment tag (valid-either b.merge_tag b.tag (and_parts _ _ (and_parts _ _ tags).1).0 (and_parts _ _ tags).0) is
+    let words = (and_parts _ (agrees b.copy b) valid).0 in
+    let sets = (and_parts (maybe_valid are_named b.files) _ (and_parts (maybe_valid (in_range 0 1) b.level) _ words).1).1 in
+    let tags = (and_parts (maybe_valid (in_range 1 64) b.files_per_set) _ sets).1 in
+    let tag_is = and_parts (maybe_valid is_capital_tag b.tag) _ tags in
+    let merge_is = and_parts (maybe_valid is_capital_tag b.merge_tag) _ tag_is.1 in
+    tag-by (named_tag b) moment tag (valid-either b.merge_tag b.tag merge_is.0 tag_is.0) is

@@ -1,4 +1,4 @@
-//! The records of logs and pieces go.
+//! The records of logs, pieces and sets go.
 ghost use Rattle.std.specs.Prelude.{◌≡◌, ◌≤◌, ◌<◌, ◌^◌, ◌++◌, ◌∷◌, [], All, IfOk, OnOk, length, map};
 ghost use Rattle.rm_machine.specs.Upkeep.{with_catalog, without_all, without_record};
 ghost use Rattle.rm_report.specs.declared.line.Line.TheVariants.{Deleted, DeletedCount};
@@ -17,7 +17,8 @@ pub fn drop_record(state: &mut State, edits: &mut Vec<Edit>, id: u32) -> Result<
     ensures edits { OnOk result (EditsFollow edits.old.items edits.new.items state.old.catalog state.new.catalog) }
 {
     state.catalog.drop_log(edits, id)?;
-    state.catalog.drop_piece(edits, id)
+    state.catalog.drop_piece(edits, id)?;
+    state.catalog.drop_set(edits, id)
 }
 
 /// Takes the records of these ids away, one after another, with an edit for each. A line tells each, and a last one how

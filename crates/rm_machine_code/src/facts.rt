@@ -3,7 +3,7 @@ ghost use Rattle.std.specs.Prelude.{◌≡◌, ◌<◌, ◌≤◌, ◌↔◌, �
 ghost use Rattle.std.specs.Option.{option_copied};
 ghost use Rattle.rm_base.specs.Numbers.{last_scn};
 ghost use Rattle.rm_history.specs.Tree.{IsThere, end_of, owner};
-ghost use Rattle.rm_history.specs.World.{exists, file_of};
+ghost use Rattle.rm_history.specs.World.{blocks_of, exists, file_of};
 ghost use Rattle.rm_machine.specs.Dump.{placed_row};
 ghost use Rattle.rm_machine.specs.Loading.{has_lost};
 ghost use Rattle.rm_machine.specs.Mount.{first_lost};
@@ -68,6 +68,15 @@ fn file(state: &State, number: u64) -> Option<Datafile>
 {
     let index = usize::try_from(number.checked_sub(1)?).ok()?;
     state.catalog.files().get(index).copied()
+}
+
+/// How many blocks the datafile of this number has: 65,536 at most, and none where it is not there.
+pub fn blocks_of(state: &State, number: FileNo) -> u32
+    requires sound { IsSound state.now }
+    ensures value { result ≡ blocks_of (world state.now) number }
+    ensures most { result ≤ 65536 }
+{
+    file(state, u64::from(number)).map_or(0, |datafile| datafile.blocks)
 }
 
 /// The datafile of this number, where it exists at the address (i, s).

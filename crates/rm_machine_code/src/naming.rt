@@ -1,12 +1,12 @@
 //! The names of the objects of records.
 ghost use Rattle.std.specs.Prelude.{◌≡◌, ◌==◌, ◌++◌, OnOk, filter, map};
-ghost use Rattle.rm_evidence.specs.Names.{log_name, piece_name};
+ghost use Rattle.rm_evidence.specs.Names.{log_name, piece_name, set_name};
 ghost use Rattle.rm_machine.specs.Sound.{IsSound};
 ghost use Rattle.rm_machine.specs.State.{ledger};
 ghost use Rattle.rm_machine.specs.Upkeep.{names_at};
 
 use rm_base::{NoMemory, Seq, Text};
-use rm_evidence::{log_name, piece_name};
+use rm_evidence::{log_name, piece_name, set_name};
 use rm_machine::State;
 use std::alloc::Global;
 
@@ -42,6 +42,22 @@ fn push_piece_name(
     }
 }
 
+// Adds the name of the set of an id, if there is one.
+fn push_set_name(
+    alloc: Global,
+    state: &State,
+    id: u32,
+    names: &mut Seq<Text>,
+) -> Result<(), NoMemory>
+    requires sound { IsSound state.now }
+    ensures { OnOk result (names.new ≡ names.old ++ map (λ e. set_name e.id) (filter (λ e. e.id == id) (ledger state.now).sets)) }
+{
+    match state.catalog.set(id) {
+        Some(set) => names.push(set_name(alloc, set.id)?),
+        None => Ok(()),
+    }
+}
+
 /// Adds the name of the object of the record of an id, if there is one.
 pub fn push_name(
     alloc: Global,
@@ -53,5 +69,6 @@ pub fn push_name(
     ensures { OnOk result (names.new ≡ names.old ++ names_at id state.now.catalog) }
 {
     push_log_name(alloc, state, id, names)?;
-    push_piece_name(alloc, state, id, names)
+    push_piece_name(alloc, state, id, names)?;
+    push_set_name(alloc, state, id, names)
 }

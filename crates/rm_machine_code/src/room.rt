@@ -1,12 +1,14 @@
 //! The room for records, bytes and object ids.
-ghost use Rattle.std.specs.Prelude.{◌≡◌, ◌≤◌, ◌^◌, length, sum_by};
+ghost use Rattle.std.specs.Prelude.{◌≡◌, ◌≤◌, ◌<◌, ◌*◌, ◌^◌, All, length, map, sum_by};
+ghost use Rattle.rm_history.specs.World.{blocks_of};
 ghost use Rattle.rm_catalog_typed.specs.Ledger.{ledger_records};
-ghost use Rattle.rm_machine.specs.Marks.{bytes_in, ids_refusal, lacks_bytes, lacks_ids, lacks_room};
+ghost use Rattle.rm_machine.specs.Marks.{bytes_in, ids_refusal, lacks_bytes, lacks_ids, lacks_room, set_bytes};
 ghost use Rattle.rm_machine.specs.Sound.{IsSound};
-ghost use Rattle.rm_machine.specs.State.{ledger};
+ghost use Rattle.rm_machine.specs.State.{ledger, world};
 
+use crate::facts::blocks_of;
 use rm_base::{Limit, Refusal};
-use rm_catalog::{LogEntry, MOST_BYTES, MOST_RECORDS, PieceEntry};
+use rm_catalog::{LogEntry, MOST_BYTES, MOST_RECORDS, PieceEntry, SetEntry, SetPart};
 use rm_machine::State;
 
 // How many records the database has, a saved site left aside.
@@ -17,7 +19,8 @@ fn record_count(state: &State) -> u64
 {
     let catalog = &state.catalog;
     let numbered = u64::from(catalog.tree().count()) + catalog.files().len() as u64;
-    let objects = catalog.logs().len() as u64 + catalog.pieces().len() as u64;
+    let backups = catalog.pieces().len() as u64 + catalog.sets().len() as u64;
+    let objects = catalog.logs().len() as u64 + backups;
     1 + numbered + objects + catalog.marks().len() as u64
 }
 
@@ -45,13 +48,53 @@ fn piece_bytes(pieces: &[PieceEntry]) -> u64
     pieces.iter().map(|piece| piece.size).sum()
 }
 
-// The bytes of which the records tell.
+// How many blocks the datafiles of these parts have together.
+fn blocks_in(state: &State, parts: &[SetPart]) -> u64
+    requires sound { IsSound state.now }
+    requires few { length parts.now ≤ 64 }
+    ensures value { result ≡ sum_by (λ p. blocks_of (world state.now) p.file) parts.now }
+    ensures most { result ≤ 65536 * length parts.now }
+{
+    let mut blocks = 0;
+    for part in parts {
+        blocks += u64::from(blocks_of(state, part.file));
+    }
+    blocks
+}
+
+// What a set of these parts counts as: 57 bytes, 37 for each part, and 76 for each block of their datafiles.
+fn part_bytes(state: &State, parts: &[SetPart]) -> u64
+    requires sound { IsSound state.now }
+    requires few { length parts.now ≤ 64 }
+    ensures value { result ≡ set_bytes (world state.now) (map (λ p. p.file) parts.now) }
+    ensures most { result ≤ 2 ^ 29 }
+{
+    57 + 37 * parts.len() as u64 + 76 * blocks_in(state, parts)
+}
+
+// What these sets count as.
+fn set_bytes(state: &State, sets: &[SetEntry]) -> u64
+    requires sound { IsSound state.now }
+    requires few { length sets.now ≤ 65536 }
+    requires parts { All (λ e. length e.parts ≤ 64) sets.now }
+    ensures value { result ≡ sum_by (λ e. set_bytes (world state.now) (map (λ p. p.file) e.parts)) sets.now }
+    ensures most { result ≤ 2 ^ 45 }
+{
+    let mut bytes = 0;
+    for set in sets {
+        bytes += part_bytes(state, set.parts.as_slice());
+    }
+    bytes
+}
+
+// What the recorded objects count as.
 fn recorded_bytes(state: &State) -> u64
     requires { IsSound state.now }
     ensures value { result ≡ bytes_in (ledger state.now) }
-    ensures most { result ≤ 2 ^ 45 }
+    ensures most { result ≤ 2 ^ 46 }
 {
-    log_bytes(state.catalog.logs()) + piece_bytes(state.catalog.pieces())
+    let catalog = &state.catalog;
+    log_bytes(catalog.logs()) + piece_bytes(catalog.pieces()) + set_bytes(state, catalog.sets())
 }
 
 /// Whether `count` bytes of objects more would be too many.

@@ -8,7 +8,7 @@ use Rattle.std.proofs.lemmas.Option.{slice_get_past, slice_get_within}
 use Rattle.rm_base.specs.Store.{Held}
 use Rattle.rm_base.specs.declared.block.Change.{Change}
 use Rattle.rm_base.specs.declared.block.Row.{Row}
-use Rattle.rm_base.proofs.Members.{first-or-rest, none-in}
+use Rattle.rm_base.proofs.Members.{first-or-rest, none-in, slice_get-front}
 use Rattle.rm_base.proofs.Slots.{get-index, get-push, index-get}
 use Rattle.rm_blocks.specs.File.{File, created, created_row, created_rows, standing}
 use Rattle.rm_blocks.proofs.Rows.{in_order-created, length-created}
@@ -38,8 +38,9 @@ use Rattle.rm_machine.specs.Marks.{one_further}
 use Rattle.rm_machine.specs.Sound.{IsPlaced, IsPlacedRow, IsSound}
 use Rattle.rm_machine.specs.Tracked.{AreTracked, IsTracked, tracks}
 use Rattle.rm_machine.specs.declared.state.State.{State}
-use Rattle.rm_machine.specs.State.{world, now_of, on_path, placed}
+use Rattle.rm_machine.specs.State.{database_of, world, now_of, on_path, placed}
 use Rattle.rm_machine_code.proofs.Damaged.{damaged-kept}
+use Rattle.rm_machine_code.proofs.Kept.{GrowsTo, kept-on, stand-same}
 use Rattle.rm_machine_code.proofs.Further.{catalog-further, keeps-further, sound-further}
 use Rattle.rm_machine_code.proofs.FirstTold.{lie-below}
 use Rattle.rm_machine_laws.proofs.DamagedRows.{but-damaged, sound-agrees}
@@ -313,12 +314,17 @@ module _ (s : State) (blocks : ℕ) (sound : IsSound s) (a : HasRoom s blocks) (
       level1 = λ b known inside agrees. Level1Agrees-with_file (world p) d h b inside agrees;
     }
 
+  -- each datafile that was there is there
+  grows-created : GrowsTo (database_of s.catalog.ledger) (database_of q.catalog.ledger)
+  grows-created = record { dbid = refl; files = λ k e is. slice_get-front files d k (slice_get_within files k e is) ∙ is }
+
   borne-created : (h : List Change) (objects : Held) (made : List Made) (touched : List (List ℕ)) → IsBorneOut s h objects made touched → IsBorneOut q h objects made touched
   borne-created h objects made touched stands = record {
     state = sound-created;
     keeps = fits-created h stands.keeps;
     artefacts = λ x has. true-on (world p) (world q) h (same-created h stands.keeps) x.artefact (true-on (world s) (world p) h (same-further s sound a.on h) x.artefact (stands.artefacts x has));
-    records = record { logs = stands.records.logs; pieces = stands.records.pieces };
+    records = kept-on objects objects made made touched touched s.catalog.ledger q.catalog.ledger grows-created
+        (stand-same objects objects touched s.catalog.ledger q.catalog.ledger (λ n. refl)) (λ x has. has) (λ e has. inl has) (λ e has. inl has) (λ e has. inl has) stands.records;
   }
 
 -- a CREATE DATAFILE of the grammar asks for a block

@@ -1,5 +1,6 @@
 -- What is at hand agrees with the history, where digests tell.
-use Rattle.std.proofs.Common.{◌≡◌, ◌≢◌, ◌+◌, ◌-◌, ◌∙◌, inl, inr, ℕ, suc, List, [], Option, Some, None, refl, ap, sym, subst, arith, Contains, slice_index_or}
+use Rattle.std.proofs.Common.{◌≡◌, ◌≢◌, ◌+◌, ◌-◌, ◌∙◌, inl, inr, ℕ, suc, List, [], Option, Some, None, refl, ap, sym, subst, arith, All, Contains, slice_index_or}
+use Rattle.std.proofs.lemmas.List.Elements.{All-contains}
 use Rattle.rm_base.specs.Store.{Held}
 use Rattle.rm_base.specs.declared.block.Change.{Change}
 use Rattle.rm_base.specs.declared.kinds.Kind.{Kind}
@@ -9,29 +10,34 @@ use Rattle.rm_base.proofs.Members.{none-in}
 use Rattle.rm_base.proofs.Slots.{index-get}
 use Rattle.rm_catalog.specs.declared.record.LogEntry.{LogEntry}
 use Rattle.rm_catalog.specs.declared.record.PieceEntry.{PieceEntry}
+use Rattle.rm_catalog.specs.declared.record.SetEntry.{SetEntry}
 use Rattle.rm_evidence.specs.declared.evidence.Evidence.{Evidence}
-use Rattle.rm_evidence.specs.Available.{HasLogObject, HasPieceObject}
+use Rattle.rm_evidence.specs.Available.{HasLogObject, HasPieceObject, HasSetObject}
 use Rattle.rm_evidence.specs.Known.{known_of}
 use Rattle.rm_history.specs.declared.world.World.{World}
 use Rattle.rm_history.specs.Agrees.{BaseAgrees, Level1Agrees, LogAgrees}
 use Rattle.rm_history.specs.Evidence as known
-use Rattle.rm_evidence.specs.Names.{log_name, piece_name}
+use Rattle.rm_evidence.specs.Names.{log_name, piece_name, set_name}
 use Rattle.rm_piece.specs.declared.piece.Piece.{Piece}
 use Rattle.rm_piece.specs.Artefacts.{base_of, level1_of}
+use Rattle.rm_piece.specs.declared.set.Set.{Set}
+use Rattle.rm_piece.specs.declared.set.SetFile.{SetFile}
+use Rattle.rm_piece.specs.SetSpelling.{set_spelling}
 use Rattle.rm_piece.specs.Spelling as piece_format
 use Rattle.rm_piece.proofs.Fitting.{spelling_same as piece_same}
+use Rattle.rm_piece.proofs.SetFitting.{spelling_same as set_same}
 use Rattle.rm_redo.specs.declared.log_file.LogFile.{LogFile}
 use Rattle.rm_redo.specs.LogFile.{log_of}
 use Rattle.rm_redo.specs.LogFormat as log_format
 use Rattle.rm_redo.proofs.LogFitting.{spelling_same as log_same}
 use Rattle.rm_machine.specs.Damage.{has_file}
-use Rattle.rm_machine.specs.Effect.{Made, a_log, a_piece}
+use Rattle.rm_machine.specs.Effect.{Made, a_log, a_piece, a_set}
 use Rattle.rm_machine.specs.Machine.{DigestsTell, DigestsTellFor, IsBorneOut, IsTrueArtefact, Machine, PieceAgrees, TellBy}
 use Rattle.rm_machine.specs.Recovery.{IsAtHand}
 use Rattle.rm_machine.specs.declared.state.State.{State}
-use Rattle.rm_machine.specs.State.{ledger, world}
+use Rattle.rm_machine.specs.State.{database_of, ledger, world}
 use Rattle.rm_machine_code.proofs.Places.{placed-is}
-use Rattle.rm_machine_laws.proofs.AtHand.{BaseFrom, Level1From, LogFrom, base-from, from_copy, from_log, from_online, from_place, level1-from, log-from}
+use Rattle.rm_machine_laws.proofs.AtHand.{BackupFrom, BaseFrom, Level1From, LogFrom, base-from, from_copy, from_log, from_online, from_piece, from_place, from_set, level1-from, log-from}
 
 -- a piece that is no level 1 agrees as a copy
 as-base : (w : World) (h : List Change) (k : Kind) (a : Piece) → k ≢ Level1 → PieceAgrees w h k a → BaseAgrees w h (base_of a)
@@ -67,6 +73,25 @@ module _ (s : State) (h : List Change) (objects : Held) (made : List Made) (touc
       let same : kept.artefact ≡ a = piece_same kept.artefact a is.valid there.object.valid (sym bytes ∙ there.object.spelled) in
       subst (λ (x : Piece). PieceAgrees (world s) h x.kind x) same is.agrees
 
+  -- an available set is the one that was recorded
+  set-agrees : (e : SetEntry) (a : Set) → Contains (ledger s).sets e → HasSetObject objects (database_of (ledger s)) e a → All (λ m. PieceAgrees (world s) h m.piece.kind m.piece) a.members
+  set-agrees e a has there =
+      let kept = borne.records.sets e has in
+      let was : Made = record { name = set_name e.id; artefact = a_set kept.artefact } in
+      let is : IsTrueArtefact (world s) h (a_set kept.artefact) = borne.artefacts was kept.is in
+      let bytes : there.bytes ≡ set_spelling kept.artefact = elim kept.there [
+        | inl given ↦ tells.sets e kept.artefact there.bytes given has kept.is kept.digest there.there there.object.digest
+        | inr stands ↦ let one : Some there.bytes ≡ Some (set_spelling kept.artefact) = sym there.there ∙ stands in cc
+      ] in
+      let same : kept.artefact ≡ a = set_same kept.artefact a is.valid there.object.valid (sym bytes ∙ there.object.spelled) in
+      subst (λ (x : Set). All (λ m. PieceAgrees (world s) h m.piece.kind m.piece) x.members) same is.agrees
+
+  -- so each backup at hand agrees
+  backup-agrees : (a : Piece) → BackupFrom s objects a → PieceAgrees (world s) h a.kind a
+  backup-agrees _ (from_piece p a has there) = piece-agrees p a has there
+  backup-agrees _ (from_set e a m has there member) =
+      All-contains (λ (n : SetFile). PieceAgrees (world s) h n.piece.kind n.piece) a.members m (set-agrees e a has there) member
+
   log-by : (a : LogFile) → LogFrom s objects a → LogAgrees h (log_of a)
   log-by _ (from_online t low high found) = borne.keeps.online t low high found
   log-by _ (from_log l a has there) = log-agrees l a has there
@@ -77,12 +102,10 @@ module _ (s : State) (h : List Change) (objects : Held) (made : List Made) (touc
       let stands = index-get s.instance.place k x at in
       let number : x.file ≡ 1 + k = omega (arith, (placed-is s k x borne.state.place stands).file) in
       borne.keeps.place (suc k) x (ap (λ n. slice_index_or s.instance.place n None) back ∙ stands) (ap (has_file s.instance.damaged) number ∙ clear)
-  base-by _ (from_copy p a has kind there) =
-      as-base (world s) h a.kind a (λ e. kind (sym there.object.fields.kind ∙ e)) (piece-agrees p a has there)
+  base-by _ (from_copy a kind backup) = as-base (world s) h a.kind a kind (backup-agrees a backup)
 
   pub level1-by : (a : Piece) → Level1From s objects a → Level1Agrees (world s) h (level1_of a)
-  level1-by a from =
-      subst (λ k. PieceAgrees (world s) h k a) (from.has.object.fields.kind ∙ from.kind) (piece-agrees from.entry a from.recorded from.has)
+  level1-by a from = subst (λ k. PieceAgrees (world s) h k a) from.kind (backup-agrees a from.backup)
 
   -- all that is at hand agrees
   pub evidence-agrees : (e : Evidence) → IsAtHand s objects e → known.Agrees (world s) h (known_of e)
@@ -104,6 +127,7 @@ untouched-by None objects made = tt
 untouched-by (Some s) objects made = record {
   logs = λ e a bytes given. absurd (none-in (log_name e.id) given);
   pieces = λ e a bytes given. absurd (none-in (piece_name e.copy e.id) given);
+  sets = λ e a bytes given. absurd (none-in (set_name e.id) given);
 }
 
 pub untouched-tell : (m : Machine) → m.touched ≡ [] → DigestsTell m

@@ -8,18 +8,23 @@ use Rattle.rm_base.proofs.Lists.{map_from}
 use Rattle.rm_blocks.specs.File.{File}
 use Rattle.rm_catalog.specs.declared.record.LogEntry.{LogEntry}
 use Rattle.rm_catalog.specs.declared.record.PieceEntry.{PieceEntry}
+use Rattle.rm_catalog.specs.declared.record.SetEntry.{SetEntry}
 use Rattle.rm_evidence.specs.declared.evidence.Evidence.{Evidence}
-use Rattle.rm_evidence.specs.Available.{HasLogObject, HasPieceObject}
-use Rattle.rm_evidence.specs.Gathered.{IsBaseOf, IsLevel1Of, IsLogOf, placed, placed_piece}
+use Rattle.rm_evidence.specs.Available.{HasLogObject, HasPieceObject, HasSetObject}
+use Rattle.rm_evidence.specs.Database.{Database, database_in}
+use Rattle.rm_evidence.specs.Gathered.{IsBaseOf, IsLevel1Of, IsLogOf, IsPieceAmong, placed, placed_piece}
 use Rattle.rm_piece.specs.declared.piece.Piece.{Piece}
+use Rattle.rm_piece.specs.declared.set.Set.{Set}
+use Rattle.rm_piece.specs.declared.set.SetFile.{SetFile}
 use Rattle.rm_redo.specs.declared.log_file.LogFile.{LogFile}
 use Rattle.rm_catalog_typed.specs.TypedCatalog.{records_of}
-use Rattle.rm_catalog_typed.proofs.Members.{log-in, piece-in}
+use Rattle.rm_catalog_typed.proofs.Members.{log-in, piece-in, set-in}
 use Rattle.rm_machine.specs.Damage.{has_file, undamaged}
 use Rattle.rm_machine.specs.Recovery.{IsAtHand, in_place, online_logs}
 use Rattle.rm_machine.specs.Sound.{IsSound}
 use Rattle.rm_machine.specs.declared.state.State.{State}
-use Rattle.rm_machine.specs.State.{ledger, counted, online, is_lost}
+use Rattle.rm_machine.specs.State.{database_of, ledger, counted, online, is_lost}
+use Rattle.rm_machine_code.proofs.Records.{base-told}
 use Rattle.rm_machine_code.proofs.Undamaged.{undamaged-at}
 use Rattle.rm_machine_code.proofs.Standing.{present-in}
 use Rattle.rm_machine_code.proofs.AtHand.{online-in}
@@ -29,17 +34,20 @@ pub data LogFrom (s : State) (held : Held) : LogFile → Type 0 where
   from_online : (t : ℕ) → 0 < t → t ≤ (ledger s).base.threads → is_lost s.instance.logs t ≡ false → LogFrom s held (online s t)
   from_log : (e : LogEntry) (a : LogFile) → Contains (ledger s).logs e → HasLogObject held e a → LogFrom s held a
 
--- a copy at hand is a datafile in place of which no block is damaged, or the piece of a record
+-- a backup at hand is the piece of a record, or one of the set of a record
+pub data BackupFrom (s : State) (held : Held) : Piece → Type 0 where
+  from_piece : (p : PieceEntry) (a : Piece) → Contains (ledger s).pieces p → HasPieceObject held p a → BackupFrom s held a
+  from_set : (e : SetEntry) (a : Set) (m : SetFile) → Contains (ledger s).sets e → HasSetObject held (database_of (ledger s)) e a → Contains a.members m → BackupFrom s held m.piece
+
+-- a copy at hand is a datafile in place of which no block is damaged, or a backup
 pub data BaseFrom (s : State) (held : Held) : Piece → Type 0 where
   from_place : (k : ℕ) (x : File) → slice_get s.instance.place k ≡ Some (Some x) → has_file s.instance.damaged (1 + k) ≡ false → BaseFrom s held (placed_piece (ledger s).base.dbid (counted s x))
-  from_copy : (p : PieceEntry) (a : Piece) → Contains (ledger s).pieces p → p.kind ≢ Level1 → HasPieceObject held p a → BaseFrom s held a
+  from_copy : (a : Piece) → a.kind ≢ Level1 → BackupFrom s held a → BaseFrom s held a
 
--- a level 1 at hand is that of a record
+-- a level 1 at hand is a backup
 pub record Level1From (s : State) (held : Held) (a : Piece) : Type 0 where
-  pub entry : PieceEntry
-  pub recorded : Contains (ledger s).pieces entry
-  pub kind : entry.kind ≡ Level1
-  pub has : HasPieceObject held entry a
+  pub kind : a.kind ≡ Level1
+  pub backup : BackupFrom s held a
 
 -- what is in place stands under the id 0
 placed-from : {A : Type 0} (items : List A) (id : ℕ) (a : A) → Contains (placed items) (id, a) → Contains items a
@@ -70,15 +78,20 @@ module _ (s : State) (held : Held) (sound : IsSound s) (e : Evidence) (gathered 
         from_log is.0 a (log-in s.catalog is.0 sound.catalog is.1) is.3
   ]
 
+  backup-from : (id : ℕ) (a : Piece) → IsPieceAmong held (database_in (records_of s.catalog)) (records_of s.catalog) id a → BackupFrom s held a
+  backup-from id a (inl own) = from_piece own.0 a (piece-in s.catalog own.0 sound.catalog own.1) own.3
+  backup-from id a (inr of) = subst (BackupFrom s held) of.7
+      (from_set of.0 of.3 of.5 (set-in s.catalog of.0 sound.catalog of.1) (subst (λ (b : Database). HasSetObject held b of.0 of.3) (base-told s.catalog) of.4) of.6)
+
   pub base-from : (id : ℕ) (a : Piece) → Contains e.bases (id, a) → BaseFrom s held a
   base-from id a has = elim (Contains-append_cases (placed (map (placed_piece (ledger s).base.dbid) (in_place s).files)) gathered.bases.rest (id, a) (subst (λ xs. Contains xs (id, a)) gathered.bases.list has)) [
     | inl here ↦ placed-file a (placed-from (map (placed_piece (ledger s).base.dbid) (in_place s).files) id a here)
     | inr rest ↦
         let is : IsBaseOf held (records_of s.catalog) id a = (gathered.bases.exact id a).0 rest in
-        from_copy is.0 a (piece-in s.catalog is.0 sound.catalog is.1) is.3 is.4
+        from_copy a is.1 (backup-from id a is.0)
   ]
 
   pub level1-from : (id : ℕ) (a : Piece) → Contains e.level1s (id, a) → Level1From s held a
   level1-from id a has =
       let is : IsLevel1Of held (records_of s.catalog) id a = (gathered.level1s.exact id a).0 (subst (λ xs. Contains xs (id, a)) gathered.level1s.list has) in
-      record { entry = is.0; recorded = piece-in s.catalog is.0 sound.catalog is.1; kind = is.3; has = is.4 }
+      record { kind = is.1; backup = backup-from id a is.0 }

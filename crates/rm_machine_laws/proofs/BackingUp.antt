@@ -1,5 +1,6 @@
--- BACKUP leads on: the mark, the events, and then the pieces.
-use Rattle.std.proofs.Common.{◌≡◌, ◌⊎◌, ◌<◌, ◌≤◌, ◌+◌, ◌∙◌, ◌++◌, ◌==◌, inl, inr, ℕ, List, Option, Some, None, Ok, false, refl, sym, subst, arith, get_or, length, map, All, Contains}
+-- BACKUP leads on: the mark, the events, and then the pieces or sets.
+use Rattle.std.proofs.Common.{◌≡◌, ◌⊎◌, ◌<◌, ◌≤◌, ◌+◌, ◌∙◌, ◌++◌, ◌==◌, inl, inr, ℕ, List, Option, Some, None, Ok, false, refl, sym, subst, arith, get_or, length, map, slice_get, All, Contains, IfSome}
+use Rattle.std.specs.Prelude.{IsSomeAnd}
 use Rattle.std.proofs.lemmas.List.Elements.{Contains-get_or}
 use Rattle.std.specs.List.{list_any}
 use Rattle.std.specs.Option.{option_map}
@@ -13,7 +14,9 @@ use Rattle.rm_base.specs.declared.block.Row.{Row}
 use Rattle.rm_catalog.specs.Objects.{IsTag}
 use Rattle.rm_channel.specs.Jobs.{AreRows, deeds_of}
 use Rattle.rm_channel.specs.Made.{AreThese, deed}
-use Rattle.rm_history.specs.Agrees.{IsBelow}
+use Rattle.rm_evidence.specs.Objects.{IsAsCreated}
+use Rattle.rm_history.specs.declared.world.Datafile.{Datafile}
+use Rattle.rm_history.specs.Agrees.{IsBelow, IsRow}
 use Rattle.rm_history.specs.World.{blocks_of}
 use Rattle.rm_piece.specs.Level1s.{IsRead}
 use Rattle.rm_track.specs.Told.{Tell}
@@ -23,7 +26,8 @@ use Rattle.rm_live.specs.declared.history.Event.{Event}
 use Rattle.rm_live.specs.History.{IsLegal}
 use Rattle.rm_lang_statement.specs.declared.command.BackupForm.{BackupForm}
 use Rattle.rm_lang_statement.specs.declared.command.WriteForm.{WriteForm}
-use Rattle.rm_machine.specs.MadePieces.{piece_by}
+use Rattle.rm_machine.specs.MadePieces.{Copied, piece_by}
+use Rattle.rm_machine.specs.MadeSets.{InSet, member_by}
 use Rattle.rm_machine.specs.Backup.{AreJobs, taken}
 use Rattle.rm_machine.specs.Effect.{Effect, Made, a_piece}
 use Rattle.rm_machine.specs.Machine.{IsBorneOut, IsTrueArtefact}
@@ -34,16 +38,17 @@ use Rattle.rm_machine.specs.State.{current_of, ledger, now_of, world}
 use Rattle.rm_machine_code.proofs.Tags.{tag-fits}
 use Rattle.rm_machine.specs.Asked.{blocks_read, span_of, writers_of, writes_in}
 use Rattle.rm_machine.specs.Events.{changes_of, opening}
-use Rattle.rm_machine.specs.MadePieces.{CanRecord, Copied, after_pieces, copied, pieces_made, pieces_put}
+use Rattle.rm_machine.specs.MadeObjects.{CanRecord, Packed, after_objects, objects_made, objects_put, packed}
 use Rattle.rm_machine.specs.BackupOutcome.{at_end, begun, effect_of}
 use Rattle.rm_machine.specs.BackupRefusal.{damage_refusal, damaged_taken, damaged_write, mark_count}
 use Rattle.rm_machine.specs.Damage.{has_block, has_file}
 use Rattle.rm_machine_code.proofs.BackupAccepted.{CanBackUp, can-back_up, unless-some}
 use Rattle.rm_machine_code.proofs.LosingFits.{no-block}
-use Rattle.rm_machine_code.proofs.Copies.{IsReady, all-copied, ready-true}
+use Rattle.rm_machine_code.proofs.Copies.{IsReady, all-copied, all-in_sets, all-packed, ready-member_true, ready-true}
 use Rattle.rm_machine_code.proofs.BackupMarks.{borne-marked, marked-same}
-use Rattle.rm_machine_code.proofs.PiecesRead.{AreOthers, IsCheckpoint}
-use Rattle.rm_machine_laws.proofs.Recording.{pieces-borne, pieces-saved, pieces-sound}
+use Rattle.rm_machine_code.proofs.MembersRead.{creation-by}
+use Rattle.rm_machine_code.proofs.PiecesRead.{AreOthers, IsCheckpoint, blocks-by}
+use Rattle.rm_machine_laws.proofs.Recording.{IsTrueMember, IsTrueObject, objects-borne, objects-saved, objects-sound}
 use Rattle.rm_machine_code.proofs.Deeds.{WereRead, are-read}
 use Rattle.rm_machine_code.proofs.Walk.{AreAsked, CanGoOn, HasWalked, events-same}
 use Rattle.rm_machine_laws.proofs.Walk.{below-events, borne-events, true-events}
@@ -51,7 +56,7 @@ use Rattle.rm_machine_laws.proofs.Wanted.{below-begun, is-taken, tell-begun}
 use Rattle.rm_machine_laws.proofs.Leading.{LeadsOnBy, StaysBy}
 use Rattle.rm_lang_statement.specs.declared.command.Command.TheVariants.{Backup}
 use Rattle.rm_machine_laws.proofs.Quiet.{landed, same-stays}
-use Rattle.rm_machine_code.proofs.BackingUp.{IsNoCandidate, IsReadyToRead, jobs-ready, of-each}
+use Rattle.rm_machine_code.proofs.BackingUp.{IsNoCandidate, IsReadyToRead, jobs-ready, of-each, per_set-some}
 use Rattle.rm_machine_code.proofs.BackingUp as shared
 
 -- of a datafile that is backed up no block is damaged
@@ -83,7 +88,7 @@ record IsWanted (s : State) (b : BackupForm) (j : Job) : Type 0 where
 -- The mark before its writes, and the bitmaps that end there
 
 module _ (s : State) (b : BackupForm) (contents : All (λ (w : WriteForm). length w.content.0 ≡ 64) (writes_in b)) (sound : IsSound s) (can : CanBackUp s b) (tag : List ℕ) (tagged : IsTag tag) (jobs : List Job) (are : AreJobs s b jobs) (rows : List (List Row)) (whole : AreRows rows (map (span_of (begun s b)) jobs))
-    (scns : List (List ℕ)) (events : List Event) (legal : IsLegal (opening (begun s b)) events) (these : AreThese (deeds_of (map (span_of (begun s b)) jobs) rows 1 (writers_of s b) (map (map Ok) scns)) (map deed events)) where
+    (scns : List (List ℕ)) (events : List Event) (legal : IsLegal (opening (begun s b)) events) (these : AreThese (deeds_of (map (span_of (begun s b)) jobs) rows 1 (writers_of s b) (map (map Ok) scns)) (map deed events)) (some : IfSome b.files_per_set (λ n. 1 ≤ n)) where
   abbrev u : State
   u = shared.u s b contents sound can tag tagged jobs are rows whole scns events legal these
 
@@ -93,7 +98,7 @@ module _ (s : State) (b : BackupForm) (contents : All (λ (w : WriteForm). lengt
   abbrev ws : List WriteForm
   ws = shared.ws s b contents sound can tag tagged jobs are rows whole scns events legal these
 
-  abbrev xs : List Copied
+  abbrev xs : List Packed
   xs = shared.xs s b contents sound can tag tagged jobs are rows whole scns events legal these
 
   room : length (ledger_records (ledger s)) + mark_count s b ≤ 65536
@@ -122,17 +127,17 @@ module _ (s : State) (b : BackupForm) (contents : All (λ (w : WriteForm). lengt
     not-read : (k : ℕ) → k < blocks_of (world t) j.file → IsRead rs k ⊎ IsNoCandidate u j k
     not-read = shared.not-read s b contents sound can tag tagged jobs are rows whole scns events legal these j rs is were
 
-  same : copied (ledger t) b (now_of s) jobs rows ≡ xs
+  same : packed (ledger t) b (now_of s) jobs rows ≡ xs
   same = shared.same s b contents sound can tag tagged jobs are rows whole scns events legal these
 
   can-record : CanRecord t b tag xs
-  can-record = shared.can-record s b contents sound can tag tagged jobs are rows whole scns events legal these
+  can-record = shared.can-record s b contents sound can tag tagged jobs are rows whole scns events legal these some
 
-  pub during-sound : IsSound (after_pieces t b tag xs)
-  during-sound = pieces-sound b tag xs t walked.can.sound can-record
+  pub during-sound : IsSound (after_objects t b tag xs)
+  during-sound = objects-sound b tag xs t walked.can.sound can-record
 
-  pub during-unsaved : (after_pieces t b tag xs).catalog.saved ≡ s.catalog.saved
-  during-unsaved = pieces-saved b tag xs t ∙ events-same (λ (q : State). q.catalog.saved) (λ q w. refl) (λ q f row. refl) events u ∙ marked-same (λ (q : State). q.catalog.saved) s b refl
+  pub during-unsaved : (after_objects t b tag xs).catalog.saved ≡ s.catalog.saved
+  during-unsaved = objects-saved b tag xs t ∙ events-same (λ (q : State). q.catalog.saved) (λ q w. refl) (λ q f row. refl) events u ∙ marked-same (λ (q : State). q.catalog.saved) s b refl
 
   all-wanted : All (IsWanted s b) jobs
   all-wanted k d inside = record {
@@ -160,8 +165,11 @@ module _ (s : State) (b : BackupForm) (contents : All (λ (w : WriteForm). lengt
             point = was.keeps.point;
           };
           artefacts = was.artefacts;
-          records = record { logs = was.records.logs; pieces = was.records.pieces };
+          records = record { logs = was.records.logs; pieces = was.records.pieces; sets = was.records.sets };
         }
+
+    borne-end : IsBorneOut t later objects made touched
+    borne-end = borne-events ws events u h objects made touched goes-on borne-begun legal asked
 
     -- a block of which no row was read stays below the checkpoint of the parent
     below-later : (j : Job) (k : ℕ) → IsWanted s b j → (it : IsNoCandidate u j k) → IsBelow (world t) later (current_of t) j.file (now_of s) it.from k
@@ -177,22 +185,43 @@ module _ (s : State) (b : BackupForm) (contents : All (λ (w : WriteForm). lengt
           inr (subst (λ n. IsBelow (world t) later (current_of t) j.file (now_of s) n k) same (below-later j k is it))
     ]
 
-    true-one : (j : Job) (rs : List Row) → IsWanted s b j → WereRead u (map deed events) j rs → IsTrueArtefact (world t) later (a_piece (piece_by (ledger t) b (now_of s) j rs))
-    true-one j rs is were =
-        ready-true t b (now_of s) walked.can.sound at later j rs (ready-one j rs is.ready were)
-        (λ k r got. true-events ws events u h objects made touched goes-on borne-begun legal asked j.file (get_or (blocks_read u j) k 0) (now_of s) r
-        (no-block u.instance.damaged j.file (get_or (blocks_read u j) k 0) (marked-same (λ (q : State). has_file q.instance.damaged j.file) s b refl ∙ is.clean)) (omega (arith, now-begun)) (were.each k r got))
-        (others j rs is were)
+    module _ (j : Job) (rs : List Row) (is : IsWanted s b j) (were : WereRead u (map deed events) j rs) where
+      abbrev read : IsReady t (now_of s) j rs
+      read = ready-one j rs is.ready were
 
-    true-all : All (λ x. IsTrueArtefact (world t) later (a_piece x.piece)) xs
+      rows-true : (k : ℕ) (r : Row) → slice_get rs k ≡ Some r → IsRow (world t) later (current_of t) j.file (now_of s) r
+      rows-true k r got =
+          true-events ws events u h objects made touched goes-on borne-begun legal asked j.file (get_or (blocks_read u j) k 0) (now_of s) r
+          (no-block u.instance.damaged j.file (get_or (blocks_read u j) k 0) (marked-same (λ (q : State). has_file q.instance.damaged j.file) s b refl ∙ is.clean)) (omega (arith, now-begun)) (were.each k r got)
+
+      true-piece : IsTrueArtefact (world t) later (a_piece (piece_by (ledger t) b (now_of s) j rs))
+      true-piece = ready-true t b (now_of s) walked.can.sound at later j rs read rows-true (others j rs is were)
+
+      -- as a member of a set, too, of its datafile as that was created
+      true-member : IsTrueMember (world t) later (member_by (ledger t) b (now_of s) j rs)
+      true-member =
+          let d : Datafile = read.read.datafile in
+          let history = borne-end.keeps.history in
+          record {
+            piece = ready-member_true t b (now_of s) walked.can.sound at later history j rs read rows-true (others j rs is were);
+            created = subst (λ (o : Option Datafile). IsSomeAnd o (IsAsCreated (member_by (ledger t) b (now_of s) j rs))) (sym read.read.is)
+                (record { creation = creation-by t j.file d read.read.some read.read.is; blocks = blocks-by t j.file d read.read.some read.read.is });
+          }
+
+    true-all : All (IsTrueObject (world t) later) xs
     true-all =
-        subst (All (λ x. IsTrueArtefact (world t) later (a_piece x.piece))) same
-        (all-copied (λ x. IsTrueArtefact (world t) later (a_piece x.piece)) t b (now_of s) jobs rows
-        (of-each (IsWanted s b) (WereRead u (map deed events)) (λ j rs. IsTrueArtefact (world t) later (a_piece (piece_by (ledger t) b (now_of s) j rs))) true-one
-        jobs rows all-wanted (are-read u (writers_of s b) jobs rows scns events whole these)))
+        let reads = are-read u (writers_of s b) jobs rows scns events whole these in
+        let Pieces : Copied → Type 0 = λ x. IsTrueArtefact (world t) later (a_piece x.piece) in
+        let Members : InSet → Type 0 = λ x. IsTrueMember (world t) later x.member in
+        subst (All (IsTrueObject (world t) later)) same
+        (all-packed Pieces Members (ledger t) b (now_of s) jobs rows some
+        (all-copied Pieces t b (now_of s) jobs rows
+        (of-each (IsWanted s b) (WereRead u (map deed events)) (λ j rs. IsTrueArtefact (world t) later (a_piece (piece_by (ledger t) b (now_of s) j rs))) true-piece jobs rows all-wanted reads))
+        (all-in_sets Members (ledger t) b (now_of s) jobs rows
+        (of-each (IsWanted s b) (WereRead u (map deed events)) (λ j rs. IsTrueMember (world t) later (member_by (ledger t) b (now_of s) j rs)) true-member jobs rows all-wanted reads)))
 
-    pub during-borne : (after : Held) → HasPuts (pieces_put t b tag xs) objects after → IsBorneOut (after_pieces t b tag xs) later after (made ++ pieces_made t b tag xs) touched
-    during-borne after puts = pieces-borne b tag later touched xs t objects made after can-record true-all (borne-events ws events u h objects made touched goes-on borne-begun legal asked) puts
+    pub during-borne : (after : Held) → HasPuts (objects_put t b tag xs) objects after → IsBorneOut (after_objects t b tag xs) later after (made ++ objects_made t b tag xs) touched
+    during-borne after puts = objects-borne b tag later touched xs t objects made after can-record true-all borne-end puts
 
 -- From a statement that was done
 
@@ -200,19 +229,19 @@ pub backup-on : (b : BackupForm) → LeadsOnBy (Backup b)
 backup-on b s h objects made touched said e t after well stands tell none does effect =
     let can = can-back_up s b stands.state none in
     let tagged = tag-fits b (ledger s).base.moment does.tag well.0 does.tagged in
-    let xs = copied (ledger s) b (now_of s) does.jobs does.rows in
+    let xs = packed (ledger s) b (now_of s) does.jobs does.rows in
     let by : Effect = effect_of s b does.tag does.events xs in
-    let q : State = after_pieces (at_end s b does.events) b does.tag xs in
+    let q : State = after_objects (at_end s b does.events) b does.tag xs in
     let is = does.is in
     landed q by h objects made touched e t after (cc) (cc) effect (λ left.
-    during-borne s b well.1 stands.state can does.tag tagged does.jobs does.are does.rows does.whole does.scns does.events does.legal does.these h objects made touched stands after (λ name. left.removes name ∙ left.puts name))
+    during-borne s b well.1 stands.state can does.tag tagged does.jobs does.are does.rows does.whole does.scns does.events does.legal does.these (per_set-some b well.0) h objects made touched stands after (λ name. left.removes name ∙ left.puts name))
 
 pub backup-stays : (b : BackupForm) → StaysBy (Backup b)
 backup-stays b s objects said e t well sound unsaved none does =
     let can = can-back_up s b sound none in
     let tagged = tag-fits b (ledger s).base.moment does.tag well.0 does.tagged in
-    let xs = copied (ledger s) b (now_of s) does.jobs does.rows in
+    let xs = packed (ledger s) b (now_of s) does.jobs does.rows in
     let is = does.is in
-    same-stays (after_pieces (at_end s b does.events) b does.tag xs) t (cc)
-    (during-sound s b well.1 sound can does.tag tagged does.jobs does.are does.rows does.whole does.scns does.events does.legal does.these)
-    (during-unsaved s b well.1 sound can does.tag tagged does.jobs does.are does.rows does.whole does.scns does.events does.legal does.these ∙ unsaved)
+    same-stays (after_objects (at_end s b does.events) b does.tag xs) t (cc)
+    (during-sound s b well.1 sound can does.tag tagged does.jobs does.are does.rows does.whole does.scns does.events does.legal does.these (per_set-some b well.0))
+    (during-unsaved s b well.1 sound can does.tag tagged does.jobs does.are does.rows does.whole does.scns does.events does.legal does.these (per_set-some b well.0) ∙ unsaved)

@@ -92,7 +92,7 @@ module _ (s : State) (at : ℕ) (h : List Change) (sound : IsSound s) (keeps : H
     state = sound-branched s at sound can;
     keeps = keeps-branched;
     artefacts = λ a has. true-on (world s) (world q) h same a.artefact (stands.artefacts a has);
-    records = record { logs = stands.records.logs; pieces = stands.records.pieces };
+    records = record { logs = stands.records.logs; pieces = stands.records.pieces; sets = stands.records.sets };
   }
 
 -- Why it was not refused

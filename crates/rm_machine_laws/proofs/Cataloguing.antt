@@ -9,6 +9,7 @@ use Rattle.rm_base.specs.declared.block.Change.{Change}
 use Rattle.rm_base.specs.declared.refusal.Refusal.{Refusal}
 use Rattle.rm_catalog.specs.declared.record.LogEntry.{LogEntry}
 use Rattle.rm_catalog.specs.declared.record.PieceEntry.{PieceEntry}
+use Rattle.rm_catalog.specs.declared.record.SetEntry.{SetEntry}
 use Rattle.rm_history.specs.declared.tree.Incarnation.{Incarnation}
 use Rattle.rm_history.specs.Tree.{IsThere, end_of, parent_of, reset_of, with_end}
 use Rattle.rm_history.proofs.Owners.{end-there, parent-there, reset-there}
@@ -16,16 +17,16 @@ use Rattle.rm_catalog_typed.proofs.Ones.{contains-with}
 use Rattle.rm_catalog_typed.specs.TypedCatalog.{TypedCatalog}
 use Rattle.rm_lang_statement.specs.declared.command.Command.{Command}
 use Rattle.rm_lang_statement.specs.declared.command.Command.TheVariants.{CatalogName}
-use Rattle.rm_piece.specs.declared.piece.Piece.{Piece}
 use Rattle.rm_piece.specs.Spelling as piece_format
+use Rattle.rm_piece.specs.SetSpelling.{set_head}
 use Rattle.rm_piece.proofs.Fitting.{spelling_same as piece_same}
-use Rattle.rm_redo.specs.declared.log_file.LogFile.{LogFile}
+use Rattle.rm_piece.proofs.SetFitting.{spelling_same as set_same}
 use Rattle.rm_redo.specs.LogFormat as log_format
 use Rattle.rm_redo.proofs.LogFitting.{spelling_same as log_same}
 use Rattle.rm_report.specs.declared.line.Line.{Line}
 use Rattle.rm_machine.specs.Backup.{piece_entry}
 use Rattle.rm_machine.specs.CatalogName.{Found, IsCatalogOutcome, IsFound, artefact_of, catalog_by, catalog_refusal, catalogued, catalogues, cataloguing, found_log, found_piece, inc_of, name_of, raised, top_of}
-use Rattle.rm_machine.specs.Effect.{Artefact, Effect, Made, a_log, a_piece, done, refused}
+use Rattle.rm_machine.specs.Effect.{Artefact, Effect, Made, a_log, a_piece, a_set, done, refused}
 use Rattle.rm_machine.specs.Honest.{IsHonest, IsRecorded}
 use Rattle.rm_machine.specs.Laws.{LeadsOn}
 use Rattle.rm_machine.specs.Machine.{DigestsTell, EndsWithin, HasLogArtefact, HasPieceArtefact, IsBorneOut, IsTrueArtefact, IsValidArtefact, Machine}
@@ -37,9 +38,9 @@ use Rattle.rm_machine.specs.Sound.{IsSound}
 use Rattle.rm_machine.specs.SwitchLogfile.{log_entry}
 use Rattle.rm_machine.specs.Upkeep.{with_catalog}
 use Rattle.rm_machine.specs.declared.state.State.{State}
-use Rattle.rm_machine.specs.State.{ledger, tree, world}
+use Rattle.rm_machine.specs.State.{database_of, ledger, tree, world}
 use Rattle.rm_machine_code.proofs.Cataloguing.{accepted, found-fits, next-catalogued, saved-catalogued, sound-catalogued}
-use Rattle.rm_machine_code.proofs.Kept.{kept-on, stand-same}
+use Rattle.rm_machine_code.proofs.Kept.{kept-on, stand-same, stays-so}
 use Rattle.rm_machine_code.proofs.Later.{fits-with, resting}
 use Rattle.rm_machine_laws.specs.Loose.{StaysLoose}
 use Rattle.rm_machine_laws.proofs.Leading.{LeadsOnAsking, StaysBy, leads-asking}
@@ -78,16 +79,31 @@ module _ (s : State) (held : Held) (name : List ℕ) (lines : List Line) (e : Ef
 
 -- It is the artefact that was recorded
 
--- a log and a piece differ in their third byte
-other-magic : (l : LogFile) (p : Piece) → log_format.spelling l ≢ piece_format.spelling p
-unfolding log_format.head_bytes piece_format.head_bytes
-other-magic l p same = let third : 76 ≡ 80 = ap (λ (bytes : List ℕ). get_or bytes 2 0) same in absurd (omega (arith, third))
+-- the third byte tells a log, a piece and a set
+abbrev third : Artefact → ℕ
+third (a_log a) = 76
+third (a_piece a) = 80
+third (a_set a) = 83
+
+third-is : (a : Artefact) → get_or (spelling_of a) 2 0 ≡ third a
+unfolding log_format.head_bytes piece_format.head_bytes set_head
+third-is (a_log a) = refl
+third-is (a_piece a) = refl
+third-is (a_set a) = refl
+
+same-kind : (a b : Artefact) → spelling_of a ≡ spelling_of b → third a ≡ third b
+same-kind a b same = sym (third-is a) ∙ ap (λ (bytes : List ℕ). get_or bytes 2 0) same ∙ third-is b
 
 same-artefact : (a b : Artefact) → IsValidArtefact a → IsValidArtefact b → spelling_of a ≡ spelling_of b → a ≡ b
 same-artefact (a_log a) (a_log b) is other same = ap a_log (log_same a b is other same)
-same-artefact (a_log a) (a_piece b) is other same = absurd (other-magic a b same)
-same-artefact (a_piece a) (a_log b) is other same = absurd (other-magic b a (sym same))
 same-artefact (a_piece a) (a_piece b) is other same = ap a_piece (piece_same a b is other same)
+same-artefact (a_set a) (a_set b) is other same = ap a_set (set_same a b is other same)
+same-artefact (a_log a) (a_piece b) is other same = let kind = same-kind (a_log a) (a_piece b) same in absurd (omega (arith, kind))
+same-artefact (a_log a) (a_set b) is other same = let kind = same-kind (a_log a) (a_set b) same in absurd (omega (arith, kind))
+same-artefact (a_piece a) (a_log b) is other same = let kind = same-kind (a_piece a) (a_log b) same in absurd (omega (arith, kind))
+same-artefact (a_piece a) (a_set b) is other same = let kind = same-kind (a_piece a) (a_set b) same in absurd (omega (arith, kind))
+same-artefact (a_set a) (a_log b) is other same = let kind = same-kind (a_set a) (a_log b) same in absurd (omega (arith, kind))
+same-artefact (a_set a) (a_piece b) is other same = let kind = same-kind (a_set a) (a_piece b) same in absurd (omega (arith, kind))
 
 -- no site is saved, and what was recorded before stands under the name
 abbrev WasRecorded : List ℕ → State → Held → List Made → Type 0
@@ -129,6 +145,11 @@ settled s (found_log id a) same = ap (with_tree (catalogued s (found_log id a)))
 settled s (found_piece copy id a) same = ap (with_tree (catalogued s (found_piece copy id a))) same
 
 -- What stands after it
+
+-- no set is catalogued
+sets-of : (s : State) (x : Found) (e : SetEntry) → Contains (catalogued s x).ledger.sets e → Contains (ledger s).sets e
+sets-of s (found_log id a) e has = has
+sets-of s (found_piece copy id a) e has = has
 
 -- its record has its artefact, and each other one was there
 module _ (s : State) (after : Held) (made : List Made) (touched : List (List ℕ)) where
@@ -182,12 +203,12 @@ module _ (s : State) (x : Found) (h : List Change) (objects after : Held) (made 
           | inl old ↦ borne.artefacts y old
           | inr one ↦ subst (λ (z : Made). IsTrueArtefact (world s) h z.artefact) one is
         ];
-        records = kept-on objects after made (made ++ new ∷ []) touched touched (ledger s) (resting s q).ledger
+        records = kept-on objects after made (made ++ new ∷ []) touched touched (ledger s) (resting s q).ledger (stays-so (database_of (ledger s)))
             (stand-same objects after touched (ledger s) (resting s q).ledger same)
             (λ y has. Contains-append_left made (new ∷ []) y has)
             (logs-of s after (made ++ new ∷ []) touched x (Contains-push made new) here)
             (pieces-of s after (made ++ new ∷ []) touched x (Contains-push made new) here)
-            borne.records;
+            (λ e has. inl (sets-of s x e has)) borne.records;
       })
 
 -- The laws of the statement

@@ -76,7 +76,7 @@ module _ (s : State) (i : ℕ) (sound : IsSound s) (can : CanChoose s i) where
     state = sound-chosen;
     keeps = keeps-chosen h stands.keeps;
     artefacts = stands.artefacts;
-    records = record { logs = stands.records.logs; pieces = stands.records.pieces };
+    records = record { logs = stands.records.logs; pieces = stands.records.pieces; sets = stands.records.sets };
   }
 
 pub choose-on : (i : ℕ) → LeadsOnBy (ResetDatabase i)

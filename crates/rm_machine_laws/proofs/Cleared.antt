@@ -1,5 +1,5 @@
 -- Exactly the obsolete records go, with their objects: nothing that a target of the window needs is lost, and a second time none is found.
-use Rattle.std.proofs.Common.{◌≡◌, ◌∙◌, ◌⊎◌, ◌==◌, inl, inr, ℕ, List, [], ◌∷◌, refl, ap, sym, subst, arith, Contains}
+use Rattle.std.proofs.Common.{◌≡◌, ◌∙◌, ◌++◌, ◌⊎◌, ◌==◌, inl, inr, ℕ, List, [], ◌∷◌, refl, ap, sym, subst, arith, Contains}
 use Rattle.std.specs.List.{list_any}
 use Rattle.std.proofs.lemmas.Bool.{cases_Bool, eq-eqb, eqb-true, false≢true}
 use Rattle.std.proofs.lemmas.List.Elements.{Contains-append_cases, Contains-append_left, Contains-append_right}
@@ -14,10 +14,12 @@ use Rattle.rm_catalog.specs.declared.record.LogEntry.{LogEntry}
 use Rattle.rm_catalog.specs.declared.record.PieceEntry.{PieceEntry}
 use Rattle.rm_catalog.specs.declared.record.Record.{Record}
 use Rattle.rm_catalog.specs.declared.record.Record.TheVariants as kind
+use Rattle.rm_catalog.specs.declared.record.SetEntry.{SetEntry}
 use Rattle.rm_catalog.specs.Keys.{at, key_of, place, place_of}
 use Rattle.rm_catalog.specs.Rules.{IsCatalog}
 use Rattle.rm_apply.proofs.Unique.{evidence_one}
 use Rattle.rm_evidence.specs.declared.evidence.Evidence.{Evidence}
+use Rattle.rm_evidence.specs.Database.{database_in}
 use Rattle.rm_evidence.specs.Known.{known_of}
 use Rattle.rm_evidence.proofs.Worlds.{is_world}
 use Rattle.rm_history.specs.declared.world.World.{World}
@@ -25,14 +27,13 @@ use Rattle.rm_history.specs.History.{IsHistory}
 use Rattle.rm_history.specs.Evidence.{Agrees}
 use Rattle.rm_history.specs.FirstGap.{IsRecoverable, IsTarget}
 use Rattle.rm_history.specs.Known.{Determined}
-use Rattle.rm_catalog_typed.specs.Ledger.{Ledger}
-use Rattle.rm_catalog_typed.specs.Ledger.{ledger_records}
-use Rattle.rm_catalog_typed.proofs.Lookups.{IsOf, has-datafile, has-incarnation, has-mark, of_base, of_datafile, of_incarnation, of_log, of_mark, of_piece, record-is}
+use Rattle.rm_catalog_typed.specs.Ledger.{Ledger, front_records, ledger_records, set_records}
+use Rattle.rm_catalog_typed.proofs.Lookups.{IsOf, has-datafile, has-incarnation, has-mark, of_base, of_datafile, of_incarnation, of_log, of_mark, of_piece, of_set, record-is}
 use Rattle.rm_evidence.proofs.Current.{current_is}
 use Rattle.rm_evidence.proofs.Found.{at-is}
 use Rattle.rm_catalog_typed.specs.Facts.{IsTypedCatalog}
 use Rattle.rm_catalog_typed.specs.TypedCatalog.{TypedCatalog, records_of, saved_records}
-use Rattle.rm_catalog_typed.proofs.Members.{log-has, log-in, piece-has, piece-in}
+use Rattle.rm_catalog_typed.proofs.Members.{ledger-has, log-has, log-in, piece-has, piece-in, set-has, set-in, site-has}
 use Rattle.rm_catalog_typed.proofs.Valid.{typed_catalog-valid}
 use Rattle.rm_retain.specs.Catalogued.{AreObsolete, IsObsoleteRecord}
 use Rattle.rm_retain.specs.Chosen.{Retention}
@@ -52,9 +53,9 @@ use Rattle.rm_machine.specs.declared.state.State.{State}
 use Rattle.rm_machine.specs.State.{ledger}
 use Rattle.rm_machine.specs.Upkeep.{with_catalog, without_all, without_record}
 use Rattle.rm_machine_laws.proofs.Agreeing.{evidence-agrees}
-use Rattle.rm_machine_laws.proofs.Deleting.{left-log, left-piece, stays-log, stays-piece}
+use Rattle.rm_machine_laws.proofs.Deleting.{left-log, left-piece, left-set, stays-log, stays-piece, stays-set}
 use Rattle.rm_machine_code.proofs.Entries.{with_entries}
-use Rattle.rm_machine_code.proofs.Records.{database-told, world-told}
+use Rattle.rm_machine_code.proofs.Records.{base-told, database-told, world-told}
 use Rattle.rm_machine_code.proofs.Upkeep.{all-on}
 
 -- an id is one of these, or none
@@ -68,12 +69,12 @@ among ids n = elim (cases_Bool (list_any (λ k. k == n) ids)) [
 one-record : (rs : List Record) (x y : Record) → IsCatalog rs → Contains rs x → Contains rs y → place_of x ≡ place_of y → x ≡ y
 one-record rs x y catalog has_x has_y same = same_Some x y (sym (at-is rs x catalog has_x) ∙ ap (λ n. at n rs) same ∙ at-is rs y catalog has_y)
 
-module _ (l : Ledger) (ls : List LogEntry) (ps : List PieceEntry) (X : Record → Type 0) (logs : (e : LogEntry) → Contains l.logs e → X (kind.Log e)) (pieces : (p : PieceEntry) → Contains l.pieces p → X (kind.Piece p)) where
-  -- the ledger with other records of logs and pieces
+module _ (l : Ledger) (ls : List LogEntry) (ps : List PieceEntry) (es : List SetEntry) (X : Record → Type 0) (logs : (e : LogEntry) → Contains l.logs e → X (kind.Log e)) (pieces : (p : PieceEntry) → Contains l.pieces p → X (kind.Piece p)) (sets : (e : SetEntry) → Contains l.sets e → X (kind.Set e)) where
+  -- the ledger with other records of logs, pieces and sets
   abbrev others : Ledger
-  others = record l { logs = ls; pieces = ps }
+  others = record l { logs = ls; pieces = ps; sets = es }
 
-  -- what holds of records of logs and pieces, and of the records that such a ledger has, holds of all
+  -- what holds of records of logs, pieces and sets, and of the records that such a ledger has, holds of all
   by-kind : ((x : Record) → Contains (ledger_records others) x → X x) → (x : Record) → IsOf l x → X x
   by-kind rest x (of_base is) = rest x (subst (Contains (ledger_records others)) (sym is) (0, omega arith, refl))
   by-kind rest x (of_incarnation i there is) = rest x (subst (Contains (ledger_records others)) (sym is) (has-incarnation others i there))
@@ -81,19 +82,28 @@ module _ (l : Ledger) (ls : List LogEntry) (ps : List PieceEntry) (X : Record �
   by-kind rest x (of_log e has is) = subst X (sym is) (logs e has)
   by-kind rest x (of_piece p has is) = subst X (sym is) (pieces p has)
   by-kind rest x (of_mark k m there is) = rest x (subst (Contains (ledger_records others)) (sym is) (has-mark others k m there))
+  by-kind rest x (of_set e has is) = subst X (sym is) (sets e has)
+
+-- a record of a catalog is one of its ledger, or of its saved site
+either-of : (r : TypedCatalog) (x : Record) → Contains (records_of r) x → Contains (ledger_records r.ledger) x ⊎ Contains (saved_records r.saved) x
+either-of r x has = elim (Contains-append_cases (front_records r.ledger ++ saved_records r.saved) (set_records r.ledger) x has) [
+  | inr late ↦ inl (Contains-append_right (front_records r.ledger) (set_records r.ledger) x late)
+  | inl early ↦ elim (Contains-append_cases (front_records r.ledger) (saved_records r.saved) x early) [
+    | inl low ↦ inl (Contains-append_left (front_records r.ledger) (set_records r.ledger) x low)
+    | inr site ↦ inr site
+  ]
+]
 
 -- the same of all records of a catalog
-by-record : (r : TypedCatalog) (ls : List LogEntry) (ps : List PieceEntry) (X : Record → Type 0) → ((e : LogEntry) → Contains r.ledger.logs e → X (kind.Log e)) → ((p : PieceEntry) → Contains r.ledger.pieces p → X (kind.Piece p))
-    → ((x : Record) → Contains (records_of (with_entries r ls ps)) x → X x) → (x : Record) → Contains (records_of r) x → X x
-by-record r ls ps X logs pieces rest x has =
-    let new = ledger_records (others r.ledger ls ps X logs pieces) in
-    elim (Contains-append_cases (ledger_records r.ledger) (saved_records r.saved) x has) [
-      | inl here ↦ by-kind r.ledger ls ps X logs pieces (λ y held. rest y (Contains-append_left new (saved_records r.saved) y held)) x (record-is r.ledger x here)
-      | inr late ↦ rest x (Contains-append_right new (saved_records r.saved) x late)
-    ]
+by-record : (r : TypedCatalog) (ls : List LogEntry) (ps : List PieceEntry) (es : List SetEntry) (X : Record → Type 0) → ((e : LogEntry) → Contains r.ledger.logs e → X (kind.Log e)) → ((p : PieceEntry) → Contains r.ledger.pieces p → X (kind.Piece p))
+    → ((e : SetEntry) → Contains r.ledger.sets e → X (kind.Set e)) → ((x : Record) → Contains (records_of (with_entries r ls ps es)) x → X x) → (x : Record) → Contains (records_of r) x → X x
+by-record r ls ps es X logs pieces sets rest x has = elim (either-of r x has) [
+  | inl here ↦ by-kind r.ledger ls ps es X logs pieces sets (λ y held. rest y (ledger-has (with_entries r ls ps es) y held)) x (record-is r.ledger x here)
+  | inr site ↦ rest x (site-has (with_entries r ls ps es) x site)
+]
 
--- records of logs and pieces go alone
-pub entries-left : (ids : List ℕ) (r : TypedCatalog) → without_all ids r ≡ with_entries r (without_all ids r).ledger.logs (without_all ids r).ledger.pieces
+-- records of logs, pieces and sets go alone
+pub entries-left : (ids : List ℕ) (r : TypedCatalog) → without_all ids r ≡ with_entries r (without_all ids r).ledger.logs (without_all ids r).ledger.pieces (without_all ids r).ledger.sets
 entries-left [] r = refl
 entries-left (n ∷ ns) r = entries-left ns (without_record n r)
 
@@ -107,7 +117,7 @@ module _ (s : State) (ids : List ℕ) (sound : IsSound s) where
 
   -- what is left
   abbrev rest : TypedCatalog
-  rest = with_entries s.catalog (without_all ids s.catalog).ledger.logs (without_all ids s.catalog).ledger.pieces
+  rest = with_entries s.catalog (without_all ids s.catalog).ledger.logs (without_all ids s.catalog).ledger.pieces (without_all ids s.catalog).ledger.sets
 
   abbrev left : State
   left = with_catalog s rest
@@ -119,28 +129,38 @@ module _ (s : State) (ids : List ℕ) (sound : IsSound s) where
   rules-left = subst IsTypedCatalog (entries-left ids s.catalog) ((all-on ids s sound).sound sound).catalog
 
   had : (x : Record) → Contains (records_of rest) x → Contains rs x
-  had = by-record rest (ledger s).logs (ledger s).pieces (Contains rs) (λ e has. log-has s.catalog e (left-log ids s.catalog e has).0) (λ p has. piece-has s.catalog p (left-piece ids s.catalog p has).0) (λ x has. has)
+  had = by-record rest (ledger s).logs (ledger s).pieces (ledger s).sets (Contains rs) (λ e has. log-has s.catalog e (left-log ids s.catalog e has).0) (λ p has. piece-has s.catalog p (left-piece ids s.catalog p has).0)
+      (λ e has. set-has s.catalog e (left-set ids s.catalog e has).0) (λ x has. has)
 
   -- a record that is left has none of the ids, where it can be obsolete
   not-left : (r : Retention) (x : Record) → Contains (records_of rest) x → IsObsoleteRecord r x → ¬ Contains ids (key_of x).id
   not-left r (kind.Log l) has is = (left-log ids s.catalog l (log-in rest l rules-left has)).1
   not-left r (kind.Piece p) has is = (left-piece ids s.catalog p (piece-in rest p rules-left has)).1
+  not-left r (kind.Set e) has is = (left-set ids s.catalog e (set-in rest e rules-left has)).1
   not-left r _ has is = absurd is
 
   -- a record is obsolete where one of its id is
   log-obsolete : (r : Retention) (l : LogEntry) → Contains rs (kind.Log l) → (x : Record) → Contains rs x → IsObsoleteRecord r x → (key_of x).id ≡ l.id → IsObsoleteRecord r (kind.Log l)
   log-obsolete r l has (kind.Log k) held is same = subst (IsObsoleteRecord r) (one-record rs (kind.Log k) (kind.Log l) catalog held has (ap (place 4) same)) is
   log-obsolete r l has (kind.Piece p) held is same = absurd (sound.catalog.ledger.ids.apart l p (log-in s.catalog l sound.catalog has) (piece-in s.catalog p sound.catalog held) (sym same))
+  log-obsolete r l has (kind.Set e) held is same = absurd (sound.catalog.ledger.ids.logs_apart l e (log-in s.catalog l sound.catalog has) (set-in s.catalog e sound.catalog held) (sym same))
   log-obsolete r l has _ held is same = absurd is
 
   piece-obsolete : (r : Retention) (p : PieceEntry) → Contains rs (kind.Piece p) → (x : Record) → Contains rs x → IsObsoleteRecord r x → (key_of x).id ≡ p.id → IsObsoleteRecord r (kind.Piece p)
   piece-obsolete r p has (kind.Log l) held is same = absurd (sound.catalog.ledger.ids.apart l p (log-in s.catalog l sound.catalog held) (piece-in s.catalog p sound.catalog has) same)
   piece-obsolete r p has (kind.Piece q) held is same = subst (IsObsoleteRecord r) (one-record rs (kind.Piece q) (kind.Piece p) catalog held has (ap (place 5) same)) is
+  piece-obsolete r p has (kind.Set e) held is same = absurd (sound.catalog.ledger.ids.pieces_apart p e (piece-in s.catalog p sound.catalog has) (set-in s.catalog e sound.catalog held) (sym same))
   piece-obsolete r p has _ held is same = absurd is
+
+  set-obsolete : (r : Retention) (e : SetEntry) → Contains rs (kind.Set e) → (x : Record) → Contains rs x → IsObsoleteRecord r x → (key_of x).id ≡ e.id → IsObsoleteRecord r (kind.Set e)
+  set-obsolete r e has (kind.Log l) held is same = absurd (sound.catalog.ledger.ids.logs_apart l e (log-in s.catalog l sound.catalog held) (set-in s.catalog e sound.catalog has) same)
+  set-obsolete r e has (kind.Piece p) held is same = absurd (sound.catalog.ledger.ids.pieces_apart p e (piece-in s.catalog p sound.catalog held) (set-in s.catalog e sound.catalog has) same)
+  set-obsolete r e has (kind.Set f) held is same = subst (IsObsoleteRecord r) (one-record rs (kind.Set f) (kind.Set e) catalog held has (ap (place 9) same)) is
+  set-obsolete r e has _ held is same = absurd is
 
   -- what stays, and what goes
   stays-or : (r : Retention) → AreObsolete rs r ids → (x : Record) → Contains rs x → Contains (records_of rest) x ⊎ IsObsoleteRecord r x
-  stays-or r are = by-record s.catalog rest.ledger.logs rest.ledger.pieces (λ x. Contains (records_of rest) x ⊎ IsObsoleteRecord r x)
+  stays-or r are = by-record s.catalog rest.ledger.logs rest.ledger.pieces rest.ledger.sets (λ x. Contains (records_of rest) x ⊎ IsObsoleteRecord r x)
       (λ l has. elim (among ids l.id) [
         | inl goes ↦ let found = (are l.id).0 goes in inr (log-obsolete r l (log-has s.catalog l has) found.row found.held found.is found.number)
         | inr other ↦ inl (log-has rest l (stays-log ids s.catalog l has other))
@@ -149,7 +169,15 @@ module _ (s : State) (ids : List ℕ) (sound : IsSound s) where
         | inl goes ↦ let found = (are p.id).0 goes in inr (piece-obsolete r p (piece-has s.catalog p has) found.row found.held found.is found.number)
         | inr other ↦ inl (piece-has rest p (stays-piece ids s.catalog p has other))
       ])
+      (λ e has. elim (among ids e.id) [
+        | inl goes ↦ let found = (are e.id).0 goes in inr (set-obsolete r e (set-has s.catalog e has) found.row found.held found.is found.number)
+        | inr other ↦ inl (set-has rest e (stays-set ids s.catalog e has other))
+      ])
       (λ x has. inl has)
+
+  -- it is the same database
+  same-base : database_in (records_of rest) ≡ database_in rs
+  same-base = base-told rest ∙ sym (base-told s.catalog)
 
   module _ (held after : Held) (stays : (name : List ℕ) → names.IsObjectName (without_all ids s.catalog).ledger name → after name ≡ held name) where
     cleared : (r : Retention) → AreObsolete rs r ids → IsCleared r rs (records_of rest) held after
@@ -158,6 +186,7 @@ module _ (s : State) (ids : List ℕ) (sound : IsSound s) where
       stays = stays-or r are;
       logs = λ l has. stays _ (names.of_log l (log-in rest l rules-left has));
       pieces = λ p has. stays _ (names.of_piece p (piece-in rest p rules-left has));
+      sets = λ e has. stays _ (names.of_set e (set-in rest e rules-left has));
     }
 
     -- a second time nothing is obsolete
@@ -165,7 +194,7 @@ module _ (s : State) (ids : List ℕ) (sound : IsSound s) where
     none-again first more second = none-there more (λ n has.
         let r = retention_of s first.evidence in
         let found = (second.exact n).0 has in
-        let was = was_obsolete held after rs (records_of rest) (in_place s) first.evidence second.evidence r.policy r.start first.at_hand second.at_hand (cleared r first.exact)
+        let was = was_obsolete held after rs (records_of rest) (in_place s) first.evidence second.evidence r.policy r.start first.at_hand second.at_hand (cleared r first.exact) same-base
         (world-told rest ∙ sym (world-told s.catalog)) refl found.row found.is in
         let goes = (first.exact n).1 (record { row = found.row; held = had found.row found.held; is = was; number = found.number }) in
         not-left r found.row found.held was (subst (Contains ids) (sym found.number) goes))
@@ -191,7 +220,7 @@ module _ (s : State) (ids : List ℕ) (sound : IsSound s) where
             }
 
         loses : LosesNeedless r (known_of old) (known_of new)
-        loses = gathered_left held after rs (records_of rest) r (cleared r are) (in_place s) old new refl (copies_whole held rs (in_place s) old catalog before) before later
+        loses = gathered_left held after rs (records_of rest) r (cleared r are) same-base (in_place s) old new refl (copies_whole held rs (in_place s) old catalog before) before later
 
         keeps : KeepsTargets s old new
         keeps = record {

@@ -1,5 +1,5 @@
 -- HOST CORRUPT leads on: a block in place is damaged.
-use Rattle.std.proofs.Common.{◌≡◌, ◌≢◌, ◌<◌, ◌-◌, ◌∙◌, ◌==◌, ◌&&◌, inl, inr, ℕ, List, Option, Some, None, IsSome, is_some, Bool, true, false, cond, refl, ap, sym, subst, arith, slice_get}
+use Rattle.std.proofs.Common.{◌≡◌, ◌<◌, ◌-◌, ◌∙◌, ◌==◌, ◌&&◌, inl, inr, ℕ, List, Option, Some, None, IsSome, is_some, Bool, true, false, cond, refl, ap, sym, subst, arith, slice_get}
 use Rattle.std.specs.Option.{option_map, option_map_or}
 use Rattle.std.proofs.lemmas.Bool.{false≢true}
 use Rattle.std.proofs.lemmas.List.{length-map}
@@ -128,7 +128,7 @@ borne-corrupted s f b r h objects made touched opened path at stands =
       state = sound-damage s f b r stands.state opened path at;
       keeps = fits-damage s f b r stands.state opened path at h stands.keeps;
       artefacts = stands.artefacts;
-      records = record { logs = stands.records.logs; pieces = stands.records.pieces };
+      records = record { logs = stands.records.logs; pieces = stands.records.pieces; sets = stands.records.sets };
     })
 
 -- Why it was not refused

@@ -51,5 +51,5 @@ module _ (dbid threads scn moment : ℕ) (some : 1 ≤ dbid) (small : dbid < 2 ^
     state = sound-fresh;
     keeps = keeps-fresh;
     artefacts = λ a has. absurd (none-in a has);
-    records = record { logs = λ e has. absurd (none-in e has); pieces = λ e has. absurd (none-in e has) };
+    records = record { logs = λ e has. absurd (none-in e has); pieces = λ e has. absurd (none-in e has); sets = λ e has. absurd (none-in e has) };
   }

@@ -35,7 +35,7 @@ module _ (s : State) (objects : Held) (said : List Line) (e : Effect) (t : State
   finds-nothing ids again =
       let is = does.is in
       let is_state : with_catalog s (without_all does.ids s.catalog) ≡ t = cc in
-      let same : t ≡ with_catalog s (with_entries s.catalog (without_all does.ids s.catalog).ledger.logs (without_all does.ids s.catalog).ledger.pieces) = sym is_state ∙ ap (with_catalog s) (entries-left does.ids s.catalog) in
+      let same : t ≡ with_catalog s (with_entries s.catalog (without_all does.ids s.catalog).ledger.logs (without_all does.ids s.catalog).ledger.pieces (without_all does.ids s.catalog).ledger.sets) = sym is_state ∙ ap (with_catalog s) (entries-left does.ids s.catalog) in
       none-again s does.ids sound objects after object-left does.are ids (subst (λ (q : State). AreObsoleteIn q after ids) same again)
 
 pub obsolete-on : LeadsOnBy DeleteObsolete

@@ -1,4 +1,4 @@
--- The objects of a saved site go, and the names of logs and pieces are none of theirs.
+-- The objects of a saved site go, and the names of logs, pieces and sets are none of theirs.
 use Rattle.std.proofs.Common.{◌≡◌, ◌∙◌, ◌++◌, ◌||◌, ℕ, List, [], ◌∷◌, Option, Some, None, Bool, true, false, refl, sym, subst, map, inl, inr}
 use Rattle.std.specs.Str.{bytes_eq}
 use Rattle.std.proofs.lemmas.Bool.{cases_Bool, false≢true}

@@ -68,7 +68,7 @@ founded-sound dbid threads scn moment objects touched is late =
       state = sound.state;
       keeps = sound.keeps;
       artefacts = sound.artefacts;
-      records = record { logs = λ e has. absurd (none-in e has); pieces = λ e has. absurd (none-in e has) };
+      records = record { logs = λ e has. absurd (none-in e has); pieces = λ e has. absurd (none-in e has); sets = λ e has. absurd (none-in e has) };
     }
 
 pub creating-leads : (dbid threads scn : ℕ) → LeadsOnWithout (CreateDatabase dbid threads scn)

@@ -75,7 +75,7 @@ leads-asking c Asks given law m s moment said e t after well is sound honest at 
     let begun : State = at_moment s moment in
     let stands : IsBorneOut begun m.history m.objects m.made m.touched = borne-later s m.history m.objects m.objects m.made m.touched m.touched moment was at (stand-same m.objects m.objects m.touched (ledger s) (ledger s) (λ n. refl)) in
     let told : DigestsTellFor m.objects m.made m.touched (ledger s) = subst (λ o. TellBy o m.objects m.made m.touched) is honest.digests in
-    let tells : DigestsTellFor m.objects m.made m.touched (ledger begun) = record { logs = told.logs; pieces = told.pieces } in
+    let tells : DigestsTellFor m.objects m.made m.touched (ledger begun) = record { logs = told.logs; pieces = told.pieces; sets = told.sets } in
     let both = done-by (refusal_of begun c) begun m.objects c said e t goes in
     let n : Machine = record { state = Some t; history = m.history ++ e.changes; objects = after; made = m.made ++ e.made; touched = names_in c ++ m.touched } in
     let first : Held = left_by s e m.objects after effect in
@@ -108,7 +108,7 @@ tells c law m s moment lines well is sound honest at goes =
     let begun : State = at_moment s moment in
     let stands : IsBorneOut begun m.history m.objects m.made m.touched = borne-later s m.history m.objects m.objects m.made m.touched m.touched moment was at (stand-same m.objects m.objects m.touched (ledger s) (ledger s) (λ n. refl)) in
     let known : DigestsTellFor m.objects m.made m.touched (ledger s) = subst (λ o. TellBy o m.objects m.made m.touched) is honest.digests in
-    let knows : DigestsTellFor m.objects m.made m.touched (ledger begun) = record { logs = known.logs; pieces = known.pieces } in
+    let knows : DigestsTellFor m.objects m.made m.touched (ledger begun) = record { logs = known.logs; pieces = known.pieces; sets = known.sets } in
     let both = told-by (refusal_of begun c) begun m.objects c lines goes in
     (refl, refl, law begun m.history m.objects m.made m.touched lines well stands knows both.0 both.1)
 

@@ -9,41 +9,45 @@ use Rattle.rm_catalog.specs.declared.record.BaseEntry.{BaseEntry}
 use Rattle.rm_machine.specs.BackupOutcome.{at_end, effect_of}
 use Rattle.rm_machine.specs.BackupLogs.{copies_of, copies_refusal, copy_object, copying, numbered_from}
 use Rattle.rm_machine.specs.Sound.{IsSound}
-use Rattle.rm_machine.specs.MadePieces.{Copied, after_piece, copied, object_for, pieces_put}
+use Rattle.rm_machine.specs.MadeObjects.{Packed, after_object, alone, in_set, object_put, objects_put, packed}
 use Rattle.rm_machine.specs.declared.state.State.{State}
 use Rattle.rm_machine.specs.State.{ledger, now_of}
 use Rattle.rm_machine.specs.Step.{refusal_of}
-use Rattle.rm_machine_code.proofs.BackingUp.{base-at_end, jobs-many}
+use Rattle.rm_machine_code.proofs.BackingUp.{base-at_end, objects-many}
 use Rattle.rm_machine_code.proofs.BackupAccepted.{can-back_up}
-use Rattle.rm_machine_code.proofs.Copies.{few-copied}
+use Rattle.rm_machine_code.proofs.Recording.{next-id}
 use Rattle.rm_machine_code.proofs.BackingUpLogs.{after_copies, room-for}
 use Rattle.rm_machine_laws.proofs.BackingUpLogs.{done-of}
 use Rattle.rm_machine_laws.proofs.Leading.{done-by}
 use Rattle.rm_machine_laws.specs.Loose.{IsLoose, StaysLoose}
-use Rattle.rm_machine_laws.proofs.LooseNew.{AreNew, IsNewName, new-log, new-loose, new-piece}
+use Rattle.rm_machine_laws.proofs.LooseNew.{AreNew, IsFree, IsNewName, new-log, new-loose, new-piece, new-set}
 
-pieces-new : (b : BackupForm) (tag : List ℕ) (xs : List Copied) (s first : State) → IsSound first → (ledger first).base.next_id ≤ (ledger s).base.next_id → (ledger s).base.next_id + length xs + 68 ≤ 4294967295 → AreNew first (pieces_put s b tag xs)
-pieces-new b tag [] s first sound low most = All-nil (λ (x : Object). IsNewName first x.name)
-pieces-new b tag (x ∷ xs) s first sound low most =
-    let q : State = after_piece s b tag x.copy x.piece in
-    All-cons (λ (y : Object). IsNewName first y.name) (object_for s x.copy x.piece) (pieces_put q b tag xs)
-    (new-piece first x.copy (ledger s).base.next_id sound (record { next = low; most = omega (arith, most) }))
-    (pieces-new b tag xs q first sound (omega (arith, low)) (omega (arith, most)))
+object-new : (first s : State) (x : Packed) → IsSound first → IsFree first (ledger s).base.next_id → IsNewName first (object_put s x).name
+object-new first s (alone x) sound free = new-piece first x.copy (ledger s).base.next_id sound free
+object-new first s (in_set checkpoint ms) sound free = new-set first (ledger s).base.next_id sound free
+
+objects-new : (b : BackupForm) (tag : List ℕ) (xs : List Packed) (s first : State) → IsSound first → (ledger first).base.next_id ≤ (ledger s).base.next_id → (ledger s).base.next_id + length xs + 68 ≤ 4294967295 → AreNew first (objects_put s b tag xs)
+objects-new b tag [] s first sound low most = All-nil (λ (x : Object). IsNewName first x.name)
+objects-new b tag (x ∷ xs) s first sound low most =
+    let q : State = after_object s b tag x in
+    let next = next-id b tag s x in
+    All-cons (λ (y : Object). IsNewName first y.name) (object_put s x) (objects_put q b tag xs)
+    (object-new first s x sound (record { next = low; most = omega (arith, most) }))
+    (objects-new b tag xs q first sound (omega (arith, low, next)) (omega (arith, most, next)))
 
 pub backup-loose : (b : BackupForm) → StaysLoose (Backup b)
 backup-loose b s held lines e t sound comes =
     let both = done-by (refusal_of s (Backup b)) s held (Backup b) lines e t comes in
     let does = both.1 in
-    let xs = copied (ledger s) b (now_of s) does.jobs does.rows in
+    let xs = packed (ledger s) b (now_of s) does.jobs does.rows in
     let is = does.is in
     let same : effect_of s b does.tag does.events xs ≡ e = cc in
     let next : (ledger (at_end s b does.events)).base.next_id ≡ (ledger s).base.next_id = ap (λ (x : BaseEntry). x.next_id) (base-at_end s b does.events) in
-    let few = few-copied s b (now_of s) does.jobs does.rows in
-    let many = jobs-many s b does.jobs does.are in
+    let many = objects-many s b does.jobs does.rows does.are does.whole in
     let most = (can-back_up s b sound both.0).ids in
     subst (λ x. IsLoose (Some s) (Backup b) x t) same
     (new-loose s (Backup b) (effect_of s b does.tag does.events xs) t refl
-    (pieces-new b does.tag xs (at_end s b does.events) s sound (omega (arith, next)) (omega (arith, next, few, many, most))))
+    (objects-new b does.tag xs (at_end s b does.events) s sound (omega (arith, next)) (omega (arith, next, many, most))))
 
 -- BACKUP ARCHIVELOG ALL
 

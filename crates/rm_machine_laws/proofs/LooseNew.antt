@@ -7,8 +7,8 @@ use Rattle.rm_commit.specs.Names.{is_named, itself, name_of}
 use Rattle.rm_commit.proofs.Standing.{unnamed}
 use Rattle.rm_lang_statement.specs.declared.command.Command.{Command}
 use Rattle.rm_lang_statement.specs.declared.command.Command.TheVariants.{ArchiveLogCurrent, OpenResetlogs, SwitchLogfile}
-use Rattle.rm_evidence.specs.Names.{log_name, piece_name, site_name}
-use Rattle.rm_evidence.proofs.Names.{log-name-tells, log-no-piece, log-no-site, piece-name-tells, piece-no-site}
+use Rattle.rm_evidence.specs.Names.{log_name, piece_name, set_name, site_name}
+use Rattle.rm_evidence.proofs.Names.{log-name-tells, log-no-piece, log-no-set, log-no-site, piece-name-tells, piece-no-set, piece-no-site, set-no-site}
 use Rattle.rm_redo.specs.LogFormat.{spelling}
 use Rattle.rm_report.specs.declared.line.Line.{Line}
 use Rattle.rm_machine.specs.Archive.{after_all, after_thread, archiving, puts_from}
@@ -21,7 +21,7 @@ use Rattle.rm_machine.specs.SwitchLogfile.{archived, is_due, made_lines, none_li
 use Rattle.rm_machine_code.proofs.Archives.{HasRoom, Took, next-room, took-thread}
 use Rattle.rm_machine_laws.proofs.ArchivingAll.{room}
 use Rattle.rm_machine_code.proofs.Branching.{can-reset}
-use Rattle.rm_machine_laws.proofs.NewObjects.{log-apart, piece-apart}
+use Rattle.rm_machine_laws.proofs.NewObjects.{log-apart, piece-apart, set-apart}
 use Rattle.rm_machine_laws.proofs.Switching.{CanSwitch, can-archive, can-switch}
 use Rattle.rm_machine_laws.specs.Loose.{IsLoose, IsLowIn, IsNamedBy, StaysLoose, of_object, of_part}
 use Rattle.rm_machine_laws.proofs.LooseQuiet.{loose-done, quiet-loose}
@@ -68,6 +68,20 @@ new-piece s copy id sound free = record { names = apart; low = above; parts = λ
     apart : (name : List ℕ) → IsNamedBy s name → name ≢ piece_name copy id
     apart _ (of_object name names) same = piece-apart (ledger s) copy id name sound.catalog.ledger free.next free.most names same
     apart _ (of_part p has) same = piece-no-site copy id p.id (sym same)
+
+pub new-set : (s : State) (id : ℕ) → IsSound s → IsFree s id → IsNewName s (set_name id)
+new-set s id sound free = record { names = apart; low = above; parts = λ part same. set-no-site id part (sym same) }
+  where
+    above : (name : List ℕ) → IsLowIn (Some s) name → name ≢ set_name id
+    above name (lower, of, below) same = elim of.is [
+      | inl log ↦ log-no-set lower id (sym log ∙ same)
+      | inr (inl piece) ↦ piece-no-set false lower id (sym piece ∙ same)
+      | inr (inr copy) ↦ piece-no-set true lower id (sym copy ∙ same)
+    ]
+
+    apart : (name : List ℕ) → IsNamedBy s name → name ≢ set_name id
+    apart _ (of_object name names) same = set-apart (ledger s) id name sound.catalog.ledger free.next free.most names same
+    apart _ (of_part p has) same = set-no-site id p.id (sym same)
 
 abbrev pub AreNew : State → List Object → Type 0
 AreNew s xs = All (λ x. IsNewName s x.name) xs

@@ -41,7 +41,7 @@ loose-later : (s : State) (moment : ℕ) (c : Command) (e : Effect) (t : State) 
 loose-later s moment c e t is = record { puts = puts; low = is.low; parts = is.parts; removes = is.removes }
   where
     puts : (name : List ℕ) → IsNamedIn (Some s) name → is_named name_of e.puts name ≡ true → Contains (names_in c) name
-    puts _ (of_object name names) named = is.puts name (of_object name (names-of (ledger (at_moment s moment)) (ledger s) (λ x has. has) (λ x has. has) name names)) named
+    puts _ (of_object name names) named = is.puts name (of_object name (names-of (ledger (at_moment s moment)) (ledger s) (λ x has. has) (λ x has. has) (λ x has. has) name names)) named
     puts _ (of_part p has) named = is.parts p.id named
 
 pub loose-from : (c : Command) → StaysLoose c → (o : Option State) (m : Machine) (moment : ℕ) (lines : List Line) (e : Effect) (t : State)

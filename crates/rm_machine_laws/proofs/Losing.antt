@@ -102,7 +102,7 @@ borne-lost s f h objects made touched some is = record {
   state = sound-lost s f some is.state;
   keeps = fits-lost s f h some is.state is.keeps;
   artefacts = is.artefacts;
-  records = record { logs = is.records.logs; pieces = is.records.pieces };
+  records = record { logs = is.records.logs; pieces = is.records.pieces; sets = is.records.sets };
 }
 
 -- what is not refused is of a datafile on the current path, so its number is not 0

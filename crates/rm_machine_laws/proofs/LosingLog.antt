@@ -109,7 +109,7 @@ module _ (s : State) (t : ℕ) (sound : IsSound s) (shut : s.instance.is_open �
     state = sound-lost;
     keeps = fits-lost h is.keeps;
     artefacts = is.artefacts;
-    records = record { logs = is.records.logs; pieces = is.records.pieces };
+    records = record { logs = is.records.logs; pieces = is.records.pieces; sets = is.records.sets };
   }
 
 threads-mounted : (s : State) → (ledger (as_mounted s)).base.threads ≡ (ledger s).base.threads

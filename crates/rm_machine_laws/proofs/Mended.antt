@@ -195,7 +195,7 @@ module _ (u : State) (ws : List WriteForm) (ms : List Patch) (can : CanMend u ws
         state = sound-fewer v r (sound-put u m.0 m.1 can.on.sound can.on.opened at.row right.1);
         keeps = fits-mended;
         artefacts = knows.borne.artefacts;
-        records = record { logs = knows.borne.records.logs; pieces = knows.borne.records.pieces };
+        records = record { logs = knows.borne.records.logs; pieces = knows.borne.records.pieces; sets = knows.borne.records.sets };
       };
       rows = knows.rows;
     })

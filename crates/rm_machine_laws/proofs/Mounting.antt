@@ -73,7 +73,7 @@ module _ (s : State) (sound : IsSound s) (opened : s.instance.is_open ≡ true) 
     state = sound-mounted;
     keeps = keeps-mounted h stands.keeps;
     artefacts = stands.artefacts;
-    records = record { logs = stands.records.logs; pieces = stands.records.pieces };
+    records = record { logs = stands.records.logs; pieces = stands.records.pieces; sets = stands.records.sets };
   }
 
 -- a database of which the datafiles with damaged blocks are lost is borne out as before
@@ -82,7 +82,7 @@ stands-undamaged s h objects made touched stands = record {
   state = sound-undamaged s stands.state;
   keeps = losing-fits s h stands.state stands.keeps;
   artefacts = stands.artefacts;
-  records = record { logs = stands.records.logs; pieces = stands.records.pieces };
+  records = record { logs = stands.records.logs; pieces = stands.records.pieces; sets = stands.records.sets };
 }
 
 pub stands-as_mounted : (s : State) (h : List Change) (objects : Held) (made : List Made) (touched : List (List ℕ)) → IsBorneOut s h objects made touched → IsBorneOut (as_mounted s) h objects made touched

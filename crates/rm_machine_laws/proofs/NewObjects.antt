@@ -1,5 +1,5 @@
 -- Objects that come to stand under names that no record has, and a log that is recorded with its own.
-use Rattle.std.proofs.Common.{◌≡◌, ◌≢◌, ◌≤◌, ◌∙◌, ◌++◌, inl, inr, ℕ, List, [], ◌∷◌, Some, Bool, cond, refl, ap, sym, subst, arith}
+use Rattle.std.proofs.Common.{◌≡◌, ◌≢◌, ◌≤◌, ◌∙◌, ◌++◌, ◌⊎◌, inl, inr, ℕ, List, [], ◌∷◌, Some, Bool, cond, refl, ap, sym, subst, arith, Contains}
 use Rattle.std.specs.Str.{bytes_eq}
 use Rattle.std.proofs.lemmas.Bool.{cases_Bool}
 use Rattle.std.proofs.lemmas.List.Elements.{Contains-append_left, Contains-push, Contains-push_cases}
@@ -7,25 +7,27 @@ use Rattle.std.proofs.lemmas.Slice.Eq.{bytes_eq-Decides}
 use Rattle.rm_base.specs.Store.{Held}
 use Rattle.rm_base.specs.declared.block.Change.{Change}
 use Rattle.rm_catalog.specs.declared.record.LogEntry.{LogEntry}
+use Rattle.rm_catalog.specs.declared.record.PieceEntry.{PieceEntry}
+use Rattle.rm_catalog.specs.declared.record.SetEntry.{SetEntry}
 use Rattle.rm_commit.specs.declared.commit.Object.{Object}
 use Rattle.rm_commit.specs.Names.{HasPuts, after_all as all_after, bytes_of, name_of}
 use Rattle.rm_catalog_typed.specs.LedgerFacts.{IsLedger}
 use Rattle.rm_catalog_typed.specs.Ledger.{Ledger}
-use Rattle.rm_catalog_typed.proofs.Lookups.{log-id-within, piece-id-within}
-use Rattle.rm_evidence.specs.Names.{log_name, piece_name}
+use Rattle.rm_catalog_typed.proofs.Lookups.{log-id-within, piece-id-within, set-id-within}
+use Rattle.rm_evidence.specs.Names.{log_name, piece_name, set_name}
 use Rattle.rm_evidence.specs.Objects.{HasDigest, HasLogFields}
-use Rattle.rm_evidence.proofs.Names.{log-name-tells, log-no-piece, piece-name-tells}
+use Rattle.rm_evidence.proofs.Names.{log-name-tells, log-no-piece, log-no-set, piece-name-tells, piece-no-set, set-name-tells}
 use Rattle.rm_redo.specs.declared.log_file.LogFile.{LogFile}
 use Rattle.rm_redo.specs.LogFormat.{spelling}
 use Rattle.rm_machine.specs.Effect.{Made, a_log}
-use Rattle.rm_machine.specs.Machine.{HasLogArtefact, HistoryFits, IsBorneOut, IsTrueArtefact}
-use Rattle.rm_machine.specs.Names.{IsObjectName, of_log, of_piece}
+use Rattle.rm_machine.specs.Machine.{HasLogArtefact, HasPieceArtefact, HasSetArtefact, HaveArtefacts, HistoryFits, IsBorneOut, IsTrueArtefact}
+use Rattle.rm_machine.specs.Names.{IsObjectName, of_log, of_piece, of_set}
 use Rattle.rm_machine.specs.Sound.{IsSound}
 use Rattle.rm_machine.specs.declared.state.Instance.{Instance}
 use Rattle.rm_machine.specs.declared.state.State.{State}
-use Rattle.rm_machine.specs.State.{ledger, world}
+use Rattle.rm_machine.specs.State.{database_of, ledger, world}
 use Rattle.rm_machine_laws.proofs.Dropping.{after-both}
-use Rattle.rm_machine_code.proofs.Kept.{StandOn, kept-on}
+use Rattle.rm_machine_code.proofs.Kept.{GrowsTo, StandOn, kept-on, stays-so}
 use Rattle.rm_machine_code.proofs.NewObjects.{logged}
 
 -- the objects, where these stand under their names
@@ -52,6 +54,7 @@ log-apart l id name is more most (of_log e has) same =
     let tells : e.id ≡ id = log-name-tells e.id id (omega (arith, below, more, most)) (omega (arith, most)) same in
     omega (arith, below, more, tells)
 log-apart l id name is more most (of_piece e has) same = log-no-piece id e.copy e.id (sym same)
+log-apart l id name is more most (of_set e has) same = log-no-set id e.id (sym same)
 
 pub piece-apart : (l : Ledger) (copy : Bool) (id : ℕ) (name : List ℕ) → IsLedger l → l.base.next_id ≤ id → id ≤ 4294967295 → IsObjectName l name → name ≢ piece_name copy id
 piece-apart l copy id name is more most (of_log e has) same = log-no-piece e.id copy id same
@@ -59,11 +62,38 @@ piece-apart l copy id name is more most (of_piece e has) same =
     let below = (piece-id-within l e is has).1 in
     let tells : e.id ≡ id = (piece-name-tells e.copy copy e.id id (omega (arith, below, more, most)) (omega (arith, most)) same).1 in
     omega (arith, below, more, tells)
+piece-apart l copy id name is more most (of_set e has) same = piece-no-set copy id e.id (sym same)
+
+pub set-apart : (l : Ledger) (id : ℕ) (name : List ℕ) → IsLedger l → l.base.next_id ≤ id → id ≤ 4294967295 → IsObjectName l name → name ≢ set_name id
+set-apart l id name is more most (of_log e has) same = log-no-set e.id id same
+set-apart l id name is more most (of_piece e has) same = piece-no-set e.copy e.id id same
+set-apart l id name is more most (of_set e has) same =
+    let below = (set-id-within l e is has).1 in
+    let tells : e.id ≡ id = set-name-tells e.id id (omega (arith, below, more, most)) (omega (arith, most)) same in
+    omega (arith, below, more, tells)
 
 -- so what stands under the names of records goes on to
 pub stand-fresh : (objects : Held) (touched : List (List ℕ)) (l l' : Ledger) (x : Object) → ((name : List ℕ) → IsObjectName l name → name ≢ x.name) → StandOn objects (with_puts (x ∷ []) objects) touched touched l l'
 stand-fresh objects touched l l' x apart name bytes names again (inl was) = inl was
 stand-fresh objects touched l l' x apart name bytes names again (inr stands) = inr (put-beside objects x name (apart name names) ∙ stands)
+
+-- one record more, whose artefact is true and whose object stands under a new name
+pub borne-more : (s q : State) (x : Object) (new : Made) (h : List Change) (objects : Held) (made : List Made) (touched : List (List ℕ)) → IsSound q → HistoryFits q h → GrowsTo (database_of (ledger s)) (database_of (ledger q))
+    → ((name : List ℕ) → IsObjectName (ledger s) name → name ≢ x.name) → ((y : Made) → Contains made y → IsTrueArtefact (world q) h y.artefact) → IsTrueArtefact (world q) h new.artefact
+    → ((e : LogEntry) → Contains (ledger q).logs e → Contains (ledger s).logs e ⊎ HasLogArtefact (with_puts (x ∷ []) objects) (made ++ new ∷ []) touched e)
+    → ((p : PieceEntry) → Contains (ledger q).pieces p → Contains (ledger s).pieces p ⊎ HasPieceArtefact (with_puts (x ∷ []) objects) (made ++ new ∷ []) touched p)
+    → ((e : SetEntry) → Contains (ledger q).sets e → Contains (ledger s).sets e ⊎ HasSetArtefact (with_puts (x ∷ []) objects) (made ++ new ∷ []) touched (database_of (ledger q)) e)
+    → HaveArtefacts objects made touched (ledger s) → IsBorneOut q h (with_puts (x ∷ []) objects) (made ++ new ∷ []) touched
+borne-more s q x new h objects made touched sound keeps grows apart all is logs pieces sets kept = record {
+  state = sound;
+  keeps = keeps;
+  artefacts = λ y has. elim (Contains-push_cases made new y has) [
+    | inl old ↦ all y old
+    | inr same ↦ subst (λ (z : Made). IsTrueArtefact (world q) h z.artefact) same is
+  ];
+  records = kept-on objects (with_puts (x ∷ []) objects) made (made ++ new ∷ []) touched touched (ledger s) (ledger q) grows
+      (stand-fresh objects touched (ledger s) (ledger q) x apart) (λ y has. Contains-append_left made (new ∷ []) y has) logs pieces sets kept;
+}
 
 -- the log agrees with the history, and its record has its fields, size and digest
 pub borne-logged : (s : State) (i : Instance) (e : LogEntry) (a : LogFile) (h : List Change) (objects : Held) (made : List Made) (touched : List (List ℕ)) → IsSound (logged s i e) → HistoryFits (logged s i e) h → e.id ≡ (ledger s).base.next_id
@@ -71,22 +101,12 @@ pub borne-logged : (s : State) (i : Instance) (e : LogEntry) (a : LogFile) (h : 
     → IsBorneOut (logged s i e) h (with_puts (record { name = log_name e.id; bytes = spelling a } ∷ []) objects) (made ++ record { name = log_name e.id; artefact = a_log a } ∷ []) touched
 borne-logged s i e a h objects made touched sound keeps id fields digest agrees stands =
     let x : Object = record { name = log_name e.id; bytes = spelling a } in
-    let after : Held = with_puts (x ∷ []) objects in
     let new : Made = record { name = log_name e.id; artefact = a_log a } in
     let rules = stands.state.catalog.ledger in
-    record {
-      state = sound;
-      keeps = keeps;
-      artefacts = λ y has. elim (Contains-push_cases made new y has) [
-        | inl old ↦ stands.artefacts y old
-        | inr same ↦ subst (λ (z : Made). IsTrueArtefact (world s) h z.artefact) same agrees
-      ];
-      records = kept-on objects after made (made ++ new ∷ []) touched touched (ledger s) (ledger (logged s i e))
-          (stand-fresh objects touched (ledger s) (ledger (logged s i e)) x (λ name names. log-apart (ledger s) e.id name rules (omega (arith, id)) (omega (arith, id, rules.base.next_id.1)) names))
-          (λ y has. Contains-append_left made (new ∷ []) y has)
-          (λ y has. elim (Contains-push_cases (ledger s).logs e y has) [
-            | inl old ↦ inl old
-            | inr same ↦ inr (subst (HasLogArtefact after (made ++ new ∷ []) touched) same (record { artefact = a; is = Contains-push made new; fields = fields; digest = digest; there = inr (put-there objects x) }))
-          ])
-          (λ y has. inl has) stands.records;
-    }
+    borne-more s (logged s i e) x new h objects made touched sound keeps (stays-so (database_of (ledger s)))
+    (λ name names. log-apart (ledger s) e.id name rules (omega (arith, id)) (omega (arith, id, rules.base.next_id.1)) names) stands.artefacts agrees
+    (λ y has. elim (Contains-push_cases (ledger s).logs e y has) [
+      | inl old ↦ inl old
+      | inr same ↦ inr (subst (HasLogArtefact (with_puts (x ∷ []) objects) (made ++ new ∷ []) touched) same (record { artefact = a; is = Contains-push made new; fields = fields; digest = digest; there = inr (put-there objects x) }))
+    ])
+    (λ y has. inl has) (λ y has. inl has) stands.records

@@ -8,11 +8,11 @@ use Rattle.rm_catalog.specs.declared.record.PieceEntry.{PieceEntry}
 use Rattle.rm_commit.specs.declared.commit.Object.{Object}
 use Rattle.rm_catalog_typed.proofs.Lookups.{piece-id-within}
 use Rattle.rm_evidence.specs.Names.{piece_name, site_name}
-use Rattle.rm_evidence.proofs.Names.{log-no-piece, piece-name-tells, piece-no-site}
+use Rattle.rm_evidence.proofs.Names.{log-no-piece, piece-name-tells, piece-no-set, piece-no-site}
 use Rattle.rm_piece.specs.declared.piece.Piece.{Piece}
 use Rattle.rm_piece.specs.Spelling.{spelling}
 use Rattle.rm_catalog_typed.specs.Changes.{without_one}
-use Rattle.rm_machine.specs.Names.{IsObjectName, of_log, of_piece}
+use Rattle.rm_machine.specs.Names.{IsObjectName, of_log, of_piece, of_set}
 use Rattle.rm_machine.specs.RecoverCopy.{after_copies, after_copy, copies_gone, copies_put, renewed_entry, renewed_name}
 use Rattle.rm_machine.specs.Sound.{IsSound}
 use Rattle.rm_machine.specs.declared.state.State.{State}
@@ -87,6 +87,7 @@ old-free xs s tag sound can _ (of_piece p has) gone =
     let rules = (renewals-sound xs s tag sound can).catalog.ledger in
     let below = (piece-id-within (ledger (after_copies s tag xs)) p rules has).1 in
     free xs s tag p sound can (omega (arith, below, rules.base.next_id.1)) has gone
+old-free xs s tag sound can _ (of_set e has) gone = let copy = of-copy xs _ gone in piece-no-set true copy.0 e.id copy.1
 
 pub old-no-part : (xs : List (ℕ × Renewed)) (id : ℕ) → ¬ Contains (copies_gone xs) (site_name id)
 old-no-part xs id gone = let copy = of-copy xs (site_name id) gone in piece-no-site true copy.0 id copy.1

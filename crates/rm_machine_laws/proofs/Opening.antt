@@ -109,7 +109,7 @@ module _ (s : State) (sound : IsSound s) (can : CanOpen s) where
     state = sound-opened;
     keeps = keeps-opened h stands.keeps;
     artefacts = stands.artefacts;
-    records = record { logs = stands.records.logs; pieces = stands.records.pieces };
+    records = record { logs = stands.records.logs; pieces = stands.records.pieces; sets = stands.records.sets };
   }
 
 pub open-on : LeadsOnBy OpenPlain

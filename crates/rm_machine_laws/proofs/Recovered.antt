@@ -83,7 +83,7 @@ recover-by (Some at) until s h objects made touched said e t after is borne tell
       state = sound-recovered s evidence at all.back.files borne.state fits can told;
       keeps = fits-recovered s h evidence at all.back.files borne.state borne.keeps fits can agrees told;
       artefacts = borne.artefacts;
-      records = record { logs = borne.records.logs; pieces = borne.records.pieces };
+      records = record { logs = borne.records.logs; pieces = borne.records.pieces; sets = borne.records.sets };
     } in
     let is_state : new ≡ t = (let one = all.is in cc) in (
       quiet-on new h objects made touched _ said e t after all.is effect stands_new,

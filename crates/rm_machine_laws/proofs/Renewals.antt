@@ -26,11 +26,13 @@ use Rattle.rm_evidence.specs.Known.{FitsPiece}
 use Rattle.rm_history.specs.declared.world.Datafile.{Datafile}
 use Rattle.rm_history.specs.Tree.{IsThere, IsTree, end_of, owner}
 use Rattle.rm_history.proofs.Highs.{high-least}
-use Rattle.rm_catalog_typed.specs.LedgerFacts.{IsPieceEntry}
+use Rattle.rm_catalog_typed.specs.LedgerFacts.{IsPieceEntry, IsSetEntry, IsSetPart}
 use Rattle.rm_merge.specs.Merge.{merged}
 use Rattle.rm_evidence.specs.Names.{site_name}
 use Rattle.rm_evidence.proofs.DatabaseWorlds.{is-tree}
+use Rattle.rm_evidence.proofs.Parts.{part-of}
 use Rattle.rm_piece.specs.declared.piece.Piece.{Piece}
+use Rattle.rm_piece.specs.Sets.{IsMember}
 use Rattle.rm_piece.specs.Spelling.{body_of}
 use Rattle.rm_piece.specs.Valid.{IsPiece}
 use Rattle.rm_piece.proofs.Bodies.{length-body}
@@ -52,7 +54,7 @@ use Rattle.rm_machine.specs.Sound.{IsSound}
 use Rattle.rm_machine.specs.declared.state.State.{State}
 use Rattle.rm_machine.specs.State.{ledger, tree, world}
 use Rattle.rm_machine_laws.proofs.Agreeing.{base-by, level1-by}
-use Rattle.rm_machine_laws.proofs.AtHand.{Level1From, from_copy, level1-from}
+use Rattle.rm_machine_laws.proofs.AtHand.{BackupFrom, from_copy, from_piece, from_set, level1-from}
 use Rattle.rm_machine_laws.proofs.BackingUpLogs.{done-of}
 use Rattle.rm_machine_laws.proofs.Deleting.{stand-without}
 use Rattle.rm_machine_code.proofs.Later.{borne-beside}
@@ -86,16 +88,50 @@ module _ (s : State) (held : Held) (sound : IsSound s) (e : Evidence) (at_hand :
   a-tree : IsTree (tree s)
   a-tree = subst IsTree (tree-told s.catalog) (is-tree rs valid-rules (database-told s.catalog))
 
+  -- what records tell of a backup at hand: its datafile was created on the path of its incarnation, up to the end of which it lies
+  record IsToldOf (a : Piece) : Type 0 where
+    valid : IsPiece a
+    there : IsThere (tree s) a.inc
+    datafile : Datafile
+    is : slice_get (ledger s).files (a.file - 1) ≡ Some datafile
+    path : owner (tree s) a.inc datafile.creation ≡ datafile.inc
+    high : a.high ≤ end_of (tree s) a.inc
+
+  backup-told : (a : Piece) → BackupFrom s held a → IsToldOf a
+  backup-told a (from_piece p _ has there) =
+      let rule = rule-of p has in
+      let is = there.object.fields in
+      let d : Datafile = rule.file.datafile in
+      record {
+        valid = there.object.valid;
+        there = subst (IsThere (tree s)) (sym is.inc) rule.there;
+        datafile = d;
+        is = ap (λ k. slice_get (ledger s).files (k - 1)) is.file ∙ rule.file.is;
+        path = ap (λ i. owner (tree s) i d.creation) is.inc ∙ rule.file.path;
+        high = subst (λ n. n ≤ end_of (tree s) a.inc) (sym is.high) (subst (λ i. p.high ≤ end_of (tree s) i) (sym is.inc) rule.high);
+      }
+  backup-told _ (from_set e set m has there member) =
+      let entry = All-contains (IsSetEntry (tree s) (ledger s).files) (ledger s).sets e sound.catalog.ledger.sets has in
+      let of = All-contains (IsMember set) set.members m there.object.valid.members member in
+      let found = part-of e.parts set.members m there.object.fields.parts member in
+      let rule = All-contains (IsSetPart (tree s) (ledger s).files e) e.parts found.0 entry.parts found.1 in
+      let d : Datafile = rule.datafile in
+      let inc : m.piece.inc ≡ e.inc = of.of.inc ∙ there.object.fields.inc in
+      record {
+        valid = of.piece;
+        there = subst (IsThere (tree s)) (sym inc) entry.there;
+        datafile = d;
+        is = ap (λ k. slice_get (ledger s).files (k - 1)) found.2.file ∙ rule.is;
+        path = ap (λ i. owner (tree s) i d.creation) inc ∙ rule.path;
+        high = subst (λ n. n ≤ end_of (tree s) m.piece.inc) (sym found.2.high) (subst (λ i. found.0.high ≤ end_of (tree s) i) (sym inc) rule.high.1);
+      }
+
+  level1-told : (x : ℕ × Piece) → Contains e.level1s x → IsToldOf x.1
+  level1-told x has = backup-told x.1 (level1-from s held sound e at_hand x.0 x.1 has).backup
+
   -- each level 1 at hand lies within the end of its incarnation
   level1-ends : (x : ℕ × Piece) → Contains e.level1s x → EndsIn (tree s) x.1
-  level1-ends x has =
-      let from = level1-from s held sound e at_hand x.0 x.1 has in
-      let rule = rule-of from.entry from.recorded in
-      let is = from.has.object.fields in
-      record {
-        fits = record { valid = from.has.object.valid; inc = subst (IsThere (tree s)) (sym is.inc) rule.there };
-        high = subst (λ n. n ≤ end_of (tree s) x.1.inc) (sym is.high) (subst (λ i. from.entry.high ≤ end_of (tree s) i) (sym is.inc) rule.high);
-      }
+  level1-ends x has = let told = level1-told x has in record { fits = record { valid = told.valid; inc = told.there }; high = told.high }
 
   level1s-fit : All (λ y. FitsPiece (nodes rs) y.1) e.level1s
   level1s-fit = subst (λ ns. All (λ (y : ℕ × Piece). FitsPiece ns y.1) e.level1s) (sym (tree-told s.catalog)) (each-in (λ (y : ℕ × Piece). FitsPiece (tree s) y.1) e.level1s (λ y has. (level1-ends y has).fits))
@@ -130,34 +166,31 @@ module _ (s : State) (held : Held) (sound : IsSound s) (e : Evidence) (at_hand :
         let high : from.now.high ≤ end_of (tree s) from.now.inc = subst (λ m. m ≤ end_of (tree s) from.now.inc) (sym is.high) (subst (λ i. from.entry.high ≤ end_of (tree s) i) (sym is.inc) (rule-of from.entry from.recorded).high) in
         reached-keeps rs f tag at e.level1s (tree s) (tree-told s.catalog) a-tree (λ i there. (sound.catalog.ledger.incarnations.ranges i there).1) level1-ends from.now (merged ends.before ends.level1.1) level1s-fit from.has.object.valid high reached
 
-    last-level1 : Level1From s held ends.level1.1
-    last-level1 = level1-from s held sound e at_hand ends.level1.0 ends.level1.1 ends.chosen.held
+    last-told : IsToldOf ends.level1.1
+    last-told = level1-told ends.level1 ends.chosen.held
 
     file-is : ends.before.file ≡ from.entry.file
     file-is = keeps.file ∙ from.has.object.fields.file
 
     -- the datafile of the copy is that of the last level 1
-    one-datafile : (rule-of last-level1.entry last-level1.recorded).file.datafile ≡ (rule-of from.entry from.recorded).file.datafile
+    one-datafile : last-told.datafile ≡ (rule-of from.entry from.recorded).file.datafile
     one-datafile =
-        let own = (rule-of last-level1.entry last-level1.recorded).file in
         let first = (rule-of from.entry from.recorded).file in
-        let number : last-level1.entry.file ≡ from.entry.file = sym last-level1.has.object.fields.file ∙ sym ends.chosen.passes.meets.file ∙ file-is in
-        same_Some own.datafile first.datafile (sym own.is ∙ ap (λ k. slice_get (ledger s).files (k - 1)) number ∙ first.is)
+        let number : ends.level1.1.file ≡ from.entry.file = sym ends.chosen.passes.meets.file ∙ file-is in
+        same_Some last-told.datafile first.datafile (sym last-told.is ∙ ap (λ k. slice_get (ledger s).files (k - 1)) number ∙ first.is)
 
     merged-entry : (keep : Bool) (moment id : ℕ) → IsPieceEntry (tree s) (ledger s).files (piece_entry true keep tag moment id (merged ends.before ends.level1.1))
     merged-entry keep moment id =
         let a : Piece = merged ends.before ends.level1.1 in
         let first = rule-of from.entry from.recorded in
-        let own = rule-of last-level1.entry last-level1.recorded in
-        let inc = last-level1.has.object.fields.inc in
         let d : Datafile = first.file.datafile in
         record {
-          there = subst (IsThere (tree s)) (sym inc) own.there;
+          there = last-told.there;
           file = record {
             number = subst (λ k. 0 < k) (sym file-is) first.file.number;
             datafile = d;
             is = subst (λ k. slice_get (ledger s).files (k - 1) ≡ Some d) (sym file-is) first.file.is;
-            path = ap (λ i. owner (tree s) i d.creation) inc ∙ subst (λ (x : Datafile). owner (tree s) last-level1.entry.inc x.creation ≡ x.inc) one-datafile own.file.path;
+            path = subst (λ (x : Datafile). owner (tree s) a.inc x.creation ≡ x.inc) one-datafile last-told.path;
             rows = keeps.rows ∙ from.has.object.fields.rows ∙ entry-rows from.entry.kind from.entry.rows d.blocks kind first.file.rows;
           };
           checkpoint = (valid.checkpoint.0, high-least a.checkpoint a.rows);
@@ -174,7 +207,8 @@ module _ (s : State) (held : Held) (sound : IsSound s) (e : Evidence) (at_hand :
     merged-true h made touched borne tells =
         let a : Piece = merged ends.before ends.level1.1 in
         let entry = merged-entry false 0 0 in
-        let base = base-by s h held made touched borne tells from.now (from_copy from.entry from.now from.recorded kind from.has) in
+        let base = base-by s h held made touched borne tells from.now
+        (from_copy from.now (λ level1. kind (sym from.has.object.fields.kind ∙ level1)) (from_piece from.entry from.now from.recorded from.has)) in
         subst (λ x. IsTrueArtefact (world s) h (a_piece x)) ends.is (record {
           agrees = reached_agrees rs f tag at e.level1s (world s) h from.now a (sym (tree-told s.catalog)) a-tree borne.keeps.history level1s-fit
               (λ y has. level1-by s h held made touched borne tells y.1 (level1-from s held sound e at_hand y.0 y.1 has)) from.has.object.valid base reached;

@@ -48,9 +48,8 @@ module _ (s : State) (tag : List ℕ) (n : ℕ) (last : Piece) (sound : IsSound 
   renewed-borne : (h : List Change) (objects : Held) (made : List Made) (touched : List (List ℕ)) → IsTrueArtefact (world s) h (a_piece last) → IsBorneOut s h objects made touched
       → IsBorneOut (with_recorded q e) h (with_puts (object_of true (ledger s).base.next_id last ∷ []) objects) (made ++ record { name = piece_name true (ledger s).base.next_id; artefact = a_piece last } ∷ []) touched
   renewed-borne h objects made touched agrees stands =
-      borne-recorded q e (drops.sound sound) fits h objects made touched last
+      borne-recorded q h objects made touched (drops.borne h objects made touched stands) e fits last
       (record { kind = refl; inc = refl; file = refl; from = refl; checkpoint = refl; high = refl; rows = refl }) (record { size = refl; sha = refl }) agrees
-      (drops.borne h objects made touched stands)
 
 abbrev pub IsTrueTo : World → List Change → Option Piece → Type 0
 IsTrueTo w h None = Unit {0}

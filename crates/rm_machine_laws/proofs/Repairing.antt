@@ -1,5 +1,5 @@
 -- BLOCKRECOVER leads on: the damaged blocks that are asked for come to be what the history has, while writers write.
-use Rattle.std.proofs.Common.{◌≡◌, ◌+◌, ◌-◌, ◌∙◌, ◌++◌, ◌==◌, ◌&&◌, ◌⊎◌, not, inl, inr, ℕ, List, [], ◌∷◌, Option, Some, None, Bool, true, false, filter, refl, ap, sym, subst, arith, get_or, length, map, All, Contains, slice_get}
+use Rattle.std.proofs.Common.{◌≡◌, ◌-◌, ◌∙◌, ◌++◌, ◌==◌, ◌&&◌, ◌⊎◌, not, inl, inr, ℕ, List, [], ◌∷◌, Option, Some, None, Bool, true, false, filter, refl, ap, sym, subst, arith, get_or, length, map, All, Contains, slice_get}
 use Rattle.std.specs.List.{list_any}
 use Rattle.std.specs.Option.{option_and_then, option_map_or}
 use Rattle.std.proofs.lemmas.Bool.{and_from, and_parts, cases_Bool}
@@ -92,7 +92,7 @@ borne-listed t xs ys h objects made touched more sound is =
         point = keeps.point;
       };
       artefacts = is.artefacts;
-      records = record { logs = is.records.logs; pieces = is.records.pieces };
+      records = record { logs = is.records.logs; pieces = is.records.pieces; sets = is.records.sets };
     }
 
 module _ (s : State) (form : RepairForm) (contents : All (λ (w : WriteForm). length w.content.0 ≡ 64) (asked form.during)) (sound : IsSound s) (can : CanRepair s form) (e : known.Evidence) (rows : List Row)

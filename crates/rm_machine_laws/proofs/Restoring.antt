@@ -44,7 +44,7 @@ restore-by (Some at) file s h objects made touched said e t after borne tell clo
           ])
           (λ n point. absurd (let clash : None ≡ Some n = point in cc));
       artefacts = borne.artefacts;
-      records = record { logs = borne.records.logs; pieces = borne.records.pieces };
+      records = record { logs = borne.records.logs; pieces = borne.records.pieces; sets = borne.records.sets };
     })
 
 pub restore-on : (file : Option ℕ) (until : Option Until) → LeadsOnBy (Restore file until)

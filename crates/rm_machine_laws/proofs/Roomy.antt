@@ -13,9 +13,10 @@ use Rattle.rm_base.proofs.Conditions.{only-where, unless}
 use Rattle.rm_catalog.specs.declared.record.BaseEntry.{BaseEntry}
 use Rattle.rm_catalog.specs.declared.record.LogEntry.{LogEntry}
 use Rattle.rm_catalog.specs.declared.record.PieceEntry.{PieceEntry}
+use Rattle.rm_catalog.specs.declared.record.SetEntry.{SetEntry}
 use Rattle.rm_redo.specs.declared.log_file.LogFile.{LogFile}
 use Rattle.rm_report.specs.declared.line.Line.{Line}
-use Rattle.rm_catalog_typed.specs.Changes.{with_log, with_new_log, with_piece}
+use Rattle.rm_catalog_typed.specs.Changes.{with_log, with_new_log, with_piece, with_set}
 use Rattle.rm_catalog_typed.specs.TypedCatalog.{TypedCatalog}
 use Rattle.rm_lang_statement.specs.declared.command.BackupForm.{BackupForm}
 use Rattle.rm_lang_statement.specs.declared.command.ChangeTo.{ChangeTo}
@@ -34,7 +35,7 @@ use Rattle.rm_machine.specs.BackupRefusal.{absent_of, lost_of}
 use Rattle.rm_machine.specs.BlockRecover.{MendsBlocks, MissesBlock, repair_begun, without_mended}
 use Rattle.rm_machine.specs.BlockRecoverRefusal.{absent_named, lost_named, repair_refusal, repair_room_refusal}
 use Rattle.rm_machine.specs.Corrupt.{corrupt_block_refusal, corrupt_refusal, corrupted, with_damage}
-use Rattle.rm_machine.specs.MadePieces.{Copied, after_piece, after_pieces, copied}
+use Rattle.rm_machine.specs.MadeObjects.{Packed, after_object, after_objects, packed}
 use Rattle.rm_machine.specs.BackupLogs.{copies_of, copies_refusal, copy_entry, copying, numbered_from, with_copies}
 use Rattle.rm_machine.specs.CreateDatafile.{with_datafile}
 use Rattle.rm_machine.specs.Damage.{has_block, without_damaged}
@@ -60,13 +61,13 @@ use Rattle.rm_machine.specs.Step.{IsDone, IsOutcome, refusal_of}
 use Rattle.rm_machine.specs.SwitchLogfile.{archive_refusal, archived, is_due, made_lines, none_lines, with_archived}
 use Rattle.rm_machine.specs.Tracking.{with_tracking}
 use Rattle.rm_machine.specs.Until.{or_else}
-use Rattle.rm_machine.specs.Upkeep.{changed_to, log_at, log_changed, piece_at, piece_changed, with_catalog, with_keep, with_status, with_statuses, without_all, without_record}
+use Rattle.rm_machine.specs.Upkeep.{changed_to, log_at, log_changed, piece_at, piece_changed, set_at, set_changed, with_catalog, with_keep, with_status, with_statuses, without_all, without_record}
 use Rattle.rm_machine.specs.Write.{block_refusal, with_write, write_refusal}
 use Rattle.rm_machine_code.proofs.Archives.{Took, took-thread}
 use Rattle.rm_machine_laws.proofs.ArchivingAll.{room}
-use Rattle.rm_machine_code.proofs.BackingUp.{base-at_end, jobs-many}
+use Rattle.rm_machine_code.proofs.BackingUp.{base-at_end, objects-many}
 use Rattle.rm_machine_code.proofs.BackupAccepted.{can-back_up}
-use Rattle.rm_machine_code.proofs.Copies.{few-copied}
+use Rattle.rm_machine_code.proofs.Recording.{next-id}
 use Rattle.rm_machine_code.proofs.BackingUpLogs.{after_copies, room-for}
 use Rattle.rm_machine_laws.proofs.BackingUpLogs.{done-of}
 use Rattle.rm_machine_code.proofs.Branching.{can-reset}
@@ -246,11 +247,18 @@ log-next f n r = map-next (λ (e : LogEntry). with_log r (f e)) (log_at r n) r (
 piece-next : (f : PieceEntry → PieceEntry) (n : ℕ) (r : TypedCatalog) → next_in (piece_changed f n r) ≡ next_in r
 piece-next f n r = map-next (λ (p : PieceEntry). with_piece r (f p)) (piece_at r n) r (λ p. refl)
 
+set-next : (f : SetEntry → SetEntry) (n : ℕ) (r : TypedCatalog) → next_in (set_changed f n r) ≡ next_in r
+set-next f n r = map-next (λ (e : SetEntry). with_set r (f e)) (set_at r n) r (λ e. refl)
+
+-- one after another
+changed-next : (f : LogEntry → LogEntry) (g : PieceEntry → PieceEntry) (k : SetEntry → SetEntry) (n : ℕ) (r : TypedCatalog) → next_in (set_changed k n (piece_changed g n (log_changed f n r))) ≡ next_in r
+changed-next f g k n r = set-next k n (piece_changed g n (log_changed f n r)) ∙ piece-next g n (log_changed f n r) ∙ log-next f n r
+
 status-next : (st : Status) (n : ℕ) (r : TypedCatalog) → next_in (with_status st n r) ≡ next_in r
-status-next st n r = piece-next (λ p. record p { status = st }) n (log_changed (λ e. record e { status = st }) n r) ∙ log-next (λ e. record e { status = st }) n r
+status-next st n r = changed-next (λ e. record e { status = st }) (λ p. record p { status = st }) (λ e. record e { status = st }) n r
 
 keep-next : (keep : Bool) (n : ℕ) (r : TypedCatalog) → next_in (with_keep keep n r) ≡ next_in r
-keep-next keep n r = piece-next (λ p. record p { keep = keep }) n (log_changed (λ e. record e { keep = keep }) n r) ∙ log-next (λ e. record e { keep = keep }) n r
+keep-next keep n r = changed-next (λ e. record e { keep = keep }) (λ p. record p { keep = keep }) (λ e. record e { keep = keep }) n r
 
 change-next : (to : ChangeTo) (n : ℕ) (r : TypedCatalog) → next_in (changed_to to n r) ≡ next_in r
 change-next Available n r = status-next _ n r
@@ -351,23 +359,22 @@ pub branch-roomy : LeavesIds OpenResetlogs
 branch-roomy = leaves OpenResetlogs (λ s held lines e t sound none is.
     branch-left s.instance.point s lines e t is (omega (arith, (can-reset s sound none).room.ids, threads-next (ledger s).base.threads 1 s)))
 
--- each piece draws one
-pieces-next : (b : BackupForm) (tag : List ℕ) (xs : List Copied) (s : State) → next (after_pieces s b tag xs) ≡ next s + length xs
-pieces-next b tag [] s = omega arith
-pieces-next b tag (x ∷ xs) s = let rest = pieces-next b tag xs (after_piece s b tag x.copy x.piece) in omega (arith, rest)
+-- each object draws one
+objects-next : (b : BackupForm) (tag : List ℕ) (xs : List Packed) (s : State) → next (after_objects s b tag xs) ≡ next s + length xs
+objects-next b tag [] s = omega arith
+objects-next b tag (x ∷ xs) s = let rest = objects-next b tag xs (after_object s b tag x) in omega (arith, rest, next-id b tag s x)
 
 pub backup-roomy : (b : BackupForm) → LeavesIds (Backup b)
 backup-roomy b s held lines e t sound comes =
     let both = done-by (refusal_of s (Backup b)) s held (Backup b) lines e t comes in
     let does = both.1 in
-    let xs = copied (ledger s) b (now_of s) does.jobs does.rows in
+    let xs = packed (ledger s) b (now_of s) does.jobs does.rows in
     let q : State = at_end s b does.events in
     let same : next q ≡ next s = ap (λ (x : BaseEntry). x.next_id) (base-at_end s b does.events) in
-    let few = few-copied s b (now_of s) does.jobs does.rows in
-    let many = jobs-many s b does.jobs does.are in
+    let many = objects-many s b does.jobs does.rows does.are does.whole in
     let most = (can-back_up s b sound both.0).ids in
-    let up = pieces-next b does.tag xs q in
-    left-after lines _ e (effect_of s b does.tag does.events xs) (after_pieces q b does.tag xs) t does.is (omega (arith, same, few, many, most, up))
+    let up = objects-next b does.tag xs q in
+    left-after lines _ e (effect_of s b does.tag does.events xs) (after_objects q b does.tag xs) t does.is (omega (arith, same, many, most, up))
 
 -- and so does each backup of a log
 copies-next : (logs : List LogFile) (n : ℕ) (r : TypedCatalog) → next_in (with_copies r (numbered_from n logs)) ≡ next_in r + length logs

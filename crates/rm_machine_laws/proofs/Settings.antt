@@ -44,7 +44,7 @@ module _ (s : State) (p : Policy) (channels : ℕ) where
       let rules = settings-fit policy some few sound.catalog in
       record {
         sound = sound-with s other.catalog rules;
-        borne = λ h objects made touched is. borne-same s other.catalog rules h objects made touched is (λ e has. inl has) (λ p has. inl has);
+        borne = λ h objects made touched is. borne-same s other.catalog rules h objects made touched is (λ e has. inl has) (λ p has. inl has) (λ e has. inl has);
         saved = λ none. none;
       }
 

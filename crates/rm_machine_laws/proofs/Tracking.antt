@@ -60,7 +60,7 @@ module _ (s : State) (on : Bool) (sound : IsSound s) where
     state = sound-set;
     keeps = fits-set h is.keeps;
     artefacts = is.artefacts;
-    records = record { logs = is.records.logs; pieces = is.records.pieces };
+    records = record { logs = is.records.logs; pieces = is.records.pieces; sets = is.records.sets };
   }
 
 pub tracking-on : (on : Bool) → LeadsOnBy (Tracking on)

@@ -5,6 +5,9 @@ use Rattle.rm_base.specs.declared.block.Change.{Change}
 use Rattle.rm_base.specs.declared.kinds.Class.{Class}
 use Rattle.rm_base.specs.declared.kinds.Status.{Status}
 use Rattle.rm_base.specs.declared.kinds.Status.TheVariants as status
+use Rattle.rm_catalog.specs.declared.record.LogEntry.{LogEntry}
+use Rattle.rm_catalog.specs.declared.record.PieceEntry.{PieceEntry}
+use Rattle.rm_catalog.specs.declared.record.SetEntry.{SetEntry}
 use Rattle.rm_report.specs.declared.line.Line.{Line}
 use Rattle.rm_catalog_typed.specs.TypedCatalog.{TypedCatalog}
 use Rattle.rm_lang_statement.specs.declared.command.ChangeTo.{ChangeTo}
@@ -14,25 +17,28 @@ use Rattle.rm_machine.specs.Effect.{Effect, LeavesObjects, Made, done, no_effect
 use Rattle.rm_machine.specs.Machine.{IsBorneOut}
 use Rattle.rm_machine.specs.Sound.{IsSound}
 use Rattle.rm_machine.specs.declared.state.State.{State}
-use Rattle.rm_machine.specs.Upkeep.{changed_to, log_changed, with_catalog, with_keep, with_status, with_statuses, without_all}
-use Rattle.rm_machine_code.proofs.Entries.{GoesOn, log-on, piece-on, then-on, without-on}
+use Rattle.rm_machine.specs.Upkeep.{changed_to, log_changed, piece_changed, set_changed, with_catalog, with_keep, with_status, with_statuses, without_all}
+use Rattle.rm_machine_code.proofs.Entries.{GoesOn, LogAs, PieceAs, SetAs, log-on, piece-on, set-on, then-on, without-on}
 use Rattle.rm_machine_laws.proofs.Leading.{LeadsOnBy, StaysBy}
 use Rattle.rm_machine_laws.proofs.Quiet.{quiet-on, quiet-stays}
 use Rattle.rm_machine_code.proofs.Upkeep.{all-on}
 
+-- the log, the piece and the set of an id, one after another
+each-on : (s : State) (f : LogEntry → LogEntry) (g : PieceEntry → PieceEntry) (k : SetEntry → SetEntry) (n : ℕ) → LogAs f → PieceAs g → SetAs k → IsSound s → GoesOn s (set_changed k n (piece_changed g n (log_changed f n s.catalog)))
+each-on s f g k n logs pieces sets sound =
+    let first = log-on s f n logs sound in
+    let r : TypedCatalog = log_changed f n s.catalog in
+    let q : TypedCatalog = piece_changed g n r in
+    let both = then-on s r q first (piece-on (with_catalog s r) g n pieces (first.sound sound)) in
+    then-on s q (set_changed k n q) both (set-on (with_catalog s q) k n sets (both.sound sound))
+
 -- another status
 pub status-on : (s : State) (st : Status) (n : ℕ) → IsSound s → GoesOn s (with_status st n s.catalog)
-status-on s st n sound =
-    let first = log-on s (λ e. record e { status = st }) n (λ e. (st, e.keep, refl)) sound in
-    let r : TypedCatalog = log_changed (λ e. record e { status = st }) n s.catalog in
-    then-on s r (with_status st n s.catalog) first (piece-on (with_catalog s r) (λ p. record p { status = st }) n (λ p. (st, p.keep, refl)) (first.sound sound))
+status-on s st n = each-on s (λ e. record e { status = st }) (λ p. record p { status = st }) (λ e. record e { status = st }) n (λ e. (st, e.keep, refl)) (λ p. (st, p.keep, refl)) (λ e. (st, e.keep, refl))
 
 -- kept forever, or not
 pub keep-on : (s : State) (keep : Bool) (n : ℕ) → IsSound s → GoesOn s (with_keep keep n s.catalog)
-keep-on s keep n sound =
-    let first = log-on s (λ e. record e { keep = keep }) n (λ e. (e.status, keep, refl)) sound in
-    let r : TypedCatalog = log_changed (λ e. record e { keep = keep }) n s.catalog in
-    then-on s r (with_keep keep n s.catalog) first (piece-on (with_catalog s r) (λ p. record p { keep = keep }) n (λ p. (p.status, keep, refl)) (first.sound sound))
+keep-on s keep n = each-on s (λ e. record e { keep = keep }) (λ p. record p { keep = keep }) (λ e. record e { keep = keep }) n (λ e. (e.status, keep, refl)) (λ p. (p.status, keep, refl)) (λ e. (e.status, keep, refl))
 
 pub change-on : (s : State) (to : ChangeTo) (n : ℕ) → IsSound s → GoesOn s (changed_to to n s.catalog)
 change-on s Available n sound = status-on s status.Available n sound

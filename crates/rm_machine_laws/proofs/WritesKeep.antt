@@ -1,5 +1,5 @@
 -- What a WRITE keeps of the history: one SCN further, its change is the last one.
-use Rattle.std.proofs.Common.{◌≡◌, ◌≢◌, ◌<◌, ◌≤◌, ◌+◌, ◌-◌, ◌∙◌, ◌++◌, ◌==◌, nat_lt, inl, inr, ℕ, suc, List, [], ◌∷◌, Some, true, false, refl, ap, sym, subst, arith}
+use Rattle.std.proofs.Common.{◌≡◌, ◌≢◌, ◌<◌, ◌≤◌, ◌+◌, ◌-◌, ◌∙◌, ◌++◌, ◌==◌, nat_lt, inl, inr, ℕ, suc, List, [], ◌∷◌, Some, true, false, refl, ap, sym, subst, arith, get_or}
 use Rattle.std.specs.Option.{option_map}
 use Rattle.std.proofs.lemmas.Bool.{and_parts, cases_eq, eqb-true, ltb-true}
 use Rattle.std.proofs.lemmas.List.{map_push}
@@ -26,6 +26,7 @@ use Rattle.rm_history.proofs.States.{concerns-parts, concerns-from}
 use Rattle.rm_history.proofs.Worlds.{file-there}
 use Rattle.rm_catalog_typed.proofs.Trees.{own-at_end}
 use Rattle.rm_piece.specs.declared.piece.Piece.{Piece}
+use Rattle.rm_piece.specs.declared.set.SetFile.{SetFile}
 use Rattle.rm_piece.specs.Artefacts as piece
 use Rattle.rm_redo.specs.declared.online.LogRecord.{LogRecord}
 use Rattle.rm_redo.specs.LogFile.{changes_in, log_of}
@@ -34,8 +35,8 @@ use Rattle.rm_redo.proofs.Logs.{first_of-with_change, inc-with_change, is_lost-w
 use Rattle.rm_track.specs.Bitmaps.{mark_at}
 use Rattle.rm_track.proofs.Telling.{marked-told}
 use Rattle.rm_machine.specs.Damage.{has_block}
-use Rattle.rm_machine.specs.Effect.{Artefact, a_log, a_piece}
-use Rattle.rm_machine.specs.Machine.{ArtefactAgrees, EndsWithin, HistoryFits, IsTrueArtefact, PieceAgrees, SoundRowsAre}
+use Rattle.rm_machine.specs.Effect.{Artefact, a_log, a_piece, a_set}
+use Rattle.rm_machine.specs.Machine.{ArtefactAgrees, EndsWithin, HistoryFits, IsTrueArtefact, PieceAgrees, PieceEndsWithin, SoundRowsAre}
 use Rattle.rm_machine.specs.Sound.{IsSound}
 use Rattle.rm_machine.specs.declared.state.State.{State}
 use Rattle.rm_machine.specs.State.{current_of, is_lost, now_of, online, placed, redo_end, world}
@@ -238,19 +239,22 @@ module _ (s : State) (w : WriteForm) (h : List Change) (sound : IsSound s) (keep
       let last : end_of old j ≡ now = ap (end_of old) same in
       omega (arith, low, last)
 
-  piece-write : (k : Kind) (x : Piece) → IsThere old x.inc → x.checkpoint ≤ end_of old x.inc → PieceAgrees risen h k x → PieceAgrees risen (h ++ c ∷ []) k x
-  piece-write Full x known low agrees = BaseAgrees-grown risen h c history-write (piece.base_of x) agrees (past x.inc x.checkpoint known low)
-  piece-write Level0 x known low agrees = BaseAgrees-grown risen h c history-write (piece.base_of x) agrees (past x.inc x.checkpoint known low)
-  piece-write Place x known low agrees = BaseAgrees-grown risen h c history-write (piece.base_of x) agrees (past x.inc x.checkpoint known low)
-  piece-write Level1 x known low agrees = Level1Agrees-grown risen h c history-write (piece.level1_of x) agrees (past x.inc x.checkpoint known low)
+  kind-write : (k : Kind) (x : Piece) → IsThere old x.inc → x.checkpoint ≤ end_of old x.inc → PieceAgrees risen h k x → PieceAgrees risen (h ++ c ∷ []) k x
+  kind-write Full x known low agrees = BaseAgrees-grown risen h c history-write (piece.base_of x) agrees (past x.inc x.checkpoint known low)
+  kind-write Level0 x known low agrees = BaseAgrees-grown risen h c history-write (piece.base_of x) agrees (past x.inc x.checkpoint known low)
+  kind-write Place x known low agrees = BaseAgrees-grown risen h c history-write (piece.base_of x) agrees (past x.inc x.checkpoint known low)
+  kind-write Level1 x known low agrees = Level1Agrees-grown risen h c history-write (piece.level1_of x) agrees (past x.inc x.checkpoint known low)
+
+  piece-write : (x : Piece) → PieceEndsWithin old x → PieceAgrees risen h x.kind x → PieceAgrees risen (h ++ c ∷ []) x.kind x
+  piece-write x inside agrees = kind-write x.kind x inside.0 (omega (arith, inside.1, inside.2)) agrees
 
   agrees-write : (x : Artefact) → EndsWithin old x → ArtefactAgrees risen h x → ArtefactAgrees risen (h ++ c ∷ []) x
   agrees-write (a_log x) inside agrees =
       LogAgrees-grown h c (log_of x) agrees (is_of-not (log_of x) c (λ tells.
       let low : x.next ≤ now = subst (λ j. x.next ≤ end_of old j) (sym tells.inc) inside.1 in
       absurd (omega (arith, low, tells.below))))
-  agrees-write (a_piece x) inside agrees =
-      piece-write x.kind x inside.0 (omega (arith, inside.1, inside.2)) agrees
+  agrees-write (a_piece x) inside agrees = piece-write x inside agrees
+  agrees-write (a_set x) inside agrees = λ k d within. let m : SetFile = get_or x.members k d in piece-write m.piece (inside k d within) (agrees k d within)
 
   -- each artefact goes on to agree
   pub made-write : (x : Artefact) → IsTrueArtefact (world s) h x → IsTrueArtefact risen (h ++ c ∷ []) x

@@ -28,7 +28,7 @@ borne-write s w h objects made touched a full stands = record {
   state = sound-write s w stands.state a full;
   keeps = keeps-write s w h stands.state stands.keeps a;
   artefacts = λ x has. made-write s w h stands.state stands.keeps a x.artefact (stands.artefacts x has);
-  records = record { logs = stands.records.logs; pieces = stands.records.pieces };
+  records = record { logs = stands.records.logs; pieces = stands.records.pieces; sets = stands.records.sets };
 }
 
 pub write-on : (w : WriteForm) → LeadsOnBy (Write w)

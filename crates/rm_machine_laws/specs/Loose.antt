@@ -14,7 +14,7 @@ use Rattle.rm_machine.specs.declared.state.State.{State}
 use Rattle.rm_machine.specs.State.{ledger}
 use Rattle.rm_machine.specs.Step.{IsOutcome, names_in}
 
--- the object of one of the records has this name: of a log, of a piece, or of a part of a saved site
+-- the object of one of the records has this name: of a log, a piece or a set, or of a part of a saved site
 pub data IsNamedBy (s : State) : List ℕ → Type 0 where
   of_object : (name : List ℕ) → IsObjectName (ledger s) name → IsNamedBy s name
   of_part : (p : PartEntry) → IsSomeAnd s.catalog.saved (λ site. Contains site.parts p) → IsNamedBy s (site_name p.id)

@@ -83,8 +83,8 @@ pub fn archiving_leads_on()
     ensures stays { StaysSound ArchiveLogCurrent }
 {}
 
-/// BACKUP of datafiles, likewise, also while the database writes: its pieces, among them level 1s that were read by bitmaps, agree with
-/// the history, which has the writes. Each row of them is what the history made of its block at or after the checkpoint.
+/// BACKUP of datafiles, likewise, also while the database writes: its pieces and sets, with level 1s that were read by bitmaps, agree
+/// with the history, which has the writes. Each row of them is what the history made of its block at or after the checkpoint.
 pub fn a_backup_leads_on()
     ensures leads { (form : BackupForm) → LeadsOn (Backup form) }
     ensures stays { (form : BackupForm) → StaysSound (Backup form) }
@@ -176,8 +176,8 @@ pub fn a_restore_leads_on()
     ensures stays { (file : Option ℕ) (until : Option Until) → StaysSound (Restore file until) }
 {}
 
-/// CHANGE BACKUP, DELETE BACKUP, CROSSCHECK and DELETE EXPIRED, likewise: of records of logs and pieces the status or
-/// the keep changes, or they go; each record that stays keeps its artefact.
+/// CHANGE BACKUP, DELETE BACKUP, CROSSCHECK and DELETE EXPIRED, likewise: of records of logs, pieces and sets the
+/// status or the keep changes, or they go; each record that stays keeps its artefact.
 pub fn upkeep_leads_on()
     ensures changes { (id : ℕ) (to : ChangeTo) → LeadsOn (ChangeBackup id to) }
     ensures deletes { (id : ℕ) → LeadsOn (DeleteBackup id) }
