@@ -19,7 +19,7 @@ use Rattle.rm_redo.specs.LogFormat as log_format
 use Rattle.rm_redo.specs.LogFormat.{IsLogFile}
 use Rattle.rm_redo.proofs.LogFitting.{spelling_same as log_same}
 use Rattle.rm_catalog_typed.specs.TypedCatalog.{Saved}
-use Rattle.rm_machine.specs.Effect.{Artefact, Made, a_log, a_piece}
+use Rattle.rm_machine.specs.Effect.{Artefact, Made, a_log, a_piece, a_set}
 use Rattle.rm_machine.specs.Machine.{IsTrueArtefact, PieceAgrees}
 use Rattle.rm_machine.specs.Rest.{HasPartArtefact, PartsTellFor}
 use Rattle.rm_machine.specs.Saved.{HasPart, IsGoodFile, IsGoodLog, IsOfPart, spelling_of}
@@ -53,6 +53,7 @@ module _ (l : Ledger) (h : List Change) (objects : Held) (made : List Made) (tou
   piece-by (a_piece b) p a of positive is valid same =
       let one : b ≡ a = piece_same b a is.valid valid (sym same) in
       subst (λ (x : Piece). PieceAgrees (world_of l) h x.kind x) one is.agrees
+  piece-by (a_set b) p a of positive is valid same = absurd of
 
   -- and the log of a thread
   log-by : (b : Artefact) (p : PartEntry) (a : LogFile) → IsOfPart p b → p.file ≡ 0 → IsTrueArtefact (world_of l) h b → IsLogFile a → log_format.spelling a ≡ spelling_of b → LogAgrees h (log_of a)
@@ -60,6 +61,7 @@ module _ (l : Ledger) (h : List Change) (objects : Held) (made : List Made) (tou
       let one : b ≡ a = log_same b a is.valid valid (sym same) in
       subst (λ (x : LogFile). LogAgrees h (log_of x)) one is.agrees
   log-by (a_piece b) p a of none is valid same = absurd (let positive : 0 < p.file = of in omega (arith, none, positive))
+  log-by (a_set b) p a of none is valid same = absurd of
 
   pub file-agrees : (f : ℕ) (d : Datafile) (a : Piece) → 0 < f → IsGoodFile objects l site f d a → BaseAgrees (world_of l) h (base_of a)
   file-agrees f d a positive good =

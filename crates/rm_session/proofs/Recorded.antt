@@ -11,7 +11,8 @@ use Rattle.rm_catalog.specs.declared.record.PartEntry.{PartEntry}
 use Rattle.rm_catalog.specs.declared.record.PieceEntry.{PieceEntry}
 use Rattle.rm_catalog.specs.declared.record.Record.{Record}
 use Rattle.rm_catalog.specs.declared.record.Record.TheVariants as kind
-use Rattle.rm_catalog.specs.Keys.{base_in, datafile_in, head_in, log_in, mark_in, part_in, piece_in}
+use Rattle.rm_catalog.specs.declared.record.SetEntry.{SetEntry}
+use Rattle.rm_catalog.specs.Keys.{base_in, datafile_in, head_in, log_in, mark_in, part_in, piece_in, set_in}
 use Rattle.rm_catalog.specs.Trees.{node_in}
 use Rattle.rm_history.specs.declared.tree.Incarnation.{Incarnation}
 use Rattle.rm_history.specs.declared.world.Datafile.{Datafile}
@@ -83,22 +84,22 @@ same-saved (Some s) (Some t) h p =
     λ i. Some (record { parts = p i; head = head i })
 
 -- lists one after the other
-joined : {A : Type 0} (t f l p m s t' f' l' p' m' s' : List A) → t ≡ t' → f ≡ f' → l ≡ l' → p ≡ p' → m ≡ m' → s ≡ s' → t ++ f ++ l ++ p ++ m ++ s ≡ t' ++ f' ++ l' ++ p' ++ m' ++ s'
-joined t f l p m s t' f' l' p' m' s' e₁ e₂ e₃ e₄ e₅ e₆ = cc
+joined : {A : Type 0} (t f l p m s x t' f' l' p' m' s' x' : List A) → t ≡ t' → f ≡ f' → l ≡ l' → p ≡ p' → m ≡ m' → s ≡ s' → x ≡ x' → t ++ f ++ l ++ p ++ m ++ s ++ x ≡ t' ++ f' ++ l' ++ p' ++ m' ++ s' ++ x'
+joined t f l p m s x t' f' l' p' m' s' x' e₁ e₂ e₃ e₄ e₅ e₆ e₇ = cc
 
-parted : {A : Type 0} (tell : Record → Option A) (t f l p m s : List Record) → filter_map tell (t ++ f ++ l ++ p ++ m ++ s) ≡ filter_map tell t ++ filter_map tell f ++ filter_map tell l ++ filter_map tell p ++ filter_map tell m ++ filter_map tell s
-parted tell t f l p m s = simp filter_map-append
+parted : {A : Type 0} (tell : Record → Option A) (t f l p m s x : List Record) → filter_map tell (t ++ f ++ l ++ p ++ m ++ s ++ x) ≡ filter_map tell t ++ filter_map tell f ++ filter_map tell l ++ filter_map tell p ++ filter_map tell m ++ filter_map tell s ++ filter_map tell x
+parted tell t f l p m s x = simp filter_map-append
 
 -- what all records tell, from what those of each kind tell
 module _ {A : Type 0} (tell : Record → Option A) (r : TypedCatalog) where
-  told : (t f l p m s : List A) → filter_map tell (numbered incarnation_record 1 r.ledger.tree) ≡ t → filter_map tell (numbered datafile_record 1 r.ledger.files) ≡ f
+  told : (t f l p m s x : List A) → filter_map tell (numbered incarnation_record 1 r.ledger.tree) ≡ t → filter_map tell (numbered datafile_record 1 r.ledger.files) ≡ f
       → filter_map tell (map kind.Log r.ledger.logs) ≡ l → filter_map tell (map kind.Piece r.ledger.pieces) ≡ p
       → filter_map tell (numbered mark_record 1 r.ledger.marks) ≡ m → filter_map tell (saved_records r.saved) ≡ s
-      → filter_map tell (records_of r) ≡ cons_option (tell (kind.Base r.ledger.base)) (t ++ f ++ l ++ p ++ m ++ s)
-  told t f l p m s e₁ e₂ e₃ e₄ e₅ e₆ =
+      → filter_map tell (map kind.Set r.ledger.sets) ≡ x → filter_map tell (records_of r) ≡ cons_option (tell (kind.Base r.ledger.base)) (t ++ f ++ l ++ p ++ m ++ s ++ x)
+  told t f l p m s x e₁ e₂ e₃ e₄ e₅ e₆ e₇ =
       ap (cons_option (tell (kind.Base r.ledger.base)))
-      (parted tell (numbered incarnation_record 1 r.ledger.tree) (numbered datafile_record 1 r.ledger.files) (map kind.Log r.ledger.logs) (map kind.Piece r.ledger.pieces) (numbered mark_record 1 r.ledger.marks) (saved_records r.saved)
-      ∙ joined _ _ _ _ _ _ t f l p m s e₁ e₂ e₃ e₄ e₅ e₆)
+      (parted tell (numbered incarnation_record 1 r.ledger.tree) (numbered datafile_record 1 r.ledger.files) (map kind.Log r.ledger.logs) (map kind.Piece r.ledger.pieces) (numbered mark_record 1 r.ledger.marks) (saved_records r.saved) (map kind.Set r.ledger.sets)
+      ∙ joined _ _ _ _ _ _ _ t f l p m s x e₁ e₂ e₃ e₄ e₅ e₆ e₇)
 
 -- what records of another kind tell: nothing
 module _ {A : Type 0} (tell : Record → Option A) (r : TypedCatalog) where
@@ -120,47 +121,55 @@ module _ {A : Type 0} (tell : Record → Option A) (r : TypedCatalog) where
   no-saved : ((x : PartEntry) → tell (kind.Part x) ≡ None) → ((x : HeadEntry) → tell (kind.Head x) ≡ None) → filter_map tell (saved_records r.saved) ≡ []
   no-saved no-part = saved-silent tell no-part r.saved
 
+  no-sets : ((x : SetEntry) → tell (kind.Set x) ≡ None) → filter_map tell (map kind.Set r.ledger.sets) ≡ []
+  no-sets = map-silent kind.Set tell r.ledger.sets
+
 -- each kind, from all records
 module _ (r : TypedCatalog) where
   bases-told : filter_map base_in (records_of r) ≡ r.ledger.base ∷ []
   bases-told =
-      told base_in r [] [] [] [] [] [] (no-tree base_in r (λ n x. refl)) (no-files base_in r (λ n x. refl)) (no-logs base_in r (λ x. refl))
-      (no-pieces base_in r (λ x. refl)) (no-marks base_in r (λ n x. refl)) (no-saved base_in r (λ x. refl) (λ x. refl))
+      told base_in r [] [] [] [] [] [] [] (no-tree base_in r (λ n x. refl)) (no-files base_in r (λ n x. refl)) (no-logs base_in r (λ x. refl))
+      (no-pieces base_in r (λ x. refl)) (no-marks base_in r (λ n x. refl)) (no-saved base_in r (λ x. refl) (λ x. refl)) (no-sets base_in r (λ x. refl))
 
   tree-told : filter_map node_in (records_of r) ≡ r.ledger.tree
   tree-told =
-      told node_in r r.ledger.tree [] [] [] [] [] (numbered-told incarnation_record node_in 1 r.ledger.tree (λ n x. refl)) (no-files node_in r (λ n x. refl)) (no-logs node_in r (λ x. refl))
-      (no-pieces node_in r (λ x. refl)) (no-marks node_in r (λ n x. refl)) (no-saved node_in r (λ x. refl) (λ x. refl)) ∙ simp append-nil
+      told node_in r r.ledger.tree [] [] [] [] [] [] (numbered-told incarnation_record node_in 1 r.ledger.tree (λ n x. refl)) (no-files node_in r (λ n x. refl)) (no-logs node_in r (λ x. refl))
+      (no-pieces node_in r (λ x. refl)) (no-marks node_in r (λ n x. refl)) (no-saved node_in r (λ x. refl) (λ x. refl)) (no-sets node_in r (λ x. refl)) ∙ simp append-nil
 
   files-told : filter_map file_in (records_of r) ≡ r.ledger.files
   files-told =
-      told file_in r [] r.ledger.files [] [] [] [] (no-tree file_in r (λ n x. refl)) (numbered-told datafile_record file_in 1 r.ledger.files (λ n x. refl)) (no-logs file_in r (λ x. refl))
-      (no-pieces file_in r (λ x. refl)) (no-marks file_in r (λ n x. refl)) (no-saved file_in r (λ x. refl) (λ x. refl)) ∙ simp append-nil
+      told file_in r [] r.ledger.files [] [] [] [] [] (no-tree file_in r (λ n x. refl)) (numbered-told datafile_record file_in 1 r.ledger.files (λ n x. refl)) (no-logs file_in r (λ x. refl))
+      (no-pieces file_in r (λ x. refl)) (no-marks file_in r (λ n x. refl)) (no-saved file_in r (λ x. refl) (λ x. refl)) (no-sets file_in r (λ x. refl)) ∙ simp append-nil
 
   logs-told : filter_map log_in (records_of r) ≡ r.ledger.logs
   logs-told =
-      told log_in r [] [] r.ledger.logs [] [] [] (no-tree log_in r (λ n x. refl)) (no-files log_in r (λ n x. refl)) (map-told kind.Log log_in r.ledger.logs (λ x. refl))
-      (no-pieces log_in r (λ x. refl)) (no-marks log_in r (λ n x. refl)) (no-saved log_in r (λ x. refl) (λ x. refl)) ∙ simp append-nil
+      told log_in r [] [] r.ledger.logs [] [] [] [] (no-tree log_in r (λ n x. refl)) (no-files log_in r (λ n x. refl)) (map-told kind.Log log_in r.ledger.logs (λ x. refl))
+      (no-pieces log_in r (λ x. refl)) (no-marks log_in r (λ n x. refl)) (no-saved log_in r (λ x. refl) (λ x. refl)) (no-sets log_in r (λ x. refl)) ∙ simp append-nil
 
   pieces-told : filter_map piece_in (records_of r) ≡ r.ledger.pieces
   pieces-told =
-      told piece_in r [] [] [] r.ledger.pieces [] [] (no-tree piece_in r (λ n x. refl)) (no-files piece_in r (λ n x. refl)) (no-logs piece_in r (λ x. refl))
-      (map-told kind.Piece piece_in r.ledger.pieces (λ x. refl)) (no-marks piece_in r (λ n x. refl)) (no-saved piece_in r (λ x. refl) (λ x. refl)) ∙ simp append-nil
+      told piece_in r [] [] [] r.ledger.pieces [] [] [] (no-tree piece_in r (λ n x. refl)) (no-files piece_in r (λ n x. refl)) (no-logs piece_in r (λ x. refl))
+      (map-told kind.Piece piece_in r.ledger.pieces (λ x. refl)) (no-marks piece_in r (λ n x. refl)) (no-saved piece_in r (λ x. refl) (λ x. refl)) (no-sets piece_in r (λ x. refl)) ∙ simp append-nil
 
   marks-told : filter_map marked_in (records_of r) ≡ r.ledger.marks
   marks-told =
-      told marked_in r [] [] [] [] r.ledger.marks [] (no-tree marked_in r (λ n x. refl)) (no-files marked_in r (λ n x. refl)) (no-logs marked_in r (λ x. refl))
-      (no-pieces marked_in r (λ x. refl)) (numbered-told mark_record marked_in 1 r.ledger.marks (λ n x. refl)) (no-saved marked_in r (λ x. refl) (λ x. refl)) ∙ simp append-nil
+      told marked_in r [] [] [] [] r.ledger.marks [] [] (no-tree marked_in r (λ n x. refl)) (no-files marked_in r (λ n x. refl)) (no-logs marked_in r (λ x. refl))
+      (no-pieces marked_in r (λ x. refl)) (numbered-told mark_record marked_in 1 r.ledger.marks (λ n x. refl)) (no-saved marked_in r (λ x. refl) (λ x. refl)) (no-sets marked_in r (λ x. refl)) ∙ simp append-nil
 
   parts-told : filter_map part_in (records_of r) ≡ parts r.saved
   parts-told =
-      told part_in r [] [] [] [] [] (parts r.saved) (no-tree part_in r (λ n x. refl)) (no-files part_in r (λ n x. refl)) (no-logs part_in r (λ x. refl))
-      (no-pieces part_in r (λ x. refl)) (no-marks part_in r (λ n x. refl)) (saved-parts r.saved)
+      told part_in r [] [] [] [] [] (parts r.saved) [] (no-tree part_in r (λ n x. refl)) (no-files part_in r (λ n x. refl)) (no-logs part_in r (λ x. refl))
+      (no-pieces part_in r (λ x. refl)) (no-marks part_in r (λ n x. refl)) (saved-parts r.saved) (no-sets part_in r (λ x. refl)) ∙ simp append-nil
 
   heads-told : filter_map head_in (records_of r) ≡ heads r.saved
   heads-told =
-      told head_in r [] [] [] [] [] (heads r.saved) (no-tree head_in r (λ n x. refl)) (no-files head_in r (λ n x. refl)) (no-logs head_in r (λ x. refl))
-      (no-pieces head_in r (λ x. refl)) (no-marks head_in r (λ n x. refl)) (saved-heads r.saved)
+      told head_in r [] [] [] [] [] (heads r.saved) [] (no-tree head_in r (λ n x. refl)) (no-files head_in r (λ n x. refl)) (no-logs head_in r (λ x. refl))
+      (no-pieces head_in r (λ x. refl)) (no-marks head_in r (λ n x. refl)) (saved-heads r.saved) (no-sets head_in r (λ x. refl)) ∙ simp append-nil
+
+  sets-told : filter_map set_in (records_of r) ≡ r.ledger.sets
+  sets-told =
+      told set_in r [] [] [] [] [] [] r.ledger.sets (no-tree set_in r (λ n x. refl)) (no-files set_in r (λ n x. refl)) (no-logs set_in r (λ x. refl))
+      (no-pieces set_in r (λ x. refl)) (no-marks set_in r (λ n x. refl)) (no-saved set_in r (λ x. refl) (λ x. refl)) (map-told kind.Set set_in r.ledger.sets (λ x. refl))
 
 -- what two databases of the same records have of a kind
 both : {A : Type 0} (tell : Record → Option A) (a b : TypedCatalog) (xs ys : List A) → records_of a ≡ records_of b → filter_map tell (records_of a) ≡ xs → filter_map tell (records_of b) ≡ ys → xs ≡ ys
@@ -179,6 +188,7 @@ one-typed_catalog a b same =
         files = both file_in a b a.ledger.files b.ledger.files same (files-told a) (files-told b) i;
         logs = both log_in a b a.ledger.logs b.ledger.logs same (logs-told a) (logs-told b) i;
         pieces = both piece_in a b a.ledger.pieces b.ledger.pieces same (pieces-told a) (pieces-told b) i;
+        sets = both set_in a b a.ledger.sets b.ledger.sets same (sets-told a) (sets-told b) i;
         marks = both marked_in a b a.ledger.marks b.ledger.marks same (marks-told a) (marks-told b) i;
       };
       saved = same-saved a.saved b.saved heads_same parts_same i;

@@ -22,9 +22,9 @@ use Rattle.rm_machine.specs.Rest.{HasPartArtefact, HaveParts, IsRestBorneOut, Is
 use Rattle.rm_machine.specs.Saved.{IsOfPart, spelling_of}
 use Rattle.rm_machine.specs.Saving.{IsSavedAs, SitePart, entry_of, made_of, object_of, parts_of, saved_of, with_ids, with_site}
 use Rattle.rm_machine.specs.Sound.{IsSound}
-use Rattle.rm_machine.specs.State.{ledger, counted, placed, world}
+use Rattle.rm_machine.specs.State.{ledger, counted, database_of, placed, world}
 use Rattle.rm_machine_code.proofs.Dropping.{no-site}
-use Rattle.rm_machine_code.proofs.Kept.{StandOn, kept-on}
+use Rattle.rm_machine_code.proofs.Kept.{StandOn, kept-on, stays-so}
 use Rattle.rm_machine_code.proofs.LosingFits.{losing-fits}
 use Rattle.rm_machine_code.proofs.Standing.{each-in}
 use Rattle.rm_machine_code.proofs.Undamaged.{sound-undamaged}
@@ -96,7 +96,7 @@ module _ (m : Machine) (s : State) (r : Rest) (borne : IsBorneOut s m.history m.
   more a has = subst (λ (xs : List Made). Contains xs a) (sym saved.made) (Contains-append_left m.made (with_ids made_of next (parts_of s)) a has)
 
   records : HaveArtefacts r.objects r.made r.touched (with_site s).ledger
-  records = kept-on m.objects r.objects m.made r.made m.touched r.touched (ledger s) (with_site s).ledger stand more (λ e has. inl has) (λ e has. inl has) borne.records
+  records = kept-on m.objects r.objects m.made r.made m.touched r.touched (ledger s) (with_site s).ledger (stays-so (database_of (ledger s))) stand more (λ e has. inl has) (λ e has. inl has) (λ e has. inl has) borne.records
 
   parts-have : HaveParts r.objects r.made r.touched (Some (saved_of s))
   parts-have e has =

@@ -9,6 +9,7 @@ use Rattle.rm_catalog.specs.declared.record.HeadEntry.{HeadEntry}
 use Rattle.rm_catalog.specs.declared.record.LogEntry.{LogEntry}
 use Rattle.rm_catalog.specs.declared.record.PartEntry.{PartEntry}
 use Rattle.rm_catalog.specs.declared.record.PieceEntry.{PieceEntry}
+use Rattle.rm_catalog.specs.declared.record.SetEntry.{SetEntry}
 use Rattle.rm_evidence.specs.Gathered.{placed_piece}
 use Rattle.rm_history.specs.Tree.{IsThere}
 use Rattle.rm_piece.specs.Spelling as piece
@@ -98,6 +99,7 @@ module _ (s : State) (sound : IsSound s) (ids : lacks_ids s 0 ≡ false) where
         apart = ids-pairs entry_of IsOther AreApart (next_after s) (λ i j p q less most other. record { ids = less; things = other }) next (parts_of s) (omega arith) (parts-apart s);
         logs = λ e p has held. new-id e.id p (All-contains (λ (x : LogEntry). (1 ≤ x.id) × (x.id < next)) (ledger s).logs e is.ids.logs has).1 held;
         pieces = λ e p has held. new-id e.id p (All-contains (λ (x : PieceEntry). (1 ≤ x.id) × (x.id < next)) (ledger s).pieces e is.ids.pieces has).1 held;
+        sets = λ e p has held. new-id e.id p (All-contains (λ (x : SetEntry). (1 ≤ x.id) × (x.id < next)) (ledger s).sets e is.ids.sets has).1 held;
         point = point-there s.instance.point;
       }
     where

@@ -46,19 +46,20 @@ has-contents : (o : Option (List WriteForm)) → maybe_valid (list_all is_write)
 has-contents None e = All-nil (λ (w : WriteForm). length w.content.0 ≡ 64)
 has-contents (Some ws) e = all ws e
 
--- what stands fifth among these
-fifth : (a b c d e f : Bool) → ((a && (b && (c && (d && e)))) && f) ≡ true → e ≡ true
-fifth a b c d e f h =
-    let first = and_parts (a && (b && (c && (d && e)))) f h in
-    let second = and_parts a (b && (c && (d && e))) first.0 in
-    let third = and_parts b (c && (d && e)) second.1 in
-    let fourth = and_parts c (d && e) third.1 in
-    (and_parts d e fourth.1).1
+-- what stands last among these
+last-of : (a b c d e f g : Bool) → ((a && (b && (c && (d && (e && f))))) && g) ≡ true → f ≡ true
+last-of a b c d e f g h =
+    let first = and_parts (a && (b && (c && (d && (e && f))))) g h in
+    let second = and_parts a (b && (c && (d && (e && f)))) first.0 in
+    let third = and_parts b (c && (d && (e && f))) second.1 in
+    let fourth = and_parts c (d && (e && f)) third.1 in
+    let fifth = and_parts d (e && f) fourth.1 in
+    (and_parts e f fifth.1).1
 
 -- what a command of the grammar writes has 64 bytes
 pub has-content : (c : Command) → is_command c ≡ true → HasContent c
 has-content (Write w) h = one w h
 has-content (Backup b) h =
-    has-contents b.during (fifth (maybe_valid (in_range 0 1) b.level) (maybe_valid are_named b.files) (maybe_valid is_capital_tag b.tag) (maybe_valid is_capital_tag b.merge_tag) (maybe_valid (list_all is_write) b.during) (agrees b.copy b) h)
+    has-contents b.during (last-of (maybe_valid (in_range 0 1) b.level) (maybe_valid are_named b.files) (maybe_valid (in_range 1 64) b.files_per_set) (maybe_valid is_capital_tag b.tag) (maybe_valid is_capital_tag b.merge_tag) (maybe_valid (list_all is_write) b.during) (agrees b.copy b) h)
 has-content (BlockRecover form) h = has-contents form.during (and_parts (maybe_valid is_named form.blocks) (maybe_valid (list_all is_write) form.during) h).1
 has-content c h = tt

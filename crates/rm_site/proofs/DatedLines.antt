@@ -17,7 +17,8 @@ use Rattle.rm_machine.specs.Backup.{or_nothing}
 use Rattle.rm_machine.specs.BackupOutcome.{at_end, write_lines}
 use Rattle.rm_machine.specs.Effect.{Effect, Outcome, done, no_effect, refused, told}
 use Rattle.rm_machine.specs.ListIncarnation.{incarnation_lines}
-use Rattle.rm_machine.specs.MadePieces.{Copied, after_piece, copied, piece_lines}
+use Rattle.rm_machine.specs.MadeObjects.{Packed, after_object, alone, in_set, lines_of, object_lines, packed}
+use Rattle.rm_machine.specs.MadeSets.{InSet, member_line}
 use Rattle.rm_machine.specs.State.{current_of, ledger, now_of, online, tree}
 use Rattle.rm_machine.specs.Step.{IsDone}
 use Rattle.rm_machine.specs.SwitchLogfile.{archived, is_due, made_lines, none_lines, with_archived}
@@ -55,9 +56,17 @@ archived-dated : (all : Bool) (s : State) (t n : ℕ) → AreDated (lines_from a
 archived-dated all s t zero = none-dated
 archived-dated all s t (suc n) = join-dated (thread_lines all s t) (lines_from all (after_thread s t) (t + 1) n) (thread-dated all s t) (archived-dated all (after_thread s t) (t + 1) n)
 
-pieces-dated : (s : State) (b : BackupForm) (tag : List ℕ) (xs : List Copied) → AreDated (piece_lines s b tag xs)
-pieces-dated s b tag [] = none-dated
-pieces-dated s b tag (x ∷ xs) = more-dated _ _ tt (pieces-dated (after_piece s b tag x.copy x.piece) b tag xs)
+members-dated : (s : State) (xs : List InSet) → AreDated (map (member_line s) xs)
+members-dated s [] = none-dated
+members-dated s (x ∷ xs) = more-dated _ _ tt (members-dated s xs)
+
+object-dated : (s : State) (x : Packed) → AreDated (lines_of s x)
+object-dated s (alone x) = one-dated _ tt
+object-dated s (in_set checkpoint xs) = members-dated s xs
+
+objects-dated : (s : State) (b : BackupForm) (tag : List ℕ) (xs : List Packed) → AreDated (object_lines s b tag xs)
+objects-dated s b tag [] = none-dated
+objects-dated s b tag (x ∷ xs) = join-dated (lines_of s x) _ (object-dated s x) (objects-dated (after_object s b tag x) b tag xs)
 
 thread-writes-dated : (t : ℕ) (scns : List ℕ) → AreDated (map (λ scn. ThreadScn t scn) scns)
 thread-writes-dated t [] = none-dated
@@ -113,7 +122,7 @@ every-dated (Write w) s objects o change is = by o _ is (one-dated _ tt)
 every-dated (SwitchLogfile t) s objects o change is = by o _ is (if-by (is_due s t) (done (made_lines s t) (archived (ledger s).base.next_id (online s t)) (with_archived s t)) (done (none_lines t) no_effect s) (one-dated _ tt) (one-dated _ tt))
 every-dated ArchiveLogCurrent s objects o change is = by o _ is (archived-dated true s 1 (ledger s).base.threads)
 every-dated (Backup b) s objects o change is = by o _ is.is
-    (join-dated _ (write_lines 1 is.scns) (nothing-dated _ (pieces-dated (at_end s b is.events) b is.tag (copied (ledger s) b (now_of s) is.jobs is.rows))) (writes-dated 1 is.scns))
+    (join-dated _ (write_lines 1 is.scns) (nothing-dated _ (objects-dated (at_end s b is.events) b is.tag (packed (ledger s) b (now_of s) is.jobs is.rows))) (writes-dated 1 is.scns))
 every-dated BackupLogs s objects o change is = absurd (cc)
 every-dated (BlockRecover form) s objects o change is = absurd (cc)
 every-dated Mount s objects o change is = by o _ is (one-dated _ tt)

@@ -1,7 +1,7 @@
 //! Why the state alone refuses a statement.
 ghost use Rattle.std.specs.Prelude.{◌≡◌, IfOk};
 ghost use Rattle.rm_machine.specs.Sound.{IsSound};
-ghost use Rattle.rm_machine.specs.Step.{refusal_of};
+ghost use Rattle.rm_machine.specs.Step.{IsStatement, refusal_of};
 
 use rm_base::{NoMemory, Refusal};
 use rm_lang_statement::Command;
@@ -15,6 +15,7 @@ pub(crate) fn refusal_of(
     state: &State,
     command: &Command,
 ) -> Result<Option<Refusal>, NoMemory>
+    requires command { IsStatement command.now }
     requires sound { IsSound state.now }
     ensures value { IfOk result (λ o. o ≡ refusal_of state.now command.now) }
 {

@@ -13,9 +13,10 @@ use Rattle.rm_base.proofs.Lists.{filter_from, filter_to, map_from, map_to}
 use Rattle.rm_base.proofs.Members.{in-front, none-in}
 use Rattle.rm_catalog.specs.declared.record.LogEntry.{LogEntry}
 use Rattle.rm_catalog.specs.declared.record.Record.{Record}
-use Rattle.rm_catalog.specs.declared.record.Record.TheVariants.{Log, Piece}
-use Rattle.rm_evidence.specs.Available.{HasLogObject, IsSkipped, a_log, a_piece}
-use Rattle.rm_evidence.specs.Gathered.{IsLogOf}
+use Rattle.rm_catalog.specs.declared.record.Record.TheVariants.{Log, Piece, Set}
+use Rattle.rm_evidence.specs.Available.{HasLogObject, IsSkippedAmong, a_log, a_piece, a_set}
+use Rattle.rm_evidence.specs.Database.{Database, database_in}
+use Rattle.rm_evidence.specs.Gathered.{ById, IsLogOf}
 use Rattle.rm_evidence.specs.Taking.{Extends, IsTold}
 use Rattle.rm_evidence.proofs.Extending.{extends-none, extends-one, extends-then, only-in}
 use Rattle.rm_evidence.proofs.Objects.{bad-one, not-both, one-log, told-one}
@@ -25,7 +26,7 @@ use Rattle.rm_redo.specs.declared.log_file.LogFile.{LogFile}
 use Rattle.rm_redo.specs.LogFormat.{IsLogFile}
 use Rattle.rm_machine.specs.BackupLogs.{archived_in}
 use Rattle.rm_machine.specs.Validate.{is_available}
-use Rattle.rm_step_backup.specs.Logs.{Adds, AreRecorded, IsAll, IsRecorded, KeepsRecords}
+use Rattle.rm_step_backup.specs.Logs.{Adds, AreRecorded, IsAll, IsRecorded, KeepsRecords, no_database}
 use Rattle.rm_step_backup.specs.declared.looking.Looked.{Looked}
 
 abbrev pub nothing : Looked
@@ -82,7 +83,7 @@ module _ (held : Held) where
         | inr has ↦ inr (p.0, has, p.2, p.3)
       ]
 
-  skip-part : (rs qs : List Record) (id : ℕ) (bad : Bad) → IsSkipped held (rs ++ qs) id bad → IsSkipped held rs id bad ⊎ IsSkipped held qs id bad
+  skip-part : (rs qs : List Record) (id : ℕ) (bad : Bad) → IsSkippedAmong held no_database (rs ++ qs) id bad → IsSkippedAmong held no_database rs id bad ⊎ IsSkippedAmong held no_database qs id bad
   skip-part rs qs _ _ (a_log l bad has status is) = elim (Contains-append_cases rs qs (Log l) has) [
     | inl here ↦ inl (a_log l bad here status is)
     | inr here ↦ inr (a_log l bad here status is)
@@ -91,14 +92,20 @@ module _ (held : Held) where
     | inl here ↦ inl (a_piece p bad here status is)
     | inr here ↦ inr (a_piece p bad here status is)
   ]
+  skip-part rs qs _ _ (a_set e bad has status is) = elim (Contains-append_cases rs qs (Set e) has) [
+    | inl here ↦ inl (a_set e bad here status is)
+    | inr here ↦ inr (a_set e bad here status is)
+  ]
 
-  skip-join : (rs qs : List Record) (id : ℕ) (bad : Bad) → IsSkipped held rs id bad ⊎ IsSkipped held qs id bad → IsSkipped held (rs ++ qs) id bad
+  skip-join : (rs qs : List Record) (id : ℕ) (bad : Bad) → IsSkippedAmong held no_database rs id bad ⊎ IsSkippedAmong held no_database qs id bad → IsSkippedAmong held no_database (rs ++ qs) id bad
   skip-join rs qs _ _ (inl (a_log l bad has status is)) = a_log l bad (Contains-append_left rs qs (Log l) has) status is
   skip-join rs qs _ _ (inl (a_piece p bad has status is)) = a_piece p bad (Contains-append_left rs qs (Piece p) has) status is
+  skip-join rs qs _ _ (inl (a_set e bad has status is)) = a_set e bad (Contains-append_left rs qs (Set e) has) status is
   skip-join rs qs _ _ (inr (a_log l bad has status is)) = a_log l bad (Contains-append_right rs qs (Log l) has) status is
   skip-join rs qs _ _ (inr (a_piece p bad has status is)) = a_piece p bad (Contains-append_right rs qs (Piece p) has) status is
+  skip-join rs qs _ _ (inr (a_set e bad has status is)) = a_set e bad (Contains-append_right rs qs (Set e) has) status is
 
-  skip-split : (rs qs : List Record) (id : ℕ) (bad : Bad) → (IsSkipped held rs id bad ⊎ IsSkipped held qs id bad) ↔ IsSkipped held (rs ++ qs) id bad
+  skip-split : (rs qs : List Record) (id : ℕ) (bad : Bad) → (IsSkippedAmong held no_database rs id bad ⊎ IsSkippedAmong held no_database qs id bad) ↔ IsSkippedAmong held no_database (rs ++ qs) id bad
   skip-split rs qs id bad = (skip-join rs qs id bad, skip-part rs qs id bad)
 
   -- the record of what is at hand, and of what is skipped
@@ -108,9 +115,16 @@ module _ (held : Held) where
       let same : is.0 ≡ o.0 = (let one : Log is.0 ≡ Log o.0 = o.2 in cc) in
       (o.0, o.1, subst (λ (l : LogEntry). l.id ≡ id) same is.2)
 
-  skip-of : (xs : List LogEntry) (id : ℕ) (bad : Bad) → IsSkipped held (archived_in xs) id bad → (l : LogEntry) × Contains xs l × (l.id ≡ id)
+  skip-of : (xs : List LogEntry) (id : ℕ) (bad : Bad) → IsSkippedAmong held no_database (archived_in xs) id bad → (l : LogEntry) × Contains xs l × (l.id ≡ id)
   skip-of xs _ _ (a_log l bad has status is) = let o = no-piece xs (Log l) has in (o.0, o.1, (let one : Log l ≡ Log o.0 = o.2 in cc))
   skip-of xs _ _ (a_piece p bad has status is) = absurd (let o = no-piece xs (Piece p) has in let clash : Piece p ≡ Log o.0 = o.2 in cc)
+  skip-of xs _ _ (a_set e bad has status is) = absurd (let o = no-piece xs (Set e) has in let clash : Set e ≡ Log o.0 = o.2 in cc)
+
+  -- of logs alone it does not matter which database they are of
+  skip-any : (one other : Database) (xs : List LogEntry) (id : ℕ) (bad : Bad) → IsSkippedAmong held one (archived_in xs) id bad → IsSkippedAmong held other (archived_in xs) id bad
+  skip-any one other xs _ _ (a_log l bad has status is) = a_log l bad has status is
+  skip-any one other xs _ _ (a_piece p bad has status is) = absurd (let o = no-piece xs (Piece p) has in let clash : Piece p ≡ Log o.0 = o.2 in cc)
+  skip-any one other xs _ _ (a_set e bad has status is) = absurd (let o = no-piece xs (Set e) has in let clash : Set e ≡ Log o.0 = o.2 in cc)
 
   -- what is told of the one log
   module _ (e : LogEntry) where
@@ -127,7 +141,7 @@ module _ (held : Held) where
         let has : HasLogObject held e a = subst (λ (l : LogEntry). HasLogObject held l a) (sym one.0) is.3 in
         record { number = ap (λ (l : LogEntry). l.id) one.0 ∙ is.2; archived = one.1; status = has.status; told = (has.bytes, has.there, has.object) }
 
-    skipped-of : (id : ℕ) (bad : Bad) → IsSkipped held (archived_in (e ∷ [])) id bad → OfOne id (Err bad)
+    skipped-of : (id : ℕ) (bad : Bad) → IsSkippedAmong held no_database (archived_in (e ∷ [])) id bad → OfOne id (Err bad)
     skipped-of _ _ (a_log l bad has status is) =
         let one = in-one e l has in
         record {
@@ -137,27 +151,28 @@ module _ (held : Held) where
           told = subst (λ (x : LogEntry). IsTold (IsLogObject x) (held (log_name x.id)) (Err bad)) (sym one.0) is;
         }
     skipped-of _ _ (a_piece p bad has status is) = absurd (let o = no-piece (e ∷ []) (Piece p) has in let clash : Piece p ≡ Log o.0 = o.2 in cc)
+    skipped-of _ _ (a_set d bad has status is) = absurd (let o = no-piece (e ∷ []) (Set d) has in let clash : Set d ≡ Log o.0 = o.2 in cc)
 
     abbrev Told : Result LogFile Bad → Type 0
     Told what = IsTold (IsLogObject e) (held (log_name e.id)) what
 
     pub adds-none : (old new : Looked) → new ≡ old → (e.archived ≡ true → e.status ≡ Available → ⊥) → Adds held (e ∷ []) old new
     adds-none old new same not = record {
-      found = extends-none (λ i j. i < j) (IsLogOf held (archived_in (e ∷ []))) old.found new.found (ap (λ (x : Looked). x.found) same) (λ id a is. let o = log-of id a is in not o.archived o.status);
-      skipped = extends-none (λ i j. i < j) (IsSkipped held (archived_in (e ∷ []))) old.skipped new.skipped (ap (λ (x : Looked). x.skipped) same) (λ id bad is. let o = skipped-of id bad is in not o.archived o.status);
+      found = extends-none ById (IsLogOf held (archived_in (e ∷ []))) old.found new.found (ap (λ (x : Looked). x.found) same) (λ id a is. let o = log-of id a is in not o.archived o.status);
+      skipped = extends-none ById (IsSkippedAmong held no_database (archived_in (e ∷ []))) old.skipped new.skipped (ap (λ (x : Looked). x.skipped) same) (λ id bad is. let o = skipped-of id bad is in not o.archived o.status);
     }
 
     pub adds-found : (a : LogFile) (old new : Looked) → e.archived ≡ true → e.status ≡ Available → Told (Ok a) → new.found ≡ old.found ++ (e.id, a) ∷ [] → new.skipped ≡ old.skipped → Adds held (e ∷ []) old new
     adds-found a old new archived status told found skipped = record {
-      found = extends-one (λ i j. i < j) (IsLogOf held (archived_in (e ∷ []))) old.found new.found e.id a found (e, one-in e archived, refl, record { status = status; bytes = told.0; there = told.1; object = told.2 })
+      found = extends-one ById (IsLogOf held (archived_in (e ∷ []))) old.found new.found e.id a found (e, one-in e archived, refl, record { status = status; bytes = told.0; there = told.1; object = told.2 })
           (λ j b is. let o = log-of j b is in (o.number, told-one (IsLogObject e) (held (log_name e.id)) a b (one-log e) told o.told));
-      skipped = extends-none (λ i j. i < j) (IsSkipped held (archived_in (e ∷ []))) old.skipped new.skipped skipped (λ id bad is. not-both (IsLogObject e) (held (log_name e.id)) a bad told (skipped-of id bad is).told);
+      skipped = extends-none ById (IsSkippedAmong held no_database (archived_in (e ∷ []))) old.skipped new.skipped skipped (λ id bad is. not-both (IsLogObject e) (held (log_name e.id)) a bad told (skipped-of id bad is).told);
     }
 
     pub adds-bad : (bad : Bad) (old new : Looked) → e.archived ≡ true → e.status ≡ Available → Told (Err bad) → new.found ≡ old.found → new.skipped ≡ old.skipped ++ (e.id, bad) ∷ [] → Adds held (e ∷ []) old new
     adds-bad bad old new archived status told found skipped = record {
-      found = extends-none (λ i j. i < j) (IsLogOf held (archived_in (e ∷ []))) old.found new.found found (λ id a is. not-both (IsLogObject e) (held (log_name e.id)) a bad (log-of id a is).told told);
-      skipped = extends-one (λ i j. i < j) (IsSkipped held (archived_in (e ∷ []))) old.skipped new.skipped e.id bad skipped (a_log e bad (one-in e archived) status told)
+      found = extends-none ById (IsLogOf held (archived_in (e ∷ []))) old.found new.found found (λ id a is. not-both (IsLogObject e) (held (log_name e.id)) a bad (log-of id a is).told told);
+      skipped = extends-one ById (IsSkippedAmong held no_database (archived_in (e ∷ []))) old.skipped new.skipped e.id bad skipped (a_log e bad (one-in e archived) status told)
           (λ j b is. let o = skipped-of j b is in (o.number, bad-one (IsLogObject e) (held (log_name e.id)) bad b told o.told));
     }
 
@@ -166,11 +181,11 @@ module _ (held : Held) where
   adds-then xs e first old new lower before one =
       let all = archived-append xs (e ∷ []) in
       record {
-        found = subst (λ (rs : List Record). Extends LogFile (λ i j. i < j) first.found (IsLogOf held rs) new.found) (sym all)
-            (extends-then (λ i j. i < j) (IsLogOf held (archived_in xs)) (IsLogOf held (archived_in (e ∷ []))) (IsLogOf held (archived_in xs ++ archived_in (e ∷ []))) first.found old.found new.found before.found one.found
+        found = subst (λ (rs : List Record). Extends LogFile ById first.found (IsLogOf held rs) new.found) (sym all)
+            (extends-then ById (IsLogOf held (archived_in xs)) (IsLogOf held (archived_in (e ∷ []))) (IsLogOf held (archived_in xs ++ archived_in (e ∷ []))) first.found old.found new.found before.found one.found
             (λ i j x y p q. let o = log-at xs i x p in omega (arith, lower o.0 o.1, o.2, (log-of e j y q).number)) (log-split (archived_in xs) (archived_in (e ∷ []))));
-        skipped = subst (λ (rs : List Record). Extends Bad (λ i j. i < j) first.skipped (IsSkipped held rs) new.skipped) (sym all)
-            (extends-then (λ i j. i < j) (IsSkipped held (archived_in xs)) (IsSkipped held (archived_in (e ∷ []))) (IsSkipped held (archived_in xs ++ archived_in (e ∷ []))) first.skipped old.skipped new.skipped before.skipped one.skipped
+        skipped = subst (λ (rs : List Record). Extends Bad ById first.skipped (IsSkippedAmong held no_database rs) new.skipped) (sym all)
+            (extends-then ById (IsSkippedAmong held no_database (archived_in xs)) (IsSkippedAmong held no_database (archived_in (e ∷ []))) (IsSkippedAmong held no_database (archived_in xs ++ archived_in (e ∷ []))) first.skipped old.skipped new.skipped before.skipped one.skipped
             (λ i j x y p q. let o = skip-of xs i x p in omega (arith, lower o.0 o.1, o.2, (skipped-of e j y q).number)) (skip-split (archived_in xs) (archived_in (e ∷ []))));
       }
 
@@ -206,13 +221,14 @@ next-look o p xs i d old new same up inside before one = next-by o p xs i (get_o
 pub first-look : (o : Option Held) (looked : Looked) → looked.found ≡ [] → looked.skipped ≡ [] → IfSome o (λ h. Adds h [] nothing looked)
 first-look None looked found skipped = tt
 first-look (Some h) looked found skipped = record {
-  found = extends-none (λ i j. i < j) (IsLogOf h []) [] looked.found found (λ id a p. none-in (Log p.0) p.1);
-  skipped = extends-none (λ i j. i < j) (IsSkipped h []) [] looked.skipped skipped (λ id bad p. none-in-skip id bad p);
+  found = extends-none ById (IsLogOf h []) [] looked.found found (λ id a p. none-in (Log p.0) p.1);
+  skipped = extends-none ById (IsSkippedAmong h no_database []) [] looked.skipped skipped (λ id bad p. none-in-skip id bad p);
 }
   where
-    none-in-skip : (id : ℕ) (bad : Bad) → IsSkipped h [] id bad → ⊥
+    none-in-skip : (id : ℕ) (bad : Bad) → IsSkippedAmong h no_database [] id bad → ⊥
     none-in-skip _ _ (a_log l bad has status is) = none-in (Log l) has
     none-in-skip _ _ (a_piece p bad has status is) = none-in (Piece p) has
+    none-in-skip _ _ (a_set e bad has status is) = none-in (Set e) has
 
 -- all are looked at
 pub whole-look : (h : Held) (xs : List LogEntry) (i : ℕ) (looked : Looked) → i ≤ length xs → length xs ≤ i → Adds h (take i xs) nothing looked → IsAll h xs looked
@@ -222,7 +238,14 @@ whole-look h xs i looked within past adds =
     let is : Adds h xs nothing looked = subst (λ (ys : List LogEntry). Adds h ys nothing looked) all adds in
     record {
       found = record { rest = is.found.rest; list = is.found.list; ascends = is.found.related; exact = is.found.exact };
-      skipped = record { rest = is.skipped.rest; list = is.skipped.list; ascends = is.skipped.related; exact = is.skipped.exact };
+      skipped =
+          let base = database_in (archived_in xs) in
+          record {
+            rest = is.skipped.rest;
+            list = is.skipped.list;
+            ascends = is.skipped.related;
+            exact = λ id bad. ((λ has. skip-any h no_database base xs id bad ((is.skipped.exact id bad).0 has)), (λ told. (is.skipped.exact id bad).1 (skip-any h base no_database xs id bad told)));
+          };
     }
 
 -- Which logs are recorded, whatever the store tells

@@ -6,6 +6,7 @@ use Rattle.std.proofs.lemmas.List.{length-map}
 use Rattle.rm_base.specs.Store.{Held}
 use Rattle.rm_base.specs.declared.block.Row.{Row}
 use Rattle.rm_catalog.specs.Objects.{IsTag}
+use Rattle.rm_catalog.specs.declared.record.Edit.{Edit}
 use Rattle.rm_base.proofs.Members.{in-front}
 use Rattle.rm_channel.specs.Jobs.{AreRows, Span, deeds_of, lists, whole}
 use Rattle.rm_channel.specs.Made.{AreThese, deed}
@@ -21,7 +22,7 @@ use Rattle.rm_machine.specs.Backup.{AreJobs, IsTagBy, named_tag, or_nothing}
 use Rattle.rm_machine.specs.BackupOutcome.{at_end, begun, effect_of, write_lines}
 use Rattle.rm_machine.specs.Effect.{done}
 use Rattle.rm_machine.specs.Hands.{Hands}
-use Rattle.rm_machine.specs.MadePieces.{CanRecord, Copied, after_pieces, copied, piece_lines, pieces_put}
+use Rattle.rm_machine.specs.MadeObjects.{CanRecord, Packed, after_objects, object_lines, objects_put, packed}
 use Rattle.rm_machine.specs.Sound.{IsSound}
 use Rattle.rm_machine.specs.Step.{IsStatement, refusal_of}
 use Rattle.rm_machine_code.proofs.Tags.{tag-fits}
@@ -29,10 +30,11 @@ use Rattle.rm_machine.specs.declared.handed.Handed.{Handed}
 use Rattle.rm_machine.specs.declared.job.Job.{Job}
 use Rattle.rm_machine.specs.declared.state.State.{State}
 use Rattle.rm_machine.specs.State.{ledger, now_of}
-use Rattle.rm_machine_code.proofs.BackingUp.{can-record, copied-at_end, during-marks, end-sound, sound-begun}
+use Rattle.rm_machine_code.proofs.BackingUp.{can-record, during-marks, end-sound, packed-at_end, per_set-some, sound-begun}
 use Rattle.rm_machine_code.proofs.BackupAccepted.{CanBackUp, can-back_up}
 use Rattle.rm_machine_code.proofs.BackupMarks.{marked-same}
 use Rattle.rm_machine.specs.Running.{CanFollow}
+use Rattle.rm_step_backup.specs.Recorded.{HasRecorded}
 use Rattle.rm_step_backup.specs.Running.{HasRunLive}
 use Rattle.rm_machine_code.proofs.WritersRoom.{few-writers}
 
@@ -89,14 +91,14 @@ module _ (s : State) (b : BackupForm) (sound : IsSound s) (well : IsStatement (B
       sym (length-map w.rows.items (λ v. v.items)) ∙ sym (length-map rows length)
       ∙ ap (λ (ns : List ℕ). length ns) whole-rows ∙ length-map (map (span_of (begun s b)) jobs) (λ (p : Span). length p.blocks) ∙ length-map jobs (span_of (begun s b))
 
-  -- the pieces are those of the records at the start
-  same-pieces : copied (ledger t) b (now_of s) jobs rows ≡ copied (ledger s) b (now_of s) jobs rows
-  same-pieces = ap (λ (q : State). copied (ledger q) b (now_of s) jobs rows) ran.state ∙ copied-at_end s b ran.events (now_of s) jobs rows
+  -- the objects are those of the records at the start
+  same-objects : packed (ledger t) b (now_of s) jobs rows ≡ packed (ledger s) b (now_of s) jobs rows
+  same-objects = ap (λ (q : State). packed (ledger q) b (now_of s) jobs rows) ran.state ∙ packed-at_end s b ran.events (now_of s) jobs rows
 
-  pub ran-record : CanRecord t b tag (copied (ledger t) b (now_of s) jobs rows)
+  pub ran-record : CanRecord t b tag (packed (ledger t) b (now_of s) jobs rows)
   ran-record =
-      coe 1 0 (i. CanRecord (ran.state i) b tag (same-pieces i))
-      (can-record s b well.1 sound can tag tagged jobs are rows whole-rows (lists w.scns.items) ran.events ran.legal these)
+      coe 1 0 (i. CanRecord (ran.state i) b tag (same-objects i))
+      (can-record s b well.1 sound can tag tagged jobs are rows whole-rows (lists w.scns.items) ran.events ran.legal these (per_set-some b well.0))
 
   pub few-told : (told : List (Vec ℕ Global)) → told ≡ w.scns.items → length told ≤ 4
   few-told told same =
@@ -106,15 +108,15 @@ module _ (s : State) (b : BackupForm) (sound : IsSound s) (well : IsStatement (B
       omega (arith, length-map w.scns.items (λ v. v.items), long, each, alike, (few-writers s (writes_in b) sound).1, ap (λ (vs : List (Vec ℕ Global)). length vs) same)
 
   -- it comes to what the machine says
-  pub hands : (ys : List Copied) → ys ≡ copied (ledger t) b (now_of s) jobs rows → (q : State) (x : Handed) (lines said : List Line) → q ≡ after_pieces t b tag ys → x.lines ≡ piece_lines t b tag ys → x.objects ≡ pieces_put t b tag ys → x.removes ≡ []
-      → lines ≡ or_nothing x.lines → (told_scns : List (Vec ℕ Global)) → told_scns ≡ w.scns.items → said ≡ lines ++ write_lines 1 (lists told_scns) → (held : Option Held) → Hands held s (Backup b) (record x { lines = said }) q
-  hands ys same q x lines said state told put gone none told_scns scns all held =
-      let xs : List Copied = copied (ledger s) b (now_of s) jobs rows in
+  pub hands : (ys : List Packed) → ys ≡ packed (ledger t) b (now_of s) jobs rows → (q : State) (first x : Handed) (before after : List Edit) → HasRecorded t b tag ys before after first x q → first.lines ≡ [] → first.objects ≡ [] → first.removes ≡ []
+      → (lines said : List Line) → lines ≡ or_nothing x.lines → (told_scns : List (Vec ℕ Global)) → told_scns ≡ w.scns.items → said ≡ lines ++ write_lines 1 (lists told_scns) → (held : Option Held) → Hands held s (Backup b) (record x { lines = said }) q
+  hands ys same q first x before after made no_lines no_objects no_removes lines said none told_scns scns all held =
+      let xs : List Packed = packed (ledger s) b (now_of s) jobs rows in
       let end : State = at_end s b ran.events in
-      let is : ys ≡ xs = same ∙ same-pieces in
-      let state_is : q ≡ after_pieces end b tag xs = state ∙ (λ i. after_pieces (ran.state i) b tag (is i)) in
-      let told_is : x.lines ≡ piece_lines end b tag xs = told ∙ (λ i. piece_lines (ran.state i) b tag (is i)) in
-      let said_is : said ≡ or_nothing (piece_lines end b tag xs) ++ write_lines 1 (lists w.scns.items) = all ∙ (λ i. (none ∙ ap or_nothing told_is) i ++ write_lines 1 (lists (scns i))) in
+      let is : ys ≡ xs = same ∙ same-objects in
+      let state_is : q ≡ after_objects end b tag xs = made.state ∙ (λ i. after_objects (ran.state i) b tag (is i)) in
+      let told_is : x.lines ≡ object_lines end b tag xs = made.lines ∙ (λ i. no_lines i ++ object_lines (ran.state i) b tag (is i)) in
+      let said_is : said ≡ or_nothing (object_lines end b tag xs) ++ write_lines 1 (lists w.scns.items) = all ∙ (λ i. (none ∙ ap or_nothing told_is) i ++ write_lines 1 (lists (scns i))) in
       record {
         effect = effect_of s b tag ran.events xs;
         comes = λ store tells. record {
@@ -131,6 +133,6 @@ module _ (s : State) (b : BackupForm) (sound : IsSound s) (well : IsStatement (B
           these = these;
           is = λ i. done (said_is i) (effect_of s b tag ran.events xs) (state_is i);
         };
-        puts = put ∙ (λ i. pieces_put (ran.state i) b tag (is i));
-        removes = gone;
+        puts = made.objects ∙ (λ i. no_objects i ++ objects_put (ran.state i) b tag (is i));
+        removes = made.removes ∙ no_removes;
       }

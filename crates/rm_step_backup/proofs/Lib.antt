@@ -3,12 +3,15 @@ pub mod Backed
 pub mod Begins
 pub mod Copying
 pub mod Counted
-pub mod Ran
-pub mod Files
 pub mod Forms
 pub mod Gone
 pub mod LogBackups
-pub mod Loops
+mod Objects
+mod PieceLoops
+pub mod Ran
 pub mod Room
+mod SetLoops
+mod SetMembers
 pub mod Taken
 pub mod Takes
+mod UnderWay

@@ -1,12 +1,13 @@
 -- The datafiles that a backup takes, one after another.
-use Rattle.std.proofs.Common.{◌≡◌, ◌<◌, ◌≤◌, ◌+◌, ◌*◌, ◌∙◌, ℕ, zero, suc, List, [], ◌∷◌, Some, Bool, true, false, cond, refl, ap, arith, length, get_or, drop, find, is_none, sum_by}
+use Rattle.std.proofs.Common.{◌≡◌, ◌<◌, ◌≤◌, ◌+◌, ◌∙◌, ℕ, zero, suc, List, [], ◌∷◌, Some, Bool, true, false, cond, refl, ap, arith, length, get_or, drop, find, is_none, sum_by}
 use Rattle.std.proofs.lemmas.List.Elements.{All-get_or}
 use Rattle.std.proofs.lemmas.List.Sums.{sum_by-cons}
 use Rattle.std.proofs.lemmas.Option.{slice_get-get_or}
 use Rattle.rm_lang_statement.specs.declared.command.BackupForm.{BackupForm}
+use Rattle.rm_history.specs.World.{blocks_of}
 use Rattle.rm_history.specs.declared.world.Datafile.{Datafile}
 use Rattle.rm_catalog_typed.specs.LedgerFacts.{IsCreated}
-use Rattle.rm_machine.specs.Backup.{is_taken, piece_bytes, taken_from}
+use Rattle.rm_machine.specs.Backup.{is_taken, taken_from}
 use Rattle.rm_machine_code.proofs.Numbers.{blocks-at}
 use Rattle.rm_machine.specs.Sound.{IsSound}
 use Rattle.rm_machine.specs.declared.state.State.{State}
@@ -38,27 +39,27 @@ lost-next s b k d t inside is found = ap (find lost) (taken-next s b (k + 1) (le
     by true found = ap (λ x. cond x (Some (k + 1)) (find lost rest)) (found refl)
     by false found = refl
 
--- What they take
+-- What they have
 
 abbrev pub no_datafile : Datafile
 no_datafile = record { inc = 0; creation = 0; blocks = 0 }
 
--- the size of the piece of the datafile at place k
-bytes-at : (s : State) (k : ℕ) (d : Datafile) → k < length (ledger s).files → piece_bytes s (k + 1) ≡ 82 + 76 * (get_or (ledger s).files k d).blocks
-bytes-at s k d inside =
+-- the blocks of the datafile at place k
+blocks-here : (s : State) (k : ℕ) (d : Datafile) → k < length (ledger s).files → blocks_of (world s) (k + 1) ≡ (get_or (ledger s).files k d).blocks
+blocks-here s k d inside =
     let number : k + 1 ≡ 1 + k = omega arith in
-    ap (piece_bytes s) number ∙ ap (λ n. 82 + 76 * n) (blocks-at (world s) k (get_or (ledger s).files k d) (slice_get-get_or (ledger s).files k d inside))
+    ap (blocks_of (world s)) number ∙ blocks-at (world s) k (get_or (ledger s).files k d) (slice_get-get_or (ledger s).files k d inside)
 
--- the sum of their sizes, one datafile on
-pub bytes-next : (s : State) (b : BackupForm) (k : ℕ) (d : Datafile) (t : Bool) → k < length (ledger s).files → is_taken s b (k + 1) (get_or (ledger s).files k d) ≡ t
-    → sum_by (piece_bytes s) (taken_from s b (k + 1) (drop k (ledger s).files)) ≡ cond t (82 + 76 * (get_or (ledger s).files k d).blocks) 0 + sum_by (piece_bytes s) (taken_from s b (k + 1 + 1) (drop (k + 1) (ledger s).files))
-bytes-next s b k d t inside is = ap (sum_by (piece_bytes s)) (taken-next s b (k + 1) (ledger s).files k d t inside is) ∙ by t
+-- the sum of their blocks, one datafile on
+pub blocks-next : (s : State) (b : BackupForm) (k : ℕ) (d : Datafile) (t : Bool) → k < length (ledger s).files → is_taken s b (k + 1) (get_or (ledger s).files k d) ≡ t
+    → sum_by (blocks_of (world s)) (taken_from s b (k + 1) (drop k (ledger s).files)) ≡ cond t (get_or (ledger s).files k d).blocks 0 + sum_by (blocks_of (world s)) (taken_from s b (k + 1 + 1) (drop (k + 1) (ledger s).files))
+blocks-next s b k d t inside is = ap (sum_by (blocks_of (world s))) (taken-next s b (k + 1) (ledger s).files k d t inside is) ∙ by t
   where
     rest : List ℕ
     rest = taken_from s b (k + 1 + 1) (drop (k + 1) (ledger s).files)
 
-    by : (t : Bool) → sum_by (piece_bytes s) (cond t ((k + 1) ∷ rest) rest) ≡ cond t (82 + 76 * (get_or (ledger s).files k d).blocks) 0 + sum_by (piece_bytes s) rest
-    by true = sum_by-cons (piece_bytes s) (k + 1) rest ∙ ap (λ n. n + sum_by (piece_bytes s) rest) (bytes-at s k d inside)
+    by : (t : Bool) → sum_by (blocks_of (world s)) (cond t ((k + 1) ∷ rest) rest) ≡ cond t (get_or (ledger s).files k d).blocks 0 + sum_by (blocks_of (world s)) rest
+    by true = sum_by-cons (blocks_of (world s)) (k + 1) rest ∙ ap (λ n. n + sum_by (blocks_of (world s)) rest) (blocks-here s k d inside)
     by false = omega arith
 
 -- each datafile has 65,536 blocks at most

@@ -1,4 +1,6 @@
 pub mod Begins
 pub mod Copying
+pub mod Left
 pub mod Logs
+pub mod Recorded
 pub mod Running

@@ -1,10 +1,11 @@
 -- What was looked at of archived logs.
-use Rattle.std.specs.Prelude.{ℕ, ◌<◌, ◌≤◌, ◌+◌, List, [], All, Contains, length}
+use Rattle.std.specs.Prelude.{ℕ, ◌≤◌, ◌+◌, List, [], All, Contains, length}
 use Rattle.rm_base.specs.Store.{Held}
 use Rattle.rm_base.specs.declared.kinds.Bad.{Bad}
 use Rattle.rm_catalog.specs.declared.record.LogEntry.{LogEntry}
-use Rattle.rm_evidence.specs.Available.{IsSkipped}
-use Rattle.rm_evidence.specs.Gathered.{IsLogOf, Lists}
+use Rattle.rm_evidence.specs.Available.{IsSkipped, IsSkippedAmong}
+use Rattle.rm_evidence.specs.Database.{Database}
+use Rattle.rm_evidence.specs.Gathered.{ById, IsLogOf, Lists}
 use Rattle.rm_evidence.specs.Taking.{Extends}
 use Rattle.rm_machine.specs.BackupLogs.{archived_in}
 use Rattle.rm_evidence.specs.Objects.{HasLogFields}
@@ -12,10 +13,14 @@ use Rattle.rm_redo.specs.declared.log_file.LogFile.{LogFile}
 use Rattle.rm_redo.specs.LogFormat.{IsLogFile}
 use Rattle.rm_step_backup.specs.declared.looking.Looked.{Looked}
 
+-- the records of logs alone tell of none, and no log is compared with one
+abbrev pub no_database : Database
+no_database = record { dbid = 0; files = [] }
+
 -- it grew by exactly what the store has of the archived logs among these
 pub record Adds (held : Held) (logs : List LogEntry) (old new : Looked) : Type 0 where
-  pub found : Extends LogFile (λ i j. i < j) old.found (IsLogOf held (archived_in logs)) new.found
-  pub skipped : Extends Bad (λ i j. i < j) old.skipped (IsSkipped held (archived_in logs)) new.skipped
+  pub found : Extends LogFile ById old.found (IsLogOf held (archived_in logs)) new.found
+  pub skipped : Extends Bad ById old.skipped (IsSkippedAmong held no_database (archived_in logs)) new.skipped
 
 -- it is that
 pub record IsAll (held : Held) (logs : List LogEntry) (all : Looked) : Type 0 where

@@ -1,9 +1,10 @@
 //! The datafiles that a backup takes.
-ghost use Rattle.std.specs.Prelude.{◌≡◌, ◌<◌, ◌==◌, IfOk, is_none, length, sum_by};
+ghost use Rattle.std.specs.Prelude.{◌≡◌, ◌<◌, ◌≤◌, ◌==◌, IfOk, IfSome, is_none, length, sum_by};
 ghost use Rattle.std.specs.List.{list_any};
-ghost use Rattle.rm_machine.specs.Backup.{asks_for, is_taken, lost_taken, piece_bytes, taken};
+ghost use Rattle.rm_history.specs.World.{blocks_of};
+ghost use Rattle.rm_machine.specs.Backup.{asks_for, is_taken, lost_taken, object_bytes, objects_of, taken};
 ghost use Rattle.rm_machine.specs.Sound.{IsSound};
-ghost use Rattle.rm_machine.specs.State.{placed};
+ghost use Rattle.rm_machine.specs.State.{placed, world};
 
 use rm_base::{FileNo, NoMemory};
 use rm_history::Datafile;
@@ -31,8 +32,8 @@ fn is_taken(state: &State, form: &BackupForm, number: FileNo, datafile: &Datafil
     exists(state, state.catalog.base().current, now(state), datafile) && asks_for(form, number)
 }
 
-/// How many datafiles are backed up: 0 to 64.
-pub(crate) fn taken_count(state: &State, form: &BackupForm) -> u64
+// How many datafiles are backed up: 0 to 64.
+fn taken_count(state: &State, form: &BackupForm) -> u64
     requires sound { IsSound state.now }
     ensures { result ≡ length (taken state.now form.now) }
 {
@@ -45,18 +46,45 @@ pub(crate) fn taken_count(state: &State, form: &BackupForm) -> u64
     count
 }
 
-/// How many bytes their pieces take where each block is listed: at most 4,980,818 for each.
-pub(crate) fn taken_bytes(state: &State, form: &BackupForm) -> u64
+// How many blocks they have together: at most 131,072.
+fn taken_blocks(state: &State, form: &BackupForm) -> u64
     requires sound { IsSound state.now }
-    ensures { result ≡ sum_by (piece_bytes state.now) (taken state.now form.now) }
+    ensures { result ≡ sum_by (blocks_of (world state.now)) (taken state.now form.now) }
 {
-    let mut bytes = 0;
+    let mut blocks = 0;
     for (index, datafile) in state.catalog.files().iter().enumerate() {
         if is_taken(state, form, index as FileNo + 1, datafile) {
-            bytes += 82 + 76 * u64::from(datafile.blocks);
+            blocks += u64::from(datafile.blocks);
         }
     }
-    bytes
+    blocks
+}
+
+/// How many objects are made of them: 0 to 64.
+pub(crate) fn object_count(state: &State, form: &BackupForm) -> u64
+    requires sound { IsSound state.now }
+    requires some { IfSome form.now.files_per_set (λ n. 1 ≤ n) }
+    ensures { result ≡ length (objects_of state.now form.now) }
+{
+    let files = taken_count(state, form);
+    match form.files_per_set {
+        Some(most) => files.div_ceil(u64::from(most)),
+        None => files,
+    }
+}
+
+/// How many bytes these objects count as: a piece as it is where each block is listed, and a set the same whatever it lists.
+pub(crate) fn object_bytes(state: &State, form: &BackupForm) -> u64
+    requires sound { IsSound state.now }
+    requires some { IfSome form.now.files_per_set (λ n. 1 ≤ n) }
+    ensures { result ≡ sum_by (object_bytes state.now form.now) (objects_of state.now form.now) }
+{
+    let files = taken_count(state, form);
+    let rows = 76 * taken_blocks(state, form);
+    match form.files_per_set {
+        Some(_) => 57 * object_count(state, form) + 37 * files + rows,
+        None => 82 * files + rows,
+    }
 }
 
 // Whether nothing stands in place of the datafile of this number.

@@ -7,8 +7,10 @@ mod jobs;
 mod logs;
 mod looking;
 mod pieces;
+mod recording;
 pub mod refusing;
 mod running;
+mod sets;
 pub mod statement;
 
 pub use logs::backup_logs;

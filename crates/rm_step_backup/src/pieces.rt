@@ -5,7 +5,7 @@ ghost use Rattle.rm_base.specs.Numbers.{last_moment};
 ghost use Rattle.rm_history.specs.World.{blocks_of};
 ghost use Rattle.rm_machine.specs.MadePieces.{after_piece, entry_for, line_for, object_for, piece_by};
 ghost use Rattle.rm_machine.specs.Backup.{IsTagBy, is_copy, kind_by, named_tag, piece_entry, rows_from, rows_in};
-ghost use Rattle.rm_machine.specs.Lists.{shape_by};
+ghost use Rattle.rm_machine.specs.Lists.{packing_by, shape_by};
 ghost use Rattle.rm_machine.specs.Sound.{IsSound};
 ghost use Rattle.rm_machine.specs.State.{ledger, world};
 ghost use Rattle.rm_piece.specs.Spelling.{spelling};
@@ -23,7 +23,7 @@ use rm_lang_statement::BackupForm;
 use rm_machine::{Handed, Job, State};
 use rm_machine_code::facts::{now, placed};
 use rm_piece::{Piece, encode_piece_with_digest, high_of, pick};
-use rm_report::{Line, Shape};
+use rm_report::{Line, Packing, Shape};
 use std::alloc::Global;
 
 // What the backup makes of a datafile that begins here.
@@ -39,8 +39,8 @@ fn kind_by(form: &BackupForm, from: Option<Scn>) -> Kind
     }
 }
 
-// The same, as it is told.
-fn shape_by(kind: Kind, from: Scn) -> Shape
+/// The same, as it is told.
+pub(crate) fn shape_by(kind: Kind, from: Scn) -> Shape
     ensures { result ≡ shape_by kind from }
 {
     match kind {
@@ -50,6 +50,13 @@ fn shape_by(kind: Kind, from: Scn) -> Shape
     }
 }
 
+// How a piece is packed that is an image copy or not.
+fn packing_by(copy: bool) -> Packing
+    ensures { result ≡ packing_by copy }
+{
+    if copy { Packing::Copy } else { Packing::Piece }
+}
+
 /// Whether an image copy is made of a datafile, and not a piece.
 pub(crate) fn is_copy(form: &BackupForm, job: Job) -> bool
     ensures { result ≡ is_copy form.now job }
@@ -57,8 +64,8 @@ pub(crate) fn is_copy(form: &BackupForm, job: Job) -> bool
     job.from.is_none() && (form.copy || form.merge_tag.is_some())
 }
 
-// The same text.
-fn copied(alloc: Global, text: &Text) -> Result<Text, NoMemory>
+/// The same text.
+pub(crate) fn copied(alloc: Global, text: &Text) -> Result<Text, NoMemory>
     ensures { IfOk result (λ copy. copy ≡ text.now) }
 {
     Ok(Text::from_string(String::from_str(alloc, text.as_str())?))
@@ -95,12 +102,12 @@ pub(crate) fn rows_in(state: &State, file: FileNo) -> &[Row]
 }
 
 // The rows that a backup has which begins here.
-fn rows_from(alloc: Global, from: Option<Scn>, rows: &[Row]) -> Result<Seq<Row>, NoMemory>
-    ensures { IfOk result (λ taken. taken ≡ rows_from from rows.now) }
+fn rows_from(alloc: Global, from: Option<Scn>, rows: Seq<Row>) -> Result<Seq<Row>, NoMemory>
+    ensures { IfOk result (λ taken. taken ≡ rows_from from rows) }
 {
     match from {
-        Some(from) => pick(alloc, rows, from),
-        None => Ok(Seq::from_vec(Vec::from_slice(alloc, rows)?)),
+        Some(from) => pick(alloc, rows.as_slice(), from),
+        None => Ok(rows),
     }
 }
 
@@ -121,10 +128,10 @@ pub(crate) fn piece_of(
     form: &BackupForm,
     job: Job,
     checkpoint: Scn,
-    rows: &[Row],
+    rows: Seq<Row>,
 ) -> Result<Piece, NoMemory>
-    requires valid { IsPiece (piece_by (ledger state.now) form.now checkpoint job rows.now) }
-    ensures { IfOk result (λ piece. piece ≡ piece_by (ledger state.now) form.now checkpoint job rows.now) }
+    requires valid { IsPiece (piece_by (ledger state.now) form.now checkpoint job rows) }
+    ensures { IfOk result (λ piece. piece ≡ piece_by (ledger state.now) form.now checkpoint job rows) }
 {
     let rows = rows_from(alloc, job.from, rows)?;
     let base = state.catalog.base();
@@ -182,7 +189,7 @@ fn piece_line(state: &State, copy: bool, piece: &Piece, reads: u64) -> Line
     ensures { result ≡ line_for state.now (record { copy = copy; piece = piece.now; reads = reads }) }
 {
     Line::BackedUp {
-        copy,
+        packing: packing_by(copy),
         id: state.catalog.base().next_id,
         file: piece.file,
         shape: shape_by(piece.kind, piece.from),

@@ -1,11 +1,13 @@
 //! Why BACKUP is refused.
-ghost use Rattle.std.specs.Prelude.{◌≡◌, None};
+ghost use Rattle.std.specs.Prelude.{◌≡◌, ◌≤◌, IfSome, None};
+ghost use Rattle.rm_lang_statement.specs.declared.command.Command.TheVariants.{Backup};
 ghost use Rattle.rm_machine.specs.Asked.{writes_in};
 ghost use Rattle.rm_machine.specs.BackupRefusal.{absent_of, backup_refusal, damage_refusal, damaged_taken, lost_refusal, room_refusal};
 ghost use Rattle.rm_machine.specs.Backup.{absent};
 ghost use Rattle.rm_machine.specs.Sound.{IsSound};
+ghost use Rattle.rm_machine.specs.Step.{IsStatement};
 
-use crate::datafiles::{lost_taken, taken_bytes, taken_count, takes};
+use crate::datafiles::{lost_taken, object_bytes, object_count, takes};
 use rm_base::{Absent, BlockId, Limit, Refusal};
 use rm_lang_statement::BackupForm;
 use rm_machine::State;
@@ -51,17 +53,18 @@ fn damage_refusal(state: &State, form: &BackupForm) -> Option<Refusal>
     Some(Refusal::Rm17 { file, block })
 }
 
-// Why the pieces can't be made or the writes not be kept, or a block that is damaged.
+// Why the objects can't be made or the writes not be kept, or a block that is damaged.
 fn room_refusal(state: &State, form: &BackupForm) -> Option<Refusal>
     requires sound { IsSound state.now }
+    requires some { IfSome form.now.files_per_set (λ n. 1 ≤ n) }
     requires there { absent_of state.now (writes_in form.now) ≡ None }
     ensures { result ≡ room_refusal state.now form.now }
 {
-    let count = taken_count(state, form);
+    let count = object_count(state, form);
     let writes = asked(&form.during);
     if lacks_room(state, count + marks_for(state, &form.during)) {
         Some(Refusal::Rm11(Limit::Records))
-    } else if lacks_bytes(state, taken_bytes(state, form)) {
+    } else if lacks_bytes(state, object_bytes(state, form)) {
         Some(Refusal::Rm11(Limit::Bytes))
     } else if lacks_ids(state, count) {
         Some(Refusal::Rm11(Limit::ObjectIds))
@@ -77,6 +80,7 @@ fn room_refusal(state: &State, form: &BackupForm) -> Option<Refusal>
 // Why it is refused, where all that it names is there.
 fn lost_refusal(state: &State, form: &BackupForm) -> Option<Refusal>
     requires sound { IsSound state.now }
+    requires some { IfSome form.now.files_per_set (λ n. 1 ≤ n) }
     requires there { absent_of state.now (writes_in form.now) ≡ None }
     ensures { result ≡ lost_refusal state.now form.now }
 {
@@ -97,6 +101,7 @@ fn lost_refusal(state: &State, form: &BackupForm) -> Option<Refusal>
 /// order of the text.
 pub fn backup_refusal(state: &State, form: &BackupForm) -> Option<Refusal>
     requires sound { IsSound state.now }
+    requires statement { IsStatement (Backup form.now) }
     ensures value { result ≡ backup_refusal state.now form.now }
 {
     if !state.instance.is_open {

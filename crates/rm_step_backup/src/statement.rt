@@ -1,20 +1,17 @@
 //! BACKUP of datafiles, while the database may write.
-ghost use Rattle.std.specs.Prelude.{◌≡◌, ◌≤◌, List, [], IfOk, None, OnOk, Option, false, length, map};
+ghost use Rattle.std.specs.Prelude.{◌≡◌, ◌≤◌, List, IfOk, None, OnOk, Option, false, map};
 ghost use Rattle.rm_base.specs.Store.{Held};
-ghost use Rattle.rm_catalog.specs.Objects.{IsTag};
 ghost use Rattle.rm_step_backup.specs.Copying.{StartBelow};
 ghost use Rattle.rm_step_backup.specs.Running.{HasRunLive};
-ghost use Rattle.rm_channel.specs.Jobs.{lists, whole};
+ghost use Rattle.rm_channel.specs.Jobs.{whole};
 ghost use Rattle.rm_channel.specs.declared.jobs.CopyJob.{CopyJob};
 ghost use Rattle.rm_machine.specs.Asked.{span_of, writers_of};
-ghost use Rattle.rm_machine.specs.MadePieces.{CanRecord, after_pieces, copied, piece_lines, pieces_put};
 ghost use Rattle.rm_machine.specs.BackupOutcome.{begun};
 ghost use Rattle.rm_machine.specs.Hands.{Hands};
 ghost use Rattle.rm_machine.specs.Backup.{AreJobs, or_nothing, taken};
 ghost use Rattle.rm_machine.specs.BackupRefusal.{mark_count};
 ghost use Rattle.rm_machine.specs.Marks.{lacks_room};
 ghost use Rattle.rm_machine.specs.Sound.{IsSound};
-ghost use Rattle.rm_machine.specs.State.{ledger};
 ghost use Rattle.rm_machine.specs.Step.{IsStatement, refusal_of};
 ghost use Rattle.rm_machine.specs.Tracked.{switch_all};
 ghost use Rattle.rm_lang_statement.specs.declared.command.Command.TheVariants.{Backup};
@@ -22,9 +19,10 @@ ghost use Rattle.rm_catalog_typed.specs.Changes.{EditsFollow};
 
 use crate::asking::copy_jobs;
 use crate::jobs::jobs;
-use crate::pieces::{is_copy, piece_of, record_piece, tag_of};
+use crate::pieces::tag_of;
+use crate::recording::record_all;
 use crate::running::run_live;
-use rm_base::{NoMemory, Row, Scn, Seq, Text};
+use rm_base::{NoMemory, Scn, Seq};
 use rm_catalog::Edit;
 use rm_channel::{Gate, Work};
 use rm_lang_statement::BackupForm;
@@ -106,52 +104,6 @@ fn run<G: Gate, R: Threads + Wait + Sync>(
     )
 }
 
-// Records the pieces of these datafiles, of which these rows were read, one after another.
-fn record_all(
-    alloc: Global,
-    state: &mut State,
-    edits: &mut Vec<Edit>,
-    form: &BackupForm,
-    tag: &Text,
-    checkpoint: Scn,
-    jobs: &[Job],
-    rows: &[Vec<Row>],
-) -> Result<Handed, NoMemory>
-    requires sound { IsSound state.old }
-    requires tag { IsTag tag.now }
-    requires many { length rows.now ≡ length jobs.now }
-    requires can { CanRecord state.old form.now tag.now (copied (ledger state.old) form.now checkpoint jobs.now (lists rows.now)) }
-    ensures after { OnOk result (state.new ≡ after_pieces state.old form.now tag.now (copied (ledger state.old) form.now checkpoint jobs.now (lists rows.now))) }
-    ensures edits { OnOk result (EditsFollow edits.old.items edits.new.items state.old.catalog state.new.catalog) }
-    ensures lines { IfOk result (λ x. x.lines ≡ piece_lines state.old form.now tag.now (copied (ledger state.old) form.now checkpoint jobs.now (lists rows.now))) }
-    ensures objects { IfOk result (λ x. x.objects ≡ pieces_put state.old form.now tag.now (copied (ledger state.old) form.now checkpoint jobs.now (lists rows.now))) }
-    ensures removes { IfOk result (λ x. x.removes ≡ []) }
-{
-    let mut handed = Handed {
-        lines: Seq::new(alloc),
-        objects: Seq::new(alloc),
-        removes: Seq::new(alloc),
-    };
-    for (index, job) in jobs.iter().enumerate() {
-        let read = rows[index].as_slice();
-        let piece = piece_of(alloc, state, form, *job, checkpoint, read)?;
-        let copy = is_copy(form, *job);
-        let reads = read.len() as u64;
-        record_piece(
-            alloc,
-            state,
-            edits,
-            &mut handed,
-            form,
-            tag,
-            copy,
-            &piece,
-            reads,
-        )?;
-    }
-    Ok(handed)
-}
-
 // Tells that no datafile is backed up, where there is no line.
 fn tell_none(lines: &mut Seq<Line>) -> Result<(), NoMemory>
     ensures { OnOk result (lines.new ≡ or_nothing lines.old) }
@@ -165,7 +117,7 @@ fn tell_none(lines: &mut Seq<Line>) -> Result<(), NoMemory>
 /// BACKUP of datafiles, full, of level 0 or of level 1, while the database writes: by so many channels, 1 to 16, which call the
 /// gate before each section, and a writer for each thread. Each block that is wanted of each datafile is read once, in a turn of its
 /// own, and each write of the DURING is made once, those of a thread in their order; how their turns interleave is free. The
-/// pieces have `now` at the start as their checkpoint. An error is want of memory; then nothing is said of the state
+/// pieces and sets have `now` at the start as their checkpoint. An error is want of memory; then nothing is said of the state
 /// and the edits.
 pub fn backup<G: Gate, R: Threads + Wait + Sync>(
     rt: &R,
@@ -188,9 +140,19 @@ pub fn backup<G: Gate, R: Threads + Wait + Sync>(
     let made = jobs(alloc, state, form)?;
     let jobs = made.as_slice();
     let work = run(rt, alloc, gate, channels, state, edits, form, jobs)?;
-    let rows = work.rows.as_slice();
-    let mut handed = record_all(alloc, state, edits, form, &tag, checkpoint, jobs, rows)?;
+    let Work {
+        rows,
+        reads: _,
+        scns,
+    } = work;
+    let mut handed = Handed {
+        lines: Seq::new(alloc),
+        objects: Seq::new(alloc),
+        removes: Seq::new(alloc),
+    };
+    let to = &mut handed;
+    record_all(alloc, state, edits, to, form, &tag, checkpoint, jobs, rows)?;
     tell_none(&mut handed.lines)?;
-    tell_writes(&mut handed.lines, work.scns.as_slice())?;
+    tell_writes(&mut handed.lines, scns.as_slice())?;
     Ok(handed)
 }

@@ -1,6 +1,6 @@
 -- Whatever the store tells: a copy that changed can be recorded, since what it was made of has the fields of its records.
 use Rattle.std.proofs.Common.{◌≡◌, ◌≢◌, ◌==◌, ◌<◌, ◌≤◌, ◌-◌, ◌∙◌, inl, inr, ℕ, List, Option, Some, None, Bool, true, false, refl, ap, sym, subst, arith, get_or, length, slice_get, All, AllPairs, Contains}
-use Rattle.std.specs.Prelude.{IfSome}
+use Rattle.std.specs.Prelude.{IfSome, IsSomeAnd, option_and_then}
 use Rattle.std.specs.Option.{option_map}
 use Rattle.std.proofs.lemmas.Bool.{eqb-true}
 use Rattle.std.proofs.lemmas.List.{get_or-map, length-map}
@@ -12,20 +12,23 @@ use Rattle.rm_base.proofs.Keyed.{same_item}
 use Rattle.rm_base.proofs.Lists.{find_cases}
 use Rattle.rm_base.proofs.Sealing.{length-sealed}
 use Rattle.rm_backup.specs.declared.renewing.Renewed.{Renewed}
-use Rattle.rm_backup.specs.Level1s.{IsReached, next}
-use Rattle.rm_backup.specs.Records.{pieces}
+use Rattle.rm_backup.specs.Level1s.{IsReached, MayBeMerged, next}
+use Rattle.rm_backup.specs.Records.{piece, pieces}
 use Rattle.rm_backup.specs.Renewed.{IsMerged, IsRenewed, TakesOver, copy_at}
 use Rattle.rm_backup.proofs.Chained.{reached_valid}
 use Rattle.rm_catalog.specs.declared.record.PieceEntry.{PieceEntry}
 use Rattle.rm_catalog.specs.declared.record.Record.{Record}
+use Rattle.rm_catalog.specs.declared.record.Record.TheVariants as kind
+use Rattle.rm_catalog.specs.declared.record.SetEntry.{SetEntry}
+use Rattle.rm_catalog.specs.Keys.{piece_in, place, place_of}
 use Rattle.rm_catalog.specs.Objects.{FitsKind, FitsRows, IsTag}
 use Rattle.rm_catalog.specs.Trees.{nodes}
 use Rattle.rm_evidence.specs.declared.evidence.Evidence.{Evidence}
-use Rattle.rm_evidence.specs.Known.{AreRecorded, FitsPiece, FitsTree, IsRecorded}
+use Rattle.rm_evidence.specs.Known.{AreRecorded, FitsPiece, FitsTree, IsPartOf, IsRecorded}
 use Rattle.rm_history.specs.declared.world.Datafile.{Datafile}
 use Rattle.rm_history.specs.Tree.{IsThere, IsTree, end_of, owner}
 use Rattle.rm_history.proofs.Highs.{high-least}
-use Rattle.rm_catalog_typed.specs.LedgerFacts.{IsPieceEntry}
+use Rattle.rm_catalog_typed.specs.LedgerFacts.{IsPieceEntry, IsSetEntry, IsSetPart}
 use Rattle.rm_merge.specs.Merge.{merged}
 use Rattle.rm_evidence.specs.Objects.{HasPieceFields}
 use Rattle.rm_evidence.proofs.DatabaseWorlds.{is-tree}
@@ -35,7 +38,8 @@ use Rattle.rm_piece.specs.Valid.{IsPiece}
 use Rattle.rm_piece.proofs.Bodies.{length-body}
 use Rattle.rm_piece.proofs.Fitting.{few_rows, fits as fits-piece}
 use Rattle.rm_catalog_typed.specs.TypedCatalog.{records_of}
-use Rattle.rm_catalog_typed.proofs.Members.{piece-in}
+use Rattle.rm_catalog_typed.proofs.Lookups.{piece-id-within}
+use Rattle.rm_catalog_typed.proofs.Members.{piece-in, set-in}
 use Rattle.rm_catalog_typed.proofs.Valid.{typed_catalog-valid}
 use Rattle.rm_machine.specs.Backup.{piece_entry}
 use Rattle.rm_machine.specs.RecoverCopy.{AreRenewed}
@@ -80,32 +84,54 @@ module _ (s : State) (e : Evidence) (sound : IsSound s) (fits : FitsTree (tree s
   a-tree : IsTree (tree s)
   a-tree = subst IsTree (tree-told s.catalog) (is-tree rs (typed_catalog-valid s.catalog sound.catalog) (database-told s.catalog))
 
-  -- the artefact is one of a record
+  piece-high : (p : PieceEntry) (a : Piece) → Contains (ledger s).pieces p → HasPieceFields p a → a.high ≤ end_of (tree s) a.inc
+  piece-high p a has is = coe 1 0 (i. is.high i ≤ end_of (tree s) (is.inc i)) (rule-of p has).high
+
+  part-high : (of : SetEntry) (a : Piece) → Contains (ledger s).sets of → IsPartOf rs of a → a.high ≤ end_of (tree s) a.inc
+  part-high of a has is =
+      let rule = All-contains (IsSetEntry (tree s) (ledger s).files) (ledger s).sets of sound.catalog.ledger.sets has in
+      let part = All-contains (IsSetPart (tree s) (ledger s).files of) of.parts is.part rule.parts is.held in
+      coe 1 0 (i. is.high i ≤ end_of (tree s) (is.inc i)) part.high.1
+
+  -- what has a record lies within the end of its incarnation
+  recorded-high : (x : ℕ × Piece) → IsRecorded rs x → x.1.high ≤ end_of (tree s) x.1.inc
+  recorded-high x (inl of) = piece-high of.0 x.1 (piece-in s.catalog of.0 sound.catalog of.1) of.3
+  recorded-high x (inr of) = part-high of.0 x.1 (set-in s.catalog of.0 sound.catalog of.1) of.3
+
+  level1-ends : (x : ℕ × Piece) → Contains e.level1s x → EndsIn (tree s) x.1
+  level1-ends x has = record { fits = All-contains (λ (y : ℕ × Piece). FitsPiece (tree s) y.1) e.level1s x fits.level1s has; high = recorded-high x (All-contains (IsRecorded rs) e.level1s x level1s has) }
+
+  -- what has the id of a piece's record has the record's fields: no set has this id
+  own-fields : (p : PieceEntry) (x : ℕ × Piece) → Contains (ledger s).pieces p → p.id ≡ x.0 → IsRecorded rs x → HasPieceFields p x.1
+  own-fields p x has id (inl of) =
+      let same = same_item (λ (y : PieceEntry). y.id) (ledger s).pieces sound.catalog.ledger.ids.pieces_ascend of.0 p (piece-in s.catalog of.0 sound.catalog of.1) has (of.2 ∙ sym id) in
+      subst (λ (q : PieceEntry). HasPieceFields q x.1) same of.3
+  own-fields p x has id (inr of) = absurd (sound.catalog.ledger.ids.pieces_apart p of.0 has (set-in s.catalog of.0 sound.catalog of.1) (id ∙ sym of.2))
+
+  -- what stands at the place of a piece's record is one
+  placed : (n : ℕ) (Q : PieceEntry → Type 0) (r : Record) → Contains rs r → place_of r ≡ place 5 n → IsSomeAnd (piece_in r) Q → (p : PieceEntry) × Contains (ledger s).pieces p × (p.id ≡ n)
+  placed n Q (kind.Piece p) has at is =
+      let there = piece-in s.catalog p sound.catalog has in
+      (p, there, omega (arith, at, (piece-id-within (ledger s) p sound.catalog.ledger there).1, sound.catalog.ledger.base.next_id.1))
+  placed n Q r has at is = absurd is
+
+  piece-there : (n : ℕ) (Q : PieceEntry → Type 0) → IsSomeAnd (piece n rs) Q → (p : PieceEntry) × Contains (ledger s).pieces p × (p.id ≡ n)
+  piece-there n Q is = elim (find_cases (λ (r : Record). place_of r == place 5 n) rs) [
+    | inl none ↦ absurd (subst (λ (o : Option Record). IsSomeAnd (option_and_then piece_in o) Q) none is)
+    | inr found ↦ placed n Q found.item found.held (eqb-true (place_of found.item) (place 5 n) found.passes) (subst (λ (o : Option Record). IsSomeAnd (option_and_then piece_in o) Q) found.is is)
+  ]
+
+  -- the artefact is one of a piece's record
   record Told (a : Piece) : Type 0 where
     entry : PieceEntry
     there : Contains (ledger s).pieces entry
     fields : HasPieceFields entry a
-    valid : IsPiece a
 
-  -- so it lies within the end of its incarnation
-  told-high : (a : Piece) → Told a → a.high ≤ end_of (tree s) a.inc
-  told-high a told =
-      let is = told.fields in
-      coe 1 0 (i. is.high i ≤ end_of (tree s) (is.inc i)) (rule-of told.entry told.there).high
-
-  -- each level 1 is one
-  level1-told : (x : ℕ × Piece) → Contains e.level1s x → Told x.1
-  level1-told x has =
-      let is = All-contains (IsRecorded rs) e.level1s x level1s has in
-      record {
-        entry = is.0;
-        there = piece-in s.catalog is.0 sound.catalog is.1;
-        fields = is.3;
-        valid = (All-contains (λ (y : ℕ × Piece). FitsPiece (tree s) y.1) e.level1s x fits.level1s has).valid;
-      }
-
-  level1-ends : (x : ℕ × Piece) → Contains e.level1s x → EndsIn (tree s) x.1
-  level1-ends x has = record { fits = All-contains (λ (y : ℕ × Piece). FitsPiece (tree s) y.1) e.level1s x fits.level1s has; high = told-high x.1 (level1-told x has) }
+  -- a level 1 at hand with the id of a piece's record is one
+  level1-told : (Q : PieceEntry → Type 0) (x : ℕ × Piece) → Contains e.level1s x → IsSomeAnd (piece x.0 rs) Q → Told x.1
+  level1-told Q x has is =
+      let own = piece-there x.0 Q is in
+      record { entry = own.0; there = own.1; fields = own-fields own.0 x own.1 own.2 (All-contains (IsRecorded rs) e.level1s x level1s has) }
 
   level1s-fit : All (λ y. FitsPiece (nodes rs) y.1) e.level1s
   level1s-fit = subst (λ ns. All (λ (y : ℕ × Piece). FitsPiece ns y.1) e.level1s) (sym (tree-told s.catalog)) fits.level1s
@@ -114,10 +140,10 @@ module _ (s : State) (e : Evidence) (sound : IsSound s) (fits : FitsTree (tree s
   copy-told : (p : PieceEntry) (a : Piece) → Contains (ledger s).pieces p → copy_at e.bases p.id ≡ Some a → HasPieceFields p a × IsPiece a
   copy-told p a has is =
       let held = copy-held e.bases p.id a is in
-      let some = (All-contains (λ (x : PieceEntry). (1 ≤ x.id) × (x.id < (ledger s).base.next_id)) (ledger s).pieces p sound.catalog.ledger.ids.pieces has).0 in
-      let found = All-contains (λ (y : ℕ × Piece). 0 < y.0 → IsRecorded rs y) e.bases (p.id, a) bases held some in
-      let same = same_item (λ (x : PieceEntry). x.id) (ledger s).pieces sound.catalog.ledger.ids.pieces_ascend found.0 p (piece-in s.catalog found.0 sound.catalog found.1) has found.2 in
-      (subst (λ (q : PieceEntry). HasPieceFields q a) same found.3, (All-contains (λ (y : ℕ × Piece). FitsPiece (tree s) y.1) e.bases (p.id, a) fits.bases held).valid)
+      let some = (piece-id-within (ledger s) p sound.catalog.ledger has).0 in (
+        own-fields p (p.id, a) has refl (All-contains (λ (y : ℕ × Piece). 0 < y.0 → IsRecorded rs y) e.bases (p.id, a) bases held some),
+        (All-contains (λ (y : ℕ × Piece). FitsPiece (tree s) y.1) e.bases (p.id, a) fits.bases held).valid,
+      )
 
   module _ (tag : List ℕ) (at f : ℕ) (p : PieceEntry) (has : Contains (ledger s).pieces p) (copy : p.copy ≡ true) (tagged : p.tag ≡ tag) (now last : Piece) (fields : HasPieceFields p now) (whole : IsPiece now) (takes : TakesOver rs f tag at e.level1s now last) where
     ends : IsLast rs f tag at e.level1s now last
@@ -134,10 +160,10 @@ module _ (s : State) (e : Evidence) (sound : IsSound s) (fits : FitsTree (tree s
 
     keeps : KeepsOn (tree s) now a
     keeps = reached-keeps rs f tag at e.level1s (tree s) (tree-told s.catalog) a-tree (λ i there. (sound.catalog.ledger.incarnations.ranges i there).1) level1-ends now a level1s-fit whole
-        (told-high now (record { entry = p; there = has; fields = fields; valid = whole })) reached
+        (piece-high p now has fields) reached
 
     own : Told ends.level1.1
-    own = level1-told ends.level1 ends.chosen.held
+    own = level1-told (MayBeMerged rs f tag) ends.level1 ends.chosen.held ends.chosen.passes.entry
 
     file-is : ends.before.file ≡ p.file
     file-is = keeps.file ∙ fields.file

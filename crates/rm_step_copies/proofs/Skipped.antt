@@ -1,5 +1,5 @@
 -- Of the skipped records those of a copy or a level 1 with the tag.
-use Rattle.std.proofs.Common.{◌≡◌, ◌<◌, ◌∙◌, ◌==◌, inl, inr, ℕ, List, [], Some, true, false, refl, ap, sym, subst, eq-eqb, filter, Contains}
+use Rattle.std.proofs.Common.{◌≡◌, ◌≢◌, ◌<◌, ◌∙◌, ◌==◌, inl, inr, ℕ, List, [], Some, true, false, refl, ap, sym, subst, eq-eqb, filter, Contains}
 use Rattle.std.specs.Option.{option_map_or}
 use Rattle.std.proofs.lemmas.Bool.{eqb-true}
 use Rattle.std.proofs.lemmas.List.Kept.{AllPairs-filter}
@@ -7,10 +7,9 @@ use Rattle.rm_base.specs.Store.{Held}
 use Rattle.rm_base.specs.declared.kinds.Bad.{Bad}
 use Rattle.rm_base.proofs.Keyed.{same_item}
 use Rattle.rm_base.proofs.Lists.{filter_from, filter_to, find_cases, find_none, map_from, map_to}
-use Rattle.rm_catalog.specs.declared.record.LogEntry.{LogEntry}
 use Rattle.rm_catalog.specs.declared.record.PieceEntry.{PieceEntry}
-use Rattle.rm_catalog.specs.declared.record.Record.TheVariants.{Log, Piece}
-use Rattle.rm_evidence.specs.Available.{IsSkipped, a_log, a_piece}
+use Rattle.rm_catalog.specs.declared.record.Record.TheVariants.{Log, Piece, Set}
+use Rattle.rm_evidence.specs.Available.{IsSkipped, a_log, a_piece, a_set}
 use Rattle.rm_evidence.specs.Gathered.{Lists}
 use Rattle.rm_machine.specs.RecoverCopy.{for_copies, is_for_copies}
 use Rattle.rm_machine.specs.Sound.{IsSound}
@@ -18,7 +17,7 @@ use Rattle.rm_machine.specs.Upkeep.{piece_at}
 use Rattle.rm_machine.specs.declared.state.State.{State}
 use Rattle.rm_machine.specs.State.{ledger}
 use Rattle.rm_catalog_typed.specs.TypedCatalog.{records_of}
-use Rattle.rm_catalog_typed.proofs.Members.{log-in, piece-has, piece-in}
+use Rattle.rm_catalog_typed.proofs.Members.{log-in, piece-has, piece-in, set-in}
 use Rattle.rm_step_copies.specs.Skipped.{is_of_copies}
 
 module _ (s : State) (tag : List ℕ) (held : Held) (sound : IsSound s) where
@@ -35,18 +34,23 @@ module _ (s : State) (tag : List ℕ) (held : Held) (sound : IsSound s) where
   of-piece : (p : PieceEntry) → Contains ps p → is_of_copies s tag p.id ≡ is_for_copies tag p
   of-piece p has = ap (λ o. option_map_or (is_for_copies tag) o false) (found-at p has)
 
-  -- a log's record is none of them
-  of-log : (l : LogEntry) → Contains (ledger s).logs l → is_of_copies s tag l.id ≡ false
-  of-log l has = elim (find_cases (λ (q : PieceEntry). q.id == l.id) ps) [
+  -- an id of no piece is none of theirs
+  of-none : (id : ℕ) → ((p : PieceEntry) → Contains ps p → p.id ≢ id) → is_of_copies s tag id ≡ false
+  of-none id apart = elim (find_cases (λ (q : PieceEntry). q.id == id) ps) [
     | inl none ↦ ap (λ o. option_map_or (is_for_copies tag) o false) none
-    | inr found ↦ absurd (sound.catalog.ledger.ids.apart l found.item has found.held (sym (eqb-true found.item.id l.id found.passes)))
+    | inr found ↦ absurd (apart found.item found.held (eqb-true found.item.id id found.passes))
   ]
 
   to-copies : (id : ℕ) (bad : Bad) → IsSkipped held (records_of s.catalog) id bad → is_of_copies s tag id ≡ true → IsSkipped held (for_copies s tag) id bad
-  to-copies _ _ (a_log l bad has status told) is = absurd (let clash : false ≡ true = sym (of-log l (log-in s.catalog l sound.catalog has)) ∙ is in cc)
+  to-copies _ _ (a_log l bad has status told) is =
+      let other = of-none l.id (λ p held same. sound.catalog.ledger.ids.apart l p (log-in s.catalog l sound.catalog has) held (sym same)) in
+      absurd (let clash : false ≡ true = sym other ∙ is in cc)
   to-copies _ _ (a_piece p bad has status told) is =
       let there = piece-in s.catalog p sound.catalog has in
       a_piece p bad (map_to Piece (filter (is_for_copies tag) ps) p (filter_to (is_for_copies tag) ps p there (sym (of-piece p there) ∙ is))) status told
+  to-copies _ _ (a_set e bad has status told) is =
+      let other = of-none e.id (λ p held. sound.catalog.ledger.ids.pieces_apart p e held (set-in s.catalog e sound.catalog has)) in
+      absurd (let clash : false ≡ true = sym other ∙ is in cc)
 
   from-copies : (id : ℕ) (bad : Bad) → IsSkipped held (for_copies s tag) id bad → IsSkipped held (records_of s.catalog) id bad × (is_of_copies s tag id ≡ true)
   from-copies _ _ (a_log l bad has status told) =
@@ -57,6 +61,9 @@ module _ (s : State) (tag : List ℕ) (held : Held) (sound : IsSound s) where
       let same : row.item ≡ p = (let one : Piece row.item ≡ Piece p = row.is in cc) in
       let is = filter_from (is_for_copies tag) ps p (subst (Contains (filter (is_for_copies tag) ps)) same row.held) in
       (a_piece p bad (piece-has s.catalog p is.0) status told, of-piece p is.0 ∙ is.1)
+  from-copies _ _ (a_set e bad has status told) =
+      let row = map_from Piece (filter (is_for_copies tag) ps) (Set e) has in
+      absurd (let clash : Piece row.item ≡ Set e = row.is in cc)
 
   pub skipped-of : (all : List (ℕ × Bad)) → Lists Bad [] (IsSkipped held (records_of s.catalog)) all → Lists Bad [] (IsSkipped held (for_copies s tag)) (filter (λ x. is_of_copies s tag x.0) all)
   skipped-of all are = record {

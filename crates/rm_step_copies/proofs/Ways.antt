@@ -1,5 +1,5 @@
 -- RECOVER COPY under way: some copies are renewed, and the rest lead on from there.
-use Rattle.std.proofs.Common.{◌≡◌, ◌≤◌, ◌<◌, ◌+◌, ◌∙◌, ◌++◌, ℕ, suc, List, ◌∷◌, Option, None, Some, refl, ap, sym, subst, arith, append_assoc, drop-cons, drop, get_or, length, length-append, sum_by, All}
+use Rattle.std.proofs.Common.{◌≡◌, ◌≤◌, ◌<◌, ◌+◌, ◌∙◌, ◌++◌, ℕ, suc, List, ◌∷◌, Option, None, Some, refl, ap, sym, subst, arith, append_assoc, drop-cons, drop, get_or, length, sum_by, All}
 use Rattle.std.specs.Prelude.{IfSome}
 use Rattle.std.proofs.lemmas.List.Elements.{All-contains, All-head, All-tail}
 use Rattle.rm_base.specs.declared.refusal.Limit.TheVariants.{Bytes, ObjectIds}
@@ -7,18 +7,16 @@ use Rattle.rm_base.specs.declared.refusal.Refusal.TheVariants.{Rm11}
 use Rattle.rm_base.proofs.Conditions.{unless}
 use Rattle.rm_backup.specs.declared.renewing.Renewed.{Renewed}
 use Rattle.rm_catalog.specs.declared.record.Edit.{Edit}
-use Rattle.rm_catalog.specs.declared.record.PieceEntry.{PieceEntry}
 use Rattle.rm_commit.specs.declared.commit.Object.{Object}
 use Rattle.rm_piece.specs.declared.piece.Piece.{Piece}
 use Rattle.rm_piece.specs.Valid.{IsPiece}
 use Rattle.rm_report.specs.declared.line.Line.{Line}
-use Rattle.rm_catalog_typed.specs.Changes.{EditsFollow, higher, lower, without_one, without_piece}
-use Rattle.rm_catalog_typed.specs.Fitting.{FitsNewPiece, HasId}
+use Rattle.rm_catalog_typed.specs.Changes.{EditsFollow}
+use Rattle.rm_catalog_typed.specs.Fitting.{HasId}
 use Rattle.rm_catalog_typed.proofs.Changed.{follows-then}
-use Rattle.rm_catalog_typed.proofs.Fitted.{many}
-use Rattle.rm_catalog_typed.proofs.Ones.{length-replaced}
+use Rattle.rm_catalog_typed.proofs.Lookups.{piece-id-within}
 use Rattle.rm_machine.specs.Marks.{lacks_bytes, lacks_ids}
-use Rattle.rm_machine.specs.RecoverCopy.{after_copies, after_copy, changed, copies_gone, copies_lines, copies_put, copy_bytes, is_kept, renewed_entry, renewed_lines, renewed_name, renewed_object, renewed_refusal}
+use Rattle.rm_machine.specs.RecoverCopy.{after_copies, after_copy, changed, copies_gone, copies_lines, copies_put, copy_bytes, renewed_lines, renewed_name, renewed_object, renewed_refusal}
 use Rattle.rm_machine.specs.Sound.{IsSound}
 use Rattle.rm_machine.specs.declared.handed.Handed.{Handed}
 use Rattle.rm_machine.specs.declared.state.State.{State}
@@ -26,7 +24,7 @@ use Rattle.rm_machine.specs.State.{ledger}
 use Rattle.rm_machine_code.proofs.Standing.{each-in}
 use Rattle.rm_machine_code.proofs.Switching.{not-above}
 use Rattle.rm_step_copies.specs.Fit.{AreFit, CanPut, CanRecord, IsFit}
-use Rattle.rm_machine_code.proofs.Renewing.{CanRenew, CanRenewAll, CanRenewTo, drawn, first-can, first-room, rest-can, sound-to}
+use Rattle.rm_machine_code.proofs.Renewing.{CanRenewAll, CanRenewTo, drawn, first-can, first-room, fits as renew-fits, rest-can, sound-to}
 
 -- those from place k on
 rest-at : (xs : List (ℕ × Renewed)) (k : ℕ) (one : ℕ × Renewed) → k < length xs → one ≡ get_or xs k one → drop k xs ≡ one ∷ drop (k + 1) xs
@@ -81,27 +79,11 @@ way-start s tag xs edits x sound fit accepted = record {
   removes = refl;
 }
 
--- the record of a changed copy takes the place of the old one
-put-fits : (s : State) (tag : List ℕ) (n : ℕ) (last : Piece) → IsSound s → CanRenew s tag n last → (ledger s).base.next_id < 4294967295 → FitsNewPiece (without_piece s.catalog n) (renewed_entry s tag n last)
-put-fits s tag n last sound can below =
-    let ps : List PieceEntry = (ledger s).pieces in
-    let id = λ (x : PieceEntry). x.id in
-    let same : length (without_one id can.old.id ps) ≡ length (without_one id n ps) = ap (λ k. length (without_one id k ps)) can.id in
-    let replaced = length-replaced id can.old ps sound.catalog.ledger.ids.pieces_ascend (can.old, can.recorded, refl) in
-    let without = length-append (lower id can.old.id ps) (higher id can.old.id ps) in
-    let with = length-append (lower id can.old.id ps) (can.old ∷ higher id can.old.id ps) in
-    record {
-      piece = can.entry (is_kept s n) (ledger s).base.moment (ledger s).base.next_id;
-      id = refl;
-      last = below;
-      room = omega (arith, many (ledger s), many (without_piece s.catalog n).ledger, sound.catalog.ledger.few, same, replaced, without, with);
-    }
-
 put-to : (s : State) (tag : List ℕ) (n : ℕ) (o : Option Piece) → IsSound s → CanRenewTo s tag n o → IfSome o IsPiece → (ledger s).base.next_id + drawn o ≤ 4294967295 → IfSome o (CanPut s tag n)
 put-to s tag n None sound can valid room = tt
 put-to s tag n (Some last) sound can valid room =
-    let low = (All-contains (λ (x : PieceEntry). (1 ≤ x.id) × (x.id < (ledger s).base.next_id)) (ledger s).pieces can.old sound.catalog.ledger.ids.pieces can.recorded).0 in
-    record { some = omega (arith, low, can.id); valid = valid; fits = put-fits s tag n last sound can (omega (arith, room)) }
+    let low = (piece-id-within (ledger s) can.old sound.catalog.ledger can.recorded).0 in
+    record { some = omega (arith, low, can.id); valid = valid; fits = renew-fits s tag n last sound can (omega (arith, room)) }
 
 -- the one at place k is the next
 module _ (s t : State) (tag : List ℕ) (xs : List (ℕ × Renewed)) (k : ℕ) (one : ℕ × Renewed) (inside : k < length xs) (is_one : one ≡ get_or xs k one) (before mid : List Edit) (first x : Handed) (way : IsUnderWay s tag xs (drop k xs) before mid first x t) where

@@ -1,17 +1,17 @@
 -- The ids of the obsolete records.
-use Rattle.std.proofs.Common.{◌≡◌, ◌≤◌, ◌<◌, ◌^◌, ℕ, List, Option, Some, All, AllPairs, Contains, length, subst}
+use Rattle.std.proofs.Common.{◌≡◌, ◌≤◌, ◌<◌, ◌^◌, ◌∙◌, ℕ, List, Option, Some, All, AllPairs, Contains, refl, ap, length, subst}
 use Rattle.std.specs.Prelude.{IfSome}
 use Rattle.std.proofs.lemmas.Option.{IfSome_then}
 use Rattle.rm_base.specs.Store.{Held}
 use Rattle.rm_base.specs.declared.kinds.Policy.{Policy}
 use Rattle.rm_catalog.specs.declared.record.Record.{Record}
-use Rattle.rm_catalog.specs.declared.record.Record.TheVariants.{Log, Piece}
+use Rattle.rm_catalog.specs.declared.record.Record.TheVariants.{Log, Piece, Set}
 use Rattle.rm_catalog.specs.Keys.{key_of}
 use Rattle.rm_evidence.specs.declared.evidence.Evidence.{Evidence}
+use Rattle.rm_evidence.specs.Names.{object_id}
 use Rattle.rm_catalog_typed.specs.TypedCatalog.{records_of}
 use Rattle.rm_retain.specs.Catalogued.{AreObsolete, IsObsoleteRecord, by_records}
 use Rattle.rm_retain.specs.Chosen.{Retention}
-use Rattle.rm_verify.proofs.Growing.{HasNumber, of_log, of_piece}
 use Rattle.rm_machine.specs.Obsolete.{AreObsoleteIn, retention_of, start_by}
 use Rattle.rm_machine.specs.Recovery.{IsAtHand}
 use Rattle.rm_machine.specs.Sound.{IsSound}
@@ -20,17 +20,18 @@ use Rattle.rm_machine.specs.State.{ledger}
 use Rattle.rm_machine_code.proofs.Ids.{few-ids, row-id, some-ids, IsId}
 use Rattle.rm_step_retain.proofs.Hand.{of-state}
 
--- only a record of a log or a piece is obsolete
-numbered : (r : Retention) (x : Record) → IsObsoleteRecord r x → HasNumber x (key_of x).id
-numbered r (Log l) is = of_log l
-numbered r (Piece p) is = of_piece p
+-- only a record of an object is obsolete
+numbered : (r : Retention) (x : Record) → IsObsoleteRecord r x → object_id x ≡ Some (key_of x).id
+numbered r (Log l) is = refl
+numbered r (Piece p) is = refl
+numbered r (Set e) is = refl
 numbered r _ is = absurd is
 
 -- so each id can be one
 each-id : (s : State) (r : Retention) (ids : List ℕ) → IsSound s → AreObsolete (records_of s.catalog) r ids → (n : ℕ) → Contains ids n → IsId n
 each-id s r ids sound are n has =
     let x = (are n).0 has in
-    row-id s.catalog x.row n sound.catalog (subst (HasNumber x.row) x.number (numbered r x.row x.is)) x.held
+    row-id s.catalog x.row n sound.catalog (numbered r x.row x.is ∙ ap Some x.number) x.held
 
 module _ (s : State) (sound : IsSound s) (rs : List Record) (records : rs ≡ records_of s.catalog) (e : Evidence) (policy : Policy) (start : ℕ) (same : policy ≡ (ledger s).base.policy) (starts : start ≡ start_by s policy)
     (ids : List ℕ) (are : AreObsolete rs (by_records rs e policy start) ids) where

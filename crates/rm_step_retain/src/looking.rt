@@ -6,7 +6,7 @@ ghost use Rattle.rm_machine.specs.Recovery.{IsAtHand};
 ghost use Rattle.rm_machine.specs.Sound.{IsSound};
 ghost use Rattle.rm_catalog_typed.specs.TypedCatalog.{records_of};
 ghost use Rattle.rm_retain.specs.Catalogued.{copies_in};
-ghost use Rattle.rm_retain.specs.Chosen.{AscendById};
+ghost use Rattle.rm_retain.specs.Chosen.{Ascend};
 
 use rm_base::{Policy, Scn, Store};
 use rm_catalog::Catalog as Records;
@@ -23,8 +23,8 @@ pub(crate) struct Looked {
     pub evidence: Evidence,
 }
 
-/// The records, and what is at hand of those that count as available: its copies ascend by id, whatever the store tells.
-/// An error is a fault of the store, which is counted, or want of memory.
+/// The records, and what is at hand of those that count as available: its copies ascend by id, and those of one set by
+/// datafile, whatever the store tells. An error is a fault of the store, which is counted, or want of memory.
 pub(crate) fn look<D: Store>(
     alloc: Global,
     state: &State,
@@ -33,7 +33,7 @@ pub(crate) fn look<D: Store>(
     requires sound { IsSound state.now }
     ensures records { IfOk result (λ x. x.records ≡ records_of state.now.catalog) }
     ensures at_hand { IfOk result (λ x. IfSome (D.held store.old) (λ held. IsAtHand state.now held x.evidence)) }
-    ensures ascend { IfOk result (λ x. AscendById (copies_in x.evidence)) }
+    ensures ascend { IfOk result (λ x. Ascend (copies_in x.evidence)) }
     ensures same { D.held store.new ≡ D.held store.old }
     ensures failed { IsErrOf result EvidenceFault.StoreFault → Rose (D.faults store.old) (D.faults store.new) }
     ensures never_falls { D.faults store.old ≤ D.faults store.new }

@@ -10,7 +10,7 @@ ghost use Rattle.rm_report.specs.Reply.{IsPlain};
 ghost use Rattle.rm_report.specs.declared.line.Line.TheVariants.{NeedsBackup, NeedCount};
 ghost use Rattle.rm_catalog_typed.specs.TypedCatalog.{records_of};
 ghost use Rattle.rm_retain.specs.Catalogued.{copies_in};
-ghost use Rattle.rm_retain.specs.Chosen.{AscendById, chosen, wanted};
+ghost use Rattle.rm_retain.specs.Chosen.{Ascend, chosen, wanted};
 ghost use Rattle.rm_lang_statement.specs.declared.command.Command.TheVariants.{ReportNeedBackup};
 
 use crate::looking::{Looked, look, start_by};
@@ -36,7 +36,7 @@ fn fewest(policy: Policy) -> usize
 fn has_few(alloc: Global, state: &State, looked: &Looked, file: FileNo) -> Result<bool, NoMemory>
     requires sound { IsSound state.now }
     requires records { looked.now.records ≡ records_of state.now.catalog }
-    requires ascend { AscendById (copies_in looked.now.evidence) }
+    requires ascend { Ascend (copies_in looked.now.evidence) }
     ensures { IfOk result (λ few. IsTrue few ↔ (length (chosen (retention_of state.now looked.now.evidence) file) < max 1 (wanted (ledger state.now).base.policy))) }
 {
     let policy = state.catalog.base().policy;
@@ -61,7 +61,7 @@ fn needs_backup(
 ) -> Result<bool, NoMemory>
     requires sound { IsSound state.now }
     requires records { looked.now.records ≡ records_of state.now.catalog }
-    requires ascend { AscendById (copies_in looked.now.evidence) }
+    requires ascend { Ascend (copies_in looked.now.evidence) }
     ensures { IfOk result (λ needs. IsTrue needs ↔ Needs (retention_of state.now looked.now.evidence) file) }
 {
     match on_path(state, u64::from(file)) {
@@ -74,7 +74,7 @@ fn needs_backup(
 fn in_need(alloc: Global, state: &State, looked: &Looked) -> Result<Vec<FileNo>, NoMemory>
     requires sound { IsSound state.now }
     requires records { looked.now.records ≡ records_of state.now.catalog }
-    requires ascend { AscendById (copies_in looked.now.evidence) }
+    requires ascend { Ascend (copies_in looked.now.evidence) }
     ensures exact { IfOk result (λ files. AreExactly (Needs (retention_of state.now looked.now.evidence)) files.items) }
     ensures few { IfOk result (λ files. length files.items < 2 ^ 32) }
 {

@@ -3,5 +3,4 @@ pub mod Dumped
 pub mod Few
 pub mod IncarnationLines
 pub mod Listed
-pub mod Picked
 pub mod Validated

@@ -7,13 +7,14 @@ use Rattle.rm_base.specs.declared.kinds.Bad.{Bad}
 use Rattle.rm_catalog.specs.declared.record.LogEntry.{LogEntry}
 use Rattle.rm_catalog.specs.declared.record.PieceEntry.{PieceEntry}
 use Rattle.rm_catalog.specs.declared.record.Record.{Record}
-use Rattle.rm_evidence.specs.Available.{IsSkipped, a_log, a_piece}
+use Rattle.rm_catalog.specs.declared.record.SetEntry.{SetEntry}
+use Rattle.rm_evidence.specs.Available.{IsSkipped, a_log, a_piece, a_set}
 use Rattle.rm_evidence.specs.Gathered.{Lists}
 use Rattle.rm_report.specs.Reply.{IsPlain}
 use Rattle.rm_report.specs.declared.line.Line.{Line}
 use Rattle.rm_report.specs.declared.line.Line.TheVariants.{BadOf, Checked}
 use Rattle.rm_catalog_typed.specs.TypedCatalog.{records_of}
-use Rattle.rm_catalog_typed.proofs.Members.{log-in, piece-in}
+use Rattle.rm_catalog_typed.proofs.Members.{log-in, piece-in, set-in}
 use Rattle.rm_lang_statement.specs.declared.command.Command.TheVariants.{ValidateAll}
 use Rattle.rm_machine.specs.Effect.{told}
 use Rattle.rm_machine.specs.Hands.{Tells}
@@ -42,6 +43,7 @@ module _ (s : State) (sound : IsSound s) where
   bad-below : (held : Held) (id : ℕ) (bad : Bad) → IsSkipped held (records_of s.catalog) id bad → id < (ledger s).base.next_id
   bad-below held _ _ (a_log l bad has status is) = (All-contains (λ (e : LogEntry). (1 ≤ e.id) × (e.id < (ledger s).base.next_id)) (ledger s).logs l sound.catalog.ledger.ids.logs (log-in s.catalog l sound.catalog has)).1
   bad-below held _ _ (a_piece p bad has status is) = (All-contains (λ (e : PieceEntry). (1 ≤ e.id) × (e.id < (ledger s).base.next_id)) (ledger s).pieces p sound.catalog.ledger.ids.pieces (piece-in s.catalog p sound.catalog has)).1
+  bad-below held _ _ (a_set e bad has status is) = (All-contains (λ (x : SetEntry). (1 ≤ x.id) × (x.id < (ledger s).base.next_id)) (ledger s).sets e sound.catalog.ledger.ids.sets (set-in s.catalog e sound.catalog has)).1
 
   -- so they can be counted
   few-bad : (held : Held) (bad : List (ℕ × Bad)) → Lists Bad [] (IsSkipped held (records_of s.catalog)) bad → length bad < 2 ^ 32

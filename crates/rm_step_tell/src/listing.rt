@@ -1,44 +1,23 @@
 //! LIST BACKUP, LIST COPY and LIST ARCHIVELOG ALL
-ghost use Rattle.std.specs.Prelude.{◌≡◌, ◌++◌, ◌∷◌, [], All, IfOk, OnOk, Some, map};
-ghost use Rattle.std.specs.List.{filter_map};
-ghost use Rattle.rm_catalog.specs.declared.record.Record.TheVariants.{Log as OfLog, Piece as OfPiece};
+ghost use Rattle.std.specs.Prelude.{◌≡◌, ◌++◌, ◌∷◌, [], All, IfOk, List, OnOk, Some, map};
+ghost use Rattle.std.specs.List.{flat_map};
 ghost use Rattle.rm_evidence.specs.Gathered.{Lists};
 ghost use Rattle.rm_machine.specs.Effect.{told};
-ghost use Rattle.rm_machine.specs.Lists.{IsListOutcome, IsListed, line_in, listed, shape_by};
+ghost use Rattle.rm_machine.specs.Lists.{IsListOutcome, IsListed, listed, lines_in, packing_by, part_line, shape_by};
 ghost use Rattle.rm_machine.specs.Sound.{IsSound};
+ghost use Rattle.rm_catalog.specs.declared.record.Record.TheVariants.{Log as OfLog, Piece as OfPiece};
 ghost use Rattle.rm_report.specs.Reply.{IsPlain};
 ghost use Rattle.rm_report.specs.declared.line.Line.{Line as LineOf};
-ghost use Rattle.rm_catalog_typed.specs.TypedCatalog.{records_of};
-ghost use Rattle.rm_verify.specs.Classes.{is_of};
 
 use rm_base::{Class, Kind, NoMemory, Scn, Seq, Text};
-use rm_catalog::{LogEntry, PieceEntry};
+use rm_catalog::{Catalog, LogEntry, PieceEntry, Record, SetEntry, SetPart};
 use rm_evidence::by_id;
 use rm_machine::State;
-use rm_report::{Line, Shape};
+use rm_machine_code::recorded::records_of;
+use rm_report::{Line, Packing, Shape};
+use rm_verify::found::add;
+use rm_verify::is_of;
 use std::alloc::Global;
-
-// Whether the log is of the class. One that is no archived log is a backup of one.
-fn is_log_of(class: Class, log: &LogEntry) -> bool
-    ensures { result ≡ is_of class (OfLog log.now) }
-{
-    match class {
-        Class::Backup => !log.archived,
-        Class::Copy => false,
-        Class::Archived => log.archived,
-    }
-}
-
-// Whether the piece is of the class.
-fn is_piece_of(class: Class, piece: &PieceEntry) -> bool
-    ensures { result ≡ is_of class (OfPiece piece.now) }
-{
-    match class {
-        Class::Backup => !piece.copy,
-        Class::Copy => piece.copy,
-        Class::Archived => false,
-    }
-}
 
 // What a piece of this kind has.
 fn shape(kind: Kind, from: Scn) -> Shape
@@ -51,9 +30,23 @@ fn shape(kind: Kind, from: Scn) -> Shape
     }
 }
 
+// How a piece is packed that is an image copy or not.
+fn packing(copy: bool) -> Packing
+    ensures { result ≡ packing_by copy }
+{
+    if copy { Packing::Copy } else { Packing::Piece }
+}
+
+// An equal text.
+fn copy_of(alloc: Global, text: &Text) -> Result<Text, NoMemory>
+    ensures { IfOk result (λ t. t ≡ text.now) }
+{
+    Ok(Text::from_string(String::from_str(alloc, text.as_str())?))
+}
+
 // The line of a log.
 fn log_line(log: &LogEntry) -> Line
-    ensures { line_in (OfLog log.now) ≡ Some (log.now.id, result) }
+    ensures { lines_in (OfLog log.now) ≡ Some (log.now.id, result ∷ []) }
 {
     Line::LogIs {
         id: log.id,
@@ -69,100 +62,128 @@ fn log_line(log: &LogEntry) -> Line
 
 // The line of a piece.
 fn piece_line(alloc: Global, piece: &PieceEntry) -> Result<Line, NoMemory>
-    ensures { IfOk result (λ line. line_in (OfPiece piece.now) ≡ Some (piece.now.id, line)) }
+    ensures { IfOk result (λ line. lines_in (OfPiece piece.now) ≡ Some (piece.now.id, line ∷ [])) }
 {
     Ok(Line::PieceIs {
-        copy: piece.copy,
+        packing: packing(piece.copy),
         id: piece.id,
         file: piece.file,
         shape: shape(piece.kind, piece.from),
         checkpoint: piece.checkpoint,
         high: piece.high,
         status: piece.status,
-        tag: Text::from_string(String::from_str(alloc, piece.tag.as_str())?),
+        tag: copy_of(alloc, &piece.tag)?,
         keep: piece.keep,
     })
 }
 
-// Adds the line of a log, where it is of the class.
-fn push_log(list: &mut Seq<(u32, Line)>, class: Class, log: &LogEntry) -> Result<(), NoMemory>
-    ensures { OnOk result (list.new ≡ list.old ++ filter_map (λ l. listed class (OfLog l)) (log.now ∷ [])) }
+// The line of what a set has of one datafile.
+fn part_line(alloc: Global, set: &SetEntry, part: &SetPart) -> Result<Line, NoMemory>
+    ensures { IfOk result (λ line. line ≡ part_line set.now part.now) }
 {
-    if is_log_of(class, log) {
-        list.push((log.id, log_line(log)))?;
-    }
-    Ok(())
+    Ok(Line::PieceIs {
+        packing: Packing::Set,
+        id: set.id,
+        file: part.file,
+        shape: shape(part.kind, part.from),
+        checkpoint: set.checkpoint,
+        high: part.high,
+        status: set.status,
+        tag: copy_of(alloc, &set.tag)?,
+        keep: set.keep,
+    })
 }
 
-// Adds the line of a piece, where it is of the class.
-fn push_piece(
+// The lines of a set, one for each part.
+fn set_lines(alloc: Global, set: &SetEntry) -> Result<Seq<Line>, NoMemory>
+    ensures { IfOk result (λ lines. lines ≡ map (part_line set.now) set.now.parts) }
+{
+    let mut lines = Seq::new(alloc);
+    for part in set.parts.as_slice() {
+        lines.push(part_line(alloc, set, part)?)?;
+    }
+    Ok(lines)
+}
+
+// A list of one line.
+fn alone(alloc: Global, line: Line) -> Result<Seq<Line>, NoMemory>
+    ensures { IfOk result (λ lines. lines ≡ line ∷ []) }
+{
+    let mut lines = Seq::new(alloc);
+    lines.push(line)?;
+    Ok(lines)
+}
+
+// The id and the lines of a record of a log, a piece or a set. None of another record.
+fn lines_in(alloc: Global, row: &Record) -> Result<Option<(u32, Seq<Line>)>, NoMemory>
+    ensures { IfOk result (λ o. o ≡ lines_in row.now) }
+{
+    match row {
+        Record::Log(log) => Ok(Some((log.id, alone(alloc, log_line(log))?))),
+        Record::Piece(piece) => Ok(Some((piece.id, alone(alloc, piece_line(alloc, piece)?)?))),
+        Record::Set(set) => Ok(Some((set.id, set_lines(alloc, set)?))),
+        _ => Ok(None),
+    }
+}
+
+// Those of a record of the class.
+fn listed(alloc: Global, class: Class, row: &Record) -> Result<Option<(u32, Seq<Line>)>, NoMemory>
+    ensures { IfOk result (λ o. o ≡ listed class row.now) }
+{
+    if is_of(class, row) {
+        lines_in(alloc, row)
+    } else {
+        Ok(None)
+    }
+}
+
+// The lines of each record of the class, with its id, ascending by id.
+fn all_listed(
     alloc: Global,
-    list: &mut Seq<(u32, Line)>,
+    catalog: &Catalog,
     class: Class,
-    piece: &PieceEntry,
-) -> Result<(), NoMemory>
-    ensures { OnOk result (list.new ≡ list.old ++ filter_map (λ p. listed class (OfPiece p)) (piece.now ∷ [])) }
+) -> Result<Seq<(u32, Seq<Line>)>, NoMemory>
+    ensures { IfOk result (λ all. Lists (List LineOf) [] (IsListed catalog.now class) all) }
 {
-    if is_piece_of(class, piece) {
-        list.push((piece.id, piece_line(alloc, piece)?))?;
+    let mut list = Seq::new(alloc);
+    let records = catalog.records();
+    for row in records {
+        let found = listed(alloc, class, row)?;
+        add(&mut list, found)?;
     }
-    Ok(())
+    Ok(by_id(list))
 }
 
-// Adds the lines of the logs of the class.
-fn push_logs(list: &mut Seq<(u32, Line)>, class: Class, logs: &[LogEntry]) -> Result<(), NoMemory>
-    ensures { OnOk result (list.new ≡ list.old ++ filter_map (λ l. listed class (OfLog l)) logs.now) }
+// Adds these lines.
+fn push_lines(lines: &mut Seq<Line>, more: Seq<Line>) -> Result<(), NoMemory>
+    ensures { OnOk result (lines.new ≡ lines.old ++ more) }
 {
-    for log in logs {
-        push_log(list, class, log)?;
-    }
-    Ok(())
-}
-
-// Adds the lines of the pieces of the class.
-fn push_pieces(
-    alloc: Global,
-    list: &mut Seq<(u32, Line)>,
-    class: Class,
-    pieces: &[PieceEntry],
-) -> Result<(), NoMemory>
-    ensures { OnOk result (list.new ≡ list.old ++ filter_map (λ p. listed class (OfPiece p)) pieces.now) }
-{
-    for piece in pieces {
-        push_piece(alloc, list, class, piece)?;
+    for line in more.into_vec() {
+        lines.push(line)?;
     }
     Ok(())
 }
 
 // The lines, without their ids.
-fn lines_of(alloc: Global, list: Seq<(u32, Line)>) -> Result<Seq<Line>, NoMemory>
-    ensures { IfOk result (λ lines. lines ≡ map (λ x. x.1) list) }
+fn lines_of(alloc: Global, list: Seq<(u32, Seq<Line>)>) -> Result<Seq<Line>, NoMemory>
+    ensures { IfOk result (λ lines. lines ≡ flat_map (λ x. x.1) list) }
 {
     let mut lines = Seq::new(alloc);
-    for (_, line) in list.into_vec() {
-        lines.push(line)?;
+    for (_, more) in list.into_vec() {
+        push_lines(&mut lines, more)?;
     }
     Ok(lines)
 }
 
-// The line of each record of the class, with its id, ascending by id.
-fn all_listed(alloc: Global, state: &State, class: Class) -> Result<Seq<(u32, Line)>, NoMemory>
-    requires sound { IsSound state.now }
-    ensures { IfOk result (λ all. Lists LineOf [] (IsListed (records_of state.now.catalog) class) all) }
-{
-    let mut list = Seq::new(alloc);
-    push_logs(&mut list, class, state.catalog.logs())?;
-    push_pieces(alloc, &mut list, class, state.catalog.pieces())?;
-    Ok(by_id(list))
-}
-
-/// LIST BACKUP, LIST COPY and LIST ARCHIVELOG ALL: the line of each record of the class, ascending by id, whatever its
-/// status. A backup is a piece that is no image copy, or a backup of a log. Nothing changes. An error is want of memory.
+/// LIST BACKUP, LIST COPY and LIST ARCHIVELOG ALL: the lines of each record of the class, ascending by id, whatever its
+/// status. A set has a line for each part, in the order of the datafiles. A backup is a piece that is no image copy, a
+/// set, or a backup of a log. Nothing changes. An error is want of memory.
 pub fn list(alloc: Global, state: &State, class: Class) -> Result<Seq<Line>, NoMemory>
     requires sound { IsSound state.now }
     ensures lists { IfOk result (λ lines. IsListOutcome state.now class (told lines)) }
     ensures dates { IfOk result (All IsPlain) }
 {
-    let all = all_listed(alloc, state, class)?;
+    let records = records_of(alloc, state)?;
+    let all = all_listed(alloc, &records, class)?;
     lines_of(alloc, all)
 }

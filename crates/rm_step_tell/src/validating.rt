@@ -23,16 +23,18 @@ fn is_available(status: Status) -> bool
     status == Status::Available
 }
 
-// How many records of logs and pieces count as available.
+// How many records of logs, pieces and sets count as available.
 fn count_available(state: &State) -> u32
     requires sound { IsSound state.now }
     ensures { result ≡ count_available (ledger state.now) }
 {
     let logs = state.catalog.logs().iter();
     let pieces = state.catalog.pieces().iter();
+    let sets = state.catalog.sets().iter();
     let of_logs = logs.filter(|log| is_available(log.status)).count();
     let of_pieces = pieces.filter(|piece| is_available(piece.status)).count();
-    (of_logs + of_pieces) as u32
+    let of_sets = sets.filter(|set| is_available(set.status)).count();
+    (of_logs + of_pieces + of_sets) as u32
 }
 
 // How many there are.
@@ -53,7 +55,7 @@ fn lines_of(alloc: Global, bad: &[(u32, Bad)]) -> Result<Seq<Line>, NoMemory>
     Ok(lines)
 }
 
-/// VALIDATE ALL: of the records of logs and pieces that count as available, those whose objects are missing or damaged,
+/// VALIDATE ALL: of the records of logs, pieces and sets that count as available, those whose objects are missing or damaged,
 /// ascending by id, and how many were looked at. Each object is read and let go before the next; nothing changes. An
 /// error is a fault of the store, which is counted, or want of memory.
 pub fn validate_all<D: Store>(

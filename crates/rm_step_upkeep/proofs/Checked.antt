@@ -1,6 +1,7 @@
 -- What a crosscheck hands out.
-use Rattle.std.proofs.Common.{◌≡◌, ℕ, List, [], ◌∷◌, Option, Some, None, refl, sym, subst, map, All}
+use Rattle.std.proofs.Common.{◌≡◌, ◌∙◌, ◌<◌, ◌+◌, ◌++◌, ℕ, List, [], ◌∷◌, Option, Some, None, refl, ap, sym, subst, drop, get_or, length, map, take, All}
 use Rattle.std.specs.Prelude.{IfSome}
+use Rattle.std.proofs.lemmas.List.{at_drop_more, map_more}
 use Rattle.std.proofs.lemmas.List.Elements.{All-cons, All-nil}
 use Rattle.std.proofs.lemmas.Option.{same_Some}
 use Rattle.rm_base.specs.Store.{Held}
@@ -19,7 +20,9 @@ use Rattle.rm_machine.specs.Upkeep.{with_catalog, with_statuses}
 use Rattle.rm_machine.specs.declared.handed.Handed.{Handed}
 use Rattle.rm_machine.specs.declared.state.State.{State}
 use Rattle.rm_machine_code.proofs.Handing.{hands-by}
+use Rattle.rm_step_upkeep.specs.Amended.{amended}
 use Rattle.rm_step_upkeep.specs.Lines.{status_line}
+use Rattle.rm_step_upkeep.specs.declared.amending.Amendment.TheVariants as by
 
 -- none of its lines is a refusal
 dated : (xs : List (ℕ × Status)) → All IsPlain (map status_line xs)
@@ -28,6 +31,16 @@ dated (x ∷ xs) = All-cons IsPlain (status_line x) (map status_line xs) tt (dat
 
 pub checked-dated : (xs : List (ℕ × Status)) (lines : List Line) → lines ≡ map status_line xs → All IsPlain lines
 checked-dated xs lines is = subst (All IsPlain) (sym is) (dated xs)
+
+-- one status more is told, and given
+module _ (xs : List (ℕ × Status)) (k : ℕ) (d : ℕ × Status) (inside : k < length xs) where
+  pub next-line : (before after : List Line) → after ≡ before ++ status_line (get_or xs k d) ∷ [] → before ≡ map status_line (take k xs) → after ≡ map status_line (take (k + 1) xs)
+  next-line before after is told = is ∙ ap (λ (ls : List Line). ls ++ status_line (get_or xs k d) ∷ []) told ∙ sym (map_more status_line xs k d inside)
+
+  pub next-status : (s t u : State) → t ≡ with_catalog s (amended (by.Status (get_or xs k d).1) (get_or xs k d).0 s.catalog) → with_catalog s (with_statuses (drop k xs) s.catalog) ≡ u
+      → with_catalog t (with_statuses (drop (k + 1) xs) t.catalog) ≡ u
+  next-status s t u is before =
+      ap (λ (v : State). with_catalog v (with_statuses (drop (k + 1) xs) v.catalog)) is ∙ sym (at_drop_more (λ (ys : List (ℕ × Status)). with_catalog s (with_statuses ys s.catalog)) xs k d inside) ∙ before
 
 -- the statuses that a store that tells gives
 abbrev pub AreChecked : State → Class → List (ℕ × Status) → Held → Type 0

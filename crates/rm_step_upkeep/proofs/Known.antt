@@ -1,16 +1,17 @@
 -- The record of an id, where there is one.
-use Rattle.std.proofs.Common.{◌≡◌, ◌∙◌, ◌<◌, ◌==◌, ◌&&◌, inl, inr, ℕ, Some, None, Bool, true, false, is_none, cond, refl, ap, subst, arith}
+use Rattle.std.proofs.Common.{◌≡◌, ◌∙◌, ◌<◌, ◌==◌, ◌&&◌, inl, inr, ℕ, Some, None, Bool, true, false, is_none, cond, refl, subst, arith}
 use Rattle.std.proofs.lemmas.Bool.{cases_Bool, eqb-true}
 use Rattle.rm_base.specs.declared.refusal.Refusal.{Refusal}
 use Rattle.rm_base.proofs.Lists.{find_cases}
 use Rattle.rm_catalog.specs.declared.record.LogEntry.{LogEntry}
 use Rattle.rm_catalog.specs.declared.record.PieceEntry.{PieceEntry}
+use Rattle.rm_catalog.specs.declared.record.SetEntry.{SetEntry}
 use Rattle.rm_catalog_typed.specs.Facts.{IsTypedCatalog}
 use Rattle.rm_catalog_typed.specs.TypedCatalog.{TypedCatalog}
 use Rattle.rm_machine.specs.Marks.{lacks_ids}
-use Rattle.rm_machine.specs.Upkeep.{is_unknown, piece_at, record_refusal}
+use Rattle.rm_machine.specs.Upkeep.{is_unknown, record_refusal}
 use Rattle.rm_machine.specs.declared.state.State.{State}
-use Rattle.rm_machine_code.proofs.Ids.{IsId, log-id, piece-id}
+use Rattle.rm_machine_code.proofs.Ids.{IsId, log-id, piece-id, set-id}
 
 module _ (r : TypedCatalog) (rules : IsTypedCatalog r) where
   -- what is there has such an id
@@ -19,7 +20,10 @@ module _ (r : TypedCatalog) (rules : IsTypedCatalog r) where
     | inr found ↦ subst IsId (eqb-true found.item.id n found.passes) (log-id r rules found.item found.held)
     | inl no_log ↦ elim (find_cases (λ (p : PieceEntry). p.id == n) r.ledger.pieces) [
       | inr found ↦ subst IsId (eqb-true found.item.id n found.passes) (piece-id r rules found.item found.held)
-      | inl no_piece ↦ absurd (let none : is_unknown r n ≡ true = ap (λ o. is_none o && is_none (piece_at r n)) no_log ∙ ap is_none no_piece in cc)
+      | inl no_piece ↦ elim (find_cases (λ (e : SetEntry). e.id == n) r.ledger.sets) [
+        | inr found ↦ subst IsId (eqb-true found.item.id n found.passes) (set-id r rules found.item found.held)
+        | inl no_set ↦ absurd (let none : is_unknown r n ≡ true = λ i. is_none (no_log i) && is_none (no_piece i) && is_none (no_set i) in cc)
+      ]
     ]
   ]
 

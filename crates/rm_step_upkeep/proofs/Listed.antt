@@ -12,7 +12,9 @@ use Rattle.rm_base.proofs.Members.{in-front}
 use Rattle.rm_apply.specs.Files.{AreExactly}
 use Rattle.rm_catalog.specs.declared.record.Record.{Record}
 use Rattle.rm_evidence.specs.Gathered.{Lists}
+use Rattle.rm_evidence.specs.Names.{object_id}
 use Rattle.rm_evidence.proofs.Extending.{only-in}
+use Rattle.rm_evidence.proofs.Single.{IsOfOne}
 use Rattle.rm_report.specs.declared.line.Line.TheVariants.{Deleted, DeletedCount}
 use Rattle.rm_catalog_typed.specs.Facts.{IsTypedCatalog}
 use Rattle.rm_catalog_typed.specs.TypedCatalog.{TypedCatalog, records_of}
@@ -21,7 +23,6 @@ use Rattle.rm_verify.specs.declared.object.Expected.{Expected}
 use Rattle.rm_verify.specs.Classes.{is_of, object_in}
 use Rattle.rm_verify.specs.Told.{Tells}
 use Rattle.rm_verify.proofs.Checked.{numbered, passed}
-use Rattle.rm_verify.proofs.Growing.{HasNumber, IsOfOne}
 use Rattle.rm_machine.specs.Effect.{no_effect}
 use Rattle.rm_machine.specs.Hands.{Hands}
 use Rattle.rm_machine.specs.Sound.{IsSound}
@@ -48,8 +49,8 @@ moved : (rs qs : List Record) (class : Class) (n : ℕ) (e : IsExpired rs class 
 moved rs qs class n e has = record { row = e.row; there = has; of = e.of; object = e.object; is = e.is; status = e.status; id = e.id }
 
 -- its id is that of the record
-has_number : (rs : List Record) (class : Class) (n : ℕ) (e : IsExpired rs class n) → HasNumber e.row n
-has_number rs class n e = subst (HasNumber e.row) e.id (numbered e.row e.object e.is)
+has_number : (rs : List Record) (class : Class) (n : ℕ) (e : IsExpired rs class n) → object_id e.row ≡ Some n
+has_number rs class n e = numbered e.row e.object e.is ∙ ap Some e.id
 
 module _ (class : Class) where
   from : (r : Record) (y : ℕ × Alone) → expired class r ≡ Some y → IsExpired (r ∷ []) class y.0
@@ -64,14 +65,14 @@ module _ (class : Class) where
       ap (expired class) (only-in r e.row e.there) ∙ ap (λ b. cond b (option_and_then (λ x. when_expired x.id x.status) (object_in e.row)) None) e.of
       ∙ ap (λ (o : Option Expected). option_and_then (λ x. when_expired x.id x.status) o) e.is ∙ ap (when_expired e.object.id) e.status ∙ ap (λ (n : ℕ). let z : ℕ × Alone = (n, y.1) in Some z) e.id
 
-  pub tells : (r : Record) → Tells (λ id (a : Alone). IsExpired (r ∷ []) class id) (expired class r)
-  tells r = λ id a. (from r (id, a), to r (id, a))
+  pub tells : (r : Record) (found : Option (ℕ × Alone)) → found ≡ expired class r → Tells (λ id (a : Alone). IsExpired (r ∷ []) class id) found
+  tells r found same = λ id a. (λ is. from r (id, a) (sym same ∙ is), λ e. same ∙ to r (id, a) e)
 
   pub is-of-one : IsOfOne Alone (λ rs id a. IsExpired rs class id)
   is-of-one = record {
     one = λ rs id a e. (e.row, e.there, moved rs (e.row ∷ []) class id e (in-front e.row []));
     all = λ rs r id a has e. moved (r ∷ []) rs class id e (subst (Contains rs) (only-in r e.row e.there) has);
-    number = λ r id a e. subst (λ (s : Record). HasNumber s id) (sym (only-in r e.row e.there)) (has_number (r ∷ []) class id e);
+    number = λ r id a e. ap object_id (only-in r e.row e.there) ∙ has_number (r ∷ []) class id e;
   }
 
 -- ids ascend alone as beside others

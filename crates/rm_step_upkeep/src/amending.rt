@@ -1,12 +1,12 @@
-//! The record of a log or a piece gets another status, or is kept forever or not.
+//! The record of a log, a piece or a set gets another status, or is kept forever or not.
 ghost use Rattle.std.specs.Prelude.{◌≡◌, OnOk};
 ghost use Rattle.rm_machine.specs.Sound.{IsSound};
-ghost use Rattle.rm_machine.specs.Upkeep.{log_changed, piece_changed, with_catalog};
+ghost use Rattle.rm_machine.specs.Upkeep.{log_changed, piece_changed, set_changed, with_catalog};
 ghost use Rattle.rm_catalog_typed.specs.Changes.{EditsFollow};
-ghost use Rattle.rm_step_upkeep.specs.Amended.{amended, log_by, piece_by};
+ghost use Rattle.rm_step_upkeep.specs.Amended.{amended, log_by, piece_by, set_by};
 
 use rm_base::{NoMemory, Status};
-use rm_catalog::{Edit, LogEntry, PieceEntry};
+use rm_catalog::{Edit, LogEntry, PieceEntry, SetEntry};
 use rm_machine::State;
 use std::alloc::Global;
 
@@ -36,6 +36,16 @@ fn piece_by(by: Amendment, piece: PieceEntry) -> PieceEntry
     match by {
         Amendment::Status(status) => PieceEntry { status, ..piece },
         Amendment::Keep(keep) => PieceEntry { keep, ..piece },
+    }
+}
+
+// The set, changed so.
+fn set_by(by: Amendment, set: SetEntry) -> SetEntry
+    ensures { result ≡ set_by by set }
+{
+    match by {
+        Amendment::Status(status) => SetEntry { status, ..set },
+        Amendment::Keep(keep) => SetEntry { keep, ..set },
     }
 }
 
@@ -76,7 +86,26 @@ fn amend_piece(
     state.catalog.put_piece(alloc, edits, piece)
 }
 
-/// Changes the record of an id so: a log or a piece, if there is one.
+// Changes the set of an id so, if there is one.
+fn amend_set(
+    alloc: Global,
+    state: &mut State,
+    edits: &mut Vec<Edit>,
+    id: u32,
+    by: Amendment,
+) -> Result<(), NoMemory>
+    requires sound { IsSound state.old }
+    ensures value { OnOk result (state.new ≡ with_catalog state.old (set_changed (set_by by) id state.old.catalog)) }
+    ensures edits { OnOk result (EditsFollow edits.old.items edits.new.items state.old.catalog state.new.catalog) }
+{
+    let Some(set) = state.catalog.set(id) else {
+        return Ok(());
+    };
+    let set = set_by(by, set.copy(alloc)?);
+    state.catalog.put_set(alloc, edits, set)
+}
+
+/// Changes the record of an id so: a log, a piece or a set, if there is one.
 pub(crate) fn amend(
     alloc: Global,
     state: &mut State,
@@ -90,5 +119,6 @@ pub(crate) fn amend(
     ensures sound { OnOk result (IsSound state.new) }
 {
     amend_log(state, edits, id, by)?;
-    amend_piece(alloc, state, edits, id, by)
+    amend_piece(alloc, state, edits, id, by)?;
+    amend_set(alloc, state, edits, id, by)
 }

@@ -4,8 +4,6 @@ ghost use Rattle.rm_apply.specs.Files.{AreExactly};
 ghost use Rattle.rm_base.specs.Store.{Held};
 ghost use Rattle.rm_evidence.specs.Gathered.{Lists};
 ghost use Rattle.rm_lang_statement.specs.declared.command.Command.TheVariants.{DeleteExpired};
-ghost use Rattle.rm_verify.specs.Classes.{is_of};
-ghost use Rattle.rm_verify.specs.Told.{with_found};
 ghost use Rattle.rm_machine.specs.Hands.{Hands};
 ghost use Rattle.rm_machine.specs.Sound.{IsSound};
 ghost use Rattle.rm_machine.specs.Upkeep.{IsExpired};
@@ -18,26 +16,9 @@ use rm_evidence::by_id;
 use rm_machine::{Handed, State};
 use rm_machine_code::drops::drop_records;
 use rm_machine_code::recorded::records_of;
+use rm_verify::found::add;
+use rm_verify::is_of;
 use std::alloc::Global;
-
-// Whether the record is of the class. A log that is no archived one is a backup of one.
-fn is_of(class: Class, row: &Record) -> bool
-    ensures { result ≡ is_of class row.now }
-{
-    match row {
-        Record::Log(log) => match class {
-            Class::Backup => !log.archived,
-            Class::Copy => false,
-            Class::Archived => log.archived,
-        },
-        Record::Piece(piece) => match class {
-            Class::Backup => !piece.copy,
-            Class::Copy => piece.copy,
-            Class::Archived => false,
-        },
-        _ => false,
-    }
-}
 
 // The id, as an item of a list by id, where it is that of an expired record.
 fn when_expired(id: u32, status: Status) -> Option<(u32, ())>
@@ -59,17 +40,8 @@ fn expired(class: Class, row: &Record) -> Option<(u32, ())>
     match row {
         Record::Log(log) => when_expired(log.id, log.status),
         Record::Piece(piece) => when_expired(piece.id, piece.status),
+        Record::Set(set) => when_expired(set.id, set.status),
         _ => None,
-    }
-}
-
-// Adds the id of the record, where it is expired and of the class.
-fn push_expired(list: &mut Seq<(u32, ())>, class: Class, row: &Record) -> Result<(), NoMemory>
-    ensures { OnOk result (list.new ≡ with_found list.old (expired class row.now)) }
-{
-    match expired(class, row) {
-        Some(one) => list.push(one),
-        None => Ok(()),
     }
 }
 
@@ -80,7 +52,7 @@ fn expired_in(alloc: Global, catalog: &Catalog, class: Class) -> Result<Seq<(u32
     let mut list = Seq::new(alloc);
     let records = catalog.records();
     for row in records {
-        push_expired(&mut list, class, row)?;
+        add(&mut list, expired(class, row))?;
     }
     Ok(by_id(list))
 }

@@ -7,7 +7,7 @@ use rm_base::{Limit, Refusal, Unknown};
 use rm_machine::State;
 use rm_machine_code::room::lacks_ids;
 
-/// Whether no log and no piece has the id.
+/// Whether no log, no piece and no set has the id.
 pub(crate) fn is_unknown(state: &State, id: u64) -> bool
     requires sound { IsSound state.now }
     ensures value { result ≡ is_unknown state.now.catalog id }
@@ -16,11 +16,12 @@ pub(crate) fn is_unknown(state: &State, id: u64) -> bool
         return true;
     }
     let id = id as u32;
-    state.catalog.log(id).is_none() && state.catalog.piece(id).is_none()
+    let catalog = &state.catalog;
+    catalog.log(id).is_none() && catalog.piece(id).is_none() && catalog.set(id).is_none()
 }
 
-/// Why CHANGE BACKUP and DELETE BACKUP are refused, if they are: too few object ids are left (RM-11), or no log and no
-/// piece has the id (RM-12).
+/// Why CHANGE BACKUP and DELETE BACKUP are refused, if they are: too few object ids are left (RM-11), or no log,
+/// no piece and no set has the id (RM-12).
 pub fn record_refusal(state: &State, id: u64) -> Option<Refusal>
     requires sound { IsSound state.now }
     ensures value { result ≡ record_refusal state.now id }

@@ -11,12 +11,19 @@ use Rattle.rm_machine.specs.Write.{change_of, with_write}
 use Rattle.rm_machine_code.proofs.Handing.{hands-by}
 use Rattle.rm_machine_code.proofs.Writes.{write-accepted}
 use Rattle.rm_report.specs.declared.line.Line.TheVariants.{Written}
-use Rattle.rm_step_write.proofs.Accepted.{rows-below}
+use Rattle.rm_step_write.proofs.Accepted.{rows-below, write-numbers}
 use Rattle.rm_step_write.proofs.Results.{after-write}
 use Rattle.rm_step_write.proofs.writing.write.Goals as goal
 
 abbrev IsAbove : List (Option File) → Change → Type 0
 IsAbove place c = IfSome (slice_index_or place (c.file - 1) None) (λ x. IfSome (slice_get x.rows c.block) (λ r. r.version < c.scn))
+
+pub go_further-requires-clause-below : goal.go_further-requires-clause-below
+go_further-requires-clause-below c = (write-accepted c.args.state.now c.args.form.now c.requires.sound c.requires.accepted).on.below
+
+pub put_row-requires-clause-file : goal.put_row-requires-clause-file
+put_row-requires-clause-file c =
+    subst (λ (x : Change). 0 < x.file) (sym c.change_of-change.ensures) (write-numbers c.args.state.now c.args.form.now c.requires.sound c.requires.accepted).file.0
 
 pub put_row-requires-clause-above : goal.put_row-requires-clause-above
 put_row-requires-clause-above c =

@@ -3,9 +3,9 @@ use Rattle.rm_history.specs.declared.world.Datafile.{Datafile}
 use Rattle.rm_machine.specs.Backup.{is_taken}
 use Rattle.rm_machine.specs.declared.state.State.{State}
 use Rattle.rm_machine.specs.State.{ledger}
-use Rattle.rm_step_backup.proofs.Taken.{blocks-few, bytes-next, no_datafile}
-use Rattle.rm_step_backup.proofs.datafiles.taken_bytes.Goals as goal
-use Rattle.rm_step_backup.proofs.datafiles.taken_bytes.Goals.{then-is_taken, else-is_taken}
+use Rattle.rm_step_backup.proofs.Taken.{blocks-few, blocks-next, no_datafile}
+use Rattle.rm_step_backup.proofs.datafiles.taken_blocks.Goals as goal
+use Rattle.rm_step_backup.proofs.datafiles.taken_blocks.Goals.{then-is_taken, else-is_taken}
 
 pub loop-index-preserved : goal.loop-index-preserved
 loop-index-preserved c =
@@ -20,10 +20,10 @@ loop-index-preserved c =
     let old = c.loop-index.invariant in
     elim c.if-is_taken.branch [
       | then-is_taken w ↦
-          let next = bytes-next s b i no_datafile true inside (sym is ∙ w.if-is_taken.true) in
-          let blocks : w.from.result ≡ d.blocks = w.from.ensures ∙ ap (λ (ds : List Datafile). (get_or ds i no_datafile).blocks) files in
-          record { sum = omega (arith, next, w.bytes-is, blocks, old.sum); few = omega (arith, w.bytes-is, blocks, most, old.few) }
+          let next = blocks-next s b i no_datafile true inside (sym is ∙ w.if-is_taken.true) in
+          let blocks : w.from-blocks.result ≡ d.blocks = w.from-blocks.ensures ∙ ap (λ (ds : List Datafile). (get_or ds i no_datafile).blocks) files in
+          record { sum = omega (arith, next, w.blocks-is, blocks, old.sum); few = omega (arith, w.blocks-is, blocks, most, old.few) }
       | else-is_taken w ↦
-          let next = bytes-next s b i no_datafile false inside (sym is ∙ w.if-is_taken.false) in
-          record { sum = omega (arith, next, w.bytes-is, old.sum); few = omega (arith, w.bytes-is, old.few) }
+          let next = blocks-next s b i no_datafile false inside (sym is ∙ w.if-is_taken.false) in
+          record { sum = omega (arith, next, w.blocks-is, old.sum); few = omega (arith, w.blocks-is, old.few) }
     ]
