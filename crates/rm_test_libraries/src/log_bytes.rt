@@ -1,14 +1,11 @@
 //! Logs as bytes: each number at its limits, a log of two records, its bytes changed and cut, and the longest.
+use crate::formats::{self, Format, count_read, digits, is_changed_read, is_read, word};
 use rm_base::number::{push_u32, push_u64};
 use rm_base::sealed::seal;
-use rm_base::{Block, NoMemory, Seq};
+use rm_base::{Block, FormatFault, NoMemory, Seq};
 use rm_redo::{LogFile, LogRecord, decode_log, encode_log, is_valid_log};
 use rm_test_harness::{Fault, Told, cases, differs};
 use std::alloc::Global;
-
-fn is_read(alloc: Global, bytes: &[u8]) -> bool {
-    decode_log(alloc, bytes).is_ok()
-}
 
 // How many bytes each number of a log with two records has, behind "RMLG" and the format.
 const WIDTHS: [usize; 13] = [4, 4, 1, 4, 8, 8, 4, 8, 4, 4, 8, 4, 4];
@@ -42,12 +39,17 @@ struct Logs;
 
 impl Told for Logs {
     fn told(&mut self, alloc: Global, asked: &str) -> Result<String, Fault> {
-        let word = if is_read(alloc, &spelled(alloc, asked)?) {
-            "read"
-        } else {
-            "bad"
-        };
-        Ok(String::from_str(alloc, word)?)
+        word::<Logs>(alloc, &spelled(alloc, asked)?)
+    }
+}
+
+impl Format for Logs {
+    fn again(alloc: Global, bytes: &[u8]) -> Result<Option<Vec<u8>>, Fault> {
+        match decode_log(alloc, bytes) {
+            Ok(log) => Ok(Some(bytes_of(alloc, &log)?)),
+            Err(FormatFault::Bad) => Ok(None),
+            Err(FormatFault::NoMemory) => Err(Fault::NoMemory),
+        }
     }
 }
 
@@ -92,19 +94,11 @@ fn log_of_two(alloc: Global) -> Result<Vec<u8>, Fault> {
 /// Its bytes are those of the file, of which another program made the digest, and are read.
 pub fn two_records(alloc: Global, hex: &str) -> Result<bool, Fault> {
     let bytes = log_of_two(alloc)?;
-    let mut digits = String::new(alloc);
-    for byte in &bytes {
-        write!(digits, "{byte:02x}")?;
-    }
-    let mut wanted = String::new(alloc);
-    for line in hex.lines() {
-        wanted.push_str(line)?;
-    }
     let Ok(read) = decode_log(alloc, &bytes) else {
         return Ok(false);
     };
     Ok(
-        digits.as_str() == wanted.as_str()
+        digits(alloc, &bytes)?.as_str() == hex.trim_end()
             && bytes.len() == 230
             && read.next == 4
             && read.records.as_slice() == [record(2, b"AA"), record(3, b"BB")].as_slice(),
@@ -113,52 +107,17 @@ pub fn two_records(alloc: Global, hex: &str) -> Result<bool, Fault> {
 
 /// No front of it is read, and nothing longer.
 pub fn no_front(alloc: Global) -> Result<bool, Fault> {
-    let mut bytes = log_of_two(alloc)?;
-    for n in 0..230usize {
-        if is_read(alloc, bytes.get(..n).unwrap_or(&[])) {
-            return Ok(false);
-        }
-    }
-    bytes.push(0)?;
-    let is_longer_read = is_read(alloc, &bytes);
-    bytes.truncate(198);
-    bytes.push(0)?;
-    seal(&mut bytes)?;
-    Ok(!is_longer_read && !is_read(alloc, &bytes))
-}
-
-// The bytes with one of them changed.
-fn changed(alloc: Global, bytes: &[u8], k: usize, by: u8) -> Result<Vec<u8>, NoMemory> {
-    let mut out = Vec::with_capacity(alloc, 300)?;
-    for (i, byte) in bytes.iter().enumerate() {
-        out.push(if i == k { *byte ^ by } else { *byte })?;
-    }
-    Ok(out)
-}
-
-// How many changes by these bits are read, each with its new digest, as what has these bytes.
-fn count_read(alloc: Global, bytes: &[u8], by: u8) -> Result<u32, Fault> {
-    let mut read = 0u32;
-    for k in 0..198usize {
-        let mut sealed = changed(alloc, bytes.get(..198).unwrap_or(&[]), k, by)?;
-        seal(&mut sealed)?;
-        if let Ok(log) = decode_log(alloc, &sealed) {
-            let again = bytes_of(alloc, &log)?;
-            read = read.saturating_add((again.as_slice() == sealed.as_slice()) as u32);
-        }
-    }
-    Ok(read)
+    formats::no_front::<Logs>(alloc, &log_of_two(alloc)?)
 }
 
 /// No byte can be changed. With a new digest another program counted what is read.
 pub fn each_byte(alloc: Global) -> Result<bool, Fault> {
     let bytes = log_of_two(alloc)?;
-    for k in 0..230usize {
-        if is_read(alloc, &changed(alloc, &bytes, k, 1)?) {
-            return Ok(false);
-        }
-    }
-    Ok(count_read(alloc, &bytes, 1)? == 147 && count_read(alloc, &bytes, 255)? == 150)
+    Ok(
+        !is_changed_read::<Logs>(alloc, &bytes, 1)?
+            && count_read::<Logs>(alloc, &bytes, 1)? == 147
+            && count_read::<Logs>(alloc, &bytes, 255)? == 150,
+    )
 }
 
 // The bytes of a log with so many records, all at SCN 2.
@@ -179,5 +138,6 @@ fn long_log(alloc: Global, count: u32) -> Result<Vec<u8>, NoMemory> {
 
 /// A log has at most 65,536 records.
 pub fn longest(alloc: Global) -> Result<bool, Fault> {
-    Ok(is_read(alloc, &long_log(alloc, 65_536)?) && !is_read(alloc, &long_log(alloc, 65_537)?))
+    let is_most_read = is_read::<Logs>(alloc, &long_log(alloc, 65_536)?)?;
+    Ok(is_most_read && !is_read::<Logs>(alloc, &long_log(alloc, 65_537)?)?)
 }

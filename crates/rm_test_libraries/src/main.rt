@@ -8,6 +8,7 @@ mod changes;
 mod database;
 mod datafiles;
 mod devices;
+mod formats;
 mod keeper;
 mod kernels;
 mod log_bytes;
@@ -23,6 +24,8 @@ mod record;
 mod renewing;
 mod retention;
 mod scripts;
+mod set_bytes;
+mod set_objects;
 mod stores;
 mod tracking;
 mod trees;
@@ -122,6 +125,20 @@ fn tell_pieces(rt: &HostRuntime) -> io::Result<()> {
     tell_table(rt, "pieces", piece_bytes::Pieces)
 }
 
+fn tell_sets(rt: &HostRuntime) -> io::Result<()> {
+    let alloc = rt.alloc();
+    let hex = fs::read_to_string(rt, "set_of_two_files.txt")?;
+    let set = set_bytes::two_files(alloc, hex.as_str());
+    tell(rt, "a set of two datafiles", set)?;
+    tell(rt, "no front of it", set_bytes::no_front(alloc))?;
+    tell(rt, "each byte changed", set_bytes::each_byte(alloc))?;
+    tell(rt, "a set of none", set_bytes::none(alloc))?;
+    tell(rt, "a set of the most", set_bytes::most(alloc))?;
+    tell(rt, "rows from the creation", set_bytes::risen(alloc))?;
+    tell_table(rt, "sets", set_bytes::Sets)?;
+    tell_table(rt, "set_objects", set_objects::SetObjects)
+}
+
 fn tell_objects(rt: &HostRuntime) -> io::Result<()> {
     let alloc = rt.alloc();
     tell(rt, "names have the id", objects::names(alloc))?;
@@ -151,6 +168,7 @@ fn main(rt: HostRuntime) -> io::Result<()> {
     tell_log_bytes(&rt)?;
     tell_logs(&rt)?;
     tell_pieces(&rt)?;
+    tell_sets(&rt)?;
     tell_objects(&rt)?;
     tell_backups(&rt)
 }

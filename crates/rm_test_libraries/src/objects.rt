@@ -3,7 +3,7 @@ use crate::piece_bytes::{bytes_of, full, row};
 use rm_base::sealed::digest_of;
 use rm_base::{Kind, Seq, Status, Text};
 use rm_catalog::{LogEntry, PieceEntry};
-use rm_evidence::{log_name, log_object, piece_name, piece_object, site_name};
+use rm_evidence::{log_name, log_object, piece_name, piece_object, set_name, site_name};
 use rm_redo::{LogFile, encode_log, is_valid_log};
 use rm_test_harness::{Fault, differs};
 use std::alloc::Global;
@@ -13,8 +13,11 @@ pub fn names(alloc: Global) -> Result<bool, Fault> {
     let log = log_name(alloc, 7)?;
     let piece = piece_name(alloc, false, 12)?;
     let copy = piece_name(alloc, true, 12)?;
+    let set = set_name(alloc, 9)?;
     let site = site_name(alloc, 4294967295)?;
-    let are_names = log.as_str() == "log_7" && site.as_str() == "site_4294967295";
+    let are_names = log.as_str() == "log_7"
+        && set.as_str() == "set_9"
+        && site.as_str() == "site_4294967295";
     Ok(are_names && piece.as_str() == "piece_12" && copy.as_str() == "copy_12")
 }
 

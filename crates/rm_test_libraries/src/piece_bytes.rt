@@ -1,6 +1,7 @@
 //! Pieces as bytes: a copy of two blocks, its bytes changed and cut, and each number at its limits.
+use crate::formats::{self, Format, count_read, digits, is_changed_read, word};
 use rm_base::sealed::seal;
-use rm_base::{Block, Kind, NoMemory, Row, Seq};
+use rm_base::{Block, FormatFault, Kind, Row, Seq};
 use rm_piece::{Piece, decode_piece, encode_piece, high_of, is_valid, pick};
 use rm_test_harness::{Fault, Told, differs, numbers};
 use std::alloc::Global;
@@ -38,10 +39,6 @@ pub fn bytes_of(alloc: Global, piece: &Piece) -> Result<Vec<u8>, Fault> {
     }
 }
 
-fn is_read(alloc: Global, bytes: &[u8]) -> bool {
-    decode_piece(alloc, bytes).is_ok()
-}
-
 // The copy of two blocks, as bytes.
 fn copy(alloc: Global) -> Result<Vec<u8>, Fault> {
     let rows = Vec::from_array(alloc, [row(0, 2, b"AA"), row(1, 3, b"BB")])?;
@@ -51,14 +48,7 @@ fn copy(alloc: Global) -> Result<Vec<u8>, Fault> {
 /// Its bytes are those of the file, of which another program made the digest, and are read.
 pub fn two_blocks(alloc: Global, hex: &str) -> Result<bool, Fault> {
     let bytes = copy(alloc)?;
-    let mut digits = String::new(alloc);
-    for (at, byte) in bytes.iter().enumerate() {
-        write!(
-            digits,
-            "{byte:02x}{}",
-            if at % 32 == 31 { "\n" } else { "" }
-        )?;
-    }
+    let digits = digits(alloc, &bytes)?;
     let Ok(read) = decode_piece(alloc, &bytes) else {
         return Ok(false);
     };
@@ -69,61 +59,15 @@ pub fn two_blocks(alloc: Global, hex: &str) -> Result<bool, Fault> {
 
 /// No front of it is read, and nothing longer.
 pub fn no_front(alloc: Global) -> Result<bool, Fault> {
-    let mut bytes = copy(alloc)?;
-    for n in 0..234usize {
-        if is_read(alloc, bytes.get(..n).unwrap_or(&[])) {
-            return Ok(false);
-        }
-    }
-    bytes.push(0)?;
-    let is_longer_read = is_read(alloc, &bytes);
-    bytes.truncate(202);
-    bytes.push(0)?;
-    seal(&mut bytes)?;
-    Ok(!is_longer_read && !is_read(alloc, &bytes))
-}
-
-// The bytes with one of them changed.
-fn changed(alloc: Global, bytes: &[u8], k: usize, by: u8) -> Result<Vec<u8>, NoMemory> {
-    let mut out = Vec::with_capacity(alloc, 300)?;
-    for (i, byte) in bytes.iter().enumerate() {
-        out.push(if i == k { *byte ^ by } else { *byte })?;
-    }
-    Ok(out)
-}
-
-// Whether the bytes with one changed are read.
-fn is_changed_read(alloc: Global, bytes: &[u8], by: u8) -> Result<bool, Fault> {
-    for k in 0..234usize {
-        if is_read(alloc, &changed(alloc, bytes, k, by)?) {
-            return Ok(true);
-        }
-    }
-    Ok(false)
-}
-
-// How many changes by these bits are read, each with its new digest. What is read has these bytes.
-fn count_read(alloc: Global, body: &[u8], by: u8) -> Result<u32, Fault> {
-    let mut read = 0u32;
-    for k in 0..202usize {
-        let mut sealed = changed(alloc, body, k, by)?;
-        seal(&mut sealed)?;
-        if let Ok(piece) = decode_piece(alloc, &sealed) {
-            if bytes_of(alloc, &piece)?.as_slice() != sealed.as_slice() {
-                return differs(alloc, "what is read has other bytes");
-            }
-            read = read.saturating_add(1);
-        }
-    }
-    Ok(read)
+    formats::no_front::<Pieces>(alloc, &copy(alloc)?)
 }
 
 /// No byte can be changed. With a new digest another program counted what is read.
 pub fn each_byte(alloc: Global) -> Result<bool, Fault> {
     let bytes = copy(alloc)?;
-    let body = bytes.get(..202).unwrap_or(&[]);
     for by in [1u8, 255] {
-        if is_changed_read(alloc, &bytes, by)? || count_read(alloc, body, by)? != 136 {
+        let is_read = is_changed_read::<Pieces>(alloc, &bytes, by)?;
+        if is_read || count_read::<Pieces>(alloc, &bytes, by)? != 136 {
             return Ok(false);
         }
     }
@@ -155,12 +99,17 @@ pub struct Pieces;
 impl Told for Pieces {
     fn told(&mut self, alloc: Global, asked: &str) -> Result<String, Fault> {
         let bytes = spelled(alloc, &numbers::<u64>(alloc, asked)?)?;
-        let word = if is_read(alloc, &bytes) {
-            "read"
-        } else {
-            "bad"
-        };
-        Ok(String::from_str(alloc, word)?)
+        word::<Pieces>(alloc, &bytes)
+    }
+}
+
+impl Format for Pieces {
+    fn again(alloc: Global, bytes: &[u8]) -> Result<Option<Vec<u8>>, Fault> {
+        match decode_piece(alloc, bytes) {
+            Ok(piece) => Ok(Some(bytes_of(alloc, &piece)?)),
+            Err(FormatFault::Bad) => Ok(None),
+            Err(FormatFault::NoMemory) => Err(Fault::NoMemory),
+        }
     }
 }
 

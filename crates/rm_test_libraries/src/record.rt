@@ -1,8 +1,8 @@
 //! Records, read from the words of a line.
-use rm_base::{Kind, Policy, Status, Text};
+use rm_base::{Kind, Policy, Seq, Status, Text};
 use rm_catalog::{
     BaseEntry, DatafileEntry, HeadEntry, IncarnationEntry, LogEntry, MarkEntry, PartEntry,
-    PieceEntry, Record,
+    PieceEntry, Record, SetEntry, SetPart,
 };
 use rm_test_harness::{Fault, differs};
 use std::alloc::Global;
@@ -128,6 +128,37 @@ impl<'a> Words<'a> {
         })
     }
 
+    // What a set has of datafiles, up to the end of the line.
+    fn parts(&mut self) -> Result<Seq<SetPart>, Fault> {
+        let mut parts = Seq::new(self.alloc);
+        for _ in 0..self.words.len().saturating_sub(self.at) / 5 {
+            let part = SetPart {
+                file: self.u32()?,
+                kind: self.kind()?,
+                from: self.u64()?,
+                high: self.u64()?,
+                rows: self.u32()?,
+            };
+            parts.push(part)?;
+        }
+        Ok(parts)
+    }
+
+    fn set(&mut self) -> Result<SetEntry, Fault> {
+        Ok(SetEntry {
+            id: self.u32()?,
+            inc: self.u32()?,
+            checkpoint: self.u64()?,
+            size: self.u64()?,
+            sha: [0; 32],
+            status: Status::Available,
+            keep: false,
+            tag: self.tag()?,
+            moment: 50,
+            parts: self.parts()?,
+        })
+    }
+
     fn record(&mut self) -> Result<Record, Fault> {
         Ok(match self.word()? {
             "base" => Record::Base(self.base()?),
@@ -163,6 +194,7 @@ impl<'a> Words<'a> {
                 inc: self.u32()?,
                 scn: self.u64()?,
             }),
+            "set" => Record::Set(self.set()?),
             word => return differs(self.alloc, word),
         })
     }

@@ -23,8 +23,8 @@ pub struct Shelf {
     store: MemStore,
 }
 
-// A store of which no call fails.
-fn empty(alloc: Global) -> MemStore {
+/// A store of which no call fails.
+pub fn empty(alloc: Global) -> MemStore {
     let failing = StoreFailing {
         gets: Failing::new(Vec::new(alloc)),
         puts: Failing::new(Vec::new(alloc)),
@@ -110,8 +110,8 @@ impl Shelf {
     }
 }
 
-// What is at hand.
-fn found(alloc: Global, catalog: &Catalog, store: &mut MemStore) -> Result<Evidence, Fault>
+/// What is at hand.
+pub fn found(alloc: Global, catalog: &Catalog, store: &mut MemStore) -> Result<Evidence, Fault>
     requires { HasDatabase catalog.now }
     ensures { IfOk result (λ e. FitsTree (nodes catalog.now) e) }
 {

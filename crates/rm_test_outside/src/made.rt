@@ -1,8 +1,8 @@
 //! Records of each kind.
-use rm_base::{Kind, NoMemory, Policy, Status, Text};
+use rm_base::{Kind, NoMemory, Policy, Seq, Status, Text};
 use rm_catalog::{
     BaseEntry, DatafileEntry, Edit, HeadEntry, IncarnationEntry, LogEntry, MarkEntry, PartEntry,
-    PieceEntry, Record,
+    PieceEntry, Record, SetEntry, SetPart,
 };
 use std::alloc::Global;
 
@@ -22,6 +22,9 @@ const LOGS: [(u32, bool, Status); 3] = [
     (6, false, Status::Unavailable),
     (7, true, Status::Expired),
 ];
+
+// The sets: their id, their status, and how many parts they have.
+const SETS: [(u32, Status, u32); 2] = [(10, Status::Available, 1), (11, Status::Expired, 3)];
 
 /// The base facts.
 pub fn base(next_id: u32, policy: Policy) -> Record {
@@ -121,6 +124,38 @@ fn part(id: u32, file: u32, thread: u8) -> Record {
     })
 }
 
+// A part of a set: a level 1 of an odd datafile, and else a full one.
+fn set_part(file: u32) -> SetPart {
+    let is_level1 = file % 2 == 1;
+    SetPart {
+        file,
+        kind: if is_level1 { Kind::Level1 } else { Kind::Full },
+        from: if is_level1 { 3 } else { 0 },
+        high: 281_474_976_710_655,
+        rows: file,
+    }
+}
+
+/// A set of so many datafiles.
+pub fn set(alloc: Global, id: u32, status: Status, files: u32) -> Result<Record, NoMemory> {
+    let mut parts = Seq::new(alloc);
+    for file in 1..=files {
+        parts.push(set_part(file))?;
+    }
+    Ok(Record::Set(SetEntry {
+        id,
+        inc: 1,
+        checkpoint: 5,
+        parts,
+        size: 268_435_456,
+        sha: [205; 32],
+        status,
+        keep: id == 11,
+        tag: tag(alloc, id)?,
+        moment: 50,
+    }))
+}
+
 /// Where the database stood.
 pub fn head() -> Record {
     Record::Head(HeadEntry {
@@ -152,7 +187,15 @@ fn put_logs(edits: &mut Vec<Edit>) -> Result<(), NoMemory> {
     Ok(())
 }
 
-/// Puts of records of each kind: each kind of piece, each status, and tags of 0 to 30 letters.
+fn put_sets(alloc: Global, edits: &mut Vec<Edit>) -> Result<(), NoMemory> {
+    for (id, status, files) in SETS {
+        edits.push(Edit::Put(set(alloc, id, status, files)?))?;
+    }
+    Ok(())
+}
+
+/// Puts of records of each kind: each kind of piece, each status, tags of 0 to 30 letters, and sets of one
+/// datafile and of three.
 pub fn all(alloc: Global) -> Result<Vec<Edit>, NoMemory> {
     let mut edits = one(alloc, base(14, Policy::Redundancy(1)))?;
     edits.push(Edit::Put(incarnation()))?;
@@ -163,5 +206,6 @@ pub fn all(alloc: Global) -> Result<Vec<Edit>, NoMemory> {
     edits.push(Edit::Put(part(12, 1, 0)))?;
     edits.push(Edit::Put(part(13, 0, 1)))?;
     edits.push(Edit::Put(head()))?;
+    put_sets(alloc, &mut edits)?;
     Ok(edits)
 }

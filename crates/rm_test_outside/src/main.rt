@@ -1,6 +1,7 @@
 //! Tries the keeper over a file and the store over a directory on real files, in the folder where it runs.
 //! With no word it tells what each call answered. With words it does one thing, for the scripts under
-//! bench: what, where, how often, and the name of an object.
+//! bench: what, where, how often, and the name of an object. The catalog among its data was made by the
+//! script beside it when there were no backup sets yet.
 #![tactic(auto)]
 
 mod asked;

@@ -1,7 +1,7 @@
 //! Records that go into a file and come back.
 use crate::files::{Files, Opens};
 use crate::made;
-use rm_base::{NoMemory, Policy};
+use rm_base::{NoMemory, Policy, Status};
 use rm_catalog::{Edit, Keeper, KeeperFail, Key, Record};
 use rm_catalog_bytes::encode_record;
 use std::alloc::Global;
@@ -132,7 +132,25 @@ fn unclosed_session<O: Opens>(rt: &HostRuntime, files: &O, path: &str) -> io::Re
     policies(rt, &mut keeper)
 }
 
-/// All kinds through one file in three sessions, and each policy through another in two.
+// A set.
+fn a_set(alloc: Global) -> Result<Vec<Edit>, NoMemory> {
+    made::one(alloc, made::set(alloc, 12, Status::Available, 2)?)
+}
+
+// A catalog from before there were sets is read, stays as it was, and then takes one.
+fn older_session<O: Opens>(rt: &HostRuntime, files: &O, path: &str) -> io::Result<()> {
+    let before = fs::read(rt, path)?;
+    last_session(rt, files, path)?;
+    let after = fs::read(rt, path)?;
+    rt.println(format_args!("as it was {}", before == after))?;
+    let mut keeper = files.open(path);
+    rt.println(word_of(apply(&mut keeper, a_set(rt.alloc()))))?;
+    close(rt, files, keeper)?;
+    last_session(rt, files, path)
+}
+
+/// All kinds through one file in three sessions, each policy through another in two, and a file that an older
+/// program made.
 pub fn run(rt: &HostRuntime) -> io::Result<()> {
     let files = Files { rt };
     clear(rt, "records.db")?;
@@ -142,5 +160,6 @@ pub fn run(rt: &HostRuntime) -> io::Result<()> {
     clear(rt, "records.db")?;
     unclosed_session(rt, &files, "records.db")?;
     last_session(rt, &files, "records.db")?;
-    clear(rt, "records.db")
+    clear(rt, "records.db")?;
+    older_session(rt, &files, "old.catalog")
 }

@@ -12,7 +12,7 @@ const TABLE: &str =
     "CREATE TABLE record (number INTEGER NOT NULL, kind INTEGER NOT NULL, id INTEGER NOT NULL, body BLOB NOT NULL, PRIMARY KEY (number, kind, id));";
 
 // What a row is called, and its values.
-const ROWS: [(&str, &str); 13] = [
+const ROWS: [(&str, &str); 17] = [
     (
         "a head",
         "INSERT INTO record VALUES (0, 8, 0, x'00000000010000000000000005')",
@@ -61,6 +61,22 @@ const ROWS: [(&str, &str); 13] = [
     (
         "a tag of 0 that has a letter",
         "INSERT INTO record VALUES (0, 5, 1, x'00020000000100000001000000000000000000000000000000030000000000000003000000020000000010000000ffffffffffffffffffffffffffffffffffffffffffffffffffffffffffffffff01000000000000000000540000000000000032')",
+    ),
+    (
+        "a set",
+        "INSERT INTO record VALUES (0, 9, 1, x'00000001000000000000000500000000000000010000000101000000000000000000000000000000050000000200000000000000c8ffffffffffffffffffffffffffffffffffffffffffffffffffffffffffffffff01000000000000000001540000000000000032')",
+    ),
+    (
+        "a set of 2^60 parts",
+        "INSERT INTO record VALUES (0, 9, 1, x'00000001000000000000000510000000000000000000000101000000000000000000000000000000050000000200000000000000c8ffffffffffffffffffffffffffffffffffffffffffffffffffffffffffffffff01000000000000000001540000000000000032')",
+    ),
+    (
+        "a set with a part of kind 5",
+        "INSERT INTO record VALUES (0, 9, 1, x'00000001000000000000000500000000000000010000000105000000000000000000000000000000050000000200000000000000c8ffffffffffffffffffffffffffffffffffffffffffffffffffffffffffffffff01000000000000000001540000000000000032')",
+    ),
+    (
+        "a set with a byte too many",
+        "INSERT INTO record VALUES (0, 9, 1, x'00000001000000000000000500000000000000010000000101000000000000000000000000000000050000000200000000000000c8ffffffffffffffffffffffffffffffffffffffffffffffffffffffffffffffff0100000000000000000154000000000000003200')",
     ),
 ];
 
