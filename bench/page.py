@@ -38,6 +38,8 @@ TABLES = [
      r"^(a level 1 of \d+ blocks of which \d+ changed|a WRITE, of \d+): ([\d,.]+) thousand with tracking, ([\d,.]+) without: ([\d.]+)", list),
     ("Mending beside a restore, in instructions", "", ["What", "Millions", "RESTORE and RECOVER", "Of it"],
      r"^(mending \d+ of \d+ blocks): ([\d,]+) million instructions; RESTORE and RECOVER: ([\d,]+) million; ([\d.]+)", list),
+    ("BACKUP as pieces and as sets", "64 datafiles of 1,024 blocks, of which a hundredth was written.", ["As", "Bytes of the objects", "ms"],
+     r"^backup of 64 datafiles of 1024 blocks, a hundredth written, as (pieces|sets of 8): ([\d,]+) bytes, (\d+) ms", list),
     ("WRITE over many records", "10,000 WRITEs. Wanted: the same within a fifth.", ["Over no log, ms", "Over 16,000 logs, ms", "Second / first"],
      r"^writes: 10000 WRITEs over no log (\d+) us, over 16000 logs (\d+) us, second / first (\d+) %", lambda g: [ms(g[0]), ms(g[1]), f"{g[2]} %"]),
     ("Opening a catalog", "Wanted: n log n, which is 213 %.", ["32,768 records, ms", "65,536, ms", "Second / first"],

@@ -3,7 +3,7 @@
 #     bench/run.sh [PROGRAM [KERNELS]] | tee LINES | bench/page.py
 # PROGRAM is the program as it was built (./rman), and KERNELS rm_bench, which is proved and built where it is not named. First come the
 # kernels beside plain loops, the bytes of pieces and logs beside SHA-256 alone, gathering and planning, turns of a live database and
-# its copies by channels; then sha256sum alone, and what PROGRAM takes: scripts.sh, growth.sh, sessions.sh and drill.py in time, level1.py
+# its copies by channels; then sha256sum alone, and what PROGRAM takes: scripts.sh, growth.sh, sessions.sh, drill.py and sets.py in time, level1.py
 # and mending.py in instructions (of a program as it was built; they want valgrind). It takes some ten minutes.
 set -eu
 cd "$(dirname "$0")/.."
@@ -33,6 +33,7 @@ bench/scripts.sh "$program"
 bench/growth.sh "$program"
 bench/sessions.sh "$program"
 bench/drill.py 0 "$program"
+bench/sets.py --figures "$program"
 if [ "$program" != ./rman ] && command -v valgrind > /dev/null; then
     bench/level1.py "$program"
     bench/mending.py --figures "$program"
