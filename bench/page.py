@@ -53,11 +53,29 @@ TABLES = [
      r"^drill 7 by (\d+) channels: ([\d.]+) s, peak memory so far (\d+) MB", list),
 ]
 
+# Of the tables whose rows stand beside no other figure, the column that is told in percent of the first row's.
+BESIDE_FIRST = {
+    "Planning beside gathering": 3,
+    "RECOVER from more and more logs": 1,
+    "RECOVER and RECOVER COPY from more and more level 1s": 1,
+    "BACKUP as pieces and as sets": 2,
+    "Scripts that are read": 2,
+    "The drill": 1,
+}
+
+
+def beside_first(rows, column):
+    """Adds to each row its figure in percent of the first row's."""
+    figures = [float(row[column].replace(",", "")) for row in rows]
+    return [[*row, f"{100 * figure / figures[0]:.0f} %"] for row, figure in zip(rows, figures)]
+
 
 def main():
     text = sys.stdin.read()
     for subject, wanted, columns, form, row in TABLES:
-        rows = [row(match.groups()) for match in re.finditer(form, text, re.MULTILINE)]
+        rows = [list(row(match.groups())) for match in re.finditer(form, text, re.MULTILINE)]
+        if rows and subject in BESIDE_FIRST:
+            columns, rows = [*columns, "Of the first"], beside_first(rows, BESIDE_FIRST[subject])
         if rows:
             print(f"### {subject}\n\n{wanted + chr(10) * 2 if wanted else ''}| {' | '.join(columns)} |\n|{'---|' * len(columns)}")
             print("".join(f"| {' | '.join(cells)} |\n" for cells in rows))
