@@ -24,7 +24,7 @@ pub use mem_store::{MemClock, MemStore, StoreFailing};
 pub use memory::{Failing, MemSink, MemSource};
 pub use numbers::{BlockNo, FileNo, IncNo, LAST_MOMENT, LAST_SCN, Moment, Scn, ThreadNo};
 pub use outside::{Sink, Source};
-pub use refusal::{Absent, Limit, Refusal, Unknown};
+pub use refusal::{Absent, Limit, Refusal, ThreadState, Unknown};
 pub use seq::Seq;
 pub use store::{Clock, Store, StoreFail};
 pub use text::Text;

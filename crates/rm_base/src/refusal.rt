@@ -1,5 +1,5 @@
 //! Why a statement is refused. A refusal is one line of the reply, and changes nothing.
-use crate::numbers::{BlockNo, FileNo, IncNo, Moment, Scn};
+use crate::numbers::{BlockNo, FileNo, IncNo, Moment, Scn, ThreadNo};
 use crate::text::Text;
 
 /// A limit of the database.
@@ -26,6 +26,15 @@ pub enum Absent {
     Thread(u64),
     File(u64),
     Block { block: u64, file: u64 },
+}
+
+/// How a redo thread is, where it can't be switched as asked.
+#[derive(Clone, Copy, PartialEq, Eq)]
+pub enum ThreadState {
+    Enabled,
+    Disabled,
+    /// It is the only one that is enabled.
+    Last,
 }
 
 /// A record, a tag, a log, an object or a byte that is not there.
@@ -92,6 +101,11 @@ pub enum Refusal {
     },
     /// No SCN is left.
     Rm15,
+    /// The thread is enabled, is disabled or is the last one, and so it is not switched.
+    Rm16 {
+        thread: ThreadNo,
+        state: ThreadState,
+    },
     /// The block, which is needed in place, is damaged.
     Rm17 {
         file: FileNo,
