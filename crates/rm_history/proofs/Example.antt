@@ -1,19 +1,21 @@
 -- The premises of the laws can be met.
-use Rattle.std.proofs.Common.{rules, Bool, true, false, cond, Option, zero, suc, ◌-◌, ◌==◌, nat_lt, eqb, slice_get, ◌≡◌, ◌<◌, ◌≤◌, inl, inr, ℕ, [], ◌∷◌, ◌++◌, Some, None, refl, sym, subst, arith, Contains}
-use Rattle.std.proofs.lemmas.Bool.{and_from, lt-ltb, eq-eqb}
+use Rattle.std.proofs.Common.{rules, Bool, true, false, cond, Option, zero, suc, ◌-◌, ◌==◌, nat_lt, eqb, slice_get, ◌≡◌, ◌<◌, ◌≤◌, ◌∙◌, inl, inr, ℕ, [], ◌∷◌, ◌++◌, Some, None, refl, sym, subst, arith, Contains}
+use Rattle.std.proofs.lemmas.Bool.{and_from, le-leb, lt-ltb, eq-eqb}
 use Rattle.std.proofs.lemmas.Grind.{common_steps}
 use Rattle.rm_base.specs.Content.{padded, zero_block}
 use Rattle.rm_base.specs.declared.block.Block.{Block}
 use Rattle.rm_base.specs.declared.block.Change.{Change}
 use Rattle.rm_base.specs.declared.block.Row.{Row}
 use Rattle.rm_history.specs.declared.world.Datafile.{Datafile}
+use Rattle.rm_history.specs.Threads.{IsEnabled}
 use Rattle.rm_history.specs.Tree.{IsTree, owner, parent_of, reset_of}
-use Rattle.rm_history.specs.World.{file_of, IsThread}
+use Rattle.rm_history.specs.World.{file_of}
 use Rattle.rm_history.specs.History.{IsChange, IsHistory}
 use Rattle.rm_history.specs.Agrees.{IsRow, BaseAgrees, LogAgrees}
 use Rattle.rm_history.proofs.Histories.{IsHistory-push_above}
 use Rattle.rm_base.proofs.Members.{in-front, none-in, first-or-rest}
 use Rattle.rm_history.proofs.Owners.{owner-first}
+use Rattle.rm_history.proofs.Enabled.{unswitched}
 use Rattle.rm_history.specs.Evidence.{Agrees}
 use Rattle.rm_history.specs.Known.{HasRow, in_base, in_level1, Seen, by_row, by_log, by_creation, Quiet, by_absence, by_logs, IsGreatest, Determined}
 use Rattle.rm_history.specs.FirstGap.{IsTarget, HasGap, IsFirstGap}
@@ -60,9 +62,13 @@ world-is = record {
   files = λ f d is. subst (λ (x : Datafile). reset_of world.tree x.inc ≤ x.creation) (file-is f d is) (omega arith);
 }
 
-is-change : (t g x : ℕ) → IsThread world t → 1 < g → IsChange world (change t g x)
+-- no thread is switched, so its two threads are enabled everywhere
+enabled : (m g t : ℕ) → 0 < t → t ≤ 2 → IsEnabled world m g t
+enabled m g t some low = record { number = (some, omega arith); on = unswitched world.tree 2 m g t ∙ le-leb t 2 low }
+
+is-change : (t g x : ℕ) → (0 < t) × (t ≤ 2) → 1 < g → IsChange world (change t g x)
 is-change t g x thread late = record {
-  thread = thread;
+  thread = enabled 1 g t thread.0 thread.1;
   there = (omega arith, omega arith);
   begun = omega (arith, late);
   datafile = file;
@@ -141,7 +147,7 @@ not-quiet : ¬ Quiet world evidence 1 0 1 3
 not-quiet (by_row j k r has low before owned) = let at = (row-first j k r has).1 in omega (arith, at, before)
 not-quiet (by_absence a level1 file absent from before owned) = none-in a level1
 not-quiet (by_logs each none) =
-    let has = each 2 (omega arith, omega arith) in
+    let has = each 2 (enabled 1 3 2 (omega arith) (omega arith)) in
     only (λ a. ¬ (a.thread ≡ 2)) log (λ is. absurd (omega arith)) has.log has.holds.log has.thread
 
 pub gap : HasGap world evidence 1 4 1 0 1 3

@@ -7,8 +7,8 @@ use Rattle.rm_base.specs.declared.block.Block.{Block}
 use Rattle.rm_base.specs.declared.block.Change.{Change}
 use Rattle.rm_history.specs.declared.world.World.{World}
 use Rattle.rm_history.specs.Artefacts.{Log}
+use Rattle.rm_history.specs.Threads.{IsEnabled}
 use Rattle.rm_history.specs.Tree.{IsThere, owner, reset_of}
-use Rattle.rm_history.specs.World.{IsThread}
 use Rattle.rm_history.specs.History.{IsChange, IsHistory, SamePlace}
 use Rattle.rm_history.specs.State.{concerns}
 use Rattle.rm_history.specs.Agrees.{is_of}
@@ -16,6 +16,7 @@ use Rattle.rm_history.proofs.Growth.{state-push_top}
 use Rattle.rm_history.proofs.Histories.{IsHistory-push}
 use Rattle.rm_history.proofs.Owners.{owner-there, owner-begun, owner-owner}
 use Rattle.rm_history.proofs.States.{concerns-from}
+use Rattle.rm_history.proofs.Enabled.{enabled-or-not}
 use Rattle.rm_history.specs.Evidence.{Evidence, Agrees}
 use Rattle.rm_history.specs.Known.{HasChange, Seen, by_log, by_creation, Holds, HasLog, Quiet, by_logs, IsGap}
 use Rattle.rm_history.specs.FirstGap.{IsTarget}
@@ -52,28 +53,45 @@ module _ (w : World) (e : Evidence) (i s f b v m g : ℕ) (gap : IsGap w e i s f
       let holds = has.holds in
       is_of-from has.log (new t x) (record { inc = sym holds.inc; thread = sym has.thread; first = holds.first; next = holds.next })
 
-  -- each of the first n threads has a log there, or one lacks it
-  all-or-one : (n : ℕ) → ((t : ℕ) → 0 < t → t ≤ n → HasLog e m g t) ⊎ ((t : ℕ) × (0 < t) × (t ≤ n) × ¬ HasLog e m g t)
-  all-or-one zero = inl (λ t up low. absurd (omega arith))
+  -- a thread has a log there, or lacks it
+  log-or-none : (t : ℕ) → HasLog e m g t ⊎ ¬ HasLog e m g t
+  log-or-none t = elim (find_passing (λ a. is_of a (new t zero_block)) e.logs) [
+    | inl found ↦ inl (log-held t zero_block found.0 found.1 found.2)
+    | inr none ↦ inr (λ has. none has.log has.holds.log (held-log t zero_block has))
+  ]
+
+  -- it is enabled there and lacks one, or not
+  lacks-or-not : (t : ℕ) → LacksLog w e m g t ⊎ (IsEnabled w m g t → HasLog e m g t)
+  lacks-or-not t = elim (log-or-none t) [
+    | inl has ↦ inr (λ is. has)
+    | inr none ↦ elim (enabled-or-not w m g t) [
+      | inl is ↦ inl (record { thread = is; no_log = none })
+      | inr not ↦ inr (λ is. absurd (not is))
+    ]
+  ]
+
+  -- each of the first n threads that is enabled there has a log, or one lacks it
+  all-or-one : (n : ℕ) → ((t : ℕ) → t ≤ n → IsEnabled w m g t → HasLog e m g t) ⊎ ((t : ℕ) × LacksLog w e m g t)
+  all-or-one zero = inl (λ t low is. let some = is.number.0 in absurd (omega (arith, some)))
   all-or-one (suc n) = elim (all-or-one n) [
-    | inr one ↦ let low = one.2 in inr (one.0, one.1, omega (arith, low), one.3)
-    | inl all ↦ elim (find_passing (λ a. is_of a (new (suc n) zero_block)) e.logs) [
-      | inr none ↦ inr (suc n, omega arith, omega arith, λ has. none has.log has.holds.log (held-log (suc n) zero_block has))
-      | inl found ↦ inl (λ t up low. elim (cases_lt t (suc n)) [
-        | inl less ↦ all t up (omega arith)
+    | inr one ↦ inr one
+    | inl all ↦ elim (lacks-or-not (suc n)) [
+      | inl lacks ↦ inr (suc n, lacks)
+      | inr has ↦ inl (λ t low is. elim (cases_lt t (suc n)) [
+        | inl less ↦ all t (omega arith) is
         | inr most ↦
             let last : suc n ≡ t = omega arith in
-            subst (HasLog e m g) last (log-held (suc n) zero_block found.0 found.1 found.2)
+            subst (λ k. IsEnabled w m g k → HasLog e m g k) last has is
       ])
     ]
   ]
 
   someone : (t : ℕ) × LacksLog w e m g t
-  someone = elim (all-or-one w.threads) [
+  someone = elim (all-or-one 4) [
     | inl all ↦
-        let quiet : Quiet w e f b m g = by_logs (λ t is. all t is.0 is.1) none-listed in
+        let quiet : Quiet w e f b m g = by_logs (λ t is. all t is.number.1 is) none-listed in
         absurd (gap.unknown quiet)
-    | inr one ↦ (one.0, record { thread = (one.1, one.2); no_log = one.3 })
+    | inr one ↦ one
   ]
 
   -- a change by a thread that lacks the log is of no log
@@ -111,7 +129,7 @@ module _ (w : World) (e : Evidence) (i s f b v m g : ℕ) (gap : IsGap w e i s f
           omega (arith, low, created-below)
     ]
 
-    new-change : (t : ℕ) (x : Block) → IsThread w t → IsChange w (new t x)
+    new-change : (t : ℕ) (x : Block) → IsEnabled w m g t → IsChange w (new t x)
     new-change t x thread = record {
       thread = thread;
       there = subst (IsThere w.tree) gap.owned (owner-there w.tree world.tree.parents i g target.there);

@@ -4,12 +4,15 @@ use Rattle.std.proofs.lemmas.List.Elements.{All-contains, Contains-get_or, Conta
 use Rattle.std.proofs.lemmas.List.Quantifiers.{all_pairs_push}
 use Rattle.rm_base.specs.declared.block.Change.{Change}
 use Rattle.rm_history.specs.declared.world.Datafile.{Datafile}
+use Rattle.rm_history.specs.declared.world.Switch.{Switch}
 use Rattle.rm_history.specs.declared.world.World.{World}
 use Rattle.rm_history.specs.Tree.{IsThere, with_end}
-use Rattle.rm_history.specs.World.{file_of, with_tree, with_file}
+use Rattle.rm_history.specs.Threads.{applies}
+use Rattle.rm_history.specs.World.{file_of, with_tree, with_file, with_switch}
 use Rattle.rm_history.specs.History.{IsChange, IsHistory, SamePlace}
 use Rattle.rm_history.specs.State.{concerns, later, latest, row_of, state}
 use Rattle.rm_history.proofs.Ends.{owner-with_end, reset_of-with_end, IsThere-with_end}
+use Rattle.rm_history.proofs.Enabled.{IsEnabled-with_switch, IsEnabled-with_tree}
 
 -- the database with another end of an incarnation
 abbrev pub world-with_end : World → ℕ → ℕ → World
@@ -35,7 +38,7 @@ file_of-with_file w new d f is =
 
 pub IsChange-with_end : (w : World) (j end : ℕ) (c : Change) → IsThere w.tree j → IsChange w c → IsChange (world-with_end w j end) c
 IsChange-with_end w j end c there is = record {
-  thread = is.thread;
+  thread = IsEnabled-with_tree w (with_end w.tree j end) c.inc c.scn c.thread (λ g low. owner-with_end w.tree j end c.inc g there) is.thread;
   there = IsThere-with_end w.tree j end c.inc is.there;
   begun = subst (λ r. r ≤ c.scn) (sym (reset_of-with_end w.tree j end c.inc there)) is.begun;
   datafile = is.datafile;
@@ -47,11 +50,24 @@ IsChange-with_end w j end c there is = record {
 
 pub IsChange-with_file : (w : World) (new : Datafile) (c : Change) → IsChange w c → IsChange (world-with_file w new) c
 IsChange-with_file w new c is = record {
-  thread = is.thread;
+  thread = record { number = is.thread.number; on = is.thread.on };
   there = is.there;
   begun = is.begun;
   datafile = is.datafile;
   is = file_of-with_file w new is.datafile c.file is.is;
+  created = is.created;
+  owned = is.owned;
+  block = is.block;
+}
+
+-- a change stays one where a switch more does not apply at it
+pub IsChange-with_switch : (w : World) (x : Switch) (c : Change) → applies w.tree c.inc c.scn c.thread x ≡ false → IsChange w c → IsChange (with_switch w x) c
+IsChange-with_switch w x c other is = record {
+  thread = IsEnabled-with_switch w x c.inc c.scn c.thread other is.thread;
+  there = is.there;
+  begun = is.begun;
+  datafile = is.datafile;
+  is = is.is;
   created = is.created;
   owned = is.owned;
   block = is.block;
@@ -68,6 +84,13 @@ IsHistory-with_end w j end h there is = record {
 pub IsHistory-with_file : (w : World) (new : Datafile) (h : List Change) → IsHistory w h → IsHistory (world-with_file w new) h
 IsHistory-with_file w new h is = record {
   changes = λ c held. IsChange-with_file w new c (is.changes c held);
+  apart = is.apart;
+}
+
+-- and where a thread is switched at none of its changes
+pub IsHistory-with_switch : (w : World) (x : Switch) (h : List Change) → ((c : Change) → Contains h c → applies w.tree c.inc c.scn c.thread x ≡ false) → IsHistory w h → IsHistory (with_switch w x) h
+IsHistory-with_switch w x h other is = record {
+  changes = λ c held. IsChange-with_switch w x c (other c held) (is.changes c held);
   apart = is.apart;
 }
 

@@ -5,6 +5,7 @@ pub mod Ends
 pub mod Example
 pub mod Facts
 pub mod Gaps
+pub mod Gone
 pub mod Growth
 pub mod Highs
 pub mod Histories
@@ -19,5 +20,7 @@ pub mod Segments
 pub mod Shared
 pub mod Sound
 pub mod States
+pub mod Switches
 pub mod Unquiet
+pub mod Enabled
 pub mod Worlds

@@ -5,6 +5,7 @@ use Rattle.rm_base.specs.declared.block.Block.{Block}
 use Rattle.rm_base.specs.declared.block.Change.{Change}
 use Rattle.rm_base.specs.declared.block.Row.{Row}
 use Rattle.rm_history.specs.declared.world.World.{World}
+use Rattle.rm_history.specs.Threads.{IsEnabled}
 use Rattle.rm_history.specs.Tree.{owner}
 use Rattle.rm_history.specs.World.{blocks_of}
 use Rattle.rm_history.specs.History.{IsHistory}
@@ -76,7 +77,8 @@ module _ (w : World) (h : List Change) (e : Evidence) (agrees : Agrees w h e) wh
       let most : c.scn ≤ (state w h a.inc is.position a.file b).version = (state-held w h a.inc is.position a.file b).top c held concerned in
       omega (arith, most, below, here, from)
   quiet-still f b m g history inside (by_logs each none) c held at =
-      let has = each c.thread (history.changes c held).thread in
+      let is : IsEnabled w m g c.thread = subst (λ k. IsEnabled w m k c.thread) at.scn (subst (λ k. IsEnabled w k c.scn c.thread) at.inc (history.changes c held).thread) in
+      let has = each c.thread is in
       let a = has.log in
       let holds = has.holds in
       let here = at.scn in

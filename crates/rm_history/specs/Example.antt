@@ -1,9 +1,11 @@
 -- A database of two threads, one of which lost its log.
-use Rattle.std.specs.Prelude.{ℕ, List, [], ◌∷◌}
+use Rattle.std.specs.Prelude.{ℕ, List, [], ◌∷◌, false}
 use Rattle.rm_base.specs.Content.{padded, zero_block}
 use Rattle.rm_base.specs.declared.block.Change.{Change}
+use Rattle.rm_history.specs.declared.world.Switch.{Switch}
 use Rattle.rm_history.specs.declared.world.World.{World}
 use Rattle.rm_history.specs.Artefacts.{Base, Log}
+use Rattle.rm_history.specs.World.{with_switch}
 use Rattle.rm_history.specs.Evidence.{Evidence}
 
 -- one incarnation from SCN 1 on, two threads, and a file of one block, created at 1
@@ -11,6 +13,7 @@ abbrev pub world : World
 world = record {
   tree = record { parent = 0; reset = 1; end = 5 } ∷ [];
   threads = 2;
+  switches = [];
   files = record { inc = 1; creation = 1; blocks = 1 } ∷ [];
 }
 
@@ -33,3 +36,19 @@ log = record { inc = 1; thread = 1; sequence = 1; first = 1; next = 5; changes =
 -- the copy and that log are at hand, and no log of thread 2
 abbrev pub evidence : Evidence
 evidence = record { bases = copy ∷ []; level1s = []; logs = log ∷ [] }
+
+-- thread 2 is disabled at 4
+abbrev pub disabled : Switch
+disabled = record { thread = 2; inc = 1; scn = 4; on = false }
+
+-- the same database, where it went
+abbrev pub smaller : World
+smaller = with_switch world disabled
+
+-- its last log, which ends there
+abbrev pub last_log : Log
+last_log = record { inc = 1; thread = 2; sequence = 1; first = 1; next = 4; changes = change 2 3 66 ∷ [] }
+
+-- both logs are at hand
+abbrev pub whole : Evidence
+whole = record { bases = copy ∷ []; level1s = []; logs = log ∷ last_log ∷ [] }

@@ -3,12 +3,14 @@ use Rattle.std.specs.Prelude.{◌≡◌, ◌<◌, ◌≤◌, ◌↔◌, Some, Li
 use Rattle.rm_base.specs.declared.block.Change.{Change}
 use Rattle.rm_history.specs.declared.world.Datafile.{Datafile}
 use Rattle.rm_history.specs.declared.world.World.{World}
+use Rattle.rm_history.specs.Threads.{IsEnabled}
 use Rattle.rm_history.specs.Tree.{IsThere, reset_of, owner}
-use Rattle.rm_history.specs.World.{file_of, IsThread}
+use Rattle.rm_history.specs.World.{file_of}
 
 -- a change that a history of the database may have
 pub record IsChange (w : World) (c : Change) : Type 0 where
-  pub thread : IsThread w c.thread
+  -- its thread is enabled at its address
+  pub thread : IsEnabled w c.inc c.scn c.thread
   pub there : IsThere w.tree c.inc
   -- its SCN is at or above its incarnation's resetlogs SCN
   pub begun : reset_of w.tree c.inc ≤ c.scn

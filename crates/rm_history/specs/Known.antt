@@ -8,8 +8,9 @@ use Rattle.rm_history.specs.declared.world.Datafile.{Datafile}
 use Rattle.rm_history.specs.declared.world.World.{World}
 use Rattle.rm_history.specs.Agrees.{lists}
 use Rattle.rm_history.specs.Artefacts.{Base, Level1, Log}
+use Rattle.rm_history.specs.Threads.{IsEnabled}
 use Rattle.rm_history.specs.Tree.{owner}
-use Rattle.rm_history.specs.World.{file_of, IsThread}
+use Rattle.rm_history.specs.World.{file_of}
 use Rattle.rm_history.specs.Evidence.{Evidence}
 
 -- a row of block b of file f, in an artefact of this incarnation and checkpoint
@@ -45,12 +46,12 @@ pub record HasLog (e : Evidence) (m g t : ℕ) : Type 0 where
   pub thread : log.thread ≡ t
 
 -- The block did not change at (m, g): a row has it at a lower version with a later checkpoint, or a
--- level 1 that looked for it does not list it, or each thread has a log that holds the address and
--- none of these tells of it.
+-- level 1 that looked for it does not list it, or each thread that is enabled there has a log that holds
+-- the address and none of these tells of it.
 pub data Quiet (w : World) (e : Evidence) (f b m g : ℕ) : Type 0 where
   by_row : (j c : ℕ) (r : Row) → HasRow e f b j c r → r.version < g → g < c → owner w.tree j g ≡ m → Quiet w e f b m g
   by_absence : (a : Level1) → Contains e.level1s a → a.file ≡ f → lists a.rows b ≡ false → a.from ≤ g → g < a.checkpoint → owner w.tree a.inc g ≡ m → Quiet w e f b m g
-  by_logs : ((t : ℕ) → IsThread w t → HasLog e m g t) → ((a : Log) (c : Change) → Holds e m g a → HasChange e f b a c → ¬ (c.scn ≡ g)) → Quiet w e f b m g
+  by_logs : ((t : ℕ) → IsEnabled w m g t → HasLog e m g t) → ((a : Log) (c : Change) → Holds e m g a → HasChange e f b a c → ¬ (c.scn ≡ g)) → Quiet w e f b m g
 
 -- v is the greatest version below s at which the block is seen on the path of i
 pub record IsGreatest (w : World) (e : Evidence) (i s f b v : ℕ) : Type 0 where

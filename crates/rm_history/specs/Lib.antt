@@ -7,6 +7,7 @@ pub mod Growth
 pub mod History
 pub mod Known
 pub mod State
+pub mod Threads
 pub mod Tree
 pub mod Unknown
 pub mod World

@@ -6,8 +6,9 @@ use Rattle.rm_history.specs.declared.world.Datafile.{Datafile}
 use Rattle.rm_history.specs.declared.world.World.{World}
 use Rattle.rm_history.specs.History.{IsHistory, SameChanges}
 use Rattle.rm_history.specs.State.{concerns, state}
+use Rattle.rm_history.specs.Threads.{IsEnabled}
 use Rattle.rm_history.specs.Tree.{IsTree, reset_of}
-use Rattle.rm_history.specs.World.{file_of, IsThread}
+use Rattle.rm_history.specs.World.{file_of}
 use Rattle.rm_history.specs.Evidence.{Evidence, Agrees, AgreesInAnyOrder}
 use Rattle.rm_history.specs.Known.{HasLog}
 use Rattle.rm_history.specs.FirstGap.{HasGap}
@@ -36,13 +37,13 @@ pub record IsPossible (w : World) (e : Evidence) (i s f b : ℕ) (k : List Chang
   pub agrees : Agrees w k e
   pub state_is : state w k i s f b ≡ record { block = b; version = v; content = x }
 
--- the thread is one of the database, and no log of it holds (m, g)
+-- the thread is enabled at (m, g), and no log of it holds that address
 pub record LacksLog (w : World) (e : Evidence) (m g t : ℕ) : Type 0 where
-  pub thread : IsThread w t
+  pub thread : IsEnabled w m g t
   pub no_log : ¬ HasLog e m g t
 
 -- Nothing more could be known of the block: it may be at version v, and it may be at version g with
--- any content, changed there by any thread whose log is not at hand. There is such a thread.
+-- any content, changed there by any thread that is enabled and whose log is not at hand. There is such a thread.
 pub record CouldBe (w : World) (h : List Change) (e : Evidence) (i s f b v m g : ℕ) (old : Block) : Type 0 where
   pub first : IsPossible w e i s f b (without w h i s f b v) v old
   pub second : (t : ℕ) → LacksLog w e m g t → (x : Block) → IsPossible w e i s f b (changed w h i s f b v m g t x) g x

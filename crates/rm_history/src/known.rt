@@ -12,7 +12,7 @@ ghost use Rattle.rm_history.specs.Known.{Determined};
 ghost use Rattle.rm_history.specs.FirstGap.{IsTarget, IsDetermined, HasGap, IsRecoverable, IsFirstGap};
 ghost use Rattle.rm_history.specs.Unknown.{IsWorld, IsKnown, IsKnownInAnyOrder, IsOrdered, IsUnknown, IsUnknownInAnyOrder};
 ghost use Rattle.rm_history.specs.Growth.{IsPast};
-ghost use Rattle.rm_history.specs.Example.{world, change, history, evidence};
+ghost use Rattle.rm_history.specs.Example.{world, change, history, evidence, smaller, whole};
 
 /// What is determined is so in every history that agrees with the evidence.
 pub fn told_is_true()
@@ -67,4 +67,13 @@ pub fn the_premises_can_be_met()
     ensures first { IsFirstGap world evidence 1 4 1 0 1 3 }
     ensures longer { IsHistory world (history ++ change 2 4 67 ∷ []) }
     ensures past { IsPast world evidence (change 2 4 67) }
+{}
+
+/// Where a thread went, no log of it is asked for: the block is determined until SCN 5, though no log of thread 2
+/// holds 4.
+pub fn a_thread_that_went_needs_no_log()
+    ensures history { IsHistory smaller history }
+    ensures agrees { Agrees smaller history whole }
+    ensures target { IsTarget smaller 1 5 1 0 }
+    ensures told { Determined smaller whole 1 5 1 0 3 (padded (66 ∷ [])) }
 {}

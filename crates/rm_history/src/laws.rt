@@ -5,9 +5,11 @@ ghost use Rattle.rm_base.specs.declared.block.Row.{Row};
 ghost use Rattle.rm_history.specs.declared.tree.Incarnation.{Incarnation};
 ghost use Rattle.rm_history.specs.declared.tree.Standing.TheVariants.{Current, Parent, Orphan};
 ghost use Rattle.rm_history.specs.declared.world.Datafile.{Datafile};
+ghost use Rattle.rm_history.specs.declared.world.Switch.{Switch};
 ghost use Rattle.rm_history.specs.declared.world.World.{World};
-ghost use Rattle.rm_history.specs.Tree.{IsThere, IsTree, IsProperAncestor, path, segment_end, standing, owner, parent_of, reset_of, end_of, with_end, with_branch};
-ghost use Rattle.rm_history.specs.World.{exists, with_tree, with_file};
+ghost use Rattle.rm_history.specs.Threads.{applies, is_enabled};
+ghost use Rattle.rm_history.specs.Tree.{HasBranchesWithin, IsThere, IsTree, IsProperAncestor, path, segment_end, standing, owner, parent_of, reset_of, end_of, with_end, with_branch};
+ghost use Rattle.rm_history.specs.World.{exists, with_tree, with_file, with_switch};
 ghost use Rattle.rm_history.specs.History.{IsChange, IsHistory, SameChanges};
 ghost use Rattle.rm_history.specs.State.{state, concerns, IsState};
 ghost use Rattle.rm_history.specs.Artefacts.{Base, Level1, Log, high_of};
@@ -127,6 +129,33 @@ pub fn branches_change_no_state()
 pub fn a_branch_has_its_parents_states()
     ensures state { (w : World) (p at : ℕ) (h : List Change) (s f b : ℕ) → IsTree w.tree → IsThere w.tree p → s ≤ at → state (with_tree w (with_branch w.tree p at)) h (length w.tree + 1) s f b ≡ state w h p s f b }
     ensures exists { (w : World) (p at s : ℕ) (d : Datafile) → IsTree w.tree → IsThere w.tree p → s ≤ at → exists (with_tree w (with_branch w.tree p at)) (length w.tree + 1) s d ≡ exists w p s d }
+{}
+
+/// A switch of a thread changes nothing that a history makes.
+pub fn switches_change_no_state()
+    ensures state { (w : World) (x : Switch) (h : List Change) (i s f b : ℕ) → state (with_switch w x) h i s f b ≡ state w h i s f b }
+    ensures exists { (w : World) (x : Switch) (i s : ℕ) (d : Datafile) → exists (with_switch w x) i s d ≡ exists w i s d }
+    ensures base { (w : World) (x : Switch) (h : List Change) (a : Base) → BaseAgrees w h a → BaseAgrees (with_switch w x) h a }
+    ensures level1 { (w : World) (x : Switch) (h : List Change) (a : Level1) → Level1Agrees w h a → Level1Agrees (with_switch w x) h a }
+{}
+
+/// A history stays one where a thread is switched at or above the end of the switch's incarnation, if each
+/// change lies below the end of its own.
+pub fn switches_keep_histories()
+    ensures { (w : World) (x : Switch) (h : List Change) → IsTree w.tree → HasBranchesWithin w.tree → end_of w.tree x.inc ≤ x.scn → ((c : Change) → Contains h c → c.scn < end_of w.tree c.inc) → IsHistory w h → IsHistory (with_switch w x) h }
+{}
+
+/// Up to an SCN the same threads are enabled on the path of an incarnation and on that of the SCN's owner.
+pub fn owners_have_their_threads()
+    ensures { (tree : List Incarnation) (threads : ℕ) (xs : List Switch) (i g t : ℕ) → IsTree tree → is_enabled tree threads xs (owner tree i g) g t ≡ is_enabled tree threads xs i g t }
+{}
+
+/// A switch enables or disables its own thread from its address on, where none of that thread lies above it on the path, and no
+/// other thread.
+pub fn a_switch_is_of_its_thread()
+    ensures own { (tree : List Incarnation) (threads : ℕ) (xs : List Switch) (x : Switch) (m g : ℕ) → applies tree m g x.thread x ≡ true → ((y : Switch) → Contains xs y → applies tree m g x.thread y ≡ true → y.scn ≤ x.scn) → is_enabled tree threads (xs ++ x ∷ []) m g x.thread ≡ x.on }
+    ensures other { (tree : List Incarnation) (threads : ℕ) (xs : List Switch) (x : Switch) (m g t : ℕ) → x.thread ≢ t → is_enabled tree threads (xs ++ x ∷ []) m g t ≡ is_enabled tree threads xs m g t }
+    ensures below { (tree : List Incarnation) (threads : ℕ) (xs : List Switch) (x : Switch) (m g t : ℕ) → g < x.scn → is_enabled tree threads (xs ++ x ∷ []) m g t ≡ is_enabled tree threads xs m g t }
 {}
 
 /// A datafile more changes nothing that a history makes of the others.

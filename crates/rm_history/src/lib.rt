@@ -4,8 +4,9 @@
 pub mod known;
 pub mod laws;
 pub mod rows;
+pub mod threads;
 pub mod tree;
 pub mod world;
 
 pub use tree::{Incarnation, Standing, Tree, TreeFault};
-pub use world::{Datafile, World};
+pub use world::{Datafile, Switch, World};

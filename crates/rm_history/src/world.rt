@@ -12,12 +12,22 @@ pub struct Datafile {
     pub blocks: u32,
 }
 
-/// A database as recovery knows it: its incarnations, how many redo threads it has, and its
-/// datafiles 1, 2, 3 and so on.
+/// From the SCN `scn` of incarnation `inc` on a redo thread is enabled, or it is not.
+#[derive(Clone, Copy, PartialEq, Eq)]
+pub struct Switch {
+    pub thread: ThreadNo,
+    pub inc: IncNo,
+    pub scn: Scn,
+    pub on: bool,
+}
+
+/// A database as recovery knows it: its incarnations, how many redo threads it began with, when threads
+/// were switched on and off, and its datafiles 1, 2, 3 and so on.
 #[derive(Drop)]
 pub struct World {
     pub tree: Tree,
     pub threads: ThreadNo,
+    pub switches: Seq<Switch>,
     pub files: Seq<Datafile>,
 }
 
