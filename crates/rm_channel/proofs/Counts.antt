@@ -1,20 +1,18 @@
 -- How often calls of a list pass a test.
-use Rattle.std.proofs.Common.{◌≡◌, ◌≢◌, ℕ, suc, ◌+◌, ◌<◌, ◌≤◌, Bool, true, false, Option, Some, None, Ok, Err, IsSome, is_none, List, [], ◌∷◌, ◌++◌, length, map, All, refl, sym, ap, ◌∙◌, subst, arith}
+use Rattle.std.proofs.Common.{◌≡◌, ◌≢◌, ℕ, suc, ◌+◌, ◌<◌, ◌≤◌, Bool, false, Option, Some, None, IsSome, is_none, List, [], ◌∷◌, ◌++◌, length, map, All, refl, sym, ap, ◌∙◌, subst, arith}
 use mathlib.Core.Logic.{dite}
 use native.Mathlib.Decide.{ℕ_discrete}
 use Rattle.std.proofs.lemmas.List.Elements.{All-head, All-tail}
 use Rattle.rm_base.specs.declared.block.Row.{Row}
 use Rattle.rm_redo.specs.Logs.{Logs}
 use Rattle.rm_redo.specs.Online.{IsThread, thread_records}
-use Rattle.rm_redo.proofs.Logs.{IsThread-with_change}
-use Rattle.rm_live.specs.declared.history.Answer.{Answer}
-use Rattle.rm_live.specs.declared.history.Answer.TheVariants.{Found, Mended, Wrote}
 use Rattle.rm_live.specs.declared.history.Call.{Call}
 use Rattle.rm_live.specs.declared.history.Call.TheVariants.{Mend, Read, Write}
 use Rattle.rm_live.specs.declared.history.Event.{Event}
 use Rattle.rm_live.specs.Parts.{Parts, row_at}
-use Rattle.rm_live.specs.History.{after, fold_of}
+use Rattle.rm_live.specs.History.{fold_of}
 use Rattle.rm_live.specs.Ruled.{one_if, total}
+use Rattle.rm_live.proofs.Sound.{fold-thread}
 use Rattle.rm_channel.specs.declared.jobs.WriteJob.{WriteJob}
 use Rattle.rm_channel.specs.Jobs.{Deed, Span, reads, reads_of, writes, writes_of}
 use Rattle.rm_channel.specs.Made.{deed, is_by, AreBegun}
@@ -145,29 +143,13 @@ thread-room o now t u (ws ∷ writers) threads room pos =
     let fits = h.1 in
     (h.0, omega arith))
 
--- a thread that is there stays there
-thread-after : (o : Parts) (c : Call) (a : Answer) (t : ℕ) → IsThread o.logs t → IsThread (after o c a).logs t
-thread-after o (Read f b) a t there = there
-thread-after o (Write u f b content) (Found row) t there = there
-thread-after o (Write u f b content) (Mended made) t there = there
-thread-after o (Write u f b content) (Wrote (Ok scn)) t there = IsThread-with_change o.logs (record { inc = o.inc; thread = u; scn = scn; file = f; block = b; content = content }) t there
-thread-after o (Write u f b content) (Wrote (Err fault)) t there = there
-thread-after o (Mend f row) (Found found) t there = there
-thread-after o (Mend f row) (Wrote w) t there = there
-thread-after o (Mend f row) (Mended true) t there = there
-thread-after o (Mend f row) (Mended false) t there = there
-
-thread-fold : (o : Parts) (es : List Event) (t : ℕ) → IsThread o.logs t → IsThread (fold_of o es).logs t
-thread-fold o [] t there = there
-thread-fold o (e ∷ es) t there = thread-fold (after o e.call e.answer) es t (thread-after o e.call e.answer t there)
-
 -- so there is room for the events
 pub has-room : (o : Parts) (seen : List Event) (others : List Call) (writers : List (List WriteJob)) (es : List Event) → NoWrites others → AreThreads o.logs 1 writers → CanWrite (fold_of o seen) writers
     → AreBegun (others ++ writes_of 1 writers) (map deed es) → HasRoom (fold_of o seen) es
 has-room o seen others writers es none threads can begun =
     let p : Parts = fold_of o seen in record {
       blocks = let a = at-most (is_lost p) others 1 writers es none (lost-writes p) begun in let b = none-lost_of p 1 writers can.blocks in omega arith;
-      threads = λ t pos. let a = at-most (is_by t) others 1 writers es none (by-writes t) begun in thread-fold o seen t (thread-room o.logs p.logs 1 t writers threads can.logs (omega arith)).0;
+      threads = λ t pos. let a = at-most (is_by t) others 1 writers es none (by-writes t) begun in fold-thread o seen t (thread-room o.logs p.logs 1 t writers threads can.logs (omega arith)).0;
       logs = λ t pos. let a = at-most (is_by t) others 1 writers es none (by-writes t) begun in let h = (thread-room o.logs p.logs 1 t writers threads can.logs (omega arith)).1 in omega arith;
       scns = let a = at-most is_write others 1 writers es none (λ c off. off) begun in let b = all-writes_of 1 writers in let d = can.scns in omega arith;
     }

@@ -104,39 +104,36 @@ pub fold-sound : (p : Parts) (log : List Event) → IsSound p → IsLegal p log 
 fold-sound p [] sound legal = sound
 fold-sound p (e ∷ es) sound legal = fold-sound (after p e.call e.answer) es (after-sound p e.call e.answer sound legal.0) legal.1
 
-after-thread : (p : Parts) (c : Call) (a : Answer) (t : ℕ) → IsThread p.logs t → IsThread (after p c a).logs t
-after-thread p (Read f b) a t is = is
-after-thread p (Write u f b content) (Found row) t is = is
-after-thread p (Write u f b content) (Wrote (Ok scn)) t is =
-    IsThread-with_change p.logs (record { inc = p.inc; thread = u; scn = scn; file = f; block = b; content = content }) t is
-after-thread p (Write u f b content) (Wrote (Err fault)) t is = is
-after-thread p (Write u f b content) (Mended made) t is = is
-after-thread p (Mend f row) (Found found) t is = is
-after-thread p (Mend f row) (Wrote w) t is = is
-after-thread p (Mend f row) (Mended true) t is = is
-after-thread p (Mend f row) (Mended false) t is = is
+module _ (P : Parts → Type 0) (write : (p : Parts) (t f b : ℕ) (content : Block) (scn : ℕ) → P p → P (with_write p t f b content scn))
+    (mend : (p : Parts) (f : ℕ) (row : Row) → P p → P (record p { files = with_put p.files f row })) where
+  -- what a write and a mend keep, each call keeps
+  pub after-keeps : (p : Parts) (c : Call) (a : Answer) → P p → P (after p c a)
+  after-keeps p (Read f b) a is = is
+  after-keeps p (Write t f b content) (Found row) is = is
+  after-keeps p (Write t f b content) (Mended made) is = is
+  after-keeps p (Write t f b content) (Wrote (Ok scn)) is = write p t f b content scn is
+  after-keeps p (Write t f b content) (Wrote (Err fault)) is = is
+  after-keeps p (Mend f row) (Found found) is = is
+  after-keeps p (Mend f row) (Wrote w) is = is
+  after-keeps p (Mend f row) (Mended true) is = mend p f row is
+  after-keeps p (Mend f row) (Mended false) is = is
+
+  -- and so does a list of events
+  pub fold-keeps : (p : Parts) (log : List Event) → P p → P (fold_of p log)
+  fold-keeps p [] is = is
+  fold-keeps p (e ∷ es) is = fold-keeps (after p e.call e.answer) es (after-keeps p e.call e.answer is)
 
 -- a thread that is there stays there
 pub fold-thread : (p : Parts) (log : List Event) (t : ℕ) → IsThread p.logs t → IsThread (fold_of p log).logs t
-fold-thread p [] t is = is
-fold-thread p (e ∷ es) t is = fold-thread (after p e.call e.answer) es t (after-thread p e.call e.answer t is)
-
-after-found : (p : Parts) (c : Call) (a : Answer) (t : ℕ) → ¬ IsLost p.logs t → ¬ IsLost (after p c a).logs t
-after-found p (Read f b) a t is = is
-after-found p (Write u f b content) (Found row) t is = is
-after-found p (Write u f b content) (Wrote (Ok scn)) t is =
-    IsLost-with_change p.logs (record { inc = p.inc; thread = u; scn = scn; file = f; block = b; content = content }) t is
-after-found p (Write u f b content) (Wrote (Err fault)) t is = is
-after-found p (Write u f b content) (Mended made) t is = is
-after-found p (Mend f row) (Found found) t is = is
-after-found p (Mend f row) (Wrote w) t is = is
-after-found p (Mend f row) (Mended true) t is = is
-after-found p (Mend f row) (Mended false) t is = is
+fold-thread p log t =
+    fold-keeps (λ q. IsThread q.logs t)
+    (λ q u f b content scn. IsThread-with_change q.logs (record { inc = q.inc; thread = u; scn = scn; file = f; block = b; content = content }) t) (λ q f row is. is) p log
 
 -- and one that is not lost is not lost later
 pub fold-found : (p : Parts) (log : List Event) (t : ℕ) → ¬ IsLost p.logs t → ¬ IsLost (fold_of p log).logs t
-fold-found p [] t is = is
-fold-found p (e ∷ es) t is = fold-found (after p e.call e.answer) es t (after-found p e.call e.answer t is)
+fold-found p log t =
+    fold-keeps (λ q. ¬ IsLost q.logs t)
+    (λ q u f b content scn. IsLost-with_change q.logs (record { inc = q.inc; thread = u; scn = scn; file = f; block = b; content = content }) t) (λ q f row is. is) p log
 
 after-now : (p : Parts) (c : Call) (a : Answer) → IsRight p c a → p.now ≤ (after p c a).now
 after-now p (Read f b) a right = omega arith

@@ -14,11 +14,11 @@ use Rattle.rm_redo.proofs.Logs.{IsAround, around-with_change, around-switched, I
 
 -- as many threads, of the same incarnation and database
 pub around-with_changes : (logs : Logs) (h : List Change) → IsAround logs (with_changes logs h)
-around-with_changes logs [] = record { dbid = refl; inc = refl; threads = refl }
+around-with_changes logs [] = record { dbid = refl; inc = refl; threads = refl; there = λ t. refl }
 around-with_changes logs (c ∷ cs) =
     let one = around-with_change logs c in
     let rest = around-with_changes (with_change logs c) cs in
-    record { dbid = rest.dbid ∙ one.dbid; inc = rest.inc ∙ one.inc; threads = rest.threads ∙ one.threads }
+    record { dbid = rest.dbid ∙ one.dbid; inc = rest.inc ∙ one.inc; threads = rest.threads ∙ one.threads; there = λ t. rest.there t ∙ one.there t }
 
 append-nothing : (xs : List LogRecord) → xs ++ [] ≡ xs
 append-nothing [] = refl

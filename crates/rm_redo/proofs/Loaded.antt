@@ -1,18 +1,18 @@
 -- Online logs that log files tell are valid where these are.
-use Rattle.std.proofs.Common.{◌<◌, ◌≤◌, ℕ, List, Option, Some, None, All, IfSome, arith, length, subst, sym}
+use Rattle.std.proofs.Common.{◌≡◌, ◌≤◌, ◌∷◌, [], ℕ, List, Option, Some, None, Bool, All, IfSome, arith, length}
+use Rattle.std.specs.List.{zip}
 use Rattle.std.proofs.lemmas.List.{length-map}
-use Rattle.std.proofs.lemmas.List.Elements.{All-map}
+use Rattle.std.proofs.lemmas.List.Elements.{All-cons, All-head, All-nil, All-tail}
+use Rattle.std.proofs.lemmas.Slice.Zip.{length-zip}
 use Rattle.rm_redo.specs.declared.log_file.LogFile.{LogFile}
 use Rattle.rm_redo.specs.LogFormat.{IsLogFile}
 use Rattle.rm_redo.specs.Logs.{IsLog, IsLogs}
-use Rattle.rm_redo.specs.Online.{logs_of, thread_log}
-use Rattle.rm_redo.proofs.Logs.{fresh-is_log}
+use Rattle.rm_redo.specs.Online.{logs_of, thread_log, thread_logs, told_log}
+use Rattle.rm_redo.proofs.Logs.{lost-log-is_log, where-is_log}
 
-is-log : (o : Option LogFile) → IfSome o IsLogFile → IsLog (thread_log o)
-is-log None valid =
-    let fresh = fresh-is_log 1 (omega arith) in
-    record { numbered = fresh.numbered; begun = fresh.begun; from = fresh.from; ascends = fresh.ascends; few = fresh.few }
-is-log (Some l) valid = record {
+told-is_log : (o : Option LogFile) → IfSome o IsLogFile → IsLog (told_log o)
+told-is_log None valid = lost-log-is_log
+told-is_log (Some l) valid = record {
   numbered = valid.sequence.0;
   begun = valid.range.0;
   from = λ k d inside. (valid.records k d inside).scn.0;
@@ -20,11 +20,18 @@ is-log (Some l) valid = record {
   few = valid.few;
 }
 
-pub loaded-logs : (dbid inc : ℕ) (logs : List (Option LogFile)) → 1 ≤ dbid → 1 ≤ inc → 1 ≤ length logs → length logs ≤ 4 → All (λ log. IfSome log IsLogFile) logs → IsLogs (logs_of dbid inc logs)
-loaded-logs dbid inc logs dbid-is inc-is some most valid = record {
+are-logs : (enabled : List Bool) (logs : List (Option LogFile)) → All (λ log. IfSome log IsLogFile) logs → All IsLog (thread_logs enabled logs)
+are-logs [] logs valid = All-nil IsLog
+are-logs (on ∷ rest) [] valid = All-nil IsLog
+are-logs (on ∷ rest) (log ∷ logs) valid =
+    All-cons IsLog (thread_log on log) (thread_logs rest logs)
+    (where-is_log (told_log log) on (told-is_log log (All-head (λ log. IfSome log IsLogFile) log logs valid)))
+    (are-logs rest logs (All-tail (λ log. IfSome log IsLogFile) log logs valid))
+
+pub loaded-logs : (dbid inc : ℕ) (enabled : List Bool) (logs : List (Option LogFile)) → 1 ≤ dbid → 1 ≤ inc → length enabled ≡ 4 → length logs ≡ 4 → All (λ log. IfSome log IsLogFile) logs → IsLogs (logs_of dbid inc enabled logs)
+loaded-logs dbid inc enabled logs dbid-is inc-is flags four valid = record {
   dbid = dbid-is;
   inc = inc-is;
-  some = subst (λ n. 0 < n) (sym (length-map logs thread_log)) some;
-  most = subst (λ n. n ≤ 4) (sym (length-map logs thread_log)) most;
-  each = All-map IsLog thread_log logs (λ k d inside. is-log _ (valid k d inside));
+  four = omega (arith, length-map (zip enabled logs) (λ x. thread_log x.0 x.1), length-zip enabled logs, flags, four);
+  each = are-logs enabled logs valid;
 }

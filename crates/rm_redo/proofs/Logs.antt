@@ -1,9 +1,9 @@
 -- What a change more, a switch and a loss make of the logs, and what they leave as it was.
-use Rattle.std.proofs.Common.{◌≡◌, ◌<◌, ◌≤◌, ◌+◌, ◌-◌, ◌∙◌, ◌≢◌, ◌==◌, inl, inr, ℕ, zero, suc, List, [], ◌∷◌, ◌++◌, Option, Some, None, true, false, cond, refl, ap, sym, subst, arith, length, get_or, All, slice_get, slice_set}
+use Rattle.std.proofs.Common.{◌≡◌, ◌<◌, ◌≤◌, ◌+◌, ◌-◌, ◌∙◌, ◌≢◌, ◌==◌, inl, inr, ℕ, zero, suc, List, [], ◌∷◌, ◌++◌, Option, Some, None, Bool, true, false, cond, refl, ap, sym, subst, arith, length, map, get_or, All, slice_get, slice_set}
 use Rattle.std.specs.Option.{option_map_or}
 use Rattle.std.proofs.lemmas.Bool.{cases_eq, eq-eqb, ne_eqb}
-use Rattle.std.proofs.lemmas.List.{length-set, set-get_or}
-use Rattle.std.proofs.lemmas.List.Elements.{All-get_or, All-push, All-set}
+use Rattle.std.proofs.lemmas.List.{length-map, length-set, set-get_or}
+use Rattle.std.proofs.lemmas.List.Elements.{All-nil, All-get_or, All-map, All-push, All-set}
 use Rattle.std.proofs.lemmas.List.Quantifiers.{all_pairs_push}
 use Rattle.std.proofs.lemmas.List.{length-append}
 use Rattle.std.proofs.lemmas.Option.{get_or_from_slice_get, slice_get_cases, slice_get_read, slice_get_within}
@@ -11,16 +11,26 @@ use Rattle.rm_base.specs.declared.block.Change.{Change}
 use Rattle.rm_redo.specs.declared.online.LogRecord.{LogRecord}
 use Rattle.rm_redo.specs.declared.online.ThreadLog.{ThreadLog}
 use Rattle.rm_redo.specs.Logs.{Logs, IsBefore, IsLog, IsLogs}
-use Rattle.rm_redo.specs.Online.{IsThread, IsLost, record_of, thread_records, first_of, sequence_of, with_log, with_record, with_change, begun_anew, switched, with_loss, fresh_log}
+use Rattle.rm_redo.specs.Online.{IsThread, IsLost, has_log, record_of, thread_records, first_of, sequence_of, with_log, with_record, with_change, begun_anew, switched, with_loss, with_enabled, with_disabled, begun_logs, empty_log, fresh_log, lost_log, lost_logs, no_log, log_where}
 
-pub fresh-is_log : (first : ℕ) → 0 < first → IsLog (fresh_log first)
-fresh-is_log first begun = record {
-  numbered = omega arith;
+pub empty-is_log : (first sequence : ℕ) → 0 < first → 0 < sequence → IsLog (empty_log first sequence)
+empty-is_log first sequence begun numbered = record {
+  numbered = numbered;
   begun = begun;
   from = λ k d inside. absurd (omega (arith, inside));
   ascends = λ i j d less inside. absurd (omega (arith, inside));
   few = omega arith;
 }
+
+pub lost-log-is_log : IsLog lost_log
+lost-log-is_log = let fresh = empty-is_log 1 1 (omega arith) (omega arith) in record { numbered = fresh.numbered; begun = fresh.begun; from = fresh.from; ascends = fresh.ascends; few = fresh.few }
+
+pub no-log-is_log : IsLog no_log
+no-log-is_log = let fresh = empty-is_log 1 1 (omega arith) (omega arith) in record { numbered = fresh.numbered; begun = fresh.begun; from = fresh.from; ascends = fresh.ascends; few = fresh.few }
+
+pub where-is_log : (l : ThreadLog) (on : Bool) → IsLog l → IsLog (log_where l on)
+where-is_log l true is = is
+where-is_log l false is = no-log-is_log
 
 set-alike : {X : Type 0} (field : ThreadLog → X) (none : X) (logs : List ThreadLog) (k i : ℕ) (new : ThreadLog) → option_map_or field (slice_get logs k) none ≡ field new → option_map_or field (slice_get (slice_set logs k new) i) none ≡ option_map_or field (slice_get logs i) none
 set-alike field none [] k i new same = refl
@@ -82,22 +92,36 @@ pub other-with_log : (f : ThreadLog → ThreadLog) (logs : Logs) (t u : ℕ) →
 other-with_log f logs t u here there other =
     other-by f logs t u (slice_get logs.threads (t - 1)) (λ same. other (omega (arith, same)))
 
--- what surrounds the threads' logs, and their number
+-- what surrounds the threads' logs, their number, and which of them are there
 pub record IsAround (old new : Logs) : Type 0 where
   pub dbid : new.dbid ≡ old.dbid
   pub inc : new.inc ≡ old.inc
   pub threads : length new.threads ≡ length old.threads
+  pub there : (t : ℕ) → has_log new t ≡ has_log old t
 
-around-by : (f : ThreadLog → ThreadLog) (logs : Logs) (t : ℕ) (o : Option ThreadLog) → IsAround logs (changed f logs t o)
-around-by f logs t None = record { dbid = refl; inc = refl; threads = refl }
-around-by f logs t (Some l) = record { dbid = refl; inc = refl; threads = length-set logs.threads (t - 1) (f l) }
+dbid-by : (f : ThreadLog → ThreadLog) (logs : Logs) (t : ℕ) (o : Option ThreadLog) → (changed f logs t o).dbid ≡ logs.dbid
+dbid-by f logs t None = refl
+dbid-by f logs t (Some l) = refl
 
-pub around-with_log : (f : ThreadLog → ThreadLog) (logs : Logs) (t : ℕ) → IsAround logs (with_log f logs t)
-around-with_log f logs t = around-by f logs t (slice_get logs.threads (t - 1))
+inc-by : (f : ThreadLog → ThreadLog) (logs : Logs) (t : ℕ) (o : Option ThreadLog) → (changed f logs t o).inc ≡ logs.inc
+inc-by f logs t None = refl
+inc-by f logs t (Some l) = refl
 
--- as many threads are there
+threads-by : (f : ThreadLog → ThreadLog) (logs : Logs) (t : ℕ) (o : Option ThreadLog) → length (changed f logs t o).threads ≡ length logs.threads
+threads-by f logs t None = refl
+threads-by f logs t (Some l) = length-set logs.threads (t - 1) (f l)
+
+pub around-with_log : (f : ThreadLog → ThreadLog) → ((l : ThreadLog) → (f l).is_there ≡ l.is_there) → (logs : Logs) (t : ℕ) → IsAround logs (with_log f logs t)
+around-with_log f stays logs t = record {
+  dbid = dbid-by f logs t (slice_get logs.threads (t - 1));
+  inc = inc-by f logs t (slice_get logs.threads (t - 1));
+  threads = threads-by f logs t (slice_get logs.threads (t - 1));
+  there = λ u. kept-with_log (λ l. l.is_there) false f stays logs t u;
+}
+
+-- the same threads are there
 pub IsThread-around : (old new : Logs) (t : ℕ) → IsAround old new → IsThread old t → IsThread new t
-IsThread-around old new t around there = let same = around.threads in (there.0, omega (arith, same, there.1))
+IsThread-around old new t around there = let same = around.threads in (there.0, omega (arith, same, there.1), around.there t ∙ there.2)
 
 all-get : (P : ThreadLog → Type 0) (logs : List ThreadLog) (k : ℕ) (l : ThreadLog) → slice_get logs k ≡ Some l → All P logs → P l
 all-get P logs k l is all = subst P (get_or_from_slice_get logs k l l is) (All-get_or P logs k l (slice_get_within logs k l is) all)
@@ -109,8 +133,7 @@ IsLogs-with_one f logs t l is new sound =
     record {
       dbid = sound.dbid;
       inc = sound.inc;
-      some = omega (arith, same, sound.some);
-      most = omega (arith, same, sound.most);
+      four = same ∙ sound.four;
       each = All-set IsLog logs.threads (t - 1) (f l) new sound.each;
     }
 
@@ -158,7 +181,7 @@ pub IsLost-with_change : (logs : Logs) (c : Change) (t : ℕ) → ¬ IsLost logs
 IsLost-with_change logs c t here lost = here (sym (is_lost-with_change logs c t) ∙ lost)
 
 pub around-with_change : (logs : Logs) (c : Change) → IsAround logs (with_change logs c)
-around-with_change logs c = around-with_log (with_record (record_of c)) logs c.thread
+around-with_change logs c = around-with_log (with_record (record_of c)) (λ l. refl) logs c.thread
 
 pub IsThread-with_change : (logs : Logs) (c : Change) (t : ℕ) → IsThread logs t → IsThread (with_change logs c) t
 IsThread-with_change logs c t there = IsThread-around logs (with_change logs c) t (around-with_change logs c) there
@@ -188,13 +211,6 @@ thread_records-with_change_other logs c t here there other =
 pub switched-stays : (logs : Logs) (t now : ℕ) → first_of logs t ≡ now → switched logs t now ≡ logs
 switched-stays logs t now same = ap (λ b. cond b logs (with_log (begun_anew now) logs t)) (eq-eqb (first_of logs t) now same)
 
--- and where its log is written back as it is, the logs are the switched ones
-pub switched-back : (logs : Logs) (t now : ℕ) (l : ThreadLog) → slice_get logs.threads (t - 1) ≡ Some l → l.first ≡ now → record logs { threads = slice_set logs.threads (t - 1) l } ≡ switched logs t now
-switched-back logs t now l is same =
-    let logs_of : List ThreadLog → Logs = λ ls. record logs { threads = ls } in
-    ap logs_of (ap (slice_set logs.threads (t - 1)) (sym (get_or_from_slice_get logs.threads (t - 1) l l is)) ∙ set-get_or logs.threads (t - 1) l)
-    ∙ sym (switched-stays logs t now (ap (λ o. option_map_or (λ x. x.first) o 0) is ∙ same))
-
 -- one that begins elsewhere begins anew
 pub switched-anew : (logs : Logs) (t now : ℕ) → first_of logs t ≢ now → switched logs t now ≡ with_log (begun_anew now) logs t
 switched-anew logs t now other = ap (λ b. cond b logs (with_log (begun_anew now) logs t)) (ne_eqb (first_of logs t) now other)
@@ -203,11 +219,6 @@ switched-anew logs t now other = ap (λ b. cond b logs (with_log (begun_anew now
 pub switched-either : (P : Logs → Type 0) (logs : Logs) (t now : ℕ) → P logs → P (with_log (begun_anew now) logs t) → P (switched logs t now)
 switched-either P logs t now old new =
     elim (first_of logs t == now) as (λ b. P (cond b logs (with_log (begun_anew now) logs t))) [ true ↦ old | false ↦ new ]
-
-pub switched-to : (logs : Logs) (t now : ℕ) (l : ThreadLog) → slice_get logs.threads (t - 1) ≡ Some l → l.first ≢ now → record logs { threads = slice_set logs.threads (t - 1) (begun_anew now l) } ≡ switched logs t now
-switched-to logs t now l is other =
-    sym (ap (λ o. option_map_or (λ x. record logs { threads = slice_set logs.threads (t - 1) (begun_anew now x) }) o logs) is)
-    ∙ sym (switched-anew logs t now (λ same. other (sym (ap (λ o. option_map_or (λ x. x.first) o 0) is) ∙ same)))
 
 constant-by : {X : Type 0} (x none : X) (o : Option ThreadLog) → o ≢ None → option_map_or (λ l. x) o none ≡ x
 constant-by x none None some = absurd (some refl)
@@ -258,7 +269,7 @@ is_lost-switched logs t u now =
 -- there are as many threads, of the same incarnation and database
 pub around-switched : (logs : Logs) (t now : ℕ) → IsAround logs (switched logs t now)
 around-switched logs t now =
-    switched-either (IsAround logs) logs t now (record { dbid = refl; inc = refl; threads = refl }) (around-with_log (begun_anew now) logs t)
+    switched-either (IsAround logs) logs t now (record { dbid = refl; inc = refl; threads = refl; there = λ u. refl }) (around-with_log (begun_anew now) (λ l. refl) logs t)
 
 pub IsThread-switched : (logs : Logs) (t u now : ℕ) → IsThread logs u → IsThread (switched logs t now) u
 IsThread-switched logs t u now there = IsThread-around logs (switched logs t now) u (around-switched logs t now) there
@@ -303,4 +314,92 @@ is_lost-with_loss_other logs t u here there other = ap (λ o. option_map_or (λ 
 
 -- there are as many threads, of the same incarnation and database
 pub around-with_loss : (logs : Logs) (t : ℕ) → IsAround logs (with_loss logs t)
-around-with_loss logs t = around-with_log as_lost logs t
+around-with_loss logs t = around-with_log as_lost (λ l. refl) logs t
+
+pub IsThread-with_loss : (logs : Logs) (t u : ℕ) → IsThread logs u → IsThread (with_loss logs t) u
+IsThread-with_loss logs t u there = IsThread-around logs (with_loss logs t) u (around-with_loss logs t) there
+
+lost-is_log : (l : ThreadLog) → IsLog l → IsLog (as_lost l)
+lost-is_log l is = record { numbered = is.numbered; begun = is.begun; from = is.from; ascends = is.ascends; few = is.few }
+
+-- logs stay logs
+pub IsLogs-with_loss : (logs : Logs) (t : ℕ) → IsLogs logs → IsLogs (with_loss logs t)
+IsLogs-with_loss logs t sound = IsLogs-with_log as_lost lost-is_log logs t sound
+
+-- A thread comes to be there
+
+pub IsLogs-with_enabled : (logs : Logs) (t now sequence : ℕ) → 0 < now → 0 < sequence → IsLogs logs → IsLogs (with_enabled logs t now sequence)
+IsLogs-with_enabled logs t now sequence begun numbered sound = IsLogs-with_log (λ l. empty_log now sequence) (λ l is. empty-is_log now sequence begun numbered) logs t sound
+
+set-whole : {X : Type 0} (field : ThreadLog → X) (none : X) (new : ThreadLog) (logs : Logs) (t : ℕ) → 0 < t → t ≤ length logs.threads → field_of field none (with_log (λ l. new) logs t) t ≡ field new
+set-whole field none new logs t some low = elim (slice_get_cases logs.threads (t - 1)).1 [
+  | inr past ↦ absurd (omega (arith, past.0, some, low))
+  | inl read ↦
+      ap (λ o. field_of field none (changed (λ l. new) logs t o) t) read.2
+      ∙ ap (λ o. option_map_or field o none) (set-there logs.threads (t - 1) new (omega (arith, some, low)))
+]
+
+pub IsThread-with_enabled : (logs : Logs) (t now sequence : ℕ) → 0 < t → t ≤ length logs.threads → IsThread (with_enabled logs t now sequence) t
+IsThread-with_enabled logs t now sequence some low =
+    let same = threads-by (λ l. empty_log now sequence) logs t (slice_get logs.threads (t - 1)) in
+    (some, omega (arith, same, low), set-whole (λ l. l.is_there) false (empty_log now sequence) logs t some low)
+
+pub first_of-with_enabled : (logs : Logs) (t now sequence : ℕ) → 0 < t → t ≤ length logs.threads → first_of (with_enabled logs t now sequence) t ≡ now
+first_of-with_enabled logs t now sequence some low = set-whole (λ l. l.first) 0 (empty_log now sequence) logs t some low
+
+pub sequence_of-with_enabled : (logs : Logs) (t now sequence : ℕ) → 0 < t → t ≤ length logs.threads → sequence_of (with_enabled logs t now sequence) t ≡ sequence
+sequence_of-with_enabled logs t now sequence some low = set-whole (λ l. l.sequence) 0 (empty_log now sequence) logs t some low
+
+pub thread_records-with_enabled : (logs : Logs) (t now sequence : ℕ) → 0 < t → t ≤ length logs.threads → thread_records (with_enabled logs t now sequence) t ≡ []
+thread_records-with_enabled logs t now sequence some low = set-whole (λ l. l.records) [] (empty_log now sequence) logs t some low
+
+-- and the others are as they were
+pub has_log-with_enabled_other : (logs : Logs) (t u now sequence : ℕ) → 0 < t → 0 < u → u ≢ t → has_log (with_enabled logs t now sequence) u ≡ has_log logs u
+has_log-with_enabled_other logs t u now sequence here there other = ap (λ o. option_map_or (λ l. l.is_there) o false) (other-with_log (λ l. empty_log now sequence) logs t u here there other)
+
+-- A thread is no longer there
+
+pub IsLogs-with_disabled : (logs : Logs) (t : ℕ) → IsLogs logs → IsLogs (with_disabled logs t)
+IsLogs-with_disabled logs t sound = IsLogs-with_log (λ l. no_log) (λ l is. no-log-is_log) logs t sound
+
+pub not-there-with_disabled : (logs : Logs) (t : ℕ) → 0 < t → t ≤ length logs.threads → has_log (with_disabled logs t) t ≡ false
+not-there-with_disabled logs t some low = set-whole (λ l. l.is_there) false no_log logs t some low
+
+pub has_log-with_disabled_other : (logs : Logs) (t u : ℕ) → 0 < t → 0 < u → u ≢ t → has_log (with_disabled logs t) u ≡ has_log logs u
+has_log-with_disabled_other logs t u here there other = ap (λ o. option_map_or (λ l. l.is_there) o false) (other-with_log (λ l. no_log) logs t u here there other)
+
+-- the log of a thread that is there stands at its place
+pub put-with_log : (new : ThreadLog) (logs : Logs) (t : ℕ) → 0 < t → t ≤ length logs.threads → record logs { threads = slice_set logs.threads (t - 1) new } ≡ with_log (λ l. new) logs t
+put-with_log new logs t some low = elim (slice_get_cases logs.threads (t - 1)).1 [
+  | inr past ↦ absurd (omega (arith, past.0, some, low))
+  | inl read ↦ sym (ap (changed (λ l. new) logs t) read.2)
+]
+
+-- Logs of threads that are enabled
+
+where-logs : (l : ThreadLog) (enabled : List Bool) → IsLog l → All IsLog (map (log_where l) enabled)
+where-logs l enabled is = All-map IsLog (log_where l) enabled (λ k d inside. where-is_log l (get_or enabled k d) is)
+
+pub begun-logs : (dbid inc : ℕ) (enabled : List Bool) (first : ℕ) → 1 ≤ dbid → 1 ≤ inc → 1 ≤ first → length enabled ≡ 4 → IsLogs (begun_logs dbid inc enabled first)
+begun-logs dbid inc enabled first some there begun four = record {
+  dbid = some;
+  inc = there;
+  four = length-map enabled (log_where (fresh_log first)) ∙ four;
+  each = where-logs (fresh_log first) enabled (empty-is_log first 1 begun (omega arith));
+}
+
+pub lost-logs : (dbid inc : ℕ) (enabled : List Bool) → 1 ≤ dbid → 1 ≤ inc → length enabled ≡ 4 → IsLogs (lost_logs dbid inc enabled)
+lost-logs dbid inc enabled some there four = record {
+  dbid = some;
+  inc = there;
+  four = length-map enabled (log_where lost_log) ∙ four;
+  each = where-logs lost_log enabled lost-log-is_log;
+}
+
+-- The greatest thread that is there
+
+pub greatest-more : (logs : Logs) (n greatest : ℕ) → ((t : ℕ) → t ≤ n → IsThread logs t → t ≤ greatest) → ¬ IsThread logs (n + 1) → (t : ℕ) → t ≤ n + 1 → IsThread logs t → t ≤ greatest
+greatest-more logs n greatest most none t low there = elim (cases_eq t (n + 1)) [
+  | inl same ↦ absurd (none (subst (IsThread logs) same there))
+  | inr other ↦ most t (omega (arith, low, other)) there
+]
