@@ -7,6 +7,9 @@ pub mod Numbering
 pub mod Owners
 pub mod Passing
 pub mod Stable
+pub mod SwitchNumbers
+pub mod Switching
+pub mod Telling
 pub mod Told
 pub mod Trees
 pub mod Unique

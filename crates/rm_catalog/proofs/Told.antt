@@ -1,6 +1,6 @@
 -- Whatever the order of the records, the first that breaks a rule has one place.
 use Rattle.std.proofs.Common.{◌≡◌, ℕ, zero, suc, ◌+◌, ◌-◌, ◌<◌, ◌≤◌, Bool, true, false, eqb, leb, ltb, cond, ◌&&◌, List, [], ◌∷◌, length, get_or, Option, Some, None, refl, ap, sym, subst, ◌∙◌, arith, eq-eqb, ◌⊎◌, inl, inr}
-use Rattle.std.specs.Prelude.{Contains, IsPermutation, IsSome, IsTrue, IsSomeAnd, MatchBool, option_and_then}
+use Rattle.std.specs.Prelude.{Contains, IsPermutation, IfSome, IsSome, IsTrue, IsSomeAnd, MatchBool, ◌||◌, nat_le, not, option_and_then}
 use Rattle.std.specs.Option.{option_map_or}
 use Rattle.std.proofs.lemmas.List.Sorted.{IsPermutation-sym, IsPermutation-trans, Contains-permutation, sum_by-IsPermutation, list_any-IsPermutation}
 use Rattle.std.proofs.lemmas.List.{get_or_append_left, get_or_at}
@@ -12,13 +12,17 @@ use Rattle.rm_catalog.specs.declared.record.BaseEntry.{BaseEntry}
 use Rattle.rm_catalog.specs.declared.record.IncarnationEntry.{IncarnationEntry}
 use Rattle.rm_catalog.specs.declared.record.DatafileEntry.{DatafileEntry}
 use Rattle.rm_catalog.specs.declared.record.MarkEntry.{MarkEntry}
-use Rattle.rm_catalog.specs.Keys.{place, place_of, place_of_key, at, InOrder, IsThere, base, incarnation, datafile, mark, base_in, incarnation_in, datafile_in, mark_in}
+use Rattle.rm_catalog.specs.declared.record.SwitchEntry.{SwitchEntry}
+use Rattle.rm_catalog.specs.Keys.{place, place_of, place_of_key, at, InOrder, IsThere, base, incarnation, datafile, mark, switch, base_in, incarnation_in, datafile_in, mark_in, switch_in}
 use Rattle.rm_catalog.specs.Facts.{BeginsOn, is_mark_of, IsCreatedOn, blocks_to, IsWithin}
 use Rattle.rm_catalog.specs.Objects.{IdRule, IsRange, owner_in, FitsDatafile}
 use Rattle.rm_catalog.specs.Saved.{is_part_of}
 use Rattle.rm_catalog.specs.Rules.{Obeys, OwnRule, IsOrderOf, IsFirstBad, is_lasting}
 use Rattle.rm_catalog.specs.SetRules.{FitsSetFile, SetPartRule}
 use Rattle.rm_catalog.specs.declared.record.SetPart.{SetPart}
+use Rattle.rm_catalog.specs.Switches.{IsAt, applies_in, began_with, last_in, leaves_one, stays, switch_of, was_enabled}
+use Rattle.rm_history.specs.declared.world.Switch.{Switch}
+use Rattle.rm_history.specs.Threads.{after_switch, is_last, is_on}
 use Rattle.rm_catalog.proofs.Found.{differ}
 use Rattle.rm_catalog.proofs.Counts.{alike, alike_count}
 use Rattle.rm_catalog.proofs.Unique.{none_alike, head_or_tail, in_tail, middle}
@@ -150,6 +154,22 @@ datafile_same s t p i agree le = ap (λ (o : Option Record). option_and_then dat
 mark_same : (s t : List Record) (p i : ℕ) → Agree s t p → place 6 i ≤ p → mark i s ≡ mark i t
 mark_same s t p i agree le = ap (λ (o : Option Record). option_and_then mark_in o) (agree (place 6 i) le)
 
+switch_same : (s t : List Record) (p i : ℕ) → Agree s t p → place 10 i ≤ p → switch i s ≡ switch i t
+switch_same s t p i agree le = ap (λ (o : Option Record). option_and_then switch_in o) (agree (place 10 i) le)
+
+-- the same switches, and tests that agree, have the same last one
+last_same : (n : ℕ) (s t : List Record) (p q : Switch → Bool) → ((y : Switch) → p y ≡ q y) → ((k : ℕ) → k ≤ n → switch k s ≡ switch k t) → last_in n p s ≡ last_in n q t
+unfolding last_in
+last_same zero s t p q tests same = refl
+last_same (suc n) s t p q tests same =
+    ap (λ (o : Option SwitchEntry). option_map_or (λ x. after_switch p (last_in n p s) (switch_of x)) o (last_in n p s)) (same (suc n) (omega arith))
+    ∙ ap (λ (l : Option Switch). option_map_or (λ x. after_switch p l (switch_of x)) (switch (suc n) t) l) (last_same n s t p q tests (λ k low. same k (omega (arith, low))))
+    ∙ further (switch (suc n) t)
+  where
+    further : (o : Option SwitchEntry) → option_map_or (λ x. after_switch p (last_in n q t) (switch_of x)) o (last_in n q t) ≡ option_map_or (λ x. after_switch q (last_in n q t) (switch_of x)) o (last_in n q t)
+    further (Some x) = ap (λ (b : Bool). cond (b && is_last (switch_of x) (last_in n q t)) (Some (switch_of x)) (last_in n q t)) (tests (switch_of x))
+    further None = refl
+
 owner_same : (n i g : ℕ) (s t : List Record) → ((j : ℕ) → incarnation j s ≡ incarnation j t) → owner_in n i g s ≡ owner_in n i g t
 unfolding owner_in
 owner_same zero i g s t same = refl
@@ -206,7 +226,7 @@ own_moves s t (records.Datafile f) there agree h = record {
 own_moves s t (records.Log l) there agree h = record {
   id = id_moves s t l.id 5 7 9 there (base_same s t _ agree (omega arith)) h.id;
   size = h.size;
-  thread = (h.thread.0, subst (λ (o : Option BaseEntry). IsSomeAnd o (λ (b : BaseEntry). l.thread ≤ b.threads)) (base_same s t _ agree (omega arith)) h.thread.1);
+  thread = h.thread;
   sequence = h.sequence;
   range = subst (λ (o : Option IncarnationEntry). IsSomeAnd o (IsRange l)) (incarnation_same s t _ l.inc agree (omega arith)) h.range;
 }
@@ -246,8 +266,8 @@ own_moves s t (records.Part p) there agree h = record {
   alone = record { alone = let same = sum_by-IsPermutation (λ (r : Record). cond (is_part_of p.file p.thread r) 1 0) s t there in let few = h.alone.alone in omega arith };
 }
   where
-    names : (b : Bool) → MatchBool b ((1 ≤ p.thread) × IsSomeAnd (base s) (λ (b : BaseEntry). p.thread ≤ b.threads)) ((p.thread ≡ 0) × IsThere 3 p.file s) → MatchBool b ((1 ≤ p.thread) × IsSomeAnd (base t) (λ (b : BaseEntry). p.thread ≤ b.threads)) ((p.thread ≡ 0) × IsThere 3 p.file t)
-    names true w = (w.0, subst (λ (o : Option BaseEntry). IsSomeAnd o (λ (b : BaseEntry). p.thread ≤ b.threads)) (base_same s t _ agree (omega arith)) w.1)
+    names : (b : Bool) → MatchBool b ((1 ≤ p.thread) × (p.thread ≤ 4)) ((p.thread ≡ 0) × IsThere 3 p.file s) → MatchBool b ((1 ≤ p.thread) × (p.thread ≤ 4)) ((p.thread ≡ 0) × IsThere 3 p.file t)
+    names true w = w
     names false w = (w.0, there_moves s t (place 3 p.file) there w.1)
 own_moves s t (records.Head h) there agree o = record {
   point = λ some. there_moves s t (place 2 h.inc) there (o.point some);
@@ -278,6 +298,29 @@ own_moves s t (records.Set e) there agree h = record {
       high = h.high;
       end = subst (λ (o : Option IncarnationEntry). IsSomeAnd o (λ (i : IncarnationEntry). p.high ≤ i.end)) (incarnation_same s t _ e.inc agree (omega arith)) h.end;
     }
+own_moves s t (records.Switch x) there agree h = record {
+  number = h.number;
+  no_gap = record { no_gap = λ later. there_moves s t (place 10 (x.id - 1)) there (h.no_gap.no_gap later) };
+  thread = h.thread;
+  range = subst (λ (o : Option IncarnationEntry). IsSomeAnd o (IsAt x)) (incarnation_same s t _ x.inc agree (omega arith)) h.range;
+  above = λ k low. subst (λ (o : Option SwitchEntry). IfSome o (λ y. y.inc ≡ x.inc → y.scn < x.scn)) (switch_same s t _ k agree (omega (arith, low))) (h.above k low);
+  changes = sym (was_same x.thread) ∙ h.changes;
+  leaves =
+      let same : leaves_one s x ≡ leaves_one t x = λ i. x.on || stays_same 1 i || stays_same 2 i || stays_same 3 i || stays_same 4 i in
+      sym same ∙ h.leaves;
+  sequence = h.sequence;
+}
+  where
+    tests_same : (m g k : ℕ) (y : Switch) → applies_in s m g k y ≡ applies_in t m g k y
+    tests_same m g k y = ap (λ (o : ℕ). eqb y.thread k && nat_le y.scn g && eqb o y.inc) (owner_same 256 m y.scn s t (λ j. incarnation_same s t _ j agree (omega arith)))
+
+    was_same : (k : ℕ) → was_enabled s x k ≡ was_enabled t x k
+    was_same k =
+        ap (λ (n : ℕ). is_on n k (last_in (x.id - 1) (applies_in s x.inc x.scn k) s)) (ap (λ (o : Option BaseEntry). option_map_or (λ b. b.threads) o 0) (base_same s t _ agree (omega arith)))
+        ∙ ap (is_on (began_with t) k) (last_same (x.id - 1) s t (applies_in s x.inc x.scn k) (applies_in t x.inc x.scn k) (tests_same x.inc x.scn k) (λ n low. switch_same s t _ n agree (omega (arith, low))))
+
+    stays_same : (k : ℕ) → stays s x k ≡ stays t x k
+    stays_same k = ap (λ (b : Bool). not (eqb k x.thread) && b) (was_same k)
 
 -- a record obeys in each order in which the places up to its own have the same
 obeys_moves : (s t : List Record) (r : Record) → IsPermutation s t → Agree s t (place_of r) → Obeys s r → Obeys t r

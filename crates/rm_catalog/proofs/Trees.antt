@@ -238,6 +238,7 @@ high_node (records.Mark m) le = refl
 high_node (records.Part p) le = refl
 high_node (records.Head h) le = refl
 high_node (records.Set s) le = refl
+high_node (records.Switch x) le = refl
 
 -- the incarnations stand in front of the datafiles
 pub nodes_below : (rs : List Record) → nodes (below 12884901888 rs) ≡ nodes rs
@@ -273,6 +274,7 @@ base_is (records.Mark m) h = absurd (omega arith)
 base_is (records.Part p) h = absurd (omega arith)
 base_is (records.Head x) h = absurd (omega arith)
 base_is (records.Set x) h = absurd (omega arith)
+base_is (records.Switch x) h = absurd (omega arith)
 
 node_is_there : (y : Record) (n : ℕ) → place_of y ≡ place 2 n → (i : IncarnationEntry) × (y ≡ records.Incarnation i)
 node_is_there (records.Base b) n h = absurd (omega arith)
@@ -284,6 +286,7 @@ node_is_there (records.Mark m) n h = absurd (omega arith)
 node_is_there (records.Part p) n h = absurd (omega arith)
 node_is_there (records.Head x) n h = absurd (omega arith)
 node_is_there (records.Set x) n h = absurd (omega arith)
+node_is_there (records.Switch x) n h = absurd (omega arith)
 
 -- a database has an incarnation
 pub some_node : (rs : List Record) → IsCatalog rs → HasDatabase rs → 0 < length (nodes rs)

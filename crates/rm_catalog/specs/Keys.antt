@@ -13,8 +13,9 @@ use Rattle.rm_catalog.specs.declared.record.PartEntry.{PartEntry}
 use Rattle.rm_catalog.specs.declared.record.HeadEntry.{HeadEntry}
 use Rattle.rm_catalog.specs.declared.record.SetEntry.{SetEntry}
 use Rattle.rm_catalog.specs.declared.record.SetPart.{SetPart}
+use Rattle.rm_catalog.specs.declared.record.SwitchEntry.{SwitchEntry}
 use Rattle.rm_catalog.specs.declared.record.Record.{Record}
-use Rattle.rm_catalog.specs.declared.record.Record.TheVariants.{Base, Incarnation, Datafile, Log, Piece, Mark, Part, Head, Set}
+use Rattle.rm_catalog.specs.declared.record.Record.TheVariants.{Base, Incarnation, Datafile, Log, Piece, Mark, Part, Head, Set, Switch}
 
 -- the key of a record
 abbrev pub key_of : Record → Key
@@ -27,6 +28,7 @@ key_of (Mark r) = record { kind = 6; id = r.id }
 key_of (Part r) = record { kind = 7; id = r.id }
 key_of (Head r) = record { kind = 8; id = 0 }
 key_of (Set r) = record { kind = 9; id = r.id }
+key_of (Switch r) = record { kind = 10; id = r.id }
 
 -- The place of a key: kind * 2^32 + id. Ids are at most 2^32 - 1, so keys stand in order of kind and
 -- then of id as their places do. A greater number, which is no id, stands where the last id does.
@@ -72,6 +74,11 @@ datafile_in _ = None
 abbrev pub mark_in : Record → Option MarkEntry
 mark_in (Mark m) = Some m
 mark_in _ = None
+
+-- what a record of kind 10 says
+abbrev pub switch_in : Record → Option SwitchEntry
+switch_in (Switch x) = Some x
+switch_in _ = None
 
 -- what records of kind 4, 5, 7, 8 and 9 say
 abbrev pub log_in : Record → Option LogEntry
@@ -139,3 +146,7 @@ datafile file rs = option_and_then datafile_in (at (place 3 file) rs)
 -- the mark of this number
 abbrev pub mark : ℕ → List Record → Option MarkEntry
 mark n rs = option_and_then mark_in (at (place 6 n) rs)
+
+-- the switch of this number
+abbrev pub switch : ℕ → List Record → Option SwitchEntry
+switch n rs = option_and_then switch_in (at (place 10 n) rs)

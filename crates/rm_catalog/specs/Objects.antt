@@ -29,11 +29,11 @@ pub record IsRange (l : LogEntry) (i : IncarnationEntry) : Type 0 where
   pub some : l.first < l.next
   pub next : l.next ≤ i.end
 
--- a log, by a redo thread that is there
+-- a log, by a redo thread from 1 to 4
 pub record LogRule (rs : List Record) (l : LogEntry) : Type 0 where
   pub id : IdRule rs l.id 5 7 9
   pub size : l.size ≤ most_bytes
-  pub thread : (1 ≤ l.thread) × IsSomeAnd (base rs) (λ b. l.thread ≤ b.threads)
+  pub thread : (1 ≤ l.thread) × (l.thread ≤ 4)
   pub sequence : 1 ≤ l.sequence
   pub range : IsSomeAnd (incarnation l.inc rs) (IsRange l)
 

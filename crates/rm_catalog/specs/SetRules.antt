@@ -1,8 +1,7 @@
 -- What a backup set obeys in a list of records.
-use Rattle.std.specs.Prelude.{◌≡◌, ℕ, ◌<◌, ◌≤◌, false, List, IsSomeAnd, length, All, AllPairs}
+use Rattle.std.specs.Prelude.{◌≡◌, ℕ, ◌<◌, ◌≤◌, List, IsSomeAnd, length, All, AllPairs}
 use Rattle.rm_base.specs.declared.kinds.Kind.{Kind}
 use Rattle.rm_base.specs.declared.kinds.Kind.TheVariants.{Level1, Place}
-use Rattle.rm_catalog.specs.declared.record.IncarnationEntry.{IncarnationEntry}
 use Rattle.rm_catalog.specs.declared.record.DatafileEntry.{DatafileEntry}
 use Rattle.rm_catalog.specs.declared.record.SetEntry.{SetEntry}
 use Rattle.rm_catalog.specs.declared.record.SetPart.{SetPart}

@@ -6,14 +6,18 @@ ghost use Rattle.rm_catalog.specs.declared.record.Key.{Key};
 ghost use Rattle.rm_catalog.specs.Keys.{place_of_key, InOrder, at};
 ghost use Rattle.rm_catalog.specs.Faults.{IsBadRow, IsTaken, IsTold};
 ghost use Rattle.rm_catalog.specs.Rules.{HasDatabase, IsValid, IsOrderOf, IsCatalog, IsFirstBad};
+ghost use Rattle.rm_catalog.specs.Switches.{began_with, switches};
 ghost use Rattle.rm_catalog.specs.Trees.{nodes, as_tree};
+ghost use Rattle.rm_history.specs.Threads.{is_enabled};
+ghost use Rattle.rm_history.specs.Tree.{IsThere};
 ghost use Rattle.rm_catalog.specs.Edits.{after_edits};
 
 use crate::find::{count_before, find};
 use crate::record::{Edit, Key, Record};
 use crate::rules::obeys;
+use crate::switches::{began_with, is_on, last_switch};
 use crate::{copies, edits, tree};
-use rm_base::{NoMemory, Seq};
+use rm_base::{IncNo, NoMemory, Scn, Seq, ThreadNo};
 use rm_history::Tree;
 use std::alloc::Global;
 use std::marker::Model;
@@ -145,6 +149,17 @@ impl Catalog {
             Some(tree) => tree,
             None => unreachable!(),
         }
+    }
+
+    /// Whether a redo thread is enabled at the address (m, g).
+    pub fn enabled(&self, m: IncNo, g: Scn, thread: ThreadNo) -> bool
+        requires database { HasDatabase self.now }
+        requires there { IsThere (nodes self.now) m }
+        ensures { result ≡ is_enabled (nodes self.now) (began_with self.now) (switches self.now) m g thread }
+    {
+        let records = self.records();
+        let last = last_switch(records, self.tree(), m, g, thread);
+        is_on(began_with(records), thread, last)
     }
 
     /// The records, ascending by kind and then id, and the tree, where there is a database.

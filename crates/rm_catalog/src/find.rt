@@ -2,9 +2,11 @@
 ghost use Rattle.std.specs.Prelude.{◌≡◌, ◌<◌, ◌≤◌, ℕ, length, IsTrue, ◌↔◌, slice_index_or};
 ghost use Rattle.std.specs.Option.{option_copied};
 ghost use Rattle.rm_catalog.specs.declared.record.Record.{Record};
-ghost use Rattle.rm_catalog.specs.Keys.{place, place_of, InOrder, at, IsThere, base, incarnation, mark, datafile};
+ghost use Rattle.rm_catalog.specs.Keys.{place, place_of, InOrder, at, IsThere, base, incarnation, mark, datafile, switch};
 
-use crate::record::{BaseEntry, DatafileEntry, IncarnationEntry, Key, MarkEntry, Record};
+use crate::record::{
+    BaseEntry, DatafileEntry, IncarnationEntry, Key, MarkEntry, Record, SwitchEntry,
+};
 use rm_base::{FileNo, IncNo};
 
 /// How many records stand before this place.
@@ -96,6 +98,17 @@ pub fn mark(records: &[Record], id: u32) -> Option<MarkEntry>
 {
     match find_key(records, 6, id) {
         Some(Record::Mark(entry)) => Some(*entry),
+        _ => None,
+    }
+}
+
+/// The switch of this number.
+pub fn switch(records: &[Record], id: u32) -> Option<SwitchEntry>
+    requires { InOrder records.now }
+    ensures { result ≡ switch id records.now }
+{
+    match find_key(records, 10, id) {
+        Some(Record::Switch(entry)) => Some(*entry),
         _ => None,
     }
 }

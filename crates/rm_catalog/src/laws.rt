@@ -1,15 +1,19 @@
 //! What the definitions of records, edits and trees mean.
-ghost use Rattle.std.specs.Prelude.{ℕ, ◌≡◌, ◌<◌, ◌^◌, ◌==◌, ◌⊎◌, ◌↔◌, List, Some, if◌then◌else◌};
+ghost use Rattle.std.specs.Prelude.{ℕ, ◌≡◌, ◌+◌, ◌<◌, ◌≤◌, ◌^◌, ◌==◌, ◌⊎◌, ◌↔◌, Contains, List, Some, if◌then◌else◌, length, take};
+ghost use Rattle.rm_history.specs.Threads.{is_enabled};
 ghost use Rattle.rm_history.specs.Tree.{IsThere, owner};
 ghost use Rattle.rm_history.specs.Tree.{incarnation as in_tree};
 ghost use Rattle.rm_catalog.specs.declared.record.Key.{Key};
 ghost use Rattle.rm_catalog.specs.declared.record.Edit.{Edit};
 ghost use Rattle.rm_catalog.specs.declared.record.IncarnationEntry.{IncarnationEntry};
 ghost use Rattle.rm_catalog.specs.declared.record.Record.{Record};
+ghost use Rattle.rm_catalog.specs.declared.record.Record.TheVariants.{Switch};
+ghost use Rattle.rm_catalog.specs.declared.record.SwitchEntry.{SwitchEntry};
 ghost use Rattle.rm_catalog.specs.Keys.{place_of_key, at, InOrder, incarnation};
 ghost use Rattle.rm_catalog.specs.Edits.{place_of_edit, put_by, after_edit, after_edits};
 ghost use Rattle.rm_catalog.specs.Objects.{owner_in};
 ghost use Rattle.rm_catalog.specs.Rules.{IsCatalog};
+ghost use Rattle.rm_catalog.specs.Switches.{began_with, switches, was_enabled};
 ghost use Rattle.rm_catalog.specs.Trees.{node, nodes};
 
 /// Keys stand in order of kind and then of id.
@@ -28,4 +32,9 @@ pub fn an_edit_changes_one_key()
 pub fn the_tree_is_that_of_the_records()
     ensures incarnations { (rs : List Record) (n : ℕ) (i : IncarnationEntry) → IsCatalog rs → incarnation n rs ≡ Some i → in_tree (nodes rs) n ≡ Some (node i) }
     ensures paths { (rs : List Record) (i g : ℕ) → IsCatalog rs → IsThere (nodes rs) i → owner_in 256 i g rs ≡ owner (nodes rs) i g }
+{}
+
+/// Rule and history agree on switches: what those of lower numbers say of a thread is that it is enabled by those that stand before.
+pub fn switches_tell_who_is_enabled()
+    ensures { (rs : List Record) (x : SwitchEntry) (n t : ℕ) → IsCatalog rs → ((y : SwitchEntry) → Contains rs (Switch y) → y.id < 2 ^ 32) → n ≤ length (switches rs) → x.id ≡ n + 1 → IsThere (nodes rs) x.inc → was_enabled rs x t ≡ is_enabled (nodes rs) (began_with rs) (take n (switches rs)) x.inc x.scn t }
 {}

@@ -34,15 +34,11 @@ pub fn id_obeys(records: &[Record], id: u32, second: u8, third: u8, fourth: u8) 
         && !is_there(records, fourth, id)
 }
 
-/// Whether the number is not above that of the redo threads.
-pub fn has_thread(records: &[Record], thread: ThreadNo) -> bool
-    requires { InOrder records.now }
-    ensures { IsTrue result ↔ IsSomeAnd (base records.now) (λ b. thread ≤ b.threads) }
+/// Whether the number is one that a redo thread may have.
+pub fn is_thread(thread: ThreadNo) -> bool
+    ensures { IsTrue result ↔ ((1 ≤ thread) × (thread ≤ 4)) }
 {
-    match base(records) {
-        Some(b) => thread <= b.threads,
-        None => false,
-    }
+    1 <= thread && thread <= 4
 }
 
 // Whether the incarnation is there, and the log's SCNs are some of it.
@@ -63,8 +59,7 @@ pub fn log_obeys(records: &[Record], l: &LogEntry) -> bool
 {
     id_obeys(records, l.id, 5, 7, 9)
         && l.size <= MOST_BYTES
-        && 1 <= l.thread
-        && has_thread(records, l.thread)
+        && is_thread(l.thread)
         && 1 <= l.sequence
         && is_range(records, l)
 }

@@ -5,7 +5,7 @@ ghost use Rattle.rm_catalog.specs.Keys.{key_of, place_of_key, place_of};
 use rm_base::{FileNo, IncNo, Kind, Moment, NoMemory, Policy, Scn, Seq, Status, Text, ThreadNo};
 use std::alloc::Global;
 
-/// The kind of a record, 1 to 9, and its id. Each record has a key of its own.
+/// The kind of a record, 1 to 10, and its id. Each record has a key of its own.
 #[derive(Clone, Copy, PartialEq, Eq)]
 pub struct Key {
     pub kind: u8,
@@ -177,6 +177,20 @@ pub struct SetEntry {
     pub moment: Moment,
 }
 
+/// Kind 10: from its SCN on a redo thread is enabled, or it is not.
+#[derive(Clone, Copy, PartialEq, Eq)]
+pub struct SwitchEntry {
+    /// 1, 2, 3 and so on.
+    pub id: u32,
+    pub thread: ThreadNo,
+    pub inc: IncNo,
+    pub scn: Scn,
+    /// Whether the thread is enabled from there on.
+    pub on: bool,
+    /// The sequence number that the thread's next log takes in that incarnation: at least 1.
+    pub sequence: u32,
+}
+
 /// A record of the catalog.
 #[derive(Drop)]
 pub enum Record {
@@ -189,6 +203,7 @@ pub enum Record {
     Part(PartEntry),
     Head(HeadEntry),
     Set(SetEntry),
+    Switch(SwitchEntry),
 }
 
 /// A change of the records.
@@ -270,6 +285,7 @@ impl Record {
             Record::Part(r) => (7, r.id),
             Record::Head(_) => (8, 0),
             Record::Set(r) => (9, r.id),
+            Record::Switch(r) => (10, r.id),
         };
         Key { kind, id }
     }
@@ -296,6 +312,7 @@ impl Record {
             Record::Part(r) => Record::Part(*r),
             Record::Head(r) => Record::Head(*r),
             Record::Set(r) => Record::Set(r.copy(alloc)?),
+            Record::Switch(r) => Record::Switch(*r),
         })
     }
 }

@@ -11,8 +11,9 @@ use Rattle.rm_catalog.specs.declared.record.PartEntry.{PartEntry}
 use Rattle.rm_catalog.specs.declared.record.HeadEntry.{HeadEntry}
 use Rattle.rm_catalog.specs.declared.record.SetEntry.{SetEntry}
 use Rattle.rm_catalog.specs.declared.record.SetPart.{SetPart}
+use Rattle.rm_catalog.specs.declared.record.SwitchEntry.{SwitchEntry}
 use Rattle.rm_catalog_bytes.specs.declared.ending.Ending.{Ending}
-use Rattle.rm_catalog_bytes.specs.Spelling.{flag, status_code, kind_code, policy_code, policy_number, base_bytes, incarnation_bytes, datafile_bytes, log_bytes, ending_front, piece_head, mark_bytes, part_bytes, head_bytes, set_part_bytes, set_head}
+use Rattle.rm_catalog_bytes.specs.Spelling.{flag, status_code, kind_code, policy_code, policy_number, base_bytes, incarnation_bytes, datafile_bytes, log_bytes, ending_front, piece_head, mark_bytes, part_bytes, head_bytes, set_part_bytes, set_head, switch_bytes}
 
 -- ---- each field, and what follows it
 
@@ -59,3 +60,7 @@ set_part_fields p x = simp append_assoc
 pub set_fields : (r : SetEntry) (n : ℕ) (x : List ℕ) → set_head r n ++ x ≡ four r.inc ++ (eight r.checkpoint ++ (eight n ++ x))
 unfolding set_head
 set_fields r n x = simp append_assoc
+
+pub switch_fields : (r : SwitchEntry) (x : List ℕ) → switch_bytes r ++ x ≡ r.thread ∷ (four r.inc ++ (eight r.scn ++ (flag r.on ∷ (four r.sequence ++ x))))
+unfolding switch_bytes
+switch_fields r x = simp append_assoc

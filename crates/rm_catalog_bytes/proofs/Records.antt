@@ -2,11 +2,11 @@
 use Rattle.std.proofs.Common.{◌≡◌, ◌∙◌, ℕ, refl, sym, ap, arith}
 use Rattle.rm_catalog.specs.declared.record.Key.{Key}
 use Rattle.rm_catalog.specs.declared.record.Record.{Record}
-use Rattle.rm_catalog.specs.declared.record.Record.TheVariants.{Base, Incarnation, Datafile, Log, Piece, Mark, Part, Head, Set}
+use Rattle.rm_catalog.specs.declared.record.Record.TheVariants.{Base, Incarnation, Datafile, Log, Piece, Mark, Part, Head, Set, Switch}
 use Rattle.rm_catalog.specs.Keys.{key_of}
 use Rattle.rm_catalog_bytes.specs.Fits.{Fits}
 use Rattle.rm_catalog_bytes.specs.Spelling.{body_of}
-use Rattle.rm_catalog_bytes.proofs.Told.{base_same, incarnation_same, datafile_same, log_same, mark_same, part_same, head_same}
+use Rattle.rm_catalog_bytes.proofs.Told.{base_same, incarnation_same, datafile_same, log_same, mark_same, part_same, head_same, switch_same}
 use Rattle.rm_catalog_bytes.proofs.Pieces.{piece_same}
 use Rattle.rm_catalog_bytes.proofs.SetTold.{set_same}
 
@@ -18,86 +18,16 @@ id_in k l e = ap (λ (x : Key). x.id) e
 
 pub record_same : (r s : Record) → Fits r → Fits s → key_of r ≡ key_of s → body_of r ≡ body_of s → r ≡ s
 record_same (Base r) (Base s) fr fs key e = ap Base (base_same r s fr fs e)
-record_same (Base r) (Incarnation s) fr fs key e = absurd (let k = kind_in _ _ key in omega (arith, k))
-record_same (Base r) (Datafile s) fr fs key e = absurd (let k = kind_in _ _ key in omega (arith, k))
-record_same (Base r) (Log s) fr fs key e = absurd (let k = kind_in _ _ key in omega (arith, k))
-record_same (Base r) (Piece s) fr fs key e = absurd (let k = kind_in _ _ key in omega (arith, k))
-record_same (Base r) (Mark s) fr fs key e = absurd (let k = kind_in _ _ key in omega (arith, k))
-record_same (Base r) (Part s) fr fs key e = absurd (let k = kind_in _ _ key in omega (arith, k))
-record_same (Base r) (Head s) fr fs key e = absurd (let k = kind_in _ _ key in omega (arith, k))
-record_same (Base r) (Set s) fr fs key e = absurd (let k = kind_in _ _ key in omega (arith, k))
-record_same (Incarnation r) (Base s) fr fs key e = absurd (let k = kind_in _ _ key in omega (arith, k))
 record_same (Incarnation r) (Incarnation s) fr fs key e = ap Incarnation (incarnation_same r s fr fs (id_in _ _ key) e)
-record_same (Incarnation r) (Datafile s) fr fs key e = absurd (let k = kind_in _ _ key in omega (arith, k))
-record_same (Incarnation r) (Log s) fr fs key e = absurd (let k = kind_in _ _ key in omega (arith, k))
-record_same (Incarnation r) (Piece s) fr fs key e = absurd (let k = kind_in _ _ key in omega (arith, k))
-record_same (Incarnation r) (Mark s) fr fs key e = absurd (let k = kind_in _ _ key in omega (arith, k))
-record_same (Incarnation r) (Part s) fr fs key e = absurd (let k = kind_in _ _ key in omega (arith, k))
-record_same (Incarnation r) (Head s) fr fs key e = absurd (let k = kind_in _ _ key in omega (arith, k))
-record_same (Incarnation r) (Set s) fr fs key e = absurd (let k = kind_in _ _ key in omega (arith, k))
-record_same (Datafile r) (Base s) fr fs key e = absurd (let k = kind_in _ _ key in omega (arith, k))
-record_same (Datafile r) (Incarnation s) fr fs key e = absurd (let k = kind_in _ _ key in omega (arith, k))
 record_same (Datafile r) (Datafile s) fr fs key e = ap Datafile (datafile_same r s fr fs (id_in _ _ key) e)
-record_same (Datafile r) (Log s) fr fs key e = absurd (let k = kind_in _ _ key in omega (arith, k))
-record_same (Datafile r) (Piece s) fr fs key e = absurd (let k = kind_in _ _ key in omega (arith, k))
-record_same (Datafile r) (Mark s) fr fs key e = absurd (let k = kind_in _ _ key in omega (arith, k))
-record_same (Datafile r) (Part s) fr fs key e = absurd (let k = kind_in _ _ key in omega (arith, k))
-record_same (Datafile r) (Head s) fr fs key e = absurd (let k = kind_in _ _ key in omega (arith, k))
-record_same (Datafile r) (Set s) fr fs key e = absurd (let k = kind_in _ _ key in omega (arith, k))
-record_same (Log r) (Base s) fr fs key e = absurd (let k = kind_in _ _ key in omega (arith, k))
-record_same (Log r) (Incarnation s) fr fs key e = absurd (let k = kind_in _ _ key in omega (arith, k))
-record_same (Log r) (Datafile s) fr fs key e = absurd (let k = kind_in _ _ key in omega (arith, k))
 record_same (Log r) (Log s) fr fs key e = ap Log (log_same r s fr fs (id_in _ _ key) e)
-record_same (Log r) (Piece s) fr fs key e = absurd (let k = kind_in _ _ key in omega (arith, k))
-record_same (Log r) (Mark s) fr fs key e = absurd (let k = kind_in _ _ key in omega (arith, k))
-record_same (Log r) (Part s) fr fs key e = absurd (let k = kind_in _ _ key in omega (arith, k))
-record_same (Log r) (Head s) fr fs key e = absurd (let k = kind_in _ _ key in omega (arith, k))
-record_same (Log r) (Set s) fr fs key e = absurd (let k = kind_in _ _ key in omega (arith, k))
-record_same (Piece r) (Base s) fr fs key e = absurd (let k = kind_in _ _ key in omega (arith, k))
-record_same (Piece r) (Incarnation s) fr fs key e = absurd (let k = kind_in _ _ key in omega (arith, k))
-record_same (Piece r) (Datafile s) fr fs key e = absurd (let k = kind_in _ _ key in omega (arith, k))
-record_same (Piece r) (Log s) fr fs key e = absurd (let k = kind_in _ _ key in omega (arith, k))
 record_same (Piece r) (Piece s) fr fs key e = ap Piece (piece_same r s fr fs (id_in _ _ key) e)
-record_same (Piece r) (Mark s) fr fs key e = absurd (let k = kind_in _ _ key in omega (arith, k))
-record_same (Piece r) (Part s) fr fs key e = absurd (let k = kind_in _ _ key in omega (arith, k))
-record_same (Piece r) (Head s) fr fs key e = absurd (let k = kind_in _ _ key in omega (arith, k))
-record_same (Piece r) (Set s) fr fs key e = absurd (let k = kind_in _ _ key in omega (arith, k))
-record_same (Mark r) (Base s) fr fs key e = absurd (let k = kind_in _ _ key in omega (arith, k))
-record_same (Mark r) (Incarnation s) fr fs key e = absurd (let k = kind_in _ _ key in omega (arith, k))
-record_same (Mark r) (Datafile s) fr fs key e = absurd (let k = kind_in _ _ key in omega (arith, k))
-record_same (Mark r) (Log s) fr fs key e = absurd (let k = kind_in _ _ key in omega (arith, k))
-record_same (Mark r) (Piece s) fr fs key e = absurd (let k = kind_in _ _ key in omega (arith, k))
 record_same (Mark r) (Mark s) fr fs key e = ap Mark (mark_same r s fr fs (id_in _ _ key) e)
-record_same (Mark r) (Part s) fr fs key e = absurd (let k = kind_in _ _ key in omega (arith, k))
-record_same (Mark r) (Head s) fr fs key e = absurd (let k = kind_in _ _ key in omega (arith, k))
-record_same (Mark r) (Set s) fr fs key e = absurd (let k = kind_in _ _ key in omega (arith, k))
-record_same (Part r) (Base s) fr fs key e = absurd (let k = kind_in _ _ key in omega (arith, k))
-record_same (Part r) (Incarnation s) fr fs key e = absurd (let k = kind_in _ _ key in omega (arith, k))
-record_same (Part r) (Datafile s) fr fs key e = absurd (let k = kind_in _ _ key in omega (arith, k))
-record_same (Part r) (Log s) fr fs key e = absurd (let k = kind_in _ _ key in omega (arith, k))
-record_same (Part r) (Piece s) fr fs key e = absurd (let k = kind_in _ _ key in omega (arith, k))
-record_same (Part r) (Mark s) fr fs key e = absurd (let k = kind_in _ _ key in omega (arith, k))
 record_same (Part r) (Part s) fr fs key e = ap Part (part_same r s fr fs (id_in _ _ key) e)
-record_same (Part r) (Head s) fr fs key e = absurd (let k = kind_in _ _ key in omega (arith, k))
-record_same (Part r) (Set s) fr fs key e = absurd (let k = kind_in _ _ key in omega (arith, k))
-record_same (Head r) (Base s) fr fs key e = absurd (let k = kind_in _ _ key in omega (arith, k))
-record_same (Head r) (Incarnation s) fr fs key e = absurd (let k = kind_in _ _ key in omega (arith, k))
-record_same (Head r) (Datafile s) fr fs key e = absurd (let k = kind_in _ _ key in omega (arith, k))
-record_same (Head r) (Log s) fr fs key e = absurd (let k = kind_in _ _ key in omega (arith, k))
-record_same (Head r) (Piece s) fr fs key e = absurd (let k = kind_in _ _ key in omega (arith, k))
-record_same (Head r) (Mark s) fr fs key e = absurd (let k = kind_in _ _ key in omega (arith, k))
-record_same (Head r) (Part s) fr fs key e = absurd (let k = kind_in _ _ key in omega (arith, k))
 record_same (Head r) (Head s) fr fs key e = ap Head (head_same r s fr fs e)
-record_same (Head r) (Set s) fr fs key e = absurd (let k = kind_in _ _ key in omega (arith, k))
-record_same (Set r) (Base s) fr fs key e = absurd (let k = kind_in _ _ key in omega (arith, k))
-record_same (Set r) (Incarnation s) fr fs key e = absurd (let k = kind_in _ _ key in omega (arith, k))
-record_same (Set r) (Datafile s) fr fs key e = absurd (let k = kind_in _ _ key in omega (arith, k))
-record_same (Set r) (Log s) fr fs key e = absurd (let k = kind_in _ _ key in omega (arith, k))
-record_same (Set r) (Piece s) fr fs key e = absurd (let k = kind_in _ _ key in omega (arith, k))
-record_same (Set r) (Mark s) fr fs key e = absurd (let k = kind_in _ _ key in omega (arith, k))
-record_same (Set r) (Part s) fr fs key e = absurd (let k = kind_in _ _ key in omega (arith, k))
-record_same (Set r) (Head s) fr fs key e = absurd (let k = kind_in _ _ key in omega (arith, k))
 record_same (Set r) (Set s) fr fs key e = ap Set (set_same r s fr fs (id_in _ _ key) e)
+record_same (Switch r) (Switch s) fr fs key e = ap Switch (switch_same r s fr fs (id_in _ _ key) e)
+record_same r s fr fs key e = absurd (let k = kind_in _ _ key in omega (arith, k))
 
 key_of_parts : ℕ → ℕ → Key
 key_of_parts kind id = record { kind = kind; id = id }

@@ -19,10 +19,11 @@ use Rattle.rm_catalog.specs.declared.record.PartEntry.{PartEntry}
 use Rattle.rm_catalog.specs.declared.record.HeadEntry.{HeadEntry}
 use Rattle.rm_catalog.specs.declared.record.SetEntry.{SetEntry}
 use Rattle.rm_catalog.specs.declared.record.SetPart.{SetPart}
+use Rattle.rm_catalog.specs.declared.record.SwitchEntry.{SwitchEntry}
 use Rattle.rm_catalog_bytes.specs.declared.ending.Ending.{Ending}
-use Rattle.rm_catalog_bytes.specs.Fits.{BaseFits, IncarnationFits, DatafileFits, LogFits, EndingFrontFits, PieceHeadFits, MarkFits, PartFits, HeadFits, SetPartFits, SetFits}
-use Rattle.rm_catalog_bytes.specs.Spelling.{flag, status_code, kind_code, policy_code, policy_number, base_bytes, incarnation_bytes, datafile_bytes, log_bytes, ending_front, piece_head, mark_bytes, part_bytes, head_bytes, set_part_bytes, set_head}
-use Rattle.rm_catalog_bytes.proofs.Bodies.{base_fields, incarnation_fields, datafile_fields, log_fields, ending_fields, piece_fields, mark_fields, part_fields, head_fields, set_part_fields, set_fields}
+use Rattle.rm_catalog_bytes.specs.Fits.{BaseFits, IncarnationFits, DatafileFits, LogFits, EndingFrontFits, PieceHeadFits, MarkFits, PartFits, HeadFits, SetPartFits, SetFits, SwitchFits}
+use Rattle.rm_catalog_bytes.specs.Spelling.{flag, status_code, kind_code, policy_code, policy_number, base_bytes, incarnation_bytes, datafile_bytes, log_bytes, ending_front, piece_head, mark_bytes, part_bytes, head_bytes, set_part_bytes, set_head, switch_bytes}
+use Rattle.rm_catalog_bytes.proofs.Bodies.{base_fields, incarnation_fields, datafile_fields, log_fields, ending_fields, piece_fields, mark_fields, part_fields, head_fields, set_part_fields, set_fields, switch_fields}
 
 cons_same : (a b : ℕ) (x y : List ℕ) → a ∷ x ≡ b ∷ y → (a ≡ b) × (x ≡ y)
 cons_same a b x y e = (cc, cc)
@@ -410,6 +411,35 @@ head_same r s fr fs e =
     let e_scn : r.scn ≡ s.scn = told.scn in
     let made : head_of r.opened r.inc r.scn ≡ head_of s.opened s.inc s.scn = cc (e_opened, e_inc, e_scn) in
     sym (head_is r) ∙ made ∙ head_is s
+
+-- ---- switch
+
+pub record SwitchTold (r : SwitchEntry) (n0 n1 n2 n3 n4 : ℕ) (x y : List ℕ) : Type 0 where
+  pub thread : n0 ≡ r.thread
+  pub inc : n1 ≡ r.inc
+  pub scn : n2 ≡ r.scn
+  pub on : n3 ≡ flag r.on
+  pub sequence : n4 ≡ r.sequence
+  pub rest : x ≡ y
+
+pub switch_told : (r : SwitchEntry) (n0 n1 n2 n3 n4 : ℕ) (x y : List ℕ) → SwitchFits r → n1 < 2 ^ 32 → n2 < 2 ^ 64 → n4 < 2 ^ 32 → n0 ∷ (four n1 ++ (eight n2 ++ (n3 ∷ (four n4 ++ x)))) ≡ switch_bytes r ++ y → SwitchTold r n0 n1 n2 n3 n4 x y
+switch_told r n0 n1 n2 n3 n4 x y fits l1 l2 l4 e =
+    let t0 = cons_same n0 r.thread _ _ (e ∙ switch_fields r y) in
+    let t1 = four_same n1 r.inc _ _ l1 fits.inc t0.1 in
+    let t2 = eight_same n2 r.scn _ _ l2 fits.scn t1.1 in
+    let t3 = cons_same n3 (flag r.on) _ _ t2.1 in
+    let t4 = four_same n4 r.sequence _ _ l4 fits.sequence t3.1 in
+    record { thread = t0.0; inc = t1.0; scn = t2.0; on = t3.0; sequence = t4.0; rest = t4.1 }
+
+pub length-switch : (r : SwitchEntry) → length (switch_bytes r) ≡ 18
+unfolding switch_bytes
+length-switch r = simp (length-append, length-four, length-eight)
+
+pub switch_same : (r s : SwitchEntry) → SwitchFits r → SwitchFits s → r.id ≡ s.id → switch_bytes r ≡ switch_bytes s → r ≡ s
+switch_same r s fr fs same_key e =
+    let told = switch_told s r.thread r.inc r.scn (flag r.on) r.sequence [] [] fs fr.inc fr.scn fr.sequence (sym (switch_fields r []) ∙ ap (λ (z : List ℕ). z ++ []) e) in
+    let e_on : r.on ≡ s.on = flag_same r.on s.on told.on in
+    λ i. record { id = same_key i; thread = told.thread i; inc = told.inc i; scn = told.scn i; on = e_on i; sequence = told.sequence i }
 
 -- ---- set
 

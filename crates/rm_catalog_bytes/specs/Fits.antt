@@ -10,8 +10,9 @@ use Rattle.rm_catalog.specs.declared.record.PartEntry.{PartEntry}
 use Rattle.rm_catalog.specs.declared.record.HeadEntry.{HeadEntry}
 use Rattle.rm_catalog.specs.declared.record.SetEntry.{SetEntry}
 use Rattle.rm_catalog.specs.declared.record.SetPart.{SetPart}
+use Rattle.rm_catalog.specs.declared.record.SwitchEntry.{SwitchEntry}
 use Rattle.rm_catalog.specs.declared.record.Record.{Record}
-use Rattle.rm_catalog.specs.declared.record.Record.TheVariants.{Base, Incarnation, Datafile, Log, Piece, Mark, Part, Head, Set}
+use Rattle.rm_catalog.specs.declared.record.Record.TheVariants.{Base, Incarnation, Datafile, Log, Piece, Mark, Part, Head, Set, Switch}
 use Rattle.rm_catalog_bytes.specs.declared.ending.Ending.{Ending}
 use Rattle.rm_catalog_bytes.specs.Spelling.{policy_number, piece_ending, set_ending}
 
@@ -91,6 +92,11 @@ pub record SetFits (r : SetEntry) : Type 0 where
   pub parts : All SetPartFits r.parts
   pub ending : EndingFits (set_ending r)
 
+pub record SwitchFits (r : SwitchEntry) : Type 0 where
+  pub inc : r.inc < 2 ^ 32
+  pub scn : r.scn < 2 ^ 64
+  pub sequence : r.sequence < 2 ^ 32
+
 -- each number fits its type, a digest has 32 bytes, and a tag is UTF-8
 abbrev pub Fits : Record → Type 0
 Fits (Base r) = BaseFits r
@@ -102,3 +108,4 @@ Fits (Mark r) = MarkFits r
 Fits (Part r) = PartFits r
 Fits (Head r) = HeadFits r
 Fits (Set r) = SetFits r
+Fits (Switch r) = SwitchFits r

@@ -10,9 +10,10 @@ ghost use Rattle.rm_catalog.specs.declared.record.PartEntry.{PartEntry};
 ghost use Rattle.rm_catalog.specs.declared.record.LogEntry.{LogEntry};
 ghost use Rattle.rm_catalog.specs.declared.record.PieceEntry.{PieceEntry};
 ghost use Rattle.rm_catalog.specs.declared.record.HeadEntry.{HeadEntry};
+ghost use Rattle.rm_catalog.specs.declared.record.SwitchEntry.{SwitchEntry};
 ghost use Rattle.rm_catalog.specs.declared.record.Record.{Record};
-ghost use Rattle.rm_catalog_bytes.specs.Spelling.{base_bytes, incarnation_bytes, datafile_bytes, log_bytes, piece_head, piece_ending, piece_bytes, mark_bytes, part_bytes, head_bytes, body_of};
-ghost use Rattle.rm_catalog_bytes.specs.Fits.{BaseFits, IncarnationFits, DatafileFits, LogFits, PieceFits, PieceHeadFits, MarkFits, PartFits, HeadFits, Fits};
+ghost use Rattle.rm_catalog_bytes.specs.Spelling.{base_bytes, incarnation_bytes, datafile_bytes, log_bytes, piece_head, piece_ending, piece_bytes, mark_bytes, part_bytes, head_bytes, switch_bytes, body_of};
+ghost use Rattle.rm_catalog_bytes.specs.Fits.{BaseFits, IncarnationFits, DatafileFits, LogFits, PieceFits, PieceHeadFits, MarkFits, PartFits, HeadFits, SwitchFits, Fits};
 
 use crate::codes::{flag_of, kind_of, policy_of, status_of};
 use crate::ending::{Ending, ending_of};
@@ -22,7 +23,7 @@ use rm_base::FormatFault;
 use rm_base::bytes::take_u8;
 use rm_catalog::{
     BaseEntry, DatafileEntry, HeadEntry, IncarnationEntry, Key, LogEntry, MarkEntry, PartEntry,
-    PieceEntry, Record,
+    PieceEntry, Record, SwitchEntry,
 };
 use std::alloc::Global;
 
@@ -258,6 +259,34 @@ fn take_head(bytes: &[u8]) -> Option<(HeadEntry, &[u8])>
     Some((HeadEntry { opened, inc, scn }, rest))
 }
 
+#[tactic(auto, using(crate::proofs::Bodies::switch_fields))]
+fn take_switch(id: u32, bytes: &[u8]) -> Option<(SwitchEntry, &[u8])>
+    requires { 18 ≤ length bytes.now }
+    ensures parts { IfSome result (λ r. bytes.now ≡ switch_bytes r.0 ++ r.1.now) }
+    ensures len { IfSome result (λ r. length bytes.now ≡ 18 + length r.1.now) }
+    ensures fits { IfSome result (λ r. SwitchFits r.0) }
+    ensures id { IfSome result (λ r. r.0.id ≡ id) }
+    ensures none { IfNone result ((r : SwitchEntry) (rest : List ℕ) → SwitchFits r → bytes.now ≢ switch_bytes r ++ rest) }
+{
+    let (thread, rest) = take_u8(bytes);
+    let (inc, rest) = take_u32(rest);
+    let (scn, rest) = take_u64(rest);
+    let (on, rest) = take_u8(rest);
+    let (sequence, rest) = take_u32(rest);
+    let Some(on) = flag_of(on) else {
+        return None;
+    };
+    let entry = SwitchEntry {
+        id,
+        thread,
+        inc,
+        scn,
+        on,
+        sequence,
+    };
+    Some((entry, rest))
+}
+
 fn base_of(bytes: &[u8]) -> Option<BaseEntry>
     ensures found { IfSome result (λ r. bytes.now ≡ base_bytes r) }
     ensures fits { IfSome result (λ r. BaseFits r) }
@@ -353,6 +382,21 @@ fn head_of(bytes: &[u8]) -> Option<HeadEntry>
     Some(entry)
 }
 
+fn switch_of(id: u32, bytes: &[u8]) -> Option<SwitchEntry>
+    ensures found { IfSome result (λ r. bytes.now ≡ switch_bytes r) }
+    ensures fits { IfSome result (λ r. SwitchFits r) }
+    ensures id { IfSome result (λ r. r.id ≡ id) }
+    ensures none { IfNone result ((r : SwitchEntry) → SwitchFits r → bytes.now ≢ switch_bytes r) }
+{
+    if bytes.len() != 18 {
+        return None;
+    }
+    let Some((entry, _)) = take_switch(id, bytes) else {
+        return None;
+    };
+    Some(entry)
+}
+
 fn piece_of(alloc: Global, id: u32, bytes: &[u8]) -> Result<PieceEntry, FormatFault>
     ensures found { IfOk result (λ r. bytes.now ≡ piece_bytes r) }
     ensures fits { IfOk result (λ r. PieceFits r) }
@@ -410,6 +454,10 @@ pub fn decode_record(alloc: Global, key: Key, bytes: &[u8]) -> Result<Record, Fo
             None => Err(FormatFault::Bad),
         },
         9 => Ok(Record::Set(set_of(alloc, key.id, bytes)?)),
+        10 => match switch_of(key.id, bytes) {
+            Some(r) => Ok(Record::Switch(r)),
+            None => Err(FormatFault::Bad),
+        },
         _ => Err(FormatFault::Bad),
     }
 }

@@ -1,7 +1,7 @@
 //! A record as bytes.
 ghost use Rattle.std.specs.Prelude.{◌≡◌, ◌++◌, OnOk, IfOk};
-ghost use Rattle.rm_catalog_bytes.specs.Spelling.{base_bytes, incarnation_bytes, datafile_bytes, log_bytes, piece_head, piece_bytes, mark_bytes, part_bytes, head_bytes, body_of};
-ghost use Rattle.rm_catalog_bytes.specs.Fits.{BaseFits, IncarnationFits, DatafileFits, LogFits, PieceFits, PieceHeadFits, MarkFits, PartFits, HeadFits, Fits};
+ghost use Rattle.rm_catalog_bytes.specs.Spelling.{base_bytes, incarnation_bytes, datafile_bytes, log_bytes, piece_head, piece_bytes, mark_bytes, part_bytes, head_bytes, switch_bytes, body_of};
+ghost use Rattle.rm_catalog_bytes.specs.Fits.{BaseFits, IncarnationFits, DatafileFits, LogFits, PieceFits, PieceHeadFits, MarkFits, PartFits, HeadFits, SwitchFits, Fits};
 
 use crate::codes::{flag, kind_code, policy_code, policy_number, status_code};
 use crate::ending::push_ending;
@@ -10,7 +10,7 @@ use crate::sets::push_set;
 use rm_base::{NoMemory, Seq};
 use rm_catalog::{
     BaseEntry, DatafileEntry, HeadEntry, IncarnationEntry, LogEntry, MarkEntry, PartEntry,
-    PieceEntry, Record,
+    PieceEntry, Record, SwitchEntry,
 };
 use std::alloc::Global;
 
@@ -123,6 +123,18 @@ fn push_head(out: &mut Vec<u8>, r: &HeadEntry) -> Result<(), NoMemory>
     push_u64(out, r.scn)
 }
 
+#[tactic(auto, unfolding(crate::specs::Spelling::switch_bytes))]
+fn push_switch(out: &mut Vec<u8>, r: &SwitchEntry) -> Result<(), NoMemory>
+    ensures bytes { OnOk result (out.new.items ≡ out.old.items ++ switch_bytes r.now) }
+    ensures fits { OnOk result (SwitchFits r.now) }
+{
+    out.push(r.thread)?;
+    push_u32(out, r.inc)?;
+    push_u64(out, r.scn)?;
+    out.push(flag(r.on))?;
+    push_u32(out, r.sequence)
+}
+
 /// The fields of a record without its key.
 pub fn encode_record(alloc: Global, entry: &Record) -> Result<Seq<u8>, NoMemory>
     ensures spelled { IfOk result (λ bytes. bytes ≡ body_of entry.now) }
@@ -139,6 +151,7 @@ pub fn encode_record(alloc: Global, entry: &Record) -> Result<Seq<u8>, NoMemory>
         Record::Part(r) => push_part(&mut out, r)?,
         Record::Head(r) => push_head(&mut out, r)?,
         Record::Set(r) => push_set(&mut out, r)?,
+        Record::Switch(r) => push_switch(&mut out, r)?,
     }
     Ok(Seq::from_vec(out))
 }

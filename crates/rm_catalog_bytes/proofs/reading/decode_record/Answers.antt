@@ -1,5 +1,5 @@
 use Rattle.std.proofs.Common.{◌∙◌, sym}
-use Rattle.rm_catalog.specs.declared.record.Record.TheVariants.{Base, Incarnation, Datafile, Log, Mark, Part, Head}
+use Rattle.rm_catalog.specs.declared.record.Record.TheVariants.{Base, Incarnation, Datafile, Log, Mark, Part, Head, Switch}
 use Rattle.rm_catalog_bytes.proofs.Records.{record_same, key_made}
 use Rattle.rm_catalog_bytes.proofs.reading.decode_record.Goals as goal
 
@@ -30,3 +30,7 @@ returns-in-Some-part_of-clause-only c r fits key is =
 pub returns-in-Some-head_of-clause-only : goal.returns-in-Some-head_of-clause-only
 returns-in-Some-head_of-clause-only c r fits key is =
     record_same (Head c.in-Some-head_of.r) r c.in-Some-head_of.ensures.fits fits (key_made c.args.key 8 0 c.in-8.is c.if-key-eq0-2.true ∙ sym key) (sym c.in-Some-head_of.ensures.found ∙ is)
+
+pub returns-in-Some-switch_of-clause-only : goal.returns-in-Some-switch_of-clause-only
+returns-in-Some-switch_of-clause-only c r fits key is =
+    record_same (Switch c.in-Some-switch_of.r) r c.in-Some-switch_of.ensures.fits fits (key_made c.args.key 10 _ c.in-10.is (sym c.in-Some-switch_of.ensures.id) ∙ sym key) (sym c.in-Some-switch_of.ensures.found ∙ is)
