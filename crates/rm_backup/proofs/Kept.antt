@@ -4,7 +4,7 @@ use Rattle.std.proofs.lemmas.List.{map-append}
 use Rattle.rm_catalog.specs.Keys.{piece_in}
 use Rattle.rm_catalog.specs.declared.record.PieceEntry.{PieceEntry}
 use Rattle.rm_catalog.specs.declared.record.Record.{Record}
-use Rattle.rm_catalog.specs.declared.record.Record.TheVariants.{Base, Incarnation, Datafile, Log, Piece, Mark, Part, Head, Set}
+use Rattle.rm_catalog.specs.declared.record.Record.TheVariants.{Base, Incarnation, Datafile, Log, Piece, Mark, Part, Head, Set, Switch}
 use Rattle.rm_backup.specs.Level1s.{AreKept, StartAbove, StartsAbove, of_none, takes, leaves}
 use Rattle.rm_backup.specs.Looking.{IsPassing}
 use Rattle.rm_backup.specs.Records.{pieces}
@@ -34,3 +34,4 @@ module _ (f : ℕ) (tag : List ℕ) (k : ℕ) where
   above_passed rs (Part p) xs was none = same_above rs (Part p) xs was refl
   above_passed rs (Head h) xs was none = same_above rs (Head h) xs was refl
   above_passed rs (Set e) xs was none = same_above rs (Set e) xs was refl
+  above_passed rs (Switch x) xs was none = same_above rs (Switch x) xs was refl

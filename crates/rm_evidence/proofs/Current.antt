@@ -36,6 +36,7 @@ base_at (records.Mark m) h = absurd (omega arith)
 base_at (records.Part p) h = absurd (omega arith)
 base_at (records.Head x) h = absurd (omega arith)
 base_at (records.Set x) h = absurd (omega arith)
+base_at (records.Switch x) h = absurd (omega arith)
 
 is_base : (y : Record) (b : BaseEntry) → base_in y ≡ Some b → y ≡ records.Base b
 is_base (records.Base c) b h = ap (λ (x : BaseEntry). records.Base x) (same_Some c b h)
@@ -47,6 +48,7 @@ is_base (records.Mark m) b h = absurd (cc)
 is_base (records.Part p) b h = absurd (cc)
 is_base (records.Head x) b h = absurd (cc)
 is_base (records.Set x) b h = absurd (cc)
+is_base (records.Switch x) b h = absurd (cc)
 
 incarnation_at : (y : Record) (n : ℕ) → place_of y ≡ place 2 n → (i : IncarnationEntry) × (incarnation_in y ≡ Some i)
 incarnation_at (records.Base b) n h = absurd (omega arith)
@@ -58,6 +60,7 @@ incarnation_at (records.Mark m) n h = absurd (omega arith)
 incarnation_at (records.Part p) n h = absurd (omega arith)
 incarnation_at (records.Head x) n h = absurd (omega arith)
 incarnation_at (records.Set x) n h = absurd (omega arith)
+incarnation_at (records.Switch x) n h = absurd (omega arith)
 
 -- a database has base facts
 pub has_base : (rs : List Record) → HasDatabase rs → ¬ (base rs ≡ None)

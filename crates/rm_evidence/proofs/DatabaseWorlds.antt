@@ -12,6 +12,7 @@ use Rattle.rm_catalog.specs.Keys.{datafile, incarnation}
 use Rattle.rm_catalog.specs.Rules.{HasDatabase, IsCatalog}
 use Rattle.rm_catalog.specs.Trees.{nodes}
 use Rattle.rm_catalog.proofs.Numbering.{entries, entry_at, number_is, number_there}
+use Rattle.rm_catalog.proofs.Switching.{switch-late}
 use Rattle.rm_catalog.proofs.Trees.{length_nodes, parents_below, some_node, few_nodes, in_tree_is}
 use Rattle.rm_history.specs.declared.tree.Incarnation as tree
 use Rattle.rm_history.specs.declared.world.Datafile.{Datafile}
@@ -20,6 +21,7 @@ use Rattle.rm_history.specs.World.{file_of}
 use Rattle.rm_evidence.specs.Database.{created_by, world_of, IsCreated, IsSoundWorld}
 use Rattle.rm_evidence.proofs.Files.{file_of-is}
 use Rattle.rm_evidence.proofs.Found.{datafile-there, datafile-rule, incarnation-rule}
+use Rattle.rm_evidence.proofs.Switching.{one-switch}
 
 -- an incarnation that is found is there
 pub found-there : (rs : List Record) (n : ℕ) (i : IncarnationEntry) → IsCatalog rs → incarnation n rs ≡ Some i → IsThere (nodes rs) n
@@ -153,4 +155,6 @@ pub is-sound : (rs : List Record) → IsCatalog rs → HasDatabase rs → IsSoun
 is-sound rs c database = record {
   tree = is-tree rs c database;
   files = λ f d h. file-created rs f d c h;
+  late = λ x has. switch-late rs c x has;
+  switches = λ x y one two inc scn. one-switch rs x y c one two inc scn;
 }

@@ -15,9 +15,9 @@ use Rattle.rm_catalog.proofs.Numbering.{rises_catalog}
 use Rattle.rm_catalog.proofs.Told.{found_is}
 use Rattle.rm_history.specs.declared.world.Datafile.{Datafile}
 use Rattle.rm_history.specs.World.{file_of}
+use Rattle.rm_catalog.proofs.Telling.{told-record, record-told, told-ascends, HasNoGap, numbers-are}
 use Rattle.rm_evidence.specs.Database.{created_by, datafiles, world_of}
 use Rattle.rm_evidence.proofs.Found.{is-datafile, datafile-placed, datafile-rule, datafile-at, datafile-there}
-use Rattle.rm_evidence.proofs.Telling.{told-record, record-told, told-ascends, HasNoGap, numbers-are}
 
 -- what the datafiles among the records say, in order
 abbrev pub entries : List Record → List DatafileEntry

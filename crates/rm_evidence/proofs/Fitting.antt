@@ -48,6 +48,7 @@ incarnations-there rs (kind.Set e) c has =
     let rule : SetRule rs e = (obeys rs (kind.Set e) c has).own in
     let first : SetPartRule rs e (get_or e.parts 0 any-part) = rule.parts.each 0 any-part rule.parts.some in
     some-there rs e.inc (λ i. (get_or e.parts 0 any-part).high ≤ i.end) c first.end
+incarnations-there rs (kind.Switch x) c has = tt
 
 -- what holds of each item holds of each item in place
 all-placed : {A : Type 0} (P : A → Type 0) (xs : List A) → All P xs → All (λ x. P x.1) (placed xs)

@@ -15,5 +15,5 @@ pub mod Runs
 pub mod Seen
 pub mod Single
 pub mod Sorting
-pub mod Telling
+pub mod Switching
 pub mod Worlds

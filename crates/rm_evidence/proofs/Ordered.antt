@@ -6,6 +6,7 @@ use Rattle.std.specs.Prelude.{IsPermutation}
 use Rattle.std.proofs.Math.Seq.{take-length}
 use Rattle.std.proofs.lemmas.List.{append-nil, get_or-map, get_or-take, get_or_default, length-map, length-take, map-append, take_more}
 use Rattle.std.proofs.lemmas.List.Elements.{Contains-get_or, filter_map-append}
+use Rattle.std.proofs.lemmas.List.Kept.{AllPairs-cons}
 use Rattle.std.proofs.lemmas.List.Sorted.{Contains-permutation, IsPermutation-map, IsPermutation-sym}
 use Rattle.std.proofs.lemmas.Option.{same_Some}
 use Rattle.rm_base.specs.Store.{Held}
@@ -13,6 +14,7 @@ use Rattle.rm_base.proofs.Lists.{map_from, map_to}
 use Rattle.rm_catalog.specs.declared.record.Record.{Record}
 use Rattle.rm_catalog.specs.Rules.{IsCatalog}
 use Rattle.rm_catalog.proofs.Numbering.{rises_catalog}
+use Rattle.rm_catalog.proofs.Telling.{record-told, told-record}
 use Rattle.rm_evidence.specs.declared.evidence.Evidence.{Evidence}
 use Rattle.rm_evidence.specs.declared.evidence.InPlace.{InPlace}
 use Rattle.rm_evidence.specs.Database.{Database, database_in, dbid_in}
@@ -21,11 +23,24 @@ use Rattle.rm_evidence.specs.Names.{object_id}
 use Rattle.rm_evidence.specs.Place.{placed_evidence}
 use Rattle.rm_evidence.specs.Seen.{IsSeen}
 use Rattle.rm_evidence.specs.Taking.{Adds, AreObjects, HasId, with_object}
-use Rattle.rm_evidence.proofs.Extending.{pairs-mapped}
+use Rattle.rm_evidence.proofs.Extending.{pairs-head, pairs-mapped, pairs-tail}
 use Rattle.rm_evidence.proofs.Runs.{adds-by_objects, adds-then, apart, gathered, places-ascend}
 use Rattle.rm_evidence.proofs.Seen.{adds-as, ahead-named, seen-more, seen-then}
 use Rattle.rm_evidence.proofs.Single.{IsAhead}
-use Rattle.rm_evidence.proofs.Telling.{record-told, told-pairs, told-record}
+
+-- what is told of each two records is so related
+told-pairs : {A : Type 0} (tell : Record → Option A) (R : A → A → Type 0) (rs : List Record) → AllPairs (λ r s. (x y : A) → tell r ≡ Some x → tell s ≡ Some y → R x y) rs → AllPairs R (filter_map tell rs)
+told-pairs tell R [] all = λ i j d less inside. absurd (omega arith)
+told-pairs {A} tell R (r ∷ rs) all = step (tell r) refl (told-pairs tell R rs (pairs-tail (λ (s t : Record). (x y : A) → tell s ≡ Some x → tell t ≡ Some y → R x y) r rs all))
+  where
+    step : (o : Option A) → tell r ≡ o → AllPairs R (filter_map tell rs) → AllPairs R (cons_option o (filter_map tell rs))
+    step None none pairs = pairs
+    step (Some x) some pairs = AllPairs-cons R x (filter_map tell rs)
+        (λ k d lt.
+        let y = get_or (filter_map tell rs) k d in
+        let from = told-record tell rs y (Contains-get_or (filter_map tell rs) k d lt) in
+        pairs-head (λ (s t : Record). (x y : A) → tell s ≡ Some x → tell t ≡ Some y → R x y) r rs from.0 all from.1 x y some from.2)
+        pairs
 
 -- a record of an object, with its id
 abbrev pub numbered : Record → Option (ℕ × Record)

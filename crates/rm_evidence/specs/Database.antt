@@ -1,16 +1,18 @@
--- The database of which records tell: its incarnations, threads and datafiles.
-use Rattle.std.specs.Prelude.{◌≡◌, ℕ, ◌<◌, ◌≤◌, List, Some}
+-- The database of which records tell: its incarnations, threads, switches of threads and datafiles.
+use Rattle.std.specs.Prelude.{◌≡◌, ℕ, ◌<◌, ◌≤◌, Contains, List, Some}
 use Rattle.std.specs.List.{filter_map}
 use Rattle.std.specs.Option.{option_map, option_map_or}
 use Rattle.rm_base.specs.Numbers.{last_scn}
 use Rattle.rm_history.specs.declared.tree.Incarnation.{Incarnation}
 use Rattle.rm_history.specs.declared.world.Datafile.{Datafile}
+use Rattle.rm_history.specs.declared.world.Switch.{Switch}
 use Rattle.rm_history.specs.declared.world.World.{World}
 use Rattle.rm_history.specs.Tree.{IsThere, IsTree, end_of, reset_of}
 use Rattle.rm_history.specs.World.{file_of}
 use Rattle.rm_catalog.specs.declared.record.DatafileEntry.{DatafileEntry}
 use Rattle.rm_catalog.specs.declared.record.Record.{Record}
 use Rattle.rm_catalog.specs.Keys.{base, datafile_in}
+use Rattle.rm_catalog.specs.Switches.{began_with, switches}
 use Rattle.rm_catalog.specs.Trees.{nodes}
 
 -- a datafile as its record tells it
@@ -20,10 +22,6 @@ created_by f = record { inc = f.inc; creation = f.creation; blocks = f.blocks }
 -- the datafiles of the records, in order
 abbrev pub datafiles : List Record → List Datafile
 datafiles rs = filter_map (λ r. option_map created_by (datafile_in r)) rs
-
--- how many redo threads there are
-abbrev pub threads_in : List Record → ℕ
-threads_in rs = option_map_or (λ b. b.threads) (base rs) 0
 
 -- the number of the database; 0 without one
 abbrev pub dbid_in : List Record → ℕ
@@ -43,7 +41,7 @@ abbrev pub database_in : List Record → Database
 database_in rs = record { dbid = dbid_in rs; files = datafiles rs }
 
 abbrev pub world_of : List Record → World
-world_of rs = record { tree = nodes rs; threads = threads_in rs; files = datafiles rs }
+world_of rs = record { tree = nodes rs; threads = began_with rs; switches = switches rs; files = datafiles rs }
 
 -- what is true of a datafile: it was created on an incarnation that is there
 pub record IsCreated (tree : List Incarnation) (d : Datafile) : Type 0 where
@@ -56,6 +54,9 @@ pub record IsCreated (tree : List Incarnation) (d : Datafile) : Type 0 where
 pub record IsSoundWorld (w : World) : Type 0 where
   pub tree : IsTree w.tree
   pub files : (f : ℕ) (d : Datafile) → file_of w f ≡ Some d → IsCreated w.tree d
+  pub late : (x : Switch) → Contains w.switches x → 0 < x.scn
+  -- two switches at one SCN of one incarnation are one
+  pub switches : (x y : Switch) → Contains w.switches x → Contains w.switches y → x.inc ≡ y.inc → x.scn ≡ y.scn → x ≡ y
 
 -- what is true of the current incarnation of a catalog
 pub record IsCurrent (rs : List Record) (n : ℕ) : Type 0 where

@@ -1,15 +1,18 @@
 //! The database of which the records of a catalog tell.
-ghost use Rattle.std.specs.Prelude.{◌≡◌, ◌↔◌, IsTrue};
+ghost use Rattle.std.specs.Prelude.{◌≡◌, ◌↔◌, ◌++◌, IfOk, IsTrue, OnOk, option_to_list};
 ghost use Rattle.rm_catalog.specs.Keys.{base, datafile as entry_of};
 ghost use Rattle.rm_catalog.specs.Rules.{HasDatabase};
 ghost use Rattle.rm_catalog.specs.Trees.{nodes};
 ghost use Rattle.rm_history.specs.Tree.{IsThere};
 ghost use Rattle.rm_history.specs.World.{file_of};
-ghost use Rattle.rm_evidence.specs.Database.{current_in, dbid_in, threads_in, world_of};
+ghost use Rattle.rm_catalog.specs.Switches.{began_with, switches};
+ghost use Rattle.rm_evidence.specs.Database.{current_in, dbid_in, world_of};
 
-use rm_base::{FileNo, IncNo, ThreadNo};
+use rm_base::{FileNo, IncNo, NoMemory, ThreadNo};
+use rm_catalog::switches::told_by;
 use rm_catalog::{BaseEntry, Catalog, DatafileEntry, Key, Record};
-use rm_history::Datafile;
+use rm_history::{Datafile, Switch};
+use std::alloc::Global;
 
 /// Whether there is a database.
 pub fn has_database(catalog: &Catalog) -> bool
@@ -62,14 +65,35 @@ pub(crate) fn dbid_of(catalog: &Catalog) -> u32
     }
 }
 
-/// How many redo threads there are; 0 without a database.
+/// How many redo threads the database began with; 0 without one.
 pub fn threads(catalog: &Catalog) -> ThreadNo
-    ensures { result ≡ threads_in catalog.now }
+    ensures { result ≡ began_with catalog.now }
 {
     match base_of(catalog) {
         Some(base) => base.threads,
         None => 0,
     }
+}
+
+// Adds what is told, if it is.
+fn add_told(found: &mut Vec<Switch>, told: Option<Switch>) -> Result<(), NoMemory>
+    ensures { OnOk result (found.new.items ≡ found.old.items ++ option_to_list told) }
+{
+    if let Some(switch) = told {
+        found.push(switch)?;
+    }
+    Ok(())
+}
+
+/// The switches of redo threads, in the order of their numbers.
+pub fn switches(alloc: Global, catalog: &Catalog) -> Result<Vec<Switch>, NoMemory>
+    ensures { IfOk result (λ xs. xs.items ≡ switches catalog.now) }
+{
+    let mut found = Vec::new(alloc);
+    for row in catalog.records() {
+        add_told(&mut found, told_by(row))?;
+    }
+    Ok(found)
 }
 
 /// The current incarnation.

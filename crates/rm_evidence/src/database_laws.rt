@@ -13,7 +13,8 @@ pub fn the_datafiles_are_those_of_the_records()
     ensures { (rs : List Record) (f : ℕ) → IsCatalog rs → file_of (world_of rs) f ≡ option_map created_by (datafile f rs) }
 {}
 
-/// The incarnations of a catalog are a tree, and each datafile was created on one of them.
+/// The incarnations of a catalog are a tree, each datafile was created on one of them, and no two switches of threads
+/// have one address.
 pub fn a_catalog_has_a_world()
     ensures { (rs : List Record) → IsCatalog rs → HasDatabase rs → IsSoundWorld (world_of rs) }
 {}

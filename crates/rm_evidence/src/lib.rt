@@ -13,7 +13,7 @@ pub mod reading;
 pub mod sets;
 mod taking;
 
-pub use database::{base_of, current_of, datafile, has_database, threads};
+pub use database::{base_of, current_of, datafile, has_database, switches, threads};
 pub use evidence::{Evidence, InPlace};
 pub use gathering::{EvidenceFault, gather};
 pub use looking::{look_for_log, look_for_piece, look_for_set};

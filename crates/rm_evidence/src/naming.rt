@@ -56,7 +56,7 @@ pub fn object_id(row: &Record) -> Option<u32>
         Record::Piece(entry) => Some(entry.id),
         Record::Set(entry) => Some(entry.id),
         Record::Base(_) | Record::Incarnation(_) | Record::Datafile(_) => None,
-        Record::Mark(_) | Record::Part(_) | Record::Head(_) => None,
+        Record::Mark(_) | Record::Part(_) | Record::Head(_) | Record::Switch(_) => None,
     }
 }
 

@@ -1,6 +1,7 @@
 -- The premises of the law can be met where something goes, and with checkpoints in place of `high` the law
 -- would not hold.
-use Rattle.std.proofs.Common.{rules, Bool, true, false, cond, Option, zero, suc, ◌-◌, eqb, slice_get, ◌≡◌, ◌<◌, ◌≤◌, inl, inr, ℕ, [], ◌∷◌, Some, None, refl, sym, subst, arith, map, Contains}
+use Rattle.std.proofs.Common.{rules, Bool, true, false, cond, Option, zero, suc, ◌-◌, eqb, slice_get, ◌≡◌, ◌<◌, ◌≤◌, ◌∙◌, inl, inr, ℕ, [], ◌∷◌, Some, None, refl, sym, subst, arith, map, Contains}
+use Rattle.std.proofs.lemmas.Bool.{leb-true}
 use Rattle.rm_base.specs.Content.{padded}
 use Rattle.rm_base.specs.declared.block.Block.{Block}
 use Rattle.rm_base.specs.declared.block.Change.{Change}
@@ -8,10 +9,12 @@ use Rattle.rm_base.specs.declared.block.Row.{Row}
 use Rattle.rm_base.proofs.Members.{in-front, behind, none-in, first-or-rest}
 use Rattle.rm_history.specs.declared.world.Datafile.{Datafile}
 use Rattle.rm_history.specs.Artefacts.{Base}
+use Rattle.rm_history.specs.Threads.{IsEnabled}
 use Rattle.rm_history.specs.Tree.{owner, segment_end, is_on_path}
 use Rattle.rm_history.specs.World.{file_of}
 use Rattle.rm_history.specs.History.{IsChange, IsHistory}
 use Rattle.rm_history.specs.Agrees.{IsRow, BaseAgrees, LogAgrees}
+use Rattle.rm_history.proofs.Enabled.{unswitched}
 use Rattle.rm_history.proofs.Histories.{IsHistory-push_above}
 use Rattle.rm_history.proofs.Owners.{owner-first}
 use Rattle.rm_history.specs.Evidence.{Agrees}
@@ -45,9 +48,13 @@ file_one (suc f) d is =
     let place = only_place known.file d (suc f - 1) (not_none (eqb (suc f) 0) (slice_get world.files (suc f - 1)) d is) in
     omega (arith, place)
 
+-- no thread is switched, so its one thread is enabled everywhere
+enabled : (m g : ℕ) → IsEnabled world m g 1
+enabled m g = record { number = (omega arith, omega arith); on = unswitched world.tree 1 m g 1 }
+
 is_change : (g x : ℕ) → 1 < g → IsChange world (change g x)
 is_change g x up = record {
-  thread = (omega arith, omega arith);
+  thread = enabled 1 g;
   there = (omega arith, omega arith);
   begun = omega (arith, up);
   datafile = known.file;
@@ -187,7 +194,7 @@ quiet_three x m g one up down =
     by_logs (λ t thread. record {
       log = log;
       holds = record { log = in-front log []; inc = sym one; first = omega (arith, up); next = down };
-      thread = let low = thread.0 in let high = thread.1 in omega (arith, low, high);
+      thread = let low = thread.number.0 in let high = leb-true t 1 (sym (unswitched world.tree 1 m g t) ∙ thread.on) in omega (arith, low, high);
     })
     (λ a c holds has.
     known.only (λ y. (c : Change) → Contains y.changes c → ¬ (c.scn ≡ g)) log (known.only (λ c. ¬ (c.scn ≡ g)) (change 2 65) (λ same. absurd (omega (arith, same, up)))) a has.log c has.change)
@@ -224,7 +231,7 @@ late_seen _ _ _ (by_creation d is) below = subst (λ (y : Datafile). y.creation 
 not_quiet : (m : ℕ) → ¬ Quiet world (after late) 1 0 m 2
 not_quiet m (by_row j k r has low above owned) = let at = late_row j k r has in omega (arith, at, low)
 not_quiet m (by_absence a level1 file absent from above owned) = none-in a level1
-not_quiet m (by_logs each none) = let has = each 1 (omega arith, omega arith) in none-in has.log has.holds.log
+not_quiet m (by_logs each none) = let has = each 1 (enabled m 2) in none-in has.log has.holds.log
 
 pub lost : ¬ IsDetermined world (after late) 1 4 1 0
 lost told =

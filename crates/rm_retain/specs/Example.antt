@@ -15,6 +15,7 @@ abbrev pub world : World
 world = record {
   tree = record { parent = 0; reset = 1; end = 5 } ∷ [];
   threads = 1;
+  switches = [];
   files = record { inc = 1; creation = 1; blocks = 1 } ∷ [];
 }
 
