@@ -8,7 +8,7 @@ use Rattle.std.proofs.lemmas.Option.{cond_some, none-some, same_Some}
 use Rattle.std.proofs.lemmas.List.Elements.{Contains-get_or}
 use Rattle.rm_catalog.specs.declared.record.Record.{Record}
 use Rattle.rm_catalog.specs.declared.record.Record.TheVariants as kind
-use Rattle.rm_catalog.specs.Keys.{IsThere, at, base_in, datafile_in, head_in, incarnation_in, key_of, log_in, mark_in, part_in, piece_in, place, place_of, set_in}
+use Rattle.rm_catalog.specs.Keys.{IsThere, at, base_in, datafile_in, head_in, incarnation_in, key_of, log_in, mark_in, part_in, piece_in, place, place_of, set_in, switch_in}
 use Rattle.rm_catalog.proofs.Filters.{filter_none}
 use Rattle.rm_catalog.proofs.Told.{found_is}
 use Rattle.rm_catalog.proofs.Unique.{Rises, all_above}
@@ -19,7 +19,7 @@ use Rattle.rm_catalog.proofs.Trees.{nodes_are}
 use Rattle.rm_catalog_typed.specs.Ledger.{numbered, incarnation_record, datafile_record}
 use Rattle.rm_evidence.specs.Database.{created_by, datafiles}
 use Rattle.rm_evidence.proofs.Files.{datafiles-are, file-number}
-use Rattle.rm_evidence.proofs.Telling.{told-ascends, told-record}
+use Rattle.rm_catalog.proofs.Telling.{told-ascends, told-record}
 use Rattle.rm_catalog_typed.specs.Kinds.{by_kind}
 
 -- the number of a record's kind
@@ -57,6 +57,9 @@ is-head = record { tells = elim [ kind.Head x ↦ refl | r ↦ refl ] }
 
 pub is-set : IsKind kind.Set set_in 9
 is-set = record { tells = elim [ kind.Set x ↦ refl | r ↦ refl ] }
+
+pub is-switch : IsKind kind.Switch switch_in 10
+is-switch = record { tells = elim [ kind.Switch x ↦ refl | r ↦ refl ] }
 
 module _ {A : Type 0} (make : A → Record) (tell : Record → Option A) (n : ℕ) (is : IsKind make tell n) where
   -- what is told was made, and by a record
@@ -138,17 +141,17 @@ module _ (r : Record) (rs : List Record) where
         ap (λ ss. ss ++ sections (suc i) n (r ∷ rs)) (skipped i other ∙ none) ∙ in-its-section later n (suc i) (omega arith) (omega arith) ∙ ap (λ ss. r ∷ (ss ++ sections (suc i) n rs)) (sym none)
   ]
 
-known : (r : Record) → (1 ≤ number r) × (number r ≤ 9)
+known : (r : Record) → (1 ≤ number r) × (number r ≤ 10)
 known (kind.Base x) = (omega arith, omega arith)
 known r = (omega arith, omega arith)
 
-in-sections : (b : ℕ) (rs : List Record) → Rises b rs → sections 1 8 rs ≡ rs
+in-sections : (b : ℕ) (rs : List Record) → Rises b rs → sections 1 9 rs ≡ rs
 unfolding Rises
 in-sections b [] up = refl
 in-sections b (r ∷ rs) up =
     let range = known r in
     let later : All (λ s. number r ≤ number s) rs = λ k d lt. let over = all_above (place_of r + 1) rs up.1 (get_or rs k d) (Contains-get_or rs k d lt) in omega arith in
-    in-its-section r rs later 8 1 range.0 (omega arith) ∙ ap (λ ss. r ∷ ss) (in-sections (place_of r + 1) rs up.1)
+    in-its-section r rs later 9 1 range.0 (omega arith) ∙ ap (λ ss. r ∷ ss) (in-sections (place_of r + 1) rs up.1)
 
 joined : {A : Type 0} (xs ys us vs : List A) → xs ≡ ys → us ≡ vs → xs ++ us ≡ ys ++ vs
 joined xs ys us vs one two = cc
@@ -158,7 +161,8 @@ pub kinds : (b : ℕ) (rs : List Record) → Rises b rs → by_kind rs ≡ rs
 kinds b rs up =
     joined _ _ _ _ (section kind.Base base_in 1 is-base rs) (joined _ _ _ _ (section kind.Incarnation incarnation_in 2 is-incarnation rs) (joined _ _ _ _ (section kind.Datafile datafile_in 3 is-datafile rs)
     (joined _ _ _ _ (section kind.Log log_in 4 is-log rs) (joined _ _ _ _ (section kind.Piece piece_in 5 is-piece rs) (joined _ _ _ _ (section kind.Mark mark_in 6 is-mark rs)
-    (joined _ _ _ _ (section kind.Part part_in 7 is-part rs) (joined _ _ _ _ (section kind.Head head_in 8 is-head rs) (section kind.Set set_in 9 is-set rs))))))))
+    (joined _ _ _ _ (section kind.Part part_in 7 is-part rs) (joined _ _ _ _ (section kind.Head head_in 8 is-head rs) (joined _ _ _ _ (section kind.Set set_in 9 is-set rs)
+    (section kind.Switch switch_in 10 is-switch rs)))))))))
     ∙ in-sections b rs up
 
 -- what is numbered from n on is told so

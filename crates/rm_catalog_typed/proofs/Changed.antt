@@ -23,16 +23,17 @@ use Rattle.rm_catalog.specs.declared.record.SetEntry.{SetEntry}
 use Rattle.rm_catalog.specs.Edits.{above, after_edit, after_edits, below, place_of_edit}
 use Rattle.rm_catalog.specs.Keys.{place, place_of, place_of_key}
 use Rattle.rm_catalog.proofs.Filters.{above_all, above_append, above_none, below_none}
-use Rattle.rm_catalog_typed.specs.Ledger.{incarnation_record, datafile_record, mark_record}
-use Rattle.rm_catalog_typed.proofs.Order.{Runs, incarnations_of, datafiles_of, logs_of, pieces_of, marks_of, sets_of, incarnations-run, datafiles-run, logs-run, pieces-run, marks-run, sets-run, marks-few, runs-append, runs-lower, runs-objects, runs-within}
+use Rattle.rm_catalog_typed.specs.Ledger.{incarnation_record, datafile_record, mark_record, switch_record}
+use Rattle.rm_catalog_typed.specs.declared.thread_switch.ThreadSwitch.{ThreadSwitch}
+use Rattle.rm_catalog_typed.proofs.Order.{Runs, incarnations_of, datafiles_of, logs_of, pieces_of, marks_of, sets_of, switch_records, incarnations-run, datafiles-run, logs-run, pieces-run, marks-run, sets-run, switches-run, marks-few, switches-few, runs-append, runs-lower, runs-objects, runs-within}
 use Rattle.rm_catalog_typed.proofs.Parts.{IsPart, after_both, more_part, part_then, put_part}
 use Rattle.rm_catalog_typed.proofs.Sections.{numbered_part, replaced}
-use Rattle.rm_catalog_typed.specs.Changes.{EditsFollow, higher, lower, with_base, with_end_at, with_file, with_incarnation, with_log, with_mark, with_new_log, with_new_piece, with_new_set, with_piece, with_set, without_log, without_piece, without_set, part_drop, saved_edits, unsaved_edits, with_saved, without_saved}
+use Rattle.rm_catalog_typed.specs.Changes.{EditsFollow, higher, lower, with_base, with_end_at, with_file, with_incarnation, with_log, with_mark, with_new_log, with_new_piece, with_new_set, with_one, with_piece, with_set, with_switch, without_log, without_one, without_piece, without_set, part_drop, saved_edits, unsaved_edits, with_saved, without_saved}
 use Rattle.rm_base.specs.Numbers.{last_scn}
 use Rattle.rm_catalog_typed.specs.Facts.{IsTypedCatalog, IsSaved}
-use Rattle.rm_catalog_typed.specs.Fitting.{FitsBranch, FitsFile, FitsLog, FitsMark, FitsNewLog, FitsNewPiece, FitsNewSet, FitsPiece, FitsSet}
+use Rattle.rm_catalog_typed.specs.Fitting.{FitsBranch, FitsFile, FitsLog, FitsMark, FitsNewLog, FitsNewPiece, FitsNewSet, FitsPiece, FitsSet, FitsSwitch}
 use Rattle.rm_catalog_typed.specs.TypedCatalog.{TypedCatalog, Saved, records_of, saved_records}
-use Rattle.rm_catalog_typed.proofs.Fitted.{branch_fits, drawn-log, drawn-piece, drawn-set, end_fits, file_fits, log-last, log_fits, mark_fits, next_fits, no_log_fits, no_piece_fits, no_set_fits, piece-last, piece_fits, set-last, set_fits, with_next}
+use Rattle.rm_catalog_typed.proofs.Fitted.{branch_fits, drawn-log, drawn-piece, drawn-set, end_fits, file_fits, log-last, log_fits, mark_fits, next_fits, no_log_fits, no_piece_fits, no_set_fits, piece-last, piece_fits, set-last, set_fits, switch_fits, with_next}
 
 -- a part without edits
 same_part : (low high : ℕ) (rs : List Record) → Runs low high rs → IsPart low high [] rs rs
@@ -68,21 +69,40 @@ saved-run r is = decide r.saved is.saved
 abbrev base_of : TypedCatalog → List Record
 base_of r = kind.Base r.ledger.base ∷ []
 
--- edits kind by kind
-by-parts : (r s : TypedCatalog) (b t f l p m x z : List Edit)
-    → IsPart (place 1 0) (place 2 0) b (base_of r) (base_of s) → IsPart (place 2 1) (place 3 0) t (incarnations_of r.ledger) (incarnations_of s.ledger)
-    → IsPart (place 3 1) (place 4 0) f (datafiles_of r.ledger) (datafiles_of s.ledger) → IsPart (place 4 1) (place 5 0) l (logs_of r.ledger) (logs_of s.ledger)
-    → IsPart (place 5 1) (place 6 0) p (pieces_of r.ledger) (pieces_of s.ledger) → IsPart (place 6 1) (place 7 0) m (marks_of r.ledger) (marks_of s.ledger)
-    → IsPart (place 7 0) (place 9 0) x (saved_records r.saved) (saved_records s.saved) → IsPart (place 9 1) (place 10 0) z (sets_of r.ledger) (sets_of s.ledger)
-    → after_edits (((b ++ ((((t ++ f) ++ l) ++ p) ++ m)) ++ x) ++ z) (records_of r) ≡ records_of s
-by-parts r s b t f l p m x z of-b of-t of-f of-l of-p of-m of-x of-z =
-    let two = part_then (place 2 1) (place 3 0) (place 3 1) (place 4 0) _ _ _ _ _ _ (omega arith) (omega arith) (omega arith) of-t of-f in
-    let three = part_then (place 2 1) (place 4 0) (place 4 1) (place 5 0) _ _ _ _ _ _ (omega arith) (omega arith) (omega arith) two of-l in
-    let four = part_then (place 2 1) (place 5 0) (place 5 1) (place 6 0) _ _ _ _ _ _ (omega arith) (omega arith) (omega arith) three of-p in
-    let five = part_then (place 2 1) (place 6 0) (place 6 1) (place 7 0) _ _ _ _ _ _ (omega arith) (omega arith) (omega arith) four of-m in
-    let six = part_then (place 1 0) (place 2 0) (place 2 1) (place 7 0) _ _ _ _ _ _ (omega arith) (omega arith) (omega arith) of-b five in
-    let seven = part_then (place 1 0) (place 7 0) (place 7 0) (place 9 0) _ _ _ _ _ _ (omega arith) (omega arith) (omega arith) six of-x in
-    let all = part_then (place 1 0) (place 9 0) (place 9 1) (place 10 0) _ _ _ _ _ _ (omega arith) (omega arith) (omega arith) seven of-z in
+-- edits that make others of these records, all from `low` up to, and without, `high`
+record Part (low high : ℕ) (old : List Record) : Type 0 where
+  pub edits : List Edit
+  pub new : List Record
+  pub is : IsPart low high edits old new
+
+-- the same kind by kind
+record Parts (r : TypedCatalog) : Type 0 where
+  pub base : Part (place 1 0) (place 2 0) (base_of r)
+  pub tree : Part (place 2 1) (place 3 0) (incarnations_of r.ledger)
+  pub files : Part (place 3 1) (place 4 0) (datafiles_of r.ledger)
+  pub logs : Part (place 4 1) (place 5 0) (logs_of r.ledger)
+  pub pieces : Part (place 5 1) (place 6 0) (pieces_of r.ledger)
+  pub marks : Part (place 6 1) (place 7 0) (marks_of r.ledger)
+  pub site : Part (place 7 0) (place 9 0) (saved_records r.saved)
+  pub sets : Part (place 9 1) (place 10 0) (sets_of r.ledger)
+  pub switches : Part (place 10 1) (place 11 0) (switch_records r.ledger)
+
+abbrev all-edits : (r : TypedCatalog) → Parts r → List Edit
+all-edits r p = ((p.base.edits ++ ((((p.tree.edits ++ p.files.edits) ++ p.logs.edits) ++ p.pieces.edits) ++ p.marks.edits)) ++ p.site.edits) ++ (p.sets.edits ++ p.switches.edits)
+
+abbrev all-new : (r : TypedCatalog) → Parts r → List Record
+all-new r p = ((p.base.new ++ ((((p.tree.new ++ p.files.new) ++ p.logs.new) ++ p.pieces.new) ++ p.marks.new)) ++ p.site.new) ++ (p.sets.new ++ p.switches.new)
+
+by-parts : (r : TypedCatalog) (p : Parts r) → after_edits (all-edits r p) (records_of r) ≡ all-new r p
+by-parts r p =
+    let two = part_then (place 2 1) (place 3 0) (place 3 1) (place 4 0) _ _ _ _ _ _ (omega arith) (omega arith) (omega arith) p.tree.is p.files.is in
+    let three = part_then (place 2 1) (place 4 0) (place 4 1) (place 5 0) _ _ _ _ _ _ (omega arith) (omega arith) (omega arith) two p.logs.is in
+    let four = part_then (place 2 1) (place 5 0) (place 5 1) (place 6 0) _ _ _ _ _ _ (omega arith) (omega arith) (omega arith) three p.pieces.is in
+    let five = part_then (place 2 1) (place 6 0) (place 6 1) (place 7 0) _ _ _ _ _ _ (omega arith) (omega arith) (omega arith) four p.marks.is in
+    let six = part_then (place 1 0) (place 2 0) (place 2 1) (place 7 0) _ _ _ _ _ _ (omega arith) (omega arith) (omega arith) p.base.is five in
+    let seven = part_then (place 1 0) (place 7 0) (place 7 0) (place 9 0) _ _ _ _ _ _ (omega arith) (omega arith) (omega arith) six p.site.is in
+    let back = part_then (place 9 1) (place 10 0) (place 10 1) (place 11 0) _ _ _ _ _ _ (omega arith) (omega arith) (omega arith) p.sets.is p.switches.is in
+    let all = part_then (place 1 0) (place 9 0) (place 9 1) (place 11 0) _ _ _ _ _ _ (omega arith) (omega arith) (omega arith) seven back in
     all.same
 
 base-run : (b : BaseEntry) → Runs (place 1 0) (place 2 0) (kind.Base b ∷ [])
@@ -94,30 +114,21 @@ abbrev first_mark : TypedCatalog → ℕ → ℕ → Mark
 first_mark r at moment = record { moment = moment; inc = length r.ledger.tree + 1; scn = at }
 
 -- what stays
-module _ (r : TypedCatalog) (is : IsTypedCatalog r) where
-  keep-b : IsPart (place 1 0) (place 2 0) [] (base_of r) (base_of r)
-  keep-b = same_part (place 1 0) (place 2 0) (base_of r) (base-run r.ledger.base)
+abbrev kept : (low high : ℕ) (rs : List Record) → Runs low high rs → Part low high rs
+kept low high rs up = record { edits = []; new = rs; is = same_part low high rs up }
 
-  keep-t : IsPart (place 2 1) (place 3 0) [] (incarnations_of r.ledger) (incarnations_of r.ledger)
-  keep-t = same_part (place 2 1) (place 3 0) (incarnations_of r.ledger) (incarnations-run r.ledger is.ledger)
-
-  keep-f : IsPart (place 3 1) (place 4 0) [] (datafiles_of r.ledger) (datafiles_of r.ledger)
-  keep-f = same_part (place 3 1) (place 4 0) (datafiles_of r.ledger) (datafiles-run r.ledger is.ledger)
-
-  keep-l : IsPart (place 4 1) (place 5 0) [] (logs_of r.ledger) (logs_of r.ledger)
-  keep-l = same_part (place 4 1) (place 5 0) (logs_of r.ledger) (logs-run r.ledger is.ledger)
-
-  keep-p : IsPart (place 5 1) (place 6 0) [] (pieces_of r.ledger) (pieces_of r.ledger)
-  keep-p = same_part (place 5 1) (place 6 0) (pieces_of r.ledger) (pieces-run r.ledger is.ledger)
-
-  keep-m : IsPart (place 6 1) (place 7 0) [] (marks_of r.ledger) (marks_of r.ledger)
-  keep-m = same_part (place 6 1) (place 7 0) (marks_of r.ledger) (marks-run r.ledger is.ledger)
-
-  keep-x : IsPart (place 7 0) (place 9 0) [] (saved_records r.saved) (saved_records r.saved)
-  keep-x = same_part (place 7 0) (place 9 0) (saved_records r.saved) (saved-run r is)
-
-  keep-z : IsPart (place 9 1) (place 10 0) [] (sets_of r.ledger) (sets_of r.ledger)
-  keep-z = same_part (place 9 1) (place 10 0) (sets_of r.ledger) (sets-run r.ledger is.ledger)
+abbrev keep : (r : TypedCatalog) → IsTypedCatalog r → Parts r
+keep r is = record {
+  base = kept (place 1 0) (place 2 0) (base_of r) (base-run r.ledger.base);
+  tree = kept (place 2 1) (place 3 0) (incarnations_of r.ledger) (incarnations-run r.ledger is.ledger);
+  files = kept (place 3 1) (place 4 0) (datafiles_of r.ledger) (datafiles-run r.ledger is.ledger);
+  logs = kept (place 4 1) (place 5 0) (logs_of r.ledger) (logs-run r.ledger is.ledger);
+  pieces = kept (place 5 1) (place 6 0) (pieces_of r.ledger) (pieces-run r.ledger is.ledger);
+  marks = kept (place 6 1) (place 7 0) (marks_of r.ledger) (marks-run r.ledger is.ledger);
+  site = kept (place 7 0) (place 9 0) (saved_records r.saved) (saved-run r is);
+  sets = kept (place 9 1) (place 10 0) (sets_of r.ledger) (sets-run r.ledger is.ledger);
+  switches = kept (place 10 1) (place 11 0) (switch_records r.ledger) (switches-run r.ledger is.ledger);
+}
 
 same-order : (a b c d : ℕ) → (a < b → c < d) → (b ≤ a → d ≤ c) → nat_lt a b ≡ nat_lt c d
 same-order a b c d up down = elim (cases_lt a b) [ inl less ↦ lt-ltb a b less ∙ sym (lt-ltb c d (up less)) | inr le ↦ le-ltb a b le ∙ sym (le-ltb c d (down le)) ]
@@ -157,10 +168,31 @@ module _ {A : Type 0} (make : A → Record) (id : A → ℕ) (of n : ℕ) (is-at
       ∙ ap (λ rs. map make (lower id n xs) ++ rs) (above-is xs few)
       ∙ sym (map-append make (lower id n xs) (higher id n xs))
 
+  -- the edit of one of them is a part
+  abbrev put-part : (x : A) → id x ≡ n → 1 ≤ n → (xs : List A) → All (λ y. id y < 4294967295) xs → Runs (place of 1) (place (of + 1) 0) (map make xs) → Runs (place of 1) (place (of + 1) 0) (map make (with_one id x xs))
+      → Part (place of 1) (place (of + 1) 0) (map make xs)
+  put-part x same some xs few up down = record {
+    edits = Put (make x) ∷ [];
+    new = map make (with_one id x xs);
+    is =
+        let at = is-at x in
+        put_part (place of 1) (place (of + 1) 0) (make x) (map make xs) (map make (with_one id x xs)) (omega arith, omega arith) up down
+        (subst (λ k. after_edit (Put (make x)) (map make xs) ≡ map make (lower id k xs ++ x ∷ higher id k xs)) (sym same) (put-one x same xs few));
+  }
+
+  abbrev drop-part : 1 ≤ n → (xs : List A) → All (λ y. id y < 4294967295) xs → Runs (place of 1) (place (of + 1) 0) (map make xs) → Runs (place of 1) (place (of + 1) 0) (map make (without_one id n xs))
+      → Part (place of 1) (place (of + 1) 0) (map make xs)
+  drop-part some xs few up down = record {
+    edits = Drop (record { kind = of; id = n }) ∷ [];
+    new = map make (without_one id n xs);
+    is = drop_part (place of 1) (place (of + 1) 0) (record { kind = of; id = n }) (map make xs) (map make (without_one id n xs)) (omega arith, omega arith) up down (drop-one (record { kind = of; id = n }) refl xs few);
+  }
+
 -- what is added to edits
-follows-of : (old new es : List Edit) (r s t : TypedCatalog) → new ≡ old ++ es → after_edits es (records_of r) ≡ records_of s → t ≡ s → EditsFollow old new r t
-follows-of old new es r s t is same out = record {
-  lead = λ rs from. ap (λ (x : List Edit). after_edits x rs) is ∙ after_both old es rs ∙ ap (after_edits es) from ∙ same ∙ ap (λ (x : TypedCatalog). records_of x) (sym out);
+follows-of : (old new : List Edit) (r s t : TypedCatalog) (p : Parts r) → all-new r p ≡ records_of s → new ≡ old ++ all-edits r p → t ≡ s → EditsFollow old new r t
+follows-of old new r s t p same is out = record {
+  lead = λ rs from.
+      ap (λ (x : List Edit). after_edits x rs) is ∙ after_both old (all-edits r p) rs ∙ ap (after_edits (all-edits r p)) from ∙ by-parts r p ∙ same ∙ sym (ap (λ (x : TypedCatalog). records_of x) out);
 }
 
 -- a change after another one
@@ -170,107 +202,101 @@ follows-then old mid new r s t first then = record { lead = λ rs from. then.lea
 -- the edits of each change
 module _ (old new : List Edit) (r t : TypedCatalog) (is : IsTypedCatalog r) where
   pub follows_base : (b : BaseEntry) → new ≡ old ++ Put (kind.Base b) ∷ [] → t ≡ with_base r b → EditsFollow old new r t
-  follows_base b more out =
-      follows-of old new (Put (kind.Base b) ∷ []) r (with_base r b) t more (by-parts r (with_base r b) (Put (kind.Base b) ∷ []) [] [] [] [] [] [] []
-      (put_part (place 1 0) (place 2 0) (kind.Base b) (base_of r) (kind.Base b ∷ []) (omega arith, omega arith) (base-run r.ledger.base) (base-run b) refl)
-      (keep-t r is) (keep-f r is) (keep-l r is) (keep-p r is) (keep-m r is) (keep-x r is) (keep-z r is)) out
+  follows_base b =
+      follows-of old new r (with_base r b) t (record (keep r is) {
+        base = record { edits = Put (kind.Base b) ∷ []; new = kind.Base b ∷ []; is = put_part (place 1 0) (place 2 0) (kind.Base b) (base_of r) (kind.Base b ∷ []) (omega arith, omega arith) (base-run r.ledger.base) (base-run b) refl };
+      }) refl
 
   pub follows_end : (i end : ℕ) → IsThere r.ledger.tree i → end_of r.ledger.tree i ≤ end → end ≤ last_scn
       → new ≡ old ++ Put (incarnation_record i (record { parent = parent_of r.ledger.tree i; reset = reset_of r.ledger.tree i; end = end })) ∷ [] → t ≡ with_end_at r i end → EditsFollow old new r t
-  follows_end i end there up last more out =
+  follows_end i end there up last =
       let n : Incarnation = record { parent = parent_of r.ledger.tree i; reset = reset_of r.ledger.tree i; end = end } in
       let after = end_fits r i end is there up last in
-      follows-of old new (Put (incarnation_record i n) ∷ []) r (with_end_at r i end) t more (by-parts r (with_end_at r i end) [] (Put (incarnation_record i n) ∷ []) [] [] [] [] [] [] (keep-b r is)
-      (put_part (place 2 1) (place 3 0) (incarnation_record i n) (incarnations_of r.ledger) (incarnations_of (with_end_at r i end).ledger) (omega arith, omega arith) (incarnations-run r.ledger is.ledger) (incarnations-run (with_end_at r i end).ledger after.ledger)
-      (replaced n r.ledger.tree 1 (i - 1) i (omega arith) (omega arith) (omega arith)))
-      (keep-f r is) (keep-l r is) (keep-p r is) (keep-m r is) (keep-x r is) (keep-z r is)) out
+      follows-of old new r (with_end_at r i end) t (record (keep r is) {
+        tree = record {
+          edits = Put (incarnation_record i n) ∷ [];
+          new = incarnations_of (with_end_at r i end).ledger;
+          is =
+              put_part (place 2 1) (place 3 0) (incarnation_record i n) (incarnations_of r.ledger) (incarnations_of (with_end_at r i end).ledger) (omega arith, omega arith) (incarnations-run r.ledger is.ledger) (incarnations-run (with_end_at r i end).ledger after.ledger)
+              (replaced n r.ledger.tree 1 (i - 1) i (omega arith) (omega arith) (omega arith));
+        };
+      }) refl
 
   pub follows_file : (d : Datafile) → FitsFile r d → new ≡ old ++ Put (datafile_record (length r.ledger.files + 1) d) ∷ [] → t ≡ with_file r d → EditsFollow old new r t
-  follows_file d fits more out =
+  follows_file d fits =
       let after = file_fits r d is fits in
-      follows-of old new (Put (datafile_record (length r.ledger.files + 1) d) ∷ []) r (with_file r d) t more (by-parts r (with_file r d) [] [] (Put (datafile_record (length r.ledger.files + 1) d) ∷ []) [] [] [] [] []
-      (keep-b r is) (keep-t r is) (numbered_part datafile_record 3 r.ledger.files (d ∷ []) (λ k x. refl) (omega arith)) (keep-l r is) (keep-p r is) (keep-m r is) (keep-x r is) (keep-z r is)) out
+      follows-of old new r (with_file r d) t (record (keep r is) {
+        files = record { edits = Put (datafile_record (length r.ledger.files + 1) d) ∷ []; new = datafiles_of (with_file r d).ledger; is = numbered_part datafile_record 3 r.ledger.files (d ∷ []) (λ k x. refl) (omega arith) };
+      }) refl
 
   pub follows_mark : (m : Mark) → FitsMark r m → new ≡ old ++ Put (mark_record (length r.ledger.marks + 1) m) ∷ [] → t ≡ with_mark r m → EditsFollow old new r t
-  follows_mark m fits more out =
+  follows_mark m fits =
       let after = mark_fits r m is fits in
       let most = marks-few (with_mark r m).ledger in
-      follows-of old new (Put (mark_record (length r.ledger.marks + 1) m) ∷ []) r (with_mark r m) t more (by-parts r (with_mark r m) [] [] [] [] [] (Put (mark_record (length r.ledger.marks + 1) m) ∷ []) [] []
-      (keep-b r is) (keep-t r is) (keep-f r is) (keep-l r is) (keep-p r is) (numbered_part mark_record 6 r.ledger.marks (m ∷ []) (λ k x. refl) (omega arith)) (keep-x r is) (keep-z r is)) out
+      follows-of old new r (with_mark r m) t (record (keep r is) {
+        marks = record { edits = Put (mark_record (length r.ledger.marks + 1) m) ∷ []; new = marks_of (with_mark r m).ledger; is = numbered_part mark_record 6 r.ledger.marks (m ∷ []) (λ k x. refl) (omega arith) };
+      }) refl
+
+  pub follows_switch : (x : ThreadSwitch) → FitsSwitch r x → new ≡ old ++ Put (switch_record (length r.ledger.switches + 1) x) ∷ [] → t ≡ with_switch r x → EditsFollow old new r t
+  follows_switch x fits =
+      let after = switch_fits r x is fits in
+      let most = switches-few (with_switch r x).ledger in
+      follows-of old new r (with_switch r x) t (record (keep r is) {
+        switches = record { edits = Put (switch_record (length r.ledger.switches + 1) x) ∷ []; new = switch_records (with_switch r x).ledger; is = numbered_part switch_record 10 r.ledger.switches (x ∷ []) (λ k y. refl) (omega arith) };
+      }) refl
 
   pub follows_branch : (parent at moment : ℕ) → FitsBranch r parent at moment
       → new ≡ old ++ Put (incarnation_record (length r.ledger.tree + 1) (branched parent at)) ∷ Put (mark_record (length r.ledger.marks + 1) (first_mark r at moment)) ∷ [] → t ≡ with_incarnation r parent at moment → EditsFollow old new r t
-  follows_branch parent at moment fits more out =
-      let n = Put (incarnation_record (length r.ledger.tree + 1) (branched parent at)) in
-      let m = Put (mark_record (length r.ledger.marks + 1) (first_mark r at moment)) in
+  follows_branch parent at moment fits =
       let after = branch_fits r parent at moment is fits in
       let most = marks-few (with_incarnation r parent at moment).ledger in
-      follows-of old new (n ∷ m ∷ []) r (with_incarnation r parent at moment) t more (by-parts r (with_incarnation r parent at moment) [] (n ∷ []) [] [] [] (m ∷ []) [] []
-      (keep-b r is) (numbered_part incarnation_record 2 r.ledger.tree (branched parent at ∷ []) (λ k x. refl) (omega arith)) (keep-f r is) (keep-l r is) (keep-p r is)
-      (numbered_part mark_record 6 r.ledger.marks (first_mark r at moment ∷ []) (λ k x. refl) (omega arith)) (keep-x r is) (keep-z r is)) out
+      follows-of old new r (with_incarnation r parent at moment) t (record (keep r is) {
+        tree = record { edits = Put (incarnation_record (length r.ledger.tree + 1) (branched parent at)) ∷ []; new = incarnations_of (with_incarnation r parent at moment).ledger; is = numbered_part incarnation_record 2 r.ledger.tree (branched parent at ∷ []) (λ k x. refl) (omega arith) };
+        marks = record { edits = Put (mark_record (length r.ledger.marks + 1) (first_mark r at moment)) ∷ []; new = marks_of (with_incarnation r parent at moment).ledger; is = numbered_part mark_record 6 r.ledger.marks (first_mark r at moment ∷ []) (λ k x. refl) (omega arith) };
+      }) refl
 
-  logs-small : All (λ y. y.id < 4294967295) r.ledger.logs
-  logs-small = All-weaker (λ y. (1 ≤ y.id) × (y.id < r.ledger.base.next_id)) (λ y. y.id < 4294967295) (λ y id. omega arith) r.ledger.logs is.ledger.ids.logs
-
-  sets-small : All (λ y. y.id < 4294967295) r.ledger.sets
-  sets-small = All-weaker (λ y. (1 ≤ y.id) × (y.id < r.ledger.base.next_id)) (λ y. y.id < 4294967295) (λ y id. omega arith) r.ledger.sets is.ledger.ids.sets
-
-  pieces-small : All (λ y. y.id < 4294967295) r.ledger.pieces
-  pieces-small = All-weaker (λ y. (1 ≤ y.id) × (y.id < r.ledger.base.next_id)) (λ y. y.id < 4294967295) (λ y id. omega arith) r.ledger.pieces is.ledger.ids.pieces
-
-  logs-follow : (e : Edit) (logs : List LogEntry) → IsPart (place 4 1) (place 5 0) (e ∷ []) (logs_of r.ledger) (map kind.Log logs) → new ≡ old ++ e ∷ [] → t ≡ record r { ledger = record r.ledger { logs = logs } } → EditsFollow old new r t
-  logs-follow e logs part more out =
-      let s = record r { ledger = record r.ledger { logs = logs } } in
-      follows-of old new (e ∷ []) r s t more (by-parts r s [] [] [] (e ∷ []) [] [] [] [] (keep-b r is) (keep-t r is) (keep-f r is) part (keep-p r is) (keep-m r is) (keep-x r is) (keep-z r is)) out
-
-  pieces-follow : (e : Edit) (pieces : List PieceEntry) → IsPart (place 5 1) (place 6 0) (e ∷ []) (pieces_of r.ledger) (map kind.Piece pieces) → new ≡ old ++ e ∷ [] → t ≡ record r { ledger = record r.ledger { pieces = pieces } } → EditsFollow old new r t
-  pieces-follow e pieces part more out =
-      let s = record r { ledger = record r.ledger { pieces = pieces } } in
-      follows-of old new (e ∷ []) r s t more (by-parts r s [] [] [] [] (e ∷ []) [] [] [] (keep-b r is) (keep-t r is) (keep-f r is) (keep-l r is) part (keep-m r is) (keep-x r is) (keep-z r is)) out
-
-  sets-follow : (e : Edit) (sets : List SetEntry) → IsPart (place 9 1) (place 10 0) (e ∷ []) (sets_of r.ledger) (map kind.Set sets) → new ≡ old ++ e ∷ [] → t ≡ record r { ledger = record r.ledger { sets = sets } } → EditsFollow old new r t
-  sets-follow e sets part more out =
-      let s = record r { ledger = record r.ledger { sets = sets } } in
-      follows-of old new (e ∷ []) r s t more (by-parts r s [] [] [] [] [] [] [] (e ∷ []) (keep-b r is) (keep-t r is) (keep-f r is) (keep-l r is) (keep-p r is) (keep-m r is) (keep-x r is) part) out
+  -- the ids of objects lie below 4,294,967,295
+  small : {A : Type 0} (id : A → ℕ) (xs : List A) → All (λ y. (1 ≤ id y) × (id y < r.ledger.base.next_id)) xs → All (λ y. id y < 4294967295) xs
+  small id xs within = let most = is.ledger.base.next_id.1 in All-weaker (λ y. (1 ≤ id y) × (id y < r.ledger.base.next_id)) (λ y. id y < 4294967295) (λ y own. omega arith) xs within
 
   pub follows_log : (e : LogEntry) → FitsLog r e → new ≡ old ++ Put (kind.Log e) ∷ [] → t ≡ with_log r e → EditsFollow old new r t
   follows_log e fits =
       let range = fits.id.range in
-      logs-follow (Put (kind.Log e)) (with_log r e).ledger.logs
-      (put_part (place 4 1) (place 5 0) (kind.Log e) (logs_of r.ledger) (logs_of (with_log r e).ledger) (omega arith, omega arith) (logs-run r.ledger is.ledger) (logs-run (with_log r e).ledger (log_fits r e is fits).ledger)
-      (put-one kind.Log (λ x. x.id) 4 e.id (λ x. refl) (omega arith) e refl r.ledger.logs logs-small))
+      follows-of old new r (with_log r e) t (record (keep r is) {
+        logs = put-part kind.Log (λ x. x.id) 4 e.id (λ x. refl) (omega arith) e refl range.0 r.ledger.logs (small (λ x. x.id) r.ledger.logs is.ledger.ids.logs) (logs-run r.ledger is.ledger) (logs-run (with_log r e).ledger (log_fits r e is fits).ledger);
+      }) refl
 
   pub follows_no_log : (n : ℕ) → 1 ≤ n → n < 4294967296 → new ≡ old ++ Drop (record { kind = 4; id = n }) ∷ [] → t ≡ without_log r n → EditsFollow old new r t
-  follows_no_log n low small =
-      logs-follow (Drop (record { kind = 4; id = n })) (without_log r n).ledger.logs
-      (drop_part (place 4 1) (place 5 0) (record { kind = 4; id = n }) (logs_of r.ledger) (logs_of (without_log r n).ledger) (omega arith, omega arith) (logs-run r.ledger is.ledger) (logs-run (without_log r n).ledger (no_log_fits r n is).ledger)
-      (drop-one kind.Log (λ x. x.id) 4 n (λ x. refl) (omega arith) (record { kind = 4; id = n }) refl r.ledger.logs logs-small))
+  follows_no_log n low most =
+      follows-of old new r (without_log r n) t (record (keep r is) {
+        logs = drop-part kind.Log (λ x. x.id) 4 n (λ x. refl) (omega arith) low r.ledger.logs (small (λ x. x.id) r.ledger.logs is.ledger.ids.logs) (logs-run r.ledger is.ledger) (logs-run (without_log r n).ledger (no_log_fits r n is).ledger);
+      }) refl
 
   pub follows_piece : (e : PieceEntry) → FitsPiece r e → new ≡ old ++ Put (kind.Piece e) ∷ [] → t ≡ with_piece r e → EditsFollow old new r t
   follows_piece e fits =
       let range = fits.id.range in
-      pieces-follow (Put (kind.Piece e)) (with_piece r e).ledger.pieces
-      (put_part (place 5 1) (place 6 0) (kind.Piece e) (pieces_of r.ledger) (pieces_of (with_piece r e).ledger) (omega arith, omega arith) (pieces-run r.ledger is.ledger) (pieces-run (with_piece r e).ledger (piece_fits r e is fits).ledger)
-      (put-one kind.Piece (λ x. x.id) 5 e.id (λ x. refl) (omega arith) e refl r.ledger.pieces pieces-small))
+      follows-of old new r (with_piece r e) t (record (keep r is) {
+        pieces = put-part kind.Piece (λ x. x.id) 5 e.id (λ x. refl) (omega arith) e refl range.0 r.ledger.pieces (small (λ x. x.id) r.ledger.pieces is.ledger.ids.pieces) (pieces-run r.ledger is.ledger) (pieces-run (with_piece r e).ledger (piece_fits r e is fits).ledger);
+      }) refl
 
   pub follows_no_piece : (n : ℕ) → 1 ≤ n → n < 4294967296 → new ≡ old ++ Drop (record { kind = 5; id = n }) ∷ [] → t ≡ without_piece r n → EditsFollow old new r t
-  follows_no_piece n low small =
-      pieces-follow (Drop (record { kind = 5; id = n })) (without_piece r n).ledger.pieces
-      (drop_part (place 5 1) (place 6 0) (record { kind = 5; id = n }) (pieces_of r.ledger) (pieces_of (without_piece r n).ledger) (omega arith, omega arith) (pieces-run r.ledger is.ledger) (pieces-run (without_piece r n).ledger (no_piece_fits r n is).ledger)
-      (drop-one kind.Piece (λ x. x.id) 5 n (λ x. refl) (omega arith) (record { kind = 5; id = n }) refl r.ledger.pieces pieces-small))
+  follows_no_piece n low most =
+      follows-of old new r (without_piece r n) t (record (keep r is) {
+        pieces = drop-part kind.Piece (λ x. x.id) 5 n (λ x. refl) (omega arith) low r.ledger.pieces (small (λ x. x.id) r.ledger.pieces is.ledger.ids.pieces) (pieces-run r.ledger is.ledger) (pieces-run (without_piece r n).ledger (no_piece_fits r n is).ledger);
+      }) refl
 
   pub follows_set : (e : SetEntry) → FitsSet r e → new ≡ old ++ Put (kind.Set e) ∷ [] → t ≡ with_set r e → EditsFollow old new r t
   follows_set e fits =
       let range = fits.id.range in
-      sets-follow (Put (kind.Set e)) (with_set r e).ledger.sets
-      (put_part (place 9 1) (place 10 0) (kind.Set e) (sets_of r.ledger) (sets_of (with_set r e).ledger) (omega arith, omega arith) (sets-run r.ledger is.ledger) (sets-run (with_set r e).ledger (set_fits r e is fits).ledger)
-      (put-one kind.Set (λ x. x.id) 9 e.id (λ x. refl) (omega arith) e refl r.ledger.sets sets-small))
+      follows-of old new r (with_set r e) t (record (keep r is) {
+        sets = put-part kind.Set (λ x. x.id) 9 e.id (λ x. refl) (omega arith) e refl range.0 r.ledger.sets (small (λ x. x.id) r.ledger.sets is.ledger.ids.sets) (sets-run r.ledger is.ledger) (sets-run (with_set r e).ledger (set_fits r e is fits).ledger);
+      }) refl
 
   pub follows_no_set : (n : ℕ) → 1 ≤ n → n < 4294967296 → new ≡ old ++ Drop (record { kind = 9; id = n }) ∷ [] → t ≡ without_set r n → EditsFollow old new r t
-  follows_no_set n low small =
-      sets-follow (Drop (record { kind = 9; id = n })) (without_set r n).ledger.sets
-      (drop_part (place 9 1) (place 10 0) (record { kind = 9; id = n }) (sets_of r.ledger) (sets_of (without_set r n).ledger) (omega arith, omega arith) (sets-run r.ledger is.ledger) (sets-run (without_set r n).ledger (no_set_fits r n is).ledger)
-      (drop-one kind.Set (λ x. x.id) 9 n (λ x. refl) (omega arith) (record { kind = 9; id = n }) refl r.ledger.sets sets-small))
+  follows_no_set n low most =
+      follows-of old new r (without_set r n) t (record (keep r is) {
+        sets = drop-part kind.Set (λ x. x.id) 9 n (λ x. refl) (omega arith) low r.ledger.sets (small (λ x. x.id) r.ledger.sets is.ledger.ids.sets) (sets-run r.ledger is.ledger) (sets-run (without_set r n).ledger (no_set_fits r n is).ledger);
+      }) refl
 
 -- a new object after the id that it takes
 module _ (old new : List Edit) (r t : TypedCatalog) (is : IsTypedCatalog r) where
@@ -354,10 +380,8 @@ saved_fits r s is fits = record { ledger = is.ledger; saved = fits }
 module _ (old new : List Edit) (r t : TypedCatalog) (is : IsTypedCatalog r) where
   -- edits of the saved site alone
   site-follows : (x : List Edit) (o : Option Saved) → IsPart (place 7 0) (place 9 0) x (saved_records r.saved) (saved_records o) → new ≡ old ++ x → t ≡ record r { saved = o } → EditsFollow old new r t
-  site-follows x o part more out =
-      let s = record r { saved = o } in
-      follows-of old new x r s t more
-      (ap (λ (es : List Edit). after_edits es (records_of r)) (sym (append-nil x)) ∙ by-parts r s [] [] [] [] [] [] x [] (keep-b r is) (keep-t r is) (keep-f r is) (keep-l r is) (keep-p r is) (keep-m r is) part (keep-z r is)) out
+  site-follows x o part more =
+      follows-of old new r (record r { saved = o }) t (record (keep r is) { site = record { edits = x; new = saved_records o; is = part } }) refl (more ∙ ap (λ (es : List Edit). old ++ es) (sym (append-nil x)))
 
   pub follows_unsaved : new ≡ old ++ unsaved_edits r.saved → t ≡ without_saved r → EditsFollow old new r t
   follows_unsaved = site-follows (unsaved_edits r.saved) None (unsaved-part r is)
@@ -368,9 +392,12 @@ module _ (old new : List Edit) (r t : TypedCatalog) (is : IsTypedCatalog r) wher
       (subst (λ (o : Option Saved). IsPart (place 7 0) (place 9 0) (saved_edits s) (saved_records o) (saved_records (Some s))) (sym none)
       (more_part (place 7 0) (place 9 0) [] (saved_records (Some s)) no-run (saved-run (with_saved r s) (saved_fits r s is fits))))
 
--- the number of a mark more fits into 32 bits
+-- the number of a mark more, and of a switch more, fits into 32 bits
 pub marks_few : (r : TypedCatalog) → IsTypedCatalog r → length r.ledger.marks ≤ 65536
 marks_few r is = let few = is.ledger.few in let most = marks-few r.ledger in omega arith
+
+pub switches_few : (r : TypedCatalog) → IsTypedCatalog r → length r.ledger.switches ≤ 65536
+switches_few r is = let few = is.ledger.few in let most = switches-few r.ledger in omega arith
 
 -- two edits one after the other
 pub both_more : (es fs gs : List Edit) (e f : Edit) → fs ≡ es ++ e ∷ [] → gs ≡ fs ++ f ∷ [] → gs ≡ es ++ e ∷ f ∷ []

@@ -15,10 +15,10 @@ use Rattle.rm_catalog.specs.Rules.{IsOnce, IsAmongFirst, is_lasting}
 use Rattle.rm_catalog.proofs.Found.{differ}
 use Rattle.rm_catalog.proofs.Counts.{alike, alike_count}
 use Rattle.rm_catalog.proofs.Unique.{Rises, all_above}
-use Rattle.rm_catalog_typed.specs.Ledger.{Ledger, front_records, ledger_records, numbered, incarnation_record, datafile_record, mark_record}
+use Rattle.rm_catalog_typed.specs.Ledger.{Ledger, front_records, back_records, ledger_records, numbered, incarnation_record, datafile_record, mark_record, switch_record}
 use Rattle.rm_catalog_typed.specs.LedgerFacts.{IsLedger, HasMark}
-use Rattle.rm_catalog_typed.proofs.Order.{runs-rise, records-run, incarnations_of, datafiles_of, logs_of, pieces_of, marks_of, sets_of}
-use Rattle.rm_catalog_typed.proofs.Lookups.{has-mark}
+use Rattle.rm_catalog_typed.proofs.Order.{records-rise, incarnations_of, datafiles_of, logs_of, pieces_of, marks_of, sets_of, switch_records}
+use Rattle.rm_catalog_typed.proofs.Lookups.{own-has}
 
 -- records that rise from above a place have none at it
 none-below : (low p : ℕ) (rs : List Record) → p < low → Rises low rs → alike p rs ≡ 0
@@ -43,7 +43,7 @@ rises-once low (r ∷ rs) x up (suc k, lt, is) =
 
 pub record-once : (l : Ledger) (r : Record) → IsLedger l → Contains (ledger_records l) r → IsOnce (place_of r) (ledger_records l)
 record-once l r is has = record {
-  once = sym (alike_count (place_of r) (ledger_records l)) ∙ rises-once (place 1 0) (ledger_records l) r (runs-rise (place 1 0) (place 10 0) (ledger_records l) (records-run l is)) has;
+  once = sym (alike_count (place_of r) (ledger_records l)) ∙ rises-once (place 1 0) (ledger_records l) r (records-rise l is) has;
 }
 
 -- where an item fails a test, fewer than all pass it
@@ -111,7 +111,8 @@ sum-files f n (d ∷ ds) =
 pub blocks-few : (l : Ledger) (f : ℕ) → sum_by (blocks_to f) (ledger_records l) ≤ sum_by (λ d. d.blocks) l.files
 blocks-few l f =
     let first = sum_by-cons (blocks_to f) (kind.Base l.base) (incarnations_of l ++ datafiles_of l ++ logs_of l ++ pieces_of l ++ marks_of l) in
-    let six = sum_by-append (blocks_to f) (front_records l) (sets_of l) in
+    let seven = sum_by-append (blocks_to f) (front_records l) (back_records l) in
+    let six = sum_by-append (blocks_to f) (sets_of l) (switch_records l) in
     let five = sum_by-append (blocks_to f) (incarnations_of l ++ datafiles_of l ++ logs_of l ++ pieces_of l) (marks_of l) in
     let four = sum_by-append (blocks_to f) (incarnations_of l ++ datafiles_of l ++ logs_of l) (pieces_of l) in
     let three = sum_by-append (blocks_to f) (incarnations_of l ++ datafiles_of l) (logs_of l) in
@@ -122,6 +123,7 @@ blocks-few l f =
     let pieces = sum-none-map f kind.Piece l.pieces (λ p. refl) in
     let marks = sum-none f mark_record 1 l.marks (λ k m. refl) in
     let sets = sum-none-map f kind.Set l.sets (λ e. refl) in
+    let switches = sum-none f switch_record 1 l.switches (λ k x. refl) in
     omega arith
 
 -- where an incarnation has a mark, a record says so
@@ -130,5 +132,5 @@ marked l i h =
     let m = h.0 in
     let k = h.1.0 in
     let at_k : slice_get l.marks k ≡ Some m = slice_get-get_or l.marks k m h.1.1 ∙ ap (λ (x : Mark). Some x) h.1.2 in
-    let has = has-mark l k m at_k in
+    let has = own-has l (mark_record (1 + k) m) (record { index = k; item = m; there = at_k; is = refl }) in
     list_any_at (is_mark_of i) (ledger_records l) has.0 (mark_record (1 + k) m) has.1 (ap (is_mark_of i) has.2 ∙ eq-eqb m.inc i h.2)

@@ -20,21 +20,22 @@ use Rattle.rm_history.specs.Tree.{IsThere, parent_of, reset_of, end_of, with_bra
 use Rattle.rm_history.proofs.Branches.{IsThere-branched, end_of-branched, end_of-with_branch, length-with_branch, parent_of-branched, parent_of-with_branch, reset_of-branched, reset_of-with_branch}
 use Rattle.rm_history.proofs.Ends.{parent_of-with_end, end_of-with_end, end_of-with_end_other}
 use Rattle.rm_catalog_typed.specs.LedgerFacts.{AreDatafiles, AreIds, AreIncarnations, AreMarks, HasMark, IsBranch, IsCreated, IsLogEntry, IsMark, IsPieceEntry, IsSetEntry}
-use Rattle.rm_catalog_typed.specs.Ledger.{Ledger, incarnation_record, datafile_record, mark_record}
-use Rattle.rm_catalog_typed.specs.Ledger.{ledger_records}
+use Rattle.rm_catalog_typed.specs.Ledger.{Ledger, back_records, datafile_record, front_records, incarnation_record, ledger_records, mark_record, switch_record}
+use Rattle.rm_catalog_typed.specs.Switches.{ComeInTurn}
+use Rattle.rm_catalog_typed.specs.declared.thread_switch.ThreadSwitch.{ThreadSwitch}
+use Rattle.rm_catalog_typed.proofs.InTurn.{turns_kept, turns_more}
 use Rattle.rm_catalog_typed.proofs.Keeping.{FilesGrow, log_kept, mark_kept, piece_kept, set_kept}
-use Rattle.rm_catalog_typed.proofs.Order.{incarnations_of, datafiles_of, logs_of, pieces_of, marks_of, sets_of, length-numbered}
+use Rattle.rm_catalog_typed.proofs.Order.{incarnations_of, datafiles_of, logs_of, pieces_of, marks_of, sets_of, switch_records, length-numbered}
 use Rattle.rm_catalog_typed.proofs.Trees.{Keeps, keeps_branch, keeps_end, parents_below}
-use Rattle.rm_catalog_typed.specs.Changes.{with_base, with_end_at, with_file, with_incarnation, with_log, with_mark, with_new_log, with_new_piece, with_new_set, with_one, with_piece, with_set, without_log, without_one, without_piece, without_set}
+use Rattle.rm_catalog_typed.specs.Changes.{with_base, with_end_at, with_file, with_incarnation, with_log, with_mark, with_new_log, with_new_piece, with_new_set, with_one, with_piece, with_set, with_switch, without_log, without_one, without_piece, without_set}
 use Rattle.rm_catalog_typed.specs.Facts.{IsPartEntry, IsTypedCatalog, IsSaved}
-use Rattle.rm_catalog_typed.specs.Fitting.{FitsBase, FitsBranch, FitsFile, FitsLog, FitsMark, FitsNewLog, FitsNewPiece, FitsNewSet, FitsPiece, FitsSet, IsObjectId, LacksId}
+use Rattle.rm_catalog_typed.specs.Fitting.{FitsBase, FitsBranch, FitsFile, FitsLog, FitsMark, FitsNewLog, FitsNewPiece, FitsNewSet, FitsPiece, FitsSet, FitsSwitch, IsObjectId, LacksId}
 use Rattle.rm_catalog_typed.specs.TypedCatalog.{TypedCatalog, Saved}
 use Rattle.rm_catalog_typed.proofs.Ones.{all-with, all-without, ascend-with, ascend-without, contains-with, contains-without, length-replaced, length-with, length-without, with-last}
 
--- a ledger has the threads, datafiles, incarnations and ids that another has
+-- a ledger has the datafiles, incarnations and ids that another has
 record HasAll (l m : Ledger) : Type 0 where
   pub ids : l.base.next_id ≤ m.base.next_id
-  pub threads : l.base.threads ≤ m.base.threads
   pub files : length l.files ≤ length m.files
   pub there : (i : ℕ) → IsThere l.tree i → IsThere m.tree i
 
@@ -51,7 +52,7 @@ site_kept l m s has is free =
       parts = All-weaker (IsPartEntry l) (IsPartEntry m) (λ (p : PartEntry) was. record {
         id = (was.id.0, omega arith);
         size = was.size;
-        thread = λ none. let t = (was.thread none).1 in ((was.thread none).0, omega arith);
+        thread = was.thread;
         file = λ some. let f = (was.file some).1 in ((was.file some).0, omega arith);
       }) s.parts is.parts;
       apart = is.apart;
@@ -70,9 +71,10 @@ saved_kept l m has logs pieces sets (Some s) is = site_kept l m s has is (record
 })
 
 -- so many records
-pub many : (l : Ledger) → length (ledger_records l) ≡ 1 + length l.tree + length l.files + length l.logs + length l.pieces + length l.marks + length l.sets
+pub many : (l : Ledger) → length (ledger_records l) ≡ 1 + length l.tree + length l.files + length l.logs + length l.pieces + length l.marks + length l.sets + length l.switches
 many l =
-    let six = length-append (incarnations_of l ++ datafiles_of l ++ logs_of l ++ pieces_of l ++ marks_of l) (sets_of l) in
+    let seven = length-append (front_records l) (back_records l) in
+    let six = length-append (sets_of l) (switch_records l) in
     let five = length-append (incarnations_of l ++ datafiles_of l ++ logs_of l ++ pieces_of l) (marks_of l) in
     let four = length-append (incarnations_of l ++ datafiles_of l ++ logs_of l) (pieces_of l) in
     let three = length-append (incarnations_of l ++ datafiles_of l) (logs_of l) in
@@ -83,6 +85,7 @@ many l =
     let pieces = length-map l.pieces (λ e. kind.Piece e) in
     let marks = length-numbered mark_record 1 l.marks in
     let sets = length-map l.sets (λ e. kind.Set e) in
+    let switches = length-numbered switch_record 1 l.switches in
     omega arith
 
 -- other base facts
@@ -92,14 +95,13 @@ base_fits r b rules fits =
     let l = r.ledger in
     let m = (with_base r b).ledger in
     let next = fits.next_id in
-    let threads = fits.threads in
     record {
       ledger = record {
         base = fits.facts;
         current = fits.current;
         incarnations = is.incarnations;
         datafiles = is.datafiles;
-        logs = subst (λ (n : ℕ). All (IsLogEntry l.tree n) l.logs) (sym threads) is.logs;
+        logs = is.logs;
         pieces = is.pieces;
         sets = is.sets;
         ids = record {
@@ -118,9 +120,10 @@ base_fits r b rules fits =
           rise = is.marks.rise;
           some = is.marks.some;
         };
+        switches = subst (λ n. ComeInTurn l.tree n l.switches) (sym fits.threads) is.switches;
         few = is.few;
       };
-      saved = saved_kept l m (record { ids = next; threads = omega arith; files = omega arith; there = λ i there. there }) refl refl refl r.saved rules.saved;
+      saved = saved_kept l m (record { ids = next; files = omega arith; there = λ i there. there }) refl refl refl r.saved rules.saved;
     }
 
 -- a later moment
@@ -190,15 +193,15 @@ files-grow : (old new : List Datafile) → FilesGrow old new → length old ≤ 
 files-grow old new (inl same) = let long = ap length same in omega arith
 files-grow old new (inr more) = let long = ap length more.1 in let all = length-append old (more.0 ∷ []) in omega arith
 
--- a tree that keeps what was, with datafiles and marks
-regrown : (r : TypedCatalog) (tree : List Incarnation) (files : List Datafile) (marks : List Mark) → IsTypedCatalog r → Keeps r.ledger.tree tree → FilesGrow r.ledger.files files
-    → AreIncarnations tree → AreDatafiles tree files → AreMarks tree r.ledger.base.moment marks
-    → length (ledger_records r.ledger) + length tree + length files + length marks ≤ 65536 + length r.ledger.tree + length r.ledger.files + length r.ledger.marks
-    → IsTypedCatalog (record r { ledger = record r.ledger { tree = tree; files = files; marks = marks } })
-regrown r tree files marks rules keeps grows of-tree of-files of-marks room =
+-- a tree that keeps what was, with datafiles, marks and switches
+regrown : (r : TypedCatalog) (tree : List Incarnation) (files : List Datafile) (marks : List Mark) (switches : List ThreadSwitch) → IsTypedCatalog r → Keeps r.ledger.tree tree → FilesGrow r.ledger.files files
+    → AreIncarnations tree → AreDatafiles tree files → AreMarks tree r.ledger.base.moment marks → ComeInTurn tree r.ledger.base.threads switches
+    → length (ledger_records r.ledger) + length tree + length files + length marks + length switches ≤ 65536 + length r.ledger.tree + length r.ledger.files + length r.ledger.marks + length r.ledger.switches
+    → IsTypedCatalog (record r { ledger = record r.ledger { tree = tree; files = files; marks = marks; switches = switches } })
+regrown r tree files marks switches rules keeps grows of-tree of-files of-marks of-switches room =
     let is = rules.ledger in
     let l = r.ledger in
-    let m = record r.ledger { tree = tree; files = files; marks = marks } in
+    let m = record r.ledger { tree = tree; files = files; marks = marks; switches = switches } in
     let old = many l in
     let new = many m in
     record {
@@ -207,14 +210,15 @@ regrown r tree files marks rules keeps grows of-tree of-files of-marks room =
         current = keeps.there l.base.current is.current;
         incarnations = of-tree;
         datafiles = of-files;
-        logs = All-weaker (IsLogEntry l.tree l.base.threads) (IsLogEntry tree l.base.threads) (log_kept l.tree tree l.base.threads keeps) l.logs is.logs;
+        logs = All-weaker (IsLogEntry l.tree) (IsLogEntry tree) (log_kept l.tree tree keeps) l.logs is.logs;
         pieces = All-weaker (IsPieceEntry l.tree l.files) (IsPieceEntry tree files) (piece_kept l.tree tree l.files files keeps grows) l.pieces is.pieces;
         sets = All-weaker (IsSetEntry l.tree l.files) (IsSetEntry tree files) (set_kept l.tree tree l.files files keeps grows) l.sets is.sets;
         ids = is.ids;
         marks = of-marks;
+        switches = of-switches;
         few = omega arith;
       };
-      saved = saved_kept l m (record { ids = omega arith; threads = omega arith; files = files-grow l.files files grows; there = λ i there. keeps.there i there }) refl refl refl r.saved rules.saved;
+      saved = saved_kept l m (record { ids = omega arith; files = files-grow l.files files grows; there = λ i there. keeps.there i there }) refl refl refl r.saved rules.saved;
     }
 
 same-tree : (tree : List Incarnation) → Keeps tree tree
@@ -228,12 +232,12 @@ end_fits r i end rules there up last =
     let tree = with_end l.tree i end in
     let keeps = keeps_end l.tree i end there up in
     let long = trees-same l.tree i end in
-    regrown r tree l.files l.marks rules keeps (inl refl) (incarnations_kept l.tree i end is.incarnations there up last) (datafiles-kept l.tree tree l.files keeps is.datafiles)
+    regrown r tree l.files l.marks l.switches rules keeps (inl refl) (incarnations_kept l.tree i end is.incarnations there up last) (datafiles-kept l.tree tree l.files keeps is.datafiles)
     (record {
       each = All-weaker (IsMark l.tree l.base.moment) (IsMark tree l.base.moment) (mark_kept l.tree tree l.base.moment l.base.moment keeps (omega arith)) l.marks is.marks.each;
       rise = is.marks.rise;
       some = λ k has. is.marks.some k (has.0, omega arith);
-    }) (omega (arith, is.few))
+    }) (turns_kept l.tree tree l.base.threads l.switches keeps is.switches) (omega (arith, is.few))
 
 -- one datafile more
 pub file_fits : (r : TypedCatalog) (d : Datafile) → IsTypedCatalog r → FitsFile r d → IsTypedCatalog (with_file r d)
@@ -243,8 +247,8 @@ file_fits r d rules fits =
     let long = length-append l.files (d ∷ []) in
     let sum = sum_by-append (λ (f : Datafile). f.blocks) l.files (d ∷ []) in
     let one = sum_by-cons (λ (f : Datafile). f.blocks) d [] in
-    regrown r l.tree (l.files ++ d ∷ []) l.marks rules (same-tree l.tree) (inr (d, refl)) is.incarnations
-    (record { each = All-push (IsCreated l.tree) l.files d is.datafiles.each fits.created; few = omega arith; room = omega arith }) is.marks (omega arith)
+    regrown r l.tree (l.files ++ d ∷ []) l.marks l.switches rules (same-tree l.tree) (inr (d, refl)) is.incarnations
+    (record { each = All-push (IsCreated l.tree) l.files d is.datafiles.each fits.created; few = omega arith; room = omega arith }) is.marks is.switches (omega arith)
 
 -- one mark more among the marks of a tree
 marks-more : (tree : List Incarnation) (latest : ℕ) (marks : List Mark) (m : Mark) → All (IsMark tree latest) marks → All (λ n. n.moment ≤ m.moment) marks → IsMark tree latest m
@@ -261,8 +265,16 @@ mark_fits r n rules fits =
     let is = rules.ledger in
     let l = r.ledger in
     let long = length-append l.marks (n ∷ []) in
-    regrown r l.tree l.files (l.marks ++ n ∷ []) rules (same-tree l.tree) (inl refl) is.incarnations is.datafiles
-    (marks-more l.tree l.base.moment l.marks n is.marks.each fits.moment.0 fits.mark is.marks.rise (λ i there. old-mark r n i rules there)) (omega arith)
+    regrown r l.tree l.files (l.marks ++ n ∷ []) l.switches rules (same-tree l.tree) (inl refl) is.incarnations is.datafiles
+    (marks-more l.tree l.base.moment l.marks n is.marks.each fits.moment.0 fits.mark is.marks.rise (λ i there. old-mark r n i rules there)) is.switches (omega arith)
+
+-- one switch more
+pub switch_fits : (r : TypedCatalog) (x : ThreadSwitch) → IsTypedCatalog r → FitsSwitch r x → IsTypedCatalog (with_switch r x)
+switch_fits r x rules fits =
+    let is = rules.ledger in
+    let l = r.ledger in
+    let long = length-append l.switches (x ∷ []) in
+    regrown r l.tree l.files l.marks (l.switches ++ x ∷ []) rules (same-tree l.tree) (inl refl) is.incarnations is.datafiles is.marks (turns_more l.tree l.base.threads l.switches x is.switches fits.next) (omega arith)
 
 -- an incarnation of a tree with one more was there, or is the new one
 old-or-new : (tree : List Incarnation) (p at i : ℕ) → IsThere (with_branch tree p at) i → IsThere tree i ⊎ (i ≡ length tree + 1)
@@ -321,15 +333,15 @@ branch_fits r parent at moment rules fits =
       | inl was ↦ old-mark r n i rules was
       | inr new ↦ (n, Contains-push l.marks n, sym new)
     ] in
-    regrown r tree l.files (l.marks ++ n ∷ []) rules keeps (inl refl) (branched-incarnations l.tree parent at is.incarnations fits.there fits.begins.0 fits.begins.1 fits.few) (datafiles-kept l.tree tree l.files keeps is.datafiles)
+    regrown r tree l.files (l.marks ++ n ∷ []) l.switches rules keeps (inl refl) (branched-incarnations l.tree parent at is.incarnations fits.there fits.begins.0 fits.begins.1 fits.few) (datafiles-kept l.tree tree l.files keeps is.datafiles)
     (marks-more tree l.base.moment l.marks n
     (All-weaker (IsMark l.tree l.base.moment) (IsMark tree l.base.moment) (mark_kept l.tree tree l.base.moment l.base.moment keeps (omega arith)) l.marks is.marks.each)
     fits.next.0 (record { there = IsThere-branched l.tree parent at; scn = (omega arith, omega arith); moment = fits.next.1 }) is.marks.rise (λ i has. first-mark i (old-or-new l.tree parent at i has)))
-    (omega arith)
+    (turns_kept l.tree tree l.base.threads l.switches keeps is.switches) (omega arith)
 
 -- other logs, pieces and sets
 refit : (r : TypedCatalog) (logs : List LogEntry) (pieces : List PieceEntry) (sets : List SetEntry) → IsTypedCatalog r
-    → All (IsLogEntry r.ledger.tree r.ledger.base.threads) logs → All (IsPieceEntry r.ledger.tree r.ledger.files) pieces → All (IsSetEntry r.ledger.tree r.ledger.files) sets → AreIds 1 r.ledger.base.next_id logs pieces sets
+    → All (IsLogEntry r.ledger.tree) logs → All (IsPieceEntry r.ledger.tree r.ledger.files) pieces → All (IsSetEntry r.ledger.tree r.ledger.files) sets → AreIds 1 r.ledger.base.next_id logs pieces sets
     → length (ledger_records r.ledger) + length logs + length pieces + length sets ≤ 65536 + length r.ledger.logs + length r.ledger.pieces + length r.ledger.sets
     → ((s : Saved) → r.saved ≡ Some s → IsSaved r.ledger s → AreFree s logs pieces sets)
     → IsTypedCatalog (record r { ledger = record r.ledger { logs = logs; pieces = pieces; sets = sets } })
@@ -338,14 +350,14 @@ refit r logs pieces sets rules of-logs of-pieces of-sets ids room free =
     let old = many r.ledger in
     let new = many (record r.ledger { logs = logs; pieces = pieces; sets = sets }) in
     record {
-      ledger = record { base = is.base; current = is.current; incarnations = is.incarnations; datafiles = is.datafiles; logs = of-logs; pieces = of-pieces; sets = of-sets; ids = ids; marks = is.marks; few = omega arith };
+      ledger = record { base = is.base; current = is.current; incarnations = is.incarnations; datafiles = is.datafiles; logs = of-logs; pieces = of-pieces; sets = of-sets; ids = ids; marks = is.marks; switches = is.switches; few = omega arith };
       saved = decide r.saved rules.saved (λ s some. free s some);
     }
   where
     decide : (o : Option Saved) → IfSome o (IsSaved r.ledger) → ((s : Saved) → o ≡ Some s → IsSaved r.ledger s → AreFree s logs pieces sets) → IfSome o (IsSaved (record r.ledger { logs = logs; pieces = pieces; sets = sets }))
     decide None none free = tt
     decide (Some s) is free =
-        site_kept r.ledger (record r.ledger { logs = logs; pieces = pieces; sets = sets }) s (record { ids = omega arith; threads = omega arith; files = omega arith; there = λ i there. there }) is (free s refl is)
+        site_kept r.ledger (record r.ledger { logs = logs; pieces = pieces; sets = sets }) s (record { ids = omega arith; files = omega arith; there = λ i there. there }) is (free s refl is)
 
 -- none of those that lack an id has it
 other-id : {A : Type 0} (id : A → ℕ) (n : ℕ) (xs : List A) (x : A) → LacksId id n xs → Contains xs x → n ≡ id x → ⊥
@@ -356,7 +368,7 @@ no-part-has r n s p is some has = other-id (λ q. q.id) n s.parts p (subst (λ (
 
 -- what is asked of objects that are put among the others or taken away
 module _ (r : TypedCatalog) (rules : IsTypedCatalog r) where
-  logs-for : (logs : List LogEntry) → All (IsLogEntry r.ledger.tree r.ledger.base.threads) logs → All (λ x. (1 ≤ x.id) × (x.id < r.ledger.base.next_id)) logs → AllPairs (λ x y. x.id < y.id) logs
+  logs-for : (logs : List LogEntry) → All (IsLogEntry r.ledger.tree) logs → All (λ x. (1 ≤ x.id) × (x.id < r.ledger.base.next_id)) logs → AllPairs (λ x y. x.id < y.id) logs
       → ((p : PieceEntry) → Contains r.ledger.pieces p → (x : LogEntry) → Contains logs x → x.id ≡ p.id → ⊥) → ((e : SetEntry) → Contains r.ledger.sets e → (x : LogEntry) → Contains logs x → x.id ≡ e.id → ⊥)
       → length (ledger_records r.ledger) + length logs ≤ 65536 + length r.ledger.logs → ((s : Saved) → r.saved ≡ Some s → IsSaved r.ledger s → (p : PartEntry) → Contains s.parts p → (x : LogEntry) → Contains logs x → x.id ≡ p.id → ⊥)
       → IsTypedCatalog (record r { ledger = record r.ledger { logs = logs } })
@@ -422,7 +434,7 @@ log_fits r e rules fits =
     let is = rules.ledger in
     let l = r.ledger in
     let id = λ (x : LogEntry). x.id in
-    logs-for r rules (with_one id e l.logs) (all-with id (IsLogEntry l.tree l.base.threads) e l.logs is.logs fits.log)
+    logs-for r rules (with_one id e l.logs) (all-with id (IsLogEntry l.tree) e l.logs is.logs fits.log)
     (all-with id (λ x. (1 ≤ x.id) × (x.id < l.base.next_id)) e l.logs is.ids.logs fits.id.range) (ascend-with id e l.logs is.ids.logs_ascend)
     (λ p other. contains-with id (λ x. x.id ≡ p.id → ⊥) e l.logs (λ y was same. is.ids.apart y p was other same) (other-id (λ q. q.id) e.id l.pieces p fits.pieces other))
     (λ p other. contains-with id (λ x. x.id ≡ p.id → ⊥) e l.logs (λ y was same. is.ids.logs_apart y p was other same) (other-id (λ q. q.id) e.id l.sets p fits.sets other))
@@ -472,7 +484,7 @@ no_log_fits r n rules =
     let id = λ (x : LogEntry). x.id in
     let short = length-without id n l.logs in
     let few = is.few in
-    logs-for r rules (without_one id n l.logs) (all-without id (IsLogEntry l.tree l.base.threads) n l.logs is.logs)
+    logs-for r rules (without_one id n l.logs) (all-without id (IsLogEntry l.tree) n l.logs is.logs)
     (all-without id (λ x. (1 ≤ x.id) × (x.id < l.base.next_id)) n l.logs is.ids.logs) (ascend-without id n l.logs is.ids.logs_ascend)
     (λ p other. contains-without id (λ x. x.id ≡ p.id → ⊥) n l.logs (λ y was same. is.ids.apart y p was other same))
     (λ p other. contains-without id (λ x. x.id ≡ p.id → ⊥) n l.logs (λ y was same. is.ids.logs_apart y p was other same))

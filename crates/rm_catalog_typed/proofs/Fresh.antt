@@ -50,7 +50,7 @@ fresh_is_ledger dbid threads scn moment one some four from most late =
       current = (omega arith, omega arith);
       incarnations = fresh_incarnations scn from most;
       datafiles = record { each = All-nil (IsCreated tree); few = omega arith; room = omega arith };
-      logs = All-nil (IsLogEntry tree threads);
+      logs = All-nil (IsLogEntry tree);
       pieces = All-nil (IsPieceEntry tree []);
       sets = All-nil (IsSetEntry tree []);
       ids = record {
@@ -65,5 +65,6 @@ fresh_is_ledger dbid threads scn moment one some four from most late =
         pieces_apart = λ p e has. absurd (none-in p has);
       };
       marks = fresh_marks scn moment;
+      switches = λ k x is. absurd cc;
       few = omega arith;
     }

@@ -17,8 +17,8 @@ use Rattle.rm_catalog_typed.specs.LedgerFacts.{IsLogEntry, IsMark, IsPieceEntry,
 use Rattle.rm_catalog_typed.proofs.Trees.{Keeps}
 
 -- a log's entry keeps its facts
-pub log_kept : (old new : List Incarnation) (threads : ℕ) → Keeps old new → (e : LogEntry) → IsLogEntry old threads e → IsLogEntry new threads e
-log_kept old new threads keeps e is =
+pub log_kept : (old new : List Incarnation) → Keeps old new → (e : LogEntry) → IsLogEntry old e → IsLogEntry new e
+log_kept old new keeps e is =
     let reset = keeps.reset e.inc is.there in
     let end = keeps.end e.inc is.there in
     let range = is.range in

@@ -14,9 +14,9 @@ use Rattle.rm_catalog.specs.Objects.{IdRule, IsRange, LogRule, FitsDatafile, Pie
 use Rattle.rm_catalog.specs.SetRules.{FitsSetFile, SetPartRule, SetRule}
 use Rattle.rm_catalog_typed.specs.Ledger.{Ledger, ledger_records}
 use Rattle.rm_catalog_typed.specs.LedgerFacts.{IsLedger, IsLogEntry, IsPieceEntry, IsSetEntry, IsSetPart}
-use Rattle.rm_catalog_typed.proofs.Lookups.{datafile-found, log-id-within, no-log, no-part, no-piece, no-set, piece-id-within, set-id-within}
+use Rattle.rm_catalog_typed.proofs.Lookups.{datafile_entry, datafile-found, log-id-within, no-log, no-part, no-piece, no-set, piece-id-within, set-id-within}
 use Rattle.rm_catalog_typed.proofs.Paths.{path-is}
-use Rattle.rm_catalog_typed.proofs.LedgerThings.{on-incarnation, datafile_entry}
+use Rattle.rm_catalog_typed.proofs.LedgerThings.{on-incarnation}
 
 log-id : (l : Ledger) (e : LogEntry) → IsLedger l → Contains l.logs e → IdRule (ledger_records l) e.id 5 7 9
 log-id l e is has =
@@ -31,7 +31,7 @@ log-id l e is has =
 
 pub log-rule : (l : Ledger) (e : LogEntry) → IsLedger l → Contains l.logs e → LogRule (ledger_records l) e
 log-rule l e is has =
-    let f = All-contains (IsLogEntry l.tree l.base.threads) l.logs e is.logs has in
+    let f = All-contains (IsLogEntry l.tree) l.logs e is.logs has in
     record {
       id = log-id l e is has;
       size = f.size;
@@ -52,10 +52,10 @@ piece-id l p is has =
     }
 
 -- what holds of a datafile of the list holds of its record
-on-file : (l : Ledger) (file : ℕ) (d : Datafile) (P : DatafileEntry → Type 0) → IsLedger l → 0 < file → slice_get l.files (file - 1) ≡ Some d → P (datafile_entry (file - 1) d) → IsSomeAnd (datafile file (ledger_records l)) P
+on-file : (l : Ledger) (file : ℕ) (d : Datafile) (P : DatafileEntry → Type 0) → IsLedger l → 0 < file → slice_get l.files (file - 1) ≡ Some d → P (datafile_entry (1 + (file - 1)) d) → IsSomeAnd (datafile file (ledger_records l)) P
 on-file l file d P is some there holds =
     let number : 1 + (file - 1) ≡ file = omega arith in
-    let found : datafile file (ledger_records l) ≡ Some (datafile_entry (file - 1) d) = ap (λ (n : ℕ). datafile n (ledger_records l)) (sym number) ∙ datafile-found l (file - 1) d is there in
+    let found : datafile file (ledger_records l) ≡ Some (datafile_entry (1 + (file - 1)) d) = ap (λ (n : ℕ). datafile n (ledger_records l)) (sym number) ∙ datafile-found l (file - 1) d is there in
     subst (λ (o : Option DatafileEntry). IsSomeAnd o P) (sym found) holds
 
 pub piece-rule : (l : Ledger) (p : PieceEntry) → IsLedger l → Contains l.pieces p → PieceRule (ledger_records l) p

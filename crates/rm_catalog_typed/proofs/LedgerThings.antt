@@ -1,25 +1,25 @@
--- The base facts, the incarnations, the datafiles and the marks of a ledger obey their rules.
-use Rattle.std.proofs.Common.{◌≡◌, ◌∙◌, ℕ, ◌+◌, ◌-◌, ◌<◌, ◌≤◌, List, length, get_or, slice_get, All, Option, Some, refl, ap, sym, subst, arith}
+-- The base facts, the incarnations, the datafiles, the marks and the switches of a ledger obey their rules.
+use Rattle.std.proofs.Common.{◌≡◌, ◌∙◌, ℕ, ◌+◌, ◌-◌, ◌<◌, ◌≤◌, length, get_or, slice_get, Option, Some, refl, ap, sym, subst, arith}
 use Rattle.std.specs.Prelude.{IsSome, IsSomeAnd}
 use Rattle.std.proofs.lemmas.Option.{get_or_from_slice_get, slice_get_within}
 use Rattle.rm_base.specs.declared.block.Mark.{Mark}
+use Rattle.rm_base.proofs.Slots.{all-get}
 use Rattle.rm_history.specs.Tree.{IsThere, parent_of}
 use Rattle.rm_history.specs.declared.world.Datafile.{Datafile}
-use Rattle.rm_catalog.specs.declared.record.DatafileEntry.{DatafileEntry}
 use Rattle.rm_catalog.specs.declared.record.IncarnationEntry.{IncarnationEntry}
 use Rattle.rm_catalog.specs.declared.record.MarkEntry.{MarkEntry}
 use Rattle.rm_catalog.specs.declared.record.Record.{Record}
 use Rattle.rm_catalog.specs.Keys.{place, at, incarnation, mark}
 use Rattle.rm_catalog.specs.Keys.{IsThere as HasKey}
 use Rattle.rm_catalog.specs.Facts.{BaseRule, IncarnationRule, BranchRule, BeginsOn, DatafileRule, IsCreatedOn, MarkRule, IsWithin}
+use Rattle.rm_catalog.specs.Switches.{IsAt, SwitchRule}
 use Rattle.rm_catalog_typed.specs.Ledger.{Ledger, ledger_records}
 use Rattle.rm_catalog_typed.specs.LedgerFacts.{IsLedger, IsCreated, IsMark}
-use Rattle.rm_catalog_typed.proofs.Lookups.{entry_of, item-at, incarnation-there, incarnation-found, datafile-at, mark-found}
+use Rattle.rm_catalog_typed.specs.declared.thread_switch.ThreadSwitch.{ThreadSwitch}
+use Rattle.rm_catalog_typed.proofs.Lookups.{entry_of, datafile_entry, mark_entry, switch_entry, item-at, incarnation-there, incarnation-found, datafile-at, mark-found, no-switch, switch-at}
+use Rattle.rm_catalog_typed.proofs.Paths.{path-is}
+use Rattle.rm_catalog_typed.proofs.Turns.{Tells, rule-from}
 use Rattle.rm_catalog_typed.proofs.Counted.{blocks-few, marked}
-
--- what is true of all is true at each place
-all-at : {X : Type 0} (P : X → Type 0) (xs : List X) (k : ℕ) (x : X) → All P xs → slice_get xs k ≡ Some x → P x
-all-at P xs k x all is = subst P (get_or_from_slice_get xs k x x is) (all k x (slice_get_within xs k x is))
 
 -- what is true of an incarnation that is there is true of its record
 pub on-incarnation : (l : Ledger) (i : ℕ) (P : IncarnationEntry → Type 0) → IsLedger l → IsThere l.tree i → P (entry_of l.tree i) → IsSomeAnd (incarnation i (ledger_records l)) P
@@ -60,10 +60,6 @@ incarnation-rule l i is there =
       mark = marked l i (is.marks.some i there);
     }
 
--- a datafile of the list, as a record has it
-abbrev pub datafile_entry : ℕ → Datafile → DatafileEntry
-datafile_entry k d = record { file = 1 + k; inc = d.inc; creation = d.creation; blocks = d.blocks }
-
 datafile-before : (l : Ledger) (k : ℕ) → IsLedger l → k < length l.files → 1 < 1 + k → HasKey 3 ((1 + k) - 1) (ledger_records l)
 datafile-before l k is lt later =
     let before = item-at l.files (k - 1) (omega arith) in
@@ -71,9 +67,9 @@ datafile-before l k is lt later =
     let found : at (place 3 ((1 + k) - 1)) (ledger_records l) ≡ Some _ = ap (λ (n : ℕ). at (place 3 n) (ledger_records l)) (sym number) ∙ datafile-at l (k - 1) before.0 is before.1 in
     subst (λ (o : Option Record). IsSome o) (sym found) refl
 
-pub datafile-rule : (l : Ledger) (k : ℕ) (d : Datafile) → IsLedger l → slice_get l.files k ≡ Some d → DatafileRule (ledger_records l) (datafile_entry k d)
+pub datafile-rule : (l : Ledger) (k : ℕ) (d : Datafile) → IsLedger l → slice_get l.files k ≡ Some d → DatafileRule (ledger_records l) (datafile_entry (1 + k) d)
 datafile-rule l k d is there =
-    let c = all-at (IsCreated l.tree) l.files k d is.datafiles.each there in
+    let c = all-get (IsCreated l.tree) l.files k d there is.datafiles.each in
     let lt = slice_get_within l.files k d there in
     let few = is.datafiles.few in
     let room = is.datafiles.room in
@@ -81,14 +77,10 @@ datafile-rule l k d is there =
     record {
       number = (omega arith, omega arith);
       no_gap = record { no_gap = datafile-before l k is lt };
-      creation = on-incarnation l d.inc (IsCreatedOn (datafile_entry k d)) is c.there (record { reset = c.creation.0; end = c.creation.1 });
+      creation = on-incarnation l d.inc (IsCreatedOn (datafile_entry (1 + k) d)) is c.there (record { reset = c.creation.0; end = c.creation.1 });
       blocks = c.blocks;
       room = record { blocks = omega arith };
     }
-
--- a mark of the list, as a record has it
-abbrev pub mark_entry : ℕ → Mark → MarkEntry
-mark_entry k m = record { id = 1 + k; moment = m.moment; inc = m.inc; scn = m.scn }
 
 mark-before : (l : Ledger) (k : ℕ) (m : Mark) → IsLedger l → slice_get l.marks k ≡ Some m → 1 < 1 + k → IsSomeAnd (mark ((1 + k) - 1) (ledger_records l)) (λ p. p.moment ≤ m.moment)
 mark-before l k m is there later =
@@ -101,12 +93,20 @@ mark-before l k m is there later =
     let high = ap (λ (n : Mark). n.moment) (get_or_from_slice_get l.marks k m m there) in
     subst (λ (o : Option MarkEntry). IsSomeAnd o (λ p. p.moment ≤ m.moment)) (sym found) (omega arith)
 
-pub mark-rule : (l : Ledger) (k : ℕ) (m : Mark) → IsLedger l → slice_get l.marks k ≡ Some m → MarkRule (ledger_records l) (mark_entry k m)
+pub mark-rule : (l : Ledger) (k : ℕ) (m : Mark) → IsLedger l → slice_get l.marks k ≡ Some m → MarkRule (ledger_records l) (mark_entry (1 + k) m)
 mark-rule l k m is there =
-    let f = all-at (IsMark l.tree l.base.moment) l.marks k m is.marks.each there in
+    let f = all-get (IsMark l.tree l.base.moment) l.marks k m there is.marks.each in
     record {
       number = omega arith;
       before = mark-before l k m is there;
       scn = on-incarnation l m.inc (IsWithin m.scn) is f.there (record { reset = f.scn.0; end = f.scn.1 });
       moment = f.moment;
     }
+
+-- a switch
+pub switch-rule : (l : Ledger) (k : ℕ) (x : ThreadSwitch) → IsLedger l → slice_get l.switches k ≡ Some x → SwitchRule (ledger_records l) (switch_entry (1 + k) x)
+switch-rule l k x is there =
+    let next = is.switches k x there in
+    let tells : Tells (ledger_records l) l.tree l.base.threads l.switches = record { began = refl; paths = λ i g has. path-is l i g is has; found = λ j y at. switch-at l j y is at } in
+    rule-from (ledger_records l) l.tree l.base.threads l.switches tells k x there next.there (no-switch l)
+    (on-incarnation l x.inc (IsAt (switch_entry (1 + k) x)) is next.there (record { reset = next.range.0; end = next.range.1 })) next

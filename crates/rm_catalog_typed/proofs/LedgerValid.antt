@@ -2,24 +2,29 @@
 use Rattle.std.proofs.Common.{get_or, sym, subst}
 use Rattle.std.proofs.lemmas.List.Elements.{Contains-get_or}
 use Rattle.rm_catalog.specs.declared.record.Record.{Record}
+use Rattle.rm_catalog.specs.declared.record.Record.TheVariants as kind
+use Rattle.rm_catalog.specs.Facts.{BaseRule, DatafileRule, MarkRule}
 use Rattle.rm_catalog.specs.Rules.{OwnRule, IsCatalog}
+use Rattle.rm_catalog.specs.Switches.{SwitchRule}
 use Rattle.rm_catalog_typed.specs.Ledger.{Ledger, ledger_records}
 use Rattle.rm_catalog_typed.specs.LedgerFacts.{IsLedger}
 use Rattle.rm_catalog_typed.proofs.Order.{records-order}
-use Rattle.rm_catalog_typed.proofs.Lookups.{IsOf, of_base, of_incarnation, of_datafile, of_log, of_piece, of_mark, of_set, record-is, has-database}
+use Rattle.rm_catalog_typed.proofs.Lookups.{IsOwn, record-own, has-database}
 use Rattle.rm_catalog_typed.proofs.Counted.{record-once, record-few}
-use Rattle.rm_catalog_typed.proofs.LedgerThings.{base-rule, incarnation-rule, datafile-rule, mark-rule}
+use Rattle.rm_catalog_typed.proofs.LedgerThings.{base-rule, incarnation-rule, datafile-rule, mark-rule, switch-rule}
 use Rattle.rm_catalog_typed.proofs.LedgerObjects.{log-rule, piece-rule, set-rule}
 
 -- each record obeys the rule of its kind
-own-rule : (l : Ledger) (r : Record) → IsLedger l → IsOf l r → OwnRule (ledger_records l) r
-own-rule l r is (of_base q) = subst (OwnRule (ledger_records l)) (sym q) (base-rule l is)
-own-rule l r is (of_incarnation i there q) = subst (OwnRule (ledger_records l)) (sym q) (incarnation-rule l i is there)
-own-rule l r is (of_datafile k d there q) = subst (OwnRule (ledger_records l)) (sym q) (datafile-rule l k d is there)
-own-rule l r is (of_log e there q) = subst (OwnRule (ledger_records l)) (sym q) (log-rule l e is there)
-own-rule l r is (of_piece p there q) = subst (OwnRule (ledger_records l)) (sym q) (piece-rule l p is there)
-own-rule l r is (of_mark k m there q) = subst (OwnRule (ledger_records l)) (sym q) (mark-rule l k m is there)
-own-rule l r is (of_set e there q) = subst (OwnRule (ledger_records l)) (sym q) (set-rule l e is there)
+own-rule : (l : Ledger) (r : Record) → IsLedger l → IsOwn l r → OwnRule (ledger_records l) r
+own-rule l (kind.Base b) is own = subst (BaseRule (ledger_records l)) (sym own) (base-rule l is)
+own-rule l (kind.Incarnation i) is own = subst (OwnRule (ledger_records l)) (sym own.1) (incarnation-rule l i.inc is own.0)
+own-rule l (kind.Datafile f) is n = subst (DatafileRule (ledger_records l)) (sym n.is) (datafile-rule l n.index n.item is n.there)
+own-rule l (kind.Log e) is has = log-rule l e is has
+own-rule l (kind.Piece p) is has = piece-rule l p is has
+own-rule l (kind.Mark m) is n = subst (MarkRule (ledger_records l)) (sym n.is) (mark-rule l n.index n.item is n.there)
+own-rule l (kind.Set e) is has = set-rule l e is has
+own-rule l (kind.Switch x) is n = subst (SwitchRule (ledger_records l)) (sym n.is) (switch-rule l n.index n.item is n.there)
+own-rule l r is none = absurd none
 
 pub ledger-valid : (l : Ledger) → IsLedger l → IsCatalog (ledger_records l)
 ledger-valid l is = record {
@@ -31,6 +36,6 @@ ledger-valid l is = record {
         once = record-once l r is has;
         few = record-few l r is has;
         base = has-database l;
-        own = own-rule l r is (record-is l r has);
+        own = own-rule l r is (record-own l r has);
       };
 }

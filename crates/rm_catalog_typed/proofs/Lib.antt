@@ -3,6 +3,7 @@ pub mod Changed
 pub mod Counted
 pub mod Fitted
 pub mod Fresh
+pub mod InTurn
 pub mod Keeping
 pub mod LedgerObjects
 pub mod LedgerThings
@@ -23,5 +24,7 @@ pub mod Takes
 pub mod Things
 pub mod Told
 pub mod Trees
+pub mod Turns
+pub mod TurnsTold
 pub mod Valid
 pub mod Wholes

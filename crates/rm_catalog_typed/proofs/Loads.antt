@@ -14,24 +14,24 @@ use Rattle.rm_catalog.specs.declared.record.HeadEntry.{HeadEntry}
 use Rattle.rm_catalog.specs.declared.record.PartEntry.{PartEntry}
 use Rattle.rm_catalog.specs.declared.record.Record.{Record}
 use Rattle.rm_catalog.specs.declared.record.Record.TheVariants as records
-use Rattle.rm_catalog.specs.Keys.{base, base_in, head_in, part_in, place_of, set_in}
+use Rattle.rm_catalog.specs.Keys.{base, base_in, head_in, part_in, place_of, set_in, switch_in}
 use Rattle.rm_catalog.specs.Rules.{IsCatalog, is_lasting}
 use Rattle.rm_catalog.proofs.Numbering.{rises_catalog}
 use Rattle.rm_base.proofs.Members.{none-in}
 use Rattle.rm_catalog.proofs.Unique.{Rises, all_above}
 use Rattle.rm_evidence.proofs.Found.{obeys}
-use Rattle.rm_evidence.proofs.Telling.{record-told}
+use Rattle.rm_catalog.proofs.Telling.{record-told}
 use Rattle.rm_catalog_typed.specs.LedgerFacts.{IsLedger}
-use Rattle.rm_catalog_typed.specs.Ledger.{Ledger}
-use Rattle.rm_catalog_typed.specs.Ledger.{front_records, ledger_records, set_records}
-use Rattle.rm_catalog_typed.proofs.Lookups.{IsOf, apart-from-site, record-is}
-use Rattle.rm_catalog_typed.specs.Kinds.{AreSmall, by_kind, ledger_in, typed_catalog_in, saved_in}
+use Rattle.rm_catalog_typed.specs.Ledger.{Ledger, back_records, front_records, ledger_records, numbered, switch_record}
+use Rattle.rm_catalog_typed.proofs.Lookups.{IsOwn, apart-from-site, record-own}
+use Rattle.rm_catalog_typed.specs.Kinds.{AreSmall, by_kind, ledger_in, saved_in, switched_by, typed_catalog_in}
 use Rattle.rm_catalog_typed.specs.TypedCatalog.{Saved, records_of, saved_records}
 use Rattle.rm_catalog_typed.proofs.ByKind.{files-told, is-head, kinds, placed, tree-told}
 use Rattle.rm_catalog_typed.proofs.Marks.{marks-told}
 use Rattle.rm_catalog_typed.proofs.Told.{AtMostOne, base-record, base-rule, key-there, bases-few, has-key, head-alone, heads-few, one-alone, part-rule}
 use Rattle.rm_catalog_typed.proofs.Ledgers.{datafiles-fit, incarnations}
 use Rattle.rm_catalog_typed.proofs.Things.{base-fits, ids-fit, logs-fit, marks-fit, pieces-fit, sets-fit}
+use Rattle.rm_catalog_typed.proofs.TurnsTold.{switches-fit, switches-told}
 
 -- there is a head where there are parts
 parts-head : (rs : List Record) (p : PartEntry) → IsCatalog rs → Contains (filter_map part_in rs) p → filter_map head_in rs ≢ []
@@ -53,7 +53,7 @@ saved-are rs zs c = decide (filter_map part_in rs) (filter_map head_in rs) (λ p
 pub records-are : (rs : List Record) (b : BaseEntry) → IsCatalog rs → base rs ≡ Some b → AreSmall rs → records_of (typed_catalog_in b rs) ≡ rs
 records-are rs b c is small =
     let bases : filter_map base_in rs ≡ b ∷ [] = one-alone (filter_map base_in rs) b (bases-few rs c) (record-told base_in rs (records.Base b) b (base-record rs b is) refl) in
-    let told : records_of (typed_catalog_in b rs) ≡ by_kind rs = simp (append_assoc, bases, tree-told rs c, files-told rs c, marks-told rs c small, saved-are rs (map records.Set (filter_map set_in rs)) c) in
+    let told : records_of (typed_catalog_in b rs) ≡ by_kind rs = simp (append_assoc, bases, tree-told rs c, files-told rs c, marks-told rs c small, saved-are rs (map records.Set (filter_map set_in rs) ++ numbered switch_record 1 (map switched_by (filter_map switch_in rs))) c, switches-told rs c small) in
     told ∙ kinds 0 rs (rises_catalog rs c)
 
 -- whether a record stands where none of a saved site does
@@ -85,7 +85,7 @@ rises-under p low (r ∷ rs) k d up lt = decide (p r) k refl lt (λ j inside. ri
         let split = sum_by-cons (λ (q : Record). cond (passes-below p (get_or (filter p rs) k d) q) 1 0) r rs in
         omega arith
 
-place-lasts : (l : Ledger) (r : Record) → IsOf l r → lasts r ≡ true
+place-lasts : (l : Ledger) (r : Record) → IsOwn l r → lasts r ≡ true
 place-lasts l r of = elim (apart-from-site l r of) [ inl low ↦ grind (arith, nat_tests) | inr late ↦ grind (arith, nat_tests) ]
 
 site-goes : (o : Option Saved) → All (λ x. lasts x ≡ false) (saved_records o)
@@ -93,14 +93,14 @@ site-goes None = All-nil (λ x. lasts x ≡ false)
 site-goes (Some s) = All-push (λ x. lasts x ≡ false) (map records.Part s.parts) (records.Head s.head) (All-map (λ x. lasts x ≡ false) records.Part s.parts (λ k d lt. grind (arith, nat_tests))) refl
 
 -- the records of a ledger are those that last
-lasting-records : (l : Ledger) (o : Option Saved) → filter lasts (front_records l ++ saved_records o ++ set_records l) ≡ ledger_records l
+lasting-records : (l : Ledger) (o : Option Saved) → filter lasts (front_records l ++ saved_records o ++ back_records l) ≡ ledger_records l
 lasting-records l o =
-    let all : All (λ x. lasts x ≡ true) (ledger_records l) = λ k d lt. let x = get_or (ledger_records l) k d in place-lasts l x (record-is l x (Contains-get_or (ledger_records l) k d lt)) in
-    filter-append lasts (front_records l ++ saved_records o) (set_records l)
-    ∙ ap (λ xs. xs ++ filter lasts (set_records l)) (filter-append lasts (front_records l) (saved_records o) ∙ ap (λ xs. filter lasts (front_records l) ++ xs) (filter_none lasts (saved_records o) (site-goes o)) ∙ append-nil (filter lasts (front_records l)))
-    ∙ sym (filter-append lasts (front_records l) (set_records l)) ∙ filter_all lasts (ledger_records l) all
+    let all : All (λ x. lasts x ≡ true) (ledger_records l) = λ k d lt. let x = get_or (ledger_records l) k d in place-lasts l x (record-own l x (Contains-get_or (ledger_records l) k d lt)) in
+    filter-append lasts (front_records l ++ saved_records o) (back_records l)
+    ∙ ap (λ xs. xs ++ filter lasts (back_records l)) (filter-append lasts (front_records l) (saved_records o) ∙ ap (λ xs. filter lasts (front_records l) ++ xs) (filter_none lasts (saved_records o) (site-goes o)) ∙ append-nil (filter lasts (front_records l)))
+    ∙ sym (filter-append lasts (front_records l) (back_records l)) ∙ filter_all lasts (ledger_records l) all
 
--- of the records of kinds 1 to 6 and 9 there are few
+-- of the records that last there are few
 few-records : (rs : List Record) (l : Ledger) → IsCatalog rs → filter lasts rs ≡ ledger_records l → length (ledger_records l) ≤ 65536
 few-records rs l c is =
     let xs = filter lasts rs in
@@ -128,5 +128,6 @@ ledger-is rs b c is small ids =
       sets = sets-fit rs b c is;
       ids = ids-fit rs b c is;
       marks = marks-fit rs b c is small;
+      switches = switches-fit rs c small b is;
       few = few-records rs (ledger_in b rs) c (ap (filter lasts) (sym (records-are rs b c is small)) ∙ lasting-records (ledger_in b rs) (typed_catalog_in b rs).saved);
     }

@@ -4,7 +4,7 @@ use Rattle.std.specs.Prelude.{IsSomeAnd, option_and_then}
 use Rattle.std.specs.List.{filter_map}
 use Rattle.std.proofs.lemmas.List.{get_or_default}
 use Rattle.std.specs.List.Sorted.{IsNonDecreasingBy}
-use Rattle.std.proofs.lemmas.List.Elements.{Contains-get_or}
+use Rattle.std.proofs.lemmas.List.Elements.{All-contains, Contains-get_or}
 use Rattle.std.proofs.lemmas.List.Sorted.{IsNonDecreasingBy-from_all_adjacent}
 use Rattle.rm_catalog.specs.declared.record.MarkEntry.{MarkEntry}
 use Rattle.rm_catalog.specs.declared.record.Record.{Record}
@@ -15,8 +15,8 @@ use Rattle.rm_catalog.specs.Rules.{IsCatalog}
 use Rattle.rm_catalog.proofs.Told.{found_is}
 use Rattle.rm_catalog_typed.specs.Ledger.{numbered, mark_record}
 use Rattle.rm_evidence.proofs.Found.{obeys}
-use Rattle.rm_evidence.proofs.Telling.{record-told, HasNoGap, numbers-are}
-use Rattle.rm_catalog_typed.specs.Kinds.{AreSmall, marked_by}
+use Rattle.rm_catalog.proofs.Telling.{record-told, HasNoGap, numbers-are}
+use Rattle.rm_catalog_typed.specs.Kinds.{AreSmall, IsSmall, marked_by}
 use Rattle.rm_catalog_typed.proofs.ByKind.{is-mark, made, numbered-by, told-in-order, told-is}
 
 -- what the marks among the records say, in order
@@ -56,7 +56,7 @@ before rs m c has small more = decide (at (place 6 (m.id - 1)) rs) refl ((mark-r
 gapless : (rs : List Record) → IsCatalog rs → AreSmall rs → HasNoGap MarkEntry (λ m. m.id) (entries rs)
 gapless rs c small = record {
   low = λ m has. (mark-rule rs m c (entry-record rs m has)).number;
-  below = λ m has more. let there = entry-record rs m has in let b = before rs m c there (small m there) more in (b.entry, b.has, b.number);
+  below = λ m has more. let there = entry-record rs m has in let b = before rs m c there (All-contains IsSmall rs (records.Mark m) small there) more in (b.entry, b.has, b.number);
 }
 
 -- the mark behind k others has the number k + 1
@@ -72,7 +72,7 @@ next-moment rs k d c small inside =
     let m = get_or (entries rs) (k + 1) d in
     let there = entry-record rs m (Contains-get_or (entries rs) (k + 1) d inside) in
     let number = mark-number rs (k + 1) d c small inside in
-    let b = before rs m c there (small m there) (omega arith) in
+    let b = before rs m c there (All-contains IsSmall rs (records.Mark m) small there) (omega arith) in
     let is : get_or (entries rs) b.has.0 d ≡ b.entry = get_or_default (entries rs) b.has.0 d b.entry b.has.1 ∙ b.has.2 in
     let own = mark-number rs b.has.0 d c small b.has.1 in
     let same = ap (λ (x : MarkEntry). x.id) is in

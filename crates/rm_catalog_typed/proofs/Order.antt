@@ -9,7 +9,7 @@ use Rattle.rm_catalog.specs.declared.record.Record.TheVariants as kind
 use Rattle.rm_catalog.specs.Keys.{place, place_of, at, InOrder}
 use Rattle.rm_catalog.proofs.Unique.{Rises, all_above}
 use Rattle.rm_catalog.proofs.Told.{at_here, at_past}
-use Rattle.rm_catalog_typed.specs.Ledger.{Ledger, front_records, ledger_records, numbered, incarnation_record, datafile_record, mark_record}
+use Rattle.rm_catalog_typed.specs.Ledger.{Ledger, front_records, back_records, ledger_records, numbered, incarnation_record, datafile_record, mark_record, switch_record}
 use Rattle.rm_catalog_typed.specs.LedgerFacts.{IsLedger}
 
 -- the places rise strictly, all from `low` on and below `high`
@@ -99,13 +99,23 @@ marks_of l = numbered mark_record 1 l.marks
 abbrev pub sets_of : Ledger → List Record
 sets_of l = map kind.Set l.sets
 
--- a ledger has at least as many records as marks
+abbrev pub switch_records : Ledger → List Record
+switch_records l = numbered switch_record 1 l.switches
+
+-- a ledger has at least as many records as marks, and as switches
 pub marks-few : (l : Ledger) → length l.marks ≤ length (ledger_records l)
 marks-few l =
     let front = incarnations_of l ++ datafiles_of l ++ logs_of l ++ pieces_of l in
-    let all = length-append (front ++ marks_of l) (sets_of l) in
+    let all = length-append (front ++ marks_of l) (back_records l) in
     let both = length-append front (marks_of l) in
     let marks = length-numbered mark_record 1 l.marks in
+    omega arith
+
+pub switches-few : (l : Ledger) → length l.switches ≤ length (ledger_records l)
+switches-few l =
+    let all = length-append (front_records l) (back_records l) in
+    let both = length-append (sets_of l) (switch_records l) in
+    let switches = length-numbered switch_record 1 l.switches in
     omega arith
 
 -- the records of each kind run on, below the first place of the next kind
@@ -133,6 +143,9 @@ sets-run l is =
     let next = is.base.next_id.1 in
     runs-objects kind.Set (λ e. e.id) 9 1 l.sets (λ e. refl) (λ k d lt. let e = is.ids.sets k d lt in let high = e.1 in (e.0, omega arith)) is.ids.sets_ascend
 
+pub switches-run : (l : Ledger) → IsLedger l → Runs (place 10 1) (place 11 0) (switch_records l)
+switches-run l is = let most = switches-few l in let few = is.few in runs-numbered switch_record 10 1 l.switches (λ k x. refl) (omega arith)
+
 -- what goes on behind a gap
 pub runs-join : (mid low from high : ℕ) (rs qs : List Record) → mid ≤ from → Runs low mid rs → Runs from high qs → Runs low high (rs ++ qs)
 runs-join mid low from high rs qs le up down = runs-append low mid high rs qs up (runs-lower mid from high qs le down)
@@ -147,8 +160,11 @@ front-run l is =
     let five = runs-join (place 6 0) (place 2 1) (place 6 1) (place 7 0) (incarnations_of l ++ datafiles_of l ++ logs_of l ++ pieces_of l) (marks_of l) (omega arith) four (marks-run l is) in
     (omega arith, runs-lower (place 1 0 + 1) (place 2 1) (place 7 0) (incarnations_of l ++ datafiles_of l ++ logs_of l ++ pieces_of l ++ marks_of l) (omega arith) five)
 
-pub records-run : (l : Ledger) → IsLedger l → Runs (place 1 0) (place 10 0) (ledger_records l)
-records-run l is = runs-join (place 7 0) (place 1 0) (place 9 1) (place 10 0) (front_records l) (sets_of l) (omega arith) (front-run l is) (sets-run l is)
+pub back-run : (l : Ledger) → IsLedger l → Runs (place 9 1) (place 11 0) (back_records l)
+back-run l is = runs-join (place 10 0) (place 9 1) (place 10 1) (place 11 0) (sets_of l) (switch_records l) (omega arith) (sets-run l is) (switches-run l is)
+
+records-run : (l : Ledger) → IsLedger l → Runs (place 1 0) (place 11 0) (ledger_records l)
+records-run l is = runs-join (place 7 0) (place 1 0) (place 9 1) (place 11 0) (front_records l) (back_records l) (omega arith) (front-run l is) (back-run l is)
 
 -- records that rise are in order
 pub rises-order : (low : ℕ) (rs : List Record) → Rises low rs → InOrder rs
@@ -169,10 +185,13 @@ rises-found low (r ∷ rs) x up (suc k, lt, is) =
     let over = all_above (place_of r + 1) rs up.1 x has in
     at_past r rs (place_of x) (λ e. omega arith) ∙ rises-found (place_of r + 1) rs x up.1 has
 
+pub records-rise : (l : Ledger) → IsLedger l → Rises (place 1 0) (ledger_records l)
+records-rise l is = runs-rise (place 1 0) (place 11 0) (ledger_records l) (records-run l is)
+
 -- the records of a ledger are in order
 pub records-order : (l : Ledger) → IsLedger l → InOrder (ledger_records l)
-records-order l is = rises-order (place 1 0) (ledger_records l) (runs-rise (place 1 0) (place 10 0) (ledger_records l) (records-run l is))
+records-order l is = rises-order (place 1 0) (ledger_records l) (records-rise l is)
 
 -- a record of a ledger is found at its place
 pub record-found : (l : Ledger) (r : Record) → IsLedger l → Contains (ledger_records l) r → at (place_of r) (ledger_records l) ≡ Some r
-record-found l r is has = rises-found (place 1 0) (ledger_records l) r (runs-rise (place 1 0) (place 10 0) (ledger_records l) (records-run l is)) has
+record-found l r is has = rises-found (place 1 0) (ledger_records l) r (records-rise l is) has

@@ -1,6 +1,6 @@
 -- What a catalog's records tell of a saved site.
 use Rattle.std.proofs.Common.{take, length-take, ◌≡◌, ◌∙◌, ℕ, ◌+◌, ◌<◌, ◌≤◌, ◌==◌, Bool, true, false, cond, List, [], ◌∷◌, length, get_or, Some, refl, ap, sym, subst, arith, eq-eqb, AllPairs, Contains}
-use Rattle.std.specs.Prelude.{◌&&◌, MatchBool, IfSome, IsSomeAnd, count_by}
+use Rattle.std.specs.Prelude.{◌&&◌, MatchBool, IfSome, count_by}
 use Rattle.std.specs.List.{filter_map}
 use Rattle.std.proofs.lemmas.Bool.{ne_eqb}
 use Rattle.std.proofs.lemmas.List.{get_or-take}
@@ -20,7 +20,7 @@ use Rattle.rm_base.proofs.Members.{in-front}
 use Rattle.rm_evidence.specs.Database.{datafiles}
 use Rattle.rm_evidence.proofs.Files.{file-number}
 use Rattle.rm_evidence.proofs.Found.{datafile-rule}
-use Rattle.rm_evidence.proofs.Telling.{record-told}
+use Rattle.rm_catalog.proofs.Telling.{record-told}
 use Rattle.rm_catalog_typed.specs.Facts.{AreApart, IsPartEntry, IsTypedCatalog, IsSaved}
 use Rattle.rm_catalog_typed.specs.Kinds.{AreSmall, ledger_in, typed_catalog_in, saved_in}
 use Rattle.rm_catalog_typed.proofs.ByKind.{is-datafile, is-part, made, placed, told-in-order}
@@ -66,11 +66,11 @@ is_of-true : (p : PartEntry) (f t : ℕ) → p.file ≡ f → p.thread ≡ t →
 is_of-true p f t file thread = ap (λ (b : Bool). b && (p.thread == t)) (eq-eqb p.file f file) ∙ eq-eqb p.thread t thread
 
 module _ (rs : List Record) (b : BaseEntry) (c : IsCatalog rs) (is : base rs ≡ Some b) where
-  of-thread : (p : PartEntry) → NamesOne rs p → (p.file == 0) ≡ true → (1 ≤ p.thread) × IsSomeAnd (base rs) (λ b. p.thread ≤ b.threads)
-  of-thread p names is_ = subst (λ (x : Bool). MatchBool x ((1 ≤ p.thread) × IsSomeAnd (base rs) (λ b. p.thread ≤ b.threads)) ((p.thread ≡ 0) × HasKey 3 p.file rs)) is_ names
+  of-thread : (p : PartEntry) → NamesOne rs p → (p.file == 0) ≡ true → (1 ≤ p.thread) × (p.thread ≤ 4)
+  of-thread p names is_ = subst (λ (x : Bool). MatchBool x ((1 ≤ p.thread) × (p.thread ≤ 4)) ((p.thread ≡ 0) × HasKey 3 p.file rs)) is_ names
 
   of-file : (p : PartEntry) → NamesOne rs p → (p.file == 0) ≡ false → (p.thread ≡ 0) × HasKey 3 p.file rs
-  of-file p names is_ = subst (λ (x : Bool). MatchBool x ((1 ≤ p.thread) × IsSomeAnd (base rs) (λ b. p.thread ≤ b.threads)) ((p.thread ≡ 0) × HasKey 3 p.file rs)) is_ names
+  of-file p names is_ = subst (λ (x : Bool). MatchBool x ((1 ≤ p.thread) × (p.thread ≤ 4)) ((p.thread ≡ 0) × HasKey 3 p.file rs)) is_ names
 
   part-fits : (p : PartEntry) → Contains (filter_map part_in rs) p → IsPartEntry (ledger_in b rs) p
   part-fits p has =
@@ -78,7 +78,7 @@ module _ (rs : List Record) (b : BaseEntry) (c : IsCatalog rs) (is : base rs ≡
       record {
         id = (rule.id.number, on-base rs b (λ b. p.id < b.next_id) is rule.id.below);
         size = rule.size;
-        thread = λ none. let one = of-thread p rule.one (eq-eqb p.file 0 none) in (one.0, on-base rs b (λ b. p.thread ≤ b.threads) is one.1);
+        thread = λ none. of-thread p rule.one (eq-eqb p.file 0 none);
         file = λ some. let one = of-file p rule.one (ne_eqb p.file 0 (λ e. omega arith)) in (one.0, file-there rs p.file c one.1);
       }
 

@@ -31,7 +31,7 @@ use Rattle.rm_catalog.proofs.Trees.{path_is}
 use Rattle.rm_evidence.specs.Database.{created_by, datafiles}
 use Rattle.rm_evidence.proofs.Files.{entries, datafiles-are, entry-is}
 use Rattle.rm_evidence.proofs.Found.{datafile-rule, datafile-there}
-use Rattle.rm_evidence.proofs.Telling.{record-told}
+use Rattle.rm_catalog.proofs.Telling.{record-told}
 use Rattle.rm_evidence.proofs.DatabaseWorlds.{entry-of}
 use Rattle.rm_catalog_typed.specs.LedgerFacts.{AreIds, AreMarks, HasMark, IsBase, IsLogEntry, IsMark, IsPieceEntry, IsSetEntry, IsSetPart, Rise}
 use Rattle.rm_catalog_typed.specs.Kinds.{AreSmall, marked_by}
@@ -42,19 +42,19 @@ use Rattle.rm_catalog_typed.proofs.Marks.{entries as mark_entries, entry-record 
 use Rattle.rm_catalog_typed.proofs.Told.{base-rule, has-key, log-rule, on-base, on-incarnation, piece-rule, set-rule}
 
 module _ (rs : List Record) (b : BaseEntry) (c : IsCatalog rs) (is : base rs ≡ Some b) where
-  log-fits : (e : LogEntry) → Contains (filter_map log_in rs) e → IsLogEntry (nodes rs) b.threads e
+  log-fits : (e : LogEntry) → Contains (filter_map log_in rs) e → IsLogEntry (nodes rs) e
   log-fits e has =
       let rule = log-rule rs e c has in
       let on = on-incarnation rs e.inc (IsRange e) c rule.range in
       record {
         there = on.there;
-        thread = (rule.thread.0, on-base rs b (λ b. e.thread ≤ b.threads) is rule.thread.1);
+        thread = rule.thread;
         sequence = rule.sequence;
         range = (omega arith, on.holds.some, omega arith);
         size = rule.size;
       }
 
-  pub logs-fit : All (IsLogEntry (nodes rs) b.threads) (filter_map log_in rs)
+  pub logs-fit : All (IsLogEntry (nodes rs)) (filter_map log_in rs)
   logs-fit k d lt = log-fits (get_or (filter_map log_in rs) k d) (Contains-get_or (filter_map log_in rs) k d lt)
 
   -- a datafile of which something holds

@@ -1,11 +1,11 @@
 -- The records of a typed catalog are valid: those of a saved site stand among the others, of which each rule holds as before.
-use Rattle.std.proofs.Common.{◌≡◌, ◌≢◌, ◌∙◌, ℕ, zero, suc, ◌+◌, ◌-◌, ◌<◌, ◌≤◌, ◌==◌, ◌⊎◌, inl, inr, Bool, false, true, cond, leb, List, [], ◌∷◌, ◌++◌, map, get_or, length, Option, Some, None, refl, ap, sym, subst, arith, All, AllPairs, Contains, eq-eqb}
+use Rattle.std.proofs.Common.{◌≡◌, ◌≢◌, ◌∙◌, ℕ, zero, suc, ◌+◌, ◌-◌, ◌<◌, ◌≤◌, ◌==◌, ◌⊎◌, inl, inr, Bool, false, true, cond, leb, List, [], ◌∷◌, ◌++◌, map, get_or, length, Option, Some, None, refl, ap, slice_get, sym, subst, arith, All, AllPairs, Contains, eq-eqb}
 use Rattle.std.specs.Prelude.{IfSome, IsSome, IsSomeAnd, MatchBool, ◌&&◌, ◌||◌, count_by, nat_lt, option_and_then, sum_by}
 use Rattle.std.specs.List.{list_any}
 use Rattle.std.specs.Option.{option_map_or}
 use Rattle.std.proofs.lemmas.Bool.{and_parts, cases_Bool, cases_eq, eqb-true, false_from_ne_true, ne_eqb, true≢false}
 use Rattle.std.proofs.lemmas.Bool.Decides.{nat_tests}
-use Rattle.std.proofs.lemmas.List.Elements.{All-contains, All-map, All-weaker, Contains-append_cases, Contains-append_left, Contains-append_right, Contains-get_or, Contains-push_cases}
+use Rattle.std.proofs.lemmas.List.Elements.{All-contains, All-map, All-weaker, Contains-append_right, Contains-get_or, Contains-push_cases}
 use Rattle.std.proofs.lemmas.List.Folds.{list_any-append}
 use Rattle.std.proofs.lemmas.List.Sums.{length-filter, sum_by-append, sum_by-cons}
 use Rattle.rm_catalog.specs.declared.record.DatafileEntry.{DatafileEntry}
@@ -24,21 +24,26 @@ use Rattle.rm_catalog.specs.Objects.{FitsDatafile, IsRange, owner_in}
 use Rattle.rm_catalog.specs.Rules.{IsAmongFirst, IsCatalog, Obeys, OwnRule, is_lasting}
 use Rattle.rm_catalog.specs.Saved.{HeadRule, NamesOne, PartRule, is_part_of}
 use Rattle.rm_catalog.specs.SetRules.{FitsSetFile, SetPartRule}
+use Rattle.rm_catalog.specs.Switches.{IsAt, SwitchRule}
 use Rattle.rm_catalog.proofs.Counts.{alike_count}
 use Rattle.rm_catalog.proofs.Filters.{filter_none}
 use Rattle.rm_catalog.proofs.Told.{at_here, at_past}
 use Rattle.rm_base.proofs.Members.{in-front, none-in}
 use Rattle.rm_base.proofs.Lists.{map_from}
-use Rattle.rm_catalog_typed.specs.Ledger.{front_records, ledger_records, set_records}
+use Rattle.rm_catalog_typed.specs.Ledger.{back_records, front_records, ledger_records}
 use Rattle.rm_catalog_typed.proofs.Counted.{rises-once, sum-none-map}
-use Rattle.rm_catalog_typed.proofs.Lookups.{apart-from-site, datafile-at, incarnation-there, item-at, log-id-within, no-log, no-piece, no-set, piece-id-within, record-is, set-id-within}
-use Rattle.rm_catalog_typed.proofs.Order.{Runs, front-run, rises-found, rises-order, runs-append, runs-join, runs-rise, runs-within, sets-run}
+use Rattle.rm_catalog_typed.proofs.Lookups.{apart-from-site, datafile-at, incarnation-there, item-at, log-id-within, no-log, no-piece, no-set, no-switch, piece-id-within, record-own, set-id-within, switch-at, switch_entry}
+use Rattle.rm_catalog_typed.proofs.Order.{Runs, back-run, front-run, rises-found, rises-order, runs-append, runs-join, runs-rise, runs-within}
 use Rattle.rm_catalog_typed.proofs.LedgerValid.{ledger-valid}
 use Rattle.rm_catalog_typed.specs.Facts.{AreApart, IsPartEntry, IsTypedCatalog, IsSaved}
 use Rattle.rm_catalog_typed.specs.TypedCatalog.{TypedCatalog, Saved, records_of, saved_records}
+use Rattle.rm_catalog_typed.specs.declared.thread_switch.ThreadSwitch.{ThreadSwitch}
 use Rattle.rm_catalog_typed.proofs.ByKind.{is-part, placed}
 use Rattle.rm_catalog_typed.proofs.Changed.{saved-run}
-use Rattle.rm_catalog_typed.proofs.Members.{ledger-has, log-in, piece-in, set-in, site-has}
+use Rattle.rm_catalog_typed.proofs.LedgerThings.{switch-rule}
+use Rattle.rm_catalog_typed.proofs.Members.{either-of, ledger-has, log-in, piece-in, set-in, site-has}
+use Rattle.rm_catalog_typed.proofs.Paths.{path-is}
+use Rattle.rm_catalog_typed.proofs.Turns.{Tells, rule-from}
 
 -- records at other places may stand in front, and among others
 at-behind : (p : ℕ) (ys zs : List Record) → All (λ x. place_of x ≢ p) ys → at p (ys ++ zs) ≡ at p zs
@@ -135,7 +140,7 @@ module _ (r : TypedCatalog) (is : IsTypedCatalog r) where
   not-in-site p elsewhere k d lt same = let w = in-site k d lt in elim elsewhere [ inl low ↦ omega arith | inr high ↦ omega arith ]
 
   elsewhere : (x : Record) → Contains own-records x → Elsewhere (place_of x)
-  elsewhere x has = apart-from-site r.ledger x (record-is r.ledger x has)
+  elsewhere x has = apart-from-site r.ledger x (record-own r.ledger x has)
 
   -- no record of the ledger is a part
   no-parts : (file thread : ℕ) → All (λ x. is_part_of file thread x ≡ false) own-records
@@ -145,23 +150,16 @@ module _ (r : TypedCatalog) (is : IsTypedCatalog r) where
       none (kind.Part p) apart = absurd (elim apart [ inl low ↦ omega arith | inr high ↦ omega arith ])
       none x apart = refl
 
-  -- a record of the ledger, or of the saved site
-  which : (x : Record) → Contains (records_of r) x → Contains own-records x ⊎ Contains site x
-  which x has = elim (Contains-append_cases (front_records r.ledger ++ site) (set_records r.ledger) x has) [
-    | inl early ↦ elim (Contains-append_cases (front_records r.ledger) site x early) [ inl low ↦ inl (Contains-append_left (front_records r.ledger) (set_records r.ledger) x low) | inr here ↦ inr here ]
-    | inr late ↦ inl (Contains-append_right (front_records r.ledger) (set_records r.ledger) x late)
-  ]
-
-  rises : Runs (place 1 0) (place 10 0) (records_of r)
-  rises = runs-join (place 9 0) (place 1 0) (place 9 1) (place 10 0) (front_records r.ledger ++ site) (set_records r.ledger) (omega arith)
-      (runs-append (place 1 0) (place 7 0) (place 9 0) (front_records r.ledger) site (front-run r.ledger is.ledger) (saved-run r is)) (sets-run r.ledger is.ledger)
+  rises : Runs (place 1 0) (place 11 0) (records_of r)
+  rises = runs-join (place 9 0) (place 1 0) (place 9 1) (place 11 0) (front_records r.ledger ++ site) (back_records r.ledger) (omega arith)
+      (runs-append (place 1 0) (place 7 0) (place 9 0) (front_records r.ledger) site (front-run r.ledger is.ledger) (saved-run r is)) (back-run r.ledger is.ledger)
 
   found : (x : Record) → Contains (records_of r) x → at (place_of x) (records_of r) ≡ Some x
-  found x has = rises-found (place 1 0) (records_of r) x (runs-rise (place 1 0) (place 10 0) (records_of r) rises) has
+  found x has = rises-found (place 1 0) (records_of r) x (runs-rise (place 1 0) (place 11 0) (records_of r) rises) has
 
   -- what is looked up elsewhere than in the saved site
   same-at : (p : ℕ) → Elsewhere p → at p (records_of r) ≡ at p own-records
-  same-at p apart = at-around p (front_records r.ledger) site (set_records r.ledger) (not-in-site p apart)
+  same-at p apart = at-around p (front_records r.ledger) site (back_records r.ledger) (not-in-site p apart)
 
   same-key : (of id : ℕ) → Elsewhere (place of id) → HasKey of id own-records → HasKey of id (records_of r)
   same-key of id apart has = subst (λ (o : Option Record). IsSome o) (sym (same-at (place of id) apart)) has
@@ -208,7 +206,7 @@ module _ (r : TypedCatalog) (is : IsTypedCatalog r) where
   no-part : (id : ℕ) → id < 4294967295 → ((s : Saved) (p : PartEntry) → r.saved ≡ Some s → Contains s.parts p → id ≡ p.id → ⊥) → HasKey 7 id (records_of r) → ⊥
   no-part id small apart some =
       let p = placed kind.Part part_in 7 is-part (records_of r) id some in
-      elim (which (kind.Part p.entry) p.has) [
+      elim (either-of r (kind.Part p.entry) p.has) [
         | inl own ↦ elim (elsewhere (kind.Part p.entry) own) [ inl low ↦ omega arith | inr high ↦ omega arith ]
         | inr here ↦
             let of = part-of r.saved p.entry here in
@@ -247,6 +245,20 @@ module _ (r : TypedCatalog) (is : IsTypedCatalog r) where
     end = on-told incarnation_in (place 2 e.inc) (omega arith) (λ i. p.high ≤ i.end) was.end;
   }
 
+  -- a switch
+  tells : Tells (records_of r) r.ledger.tree r.ledger.base.threads r.ledger.switches
+  tells = record {
+    began = refl;
+    paths = λ i g there. same-owner 256 i g ∙ path-is r.ledger i g is.ledger there;
+    found = λ k x there. same-at (place 10 (1 + k)) (inr (omega arith)) ∙ switch-at r.ledger k x is.ledger there;
+  }
+
+  turn-rule : (k : ℕ) (x : ThreadSwitch) → slice_get r.ledger.switches k ≡ Some x → SwitchRule (records_of r) (switch_entry (1 + k) x)
+  turn-rule k x there =
+      let next = is.ledger.switches k x there in
+      rule-from (records_of r) r.ledger.tree r.ledger.base.threads r.ledger.switches tells k x there next.there (no-key 10 0 (inr (omega arith)) (no-switch r.ledger))
+      (on-told incarnation_in (place 2 x.inc) (omega arith) (IsAt (switch_entry (1 + k) x)) (switch-rule r.ledger k x is.ledger there).range) next
+
   -- each rule of the ledger's records
   lifted : (x : Record) → Contains own-records x → OwnRule own-records x → OwnRule (records_of r) x
   lifted (kind.Base b) has was = record { dbid = was.dbid; threads = was.threads; current = same-key 2 b.current (inl (omega arith)) was.current; next_id = was.next_id; moment = was.moment; policy = was.policy; parallelism = was.parallelism }
@@ -257,7 +269,7 @@ module _ (r : TypedCatalog) (is : IsTypedCatalog r) where
       branch = λ later. let b = was.origin.branch later in record { no_gap = same-key 2 (i.inc - 1) (inl (omega arith)) b.no_gap; below = b.below; parent = on-told incarnation_in (place 2 i.parent) (omega arith) (BeginsOn i) b.parent };
     };
     range = was.range;
-    mark = any-among (is_mark_of i.inc) (front_records r.ledger) site (set_records r.ledger) was.mark;
+    mark = any-among (is_mark_of i.inc) (front_records r.ledger) site (back_records r.ledger) was.mark;
   }
   lifted (kind.Datafile f) has was = record {
     number = was.number;
@@ -266,9 +278,9 @@ module _ (r : TypedCatalog) (is : IsTypedCatalog r) where
     blocks = was.blocks;
     room = record {
       blocks =
-          let all = sum_by-append (blocks_to f.file) (front_records r.ledger ++ site) (set_records r.ledger) in
+          let all = sum_by-append (blocks_to f.file) (front_records r.ledger ++ site) (back_records r.ledger) in
           let two = sum_by-append (blocks_to f.file) (front_records r.ledger) site in
-          let both = sum_by-append (blocks_to f.file) (front_records r.ledger) (set_records r.ledger) in
+          let both = sum_by-append (blocks_to f.file) (front_records r.ledger) (back_records r.ledger) in
           let none = no-blocks f.file in
           let low = was.room.blocks in
           omega arith;
@@ -328,18 +340,19 @@ module _ (r : TypedCatalog) (is : IsTypedCatalog r) where
     };
     tag = was.tag;
   }
+  lifted (kind.Switch x) has was = let n = record-own r.ledger (kind.Switch x) has in subst (SwitchRule (records_of r)) (sym n.is) (turn-rule n.index n.item n.there)
 
   -- a part
   names-one : (s : Saved) (p : PartEntry) → IsPartEntry r.ledger p → NamesOne (records_of r) p
   names-one s p fits = elim (cases_eq p.file 0) [
-    | inl none ↦ subst (λ (b : Bool). MatchBool b ((1 ≤ p.thread) × (p.thread ≤ r.ledger.base.threads)) ((p.thread ≡ 0) × HasKey 3 p.file (records_of r))) (sym (eq-eqb p.file 0 none)) (fits.thread none)
+    | inl none ↦ subst (λ (b : Bool). MatchBool b ((1 ≤ p.thread) × (p.thread ≤ 4)) ((p.thread ≡ 0) × HasKey 3 p.file (records_of r))) (sym (eq-eqb p.file 0 none)) (fits.thread none)
     | inr other ↦
         let some : 0 < p.file = omega arith in
         let named = fits.file some in
         let d = item-at r.ledger.files (p.file - 1) (omega arith) in
         let number : 1 + (p.file - 1) ≡ p.file = omega arith in
         let there : HasKey 3 p.file own-records = subst (λ (n : ℕ). HasKey 3 n own-records) number (subst (λ (o : Option Record). IsSome o) (sym (datafile-at r.ledger (p.file - 1) d.0 is.ledger d.1)) refl) in
-        subst (λ (b : Bool). MatchBool b ((1 ≤ p.thread) × (p.thread ≤ r.ledger.base.threads)) ((p.thread ≡ 0) × HasKey 3 p.file (records_of r))) (sym (ne_eqb p.file 0 other)) (named.0, same-key 3 p.file (inl (omega arith)) there)
+        subst (λ (b : Bool). MatchBool b ((1 ≤ p.thread) × (p.thread ≤ 4)) ((p.thread ≡ 0) × HasKey 3 p.file (records_of r))) (sym (ne_eqb p.file 0 other)) (named.0, same-key 3 p.file (inl (omega arith)) there)
   ]
 
   of-site : (s : Saved) (x : Record) → r.saved ≡ Some s → Contains (saved_records (Some s)) x → Contains (records_of r) x
@@ -350,9 +363,9 @@ module _ (r : TypedCatalog) (is : IsTypedCatalog r) where
       let saved = is_saved s some in
       let fits = All-contains (IsPartEntry r.ledger) s.parts p saved.parts has in
       let test : Record → ℕ = λ z. cond (is_part_of p.file p.thread z) 1 0 in
-      let all = sum_by-append test (front_records r.ledger ++ site) (set_records r.ledger) in
+      let all = sum_by-append test (front_records r.ledger ++ site) (back_records r.ledger) in
       let two = sum_by-append test (front_records r.ledger) site in
-      let both = sum_by-append test (front_records r.ledger) (set_records r.ledger) in
+      let both = sum_by-append test (front_records r.ledger) (back_records r.ledger) in
       let none = count-none (is_part_of p.file p.thread) own-records (no-parts p.file p.thread) in
       let own = ap (λ (o : Option Saved). count_by (is_part_of p.file p.thread) (saved_records o)) some in
       let split = sum_by-append test (map kind.Part s.parts) (kind.Head s.head ∷ []) in
@@ -386,19 +399,19 @@ module _ (r : TypedCatalog) (is : IsTypedCatalog r) where
   obeys-own x has = All-contains (Obeys own-records) own-records x (ledger-valid r.ledger is.ledger).valid has
 
   own : (x : Record) → Contains (records_of r) x → OwnRule (records_of r) x
-  own x has = elim (which x has) [ inl here ↦ lifted x here (obeys-own x here).own | inr there ↦ site-rule r.saved x refl there ]
+  own x has = elim (either-of r x has) [ inl here ↦ lifted x here (obeys-own x here).own | inr there ↦ site-rule r.saved x refl there ]
 
   site-goes : (x : Record) → Contains site x → is_lasting (place_of x) ≡ false
   site-goes x has = let w = All-contains (λ (y : Record). (place 7 0 ≤ place_of y) × (place_of y < place 9 0)) site x in-site has in grind (arith, nat_tests)
 
   few : (x : Record) → Contains (records_of r) x → IsAmongFirst (place_of x) (records_of r)
   few x has = record {
-    few = λ lasting. elim (which x has) [
+    few = λ lasting. elim (either-of r x has) [
       | inl here ↦
           let p = place_of x in
           let short = (obeys-own x here).few.few lasting in
           let none : All (λ q. (is_lasting (place_of q) && nat_lt (place_of q) p) ≡ false) site = λ k d lt. rw (site-goes (get_or site k d) (Contains-get_or site k d lt)) in
-          let same = count-among (λ q. is_lasting (place_of q) && nat_lt (place_of q) p) (front_records r.ledger) site (set_records r.ledger) none in
+          let same = count-among (λ q. is_lasting (place_of q) && nat_lt (place_of q) p) (front_records r.ledger) site (back_records r.ledger) none in
           omega arith
       | inr there ↦ absurd (let gone = site-goes x there in true≢false (sym lasting ∙ gone))
     ];
@@ -406,12 +419,12 @@ module _ (r : TypedCatalog) (is : IsTypedCatalog r) where
 
 pub typed_catalog-valid : (r : TypedCatalog) → IsTypedCatalog r → IsCatalog (records_of r)
 typed_catalog-valid r is = record {
-  order = rises-order (place 1 0) (records_of r) (runs-rise (place 1 0) (place 10 0) (records_of r) (rises r is));
+  order = rises-order (place 1 0) (records_of r) (runs-rise (place 1 0) (place 11 0) (records_of r) (rises r is));
   valid = λ k d lt.
       let x = get_or (records_of r) k d in
       let has = Contains-get_or (records_of r) k d lt in
       record {
-        once = record { once = sym (alike_count (place_of x) (records_of r)) ∙ rises-once (place 1 0) (records_of r) x (runs-rise (place 1 0) (place 10 0) (records_of r) (rises r is)) has };
+        once = record { once = sym (alike_count (place_of x) (records_of r)) ∙ rises-once (place 1 0) (records_of r) x (runs-rise (place 1 0) (place 11 0) (records_of r) (rises r is)) has };
         few = few r is x has;
         base = refl;
         own = own r is x has;

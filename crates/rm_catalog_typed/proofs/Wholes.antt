@@ -1,9 +1,8 @@
 -- What loading rests on.
-use Rattle.std.proofs.Common.{◌≡◌, ◌∙◌, ◌<◌, ◌≤◌, List, [], ◌∷◌, length, Some, None, refl, ap, sym, subst, arith, All, Contains, slice_get}
+use Rattle.std.proofs.Common.{◌≡◌, ◌∙◌, ◌<◌, ◌≤◌, List, [], ◌∷◌, length, Some, None, refl, ap, sym, subst, arith, Contains, slice_get}
 use Rattle.std.specs.Prelude.{option_and_then}
 use Rattle.std.specs.List.{filter_map}
 use Rattle.std.proofs.lemmas.Option.{slice_get_within, get_or_from_slice_get}
-use Rattle.std.proofs.lemmas.List.Elements.{All-contains}
 use Rattle.rm_catalog.specs.declared.record.BaseEntry.{BaseEntry}
 use Rattle.rm_catalog.specs.declared.record.Record.{Record}
 use Rattle.rm_catalog.specs.declared.record.Record.TheVariants as records
@@ -13,18 +12,15 @@ use Rattle.rm_catalog.specs.Trees.{as_tree, nodes}
 use Rattle.rm_catalog.proofs.Trees.{some_node}
 use Rattle.rm_history.specs.declared.tree.Incarnation.{Incarnation}
 use Rattle.rm_evidence.proofs.Found.{at-is, obeys}
-use Rattle.rm_evidence.proofs.Telling.{record-told}
+use Rattle.rm_catalog.proofs.Telling.{record-told}
 use Rattle.rm_base.proofs.Members.{in-front, none-in}
 use Rattle.rm_catalog_typed.specs.Facts.{IsTypedCatalog}
-use Rattle.rm_catalog_typed.specs.Kinds.{AreSmall, IsSmall, Told, told_by}
+use Rattle.rm_catalog_typed.specs.Kinds.{AreSmall, Told, told_by}
 use Rattle.rm_catalog_typed.specs.Loading.{gathered}
 use Rattle.rm_catalog_typed.specs.TypedCatalog.{records_of}
 use Rattle.rm_catalog_typed.proofs.ByKind.{is-base, made, placed}
 use Rattle.rm_catalog_typed.proofs.Loads.{records-are}
 use Rattle.rm_catalog_typed.proofs.Saves.{typed_catalog-is}
-
-are-small : (rs : List Record) → All IsSmall rs → AreSmall rs
-are-small rs all m has = All-contains IsSmall rs (records.Mark m) all has
 
 base-is : (rs : List Record) (b : BaseEntry) → IsCatalog rs → slice_get (filter_map base_in rs) 0 ≡ Some b → base rs ≡ Some b
 base-is rs b c first =
@@ -32,18 +28,18 @@ base-is rs b c first =
     ap (option_and_then base_in) (at-is rs (records.Base b) c (made records.Base base_in 1 is-base rs b has))
 
 -- what the records say is a typed catalog, with these records
-pub rules-hold : (rs : List Record) (tree : List Incarnation) (t : Told) (b : BaseEntry) → IsCatalog rs → tree ≡ nodes rs → t ≡ told_by rs → All IsSmall rs → slice_get t.bases 0 ≡ Some b → b.next_id ≤ 4294967295 → IsTypedCatalog (gathered b tree t)
+pub rules-hold : (rs : List Record) (tree : List Incarnation) (t : Told) (b : BaseEntry) → IsCatalog rs → tree ≡ nodes rs → t ≡ told_by rs → AreSmall rs → slice_get t.bases 0 ≡ Some b → b.next_id ≤ 4294967295 → IsTypedCatalog (gathered b tree t)
 rules-hold rs tree t b c is-tree is-told small first ids =
     let is = base-is rs b c (ap (λ (u : Told). slice_get u.bases 0) (sym is-told) ∙ first) in
     subst (λ (n : List Incarnation). IsTypedCatalog (gathered b n t)) (sym is-tree)
-    (subst (λ (u : Told). IsTypedCatalog (gathered b (nodes rs) u)) (sym is-told) (typed_catalog-is rs b c is (are-small rs small) ids))
+    (subst (λ (u : Told). IsTypedCatalog (gathered b (nodes rs) u)) (sym is-told) (typed_catalog-is rs b c is small ids))
 
-pub records-kept : (rs : List Record) (tree : List Incarnation) (t : Told) (b : BaseEntry) → IsCatalog rs → tree ≡ nodes rs → t ≡ told_by rs → All IsSmall rs → slice_get t.bases 0 ≡ Some b → records_of (gathered b tree t) ≡ rs
+pub records-kept : (rs : List Record) (tree : List Incarnation) (t : Told) (b : BaseEntry) → IsCatalog rs → tree ≡ nodes rs → t ≡ told_by rs → AreSmall rs → slice_get t.bases 0 ≡ Some b → records_of (gathered b tree t) ≡ rs
 records-kept rs tree t b c is-tree is-told small first =
     let is = base-is rs b c (ap (λ (u : Told). slice_get u.bases 0) (sym is-told) ∙ first) in
     ap (λ (n : List Incarnation). records_of (gathered b n t)) is-tree
     ∙ ap (λ (u : Told). records_of (gathered b (nodes rs) u)) is-told
-    ∙ records-are rs b c is (are-small rs small)
+    ∙ records-are rs b c is small
 
 -- records with incarnations have base facts
 database-of : (rs : List Record) → IsCatalog rs → 0 < length (nodes rs) → HasDatabase rs

@@ -14,6 +14,7 @@ use Rattle.rm_history.specs.declared.world.Datafile.{Datafile}
 use Rattle.rm_history.specs.Tree.{with_branch, with_end}
 use Rattle.rm_catalog_typed.specs.Ledger.{Ledger}
 use Rattle.rm_catalog_typed.specs.TypedCatalog.{TypedCatalog, Saved, records_of, saved_records}
+use Rattle.rm_catalog_typed.specs.declared.thread_switch.ThreadSwitch.{ThreadSwitch}
 
 -- with another ledger
 abbrev with_ledger : TypedCatalog → Ledger → TypedCatalog
@@ -31,12 +32,15 @@ with_moment r moment = with_base r (record r.ledger.base { moment = moment })
 abbrev pub with_end_at : TypedCatalog → ℕ → ℕ → TypedCatalog
 with_end_at r i end = with_ledger r (record r.ledger { tree = with_end r.ledger.tree i end })
 
--- with one datafile, or one mark, more
+-- with one datafile, one mark, or one switch of a redo thread, more
 abbrev pub with_file : TypedCatalog → Datafile → TypedCatalog
 with_file r d = with_ledger r (record r.ledger { files = r.ledger.files ++ d ∷ [] })
 
 abbrev pub with_mark : TypedCatalog → Mark → TypedCatalog
 with_mark r m = with_ledger r (record r.ledger { marks = r.ledger.marks ++ m ∷ [] })
+
+abbrev pub with_switch : TypedCatalog → ThreadSwitch → TypedCatalog
+with_switch r x = with_ledger r (record r.ledger { switches = r.ledger.switches ++ x ∷ [] })
 
 -- with one incarnation more, which branches off from this one at an SCN, and its first mark
 abbrev pub with_incarnation : TypedCatalog → ℕ → ℕ → ℕ → TypedCatalog

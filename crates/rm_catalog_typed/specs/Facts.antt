@@ -10,11 +10,11 @@ use Rattle.rm_catalog_typed.specs.LedgerFacts.{IsLedger}
 use Rattle.rm_catalog_typed.specs.Ledger.{Ledger}
 use Rattle.rm_catalog_typed.specs.TypedCatalog.{TypedCatalog, Saved}
 
--- a part is of a redo thread or of a datafile that is there
+-- a part is of a redo thread from 1 to 4, or of a datafile that is there
 pub record IsPartEntry (l : Ledger) (p : PartEntry) : Type 0 where
   pub id : (1 ≤ p.id) × (p.id < l.base.next_id)
   pub size : p.size ≤ most_bytes
-  pub thread : p.file ≡ 0 → (1 ≤ p.thread) × (p.thread ≤ l.base.threads)
+  pub thread : p.file ≡ 0 → (1 ≤ p.thread) × (p.thread ≤ 4)
   pub file : 0 < p.file → (p.thread ≡ 0) × (p.file ≤ length l.files)
 
 -- ids ascend, and no two parts are of the same thread or datafile

@@ -9,7 +9,9 @@ use Rattle.rm_history.specs.declared.world.Datafile.{Datafile}
 use Rattle.rm_history.specs.Tree.{IsThere, reset_of, end_of}
 use Rattle.rm_catalog_typed.specs.LedgerFacts.{IsBase, IsCreated, IsLogEntry, IsMark, IsPieceEntry, IsSetEntry}
 use Rattle.rm_catalog_typed.specs.Ledger.{ledger_records}
+use Rattle.rm_catalog_typed.specs.Switches.{IsNextSwitch}
 use Rattle.rm_catalog_typed.specs.TypedCatalog.{TypedCatalog}
+use Rattle.rm_catalog_typed.specs.declared.thread_switch.ThreadSwitch.{ThreadSwitch}
 
 -- n records more are not too many
 abbrev pub HasRoomFor : TypedCatalog → ℕ → Type 0
@@ -40,6 +42,11 @@ pub record FitsMark (r : TypedCatalog) (m : Mark) : Type 0 where
   pub moment : IsNextMoment r m.moment
   pub room : HasRoomFor r 1
 
+-- one switch of a redo thread more
+pub record FitsSwitch (r : TypedCatalog) (x : ThreadSwitch) : Type 0 where
+  pub next : IsNextSwitch r.ledger.tree r.ledger.base.threads r.ledger.switches x
+  pub room : HasRoomFor r 1
+
 -- one incarnation more, with its first mark at this moment
 pub record FitsBranch (r : TypedCatalog) (parent at moment : ℕ) : Type 0 where
   pub there : IsThere r.ledger.tree parent
@@ -63,7 +70,7 @@ pub record IsObjectId (r : TypedCatalog) (n : ℕ) : Type 0 where
 
 -- a log, which comes in place of that of its id, or for which there is room
 pub record FitsLog (r : TypedCatalog) (e : LogEntry) : Type 0 where
-  pub log : IsLogEntry r.ledger.tree r.ledger.base.threads e
+  pub log : IsLogEntry r.ledger.tree e
   pub id : IsObjectId r e.id
   pub pieces : LacksId (λ p. p.id) e.id r.ledger.pieces
   pub sets : LacksId (λ x. x.id) e.id r.ledger.sets
@@ -71,7 +78,7 @@ pub record FitsLog (r : TypedCatalog) (e : LogEntry) : Type 0 where
 
 -- a log more, which takes the next id
 pub record FitsNewLog (r : TypedCatalog) (e : LogEntry) : Type 0 where
-  pub log : IsLogEntry r.ledger.tree r.ledger.base.threads e
+  pub log : IsLogEntry r.ledger.tree e
   pub id : e.id ≡ r.ledger.base.next_id
   pub last : e.id < 4294967295
   pub room : HasRoomFor r 1

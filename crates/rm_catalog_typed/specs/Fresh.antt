@@ -6,7 +6,7 @@ use Rattle.rm_catalog.specs.declared.record.Edit.TheVariants.{Put}
 use Rattle.rm_history.specs.Tree.{branched}
 use Rattle.rm_catalog_typed.specs.Ledger.{Ledger, ledger_records}
 
--- a new database: incarnation 1 alone, which begins and ends at its first SCN, no datafile, and one mark
+-- a new database: incarnation 1 alone, which begins and ends at its first SCN, no datafile, one mark, and no switch
 abbrev pub fresh : (dbid threads scn moment : ℕ) → Ledger
 fresh dbid threads scn moment =
     record {
@@ -26,6 +26,7 @@ fresh dbid threads scn moment =
       pieces = [];
       sets = [];
       marks = record { moment = moment; inc = 1; scn = scn } ∷ [];
+      switches = [];
     }
 
 -- the edits that make the records of a new database

@@ -1,5 +1,5 @@
 -- The records of a catalog, kind by kind.
-use Rattle.std.specs.Prelude.{◌++◌, List, [], ◌∷◌, Option, Some, None, Contains, map, ◌≤◌}
+use Rattle.std.specs.Prelude.{◌++◌, List, [], ◌∷◌, Option, Some, None, All, map, ◌≤◌}
 use Rattle.std.specs.List.{filter_map}
 use Rattle.rm_base.specs.declared.block.Mark.{Mark}
 use Rattle.rm_catalog.specs.declared.record.BaseEntry.{BaseEntry}
@@ -10,24 +10,31 @@ use Rattle.rm_catalog.specs.declared.record.PartEntry.{PartEntry}
 use Rattle.rm_catalog.specs.declared.record.PieceEntry.{PieceEntry}
 use Rattle.rm_catalog.specs.declared.record.Record.{Record}
 use Rattle.rm_catalog.specs.declared.record.SetEntry.{SetEntry}
+use Rattle.rm_catalog.specs.declared.record.SwitchEntry.{SwitchEntry}
 use Rattle.rm_catalog.specs.declared.record.Record.TheVariants as kind
-use Rattle.rm_catalog.specs.Keys.{base_in, datafile_in, head_in, incarnation_in, log_in, mark_in, part_in, piece_in, set_in}
+use Rattle.rm_catalog.specs.Keys.{base_in, datafile_in, head_in, incarnation_in, log_in, mark_in, part_in, piece_in, set_in, switch_in}
 use Rattle.rm_catalog.specs.Trees.{nodes}
 use Rattle.rm_history.specs.declared.world.Datafile.{Datafile}
 use Rattle.rm_catalog_typed.specs.Ledger.{Ledger}
 use Rattle.rm_evidence.specs.Database.{created_by, datafiles}
 use Rattle.rm_catalog_typed.specs.TypedCatalog.{TypedCatalog, Saved}
+use Rattle.rm_catalog_typed.specs.declared.thread_switch.ThreadSwitch.{ThreadSwitch}
 
 -- the records of each kind, one kind after the other
 abbrev pub by_kind : List Record → List Record
 by_kind rs =
     map kind.Base (filter_map base_in rs) ++ (map kind.Incarnation (filter_map incarnation_in rs) ++ (map kind.Datafile (filter_map datafile_in rs)
     ++ (map kind.Log (filter_map log_in rs) ++ (map kind.Piece (filter_map piece_in rs) ++ (map kind.Mark (filter_map mark_in rs)
-    ++ (map kind.Part (filter_map part_in rs) ++ (map kind.Head (filter_map head_in rs) ++ map kind.Set (filter_map set_in rs))))))))
+    ++ (map kind.Part (filter_map part_in rs) ++ (map kind.Head (filter_map head_in rs) ++ (map kind.Set (filter_map set_in rs)
+    ++ map kind.Switch (filter_map switch_in rs)))))))))
 
 -- a mark without its number
 abbrev pub marked_by : MarkEntry → Mark
 marked_by m = record { moment = m.moment; inc = m.inc; scn = m.scn }
+
+-- a switch without its number
+abbrev pub switched_by : SwitchEntry → ThreadSwitch
+switched_by x = record { thread = x.thread; inc = x.inc; scn = x.scn; on = x.on; sequence = x.sequence }
 
 -- what the records tell
 abbrev pub ledger_in : BaseEntry → List Record → Ledger
@@ -40,6 +47,7 @@ ledger_in b rs =
       pieces = filter_map piece_in rs;
       sets = filter_map set_in rs;
       marks = map marked_by (filter_map mark_in rs);
+      switches = map switched_by (filter_map switch_in rs);
     }
 
 abbrev pub saved_in : List PartEntry → List HeadEntry → Option Saved
@@ -49,9 +57,15 @@ saved_in parts (h ∷ hs) = Some (record { parts = parts; head = h })
 abbrev pub typed_catalog_in : BaseEntry → List Record → TypedCatalog
 typed_catalog_in b rs = record { ledger = ledger_in b rs; saved = saved_in (filter_map part_in rs) (filter_map head_in rs) }
 
--- the numbers of marks fit into 32 bits
+-- its number fits into 32 bits, where it is a mark or a switch, and so does a switch's sequence number
+abbrev pub IsSmall : Record → Type 0
+IsSmall (kind.Mark m) = m.id ≤ 4294967295
+IsSmall (kind.Switch x) = (x.id ≤ 4294967295) × (x.sequence ≤ 4294967295)
+IsSmall _ = Unit {0}
+
+-- those of all do
 abbrev pub AreSmall : List Record → Type 0
-AreSmall rs = (m : MarkEntry) → Contains rs (kind.Mark m) → m.id ≤ 4294967295
+AreSmall rs = All IsSmall rs
 
 -- what records of each kind say
 pub record Told : Type 0 where
@@ -63,6 +77,7 @@ pub record Told : Type 0 where
   pub parts : List PartEntry
   pub heads : List HeadEntry
   pub sets : List SetEntry
+  pub switches : List ThreadSwitch
 
 abbrev pub told_by : List Record → Told
 told_by rs =
@@ -75,6 +90,7 @@ told_by rs =
       parts = filter_map part_in rs;
       heads = filter_map head_in rs;
       sets = filter_map set_in rs;
+      switches = map switched_by (filter_map switch_in rs);
     }
 
 -- one record more
@@ -88,8 +104,4 @@ with_record (kind.Mark x) t = record t { marks = t.marks ++ marked_by x ∷ [] }
 with_record (kind.Part x) t = record t { parts = t.parts ++ x ∷ [] }
 with_record (kind.Head x) t = record t { heads = t.heads ++ x ∷ [] }
 with_record (kind.Set x) t = record t { sets = t.sets ++ x ∷ [] }
-
--- its number fits into 32 bits, where it is a mark
-abbrev pub IsSmall : Record → Type 0
-IsSmall (kind.Mark m) = m.id ≤ 4294967295
-IsSmall _ = Unit {0}
+with_record (kind.Switch x) t = record t { switches = t.switches ++ switched_by x ∷ [] }

@@ -9,6 +9,7 @@ use Rattle.rm_catalog.specs.declared.record.SetEntry.{SetEntry}
 use Rattle.rm_catalog.specs.declared.record.Record.TheVariants as kind
 use Rattle.rm_history.specs.declared.tree.Incarnation.{Incarnation}
 use Rattle.rm_history.specs.declared.world.Datafile.{Datafile}
+use Rattle.rm_catalog_typed.specs.declared.thread_switch.ThreadSwitch.{ThreadSwitch}
 
 pub record Ledger : Type 0 where
   pub base : BaseEntry
@@ -22,6 +23,8 @@ pub record Ledger : Type 0 where
   pub sets : List SetEntry
   -- marks 1, 2, 3 and so on
   pub marks : List Mark
+  -- switches of redo threads 1, 2, 3 and so on
+  pub switches : List ThreadSwitch
 
 -- the record of incarnation i
 abbrev pub incarnation_record : ℕ → Incarnation → Record
@@ -35,6 +38,10 @@ datafile_record f d = kind.Datafile (record { file = f; inc = d.inc; creation = 
 abbrev pub mark_record : ℕ → Mark → Record
 mark_record k m = kind.Mark (record { id = k; moment = m.moment; inc = m.inc; scn = m.scn })
 
+-- the record of switch k
+abbrev pub switch_record : ℕ → ThreadSwitch → Record
+switch_record k x = kind.Switch (record { id = k; thread = x.thread; inc = x.inc; scn = x.scn; on = x.on; sequence = x.sequence })
+
 -- the records of these things, which are numbered from k on
 abbrev pub numbered : {A : Type 0} → (ℕ → A → Record) → ℕ → List A → List Record
 numbered make k [] = []
@@ -46,10 +53,10 @@ front_records l =
     kind.Base l.base ∷ numbered incarnation_record 1 l.tree ++ numbered datafile_record 1 l.files
     ++ map kind.Log l.logs ++ map kind.Piece l.pieces ++ numbered mark_record 1 l.marks
 
--- and those behind them, of backup sets
-abbrev pub set_records : Ledger → List Record
-set_records l = map kind.Set l.sets
+-- and those behind them, of backup sets and switches
+abbrev pub back_records : Ledger → List Record
+back_records l = map kind.Set l.sets ++ numbered switch_record 1 l.switches
 
 -- all records but those of a saved site
 abbrev pub ledger_records : Ledger → List Record
-ledger_records l = front_records l ++ set_records l
+ledger_records l = front_records l ++ back_records l

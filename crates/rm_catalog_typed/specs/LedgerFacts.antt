@@ -14,6 +14,7 @@ use Rattle.rm_history.specs.declared.tree.Incarnation.{Incarnation}
 use Rattle.rm_history.specs.declared.world.Datafile.{Datafile}
 use Rattle.rm_history.specs.Tree.{IsThere, parent_of, reset_of, end_of, owner}
 use Rattle.rm_catalog_typed.specs.Ledger.{Ledger, ledger_records}
+use Rattle.rm_catalog_typed.specs.Switches.{ComeInTurn}
 
 -- the base facts, the current incarnation left aside
 pub record IsBase (b : BaseEntry) : Type 0 where
@@ -48,10 +49,10 @@ pub record AreDatafiles (tree : List Incarnation) (files : List Datafile) : Type
   pub few : length files ≤ 64
   pub room : sum_by (λ d. d.blocks) files ≤ 131072
 
--- a log holds some SCNs of its incarnation, by a thread of the database
-pub record IsLogEntry (tree : List Incarnation) (threads : ℕ) (l : LogEntry) : Type 0 where
+-- a log holds some SCNs of its incarnation
+pub record IsLogEntry (tree : List Incarnation) (l : LogEntry) : Type 0 where
   pub there : IsThere tree l.inc
-  pub thread : (1 ≤ l.thread) × (l.thread ≤ threads)
+  pub thread : (1 ≤ l.thread) × (l.thread ≤ 4)
   pub sequence : 1 ≤ l.sequence
   pub range : (reset_of tree l.inc ≤ l.first) × (l.first < l.next) × (l.next ≤ end_of tree l.inc)
   pub size : l.size ≤ most_bytes
@@ -129,9 +130,10 @@ pub record IsLedger (l : Ledger) : Type 0 where
   pub current : IsThere l.tree l.base.current
   pub incarnations : AreIncarnations l.tree
   pub datafiles : AreDatafiles l.tree l.files
-  pub logs : All (IsLogEntry l.tree l.base.threads) l.logs
+  pub logs : All (IsLogEntry l.tree) l.logs
   pub pieces : All (IsPieceEntry l.tree l.files) l.pieces
   pub sets : All (IsSetEntry l.tree l.files) l.sets
   pub ids : AreIds 1 l.base.next_id l.logs l.pieces l.sets
   pub marks : AreMarks l.tree l.base.moment l.marks
+  pub switches : ComeInTurn l.tree l.base.threads l.switches
   pub few : length (ledger_records l) ≤ 65536

@@ -8,4 +8,5 @@ pub mod LedgerFacts
 pub mod Loading
 pub mod Places
 pub mod Starting
+pub mod Switches
 pub mod TypedCatalog

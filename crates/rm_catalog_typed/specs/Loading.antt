@@ -16,6 +16,6 @@ records_in (Err fault) = Err fault
 abbrev pub gathered : BaseEntry → List Incarnation → Told → TypedCatalog
 gathered b tree t =
     record {
-      ledger = record { base = b; tree = tree; files = t.files; logs = t.logs; pieces = t.pieces; sets = t.sets; marks = t.marks };
+      ledger = record { base = b; tree = tree; files = t.files; logs = t.logs; pieces = t.pieces; sets = t.sets; marks = t.marks; switches = t.switches };
       saved = saved_in t.parts t.heads;
     }

@@ -4,8 +4,7 @@ use Rattle.rm_catalog.specs.declared.record.HeadEntry.{HeadEntry}
 use Rattle.rm_catalog.specs.declared.record.PartEntry.{PartEntry}
 use Rattle.rm_catalog.specs.declared.record.Record.{Record}
 use Rattle.rm_catalog.specs.declared.record.Record.TheVariants as kind
-use Rattle.rm_catalog_typed.specs.Ledger.{Ledger}
-use Rattle.rm_catalog_typed.specs.Ledger.{front_records, set_records}
+use Rattle.rm_catalog_typed.specs.Ledger.{Ledger, front_records, back_records}
 
 -- a saved site
 pub record Saved : Type 0 where
@@ -24,7 +23,7 @@ saved_records (Some s) = map kind.Part s.parts ++ kind.Head s.head ∷ []
 
 -- all records, ascending by kind and then id
 abbrev pub records_of : TypedCatalog → List Record
-records_of r = front_records r.ledger ++ saved_records r.saved ++ set_records r.ledger
+records_of r = front_records r.ledger ++ saved_records r.saved ++ back_records r.ledger
 
 -- those of a database, if there is one
 abbrev pub all_records : Option TypedCatalog → List Record

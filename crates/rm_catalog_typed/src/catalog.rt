@@ -4,6 +4,7 @@ ghost use Rattle.std.specs.Option.{option_copied};
 ghost use Rattle.rm_catalog_typed.specs.Facts.{IsTypedCatalog};
 
 use crate::by_id;
+use crate::thread_switch::ThreadSwitch;
 use rm_base::{Mark, Seq};
 use rm_catalog::{BaseEntry, HeadEntry, LogEntry, PartEntry, PieceEntry, SetEntry};
 use rm_history::{Datafile, Tree};
@@ -34,6 +35,7 @@ pub struct TypedCatalog {
     pub(crate) pieces: Vec<PieceEntry>,
     pub(crate) sets: Vec<SetEntry>,
     pub(crate) marks: Vec<Mark>,
+    pub(crate) switches: Vec<ThreadSwitch>,
     pub(crate) saved: Option<Saved>,
 }
 
@@ -43,9 +45,9 @@ impl Model for TypedCatalog {
 
     ghost Value = { TypedCatalog };
 
-    ghost view = { λ c. record { ledger = record { base = c.base; tree = c.tree; files = c.files.items; logs = c.logs.items; pieces = c.pieces.items; sets = c.sets.items; marks = c.marks.items }; saved = c.saved } };
+    ghost view = { λ c. record { ledger = record { base = c.base; tree = c.tree; files = c.files.items; logs = c.logs.items; pieces = c.pieces.items; sets = c.sets.items; marks = c.marks.items; switches = c.switches.items }; saved = c.saved } };
 
-    ghost invariant = { λ c. IsTypedCatalog (record { ledger = record { base = c.base; tree = c.tree; files = c.files.items; logs = c.logs.items; pieces = c.pieces.items; sets = c.sets.items; marks = c.marks.items }; saved = c.saved }) };
+    ghost invariant = { λ c. IsTypedCatalog (record { ledger = record { base = c.base; tree = c.tree; files = c.files.items; logs = c.logs.items; pieces = c.pieces.items; sets = c.sets.items; marks = c.marks.items; switches = c.switches.items }; saved = c.saved }) };
 }
 
 impl Saved {

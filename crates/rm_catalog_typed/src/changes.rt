@@ -13,7 +13,7 @@ use rm_history::{Datafile, TreeFault};
 
 impl TypedCatalog {
     /// Sets the base facts: the next id and the latest moment do not fall.
-    #[tactic(auto, using(crate::proofs::Changed::follows_base, crate::proofs::Fitted::base_fits))]
+    #[tactic(auto, using(crate::proofs::Changed::follows_base))]
     pub fn set_base(&mut self, edits: &mut Vec<Edit>, base: BaseEntry) -> Result<(), NoMemory>
         requires fits { FitsBase self.old base }
         ensures after { OnOk result (self.new ≡ with_base self.old base) }

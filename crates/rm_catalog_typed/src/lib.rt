@@ -13,8 +13,11 @@ mod objects;
 mod saved;
 mod sets;
 mod starting;
+mod switches;
 mod telling;
+pub mod thread_switch;
 
 pub use catalog::{Saved, TypedCatalog};
 pub use founding::fresh_edits;
 pub use starting::Earlier;
+pub use thread_switch::ThreadSwitch;

@@ -1,16 +1,17 @@
 //! Valid records become a catalog.
-ghost use Rattle.std.specs.Prelude.{◌≡◌, ◌≤◌, ◌<◌, ◌^◌, List, All, IfOk, IfErr, OnOk, []};
+ghost use Rattle.std.specs.Prelude.{◌≡◌, ◌≤◌, ◌<◌, ◌^◌, List, IfOk, IfErr, OnOk, []};
 ghost use Rattle.rm_catalog.specs.declared.record.Key.{Key};
 ghost use Rattle.rm_catalog.specs.declared.record.Record.{Record};
 ghost use Rattle.rm_catalog.specs.Faults.{IsBadRow, IsTaken, IsTold};
 ghost use Rattle.rm_catalog.specs.Rules.{IsCatalog, IsFirstBad, IsOrderOf, IsValid};
 ghost use Rattle.rm_catalog.specs.Trees.{nodes};
-ghost use Rattle.rm_catalog_typed.specs.Kinds.{IsSmall, told_by, with_record};
+ghost use Rattle.rm_catalog_typed.specs.Kinds.{AreSmall, IsSmall, told_by, with_record};
 ghost use Rattle.rm_catalog_typed.specs.Facts.{IsTypedCatalog};
 ghost use Rattle.rm_catalog_typed.specs.Loading.{gathered, records_in};
 ghost use Rattle.rm_catalog_typed.specs.TypedCatalog.{all_records, records_of};
 
 use crate::catalog::{Saved, TypedCatalog};
+use crate::thread_switch::ThreadSwitch;
 use rm_base::{Mark, NoMemory, Seq};
 use rm_catalog::{
     BaseEntry, CatalogFault, HeadEntry, LogEntry, PartEntry, PieceEntry, Record, SetEntry,
@@ -30,6 +31,7 @@ struct Kinds {
     parts: Vec<PartEntry>,
     heads: Vec<HeadEntry>,
     sets: Vec<SetEntry>,
+    switches: Vec<ThreadSwitch>,
 }
 
 impl Model for Kinds {
@@ -37,7 +39,7 @@ impl Model for Kinds {
 
     ghost Value = { Told };
 
-    ghost view = { λ k. record { bases = k.bases.items; files = k.files.items; logs = k.logs.items; pieces = k.pieces.items; marks = k.marks.items; parts = k.parts.items; heads = k.heads.items; sets = k.sets.items } };
+    ghost view = { λ k. record { bases = k.bases.items; files = k.files.items; logs = k.logs.items; pieces = k.pieces.items; marks = k.marks.items; parts = k.parts.items; heads = k.heads.items; sets = k.sets.items; switches = k.switches.items } };
 }
 
 impl Kinds {
@@ -53,6 +55,7 @@ impl Kinds {
             parts: Vec::new(alloc),
             heads: Vec::new(alloc),
             sets: Vec::new(alloc),
+            switches: Vec::new(alloc),
         }
     }
 
@@ -79,6 +82,13 @@ impl Kinds {
             Record::Part(part) => self.parts.push(part)?,
             Record::Head(head) => self.heads.push(head)?,
             Record::Set(set) => self.sets.push(set)?,
+            Record::Switch(switch) => self.switches.push(ThreadSwitch {
+                thread: switch.thread,
+                inc: switch.inc,
+                scn: switch.scn,
+                on: switch.on,
+                sequence: switch.sequence,
+            })?,
         }
         Ok(())
     }
@@ -86,7 +96,7 @@ impl Kinds {
 
 // What records of each kind say.
 fn sorted(alloc: Global, records: Vec<Record>) -> Result<Kinds, NoMemory>
-    ensures small { IfOk result (λ k. All IsSmall records.items) }
+    ensures small { IfOk result (λ k. AreSmall records.items) }
     ensures told { IfOk result (λ k. k ≡ told_by records.items) }
 {
     let mut kinds = Kinds::new(alloc);
@@ -110,6 +120,7 @@ fn assembled(base: BaseEntry, tree: Tree, kinds: Kinds) -> TypedCatalog
         parts,
         heads,
         sets,
+        switches,
     } = kinds;
     let saved = match heads.first() {
         None => None,
@@ -123,6 +134,7 @@ fn assembled(base: BaseEntry, tree: Tree, kinds: Kinds) -> TypedCatalog
         pieces,
         sets,
         marks,
+        switches,
         saved,
     }
 }

@@ -24,8 +24,8 @@ pub struct Earlier {
 }
 
 impl TypedCatalog {
-    /// The catalog of a new database: incarnation 1 alone, which begins and ends at `scn`, no datafile, and
-    /// one mark. An error is want of memory.
+    /// The catalog of a new database: incarnation 1 alone, which begins and ends at `scn`, no datafile, one
+    /// mark, and no switch. An error is want of memory.
     pub fn fresh(
         alloc: Global,
         dbid: u32,
@@ -64,6 +64,7 @@ impl TypedCatalog {
             pieces: Vec::new(alloc),
             sets: Vec::new(alloc),
             marks,
+            switches: Vec::new(alloc),
             saved: None,
         })
     }

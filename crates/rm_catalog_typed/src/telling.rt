@@ -1,13 +1,15 @@
 //! The records of a catalog, one kind after the other.
 ghost use Rattle.std.specs.Prelude.{◌≡◌, ◌<◌, ◌++◌, IfOk, OnOk, length, map};
 ghost use Rattle.rm_catalog.specs.declared.record.Record.TheVariants as kind;
-ghost use Rattle.rm_catalog_typed.specs.Ledger.{datafile_record, incarnation_record, mark_record, numbered};
+ghost use Rattle.rm_catalog_typed.specs.Ledger.{datafile_record, incarnation_record, mark_record, numbered, switch_record};
 ghost use Rattle.rm_catalog_typed.specs.TypedCatalog.{records_of, saved_records};
 
 use crate::catalog::{Saved, TypedCatalog};
+use crate::thread_switch::ThreadSwitch;
 use rm_base::{Mark, NoMemory, Seq};
 use rm_catalog::{
     DatafileEntry, IncarnationEntry, LogEntry, MarkEntry, PartEntry, PieceEntry, Record, SetEntry,
+    SwitchEntry,
 };
 use rm_history::{Datafile, Tree};
 use std::alloc::Global;
@@ -113,6 +115,25 @@ fn tell_sets(alloc: Global, records: &mut Vec<Record>, sets: &[SetEntry]) -> Res
     Ok(())
 }
 
+fn tell_switches(records: &mut Vec<Record>, switches: &[ThreadSwitch]) -> Result<(), NoMemory>
+    requires { length switches.now < 65537 }
+    ensures { OnOk result (records.new.items ≡ records.old.items ++ numbered switch_record 1 switches.now) }
+{
+    let mut id = 1;
+    for switch in switches {
+        records.push(Record::Switch(SwitchEntry {
+            id,
+            thread: switch.thread,
+            inc: switch.inc,
+            scn: switch.scn,
+            on: switch.on,
+            sequence: switch.sequence,
+        }))?;
+        id += 1;
+    }
+    Ok(())
+}
+
 impl TypedCatalog {
     /// All records, ascending by kind and then id. An error is want of memory.
     pub fn records(&self, alloc: Global) -> Result<Seq<Record>, NoMemory>
@@ -127,6 +148,7 @@ impl TypedCatalog {
         tell_marks(&mut records, &self.marks)?;
         tell_saved(&mut records, &self.saved)?;
         tell_sets(alloc, &mut records, &self.sets)?;
+        tell_switches(&mut records, &self.switches)?;
         Ok(Seq::from_vec(records))
     }
 }

@@ -9,7 +9,7 @@ use Rattle.rm_catalog_typed.proofs.catalog.TypedCatalog.add_piece.Goals as goal
 
 pub invariant_of-self-2 : goal.invariant_of-self-2
 invariant_of-self-2 c =
-    let made : ℕ → List PieceEntry → TypedCatalog = λ n ps. record { ledger = record { base = record c.self.inside.base { next_id = n }; tree = c.self.inside.tree; files = c.self.inside.files.items; logs = c.self.inside.logs.items; pieces = ps; sets = c.self.inside.sets.items; marks = c.self.inside.marks.items }; saved = c.self.inside.saved } in
+    let made : ℕ → List PieceEntry → TypedCatalog = λ n ps. record { ledger = record { base = record c.self.inside.base { next_id = n }; tree = c.self.inside.tree; files = c.self.inside.files.items; logs = c.self.inside.logs.items; pieces = ps; sets = c.self.inside.sets.items; marks = c.self.inside.marks.items; switches = c.self.inside.switches.items }; saved = c.self.inside.saved } in
     let old = made c.self.inside.base.next_id c.self.inside.pieces.items in
     let fits : FitsNewPiece old c.args.piece = subst (λ (r : TypedCatalog). FitsNewPiece r c.args.piece) (sym c.self.view_is) c.requires.fits in
     let pieces : c.push.new.self.items ≡ c.self.inside.pieces.items ++ c.args.piece ∷ [] = search rules in

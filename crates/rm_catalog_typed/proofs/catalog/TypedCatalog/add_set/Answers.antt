@@ -9,7 +9,7 @@ use Rattle.rm_catalog_typed.proofs.catalog.TypedCatalog.add_set.Goals as goal
 
 pub invariant_of-self-2 : goal.invariant_of-self-2
 invariant_of-self-2 c =
-    let made : ℕ → List SetEntry → TypedCatalog = λ n es. record { ledger = record { base = record c.self.inside.base { next_id = n }; tree = c.self.inside.tree; files = c.self.inside.files.items; logs = c.self.inside.logs.items; pieces = c.self.inside.pieces.items; sets = es; marks = c.self.inside.marks.items }; saved = c.self.inside.saved } in
+    let made : ℕ → List SetEntry → TypedCatalog = λ n es. record { ledger = record { base = record c.self.inside.base { next_id = n }; tree = c.self.inside.tree; files = c.self.inside.files.items; logs = c.self.inside.logs.items; pieces = c.self.inside.pieces.items; sets = es; marks = c.self.inside.marks.items; switches = c.self.inside.switches.items }; saved = c.self.inside.saved } in
     let old = made c.self.inside.base.next_id c.self.inside.sets.items in
     let fits : FitsNewSet old c.args.set = subst (λ (r : TypedCatalog). FitsNewSet r c.args.set) (sym c.self.view_is) c.requires.fits in
     let sets : c.push.new.self.items ≡ c.self.inside.sets.items ++ c.args.set ∷ [] = search rules in
