@@ -1,8 +1,8 @@
 -- What rows, records and covers tell of a block is what is determined of it.
-use Rattle.std.proofs.Common.{◌≡◌, ◌<◌, ◌≤◌, ◌⊎◌, ◌==◌, ◌&&◌, ◌||◌, ◌∙◌, nat_lt, nat_le, inl, inr, ℕ, zero, suc, List, Option, Some, None, Bool, true, false, cond, max, min, get_or, refl, ap, sym, subst, arith, Contains}
+use Rattle.std.proofs.Common.{◌≡◌, ◌<◌, ◌≤◌, ◌⊎◌, ◌==◌, ◌&&◌, ◌||◌, ◌∙◌, nat_lt, nat_le, inl, inr, ℕ, zero, suc, List, Option, Some, None, not, Bool, true, false, cond, max, min, get_or, refl, ap, sym, subst, arith, Contains}
 use Rattle.std.specs.List.{list_any}
 use Rattle.std.specs.Option.{option_map_or}
-use Rattle.std.proofs.lemmas.Bool.{cases_lt}
+use Rattle.std.proofs.lemmas.Bool.{cases_Bool, cases_lt}
 use Rattle.std.proofs.lemmas.List.{get_or_default}
 use Rattle.std.proofs.lemmas.List.Elements.{All-contains}
 use Rattle.rm_base.proofs.Lists.{any_from, any_to, map_from, map_to}
@@ -18,12 +18,14 @@ use Rattle.rm_history.specs.Artefacts.{Level1, Log}
 use Rattle.rm_history.specs.declared.world.Datafile.{Datafile}
 use Rattle.rm_history.specs.declared.world.World.{World}
 use Rattle.rm_history.specs.Tree.{HasParentsBelow, IsThere, owner, reset_of}
-use Rattle.rm_history.specs.World.{IsThread, creation_of, file_of}
+use Rattle.rm_history.specs.Threads.{IsEnabled, is_enabled}
+use Rattle.rm_history.specs.World.{creation_of, file_of}
 use Rattle.rm_history.proofs.Owners.{owner-begun, owner-here}
 use Rattle.rm_history.specs.Evidence as known
 use Rattle.rm_history.specs.FirstGap.{HasGap, IsTarget}
 use Rattle.rm_history.specs.Known.{Determined, HasLog, IsGreatest, Quiet, Seen, by_absence, by_creation, by_log, by_logs, by_row}
 use Rattle.rm_history.specs.Unknown.{IsWorld}
+use Rattle.rm_history.proofs.Enabled.{enabled-owner}
 use Rattle.rm_history.proofs.Facts.{told-is-true, behind-a-gap}
 use Rattle.rm_evidence.specs.Database.{IsCreated, IsSoundWorld}
 use Rattle.rm_piece.specs.Artefacts.{level1_of}
@@ -35,6 +37,7 @@ use Rattle.rm_plan.specs.declared.survey.Survey.{Survey}
 use Rattle.rm_plan.specs.declared.span.Span.{Span}
 use Rattle.rm_plan.specs.Covers.{is_covered, is_unlisted, level1_covers, log_covers, threads_cover}
 use Rattle.rm_plan.specs.Entries.{no_entry, entry_of, after_version, looked_on_way, after_own_row, after_counted_row, record_counts}
+use Rattle.rm_plan.specs.Idle.{is_idle}
 use Rattle.rm_plan.specs.Plan.{NamesGap, Tells}
 use Rattle.rm_plan.specs.Spans.{lies_in}
 use Rattle.rm_plan.specs.Survey.{IsFirstUncovered, IsSurvey, astray_block}
@@ -49,8 +52,8 @@ use Rattle.rm_redo.specs.LogFile.{log_of}
 use Rattle.rm_redo.specs.LogFormat.{IsLogRecord}
 
 -- Above the greatest version that is seen no log at hand has a record of the block on the path, so it
--- is quiet wherever each thread has a log.
-pub logs_alone : (w : World) (e : known.Evidence) (i s f b v g : ℕ) → IsGreatest w e i s f b v → v < g → g < s → ((t : ℕ) → IsThread w t → HasLog e (owner w.tree i g) g t) → Quiet w e f b (owner w.tree i g) g
+-- is quiet wherever each thread that is enabled has a log.
+pub logs_alone : (w : World) (e : known.Evidence) (i s f b v g : ℕ) → IsGreatest w e i s f b v → v < g → g < s → ((t : ℕ) → IsEnabled w (owner w.tree i g) g t → HasLog e (owner w.tree i g) g t) → Quiet w e f b (owner w.tree i g) g
 logs_alone w e i s f b v g greatest above before each = by_logs each (λ a c holds change scn.
     let there : Seen w e f b a.inc g c.content = subst (λ n. Seen w e f b a.inc n c.content) scn (by_log a c change) in
     let up = greatest.most g c.content before (subst (λ m. Seen w e f b m g c.content) holds.inc there) in
@@ -262,13 +265,28 @@ module _ (w : World) (e : Evidence) (i s f b : ℕ) (ways : List Span) (target :
         thread = eq_from a.0.1.thread t p.0;
       }
 
-  logs_from : (g n : ℕ) → 0 < g → threads_cover ways e.logs s g n ≡ true → (t : ℕ) → 0 < t → t ≤ n → HasLog (known_of e) (owner w.tree i g) g t
-  logs_from g zero some all t pos le = absurd (omega (arith, pos, le))
-  logs_from g (suc n) some all t pos le =
-      let p = and_from (threads_cover ways e.logs s g n) (list_any (log_covers ways (suc n) g) e.logs) all in
+  -- the thread is enabled at g on the path of i
+  abbrev is_on_path : ℕ → ℕ → Bool
+  is_on_path g t = is_enabled w.tree w.threads w.switches i g t
+
+  one_from : (g t : ℕ) → 0 < g → is_on_path g t ≡ true → (is_idle w i s t g || list_any (log_covers ways t g) e.logs) ≡ true → HasLog (known_of e) (owner w.tree i g) g t
+  one_from g t some on either = elim (or_from (is_idle w i s t g) (list_any (log_covers ways t g) e.logs) either) [
+    | inr any ↦ log_at g t some any
+    | inl idle ↦
+        let off : is_on_path g t ≡ false = not_from (is_on_path g t) (and_from (lies_in g (record { start = 0; end = s })) (not (is_on_path g t)) idle).1 in
+        let clash : true ≡ false = sym on ∙ off in
+        absurd (cc)
+  ]
+
+  logs_from : (g n : ℕ) → 0 < g → threads_cover w i ways e.logs s g n ≡ true → (t : ℕ) → 0 < t → t ≤ n → is_on_path g t ≡ true → HasLog (known_of e) (owner w.tree i g) g t
+  logs_from g zero some all t pos le on = absurd (omega (arith, pos, le))
+  logs_from g (suc n) some all t pos le on =
+      let p = and_from (threads_cover w i ways e.logs s g n) (is_idle w i s (suc n) g || list_any (log_covers ways (suc n) g) e.logs) all in
       elim (cases_lt t (suc n)) [
-        | inl less ↦ logs_from g n some p.0 t pos (omega (arith, less))
-        | inr last ↦ let is : suc n ≡ t = omega (arith, last, le) in subst (λ k. HasLog (known_of e) (owner w.tree i g) g k) is (log_at g (suc n) some p.1)
+        | inl less ↦ logs_from g n some p.0 t pos (omega (arith, less)) on
+        | inr last ↦
+            let is : suc n ≡ t = omega (arith, last, le) in
+            subst (λ k. is_on_path g k ≡ true → HasLog (known_of e) (owner w.tree i g) g k) is (λ here. one_from g (suc n) some here p.1) on
       ]
 
   log_to : (g t : ℕ) → creation < g → g < s → HasLog (known_of e) (owner w.tree i g) g t → list_any (log_covers ways t g) e.logs ≡ true
@@ -284,12 +302,20 @@ module _ (w : World) (e : Evidence) (i s f b : ℕ) (ways : List Span) (target :
       any_to (log_covers ways t g) e.logs x m.held
       (and_to (x.1.thread == t) _ (eq_to x.1.thread t thread) (within_to (max x.1.first (way_of ways x.1.inc).start) (min x.1.next (way_of ways x.1.inc).end) g (omega (arith, first, on.0)) (omega (arith, next, on.1))))
 
-  logs_to : (g n : ℕ) → creation < g → g < s → ((t : ℕ) → 0 < t → t ≤ n → HasLog (known_of e) (owner w.tree i g) g t) → threads_cover ways e.logs s g n ≡ true
+  one_to : (g t : ℕ) → creation < g → g < s → (is_on_path g t ≡ true → HasLog (known_of e) (owner w.tree i g) g t) → (is_idle w i s t g || list_any (log_covers ways t g) e.logs) ≡ true
+  one_to g t above before has = elim (cases_Bool (is_on_path g t)) [
+    | inl on ↦ or_second (is_idle w i s t g) (list_any (log_covers ways t g) e.logs) (log_to g t above before (has on))
+    | inr off ↦
+        or_first (is_idle w i s t g) (list_any (log_covers ways t g) e.logs)
+        (and_to (lies_in g (record { start = 0; end = s })) (not (is_on_path g t)) (within_to 0 s g (omega arith) before) (not_to (is_on_path g t) off))
+  ]
+
+  logs_to : (g n : ℕ) → creation < g → g < s → ((t : ℕ) → 0 < t → t ≤ n → is_on_path g t ≡ true → HasLog (known_of e) (owner w.tree i g) g t) → threads_cover w i ways e.logs s g n ≡ true
   logs_to g zero above before each = within_to 0 s g (omega arith) before
   logs_to g (suc n) above before each =
-      and_to (threads_cover ways e.logs s g n) (list_any (log_covers ways (suc n) g) e.logs)
+      and_to (threads_cover w i ways e.logs s g n) (is_idle w i s (suc n) g || list_any (log_covers ways (suc n) g) e.logs)
       (logs_to g n above before (λ t pos le. each t pos (omega (arith, le))))
-      (log_to g (suc n) above before (each (suc n) (omega arith) (omega arith)))
+      (one_to g (suc n) above before (each (suc n) (omega arith) (omega arith)))
 
   -- level 1s
   abbrev IsAbsence : Option ℕ → ℕ → ℕ × Piece → Type 0
@@ -337,16 +363,16 @@ module _ (w : World) (e : Evidence) (i s f b : ℕ) (ways : List Span) (target :
   unlisted_to false rows absent = refl
 
   -- where the block is covered it is quiet
-  covered_quiet : (g : ℕ) → final.told.version < g → g < s → is_covered ways e s w.threads f (astray_block final b) g ≡ true → Quiet w (known_of e) f b (owner w.tree i g) g
-  covered_quiet g above before t = elim (or_from (threads_cover ways e.logs s g w.threads) (list_any (level1_covers ways f (astray_block final b) g) e.level1s) t) [
-    | inl logs ↦ logs_alone w (known_of e) i s f b final.told.version g greatest above before (λ n is. logs_from g w.threads (omega (arith, above)) logs n is.0 is.1)
+  covered_quiet : (g : ℕ) → final.told.version < g → g < s → is_covered w i ways e s f (astray_block final b) g ≡ true → Quiet w (known_of e) f b (owner w.tree i g) g
+  covered_quiet g above before t = elim (or_from (threads_cover w i ways e.logs s g 4) (list_any (level1_covers ways f (astray_block final b) g) e.level1s) t) [
+    | inl logs ↦ logs_alone w (known_of e) i s f b final.told.version g greatest above before (λ n is. logs_from g 4 (omega (arith, above)) logs n is.number.0 is.number.1 (sym (enabled-owner w.tree below w.threads w.switches i g n) ∙ is.on))
     | inr any ↦
         let a = any_from (level1_covers ways f (astray_block final b) g) e.level1s any in
         absence_quiet final.is_listed_astray refl g a.0 a.1 (absence_from (astray_block final b) g a.0 a.2) above
   ]
 
   -- where it is quiet it is covered, or a row of it reaches there
-  quiet_covered : (m g : ℕ) → m ≡ owner w.tree i g → final.told.version < g → g < s → Quiet w (known_of e) f b m g → (g < final.reach) ⊎ (is_covered ways e s w.threads f (astray_block final b) g ≡ true)
+  quiet_covered : (m g : ℕ) → m ≡ owner w.tree i g → final.told.version < g → g < s → Quiet w (known_of e) f b m g → (g < final.reach) ⊎ (is_covered w i ways e s f (astray_block final b) g ≡ true)
   quiet_covered m g own above before (by_row j c r has low under owned) =
       let p = row_from e f b j c r has in
       let way = piece_way p.piece p.among in
@@ -367,14 +393,16 @@ module _ (w : World) (e : Evidence) (i s f b : ℕ) (ways : List Span) (target :
       let none : lists x.1.rows b ≡ false = ap (λ (z : Level1). lists z.rows b) q.is ∙ absent in
       let same : owner w.tree i g ≡ owner w.tree x.1.inc g = sym own ∙ sym owned ∙ ap (λ (z : Level1). owner w.tree z.inc g) (sym q.is) in
       let end = way.apart g (omega (arith, above)) before (omega (arith, check, past)) same in
-      inr (or_second (threads_cover ways e.logs s g w.threads) (list_any (level1_covers ways f (astray_block final b) g) e.level1s)
+      inr (or_second (threads_cover w i ways e.logs s g 4) (list_any (level1_covers ways f (astray_block final b) g) e.level1s)
       (absence_to (astray_block final b) g x q.held (ap (λ (z : Level1). z.file) q.is ∙ file, unlisted_to final.is_listed_astray x.1.rows none, start, check, end)))
   quiet_covered m g own above before (by_logs each none) =
       let low = creation_version in
-      inr (or_first (threads_cover ways e.logs s g w.threads) (list_any (level1_covers ways f (astray_block final b) g) e.level1s)
-      (logs_to g w.threads (omega (arith, low, above)) before (λ t pos le. subst (λ k. HasLog (known_of e) k g t) own (each t (pos, le)))))
+      inr (or_first (threads_cover w i ways e.logs s g 4) (list_any (level1_covers ways f (astray_block final b) g) e.level1s)
+      (logs_to g 4 (omega (arith, low, above)) before (λ t pos le on.
+      let enabled : IsEnabled w m g t = record { number = (pos, le); on = ap (λ k. is_enabled w.tree w.threads w.switches k g t) own ∙ enabled-owner w.tree below w.threads w.switches i g t ∙ on } in
+      subst (λ k. HasLog (known_of e) k g t) own (each t enabled))))
 
-  module _ (g : ℕ) (uncovered : IsFirstUncovered ways e s w.threads f b final g) where
+  module _ (g : ℕ) (uncovered : IsFirstUncovered w i ways e s f b final g) where
     quiet_before : (k : ℕ) → final.told.version < k → k < s → k < g → Quiet w (known_of e) f b (owner w.tree i k) k
     quiet_before k above before low = elim (cases_lt k final.reach) [
       | inl held ↦ right.quiet k above held
@@ -421,11 +449,11 @@ module _ (w : World) (e : Evidence) (i s f b : ℕ) (target : IsTarget w i s f b
   pub found_below : t.told.version < s
   found_below = subst (λ (u : Entry). u.told.version < s) (sym found) (right w e i s f b x.ways.items target sound fits survey.ways).seen.below
 
-  pub found_told : (g : ℕ) → IsFirstUncovered x.ways.items e s w.threads f b t g → s ≤ g → Tells w (known_of e) i s f b t.told
+  pub found_told : (g : ℕ) → IsFirstUncovered w i x.ways.items e s f b t g → s ≤ g → Tells w (known_of e) i s f b t.told
   found_told g uncovered past =
       subst (λ (u : Entry). Tells w (known_of e) i s f b u.told) (sym found)
-      (told_of w e i s f b x.ways.items target sound fits survey.ways g (subst (λ (u : Entry). IsFirstUncovered x.ways.items e s w.threads f b u g) found uncovered) past)
+      (told_of w e i s f b x.ways.items target sound fits survey.ways g (subst (λ (u : Entry). IsFirstUncovered w i x.ways.items e s f b u g) found uncovered) past)
 
-  pub found_gap : (g : ℕ) → IsFirstUncovered x.ways.items e s w.threads f b t g → g < s → IsWorld w → (m : ℕ) → m ≡ owner w.tree i g → NamesGap w (known_of e) i s f b (record { file = f; block = b; inc = m; scn = g })
+  pub found_gap : (g : ℕ) → IsFirstUncovered w i x.ways.items e s f b t g → g < s → IsWorld w → (m : ℕ) → m ≡ owner w.tree i g → NamesGap w (known_of e) i s f b (record { file = f; block = b; inc = m; scn = g })
   found_gap g uncovered before world m own =
-      gap_of w e i s f b x.ways.items target sound fits survey.ways g (subst (λ (u : Entry). IsFirstUncovered x.ways.items e s w.threads f b u g) found uncovered) before world m own
+      gap_of w e i s f b x.ways.items target sound fits survey.ways g (subst (λ (u : Entry). IsFirstUncovered w i x.ways.items e s f b u g) found uncovered) before world m own

@@ -5,7 +5,9 @@ pub mod Conditions
 pub mod Determining
 pub mod Faults
 pub mod Firsts
+pub mod Idling
 pub mod Listed
 pub mod Parts
 pub mod Spans
 pub mod Steps
+pub mod Switched

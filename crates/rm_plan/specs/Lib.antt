@@ -3,6 +3,7 @@ pub mod Chosen
 pub mod Covers
 pub mod Entries
 pub mod FirstGap
+pub mod Idle
 pub mod Plan
 pub mod Spans
 pub mod Survey

@@ -1,16 +1,25 @@
-//! Where the blocks of a datafile were quiet, whatever their rows: in logs of all threads, and where a
+//! Where the blocks of a datafile were quiet, whatever their rows: in logs of all enabled threads, and where a
 //! level 1 does not list them.
 ghost use Rattle.std.specs.Prelude.{ℕ, ◌≡◌, ◌||◌, All, AllPairs, IfOk, None, Some};
 ghost use Rattle.std.specs.List.{list_any};
+ghost use Rattle.rm_catalog.specs.Rules.{HasDatabase};
+ghost use Rattle.rm_catalog.specs.Switches.{switches};
+ghost use Rattle.rm_catalog.specs.Trees.{nodes};
 ghost use Rattle.rm_history.specs.Agrees.{lists};
+ghost use Rattle.rm_history.specs.Tree.{IsThere};
+ghost use Rattle.rm_evidence.specs.Database.{world_of};
 ghost use Rattle.rm_piece.specs.Valid.{IsBefore};
 ghost use Rattle.rm_plan.specs.Covers.{HaveSortedRows, is_covered, is_unlisted, level1_covers, log_covers, span_of_level1, span_of_log, threads_cover};
+ghost use Rattle.rm_plan.specs.Idle.{is_idle};
 ghost use Rattle.rm_plan.specs.Spans.{AreApart, IsAscending, covers};
 
+use crate::idle::idle_spans;
 use crate::span::{Span, common_spans, in_order, merged_spans};
 use crate::ways::way_to;
-use rm_base::{BlockNo, FileNo, NoMemory, Row, Scn, ThreadNo};
-use rm_evidence::Evidence;
+use rm_base::{BlockNo, FileNo, IncNo, NoMemory, Row, Scn, ThreadNo};
+use rm_catalog::Catalog;
+use rm_evidence::{Evidence, switches, threads};
+use rm_history::Switch;
 use rm_piece::Piece;
 use rm_redo::LogFile;
 use std::alloc::Global;
@@ -18,7 +27,7 @@ use std::alloc::Global;
 /// Where the blocks of a datafile were quiet, whatever their rows.
 #[derive(Drop)]
 pub(crate) struct Cover {
-    /// Where each thread has a log.
+    /// Where each thread that is enabled has a log.
     pub logs: Vec<Span>,
     /// There, and where a level 1 looked for changes.
     pub all: Vec<Span>,
@@ -54,21 +63,51 @@ fn thread_spans(
     Ok(out)
 }
 
-// The SCNs below `s` at which each thread has a log.
+// Where the thread is not enabled, below `s` on the path of `i`, or has a log.
+fn thread_cover(
+    alloc: Global,
+    ways: &[Span],
+    logs: &[(u32, LogFile)],
+    catalog: &Catalog,
+    all: &[Switch],
+    i: IncNo,
+    s: Scn,
+    thread: ThreadNo,
+) -> Result<Vec<Span>, NoMemory>
+    requires database { HasDatabase catalog.now }
+    requires there { IsThere (nodes catalog.now) i }
+    requires all { all.now ≡ switches catalog.now }
+    ensures same { IfOk result (λ out. (g : ℕ) →
+        covers out.items g ≡ (is_idle (world_of catalog.now) i s thread g || list_any (log_covers ways.now thread g) logs.now)) }
+    ensures apart { IfOk result (λ out. AreApart out.items) }
+{
+    // They are a catalog's, so no two switches have one address.
+    let _ = catalog.records();
+    let idle = idle_spans(alloc, catalog.tree(), threads(catalog), all, i, s, thread)?;
+    let spans = joined_spans(thread_spans(alloc, ways, logs, thread)?, &idle)?;
+    let spans = merged_spans(alloc, &spans)?;
+    Ok(spans)
+}
+
+// The SCNs below `s` at which each thread that is enabled on the path of `i` has a log.
 fn log_cover(
     alloc: Global,
     ways: &[Span],
     logs: &[(u32, LogFile)],
-    threads: ThreadNo,
+    catalog: &Catalog,
+    i: IncNo,
     s: Scn,
 ) -> Result<Vec<Span>, NoMemory>
-    ensures { IfOk result (λ out. (g : ℕ) → covers out.items g ≡ threads_cover ways.now logs.now s g threads) }
+    requires database { HasDatabase catalog.now }
+    requires there { IsThere (nodes catalog.now) i }
+    ensures { IfOk result (λ out. (g : ℕ) →
+        covers out.items g ≡ threads_cover (world_of catalog.now) i ways.now logs.now s g 4) }
 {
+    let all = switches(alloc, catalog)?;
     let mut cover = Vec::new(alloc);
     cover.push(Span { start: 0, end: s })?;
-    for thread in 0..threads {
-        let spans = in_order(thread_spans(alloc, ways, logs, thread + 1)?);
-        let spans = merged_spans(alloc, &spans)?;
+    for thread in 0..4u8 {
+        let spans = thread_cover(alloc, ways, logs, catalog, &all, i, s, thread + 1)?;
         let both = in_order(common_spans(alloc, &cover, &spans)?);
         cover = merged_spans(alloc, &both)?;
     }
@@ -159,19 +198,22 @@ pub(crate) fn file_cover(
     alloc: Global,
     ways: &[Span],
     evidence: &Evidence,
-    threads: ThreadNo,
+    catalog: &Catalog,
+    i: IncNo,
     s: Scn,
     file: FileNo,
 ) -> Result<Cover, NoMemory>
-    requires { HaveSortedRows evidence.now.level1s }
+    requires sorted { HaveSortedRows evidence.now.level1s }
+    requires database { HasDatabase catalog.now }
+    requires there { IsThere (nodes catalog.now) i }
     ensures logs { IfOk result (λ cover. (g : ℕ) →
-        covers cover.logs.items g ≡ threads_cover ways.now evidence.now.logs s g threads) }
+        covers cover.logs.items g ≡ threads_cover (world_of catalog.now) i ways.now evidence.now.logs s g 4) }
     ensures all { IfOk result (λ cover. (g : ℕ) →
-        covers cover.all.items g ≡ is_covered ways.now evidence.now s threads file None g) }
+        covers cover.all.items g ≡ is_covered (world_of catalog.now) i ways.now evidence.now s file None g) }
     ensures ascending { IfOk result (λ cover. IsAscending cover.all.items) }
     ensures apart { IfOk result (λ cover. AreApart cover.all.items) }
 {
-    let logs = log_cover(alloc, ways, evidence.logs.as_slice(), threads, s)?;
+    let logs = log_cover(alloc, ways, evidence.logs.as_slice(), catalog, i, s)?;
     let all = block_cover(alloc, ways, &logs, evidence.level1s.as_slice(), file, None)?;
     let all = merged_spans(alloc, &all)?;
     Ok(Cover { logs, all })

@@ -4,6 +4,7 @@
 mod cover;
 mod entry;
 pub mod first;
+mod idle;
 pub mod laws;
 pub mod plan;
 mod span;

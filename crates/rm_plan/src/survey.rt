@@ -20,7 +20,7 @@ use crate::target::Target;
 use crate::ways::{owner_of, ways};
 use rm_base::{FileNo, IncNo, NoMemory, Scn};
 use rm_catalog::Catalog;
-use rm_evidence::{Evidence, threads};
+use rm_evidence::Evidence;
 use rm_history::Datafile;
 use std::alloc::Global;
 
@@ -49,7 +49,7 @@ pub(crate) fn survey_file(
     ensures { IfOk result (λ survey. IsSurvey (world_of catalog.now) evidence.now i s file survey) }
 {
     let ways = ways(alloc, catalog.tree(), i, s)?;
-    let cover = file_cover(alloc, &ways, evidence, threads(catalog), s, file)?;
+    let cover = file_cover(alloc, &ways, evidence, catalog, i, s, file)?;
     let entries = entries(alloc, &ways, evidence, file, found.creation, found.blocks)?;
     Ok(Survey {
         ways,
@@ -71,7 +71,7 @@ fn first_uncovered(
     requires apart { AreApart survey.now.cover.all.items }
     requires below { entry.told.version < at.scn }
     ensures { IfOk result (λ g. (w : World) → IsSurvey w evidence.now at.inc at.scn at.file survey.now →
-        IsFirstUncovered survey.now.ways.items evidence.now at.scn w.threads at.file at.block entry g) }
+        IsFirstUncovered w at.inc survey.now.ways.items evidence.now at.scn at.file at.block entry g) }
 {
     let low = entry.reach.max(entry.told.version + 1);
     if entry.is_listed_astray {
