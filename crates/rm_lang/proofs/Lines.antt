@@ -8,8 +8,8 @@ use Rattle.rm_lang_grammar.specs.Endings.{quiet}
 use Rattle.rm_lang_grammar.proofs.Endings.{starts_quietly}
 use Rattle.rm_lang_reading.specs.declared.upkeep.Deletion.TheVariants.{Obsolete, One, Expired}
 use Rattle.rm_lang_statement.specs.declared.command.Command.{Command}
-use Rattle.rm_lang_statement.specs.declared.command.Command.TheVariants.{CreateDatabase, CreateDatafile, Write, SwitchLogfile, ArchiveLogCurrent, Mount, OpenPlain, OpenResetlogs, Tracking, ResetDatabase, Restore, Preview, Recover, RecoverTest, RecoverCopy, Backup, BackupLogs, Crosscheck, ValidateAll, ChangeBackup, DeleteObsolete, DeleteBackup, DeleteExpired, ReportObsolete, ReportNeedBackup, ReportSchema, ListIncarnation, ListBackup, ListCopy, ListArchived, ShowAll, Dump, Retention, Parallelism, CatalogName, LoseDatafile, LoseLog, Remove, Damage, Cut, Rename, Corrupt, ListCorruption, BlockRecover}
-use Rattle.rm_lang_reading.specs.Creating.{create_database_line, write_line, create_datafile_line, switch_logfile_line, archive_log_line, track_line, untrack_line}
+use Rattle.rm_lang_statement.specs.declared.command.Command.TheVariants.{CreateDatabase, CreateDatafile, Write, SwitchLogfile, ArchiveLogCurrent, Mount, OpenPlain, OpenResetlogs, Tracking, SwitchThread, ResetDatabase, Restore, Preview, Recover, RecoverTest, RecoverCopy, Backup, BackupLogs, Crosscheck, ValidateAll, ChangeBackup, DeleteObsolete, DeleteBackup, DeleteExpired, ReportObsolete, ReportNeedBackup, ReportSchema, ListIncarnation, ListBackup, ListCopy, ListArchived, ShowAll, Dump, Retention, Parallelism, CatalogName, LoseDatafile, LoseLog, Remove, Damage, Cut, Rename, Corrupt, ListCorruption, BlockRecover}
+use Rattle.rm_lang_reading.specs.Creating.{create_database_line, write_line, create_datafile_line, switch_logfile_line, archive_log_line, track_line, untrack_line, enable_thread_line, disable_thread_line}
 use Rattle.rm_lang_reading.specs.Modes.{startup_line, reset_database_line, open_database_line}
 use Rattle.rm_lang_reading.specs.Recovering.{restore_line, restore_datafile_line, recover_line, recover_copy_line}
 use Rattle.rm_lang_reading.specs.Repairs.{block_recover_line}
@@ -40,6 +40,8 @@ told OpenPlain = record { line = open_database_line; values = (false, tt); is = 
 told OpenResetlogs = record { line = open_database_line; values = (true, tt); is = refl; alone = refl; inside = refl }
 told (Tracking true) = record { line = track_line; values = tt; is = refl; alone = refl; inside = refl }
 told (Tracking false) = record { line = untrack_line; values = tt; is = refl; alone = refl; inside = refl }
+told (SwitchThread thread true) = record { line = enable_thread_line; values = (thread, tt); is = refl; alone = refl; inside = refl }
+told (SwitchThread thread false) = record { line = disable_thread_line; values = (thread, tt); is = refl; alone = refl; inside = refl }
 told (ResetDatabase inc) = record { line = reset_database_line; values = (inc, tt); is = refl; alone = refl; inside = refl }
 told (Restore None until) = record { line = restore_line; values = (option_map until_values until, (false, tt)); is = refl; alone = refl; inside = refl }
 told (Restore (Some file) until) = record { line = restore_datafile_line; values = (file, (option_map until_values until, tt)); is = refl; alone = refl; inside = refl }

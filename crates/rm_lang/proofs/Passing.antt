@@ -11,11 +11,11 @@ use Rattle.rm_lang_reading.specs.declared.upkeep.Deletion.{Deletion}
 use Rattle.rm_lang_reading.specs.declared.upkeep.Deletion.TheVariants.{Obsolete, One, Expired}
 use Rattle.rm_lang_statement.specs.declared.command.Until.{Until}
 use Rattle.rm_lang_statement.specs.declared.command.Command.{Command}
-use Rattle.rm_lang_statement.specs.declared.command.Command.TheVariants.{CreateDatabase, CreateDatafile, Write, SwitchLogfile, ArchiveLogCurrent, Mount, Tracking, ResetDatabase, Restore, RecoverCopy, BackupLogs, Crosscheck, ValidateAll, ChangeBackup, ReportObsolete, ReportNeedBackup, ReportSchema, ListIncarnation, ListBackup, ListCopy, ListArchived, ShowAll, Dump, Retention, Parallelism, CatalogName, LoseDatafile, LoseLog, Remove, Damage, Cut, Rename, Corrupt, ListCorruption, BlockRecover}
+use Rattle.rm_lang_statement.specs.declared.command.Command.TheVariants.{CreateDatabase, CreateDatafile, Write, SwitchLogfile, ArchiveLogCurrent, Mount, Tracking, SwitchThread, ResetDatabase, Restore, RecoverCopy, BackupLogs, Crosscheck, ValidateAll, ChangeBackup, ReportObsolete, ReportNeedBackup, ReportSchema, ListIncarnation, ListBackup, ListCopy, ListArchived, ShowAll, Dump, Retention, Parallelism, CatalogName, LoseDatafile, LoseLog, Remove, Damage, Cut, Rename, Corrupt, ListCorruption, BlockRecover}
 use Rattle.rm_lang_statement.specs.IsCommand.{is_command, is_until_or_none, is_retention}
-use Rattle.rm_lang_reading.specs.Language.{mishap_forms, setting_forms, asking_forms, upkeep_forms, backup_forms, repair_forms, recovery_forms, mode_forms, forms}
+use Rattle.rm_lang_reading.specs.Language.{mishap_forms, setting_forms, asking_forms, upkeep_forms, backup_forms, repair_forms, recovery_forms, mode_forms, switch_forms, forms}
 use Rattle.rm_lang_statement.specs.Texts.{content, anything, plain, is_new_name, new_name, is_text}
-use Rattle.rm_lang_reading.specs.Creating.{create_database, write, written, create_datafile, switch_logfile, archive_log, track, untrack}
+use Rattle.rm_lang_reading.specs.Creating.{create_database, write, written, create_datafile, switch_logfile, archive_log, track, untrack, enable_thread, disable_thread}
 use Rattle.rm_lang_reading.specs.Modes.{shutdown, startup, reset_database, open_database, open_command}
 use Rattle.rm_lang_reading.specs.Recovering.{until_line, until_of, incarnation_line, incarnation_of, restoring, restore, restore_datafile, recovery, recover, recover_copy}
 use Rattle.rm_lang_reading.specs.Repairs.{block_recover, repair_of}
@@ -192,6 +192,14 @@ untrack_passes : Passes is_command untrack
 unfolding untrack
 untrack_passes = record { are_faithful = tt; passed = λ vs c v m. by_meaning (Tracking false) c refl m }
 
+enable_thread_passes : Passes is_command enable_thread
+unfolding enable_thread
+enable_thread_passes = record { are_faithful = tt; passed = λ vs c v m. by_meaning (SwitchThread vs.0 true) c refl m }
+
+disable_thread_passes : Passes is_command disable_thread
+unfolding disable_thread
+disable_thread_passes = record { are_faithful = tt; passed = λ vs c v m. by_meaning (SwitchThread vs.0 false) c refl m }
+
 shutdown_passes : Passes is_command shutdown
 unfolding shutdown
 shutdown_passes = record { are_faithful = tt; passed = λ vs c v m. by_meaning Mount c refl m }
@@ -316,7 +324,11 @@ mode_pass : AllPass is_command mode_forms
 unfolding mode_forms
 mode_pass = (shutdown_passes, (startup_passes, (reset_database_passes, (open_database_passes, recovery_pass))))
 
+switch_pass : AllPass is_command switch_forms
+unfolding switch_forms
+switch_pass = (track_passes, (untrack_passes, (enable_thread_passes, (disable_thread_passes, mode_pass))))
+
 -- each form's commands pass the test
 pub all_pass : AllPass is_command forms
 unfolding forms
-all_pass = (create_database_passes, (write_passes, (create_datafile_passes, (switch_logfile_passes, (archive_log_passes, (track_passes, (untrack_passes, mode_pass)))))))
+all_pass = (create_database_passes, (write_passes, (create_datafile_passes, (switch_logfile_passes, (archive_log_passes, switch_pass)))))

@@ -8,12 +8,12 @@ use Rattle.rm_lang_token.specs.Statements.{statements}
 use Rattle.rm_lang_grammar.specs.Spelling.{spelled}
 use Rattle.rm_lang_reading.specs.declared.upkeep.Deletion.TheVariants.{Obsolete, One, Expired}
 use Rattle.rm_lang_statement.specs.declared.command.Command.{Command}
-use Rattle.rm_lang_statement.specs.declared.command.Command.TheVariants.{CreateDatabase, CreateDatafile, Write, SwitchLogfile, ArchiveLogCurrent, Mount, OpenPlain, OpenResetlogs, Tracking, ResetDatabase, Restore, Preview, Recover, RecoverTest, RecoverCopy, Backup, BackupLogs, Crosscheck, ValidateAll, ChangeBackup, DeleteObsolete, DeleteBackup, DeleteExpired, ReportObsolete, ReportNeedBackup, ReportSchema, ListIncarnation, ListBackup, ListCopy, ListArchived, ShowAll, Dump, Retention, Parallelism, CatalogName, LoseDatafile, LoseLog, Remove, Damage, Cut, Rename, Corrupt, ListCorruption, BlockRecover}
+use Rattle.rm_lang_statement.specs.declared.command.Command.TheVariants.{CreateDatabase, CreateDatafile, Write, SwitchLogfile, ArchiveLogCurrent, Mount, OpenPlain, OpenResetlogs, Tracking, SwitchThread, ResetDatabase, Restore, Preview, Recover, RecoverTest, RecoverCopy, Backup, BackupLogs, Crosscheck, ValidateAll, ChangeBackup, DeleteObsolete, DeleteBackup, DeleteExpired, ReportObsolete, ReportNeedBackup, ReportSchema, ListIncarnation, ListBackup, ListCopy, ListArchived, ShowAll, Dump, Retention, Parallelism, CatalogName, LoseDatafile, LoseLog, Remove, Damage, Cut, Rename, Corrupt, ListCorruption, BlockRecover}
 use Rattle.rm_lang_statement.specs.declared.command.Inner.{Inner}
 use Rattle.rm_lang_statement.specs.declared.command.Inner.TheVariants.{SetUntil, AllocateChannel, Plain as PlainInner}
 use Rattle.rm_lang_statement.specs.declared.command.Statement.{Statement}
 use Rattle.rm_lang_statement.specs.declared.command.Statement.TheVariants.{Plain, Run}
-use Rattle.rm_lang_reading.specs.Creating.{create_database_line, write_line, create_datafile_line, switch_logfile_line, archive_log_line, track_line, untrack_line}
+use Rattle.rm_lang_reading.specs.Creating.{create_database_line, write_line, create_datafile_line, switch_logfile_line, archive_log_line, track_line, untrack_line, enable_thread_line, disable_thread_line}
 use Rattle.rm_lang_reading.specs.Modes.{startup_line, reset_database_line, open_database_line}
 use Rattle.rm_lang_reading.specs.Recovering.{restore_line, restore_datafile_line, recover_line, recover_copy_line}
 use Rattle.rm_lang_reading.specs.Repairs.{block_recover_line}
@@ -37,6 +37,8 @@ tokens_of OpenPlain = spelled open_database_line (false, tt)
 tokens_of OpenResetlogs = spelled open_database_line (true, tt)
 tokens_of (Tracking true) = spelled track_line tt
 tokens_of (Tracking false) = spelled untrack_line tt
+tokens_of (SwitchThread thread true) = spelled enable_thread_line (thread, tt)
+tokens_of (SwitchThread thread false) = spelled disable_thread_line (thread, tt)
 tokens_of (ResetDatabase inc) = spelled reset_database_line (inc, tt)
 tokens_of (Restore None until) = spelled restore_line (option_map until_values until, (false, tt))
 tokens_of (Restore (Some file) until) = spelled restore_datafile_line (file, (option_map until_values until, tt))

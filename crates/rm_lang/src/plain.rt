@@ -2,7 +2,7 @@
 ghost use Rattle.std.specs.Prelude.{◌≡◌, IfOk, IsTrue};
 ghost use Rattle.rm_lang_token.specs.Spelling.{are_string_bytes};
 ghost use Rattle.rm_lang_grammar.specs.Spelling.{spelled};
-ghost use Rattle.rm_lang_reading.specs.Creating.{create_database_line, create_datafile_line, switch_logfile_line, archive_log_line, track_line, untrack_line};
+ghost use Rattle.rm_lang_reading.specs.Creating.{create_database_line, create_datafile_line, switch_logfile_line, archive_log_line, track_line, untrack_line, enable_thread_line, disable_thread_line};
 ghost use Rattle.rm_lang_reading.specs.Modes.{startup_line, reset_database_line, open_database_line};
 ghost use Rattle.rm_lang_reading.specs.Backups.{backup_logs_line};
 ghost use Rattle.rm_lang_reading.specs.Upkeep.{validate_line};
@@ -95,6 +95,32 @@ pub fn untrack(alloc: Global) -> Result<Spelling, NoMemory>
     spelling.word("BLOCK")?;
     spelling.word("CHANGE")?;
     spelling.word("TRACKING")?;
+    spelling.sign(b';')?;
+    Ok(spelling)
+}
+
+pub fn enable_thread(alloc: Global, thread: u64) -> Result<Spelling, NoMemory>
+    ensures { IfOk result (λ ts. ts ≡ spelled enable_thread_line (thread, tt)) }
+{
+    let mut spelling = Spelling::new(alloc);
+    spelling.word("ALTER")?;
+    spelling.word("DATABASE")?;
+    spelling.word("ENABLE")?;
+    spelling.word("THREAD")?;
+    spelling.number(thread)?;
+    spelling.sign(b';')?;
+    Ok(spelling)
+}
+
+pub fn disable_thread(alloc: Global, thread: u64) -> Result<Spelling, NoMemory>
+    ensures { IfOk result (λ ts. ts ≡ spelled disable_thread_line (thread, tt)) }
+{
+    let mut spelling = Spelling::new(alloc);
+    spelling.word("ALTER")?;
+    spelling.word("DATABASE")?;
+    spelling.word("DISABLE")?;
+    spelling.word("THREAD")?;
+    spelling.number(thread)?;
     spelling.sign(b';')?;
     Ok(spelling)
 }

@@ -8,10 +8,10 @@ ghost use Rattle.rm_lang.specs.Spelling.{tokens_of, inner_tokens, statement_toke
 use crate::backup::{backup, write};
 use crate::plain::{
     allocate, archive_log, backup_logs, catalog, corrupt, create_database, create_datafile, cut,
-    damage, dump, list_archived, list_backup, list_copy, list_corruption, list_incarnation,
-    lose_datafile, lose_log, open_database, parallelism, remove, rename, report_need_backup,
-    report_obsolete, report_schema, reset_database, show, startup, switch_logfile, track, untrack,
-    validate,
+    damage, disable_thread, dump, enable_thread, list_archived, list_backup, list_copy,
+    list_corruption, list_incarnation, lose_datafile, lose_log, open_database, parallelism, remove,
+    rename, report_need_backup, report_obsolete, report_schema, reset_database, show, startup,
+    switch_logfile, track, untrack, validate,
 };
 use crate::repair::block_recover;
 use crate::with_parts::{
@@ -42,6 +42,8 @@ fn command(alloc: Global, command: &Command) -> Result<Spelling, NoMemory>
         Command::OpenResetlogs => open_database(alloc, true),
         Command::Tracking { on: true } => track(alloc),
         Command::Tracking { on: false } => untrack(alloc),
+        Command::SwitchThread { thread, on: true } => enable_thread(alloc, *thread),
+        Command::SwitchThread { thread, on: false } => disable_thread(alloc, *thread),
         Command::ResetDatabase { inc } => reset_database(alloc, *inc),
         Command::Restore { file: None, until } => restore(alloc, until, false),
         Command::Restore {

@@ -178,6 +178,7 @@ pub fn is_command(command: &Command) -> bool
         Command::OpenPlain => true,
         Command::OpenResetlogs => true,
         Command::Tracking { .. } => true,
+        Command::SwitchThread { .. } => true,
         Command::ResetDatabase { .. } => true,
         Command::Restore { until, .. } => is_until_or_none(until),
         Command::Preview { until } => is_until_or_none(until),

@@ -77,10 +77,6 @@ in_again (f ∷ fs) ts rest c k h =
     again_first f fs ts rest c (command_by f ts) refl (λ one. by_again f ts rest c p.is_clear p.is_closed one) (λ one. in_again fs ts rest c p.others one)
     (λ d r e one. let b = by_found f ts r d e in from_differs f.line fs ts r rest b.values c p.is_closed p.others p.differs b.spells one) h
 
--- where the forms read nothing, there is no command
-pub in_none : {C : Type 0} (fs : List (Form C)) (ts rest : List Token) (c : C) → are_apart fs ≡ true → command_in fs ts ≡ None → IsByOne fs c ts rest → ⊥
-in_none fs ts rest c k e h = let s = in_again fs ts rest c k h in cc
-
 -- one command at the front of each token list
 pub one_command : {C : Type 0} (fs : List (Form C)) (ts r s : List Token) (c d : C) → are_apart fs ≡ true → IsByOne fs c ts r → IsByOne fs d ts s → (c ≡ d) × (r ≡ s)
 one_command {C} fs ts r s c d k h l =

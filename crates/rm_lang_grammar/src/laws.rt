@@ -1,5 +1,5 @@
 //! What the notation of the grammar means.
-ghost use Rattle.std.specs.Prelude.{◌≡◌, ◌++◌, [], List, Some, None, true, ℕ};
+ghost use Rattle.std.specs.Prelude.{◌≡◌, ◌++◌, [], List, Some, true, ℕ};
 ghost use Rattle.rm_lang_token.specs.declared.token.Token.{Token as TokenOf};
 ghost use Rattle.rm_lang_grammar.specs.Grammar.{Grammar, Values, Spells};
 ghost use Rattle.rm_lang_grammar.specs.Reading.{read};

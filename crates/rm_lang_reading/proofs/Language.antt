@@ -12,8 +12,8 @@ use Rattle.rm_lang_statement.specs.declared.command.Command.{Command}
 use Rattle.rm_lang_statement.specs.declared.command.Inner.{Inner}
 use Rattle.rm_lang_statement.specs.declared.command.Statement.{Statement}
 use Rattle.rm_lang_statement.specs.declared.command.Statement.TheVariants.{Plain, Run}
-use Rattle.rm_lang_reading.specs.Language.{mishap_forms, setting_forms, asking_forms, upkeep_forms, backup_forms, repair_forms, recovery_forms, mode_forms, forms, set_until, allocate, inner_forms, IsStatement, statement_at}
-use Rattle.rm_lang_reading.specs.Creating.{create_database, write, create_datafile, switch_logfile, archive_log, track, untrack}
+use Rattle.rm_lang_reading.specs.Language.{mishap_forms, setting_forms, asking_forms, upkeep_forms, backup_forms, repair_forms, recovery_forms, mode_forms, switch_forms, forms, set_until, allocate, inner_forms, IsStatement, statement_at}
+use Rattle.rm_lang_reading.specs.Creating.{create_database, write, create_datafile, switch_logfile, archive_log, track, untrack, enable_thread, disable_thread}
 use Rattle.rm_lang_reading.specs.Modes.{shutdown, startup, reset_database, open_database}
 use Rattle.rm_lang_reading.specs.Recovering.{restore, restore_datafile, recover, recover_copy}
 use Rattle.rm_lang_reading.specs.Repairs.{block_recover}
@@ -25,20 +25,20 @@ use Rattle.rm_lang_reading.specs.Mishaps.{lose_datafile, lose_log, corrupt, remo
 
 -- no line of the grammar takes from another
 pub forms_apart : are_apart forms ≡ true
-unfolding mishap_forms setting_forms asking_forms upkeep_forms backup_forms repair_forms recovery_forms mode_forms forms create_database write create_datafile switch_logfile archive_log track untrack shutdown startup reset_database open_database restore restore_datafile recover recover_copy block_recover backup backup_logs crosscheck validate change delete report_obsolete report_need_backup report_schema list_incarnation list_backup list_copy list_archived list_corruption show dump retention parallelism catalog lose_datafile lose_log corrupt remove damage cut rename
+unfolding mishap_forms setting_forms asking_forms upkeep_forms backup_forms repair_forms recovery_forms mode_forms switch_forms forms create_database write create_datafile switch_logfile archive_log track untrack enable_thread disable_thread shutdown startup reset_database open_database restore restore_datafile recover recover_copy block_recover backup backup_logs crosscheck validate change delete report_obsolete report_need_backup report_schema list_incarnation list_backup list_copy list_archived list_corruption show dump retention parallelism catalog lose_datafile lose_log corrupt remove damage cut rename
 forms_apart = refl
 
 -- none begins with RUN
 forms_unlike : are_unlike (codes "RUN") forms ≡ true
-unfolding mishap_forms setting_forms asking_forms upkeep_forms backup_forms repair_forms recovery_forms mode_forms forms create_database write create_datafile switch_logfile archive_log track untrack shutdown startup reset_database open_database restore restore_datafile recover recover_copy block_recover backup backup_logs crosscheck validate change delete report_obsolete report_need_backup report_schema list_incarnation list_backup list_copy list_archived list_corruption show dump retention parallelism catalog lose_datafile lose_log corrupt remove damage cut rename
+unfolding mishap_forms setting_forms asking_forms upkeep_forms backup_forms repair_forms recovery_forms mode_forms switch_forms forms create_database write create_datafile switch_logfile archive_log track untrack enable_thread disable_thread shutdown startup reset_database open_database restore restore_datafile recover recover_copy block_recover backup backup_logs crosscheck validate change delete report_obsolete report_need_backup report_schema list_incarnation list_backup list_copy list_archived list_corruption show dump retention parallelism catalog lose_datafile lose_log corrupt remove damage cut rename
 forms_unlike = refl
 
 pub inner_apart : are_apart inner_forms ≡ true
-unfolding inner_forms set_until allocate mishap_forms setting_forms asking_forms upkeep_forms backup_forms repair_forms recovery_forms mode_forms forms create_database write create_datafile switch_logfile archive_log track untrack shutdown startup reset_database open_database restore restore_datafile recover recover_copy block_recover backup backup_logs crosscheck validate change delete report_obsolete report_need_backup report_schema list_incarnation list_backup list_copy list_archived list_corruption show dump retention parallelism catalog lose_datafile lose_log corrupt remove damage cut rename
+unfolding inner_forms set_until allocate mishap_forms setting_forms asking_forms upkeep_forms backup_forms repair_forms recovery_forms mode_forms switch_forms forms create_database write create_datafile switch_logfile archive_log track untrack enable_thread disable_thread shutdown startup reset_database open_database restore restore_datafile recover recover_copy block_recover backup backup_logs crosscheck validate change delete report_obsolete report_need_backup report_schema list_incarnation list_backup list_copy list_archived list_corruption show dump retention parallelism catalog lose_datafile lose_log corrupt remove damage cut rename
 inner_apart = refl
 
 inner_led : are_led inner_forms ≡ true
-unfolding inner_forms set_until allocate mishap_forms setting_forms asking_forms upkeep_forms backup_forms repair_forms recovery_forms mode_forms forms create_database write create_datafile switch_logfile archive_log track untrack shutdown startup reset_database open_database restore restore_datafile recover recover_copy block_recover backup backup_logs crosscheck validate change delete report_obsolete report_need_backup report_schema list_incarnation list_backup list_copy list_archived list_corruption show dump retention parallelism catalog lose_datafile lose_log corrupt remove damage cut rename
+unfolding inner_forms set_until allocate mishap_forms setting_forms asking_forms upkeep_forms backup_forms repair_forms recovery_forms mode_forms switch_forms forms create_database write create_datafile switch_logfile archive_log track untrack enable_thread disable_thread shutdown startup reset_database open_database restore restore_datafile recover recover_copy block_recover backup backup_logs crosscheck validate change delete report_obsolete report_need_backup report_schema list_incarnation list_backup list_copy list_archived list_corruption show dump retention parallelism catalog lose_datafile lose_log corrupt remove damage cut rename
 inner_led = refl
 
 -- all tokens are read

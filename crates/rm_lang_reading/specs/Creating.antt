@@ -4,7 +4,7 @@ use Rattle.rm_lang_grammar.specs.Grammar.{◌▸◌, Grammar, Values, semicolon,
 use Rattle.rm_lang_grammar.specs.Forms.{Form}
 use Rattle.rm_lang_statement.specs.declared.command.WriteForm.{WriteForm}
 use Rattle.rm_lang_statement.specs.declared.command.Command.{Command}
-use Rattle.rm_lang_statement.specs.declared.command.Command.TheVariants.{CreateDatabase, CreateDatafile, Write, SwitchLogfile, ArchiveLogCurrent, Tracking}
+use Rattle.rm_lang_statement.specs.declared.command.Command.TheVariants.{CreateDatabase, CreateDatafile, Write, SwitchLogfile, ArchiveLogCurrent, Tracking, SwitchThread}
 use Rattle.rm_lang_statement.specs.Texts.{content}
 
 -- CREATE DATABASE [DBID n] [THREADS n] [SCN n]
@@ -62,3 +62,17 @@ untrack_line = word (codes "ALTER") ▸ word (codes "DATABASE") ▸ word (codes 
 
 unfoldable pub untrack : Form Command
 untrack = record { line = untrack_line; meaning = λ v. Some (Tracking false) }
+
+-- ALTER DATABASE ENABLE THREAD n
+abbrev pub enable_thread_line : Grammar
+enable_thread_line = word (codes "ALTER") ▸ word (codes "DATABASE") ▸ word (codes "ENABLE") ▸ word (codes "THREAD") ▸ number any ▸ semicolon
+
+unfoldable pub enable_thread : Form Command
+enable_thread = record { line = enable_thread_line; meaning = λ v. Some (SwitchThread v.0 true) }
+
+-- ALTER DATABASE DISABLE THREAD n
+abbrev pub disable_thread_line : Grammar
+disable_thread_line = word (codes "ALTER") ▸ word (codes "DATABASE") ▸ word (codes "DISABLE") ▸ word (codes "THREAD") ▸ number any ▸ semicolon
+
+unfoldable pub disable_thread : Form Command
+disable_thread = record { line = disable_thread_line; meaning = λ v. Some (SwitchThread v.0 false) }

@@ -10,7 +10,7 @@ use Rattle.rm_lang_statement.specs.declared.command.Inner.{Inner}
 use Rattle.rm_lang_statement.specs.declared.command.Inner.TheVariants.{SetUntil, AllocateChannel, Plain as PlainInner}
 use Rattle.rm_lang_statement.specs.declared.command.Statement.{Statement}
 use Rattle.rm_lang_statement.specs.declared.command.Statement.TheVariants.{Plain, Run}
-use Rattle.rm_lang_reading.specs.Creating.{create_database, write, create_datafile, switch_logfile, archive_log, track, untrack}
+use Rattle.rm_lang_reading.specs.Creating.{create_database, write, create_datafile, switch_logfile, archive_log, track, untrack, enable_thread, disable_thread}
 use Rattle.rm_lang_reading.specs.Modes.{shutdown, startup, reset_database, open_database}
 use Rattle.rm_lang_reading.specs.Recovering.{until, until_by, restore, restore_datafile, recover, recover_copy}
 use Rattle.rm_lang_reading.specs.Repairs.{block_recover}
@@ -52,9 +52,13 @@ recovery_forms = restore ∷ restore_datafile ∷ recover ∷ recover_copy ∷ r
 unfoldable pub mode_forms : List (Form Command)
 mode_forms = shutdown ∷ startup ∷ reset_database ∷ open_database ∷ recovery_forms
 
+-- those that switch something on or off, and the ones above
+unfoldable pub switch_forms : List (Form Command)
+switch_forms = track ∷ untrack ∷ enable_thread ∷ disable_thread ∷ mode_forms
+
 -- the forms of statements but RUN: those that create and write, and the ones above
 unfoldable pub forms : List (Form Command)
-forms = create_database ∷ write ∷ create_datafile ∷ switch_logfile ∷ archive_log ∷ track ∷ untrack ∷ mode_forms
+forms = create_database ∷ write ∷ create_datafile ∷ switch_logfile ∷ archive_log ∷ switch_forms
 
 -- SET until
 abbrev pub set_until_line : Grammar

@@ -1,9 +1,9 @@
 //! The statements that make a database and change it.
 ghost use Rattle.rm_lang_grammar.specs.Reading.{Gives, read};
 ghost use Rattle.rm_lang_grammar.specs.Forms.{command_by, command_in};
-ghost use Rattle.rm_lang_reading.specs.Creating.{create_database, write_part, write, create_datafile, switch_logfile, archive_log, track, untrack};
+ghost use Rattle.rm_lang_reading.specs.Creating.{create_database, write_part, write, create_datafile, switch_logfile, archive_log, track, untrack, enable_thread, disable_thread};
 ghost use Rattle.rm_lang_reading.specs.Values.{write_values};
-ghost use Rattle.rm_lang_reading.specs.Language.{forms};
+ghost use Rattle.rm_lang_reading.specs.Language.{switch_forms, forms};
 
 use crate::modes::mode;
 use rm_base::{Block, LAST_SCN};
@@ -108,6 +108,50 @@ fn untrack(tokens: &[Token]) -> Result<(Command, &[Token]), Unread>
     Ok((Command::Tracking { on: false }, rest))
 }
 
+#[tactic(auto, unfolding(crate::specs::Creating::enable_thread))]
+fn enable_thread(tokens: &[Token]) -> Result<(Command, &[Token]), Unread>
+    ensures { Gives (λ x. (x.0, x.1.now)) result (command_by enable_thread tokens.now) }
+{
+    let rest = word(word(tokens, b"ALTER")?, b"DATABASE")?;
+    let (thread, rest) = number(word(word(rest, b"ENABLE")?, b"THREAD")?)?;
+    let rest = semicolon(rest)?;
+    Ok((Command::SwitchThread { thread, on: true }, rest))
+}
+
+#[tactic(auto, unfolding(crate::specs::Creating::disable_thread))]
+fn disable_thread(tokens: &[Token]) -> Result<(Command, &[Token]), Unread>
+    ensures { Gives (λ x. (x.0, x.1.now)) result (command_by disable_thread tokens.now) }
+{
+    let rest = word(word(tokens, b"ALTER")?, b"DATABASE")?;
+    let (thread, rest) = number(word(word(rest, b"DISABLE")?, b"THREAD")?)?;
+    let rest = semicolon(rest)?;
+    Ok((Command::SwitchThread { thread, on: false }, rest))
+}
+
+// The command at the front by the first form of those that switch something on or off, or of those behind, and what is behind it.
+#[tactic(auto, unfolding(crate::specs::Language::switch_forms))]
+fn switching(alloc: Global, tokens: &[Token]) -> Result<(Command, &[Token]), Unread>
+    ensures { Gives (λ x. (x.0, x.1.now)) result (command_in switch_forms tokens.now) }
+{
+    match track(tokens) {
+        Err(Unread::Other) => {}
+        found => return found,
+    }
+    match untrack(tokens) {
+        Err(Unread::Other) => {}
+        found => return found,
+    }
+    match enable_thread(tokens) {
+        Err(Unread::Other) => {}
+        found => return found,
+    }
+    match disable_thread(tokens) {
+        Err(Unread::Other) => {}
+        found => return found,
+    }
+    mode(alloc, tokens)
+}
+
 /// The command at the front by the first form of those that create and write, or of those behind, and what is behind it.
 #[tactic(auto, unfolding(crate::specs::Language::forms))]
 pub fn creating(alloc: Global, tokens: &[Token]) -> Result<(Command, &[Token]), Unread>
@@ -133,13 +177,5 @@ pub fn creating(alloc: Global, tokens: &[Token]) -> Result<(Command, &[Token]), 
         Err(Unread::Other) => {}
         found => return found,
     }
-    match track(tokens) {
-        Err(Unread::Other) => {}
-        found => return found,
-    }
-    match untrack(tokens) {
-        Err(Unread::Other) => {}
-        found => return found,
-    }
-    mode(alloc, tokens)
+    switching(alloc, tokens)
 }

@@ -8,10 +8,12 @@ use Rattle.rm_base.specs.declared.refusal.Absent.{Absent}
 use Rattle.rm_base.specs.declared.refusal.Absent.TheVariants.{Thread, File, Block as BlockOf}
 use Rattle.rm_base.specs.declared.refusal.Limit.{Limit}
 use Rattle.rm_base.specs.declared.refusal.Limit.TheVariants.{Threads, Files, FileBlocks, Blocks, Channels, Incarnations, Records, Bytes, ObjectIds, Sequences, LogRecords, WindowDays, Redundancy}
+use Rattle.rm_base.specs.declared.refusal.ThreadState.{ThreadState}
+use Rattle.rm_base.specs.declared.refusal.ThreadState.TheVariants.{Enabled, Disabled, Last}
 use Rattle.rm_base.specs.declared.refusal.Unknown.{Unknown}
 use Rattle.rm_base.specs.declared.refusal.Unknown.TheVariants.{Entry, Tag, Log, Object, Byte}
 use Rattle.rm_base.specs.declared.refusal.Refusal.{Refusal}
-use Rattle.rm_base.specs.declared.refusal.Refusal.TheVariants.{Rm01, Rm02, Rm03, Rm04, Rm05, Rm06, Rm07, Rm08, Rm09, Rm10, Rm11, Rm12, Rm13, Rm14, Rm15, Rm17, Rm18}
+use Rattle.rm_base.specs.declared.refusal.Refusal.TheVariants.{Rm01, Rm02, Rm03, Rm04, Rm05, Rm06, Rm07, Rm08, Rm09, Rm10, Rm11, Rm12, Rm13, Rm14, Rm15, Rm16, Rm17, Rm18}
 use Rattle.rm_moments.specs.Shown.{moment_text}
 use Rattle.rm_history.specs.declared.tree.Standing.{Standing}
 use Rattle.rm_history.specs.declared.tree.Standing.TheVariants.{Current, Parent, Orphan}
@@ -28,7 +30,7 @@ use Rattle.rm_base.specs.declared.kinds.Policy.TheVariants.{Window, Redundancy a
 use Rattle.rm_report.specs.declared.line.SchemaPlace.{SchemaPlace}
 use Rattle.rm_report.specs.declared.line.SchemaPlace.TheVariants.{At, Lost, OffPath}
 use Rattle.rm_report.specs.declared.line.Line.{Line}
-use Rattle.rm_report.specs.declared.line.Line.TheVariants.{DatabaseAt, DatafileAt, Written, LogMade, NothingToArchive, Mounted, Opened, Chosen, Recovered, UntilIs, FileIs, BlockIs, BackedUp, NothingToBackUp, IncarnationIs, Dumped, Tracking, Skipped, RestoredFrom, CreatedEmpty, Complete, GapIn, Merged, Stays, StartsAbove, BlockDamaged, Mended, ThreadScn, StatusOf, BadOf, Checked, Uncatalogued, Kept, NotKept, Deleted, DeletedCount, Obsolete, ObsoleteCount, NeedsBackup, NeedCount, Parallelism, Catalogued, FileLost, LogLost, Removed, Damaged, Cut, Renamed, UntilSet, ChannelAllocated, Schema, PieceIs, LogIs, Retention, Refused}
+use Rattle.rm_report.specs.declared.line.Line.TheVariants.{DatabaseAt, DatafileAt, Written, LogMade, NothingToArchive, Mounted, Opened, Chosen, Recovered, UntilIs, FileIs, BlockIs, BackedUp, NothingToBackUp, IncarnationIs, Dumped, Tracking, ThreadSwitched, Skipped, RestoredFrom, CreatedEmpty, Complete, GapIn, Merged, Stays, StartsAbove, BlockDamaged, Mended, ThreadScn, StatusOf, BadOf, Checked, Uncatalogued, Kept, NotKept, Deleted, DeletedCount, Obsolete, ObsoleteCount, NeedsBackup, NeedCount, Parallelism, Catalogued, FileLost, LogLost, Removed, Damaged, Cut, Renamed, UntilSet, ChannelAllocated, Schema, PieceIs, LogIs, Retention, Refused}
 use Rattle.rm_report.specs.declared.line.Reply.{Reply}
 
 -- a byte's two digits in lower-case hexadecimal
@@ -74,6 +76,12 @@ unknown_text (Log sequence thread) = codes "RM-12: no log " ++ (decimal sequence
 unknown_text (Object name) = codes "RM-12: no object " ++ name
 unknown_text (Byte at name) = codes "RM-12: no byte " ++ (decimal at ++ (codes " in " ++ name))
 
+-- how a thread is that can't be switched
+abbrev pub thread_state_text : ThreadState → List ℕ
+thread_state_text Enabled = codes "enabled"
+thread_state_text Disabled = codes "disabled"
+thread_state_text Last = codes "the last"
+
 -- the line of a refusal
 abbrev pub refusal_text : Refusal → List ℕ
 refusal_text (Rm01 line) = codes "RM-01: syntax at line " ++ decimal line
@@ -92,6 +100,7 @@ refusal_text (Rm12 unknown) = unknown_text unknown
 refusal_text (Rm13 name) = codes "RM-13: name " ++ (name ++ codes " is taken")
 refusal_text (Rm14 moment) = codes "RM-14: no mark at or before " ++ moment_text moment
 refusal_text Rm15 = codes "RM-15: last SCN"
+refusal_text (Rm16 thread state) = codes "RM-16: thread " ++ (decimal thread ++ (codes " is " ++ thread_state_text state))
 refusal_text (Rm17 file block) = codes "RM-17: block " ++ (decimal block ++ (codes " of datafile " ++ (decimal file ++ codes " is damaged")))
 refusal_text (Rm18 file block) = codes "RM-18: block " ++ (decimal block ++ (codes " of datafile " ++ (decimal file ++ codes " isn't damaged")))
 
@@ -121,6 +130,11 @@ shape_text (Level1 from) = codes "level 1 from " ++ decimal from
 abbrev pub on_text : Bool → List ℕ
 on_text true = codes "on"
 on_text false = codes "off"
+
+-- a thread comes or goes
+abbrev pub switched_text : Bool → List ℕ
+switched_text true = codes "enabled"
+switched_text false = codes "disabled"
 
 -- what is wrong with an object
 abbrev pub bad_text : Bad → List ℕ
@@ -169,6 +183,7 @@ line_text NothingToBackUp = codes "nothing to back up"
 line_text (IncarnationIs inc parent reset end standing) = codes "incarnation " ++ (decimal inc ++ (codes " parent " ++ (decimal parent ++ (codes " reset at " ++ (decimal reset ++ (codes " end " ++ (decimal end ++ (codes " " ++ standing_text standing))))))))
 line_text (Dumped file block version content) = codes "datafile " ++ (decimal file ++ (codes " " ++ block_text block version content))
 line_text (Tracking on) = codes "tracking " ++ on_text on
+line_text (ThreadSwitched thread on scn) = codes "thread " ++ (decimal thread ++ (codes " " ++ (switched_text on ++ (codes " at " ++ decimal scn))))
 line_text (Skipped id bad) = codes "skipped " ++ (decimal id ++ (codes " " ++ bad_text bad))
 line_text (RestoredFrom file id checkpoint) = codes "datafile " ++ (decimal file ++ (codes " from " ++ (decimal id ++ (codes " at " ++ decimal checkpoint))))
 line_text (CreatedEmpty file) = codes "datafile " ++ (decimal file ++ codes " created empty")

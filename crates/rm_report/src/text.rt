@@ -4,15 +4,17 @@ ghost use Rattle.std.specs.String.{string_bytes};
 ghost use Rattle.rm_base.specs.Numbers.{last_moment};
 ghost use Rattle.rm_base.specs.declared.refusal.Refusal.TheVariants.{Rm14};
 ghost use Rattle.rm_report.specs.Reply.{HasDate, LineHasDate, HasDates};
-ghost use Rattle.rm_report.specs.Text.{tells_blocks, tells_history, tells_backup, line_text, block_text, backup_text, shape_text, standing_text, refusal_text, absent_text, unknown_text, limit_text, content_text, byte_text, reply_text};
+ghost use Rattle.rm_report.specs.Text.{tells_blocks, tells_history, tells_backup, line_text, block_text, backup_text, shape_text, standing_text, refusal_text, absent_text, unknown_text, limit_text, content_text, byte_text, thread_state_text, reply_text};
 
 use crate::line::{Line, Packing, Reply, Shape};
 use crate::lines::{
     push_bad_of, push_block_damaged, push_checked, push_gap_in, push_mended, push_merged,
     push_policy, push_record, push_restored_from, push_schema, push_skipped, push_starts_above,
-    push_status_of, push_stays, push_thread_scn, push_tracking,
+    push_status_of, push_stays, push_thread_scn, push_thread_switched, push_tracking,
 };
-use rm_base::{Absent, Block, BlockNo, Limit, Moment, NoMemory, Refusal, Scn, Seq, Unknown};
+use rm_base::{
+    Absent, Block, BlockNo, Limit, Moment, NoMemory, Refusal, Scn, Seq, ThreadState, Unknown,
+};
 use rm_history::Standing;
 use rm_moments::text;
 use std::alloc::{AllocError, Global};
@@ -63,6 +65,7 @@ fn push_line(alloc: Global, out: &mut String, line: &Line) -> Result<(), AllocEr
         Line::IncarnationIs { .. } => push_history(out, line),
         Line::Dumped { .. } => push_blocks(out, line),
         Line::Tracking { on } => push_tracking(out, *on),
+        Line::ThreadSwitched { thread, on, scn } => push_thread_switched(out, *thread, *on, *scn),
         Line::Skipped { id, bad } => push_skipped(out, *id, *bad),
         Line::RestoredFrom {
             file,
@@ -319,6 +322,13 @@ fn push_refusal(alloc: Global, out: &mut String, refusal: &Refusal) -> Result<()
         Refusal::Rm13 { name } => write!(out, "RM-13: name {} is taken", name.as_str()),
         Refusal::Rm14 { moment } => push_unmarked(alloc, out, *moment),
         Refusal::Rm15 => write!(out, "RM-15: last SCN"),
+        Refusal::Rm16 { thread, state } => {
+            write!(
+                out,
+                "RM-16: thread {thread} is {}",
+                thread_state_text(*state)
+            )
+        }
         Refusal::Rm17 { file, block } => {
             write!(out, "RM-17: block {block} of datafile {file} is damaged")
         }
@@ -368,6 +378,17 @@ fn limit_text(limit: Limit) -> &'static str
         Limit::LogRecords => "log records 65536",
         Limit::WindowDays => "window days 36500",
         Limit::Redundancy => "redundancy 1000",
+    }
+}
+
+// How a thread is that can't be switched.
+fn thread_state_text(state: ThreadState) -> &'static str
+    ensures { result.now ≡ thread_state_text state }
+{
+    match state {
+        ThreadState::Enabled => "enabled",
+        ThreadState::Disabled => "disabled",
+        ThreadState::Last => "the last",
     }
 }
 
