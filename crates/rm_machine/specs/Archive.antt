@@ -4,7 +4,7 @@ use Rattle.rm_base.specs.declared.refusal.Refusal.{Refusal}
 use Rattle.rm_base.specs.declared.refusal.Refusal.TheVariants.{Rm04, Rm11}
 use Rattle.rm_base.specs.declared.refusal.Limit.TheVariants.{Records, Bytes, ObjectIds, Sequences}
 use Rattle.rm_commit.specs.declared.commit.Object.{Object}
-use Rattle.rm_redo.specs.Online.{sequence_of}
+use Rattle.rm_redo.specs.Online.{has_log, sequence_of}
 use Rattle.rm_machine.specs.Effect.{Effect, Made, Outcome, done, no_effect}
 use Rattle.rm_report.specs.declared.line.Line.{Line}
 use Rattle.rm_machine.specs.Marks.{lacks_bytes, lacks_ids, lacks_room}
@@ -23,9 +23,9 @@ puts_by s t = if is_due s t then (archived (ledger s).base.next_id (online s t))
 abbrev pub after_thread : State → ℕ → State
 after_thread s t = if is_due s t then with_archived s t else s
 
--- its lines: that it has nothing to archive is told where all are told
+-- its lines: that it has an online log and nothing to archive is told where all are told
 abbrev pub thread_lines : Bool → State → ℕ → List Line
-thread_lines all s t = if is_due s t then made_lines s t else if all then none_lines t else []
+thread_lines all s t = if is_due s t then made_lines s t else if all && has_log s.instance.logs t then none_lines t else []
 
 -- the same of n threads from t on, one after another
 abbrev pub made_from : State → ℕ → ℕ → List Made
@@ -62,18 +62,18 @@ is_last_sequence s t (suc n) = if is_due s t && nat_le 4294967295 (sequence_of s
 -- why all threads can't be archived, where so many records come to the catalog besides
 abbrev pub archiving_refusal : State → ℕ → Option Refusal
 archiving_refusal s more =
-    if lacks_room s (due_from s 1 (ledger s).base.threads + more) then Some (Rm11 Records)
-    else if lacks_bytes s (bytes_from s 1 (ledger s).base.threads) then Some (Rm11 Bytes)
-    else if lacks_ids s (due_from s 1 (ledger s).base.threads) then Some (Rm11 ObjectIds)
-    else if is_last_sequence s 1 (ledger s).base.threads then Some (Rm11 Sequences)
+    if lacks_room s (due_from s 1 4 + more) then Some (Rm11 Records)
+    else if lacks_bytes s (bytes_from s 1 4) then Some (Rm11 Bytes)
+    else if lacks_ids s (due_from s 1 4) then Some (Rm11 ObjectIds)
+    else if is_last_sequence s 1 4 then Some (Rm11 Sequences)
     else None
 
 -- what archiving all threads makes, and the database after it
 abbrev pub archiving : State → Effect
-archiving s = record no_effect { made = made_from s 1 (ledger s).base.threads; puts = puts_from s 1 (ledger s).base.threads }
+archiving s = record no_effect { made = made_from s 1 4; puts = puts_from s 1 4 }
 
 abbrev pub after_all : State → State
-after_all s = after_threads s 1 (ledger s).base.threads
+after_all s = after_threads s 1 4
 
 -- why ARCHIVE LOG CURRENT is refused
 abbrev pub archive_all_refusal : State → Option Refusal
@@ -81,4 +81,4 @@ archive_all_refusal s = if s.instance.is_open then archiving_refusal s 0 else So
 
 -- it archives the log of each thread that has something to archive
 abbrev pub IsArchiveOutcome : State → Outcome → Type 0
-IsArchiveOutcome s o = o ≡ done (lines_from true s 1 (ledger s).base.threads) (archiving s) (after_all s)
+IsArchiveOutcome s o = o ≡ done (lines_from true s 1 4) (archiving s) (after_all s)

@@ -11,7 +11,6 @@ use Rattle.rm_track.specs.Bits.{blocks_from}
 use Rattle.rm_machine.specs.Backup.{rows_in}
 use Rattle.rm_machine.specs.declared.job.Job.{Job}
 use Rattle.rm_machine.specs.declared.state.State.{State}
-use Rattle.rm_machine.specs.State.{ledger}
 
 -- the writes that a DURING asks for, in the order of the text
 abbrev pub asked : Option (List WriteForm) → List WriteForm
@@ -38,9 +37,9 @@ abbrev pub lists_from : ℕ → ℕ → List WriteForm → List (List WriteJob)
 lists_from t zero ws = []
 lists_from t (suc n) ws = by_thread t ws ∷ lists_from (suc t) n ws
 
--- a list for each thread of the database
+-- a list for each of the threads 1 to 4
 abbrev pub writers_in : State → Option (List WriteForm) → List (List WriteJob)
-writers_in s during = lists_from 1 (ledger s).base.threads (asked during)
+writers_in s during = lists_from 1 4 (asked during)
 
 -- those of a BACKUP
 abbrev pub writers_of : State → BackupForm → List (List WriteJob)

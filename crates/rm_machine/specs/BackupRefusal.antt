@@ -17,13 +17,13 @@ use Rattle.rm_machine.specs.Backup.{absent, lost_taken, object_bytes, objects_of
 use Rattle.rm_machine.specs.Damage.{has_block}
 use Rattle.rm_machine.specs.Marks.{lacks_bytes, lacks_ids, lacks_room, marks_before}
 use Rattle.rm_machine.specs.declared.state.State.{State}
-use Rattle.rm_machine.specs.State.{ledger, now_of, on_path, placed}
+use Rattle.rm_machine.specs.State.{is_no_thread, now_of, on_path, placed}
 use Rattle.rm_machine.specs.Asked.{by_thread, writes_in}
 
 -- what a write names that is not there: its thread, its datafile on the current path, or its block, looked at in this order
 abbrev pub absent_in : State → WriteForm → Option Absent
 absent_in s w =
-    if (w.thread == 0) || nat_lt (ledger s).base.threads w.thread then Some (Thread w.thread)
+    if is_no_thread s w.thread then Some (Thread w.thread)
     else option_map_or (λ (d : Datafile). if nat_le d.blocks w.block then Some (Block w.block w.file) else None) (on_path s w.file) (Some (File w.file))
 
 -- the first of the writes that names what is not there, and what that is
@@ -76,7 +76,7 @@ room_refusal s b =
     if lacks_room s (length (objects_of s b) + mark_count s b) then Some (Rm11 Records)
     else if lacks_bytes s (sum_by (object_bytes s b) (objects_of s b)) then Some (Rm11 Bytes)
     else if lacks_ids s (length (objects_of s b)) then Some (Rm11 ObjectIds)
-    else if lacks_logs s (writes_in b) 1 (ledger s).base.threads then Some (Rm11 LogRecords)
+    else if lacks_logs s (writes_in b) 1 4 then Some (Rm11 LogRecords)
     else if nat_lt last_scn (now_of s + length (writes_in b)) then Some Rm15
     else damage_refusal s b
 

@@ -15,7 +15,7 @@ use Rattle.rm_machine.specs.BackupRefusal.{absent_of, damaged_write, lacks_logs,
 use Rattle.rm_machine.specs.Damage.{has_block}
 use Rattle.rm_machine.specs.Marks.{lacks_ids, lacks_room}
 use Rattle.rm_machine.specs.declared.state.State.{State}
-use Rattle.rm_machine.specs.State.{ledger, now_of, on_path, placed}
+use Rattle.rm_machine.specs.State.{now_of, on_path, placed}
 
 -- what it names that is not there: its datafile on the current path, or else the least block that is not one of it
 abbrev pub absent_named : State → NamedBlocks → Option Absent
@@ -41,7 +41,7 @@ abbrev pub repair_room_refusal : State → RepairForm → Option Refusal
 repair_room_refusal s form =
     if lacks_room s (marks_for s form.during) then Some (Rm11 Records)
     else if lacks_ids s 0 then Some (Rm11 ObjectIds)
-    else if lacks_logs s (asked form.during) 1 (ledger s).base.threads then Some (Rm11 LogRecords)
+    else if lacks_logs s (asked form.during) 1 4 then Some (Rm11 LogRecords)
     else if nat_lt last_scn (now_of s + length (asked form.during)) then Some Rm15
     else repair_damage_refusal s form
 

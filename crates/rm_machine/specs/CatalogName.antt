@@ -88,7 +88,7 @@ catalogued s (found_piece copy id a) = with_piece (raised s (found_piece copy id
 
 -- the record obeys the rules of records there; a datafile has as many blocks as its piece says
 abbrev pub Obeys : State → Found → Type 0
-Obeys s (found_log id a) = IsLogEntry (raised s (found_log id a)).ledger.tree (ledger s).base.threads (log_entry id a)
+Obeys s (found_log id a) = IsLogEntry (raised s (found_log id a)).ledger.tree (log_entry id a)
 Obeys s (found_piece copy id a) =
     IsPieceEntry (raised s (found_piece copy id a)).ledger.tree (ledger s).files (piece_entry copy false (codes "CATALOGUED") (ledger s).base.moment id a)
     × ((d : Datafile) → slice_get (ledger s).files (a.file - 1) ≡ Some d → a.blocks ≡ d.blocks)

@@ -14,8 +14,10 @@ pub mod CreateDatabase
 pub mod CreateDatafile
 pub mod Damage
 pub mod Mishaps
+pub mod DisableThread
 pub mod Dump
 pub mod Effect
+pub mod EnableThread
 pub mod Events
 pub mod Hands
 pub mod Honest

@@ -1,23 +1,24 @@
 -- What is loaded of a saved site stands in place; all else is lost.
 use Rattle.std.specs.Prelude.{ℕ, ◌≡◌, ◌+◌, ◌==◌, ◌&&◌, not, if◌then◌else◌, Bool, true, false, Option, Some, None, List, [], ◌∷◌, length, map, replicate, slice_get, slice_index_or}
-use Rattle.std.specs.List.{list_any}
 use Rattle.std.specs.Option.{option_map}
 use Rattle.rm_base.specs.Store.{Held}
 use Rattle.rm_blocks.specs.File.{File}
 use Rattle.rm_catalog.specs.declared.record.HeadEntry.{HeadEntry}
 use Rattle.rm_history.specs.declared.world.Datafile.{Datafile}
+use Rattle.rm_history.specs.Tree.{end_of}
 use Rattle.rm_catalog_typed.specs.Ledger.{Ledger}
+use Rattle.rm_catalog_typed.specs.Switches.{enabled_at}
 use Rattle.rm_piece.specs.declared.piece.Piece.{Piece}
 use Rattle.rm_redo.specs.declared.log_file.LogFile.{LogFile}
 use Rattle.rm_redo.specs.Logs.{Logs}
-use Rattle.rm_redo.specs.Online.{logs_of}
+use Rattle.rm_redo.specs.Online.{logs_of, lost_logs}
 use Rattle.rm_catalog_typed.specs.TypedCatalog.{Saved}
 use Rattle.rm_machine.specs.declared.state.Instance.{Instance}
 use Rattle.rm_machine.specs.declared.state.State.{State}
 use Rattle.rm_machine.specs.Mount.{mount_point}
 use Rattle.rm_machine.specs.Saved.{IsGoodFile, IsGoodLog}
 use Rattle.rm_machine.specs.Sound.{IsPoint}
-use Rattle.rm_machine.specs.State.{ledger, current_of}
+use Rattle.rm_machine.specs.State.{has_lost, ledger, current_of}
 use Rattle.rm_machine.specs.Tracked.{first_tracker}
 
 -- what there is of which this is so, or that there is none
@@ -46,22 +47,18 @@ abbrev pub where_of : ℕ → Option LogFile → Option LogFile
 where_of i None = None
 where_of i (Some a) = if a.inc == i then Some a else None
 
--- the online logs of the threads 1, 2, 3 and so on: those that are of the same incarnation as the first
+-- the online logs of the threads that are enabled at the end of the incarnation of the first: those that are of the same incarnation
 abbrev pub online_of : Ledger → List (Option LogFile) → Logs
 online_of l logs =
     let i = inc_of_first l.base.current logs in
-    logs_of l.base.dbid i (map (where_of i) logs)
+    logs_of l.base.dbid i (enabled_at l i (end_of l.tree i)) (map (where_of i) logs)
 
--- what is loaded of the threads: their parts where these are good
+-- what is loaded of the threads 1 to 4: their parts where these are good
 pub record AreLoadedLogs (held : Held) (l : Ledger) (site : Saved) (logs : Logs) : Type 0 where
   pub parts : List (Option LogFile)
-  pub many : length parts ≡ l.base.threads
+  pub many : length parts ≡ 4
   pub good : (k : ℕ) (a : Option LogFile) → slice_get parts k ≡ Some a → IsTheOne (IsGoodLog held l site (k + 1)) a
   pub are : logs ≡ online_of l parts
-
--- a log is lost
-abbrev pub has_lost : Logs → Bool
-has_lost logs = list_any (λ t. t.is_lost) logs.threads
 
 -- the head tells this point, and each datafile that exists there stands at it
 pub record IsHeadPoint (s : State) (head : HeadEntry) (at : ℕ) : Type 0 where
@@ -85,14 +82,15 @@ pub record IsLoadedOf (held : Held) (s : State) (site : Saved) : Type 0 where
   pub damaged : s.instance.damaged ≡ []
   pub tracker : s.instance.tracker ≡ first_tracker s.instance.is_open (ledger s)
 
--- without a saved site the database is mounted, each datafile and each online log is lost, and there is no point
+-- without a saved site the database is mounted, each datafile and each online log is lost, those of the threads that are enabled at the end
+-- of the current incarnation, and there is no point
 abbrev pub lost_instance : Ledger → Instance
 lost_instance l =
     record {
       is_open = false;
       point = None;
       place = replicate (length l.files) None;
-      logs = logs_of l.base.dbid l.base.current (replicate l.base.threads None);
+      logs = lost_logs l.base.dbid l.base.current (enabled_at l l.base.current (end_of l.tree l.base.current));
       damaged = [];
       tracker = [];
     }

@@ -33,6 +33,7 @@ use Rattle.rm_redo.specs.declared.log_file.LogFile.{LogFile}
 use Rattle.rm_redo.specs.LogFile.{log_of}
 use Rattle.rm_redo.specs.LogFormat as log_format
 use Rattle.rm_redo.specs.LogFormat.{IsLogFile}
+use Rattle.rm_redo.specs.Online.{IsThread}
 use Rattle.rm_machine.specs.Damage.{has_block, has_file}
 use Rattle.rm_machine.specs.Effect.{Artefact, a_log, a_piece, a_set, Made}
 use Rattle.rm_machine.specs.Sound.{IsSound}
@@ -137,7 +138,7 @@ pub record HistoryFits (s : State) (h : List Change) : Type 0 where
   -- each change lies below the end of its incarnation
   pub below : All (λ c. c.scn < end_of (tree s) c.inc) h
   -- each online log that is not lost agrees, and so does each datafile in place of which no block is damaged
-  pub online : (t : ℕ) → 0 < t → t ≤ (ledger s).base.threads → is_lost s.instance.logs t ≡ false → LogAgrees h (log_of (online s t))
+  pub online : (t : ℕ) → IsThread s.instance.logs t → is_lost s.instance.logs t ≡ false → LogAgrees h (log_of (online s t))
   pub place : (f : ℕ) (x : File) → placed s f ≡ Some x → has_file s.instance.damaged x.file ≡ false → BaseAgrees (world s) h (base_of (counted s x))
   -- the bitmaps tell the changes of the current incarnation
   pub tracker : Tell (current_of s) h (now_of s) s.instance.tracker

@@ -1,7 +1,7 @@
 -- The nature of a statement: what it does, and by what. What is said of several forms alike is said of natures, so that each form is told once.
 use Rattle.std.specs.Prelude.{Bool, true, false}
 use Rattle.rm_lang_statement.specs.declared.command.Command.{Command}
-use Rattle.rm_lang_statement.specs.declared.command.Command.TheVariants.{CreateDatabase, CreateDatafile, Write, SwitchLogfile, ArchiveLogCurrent, Mount, OpenPlain, OpenResetlogs, Tracking, ResetDatabase, Restore, Preview, Recover, RecoverTest, RecoverCopy, Backup, BackupLogs, Crosscheck, ValidateAll, ChangeBackup, DeleteObsolete, DeleteBackup, DeleteExpired, ReportObsolete, ReportNeedBackup, ReportSchema, ListIncarnation, ListBackup, ListCopy, ListArchived, ShowAll, Dump, Retention, Parallelism, CatalogName, LoseDatafile, LoseLog, Remove, Damage, Cut, Rename, Corrupt, ListCorruption, BlockRecover}
+use Rattle.rm_lang_statement.specs.declared.command.Command.TheVariants.{CreateDatabase, CreateDatafile, Write, SwitchLogfile, ArchiveLogCurrent, Mount, OpenPlain, OpenResetlogs, Tracking, SwitchThread, ResetDatabase, Restore, Preview, Recover, RecoverTest, RecoverCopy, Backup, BackupLogs, Crosscheck, ValidateAll, ChangeBackup, DeleteObsolete, DeleteBackup, DeleteExpired, ReportObsolete, ReportNeedBackup, ReportSchema, ListIncarnation, ListBackup, ListCopy, ListArchived, ShowAll, Dump, Retention, Parallelism, CatalogName, LoseDatafile, LoseLog, Remove, Damage, Cut, Rename, Corrupt, ListCorruption, BlockRecover}
 use Rattle.rm_machine.specs.declared.nature.Nature.{Nature}
 use Rattle.rm_machine.specs.declared.nature.Nature.TheVariants.{Changes, ChangesByHeld, Mishap, Records, TellsHeld, TellsState, TestsHeld, TriesByHeld, Unbuilt}
 
@@ -16,6 +16,7 @@ nature_of Mount = Changes
 nature_of OpenPlain = Changes
 nature_of OpenResetlogs = Changes
 nature_of (Tracking on) = Changes
+nature_of (SwitchThread thread on) = Changes
 nature_of (ResetDatabase inc) = Changes
 nature_of (Restore file until) = ChangesByHeld
 nature_of (Preview until) = TellsHeld

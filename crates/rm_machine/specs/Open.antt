@@ -1,6 +1,5 @@
 -- ALTER DATABASE OPEN
 use Rattle.std.specs.Prelude.{ℕ, ◌≡◌, ◌==◌, ◌&&◌, not, if◌then◌else◌, Bool, true, false, Option, Some, None, List, [], ◌∷◌}
-use Rattle.std.specs.List.{list_any}
 use Rattle.std.specs.Option.{option_map_or}
 use Rattle.rm_base.specs.declared.refusal.Refusal.{Refusal}
 use Rattle.rm_base.specs.declared.refusal.Refusal.TheVariants.{Rm04, Rm10}
@@ -12,7 +11,7 @@ use Rattle.rm_report.specs.declared.line.Line.TheVariants.{Opened}
 use Rattle.rm_machine.specs.Effect.{Outcome, done, no_effect}
 use Rattle.rm_machine.specs.Marks.{ids_refusal}
 use Rattle.rm_machine.specs.declared.state.State.{State}
-use Rattle.rm_machine.specs.State.{ledger, world, current_of, now_of}
+use Rattle.rm_machine.specs.State.{has_lost, ledger, world, current_of, now_of}
 use Rattle.rm_machine.specs.Tracked.{first_tracker}
 
 -- what stands in place, without the datafiles that do not exist at (i, s)
@@ -36,7 +35,7 @@ opened s at =
 -- The database can be opened as it is: it stands at its end, no online log is lost, and they are its own.
 abbrev pub is_recovered : State → Bool
 is_recovered s =
-    option_map_or (λ at. at == now_of s) s.instance.point false && not (list_any (λ l. l.is_lost) s.instance.logs.threads) && (s.instance.logs.inc == current_of s)
+    option_map_or (λ at. at == now_of s) s.instance.point false && not (has_lost s.instance.logs) && (s.instance.logs.inc == current_of s)
 
 -- why it is refused
 abbrev pub open_refusal : State → Option Refusal

@@ -4,10 +4,11 @@ use Rattle.std.specs.Option.{option_map_or}
 use Rattle.rm_base.specs.declared.refusal.Refusal.{Refusal}
 use Rattle.rm_base.specs.declared.refusal.Refusal.TheVariants.{Rm04, Rm10, Rm11}
 use Rattle.rm_base.specs.declared.refusal.Limit.TheVariants.{Incarnations}
-use Rattle.rm_redo.specs.Online.{fresh_logs}
+use Rattle.rm_redo.specs.Online.{begun_logs}
 use Rattle.rm_report.specs.declared.line.Line.{Line}
 use Rattle.rm_report.specs.declared.line.Line.TheVariants.{Opened}
 use Rattle.rm_catalog_typed.specs.Changes.{with_base, with_incarnation}
+use Rattle.rm_catalog_typed.specs.Switches.{enabled_at}
 use Rattle.rm_catalog_typed.specs.TypedCatalog.{TypedCatalog}
 use Rattle.rm_machine.specs.Archive.{after_all, archiving, archiving_refusal, lines_from}
 use Rattle.rm_machine.specs.Effect.{Outcome, done}
@@ -35,20 +36,21 @@ abbrev pub with_branched_off : State → ℕ → TypedCatalog
 with_branched_off s at =
     with_base (with_incarnation s.catalog (current_of s) at (ledger s).base.moment) (record (ledger s).base { current = next_incarnation s })
 
--- the database opened there as the new incarnation: its logs begin anew, with sequence 1 at that SCN, and changes are tracked anew
+-- the database opened there as the new incarnation: the logs of the threads that are enabled there begin anew, with sequence 1 at that
+-- SCN, and changes are tracked anew
 abbrev pub branched_off : State → ℕ → State
 branched_off s at =
     record {
       catalog = with_branched_off s at;
       instance = record (opened s at).instance {
-        logs = fresh_logs (ledger s).base.dbid (next_incarnation s) (ledger s).base.threads at;
+        logs = begun_logs (ledger s).base.dbid (next_incarnation s) (enabled_at (with_branched_off s at).ledger (next_incarnation s) at) at;
         tracker = first_tracker true (with_branched_off s at).ledger;
       };
     }
 
 -- the line of each log that is archived, and that of the opening
 abbrev pub resetlogs_lines : State → ℕ → List Line
-resetlogs_lines s at = lines_from false s 1 (ledger s).base.threads ++ Opened (next_incarnation s) at ∷ []
+resetlogs_lines s at = lines_from false s 1 4 ++ Opened (next_incarnation s) at ∷ []
 
 -- it archives what there is of each log, and opens the database at its point as a new incarnation
 abbrev pub IsResetlogsOutcome : State → Outcome → Type 0

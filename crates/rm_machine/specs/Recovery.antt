@@ -27,20 +27,20 @@ use Rattle.rm_catalog_typed.specs.TypedCatalog.{records_of}
 use Rattle.rm_machine.specs.Damage.{undamaged}
 use Rattle.rm_machine.specs.Effect.{Outcome, refused}
 use Rattle.rm_machine.specs.declared.state.State.{State}
-use Rattle.rm_machine.specs.State.{ledger, counted, online, is_lost}
+use Rattle.rm_machine.specs.State.{counted, online, is_online}
 
 -- why the target (i, at) is refused: it lies outside the incarnation
 abbrev pub range_refusal : List Incarnation → ℕ → ℕ → Option Refusal
 range_refusal ns i at = option_map (λ x. Rm06 at x.0 x.1) (outside ns i at)
 
--- the online logs of n threads from t on that are not lost
+-- the online logs of n threads from t on, where they are there and not lost
 abbrev pub online_logs : State → ℕ → ℕ → List LogFile
 online_logs s t zero = []
-online_logs s t (suc n) = (if is_lost s.instance.logs t then [] else online s t ∷ []) ++ online_logs s (t + 1) n
+online_logs s t (suc n) = (if is_online s.instance.logs t then online s t ∷ [] else []) ++ online_logs s (t + 1) n
 
 -- what is in place, and not lost; a datafile of which a block is damaged counts as lost
 abbrev pub in_place : State → InPlace
-in_place s = record { files = map (counted s) (filter_map (λ o. o) (undamaged s.instance.damaged 1 s.instance.place)); logs = online_logs s 1 (ledger s).base.threads }
+in_place s = record { files = map (counted s) (filter_map (λ o. o) (undamaged s.instance.damaged 1 s.instance.place)); logs = online_logs s 1 4 }
 
 -- The evidence is what is at hand: what the store has of the records that count as available, and what is in
 -- place.

@@ -2,9 +2,11 @@
 use Rattle.std.specs.Prelude.{ℕ, ◌≡◌, ◌==◌, ◌||◌, nat_lt, if◌then◌else◌, false, Option, Some, None, [], ◌∷◌, length}
 use Rattle.rm_base.specs.declared.refusal.Refusal.{Refusal}
 use Rattle.rm_base.specs.declared.refusal.Refusal.TheVariants.{Rm04, Rm07}
+use Rattle.rm_history.specs.Tree.{end_of}
 use Rattle.rm_redo.specs.Online.{counted_as}
 use Rattle.rm_report.specs.declared.line.Line.TheVariants.{Chosen}
 use Rattle.rm_catalog_typed.specs.Changes.{with_base}
+use Rattle.rm_catalog_typed.specs.Switches.{enabled_at}
 use Rattle.rm_machine.specs.Effect.{Outcome, done, no_effect}
 use Rattle.rm_machine.specs.Marks.{ids_refusal}
 use Rattle.rm_machine.specs.declared.state.State.{State}
@@ -22,7 +24,7 @@ abbrev pub at_incarnation : State → ℕ → State
 at_incarnation s i =
     record {
       catalog = with_base s.catalog (record (ledger s).base { current = i });
-      instance = record s.instance { point = None; logs = counted_as s.instance.logs i };
+      instance = record s.instance { point = None; logs = counted_as s.instance.logs i (enabled_at (ledger s) i (end_of (tree s) i)) };
     }
 
 abbrev pub IsResetOutcome : State → ℕ → Outcome → Type 0

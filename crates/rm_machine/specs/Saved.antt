@@ -6,6 +6,7 @@ use Rattle.rm_catalog.specs.declared.record.PartEntry.{PartEntry}
 use Rattle.rm_history.specs.declared.world.Datafile.{Datafile}
 use Rattle.rm_history.specs.Tree.{IsThere, reset_of, end_of}
 use Rattle.rm_catalog_typed.specs.Ledger.{Ledger}
+use Rattle.rm_catalog_typed.specs.Switches.{is_enabled_in}
 use Rattle.rm_evidence.specs.Names.{site_name}
 use Rattle.rm_evidence.specs.Objects.{HasDigest}
 use Rattle.rm_piece.specs.declared.piece.Piece.{Piece}
@@ -46,14 +47,15 @@ pub record FitsInPlace (l : Ledger) (opened : Bool) (f : ℕ) (d : Datafile) (a 
 abbrev pub IsOfBlock : List Datafile → LogRecord → Type 0
 IsOfBlock files r = IsSomeAnd (slice_get files (r.file - 1)) (λ d. r.block < d.blocks)
 
--- The log could be the online log of thread t: it is of an incarnation that is there, up to its end, and tells of blocks
--- that are there. In a site that was open it is of the current incarnation.
+-- The log could be the online log of thread t: it is of an incarnation that is there, up to its end, at which the thread is enabled, and
+-- tells of blocks that are there. In a site that was open it is of the current incarnation.
 pub record FitsOnline (l : Ledger) (opened : Bool) (t : ℕ) (a : LogFile) : Type 0 where
   pub dbid : a.dbid ≡ l.base.dbid
   pub thread : a.thread ≡ t
   pub there : IsThere l.tree a.inc
   pub first : reset_of l.tree a.inc ≤ a.first
   pub next : a.next ≡ end_of l.tree a.inc
+  pub enabled : is_enabled_in l a.inc (end_of l.tree a.inc) t ≡ true
   pub records : All (IsOfBlock l.files) a.records
   pub in_open : opened ≡ true → a.inc ≡ l.base.current
 

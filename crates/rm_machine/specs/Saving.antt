@@ -1,5 +1,5 @@
 -- What a session saves at its end: each datafile in place, and each online log that is not lost.
-use Rattle.std.specs.Prelude.{ℕ, ◌≡◌, ◌+◌, if◌then◌else◌, MatchBool, Option, Some, None, List, [], ◌∷◌, ◌++◌, length, map}
+use Rattle.std.specs.Prelude.{ℕ, ◌≡◌, ◌+◌, ◌&&◌, not, if◌then◌else◌, MatchBool, Option, Some, None, List, [], ◌∷◌, ◌++◌, length, map}
 use Rattle.std.specs.Option.{option_map, option_map_or}
 use Rattle.sha2.specs.Sha256.{sha256}
 use Rattle.rm_blocks.specs.File.{File}
@@ -11,8 +11,9 @@ use Rattle.rm_evidence.specs.Gathered.{placed_piece}
 use Rattle.rm_evidence.specs.Names.{site_name}
 use Rattle.rm_redo.specs.declared.online.ThreadLog.{ThreadLog}
 use Rattle.rm_redo.specs.Logs.{Logs}
-use Rattle.rm_redo.specs.Online.{counted_as, lost_log}
+use Rattle.rm_redo.specs.Online.{counted_as, lost_log, no_log}
 use Rattle.rm_catalog_typed.specs.Changes.{with_base, with_saved}
+use Rattle.rm_catalog_typed.specs.Switches.{enabled_at}
 use Rattle.rm_catalog_typed.specs.TypedCatalog.{TypedCatalog, Saved}
 use Rattle.rm_machine.specs.declared.state.State.{State}
 use Rattle.rm_machine.specs.Damage.{without_damaged}
@@ -21,7 +22,7 @@ use Rattle.rm_machine.specs.Machine.{Machine}
 use Rattle.rm_machine.specs.Marks.{lacks_ids}
 use Rattle.rm_machine.specs.Rest.{Rest, at_rest}
 use Rattle.rm_machine.specs.Saved.{spelling_of}
-use Rattle.rm_machine.specs.State.{ledger, current_of, counted, online}
+use Rattle.rm_machine.specs.State.{ledger, current_of, now_of, counted, online}
 use Rattle.rm_machine.specs.Tracked.{first_tracker}
 
 -- a part: of a datafile, and then thread is 0, or of a redo thread, and then file is 0
@@ -39,7 +40,7 @@ file_parts s f (Some x ∷ place) = record { file = f; thread = 0; artefact = a_
 -- from thread t on
 abbrev pub log_parts : State → ℕ → List ThreadLog → List SitePart
 log_parts s t [] = []
-log_parts s t (l ∷ logs) = (if l.is_lost then [] else record { file = 0; thread = t; artefact = a_log (online s t) } ∷ []) ++ log_parts s (t + 1) logs
+log_parts s t (l ∷ logs) = (if l.is_there && not l.is_lost then record { file = 0; thread = t; artefact = a_log (online s t) } ∷ [] else []) ++ log_parts s (t + 1) logs
 
 abbrev pub parts_of : State → List SitePart
 parts_of s = file_parts s 1 s.instance.place ++ log_parts s 1 s.instance.logs.threads
@@ -84,12 +85,13 @@ abbrev pub IsSavedBy : Option State → Machine → Rest → Type 0
 IsSavedBy None m r = r ≡ at_rest m
 IsSavedBy (Some s) m r = MatchBool (lacks_ids s 0) (r ≡ at_rest m) (IsSavedAs m (without_damaged s) r)
 
+-- the log of a thread, of which nothing is known where it is lost
 abbrev pub a_log_kept : ThreadLog → ThreadLog
-a_log_kept l = if l.is_lost then lost_log else l
+a_log_kept l = if l.is_there then (if l.is_lost then lost_log else l) else no_log
 
 -- what the next session loads of it: the same, with what is in place as it counts, nothing known of lost logs, and changes tracked anew
 abbrev pub saved_logs : State → Logs
-saved_logs s = counted_as (record s.instance.logs { threads = map a_log_kept s.instance.logs.threads }) (current_of s)
+saved_logs s = counted_as (record s.instance.logs { threads = map a_log_kept s.instance.logs.threads }) (current_of s) (enabled_at (ledger s) (current_of s) (now_of s))
 
 abbrev pub rested : State → State
 rested s =

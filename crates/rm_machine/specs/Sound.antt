@@ -9,9 +9,12 @@ use Rattle.rm_history.specs.Tree.{IsThere, reset_of, end_of}
 use Rattle.rm_history.specs.World.{exists}
 use Rattle.rm_redo.specs.declared.log_file.LogFile.{LogFile}
 use Rattle.rm_redo.specs.LogFormat.{IsLogFile}
+use Rattle.rm_redo.specs.declared.online.ThreadLog.{ThreadLog}
+use Rattle.rm_redo.specs.Online.{IsThread, has_log, no_log}
 use Rattle.rm_catalog_typed.specs.Facts.{IsTypedCatalog}
+use Rattle.rm_catalog_typed.specs.Switches.{is_enabled_in}
 use Rattle.rm_machine.specs.declared.state.State.{State}
-use Rattle.rm_machine.specs.State.{ledger, tree, world, current_of, now_of, counted, online, is_lost}
+use Rattle.rm_machine.specs.State.{ledger, tree, world, current_of, now_of, counted, online, redo_end, is_lost}
 use Rattle.rm_machine.specs.Damage.{AreDamaged}
 use Rattle.rm_machine.specs.Tracked.{AreTracked}
 
@@ -41,17 +44,24 @@ pub record IsOnline (ns : List Incarnation) (l : LogFile) : Type 0 where
   pub valid : IsLogFile l
   pub begun : reset_of ns l.inc ≤ l.first
 
--- each thread has its log, of the database and of an incarnation that is there; the logs that are not lost fit
+-- where the thread is not there, nothing stands in its place
+abbrev pub IsGone : ThreadLog → Type 0
+IsGone l = l.is_there ≡ false → l ≡ no_log
+
+-- The logs are of the database and of an incarnation that is there. Those of the threads 1 to 4 have one that are enabled at its end, and
+-- those that are not lost fit.
 pub record AreOnline (s : State) : Type 0 where
   pub dbid : s.instance.logs.dbid ≡ (ledger s).base.dbid
   pub there : IsThere (tree s) s.instance.logs.inc
-  pub threads : length s.instance.logs.threads ≡ (ledger s).base.threads
-  pub each : (t : ℕ) → 0 < t → t ≤ (ledger s).base.threads → is_lost s.instance.logs t ≡ false → IsOnline (tree s) (online s t)
+  pub four : length s.instance.logs.threads ≡ 4
+  pub threads : (t : ℕ) → 0 < t → t ≤ 4 → has_log s.instance.logs t ≡ is_enabled_in (ledger s) s.instance.logs.inc (redo_end s) t
+  pub gone : All IsGone s.instance.logs.threads
+  pub each : (t : ℕ) → IsThread s.instance.logs t → is_lost s.instance.logs t ≡ false → IsOnline (tree s) (online s t)
 
 -- an open database writes redo of its current incarnation, lost no log, and has no point
 pub record IsOpen (s : State) : Type 0 where
   pub inc : s.instance.logs.inc ≡ current_of s
-  pub found : (t : ℕ) → 0 < t → t ≤ (ledger s).base.threads → is_lost s.instance.logs t ≡ false
+  pub found : (t : ℕ) → IsThread s.instance.logs t → is_lost s.instance.logs t ≡ false
   pub point : s.instance.point ≡ None
 
 -- the datafile stands in place at (i, at), above all its versions

@@ -1,5 +1,6 @@
 -- What a database at hand shows: its incarnations, what stands in place, and its logs.
-use Rattle.std.specs.Prelude.{ℕ, ◌-◌, if◌then◌else◌, Bool, false, Option, Some, None, List, slice_get, slice_index_or}
+use Rattle.std.specs.Prelude.{ℕ, ◌-◌, ◌==◌, ◌&&◌, ◌||◌, not, if◌then◌else◌, Bool, false, Option, Some, None, List, slice_get, slice_index_or}
+use Rattle.std.specs.List.{list_any}
 use Rattle.std.specs.Option.{option_and_then, option_map_or}
 use Rattle.rm_blocks.specs.File.{File, standing}
 use Rattle.rm_history.specs.declared.tree.Incarnation.{Incarnation}
@@ -8,10 +9,12 @@ use Rattle.rm_history.specs.declared.world.World.{World}
 use Rattle.rm_history.specs.Tree.{end_of}
 use Rattle.rm_history.specs.World.{file_of, exists}
 use Rattle.rm_catalog_typed.specs.Ledger.{Ledger}
+use Rattle.rm_catalog_typed.specs.Switches.{switches_of}
 use Rattle.rm_evidence.specs.Database.{Database}
 use Rattle.rm_redo.specs.declared.log_file.LogFile.{LogFile}
 use Rattle.rm_redo.specs.LogFile.{log_file_of}
 use Rattle.rm_redo.specs.Logs.{Logs}
+use Rattle.rm_redo.specs.Online.{has_log}
 use Rattle.rm_machine.specs.declared.state.State.{State}
 use Rattle.rm_catalog_typed.specs.Changes.{with_moment, without_saved}
 
@@ -25,7 +28,7 @@ tree s = s.catalog.ledger.tree
 
 -- the database as recovery knows it
 abbrev pub world_of : Ledger → World
-world_of l = record { tree = l.tree; threads = l.base.threads; files = l.files }
+world_of l = record { tree = l.tree; threads = l.base.threads; switches = switches_of l; files = l.files }
 
 -- the database with which the objects of its sets are compared
 abbrev pub database_of : Ledger → Database
@@ -61,6 +64,18 @@ online s t = log_file_of s.instance.logs t (redo_end s)
 -- the log of the thread is lost
 abbrev pub is_lost : Logs → ℕ → Bool
 is_lost logs t = option_map_or (λ l. l.is_lost) (slice_get logs.threads (t - 1)) false
+
+-- the thread has an online log that is not lost
+abbrev pub is_online : Logs → ℕ → Bool
+is_online logs t = has_log logs t && not (is_lost logs t)
+
+-- a log is lost
+abbrev pub has_lost : Logs → Bool
+has_lost logs = list_any (λ l. l.is_there && l.is_lost) logs.threads
+
+-- no redo thread of this number has an online log, lost or not
+abbrev pub is_no_thread : State → ℕ → Bool
+is_no_thread s t = (t == 0) || not (has_log s.instance.logs t)
 
 -- the datafile of this number, where it exists at (i, at)
 abbrev pub datafile_at : State → ℕ → ℕ → ℕ → Option Datafile

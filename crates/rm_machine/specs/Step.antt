@@ -1,12 +1,12 @@
 -- One step of the machine, and runs.
-use Rattle.std.specs.Prelude.{ℕ, ◌≡◌, true, Option, Some, None, List, [], ◌∷◌, ◌++◌, All, length}
+use Rattle.std.specs.Prelude.{ℕ, ◌≡◌, true, false, Option, Some, None, List, [], ◌∷◌, ◌++◌, All, length}
 use Rattle.rm_base.specs.Store.{Held}
 use Rattle.rm_base.specs.declared.block.Change.{Change}
 use Rattle.rm_base.specs.declared.kinds.Class.TheVariants as class
 use Rattle.rm_base.specs.declared.refusal.Refusal.{Refusal}
 use Rattle.rm_base.specs.declared.refusal.Refusal.TheVariants.{Rm02, Rm03}
 use Rattle.rm_lang_statement.specs.declared.command.Command.{Command}
-use Rattle.rm_lang_statement.specs.declared.command.Command.TheVariants.{ArchiveLogCurrent, Backup, BackupLogs, BlockRecover, CatalogName, ChangeBackup, Corrupt, CreateDatabase, CreateDatafile, Crosscheck, Cut, Damage, DeleteBackup, DeleteExpired, DeleteObsolete, Dump, ListArchived, ListBackup, ListCopy, ListCorruption, ListIncarnation, LoseDatafile, LoseLog, Mount, OpenPlain, OpenResetlogs, Parallelism, Preview, Recover, RecoverCopy, RecoverTest, Remove, Rename, ReportNeedBackup, ReportObsolete, ReportSchema, ResetDatabase, Restore, Retention, ShowAll, SwitchLogfile, Tracking, ValidateAll, Write}
+use Rattle.rm_lang_statement.specs.declared.command.Command.TheVariants.{ArchiveLogCurrent, Backup, BackupLogs, BlockRecover, CatalogName, ChangeBackup, Corrupt, CreateDatabase, CreateDatafile, Crosscheck, Cut, Damage, DeleteBackup, DeleteExpired, DeleteObsolete, Dump, ListArchived, ListBackup, ListCopy, ListCorruption, ListIncarnation, LoseDatafile, LoseLog, Mount, OpenPlain, OpenResetlogs, Parallelism, Preview, Recover, RecoverCopy, RecoverTest, Remove, Rename, ReportNeedBackup, ReportObsolete, ReportSchema, ResetDatabase, Restore, Retention, ShowAll, SwitchLogfile, SwitchThread, Tracking, ValidateAll, Write}
 use Rattle.rm_lang_statement.specs.IsCommand.{is_command}
 use Rattle.rm_report.specs.Reply as reply
 use Rattle.rm_report.specs.declared.line.Reply.{Reply}
@@ -23,10 +23,12 @@ use Rattle.rm_machine.specs.Corrupt.{corrupt_refusal, IsCorruptOutcome, IsCorrup
 use Rattle.rm_machine.specs.CreateDatabase.{IsCreateOutcome}
 use Rattle.rm_machine.specs.CreateDatafile.{datafile_refusal, IsDatafileOutcome}
 use Rattle.rm_machine.specs.Mishaps.{IsCutOutcome, IsDamageOutcome, IsRemoveOutcome, IsRenameOutcome}
+use Rattle.rm_machine.specs.DisableThread.{disable_refusal, IsDisableOutcome}
 use Rattle.rm_machine.specs.Dump.{dump_refusal, IsDumpOutcome}
 use Rattle.rm_machine.specs.Effect.{Effect, LeavesObjects, Outcome, refused, told, done}
 use Rattle.rm_machine.specs.ListIncarnation.{IsListIncarnationOutcome}
 use Rattle.rm_machine.specs.Lists.{IsListOutcome}
+use Rattle.rm_machine.specs.EnableThread.{enable_refusal, IsEnableOutcome}
 use Rattle.rm_machine.specs.LoseDatafile.{lose_refusal, IsLoseOutcome}
 use Rattle.rm_machine.specs.LoseLog.{lose_log_refusal, IsLoseLogOutcome}
 use Rattle.rm_machine.specs.Machine.{Machine}
@@ -97,6 +99,8 @@ refusal_of s (Damage name at) = ids_refusal s
 refusal_of s (Cut name to) = ids_refusal s
 refusal_of s (Rename old new) = ids_refusal s
 refusal_of s (Tracking on) = ids_refusal s
+refusal_of s (SwitchThread t true) = enable_refusal s t
+refusal_of s (SwitchThread t false) = disable_refusal s t
 refusal_of s ValidateAll = None
 refusal_of s ReportObsolete = None
 refusal_of s ReportNeedBackup = None
@@ -154,6 +158,8 @@ IsDone s held (Cut name to) o = IsCutOutcome s held name to o
 IsDone s held (Rename old new) o = IsRenameOutcome s held old new o
 IsDone s held (CreateDatabase dbid threads scn) o = ⊥
 IsDone s held (Tracking on) o = IsTrackingOutcome s on o
+IsDone s held (SwitchThread t true) o = IsEnableOutcome s t o
+IsDone s held (SwitchThread t false) o = IsDisableOutcome s t o
 IsDone s held (CatalogName name) o = IsCatalogOutcome s held name o
 
 abbrev pub IsOutcomeBy : Option Refusal → State → Held → Command → Outcome → Type 0
@@ -185,6 +191,7 @@ names_in Mount = []
 names_in OpenPlain = []
 names_in OpenResetlogs = []
 names_in (Tracking on) = []
+names_in (SwitchThread thread on) = []
 names_in (ResetDatabase inc) = []
 names_in (Restore file until) = []
 names_in (Preview until) = []
@@ -234,6 +241,7 @@ Means (Some s) h held Mount o after = Unit {0}
 Means (Some s) h held OpenPlain o after = Unit {0}
 Means (Some s) h held OpenResetlogs o after = Unit {0}
 Means (Some s) h held (Tracking on) o after = Unit {0}
+Means (Some s) h held (SwitchThread thread on) o after = Unit {0}
 Means (Some s) h held (ResetDatabase inc) o after = Unit {0}
 Means (Some s) h held (Restore file until) o after = Unit {0}
 Means (Some s) h held (Preview until) o after = Unit {0}

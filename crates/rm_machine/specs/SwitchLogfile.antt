@@ -1,5 +1,5 @@
 -- ALTER SYSTEM SWITCH LOGFILE [THREAD t]
-use Rattle.std.specs.Prelude.{ℕ, ◌≡◌, ◌+◌, ◌*◌, ◌==◌, ◌||◌, ◌&&◌, not, nat_lt, nat_le, if◌then◌else◌, Bool, true, false, Option, Some, None, List, [], ◌∷◌, length}
+use Rattle.std.specs.Prelude.{ℕ, ◌≡◌, ◌+◌, ◌*◌, ◌&&◌, nat_lt, nat_le, if◌then◌else◌, Bool, true, false, Option, Some, None, List, [], ◌∷◌, length}
 use Rattle.sha2.specs.Sha256.{sha256}
 use Rattle.rm_base.specs.declared.kinds.Status.TheVariants.{Available}
 use Rattle.rm_base.specs.declared.refusal.Refusal.{Refusal}
@@ -17,11 +17,11 @@ use Rattle.rm_machine.specs.Effect.{Outcome, done, a_log, Effect, no_effect}
 use Rattle.rm_report.specs.declared.line.Line.{Line}
 use Rattle.rm_machine.specs.Marks.{ids_refusal, lacks_bytes, lacks_ids, lacks_room}
 use Rattle.rm_machine.specs.declared.state.State.{State}
-use Rattle.rm_machine.specs.State.{ledger, redo_end, online, is_lost}
+use Rattle.rm_machine.specs.State.{ledger, redo_end, online, is_no_thread, is_online}
 
--- the thread has something to archive: its log is there, and its range is not empty
+-- the thread has something to archive: its log is there and not lost, and its range is not empty
 abbrev pub is_due : State → ℕ → Bool
-is_due s t = not (is_lost s.instance.logs t) && nat_lt (first_of s.instance.logs t) (redo_end s)
+is_due s t = is_online s.instance.logs t && nat_lt (first_of s.instance.logs t) (redo_end s)
 
 -- the size of the log of a thread as a file: 70 bytes, and 80 for each record
 abbrev pub log_bytes : State → ℕ → ℕ
@@ -40,7 +40,7 @@ archive_refusal s t =
 abbrev pub switch_refusal : State → ℕ → Option Refusal
 switch_refusal s t =
     if s.instance.is_open then
-    (if (t == 0) || nat_lt (ledger s).base.threads t then Some (Rm05 (Thread t))
+    (if is_no_thread s t then Some (Rm05 (Thread t))
     else if is_due s t then archive_refusal s t
     else ids_refusal s)
     else Some (Rm04 true)

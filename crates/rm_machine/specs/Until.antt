@@ -1,5 +1,5 @@
 -- Where an UNTIL leads: to an SCN of an incarnation, or nowhere.
-use Rattle.std.specs.Prelude.{ℕ, ◌==◌, ◌&&◌, ◌||◌, nat_lt, if◌then◌else◌, Bool, Option, Some, None, List, filter, find, unwrap_or}
+use Rattle.std.specs.Prelude.{ℕ, ◌==◌, ◌&&◌, ◌||◌, if◌then◌else◌, Bool, Option, Some, None, List, filter, find, unwrap_or}
 use Rattle.std.specs.Option.{option_map, option_map_or}
 use Rattle.rm_base.specs.declared.block.Mark.{Mark}
 use Rattle.rm_base.specs.declared.refusal.Absent.TheVariants.{Thread}
@@ -14,16 +14,12 @@ use Rattle.rm_lang_statement.specs.declared.command.Until.{Until}
 use Rattle.rm_lang_statement.specs.declared.command.Until.TheVariants.{Scn, Sequence, Time}
 use Rattle.rm_machine.specs.Meant.{moment_meant}
 use Rattle.rm_machine.specs.declared.state.State.{State}
-use Rattle.rm_machine.specs.State.{is_lost, ledger, online, tree}
+use Rattle.rm_machine.specs.State.{is_lost, is_no_thread, ledger, online, tree}
 
 -- the first option that has a value
 abbrev pub or_else : {X : Type 0} → Option X → Option X → Option X
 or_else None o = o
 or_else (Some x) o = Some x
-
--- no redo thread has this number
-abbrev pub is_no_thread : State → ℕ → Bool
-is_no_thread s t = (t == 0) || nat_lt (ledger s).base.threads t
 
 -- the record is that of log n of thread t of incarnation i
 abbrev pub is_log : ℕ → ℕ → ℕ → LogEntry → Bool
@@ -60,7 +56,7 @@ target_of s i (Some (Scn at)) = Some at
 target_of s i (Some (Sequence n t)) = log_first s i t n
 target_of s i (Some (Time text)) = scn_at s i (moment_in s text)
 
--- why an UNTIL is refused at once: its redo thread is not there
+-- why an UNTIL is refused at once: its redo thread has no online log
 abbrev pub thread_refusal : State → Option Until → Option Refusal
 thread_refusal s (Some (Sequence n t)) = if is_no_thread s t then Some (Rm05 (Thread t)) else None
 thread_refusal s _ = None

@@ -1,5 +1,5 @@
 -- WRITE [THREAD t] DATAFILE f BLOCK b VALUE 'v'
-use Rattle.std.specs.Prelude.{◌≡◌, ◌-◌, ◌==◌, ◌||◌, nat_lt, nat_le, if◌then◌else◌, is_none, true, Option, Some, None, [], ◌∷◌, length, slice_set}
+use Rattle.std.specs.Prelude.{◌≡◌, ◌-◌, nat_le, if◌then◌else◌, is_none, true, Option, Some, None, [], ◌∷◌, length, slice_set}
 use Rattle.std.specs.Option.{option_map, option_map_or}
 use Rattle.rm_base.specs.Numbers.{last_scn}
 use Rattle.rm_base.specs.declared.block.Change.{Change}
@@ -17,9 +17,9 @@ use Rattle.rm_machine.specs.Effect.{Outcome, done, no_effect}
 use Rattle.rm_machine.specs.Damage.{has_block}
 use Rattle.rm_machine.specs.Marks.{lacks_ids, lacks_room, marks_before, one_further}
 use Rattle.rm_machine.specs.declared.state.State.{State}
-use Rattle.rm_machine.specs.State.{ledger, current_of, now_of, on_path, placed}
+use Rattle.rm_machine.specs.State.{current_of, is_no_thread, now_of, on_path, placed}
 
--- why it is refused, where its thread and its datafile are there
+-- why it is refused, where its thread has an online log and its datafile is there
 abbrev pub block_refusal : State → WriteForm → Datafile → Option Refusal
 block_refusal s w d =
     if nat_le d.blocks w.block then Some (Rm05 (Block w.block w.file))
@@ -34,7 +34,7 @@ block_refusal s w d =
 -- why it is refused in an open database
 abbrev pub place_refusal : State → WriteForm → Option Refusal
 place_refusal s w =
-    if (w.thread == 0) || nat_lt (ledger s).base.threads w.thread then Some (Rm05 (Thread w.thread))
+    if is_no_thread s w.thread then Some (Rm05 (Thread w.thread))
     else option_map_or (block_refusal s w) (on_path s w.file) (Some (Rm05 (File w.file)))
 
 -- why it is refused
