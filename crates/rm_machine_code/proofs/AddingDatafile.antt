@@ -1,18 +1,16 @@
 -- CREATE DATAFILE: there is room, and the new datafile fits.
-use Rattle.std.proofs.Common.{◌≡◌, ◌<◌, ◌≤◌, ◌+◌, ◌-◌, inl, inr, ℕ, List, None, arith, length, length-append, sum_by, rules}
-use Rattle.std.proofs.lemmas.List.{length-set}
+use Rattle.std.proofs.Common.{◌≡◌, ◌<◌, ◌≤◌, ◌+◌, inl, inr, ℕ, List, None, arith, length, sum_by, rules}
 use Rattle.rm_history.specs.declared.tree.Incarnation.{Incarnation}
 use Rattle.rm_history.specs.declared.world.Datafile.{Datafile}
 use Rattle.rm_history.specs.Tree.{IsThere, reset_of}
 use Rattle.rm_catalog_typed.specs.Ledger.{ledger_records}
 use Rattle.rm_catalog_typed.specs.Fitting.{FitsFile, HasRoomFor}
-use Rattle.rm_catalog_typed.proofs.Fitted.{many}
 use Rattle.rm_machine.specs.CreateDatafile.{datafile_refusal, new_datafile, with_datafile}
 use Rattle.rm_machine.specs.Marks.{marks_before, one_further}
 use Rattle.rm_machine.specs.Sound.{IsSound}
 use Rattle.rm_machine.specs.declared.state.State.{State}
 use Rattle.rm_machine.specs.State.{ledger, current_of, now_of}
-use Rattle.rm_machine_code.proofs.Further.{GoesOn, further, keeps-further, now-further, roomy-either}
+use Rattle.rm_machine_code.proofs.Further.{GoesOn, count-further, further, keeps-further, now-further, roomy-either}
 
 -- A CREATE DATAFILE that was not refused
 
@@ -71,9 +69,7 @@ module _ (s : State) (blocks : ℕ) (sound : IsSound s) (a : HasRoom s blocks) (
       (omega (arith, range.0, range.1), omega (arith, range.1, (keeps-further s sound a.on).reset i there))
 
   room-for : HasRoomFor (one_further s) 1
-  room-for =
-      let long : length tree ≡ length s.catalog.ledger.tree = length-set s.catalog.ledger.tree (i - 1) _ in
-      omega (arith, many s.catalog.ledger, many p.catalog.ledger, long, length-append s.catalog.ledger.marks (marks_before s), a.room)
+  room-for = omega (arith, count-further s sound a.on, a.room)
 
   pub datafile-fits : FitsFile (one_further s) d
   datafile-fits =

@@ -26,6 +26,8 @@ use Rattle.rm_live.specs.History.{IsLegal}
 use Rattle.rm_live.specs.Ruled.{upto}
 use Rattle.rm_live.proofs.Totals.{length_upto}
 use Rattle.rm_piece.specs.Level1s.{IsRead}
+use Rattle.rm_redo.specs.Logs.{Logs}
+use Rattle.rm_redo.specs.Online.{IsThread}
 use Rattle.rm_piece.specs.Valid.{IsBefore}
 use Rattle.rm_lang_grammar.specs.Grammar.{in_range}
 use Rattle.rm_lang_grammar.specs.Spelling.{maybe_valid}
@@ -124,7 +126,7 @@ sound-tracker q ts is tracked = record {
   catalog = is.catalog;
   dbid = is.dbid;
   place = record { many = is.place.many; each = is.place.each };
-  logs = record { dbid = is.logs.dbid; there = is.logs.there; threads = is.logs.threads; each = is.logs.each };
+  logs = record { dbid = is.logs.dbid; there = is.logs.there; four = is.logs.four; threads = is.logs.threads; gone = is.logs.gone; each = is.logs.each };
   damaged = damaged-same q (with_tracker q ts) is.damaged;
   tracker = tracked;
   in_open = λ opened. let was = is.in_open opened in record { inc = was.inc; found = was.found; point = was.point };
@@ -146,9 +148,8 @@ can-begun : (s : State) (b : BackupForm) (ws : List WriteForm) → All (CanBeWri
 can-begun s b ws all =
     All-weaker (CanBeWritten s) (CanBeWritten (begun s b))
     (λ w it.
-    let threads = marked-same (λ (q : State). (ledger q).base.threads) s b refl in
     record {
-      thread = (it.thread.0, omega (arith, it.thread.1, threads));
+      thread = subst (λ (logs : Logs). IsThread logs w.thread) (sym (marked-same (λ (q : State). q.instance.logs) s b refl)) it.thread;
       datafile = it.datafile;
       is = marked-same (λ (q : State). file_of (world q) w.file) s b refl ∙ it.is;
       here = marked-same (λ (q : State). exists (world q) (current_of q) (now_of q) it.datafile) s b refl ∙ it.here;
@@ -230,7 +231,7 @@ module _ (s : State) (b : BackupForm) (contents : All (λ (w : WriteForm). lengt
   }
 
   pub asked : AreAsked ws events
-  asked = are-asked ws (ledger s).base.threads (map (span_of u) jobs) rows scns events these
+  asked = are-asked ws 4 (map (span_of u) jobs) rows scns events these
 
   pub walked : HasWalked u ws events t
   walked = walk ws events u goes-on legal asked

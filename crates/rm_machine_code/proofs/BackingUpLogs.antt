@@ -27,19 +27,19 @@ use Rattle.rm_machine_code.proofs.NewObjects.{count-logged}
 -- the log of a record can be recorded again
 pub record CanRecord (s : State) (a : LogFile) : Type 0 where
   pub valid : IsLogFile a
-  pub entry : IsLogEntry (tree s) (ledger s).base.threads (copy_entry (0, a))
+  pub entry : IsLogEntry (tree s) (copy_entry (0, a))
 
 pub can-record : (s : State) (e : LogEntry) (a : LogFile) → IsSound s → Contains (ledger s).logs e → IsLogFile a → HasLogFields e a → CanRecord s a
 can-record s e a sound has valid fields =
     let ns = tree s in
-    let is : IsLogEntry ns (ledger s).base.threads e = All-contains (IsLogEntry ns (ledger s).base.threads) (ledger s).logs e sound.catalog.ledger.logs has in
+    let is : IsLogEntry ns e = All-contains (IsLogEntry ns) (ledger s).logs e sound.catalog.ledger.logs has in
     let low : reset_of ns a.inc ≤ e.first = subst (λ i. reset_of ns i ≤ e.first) (sym fields.inc) is.range.0 in
     let high : e.next ≤ end_of ns a.inc = subst (λ i. e.next ≤ end_of ns i) (sym fields.inc) is.range.2 in
     record {
       valid = valid;
       entry = record {
         there = subst (IsThere ns) (sym fields.inc) is.there;
-        thread = subst (λ t. (1 ≤ t) × (t ≤ (ledger s).base.threads)) (sym fields.thread) is.thread;
+        thread = valid.thread;
         sequence = valid.sequence.0;
         range = (omega (arith, fields.first, low), omega (arith, fields.first, fields.next, is.range.1), omega (arith, fields.next, high));
         size = omega (arith, length-body a (fits-log a valid), length-sealed (body_of a), valid.few);

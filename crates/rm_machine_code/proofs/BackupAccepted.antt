@@ -1,5 +1,5 @@
 -- A BACKUP that was not refused.
-use Rattle.std.proofs.Common.{◌≡◌, ◌<◌, ◌≤◌, ◌+◌, ◌==◌, ◌||◌, inl, inr, ℕ, zero, suc, List, [], ◌∷◌, Option, Some, None, true, false, cond, is_none, nat_le, nat_lt, refl, subst, arith, length, sum_by, All, rules}
+use Rattle.std.proofs.Common.{◌≡◌, ◌<◌, ◌≤◌, ◌+◌, inl, inr, ℕ, zero, suc, List, [], ◌∷◌, Option, Some, None, true, false, cond, is_none, nat_le, nat_lt, refl, subst, arith, length, sum_by, All, rules}
 use Rattle.std.specs.Option.{option_map_or}
 use Rattle.std.proofs.lemmas.Bool.{cases_eq, leb-false, ltb-false, or_parts}
 use Rattle.std.proofs.lemmas.List.Elements.{All-cons, All-nil}
@@ -14,24 +14,24 @@ use Rattle.rm_blocks.specs.File.{File}
 use Rattle.rm_history.specs.declared.world.Datafile.{Datafile}
 use Rattle.rm_history.specs.World.{exists, file_of}
 use Rattle.rm_catalog_typed.specs.Ledger.{ledger_records}
-use Rattle.rm_redo.specs.Online.{thread_records as log_records}
+use Rattle.rm_redo.specs.Online.{IsThread, thread_records as log_records}
 use Rattle.rm_lang_statement.specs.declared.command.BackupForm.{BackupForm}
 use Rattle.rm_lang_statement.specs.declared.command.WriteForm.{WriteForm}
 use Rattle.rm_machine.specs.Backup.{absent, lost_taken, object_bytes, objects_of, taken as taken_by}
 use Rattle.rm_machine.specs.Marks.{lacks_bytes, lacks_ids, lacks_room}
 use Rattle.rm_machine.specs.Sound.{IsSound}
 use Rattle.rm_machine.specs.declared.state.State.{State}
-use Rattle.rm_machine.specs.State.{ledger, world, current_of, now_of, on_path, placed}
+use Rattle.rm_machine.specs.State.{ledger, world, current_of, is_no_thread, now_of, on_path, placed}
 use Rattle.rm_machine_code.proofs.Backups.{IsTaken, taken-all}
 use Rattle.rm_machine_code.proofs.Further.{roomy}
 use Rattle.rm_machine_code.proofs.Tracked.{on-path}
 use Rattle.rm_machine.specs.Asked.{by_thread, writes_in}
 use Rattle.rm_machine.specs.BackupRefusal.{absent_in, absent_of, backup_refusal, damage_refusal, lacks_log, lacks_logs, lost_of, mark_count, room_refusal}
-use Rattle.rm_machine_code.proofs.Switching.{thread-of}
+use Rattle.rm_machine_code.proofs.Threads.{thread-of}
 
 -- a write finds its thread, its block, and its datafile in place
 pub record CanBeWritten (s : State) (w : WriteForm) : Type 0 where
-  pub thread : (0 < w.thread) × (w.thread ≤ (ledger s).base.threads)
+  pub thread : IsThread s.instance.logs w.thread
   pub datafile : Datafile
   pub is : file_of (world s) w.file ≡ Some datafile
   pub here : exists (world s) (current_of s) (now_of s) datafile ≡ true
@@ -45,7 +45,7 @@ pub record CanBackUp (s : State) (b : BackupForm) : Type 0 where
   pub records : length (ledger_records (ledger s)) + (length (objects_of s b) + mark_count s b) ≤ 65536
   pub ids : (ledger s).base.next_id + length (objects_of s b) + 68 ≤ 4294967295
   pub writes : All (CanBeWritten s) (writes_in b)
-  pub logs : (t : ℕ) → 0 < t → t ≤ (ledger s).base.threads → length (log_records s.instance.logs t) + length (by_thread t (writes_in b)) ≤ 65536
+  pub logs : (t : ℕ) → 0 < t → t ≤ 4 → length (log_records s.instance.logs t) + length (by_thread t (writes_in b)) ≤ 65536
   pub scns : now_of s + length (writes_in b) ≤ last_scn
   pub clean : damage_refusal s b ≡ None
 
@@ -53,7 +53,7 @@ pub record CanBackUp (s : State) (b : BackupForm) : Type 0 where
 
 -- its thread, its datafile and its block are there; the datafile may be lost
 pub record IsNamed (s : State) (w : WriteForm) : Type 0 where
-  pub thread : (0 < w.thread) × (w.thread ≤ (ledger s).base.threads)
+  pub thread : IsThread s.instance.logs w.thread
   pub datafile : Datafile
   pub is : file_of (world s) w.file ≡ Some datafile
   pub here : exists (world s) (current_of s) (now_of s) datafile ≡ true
@@ -69,10 +69,10 @@ block-there w (Some d) is = (d, refl, leb-false d.blocks w.block (unless (nat_le
 
 named : (s : State) (w : WriteForm) → absent_in s w ≡ None → IsNamed s w
 named s w is =
-    let threads = unless ((w.thread == 0) || nat_lt (ledger s).base.threads w.thread) (Thread w.thread) (beside_thread w (on_path s w.file)) is in
+    let threads = unless (is_no_thread s w.thread) (Thread w.thread) (beside_thread w (on_path s w.file)) is in
     let found = block-there w (on_path s w.file) threads.1 in
     let known = on-path s w.file found.0 found.1 in
-    record { thread = thread-of (ledger s).base.threads w.thread threads.0; datafile = found.0; is = known.0; here = known.1; block = found.2 }
+    record { thread = thread-of s w.thread threads.0; datafile = found.0; is = known.0; here = known.1; block = found.2 }
 
 first-none : (o rest : Option Absent) → option_map_or Some o rest ≡ None → (o ≡ None) × (rest ≡ None)
 first-none None rest is = (refl, is)
@@ -126,7 +126,7 @@ can-back_up s b sound is =
     let more = unless (lacks_room s (length (objects_of s b) + mark_count s b)) (Rm11 Records) _ rest in
     let bytes = unless (lacks_bytes s (sum_by (object_bytes s b) (objects_of s b))) (Rm11 Bytes) _ more.1 in
     let numbers = unless (lacks_ids s (length (objects_of s b))) (Rm11 ObjectIds) _ bytes.1 in
-    let kept = unless (lacks_logs s ws 1 (ledger s).base.threads) (Rm11 LogRecords) _ numbers.1 in
+    let kept = unless (lacks_logs s ws 1 4) (Rm11 LogRecords) _ numbers.1 in
     let clean : damage_refusal s b ≡ None = (unless (nat_lt last_scn (now_of s + length ws)) Rm15 _ kept.1).1 in
     record {
       opened = mode.0;
@@ -134,7 +134,7 @@ can-back_up s b sound is =
       records = roomy (length (objects_of s b) + mark_count s b) (length (ledger_records (ledger s))) (search rules) sound.catalog.ledger.few;
       ids = search rules;
       writes = writes-can s ws names.0 held.0;
-      logs = λ t low high. ltb-false 65536 (length (log_records s.instance.logs t) + length (by_thread t ws)) (logs-have s ws 1 (ledger s).base.threads (search rules) t (omega (arith, low)) (omega (arith, high)));
+      logs = λ t low high. ltb-false 65536 (length (log_records s.instance.logs t) + length (by_thread t ws)) (logs-have s ws 1 4 (search rules) t (omega (arith, low)) (omega (arith, high)));
       scns = search rules;
       clean = clean;
     }

@@ -20,7 +20,7 @@ pub record CanReset (s : State) : Type 0 where
   pub at : ℕ
   pub here : s.instance.point ≡ Some at
   pub few : length s.catalog.ledger.tree < 256
-  pub room : HasRoom s 1 s.catalog.ledger.base.threads 2
+  pub room : HasRoom s 1 4 2
 
 point-of : {X : Type 0} (r : Option Refusal) (x : Refusal) (o : Option X) → option_map_or (λ (y : X). r) o (Some x) ≡ None → (y : X) × (o ≡ Some y) × (r ≡ None)
 point-of r x None is = absurd (let e : Some x ≡ None = is in cc)
@@ -34,7 +34,7 @@ can-reset s sound is =
     record { shut = mode.0; at = point.0; here = point.1; few = leb-false 256 (length s.catalog.ledger.tree) few.0; room = room-accepted s 2 sound.catalog.ledger.few few.1 }
 
 pub after-archiving : (s : State) → IsSound s → CanReset s → AfterAll s (after_all s) 2
-after-archiving s sound can = threads-sound s.catalog.ledger.base.threads 1 s 2 sound (omega arith) (omega arith) can.room
+after-archiving s sound can = threads-sound 4 1 s 2 sound (omega arith) can.room
 
 -- once the logs are archived, it can branch off
 pub can-after : (s : State) (can : CanReset s) → AfterAll s (after_all s) 2 → CanBranchAt (after_all s) can.at

@@ -20,10 +20,12 @@ use Rattle.rm_catalog_typed.specs.Changes.{with_base, with_end_at}
 use Rattle.rm_catalog_typed.specs.Facts.{IsTypedCatalog}
 use Rattle.rm_catalog_typed.specs.Fitting.{FitsBase, FitsLog, FitsPiece, IsObjectId, LacksId}
 use Rattle.rm_catalog_typed.specs.Ledger.{ledger_records}
+use Rattle.rm_catalog_typed.specs.Switches.{is_enabled_in}
 use Rattle.rm_catalog_typed.specs.TypedCatalog.{Saved}
 use Rattle.rm_catalog_typed.proofs.Fitted.{base_fits, end_fits, log_fits, many, piece_fits}
 use Rattle.rm_catalog_typed.proofs.Trees.{Keeps, keeps_end}
 use Rattle.rm_piece.specs.Valid.{IsRow}
+use Rattle.rm_redo.specs.Online.{IsThread, has_log}
 use Rattle.rm_machine.specs.Backup.{piece_entry}
 use Rattle.rm_machine.specs.CatalogName.{Found, IsFound, Obeys, artefact_of, catalog_refusal, catalogued, found_log, found_piece, id_of, ids_up_to, inc_of, lacks_ids_behind, raised, top_of}
 use Rattle.rm_machine.specs.Machine.{IsValidArtefact}
@@ -33,7 +35,8 @@ use Rattle.rm_machine.specs.Saved.{spelling_of}
 use Rattle.rm_machine.specs.SwitchLogfile.{log_entry}
 use Rattle.rm_machine.specs.Upkeep.{is_unknown, log_at, piece_at, set_at, with_catalog}
 use Rattle.rm_machine.specs.declared.state.State.{State}
-use Rattle.rm_machine.specs.State.{counted, current_of, is_lost, ledger, now_of, online, tree}
+use Rattle.rm_machine.specs.State.{counted, current_of, is_lost, ledger, now_of, online, redo_end, tree}
+use Rattle.rm_machine_code.proofs.Enabled.{enabled-risen}
 use Rattle.rm_machine_code.proofs.FurtherLogs.{log-further}
 use Rattle.rm_machine_code.proofs.Later.{sound-with}
 use Rattle.rm_machine_code.proofs.Places.{counted-closed, counted-open}
@@ -83,16 +86,21 @@ module _ (s : State) (sound : IsSound s) (j end : ℕ) (there : IsThere (tree s)
   ]
 
   -- the online logs tell up to it
-  online-risen : (t : ℕ) → 0 < t → t ≤ (ledger s).base.threads → is_lost s.instance.logs t ≡ false → IsOnline (tree risen) (online risen t)
-  online-risen t low high found =
-      let was = sound.logs.each t low high found in
+  online-risen : (t : ℕ) → IsThread s.instance.logs t → is_lost s.instance.logs t ≡ false → IsOnline (tree risen) (online risen t)
+  online-risen t is found =
+      let was = sound.logs.each t is found in
       let inc = s.instance.logs.inc in
-      let is = sound.logs.there in
-      let most = (risen-fits.ledger.incarnations.ranges inc (keeps.there inc is)).2 in
+      let here = sound.logs.there in
+      let most = (risen-fits.ledger.incarnations.ranges inc (keeps.there inc here)).2 in
       record {
-        valid = log-further (online s t) (online risen t) was.valid refl refl refl refl refl (keeps.end inc is) most (inl refl);
-        begun = omega (arith, keeps.reset inc is, was.begun);
+        valid = log-further (online s t) (online risen t) was.valid refl refl refl refl refl (keeps.end inc here) most (inl refl);
+        begun = omega (arith, keeps.reset inc here, was.begun);
       }
+
+  -- and are those of the same threads
+  threads-risen : (t : ℕ) → 0 < t → t ≤ 4 → has_log s.instance.logs t ≡ is_enabled_in (ledger risen) s.instance.logs.inc (redo_end risen) t
+  threads-risen t low high =
+      sound.logs.threads t low high ∙ sym (enabled-risen (ledger s) sound.catalog.ledger (tree risen) keeps s.instance.logs.inc t sound.logs.there)
 
   point-risen : (at : ℕ) → IsPoint s at → IsPoint risen at
   point-risen at was =
@@ -109,7 +117,7 @@ module _ (s : State) (sound : IsSound s) (j end : ℕ) (there : IsThere (tree s)
     catalog = risen-fits;
     dbid = sound.dbid;
     place = record { many = sound.place.many; each = λ k d x file is. placed-risen k d x (sound.place.each k d x file is) };
-    logs = record { dbid = sound.logs.dbid; there = keeps.there s.instance.logs.inc sound.logs.there; threads = sound.logs.threads; each = online-risen };
+    logs = record { dbid = sound.logs.dbid; there = keeps.there s.instance.logs.inc sound.logs.there; four = sound.logs.four; threads = threads-risen; gone = sound.logs.gone; each = online-risen };
     damaged = damaged-later s risen sound.catalog keeps sound.damaged;
     tracker = tracked-later s risen sound.catalog keeps sound.tracker;
     in_open = λ opened. let was = sound.in_open opened in record { inc = was.inc; found = was.found; point = was.point };

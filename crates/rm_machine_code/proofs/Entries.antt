@@ -95,7 +95,7 @@ module _ (r : TypedCatalog) (rules : IsTypedCatalog r) (st : Status) (keep : Boo
   log-as-fits e has =
       let l = r.ledger in
       let is = rules.ledger in
-      let rule = All-contains (IsLogEntry l.tree l.base.threads) l.logs e is.logs has in
+      let rule = All-contains (IsLogEntry l.tree) l.logs e is.logs has in
       record {
         log = record { there = rule.there; thread = rule.thread; sequence = rule.sequence; range = rule.range; size = rule.size };
         id = record { range = All-contains (λ (x : LogEntry). (1 ≤ x.id) × (x.id < l.base.next_id)) l.logs e is.ids.logs has; parts = log-no-part l r.saved e rules.saved has };

@@ -30,7 +30,7 @@ module _ (s : State) (point : Option ℕ) (place : List (Option File)) (sound : 
         | inr new ↦ new
       ]);
     };
-    logs = record { dbid = sound.logs.dbid; there = sound.logs.there; threads = sound.logs.threads; each = sound.logs.each };
+    logs = record { dbid = sound.logs.dbid; there = sound.logs.there; four = sound.logs.four; threads = sound.logs.threads; gone = sound.logs.gone; each = sound.logs.each };
     damaged = damaged-none (exchanged s point place) (sound.damaged.idle closed);
     tracker = tracked-same s (exchanged s point place) sound.tracker;
     in_open = λ opened. absurd (both_ways s.instance.is_open closed opened);

@@ -1,5 +1,5 @@
 -- What is in place fits the records: each is valid, and of an incarnation that is there.
-use Rattle.std.proofs.Common.{◌≡◌, ◌<◌, ◌≤◌, ℕ, List, Some, false, refl, sym, subst, arith, All, AllPairs, length, get_or, slice_get}
+use Rattle.std.proofs.Common.{◌≡◌, ℕ, List, Some, false, refl, sym, subst, arith, All, AllPairs, length, get_or, slice_get}
 use Rattle.std.specs.List.{filter_map}
 use Rattle.std.proofs.lemmas.List.Elements.{All-contains}
 use Rattle.std.proofs.lemmas.Option.{slice_get-get_or, slice_get_within}
@@ -19,6 +19,7 @@ use Rattle.rm_history.proofs.Highs.{high-above, high-least}
 use Rattle.rm_catalog_typed.specs.LedgerFacts.{IsCreated}
 use Rattle.rm_catalog_typed.proofs.Lookups.{item-at}
 use Rattle.rm_piece.specs.Valid.{IsBefore, IsRow}
+use Rattle.rm_redo.specs.Online.{IsThread}
 use Rattle.rm_catalog_typed.specs.TypedCatalog.{records_of}
 use Rattle.rm_machine.specs.Damage.{undamaged}
 use Rattle.rm_machine.specs.Recovery.{IsAtHand, in_place}
@@ -28,6 +29,7 @@ use Rattle.rm_machine.specs.State.{ledger, tree, counted, online, is_lost}
 use Rattle.rm_machine_code.proofs.AtHand.{online-in}
 use Rattle.rm_machine_code.proofs.Records.{tree-told}
 use Rattle.rm_machine_code.proofs.Standing.{at-place, each-in, present-in}
+use Rattle.rm_machine_code.proofs.Threads.{thread-in}
 use Rattle.rm_machine_code.proofs.Undamaged.{undamaged-at}
 
 -- blocks in order ascend
@@ -71,8 +73,8 @@ module _ (s : State) (sound : IsSound s) where
       let file = item-at (ledger s).files k (omega (arith, slice_get_within s.instance.place k (Some x) at, sound.place.many)) in
       placed-valid k file.0 (counted s x) file.1 (sound.place.each k file.0 x file.1 at)
 
-  online-valid : (t : ℕ) → 0 < t → t ≤ (ledger s).base.threads → is_lost s.instance.logs t ≡ false → FitsLog (tree s) (online s t)
-  online-valid t low high found = record { valid = (sound.logs.each t low high found).valid; inc = sound.logs.there }
+  online-valid : (t : ℕ) → IsThread s.instance.logs t → is_lost s.instance.logs t ≡ false → FitsLog (tree s) (online s t)
+  online-valid t is found = record { valid = (sound.logs.each t is found).valid; inc = sound.logs.there }
 
 -- what is in place fits the records
 pub place-fits : (s : State) → IsSound s → FitsPlace (records_of s.catalog) (in_place s)
@@ -86,8 +88,8 @@ place-fits s sound = record {
       subst (λ y. FitsPiece (tree s) (placed_piece (ledger s).base.dbid y)) file.is (stands-valid s sound at.0 file.item was.0)));
   logs = subst (λ ns. All (FitsLog ns) (in_place s).logs) (sym (tree-told s.catalog))
       (each-in (FitsLog (tree s)) (in_place s).logs (λ a has.
-      let found = online-in s 1 (ledger s).base.threads a has in
-      subst (FitsLog (tree s)) found.is (online-valid s sound found.thread (omega (arith, found.low)) (omega (arith, found.high)) found.found)));
+      let found = online-in s 1 4 a has in
+      subst (FitsLog (tree s)) found.is (online-valid s sound found.thread (thread-in s.instance.logs found.thread (omega (arith, found.low)) found.there) found.found)));
 }
 
 -- what is gathered is at hand

@@ -1,6 +1,7 @@
 -- One SCN further: the current incarnation of an open database ends one SCN later, behind the mark of `now`.
-use Rattle.std.proofs.Common.{◌≡◌, ◌<◌, ◌≤◌, ◌+◌, ◌∙◌, ◌&&◌, ◌⊎◌, nat_lt, inl, inr, ℕ, List, true, false, refl, ap, sym, subst, arith, length}
+use Rattle.std.proofs.Common.{◌≡◌, ◌<◌, ◌≤◌, ◌+◌, ◌-◌, ◌∙◌, ◌&&◌, ◌⊎◌, nat_lt, inl, inr, ℕ, List, true, false, refl, ap, sym, subst, arith, length, length-append}
 use Rattle.std.proofs.lemmas.Bool.{and_from, cases_lt, lt-ltb}
+use Rattle.std.proofs.lemmas.List.{length-set}
 use Rattle.rm_base.specs.Numbers.{last_scn}
 use Rattle.rm_blocks.specs.File.{File, standing}
 use Rattle.rm_history.specs.declared.tree.Incarnation.{Incarnation}
@@ -9,13 +10,16 @@ use Rattle.rm_history.specs.Tree.{IsThere, end_of}
 use Rattle.rm_history.proofs.Ends.{end_of-with_end}
 use Rattle.rm_history.proofs.Highs.{high-above, high-bound}
 use Rattle.rm_catalog_typed.specs.Ledger.{ledger_records}
+use Rattle.rm_catalog_typed.specs.Switches.{is_enabled_in}
 use Rattle.rm_catalog_typed.proofs.Trees.{Keeps, keeps_end}
 use Rattle.rm_catalog_typed.specs.Facts.{IsTypedCatalog}
-use Rattle.rm_catalog_typed.proofs.Fitted.{end_fits}
+use Rattle.rm_catalog_typed.proofs.Fitted.{end_fits, many}
+use Rattle.rm_redo.specs.Online.{IsThread, has_log}
 use Rattle.rm_machine.specs.Marks.{last_marked, marks_before, one_further, with_marks}
 use Rattle.rm_machine.specs.Sound.{IsOnline, IsPlaced, IsSound}
 use Rattle.rm_machine.specs.declared.state.State.{State}
 use Rattle.rm_machine.specs.State.{ledger, current_of, now_of, redo_end, online, is_lost}
+use Rattle.rm_machine_code.proofs.Enabled.{enabled-risen}
 use Rattle.rm_machine_code.proofs.FurtherLogs.{log-further}
 use Rattle.rm_machine_code.proofs.Places.{counted-open}
 use Rattle.rm_machine_code.proofs.BackupMarks.{marks-fit}
@@ -79,6 +83,12 @@ module _ (s : State) (sound : IsSound s) (on : GoesOn s) where
   pub catalog-further : IsTypedCatalog q.catalog
   catalog-further = end_fits (with_marks s.catalog (marks_before s)) i (now + 1) (marks-fit s sound (nat_lt (last_marked 0 s.catalog.ledger.marks) s.catalog.ledger.base.moment) on.room) there (omega arith) last
 
+  -- the mark is one record more
+  pub count-further : length (ledger_records (ledger q)) ≡ length (ledger_records (ledger s)) + length (marks_before s)
+  count-further =
+      let long : length tree ≡ length old = length-set old (i - 1) _ in
+      omega (arith, many (ledger s), many (ledger q), long, length-append s.catalog.ledger.marks (marks_before s))
+
   -- what is in place lies below `now`, and so below the new end
   placed-further : (k : ℕ) (d : Datafile) (x : File) → IsPlaced old k d (standing x i now) → IsPlaced tree k d (standing x i (now_of q))
   placed-further k d x is =
@@ -102,13 +112,18 @@ module _ (s : State) (sound : IsSound s) (on : GoesOn s) where
   redo-further = ap (end_of tree) inc-now ∙ now-further
 
   -- the online logs tell further
-  online-further : (t : ℕ) → 0 < t → t ≤ s.catalog.ledger.base.threads → is_lost s.instance.logs t ≡ false → IsOnline tree (online q t)
-  online-further t low high found =
-      let was = sound.logs.each t low high found in
+  online-further : (t : ℕ) → IsThread s.instance.logs t → is_lost s.instance.logs t ≡ false → IsOnline tree (online q t)
+  online-further t is found =
+      let was = sound.logs.each t is found in
       record {
         valid = log-further (online s t) (online q t) was.valid refl refl refl refl refl (omega (arith, redo-now, redo-further)) (omega (arith, redo-further, last)) (inl refl);
         begun = omega (arith, keeps-further.reset s.instance.logs.inc sound.logs.there, was.begun);
       }
+
+  -- and are those of the same threads
+  threads-further : (t : ℕ) → 0 < t → t ≤ 4 → has_log s.instance.logs t ≡ is_enabled_in (ledger q) s.instance.logs.inc (redo_end q) t
+  threads-further t low high =
+      sound.logs.threads t low high ∙ sym (enabled-risen (ledger s) sound.catalog.ledger tree keeps-further s.instance.logs.inc t sound.logs.there)
 
   pub sound-further : IsSound q
   sound-further =
@@ -120,7 +135,7 @@ module _ (s : State) (sound : IsSound s) (on : GoesOn s) where
           many = sound.place.many;
           each = λ k d x file held. subst (IsPlaced tree k d) (sym (counted-open q x on.opened)) (placed-further k d x (subst (IsPlaced old k d) (counted-open s x on.opened) (sound.place.each k d x file held)));
         };
-        logs = record { dbid = sound.logs.dbid; there = keeps-further.there s.instance.logs.inc sound.logs.there; threads = sound.logs.threads; each = online-further };
+        logs = record { dbid = sound.logs.dbid; there = keeps-further.there s.instance.logs.inc sound.logs.there; four = sound.logs.four; threads = threads-further; gone = sound.logs.gone; each = online-further };
         damaged = damaged-later s q sound.catalog keeps-further sound.damaged;
         tracker = tracked-later s q sound.catalog keeps-further sound.tracker;
         in_open = λ _. record { inc = opened.inc; found = opened.found; point = opened.point };

@@ -4,11 +4,11 @@ use Rattle.std.proofs.lemmas.List.{append-nil, append_assoc}
 use Rattle.rm_redo.specs.declared.log_file.LogFile.{LogFile}
 use Rattle.rm_machine.specs.Recovery.{online_logs}
 use Rattle.rm_machine.specs.declared.state.State.{State}
-use Rattle.rm_machine.specs.State.{is_lost, online}
+use Rattle.rm_machine.specs.State.{is_online, online}
 
 -- the online log of one thread more
 abbrev pub online_of : State → ℕ → List LogFile
-online_of s t = cond (is_lost s.instance.logs t) [] (online s t ∷ [])
+online_of s t = cond (is_online s.instance.logs t) (online s t ∷ []) []
 
 pub online-more : (s : State) (t n : ℕ) → online_logs s t (n + 1) ≡ online_logs s t n ++ online_of s (t + n)
 online-more s t zero = append-nil (online_of s t) ∙ ap (online_of s) (let same : t ≡ t + 0 = omega arith in same)

@@ -28,6 +28,7 @@ resting s r = record r {
     base = record r.ledger.base { dbid = (ledger s).base.dbid; threads = (ledger s).base.threads; current = (ledger s).base.current; tracking = (ledger s).base.tracking };
     tree = (ledger s).tree;
     files = (ledger s).files;
+    switches = (ledger s).switches;
   };
 }
 
@@ -41,7 +42,7 @@ module _ (s : State) (r : TypedCatalog) (rules : IsTypedCatalog (resting s r)) w
     catalog = rules;
     dbid = is.dbid;
     place = record { many = is.place.many; each = is.place.each };
-    logs = record { dbid = is.logs.dbid; there = is.logs.there; threads = is.logs.threads; each = is.logs.each };
+    logs = record { dbid = is.logs.dbid; there = is.logs.there; four = is.logs.four; threads = is.logs.threads; gone = is.logs.gone; each = is.logs.each };
     damaged = damaged-same s rested is.damaged;
     tracker = tracked-same s rested is.tracker;
     in_open = λ opened. let was = is.in_open opened in record { inc = was.inc; found = was.found; point = was.point };

@@ -16,7 +16,10 @@ mod DamageLoops
 pub mod Damaged
 pub mod Deeds
 pub mod Deleting
+pub mod Disabling
 pub mod Dropping
+pub mod Enabled
+pub mod Enabling
 pub mod Ended
 pub mod Entries
 pub mod Exchanging
@@ -74,6 +77,8 @@ pub mod Switching
 pub mod Tags
 mod Taken
 pub mod TakenFiles
+pub mod Threads
+pub mod ThreadSwitches
 pub mod Told
 pub mod ToldRows
 pub mod Tracked

@@ -1,37 +1,36 @@
--- Whether a log is lost, one thread after another.
-use Rattle.std.proofs.Common.{◌≡◌, ◌<◌, ◌+◌, ◌-◌, ◌∙◌, ◌||◌, ℕ, [], Some, true, false, Bool, refl, ap, sym, subst, arith, length, get_or, take, slice_get}
-use Rattle.std.specs.List.{list_any}
+-- Whether a log is lost.
+use Rattle.std.proofs.Common.{◌≡◌, ◌+◌, ◌-◌, ◌∙◌, ◌&&◌, inl, inr, ℕ, Some, true, false, ap, sym, arith, slice_get}
 use Rattle.std.specs.Option.{option_map_or}
-use Rattle.std.proofs.lemmas.List.Folds.{list_any_more, list_any_at}
-use Rattle.std.proofs.lemmas.Option.{slice_get-get_or}
+use Rattle.std.proofs.lemmas.Bool.{and_from, and_parts, cases_Bool}
+use Rattle.std.proofs.lemmas.List.Folds.{list_any_at, list_any_none}
+use Rattle.std.proofs.lemmas.Option.{slice_get_cases}
 use Rattle.rm_redo.specs.declared.online.ThreadLog.{ThreadLog}
 use Rattle.rm_redo.specs.Logs.{Logs}
-use Rattle.rm_redo.specs.Online.{IsThread, IsLost}
+use Rattle.rm_redo.specs.Online.{IsThread, IsLost, has_log}
+use Rattle.rm_machine.specs.State.{has_lost, is_lost}
+use Rattle.rm_machine_code.proofs.Standing.{each-get}
+use Rattle.rm_machine_code.proofs.Threads.{thread-in}
 
-any : ThreadLog
-any = record { sequence = 0; first = 0; is_lost = false; records = [] }
+-- one that is lost is found
+pub lost-found : (logs : Logs) (t : ℕ) → IsThread logs t → IsLost logs t → has_lost logs ≡ true
+lost-found logs t there lost = elim (slice_get_cases logs.threads (t - 1)).1 [
+  | inr past ↦ absurd (let none : is_lost logs t ≡ false = ap (λ o. option_map_or (λ (l : ThreadLog). l.is_lost) o false) past.1 in let clash : true ≡ false = sym lost ∙ none in cc)
+  | inl read ↦
+      let l : ThreadLog = read.0 in
+      let is : l.is_there ≡ true = sym (ap (λ o. option_map_or (λ (m : ThreadLog). m.is_there) o false) read.2) ∙ there.2 in
+      let gone : l.is_lost ≡ true = sym (ap (λ o. option_map_or (λ (m : ThreadLog). m.is_lost) o false) read.2) ∙ lost in
+      list_any_at (λ (m : ThreadLog). m.is_there && m.is_lost) logs.threads (t - 1) l read.1 (ap (λ (m : ThreadLog). m.is_there && m.is_lost) read.3 ∙ and_from l.is_there l.is_lost is gone)
+]
 
-neither : (x y : Bool) → ¬ (y ≡ true) → x ≡ false → (x || y) ≡ false
-neither true y here none = absurd (cc)
-neither false true here none = absurd (here refl)
-neither false false here none = refl
-
--- no log up to thread t is lost, where none below it is
-pub lost-more : (logs : Logs) (t : ℕ) → IsThread logs t → ¬ IsLost logs t → list_any (λ l. l.is_lost) (take (t - 1) logs.threads) ≡ false → list_any (λ l. l.is_lost) (take t logs.threads) ≡ false
-lost-more logs t there here none =
-    let i = t - 1 in
-    let inside : i < length logs.threads = omega (arith, there.0, there.1) in
-    let l : ThreadLog = get_or logs.threads i any in
-    let at : slice_get logs.threads i ≡ Some l = slice_get-get_or logs.threads i any inside in
-    let kept : ¬ (l.is_lost ≡ true) = λ lost. here (ap (λ o. option_map_or (λ x. x.is_lost) o false) at ∙ lost) in
-    let e : i + 1 ≡ t = omega (arith, there.0) in
-    subst (λ n. list_any (λ x. x.is_lost) (take n logs.threads) ≡ false) e
-    (list_any_more (λ x. x.is_lost) logs.threads i any inside ∙ neither (list_any (λ x. x.is_lost) (take i logs.threads)) l.is_lost kept none)
-
--- a log that is lost is found
-pub lost-found : (logs : Logs) (t : ℕ) → IsThread logs t → IsLost logs t → list_any (λ l. l.is_lost) logs.threads ≡ true
-lost-found logs t there lost =
-    let i = t - 1 in
-    let inside : i < length logs.threads = omega (arith, there.0, there.1) in
-    let at : slice_get logs.threads i ≡ Some (get_or logs.threads i any) = slice_get-get_or logs.threads i any inside in
-    list_any_at (λ l. l.is_lost) logs.threads i any inside (sym (ap (λ o. option_map_or (λ x. x.is_lost) o false) at) ∙ lost)
+-- or none is lost
+pub lost-none : (logs : Logs) → ((t : ℕ) → IsThread logs t → ¬ IsLost logs t) → has_lost logs ≡ false
+lost-none logs none =
+    list_any_none (λ (l : ThreadLog). l.is_there && l.is_lost) logs.threads (each-get (λ (l : ThreadLog). (l.is_there && l.is_lost) ≡ false) logs.threads (λ k l is. elim (cases_Bool (l.is_there && l.is_lost)) [
+      | inr other ↦ other
+      | inl both ↦
+          let parts = and_parts l.is_there l.is_lost both in
+          let place : k + 1 - 1 ≡ k = omega arith in
+          let at : slice_get logs.threads (k + 1 - 1) ≡ Some l = ap (slice_get logs.threads) place ∙ is in
+          let has : has_log logs (k + 1) ≡ true = ap (λ o. option_map_or (λ (m : ThreadLog). m.is_there) o false) at ∙ parts.0 in
+          absurd (none (k + 1) (thread-in logs (k + 1) (omega arith) has) (ap (λ o. option_map_or (λ (m : ThreadLog). m.is_lost) o false) at ∙ parts.1))
+    ]))

@@ -92,7 +92,7 @@ module _ (s : State) (sound : IsSound s) (opened : s.instance.is_open ≡ true) 
     catalog = sound.catalog;
     dbid = sound.dbid;
     place = record { many = length-map s.instance.place (option_map stand) ∙ sound.place.many; each = place-after };
-    logs = record { dbid = sound.logs.dbid; there = sound.logs.there; threads = sound.logs.threads; each = sound.logs.each };
+    logs = record { dbid = sound.logs.dbid; there = sound.logs.there; four = sound.logs.four; threads = sound.logs.threads; gone = sound.logs.gone; each = sound.logs.each };
     damaged = damaged-none q none;
     tracker = tracked-none q refl refl;
     in_open = λ mode. absurd (false≢true mode);

@@ -65,7 +65,7 @@ module _ (s : State) (f : ℕ) (row : Row) (sound : IsSound s) (opened : s.insta
     catalog = sound.catalog;
     dbid = sound.dbid;
     place = record { many = length-set s.instance.place (f - 1) _ ∙ sound.place.many; each = place-after };
-    logs = record { dbid = sound.logs.dbid; there = sound.logs.there; threads = sound.logs.threads; each = sound.logs.each };
+    logs = record { dbid = sound.logs.dbid; there = sound.logs.there; four = sound.logs.four; threads = sound.logs.threads; gone = sound.logs.gone; each = sound.logs.each };
     damaged = damaged-put s f row sound.damaged;
     tracker = tracked-same s q sound.tracker;
     in_open = λ mode. let was = sound.in_open mode in record { inc = was.inc; found = was.found; point = was.point };
@@ -78,7 +78,7 @@ sound-listed s xs is damaged = record {
   catalog = is.catalog;
   dbid = is.dbid;
   place = record { many = is.place.many; each = is.place.each };
-  logs = record { dbid = is.logs.dbid; there = is.logs.there; threads = is.logs.threads; each = is.logs.each };
+  logs = record { dbid = is.logs.dbid; there = is.logs.there; four = is.logs.four; threads = is.logs.threads; gone = is.logs.gone; each = is.logs.each };
   damaged = damaged;
   tracker = tracked-same s (with_list s xs) is.tracker;
   in_open = λ opened. let was = is.in_open opened in record { inc = was.inc; found = was.found; point = was.point };

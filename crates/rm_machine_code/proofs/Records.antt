@@ -11,11 +11,15 @@ use Rattle.rm_catalog.specs.declared.record.SetEntry.{SetEntry}
 use Rattle.rm_catalog.specs.declared.record.Record.TheVariants as kind
 use Rattle.rm_catalog.specs.Keys.{datafile_in, piece_in}
 use Rattle.rm_catalog.specs.Rules.{HasDatabase}
+use Rattle.rm_catalog.specs.Switches.{switches, told_by}
 use Rattle.rm_catalog.specs.Trees.{node_in, nodes}
 use Rattle.rm_history.specs.declared.tree.Incarnation.{Incarnation}
 use Rattle.rm_history.specs.declared.world.Datafile.{Datafile}
+use Rattle.rm_history.specs.declared.world.Switch.{Switch}
 use Rattle.rm_history.specs.declared.world.World.{World}
-use Rattle.rm_catalog_typed.specs.Ledger.{datafile_record, incarnation_record, mark_record, numbered}
+use Rattle.rm_catalog_typed.specs.Ledger.{datafile_record, incarnation_record, mark_record, numbered, switch_record}
+use Rattle.rm_catalog_typed.specs.Switches.{switch_of, switches_of}
+use Rattle.rm_catalog_typed.specs.declared.thread_switch.ThreadSwitch.{ThreadSwitch}
 use Rattle.rm_evidence.specs.Database.{created_by, database_in, datafiles}
 use Rattle.rm_evidence.specs.Database.{world_of as told_world}
 use Rattle.rm_catalog_typed.specs.TypedCatalog.{TypedCatalog, Saved, records_of, saved_records}
@@ -52,48 +56,59 @@ module _ {B : Type 0} (tell : Record → Option B) where
       ∙ ap (λ (xs : List B). xs ++ filter_map tell (kind.Head s.head ∷ [])) (none-mapped kind.Part parts s.parts)
       ∙ ap (λ (o : Option B). cons_option o []) (heads s.head)
 
-  -- a list of seven parts
-  of-parts : (a b c d e f g : List Record)
-      → filter_map tell (a ++ b ++ c ++ d ++ e ++ f ++ g) ≡ filter_map tell a ++ filter_map tell b ++ filter_map tell c ++ filter_map tell d ++ filter_map tell e ++ filter_map tell f ++ filter_map tell g
-  of-parts a b c d e f g = simp (filter_map-append {X = Record} {Y = B})
+  -- a list of eight parts
+  of-parts : (a b c d e f g h : List Record)
+      → filter_map tell (a ++ b ++ c ++ d ++ e ++ f ++ (g ++ h)) ≡ filter_map tell a ++ filter_map tell b ++ filter_map tell c ++ filter_map tell d ++ filter_map tell e ++ filter_map tell f ++ (filter_map tell g ++ filter_map tell h)
+  of-parts a b c d e f g h = simp (filter_map-append {X = Record} {Y = B})
 
   -- what the records of a catalog tell, where marks, saved sites and sets tell nothing
-  all-told : (r : TypedCatalog) (tree files logs pieces : List B) → filter_map tell (numbered incarnation_record 1 r.ledger.tree) ≡ tree → filter_map tell (numbered datafile_record 1 r.ledger.files) ≡ files
-      → filter_map tell (map kind.Log r.ledger.logs) ≡ logs → filter_map tell (map kind.Piece r.ledger.pieces) ≡ pieces → tell (kind.Base r.ledger.base) ≡ None
+  all-told : (r : TypedCatalog) (tree files logs pieces switches : List B) → filter_map tell (numbered incarnation_record 1 r.ledger.tree) ≡ tree → filter_map tell (numbered datafile_record 1 r.ledger.files) ≡ files
+      → filter_map tell (map kind.Log r.ledger.logs) ≡ logs → filter_map tell (map kind.Piece r.ledger.pieces) ≡ pieces → filter_map tell (numbered switch_record 1 r.ledger.switches) ≡ switches → tell (kind.Base r.ledger.base) ≡ None
       → ((k : ℕ) (m : Mark) → tell (mark_record k m) ≡ None) → ((p : PartEntry) → tell (kind.Part p) ≡ None) → ((h : HeadEntry) → tell (kind.Head h) ≡ None) → ((e : SetEntry) → tell (kind.Set e) ≡ None)
-      → filter_map tell (records_of r) ≡ tree ++ files ++ logs ++ pieces
-  all-told r tree files logs pieces is_tree is_files are_logs are_pieces base marks parts heads sets =
+      → filter_map tell (records_of r) ≡ tree ++ files ++ logs ++ pieces ++ switches
+  all-told r tree files logs pieces switches is_tree is_files are_logs are_pieces are_switches base marks parts heads sets =
       let l = r.ledger in
       let first : filter_map tell (kind.Base l.base ∷ numbered incarnation_record 1 l.tree) ≡ tree = ap (λ o. cons_option o (filter_map tell (numbered incarnation_record 1 l.tree))) base ∙ is_tree in
-      of-parts (kind.Base l.base ∷ numbered incarnation_record 1 l.tree) (numbered datafile_record 1 l.files) (map kind.Log l.logs) (map kind.Piece l.pieces) (numbered mark_record 1 l.marks) (saved_records r.saved) (map kind.Set l.sets)
-      ∙ simp (first, is_files, are_logs, are_pieces, none-numbered mark_record marks 1 l.marks, none-saved parts heads r.saved, none-mapped kind.Set sets l.sets, append-nil)
+      of-parts (kind.Base l.base ∷ numbered incarnation_record 1 l.tree) (numbered datafile_record 1 l.files) (map kind.Log l.logs) (map kind.Piece l.pieces) (numbered mark_record 1 l.marks) (saved_records r.saved) (map kind.Set l.sets) (numbered switch_record 1 l.switches)
+      ∙ simp (first, is_files, are_logs, are_pieces, are_switches, none-numbered mark_record marks 1 l.marks, none-saved parts heads r.saved, none-mapped kind.Set sets l.sets, append-nil)
 
 -- the incarnations
 pub tree-told : (r : TypedCatalog) → nodes (records_of r) ≡ r.ledger.tree
 tree-told r =
-    all-told node_in r r.ledger.tree [] [] [] (told-numbered node_in incarnation_record (λ k n. refl) 1 r.ledger.tree) (none-numbered node_in datafile_record (λ k d. refl) 1 r.ledger.files)
-    (none-mapped node_in kind.Log (λ e. refl) r.ledger.logs) (none-mapped node_in kind.Piece (λ p. refl) r.ledger.pieces) refl (λ k m. refl) (λ p. refl) (λ h. refl) (λ e. refl)
+    all-told node_in r r.ledger.tree [] [] [] [] (told-numbered node_in incarnation_record (λ k n. refl) 1 r.ledger.tree) (none-numbered node_in datafile_record (λ k d. refl) 1 r.ledger.files)
+    (none-mapped node_in kind.Log (λ e. refl) r.ledger.logs) (none-mapped node_in kind.Piece (λ p. refl) r.ledger.pieces) (none-numbered node_in switch_record (λ k x. refl) 1 r.ledger.switches) refl (λ k m. refl) (λ p. refl) (λ h. refl) (λ e. refl)
     ∙ simp append-nil
 
 -- the datafiles
 pub files-told : (r : TypedCatalog) → datafiles (records_of r) ≡ r.ledger.files
 files-told r =
     let tell : Record → Option Datafile = λ r. option_map created_by (datafile_in r) in
-    all-told tell r [] r.ledger.files [] [] (none-numbered tell incarnation_record (λ k n. refl) 1 r.ledger.tree) (told-numbered tell datafile_record (λ k d. refl) 1 r.ledger.files)
-    (none-mapped tell kind.Log (λ e. refl) r.ledger.logs) (none-mapped tell kind.Piece (λ p. refl) r.ledger.pieces) refl (λ k m. refl) (λ p. refl) (λ h. refl) (λ e. refl)
+    all-told tell r [] r.ledger.files [] [] [] (none-numbered tell incarnation_record (λ k n. refl) 1 r.ledger.tree) (told-numbered tell datafile_record (λ k d. refl) 1 r.ledger.files)
+    (none-mapped tell kind.Log (λ e. refl) r.ledger.logs) (none-mapped tell kind.Piece (λ p. refl) r.ledger.pieces) (none-numbered tell switch_record (λ k x. refl) 1 r.ledger.switches) refl (λ k m. refl) (λ p. refl) (λ h. refl) (λ e. refl)
     ∙ simp append-nil
 
 -- the pieces
 pub pieces-told : (r : TypedCatalog) → filter_map piece_in (records_of r) ≡ r.ledger.pieces
 pieces-told r =
-    all-told piece_in r [] [] [] r.ledger.pieces (none-numbered piece_in incarnation_record (λ k n. refl) 1 r.ledger.tree) (none-numbered piece_in datafile_record (λ k d. refl) 1 r.ledger.files)
-    (none-mapped piece_in kind.Log (λ e. refl) r.ledger.logs) (told-mapped piece_in kind.Piece (λ p. refl) r.ledger.pieces) refl (λ k m. refl) (λ p. refl) (λ h. refl) (λ e. refl)
+    all-told piece_in r [] [] [] r.ledger.pieces [] (none-numbered piece_in incarnation_record (λ k n. refl) 1 r.ledger.tree) (none-numbered piece_in datafile_record (λ k d. refl) 1 r.ledger.files)
+    (none-mapped piece_in kind.Log (λ e. refl) r.ledger.logs) (told-mapped piece_in kind.Piece (λ p. refl) r.ledger.pieces) (none-numbered piece_in switch_record (λ k x. refl) 1 r.ledger.switches) refl (λ k m. refl) (λ p. refl) (λ h. refl) (λ e. refl)
+    ∙ append-nil r.ledger.pieces
 
--- and so the database, whose threads stand in the base facts
+-- the switches of threads
+as-told : (k : ℕ) (xs : List ThreadSwitch) → filter_map told_by (numbered switch_record k xs) ≡ map switch_of xs
+as-told k [] = refl
+as-told k (x ∷ xs) = ap (λ ys. switch_of x ∷ ys) (as-told (k + 1) xs)
+
+pub switches-told : (r : TypedCatalog) → switches (records_of r) ≡ switches_of r.ledger
+switches-told r =
+    all-told told_by r [] [] [] [] (switches_of r.ledger) (none-numbered told_by incarnation_record (λ k n. refl) 1 r.ledger.tree) (none-numbered told_by datafile_record (λ k d. refl) 1 r.ledger.files)
+    (none-mapped told_by kind.Log (λ e. refl) r.ledger.logs) (none-mapped told_by kind.Piece (λ p. refl) r.ledger.pieces) (as-told 1 r.ledger.switches) refl (λ k m. refl) (λ p. refl) (λ h. refl) (λ e. refl)
+
+-- and so the database; the number of threads that it began with stands in the base facts
 pub world-told : (r : TypedCatalog) → told_world (records_of r) ≡ world_of r.ledger
 world-told r =
-    let make : List Incarnation → List Datafile → World = λ ns ds. record { tree = ns; threads = r.ledger.base.threads; files = ds } in
-    ap (λ ns. make ns (datafiles (records_of r))) (tree-told r) ∙ ap (make r.ledger.tree) (files-told r)
+    let make : List Incarnation → List Switch → List Datafile → World = λ ns xs ds. record { tree = ns; threads = r.ledger.base.threads; switches = xs; files = ds } in
+    λ i. make (tree-told r i) (switches-told r i) (files-told r i)
 
 -- what the objects of sets are compared with
 pub base-told : (r : TypedCatalog) → database_in (records_of r) ≡ database_of r.ledger

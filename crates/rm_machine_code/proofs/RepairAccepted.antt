@@ -40,13 +40,13 @@ can-repair s form sound is =
     let rest : repair_room_refusal s form ≡ None = held.1 in
     let records = unless (lacks_room s (marks_for s form.during)) _ _ rest in
     let ids = unless (lacks_ids s 0) _ _ records.1 in
-    let logs = unless (lacks_logs s ws 1 (ledger s).base.threads) _ _ ids.1 in
+    let logs = unless (lacks_logs s ws 1 4) _ _ ids.1 in
     record {
       opened = mode.0;
       records = roomy (marks_for s form.during) (length (ledger_records (ledger s))) records.0 sound.catalog.ledger.few;
       ids = search rules;
       writes = writes-can s ws names.0 held.0;
-      logs = λ t low high. ltb-false 65536 (length (log_records s.instance.logs t) + length (by_thread t ws)) (logs-have s ws 1 (ledger s).base.threads logs.0 t (omega (arith, low)) (omega (arith, high)));
+      logs = λ t low high. ltb-false 65536 (length (log_records s.instance.logs t) + length (by_thread t ws)) (logs-have s ws 1 4 logs.0 t (omega (arith, low)) (omega (arith, high)));
       scns = search rules;
       clean = (unless-some (λ (w : WriteForm). Rm17 w.file w.block) (damaged_write s ws) _ (unless (nat_lt last_scn (now_of s + length ws)) _ _ logs.1).1).0;
     }

@@ -15,13 +15,15 @@ use Rattle.rm_lang_statement.specs.declared.command.WriteForm.{WriteForm}
 use Rattle.rm_live.specs.declared.history.Event.{Event}
 use Rattle.rm_live.specs.History.{IsLegal}
 use Rattle.rm_plan.specs.Blocks.{AreToldRows}
+use Rattle.rm_redo.specs.Logs.{Logs}
+use Rattle.rm_redo.specs.Online.{IsThread}
 use Rattle.rm_machine.specs.Asked.{asked}
 use Rattle.rm_machine.specs.BlockRecover.{asks_for, blocks_mended, repair_begun, without_mended}
 use Rattle.rm_machine.specs.Damage.{IsInPlace, has_block}
 use Rattle.rm_machine.specs.Events.{after_events, opening}
 use Rattle.rm_machine.specs.Sound.{IsSound}
 use Rattle.rm_machine.specs.declared.state.State.{State}
-use Rattle.rm_machine.specs.State.{current_of, ledger, now_of, placed, world}
+use Rattle.rm_machine.specs.State.{current_of, now_of, placed, world}
 use Rattle.rm_machine_code.proofs.BackingUp.{during-marks}
 use Rattle.rm_machine_code.proofs.BackupAccepted.{CanBeWritten}
 use Rattle.rm_machine_code.proofs.BackupMarks.{marked-same, sound-marked}
@@ -47,7 +49,7 @@ patch-row (x ∷ xs) (r ∷ rows) m has = elim (first-or-rest (x.file, r) (patch
 
 module _ (s : State) (form : RepairForm) (contents : All (λ (w : WriteForm). length w.content.0 ≡ 64) (asked form.during)) (sound : IsSound s) (can : CanRepair s form) (e : Evidence) (rows : List Row)
     (told : AreToldRows (world s) e (current_of s) (now_of s) (blocks_mended s form) rows) (stand : All (CanStand s) rows) (scns : List (List ℕ)) (events : List Event) (legal : IsLegal (opening (repair_begun s form)) events)
-    (these : AreThese (wanted (blocks_mended s form) rows (ledger s).base.threads (asked form.during) scns) (map deed events)) where
+    (these : AreThese (wanted (blocks_mended s form) rows 4 (asked form.during) scns) (map deed events)) where
   abbrev pub ws : List WriteForm
   ws = asked form.during
 
@@ -71,17 +73,15 @@ module _ (s : State) (form : RepairForm) (contents : All (λ (w : WriteForm). le
     sound = sound-marked s b can.records sound;
     opened = marked-same (λ (q : State). q.instance.is_open) s b refl ∙ can.opened;
     unmarked = λ w has. during-marks s form.during w has;
-    writes = All-weaker (CanBeWritten s) (CanBeWritten u) (λ w it.
-        let threads = marked-same (λ (q : State). (ledger q).base.threads) s b refl in
-        record {
-          thread = (it.thread.0, omega (arith, it.thread.1, threads));
-          datafile = it.datafile;
-          is = marked-same (λ (q : State). file_of (world q) w.file) s b refl ∙ it.is;
-          here = marked-same (λ (q : State). exists (world q) (current_of q) (now_of q) it.datafile) s b refl ∙ it.here;
-          block = it.block;
-          file = it.file;
-          stands = marked-same (λ (q : State). placed q w.file) s b refl ∙ it.stands;
-        }) ws can.writes;
+    writes = All-weaker (CanBeWritten s) (CanBeWritten u) (λ w it. record {
+      thread = subst (λ (logs : Logs). IsThread logs w.thread) (sym (marked-same (λ (q : State). q.instance.logs) s b refl)) it.thread;
+      datafile = it.datafile;
+      is = marked-same (λ (q : State). file_of (world q) w.file) s b refl ∙ it.is;
+      here = marked-same (λ (q : State). exists (world q) (current_of q) (now_of q) it.datafile) s b refl ∙ it.here;
+      block = it.block;
+      file = it.file;
+      stands = marked-same (λ (q : State). placed q w.file) s b refl ∙ it.stands;
+    }) ws can.writes;
     contents = contents;
   }
 
@@ -119,7 +119,7 @@ module _ (s : State) (form : RepairForm) (contents : All (λ (w : WriteForm). le
   }
 
   pub due : AreDue ws ms events
-  due = are-due xs rows (ledger s).base.threads ws scns events these
+  due = are-due xs rows 4 ws scns events these
 
   pub can-end : CanMend t ws ms
   can-end = can-events ws ms events u can-mend legal due

@@ -13,7 +13,7 @@ use Rattle.rm_catalog_typed.proofs.Fitted.{many}
 
 pub logs-small : (l : Ledger) → IsLedger l → sum_by (λ e. e.size) l.logs ≤ 2 ^ 44
 logs-small l is =
-    let sizes = sum_by-le (λ (e : LogEntry). e.size) most_bytes l.logs (All-weaker (IsLogEntry l.tree l.base.threads) (λ (e : LogEntry). e.size ≤ most_bytes) (λ e fits. fits.size) l.logs is.logs) in
+    let sizes = sum_by-le (λ (e : LogEntry). e.size) most_bytes l.logs (All-weaker (IsLogEntry l.tree) (λ (e : LogEntry). e.size ≤ most_bytes) (λ e fits. fits.size) l.logs is.logs) in
     omega (arith, sizes, many l, is.few)
 
 pub pieces-small : (l : Ledger) → IsLedger l → sum_by (λ p. p.size) l.pieces ≤ 2 ^ 44

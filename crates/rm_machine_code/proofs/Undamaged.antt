@@ -64,7 +64,7 @@ sound-undamaged s sound = elim (cases_Bool s.instance.is_open) [
           many = undamaged-many s.instance.damaged 1 s.instance.place ∙ sound.place.many;
           each = λ k d x file is. sound.place.each k d x file (undamaged-at s.instance.damaged 1 s.instance.place k x is).0;
         };
-        logs = record { dbid = sound.logs.dbid; there = sound.logs.there; threads = sound.logs.threads; each = sound.logs.each };
+        logs = record { dbid = sound.logs.dbid; there = sound.logs.there; four = sound.logs.four; threads = sound.logs.threads; gone = sound.logs.gone; each = sound.logs.each };
         damaged = damaged-none q refl;
         tracker = tracked-same s q sound.tracker;
         in_open = λ on. let was = sound.in_open on in record { inc = was.inc; found = was.found; point = was.point };

@@ -25,6 +25,7 @@ use Rattle.rm_live.specs.declared.history.Event.{Event}
 use Rattle.rm_live.specs.History.{IsLegal, IsRight}
 use Rattle.rm_live.specs.Parts.{refusal_by, row_at}
 use Rattle.rm_redo.specs.Online.{thread_records as log_records}
+use Rattle.rm_redo.proofs.Logs.{IsThread-with_change}
 use Rattle.rm_catalog_typed.proofs.Fitted.{many}
 use Rattle.rm_lang_statement.specs.declared.command.WriteForm.{WriteForm}
 use Rattle.rm_machine.specs.Marks.{last_marked, mark_now, marks_before}
@@ -78,7 +79,7 @@ module _ (u : State) (ws : List WriteForm) (can : CanGoOn u ws) (w : WriteForm) 
       let sound = can.sound in
       let free = refused-not (row_at (opening u).files w.file w.block) (length (log_records u.instance.logs w.thread)) (now_of u) right.0 in
       let range = (sound.catalog.ledger.incarnations.ranges (current_of u) sound.catalog.ledger.current).2 in
-      let few = (sound.logs.each w.thread it.thread.0 it.thread.1 ((sound.in_open can.opened).found w.thread it.thread.0 it.thread.1)).valid.few in
+      let few = (sound.logs.each w.thread it.thread ((sound.in_open can.opened).found w.thread it.thread)).valid.few in
       let none : length (marks_before u) ≡ 0 = ap (λ (ms : List Mark). length ms) (can.unmarked w has) in
       record {
         on = record { opened = can.opened; room = omega (arith, none, sound.catalog.ledger.few); below = omega (arith, range, free.1) };
@@ -153,7 +154,15 @@ module _ (u : State) (ws : List WriteForm) (can : CanGoOn u ws) (w : WriteForm) 
     unmarked = λ v is. unmarked-write u w (can.unmarked v is);
     writes = All-weaker (CanBeWritten u) (CanBeWritten (with_write u w)) (λ v it.
         let stands = stands-set u.instance.place (w.file - 1) (v.file - 1) (option_map (λ (x : File). written x w.block (now_of u) w.content) (placed u w.file)) it.file (written a.file w.block (now_of u) w.content) it.stands (ap (option_map (λ (x : File). written x w.block (now_of u) w.content)) a.stands) in
-        record { thread = it.thread; datafile = it.datafile; is = it.is; here = here-later u w it.datafile can.sound a it.here; block = it.block; file = stands.0; stands = stands.1 }) ws can.writes;
+        record {
+          thread = IsThread-with_change u.instance.logs (change_of u w) v.thread it.thread;
+          datafile = it.datafile;
+          is = it.is;
+          here = here-later u w it.datafile can.sound a it.here;
+          block = it.block;
+          file = stands.0;
+          stands = stands.1;
+        }) ws can.writes;
     contents = can.contents;
   }
 

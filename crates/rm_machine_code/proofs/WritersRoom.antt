@@ -1,13 +1,15 @@
 -- What writes that were not refused have for their writers.
-use Rattle.std.proofs.Common.{◌≡◌, ◌<◌, ◌≤◌, ◌+◌, ◌-◌, ◌∙◌, ◌==◌, ℕ, zero, suc, List, [], ◌∷◌, Option, Some, None, Bool, true, false, cond, nat_le, refl, ap, sym, subst, arith, filter, find, length, All, IsSome, slice_get}
+use Rattle.std.proofs.Common.{◌≡◌, ◌<◌, ◌≤◌, ◌+◌, ◌-◌, ◌∙◌, ◌==◌, ℕ, zero, suc, List, [], ◌∷◌, Option, Some, None, Bool, true, false, cond, nat_le, refl, ap, sym, subst, arith, filter, find, length, All, Contains, IsSome, slice_get}
 use Rattle.std.specs.List.{filter_map}
 use Rattle.std.specs.Option.{option_map_or}
-use Rattle.std.proofs.lemmas.Bool.{eq-eqb, ne_eqb}
+use Rattle.std.proofs.lemmas.Bool.{eq-eqb, eqb-true, ne_eqb}
 use Rattle.std.proofs.lemmas.Bool.Decides.{nat_tests}
 use Rattle.std.proofs.lemmas.List.{length-map}
-use Rattle.std.proofs.lemmas.List.Elements.{All-cons, All-filter, All-map, All-nil, All-weaker}
+use Rattle.std.proofs.lemmas.List.Elements.{All-cons, All-contains, All-filter, All-map, All-nil, All-weaker}
 use Rattle.rm_base.specs.Numbers.{last_scn}
 use Rattle.rm_base.specs.declared.block.Row.{Row}
+use Rattle.rm_base.proofs.Lists.{filter_from}
+use Rattle.rm_base.proofs.Members.{in-front}
 use Rattle.rm_base.proofs.Slots.{get-index, index-get}
 use Rattle.rm_blocks.specs.File.{File}
 use Rattle.rm_channel.specs.Room.{AreThreads, CanWrite, HasBlock, HaveRoom}
@@ -16,13 +18,13 @@ use Rattle.rm_history.specs.declared.world.Datafile.{Datafile}
 use Rattle.rm_catalog_typed.proofs.Lookups.{item-at}
 use Rattle.rm_live.specs.Parts.{row_at}
 use Rattle.rm_live.specs.Ruled.{one_if, total}
-use Rattle.rm_redo.specs.Online.{thread_records as log_records}
+use Rattle.rm_redo.specs.Online.{IsThread, thread_records as log_records}
 use Rattle.rm_lang_statement.specs.declared.command.WriteForm.{WriteForm}
 use Rattle.rm_machine.specs.Asked.{FitsNumbers, by_thread, lists_from, write_job}
 use Rattle.rm_machine.specs.Events.{opening, standing_in}
 use Rattle.rm_machine.specs.Sound.{IsPlaced, IsSound}
 use Rattle.rm_machine.specs.declared.state.State.{State}
-use Rattle.rm_machine.specs.State.{ledger, now_of, tree, is_lost, placed}
+use Rattle.rm_machine.specs.State.{ledger, now_of, tree, placed}
 use Rattle.rm_machine_code.proofs.BackupAccepted.{CanBeWritten}
 use Rattle.rm_machine_code.proofs.ByThread.{lists-many}
 use Rattle.rm_machine_code.proofs.Numbers.{numbered}
@@ -84,19 +86,33 @@ lists-all P t (suc n) ws all =
     (All-map P write_job (filter (λ (w : WriteForm). w.thread == t) ws) (All-filter (λ (w : WriteForm). w.thread == t) (λ w. P (write_job w)) ws all))
     (lists-all P (suc t) n ws all)
 
-threads-from : (s : State) (ws : List WriteForm) (t n : ℕ) → IsSound s → s.instance.is_open ≡ true → 0 < t → t + n ≤ (ledger s).base.threads + 1 → AreThreads s.instance.logs t (lists_from t n ws)
-threads-from s ws t zero sound opened low high = tt
-threads-from s ws t (suc n) sound opened low high =
-    let found : is_lost s.instance.logs t ≡ false = (sound.in_open opened).found t low (omega (arith, high)) in (
-      (λ some. ((low, omega (arith, high, sound.logs.threads)), (λ lost. let clash : true ≡ false = sym lost ∙ found in absurd (cc)))),
-      threads-from s ws (suc t) n sound opened (omega arith) (omega (arith, high)),
-    )
+-- a write of a thread's list is by the thread
+first-in : (ws : List WriteForm) → 0 < length ws → (w : WriteForm) × Contains ws w
+first-in [] some = absurd (omega (arith, some))
+first-in (w ∷ ws) some = (w, in-front w ws)
+
+by-one : (t : ℕ) (ws : List WriteForm) → 0 < length (by_thread t ws) → (w : WriteForm) × Contains ws w × (w.thread ≡ t)
+by-one t ws some =
+    let many = length-map (filter (λ (w : WriteForm). w.thread == t) ws) write_job in
+    let w = first-in (filter (λ (w : WriteForm). w.thread == t) ws) (omega (arith, many, some)) in
+    let from = filter_from (λ (w : WriteForm). w.thread == t) ws w.0 w.1 in
+    (w.0, from.0, eqb-true w.0.thread t from.1)
+
+threads-from : (s : State) (ws : List WriteForm) (t n : ℕ) → IsSound s → s.instance.is_open ≡ true → All (CanBeWritten s) ws → AreThreads s.instance.logs t (lists_from t n ws)
+threads-from s ws t zero sound opened can = tt
+threads-from s ws t (suc n) sound opened can = (
+  λ some.
+      let w = by-one t ws some in
+      let there : IsThread s.instance.logs t = subst (IsThread s.instance.logs) w.2 (All-contains (CanBeWritten s) ws w.0 can w.1).thread in
+      (there, λ lost. let clash : true ≡ false = sym lost ∙ (sound.in_open opened).found t there in absurd (cc)),
+  threads-from s ws (suc t) n sound opened can,
+)
 
 -- the log of each thread has room for the thread's writes
 abbrev pub LogsHave : State → List WriteForm → Type 0
-LogsHave s ws = (t : ℕ) → 0 < t → t ≤ (ledger s).base.threads → length (log_records s.instance.logs t) + length (by_thread t ws) ≤ 65536
+LogsHave s ws = (t : ℕ) → 0 < t → t ≤ 4 → length (log_records s.instance.logs t) + length (by_thread t ws) ≤ 65536
 
-room-from : (s : State) (ws : List WriteForm) (t n : ℕ) → LogsHave s ws → 0 < t → t + n ≤ (ledger s).base.threads + 1 → HaveRoom s.instance.logs t (lists_from t n ws)
+room-from : (s : State) (ws : List WriteForm) (t n : ℕ) → LogsHave s ws → 0 < t → t + n ≤ 5 → HaveRoom s.instance.logs t (lists_from t n ws)
 room-from s ws t zero logs low high = tt
 room-from s ws t (suc n) logs low high = (logs t low (omega (arith, high)), room-from s ws (suc t) n logs (omega arith) (omega (arith, high)))
 
@@ -141,25 +157,23 @@ kept-few p (w ∷ ws) = by (p w) (kept-few p ws)
 -- The lists of all threads of an open database
 module _ (s : State) (ws : List WriteForm) (sound : IsSound s) where
   abbrev writers : List (List WriteJob)
-  writers = lists_from 1 (ledger s).base.threads ws
+  writers = lists_from 1 4 ws
 
-  pub few-writers : (length writers ≡ (ledger s).base.threads) × (length writers ≤ 4)
-  few-writers =
-      let many = lists-many 1 (ledger s).base.threads ws in
-      (many, omega (arith, many, sound.catalog.ledger.base.threads.1))
+  pub four-writers : length writers ≡ 4
+  four-writers = lists-many 1 4 ws
 
   pub fits-numbers : All (CanBeWritten s) ws → All FitsNumbers ws
   fits-numbers can = All-weaker (CanBeWritten s) FitsNumbers (λ w is. number-fits s w sound is) ws can
 
-  pub room-threads : s.instance.is_open ≡ true → AreThreads (opening s).logs 1 writers
-  room-threads opened = threads-from s ws 1 (ledger s).base.threads sound opened (omega arith) (omega arith)
+  pub room-threads : s.instance.is_open ≡ true → All (CanBeWritten s) ws → AreThreads (opening s).logs 1 writers
+  room-threads opened can = threads-from s ws 1 4 sound opened can
 
   pub room-writes : s.instance.is_open ≡ true → All (CanBeWritten s) ws → LogsHave s ws → now_of s + length ws ≤ last_scn → CanWrite (opening s) writers
   room-writes opened can logs scns = record {
-    blocks = lists-all (HasBlock (standing_in s)) 1 (ledger s).base.threads ws
+    blocks = lists-all (HasBlock (standing_in s)) 1 4 ws
         (All-weaker (CanBeWritten s) (λ w. HasBlock (standing_in s) (write_job w)) (λ w is. block-found s w sound opened is) ws can);
-    logs = room-from s ws 1 (ledger s).base.threads logs (omega arith) (omega arith);
+    logs = room-from s ws 1 4 logs (omega arith) (omega arith);
     scns =
         let few = kept-few (λ (w : WriteForm). nat_le 1 w.thread) ws in
-        omega (arith, total-from 1 (ledger s).base.threads ws, few, scns);
+        omega (arith, total-from 1 4 ws, few, scns);
   }

@@ -18,19 +18,21 @@ use Rattle.rm_history.proofs.Highs.{high-above, high-bound}
 use Rattle.rm_history.proofs.Worlds.{file-there}
 use Rattle.rm_catalog_typed.specs.LedgerFacts.{IsCreated}
 use Rattle.rm_catalog_typed.specs.Ledger.{Ledger}
+use Rattle.rm_catalog_typed.specs.Switches.{is_enabled_in}
 use Rattle.rm_redo.specs.declared.online.LogRecord.{LogRecord}
 use Rattle.rm_redo.specs.LogFormat.{IsLogRecord}
-use Rattle.rm_redo.specs.Online.{record_of}
+use Rattle.rm_redo.specs.Online.{IsThread, record_of}
 use Rattle.rm_redo.proofs.Logs.{around-with_change, first_of-with_change, inc-with_change, is_lost-with_change, thread_records-with_change, thread_records-with_change_other, sequence_of-with_change}
 use Rattle.rm_track.specs.Bitmaps.{mark_at}
 use Rattle.rm_machine.specs.Sound.{IsOnline, IsPlaced, IsPlacedRow, IsSound}
 use Rattle.rm_machine.specs.declared.state.State.{State}
-use Rattle.rm_machine.specs.State.{current_of, is_lost, now_of, online, placed, redo_end, world}
+use Rattle.rm_machine.specs.State.{current_of, is_lost, ledger, now_of, online, placed, redo_end, world}
 use Rattle.rm_machine.specs.Tracked.{with_tracker}
 use Rattle.rm_machine.specs.Write.{change_of, with_write}
 use Rattle.rm_machine_code.proofs.Further.{further, keeps-further, now-further, redo-now, sound-further}
 use Rattle.rm_machine_code.proofs.FurtherLogs.{IsPushed, log-further}
 use Rattle.rm_machine_code.proofs.Places.{counted-open}
+use Rattle.rm_machine_code.proofs.Threads.{gone-with_change, thread-before}
 use Rattle.rm_machine_code.proofs.Tracked.{tracked-marked, tracked-same}
 use Rattle.rm_machine_code.proofs.Writes.{Accepted}
 use Rattle.rm_machine_code.proofs.Damaged.{damaged-put, damaged-same}
@@ -118,7 +120,7 @@ module _ (s : State) (w : WriteForm) (sound : IsSound s) (a : Accepted s w) (ful
   record-is =
       let file = file-there (world s) w.file a.datafile a.is in
       let made = all-get (IsCreated l.tree) l.files (w.file - 1) a.datafile file.1 sound.catalog.ledger.datafiles.each in
-      let begun = (sound.logs.each w.thread a.thread.0 a.thread.1 ((sound.in_open a.on.opened).found w.thread a.thread.0 a.thread.1)).valid.range.1 in
+      let begun = (sound.logs.each w.thread a.thread ((sound.in_open a.on.opened).found w.thread a.thread)).valid.range.1 in
       record {
         scn = (omega (arith, begun, first_of-with_change s.instance.logs c w.thread, redo-now s sound a.on), omega (arith, redo-after));
         file = (file.0, omega (arith, slice_get_within l.files (w.file - 1) a.datafile file.1, sound.catalog.ledger.datafiles.few));
@@ -126,9 +128,9 @@ module _ (s : State) (w : WriteForm) (sound : IsSound s) (a : Accepted s w) (ful
         content = full;
       }
 
-  log-after : (t : ℕ) → 0 < t → t ≤ l.base.threads → is_lost s.instance.logs t ≡ false → IsOnline tree (online q t)
-  log-after t low high found =
-      let was = sound.logs.each t low high found in
+  log-after : (t : ℕ) → IsThread s.instance.logs t → is_lost s.instance.logs t ≡ false → IsOnline tree (online q t)
+  log-after t is found =
+      let was = sound.logs.each t is found in
       let around = around-with_change s.instance.logs c in
       let old = redo-now s sound a.on in
       let next = redo-after in
@@ -139,13 +141,13 @@ module _ (s : State) (w : WriteForm) (sound : IsSound s) (a : Accepted s w) (ful
         | inl same ↦ inr (
           record_of c,
           subst (λ u. IsPushed (online s u) (online q u) (record_of c)) (sym same) (record {
-            records = thread_records-with_change s.instance.logs c (a.thread.0, (let many = sound.logs.threads in let up = a.thread.1 in omega (arith, many, up)));
+            records = thread_records-with_change s.instance.logs c a.thread;
             room = a.room;
             after = omega (arith, old);
             is = record-is;
           }),
         )
-        | inr other ↦ inl (thread_records-with_change_other s.instance.logs c t a.thread.0 low other)
+        | inr other ↦ inl (thread_records-with_change_other s.instance.logs c t a.thread.0 is.0 other)
       ] in
       record {
         valid = log-further (online s t) (online q t) was.valid around.dbid inc refl (sequence_of-with_change s.instance.logs c t) first (omega (arith, old, next)) (let below = a.on.below in omega (arith, next, below)) records;
@@ -166,14 +168,16 @@ module _ (s : State) (w : WriteForm) (sound : IsSound s) (a : Accepted s w) (ful
         logs = record {
           dbid = around.dbid ∙ sound.logs.dbid;
           there = subst (IsThere tree) (sym around.inc) wide.logs.there;
-          threads = around.threads ∙ sound.logs.threads;
-          each = λ t low high found. log-after t low high (sym (is_lost-with_change s.instance.logs c t) ∙ found);
+          four = around.threads ∙ sound.logs.four;
+          threads = λ t low high. around.there t ∙ wide.logs.threads t low high ∙ sym (ap (λ j. is_enabled_in (ledger q) j (end_of tree j) t) around.inc);
+          gone = gone-with_change s.instance.logs c a.thread sound.logs.gone;
+          each = λ t is found. log-after t (thread-before s.instance.logs q.instance.logs t around is) (sym (is_lost-with_change s.instance.logs c t) ∙ found);
         };
         damaged = damaged-same (with_placed_row p w.file new) q (damaged-put p w.file new wide.damaged);
         tracker = tracked-same (with_tracker p (mark_at p.instance.tracker w.file w.block)) q (tracked-marked p w.file w.block wide.tracker);
         in_open = λ _. record {
           inc = around.inc ∙ opened.inc;
-          found = λ t low high. is_lost-with_change s.instance.logs c t ∙ opened.found t low high;
+          found = λ t is. is_lost-with_change s.instance.logs c t ∙ opened.found t (thread-before s.instance.logs q.instance.logs t around is);
           point = opened.point;
         };
         point = λ n is. absurd (let none = opened.point in cc);

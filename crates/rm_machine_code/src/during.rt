@@ -5,10 +5,11 @@ ghost use Rattle.rm_base.specs.Numbers.{last_scn};
 ghost use Rattle.rm_machine.specs.Asked.{FitsNumbers, by_thread};
 ghost use Rattle.rm_machine.specs.BackupRefusal.{absent_in, absent_of, block_of, damaged_write, lacks_log, lacks_logs, lost_of, marks_for};
 ghost use Rattle.rm_machine.specs.Sound.{IsSound};
-ghost use Rattle.rm_machine.specs.State.{ledger, now_of};
+ghost use Rattle.rm_machine.specs.State.{now_of};
+ghost use Rattle.rm_redo.specs.Online.{thread_records};
 
 use crate::damage::is_damaged;
-use crate::facts::{is_thread, now, on_path, placed, threads};
+use crate::facts::{MOST_THREADS, is_thread, now, on_path, placed};
 use crate::marks::marks_before;
 use rm_base::{Absent, BlockId, BlockNo, FileNo, LAST_SCN, Seq, ThreadNo};
 use rm_lang_statement::WriteForm;
@@ -87,22 +88,37 @@ fn count_by(thread: u64, writes: &[WriteForm]) -> u64
     writes.iter().filter(|write| write.thread == thread).count() as u64
 }
 
+// How many records the log of a thread has: none where the thread has no log.
+fn record_count(state: &State, thread: ThreadNo) -> u32
+    requires sound { IsSound state.now }
+    requires thread { (0 < thread) × (thread ≤ 4) }
+    ensures value { result ≡ length (thread_records state.now.instance.logs thread) }
+    ensures most { result ≤ 65536 }
+{
+    let logs = &state.instance.logs;
+    if logs.has(thread) {
+        logs.count(thread)
+    } else {
+        0
+    }
+}
+
 // Whether the log of a thread has no room for the thread's writes.
 fn lacks_log(state: &State, writes: &[WriteForm], thread: ThreadNo) -> bool
     requires sound { IsSound state.now }
-    requires thread { (0 < thread) × (thread ≤ (ledger state.now).base.threads) }
+    requires thread { (0 < thread) × (thread ≤ 4) }
     ensures { result ≡ lacks_log state.now writes.now thread }
 {
     let more = count_by(u64::from(thread), writes);
-    more > 65_536 - u64::from(state.instance.logs.count(thread))
+    more > 65_536 - u64::from(record_count(state, thread))
 }
 
 /// Whether the log of one of the threads has no room for the thread's writes: it has 65,536 records at most.
 pub fn lacks_logs(state: &State, writes: &[WriteForm]) -> bool
     requires sound { IsSound state.now }
-    ensures { result ≡ lacks_logs state.now writes.now 1 (ledger state.now).base.threads }
+    ensures { result ≡ lacks_logs state.now writes.now 1 4 }
 {
-    for index in 0..threads(state) {
+    for index in 0..MOST_THREADS {
         if lacks_log(state, writes, index + 1) {
             return true;
         }

@@ -1,14 +1,14 @@
 //! What a state shows.
-ghost use Rattle.std.specs.Prelude.{◌≡◌, ◌<◌, ◌≤◌, ◌↔◌, ◌==◌, ◌&&◌, ◌||◌, IfSome, IsTrue, nat_lt, not};
+ghost use Rattle.std.specs.Prelude.{◌≡◌, ◌<◌, ◌≤◌, ◌↔◌, ◌==◌, ◌&&◌, IfSome, IsTrue, nat_lt, not};
 ghost use Rattle.std.specs.Option.{option_copied};
 ghost use Rattle.rm_base.specs.Numbers.{last_scn};
 ghost use Rattle.rm_history.specs.Tree.{IsThere, end_of, owner};
 ghost use Rattle.rm_history.specs.World.{blocks_of, exists, file_of};
 ghost use Rattle.rm_machine.specs.Dump.{placed_row};
-ghost use Rattle.rm_machine.specs.Loading.{has_lost};
 ghost use Rattle.rm_machine.specs.Mount.{first_lost};
 ghost use Rattle.rm_machine.specs.Sound.{IsSound};
-ghost use Rattle.rm_machine.specs.State.{current_of, datafile_at, ledger, now_of, on_path, placed, redo_end, tree, world};
+ghost use Rattle.rm_machine.specs.State.{current_of, datafile_at, has_lost, is_no_thread, ledger, now_of, on_path, placed, redo_end, tree, world};
+ghost use Rattle.rm_redo.specs.Online.{IsLost, IsThread};
 
 use rm_base::{BlockNo, FileNo, IncNo, Row, Scn, ThreadNo};
 use rm_blocks::DataFile;
@@ -121,30 +121,32 @@ pub fn placed_row(state: &State, number: u64, block: BlockNo) -> Option<Row>
     placed(state, number)?.read(block)
 }
 
-/// The number of redo threads: 1 to 4.
-pub fn threads(state: &State) -> ThreadNo
-    ensures value { result ≡ (ledger state.now).base.threads }
-    ensures some { 1 ≤ result }
-    ensures most { result ≤ 4 }
-{
-    state.catalog.base().threads
-}
+/// The greatest number of a redo thread: threads are numbered from 1 on.
+pub const MOST_THREADS: ThreadNo = 4;
 
-/// Whether the thread is one of the database.
+/// Whether the thread has an online log, lost or not.
 pub fn is_thread(state: &State, thread: u64) -> bool
-    ensures value { result ≡ not ((thread == 0) || nat_lt (ledger state.now).base.threads thread) }
-    ensures there { IsTrue result ↔ ((0 < thread) × (thread ≤ (ledger state.now).base.threads)) }
+    ensures value { result ≡ not (is_no_thread state.now thread) }
+    ensures there { IsTrue result ↔ IsThread state.now.instance.logs thread }
     ensures most { IsTrue result → thread ≤ 4 }
 {
-    thread != 0 && thread <= u64::from(threads(state))
+    let logs = &state.instance.logs;
+    thread <= u64::from(logs.threads()) && logs.has(thread as ThreadNo)
+}
+
+// Whether a thread has an online log, and that is lost.
+fn lost_its_log(logs: &OnlineLogs, thread: ThreadNo) -> bool
+    ensures { IsTrue result ↔ (IsThread logs.now thread × IsLost logs.now thread) }
+{
+    logs.has(thread) && logs.is_lost(thread)
 }
 
 /// Whether one of the online logs is lost.
 pub fn has_lost(logs: &OnlineLogs) -> bool
     ensures { result ≡ has_lost logs.now }
 {
-    for thread in 1..=logs.threads() {
-        if logs.is_lost(thread) {
+    for index in 0..logs.threads() {
+        if lost_its_log(logs, index + 1) {
             return true;
         }
     }

@@ -5,18 +5,19 @@ ghost use Rattle.std.specs.Option.{option_copied};
 ghost use Rattle.rm_machine.specs.Damage.{has_file, undamaged};
 ghost use Rattle.rm_machine.specs.Recovery.{in_place, online_logs};
 ghost use Rattle.rm_machine.specs.Sound.{IsSound};
-ghost use Rattle.rm_machine.specs.State.{counted, is_lost, ledger, online};
+ghost use Rattle.rm_machine.specs.State.{counted, is_online, online};
+ghost use Rattle.rm_redo.specs.Online.{IsThread};
 ghost use Rattle.rm_catalog_typed.specs.TypedCatalog.{records_of};
 
 use crate::damage::has_file;
-use crate::facts::{now, redo_end, threads};
+use crate::facts::{MOST_THREADS, now, redo_end};
 use crate::recorded::records_of;
 use rm_base::{BlockId, NoMemory, Seq, ThreadNo};
 use rm_blocks::DataFile;
 use rm_catalog::Catalog as Records;
 use rm_evidence::InPlace;
 use rm_machine::State;
-use rm_redo::LogFile;
+use rm_redo::{LogFile, OnlineLogs};
 use std::alloc::Global;
 
 /// What a recovery and a restore rest on, beside the store.
@@ -73,8 +74,7 @@ fn files_in_place(alloc: Global, state: &State) -> Result<Seq<DataFile>, NoMemor
 // The online log of a thread, up to the end of its incarnation.
 fn online_copy(alloc: Global, state: &State, thread: ThreadNo) -> Result<LogFile, NoMemory>
     requires sound { IsSound state.now }
-    requires some { 0 < thread }
-    requires there { thread ≤ (ledger state.now).base.threads }
+    requires there { IsThread state.now.instance.logs thread }
     ensures { IfOk result (λ log. log ≡ online state.now thread) }
 {
     let logs = &state.instance.logs;
@@ -89,7 +89,15 @@ fn online_copy(alloc: Global, state: &State, thread: ThreadNo) -> Result<LogFile
     })
 }
 
-// Adds the online log of a thread, where it is not lost.
+// Whether a thread has an online log that is not lost.
+fn is_online(logs: &OnlineLogs, thread: ThreadNo) -> bool
+    requires { 0 < thread }
+    ensures { result ≡ is_online logs.now thread }
+{
+    logs.has(thread) && !logs.is_lost(thread)
+}
+
+// Adds the online log of a thread, where it is there and not lost.
 fn push_online(
     alloc: Global,
     state: &State,
@@ -98,22 +106,21 @@ fn push_online(
 ) -> Result<(), NoMemory>
     requires sound { IsSound state.now }
     requires some { 0 < thread }
-    requires there { thread ≤ (ledger state.now).base.threads }
-    ensures { OnOk result (logs.new ≡ logs.old ++ cond (is_lost state.now.instance.logs thread) [] (online state.now thread ∷ [])) }
+    ensures { OnOk result (logs.new ≡ logs.old ++ cond (is_online state.now.instance.logs thread) (online state.now thread ∷ []) []) }
 {
-    if !state.instance.logs.is_lost(thread) {
+    if is_online(&state.instance.logs, thread) {
         logs.push(online_copy(alloc, state, thread)?)?;
     }
     Ok(())
 }
 
-// The online logs that are not lost.
+// The online logs that are there and not lost.
 fn logs_in_place(alloc: Global, state: &State) -> Result<Seq<LogFile>, NoMemory>
     requires sound { IsSound state.now }
-    ensures { IfOk result (λ logs. logs ≡ online_logs state.now 1 (ledger state.now).base.threads) }
+    ensures { IfOk result (λ logs. logs ≡ online_logs state.now 1 4) }
 {
     let mut logs = Seq::new(alloc);
-    for index in 0..threads(state) {
+    for index in 0..MOST_THREADS {
         push_online(alloc, state, &mut logs, index + 1)?;
     }
     Ok(logs)

@@ -1,8 +1,10 @@
-//! The mark that a statement writes before its change.
-ghost use Rattle.std.specs.Prelude.{◌≡◌, OnOk, false, length};
+//! The mark that a statement writes before its change, and one SCN further.
+ghost use Rattle.std.specs.Prelude.{◌≡◌, ◌<◌, ◌≤◌, OnOk, false, length};
+ghost use Rattle.rm_base.specs.Numbers.{last_scn};
 ghost use Rattle.rm_machine.specs.BackupRefusal.{marks_for};
-ghost use Rattle.rm_machine.specs.Marks.{lacks_room, last_marked, listed, mark_now, marked_for, marks_before, with_marks};
+ghost use Rattle.rm_machine.specs.Marks.{lacks_room, last_marked, listed, mark_now, marked_for, marks_before, one_further, with_marks};
 ghost use Rattle.rm_machine.specs.Sound.{IsSound};
+ghost use Rattle.rm_machine.specs.State.{now_of};
 ghost use Rattle.rm_catalog_typed.specs.Changes.{EditsFollow};
 
 use crate::facts::now;
@@ -44,6 +46,15 @@ pub fn marks_before(state: &State) -> Option<Mark>
     }
 }
 
+/// How many marks come before a change: 1 or none.
+pub fn mark_count(state: &State) -> u64
+    requires sound { IsSound state.now }
+    ensures value { result ≡ length (marks_before state.now) }
+    ensures most { result ≤ 1 }
+{
+    u64::from(marks_before(state).is_some())
+}
+
 /// Writes the mark before a change, if there is one. An error is want of memory; then nothing is said of
 /// the state and the edits.
 pub fn add_marks_before(state: &mut State, edits: &mut Vec<Edit>) -> Result<(), NoMemory>
@@ -56,6 +67,22 @@ pub fn add_marks_before(state: &mut State, edits: &mut Vec<Edit>) -> Result<(), 
         state.catalog.add_mark(edits, mark)?;
     }
     Ok(())
+}
+
+/// Writes the mark before a change, and raises the end of the current incarnation by one SCN. An error is want of
+/// memory; then nothing is said of the state and the edits.
+pub fn go_further(state: &mut State, edits: &mut Vec<Edit>) -> Result<(), NoMemory>
+    requires sound { IsSound state.old }
+    requires room { lacks_room state.old (length (marks_before state.old)) ≡ false }
+    requires below { now_of state.old < last_scn }
+    ensures catalog { OnOk result (state.new.catalog ≡ one_further state.old) }
+    ensures instance { OnOk result (state.new.instance ≡ state.old.instance) }
+    ensures edits { OnOk result (EditsFollow edits.old.items edits.new.items state.old.catalog state.new.catalog) }
+{
+    let end = now(state) + 1;
+    let current = state.catalog.base().current;
+    add_marks_before(state, edits)?;
+    state.catalog.raise_end(edits, current, end)
 }
 
 /// Writes the mark that comes before the writes, where a statement has a DURING. An error is want of memory; then nothing is said

@@ -21,6 +21,7 @@ pub fn nature_of(command: &Command) -> Nature
         Command::OpenPlain => Nature::Changes,
         Command::OpenResetlogs => Nature::Changes,
         Command::Tracking { .. } => Nature::Changes,
+        Command::SwitchThread { .. } => Nature::Changes,
         Command::ResetDatabase { .. } => Nature::Changes,
         Command::Restore { .. } => Nature::ChangesByHeld,
         Command::Preview { .. } => Nature::TellsHeld,

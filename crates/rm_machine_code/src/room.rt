@@ -21,7 +21,8 @@ fn record_count(state: &State) -> u64
     let numbered = u64::from(catalog.tree().count()) + catalog.files().len() as u64;
     let backups = catalog.pieces().len() as u64 + catalog.sets().len() as u64;
     let objects = catalog.logs().len() as u64 + backups;
-    1 + numbered + objects + catalog.marks().len() as u64
+    let steps = catalog.marks().len() as u64 + catalog.switches().len() as u64;
+    1 + numbered + objects + steps
 }
 
 /// Whether `count` records more would be too many.

@@ -167,7 +167,7 @@ pub fn range_refusal(tree: &Tree, i: IncNo, at: Scn) -> Option<Refusal>
     })
 }
 
-/// Why an UNTIL is refused at once, if it is: its redo thread is not there (RM-05).
+/// Why an UNTIL is refused at once, if it is: its redo thread has no online log (RM-05).
 pub fn thread_refusal(state: &State, until: &Option<Until>) -> Option<Refusal>
     ensures value { result ≡ thread_refusal state.now until.now }
 {

@@ -5,7 +5,7 @@ ghost use Rattle.rm_machine.specs.Asked.{FitsNumbers, asked, by_thread, write_jo
 ghost use Rattle.rm_machine.specs.BackupOutcome.{write_lines};
 ghost use Rattle.rm_report.specs.declared.line.Line.TheVariants.{ThreadScn};
 
-use crate::facts::threads;
+use crate::facts::MOST_THREADS;
 use rm_base::{BlockNo, FileNo, NoMemory, Scn, Seq, ThreadNo};
 use rm_channel::WriteJob;
 use rm_lang_statement::WriteForm;
@@ -49,7 +49,7 @@ fn by_thread(alloc: Global, thread: u64, writes: &[WriteForm]) -> Result<Vec<Wri
     Ok(jobs)
 }
 
-/// A list of writes for each thread of the database: 1 to 4 lists. An error is want of memory.
+/// A list of writes for each of the threads 1 to 4. An error is want of memory.
 pub fn writers_in(
     alloc: Global,
     state: &State,
@@ -61,7 +61,7 @@ pub fn writers_in(
 {
     let writes = asked(during);
     let mut writers = Vec::new(alloc);
-    for index in 0..threads(state) {
+    for index in 0..MOST_THREADS {
         writers.push(by_thread(alloc, u64::from(index) + 1, writes)?)?;
     }
     Ok(writers)

@@ -246,7 +246,7 @@ module _ (s : State) (blocks : ℕ) (sound : IsSound s) (a : HasRoom s blocks) (
           many = (let x = length-append s.instance.place (Some file ∷ []) in let y = length-append files (d ∷ []) in omega (arith, x, y, sound.place.many));
           each = λ k e x at held. subst (IsPlaced tree k e) (sym (counted-open q x a.on.opened)) (place-after k e x at held);
         };
-        logs = record { dbid = was.logs.dbid; there = was.logs.there; threads = was.logs.threads; each = was.logs.each };
+        logs = record { dbid = was.logs.dbid; there = was.logs.there; four = was.logs.four; threads = was.logs.threads; gone = was.logs.gone; each = was.logs.each };
         damaged = damaged-kept p q refl refl (λ f x at. (x, placed-pushed s.instance.place (Some file) (f - 1) x at, omega arith)) path-stays was.damaged;
         tracker = tracked-created;
         in_open = λ _. record { inc = opened.inc; found = opened.found; point = opened.point };

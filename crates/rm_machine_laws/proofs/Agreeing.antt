@@ -93,7 +93,7 @@ module _ (s : State) (h : List Change) (objects : Held) (made : List Made) (touc
       All-contains (λ (n : SetFile). PieceAgrees (world s) h n.piece.kind n.piece) a.members m (set-agrees e a has there) member
 
   log-by : (a : LogFile) → LogFrom s objects a → LogAgrees h (log_of a)
-  log-by _ (from_online t low high found) = borne.keeps.online t low high found
+  log-by _ (from_online t there found) = borne.keeps.online t there found
   log-by _ (from_log l a has there) = log-agrees l a has there
 
   pub base-by : (a : Piece) → BaseFrom s objects a → BaseAgrees (world s) h (base_of a)

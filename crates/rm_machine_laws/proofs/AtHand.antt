@@ -1,5 +1,5 @@
 -- Where what is at hand comes from: each artefact is in place, or the one of a record.
-use Rattle.std.proofs.Common.{◌≡◌, ◌≢◌, ◌<◌, ◌≤◌, ◌∙◌, ◌+◌, inl, inr, ℕ, List, Some, false, ap, subst, arith, map, Contains, slice_get}
+use Rattle.std.proofs.Common.{◌≡◌, ◌≢◌, ◌∙◌, ◌+◌, inl, inr, ℕ, List, Some, false, ap, subst, arith, map, Contains, slice_get}
 use Rattle.std.specs.List.{filter_map}
 use Rattle.std.proofs.lemmas.List.Elements.{Contains-append_cases}
 use Rattle.rm_base.specs.Store.{Held}
@@ -17,6 +17,7 @@ use Rattle.rm_piece.specs.declared.piece.Piece.{Piece}
 use Rattle.rm_piece.specs.declared.set.Set.{Set}
 use Rattle.rm_piece.specs.declared.set.SetFile.{SetFile}
 use Rattle.rm_redo.specs.declared.log_file.LogFile.{LogFile}
+use Rattle.rm_redo.specs.Online.{IsThread}
 use Rattle.rm_catalog_typed.specs.TypedCatalog.{records_of}
 use Rattle.rm_catalog_typed.proofs.Members.{log-in, piece-in, set-in}
 use Rattle.rm_machine.specs.Damage.{has_file, undamaged}
@@ -28,10 +29,11 @@ use Rattle.rm_machine_code.proofs.Records.{base-told}
 use Rattle.rm_machine_code.proofs.Undamaged.{undamaged-at}
 use Rattle.rm_machine_code.proofs.Standing.{present-in}
 use Rattle.rm_machine_code.proofs.AtHand.{online-in}
+use Rattle.rm_machine_code.proofs.Threads.{thread-in}
 
 -- a log at hand is an online one that is not lost, or the log of a record
 pub data LogFrom (s : State) (held : Held) : LogFile → Type 0 where
-  from_online : (t : ℕ) → 0 < t → t ≤ (ledger s).base.threads → is_lost s.instance.logs t ≡ false → LogFrom s held (online s t)
+  from_online : (t : ℕ) → IsThread s.instance.logs t → is_lost s.instance.logs t ≡ false → LogFrom s held (online s t)
   from_log : (e : LogEntry) (a : LogFile) → Contains (ledger s).logs e → HasLogObject held e a → LogFrom s held a
 
 -- a backup at hand is the piece of a record, or one of the set of a record
@@ -56,10 +58,10 @@ placed-from {A} items id a has =
     subst (Contains items) (ap (λ (p : ℕ × A). p.1) found.is) found.held
 
 module _ (s : State) (held : Held) (sound : IsSound s) (e : Evidence) (gathered : IsAtHand s held e) where
-  placed-log : (a : LogFile) → Contains (online_logs s 1 (ledger s).base.threads) a → LogFrom s held a
+  placed-log : (a : LogFile) → Contains (online_logs s 1 4) a → LogFrom s held a
   placed-log a has =
-      let found = online-in s 1 (ledger s).base.threads a has in
-      subst (LogFrom s held) found.is (from_online found.thread (omega (arith, found.low)) (omega (arith, found.high)) found.found)
+      let found = online-in s 1 4 a has in
+      subst (LogFrom s held) found.is (from_online found.thread (thread-in s.instance.logs found.thread (omega (arith, found.low)) found.there) found.found)
 
   placed-file : (a : Piece) → Contains (map (placed_piece (ledger s).base.dbid) (in_place s).files) a → BaseFrom s held a
   placed-file a has =

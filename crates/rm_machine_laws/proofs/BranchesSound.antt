@@ -1,5 +1,5 @@
 -- A database that branches off at its point is sound.
-use Rattle.std.proofs.Common.{◌≡◌, ◌<◌, ◌≤◌, ◌∙◌, ℕ, List, Some, None, refl, ap, sym, subst, arith, length, slice_get}
+use Rattle.std.proofs.Common.{◌≡◌, ◌<◌, ◌≤◌, ◌∙◌, ℕ, List, Bool, Some, None, refl, ap, sym, subst, arith, length, slice_get}
 use Rattle.std.proofs.lemmas.List.Elements.{All-weaker}
 use Rattle.rm_base.specs.declared.block.Mark.{Mark}
 use Rattle.rm_blocks.specs.File.{File, standing}
@@ -13,6 +13,8 @@ use Rattle.rm_catalog_typed.specs.Changes.{with_incarnation}
 use Rattle.rm_catalog_typed.specs.Facts.{IsTypedCatalog}
 use Rattle.rm_catalog_typed.specs.Fitting.{FitsBranch, HasRoomFor}
 use Rattle.rm_catalog_typed.proofs.Fitted.{branch_fits}
+use Rattle.rm_catalog_typed.specs.Switches.{enabled_at, is_enabled_in}
+use Rattle.rm_redo.specs.Online.{fresh_log}
 use Rattle.rm_machine.specs.OpenResetlogs.{branched_off, next_incarnation, with_branched_off}
 use Rattle.rm_machine.specs.Sound.{IsPlaced, IsPoint, IsSound}
 use Rattle.rm_machine.specs.declared.state.State.{State}
@@ -20,10 +22,15 @@ use Rattle.rm_machine.specs.State.{ledger, world, current_of, redo_end}
 use Rattle.rm_machine_code.proofs.Damaged.{damaged-none}
 use Rattle.rm_machine_code.proofs.Tracked.{tracked-fresh}
 use Rattle.rm_machine_laws.proofs.Current.{current-kept}
-use Rattle.rm_machine_laws.proofs.FreshLogs.{fresh-found, fresh-many, fresh-online}
+use Rattle.rm_machine_laws.proofs.FreshLogs.{fresh-found, fresh-online}
 use Rattle.rm_machine_laws.proofs.Opened.{below-point, kept-get, kept-length, placed-standing}
 use Rattle.rm_machine_code.proofs.Places.{counted-closed, counted-open}
 use Rattle.rm_machine_code.proofs.BranchesSound.{CanBranchAt}
+use Rattle.rm_machine_code.proofs.Threads.{all-where_gone, where-there}
+
+-- whether the threads are enabled where the new incarnation begins
+abbrev pub enabled : State → ℕ → List Bool
+enabled s at = enabled_at (with_branched_off s at).ledger (next_incarnation s) at
 
 -- at its point an incarnation and its mark may come into the catalog
 pub branch-at_point : (s : State) (at : ℕ) → IsSound s → s.instance.point ≡ Some at → length s.catalog.ledger.tree < 256 → HasRoomFor s.catalog 2 → FitsBranch s.catalog (current_of s) at s.catalog.ledger.base.moment
@@ -96,12 +103,14 @@ module _ (s : State) (at : ℕ) (sound : IsSound s) (can : CanBranchAt s at) whe
         logs = record {
           dbid = refl;
           there = there-branched;
-          threads = fresh-many l.base.dbid n l.base.threads at;
-          each = λ t low inside found.
-              fresh-online l.base.dbid n l.base.threads at tree t (redo_end q) base.dbid sound.dbid (omega arith) (omega (arith, few)) base.threads.1 begun (omega (arith, high, last)) (omega (arith, reset)) low inside end;
+          four = refl;
+          threads = λ t low inside. where-there l.base.dbid n (fresh_log at) refl (is_enabled_in q.catalog.ledger n at) t low inside ∙ sym (ap (λ e. is_enabled_in q.catalog.ledger n e t) end);
+          gone = all-where_gone l.base.dbid n (fresh_log at) refl (is_enabled_in q.catalog.ledger n at);
+          each = λ t is found.
+              fresh-online l.base.dbid n (enabled s at) at tree t (redo_end q) base.dbid sound.dbid (omega arith) (omega (arith, few)) begun (omega (arith, high, last)) (omega (arith, reset)) is.1 is end;
         };
         damaged = damaged-none q (sound.damaged.idle can.shut);
         tracker = tracked-fresh q catalog-after refl;
-        in_open = λ _. record { inc = refl; found = λ t low inside. fresh-found l.base.dbid n l.base.threads at t low inside; point = refl };
+        in_open = λ _. record { inc = refl; found = λ t is. fresh-found l.base.dbid n (enabled s at) at t is; point = refl };
         point = λ m is. absurd (let none : None ≡ Some m = is in cc);
       }

@@ -1,5 +1,5 @@
 -- OPEN RESETLOGS leads on: logs are archived, and the tree gains an incarnation.
-use Rattle.std.proofs.Common.{◌≡◌, ◌<◌, ◌≤◌, ◌∙◌, ◌++◌, ℕ, List, Option, Some, None, true, IsSomeAnd, All, refl, sym, subst, arith, get_or}
+use Rattle.std.proofs.Common.{◌≡◌, ◌<◌, ◌∙◌, ◌++◌, ℕ, List, Option, Some, None, true, IsSomeAnd, All, refl, sym, subst, arith, get_or}
 use Rattle.std.proofs.lemmas.List.Elements.{All-weaker, Contains-get_or}
 use Rattle.rm_base.specs.Store.{Held}
 use Rattle.rm_base.specs.declared.block.Change.{Change}
@@ -13,6 +13,7 @@ use Rattle.rm_history.proofs.Branches.{end_of-with_branch}
 use Rattle.rm_history.proofs.Worlds.{BaseAgrees-with_branch, IsHistory-with_branch, Level1Agrees-with_branch, state-branched}
 use Rattle.rm_catalog_typed.proofs.Trees.{keeps_branch, parents_below}
 use Rattle.rm_redo.specs.LogFile.{log_of}
+use Rattle.rm_redo.specs.Online.{IsThread}
 use Rattle.rm_report.specs.declared.line.Line.{Line}
 use Rattle.rm_machine.specs.Archive.{after_all, archiving}
 use Rattle.rm_machine.specs.Effect.{Effect, Made, done}
@@ -24,7 +25,7 @@ use Rattle.rm_machine.specs.State.{current_of, now_of, online, placed, world}
 use Rattle.rm_machine_laws.proofs.Archives.{threads-stand}
 use Rattle.rm_machine_code.proofs.BranchesSound.{CanBranchAt}
 use Rattle.rm_machine_code.proofs.FirstTold.{tell-first}
-use Rattle.rm_machine_laws.proofs.BranchesSound.{end-branched, sound-branched}
+use Rattle.rm_machine_laws.proofs.BranchesSound.{enabled, end-branched, sound-branched}
 use Rattle.rm_machine_laws.proofs.DamagedRows.{but-damaged}
 use Rattle.rm_machine_laws.proofs.FreshLogs.{fresh-empty, fresh-first}
 use Rattle.rm_machine_laws.proofs.Grown.{SameHistory, true-on}
@@ -55,11 +56,11 @@ module _ (s : State) (at : ℕ) (h : List Change) (sound : IsSound s) (keeps : H
       (All-weaker (λ (r : Row). r ≡ state (world s) h i at x.file r.block) (λ (r : Row). r ≡ state (world q) h (current_of q) at x.file r.block)
       (λ r same. same ∙ sym (state-branched (world s) i at parents sound.catalog.ledger.current h at x.file r.block (omega arith))) x.rows (kept-rows s at h sound keeps can.here f x is))
 
-  online-branched : (t : ℕ) → 0 < t → t ≤ s.catalog.ledger.base.threads → LogAgrees h (log_of (online q t))
-  online-branched t low inside =
-      let base = s.catalog.ledger.base in
-      let first = fresh-first base.dbid (current_of q) base.threads at t (now_of q) low inside in
-      empty-agrees h (online q t) (fresh-empty base.dbid (current_of q) base.threads at t (now_of q) low inside) (omega (arith, first, end))
+  online-branched : (t : ℕ) → IsThread q.instance.logs t → LogAgrees h (log_of (online q t))
+  online-branched t there =
+      let dbid = s.catalog.ledger.base.dbid in
+      let first = fresh-first dbid (current_of q) (enabled s at) at t (now_of q) there in
+      empty-agrees h (online q t) (fresh-empty dbid (current_of q) (enabled s at) at t (now_of q) there) (omega (arith, first, end))
 
   below-branched : All (λ c. c.scn < end_of q.catalog.ledger.tree c.inc) h
   below-branched k d inside =
@@ -72,7 +73,7 @@ module _ (s : State) (at : ℕ) (h : List Change) (sound : IsSound s) (keeps : H
   keeps-branched = record {
     history = IsHistory-with_branch (world s) i at parents sound.catalog.ledger.current h keeps.history;
     below = below-branched;
-    online = λ t low inside found. online-branched t low inside;
+    online = λ t there found. online-branched t there;
     place = λ f x is none. subst (λ y. BaseAgrees (world q) h (base_of y)) (sym (counted-open q x refl)) (rows-agree (world q) h (current_of q) (now_of q) x (rows f x is));
     tracker = tell-first q.catalog.ledger true h below-branched;
     in_open = λ opened f x is. but-damaged q.instance.damaged (world q) h (current_of q) (now_of q) x (rows f x is);
@@ -110,7 +111,7 @@ resets-on s h objects made touched said e t after well stands tell none does eff
     let by = came s can.at said e t can.here does in
     unchanged (branched_off q can.at) (archiving s) h objects made touched e t after refl (cc) (cc) effect (λ left.
     let mid : IsBorneOut q h after (made ++ (archiving s).made) touched =
-    threads-stand s.catalog.ledger.base.threads 1 s h objects made touched after 2 (omega arith) (omega arith) can.room stands (λ name. left.removes name ∙ left.puts name) in
+    threads-stand 4 1 s h objects made touched after 2 (omega arith) can.room stands (λ name. left.removes name ∙ left.puts name) in
     borne-branched q can.at h is.sound mid.keeps (can-after s can is) after (made ++ (archiving s).made) touched mid)
 
 pub resets-stays : StaysBy OpenResetlogs

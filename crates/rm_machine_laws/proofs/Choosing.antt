@@ -23,14 +23,14 @@ use Rattle.rm_machine_laws.proofs.Current.{current-kept}
 use Rattle.rm_machine_laws.proofs.Leading.{LeadsOnBy, StaysBy}
 use Rattle.rm_machine_code.proofs.Places.{counted-closed}
 use Rattle.rm_machine_laws.proofs.Quiet.{quiet-on, quiet-stays}
-use Rattle.rm_machine_code.proofs.Switching.{thread-of}
+use Rattle.rm_machine_code.proofs.Threads.{number-within}
 
 pub record CanChoose (s : State) (i : ℕ) : Type 0 where
   pub shut : s.instance.is_open ≡ false
   pub there : IsThere s.catalog.ledger.tree i
 
 pub can-choose : (s : State) (i : ℕ) → reset_refusal s i ≡ None → CanChoose s i
-can-choose s i is = record { shut = search rules; there = thread-of (length s.catalog.ledger.tree) i (search rules) }
+can-choose s i is = record { shut = search rules; there = number-within (length s.catalog.ledger.tree) i (search rules) }
 
 module _ (s : State) (i : ℕ) (sound : IsSound s) (can : CanChoose s i) where
   abbrev q : State
@@ -53,7 +53,7 @@ module _ (s : State) (i : ℕ) (sound : IsSound s) (can : CanChoose s i) where
           many = sound.place.many;
           each = λ k d x file held. subst (IsPlaced s.catalog.ledger.tree k d) (counted-closed s x can.shut ∙ sym (counted-closed q x can.shut)) (sound.place.each k d x file held);
         };
-        logs = record { dbid = logs.dbid; there = logs.there; threads = logs.threads; each = logs.each };
+        logs = record { dbid = logs.dbid; there = logs.there; four = logs.four; threads = logs.threads; gone = logs.gone; each = logs.each };
         damaged = damaged-none q (sound.damaged.idle can.shut);
         tracker = tracked-none q (ap (λ b. b && s.catalog.ledger.base.tracking) can.shut) untracked;
         in_open = λ mode. absurd (false≢true (sym can.shut ∙ mode));
@@ -64,7 +64,7 @@ module _ (s : State) (i : ℕ) (sound : IsSound s) (can : CanChoose s i) where
   keeps-chosen h keeps = record {
     history = keeps.history;
     below = keeps.below;
-    online = counted-agree s i h sound.logs keeps.online;
+    online = counted-agree s i can.there sound.logs h keeps.online;
     place = λ f x is none. subst (λ y. BaseAgrees (world s) h (base_of y)) (counted-closed s x can.shut ∙ sym (counted-closed q x can.shut)) (keeps.place f x is none);
     tracker = subst (Tell (current_of q) h (now_of q)) (sym untracked) (tell-none (current_of q) h (now_of q));
     in_open = λ mode. absurd (false≢true (sym can.shut ∙ mode));

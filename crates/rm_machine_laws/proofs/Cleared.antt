@@ -1,8 +1,7 @@
 -- Exactly the obsolete records go, with their objects: nothing that a target of the window needs is lost, and a second time none is found.
-use Rattle.std.proofs.Common.{◌≡◌, ◌∙◌, ◌++◌, ◌⊎◌, ◌==◌, inl, inr, ℕ, List, [], ◌∷◌, refl, ap, sym, subst, arith, Contains}
+use Rattle.std.proofs.Common.{◌≡◌, ◌∙◌, ◌⊎◌, ◌==◌, inl, inr, ℕ, List, [], ◌∷◌, refl, ap, sym, subst, Contains}
 use Rattle.std.specs.List.{list_any}
 use Rattle.std.proofs.lemmas.Bool.{cases_Bool, eq-eqb, eqb-true, false≢true}
-use Rattle.std.proofs.lemmas.List.Elements.{Contains-append_cases, Contains-append_left, Contains-append_right}
 use Rattle.std.proofs.lemmas.Option.{same_Some}
 use Rattle.rm_base.specs.Store.{Held}
 use Rattle.rm_base.specs.declared.block.Change.{Change}
@@ -27,13 +26,13 @@ use Rattle.rm_history.specs.History.{IsHistory}
 use Rattle.rm_history.specs.Evidence.{Agrees}
 use Rattle.rm_history.specs.FirstGap.{IsRecoverable, IsTarget}
 use Rattle.rm_history.specs.Known.{Determined}
-use Rattle.rm_catalog_typed.specs.Ledger.{Ledger, front_records, ledger_records, set_records}
-use Rattle.rm_catalog_typed.proofs.Lookups.{IsOf, has-datafile, has-incarnation, has-mark, of_base, of_datafile, of_incarnation, of_log, of_mark, of_piece, of_set, record-is}
+use Rattle.rm_catalog_typed.specs.Ledger.{Ledger, ledger_records}
+use Rattle.rm_catalog_typed.proofs.Lookups.{IsOwn, own-has, record-own}
 use Rattle.rm_evidence.proofs.Current.{current_is}
 use Rattle.rm_evidence.proofs.Found.{at-is}
 use Rattle.rm_catalog_typed.specs.Facts.{IsTypedCatalog}
-use Rattle.rm_catalog_typed.specs.TypedCatalog.{TypedCatalog, records_of, saved_records}
-use Rattle.rm_catalog_typed.proofs.Members.{ledger-has, log-has, log-in, piece-has, piece-in, set-has, set-in, site-has}
+use Rattle.rm_catalog_typed.specs.TypedCatalog.{TypedCatalog, records_of}
+use Rattle.rm_catalog_typed.proofs.Members.{either-of, ledger-has, log-has, log-in, piece-has, piece-in, set-has, set-in, site-has}
 use Rattle.rm_catalog_typed.proofs.Valid.{typed_catalog-valid}
 use Rattle.rm_retain.specs.Catalogued.{AreObsolete, IsObsoleteRecord}
 use Rattle.rm_retain.specs.Chosen.{Retention}
@@ -75,30 +74,17 @@ module _ (l : Ledger) (ls : List LogEntry) (ps : List PieceEntry) (es : List Set
   others = record l { logs = ls; pieces = ps; sets = es }
 
   -- what holds of records of logs, pieces and sets, and of the records that such a ledger has, holds of all
-  by-kind : ((x : Record) → Contains (ledger_records others) x → X x) → (x : Record) → IsOf l x → X x
-  by-kind rest x (of_base is) = rest x (subst (Contains (ledger_records others)) (sym is) (0, omega arith, refl))
-  by-kind rest x (of_incarnation i there is) = rest x (subst (Contains (ledger_records others)) (sym is) (has-incarnation others i there))
-  by-kind rest x (of_datafile k d there is) = rest x (subst (Contains (ledger_records others)) (sym is) (has-datafile others k d there))
-  by-kind rest x (of_log e has is) = subst X (sym is) (logs e has)
-  by-kind rest x (of_piece p has is) = subst X (sym is) (pieces p has)
-  by-kind rest x (of_mark k m there is) = rest x (subst (Contains (ledger_records others)) (sym is) (has-mark others k m there))
-  by-kind rest x (of_set e has is) = subst X (sym is) (sets e has)
-
--- a record of a catalog is one of its ledger, or of its saved site
-either-of : (r : TypedCatalog) (x : Record) → Contains (records_of r) x → Contains (ledger_records r.ledger) x ⊎ Contains (saved_records r.saved) x
-either-of r x has = elim (Contains-append_cases (front_records r.ledger ++ saved_records r.saved) (set_records r.ledger) x has) [
-  | inr late ↦ inl (Contains-append_right (front_records r.ledger) (set_records r.ledger) x late)
-  | inl early ↦ elim (Contains-append_cases (front_records r.ledger) (saved_records r.saved) x early) [
-    | inl low ↦ inl (Contains-append_left (front_records r.ledger) (set_records r.ledger) x low)
-    | inr site ↦ inr site
-  ]
-]
+  by-kind : ((x : Record) → Contains (ledger_records others) x → X x) → (x : Record) → IsOwn l x → X x
+  by-kind rest (kind.Log e) own = logs e own
+  by-kind rest (kind.Piece p) own = pieces p own
+  by-kind rest (kind.Set e) own = sets e own
+  by-kind rest x own = rest x (own-has others x own)
 
 -- the same of all records of a catalog
 by-record : (r : TypedCatalog) (ls : List LogEntry) (ps : List PieceEntry) (es : List SetEntry) (X : Record → Type 0) → ((e : LogEntry) → Contains r.ledger.logs e → X (kind.Log e)) → ((p : PieceEntry) → Contains r.ledger.pieces p → X (kind.Piece p))
     → ((e : SetEntry) → Contains r.ledger.sets e → X (kind.Set e)) → ((x : Record) → Contains (records_of (with_entries r ls ps es)) x → X x) → (x : Record) → Contains (records_of r) x → X x
 by-record r ls ps es X logs pieces sets rest x has = elim (either-of r x has) [
-  | inl here ↦ by-kind r.ledger ls ps es X logs pieces sets (λ y held. rest y (ledger-has (with_entries r ls ps es) y held)) x (record-is r.ledger x here)
+  | inl here ↦ by-kind r.ledger ls ps es X logs pieces sets (λ y held. rest y (ledger-has (with_entries r ls ps es) y held)) x (record-own r.ledger x here)
   | inr site ↦ rest x (site-has (with_entries r ls ps es) x site)
 ]
 

@@ -1,23 +1,19 @@
--- Where all logs are lost, they count as logs of another incarnation.
-use Rattle.std.proofs.Common.{◌≡◌, ◌<◌, ◌≤◌, ◌-◌, ◌∙◌, ℕ, zero, suc, List, [], ◌∷◌, Bool, true, false, cond, refl, sym, arith, length, slice_get}
-use Rattle.std.specs.List.{list_all}
+-- Where all logs are lost, they count as logs of another incarnation, of the threads that are enabled at its end.
+use Rattle.std.proofs.Common.{◌≡◌, ◌-◌, ◌∙◌, ℕ, List, Bool, true, false, cond, refl, ap, sym}
 use Rattle.std.specs.Option.{option_map_or}
-use Rattle.std.proofs.lemmas.Bool.{and_parts}
 use Rattle.rm_base.specs.declared.block.Change.{Change}
 use Rattle.rm_history.specs.Agrees.{LogAgrees}
-use Rattle.rm_history.specs.Tree.{IsThere}
+use Rattle.rm_history.specs.Tree.{IsThere, end_of}
+use Rattle.rm_catalog_typed.specs.Switches.{enabled_at, is_enabled_in}
 use Rattle.rm_redo.specs.declared.online.ThreadLog.{ThreadLog}
 use Rattle.rm_redo.specs.LogFile.{log_of}
 use Rattle.rm_redo.specs.Logs.{Logs}
-use Rattle.rm_redo.specs.Online.{counted_as}
+use Rattle.rm_redo.specs.Online.{IsThread, are_lost, counted_as, lost_log, lost_logs}
 use Rattle.rm_machine.specs.Sound.{AreOnline}
 use Rattle.rm_machine.specs.declared.state.State.{State}
-use Rattle.rm_machine.specs.State.{is_lost, online}
-
-all-lost : (ls : List ThreadLog) (k : ℕ) → k < length ls → list_all (λ l. l.is_lost) ls ≡ true → option_map_or (λ l. l.is_lost) (slice_get ls k) false ≡ true
-all-lost [] k inside all = absurd (omega (arith, inside))
-all-lost (l ∷ ls) zero inside all = (and_parts l.is_lost (list_all (λ m. m.is_lost) ls) all).0
-all-lost (l ∷ ls) (suc k) inside all = all-lost ls k (omega (arith, inside)) (and_parts l.is_lost (list_all (λ m. m.is_lost) ls) all).1
+use Rattle.rm_machine.specs.State.{is_lost, ledger, online, tree}
+use Rattle.rm_machine_code.proofs.Threads.{all-where_gone, where-there}
+use Rattle.rm_machine_laws.proofs.FreshLogs.{where-get}
 
 -- the state with other logs
 abbrev pub with_logs : State → Logs → State
@@ -25,23 +21,41 @@ with_logs s logs = record s { instance = record s.instance { logs = logs } }
 
 -- each log that is not lost agrees
 abbrev pub AgreeOnline : State → List Change → Type 0
-AgreeOnline s h = (t : ℕ) → 0 < t → t ≤ s.catalog.ledger.base.threads → is_lost s.instance.logs t ≡ false → LogAgrees h (log_of (online s t))
+AgreeOnline s h = (t : ℕ) → IsThread s.instance.logs t → is_lost s.instance.logs t ≡ false → LogAgrees h (log_of (online s t))
 
-clash-lost : {X : Type 0} (s : State) (t : ℕ) → AreOnline s → list_all (λ l. l.is_lost) s.instance.logs.threads ≡ true → 0 < t → t ≤ s.catalog.ledger.base.threads → is_lost s.instance.logs t ≡ false → X
-clash-lost s t are all low high found =
-    let lost = all-lost s.instance.logs.threads (t - 1) (omega (arith, are.threads, low, high)) all in
-    absurd (let e : true ≡ false = sym lost ∙ found in cc)
+module _ (s : State) (i : ℕ) (there : IsThere (tree s) i) (are : AreOnline s) where
+  abbrev enabled : List Bool
+  enabled = enabled_at (ledger s) i (end_of (tree s) i)
 
-counted-by : (s : State) (i : ℕ) (b : Bool) → list_all (λ l. l.is_lost) s.instance.logs.threads ≡ b → IsThere s.catalog.ledger.tree i → AreOnline s → AreOnline (with_logs s (cond b (record s.instance.logs { inc = i }) s.instance.logs))
-counted-by s i true is there are = record { dbid = are.dbid; there = there; threads = are.threads; each = λ t low high found. clash-lost s t are is low high found }
-counted-by s i false is there are = record { dbid = are.dbid; there = are.there; threads = are.threads; each = are.each }
+  abbrev lost : Logs
+  lost = lost_logs s.instance.logs.dbid i enabled
 
-pub counted-online : (s : State) (i : ℕ) → IsThere s.catalog.ledger.tree i → AreOnline s → AreOnline (with_logs s (counted_as s.instance.logs i))
-counted-online s i there are = counted-by s i (list_all (λ l. l.is_lost) s.instance.logs.threads) refl there are
+  -- there each thread's log is lost
+  clash-lost : {X : Type 0} (t : ℕ) → IsThread lost t → is_lost lost t ≡ false → X
+  clash-lost t is found =
+      let gone : is_lost lost t ≡ true = ap (λ o. option_map_or (λ (l : ThreadLog). l.is_lost) o false) (where-get lost_log enabled (t - 1) is.2) in
+      absurd (let e : true ≡ false = sym gone ∙ found in cc)
 
-agree-by : (s : State) (i : ℕ) (h : List Change) (b : Bool) → list_all (λ l. l.is_lost) s.instance.logs.threads ≡ b → AreOnline s → AgreeOnline s h → AgreeOnline (with_logs s (cond b (record s.instance.logs { inc = i }) s.instance.logs)) h
-agree-by s i h true is are agree t low high found = clash-lost s t are is low high found
-agree-by s i h false is are agree t low high found = agree t low high found
+  online-lost : AreOnline (with_logs s lost)
+  online-lost = record {
+    dbid = are.dbid;
+    there = there;
+    four = refl;
+    threads = where-there s.instance.logs.dbid i lost_log refl (is_enabled_in (ledger s) i (end_of (tree s) i));
+    gone = all-where_gone s.instance.logs.dbid i lost_log refl (is_enabled_in (ledger s) i (end_of (tree s) i));
+    each = λ t is found. clash-lost t is found;
+  }
 
-pub counted-agree : (s : State) (i : ℕ) (h : List Change) → AreOnline s → AgreeOnline s h → AgreeOnline (with_logs s (counted_as s.instance.logs i)) h
-counted-agree s i h are agree = agree-by s i h (list_all (λ l. l.is_lost) s.instance.logs.threads) refl are agree
+  counted-by : (b : Bool) → AreOnline (with_logs s (cond b lost s.instance.logs))
+  counted-by true = online-lost
+  counted-by false = record { dbid = are.dbid; there = are.there; four = are.four; threads = are.threads; gone = are.gone; each = are.each }
+
+  pub counted-online : AreOnline (with_logs s (counted_as s.instance.logs i enabled))
+  counted-online = counted-by (are_lost s.instance.logs.threads)
+
+  agree-by : (h : List Change) (b : Bool) → AgreeOnline s h → AgreeOnline (with_logs s (cond b lost s.instance.logs)) h
+  agree-by h true agree t is found = clash-lost t is found
+  agree-by h false agree t is found = agree t is found
+
+  pub counted-agree : (h : List Change) → AgreeOnline s h → AgreeOnline (with_logs s (counted_as s.instance.logs i enabled)) h
+  counted-agree h agree = agree-by h (are_lost s.instance.logs.threads) agree

@@ -1,7 +1,7 @@
 -- The laws of every statement.
-use Rattle.std.proofs.Common.{◌≡◌, true, refl}
+use Rattle.std.proofs.Common.{◌≡◌, true, false, refl}
 use Rattle.rm_lang_statement.specs.declared.command.Command.{Command}
-use Rattle.rm_lang_statement.specs.declared.command.Command.TheVariants.{ArchiveLogCurrent, Backup, BackupLogs, BlockRecover, CatalogName, ChangeBackup, Corrupt, CreateDatabase, CreateDatafile, Crosscheck, Cut, Damage, DeleteBackup, DeleteExpired, DeleteObsolete, Dump, ListArchived, ListBackup, ListCopy, ListCorruption, ListIncarnation, LoseDatafile, LoseLog, Mount, OpenPlain, OpenResetlogs, Parallelism, Preview, Recover, RecoverTest, Remove, Rename, ReportNeedBackup, ReportObsolete, ReportSchema, ResetDatabase, Restore, Retention, ShowAll, SwitchLogfile, Tracking, ValidateAll, Write, RecoverCopy}
+use Rattle.rm_lang_statement.specs.declared.command.Command.TheVariants.{ArchiveLogCurrent, Backup, BackupLogs, BlockRecover, CatalogName, ChangeBackup, Corrupt, CreateDatabase, CreateDatafile, Crosscheck, Cut, Damage, DeleteBackup, DeleteExpired, DeleteObsolete, Dump, ListArchived, ListBackup, ListCopy, ListCorruption, ListIncarnation, LoseDatafile, LoseLog, Mount, OpenPlain, OpenResetlogs, Parallelism, Preview, Recover, RecoverTest, Remove, Rename, ReportNeedBackup, ReportObsolete, ReportSchema, ResetDatabase, Restore, Retention, ShowAll, SwitchLogfile, SwitchThread, Tracking, ValidateAll, Write, RecoverCopy}
 use Rattle.rm_machine.specs.Laws.{LeadsOn, TellsOn, only_tells}
 use Rattle.rm_machine_laws.proofs.AddingDatafile.{create-on, create-stays}
 use Rattle.rm_machine_laws.proofs.ArchivingAll.{all-on, all-stays}
@@ -13,6 +13,8 @@ use Rattle.rm_machine_laws.proofs.Choosing.{choose-on, choose-stays}
 use Rattle.rm_machine_laws.proofs.Corrupting.{corrupt-on, corrupt-stays}
 use Rattle.rm_machine_laws.proofs.Deleting.{delete-on, delete-stays}
 use Rattle.rm_machine_laws.proofs.DeletingObsolete.{obsolete-on, obsolete-stays}
+use Rattle.rm_machine_laws.proofs.Disabling.{disable-on, disable-stays}
+use Rattle.rm_machine_laws.proofs.Enabling.{enable-on, enable-stays}
 use Rattle.rm_machine_laws.proofs.Mishaps.{cut-on, cut-stays, damage-on, damage-stays, remove-on, remove-stays, rename-on, rename-stays}
 use Rattle.rm_machine_laws.proofs.Leading.{LeadsOnBy, StaysBy, leads, tells}
 use Rattle.rm_machine_laws.proofs.Losing.{lose-on, lose-stays}
@@ -34,10 +36,10 @@ use Rattle.rm_machine_laws.proofs.Founding.{never-again, never-loose}
 use Rattle.rm_machine_laws.proofs.LooseBackup.{back_logs-loose, backup-loose}
 use Rattle.rm_machine_laws.proofs.LooseCopies.{renew-loose}
 use Rattle.rm_machine_laws.proofs.LooseMishaps.{cut-loose, damage-loose, remove-loose, rename-loose}
-use Rattle.rm_machine_laws.proofs.LooseNew.{archive-loose, branch-loose, switch-loose}
+use Rattle.rm_machine_laws.proofs.LooseNew.{archive-loose, branch-loose, disable-loose, switch-loose}
 use Rattle.rm_machine_laws.proofs.LooseUpkeep.{change-loose, check-loose, delete-loose, expire-loose, obsolete-loose}
-use Rattle.rm_machine_laws.proofs.LooseQuiet.{choose-loose, corrupt-loose, create-loose, lose-loose, lose_log-loose, mount-loose, open-loose, parallelism-loose, recover-loose, repair-loose, restore-loose, retention-loose, told-loose, tracking-loose, write-loose}
-use Rattle.rm_machine_laws.proofs.Roomy.{LeavesIds, archive-roomy, back_logs-roomy, backup-roomy, branch-roomy, change-roomy, check-roomy, choose-roomy, corrupt-roomy, create-roomy, cut-roomy, damage-roomy, delete-roomy, expire-roomy, lose-roomy, lose_log-roomy, mount-roomy, never-roomy, obsolete-roomy, open-roomy, parallelism-roomy, recover-roomy, remove-roomy, rename-roomy, repair-roomy, restore-roomy, retention-roomy, switch-roomy, told-roomy, tracking-roomy, write-roomy, renew-roomy}
+use Rattle.rm_machine_laws.proofs.LooseQuiet.{choose-loose, corrupt-loose, create-loose, enable-loose, lose-loose, lose_log-loose, mount-loose, open-loose, parallelism-loose, recover-loose, repair-loose, restore-loose, retention-loose, told-loose, tracking-loose, write-loose}
+use Rattle.rm_machine_laws.proofs.Roomy.{LeavesIds, archive-roomy, back_logs-roomy, backup-roomy, branch-roomy, change-roomy, check-roomy, choose-roomy, corrupt-roomy, create-roomy, cut-roomy, damage-roomy, delete-roomy, disable-roomy, enable-roomy, expire-roomy, lose-roomy, lose_log-roomy, mount-roomy, never-roomy, obsolete-roomy, open-roomy, parallelism-roomy, recover-roomy, remove-roomy, rename-roomy, repair-roomy, restore-roomy, retention-roomy, switch-roomy, told-roomy, tracking-roomy, write-roomy, renew-roomy}
 
 -- what is shown of each statement
 record IsLawful (c : Command) : Type 0 where
@@ -64,6 +66,8 @@ every (CreateDatafile blocks) = lawful (CreateDatafile blocks) (create-on blocks
 every (Write w) = lawful (Write w) (write-on w) (write-stays w) (write-loose w) (write-roomy w)
 every (SwitchLogfile t) = lawful (SwitchLogfile t) (switch-on t) (switch-stays t) (switch-loose t) (switch-roomy t)
 every ArchiveLogCurrent = lawful ArchiveLogCurrent all-on all-stays archive-loose archive-roomy
+every (SwitchThread t true) = lawful (SwitchThread t true) (enable-on t) (enable-stays t) (enable-loose t) (enable-roomy t)
+every (SwitchThread t false) = lawful (SwitchThread t false) (disable-on t) (disable-stays t) (disable-loose t) (disable-roomy t)
 every Mount = lawful Mount mount-on mount-stays mount-loose mount-roomy
 every OpenPlain = lawful OpenPlain open-on open-stays open-loose open-roomy
 every OpenResetlogs = lawful OpenResetlogs resets-on resets-stays branch-loose branch-roomy

@@ -5,22 +5,25 @@ use Rattle.rm_base.specs.declared.block.Change.{Change}
 use Rattle.rm_blocks.specs.File.{File}
 use Rattle.rm_history.specs.declared.tree.Incarnation.{Incarnation}
 use Rattle.rm_history.specs.State.{state}
+use Rattle.rm_history.specs.Threads.{IsEnabled}
 use Rattle.rm_history.specs.Tree.{IsThere, end_of, owner, reset_of}
 use Rattle.rm_history.proofs.Below.{Further, agrees-further, below-risen, state-end}
 use Rattle.rm_history.proofs.Histories.{IsHistory-with_end, state-with_end}
 use Rattle.rm_history.proofs.Owners.{owner-here}
 use Rattle.rm_history.proofs.Worlds.{BaseAgrees-with_end, Level1Agrees-with_end}
 use Rattle.rm_catalog_typed.proofs.Trees.{Keeps, parents_below}
+use Rattle.rm_catalog_typed.specs.Switches.{is_enabled_in}
 use Rattle.rm_redo.specs.LogFile.{log_of}
+use Rattle.rm_redo.specs.Online.{IsThread}
 use Rattle.rm_machine.specs.Damage.{has_block}
 use Rattle.rm_machine.specs.Machine.{HistoryFits, SoundRowsAre}
 use Rattle.rm_machine.specs.Sound.{IsSound}
 use Rattle.rm_machine.specs.declared.state.State.{State}
-use Rattle.rm_machine.specs.State.{world, now_of, redo_end, placed, online}
+use Rattle.rm_machine.specs.State.{ledger, world, now_of, redo_end, placed, online}
 use Rattle.rm_machine_laws.proofs.Bitmaps.{tell-later}
 use Rattle.rm_machine_laws.proofs.Grown.{SameHistory}
 use Rattle.rm_machine_laws.proofs.DamagedRows.{sound-agrees}
-use Rattle.rm_machine_code.proofs.Further.{GoesOn}
+use Rattle.rm_machine_code.proofs.Further.{GoesOn, inc-now}
 use Rattle.rm_machine_code.proofs.Further as shared
 
 -- each change lies below the end up to which the logs of its incarnation tell
@@ -61,6 +64,15 @@ module _ (s : State) (sound : IsSound s) (on : GoesOn s) where
   pub owns-now : owner old i now ≡ i
   owns-now = owner-here old (parents_below old sound.catalog.ledger.incarnations) i now there.0 range.1
 
+  -- a thread that has a log is enabled there
+  pub enabled-now : (t : ℕ) → IsThread s.instance.logs t → IsEnabled (world s) i now t
+  enabled-now t is =
+      let few : t ≤ 4 = omega (arith, is.1, sound.logs.four) in
+      record {
+        number = (is.0, few);
+        on = sym (sound.logs.threads t is.0 few ∙ ap (λ j. is_enabled_in (ledger s) j (end_of old j) t) (inc-now s sound on)) ∙ is.2;
+      }
+
   module _ (h : List Change) (keeps : HistoryFits s h) where
     pub state-further : (f b : ℕ) → state (world q) h i (now_of q) f b ≡ state (world s) h i now f b
     state-further f b =
@@ -79,7 +91,7 @@ module _ (s : State) (sound : IsSound s) (on : GoesOn s) where
     fits-further = record {
       history = IsHistory-with_end (world s) i (now + 1) h there keeps.history;
       below = below-risen old i (now + 1) h there (omega arith) (λ c held. (keeps.history.changes c held).there) keeps.below;
-      online = λ t low high found. agrees-further h (log_of (online s t)) (log_of (online q t)) (logs-further t) refl (below-redo s h keeps.below) (keeps.online t low high found);
+      online = λ t is found. agrees-further h (log_of (online s t)) (log_of (online q t)) (logs-further t) refl (below-redo s h keeps.below) (keeps.online t is found);
       place = λ f x is none. sound-agrees q h x on.opened (rows-further f x is) none;
       tracker = tell-later i h now (now_of q) s.instance.tracker (omega (arith, now-further)) keeps.tracker;
       in_open = λ _ f x is. rows-further f x is;

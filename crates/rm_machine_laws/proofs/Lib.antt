@@ -21,10 +21,12 @@ mod DamagedLists
 mod DamagedRows
 mod Deleting
 mod DeletingObsolete
+mod Disabling
 mod Mended
 mod Mishaps
 mod Dropping
 pub mod Every
+mod Enabling
 mod Exchanging
 mod Found
 pub mod Founding
@@ -62,6 +64,8 @@ pub mod Safely
 mod Settings
 mod Switching
 mod Telling
+mod ThreadSwitched
+mod ThreadSwitches
 mod Told
 mod Tracking
 mod Upkeep

@@ -6,12 +6,13 @@ use Rattle.rm_commit.specs.declared.commit.Object.{Object}
 use Rattle.rm_commit.specs.Names.{is_named, itself, name_of}
 use Rattle.rm_commit.proofs.Standing.{unnamed}
 use Rattle.rm_lang_statement.specs.declared.command.Command.{Command}
-use Rattle.rm_lang_statement.specs.declared.command.Command.TheVariants.{ArchiveLogCurrent, OpenResetlogs, SwitchLogfile}
+use Rattle.rm_lang_statement.specs.declared.command.Command.TheVariants.{ArchiveLogCurrent, OpenResetlogs, SwitchLogfile, SwitchThread}
 use Rattle.rm_evidence.specs.Names.{log_name, piece_name, set_name, site_name}
 use Rattle.rm_evidence.proofs.Names.{log-name-tells, log-no-piece, log-no-set, log-no-site, piece-name-tells, piece-no-set, piece-no-site, set-no-site}
 use Rattle.rm_redo.specs.LogFormat.{spelling}
 use Rattle.rm_report.specs.declared.line.Line.{Line}
 use Rattle.rm_machine.specs.Archive.{after_all, after_thread, archiving, puts_from}
+use Rattle.rm_machine.specs.DisableThread.{disabling}
 use Rattle.rm_machine.specs.Effect.{Effect, done, no_effect}
 use Rattle.rm_machine.specs.OpenResetlogs.{branched_off, resetlogs_lines}
 use Rattle.rm_machine.specs.Sound.{IsSound}
@@ -21,6 +22,7 @@ use Rattle.rm_machine.specs.SwitchLogfile.{archived, is_due, made_lines, none_li
 use Rattle.rm_machine_code.proofs.Archives.{HasRoom, Took, next-room, took-thread}
 use Rattle.rm_machine_laws.proofs.ArchivingAll.{room}
 use Rattle.rm_machine_code.proofs.Branching.{can-reset}
+use Rattle.rm_machine_code.proofs.Disabling.{accepted}
 use Rattle.rm_machine_laws.proofs.NewObjects.{log-apart, piece-apart, set-apart}
 use Rattle.rm_machine_laws.proofs.Switching.{CanSwitch, can-archive, can-switch}
 use Rattle.rm_machine_laws.specs.Loose.{IsLoose, IsLowIn, IsNamedBy, StaysLoose, of_object, of_part}
@@ -113,7 +115,7 @@ switch-by : (b : Bool) (s : State) (t : ℕ) (lines : List Line) (e : Effect) (q
 switch-by false s t lines e q due sound can is = quiet-loose s (SwitchLogfile t) lines _ e s q is
 switch-by true s t lines e q due sound can is =
     let id = (ledger s).base.next_id in
-    let most = (can-archive s t due (can.due due)).ids in
+    let most = (can-archive s t can due).ids in
     let same : archived id (online s t) ≡ e = cc in
     subst (λ x. IsLoose (Some s) (SwitchLogfile t) x q) same
     (new-loose s (SwitchLogfile t) (archived id (online s t)) q refl (one-new s id (spelling (online s t)) sound (record { next = omega arith; most = omega (arith, most) })))
@@ -121,7 +123,7 @@ switch-by true s t lines e q due sound can is =
 pub switch-loose : (t : ℕ) → StaysLoose (SwitchLogfile t)
 switch-loose t = loose-done (SwitchLogfile t) (λ s held lines e q sound none is. switch-by (is_due s t) s t lines e q refl sound (can-switch s t none) is)
 
--- ARCHIVE LOG CURRENT
+-- DISABLE THREAD and ARCHIVE LOG CURRENT
 
 thread-new : (b : Bool) (s : State) (id : ℕ) (bytes : List ℕ) → IsSound s → (b ≡ true → IsFree s id) → AreNew s (cond b (record { name = log_name id; bytes = bytes } ∷ []) [])
 thread-new true s id bytes sound free = one-new s id bytes sound (free refl)
@@ -137,11 +139,17 @@ threads-new (suc n) t s more first sound low fits =
     (thread-new (is_due s t) first id (spelling (online s t)) sound (λ due. record { next = low; most = omega (arith, fits.ids) }))
     (threads-new n (t + 1) q more first sound (omega (arith, low, took.ids)) (next-room s t n more fits))
 
+pub disable-loose : (t : ℕ) → StaysLoose (SwitchThread t false)
+disable-loose t = loose-done (SwitchThread t false) (λ s held lines e q sound none does.
+    let is : disabling s t ≡ e = cc in
+    subst (λ x. IsLoose (Some s) (SwitchThread t false) x q) is
+    (new-loose s (SwitchThread t false) (disabling s t) q refl (thread-new (is_due s t) s (ledger s).base.next_id (spelling (online s t)) sound (λ due. record { next = omega arith; most = omega (arith, (accepted s t sound none).ids) }))))
+
 pub archive-loose : StaysLoose ArchiveLogCurrent
 archive-loose = loose-done ArchiveLogCurrent (λ s held lines e t sound none does.
     let is : archiving s ≡ e = cc in
     subst (λ x. IsLoose (Some s) ArchiveLogCurrent x t) is
-    (new-loose s ArchiveLogCurrent (archiving s) t refl (threads-new (ledger s).base.threads 1 s 0 s sound (omega arith) (room s sound none))))
+    (new-loose s ArchiveLogCurrent (archiving s) t refl (threads-new 4 1 s 0 s sound (omega arith) (room s sound none))))
 
 -- OPEN RESETLOGS
 
@@ -152,4 +160,4 @@ branch-by (Some at) s lines e t is = cc
 pub branch-loose : StaysLoose OpenResetlogs
 branch-loose = loose-done OpenResetlogs (λ s held lines e t sound none does.
     subst (λ x. IsLoose (Some s) OpenResetlogs x t) (branch-by s.instance.point s lines e t does)
-    (new-loose s OpenResetlogs (archiving s) t refl (threads-new (ledger s).base.threads 1 s 2 s sound (omega arith) (can-reset s sound none).room)))
+    (new-loose s OpenResetlogs (archiving s) t refl (threads-new 4 1 s 2 s sound (omega arith) (can-reset s sound none).room)))

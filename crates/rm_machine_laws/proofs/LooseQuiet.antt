@@ -2,7 +2,7 @@
 use Rattle.std.proofs.Common.{◌≡◌, ◌⊎◌, ℕ, List, [], Option, Some, None, Bool, true, inl, inr}
 use Rattle.rm_base.specs.Store.{Held}
 use Rattle.rm_lang_statement.specs.declared.command.Command.{Command}
-use Rattle.rm_lang_statement.specs.declared.command.Command.TheVariants.{BlockRecover, Corrupt, CreateDatafile, LoseDatafile, LoseLog, Mount, OpenPlain, Parallelism, Recover, ResetDatabase, Restore, Retention, Tracking, Write}
+use Rattle.rm_lang_statement.specs.declared.command.Command.TheVariants.{BlockRecover, Corrupt, CreateDatafile, LoseDatafile, LoseLog, Mount, OpenPlain, Parallelism, Recover, ResetDatabase, Restore, Retention, SwitchThread, Tracking, Write}
 use Rattle.rm_evidence.specs.declared.evidence.Evidence.{Evidence}
 use Rattle.rm_lang_statement.specs.declared.command.RepairForm.{RepairForm}
 use Rattle.rm_lang_statement.specs.declared.command.RetentionForm.{RetentionForm}
@@ -13,6 +13,7 @@ use Rattle.rm_machine.specs.Configure.{policy_of, with_channels, with_policy}
 use Rattle.rm_machine.specs.BlockRecover.{MendsBlocks, MissesBlock}
 use Rattle.rm_machine.specs.Corrupt.{corrupted}
 use Rattle.rm_machine.specs.Effect.{Effect, done, no_effect}
+use Rattle.rm_machine.specs.EnableThread.{with_thread_on}
 use Rattle.rm_machine.specs.Laws.{only_tells}
 use Rattle.rm_machine.specs.LoseDatafile.{without_file}
 use Rattle.rm_machine.specs.LoseLog.{without_log}
@@ -65,6 +66,9 @@ parallelism-loose channels = loose-done (Parallelism channels) (λ s held lines 
 
 pub tracking-loose : (on : Bool) → StaysLoose (Tracking on)
 tracking-loose on = loose-done (Tracking on) (λ s held lines e t sound none is. quiet-loose s (Tracking on) lines _ e (with_tracking s on) t is)
+
+pub enable-loose : (t : ℕ) → StaysLoose (SwitchThread t true)
+enable-loose t = loose-done (SwitchThread t true) (λ s held lines e q sound none is. quiet-loose s (SwitchThread t true) lines _ e (with_thread_on s t) q is)
 
 pub lose-loose : (f : ℕ) → StaysLoose (LoseDatafile f)
 lose-loose f = loose-done (LoseDatafile f) (λ s held lines e t sound none is. quiet-loose s (LoseDatafile f) lines _ e (without_file s f) t is)

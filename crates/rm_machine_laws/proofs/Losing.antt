@@ -1,6 +1,6 @@
 -- HOST LOSE DATAFILE leads on: what stood in place is lost.
 use Rattle.std.proofs.Common.{◌≡◌, ◌≢◌, ◌<◌, ◌-◌, ◌∙◌, ◌==◌, not, filter, inl, inr, ℕ, List, Option, Bool, Some, None, true, false, is_none, refl, ap, sym, arith, slice_get, slice_set}
-use Rattle.std.proofs.lemmas.Bool.{eq-eqb, ne_eqb}
+use Rattle.std.proofs.lemmas.Bool.{eq-eqb, ne_eqb, not-true}
 use Rattle.std.proofs.lemmas.List.{length-set}
 use Rattle.std.proofs.lemmas.List.Elements.{All-contains, All-weaker}
 use Rattle.rm_base.specs.Store.{Held}
@@ -25,7 +25,6 @@ use Rattle.rm_machine_code.proofs.Damaged.{damaged-filtered, set-other, with_lis
 use Rattle.rm_machine_laws.proofs.DamagedLists.{block-stays, file-stays}
 use Rattle.rm_machine_code.proofs.Standing.{each-in}
 use Rattle.rm_machine_code.proofs.Places.{placed-is}
-use Rattle.rm_machine_code.proofs.Switching.{not-true}
 use Rattle.rm_machine_code.proofs.Tracked.{on-path, tracked-same}
 use Rattle.rm_machine_laws.proofs.Leading.{LeadsOnBy, StaysBy}
 use Rattle.rm_machine_laws.proofs.Quiet.{quiet-on, quiet-stays}
@@ -75,7 +74,7 @@ sound-lost s f some is = record {
     many = length-set s.instance.place (f - 1) None ∙ is.place.many;
     each = λ k d x file held. is.place.each k d x file (still s.instance.place (f - 1) k x held);
   };
-  logs = record { dbid = is.logs.dbid; there = is.logs.there; threads = is.logs.threads; each = is.logs.each };
+  logs = record { dbid = is.logs.dbid; there = is.logs.there; four = is.logs.four; threads = is.logs.threads; gone = is.logs.gone; each = is.logs.each };
   damaged = damaged-lost s f some is;
   tracker = tracked-same s (without_file s f) is.tracker;
   in_open = λ opened. let was = is.in_open opened in record { inc = was.inc; found = was.found; point = refl };

@@ -1,16 +1,18 @@
 -- HOST LOSE LOG leads on: the online log of a thread is lost.
-use Rattle.std.proofs.Common.{◌≡◌, ◌<◌, ◌≤◌, ◌∙◌, inl, inr, ℕ, List, None, true, false, refl, ap, sym, subst, arith, rules}
+use Rattle.std.proofs.Common.{◌≡◌, ◌<◌, ◌∙◌, inl, inr, ℕ, List, None, true, false, ap, sym, subst}
 use Rattle.std.proofs.lemmas.Bool.{cases_eq, false≢true}
+use Rattle.rm_base.proofs.Conditions.{unless}
 use Rattle.rm_base.specs.Store.{Held}
 use Rattle.rm_base.specs.declared.block.Change.{Change}
 use Rattle.rm_lang_statement.specs.declared.command.Command.TheVariants.{LoseLog}
 use Rattle.rm_history.specs.Agrees.{LogAgrees}
 use Rattle.rm_history.specs.Tree.{IsThere, end_of}
+use Rattle.rm_catalog_typed.specs.Switches.{is_enabled_in}
 use Rattle.rm_redo.specs.declared.log_file.LogFile.{LogFile}
 use Rattle.rm_redo.specs.declared.online.LogRecord.{LogRecord}
 use Rattle.rm_redo.specs.LogFile.{log_of}
 use Rattle.rm_redo.specs.Logs.{Logs}
-use Rattle.rm_redo.specs.Online.{with_loss, first_of, thread_records, sequence_of}
+use Rattle.rm_redo.specs.Online.{IsThread, with_loss, first_of, thread_records, sequence_of}
 use Rattle.rm_redo.proofs.Logs.{IsLost-with_loss, around-with_loss, first_of-with_loss, is_lost-with_loss_other, thread_records-with_loss, sequence_of-with_loss}
 use Rattle.rm_machine.specs.Effect.{Made}
 use Rattle.rm_machine.specs.LoseLog.{lose_log_refusal, without_log}
@@ -18,7 +20,7 @@ use Rattle.rm_machine.specs.Machine.{HistoryFits, IsBorneOut}
 use Rattle.rm_machine.specs.Mount.{as_mounted}
 use Rattle.rm_machine.specs.Sound.{AreOnline, IsOnline, IsSound}
 use Rattle.rm_machine.specs.declared.state.State.{State}
-use Rattle.rm_machine.specs.State.{ledger, tree, current_of, is_lost, online, redo_end}
+use Rattle.rm_machine.specs.State.{ledger, tree, current_of, is_lost, is_no_thread, online, redo_end}
 use Rattle.rm_machine_code.proofs.Damaged.{damaged-none}
 use Rattle.rm_machine_code.proofs.Tracked.{tracked-same}
 use Rattle.rm_machine_laws.proofs.CountedLogs.{AgreeOnline, counted-agree, counted-online, with_logs}
@@ -26,13 +28,13 @@ use Rattle.rm_machine_laws.proofs.Leading.{LeadsOnBy, StaysBy}
 use Rattle.rm_machine_code.proofs.Mounting.{mode-either, sound-as_mounted}
 use Rattle.rm_machine_laws.proofs.Mounting.{closed-as_mounted, none-mounted, stands-as_mounted}
 use Rattle.rm_machine_laws.proofs.Quiet.{quiet-on, quiet-stays}
-use Rattle.rm_machine_code.proofs.Switching.{thread-of}
+use Rattle.rm_machine_code.proofs.Threads.{gone-with_loss, thread-before, thread-of}
 
 -- a log as a file, by its parts
 abbrev file_by : ℕ → ℕ → ℕ → ℕ → ℕ → ℕ → List LogRecord → LogFile
 file_by thread next dbid inc sequence first records = record { dbid = dbid; inc = inc; thread = thread; sequence = sequence; first = first; next = next; records = records }
 
-module _ (s : State) (t : ℕ) (sound : IsSound s) (shut : s.instance.is_open ≡ false) (low : 0 < t) (high : t ≤ (ledger s).base.threads) where
+module _ (s : State) (t : ℕ) (sound : IsSound s) (shut : s.instance.is_open ≡ false) (there : IsThread s.instance.logs t) where
   abbrev before : Logs
   before = s.instance.logs
 
@@ -59,12 +61,15 @@ module _ (s : State) (t : ℕ) (sound : IsSound s) (shut : s.instance.is_open �
 
   -- one that is not lost was not lost
   found-before : (u : ℕ) → 0 < u → is_lost after u ≡ false → is_lost before u ≡ false
-  found-before u there found = elim (cases_eq u t) [
+  found-before u some found = elim (cases_eq u t) [
     | inl same ↦
-        let lost : is_lost after t ≡ true = IsLost-with_loss before t (low, omega (arith, sound.logs.threads, high)) in
+        let lost : is_lost after t ≡ true = IsLost-with_loss before t there in
         absurd (let e : false ≡ true = sym found ∙ ap (is_lost after) same ∙ lost in cc)
-    | inr other ↦ sym (is_lost-with_loss_other before t u low there other) ∙ found
+    | inr other ↦ sym (is_lost-with_loss_other before t u there.0 some other) ∙ found
   ]
+
+  thread-was : (u : ℕ) → IsThread after u → IsThread before u
+  thread-was u is = thread-before before after u (around-with_loss before t) is
 
   online-mid : AreOnline mid
   online-mid =
@@ -72,8 +77,10 @@ module _ (s : State) (t : ℕ) (sound : IsSound s) (shut : s.instance.is_open �
       record {
         dbid = around.dbid ∙ sound.logs.dbid;
         there = subst (IsThere (tree s)) (sym around.inc) sound.logs.there;
-        threads = around.threads ∙ sound.logs.threads;
-        each = λ u here inside found. subst (IsOnline (tree s)) (sym (same-log u)) (sound.logs.each u here inside (found-before u here found));
+        four = around.threads ∙ sound.logs.four;
+        threads = λ u some few. around.there u ∙ sound.logs.threads u some few ∙ sym (ap (λ i. is_enabled_in (ledger s) i (end_of (tree s) i) u) around.inc);
+        gone = gone-with_loss before t there sound.logs.gone;
+        each = λ u is found. subst (IsOnline (tree s)) (sym (same-log u)) (sound.logs.each u (thread-was u is) (found-before u is.0 found));
       }
 
   sound-lost : IsSound q
@@ -83,7 +90,7 @@ module _ (s : State) (t : ℕ) (sound : IsSound s) (shut : s.instance.is_open �
         catalog = sound.catalog;
         dbid = sound.dbid;
         place = record { many = sound.place.many; each = sound.place.each };
-        logs = record { dbid = logs.dbid; there = logs.there; threads = logs.threads; each = logs.each };
+        logs = record { dbid = logs.dbid; there = logs.there; four = logs.four; threads = logs.threads; gone = logs.gone; each = logs.each };
         damaged = damaged-none q (sound.damaged.idle shut);
         tracker = tracked-same s q sound.tracker;
         in_open = λ mode. absurd (false≢true (sym shut ∙ mode));
@@ -91,13 +98,13 @@ module _ (s : State) (t : ℕ) (sound : IsSound s) (shut : s.instance.is_open �
       }
 
   agree-mid : (h : List Change) → HistoryFits s h → AgreeOnline mid h
-  agree-mid h keeps u here inside found = subst (λ l. LogAgrees h (log_of l)) (sym (same-log u)) (keeps.online u here inside (found-before u here found))
+  agree-mid h keeps u is found = subst (λ l. LogAgrees h (log_of l)) (sym (same-log u)) (keeps.online u (thread-was u is) (found-before u is.0 found))
 
   fits-lost : (h : List Change) → HistoryFits s h → HistoryFits q h
   fits-lost h keeps = record {
     history = keeps.history;
     below = keeps.below;
-    online = counted-agree mid (current_of s) h online-mid (agree-mid h keeps);
+    online = counted-agree mid (current_of s) sound.catalog.ledger.current online-mid h (agree-mid h keeps);
     place = keeps.place;
     tracker = keeps.tracker;
     in_open = λ mode. absurd (false≢true (sym shut ∙ mode));
@@ -112,21 +119,19 @@ module _ (s : State) (t : ℕ) (sound : IsSound s) (shut : s.instance.is_open �
     records = record { logs = is.records.logs; pieces = is.records.pieces; sets = is.records.sets };
   }
 
-threads-mounted : (s : State) → (ledger (as_mounted s)).base.threads ≡ (ledger s).base.threads
-threads-mounted s = mode-either (λ q. (ledger q).base.threads ≡ (ledger s).base.threads) s s.instance.is_open (λ opened. refl) refl
-
-range : (s : State) (t : ℕ) → lose_log_refusal s t ≡ None → (0 < t) × (t ≤ (ledger (as_mounted s)).base.threads)
-range s t is =
-    let there = thread-of (ledger s).base.threads t (search rules) in
-    (there.0, subst (λ n. t ≤ n) (sym (threads-mounted s)) there.1)
+-- the logs stay when the database is mounted
+thread-mounted : (s : State) (t : ℕ) → lose_log_refusal s t ≡ None → IsThread (as_mounted s).instance.logs t
+thread-mounted s t is =
+    let there = thread-of s t (unless (is_no_thread s t) _ _ is).0 in
+    mode-either (λ q. IsThread q.instance.logs t) s s.instance.is_open (λ opened. there) there
 
 pub lose_log-on : (t : ℕ) → LeadsOnBy (LoseLog t)
 lose_log-on t s h objects made touched said e q after well stands tell none does effect =
-    let there = range s t none in
+    let there = thread-mounted s t none in
     let mid = stands-as_mounted s h objects made touched stands in
-    quiet-on (without_log (as_mounted s) t) h objects made touched _ said e q after does effect (borne-lost (as_mounted s) t mid.state (closed-as_mounted s) there.0 there.1 h objects made touched mid)
+    quiet-on (without_log (as_mounted s) t) h objects made touched _ said e q after does effect (borne-lost (as_mounted s) t mid.state (closed-as_mounted s) there h objects made touched mid)
 
 pub lose_log-stays : (t : ℕ) → StaysBy (LoseLog t)
 lose_log-stays t s objects said e q well sound none accepted does =
-    let there = range s t accepted in
-    quiet-stays (without_log (as_mounted s) t) _ said e q does (sound-lost (as_mounted s) t (sound-as_mounted s sound) (closed-as_mounted s) there.0 there.1) (none-mounted s none)
+    let there = thread-mounted s t accepted in
+    quiet-stays (without_log (as_mounted s) t) _ said e q does (sound-lost (as_mounted s) t (sound-as_mounted s sound) (closed-as_mounted s) there) (none-mounted s none)

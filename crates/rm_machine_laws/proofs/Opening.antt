@@ -2,7 +2,7 @@
 use Rattle.std.proofs.Common.{◌≡◌, ◌-◌, ◌==◌, ◌&&◌, not, ℕ, zero, suc, List, [], ◌∷◌, Option, Some, None, Bool, true, false, refl, ap, sym, subst, arith, slice_get}
 use Rattle.std.specs.List.{list_any}
 use Rattle.std.specs.Option.{option_map_or}
-use Rattle.std.proofs.lemmas.Bool.{and_parts, eqb-true, or_parts}
+use Rattle.std.proofs.lemmas.Bool.{and_parts, eqb-true, not-true, or_parts}
 use Rattle.rm_base.specs.Store.{Held}
 use Rattle.rm_base.specs.declared.block.Change.{Change}
 use Rattle.rm_base.specs.declared.refusal.Refusal.TheVariants.{Rm04, Rm10}
@@ -10,13 +10,14 @@ use Rattle.rm_blocks.specs.File.{File, base_of}
 use Rattle.rm_history.specs.Agrees.{BaseAgrees}
 use Rattle.rm_history.specs.declared.world.Datafile.{Datafile}
 use Rattle.rm_redo.specs.declared.online.ThreadLog.{ThreadLog}
+use Rattle.rm_redo.specs.Online.{IsThread}
 use Rattle.rm_machine.specs.Effect.{Made}
 use Rattle.rm_machine.specs.Machine.{HistoryFits, RowsAre, IsBorneOut}
 use Rattle.rm_machine.specs.Marks.{ids_refusal}
 use Rattle.rm_machine.specs.Open.{is_recovered, open_refusal, opened}
 use Rattle.rm_machine.specs.Sound.{IsPlaced, IsSound}
 use Rattle.rm_machine.specs.declared.state.State.{State}
-use Rattle.rm_machine.specs.State.{world, current_of, now_of, placed, counted, is_lost}
+use Rattle.rm_machine.specs.State.{world, current_of, now_of, placed, counted, has_lost, is_lost}
 use Rattle.rm_lang_statement.specs.declared.command.Command.TheVariants.{OpenPlain}
 use Rattle.rm_machine_code.proofs.Damaged.{damaged-none}
 use Rattle.rm_machine_code.proofs.Tracked.{tracked-fresh}
@@ -27,18 +28,21 @@ use Rattle.rm_base.proofs.Conditions.{only-where, unless}
 use Rattle.rm_machine_laws.proofs.Leading.{LeadsOnBy, StaysBy}
 use Rattle.rm_machine_code.proofs.Places.{counted-closed, counted-open}
 use Rattle.rm_machine_laws.proofs.Quiet.{quiet-on, quiet-stays}
-use Rattle.rm_machine_code.proofs.Switching.{not-true}
 
 record CanOpen (s : State) : Type 0 where
   shut : s.instance.is_open ≡ false
   point : s.instance.point ≡ Some (now_of s)
-  found : (t : ℕ) → is_lost s.instance.logs t ≡ false
+  found : (t : ℕ) → IsThread s.instance.logs t → is_lost s.instance.logs t ≡ false
   inc : s.instance.logs.inc ≡ current_of s
 
-none-lost : (ls : List ThreadLog) (k : ℕ) → list_any (λ l. l.is_lost) ls ≡ false → option_map_or (λ l. l.is_lost) (slice_get ls k) false ≡ false
-none-lost [] k any = refl
-none-lost (l ∷ ls) zero any = (or_parts l.is_lost (list_any (λ m. m.is_lost) ls) any).0
-none-lost (l ∷ ls) (suc k) any = none-lost ls k (or_parts l.is_lost (list_any (λ m. m.is_lost) ls) any).1
+not-lost : (there lost : Bool) → there ≡ true → (there && lost) ≡ false → lost ≡ false
+not-lost true lost is either = either
+not-lost false lost is either = absurd (cc)
+
+none-lost : (ls : List ThreadLog) (k : ℕ) → list_any (λ l. l.is_there && l.is_lost) ls ≡ false → option_map_or (λ (l : ThreadLog). l.is_there) (slice_get ls k) false ≡ true → option_map_or (λ l. l.is_lost) (slice_get ls k) false ≡ false
+none-lost [] k any there = refl
+none-lost (l ∷ ls) zero any there = not-lost l.is_there l.is_lost there (or_parts (l.is_there && l.is_lost) (list_any (λ m. m.is_there && m.is_lost) ls) any).0
+none-lost (l ∷ ls) (suc k) any there = none-lost ls k (or_parts (l.is_there && l.is_lost) (list_any (λ m. m.is_there && m.is_lost) ls) any).1 there
 
 at-now : (o : Option ℕ) (n : ℕ) → option_map_or (λ s. s == n) o false ≡ true → o ≡ Some n
 at-now None n e = absurd (cc)
@@ -48,13 +52,13 @@ can-open : (s : State) → open_refusal s ≡ None → CanOpen s
 can-open s is =
     let mode = unless s.instance.is_open (Rm04 false) _ is in
     let at : Bool = option_map_or (λ n. n == now_of s) s.instance.point false in
-    let lost : Bool = list_any (λ l. l.is_lost) s.instance.logs.threads in
+    let lost : Bool = has_lost s.instance.logs in
     let all = and_parts (at && not lost) (s.instance.logs.inc == current_of s) (only-where (is_recovered s) (ids_refusal s) Rm10 mode.1).0 in
     let two = and_parts at (not lost) all.0 in
     record {
       shut = mode.0;
       point = at-now s.instance.point (now_of s) two.0;
-      found = λ t. none-lost s.instance.logs.threads (t - 1) (not-true lost two.1);
+      found = λ t is. none-lost s.instance.logs.threads (t - 1) (not-true lost two.1) is.2;
       inc = eqb-true s.instance.logs.inc (current_of s) all.1;
     }
 
@@ -82,10 +86,10 @@ module _ (s : State) (sound : IsSound s) (can : CanOpen s) where
     catalog = sound.catalog;
     dbid = sound.dbid;
     place = record { many = kept-length (world s) i now s.catalog.ledger.files s.instance.place sound.place.many; each = place-after };
-    logs = record { dbid = sound.logs.dbid; there = sound.logs.there; threads = sound.logs.threads; each = sound.logs.each };
+    logs = record { dbid = sound.logs.dbid; there = sound.logs.there; four = sound.logs.four; threads = sound.logs.threads; gone = sound.logs.gone; each = sound.logs.each };
     damaged = damaged-none q (sound.damaged.idle can.shut);
     tracker = tracked-fresh q sound.catalog refl;
-    in_open = λ mode. record { inc = can.inc; found = λ t low high. can.found t; point = refl };
+    in_open = λ mode. record { inc = can.inc; found = can.found; point = refl };
     point = λ at is. absurd (let e : None ≡ Some at = is in cc);
   }
 

@@ -97,7 +97,7 @@ borne-listed t xs ys h objects made touched more sound is =
 
 module _ (s : State) (form : RepairForm) (contents : All (λ (w : WriteForm). length w.content.0 ≡ 64) (asked form.during)) (sound : IsSound s) (can : CanRepair s form) (e : known.Evidence) (rows : List Row)
     (told : AreToldRows (world s) e (current_of s) (now_of s) (blocks_mended s form) rows) (stand : All (CanStand s) rows) (scns : List (List ℕ)) (events : List Event) (legal : IsLegal (opening (repair_begun s form)) events)
-    (these : AreThese (wanted (blocks_mended s form) rows (ledger s).base.threads (asked form.during) scns) (map deed events)) where
+    (these : AreThese (wanted (blocks_mended s form) rows 4 (asked form.during) scns) (map deed events)) where
   abbrev ws : List WriteForm
   ws = asked form.during
 
@@ -161,7 +161,7 @@ module _ (s : State) (form : RepairForm) (contents : All (λ (w : WriteForm). le
           let same = same-block x.0 f c x.2 in
           let asks : asks_for form x.0 ≡ true = subst (λ (y : BlockId). asks_for form y ≡ true) (sym same) parts.1 in
           let m = block-patched (world s) e (current_of s) (now_of s) xs rows told x.0 (filter_to (asks_for form) s.instance.damaged x.0 x.1 asks) in
-          let mended = due-mended xs rows (ledger s).base.threads ws scns events these m.0 m.1 in
+          let mended = due-mended xs rows 4 ws scns events these m.0 m.1 in
           let here : is_mended events f c ≡ true = coe 0 1 (i. is_mended events ((m.2 ∙ ap (λ (y : BlockId). y.file) same) i) ((m.3 ∙ ap (λ (y : BlockId). y.block) same) i) ≡ true) mended in
           absurd (let clash : true ≡ false = sym here ∙ none in cc)
     ])

@@ -1,5 +1,5 @@
 -- What is done leaves the ids of a save.
-use Rattle.std.proofs.Common.{◌≡◌, ◌⊎◌, ◌≤◌, ◌+◌, ◌∙◌, ◌∷◌, ◌==◌, ◌||◌, nat_lt, ℕ, zero, suc, List, [], Option, Some, None, IsSomeAnd, is_none, Bool, true, false, cond, inl, inr, refl, ap, sym, arith, rules, length, map}
+use Rattle.std.proofs.Common.{◌≡◌, ◌⊎◌, ◌≤◌, ◌+◌, ◌∙◌, ◌∷◌, ℕ, zero, suc, List, [], Option, Some, None, IsSomeAnd, is_none, Bool, true, false, cond, inl, inr, refl, ap, sym, arith, rules, length, map}
 use Rattle.std.specs.Option.{option_and_then, option_map_or}
 use Rattle.std.proofs.lemmas.Bool.{le-ltb}
 use Rattle.rm_base.specs.Store.{Held}
@@ -22,7 +22,7 @@ use Rattle.rm_lang_statement.specs.declared.command.BackupForm.{BackupForm}
 use Rattle.rm_lang_statement.specs.declared.command.ChangeTo.{ChangeTo}
 use Rattle.rm_lang_statement.specs.declared.command.ChangeTo.TheVariants.{Available, Keep, NoKeep, Unavailable, Uncatalog}
 use Rattle.rm_lang_statement.specs.declared.command.Command.{Command}
-use Rattle.rm_lang_statement.specs.declared.command.Command.TheVariants.{ArchiveLogCurrent, Backup, BackupLogs, BlockRecover, ChangeBackup, Corrupt, CreateDatabase, CreateDatafile, Crosscheck, Cut, Damage, DeleteBackup, DeleteExpired, DeleteObsolete, LoseDatafile, LoseLog, Mount, OpenPlain, OpenResetlogs, Recover, Remove, Rename, ResetDatabase, Restore, SwitchLogfile, Tracking, Write, Parallelism, Retention, RecoverCopy}
+use Rattle.rm_lang_statement.specs.declared.command.Command.TheVariants.{ArchiveLogCurrent, Backup, BackupLogs, BlockRecover, ChangeBackup, Corrupt, CreateDatabase, CreateDatafile, Crosscheck, Cut, Damage, DeleteBackup, DeleteExpired, DeleteObsolete, LoseDatafile, LoseLog, Mount, OpenPlain, OpenResetlogs, Recover, Remove, Rename, ResetDatabase, Restore, SwitchLogfile, SwitchThread, Tracking, Write, Parallelism, Retention, RecoverCopy}
 use Rattle.rm_lang_statement.specs.declared.command.Until.{Until}
 use Rattle.rm_evidence.specs.declared.evidence.Evidence.{Evidence}
 use Rattle.rm_lang_statement.specs.declared.command.RepairForm.{RepairForm}
@@ -41,7 +41,9 @@ use Rattle.rm_machine.specs.CreateDatafile.{with_datafile}
 use Rattle.rm_machine.specs.Damage.{has_block, without_damaged}
 use Rattle.rm_machine.specs.Events.{after_events}
 use Rattle.rm_machine.specs.Configure.{policy_of, with_channels, with_policy}
+use Rattle.rm_machine.specs.DisableThread.{disabling, with_thread_off}
 use Rattle.rm_machine.specs.Effect.{Effect, done, no_effect, refused}
+use Rattle.rm_machine.specs.EnableThread.{with_thread_on}
 use Rattle.rm_machine.specs.Laws.{only_tells}
 use Rattle.rm_machine.specs.LoseDatafile.{without_file}
 use Rattle.rm_machine.specs.LoseLog.{without_log}
@@ -56,7 +58,7 @@ use Rattle.rm_machine.specs.ResetDatabase.{at_incarnation}
 use Rattle.rm_machine.specs.Restore.{RestoresTo, place_refusal, restored}
 use Rattle.rm_machine.specs.Sound.{IsSound}
 use Rattle.rm_machine.specs.declared.state.State.{State}
-use Rattle.rm_machine.specs.State.{current_of, ledger, now_of, on_path, online}
+use Rattle.rm_machine.specs.State.{current_of, is_no_thread, ledger, now_of, on_path, online}
 use Rattle.rm_machine.specs.Step.{IsDone, IsOutcome, refusal_of}
 use Rattle.rm_machine.specs.SwitchLogfile.{archive_refusal, archived, is_due, made_lines, none_lines, with_archived}
 use Rattle.rm_machine.specs.Tracking.{with_tracking}
@@ -71,6 +73,7 @@ use Rattle.rm_machine_code.proofs.Recording.{next-id}
 use Rattle.rm_machine_code.proofs.BackingUpLogs.{after_copies, room-for}
 use Rattle.rm_machine_laws.proofs.BackingUpLogs.{done-of}
 use Rattle.rm_machine_code.proofs.Branching.{can-reset}
+use Rattle.rm_machine_code.proofs.Disabling.{accepted}
 use Rattle.rm_machine_laws.proofs.Mishaps.{IsMishap, cut-by, damaged-by, removed-by, renamed-by}
 use Rattle.rm_machine_laws.proofs.Leading.{done-by}
 use Rattle.rm_machine_laws.proofs.Renewals.{leaves-renewed}
@@ -139,7 +142,7 @@ create-roomy blocks = draws-none (CreateDatafile blocks) (λ s is. search rules)
 write-asks : (w : WriteForm) (s : State) → Asks s (write_refusal s w)
 write-asks w s is =
     let mode = only-where s.instance.is_open _ _ is in
-    let thread = unless ((w.thread == 0) || nat_lt (ledger s).base.threads w.thread) _ _ mode.1 in
+    let thread = unless (is_no_thread s w.thread) _ _ mode.1 in
     asks-of s (block_refusal s w) (Rm05 (File w.file)) (on_path s w.file) (λ d none. search rules) thread.1
 
 pub write-roomy : (w : WriteForm) → LeavesIds (Write w)
@@ -149,6 +152,10 @@ write-roomy w = draws-none (Write w) (write-asks w)
 mounted-next : (b : Bool) (s : State) → next (cond b (mounted (without_damaged s)) s) ≡ next s
 mounted-next true s = refl
 mounted-next false s = refl
+
+pub enable-roomy : (t : ℕ) → LeavesIds (SwitchThread t true)
+enable-roomy t = draws-none (SwitchThread t true) (λ s is. search rules)
+    (λ s held lines e q is left. none-drawn s lines _ e _ (with_thread_on s t) q is refl left)
 
 pub mount-roomy : LeavesIds Mount
 mount-roomy = draws-none Mount asks-ids
@@ -337,7 +344,11 @@ switch-left true s t lines e q none is =
 
 pub switch-roomy : (t : ℕ) → LeavesIds (SwitchLogfile t)
 switch-roomy t = leaves (SwitchLogfile t) (λ s held lines e q sound none is.
-    switch-left (is_due s t) s t lines e q (unless ((t == 0) || nat_lt (ledger s).base.threads t) _ _ (only-where s.instance.is_open _ _ none).1).1 is)
+    switch-left (is_due s t) s t lines e q (unless (is_no_thread s t) _ _ (only-where s.instance.is_open _ _ none).1).1 is)
+
+pub disable-roomy : (t : ℕ) → LeavesIds (SwitchThread t false)
+disable-roomy t = leaves (SwitchThread t false) (λ s held lines e q sound none is.
+    left-after lines _ e (disabling s t) (with_thread_off s t) q is (omega (arith, (accepted s t sound none).ids, (took-thread s t (is_due s t)).ids)))
 
 -- each thread that is due draws one
 threads-next : (n t : ℕ) (s : State) → next (after_threads s t n) ≡ next s + due_from s t n
@@ -349,7 +360,7 @@ threads-next (suc n) t s =
 
 pub archive-roomy : LeavesIds ArchiveLogCurrent
 archive-roomy = leaves ArchiveLogCurrent (λ s held lines e t sound none is.
-    left-after lines _ e (archiving s) (after_all s) t is (omega (arith, (room s sound none).ids, threads-next (ledger s).base.threads 1 s)))
+    left-after lines _ e (archiving s) (after_all s) t is (omega (arith, (room s sound none).ids, threads-next 4 1 s)))
 
 branch-left : (o : Option ℕ) (s : State) (lines : List Line) (e : Effect) (t : State) → IsSomeAnd o (λ at. done lines e t ≡ done (resetlogs_lines s at) (archiving s) (branched_off (after_all s) at)) → next (after_all s) + 68 ≤ 4294967295 → lacks_ids t 0 ≡ false
 branch-left None s lines e t is most = absurd is
@@ -357,7 +368,7 @@ branch-left (Some at) s lines e t is most = left-after lines (resetlogs_lines s 
 
 pub branch-roomy : LeavesIds OpenResetlogs
 branch-roomy = leaves OpenResetlogs (λ s held lines e t sound none is.
-    branch-left s.instance.point s lines e t is (omega (arith, (can-reset s sound none).room.ids, threads-next (ledger s).base.threads 1 s)))
+    branch-left s.instance.point s lines e t is (omega (arith, (can-reset s sound none).room.ids, threads-next 4 1 s)))
 
 -- each object draws one
 objects-next : (b : BackupForm) (tag : List ℕ) (xs : List Packed) (s : State) → next (after_objects s b tag xs) ≡ next s + length xs

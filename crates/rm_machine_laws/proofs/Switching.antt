@@ -1,5 +1,5 @@
 -- SWITCH LOGFILE leads on: a record is added with its artefact and its object.
-use Rattle.std.proofs.Common.{◌≡◌, ◌≢◌, ◌<◌, ◌≤◌, ◌+◌, ◌∙◌, ◌++◌, ◌==◌, ◌||◌, ◌&&◌, nat_le, nat_lt, inl, inr, ℕ, List, [], ◌∷◌, Option, None, Bool, true, false, cond, refl, ap, sym, subst, arith, filter, rules}
+use Rattle.std.proofs.Common.{◌≡◌, ◌≢◌, ◌<◌, ◌≤◌, ◌+◌, ◌∙◌, ◌++◌, ◌==◌, ◌&&◌, nat_le, nat_lt, inl, inr, ℕ, List, [], ◌∷◌, Option, None, Bool, true, false, cond, refl, ap, sym, subst, arith, filter, rules}
 use Rattle.std.proofs.lemmas.Bool.{and_left, and_right, cases_eq, cases_lt, le-ltb, lt-leb}
 use Rattle.rm_base.specs.Store.{Held}
 use Rattle.rm_base.specs.declared.block.Change.{Change}
@@ -9,14 +9,15 @@ use Rattle.rm_history.specs.Artefacts.{Log}
 use Rattle.rm_catalog_typed.specs.Ledger.{Ledger}
 use Rattle.rm_redo.specs.declared.log_file.LogFile.{LogFile}
 use Rattle.rm_redo.specs.LogFile.{changes_in, log_of}
-use Rattle.rm_redo.proofs.Logs.{is_lost-switched}
+use Rattle.rm_redo.specs.Online.{IsThread}
+use Rattle.rm_redo.proofs.Logs.{around-switched, is_lost-switched}
 use Rattle.rm_report.specs.declared.line.Line.{Line}
 use Rattle.rm_machine.specs.Effect.{Effect, LeavesObjects, Made, a_log, done, no_effect}
 use Rattle.rm_machine.specs.Machine.{IsTrueArtefact, HistoryFits, IsBorneOut}
 use Rattle.rm_machine.specs.Marks.{ids_refusal}
 use Rattle.rm_machine.specs.Sound.{IsOnline, IsSound}
 use Rattle.rm_machine.specs.declared.state.State.{State}
-use Rattle.rm_machine.specs.State.{ledger, is_lost, online, redo_end, world}
+use Rattle.rm_machine.specs.State.{ledger, is_lost, is_no_thread, online, redo_end, world}
 use Rattle.rm_lang_statement.specs.declared.command.Command.TheVariants.{SwitchLogfile}
 use Rattle.rm_machine.specs.SwitchLogfile.{archive_refusal, archived, is_due, log_entry, made_lines, none_lines, switch_refusal, with_archived}
 use Rattle.rm_base.proofs.Conditions.{only-where, unless}
@@ -25,7 +26,8 @@ use Rattle.rm_machine_laws.proofs.Leading.{LeadsOnBy, StaysBy}
 use Rattle.rm_machine_laws.proofs.Quiet.{quiet-on, same-stays, unchanged}
 use Rattle.rm_machine_laws.proofs.NewObjects.{borne-logged, with_puts}
 use Rattle.rm_machine_code.proofs.Later.{borne-beside}
-use Rattle.rm_machine_code.proofs.Switching.{CanArchive, due-parts, sound-after, thread-of}
+use Rattle.rm_machine_code.proofs.Switching.{CanArchive, due-parts, sound-after}
+use Rattle.rm_machine_code.proofs.Threads.{thread-before, thread-of}
 use Rattle.rm_machine_code.proofs.Switching as shared
 
 -- An empty log
@@ -49,8 +51,7 @@ empty-agrees h l none empty = ap (changes_in l.inc l.thread) none ∙ sym (filte
 
 pub record CanSwitch (s : State) (t : ℕ) : Type 0 where
   pub opened : s.instance.is_open ≡ true
-  pub low : 0 < t
-  pub high : t ≤ s.catalog.ledger.base.threads
+  pub there : IsThread s.instance.logs t
   pub due : is_due s t ≡ true → archive_refusal s t ≡ None
 
 where-due : (b : Bool) (o other : Option Refusal) → cond b o other ≡ None → b ≡ true → o ≡ None
@@ -60,49 +61,49 @@ where-due false o other is here = absurd (cc)
 pub can-switch : (s : State) (t : ℕ) → switch_refusal s t ≡ None → CanSwitch s t
 can-switch s t is =
     let mode = only-where s.instance.is_open _ _ is in
-    let threads = unless ((t == 0) || nat_lt s.catalog.ledger.base.threads t) _ _ mode.1 in
-    let range = thread-of s.catalog.ledger.base.threads t threads.0 in
-    record { opened = mode.0; low = range.0; high = range.1; due = where-due (is_due s t) (archive_refusal s t) (ids_refusal s) threads.1 }
+    let threads = unless (is_no_thread s t) _ _ mode.1 in
+    record { opened = mode.0; there = thread-of s t threads.0; due = where-due (is_due s t) (archive_refusal s t) (ids_refusal s) threads.1 }
 
-pub can-archive : (s : State) (t : ℕ) → is_due s t ≡ true → archive_refusal s t ≡ None → CanArchive s t
-can-archive s t due is =
-    let both = due-parts s t due in
+pub can-archive : (s : State) (t : ℕ) → CanSwitch s t → is_due s t ≡ true → CanArchive s t
+can-archive s t can due =
+    let parts = due-parts s t due in
+    let is = can.due due in
     let most : s.catalog.ledger.base.next_id + 1 + 68 ≤ 4294967295 = search rules in
-    record { roomy = search rules; ids = omega (arith, most); sequence = search rules; found = both.0; some = both.1 }
+    record { roomy = search rules; ids = omega (arith, most); sequence = search rules; there = can.there; found = parts.found; some = parts.some }
 
 -- The state after it, where there was something to archive
-module _ (s : State) (t : ℕ) (sound : IsSound s) (low : 0 < t) (high : t ≤ s.catalog.ledger.base.threads) (a : CanArchive s t) where
+module _ (s : State) (t : ℕ) (sound : IsSound s) (a : CanArchive s t) where
   abbrev l : Ledger
-  l = shared.l s t sound low high a
+  l = shared.l s t sound a
 
   abbrev log : LogFile
-  log = shared.log s t sound low high a
+  log = shared.log s t sound a
 
   abbrev q : State
-  q = shared.q s t sound low high a
+  q = shared.q s t sound a
 
   log-is : IsOnline l.tree log
-  log-is = shared.log-is s t sound low high a
+  log-is = shared.log-is s t sound a
 
   redo-after : redo_end q ≡ redo_end s
-  redo-after = shared.redo-after s t sound low high a
+  redo-after = shared.redo-after s t sound a
 
   -- the log of another thread stays
   other-after : (u : ℕ) → 0 < u → u ≢ t → online q u ≡ online s u
-  other-after = shared.other-after s t sound low high a
+  other-after = shared.other-after s t sound a
 
   -- that of the thread is empty
   empty-after : (online q t).records ≡ []
-  empty-after = shared.empty-after s t sound low high a
+  empty-after = shared.empty-after s t sound a
 
   begun-after : (online q t).first ≡ redo_end s
-  begun-after = shared.begun-after s t sound low high a
+  begun-after = shared.begun-after s t sound a
 
   module _ (h : List Change) (keeps : HistoryFits s h) where
-    online-after : (u : ℕ) → 0 < u → u ≤ l.base.threads → is_lost q.instance.logs u ≡ false → LogAgrees h (log_of (online q u))
-    online-after u here inside found = elim (cases_eq u t) [
+    online-after : (u : ℕ) → IsThread q.instance.logs u → is_lost q.instance.logs u ≡ false → LogAgrees h (log_of (online q u))
+    online-after u is found = elim (cases_eq u t) [
       | inl same ↦ subst (λ v. LogAgrees h (log_of (online q v))) (sym same) (empty-agrees h (online q t) empty-after (let begun = begun-after in let end = redo-after in omega (arith, begun, end)))
-      | inr other ↦ subst (λ x. LogAgrees h (log_of x)) (sym (other-after u here other)) (keeps.online u here inside (sym (is_lost-switched s.instance.logs t u (redo_end s)) ∙ found))
+      | inr other ↦ subst (λ x. LogAgrees h (log_of x)) (sym (other-after u is.0 other)) (keeps.online u (thread-before s.instance.logs q.instance.logs u (around-switched s.instance.logs t (redo_end s)) is) (sym (is_lost-switched s.instance.logs t u (redo_end s)) ∙ found))
     ]
 
     keeps-after : HistoryFits q h
@@ -110,7 +111,7 @@ module _ (s : State) (t : ℕ) (sound : IsSound s) (low : 0 < t) (high : t ≤ s
 
     made-after : IsTrueArtefact (world s) h (a_log log)
     made-after = record {
-      agrees = keeps.online t low high a.found;
+      agrees = keeps.online t a.there a.found;
       valid = log-is.valid;
       within = (sound.logs.there, omega arith);
       of = tt;
@@ -118,12 +119,12 @@ module _ (s : State) (t : ℕ) (sound : IsSound s) (low : 0 < t) (high : t ≤ s
 
 -- What stands after it
 
-pub switched-by : (s : State) (t : ℕ) (h : List Change) (objects : Held) (made : List Made) (touched : List (List ℕ)) → IsBorneOut s h objects made touched → (low : 0 < t) → (high : t ≤ s.catalog.ledger.base.threads) → CanArchive s t
+pub switched-by : (s : State) (t : ℕ) (h : List Change) (objects : Held) (made : List Made) (touched : List (List ℕ)) → IsBorneOut s h objects made touched → CanArchive s t
     → IsBorneOut (with_archived s t) h (with_puts (archived s.catalog.ledger.base.next_id (online s t)).puts objects) (made ++ (archived s.catalog.ledger.base.next_id (online s t)).made) touched
-switched-by s t h objects made touched stands low high a =
+switched-by s t h objects made touched stands a =
     borne-logged s (with_archived s t).instance (log_entry s.catalog.ledger.base.next_id (online s t)) (online s t) h objects made touched
-    (sound-after s t stands.state low high a) (keeps-after s t stands.state low high a h stands.keeps) refl
-    (record { inc = refl; thread = refl; sequence = refl; first = refl; next = refl }) (record { size = refl; sha = refl }) (made-after s t stands.state low high a h stands.keeps) stands
+    (sound-after s t stands.state a) (keeps-after s t stands.state a h stands.keeps) refl
+    (record { inc = refl; thread = refl; sequence = refl; first = refl; next = refl }) (record { size = refl; sha = refl }) (made-after s t stands.state a h stands.keeps) stands
 
 switch-by : (b : Bool) (s : State) (t : ℕ) (h : List Change) (objects : Held) (made : List Made) (touched : List (List ℕ)) (said : List Line) (e : Effect) (q : State) (after : Held) → is_due s t ≡ b → IsBorneOut s h objects made touched → CanSwitch s t
     → done said e q ≡ cond b (done (made_lines s t) (archived s.catalog.ledger.base.next_id (online s t)) (with_archived s t)) (done (none_lines t) no_effect s) → LeavesObjects e objects after → IsBorneOut q (h ++ e.changes) after (made ++ e.made) touched
@@ -131,7 +132,7 @@ switch-by true s t h objects made touched said e q after due stands can is effec
     let by = archived s.catalog.ledger.base.next_id (online s t) in
     let mid = with_puts by.puts objects in
     unchanged (with_archived s t) by h objects made touched e q after refl (cc) (cc) effect (λ left.
-    borne-beside (with_archived s t) h mid after (made ++ by.made) touched touched (switched-by s t h objects made touched stands can.low can.high (can-archive s t due (can.due due)))
+    borne-beside (with_archived s t) h mid after (made ++ by.made) touched touched (switched-by s t h objects made touched stands (can-archive s t can due))
     (stand-same mid after touched (ledger (with_archived s t)) (ledger (with_archived s t)) (λ n. left.removes n ∙ left.puts n)))
 switch-by false s t h objects made touched said e q after due stands can is effect = quiet-on s h objects made touched _ said e q after is effect stands
 
@@ -141,7 +142,7 @@ switch-on t s h objects made touched said e q after well stands tell none does e
 
 stays-by : (b : Bool) (s : State) (t : ℕ) (said : List Line) (e : Effect) (q : State) → is_due s t ≡ b → IsSound s → s.catalog.saved ≡ None → CanSwitch s t
     → done said e q ≡ cond b (done (made_lines s t) (archived s.catalog.ledger.base.next_id (online s t)) (with_archived s t)) (done (none_lines t) no_effect s) → IsSound q × (q.catalog.saved ≡ None)
-stays-by true s t said e q due sound none can is = same-stays (with_archived s t) q (cc) (sound-after s t sound can.low can.high (can-archive s t due (can.due due))) none
+stays-by true s t said e q due sound none can is = same-stays (with_archived s t) q (cc) (sound-after s t sound (can-archive s t can due)) none
 stays-by false s t said e q due sound none can is = same-stays s q (cc) sound none
 
 pub switch-stays : (t : ℕ) → StaysBy (SwitchLogfile t)

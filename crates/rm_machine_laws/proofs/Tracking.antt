@@ -37,7 +37,7 @@ module _ (s : State) (on : Bool) (sound : IsSound s) where
     catalog = setting-fits;
     dbid = sound.dbid;
     place = record { many = sound.place.many; each = sound.place.each };
-    logs = record { dbid = sound.logs.dbid; there = sound.logs.there; threads = sound.logs.threads; each = sound.logs.each };
+    logs = record { dbid = sound.logs.dbid; there = sound.logs.there; four = sound.logs.four; threads = sound.logs.threads; gone = sound.logs.gone; each = sound.logs.each };
     damaged = damaged-same s q sound.damaged;
     tracker = tracked-fresh q setting-fits refl;
     in_open = λ opened. let was = sound.in_open opened in record { inc = was.inc; found = was.found; point = was.point };

@@ -30,8 +30,8 @@ use Rattle.rm_piece.specs.declared.set.SetFile.{SetFile}
 use Rattle.rm_piece.specs.Artefacts as piece
 use Rattle.rm_redo.specs.declared.online.LogRecord.{LogRecord}
 use Rattle.rm_redo.specs.LogFile.{changes_in, log_of}
-use Rattle.rm_redo.specs.Online.{record_of, thread_records, with_change}
-use Rattle.rm_redo.proofs.Logs.{first_of-with_change, inc-with_change, is_lost-with_change, thread_records-with_change, thread_records-with_change_other}
+use Rattle.rm_redo.specs.Online.{IsThread, record_of, thread_records, with_change}
+use Rattle.rm_redo.proofs.Logs.{around-with_change, first_of-with_change, inc-with_change, is_lost-with_change, thread_records-with_change, thread_records-with_change_other}
 use Rattle.rm_track.specs.Bitmaps.{mark_at}
 use Rattle.rm_track.proofs.Telling.{marked-told}
 use Rattle.rm_machine.specs.Damage.{has_block}
@@ -44,9 +44,10 @@ use Rattle.rm_machine.specs.Write.{change_of, with_write}
 use Rattle.rm_machine_code.proofs.Further.{further, inc-now, now-further, redo-now}
 use Rattle.rm_machine_laws.proofs.Bitmaps.{tell-later}
 use Rattle.rm_machine_laws.proofs.DamagedRows.{sound-agrees}
-use Rattle.rm_machine_laws.proofs.Further.{below-redo, fits-further, owns-now, rows-further, same-further, state-further}
+use Rattle.rm_machine_laws.proofs.Further.{below-redo, enabled-now, fits-further, owns-now, rows-further, same-further, state-further}
 use Rattle.rm_machine_laws.proofs.Grown.{true-on}
 use Rattle.rm_machine_code.proofs.Places.{placed-is}
+use Rattle.rm_machine_code.proofs.Threads.{thread-before}
 use Rattle.rm_machine_code.proofs.Writes.{Accepted}
 
 -- a record as the change of which it tells
@@ -90,7 +91,7 @@ module _ (s : State) (w : WriteForm) (h : List Change) (sound : IsSound s) (keep
   change-is =
       let both = and_parts (nat_lt a.datafile.creation now) (owner old i a.datafile.creation == a.datafile.inc) a.here in
       record {
-        thread = a.thread;
+        thread = enabled-now s sound a.on w.thread a.thread;
         there = there;
         begun = (sound.catalog.ledger.incarnations.ranges i there).1;
         datafile = a.datafile;
@@ -124,7 +125,7 @@ module _ (s : State) (w : WriteForm) (h : List Change) (sound : IsSound s) (keep
 
   told-new : is_of (log_of (online q w.thread)) c ≡ true
   told-new =
-      let begun = (sound.logs.each w.thread a.thread.0 a.thread.1 ((sound.in_open a.on.opened).found w.thread a.thread.0 a.thread.1)).valid.range.1 in
+      let begun = (sound.logs.each w.thread a.thread ((sound.in_open a.on.opened).found w.thread a.thread)).valid.range.1 in
       let same : redo_end q ≡ now_of p = redo-write ∙ ap (end_of risen.tree) (inc-now s sound a.on) in
       is_of-from (log_of (online q w.thread)) c (record {
         inc = sym (inc-now s sound a.on) ∙ sym (inc-with_change s.instance.logs c);
@@ -137,23 +138,23 @@ module _ (s : State) (w : WriteForm) (h : List Change) (sound : IsSound s) (keep
   grown =
       let records = thread_records s.instance.logs w.thread in
       ap (λ j. changes_in j w.thread (thread_records (with_change s.instance.logs c) w.thread)) (inc-with_change s.instance.logs c)
-      ∙ ap (changes_in s.instance.logs.inc w.thread) (thread_records-with_change s.instance.logs c (a.thread.0, omega (arith, sound.logs.threads, a.thread.1)))
+      ∙ ap (changes_in s.instance.logs.inc w.thread) (thread_records-with_change s.instance.logs c a.thread)
       ∙ map_push (told s.instance.logs.inc w.thread) records (record_of c)
       ∙ ap (λ j. changes_in s.instance.logs.inc w.thread records ++ told j w.thread (record_of c) ∷ []) (inc-now s sound a.on)
 
-  online-write : (t : ℕ) → 0 < t → t ≤ s.catalog.ledger.base.threads → is_lost s.instance.logs t ≡ false → LogAgrees (h ++ c ∷ []) (log_of (online q t))
-  online-write t low high found = elim (cases_eq t w.thread) [
+  online-write : (t : ℕ) → IsThread s.instance.logs t → is_lost s.instance.logs t ≡ false → LogAgrees (h ++ c ∷ []) (log_of (online q t))
+  online-write t is found = elim (cases_eq t w.thread) [
     | inl same ↦
         subst (λ u. LogAgrees (h ++ c ∷ []) (log_of (online q u))) (sym same)
         (agrees-pushed h c (log_of (online p w.thread)) (log_of (online q w.thread)) (further-write w.thread) grown told-new (below-redo p h wide.below)
-        (wide.online w.thread a.thread.0 a.thread.1 ((sound.in_open a.on.opened).found w.thread a.thread.0 a.thread.1)))
+        (wide.online w.thread a.thread ((sound.in_open a.on.opened).found w.thread a.thread)))
     | inr other ↦
         let still : (log_of (online q t)).changes ≡ (log_of (online p t)).changes =
         ap (λ j. changes_in j t (thread_records (with_change s.instance.logs c) t)) (inc-with_change s.instance.logs c)
-        ∙ ap (changes_in s.instance.logs.inc t) (thread_records-with_change_other s.instance.logs c t a.thread.0 low other) in
+        ∙ ap (changes_in s.instance.logs.inc t) (thread_records-with_change_other s.instance.logs c t a.thread.0 is.0 other) in
         LogAgrees-grown h c (log_of (online q t))
-        (agrees-further h (log_of (online p t)) (log_of (online q t)) (further-write t) still (below-redo p h wide.below) (wide.online t low high found))
-        (is_of-not (log_of (online q t)) c (λ is. other (sym is.thread)))
+        (agrees-further h (log_of (online p t)) (log_of (online q t)) (further-write t) still (below-redo p h wide.below) (wide.online t is found))
+        (is_of-not (log_of (online q t)) c (λ tells. other (sym tells.thread)))
   ]
 
   -- What is in place
@@ -224,7 +225,7 @@ module _ (s : State) (w : WriteForm) (h : List Change) (sound : IsSound s) (keep
   keeps-write = record {
     history = history-write;
     below = All-push (λ d. d.scn < end_of risen.tree d.inc) h c wide.below (let next = end in omega (arith, next));
-    online = λ t low high found. online-write t low high (sym (is_lost-with_change s.instance.logs c t) ∙ found);
+    online = λ t is found. online-write t (thread-before s.instance.logs q.instance.logs t (around-with_change s.instance.logs c) is) (sym (is_lost-with_change s.instance.logs c t) ∙ found);
     place = λ f x is none. sound-agrees q (h ++ c ∷ []) x a.on.opened (rows-write f x is) none;
     tracker = tell-later i (h ++ c ∷ []) (suc now) (now_of q) (mark_at s.instance.tracker w.file w.block) (omega (arith, end)) (marked-told now h c s.instance.tracker (omega arith) keeps.tracker);
     in_open = λ still f x is. rows-write f x is;

@@ -6,8 +6,9 @@ ghost use Rattle.rm_base.specs.declared.block.Change.{Change};
 ghost use Rattle.rm_base.specs.declared.kinds.Class.{Class};
 ghost use Rattle.rm_base.specs.declared.kinds.Policy.TheVariants.{Window};
 ghost use Rattle.rm_history.specs.State.{state};
-ghost use Rattle.rm_history.specs.Tree.{reset_of};
+ghost use Rattle.rm_history.specs.Tree.{IsThere, reset_of};
 ghost use Rattle.rm_history.specs.World.{blocks_of};
+ghost use Rattle.rm_catalog_typed.specs.Switches.{is_enabled_in};
 ghost use Rattle.rm_retain.specs.Window.{window_start};
 ghost use Rattle.rm_report.specs.declared.line.Line.{Line};
 ghost use Rattle.rm_lang_statement.specs.declared.command.ChangeTo.{ChangeTo};
@@ -40,13 +41,13 @@ ghost use Rattle.rm_machine.specs.declared.nature.Nature.TheVariants.{Records};
 ghost use Rattle.rm_machine.specs.Obsolete.{AreObsoleteIn, start_by};
 ghost use Rattle.rm_machine.specs.Recovery.{IsAtHand, IsGapOutcome, IsToldOutcome};
 ghost use Rattle.rm_machine.specs.Sound.{IsSound};
-ghost use Rattle.rm_machine.specs.Step.{IsDone};
+ghost use Rattle.rm_machine.specs.Step.{IsDone, IsOutcome};
 ghost use Rattle.rm_machine.specs.Tracked.{tracks};
 ghost use Rattle.rm_machine.specs.declared.job.Job.{Job};
 ghost use Rattle.rm_machine.specs.declared.state.State.{State};
 ghost use Rattle.rm_machine.specs.State.{at_moment, current_of, ledger, now_of, on_path, tree, world};
 ghost use Rattle.rm_machine_laws.specs.Wanted.{HasChangedSince, IsReadByBitmaps};
-ghost use Rattle.rm_lang_statement.specs.declared.command.Command.TheVariants.{ArchiveLogCurrent, Backup, BackupLogs, BlockRecover, CatalogName, ChangeBackup, Corrupt, CreateDatafile, Crosscheck, Cut, Damage, DeleteBackup, DeleteExpired, DeleteObsolete, LoseDatafile, LoseLog, Mount, OpenPlain, OpenResetlogs, Parallelism, Recover, RecoverCopy, RecoverTest, Remove, Rename, ResetDatabase, Restore, Retention, SwitchLogfile, Tracking, Write};
+ghost use Rattle.rm_lang_statement.specs.declared.command.Command.TheVariants.{ArchiveLogCurrent, Backup, BackupLogs, BlockRecover, CatalogName, ChangeBackup, Corrupt, CreateDatafile, Crosscheck, Cut, Damage, DeleteBackup, DeleteExpired, DeleteObsolete, LoseDatafile, LoseLog, Mount, OpenPlain, OpenResetlogs, Parallelism, Recover, RecoverCopy, RecoverTest, Remove, Rename, ResetDatabase, Restore, Retention, SwitchLogfile, SwitchThread, Tracking, Write};
 
 /// There are sound machines: that of a new database is one.
 pub fn a_new_database_is_sound()
@@ -75,6 +76,28 @@ pub fn a_new_datafile_leads_on()
 pub fn a_switch_leads_on()
     ensures leads { (thread : ℕ) → LeadsOn (SwitchLogfile thread) }
     ensures stays { (thread : ℕ) → StaysSound (SwitchLogfile thread) }
+{}
+
+/// ENABLE THREAD, likewise: its switch is recorded, and the thread's log begins.
+pub fn an_enabled_thread_leads_on()
+    ensures leads { (thread : ℕ) → LeadsOn (SwitchThread thread true) }
+    ensures stays { (thread : ℕ) → StaysSound (SwitchThread thread true) }
+{}
+
+/// DISABLE THREAD, likewise: the thread's log becomes an archived one, if it is not empty, and its switch is recorded.
+pub fn a_disabled_thread_leads_on()
+    ensures leads { (thread : ℕ) → LeadsOn (SwitchThread thread false) }
+    ensures stays { (thread : ℕ) → StaysSound (SwitchThread thread false) }
+{}
+
+/// From the SCN of an ENABLE or DISABLE THREAD on its thread is enabled in the current incarnation, or it is not. At lower addresses, in other
+/// incarnations, and of other threads all is as before.
+pub fn a_thread_is_switched_from_its_scn_on()
+    ensures from { (s : State) (held : Held) (thread : ℕ) (on : Bool) (lines : List Line) (effect : Effect) (t : State) → IsSound s
+        → IsOutcome s held (SwitchThread thread on) (done lines effect t) → (g : ℕ) → now_of s ≤ g → is_enabled_in (ledger t) (current_of s) g thread ≡ on }
+    ensures elsewhere { (s : State) (held : Held) (thread : ℕ) (on : Bool) (lines : List Line) (effect : Effect) (t : State) → IsSound s
+        → IsOutcome s held (SwitchThread thread on) (done lines effect t) → (m g u : ℕ) → IsThere (tree s) m
+        → ¬ ((u ≡ thread) × (m ≡ current_of s) × (now_of s ≤ g)) → is_enabled_in (ledger t) m g u ≡ is_enabled_in (ledger s) m g u }
 {}
 
 /// ARCHIVE LOG CURRENT, likewise: the log of each thread that has something to archive.

@@ -1,6 +1,6 @@
-use Rattle.std.proofs.Common.{◌≡◌, ◌-◌, false, take}
-use Rattle.std.specs.List.{list_any}
+use Rattle.std.proofs.Common.{◌≤◌, ℕ}
+use Rattle.rm_redo.specs.Online.{IsLost, IsThread}
 use Rattle.rm_machine_code.proofs.facts.has_lost.Given as goal
 
-abbrev pub invariant-loop-thread : goal.invariant-loop-thread
-invariant-loop-thread l = list_any (λ x. x.is_lost) (take (l.thread - 1) l.logs.threads) ≡ false
+abbrev pub invariant-loop-index : goal.invariant-loop-index
+invariant-loop-index l = (t : ℕ) → t ≤ l.index → IsThread l.logs t → ¬ IsLost l.logs t

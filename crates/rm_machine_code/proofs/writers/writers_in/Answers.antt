@@ -14,4 +14,4 @@ loop-index-preserved c =
     ap lists c.in_ok-push.ensures.items ∙ lists-next n (asked c.args.during.now) c.loop-index.writers.items v c.loop-index.invariant one
 
 pub returns-clause-few : goal.returns-clause-few
-returns-clause-few c = lists-few c.loop-index.index (asked c.args.during.now) c.loop-index.writers.items (omega (arith, c.threads-index-end.ensures.most)) c.loop-index.invariant
+returns-clause-few c = lists-few c.loop-index.index (asked c.args.during.now) c.loop-index.writers.items (omega arith) c.loop-index.invariant
