@@ -36,7 +36,7 @@ use Rattle.rm_machine_code.proofs.BackupMarks.{marked-same}
 use Rattle.rm_machine.specs.Running.{CanFollow}
 use Rattle.rm_step_backup.specs.Recorded.{HasRecorded}
 use Rattle.rm_step_backup.specs.Running.{HasRunLive}
-use Rattle.rm_machine_code.proofs.WritersRoom.{few-writers}
+use Rattle.rm_machine_code.proofs.WritersRoom.{four-writers}
 
 -- Before the first event
 
@@ -52,7 +52,7 @@ first-write (w ∷ ws) n some = (w, in-front w ws)
 pub can-follow : (s : State) (b : BackupForm) → CanBackUp s b → CanFollow (begun s b) (writers_of s b)
 can-follow s b can = record {
   opened = marked-same (λ (q : State). q.instance.is_open) s b refl ∙ can.opened;
-  marked = λ some. let it = first-write (writes_in b) (ledger s).base.threads some in during-marks s b.during it.0 it.1;
+  marked = λ some. let it = first-write (writes_in b) 4 some in during-marks s b.during it.0 it.1;
 }
 
 pub begun-sound : (s : State) (b : BackupForm) → IsSound s → CanBackUp s b → IsSound (begun s b)
@@ -105,7 +105,7 @@ module _ (s : State) (b : BackupForm) (sound : IsSound s) (well : IsStatement (B
       let long = length-map (lists w.scns.items) length in
       let each = length-map (writers_of s b) length in
       let alike = ap (λ (ns : List ℕ). length ns) ran.scns in
-      omega (arith, length-map w.scns.items (λ v. v.items), long, each, alike, (few-writers s (writes_in b) sound).1, ap (λ (vs : List (Vec ℕ Global)). length vs) same)
+      omega (arith, length-map w.scns.items (λ v. v.items), long, each, alike, four-writers s (writes_in b) sound, ap (λ (vs : List (Vec ℕ Global)). length vs) same)
 
   -- it comes to what the machine says
   pub hands : (ys : List Packed) → ys ≡ packed (ledger t) b (now_of s) jobs rows → (q : State) (first x : Handed) (before after : List Edit) → HasRecorded t b tag ys before after first x q → first.lines ≡ [] → first.objects ≡ [] → first.removes ≡ []

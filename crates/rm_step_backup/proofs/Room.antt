@@ -30,7 +30,7 @@ begun-opening : (s : State) (b : BackupForm) → opening (begun s b) ≡ record 
 begun-opening s b = marked-same (λ (q : State). record (opening q) { tracker = (begun s b).instance.tracker }) s b refl
 
 pub begun-threads : (s : State) (b : BackupForm) → IsSound s → CanBackUp s b → AreThreads (opening (begun s b)).logs 1 (writers_of s b)
-begun-threads s b sound can = subst (λ (p : Parts). AreThreads p.logs 1 (writers_of s b)) (sym (begun-opening s b)) (room-threads s (writes_in b) sound can.opened)
+begun-threads s b sound can = subst (λ (p : Parts). AreThreads p.logs 1 (writers_of s b)) (sym (begun-opening s b)) (room-threads s (writes_in b) sound can.opened can.writes)
 
 pub begun-writes : (s : State) (b : BackupForm) → IsSound s → CanBackUp s b → CanWrite (opening (begun s b)) (writers_of s b)
 begun-writes s b sound can =

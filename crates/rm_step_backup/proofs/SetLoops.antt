@@ -1,5 +1,5 @@
 -- Sets are recorded, one after another.
-use Rattle.std.proofs.Common.{◌≡◌, ◌<◌, ◌≤◌, ◌+◌, ◌-◌, ◌∙◌, ◌++◌, ℕ, List, [], ◌∷◌, Some, inl, inr, min, refl, ap, sym, subst, arith, append-nil, drop, length, length-append, length-drop, map, take, take_all}
+use Rattle.std.proofs.Common.{◌≡◌, ◌<◌, ◌≤◌, ◌∙◌, ◌++◌, ℕ, List, [], ◌∷◌, Some, inl, inr, min, refl, ap, sym, subst, arith, append-nil, drop, length, length-append, length-drop, map, take, take_all}
 use Rattle.std.proofs.lemmas.Bool.{cases_lt}
 use Rattle.std.proofs.Math.Seq.{drop-append_seam, take-append_seam}
 use Rattle.std.proofs.lemmas.List.{drop-map, drop_all, length-map, nil_from_length}

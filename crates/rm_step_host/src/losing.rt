@@ -11,7 +11,7 @@ ghost use Rattle.rm_redo.specs.Online.{IsThread};
 use rm_base::{Absent, BlockId, FileNo, NoMemory, Refusal, Seq, ThreadNo};
 use rm_machine::handed::of_line;
 use rm_machine::{Handed, State};
-use rm_machine_code::facts::{is_thread, on_path};
+use rm_machine_code::facts::{is_thread, now, on_path};
 use rm_machine_code::mounts::become_mounted;
 use rm_machine_code::room::ids_refusal;
 use rm_report::Line;
@@ -69,7 +69,7 @@ pub fn lose_datafile(alloc: Global, state: &mut State, file: u64) -> Result<Hand
     Ok(handed)
 }
 
-/// Why HOST LOSE LOG is refused, if it is: the thread is not there (RM-05), or too few object ids are left (RM-11).
+/// Why HOST LOSE LOG is refused, if it is: the thread has no online log (RM-05), or too few object ids are left (RM-11).
 pub fn lose_log_refusal(state: &State, thread: u64) -> Option<Refusal>
     requires sound { IsSound state.now }
     ensures value { result ≡ lose_log_refusal state.now thread }
@@ -81,15 +81,17 @@ pub fn lose_log_refusal(state: &State, thread: u64) -> Option<Refusal>
     }
 }
 
-// Takes the online log of a thread away. Where all are lost they count as logs of the current incarnation.
+// Takes the online log of a thread away. Where all are lost they count as logs of the current incarnation, of the threads
+// that are enabled at its end.
 fn lose_thread(state: &mut State, thread: ThreadNo)
     requires sound { IsSound state.old }
     requires there { IsThread state.old.instance.logs thread }
     ensures { state.new ≡ without_log state.old thread }
 {
     let current = state.catalog.base().current;
+    let enabled = state.catalog.enabled_at(current, now(state));
     state.instance.logs.lose(thread);
-    state.instance.logs.count_as(current);
+    state.instance.logs.count_as(current, enabled);
 }
 
 /// HOST LOSE LOG: an open database is mounted, as by STARTUP MOUNT, and then the online log of the thread is lost. The

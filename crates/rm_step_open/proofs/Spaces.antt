@@ -1,17 +1,18 @@
 -- Where there is space for a log more.
-use Rattle.std.proofs.Common.{◌≡◌, ◌∙◌, ◌+◌, ◌&&◌, nat_lt, inl, inr, ℕ, suc, Option, None, Some, true, false, cond, arith, length}
+use Rattle.std.proofs.Common.{◌≡◌, ◌∙◌, ◌<◌, ◌+◌, ◌&&◌, nat_lt, inl, inr, ℕ, suc, Option, None, Some, true, false, cond, arith, length}
 use Rattle.std.proofs.lemmas.Bool.{and_left, and_right, cond-false, le-ltb}
 use Rattle.rm_base.specs.declared.refusal.Refusal.{Refusal}
 use Rattle.rm_base.specs.declared.refusal.Refusal.TheVariants.{Rm11}
 use Rattle.rm_base.specs.declared.refusal.Limit.TheVariants.{Records, Bytes, ObjectIds, Sequences}
 use Rattle.rm_base.proofs.Conditions.{unless}
 use Rattle.rm_catalog_typed.specs.Ledger.{ledger_records}
+use Rattle.rm_redo.specs.Online.{IsThread}
 use Rattle.rm_machine.specs.Archive.{archiving_refusal, bytes_from, due_from, is_last_sequence}
 use Rattle.rm_machine.specs.Marks.{lacks_bytes, lacks_ids, lacks_room}
 use Rattle.rm_machine.specs.declared.state.State.{State}
 use Rattle.rm_machine.specs.State.{ledger}
 use Rattle.rm_machine.specs.SwitchLogfile.{is_due}
-use Rattle.rm_machine_code.proofs.Archives.{HasRoom, can-thread}
+use Rattle.rm_machine_code.proofs.Archives.{HasRoom, can-thread, room-one}
 use Rattle.rm_machine_code.proofs.Switching.{CanArchive, due-parts}
 use Rattle.rm_machine_code.proofs.Further.{roomy-either}
 use Rattle.rm_step_open.specs.Space.{HasSpace}
@@ -23,20 +24,21 @@ space-can s t can = record {
   sequence = can.sequence;
 }
 
-pub can-space : (s : State) (t : ℕ) → is_due s t ≡ true → HasSpace s t → CanArchive s t
-can-space s t due space =
+pub can-space : (s : State) (t : ℕ) → IsThread s.instance.logs t → is_due s t ≡ true → HasSpace s t → CanArchive s t
+can-space s t there due space =
     let parts = due-parts s t due in
     record {
-      roomy = and_right (nat_lt 0 1) (nat_lt 65536 (length (ledger_records (ledger s)) + 1)) (le-ltb 65536 (length (ledger_records (ledger s)) + 1) space.records);
+      roomy = room-one s space.records;
       ids = space.ids;
       sequence = space.sequence;
-      found = parts.0;
-      some = parts.1;
+      there = there;
+      found = parts.found;
+      some = parts.some;
     }
 
 -- for the first of several threads
-pub space-first : (s : State) (t n more : ℕ) → HasRoom s t (suc n) more → is_due s t ≡ true → HasSpace s t
-space-first s t n more room due = space-can s t (can-thread s t n more due room)
+pub space-first : (s : State) (t n more : ℕ) → 0 < t → HasRoom s t (suc n) more → is_due s t ≡ true → HasSpace s t
+space-first s t n more low room due = space-can s t (can-thread s t n more low due room)
 
 fewer : (count due more : ℕ) → (nat_lt 0 (due + more) && nat_lt 65536 (count + (due + more))) ≡ false → (nat_lt 0 (due + 0) && nat_lt 65536 (count + (due + 0))) ≡ false
 fewer count due more is = elim (roomy-either (due + more) (count + (due + more)) is) [
@@ -47,10 +49,9 @@ fewer count due more is = elim (roomy-either (due + more) (count + (due + more))
 -- what is accepted beside some records is accepted alone
 pub accepted-alone : (s : State) (more : ℕ) → archiving_refusal s more ≡ None → archiving_refusal s 0 ≡ None
 accepted-alone s more is =
-    let n = s.catalog.ledger.base.threads in
-    let due = due_from s 1 n in
-    let last : Option Refusal = cond (is_last_sequence s 1 n) (Some (Rm11 Sequences)) None in
+    let due = due_from s 1 4 in
+    let last : Option Refusal = cond (is_last_sequence s 1 4) (Some (Rm11 Sequences)) None in
     let ids : Option Refusal = cond (lacks_ids s due) (Some (Rm11 ObjectIds)) last in
-    let bytes : Option Refusal = cond (lacks_bytes s (bytes_from s 1 n)) (Some (Rm11 Bytes)) ids in
+    let bytes : Option Refusal = cond (lacks_bytes s (bytes_from s 1 4)) (Some (Rm11 Bytes)) ids in
     let room = unless (lacks_room s (due + more)) (Rm11 Records) bytes is in
     cond-false (lacks_room s (due + 0)) (Some (Rm11 Records)) bytes (fewer (length (ledger_records (ledger s))) due more room.0) ∙ room.1

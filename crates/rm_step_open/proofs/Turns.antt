@@ -5,8 +5,9 @@ use Rattle.rm_history.specs.Tree.{end_of}
 use Rattle.rm_redo.specs.Online.{first_of, sequence_of}
 use Rattle.rm_redo.proofs.Logs.{around-switched, other-switched}
 use Rattle.rm_machine.specs.Archive.{after_thread, bytes_from, due_from, is_last_sequence}
+use Rattle.rm_machine.specs.DisableThread.{lacks_sequence}
 use Rattle.rm_machine.specs.declared.state.State.{State}
-use Rattle.rm_machine.specs.State.{is_lost, redo_end}
+use Rattle.rm_machine.specs.State.{is_online, redo_end}
 use Rattle.rm_machine.specs.SwitchLogfile.{is_due, log_bytes, with_archived}
 use Rattle.rm_machine_code.proofs.Archives.{thread-either}
 
@@ -45,8 +46,8 @@ alike-next s q t low a =
 
 due-alike : (s q : State) (t : ℕ) → AlikeFrom s q t → is_due q t ≡ is_due s t
 due-alike s q t a =
-    ap (λ o. not (option_map_or (λ l. l.is_lost) o false) && nat_lt (option_map_or (λ l. l.first) o 0) (redo_end q)) (a.each t (omega arith))
-    ∙ ap (λ e. not (is_lost s.instance.logs t) && nat_lt (first_of s.instance.logs t) e) a.end
+    ap (λ o. option_map_or (λ l. l.is_there) o false && not (option_map_or (λ l. l.is_lost) o false) && nat_lt (option_map_or (λ l. l.first) o 0) (redo_end q)) (a.each t (omega arith))
+    ∙ ap (λ e. is_online s.instance.logs t && nat_lt (first_of s.instance.logs t) e) a.end
 
 bytes-alike : (s q : State) (t : ℕ) → AlikeFrom s q t → log_bytes q t ≡ log_bytes s t
 bytes-alike s q t a = ap (λ o. 70 + 80 * length (option_map_or (λ l. l.records) o [])) (a.each t (omega arith))
@@ -73,19 +74,19 @@ last-alike (suc n) t s q low a =
 
 -- One turn of a loop over the threads: those that are left are counted in the same state
 
-one-fewer : (t n : ℕ) → 0 < t → t ≤ n → n + 1 - t ≡ suc (n + 1 - (t + 1))
-one-fewer t n low high = omega (arith, low, high)
+one-fewer : (t : ℕ) → 0 < t → t ≤ 4 → 5 - t ≡ suc (5 - (t + 1))
+one-fewer t low high = omega (arith, low, high)
 
-pub due-turn : (s : State) (t n old total : ℕ) → 0 < t → t ≤ n → old + due_from s t (n + 1 - t) ≡ total → old + cond (is_due s t) 1 0 + due_from s (t + 1) (n + 1 - (t + 1)) ≡ total
-due-turn s t n old total low high was =
-    let later = due_from-alike (n + 1 - (t + 1)) (t + 1) s (after_thread s t) (omega arith) (alike-thread s t low) in
-    omega (arith, was, ap (due_from s t) (one-fewer t n low high), later)
+pub due-turn : (s : State) (t old total : ℕ) → 0 < t → t ≤ 4 → old + due_from s t (5 - t) ≡ total → old + cond (is_due s t) 1 0 + due_from s (t + 1) (5 - (t + 1)) ≡ total
+due-turn s t old total low high was =
+    let later = due_from-alike (5 - (t + 1)) (t + 1) s (after_thread s t) (omega arith) (alike-thread s t low) in
+    omega (arith, was, ap (due_from s t) (one-fewer t low high), later)
 
-pub bytes-turn : (s : State) (t n old total : ℕ) → 0 < t → t ≤ n → old + bytes_from s t (n + 1 - t) ≡ total → old + cond (is_due s t) (log_bytes s t) 0 + bytes_from s (t + 1) (n + 1 - (t + 1)) ≡ total
-bytes-turn s t n old total low high was =
-    let later = bytes_from-alike (n + 1 - (t + 1)) (t + 1) s (after_thread s t) (omega arith) (alike-thread s t low) in
-    omega (arith, was, ap (bytes_from s t) (one-fewer t n low high), later)
+pub bytes-turn : (s : State) (t old total : ℕ) → 0 < t → t ≤ 4 → old + bytes_from s t (5 - t) ≡ total → old + cond (is_due s t) (log_bytes s t) 0 + bytes_from s (t + 1) (5 - (t + 1)) ≡ total
+bytes-turn s t old total low high was =
+    let later = bytes_from-alike (5 - (t + 1)) (t + 1) s (after_thread s t) (omega arith) (alike-thread s t low) in
+    omega (arith, was, ap (bytes_from s t) (one-fewer t low high), later)
 
-pub last-turn : (s : State) (t n : ℕ) (total b : Bool) → 0 < t → t ≤ n → (is_due s t && nat_le 4294967295 (sequence_of s.instance.logs t)) ≡ b → is_last_sequence s t (n + 1 - t) ≡ total → cond b true (is_last_sequence s (t + 1) (n + 1 - (t + 1))) ≡ total
-last-turn s t n total b low high is was =
-    (λ i. cond (sym is i) true (sym (last-alike (n + 1 - (t + 1)) (t + 1) s (after_thread s t) (omega arith) (alike-thread s t low)) i)) ∙ sym (ap (is_last_sequence s t) (one-fewer t n low high)) ∙ was
+pub last-turn : (s : State) (t : ℕ) (total b : Bool) → 0 < t → t ≤ 4 → lacks_sequence s t ≡ b → is_last_sequence s t (5 - t) ≡ total → cond b true (is_last_sequence s (t + 1) (5 - (t + 1))) ≡ total
+last-turn s t total b low high is was =
+    (λ i. cond (sym is i) true (sym (last-alike (5 - (t + 1)) (t + 1) s (after_thread s t) (omega arith) (alike-thread s t low)) i)) ∙ sym (ap (is_last_sequence s t) (one-fewer t low high)) ∙ was

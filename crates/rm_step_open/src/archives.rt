@@ -1,5 +1,5 @@
 //! Online logs become archived ones, one thread after another.
-ghost use Rattle.std.specs.Prelude.{◌≡◌, ◌++◌, ◌∷◌, [], IfOk, OnOk, None, true};
+ghost use Rattle.std.specs.Prelude.{◌≡◌, ◌<◌, ◌++◌, ◌∷◌, [], IfOk, OnOk, None, true};
 ghost use Rattle.rm_step_open.specs.Space.{HasSpace};
 ghost use Rattle.rm_machine.specs.Archive.{after_all, after_thread, archiving_refusal, lines_from, puts_by, puts_from, thread_lines};
 ghost use Rattle.rm_machine.specs.Sound.{IsSound};
@@ -11,14 +11,14 @@ ghost use Rattle.rm_redo.specs.Online.{IsThread};
 ghost use Rattle.rm_catalog_typed.specs.Changes.{EditsFollow};
 ghost use Rattle.sha2.specs.Sha256.{sha256};
 
-use crate::due::is_due;
+use crate::due::{has_log, is_due};
 use rm_base::sealed::Encoded;
 use rm_base::{NoMemory, Seq, Status, ThreadNo};
 use rm_catalog::{Edit, LogEntry};
 use rm_commit::Object;
 use rm_evidence::log_name;
 use rm_machine::State;
-use rm_machine_code::facts::{redo_end, threads};
+use rm_machine_code::facts::{MOST_THREADS, redo_end};
 use rm_redo::{LogFile, encode_log_with_digest};
 use rm_report::Line;
 use std::alloc::Global;
@@ -86,8 +86,8 @@ fn made_line(state: &State, thread: ThreadNo) -> Line
     }
 }
 
-/// Archives the log of a thread, where that has something to archive, and tells it. A thread with nothing to
-/// archive is told where `all` are. An error is want of memory; then nothing is said of the state, the
+/// Archives the log of a thread, where that has something to archive, and tells it. A thread whose log has nothing
+/// to archive is told where `all` are. An error is want of memory; then nothing is said of the state, the
 /// edits, the lines and the objects.
 pub(crate) fn archive_thread(
     alloc: Global,
@@ -99,7 +99,7 @@ pub(crate) fn archive_thread(
     all: bool,
 ) -> Result<(), NoMemory>
     requires sound { IsSound state.old }
-    requires thread { IsThread state.old.instance.logs thread }
+    requires number { 0 < thread }
     requires space { is_due state.old thread ≡ true → HasSpace state.old thread }
     ensures after { OnOk result (state.new ≡ after_thread state.old thread) }
     ensures lines { OnOk result (lines.new ≡ lines.old ++ thread_lines all state.old thread) }
@@ -109,14 +109,14 @@ pub(crate) fn archive_thread(
     if is_due(state, thread) {
         lines.push(made_line(state, thread))?;
         objects.push(archive(alloc, state, edits, thread)?)?;
-    } else if all {
+    } else if all && has_log(&state.instance.logs, thread) {
         lines.push(Line::NothingToArchive { thread })?;
     }
     Ok(())
 }
 
 /// Archives the log of each thread that has something to archive, and tells it; where `all` are told, also the
-/// threads that have nothing. The lines and objects are added behind those that are there. An error is want of
+/// threads whose logs have nothing. The lines and objects are added behind those that are there. An error is want of
 /// memory; then nothing is said of the state, the edits, the lines and the objects.
 pub(crate) fn archive_all(
     alloc: Global,
@@ -130,11 +130,11 @@ pub(crate) fn archive_all(
     requires accepted { archiving_refusal state.old 0 ≡ None }
     ensures after { OnOk result (state.new ≡ after_all state.old) }
     ensures sound { OnOk result (IsSound state.new) }
-    ensures lines { OnOk result (lines.new ≡ lines.old ++ lines_from all state.old 1 (ledger state.old).base.threads) }
-    ensures objects { OnOk result (objects.new ≡ objects.old ++ puts_from state.old 1 (ledger state.old).base.threads) }
+    ensures lines { OnOk result (lines.new ≡ lines.old ++ lines_from all state.old 1 4) }
+    ensures objects { OnOk result (objects.new ≡ objects.old ++ puts_from state.old 1 4) }
     ensures edits { OnOk result (EditsFollow edits.old.items edits.new.items state.old.catalog state.new.catalog) }
 {
-    for thread in 1..=threads(state) {
+    for thread in 1..=MOST_THREADS {
         archive_thread(alloc, state, edits, lines, objects, thread, all)?;
     }
     Ok(())

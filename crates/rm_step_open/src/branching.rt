@@ -47,7 +47,7 @@ pub fn resetlogs_refusal(state: &State) -> Option<Refusal>
     }
 }
 
-// Opens a database at its point as a new incarnation.
+// Opens a database at its point as a new incarnation, with empty logs of the threads that are enabled there.
 fn branch_off(
     alloc: Global,
     state: &mut State,
@@ -63,7 +63,6 @@ fn branch_off(
 {
     let base = state.catalog.base();
     let inc = state.catalog.tree().count() + 1;
-    let logs = OnlineLogs::new(alloc, base.dbid, inc, base.threads, at)?;
     open_at(alloc, state, at);
     state.catalog.branch(edits, base.current, at, base.moment)?;
     let base = BaseEntry {
@@ -71,6 +70,8 @@ fn branch_off(
         ..base
     };
     state.catalog.set_base(edits, base)?;
+    let enabled = state.catalog.enabled_at(inc, at);
+    let logs = OnlineLogs::with_threads(alloc, base.dbid, inc, enabled, at)?;
     let tracker = first_tracker(alloc, &state.catalog, true)?;
     state.instance.logs = logs;
     state.instance.tracker = tracker;

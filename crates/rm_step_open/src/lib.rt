@@ -1,5 +1,5 @@
-//! Logs, mode and incarnation: SWITCH LOGFILE and ARCHIVE LOG CURRENT, by which online logs become archived ones;
-//! SHUTDOWN, STARTUP MOUNT, OPEN, OPEN RESETLOGS and RESET DATABASE.
+//! Logs, threads, mode and incarnation: SWITCH LOGFILE and ARCHIVE LOG CURRENT, by which online logs become archived
+//! ones; ENABLE THREAD and DISABLE THREAD; SHUTDOWN, STARTUP MOUNT, OPEN, OPEN RESETLOGS and RESET DATABASE.
 #![tactic(auto)]
 
 mod archive_refusals;
@@ -11,6 +11,7 @@ mod opening;
 mod place;
 mod resetting;
 mod switching;
+mod threads;
 
 pub use archive_refusals::{archive_all_refusal, switch_refusal};
 pub use branching::{open_resetlogs, resetlogs_refusal};
@@ -18,3 +19,4 @@ pub use mounting::mount;
 pub use opening::{open, open_refusal};
 pub use resetting::{reset_database, reset_refusal};
 pub use switching::{archive_log_current, switch_logfile};
+pub use threads::{disable_refusal, disable_thread, enable_refusal, enable_thread};

@@ -11,6 +11,7 @@ use rm_base::{IncNo, NoMemory, Refusal};
 use rm_catalog::{BaseEntry, Edit};
 use rm_machine::handed::of_line;
 use rm_machine::{Handed, State};
+use rm_machine_code::facts::now;
 use rm_machine_code::room::ids_refusal;
 use rm_report::Line;
 use std::alloc::Global;
@@ -31,7 +32,8 @@ pub fn reset_refusal(state: &State, inc: u64) -> Option<Refusal>
 }
 
 /// RESET DATABASE: another incarnation is the current one, and no point is known. Where all online logs are lost
-/// they count as its logs. An error is want of memory; then nothing is said of the state and the edits.
+/// they count as its logs, of the threads that are enabled at its end. An error is want of memory; then nothing is
+/// said of the state and the edits.
 pub fn reset_database(
     alloc: Global,
     state: &mut State,
@@ -50,7 +52,8 @@ pub fn reset_database(
         ..state.catalog.base()
     };
     state.catalog.set_base(edits, base)?;
+    let enabled = state.catalog.enabled_at(inc, now(state));
     state.instance.point = None;
-    state.instance.logs.count_as(inc);
+    state.instance.logs.count_as(inc, enabled);
     Ok(handed)
 }

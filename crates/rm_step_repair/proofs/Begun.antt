@@ -13,7 +13,6 @@ use Rattle.rm_machine.specs.Marks.{marks_before}
 use Rattle.rm_machine.specs.Running.{CanFollow}
 use Rattle.rm_machine.specs.Sound.{IsSound}
 use Rattle.rm_machine.specs.declared.state.State.{State}
-use Rattle.rm_machine.specs.State.{ledger}
 use Rattle.rm_machine_code.proofs.BackupMarks.{marked-same, sound-marked, unmarked-mark, with_mark}
 use Rattle.rm_machine_code.proofs.RepairAccepted.{CanRepair}
 use Rattle.rm_machine_code.proofs.Repaired.{marking}
@@ -49,11 +48,11 @@ module _ (s : State) (form : RepairForm) (sound : IsSound s) (can : CanRepair s 
   pub begun-follow : CanFollow u writers
   begun-follow = record {
     opened = marked-same (λ (q : State). q.instance.is_open) s (marking form) refl ∙ can.opened;
-    marked = unmarked s form.during (ledger s).base.threads;
+    marked = unmarked s form.during 4;
   }
 
   pub begun-threads : AreThreads (opening u).logs 1 writers
-  begun-threads = subst (λ (p : Parts). AreThreads p.logs 1 writers) (sym begun-opening) (room-threads s ws sound can.opened)
+  begun-threads = subst (λ (p : Parts). AreThreads p.logs 1 writers) (sym begun-opening) (room-threads s ws sound can.opened can.writes)
 
   pub begun-writes : CanWrite (opening u) writers
   begun-writes = subst (λ (p : Parts). CanWrite p writers) (sym begun-opening) (room-writes s ws sound can.opened can.writes can.logs can.scns)

@@ -32,7 +32,7 @@ use Rattle.rm_machine_code.proofs.Handing.{hands-by}
 use Rattle.rm_machine_code.proofs.RepairAccepted.{CanRepair, can-repair}
 use Rattle.rm_machine_code.proofs.Repaired.{repaired-sound}
 use Rattle.rm_machine_code.proofs.ToldRows.{CanStand}
-use Rattle.rm_machine_code.proofs.WritersRoom.{few-writers}
+use Rattle.rm_machine_code.proofs.WritersRoom.{four-writers}
 use Rattle.rm_step_repair.specs.Gone.{HasRepaired}
 use Rattle.rm_step_repair.specs.Told.{IsTold, NamesGap, mended_line}
 use Rattle.rm_step_repair.specs.declared.telling.Told.{Told}
@@ -90,7 +90,7 @@ module _ (held : Option Held) (s : State) (form : RepairForm) (sound : IsSound s
     pub few-told : (vs : List (Vec ℕ Global)) → lists vs ≡ scns → length vs ≤ 4
     few-told vs alike =
         let each = ap (λ (ns : List ℕ). length ns) ran.each in
-        omega (arith, length-map vs (λ v. v.items), ap (λ (ns : List (List ℕ)). length ns) alike, length-map scns length, length-map (writers_in s form.during) length, each, (few-writers s (asked form.during) sound).1)
+        omega (arith, length-map vs (λ v. v.items), ap (λ (ns : List (List ℕ)). length ns) alike, length-map scns length, length-map (writers_in s form.during) length, each, four-writers s (asked form.during) sound)
 
     pub repair-hands : (y : Handed) (u : State) → u ≡ without_mended q form → y.lines ≡ skipped_lines t.skipped ++ map mended_line jobs ++ write_lines 1 scns → y.objects ≡ [] → y.removes ≡ [] → Hands held s (BlockRecover form) y u
     repair-hands y u left said puts removes =

@@ -1,5 +1,5 @@
 -- The record of an id, where there is one.
-use Rattle.std.proofs.Common.{◌≡◌, ◌∙◌, ◌<◌, ◌==◌, ◌&&◌, inl, inr, ℕ, Some, None, Bool, true, false, is_none, cond, refl, subst, arith}
+use Rattle.std.proofs.Common.{◌≡◌, ◌<◌, ◌==◌, ◌&&◌, inl, inr, ℕ, Some, None, Bool, true, false, is_none, cond, refl, subst, arith}
 use Rattle.std.proofs.lemmas.Bool.{cases_Bool, eqb-true}
 use Rattle.rm_base.specs.declared.refusal.Refusal.{Refusal}
 use Rattle.rm_base.proofs.Lists.{find_cases}

@@ -100,7 +100,7 @@ module _ (s : State) (id : ℕ) (a : LogFile) where
   log-obeys valid here =
       record {
         there = IsThere-with_end (tree s) a.inc log_end a.inc here.there;
-        thread = (valid.thread.0, here.thread);
+        thread = valid.thread;
         sequence = valid.sequence.0;
         range = (
           omega (arith, reset_of-with_end (tree s) a.inc log_end a.inc here.there, here.range.0),
@@ -124,7 +124,7 @@ module _ (s : State) (id : ℕ) (a : LogFile) where
       let is = read.obeys in
       let there = was-there (tree s) a.inc log_end is.there in
       let low = reset_of-with_end (tree s) a.inc log_end a.inc there in
-      record { dbid = read.dbid; there = there; thread = is.thread.1; range = (omega (arith, low, is.range.0), is.range.1) }
+      record { dbid = read.dbid; there = there; range = (omega (arith, low, is.range.0), is.range.1) }
 
 -- bytes that spell no log are none
 pub no-log : (s : State) (id : ℕ) (bytes : List ℕ) → ((a : LogFile) → IsLogFile a → bytes ≢ log_spelling a) → (x : Found) → named_of x ≡ named.Log id

@@ -52,11 +52,10 @@ named_of (found_piece copy id a) = named.Piece copy id
 
 -- What stands under it
 
--- the log is of the database, and of an incarnation and a thread that are there
+-- the log is of the database, and of an incarnation that is there
 pub record IsLogHere (s : State) (a : LogFile) : Type 0 where
   pub dbid : a.dbid ≡ (ledger s).base.dbid
   pub there : IsThere (tree s) a.inc
-  pub thread : a.thread ≤ (ledger s).base.threads
   pub range : (reset_of (tree s) a.inc ≤ a.first) × (a.first < a.next)
 
 -- a level 1 is no image copy, and what stood in place is no backup

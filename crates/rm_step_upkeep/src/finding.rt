@@ -111,7 +111,7 @@ fn read_piece(alloc: Global, bytes: &[u8]) -> Result<Option<(Piece, [u8; 32])>, 
     }
 }
 
-// Whether the log is of the database, and of an incarnation and a thread that are there.
+// Whether the log is of the database, and of an incarnation that is there.
 fn is_log_here(state: &State, log: &LogFile) -> bool
     ensures { IsTrue result ↔ IsLogHere state.now log.now }
 {
@@ -119,10 +119,7 @@ fn is_log_here(state: &State, log: &LogFile) -> bool
     let Some(inc) = state.catalog.tree().get(log.inc) else {
         return false;
     };
-    log.dbid == base.dbid
-        && log.thread <= base.threads
-        && inc.reset <= log.first
-        && log.first < log.next
+    log.dbid == base.dbid && inc.reset <= log.first && log.first < log.next
 }
 
 // Whether a piece of this kind can be recorded: a level 1 as no image copy, and what stood in place not at all.

@@ -1,8 +1,10 @@
 -- What is known where WRITE was not refused.
-use Rattle.std.proofs.Common.{◌≡◌, ◌<◌, ◌≤◌, ◌-◌, ℕ, Option, Some, None, true, refl, subst, arith, Contains, slice_get}
+use Rattle.std.proofs.Common.{◌≡◌, ◌∙◌, ◌<◌, ◌≤◌, ◌-◌, ℕ, Option, Some, None, true, false, refl, sym, subst, arith, All, Contains, slice_get}
 use Rattle.std.specs.Prelude.{IfSome}
-use Rattle.std.proofs.lemmas.List.Elements.{All-contains_itself}
+use Rattle.std.proofs.lemmas.List.Elements.{All-contains_itself, All-weaker}
 use Rattle.std.proofs.lemmas.Option.{slice_get_within}
+use Rattle.rm_base.specs.Numbers.{last_scn}
+use Rattle.rm_base.specs.declared.block.Change.{Change}
 use Rattle.rm_base.specs.declared.block.Row.{Row}
 use Rattle.rm_base.proofs.Slots.{all-get, get-index}
 use Rattle.rm_blocks.specs.File.{File}
@@ -11,10 +13,14 @@ use Rattle.rm_history.proofs.Highs.{high-above}
 use Rattle.rm_history.proofs.Worlds.{file-there}
 use Rattle.rm_catalog_typed.specs.LedgerFacts.{IsCreated}
 use Rattle.rm_catalog_typed.proofs.Lookups.{item-at}
+use Rattle.rm_redo.specs.LogFormat.{IsLogRecord}
+use Rattle.rm_redo.specs.Logs.{Logs}
+use Rattle.rm_redo.specs.Online.{IsLost, IsThread, first_of, thread_records}
 use Rattle.rm_machine.specs.Sound.{IsPlaced, IsSound}
 use Rattle.rm_machine.specs.declared.state.State.{State}
-use Rattle.rm_machine.specs.State.{now_of, placed, tree, world}
-use Rattle.rm_machine.specs.Write.{write_refusal}
+use Rattle.rm_machine.specs.State.{now_of, placed, redo_end, tree, world}
+use Rattle.rm_machine.specs.Write.{change_of, write_refusal}
+use Rattle.rm_machine_code.proofs.Further.{redo-now}
 use Rattle.rm_machine_code.proofs.Places.{counted-open}
 use Rattle.rm_machine_code.proofs.Writes.{write-accepted}
 
@@ -34,12 +40,41 @@ write-numbers s w sound is =
     let block = a.block in
     let most = created.blocks.1 in
     let low = a.thread.1 in
-    let threads = sound.catalog.ledger.base.threads.1 in
+    let four = sound.logs.four in
     record {
-      thread = (a.thread.0, omega (arith, low, threads));
+      thread = (a.thread.0, omega (arith, low, four));
       file = (there.0, omega (arith, inside, few));
       block = omega (arith, block, most);
     }
+
+-- its change can go to the log of its thread
+pub record CanAppend (logs : Logs) (c : Change) : Type 0 where
+  pub thread : IsThread logs c.thread
+  pub there : ¬ IsLost logs c.thread
+  pub inc : c.inc ≡ logs.inc
+  pub first : first_of logs c.thread ≤ c.scn
+  pub last : c.scn < last_scn
+  pub above : All (λ r. r.scn < c.scn) (thread_records logs c.thread)
+
+appends : (s : State) (w : WriteForm) → IsSound s → write_refusal s w ≡ None → CanAppend s.instance.logs (change_of s w)
+appends s w sound is =
+    let a = write-accepted s w sound is in
+    let opened = sound.in_open a.on.opened in
+    let found = opened.found w.thread a.thread in
+    let log = sound.logs.each w.thread a.thread found in
+    let end = redo-now s sound a.on in
+    record {
+      thread = a.thread;
+      there = λ lost. (let clash : true ≡ false = sym lost ∙ found in cc);
+      inc = sym opened.inc;
+      first = omega (arith, log.valid.range.1, end);
+      last = a.on.below;
+      above = All-weaker (IsLogRecord (first_of s.instance.logs w.thread) (redo_end s)) (λ r. r.scn < now_of s) (λ r from. let below = from.scn.1 in omega (arith, below, end)) (thread_records s.instance.logs w.thread) log.valid.records;
+    }
+
+-- also one SCN further
+pub can-append : (s p : State) (w : WriteForm) (c : Change) → IsSound s → write_refusal s w ≡ None → c ≡ change_of s w → p.instance ≡ s.instance → CanAppend p.instance.logs c
+can-append s p w c sound is made same = coe 1 0 (i. CanAppend (same i).logs (made i)) (appends s w sound is)
 
 -- a version in place of an open database lies below `now`
 below-by : (s : State) (f b : ℕ) (x : File) (r : Row) → IsSound s → s.instance.is_open ≡ true → placed s f ≡ Some x → slice_get x.rows b ≡ Some r → r.version < now_of s

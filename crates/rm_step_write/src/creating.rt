@@ -11,7 +11,6 @@ ghost use Rattle.rm_machine.specs.Tracked.{tracks};
 ghost use Rattle.rm_track.specs.Bitmaps.{fresh, with_file};
 ghost use Rattle.rm_catalog_typed.specs.Changes.{EditsFollow};
 
-use crate::further::{go_further, mark_count};
 use rm_base::{FileNo, LAST_SCN, Limit, NoMemory, Refusal};
 use rm_blocks::DataFile;
 use rm_catalog::Edit;
@@ -19,6 +18,7 @@ use rm_history::Datafile;
 use rm_machine::handed::of_line;
 use rm_machine::{Handed, State};
 use rm_machine_code::facts::now;
+use rm_machine_code::marks::{go_further, mark_count};
 use rm_machine_code::room::{lacks_ids, lacks_room};
 use rm_report::Line;
 use rm_track::Tracker;

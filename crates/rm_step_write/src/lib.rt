@@ -2,7 +2,6 @@
 #![tactic(auto)]
 
 mod creating;
-mod further;
 mod writing;
 
 pub use creating::{create_datafile, datafile_refusal};

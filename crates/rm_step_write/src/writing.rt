@@ -6,11 +6,10 @@ ghost use Rattle.rm_blocks.specs.File.{written};
 ghost use Rattle.rm_lang_statement.specs.declared.command.Command.TheVariants.{Write};
 ghost use Rattle.rm_machine.specs.Hands.{Hands};
 ghost use Rattle.rm_machine.specs.Sound.{IsSound};
-ghost use Rattle.rm_machine.specs.State.{ledger};
+ghost use Rattle.rm_redo.specs.Online.{IsThread};
 ghost use Rattle.rm_machine.specs.Write.{block_refusal, change_of, place_refusal, write_refusal};
 ghost use Rattle.rm_catalog_typed.specs.Changes.{EditsFollow};
 
-use crate::further::{go_further, mark_count};
 use rm_base::{Absent, Change, LAST_SCN, Limit, NoMemory, Refusal, Seq, ThreadNo};
 use rm_blocks::DataFile;
 use rm_catalog::Edit;
@@ -20,6 +19,7 @@ use rm_machine::handed::of_line;
 use rm_machine::{Handed, State};
 use rm_machine_code::damage::is_damaged;
 use rm_machine_code::facts::{is_thread, now, on_path, placed};
+use rm_machine_code::marks::{go_further, mark_count};
 use rm_machine_code::room::{lacks_ids, lacks_room};
 use rm_report::Line;
 use std::alloc::Global;
@@ -28,7 +28,8 @@ use std::mem;
 // Why WRITE is refused where its thread and its datafile are there, if it is.
 fn block_refusal(state: &State, form: &WriteForm, datafile: Datafile) -> Option<Refusal>
     requires sound { IsSound state.now }
-    requires thread { (0 < form.now.thread) × (form.now.thread ≤ (ledger state.now).base.threads) }
+    requires thread { IsThread state.now.instance.logs form.now.thread }
+    requires most { form.now.thread ≤ 4 }
     requires file { (0 < form.now.file) × (form.now.file ≤ 64) }
     ensures value { result ≡ block_refusal state.now form.now datafile }
 {

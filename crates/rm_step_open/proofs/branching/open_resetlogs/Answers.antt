@@ -7,7 +7,7 @@ use Rattle.rm_report.specs.declared.line.Line.TheVariants.{Opened}
 use Rattle.rm_machine.specs.Archive.{after_all, archiving, lines_from, puts_from}
 use Rattle.rm_machine.specs.Effect.{done}
 use Rattle.rm_machine.specs.OpenResetlogs.{branched_off, resetlogs_lines}
-use Rattle.rm_machine.specs.State.{ledger, tree}
+use Rattle.rm_machine.specs.State.{tree}
 use Rattle.rm_machine.specs.declared.state.State.{State}
 use Rattle.rm_catalog_typed.specs.Fitting.{HasRoomFor}
 use Rattle.rm_machine_code.proofs.Branching.{after-archiving, can-after, can-reset}
@@ -47,12 +47,15 @@ returns-clause-hands c held =
     let s : State = c.args.state.now in
     let at = c.in-Some.scn in
     let all = c.in_ok-archive_all.ensures in
-    let logs : List Line = lines_from false s 1 (ledger s).base.threads in
+    let logs : List Line = lines_from false s 1 4 in
     let line : ℕ → List Line → List Line = λ n lines. lines ++ Opened (n + 1) at ∷ [] in
     let count : c.count-inc.result ≡ length (tree s) = c.count-inc.ensures.count ∙ ap (λ (ns : List Incarnation). length ns) c.tree.ensures in
     let lines = c.in_ok-push.ensures.ok ∙ ap (line c.count-inc.result) (all.lines ∙ ap (λ (ls : List Line). ls ++ logs) c.new-lines.ensures) ∙ ap (λ n. line n logs) count in
-    let objects = all.objects ∙ ap (λ (xs : List Object). xs ++ puts_from s 1 (ledger s).base.threads) c.new-objects.ensures in
+    let objects = all.objects ∙ ap (λ (xs : List Object). xs ++ puts_from s 1 4) c.new-objects.ensures in
     let is = c.in_ok-branch_off.ensures.value ∙ ap (λ (q : State). branched_off q at) all.after in
     hands-by held s OpenResetlogs _ _ (resetlogs_lines s at) (archiving s) (branched_off (after_all s) at)
     (λ held_ tells. subst (λ (o : Option ℕ). IsSomeAnd o (λ n. done (resetlogs_lines s at) (archiving s) (branched_off (after_all s) at) ≡ done (resetlogs_lines s n) (archiving s) (branched_off (after_all s) n))) (sym c.in-Some.is) refl)
     lines objects (search rules) is
+
+pub returns-clause-edits : goal.returns-clause-edits
+returns-clause-edits c = record { lead = λ rs is. c.in_ok-branch_off.ensures.edits.lead rs (c.in_ok-archive_all.ensures.edits.lead rs is) }

@@ -1,6 +1,9 @@
-use Rattle.std.proofs.Common.{◌∙◌, ◌++◌, true, List, ap}
+use Rattle.std.proofs.Common.{◌≡◌, ◌∙◌, ◌++◌, true, false, List, ap, rules}
+use Rattle.rm_base.proofs.Conditions.{only-where, unless}
 use Rattle.rm_commit.specs.declared.commit.Object.{Object}
 use Rattle.rm_machine.specs.Archive.{puts_by, thread_lines}
+use Rattle.rm_machine.specs.State.{is_no_thread}
+use Rattle.rm_machine_code.proofs.Threads.{thread-of}
 use Rattle.rm_report.specs.declared.line.Line.{Line}
 use Rattle.rm_step_open.proofs.Archiving.{hands_switch}
 use Rattle.rm_step_open.proofs.switching.switch_logfile.Goals as goal
@@ -10,7 +13,8 @@ returns-clause-hands c =
     let s = c.args.state.now in
     let t = c.args.thread in
     let done = c.in_ok-archive_thread.ensures in
-    hands_switch s c.archive_thread.new.state t _ done.after
+    let number : is_no_thread s t ≡ false = search rules in
+    hands_switch s c.archive_thread.new.state t _ (thread-of s t number) done.after
     (done.lines ∙ ap (λ (xs : List Line). xs ++ thread_lines true s t) c.new-lines.ensures)
     (done.objects ∙ ap (λ (xs : List Object). xs ++ puts_by s t) c.new-objects.ensures)
     c.new.ensures

@@ -11,7 +11,7 @@ use Rattle.rm_machine.specs.Write.{change_of, with_write}
 use Rattle.rm_machine_code.proofs.Handing.{hands-by}
 use Rattle.rm_machine_code.proofs.Writes.{write-accepted}
 use Rattle.rm_report.specs.declared.line.Line.TheVariants.{Written}
-use Rattle.rm_step_write.proofs.Accepted.{rows-below, write-numbers}
+use Rattle.rm_step_write.proofs.Accepted.{can-append, rows-below, write-numbers}
 use Rattle.rm_step_write.proofs.Results.{after-write}
 use Rattle.rm_step_write.proofs.writing.write.Goals as goal
 
@@ -20,6 +20,11 @@ IsAbove place c = IfSome (slice_index_or place (c.file - 1) None) (λ x. IfSome 
 
 pub go_further-requires-clause-below : goal.go_further-requires-clause-below
 go_further-requires-clause-below c = (write-accepted c.args.state.now c.args.form.now c.requires.sound c.requires.accepted).on.below
+
+pub append-requires : goal.append-requires
+append-requires c =
+    let append = can-append c.args.state.now c.go_further.new.state c.args.form.now c.change_of-change.result c.requires.sound c.requires.accepted c.change_of-change.ensures c.in_ok-go_further.ensures.instance in
+    record { thread = append.thread; there = append.there; inc = append.inc; first = append.first; last = append.last; above = append.above }
 
 pub put_row-requires-clause-file : goal.put_row-requires-clause-file
 put_row-requires-clause-file c =
