@@ -1,5 +1,5 @@
 -- Parts that are added one after another.
-use Rattle.std.proofs.Common.{◌≡◌, ◌<◌, ◌≤◌, ◌+◌, ◌-◌, ◌∙◌, ◌++◌, ℕ, suc, List, [], ◌∷◌, Bool, true, false, cond, refl, ap, sym, arith, append-nil, append_assoc, drop, drop-cons, get_or, length, slice_get}
+use Rattle.std.proofs.Common.{◌≡◌, ◌<◌, ◌≤◌, ◌+◌, ◌-◌, ◌∙◌, ◌++◌, ◌&&◌, not, ℕ, suc, List, [], ◌∷◌, Option, Bool, true, false, cond, refl, ap, sym, arith, append-nil, append_assoc, drop, drop-cons, get_or, length, slice_get}
 use Rattle.std.specs.Option.{option_map_or}
 use Rattle.std.proofs.lemmas.List.{drop_all}
 use Rattle.std.proofs.lemmas.Option.{slice_get-get_or}
@@ -36,20 +36,24 @@ parts-none n next es os same entries objects =
 
 -- One thread on
 
-logs-by : (s : State) (t : ℕ) (b : Bool) (rest : List ThreadLog) (x : Parts) → with_parts (cond b [] (part_of_thread s t ∷ []) ++ log_parts s (t + 1) rest) x ≡ with_parts (log_parts s (t + 1) rest) (cond b x (with_part (part_of_thread s t) x))
+logs-by : (s : State) (t : ℕ) (b : Bool) (rest : List ThreadLog) (x : Parts) → with_parts (cond b (part_of_thread s t ∷ []) [] ++ log_parts s (t + 1) rest) x ≡ with_parts (log_parts s (t + 1) rest) (cond b (with_part (part_of_thread s t) x) x)
 logs-by s t true rest x = refl
 logs-by s t false rest x = refl
 
-pub logs-next : (s : State) (t : ℕ) (ls : List ThreadLog) (x y : Parts) → 0 < t → t ≤ length ls → y ≡ cond (option_map_or (λ l. l.is_lost) (slice_get ls (t - 1)) false) x (with_part (part_of_thread s t) x)
+-- a log that is there and not lost stands at a place
+abbrev pub online-at : Option ThreadLog → Bool
+online-at o = option_map_or (λ l. l.is_there) o false && not (option_map_or (λ l. l.is_lost) o false)
+
+pub logs-next : (s : State) (t : ℕ) (ls : List ThreadLog) (x y : Parts) → 0 < t → t ≤ length ls → y ≡ cond (online-at (slice_get ls (t - 1))) (with_part (part_of_thread s t) x) x
     → with_parts (log_parts s t (drop (t - 1) ls)) x ≡ with_parts (log_parts s (t + 1) (drop (t + 1 - 1) ls)) y
 logs-next s t ls x y low high is =
     let inside : t - 1 < length ls = omega (arith, low, high) in
     let next : suc (t - 1) ≡ t + 1 - 1 = omega (arith, low) in
     let l : ThreadLog = get_or ls (t - 1) lost_log in
-    let same = is ∙ ap (λ o. cond (option_map_or (λ (l : ThreadLog). l.is_lost) o false) x (with_part (part_of_thread s t) x)) (slice_get-get_or ls (t - 1) lost_log inside) in
+    let same = is ∙ ap (λ o. cond (online-at o) (with_part (part_of_thread s t) x) x) (slice_get-get_or ls (t - 1) lost_log inside) in
     ap (λ (xs : List ThreadLog). with_parts (log_parts s t xs) x) (drop-cons ls (t - 1) lost_log inside)
-    ∙ logs-by s t l.is_lost (drop (suc (t - 1)) ls) x ∙ (λ i. with_parts (log_parts s (t + 1) (drop (next i) ls)) (sym same i))
+    ∙ logs-by s t (l.is_there && not l.is_lost) (drop (suc (t - 1)) ls) x ∙ (λ i. with_parts (log_parts s (t + 1) (drop (next i) ls)) (sym same i))
 
 -- none is left
-pub logs-last : (s : State) (t : ℕ) (ls : List ThreadLog) (y : Parts) → t ≡ length ls → with_parts (log_parts s (t + 1) (drop (t + 1 - 1) ls)) y ≡ y
-logs-last s t ls y last = ap (λ (xs : List ThreadLog). with_parts (log_parts s (t + 1) xs) y) (drop_all (t + 1 - 1) ls (omega (arith, last)))
+pub logs-last : (s : State) (t : ℕ) (ls : List ThreadLog) (y : Parts) → length ls < t → with_parts (log_parts s t (drop (t - 1) ls)) y ≡ y
+logs-last s t ls y last = ap (λ (xs : List ThreadLog). with_parts (log_parts s t xs) y) (drop_all (t - 1) ls (omega (arith, last)))

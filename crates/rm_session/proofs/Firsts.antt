@@ -1,7 +1,8 @@
 -- The incarnation of the first log, and the logs that are of one incarnation.
-use Rattle.std.proofs.Common.{◌==◌, ◌≤◌, ◌+◌, ℕ, List, [], ◌∷◌, Option, Some, None, IfSome, All, Bool, true, false, cond, map}
+use Rattle.std.proofs.Common.{◌==◌, ◌+◌, ℕ, List, [], ◌∷◌, Option, Some, None, IfSome, All, Bool, true, false, cond, map}
 use Rattle.std.proofs.lemmas.List.Elements.{All-head, All-map, All-tail, All-weaker}
 use Rattle.rm_catalog_typed.specs.Ledger.{Ledger}
+use Rattle.rm_history.specs.Tree.{IsThere}
 use Rattle.rm_machine.specs.Loading.{inc_of_first, where_of}
 use Rattle.rm_machine_code.proofs.Standing.{each-get}
 use Rattle.rm_redo.specs.LogFormat.{IsLogFile}
@@ -34,12 +35,12 @@ of-each : (P Q : LogFile → Type 0) → ((a : LogFile) → P a → Q a) → (o 
 of-each P Q then None is = tt
 of-each P Q then (Some a) is = then a is
 
-pub inc-valid : (i : ℕ) (logs : List (Option LogFile)) → 1 ≤ i → All (OfLog IsLogFile) logs → 1 ≤ inc_of_first i logs
-inc-valid i logs here all = first-is (λ n. 1 ≤ n) i logs here (All-weaker (OfLog IsLogFile) (OfLog (λ a. 1 ≤ a.inc)) (of-each IsLogFile (λ a. 1 ≤ a.inc) (λ a is. is.inc.0)) logs all)
-
 -- what is so of each log that fits, whatever its thread, is so of all of them
 pub fit-each : (l : Ledger) (opened : Bool) (P : LogFile → Type 0) → ((t : ℕ) (a : LogFile) → IsFitLog l opened t a → P a) → (logs : List (Option LogFile)) → AllAt (LogFitsAt l opened) logs → All (OfLog P) logs
 fit-each l opened P then logs all = each-get (OfLog P) logs (λ k o is. of-each (IsFitLog l opened (k + 1)) P (then (k + 1)) o (all k o is))
+
+pub fit-there : (l : Ledger) (opened : Bool) (logs : List (Option LogFile)) → IsThere l.tree l.base.current → AllAt (LogFitsAt l opened) logs → IsThere l.tree (inc_of_first l.base.current logs)
+fit-there l opened logs here all = first-is (IsThere l.tree) l.base.current logs here (fit-each l opened (λ a. IsThere l.tree a.inc) (λ t a fit. fit.fits.there) logs all)
 
 pub fit-valid : (l : Ledger) (opened : Bool) (logs : List (Option LogFile)) → AllAt (LogFitsAt l opened) logs → All (OfLog IsLogFile) logs
 fit-valid l opened logs all = fit-each l opened IsLogFile (λ t a fit. fit.valid) logs all

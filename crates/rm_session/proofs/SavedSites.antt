@@ -6,13 +6,13 @@ use Rattle.std.proofs.lemmas.Option.{slice_get-map}
 use Rattle.rm_catalog.specs.declared.record.HeadEntry.{HeadEntry}
 use Rattle.rm_machine.specs.declared.state.State.{State}
 use Rattle.rm_machine.specs.Damage.{without_damaged}
-use Rattle.rm_machine.specs.Loading.{IsHeadPoint, IsLoaded, IsLoadedPoint, IsTheOne, has_lost}
+use Rattle.rm_machine.specs.Loading.{IsHeadPoint, IsLoaded, IsLoadedPoint, IsTheOne}
 use Rattle.rm_machine.specs.Machine.{IsSoundMachine, Machine}
 use Rattle.rm_machine.specs.Marks.{lacks_ids}
 use Rattle.rm_machine.specs.Rest.{Rest}
 use Rattle.rm_machine.specs.Saving.{IsSavedAs, head_of, rested, saved_logs}
 use Rattle.rm_machine.specs.Sound.{IsPoint, IsSound}
-use Rattle.rm_machine.specs.State.{counted, current_of}
+use Rattle.rm_machine.specs.State.{has_lost, counted, current_of}
 use Rattle.rm_machine_code.proofs.Places.{counted-closed}
 use Rattle.rm_session.proofs.Resting.{borne-without, object-stands}
 use Rattle.rm_session.proofs.SavedFiles.{HaveObjects, loaded-file}

@@ -72,13 +72,13 @@ module _ (s : State) (sound : IsSound s) (ids : lacks_ids s 0 ≡ false) where
         thread = λ none. absurd (omega (arith, none));
         file = λ some. (refl, omega (arith, slice_get_within s.instance.place k (Some x) at, sound.place.many));
       }
-  part-fits _ id (of_thread t some upto found) low high =
+  part-fits _ id (of_thread t there found) low high =
       let a = online s t in
-      let valid = (sound.logs.each t some upto found).valid in
+      let valid = (sound.logs.each t there found).valid in
       record {
         id = (low, high);
         size = omega (arith, log_bodies.length-body a (log_fitting.fits a valid), length-sealed (log.body_of a), valid.few);
-        thread = λ none. (some, upto);
+        thread = λ none. (there.0, omega (arith, there.1, sound.logs.four));
         file = λ file. absurd (omega (arith, file));
       }
 

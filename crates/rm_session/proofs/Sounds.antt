@@ -1,29 +1,29 @@
 -- What is loaded of a saved site makes a sound database, whatever the store holds.
-use Rattle.std.proofs.Common.{◌≡◌, ◌<◌, ◌≤◌, ◌+◌, ◌^◌, ◌∙◌, inl, inr, ℕ, List, Option, Some, Bool, true, false, not, refl, sym, ap, subst, arith, length, map, slice_get}
+use Rattle.std.proofs.Common.{◌≡◌, ◌<◌, ◌+◌, ◌^◌, ◌∙◌, inl, inr, ℕ, List, Option, Some, Bool, true, false, not, refl, sym, ap, subst, arith, length, All, slice_get}
 use Rattle.std.proofs.lemmas.Bool.{and_parts, cases_Bool, false≢true, not-true}
-use Rattle.std.proofs.lemmas.List.{length-map}
 use Rattle.std.proofs.lemmas.Option.{none-some}
 use Rattle.rm_blocks.specs.File.{File, standing}
 use Rattle.rm_history.specs.declared.world.Datafile.{Datafile}
 use Rattle.rm_history.specs.Tree.{IsThere, end_of}
 use Rattle.rm_catalog_typed.specs.Ledger.{Ledger}
-use Rattle.rm_machine.specs.Loading.{file_in, has_lost, inc_of_first, where_of}
-use Rattle.rm_machine.specs.Sound.{AreOnline, ArePlaced, IsOnline, IsOpen, IsPlaced, IsSound}
+use Rattle.rm_catalog_typed.specs.Switches.{is_enabled_in}
+use Rattle.rm_machine.specs.Loading.{file_in, inc_of_first}
+use Rattle.rm_machine.specs.Sound.{AreOnline, ArePlaced, IsGone, IsOnline, IsOpen, IsPlaced, IsSound}
 use Rattle.rm_machine.specs.declared.state.State.{State}
-use Rattle.rm_machine.specs.State.{counted, is_lost, ledger, online, tree}
+use Rattle.rm_machine.specs.State.{has_lost, counted, is_lost, ledger, online, tree}
 use Rattle.rm_machine_code.proofs.Damaged.{damaged-none}
 use Rattle.rm_machine_code.proofs.Places.{counted-closed, counted-open}
 use Rattle.rm_machine_code.proofs.Tracked.{tracked-fresh}
 use Rattle.rm_piece.proofs.Whole.{full}
 use Rattle.rm_redo.specs.Logs.{Logs}
-use Rattle.rm_redo.specs.Online.{thread_log}
+use Rattle.rm_redo.specs.Online.{IsThread, has_log}
 use Rattle.rm_redo.specs.declared.log_file.LogFile.{LogFile}
 use Rattle.rm_catalog_typed.specs.Facts.{IsTypedCatalog}
 use Rattle.rm_catalog_typed.specs.TypedCatalog.{Saved}
 use Rattle.rm_session.specs.Fit.{IsFit, IsFitFile, IsFitLog, StandNow}
 use Rattle.rm_session.proofs.Firsts.{first-is, fit-each}
 use Rattle.rm_machine_code.proofs.LostLogs.{lost-found}
-use Rattle.rm_session.proofs.OnlineParts.{online-part}
+use Rattle.rm_session.proofs.OnlineParts.{online-part, told-four, told-gone, told-has}
 use Rattle.rm_session.proofs.Orders.{in-order, not-level1}
 
 -- what is of a piece that fits stands there
@@ -50,10 +50,10 @@ now-file l k d x fit =
     (ap (λ y. y.inc) fit.is ∙ at.0, ap (λ y. y.checkpoint) fit.is ∙ at.1)
 
 -- where none is lost, that of no thread is
-none-has_lost : (logs : Logs) (t : ℕ) → has_lost logs ≡ false → 0 < t → t ≤ length logs.threads → is_lost logs t ≡ false
-none-has_lost logs t none some most = elim (cases_Bool (is_lost logs t)) [
+none-has_lost : (logs : Logs) (t : ℕ) → has_lost logs ≡ false → IsThread logs t → is_lost logs t ≡ false
+none-has_lost logs t none there = elim (cases_Bool (is_lost logs t)) [
   | inr found ↦ found
-  | inl lost ↦ absurd (false≢true (sym none ∙ lost-found logs t (some, most) lost))
+  | inl lost ↦ absurd (false≢true (sym none ∙ lost-found logs t there lost))
 ]
 
 module _ (s : State) (site : Saved) (rules : IsTypedCatalog s.catalog) (fit : IsFit (ledger s) site s.instance) where
@@ -91,29 +91,26 @@ module _ (s : State) (site : Saved) (rules : IsTypedCatalog s.catalog) (fit : Is
   inc-by : (P : ℕ → Type 0) → P l.base.current → ((t : ℕ) (a : LogFile) → IsFitLog l site.head.opened t a → P a.inc) → P s.instance.logs.inc
   inc-by P here each = subst P (sym inc-is) (first-is P l.base.current parts here (fit-each l site.head.opened (λ a. P a.inc) each parts fit.logs.fit))
 
-  threads-are : length s.instance.logs.threads ≡ l.base.threads
-  threads-are =
-      let i = inc_of_first l.base.current parts in
-      ap (λ (x : Logs). length x.threads) fit.logs.are ∙ length-map (map (where_of i) parts) thread_log ∙ length-map parts (where_of i) ∙ fit.logs.many
-
   -- the online log of a thread that is not lost is the log that was kept
-  is-online : (t : ℕ) → 0 < t → t ≤ l.base.threads → is_lost s.instance.logs t ≡ false → IsOnline (tree s) (online s t)
-  is-online t some most found =
-      let log = online-part l site.head.opened s.instance.logs parts (IsFitLog l site.head.opened) fit.logs.many fit.logs.are (λ t a is. is.fits) (λ k a at. fit.logs.fit k (Some a) at) t some most found in
+  is-online : (t : ℕ) → IsThread s.instance.logs t → is_lost s.instance.logs t ≡ false → IsOnline (tree s) (online s t)
+  is-online t there found =
+      let log = online-part l site.head.opened s.instance.logs parts (IsFitLog l site.head.opened) fit.logs.many fit.logs.are (λ t a is. is.fits) (λ k a at. fit.logs.fit k (Some a) at) t there found in
       subst (IsOnline (tree s)) (sym log.is) (record { valid = log.holds.valid; begun = log.holds.fits.first })
 
   are-online : AreOnline s
   are-online = record {
     dbid = ap (λ (x : Logs). x.dbid) fit.logs.are;
     there = inc-by (IsThere l.tree) rules.ledger.current (λ t a is. is.fits.there);
-    threads = threads-are;
+    four = ap (λ (x : Logs). length x.threads) fit.logs.are ∙ told-four l parts fit.logs.many;
+    threads = λ t some most. coe 1 0 (i. has_log (fit.logs.are i) t ≡ is_enabled_in l (fit.logs.are i).inc (end_of l.tree (fit.logs.are i).inc) t) (told-has l parts fit.logs.many t some most);
+    gone = subst (λ (x : Logs). All IsGone x.threads) (sym fit.logs.are) (told-gone l parts fit.logs.many);
     each = is-online;
   }
 
   is-open : s.instance.is_open ≡ true → IsOpen s
   is-open mode = record {
     inc = inc-by (λ n. n ≡ l.base.current) refl (λ t a is. is.fits.in_open (modes mode).0);
-    found = λ t some most. none-has_lost s.instance.logs t (not-true (has_lost s.instance.logs) (modes mode).1) some (omega (arith, most, threads-are));
+    found = λ t. none-has_lost s.instance.logs t (not-true (has_lost s.instance.logs) (modes mode).1);
     point = fit.point;
   }
 

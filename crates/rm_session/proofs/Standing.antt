@@ -49,7 +49,7 @@ module _ (s : State) (p : Option ℕ) where
     catalog = sound.catalog;
     dbid = sound.dbid;
     place = record { many = sound.place.many; each = sound.place.each };
-    logs = record { dbid = sound.logs.dbid; there = sound.logs.there; threads = sound.logs.threads; each = sound.logs.each };
+    logs = record { dbid = sound.logs.dbid; there = sound.logs.there; four = sound.logs.four; threads = sound.logs.threads; gone = sound.logs.gone; each = sound.logs.each };
     damaged = damaged-same s (with_point s p) sound.damaged;
     tracker = tracked-same s (with_point s p) sound.tracker;
     in_open = λ opened. let is = sound.in_open opened in record { inc = is.inc; found = is.found; point = none opened };

@@ -19,15 +19,16 @@ use Rattle.rm_catalog_typed.proofs.Lookups.{item-at}
 use Rattle.rm_track.specs.Told.{Tell}
 use Rattle.rm_piece.specs.declared.piece.Piece.{Piece}
 use Rattle.rm_redo.specs.LogFile.{log_of}
+use Rattle.rm_redo.specs.Online.{IsThread}
 use Rattle.rm_catalog_typed.specs.TypedCatalog.{Saved}
 use Rattle.rm_machine.specs.Effect.{Made}
-use Rattle.rm_machine.specs.Loading.{IsLoaded, IsLoadedBy, IsLoadedOf, IsTheOne, file_in, has_lost}
+use Rattle.rm_machine.specs.Loading.{IsLoaded, IsLoadedBy, IsLoadedOf, IsTheOne, file_in}
 use Rattle.rm_machine.specs.Machine.{HistoryFits, IsSoundBy, IsSoundMachine, Machine, RowsAre}
 use Rattle.rm_machine.specs.Rest.{HasPartArtefact, HaveParts, IsRestBorneOut, IsSoundRest, IsSoundRestBy, PartsTell, PartsTellFor, Rest, Wakes, catalog_in}
 use Rattle.rm_machine.specs.Saved.{IsGoodFile, IsGoodLog}
 use Rattle.rm_machine.specs.Sound.{IsSound}
 use Rattle.rm_machine.specs.declared.state.State.{State}
-use Rattle.rm_machine.specs.State.{counted, current_of, is_lost, ledger, now_of, online, world}
+use Rattle.rm_machine.specs.State.{has_lost, counted, current_of, is_lost, ledger, now_of, online, world}
 use Rattle.rm_machine_code.proofs.FirstTold.{tell-first}
 use Rattle.rm_machine_code.proofs.Places.{counted-closed, counted-open}
 use Rattle.rm_session.proofs.GoodParts.{file-agrees, log-agrees}
@@ -104,10 +105,10 @@ module _ (s : State) (h : List Change) (objects : Held) (made : List Made) (touc
         (rows-are (world s) h borne.history (current_of s) at stands.file (agrees k stands.file (index-get s.instance.place k stands.file stands.is)) stands.inc stands.checkpoint low)
 
     -- an online log that is not lost is that of a good part
-    log-is : (t : ℕ) → 0 < t → t ≤ (ledger s).base.threads → is_lost s.instance.logs t ≡ false → LogAgrees h (log_of (online s t))
-    log-is t low high found =
+    log-is : (t : ℕ) → IsThread s.instance.logs t → is_lost s.instance.logs t ≡ false → LogAgrees h (log_of (online s t))
+    log-is t there found =
         let logs = loaded.logs in
-        let log = online-part (ledger s) site.head.opened s.instance.logs logs.parts (IsGoodLog objects (ledger s) site) logs.many logs.are (λ t a good. good.fits) (λ k a at. logs.good k (Some a) at) t low high found in
+        let log = online-part (ledger s) site.head.opened s.instance.logs logs.parts (IsGoodLog objects (ledger s) site) logs.many logs.are (λ t a good. good.fits) (λ k a at. logs.good k (Some a) at) t there found in
         subst (λ a. LogAgrees h (log_of a)) (sym log.is) (log-agrees (ledger s) h objects made touched site borne.artefacts parts tell t log.log log.holds)
 
     site-fits : HistoryFits s h

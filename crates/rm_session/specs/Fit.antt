@@ -6,10 +6,10 @@ use Rattle.rm_catalog.specs.declared.record.PartEntry.{PartEntry}
 use Rattle.rm_history.specs.declared.world.Datafile.{Datafile}
 use Rattle.rm_history.specs.World.{exists}
 use Rattle.rm_catalog_typed.specs.Ledger.{Ledger}
-use Rattle.rm_machine.specs.Loading.{AreLoadedLogs, IsLoadedFile, IsLoadedPoint, IsTheOne, file_in, has_lost, lost_instance, online_of}
+use Rattle.rm_machine.specs.Loading.{AreLoadedLogs, IsLoadedFile, IsLoadedPoint, IsTheOne, file_in, lost_instance, online_of}
 use Rattle.rm_machine.specs.Saved.{FitsInPlace, FitsOnline, HasPart, IsGoodLog}
 use Rattle.rm_machine.specs.Sound.{StandsAt}
-use Rattle.rm_machine.specs.State.{current_of, ledger, now_of, world}
+use Rattle.rm_machine.specs.State.{has_lost, current_of, ledger, now_of, world}
 use Rattle.rm_machine.specs.Tracked.{first_tracker}
 use Rattle.rm_machine.specs.declared.state.Instance.{Instance}
 use Rattle.rm_machine.specs.declared.state.State.{State}
@@ -89,7 +89,7 @@ IsLogAt held l site k a = IsTheOne (IsGoodLog held l site (k + 1)) a
 -- the online logs are of logs that fit
 pub record AreFitLogs (l : Ledger) (opened : Bool) (logs : Logs) : Type 0 where
   pub parts : List (Option LogFile)
-  pub many : length parts ≡ l.base.threads
+  pub many : length parts ≡ 4
   pub fit : AllAt (LogFitsAt l opened) parts
   pub are : logs ≡ online_of l parts
 

@@ -20,8 +20,8 @@ use rm_history::Datafile;
 use rm_piece::Piece;
 use std::alloc::Global;
 
-// The SCN up to which an incarnation is known; 0 for one that is not there.
-fn end_of(catalog: &TypedCatalog, inc: IncNo) -> Scn
+/// The SCN up to which an incarnation is known; 0 for one that is not there.
+pub(crate) fn end_of(catalog: &TypedCatalog, inc: IncNo) -> Scn
     ensures { result ≡ end_of catalog.now.ledger.tree inc }
 {
     catalog.tree().get(inc).map_or(0, |node| node.end)

@@ -1,12 +1,13 @@
 //! What runs, as it is loaded, its point left aside.
 ghost use Rattle.std.specs.Prelude.{◌≡◌, ◌≤◌, ◌&&◌, None, IfOk, IfSome, IsErrOf, not, replicate};
 ghost use Rattle.rm_base.specs.Outside.{Rose};
-ghost use Rattle.rm_machine.specs.Loading.{has_lost, lost_instance};
+ghost use Rattle.rm_machine.specs.Loading.{lost_instance};
+ghost use Rattle.rm_machine.specs.State.{has_lost};
 ghost use Rattle.rm_catalog_typed.specs.Facts.{IsTypedCatalog};
 ghost use Rattle.rm_session.specs.Fit.{IsFit, IsHad};
 
 use crate::fault::SessionFault;
-use crate::files::load_files;
+use crate::files::{end_of, load_files};
 use crate::threads::{load_logs, online_of};
 use rm_base::{NoMemory, Seq, Store};
 use rm_catalog_typed::{Saved, TypedCatalog};
@@ -35,8 +36,8 @@ pub(crate) fn lost_instance(alloc: Global, catalog: &TypedCatalog) -> Result<Ins
 {
     let base = catalog.base();
     let place = all_lost(alloc, catalog.files().len())?;
-    let lost = all_lost(alloc, usize::from(base.threads))?;
-    let logs = OnlineLogs::from_logs(alloc, base.dbid, base.current, lost)?;
+    let enabled = catalog.enabled_at(base.current, end_of(catalog, base.current));
+    let logs = OnlineLogs::from_logs(alloc, base.dbid, base.current, enabled, all_lost(alloc, 4)?)?;
     Ok(Instance {
         is_open: false,
         point: None,

@@ -1,12 +1,13 @@
 //! The parts of a site that is saved: each datafile in place, and each online log that is not lost.
-ghost use Rattle.std.specs.Prelude.{◌≡◌, ◌<◌, ◌≤◌, ◌+◌, IfOk, OnOk, false, if◌then◌else◌};
+ghost use Rattle.std.specs.Prelude.{◌≡◌, ◌<◌, ◌≤◌, ◌+◌, IfOk, IsTrue, OnOk, false, if◌then◌else◌};
 ghost use Rattle.sha2.specs.Sha256.{sha256};
 ghost use Rattle.rm_evidence.specs.Gathered.{placed_piece};
 ghost use Rattle.rm_machine.specs.Marks.{lacks_ids};
 ghost use Rattle.rm_machine.specs.Saving.{file_parts, log_parts, parts_of};
 ghost use Rattle.rm_machine.specs.Sound.{IsSound};
-ghost use Rattle.rm_machine.specs.State.{counted, is_lost, ledger, online};
+ghost use Rattle.rm_machine.specs.State.{counted, is_online, ledger, online};
 ghost use Rattle.rm_piece.specs.Valid.{IsPiece};
+ghost use Rattle.rm_redo.specs.Online.{IsThread};
 ghost use Rattle.rm_session.specs.Adding.{no_parts, part_of_file, part_of_thread, with_object, with_part, with_parts};
 
 use rm_base::sealed::Encoded;
@@ -16,9 +17,9 @@ use rm_catalog::PartEntry;
 use rm_commit::Object;
 use rm_evidence::site_name;
 use rm_machine::State;
-use rm_machine_code::facts::{now, redo_end, threads};
+use rm_machine_code::facts::{MOST_THREADS, now, redo_end};
 use rm_piece::{Piece, encode_piece_with_digest, high_of};
-use rm_redo::{LogFile, encode_log_with_digest};
+use rm_redo::{LogFile, OnlineLogs, encode_log_with_digest};
 use std::alloc::Global;
 
 /// Parts of a site: their records, and their objects.
@@ -130,8 +131,7 @@ fn add_files(alloc: Global, state: &State, parts: &mut Parts) -> Result<(), NoMe
 // The online log of a thread, up to the end of its incarnation.
 fn log_of(alloc: Global, state: &State, thread: ThreadNo) -> Result<LogFile, NoMemory>
     requires sound { IsSound state.now }
-    requires some { 0 < thread }
-    requires there { thread ≤ (ledger state.now).base.threads }
+    requires there { IsThread state.now.instance.logs thread }
     ensures { IfOk result (λ log. log ≡ online state.now thread) }
 {
     let logs = &state.instance.logs;
@@ -146,7 +146,16 @@ fn log_of(alloc: Global, state: &State, thread: ThreadNo) -> Result<LogFile, NoM
     })
 }
 
-// Adds the part of a thread, unless its online log is lost.
+// Whether a thread has an online log that is not lost.
+fn is_online(logs: &OnlineLogs, thread: ThreadNo) -> bool
+    requires { 0 < thread }
+    ensures value { result ≡ is_online logs.now thread }
+    ensures there { IsTrue result → IsThread logs.now thread }
+{
+    logs.has(thread) && !logs.is_lost(thread)
+}
+
+// Adds the part of a thread that has an online log, unless that is lost.
 fn add_log(
     alloc: Global,
     state: &State,
@@ -155,12 +164,11 @@ fn add_log(
 ) -> Result<(), NoMemory>
     requires sound { IsSound state.now }
     requires some { 0 < thread }
-    requires there { thread ≤ (ledger state.now).base.threads }
     requires room { parts.old.next < 4294967295 }
-    ensures after { OnOk result (parts.new ≡ if is_lost state.now.instance.logs thread then parts.old else with_part (part_of_thread state.now thread) parts.old) }
+    ensures after { OnOk result (parts.new ≡ if is_online state.now.instance.logs thread then with_part (part_of_thread state.now thread) parts.old else parts.old) }
     ensures few { OnOk result (parts.new.next ≤ parts.old.next + 1) }
 {
-    if state.instance.logs.is_lost(thread) {
+    if !is_online(&state.instance.logs, thread) {
         return Ok(());
     }
     let log = log_of(alloc, state, thread)?;
@@ -179,7 +187,7 @@ fn add_logs(alloc: Global, state: &State, parts: &mut Parts) -> Result<(), NoMem
     requires room { parts.old.next + 4 ≤ 4294967295 }
     ensures { OnOk result (parts.new ≡ with_parts (log_parts state.now 1 state.now.instance.logs.threads) parts.old) }
 {
-    for thread in 1..=threads(state) {
+    for thread in 1..=MOST_THREADS {
         add_log(alloc, state, parts, thread)?;
     }
     Ok(())

@@ -2,6 +2,7 @@
 ghost use Rattle.std.specs.Prelude.{◌≡◌, ◌↔◌, ◌<◌, ◌≤◌, All, IfOk, IfSome, IsErrOf, IsTrue, length, map};
 ghost use Rattle.std.specs.Option.{option_copied};
 ghost use Rattle.rm_base.specs.Outside.{Rose};
+ghost use Rattle.rm_history.specs.Tree.{IsThere};
 ghost use Rattle.rm_machine.specs.Loading.{IsTheOne, inc_of_first, online_of, where_of};
 ghost use Rattle.rm_machine.specs.Saved.{FitsOnline, IsGoodLog, IsOfBlock, thread_part};
 ghost use Rattle.rm_redo.specs.LogFormat.{IsLogFile};
@@ -9,11 +10,13 @@ ghost use Rattle.rm_catalog_typed.specs.Facts.{IsTypedCatalog};
 ghost use Rattle.rm_session.specs.Fit.{AllAt, IsFitLog, IsLogAt, IsWhereLogFits, LogFitsAt};
 
 use crate::fault::SessionFault;
+use crate::files::end_of;
 use crate::parts::load_log;
 use rm_base::{IncNo, NoMemory, Seq, Store, ThreadNo};
 use rm_catalog::PartEntry;
 use rm_catalog_typed::{Saved, TypedCatalog};
 use rm_history::Datafile;
+use rm_machine_code::facts::MOST_THREADS;
 use rm_redo::{LogFile, LogRecord, OnlineLogs};
 use std::alloc::Global;
 
@@ -48,6 +51,7 @@ fn fits_online(catalog: &TypedCatalog, opened: bool, thread: ThreadNo, log: &Log
         && log.thread == thread
         && node.reset <= log.first
         && log.next == node.end
+        && catalog.enabled(log.inc, node.end, thread)
         && (!opened || log.inc == catalog.base().current)
         && are_of_blocks(catalog.files(), log.records.as_slice())
 }
@@ -100,8 +104,8 @@ fn good_log<D: Store>(
     Ok(where_fits(catalog, site.head().opened, thread, log))
 }
 
-/// The logs of the threads 1, 2, 3 and so on, where their parts are good. An error is a fault of the store, which is
-/// counted, or want of memory.
+/// The logs of the threads 1 to 4, where their parts are good. An error is a fault of the store, which is counted, or want
+/// of memory.
 pub(crate) fn load_logs<D: Store>(
     alloc: Global,
     store: &mut D,
@@ -109,7 +113,7 @@ pub(crate) fn load_logs<D: Store>(
     site: &Saved,
 ) -> Result<Seq<Option<LogFile>>, SessionFault>
     requires { IsTypedCatalog catalog.now }
-    ensures many { IfOk result (λ logs. length logs ≡ catalog.now.ledger.base.threads) }
+    ensures many { IfOk result (λ logs. length logs ≡ 4) }
     ensures told { IfOk result (λ logs. IfSome (D.held store.old) (λ h. AllAt (IsLogAt h catalog.now.ledger site.now) logs)) }
     ensures fits { IfOk result (λ logs. AllAt (LogFitsAt catalog.now.ledger site.now.head.opened) logs) }
     ensures same { D.held store.new ≡ D.held store.old }
@@ -117,7 +121,7 @@ pub(crate) fn load_logs<D: Store>(
     ensures never_falls { D.faults store.old ≤ D.faults store.new }
 {
     let mut logs = Seq::new(alloc);
-    for index in 0..catalog.base().threads {
+    for index in 0..MOST_THREADS {
         let log = good_log(alloc, store, catalog, site, index + 1)?;
         logs.push(log)?;
     }
@@ -159,19 +163,22 @@ fn all_of(
     Ok(Seq::from_vec(kept))
 }
 
-/// The online logs of the threads 1, 2, 3 and so on: those that are of the same incarnation as the first.
+/// The online logs of the threads that are enabled at the end of the incarnation of the first: those that are of the same
+/// incarnation.
 pub(crate) fn online_of(
     alloc: Global,
     catalog: &TypedCatalog,
     logs: Seq<Option<LogFile>>,
 ) -> Result<OnlineLogs, NoMemory>
     requires rules { IsTypedCatalog catalog.now }
-    requires many { length logs ≡ catalog.now.ledger.base.threads }
+    requires many { length logs ≡ 4 }
     requires valid { All (λ log. IfSome log IsLogFile) logs }
+    requires there { IsThere catalog.now.ledger.tree (inc_of_first catalog.now.ledger.base.current logs) }
     ensures { IfOk result (λ online. online ≡ online_of catalog.now.ledger logs) }
 {
     let base = catalog.base();
     let inc = inc_of_first(base.current, logs.as_slice());
+    let enabled = catalog.enabled_at(inc, end_of(catalog, inc));
     let kept = all_of(alloc, inc, logs)?;
-    OnlineLogs::from_logs(alloc, base.dbid, inc, kept)
+    OnlineLogs::from_logs(alloc, base.dbid, inc, enabled, kept)
 }

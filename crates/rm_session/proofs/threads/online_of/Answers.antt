@@ -1,15 +1,21 @@
-use Rattle.std.proofs.Common.{◌≤◌, All, sym, subst}
-use Rattle.rm_machine.specs.Loading.{inc_of_first}
+use Rattle.std.proofs.Common.{◌≡◌, ◌∙◌, All, IfOk, ap, map, sym, subst}
+use Rattle.rm_catalog_typed.specs.Switches.{enabled_at}
+use Rattle.rm_history.specs.Tree.{end_of}
+use Rattle.rm_machine.specs.Loading.{inc_of_first, where_of}
 use Rattle.rm_redo.specs.LogFormat.{IsLogFile}
-use Rattle.rm_session.proofs.Firsts.{OfLog, inc-valid, kept-valid}
+use Rattle.rm_redo.specs.Online.{logs_of}
+use Rattle.rm_session.proofs.Firsts.{OfLog, kept-valid}
 use Rattle.rm_session.proofs.threads.online_of.Goals as goal
-
-pub from_logs-requires-clause-inc : goal.from_logs-requires-clause-inc
-from_logs-requires-clause-inc c =
-    let base = c.args.catalog.now.ledger.base in
-    let here : 1 ≤ inc_of_first c.base-base.result.current c.as_slice.result.now = coe 1 0 (i. 1 ≤ inc_of_first (c.base-base.ensures.value i).current (c.as_slice.ensures i)) (inc-valid base.current c.args.logs c.requires.rules.ledger.current.0 c.requires.valid) in
-    subst (λ n. 1 ≤ n) (sym c.inc_of_first-inc.ensures) here
 
 pub from_logs-requires-clause-valid : goal.from_logs-requires-clause-valid
 from_logs-requires-clause-valid c =
     subst (All (OfLog IsLogFile)) (sym c.in_ok-kept.ensures) (kept-valid c.inc_of_first-inc.result c.args.logs c.requires.valid)
+
+pub returns : goal.returns
+returns c =
+    let l = c.args.catalog.now.ledger in
+    let enabled = c.enabled_at-enabled.ensures ∙ ap (enabled_at l c.inc_of_first-inc.result) c.end_of.ensures in
+    let inc : c.inc_of_first-inc.result ≡ inc_of_first l.base.current c.args.logs = c.inc_of_first-inc.ensures ∙ (λ i. inc_of_first (c.base-base.ensures.value i).current (c.as_slice.ensures i)) in
+    subst (λ logs. IfOk c.from_logs.result (λ online. online ≡ logs))
+    ((λ i. logs_of (c.base-base.ensures.value i).dbid c.inc_of_first-inc.result (enabled i) (c.in_ok-kept.ensures i)) ∙ ap (λ n. logs_of l.base.dbid n (enabled_at l n (end_of l.tree n)) (map (where_of n) c.args.logs)) inc)
+    c.from_logs.ensures
