@@ -5,7 +5,7 @@ use Rattle.std.proofs.lemmas.List.Elements.{All-append, All-cons, All-nil}
 use Rattle.rm_base.specs.Store.{Held}
 use Rattle.rm_lang_statement.specs.declared.command.BackupForm.{BackupForm}
 use Rattle.rm_lang_statement.specs.declared.command.Command.{Command}
-use Rattle.rm_lang_statement.specs.declared.command.Command.TheVariants.{ArchiveLogCurrent, Backup, BackupLogs, BlockRecover, CatalogName, ChangeBackup, Corrupt, CreateDatabase, CreateDatafile, Crosscheck, Cut, Damage, DeleteBackup, DeleteExpired, DeleteObsolete, Dump, ListArchived, ListBackup, ListCopy, ListCorruption, ListIncarnation, LoseDatafile, LoseLog, Mount, OpenPlain, OpenResetlogs, Parallelism, Preview, Recover, RecoverCopy, RecoverTest, Remove, Rename, ReportNeedBackup, ReportObsolete, ReportSchema, ResetDatabase, Restore, Retention, ShowAll, SwitchLogfile, Tracking, ValidateAll, Write}
+use Rattle.rm_lang_statement.specs.declared.command.Command.TheVariants.{ArchiveLogCurrent, Backup, BackupLogs, BlockRecover, CatalogName, ChangeBackup, Corrupt, CreateDatabase, CreateDatafile, Crosscheck, Cut, Damage, DeleteBackup, DeleteExpired, DeleteObsolete, Dump, ListArchived, ListBackup, ListCopy, ListCorruption, ListIncarnation, LoseDatafile, LoseLog, Mount, OpenPlain, OpenResetlogs, Parallelism, Preview, Recover, RecoverCopy, RecoverTest, Remove, Rename, ReportNeedBackup, ReportObsolete, ReportSchema, ResetDatabase, Restore, Retention, ShowAll, SwitchLogfile, SwitchThread, Tracking, ValidateAll, Write}
 use Rattle.rm_history.specs.declared.tree.Incarnation.{Incarnation}
 use Rattle.rm_report.specs.Reply.{HasDate, IsPlain}
 use Rattle.rm_report.specs.declared.line.Line.{Line}
@@ -120,14 +120,14 @@ every-dated (CreateDatabase dbid threads scn) s objects o change is = absurd is
 every-dated (CreateDatafile blocks) s objects o change is = by o _ is (one-dated _ tt)
 every-dated (Write w) s objects o change is = by o _ is (one-dated _ tt)
 every-dated (SwitchLogfile t) s objects o change is = by o _ is (if-by (is_due s t) (done (made_lines s t) (archived (ledger s).base.next_id (online s t)) (with_archived s t)) (done (none_lines t) no_effect s) (one-dated _ tt) (one-dated _ tt))
-every-dated ArchiveLogCurrent s objects o change is = by o _ is (archived-dated true s 1 (ledger s).base.threads)
+every-dated ArchiveLogCurrent s objects o change is = by o _ is (archived-dated true s 1 4)
 every-dated (Backup b) s objects o change is = by o _ is.is
     (join-dated _ (write_lines 1 is.scns) (nothing-dated _ (objects-dated (at_end s b is.events) b is.tag (packed (ledger s) b (now_of s) is.jobs is.rows))) (writes-dated 1 is.scns))
 every-dated BackupLogs s objects o change is = absurd (cc)
 every-dated (BlockRecover form) s objects o change is = absurd (cc)
 every-dated Mount s objects o change is = by o _ is (one-dated _ tt)
 every-dated OpenPlain s objects o change is = by o _ is (one-dated _ tt)
-every-dated OpenResetlogs s objects o change is = some-by s.instance.point _ o is (λ at. join-dated _ _ (archived-dated false s 1 (ledger s).base.threads) (one-dated _ tt))
+every-dated OpenResetlogs s objects o change is = some-by s.instance.point _ o is (λ at. join-dated _ _ (archived-dated false s 1 4) (one-dated _ tt))
 every-dated (ResetDatabase i) s objects o change is = by o _ is (one-dated _ tt)
 every-dated (Restore file until) s objects o change is = absurd (cc)
 every-dated (Preview until) s objects o change is = absurd (cc)
@@ -153,6 +153,8 @@ every-dated (DeleteExpired class) s objects o change is = by o _ is.is (join-dat
 every-dated (Retention form) s objects o change is = by o _ is (one-dated _ tt)
 every-dated (Parallelism channels) s objects o change is = by o _ is (one-dated _ tt)
 every-dated (Tracking on) s objects o change is = by o _ is (one-dated _ tt)
+every-dated (SwitchThread t true) s objects o change is = by o _ is (one-dated _ tt)
+every-dated (SwitchThread t false) s objects o change is = by o _ is (join-dated (thread_lines false s t) _ (thread-dated false s t) (one-dated _ tt))
 every-dated (CatalogName name) s objects o change is = absurd (cc)
 every-dated (LoseDatafile file) s objects o change is = by o _ is (one-dated _ tt)
 every-dated (LoseLog thread) s objects o change is = by o _ is (one-dated _ tt)

@@ -5,7 +5,7 @@ use Rattle.std.specs.Option.{option_and_then, option_map, option_map_or}
 use Rattle.rm_base.specs.declared.refusal.Refusal.{Refusal}
 use Rattle.rm_lang_statement.specs.declared.command.BackupForm.{BackupForm}
 use Rattle.rm_lang_statement.specs.declared.command.Command.{Command}
-use Rattle.rm_lang_statement.specs.declared.command.Command.TheVariants.{ArchiveLogCurrent, Backup, BackupLogs, BlockRecover, ChangeBackup, Corrupt, CreateDatabase, CreateDatafile, Crosscheck, Cut, Damage, DeleteBackup, DeleteExpired, DeleteObsolete, Dump, LoseDatafile, LoseLog, Mount, OpenPlain, OpenResetlogs, Parallelism, Preview, Recover, RecoverCopy, RecoverTest, Remove, Rename, ResetDatabase, Restore, Retention, SwitchLogfile, Tracking, Write}
+use Rattle.rm_lang_statement.specs.declared.command.Command.TheVariants.{ArchiveLogCurrent, Backup, BackupLogs, BlockRecover, ChangeBackup, Corrupt, CreateDatabase, CreateDatafile, Crosscheck, Cut, Damage, DeleteBackup, DeleteExpired, DeleteObsolete, Dump, LoseDatafile, LoseLog, Mount, OpenPlain, OpenResetlogs, Parallelism, Preview, Recover, RecoverCopy, RecoverTest, Remove, Rename, ResetDatabase, Restore, Retention, SwitchLogfile, SwitchThread, Tracking, Write}
 use Rattle.rm_lang_statement.specs.declared.command.RepairForm.{RepairForm}
 use Rattle.rm_lang_statement.specs.declared.command.RetentionForm.{RetentionForm}
 use Rattle.rm_lang_statement.specs.declared.command.RetentionForm.TheVariants as form
@@ -20,7 +20,9 @@ use Rattle.rm_machine.specs.BlockRecoverRefusal.{repair_damage_refusal, repair_r
 use Rattle.rm_machine.specs.Configure.{parallelism_refusal, policy_refusal, retention_refusal}
 use Rattle.rm_machine.specs.Corrupt.{corrupt_refusal}
 use Rattle.rm_machine.specs.CreateDatafile.{datafile_refusal}
+use Rattle.rm_machine.specs.DisableThread.{disable_refusal, last_refusal}
 use Rattle.rm_machine.specs.Dump.{dump_refusal}
+use Rattle.rm_machine.specs.EnableThread.{enable_refusal}
 use Rattle.rm_machine.specs.LoseDatafile.{lose_refusal}
 use Rattle.rm_machine.specs.LoseLog.{lose_log_refusal}
 use Rattle.rm_machine.specs.Marks.{ids_refusal}
@@ -175,6 +177,15 @@ restore-dated s sound file u =
 preview-dated : (s : State) → IsSound s → (u : Option Until) → IsDated (preview_refusal s u)
 preview-dated s sound u = until-dated s sound (current_of s) u (range_refusal (tree s) (current_of s)) None (range-dated s (current_of s)) never
 
+enable-dated : (s : State) (t : ℕ) → IsDated (enable_refusal s t)
+enable-dated s t = search (if-dated, unless-dated, never, once) depth 9
+
+last-dated : (s : State) (t : ℕ) → IsDated (last_refusal s t)
+last-dated s t = search (if-dated, unless-dated, never, once)
+
+disable-dated : (s : State) (t : ℕ) → IsDated (disable_refusal s t)
+disable-dated s t = search (if-dated, unless-dated, last-dated, once) depth 9
+
 lose-dated : (s : State) (f : ℕ) → IsDated (lose_refusal s f)
 lose-dated s f = search (unless-dated, ids-dated)
 
@@ -235,6 +246,8 @@ every-refusal-dated s sound DeleteObsolete = ids-dated s
 every-refusal-dated s sound (Retention form) = retention-dated s form
 every-refusal-dated s sound (Parallelism channels) = parallelism-dated s channels
 every-refusal-dated s sound (Tracking on) = ids-dated s
+every-refusal-dated s sound (SwitchThread t true) = enable-dated s t
+every-refusal-dated s sound (SwitchThread t false) = disable-dated s t
 every-refusal-dated s sound (LoseDatafile f) = lose-dated s f
 every-refusal-dated s sound (LoseLog t) = lose_log-dated s t
 every-refusal-dated s sound (Corrupt f b) = corrupt-dated s f b

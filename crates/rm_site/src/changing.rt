@@ -66,6 +66,12 @@ pub(crate) fn change<R: Threads + Wait + Sync, G: Gate>(
             alloc, state, edits, *channels,
         ),
         Command::Tracking { on } => rm_step_upkeep::track_changes(alloc, state, edits, *on),
+        Command::SwitchThread { thread, on: true } => rm_step_open::enable_thread(
+            alloc, state, edits, *thread,
+        ),
+        Command::SwitchThread { thread, on: false } => rm_step_open::disable_thread(
+            alloc, state, edits, *thread,
+        ),
         Command::LoseDatafile { file } => rm_step_host::lose_datafile(alloc, state, *file),
         Command::LoseLog { thread } => rm_step_host::lose_log(alloc, state, *thread),
         Command::Corrupt { file, block } => rm_step_host::corrupt(alloc, state, *file, *block),

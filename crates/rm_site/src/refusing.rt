@@ -57,6 +57,12 @@ pub(crate) fn refusal_of(
             state, *channels,
         )),
         Command::Tracking { .. } => Ok(ids_refusal(state)),
+        Command::SwitchThread { thread, on: true } => Ok(rm_step_open::enable_refusal(
+            state, *thread,
+        )),
+        Command::SwitchThread { thread, on: false } => Ok(rm_step_open::disable_refusal(
+            state, *thread,
+        )),
         Command::LoseDatafile { file } => Ok(rm_step_host::lose_refusal(state, *file)),
         Command::LoseLog { thread } => Ok(rm_step_host::lose_log_refusal(state, *thread)),
         Command::Corrupt { file, block } => Ok(rm_step_host::corrupt_refusal(state, *file, *block)),

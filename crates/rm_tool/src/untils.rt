@@ -69,6 +69,7 @@ pub fn with_until(alloc: Global, set: &Option<Until>, command: Command) -> Resul
         | Command::OpenPlain
         | Command::OpenResetlogs
         | Command::Tracking { .. }
+        | Command::SwitchThread { .. }
         | Command::ResetDatabase { .. }
         | Command::Backup(_)
         | Command::BackupLogs
