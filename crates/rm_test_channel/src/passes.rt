@@ -96,7 +96,7 @@ pub fn on_one_thread<R: Wait>(rt: &R, alloc: Global) -> Result<bool, NoMemory> {
     let database = live.close(p);
     let are_made = [first, second, refused] == [Ok(2), Ok(3), Err(LiveFault::NoBlock)];
     let are_read = is_row(here, 2, b"A") && is_row(there, 3, b"B") && nothing.is_none();
-    Ok(are_made && are_read && database.now == 4 && database.logs.records(1).len() == 2)
+    Ok(are_made && are_read && database.now == 4 && has_records(&database, 1, 2))
 }
 
 // So many writes of one block by one thread, and whether each was made, at ascending SCNs.
@@ -127,10 +127,9 @@ fn writes<R: Wait>(
     (pass, ascend)
 }
 
-// Whether the database has two threads, of so many records each.
-fn has_records(database: &Database, count: usize) -> bool {
-    let logs = &database.logs;
-    logs.threads() == 2 && logs.records(1).len() == count && logs.records(2).len() == count
+// Whether thread t of the database is there, and has so many records.
+fn has_records(database: &Database, thread: ThreadNo, count: usize) -> bool {
+    database.logs.has(thread) && database.logs.records(thread).len() == count
 }
 
 /// Two passes on two threads, each with a thousand writes.
@@ -153,7 +152,8 @@ pub fn on_two_threads<R: Threads + Wait + Sync>(rt: &R, alloc: Global) -> Result
     let (q, also) = second;
     live.join(&mut p, q);
     let database = live.close(p);
-    Ok(ascend && also && database.now == 2002 && has_records(&database, 1000))
+    let are_there = has_records(&database, 1, 1000) && has_records(&database, 2, 1000);
+    Ok(ascend && also && database.now == 2002 && are_there && database.logs.threads() == 2)
 }
 
 /// A log becomes full at 65,536 records.

@@ -10,7 +10,7 @@ mod statements;
 mod table;
 mod words;
 
-ghost use Rattle.std.specs.Prelude.{IfOk, IfSome};
+ghost use Rattle.std.specs.Prelude.{IfSome};
 ghost use Rattle.rm_report.specs.Reply.{LineHasDate};
 
 use replies::{

@@ -3,7 +3,8 @@ ghost use Rattle.std.specs.Prelude.{IfOk, IfSome};
 ghost use Rattle.rm_report.specs.Reply.{HasDate, LineHasDate};
 
 use rm_base::{
-    Absent, Bad, Block, LAST_MOMENT, Limit, NoMemory, Policy, Refusal, Seq, Status, Text, Unknown,
+    Absent, Bad, Block, LAST_MOMENT, Limit, NoMemory, Policy, Refusal, Seq, Status, Text, ThreadNo,
+    ThreadState, Unknown,
 };
 use rm_history::Standing;
 use rm_report::{Line, Packing, Reply, SchemaPlace, Shape, bytes_of};
@@ -54,6 +55,16 @@ pub fn changing(number: u32) -> Option<Line>
         9 => Line::Chosen { inc: 1 },
         10 => Line::ThreadScn { thread: 2, scn: 9 },
         11 => Line::NothingToBackUp,
+        12 => Line::ThreadSwitched {
+            thread: 2,
+            on: true,
+            scn: 6,
+        },
+        13 => Line::ThreadSwitched {
+            thread: 2,
+            on: false,
+            scn: 4,
+        },
         _ => return None,
     })
 }
@@ -354,6 +365,13 @@ pub fn limits(number: u32) -> Option<Line>
     Some(Line::Refused(Refusal::Rm11(limit(number)?)))
 }
 
+// Why a thread is not switched.
+fn switch_refusal(thread: ThreadNo, state: ThreadState) -> Refusal
+    ensures { HasDate result }
+{
+    Refusal::Rm16 { thread, state }
+}
+
 // The refusals by their numbers.
 fn refusal(number: u32) -> Option<Refusal>
     ensures { IfSome result HasDate }
@@ -394,8 +412,11 @@ fn refusal(number: u32) -> Option<Refusal>
             moment: LAST_MOMENT,
         },
         18 => Refusal::Rm15,
-        19 => Refusal::Rm17 { file: 1, block: 3 },
-        20 => Refusal::Rm18 {
+        19 => switch_refusal(1, ThreadState::Enabled),
+        20 => switch_refusal(3, ThreadState::Disabled),
+        21 => switch_refusal(2, ThreadState::Last),
+        22 => Refusal::Rm17 { file: 1, block: 3 },
+        23 => Refusal::Rm18 {
             file: 2,
             block: 65535,
         },

@@ -135,6 +135,49 @@ pub fn calls(alloc: Global, text: &str) -> Result<bool, Fault> {
     )
 }
 
+// The small catalog with switches of threads 2 and 3: off at (1, 5), on again at (2, 15), and on at (2, 16).
+fn switched(alloc: Global, text: &str) -> Result<Catalog, Fault> {
+    let mut records = small(alloc, text)?;
+    for line in [
+        "switch 1 2 1 5 off 2",
+        "switch 2 2 2 15 on 1",
+        "switch 3 3 2 16 on 1",
+    ] {
+        let words: Vec<&str> = line.split(' ').collect(alloc)?;
+        records.push(record_of(alloc, &words, 0)?)?;
+    }
+    match Catalog::from_records(Seq::from_vec(records)) {
+        Ok(catalog) => Ok(catalog),
+        Err(_) => differs(alloc, "the switches are not valid"),
+    }
+}
+
+/// A catalog tells which threads are enabled where.
+pub fn threads(alloc: Global, text: &str) -> Result<bool, Fault> {
+    let catalog = switched(alloc, text)?;
+    if catalog.find(Key { kind: 1, id: 0 }).is_none() {
+        return Ok(false);
+    }
+    if catalog.tree().get(1).is_none() || catalog.tree().get(2).is_none() {
+        return Ok(false);
+    }
+    let first = [
+        catalog.enabled(1, 4, 2),
+        catalog.enabled(1, 5, 2),
+        catalog.enabled(1, 19, 2),
+        catalog.enabled(1, 16, 3),
+    ];
+    let second = [
+        catalog.enabled(2, 4, 2),
+        catalog.enabled(2, 14, 2),
+        catalog.enabled(2, 15, 2),
+        catalog.enabled(2, 15, 3),
+        catalog.enabled(2, 16, 3),
+        catalog.enabled(2, 29, 1),
+    ];
+    Ok(first == [true, false, false, false] && second == [true, false, true, false, true, true])
+}
+
 /// No edit changes nothing.
 pub fn edits(alloc: Global, text: &str) -> Result<bool, Fault> {
     let mut catalog = loaded(alloc, text)?;

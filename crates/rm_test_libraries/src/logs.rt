@@ -1,8 +1,8 @@
 //! Online logs: each call once, and a log that becomes full.
 ghost use Rattle.std.specs.Prelude.{◌≡◌};
 
-use rm_base::{Block, Change, Scn, ThreadNo};
-use rm_redo::{LogFault, LogRecord, OnlineLogs};
+use rm_base::{Block, Change, NoMemory, Scn, Seq, ThreadNo};
+use rm_redo::{LogFault, LogFile, LogRecord, OnlineLogs, is_valid_log};
 use rm_test_harness::Fault;
 use std::alloc::Global;
 
@@ -86,4 +86,94 @@ pub fn a_full_log(alloc: Global) -> Result<bool, Fault> {
         return Ok(false);
     };
     Ok(was_full && logs.count(1) == 65_536)
+}
+
+// Which of the threads 1 to 4 are there.
+fn has(logs: &OnlineLogs) -> [bool; 4] {
+    [logs.has(1), logs.has(2), logs.has(3), logs.has(4)]
+}
+
+/// Logs of some of the threads.
+pub fn of_threads(alloc: Global) -> Result<bool, Fault> {
+    let logs = OnlineLogs::with_threads(alloc, 7, 3, [true, false, true, false], 5)?;
+    if !logs.has(3) {
+        return Ok(false);
+    }
+    let is_third = (logs.first(3), logs.sequence(3), logs.count(3)) == (5, 1, 0);
+    let of = (logs.inc(), logs.threads());
+    Ok(is_third && of == (3, 3) && has(&logs) == [true, false, true, false])
+}
+
+/// A thread that is enabled begins a log.
+pub fn enabled(alloc: Global) -> Result<bool, Fault> {
+    let mut logs = OnlineLogs::new(alloc, 7, 1, 1, 5)?;
+    if logs.has(3) {
+        return Ok(false);
+    }
+    logs.enable(3, 9, 4)?;
+    if !logs.has(3) {
+        return Ok(false);
+    }
+    let is_begun = (logs.first(3), logs.sequence(3), logs.count(3)) == (9, 4, 0);
+    let are_there = has(&logs) == [true, false, true, false];
+    Ok(is_begun && are_there && !logs.is_lost(3) && logs.threads() == 3)
+}
+
+/// A thread that is disabled closes its log, where this is not empty, and goes.
+pub fn disabled(alloc: Global) -> Result<bool, Fault> {
+    let mut logs = OnlineLogs::new(alloc, 7, 1, 3, 5)?;
+    let content = Block::padded(b"AA");
+    let Ok(()) = logs.append(change(2, 6, content)) else {
+        return Ok(false);
+    };
+    let Some(log) = logs.disable(2, 9)? else {
+        return Ok(false);
+    };
+    let is_closed = (log.dbid, log.inc, log.thread) == (7, 1, 2)
+        && (log.sequence, log.first, log.next) == (1, 5, 9)
+        && log.records.as_slice() == [record(6, content)].as_slice();
+    let is_gone = has(&logs) == [true, false, true, false];
+    if !logs.has(3) {
+        return Ok(false);
+    }
+    let empty = logs.disable(3, 5)?;
+    let are_gone = has(&logs) == [true, false, false, false] && logs.threads() == 1;
+    Ok(is_closed && is_gone && empty.is_none() && are_gone)
+}
+
+// A log of thread 1 with one record.
+fn a_file(alloc: Global) -> Result<LogFile, NoMemory> {
+    let mut records = Seq::new(alloc);
+    records.push(record(6, Block::padded(b"AA")))?;
+    Ok(LogFile {
+        dbid: 7,
+        inc: 3,
+        thread: 1,
+        sequence: 2,
+        first: 5,
+        next: 9,
+        records,
+    })
+}
+
+/// Logs as log files tell them: a thread without one is lost, and one that is not enabled is not there.
+pub fn of_files(alloc: Global) -> Result<bool, Fault> {
+    let file = a_file(alloc)?;
+    if !is_valid_log(&file) {
+        return Ok(false);
+    }
+    let mut files = Seq::new(alloc);
+    files.push(Some(file))?;
+    files.push(None)?;
+    files.push(None)?;
+    files.push(None)?;
+    let logs = OnlineLogs::from_logs(alloc, 7, 3, [true, false, true, false], files)?;
+    if !logs.has(1) || !logs.has(3) {
+        return Ok(false);
+    }
+    let are_lost = (logs.is_lost(1), logs.is_lost(3)) == (false, true);
+    let first = (logs.first(1), logs.sequence(1), logs.count(1));
+    let third = (logs.first(3), logs.sequence(3), logs.count(3));
+    let are_there = has(&logs) == [true, false, true, false];
+    Ok(are_lost && are_there && first == (5, 2, 1) && third == (1, 1, 0))
 }

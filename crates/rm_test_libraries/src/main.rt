@@ -65,6 +65,7 @@ fn tell_history(rt: &HostRuntime) -> io::Result<()> {
     tell(rt, "the most incarnations", trees::most(alloc))?;
     tell(rt, "states of a block", worlds::states(alloc))?;
     tell(rt, "a datafile exists", worlds::a_datafile(alloc))?;
+    tell(rt, "threads of a world", worlds::threads(alloc))?;
     tell(rt, "a created datafile", datafiles::created(alloc))?;
     tell(rt, "a block is written", datafiles::a_write(alloc))?;
     tell(rt, "a datafile is moved", datafiles::moved(alloc))
@@ -85,6 +86,7 @@ fn tell_catalogs(rt: &HostRuntime) -> io::Result<()> {
     let text = text.as_str();
     tell_cases(rt, "rules of records", catalog::rules(alloc, text))?;
     tell(rt, "calls of a catalog", catalog::calls(alloc, text))?;
+    tell(rt, "threads of a catalog", catalog::threads(alloc, text))?;
     tell(rt, "edits of a catalog", catalog::edits(alloc, text))?;
     tell(rt, "copies", catalog::copies(alloc, text))?;
     tell(rt, "each load fails", keeper::each_load(alloc, text))?;
@@ -111,7 +113,11 @@ fn tell_logs(rt: &HostRuntime) -> io::Result<()> {
     tell(rt, "a change is logged", logs::a_change(alloc))?;
     tell(rt, "a switch", logs::a_switch(alloc))?;
     tell(rt, "a lost log", logs::a_lost_log(alloc))?;
-    tell(rt, "a full log", logs::a_full_log(alloc))
+    tell(rt, "a full log", logs::a_full_log(alloc))?;
+    tell(rt, "logs of two threads", logs::of_threads(alloc))?;
+    tell(rt, "a thread is enabled", logs::enabled(alloc))?;
+    tell(rt, "a thread is disabled", logs::disabled(alloc))?;
+    tell(rt, "logs of log files", logs::of_files(alloc))
 }
 
 fn tell_pieces(rt: &HostRuntime) -> io::Result<()> {

@@ -2,7 +2,7 @@
 use rm_base::{Kind, Policy, Seq, Status, Text};
 use rm_catalog::{
     BaseEntry, DatafileEntry, HeadEntry, IncarnationEntry, LogEntry, MarkEntry, PartEntry,
-    PieceEntry, Record, SetEntry, SetPart,
+    PieceEntry, Record, SetEntry, SetPart, SwitchEntry,
 };
 use rm_test_harness::{Fault, differs};
 use std::alloc::Global;
@@ -159,6 +159,17 @@ impl<'a> Words<'a> {
         })
     }
 
+    fn switch(&mut self) -> Result<SwitchEntry, Fault> {
+        Ok(SwitchEntry {
+            id: self.u32()?,
+            thread: self.u8()?,
+            inc: self.u32()?,
+            scn: self.u64()?,
+            on: self.word()? == "on",
+            sequence: self.u32()?,
+        })
+    }
+
     fn record(&mut self) -> Result<Record, Fault> {
         Ok(match self.word()? {
             "base" => Record::Base(self.base()?),
@@ -195,6 +206,7 @@ impl<'a> Words<'a> {
                 scn: self.u64()?,
             }),
             "set" => Record::Set(self.set()?),
+            "switch" => Record::Switch(self.switch()?),
             word => return differs(self.alloc, word),
         })
     }

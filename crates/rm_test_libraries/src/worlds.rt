@@ -1,8 +1,8 @@
 //! A block that is written twice, and its states.
 ghost use Rattle.std.specs.Prelude.{◌<◌, ◌≡◌, All, IfOk, length};
 
-use rm_base::{Block, Change, NoMemory, Seq};
-use rm_history::{Datafile, Tree, World};
+use rm_base::{Block, Change, NoMemory, Scn, Seq};
+use rm_history::{Datafile, Switch, Tree, World};
 use rm_test_harness::Fault;
 use std::alloc::Global;
 
@@ -21,6 +21,7 @@ fn small(alloc: Global) -> Result<World, NoMemory>
     Ok(World {
         tree: Tree::new(alloc, 1)?,
         threads: 1,
+        switches: Seq::new(alloc),
         files,
     })
 }
@@ -64,4 +65,31 @@ pub fn a_datafile(alloc: Global) -> Result<bool, Fault> {
     let exists = [world.exists(1, 1, &FILE), world.exists(1, 2, &FILE)];
     let files = [world.file(1), world.file(0), world.file(2)];
     Ok(exists == [false, true] && files == [Some(FILE), None, None])
+}
+
+// A switch of thread 2.
+fn switch(scn: Scn, on: bool) -> Switch
+    ensures { result.scn ≡ scn }
+{
+    Switch {
+        thread: 2,
+        inc: 1,
+        scn,
+        on,
+    }
+}
+
+/// A thread is enabled from its switch on, until the next one.
+pub fn threads(alloc: Global) -> Result<bool, Fault> {
+    let mut world = small(alloc)?;
+    world.switches.push(switch(4, true))?;
+    world.switches.push(switch(6, false))?;
+    let second = [
+        world.is_enabled(1, 3, 2),
+        world.is_enabled(1, 4, 2),
+        world.is_enabled(1, 5, 2),
+        world.is_enabled(1, 6, 2),
+    ];
+    let others = [world.is_enabled(1, 6, 1), world.is_enabled(1, 4, 3)];
+    Ok(second == [false, true, true, false] && others == [true, false])
 }

@@ -2,7 +2,7 @@
 use rm_base::{Kind, NoMemory, Policy, Seq, Status, Text};
 use rm_catalog::{
     BaseEntry, DatafileEntry, Edit, HeadEntry, IncarnationEntry, LogEntry, MarkEntry, PartEntry,
-    PieceEntry, Record, SetEntry, SetPart,
+    PieceEntry, Record, SetEntry, SetPart, SwitchEntry,
 };
 use std::alloc::Global;
 
@@ -25,6 +25,12 @@ const LOGS: [(u32, bool, Status); 3] = [
 
 // The sets: their id, their status, and how many parts they have.
 const SETS: [(u32, Status, u32); 2] = [(10, Status::Available, 1), (11, Status::Expired, 3)];
+
+// The switches: their id, thread and SCN, whether they enable it, and the sequence number.
+const SWITCHES: [(u32, u8, u64, bool, u32); 2] = [
+    (1, 2, 4, false, 2),
+    (2, 4, 281_474_976_710_654, true, 4_294_967_295),
+];
 
 /// The base facts.
 pub fn base(next_id: u32, policy: Policy) -> Record {
@@ -156,6 +162,18 @@ pub fn set(alloc: Global, id: u32, status: Status, files: u32) -> Result<Record,
     }))
 }
 
+/// A switch of a thread.
+pub fn switch(id: u32, thread: u8, scn: u64, on: bool, sequence: u32) -> Record {
+    Record::Switch(SwitchEntry {
+        id,
+        thread,
+        inc: 1,
+        scn,
+        on,
+        sequence,
+    })
+}
+
 /// Where the database stood.
 pub fn head() -> Record {
     Record::Head(HeadEntry {
@@ -194,8 +212,15 @@ fn put_sets(alloc: Global, edits: &mut Vec<Edit>) -> Result<(), NoMemory> {
     Ok(())
 }
 
-/// Puts of records of each kind: each kind of piece, each status, tags of 0 to 30 letters, and sets of one
-/// datafile and of three.
+fn put_switches(edits: &mut Vec<Edit>) -> Result<(), NoMemory> {
+    for (id, thread, scn, on, sequence) in SWITCHES {
+        edits.push(Edit::Put(switch(id, thread, scn, on, sequence)))?;
+    }
+    Ok(())
+}
+
+/// Puts of records of each kind: each kind of piece, each status, tags of 0 to 30 letters, sets of one
+/// datafile and of three, and switches both ways.
 pub fn all(alloc: Global) -> Result<Vec<Edit>, NoMemory> {
     let mut edits = one(alloc, base(14, Policy::Redundancy(1)))?;
     edits.push(Edit::Put(incarnation()))?;
@@ -207,5 +232,6 @@ pub fn all(alloc: Global) -> Result<Vec<Edit>, NoMemory> {
     edits.push(Edit::Put(part(13, 0, 1)))?;
     edits.push(Edit::Put(head()))?;
     put_sets(alloc, &mut edits)?;
+    put_switches(&mut edits)?;
     Ok(edits)
 }

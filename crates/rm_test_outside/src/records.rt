@@ -132,19 +132,21 @@ fn unclosed_session<O: Opens>(rt: &HostRuntime, files: &O, path: &str) -> io::Re
     policies(rt, &mut keeper)
 }
 
-// A set.
-fn a_set(alloc: Global) -> Result<Vec<Edit>, NoMemory> {
-    made::one(alloc, made::set(alloc, 12, Status::Available, 2)?)
+// A set and a switch.
+fn newer(alloc: Global) -> Result<Vec<Edit>, NoMemory> {
+    let mut edits = made::one(alloc, made::set(alloc, 12, Status::Available, 2)?)?;
+    edits.push(Edit::Put(made::switch(1, 2, 3, false, 2)))?;
+    Ok(edits)
 }
 
-// A catalog from before there were sets is read, stays as it was, and then takes one.
+// A catalog from before there were sets and switches is read, stays as it was, and then takes one of each.
 fn older_session<O: Opens>(rt: &HostRuntime, files: &O, path: &str) -> io::Result<()> {
     let before = fs::read(rt, path)?;
     last_session(rt, files, path)?;
     let after = fs::read(rt, path)?;
     rt.println(format_args!("as it was {}", before == after))?;
     let mut keeper = files.open(path);
-    rt.println(word_of(apply(&mut keeper, a_set(rt.alloc()))))?;
+    rt.println(word_of(apply(&mut keeper, newer(rt.alloc()))))?;
     close(rt, files, keeper)?;
     last_session(rt, files, path)
 }

@@ -12,7 +12,7 @@ const TABLE: &str =
     "CREATE TABLE record (number INTEGER NOT NULL, kind INTEGER NOT NULL, id INTEGER NOT NULL, body BLOB NOT NULL, PRIMARY KEY (number, kind, id));";
 
 // What a row is called, and its values.
-const ROWS: [(&str, &str); 17] = [
+const ROWS: [(&str, &str); 20] = [
     (
         "a head",
         "INSERT INTO record VALUES (0, 8, 0, x'00000000010000000000000005')",
@@ -77,6 +77,18 @@ const ROWS: [(&str, &str); 17] = [
     (
         "a set with a byte too many",
         "INSERT INTO record VALUES (0, 9, 1, x'00000001000000000000000500000000000000010000000101000000000000000000000000000000050000000200000000000000c8ffffffffffffffffffffffffffffffffffffffffffffffffffffffffffffffff0100000000000000000154000000000000003200')",
+    ),
+    (
+        "a switch",
+        "INSERT INTO record VALUES (0, 10, 1, x'020000000100000000000000040000000002')",
+    ),
+    (
+        "a switch with a flag of 2",
+        "INSERT INTO record VALUES (0, 10, 1, x'020000000100000000000000040200000002')",
+    ),
+    (
+        "a switch with a byte too many",
+        "INSERT INTO record VALUES (0, 10, 1, x'02000000010000000000000004000000000200')",
     ),
 ];
 

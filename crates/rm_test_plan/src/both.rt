@@ -1,12 +1,13 @@
 //! Both planners, over the artefacts of 200 made databases.
 use crate::asked::{asked, asked_first, asked_jobs};
-use crate::branches::{BLOCKS, END, catalog, evidence, incarnations, row_at};
+use crate::branches::{BLOCKS, END, Made, catalog, evidence, incarnations, row_at, switches};
 use crate::draws::Draws;
 use crate::slow::{Target, plan_slowly};
+use crate::switched::Kinds;
 use rm_base::{BlockId, BlockNo, FileNo, IncNo, Scn};
-use rm_catalog::Catalog;
+use rm_catalog::{Catalog, IncarnationEntry};
 use rm_evidence::{Evidence, has_database};
-use rm_history::Tree;
+use rm_history::{Switch, Tree};
 use rm_plan::{Gap, PlanFault, Told};
 use rm_repair::MendJob;
 use rm_test_harness::{Fault, differs};
@@ -30,25 +31,46 @@ const TOGETHER: [BlockId; 3] = [
 struct Case {
     number: u64,
     catalog: Catalog,
+    switches: Vec<Switch>,
     evidence: Evidence,
 }
 
-fn made_case(alloc: Global, number: u64) -> Result<Case, Fault> {
-    let made = incarnations(alloc, number)?;
-    let catalog = catalog(alloc, &made)?;
+// The switches of its threads, along its incarnations.
+fn made_switches(
+    alloc: Global,
+    number: u64,
+    made: &[IncarnationEntry],
+) -> Result<Vec<Switch>, Fault> {
+    let catalog = catalog(alloc, made, &[])?;
     if !has_database(&catalog) {
         return differs(alloc, "no database");
     }
-    let evidence = evidence(alloc, catalog.tree(), number, &made)?;
+    Ok(switches(alloc, catalog.tree(), number, made)?)
+}
+
+fn made_case(alloc: Global, number: u64) -> Result<Case, Fault> {
+    let incarnations = incarnations(alloc, number)?;
+    let switches = made_switches(alloc, number, &incarnations)?;
+    let catalog = catalog(alloc, &incarnations, &switches)?;
+    if !has_database(&catalog) {
+        return differs(alloc, "no database");
+    }
+    let made = Made {
+        number,
+        tree: catalog.tree(),
+        switches: &switches,
+    };
+    let evidence = evidence(alloc, made, &incarnations)?;
     Ok(Case {
         number,
         catalog,
+        switches,
         evidence,
     })
 }
 
 fn slowly(
-    tree: &Tree,
+    made: Made<'_>,
     case: &Case,
     i: IncNo,
     s: Scn,
@@ -62,39 +84,38 @@ fn slowly(
         block,
         creation: 1,
     };
-    plan_slowly(tree, &case.evidence, at)
+    plan_slowly(made.tree, made.switches, &case.evidence, at)
 }
 
 // Whether what is told of a block of datafile 1 is what the history made of it.
-fn is_true(tree: &Tree, number: u64, told: Told, i: IncNo, s: Scn, block: BlockNo) -> bool {
-    let row = row_at(tree, number, i, s, block);
+fn is_true(made: Made<'_>, told: Told, i: IncNo, s: Scn, block: BlockNo) -> bool {
+    let row = row_at(made, i, s, block);
     told.version == row.version && told.content == row.content
 }
 
 // Whether both planners answer the same of a block, and what is told is true.
 fn agree(
     alloc: Global,
-    tree: &Tree,
+    made: Made<'_>,
     case: &Case,
     i: IncNo,
     s: Scn,
     file: FileNo,
     block: BlockNo,
 ) -> bool {
-    let slow = slowly(tree, case, i, s, file, block);
+    let slow = slowly(made, case, i, s, file, block);
     match asked(alloc, &case.evidence, &case.catalog, i, s, file, block) {
-        Some(Ok(told)) => slow == Ok(told)
-            && (file != 1 || is_true(tree, case.number, told, i, s, block)),
+        Some(Ok(told)) => slow == Ok(told) && (file != 1 || is_true(made, told, i, s, block)),
         Some(Err(PlanFault::Gap(gap))) => slow == Err(gap),
         _ => false,
     }
 }
 
 // Whether they do so of each block.
-fn all_agree(alloc: Global, tree: &Tree, case: &Case, i: IncNo, s: Scn) -> bool {
+fn all_agree(alloc: Global, made: Made<'_>, case: &Case, i: IncNo, s: Scn) -> bool {
     for (file, blocks) in FILES {
         for block in 0..blocks {
-            if !agree(alloc, tree, case, i, s, file, block) {
+            if !agree(alloc, made, case, i, s, file, block) {
                 return false;
             }
         }
@@ -103,20 +124,20 @@ fn all_agree(alloc: Global, tree: &Tree, case: &Case, i: IncNo, s: Scn) -> bool 
 }
 
 // Whether the job puts in place what is told of the block.
-fn is_job(tree: &Tree, case: &Case, i: IncNo, s: Scn, at: BlockId, job: &MendJob) -> bool {
+fn is_job(made: Made<'_>, case: &Case, i: IncNo, s: Scn, at: BlockId, job: &MendJob) -> bool {
     let told = Told {
         version: job.row.version,
         content: job.row.content,
     };
     job.file == at.file
         && job.row.block == at.block
-        && slowly(tree, case, i, s, at.file, at.block) == Ok(told)
+        && slowly(made, case, i, s, at.file, at.block) == Ok(told)
 }
 
 // The gap of the first of the blocks together that has one.
-fn first_together(tree: &Tree, case: &Case, i: IncNo, s: Scn) -> Option<Gap> {
+fn first_together(made: Made<'_>, case: &Case, i: IncNo, s: Scn) -> Option<Gap> {
     for at in TOGETHER {
-        if let Err(gap) = slowly(tree, case, i, s, at.file, at.block) {
+        if let Err(gap) = slowly(made, case, i, s, at.file, at.block) {
             return Some(gap);
         }
     }
@@ -124,9 +145,9 @@ fn first_together(tree: &Tree, case: &Case, i: IncNo, s: Scn) -> Option<Gap> {
 }
 
 // Whether there is a job for each of them, in order.
-fn are_jobs(tree: &Tree, case: &Case, i: IncNo, s: Scn, jobs: &[MendJob]) -> bool {
+fn are_jobs(made: Made<'_>, case: &Case, i: IncNo, s: Scn, jobs: &[MendJob]) -> bool {
     for (at, job) in TOGETHER.iter().zip(jobs) {
-        if !is_job(tree, case, i, s, *at, job) {
+        if !is_job(made, case, i, s, *at, job) {
             return false;
         }
     }
@@ -134,19 +155,19 @@ fn are_jobs(tree: &Tree, case: &Case, i: IncNo, s: Scn, jobs: &[MendJob]) -> boo
 }
 
 // Whether both planners answer the same of them together.
-fn agree_together(alloc: Global, tree: &Tree, case: &Case, i: IncNo, s: Scn) -> bool {
+fn agree_together(alloc: Global, made: Made<'_>, case: &Case, i: IncNo, s: Scn) -> bool {
     match asked_jobs(alloc, &case.evidence, &case.catalog, i, s, &TOGETHER) {
-        Some(Ok(jobs)) => are_jobs(tree, case, i, s, jobs.as_slice()),
-        Some(Err(PlanFault::Gap(gap))) => first_together(tree, case, i, s) == Some(gap),
+        Some(Ok(jobs)) => are_jobs(made, case, i, s, jobs.as_slice()),
+        Some(Err(PlanFault::Gap(gap))) => first_together(made, case, i, s) == Some(gap),
         _ => false,
     }
 }
 
 // The gap of the least block that has one.
-fn first_slowly(tree: &Tree, case: &Case, i: IncNo, s: Scn) -> Option<Gap> {
+fn first_slowly(made: Made<'_>, case: &Case, i: IncNo, s: Scn) -> Option<Gap> {
     for (file, blocks) in FILES {
         for block in 0..blocks {
-            if let Err(gap) = slowly(tree, case, i, s, file, block) {
+            if let Err(gap) = slowly(made, case, i, s, file, block) {
                 return Some(gap);
             }
         }
@@ -171,37 +192,52 @@ fn has_files(tree: &Tree, i: IncNo) -> bool {
     tree.owner(i, 1) == Some(1)
 }
 
-// How many targets were told, and how many have a gap.
+// How many targets were told, how many have a gap, and of how many the switches decide it; and what the databases did.
 #[derive(Clone, Copy)]
 struct Counts {
     recovered: u32,
     open: u32,
+    by_switches: u32,
+    kinds: Kinds,
 }
 
 // Whether there is a gap until `s` of incarnation `i`, of which both planners answer the same.
-fn has_gap(alloc: Global, tree: &Tree, case: &Case, i: IncNo, s: Scn) -> Result<bool, Fault> {
-    let first = first_slowly(tree, case, i, s);
+fn has_gap(alloc: Global, made: Made<'_>, case: &Case, i: IncNo, s: Scn) -> Result<bool, Fault> {
+    let first = first_slowly(made, case, i, s);
     let asked = asked_first(alloc, &case.evidence, &case.catalog, i, s);
-    let all_agree = all_agree(alloc, tree, case, i, s) && agree_together(alloc, tree, case, i, s);
+    let all_agree = all_agree(alloc, made, case, i, s) && agree_together(alloc, made, case, i, s);
     if all_agree && asked == Some(Ok(first)) {
         return Ok(first.is_some());
     }
     Err(Fault::Differs(format!(in alloc; "{}: {i} until {s}", case.number)?))
 }
 
+// Whether the first gap would be another one, or none, if no thread had been switched.
+fn is_by_switches(made: Made<'_>, case: &Case, i: IncNo, s: Scn) -> bool {
+    let unswitched = Made {
+        number: made.number,
+        tree: made.tree,
+        switches: &[],
+    };
+    first_slowly(made, case, i, s) != first_slowly(unswitched, case, i, s)
+}
+
 // Adds up what is told of the targets of incarnation `i`.
 fn count_targets(
     alloc: Global,
-    tree: &Tree,
+    made: Made<'_>,
     case: &Case,
     i: IncNo,
     counts: &mut Counts,
 ) -> Result<(), Fault> {
-    for s in targets(tree, case.number, i) {
-        if has_gap(alloc, tree, case, i, s)? {
+    for s in targets(made.tree, case.number, i) {
+        if has_gap(alloc, made, case, i, s)? {
             counts.open = counts.open.saturating_add(1);
         } else {
             counts.recovered = counts.recovered.saturating_add(1);
+        }
+        if is_by_switches(made, case, i, s) {
+            counts.by_switches = counts.by_switches.saturating_add(1);
         }
     }
     Ok(())
@@ -212,23 +248,43 @@ fn count_case(alloc: Global, case: &Case, counts: &mut Counts) -> Result<(), Fau
     if !has_database(&case.catalog) {
         return differs(alloc, "no database");
     }
-    let tree = case.catalog.tree();
+    let made = Made {
+        number: case.number,
+        tree: case.catalog.tree(),
+        switches: &case.switches,
+    };
+    counts.kinds.add(made);
     for i in 1..5u32 {
-        if has_files(tree, i) {
-            count_targets(alloc, tree, case, i, counts)?;
+        if has_files(made.tree, i) {
+            count_targets(alloc, made, case, i, counts)?;
         }
     }
     Ok(())
 }
 
-/// Both planners answer the same, of more than a hundred targets that are told and of as many with a gap.
-pub fn planners(alloc: Global) -> Result<bool, Fault> {
-    let mut counts = Counts {
+// Nothing is counted.
+fn none() -> Counts {
+    Counts {
         recovered: 0,
         open: 0,
-    };
+        by_switches: 0,
+        kinds: Kinds {
+            again: 0,
+            above: 0,
+            below: 0,
+        },
+    }
+}
+
+/// Both planners answer the same, of more than a hundred targets that are told and of as many with a gap; of as many the
+/// switches of threads decide it. In fifty databases and more a thread is enabled again, a branch keeps a switch, and
+/// one leaves a switch behind.
+pub fn planners(alloc: Global) -> Result<bool, Fault> {
+    let mut counts = none();
     for number in 0..200u64 {
         count_case(alloc, &made_case(alloc, number)?, &mut counts)?;
     }
-    Ok(counts.recovered > 100 && counts.open > 100)
+    let kinds = counts.kinds;
+    let is_each_kind = kinds.again >= 50 && kinds.above >= 50 && kinds.below >= 50;
+    Ok(is_each_kind && counts.recovered > 100 && counts.open > 100 && counts.by_switches > 100)
 }

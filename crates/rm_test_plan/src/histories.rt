@@ -21,6 +21,7 @@ fn world(alloc: Global) -> Result<World, NoMemory>
     Ok(World {
         tree: Tree::new(alloc, 1)?,
         threads: 2,
+        switches: Seq::new(alloc),
         files,
     })
 }
@@ -83,7 +84,7 @@ fn row(version: Scn, value: &[u8; 1]) -> Row {
 /// Both histories agree with the log.
 pub fn both(alloc: Global) -> Result<bool, Fault> {
     let rows = rows(alloc, "0 2 A, 0 4 C")?;
-    let log = log(alloc, 1, rows.as_slice())?;
+    let log = log(alloc, 1, 1, (1, 5), rows.as_slice())?;
     Ok(does_agree(&log, &quiet()) && does_agree(&log, &changed(b"X")))
 }
 

@@ -1,7 +1,10 @@
 //! Catalogs and artefacts of datafile 1, as the worked rows make them.
 use rm_base::{IncNo, Kind, NoMemory, Policy, Row, Scn, Seq, ThreadNo};
-use rm_catalog::{BaseEntry, Catalog, DatafileEntry, IncarnationEntry, MarkEntry, Record};
+use rm_catalog::{
+    BaseEntry, Catalog, DatafileEntry, IncarnationEntry, MarkEntry, Record, SwitchEntry,
+};
 use rm_evidence::Evidence;
+use rm_history::Switch;
 use rm_piece::Piece;
 use rm_redo::{LogFile, LogRecord};
 use rm_test_harness::{Fault, differs};
@@ -53,17 +56,29 @@ pub fn push_incarnation(
     }))
 }
 
-// An incarnation that ends at 5.
+/// The switch of this number.
+pub fn switch_entry(id: u32, switch: Switch) -> Record {
+    Record::Switch(SwitchEntry {
+        id,
+        thread: switch.thread,
+        inc: switch.inc,
+        scn: switch.scn,
+        on: switch.on,
+        sequence: 1,
+    })
+}
+
+// An incarnation that ends at 9.
 fn short(inc: IncNo, parent: IncNo, reset: Scn) -> IncarnationEntry {
     IncarnationEntry {
         inc,
         parent,
         reset,
-        end: 5,
+        end: 9,
     }
 }
 
-/// Incarnation 1 from 1 to 5, incarnation 2 where one branches off, and datafile 1 that was created at 1.
+/// Incarnation 1 from 1 to 9, incarnation 2 where one branches off, and datafile 1 that was created at 1.
 pub fn catalog(
     alloc: Global,
     threads: ThreadNo,
@@ -105,8 +120,15 @@ pub fn piece(kind: Kind, inc: IncNo, from: Scn, checkpoint: Scn, rows: Seq<Row>)
     }
 }
 
-/// The log of a thread of incarnation 1 from 1 up to, and without, 5, whose records are these rows.
-pub fn log(alloc: Global, thread: ThreadNo, rows: &[Row]) -> Result<LogFile, NoMemory> {
+/// The log of a thread of an incarnation from the first SCN of the range up to, and without, the second one, whose records
+/// are these rows.
+pub fn log(
+    alloc: Global,
+    thread: ThreadNo,
+    inc: IncNo,
+    range: (Scn, Scn),
+    rows: &[Row],
+) -> Result<LogFile, NoMemory> {
     let mut records = Seq::new(alloc);
     for row in rows {
         records.push(LogRecord {
@@ -118,11 +140,11 @@ pub fn log(alloc: Global, thread: ThreadNo, rows: &[Row]) -> Result<LogFile, NoM
     }
     Ok(LogFile {
         dbid: 1,
-        inc: 1,
+        inc,
         thread,
         sequence: 1,
-        first: 1,
-        next: 5,
+        first: range.0,
+        next: range.1,
         records,
     })
 }

@@ -13,6 +13,8 @@ mod made;
 mod objects;
 mod plans;
 mod slow;
+mod switched;
+mod threads;
 mod whole;
 
 use rm_test_harness::{tell, tell_table};

@@ -1,9 +1,11 @@
-//! The table of worked rows: later-copy-tells, orphan-copy, missing-thread-log, failover, from-is-listed, and datafiles.
+//! The table of worked rows: later-copy-tells, orphan-copy, missing-thread-log, failover, from-is-listed, thread-off-and-on, and
+//! datafiles.
 use crate::asked::{asked, asked_file, asked_first};
-use crate::made::{catalog, log, nothing, piece};
-use rm_base::{Block, BlockNo, Kind, Part, Scn, ThreadNo};
+use crate::made::{catalog, catalog_of, log, nothing, piece, switch_entry};
+use rm_base::{Block, BlockNo, IncNo, Kind, Part, Scn, ThreadNo};
 use rm_catalog::Catalog;
 use rm_evidence::Evidence;
+use rm_history::Switch;
 use rm_plan::{Gap, PlanFault};
 use rm_test_harness::{Fault, Told, differs, head, kind_of, numbers, rows, text_of};
 use std::alloc::Global;
@@ -41,12 +43,30 @@ impl Plans {
         Ok(())
     }
 
+    // A thread is switched on or off.
+    fn add_switch(&mut self, alloc: Global, numbers: &[u32], on: bool) -> Result<(), Fault> {
+        let (Some(catalog), [id, thread, inc, scn]) = (self.catalog.take(), numbers) else {
+            return differs(alloc, "no switch");
+        };
+        let switch = Switch {
+            thread: thread_of(*thread),
+            inc: *inc,
+            scn: u64::from(*scn),
+            on,
+        };
+        let (mut records, _) = catalog.into_parts();
+        records.push(switch_entry(*id, switch))?;
+        self.catalog = Some(catalog_of(alloc, records)?);
+        Ok(())
+    }
+
     fn add_log(&mut self, alloc: Global, numbers: &[u32], text: &str) -> Result<(), Fault> {
-        let [id, thread] = numbers else {
+        let [id, thread, inc, first, next] = numbers else {
             return differs(alloc, text);
         };
         let rows = rows(alloc, text)?;
-        let log = log(alloc, thread_of(*thread), rows.as_slice())?;
+        let range = (u64::from(*first), u64::from(*next));
+        let log = log(alloc, thread_of(*thread), *inc, range, rows.as_slice())?;
         self.evidence.logs.push((*id, log))?;
         Ok(())
     }
@@ -105,15 +125,16 @@ fn parts_text(alloc: Global, parts: &[Part]) -> Result<String, Fault> {
     Ok(out)
 }
 
-// What is told of a block of datafile 1 until `s` of incarnation 1.
+// What is told of a block of datafile 1 until `s` of incarnation `i`.
 fn block_told(
     alloc: Global,
     evidence: &Evidence,
     catalog: &Catalog,
+    i: IncNo,
     s: Scn,
     block: BlockNo,
 ) -> Result<String, Fault> {
-    match asked(alloc, evidence, catalog, 1, s, 1, block) {
+    match asked(alloc, evidence, catalog, i, s, 1, block) {
         Some(Ok(told)) => version_text(alloc, told.version, &told.content),
         Some(Err(fault)) => fault_text(alloc, fault),
         None => differs(alloc, "may not be asked"),
@@ -159,6 +180,9 @@ impl Told for Plans {
             ("catalog", [threads, blocks, branch]) => {
                 self.begin(alloc, *threads, *blocks, Some(u64::from(*branch)))
             }
+            ("on", numbers) => self.add_switch(alloc, numbers, true),
+            ("off", numbers) => self.add_switch(alloc, numbers, false),
+            ("log", [id, thread]) => self.add_log(alloc, &[*id, *thread, 1, 1, 5], text),
             ("log", numbers) => self.add_log(alloc, numbers, text),
             (word, numbers) => self.add_piece(alloc, word, numbers, text),
         }
@@ -172,7 +196,10 @@ impl Told for Plans {
         let numbers = numbers::<u32>(alloc, rest)?;
         match (word, numbers.as_slice()) {
             ("block", [s, block]) => {
-                block_told(alloc, &self.evidence, catalog, u64::from(*s), *block)
+                block_told(alloc, &self.evidence, catalog, 1, u64::from(*s), *block)
+            }
+            ("block", [s, block, inc]) => {
+                block_told(alloc, &self.evidence, catalog, *inc, u64::from(*s), *block)
             }
             ("file", [s]) => file_told(alloc, &self.evidence, catalog, u64::from(*s)),
             ("first", [s]) => first_told(alloc, &self.evidence, catalog, u64::from(*s)),

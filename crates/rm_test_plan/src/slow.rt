@@ -1,8 +1,9 @@
 //! The plain planner, which looks at one address after another. What it answers is wished for, and
 //! nothing is proved of it.
+use crate::threads::is_enabled;
 use rm_base::{Block, BlockNo, FileNo, IncNo, Row, Scn, ThreadNo};
 use rm_evidence::Evidence;
-use rm_history::Tree;
+use rm_history::{Switch, Tree};
 use rm_piece::Piece;
 use rm_plan::{Gap, Told};
 use rm_redo::{LogFile, LogRecord};
@@ -142,21 +143,43 @@ fn is_any_record(logs: &[(u32, LogFile)], at: Target, m: IncNo, g: Scn) -> bool 
     false
 }
 
-// Whether the block is known not to have changed at the SCN `g` of incarnation `m`, of two threads.
-fn is_quiet(tree: &Tree, evidence: &Evidence, at: Target, m: IncNo, g: Scn) -> bool {
+// Whether each thread that is enabled at the SCN `g` of incarnation `m` has a log that holds it.
+fn are_logged(tree: &Tree, switches: &[Switch], logs: &[(u32, LogFile)], m: IncNo, g: Scn) -> bool {
+    for thread in 1..5u8 {
+        if is_enabled(tree, switches, m, g, thread) && !is_logged(logs, m, g, thread) {
+            return false;
+        }
+    }
+    true
+}
+
+// Whether the block is known not to have changed at the SCN `g` of incarnation `m`.
+fn is_quiet(
+    tree: &Tree,
+    switches: &[Switch],
+    evidence: &Evidence,
+    at: Target,
+    m: IncNo,
+    g: Scn,
+) -> bool {
     let logs = evidence.logs.as_slice();
     is_any_row(tree, evidence.bases.as_slice(), at, m, g)
         || is_any_row(tree, evidence.level1s.as_slice(), at, m, g)
         || is_any_absence(tree, evidence.level1s.as_slice(), at, m, g)
-        || (is_logged(logs, m, g, 1) && is_logged(logs, m, g, 2) && !is_any_record(logs, at, m, g))
+        || (are_logged(tree, switches, logs, m, g) && !is_any_record(logs, at, m, g))
 }
 
 /// What the evidence tells of the block, or its gap.
-pub fn plan_slowly(tree: &Tree, evidence: &Evidence, at: Target) -> Result<Told, Gap> {
+pub fn plan_slowly(
+    tree: &Tree,
+    switches: &[Switch],
+    evidence: &Evidence,
+    at: Target,
+) -> Result<Told, Gap> {
     let told = greatest(tree, evidence, at);
     for scn in told.version.saturating_add(1)..at.scn {
         let inc = tree.owner(at.inc, scn).unwrap_or(0);
-        if !is_quiet(tree, evidence, at, inc, scn) {
+        if !is_quiet(tree, switches, evidence, at, inc, scn) {
             return Err(Gap {
                 file: at.file,
                 block: at.block,
