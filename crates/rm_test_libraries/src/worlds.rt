@@ -1,7 +1,7 @@
 //! A block that is written twice, and its states.
 ghost use Rattle.std.specs.Prelude.{◌<◌, ◌≡◌, All, IfOk, length};
 
-use rm_base::{Block, Change, NoMemory, Scn, Seq};
+use rm_base::{Block, Change, NoMemory, Seq};
 use rm_history::{Datafile, Switch, Tree, World};
 use rm_test_harness::Fault;
 use std::alloc::Global;
@@ -67,23 +67,34 @@ pub fn a_datafile(alloc: Global) -> Result<bool, Fault> {
     Ok(exists == [false, true] && files == [Some(FILE), None, None])
 }
 
-// A switch of thread 2.
-fn switch(scn: Scn, on: bool) -> Switch
-    ensures { result.scn ≡ scn }
+const ON: Switch = Switch {
+    thread: 2,
+    inc: 1,
+    scn: 4,
+    on: true,
+};
+
+const OFF: Switch = Switch {
+    scn: 6,
+    on: false,
+    ..ON
+};
+
+// The same, where thread 2 is enabled at 4 and disabled at 6.
+fn switched(alloc: Global) -> Result<World, NoMemory>
+    ensures tree { IfOk result (λ w. length w.tree ≡ 1) }
+    ensures scns { IfOk result (λ w. All (λ x. 0 < x.scn) w.switches) }
 {
-    Switch {
-        thread: 2,
-        inc: 1,
-        scn,
-        on,
-    }
+    let mut switches = Seq::new(alloc);
+    switches.push(ON)?;
+    switches.push(OFF)?;
+    let world = small(alloc)?;
+    Ok(World { switches, ..world })
 }
 
 /// A thread is enabled from its switch on, until the next one.
 pub fn threads(alloc: Global) -> Result<bool, Fault> {
-    let mut world = small(alloc)?;
-    world.switches.push(switch(4, true))?;
-    world.switches.push(switch(6, false))?;
+    let world = switched(alloc)?;
     let second = [
         world.is_enabled(1, 3, 2),
         world.is_enabled(1, 4, 2),
