@@ -1,8 +1,7 @@
 -- Bytes that are taken or written after others, and counts that rise.
-use Rattle.std.proofs.Common.{◌≡◌, ◌≤◌, ◌+◌, ◌-◌, ◌^◌, ◌∙◌, ◌++◌, ℕ, List, [], ◌∷◌, Option, Some, None, refl, ap, sym, append_assoc, arith, min, IfSome, length, take, drop, length-drop}
+use Rattle.std.proofs.Common.{◌≡◌, ◌≤◌, ◌+◌, ◌-◌, ◌∙◌, ◌++◌, ℕ, List, [], ◌∷◌, Option, Some, None, refl, ap, sym, append_assoc, arith, IfSome, length, take, drop, length-drop}
 use Rattle.std.proofs.lemmas.List.{take-append-drop, drop-drop, take_at, length-take-le}
 use Rattle.std.specs.Option.{option_map}
-use Rattle.std.proofs.Math.Nat.{min-le_left, min-le_right, le-min}
 use Rattle.rm_base.specs.Outside.{Appends, HasTaken, Rose}
 
 append-none : (xs : List ℕ) → xs ++ [] ≡ xs
@@ -32,9 +31,7 @@ taken-all a (Some left) xs h e = h ∙ ap (λ zs. Some (xs ++ zs)) e ∙ ap Some
 
 -- a count that rose in between rose
 pub rose-within : (a b c d : ℕ) → a ≤ b → Rose b c → c ≤ d → Rose a d
-rose-within a b c d low rose high =
-    let least : min (a + 1) (2 ^ 64 - 1) ≤ min (b + 1) (2 ^ 64 - 1) = le-min (omega (arith, min-le_left (a + 1) (2 ^ 64 - 1), low)) (min-le_right (a + 1) (2 ^ 64 - 1)) in
-    omega (arith, least, rose, high)
+rose-within a b c d low rose high = omega (arith, low, rose, high)
 
 -- n bytes from `at` on, put in front of others
 pub front-taken : (xs rest : List ℕ) (at n : ℕ) → n ≤ length xs - at → drop at xs ≡ take n (take n (drop at xs) ++ rest) ++ drop (at + n) xs

@@ -1,5 +1,6 @@
 pub mod Choice
 pub mod Content
+pub mod Created
 pub mod Failing
 pub mod Formats
 pub mod MemSink

@@ -1,5 +1,5 @@
 -- What a read takes, what a write adds, and when a count rose.
-use Rattle.std.specs.Prelude.{ℕ, ◌+◌, ◌-◌, ◌<◌, ◌≤◌, ◌≡◌, ◌↔◌, ◌^◌, Bool, IsTrue, List, [], ◌++◌, Option, IfSome, min}
+use Rattle.std.specs.Prelude.{ℕ, ◌+◌, ◌<◌, ◌≡◌, ◌↔◌, ◌^◌, Bool, IsTrue, List, [], ◌++◌, Option, IfSome}
 use Rattle.std.specs.Option.{option_map}
 
 -- Where the source tells what is left: it was these bytes, and what is left now. One that tells nothing goes on so.
@@ -19,6 +19,6 @@ pub record EndsAt (n : ℕ) (left : Option (List ℕ)) (at_end : Bool) : Type 0 
   pub told : IsTrue at_end ↔ (n ≡ 0)
   pub empty : n ≡ 0 → IfSome left (λ bytes. bytes ≡ [])
 
--- The count rose. At the end of its type, 2^64 - 1, it stands still.
+-- the count rose
 abbrev pub Rose : ℕ → ℕ → Type 0
-Rose before now = min (before + 1) (2 ^ 64 - 1) ≤ now
+Rose before now = before < now

@@ -3,6 +3,7 @@
 
 pub mod block;
 pub mod bytes;
+pub mod count;
 pub mod faults;
 pub mod kinds;
 pub mod mem_store;
@@ -18,6 +19,7 @@ pub mod store;
 pub mod text;
 
 pub use block::{Block, BlockId, Change, Mark, Part, Row};
+pub use count::Count;
 pub use faults::{Failed, FormatFault, NoMemory};
 pub use kinds::{Bad, Class, Kind, Policy, Status};
 pub use mem_store::{MemClock, MemStore, StoreFailing};

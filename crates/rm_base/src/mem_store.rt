@@ -1,6 +1,7 @@
 //! A store in memory, whose calls fail as its maker says, and a clock whose answers its maker gives.
-ghost use Rattle.std.specs.Prelude.{◌≡◌, ◌≤◌, ◌↔◌, length};
+ghost use Rattle.std.specs.Prelude.{◌≡◌, ◌+◌, ◌≤◌, ◌↔◌, length};
 
+use crate::count::Count;
 use crate::memory::Failing;
 use crate::seq::Seq;
 use crate::store::{Clock, Store, StoreFail};
@@ -167,6 +168,7 @@ impl Store for MemStore {
 pub struct MemClock {
     answers: Vec<u64>,
     at: usize,
+    asked: Count,
     ghost within: { at ≤ length answers.items },
 }
 
@@ -177,7 +179,11 @@ impl MemClock {
     pub fn new(answers: Vec<u64>) -> Self
         ensures { coming_of result ≡ answer_at answers.items }
     {
-        MemClock { answers, at: 0 }
+        MemClock {
+            answers,
+            at: 0,
+            asked: Count::none(),
+        }
     }
 }
 
@@ -188,10 +194,14 @@ impl Clock for MemClock {
 
     ghost answers = { λ m. Some (coming_of m) };
 
+    ghost asked = { λ m. m.asked.times };
+
     fn now(&mut self) -> u64
         ensures next { IfSome (Some (coming_of self.old)) (λ coming. result ≡ coming 0) }
         ensures later { Both IsLater (Some (coming_of self.old)) (Some (coming_of self.new)) }
+        ensures count { self.new.asked.times ≡ self.old.asked.times + 1 }
     {
+        self.asked.rise();
         let answer = self.answers.get(self.at).copied().unwrap_or(0);
         if self.at + 1 < self.answers.len() {
             self.at += 1;

@@ -2,6 +2,7 @@
 ghost use Rattle.std.specs.Prelude.{◌≡◌, ◌↔◌, ◌<◌, ◌≤◌, [], length, IsTrue};
 ghost use Rattle.std.specs.Vec.{vec_capacity};
 
+use crate::count::Count;
 use crate::faults::{Failed, NoMemory};
 use crate::outside::{Sink, Source};
 use std::alloc::Global;
@@ -12,7 +13,7 @@ use std::alloc::Global;
 pub struct Failing {
     numbers: Vec<u64>,
     calls: u64,
-    faults: u64,
+    faults: Count,
 }
 
 impl Failing {
@@ -27,7 +28,7 @@ impl Failing {
         Failing {
             numbers,
             calls: 0,
-            faults: 0,
+            faults: Count::none(),
         }
     }
 
@@ -50,7 +51,7 @@ impl Failing {
         ensures after { self.new ≡ with_fault self.old }
         ensures never_falls { faults_of self.old ≤ faults_of self.new }
     {
-        self.faults = self.faults.saturating_add(1);
+        self.faults.rise();
     }
 }
 
@@ -105,6 +106,7 @@ impl Source for MemSource {
         ensures front { IfOk result (λ n. HasTaken (Some (left_of self.old)) (Some (left_of self.new)) (take n buf.new)) }
         ensures count { IfOk result (λ n. Counts self.old.at self.new.at n) }
         ensures end { IfOk result (λ n. 0 < length buf.old → EndsAt n (Some (left_of self.old)) self.new.ended) }
+        ensures empty { IfOk result (λ _. length buf.old ≡ 0 → self.new.ended ≡ self.old.ended) }
 
         ensures failed { OnErr result (Rose (faults_of (failing_of self.old)) (faults_of (failing_of self.new))) }
         ensures failed_left { OnErr result (Some (left_of self.new) ≡ Some (left_of self.old)) }

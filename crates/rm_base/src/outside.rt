@@ -25,6 +25,7 @@ pub trait Source {
         ensures front { IfOk result (λ n. HasTaken (left self.old) (left self.new) (take n buf.new)) }
         ensures count { IfOk result (λ n. Counts (taken self.old) (taken self.new) n) }
         ensures end { IfOk result (λ n. 0 < length buf.old → EndsAt n (left self.old) (at_end self.new)) }
+        ensures empty { IfOk result (λ _. length buf.old ≡ 0 → at_end self.new ≡ at_end self.old) }
 
         ensures failed { OnErr result (Rose (faults self.old) (faults self.new)) }
         ensures failed_left { OnErr result (left self.new ≡ left self.old) }

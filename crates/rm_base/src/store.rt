@@ -1,5 +1,5 @@
 //! What the program keeps objects in, and the clock. A store counts its faults, and the count never falls.
-ghost use Rattle.std.specs.Prelude.{◌≡◌, ◌≤◌, ℕ, Option, Some, None, IfOk, IfSome, OnOk, IsErrOf};
+ghost use Rattle.std.specs.Prelude.{◌≡◌, ◌+◌, ◌≤◌, ℕ, Option, Some, None, IfOk, IfSome, OnOk, IsErrOf};
 ghost use Rattle.rm_base.specs.Outside.{Rose};
 ghost use Rattle.rm_base.specs.Store.{Held, Both, HasNow, SameBut, Ascends, AreTheNames, Answers, IsLater};
 ghost use Rattle.rm_base.specs.declared.store.StoreFail.TheVariants.{Failed};
@@ -85,8 +85,12 @@ pub trait Clock {
     /// The answers to come, where the clock tells them.
     ghost answers: { Self → Option Answers };
 
+    /// How often it was asked.
+    ghost asked: { Self → ℕ };
+
     /// The time, in seconds since 1970-01-01 UTC.
     fn now(&mut self) -> u64
         ensures next { IfSome (answers self.old) (λ coming. result ≡ coming 0) }
-        ensures later { Both IsLater (answers self.old) (answers self.new) };
+        ensures later { Both IsLater (answers self.old) (answers self.new) }
+        ensures count { asked self.new ≡ asked self.old + 1 };
 }

@@ -2,6 +2,7 @@
 use Rattle.std.proofs.Common.{◌≡◌, ◌+◌, ℕ, zero, suc, List, Some, inr, refl, ap, subst, arith, true, All, Contains}
 use Rattle.std.specs.Option.{option_map_or}
 use Rattle.std.proofs.lemmas.List.Elements.{All-nil, All-push, All-contains}
+use Rattle.rm_base.specs.Created.{created_row}
 use Rattle.rm_base.specs.declared.block.Change.{Change}
 use Rattle.rm_base.specs.declared.block.Row.{Row}
 use Rattle.rm_history.specs.declared.world.Datafile.{Datafile}
@@ -11,7 +12,7 @@ use Rattle.rm_history.specs.History.{IsHistory}
 use Rattle.rm_history.specs.State.{IsState, concerns}
 use Rattle.rm_history.specs.World.{file_of, creation_of}
 use Rattle.rm_history.proofs.States.{concerns-parts, concerns-risen, state-one}
-use Rattle.rm_blocks.specs.File.{base_of, created, created_row, created_rows}
+use Rattle.rm_blocks.specs.File.{base_of, created, created_rows}
 
 created-all : (P : Row → Type 0) (creation blocks : ℕ) → ((b : ℕ) → P (created_row creation b)) → All P (created_rows creation blocks)
 created-all P creation zero each = All-nil P

@@ -2,8 +2,9 @@
 use Rattle.std.proofs.Common.{◌≡◌, ◌≢◌, ◌∙◌, ℕ, zero, suc, List, [], ◌∷◌, ◌++◌, ◌⊎◌, inl, inr, Some, refl, ap, sym, subst, arith, length, slice_get, slice_set}
 use Rattle.std.proofs.lemmas.Bool.{cases_eq}
 use Rattle.std.proofs.lemmas.List.{length-append}
+use Rattle.rm_base.specs.Created.{created_row}
 use Rattle.rm_base.specs.declared.block.Row.{Row}
-use Rattle.rm_blocks.specs.File.{IsInOrder, created_row, created_rows}
+use Rattle.rm_blocks.specs.File.{IsInOrder, created_rows}
 
 slice_get-set_same : (rows : List Row) (k : ℕ) (new r : Row) → slice_get (slice_set rows k new) k ≡ Some r → new ≡ r
 slice_get-set_same [] k new r is = absurd (cc)

@@ -3,10 +3,11 @@ use Rattle.std.proofs.Common.{◌≡◌, ◌∙◌, ◌+◌, ◌<◌, ◌≤◌,
 use Rattle.std.proofs.lemmas.Bool.{cases_Bool, cases_eq, eq-eqb, le-ltb, lt-ltb, ltb-false, ltb-true, ne_eqb}
 use Rattle.std.proofs.lemmas.List.{length-append}
 use Rattle.std.proofs.lemmas.List.Elements.{All-filter, All-cons, All-nil, filter-append, filter_passes}
+use Rattle.rm_base.specs.Created.{created_row}
 use Rattle.rm_base.specs.declared.block.Row.{Row}
 use Rattle.rm_base.proofs.Items.{All-tail}
 use Rattle.rm_history.specs.State.{rows_from}
-use Rattle.rm_piece.specs.Filling.{next_left, next_or, over, unwritten, IsAbove, IsFilled}
+use Rattle.rm_piece.specs.Filling.{next_left, next_or, over, IsAbove, IsFilled}
 use Rattle.rm_piece.specs.Sets.{written, IsSince}
 
 other_block : (a b : ℕ) → b < a → eqb a b ≡ false
@@ -93,47 +94,47 @@ over-back p b (o ∷ os) (r ∷ rs) are =
 
 -- so many blocks from b on, as their datafile was created
 abbrev pub unwritten_from : ℕ → ℕ → ℕ → List Row
-unwritten_from creation b n = rows_from (unwritten creation) b n
+unwritten_from creation b n = rows_from (created_row creation) b n
 
 -- a row at the creation is as the datafile was created
-pub at_creation : (creation b : ℕ) (r : Row) → IsSince creation r → r.version ≤ creation → r.block ≡ b → unwritten creation b ≡ r
+pub at_creation : (creation b : ℕ) (r : Row) → IsSince creation r → r.version ≤ creation → r.block ≡ b → created_row creation b ≡ r
 at_creation creation b r since below same =
     let low = since.since in
     let version : r.version ≡ creation = omega (arith, low, below) in
     let content = since.zero version in
     sym (λ i. record { block = same i; version = version i; content = content i })
 
-unwritten-back : (creation n b : ℕ) (rows : List Row) → length rows ≡ n → ((k : ℕ) (d : Row) → k < length rows → (get_or rows k d).block ≡ b + k) → All (IsSince creation) rows → AreBack (λ r. nat_lt creation r.version) b (unwritten_from creation b n) rows
-unwritten-back creation zero b [] many whole since = tt
-unwritten-back creation zero b (r ∷ rs) many whole since = absurd (omega arith)
-unwritten-back creation (suc n) b [] many whole since = absurd (omega arith)
-unwritten-back creation (suc n) b (r ∷ rs) many whole since =
+created_row-back : (creation n b : ℕ) (rows : List Row) → length rows ≡ n → ((k : ℕ) (d : Row) → k < length rows → (get_or rows k d).block ≡ b + k) → All (IsSince creation) rows → AreBack (λ r. nat_lt creation r.version) b (unwritten_from creation b n) rows
+created_row-back creation zero b [] many whole since = tt
+created_row-back creation zero b (r ∷ rs) many whole since = absurd (omega arith)
+created_row-back creation (suc n) b [] many whole since = absurd (omega arith)
+created_row-back creation (suc n) b (r ∷ rs) many whole since =
     let at : r.block ≡ b + 0 = whole 0 r (omega arith) in
     let same : r.block ≡ b = omega (arith, at) in
     let later : (k : ℕ) (d : Row) → k < length rs → (get_or rs k d).block ≡ (b + 1) + k = λ k d inside. let next : (get_or rs k d).block ≡ b + suc k = whole (suc k) d (omega arith) in omega (arith, next) in
-    ((refl, same, λ fails. at_creation creation b r (since 0 r (omega arith)) (ltb-false creation r.version fails) same), unwritten-back creation n (b + 1) rs (omega arith) later (All-tail (IsSince creation) r rs since))
+    ((refl, same, λ fails. at_creation creation b r (since 0 r (omega arith)) (ltb-false creation r.version fails) same), created_row-back creation n (b + 1) rs (omega arith) later (All-tail (IsSince creation) r rs since))
 
 -- the rows of a datafile are back, from those that were written
 pub filled_back : (creation blocks : ℕ) (rows spelled : List Row) → IsFilled creation blocks rows → written creation rows ≡ spelled → over (unwritten_from creation 0 blocks) spelled ≡ rows
 filled_back creation blocks rows spelled is same =
     ap (over (unwritten_from creation 0 blocks)) (sym same)
-    ∙ over-back (λ r. nat_lt creation r.version) 0 (unwritten_from creation 0 blocks) rows (unwritten-back creation blocks 0 rows is.count (λ k d inside. let place = is.whole k d inside in omega (arith, place)) is.since)
+    ∙ over-back (λ r. nat_lt creation r.version) 0 (unwritten_from creation 0 blocks) rows (created_row-back creation blocks 0 rows is.count (λ k d inside. let place = is.whole k d inside in omega (arith, place)) is.since)
 
 -- ---- one block more
 
 -- what is left without the row of a block, and this row where it was written
-pub next-parts : (creation b : ℕ) (rs : List Row) → All (IsAbove creation) rs → written creation (next_or (unwritten creation b) rs ∷ []) ++ next_left b rs ≡ rs
-next-parts creation b [] above = ap (λ xs. xs ++ []) (filter-rest (λ x. nat_lt creation x.version) (unwritten creation b) [] (le-ltb creation creation (omega arith)))
+pub next-parts : (creation b : ℕ) (rs : List Row) → All (IsAbove creation) rs → written creation (next_or (created_row creation b) rs ∷ []) ++ next_left b rs ≡ rs
+next-parts creation b [] above = ap (λ xs. xs ++ []) (filter-rest (λ x. nat_lt creation x.version) (created_row creation b) [] (le-ltb creation creation (omega arith)))
 next-parts creation b (r ∷ rs) above = elim (cases_eq r.block b) [
   | inl same ↦
-      let here = next_or-here (unwritten creation b) r rs same in
+      let here = next_or-here (created_row creation b) r rs same in
       let left = next_left-here b r rs same in
       (λ i. written creation (here i ∷ []) ++ left i) ∙ ap (λ xs. xs ++ rs) (filter-first (λ x. nat_lt creation x.version) r [] (lt-ltb creation r.version (above 0 r (omega arith))))
   | inr apart ↦
       let other = ne_eqb r.block b apart in
-      let here = next_or-other (unwritten creation b) r rs other in
+      let here = next_or-other (created_row creation b) r rs other in
       let left = next_left-other b r rs other in
-      (λ i. written creation (here i ∷ []) ++ left i) ∙ ap (λ xs. xs ++ r ∷ rs) (filter-rest (λ x. nat_lt creation x.version) (unwritten creation b) [] (le-ltb creation creation (omega arith)))
+      (λ i. written creation (here i ∷ []) ++ left i) ∙ ap (λ xs. xs ++ r ∷ rs) (filter-rest (λ x. nat_lt creation x.version) (created_row creation b) [] (le-ltb creation creation (omega arith)))
 ]
 
 pub next-above : (creation b : ℕ) (rs : List Row) → All (IsAbove creation) rs → All (IsAbove creation) (next_left b rs)
@@ -152,13 +153,13 @@ none-left xs (r ∷ rs) same =
     absurd (omega arith)
 
 -- a turn of the loop over all blocks
-module _ (creation b : ℕ) (items left made rest : List Row) (row : Row) (taken : row ≡ next_or (unwritten creation b) left) (behind : rest ≡ next_left b left) (pushed : made ≡ items ++ row ∷ []) where
+module _ (creation b : ℕ) (items left made rest : List Row) (row : Row) (taken : row ≡ next_or (created_row creation b) left) (behind : rest ≡ next_left b left) (pushed : made ≡ items ++ row ∷ []) where
   pub turn-parts : (spelled : List Row) → All (IsAbove creation) left → spelled ≡ written creation items ++ left → spelled ≡ written creation made ++ rest
   turn-parts spelled above so_far =
       so_far
       ∙ ap (λ (xs : List Row). written creation items ++ xs) (sym (next-parts creation b left above))
-      ∙ sym (append_assoc (written creation items) (written creation (next_or (unwritten creation b) left ∷ [])) (next_left b left))
-      ∙ ap (λ (xs : List Row). xs ++ next_left b left) (sym (filter-append (λ x. nat_lt creation x.version) items (next_or (unwritten creation b) left ∷ [])))
+      ∙ sym (append_assoc (written creation items) (written creation (next_or (created_row creation b) left ∷ [])) (next_left b left))
+      ∙ ap (λ (xs : List Row). xs ++ next_left b left) (sym (filter-append (λ x. nat_lt creation x.version) items (next_or (created_row creation b) left ∷ [])))
       ∙ (λ i. written creation (items ++ sym taken i ∷ []) ++ sym behind i)
       ∙ ap (λ (xs : List Row). written creation xs ++ rest) (sym pushed)
 

@@ -3,6 +3,7 @@ use Rattle.std.proofs.Common.{◌≡◌, ◌≢◌, ◌∙◌, ◌<◌, ◌≤�
 use Rattle.std.proofs.lemmas.Bool.{cases_lt, lt-ltb, le-ltb, le-leb}
 use Rattle.std.proofs.lemmas.List.{get_or-map, length-map}
 use Rattle.std.proofs.lemmas.List.Elements.{All-contains_itself, All-filter, All-map}
+use Rattle.rm_base.specs.Created.{created_row}
 use Rattle.rm_base.specs.Numbers.{last_scn}
 use Rattle.rm_base.specs.declared.block.Change.{Change}
 use Rattle.rm_base.specs.declared.block.Row.{Row}
@@ -16,7 +17,7 @@ use Rattle.rm_history.specs.World.{creation_of}
 use Rattle.rm_history.proofs.States.{concerns-risen, state-held}
 use Rattle.rm_piece.specs.declared.set.Set.{Set}
 use Rattle.rm_piece.specs.declared.set.SetFile.{SetFile}
-use Rattle.rm_piece.specs.Filling.{risen, unwritten}
+use Rattle.rm_piece.specs.Filling.{risen}
 use Rattle.rm_piece.specs.Rows.{IsWhole, from_on}
 use Rattle.rm_piece.specs.Sets.{IsMember, IsOf, IsSince}
 use Rattle.rm_piece.specs.Valid.{IsPiece, IsRow}
@@ -25,10 +26,10 @@ use Rattle.rm_piece.proofs.Filled.{at_creation, filter-all}
 -- ---- one row
 
 above-stays : (creation : ℕ) (r : Row) → creation < r.version → risen creation r ≡ r
-above-stays creation r above = ap (λ t. if t then r else unwritten creation r.block) (lt-ltb creation r.version above)
+above-stays creation r above = ap (λ t. if t then r else created_row creation r.block) (lt-ltb creation r.version above)
 
-below-rises : (creation : ℕ) (r : Row) → r.version ≤ creation → risen creation r ≡ unwritten creation r.block
-below-rises creation r below = ap (λ t. if t then r else unwritten creation r.block) (le-ltb creation r.version below)
+below-rises : (creation : ℕ) (r : Row) → r.version ≤ creation → risen creation r ≡ created_row creation r.block
+below-rises creation r below = ap (λ t. if t then r else created_row creation r.block) (le-ltb creation r.version below)
 
 block-stays : (creation : ℕ) (r : Row) → (risen creation r).block ≡ r.block
 block-stays creation r = elim (cases_lt creation r.version) [

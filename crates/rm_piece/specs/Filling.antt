@@ -1,17 +1,13 @@
 -- Rows of all blocks, and rows that stand in the place of some of them.
 use Rattle.std.specs.Prelude.{ℕ, ◌≡◌, ◌<◌, ◌≤◌, ◌==◌, nat_lt, if◌then◌else◌, List, [], ◌∷◌, All, length}
-use Rattle.rm_base.specs.Content.{zero_block}
+use Rattle.rm_base.specs.Created.{created_row}
 use Rattle.rm_base.specs.declared.block.Row.{Row}
 use Rattle.rm_piece.specs.Rows.{IsWhole}
 use Rattle.rm_piece.specs.Sets.{IsSince}
 
--- a block as its datafile was created
-abbrev pub unwritten : ℕ → ℕ → Row
-unwritten creation b = record { block = b; version = creation; content = zero_block }
-
 -- a row as it counts in a set: one of a version up to the creation is the zero row at the creation
 abbrev pub risen : ℕ → Row → Row
-risen creation r = if nat_lt creation r.version then r else unwritten creation r.block
+risen creation r = if nat_lt creation r.version then r else created_row creation r.block
 
 -- the first of the listed rows, where it is of the row's block, or else the row
 abbrev pub next_or : Row → List Row → Row

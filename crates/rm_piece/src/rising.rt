@@ -16,7 +16,7 @@ ghost use Rattle.rm_piece.specs.Rows.{IsWhole, from_on};
 ghost use Rattle.rm_piece.specs.Sets.{IsMember, IsOf, IsSince};
 ghost use Rattle.rm_piece.specs.Valid.{IsPiece, IsRow};
 
-use crate::set_filling::unwritten;
+use crate::set_filling::created_row;
 use rm_base::{NoMemory, Row, Scn, Seq};
 use std::alloc::Global;
 
@@ -27,7 +27,7 @@ fn risen(row: &Row, creation: Scn) -> Row
     if creation < row.version {
         *row
     } else {
-        unwritten(row.block, creation)
+        created_row(row.block, creation)
     }
 }
 

@@ -2,8 +2,8 @@
 use Rattle.std.proofs.Common.{◌≡◌, ◌<◌, ◌≤◌, ◌+◌, ◌-◌, ◌∙◌, ◌≢◌, ◌==◌, inl, inr, ℕ, zero, suc, List, [], ◌∷◌, ◌++◌, Option, Some, None, Bool, true, false, cond, refl, ap, sym, subst, arith, length, map, get_or, All, slice_get, slice_set}
 use Rattle.std.specs.Option.{option_map_or}
 use Rattle.std.proofs.lemmas.Bool.{cases_eq, eq-eqb, ne_eqb}
-use Rattle.std.proofs.lemmas.List.{length-map, length-set, set-get_or}
-use Rattle.std.proofs.lemmas.List.Elements.{All-nil, All-get_or, All-map, All-push, All-set}
+use Rattle.std.proofs.lemmas.List.{length-map, length-set}
+use Rattle.std.proofs.lemmas.List.Elements.{All-get_or, All-map, All-push, All-set}
 use Rattle.std.proofs.lemmas.List.Quantifiers.{all_pairs_push}
 use Rattle.std.proofs.lemmas.List.{length-append}
 use Rattle.std.proofs.lemmas.Option.{get_or_from_slice_get, slice_get_cases, slice_get_read, slice_get_within}
@@ -11,7 +11,7 @@ use Rattle.rm_base.specs.declared.block.Change.{Change}
 use Rattle.rm_redo.specs.declared.online.LogRecord.{LogRecord}
 use Rattle.rm_redo.specs.declared.online.ThreadLog.{ThreadLog}
 use Rattle.rm_redo.specs.Logs.{Logs, IsBefore, IsLog, IsLogs}
-use Rattle.rm_redo.specs.Online.{IsThread, IsLost, has_log, record_of, thread_records, first_of, sequence_of, with_log, with_record, with_change, begun_anew, switched, with_loss, with_enabled, with_disabled, begun_logs, empty_log, fresh_log, lost_log, lost_logs, no_log, log_where}
+use Rattle.rm_redo.specs.Online.{IsThread, IsLost, has_log, record_of, thread_records, first_of, sequence_of, with_log, with_record, with_change, begun_anew, switched, with_loss, begun_logs, empty_log, fresh_log, lost_log, lost_logs, no_log, log_where}
 
 pub empty-is_log : (first sequence : ℕ) → 0 < first → 0 < sequence → IsLog (empty_log first sequence)
 empty-is_log first sequence begun numbered = record {
@@ -140,10 +140,6 @@ IsLogs-with_one f logs t l is new sound =
 logs-by : (f : ThreadLog → ThreadLog) → ((l : ThreadLog) → IsLog l → IsLog (f l)) → (logs : Logs) (t : ℕ) (o : Option ThreadLog) → slice_get logs.threads (t - 1) ≡ o → IsLogs logs → IsLogs (changed f logs t o)
 logs-by f keeps logs t None is sound = sound
 logs-by f keeps logs t (Some l) is sound = IsLogs-with_one f logs t l is (keeps l (all-get IsLog logs.threads (t - 1) l is sound.each)) sound
-
--- logs stay logs where each stays one
-pub IsLogs-with_log : (f : ThreadLog → ThreadLog) → ((l : ThreadLog) → IsLog l → IsLog (f l)) → (logs : Logs) (t : ℕ) → IsLogs logs → IsLogs (with_log f logs t)
-IsLogs-with_log f keeps logs t sound = logs-by f keeps logs t (slice_get logs.threads (t - 1)) refl sound
 
 -- the log that stands at the thread's place is its log
 pub log-there : (logs : Logs) (t : ℕ) (l : ThreadLog) → IsThread logs t → l ≡ get_or logs.threads (t - 1) l → slice_get logs.threads (t - 1) ≡ Some l
@@ -274,20 +270,6 @@ around-switched logs t now =
 pub IsThread-switched : (logs : Logs) (t u now : ℕ) → IsThread logs u → IsThread (switched logs t now) u
 IsThread-switched logs t u now there = IsThread-around logs (switched logs t now) u (around-switched logs t now) there
 
-anew-is_log : (now : ℕ) (l : ThreadLog) → 0 < now → IsLog l → IsLog (begun_anew now l)
-anew-is_log now l begun is = record {
-  numbered = omega arith;
-  begun = begun;
-  from = λ k d inside. absurd (omega (arith, inside));
-  ascends = λ i j d less inside. absurd (omega (arith, inside));
-  few = omega arith;
-}
-
--- logs stay logs
-pub IsLogs-switched : (logs : Logs) (t now : ℕ) → 0 < now → IsLogs logs → IsLogs (switched logs t now)
-IsLogs-switched logs t now begun sound =
-    switched-either IsLogs logs t now sound (IsLogs-with_log (begun_anew now) (λ l is. anew-is_log now l begun is) logs t sound)
-
 -- A loss
 
 abbrev as_lost : ThreadLog → ThreadLog
@@ -316,57 +298,9 @@ is_lost-with_loss_other logs t u here there other = ap (λ o. option_map_or (λ 
 pub around-with_loss : (logs : Logs) (t : ℕ) → IsAround logs (with_loss logs t)
 around-with_loss logs t = around-with_log as_lost (λ l. refl) logs t
 
-pub IsThread-with_loss : (logs : Logs) (t u : ℕ) → IsThread logs u → IsThread (with_loss logs t) u
-IsThread-with_loss logs t u there = IsThread-around logs (with_loss logs t) u (around-with_loss logs t) there
-
-lost-is_log : (l : ThreadLog) → IsLog l → IsLog (as_lost l)
-lost-is_log l is = record { numbered = is.numbered; begun = is.begun; from = is.from; ascends = is.ascends; few = is.few }
-
--- logs stay logs
-pub IsLogs-with_loss : (logs : Logs) (t : ℕ) → IsLogs logs → IsLogs (with_loss logs t)
-IsLogs-with_loss logs t sound = IsLogs-with_log as_lost lost-is_log logs t sound
-
 -- A thread comes to be there
 
-pub IsLogs-with_enabled : (logs : Logs) (t now sequence : ℕ) → 0 < now → 0 < sequence → IsLogs logs → IsLogs (with_enabled logs t now sequence)
-IsLogs-with_enabled logs t now sequence begun numbered sound = IsLogs-with_log (λ l. empty_log now sequence) (λ l is. empty-is_log now sequence begun numbered) logs t sound
-
-set-whole : {X : Type 0} (field : ThreadLog → X) (none : X) (new : ThreadLog) (logs : Logs) (t : ℕ) → 0 < t → t ≤ length logs.threads → field_of field none (with_log (λ l. new) logs t) t ≡ field new
-set-whole field none new logs t some low = elim (slice_get_cases logs.threads (t - 1)).1 [
-  | inr past ↦ absurd (omega (arith, past.0, some, low))
-  | inl read ↦
-      ap (λ o. field_of field none (changed (λ l. new) logs t o) t) read.2
-      ∙ ap (λ o. option_map_or field o none) (set-there logs.threads (t - 1) new (omega (arith, some, low)))
-]
-
-pub IsThread-with_enabled : (logs : Logs) (t now sequence : ℕ) → 0 < t → t ≤ length logs.threads → IsThread (with_enabled logs t now sequence) t
-IsThread-with_enabled logs t now sequence some low =
-    let same = threads-by (λ l. empty_log now sequence) logs t (slice_get logs.threads (t - 1)) in
-    (some, omega (arith, same, low), set-whole (λ l. l.is_there) false (empty_log now sequence) logs t some low)
-
-pub first_of-with_enabled : (logs : Logs) (t now sequence : ℕ) → 0 < t → t ≤ length logs.threads → first_of (with_enabled logs t now sequence) t ≡ now
-first_of-with_enabled logs t now sequence some low = set-whole (λ l. l.first) 0 (empty_log now sequence) logs t some low
-
-pub sequence_of-with_enabled : (logs : Logs) (t now sequence : ℕ) → 0 < t → t ≤ length logs.threads → sequence_of (with_enabled logs t now sequence) t ≡ sequence
-sequence_of-with_enabled logs t now sequence some low = set-whole (λ l. l.sequence) 0 (empty_log now sequence) logs t some low
-
-pub thread_records-with_enabled : (logs : Logs) (t now sequence : ℕ) → 0 < t → t ≤ length logs.threads → thread_records (with_enabled logs t now sequence) t ≡ []
-thread_records-with_enabled logs t now sequence some low = set-whole (λ l. l.records) [] (empty_log now sequence) logs t some low
-
--- and the others are as they were
-pub has_log-with_enabled_other : (logs : Logs) (t u now sequence : ℕ) → 0 < t → 0 < u → u ≢ t → has_log (with_enabled logs t now sequence) u ≡ has_log logs u
-has_log-with_enabled_other logs t u now sequence here there other = ap (λ o. option_map_or (λ l. l.is_there) o false) (other-with_log (λ l. empty_log now sequence) logs t u here there other)
-
 -- A thread is no longer there
-
-pub IsLogs-with_disabled : (logs : Logs) (t : ℕ) → IsLogs logs → IsLogs (with_disabled logs t)
-IsLogs-with_disabled logs t sound = IsLogs-with_log (λ l. no_log) (λ l is. no-log-is_log) logs t sound
-
-pub not-there-with_disabled : (logs : Logs) (t : ℕ) → 0 < t → t ≤ length logs.threads → has_log (with_disabled logs t) t ≡ false
-not-there-with_disabled logs t some low = set-whole (λ l. l.is_there) false no_log logs t some low
-
-pub has_log-with_disabled_other : (logs : Logs) (t u : ℕ) → 0 < t → 0 < u → u ≢ t → has_log (with_disabled logs t) u ≡ has_log logs u
-has_log-with_disabled_other logs t u here there other = ap (λ o. option_map_or (λ l. l.is_there) o false) (other-with_log (λ l. no_log) logs t u here there other)
 
 -- the log of a thread that is there stands at its place
 pub put-with_log : (new : ThreadLog) (logs : Logs) (t : ℕ) → 0 < t → t ≤ length logs.threads → record logs { threads = slice_set logs.threads (t - 1) new } ≡ with_log (λ l. new) logs t
@@ -397,9 +331,3 @@ lost-logs dbid inc enabled some there four = record {
 }
 
 -- The greatest thread that is there
-
-pub greatest-more : (logs : Logs) (n greatest : ℕ) → ((t : ℕ) → t ≤ n → IsThread logs t → t ≤ greatest) → ¬ IsThread logs (n + 1) → (t : ℕ) → t ≤ n + 1 → IsThread logs t → t ≤ greatest
-greatest-more logs n greatest most none t low there = elim (cases_eq t (n + 1)) [
-  | inl same ↦ absurd (none (subst (IsThread logs) same there))
-  | inr other ↦ most t (omega (arith, low, other)) there
-]
