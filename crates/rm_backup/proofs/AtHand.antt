@@ -13,6 +13,7 @@ use Rattle.rm_catalog.specs.declared.record.Record.{Record}
 use Rattle.rm_catalog.specs.declared.record.Record.TheVariants as records
 use Rattle.rm_catalog.specs.Keys.{at, piece_in, place as place_of_id}
 use Rattle.rm_catalog.specs.Rules.{IsCatalog}
+use Rattle.rm_catalog.proofs.ByKinds.{free-in}
 use Rattle.rm_catalog.proofs.Told.{some_is}
 use Rattle.rm_evidence.specs.declared.evidence.Evidence.{Evidence}
 use Rattle.rm_evidence.specs.declared.evidence.InPlace.{InPlace}
@@ -60,7 +61,7 @@ module _ (held : Held) (rs : List Record) (place : InPlace) (e : Evidence) (p : 
   -- what is at hand under the id of the record is its own, and no set's
   own : (b : Piece) → IsPieceAmong held (database_in rs) rs p.id b → HasPieceObject held p b
   own b (inl (q, there, same, has_object)) = subst (λ (r : PieceEntry). HasPieceObject held r b) (same_piece rs p q catalog has there same) has_object
-  own b (inr is) = absurd ((obeys rs (records.Piece p) catalog has).own.id.not_fourth (some_is rs (place_of_id 9 p.id) (records.Set is.0) is.1 (ap (λ (n : ℕ). place_of_id 9 n) is.2)))
+  own b (inr is) = absurd (free-in rs 5 p.id 9 (obeys rs (records.Piece p) catalog has).own.id refl refl (some_is rs (place_of_id 9 p.id) (records.Set is.0) is.1 (ap (λ (n : ℕ). place_of_id 9 n) is.2)))
 
   -- and it is one
   one : (b c : Piece) → HasPieceObject held p b → HasPieceObject held p c → b ≡ c

@@ -1,3 +1,5 @@
+pub mod Ascending
+pub mod ByKinds
 pub mod Counts
 pub mod Filters
 pub mod Firsts

@@ -1,5 +1,5 @@
 -- Whatever the order of the records, the first that breaks a rule has one place.
-use Rattle.std.proofs.Common.{◌≡◌, ℕ, zero, suc, ◌+◌, ◌-◌, ◌<◌, ◌≤◌, Bool, true, false, eqb, leb, ltb, cond, ◌&&◌, List, [], ◌∷◌, length, get_or, Option, Some, None, refl, ap, sym, subst, ◌∙◌, arith, eq-eqb, ◌⊎◌, inl, inr}
+use Rattle.std.proofs.Common.{◌≡◌, ℕ, zero, suc, ◌+◌, ◌-◌, ◌<◌, ◌≤◌, Bool, true, false, eqb, leb, cond, ◌&&◌, List, [], ◌∷◌, length, get_or, Option, Some, None, refl, ap, sym, subst, ◌∙◌, arith, eq-eqb, ◌⊎◌, inl, inr}
 use Rattle.std.specs.Prelude.{Contains, IsPermutation, IfSome, IsSome, IsTrue, IsSomeAnd, MatchBool, ◌||◌, nat_le, not, option_and_then}
 use Rattle.std.specs.Option.{option_map_or}
 use Rattle.std.proofs.lemmas.List.Sorted.{IsPermutation-sym, IsPermutation-trans, Contains-permutation, sum_by-IsPermutation, list_any-IsPermutation}
@@ -15,9 +15,9 @@ use Rattle.rm_catalog.specs.declared.record.MarkEntry.{MarkEntry}
 use Rattle.rm_catalog.specs.declared.record.SwitchEntry.{SwitchEntry}
 use Rattle.rm_catalog.specs.Keys.{place, place_of, place_of_key, at, InOrder, IsThere, base, incarnation, datafile, mark, switch, base_in, incarnation_in, datafile_in, mark_in, switch_in}
 use Rattle.rm_catalog.specs.Facts.{BeginsOn, is_mark_of, IsCreatedOn, blocks_to, IsWithin}
-use Rattle.rm_catalog.specs.Objects.{IdRule, IsRange, owner_in, FitsDatafile}
+use Rattle.rm_catalog.specs.Objects.{IdRule, IsRange, id_kinds, owner_in, FitsDatafile}
 use Rattle.rm_catalog.specs.Saved.{is_part_of}
-use Rattle.rm_catalog.specs.Rules.{Obeys, OwnRule, IsOrderOf, IsFirstBad, is_lasting}
+use Rattle.rm_catalog.specs.Rules.{Obeys, OwnRule, IsOrderOf, IsFirstBad, lasts_below}
 use Rattle.rm_catalog.specs.SetRules.{FitsSetFile, SetPartRule}
 use Rattle.rm_catalog.specs.declared.record.SetPart.{SetPart}
 use Rattle.rm_catalog.specs.Switches.{IsAt, applies_in, began_with, last_in, leaves_one, stays, switch_of, was_enabled}
@@ -181,13 +181,11 @@ owner_same (suc n) i g s t same =
     further lower (Some x) = ap (λ (y : ℕ). cond (leb x.reset g) i y) (lower x.parent)
     further lower None = refl
 
-id_moves : (s t : List Record) (id second third fourth : ℕ) → IsPermutation s t → base s ≡ base t → IdRule s id second third fourth → IdRule t id second third fourth
-id_moves s t id second third fourth there same h = record {
+id_moves : (s t : List Record) (kind id : ℕ) → IsPermutation s t → base s ≡ base t → IdRule s kind id → IdRule t kind id
+id_moves s t kind id there same h = record {
   number = h.number;
   below = subst (λ (o : Option BaseEntry). IsSomeAnd o (λ (b : BaseEntry). id < b.next_id)) same h.below;
-  not_second = λ yes. h.not_second (there_moves t s (place second id) (IsPermutation-sym s t there) yes);
-  not_third = λ yes. h.not_third (there_moves t s (place third id) (IsPermutation-sym s t there) yes);
-  not_fourth = λ yes. h.not_fourth (there_moves t s (place fourth id) (IsPermutation-sym s t there) yes);
+  free = λ k d lt other yes. h.free k d lt other (there_moves t s (place (get_or id_kinds k d) id) (IsPermutation-sym s t there) yes);
 }
 
 own_moves : (s t : List Record) (r : Record) → IsPermutation s t → Agree s t (place_of r) → OwnRule s r → OwnRule t r
@@ -224,14 +222,14 @@ own_moves s t (records.Datafile f) there agree h = record {
   room = record { blocks = let same = sum_by-IsPermutation (blocks_to f.file) s t there in let all = h.room.blocks in omega arith };
 }
 own_moves s t (records.Log l) there agree h = record {
-  id = id_moves s t l.id 5 7 9 there (base_same s t _ agree (omega arith)) h.id;
+  id = id_moves s t 4 l.id there (base_same s t _ agree (omega arith)) h.id;
   size = h.size;
   thread = h.thread;
   sequence = h.sequence;
   range = subst (λ (o : Option IncarnationEntry). IsSomeAnd o (IsRange l)) (incarnation_same s t _ l.inc agree (omega arith)) h.range;
 }
 own_moves s t (records.Piece p) there agree h = record {
-  id = id_moves s t p.id 4 7 9 there (base_same s t _ agree (omega arith)) h.id;
+  id = id_moves s t 5 p.id there (base_same s t _ agree (omega arith)) h.id;
   size = h.size;
   end = subst (λ (o : Option IncarnationEntry). IsSomeAnd o (λ (i : IncarnationEntry). p.high ≤ i.end)) (incarnation_same s t _ p.inc agree (omega arith)) h.end;
   file = fits (datafile p.file s) (subst (λ (o : Option DatafileEntry). o ≡ datafile p.file s) refl refl) h.file;
@@ -259,7 +257,7 @@ own_moves s t (records.Mark m) there agree h = record {
   moment = subst (λ (o : Option BaseEntry). IsSomeAnd o (λ (b : BaseEntry). m.moment ≤ b.moment)) (base_same s t _ agree (omega arith)) h.moment;
 }
 own_moves s t (records.Part p) there agree h = record {
-  id = id_moves s t p.id 4 5 9 there (base_same s t _ agree (omega arith)) h.id;
+  id = id_moves s t 7 p.id there (base_same s t _ agree (omega arith)) h.id;
   size = h.size;
   head = there_moves s t (place 8 0) there h.head;
   one = names (eqb p.file 0) h.one;
@@ -273,7 +271,7 @@ own_moves s t (records.Head h) there agree o = record {
   point = λ some. there_moves s t (place 2 h.inc) there (o.point some);
 }
 own_moves s t (records.Set e) there agree h = record {
-  id = id_moves s t e.id 4 5 7 there (base_same s t _ agree (omega arith)) h.id;
+  id = id_moves s t 9 e.id there (base_same s t _ agree (omega arith)) h.id;
   size = h.size;
   checkpoint = h.checkpoint;
   parts = record { some = h.parts.some; few = h.parts.few; ascend = h.parts.ascend; each = λ k d inside. part_moves _ (h.parts.each k d inside) };
@@ -326,7 +324,7 @@ own_moves s t (records.Switch x) there agree h = record {
 obeys_moves : (s t : List Record) (r : Record) → IsPermutation s t → Agree s t (place_of r) → Obeys s r → Obeys t r
 obeys_moves s t r there agree h = record {
   once = record { once = sum_by-IsPermutation (λ (q : Record). cond (eqb (place_of q) (place_of r)) 1 0) s t there ∙ h.once.once };
-  few = record { few = λ low. let same = sum_by-IsPermutation (λ (q : Record). cond (is_lasting (place_of q) && ltb (place_of q) (place_of r)) 1 0) s t there in let few = h.few.few low in omega arith };
+  few = record { few = λ low. let same = sum_by-IsPermutation (λ (q : Record). cond (lasts_below (place_of r) q) 1 0) s t there in let few = h.few.few low in omega arith };
   base = there_moves s t (place 1 0) there h.base;
   own = own_moves s t r there agree h.own;
 }

@@ -1,5 +1,5 @@
 -- The key of a record, the order of keys, and the record that stands under a key.
-use Rattle.std.specs.Prelude.{ℕ, ◌+◌, ◌*◌, ◌==◌, false, List, [], ◌∷◌, Option, Some, None, IsSome, find, map, min, option_and_then}
+use Rattle.std.specs.Prelude.{ℕ, ◌+◌, ◌*◌, ◌<◌, ◌==◌, false, AllPairs, List, [], ◌∷◌, Option, Some, None, IsSome, find, map, min, option_and_then}
 use Rattle.std.specs.List.{flat_map}
 use Rattle.std.specs.List.Sorted.{IsNonDecreasingBy}
 use Rattle.rm_catalog.specs.declared.record.Key.{Key}
@@ -30,6 +30,10 @@ key_of (Head r) = record { kind = 8; id = 0 }
 key_of (Set r) = record { kind = 9; id = r.id }
 key_of (Switch r) = record { kind = 10; id = r.id }
 
+-- the kind of a record
+abbrev pub kind_of : Record → ℕ
+kind_of r = (key_of r).kind
+
 -- The place of a key: kind * 2^32 + id. Ids are at most 2^32 - 1, so keys stand in order of kind and
 -- then of id as their places do. A greater number, which is no id, stands where the last id does.
 abbrev pub place : ℕ → ℕ → ℕ
@@ -46,6 +50,10 @@ place_of r = place_of_key (key_of r)
 -- the records ascend by kind and then id
 abbrev pub InOrder : List Record → Type 0
 InOrder rs = IsNonDecreasingBy place_of rs
+
+-- they ascend so, and each key is there once
+abbrev pub Ascends : List Record → Type 0
+Ascends rs = AllPairs (λ a b. place_of a < place_of b) rs
 
 -- the record at a place
 abbrev pub at : ℕ → List Record → Option Record

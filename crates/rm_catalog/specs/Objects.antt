@@ -1,5 +1,5 @@
 -- What a log and a piece obey in a list of records.
-use Rattle.std.specs.Prelude.{◌≡◌, ℕ, ◌<◌, ◌≤◌, ◌==◌, zero, suc, Bool, false, ◌&&◌, ◌||◌, IsTrue, List, IsSomeAnd, length, nat_le, if◌then◌else◌}
+use Rattle.std.specs.Prelude.{◌≡◌, ◌≢◌, ℕ, ◌<◌, ◌≤◌, ◌==◌, zero, suc, Bool, false, ◌&&◌, ◌||◌, IsTrue, All, List, [], ◌∷◌, IsSomeAnd, length, nat_le, if◌then◌else◌}
 use Rattle.std.specs.List.{list_all}
 use Rattle.std.specs.Option.{option_map_or}
 use Rattle.rm_base.specs.declared.kinds.Kind.{Kind}
@@ -15,13 +15,19 @@ use Rattle.rm_catalog.specs.Keys.{IsThere, base, incarnation, datafile}
 abbrev pub most_bytes : ℕ
 most_bytes = 268435456
 
--- an object id, which no record of the three other kinds of objects has
-pub record IdRule (rs : List Record) (id second third fourth : ℕ) : Type 0 where
+-- the kinds of records whose ids are those of objects: logs, pieces, the parts of a saved site, and sets
+abbrev pub id_kinds : List ℕ
+id_kinds = 4 ∷ 5 ∷ 7 ∷ 9 ∷ []
+
+-- the id of a record of one kind is free in another kind: no record of that kind has it
+abbrev pub IsFree : List Record → ℕ → ℕ → ℕ → Type 0
+IsFree rs kind id other = other ≢ kind → ¬ IsThere other id rs
+
+-- the id of a record of this kind, which stands in no other kind of objects
+pub record IdRule (rs : List Record) (kind id : ℕ) : Type 0 where
   pub number : 1 ≤ id
   pub below : IsSomeAnd (base rs) (λ b. id < b.next_id)
-  pub not_second : ¬ IsThere second id rs
-  pub not_third : ¬ IsThere third id rs
-  pub not_fourth : ¬ IsThere fourth id rs
+  pub free : All (IsFree rs kind id) id_kinds
 
 -- the log's SCNs are some of the incarnation
 pub record IsRange (l : LogEntry) (i : IncarnationEntry) : Type 0 where
@@ -31,7 +37,7 @@ pub record IsRange (l : LogEntry) (i : IncarnationEntry) : Type 0 where
 
 -- a log, by a redo thread from 1 to 4
 pub record LogRule (rs : List Record) (l : LogEntry) : Type 0 where
-  pub id : IdRule rs l.id 5 7 9
+  pub id : IdRule rs 4 l.id
   pub size : l.size ≤ most_bytes
   pub thread : (1 ≤ l.thread) × (l.thread ≤ 4)
   pub sequence : 1 ≤ l.sequence
@@ -72,7 +78,7 @@ pub record IsTag (tag : List ℕ) : Type 0 where
 
 -- a piece
 pub record PieceRule (rs : List Record) (p : PieceEntry) : Type 0 where
-  pub id : IdRule rs p.id 4 7 9
+  pub id : IdRule rs 5 p.id
   pub size : p.size ≤ most_bytes
   pub end : IsSomeAnd (incarnation p.inc rs) (λ i. p.high ≤ i.end)
   pub file : IsSomeAnd (datafile p.file rs) (FitsDatafile rs p)

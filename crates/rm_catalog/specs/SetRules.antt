@@ -43,7 +43,7 @@ pub record PartsRule (rs : List Record) (s : SetEntry) (parts : List SetPart) : 
 
 -- a set
 pub record SetRule (rs : List Record) (s : SetEntry) : Type 0 where
-  pub id : IdRule rs s.id 4 5 7
+  pub id : IdRule rs 9 s.id
   pub size : s.size ≤ most_bytes
   pub checkpoint : 1 ≤ s.checkpoint
   pub parts : PartsRule rs s s.parts

@@ -2,7 +2,7 @@
 ghost use Rattle.std.specs.Prelude.{◌≡◌, ◌<◌, ◌≤◌, ◌+◌, [], ◌∷◌, ◌++◌, List, IfOk, OnOk, OnErr, IfSome, IfNone, All, reverse};
 ghost use Rattle.std.specs.Vec.{vec_len, vec_capacity};
 ghost use Rattle.rm_catalog.specs.declared.record.Record.{Record};
-ghost use Rattle.rm_catalog.specs.Keys.{place_of, InOrder};
+ghost use Rattle.rm_catalog.specs.Keys.{place_of, Ascends, InOrder};
 ghost use Rattle.rm_catalog.specs.Edits.{place_of_edit, below, after_edit, after_edits};
 ghost use Rattle.rm_catalog.specs.Passes.{EditsInOrder, IsReady, HasMade};
 
@@ -125,6 +125,7 @@ pub fn make(records: &mut Vec<Record>, edits: Vec<Edit>) -> Result<(), NoMemory>
     ensures ok { OnOk result (records.new.items ≡ after_edits edits.items records.old.items) }
     ensures err { OnErr result (records.new.items ≡ records.old.items) }
     ensures order { InOrder records.new.items }
+    ensures ascends { Ascends records.old.items → Ascends records.new.items }
 {
     let alloc = *records.allocator();
     let mut edits = by_place(edits)?;
@@ -141,6 +142,7 @@ pub fn apply(records: &mut Vec<Record>, edits: &[Edit]) -> Result<(), NoMemory>
     ensures ok { OnOk result (records.new.items ≡ after_edits edits.now records.old.items) }
     ensures err { OnErr result (records.new.items ≡ records.old.items) }
     ensures order { InOrder records.new.items }
+    ensures ascends { Ascends records.old.items → Ascends records.new.items }
 {
     let edits = copies::edits(*records.allocator(), edits)?;
     make(records, edits)

@@ -1,10 +1,10 @@
 //! Where the records of a database are kept between sessions.
-ghost use Rattle.std.specs.Prelude.{◌≡◌, ◌↔◌, ◌≤◌, [], ℕ, List, Option, Some, map, IfOk, OnOk, OnErr, IsErrOf};
+ghost use Rattle.std.specs.Prelude.{◌≡◌, ◌↔◌, ◌≤◌, [], ℕ, List, Option, Some, map, IfOk, IfSome, OnOk, OnErr, IsErrOf};
 ghost use Rattle.std.specs.Option.{option_map};
 ghost use Rattle.rm_base.specs.Outside.{Rose};
 ghost use Rattle.rm_catalog.specs.declared.record.Record.{Record};
 ghost use Rattle.rm_catalog.specs.declared.record.Edit.TheVariants.{Put};
-ghost use Rattle.rm_catalog.specs.Keys.{InOrder};
+ghost use Rattle.rm_catalog.specs.Keys.{Ascends};
 ghost use Rattle.rm_catalog.specs.Edits.{after_edits};
 ghost use Rattle.rm_catalog.specs.Faults.{Answers};
 
@@ -34,7 +34,8 @@ impl From<NoMemory> for KeeperFail {
 pub trait Keeper {
     ghost use Rattle.rm_catalog.specs.declared.keeper.KeeperFail.TheVariants.{Failed};
 
-    /// The records that are kept, ascending by kind and then id, where the keeper tells them.
+    /// The records that are kept, where the keeper tells them: a finite map, as a list that ascends by kind
+    /// and then id with each key once.
     ghost kept: { Self → Option (List Record) };
 
     /// How often it has failed. At 2^64 - 1 it stands still.
@@ -43,6 +44,7 @@ pub trait Keeper {
     /// The records, each once, in any order.
     fn load(&mut self) -> Result<Seq<Record>, KeeperFail>
         ensures records { IfOk result (λ rs. Answers (kept self.old) rs) }
+        ensures ascends { IfOk result (λ _. IfSome (kept self.old) Ascends) }
         ensures same { kept self.new ≡ kept self.old }
         ensures failed { IsErrOf result Failed → Rose (faults self.old) (faults self.new) }
         ensures never_falls { faults self.old ≤ faults self.new };
@@ -62,7 +64,7 @@ pub struct MemKeeper {
     records: Vec<Record>,
     loads: Failing,
     applies: Failing,
-    ghost order: { InOrder records.items },
+    ghost ascends: { Ascends records.items },
 }
 
 // Puts of these records.
@@ -111,6 +113,7 @@ impl Keeper for MemKeeper {
 
     fn load(&mut self) -> Result<Seq<Record>, KeeperFail>
         ensures records { IfOk result (λ rs. Answers (Some (kept_records self.old)) rs) }
+        ensures ascends { IfOk result (λ _. IfSome (Some (kept_records self.old)) Ascends) }
         ensures same { Some (kept_records self.new) ≡ Some (kept_records self.old) }
         ensures failed { IsErrOf result Failed → Rose (faults_in self.old) (faults_in self.new) }
         ensures never_falls { faults_in self.old ≤ faults_in self.new }

@@ -1,8 +1,8 @@
 //! The rules of logs and pieces.
-ghost use Rattle.std.specs.Prelude.{◌≡◌, ◌<◌, ◌≤◌, IsTrue, IsSomeAnd, ◌↔◌};
+ghost use Rattle.std.specs.Prelude.{◌≡◌, ◌<◌, ◌≤◌, All, IsTrue, IsSomeAnd, ◌↔◌};
 ghost use Rattle.std.specs.List.{list_all};
 ghost use Rattle.rm_catalog.specs.Keys.{InOrder, base, incarnation, datafile};
-ghost use Rattle.rm_catalog.specs.Objects.{IdRule, IsRange, LogRule, owner_in, FitsRows, FitsKind, FitsDatafile, is_tag_byte, IsTag, PieceRule};
+ghost use Rattle.rm_catalog.specs.Objects.{IdRule, IsFree, IsRange, LogRule, owner_in, FitsRows, FitsKind, FitsDatafile, is_tag_byte, IsTag, PieceRule};
 
 use crate::find::{base, datafile, incarnation, is_there};
 use crate::record::{DatafileEntry, LogEntry, PieceEntry, Record};
@@ -10,6 +10,9 @@ use rm_base::{IncNo, Kind, Scn, ThreadNo};
 
 /// The most bytes of an object, 2^28.
 pub const MOST_BYTES: u64 = 268_435_456;
+
+// The kinds of records whose ids are those of objects: logs, pieces, the parts of a saved site, and sets.
+const ID_KINDS: [u8; 4] = [4, 5, 7, 9];
 
 // Whether the id is below the next one.
 fn is_below_next(records: &[Record], id: u32) -> bool
@@ -22,16 +25,33 @@ fn is_below_next(records: &[Record], id: u32) -> bool
     }
 }
 
-/// Whether an object id obeys. The other kinds of objects are `second`, `third` and `fourth`.
-pub fn id_obeys(records: &[Record], id: u32, second: u8, third: u8, fourth: u8) -> bool
+// Whether the kind is the record's own, or no record of it has the id.
+fn is_free(records: &[Record], kind: u8, id: u32, other: u8) -> bool
     requires { InOrder records.now }
-    ensures { IsTrue result ↔ IdRule records.now id second third fourth }
+    ensures { IsTrue result ↔ IsFree records.now kind id other }
 {
-    1 <= id
-        && is_below_next(records, id)
-        && !is_there(records, second, id)
-        && !is_there(records, third, id)
-        && !is_there(records, fourth, id)
+    other == kind || !is_there(records, other, id)
+}
+
+// Whether no record of one of these kinds, but for the record's own, has the id.
+fn are_free(records: &[Record], kind: u8, id: u32, others: &[u8]) -> bool
+    requires { InOrder records.now }
+    ensures { IsTrue result ↔ All (IsFree records.now kind id) others.now }
+{
+    for other in others {
+        if !is_free(records, kind, id, *other) {
+            return false;
+        }
+    }
+    true
+}
+
+/// Whether the id of a record of this kind, which is one of an object, obeys.
+pub fn id_obeys(records: &[Record], kind: u8, id: u32) -> bool
+    requires { InOrder records.now }
+    ensures { IsTrue result ↔ IdRule records.now kind id }
+{
+    1 <= id && is_below_next(records, id) && are_free(records, kind, id, &ID_KINDS)
 }
 
 /// Whether the number is one that a redo thread may have.
@@ -57,7 +77,7 @@ pub fn log_obeys(records: &[Record], l: &LogEntry) -> bool
     requires { InOrder records.now }
     ensures { IsTrue result ↔ LogRule records.now l.now }
 {
-    id_obeys(records, l.id, 5, 7, 9)
+    id_obeys(records, 4, l.id)
         && l.size <= MOST_BYTES
         && is_thread(l.thread)
         && 1 <= l.sequence
@@ -154,7 +174,7 @@ pub fn piece_obeys(records: &[Record], p: &PieceEntry) -> bool
     requires { InOrder records.now }
     ensures { IsTrue result ↔ PieceRule records.now p.now }
 {
-    id_obeys(records, p.id, 4, 7, 9)
+    id_obeys(records, 5, p.id)
         && p.size <= MOST_BYTES
         && 1 <= p.checkpoint
         && p.checkpoint <= p.high

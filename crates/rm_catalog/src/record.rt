@@ -290,8 +290,8 @@ impl Record {
         Key { kind, id }
     }
 
-    // The record's key as one number, by kind and then by id.
-    pub(crate) fn place(&self) -> u64
+    /// The record's key as one number, by kind and then by id.
+    pub fn place(&self) -> u64
         ensures is { result ≡ place_of self.now }
         ensures small { result < 2 ^ 63 }
     {

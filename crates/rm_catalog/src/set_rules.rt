@@ -84,7 +84,7 @@ pub fn set_obeys(records: &[Record], s: &SetEntry) -> bool
     requires { InOrder records.now }
     ensures { IsTrue result ↔ SetRule records.now s.now }
 {
-    id_obeys(records, s.id, 4, 5, 7)
+    id_obeys(records, 9, s.id)
         && s.size <= MOST_BYTES
         && 1 <= s.checkpoint
         && is_tag(s.tag.as_bytes())

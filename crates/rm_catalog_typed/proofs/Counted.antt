@@ -1,6 +1,6 @@
 -- Counts and sums over the records of a ledger.
 use Rattle.std.proofs.Common.{◌≡◌, ◌∙◌, ℕ, zero, suc, ◌+◌, ◌<◌, ◌≤◌, Bool, true, false, cond, ltb, leb, List, [], ◌∷◌, ◌++◌, length, map, slice_get, Some, refl, ap, sym, arith, eq-eqb, le-ltb}
-use Rattle.std.specs.Prelude.{◌&&◌, Contains, IsTrue, count_by, sum_by}
+use Rattle.std.specs.Prelude.{Contains, IsTrue, count_by, sum_by}
 use Rattle.std.specs.List.{list_any}
 use Rattle.std.proofs.lemmas.Option.{slice_get-get_or}
 use Rattle.std.proofs.lemmas.List.Folds.{list_any_at}
@@ -11,7 +11,7 @@ use Rattle.rm_catalog.specs.declared.record.Record.{Record}
 use Rattle.rm_catalog.specs.declared.record.Record.TheVariants as kind
 use Rattle.rm_catalog.specs.Keys.{place, place_of}
 use Rattle.rm_catalog.specs.Facts.{is_mark_of, blocks_to}
-use Rattle.rm_catalog.specs.Rules.{IsOnce, IsAmongFirst, is_lasting}
+use Rattle.rm_catalog.specs.Rules.{IsOnce, IsAmongFirst, lasts_below}
 use Rattle.rm_catalog.proofs.Found.{differ}
 use Rattle.rm_catalog.proofs.Counts.{alike, alike_count}
 use Rattle.rm_catalog.proofs.Unique.{Rises, all_above}
@@ -68,11 +68,11 @@ count-short p (y ∷ ys) x (suc k, lt, is) fails =
     at-most-one true = omega arith
     at-most-one false = omega arith
 
-pub record-few : (l : Ledger) (r : Record) → IsLedger l → Contains (ledger_records l) r → IsAmongFirst (place_of r) (ledger_records l)
+pub record-few : (l : Ledger) (r : Record) → IsLedger l → Contains (ledger_records l) r → IsAmongFirst r (ledger_records l)
 record-few l r is has = record {
   few = λ lasting.
-      let fails : (is_lasting (place_of r) && ltb (place_of r) (place_of r)) ≡ false = rw (lasting, le-ltb (place_of r) (place_of r) (omega arith)) in
-      let short = count-short (λ (x : Record). is_lasting (place_of x) && ltb (place_of x) (place_of r)) (ledger_records l) r has fails in
+      let fails : lasts_below (place_of r) r ≡ false = rw (lasting, le-ltb (place_of r) (place_of r) (omega arith)) in
+      let short = count-short (lasts_below (place_of r)) (ledger_records l) r has fails in
       let most = is.few in
       omega arith;
 }

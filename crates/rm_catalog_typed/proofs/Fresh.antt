@@ -7,14 +7,15 @@ use Rattle.rm_base.specs.declared.block.Mark.{Mark}
 use Rattle.rm_catalog.specs.declared.record.LogEntry.{LogEntry}
 use Rattle.rm_catalog.specs.declared.record.PieceEntry.{PieceEntry}
 use Rattle.rm_catalog.specs.declared.record.SetEntry.{SetEntry}
+use Rattle.rm_history.specs.declared.tree.Incarnation.{Incarnation}
 use Rattle.rm_history.specs.Tree.{IsThere, reset_of, end_of, branched}
 use Rattle.rm_base.proofs.Members.{none-in, in-front}
 use Rattle.rm_catalog_typed.specs.LedgerFacts.{IsLedger, AreIncarnations, IsCreated, IsLogEntry, IsPieceEntry, IsSetEntry, AreMarks, IsMark}
 use Rattle.rm_catalog_typed.specs.Fresh.{fresh}
 
--- only the first incarnation is there
-only_first : (scn i : ℕ) → IsThere (branched 0 scn ∷ []) i → i ≡ 1
-only_first scn i there = let up = there.0 in let inside = there.1 in omega arith
+-- one incarnation alone: no other is there
+pub only_first : (n : Incarnation) (i : ℕ) → IsThere (n ∷ []) i → i ≡ 1
+only_first n i there = let up = there.0 in let inside = there.1 in omega arith
 
 -- no two of one
 pairs_one : {A : Type 0} (R : A → A → Type 0) (x : A) → AllPairs R (x ∷ [])
@@ -23,23 +24,24 @@ pairs_one R x i j d less inside = absurd (omega arith)
 pairs_none : {A : Type 0} (R : A → A → Type 0) → AllPairs R []
 pairs_none R i j d less inside = absurd (omega arith)
 
-fresh_incarnations : (scn : ℕ) → 1 ≤ scn → scn ≤ last_scn → AreIncarnations (branched 0 scn ∷ [])
-fresh_incarnations scn some most = record {
+pub one_incarnation : (n : Incarnation) → n.parent ≡ 0 → 1 ≤ n.reset → n.reset ≤ n.end → n.end ≤ last_scn → AreIncarnations (n ∷ [])
+one_incarnation n none some order most = record {
   some = omega arith;
   few = omega arith;
-  first = refl;
+  first = none;
   branches = λ i later inside. absurd (omega arith);
-  ranges = λ i there. subst (λ (k : ℕ). (1 ≤ reset_of (branched 0 scn ∷ []) k) × (reset_of (branched 0 scn ∷ []) k ≤ end_of (branched 0 scn ∷ []) k) × (end_of (branched 0 scn ∷ []) k ≤ last_scn)) (sym (only_first scn i there)) (some, omega arith, most);
+  ranges = λ i there. subst (λ (k : ℕ). (1 ≤ reset_of (n ∷ []) k) × (reset_of (n ∷ []) k ≤ end_of (n ∷ []) k) × (end_of (n ∷ []) k ≤ last_scn)) (sym (only_first n i there)) (some, order, most);
 }
 
-fresh_marks : (scn moment : ℕ) → AreMarks (branched 0 scn ∷ []) moment (record { moment = moment; inc = 1; scn = scn } ∷ [])
-fresh_marks scn moment =
+-- with one mark at an SCN of its own
+pub one_mark : (n : Incarnation) (scn moment : ℕ) → n.reset ≤ scn → scn ≤ n.end → AreMarks (n ∷ []) moment (record { moment = moment; inc = 1; scn = scn } ∷ [])
+one_mark n scn moment low high =
     let m : Mark = record { moment = moment; inc = 1; scn = scn } in
-    let tree = branched 0 scn ∷ [] in
+    let tree = n ∷ [] in
     record {
-      each = All-cons (IsMark tree moment) m [] (record { there = (omega arith, omega arith); scn = (omega arith, omega arith); moment = omega arith }) (All-nil (IsMark tree moment));
+      each = All-cons (IsMark tree moment) m [] (record { there = (omega arith, omega arith); scn = (low, high); moment = omega arith }) (All-nil (IsMark tree moment));
       rise = pairs_one (λ (a b : Mark). a.moment ≤ b.moment) m;
-      some = λ i there. (m, in-front m [], sym (only_first scn i there));
+      some = λ i there. (m, in-front m [], sym (only_first n i there));
     }
 
 pub fresh_is_ledger : (dbid threads scn moment : ℕ) → 1 ≤ dbid → 1 ≤ threads → threads ≤ 4 → 1 ≤ scn → scn ≤ last_scn → moment ≤ last_moment → IsLedger (fresh dbid threads scn moment)
@@ -48,7 +50,7 @@ fresh_is_ledger dbid threads scn moment one some four from most late =
     record {
       base = record { dbid = one; threads = (some, four); next_id = (omega arith, omega arith); moment = late; policy = (omega arith, omega arith); parallelism = (omega arith, omega arith) };
       current = (omega arith, omega arith);
-      incarnations = fresh_incarnations scn from most;
+      incarnations = one_incarnation (branched 0 scn) refl from (omega arith) most;
       datafiles = record { each = All-nil (IsCreated tree); few = omega arith; room = omega arith };
       logs = All-nil (IsLogEntry tree);
       pieces = All-nil (IsPieceEntry tree []);
@@ -64,7 +66,7 @@ fresh_is_ledger dbid threads scn moment one some four from most late =
         logs_apart = λ l e has. absurd (none-in l has);
         pieces_apart = λ p e has. absurd (none-in p has);
       };
-      marks = fresh_marks scn moment;
+      marks = one_mark (branched 0 scn) scn moment (omega arith) (omega arith);
       switches = λ k x is. absurd cc;
       few = omega arith;
     }

@@ -12,21 +12,25 @@ use Rattle.rm_catalog.specs.declared.record.SetPart.{SetPart}
 use Rattle.rm_catalog.specs.Keys.{datafile}
 use Rattle.rm_catalog.specs.Objects.{IdRule, IsRange, LogRule, FitsDatafile, PieceRule}
 use Rattle.rm_catalog.specs.SetRules.{FitsSetFile, SetPartRule, SetRule}
+use Rattle.rm_catalog.proofs.ByKinds.{all-free, own-free}
 use Rattle.rm_catalog_typed.specs.Ledger.{Ledger, ledger_records}
 use Rattle.rm_catalog_typed.specs.LedgerFacts.{IsLedger, IsLogEntry, IsPieceEntry, IsSetEntry, IsSetPart}
 use Rattle.rm_catalog_typed.proofs.Lookups.{datafile_entry, datafile-found, log-id-within, no-log, no-part, no-piece, no-set, piece-id-within, set-id-within}
 use Rattle.rm_catalog_typed.proofs.Paths.{path-is}
 use Rattle.rm_catalog_typed.proofs.LedgerThings.{on-incarnation}
 
-log-id : (l : Ledger) (e : LogEntry) → IsLedger l → Contains l.logs e → IdRule (ledger_records l) e.id 5 7 9
+log-id : (l : Ledger) (e : LogEntry) → IsLedger l → Contains l.logs e → IdRule (ledger_records l) 4 e.id
 log-id l e is has =
     let within = log-id-within l e is has in
     record {
       number = within.0;
       below = within.1;
-      not_second = no-piece l e.id is within.1 (λ p other. is.ids.apart e p has other);
-      not_third = no-part l e.id;
-      not_fourth = no-set l e.id is within.1 (λ s other. is.ids.logs_apart e s has other);
+      free =
+          all-free (ledger_records l) 4 e.id
+          (own-free (ledger_records l) 4 e.id)
+          (λ _. no-piece l e.id is within.1 (λ p other. is.ids.apart e p has other))
+          (λ _. no-part l e.id)
+          (λ _. no-set l e.id is within.1 (λ s other. is.ids.logs_apart e s has other));
     }
 
 pub log-rule : (l : Ledger) (e : LogEntry) → IsLedger l → Contains l.logs e → LogRule (ledger_records l) e
@@ -40,15 +44,18 @@ log-rule l e is has =
       range = on-incarnation l e.inc (IsRange e) is f.there (record { first = f.range.0; some = f.range.1; next = f.range.2 });
     }
 
-piece-id : (l : Ledger) (p : PieceEntry) → IsLedger l → Contains l.pieces p → IdRule (ledger_records l) p.id 4 7 9
+piece-id : (l : Ledger) (p : PieceEntry) → IsLedger l → Contains l.pieces p → IdRule (ledger_records l) 5 p.id
 piece-id l p is has =
     let within = piece-id-within l p is has in
     record {
       number = within.0;
       below = within.1;
-      not_second = no-log l p.id is within.1 (λ e other same. is.ids.apart e p other has (sym same));
-      not_third = no-part l p.id;
-      not_fourth = no-set l p.id is within.1 (λ s other. is.ids.pieces_apart p s has other);
+      free =
+          all-free (ledger_records l) 5 p.id
+          (λ _. no-log l p.id is within.1 (λ e other same. is.ids.apart e p other has (sym same)))
+          (own-free (ledger_records l) 5 p.id)
+          (λ _. no-part l p.id)
+          (λ _. no-set l p.id is within.1 (λ s other. is.ids.pieces_apart p s has other));
     }
 
 -- what holds of a datafile of the list holds of its record
@@ -72,15 +79,18 @@ piece-rule l p is has =
       tag = f.tag;
     }
 
-set-id : (l : Ledger) (e : SetEntry) → IsLedger l → Contains l.sets e → IdRule (ledger_records l) e.id 4 5 7
+set-id : (l : Ledger) (e : SetEntry) → IsLedger l → Contains l.sets e → IdRule (ledger_records l) 9 e.id
 set-id l e is has =
     let within = set-id-within l e is has in
     record {
       number = within.0;
       below = within.1;
-      not_second = no-log l e.id is within.1 (λ x other same. is.ids.logs_apart x e other has (sym same));
-      not_third = no-piece l e.id is within.1 (λ p other same. is.ids.pieces_apart p e other has (sym same));
-      not_fourth = no-part l e.id;
+      free =
+          all-free (ledger_records l) 9 e.id
+          (λ _. no-log l e.id is within.1 (λ x other same. is.ids.logs_apart x e other has (sym same)))
+          (λ _. no-piece l e.id is within.1 (λ p other same. is.ids.pieces_apart p e other has (sym same)))
+          (λ _. no-part l e.id)
+          (own-free (ledger_records l) 9 e.id);
     }
 
 set-part-rule : (l : Ledger) (e : SetEntry) (p : SetPart) → IsLedger l → IsThere l.tree e.inc → IsSetPart l.tree l.files e p → SetPartRule (ledger_records l) e p

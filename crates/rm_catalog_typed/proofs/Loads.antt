@@ -16,6 +16,7 @@ use Rattle.rm_catalog.specs.declared.record.Record.{Record}
 use Rattle.rm_catalog.specs.declared.record.Record.TheVariants as records
 use Rattle.rm_catalog.specs.Keys.{base, base_in, head_in, part_in, place_of, set_in, switch_in}
 use Rattle.rm_catalog.specs.Rules.{IsCatalog, is_lasting}
+use Rattle.rm_catalog.proofs.ByKinds.{lasting-place}
 use Rattle.rm_catalog.proofs.Numbering.{rises_catalog}
 use Rattle.rm_base.proofs.Members.{none-in}
 use Rattle.rm_catalog.proofs.Unique.{Rises, all_above}
@@ -56,10 +57,6 @@ records-are rs b c is small =
     let told : records_of (typed_catalog_in b rs) ≡ by_kind rs = simp (append_assoc, bases, tree-told rs c, files-told rs c, marks-told rs c small, saved-are rs (map records.Set (filter_map set_in rs) ++ numbered switch_record 1 (map switched_by (filter_map switch_in rs))) c, switches-told rs c small) in
     told ∙ kinds 0 rs (rises_catalog rs c)
 
--- whether a record stands where none of a saved site does
-abbrev lasts : Record → Bool
-lasts r = is_lasting (place_of r)
-
 -- whether a record passes a test and stands below another one
 abbrev passes-below : (Record → Bool) → Record → Record → Bool
 passes-below p x q = p q && ltb (place_of q) (place_of x)
@@ -85,34 +82,34 @@ rises-under p low (r ∷ rs) k d up lt = decide (p r) k refl lt (λ j inside. ri
         let split = sum_by-cons (λ (q : Record). cond (passes-below p (get_or (filter p rs) k d) q) 1 0) r rs in
         omega arith
 
-place-lasts : (l : Ledger) (r : Record) → IsOwn l r → lasts r ≡ true
-place-lasts l r of = elim (apart-from-site l r of) [ inl low ↦ grind (arith, nat_tests) | inr late ↦ grind (arith, nat_tests) ]
+place-is_lasting : (l : Ledger) (r : Record) → IsOwn l r → is_lasting r ≡ true
+place-is_lasting l r of = lasting-place r ∙ elim (apart-from-site l r of) [ inl low ↦ grind (arith, nat_tests) | inr late ↦ grind (arith, nat_tests) ]
 
-site-goes : (o : Option Saved) → All (λ x. lasts x ≡ false) (saved_records o)
-site-goes None = All-nil (λ x. lasts x ≡ false)
-site-goes (Some s) = All-push (λ x. lasts x ≡ false) (map records.Part s.parts) (records.Head s.head) (All-map (λ x. lasts x ≡ false) records.Part s.parts (λ k d lt. grind (arith, nat_tests))) refl
+site-goes : (o : Option Saved) → All (λ x. is_lasting x ≡ false) (saved_records o)
+site-goes None = All-nil (λ x. is_lasting x ≡ false)
+site-goes (Some s) = All-push (λ x. is_lasting x ≡ false) (map records.Part s.parts) (records.Head s.head) (All-map (λ x. is_lasting x ≡ false) records.Part s.parts (λ k d lt. refl)) refl
 
 -- the records of a ledger are those that last
-lasting-records : (l : Ledger) (o : Option Saved) → filter lasts (front_records l ++ saved_records o ++ back_records l) ≡ ledger_records l
+lasting-records : (l : Ledger) (o : Option Saved) → filter is_lasting (front_records l ++ saved_records o ++ back_records l) ≡ ledger_records l
 lasting-records l o =
-    let all : All (λ x. lasts x ≡ true) (ledger_records l) = λ k d lt. let x = get_or (ledger_records l) k d in place-lasts l x (record-own l x (Contains-get_or (ledger_records l) k d lt)) in
-    filter-append lasts (front_records l ++ saved_records o) (back_records l)
-    ∙ ap (λ xs. xs ++ filter lasts (back_records l)) (filter-append lasts (front_records l) (saved_records o) ∙ ap (λ xs. filter lasts (front_records l) ++ xs) (filter_none lasts (saved_records o) (site-goes o)) ∙ append-nil (filter lasts (front_records l)))
-    ∙ sym (filter-append lasts (front_records l) (back_records l)) ∙ filter_all lasts (ledger_records l) all
+    let all : All (λ x. is_lasting x ≡ true) (ledger_records l) = λ k d lt. let x = get_or (ledger_records l) k d in place-is_lasting l x (record-own l x (Contains-get_or (ledger_records l) k d lt)) in
+    filter-append is_lasting (front_records l ++ saved_records o) (back_records l)
+    ∙ ap (λ xs. xs ++ filter is_lasting (back_records l)) (filter-append is_lasting (front_records l) (saved_records o) ∙ ap (λ xs. filter is_lasting (front_records l) ++ xs) (filter_none is_lasting (saved_records o) (site-goes o)) ∙ append-nil (filter is_lasting (front_records l)))
+    ∙ sym (filter-append is_lasting (front_records l) (back_records l)) ∙ filter_all is_lasting (ledger_records l) all
 
 -- of the records that last there are few
-few-records : (rs : List Record) (l : Ledger) → IsCatalog rs → filter lasts rs ≡ ledger_records l → length (ledger_records l) ≤ 65536
+few-records : (rs : List Record) (l : Ledger) → IsCatalog rs → filter is_lasting rs ≡ ledger_records l → length (ledger_records l) ≤ 65536
 few-records rs l c is =
-    let xs = filter lasts rs in
+    let xs = filter is_lasting rs in
     let long = ap length is in
     let d : Record = records.Base l.base in
     let k = length xs - 1 in
     let some : 0 < length (ledger_records l) = omega arith in
     let lt : k < length xs = omega arith in
     let y = get_or xs k d in
-    let kept = filter_from lasts rs y (Contains-get_or xs k d lt) in
+    let kept = filter_from is_lasting rs y (Contains-get_or xs k d lt) in
     let few = (obeys rs y c kept.0).few.few kept.1 in
-    let most = rises-under lasts 0 rs k d (rises_catalog rs c) lt in
+    let most = rises-under is_lasting 0 rs k d (rises_catalog rs c) lt in
     omega arith
 
 pub ledger-is : (rs : List Record) (b : BaseEntry) → IsCatalog rs → base rs ≡ Some b → AreSmall rs → b.next_id ≤ 4294967295 → IsLedger (ledger_in b rs)
@@ -129,5 +126,5 @@ ledger-is rs b c is small ids =
       ids = ids-fit rs b c is;
       marks = marks-fit rs b c is small;
       switches = switches-fit rs c small b is;
-      few = few-records rs (ledger_in b rs) c (ap (filter lasts) (sym (records-are rs b c is small)) ∙ lasting-records (ledger_in b rs) (typed_catalog_in b rs).saved);
+      few = few-records rs (ledger_in b rs) c (ap (filter is_lasting) (sym (records-are rs b c is small)) ∙ lasting-records (ledger_in b rs) (typed_catalog_in b rs).saved);
     }

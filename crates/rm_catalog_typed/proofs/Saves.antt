@@ -20,6 +20,7 @@ use Rattle.rm_base.proofs.Members.{in-front}
 use Rattle.rm_evidence.specs.Database.{datafiles}
 use Rattle.rm_evidence.proofs.Files.{file-number}
 use Rattle.rm_evidence.proofs.Found.{datafile-rule}
+use Rattle.rm_catalog.proofs.ByKinds.{free-in}
 use Rattle.rm_catalog.proofs.Telling.{record-told}
 use Rattle.rm_catalog_typed.specs.Facts.{AreApart, IsPartEntry, IsTypedCatalog, IsSaved}
 use Rattle.rm_catalog_typed.specs.Kinds.{AreSmall, ledger_in, typed_catalog_in, saved_in}
@@ -101,9 +102,12 @@ module _ (rs : List Record) (b : BaseEntry) (c : IsCatalog rs) (is : base rs ≡
   saved-is (h ∷ hs) there = record {
     parts = λ k d lt. part-fits (get_or (filter_map part_in rs) k d) (Contains-get_or (filter_map part_in rs) k d lt);
     apart = parts-apart;
-    logs = λ e p has other same. (log-rule rs e c has).id.not_third (has-key rs (records.Part p) 7 e.id c (made records.Part part_in 7 is-part rs p other) (ap (place 7) (sym same)));
-    pieces = λ e p has other same. (piece-rule rs e c has).id.not_third (has-key rs (records.Part p) 7 e.id c (made records.Part part_in 7 is-part rs p other) (ap (place 7) (sym same)));
-    sets = λ e p has other same. (set-rule rs e c has).id.not_fourth (has-key rs (records.Part p) 7 e.id c (made records.Part part_in 7 is-part rs p other) (ap (place 7) (sym same)));
+    logs = λ e p has other same.
+        free-in rs 4 e.id 7 (log-rule rs e c has).id refl refl (has-key rs (records.Part p) 7 e.id c (made records.Part part_in 7 is-part rs p other) (ap (place 7) (sym same)));
+    pieces = λ e p has other same.
+        free-in rs 5 e.id 7 (piece-rule rs e c has).id refl refl (has-key rs (records.Part p) 7 e.id c (made records.Part part_in 7 is-part rs p other) (ap (place 7) (sym same)));
+    sets = λ e p has other same.
+        free-in rs 9 e.id 7 (set-rule rs e c has).id refl refl (has-key rs (records.Part p) 7 e.id c (made records.Part part_in 7 is-part rs p other) (ap (place 7) (sym same)));
     point = λ some. key-there rs h.inc c ((head-rule rs h c (there h (in-front h hs))).point some);
   }
 

@@ -27,6 +27,7 @@ use Rattle.rm_catalog.specs.Objects.{IsRange, FitsDatafile}
 use Rattle.rm_catalog.specs.Rules.{IsCatalog}
 use Rattle.rm_catalog.specs.SetRules.{FitsSetFile, SetPartRule}
 use Rattle.rm_catalog.specs.Trees.{nodes}
+use Rattle.rm_catalog.proofs.ByKinds.{free-in}
 use Rattle.rm_catalog.proofs.Trees.{path_is}
 use Rattle.rm_evidence.specs.Database.{created_by, datafiles}
 use Rattle.rm_evidence.proofs.Files.{entries, datafiles-are, entry-is}
@@ -157,10 +158,11 @@ module _ (rs : List Record) (b : BaseEntry) (c : IsCatalog rs) (is : base rs ≡
     pieces_ascend = told-in-order records.Piece piece_in 5 is-piece (λ p. p.id) (λ p. refl) rs c;
     sets_ascend = told-in-order records.Set set_in 9 is-set (λ e. e.id) (λ e. refl) rs c;
     apart = λ e p has other same.
-        (log-rule rs e c has).id.not_second (has-key rs (records.Piece p) 5 e.id c (made records.Piece piece_in 5 is-piece rs p other) (ap (place 5) (sym same)));
-    logs_apart = λ e s has other same. (log-rule rs e c has).id.not_fourth (has-key rs (records.Set s) 9 e.id c (made records.Set set_in 9 is-set rs s other) (ap (place 9) (sym same)));
+        free-in rs 4 e.id 5 (log-rule rs e c has).id refl refl (has-key rs (records.Piece p) 5 e.id c (made records.Piece piece_in 5 is-piece rs p other) (ap (place 5) (sym same)));
+    logs_apart = λ e s has other same.
+        free-in rs 4 e.id 9 (log-rule rs e c has).id refl refl (has-key rs (records.Set s) 9 e.id c (made records.Set set_in 9 is-set rs s other) (ap (place 9) (sym same)));
     pieces_apart = λ p s has other same.
-        (piece-rule rs p c has).id.not_fourth (has-key rs (records.Set s) 9 p.id c (made records.Set set_in 9 is-set rs s other) (ap (place 9) (sym same)));
+        free-in rs 5 p.id 9 (piece-rule rs p c has).id refl refl (has-key rs (records.Set s) 9 p.id c (made records.Set set_in 9 is-set rs s other) (ap (place 9) (sym same)));
   }
 
   -- the marks

@@ -44,6 +44,19 @@ parents_below tree are i some = elim (cases_lt (length tree) i) [
   ]
 ]
 
+-- incarnations begin where the first one does, or above
+pub first-begins : (tree : List Incarnation) → AreIncarnations tree → (most i : ℕ) → i ≤ most → IsThere tree i → reset_of tree 1 ≤ reset_of tree i
+first-begins tree are zero i few there = let some = there.0 in absurd (omega (arith, some, few))
+first-begins tree are (suc most) i few there = elim (cases_lt 1 i) [
+  | inl later ↦
+      let branch = are.branches i later there.1 in
+      let low = first-begins tree are most (parent_of tree i) (omega (arith, branch.parent.1, few)) (branch.parent.0, omega (arith, branch.parent.1, there.1)) in
+      omega (arith, low, branch.reset)
+  | inr first ↦
+      let one : 1 ≡ i = omega (arith, first, there.0) in
+      subst (λ k. reset_of tree 1 ≤ reset_of tree k) one (omega arith)
+]
+
 -- No path but its own owns the end of an incarnation: what branched off it began at or below there.
 own-by : (tree : List Incarnation) (j : ℕ) → AreIncarnations tree → (most i : ℕ) → i ≤ most → IsThere tree i → owner tree i (end_of tree j) ≡ j → i ≡ j
 own-by tree j are zero i few there own = (let some = there.0 in absurd (omega (arith, some, few)))

@@ -1,6 +1,6 @@
 -- The records of a typed catalog are valid: those of a saved site stand among the others, of which each rule holds as before.
 use Rattle.std.proofs.Common.{◌≡◌, ◌≢◌, ◌∙◌, ℕ, zero, suc, ◌+◌, ◌-◌, ◌<◌, ◌≤◌, ◌==◌, ◌⊎◌, inl, inr, Bool, false, true, cond, leb, List, [], ◌∷◌, ◌++◌, map, get_or, length, Option, Some, None, refl, ap, slice_get, sym, subst, arith, All, AllPairs, Contains, eq-eqb}
-use Rattle.std.specs.Prelude.{IfSome, IsSome, IsSomeAnd, MatchBool, ◌&&◌, ◌||◌, count_by, nat_lt, option_and_then, sum_by}
+use Rattle.std.specs.Prelude.{IfSome, IsSome, IsSomeAnd, MatchBool, ◌&&◌, ◌||◌, count_by, nat_le, nat_lt, option_and_then, sum_by}
 use Rattle.std.specs.List.{list_any}
 use Rattle.std.specs.Option.{option_map_or}
 use Rattle.std.proofs.lemmas.Bool.{and_parts, cases_Bool, cases_eq, eqb-true, false_from_ne_true, ne_eqb, true≢false}
@@ -21,12 +21,13 @@ use Rattle.rm_catalog.specs.Facts.{BeginsOn, IsCreatedOn, IsWithin, blocks_to, i
 use Rattle.rm_catalog.specs.Keys.{place, place_of, at, datafile, datafile_in, incarnation, incarnation_in, mark_in, part_in}
 use Rattle.rm_catalog.specs.Keys.{IsThere as HasKey}
 use Rattle.rm_catalog.specs.Objects.{FitsDatafile, IsRange, owner_in}
-use Rattle.rm_catalog.specs.Rules.{IsAmongFirst, IsCatalog, Obeys, OwnRule, is_lasting}
+use Rattle.rm_catalog.specs.Rules.{IsAmongFirst, IsCatalog, Obeys, OwnRule, is_lasting, lasts_below}
 use Rattle.rm_catalog.specs.Saved.{HeadRule, NamesOne, PartRule, is_part_of}
 use Rattle.rm_catalog.specs.SetRules.{FitsSetFile, SetPartRule}
 use Rattle.rm_catalog.specs.Switches.{IsAt, SwitchRule}
 use Rattle.rm_catalog.proofs.Counts.{alike_count}
 use Rattle.rm_catalog.proofs.Filters.{filter_none}
+use Rattle.rm_catalog.proofs.ByKinds.{all-free, free-in, lasting-place, own-free}
 use Rattle.rm_catalog.proofs.Told.{at_here, at_past}
 use Rattle.rm_base.proofs.Members.{in-front, none-in}
 use Rattle.rm_base.proofs.Lists.{map_from}
@@ -290,9 +291,12 @@ module _ (r : TypedCatalog) (is : IsTypedCatalog r) where
     id = record {
       number = was.id.number;
       below = was.id.below;
-      not_second = no-key 5 e.id (inl (omega arith)) was.id.not_second;
-      not_third = no-part-of_log e (log-in r e is (ledger-has r (kind.Log e) has));
-      not_fourth = no-key 9 e.id (inr (omega arith)) was.id.not_fourth;
+      free =
+          all-free (records_of r) 4 e.id
+          (own-free (records_of r) 4 e.id)
+          (λ _. no-key 5 e.id (inl (omega arith)) (free-in own-records 4 e.id 5 was.id refl refl))
+          (λ _. no-part-of_log e (log-in r e is (ledger-has r (kind.Log e) has)))
+          (λ _. no-key 9 e.id (inr (omega arith)) (free-in own-records 4 e.id 9 was.id refl refl));
     };
     size = was.size;
     thread = was.thread;
@@ -303,9 +307,12 @@ module _ (r : TypedCatalog) (is : IsTypedCatalog r) where
     id = record {
       number = was.id.number;
       below = was.id.below;
-      not_second = no-key 4 p.id (inl (omega arith)) was.id.not_second;
-      not_third = no-part-of_piece p (piece-in r p is (ledger-has r (kind.Piece p) has));
-      not_fourth = no-key 9 p.id (inr (omega arith)) was.id.not_fourth;
+      free =
+          all-free (records_of r) 5 p.id
+          (λ _. no-key 4 p.id (inl (omega arith)) (free-in own-records 5 p.id 4 was.id refl refl))
+          (own-free (records_of r) 5 p.id)
+          (λ _. no-part-of_piece p (piece-in r p is (ledger-has r (kind.Piece p) has)))
+          (λ _. no-key 9 p.id (inr (omega arith)) (free-in own-records 5 p.id 9 was.id refl refl));
     };
     size = was.size;
     end = on-told incarnation_in (place 2 p.inc) (omega arith) (λ i. p.high ≤ i.end) was.end;
@@ -326,9 +333,12 @@ module _ (r : TypedCatalog) (is : IsTypedCatalog r) where
     id = record {
       number = was.id.number;
       below = was.id.below;
-      not_second = no-key 4 e.id (inl (omega arith)) was.id.not_second;
-      not_third = no-key 5 e.id (inl (omega arith)) was.id.not_third;
-      not_fourth = no-part-of_set e (set-in r e is (ledger-has r (kind.Set e) has));
+      free =
+          all-free (records_of r) 9 e.id
+          (λ _. no-key 4 e.id (inl (omega arith)) (free-in own-records 9 e.id 4 was.id refl refl))
+          (λ _. no-key 5 e.id (inl (omega arith)) (free-in own-records 9 e.id 5 was.id refl refl))
+          (λ _. no-part-of_set e (set-in r e is (ledger-has r (kind.Set e) has)))
+          (own-free (records_of r) 9 e.id);
     };
     size = was.size;
     checkpoint = was.checkpoint;
@@ -375,9 +385,12 @@ module _ (r : TypedCatalog) (is : IsTypedCatalog r) where
         id = record {
           number = fits.id.0;
           below = fits.id.1;
-          not_second = no-key 4 p.id (inl (omega arith)) (no-log r.ledger p.id is.ledger fits.id.1 (λ e other same. saved.logs e p other has (sym same)));
-          not_third = no-key 5 p.id (inl (omega arith)) (no-piece r.ledger p.id is.ledger fits.id.1 (λ e other same. saved.pieces e p other has (sym same)));
-          not_fourth = no-key 9 p.id (inr (omega arith)) (no-set r.ledger p.id is.ledger fits.id.1 (λ e other same. saved.sets e p other has (sym same)));
+          free =
+              all-free (records_of r) 7 p.id
+              (λ _. no-key 4 p.id (inl (omega arith)) (no-log r.ledger p.id is.ledger fits.id.1 (λ e other same. saved.logs e p other has (sym same))))
+              (λ _. no-key 5 p.id (inl (omega arith)) (no-piece r.ledger p.id is.ledger fits.id.1 (λ e other same. saved.pieces e p other has (sym same))))
+              (own-free (records_of r) 7 p.id)
+              (λ _. no-key 9 p.id (inr (omega arith)) (no-set r.ledger p.id is.ledger fits.id.1 (λ e other same. saved.sets e p other has (sym same))));
         };
         size = fits.size;
         head = subst (λ (o : Option Record). IsSome o) (sym (found (kind.Head s.head) (of-site s (kind.Head s.head) some (Contains-append_right (map kind.Part s.parts) (kind.Head s.head ∷ []) (kind.Head s.head) (in-front (kind.Head s.head) []))))) refl;
@@ -401,17 +414,20 @@ module _ (r : TypedCatalog) (is : IsTypedCatalog r) where
   own : (x : Record) → Contains (records_of r) x → OwnRule (records_of r) x
   own x has = elim (either-of r x has) [ inl here ↦ lifted x here (obeys-own x here).own | inr there ↦ site-rule r.saved x refl there ]
 
-  site-goes : (x : Record) → Contains site x → is_lasting (place_of x) ≡ false
-  site-goes x has = let w = All-contains (λ (y : Record). (place 7 0 ≤ place_of y) × (place_of y < place 9 0)) site x in-site has in grind (arith, nat_tests)
+  site-goes : (x : Record) → Contains site x → is_lasting x ≡ false
+  site-goes x has =
+      let w = All-contains (λ (y : Record). (place 7 0 ≤ place_of y) × (place_of y < place 9 0)) site x in-site has in
+      let low : (nat_lt (place_of x) (place 7 0) || nat_le (place 9 0) (place_of x)) ≡ false = grind (arith, nat_tests) in
+      lasting-place x ∙ low
 
-  few : (x : Record) → Contains (records_of r) x → IsAmongFirst (place_of x) (records_of r)
+  few : (x : Record) → Contains (records_of r) x → IsAmongFirst x (records_of r)
   few x has = record {
     few = λ lasting. elim (either-of r x has) [
       | inl here ↦
           let p = place_of x in
           let short = (obeys-own x here).few.few lasting in
-          let none : All (λ q. (is_lasting (place_of q) && nat_lt (place_of q) p) ≡ false) site = λ k d lt. rw (site-goes (get_or site k d) (Contains-get_or site k d lt)) in
-          let same = count-among (λ q. is_lasting (place_of q) && nat_lt (place_of q) p) (front_records r.ledger) site (back_records r.ledger) none in
+          let none : All (λ q. lasts_below p q ≡ false) site = λ k d lt. rw (site-goes (get_or site k d) (Contains-get_or site k d lt)) in
+          let same = count-among (lasts_below p) (front_records r.ledger) site (back_records r.ledger) none in
           omega arith
       | inr there ↦ absurd (let gone = site-goes x there in true≢false (sym lasting ∙ gone))
     ];

@@ -10,3 +10,4 @@ pub mod Places
 pub mod Starting
 pub mod Switches
 pub mod TypedCatalog
+pub mod Worlds

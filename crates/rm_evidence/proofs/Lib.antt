@@ -1,4 +1,5 @@
 pub mod Adding
+pub mod Contents
 pub mod Current
 pub mod DatabaseWorlds
 pub mod Extending

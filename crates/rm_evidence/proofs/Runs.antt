@@ -15,6 +15,7 @@ use Rattle.rm_catalog.specs.declared.record.Record.TheVariants as kind
 use Rattle.rm_catalog.specs.Keys.{place, place_of}
 use Rattle.rm_catalog.specs.Objects.{LogRule, PieceRule}
 use Rattle.rm_catalog.specs.Rules.{IsCatalog}
+use Rattle.rm_catalog.proofs.ByKinds.{free-in}
 use Rattle.rm_catalog.proofs.Numbering.{rises_catalog}
 use Rattle.rm_catalog.proofs.Told.{some_is}
 use Rattle.rm_catalog.proofs.Unique.{Rises, all_above}
@@ -59,17 +60,17 @@ module _ (rs : List Record) (c : IsCatalog rs) where
   log-piece : (l : LogEntry) (p : PieceEntry) → Contains rs (kind.Log l) → Contains rs (kind.Piece p) → l.id ≢ p.id
   log-piece l p has there one =
       let rule : LogRule rs l = (obeys rs (kind.Log l) c has).own in
-      rule.id.not_second (some_is rs (place 5 l.id) (kind.Piece p) there (ap (λ (n : ℕ). place 5 n) (sym one)))
+      free-in rs 4 l.id 5 rule.id refl refl (some_is rs (place 5 l.id) (kind.Piece p) there (ap (λ (n : ℕ). place 5 n) (sym one)))
 
   log-set : (l : LogEntry) (e : SetEntry) → Contains rs (kind.Log l) → Contains rs (kind.Set e) → l.id ≢ e.id
   log-set l e has there one =
       let rule : LogRule rs l = (obeys rs (kind.Log l) c has).own in
-      rule.id.not_fourth (some_is rs (place 9 l.id) (kind.Set e) there (ap (λ (n : ℕ). place 9 n) (sym one)))
+      free-in rs 4 l.id 9 rule.id refl refl (some_is rs (place 9 l.id) (kind.Set e) there (ap (λ (n : ℕ). place 9 n) (sym one)))
 
   piece-set : (p : PieceEntry) (e : SetEntry) → Contains rs (kind.Piece p) → Contains rs (kind.Set e) → p.id ≢ e.id
   piece-set p e has there one =
       let rule : PieceRule rs p = (obeys rs (kind.Piece p) c has).own in
-      rule.id.not_fourth (some_is rs (place 9 p.id) (kind.Set e) there (ap (λ (n : ℕ). place 9 n) (sym one)))
+      free-in rs 5 p.id 9 rule.id refl refl (some_is rs (place 9 p.id) (kind.Set e) there (ap (λ (n : ℕ). place 9 n) (sym one)))
 
   -- and two records of objects have, too
   pub apart : (x r : Record) (m n : ℕ) → Contains rs x → Contains rs r → place_of x < place_of r → object_id x ≡ Some m → object_id r ≡ Some n → m ≢ n
