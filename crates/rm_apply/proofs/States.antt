@@ -17,7 +17,7 @@ use Rattle.rm_plan.specs.Plan.{IsFileTarget}
 use Rattle.rm_apply.specs.Told.{IsTold}
 
 -- a list whose item k has the row of block b + k
-rows-are : (row : ℕ → Row) (b n : ℕ) (rows : List Row) → length rows ≡ n → ((k : ℕ) (r : Row) → slice_get rows k ≡ Some r → row (b + k) ≡ r) → rows ≡ rows_from row b n
+pub rows-are : (row : ℕ → Row) (b n : ℕ) (rows : List Row) → length rows ≡ n → ((k : ℕ) (r : Row) → slice_get rows k ≡ Some r → row (b + k) ≡ r) → rows ≡ rows_from row b n
 rows-are row b zero [] many each = refl
 rows-are row b zero (x ∷ xs) many each = absurd (omega (arith, many))
 rows-are row b (suc n) [] many each = absurd (omega (arith, many))

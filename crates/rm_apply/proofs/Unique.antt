@@ -12,7 +12,7 @@ use Rattle.rm_piece.specs.declared.piece.Piece.{Piece}
 use Rattle.rm_redo.specs.declared.log_file.LogFile.{LogFile}
 
 -- no two stand before each other
-abbrev IsOneWay : {X : Type 0} → (X → X → Type 0) → Type 0
+abbrev pub IsOneWay : {X : Type 0} → (X → X → Type 0) → Type 0
 IsOneWay {X} R = (x y : X) → R x y → R y x → ⊥
 
 by_id : {A : Type 0} → IsOneWay {X = ℕ × A} ById
@@ -24,15 +24,15 @@ by_id_and_file x y (inl less) (inr same) = let id = same.0 in omega (arith, less
 by_id_and_file x y (inr same) (inl more) = let id = same.0 in omega (arith, more, id)
 by_id_and_file x y (inr same) (inr also) = let less = same.1 in let more = also.1 in omega (arith, less, more)
 
-module _ {A : Type 0} (R : ℕ × A → ℕ × A → Type 0) (one-way : IsOneWay R) where
+module _ {X : Type 0} (R : X → X → Type 0) (one-way : IsOneWay R) where
   -- behind the first stands another item
-  not_behind : (x y p : ℕ × A) (xs : List (ℕ × A)) → AllPairs R (x ∷ xs) → y ≡ x → Contains xs p → y ≡ p → ⊥
+  not_behind : (x y p : X) (xs : List X) → AllPairs R (x ∷ xs) → y ≡ x → Contains xs p → y ≡ p → ⊥
   not_behind x y p xs up same has is =
-      let before : R x x = subst (λ (z : ℕ × A). R x z) (sym is ∙ same) (pairs-head R x xs p up has) in
+      let before : R x x = subst (λ (z : X). R x z) (sym is ∙ same) (pairs-head R x xs p up has) in
       one-way x x before before
 
   -- ascending lists with the same members are the same
-  same_members : (xs ys : List (ℕ × A)) → AllPairs R xs → AllPairs R ys → ((p : ℕ × A) → Contains xs p → Contains ys p) → ((p : ℕ × A) → Contains ys p → Contains xs p) → xs ≡ ys
+  pub same_members : (xs ys : List X) → AllPairs R xs → AllPairs R ys → ((p : X) → Contains xs p → Contains ys p) → ((p : X) → Contains ys p → Contains xs p) → xs ≡ ys
   same_members [] [] up down to from = refl
   same_members [] (y ∷ ys) up down to from = absurd (none-in y (from y (in-front y ys)))
   same_members (x ∷ xs) [] up down to from = absurd (none-in x (to x (in-front x xs)))
@@ -56,9 +56,10 @@ module _ {A : Type 0} (R : ℕ × A → ℕ × A → Type 0) (one-way : IsOneWay
         ]
       ]
 
+module _ {A : Type 0} (R : ℕ × A → ℕ × A → Type 0) (one-way : IsOneWay R) where
   lists_one : (first : List (ℕ × A)) (Is : ℕ → A → Type 0) (xs ys : List (ℕ × A)) → ListsBy A R first Is xs → ListsBy A R first Is ys → xs ≡ ys
   lists_one first Is xs ys one two =
-      one.list ∙ ap (λ rest. first ++ rest) (same_members one.rest two.rest one.ascends two.ascends
+      one.list ∙ ap (λ rest. first ++ rest) (same_members R one-way one.rest two.rest one.ascends two.ascends
       (λ p has. (two.exact p.0 p.1).1 ((one.exact p.0 p.1).0 has))
       (λ p has. (one.exact p.0 p.1).1 ((two.exact p.0 p.1).0 has)))
       ∙ sym two.list

@@ -38,7 +38,8 @@ use Rattle.rm_machine.specs.Damage.{has_block, has_file}
 use Rattle.rm_machine.specs.Effect.{Artefact, a_log, a_piece, a_set, Made}
 use Rattle.rm_machine.specs.Sound.{IsSound}
 use Rattle.rm_machine.specs.declared.state.State.{State}
-use Rattle.rm_machine.specs.State.{ledger, tree, world, database_of, current_of, now_of, placed, counted, online, is_lost}
+use Rattle.rm_machine.specs.State.{ledger, tree, world, current_of, now_of, placed, counted, online, is_lost}
+use Rattle.rm_catalog_typed.specs.Worlds.{database_of}
 
 pub record Machine : Type 0 where
   -- the database, where there is one

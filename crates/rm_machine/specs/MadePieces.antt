@@ -18,7 +18,8 @@ use Rattle.rm_machine.specs.Effect.{Made, a_piece}
 use Rattle.rm_machine.specs.Lists.{packing_by, shape_by}
 use Rattle.rm_machine.specs.declared.job.Job.{Job}
 use Rattle.rm_machine.specs.declared.state.State.{State}
-use Rattle.rm_machine.specs.State.{ledger, world_of}
+use Rattle.rm_machine.specs.State.{ledger}
+use Rattle.rm_catalog_typed.specs.Worlds.{world_of}
 
 -- by the records, the piece of a datafile of which these rows were read, with this checkpoint
 abbrev pub piece_by : Ledger → BackupForm → ℕ → Job → List Row → Piece

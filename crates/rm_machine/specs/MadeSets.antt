@@ -21,7 +21,8 @@ use Rattle.rm_machine.specs.Lists.{shape_by}
 use Rattle.rm_machine.specs.MadePieces.{piece_by}
 use Rattle.rm_machine.specs.declared.job.Job.{Job}
 use Rattle.rm_machine.specs.declared.state.State.{State}
-use Rattle.rm_machine.specs.State.{ledger, world_of}
+use Rattle.rm_machine.specs.State.{ledger}
+use Rattle.rm_catalog_typed.specs.Worlds.{world_of}
 
 -- By the records, the member of a datafile of which these rows were read, with this checkpoint. A row that is not above the creation
 -- counts as the zero row at the creation.

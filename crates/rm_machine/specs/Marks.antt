@@ -11,7 +11,8 @@ use Rattle.rm_catalog_typed.specs.Ledger.{Ledger, ledger_records}
 use Rattle.rm_catalog_typed.specs.Changes.{with_end_at}
 use Rattle.rm_catalog_typed.specs.TypedCatalog.{TypedCatalog}
 use Rattle.rm_machine.specs.declared.state.State.{State}
-use Rattle.rm_machine.specs.State.{ledger, current_of, now_of, world_of}
+use Rattle.rm_machine.specs.State.{ledger, current_of, now_of}
+use Rattle.rm_catalog_typed.specs.Worlds.{world_of}
 
 -- the moment of the last mark, 0 before the first
 abbrev pub last_marked : ℕ → List Mark → ℕ

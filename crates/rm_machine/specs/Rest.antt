@@ -15,7 +15,7 @@ use Rattle.rm_machine.specs.Loading.{IsLoaded}
 use Rattle.rm_machine.specs.Machine.{HaveArtefacts, HoldsUnder, IsTrueArtefact, Machine}
 use Rattle.rm_machine.specs.Saved.{IsOfPart, spelling_of}
 use Rattle.rm_machine.specs.declared.state.State.{State}
-use Rattle.rm_machine.specs.State.{world_of}
+use Rattle.rm_catalog_typed.specs.Worlds.{world_of}
 
 pub record Rest : Type 0 where
   -- the records of the database, where there is one

@@ -9,8 +9,7 @@ use Rattle.rm_history.specs.declared.world.World.{World}
 use Rattle.rm_history.specs.Tree.{end_of}
 use Rattle.rm_history.specs.World.{file_of, exists}
 use Rattle.rm_catalog_typed.specs.Ledger.{Ledger}
-use Rattle.rm_catalog_typed.specs.Switches.{switches_of}
-use Rattle.rm_evidence.specs.Database.{Database}
+use Rattle.rm_catalog_typed.specs.Worlds.{world_of}
 use Rattle.rm_redo.specs.declared.log_file.LogFile.{LogFile}
 use Rattle.rm_redo.specs.LogFile.{log_file_of}
 use Rattle.rm_redo.specs.Logs.{Logs}
@@ -27,13 +26,6 @@ abbrev pub tree : State → List Incarnation
 tree s = s.catalog.ledger.tree
 
 -- the database as recovery knows it
-abbrev pub world_of : Ledger → World
-world_of l = record { tree = l.tree; threads = l.base.threads; switches = switches_of l; files = l.files }
-
--- the database with which the objects of its sets are compared
-abbrev pub database_of : Ledger → Database
-database_of l = record { dbid = l.base.dbid; files = l.files }
-
 abbrev pub world : State → World
 world s = world_of (ledger s)
 

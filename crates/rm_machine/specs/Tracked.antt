@@ -8,7 +8,8 @@ use Rattle.rm_track.specs.Bitmaps.{Bitmap, Tracked, fresh, switch_at, tracked_at
 use Rattle.rm_track.specs.Told.{starts}
 use Rattle.rm_catalog_typed.specs.Ledger.{Ledger}
 use Rattle.rm_machine.specs.declared.state.State.{State}
-use Rattle.rm_machine.specs.State.{ledger, tree, world, world_of, current_of, now_of, on_path}
+use Rattle.rm_machine.specs.State.{ledger, tree, world, current_of, now_of, on_path}
+use Rattle.rm_catalog_typed.specs.Worlds.{world_of}
 
 -- of these datafiles, the first of number f, those that exist at (i, start), each tracked from `start` on
 abbrev pub fresh_from : World → ℕ → ℕ → ℕ → List Datafile → List Tracked

@@ -55,7 +55,8 @@ use Rattle.rm_machine.specs.BackupOutcome.{at_end, begun, marked}
 use Rattle.rm_machine.specs.BackupRefusal.{mark_count}
 use Rattle.rm_machine_code.proofs.BackupAccepted.{CanBeWritten, CanBackUp}
 use Rattle.rm_machine_code.proofs.Copies.{IsReady, each-recordable, packed-many, packed-same}
-use Rattle.rm_machine_code.proofs.Groups.{mapped-sum, unmapped-pairs}
+use Rattle.rm_evidence.proofs.Extending.{unmapped-pairs}
+use Rattle.rm_machine_code.proofs.Groups.{mapped-sum}
 use Rattle.rm_machine_code.proofs.MembersRead.{creation-by}
 use Rattle.rm_machine_code.proofs.TakenFiles.{taken-blocks, taken-few, taken-rise}
 use Rattle.rm_machine_code.proofs.BackupMarks.{count-marked, marked-same, sound-marked, unmarked-mark, with_mark}

@@ -30,7 +30,8 @@ use Rattle.rm_machine.specs.Machine.{IsTrueArtefact}
 use Rattle.rm_machine.specs.Sound.{IsSound}
 use Rattle.rm_machine.specs.declared.job.Job.{Job}
 use Rattle.rm_machine.specs.declared.state.State.{State}
-use Rattle.rm_machine.specs.State.{current_of, ledger, tree, world, world_of}
+use Rattle.rm_machine.specs.State.{current_of, ledger, tree, world}
+use Rattle.rm_catalog_typed.specs.Worlds.{world_of}
 use Rattle.rm_machine_code.proofs.Groups.{cut-each, cut-long, mapped-pairs, mapped-sum, pairs-drop, pairs-take}
 use Rattle.rm_machine_code.proofs.MembersRead.{entry_with, member-is, member-true, part-is, set_with}
 use Rattle.rm_machine_code.proofs.PiecesRead.{AreAll, AreOthers, AreRead, BeginsBelow, IsCheckpoint, entry-is, piece-true, piece-valid}

@@ -26,7 +26,8 @@ use Rattle.rm_machine.specs.Effect.{Made}
 use Rattle.rm_machine.specs.Machine.{HasLogArtefact, HasPieceArtefact, HasSetArtefact, IsBorneOut}
 use Rattle.rm_machine.specs.Sound.{IsSound}
 use Rattle.rm_machine.specs.declared.state.State.{State}
-use Rattle.rm_machine.specs.State.{database_of, ledger}
+use Rattle.rm_machine.specs.State.{ledger}
+use Rattle.rm_catalog_typed.specs.Worlds.{database_of}
 use Rattle.rm_machine.specs.Upkeep.{log_changed, piece_changed, set_changed, with_catalog, without_record}
 use Rattle.rm_machine_code.proofs.Later.{borne-same, sound-with}
 

@@ -12,7 +12,7 @@ use Rattle.rm_track.specs.Told.{HasChange, LieBelow, Tell, TellChanges}
 use Rattle.rm_track.proofs.Telling.{fresh-tells}
 use Rattle.rm_catalog_typed.specs.Ledger.{Ledger}
 use Rattle.rm_machine.specs.Tracked.{first_tracker, fresh_from, tracks}
-use Rattle.rm_machine.specs.State.{world_of}
+use Rattle.rm_catalog_typed.specs.Worlds.{world_of}
 
 -- the changes of an incarnation lie below its end
 pub lie-below : (tree : List Incarnation) (i : ℕ) (h : List Change) → All (λ c. c.scn < end_of tree c.inc) h → LieBelow i h (end_of tree i)

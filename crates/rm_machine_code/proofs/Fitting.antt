@@ -27,7 +27,7 @@ use Rattle.rm_machine.specs.Sound.{IsPlaced, IsPlacedRow, IsSound}
 use Rattle.rm_machine.specs.declared.state.State.{State}
 use Rattle.rm_machine.specs.State.{ledger, tree, counted, online, is_lost}
 use Rattle.rm_machine_code.proofs.AtHand.{online-in}
-use Rattle.rm_machine_code.proofs.Records.{tree-told}
+use Rattle.rm_catalog_typed.proofs.Records.{tree-told}
 use Rattle.rm_machine_code.proofs.Standing.{at-place, each-in, present-in}
 use Rattle.rm_machine_code.proofs.Threads.{thread-in}
 use Rattle.rm_machine_code.proofs.Undamaged.{undamaged-at}

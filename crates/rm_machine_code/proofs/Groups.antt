@@ -1,6 +1,5 @@
 -- Lists that are cut into groups.
 use Rattle.std.proofs.Common.{◌≡◌, ◌<◌, ◌≤◌, ◌+◌, ◌∙◌, ℕ, zero, suc, List, [], ◌∷◌, All, AllPairs, ap, refl, sym, subst, arith, drop, get_or, length, length-drop, length-take, map, sum_by, take, get_or-drop, get_or-take}
-use Rattle.std.proofs.lemmas.List.{get_or-map, length-map}
 use Rattle.std.proofs.lemmas.List.Elements.{All-cons, All-map, All-nil}
 use Rattle.std.proofs.lemmas.List.Kept.{AllPairs-cons}
 use Rattle.std.proofs.lemmas.List.Sums.{sum_by-cons}
@@ -72,9 +71,3 @@ mapped-pairs R f (x ∷ xs) all =
 pub mapped-sum : {A B : Type 0} (g : B → ℕ) (f : A → B) (xs : List A) → sum_by g (map f xs) ≡ sum_by (λ x. g (f x)) xs
 mapped-sum g f [] = refl
 mapped-sum g f (x ∷ xs) = sum_by-cons g (f x) (map f xs) ∙ ap (λ n. g (f x) + n) (mapped-sum g f xs) ∙ sym (sum_by-cons (λ y. g (f y)) x xs)
-
-pub unmapped-pairs : {A B : Type 0} (R : B → B → Type 0) (f : A → B) (xs : List A) → AllPairs R (map f xs) → AllPairs (λ x y. R (f x) (f y)) xs
-unmapped-pairs R f xs all i k d less inside =
-    let lower : i < length xs = omega (arith, less, inside) in
-    subst (λ y. R (f (get_or xs i d)) y) (get_or-map f xs k d (f d) inside)
-    (subst (λ x. R x (get_or (map f xs) k (f d))) (get_or-map f xs i d (f d) lower) (all i k (f d) less (omega (arith, inside, length-map xs f))))

@@ -15,7 +15,7 @@ use Rattle.rm_piece.specs.declared.set.SetFile.{SetFile}
 use Rattle.rm_machine.specs.Effect.{Made, LeavesObjects, no_effect}
 use Rattle.rm_machine.specs.Names.{IsObjectName, of_log, of_piece, of_set}
 use Rattle.rm_machine.specs.Machine.{HaveArtefacts, HasLogArtefact, HasPieceArtefact, HasSetArtefact, HoldsUnder}
-use Rattle.rm_machine.specs.State.{database_of}
+use Rattle.rm_catalog_typed.specs.Worlds.{database_of}
 
 -- what stands under the names of the records that stay goes on to do so
 abbrev pub StandOn : Held → Held → List (List ℕ) → List (List ℕ) → Ledger → Ledger → Type 0

@@ -15,7 +15,8 @@ use Rattle.rm_machine.specs.Laws.{IsMomentOf}
 use Rattle.rm_machine.specs.Machine.{HasLogArtefact, HasPieceArtefact, HasSetArtefact, HistoryFits, IsBorneOut}
 use Rattle.rm_machine.specs.Sound.{IsSound}
 use Rattle.rm_machine.specs.declared.state.State.{State}
-use Rattle.rm_machine.specs.State.{at_moment, database_of, ledger}
+use Rattle.rm_machine.specs.State.{at_moment, ledger}
+use Rattle.rm_catalog_typed.specs.Worlds.{database_of}
 use Rattle.rm_machine.specs.Upkeep.{with_catalog}
 use Rattle.rm_machine_code.proofs.Kept.{StandOn, kept-on, names-of, stand-same, stays-so}
 use Rattle.rm_machine_code.proofs.Tracked.{tracked-same}

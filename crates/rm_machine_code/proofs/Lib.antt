@@ -10,7 +10,6 @@ pub mod BranchesSound
 pub mod Branching
 pub mod ByThread
 pub mod Cataloguing
-mod Contents
 pub mod Copies
 mod DamageLoops
 pub mod Damaged
@@ -61,7 +60,6 @@ pub mod Placing
 pub mod Putting
 pub mod ReadBlocks
 pub mod Recording
-pub mod Records
 pub mod Recovering
 pub mod Refused
 pub mod Renewing

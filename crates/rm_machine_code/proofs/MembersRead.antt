@@ -5,6 +5,7 @@ use Rattle.std.specs.Option.{option_map_or}
 use Rattle.std.proofs.lemmas.Bool.{and_parts, eqb-true, le-leb}
 use Rattle.std.proofs.lemmas.List.{get_or-map, length-map}
 use Rattle.std.proofs.lemmas.List.Elements.{All-map, All-weaker}
+use Rattle.rm_base.specs.Created.{created_row}
 use Rattle.rm_base.specs.declared.block.Change.{Change}
 use Rattle.rm_base.specs.declared.block.Row.{Row}
 use Rattle.rm_base.specs.declared.kinds.Kind.TheVariants.{Full, Level0, Level1, Place}
@@ -19,7 +20,7 @@ use Rattle.rm_history.proofs.Highs.{high-least}
 use Rattle.rm_catalog_typed.specs.LedgerFacts.{IsCreated, IsSetPart}
 use Rattle.rm_piece.specs.declared.set.Set.{Set}
 use Rattle.rm_piece.specs.declared.set.SetFile.{SetFile}
-use Rattle.rm_piece.specs.Filling.{risen, unwritten}
+use Rattle.rm_piece.specs.Filling.{risen}
 use Rattle.rm_piece.specs.Rows.{from_on}
 use Rattle.rm_piece.specs.Sets.{IsMember}
 use Rattle.rm_piece.specs.Valid.{IsPiece}
@@ -47,7 +48,7 @@ creation-by q f d some is =
 
 -- a row counts as one of its block
 risen-block : (creation : ℕ) (r : Row) → (risen creation r).block ≡ r.block
-risen-block creation r = elim (nat_lt creation r.version) as (λ t. (cond t r (unwritten creation r.block)).block ≡ r.block) [ true ↦ refl | false ↦ refl ]
+risen-block creation r = elim (nat_lt creation r.version) as (λ t. (cond t r (created_row creation r.block)).block ≡ r.block) [ true ↦ refl | false ↦ refl ]
 
 not-place : (b : BackupForm) (from : Option ℕ) → kind_by b from ≢ Place
 not-place b None = whole-by (λ k. k ≢ Place) (is_none b.level) (λ (e : Full ≡ Place). absurd (cc)) (λ (e : Level0 ≡ Place). absurd (cc))
@@ -84,7 +85,7 @@ module _ (t : State) (b : BackupForm) (f checkpoint : ℕ) (rows : List Row) (so
   some = let range = sound.catalog.ledger.incarnations.ranges are.datafile.inc made.there in omega (arith, creation-is, range.0, made.creation.0)
 
   found-risen : (r : Row) → IsFound t r → IsFound t (rising r)
-  found-risen r is = elim (nat_lt creation r.version) as (λ u. IsFound t (cond u r (unwritten creation r.block))) [
+  found-risen r is = elim (nat_lt creation r.version) as (λ u. IsFound t (cond u r (created_row creation r.block))) [
     | true ↦ is
     | false ↦ record { row = record { version = some; content = refl }; below = omega (arith, creation-is, above, at.most) }
   ]

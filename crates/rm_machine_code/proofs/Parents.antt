@@ -30,7 +30,7 @@ use Rattle.rm_machine.specs.Backup.{BeginsAt, HasParent, is_level1}
 use Rattle.rm_machine.specs.Sound.{IsSound}
 use Rattle.rm_machine.specs.declared.state.State.{State}
 use Rattle.rm_machine.specs.State.{ledger, tree, current_of, now_of}
-use Rattle.rm_machine_code.proofs.Records.{database-told, tree-told}
+use Rattle.rm_catalog_typed.proofs.Records.{database-told, tree-told}
 
 -- what holds on the path of an incarnation lies up to its end: where the incarnation begins, each path but its own has another owner
 pub within-end : (ns : List Incarnation) → IsTree ns → (i j high : ℕ) → IsThere ns i → reset_of ns i ≤ end_of ns i → high ≤ end_of ns j → is_within ns j i high ≡ true → high ≤ end_of ns i

@@ -33,7 +33,7 @@ use Rattle.rm_machine.specs.Recovery.{put_over, range_refusal}
 use Rattle.rm_machine.specs.Sound.{IsPlaced, IsPlacedRow, IsPoint, IsSound}
 use Rattle.rm_machine.specs.declared.state.State.{State}
 use Rattle.rm_machine.specs.State.{ledger, tree, world, current_of, now_of}
-use Rattle.rm_machine_code.proofs.Contents.{seen-content}
+use Rattle.rm_evidence.proofs.Contents.{seen-content}
 use Rattle.rm_machine_code.proofs.Exchanging.{sound-exchanged}
 use Rattle.rm_machine_code.proofs.Numbers.{blocks-at, file-at, file-place}
 use Rattle.rm_machine_code.proofs.Placing.{number, over-at, over-cases, over-length}

@@ -43,7 +43,7 @@ use Rattle.rm_machine.specs.State.{ledger, tree, world}
 use Rattle.rm_machine_code.proofs.Exchanging.{sound-exchanged}
 use Rattle.rm_machine_code.proofs.Numbers.{file-at, file-place}
 use Rattle.rm_machine_code.proofs.Placing.{over-cases, over-length}
-use Rattle.rm_machine_code.proofs.Records.{files-told, tree-told, world-told}
+use Rattle.rm_catalog_typed.proofs.Records.{files-told, tree-told, world-told}
 use Rattle.rm_machine_code.proofs.Standing.{at-place, each-get}
 
 -- a piece that is no level 1 has each block

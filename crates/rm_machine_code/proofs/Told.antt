@@ -11,7 +11,7 @@ use Rattle.rm_catalog_typed.specs.TypedCatalog.{records_of}
 use Rattle.rm_machine.specs.Recovery.{in_place}
 use Rattle.rm_machine.specs.declared.state.State.{State}
 use Rattle.rm_machine.specs.State.{tree, world}
-use Rattle.rm_machine_code.proofs.Records.{tree-told, world-told}
+use Rattle.rm_catalog_typed.proofs.Records.{tree-told, world-told}
 
 -- what is told, of the database that the records tell
 pub tells-files : (s : State) (held : Option Held) (i at : ℕ) (back : Recovered) (tells : TellsAll held (records_of s.catalog) (in_place s) i at back) → AreFilesAt (world s) (known_of tells.evidence) i at back.files

@@ -17,7 +17,7 @@ use Rattle.rm_machine.specs.Damage.{IsInPlace}
 use Rattle.rm_machine.specs.Sound.{IsPlacedRow, IsSound}
 use Rattle.rm_machine.specs.declared.state.State.{State}
 use Rattle.rm_machine.specs.State.{current_of, ledger, now_of, on_path, tree, world}
-use Rattle.rm_machine_code.proofs.Contents.{seen-content}
+use Rattle.rm_evidence.proofs.Contents.{seen-content}
 use Rattle.rm_machine_code.proofs.Numbers.{file-place, numbered}
 use Rattle.rm_machine_code.proofs.Tracked.{on-path, some-is}
 use Rattle.rm_machine_code.proofs.WritersRoom.{rows-many}

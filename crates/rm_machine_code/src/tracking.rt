@@ -4,7 +4,7 @@ ghost use Rattle.rm_history.specs.Tree.{end_of};
 ghost use Rattle.rm_history.specs.World.{exists};
 ghost use Rattle.rm_track.specs.Bitmaps.{fresh, with_file};
 ghost use Rattle.rm_catalog_typed.specs.Facts.{IsTypedCatalog};
-ghost use Rattle.rm_machine.specs.State.{world_of};
+ghost use Rattle.rm_catalog_typed.specs.Worlds.{world_of};
 ghost use Rattle.rm_machine.specs.Tracked.{first_tracker, fresh_from};
 
 use crate::facts::{end_in, exists_in};

@@ -3,7 +3,7 @@ use Rattle.rm_history.specs.declared.world.Datafile.{Datafile}
 use Rattle.rm_history.specs.Tree.{end_of}
 use Rattle.rm_history.specs.World.{exists}
 use Rattle.rm_track.specs.Bitmaps.{fresh, with_file}
-use Rattle.rm_machine.specs.State.{world_of}
+use Rattle.rm_catalog_typed.specs.Worlds.{world_of}
 use Rattle.rm_machine_code.proofs.Tracked.{fresh-next}
 use Rattle.rm_machine_code.proofs.tracking.all_tracked.Goals as goal
 

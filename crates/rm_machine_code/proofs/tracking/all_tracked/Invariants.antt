@@ -1,6 +1,6 @@
 use Rattle.std.proofs.Common.{◌≡◌, take}
 use Rattle.rm_history.specs.Tree.{end_of}
-use Rattle.rm_machine.specs.State.{world_of}
+use Rattle.rm_catalog_typed.specs.Worlds.{world_of}
 use Rattle.rm_machine.specs.Tracked.{fresh_from}
 use Rattle.rm_machine_code.proofs.tracking.all_tracked.Given as goal
 
