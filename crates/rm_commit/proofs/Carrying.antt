@@ -7,7 +7,7 @@ use Rattle.rm_catalog.specs.declared.record.Record.{Record}
 use Rattle.rm_catalog.specs.Edits.{after_edits}
 use Rattle.rm_commit.specs.declared.commit.Commit.{Commit}
 use Rattle.rm_commit.specs.Names.{HasPuts, SameBeyondPuts, HasRemoves, SameBeyondRemoves}
-use Rattle.rm_commit.specs.Carrying.{AreMoved, ArePut, Carried, Halted, before_the_edits, after_the_edits}
+use Rattle.rm_commit.specs.Carrying.{AreMoved, ArePut, Carried, Halted, PutsFront, before_the_edits, after_the_edits}
 use Rattle.rm_commit.proofs.Told.{both-then}
 
 pub on-err : {T E : Type 0} (P : Type 0) (r : Result T E) → P → OnErr r P
@@ -15,8 +15,8 @@ on-err P (Ok x) p = tt
 on-err P (Err e) p = p
 
 -- a put failed, or the edits did: the records are as they were
-pub halts-before : (c : Commit) (h h' : Option Held) (k k' : Option (List Record)) → Both (SameBeyondPuts c.objects) h h' → k' ≡ k → Halted c h k h' k'
-halts-before c h h' k k' others same = before_the_edits (record { objects = others; records = same })
+pub halts-before : (c : Commit) (h h' : Option Held) (k k' : Option (List Record)) → Both (SameBeyondPuts c.objects) h h' → Both (PutsFront c.objects) h h' → k' ≡ k → Halted c h k h' k'
+halts-before c h h' k k' others front same = before_the_edits (record { objects = others; front = front; records = same })
 
 module _ (c : Commit) (h m h' : Option Held) (k k' : Option (List Record)) where
   -- a remove failed: the edits were made

@@ -1,4 +1,5 @@
 mod Carrying
+pub mod Fronts
 pub mod Named
 pub mod Standing
 pub mod Told

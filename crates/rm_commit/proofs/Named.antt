@@ -17,16 +17,16 @@ told false = inr refl
 pub same-name : (n m : List ℕ) → bytes_eq n m ≡ true → n ≡ m
 same-name n m e = (bytes_eq-Decides n m).0 e
 
-other-name : (n m : List ℕ) → bytes_eq n m ≡ false → n ≢ m
+pub other-name : (n m : List ℕ) → bytes_eq n m ≡ false → n ≢ m
 other-name n m e is = let yes : bytes_eq n m ≡ true = (bytes_eq-Decides n m).1 is in absurd (cc)
 
-one-put : (now next : Held) (m n : List ℕ) (v : Option (List ℕ)) → HasNow m v now next → SameBut m now next → next n ≡ cond (bytes_eq n m) v (now n)
+pub one-put : (now next : Held) (m n : List ℕ) (v : Option (List ℕ)) → HasNow m v now next → SameBut m now next → next n ≡ cond (bytes_eq n m) v (now n)
 one-put now next m n v at others = elim (told (bytes_eq n m)) [
   | inl e ↦ ap next (same-name n m e) ∙ at ∙ sym (ap (λ (b : Bool). cond b v (now n)) e)
   | inr e ↦ others n (other-name n m e) ∙ sym (ap (λ (b : Bool). cond b v (now n)) e)
 ]
 
-head-of : {X : Type 0} (xs : List X) (i : ℕ) (x : X) → i < length xs → x ≡ get_or xs i x → drop i xs ≡ x ∷ drop (i + 1) xs
+pub head-of : {X : Type 0} (xs : List X) (i : ℕ) (x : X) → i < length xs → x ≡ get_or xs i x → drop i xs ≡ x ∷ drop (i + 1) xs
 head-of xs i x within is =
     let next : drop i xs ≡ get_or xs i x ∷ drop (i + 1) xs = rw add-one (drop-cons xs i x within) in
     next ∙ ap (λ y. y ∷ drop (i + 1) xs) (sym is)
@@ -39,7 +39,7 @@ ahead-step name value xs i x before now next within is ahead at others n =
     ∙ sym (ap (λ ys. after_all name value ys n (now n)) (head-of xs i x within is))
     ∙ ahead n
 
-left-false : (a b : Bool) → (a || b) ≡ false → a ≡ false
+pub left-false : (a b : Bool) → (a || b) ≡ false → a ≡ false
 left-false true b e = e
 left-false false b e = refl
 

@@ -5,7 +5,7 @@ ghost use Rattle.rm_base.specs.Store.{Both};
 ghost use Rattle.rm_base.specs.declared.store.StoreFail.TheVariants.{Failed};
 ghost use Rattle.rm_commit.specs.declared.commit.Stop.TheVariants.{StoreFault, KeeperFault};
 ghost use Rattle.rm_commit.specs.Names.{HasPuts, SameBeyondPuts, HasRemoves, SameBeyondRemoves};
-ghost use Rattle.rm_commit.specs.Carrying.{Carried, Halted};
+ghost use Rattle.rm_commit.specs.Carrying.{Carried, Halted, HaltedBefore, PutsFront};
 
 use rm_base::{NoMemory, Seq, Store, StoreFail, Text};
 use rm_catalog::{Edit, Keeper, KeeperFail};
@@ -78,6 +78,7 @@ pub struct Commit {
 fn put_all<D: Store>(store: &mut D, objects: &[Object]) -> Result<(), StoreFail>
     ensures puts { OnOk result (Both (HasPuts objects.now) (D.held store.old) (D.held store.new)) }
     ensures others { Both (SameBeyondPuts objects.now) (D.held store.old) (D.held store.new) }
+    ensures front { OnErr result (Both (PutsFront objects.now) (D.held store.old) (D.held store.new)) }
     ensures failed { IsErrOf result Failed → Rose (D.faults store.old) (D.faults store.new) }
     ensures never_falls { D.faults store.old ≤ D.faults store.new }
 {
@@ -102,7 +103,8 @@ fn remove_all<D: Store>(store: &mut D, names: &[Text]) -> Result<(), StoreFail>
 
 /// Carries a change out: puts the objects, makes the edits, and removes what is to go, in this order.
 /// An error is a stop: the records are, whole, those before it or those after it, and after it each new
-/// object was wholly put.
+/// object was wholly put. Before it each of them was, but one whose put failed and those behind it. Where the
+/// keeper failed nothing was removed.
 pub fn carry_out<D: Store, C: Keeper>(
     store: &mut D,
     keeper: &mut C,
@@ -110,6 +112,7 @@ pub fn carry_out<D: Store, C: Keeper>(
 ) -> Result<(), Stop>
     ensures carried { OnOk result (Carried change.now (D.held store.old) (C.kept keeper.old) (D.held store.new) (C.kept keeper.new)) }
     ensures stopped { OnErr result (Halted change.now (D.held store.old) (C.kept keeper.old) (D.held store.new) (C.kept keeper.new)) }
+    ensures before { IsErrOf result KeeperFault → HaltedBefore change.now (D.held store.old) (C.kept keeper.old) (D.held store.new) (C.kept keeper.new) }
     ensures store { IsErrOf result StoreFault → Rose (D.faults store.old) (D.faults store.new) }
     ensures keeper { IsErrOf result KeeperFault → Rose (C.faults keeper.old) (C.faults keeper.new) }
     ensures store_never_falls { D.faults store.old ≤ D.faults store.new }
