@@ -30,7 +30,7 @@ use Rattle.rm_base.specs.declared.kinds.Policy.TheVariants.{Window, Redundancy a
 use Rattle.rm_report.specs.declared.line.SchemaPlace.{SchemaPlace}
 use Rattle.rm_report.specs.declared.line.SchemaPlace.TheVariants.{At, Lost, OffPath}
 use Rattle.rm_report.specs.declared.line.Line.{Line}
-use Rattle.rm_report.specs.declared.line.Line.TheVariants.{DatabaseAt, DatafileAt, Written, LogMade, NothingToArchive, Mounted, Opened, Chosen, Recovered, UntilIs, FileIs, BlockIs, BackedUp, NothingToBackUp, IncarnationIs, Dumped, Tracking, ThreadSwitched, Skipped, RestoredFrom, CreatedEmpty, Complete, GapIn, Merged, Stays, StartsAbove, BlockDamaged, Mended, ThreadScn, StatusOf, BadOf, Checked, Uncatalogued, Kept, NotKept, Deleted, DeletedCount, Obsolete, ObsoleteCount, NeedsBackup, NeedCount, Parallelism, Catalogued, FileLost, LogLost, Removed, Damaged, Cut, Renamed, UntilSet, ChannelAllocated, Schema, PieceIs, LogIs, Retention, Refused}
+use Rattle.rm_report.specs.declared.line.Line.TheVariants.{DatabaseAt, DatafileAt, Written, LogMade, NothingToArchive, Mounted, Opened, Chosen, Recovered, UntilIs, FileIs, BlockIs, BackedUp, NothingToBackUp, IncarnationIs, Dumped, Tracking, ThreadSwitched, Skipped, RestoredFrom, CreatedEmpty, Complete, GapIn, Merged, Stays, StartsAbove, BlockDamaged, Mended, ThreadScn, StatusOf, BadOf, Checked, Uncatalogued, Kept, NotKept, Deleted, DeletedCount, Obsolete, ObsoleteCount, NeedsBackup, NeedCount, Parallelism, Catalogued, FileLost, LogLost, Removed, Damaged, Cut, Renamed, UntilSet, ChannelAllocated, Schema, PieceIs, LogIs, Retention, DuplicatedDatafile, DuplicatedDatabase, Refused}
 use Rattle.rm_report.specs.declared.line.Reply.{Reply}
 
 -- a byte's two digits in lower-case hexadecimal
@@ -221,6 +221,8 @@ line_text (Schema file blocks scn inc place) = codes "datafile " ++ (decimal fil
 line_text (PieceIs packing id file shape checkpoint high status tag keep) = backup_text packing ++ (codes " " ++ (decimal id ++ (codes " datafile " ++ (decimal file ++ (codes " " ++ (shape_text shape ++ (codes " checkpoint " ++ (decimal checkpoint ++ (codes " high " ++ (decimal high ++ (codes " " ++ (status_text status ++ (codes " tag " ++ (tag ++ keep_text keep))))))))))))))
 line_text (LogIs id thread sequence from next inc status keep) = codes "log " ++ (decimal id ++ (codes " thread " ++ (decimal thread ++ (codes " sequence " ++ (decimal sequence ++ (codes " first " ++ (decimal from ++ (codes " next " ++ (decimal next ++ (codes " of incarnation " ++ (decimal inc ++ (codes " " ++ (status_text status ++ keep_text keep)))))))))))))
 line_text (Retention policy) = policy_text policy
+line_text (DuplicatedDatafile file number) = codes "duplicated datafile " ++ (decimal file ++ (codes " as " ++ decimal number))
+line_text (DuplicatedDatabase dbid until files) = codes "duplicated database " ++ (decimal dbid ++ (codes " at " ++ (decimal until ++ (codes ": files " ++ decimal files))))
 line_text (Refused refusal) = refusal_text refusal
 
 -- the line tells of a file's blocks

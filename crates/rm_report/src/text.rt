@@ -8,9 +8,10 @@ ghost use Rattle.rm_report.specs.Text.{tells_blocks, tells_history, tells_backup
 
 use crate::line::{Line, Packing, Reply, Shape};
 use crate::lines::{
-    push_bad_of, push_block_damaged, push_checked, push_gap_in, push_mended, push_merged,
-    push_policy, push_record, push_restored_from, push_schema, push_skipped, push_starts_above,
-    push_status_of, push_stays, push_thread_scn, push_thread_switched, push_tracking,
+    push_bad_of, push_block_damaged, push_checked, push_duplicated_database,
+    push_duplicated_datafile, push_gap_in, push_mended, push_merged, push_policy, push_record,
+    push_restored_from, push_schema, push_skipped, push_starts_above, push_status_of, push_stays,
+    push_thread_scn, push_thread_switched, push_tracking,
 };
 use rm_base::{
     Absent, Block, BlockNo, Limit, Moment, NoMemory, Refusal, Scn, Seq, ThreadState, Unknown,
@@ -134,6 +135,10 @@ fn push_line(alloc: Global, out: &mut String, line: &Line) -> Result<(), AllocEr
         Line::PieceIs { .. } => push_record(out, line),
         Line::LogIs { .. } => push_record(out, line),
         Line::Retention { policy } => push_policy(out, *policy),
+        Line::DuplicatedDatafile { file, number } => push_duplicated_datafile(out, *file, *number),
+        Line::DuplicatedDatabase { dbid, until, files } => {
+            push_duplicated_database(out, *dbid, *until, *files)
+        }
         Line::Refused(refusal) => push_refusal(alloc, out, refusal),
     }
 }
