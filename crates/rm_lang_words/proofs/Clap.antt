@@ -1,38 +1,103 @@
--- What `clap` makes of words of the form `--name=value`.
-use Rattle.std.proofs.Common.{◌≡◌, ◌∙◌, ◌&&◌, ◌||◌, ◌++◌, ◌∷◌, [], ℕ, Bool, List, Option, Some, None, true, false, map, refl, sym, ap, cond, append-nil, codes, true≢false}
-use Rattle.std.specs.Prelude.{is_some}
-use Rattle.std.specs.Prelude.{if◌then◌else◌}
-use Rattle.std.proofs.lemmas.List.{map-append}
+-- What `clap` makes of words of the form `--name=value`, over the command of any form.
+use Rattle.std.proofs.Common.{◌≡◌, ◌∙◌, ◌&&◌, ◌||◌, ◌++◌, ◌∷◌, [], ℕ, ◌+◌, ◌<◌, Bool, List, Option, Some, None, true, false, map, not, refl, sym, ap, cond, append-nil, append_assoc, true≢false, take, length, get_or}
+use Rattle.std.specs.Prelude.{count_by, is_some, fold, if◌then◌else◌}
+use Rattle.std.specs.List.{list_all, list_any}
+use Rattle.std.proofs.lemmas.List.{map-append, take_more}
+use Rattle.std.proofs.lemmas.List.Sums.{fold-append}
 use Rattle.std.specs.Str.{bytes_eq}
 use Rattle.std.proofs.lemmas.Slice.Eq.{bytes_eq-Decides}
 use Rattle.clap.specs.Kinds.{Kinds, or_else}
 use Rattle.clap.specs.Lexer.{name_and_value}
-use Rattle.clap.specs.Words.{Row, Rule, built}
-use Rattle.clap.specs.Walk.{Held, Walk, after_step, arg_by_long, at_row, first_of, has_row, idle, more_values, with_values, without, walk_from, walked, long_met, after_flag}
+use Rattle.clap.specs.Words.{App, Row, Rule, built, is_simple, is_simple_and_free, with_rule}
+use Rattle.clap.specs.Walk.{Held, Walk, after_step, arg_by_long, at_row, first_of, has_row, idle, is_early_multiple, more_values, with_values, without, walk_from, walked, long_met, after_flag}
 use Rattle.clap.specs.Faults.{long_fault, step_fault, turn_fault}
-use Rattle.clap.specs.Simple.{Shape, filled, with_index}
+use Rattle.clap.specs.Simple.{Shape, filled, filled_from, on_top, with_index}
 use Rattle.clap.specs.Takes.{is_given}
-use Rattle.clap.proofs.OnLiterals.{clap_on_literals}
 use Rattle.clap.specs.declared.parser.matches.ValueSource.TheVariants.{CommandLine}
 use Rattle.clap.specs.declared.builder.value_parser.Reading.TheVariants as reading
 use Rattle.clap.specs.declared.error.kind.ErrorKind.TheVariants as kind
+use Rattle.rm_lang_words.specs.declared.form.Entry.{Entry as EntryInCode}
 use Rattle.rm_lang_words.specs.Options.{Given, Text}
-use Rattle.rm_lang_words.specs.Words.{is_name, is_named, value_of}
-use Rattle.rm_lang_words.specs.Clap.{rman_app, option_named}
+use Rattle.rm_lang_words.specs.Form.{Entry, Form, entry_of, form_of, is_name, is_named, value_of}
+use Rattle.rm_lang_words.specs.Clap.{app_of_form, base, rule_of_entry}
 
--- an option of the command, built
-abbrev pub rule : Text → Bool → Rule
-rule n q = with_index 1 (filled (record (option_named n) { required = q }))
+-- ---- the command of a form
 
-abbrev pub rules : List Rule
-rules = rule (codes "store") true ∷ rule (codes "catalog") true ∷ rule (codes "channels") false ∷ rule (codes "drill") false ∷ []
+-- one entry more is one argument more
+pub one_more : (xs : List EntryInCode) (i : ℕ) (d : EntryInCode) → i < length xs
+    → app_of_form (form_of (take (i + 1) xs)) ≡ with_rule (app_of_form (form_of (take i xs))) (rule_of_entry (entry_of (get_or xs i d)))
+one_more xs i d within =
+    ap (λ (es : List EntryInCode). app_of_form (form_of es)) (take_more xs i d within)
+    ∙ ap app_of_form (map-append entry_of (take i xs) (get_or xs i d ∷ []))
+    ∙ fold-append (λ (app : App) (e : Entry). with_rule app (rule_of_entry e)) base (form_of (take i xs)) (entry_of (get_or xs i d) ∷ [])
 
-abbrev pub shape : Shape
-shape = (built rman_app).top
+-- the command with these arguments
+abbrev app_with : List Rule → App
+app_with rs = on_top (λ s. record s { rules = rs }) base
 
-pub rules_are : shape.rules ≡ rules
-unfolding clap_on_literals
-rules_are = refl
+folded : (before : List Rule) (form : Form) → fold (λ (app : App) (e : Entry). with_rule app (rule_of_entry e)) (app_with before) form ≡ app_with (before ++ map rule_of_entry form)
+folded before [] = ap app_with (sym (append-nil before))
+folded before (e ∷ rest) = folded (before ++ rule_of_entry e ∷ []) rest ∙ ap app_with (append_assoc before (rule_of_entry e ∷ []) (map rule_of_entry rest))
+
+pub app_is : (form : Form) → app_of_form form ≡ app_with (map rule_of_entry form)
+app_is form = folded [] form
+
+-- an entry's argument, built
+abbrev pub rule : Entry → Rule
+rule e = with_index 1 (filled (rule_of_entry e))
+
+-- the arguments of a form, built
+abbrev pub rules : Form → List Rule
+rules form = map rule form
+
+pub filled_is : (form : Form) → filled_from 1 (map rule_of_entry form) ≡ rules form
+filled_is [] = refl
+filled_is (e ∷ rest) = ap (λ rs. rule e ∷ rs) (filled_is rest)
+
+-- the command of a form, built
+abbrev pub built_with : List Rule → App
+built_with rs = on_top (λ s. record s { rules = rs; disable_help_subcommand = true; is_built = true }) base
+
+abbrev pub shape : Form → Shape
+shape form = (built_with (rules form)).top
+
+pub built_is : (form : Form) → built (app_of_form form) ≡ built_with (rules form)
+built_is form = ap built (app_is form) ∙ ap built_with (filled_is form)
+
+-- `clap` tells of each such command what it makes of the words
+all_simple : (form : Form) → list_all (λ (a : Rule). a.is_simple) (map rule_of_entry form) ≡ true
+all_simple [] = refl
+all_simple (e ∷ rest) = all_simple rest
+
+all_built_simple : (form : Form) → list_all (λ (a : Rule). a.is_simple) (rules form) ≡ true
+all_built_simple [] = refl
+all_built_simple (e ∷ rest) = all_built_simple rest
+
+all_free : (form : Form) → list_all (λ (a : Rule). a.is_free) (rules form) ≡ true
+all_free [] = refl
+all_free (e ∷ rest) = all_free rest
+
+none_early : (n : ℕ) (form : Form) → list_any (is_early_multiple n) (rules form) ≡ false
+none_early n [] = refl
+none_early n (e ∷ rest) = none_early n rest
+
+simple_with : (rs : List Rule) → list_all (λ (a : Rule). a.is_simple) rs ≡ true → list_all (λ (a : Rule). a.is_simple) (filled_from 1 rs) ≡ true
+    → ((n : ℕ) → list_any (is_early_multiple n) (filled_from 1 rs) ≡ false) → is_simple (app_with rs) ≡ true
+simple_with rs s b e = λ i. s i && true && (b i && not (e (count_by (λ (a : Rule). is_some a.index) (filled_from 1 rs)) i) && true)
+
+free_with : (rs : List Rule) → is_simple (app_with rs) ≡ true → list_all (λ (a : Rule). a.is_free) (filled_from 1 rs) ≡ true → is_simple_and_free (app_with rs) ≡ true
+free_with rs s f = λ i. s i && (f i && true)
+
+pub simple : (form : Form) → is_simple (app_of_form form) ≡ true
+simple form =
+    let rs = map rule_of_entry form in
+    let built_simple = ap (list_all (λ (a : Rule). a.is_simple)) (filled_is form) ∙ all_built_simple form in
+    ap is_simple (app_is form) ∙ simple_with rs (all_simple form) built_simple (λ n. ap (list_any (is_early_multiple n)) (filled_is form) ∙ none_early n form)
+
+pub free : (form : Form) → is_simple_and_free (app_of_form form) ≡ true
+free form =
+    let simple_as = ap is_simple (sym (app_is form)) ∙ simple form in
+    ap is_simple_and_free (app_is form) ∙ free_with (map rule_of_entry form) simple_as (ap (list_all (λ (a : Rule). a.is_free)) (filled_is form) ∙ all_free form)
 
 -- ---- rows
 
@@ -82,64 +147,63 @@ held rows = record { rows = rows; pending = None; skip = 0 }
 abbrev pub at : List Given → Walk
 at seen = walk_from (held (map row seen))
 
--- the rule of the name
-abbrev pub by_tests : Bool → Bool → Bool → Bool → Option Rule
-by_tests a b c d =
-    cond (a || false) (Some (rule (codes "store") true)) (cond (b || false) (Some (rule (codes "catalog") true))
-    (cond (c || false) (Some (rule (codes "channels") false)) (cond (d || false) (Some (rule (codes "drill") false)) None)))
+-- the argument of the name: the first entry's, if it has this name, or else one of the rest
+abbrev chosen : Bool → Rule → Option Rule → Option Rule
+chosen b r more = cond (b || false) (Some r) more
 
-by_long : (n : Text) → arg_by_long rules n ≡ by_tests (bytes_eq (codes "store") n) (bytes_eq (codes "catalog") n) (bytes_eq (codes "channels") n) (bytes_eq (codes "drill") n)
-by_long n = refl
+by_long : (n : Text) (e : Entry) (rest : Form) → arg_by_long (rules (e ∷ rest)) n ≡ chosen (bytes_eq e.name n) (rule e) (arg_by_long (rules rest) n)
+by_long n e rest = refl
 
 same : (m n : Text) → bytes_eq m n ≡ true → m ≡ n
 same m n = (bytes_eq-Decides m n).0
 
-unfoldable pub Known : Text → Bool → Type 0
-Known n true = (q : Bool) × (arg_by_long rules n ≡ Some (rule n q))
-Known n false = arg_by_long rules n ≡ None
+-- the argument that `clap` finds under the name, where the form has the name or not
+unfoldable pub Known : Form → Text → Bool → Type 0
+Known form n true = (e : Entry) × (e.name ≡ n) × (arg_by_long (rules form) n ≡ Some (rule e))
+Known form n false = arg_by_long (rules form) n ≡ None
 
-pub known : (n : Text) → Known n (is_name n)
+pub known : (form : Form) (n : Text) → Known form n (is_name form n)
 unfolding Known
-known n = go _ _ _ _ refl refl refl refl
+known [] n = refl
+known (e ∷ rest) n = go (bytes_eq e.name n) refl (is_name rest n) (known rest n)
   where
-    go : (a b c d : Bool) → bytes_eq (codes "store") n ≡ a → bytes_eq (codes "catalog") n ≡ b → bytes_eq (codes "channels") n ≡ c → bytes_eq (codes "drill") n ≡ d → Known n (a || (b || (c || d)))
-    go true b c d e f g h = (true, by_long n ∙ (λ i. by_tests (e i) (f i) (g i) (h i)) ∙ ap (λ m. Some (rule m true)) (same _ n e))
-    go false true c d e f g h = (true, by_long n ∙ (λ i. by_tests (e i) (f i) (g i) (h i)) ∙ ap (λ m. Some (rule m true)) (same _ n f))
-    go false false true d e f g h = (false, by_long n ∙ (λ i. by_tests (e i) (f i) (g i) (h i)) ∙ ap (λ m. Some (rule m false)) (same _ n g))
-    go false false false true e f g h = (false, by_long n ∙ (λ i. by_tests (e i) (f i) (g i) (h i)) ∙ ap (λ m. Some (rule m false)) (same _ n h))
-    go false false false false e f g h = by_long n ∙ (λ i. by_tests (e i) (f i) (g i) (h i))
+    go : (b : Bool) → bytes_eq e.name n ≡ b → (c : Bool) → Known rest n c → Known (e ∷ rest) n (b || c)
+    go true is c more = (e, same e.name n is, by_long n e rest ∙ ap (λ t. chosen t (rule e) (arg_by_long (rules rest) n)) is)
+    go false is true (other, named, more) = (other, named, by_long n e rest ∙ ap (λ t. chosen t (rule e) (arg_by_long (rules rest) n)) is ∙ more)
+    go false is false more = by_long n e rest ∙ ap (λ t. chosen t (rule e) (arg_by_long (rules rest) n)) is ∙ more
 
 -- one word of the walk
-module _ (x : ℕ) (xs n v : Text) (parts : name_and_value (x ∷ xs) ≡ (n, Some v)) (seen : List Given) where
+module _ (form : Form) (x : ℕ) (xs n v : Text) (parts : name_and_value (x ∷ xs) ≡ (n, Some v)) (seen : List Given) where
   abbrev word : Text
   word = 45 ∷ 45 ∷ x ∷ xs
 
   abbrev fault_at : Text × Option Text → Option Rule → Kinds
-  fault_at p r = or_else (long_fault rules false r p.1 (held (map row seen)))
-      (step_fault shape 1 (after_flag rules idle word (long_met rules r p.1 (held (map row seen))).0 (long_met rules r p.1 (held (map row seen))).1).0
-      (after_flag rules idle word (long_met rules r p.1 (held (map row seen))).0 (long_met rules r p.1 (held (map row seen))).1).1)
+  fault_at p r = or_else (long_fault (rules form) false r p.1 (held (map row seen)))
+      (step_fault (shape form) 1 (after_flag (rules form) idle word (long_met (rules form) r p.1 (held (map row seen))).0 (long_met (rules form) r p.1 (held (map row seen))).1).0
+      (after_flag (rules form) idle word (long_met (rules form) r p.1 (held (map row seen))).0 (long_met (rules form) r p.1 (held (map row seen))).1).1)
 
   abbrev walk_at : Text × Option Text → Option Rule → Walk
-  walk_at p r = after_step rules word (at seen)
-      (after_flag rules idle word (long_met rules r p.1 (held (map row seen))).0 (long_met rules r p.1 (held (map row seen))).1).0
-      (after_flag rules idle word (long_met rules r p.1 (held (map row seen))).0 (long_met rules r p.1 (held (map row seen))).1).1
+  walk_at p r = after_step (rules form) word (at seen)
+      (after_flag (rules form) idle word (long_met (rules form) r p.1 (held (map row seen))).0 (long_met (rules form) r p.1 (held (map row seen))).1).0
+      (after_flag (rules form) idle word (long_met (rules form) r p.1 (held (map row seen))).0 (long_met (rules form) r p.1 (held (map row seen))).1).1
 
-  fault_is : (r : Option Rule) → arg_by_long rules n ≡ r → turn_fault shape [] (at seen) word ≡ fault_at (n, Some v) r
-  fault_is r e = ap (λ p. fault_at p (arg_by_long rules p.0)) parts ∙ ap (fault_at (n, Some v)) e
+  fault_is : (r : Option Rule) → arg_by_long (rules form) n ≡ r → turn_fault (shape form) [] (at seen) word ≡ fault_at (n, Some v) r
+  fault_is r e = ap (λ p. fault_at p (arg_by_long (rules form) p.0)) parts ∙ ap (fault_at (n, Some v)) e
 
-  walk_is : (r : Option Rule) → arg_by_long rules n ≡ r → walked rules [] (at seen) word ≡ walk_at (n, Some v) r
+  walk_is : (r : Option Rule) → arg_by_long (rules form) n ≡ r → walked (rules form) [] (at seen) word ≡ walk_at (n, Some v) r
   unfolding walked
-  walk_is r e = ap (λ p. walk_at p (arg_by_long rules p.0)) parts ∙ ap (walk_at (n, Some v)) e
+  walk_is r e = ap (λ p. walk_at p (arg_by_long (rules form) p.0)) parts ∙ ap (walk_at (n, Some v)) e
 
-  pub unknown : arg_by_long rules n ≡ None → turn_fault shape [] (at seen) word ≡ kind.UnknownArgument ∷ []
+  pub unknown : arg_by_long (rules form) n ≡ None → turn_fault (shape form) [] (at seen) word ≡ kind.UnknownArgument ∷ []
   unknown e = fault_is None e
 
-  pub found_fault : (q b : Bool) → arg_by_long rules n ≡ Some (rule n q) → has_row n (map row seen) ≡ b
-      → turn_fault shape [] (at seen) word ≡ or_else (or_else (if b && true then kind.ArgumentConflict ∷ [] else []) []) []
-  found_fault q b e fresh = fault_is (Some (rule n q)) e
+  pub found_fault : (e : Entry) (b : Bool) → arg_by_long (rules form) n ≡ Some (rule e) → has_row e.name (map row seen) ≡ b
+      → turn_fault (shape form) [] (at seen) word ≡ or_else (or_else (if b && true then kind.ArgumentConflict ∷ [] else []) []) []
+  found_fault e b is fresh = fault_is (Some (rule e)) is
       ∙ ap (λ t. or_else (or_else (if t && true then kind.ArgumentConflict ∷ [] else []) []) []) fresh
 
-  pub found_walk : (q : Bool) → arg_by_long rules n ≡ Some (rule n q) → has_row n (map row seen) ≡ false
-      → walked rules [] (at seen) word ≡ at (seen ++ (n, v) ∷ [])
-  found_walk q e fresh = walk_is (Some (rule n q)) e
-      ∙ ap (λ rs. walk_from (held rs)) (appended n v (map row seen) fresh ∙ sym (map-append row seen ((n, v) ∷ [])))
+  pub found_walk : (e : Entry) → e.name ≡ n → arg_by_long (rules form) n ≡ Some (rule e) → has_row e.name (map row seen) ≡ false
+      → walked (rules form) [] (at seen) word ≡ at (seen ++ (n, v) ∷ [])
+  found_walk e named is fresh = walk_is (Some (rule e)) is
+      ∙ ap (λ rs. walk_from (held rs)) (appended e.name v (map row seen) fresh ∙ sym (map-append row seen ((e.name, v) ∷ [])))
+      ∙ ap (λ m. at (seen ++ (m, v) ∷ [])) named

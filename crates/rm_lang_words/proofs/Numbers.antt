@@ -5,7 +5,7 @@ use Rattle.std.specs.Str.{all_ascii_digits}
 use Rattle.std.proofs.lemmas.Bool.{leb-true}
 use Rattle.std.proofs.lemmas.Str.Parse.{IsNumeralModel, numerals_by_fold}
 use Rattle.rm_lang_words.specs.Options.{Text}
-use Rattle.rm_lang_words.specs.Words.{number_behind, number_in}
+use Rattle.rm_lang_words.specs.Form.{number_behind, number_in}
 
 pub own : IsNumeralModel (λ ds. all_ascii_digits ds ≡ true) (number_behind 0)
 own = numerals_by_fold _ (search rules) number_behind (search rules)

@@ -1,62 +1,98 @@
--- What the words say, by what `clap` finds.
-use Rattle.std.proofs.Common.{◌≡◌, ◌≢◌, ◌∙◌, [], Bool, List, Option, Some, None, true, false, map, refl, sym, ap, codes, true≢false}
-use Rattle.std.specs.Prelude.{is_some, if◌then◌else◌, option_and_then, unwrap_or}
+-- What the words of a program say by a form, by what `clap` finds.
+use Rattle.std.proofs.Common.{◌≡◌, ◌≢◌, ◌∙◌, ◌&&◌, ◌||◌, ◌∷◌, [], Bool, List, Option, Some, None, true, false, not, map, refl, sym, ap, ap₂}
+use Rattle.std.specs.Prelude.{is_some, unwrap_or}
+use Rattle.std.specs.List.{list_all, list_any}
+use Rattle.std.specs.Option.{option_map_or}
+use Rattle.clap.specs.declared.parser.matches.ArgMatches.{ArgMatches}
 use Rattle.rm_lang_words.specs.Options.{Given, Text, given_in}
-use Rattle.rm_lang_words.specs.Words.{Said, are_options, said, said_by, value_of, whole}
-use Rattle.rm_lang_words.specs.Reading.{words_behind}
-use Rattle.rm_lang_words.specs.Clap.{faults, found, one_word}
-use Rattle.rm_lang_words.proofs.Walks.{Plain, filled}
+use Rattle.rm_lang_words.specs.Form.{Entry, Form, accepts, are_options, has_value, is_met, is_met_by, obeys, value_of}
+use Rattle.rm_lang_words.specs.Reading.{AreOf, AreRead, words_behind}
+use Rattle.rm_lang_words.specs.Clap.{all_met, faults, found, one_word, value_at}
+use Rattle.rm_lang_words.proofs.Finds.{Finds, finds, lacks, missing}
 use Rattle.rm_lang_words.proofs.Names.{PlainIn, plain_behind}
-use Rattle.rm_lang_words.proofs.Finds.{Finds, finds, missing}
+use Rattle.rm_lang_words.proofs.Walks.{Plain, filled}
 
-abbrev pub whole_found : List Text → Option Said
-whole_found words = whole (found (codes "store") words) (found (codes "catalog") words) (found (codes "channels") words) (found (codes "drill") words)
+-- ---- options
 
-abbrev whole_of : List Given → Option Said
-whole_of os = whole (value_of (codes "store") os) (value_of (codes "catalog") os) (value_of (codes "channels") os) (value_of (codes "drill") os)
+and-false : (a b : Bool) → b ≡ false → (a && b) ≡ false
+and-false true b is = is
+and-false false b is = refl
 
-taken : (os : List Given) → Plain os → faults (map one_word os) ≡ [] → said_by os ≡ whole_found (map one_word os)
-unfolding Finds
-taken os plain none = go (are_options [] os) (finds os plain)
+-- where an entry has to be given and is not, not all are met
+unmet : (form : Form) (os : List Given) → list_any (lacks os) form ≡ true → list_all (is_met os) form ≡ false
+unmet [] os some = absurd (cc)
+unmet (e ∷ rest) os some = go e.needed (value_of e.name os) (list_any (lacks os) rest) (list_all (is_met os) rest) (unmet rest os) some
   where
-    go : (b : Bool) → Finds b os → (if b then whole_of os else None) ≡ whole_found (map one_word os)
-    go true f =
-        let is : (n : Text) → value_of n os ≡ found n (map one_word os) = λ n. sym (f.1 n) in
-        λ i. whole (is (codes "store") i) (is (codes "catalog") i) (is (codes "channels") i) (is (codes "drill") i)
+    go : (needed : Bool) (v : Option Text) (a b : Bool) → (a ≡ true → b ≡ false) → ((needed && not (is_some v)) || a) ≡ true → (option_map_or (has_value e.kind) v (not needed) && b) ≡ false
+    go true None a b more is = refl
+    go true (Some text) a b more is = and-false (has_value e.kind text) b (more is)
+    go false None a b more is = more is
+    go false (Some text) a b more is = and-false (has_value e.kind text) b (more is)
+
+-- options that `clap` takes are of the form, and it finds their values
+taken : (form : Form) (os : List Given) → Plain os → faults form (map one_word os) ≡ [] → (are_options form [] os ≡ true) × ((n : Text) → found form n (map one_word os) ≡ value_of n os)
+unfolding Finds
+taken form os plain none = go (are_options form [] os) (finds form os plain)
+  where
+    go : (b : Bool) → Finds form b os → (b ≡ true) × ((n : Text) → found form n (map one_word os) ≡ value_of n os)
+    go true f = (refl, f.1)
     go false f = absurd (filled _ f none)
 
-refused : (os : List Given) → Plain os → faults (map one_word os) ≢ [] → said_by os ≡ None
+-- those that it refuses do not obey the form
+refused : (form : Form) (os : List Given) → Plain os → faults form (map one_word os) ≢ [] → obeys form os ≡ false
 unfolding Finds
-refused os plain some = go (are_options [] os) (finds os plain)
+refused form os plain some = go (are_options form [] os) (finds form os plain)
   where
-    lacks : (store catalog channels drill : Option Text) → faults (map one_word os) ≡ missing (is_some store) (is_some catalog) → whole store catalog channels drill ≡ None
-    lacks None catalog channels drill e = refl
-    lacks (Some s) None channels drill e = refl
-    lacks (Some s) (Some c) channels drill e = absurd (some e)
+    lacking : (b : Bool) → list_any (lacks os) form ≡ b → faults form (map one_word os) ≡ missing b → list_all (is_met os) form ≡ false
+    lacking true is f = unmet form os is
+    lacking false is f = absurd (some f)
 
-    go : (b : Bool) → Finds b os → (if b then whole_of os else None) ≡ None
-    go true f = lacks (value_of (codes "store") os) (value_of (codes "catalog") os) (value_of (codes "channels") os) (value_of (codes "drill") os) f.0
+    go : (b : Bool) → Finds form b os → (b && list_all (is_met os) form) ≡ false
+    go true f = lacking (list_any (lacks os) form) refl f.0
     go false f = refl
+
+-- each entry is met by what is found exactly where it is met by the options
+met_as : (form : Form) (os : List Given) (words : List Text) → ((n : Text) → found form n words ≡ value_of n os) → all_met form words ≡ list_all (is_met os) form
+met_as form os words values = λ i. list_all (λ (e : Entry). is_met_by (values e.name i) e) form
+
+-- ---- the words of a program
 
 some_is : (a b : List Text) → ◌≡◌ {A = Option (List Text)} (Some a) (Some b) → a ≡ b
 some_is a b e = ap (λ (o : Option (List Text)). unwrap_or o a) e
 
 -- the options of the words, each as one word
-module _ (words ws : List Text) (are : words_behind [] (given_in words) ≡ Some ws) where
-  pub says : faults ws ≡ [] → said words ≡ whole_found ws
-  says none = go (given_in words) (plain_behind None words tt) are
-    where
-      go : (o : Option (List Given)) → PlainIn o → words_behind [] o ≡ Some ws → option_and_then said_by o ≡ whole_found ws
-      go None plain e = absurd (true≢false (ap is_some (sym e)))
-      go (Some os) plain e =
-          let same = some_is (map one_word os) ws e in
-          taken os plain (ap faults same ∙ none) ∙ ap whole_found same
+module _ (form : Form) (asked ws : List Text) (are : AreOf asked ws) where
+  abbrev Options : Type 0
+  Options = (os : List Given) × (given_in asked ≡ Some os) × Plain os × (map one_word os ≡ ws)
 
-  pub says_none : faults ws ≢ [] → said words ≡ None
-  says_none some = go (given_in words) (plain_behind None words tt) are
+  options : Options
+  options = go (given_in asked) refl (plain_behind None asked tt) are
     where
-      go : (o : Option (List Given)) → PlainIn o → words_behind [] o ≡ Some ws → option_and_then said_by o ≡ None
-      go None plain e = refl
-      go (Some os) plain e =
-          let same = some_is (map one_word os) ws e in
-          refused os plain (λ none. some (ap faults (sym same) ∙ none))
+      go : (o : Option (List Given)) → given_in asked ≡ o → PlainIn o → words_behind [] o ≡ Some ws → Options
+      go None is plain e = absurd (cc)
+      go (Some os) is plain e = (os, is, plain, some_is (map one_word os) ws e)
+
+  pub says : faults form ws ≡ [] → all_met form ws ≡ true → (m : ArgMatches) → ((n : Text) → value_at m n ≡ found form n ws) → AreRead form asked m
+  says none met m values =
+      let o = options in
+      let t = taken form o.0 o.2 (ap (faults form) o.3 ∙ none) in
+      let found_as : (n : Text) → found form n ws ≡ value_of n o.0 = λ n. ap (found form n) (sym o.3) ∙ t.1 n in
+      record {
+        options = o.0;
+        given = o.1;
+        obeyed = ap₂ (λ a b. a && b) t.0 (sym (met_as form o.0 ws found_as) ∙ met);
+        values = λ n. values n ∙ found_as n;
+      }
+
+  refuses : (os : List Given) → given_in asked ≡ Some os → obeys form os ≡ false → accepts form asked ≡ false
+  refuses os is not_obeyed = ap (λ (o : Option (List Given)). option_map_or (obeys form) o false) is ∙ not_obeyed
+
+  pub says_none : faults form ws ≢ [] → accepts form asked ≡ false
+  says_none some = let o = options in refuses o.0 o.1 (refused form o.0 o.2 (λ none. some (ap (faults form) (sym o.3) ∙ none)))
+
+  pub says_unmet : faults form ws ≡ [] → all_met form ws ≡ false → accepts form asked ≡ false
+  says_unmet none not_met =
+      let o = options in
+      let t = taken form o.0 o.2 (ap (faults form) o.3 ∙ none) in
+      let found_as : (n : Text) → found form n ws ≡ value_of n o.0 = λ n. ap (found form n) (sym o.3) ∙ t.1 n in
+      refuses o.0 o.1 (and-false (are_options form [] o.0) (list_all (is_met o.0) form) (sym (met_as form o.0 ws found_as) ∙ not_met))

@@ -85,7 +85,8 @@ fn tell_tables(rt: &HostRuntime) -> io::Result<()> {
     tell_table(rt, "marks", Table::Marks)?;
     tell_table(rt, "statements", Table::Statements)?;
     tell_table(rt, "refused", Table::Refused)?;
-    tell_table(rt, "words", Table::Words)
+    tell_table(rt, "words", Table::Words)?;
+    tell_table(rt, "duplicate", Table::Duplicate)
 }
 
 // What can't be read is not so.

@@ -185,6 +185,12 @@ pub fn recovering(number: u32) -> Option<Line>
         },
         21 => backed_up(Packing::Set, Shape::Level0, 8),
         22 => backed_up(Packing::Set, Shape::Level1 { from: 3 }, 0),
+        23 => Line::DuplicatedDatafile { file: 3, number: 1 },
+        24 => Line::DuplicatedDatabase {
+            dbid: 7,
+            until: 3,
+            files: 1,
+        },
         _ => return None,
     })
 }

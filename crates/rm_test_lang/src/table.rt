@@ -1,7 +1,7 @@
 //! The tables of times, statements and words.
 use crate::moments::{marks, shown, time};
 use crate::statements::{texts, texts_again};
-use crate::words::said;
+use crate::words::{duplicate_said, said};
 use rm_test_harness::{Fault, Told};
 use std::alloc::Global;
 
@@ -14,6 +14,7 @@ pub enum Table {
     Statements,
     Refused,
     Words,
+    Duplicate,
 }
 
 impl Told for Table {
@@ -25,6 +26,7 @@ impl Told for Table {
             Table::Statements => texts_again(alloc, given)?,
             Table::Refused => texts(alloc, given)?,
             Table::Words => said(alloc, given)?,
+            Table::Duplicate => duplicate_said(alloc, given)?,
         })
     }
 }

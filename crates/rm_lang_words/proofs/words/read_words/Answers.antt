@@ -1,36 +1,39 @@
-use Rattle.std.proofs.Common.{◌≡◌, ◌∙◌, Option, Some, None, Result, Ok, Err, refl, map, subst, sym, ap}
+use Rattle.std.proofs.Common.{ℕ, ◌≤◌, ◌∙◌, IfSome, Option, Some, false, map, refl, sym, subst, ap, arith, codes}
 use Rattle.std.specs.String.{string_bytes}
-use Rattle.rm_lang_words.specs.Options.{Text}
-use Rattle.rm_lang_words.specs.Words.{Said, said, whole}
-use Rattle.std.specs.Result.{IsErrAnd}
-use Rattle.rm_lang_words.specs.declared.faults.WordsFault.{WordsFault}
-use Rattle.rm_lang_words.specs.declared.faults.WordsFault.TheVariants.{Bad, NoMemory}
-use Rattle.rm_lang_words.specs.Reading.{Fails, Gives, said_of}
-use Rattle.rm_lang_words.proofs.Says.{says, says_none}
+use Rattle.rm_lang_words.specs.Words.{run_form, run_said, said}
+use Rattle.rm_lang_words.specs.Reading.{AreOf, AreRead, said_of}
+use Rattle.rm_lang_words.proofs.Told.{fails, number_told, number_within, text_told, told, untold}
 use Rattle.rm_lang_words.proofs.words.read_words.Goals as goal
 
-whole_same : {s s' c c' n n' d d' : Option Text} → s ≡ s' → c ≡ c' → n ≡ n' → d ≡ d' → whole s c n d ≡ whole s' c' n' d'
-whole_same s c n d = λ i. whole (s i) (c i) (n i) (d i)
+-- from 1 to 16, where there are any
+abbrev AreFew : Option ℕ → Type 0
+AreFew channels = IfSome channels (λ n. (1 ≤ n) × (n ≤ 16))
 
-of_fault : (x : WordsFault) (s : Option Said) → (x ≡ Bad → s ≡ None) → Fails x s
-of_fault Bad s h = h refl
-of_fault NoMemory s h = tt
+pub returns-in_err-options-clause-said : goal.returns-in_err-options-clause-said
+returns-in_err-options-clause-said c =
+    let are : AreOf c.args.words.now (map string_bytes c.deref.result.now) = c.in_ok-words.ensures ∙ ap (λ ws. Some (map string_bytes ws)) (sym c.deref.ensures.value) in
+    fails said_of c.from_residual-in_err-options.result c.in_err-options.field-0.0 (said c.args.words.now) c.from_residual-in_err-options.ensures.1
+    (λ bad. untold run_form run_said c.args.words.now (c.in_err-options.ensures.refused bad c.args.words.now are))
 
-fails : {X : Type 0} (view : X → Said) (r : Result X WordsFault) (x : WordsFault) (s : Option Said) → IsErrAnd r (λ e. e ≡ x) → (x ≡ Bad → s ≡ None) → Gives view r s
-fails view (Ok w) x s is h = absurd is
-fails view (Err e) x s is h = subst (λ y. Fails y s) (sym is) (of_fault x s h)
+pub returns-clause-said : goal.returns-clause-said
+returns-clause-said c =
+    let words = c.args.words.now in
+    let m = c.in_ok-options.options.matches in
+    let are : AreOf words (map string_bytes c.deref.result.now) = c.in_ok-words.ensures ∙ ap (λ ws. Some (map string_bytes ws)) (sym c.deref.ensures.value) in
+    let read : AreRead run_form words m = c.in_ok-options.ensures.obeyed words are in
+    let store = c.in_ok-text.ensures ∙ text_told run_form words m read (codes "store") in
+    let catalog = c.in_ok-text-2.ensures ∙ text_told run_form words m read (codes "catalog") in
+    let channels = c.number.ensures ∙ number_told run_form words m read 2 (codes "channels") false 1 16 refl 4294967295 (omega arith) in
+    let drill = c.long_number.ensures ∙ number_told run_form words m read 3 (codes "drill") false 0 18446744073709551615 refl 18446744073709551615 (omega arith) in
+    let database = c.number-2.ensures ∙ number_told run_form words m read 4 (codes "database") false 0 4294967295 refl 4294967295 (omega arith) in
+    told run_form words m read run_said
+    ∙ sym (λ i. Some (record { store = store i; catalog = catalog i; channels = channels i; drill = drill i; database = database i }))
 
-pub returns-in_err-found : goal.returns-in_err-found
-returns-in_err-found c =
-    let ws = map string_bytes c.deref.result.now in
-    let are = c.in_ok-options.ensures ∙ ap (λ os. Some (map string_bytes os)) (sym c.deref.ensures.value) in
-    fails said_of c.from_residual-in_err-found.result c.in_err-found.field-0.0 (said c.args.words.now) c.from_residual-in_err-found.ensures.1
-    (λ bad. says_none c.args.words.now ws are (c.in_err-found.ensures.refused bad))
-
-pub returns : goal.returns
-returns c =
-    let ws = map string_bytes c.deref.result.now in
-    let are = c.in_ok-options.ensures ∙ ap (λ os. Some (map string_bytes os)) (sym c.deref.ensures.value) in
-    let f = c.in_ok-found.ensures in
-    let found_is = says c.args.words.now ws are f.taken in
-    subst (Gives said_of c.words_of.result) (sym (found_is ∙ whole_same (sym f.store) (sym f.catalog) (sym f.channels) (sym f.drill))) c.words_of.ensures
+pub returns-clause-channels : goal.returns-clause-channels
+returns-clause-channels c =
+    let words = c.args.words.now in
+    let m = c.in_ok-options.options.matches in
+    let are : AreOf words (map string_bytes c.deref.result.now) = c.in_ok-words.ensures ∙ ap (λ ws. Some (map string_bytes ws)) (sym c.deref.ensures.value) in
+    let read : AreRead run_form words m = c.in_ok-options.ensures.obeyed words are in
+    let channels = c.number.ensures ∙ number_told run_form words m read 2 (codes "channels") false 1 16 refl 4294967295 (omega arith) in
+    subst AreFew (sym channels) (number_within run_form words m read 2 (codes "channels") false 1 16 refl)
