@@ -5,12 +5,13 @@ use Rattle.std.proofs.lemmas.Bool.{and_parts, cases_eq, cases_lt, leb-true, ne_e
 use Rattle.std.proofs.lemmas.List.{length-replicate}
 use Rattle.std.proofs.lemmas.List.Elements.{All-contains, All-contains_itself, All-nil, All-push, All-weaker}
 use Rattle.std.proofs.lemmas.Option.{slice_get_past, slice_get_within}
+use Rattle.rm_base.specs.Created.{created_row}
 use Rattle.rm_base.specs.Store.{Held}
 use Rattle.rm_base.specs.declared.block.Change.{Change}
 use Rattle.rm_base.specs.declared.block.Row.{Row}
 use Rattle.rm_base.proofs.Members.{first-or-rest, none-in, slice_get-front}
 use Rattle.rm_base.proofs.Slots.{get-index, get-push, index-get}
-use Rattle.rm_blocks.specs.File.{File, created, created_row, created_rows, standing}
+use Rattle.rm_blocks.specs.File.{File, created, created_rows, standing}
 use Rattle.rm_blocks.proofs.Rows.{in_order-created, length-created}
 use Rattle.rm_lang_statement.specs.declared.command.Command.TheVariants.{CreateDatafile}
 use Rattle.rm_history.specs.declared.tree.Incarnation.{Incarnation}
@@ -38,7 +39,8 @@ use Rattle.rm_machine.specs.Marks.{one_further}
 use Rattle.rm_machine.specs.Sound.{IsPlaced, IsPlacedRow, IsSound}
 use Rattle.rm_machine.specs.Tracked.{AreTracked, IsTracked, tracks}
 use Rattle.rm_machine.specs.declared.state.State.{State}
-use Rattle.rm_machine.specs.State.{database_of, world, now_of, on_path, placed}
+use Rattle.rm_machine.specs.State.{world, now_of, on_path, placed}
+use Rattle.rm_catalog_typed.specs.Worlds.{database_of}
 use Rattle.rm_machine_code.proofs.Damaged.{damaged-kept}
 use Rattle.rm_machine_code.proofs.Kept.{GrowsTo, kept-on, stand-same}
 use Rattle.rm_machine_code.proofs.Further.{catalog-further, keeps-further, sound-further}

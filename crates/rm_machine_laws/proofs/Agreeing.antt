@@ -35,7 +35,8 @@ use Rattle.rm_machine.specs.Effect.{Made, a_log, a_piece, a_set}
 use Rattle.rm_machine.specs.Machine.{DigestsTell, DigestsTellFor, IsBorneOut, IsTrueArtefact, Machine, PieceAgrees, TellBy}
 use Rattle.rm_machine.specs.Recovery.{IsAtHand}
 use Rattle.rm_machine.specs.declared.state.State.{State}
-use Rattle.rm_machine.specs.State.{database_of, ledger, world}
+use Rattle.rm_machine.specs.State.{ledger, world}
+use Rattle.rm_catalog_typed.specs.Worlds.{database_of}
 use Rattle.rm_machine_code.proofs.Places.{placed-is}
 use Rattle.rm_machine_laws.proofs.AtHand.{BackupFrom, BaseFrom, Level1From, LogFrom, base-from, from_copy, from_log, from_online, from_piece, from_place, from_set, level1-from, log-from}
 

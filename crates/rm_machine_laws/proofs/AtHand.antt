@@ -24,8 +24,9 @@ use Rattle.rm_machine.specs.Damage.{has_file, undamaged}
 use Rattle.rm_machine.specs.Recovery.{IsAtHand, in_place, online_logs}
 use Rattle.rm_machine.specs.Sound.{IsSound}
 use Rattle.rm_machine.specs.declared.state.State.{State}
-use Rattle.rm_machine.specs.State.{database_of, ledger, counted, online, is_lost}
-use Rattle.rm_machine_code.proofs.Records.{base-told}
+use Rattle.rm_machine.specs.State.{ledger, counted, online, is_lost}
+use Rattle.rm_catalog_typed.specs.Worlds.{database_of}
+use Rattle.rm_catalog_typed.proofs.Records.{base-told}
 use Rattle.rm_machine_code.proofs.Undamaged.{undamaged-at}
 use Rattle.rm_machine_code.proofs.Standing.{present-in}
 use Rattle.rm_machine_code.proofs.AtHand.{online-in}

@@ -38,7 +38,8 @@ use Rattle.rm_machine.specs.Sound.{IsSound}
 use Rattle.rm_machine.specs.SwitchLogfile.{log_entry}
 use Rattle.rm_machine.specs.Upkeep.{with_catalog}
 use Rattle.rm_machine.specs.declared.state.State.{State}
-use Rattle.rm_machine.specs.State.{database_of, ledger, tree, world}
+use Rattle.rm_machine.specs.State.{ledger, tree, world}
+use Rattle.rm_catalog_typed.specs.Worlds.{database_of}
 use Rattle.rm_machine_code.proofs.Cataloguing.{accepted, found-fits, next-catalogued, saved-catalogued, sound-catalogued}
 use Rattle.rm_machine_code.proofs.Kept.{kept-on, stand-same, stays-so}
 use Rattle.rm_machine_code.proofs.Later.{fits-with, resting}

@@ -11,7 +11,7 @@ use Rattle.rm_machine.specs.Effect.{Outcome}
 use Rattle.rm_machine.specs.Recovery.{IsGapOutcome, IsToldOutcome, in_place}
 use Rattle.rm_machine.specs.declared.state.State.{State}
 use Rattle.rm_machine.specs.State.{world}
-use Rattle.rm_machine_code.proofs.Records.{world-told}
+use Rattle.rm_catalog_typed.proofs.Records.{world-told}
 
 pub gap-unknown : (s : State) (held : Held) (i at : ℕ) (o : Outcome) (found : IsGapOutcome s held i at o) → IsUnknown (world s) (known_of found.first.evidence) i at found.gap.file found.gap.block found.gap.inc found.gap.scn
 gap-unknown s held i at o found =

@@ -2,6 +2,7 @@ mod AddingDatafile
 pub mod Agreeing
 mod Archives
 mod ArchivingAll
+pub mod Asking
 mod AtHand
 mod BackingUp
 mod BackingUpLogs
@@ -49,6 +50,7 @@ mod LosingLog
 mod Mounting
 mod NewObjects
 mod OldCopies
+mod OnBranches
 mod Opened
 mod Opening
 mod Pieces
@@ -66,7 +68,7 @@ mod Switching
 mod Telling
 mod ThreadSwitched
 mod ThreadSwitches
-mod Told
+pub mod Told
 mod Tracking
 mod Upkeep
 mod Walk

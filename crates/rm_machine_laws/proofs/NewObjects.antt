@@ -25,7 +25,8 @@ use Rattle.rm_machine.specs.Names.{IsObjectName, of_log, of_piece, of_set}
 use Rattle.rm_machine.specs.Sound.{IsSound}
 use Rattle.rm_machine.specs.declared.state.Instance.{Instance}
 use Rattle.rm_machine.specs.declared.state.State.{State}
-use Rattle.rm_machine.specs.State.{database_of, ledger, world}
+use Rattle.rm_machine.specs.State.{ledger, world}
+use Rattle.rm_catalog_typed.specs.Worlds.{database_of}
 use Rattle.rm_machine_laws.proofs.Dropping.{after-both}
 use Rattle.rm_machine_code.proofs.Kept.{GrowsTo, StandOn, kept-on, stays-so}
 use Rattle.rm_machine_code.proofs.NewObjects.{logged}

@@ -18,7 +18,8 @@ use Rattle.rm_machine.specs.Effect.{Made, a_piece, a_set}
 use Rattle.rm_machine.specs.Machine.{HasPieceArtefact, HasSetArtefact, IsBorneOut, IsTrueArtefact}
 use Rattle.rm_machine.specs.Sound.{IsSound}
 use Rattle.rm_machine.specs.declared.state.State.{State}
-use Rattle.rm_machine.specs.State.{database_of, world}
+use Rattle.rm_machine.specs.State.{world}
+use Rattle.rm_catalog_typed.specs.Worlds.{database_of}
 use Rattle.rm_machine_code.proofs.Kept.{stays-so}
 use Rattle.rm_machine_code.proofs.Later.{fits-with}
 use Rattle.rm_machine_code.proofs.Pieces.{sound-recorded, sound-recorded_set, with_recorded, with_recorded_set}

@@ -20,7 +20,8 @@ use Rattle.rm_machine.specs.MadePieces.{Copied, entry_for}
 use Rattle.rm_machine.specs.MadeSets.{InSet, set_entry_for, set_of}
 use Rattle.rm_machine.specs.Sound.{IsSound}
 use Rattle.rm_machine.specs.declared.state.State.{State}
-use Rattle.rm_machine.specs.State.{database_of, ledger, world}
+use Rattle.rm_machine.specs.State.{ledger, world}
+use Rattle.rm_catalog_typed.specs.Worlds.{database_of}
 use Rattle.rm_machine_code.proofs.Copies.{OfEach}
 use Rattle.rm_machine_code.proofs.Kept.{stand-same}
 use Rattle.rm_machine_code.proofs.Later.{borne-beside}

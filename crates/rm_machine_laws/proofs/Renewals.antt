@@ -61,7 +61,7 @@ use Rattle.rm_machine_code.proofs.Later.{borne-beside}
 use Rattle.rm_machine_laws.proofs.Leading.{LeadsOnBy, StaysBy}
 use Rattle.rm_machine_code.proofs.Merges.{EndsIn, IsLast, KeepsOn, last-merge, reached-keeps}
 use Rattle.rm_machine_laws.proofs.OldCopies.{IsNewCopy, copies-new, old-free, old-no-part}
-use Rattle.rm_machine_code.proofs.Records.{database-told, pieces-told, tree-told}
+use Rattle.rm_catalog_typed.proofs.Records.{database-told, pieces-told, tree-told}
 use Rattle.rm_machine_code.proofs.Renewing.{CanRenew, CanRenewAll, CanRenewTo}
 use Rattle.rm_machine_laws.proofs.Renewing.{IsTrueTo, renewals-borne, renewals-next, renewals-saved, renewals-sound}
 use Rattle.rm_machine_code.proofs.Standing.{each-in}

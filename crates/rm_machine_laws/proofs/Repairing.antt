@@ -53,7 +53,7 @@ use Rattle.rm_machine_code.proofs.Later.{borne-beside}
 use Rattle.rm_machine_code.proofs.Mending.{AreDue, CanMend, Patch, can-events}
 use Rattle.rm_machine_code.proofs.Places.{placed-is}
 use Rattle.rm_machine_code.proofs.Putting.{sound-fewer}
-use Rattle.rm_machine_code.proofs.Records.{tree-told}
+use Rattle.rm_catalog_typed.proofs.Records.{tree-told}
 use Rattle.rm_machine_code.proofs.RepairAccepted.{CanRepair, can-repair}
 use Rattle.rm_machine_code.proofs.Repaired.{marking}
 use Rattle.rm_machine_code.proofs.Repaired as shared

@@ -67,6 +67,7 @@ use Rattle.rm_machine.specs.Upkeep.{changed_to, log_at, log_changed, piece_at, p
 use Rattle.rm_machine.specs.Write.{block_refusal, with_write, write_refusal}
 use Rattle.rm_machine_code.proofs.Archives.{Took, took-thread}
 use Rattle.rm_machine_laws.proofs.ArchivingAll.{room}
+use Rattle.rm_machine_laws.proofs.Asking.{Asks, asks-else, asks-ids, corrupt-asks, repair-asks, write-asks}
 use Rattle.rm_machine_code.proofs.BackingUp.{base-at_end, objects-many}
 use Rattle.rm_machine_code.proofs.BackupAccepted.{can-back_up}
 use Rattle.rm_machine_code.proofs.Recording.{next-id}
@@ -105,23 +106,6 @@ none-drawn : (s : State) (lines said : List Line) (e x : Effect) (q t : State) �
 none-drawn s lines said e x q t is same left =
     left-after lines said e x q t is (omega (arith, not-above 4294967295 (next s + 0 + 68) left, same))
 
--- Why it is refused: the ids of a save are asked for
-
--- what is not refused has them
-abbrev Asks : State → Option Refusal → Type 0
-Asks s o = o ≡ None → lacks_ids s 0 ≡ false
-
-asks-of : {X : Type 0} (s : State) (f : X → Option Refusal) (r : Refusal) (o : Option X) → ((x : X) → Asks s (f x)) → Asks s (option_map_or f o (Some r))
-asks-of s f r None asks is = absurd (let clash : Some r ≡ None = is in cc)
-asks-of s f r (Some x) asks is = asks x is
-
-asks-else : (s : State) (o p : Option Refusal) → Asks s p → Asks s (or_else o p)
-asks-else s None p asks is = asks is
-asks-else s (Some r) p asks is = absurd (let clash : Some r ≡ None = is in cc)
-
-asks-ids : (s : State) → Asks s (ids_refusal s)
-asks-ids s is = search rules
-
 -- Statements that draw none
 
 -- what was not refused, and was done
@@ -138,12 +122,6 @@ draws-none c asks stays = leaves c (λ s held lines e t sound none is. stays s h
 pub create-roomy : (blocks : ℕ) → LeavesIds (CreateDatafile blocks)
 create-roomy blocks = draws-none (CreateDatafile blocks) (λ s is. search rules)
     (λ s held lines e t is left. none-drawn s lines _ e _ (with_datafile s blocks) t is refl left)
-
-write-asks : (w : WriteForm) (s : State) → Asks s (write_refusal s w)
-write-asks w s is =
-    let mode = only-where s.instance.is_open _ _ is in
-    let thread = unless (is_no_thread s w.thread) _ _ mode.1 in
-    asks-of s (block_refusal s w) (Rm05 (File w.file)) (on_path s w.file) (λ d none. search rules) thread.1
 
 pub write-roomy : (w : WriteForm) → LeavesIds (Write w)
 write-roomy w = draws-none (Write w) (write-asks w)
@@ -183,29 +161,9 @@ corrupted-next : (b : Bool) (s : State) (f : ℕ) (r : Row) → next (cond b s (
 corrupted-next true s f r = refl
 corrupted-next false s f r = refl
 
-corrupt-asks : (f b : ℕ) (s : State) → Asks s (corrupt_refusal s f b)
-corrupt-asks f b s is =
-    let mode = only-where s.instance.is_open _ _ is in
-    asks-of s (corrupt_block_refusal s f b) (Rm05 (File f)) (on_path s f) (λ d none. search rules) mode.1
-
 pub corrupt-roomy : (f b : ℕ) → LeavesIds (Corrupt f b)
 corrupt-roomy f b = draws-none (Corrupt f b) (corrupt-asks f b)
     (λ s held lines e t does left. none-drawn s lines _ e _ (corrupted s f does.0) t does.2 (corrupted-next (has_block s.instance.damaged f does.0.block) s f does.0) left)
-
-asks-more : {X : Type 0} (s : State) (r : X → Refusal) (o : Option X) (p : Option Refusal) → Asks s p → Asks s (option_map_or (λ x. Some (r x)) o p)
-asks-more s r None p asks is = asks is
-asks-more s r (Some x) p asks is = absurd (let clash : Some (r x) ≡ None = is in cc)
-
-room-asks : (s : State) (form : RepairForm) → Asks s (repair_room_refusal s form)
-room-asks s form is = search rules
-
-repair-asks : (form : RepairForm) (s : State) → Asks s (repair_refusal s form)
-repair-asks form s is =
-    let mode = only-where s.instance.is_open _ _ is in
-    asks-more s (λ a. Rm05 a) (option_and_then (absent_named s) form.blocks) _
-    (asks-more s (λ a. Rm05 a) (absent_of s (asked form.during)) _
-    (asks-more s (λ f. Rm09 f) (option_and_then (lost_named s) form.blocks) _
-    (asks-more s (λ f. Rm09 f) (lost_of s (asked form.during)) _ (room-asks s form)))) mode.1
 
 marked-next : (b : Bool) (s : State) → next (cond b s (record s { catalog = with_marks s.catalog (marks_before s) })) ≡ next s
 marked-next true s = refl

@@ -1,8 +1,8 @@
 -- A window has a start: each incarnation has a mark, and one of the current incarnation is on its path.
-use Rattle.std.proofs.Common.{◌≡◌, ◌≤◌, ◌<◌, ◌∙◌, ◌⊎◌, inl, inr, ℕ, zero, suc, List, Option, Some, None, Bool, true, refl, ap, sym, subst, arith, find, reverse, Contains, is_some}
+use Rattle.std.proofs.Common.{◌≡◌, ◌≤◌, ◌<◌, ◌∙◌, ◌⊎◌, inl, inr, ℕ, List, Option, Some, None, Bool, true, refl, ap, sym, subst, arith, find, reverse, Contains, is_some}
 use Rattle.std.specs.Prelude.{unwrap_or}
 use Rattle.std.specs.Option.{option_map, option_or}
-use Rattle.std.proofs.lemmas.Bool.{cases_lt, eq-eqb}
+use Rattle.std.proofs.lemmas.Bool.{eq-eqb}
 use Rattle.std.proofs.lemmas.List.Elements.{All-contains}
 use Rattle.std.proofs.lemmas.List.Sorted.{Contains-permutation, IsPermutation-reverse, IsPermutation-sym}
 use Rattle.std.proofs.lemmas.Option.{same_Some}
@@ -10,11 +10,11 @@ use Rattle.rm_base.specs.declared.block.Mark.{Mark}
 use Rattle.rm_base.specs.declared.kinds.Policy.TheVariants.{Window}
 use Rattle.rm_base.proofs.Lists.{find_cases, find_none}
 use Rattle.rm_history.specs.declared.tree.Incarnation.{Incarnation}
-use Rattle.rm_history.specs.Tree.{HasParentsBelow, IsThere, is_within, parent_of, reset_of, segment_end}
+use Rattle.rm_history.specs.Tree.{HasParentsBelow, is_within, reset_of, segment_end}
 use Rattle.rm_history.proofs.Paths.{segment_end-some}
 use Rattle.rm_history.proofs.Segments.{is_within_none}
-use Rattle.rm_catalog_typed.specs.LedgerFacts.{AreIncarnations, IsMark}
-use Rattle.rm_catalog_typed.proofs.Trees.{parents_below}
+use Rattle.rm_catalog_typed.specs.LedgerFacts.{IsMark}
+use Rattle.rm_catalog_typed.proofs.Trees.{first-begins, parents_below}
 use Rattle.rm_retain.specs.Window.{first_on_path, is_old, is_on_path, last_old, window_start}
 use Rattle.rm_machine.specs.Obsolete.{start_by}
 use Rattle.rm_machine.specs.Sound.{IsSound}
@@ -30,19 +30,6 @@ none-own tree below i some (Some end) is = absurd (((segment_end-some tree below
 within-own : (tree : List Incarnation) → HasParentsBelow tree → (i s : ℕ) → 0 < i → is_within tree i i s ≡ true
 within-own tree below i s some =
     sym (is_within_none tree i i s some (λ ancestor. ancestor.0 refl) (none-own tree below i some (segment_end tree i i) refl)) ∙ eq-eqb i i refl
-
--- incarnations begin where the first one does, or above
-first-begins : (tree : List Incarnation) → AreIncarnations tree → (most i : ℕ) → i ≤ most → IsThere tree i → reset_of tree 1 ≤ reset_of tree i
-first-begins tree are zero i few there = let some = there.0 in absurd (omega (arith, some, few))
-first-begins tree are (suc most) i few there = elim (cases_lt 1 i) [
-  | inl later ↦
-      let branch = are.branches i later there.1 in
-      let low = first-begins tree are most (parent_of tree i) (omega (arith, branch.parent.1, few)) (branch.parent.0, omega (arith, branch.parent.1, there.1)) in
-      omega (arith, low, branch.reset)
-  | inr first ↦
-      let one : 1 ≡ i = omega (arith, first, there.0) in
-      subst (λ k. reset_of tree 1 ≤ reset_of tree k) one (omega arith)
-]
 
 some-mapped : (o : Option Mark) → ¬ (o ≡ None) → ¬ (option_map (λ m. m.scn) o ≡ None)
 some-mapped None some = λ none. some refl

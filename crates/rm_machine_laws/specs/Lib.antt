@@ -1,3 +1,4 @@
+pub mod Branched
 pub mod Carries
 pub mod Holds
 pub mod Loose

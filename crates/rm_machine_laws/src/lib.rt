@@ -2,5 +2,6 @@
 //! hands out, carried out over a store and a keeper, is a step of the whole machine.
 #![tactic(auto)]
 
+pub mod example;
 pub mod frame;
 pub mod laws;
