@@ -23,7 +23,7 @@ use Rattle.rm_machine.specs.Effect.{Artefact, Made, a_log, a_piece, a_set}
 use Rattle.rm_machine.specs.Machine.{IsTrueArtefact, PieceAgrees}
 use Rattle.rm_machine.specs.Rest.{HasPartArtefact, PartsTellFor}
 use Rattle.rm_machine.specs.Saved.{HasPart, IsGoodFile, IsGoodLog, IsOfPart, spelling_of}
-use Rattle.rm_machine.specs.State.{world_of}
+use Rattle.rm_catalog_typed.specs.Worlds.{world_of}
 
 -- what a search finds is there, and passes
 pub found : {X : Type 0} (p : X → Bool) (xs : List X) (x : X) → find p xs ≡ Some x → Contains xs x × (p x ≡ true)

@@ -22,7 +22,8 @@ use Rattle.rm_machine.specs.Rest.{HasPartArtefact, HaveParts, IsRestBorneOut, Is
 use Rattle.rm_machine.specs.Saved.{IsOfPart, spelling_of}
 use Rattle.rm_machine.specs.Saving.{IsSavedAs, SitePart, entry_of, made_of, object_of, parts_of, saved_of, with_ids, with_site}
 use Rattle.rm_machine.specs.Sound.{IsSound}
-use Rattle.rm_machine.specs.State.{ledger, counted, database_of, placed, world}
+use Rattle.rm_machine.specs.State.{ledger, counted, placed, world}
+use Rattle.rm_catalog_typed.specs.Worlds.{database_of}
 use Rattle.rm_machine_code.proofs.Dropping.{no-site}
 use Rattle.rm_machine_code.proofs.Kept.{StandOn, kept-on, stays-so}
 use Rattle.rm_machine_code.proofs.LosingFits.{losing-fits}

@@ -49,7 +49,7 @@ use Rattle.rm_machine.specs.State.{ledger, tree}
 use Rattle.rm_machine_code.proofs.Standing.{each-in}
 use Rattle.rm_step_copies.specs.Fit.{AreFit, CanRecord, IsFit, IsShort}
 use Rattle.rm_machine_code.proofs.Merges.{EndsIn, IsLast, KeepsOn, last-merge, reached-keeps}
-use Rattle.rm_machine_code.proofs.Records.{database-told, pieces-told, tree-told}
+use Rattle.rm_catalog_typed.proofs.Records.{database-told, pieces-told, tree-told}
 
 -- an image copy is no level 1
 copy-kind : (k : Kind) (p : PieceEntry) → FitsKind k p → p.copy ≡ true → k ≢ Level1

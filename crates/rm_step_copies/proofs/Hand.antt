@@ -8,7 +8,7 @@ use Rattle.rm_evidence.specs.Known.{FitsTree}
 use Rattle.rm_machine.specs.declared.state.State.{State}
 use Rattle.rm_machine.specs.State.{tree}
 use Rattle.rm_catalog_typed.specs.TypedCatalog.{records_of}
-use Rattle.rm_machine_code.proofs.Records.{tree-told}
+use Rattle.rm_catalog_typed.proofs.Records.{tree-told}
 
 -- what follows of an answer follows where there is one
 pub ok-then : {A E : Type 0} {P Q : A → Type 0} (r : Result A E) → IfOk r P → ((x : A) → P x → Q x) → IfOk r Q

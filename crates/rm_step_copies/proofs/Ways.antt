@@ -56,7 +56,8 @@ valid-to : (s : State) (tag : List ℕ) (o : Option Piece) → IfSome o (CanReco
 valid-to s tag None can = tt
 valid-to s tag (Some last) can = can.valid
 
-ids-left : (s : State) (xs : List (ℕ × Renewed)) → renewed_refusal s xs ≡ None → (ledger s).base.next_id + length (changed xs) + 68 ≤ 4294967295
+-- the ids of those that changed are left
+pub ids-left : (s : State) (xs : List (ℕ × Renewed)) → renewed_refusal s xs ≡ None → (ledger s).base.next_id + length (changed xs) + 68 ≤ 4294967295
 ids-left s xs is =
     let bytes = unless (lacks_bytes s (sum_by copy_bytes xs)) (Rm11 Bytes) _ is in
     let ids = unless (lacks_ids s (length (changed xs))) (Rm11 ObjectIds) None bytes.1 in

@@ -1,7 +1,8 @@
 //! RECOVER COPY OF DATABASE WITH TAG tag [UNTIL ..]
-ghost use Rattle.std.specs.Prelude.{◌≡◌, ◌≤◌, All, IfErr, IfOk, IsErrOf, None, OnOk};
+ghost use Rattle.std.specs.Prelude.{◌≡◌, ◌≤◌, All, IfErr, IfOk, IsErrOf, None, OnOk, false};
 ghost use Rattle.rm_base.specs.Outside.{Rose};
 ghost use Rattle.rm_machine.specs.Hands.{Hands, Refuses};
+ghost use Rattle.rm_machine.specs.Marks.{lacks_ids};
 ghost use Rattle.rm_machine.specs.RecoverCopy.{recover_copy_refusal};
 ghost use Rattle.rm_machine.specs.Sound.{IsSound};
 ghost use Rattle.rm_report.specs.Reply.{HasDate, IsPlain};
@@ -43,6 +44,7 @@ pub fn recover_copy<D: Store>(
     ensures refuses { IfOk result (λ x. IfErr x (λ refusal. Refuses (D.held store.old) state.old (RecoverCopy tag.now until.now) refusal)) }
     ensures edits { OnOk result (EditsFollow edits.old.items edits.new.items state.old.catalog state.new.catalog) }
     ensures sound { OnOk result (IsSound state.new) }
+    ensures ids { IfOk result (λ x. IfOk x (λ _. lacks_ids state.old 0 ≡ false)) }
     ensures refused { IfOk result (λ x. IfErr x (λ _. state.new ≡ state.old)) }
     ensures dates { IfOk result (λ x. IfOk x (λ handed. All IsPlain handed.lines)) }
     ensures date { IfOk result (λ x. IfErr x HasDate) }

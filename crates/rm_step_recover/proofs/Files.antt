@@ -25,7 +25,7 @@ use Rattle.rm_machine.specs.declared.state.State.{State}
 use Rattle.rm_machine.specs.State.{ledger, tree, world}
 use Rattle.rm_machine_code.proofs.Numbers.{file-place}
 use Rattle.rm_machine_code.proofs.Placing.{number}
-use Rattle.rm_machine_code.proofs.Records.{world-told}
+use Rattle.rm_catalog_typed.proofs.Records.{world-told}
 use Rattle.rm_machine_code.proofs.Restoring.{are-restored, file-number}
 use Rattle.rm_machine_code.proofs.Standing.{each-in}
 use Rattle.rm_machine_code.proofs.Told.{tells-files}

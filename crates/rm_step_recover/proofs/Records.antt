@@ -26,7 +26,7 @@ use Rattle.rm_machine.specs.Sound.{IsSound}
 use Rattle.rm_machine.specs.declared.state.State.{State}
 use Rattle.rm_machine.specs.State.{current_of, tree, world}
 use Rattle.rm_machine_code.proofs.Fitting.{place-fits}
-use Rattle.rm_machine_code.proofs.Records.{tree-told, world-told}
+use Rattle.rm_catalog_typed.proofs.Records.{tree-told, world-told}
 use Rattle.rm_machine_code.proofs.Untils.{until-none}
 
 -- where there is nothing to map there was nothing

@@ -21,7 +21,7 @@ use Rattle.rm_machine.specs.Obsolete.{NeedsBackup, retention_of}
 use Rattle.rm_machine.specs.Recovery.{IsAtHand}
 use Rattle.rm_machine.specs.declared.state.State.{State}
 use Rattle.rm_machine.specs.State.{current_of, ledger, now_of, on_path, world}
-use Rattle.rm_machine_code.proofs.Records.{world-told}
+use Rattle.rm_catalog_typed.proofs.Records.{world-told}
 use Rattle.rm_machine_code.proofs.Tracked.{on-path}
 
 module _ (s : State) (e : Evidence) where

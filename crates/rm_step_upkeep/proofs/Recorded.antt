@@ -1,20 +1,27 @@
 -- What is catalogued is recorded, and what is handed out is what the statement comes to.
-use Rattle.std.proofs.Common.{◌≡◌, ◌≤◌, ◌<◌, ◌∙◌, [], ◌∷◌, inl, inr, ℕ, List, true, false, Option, Some, None, refl, ap, sym, subst}
+use Rattle.std.proofs.Common.{◌≡◌, ◌≤◌, ◌<◌, ◌+◌, ◌∙◌, [], ◌∷◌, inl, inr, ℕ, List, Bool, true, false, cond, arith, Option, Some, None, refl, ap, sym, subst}
 use Rattle.std.specs.Option.{option_map_or}
+use Rattle.std.proofs.lemmas.Bool.{le-ltb}
 use Rattle.rm_base.specs.Store.{Held}
+use Rattle.rm_base.specs.declared.refusal.Limit.TheVariants.{ObjectIds}
 use Rattle.rm_base.specs.declared.refusal.Refusal.{Refusal}
+use Rattle.rm_base.specs.declared.refusal.Refusal.TheVariants.{Rm11, Rm13}
+use Rattle.rm_base.proofs.Conditions.{unless}
 use Rattle.rm_lang_statement.specs.declared.command.Command.TheVariants.{CatalogName}
-use Rattle.rm_machine.specs.CatalogName.{Found, IsFound, IsNamed, an_id, catalog_by, catalog_refusal, catalogued, catalogues, cataloguing, found_log, found_piece, id_of as id_found, name_of, no_id}
+use Rattle.rm_machine.specs.CatalogName.{Found, IsFound, IsNamed, an_id, catalog_by, catalog_refusal, catalogued, catalogues, cataloguing, found_log, found_piece, id_of as id_found, ids_up_to, lacks_ids_behind, name_of, no_id}
 use Rattle.rm_machine.specs.Effect.{Outcome, refused}
 use Rattle.rm_machine.specs.Hands.{Hands, Refuses}
+use Rattle.rm_machine.specs.Marks.{lacks_bytes, lacks_ids, lacks_room}
 use Rattle.rm_machine.specs.Sound.{IsSound}
-use Rattle.rm_machine.specs.Upkeep.{with_catalog}
+use Rattle.rm_machine.specs.Upkeep.{is_unknown, with_catalog}
 use Rattle.rm_machine.specs.declared.handed.Handed.{Handed}
+use Rattle.rm_machine.specs.State.{ledger}
 use Rattle.rm_machine.specs.declared.state.State.{State}
 use Rattle.rm_machine_code.proofs.Cataloguing.{FitsFound, found-fits, sound-catalogued}
 use Rattle.rm_machine_code.proofs.Handing.{hands-by}
+use Rattle.rm_machine_code.proofs.Switching.{not-above}
 use Rattle.rm_report.specs.declared.line.Line.TheVariants.{Catalogued}
-use Rattle.rm_step_upkeep.specs.Catalogued.{CanBeRecorded, Finds, IsFoundAs, IsOf, entry_of, id_in, id_of, recorded, refusal_by}
+use Rattle.rm_step_upkeep.specs.Catalogued.{CanBeRecorded, Finds, IsFoundAs, IsOf, entry_of, id_in, id_of, recorded, refusal_by, room_refusal, size_of}
 use Rattle.rm_step_upkeep.specs.declared.finding.Entry.{Entry}
 use Rattle.rm_step_upkeep.specs.declared.naming.Named.{Named}
 use Rattle.rm_step_upkeep.proofs.Read.{of-named}
@@ -97,3 +104,16 @@ module _ (held : Option Held) (s : State) (name : List ℕ) (e : Entry) (found :
         let tells = an_id (id_found x) (found-name s store name x at) in
         record { id = id_found x; tells = tells; found = Some x; finds = at; is = sym (ap comes_by (sym refusal-is ∙ accepted)) })
         (lines ∙ ap (λ n. Catalogued n ∷ []) (ap id_of found.is ∙ same-id s x)) objects removes (is ∙ ap (with_catalog s) after-is)
+
+-- what is recorded had the ids of a save left
+pub asked-ids : (s : State) (name : List ℕ) (e : Entry) → refusal_by s name e ≡ None → lacks_ids s 0 ≡ false
+asked-ids s name e accepted = decide (is_unknown s.catalog (id_of e)) accepted
+  where
+    decide : (b : Bool) → cond b (room_refusal s (size_of e) (id_of e)) (cond (lacks_ids_behind s (id_of e)) (Some (Rm11 ObjectIds)) (Some (Rm13 name))) ≡ None → lacks_ids s 0 ≡ false
+    decide true none =
+        let records = unless (lacks_room s 1) _ _ none in
+        let bytes = unless (lacks_bytes s (size_of e)) _ _ records.1 in
+        let ids = unless (lacks_ids_behind s (id_of e)) _ _ bytes.1 in
+        let most = not-above 4294967295 ((ledger s).base.next_id + ids_up_to s (id_of e) + 68) ids.0 in
+        le-ltb 4294967295 ((ledger s).base.next_id + 0 + 68) (omega (arith, most))
+    decide false none = absurd (let clash = (unless (lacks_ids_behind s (id_of e)) _ _ none).1 in cc)

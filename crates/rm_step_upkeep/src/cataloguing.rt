@@ -1,5 +1,5 @@
 //! CATALOG 'name'
-ghost use Rattle.std.specs.Prelude.{◌≡◌, ◌≤◌, All, IfErr, IfOk, IsErrOf, None, OnOk};
+ghost use Rattle.std.specs.Prelude.{◌≡◌, ◌≤◌, All, IfErr, IfOk, IsErrOf, None, OnOk, false};
 ghost use Rattle.rm_base.specs.Numbers.{last_scn};
 ghost use Rattle.rm_base.specs.Outside.{Rose};
 ghost use Rattle.rm_commit.specs.declared.commit.Stop.TheVariants.{KeeperFault, StoreFault};
@@ -10,6 +10,7 @@ ghost use Rattle.rm_lang_statement.specs.declared.command.Command.TheVariants.{C
 ghost use Rattle.rm_machine.specs.CatalogName.{catalog_by, ids_up_to, lacks_ids_behind};
 ghost use Rattle.rm_machine.specs.Effect.{refused};
 ghost use Rattle.rm_machine.specs.Hands.{Hands, Refuses};
+ghost use Rattle.rm_machine.specs.Marks.{lacks_ids};
 ghost use Rattle.rm_machine.specs.Sound.{IsSound};
 ghost use Rattle.rm_machine.specs.State.{tree};
 ghost use Rattle.rm_machine.specs.Upkeep.{with_catalog};
@@ -166,6 +167,7 @@ pub fn catalog<D: Store>(
     ensures refuses { IfOk result (λ x. IfErr x (λ refusal. Refuses (D.held store.old) state.old (CatalogName name.now) refusal)) }
     ensures edits { OnOk result (EditsFollow edits.old.items edits.new.items state.old.catalog state.new.catalog) }
     ensures sound { OnOk result (IsSound state.new) }
+    ensures ids { IfOk result (λ x. IfOk x (λ _. lacks_ids state.old 0 ≡ false)) }
     ensures refused { IfOk result (λ x. IfErr x (λ _. state.new ≡ state.old)) }
     ensures unedited { IfOk result (λ x. IfErr x (λ _. edits.new.items ≡ edits.old.items)) }
     ensures dates { IfOk result (λ x. IfOk x (λ handed. All IsPlain handed.lines)) }

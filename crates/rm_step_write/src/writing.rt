@@ -21,6 +21,7 @@ use rm_machine_code::damage::is_damaged;
 use rm_machine_code::facts::{is_thread, now, on_path, placed};
 use rm_machine_code::marks::{go_further, mark_count};
 use rm_machine_code::room::{lacks_ids, lacks_room};
+use rm_redo::LogFault;
 use rm_report::Line;
 use std::alloc::Global;
 use std::mem;
@@ -141,10 +142,11 @@ pub fn write(
     let change = change_of(state, form);
     let handed = of_line(alloc, Line::Written { scn: change.scn })?;
     go_further(state, edits)?;
-    // The log is not full, so only memory can be wanting.
-    let Ok(()) = state.instance.logs.append(change) else {
-        return Err(NoMemory);
-    };
+    match state.instance.logs.append(change) {
+        Ok(()) => {}
+        Err(LogFault::NoMemory) => return Err(NoMemory),
+        Err(LogFault::Full) => unreachable!(),
+    }
     let mut place = mem::replace(&mut state.instance.place, Seq::new(alloc)).into_vec();
     put_row(&mut place, change);
     state.instance.place = Seq::from_vec(place);

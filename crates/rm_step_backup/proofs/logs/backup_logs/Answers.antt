@@ -1,8 +1,10 @@
-use Rattle.std.proofs.Common.{rules, ◌≡◌, ◌∙◌, ◌++◌, None, Some, ℕ, List, ap, map, subst, sym}
+use Rattle.std.proofs.Common.{rules, ◌≡◌, ◌∙◌, ◌+◌, ◌++◌, None, Some, ℕ, List, ap, arith, map, subst, sym}
+use Rattle.std.proofs.lemmas.Bool.{le-ltb}
 use Rattle.std.specs.Prelude.{IfSome}
 use Rattle.rm_commit.specs.declared.commit.Object.{Object}
 use Rattle.rm_machine.specs.BackupLogs.{copies_of, copies_refusal, copy_line, copy_object}
 use Rattle.rm_machine.specs.State.{ledger}
+use Rattle.rm_machine_code.proofs.BackingUpLogs.{room-for}
 use Rattle.rm_redo.specs.declared.log_file.LogFile.{LogFile}
 use Rattle.rm_report.specs.declared.line.Line.{Line}
 use Rattle.rm_step_backup.specs.Logs.{AreRecorded, IsAll}
@@ -35,3 +37,10 @@ returns-clause-hands g c =
 pub returns-clause-dates : goal.returns-clause-dates
 returns-clause-dates g c =
     all-dated (copies_of c.args.state.now (logs_in c.as_slice-logs.result.now)) c.in_ok-first_lines.field-0 c.back_up_all.new.handed.lines c.in_ok-first_lines.ensures.dates c.in_ok-back_up_all.ensures.lines
+
+pub returns-clause-ids : goal.returns-clause-ids
+returns-clause-ids g c =
+    let s = c.args.state.now in
+    let logs = logs_in c.as_slice-logs.result.now in
+    let of : copies_refusal s logs ≡ None = search rules in
+    le-ltb 4294967295 ((ledger s).base.next_id + 0 + 68) (omega (arith, (room-for s logs c.requires.sound of).ids))

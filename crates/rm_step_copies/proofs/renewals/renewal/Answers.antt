@@ -9,7 +9,7 @@ use Rattle.rm_evidence.specs.Known.{FitsTree}
 use Rattle.rm_machine.specs.RecoverCopy.{HasTaken}
 use Rattle.rm_machine.specs.declared.state.State.{State}
 use Rattle.rm_catalog_typed.specs.TypedCatalog.{records_of}
-use Rattle.rm_machine_code.proofs.Records.{tree-told}
+use Rattle.rm_catalog_typed.proofs.Records.{tree-told}
 use Rattle.rm_step_copies.proofs.renewals.renewal.Goals as goal
 
 pub recover_copy-requires-clause-fits : goal.recover_copy-requires-clause-fits

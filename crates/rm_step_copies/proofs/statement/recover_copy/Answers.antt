@@ -1,12 +1,14 @@
-use Rattle.std.proofs.Common.{◌≡◌, ◌∙◌, ◌++◌, ℕ, List, None, Some, ap, sym}
+use Rattle.std.proofs.Common.{◌≡◌, ◌∙◌, ◌+◌, ◌++◌, ℕ, List, None, Some, ap, arith, sym}
+use Rattle.std.proofs.lemmas.Bool.{le-ltb}
 use Rattle.rm_commit.specs.declared.commit.Object.{Object}
 use Rattle.rm_machine.specs.Recover.{recover_target}
 use Rattle.rm_machine.specs.RecoverCopy.{AreRenewed, copies_gone, copies_lines, copies_put, copy_refusal_at, renewed_refusal, targetless_refusal}
 use Rattle.rm_machine.specs.Recovery.{skipped_lines}
-use Rattle.rm_machine.specs.State.{current_of}
+use Rattle.rm_machine.specs.State.{current_of, ledger}
 use Rattle.rm_report.specs.declared.line.Line.{Line}
 use Rattle.rm_step_copies.proofs.Fit.{all-fit, all-short}
 use Rattle.rm_step_copies.proofs.Handing.{all-dated, leads-on, renew-hands, renew-refused}
+use Rattle.rm_step_copies.proofs.Ways.{ids-left}
 use Rattle.rm_step_copies.proofs.statement.recover_copy.Goals as goal
 
 pub unreachable-requires : goal.unreachable-requires
@@ -63,3 +65,10 @@ returns-clause-hands g c =
 pub returns-clause-dates : goal.returns-clause-dates
 returns-clause-dates g c =
     all-dated c.args.state.now c.args.tag.now c.as_slice-copies.result.now c.in_ok-skipped_lines.field-0 c.renew_all.new.handed.lines c.in_ok-skipped_lines.ensures.dates c.in_ok-renew_all.ensures.lines
+
+pub returns-clause-ids : goal.returns-clause-ids
+returns-clause-ids g c =
+    let s = c.args.state.now in
+    let xs = c.as_slice-copies.result.now in
+    let of : renewed_refusal s xs ≡ None = sym c.renewed_refusal.ensures ∙ c.in_default-renewed_refusal.is in
+    le-ltb 4294967295 ((ledger s).base.next_id + 0 + 68) (omega (arith, ids-left s xs of))

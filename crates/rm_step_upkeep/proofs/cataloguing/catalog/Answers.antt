@@ -4,7 +4,7 @@ use Rattle.rm_machine.specs.CatalogName.{IsNamed, catalog_by}
 use Rattle.rm_machine.specs.Sound.{IsSound}
 use Rattle.rm_report.specs.declared.line.Line.TheVariants.{Catalogued}
 use Rattle.rm_step_upkeep.specs.Catalogued.{Finds, IsOf, refusal_by}
-use Rattle.rm_step_upkeep.proofs.Recorded.{absent-refused, can-be-recorded, found-hands, found-refused, recorded-sound, unnamed-refused}
+use Rattle.rm_step_upkeep.proofs.Recorded.{absent-refused, asked-ids, can-be-recorded, found-hands, found-refused, recorded-sound, unnamed-refused}
 use Rattle.rm_step_upkeep.proofs.cataloguing.catalog.Goals as goal
 
 pub returns-in_default-clause-refuses : goal.returns-in_default-clause-refuses
@@ -58,3 +58,10 @@ returns-clause-sound g c =
     let found = subst (Finds held s name) c.in-Some-2.is c.in_ok-entry.ensures.finds in
     let accepted : refusal_by s name c.in-Some-2.entry ≡ None = sym c.in_ok-refusal.ensures ∙ c.in_default-3.is in
     subst IsSound (sym c.in_ok-put.ensures.value) (recorded-sound held s name c.in-Some-2.entry found accepted c.requires.sound c.requires.unsaved)
+
+pub returns-clause-ids : goal.returns-clause-ids
+returns-clause-ids g c =
+    let s = c.args.state.now in
+    let name = c.args.name.now in
+    let accepted : refusal_by s name c.in-Some-2.entry ≡ None = sym c.in_ok-refusal.ensures ∙ c.in_default-3.is in
+    asked-ids s name c.in-Some-2.entry accepted
