@@ -10,6 +10,7 @@ use Rattle.rm_machine.specs.Nature.{nature_of, tells}
 use Rattle.rm_machine.specs.declared.nature.Nature.TheVariants.{Changes, Mishap}
 use Rattle.rm_machine.specs.Sound.{IsSound}
 use Rattle.rm_machine.specs.Step.{IsStatement, refusal_of}
+use Rattle.rm_machine_laws.proofs.Asking.{change-asks}
 use Rattle.rm_machine_laws.proofs.Every.{every-stays}
 use Rattle.rm_site.specs.Comes.{IsAnswer, IsRefusedBy}
 use Rattle.rm_site.specs.declared.statement.Answer.TheVariants.{Done}
@@ -38,4 +39,5 @@ module _ (held : Option Held) (s : State) (c : Command) (accepted : refusal_of s
         sound = (every-stays c s nothing x.lines to.effect t well sound unsaved accepted does).0;
         dates = change-dated c s nothing x.lines to.effect t change does;
         more = change-does c change;
+        ids = change-asks c s change sound accepted;
       }

@@ -1,17 +1,17 @@
 -- What a save of a database leaves, and what a stop leaves of it.
-use Rattle.std.proofs.Common.{◌≡◌, ◌∙◌, ◌++◌, ◌⊎◌, ◌+◌, ◌&&◌, inl, inr, ℕ, Bool, List, [], ◌∷◌, Option, Some, None, true, false, refl, ap, sym, subst}
+use Rattle.std.proofs.Common.{◌≡◌, ◌∙◌, ◌++◌, ◌⊎◌, ◌+◌, ◌&&◌, not, inl, inr, ℕ, Bool, List, [], ◌∷◌, Option, Some, None, true, false, refl, ap, sym, subst}
 use Rattle.std.specs.Prelude.{is_none, MatchBool, Result, Ok, Err, OnOk, OnErr}
 use Rattle.std.specs.Option.{option_map}
 use Rattle.std.specs.Str.{bytes_eq}
 use Rattle.std.proofs.lemmas.Bool.{cases_Bool}
 use Rattle.std.proofs.lemmas.Slice.Eq.{bytes_eq-Decides}
-use Rattle.rm_base.specs.Store.{Held}
+use Rattle.rm_base.specs.Store.{Both, Held}
 use Rattle.rm_catalog.specs.Edits.{after_edits}
 use Rattle.rm_catalog.specs.declared.record.Record.{Record}
 use Rattle.rm_commit.specs.declared.commit.Commit.{Commit}
 use Rattle.rm_commit.specs.Carrying.{AreMoved, ArePut, Carried, Halted, after_the_edits, before_the_edits}
 use Rattle.rm_commit.specs.Names.{SameBeyondPuts, HasPuts, HasRemoves, is_named, itself, name_of}
-use Rattle.rm_commit.proofs.Told.{both-told}
+use Rattle.rm_commit.proofs.Told.{both-map, both-told}
 use Rattle.rm_catalog_typed.specs.TypedCatalog.{Saved, all_records, records_of}
 use Rattle.rm_machine.specs.Damage.{without_damaged}
 use Rattle.rm_machine.specs.Machine.{Machine}
@@ -27,7 +27,8 @@ use Rattle.rm_machine_laws.specs.Loose.{IsNamedIn}
 use Rattle.rm_machine_laws.specs.Saves.{IsEnded, Saves, StopsSaving}
 use Rattle.rm_machine_laws.specs.Stopped.{IsLeft}
 use Rattle.rm_machine_laws.proofs.Halting.{StaysUnder, is-left, left, left-holds, no-part, rests}
-use Rattle.rm_site.specs.Saved.{SavesAt, StopsSavingAt}
+use Rattle.rm_site.specs.Saved.{EndsOut, PutsSite, PutsWhat, SavesAt, StopsSavingAt}
+use Rattle.rm_site.specs.Untouched.{AreSame}
 
 pub ok-then : {T E : Type 0} {P Q : Type 0} (r : Result T E) → (P → Q) → OnOk r P → OnOk r Q
 ok-then (Ok x) f p = f p
@@ -102,6 +103,20 @@ module _ (held : Option Held) (kept : Option (List Record)) (s : State) where
         let done = saved-as m now.1.put now.0 now.1.puts same in
         (saved m now.0, is-ended m (saved m now.0) is done, saved-holds m now.0 held' kept' is holds done now.2 all.records)
 
+    -- so it is whether or not a machine stands behind what they hold
+    pub puts-site : (held' : Option Held) (kept' : Option (List Record)) → Carried x held kept held' kept' → PutsSite held kept s held' kept'
+    puts-site held' kept' all =
+        let at : ℕ = (ledger s).base.next_id in
+        record {
+          store =
+              both-map (AreMoved x) (HasPuts (with_ids object_of at (parts_of t)))
+              (λ before after moved name.
+              let same : after name ≡ moved.put name = subst (λ (ys : List (List ℕ)). HasRemoves ys moved.put after) removes moved.removes name in
+              same ∙ subst (λ y. HasPuts y before moved.put) puts moved.puts name)
+              held held' all.objects;
+          keeper = λ tells. all.records ∙ ap (option_map (after_edits x.edits)) tells ∙ ap Some edits;
+        }
+
     -- the names of records are none of the new objects
     stays-under : (m : Machine) (objects : Held) → m.state ≡ Some s → SameBeyondPuts x.objects m.objects objects → StaysUnder [] m.state m.objects objects
     stays-under m objects is same name names =
@@ -156,3 +171,35 @@ module _ (held : Option Held) (kept : Option (List Record)) (v : View) where
   state-stops s held' kept' is applied stops m stands holds =
       let on = stops m (stands ∙ is) holds in
       (on.0, subst (λ (b : Bool). IsLeft [] m on.0 ⊎ IsEnded b m on.0) (sym applied) on.1, on.2)
+
+-- How the session ends, whatever they hold.
+module _ (held : Option Held) (kept : Option (List Record)) (o : Option State) (applied : Bool) where
+  pub ends-unapplied : applied ≡ false → EndsOut applied held kept o held kept
+  ends-unapplied none = subst (λ (b : Bool). EndsOut b held kept o held kept) (sym none) (refl, refl)
+
+  either-ends : (b : Bool) → PutsWhat held kept o held kept → EndsOut b held kept o held kept
+  either-ends true puts = puts
+  either-ends false puts = (refl, refl)
+
+  -- there is no database
+  pub ends-none : o ≡ None → EndsOut applied held kept o held kept
+  ends-none none = either-ends applied (subst (λ (p : Option State). PutsWhat held kept p held kept) (sym none) (refl, refl))
+
+  module _ (s : State) (is : o ≡ Some s) (all : applied ≡ true) (held' : Option Held) (kept' : Option (List Record)) where
+    ends-by : (b : Bool) → (is_none s.catalog.saved && not (lacks_ids s 0)) ≡ b → MatchBool b (PutsSite held kept s held' kept') (AreSame held kept held' kept') → EndsOut applied held kept o held' kept'
+    ends-by b to left =
+        subst (λ (a : Bool). EndsOut a held kept o held' kept') (sym all)
+        (subst (λ (p : Option State). PutsWhat held kept p held' kept') (sym is) (subst (λ (a : Bool). MatchBool a (PutsSite held kept s held' kept') (AreSame held kept held' kept')) (sym to) left))
+
+    stays : (a b : Bool) → (a ≡ false) ⊎ (b ≡ true) → (a && not b) ≡ false
+    stays a b (inl none) = ap (λ c. c && not b) none
+    stays true b (inr lacks) = ap not lacks
+    stays false b (inr lacks) = refl
+
+    -- nothing is to be saved
+    pub ends-same : (is_none s.catalog.saved ≡ false) ⊎ (lacks_ids s 0 ≡ true) → AreSame held kept held' kept' → EndsOut applied held kept o held' kept'
+    ends-same why same = ends-by false (stays (is_none s.catalog.saved) (lacks_ids s 0) why) same
+
+    -- the site is saved
+    pub ends-saved : s.catalog.saved ≡ None → lacks_ids s 0 ≡ false → PutsSite held kept s held' kept' → EndsOut applied held kept o held' kept'
+    ends-saved none ids puts = ends-by true (λ i. is_none (none i) && not (ids i)) puts

@@ -9,7 +9,8 @@ use Rattle.rm_catalog.specs.declared.catalog.CatalogFault.TheVariants.{BadRow}
 use Rattle.rm_catalog.specs.declared.catalog.CatalogFault.TheVariants as catalog
 use Rattle.rm_catalog.specs.declared.record.Record.{Record}
 use Rattle.rm_catalog.specs.Faults.{Answers, IsBadRow, IsTaken}
-use Rattle.rm_catalog.specs.Keys.{InOrder}
+use Rattle.rm_catalog.specs.Keys.{Ascends, InOrder}
+use Rattle.rm_catalog.proofs.Ascending.{loaded_in_order}
 use Rattle.rm_catalog.specs.Rules.{IsOrderOf, IsValid}
 use Rattle.rm_catalog_typed.specs.Loading.{records_in}
 use Rattle.rm_catalog_typed.specs.TypedCatalog.{TypedCatalog, all_records}
@@ -25,7 +26,7 @@ use Rattle.rm_session.proofs.Recorded.{one-catalog}
 use Rattle.rm_session.proofs.Waking.{waking-sound}
 use Rattle.rm_machine_laws.specs.Holds.{HoldsRest, View, saved_in}
 use Rattle.rm_site.specs.Faults.{IsBadFirst, fault_at, fault_in}
-use Rattle.rm_site.specs.Opens.{AreValid, Opens}
+use Rattle.rm_site.specs.Opens.{AreValid, Opens, Shows}
 
 -- a list of all in order is one of what was asked for
 answered : (ks rs s : List Record) → IsPermutation ks rs → IsOrderOf s rs → IsOrderOf s ks
@@ -121,3 +122,39 @@ opened-none held kept rs found o c asked only is none state =
     all-some : (held : Option Held) → IfSome held (λ h. Unit {0})
     all-some None = tt
     all-some (Some h) = tt
+
+-- the records that were loaded, in order, are those that are kept
+kept-order : (kept : Option (List Record)) (rs s : List Record) → Answers kept rs → IsOrderOf s rs → IfSome kept (IsOrderOf s)
+kept-order None rs s asked order = tt
+kept-order (Some ks) rs s asked order = answered ks rs s asked order
+
+-- and where they ascend, they are the same list
+kept-same : (kept : Option (List Record)) (rs s : List Record) → Answers kept rs → IfSome kept Ascends → IsOrderOf s rs → IfSome kept (λ ks. ks ≡ s)
+kept-same None rs s asked up order = tt
+kept-same (Some ks) rs s asked up order = sym (loaded_in_order ks rs s up asked order)
+
+-- what the site shows of a database, whose catalog was loaded, and what runs of it
+pub shows-some : (held : Option Held) (kept : Option (List Record)) (rs : List Record) (o : Option State) (s : State) (c : Option TypedCatalog) (b : TypedCatalog)
+    → Answers kept rs → IfSome kept Ascends → IsOrderOf (all_records c) rs → c ≡ Some b → o ≡ Some s → s.catalog ≡ b → IfSome held (λ h. IsLoaded h s) → Shows held kept (record { state = o; live = true; applied = false })
+shows-some held kept rs o s c b asked up order some state catalog loaded =
+    let here : IsOrderOf (all_records (Some s.catalog)) rs = subst (λ (x : Option TypedCatalog). IsOrderOf (all_records x) rs) (some ∙ ap Some (sym catalog)) order in
+    subst (λ (x : Option State). Shows held kept (record { state = x; live = true; applied = false })) (sym state) (record {
+      records = kept-order kept rs (all_records (Some s.catalog)) asked here;
+      same = kept-same kept rs (all_records (Some s.catalog)) asked up here;
+      loaded = loaded;
+    })
+
+-- and where there is none
+pub shows-none : (held : Option Held) (kept : Option (List Record)) (rs : List Record) (o : Option State) (c : Option TypedCatalog)
+    → Answers kept rs → IfSome kept Ascends → IsOrderOf (all_records c) rs → c ≡ None → o ≡ None → Shows held kept (record { state = o; live = true; applied = false })
+shows-none held kept rs o c asked up order none state =
+    let here : IsOrderOf (all_records None) rs = subst (λ (x : Option TypedCatalog). IsOrderOf (all_records x) rs) none order in
+    subst (λ (x : Option State). Shows held kept (record { state = x; live = true; applied = false })) (sym state) (record {
+      records = kept-order kept rs (all_records None) asked here;
+      same = kept-same kept rs (all_records None) asked up here;
+      loaded = nothing-loaded held;
+    })
+  where
+    nothing-loaded : (held : Option Held) → IfSome held (λ h. Unit {0})
+    nothing-loaded None = tt
+    nothing-loaded (Some h) = tt

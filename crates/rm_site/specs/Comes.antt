@@ -7,6 +7,7 @@ use Rattle.rm_report.specs.Reply.{IsPlain, HasDate}
 use Rattle.rm_machine.specs.Effect.{refused, told}
 use Rattle.rm_machine.specs.Hands.{Hands}
 use Rattle.rm_machine.specs.Laws.{only_tells}
+use Rattle.rm_machine.specs.Marks.{lacks_ids}
 use Rattle.rm_machine.specs.Sound.{IsSound}
 use Rattle.rm_machine.specs.declared.state.State.{State}
 use Rattle.rm_machine.specs.Step.{IsOutcome, refusal_of}
@@ -28,11 +29,17 @@ IsRefusedBy None c (Refused r) = looks_at_objects c ≡ true
 IsRefusedBy None c (Told lines) = Unit {0}
 IsRefusedBy None c (Done x) = Unit {0}
 
--- what is done does more than tell
+-- what only tells is told, and what is done does more
 abbrev pub DoesMore : Command → Answer → Type 0
 DoesMore c (Refused r) = Unit {0}
-DoesMore c (Told lines) = Unit {0}
+DoesMore c (Told lines) = only_tells c ≡ true
 DoesMore c (Done x) = only_tells c ≡ false
+
+-- what is done had the ids of a save left, whatever the store tells
+abbrev pub HadIds : State → Answer → Type 0
+HadIds s (Refused r) = Unit {0}
+HadIds s (Told lines) = Unit {0}
+HadIds s (Done x) = lacks_ids s 0 ≡ false
 
 -- the moment of an RM-14 is at most the last, and no line of what is told or done is a refusal
 abbrev pub AnswersPlainly : Answer → Type 0
@@ -47,3 +54,4 @@ pub record IsAnswer (held : Option Held) (s : State) (c : Command) (a : Answer) 
   pub sound : IsSound t
   pub dates : AnswersPlainly a
   pub more : DoesMore c a
+  pub ids : HadIds s a

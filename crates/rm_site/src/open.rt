@@ -2,7 +2,7 @@
 ghost use Rattle.std.specs.Prelude.{◌≡◌, ◌≤◌, true, false, IfOk, IfErr, IfSome, IsErrOf};
 ghost use Rattle.rm_base.specs.Outside.{Rose};
 ghost use Rattle.rm_site.specs.Faults.{IsBadFirst};
-ghost use Rattle.rm_site.specs.Opens.{AreValid, Opens};
+ghost use Rattle.rm_site.specs.Opens.{AreValid, Opens, Shows};
 
 use crate::site::Site;
 use rm_base::{NoMemory, Store};
@@ -71,6 +71,7 @@ impl Site {
         keeper: &mut C,
     ) -> Result<Site, OpenFault>
         ensures opened { IfOk result (Opens (D.held store.old) (C.kept keeper.old)) }
+        ensures shows { IfOk result (Shows (D.held store.old) (C.kept keeper.old)) }
         ensures live { IfOk result (λ site. site.live ≡ true) }
         ensures applied { IfOk result (λ site. site.applied ≡ false) }
         ensures valid { IfOk result (λ _. IfSome (C.kept keeper.old) AreValid) }

@@ -5,7 +5,7 @@ ghost use Rattle.rm_commit.specs.declared.commit.Stop.TheVariants.{StoreFault, K
 ghost use Rattle.rm_machine_laws.specs.Saves.{Saves, StopsSaving};
 ghost use Rattle.rm_machine.specs.Marks.{lacks_ids};
 ghost use Rattle.rm_machine.specs.Sound.{IsSound};
-ghost use Rattle.rm_site.specs.Saved.{SavesAt, StopsSavingAt};
+ghost use Rattle.rm_site.specs.Saved.{EndsOut, PutsSite, SavesAt, StopsSavingAt};
 ghost use Rattle.rm_site.specs.Untouched.{AreSame};
 
 use crate::site::Site;
@@ -39,6 +39,7 @@ fn save_state<D: Store, C: Keeper>(
     requires unsaved { state.catalog.saved ≡ None }
     requires ids { lacks_ids state 0 ≡ false }
     ensures saved { OnOk result (SavesAt (D.held store.old) (C.kept keeper.old) state (D.held store.new) (C.kept keeper.new)) }
+    ensures puts { OnOk result (PutsSite (D.held store.old) (C.kept keeper.old) state (D.held store.new) (C.kept keeper.new)) }
     ensures stopped { OnErr result (StopsSavingAt (D.held store.old) (C.kept keeper.old) state (D.held store.new) (C.kept keeper.new)) }
     ensures store { IsErrOf result StoreFault → Rose (D.faults store.old) (D.faults store.new) }
     ensures keeper { IsErrOf result KeeperFault → Rose (C.faults keeper.old) (C.faults keeper.new) }
@@ -66,6 +67,7 @@ impl Site {
     pub fn save<D: Store, C: Keeper>(&mut self, store: &mut D, keeper: &mut C) -> Result<(), Stop>
         requires live { self.old.live ≡ true }
         ensures saved { OnOk result (Saves (D.held store.old) (C.kept keeper.old) self.old (D.held store.new) (C.kept keeper.new)) }
+        ensures ends { OnOk result (EndsOut self.old.applied (D.held store.old) (C.kept keeper.old) self.old.state (D.held store.new) (C.kept keeper.new)) }
         ensures stopped { OnErr result (StopsSaving (D.held store.old) (C.kept keeper.old) self.old (D.held store.new) (C.kept keeper.new)) }
         ensures spent { self.new ≡ record { state = None; live = false; applied = self.old.applied } }
         ensures unapplied { self.old.applied ≡ false → AreSame (D.held store.old) (C.kept keeper.old) (D.held store.new) (C.kept keeper.new) }

@@ -1,5 +1,7 @@
 //! The site: a database or none, which is stepped over a store and a keeper.
-ghost use Rattle.std.specs.Prelude.{◌≡◌, ◌+◌, is_some, length};
+ghost use Rattle.std.specs.Prelude.{◌≡◌, ◌+◌, IfSome, is_some, length};
+ghost use Rattle.std.specs.Option.{option_copied};
+ghost use Rattle.rm_machine.specs.Sound.{IsSound};
 ghost use Rattle.rm_machine.specs.State.{ledger};
 ghost use Rattle.rm_site.specs.Shown.{next_scn, objects_in};
 
@@ -43,6 +45,14 @@ impl Site {
         ensures { result ≡ is_some self.now.state }
     {
         self.state.is_some()
+    }
+
+    /// The database as it is at hand; none without a database.
+    pub fn state(&self) -> Option<&State>
+        ensures is { option_copied result ≡ self.now.state }
+        ensures sound { IfSome self.now.state IsSound }
+    {
+        self.state.as_ref()
     }
 
     /// The SCN that the next change takes; 0 without a database.

@@ -8,7 +8,7 @@ ghost use Rattle.rm_machine.specs.Nature.{nature_of};
 ghost use Rattle.rm_machine.specs.declared.nature.Nature.TheVariants.{ChangesByHeld, TellsHeld, TestsHeld, TriesByHeld};
 ghost use Rattle.rm_machine.specs.Sound.{IsSound};
 ghost use Rattle.rm_machine.specs.Step.{IsStatement, refusal_of};
-ghost use Rattle.rm_site.specs.Comes.{AnswersPlainly, ComesTo, DoesMore, IsAnswer, IsRefusedBy};
+ghost use Rattle.rm_site.specs.Comes.{AnswersPlainly, ComesTo, DoesMore, HadIds, IsAnswer, IsRefusedBy};
 
 use crate::changing::change;
 use crate::refusing::refusal_of;
@@ -216,6 +216,7 @@ pub(crate) fn come_to<R: Threads + Wait + Sync, G: Gate, D: Store>(
     ensures sound { OnOk result (IsSound state.new) }
     ensures dates { IfOk result AnswersPlainly }
     ensures more { IfOk result (DoesMore command.now) }
+    ensures ids { IfOk result (HadIds state.old) }
     ensures held { D.held store.new ≡ D.held store.old }
     ensures store { IsErrOf result StoreFault → Rose (D.faults store.old) (D.faults store.new) }
     ensures keeper { ¬ IsErrOf result KeeperFault }

@@ -7,6 +7,7 @@ ghost use Rattle.rm_report.specs.Reply.{HasDates, IsFlagged, said};
 ghost use Rattle.rm_evidence.specs.Names.{site_name};
 ghost use Rattle.rm_machine.specs.Built.{is_built};
 ghost use Rattle.rm_machine.specs.Laws.{only_tells};
+ghost use Rattle.rm_machine.specs.Marks.{lacks_ids};
 ghost use Rattle.rm_machine.specs.Saved.{saved_names};
 ghost use Rattle.rm_machine.specs.Sound.{IsSound};
 ghost use Rattle.rm_machine.specs.Step.{IsStatement};
@@ -138,6 +139,7 @@ fn answer_in<R: Threads + Wait + Sync, G: Gate, D: Store, C: Keeper>(
     ensures comes { IfOk result (λ reply. ComesOut (D.held store.old) (C.kept keeper.old) (Some state.old) command.now moment reply (D.held store.new) (C.kept keeper.new) (Some state.new)) }
     ensures answered { IfOk result (λ reply. AnsweredBy (refusal_in (Some state.old) command.now moment) command.now reply (Some state.old) (Some state.new)) }
     ensures quiet { IfOk result (λ reply. is_quiet command.now reply ≡ true → IsUntouched (D.held store.old) (C.kept keeper.old) (Some state.old) (D.held store.new) (C.kept keeper.new) (Some state.new)) }
+    ensures ids { IfOk result (λ reply. applies command.now reply ≡ true → lacks_ids state.old 0 ≡ false) }
     ensures dates { IfOk result HasDates }
     ensures flagged { IfOk result IsFlagged }
     ensures stopped { OnErr result (IsStopAt (D.held store.old) (C.kept keeper.old) (Some state.old) command.now moment (D.held store.new) (C.kept keeper.new)) }
@@ -197,6 +199,7 @@ fn answer<R: Threads + Wait + Sync, G: Gate, D: Store, C: Keeper>(
     ensures comes { IfOk result (λ x. ComesOut (D.held store.old) (C.kept keeper.old) state command.now moment x.1 (D.held store.new) (C.kept keeper.new) x.0) }
     ensures answered { IfOk result (λ x. AnsweredBy (refusal_in state command.now moment) command.now x.1 state x.0) }
     ensures quiet { IfOk result (λ x. is_quiet command.now x.1 ≡ true → IsUntouched (D.held store.old) (C.kept keeper.old) state (D.held store.new) (C.kept keeper.new) x.0) }
+    ensures ids { IfOk result (λ x. applies command.now x.1 ≡ true → IfSome state (λ s. lacks_ids s 0 ≡ false)) }
     ensures dates { IfOk result (λ x. HasDates x.1) }
     ensures flagged { IfOk result (λ x. IsFlagged x.1) }
     ensures stopped { OnErr result (IsStopAt (D.held store.old) (C.kept keeper.old) state command.now moment (D.held store.new) (C.kept keeper.new)) }
@@ -222,7 +225,7 @@ impl Site {
     /// One step of the machine: the reply to a statement, where the clock answered `clock`. A refusal is a
     /// reply too, and changes nothing. A refusal that the state decides is answered exactly where the state
     /// decides so, whatever the store and the keeper hold. Whatever these hold, they and the site stay as they are where the
-    /// statement is refused or only tells.
+    /// statement is refused or only tells, and nothing is done where too few ids are left for a save.
     ///
     /// BACKUP and RECOVER go by `channels` channels, or by as many as are configured where none are asked for. Those of a BACKUP and
     /// its writers call the gate.
@@ -262,6 +265,7 @@ impl Site {
         ensures safe { IfOk result (λ reply. DeletesSafely (D.held store.old) (C.kept keeper.old) self.old command.now clock reply (D.held store.new) self.new) }
         ensures answered { IfOk result (λ reply. AnsweredBy (refusal_in self.old.state command.now (moment_of self.old.state clock)) command.now reply self.old self.new) }
         ensures quiet { IfOk result (λ reply. is_quiet command.now reply ≡ true → IsUntouched (D.held store.old) (C.kept keeper.old) self.old (D.held store.new) (C.kept keeper.new) self.new) }
+        ensures ids { IfOk result (λ reply. applies command.now reply ≡ true → IfSome self.old.state (λ s. lacks_ids s 0 ≡ false)) }
         ensures dates { IfOk result HasDates }
         ensures flagged { IfOk result IsFlagged }
         ensures stopped { OnErr result (Stops (D.held store.old) (C.kept keeper.old) self.old command.now clock (D.held store.new) (C.kept keeper.new)) }

@@ -18,7 +18,7 @@ use std::alloc::Global;
 
 /// What a mishap of an object comes to that the state does not refuse: it is done, or refused by what the store holds.
 /// The state stays. An error is a stop.
-#[tactic(auto, using(crate::proofs::Accepted::mishap_does))]
+#[tactic(auto, using(crate::proofs::Accepted::mishap_does, crate::proofs::Ids::mishap_ids))]
 pub(crate) fn mishap<D: Store>(
     alloc: Global,
     state: &State,

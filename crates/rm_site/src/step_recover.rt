@@ -21,6 +21,7 @@ use std::thread::Threads;
 
 /// What RECOVER DATABASE comes to that the state does not refuse: it is done, or refused with the first gap. The
 /// catalog stays. After an error, which is a stop, nothing changed.
+#[tactic(auto, using(crate::proofs::Ids::recover_ids))]
 pub(crate) fn recover<R: Threads + Sync, D: Store>(
     rt: &R,
     alloc: Global,
@@ -76,6 +77,7 @@ pub(crate) fn recover_test<R: Threads + Sync, D: Store>(
 
 /// What RESTORE comes to that the state does not refuse: it is done. The catalog stays. After an error, which is a
 /// stop, nothing changed.
+#[tactic(auto, using(crate::proofs::Ids::restore_ids))]
 pub(crate) fn restore<D: Store>(
     alloc: Global,
     state: &mut State,

@@ -23,6 +23,7 @@ use std::thread::Threads;
 
 /// What BLOCKRECOVER comes to that the state does not refuse: it is done, or refused with the first gap. After an error,
 /// which is a stop, nothing is said of the state and the edits.
+#[tactic(auto, using(crate::proofs::Ids::repair_ids))]
 pub(crate) fn mend<R: Threads + Wait + Sync, D: Store>(
     rt: &R,
     alloc: Global,

@@ -47,6 +47,7 @@ fn lines_of(alloc: Global, state: &State, command: &Command) -> Result<Seq<Line>
 
 /// What a statement comes to that tells of the state alone, and that the state does not refuse. An error is want of
 /// memory.
+#[tactic(auto, using(crate::proofs::Ids::state_tells))]
 pub(crate) fn tell(alloc: Global, state: &State, command: &Command) -> Result<Answer, NoMemory>
     requires nature { nature_of command.now ≡ TellsState }
     requires sound { IsSound state.now }

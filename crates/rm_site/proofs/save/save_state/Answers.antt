@@ -7,7 +7,7 @@ use Rattle.rm_machine.specs.Damage.{without_damaged}
 use Rattle.rm_machine.specs.Saving.{with_site}
 use Rattle.rm_machine.specs.declared.state.State.{State}
 use Rattle.rm_site.proofs.Answering.{on-err}
-use Rattle.rm_site.proofs.Ending.{err-then, ok-then, saves-all, stops-before, stops-saving}
+use Rattle.rm_site.proofs.Ending.{err-then, ok-then, puts-site, saves-all, stops-before, stops-saving}
 use Rattle.rm_site.proofs.save.save_state.Goals as goal
 
 pub returns-in_err-objects-clause-stopped : goal.returns-in_err-objects-clause-stopped
@@ -23,6 +23,14 @@ pub returns-clause-saved : goal.returns-clause-saved
 returns-clause-saved g c =
     ok-then c.carry_out.result
     (saves-all (g.D.Store.held c.args.store.now) (g.C.Keeper.kept c.args.keeper.now) c.args.state c.requires.unsaved c.requires.ids
+    (record { objects = c.in_ok-objects.objects; edits = c.from_vec.result; removes = c.new.result }) c.in_ok-objects.ensures.objects (edits c.args.state _ _ c.from_vec.result _ c.from_vec.ensures c.new-edits.ensures.items c.in_ok-objects.ensures.edits c.in_ok-objects.ensures.catalog) c.new.ensures
+    (g.D.Store.held c.carry_out.new.store) (g.C.Keeper.kept c.carry_out.new.keeper))
+    c.carry_out.ensures.carried
+
+pub returns-clause-puts : goal.returns-clause-puts
+returns-clause-puts g c =
+    ok-then c.carry_out.result
+    (puts-site (g.D.Store.held c.args.store.now) (g.C.Keeper.kept c.args.keeper.now) c.args.state c.requires.unsaved c.requires.ids
     (record { objects = c.in_ok-objects.objects; edits = c.from_vec.result; removes = c.new.result }) c.in_ok-objects.ensures.objects (edits c.args.state _ _ c.from_vec.result _ c.from_vec.ensures c.new-edits.ensures.items c.in_ok-objects.ensures.edits c.in_ok-objects.ensures.catalog) c.new.ensures
     (g.D.Store.held c.carry_out.new.store) (g.C.Keeper.kept c.carry_out.new.keeper))
     c.carry_out.ensures.carried

@@ -1,6 +1,7 @@
 use Rattle.std.proofs.Common.{Some, ap, refl, subst, sym}
 use Rattle.rm_site.proofs.Answering.{Begins, answered-in, back-again, begins-sound, comes-refused, comes-told, handed-in, is-carried, on-err, is-halted, quiet-refused, quiet-told, refused-in, sound-again, told-in, valid-again}
 use Rattle.rm_site.proofs.ComesOut.{out-done, out-refused, out-told}
+use Rattle.rm_site.proofs.Ids.{ids-before, refused-applies, told-applies}
 use Rattle.rm_site.proofs.Quiet.{done-more, done-not-quiet}
 use Rattle.rm_report.proofs.Plain.{plain-dated, refused-flagged, said-flagged}
 use Rattle.rm_report.specs.Reply.{HasDates}
@@ -137,3 +138,16 @@ returns-in_ok-carry_out-in-Done-clause-flagged g c =
 pub returns-in_err-carry_out-in-Done-clause-untouched : goal.returns-in_err-carry_out-in-Done-clause-untouched
 returns-in_err-carry_out-in-Done-clause-untouched g c =
     on-err _ c.from_residual-in_err-carry_out-in-Done.result (λ only. absurd (done-more c.args.command.now c.in_ok-refusal.field-0 c.in-Done.handed c.in-Done.is c.in_ok-refusal.ensures.more only))
+
+pub returns-in_ok-refusal_reply-in-Refused-clause-ids : goal.returns-in_ok-refusal_reply-in-Refused-clause-ids
+returns-in_ok-refusal_reply-in-Refused-clause-ids g c = λ applied. absurd (refused-applies c.args.command.now c.in-Refused.refusal _ c.in_ok-refusal_reply-in-Refused.ensures applied)
+
+pub returns-in-Told-clause-ids : goal.returns-in-Told-clause-ids
+returns-in-Told-clause-ids g c = λ applied.
+    absurd (told-applies c.args.command.now c.in_ok-refusal.field-0 c.in-Told.lines _ c.in-Told.is c.in_ok-refusal.ensures.more c.reply_of.ensures applied)
+
+pub returns-in_ok-carry_out-in-Done-clause-ids : goal.returns-in_ok-carry_out-in-Done-clause-ids
+returns-in_ok-carry_out-in-Done-clause-ids g c = λ applied.
+    let was = c.in_ok-earlier.ensures in
+    let begins : Begins c.args.state.now c.args.moment c.begin.new.self c.in_ok-earlier.earlier.moment c.in_ok-earlier.earlier.saved = record { after = was.after; moment_is = was.moment; saved_is = was.saved } in
+    ids-before begins c.in_ok-refusal.field-0 c.in-Done.handed c.in-Done.is c.in_ok-refusal.ensures.ids

@@ -2,7 +2,7 @@ use Rattle.rm_catalog.specs.Rules.{IsValid}
 use Rattle.rm_catalog_typed.specs.TypedCatalog.{all_records}
 use Rattle.rm_site.specs.Faults.{IsBadFirst, fault_at, fault_in}
 use Rattle.std.specs.Prelude.{IfSome}
-use Rattle.rm_site.proofs.Opening.{of-kept, opened-none, opened-some, told-bad, told-err, told-valid}
+use Rattle.rm_site.proofs.Opening.{of-kept, opened-none, opened-some, shows-none, shows-some, told-bad, told-err, told-valid}
 use Rattle.rm_site.proofs.site.Site.open.Goals as goal
 use Rattle.rm_site.proofs.site.Site.open.Goals.{in-Some+in_ok-load_place-in-Some, in-None}
 
@@ -25,6 +25,16 @@ returns-clause-opened g c = elim c.match-branch-3.branch [
   | in-None w ↦
       opened-none (g.D.Store.held c.args.store.now) (g.C.Keeper.kept c.args.keeper.now) c.in_ok-records.records c.from_records.result c.match-branch-3.state c.in_ok-catalog.field-0
       c.in_ok-records.ensures.records c.from_records.ensures.only (c.in_ok-catalog.was) w.in-None.is w.state-is
+]
+
+pub returns-clause-shows : goal.returns-clause-shows
+returns-clause-shows g c = elim c.match-branch-3.branch [
+  | in-Some+in_ok-load_place-in-Some w ↦
+      shows-some (g.D.Store.held c.args.store.now) (g.C.Keeper.kept c.args.keeper.now) c.in_ok-records.records c.match-branch-3.state w.in_ok-load_place-in-Some.field-0 c.in_ok-catalog.field-0 w.in-Some.catalog
+      c.in_ok-records.ensures.records c.in_ok-records.ensures.ascends c.in_ok-catalog.ensures.order w.in-Some.is w.state-is w.in_ok-load_place-in-Some.ensures.catalog w.in_ok-load_place-in-Some.ensures.loaded
+  | in-None w ↦
+      shows-none (g.D.Store.held c.args.store.now) (g.C.Keeper.kept c.args.keeper.now) c.in_ok-records.records c.match-branch-3.state c.in_ok-catalog.field-0
+      c.in_ok-records.ensures.records c.in_ok-records.ensures.ascends c.in_ok-catalog.ensures.order w.in-None.is w.state-is
 ]
 
 pub returns-clause-valid : goal.returns-clause-valid

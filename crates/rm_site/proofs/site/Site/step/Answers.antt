@@ -1,4 +1,7 @@
-use Rattle.std.proofs.Common.{◌∙◌, ◌||◌, true, ap}
+use Rattle.std.proofs.Common.{◌≡◌, ◌∙◌, ◌||◌, Option, true, false, ap, subst}
+use Rattle.std.specs.Prelude.{IfSome}
+use Rattle.rm_machine.specs.Marks.{lacks_ids}
+use Rattle.rm_machine.specs.declared.state.State.{State}
 use Rattle.rm_machine_laws.specs.Holds.{View}
 use Rattle.rm_machine_laws.specs.Saves.{applies}
 use Rattle.rm_machine_laws.proofs.Safely.{deletes-safely}
@@ -40,3 +43,8 @@ pub returns-clause-comes : goal.returns-clause-comes
 returns-clause-comes g c =
     let from = c.replace-state.ensures.value ∙ ap (λ (v : View). v.state) c.self.view_is in
     out-of c.replace-state.result c.args.self.now _ c.args.clock _ _ _ _ _ _ _ from c.moment_of-moment.ensures.value c.in_ok-state.ensures.comes
+
+pub returns-clause-ids : goal.returns-clause-ids
+returns-clause-ids g c = λ applied.
+    let from = c.replace-state.ensures.value ∙ ap (λ (v : View). v.state) c.self.view_is in
+    subst (λ (o : Option State). IfSome o (λ s. lacks_ids s 0 ≡ false)) from (c.in_ok-state.ensures.ids applied)
