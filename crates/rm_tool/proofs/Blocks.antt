@@ -72,15 +72,15 @@ block-leaves x m (y ∷ ys) clock reply applied n (first, mid, step, after) =
     inr (first, mid, step, match-map first.refused _ _ _ _ (λ ended. ap at_rest ended.2) (λ rest. block-leaves (after_inner x y) mid ys clock rest.0 rest.1 n rest.2) after)
 
 -- no list was applied for what is refused
-refused-applies : (x : Settings) (y : Inner) (reply : Reply) → reply.refused ≡ true → inner_applies x y reply ≡ false
+pub refused-applies : (x : Settings) (y : Inner) (reply : Reply) → reply.refused ≡ true → inner_applies x y reply ≡ false
 refused-applies x (PlainInner c) reply refused = ap (λ b. not b && not (only_tells (with_until x.until c))) refused
 refused-applies x (SetUntil until) reply refused = refl
 refused-applies x AllocateChannel reply refused = refl
 
-match-true : {b : Bool} (P Q : Type 0) → b ≡ true → P → MatchBool b P Q
+pub match-true : {b : Bool} (P Q : Type 0) → b ≡ true → P → MatchBool b P Q
 match-true P Q is p = subst (λ (b : Bool). MatchBool b P Q) (sym is) p
 
-match-false : {b : Bool} (P Q : Type 0) → b ≡ false → Q → MatchBool b P Q
+pub match-false : {b : Bool} (P Q : Type 0) → b ≡ false → Q → MatchBool b P Q
 match-false P Q is q = subst (λ (b : Bool). MatchBool b P Q) (sym is) q
 
 match-both : (b : Bool) (P Q : Type 0) → P → Q → MatchBool b P Q

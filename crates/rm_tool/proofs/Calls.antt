@@ -1,6 +1,6 @@
 -- What serving left, of the script that was read and the site that was opened.
 use Rattle.std.proofs.Common.{◌≡◌, ℕ, Bool, List, Option, IfSome, Some, None, if◌then◌else◌, sym, subst}
-use Rattle.rm_base.specs.Store.{Held, Answers}
+use Rattle.rm_base.specs.Store.{Held}
 use Rattle.rm_catalog.specs.declared.record.Record.{Record}
 use Rattle.rm_lang_token.specs.declared.token.Token.{Token}
 use Rattle.rm_lang_token.specs.Statements.{statements}
@@ -9,9 +9,10 @@ use Rattle.rm_machine_laws.specs.Holds.{View}
 use Rattle.rm_catalog.specs.declared.catalog.CatalogFault.TheVariants.{BadRow}
 use Rattle.rm_catalog.specs.Faults.{IsBadRow}
 use Rattle.rm_catalog.proofs.Unique.{none_valid}
-use Rattle.rm_site.specs.Opens.{AreValid, Opens}
+use Rattle.rm_site.specs.Opens.{AreValid, Opens, Shows}
+use Rattle.rm_tool.specs.Run.{Watch}
 use Rattle.rm_tool.specs.Serving.{FromEach, Closes, EndsInOutput, EndsMidway, at_saving, at_statement}
-use Rattle.rm_tool.specs.Session.{Finishes, FromRest, HasScript, OfScript, ScriptOf, TellsValid, WritesBadRecord}
+use Rattle.rm_tool.specs.Session.{Finishes, FromRest, HasScript, OfOpened, OfScript, ScriptOf, TellsValid, WritesBadRecord}
 
 -- what is so of each machine that the opened site stands for is so of the one that wakes
 from-opening : (held : Option Held) (kept : Option (List Record)) (v : View) (Is : Machine → Type 0) → Opens held kept v → FromEach held kept v Is → FromRest held kept Is
@@ -29,8 +30,8 @@ of-script P Q drill left rest before mid held held' kept kept' ss script read cu
 }
 
 -- What a session leaves, from the machine on that wakes.
-module _ {clock later : Option Answers} {before now : Option (List ℕ)} {held last_held : Option Held} {kept last_kept : Option (List Record)} (v : View) (opens : Opens held kept v) (ss : List (ℕ × List Token)) where
-  closes-from : (drill : Option ℕ) (refused : Bool) → Closes (FromEach held kept v) drill clock later before now held kept last_held last_kept refused ss → Closes (FromRest held kept) drill clock later before now held kept last_held last_kept refused ss
+module _ {clock later : Watch} {before now : Option (List ℕ)} {held last_held : Option Held} {kept last_kept : Option (List Record)} (v : View) (opens : Opens held kept v) (ss : List (ℕ × List Token)) where
+  closes-from : (drill : Option ℕ) (refused : Bool) → Closes (FromEach held kept v) v.state drill clock later before now held kept last_held last_kept refused ss → Closes (FromRest held kept) v.state drill clock later before now held kept last_held last_kept refused ss
   closes-from drill refused s = record {
     answers = s.answers;
     told = s.told;
@@ -42,10 +43,11 @@ module _ {clock later : Option Answers} {before now : Option (List ℕ)} {held l
     some = s.some;
     flags = s.flags;
     quiet = s.quiet;
+    comes = s.comes;
     run = from-opening held kept v _ opens s.run;
   }
 
-  midway-from : (drill : Option ℕ) → EndsMidway (FromEach held kept v) drill clock later before now held kept last_held last_kept ss → EndsMidway (FromRest held kept) drill clock later before now held kept last_held last_kept ss
+  midway-from : (drill : Option ℕ) → EndsMidway (FromEach held kept v) v.state drill clock later before now held kept last_held last_kept ss → EndsMidway (FromRest held kept) v.state drill clock later before now held kept last_held last_kept ss
   midway-from drill (at_statement s) = at_statement (record {
     answers = s.answers;
     told = s.told;
@@ -55,6 +57,7 @@ module _ {clock later : Option Answers} {before now : Option (List ℕ)} {held l
     statement = s.statement;
     next = s.next;
     quiet = s.quiet;
+    comes = s.comes;
     run = from-opening held kept v _ opens s.run;
   })
   midway-from drill (at_saving s) = at_saving (record {
@@ -66,12 +69,13 @@ module _ {clock later : Option Answers} {before now : Option (List ℕ)} {held l
     shown = s.shown;
     written = s.written;
     quiet = s.quiet;
+    comes = s.comes;
     run = from-opening held kept v _ opens s.run;
   })
 
 -- the same, where the sink failed
-output-from : (v : View) (held last_held : Option Held) (kept last_kept : Option (List Record)) (clock later : Option Answers) (before now : Option (List ℕ)) (ss : List (ℕ × List Token)) (drill : Option ℕ) → Opens held kept v
-    → EndsInOutput (FromEach held kept v) drill clock later before now held kept last_held last_kept ss → EndsInOutput (FromRest held kept) drill clock later before now held kept last_held last_kept ss
+output-from : (v : View) (held last_held : Option Held) (kept last_kept : Option (List Record)) (clock later : Watch) (before now : Option (List ℕ)) (ss : List (ℕ × List Token)) (drill : Option ℕ) → Opens held kept v
+    → EndsInOutput (FromEach held kept v) v.state drill clock later before now held kept last_held last_kept ss → EndsInOutput (FromRest held kept) v.state drill clock later before now held kept last_held last_kept ss
 output-from v held last_held kept last_kept clock later before now ss None opens s = record {
   answers = s.answers;
   told = s.told;
@@ -84,6 +88,7 @@ output-from v held last_held kept last_kept clock later before now ss None opens
   flags = s.flags;
   written = s.written;
   quiet = s.quiet;
+  comes = s.comes;
   run = from-opening held kept v _ opens s.run;
 }
 output-from v held last_held kept last_kept clock later before now ss (Some n) opens s = record {
@@ -98,39 +103,40 @@ output-from v held last_held kept last_kept clock later before now ss (Some n) o
   flags = s.flags;
   written = s.written;
   quiet = s.quiet;
+  comes = s.comes;
   run = from-opening held kept v _ opens s.run;
 }
 
 -- The same of the script of the session, where the words say this drill.
-module _ {said : Option ℕ} {left rest : Option (List ℕ)} {clock later : Option Answers} {before mid now : Option (List ℕ)} {held held' last_held : Option Held} {kept kept' last_kept : Option (List Record)} {ss : List (ℕ × List Token)} (drill : Option ℕ) (says : said ≡ drill) (script : List ℕ) (v : View)
-    (read : ScriptOf drill left rest script) (cut : ss ≡ statements script) (silent : mid ≡ before) (held_same : held' ≡ held) (kept_same : kept' ≡ kept) (opens : Opens held kept v) where
+module _ {said : Option ℕ} {left rest : Option (List ℕ)} {clock later : Watch} {before mid now : Option (List ℕ)} {held held' last_held : Option Held} {kept kept' last_kept : Option (List Record)} {ss : List (ℕ × List Token)} (drill : Option ℕ) (says : said ≡ drill) (script : List ℕ) (v : View)
+    (read : ScriptOf drill left rest script) (cut : ss ≡ statements script) (silent : mid ≡ before) (held_same : held' ≡ held) (kept_same : kept' ≡ kept) (opens : Opens held kept v) (shows : Shows held kept v) where
   -- the status tells whether a statement was refused
-  pub finishes : (refused : Bool) (status : ℕ) → status ≡ (if refused then 1 else 0) → Closes (FromEach held' kept' v) drill clock later mid now held' kept' last_held last_kept refused ss
+  pub finishes : (refused : Bool) (status : ℕ) → status ≡ (if refused then 1 else 0) → Closes (FromEach held' kept' v) v.state drill clock later mid now held' kept' last_held last_kept refused ss
       → Finishes said left rest clock later before now held kept last_held last_kept status
   finishes refused status tells s =
       subst (λ (d : Option ℕ). Finishes d left rest clock later before now held kept last_held last_kept status) (sym says)
       (record {
         refused = refused;
         serves =
-            of-script (λ h k b ts. Closes (FromEach h k v) drill clock later b now h k last_held last_kept refused ts) (Closes (FromRest held kept) drill clock later before now held kept last_held last_kept refused)
-            drill left rest before mid held held' kept kept' ss script read cut silent held_same kept_same (λ ts. closes-from v opens ts drill refused) s;
+            of-script (λ h k b ts. Closes (FromEach h k v) v.state drill clock later b now h k last_held last_kept refused ts) (λ ts. OfOpened held kept (λ o. Closes (FromRest held kept) o drill clock later before now held kept last_held last_kept refused ts))
+            drill left rest before mid held held' kept kept' ss script read cut silent held_same kept_same (λ ts is. (v, shows, closes-from v opens ts drill refused is)) s;
         tells = tells;
       })
 
-  pub ends-midway : EndsMidway (FromEach held' kept' v) drill clock later mid now held' kept' last_held last_kept ss → OfScript said left rest (EndsMidway (FromRest held kept) said clock later before now held kept last_held last_kept)
+  pub ends-midway : EndsMidway (FromEach held' kept' v) v.state drill clock later mid now held' kept' last_held last_kept ss → OfScript said left rest (λ ts. OfOpened held kept (λ o. EndsMidway (FromRest held kept) o said clock later before now held kept last_held last_kept ts))
   ends-midway s =
-      subst (λ (d : Option ℕ). OfScript d left rest (EndsMidway (FromRest held kept) d clock later before now held kept last_held last_kept)) (sym says)
-      (of-script (λ h k b ts. EndsMidway (FromEach h k v) drill clock later b now h k last_held last_kept ts) (EndsMidway (FromRest held kept) drill clock later before now held kept last_held last_kept)
-      drill left rest before mid held held' kept kept' ss script read cut silent held_same kept_same (λ ts. midway-from v opens ts drill) s)
+      subst (λ (d : Option ℕ). OfScript d left rest (λ ts. OfOpened held kept (λ o. EndsMidway (FromRest held kept) o d clock later before now held kept last_held last_kept ts))) (sym says)
+      (of-script (λ h k b ts. EndsMidway (FromEach h k v) v.state drill clock later b now h k last_held last_kept ts) (λ ts. OfOpened held kept (λ o. EndsMidway (FromRest held kept) o drill clock later before now held kept last_held last_kept ts))
+      drill left rest before mid held held' kept kept' ss script read cut silent held_same kept_same (λ ts is. (v, shows, midway-from v opens ts drill is)) s)
 
 -- The same, where the sink failed.
 module _ {said : Option ℕ} {left rest : Option (List ℕ)} {before mid : Option (List ℕ)} {held held' : Option Held} {kept kept' : Option (List Record)} {ss : List (ℕ × List Token)} (drill : Option ℕ) (says : said ≡ drill) (script : List ℕ) (v : View)
-    (read : ScriptOf drill left rest script) (cut : ss ≡ statements script) (silent : mid ≡ before) (held_same : held' ≡ held) (kept_same : kept' ≡ kept) (opens : Opens held kept v) where
-  pub ends-in-output : (clock later : Option Answers) (now : Option (List ℕ)) (last_held : Option Held) (last_kept : Option (List Record)) → EndsInOutput (FromEach held' kept' v) drill clock later mid now held' kept' last_held last_kept ss → OfScript said left rest (EndsInOutput (FromRest held kept) said clock later before now held kept last_held last_kept)
+    (read : ScriptOf drill left rest script) (cut : ss ≡ statements script) (silent : mid ≡ before) (held_same : held' ≡ held) (kept_same : kept' ≡ kept) (opens : Opens held kept v) (shows : Shows held kept v) where
+  pub ends-in-output : (clock later : Watch) (now : Option (List ℕ)) (last_held : Option Held) (last_kept : Option (List Record)) → EndsInOutput (FromEach held' kept' v) v.state drill clock later mid now held' kept' last_held last_kept ss → OfScript said left rest (λ ts. OfOpened held kept (λ o. EndsInOutput (FromRest held kept) o said clock later before now held kept last_held last_kept ts))
   ends-in-output clock later now last_held last_kept s =
-      subst (λ (d : Option ℕ). OfScript d left rest (EndsInOutput (FromRest held kept) d clock later before now held kept last_held last_kept)) (sym says)
-      (of-script (λ h k b ts. EndsInOutput (FromEach h k v) drill clock later b now h k last_held last_kept ts) (EndsInOutput (FromRest held kept) drill clock later before now held kept last_held last_kept)
-      drill left rest before mid held held' kept kept' ss script read cut silent held_same kept_same (λ ts. output-from v held last_held kept last_kept clock later before now ts drill opens) s)
+      subst (λ (d : Option ℕ). OfScript d left rest (λ ts. OfOpened held kept (λ o. EndsInOutput (FromRest held kept) o d clock later before now held kept last_held last_kept ts))) (sym says)
+      (of-script (λ h k b ts. EndsInOutput (FromEach h k v) v.state drill clock later b now h k last_held last_kept ts) (λ ts. OfOpened held kept (λ o. EndsInOutput (FromRest held kept) o drill clock later before now held kept last_held last_kept ts))
+      drill left rest before mid held held' kept kept' ss script read cut silent held_same kept_same (λ ts is. (v, shows, output-from v held last_held kept last_kept clock later before now ts drill opens is)) s)
 
 -- there is a script, where the words say this drill
 pub has-script : {said : Option ℕ} (left rest : Option (List ℕ)) (drill : Option ℕ) → said ≡ drill → (script : List ℕ) → ScriptOf drill left rest script → HasScript said left rest

@@ -1,7 +1,7 @@
-pub mod Asked
 pub mod Blocks
 pub mod Calls
 pub mod Closing
+pub mod Coming
 pub mod Drilling
 pub mod Lines
 pub mod Quiet

@@ -11,6 +11,7 @@ use Rattle.rm_lang_statement.specs.declared.command.Statement.{Statement}
 use Rattle.rm_lang_statement.specs.declared.command.Statement.TheVariants.{Plain, Run as Block}
 use Rattle.rm_tool.specs.Block.{unset}
 use Rattle.rm_tool.specs.Built.{statement_built_at}
+use Rattle.rm_tool.specs.Comes.{AtHand, CommandComes, StatementComes, at_hand}
 use Rattle.rm_lang_token.specs.declared.token.Token.{Token}
 use Rattle.rm_report.specs.declared.line.Reply.{Reply}
 use Rattle.rm_report.specs.Reply.{refused_by}
@@ -26,8 +27,8 @@ use Rattle.rm_machine.specs.Laws.{only_tells}
 use Rattle.rm_site.specs.Untouched.{AreSame, IsUntouched, is_quiet}
 use Rattle.rm_tool.proofs.Quiet.{telling-quiet}
 use Rattle.rm_tool.specs.Quiet.{is_quiet_statement, only_tells_inner, only_tells_statement}
-use Rattle.rm_tool.specs.Run.{StepOf, IsHonestWithin}
-use Rattle.rm_tool.specs.Serving.{IsPast, IsServed, IsCut, untouched, stopped, inside, IsCutShort, RunSteps, RunStops, StatementSteps}
+use Rattle.rm_tool.specs.Run.{StepOf, IsHonestWithin, Watch}
+use Rattle.rm_tool.specs.Serving.{HasPassed, IsPast, IsServed, IsCut, untouched, stopped, inside, IsCutShort, RunComes, RunSteps, RunStops, StatementSteps}
 use Rattle.rm_tool.proofs.Blocks.{block-leaves}
 use Rattle.rm_tool.proofs.Runs.{answers_from}
 
@@ -42,6 +43,10 @@ ok-three P Q S R f (Err e) h k l = tt
 pub on-err : {A E : Type 0} (P : Type 0) (r : Result A E) → P → OnErr r P
 on-err P (Ok a) p = tt
 on-err P (Err e) p = p
+
+pub ok-four : {A E : Type 0} (P Q S T R : A → Type 0) → ((a : A) → P a → Q a → S a → T a → R a) → (r : Result A E) → IfOk r P → IfOk r Q → IfOk r S → IfOk r T → IfOk r R
+ok-four P Q S T R f (Ok a) h k l m = f a h k l m
+ok-four P Q S T R f (Err e) h k l m = tt
 
 pub err-both : {A E : Type 0} (P Q R : Type 0) → (P → Q → R) → (r : Result A E) → OnErr r P → OnErr r Q → OnErr r R
 err-both P Q R f (Ok a) h k = h
@@ -67,51 +72,67 @@ passes s (Some b) (Some a) h = λ i. h i ∙ ap b (next i)
     next : (i : ℕ) → i + 1 ≡ suc i
     next i = omega arith
 
--- the clock was asked once for a statement that is built
-asked-once : (o : Option Statement) (x : Statement) (before after : Option Answers) → o ≡ Some x → Both IsLater before after → Both (IsPast o) before after
-asked-once o x before after some later = subst (λ (p : Option Statement). Both (IsPast p) before after) (sym some) (passes x before after later)
+-- the clock was asked
+pub record IsAsked (clock later : Watch) : Type 0 where
+  pub coming : Both IsLater clock.coming later.coming
+  pub often : later.asked ≡ clock.asked + 1
 
-module _ {held : Option Held} {kept : Option (List Record)} {v : View} {clock : Option Answers} {s : ℕ × List Token} where
+-- so it was asked once for a statement that is built
+asked-once : (o : Option Statement) (x : Statement) (clock later : Watch) → o ≡ Some x → IsAsked clock later → HasPassed o clock later
+asked-once o x clock later some asked =
+    subst (λ (p : Option Statement). HasPassed p clock later) (sym some) (record { coming = passes x clock.coming later.coming asked.coming; often = asked.often })
+
+-- and not for what is none
+not-asked : (o : Option Statement) (clock : Watch) → o ≡ None → HasPassed o clock clock
+not-asked o clock none = subst (λ (p : Option Statement). HasPassed p clock clock) (sym none) (record { coming = stays clock.coming; often = omega arith })
+
+module _ {held : Option Held} {kept : Option (List Record)} {v : View} {clock : Watch} {s : ℕ × List Token} where
   -- a statement that is none is refused, and the clock is not asked
   pub served-refused : {reply : Reply} → statement_built_at s.1 ≡ None → reply ≡ refused_by (Rm01 s.0) → IsServed held kept v clock s reply held kept v clock
   served-refused {reply = reply} none is =
       record {
-        answer = answers_from clock 0;
-        next = next-from clock;
-        past = subst (λ (o : Option Statement). Both (IsPast o) clock clock) (sym none) (stays clock);
+        answer = answers_from clock.coming 0;
+        next = next-from clock.coming;
+        past = not-asked (statement_built_at s.1) clock none;
         quiet = λ is. ((refl, refl), refl);
         steps = λ m stands holds tell.
-            (m, false, subst (λ (o : Option Statement). StepOf o m s.0 (answers_from clock 0) reply false m) (sym none) (is, refl, refl), stands, holds, sym (or-false v.applied));
+            (m, false, subst (λ (o : Option Statement). StepOf o m s.0 (answers_from clock.coming 0) reply false m) (sym none) (is, refl, refl), stands, holds, sym (or-false v.applied));
+        comes =
+            let at : AtHand = at_hand held kept v in
+            (false, subst (λ (o : Option Statement). StatementComes o at s.0 (answers_from clock.coming 0) reply false at) (sym none) (is, refl, refl), sym (or-false v.applied));
       }
 
   -- nothing was done
   pub cut-before : IsCutShort held kept v clock s held kept clock
-  cut-before = record { answer = answers_from clock 0; next = next-from clock; asked = inl refl; quiet = λ tells. (refl, refl); cut = λ m stands holds tell. untouched (rests held kept m holds) }
+  cut-before = record { answer = answers_from clock.coming 0; next = next-from clock.coming; asked = inl refl; quiet = λ tells. (refl, refl); cut = λ m stands holds tell. untouched (rests held kept m holds) }
 
   -- One that is asked of the clock is a step or more of the site, or the site stopped it.
-  module _ {held' : Option Held} {kept' : Option (List Record)} (answer : ℕ) (next : IfSome clock (λ coming. answer ≡ coming 0)) where
-    served-so : {x : Statement} → statement_built_at s.1 ≡ Some x → {v' : View} {clock' : Option Answers} (reply : Reply) → Both IsLater clock clock' → (is_quiet_statement (Some x) reply ≡ true → IsUntouched held kept v held' kept' v')
-        → StatementSteps held kept v s answer reply held' kept' v' → IsServed held kept v clock s reply held' kept' v' clock'
-    served-so {x = x} some {clock' = clock'} reply later quiet steps =
+  module _ {held' : Option Held} {kept' : Option (List Record)} (answer : ℕ) (next : IfSome clock.coming (λ coming. answer ≡ coming 0)) where
+    served-so : {x : Statement} → statement_built_at s.1 ≡ Some x → {v' : View} {clock' : Watch} (reply : Reply) → IsAsked clock clock' → (is_quiet_statement (Some x) reply ≡ true → IsUntouched held kept v held' kept' v')
+        → StatementSteps held kept v s answer reply held' kept' v'
+        → (applied : Bool) → StatementComes (Some x) (at_hand held kept v) s.0 answer reply applied (at_hand held' kept' v') → v'.applied ≡ (v.applied || applied) → IsServed held kept v clock s reply held' kept' v' clock'
+    served-so {x = x} some {v' = v'} {clock' = clock'} reply later quiet steps applied comes knows =
         record {
           answer = answer;
           next = next;
           past = asked-once (statement_built_at s.1) x clock clock' some later;
           quiet = λ is. quiet (subst (λ (o : Option Statement). is_quiet_statement o reply ≡ true) some is);
           steps = steps;
+          comes = (applied, subst (λ (o : Option Statement). StatementComes o (at_hand held kept v) s.0 answer reply applied (at_hand held' kept' v')) (sym some) comes, knows);
         }
 
     -- a command
     module _ {c : Command} (some : statement_built_at s.1 ≡ Some (Plain c)) where
-      pub served-step : {v' : View} {clock' : Option Answers} (reply : Reply) → Both IsLater clock clock' → Steps held kept v c answer reply held' kept' v' → v'.applied ≡ (v.applied || applies c reply)
-          → (is_quiet c reply ≡ true → IsUntouched held kept v held' kept' v') → IsServed held kept v clock s reply held' kept' v' clock'
-      served-step reply later steps applied quiet =
+      pub served-step : {v' : View} {clock' : Watch} (reply : Reply) → IsAsked clock clock' → Steps held kept v c answer reply held' kept' v' → v'.applied ≡ (v.applied || applies c reply)
+          → (is_quiet c reply ≡ true → IsUntouched held kept v held' kept' v') → CommandComes (at_hand held kept v) c answer reply (at_hand held' kept' v') → IsServed held kept v clock s reply held' kept' v' clock'
+      served-step reply later steps applied quiet comes =
           served-so some reply later quiet
           (λ m stands holds tell.
           let n = steps m stands holds (subst (λ (o : Option Statement). IsHonestWithin o m answer) some tell) in
           (n.0, applies c reply, subst (λ (o : Option Statement). StepOf o m s.0 answer reply (applies c reply) n.0) (sym some) (n.1, refl), n.2, n.3, applied))
+          (applies c reply) (comes, refl) applied
 
-      pub cut-step : {clock' : Option Answers} → Both IsLater clock clock' → Stops held kept v c answer held' kept' → (only_tells c ≡ true → AreSame held kept held' kept') → IsCutShort held kept v clock s held' kept' clock'
+      pub cut-step : {clock' : Watch} → IsAsked clock clock' → Stops held kept v c answer held' kept' → (only_tells c ≡ true → AreSame held kept held' kept') → IsCutShort held kept v clock s held' kept' clock'
       cut-step {clock' = clock'} later stops same =
           record {
             answer = answer;
@@ -123,15 +144,16 @@ module _ {held : Option Held} {kept : Option (List Record)} {v : View} {clock : 
 
     -- a RUN
     module _ {block : List Inner} (some : statement_built_at s.1 ≡ Some (Block block)) where
-      pub served-run : {v' : View} {clock' : Option Answers} (reply : Reply) → Both IsLater clock clock' → RunSteps held kept v block answer reply held' kept' v'
-          → (list_all only_tells_inner block ≡ true → IsUntouched held kept v held' kept' v') → IsServed held kept v clock s reply held' kept' v' clock'
-      served-run reply later steps quiet =
+      pub served-run : {v' : View} {clock' : Watch} (reply : Reply) → IsAsked clock clock' → RunSteps held kept v block answer reply held' kept' v'
+          → (list_all only_tells_inner block ≡ true → IsUntouched held kept v held' kept' v') → RunComes held kept v block answer reply held' kept' v' → IsServed held kept v clock s reply held' kept' v' clock'
+      served-run reply later steps quiet comes =
           served-so some reply later quiet
           (λ m stands holds tell.
           let n = steps m stands holds (subst (λ (o : Option Statement). IsHonestWithin o m answer) some tell) in
           (n.0, n.1, subst (λ (o : Option Statement). StepOf o m s.0 answer reply n.1 n.0) (sym some) n.2, n.3, n.4, n.5))
+          comes.0 comes.1 comes.2
 
-      pub cut-run : {clock' : Option Answers} → Both IsLater clock clock' → RunStops held kept v block answer held' kept' → (list_all only_tells_inner block ≡ true → AreSame held kept held' kept') → IsCutShort held kept v clock s held' kept' clock'
+      pub cut-run : {clock' : Watch} → IsAsked clock clock' → RunStops held kept v block answer held' kept' → (list_all only_tells_inner block ≡ true → AreSame held kept held' kept') → IsCutShort held kept v clock s held' kept' clock'
       cut-run {clock' = clock'} later stops same =
           record {
             answer = answer;
@@ -150,7 +172,7 @@ cut-by (Some (Plain c)) m n s answer reply applied held kept sound some step hol
 cut-by (Some (Block block)) m n s answer reply applied held kept sound some steps holds = inside block (at_rest n) some (block-leaves unset m block answer reply applied n steps) (rests held kept n holds)
 
 -- the statement was served, and no word of its reply was written
-pub cut-served : {held held' : Option Held} {kept kept' : Option (List Record)} {v v' : View} {clock clock' : Option Answers} {s : ℕ × List Token} {reply : Reply}
+pub cut-served : {held held' : Option Held} {kept kept' : Option (List Record)} {v v' : View} {clock clock' : Watch} {s : ℕ × List Token} {reply : Reply}
     → IsServed held kept v clock s reply held' kept' v' clock' → IsCutShort held kept v clock s held' kept' clock'
 cut-served {held' = held'} {kept' = kept'} {s = s} {reply = reply} served =
     record {

@@ -108,7 +108,8 @@ InnerStep x m AllocateChannel clock reply n = (reply ≡ channel_reply m.state x
 -- a list of edits was applied for it
 abbrev pub inner_applies : Settings → Inner → Reply → Bool
 inner_applies x (PlainInner c) reply = applies (with_until x.until c) reply
-inner_applies x _ reply = false
+inner_applies x (SetUntil until) reply = false
+inner_applies x AllocateChannel reply = false
 
 -- the lines of one reply and then those of the last
 abbrev pub joined : Reply → Reply → Reply
@@ -139,7 +140,8 @@ IsHonestInside x m (y ∷ ys) clock =
 -- what is left where a statement of a RUN was cut short: nothing of it was done, or a stop of the command leaves this
 abbrev pub InnerLeaves : Settings → Machine → Inner → ℕ → Rest → Type 0
 InnerLeaves x m (PlainInner c) clock r = (r ≡ at_rest m) ⊎ Stopped m (with_until x.until c) (moment_of m.state clock) r
-InnerLeaves x m _ clock r = r ≡ at_rest m
+InnerLeaves x m (SetUntil until) clock r = r ≡ at_rest m
+InnerLeaves x m AllocateChannel clock r = r ≡ at_rest m
 
 -- What is left where a RUN was cut short: some of its statements were done, and the next one was cut short, or there was
 -- none.

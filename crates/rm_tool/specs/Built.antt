@@ -2,7 +2,7 @@
 use Rattle.std.specs.Prelude.{if◌then◌else◌, Option, Some, None, List, Bool, true}
 use Rattle.std.specs.List.{list_all}
 use Rattle.rm_lang_statement.specs.declared.command.Inner.{Inner}
-use Rattle.rm_lang_statement.specs.declared.command.Inner.TheVariants.{Plain as PlainInner}
+use Rattle.rm_lang_statement.specs.declared.command.Inner.TheVariants.{AllocateChannel, Plain as PlainInner, SetUntil}
 use Rattle.rm_lang_statement.specs.declared.command.Statement.{Statement}
 use Rattle.rm_lang_statement.specs.declared.command.Statement.TheVariants.{Plain, Run}
 use Rattle.rm_lang_reading.specs.Language.{statement_at}
@@ -12,7 +12,8 @@ use Rattle.rm_lang_token.specs.declared.token.Token.{Token}
 -- a statement of a RUN
 abbrev pub is_built_inner : Inner → Bool
 is_built_inner (PlainInner c) = is_built c
-is_built_inner _ = true
+is_built_inner (SetUntil until) = true
+is_built_inner AllocateChannel = true
 
 -- a RUN is built where each of its statements is
 abbrev pub is_built_statement : Statement → Bool

@@ -1,5 +1,6 @@
 pub mod Block
 pub mod Built
+pub mod Comes
 pub mod Drill
 pub mod Ends
 pub mod Quiet

@@ -1,5 +1,5 @@
 -- The machine's run over the statements of a script, and the clock's answers to them.
-use Rattle.std.specs.Prelude.{ℕ, suc, ◌≡◌, ◌||◌, Bool, false, Option, Some, None, IfSome, List, [], ◌∷◌}
+use Rattle.std.specs.Prelude.{ℕ, suc, ◌≡◌, ◌+◌, ◌||◌, Bool, false, Option, Some, None, IfSome, List, [], ◌∷◌}
 use Rattle.std.specs.List.{flat_map, list_any}
 use Rattle.rm_base.specs.Store.{Answers}
 use Rattle.rm_base.specs.declared.refusal.Refusal.TheVariants.{Rm01}
@@ -94,6 +94,29 @@ behind (s ∷ ss) answers = behind ss (past (statement_built_at s.1) answers)
 -- where the clock tells its answers to come, they are these
 abbrev pub AreToCome : Option Answers → Answers → Type 0
 AreToCome told answers = IfSome told (λ coming. (i : ℕ) → answers i ≡ coming i)
+
+-- how often the clock is asked for a statement: once for one of the grammar, a RUN too, and not for what is none
+abbrev pub asks : Option Statement → ℕ
+asks None = 0
+asks (Some s) = 1
+
+-- and for these
+abbrev pub asks_for : List (ℕ × List Token) → ℕ
+asks_for [] = 0
+asks_for (s ∷ ss) = asks (statement_built_at s.1) + asks_for ss
+
+-- what is known of a clock: its answers to come, where it tells them, and how often it was asked
+pub record Watch : Type 0 where
+  pub coming : Option Answers
+  pub asked : ℕ
+
+abbrev pub watch : Option Answers → ℕ → Watch
+watch coming asked = record { coming = coming; asked = asked }
+
+-- the clock, of these answers, was asked for these statements, and for no others
+pub record WasAskedFor (clock later : Watch) (answers : Answers) (ss : List (ℕ × List Token)) : Type 0 where
+  pub coming : AreToCome later.coming (behind ss answers)
+  pub often : later.asked ≡ clock.asked + asks_for ss
 
 -- the texts of the replies, one after another
 abbrev pub replies_text : List Reply → List ℕ

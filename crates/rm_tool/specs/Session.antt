@@ -2,7 +2,7 @@
 use Rattle.std.specs.Prelude.{ℕ, ◌≡◌, ◌⊎◌, ◌<◌, Bool, false, Option, Some, None, List, [], ◌∷◌, ◌++◌, codes, if◌then◌else◌, IfSome, length}
 use Rattle.std.specs.Fmt.{decimal}
 use Rattle.rm_base.specs.Outside.{Appends, HasTaken}
-use Rattle.rm_base.specs.Store.{Held, Answers}
+use Rattle.rm_base.specs.Store.{Held}
 use Rattle.rm_catalog.specs.Faults.{IsBadRow}
 use Rattle.rm_catalog.specs.declared.catalog.CatalogFault.TheVariants.{BadRow}
 use Rattle.rm_catalog.specs.declared.record.Key.{Key}
@@ -12,10 +12,12 @@ use Rattle.rm_lang_token.specs.Statements.{statements}
 use Rattle.rm_lang_token.specs.declared.token.Token.{Token}
 use Rattle.rm_machine.specs.Machine.{Machine}
 use Rattle.rm_machine.specs.Rest.{PartsTell, Rest, Wakes}
-use Rattle.rm_machine_laws.specs.Holds.{HoldsRest}
-use Rattle.rm_site.specs.Opens.{AreValid}
+use Rattle.rm_machine.specs.declared.state.State.{State}
+use Rattle.rm_machine_laws.specs.Holds.{HoldsRest, View}
+use Rattle.rm_site.specs.Opens.{AreValid, Shows}
 use Rattle.rm_site.specs.Untouched.{AreSame}
 use Rattle.rm_tool.specs.Ends.{WritesFront}
+use Rattle.rm_tool.specs.Run.{Watch}
 use Rattle.rm_tool.specs.Serving.{Closes, EndsInOutput, EndsMidway}
 use Rattle.rm_tool.specs.Words.{accepts, drill_of}
 
@@ -40,13 +42,17 @@ abbrev pub IsEarly : ℕ → Type 0
 IsEarly status = (status ≡ 2) ⊎ (status ≡ 3) ⊎ (status ≡ 8) ⊎ (status ≡ 9)
 
 -- no statement ran: the clock was not asked, and the store and the keeper hold what they held
-abbrev pub NoneRan : Option Answers → Option Answers → Option Held → Option (List Record) → Option Held → Option (List Record) → Type 0
+abbrev pub NoneRan : Watch → Watch → Option Held → Option (List Record) → Option Held → Option (List Record) → Type 0
 NoneRan clock later held kept held' kept' = (later ≡ clock) × AreSame held kept held' kept'
 
 -- Whatever database at rest the store and the keeper hold: where digests tell of its saved site it wakes, and this is so of
 -- the machine.
 abbrev pub FromRest : Option Held → Option (List Record) → (Machine → Type 0) → Type 0
 FromRest held kept Is = (r : Rest) → HoldsRest held kept r → PartsTell r → (first : Machine) × Wakes r first × Is first
+
+-- Whatever the store and the keeper hold: a site was opened that shows what they hold, and this is so of its database.
+abbrev pub OfOpened : Option Held → Option (List Record) → (Option State → Type 0) → Type 0
+OfOpened held kept Is = (site : View) × Shows held kept site × Is site.state
 
 -- A script was taken from the source: all that was left, where the source tells it.
 pub record Script (left rest : Option (List ℕ)) (script : List ℕ) : Type 0 where
@@ -70,10 +76,11 @@ pub record OfScript (drill : Option ℕ) (left rest : Option (List ℕ)) (Is : L
 
 -- Status 0 and 1: each statement of the script has its reply, and exactly these were written, or of a drill its line. The status tells whether one of them is a
 -- refusal. From whatever database at rest the store and the keeper hold the machine ran over the statements with the clock's answers, and
--- these are its replies. Then the session ended, and the store and the keeper hold what is at rest.
-pub record Finishes (drill : Option ℕ) (left rest : Option (List ℕ)) (clock later : Option Answers) (before now : Option (List ℕ)) (held : Option Held) (kept : Option (List Record)) (held' : Option Held) (kept' : Option (List Record)) (status : ℕ) : Type 0 where
+-- these are its replies. Then the session ended, and the store and the keeper hold what is at rest. And whatever they hold the replies are
+-- those of the statements, by what is at hand at each.
+pub record Finishes (drill : Option ℕ) (left rest : Option (List ℕ)) (clock later : Watch) (before now : Option (List ℕ)) (held : Option Held) (kept : Option (List Record)) (held' : Option Held) (kept' : Option (List Record)) (status : ℕ) : Type 0 where
   pub refused : Bool
-  pub serves : OfScript drill left rest (Closes (FromRest held kept) drill clock later before now held kept held' kept' refused)
+  pub serves : OfScript drill left rest (λ ss. OfOpened held kept (λ o. Closes (FromRest held kept) o drill clock later before now held kept held' kept' refused ss))
   pub tells : status ≡ (if refused then 1 else 0)
 
 -- the keeper's records are valid, where it tells them
@@ -83,9 +90,9 @@ TellsValid kept = IfSome kept AreValid
 -- Status 5, 6 and 7: the call ended before the first statement, with nothing written and no statement run; or at a
 -- statement, and what was written are exactly the replies to those before it, of a drill nothing; or at the save, after all that is written. The store and
 -- the keeper hold what is left.
-pub data EndsEarly (drill : Option ℕ) (left rest : Option (List ℕ)) (clock later : Option Answers) (before now : Option (List ℕ)) (held : Option Held) (kept : Option (List Record)) (held' : Option Held) (kept' : Option (List Record)) : Type 0 where
+pub data EndsEarly (drill : Option ℕ) (left rest : Option (List ℕ)) (clock later : Watch) (before now : Option (List ℕ)) (held : Option Held) (kept : Option (List Record)) (held' : Option Held) (kept' : Option (List Record)) : Type 0 where
   before_statements : now ≡ before → NoneRan clock later held kept held' kept' → EndsEarly drill left rest clock later before now held kept held' kept'
-  midway : TellsValid kept → OfScript drill left rest (EndsMidway (FromRest held kept) drill clock later before now held kept held' kept') → EndsEarly drill left rest clock later before now held kept held' kept'
+  midway : TellsValid kept → OfScript drill left rest (λ ss. OfOpened held kept (λ o. EndsMidway (FromRest held kept) o drill clock later before now held kept held' kept' ss)) → EndsEarly drill left rest clock later before now held kept held' kept'
 
 -- the line of the first of the keeper's records, in order, that breaks a rule, where it tells them
 pub record IsBadRecord (kept : Option (List Record)) (line : List ℕ) : Type 0 where
@@ -107,8 +114,8 @@ pub record BeginsBadRecord (kept : Option (List Record)) (before now : Option (L
 
 -- Status 4: what was written is a front of the line of status 2, 8 or 9, not all of it, and no statement ran; or the sink failed in what the
 -- session writes.
-pub data WritesPart (words : List (List ℕ)) (left rest : Option (List ℕ)) (clock later : Option Answers) (before now : Option (List ℕ)) (held : Option Held) (kept : Option (List Record)) (held' : Option Held) (kept' : Option (List Record)) : Type 0 where
+pub data WritesPart (words : List (List ℕ)) (left rest : Option (List ℕ)) (clock later : Watch) (before now : Option (List ℕ)) (held : Option Held) (kept : Option (List Record)) (held' : Option Held) (kept' : Option (List Record)) : Type 0 where
   in_bad_words : accepts words ≡ false → NoneRan clock later held kept held' kept' → WritesFront before now bad_words → WritesPart words left rest clock later before now held kept held' kept'
   in_over_long : IfSome left (λ bytes. 4194304 < length bytes) → NoneRan clock later held kept held' kept' → WritesFront before now over_long → WritesPart words left rest clock later before now held kept held' kept'
   in_bad_record : NoneRan clock later held kept held' kept' → BeginsBadRecord kept before now → WritesPart words left rest clock later before now held kept held' kept'
-  in_output : TellsValid kept → OfScript (drill_of words) left rest (EndsInOutput (FromRest held kept) (drill_of words) clock later before now held kept held' kept') → WritesPart words left rest clock later before now held kept held' kept'
+  in_output : TellsValid kept → OfScript (drill_of words) left rest (λ ss. OfOpened held kept (λ o. EndsInOutput (FromRest held kept) o (drill_of words) clock later before now held kept held' kept' ss)) → WritesPart words left rest clock later before now held kept held' kept'

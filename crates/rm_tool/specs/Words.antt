@@ -3,7 +3,7 @@ use Rattle.std.specs.Prelude.{ℕ, ◌≡◌, is_some, Bool, List, Option, Some}
 use Rattle.std.specs.Option.{option_and_then, option_map}
 use Rattle.rm_lang_words.specs.Words.{said}
 
--- the words say a store and a catalog, and channels and a drill or none
+-- the words say a store and a catalog, and channels, a drill and a database or none
 abbrev pub accepts : List (List ℕ) → Bool
 accepts words = is_some (said words)
 

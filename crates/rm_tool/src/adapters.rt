@@ -1,8 +1,8 @@
 //! A reader as a source, a writer as a sink, and the machine's clock. Contracts see nothing of their bytes
 //! or of its answers.
-ghost use Rattle.std.specs.Prelude.{◌≡◌, false};
+ghost use Rattle.std.specs.Prelude.{◌≡◌, ◌+◌, ◌<◌, ◌≤◌, false};
 
-use rm_base::{Clock, Failed, Sink, Source};
+use rm_base::{Clock, Count, Failed, Sink, Source};
 use std::io::{Error, ErrorKind, Read, Write};
 use std::time::{SystemTime, UNIX_EPOCH};
 
@@ -12,7 +12,7 @@ pub struct ReadSource<R> {
     reader: R,
     pub taken: u64,
     pub at_end: bool,
-    pub faults: u64,
+    pub faults: Count,
     /// The error that was counted last.
     pub last: Option<Error>,
 }
@@ -22,20 +22,21 @@ impl<R> ReadSource<R> {
     pub fn new(reader: R) -> Self
         ensures taken { result.taken ≡ 0 }
         ensures at_end { result.at_end ≡ false }
-        ensures faults { result.faults ≡ 0 }
+        ensures faults { result.faults.times ≡ 0 }
     {
         ReadSource {
             reader,
             taken: 0,
             at_end: false,
-            faults: 0,
+            faults: Count::none(),
             last: None,
         }
     }
 }
 
 impl<R: Read + Drop> Source for ReadSource<R> {
-    ghost use Rattle.std.specs.Prelude.{None};
+    ghost use Rattle.std.specs.Prelude.{ℕ, List, Option, None, IfOk, OnOk, OnErr, length, take};
+    ghost use Rattle.rm_base.specs.Outside.{HasTaken, Counts, EndsAt, Rose};
 
     ghost left = { λ _. None };
 
@@ -43,13 +44,28 @@ impl<R: Read + Drop> Source for ReadSource<R> {
 
     ghost at_end = { λ s. s.at_end };
 
-    ghost faults = { λ s. s.faults };
+    ghost faults = { λ s. s.faults.times };
 
-    fn read(&mut self, buf: &mut [u8]) -> Result<usize, Failed> {
+    fn read(&mut self, buf: &mut [u8]) -> Result<usize, Failed>
+        ensures bound { IfOk result (λ n. n ≤ length buf.old) }
+        ensures front { IfOk result (λ n. HasTaken None None (take n buf.new)) }
+        ensures count { IfOk result (λ n. Counts self.old.taken self.new.taken n) }
+        ensures end { IfOk result (λ n. 0 < length buf.old → EndsAt n None self.new.at_end) }
+        ensures empty { IfOk result (λ _. length buf.old ≡ 0 → self.new.at_end ≡ self.old.at_end) }
+
+        ensures failed { OnErr result (Rose self.old.faults.times self.new.faults.times) }
+        ensures failed_left { OnErr result (◌≡◌ {A = Option (List ℕ)} None None) }
+        ensures failed_count { OnErr result (self.new.taken ≡ self.old.taken) }
+        ensures failed_end { OnErr result (self.new.at_end ≡ self.old.at_end) }
+        ensures never_falls { self.old.faults.times ≤ self.new.faults.times }
+
+        // A fault is counted only where the call answers one.
+        ensures counted { OnOk result (self.new.faults.times ≡ self.old.faults.times) }
+    {
         let n = match self.reader.read(buf) {
             Ok(n) => n,
             Err(error) => {
-                self.faults = self.faults.saturating_add(1);
+                self.faults.rise();
                 self.last = Some(error);
                 return Err(Failed);
             }
@@ -67,7 +83,7 @@ impl<R: Read + Drop> Source for ReadSource<R> {
 #[derive(Drop)]
 pub struct WriteSink<W> {
     writer: W,
-    pub faults: u64,
+    pub faults: Count,
     /// The error that was counted last.
     pub last: Option<Error>,
 }
@@ -75,30 +91,42 @@ pub struct WriteSink<W> {
 impl<W> WriteSink<W> {
     /// A sink that has not failed.
     pub fn new(writer: W) -> Self
-        ensures { result.faults ≡ 0 }
+        ensures { result.faults.times ≡ 0 }
     {
         WriteSink {
             writer,
-            faults: 0,
+            faults: Count::none(),
             last: None,
         }
     }
 }
 
 impl<W: Write + Drop> Sink for WriteSink<W> {
-    ghost use Rattle.std.specs.Prelude.{None};
+    ghost use Rattle.std.specs.Prelude.{ℕ, List, Option, None, IfOk, OnOk, OnErr, length, take};
+    ghost use Rattle.rm_base.specs.Outside.{Appends, Rose};
 
     ghost contents = { λ _. None };
 
-    ghost faults = { λ s. s.faults };
+    ghost faults = { λ s. s.faults.times };
 
-    fn write(&mut self, bytes: &[u8]) -> Result<usize, Failed> {
+    fn write(&mut self, bytes: &[u8]) -> Result<usize, Failed>
+        ensures bound { IfOk result (λ n. n ≤ length bytes.now) }
+        ensures grows { IfOk result (λ n. Appends None None (take n bytes.now)) }
+        ensures zero { IfOk result (λ n. n ≡ 0 → 0 < length bytes.now → Rose self.old.faults.times self.new.faults.times) }
+
+        ensures failed { OnErr result (Rose self.old.faults.times self.new.faults.times) }
+        ensures failed_contents { OnErr result (◌≡◌ {A = Option (List ℕ)} None None) }
+        ensures never_falls { self.old.faults.times ≤ self.new.faults.times }
+
+        // A fault is counted only where the call answers one.
+        ensures counted { OnOk result (self.new.faults.times ≡ self.old.faults.times) }
+    {
         let error = match self.writer.write(bytes) {
             Ok(n) if n > 0 || bytes.is_empty() => return Ok(n),
             Ok(_) => Error::from(ErrorKind::WriteZero),
             Err(error) => error,
         };
-        self.faults = self.faults.saturating_add(1);
+        self.faults.rise();
         self.last = Some(error);
         Err(Failed)
     }
@@ -110,12 +138,17 @@ impl<W: Write + Drop> Sink for WriteSink<W> {
 pub struct SystemClock<'a> {
     rt: &'a HostRuntime,
     last: u64,
+    asked: Count,
 }
 
 impl<'a> SystemClock<'a> {
     /// A clock that was not asked.
     pub fn new(rt: &'a HostRuntime) -> Self {
-        SystemClock { rt, last: 0 }
+        SystemClock {
+            rt,
+            last: 0,
+            asked: Count::none(),
+        }
     }
 }
 
@@ -124,7 +157,10 @@ impl Clock for SystemClock<'_> {
 
     ghost answers = { λ _. None };
 
+    ghost asked = { λ c. c.asked.times };
+
     fn now(&mut self) -> u64 {
+        self.asked.rise();
         if let Ok(now) = SystemTime::now(self.rt) {
             if let Ok(since) = now.duration_since(UNIX_EPOCH) {
                 self.last = since.as_secs();

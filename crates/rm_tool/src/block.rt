@@ -8,8 +8,9 @@ ghost use Rattle.rm_report.specs.Reply.{HasDates, IsFlagged, said};
 ghost use Rattle.rm_site.specs.Untouched.{AreSame, IsUntouched};
 ghost use Rattle.rm_tool.specs.Block.{AreSet, after_inner, channel_reply, channels_of, inner_applies, set_reply};
 ghost use Rattle.rm_tool.specs.Built.{is_built_inner};
+ghost use Rattle.rm_tool.specs.Comes.{InnerComes, at_hand};
 ghost use Rattle.rm_tool.specs.Quiet.{only_tells_inner};
-ghost use Rattle.rm_tool.specs.Serving.{InnerSteps, InnerStops, RunSteps, RunStops};
+ghost use Rattle.rm_tool.specs.Serving.{InnerSteps, InnerStops, RunComes, RunSteps, RunStops};
 
 use crate::untils::with_until;
 use rm_base::{Limit, Moment, NoMemory, Refusal, Seq, Store};
@@ -114,6 +115,7 @@ fn serve_inner<R: Threads + Wait + Sync, G: Gate, D: Store, C: Keeper>(
     ensures live { OnOk result (site.new.live ≡ true) }
     ensures set { OnOk result (AreSet settings.new) }
     ensures steps { IfOk result (λ reply. InnerSteps (D.held store.old) (C.kept keeper.old) site.old settings.old inner clock reply (D.held store.new) (C.kept keeper.new) site.new) }
+    ensures comes { IfOk result (λ reply. InnerComes settings.old (at_hand (D.held store.old) (C.kept keeper.old) site.old) inner clock reply (at_hand (D.held store.new) (C.kept keeper.new) site.new)) }
     ensures applied { IfOk result (λ reply. site.new.applied ≡ (site.old.applied || inner_applies settings.old inner reply)) }
     ensures quiet { IfOk result (λ _. only_tells_inner inner ≡ true → IsUntouched (D.held store.old) (C.kept keeper.old) site.old (D.held store.new) (C.kept keeper.new) site.new) }
     ensures after { IfOk result (λ reply. reply.refused ≡ false → settings.new ≡ after_inner settings.old inner) }
@@ -167,6 +169,7 @@ pub fn serve_block<R: Threads + Wait + Sync, G: Gate, D: Store, C: Keeper>(
     requires built { IsTrue (list_all is_built_inner block) }
     ensures live { OnOk result (site.new.live ≡ true) }
     ensures steps { IfOk result (λ reply. RunSteps (D.held store.old) (C.kept keeper.old) site.old block clock reply (D.held store.new) (C.kept keeper.new) site.new) }
+    ensures comes { IfOk result (λ reply. RunComes (D.held store.old) (C.kept keeper.old) site.old block clock reply (D.held store.new) (C.kept keeper.new) site.new) }
     ensures quiet { IfOk result (λ _. list_all only_tells_inner block ≡ true → IsUntouched (D.held store.old) (C.kept keeper.old) site.old (D.held store.new) (C.kept keeper.new) site.new) }
     ensures untouched { OnErr result (list_all only_tells_inner block ≡ true → AreSame (D.held store.old) (C.kept keeper.old) (D.held store.new) (C.kept keeper.new)) }
     ensures stopped { OnErr result (RunStops (D.held store.old) (C.kept keeper.old) site.old block clock (D.held store.new) (C.kept keeper.new)) }

@@ -15,7 +15,7 @@ fn is_built_inner(inner: &Inner) -> bool
 {
     match inner {
         Inner::Plain(command) => is_built(command),
-        _ => true,
+        Inner::SetUntil(_) | Inner::AllocateChannel => true,
     }
 }
 

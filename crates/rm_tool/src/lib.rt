@@ -7,7 +7,7 @@ mod built;
 mod drill;
 pub mod ends;
 pub mod laws;
-mod opening;
+pub mod opening;
 pub mod run;
 mod session;
 mod tally;

@@ -1,7 +1,7 @@
 //! The site is opened, or the line of a record is written.
 ghost use Rattle.std.specs.Prelude.{◌≡◌, ◌≤◌, true, false, IfOk, OnOk, IsErrOf};
 ghost use Rattle.rm_base.specs.Outside.{Rose};
-ghost use Rattle.rm_site.specs.Opens.{Opens};
+ghost use Rattle.rm_site.specs.Opens.{Opens, Shows};
 ghost use Rattle.rm_tool.specs.Session.{TellsValid, WritesBadRecord, BeginsBadRecord, bad_record};
 
 use crate::ends::write_all;
@@ -61,6 +61,7 @@ pub fn open_site<K: Sink, D: Store, C: Keeper>(
     keeper: &mut C,
 ) -> Result<Site, Unopened>
     ensures opened { IfOk result (Opens (D.held store.old) (C.kept keeper.old)) }
+    ensures shows { IfOk result (Shows (D.held store.old) (C.kept keeper.old)) }
     ensures live { IfOk result (λ site. site.live ≡ true) }
     ensures applied { IfOk result (λ site. site.applied ≡ false) }
     ensures valid { IfOk result (λ _. TellsValid (C.kept keeper.old)) }

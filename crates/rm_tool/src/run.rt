@@ -4,6 +4,7 @@ ghost use Rattle.rm_base.specs.Outside.{Appends, Rose};
 ghost use Rattle.rm_catalog.specs.declared.record.Record.{Record};
 ghost use Rattle.rm_site.specs.Opens.{AreValid};
 ghost use Rattle.rm_tool.specs.Ends.{Counted, TakesMany};
+ghost use Rattle.rm_tool.specs.Run.{watch};
 ghost use Rattle.rm_tool.specs.Session.{HasScript, Finishes, EndsEarly, WritesPart, WritesBadRecord, TellsValid, IsDone, IsEarly, NoneRan, bad_words, over_long};
 ghost use Rattle.rm_tool.specs.Words.{accepts, drill_of};
 
@@ -23,8 +24,9 @@ use std::thread::Threads;
 ///
 /// The words are read first, then the script to its end, then the site is opened, then each statement is a
 /// step and its reply is written, and then the site is saved. With the word `--drill` the script is the drill's, the source is not
-/// read, and before the site is saved one line is written in the place of all replies. The clock is asked once for each statement of the
-/// grammar. The channels of a BACKUP or RECOVER are threads of `rt`, and so are the writers of a BACKUP; its threads
+/// read, and before the site is saved one line is written in the place of all replies. Of which database `keeper` has the records, by the
+/// word `--database`, is the caller's matter. The clock is asked once for each statement of the grammar. The channels of a BACKUP or
+/// RECOVER are threads of `rt`, and so are the writers of a BACKUP; its threads
 /// call `gate`. The status is
 /// - 0 where no reply is a refusal, 1 where one is,
 /// - 2 where the words are refused,
@@ -45,7 +47,7 @@ pub fn run<R: Threads + Wait + Sync, G: Gate, S: Source, K: Sink, D: Store, C: K
     clock: &mut T,
 ) -> u8
     // 0 and 1: the headline.
-    ensures done { IsDone result → Finishes (drill_of words.now) (S.left source.old) (S.left source.new) (T.answers clock.old) (T.answers clock.new) (K.contents sink.old) (K.contents sink.new) (D.held store.old) (C.kept keeper.old) (D.held store.new) (C.kept keeper.new) result }
+    ensures done { IsDone result → Finishes (drill_of words.now) (S.left source.old) (S.left source.new) (watch (T.answers clock.old) (T.asked clock.old)) (watch (T.answers clock.new) (T.asked clock.new)) (K.contents sink.old) (K.contents sink.new) (D.held store.old) (C.kept keeper.old) (D.held store.new) (C.kept keeper.new) result }
     ensures ended { IsDone result → drill_of words.now ≡ None → S.at_end source.new ≡ true }
     ensures drill_unread { IsSome (drill_of words.now) → source.new ≡ source.old }
     ensures read { IsDone result → HasScript (drill_of words.now) (S.left source.old) (S.left source.new) }
@@ -61,16 +63,16 @@ pub fn run<R: Threads + Wait + Sync, G: Gate, S: Source, K: Sink, D: Store, C: K
     ensures source { result ≡ 3 → Rose (S.faults source.old) (S.faults source.new) }
     ensures source_written { result ≡ 3 → K.contents sink.new ≡ K.contents sink.old }
     ensures sink { result ≡ 4 → Rose (K.faults sink.old) (K.faults sink.new) }
-    ensures sink_written { result ≡ 4 → WritesPart words.now (S.left source.old) (S.left source.new) (T.answers clock.old) (T.answers clock.new) (K.contents sink.old) (K.contents sink.new) (D.held store.old) (C.kept keeper.old) (D.held store.new) (C.kept keeper.new) }
+    ensures sink_written { result ≡ 4 → WritesPart words.now (S.left source.old) (S.left source.new) (watch (T.answers clock.old) (T.asked clock.old)) (watch (T.answers clock.new) (T.asked clock.new)) (K.contents sink.old) (K.contents sink.new) (D.held store.old) (C.kept keeper.old) (D.held store.new) (C.kept keeper.new) }
 
     // 5 and 6: only where the count of that object rose, and what was written and done then.
     ensures store { result ≡ 5 → Rose (D.faults store.old) (D.faults store.new) }
-    ensures store_written { result ≡ 5 → EndsEarly (drill_of words.now) (S.left source.old) (S.left source.new) (T.answers clock.old) (T.answers clock.new) (K.contents sink.old) (K.contents sink.new) (D.held store.old) (C.kept keeper.old) (D.held store.new) (C.kept keeper.new) }
+    ensures store_written { result ≡ 5 → EndsEarly (drill_of words.now) (S.left source.old) (S.left source.new) (watch (T.answers clock.old) (T.asked clock.old)) (watch (T.answers clock.new) (T.asked clock.new)) (K.contents sink.old) (K.contents sink.new) (D.held store.old) (C.kept keeper.old) (D.held store.new) (C.kept keeper.new) }
     ensures keeper { result ≡ 6 → Rose (C.faults keeper.old) (C.faults keeper.new) }
-    ensures keeper_written { result ≡ 6 → EndsEarly (drill_of words.now) (S.left source.old) (S.left source.new) (T.answers clock.old) (T.answers clock.new) (K.contents sink.old) (K.contents sink.new) (D.held store.old) (C.kept keeper.old) (D.held store.new) (C.kept keeper.new) }
+    ensures keeper_written { result ≡ 6 → EndsEarly (drill_of words.now) (S.left source.old) (S.left source.new) (watch (T.answers clock.old) (T.asked clock.old)) (watch (T.answers clock.new) (T.asked clock.new)) (K.contents sink.old) (K.contents sink.new) (D.held store.old) (C.kept keeper.old) (D.held store.new) (C.kept keeper.new) }
 
     // 7: what was written and done.
-    ensures memory_written { result ≡ 7 → EndsEarly (drill_of words.now) (S.left source.old) (S.left source.new) (T.answers clock.old) (T.answers clock.new) (K.contents sink.old) (K.contents sink.new) (D.held store.old) (C.kept keeper.old) (D.held store.new) (C.kept keeper.new) }
+    ensures memory_written { result ≡ 7 → EndsEarly (drill_of words.now) (S.left source.old) (S.left source.new) (watch (T.answers clock.old) (T.asked clock.old)) (watch (T.answers clock.new) (T.asked clock.new)) (K.contents sink.old) (K.contents sink.new) (D.held store.old) (C.kept keeper.old) (D.held store.new) (C.kept keeper.new) }
 
     // 8: exactly where more than the limit was taken, and its line was written.
     ensures long { result ≡ 8 → Counted (S.taken source.old) → TakesMany (S.taken source.old) (S.taken source.new) }
@@ -84,7 +86,7 @@ pub fn run<R: Threads + Wait + Sync, G: Gate, S: Source, K: Sink, D: Store, C: K
     ensures bad_only { (rs : List Record) → accepts words.now ≡ true → Counted (S.taken source.old) → ¬ TakesMany (S.taken source.old) (S.taken source.new) → C.kept keeper.old ≡ Some rs → ¬ AreValid rs → Contains (9 ∷ 4 ∷ 3 ∷ 6 ∷ 7 ∷ []) result }
 
     // At 2, 3, 8 and 9 no statement ran.
-    ensures same { IsEarly result → NoneRan (T.answers clock.old) (T.answers clock.new) (D.held store.old) (C.kept keeper.old) (D.held store.new) (C.kept keeper.new) }
+    ensures same { IsEarly result → NoneRan (watch (T.answers clock.old) (T.asked clock.old)) (watch (T.answers clock.new) (T.asked clock.new)) (D.held store.old) (C.kept keeper.old) (D.held store.new) (C.kept keeper.new) }
 
     // There is no other status, and without a cause there is 0, 1 or 7.
     ensures statuses { Contains (0 ∷ 1 ∷ 2 ∷ 3 ∷ 4 ∷ 5 ∷ 6 ∷ 7 ∷ 8 ∷ 9 ∷ []) result }

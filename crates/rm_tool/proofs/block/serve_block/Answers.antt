@@ -3,6 +3,7 @@ use Rattle.rm_lang_statement.specs.IsCommand.{is_inner}
 use Rattle.rm_tool.specs.Built.{is_built_inner}
 use Rattle.rm_tool.specs.Quiet.{only_tells_inner}
 use Rattle.rm_tool.proofs.Blocks.{inside-done, inside-more, inside-refused, inside-all, others-pass, all-added}
+use Rattle.rm_tool.proofs.Coming.{comes-all, comes-more, comes-refused}
 use Rattle.rm_report.proofs.Plain.{plain-dated, plain-lines, refused-behind}
 use Rattle.rm_report.specs.Reply.{IsPlain, LineHasDate}
 use Rattle.rm_report.specs.declared.line.Line.{Line}
@@ -20,6 +21,11 @@ returns-then-reply-clause-steps g c = λ m stands holds tells.
     let done = c.in_ok-reply.ensures in
     inside-refused (c.loop-inner.invariant.inside m stands holds tells) c.in-Some.ensures.steps.0 c.serve_inner.new.site c.in_ok-reply.reply done.steps
     c.add_lines.new.lines c.in_ok-add_lines.ensures done.applied c.if-reply.true
+
+pub returns-then-reply-clause-comes : goal.returns-then-reply-clause-comes
+returns-then-reply-clause-comes g c =
+    let done = c.in_ok-reply.ensures in
+    comes-refused c.loop-inner.invariant.comes c.in-Some.ensures.steps.0 c.serve_inner.new.site _ c.in_ok-reply.reply done.comes c.add_lines.new.lines c.in_ok-add_lines.ensures done.applied c.if-reply.true
 
 pub returns-then-reply-clause-quiet : goal.returns-then-reply-clause-quiet
 returns-then-reply-clause-quiet g c = λ all.
@@ -42,6 +48,9 @@ loop-inner-preserved g c =
       inside = λ m stands holds tells.
           inside-more (c.loop-inner.invariant.inside m stands holds tells) c.in-Some.ensures.steps.0 c.serve_inner.new.site c.in_ok-reply.reply done.steps
           c.add_lines.new.lines c.in_ok-add_lines.ensures done.applied c.serve_inner.new.settings (done.after c.if-reply.false) c.if-reply.false;
+      comes =
+          comes-more c.loop-inner.invariant.comes c.in-Some.ensures.steps.0 c.serve_inner.new.site _ c.in_ok-reply.reply done.comes c.add_lines.new.lines c.in_ok-add_lines.ensures done.applied
+          c.serve_inner.new.settings (done.after c.if-reply.false) c.if-reply.false;
       quiet = λ all.
           let was = c.loop-inner.invariant.quiet all in
           (others-pass only_tells_inner _ _ c.in-Some.ensures.steps.0 was.0, untouched-then was.1 (done.quiet (first-passes only_tells_inner _ _ c.in-Some.ensures.steps.0 was.0)));
@@ -59,6 +68,9 @@ loop-inner-preserved g c =
 
 pub returns-clause-steps : goal.returns-clause-steps
 returns-clause-steps g c = λ m stands holds tells. inside-all (c.loop-inner.invariant.inside m stands holds tells) (sym c.loop-inner.invariant.count ∙ c.in-None.ensures.steps.0)
+
+pub returns-clause-comes : goal.returns-clause-comes
+returns-clause-comes g c = comes-all c.loop-inner.invariant.comes (sym c.loop-inner.invariant.count ∙ c.in-None.ensures.steps.0)
 
 pub returns-clause-quiet : goal.returns-clause-quiet
 returns-clause-quiet g c = λ all. (c.loop-inner.invariant.quiet all).1

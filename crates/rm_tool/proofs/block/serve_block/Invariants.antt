@@ -7,7 +7,9 @@ use Rattle.rm_site.specs.Untouched.{IsUntouched}
 use Rattle.rm_tool.specs.Block.{AreSet}
 use Rattle.rm_tool.specs.Built.{is_built_inner}
 use Rattle.rm_tool.specs.Quiet.{only_tells_inner}
+use Rattle.rm_tool.specs.Comes.{at_hand}
 use Rattle.rm_tool.proofs.Blocks.{InsideEach}
+use Rattle.rm_tool.proofs.Coming.{Comes}
 use Rattle.rm_tool.proofs.block.serve_block.Given as goal
 
 abbrev pub invariant-loop-inner : goal.invariant-loop-inner
@@ -16,6 +18,7 @@ invariant-loop-inner g l =
     let kept = g.C.Keeper.kept in
     record {
       inside : InsideEach (held l.fn.store) (kept l.fn.keeper) l.fn.site (held l.store) (kept l.keeper) l.site l.settings l.fn.block (into_iter_items l.inner-iterator) l.fn.clock l.lines;
+      comes : Comes l.fn.site l.site l.settings l.fn.block (into_iter_items l.inner-iterator) l.fn.clock l.lines (at_hand (held l.fn.store) (kept l.fn.keeper) l.fn.site) (at_hand (held l.store) (kept l.keeper) l.site);
       quiet : list_all only_tells_inner l.fn.block ≡ true → (list_all only_tells_inner (into_iter_items l.inner-iterator) ≡ true) × IsUntouched (held l.fn.store) (kept l.fn.keeper) l.fn.site (held l.store) (kept l.keeper) l.site;
       live : l.site.live ≡ true;
       set : AreSet l.settings;

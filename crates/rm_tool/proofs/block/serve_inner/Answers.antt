@@ -10,6 +10,7 @@ use Rattle.rm_report.specs.Reply.{IsFlagged}
 use Rattle.rm_tool.proofs.Blocks.{channel-flagged, inner-untouched, set-flagged}
 use Rattle.rm_tool.proofs.Quiet.{quiet-with, tells-so}
 use Rattle.rm_tool.proofs.Setting.{built_with, command_with}
+use Rattle.rm_tool.proofs.Coming.{inner-comes, step-comes}
 use Rattle.rm_tool.proofs.Statements.{err-map, on-err}
 use Rattle.rm_tool.proofs.block.serve_inner.Goals as goal
 
@@ -62,3 +63,12 @@ returns-in_ok-set_reply-in-SetUntil-clause-flagged g c = subst IsFlagged (sym c.
 
 pub returns-after-not-reply-clause-flagged : goal.returns-after-not-reply-clause-flagged
 returns-after-not-reply-clause-flagged g c = subst IsFlagged (sym c.in_ok-reply-in-AllocateChannel.ensures) (channel-flagged c.args.site.now.state c.args.settings.now.channels)
+
+pub returns-in_ok-command-in-Plain-clause-comes : goal.returns-in_ok-command-in-Plain-clause-comes
+returns-in_ok-command-in-Plain-clause-comes g c =
+    let held = g.D.Store.held in
+    let kept = g.C.Keeper.kept in
+    IfOk-weaker c.step.result _ _
+    (λ reply comes. inner-comes c.args.settings.now c.args.inner c.in-Plain.command _ _ _ c.args.clock reply c.in-Plain.is c.in_ok-command-in-Plain.ensures comes)
+    (step-comes c.step.result (held c.args.store.now) (kept c.args.keeper.now) c.args.site.now c.in_ok-command-in-Plain.command c.args.clock (held c.step.new.store) (kept c.step.new.keeper) c.step.new.self
+    c.step.ensures.comes c.step.ensures.answered c.step.ensures.quiet c.step.ensures.ids)

@@ -17,35 +17,35 @@ pub returns-in-Ok-serve_session-clause-done : goal.returns-in-Ok-serve_session-c
 returns-in-Ok-serve_session-clause-done g c = λ is.
     let opened = c.in-Ok-open_site.ensures in
     finishes c.in-Accepted.drill (c.look_at.ensures.drill c.in-Accepted.channels c.in-Accepted.drill c.in-Accepted.is) c.in-Ok-script_for.script.items c.in-Ok-open_site.site c.in-Ok-script_for.ensures.script (c.as_slice.ensures ∙ c.in-Ok-statements.ensures ∙ ap statements c.deref.ensures.value)
-    opened.ok opened.held opened.kept opened.opened c.in-Ok-serve_session.refused _ (search rules) c.in-Ok-serve_session.ensures.ok
+    opened.ok opened.held opened.kept opened.opened opened.shows c.in-Ok-serve_session.refused _ (search rules) c.in-Ok-serve_session.ensures.ok
 
 pub returns-in-Err-Sink-serve_session-clause-sink_written : goal.returns-in-Err-Sink-serve_session-clause-sink_written
 returns-in-Err-Sink-serve_session-clause-sink_written g c = λ is.
     let opened = c.in-Ok-open_site.ensures in
     in_output opened.valid
     (ends-in-output c.in-Accepted.drill (c.look_at.ensures.drill c.in-Accepted.channels c.in-Accepted.drill c.in-Accepted.is) c.in-Ok-script_for.script.items c.in-Ok-open_site.site c.in-Ok-script_for.ensures.script (c.as_slice.ensures ∙ c.in-Ok-statements.ensures ∙ ap statements c.deref.ensures.value)
-    opened.ok opened.held opened.kept opened.opened _ _ _ _ _ (c.in-Err-Sink-serve_session.ensures.sink (ap Err c.in-Err-Sink-serve_session.field-0-is)))
+    opened.ok opened.held opened.kept opened.opened opened.shows _ _ _ _ _ (c.in-Err-Sink-serve_session.ensures.sink (ap Err c.in-Err-Sink-serve_session.field-0-is)))
 
 pub returns-in-Err-Store-serve_session-clause-store_written : goal.returns-in-Err-Store-serve_session-clause-store_written
 returns-in-Err-Store-serve_session-clause-store_written g c = λ is.
     let opened = c.in-Ok-open_site.ensures in
     midway opened.valid
     (ends-midway c.in-Accepted.drill (c.look_at.ensures.drill c.in-Accepted.channels c.in-Accepted.drill c.in-Accepted.is) c.in-Ok-script_for.script.items c.in-Ok-open_site.site c.in-Ok-script_for.ensures.script (c.as_slice.ensures ∙ c.in-Ok-statements.ensures ∙ ap statements c.deref.ensures.value)
-    opened.ok opened.held opened.kept opened.opened (c.in-Err-Store-serve_session.ensures.store (ap Err c.in-Err-Store-serve_session.field-0-is)))
+    opened.ok opened.held opened.kept opened.opened opened.shows (c.in-Err-Store-serve_session.ensures.store (ap Err c.in-Err-Store-serve_session.field-0-is)))
 
 pub returns-in-Err-Keeper-serve_session-clause-keeper_written : goal.returns-in-Err-Keeper-serve_session-clause-keeper_written
 returns-in-Err-Keeper-serve_session-clause-keeper_written g c = λ is.
     let opened = c.in-Ok-open_site.ensures in
     midway opened.valid
     (ends-midway c.in-Accepted.drill (c.look_at.ensures.drill c.in-Accepted.channels c.in-Accepted.drill c.in-Accepted.is) c.in-Ok-script_for.script.items c.in-Ok-open_site.site c.in-Ok-script_for.ensures.script (c.as_slice.ensures ∙ c.in-Ok-statements.ensures ∙ ap statements c.deref.ensures.value)
-    opened.ok opened.held opened.kept opened.opened (c.in-Err-Keeper-serve_session.ensures.keeper (ap Err c.in-Err-Keeper-serve_session.field-0-is)))
+    opened.ok opened.held opened.kept opened.opened opened.shows (c.in-Err-Keeper-serve_session.ensures.keeper (ap Err c.in-Err-Keeper-serve_session.field-0-is)))
 
 pub returns-clause-memory_written : goal.returns-clause-memory_written
 returns-clause-memory_written g c = λ is.
     let opened = c.in-Ok-open_site.ensures in
     midway opened.valid
     (ends-midway c.in-Accepted.drill (c.look_at.ensures.drill c.in-Accepted.channels c.in-Accepted.drill c.in-Accepted.is) c.in-Ok-script_for.script.items c.in-Ok-open_site.site c.in-Ok-script_for.ensures.script (c.as_slice.ensures ∙ c.in-Ok-statements.ensures ∙ ap statements c.deref.ensures.value)
-    opened.ok opened.held opened.kept opened.opened (c.in-Err-NoMemory-serve_session.ensures.memory (ap Err c.in-Err-NoMemory-serve_session.field-0-is)))
+    opened.ok opened.held opened.kept opened.opened opened.shows (c.in-Err-NoMemory-serve_session.ensures.memory (ap Err c.in-Err-NoMemory-serve_session.field-0-is)))
 
 pub returns-in-Ok-clause-statuses : goal.returns-in-Ok-clause-statuses
 returns-in-Ok-clause-statuses g c = (2, lit< tt, refl)

@@ -1,6 +1,11 @@
-use Rattle.rm_lang_words.specs.Reading.{said_of}
-use Rattle.rm_tool.proofs.Asked.{accepted-few}
+use Rattle.std.proofs.Common.{ℕ, ◌≡◌, ◌≤◌, IfSome, Option, subst}
 use Rattle.rm_tool.proofs.words.look_at.Goals as goal
 
+-- from 1 to 16 channels, or none
+abbrev AreFew : Option ℕ → Type 0
+AreFew channels = IfSome channels (λ n. (1 ≤ n) × (n ≤ 16))
+
 pub returns-in-Ok-clause-channels : goal.returns-in-Ok-clause-channels
-returns-in-Ok-clause-channels c channels drill is = accepted-few c.args.words.now (said_of c.in-Ok.said) channels drill c.in-Ok.ensures is
+returns-in-Ok-clause-channels c channels drill is =
+    let same : c.in-Ok.said.channels ≡ channels = cc in
+    subst AreFew same c.in-Ok.ensures.channels
