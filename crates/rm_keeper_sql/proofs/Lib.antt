@@ -10,3 +10,5 @@ pub mod Loaded
 pub mod Kept
 pub mod Opened
 pub mod Again
+pub mod Permuted
+pub mod Telltale

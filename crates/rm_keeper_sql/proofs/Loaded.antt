@@ -17,9 +17,10 @@ use Rattle.rm_catalog.specs.declared.record.Record.{Record}
 use Rattle.rm_catalog.specs.Keys.{key_of}
 use Rattle.rm_catalog_bytes.specs.Fits.{Fits}
 use Rattle.rm_catalog_bytes.proofs.Records.{record_same}
-use Rattle.rm_keeper_sql.specs.Tables.{no_schema}
+use Rattle.rm_keeper_sql.specs.Tables.{no_schema, record_schema}
 use Rattle.rm_keeper_sql.specs.Shelves.{records_at}
-use Rattle.rm_keeper_sql.specs.Table.{row_of, rows_at, IsTyped, Holds, Reads}
+use Rattle.rm_keeper_sql.specs.Entries.{IsKeyed}
+use Rattle.rm_keeper_sql.specs.Table.{row_of, rows_at, IsTyped, Holds, Reads, Lists}
 use Rattle.rm_keeper_sql.specs.Loads.{AreRows, Selects}
 use Rattle.rm_keeper_sql.proofs.Select.{selects}
 use Rattle.rm_keeper_sql.proofs.Applied.{some_table}
@@ -107,3 +108,18 @@ reads_none g n old before none settled es holds = elim (subst (Holds es) (sym se
   | inl blanks ↦ subst (λ (l : List (ℕ × Edit)). IsPermutation (records_at n l) []) (sym blanks.1) (IsPermutation-refl [])
   | inr has ↦ some_table _ has.0 none
 ]
+
+-- the rows of the number are those of the records that are read
+pub lists : {S : Type 0} (g : Ghosts S) (n : ℕ) (old : Held S) (before : Database) (rows : List Row) (rs : List Record) → Selects g n rows old → AreRows rs rows
+    → (state g old).now ≡ before → Lists n rs before
+lists g n old before rows rs sel are settled has keyed =
+    let now_has : (state g old).now.schema ≡ record_schema = ap (λ (db : Database). db.schema) settled ∙ has in
+    let now_keyed : IsKeyed ((state g old).now.trees 0) = subst (λ (db : Database). IsKeyed (db.trees 0)) (sym settled) keyed in
+    let perm = selects (state g (record old { in_transaction = true })) (state g sel.last) n rows now_has now_keyed sel.shown in
+    subst (λ (db : Database). IsPermutation (rows_at n (db.trees 0)) (map row_of rs)) settled
+    (subst (λ (l : List Row). IsPermutation (rows_at n ((state g old).now.trees 0)) l) are.told perm)
+
+-- a file that is new has no table
+pub lists_none : {S : Type 0} (g : Ghosts S) (n : ℕ) (old : Held S) (before : Database) → (state g old).now.schema ≡ no_schema → (state g old).now ≡ before
+    → Lists n [] before
+lists_none g n old before none settled has keyed = some_table before.schema has (ap (λ (db : Database). db.schema) (sym settled) ∙ none)

@@ -51,7 +51,7 @@ records_push m n e es = ap (λ l. after_edits l []) (edits_push m n e es) ∙ go
     go false = refl
 
 -- the records of another number stay
-records_other : (m n : ℕ) (e : Edit) (es : List (ℕ × Edit)) → eqb n m ≡ false → records_at m (es ++ (n, e) ∷ []) ≡ records_at m es
+pub records_other : (m n : ℕ) (e : Edit) (es : List (ℕ × Edit)) → eqb n m ≡ false → records_at m (es ++ (n, e) ∷ []) ≡ records_at m es
 records_other m n e es other = records_push m n e es ∙ ap (λ b. cond b (after_edit e (records_at m es)) (records_at m es)) other
 
 pub records_own : (n : ℕ) (e : Edit) (es : List (ℕ × Edit)) → records_at n (es ++ (n, e) ∷ []) ≡ after_edit e (records_at n es)

@@ -5,7 +5,7 @@ use Rattle.sqlite_trees.specs.declared.store.Store.{Ghosts}
 use Rattle.rm_catalog.specs.declared.record.Record.{Record}
 use Rattle.rm_catalog.specs.declared.record.Edit.{Edit}
 use Rattle.rm_keeper_sql.specs.Tables.{IsOurs}
-use Rattle.rm_keeper_sql.specs.Table.{Takes, Reads}
+use Rattle.rm_keeper_sql.specs.Table.{Takes, Reads, Lists}
 use Rattle.rm_catalog.specs.declared.keeper.KeeperFail.{KeeperFail}
 use Rattle.rm_keeper_sql.specs.declared.file.Unopened.{Unopened}
 use Rattle.rm_keeper_sql.specs.declared.file.CatalogFile.{CatalogFile}
@@ -18,7 +18,7 @@ cause_of u = u.cause
 
 -- how often it has failed
 abbrev pub faults_without : Unopened → ℕ
-faults_without u = u.faults
+faults_without u = u.faults.times
 
 -- how often it has failed
 abbrev pub faults_in : {S : Type 0} → CatalogFile S → ℕ
@@ -46,16 +46,17 @@ Stays g (NotOpened u) (Opened new) = ⊥
 Stays g (NotOpened u) (NotOpened v) = cause_of v ≡ cause_of u
 
 -- The file is opened and ours, and where the disk gives back what was written: whatever edits its table
--- holds, these are the records after them.
-abbrev pub ReadsOf : {S : Type 0} → Ghosts S → List Record → CatalogFile S → CatalogFile S → Type 0
-ReadsOf g rs (Opened old) (Opened new) = IsOurs (state_of g old).now.schema × (HasCleanDisk (state_of g new) → Reads (number_of old) rs (state_of g old).committed)
-ReadsOf g rs (Opened old) (NotOpened u) = ⊥
-ReadsOf g rs (NotOpened u) new = ⊥
+-- holds, these are the records of the number after them, and its rows of the number are those of these records.
+abbrev pub ReadsOf : {S : Type 0} → Ghosts S → ℕ → List Record → CatalogFile S → CatalogFile S → Type 0
+ReadsOf g n rs (Opened old) (Opened new) =
+    IsOurs (state_of g old).now.schema × (HasCleanDisk (state_of g new) → Reads n rs (state_of g old).committed × Lists n rs (state_of g old).committed)
+ReadsOf g n rs (Opened old) (NotOpened u) = ⊥
+ReadsOf g n rs (NotOpened u) new = ⊥
 
 -- The file is opened and ours, and where the disk gives back what was written: whatever edits its table held,
--- it holds these too.
-abbrev pub TakesOf : {S : Type 0} → Ghosts S → List Edit → CatalogFile S → CatalogFile S → Type 0
-TakesOf g edits (Opened old) (Opened new) =
-    IsOurs (state_of g old).now.schema × (HasCleanDisk (state_of g new) → Takes (number_of old) edits (state_of g old).committed (state_of g new).committed)
-TakesOf g edits (Opened old) (NotOpened u) = ⊥
-TakesOf g edits (NotOpened u) new = ⊥
+-- it holds these too, which are of the number.
+abbrev pub TakesOf : {S : Type 0} → Ghosts S → ℕ → List Edit → CatalogFile S → CatalogFile S → Type 0
+TakesOf g n edits (Opened old) (Opened new) =
+    IsOurs (state_of g old).now.schema × (HasCleanDisk (state_of g new) → Takes n edits (state_of g old).committed (state_of g new).committed)
+TakesOf g n edits (Opened old) (NotOpened u) = ⊥
+TakesOf g n edits (NotOpened u) new = ⊥

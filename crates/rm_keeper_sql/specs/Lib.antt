@@ -7,3 +7,5 @@ pub mod Applies
 pub mod Loads
 pub mod SqlKeeper
 pub mod CatalogFile
+pub mod Known
+pub mod ToldKeeper

@@ -52,3 +52,8 @@ Takes n edits before after = (es : List (ℕ × Edit)) → Holds es before → H
 -- Whatever edits the database holds, these are the records of the number after them.
 abbrev pub Reads : ℕ → List Record → Database → Type 0
 Reads n rs db = (es : List (ℕ × Edit)) → Holds es db → IsPermutation (records_at n es) rs
+
+-- Where the database has the table alone, of rows that are entries: the rows of the number are those of these records, so each of them
+-- spells a record.
+abbrev pub Lists : ℕ → List Record → Database → Type 0
+Lists n rs db = db.schema ≡ record_schema → IsKeyed (db.trees 0) → IsPermutation (rows_at n (db.trees 0)) (map row_of rs)

@@ -1,24 +1,25 @@
 //! The catalog in a file.
-ghost use Rattle.std.specs.Prelude.{◌≡◌, ◌≤◌};
+ghost use Rattle.std.specs.Prelude.{◌≡◌, ◌≢◌, ◌≤◌};
 ghost use Rattle.rm_base.specs.Outside.{Rose};
 ghost use Rattle.rm_catalog.specs.declared.keeper.KeeperFail.TheVariants.{Failed};
 
 use crate::fault::{Fault, fail_of, words_of};
 use crate::keeper::SqlKeeper;
-use rm_base::Seq;
+use rm_base::{Count, Seq};
 use rm_catalog::{Edit, Keeper, KeeperFail, Record};
+use rm_shelf::Shelf;
 use sqlite::{Alter, Connection, Error, File, FileFrom, FileStore, Start};
 use std::alloc::Global;
 use std::fs::OpenOptions;
 use std::io::ErrorKind;
 use std::os::unix::fs::OpenOptionsExt;
 
-/// What stands in place of a keeper that could not be opened. Each call fails for the same cause, and a
+/// What stands in place of a file that could not be opened. Each call fails for the same cause, and a
 /// failure is counted.
 #[derive(Drop)]
 pub struct Unopened {
     cause: KeeperFail,
-    faults: u64,
+    faults: Count,
     words: Option<String>,
 }
 
@@ -32,7 +33,7 @@ impl Unopened {
     {
         Unopened {
             cause,
-            faults: 0,
+            faults: Count::none(),
             words,
         }
     }
@@ -43,19 +44,68 @@ impl Unopened {
         ensures same { cause_of self.new ≡ cause_of self.old }
         ensures failed { result ≡ Failed → Rose (faults_without self.old) (faults_without self.new) }
         ensures never_falls { faults_without self.old ≤ faults_without self.new }
+        ensures counted { result ≢ Failed → faults_without self.new ≡ faults_without self.old }
     {
         if self.cause == KeeperFail::Failed {
-            self.faults = self.faults.saturating_add(1);
+            self.faults.rise();
         }
         self.cause
     }
 }
 
-impl Keeper for Unopened {
-    ghost use Rattle.std.specs.Prelude.{List, Option, None, Err, IfOk, OnOk, OnErr, IsErrOf};
+impl Shelf for Unopened {
+    ghost use Rattle.std.specs.Prelude.{None, Err, IfOk, IfSome, OnOk, OnErr, IsErrOf};
     ghost use Rattle.std.specs.Option.{option_map};
     ghost use Rattle.rm_catalog.specs.Edits.{after_edits};
     ghost use Rattle.rm_catalog.specs.Faults.{Answers};
+    ghost use Rattle.rm_catalog.specs.Keys.{Ascends};
+    ghost use Rattle.rm_shelf.specs.Shelved.{AllStay, OthersStay, under};
+    ghost use Rattle.rm_keeper_sql.specs.CatalogFile.{cause_of, faults_without};
+
+    ghost shelved = { λ _. None };
+
+    ghost faults = { λ u. faults_without u };
+
+    fn load_of(&mut self, number: u32) -> Result<Seq<Record>, KeeperFail>
+        ensures records { IfOk result (λ rs. Answers (under number None) rs) }
+        ensures ascends { IfOk result (λ _. IfSome (under number None) Ascends) }
+        ensures same { AllStay None None }
+        ensures failed { IsErrOf result Failed → Rose (faults_without self.old) (faults_without self.new) }
+        ensures never_falls { faults_without self.old ≤ faults_without self.new }
+        ensures counted { ¬ IsErrOf result Failed → faults_without self.new ≡ faults_without self.old }
+        ensures cause { cause_of self.new ≡ cause_of self.old }
+
+        // It never loads.
+        ensures fails { result ≡ Err (cause_of self.old) }
+    {
+        let _ = number;
+        Err(self.fail())
+    }
+
+    fn apply_to(&mut self, number: u32, edits: &[Edit]) -> Result<(), KeeperFail>
+        ensures ok { OnOk result (under number None ≡ option_map (after_edits edits.now) (under number None)) }
+        ensures others { OthersStay number None None }
+        ensures err { OnErr result (AllStay None None) }
+        ensures failed { IsErrOf result Failed → Rose (faults_without self.old) (faults_without self.new) }
+        ensures never_falls { faults_without self.old ≤ faults_without self.new }
+        ensures counted { ¬ IsErrOf result Failed → faults_without self.new ≡ faults_without self.old }
+        ensures cause { cause_of self.new ≡ cause_of self.old }
+
+        // It never applies.
+        ensures fails { result ≡ Err (cause_of self.old) }
+    {
+        let _ = number;
+        let _ = edits;
+        Err(self.fail())
+    }
+}
+
+impl Keeper for Unopened {
+    ghost use Rattle.std.specs.Prelude.{List, Option, None, Err, IfOk, IfSome, OnOk, OnErr, IsErrOf};
+    ghost use Rattle.std.specs.Option.{option_map};
+    ghost use Rattle.rm_catalog.specs.Edits.{after_edits};
+    ghost use Rattle.rm_catalog.specs.Faults.{Answers};
+    ghost use Rattle.rm_catalog.specs.Keys.{Ascends};
     ghost use Rattle.rm_catalog.specs.declared.record.Record.{Record};
     ghost use Rattle.rm_keeper_sql.specs.CatalogFile.{cause_of, faults_without};
 
@@ -65,9 +115,11 @@ impl Keeper for Unopened {
 
     fn load(&mut self) -> Result<Seq<Record>, KeeperFail>
         ensures records { IfOk result (λ rs. Answers None rs) }
+        ensures ascends { IfOk result (λ _. IfSome None Ascends) }
         ensures same { ◌≡◌ {A = Option (List Record)} None None }
         ensures failed { IsErrOf result Failed → Rose (faults_without self.old) (faults_without self.new) }
         ensures never_falls { faults_without self.old ≤ faults_without self.new }
+        ensures counted { ¬ IsErrOf result Failed → faults_without self.new ≡ faults_without self.old }
         ensures cause { cause_of self.new ≡ cause_of self.old }
 
         // It never loads.
@@ -81,6 +133,7 @@ impl Keeper for Unopened {
         ensures err { OnErr result (◌≡◌ {A = Option (List Record)} None None) }
         ensures failed { IsErrOf result Failed → Rose (faults_without self.old) (faults_without self.new) }
         ensures never_falls { faults_without self.old ≤ faults_without self.new }
+        ensures counted { ¬ IsErrOf result Failed → faults_without self.new ≡ faults_without self.old }
         ensures cause { cause_of self.new ≡ cause_of self.old }
 
         // It never applies.
@@ -166,16 +219,6 @@ impl<S: Alter> CatalogFile<S> {
         }
     }
 
-    /// How often it has failed. At 2^64 - 1 it stands still.
-    pub fn faults(&self) -> u64
-        ensures { result ≡ faults_in self.now }
-    {
-        match self {
-            CatalogFile::Opened(keeper) => keeper.faults(),
-            CatalogFile::NotOpened(unopened) => unopened.faults,
-        }
-    }
-
     /// Why it failed last, in words of sqlite or of the system. None where it has not failed, or where memory
     /// was wanting for the words.
     pub fn last_fault(&self) -> Option<&str> {
@@ -186,11 +229,66 @@ impl<S: Alter> CatalogFile<S> {
     }
 }
 
-impl<S: Alter> Keeper for CatalogFile<S> {
-    ghost use Rattle.std.specs.Prelude.{List, Option, None, IfOk, OnOk, OnErr, IsErrOf};
+impl<S: Alter> Shelf for CatalogFile<S> {
+    ghost use Rattle.std.specs.Prelude.{None, IfOk, IfSome, OnOk, OnErr, IsErrOf};
     ghost use Rattle.std.specs.Option.{option_map};
     ghost use Rattle.rm_catalog.specs.Edits.{after_edits};
     ghost use Rattle.rm_catalog.specs.Faults.{Answers};
+    ghost use Rattle.rm_catalog.specs.Keys.{Ascends};
+    ghost use Rattle.rm_shelf.specs.Shelved.{AllStay, OthersStay, under};
+    ghost use Rattle.rm_keeper_sql.specs.CatalogFile.{faults_in, number_in, Shuts, Stays, ReadsOf, TakesOf};
+
+    ghost shelved = { λ _. None };
+
+    ghost faults = { λ c. faults_in c };
+
+    fn load_of(&mut self, number: u32) -> Result<Seq<Record>, KeeperFail>
+        ensures records { IfOk result (λ rs. Answers (under number None) rs) }
+        ensures ascends { IfOk result (λ _. IfSome (under number None) Ascends) }
+        ensures same { AllStay None None }
+        ensures failed { IsErrOf result Failed → Rose (faults_in self.old) (faults_in self.new) }
+        ensures never_falls { faults_in self.old ≤ faults_in self.new }
+        ensures counted { ¬ IsErrOf result Failed → faults_in self.new ≡ faults_in self.old }
+
+        // What a file that is opened loads. Whatever comes of it, its table stays.
+        ensures reads { IfOk result (λ rs. ReadsOf S.Store number rs self.old self.new) }
+        ensures stays { Stays S.Store self.old self.new }
+        ensures shuts { Shuts S.Store self.old self.new }
+        ensures number { number_in self.new ≡ number_in self.old }
+    {
+        match self {
+            CatalogFile::Opened(keeper) => keeper.load_of(number),
+            CatalogFile::NotOpened(unopened) => unopened.load_of(number),
+        }
+    }
+
+    fn apply_to(&mut self, number: u32, edits: &[Edit]) -> Result<(), KeeperFail>
+        ensures ok { OnOk result (under number None ≡ option_map (after_edits edits.now) (under number None)) }
+        ensures others { OthersStay number None None }
+        ensures err { OnErr result (AllStay None None) }
+        ensures failed { IsErrOf result Failed → Rose (faults_in self.old) (faults_in self.new) }
+        ensures never_falls { faults_in self.old ≤ faults_in self.new }
+        ensures counted { ¬ IsErrOf result Failed → faults_in self.new ≡ faults_in self.old }
+
+        // A file that is opened takes the edits, or its table stays.
+        ensures takes { OnOk result (TakesOf S.Store number edits.now self.old self.new) }
+        ensures none { OnErr result (Stays S.Store self.old self.new) }
+        ensures shuts { Shuts S.Store self.old self.new }
+        ensures number { number_in self.new ≡ number_in self.old }
+    {
+        match self {
+            CatalogFile::Opened(keeper) => keeper.apply_to(number, edits),
+            CatalogFile::NotOpened(unopened) => unopened.apply_to(number, edits),
+        }
+    }
+}
+
+impl<S: Alter> Keeper for CatalogFile<S> {
+    ghost use Rattle.std.specs.Prelude.{List, Option, None, IfOk, IfSome, OnOk, OnErr, IsErrOf};
+    ghost use Rattle.std.specs.Option.{option_map};
+    ghost use Rattle.rm_catalog.specs.Edits.{after_edits};
+    ghost use Rattle.rm_catalog.specs.Faults.{Answers};
+    ghost use Rattle.rm_catalog.specs.Keys.{Ascends};
     ghost use Rattle.rm_catalog.specs.declared.record.Record.{Record};
     ghost use Rattle.rm_keeper_sql.specs.CatalogFile.{faults_in, number_in, Shuts, Stays, ReadsOf, TakesOf};
 
@@ -200,12 +298,14 @@ impl<S: Alter> Keeper for CatalogFile<S> {
 
     fn load(&mut self) -> Result<Seq<Record>, KeeperFail>
         ensures records { IfOk result (λ rs. Answers None rs) }
+        ensures ascends { IfOk result (λ _. IfSome None Ascends) }
         ensures same { ◌≡◌ {A = Option (List Record)} None None }
         ensures failed { IsErrOf result Failed → Rose (faults_in self.old) (faults_in self.new) }
         ensures never_falls { faults_in self.old ≤ faults_in self.new }
+        ensures counted { ¬ IsErrOf result Failed → faults_in self.new ≡ faults_in self.old }
 
         // What a file that is opened loads. Whatever comes of it, its table stays.
-        ensures reads { IfOk result (λ rs. ReadsOf S.Store rs self.old self.new) }
+        ensures reads { IfOk result (λ rs. ReadsOf S.Store (number_in self.old) rs self.old self.new) }
         ensures stays { Stays S.Store self.old self.new }
         ensures shuts { Shuts S.Store self.old self.new }
         ensures number { number_in self.new ≡ number_in self.old }
@@ -221,9 +321,10 @@ impl<S: Alter> Keeper for CatalogFile<S> {
         ensures err { OnErr result (◌≡◌ {A = Option (List Record)} None None) }
         ensures failed { IsErrOf result Failed → Rose (faults_in self.old) (faults_in self.new) }
         ensures never_falls { faults_in self.old ≤ faults_in self.new }
+        ensures counted { ¬ IsErrOf result Failed → faults_in self.new ≡ faults_in self.old }
 
         // A file that is opened takes the edits, or its table stays.
-        ensures takes { OnOk result (TakesOf S.Store edits.now self.old self.new) }
+        ensures takes { OnOk result (TakesOf S.Store (number_in self.old) edits.now self.old self.new) }
         ensures none { OnErr result (Stays S.Store self.old self.new) }
         ensures shuts { Shuts S.Store self.old self.new }
         ensures number { number_in self.new ≡ number_in self.old }

@@ -8,7 +8,7 @@ ghost use Rattle.rm_catalog_bytes.specs.Spelling.{body_of};
 ghost use Rattle.rm_catalog_bytes.specs.Fits.{Fits};
 ghost use Rattle.rm_keeper_sql.specs.Texts.{create_text, select_text, upsert_text, delete_text};
 ghost use Rattle.rm_keeper_sql.specs.Tables.{IsOurs};
-ghost use Rattle.rm_keeper_sql.specs.Table.{row_of, Takes, Reads};
+ghost use Rattle.rm_keeper_sql.specs.Table.{row_of, Takes, Reads, Lists};
 ghost use Rattle.rm_keeper_sql.specs.Applies.{Ran, Makes, MakesAll, Readies, Keeps, Goes};
 ghost use Rattle.rm_keeper_sql.specs.Loads.{columns, AreRows, Selects};
 
@@ -248,6 +248,7 @@ pub(crate) fn load_from<S: Alter>(
     ensures ours { IfOk result (λ _. IsOurs (state S.Store conn.old).now.schema) }
     ensures reads { HasCleanDisk (state S.Store conn.new)
         → IfOk result (λ rs. IsTrue (state S.Store conn.old).is_open × Reads number rs (state S.Store conn.old).committed) }
+    ensures rows { HasCleanDisk (state S.Store conn.new) → IfOk result (λ rs. Lists number rs (state S.Store conn.old).committed) }
     ensures kept { HasCleanDisk (state S.Store conn.new) → IsTrue (state S.Store conn.new).is_open
         → (state S.Store conn.new).committed ≡ (state S.Store conn.old).committed }
     ensures shuts { HasCleanDisk (state S.Store conn.new) → IsTrue (state S.Store conn.new).is_open → IsTrue (state S.Store conn.old).is_open }
