@@ -1,0 +1,9 @@
+mod Back
+mod Blocks
+mod Gathered
+mod Made
+mod Numbered
+mod Recovery
+mod Source
+mod Valid
+mod Whole

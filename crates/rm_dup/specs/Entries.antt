@@ -1,0 +1,88 @@
+-- The records of a duplicate.
+use Rattle.std.specs.Prelude.{◌≡◌, ◌+◌, ℕ, true, false, codes, List, [], ◌∷◌, None, Some, Contains, length, map}
+use Rattle.std.specs.Option.{option_map_or}
+use Rattle.rm_apply.specs.Restore.{backed_up}
+use Rattle.rm_base.specs.Store.{Held}
+use Rattle.rm_base.specs.declared.kinds.Policy.TheVariants.{Redundancy}
+use Rattle.rm_base.specs.declared.kinds.Status.TheVariants.{Available}
+use Rattle.rm_blocks.specs.File.{File}
+use Rattle.rm_catalog.specs.Keys.{base}
+use Rattle.rm_catalog.specs.declared.record.PieceEntry.{PieceEntry}
+use Rattle.rm_catalog.specs.declared.record.Record.{Record}
+use Rattle.rm_catalog_typed.specs.Ledger.{Ledger}
+use Rattle.rm_catalog_typed.specs.TypedCatalog.{TypedCatalog}
+use Rattle.rm_evidence.specs.Names.{piece_name}
+use Rattle.rm_evidence.specs.declared.evidence.InPlace.{InPlace}
+use Rattle.rm_history.specs.declared.world.World.{World}
+use Rattle.rm_piece.specs.Spelling.{spelling}
+use Rattle.rm_piece.specs.declared.piece.Piece.{Piece}
+use Rattle.sha2.specs.Sha256.{sha256}
+use Rattle.rm_dup.specs.Copies.{copies_of, duplicated}
+
+-- the latest moment that the records keep; 0 without a database
+abbrev pub moment_in : List Record → ℕ
+moment_in rs = option_map_or (λ b. b.moment) (base rs) 0
+
+-- the record of a copy, under the number of its datafile
+abbrev pub entry_of : ℕ → Piece → PieceEntry
+entry_of moment a =
+    record {
+      id = a.file;
+      copy = true;
+      kind = a.kind;
+      inc = a.inc;
+      file = a.file;
+      from = a.from;
+      checkpoint = a.checkpoint;
+      high = a.high;
+      rows = length a.rows;
+      size = length (spelling a);
+      sha = sha256 (spelling a);
+      status = Available;
+      keep = false;
+      tag = codes "DUPLICATE";
+      moment = moment;
+    }
+
+-- a new database of the datafiles that were recovered until s, with a copy of each and one mark
+abbrev pub ledger_of : World → (dbid moment s : ℕ) → List File → Ledger
+ledger_of w dbid moment s files =
+    record {
+      base = record {
+        dbid = dbid;
+        threads = w.threads;
+        current = 1;
+        next_id = length files + 1;
+        moment = moment;
+        policy = Redundancy 1;
+        parallelism = 1;
+        tracking = false;
+      };
+      tree = (duplicated w s files).tree;
+      files = (duplicated w s files).files;
+      logs = [];
+      pieces = map (entry_of moment) (copies_of dbid s files);
+      sets = [];
+      marks = record { moment = moment; inc = 1; scn = s } ∷ [];
+      switches = [];
+    }
+
+-- without a saved site
+abbrev pub catalog_of : World → (dbid moment s : ℕ) → List File → TypedCatalog
+catalog_of w dbid moment s files = record { ledger = ledger_of w dbid moment s files; saved = None }
+
+-- each copy stands under its name
+abbrev pub HoldsCopies : Held → List Piece → Type 0
+HoldsCopies held copies = (a : Piece) → Contains copies a → held (piece_name true a.file) ≡ Some (spelling a)
+
+-- these datafiles are in place, and no log
+abbrev pub standing : List File → InPlace
+standing files = record { files = files; logs = [] }
+
+-- nothing is in place
+abbrev pub nothing : InPlace
+nothing = standing []
+
+-- each copy is in place, as it stands there when it is restored
+abbrev pub restored : List Piece → InPlace
+restored copies = standing (map backed_up copies)
