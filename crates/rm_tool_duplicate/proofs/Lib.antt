@@ -1,0 +1,14 @@
+pub mod Counting
+pub mod Reasons
+pub mod Staying
+pub mod Truth
+pub mod Ending
+pub mod Lines
+pub mod Statuses
+pub mod Recorded
+pub mod Standing
+pub mod Back
+pub mod Naming
+pub mod Targets
+pub mod Made
+pub mod First

@@ -1,0 +1,99 @@
+use Rattle.std.proofs.Common.{None, Some, List, ◌≡◌, ◌∙◌, inl, inr, ap, refl, sym, subst}
+use Rattle.rm_apply.specs.Recover.{FindsGap, TellsAll, outside}
+use Rattle.rm_catalog.specs.Rules.{HasDatabase, IsCatalog}
+use Rattle.rm_catalog.specs.Trees.{nodes}
+use Rattle.rm_catalog.specs.declared.record.Record.{Record}
+use Rattle.rm_catalog_typed.proofs.Records.{database-told, world-told}
+use Rattle.rm_catalog_typed.specs.TypedCatalog.{records_of}
+use Rattle.rm_dup.specs.Copies.{made_of}
+use Rattle.rm_dup.specs.Entries.{catalog_of, moment_in}
+use Rattle.rm_evidence.specs.Database.{world_of}
+use Rattle.rm_evidence.specs.Known.{known_of}
+use Rattle.rm_evidence.specs.declared.evidence.InPlace.{InPlace}
+use Rattle.rm_history.specs.Evidence.{Agrees}
+use Rattle.rm_history.specs.History.{IsHistory}
+use Rattle.rm_history.specs.Tree.{IsThere}
+use Rattle.rm_history.specs.declared.world.World.{World}
+use Rattle.rm_machine.specs.Recovery.{in_place}
+use Rattle.rm_tool_duplicate.specs.Asked.{target_inc}
+use Rattle.rm_tool_duplicate.proofs.Back.{catalog, database, inside, recorded-as, stands, there}
+use Rattle.rm_tool_duplicate.proofs.First.{first-place}
+use Rattle.rm_tool_duplicate.proofs.Truth.{agreed}
+use Rattle.rm_tool_duplicate.proofs.laws.a_duplicate_is_its_source.Goals as goal
+
+pub returns-clause-records : goal.returns-clause-records
+returns-clause-records c x a b before now rs is is_target =
+    let s = is.makes.state in
+    let d = is.duplicate in
+    let made = is.makes.is in
+    let same = recorded-as x a s d made b is.carried rs is_target in
+    let rows = records_of s.catalog in
+    let is_database = subst (λ (qs : List Record). HasDatabase qs) (sym made.is.records) (database-told (catalog_of (world_of rows) x.dbid (moment_in rows) x.until made.is.recovered.files)) in
+    (same, subst (λ (qs : List Record). IsCatalog qs) (sym same) made.records, subst (λ (qs : List Record). HasDatabase qs) (sym same) is_database)
+
+pub returns-clause-first : goal.returns-clause-first
+returns-clause-first c x a b before now to t is is_target loaded =
+    let s = is.makes.state in
+    let d = is.duplicate in
+    let made = is.makes.is in
+    let rows = records_of s.catalog in
+    let same = recorded-as x a s d made b is.carried (records_of t.catalog) is_target in
+    first-place to t (catalog_of (world_of rows) x.dbid (moment_in rows) x.until made.is.recovered.files) (same ∙ made.is.records) refl loaded
+
+pub returns-clause-range : goal.returns-clause-range
+returns-clause-range c x a b before now rs is is_target =
+    let s = is.makes.state in
+    let d = is.duplicate in
+    let made = is.makes.is in
+    let same = recorded-as x a s d made b is.carried rs is_target in
+    let range = c.a_duplicate_comes_back.ensures.range a.from (records_of s.catalog) (in_place s) (target_inc x s) x.until x.dbid d
+    (catalog x a s d made) (database x a s d made) (there x a s d made) (inside x a s d made) made.dbid made.is in
+    subst (λ (qs : List Record). IsThere (nodes qs) 1 × (outside (nodes qs) 1 x.until ≡ None)) (sym same) range
+
+pub returns-clause-no_gap : goal.returns-clause-no_gap
+returns-clause-no_gap c x a b before now to rs place gap is is_to is_target stands_so =
+    let s = is.makes.state in
+    let d = is.duplicate in
+    let made = is.makes.is in
+    let same = recorded-as x a s d made b is.carried rs is_target in
+    let back = c.a_duplicate_comes_back.ensures in
+    let held = stands x a s d made b is.carried to is_to in
+    let none : ¬ FindsGap (Some to) d.records place 1 x.until gap = elim stands_so [
+      | inl bare ↦ subst (λ (p : InPlace). ¬ FindsGap (Some to) d.records p 1 x.until gap) (sym bare) (back.no_gap a.from (records_of s.catalog) (in_place s) (target_inc x s) x.until x.dbid d to gap
+          (catalog x a s d made) (database x a s d made) (there x a s d made) (inside x a s d made) made.dbid made.is held)
+      | inr full ↦ subst (λ (p : InPlace). ¬ FindsGap (Some to) d.records p 1 x.until gap) (sym full) (back.no_gap_restored a.from (records_of s.catalog) (in_place s) (target_inc x s) x.until x.dbid d to gap
+          (catalog x a s d made) (database x a s d made) (there x a s d made) (inside x a s d made) made.dbid made.is held)
+    ] in
+    λ found. none (subst (λ (qs : List Record). FindsGap (Some to) qs place 1 x.until gap) same found)
+
+pub returns-clause-blocks : goal.returns-clause-blocks
+returns-clause-blocks c x a b before now to rs place is is_to is_target stands_so = λ r holds tell.
+    let s = is.makes.state in
+    let d = is.duplicate in
+    let made = is.makes.is in
+    let i = target_inc x s in
+    let o = is.makes.source.opens r holds tell in
+    let m = o.0 in
+    let state : m.state ≡ Some s = o.2 ∙ is.makes.shown in (
+      m,
+      o.1,
+      λ digests back tells.
+          let e = made.is.tells.evidence in
+          let both = agreed a.from s m e o.3.store state o.3.sound made.is.tells.is.at_hand digests in
+          let told = world-told s.catalog in
+          let history = subst (λ (w : World). IsHistory w m.history) (sym told) both.0 in
+          let agrees = subst (λ (w : World). Agrees w m.history (known_of e)) (sym told) both.1 in
+          let same = recorded-as x a s d made b is.carried rs is_target in
+          let here : TellsAll (Some to) d.records place 1 x.until back = subst (λ (qs : List Record). TellsAll (Some to) qs place 1 x.until back) same tells in
+          let law = c.a_duplicate_is_the_source.ensures in
+          let held = stands x a s d made b is.carried to is_to in
+          let back_is : back.files ≡ made_of (world_of (records_of s.catalog)) m.history i x.until d.from = elim stands_so [
+            | inl bare ↦ law.blocks a.from (records_of s.catalog) (in_place s) i x.until x.dbid d to m.history back
+                (catalog x a s d made) (database x a s d made) (there x a s d made) (inside x a s d made) made.dbid made.is held history agrees
+                (subst (λ (p : InPlace). TellsAll (Some to) d.records p 1 x.until back) bare here)
+            | inr full ↦ law.blocks_restored a.from (records_of s.catalog) (in_place s) i x.until x.dbid d to m.history back
+                (catalog x a s d made) (database x a s d made) (there x a s d made) (inside x a s d made) made.dbid made.is held history agrees
+                (subst (λ (p : InPlace). TellsAll (Some to) d.records p 1 x.until back) full here)
+          ] in
+          back_is ∙ ap (λ (w : World). made_of w m.history i x.until d.from) told,
+    )

@@ -1,0 +1,16 @@
+//! A duplicate of a database, as it was at a target, made by one call: from the words to the status.
+#![tactic(auto)]
+
+mod carrying;
+pub mod desk;
+mod ends;
+pub mod laws;
+mod making;
+mod preparing;
+mod refusing;
+pub mod run;
+mod source;
+mod telling;
+
+pub use desk::run_at;
+pub use run::run_duplicate;

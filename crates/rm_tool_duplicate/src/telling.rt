@@ -1,0 +1,89 @@
+//! What a duplicate writes.
+ghost use Rattle.std.specs.Prelude.{◌≡◌, ◌≤◌, ◌++◌, IfErr, IfOk, OnErr, OnOk, length};
+ghost use Rattle.rm_base.specs.Outside.{Appends};
+ghost use Rattle.rm_lang_words.specs.Reading.{duplicate_of};
+ghost use Rattle.rm_report.specs.Reply.{HasDate};
+ghost use Rattle.rm_tool_duplicate.specs.Duplicated.{file_lines};
+ghost use Rattle.rm_tool_duplicate.specs.Duplicated.{lines_of as the_lines_of, lines_text as the_text_of};
+ghost use Rattle.rm_tool_duplicate.specs.Ended.{WritesRefusal, RoseInRefusal};
+ghost use Rattle.rm_tool_duplicate.specs.Refused.{refusal_line};
+
+use crate::ends::Ended;
+use rm_base::{FileNo, NoMemory, Refusal, Seq, Sink};
+use rm_dup::Duplicate;
+use rm_lang_words::DuplicateWords;
+use rm_machine_code::refusal_reply;
+use rm_machine_code::replies::skipped_lines;
+use rm_report::{Line, Reply, bytes_of};
+use rm_tool::ends::write_all;
+use std::alloc::Global;
+
+// Adds a line for each datafile, by the numbers that they had.
+fn push_files(lines: &mut Seq<Line>, from: &[FileNo]) -> Result<(), NoMemory>
+    requires few { length from.now ≤ 64 }
+    ensures { OnOk result (lines.new ≡ lines.old ++ file_lines from.now) }
+{
+    let mut number = 1;
+    for file in from {
+        lines.push(Line::DuplicatedDatafile {
+            file: *file,
+            number,
+        })?;
+        number += 1;
+    }
+    Ok(())
+}
+
+// The lines of a duplicate.
+fn lines_of(
+    alloc: Global,
+    said: &DuplicateWords,
+    duplicate: &Duplicate,
+) -> Result<Seq<Line>, NoMemory>
+    requires few { length duplicate.now.from ≤ 64 }
+    ensures { IfOk result (λ lines. lines ≡ the_lines_of (duplicate_of said.now) duplicate.now) }
+{
+    let mut lines = skipped_lines(alloc, duplicate.skipped.as_slice())?;
+    push_files(&mut lines, duplicate.from.as_slice())?;
+    lines.push(Line::DuplicatedDatabase {
+        dbid: said.dbid,
+        until: said.until,
+        files: duplicate.from.len() as u32,
+    })?;
+    Ok(lines)
+}
+
+/// The text of a duplicate's lines.
+pub(crate) fn lines_text(
+    alloc: Global,
+    said: &DuplicateWords,
+    duplicate: &Duplicate,
+) -> Result<Seq<u8>, NoMemory>
+    requires few { length duplicate.now.from ≤ 64 }
+    ensures { IfOk result (λ text. text ≡ the_text_of (duplicate_of said.now) duplicate.now) }
+{
+    let lines = lines_of(alloc, said, duplicate)?;
+    let reply = Reply {
+        lines,
+        refused: false,
+    };
+    bytes_of(alloc, &reply)
+}
+
+/// Writes the line of a refusal. An error is a fault of the sink, and a front of the line was written, or want of memory, and nothing was.
+pub(crate) fn write_refusal<K: Sink>(
+    alloc: Global,
+    sink: &mut K,
+    refusal: Refusal,
+) -> Result<(), Ended>
+    requires date { HasDate refusal }
+    ensures ok { OnOk result (Appends (K.contents sink.old) (K.contents sink.new) (refusal_line refusal)) }
+    ensures err { IfErr result (WritesRefusal refusal (K.contents sink.old) (K.contents sink.new)) }
+    ensures rose { IfErr result (RoseInRefusal (K.faults sink.old) (K.faults sink.new)) }
+    ensures never_falls { K.faults sink.old ≤ K.faults sink.new }
+{
+    let reply = refusal_reply(alloc, refusal)?;
+    let text = bytes_of(alloc, &reply)?;
+    write_all(sink, text.as_slice())?;
+    Ok(())
+}
