@@ -27,4 +27,4 @@ folder_of s = s.folder
 
 -- how often it has failed
 abbrev pub faults_of : {F : Type 0} → DirStore F → ℕ
-faults_of s = s.faults
+faults_of s = s.faults.times

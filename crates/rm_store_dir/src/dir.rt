@@ -3,7 +3,7 @@ ghost use Rattle.std.specs.Prelude.{IfOk};
 ghost use Rattle.rm_base.specs.Store.{Ascends};
 
 use crate::folder::Folder;
-use crate::lock::{Last, claim, last_used, make, take};
+use crate::lock::{Last, claim, clear, hold, last_used, make};
 use crate::names::{MOST_BYTES, is_object};
 use rm_base::{Seq, Text};
 use std::alloc::AllocError;
@@ -25,8 +25,15 @@ impl<'a> Dir<'a> {
     /// The directory of this path, with its lock. One that can't be opened or locked fails at each call for the
     /// same cause.
     pub fn open(rt: &'a HostRuntime, path: String) -> Self {
-        let lock = take(rt, path.as_str());
+        let lock = hold(rt, path.as_str());
         Dir { rt, path, lock }
+    }
+
+    /// Takes away what stopped runs left beside the objects. Nothing is done where it is not open.
+    pub fn clear(&self) {
+        if self.lock.is_ok() {
+            clear(self.rt, self.path.as_str());
+        }
     }
 
     /// Whether it is not open since nothing stands at its path.
@@ -41,7 +48,7 @@ impl<'a> Dir<'a> {
     pub fn make(&mut self) {
         if self.is_missing() {
             self.lock = match make(self.rt, self.path.as_str()) {
-                Ok(()) => take(self.rt, self.path.as_str()),
+                Ok(()) => hold(self.rt, self.path.as_str()),
                 Err(error) => Err(error),
             };
         }
@@ -60,18 +67,19 @@ impl<'a> Dir<'a> {
         }
     }
 
-    /// Whose it was last, asked by this catalog. One that is not open is as if it were this one's.
-    pub fn last_used(&self, catalog: &str) -> Last {
+    /// Whose it was last, asked by the database of this number in this catalog. One that is not open is as if it were this one's.
+    pub fn last_used(&self, catalog: &str, number: u32) -> Last {
         match &self.lock {
-            Ok(lock) => last_used(self.rt, lock, catalog),
+            Ok(lock) => last_used(self.rt, lock, catalog, number),
             Err(_) => Last::This,
         }
     }
 
-    /// From now on it is the directory of this catalog, also after a stop. Nothing is done where it is not open.
-    pub fn claim(&self, catalog: &str) -> io::Result<()> {
+    /// From now on it is the directory of the database of this number in this catalog, also after a stop. Nothing is done where
+    /// it is not open.
+    pub fn claim(&self, catalog: &str, number: u32) -> io::Result<()> {
         match &self.lock {
-            Ok(lock) => claim(self.rt, self.path.as_str(), lock, catalog),
+            Ok(lock) => claim(self.rt, self.path.as_str(), lock, catalog, number),
             Err(_) => Ok(()),
         }
     }

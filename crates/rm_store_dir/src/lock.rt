@@ -1,4 +1,4 @@
-//! The lock on a directory, which tells too of which catalog it is.
+//! The lock on a directory, which tells too of which database it is.
 use crate::names::is_beside;
 use std::alloc::{AllocError, Global};
 use std::fs::{self, DirBuilder, DirEntry, File, OpenOptions, TryLockError};
@@ -75,8 +75,7 @@ fn clear_entry(rt: &HostRuntime, entry: &DirEntry<HostRuntime>) -> io::Result<()
     Ok(())
 }
 
-// Takes away what stopped runs left beside the objects.
-fn clear(rt: &HostRuntime, path: &str) -> io::Result<()> {
+fn clear_entries(rt: &HostRuntime, path: &str) -> io::Result<()> {
     for entry in fs::read_dir(rt, path)? {
         if let Ok(entry) = entry {
             clear_entry(rt, &entry)?;
@@ -85,55 +84,93 @@ fn clear(rt: &HostRuntime, path: &str) -> io::Result<()> {
     Ok(())
 }
 
-/// Opens the directory of this path: takes its lock, which goes with the file, and then takes away what stopped runs left
-/// beside the objects.
-pub(crate) fn take(rt: &HostRuntime, path: &str) -> io::Result<File> {
+/// Takes away what stopped runs left beside the objects of the directory of this path. What can't be taken away is met by the put
+/// that wants its name.
+pub(crate) fn clear(rt: &HostRuntime, path: &str) {
+    let _ = clear_entries(rt, path);
+}
+
+/// Takes the lock of the directory of this path, which goes with the file.
+pub(crate) fn hold(rt: &HostRuntime, path: &str) -> io::Result<File> {
     if path.is_empty() {
         return Err(io::Error::new(ErrorKind::InvalidInput, "its path is empty"));
     }
-    let file = lock(rt, path)?;
-    // What can't be taken away is met by the put that wants its name.
-    let _ = clear(rt, path);
-    Ok(file)
+    lock(rt, path)
 }
 
 /// Whose the directory was last, by what its lock says.
 #[derive(Drop)]
 pub enum Last {
-    /// No catalog had it.
+    /// No database had it.
     Nobody,
-    /// That of the catalog that is asked about.
+    /// That of the database that is asked about.
     This,
-    /// That of another catalog, of this path.
+    /// That of the database of this other number in the same catalog.
+    Number(u32),
+    /// That of a database in another catalog, of this path and number.
     Other(String),
 }
 
-/// Whose the directory of this lock was last, asked by this catalog.
-pub(crate) fn last_used(rt: &HostRuntime, mut file: &File, catalog: &str) -> Last {
+// What stands between the path of a catalog and a number that is not 0.
+const NUMBER: &str = " database ";
+
+// What the lock says of a database: the path of its catalog without links, and behind it its number there, if that is not 0.
+fn mark_of(rt: &HostRuntime, catalog: &str, number: u32) -> io::Result<String> {
+    let path = fs::canonicalize(rt, catalog)?;
+    if number == 0 {
+        return Ok(path.into_string());
+    }
+    Ok(format!(in rt.alloc(); "{}{NUMBER}{number}", path.as_str())?)
+}
+
+// The number that a mark says, if it is one of the catalog of this path.
+fn number_in(mark: &str, path: &str) -> Option<u32> {
+    let behind = mark.strip_prefix(path)?;
+    if behind.is_empty() {
+        return Some(0);
+    }
+    behind.strip_prefix(NUMBER)?.parse::<u32>().ok()
+}
+
+/// Whose the directory of this lock was last, asked by the database of this number in this catalog.
+pub(crate) fn last_used(rt: &HostRuntime, mut file: &File, catalog: &str, number: u32) -> Last {
     let mut last = String::new(rt.alloc());
     let _ = file.read_to_string(&mut last);
     if last.is_empty() {
         return Last::Nobody;
     }
-    match fs::canonicalize(rt, catalog) {
-        Ok(path) if path.as_str() == last.as_str() => Last::This,
-        _ => Last::Other(last),
+    let found = match fs::canonicalize(rt, catalog) {
+        Ok(path) => number_in(last.as_str(), path.as_str()),
+        Err(_) => None,
+    };
+    match found {
+        Some(found) if found == number => Last::This,
+        Some(found) => Last::Number(found),
+        None => Last::Other(last),
     }
 }
 
 // (What stood there is cut only behind what is written.)
-fn write_claim(file: &File, catalog: &str) -> io::Result<()> {
-    file.write_all_at(catalog.as_bytes(), 0)?;
-    file.set_len(catalog.len() as u64)
+fn write_claim(file: &File, mark: &str) -> io::Result<()> {
+    file.write_all_at(mark.as_bytes(), 0)?;
+    file.set_len(mark.len() as u64)
 }
 
-/// Writes into the file that is locked of which catalog the directory of this path is from now on, durably. A catalog
+/// Writes into the file that is locked of which database the directory of this path is from now on, durably. A catalog
 /// that is no file is not told.
-pub(crate) fn claim(rt: &HostRuntime, path: &str, file: &File, catalog: &str) -> io::Result<()> {
-    let Ok(catalog) = fs::canonicalize(rt, catalog) else {
-        return Ok(());
+pub(crate) fn claim(
+    rt: &HostRuntime,
+    path: &str,
+    file: &File,
+    catalog: &str,
+    number: u32,
+) -> io::Result<()> {
+    let mark = match mark_of(rt, catalog, number) {
+        Ok(mark) => mark,
+        Err(error) if error.kind() == ErrorKind::OutOfMemory => return Err(error),
+        Err(_) => return Ok(()),
     };
-    write_claim(file, catalog.as_str())?;
+    write_claim(file, mark.as_str())?;
     file.sync_all()?;
     File::open(rt, path)?.sync_all()
 }

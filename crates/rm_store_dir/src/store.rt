@@ -1,5 +1,5 @@
 //! The objects of a folder.
-ghost use Rattle.std.specs.Prelude.{◌≡◌, ◌<◌, ◌≤◌, ◌∷◌, [], true, length, IsTrue, IsErr, Some, None, IfSome, OnOk, IsErrOf};
+ghost use Rattle.std.specs.Prelude.{◌≡◌, ◌≢◌, ◌<◌, ◌≤◌, ◌∷◌, [], true, length, IsTrue, IsErr, Some, None, IfOk, IfSome, OnOk, IsErrOf};
 ghost use Rattle.rm_base.specs.Outside.{Rose};
 ghost use Rattle.rm_base.specs.Store.{Both, HasNow};
 ghost use Rattle.rm_base.specs.declared.store.StoreFail.TheVariants.{Failed};
@@ -10,7 +10,7 @@ use crate::dir::Dir;
 use crate::folder::{Folder, put_whole, remove_whole};
 use crate::lock::Last;
 use crate::names::{MOST_BYTES, beside, is_object};
-use rm_base::{Seq, Store, StoreFail, Text};
+use rm_base::{Count, Seq, Store, StoreFail, Text};
 use std::alloc::Global;
 use std::io::{self, ErrorKind};
 
@@ -27,7 +27,7 @@ pub struct Failure {
 pub struct DirStore<F: Folder> {
     folder: F,
     alloc: Global,
-    faults: u64,
+    faults: Count,
     last: Option<Failure>,
 }
 
@@ -40,6 +40,11 @@ impl<'a> DirStore<Dir<'a>> {
         ensures { faults_of result ≡ 0 }
     {
         DirStore::over(rt.alloc(), Dir::open(rt, path))
+    }
+
+    /// Takes away what stopped runs left beside the objects. Nothing is done where the directory is not open.
+    pub fn clear(&self) {
+        self.folder.clear();
     }
 
     /// Whether the directory is not open since nothing stands at its path.
@@ -64,14 +69,16 @@ impl<'a> DirStore<Dir<'a>> {
         self.folder.unopened()
     }
 
-    /// Whose the directory was last, asked by this catalog. One that is not open is as if it were this one's.
-    pub fn last_used(&self, catalog: &str) -> Last {
-        self.folder.last_used(catalog)
+    /// Whose the directory was last, asked by the database of this number in this catalog. One that is not open is as if it
+    /// were this one's.
+    pub fn last_used(&self, catalog: &str, number: u32) -> Last {
+        self.folder.last_used(catalog, number)
     }
 
-    /// From now on it is the directory of this catalog, also after a stop. Nothing is done where it is not open.
-    pub fn claim(&self, catalog: &str) -> io::Result<()> {
-        self.folder.claim(catalog)
+    /// From now on it is the directory of the database of this number in this catalog, also after a stop. Nothing is done where
+    /// it is not open.
+    pub fn claim(&self, catalog: &str, number: u32) -> io::Result<()> {
+        self.folder.claim(catalog, number)
     }
 
     /// From now on each call fails for this cause.
@@ -94,16 +101,9 @@ impl<F: Folder> DirStore<F> {
         DirStore {
             folder,
             alloc,
-            faults: 0,
+            faults: Count::none(),
             last: None,
         }
-    }
-
-    /// How often it has failed. At 2^64 - 1 it stands still.
-    pub fn faults(&self) -> u64
-        ensures { result ≡ faults_of self.now }
-    {
-        self.faults
     }
 
     /// What failed last, but for want of memory.
@@ -115,12 +115,13 @@ impl<F: Folder> DirStore<F> {
     fn fail(&mut self, name: &str, error: io::Error) -> StoreFail
         ensures same { folder_of self.new ≡ folder_of self.old }
         ensures failed { result ≡ Failed → Rose (faults_of self.old) (faults_of self.new) }
+        ensures counted { result ≢ Failed → faults_of self.new ≡ faults_of self.old }
         ensures never_falls { faults_of self.old ≤ faults_of self.new }
     {
         if error.kind() == ErrorKind::OutOfMemory {
             return StoreFail::NoMemory;
         }
-        self.faults = self.faults.saturating_add(1);
+        self.faults.rise();
         self.last = match String::from_str(self.alloc, name) {
             Ok(name) => Some(Failure { name, error }),
             Err(_) => None,
@@ -160,7 +161,7 @@ impl<F: Folder> DirStore<F> {
 
 impl<F: Folder> Store for DirStore<F> {
     ghost use Rattle.std.specs.Option.{option_map};
-    ghost use Rattle.rm_base.specs.Store.{SameBut};
+    ghost use Rattle.rm_base.specs.Store.{SameBut, Ascends, AreTheNames};
     ghost use Rattle.rm_store_dir.specs.DirStore.{folder_of, faults_of};
 
     ghost held = { λ s. option_map objects_of (F.files (folder_of s)) };
@@ -168,7 +169,13 @@ impl<F: Folder> Store for DirStore<F> {
     ghost faults = { λ s. faults_of s };
 
     /// Where no file of at most 268,435,456 bytes stands there, nothing does.
-    fn get(&mut self, name: &str) -> Result<Option<Seq<u8>>, StoreFail> {
+    fn get(&mut self, name: &str) -> Result<Option<Seq<u8>>, StoreFail>
+        ensures found { IfOk result (λ bytes. IfSome (option_map objects_of (F.files (folder_of self.old))) (λ h. h name.now ≡ bytes)) }
+        ensures same { option_map objects_of (F.files (folder_of self.new)) ≡ option_map objects_of (F.files (folder_of self.old)) }
+        ensures failed { IsErrOf result Failed → Rose (faults_of self.old) (faults_of self.new) }
+        ensures counted { ¬ IsErrOf result Failed → faults_of self.new ≡ faults_of self.old }
+        ensures never_falls { faults_of self.old ≤ faults_of self.new }
+    {
         if !is_object(name.as_bytes()) {
             return Ok(None);
         }
@@ -184,6 +191,7 @@ impl<F: Folder> Store for DirStore<F> {
         ensures stands { OnOk result (Both (HasNow name.now (Some bytes.now)) (option_map objects_of (F.files (folder_of self.old))) (option_map objects_of (F.files (folder_of self.new)))) }
         ensures others { Both (SameBut name.now) (option_map objects_of (F.files (folder_of self.old))) (option_map objects_of (F.files (folder_of self.new))) }
         ensures failed { IsErrOf result Failed → Rose (faults_of self.old) (faults_of self.new) }
+        ensures counted { ¬ IsErrOf result Failed → faults_of self.new ≡ faults_of self.old }
         ensures never_falls { faults_of self.old ≤ faults_of self.new }
 
         // What is no file of an object stays.
@@ -209,6 +217,7 @@ impl<F: Folder> Store for DirStore<F> {
         ensures gone { OnOk result (Both (HasNow name.now None) (option_map objects_of (F.files (folder_of self.old))) (option_map objects_of (F.files (folder_of self.new)))) }
         ensures others { Both (SameBut name.now) (option_map objects_of (F.files (folder_of self.old))) (option_map objects_of (F.files (folder_of self.new))) }
         ensures failed { IsErrOf result Failed → Rose (faults_of self.old) (faults_of self.new) }
+        ensures counted { ¬ IsErrOf result Failed → faults_of self.new ≡ faults_of self.old }
         ensures never_falls { faults_of self.old ≤ faults_of self.new }
 
         // What is no file of an object stays.
@@ -227,7 +236,14 @@ impl<F: Folder> Store for DirStore<F> {
         }
     }
 
-    fn names(&mut self) -> Result<Seq<Text>, StoreFail> {
+    fn names(&mut self) -> Result<Seq<Text>, StoreFail>
+        ensures ascending { IfOk result (λ names. Ascends names) }
+        ensures exact { IfOk result (λ names. IfSome (option_map objects_of (F.files (folder_of self.old))) (AreTheNames names)) }
+        ensures same { option_map objects_of (F.files (folder_of self.new)) ≡ option_map objects_of (F.files (folder_of self.old)) }
+        ensures failed { IsErrOf result Failed → Rose (faults_of self.old) (faults_of self.new) }
+        ensures counted { ¬ IsErrOf result Failed → faults_of self.new ≡ faults_of self.old }
+        ensures never_falls { faults_of self.old ≤ faults_of self.new }
+    {
         match self.folder.names() {
             Ok(names) => Ok(names),
             Err(error) => Err(self.fail("", error)),

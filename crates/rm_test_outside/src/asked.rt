@@ -1,6 +1,6 @@
 //! One thing that is asked, for the scripts.
 use crate::files::{Files, Opens};
-use crate::records::{apply, word_of};
+use crate::records::{apply, fault_of, word_of};
 use crate::{made, objects};
 use rm_base::{NoMemory, Policy, Status, Store};
 use rm_catalog::{Edit, Keeper, KeeperFail};
@@ -61,7 +61,7 @@ fn catalog<O: Opens>(
         _ => word_of(keeper.load()),
     };
     tell(rt, word, start)?;
-    rt.println(format_args!("faults {}", files.faults(&keeper)))?;
+    rt.println(fault_of(files.has_failed(&keeper)))?;
     rt.println(word_of(files.close(keeper)))
 }
 
@@ -124,7 +124,7 @@ fn folder(rt: &HostRuntime, what: &str, path: &str, times: u32, name: &str) -> i
         _ => objects::word_of(store.get(name)),
     };
     tell(rt, word, start)?;
-    rt.println(format_args!("faults {}", store.faults()))
+    objects::tell_fault(rt, &store)
 }
 
 /// Does what is asked, and tells what came of it: `applies` of three edits each, `bare` transactions of

@@ -10,8 +10,8 @@ pub trait Opens {
 
     fn open(&self, path: &str) -> Self::Opened;
 
-    /// How often it has failed.
-    fn faults(&self, keeper: &Self::Opened) -> u64;
+    /// Whether it has failed, where memory was left for the words of why.
+    fn has_failed(&self, keeper: &Self::Opened) -> bool;
 
     fn close(&self, keeper: Self::Opened) -> Result<(), KeeperFail>;
 }
@@ -29,8 +29,8 @@ impl Opens for Files<'_> {
         CatalogFile::open(self.rt, path)
     }
 
-    fn faults(&self, keeper: &CatalogFile<FileStore<File>>) -> u64 {
-        keeper.faults()
+    fn has_failed(&self, keeper: &CatalogFile<FileStore<File>>) -> bool {
+        keeper.last_fault().is_some()
     }
 
     fn close(&self, keeper: CatalogFile<FileStore<File>>) -> Result<(), KeeperFail> {

@@ -223,25 +223,25 @@ fn step<D: Store>(rt: &HostRuntime, store: &mut D, verb: &str, name: &str) -> io
     }
 }
 
-/// The store of a directory, which is made where it may be and is missing.
+/// The store of a directory, which is made where it may be and is missing, without what stopped runs left in it.
 pub fn open<'a>(rt: &'a HostRuntime, path: &str, may_make: bool) -> io::Result<DirStore<Dir<'a>>> {
     let mut store = DirStore::open(rt, String::from_str(rt.alloc(), path)?);
     if may_make {
         store.make();
     }
+    store.clear();
     Ok(store)
 }
 
-// How often it has failed, and the last time.
-fn tell_faults(rt: &HostRuntime, store: &DirStore<Dir<'_>>) -> io::Result<()> {
+/// Where and why it failed last.
+pub fn tell_fault(rt: &HostRuntime, store: &DirStore<Dir<'_>>) -> io::Result<()> {
     match store.last_failure() {
         Some(failure) => rt.println(format_args!(
-            "faults {}, the last {}: {}",
-            store.faults(),
+            "the last fault {}: {}",
             failure.name.as_str(),
             failure.error
         )),
-        None => rt.println(format_args!("faults {}", store.faults())),
+        None => rt.println("no fault"),
     }
 }
 
@@ -250,7 +250,7 @@ fn steps(rt: &HostRuntime, path: &str, may_make: bool, steps: &[(&str, &str)]) -
     for (verb, name) in steps {
         step(rt, &mut store, verb, name)?;
     }
-    tell_faults(rt, &store)
+    tell_fault(rt, &store)
 }
 
 // What can't be opened.
@@ -272,23 +272,29 @@ fn second(rt: &HostRuntime) -> io::Result<()> {
     steps(rt, "objects", false, &LOCKED)?;
     steps(rt, "objects", true, &CALLS)?;
     get(rt, &mut first, "Z")?;
-    tell_faults(rt, &first)
+    tell_fault(rt, &first)
 }
 
-// Whether the directory was last the one of another catalog.
-fn claim(rt: &HostRuntime, catalog: &str) -> io::Result<()> {
+// Whose the directory was last.
+fn claim(rt: &HostRuntime, catalog: &str, number: u32) -> io::Result<()> {
     let store = open(rt, "objects", false)?;
-    let is_other = matches!(store.last_used(catalog), Last::Other(_));
-    store.claim(catalog)?;
-    rt.println(format_args!("{catalog}: of another {is_other}"))
+    let last = store.last_used(catalog, number);
+    store.claim(catalog, number)?;
+    match last {
+        Last::Nobody => rt.println(format_args!("{catalog} {number}: of nobody")),
+        Last::This => rt.println(format_args!("{catalog} {number}: of this")),
+        Last::Number(last) => rt.println(format_args!("{catalog} {number}: of number {last}")),
+        Last::Other(_) => rt.println(format_args!("{catalog} {number}: of another")),
+    }
 }
 
 fn claims(rt: &HostRuntime) -> io::Result<()> {
-    claim(rt, "objects/Z")?;
-    claim(rt, "./objects/../objects/Z")?;
-    claim(rt, "objects/piece_1")?;
-    claim(rt, "objects/piece_1")?;
-    claim(rt, "objects/Z")
+    claim(rt, "objects/Z", 0)?;
+    claim(rt, "./objects/../objects/Z", 0)?;
+    claim(rt, "objects/piece_1", 0)?;
+    claim(rt, "objects/piece_1", 7)?;
+    claim(rt, "objects/piece_1", 7)?;
+    claim(rt, "objects/Z", 0)
 }
 
 /// What a directory answers.

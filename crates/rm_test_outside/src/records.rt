@@ -25,6 +25,11 @@ pub fn word_of<T: Drop>(done: Result<T, KeeperFail>) -> &'static str {
     }
 }
 
+/// Whether there was a fault, in words.
+pub fn fault_of(has_failed: bool) -> &'static str {
+    if has_failed { "a fault" } else { "no fault" }
+}
+
 /// Applies the edits.
 pub fn apply<K: Keeper>(
     keeper: &mut K,
@@ -64,9 +69,9 @@ fn tell_all<K: Keeper>(rt: &HostRuntime, keeper: &mut K) -> io::Result<()> {
     Ok(())
 }
 
-// The faults of a keeper, and what comes of closing it.
+// Whether a keeper has failed, and what comes of closing it.
 fn close<O: Opens>(rt: &HostRuntime, files: &O, keeper: O::Opened) -> io::Result<()> {
-    rt.println(format_args!("faults {}", files.faults(&keeper)))?;
+    rt.println(fault_of(files.has_failed(&keeper)))?;
     rt.println(word_of(files.close(keeper)))
 }
 

@@ -1,7 +1,7 @@
 //! Tables that others wrote, and files that are no catalog.
 use crate::files::{Files, Opens};
 use crate::made;
-use crate::records::{apply, clear, word_of};
+use crate::records::{apply, clear, fault_of, word_of};
 use rm_base::Policy;
 use rm_catalog::Keeper;
 use sqlite::{Alter, Connection, Error};
@@ -127,11 +127,9 @@ fn tell<O: Opens>(rt: &HostRuntime, files: &O, what: &str, path: &str) -> io::Re
     let loaded = word_of(keeper.load());
     let edits = made::one(rt.alloc(), made::base(1, Policy::Nothing));
     let applied = word_of(apply(&mut keeper, edits));
-    let faults = files.faults(&keeper);
+    let fault = fault_of(files.has_failed(&keeper));
     let closed = word_of(files.close(keeper));
-    rt.println(format_args!(
-        "{what}: load {loaded}, apply {applied}, faults {faults}, close {closed}"
-    ))
+    rt.println(format_args!("{what}: load {loaded}, apply {applied}, {fault}, close {closed}"))
 }
 
 fn tell_table(rt: &HostRuntime, what: &str, table: &str, row: &str) -> io::Result<()> {

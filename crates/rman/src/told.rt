@@ -1,7 +1,7 @@
 //! What is told on standard error. That a line can't be written changes nothing.
-use crate::bad_words::bad_word;
+use crate::bad_words::{Task, bad_word};
+use crate::folder::Folder;
 use rm_base::Text;
-use rm_store_dir::{Dir, DirStore};
 use std::io;
 
 /// Memory ran out.
@@ -10,14 +10,10 @@ pub fn memory(rt: &HostRuntime) {
 }
 
 // The words are refused: the one that is known to be wrong.
-fn words(rt: &HostRuntime, words: &[Text]) {
-    let _ = match bad_word(words) {
+fn words(rt: &HostRuntime, task: Task, words: &[Text]) {
+    let _ = match bad_word(task, words) {
         Some(word) => eprintln!(rt; "rman: bad words: {word}"),
-        None => {
-            eprintln!(rt;
-                "rman: bad words: --store DIR and --catalog FILE once each, --channels N from 1 to 16 and --drill N at most once"
-            )
-        }
+        None => eprintln!(rt; "rman: bad words: {}", task.options()),
     };
 }
 
@@ -30,8 +26,13 @@ fn stream(rt: &HostRuntime, name: &str, last: Option<io::Error>) {
 }
 
 // Why the store failed: the folder that is not open, or the object of the call that failed last.
-fn store(rt: &HostRuntime, store: &DirStore<Dir<'_>>) {
+fn store(rt: &HostRuntime, folder: &Folder<'_>) {
+    let store = &folder.store;
     let path = store.path();
+    if let Some(number) = folder.had_by {
+        let _ = eprintln!(rt; "rman: store: {path}: database {number} of this catalog had it last");
+        return;
+    }
     let _ = match (store.unopened(), store.last_failure()) {
         (Some(error), _) if path.is_empty() => eprintln!(rt; "rman: store: {error}"),
         (Some(error), _) => eprintln!(rt; "rman: store: {path}: {error}"),
@@ -57,22 +58,23 @@ fn long(rt: &HostRuntime) {
     let _ = eprintln!(rt; "rman: script over 4194304 bytes");
 }
 
-/// Why the session ended with this status, where it is none of 0 and 1: by the words, by the error of the source or the sink, by
+/// Why a task ended with this status, where it is none of 0 and 1: by the words, by the error of the source or the sink, by
 /// the store, or by the catalog in this file, whose last fault is told.
 pub fn end(
     rt: &HostRuntime,
     status: u8,
+    task: Task,
     given: &[Text],
     of_stream: Option<io::Error>,
-    of_store: &DirStore<Dir<'_>>,
+    folder: &Folder<'_>,
     file: &str,
     fault: Option<&str>,
 ) {
     match status {
-        2 => words(rt, given),
+        2 => words(rt, task, given),
         3 => stream(rt, "standard input", of_stream),
         4 => stream(rt, "standard output", of_stream),
-        5 => store(rt, of_store),
+        5 => store(rt, folder),
         6 => catalog(rt, file, fault.unwrap_or("failed")),
         7 => memory(rt),
         8 => long(rt),
@@ -81,7 +83,7 @@ pub fn end(
     }
 }
 
-/// The folder was last used with this other catalog.
+/// The folder was last that of another database: of this catalog, and of this number behind it.
 pub fn other_catalog(rt: &HostRuntime, path: &str, other: &str) {
     let _ = eprintln!(rt; "rman: warning: {path} was last used with the catalog {other}");
 }
