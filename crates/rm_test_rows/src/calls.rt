@@ -1,6 +1,6 @@
 //! The calls that are to fail, by their numbers.
-use rm_base::{Failing, MemStore, NoMemory, Seq, StoreFailing};
-use rm_catalog::MemKeeper;
+use rm_base::{Failing, MemStore, NoMemory, StoreFailing};
+use rm_shelf::MemShelf;
 use std::alloc::Global;
 
 /// A function of one of the objects in memory.
@@ -64,16 +64,20 @@ impl Calls {
         Ok(Failing::new(numbers))
     }
 
-    /// A store and a keeper that hold nothing.
-    pub fn site(&self) -> Result<(MemStore, MemKeeper), NoMemory> {
+    /// A store that holds nothing.
+    pub fn store(&self) -> Result<MemStore, NoMemory> {
         let failing = StoreFailing {
             gets: self.of(Call::Get)?,
             puts: self.of(Call::Put)?,
             removes: self.of(Call::Remove)?,
             names: self.of(Call::Names)?,
         };
+        Ok(MemStore::new(self.alloc, failing))
+    }
+
+    /// A shelf that keeps no record.
+    pub fn shelf(&self) -> Result<MemShelf, NoMemory> {
         let (loads, applies) = (self.of(Call::Load)?, self.of(Call::Apply)?);
-        let keeper = MemKeeper::new(Seq::new(self.alloc), loads, applies)?;
-        Ok((MemStore::new(self.alloc, failing), keeper))
+        Ok(MemShelf::new(self.alloc, loads, applies))
     }
 }

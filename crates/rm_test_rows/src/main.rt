@@ -12,7 +12,7 @@
 //! | any other | a line that is written, below the statement that it answers; a `?` is any digit |
 //!
 //! `-- status N lines M` and `-- status N bytes M` say that only so much of the lines is written. Each run
-//! begins with an empty store and an empty keeper. Other lines with `--`:
+//! begins with empty stores and without records. Other lines with `--`:
 //!
 //! | Line | Says |
 //! |---|---|
@@ -22,8 +22,11 @@
 //! | `-- clock N ..` | the clock's answers, of which the last is repeated |
 //! | `-- words WORD ..` | the program's words, which else are `--store DIR --catalog FILE` |
 //! | `-- channels N` | the words `--channels N` follow the others |
-//! | `-- session` | another script begins, over the store and the keeper that the last run left, whose calls go on to count |
-//! | `-- record KIND ID HEX ..` | the keeper that the last run left has this record, of these fields |
+//! | `-- session` | another script begins, over the stores and the records that the last run left, whose calls go on to count |
+//! | `-- store NAME` | from here on runs go over the store of this name, which at first is `a`, and so do the lines below of objects |
+//! | `-- database N` | and over the records of this number, which at first is 0 |
+//! | `-- duplicate NAME WORD ..` | the next run is RMAN DUPLICATE with these words, from the store at hand into the store NAME |
+//! | `-- record KIND ID HEX ..` | the number at hand has this record, of these fields |
 //! | `-- drop KIND ID` | it has no record of this key |
 //! | `-- put NAME HEX ..` | the store that the last run left has an object of this name and of these bytes |
 //! | `-- object NAME N HEX` | the last run left an object of this name of N bytes, which begin so |
@@ -35,8 +38,10 @@ mod channels;
 mod digits;
 mod ends;
 mod full_log;
+mod over_sqlite;
 mod row;
 mod runs;
+mod site;
 mod trial;
 
 use rm_test_harness::{Fault, tell};
@@ -105,7 +110,12 @@ fn tell_runs<R: Threads + Wait + Sync>(rt: &HostRuntime, threads: &R) -> io::Res
     tell(rt, "how many channels", channels::counted(threads, alloc))?;
     tell(rt, "how many blocks", channels::tracked(threads, alloc))?;
     tell(rt, "a script too long", runs::too_long(threads, alloc))?;
-    tell(rt, "a full log", full_log::full(threads, alloc))
+    tell(rt, "a full log", full_log::full(threads, alloc))?;
+    tell(
+        rt,
+        "two-sessions over sqlite",
+        over_sqlite::two_sessions(threads, alloc),
+    )
 }
 
 fn main(rt: HostRuntime) -> io::Result<ExitCode> {

@@ -1,9 +1,11 @@
 //! A row, read line by line.
 use crate::calls::{Calls, call_of};
 use crate::digits::{bytes_in, record_of};
-use crate::trial::{MOST, ROOM, Trial, object};
-use rm_base::{MemStore, Store, Text};
-use rm_catalog::{Edit, Keeper, Key, MemKeeper};
+use crate::site::Site;
+use crate::trial::{MOST, ROOM, Trial, Wanted, object};
+use rm_base::{Store, Text};
+use rm_catalog::{Edit, Key};
+use rm_shelf::Shelf;
 use rm_test_harness::{Fault, differs};
 use std::alloc::Global;
 use std::sync::Wait;
@@ -20,8 +22,12 @@ pub struct Row {
     failing: Calls,
     room: usize,
     most: usize,
-    site: Option<(MemStore, MemKeeper)>,
+    site: Option<Site>,
     goes_on: bool,
+    store: String,
+    number: u32,
+    // The store that a duplicate goes into, where the next run is one.
+    into: Option<String>,
 }
 
 impl Row {
@@ -38,6 +44,9 @@ impl Row {
             most: MOST,
             site: None,
             goes_on: false,
+            store: String::from_str(alloc, "a")?,
+            number: 0,
+            into: None,
         };
         row.add_words(&["--store", "DIR", "--catalog", "FILE"])?;
         Ok(row)
@@ -90,13 +99,36 @@ impl Row {
                 self.apply(Edit::Drop(key))
             }
             ["put", name, digits @ ..] => self.put_object(name, digits),
-            ["session"] => {
-                self.script.clear();
-                self.written.clear();
-                self.goes_on = true;
+            ["session"] => self.go_on(),
+            ["store", name] => {
+                self.store = String::from_str(self.alloc, name)?;
                 Ok(())
             }
+            ["database", number] => self.set_number(number),
+            ["duplicate", into, words @ ..] => {
+                self.into = Some(String::from_str(self.alloc, into)?);
+                self.words.clear();
+                self.add_words(words)
+            }
             _ => differs(self.alloc, "not a line of a row"),
+        }
+    }
+
+    // Another script begins, over what the last run left.
+    fn go_on(&mut self) -> Result<(), Fault> {
+        self.script.clear();
+        self.written.clear();
+        self.goes_on = true;
+        Ok(())
+    }
+
+    fn set_number(&mut self, number: &str) -> Result<(), Fault> {
+        match u32::try_from(self.number(number)?) {
+            Ok(number) => {
+                self.number = number;
+                Ok(())
+            }
+            Err(_) => differs(self.alloc, "not a number of a database"),
         }
     }
 
@@ -166,10 +198,26 @@ impl Row {
         len: usize,
     ) -> Result<(), Fault> {
         let status = self.number(status)?;
-        let (mut store, mut keeper) = match self.site.take() {
+        let site = match self.site.take() {
             Some(site) if self.goes_on => site,
-            _ => self.failing.site()?,
+            _ => Site::new(self.alloc, &self.failing)?,
         };
+        self.site = Some(self.left_by(rt, site, status, len)?);
+        self.failing = Calls::new(self.alloc);
+        self.room = ROOM;
+        self.most = MOST;
+        self.into = None;
+        Ok(())
+    }
+
+    // What the run leaves of the site, where it gives what is wanted.
+    fn left_by<R: Threads + Wait + Sync>(
+        &self,
+        rt: &R,
+        site: Site,
+        status: u64,
+        len: usize,
+    ) -> Result<Site, Fault> {
         let trial = Trial {
             alloc: self.alloc,
             words: &self.words,
@@ -179,26 +227,36 @@ impl Row {
             room: self.room,
             most: self.most,
         };
-        trial.gives(
-            rt,
-            &mut store,
-            &mut keeper,
+        let wanted = Wanted {
             status,
-            self.written.as_str(),
+            text: self.written.as_str(),
             len,
-        )?;
-        self.site = Some((store, keeper));
-        self.failing = Calls::new(self.alloc);
-        self.room = ROOM;
-        self.most = MOST;
-        Ok(())
+        };
+        let Site { mut stores, shelf } = site;
+        let mut store = stores.take(self.store.as_str(), &self.failing)?;
+        let shelf = match &self.into {
+            None => trial.gives(rt, &mut store, shelf, self.number, &wanted)?,
+            Some(name) => {
+                let mut into = stores.take(name.as_str(), &self.failing)?;
+                let shelf = trial.duplicates(rt, &mut store, &mut into, shelf, &wanted)?;
+                stores.put_back(name.as_str(), into)?;
+                shelf
+            }
+        };
+        stores.put_back(self.store.as_str(), store)?;
+        Ok(Site { stores, shelf })
     }
 
     // The last run left an object of this name of `len` bytes, which begin so.
     fn look(&mut self, name: &str, len: usize, head: &str) -> Result<(), Fault> {
-        match &mut self.site {
-            Some((store, _)) => object(self.alloc, store, name, len, head),
-            None => differs(self.alloc, "no run before"),
+        let alloc = self.alloc;
+        match self
+            .site
+            .as_mut()
+            .and_then(|site| site.stores.get(self.store.as_str()))
+        {
+            Some(store) => object(alloc, store, name, len, head),
+            None => differs(alloc, "no run before"),
         }
     }
 
@@ -226,23 +284,28 @@ impl Row {
         let Some(bytes) = bytes_in(self.alloc, digits)? else {
             return differs(self.alloc, "not digits");
         };
-        let Some((store, _)) = &mut self.site else {
-            return differs(self.alloc, "no run before");
+        let alloc = self.alloc;
+        let Some(store) = self
+            .site
+            .as_mut()
+            .and_then(|site| site.stores.get(self.store.as_str()))
+        else {
+            return differs(alloc, "no run before");
         };
         match store.put(name, &bytes) {
             Ok(()) => Ok(()),
-            Err(_) => differs(self.alloc, "the store failed"),
+            Err(_) => differs(alloc, "the store failed"),
         }
     }
 
     // The keeper that the last run left has one edit more.
     fn apply(&mut self, edit: Edit) -> Result<(), Fault> {
-        let Some((_, keeper)) = &mut self.site else {
+        let Some(site) = &mut self.site else {
             return differs(self.alloc, "no run before");
         };
-        match keeper.apply(&[edit]) {
+        match site.shelf.apply_to(self.number, &[edit]) {
             Ok(()) => Ok(()),
-            Err(_) => differs(self.alloc, "the keeper failed"),
+            Err(_) => differs(self.alloc, "the shelf failed"),
         }
     }
 }

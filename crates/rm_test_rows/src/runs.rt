@@ -2,6 +2,7 @@
 use crate::calls::Calls;
 use rm_base::{Failing, MemClock, MemSink, MemSource, NoMemory, Text};
 use rm_channel::Gate;
+use rm_shelf::{Desk, MemShelf};
 use rm_tool::OpenGate;
 use rm_tool::run::run;
 use std::alloc::Global;
@@ -34,7 +35,9 @@ pub fn run_script<R: Threads + Wait + Sync, G: Gate>(
     sink: &mut MemSink,
 ) -> Result<u8, NoMemory> {
     let mut source = MemSource::new(script, 64, never(alloc));
-    let (mut store, mut keeper) = Calls::new(alloc).site()?;
+    let calls = Calls::new(alloc);
+    let mut store = calls.store()?;
+    let mut keeper: Desk<MemShelf> = Desk::new(calls.shelf()?, 0);
     Ok(run(
         rt,
         alloc,

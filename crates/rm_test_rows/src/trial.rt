@@ -1,10 +1,11 @@
 //! One run of the program, and whether it gives what a row says.
 use crate::calls::{Call, Calls};
 use rm_base::{MemClock, MemSink, MemSource, MemStore, Store, Text};
-use rm_catalog::MemKeeper;
+use rm_shelf::{Desk, MemShelf};
 use rm_test_harness::Fault;
 use rm_tool::OpenGate;
 use rm_tool::run::run;
+use rm_tool_duplicate::run_duplicate;
 use std::alloc::Global;
 use std::sync::Wait;
 use std::thread::Threads;
@@ -15,7 +16,7 @@ pub const ROOM: usize = 65_536;
 /// The most bytes that one call of a sink takes, where a row names no other number.
 pub const MOST: usize = 16;
 
-/// What a run is given, beside its store and its keeper.
+/// What a run is given, beside its stores and its records.
 #[derive(Drop)]
 pub struct Trial<'a> {
     pub alloc: Global,
@@ -28,26 +29,28 @@ pub struct Trial<'a> {
 }
 
 impl Trial<'_> {
-    /// The run gives this status and writes the first `len` bytes of the text.
+    // The sink of the run.
+    fn sink(&self) -> Result<MemSink, Fault> {
+        let failing = self.failing.of(Call::Write)?;
+        Ok(MemSink::new(self.alloc, self.room, self.most.max(1), failing)?)
+    }
+
+    /// A run over this store and the records of this number gives this status and writes the first `len` bytes of the text.
+    /// The shelf is handed back.
     pub fn gives<R: Threads + Wait + Sync>(
         &self,
         rt: &R,
         store: &mut MemStore,
-        keeper: &mut MemKeeper,
-        status: u64,
-        text: &str,
-        len: usize,
-    ) -> Result<(), Fault> {
+        shelf: MemShelf,
+        number: u32,
+        wanted: &Wanted<'_>,
+    ) -> Result<MemShelf, Fault> {
         let alloc = self.alloc;
         let script = Vec::from_slice(alloc, self.script)?;
         let mut source = MemSource::new(script, 64, self.failing.of(Call::Read)?);
-        let mut sink = MemSink::new(
-            alloc,
-            self.room,
-            self.most.max(1),
-            self.failing.of(Call::Write)?,
-        )?;
+        let mut sink = self.sink()?;
         let mut clock = MemClock::new(Vec::from_slice(alloc, self.clock)?);
+        let mut desk: Desk<MemShelf> = Desk::new(shelf, number);
         let answer = run(
             rt,
             alloc,
@@ -56,13 +59,45 @@ impl Trial<'_> {
             &mut source,
             &mut sink,
             store,
-            keeper,
+            &mut desk,
             &mut clock,
         );
-        if u64::from(answer) != status {
+        wanted.met(alloc, answer, sink.bytes())?;
+        Ok(desk.close())
+    }
+
+    /// A duplicate from this store into the other one gives this status and writes the first `len` bytes of the text. The
+    /// shelf is handed back.
+    pub fn duplicates<R: Threads + Wait + Sync>(
+        &self,
+        rt: &R,
+        from: &mut MemStore,
+        to: &mut MemStore,
+        shelf: MemShelf,
+        wanted: &Wanted<'_>,
+    ) -> Result<MemShelf, Fault> {
+        let mut sink = self.sink()?;
+        let (answer, shelf) = run_duplicate(rt, self.alloc, self.words, &mut sink, from, to, shelf);
+        wanted.met(self.alloc, answer, sink.bytes())?;
+        Ok(shelf)
+    }
+}
+
+/// The status of a run, and the first `len` bytes of what it writes.
+#[derive(Clone, Copy)]
+pub struct Wanted<'a> {
+    pub status: u64,
+    pub text: &'a str,
+    pub len: usize,
+}
+
+impl Wanted<'_> {
+    // The run answered this and wrote this.
+    fn met(&self, alloc: Global, answer: u8, written: &[u8]) -> Result<(), Fault> {
+        if u64::from(answer) != self.status {
             return Err(Fault::Differs(format!(in alloc; "status {answer}")?));
         }
-        compare(alloc, sink.bytes(), text, len)
+        compare(alloc, written, self.text, self.len)
     }
 }
 
