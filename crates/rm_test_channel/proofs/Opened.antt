@@ -4,9 +4,10 @@ use Rattle.std.specs.Global.{Global}
 use Rattle.std.specs.Option.{option_map_or}
 use Rattle.std.proofs.lemmas.List.{length-map}
 use Rattle.std.proofs.lemmas.List.Elements.{All-cons, All-head, All-nil, All-push, All-tail}
+use Rattle.rm_base.specs.Created.{created_row}
 use Rattle.rm_base.specs.Numbers.{last_scn}
 use Rattle.rm_base.specs.declared.block.Row.{Row}
-use Rattle.rm_blocks.specs.File.{File, created, created_row, created_rows}
+use Rattle.rm_blocks.specs.File.{File, created, created_rows}
 use Rattle.rm_blocks.proofs.Rows.{length-created}
 use Rattle.rm_redo.specs.Online.{IsLost, IsThread, fresh_log, fresh_logs, log_where, no_log, thread_records, up_to}
 use Rattle.rm_redo.specs.declared.online.ThreadLog.{ThreadLog}
