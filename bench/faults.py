@@ -9,6 +9,7 @@ import re
 import resource
 import shutil
 import signal
+import sqlite3
 import subprocess
 import sys
 import time
@@ -48,11 +49,27 @@ CHANGE BACKUP 1 KEEP FOREVER;
 DELETE OBSOLETE;
 VALIDATE ALL;
 WRITE DATAFILE 1 BLOCK 1 VALUE 'j';""",
+    """ALTER DATABASE ENABLE BLOCK CHANGE TRACKING;
+BACKUP AS BACKUPSET INCREMENTAL LEVEL 0 DATABASE FILESPERSET 2 TAG sets;
+WRITE DATAFILE 1 BLOCK 2 VALUE 'k';
+ALTER SYSTEM ARCHIVE LOG CURRENT;
+ALTER DATABASE DISABLE THREAD 2;
+WRITE DATAFILE 2 BLOCK 1 VALUE 'l';
+ALTER DATABASE ENABLE THREAD 2;
+BACKUP INCREMENTAL LEVEL 1 DATABASE FILESPERSET 2 TAG sets DURING { WRITE THREAD 2 DATAFILE 2 BLOCK 3 VALUE 'm'; };
+HOST CORRUPT DATAFILE 1 BLOCK 2;
+BLOCKRECOVER CORRUPTION LIST DURING { WRITE DATAFILE 1 BLOCK 4 VALUE 'n'; };
+ALTER SYSTEM ARCHIVE LOG CURRENT;
+BACKUP DATABASE FILESPERSET 2 TAG last;
+CHANGE BACKUP 1 UNAVAILABLE;
+CROSSCHECK BACKUP;
+DELETE OBSOLETE;
+WRITE THREAD 2 DATAFILE 1 BLOCK 6 VALUE 'o';""",
 ]
 # After so many transactions the log of the catalog file is brought into it.
 LONG = "".join(f"WRITE DATAFILE 1 BLOCK {place % 8} VALUE 'w{place}';" for place in range(520))
 FILES = {1: 8, 2: 4}
-TARGETS = [(incarnation, scn) for incarnation in (1, 2) for scn in range(2, 13)]
+TARGETS = [(incarnation, scn) for incarnation in (1, 2) for scn in range(2, 13)] + [(2, scn) for scn in range(13, 19)]
 
 # What the next session is asked, and by what one behind it goes on.
 ASKS = "\n".join(
@@ -111,11 +128,15 @@ class Folder:
                     state[os.path.normpath(f"{at}/{name}")] = file.read()
         return state
 
-    def begin(self, script, number=0, way="", log=None, store="objects", catalog="catalog", **how):
+    def begin(self, script, store="objects", catalog="catalog", **how):
         """A session, of which that call meets a fault in that way."""
+        return self.start(["--store", f"{self.path}/{store}", "--catalog", f"{self.path}/{catalog}"], script, **how)
+
+    def start(self, words, script, number=0, way="", log=None, **how):
+        """The program with these words."""
         told = {"FAULTS_ROOM": self.path, "FAULTS_AT": str(number), "FAULTS_WAY": way, "FAULTS_LOG": log or "", "LD_PRELOAD": self.library}
-        words = [self.program, "--store", f"{self.path}/{store}", "--catalog", f"{self.path}/{catalog}"]
         stdin = subprocess.PIPE if script is None else open_text(script)
+        words = [self.program, *words]
         begun = subprocess.Popen(words, stdin=stdin, stdout=subprocess.PIPE, stderr=subprocess.PIPE, env=os.environ | told, **how)
         if script is not None:
             stdin.close()
@@ -170,9 +191,12 @@ class History:
         words = line.split()
         if write := re.fullmatch(r"WRITE .*DATAFILE (\d+) BLOCK (\d+) VALUE '(.*)'", statement):
             self.changes[int(words[1])] = (int(write[1]), int(write[2]), write[3].encode().hex())
+        elif words[0] == "thread" and words[2] == "scn":
+            write = re.search(rf"WRITE (?:THREAD {words[1]} )?DATAFILE (\d+) BLOCK (\d+) VALUE '(.*?)'", statement)
+            self.changes[int(words[3])] = (int(write[1]), int(write[2]), write[3].encode().hex())
         elif created := re.match(r"datafile (\d+) created at (\d+) with", line):
             self.created[int(created[1])] = int(created[2])
-        elif words[0] in ("piece", "copy", "log"):
+        elif words[0] in ("piece", "copy", "set", "log"):
             self.take_record(words)
         elif deleted := re.match(r"deleted (\d+)", line):
             self.listed.discard(int(deleted[1]))
@@ -202,7 +226,7 @@ class History:
 
     def is_kept(self, found):
         asked = found[0].out.decode()
-        listed = {int(line[2]) for line in re.finditer(r"^(piece|copy|log) (\d+) ", asked, re.M)}
+        listed = {int(line[2]) for line in re.finditer(r"^(piece|copy|set|log) (\d+) ", asked, re.M)}
         bad = not re.search(r"^\d+ checked, 0 bad$", asked, re.M) and self.created
         return not bad and listed == self.listed and (self.safe not in TARGETS or self.recovery() in asked)
 
@@ -224,7 +248,7 @@ class Reference:
 
     def hold_to(self, history):
         """Holds what is found behind each reply to what the replies tell."""
-        statements = [statement.strip() for statement in self.script.split(";")][:-1]
+        statements = [one.strip().rstrip(";") for one in re.findall(r"[^;{]*(?:\{[^}]*\}[^;]*)?;", self.script)]
         assert len(self.replies) == len(statements) + 1
         for place, statement in enumerate(statements):
             history.take(statement, self.replies[place + 1][len(self.replies[place]) :].decode())
@@ -588,7 +612,72 @@ def part_many(folder, refs, number, rng):
     return tally.tell(f"sessions over {number} objects")
 
 
-PARTS = {"calls": part_calls, "cuts": part_cuts, "pairs": part_pairs, "disks": part_disks, "rights": part_rights, "many": part_many}
+def try_closed(folder, ref, closed, tally):
+    """A session without some of its standard streams: it takes no file of the folder for one."""
+    folder.put(ref.before)
+    how = folder.run(ref.script, preexec_fn=lambda: [os.close(number) for number in closed])
+    wanted = 3 if 0 in closed else 4 if 1 in closed else 0
+    with open(f"{folder.path}/objects/.rman-lock", "rb") as file:
+        mark = file.read()
+    problem = f"status {how.status}, not {wanted}" if how.status != wanted else ref.is_lost(how, folder.finds())
+    spoiled = mark != f"{folder.path}/catalog".encode() and f"the folder's mark is {mark[:60]!r}"
+    tally.add(f"status {how.status}", f"{ref.name} without the streams {closed}", problem, spoiled)
+
+
+def execute(path, statements):
+    """Makes or changes a database as another program does."""
+    database = sqlite3.connect(path)
+    database.executescript(statements)
+    database.close()
+
+
+# Files that are no catalog, each by what makes it of a copy of one.
+NO_CATALOGS = {
+    "another program's database": lambda path: (os.unlink(path), execute(path, "CREATE TABLE t (x); INSERT INTO t VALUES (1);")),
+    "a table with other columns": lambda path: (os.unlink(path), execute(path, "CREATE TABLE record (number, kind, id, value);")),
+    "a catalog with a row that is no record": lambda path: execute(path, "UPDATE record SET body = x'00' WHERE kind = 1;"),
+    "no database": lambda path: open(path, "wb").write(b"strange" * 999),
+    "a folder": lambda path: (os.unlink(path), os.mkdir(path)),
+}
+OBJECT_NAMES = ["piece_1", "copy_3", "set_9", "log_11", "site_5", "site_99", ".rman-lock", ".rman-new-piece_1"]
+
+
+def try_unfit(folder, what, catalog, tally):
+    """A session whose catalog is refused, over the folder as it stands: it ends with 6, and all files have what they had."""
+    before = folder.take()
+    how = folder.run(SESSIONS[0], catalog=catalog)
+    after = folder.take()
+    changed = [name for name in {**before, **after} if name != f"{catalog}-wal" and before.get(name, b"") != after.get(name, b"")]
+    tally.add(f"status {how.status}", what, is_no_refusal(how, (6,)), changed and f"{sorted(changed)} changed")
+
+
+def part_wrong(folder, refs, number, rng):
+    """All of it, whatever the number."""
+    tally, state = Tally("wrong"), refs[1].before
+    for ref in refs[:2]:
+        for closed in ([0], [1], [2], [0, 1], [0, 2], [1, 2], [0, 1, 2]):
+            try_closed(folder, ref, closed, tally)
+    for name in OBJECT_NAMES:
+        for objects in (state, {"objects": None}):
+            folder.put(objects)
+            try_unfit(folder, f"a catalog objects/{name}", f"objects/{name}", tally)
+    for what, make in NO_CATALOGS.items():
+        for place, objects in (("a folder in use", state), ("an empty folder", {"objects": None}), ("no folder", {})):
+            folder.put(objects | {"other": state["catalog"]})
+            make(f"{folder.path}/other")
+            try_unfit(folder, f"{what}, {place}", "other", tally)
+    return tally.tell("sessions that are begun wrongly")
+
+
+PARTS = {
+    "calls": part_calls,
+    "cuts": part_cuts,
+    "pairs": part_pairs,
+    "disks": part_disks,
+    "rights": part_rights,
+    "many": part_many,
+    "wrong": part_wrong,
+}
 
 
 def references(folder):

@@ -2,28 +2,33 @@
 # Tries the edge of the program from outside: a disk that fails, power cuts, two processes at once, full disks and wanting rights.
 #     bench/faults.sh [PART [NUMBER [PROGRAM]]]
 # PART is one of these, or all (the default); NUMBER is how often (else what stands behind the part), and PROGRAM the program as it was
-# built (that of ./rman). Three sessions are run: one makes datafiles, writes and a level 0, one level 1s, archived logs and copies, and
-# one restores, recovers, opens with RESETLOGS and deletes. What the next session finds, and what comes of its way back, is held to what a
-# stop of a session without a fault leaves behind the statements that were answered, or behind one more; and that to what replies tell.
+# built (that of ./rman). Four sessions are run: one makes datafiles, writes and a level 0, one level 1s, archived logs and copies, one
+# restores, recovers, opens with RESETLOGS and deletes, and one has sets, thread switches, tracking, writes meanwhile and a mended block.
+# What the next session finds, and what comes of its way back, is held to what a stop of a session without a fault leaves behind the
+# statements that were answered, or behind one more; and that to what replies tell.
 #     calls   each call on a file of the store and the catalog fails, in each way: EIO, ENOSPC, EINTR, from there on all, half a write.
 #             The status is that of the device, and a line names it. Each second time what a failed sync was to make safe is lost, and
-#             a call of the next session fails (about 7,900)
+#             a call of the next session fails (about 10,600)
 #     cuts    the power is cut: a third keep what syncs made safe alone, a third all, a third some sectors of each write and any name that
-#             a folder had since its sync. Each fourth time the next session is cut too, each fourth the one that goes on. A fourth
+#             a folder had since its sync. Each fourth time the next session is cut too, each fourth the one that goes on. A fifth
 #             session is so long that the log of the catalog file is brought into it midway (1,000)
 #     pairs   two sessions at once, by one catalog and by two: one has the folder, the other ends with 5 or 6 at once (200)
 #     disks   a limit on files, and where it can be mounted a tmpfs with a few pages, of all or of the store alone; then the next session
 #             asks where there is none (300)
 #     rights  the folder, its parents, its lock, objects and the catalog without rights, for a user who is not root (48)
 #     many    so many objects in the folder (65,536)
+#     wrong   sessions that are begun wrongly: without standard streams, with a catalog in the folder under the name of an object, with a
+#             file that is no catalog. What is refused leaves all files as they were
+#     duplicates  each call of one fails, in each way, and the power is cut: the source is as it was, the new number has all of its records
+#             or none, and the same words once more make it, or tell of what is taken (about 900)
 # Each prints a line with its figures, and of each problem the first three; the status is 1 where one is bad, and FAULTS_SEED draws the
 # same again. It wants python3 and cc, which builds bench/faults.c, and ends with 0 where there is none. TMPDIR has the files, or /dev/shm.
 set -uo pipefail
 cd "$(dirname "$0")/.." || exit 1
 part=${1:-all}
 case $part in
-    all) parts='calls cuts pairs disks rights many' ;;
-    calls | cuts | pairs | disks | rights | many) parts=$part ;;
+    all) parts='calls cuts pairs disks rights many wrong duplicates' ;;
+    calls | cuts | pairs | disks | rights | many | wrong | duplicates) parts=$part ;;
     *)
         echo "$0: there is no part $part" >&2
         exit 2
@@ -56,6 +61,10 @@ fi
 
 status=0
 for part in $parts; do
-    python3 -B bench/faults.py "$room/rman" "$room/faults.so" "$room" "$part" "${2:-0}" || status=1
+    if [ "$part" = duplicates ]; then
+        python3 -B bench/faults_duplicate.py "$room/rman" "$room/faults.so" "$room" "${2:-0}" || status=1
+    else
+        python3 -B bench/faults.py "$room/rman" "$room/faults.so" "$room" "$part" "${2:-0}" || status=1
+    fi
 done
 exit "$status"
