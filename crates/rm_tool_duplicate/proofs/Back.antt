@@ -1,6 +1,6 @@
 -- What is known of a duplicate that was made, when it is recovered.
-use Rattle.std.proofs.Common.{◌≡◌, ◌<◌, ◌≤◌, ◌==◌, ◌||◌, ◌∙◌, ℕ, Bool, true, false, List, [], ◌∷◌, Option, Some, None, IfSome, length, map, refl, ap, sym, subst, rules, arith}
-use Rattle.std.specs.Prelude.{if◌then◌else◌, nat_lt}
+use Rattle.std.proofs.Common.{◌≡◌, ◌≤◌, ◌∙◌, ℕ, false, List, [], ◌∷◌, Option, Some, None, length, map, refl, ap, sym, subst, rules, arith}
+use Rattle.std.specs.Prelude.{nat_lt}
 use Rattle.std.specs.Option.{option_map}
 use Rattle.std.proofs.lemmas.List.{length-map}
 use Rattle.rm_apply.proofs.Numbers.{few-targets}
@@ -11,20 +11,18 @@ use Rattle.rm_catalog.specs.Rules.{HasDatabase, IsCatalog}
 use Rattle.rm_catalog.specs.Trees.{nodes}
 use Rattle.rm_catalog.specs.declared.record.Edit.TheVariants.{Put}
 use Rattle.rm_catalog.specs.declared.record.Record.{Record}
-use Rattle.rm_catalog_typed.proofs.Records.{database-told, tree-told, world-told}
+use Rattle.rm_catalog_typed.proofs.Records.{database-told, tree-told}
 use Rattle.rm_catalog_typed.proofs.Valid.{typed_catalog-valid}
 use Rattle.rm_catalog_typed.specs.TypedCatalog.{records_of}
 use Rattle.rm_commit.specs.Carrying.{AreMoved, Carried}
 use Rattle.rm_dup.specs.Entries.{HoldsCopies}
 use Rattle.rm_dup.specs.declared.database.Duplicate.{Duplicate}
-use Rattle.rm_evidence.specs.Database.{world_of}
 use Rattle.rm_history.specs.Tree.{IsThere}
 use Rattle.rm_history.specs.declared.tree.Incarnation.{Incarnation}
 use Rattle.rm_lang_words.specs.Duplicate.{DuplicateSaid}
 use Rattle.rm_lang_statement.specs.declared.command.Until.TheVariants.{Scn}
 use Rattle.rm_machine.specs.RecoverTest.{test_refusal}
-use Rattle.rm_machine.specs.Recovery.{in_place}
-use Rattle.rm_machine.specs.State.{tree, world}
+use Rattle.rm_machine.specs.State.{world}
 use Rattle.rm_machine.specs.Until.{or_else}
 use Rattle.rm_machine.specs.declared.state.State.{State}
 use Rattle.rm_tool_duplicate.specs.Asked.{Sides, target_inc}

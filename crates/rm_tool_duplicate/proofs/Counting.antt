@@ -1,6 +1,6 @@
 -- How many datafiles exist at a target: as many as there are numbers of them.
-use Rattle.std.proofs.Common.{◌≡◌, ◌<◌, ◌≤◌, ◌+◌, ◌-◌, ◌++◌, ◌∙◌, ℕ, zero, suc, Bool, true, false, cond, List, [], ◌∷◌, Some, Contains, get_or, length, take, refl, ap, sym, subst, arith}
-use Rattle.std.specs.Prelude.{count_by, filter, slice_get}
+use Rattle.std.proofs.Common.{◌≡◌, ◌<◌, ◌≤◌, ◌+◌, ◌-◌, ◌++◌, ◌∙◌, ℕ, zero, suc, Bool, true, false, cond, List, [], ◌∷◌, Some, get_or, length, take, refl, ap, sym, subst, arith}
+use Rattle.std.specs.Prelude.{count_by, filter}
 use Rattle.std.proofs.Math.Seq.{take-length}
 use Rattle.std.proofs.lemmas.List.{length-append}
 use Rattle.std.proofs.lemmas.List.Filters.{length-filter_more}

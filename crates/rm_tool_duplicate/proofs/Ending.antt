@@ -21,7 +21,7 @@ use Rattle.rm_tool.specs.declared.opening.Unopened.TheVariants as unopened
 use Rattle.rm_tool_duplicate.specs.Asked.{IsSource, Sides, sides}
 use Rattle.rm_tool_duplicate.specs.Causes.{of_stop, of_unopened}
 use Rattle.rm_tool_duplicate.specs.Duplicated.{IsMade, IsMadeOf, Makes, commit_of}
-use Rattle.rm_tool_duplicate.specs.Ended.{Counts, EndsStopped, Finishes, IsReady, Leaves, NoneFalls, RoseFor, RoseInRefusal, RoseUnopened, WritesRefusal, WritesUnopened, before_changes, in_bad_record, in_changes, in_lines, in_refusal}
+use Rattle.rm_tool_duplicate.specs.Ended.{Counts, Finishes, IsReady, Leaves, NoneFalls, RoseFor, RoseInRefusal, RoseUnopened, WritesRefusal, WritesUnopened, before_changes, in_bad_record, in_changes, in_lines, in_refusal}
 use Rattle.rm_tool_duplicate.specs.Refused.{Refuses}
 use Rattle.rm_tool_duplicate.specs.declared.ends.Ended.{Ended}
 use Rattle.rm_tool_duplicate.specs.declared.ends.Ended.TheVariants as ended

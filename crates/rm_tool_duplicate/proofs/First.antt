@@ -1,5 +1,5 @@
 -- What is in place of a duplicate when it is opened first: nothing.
-use Rattle.std.proofs.Common.{◌≡◌, ◌+◌, ◌&&◌, ◌∙◌, ℕ, zero, suc, Bool, true, false, cond, List, [], ◌∷◌, Option, Some, None, map, not, ◌++◌, length, refl, ap, sym, subst}
+use Rattle.std.proofs.Common.{◌≡◌, ◌+◌, ◌&&◌, ◌∙◌, ℕ, zero, suc, Bool, true, false, cond, [], ◌∷◌, Option, Some, None, map, not, ◌++◌, length, refl, ap, subst}
 use Rattle.std.specs.Prelude.{replicate}
 use Rattle.std.specs.List.{filter_map}
 use Rattle.rm_base.specs.Store.{Held}
@@ -14,9 +14,7 @@ use Rattle.rm_machine.specs.Recovery.{in_place, online_logs}
 use Rattle.rm_machine.specs.State.{counted, is_lost, is_online, ledger, online}
 use Rattle.rm_machine.specs.declared.state.Instance.{Instance}
 use Rattle.rm_machine.specs.declared.state.State.{State}
-use Rattle.rm_redo.specs.Logs.{Logs}
 use Rattle.rm_redo.specs.Online.{has_log}
-use Rattle.rm_redo.specs.declared.log_file.LogFile.{LogFile}
 use Rattle.rm_session.proofs.Lost.{all-lost}
 use Rattle.rm_session.proofs.Recorded.{one-catalog}
 

@@ -1,7 +1,6 @@
 -- What the duplicate of a source is, of the calls that made it.
 use Rattle.std.proofs.Common.{◌≡◌, ◌∙◌, ◌≤◌, ◌<◌, ◌^◌, ℕ, All, List, Option, Some, None, Result, Ok, Err, IfOk, ap, sym, subst}
 use Rattle.std.specs.Prelude.{IfErr}
-use Rattle.rm_base.specs.Store.{Held}
 use Rattle.rm_base.specs.declared.refusal.Refusal.{Refusal}
 use Rattle.rm_catalog.specs.Rules.{IsCatalog}
 use Rattle.rm_catalog.specs.declared.record.Record.{Record}
@@ -14,11 +13,10 @@ use Rattle.rm_evidence.specs.Database.{world_of}
 use Rattle.rm_lang_words.specs.Duplicate.{DuplicateSaid}
 use Rattle.rm_machine.specs.Recovery.{in_place}
 use Rattle.rm_machine.specs.Sound.{IsSound}
-use Rattle.rm_machine.specs.State.{world}
 use Rattle.rm_machine.specs.declared.state.State.{State}
 use Rattle.rm_piece.specs.Valid.{IsPiece}
 use Rattle.rm_tool_duplicate.specs.Asked.{Sides, target_inc}
-use Rattle.rm_tool_duplicate.specs.Duplicated.{IsMade, IsMadeOf}
+use Rattle.rm_tool_duplicate.specs.Duplicated.{IsMadeOf}
 use Rattle.rm_tool_duplicate.specs.Refused.{HasGap, IsNameReason, IsNumberReason, IsReason, IsRefused, by_gap}
 use Rattle.rm_tool_duplicate.proofs.Reasons.{by-names}
 

@@ -1,5 +1,5 @@
 -- The first name of a copy that is taken, one after another.
-use Rattle.std.proofs.Common.{◌≡◌, ◌<◌, ◌+◌, ◌-◌, ◌∙◌, ℕ, suc, Bool, true, false, cond, List, Option, Some, ap, arith}
+use Rattle.std.proofs.Common.{◌≡◌, ◌<◌, ◌+◌, ◌-◌, ◌∙◌, ℕ, suc, Bool, false, cond, List, Some, ap, arith}
 use Rattle.rm_tool_duplicate.specs.Refused.{copy_name, first_taken}
 
 -- the copy of datafile k, below m, has a name that is not taken

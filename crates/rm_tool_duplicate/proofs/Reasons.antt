@@ -1,6 +1,6 @@
 -- Why a duplicate is refused, of what was looked at.
-use Rattle.std.proofs.Common.{◌≡◌, ◌↔◌, ◌||◌, ◌+◌, inl, inr, ℕ, Bool, true, false, cond, List, [], ◌∷◌, Option, Some, None, IfSome, Contains, if◌then◌else◌, length, refl, rules, ap, sym, subst, ◌∙◌}
-use Rattle.std.specs.Prelude.{IsPermutation, IsSome, IsTrue, is_some, nat_lt, not}
+use Rattle.std.proofs.Common.{◌≡◌, ◌↔◌, ◌||◌, inl, inr, ℕ, Bool, true, false, List, [], ◌∷◌, Option, Some, None, IfSome, Contains, if◌then◌else◌, length, refl, rules, ap, sym, subst, ◌∙◌}
+use Rattle.std.specs.Prelude.{IsSome, IsTrue, is_some, nat_lt, not}
 use Rattle.std.specs.List.{list_any}
 use Rattle.std.specs.Option.{option_map}
 use Rattle.std.specs.Str.{bytes_eq}
@@ -22,7 +22,7 @@ use Rattle.rm_machine.specs.Until.{or_else}
 use Rattle.rm_machine.specs.declared.state.State.{State}
 use Rattle.rm_report.specs.Reply.{HasDate}
 use Rattle.rm_tool_duplicate.specs.Asked.{Sides, target_inc}
-use Rattle.rm_tool_duplicate.specs.Refused.{AreTaken, HasRecords, IsNameReason, IsNumberReason, IsReason, files_at, first_taken, is_among, name_refusal, number_refusal, refusal_by}
+use Rattle.rm_tool_duplicate.specs.Refused.{AreTaken, HasRecords, IsNameReason, IsNumberReason, IsReason, files_at, first_taken, is_among, name_refusal, number_refusal}
 
 -- Whether a number has records
 

@@ -1,5 +1,5 @@
 -- The copies of a duplicate stand under their names after they were put.
-use Rattle.std.proofs.Common.{◌≡◌, ◌≢◌, ◌<◌, ◌≤◌, ◌+◌, ◌^◌, ◌∙◌, ℕ, true, List, [], ◌∷◌, Option, Some, Contains, All, AllPairs, length, map, ap, sym, subst, arith}
+use Rattle.std.proofs.Common.{◌≡◌, ◌≢◌, ◌<◌, ◌≤◌, ◌+◌, ◌^◌, ◌∙◌, ℕ, true, List, [], ◌∷◌, Some, All, length, map, ap, sym, subst, arith}
 use Rattle.std.specs.List.{enumerate_from}
 use Rattle.std.proofs.lemmas.List.Elements.{All-cons, All-contains, All-nil}
 use Rattle.std.proofs.lemmas.List.Kept.{AllPairs-cons}
@@ -15,7 +15,6 @@ use Rattle.rm_dup.specs.Entries.{HoldsCopies}
 use Rattle.rm_dup.specs.declared.database.Duplicate.{Duplicate}
 use Rattle.rm_evidence.proofs.Names.{piece-name-tells}
 use Rattle.rm_piece.specs.Spelling.{spelling}
-use Rattle.rm_piece.specs.declared.piece.Piece.{Piece}
 use Rattle.rm_tool_duplicate.specs.Duplicated.{commit_of, object_of}
 use Rattle.rm_tool_duplicate.specs.Refused.{copy_name}
 

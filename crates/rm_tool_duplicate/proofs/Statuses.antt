@@ -1,12 +1,14 @@
 -- What a status tells of how a duplicate ended.
-use Rattle.std.proofs.Common.{◌≡◌, ◌==◌, inl, inr, ℕ, zero, suc, arith, Bool, List, [], ◌∷◌, Option, Some, None, Result, Ok, Err, Contains, if◌then◌else◌, lit<, refl, ap, sym, subst, ◌∙◌}
+use Rattle.std.proofs.Common.{◌≡◌, ◌==◌, inl, inr, ℕ, zero, suc, arith, List, [], ◌∷◌, Option, Some, None, Result, Ok, Err, Contains, if◌then◌else◌, lit<, refl, ap, sym, subst, ◌∙◌}
 use Rattle.std.specs.Prelude.{IfErr, OnOk}
 use Rattle.rm_catalog.specs.declared.record.Record.{Record}
 use Rattle.rm_lang_words.specs.Duplicate.{DuplicateSaid}
 use Rattle.rm_base.specs.Outside.{Rose}
+use Rattle.rm_base.specs.Store.{Held}
+use Rattle.rm_shelf.specs.Shelved.{Shelved}
 use Rattle.rm_site.specs.Opens.{AreValid}
 use Rattle.rm_tool.proofs.Calls.{none-bad, told-valid}
-use Rattle.rm_tool_duplicate.specs.Asked.{Sides}
+use Rattle.rm_tool_duplicate.specs.Asked.{Sides, sides}
 use Rattle.rm_tool_duplicate.specs.Ended.{Counts, Finishes, Leaves, RoseFor, status_of}
 use Rattle.rm_tool_duplicate.specs.declared.ends.Ended.{Ended}
 use Rattle.rm_tool_duplicate.specs.declared.ends.Ended.TheVariants as ended
@@ -43,13 +45,6 @@ by-end P (Err f) e is left = let same : f ≡ e = cc in subst P same left
 -- it ended as its status says
 pub ended-at : {A : Type 0} (P : Ended → Type 0) (r : Result A Ended) (n : ℕ) (e : Ended) → of_status n ≡ Some e → status_of r ≡ n → IfErr r P → P e
 ended-at P r n e at is left = by-end P r e (told r ∙ ap of_status is ∙ at) left
-
-by-none : {A : Type 0} (P : Type 0) (r : Result A Ended) → ended_in r ≡ None → OnOk r P → P
-by-none P (Ok x) is done = done
-by-none P (Err e) is done = absurd (cc)
-
-pub done-at : {A : Type 0} (P : Type 0) (r : Result A Ended) → status_of r ≡ 0 → OnOk r P → P
-done-at P r is done = by-none P r (told r ∙ ap of_status is) done
 
 pub has-status : {A : Type 0} (r : Result A Ended) → Contains (0 ∷ 1 ∷ 2 ∷ 4 ∷ 5 ∷ 6 ∷ 7 ∷ 9 ∷ []) (status_of r)
 has-status (Ok x) = (0, lit< tt, refl)
@@ -96,9 +91,10 @@ module _ {A : Type 0} (x : DuplicateSaid) (a b : Sides) (before now : Option (Li
 pub one-said : (o : Option DuplicateSaid) (y x : DuplicateSaid) → o ≡ Some y → o ≡ Some x → y ≡ x
 one-said o y x read is = let both : Some y ≡ Some x = sym read ∙ is in cc
 
--- what is so of how it ended, of what was read, is so of what is said
-pub at-status : {A : Type 0} (P : DuplicateSaid → Ended → Type 0) (y x : DuplicateSaid) (r : Result A Ended) (k n : ℕ) (e : Ended) → y ≡ x → of_status n ≡ Some e → k ≡ status_of r → k ≡ n → IfErr r (P y) → P x e
-at-status P y x r k n e same at is status left = subst (λ z. P z e) same (ended-at (P y) r n e at (sym is ∙ status) left)
-
-pub at-done : {A : Type 0} (P : DuplicateSaid → Type 0) (y x : DuplicateSaid) (r : Result A Ended) (k : ℕ) → y ≡ x → k ≡ status_of r → k ≡ 0 → OnOk r (P y) → P x
-at-done P y x r k same is status done = subst P same (done-at (P y) r (sym is ∙ status) done)
+module _ {A : Type 0} (y x : DuplicateSaid) (same : y ≡ x) (from from_now to to_now : Option Held) (shelf shelf_now : Option Shelved) (before now : Option (List ℕ)) (r : Result A Ended)
+    (left : IfErr r (Leaves y (sides y from to shelf) (sides y from_now to_now shelf_now) before now)) (k : ℕ) (is : k ≡ status_of r) where
+  -- what is left of what was read is left of what is said
+  pub leaves-at : (n : ℕ) (e : Ended) → of_status n ≡ Some e → k ≡ n → Leaves x (sides x from to shelf) (sides x from_now to_now shelf_now) before now e
+  leaves-at n e at status =
+      subst (λ z. Leaves z (sides z from to shelf) (sides z from_now to_now shelf_now) before now e) same
+      (ended-at (Leaves y (sides y from to shelf) (sides y from_now to_now shelf_now) before now) r n e at (sym is ∙ status) left)

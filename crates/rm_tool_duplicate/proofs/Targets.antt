@@ -1,5 +1,5 @@
 -- The target of a duplicate that is not refused lies in its incarnation.
-use Rattle.std.proofs.Common.{◌≡◌, ◌<◌, ◌≤◌, ◌==◌, ◌||◌, ◌∙◌, ℕ, Bool, true, false, Option, Some, None, if◌then◌else◌, length, rules, refl, ap, sym, subst, nat_lt}
+use Rattle.std.proofs.Common.{◌≡◌, ◌<◌, ◌≤◌, ◌==◌, ◌||◌, ℕ, Bool, true, false, Option, Some, None, if◌then◌else◌, length, rules, refl, ap, nat_lt}
 use Rattle.std.specs.Option.{option_map}
 use Rattle.rm_apply.specs.Recover.{outside}
 use Rattle.rm_base.specs.declared.refusal.Refusal.TheVariants.{Rm06, Rm07}

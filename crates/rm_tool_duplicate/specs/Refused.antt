@@ -51,7 +51,7 @@ number_refusal x s has_records = if has_records then Some Rm03 else test_refusal
 abbrev pub name_refusal : (List ℕ → Bool) → ℕ → Option Refusal
 name_refusal is_taken files = option_map Rm13 (first_taken is_taken 1 files)
 
--- Why it is refused before the source's objects are read: there is no source (RM-02), or by its numbers, or by its copies.
+-- Why it is refused before the source's backups are read: there is no source (RM-02), or by its numbers, or by its copies.
 abbrev pub refusal_by : DuplicateSaid → Option State → Bool → (List ℕ → Bool) → Option Refusal
 refusal_by x None has_records is_taken = Some Rm02
 refusal_by x (Some s) has_records is_taken = or_else (number_refusal x s has_records) (name_refusal is_taken (files_at (world s) (target_inc x s) x.until))

@@ -76,8 +76,10 @@ fn carry_noted<E: Store, H: Shelf + Drop, B: Noted>(
 ) -> (Result<(), Stop>, H)
     requires noted { B.noted ≡ Some (number, H.shelved shelf) }
     ensures others { OthersStay number (H.shelved shelf) (H.shelved result.1) }
-    ensures carried { OnOk result.0 (Carried change.now (E.held to.old) (under number (H.shelved shelf)) (E.held to.new) (under number (H.shelved result.1))) }
-    ensures stopped { OnErr result.0 (Halted change.now (E.held to.old) (under number (H.shelved shelf)) (E.held to.new) (under number (H.shelved result.1))) }
+    ensures carried { OnOk result.0 (Carried change.now (E.held to.old) (under number (H.shelved shelf)) (E.held to.new) (under number
+        (H.shelved result.1))) }
+    ensures stopped { OnErr result.0 (Halted change.now (E.held to.old) (under number (H.shelved shelf)) (E.held to.new) (under number
+        (H.shelved result.1))) }
     ensures store { IsErrOf result.0 Stop.StoreFault → Rose (E.faults to.old) (E.faults to.new) }
     ensures shelf { IsErrOf result.0 Stop.KeeperFault → Rose (H.faults shelf) (H.faults result.1) }
     ensures store_never_falls { E.faults to.old ≤ E.faults to.new }
@@ -96,8 +98,10 @@ pub(crate) fn carry<E: Store, H: Shelf + Drop>(
     change: &Commit,
 ) -> (Result<(), Stop>, H)
     ensures others { OthersStay number (H.shelved shelf) (H.shelved result.1) }
-    ensures carried { OnOk result.0 (Carried change.now (E.held to.old) (under number (H.shelved shelf)) (E.held to.new) (under number (H.shelved result.1))) }
-    ensures stopped { OnErr result.0 (Halted change.now (E.held to.old) (under number (H.shelved shelf)) (E.held to.new) (under number (H.shelved result.1))) }
+    ensures carried { OnOk result.0 (Carried change.now (E.held to.old) (under number (H.shelved shelf)) (E.held to.new) (under number
+        (H.shelved result.1))) }
+    ensures stopped { OnErr result.0 (Halted change.now (E.held to.old) (under number (H.shelved shelf)) (E.held to.new) (under number
+        (H.shelved result.1))) }
     ensures store { IsErrOf result.0 Stop.StoreFault → Rose (E.faults to.old) (E.faults to.new) }
     ensures shelf { IsErrOf result.0 Stop.KeeperFault → Rose (H.faults shelf) (H.faults result.1) }
     ensures store_never_falls { E.faults to.old ≤ E.faults to.new }

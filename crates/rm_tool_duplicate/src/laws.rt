@@ -30,13 +30,19 @@ use rm_dup::laws::{a_duplicate_comes_back, a_duplicate_is_the_source};
 /// gap. Where digests tell of the source, it brings back exactly the datafiles that existed at the target, numbered from 1 on, each with
 /// the rows that the source's history made of it there.
 pub fn a_duplicate_is_its_source()
-    ensures records { (x : DuplicateSaid) (a b : Sides) (before now : Option (List ℕ)) (rs : List Record) → (is : Finishes x a b before now) → b.target ≡ Some rs → (rs ≡ is.duplicate.records) × IsCatalog rs × HasDatabase rs }
-    ensures first { (x : DuplicateSaid) (a b : Sides) (before now : Option (List ℕ)) (to : Held) (s : State) → Finishes x a b before now → b.target ≡ Some (records_of s.catalog) → IsLoaded to s → in_place s ≡ nothing }
-    ensures range { (x : DuplicateSaid) (a b : Sides) (before now : Option (List ℕ)) (rs : List Record) → Finishes x a b before now → b.target ≡ Some rs → IsThere (nodes rs) 1 × (outside (nodes rs) 1 x.until ≡ None) }
-    ensures no_gap { (x : DuplicateSaid) (a b : Sides) (before now : Option (List ℕ)) (to : Held) (rs : List Record) (place : InPlace) (gap : Gap) → (is : Finishes x a b before now) → b.to ≡ Some to → b.target ≡ Some rs → IsPlaceOf is.duplicate place
+    ensures records { (x : DuplicateSaid) (a b : Sides) (before now : Option (List ℕ)) (rs : List Record) → (is : Finishes x a b before now)
+        → b.target ≡ Some rs → (rs ≡ is.duplicate.records) × IsCatalog rs × HasDatabase rs }
+    ensures first { (x : DuplicateSaid) (a b : Sides) (before now : Option (List ℕ)) (to : Held) (s : State) → Finishes x a b before now
+        → b.target ≡ Some (records_of s.catalog) → IsLoaded to s → in_place s ≡ nothing }
+    ensures range { (x : DuplicateSaid) (a b : Sides) (before now : Option (List ℕ)) (rs : List Record) → Finishes x a b before now → b.target ≡ Some rs
+        → IsThere (nodes rs) 1 × (outside (nodes rs) 1 x.until ≡ None) }
+    ensures no_gap { (x : DuplicateSaid) (a b : Sides) (before now : Option (List ℕ)) (to : Held) (rs : List Record) (place : InPlace) (gap : Gap)
+        → (is : Finishes x a b before now) → b.to ≡ Some to → b.target ≡ Some rs → IsPlaceOf is.duplicate place
         → ¬ FindsGap (Some to) rs place 1 x.until gap }
-    ensures blocks { (x : DuplicateSaid) (a b : Sides) (before now : Option (List ℕ)) (to : Held) (rs : List Record) (place : InPlace) → (is : Finishes x a b before now) → b.to ≡ Some to → b.target ≡ Some rs → IsPlaceOf is.duplicate place
-        → FromRest a.from a.source (λ m. DigestsTell m → (back : Recovered) → TellsAll (Some to) rs place 1 x.until back → back.files ≡ made_of (world is.makes.state) m.history (target_inc x is.makes.state) x.until is.duplicate.from) }
+    ensures blocks { (x : DuplicateSaid) (a b : Sides) (before now : Option (List ℕ)) (to : Held) (rs : List Record) (place : InPlace)
+        → (is : Finishes x a b before now) → b.to ≡ Some to → b.target ≡ Some rs → IsPlaceOf is.duplicate place
+        → FromRest a.from a.source (λ m. DigestsTell m → (back : Recovered) → TellsAll (Some to) rs place 1 x.until back
+        → back.files ≡ made_of (world is.makes.state) m.history (target_inc x is.makes.state) x.until is.duplicate.from) }
 {
     a_duplicate_comes_back();
     a_duplicate_is_the_source();

@@ -57,7 +57,8 @@ fn duplicate_at<R: Threads + Sync, D: Store>(
     requires accepted { test_refusal state.now (Some (AtScn said.now.until)) said.now.incarnation ≡ None }
     requires records { hand.now.records ≡ records_of state.now.catalog }
     requires place { hand.now.place ≡ in_place state.now }
-    ensures duplicate { IfOk result (λ x. IfOk x (IsDuplicate (D.held from.old) (records_of state.now.catalog) (in_place state.now) (target_inc (duplicate_of said.now) state.now) said.now.until said.now.dbid)) }
+    ensures duplicate { IfOk result (λ x. IfOk x (IsDuplicate (D.held from.old) (records_of state.now.catalog) (in_place state.now) (target_inc
+        (duplicate_of said.now) state.now) said.now.until said.now.dbid)) }
     ensures gap { IfOk result (λ x. IfErr x (HasGap (duplicate_of said.now) (D.held from.old) state.now)) }
     ensures dbid { said.now.dbid < 2 ^ 32 }
     ensures pieces { IfOk result (λ x. IfOk x (λ d. All IsPiece d.pieces)) }
@@ -100,8 +101,10 @@ pub(crate) fn duplicate_of<R: Threads + Sync, D: Store, E: Store, H: Shelf>(
 ) -> Result<Result<Duplicate, Refusal>, Stop>
     requires sound { IfSome (option_copied source) IsSound }
     requires dbid { 1 ≤ said.now.dbid }
-    ensures made { IfOk result (λ x. IfOk x (IsMadeOf (duplicate_of said.now) (sides (duplicate_of said.now) (D.held from.old) (E.held to.old) (H.shelved shelf.old)) (option_copied source.entry))) }
-    ensures refused { IfOk result (λ x. IfErr x (IsRefused (duplicate_of said.now) (sides (duplicate_of said.now) (D.held from.old) (E.held to.old) (H.shelved shelf.old)) (option_copied source.entry))) }
+    ensures made { IfOk result (λ x. IfOk x (IsMadeOf (duplicate_of said.now) (sides (duplicate_of said.now) (D.held from.old) (E.held to.old)
+        (H.shelved shelf.old)) (option_copied source.entry))) }
+    ensures refused { IfOk result (λ x. IfErr x (IsRefused (duplicate_of said.now) (sides (duplicate_of said.now) (D.held from.old) (E.held to.old)
+        (H.shelved shelf.old)) (option_copied source.entry))) }
     ensures date { IfOk result (λ x. IfErr x HasDate) }
     ensures pieces { IfOk result (λ x. IfOk x (λ d. All IsPiece d.pieces)) }
     ensures few { IfOk result (λ x. IfOk x (λ d. length d.from ≤ 64)) }

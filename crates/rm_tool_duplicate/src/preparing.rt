@@ -40,12 +40,15 @@ pub(crate) fn prepare<R: Threads + Sync, K: Sink, D: Store, E: Store, H: Shelf>(
     requires source { IsSource (sides (said_of said.now) (D.held from.old) (E.held to.old) (H.shelved shelf.old)) site.now }
     ensures ready { IfOk result (IsReady (said_of said.now) (sides (said_of said.now) (D.held from.old) (E.held to.old) (H.shelved shelf.old))) }
     ensures silent { OnOk result (K.contents sink.new ≡ K.contents sink.old) }
-    ensures ended { IfErr result (Leaves (said_of said.now) (sides (said_of said.now) (D.held from.old) (E.held to.old) (H.shelved shelf.old)) (sides (said_of said.now) (D.held from.new) (E.held to.new) (H.shelved shelf.new)) (K.contents sink.old) (K.contents sink.new)) }
+    ensures ended { IfErr result (Leaves (said_of said.now) (sides (said_of said.now) (D.held from.old) (E.held to.old) (H.shelved shelf.old))
+        (sides (said_of said.now) (D.held from.new) (E.held to.new) (H.shelved shelf.new)) (K.contents sink.old) (K.contents sink.new)) }
     ensures from { D.held from.new ≡ D.held from.old }
     ensures to { E.held to.new ≡ E.held to.old }
     ensures shelf { AllStay (H.shelved shelf.old) (H.shelved shelf.new) }
-    ensures rose { IfErr result (RoseFor (record { sink = K.faults sink.old; from = D.faults from.old; to = E.faults to.old; shelf = H.faults shelf.old }) (record { sink = K.faults sink.new; from = D.faults from.new; to = E.faults to.new; shelf = H.faults shelf.new })) }
-    ensures never_fall { NoneFalls (record { sink = K.faults sink.old; from = D.faults from.old; to = E.faults to.old; shelf = H.faults shelf.old }) (record { sink = K.faults sink.new; from = D.faults from.new; to = E.faults to.new; shelf = H.faults shelf.new }) }
+    ensures rose { IfErr result (RoseFor (record { sink = K.faults sink.old; from = D.faults from.old; to = E.faults to.old; shelf = H.faults shelf.old })
+        (record { sink = K.faults sink.new; from = D.faults from.new; to = E.faults to.new; shelf = H.faults shelf.new })) }
+    ensures never_fall { NoneFalls (record { sink = K.faults sink.old; from = D.faults from.old; to = E.faults to.old; shelf = H.faults shelf.old })
+        (record { sink = K.faults sink.new; from = D.faults from.new; to = E.faults to.new; shelf = H.faults shelf.new }) }
 {
     let duplicate = match duplicate_of(rt, alloc, said, site.state(), from, to, shelf)? {
         Ok(duplicate) => duplicate,

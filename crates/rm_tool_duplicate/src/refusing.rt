@@ -1,4 +1,4 @@
-//! Why a duplicate is refused before the source's objects are read.
+//! Why a duplicate is refused before the source's backups are read.
 ghost use Rattle.std.specs.Prelude.{◌≡◌, ◌≤◌, ◌<◌, IfOk, IsErrOf};
 ghost use Rattle.std.specs.List.{list_any};
 ghost use Rattle.std.specs.Str.{bytes_eq};

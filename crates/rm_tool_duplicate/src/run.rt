@@ -62,11 +62,14 @@ fn served<R: Threads + Wait + Sync, K: Sink, D: Store, E: Store, H: Shelf + Drop
     shelf: H,
 ) -> (Result<(), Ended>, H)
     requires dbid { 1 ≤ said.now.dbid }
-    ensures finishes { OnOk result.0 (Finishes (said_of said.now) (sides (said_of said.now) (D.held from.old) (E.held to.old) (H.shelved shelf)) (sides (said_of said.now) (D.held from.new) (E.held to.new) (H.shelved result.1)) (K.contents sink.old) (K.contents sink.new)) }
-    ensures ended { IfErr result.0 (Leaves (said_of said.now) (sides (said_of said.now) (D.held from.old) (E.held to.old) (H.shelved shelf)) (sides (said_of said.now) (D.held from.new) (E.held to.new) (H.shelved result.1)) (K.contents sink.old) (K.contents sink.new)) }
+    ensures finishes { OnOk result.0 (Finishes (said_of said.now) (sides (said_of said.now) (D.held from.old) (E.held to.old) (H.shelved shelf))
+        (sides (said_of said.now) (D.held from.new) (E.held to.new) (H.shelved result.1)) (K.contents sink.old) (K.contents sink.new)) }
+    ensures ended { IfErr result.0 (Leaves (said_of said.now) (sides (said_of said.now) (D.held from.old) (E.held to.old) (H.shelved shelf))
+        (sides (said_of said.now) (D.held from.new) (E.held to.new) (H.shelved result.1)) (K.contents sink.old) (K.contents sink.new)) }
     ensures from { D.held from.new ≡ D.held from.old }
     ensures others { OthersStay said.now.number (H.shelved shelf) (H.shelved result.1) }
-    ensures rose { IfErr result.0 (RoseFor (record { sink = K.faults sink.old; from = D.faults from.old; to = E.faults to.old; shelf = H.faults shelf }) (record { sink = K.faults sink.new; from = D.faults from.new; to = E.faults to.new; shelf = H.faults result.1 })) }
+    ensures rose { IfErr result.0 (RoseFor (record { sink = K.faults sink.old; from = D.faults from.old; to = E.faults to.old; shelf = H.faults shelf })
+        (record { sink = K.faults sink.new; from = D.faults from.new; to = E.faults to.new; shelf = H.faults result.1 })) }
 {
     let (opened, mut shelf) = open_source(alloc, sink, from, shelf, said.from);
     let site = match opened {
@@ -109,10 +112,13 @@ pub fn run_duplicate<R: Threads + Wait + Sync, K: Sink, D: Store, E: Store, H: S
     shelf: H,
 ) -> (u8, H)
     // 0: the duplicate was made and told.
-    ensures done { (x : DuplicateSaid) → duplicate_said words.now ≡ Some x → result.0 ≡ 0 → Finishes x (sides x (D.held from.old) (E.held to.old) (H.shelved shelf)) (sides x (D.held from.new) (E.held to.new) (H.shelved result.1)) (K.contents sink.old) (K.contents sink.new) }
+    ensures done { (x : DuplicateSaid) → duplicate_said words.now ≡ Some x → result.0 ≡ 0
+        → Finishes x (sides x (D.held from.old) (E.held to.old) (H.shelved shelf)) (sides x (D.held from.new) (E.held to.new) (H.shelved result.1))
+        (K.contents sink.old) (K.contents sink.new) }
 
     // 1: exactly where it is refused, and the line of that was written.
-    ensures refused { (x : DuplicateSaid) → duplicate_said words.now ≡ Some x → result.0 ≡ 1 → EndsRefused x (sides x (D.held from.old) (E.held to.old) (H.shelved shelf)) (K.contents sink.old) (K.contents sink.new) }
+    ensures refused { (x : DuplicateSaid) → duplicate_said words.now ≡ Some x → result.0 ≡ 1
+        → EndsRefused x (sides x (D.held from.old) (E.held to.old) (H.shelved shelf)) (K.contents sink.old) (K.contents sink.new) }
 
     // 2: exactly where the words are refused, and their line was written.
     ensures words { result.0 ≡ 2 → accepts words.now ≡ false }
@@ -122,19 +128,29 @@ pub fn run_duplicate<R: Threads + Wait + Sync, K: Sink, D: Store, E: Store, H: S
 
     // 4, 5 and 6: only where the count of that object rose, and what was written and done then.
     ensures sink { result.0 ≡ 4 → Rose (K.faults sink.old) (K.faults sink.new) }
-    ensures sink_written { (x : DuplicateSaid) → duplicate_said words.now ≡ Some x → result.0 ≡ 4 → EndsInText x (sides x (D.held from.old) (E.held to.old) (H.shelved shelf)) (sides x (D.held from.new) (E.held to.new) (H.shelved result.1)) (K.contents sink.old) (K.contents sink.new) }
+    ensures sink_written { (x : DuplicateSaid) → duplicate_said words.now ≡ Some x → result.0 ≡ 4
+        → EndsInText x (sides x (D.held from.old) (E.held to.old) (H.shelved shelf)) (sides x (D.held from.new) (E.held to.new) (H.shelved result.1))
+        (K.contents sink.old) (K.contents sink.new) }
     ensures store { result.0 ≡ 5 → Rose (D.faults from.old) (D.faults from.new) ⊎ Rose (E.faults to.old) (E.faults to.new) }
-    ensures store_left { (x : DuplicateSaid) → duplicate_said words.now ≡ Some x → result.0 ≡ 5 → EndsStopped x (sides x (D.held from.old) (E.held to.old) (H.shelved shelf)) (sides x (D.held from.new) (E.held to.new) (H.shelved result.1)) (K.contents sink.old) (K.contents sink.new) }
+    ensures store_left { (x : DuplicateSaid) → duplicate_said words.now ≡ Some x → result.0 ≡ 5
+        → EndsStopped x (sides x (D.held from.old) (E.held to.old) (H.shelved shelf)) (sides x (D.held from.new) (E.held to.new) (H.shelved result.1))
+        (K.contents sink.old) (K.contents sink.new) }
     ensures shelf { result.0 ≡ 6 → Rose (H.faults shelf) (H.faults result.1) }
-    ensures shelf_left { (x : DuplicateSaid) → duplicate_said words.now ≡ Some x → result.0 ≡ 6 → EndsStopped x (sides x (D.held from.old) (E.held to.old) (H.shelved shelf)) (sides x (D.held from.new) (E.held to.new) (H.shelved result.1)) (K.contents sink.old) (K.contents sink.new) }
+    ensures shelf_left { (x : DuplicateSaid) → duplicate_said words.now ≡ Some x → result.0 ≡ 6
+        → EndsStopped x (sides x (D.held from.old) (E.held to.old) (H.shelved shelf)) (sides x (D.held from.new) (E.held to.new) (H.shelved result.1))
+        (K.contents sink.old) (K.contents sink.new) }
 
     // 7: what was done. Nothing was written.
-    ensures memory_left { (x : DuplicateSaid) → duplicate_said words.now ≡ Some x → result.0 ≡ 7 → EndsStopped x (sides x (D.held from.old) (E.held to.old) (H.shelved shelf)) (sides x (D.held from.new) (E.held to.new) (H.shelved result.1)) (K.contents sink.old) (K.contents sink.new) }
+    ensures memory_left { (x : DuplicateSaid) → duplicate_said words.now ≡ Some x → result.0 ≡ 7
+        → EndsStopped x (sides x (D.held from.old) (E.held to.old) (H.shelved shelf)) (sides x (D.held from.new) (E.held to.new) (H.shelved result.1))
+        (K.contents sink.old) (K.contents sink.new) }
     ensures memory_silent { result.0 ≡ 7 → K.contents sink.new ≡ K.contents sink.old }
 
     // 9: exactly where the source's records are not valid, and the line of the first that breaks a rule was written.
-    ensures bad { (x : DuplicateSaid) → duplicate_said words.now ≡ Some x → result.0 ≡ 9 → WritesBadRecord (under x.from (H.shelved shelf)) (K.contents sink.old) (K.contents sink.new) }
-    ensures bad_only { (x : DuplicateSaid) → duplicate_said words.now ≡ Some x → (rs : List Record) → under x.from (H.shelved shelf) ≡ Some rs → ¬ AreValid rs → Contains (9 ∷ 4 ∷ 6 ∷ 7 ∷ []) result.0 }
+    ensures bad { (x : DuplicateSaid) → duplicate_said words.now ≡ Some x → result.0 ≡ 9
+        → WritesBadRecord (under x.from (H.shelved shelf)) (K.contents sink.old) (K.contents sink.new) }
+    ensures bad_only { (x : DuplicateSaid) → duplicate_said words.now ≡ Some x → (rs : List Record) → under x.from (H.shelved shelf) ≡ Some rs
+        → ¬ AreValid rs → Contains (9 ∷ 4 ∷ 6 ∷ 7 ∷ []) result.0 }
 
     // The source's store stays, and so do the records of all other numbers. At 1, 2 and 9, and where the words are refused, all stays.
     ensures from { D.held from.new ≡ D.held from.old }
@@ -146,7 +162,9 @@ pub fn run_duplicate<R: Threads + Wait + Sync, K: Sink, D: Store, E: Store, H: S
 
     // There is no other status, and without a cause there is 0, 1 or 7.
     ensures statuses { Contains (0 ∷ 1 ∷ 2 ∷ 4 ∷ 5 ∷ 6 ∷ 7 ∷ 9 ∷ []) result.0 }
-    ensures complete { (x : DuplicateSaid) → duplicate_said words.now ≡ Some x → (rs : List Record) → under x.from (H.shelved shelf) ≡ Some rs → AreValid rs → ¬ Rose (K.faults sink.old) (K.faults sink.new) → ¬ Rose (D.faults from.old) (D.faults from.new) → ¬ Rose (E.faults to.old) (E.faults to.new) → ¬ Rose (H.faults shelf) (H.faults result.1) → Contains (0 ∷ 1 ∷ 7 ∷ []) result.0 }
+    ensures complete { (x : DuplicateSaid) → duplicate_said words.now ≡ Some x → (rs : List Record) → under x.from (H.shelved shelf) ≡ Some rs → AreValid rs
+        → ¬ Rose (K.faults sink.old) (K.faults sink.new) → ¬ Rose (D.faults from.old) (D.faults from.new) → ¬ Rose (E.faults to.old) (E.faults to.new)
+        → ¬ Rose (H.faults shelf) (H.faults result.1) → Contains (0 ∷ 1 ∷ 7 ∷ []) result.0 }
 {
     let said = match read_duplicate(alloc, words) {
         Ok(said) => said,

@@ -1,4 +1,4 @@
-use Rattle.std.proofs.Common.{◌≡◌, ℕ, None, sym, subst}
+use Rattle.std.proofs.Common.{◌≡◌, None, sym, subst}
 use Rattle.rm_history.specs.Tree.{IsThere}
 use Rattle.rm_machine.specs.Recovery.{range_refusal}
 use Rattle.rm_machine.specs.State.{tree}

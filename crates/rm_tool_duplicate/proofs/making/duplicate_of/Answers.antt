@@ -1,4 +1,4 @@
-use Rattle.std.proofs.Common.{◌≡◌, ◌∙◌, ℕ, Option, None, Some, IfSome, ap, refl, sym, subst}
+use Rattle.std.proofs.Common.{◌∙◌, Option, None, Some, IfSome, ap, sym, subst}
 use Rattle.std.specs.Option.{option_copied}
 use Rattle.rm_base.specs.declared.refusal.Refusal.TheVariants.{Rm02}
 use Rattle.rm_history.specs.Tree.{IsThere}
@@ -7,8 +7,8 @@ use Rattle.rm_machine.specs.Sound.{IsSound}
 use Rattle.rm_machine.specs.State.{tree}
 use Rattle.rm_machine.specs.declared.state.State.{State}
 use Rattle.rm_step_recover.proofs.Records.{there}
-use Rattle.rm_tool_duplicate.specs.Asked.{Sides, sides}
-use Rattle.rm_tool_duplicate.specs.Refused.{IsReason, IsRefused, by_reason}
+use Rattle.rm_tool_duplicate.specs.Asked.{sides}
+use Rattle.rm_tool_duplicate.specs.Refused.{IsRefused, by_reason}
 use Rattle.rm_tool_duplicate.proofs.Made.{made-all, reason-by-names, refused-all}
 use Rattle.rm_tool_duplicate.proofs.Reasons.{by-numbers, no-source, number-none}
 use Rattle.rm_tool_duplicate.proofs.Targets.{target-there}

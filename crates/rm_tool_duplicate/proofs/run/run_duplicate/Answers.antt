@@ -1,12 +1,11 @@
-use Rattle.std.proofs.Common.{◌≡◌, ◌∙◌, ◌∷◌, [], ℕ, Contains, List, Option, lit<, refl, sym, subst}
+use Rattle.std.proofs.Common.{◌∙◌, ◌∷◌, [], Contains, ap, lit<, refl, sym, subst}
 use Rattle.rm_lang_words.specs.Duplicate.{DuplicateSaid, duplicate_said}
 use Rattle.rm_lang_words.specs.Reading.{duplicate_of as said_of}
 use Rattle.rm_shelf.specs.Shelved.{OthersStay, under}
-use Rattle.rm_tool_duplicate.specs.Asked.{Sides, sides}
-use Rattle.rm_tool_duplicate.specs.Ended.{Counts, Leaves}
-use Rattle.rm_tool_duplicate.specs.declared.ends.Ended.{Ended}
+use Rattle.rm_tool_duplicate.specs.Asked.{sides}
+use Rattle.rm_tool_duplicate.specs.Ended.{Counts}
 use Rattle.rm_tool_duplicate.specs.declared.ends.Ended.TheVariants as ended
-use Rattle.rm_tool_duplicate.proofs.Statuses.{at-status, has-status, of-bad, of-none, one-said, words-status}
+use Rattle.rm_tool_duplicate.proofs.Statuses.{has-status, leaves-at, of-bad, of-none, one-said, words-status}
 use Rattle.rm_tool_duplicate.proofs.run.run_duplicate.Goals as goal
 
 pub returns-in-Err-Bad-clause-statuses : goal.returns-in-Err-Bad-clause-statuses
@@ -23,75 +22,27 @@ returns-in-Err-NoMemory-clause-complete g c x is rs kept valid sink from to shel
 
 pub returns-clause-refused : goal.returns-clause-refused
 returns-clause-refused g c x is status =
-    let from = g.D.Store.held in
-    let to = g.E.Store.held in
-    let shelved = g.H.Shelf.shelved in
-    let told = g.K.Sink.contents in
-    let was = c.served-ended in
-    let y = said_of c.in-Ok.said in
-    let same = one-said (duplicate_said c.args.words.now) y x c.in-Ok.ensures.said is in
-    let left : DuplicateSaid → Ended → Type 0 = λ z e. Leaves z (sides z (from c.args.from.now) (to c.args.to.now) (shelved c.args.shelf)) (sides z (from was.new.from) (to was.new.to) (shelved was.result.1)) (told c.args.sink.now) (told was.new.sink) e in
-    (at-status left y x was.result.0 c.status_of.result 1 ended.Refused same refl c.status_of.ensures status was.ensures.ended).1
+    (leaves-at (said_of c.in-Ok.said) x (one-said _ _ x c.in-Ok.ensures.said is) _ _ _ _ _ _ _ _ c.served-ended.result.0 c.served-ended.ensures.ended c.status_of.result c.status_of.ensures 1 ended.Refused refl status).1
 
 pub returns-clause-sink_written : goal.returns-clause-sink_written
 returns-clause-sink_written g c x is status =
-    let from = g.D.Store.held in
-    let to = g.E.Store.held in
-    let shelved = g.H.Shelf.shelved in
-    let told = g.K.Sink.contents in
-    let was = c.served-ended in
-    let y = said_of c.in-Ok.said in
-    let same = one-said (duplicate_said c.args.words.now) y x c.in-Ok.ensures.said is in
-    let left : DuplicateSaid → Ended → Type 0 = λ z e. Leaves z (sides z (from c.args.from.now) (to c.args.to.now) (shelved c.args.shelf)) (sides z (from was.new.from) (to was.new.to) (shelved was.result.1)) (told c.args.sink.now) (told was.new.sink) e in
-    (at-status left y x was.result.0 c.status_of.result 4 ended.Sink same refl c.status_of.ensures status was.ensures.ended)
+    leaves-at (said_of c.in-Ok.said) x (one-said _ _ x c.in-Ok.ensures.said is) _ _ _ _ _ _ _ _ c.served-ended.result.0 c.served-ended.ensures.ended c.status_of.result c.status_of.ensures 4 ended.Sink refl status
 
 pub returns-clause-store_left : goal.returns-clause-store_left
 returns-clause-store_left g c x is status =
-    let from = g.D.Store.held in
-    let to = g.E.Store.held in
-    let shelved = g.H.Shelf.shelved in
-    let told = g.K.Sink.contents in
-    let was = c.served-ended in
-    let y = said_of c.in-Ok.said in
-    let same = one-said (duplicate_said c.args.words.now) y x c.in-Ok.ensures.said is in
-    let left : DuplicateSaid → Ended → Type 0 = λ z e. Leaves z (sides z (from c.args.from.now) (to c.args.to.now) (shelved c.args.shelf)) (sides z (from was.new.from) (to was.new.to) (shelved was.result.1)) (told c.args.sink.now) (told was.new.sink) e in
-    (at-status left y x was.result.0 c.status_of.result 5 ended.Store same refl c.status_of.ensures status was.ensures.ended).1
+    (leaves-at (said_of c.in-Ok.said) x (one-said _ _ x c.in-Ok.ensures.said is) _ _ _ _ _ _ _ _ c.served-ended.result.0 c.served-ended.ensures.ended c.status_of.result c.status_of.ensures 5 ended.Store refl status).1
 
 pub returns-clause-shelf_left : goal.returns-clause-shelf_left
 returns-clause-shelf_left g c x is status =
-    let from = g.D.Store.held in
-    let to = g.E.Store.held in
-    let shelved = g.H.Shelf.shelved in
-    let told = g.K.Sink.contents in
-    let was = c.served-ended in
-    let y = said_of c.in-Ok.said in
-    let same = one-said (duplicate_said c.args.words.now) y x c.in-Ok.ensures.said is in
-    let left : DuplicateSaid → Ended → Type 0 = λ z e. Leaves z (sides z (from c.args.from.now) (to c.args.to.now) (shelved c.args.shelf)) (sides z (from was.new.from) (to was.new.to) (shelved was.result.1)) (told c.args.sink.now) (told was.new.sink) e in
-    (at-status left y x was.result.0 c.status_of.result 6 ended.Keeper same refl c.status_of.ensures status was.ensures.ended)
+    leaves-at (said_of c.in-Ok.said) x (one-said _ _ x c.in-Ok.ensures.said is) _ _ _ _ _ _ _ _ c.served-ended.result.0 c.served-ended.ensures.ended c.status_of.result c.status_of.ensures 6 ended.Keeper refl status
 
 pub returns-clause-memory_left : goal.returns-clause-memory_left
 returns-clause-memory_left g c x is status =
-    let from = g.D.Store.held in
-    let to = g.E.Store.held in
-    let shelved = g.H.Shelf.shelved in
-    let told = g.K.Sink.contents in
-    let was = c.served-ended in
-    let y = said_of c.in-Ok.said in
-    let same = one-said (duplicate_said c.args.words.now) y x c.in-Ok.ensures.said is in
-    let left : DuplicateSaid → Ended → Type 0 = λ z e. Leaves z (sides z (from c.args.from.now) (to c.args.to.now) (shelved c.args.shelf)) (sides z (from was.new.from) (to was.new.to) (shelved was.result.1)) (told c.args.sink.now) (told was.new.sink) e in
-    (at-status left y x was.result.0 c.status_of.result 7 ended.NoMemory same refl c.status_of.ensures status was.ensures.ended)
+    leaves-at (said_of c.in-Ok.said) x (one-said _ _ x c.in-Ok.ensures.said is) _ _ _ _ _ _ _ _ c.served-ended.result.0 c.served-ended.ensures.ended c.status_of.result c.status_of.ensures 7 ended.NoMemory refl status
 
 pub returns-clause-bad : goal.returns-clause-bad
 returns-clause-bad g c x is status =
-    let from = g.D.Store.held in
-    let to = g.E.Store.held in
-    let shelved = g.H.Shelf.shelved in
-    let told = g.K.Sink.contents in
-    let was = c.served-ended in
-    let y = said_of c.in-Ok.said in
-    let same = one-said (duplicate_said c.args.words.now) y x c.in-Ok.ensures.said is in
-    let left : DuplicateSaid → Ended → Type 0 = λ z e. Leaves z (sides z (from c.args.from.now) (to c.args.to.now) (shelved c.args.shelf)) (sides z (from was.new.from) (to was.new.to) (shelved was.result.1)) (told c.args.sink.now) (told was.new.sink) e in
-    (at-status left y x was.result.0 c.status_of.result 9 ended.BadRecord same refl c.status_of.ensures status was.ensures.ended).1
+    (leaves-at (said_of c.in-Ok.said) x (one-said _ _ x c.in-Ok.ensures.said is) _ _ _ _ _ _ _ _ c.served-ended.result.0 c.served-ended.ensures.ended c.status_of.result c.status_of.ensures 9 ended.BadRecord refl status).1
 
 pub returns-clause-bad_only : goal.returns-clause-bad_only
 returns-clause-bad_only g c x is rs kept bad =
@@ -102,7 +53,7 @@ returns-clause-bad_only g c x is rs kept bad =
     let was = c.served-ended in
     let y = said_of c.in-Ok.said in
     let same = one-said (duplicate_said c.args.words.now) y x c.in-Ok.ensures.said is in
-    let here = sym (subst (λ (z : DuplicateSaid). under z.from (shelved c.args.shelf) ≡ under y.from (shelved c.args.shelf)) same refl) ∙ kept in
+    let here = ap (λ (z : DuplicateSaid). under z.from (shelved c.args.shelf)) same ∙ kept in
     subst (Contains (9 ∷ 4 ∷ 6 ∷ 7 ∷ [])) (sym c.status_of.ensures)
     (of-bad y (sides y (from c.args.from.now) (to c.args.to.now) (shelved c.args.shelf)) (sides y (from was.new.from) (to was.new.to) (shelved was.result.1)) (told c.args.sink.now) (told was.new.sink) rs here was.result.0 was.ensures.finishes was.ensures.ended bad)
 
@@ -125,7 +76,7 @@ returns-clause-complete g c x is rs kept valid no_sink no_from no_to no_shelf =
     let was = c.served-ended in
     let y = said_of c.in-Ok.said in
     let same = one-said (duplicate_said c.args.words.now) y x c.in-Ok.ensures.said is in
-    let here = sym (subst (λ (z : DuplicateSaid). under z.from (shelved c.args.shelf) ≡ under y.from (shelved c.args.shelf)) same refl) ∙ kept in
+    let here = ap (λ (z : DuplicateSaid). under z.from (shelved c.args.shelf)) same ∙ kept in
     let before : Counts = record { sink = g.K.Sink.faults c.args.sink.now; from = g.D.Store.faults c.args.from.now; to = g.E.Store.faults c.args.to.now; shelf = g.H.Shelf.faults c.args.shelf } in
     let now : Counts = record { sink = g.K.Sink.faults was.new.sink; from = g.D.Store.faults was.new.from; to = g.E.Store.faults was.new.to; shelf = g.H.Shelf.faults was.result.1 } in
     subst (Contains (0 ∷ 1 ∷ 7 ∷ [])) (sym c.status_of.ensures)
