@@ -42,12 +42,12 @@ def same(what, found, wanted):
     """Raises Wrong where the two differ, with the first line or name that does."""
     if found == wanted:
         return
-    if isinstance(found, dict):
-        keys = [key for key in sorted({*found, *wanted}) if found.get(key) != wanted.get(key)]
-        raise Wrong(f"{what}: {[(key, found.get(key), wanted.get(key)) for key in keys[:2]]}")
-    if isinstance(found, list):
+    if isinstance(found, dict) and isinstance(wanted, dict):
+        name = next(name for name in sorted({*found, *wanted}) if found.get(name) != wanted.get(name))
+        same(f"{what}, {name}", found.get(name), wanted.get(name))
+    if isinstance(found, list) and isinstance(wanted, list):
         place = next((at for at, (one, other) in enumerate(zip(found, wanted)) if one != other), min(len(found), len(wanted)))
-        raise Wrong(f"{what}, line {place + 1}: found {found[place:place + 2]}, wanted {wanted[place:place + 2]}")
+        raise Wrong(f"{what}, line {place + 1}: found {found[place : place + 2]}, wanted {wanted[place : place + 2]}")
     raise Wrong(f"{what}: found {found!r}, wanted {wanted!r}")
 
 
@@ -105,7 +105,11 @@ class Place:
 
 
 def begin(program, words, script="", output=subprocess.PIPE):
-    done = subprocess.run([program, *words], input=script, stdout=output, stderr=subprocess.PIPE, text=True, check=False)
+    """How the program ended with these words. One that takes two minutes is wrong."""
+    try:
+        done = subprocess.run([program, *words], input=script, stdout=output, stderr=subprocess.PIPE, text=True, check=False, timeout=120)
+    except subprocess.TimeoutExpired as why:
+        raise Wrong(str(why)) from why
     return Ended(done.returncode, (done.stdout or "").splitlines(), done.stderr)
 
 
@@ -249,7 +253,8 @@ class Round:
             gaps = [target for target in refused if target.lines[-1].startswith("RM-08")]
             self.refused_duplicate(self.rng.choice(gaps or refused))
         if told:
-            self.made_duplicate(self.rng.choice(told))
+            # Of two the one with more blocks: of a young database many targets have none.
+            self.made_duplicate(max(self.rng.choices(told, k=2), key=lambda target: len(target.lines)))
 
     def refused_duplicate(self, target):
         number, to = self.new_place()
@@ -422,8 +427,8 @@ def main(program, seed="0", count="10"):
             one = Round(os.path.abspath(program), seed, room, tally)
             try:
                 one.run_all()
-            except Wrong as why:
-                print(f"round {seed}: {why}\nbehind: {one.last.replace(room, '.')}")
+            except (Wrong, LookupError, ValueError) as why:
+                print(f"round {seed}: {why!r}\nbehind: {one.last.replace(room, '.')}")
                 return 1
         tally["rounds"] += 1
     print(", ".join(f"{number} {what}" for what, number in tally.items()) + f"; {time.time() - began:.0f} s")

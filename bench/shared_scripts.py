@@ -43,7 +43,7 @@ class Known:
         """A target of some incarnation, now and then one that is not in its range."""
         incarnation = rng.choice(sorted(self.targets))
         low, high = self.targets[incarnation]
-        return incarnation, rng.choice([low, high, low - 1, high + 1, *[rng.randint(low, high)] * 6])
+        return incarnation, rng.choice([low, high, low - 1, high + 1, *[rng.randint(low, high)] * 12])
 
 
 class Script:
