@@ -15,12 +15,12 @@
 #     pairs   two sessions at once, by one catalog and by two: one has the folder, the other ends with 5 or 6 at once (200)
 #     disks   a limit on files, and where it can be mounted a tmpfs with a few pages, of all or of the store alone; then the next session
 #             asks where there is none (300)
-#     rights  the folder, its parents, its lock, objects and the catalog without rights, for a user who is not root (48)
+#     rights  the folder, its parents, its lock, objects and the catalog without rights, for a user who is not root (69)
 #     many    so many objects in the folder (65,536)
 #     wrong   sessions that are begun wrongly: without standard streams, with a catalog in the folder under the name of an object, with a
 #             file that is no catalog. What is refused leaves all files as they were
 #     duplicates  each call of one fails, in each way, and the power is cut: the source is as it was, the new number has all of its records
-#             or none, and the same words once more make it, or tell of what is taken (about 900)
+#             or none, and the same words once more make it, or tell of what is taken (about 1,200)
 # Each prints a line with its figures, and of each problem the first three; the status is 1 where one is bad, and FAULTS_SEED draws the
 # same again. It wants python3 and cc, which builds bench/faults.c, and ends with 0 where there is none. TMPDIR has the files, or /dev/shm.
 set -uo pipefail

@@ -72,7 +72,7 @@ def try_call(duplicate, call, way, rng, tally):
     folder = duplicate.folder
     folder.put(duplicate.before)
     how = duplicate.make(number=call.number, way=way, log=folder.log)
-    devices = (5, 6) if way in ("dead", "full") else (6,) if "/catalog" in call.paths[0] else (5,)
+    devices = (5, 6) if way in ("dead", "full") else (5,) if "/objects" in call.paths[0] or "/copies" in call.paths[0] else (6,)
     what = f"call {call.number}, {call.name} of {' '.join(os.path.relpath(path, folder.path) for path in call.paths)}, {way}"
     if call.name in ("fsync", "fdatasync") and rng.random() < 0.5:
         what += ", and what was not synced is lost"
