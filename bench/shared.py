@@ -13,6 +13,7 @@ host mishaps. In each fourth round number 0 is old.catalog of rm_test_outside, w
   in the folder of another number.
 bench/faults.sh (duplicates) fails each call of a duplicate. The first thing that is wrong is told with the seed of its round, and the status is 1."""
 import collections
+import contextlib
 import os
 import random
 import re
@@ -240,7 +241,8 @@ class Round:
 
     def new_place(self):
         """A number without records, and a folder that there is not."""
-        number = self.rng.choice([number for number in NEW if number not in rows_of(self.catalog)])
+        numbers, taken = [*NEW, self.rng.randrange(2**32)], {*NUMBERS, *rows_of(self.catalog)}
+        number = self.rng.choice([number for number in numbers if number not in taken])
         self.folders += 1
         return number, f"{self.room}/copies_{self.folders}"
 
@@ -271,17 +273,11 @@ class Round:
         dbid, copy = self.rng.randrange(1, 2**32), Copy(target)
         words = self.words(target, number, dbid, to)
         left = self.failing_put(words, to, copy) if copy.files and self.rng.random() < 0.3 else {}
-        is_full, lock = self.rng.random() < 0.2, f"{target.source.shared.folder}/{LOCK}"
-        is_without = self.rng.random() < 0.2 and bool(objects_of(target.source.shared.folder))
-        if is_without:
-            os.unlink(lock)
-        before = self.state()
-        with open("/dev/full", "w", encoding="utf-8") as full:
+        is_full, before = self.rng.random() < 0.2, self.state()
+        with open("/dev/full", "w", encoding="utf-8") as full, self.now_and_then_without_lock(target.source.shared.folder):
             how = self.make(words, full if is_full else subprocess.PIPE)
         same("a duplicate", how[:2], (4, []) if is_full else (0, copy.answers(dbid)))
         same("standard error of a duplicate", how.err[:22], "rman: standard output:" if is_full else "")
-        if is_without and os.path.exists(lock):
-            os.unlink(lock)
         after = self.hold_others("a duplicate", before, number, to)
         self.tally["lines that are not written"] += is_full
         objects = objects_of(to)
@@ -289,6 +285,16 @@ class Round:
         same("the copies of a duplicate whose put failed", {name: objects[name] for name in left}, left)
         same("the new number has records", bool(after[0].get(number)), True)
         self.open_duplicate(copy, number, to)
+
+    @contextlib.contextmanager
+    def now_and_then_without_lock(self, folder):
+        """A folder without its lock, where it has objects: a duplicate makes one, and leaves the rest."""
+        is_without = self.rng.random() < 0.2 and bool(objects_of(folder))
+        if is_without:
+            os.rename(f"{folder}/{LOCK}", f"{self.room}/lock")
+        yield
+        if is_without:
+            os.rename(f"{self.room}/lock", f"{folder}/{LOCK}")
 
     def failing_put(self, words, to, copy):
         """The same words where a put fails, since a folder has the name of a copy. Returns the copies that it leaves."""
