@@ -116,4 +116,10 @@ pub enum Refusal {
         file: FileNo,
         block: BlockNo,
     },
+    /// The increment of this number, which begins at `from`, does not meet the standby, which is at `standby`.
+    Rm19 {
+        increment: u64,
+        from: Scn,
+        standby: Scn,
+    },
 }

@@ -38,7 +38,7 @@ pub trait Keeper {
     /// and then id with each key once.
     ghost kept: { Self → Option (List Record) };
 
-    /// How often it has failed. At 2^64 - 1 it stands still.
+    /// How often it has failed.
     ghost faults: { Self → ℕ };
 
     /// The records, each once, in any order.

@@ -8,7 +8,7 @@ use Rattle.std.specs.Prelude.{codes}
 use Rattle.rm_catalog.specs.declared.record.Record.{Record}
 use Rattle.rm_catalog.specs.declared.record.Record.TheVariants as kind
 use Rattle.rm_catalog.specs.Keys.{key_of}
-use Rattle.rm_evidence.specs.Names.{log_name, object_id, object_name, piece_name, set_name, site_name}
+use Rattle.rm_evidence.specs.Names.{log_name, object_id, object_name, piece_name, roll_name, set_name, site_name}
 
 -- names that differ in a byte are not the same
 differ-at : (k : ℕ) (n m : List ℕ) → get_or n k 0 ≢ get_or m k 0 → n ≢ m
@@ -52,6 +52,19 @@ piece-no-set false a b = differ (piece_name false a) (set_name b) (λ e. absurd 
 
 pub set-no-site : (a b : ℕ) → set_name a ≢ site_name b
 set-no-site a b = differ-at 1 (set_name a) (site_name b) (λ e. absurd (omega (arith, e)))
+
+pub log-no-roll : (a b : ℕ) → log_name a ≢ roll_name b
+log-no-roll a b = differ (log_name a) (roll_name b) (λ e. absurd (omega (arith, e)))
+
+pub piece-no-roll : (c : Bool) (a b : ℕ) → piece_name c a ≢ roll_name b
+piece-no-roll true a b = differ (piece_name true a) (roll_name b) (λ e. absurd (omega (arith, e)))
+piece-no-roll false a b = differ (piece_name false a) (roll_name b) (λ e. absurd (omega (arith, e)))
+
+pub set-no-roll : (a b : ℕ) → set_name a ≢ roll_name b
+set-no-roll a b = differ (set_name a) (roll_name b) (λ e. absurd (omega (arith, e)))
+
+pub roll-no-site : (a b : ℕ) → roll_name a ≢ site_name b
+roll-no-site a b = differ (roll_name a) (site_name b) (λ e. absurd (omega (arith, e)))
 
 -- the names of two objects tell their ids, where those of one kind are of four bytes
 pub names-tell : (x r : Record) (i j : ℕ) (n : List ℕ) → object_id x ≡ Some i → object_id r ≡ Some j → ((key_of x).kind ≡ (key_of r).kind → i < 2 ^ 32) → j < 2 ^ 32 → object_name x ≡ Some n → object_name r ≡ Some n → i ≡ j

@@ -16,6 +16,10 @@ piece_name copy id = (if copy then codes "copy_" else codes "piece_") ++ decimal
 abbrev pub set_name : ℕ → List ℕ
 set_name id = codes "set_" ++ decimal id
 
+-- an increment for a standby, of which no record tells
+abbrev pub roll_name : ℕ → List ℕ
+roll_name id = codes "roll_" ++ decimal id
+
 -- a saved part of what stands in place
 abbrev pub site_name : ℕ → List ℕ
 site_name id = codes "site_" ++ decimal id

@@ -17,7 +17,7 @@ pub use database::{base_of, current_of, datafile, has_database, switches, thread
 pub use evidence::{Evidence, InPlace};
 pub use gathering::{EvidenceFault, gather};
 pub use looking::{look_for_log, look_for_piece, look_for_set};
-pub use naming::{id_fits, log_name, object_id, piece_name, set_name, site_name};
+pub use naming::{id_fits, log_name, object_id, piece_name, roll_name, set_name, site_name};
 pub use order::by_id;
 pub use place::fits_place;
 pub use reading::{log_object, piece_object};

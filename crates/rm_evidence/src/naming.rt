@@ -1,6 +1,6 @@
 //! The names under which objects stand.
 ghost use Rattle.std.specs.Prelude.{◌≡◌, ◌<◌, ◌^◌, IfOk};
-ghost use Rattle.rm_evidence.specs.Names.{log_name, object_id, piece_name, set_name, site_name};
+ghost use Rattle.rm_evidence.specs.Names.{log_name, object_id, piece_name, roll_name, set_name, site_name};
 ghost use Rattle.rm_evidence.specs.Taking.{HasId};
 
 use rm_base::{NoMemory, Text};
@@ -31,6 +31,13 @@ pub fn set_name(alloc: Global, id: u32) -> Result<Text, NoMemory>
     ensures { IfOk result (λ name. name ≡ set_name id) }
 {
     Ok(Text::from_string(format!(in alloc; "set_{id}")?))
+}
+
+/// The name of an increment for a standby: `roll_` and the id. A number that is no id is a name all the same.
+pub fn roll_name(alloc: Global, id: u64) -> Result<Text, NoMemory>
+    ensures { IfOk result (λ name. name ≡ roll_name id) }
+{
+    Ok(Text::from_string(format!(in alloc; "roll_{id}")?))
 }
 
 /// The name of a saved part of what stands in place: `site_` and the id.

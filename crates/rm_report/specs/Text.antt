@@ -13,7 +13,7 @@ use Rattle.rm_base.specs.declared.refusal.ThreadState.TheVariants.{Enabled, Disa
 use Rattle.rm_base.specs.declared.refusal.Unknown.{Unknown}
 use Rattle.rm_base.specs.declared.refusal.Unknown.TheVariants.{Entry, Tag, Log, Object, Byte}
 use Rattle.rm_base.specs.declared.refusal.Refusal.{Refusal}
-use Rattle.rm_base.specs.declared.refusal.Refusal.TheVariants.{Rm01, Rm02, Rm03, Rm04, Rm05, Rm06, Rm07, Rm08, Rm09, Rm10, Rm11, Rm12, Rm13, Rm14, Rm15, Rm16, Rm17, Rm18}
+use Rattle.rm_base.specs.declared.refusal.Refusal.TheVariants.{Rm01, Rm02, Rm03, Rm04, Rm05, Rm06, Rm07, Rm08, Rm09, Rm10, Rm11, Rm12, Rm13, Rm14, Rm15, Rm16, Rm17, Rm18, Rm19}
 use Rattle.rm_moments.specs.Shown.{moment_text}
 use Rattle.rm_history.specs.declared.tree.Standing.{Standing}
 use Rattle.rm_history.specs.declared.tree.Standing.TheVariants.{Current, Parent, Orphan}
@@ -30,7 +30,7 @@ use Rattle.rm_base.specs.declared.kinds.Policy.TheVariants.{Window, Redundancy a
 use Rattle.rm_report.specs.declared.line.SchemaPlace.{SchemaPlace}
 use Rattle.rm_report.specs.declared.line.SchemaPlace.TheVariants.{At, Lost, OffPath}
 use Rattle.rm_report.specs.declared.line.Line.{Line}
-use Rattle.rm_report.specs.declared.line.Line.TheVariants.{DatabaseAt, DatafileAt, Written, LogMade, NothingToArchive, Mounted, Opened, Chosen, Recovered, UntilIs, FileIs, BlockIs, BackedUp, NothingToBackUp, IncarnationIs, Dumped, Tracking, ThreadSwitched, Skipped, RestoredFrom, CreatedEmpty, Complete, GapIn, Merged, Stays, StartsAbove, BlockDamaged, Mended, ThreadScn, StatusOf, BadOf, Checked, Uncatalogued, Kept, NotKept, Deleted, DeletedCount, Obsolete, ObsoleteCount, NeedsBackup, NeedCount, Parallelism, Catalogued, FileLost, LogLost, Removed, Damaged, Cut, Renamed, UntilSet, ChannelAllocated, Schema, PieceIs, LogIs, Retention, DuplicatedDatafile, DuplicatedDatabase, Refused}
+use Rattle.rm_report.specs.declared.line.Line.TheVariants.{DatabaseAt, DatafileAt, Written, LogMade, NothingToArchive, Mounted, Opened, Chosen, Recovered, UntilIs, FileIs, BlockIs, BackedUp, NothingToBackUp, IncarnationIs, Dumped, Tracking, ThreadSwitched, Skipped, RestoredFrom, CreatedEmpty, Complete, GapIn, Merged, Stays, StartsAbove, BlockDamaged, Mended, ThreadScn, StatusOf, BadOf, Checked, Uncatalogued, Kept, NotKept, Deleted, DeletedCount, Obsolete, ObsoleteCount, NeedsBackup, NeedCount, Parallelism, Catalogued, FileLost, LogLost, Removed, Damaged, Cut, Renamed, UntilSet, ChannelAllocated, Schema, PieceIs, LogIs, Retention, DuplicatedDatafile, DuplicatedDatabase, Rolled, StandbyMade, StandbyRolled, Resynced, Refused}
 use Rattle.rm_report.specs.declared.line.Reply.{Reply}
 
 -- a byte's two digits in lower-case hexadecimal
@@ -103,6 +103,7 @@ refusal_text Rm15 = codes "RM-15: last SCN"
 refusal_text (Rm16 thread state) = codes "RM-16: thread " ++ (decimal thread ++ (codes " is " ++ thread_state_text state))
 refusal_text (Rm17 file block) = codes "RM-17: block " ++ (decimal block ++ (codes " of datafile " ++ (decimal file ++ codes " is damaged")))
 refusal_text (Rm18 file block) = codes "RM-18: block " ++ (decimal block ++ (codes " of datafile " ++ (decimal file ++ codes " isn't damaged")))
+refusal_text (Rm19 increment from standby) = codes "RM-19: increment " ++ (decimal increment ++ (codes " from " ++ (decimal from ++ (codes " does not meet standby at " ++ decimal standby))))
 
 -- a block's number, version and content
 abbrev pub block_text : ℕ → ℕ → Block → List ℕ
@@ -223,6 +224,10 @@ line_text (LogIs id thread sequence from next inc status keep) = codes "log " ++
 line_text (Retention policy) = policy_text policy
 line_text (DuplicatedDatafile file number) = codes "duplicated datafile " ++ (decimal file ++ (codes " as " ++ decimal number))
 line_text (DuplicatedDatabase dbid until files) = codes "duplicated database " ++ (decimal dbid ++ (codes " at " ++ (decimal until ++ (codes ": files " ++ decimal files))))
+line_text (Rolled id from checkpoint files rows) = codes "roll " ++ (decimal id ++ (codes " from " ++ (decimal from ++ (codes " checkpoint " ++ (decimal checkpoint ++ (codes " files " ++ (decimal files ++ (codes " rows " ++ decimal rows))))))))
+line_text (StandbyMade number checkpoint inc files) = codes "standby " ++ (decimal number ++ (codes " at " ++ (decimal checkpoint ++ (codes " of incarnation " ++ (decimal inc ++ (codes ": files " ++ decimal files))))))
+line_text (StandbyRolled number checkpoint inc files changed) = codes "standby " ++ (decimal number ++ (codes " at " ++ (decimal checkpoint ++ (codes " of incarnation " ++ (decimal inc ++ (codes ": files " ++ (decimal files ++ (codes " changed " ++ decimal changed))))))))
+line_text (Resynced records) = codes "resynced " ++ (decimal records ++ codes " records")
 line_text (Refused refusal) = refusal_text refusal
 
 -- the line tells of a file's blocks

@@ -10,8 +10,9 @@ use crate::line::{Line, Packing, Reply, Shape};
 use crate::lines::{
     push_bad_of, push_block_damaged, push_checked, push_duplicated_database,
     push_duplicated_datafile, push_gap_in, push_mended, push_merged, push_policy, push_record,
-    push_restored_from, push_schema, push_skipped, push_starts_above, push_status_of, push_stays,
-    push_thread_scn, push_thread_switched, push_tracking,
+    push_restored_from, push_rolled, push_schema, push_skipped, push_standby_made,
+    push_standby_rolled, push_starts_above, push_status_of, push_stays, push_thread_scn,
+    push_thread_switched, push_tracking,
 };
 use rm_base::{
     Absent, Block, BlockNo, Limit, Moment, NoMemory, Refusal, Scn, Seq, ThreadState, Unknown,
@@ -139,6 +140,27 @@ fn push_line(alloc: Global, out: &mut String, line: &Line) -> Result<(), AllocEr
         Line::DuplicatedDatabase { dbid, until, files } => {
             push_duplicated_database(out, *dbid, *until, *files)
         }
+        Line::Rolled {
+            id,
+            from,
+            checkpoint,
+            files,
+            rows,
+        } => push_rolled(out, *id, *from, *checkpoint, *files, *rows),
+        Line::StandbyMade {
+            number,
+            checkpoint,
+            inc,
+            files,
+        } => push_standby_made(out, *number, *checkpoint, *inc, *files),
+        Line::StandbyRolled {
+            number,
+            checkpoint,
+            inc,
+            files,
+            changed,
+        } => push_standby_rolled(out, *number, *checkpoint, *inc, *files, *changed),
+        Line::Resynced { records } => write!(out, "resynced {records} records"),
         Line::Refused(refusal) => push_refusal(alloc, out, refusal),
     }
 }
@@ -339,6 +361,16 @@ fn push_refusal(alloc: Global, out: &mut String, refusal: &Refusal) -> Result<()
         }
         Refusal::Rm18 { file, block } => {
             write!(out, "RM-18: block {block} of datafile {file} isn't damaged")
+        }
+        Refusal::Rm19 {
+            increment,
+            from,
+            standby,
+        } => {
+            write!(
+                out,
+                "RM-19: increment {increment} from {from} does not meet standby at {standby}"
+            )
         }
     }
 }

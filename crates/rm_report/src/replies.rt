@@ -1,0 +1,19 @@
+//! The reply of a refusal.
+ghost use Rattle.std.specs.Prelude.{◌≡◌, IfOk};
+ghost use Rattle.rm_report.specs.Reply.{refused_by};
+
+use crate::line::{Line, Reply};
+use rm_base::{NoMemory, Refusal, Seq};
+use std::alloc::Global;
+
+/// The reply of a refusal: its one line.
+pub fn refusal_reply(alloc: Global, refusal: Refusal) -> Result<Reply, NoMemory>
+    ensures { IfOk result (λ reply. reply ≡ refused_by refusal) }
+{
+    let mut lines = Seq::new(alloc);
+    lines.push(Line::Refused(refusal))?;
+    Ok(Reply {
+        lines,
+        refused: true,
+    })
+}
