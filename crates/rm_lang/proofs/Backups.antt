@@ -9,17 +9,19 @@ use Rattle.rm_lang_grammar.specs.Spelling.{is_capital_tag, is_shown, is_some_lis
 use Rattle.rm_lang_grammar.proofs.Found.{some_same}
 use Rattle.rm_lang_reading.specs.declared.backup.BackupAs.{BackupAs}
 use Rattle.rm_lang_reading.specs.declared.backup.BackupAs.TheVariants.{Copy, Sets}
+use Rattle.rm_lang_reading.specs.declared.backup.Increment.{Increment}
+use Rattle.rm_lang_reading.specs.declared.backup.Increment.TheVariants.{Level as OfLevel, From as FromScn}
 use Rattle.rm_lang_statement.specs.declared.command.WriteForm.{WriteForm}
 use Rattle.rm_lang_statement.specs.declared.command.BackupForm.{BackupForm}
 use Rattle.rm_lang_statement.specs.declared.command.Command.{Command}
-use Rattle.rm_lang_statement.specs.declared.command.Command.TheVariants.{Backup}
+use Rattle.rm_lang_statement.specs.declared.command.Command.TheVariants.{Backup, BackupFrom}
 use Rattle.rm_lang_statement.specs.Named.{in_order, are_named}
 use Rattle.rm_lang_statement.specs.Texts.{content}
 use Rattle.rm_lang_reading.specs.Creating.{write_part, written}
-use Rattle.rm_lang_reading.specs.Backups.{as_line, kind_of, is_copy, level_line, level_of, number_of, is_cumulative, merge_line, merge_tag_of, database_line, files_line, files_of, sets_line, per_set_of, tag_line, tag_of, keep_line, during_line, during_of, backup_line, backup_of, agreed}
+use Rattle.rm_lang_reading.specs.Backups.{as_line, kind_of, is_copy, increment_line, increment_of, number_of, is_cumulative, merge_line, merge_tag_of, database_line, files_line, files_of, sets_line, per_set_of, tag_line, tag_of, keep_line, during_line, during_of, backup_line, backup_of, agreed, is_plain, saved}
 use Rattle.rm_lang_statement.specs.Agreed.{is_one, agrees_in_level, agrees_in_merge, agrees_in_sets, agrees}
-use Rattle.rm_lang_statement.specs.IsCommand.{is_write, is_backup}
-use Rattle.rm_lang_reading.specs.Values.{write_values, kind_values, kind_asked, level_values, level_asked, merge_values, files_values, sets_values, tag_values, keep_values, during_values, backup_values}
+use Rattle.rm_lang_statement.specs.IsCommand.{is_write, is_backup, is_command}
+use Rattle.rm_lang_reading.specs.Values.{write_values, kind_values, kind_asked, increment_values, level_asked, merge_values, files_values, sets_values, tag_values, keep_values, during_values, backup_values}
 use Rattle.rm_lang_reading.proofs.InOrder.{in_order-named, named-in_order}
 use Rattle.rm_lang_reading.proofs.Parts.{copy_again, merge_again, files_again, sets_again, tag_again, keep_again, during_again}
 
@@ -54,11 +56,11 @@ tested b h =
     let five = and_parts merge during four.1 in
     record { level = one.0; files = two.0; sets = three.0; tag = four.0; merge = five.0; during = five.1; apart = all.1 }
 
-level_kept : (cumulative : Bool) (o : Option ℕ) → option_map number_of (option_map level_of (option_map level_values (option_map (level_asked cumulative) o))) ≡ o
+level_kept : (cumulative : Bool) (o : Option ℕ) → number_of (option_map increment_of (option_map increment_values (option_map (level_asked cumulative) o))) ≡ o
 level_kept cumulative None = refl
 level_kept cumulative (Some n) = refl
 
-cumulative_kept : (cumulative : Bool) (o : Option ℕ) → (not cumulative || is_one o) ≡ true → is_cumulative (option_map level_of (option_map level_values (option_map (level_asked cumulative) o))) ≡ cumulative
+cumulative_kept : (cumulative : Bool) (o : Option ℕ) → (not cumulative || is_one o) ≡ true → is_cumulative (option_map increment_of (option_map increment_values (option_map (level_asked cumulative) o))) ≡ cumulative
 cumulative_kept true None h = absurd (cc)
 cumulative_kept false None h = refl
 cumulative_kept cumulative (Some n) h = refl
@@ -77,20 +79,26 @@ with_as : (copy : Bool) → is_some (option_map kind_of (option_map kind_values 
 with_as true = refl
 with_as false = refl
 
-pub backup_means : (b : BackupForm) → is_backup b ≡ true → agreed (is_some (option_map kind_of (option_map kind_values (kind_asked b.copy)))) (backup_of (backup_values b)) ≡ Some (Backup b)
+-- with a level or none it is a backup
+saved_agreed : (cumulative : Bool) (o : Option ℕ) (asked : Bool) (b : BackupForm) → saved (option_map increment_of (option_map increment_values (option_map (level_asked cumulative) o))) asked b ≡ agreed asked b
+saved_agreed cumulative None asked b = refl
+saved_agreed cumulative (Some n) asked b = refl
+
+pub backup_means : (b : BackupForm) → is_backup b ≡ true
+    → saved (option_map increment_of (option_map increment_values (option_map (level_asked b.cumulative) b.level))) (is_some (option_map kind_of (option_map kind_values (kind_asked b.copy)))) (backup_of (backup_values b)) ≡ Some (Backup b)
 backup_means b h =
     let asked = is_some (option_map kind_of (option_map kind_values (kind_asked b.copy))) in
     let stays : agreed asked b ≡ Some (Backup b) = subst (λ a. agreed a b ≡ Some (Backup b)) (sym (with_as b.copy)) (rw (tested b h).apart refl) in
-    subst (λ (f : BackupForm). agreed asked f ≡ Some (Backup b)) (sym (backup_again b h)) stays
+    saved_agreed b.cumulative b.level asked (backup_of (backup_values b)) ∙ subst (λ (f : BackupForm). agreed asked f ≡ Some (Backup b)) (sym (backup_again b h)) stays
 
 -- and its values are valid
 kind_valid : (copy : Bool) → maybe_valid (valid as_line) (option_map kind_values (kind_asked copy)) ≡ true
 kind_valid true = refl
 kind_valid false = refl
 
-level_valid : (cumulative : Bool) (o : Option ℕ) → maybe_valid (in_range 0 1) o ≡ true → maybe_valid (valid level_line) (option_map level_values (option_map (level_asked cumulative) o)) ≡ true
+level_valid : (cumulative : Bool) (o : Option ℕ) → maybe_valid (in_range 0 1) o ≡ true → maybe_valid (valid increment_line) (option_map increment_values (option_map (level_asked cumulative) o)) ≡ true
 level_valid cumulative None h = refl
-level_valid cumulative (Some n) h = and_from (in_range 0 1 n) true h refl
+level_valid cumulative (Some n) h = and_from (in_range 0 1 n && true) true (and_from (in_range 0 1 n) true h refl) refl
 
 merge_valid : (o : Option (List ℕ)) → maybe_valid is_capital_tag o ≡ true → maybe_valid (valid merge_line) (option_map merge_values o) ≡ true
 merge_valid None h = refl
@@ -129,9 +137,10 @@ backup_valid b h =
     rw (kind_valid b.copy, level_valid b.cumulative b.level t.level, merge_valid b.merge_tag t.merge, files_valid b.files t.files, sets_valid b.files_per_set t.sets, tag_valid b.tag t.tag, keep_valid b.keep, during_valid b.during t.during) refl
 
 -- the backup of valid values passes the test
-level_passes : (o : Option (Values level_line)) → maybe_valid (valid level_line) o ≡ true → maybe_valid (in_range 0 1) (option_map number_of (option_map level_of o)) ≡ true
+level_passes : (o : Option (Values increment_line)) → maybe_valid (valid increment_line) o ≡ true → maybe_valid (in_range 0 1) (number_of (option_map increment_of o)) ≡ true
 level_passes None h = refl
-level_passes (Some v) h = (and_parts (in_range 0 1 v.0) true h).0
+level_passes (Some (first v, t)) h = (and_parts (in_range 0 1 v.0) true (and_parts (in_range 0 1 v.0 && true) true h).0).0
+level_passes (Some (second v, t)) h = refl
 
 merge_passes : (o : Option (Values merge_line)) → maybe_valid (valid merge_line) o ≡ true → maybe_valid is_capital_tag (option_map merge_tag_of o) ≡ true
 merge_passes None h = refl
@@ -174,15 +183,15 @@ agreed_parts : (a : Bool) (b : BackupForm) (c : Command) → cond a (Some (Backu
 agreed_parts true b c e = (refl, some_same e)
 agreed_parts false b c e = absurd (cc)
 
-pub backup_passes : (v : Values backup_line) (c : Command) → valid backup_line v ≡ true → agreed (is_some (option_map kind_of v.0)) (backup_of v) ≡ Some c → (is_backup (backup_of v) ≡ true) × (Backup (backup_of v) ≡ c)
-backup_passes v c h m =
+agreed_passes : (v : Values backup_line) (c : Command) → valid backup_line v ≡ true → agreed (is_some (option_map kind_of v.0)) (backup_of v) ≡ Some c → (is_backup (backup_of v) ≡ true) × (Backup (backup_of v) ≡ c)
+agreed_passes v c h m =
     let during = maybe_valid (valid during_line) v.1.1.1.1.1.1.1.0 && true in
     let keep = maybe_valid (valid keep_line) v.1.1.1.1.1.1.0 in
     let tag = maybe_valid (valid tag_line) v.1.1.1.1.1.0 in
     let sets = maybe_valid (valid sets_line) v.1.1.1.1.0 in
     let files = one_valid (valid database_line) (valid files_line) v.1.1.1.0 in
     let merge = maybe_valid (valid merge_line) v.1.1.0 in
-    let level = maybe_valid (valid level_line) v.1.0 in
+    let level = maybe_valid (valid increment_line) v.1.0 in
     let p = and_parts (maybe_valid (valid as_line) v.0) (level && (merge && (files && (sets && (tag && (keep && during)))))) h in
     let q = and_parts level (merge && (files && (sets && (tag && (keep && during))))) p.1 in
     let r = and_parts merge (files && (sets && (tag && (keep && during)))) q.1 in
@@ -197,3 +206,18 @@ backup_passes v c h m =
     let a = and_parts (agrees_in_level (backup_of v)) (agrees_in_merge kind (backup_of v)) both.0 in
     let merged = agrees_too (option_map kind_of v.0) (backup_of v) a.1 in
     (rw (level_passes v.1.0 q.0, merge_passes v.1.1.0 r.0, files_pass v.1.1.1.0 s.0, sets_pass v.1.1.1.1.0 n.0, tag_passes v.1.1.1.1.1.0 t.0, during_passes v.1.1.1.1.1.1.1.0 w.0, a.0, merged, both.1) refl, k.1)
+
+saved_passes : (i : Option Increment) (asked : Bool) (b : BackupForm) (c : Command) → (agreed asked b ≡ Some c → is_command c ≡ true) → saved i asked b ≡ Some c → is_command c ≡ true
+saved_passes None asked b c agreeing m = agreeing m
+saved_passes (Some (OfLevel l)) asked b c agreeing m = agreeing m
+saved_passes (Some (FromScn scn)) asked b c agreeing m = go (is_plain asked b) m
+  where
+    go : (plain : Bool) → cond plain (Some (BackupFrom scn)) None ≡ Some c → is_command c ≡ true
+    go true e = subst (λ d. is_command d ≡ true) (some_same e) refl
+    go false e = absurd (cc)
+
+-- the command that valid values mean passes the test
+pub backup_passes : (v : Values backup_line) (c : Command) → valid backup_line v ≡ true → saved (option_map increment_of v.1.0) (is_some (option_map kind_of v.0)) (backup_of v) ≡ Some c → is_command c ≡ true
+backup_passes v c h m =
+    saved_passes (option_map increment_of v.1.0) (is_some (option_map kind_of v.0)) (backup_of v) c
+    (λ a. let p = agreed_passes v c h a in subst (λ d. is_command d ≡ true) p.1 p.0) m

@@ -8,7 +8,7 @@ use Rattle.rm_lang_grammar.specs.Endings.{quiet}
 use Rattle.rm_lang_grammar.proofs.Endings.{starts_quietly}
 use Rattle.rm_lang_reading.specs.declared.upkeep.Deletion.TheVariants.{Obsolete, One, Expired}
 use Rattle.rm_lang_statement.specs.declared.command.Command.{Command}
-use Rattle.rm_lang_statement.specs.declared.command.Command.TheVariants.{CreateDatabase, CreateDatafile, Write, SwitchLogfile, ArchiveLogCurrent, Mount, OpenPlain, OpenResetlogs, Tracking, SwitchThread, ResetDatabase, Restore, Preview, Recover, RecoverTest, RecoverCopy, Backup, BackupLogs, Crosscheck, ValidateAll, ChangeBackup, DeleteObsolete, DeleteBackup, DeleteExpired, ReportObsolete, ReportNeedBackup, ReportSchema, ListIncarnation, ListBackup, ListCopy, ListArchived, ShowAll, Dump, Retention, Parallelism, CatalogName, LoseDatafile, LoseLog, Remove, Damage, Cut, Rename, Corrupt, ListCorruption, BlockRecover}
+use Rattle.rm_lang_statement.specs.declared.command.Command.TheVariants.{CreateDatabase, CreateDatafile, Write, SwitchLogfile, ArchiveLogCurrent, Mount, OpenPlain, OpenResetlogs, Tracking, SwitchThread, ResetDatabase, Restore, Preview, Recover, RecoverTest, RecoverCopy, Backup, BackupFrom, BackupLogs, Crosscheck, ValidateAll, ChangeBackup, DeleteObsolete, DeleteBackup, DeleteExpired, ReportObsolete, ReportNeedBackup, ReportSchema, ListIncarnation, ListBackup, ListCopy, ListArchived, ShowAll, Dump, Retention, Parallelism, CatalogName, LoseDatafile, LoseLog, Remove, Damage, Cut, Rename, Corrupt, ListCorruption, BlockRecover}
 use Rattle.rm_lang_reading.specs.Creating.{create_database_line, write_line, create_datafile_line, switch_logfile_line, archive_log_line, track_line, untrack_line, enable_thread_line, disable_thread_line}
 use Rattle.rm_lang_reading.specs.Modes.{startup_line, reset_database_line, open_database_line}
 use Rattle.rm_lang_reading.specs.Recovering.{restore_line, restore_datafile_line, recover_line, recover_copy_line}
@@ -18,7 +18,7 @@ use Rattle.rm_lang_reading.specs.Upkeep.{crosscheck_line, validate_line, change_
 use Rattle.rm_lang_reading.specs.Asking.{report_obsolete_line, report_need_backup_line, report_schema_line, list_incarnation_line, list_backup_line, list_copy_line, list_archived_line, list_corruption_line, show_line, dump_line}
 use Rattle.rm_lang_reading.specs.Settings.{retention_line, parallelism_line, catalog_line}
 use Rattle.rm_lang_reading.specs.Mishaps.{lose_datafile_line, lose_log_line, corrupt_line, remove_line, damage_line, cut_line, rename_line}
-use Rattle.rm_lang_reading.specs.Values.{write_values, until_values, incarnation_values, backup_values, repair_values, class_choice, change_choice, deletion_choice, retention_choice}
+use Rattle.rm_lang_reading.specs.Values.{write_values, until_values, incarnation_values, backup_values, from_values, repair_values, class_choice, change_choice, deletion_choice, retention_choice}
 use Rattle.rm_lang.specs.Spelling.{tokens_of}
 
 -- the tokens spell a line in which a statement ends at the last token, and none where a brace of a RUN is open
@@ -50,6 +50,7 @@ told (Recover until) = record { line = recover_line; values = (option_map until_
 told (RecoverTest until inc) = record { line = recover_line; values = (option_map until_values until, (option_map incarnation_values inc, (true, tt))); is = refl; alone = refl; inside = refl }
 told (RecoverCopy tag until) = record { line = recover_copy_line; values = (tag, (option_map until_values until, tt)); is = refl; alone = refl; inside = refl }
 told (Backup b) = record { line = backup_line; values = (backup_values b); is = refl; alone = refl; inside = refl }
+told (BackupFrom scn) = record { line = backup_line; values = from_values scn; is = refl; alone = refl; inside = refl }
 told BackupLogs = record { line = backup_logs_line; values = tt; is = refl; alone = refl; inside = refl }
 told (BlockRecover form) = record { line = block_recover_line; values = repair_values form; is = refl; alone = refl; inside = refl }
 told (Crosscheck class) = record { line = crosscheck_line; values = (class_choice class, tt); is = refl; alone = refl; inside = refl }

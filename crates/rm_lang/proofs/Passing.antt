@@ -121,8 +121,8 @@ recover_copy_passes = record {
 backup_form_passes : Passes is_command backup
 unfolding backup
 backup_form_passes = record {
-  are_faithful = ((tt, tt, tt), (tt, (tt, (tt, tt, (tt, (tt, (tt, ((((content-faithful, tt), tt)), tt))))))));
-  passed = λ vs c v m. let p = backup_passes vs c v m in subst (λ d. is_command d ≡ true) p.1 p.0;
+  are_faithful = ((tt, tt, tt), ((tt, tt, tt), (tt, (tt, tt, (tt, (tt, (tt, ((((content-faithful, tt), tt)), tt))))))));
+  passed = backup_passes;
 }
 
 block_recover_passes : Passes is_command block_recover

@@ -16,10 +16,10 @@ use Rattle.rm_lang_statement.specs.declared.command.ChangeTo.TheVariants.{Availa
 use Rattle.rm_lang_statement.specs.declared.command.RetentionForm.{RetentionForm}
 use Rattle.rm_lang_statement.specs.declared.command.RetentionForm.TheVariants.{Window, Redundancy, Nothing, Clear}
 use Rattle.rm_lang_statement.specs.declared.command.Command.{Command}
-use Rattle.rm_lang_statement.specs.declared.command.Command.TheVariants.{CreateDatabase, CreateDatafile, Write, SwitchLogfile, ArchiveLogCurrent, Mount, OpenPlain, OpenResetlogs, Tracking, SwitchThread, ResetDatabase, Restore, Preview, Recover, RecoverTest, RecoverCopy, Backup, BackupLogs, Crosscheck, ValidateAll, ChangeBackup, DeleteObsolete, DeleteBackup, DeleteExpired, ReportObsolete, ReportNeedBackup, ReportSchema, ListIncarnation, ListBackup, ListCopy, ListArchived, ShowAll, Dump, Retention, Parallelism, CatalogName, LoseDatafile, LoseLog, Remove, Damage, Cut, Rename, Corrupt, ListCorruption, BlockRecover}
+use Rattle.rm_lang_statement.specs.declared.command.Command.TheVariants.{CreateDatabase, CreateDatafile, Write, SwitchLogfile, ArchiveLogCurrent, Mount, OpenPlain, OpenResetlogs, Tracking, SwitchThread, ResetDatabase, Restore, Preview, Recover, RecoverTest, RecoverCopy, Backup, BackupFrom, BackupLogs, Crosscheck, ValidateAll, ChangeBackup, DeleteObsolete, DeleteBackup, DeleteExpired, ReportObsolete, ReportNeedBackup, ReportSchema, ListIncarnation, ListBackup, ListCopy, ListArchived, ShowAll, Dump, Retention, Parallelism, CatalogName, LoseDatafile, LoseLog, Remove, Damage, Cut, Rename, Corrupt, ListCorruption, BlockRecover}
 use Rattle.rm_lang_statement.specs.IsCommand.{is_command, is_until_or_none, is_retention}
 use Rattle.rm_lang_reading.specs.Language.{mishap_forms, setting_forms, asking_forms, upkeep_forms, backup_forms, repair_forms, recovery_forms, mode_forms, switch_forms, forms}
-use Rattle.rm_lang_reading.specs.Values.{write_values, until_values, incarnation_values, backup_values, repair_values, class_choice, change_choice, deletion_choice, retention_choice}
+use Rattle.rm_lang_reading.specs.Values.{write_values, until_values, incarnation_values, backup_values, from_values, repair_values, class_choice, change_choice, deletion_choice, retention_choice}
 use Rattle.rm_lang.specs.Spelling.{tokens_of}
 use Rattle.rm_lang_statement.specs.Texts.{content, anything, plain, is_new_name, new_name, is_text}
 use Rattle.rm_lang_reading.specs.Creating.{create_database, write, create_datafile, switch_logfile, archive_log, track, untrack, enable_thread, disable_thread}
@@ -99,6 +99,7 @@ tokens_of-is (RecoverCopy tag until) h =
     let b = and_parts (is_capital_tag tag) (is_until_or_none until) h in
     by_values forms 16 recover_copy (tag, (option_map until_values until, tt)) (RecoverCopy tag until) refl (rw (b.0, until_valid until b.1) refl) (rw (until_again until) refl)
 tokens_of-is (Backup b) h = by_values forms 18 backup (backup_values b) (Backup b) refl (backup_valid b h) (backup_means b h)
+tokens_of-is (BackupFrom scn) h = by_values forms 18 backup (from_values scn) (BackupFrom scn) refl refl refl
 tokens_of-is BackupLogs h = by_values forms 19 backup_logs tt BackupLogs refl refl refl
 tokens_of-is (BlockRecover form) h = by_values forms 17 block_recover (repair_values form) (BlockRecover form) refl (repair_valid form h) (rw (repair_again form h) refl)
 tokens_of-is (Crosscheck class) h = by_values forms 20 crosscheck (class_choice class, tt) (Crosscheck class) refl (class_valid class) (rw (class_again class) refl)

@@ -8,7 +8,7 @@ use Rattle.rm_lang_token.specs.Statements.{statements}
 use Rattle.rm_lang_grammar.specs.Spelling.{spelled}
 use Rattle.rm_lang_reading.specs.declared.upkeep.Deletion.TheVariants.{Obsolete, One, Expired}
 use Rattle.rm_lang_statement.specs.declared.command.Command.{Command}
-use Rattle.rm_lang_statement.specs.declared.command.Command.TheVariants.{CreateDatabase, CreateDatafile, Write, SwitchLogfile, ArchiveLogCurrent, Mount, OpenPlain, OpenResetlogs, Tracking, SwitchThread, ResetDatabase, Restore, Preview, Recover, RecoverTest, RecoverCopy, Backup, BackupLogs, Crosscheck, ValidateAll, ChangeBackup, DeleteObsolete, DeleteBackup, DeleteExpired, ReportObsolete, ReportNeedBackup, ReportSchema, ListIncarnation, ListBackup, ListCopy, ListArchived, ShowAll, Dump, Retention, Parallelism, CatalogName, LoseDatafile, LoseLog, Remove, Damage, Cut, Rename, Corrupt, ListCorruption, BlockRecover}
+use Rattle.rm_lang_statement.specs.declared.command.Command.TheVariants.{CreateDatabase, CreateDatafile, Write, SwitchLogfile, ArchiveLogCurrent, Mount, OpenPlain, OpenResetlogs, Tracking, SwitchThread, ResetDatabase, Restore, Preview, Recover, RecoverTest, RecoverCopy, Backup, BackupFrom, BackupLogs, Crosscheck, ValidateAll, ChangeBackup, DeleteObsolete, DeleteBackup, DeleteExpired, ReportObsolete, ReportNeedBackup, ReportSchema, ListIncarnation, ListBackup, ListCopy, ListArchived, ShowAll, Dump, Retention, Parallelism, CatalogName, LoseDatafile, LoseLog, Remove, Damage, Cut, Rename, Corrupt, ListCorruption, BlockRecover}
 use Rattle.rm_lang_statement.specs.declared.command.Inner.{Inner}
 use Rattle.rm_lang_statement.specs.declared.command.Inner.TheVariants.{SetUntil, AllocateChannel, Plain as PlainInner}
 use Rattle.rm_lang_statement.specs.declared.command.Statement.{Statement}
@@ -23,7 +23,7 @@ use Rattle.rm_lang_reading.specs.Asking.{report_obsolete_line, report_need_backu
 use Rattle.rm_lang_reading.specs.Settings.{retention_line, parallelism_line, catalog_line}
 use Rattle.rm_lang_reading.specs.Mishaps.{lose_datafile_line, lose_log_line, corrupt_line, remove_line, damage_line, cut_line, rename_line}
 use Rattle.rm_lang_reading.specs.Language.{set_until_line, allocate_line, IsStatement}
-use Rattle.rm_lang_reading.specs.Values.{write_values, until_values, incarnation_values, backup_values, repair_values, class_choice, change_choice, deletion_choice, retention_choice}
+use Rattle.rm_lang_reading.specs.Values.{write_values, until_values, incarnation_values, backup_values, from_values, repair_values, class_choice, change_choice, deletion_choice, retention_choice}
 
 -- the tokens that spell the command
 abbrev pub tokens_of : Command → List Token
@@ -47,6 +47,7 @@ tokens_of (Recover until) = spelled recover_line (option_map until_values until,
 tokens_of (RecoverTest until inc) = spelled recover_line (option_map until_values until, (option_map incarnation_values inc, (true, tt)))
 tokens_of (RecoverCopy tag until) = spelled recover_copy_line (tag, (option_map until_values until, tt))
 tokens_of (Backup b) = spelled backup_line (backup_values b)
+tokens_of (BackupFrom scn) = spelled backup_line (from_values scn)
 tokens_of BackupLogs = spelled backup_logs_line tt
 tokens_of (BlockRecover form) = spelled block_recover_line (repair_values form)
 tokens_of (Crosscheck class) = spelled crosscheck_line (class_choice class, tt)

@@ -4,9 +4,9 @@ ghost use Rattle.std.specs.Option.{option_map};
 ghost use Rattle.std.specs.List.{list_all};
 ghost use Rattle.rm_lang_grammar.specs.Spelling.{spelled, maybe_spelled, one_spelled, many_spelled, is_capital_tag, maybe_valid};
 ghost use Rattle.rm_lang_reading.specs.Creating.{write_part, write_line};
-ghost use Rattle.rm_lang_reading.specs.Backups.{as_line, level_line, merge_line, database_line, files_line, sets_line, tag_line, keep_line, during_line, backup_line};
+ghost use Rattle.rm_lang_reading.specs.Backups.{as_line, increment_line, merge_line, database_line, files_line, sets_line, tag_line, keep_line, during_line, backup_line};
 ghost use Rattle.rm_lang_statement.specs.IsCommand.{is_write, is_backup};
-ghost use Rattle.rm_lang_reading.specs.Values.{write_values, kind_values, kind_asked, level_values, level_asked, merge_values, files_values, sets_values, tag_values, keep_values, during_values, backup_values};
+ghost use Rattle.rm_lang_reading.specs.Values.{write_values, kind_values, kind_asked, increment_values, level_asked, merge_values, files_values, sets_values, tag_values, keep_values, during_values, backup_values, from_values};
 
 use rm_base::{NoMemory, Seq, Text};
 use rm_lang_grammar::Spelling;
@@ -55,7 +55,7 @@ fn kind(alloc: Global, copy: bool) -> Result<Spelling, NoMemory>
 
 // The level, if there is one.
 fn level(alloc: Global, level: Option<u8>, cumulative: bool) -> Result<Spelling, NoMemory>
-    ensures { IfOk result (λ ts. ts ≡ maybe_spelled (spelled level_line) (option_map level_values (option_map (level_asked cumulative) level))) }
+    ensures { IfOk result (λ ts. ts ≡ maybe_spelled (spelled increment_line) (option_map increment_values (option_map (level_asked cumulative) level))) }
 {
     let mut spelling = Spelling::new(alloc);
     if let Some(level) = level {
@@ -176,6 +176,20 @@ pub fn backup(alloc: Global, form: &BackupForm) -> Result<Spelling, NoMemory>
     spelling.append(tag(alloc, &form.tag)?)?;
     spelling.append(keep(alloc, form.keep)?)?;
     spelling.append(during(alloc, &form.during)?)?;
+    spelling.sign(b';')?;
+    Ok(spelling)
+}
+
+pub fn backup_from(alloc: Global, scn: u64) -> Result<Spelling, NoMemory>
+    ensures { IfOk result (λ ts. ts ≡ spelled backup_line (from_values scn)) }
+{
+    let mut spelling = Spelling::new(alloc);
+    spelling.word("BACKUP")?;
+    spelling.word("INCREMENTAL")?;
+    spelling.word("FROM")?;
+    spelling.word("SCN")?;
+    spelling.number(scn)?;
+    spelling.word("DATABASE")?;
     spelling.sign(b';')?;
     Ok(spelling)
 }

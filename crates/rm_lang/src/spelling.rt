@@ -5,7 +5,7 @@ ghost use Rattle.rm_lang_token.specs.Tokens.{feeds};
 ghost use Rattle.rm_lang_statement.specs.IsCommand.{is_command, is_inner, is_statement};
 ghost use Rattle.rm_lang.specs.Spelling.{tokens_of, inner_tokens, statement_tokens, ReadsAs};
 
-use crate::backup::{backup, write};
+use crate::backup::{backup, backup_from, write};
 use crate::plain::{
     allocate, archive_log, backup_logs, catalog, corrupt, create_database, create_datafile, cut,
     damage, disable_thread, dump, enable_thread, list_archived, list_backup, list_copy,
@@ -55,6 +55,7 @@ fn command(alloc: Global, command: &Command) -> Result<Spelling, NoMemory>
         Command::RecoverTest { until, inc } => recover_test(alloc, until, *inc),
         Command::RecoverCopy { tag, until } => recover_copy(alloc, tag, until),
         Command::Backup(form) => backup(alloc, form),
+        Command::BackupFrom { scn } => backup_from(alloc, *scn),
         Command::BackupLogs => backup_logs(alloc),
         Command::BlockRecover(form) => block_recover(alloc, form),
         Command::Crosscheck { class } => crosscheck(alloc, *class),

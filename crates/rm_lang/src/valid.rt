@@ -188,6 +188,7 @@ pub fn is_command(command: &Command) -> bool
             is_capital_tag(tag.as_bytes()) && is_until_or_none(until)
         }
         Command::Backup(form) => is_backup(form),
+        Command::BackupFrom { .. } => true,
         Command::BackupLogs => true,
         Command::BlockRecover(form) => is_repair(form),
         Command::Crosscheck { .. } => true,

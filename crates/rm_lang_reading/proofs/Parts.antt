@@ -5,7 +5,8 @@ use Rattle.rm_base.specs.declared.kinds.Class.{Class}
 use Rattle.rm_base.specs.declared.kinds.Class.TheVariants.{Backup as BackupClass, Copy as CopyClass, Archived}
 use Rattle.rm_lang_reading.specs.declared.backup.BackupAs.{BackupAs}
 use Rattle.rm_lang_reading.specs.declared.backup.BackupAs.TheVariants.{Copy, Sets}
-use Rattle.rm_lang_reading.specs.declared.backup.Level.{Level}
+use Rattle.rm_lang_reading.specs.declared.backup.Increment.{Increment}
+use Rattle.rm_lang_reading.specs.declared.backup.Increment.TheVariants.{Level as OfLevel, From as FromScn}
 use Rattle.rm_lang_reading.specs.declared.upkeep.Deletion.{Deletion}
 use Rattle.rm_lang_reading.specs.declared.upkeep.Deletion.TheVariants.{Obsolete, One, Expired}
 use Rattle.rm_lang_statement.specs.declared.command.Until.{Until}
@@ -19,11 +20,11 @@ use Rattle.rm_lang_statement.specs.declared.command.RetentionForm.TheVariants.{W
 use Rattle.rm_lang_statement.specs.Named.{in_order}
 use Rattle.rm_lang_reading.specs.Creating.{written}
 use Rattle.rm_lang_reading.specs.Recovering.{until_by, until_of, incarnation_of}
-use Rattle.rm_lang_reading.specs.Backups.{kind_of, is_copy, level_of, merge_tag_of, files_of, per_set_of, tag_of, stands, during_of}
+use Rattle.rm_lang_reading.specs.Backups.{kind_of, is_copy, increment_of, merge_tag_of, files_of, per_set_of, tag_of, stands, during_of}
 use Rattle.rm_lang_reading.specs.Repairs.{ordered, blocks_of}
 use Rattle.rm_lang_reading.specs.Upkeep.{class_by, change_by, deletion_by}
 use Rattle.rm_lang_reading.specs.Settings.{retention_by}
-use Rattle.rm_lang_reading.specs.Values.{write_values, until_choice, until_values, incarnation_values, kind_values, kind_asked, level_values, merge_values, files_values, sets_values, tag_values, keep_values, during_values, blocks_values, class_choice, change_choice, deletion_choice, retention_choice}
+use Rattle.rm_lang_reading.specs.Values.{write_values, until_choice, until_values, incarnation_values, kind_values, kind_asked, increment_values, merge_values, files_values, sets_values, tag_values, keep_values, during_values, blocks_values, class_choice, change_choice, deletion_choice, retention_choice}
 
 pub choice_again : (u : Until) → until_by (until_choice u) ≡ u
 choice_again (Scn n) = refl
@@ -47,9 +48,10 @@ pub copy_again : (copy : Bool) → is_copy (option_map kind_of (option_map kind_
 copy_again true = refl
 copy_again false = refl
 
-pub level_again : (o : Option Level) → option_map level_of (option_map level_values o) ≡ o
-level_again None = refl
-level_again (Some l) = refl
+pub increment_again : (o : Option Increment) → option_map increment_of (option_map increment_values o) ≡ o
+increment_again None = refl
+increment_again (Some (OfLevel l)) = refl
+increment_again (Some (FromScn scn)) = refl
 
 pub merge_again : (o : Option (List ℕ)) → option_map merge_tag_of (option_map merge_values o) ≡ o
 merge_again None = refl
@@ -106,4 +108,4 @@ retention_again (Redundancy count) = refl
 retention_again Nothing = refl
 retention_again Clear = refl
 
-pub ruleset parts = (choice_again, until_again, incarnation_again, kind_again, level_again, merge_again, files_again, sets_again, tag_again, keep_again, during_again, blocks_again, class_again, change_again, deletion_again, retention_again)
+pub ruleset parts = (choice_again, until_again, incarnation_again, kind_again, increment_again, merge_again, files_again, sets_again, tag_again, keep_again, during_again, blocks_again, class_again, change_again, deletion_again, retention_again)

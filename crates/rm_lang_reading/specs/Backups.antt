@@ -1,17 +1,19 @@
 -- The statements that make backups, and the command that each one is.
-use Rattle.std.specs.Prelude.{ℕ, Bool, true, false, if◌then◌else◌, is_some, List, Option, Some, None, codes, map}
+use Rattle.std.specs.Prelude.{ℕ, Bool, true, false, not, ◌&&◌, if◌then◌else◌, is_some, List, Option, Some, None, codes, map}
 use Rattle.std.specs.Option.{option_map}
 use Rattle.rm_lang_token.specs.declared.token.Token.{Token}
-use Rattle.rm_lang_grammar.specs.Grammar.{◌▸◌, Grammar, Values, Choice, first, second, end, semicolon, word, flag, number, tag, optional, either, numbers, sign, many, in_range}
+use Rattle.rm_lang_grammar.specs.Grammar.{◌▸◌, Grammar, Values, Choice, first, second, end, semicolon, word, flag, number, tag, optional, either, numbers, sign, many, any, in_range}
 use Rattle.rm_lang_grammar.specs.Reading.{◌>>=◌, word_at, read}
 use Rattle.rm_lang_grammar.specs.Forms.{Form}
 use Rattle.rm_lang_reading.specs.declared.backup.BackupAs.{BackupAs}
 use Rattle.rm_lang_reading.specs.declared.backup.BackupAs.TheVariants.{Copy, Sets}
 use Rattle.rm_lang_reading.specs.declared.backup.Level.{Level}
+use Rattle.rm_lang_reading.specs.declared.backup.Increment.{Increment}
+use Rattle.rm_lang_reading.specs.declared.backup.Increment.TheVariants.{Level as OfLevel, From as FromScn}
 use Rattle.rm_lang_statement.specs.declared.command.WriteForm.{WriteForm}
 use Rattle.rm_lang_statement.specs.declared.command.BackupForm.{BackupForm}
 use Rattle.rm_lang_statement.specs.declared.command.Command.{Command}
-use Rattle.rm_lang_statement.specs.declared.command.Command.TheVariants.{Backup, BackupLogs}
+use Rattle.rm_lang_statement.specs.declared.command.Command.TheVariants.{Backup, BackupFrom, BackupLogs}
 use Rattle.rm_lang_statement.specs.Named.{in_order}
 use Rattle.rm_lang_reading.specs.Creating.{write_part, written}
 use Rattle.rm_lang_statement.specs.Agreed.{agrees}
@@ -33,18 +35,37 @@ is_copy (Some Copy) = true
 is_copy (Some Sets) = false
 is_copy None = false
 
--- INCREMENTAL LEVEL n [CUMULATIVE]
-abbrev pub level_line : Grammar
-level_line = word (codes "INCREMENTAL") ▸ word (codes "LEVEL") ▸ number (in_range 0 1) ▸ flag (codes "CUMULATIVE") ▸ end
+-- LEVEL n [CUMULATIVE]
+abbrev pub level_part : Grammar
+level_part = word (codes "LEVEL") ▸ number (in_range 0 1) ▸ flag (codes "CUMULATIVE") ▸ end
 
-abbrev pub level_of : Values level_line → Level
+abbrev pub level_of : Values level_part → Level
 level_of v = record { number = v.0; cumulative = v.1.0 }
 
-abbrev pub number_of : Level → ℕ
-number_of l = l.number
+-- FROM SCN n
+abbrev pub from_part : Grammar
+from_part = word (codes "FROM") ▸ word (codes "SCN") ▸ number any ▸ end
 
-abbrev pub is_cumulative : Option Level → Bool
-is_cumulative (Some l) = l.cumulative
+-- INCREMENTAL (LEVEL n [CUMULATIVE] | FROM SCN n)
+abbrev pub increment_line : Grammar
+increment_line = word (codes "INCREMENTAL") ▸ either level_part from_part ▸ end
+
+abbrev pub increment_by : Choice (Values level_part) (Values from_part) → Increment
+increment_by (first v) = OfLevel (level_of v)
+increment_by (second v) = FromScn v.0
+
+abbrev pub increment_of : Values increment_line → Increment
+increment_of v = increment_by v.0
+
+-- the number of the level that is asked for
+abbrev pub number_of : Option Increment → Option ℕ
+number_of (Some (OfLevel l)) = Some l.number
+number_of (Some (FromScn scn)) = None
+number_of None = None
+
+abbrev pub is_cumulative : Option Increment → Bool
+is_cumulative (Some (OfLevel l)) = l.cumulative
+is_cumulative (Some (FromScn scn)) = false
 is_cumulative None = false
 
 -- FOR RECOVER OF COPY WITH TAG tag
@@ -100,16 +121,16 @@ write_at ts = word_at (codes "WRITE") ts >>= λ us. read write_part us
 abbrev pub during_of : Values during_line → List WriteForm
 during_of v = map written v.0
 
--- BACKUP [AS COPY | AS BACKUPSET] [INCREMENTAL LEVEL n [CUMULATIVE]] [FOR RECOVER OF COPY WITH TAG tag]
+-- BACKUP [AS COPY | AS BACKUPSET] [INCREMENTAL (LEVEL n [CUMULATIVE] | FROM SCN n)] [FOR RECOVER OF COPY WITH TAG tag]
 -- (DATABASE | DATAFILE n {, n}*) [FILESPERSET n] [TAG tag] [KEEP FOREVER] [DURING { {write ;}* }]
 abbrev pub backup_line : Grammar
-backup_line = word (codes "BACKUP") ▸ optional as_line ▸ optional level_line ▸ optional merge_line ▸ either database_line files_line ▸ optional sets_line ▸ optional tag_line ▸ optional keep_line ▸ optional during_line ▸ semicolon
+backup_line = word (codes "BACKUP") ▸ optional as_line ▸ optional increment_line ▸ optional merge_line ▸ either database_line files_line ▸ optional sets_line ▸ optional tag_line ▸ optional keep_line ▸ optional during_line ▸ semicolon
 
 abbrev pub backup_of : Values backup_line → BackupForm
 backup_of v = record {
   copy = is_copy (option_map kind_of v.0);
-  level = option_map number_of (option_map level_of v.1.0);
-  cumulative = is_cumulative (option_map level_of v.1.0);
+  level = number_of (option_map increment_of v.1.0);
+  cumulative = is_cumulative (option_map increment_of v.1.0);
   merge_tag = option_map merge_tag_of v.1.1.0;
   files = files_of v.1.1.1.0;
   files_per_set = option_map per_set_of v.1.1.1.1.0;
@@ -122,8 +143,22 @@ backup_of v = record {
 abbrev pub agreed : Bool → BackupForm → Option Command
 agreed with_as b = if agrees with_as b then Some (Backup b) else None
 
+-- nothing is said but that all datafiles are backed up
+abbrev pub is_plain : Bool → BackupForm → Bool
+is_plain with_as b = not with_as && not (is_some b.merge_tag) && not (is_some b.files) && not (is_some b.files_per_set) && not (is_some b.tag) && not b.keep && not (is_some b.during)
+
+-- an increment from an SCN, where nothing else is said
+abbrev pub increment_from : ℕ → Bool → BackupForm → Option Command
+increment_from scn with_as b = if is_plain with_as b then Some (BackupFrom scn) else None
+
+-- the command, by what an INCREMENTAL asks for
+abbrev pub saved : Option Increment → Bool → BackupForm → Option Command
+saved (Some (FromScn scn)) with_as b = increment_from scn with_as b
+saved (Some (OfLevel l)) with_as b = agreed with_as b
+saved None with_as b = agreed with_as b
+
 unfoldable pub backup : Form Command
-backup = record { line = backup_line; meaning = λ v. agreed (is_some (option_map kind_of v.0)) (backup_of v) }
+backup = record { line = backup_line; meaning = λ v. saved (option_map increment_of v.1.0) (is_some (option_map kind_of v.0)) (backup_of v) }
 
 -- BACKUP ARCHIVELOG ALL
 abbrev pub backup_logs_line : Grammar

@@ -7,6 +7,8 @@ use Rattle.rm_lang_grammar.specs.Grammar.{Values, Choice, first, second}
 use Rattle.rm_lang_reading.specs.declared.backup.BackupAs.{BackupAs}
 use Rattle.rm_lang_reading.specs.declared.backup.BackupAs.TheVariants.{Copy, Sets}
 use Rattle.rm_lang_reading.specs.declared.backup.Level.{Level}
+use Rattle.rm_lang_reading.specs.declared.backup.Increment.{Increment}
+use Rattle.rm_lang_reading.specs.declared.backup.Increment.TheVariants.{Level as OfLevel, From as FromScn}
 use Rattle.rm_lang_reading.specs.declared.upkeep.Deletion.{Deletion}
 use Rattle.rm_lang_reading.specs.declared.upkeep.Deletion.TheVariants.{Obsolete, One, Expired}
 use Rattle.rm_lang_statement.specs.declared.command.Until.{Until}
@@ -21,7 +23,7 @@ use Rattle.rm_lang_statement.specs.declared.command.RetentionForm.{RetentionForm
 use Rattle.rm_lang_statement.specs.declared.command.RetentionForm.TheVariants.{Window, Redundancy, Nothing, Clear}
 use Rattle.rm_lang_reading.specs.Creating.{write_part}
 use Rattle.rm_lang_reading.specs.Recovering.{scn_part, log_or_time, until_line, incarnation_line}
-use Rattle.rm_lang_reading.specs.Backups.{as_line, level_line, merge_line, database_line, files_line, sets_line, tag_line, keep_line, during_line, backup_line}
+use Rattle.rm_lang_reading.specs.Backups.{as_line, level_part, from_part, increment_line, merge_line, database_line, files_line, sets_line, tag_line, keep_line, during_line, backup_line}
 use Rattle.rm_lang_reading.specs.Repairs.{corruption_line, blocks_line, block_recover_line}
 use Rattle.rm_lang_reading.specs.Upkeep.{copy_or_archived, withdrawing, one_or_expired}
 use Rattle.rm_lang_reading.specs.Settings.{policy_part}
@@ -53,13 +55,21 @@ abbrev pub kind_asked : Bool → Option BackupAs
 kind_asked true = Some Copy
 kind_asked false = None
 
--- what an INCREMENTAL says
-abbrev pub level_values : Level → Values level_line
+-- what a LEVEL says
+abbrev pub level_values : Level → Values level_part
 level_values l = (l.number, (l.cumulative, tt))
 
--- the level of a number
-abbrev pub level_asked : Bool → ℕ → Level
-level_asked cumulative n = record { number = n; cumulative = cumulative }
+-- what an INCREMENTAL says
+abbrev pub increment_choice : Increment → Choice (Values level_part) (Values from_part)
+increment_choice (OfLevel l) = first (level_values l)
+increment_choice (FromScn scn) = second (scn, tt)
+
+abbrev pub increment_values : Increment → Values increment_line
+increment_values i = (increment_choice i, tt)
+
+-- what asks for the level of a number
+abbrev pub level_asked : Bool → ℕ → Increment
+level_asked cumulative n = OfLevel (record { number = n; cumulative = cumulative })
 
 -- what a FOR RECOVER OF COPY WITH TAG says
 abbrev pub merge_values : List ℕ → Values merge_line
@@ -92,7 +102,7 @@ abbrev pub backup_values : BackupForm → Values backup_line
 backup_values b = (
   option_map kind_values (kind_asked b.copy),
   (
-    option_map level_values (option_map (level_asked b.cumulative) b.level),
+    option_map increment_values (option_map (level_asked b.cumulative) b.level),
     (
       option_map merge_values b.merge_tag,
       (
@@ -105,6 +115,10 @@ backup_values b = (
     ),
   ),
 )
+
+-- what a BACKUP INCREMENTAL FROM SCN says
+abbrev pub from_values : ℕ → Values backup_line
+from_values scn = (None, (Some (increment_values (FromScn scn)), (None, (first tt, (None, (None, (None, (None, tt))))))))
 
 -- what CORRUPTION LIST or the blocks of a datafile say
 abbrev pub blocks_values : Option NamedBlocks → Choice (Values corruption_line) (Values blocks_line)

@@ -5,16 +5,18 @@ ghost use Rattle.std.specs.Option.{option_map};
 ghost use Rattle.rm_lang_grammar.specs.Reading.{Gives, read, maybe, one_of, begins, begins_with, many_at};
 ghost use Rattle.rm_lang_grammar.specs.Forms.{command_by, command_in};
 ghost use Rattle.rm_lang_statement.specs.Named.{in_order};
-ghost use Rattle.rm_lang_reading.specs.Backups.{as_line, is_copy, level_line, number_of, is_cumulative, merge_line, database_line, files_line, sets_line, tag_line, keep_line, during_line, write_at, backup, backup_logs};
+ghost use Rattle.rm_lang_reading.specs.Backups.{as_line, is_copy, level_part, from_part, increment_line, number_of, is_cumulative, merge_line, database_line, files_line, sets_line, tag_line, keep_line, during_line, write_at, is_plain, saved, backup, backup_logs};
 ghost use Rattle.rm_lang_statement.specs.Agreed.{agrees_in_level, agrees_in_merge, agrees_in_sets, agrees};
-ghost use Rattle.rm_lang_reading.specs.Values.{write_values, kind_values, level_values, merge_values, files_values, sets_values, tag_values, keep_values, during_values};
+ghost use Rattle.rm_lang_reading.specs.Values.{write_values, kind_values, level_values, increment_choice, increment_values, merge_values, files_values, sets_values, tag_values, keep_values, during_values};
 ghost use Rattle.rm_lang_reading.specs.Language.{backup_forms};
 
 use crate::creating::write_part;
 use crate::upkeep::upkeep;
 use rm_base::{Seq, Text};
 use rm_lang_grammar::Unread;
-use rm_lang_grammar::reading::{begins_with, flag, number_in, numbers, semicolon, sign, tag, word};
+use rm_lang_grammar::reading::{
+    begins_with, flag, number, number_in, numbers, semicolon, sign, tag, word,
+};
 use rm_lang_statement::{BackupForm, Command, WriteForm};
 use rm_lang_token::Token;
 use std::alloc::Global;
@@ -26,11 +28,19 @@ pub enum BackupAs {
     Sets,
 }
 
-/// What an INCREMENTAL says.
+/// What a LEVEL says.
 #[derive(Clone, Copy, PartialEq, Eq)]
 pub struct Level {
     pub number: u8,
     pub cumulative: bool,
+}
+
+/// What an INCREMENTAL says.
+#[derive(Clone, Copy, PartialEq, Eq)]
+pub enum Increment {
+    Level(Level),
+    /// From this SCN.
+    From(u64),
 }
 
 // AS COPY or AS BACKUPSET, or nothing.
@@ -54,38 +64,57 @@ fn is_copy(kind: Option<BackupAs>) -> bool
     matches!(kind, Some(BackupAs::Copy))
 }
 
-// INCREMENTAL LEVEL n [CUMULATIVE], or nothing.
-fn optional_level(tokens: &[Token]) -> Result<(Option<Level>, &[Token]), Unread>
-    ensures { Gives (λ x. (option_map level_values x.0, x.1.now)) result (maybe (begins level_line tokens.now) (read level_line tokens.now) tokens.now) }
+// LEVEL n [CUMULATIVE].
+fn level_part(tokens: &[Token]) -> Result<(Level, &[Token]), Unread>
+    ensures { Gives (λ x. (level_values x.0, x.1.now)) result (read level_part tokens.now) }
 {
-    if !begins_with(tokens, b"INCREMENTAL") {
-        return Ok((None, tokens));
-    }
-    let rest = word(word(tokens, b"INCREMENTAL")?, b"LEVEL")?;
-    let (number, rest) = number_in(rest, 0, 1)?;
+    let (number, rest) = number_in(word(tokens, b"LEVEL")?, 0, 1)?;
     let (cumulative, rest) = flag(rest, b"CUMULATIVE");
     let level = Level {
         number: number as u8,
         cumulative,
     };
-    Ok((Some(level), rest))
+    Ok((level, rest))
 }
 
-fn number_of(level: Option<Level>) -> Option<u8>
-    ensures { result ≡ option_map number_of level }
+// LEVEL n [CUMULATIVE], or FROM SCN n.
+fn level_or_scn(tokens: &[Token]) -> Result<(Increment, &[Token]), Unread>
+    ensures { Gives (λ x. (increment_choice x.0, x.1.now)) result (one_of (begins level_part tokens.now) (read level_part tokens.now) (read from_part tokens.now)) }
 {
-    match level {
-        Some(level) => Some(level.number),
-        None => None,
+    if begins_with(tokens, b"LEVEL") {
+        let (level, rest) = level_part(tokens)?;
+        return Ok((Increment::Level(level), rest));
+    }
+    let (scn, rest) = number(word(word(tokens, b"FROM")?, b"SCN")?)?;
+    Ok((Increment::From(scn), rest))
+}
+
+// INCREMENTAL and what it asks for, or nothing.
+fn optional_increment(tokens: &[Token]) -> Result<(Option<Increment>, &[Token]), Unread>
+    ensures { Gives (λ x. (option_map increment_values x.0, x.1.now)) result (maybe (begins increment_line tokens.now) (read increment_line tokens.now) tokens.now) }
+{
+    if !begins_with(tokens, b"INCREMENTAL") {
+        return Ok((None, tokens));
+    }
+    let (increment, rest) = level_or_scn(word(tokens, b"INCREMENTAL")?)?;
+    Ok((Some(increment), rest))
+}
+
+fn number_of(increment: Option<Increment>) -> Option<u8>
+    ensures { result ≡ number_of increment }
+{
+    match increment {
+        Some(Increment::Level(level)) => Some(level.number),
+        Some(Increment::From(_)) | None => None,
     }
 }
 
-fn is_cumulative(level: Option<Level>) -> bool
-    ensures { result ≡ is_cumulative level }
+fn is_cumulative(increment: Option<Increment>) -> bool
+    ensures { result ≡ is_cumulative increment }
 {
-    match level {
-        Some(level) => level.cumulative,
-        None => false,
+    match increment {
+        Some(Increment::Level(level)) => level.cumulative,
+        Some(Increment::From(_)) | None => false,
     }
 }
 
@@ -231,12 +260,41 @@ pub fn agrees(with_as: bool, form: &BackupForm) -> bool
     agrees_in_level(form) && agrees_in_merge(with_as, form) && agrees_in_sets(form)
 }
 
+// Nothing is said but that all datafiles are backed up.
+fn is_plain(with_as: bool, form: &BackupForm) -> bool
+    ensures { result ≡ is_plain with_as form.now }
+{
+    !with_as
+        && form.merge_tag.is_none()
+        && form.files.is_none()
+        && form.files_per_set.is_none()
+        && form.tag.is_none()
+        && !form.keep
+        && form.during.is_none()
+}
+
+// The backup, or the increment from an SCN, where its parts, of which one may be an AS, can stand together.
+fn saved(increment: Option<Increment>, with_as: bool, form: BackupForm) -> Result<Command, Unread>
+    ensures { Gives (λ c. c) result (saved increment with_as form) }
+{
+    if let Some(Increment::From(scn)) = increment {
+        if !is_plain(with_as, &form) {
+            return Err(Unread::Other);
+        }
+        return Ok(Command::BackupFrom { scn });
+    }
+    if !agrees(with_as, &form) {
+        return Err(Unread::Other);
+    }
+    Ok(Command::Backup(form))
+}
+
 #[tactic(auto, using(crate::proofs::Parts::parts), unfolding(crate::specs::Backups::backup))]
 fn backup(alloc: Global, tokens: &[Token]) -> Result<(Command, &[Token]), Unread>
     ensures { Gives (λ x. (x.0, x.1.now)) result (command_by backup tokens.now) }
 {
     let (kind, rest) = optional_kind(word(tokens, b"BACKUP")?)?;
-    let (level, rest) = optional_level(rest)?;
+    let (increment, rest) = optional_increment(rest)?;
     let (merge_tag, rest) = optional_merge(alloc, rest)?;
     let (files, rest) = named_files(alloc, rest)?;
     let (files_per_set, rest) = optional_sets(rest)?;
@@ -246,8 +304,8 @@ fn backup(alloc: Global, tokens: &[Token]) -> Result<(Command, &[Token]), Unread
     let rest = semicolon(rest)?;
     let form = BackupForm {
         copy: is_copy(kind),
-        level: number_of(level),
-        cumulative: is_cumulative(level),
+        level: number_of(increment),
+        cumulative: is_cumulative(increment),
         merge_tag,
         files: files.map(in_order),
         files_per_set,
@@ -255,10 +313,7 @@ fn backup(alloc: Global, tokens: &[Token]) -> Result<(Command, &[Token]), Unread
         keep,
         during,
     };
-    if !agrees(kind.is_some(), &form) {
-        return Err(Unread::Other);
-    }
-    Ok((Command::Backup(form), rest))
+    Ok((saved(increment, kind.is_some(), form)?, rest))
 }
 
 #[tactic(auto, unfolding(crate::specs::Backups::backup_logs))]
