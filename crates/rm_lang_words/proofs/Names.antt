@@ -32,19 +32,24 @@ plain_with name value others lacks plain = go (is_value value) others plain
     go true None plain = tt
     go true (Some rest) plain = (lacks, plain)
 
-plain_split : (p : Text × Option Text) (others : Option (List Given)) (waits : Text → Option (List Given)) → Lacks 61 p.0 → PlainIn others
-    → ((n : Text) → Lacks 61 n → PlainIn (waits n)) → PlainIn (split_word p others waits)
-plain_split (n, Some v) others waits lacks plain more = plain_with n v others lacks plain
-plain_split (n, None) others waits lacks plain more = more n lacks
+one_of : (b : Bool) (x y : Option (List Given)) → PlainIn x → PlainIn y → PlainIn (if b then x else y)
+one_of true x y plain other = plain
+one_of false x y plain other = other
 
-plain_word : (o : Option Text) (others : Option (List Given)) (waits : Text → Option (List Given)) → PlainIn others
-    → ((n : Text) → Lacks 61 n → PlainIn (waits n)) → PlainIn (option_word o others waits)
-plain_word None others waits plain more = tt
-plain_word (Some text) others waits plain more = plain_split (split text) others waits (before_lacks text) plain more
+module _ (flags : Text → Bool) where
+  plain_split : (p : Text × Option Text) (others : Option (List Given)) (waits : Text → Option (List Given)) → Lacks 61 p.0 → PlainIn others
+      → ((n : Text) → Lacks 61 n → PlainIn (waits n)) → PlainIn (split_word flags p others waits)
+  plain_split (n, Some v) others waits lacks plain more = one_of (flags n) _ _ tt (plain_with n v others lacks plain)
+  plain_split (n, None) others waits lacks plain more = one_of (flags n) _ _ (plain_with n [] others lacks plain) (more n lacks)
 
-pub plain_behind : (waiting : Option Text) (words : List Text) → Lacking waiting → PlainIn (given_behind waiting words)
-plain_behind None [] lacks = tt
-plain_behind (Some name) [] lacks = tt
-plain_behind (Some name) (value ∷ words) lacks = plain_with name value _ lacks (plain_behind None words tt)
-plain_behind None (word ∷ words) lacks =
-    plain_word (behind_hyphens word) _ _ (plain_behind None words tt) (λ n l. plain_behind (Some n) words l)
+  plain_word : (o : Option Text) (others : Option (List Given)) (waits : Text → Option (List Given)) → PlainIn others
+      → ((n : Text) → Lacks 61 n → PlainIn (waits n)) → PlainIn (option_word flags o others waits)
+  plain_word None others waits plain more = tt
+  plain_word (Some text) others waits plain more = plain_split (split text) others waits (before_lacks text) plain more
+
+  pub plain_behind : (waiting : Option Text) (words : List Text) → Lacking waiting → PlainIn (given_behind flags waiting words)
+  plain_behind None [] lacks = tt
+  plain_behind (Some name) [] lacks = tt
+  plain_behind (Some name) (value ∷ words) lacks = plain_with name value _ lacks (plain_behind None words tt)
+  plain_behind None (word ∷ words) lacks =
+      plain_word (behind_hyphens word) _ _ (plain_behind None words tt) (λ n l. plain_behind (Some n) words l)

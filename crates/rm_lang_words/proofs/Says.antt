@@ -5,7 +5,7 @@ use Rattle.std.specs.List.{list_all, list_any}
 use Rattle.std.specs.Option.{option_map_or}
 use Rattle.clap.specs.declared.parser.matches.ArgMatches.{ArgMatches}
 use Rattle.rm_lang_words.specs.Options.{Given, Text, given_in}
-use Rattle.rm_lang_words.specs.Form.{Entry, Form, accepts, are_options, has_value, is_met, is_met_by, obeys, value_of}
+use Rattle.rm_lang_words.specs.Form.{Entry, Form, accepts, are_options, has_value, is_flag, is_met, is_met_by, obeys, value_of}
 use Rattle.rm_lang_words.specs.Reading.{AreOf, AreRead, words_behind}
 use Rattle.rm_lang_words.specs.Clap.{all_met, faults, found, one_word, value_at}
 use Rattle.rm_lang_words.proofs.Finds.{Finds, finds, lacks, missing}
@@ -61,14 +61,14 @@ some_is : (a b : List Text) → ◌≡◌ {A = Option (List Text)} (Some a) (Som
 some_is a b e = ap (λ (o : Option (List Text)). unwrap_or o a) e
 
 -- the options of the words, each as one word
-module _ (form : Form) (asked ws : List Text) (are : AreOf asked ws) where
+module _ (form : Form) (asked ws : List Text) (are : AreOf form asked ws) where
   abbrev Options : Type 0
-  Options = (os : List Given) × (given_in asked ≡ Some os) × Plain os × (map one_word os ≡ ws)
+  Options = (os : List Given) × (given_in (is_flag form) asked ≡ Some os) × Plain os × (map one_word os ≡ ws)
 
   options : Options
-  options = go (given_in asked) refl (plain_behind None asked tt) are
+  options = go (given_in (is_flag form) asked) refl (plain_behind (is_flag form) None asked tt) are
     where
-      go : (o : Option (List Given)) → given_in asked ≡ o → PlainIn o → words_behind [] o ≡ Some ws → Options
+      go : (o : Option (List Given)) → given_in (is_flag form) asked ≡ o → PlainIn o → words_behind [] o ≡ Some ws → Options
       go None is plain e = absurd (cc)
       go (Some os) is plain e = (os, is, plain, some_is (map one_word os) ws e)
 
@@ -84,7 +84,7 @@ module _ (form : Form) (asked ws : List Text) (are : AreOf asked ws) where
         values = λ n. values n ∙ found_as n;
       }
 
-  refuses : (os : List Given) → given_in asked ≡ Some os → obeys form os ≡ false → accepts form asked ≡ false
+  refuses : (os : List Given) → given_in (is_flag form) asked ≡ Some os → obeys form os ≡ false → accepts form asked ≡ false
   refuses os is not_obeyed = ap (λ (o : Option (List Given)). option_map_or (obeys form) o false) is ∙ not_obeyed
 
   pub says_none : faults form ws ≢ [] → accepts form asked ≡ false

@@ -13,18 +13,26 @@ use Rattle.rm_lang_words.specs.declared.faults.WordsFault.{WordsFault}
 use Rattle.rm_lang_words.specs.declared.faults.WordsFault.TheVariants.{Bad, NoMemory}
 use Rattle.rm_lang_words.specs.declared.form.Kind.TheVariants.{Number}
 use Rattle.rm_lang_words.specs.Options.{Given, Text, given_in}
-use Rattle.rm_lang_words.specs.Form.{Entry, Form, accepts, are_options, has_value, is_met, number_behind, number_in, number_of, obeys, said_by, text_of, value_of}
-use Rattle.rm_lang_words.specs.Reading.{AreRead, Fails, Gives}
+use Rattle.rm_lang_words.specs.Form.{Entry, Form, accepts, are_options, has_value, is_flag, is_met, number_behind, number_in, number_of, obeys, said_by, text_of, value_of}
+use Rattle.rm_lang_words.specs.Reading.{AreRead, Fails, Gives, words_behind}
 use Rattle.rm_lang_words.specs.Clap.{value_at}
 
 -- words that are not accepted say nothing
 pub untold : {S : Type 0} (form : Form) (say : List Given → S) (asked : List Text) → accepts form asked ≡ false → said_by form say asked ≡ None
-untold {S} form say asked = go (given_in asked)
+untold {S} form say asked = go (given_in (is_flag form) asked)
   where
     go : (o : Option (List Given)) → option_map_or (obeys form) o false ≡ false
         → option_and_then (λ (options : List Given). if obeys form options then Some (say options) else None) o ≡ None
     go None is = refl
     go (Some options) is = ap (λ b. if b then Some (say options) else None) is
+
+-- words that give no options say nothing
+pub unread : {S : Type 0} (form : Form) (say : List Given → S) (asked : List Text) → words_behind [] (given_in (is_flag form) asked) ≡ None → said_by form say asked ≡ None
+unread {S} form say asked = go (given_in (is_flag form) asked)
+  where
+    go : (o : Option (List Given)) → words_behind [] o ≡ None → option_and_then (λ (options : List Given). if obeys form options then Some (say options) else None) o ≡ None
+    go None is = refl
+    go (Some options) is = absurd (cc)
 
 of_fault : {S : Type 0} (x : WordsFault) (s : Option S) → (x ≡ Bad → s ≡ None) → Fails x s
 of_fault Bad s none = none refl

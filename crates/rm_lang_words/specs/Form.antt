@@ -1,12 +1,12 @@
 -- What the words of a program may say, as a form, and which options obey it.
-use Rattle.std.specs.Prelude.{◌+◌, ◌-◌, ◌*◌, ◌&&◌, ◌++◌, ℕ, Bool, true, false, not, List, [], ◌∷◌, Option, Some, None, if◌then◌else◌, nat_le, nat_lt, length, find, is_some, map, option_map, option_and_then, unwrap_or}
+use Rattle.std.specs.Prelude.{◌+◌, ◌-◌, ◌*◌, ◌&&◌, ◌++◌, ◌==◌, ℕ, Bool, true, false, not, List, [], ◌∷◌, Option, Some, None, if◌then◌else◌, nat_le, nat_lt, length, find, is_some, map, option_map, option_and_then, unwrap_or}
 use Rattle.std.specs.List.{list_all, list_any}
 use Rattle.std.specs.Option.{option_map_or}
 use Rattle.std.specs.Str.{all_ascii_digits, bytes_eq}
 use Rattle.rm_lang_words.specs.Options.{Given, Text, given_in}
 use Rattle.rm_lang_words.specs.declared.form.Entry.{Entry as EntryInCode}
 use Rattle.rm_lang_words.specs.declared.form.Kind.{Kind}
-use Rattle.rm_lang_words.specs.declared.form.Kind.TheVariants.{Text as AnyText, Number}
+use Rattle.rm_lang_words.specs.declared.form.Kind.TheVariants.{Text as AnyText, Number, Flag}
 
 -- an option that may be given: its name, whether it has to be, and what its value is
 pub record Entry : Type 0 where
@@ -24,6 +24,20 @@ entry_of e = record { name = e.name.now; needed = e.needed; kind = e.kind }
 
 abbrev pub form_of : List EntryInCode → Form
 form_of = map entry_of
+
+-- an option of the kind has no value
+abbrev pub is_flag_kind : Kind → Bool
+is_flag_kind AnyText = false
+is_flag_kind (Number low high) = false
+is_flag_kind Flag = true
+
+-- the entry is a flag of the name
+abbrev pub is_flag_named : Text → Entry → Bool
+is_flag_named name e = is_flag_kind e.kind && bytes_eq e.name name
+
+-- the form has a flag of the name
+abbrev pub is_flag : Form → Text → Bool
+is_flag form name = list_any (is_flag_named name) form
 
 -- ---- options by their names
 
@@ -50,10 +64,11 @@ number_in low high text =
     if nat_lt 0 (length text) && all_ascii_digits text && nat_le low (number_behind 0 text) && nat_le (number_behind 0 text) high
     then Some (number_behind 0 text) else None
 
--- the text is a value of the kind: any text is, or a number that lies between its bounds
+-- the text is a value of the kind: any text is, or a number that lies between its bounds, or the empty text that a flag is given
 abbrev pub has_value : Kind → Text → Bool
 has_value AnyText text = true
 has_value (Number low high) text = is_some (number_in low high text)
+has_value Flag text = length text == 0
 
 -- ---- options that obey a form
 
@@ -78,7 +93,7 @@ obeys form options = are_options form [] options && list_all (is_met options) fo
 
 -- the words give options that obey the form
 abbrev pub accepts : Form → List Text → Bool
-accepts form words = option_map_or (obeys form) (given_in words) false
+accepts form words = option_map_or (obeys form) (given_in (is_flag form) words) false
 
 -- ---- what is said by options
 
@@ -96,4 +111,4 @@ number_or_zero name options = unwrap_or (number_of name options) 0
 
 -- what the words say: what is said by the options that they give, where these obey the form
 abbrev pub said_by : {S : Type 0} → Form → (List Given → S) → List Text → Option S
-said_by form say words = option_and_then (λ options. if obeys form options then Some (say options) else None) (given_in words)
+said_by form say words = option_and_then (λ options. if obeys form options then Some (say options) else None) (given_in (is_flag form) words)

@@ -102,7 +102,7 @@ pub fn read_duplicate(alloc: Global, words: &[Text]) -> Result<DuplicateWords, W
     ensures dbid { IfOk result (λ w. 1 ≤ w.dbid) }
     ensures channels { IfOk result (λ w. IfSome w.channels (λ n. (1 ≤ n) × (n ≤ 16))) }
 {
-    let words = one_words(alloc, words)?;
+    let words = one_words(alloc, &FORM, words)?;
     let options = Options::read(alloc, &FORM, &words)?;
     Ok(DuplicateWords {
         store: options.text(alloc, "store")?,

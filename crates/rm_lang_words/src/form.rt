@@ -7,6 +7,8 @@ pub enum Kind {
     Text,
     /// Decimal digits that spell a number from `low` to `high`. Leading zeros are allowed.
     Number { low: u64, high: u64 },
+    /// None: the option is a flag, that is given or not.
+    Flag,
 }
 
 /// An option that may be given.

@@ -7,9 +7,13 @@ mod faults;
 mod form;
 mod options;
 mod reader;
+mod resync;
+mod standby;
 mod values;
 mod words;
 
 pub use duplicate::{DuplicateWords, read_duplicate};
 pub use faults::WordsFault;
+pub use resync::{ResyncWords, read_resync};
+pub use standby::{StandbyTask, StandbyWords, read_standby};
 pub use words::{Words, read_words};

@@ -1,5 +1,5 @@
 //! The reader of options, for every form.
-ghost use Rattle.std.specs.Prelude.{◌≡◌, List, map, option_map, option_and_then, unwrap_or, [], IfOk, IfErr, true, false};
+ghost use Rattle.std.specs.Prelude.{◌≡◌, List, map, option_map, option_and_then, is_some, unwrap_or, [], IfOk, IfErr, true, false};
 ghost use Rattle.std.specs.List.{list_all};
 ghost use Rattle.std.specs.String.{string_bytes};
 ghost use Rattle.rm_lang_words.specs.Options.{Text as Bytes};
@@ -29,8 +29,8 @@ impl<'a> Options<'a> {
         form: &[Entry],
         words: &'a [String],
     ) -> Result<Options<'a>, WordsFault>
-        ensures obeyed { IfOk result (λ o. (asked : List Bytes) → AreOf asked (map string_bytes words.now) → AreRead (form_of form.now) asked o.matches) }
-        ensures refused { IfErr result (λ e. e ≡ Bad → (asked : List Bytes) → AreOf asked (map string_bytes words.now) → accepts (form_of form.now) asked ≡ false) }
+        ensures obeyed { IfOk result (λ o. (asked : List Bytes) → AreOf (form_of form.now) asked (map string_bytes words.now) → AreRead (form_of form.now) asked o.matches) }
+        ensures refused { IfErr result (λ e. e ≡ Bad → (asked : List Bytes) → AreOf (form_of form.now) asked (map string_bytes words.now) → accepts (form_of form.now) asked ≡ false) }
     {
         let matches = find(alloc, form, words)?;
         if are_met(form, &matches) {
@@ -47,6 +47,23 @@ impl<'a> Options<'a> {
         let mut text = String::new(alloc);
         text.push_str(self.matches.get_str(name).unwrap_or(""))?;
         Ok(Text::from_string(text))
+    }
+
+    /// The text that is given under the name.
+    pub fn text_if_given(&self, alloc: Global, name: &str) -> Result<Option<Text>, NoMemory>
+        ensures { IfOk result (λ t. t ≡ value_at self.now.matches name.now) }
+    {
+        if !self.has(name) {
+            return Ok(None);
+        }
+        Ok(Some(self.text(alloc, name)?))
+    }
+
+    /// Whether the option is given.
+    pub fn has(&self, name: &str) -> bool
+        ensures { result ≡ is_some (value_at self.now.matches name.now) }
+    {
+        self.matches.get_str(name).is_some()
     }
 
     /// The number that is given under the name, if it fits.

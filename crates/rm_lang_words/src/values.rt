@@ -12,6 +12,7 @@ pub fn has_value(kind: Kind, text: &str) -> bool
     match kind {
         Kind::Text => true,
         Kind::Number { low, high } => number_in(text, low, high).is_some(),
+        Kind::Flag => text.is_empty(),
     }
 }
 

@@ -10,7 +10,7 @@ use crate::reader::Options;
 use rm_base::Text;
 use std::alloc::Global;
 
-const FORM: [Entry; 5] = [
+const FORM: [Entry; 6] = [
     Entry {
         name: "store",
         needed: true,
@@ -42,6 +42,11 @@ const FORM: [Entry; 5] = [
             high: 0xffff_ffff,
         },
     },
+    Entry {
+        name: "control",
+        needed: false,
+        kind: Kind::Text,
+    },
 ];
 
 /// What the words say.
@@ -55,16 +60,18 @@ pub struct Words {
     pub drill: Option<u64>,
     /// Which database of the catalog serves: number 0 where none is said.
     pub database: Option<u32>,
+    /// The control file.
+    pub control: Option<Text>,
 }
 
-/// The words `--store DIR --catalog FILE [--channels N] [--drill N] [--database N]`, in any order, each option once.
-/// `--name=value` is `--name value`. A value may be empty, and does not begin with `-`. N is decimal digits: of the channels
+/// The words `--store DIR --catalog FILE [--channels N] [--drill N] [--database N] [--control FILE]`, in any order, each
+/// option once. `--name=value` is `--name value`. A value may be empty, and does not begin with `-`. N is decimal digits: of the channels
 /// from 1 to 16, of a drill from 0 to 2^64 - 1, of a database from 0 to 2^32 - 1.
 pub fn read_words(alloc: Global, words: &[Text]) -> Result<Words, WordsFault>
     ensures said { Gives said_of result (said words.now) }
     ensures channels { IfOk result (λ w. IfSome w.channels (λ n. (1 ≤ n) × (n ≤ 16))) }
 {
-    let words = one_words(alloc, words)?;
+    let words = one_words(alloc, &FORM, words)?;
     let options = Options::read(alloc, &FORM, &words)?;
     Ok(Words {
         store: options.text(alloc, "store")?,
@@ -72,5 +79,6 @@ pub fn read_words(alloc: Global, words: &[Text]) -> Result<Words, WordsFault>
         channels: options.number("channels"),
         drill: options.long_number("drill"),
         database: options.number("database"),
+        control: options.text_if_given(alloc, "control")?,
     })
 }

@@ -8,7 +8,7 @@ use Rattle.rm_lang_words.proofs.duplicate.read_duplicate.Goals as goal
 
 pub returns-in_err-options-clause-said : goal.returns-in_err-options-clause-said
 returns-in_err-options-clause-said c =
-    let are : AreOf c.args.words.now (map string_bytes c.deref.result.now) = c.in_ok-words.ensures ∙ ap (λ ws. Some (map string_bytes ws)) (sym c.deref.ensures.value) in
+    let are : AreOf duplicate_form c.args.words.now (map string_bytes c.deref.result.now) = c.in_ok-words.ensures ∙ ap (λ ws. Some (map string_bytes ws)) (sym c.deref.ensures.value) in
     fails duplicate_of c.from_residual-in_err-options.result c.in_err-options.field-0.0 (duplicate_said c.args.words.now) c.from_residual-in_err-options.ensures.1
     (λ bad. untold duplicate_form duplicate_by c.args.words.now (c.in_err-options.ensures.refused bad c.args.words.now are))
 
@@ -16,7 +16,7 @@ pub returns-clause-said : goal.returns-clause-said
 returns-clause-said c =
     let words = c.args.words.now in
     let m = c.in_ok-options.options.matches in
-    let are : AreOf words (map string_bytes c.deref.result.now) = c.in_ok-words.ensures ∙ ap (λ ws. Some (map string_bytes ws)) (sym c.deref.ensures.value) in
+    let are : AreOf duplicate_form words (map string_bytes c.deref.result.now) = c.in_ok-words.ensures ∙ ap (λ ws. Some (map string_bytes ws)) (sym c.deref.ensures.value) in
     let read : AreRead duplicate_form words m = c.in_ok-options.ensures.obeyed words are in
     let store = c.in_ok-text.ensures ∙ text_told duplicate_form words m read (codes "store") in
     let to = c.in_ok-text-2.ensures ∙ text_told duplicate_form words m read (codes "to") in
@@ -44,7 +44,7 @@ pub returns-clause-dbid : goal.returns-clause-dbid
 returns-clause-dbid c =
     let words = c.args.words.now in
     let m = c.in_ok-options.options.matches in
-    let are : AreOf words (map string_bytes c.deref.result.now) = c.in_ok-words.ensures ∙ ap (λ ws. Some (map string_bytes ws)) (sym c.deref.ensures.value) in
+    let are : AreOf duplicate_form words (map string_bytes c.deref.result.now) = c.in_ok-words.ensures ∙ ap (λ ws. Some (map string_bytes ws)) (sym c.deref.ensures.value) in
     let read : AreRead duplicate_form words m = c.in_ok-options.ensures.obeyed words are in
     let dbid = c.number.ensures ∙ number_told duplicate_form words m read 3 (codes "dbid") true 1 4294967295 refl 4294967295 (omega arith) in
     subst (λ n. 1 ≤ n) (sym (c.unwrap_or.ensures ∙ ap (λ n. unwrap_or n 0) dbid)) (number_needed duplicate_form words m read 3 (codes "dbid") true 1 4294967295 refl refl)
@@ -57,7 +57,7 @@ pub returns-clause-channels : goal.returns-clause-channels
 returns-clause-channels c =
     let words = c.args.words.now in
     let m = c.in_ok-options.options.matches in
-    let are : AreOf words (map string_bytes c.deref.result.now) = c.in_ok-words.ensures ∙ ap (λ ws. Some (map string_bytes ws)) (sym c.deref.ensures.value) in
+    let are : AreOf duplicate_form words (map string_bytes c.deref.result.now) = c.in_ok-words.ensures ∙ ap (λ ws. Some (map string_bytes ws)) (sym c.deref.ensures.value) in
     let read : AreRead duplicate_form words m = c.in_ok-options.ensures.obeyed words are in
     let channels = c.number-4.ensures ∙ number_told duplicate_form words m read 8 (codes "channels") false 1 16 refl 4294967295 (omega arith) in
     subst AreFew (sym channels) (number_within duplicate_form words m read 8 (codes "channels") false 1 16 refl)
