@@ -13,7 +13,6 @@ pub mod Corrupt
 pub mod CreateDatabase
 pub mod CreateDatafile
 pub mod Damage
-pub mod Mishaps
 pub mod DisableThread
 pub mod Dump
 pub mod Effect
@@ -33,6 +32,7 @@ pub mod MadePieces
 pub mod MadeSets
 pub mod Marks
 pub mod Meant
+pub mod Mishaps
 pub mod Mount
 pub mod Names
 pub mod Nature
@@ -47,6 +47,7 @@ pub mod Repair
 pub mod ResetDatabase
 pub mod Rest
 pub mod Restore
+pub mod Roll
 pub mod Running
 pub mod Saved
 pub mod Saving

@@ -6,10 +6,11 @@ use Rattle.rm_base.specs.declared.kinds.Class.TheVariants as class
 use Rattle.rm_base.specs.declared.refusal.Refusal.{Refusal}
 use Rattle.rm_base.specs.declared.refusal.Refusal.TheVariants.{Rm02, Rm03}
 use Rattle.rm_lang_statement.specs.declared.command.Command.{Command}
-use Rattle.rm_lang_statement.specs.declared.command.Command.TheVariants.{ArchiveLogCurrent, Backup, BackupLogs, BlockRecover, CatalogName, ChangeBackup, Corrupt, CreateDatabase, CreateDatafile, Crosscheck, Cut, Damage, DeleteBackup, DeleteExpired, DeleteObsolete, Dump, ListArchived, ListBackup, ListCopy, ListCorruption, ListIncarnation, LoseDatafile, LoseLog, Mount, OpenPlain, OpenResetlogs, Parallelism, Preview, Recover, RecoverCopy, RecoverTest, Remove, Rename, ReportNeedBackup, ReportObsolete, ReportSchema, ResetDatabase, Restore, Retention, ShowAll, SwitchLogfile, SwitchThread, Tracking, ValidateAll, Write}
+use Rattle.rm_lang_statement.specs.declared.command.Command.TheVariants.{ArchiveLogCurrent, Backup, BackupFrom, BackupLogs, BlockRecover, CatalogName, ChangeBackup, Corrupt, CreateDatabase, CreateDatafile, Crosscheck, Cut, Damage, DeleteBackup, DeleteExpired, DeleteObsolete, Dump, ListArchived, ListBackup, ListCopy, ListCorruption, ListIncarnation, LoseDatafile, LoseLog, Mount, OpenPlain, OpenResetlogs, Parallelism, Preview, Recover, RecoverCopy, RecoverTest, Remove, Rename, ReportNeedBackup, ReportObsolete, ReportSchema, ResetDatabase, Restore, Retention, ShowAll, SwitchLogfile, SwitchThread, Tracking, ValidateAll, Write}
 use Rattle.rm_lang_statement.specs.IsCommand.{is_command}
 use Rattle.rm_report.specs.Reply as reply
 use Rattle.rm_report.specs.declared.line.Reply.{Reply}
+use Rattle.rm_standby.specs.Standby.{HoldsSince}
 use Rattle.rm_machine.specs.Archive.{archive_all_refusal, IsArchiveOutcome}
 use Rattle.rm_machine.specs.Asked.{asked, writes_in}
 use Rattle.rm_machine.specs.BackupOutcome.{IsBackupOutcome}
@@ -43,10 +44,11 @@ use Rattle.rm_machine.specs.RecoverTest.{IsTestOutcome, TellsTruly, test_refusal
 use Rattle.rm_machine.specs.Repair.{RepairsTruly}
 use Rattle.rm_machine.specs.ResetDatabase.{reset_refusal, IsResetOutcome}
 use Rattle.rm_machine.specs.Restore.{preview_refusal, restore_refusal, IsPreviewOutcome, IsRestoreOutcome}
+use Rattle.rm_machine.specs.Roll.{increment, roll_refusal, IsRollOutcome}
 use Rattle.rm_machine.specs.Saved.{saved_names}
 use Rattle.rm_machine.specs.Shown.{IsSchemaOutcome, IsShowOutcome}
 use Rattle.rm_machine.specs.declared.state.State.{State}
-use Rattle.rm_machine.specs.State.{at_moment}
+use Rattle.rm_machine.specs.State.{at_moment, world}
 use Rattle.rm_machine.specs.SwitchLogfile.{switch_refusal, IsSwitchOutcome}
 use Rattle.rm_machine.specs.Tracking.{IsTrackingOutcome}
 use Rattle.rm_machine.specs.Upkeep.{record_refusal, IsChangeOutcome, IsCrosscheckOutcome, IsDeleteExpiredOutcome, IsDeleteOutcome}
@@ -74,6 +76,7 @@ refusal_of s (SwitchLogfile t) = switch_refusal s t
 refusal_of s ArchiveLogCurrent = archive_all_refusal s
 refusal_of s (Backup b) = backup_refusal s b
 refusal_of s BackupLogs = None
+refusal_of s (BackupFrom scn) = roll_refusal s scn
 refusal_of s (BlockRecover form) = repair_refusal s form
 refusal_of s Mount = ids_refusal s
 refusal_of s OpenPlain = open_refusal s
@@ -122,6 +125,7 @@ IsDone s held (SwitchLogfile t) o = IsSwitchOutcome s t o
 IsDone s held ArchiveLogCurrent o = IsArchiveOutcome s o
 IsDone s held (Backup b) o = IsBackupOutcome s b o
 IsDone s held BackupLogs o = IsBackupLogsOutcome s held o
+IsDone s held (BackupFrom scn) o = IsRollOutcome s scn o
 IsDone s held (BlockRecover form) o = IsBlockRecoverOutcome s held form o
 IsDone s held Mount o = IsMountOutcome s o
 IsDone s held OpenPlain o = IsOpenOutcome s o
@@ -200,6 +204,7 @@ names_in (RecoverTest until inc) = []
 names_in (RecoverCopy tag until) = []
 names_in (Backup b) = []
 names_in BackupLogs = []
+names_in (BackupFrom scn) = []
 names_in (BlockRecover form) = []
 names_in (Crosscheck class) = []
 names_in ValidateAll = []
@@ -225,13 +230,14 @@ names_in (LoseLog thread) = []
 names_in (Corrupt file block) = []
 
 -- What is known of an outcome beyond that, from the state on which the statement acts: what a recovery brings back or tells is what the
--- history made, and what a deletion by the policy leaves keeps each target of the window.
+-- history made, an increment holds what changed since its SCN, and what a deletion by the policy leaves keeps each target of the window.
 abbrev pub Means : Option State → List Change → Held → Command → Outcome → Held → Type 0
 Means None h held c o after = Unit {0}
 Means (Some s) h held (Recover until) (done lines effect t) after = BringsTruly h s until t
 Means (Some s) h held (RecoverTest until inc) (told lines) after = TellsTruly h s until inc lines
 Means (Some s) h held DeleteObsolete (done lines effect t) after = IsSafe s held t after
 Means (Some s) h held (BlockRecover form) (done lines effect t) after = RepairsTruly h s form effect t
+Means (Some s) h held (BackupFrom scn) (done lines effect t) after = HoldsSince (world s) h scn (increment s scn)
 Means (Some s) h held (CreateDatabase dbid threads scn) o after = Unit {0}
 Means (Some s) h held (CreateDatafile blocks) o after = Unit {0}
 Means (Some s) h held (Write w) o after = Unit {0}
@@ -252,6 +258,8 @@ Means (Some s) h held (RecoverTest until inc) (refused r) after = Unit {0}
 Means (Some s) h held (RecoverCopy tag until) o after = Unit {0}
 Means (Some s) h held (Backup b) o after = Unit {0}
 Means (Some s) h held BackupLogs o after = Unit {0}
+Means (Some s) h held (BackupFrom scn) (told lines) after = Unit {0}
+Means (Some s) h held (BackupFrom scn) (refused r) after = Unit {0}
 Means (Some s) h held (BlockRecover form) (told lines) after = Unit {0}
 Means (Some s) h held (BlockRecover form) (refused r) after = Unit {0}
 Means (Some s) h held (Crosscheck class) o after = Unit {0}

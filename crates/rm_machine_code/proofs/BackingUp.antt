@@ -72,7 +72,7 @@ pub record IsReadyToRead (s : State) (j : Job) : Type 0 where
   pub taken : IsTaken s j.file
   pub begins : BeginsWithin s j.from
 
-mapped-all : {X Y : Type 0} (P : Y → Type 0) (f : X → Y) (xs : List X) → All P (map f xs) → All (λ x. P (f x)) xs
+pub mapped-all : {X Y : Type 0} (P : Y → Type 0) (f : X → Y) (xs : List X) → All P (map f xs) → All (λ x. P (f x)) xs
 mapped-all P f [] all = All-nil (λ x. P (f x))
 mapped-all P f (x ∷ xs) all = All-cons (λ y. P (f y)) x xs (All-head P (f x) (map f xs) all) (mapped-all P f xs (All-tail P (f x) (map f xs) all))
 

@@ -68,6 +68,7 @@ pub mod Repaired
 pub mod Repairs
 pub mod Restoring
 pub mod Returned
+pub mod Rolling
 mod Sizes
 pub mod Skipped
 pub mod Standing

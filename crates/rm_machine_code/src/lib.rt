@@ -20,4 +20,3 @@ pub mod until;
 pub mod writers;
 
 pub use nature::{is_built, nature_of, only_tells};
-pub use replies::refusal_reply;

@@ -29,6 +29,7 @@ pub fn nature_of(command: &Command) -> Nature
         Command::RecoverTest { .. } => Nature::TestsHeld,
         Command::RecoverCopy { .. } => Nature::TriesByHeld,
         Command::Backup(_) => Nature::Changes,
+        Command::BackupFrom { .. } => Nature::Changes,
         Command::BackupLogs => Nature::TriesByHeld,
         Command::BlockRecover(_) => Nature::TriesByHeld,
         Command::Crosscheck { .. } => Nature::ChangesByHeld,

@@ -1,23 +1,11 @@
-//! The reply of a refusal, and lines that several statements have.
+//! Lines that several statements have.
 ghost use Rattle.std.specs.Prelude.{◌≡◌, All, IfOk};
 ghost use Rattle.rm_machine.specs.Recovery.{skipped_lines};
-ghost use Rattle.rm_report.specs.Reply.{IsPlain, refused_by};
+ghost use Rattle.rm_report.specs.Reply.{IsPlain};
 
-use rm_base::{Bad, NoMemory, Refusal, Seq};
-use rm_report::{Line, Reply};
+use rm_base::{Bad, NoMemory, Seq};
+use rm_report::Line;
 use std::alloc::Global;
-
-/// The reply of a refusal: its one line.
-pub fn refusal_reply(alloc: Global, refusal: Refusal) -> Result<Reply, NoMemory>
-    ensures { IfOk result (λ reply. reply ≡ refused_by refusal) }
-{
-    let mut lines = Seq::new(alloc);
-    lines.push(Line::Refused(refusal))?;
-    Ok(Reply {
-        lines,
-        refused: true,
-    })
-}
 
 /// A line for each record that was skipped.
 pub fn skipped_lines(alloc: Global, skipped: &[(u32, Bad)]) -> Result<Seq<Line>, NoMemory>

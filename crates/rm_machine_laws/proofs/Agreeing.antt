@@ -13,10 +13,13 @@ use Rattle.rm_catalog.specs.declared.record.PieceEntry.{PieceEntry}
 use Rattle.rm_catalog.specs.declared.record.SetEntry.{SetEntry}
 use Rattle.rm_evidence.specs.declared.evidence.Evidence.{Evidence}
 use Rattle.rm_evidence.specs.Available.{HasLogObject, HasPieceObject, HasSetObject}
+use Rattle.rm_evidence.specs.Gathered.{IsGathered}
 use Rattle.rm_evidence.specs.Known.{known_of}
+use Rattle.rm_evidence.specs.Seen.{IsSeen}
 use Rattle.rm_history.specs.declared.world.World.{World}
 use Rattle.rm_history.specs.Agrees.{BaseAgrees, Level1Agrees, LogAgrees}
 use Rattle.rm_history.specs.Evidence as known
+use Rattle.rm_history.specs.History.{IsHistory}
 use Rattle.rm_evidence.specs.Names.{log_name, piece_name, set_name}
 use Rattle.rm_piece.specs.declared.piece.Piece.{Piece}
 use Rattle.rm_piece.specs.Artefacts.{base_of, level1_of}
@@ -32,10 +35,11 @@ use Rattle.rm_redo.specs.LogFormat as log_format
 use Rattle.rm_redo.proofs.LogFitting.{spelling_same as log_same}
 use Rattle.rm_machine.specs.Damage.{has_file}
 use Rattle.rm_machine.specs.Effect.{Made, a_log, a_piece, a_set}
-use Rattle.rm_machine.specs.Machine.{DigestsTell, DigestsTellFor, IsBorneOut, IsTrueArtefact, Machine, PieceAgrees, TellBy}
-use Rattle.rm_machine.specs.Recovery.{IsAtHand}
+use Rattle.rm_machine.specs.Machine.{DigestsTell, DigestsTellFor, IsBorneOut, IsSoundBy, IsTrueArtefact, Machine, PieceAgrees, TellBy}
+use Rattle.rm_machine.specs.Recovery.{IsAtHand, in_place}
 use Rattle.rm_machine.specs.declared.state.State.{State}
 use Rattle.rm_machine.specs.State.{ledger, world}
+use Rattle.rm_catalog_typed.specs.TypedCatalog.{records_of}
 use Rattle.rm_catalog_typed.specs.Worlds.{database_of}
 use Rattle.rm_machine_code.proofs.Places.{placed-is}
 use Rattle.rm_machine_laws.proofs.AtHand.{BackupFrom, BaseFrom, Level1From, LogFrom, base-from, from_copy, from_log, from_online, from_piece, from_place, from_set, level1-from, log-from}
@@ -133,3 +137,12 @@ untouched-by (Some s) objects made = record {
 
 pub untouched-tell : (m : Machine) → m.touched ≡ [] → DigestsTell m
 untouched-tell m none = subst (TellBy m.state m.objects m.made) (sym none) (untouched-by m.state m.objects m.made)
+
+-- where digests tell, what is at hand of the machine's database agrees with its history
+pub agreed : (from : Option Held) (s : State) (m : Machine) (e : Evidence) → from ≡ Some m.objects → m.state ≡ Some s → IsSoundBy m.state m.history m.objects m.made m.touched
+    → IsSeen from (λ h. IsGathered h (records_of s.catalog) (in_place s) e) → DigestsTell m → IsHistory (world s) m.history × known.Agrees (world s) m.history (known_of e)
+agreed from s m e store state sound seen digests =
+    let borne = subst (λ o. IsSoundBy o m.history m.objects m.made m.touched) state sound in
+    let tell = subst (λ o. TellBy o m.objects m.made m.touched) state digests in
+    let at_hand = subst (λ o. IsSeen o (λ h. IsGathered h (records_of s.catalog) (in_place s) e)) store seen in
+    (borne.keeps.history, evidence-agrees s m.history m.objects m.made m.touched borne tell e at_hand)

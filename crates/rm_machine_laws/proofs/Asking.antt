@@ -7,7 +7,7 @@ use Rattle.rm_base.specs.declared.refusal.Refusal.TheVariants.{Rm03, Rm05, Rm09}
 use Rattle.rm_base.specs.declared.refusal.Absent.TheVariants.{File}
 use Rattle.rm_base.proofs.Conditions.{only-where, unless}
 use Rattle.rm_lang_statement.specs.declared.command.Command.{Command}
-use Rattle.rm_lang_statement.specs.declared.command.Command.TheVariants.{ArchiveLogCurrent, Backup, ChangeBackup, Corrupt, CreateDatabase, CreateDatafile, Crosscheck, Cut, Damage, DeleteBackup, DeleteExpired, DeleteObsolete, LoseDatafile, LoseLog, Mount, OpenPlain, OpenResetlogs, Parallelism, Remove, Rename, ResetDatabase, Restore, Retention, SwitchLogfile, SwitchThread, Tracking, Write}
+use Rattle.rm_lang_statement.specs.declared.command.Command.TheVariants.{ArchiveLogCurrent, Backup, BackupFrom, ChangeBackup, Corrupt, CreateDatabase, CreateDatafile, Crosscheck, Cut, Damage, DeleteBackup, DeleteExpired, DeleteObsolete, LoseDatafile, LoseLog, Mount, OpenPlain, OpenResetlogs, Parallelism, Remove, Rename, ResetDatabase, Restore, Retention, SwitchLogfile, SwitchThread, Tracking, Write}
 use Rattle.rm_lang_statement.specs.declared.command.RepairForm.{RepairForm}
 use Rattle.rm_lang_statement.specs.declared.command.Until.{Until}
 use Rattle.rm_lang_statement.specs.declared.command.WriteForm.{WriteForm}
@@ -30,6 +30,7 @@ use Rattle.rm_machine.specs.declared.state.State.{State}
 use Rattle.rm_machine_code.proofs.BackupAccepted.{can-back_up}
 use Rattle.rm_machine_code.proofs.Branching.{can-reset}
 use Rattle.rm_machine_code.proofs.Disabling.{accepted}
+use Rattle.rm_machine_code.proofs.Rolling.{can-roll}
 use Rattle.rm_machine_code.proofs.Switching.{not-above}
 use Rattle.rm_machine_code.proofs.Untils.{second-none}
 use Rattle.rm_machine_laws.proofs.ArchivingAll.{room}
@@ -135,6 +136,7 @@ change-asks (SwitchThread t true) s nature sound is = search rules
 change-asks (SwitchThread t false) s nature sound is = few-left s _ (accepted s t sound is).ids
 change-asks (ResetDatabase i) s nature sound is = search rules
 change-asks (Backup b) s nature sound is = few-left s _ (can-back_up s b sound is).ids
+change-asks (BackupFrom scn) s nature sound is = few-left s _ (can-roll s scn is).ids
 change-asks (ChangeBackup n to) s nature sound is = search rules
 change-asks (DeleteBackup n) s nature sound is = search rules
 change-asks (DeleteExpired class) s nature sound is = asks-ids s is

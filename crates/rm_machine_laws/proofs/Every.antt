@@ -1,7 +1,7 @@
 -- The laws of every statement.
 use Rattle.std.proofs.Common.{◌≡◌, true, false, refl}
 use Rattle.rm_lang_statement.specs.declared.command.Command.{Command}
-use Rattle.rm_lang_statement.specs.declared.command.Command.TheVariants.{ArchiveLogCurrent, Backup, BackupLogs, BlockRecover, CatalogName, ChangeBackup, Corrupt, CreateDatabase, CreateDatafile, Crosscheck, Cut, Damage, DeleteBackup, DeleteExpired, DeleteObsolete, Dump, ListArchived, ListBackup, ListCopy, ListCorruption, ListIncarnation, LoseDatafile, LoseLog, Mount, OpenPlain, OpenResetlogs, Parallelism, Preview, Recover, RecoverTest, Remove, Rename, ReportNeedBackup, ReportObsolete, ReportSchema, ResetDatabase, Restore, Retention, ShowAll, SwitchLogfile, SwitchThread, Tracking, ValidateAll, Write, RecoverCopy}
+use Rattle.rm_lang_statement.specs.declared.command.Command.TheVariants.{ArchiveLogCurrent, Backup, BackupFrom, BackupLogs, BlockRecover, CatalogName, ChangeBackup, Corrupt, CreateDatabase, CreateDatafile, Crosscheck, Cut, Damage, DeleteBackup, DeleteExpired, DeleteObsolete, Dump, ListArchived, ListBackup, ListCopy, ListCorruption, ListIncarnation, LoseDatafile, LoseLog, Mount, OpenPlain, OpenResetlogs, Parallelism, Preview, Recover, RecoverTest, Remove, Rename, ReportNeedBackup, ReportObsolete, ReportSchema, ResetDatabase, Restore, Retention, ShowAll, SwitchLogfile, SwitchThread, Tracking, ValidateAll, Write, RecoverCopy}
 use Rattle.rm_machine.specs.Laws.{LeadsOn, TellsOn, only_tells}
 use Rattle.rm_machine_laws.proofs.AddingDatafile.{create-on, create-stays}
 use Rattle.rm_machine_laws.proofs.ArchivingAll.{all-on, all-stays}
@@ -25,6 +25,7 @@ use Rattle.rm_machine_laws.proofs.Recovered.{recover-on, recover-stays}
 use Rattle.rm_machine_laws.proofs.Renewals.{renew-on, renew-stays}
 use Rattle.rm_machine_laws.proofs.Repairing.{repair-on, repair-stays}
 use Rattle.rm_machine_laws.proofs.Restoring.{restore-on, restore-stays}
+use Rattle.rm_machine_laws.proofs.Rolling.{roll-loose, roll-on, roll-stays}
 use Rattle.rm_machine_laws.proofs.Settings.{parallelism-on, parallelism-stays, retention-on, retention-stays}
 use Rattle.rm_machine_laws.proofs.Switching.{switch-on, switch-stays}
 use Rattle.rm_machine_laws.proofs.Telling.{every-tells-by, tells-on, tells-stays}
@@ -39,7 +40,7 @@ use Rattle.rm_machine_laws.proofs.LooseMishaps.{cut-loose, damage-loose, remove-
 use Rattle.rm_machine_laws.proofs.LooseNew.{archive-loose, branch-loose, disable-loose, switch-loose}
 use Rattle.rm_machine_laws.proofs.LooseUpkeep.{change-loose, check-loose, delete-loose, expire-loose, obsolete-loose}
 use Rattle.rm_machine_laws.proofs.LooseQuiet.{choose-loose, corrupt-loose, create-loose, enable-loose, lose-loose, lose_log-loose, mount-loose, open-loose, parallelism-loose, recover-loose, repair-loose, restore-loose, retention-loose, told-loose, tracking-loose, write-loose}
-use Rattle.rm_machine_laws.proofs.Roomy.{LeavesIds, archive-roomy, back_logs-roomy, backup-roomy, branch-roomy, change-roomy, check-roomy, choose-roomy, corrupt-roomy, create-roomy, cut-roomy, damage-roomy, delete-roomy, disable-roomy, enable-roomy, expire-roomy, lose-roomy, lose_log-roomy, mount-roomy, never-roomy, obsolete-roomy, open-roomy, parallelism-roomy, recover-roomy, remove-roomy, rename-roomy, repair-roomy, restore-roomy, retention-roomy, switch-roomy, told-roomy, tracking-roomy, write-roomy, renew-roomy}
+use Rattle.rm_machine_laws.proofs.Roomy.{LeavesIds, archive-roomy, back_logs-roomy, backup-roomy, branch-roomy, change-roomy, check-roomy, choose-roomy, corrupt-roomy, create-roomy, cut-roomy, damage-roomy, delete-roomy, disable-roomy, enable-roomy, expire-roomy, lose-roomy, lose_log-roomy, mount-roomy, never-roomy, obsolete-roomy, open-roomy, parallelism-roomy, recover-roomy, remove-roomy, rename-roomy, repair-roomy, restore-roomy, retention-roomy, roll-roomy, switch-roomy, told-roomy, tracking-roomy, write-roomy, renew-roomy}
 
 -- what is shown of each statement
 record IsLawful (c : Command) : Type 0 where
@@ -73,6 +74,7 @@ every OpenPlain = lawful OpenPlain open-on open-stays open-loose open-roomy
 every OpenResetlogs = lawful OpenResetlogs resets-on resets-stays branch-loose branch-roomy
 every (ResetDatabase i) = lawful (ResetDatabase i) (choose-on i) (choose-stays i) (choose-loose i) (choose-roomy i)
 every (Backup b) = lawful (Backup b) (backup-on b) (backup-stays b) (backup-loose b) (backup-roomy b)
+every (BackupFrom scn) = lawful (BackupFrom scn) (roll-on scn) (roll-stays scn) (roll-loose scn) (roll-roomy scn)
 every BackupLogs = lawful BackupLogs back_logs-on back_logs-stays back_logs-loose back_logs-roomy
 every (BlockRecover form) = lawful (BlockRecover form) (repair-on form) (repair-stays form) (repair-loose form) (repair-roomy form)
 every (Restore file until) = lawful (Restore file until) (restore-on file until) (restore-stays file until) (restore-loose file until) (restore-roomy file until)

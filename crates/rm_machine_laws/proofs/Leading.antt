@@ -5,7 +5,7 @@ use Rattle.rm_base.specs.declared.block.Change.{Change}
 use Rattle.rm_base.specs.declared.refusal.Refusal.{Refusal}
 use Rattle.rm_machine.specs.Effect.{Effect, LeavesObjects, Made, done, told}
 use Rattle.rm_lang_statement.specs.declared.command.Command.{Command}
-use Rattle.rm_lang_statement.specs.declared.command.Command.TheVariants.{BlockRecover, DeleteObsolete, Recover}
+use Rattle.rm_lang_statement.specs.declared.command.Command.TheVariants.{BackupFrom, BlockRecover, DeleteObsolete, Recover}
 use Rattle.rm_report.specs.declared.line.Line.{Line}
 use Rattle.rm_machine.specs.Honest.{IsHonest}
 use Rattle.rm_machine.specs.Laws.{LeadsOn, StaysSound, TellsOn}
@@ -31,6 +31,7 @@ abbrev pub ShownBy : Command → Type 0 → Type 0 → Type 0
 ShownBy (Recover until) stands means = stands × means
 ShownBy DeleteObsolete stands means = stands × means
 ShownBy (BlockRecover form) stands means = stands × means
+ShownBy (BackupFrom scn) stands means = stands × means
 ShownBy _ stands means = stands
 
 abbrev pub LeadsOnBy : Command → Type 0
@@ -45,6 +46,7 @@ shown : (c : Command) (s : State) (h : List Change) (held : Held) (said : List L
 shown (Recover until) s h held said e t after stands both = both
 shown DeleteObsolete s h held said e t after stands both = both
 shown (BlockRecover form) s h held said e t after stands both = both
+shown (BackupFrom scn) s h held said e t after stands both = both
 shown _ s h held said e t after stands is = (is, tt)
 
 -- what is known of the objects that the effect leaves is known of them without those of a saved site
@@ -52,6 +54,7 @@ means-beside : (c : Command) (s : State) (h : List Change) (held : Held) (said :
     → Means (Some s) h held c (done said e t) after → Means (Some s) h held c (done said e t) last
 means-beside (Recover until) s h held said e t after last same means = means
 means-beside (BlockRecover form) s h held said e t after last same means = means
+means-beside (BackupFrom scn) s h held said e t after last same means = means
 means-beside DeleteObsolete s h held said e t after last same means = safe-beside (ledger s).base.policy s held t after last same means
 means-beside _ s h held said e t after last same means = tt
 

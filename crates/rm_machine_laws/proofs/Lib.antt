@@ -35,6 +35,7 @@ mod FreshLogs
 mod Further
 mod Gaps
 mod Grown
+mod Increments
 pub mod Halting
 pub mod Leading
 mod LooseBackup
@@ -61,6 +62,7 @@ mod Renewals
 mod Renewing
 mod Repairing
 mod Restoring
+mod Rolling
 mod Roomy
 pub mod Safely
 mod Settings

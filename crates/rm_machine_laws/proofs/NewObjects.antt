@@ -42,7 +42,7 @@ puts-rest xs ys before after has n = has n ∙ after-both name_of bytes_of xs ys
 pub put-there : (objects : Held) (x : Object) → with_puts (x ∷ []) objects x.name ≡ Some x.bytes
 put-there objects x = ap (λ b. cond b (Some x.bytes) (objects x.name)) ((bytes_eq-Decides x.name x.name).1 refl)
 
-put-beside : (objects : Held) (x : Object) (n : List ℕ) → n ≢ x.name → with_puts (x ∷ []) objects n ≡ objects n
+pub put-beside : (objects : Held) (x : Object) (n : List ℕ) → n ≢ x.name → with_puts (x ∷ []) objects n ≡ objects n
 put-beside objects x n other = elim (cases_Bool (bytes_eq n x.name)) [
   | inl same ↦ absurd (other ((bytes_eq-Decides n x.name).0 same))
   | inr not ↦ ap (λ b. cond b (Some x.bytes) (objects n)) not

@@ -22,7 +22,7 @@ use Rattle.rm_lang_statement.specs.declared.command.BackupForm.{BackupForm}
 use Rattle.rm_lang_statement.specs.declared.command.ChangeTo.{ChangeTo}
 use Rattle.rm_lang_statement.specs.declared.command.ChangeTo.TheVariants.{Available, Keep, NoKeep, Unavailable, Uncatalog}
 use Rattle.rm_lang_statement.specs.declared.command.Command.{Command}
-use Rattle.rm_lang_statement.specs.declared.command.Command.TheVariants.{ArchiveLogCurrent, Backup, BackupLogs, BlockRecover, ChangeBackup, Corrupt, CreateDatabase, CreateDatafile, Crosscheck, Cut, Damage, DeleteBackup, DeleteExpired, DeleteObsolete, LoseDatafile, LoseLog, Mount, OpenPlain, OpenResetlogs, Recover, Remove, Rename, ResetDatabase, Restore, SwitchLogfile, SwitchThread, Tracking, Write, Parallelism, Retention, RecoverCopy}
+use Rattle.rm_lang_statement.specs.declared.command.Command.TheVariants.{ArchiveLogCurrent, Backup, BackupFrom, BackupLogs, BlockRecover, ChangeBackup, Corrupt, CreateDatabase, CreateDatafile, Crosscheck, Cut, Damage, DeleteBackup, DeleteExpired, DeleteObsolete, LoseDatafile, LoseLog, Mount, OpenPlain, OpenResetlogs, Recover, Remove, Rename, ResetDatabase, Restore, SwitchLogfile, SwitchThread, Tracking, Write, Parallelism, Retention, RecoverCopy}
 use Rattle.rm_lang_statement.specs.declared.command.Until.{Until}
 use Rattle.rm_evidence.specs.declared.evidence.Evidence.{Evidence}
 use Rattle.rm_lang_statement.specs.declared.command.RepairForm.{RepairForm}
@@ -56,6 +56,7 @@ use Rattle.rm_machine.specs.Until.{or_else}
 use Rattle.rm_machine_code.proofs.Untils.{until-none}
 use Rattle.rm_machine.specs.ResetDatabase.{at_incarnation}
 use Rattle.rm_machine.specs.Restore.{RestoresTo, place_refusal, restored}
+use Rattle.rm_machine.specs.Roll.{after_roll, roll_effect}
 use Rattle.rm_machine.specs.Sound.{IsSound}
 use Rattle.rm_machine.specs.declared.state.State.{State}
 use Rattle.rm_machine.specs.State.{current_of, is_no_thread, ledger, now_of, on_path, online}
@@ -75,6 +76,7 @@ use Rattle.rm_machine_code.proofs.BackingUpLogs.{after_copies, room-for}
 use Rattle.rm_machine_laws.proofs.BackingUpLogs.{done-of}
 use Rattle.rm_machine_code.proofs.Branching.{can-reset}
 use Rattle.rm_machine_code.proofs.Disabling.{accepted}
+use Rattle.rm_machine_code.proofs.Rolling.{can-roll}
 use Rattle.rm_machine_laws.proofs.Mishaps.{IsMishap, cut-by, damaged-by, removed-by, renamed-by}
 use Rattle.rm_machine_laws.proofs.Leading.{done-by}
 use Rattle.rm_machine_laws.proofs.Renewals.{leaves-renewed}
@@ -344,6 +346,11 @@ backup-roomy b s held lines e t sound comes =
     let most = (can-back_up s b sound both.0).ids in
     let up = objects-next b does.tag xs q in
     left-after lines _ e (effect_of s b does.tag does.events xs) (after_objects q b does.tag xs) t does.is (omega (arith, same, many, most, up))
+
+-- and so does an increment for a standby
+pub roll-roomy : (from : ℕ) → LeavesIds (BackupFrom from)
+roll-roomy from = leaves (BackupFrom from) (λ s held lines e t sound none is.
+    let most = (can-roll s from none).ids in left-after lines _ e (roll_effect s from) (after_roll s) t is (omega (arith, most)))
 
 -- and so does each backup of a log
 copies-next : (logs : List LogFile) (n : ℕ) (r : TypedCatalog) → next_in (with_copies r (numbered_from n logs)) ≡ next_in r + length logs

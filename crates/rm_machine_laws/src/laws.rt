@@ -47,7 +47,7 @@ ghost use Rattle.rm_machine.specs.declared.job.Job.{Job};
 ghost use Rattle.rm_machine.specs.declared.state.State.{State};
 ghost use Rattle.rm_machine.specs.State.{at_moment, current_of, ledger, now_of, on_path, tree, world};
 ghost use Rattle.rm_machine_laws.specs.Wanted.{HasChangedSince, IsReadByBitmaps};
-ghost use Rattle.rm_lang_statement.specs.declared.command.Command.TheVariants.{ArchiveLogCurrent, Backup, BackupLogs, BlockRecover, CatalogName, ChangeBackup, Corrupt, CreateDatafile, Crosscheck, Cut, Damage, DeleteBackup, DeleteExpired, DeleteObsolete, LoseDatafile, LoseLog, Mount, OpenPlain, OpenResetlogs, Parallelism, Recover, RecoverCopy, RecoverTest, Remove, Rename, ResetDatabase, Restore, Retention, SwitchLogfile, SwitchThread, Tracking, Write};
+ghost use Rattle.rm_lang_statement.specs.declared.command.Command.TheVariants.{ArchiveLogCurrent, Backup, BackupFrom, BackupLogs, BlockRecover, CatalogName, ChangeBackup, Corrupt, CreateDatafile, Crosscheck, Cut, Damage, DeleteBackup, DeleteExpired, DeleteObsolete, LoseDatafile, LoseLog, Mount, OpenPlain, OpenResetlogs, Parallelism, Recover, RecoverCopy, RecoverTest, Remove, Rename, ResetDatabase, Restore, Retention, SwitchLogfile, SwitchThread, Tracking, Write};
 
 /// There are sound machines: that of a new database is one.
 pub fn a_new_database_is_sound()
@@ -139,6 +139,13 @@ pub fn what_a_level_1_leaves_out_stood_below()
 pub fn a_backup_of_logs_leads_on()
     ensures leads { LeadsOn BackupLogs }
     ensures stays { StaysSound BackupLogs }
+{}
+
+/// BACKUP INCREMENTAL FROM SCN, likewise: its object comes to stand under a name that no record has. Of each datafile of the current path it has
+/// exactly the rows at `now` of a version at or above the SCN.
+pub fn an_increment_leads_on()
+    ensures leads { (scn : ℕ) → LeadsOn (BackupFrom scn) }
+    ensures stays { (scn : ℕ) → StaysSound (BackupFrom scn) }
 {}
 
 /// SHUTDOWN and STARTUP MOUNT, likewise: what is in place stands at `now`.

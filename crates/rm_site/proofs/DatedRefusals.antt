@@ -5,7 +5,7 @@ use Rattle.std.specs.Option.{option_and_then, option_map, option_map_or}
 use Rattle.rm_base.specs.declared.refusal.Refusal.{Refusal}
 use Rattle.rm_lang_statement.specs.declared.command.BackupForm.{BackupForm}
 use Rattle.rm_lang_statement.specs.declared.command.Command.{Command}
-use Rattle.rm_lang_statement.specs.declared.command.Command.TheVariants.{ArchiveLogCurrent, Backup, BackupLogs, BlockRecover, ChangeBackup, Corrupt, CreateDatabase, CreateDatafile, Crosscheck, Cut, Damage, DeleteBackup, DeleteExpired, DeleteObsolete, Dump, LoseDatafile, LoseLog, Mount, OpenPlain, OpenResetlogs, Parallelism, Preview, Recover, RecoverCopy, RecoverTest, Remove, Rename, ResetDatabase, Restore, Retention, SwitchLogfile, SwitchThread, Tracking, Write}
+use Rattle.rm_lang_statement.specs.declared.command.Command.TheVariants.{ArchiveLogCurrent, Backup, BackupFrom, BackupLogs, BlockRecover, ChangeBackup, Corrupt, CreateDatabase, CreateDatafile, Crosscheck, Cut, Damage, DeleteBackup, DeleteExpired, DeleteObsolete, Dump, LoseDatafile, LoseLog, Mount, OpenPlain, OpenResetlogs, Parallelism, Preview, Recover, RecoverCopy, RecoverTest, Remove, Rename, ResetDatabase, Restore, Retention, SwitchLogfile, SwitchThread, Tracking, Write}
 use Rattle.rm_lang_statement.specs.declared.command.RepairForm.{RepairForm}
 use Rattle.rm_lang_statement.specs.declared.command.RetentionForm.{RetentionForm}
 use Rattle.rm_lang_statement.specs.declared.command.RetentionForm.TheVariants as form
@@ -34,6 +34,7 @@ use Rattle.rm_machine.specs.RecoverTest.{test_refusal, tested, tested_refusal}
 use Rattle.rm_machine.specs.ResetDatabase.{reset_refusal}
 use Rattle.rm_machine.specs.Recovery.{range_refusal}
 use Rattle.rm_machine.specs.Restore.{absent_refusal, place_refusal, preview_refusal, restore_refusal}
+use Rattle.rm_machine.specs.Roll.{roll_refusal, roll_room}
 use Rattle.rm_machine.specs.Sound.{IsSound}
 use Rattle.rm_machine.specs.Step.{refusal_of}
 use Rattle.rm_machine.specs.SwitchLogfile.{switch_refusal}
@@ -110,6 +111,12 @@ room-dated s b = search (unless-dated, damage-dated) depth 9
 
 backup-dated : (s : State) (b : BackupForm) → IsDated (backup_refusal s b)
 backup-dated s b = search (if-dated, or-dated, room-dated, once) depth 9
+
+roll_room-dated : (s : State) → IsDated (roll_room s)
+roll_room-dated s = search (unless-dated, damage-dated)
+
+roll-dated : (s : State) (scn : ℕ) → IsDated (roll_refusal s scn)
+roll-dated s scn = search (if-dated, or-dated, roll_room-dated, once) depth 9
 
 open-dated : (s : State) → IsDated (open_refusal s)
 open-dated s = search (if-dated, unless-dated, ids-dated, once)
@@ -228,6 +235,7 @@ every-refusal-dated s sound (SwitchLogfile t) = switch-dated s t
 every-refusal-dated s sound ArchiveLogCurrent = archive-dated s
 every-refusal-dated s sound (Backup b) = backup-dated s b
 every-refusal-dated s sound BackupLogs = never
+every-refusal-dated s sound (BackupFrom scn) = roll-dated s scn
 every-refusal-dated s sound (BlockRecover form) = repair-dated s form
 every-refusal-dated s sound Mount = ids-dated s
 every-refusal-dated s sound OpenPlain = open-dated s

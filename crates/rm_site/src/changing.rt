@@ -50,6 +50,7 @@ pub(crate) fn change<R: Threads + Wait + Sync, G: Gate>(
             let channels = channel_count(state, channels);
             rm_step_backup::backup(rt, alloc, gate, channels, state, edits, form)
         }
+        Command::BackupFrom { scn } => rm_step_backup::roll(alloc, state, edits, *scn),
         Command::Mount => rm_step_open::mount(alloc, state),
         Command::OpenPlain => rm_step_open::open(alloc, state),
         Command::OpenResetlogs => rm_step_open::open_resetlogs(alloc, state, edits),

@@ -28,6 +28,7 @@ pub(crate) fn refusal_of(
         Command::ArchiveLogCurrent => Ok(rm_step_open::archive_all_refusal(state)),
         Command::Backup(form) => Ok(rm_step_backup::backup_refusal(state, form)),
         Command::BackupLogs => Ok(None),
+        Command::BackupFrom { scn } => Ok(rm_step_backup::roll_refusal(state, *scn)),
         Command::BlockRecover(form) => Ok(rm_step_repair::repair_refusal(state, form)),
         Command::Mount => Ok(ids_refusal(state)),
         Command::OpenPlain => Ok(rm_step_open::open_refusal(state)),

@@ -5,6 +5,7 @@ pub mod Copying
 pub mod Counted
 pub mod Forms
 pub mod Gone
+pub mod Increments
 pub mod LogBackups
 mod Objects
 mod PieceLoops

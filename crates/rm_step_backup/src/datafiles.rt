@@ -32,8 +32,8 @@ fn is_taken(state: &State, form: &BackupForm, number: FileNo, datafile: &Datafil
     exists(state, state.catalog.base().current, now(state), datafile) && asks_for(form, number)
 }
 
-// How many datafiles are backed up: 0 to 64.
-fn taken_count(state: &State, form: &BackupForm) -> u64
+/// How many datafiles are backed up: 0 to 64.
+pub(crate) fn taken_count(state: &State, form: &BackupForm) -> u64
     requires sound { IsSound state.now }
     ensures { result ≡ length (taken state.now form.now) }
 {
@@ -46,8 +46,8 @@ fn taken_count(state: &State, form: &BackupForm) -> u64
     count
 }
 
-// How many blocks they have together: at most 131,072.
-fn taken_blocks(state: &State, form: &BackupForm) -> u64
+/// How many blocks they have together: at most 131,072.
+pub(crate) fn taken_blocks(state: &State, form: &BackupForm) -> u64
     requires sound { IsSound state.now }
     ensures { result ≡ sum_by (blocks_of (world state.now)) (taken state.now form.now) }
 {

@@ -1,4 +1,5 @@
-//! BACKUP of datafiles by channels, while the database may write, over its state; and BACKUP ARCHIVELOG ALL.
+//! BACKUP of datafiles by channels, while the database may write, over its state; BACKUP ARCHIVELOG ALL; and
+//! BACKUP INCREMENTAL FROM SCN.
 #![tactic(auto)]
 
 mod asking;
@@ -9,10 +10,12 @@ mod looking;
 mod pieces;
 mod recording;
 pub mod refusing;
+mod rolling;
 mod running;
 mod sets;
 pub mod statement;
 
 pub use logs::backup_logs;
 pub use refusing::backup_refusal;
+pub use rolling::{roll, roll_refusal};
 pub use statement::backup;

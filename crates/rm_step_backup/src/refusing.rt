@@ -42,8 +42,8 @@ fn damaged_taken(state: &State, form: &BackupForm) -> Option<BlockId>
         .copied()
 }
 
-// A block is damaged, one of a datafile that is backed up or one that is written.
-fn damage_refusal(state: &State, form: &BackupForm) -> Option<Refusal>
+/// A block is damaged, one of a datafile that is backed up or one that is written.
+pub(crate) fn damage_refusal(state: &State, form: &BackupForm) -> Option<Refusal>
     requires sound { IsSound state.now }
     requires there { absent_of state.now (writes_in form.now) ≡ None }
     ensures { result ≡ damage_refusal state.now form.now }

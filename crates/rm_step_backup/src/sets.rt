@@ -36,8 +36,8 @@ fn creation_of(state: &State, file: FileNo) -> Scn
     state.catalog.files().get(index).map_or(0, |it| it.creation)
 }
 
-// The member of a datafile of which these rows were read, with this checkpoint.
-fn member_of(
+/// The member of a datafile of which these rows were read, with this checkpoint. An error is want of memory.
+pub(crate) fn member_of(
     alloc: Global,
     state: &State,
     form: &BackupForm,

@@ -52,8 +52,9 @@ fn switch_all(
     Ok(())
 }
 
-// Begins the backup: writes the mark that comes before its writes, and ends the current bitmap of each datafile that is backed up.
-fn begin(
+/// Begins the backup: writes the mark that comes before its writes, and ends the current bitmap of each datafile that is backed up.
+/// Without memory nothing is said of the state and the edits.
+pub(crate) fn begin(
     alloc: Global,
     state: &mut State,
     edits: &mut Vec<Edit>,

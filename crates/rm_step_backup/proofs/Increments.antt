@@ -1,0 +1,89 @@
+-- BACKUP INCREMENTAL FROM SCN: the set that is made of the datafiles in place is the increment, and what is done is its outcome.
+use Rattle.std.proofs.Common.{◌≡◌, ◌<◌, ◌≤◌, ◌+◌, ◌∙◌, ℕ, List, [], ◌∷◌, Option, Some, None, All, ap, sym, subst, arith, false, length, map}
+use Rattle.std.proofs.lemmas.List.{map-id}
+use Rattle.std.proofs.lemmas.List.Elements.{All-weaker}
+use Rattle.std.proofs.lemmas.List.Sums.{sum_by-le}
+use Rattle.std.proofs.lemmas.Simd.{map-map}
+use Rattle.rm_base.specs.Store.{Held}
+use Rattle.rm_catalog_typed.specs.Fitting.{FitsBase}
+use Rattle.rm_commit.specs.declared.commit.Object.{Object}
+use Rattle.rm_lang_statement.specs.declared.command.BackupForm.{BackupForm}
+use Rattle.rm_lang_statement.specs.declared.command.Command.TheVariants.{BackupFrom}
+use Rattle.rm_machine.specs.Backup.{taken}
+use Rattle.rm_machine.specs.BackupOutcome.{begun}
+use Rattle.rm_machine.specs.BackupRefusal.{mark_count}
+use Rattle.rm_machine.specs.Effect.{done}
+use Rattle.rm_machine.specs.Hands.{Hands}
+use Rattle.rm_machine.specs.Marks.{lacks_room}
+use Rattle.rm_machine.specs.Roll.{increment, of_all, roll_effect, roll_refusal, rows_listed, with_next_id}
+use Rattle.rm_machine.specs.Sound.{IsSound}
+use Rattle.rm_machine.specs.Upkeep.{with_catalog}
+use Rattle.rm_machine.specs.declared.handed.Handed.{Handed}
+use Rattle.rm_machine.specs.declared.job.Job.{Job}
+use Rattle.rm_machine.specs.declared.state.State.{State}
+use Rattle.rm_machine.specs.State.{ledger}
+use Rattle.rm_machine_code.proofs.BackingUp.{mapped-all}
+use Rattle.rm_machine_code.proofs.Rolling.{can-roll, increment-valid, next-fits}
+use Rattle.rm_piece.specs.Sets.{IsMember, IsSet}
+use Rattle.rm_piece.specs.Valid.{IsPiece}
+use Rattle.rm_piece.specs.declared.set.Set.{Set}
+use Rattle.rm_piece.specs.declared.set.SetFile.{SetFile}
+use Rattle.rm_piece.proofs.Fitting.{few_rows}
+use Rattle.rm_report.specs.declared.line.Line.{Line}
+use Rattle.rm_step_backup.specs.Increments.{CanStand, jobs_of, line_of, object_of, standing_member, standing_set}
+
+-- a valid set lists 65,536 rows of each member at most
+pub rows-few : (a : Set) → IsSet a → rows_listed a ≤ 4194304
+rows-few a is =
+    let short = All-weaker (IsMember a) (λ m. length m.piece.rows ≤ 65536) (λ m one. few_rows m.piece one.piece) a.members is.members in
+    omega (arith, sum_by-le (λ (m : SetFile). length m.piece.rows) 65536 a.members short, is.few)
+
+module _ (s : State) (from : ℕ) (sound : IsSound s) (accepted : roll_refusal s from ≡ None) (b : BackupForm) (form : b ≡ of_all) (js : List Job) (jobs : js ≡ jobs_of from (taken s b)) where
+  abbrev job : ℕ → Job
+  job f = record { file = f; from = Some from }
+
+  pub files-are : map (λ j. j.file) js ≡ taken s b
+  files-are = ap (map (λ (j : Job). j.file)) jobs ∙ map-map (λ (j : Job). j.file) job (taken s b) ∙ map-id (taken s b)
+
+  pub set-is : standing_set s b js ≡ increment s from
+  set-is =
+      let all : js ≡ jobs_of from (taken s of_all) = jobs ∙ ap (λ x. jobs_of from (taken s x)) form in
+      (λ i. standing_set s (form i) (all i)) ∙ ap (λ (ms : List SetFile). record (increment s from) { members = ms }) (map-map (standing_member s of_all) job (taken s of_all))
+
+  pub set-valid : IsSet (standing_set s b js)
+  set-valid = subst IsSet (sym set-is) (increment-valid s from sound accepted)
+
+  pub can-stand : CanStand s b js
+  can-stand =
+      let a : Set = standing_set s b js in
+      let each : All (λ j. IsMember a (standing_member s b j)) js = mapped-all (IsMember a) (standing_member s b) js set-valid.members in
+      record {
+        some = All-weaker (λ j. IsMember a (standing_member s b j)) (λ j. 0 < j.file) (λ j one. omega (arith, one.piece.file.0)) js each;
+        valid = All-weaker (λ j. IsMember a (standing_member s b j)) (λ j. IsPiece (standing_member s b j).piece) (λ j one. one.piece) js each;
+      }
+
+  -- no mark is written
+  pub roomy : lacks_room s (mark_count s b) ≡ false
+  roomy = ap (λ x. lacks_room s (mark_count s x)) form
+
+  -- the database after its beginning, and after an id is drawn
+  module _ (q : State) (begins : q ≡ begun s b) where
+    begun-is : q ≡ begun s of_all
+    begun-is = begins ∙ ap (begun s) form
+
+    pub base-fits : FitsBase q.catalog (record (ledger q).base { next_id = (ledger q).base.next_id + 1 })
+    base-fits =
+        coe 1 0 (i. FitsBase (begun-is i).catalog (record (ledger (begun-is i)).base { next_id = (ledger (begun-is i)).base.next_id + 1 }))
+        (next-fits s sound (omega (arith, (can-roll s from accepted).ids)))
+
+    pub hands : (held : Option Held) (x : Handed) (t : State) → x.lines ≡ line_of s (standing_set s b js) from ∷ [] → x.objects ≡ object_of s (standing_set s b js) ∷ [] → x.removes ≡ []
+        → t ≡ with_catalog q (with_next_id q.catalog) → Hands held s (BackupFrom from) x t
+    hands held x t lines objects removes is =
+        let told : x.lines ≡ line_of s (increment s from) from ∷ [] = lines ∙ ap (λ a. line_of s a from ∷ []) set-is in
+        let after = is ∙ ap (λ (y : State). with_catalog y (with_next_id y.catalog)) begun-is in
+        record {
+          effect = roll_effect s from;
+          comes = λ store same i. done (told i) (roll_effect s from) (after i);
+          puts = objects ∙ ap (λ a. object_of s a ∷ []) set-is;
+          removes = removes;
+        }
