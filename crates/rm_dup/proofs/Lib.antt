@@ -1,9 +1,9 @@
-mod Back
-mod Blocks
+pub mod Back
+pub mod Blocks
 mod Gathered
 mod Made
 mod Numbered
 mod Recovery
-mod Source
+pub mod Source
 mod Valid
 mod Whole

@@ -16,6 +16,7 @@ use Rattle.rm_report.specs.declared.line.Line.TheVariants.{BlockIs, Recovered, U
 use Rattle.rm_machine.specs.Recovery.{skipped_lines}
 use Rattle.rm_machine.specs.RecoverTest.{block_lines, file_lines, files_lines, is_written, test_lines}
 use Rattle.rm_machine.specs.Restore.{gap_line, origin_line, origin_lines}
+use Rattle.rm_step_recover.specs.Lines.{rows_lines}
 use Rattle.rm_machine_code.proofs.Skipped.{skipped-dated}
 
 abbrev AreDated : List Line → Type 0
@@ -36,11 +37,15 @@ blocks-dated : (creation : ℕ) (rs : List Row) → AreDated (block_lines creati
 blocks-dated creation [] = All-nil IsPlain
 blocks-dated creation (r ∷ rs) = block-dated (is_written creation r) (BlockIs r.block r.version r.content) (block_lines creation rs) tt (blocks-dated creation rs)
 
+-- the lines of the rows of a datafile
+pub rows-dated : (creation file : ℕ) (rows : List Row) → AreDated (rows_lines creation file rows)
+rows-dated creation file rows = All-cons IsPlain _ (block_lines creation rows) tt (blocks-dated creation rows)
+
 files-dated : (w : World) (files : List File) → AreDated (files_lines w files)
 files-dated w [] = All-nil IsPlain
 files-dated w (x ∷ xs) =
     let creation = creation_of w x.file in
-    All-append IsPlain (file_lines creation x) (files_lines w xs) (All-cons IsPlain _ (block_lines creation x.rows) tt (blocks-dated creation x.rows)) (files-dated w xs)
+    All-append IsPlain (file_lines creation x) (files_lines w xs) (rows-dated creation x.file x.rows) (files-dated w xs)
 
 origin-dated : (f : ℕ) (o : Origin) → IsPlain (origin_line f o)
 origin-dated f (Backup id at) = tt

@@ -6,3 +6,4 @@ pub mod OriginLines
 pub mod Over
 pub mod Records
 pub mod Sound
+pub mod Targets

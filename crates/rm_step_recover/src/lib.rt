@@ -11,7 +11,9 @@ mod recovery;
 mod recovery_test;
 mod restoring;
 
+pub use lines::push_rows;
 pub use previewing::{preview, preview_refusal};
+pub use recovered_files::recovered_at;
 pub use recovery::{recover, recover_refusal};
 pub use recovery_test::{recover_test, test_refusal};
 pub use restoring::{restore, restore_refusal};

@@ -4,7 +4,7 @@ ghost use Rattle.rm_history.specs.World.{creation_of};
 ghost use Rattle.rm_machine.specs.RecoverTest.{block_lines, file_lines, files_lines, test_lines};
 ghost use Rattle.rm_machine.specs.Restore.{origin_line, origin_lines};
 ghost use Rattle.rm_machine.specs.State.{world};
-ghost use Rattle.rm_step_recover.specs.Lines.{HasLines};
+ghost use Rattle.rm_step_recover.specs.Lines.{HasLines, rows_lines};
 
 use rm_apply::Origin;
 use rm_base::{FileNo, IncNo, NoMemory, Row, Scn, Seq};
@@ -78,19 +78,31 @@ fn push_blocks(lines: &mut Seq<Line>, creation: Scn, rows: &[Row]) -> Result<(),
     Ok(())
 }
 
+/// Adds the lines of the rows of a datafile that was created there, at most 65,536: of the datafile, and of each block that was written.
+pub fn push_rows(
+    lines: &mut Seq<Line>,
+    creation: Scn,
+    file: FileNo,
+    rows: &[Row],
+) -> Result<(), NoMemory>
+    requires few { length rows.now ≤ 65536 }
+    ensures { OnOk result (lines.new ≡ lines.old ++ rows_lines creation file rows.now) }
+{
+    let written = rows.iter().filter(|row| creation < row.version).count();
+    lines.push(Line::FileIs {
+        file,
+        blocks: rows.len() as u32,
+        written: written as u32,
+    })?;
+    push_blocks(lines, creation, rows)
+}
+
 // Adds the lines of a datafile that was created there.
 fn push_file(lines: &mut Seq<Line>, creation: Scn, file: &DataFile) -> Result<(), NoMemory>
     requires { length file.now.rows ≤ 65536 }
     ensures { OnOk result (lines.new ≡ lines.old ++ file_lines creation file.now) }
 {
-    let rows = file.rows();
-    let written = rows.iter().filter(|row| creation < row.version).count();
-    lines.push(Line::FileIs {
-        file: file.file(),
-        blocks: rows.len() as u32,
-        written: written as u32,
-    })?;
-    push_blocks(lines, creation, rows)
+    push_rows(lines, creation, file.file(), file.rows())
 }
 
 // The SCN at which the datafile of this number, at least 1, was created; 0 for one that is not there.

@@ -20,7 +20,7 @@ use std::thread::Threads;
 /// The datafiles at (i, at), at most 64, by what is at hand, and the records that were skipped; or the refusal
 /// that names the first gap. Each object that counts as available is read once, and the blocks are put in place
 /// by so many channels.
-pub(crate) fn recovered_at<R: Threads + Sync, D: Store>(
+pub fn recovered_at<R: Threads + Sync, D: Store>(
     rt: &R,
     alloc: Global,
     channels: u32,

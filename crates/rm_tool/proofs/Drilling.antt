@@ -12,7 +12,7 @@ use Rattle.rm_site.specs.Shown.{next_scn, objects_in}
 use Rattle.rm_tool.proofs.Tallies.{line-is}
 use Rattle.rm_tool.specs.Drill.{IsTally, drill_line, summary_text}
 use Rattle.rm_tool.specs.Comes.{AtHand}
-use Rattle.rm_tool.specs.Ends.{WritesFront}
+use Rattle.rm_tool_ends.specs.Writing.{WritesFront}
 use Rattle.rm_tool.specs.Run.{Watch}
 use Rattle.rm_tool.specs.Serving.{FromEach, EndsInLine, Serves, Shows}
 use Rattle.rm_tool.specs.declared.drill.Summary.{Summary}

@@ -7,6 +7,7 @@ pub mod Lines
 pub mod Quiet
 pub mod Runs
 pub mod Setting
+pub mod Source
 pub mod Statements
 pub mod Tallies
 pub mod Telling

@@ -9,7 +9,7 @@ use Rattle.std.proofs.lemmas.List.{append_assoc, get_or_default, length-append, 
 use Rattle.rm_base.specs.Outside.{Appends}
 use Rattle.rm_base.proofs.Lists.{take_more}
 use Rattle.rm_base.proofs.Streams.{appends-then}
-use Rattle.rm_tool.specs.Ends.{WritesFront}
+use Rattle.rm_tool_ends.specs.Writing.{WritesFront}
 use Rattle.rm_tool.specs.Drill.{parts_text, summary_text, with_part}
 use Rattle.rm_tool.specs.declared.drill.Summary.{Summary}
 

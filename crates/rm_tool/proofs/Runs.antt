@@ -25,7 +25,7 @@ use Rattle.rm_site.specs.Untouched.{AreSame, IsUntouched}
 use Rattle.rm_tool.proofs.Coming.{come-more}
 use Rattle.rm_tool.specs.Comes.{AtHand, ComeWith, StatementComes, at_hand}
 use Rattle.rm_tool.specs.Drill.{IsTally}
-use Rattle.rm_tool.specs.Ends.{WritesFront}
+use Rattle.rm_tool_ends.specs.Writing.{WritesFront}
 use Rattle.rm_tool.specs.Quiet.{are_quiet, is_quiet_statement, only_tells_statement}
 use Rattle.rm_tool.specs.Run.{StepOf, StatementStep, past, behind, Run, IsHonestAlong, IsHonestWithin, RunsWhereHonest, AreToCome, Watch, WasAskedFor, asks, asks_for, replies_text}
 use Rattle.rm_tool.specs.declared.tally.Tally.{Tally}

@@ -3,6 +3,7 @@ pub mod Built
 pub mod Comes
 pub mod Drill
 pub mod Ends
+pub mod Opening
 pub mod Quiet
 pub mod Run
 pub mod Serving

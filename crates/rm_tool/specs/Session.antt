@@ -16,14 +16,10 @@ use Rattle.rm_machine.specs.declared.state.State.{State}
 use Rattle.rm_machine_laws.specs.Holds.{HoldsRest, View}
 use Rattle.rm_site.specs.Opens.{AreValid, Shows}
 use Rattle.rm_site.specs.Untouched.{AreSame}
-use Rattle.rm_tool.specs.Ends.{WritesFront}
 use Rattle.rm_tool.specs.Run.{Watch}
 use Rattle.rm_tool.specs.Serving.{Closes, EndsInOutput, EndsMidway}
 use Rattle.rm_tool.specs.Words.{accepts, drill_of}
-
--- the line of status 2
-abbrev pub bad_words : List ℕ
-bad_words = codes "rman: bad words" ++ 10 ∷ []
+use Rattle.rm_tool_ends.specs.Writing.{WritesFront, bad_words}
 
 -- the line of status 8
 abbrev pub over_long : List ℕ

@@ -2,13 +2,13 @@
 ghost use Rattle.std.specs.Prelude.{◌≤◌, ◌++◌, OnErr, OnOk};
 ghost use Rattle.std.specs.Fmt.{decimal};
 ghost use Rattle.rm_base.specs.Outside.{Appends, Rose};
-ghost use Rattle.rm_tool.specs.Ends.{WritesFront};
+ghost use Rattle.rm_tool_ends.specs.Writing.{WritesFront};
 ghost use Rattle.rm_tool.specs.Drill.{parts_text, summary_text};
 
-use crate::ends::write_all;
 use crate::tally::Tally;
 use itoa::Buffer;
 use rm_base::{Failed, Scn, Sink};
+use rm_tool_ends::write_all;
 
 /// A sink that keeps nothing and never fails.
 #[derive(Clone, Copy)]

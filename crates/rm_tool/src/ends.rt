@@ -1,10 +1,10 @@
-//! All that a source gives, and all bytes to a sink.
-ghost use Rattle.std.specs.Prelude.{◌≡◌, ◌+◌, ◌<◌, ◌≤◌, length, true, None, IfOk, IfSome, IsSome, OnOk, OnErr, IsErrOf};
-ghost use Rattle.rm_base.specs.Outside.{Appends, HasTaken, Rose};
-ghost use Rattle.rm_tool.specs.Ends.{Counted, TakesMany, WritesFront};
+//! All that a source gives, and the script of a session.
+ghost use Rattle.std.specs.Prelude.{◌≡◌, ◌+◌, ◌<◌, ◌≤◌, length, true, None, IfOk, IfSome, IsSome, OnOk, IsErrOf};
+ghost use Rattle.rm_base.specs.Outside.{HasTaken, Rose};
+ghost use Rattle.rm_tool.specs.Ends.{Counted, TakesMany};
 ghost use Rattle.rm_tool.specs.Session.{ScriptOf};
 
-use rm_base::{Failed, NoMemory, Sink, Source};
+use rm_base::{Failed, NoMemory, Source};
 use rm_drill::drill_script;
 use std::alloc::{AllocError, Global};
 
@@ -102,23 +102,4 @@ pub fn script_for<S: Source>(
         Some(number) => Ok(drill_script(alloc, number)?.into_vec()),
         None => read_all(alloc, source),
     }
-}
-
-/// Writes all bytes, in order. It stops at the first failure, and where a write takes none of them;
-/// then some of the first bytes were written.
-pub fn write_all<K: Sink>(sink: &mut K, bytes: &[u8]) -> Result<(), Failed>
-    ensures ok { OnOk result (Appends (K.contents sink.old) (K.contents sink.new) bytes.now) }
-    ensures failed { OnErr result (Rose (K.faults sink.old) (K.faults sink.new)) }
-    ensures prefix { OnErr result (WritesFront (K.contents sink.old) (K.contents sink.new) bytes.now) }
-    ensures never_falls { K.faults sink.old ≤ K.faults sink.new }
-{
-    let mut at = 0;
-    while at < bytes.len() {
-        let n = sink.write(&bytes[at..])?;
-        if n == 0 {
-            return Err(Failed);
-        }
-        at += n;
-    }
-    Ok(())
 }

@@ -1,13 +1,14 @@
 //! The site is opened, or the line of a record is written.
-ghost use Rattle.std.specs.Prelude.{◌≡◌, ◌≤◌, true, false, IfOk, OnOk, IsErrOf};
+ghost use Rattle.std.specs.Prelude.{◌≡◌, ◌≤◌, true, false, IfErr, IfOk, OnOk, IsErrOf};
 ghost use Rattle.rm_base.specs.Outside.{Rose};
 ghost use Rattle.rm_site.specs.Opens.{Opens, Shows};
-ghost use Rattle.rm_tool.specs.Session.{TellsValid, WritesBadRecord, BeginsBadRecord, bad_record};
+ghost use Rattle.rm_tool.specs.Opening.{RoseUnopened, WritesUnopened};
+ghost use Rattle.rm_tool.specs.Session.{BeginsBadRecord, TellsValid, WritesBadRecord, bad_record};
 
-use crate::ends::write_all;
 use rm_base::{Failed, NoMemory, Sink, Store, Text};
 use rm_catalog::{Keeper, Key};
 use rm_site::{OpenFault, Site};
+use rm_tool_ends::{Ended, write_all};
 use std::alloc::Global;
 
 /// Why no statement could be stepped.
@@ -44,6 +45,22 @@ impl From<Failed> for Unopened {
     }
 }
 
+impl From<Unopened> for Ended {
+    ghost use Rattle.rm_tool.specs.Opening.{of_unopened};
+
+    ghost from_gives = { λ unopened e. e ≡ of_unopened unopened };
+
+    fn from(unopened: Unopened) -> Self {
+        match unopened {
+            Unopened::BadRecord => Ended::BadRecord,
+            Unopened::Sink => Ended::Sink,
+            Unopened::Store => Ended::Store,
+            Unopened::Keeper => Ended::Keeper,
+            Unopened::NoMemory => Ended::NoMemory,
+        }
+    }
+}
+
 // The line of status 9.
 fn bad_record(alloc: Global, key: Key) -> Result<Text, NoMemory>
     ensures { IfOk result (λ line. line ≡ bad_record key) }
@@ -52,9 +69,8 @@ fn bad_record(alloc: Global, key: Key) -> Result<Text, NoMemory>
     Ok(Text::from_string(format!(in alloc; "rman: bad record {kind} {id}\n")?))
 }
 
-/// Opens the site over the store and the keeper. Where the keeper's records are not valid, the line of the first that
-/// breaks a rule is written, by kind and then by id; else nothing is.
-pub fn open_site<K: Sink, D: Store, C: Keeper>(
+// Opens the site, as `open_site` does, and tells of each way out by itself.
+pub(crate) fn open_told<K: Sink, D: Store, C: Keeper>(
     alloc: Global,
     sink: &mut K,
     store: &mut D,
@@ -96,4 +112,31 @@ pub fn open_site<K: Sink, D: Store, C: Keeper>(
             Err(Unopened::BadRecord)
         }
     }
+}
+
+/// Opens the site over the store and the keeper. Where the keeper's records are not valid, the line of the first that
+/// breaks a rule is written, by kind and then by id; else nothing is.
+pub fn open_site<K: Sink, D: Store, C: Keeper>(
+    alloc: Global,
+    sink: &mut K,
+    store: &mut D,
+    keeper: &mut C,
+) -> Result<Site, Unopened>
+    ensures opened { IfOk result (Opens (D.held store.old) (C.kept keeper.old)) }
+    ensures shows { IfOk result (Shows (D.held store.old) (C.kept keeper.old)) }
+    ensures live { IfOk result (λ site. site.live ≡ true) }
+    ensures applied { IfOk result (λ site. site.applied ≡ false) }
+    ensures valid { IfOk result (λ _. TellsValid (C.kept keeper.old)) }
+    ensures held { D.held store.new ≡ D.held store.old }
+    ensures kept { C.kept keeper.new ≡ C.kept keeper.old }
+
+    // What was written, and whose count rose. The store fails only where the keeper's records are valid.
+    ensures ok { OnOk result (K.contents sink.new ≡ K.contents sink.old) }
+    ensures written { IfErr result (WritesUnopened (C.kept keeper.old) (K.contents sink.old) (K.contents sink.new)) }
+    ensures rose { IfErr result (RoseUnopened (K.faults sink.old) (K.faults sink.new) (D.faults store.old) (D.faults store.new) (C.faults keeper.old) (C.faults keeper.new)) }
+    ensures sink_never_falls { K.faults sink.old ≤ K.faults sink.new }
+    ensures store_never_falls { D.faults store.old ≤ D.faults store.new }
+    ensures keeper_never_falls { C.faults keeper.old ≤ C.faults keeper.new }
+{
+    open_told(alloc, sink, store, keeper)
 }

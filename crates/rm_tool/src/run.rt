@@ -5,17 +5,19 @@ ghost use Rattle.rm_catalog.specs.declared.record.Record.{Record};
 ghost use Rattle.rm_site.specs.Opens.{AreValid};
 ghost use Rattle.rm_tool.specs.Ends.{Counted, TakesMany};
 ghost use Rattle.rm_tool.specs.Run.{watch};
-ghost use Rattle.rm_tool.specs.Session.{HasScript, Finishes, EndsEarly, WritesPart, WritesBadRecord, TellsValid, IsDone, IsEarly, NoneRan, bad_words, over_long};
+ghost use Rattle.rm_tool.specs.Session.{HasScript, Finishes, EndsEarly, WritesPart, WritesBadRecord, TellsValid, IsDone, IsEarly, NoneRan, over_long};
 ghost use Rattle.rm_tool.specs.Words.{accepts, drill_of};
+ghost use Rattle.rm_tool_ends.specs.Writing.{bad_words};
 
-use crate::ends::{ReadFault, script_for, write_all};
-use crate::opening::{Unopened, open_site};
+use crate::ends::{ReadFault, script_for};
+use crate::opening::{Unopened, open_told};
 use crate::session::{Halt, serve_session};
 use crate::words::{Look, look_at};
 use rm_base::{Clock, Sink, Source, Store, Text};
 use rm_catalog::Keeper;
 use rm_channel::Gate;
 use rm_lang_token::statements;
+use rm_tool_ends::write_all;
 use std::alloc::Global;
 use std::sync::Wait;
 use std::thread::Threads;
@@ -25,9 +27,9 @@ use std::thread::Threads;
 /// The words are read first, then the script to its end, then the site is opened, then each statement is a
 /// step and its reply is written, and then the site is saved. With the word `--drill` the script is the drill's, the source is not
 /// read, and before the site is saved one line is written in the place of all replies. Of which database `keeper` has the records, by the
-/// word `--database`, is the caller's matter. The clock is asked once for each statement of the grammar. The channels of a BACKUP or
-/// RECOVER are threads of `rt`, and so are the writers of a BACKUP; its threads
-/// call `gate`. The status is
+/// word `--database`, and whether another one follows it, by `--control`, is the caller's matter. The clock is asked once for each statement of
+/// the grammar. The channels of a BACKUP or RECOVER are threads of `rt`, and so are the writers of a BACKUP; its threads call `gate`. The
+/// status is
 /// - 0 where no reply is a refusal, 1 where one is,
 /// - 2 where the words are refused,
 /// - 3 where the source failed, 4 where the sink failed,
@@ -116,7 +118,7 @@ pub fn run<R: Threads + Wait + Sync, G: Gate, S: Source, K: Sink, D: Store, C: K
     let Ok(found) = statements(alloc, &script) else {
         return 7;
     };
-    let site = match open_site(alloc, sink, store, keeper) {
+    let site = match open_told(alloc, sink, store, keeper) {
         Ok(site) => site,
         Err(Unopened::BadRecord) => return 9,
         Err(Unopened::Sink) => return 4,

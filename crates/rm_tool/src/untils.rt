@@ -73,6 +73,7 @@ pub fn with_until(alloc: Global, set: &Option<Until>, command: Command) -> Resul
         | Command::ResetDatabase { .. }
         | Command::Backup(_)
         | Command::BackupLogs
+        | Command::BackupFrom { .. }
         | Command::BlockRecover(_)
         | Command::Crosscheck { .. }
         | Command::ValidateAll

@@ -31,7 +31,7 @@ use Rattle.rm_tool_duplicate.specs.Refused.{HasRecords, files_at, name_refusal, 
 use Rattle.rm_tool_duplicate.proofs.Reasons.{number-none}
 use Rattle.rm_tool_duplicate.proofs.Recorded.{recorded}
 use Rattle.rm_tool_duplicate.proofs.Standing.{holds-copies}
-use Rattle.rm_tool_duplicate.proofs.Targets.{target-inside, target-there}
+use Rattle.rm_step_recover.proofs.Targets.{target-inside, target-there}
 
 -- the first of two reasons is none where there is none
 first-none : {X : Type 0} (o p : Option X) → None ≡ or_else o p → o ≡ None

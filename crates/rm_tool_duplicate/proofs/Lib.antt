@@ -10,5 +10,4 @@ pub mod Recorded
 pub mod Standing
 pub mod Statuses
 pub mod Staying
-pub mod Targets
 pub mod Truth

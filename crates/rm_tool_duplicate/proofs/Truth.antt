@@ -27,10 +27,11 @@ use Rattle.rm_machine.specs.State.{world}
 use Rattle.rm_machine.specs.declared.state.State.{State}
 use Rattle.rm_machine_code.proofs.Told.{tells-files}
 use Rattle.rm_machine_laws.specs.Holds.{View}
-use Rattle.rm_machine_laws.proofs.Agreeing.{evidence-agrees}
+use Rattle.rm_machine_laws.proofs.Agreeing.{agreed}
 use Rattle.rm_machine_laws.proofs.Told.{files-made}
 use Rattle.rm_plan.specs.Plan.{IsFileTarget}
-use Rattle.rm_tool_duplicate.specs.Asked.{IsSource, Sides, target_inc}
+use Rattle.rm_tool.specs.Opening.{IsSource}
+use Rattle.rm_tool_duplicate.specs.Asked.{Sides, target_inc}
 use Rattle.rm_tool_duplicate.specs.Duplicated.{AreTrueCopies, IsMade, Makes}
 
 -- the copies have the rows of the datafiles
@@ -59,15 +60,6 @@ module _ (w : World) (h : List Change) (i s : ℕ) where
             ∙ ap (λ ns. map (λ f. states w h i s f (blocks_of w f)) ns) (sym numbers);
       }
 
--- where digests tell, what is at hand of the machine's database agrees with its history
-pub agreed : (from : Option Held) (s : State) (m : Machine) (e : Evidence) → from ≡ Some m.objects → m.state ≡ Some s → IsSoundBy m.state m.history m.objects m.made m.touched
-    → IsSeen from (λ h. IsGathered h (records_of s.catalog) (in_place s) e) → DigestsTell m → IsHistory (world s) m.history × Agrees (world s) m.history (known_of e)
-agreed from s m e store state sound seen digests =
-    let borne = subst (λ o. IsSoundBy o m.history m.objects m.made m.touched) state sound in
-    let tell = subst (λ o. TellBy o m.objects m.made m.touched) state digests in
-    let at_hand = subst (λ o. IsSeen o (λ h. IsGathered h (records_of s.catalog) (in_place s) e)) store seen in
-    (borne.keeps.history, evidence-agrees s m.history m.objects m.made m.touched borne tell e at_hand)
-
 -- so what is told of it is what its history made
 made-of : (from : Option Held) (s : State) (i at dbid : ℕ) (d : Duplicate) (m : Machine) → from ≡ Some m.objects → m.state ≡ Some s → IsSoundBy m.state m.history m.objects m.made m.touched
     → IsDuplicate from (records_of s.catalog) (in_place s) i at dbid d → DigestsTell m → AreTrueCopies (world s) m.history i at d
@@ -77,7 +69,7 @@ made-of from s i at dbid d m store state sound is digests =
     (files-made (world s) (known_of is.tells.evidence) i at m.history both.0 both.1 is.recovered.files (tells-files s from i at is.recovered is.tells))
 
 -- what is made of a source that is shown as it was opened
-pub makes : (x : DuplicateSaid) (a : Sides) (v : View) (s : State) (d : Duplicate) → IsSource a v → v.state ≡ Some s → IsMade x a s d → Makes x a d
+pub makes : (x : DuplicateSaid) (a : Sides) (v : View) (s : State) (d : Duplicate) → IsSource a.from a.source v → v.state ≡ Some s → IsMade x a s d → Makes x a d
 makes x a v s d source shown made = record {
   view = v;
   source = source;

@@ -5,10 +5,7 @@ use Rattle.rm_catalog.specs.declared.record.Record.{Record}
 use Rattle.rm_lang_words.specs.Duplicate.{DuplicateSaid, duplicate_said}
 use Rattle.rm_machine.specs.RecoverTest.{tested}
 use Rattle.rm_machine.specs.declared.state.State.{State}
-use Rattle.rm_machine_laws.specs.Holds.{View}
 use Rattle.rm_shelf.specs.Shelved.{Shelved, under}
-use Rattle.rm_site.specs.Opens.{Opens, Shows}
-use Rattle.rm_tool.specs.Session.{TellsValid}
 
 -- the words are those of a duplicate
 abbrev pub accepts : List (List ℕ) → Bool
@@ -28,9 +25,3 @@ sides x from to shelved = record { from = from; source = under x.from shelved; t
 -- the incarnation of the target: the one that is said, or the current one
 abbrev pub target_inc : DuplicateSaid → State → ℕ
 target_inc x s = tested s x.incarnation
-
--- This is what a site shows that is opened over the source.
-pub record IsSource (a : Sides) (v : View) : Type 0 where
-  pub opens : Opens a.from a.source v
-  pub shows : Shows a.from a.source v
-  pub valid : TellsValid a.source

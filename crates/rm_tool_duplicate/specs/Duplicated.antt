@@ -31,8 +31,9 @@ use Rattle.rm_report.specs.Reply.{said}
 use Rattle.rm_report.specs.Text.{reply_text}
 use Rattle.rm_report.specs.declared.line.Line.{Line}
 use Rattle.rm_report.specs.declared.line.Line.TheVariants.{DuplicatedDatabase, DuplicatedDatafile}
+use Rattle.rm_tool.specs.Opening.{IsSource}
 use Rattle.rm_tool.specs.Session.{FromRest}
-use Rattle.rm_tool_duplicate.specs.Asked.{IsSource, Sides, target_inc}
+use Rattle.rm_tool_duplicate.specs.Asked.{Sides, target_inc}
 use Rattle.rm_tool_duplicate.specs.Refused.{IsReason, copy_name}
 
 -- the object of a copy: its bytes, under its name
@@ -89,7 +90,7 @@ IsMadeOf x a (Some s) d = IsMade x a s d
 -- digests tell, its copies have what the history made.
 pub record Makes (x : DuplicateSaid) (a : Sides) (d : Duplicate) : Type 0 where
   pub view : View
-  pub source : IsSource a view
+  pub source : IsSource a.from a.source view
   pub state : State
   pub shown : view.state ≡ Some state
   pub is : IsMade x a state d

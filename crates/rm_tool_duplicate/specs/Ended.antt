@@ -1,21 +1,18 @@
 -- How a duplicate ends, and what it leaves.
-use Rattle.std.specs.Prelude.{ℕ, ◌≡◌, ◌≤◌, ◌⊎◌, Option, List, Result, Ok, Err}
-use Rattle.rm_base.specs.Outside.{Appends, Rose}
+use Rattle.std.specs.Prelude.{ℕ, ◌≡◌, Option, List}
+use Rattle.rm_base.specs.Outside.{Appends}
 use Rattle.rm_base.specs.declared.refusal.Refusal.{Refusal}
-use Rattle.rm_catalog.specs.declared.record.Record.{Record}
 use Rattle.rm_commit.specs.Carrying.{Carried, Halted}
 use Rattle.rm_dup.specs.declared.database.Duplicate.{Duplicate}
 use Rattle.rm_lang_words.specs.Duplicate.{DuplicateSaid}
-use Rattle.rm_tool.specs.Ends.{WritesFront}
 use Rattle.rm_tool.specs.Session.{BeginsBadRecord, TellsValid, WritesBadRecord}
-use Rattle.rm_tool.specs.declared.opening.Unopened.{Unopened}
-use Rattle.rm_tool.specs.declared.opening.Unopened.TheVariants as unopened
 use Rattle.rm_tool_duplicate.specs.Asked.{Sides}
 use Rattle.rm_tool_duplicate.specs.Duplicated.{Makes, commit_of, lines_text}
-use Rattle.rm_tool_duplicate.specs.Refused.{Refuses, refusal_line}
-use Rattle.rm_tool_duplicate.specs.declared.ends.Ended.{Ended}
-use Rattle.rm_tool_duplicate.specs.declared.ends.Ended.TheVariants as ended
+use Rattle.rm_tool_duplicate.specs.Refused.{Refuses}
 use Rattle.rm_tool_duplicate.specs.declared.preparing.Ready.{Ready}
+use Rattle.rm_tool_ends.specs.Writing.{WritesFront, refusal_line}
+use Rattle.rm_tool_ends.specs.declared.ended.Ended.{Ended}
+use Rattle.rm_tool_ends.specs.declared.ended.Ended.TheVariants as ended
 
 -- What is ready to be carried out and told: the change of a duplicate, and the text of its lines.
 pub record IsReady (x : DuplicateSaid) (a : Sides) (ready : Ready) : Type 0 where
@@ -57,67 +54,3 @@ Leaves x a b before now ended.Sink = EndsInText x a b before now
 Leaves x a b before now ended.Store = TellsValid a.source × EndsStopped x a b before now
 Leaves x a b before now ended.Keeper = EndsStopped x a b before now
 Leaves x a b before now ended.NoMemory = EndsStopped x a b before now
-
--- what was written where the source could not be opened; its store fails only where the records are valid
-abbrev pub WritesUnopened : Option (List Record) → Option (List ℕ) → Option (List ℕ) → Unopened → Type 0
-WritesUnopened source before now unopened.BadRecord = WritesBadRecord source before now
-WritesUnopened source before now unopened.Sink = BeginsBadRecord source before now
-WritesUnopened source before now unopened.Store = TellsValid source × (now ≡ before)
-WritesUnopened source before now unopened.Keeper = now ≡ before
-WritesUnopened source before now unopened.NoMemory = now ≡ before
-
--- whose count rose there: of the sink, the store and the shelf, before and now
-abbrev pub RoseUnopened : ℕ → ℕ → ℕ → ℕ → ℕ → ℕ → Unopened → Type 0
-RoseUnopened k k' d d' h h' unopened.BadRecord = Unit {0}
-RoseUnopened k k' d d' h h' unopened.Sink = Rose k k'
-RoseUnopened k k' d d' h h' unopened.Store = Rose d d'
-RoseUnopened k k' d d' h h' unopened.Keeper = Rose h h'
-RoseUnopened k k' d d' h h' unopened.NoMemory = Unit {0}
-
--- what was written where the line of a refusal was not written
-abbrev pub WritesRefusal : Refusal → Option (List ℕ) → Option (List ℕ) → Ended → Type 0
-WritesRefusal refusal before now ended.Sink = WritesFront before now (refusal_line refusal)
-WritesRefusal refusal before now ended.NoMemory = now ≡ before
-WritesRefusal refusal before now _ = ⊥
-
--- whose count rose there
-abbrev pub RoseInRefusal : ℕ → ℕ → Ended → Type 0
-RoseInRefusal k k' ended.Sink = Rose k k'
-RoseInRefusal k k' _ = Unit {0}
-
--- how often each has failed
-pub record Counts : Type 0 where
-  pub sink : ℕ
-  pub from : ℕ
-  pub to : ℕ
-  pub shelf : ℕ
-
--- no count falls
-pub record NoneFalls (a b : Counts) : Type 0 where
-  pub sink : a.sink ≤ b.sink
-  pub from : a.from ≤ b.from
-  pub to : a.to ≤ b.to
-  pub shelf : a.shelf ≤ b.shelf
-
--- whose count rose where it ends so: of the stores that of the one or the other
-abbrev pub RoseFor : Counts → Counts → Ended → Type 0
-RoseFor a b ended.Sink = Rose a.sink b.sink
-RoseFor a b ended.Store = Rose a.from b.from ⊎ Rose a.to b.to
-RoseFor a b ended.Keeper = Rose a.shelf b.shelf
-RoseFor a b ended.Refused = Unit {0}
-RoseFor a b ended.BadRecord = Unit {0}
-RoseFor a b ended.NoMemory = Unit {0}
-
--- the status of the program
-abbrev pub status_of : {A : Type 0} → Result A Ended → ℕ
-status_of (Ok x) = 0
-status_of (Err ended.Refused) = 1
-status_of (Err ended.BadRecord) = 9
-status_of (Err ended.Sink) = 4
-status_of (Err ended.Store) = 5
-status_of (Err ended.Keeper) = 6
-status_of (Err ended.NoMemory) = 7
-
--- 1, 2 or 9: nothing was put or recorded
-abbrev pub IsEarly : ℕ → Type 0
-IsEarly status = (status ≡ 1) ⊎ (status ≡ 2) ⊎ (status ≡ 9)

@@ -21,9 +21,8 @@ use Rattle.rm_machine.specs.Until.{or_else}
 use Rattle.rm_machine.specs.declared.state.State.{State}
 use Rattle.rm_machine_laws.specs.Holds.{View}
 use Rattle.rm_plan.specs.declared.plan.Gap.{Gap}
-use Rattle.rm_report.specs.Reply.{refused_by}
-use Rattle.rm_report.specs.Text.{reply_text}
-use Rattle.rm_tool_duplicate.specs.Asked.{IsSource, Sides, target_inc}
+use Rattle.rm_tool.specs.Opening.{IsSource}
+use Rattle.rm_tool_duplicate.specs.Asked.{Sides, target_inc}
 
 -- the name of the copy of datafile k
 abbrev pub copy_name : ℕ → List ℕ
@@ -98,9 +97,5 @@ pub data IsRefused (x : DuplicateSaid) (a : Sides) : Option State → Refusal �
 -- the source as it is opened, and that it is refused so
 pub record Refuses (x : DuplicateSaid) (a : Sides) (refusal : Refusal) : Type 0 where
   pub view : View
-  pub source : IsSource a view
+  pub source : IsSource a.from a.source view
   pub refused : IsRefused x a view.state refusal
-
--- the line of a refusal, as text
-abbrev pub refusal_line : Refusal → List ℕ
-refusal_line refusal = reply_text (refused_by refusal)

@@ -6,8 +6,9 @@ ghost use Rattle.rm_shelf.specs.Shelved.{OthersStay, under};
 ghost use Rattle.rm_site.specs.Opens.{AreValid};
 ghost use Rattle.rm_tool.specs.Ends.{Counted, TakesMany};
 ghost use Rattle.rm_tool.specs.Run.{watch};
-ghost use Rattle.rm_tool.specs.Session.{HasScript, Finishes, EndsEarly, WritesPart, WritesBadRecord, TellsValid, IsDone, IsEarly, NoneRan, bad_words, over_long};
+ghost use Rattle.rm_tool.specs.Session.{HasScript, Finishes, EndsEarly, WritesPart, WritesBadRecord, TellsValid, IsDone, IsEarly, NoneRan, over_long};
 ghost use Rattle.rm_tool.specs.Words.{accepts, drill_of};
+ghost use Rattle.rm_tool_ends.specs.Writing.{bad_words};
 
 use rm_base::{Clock, Sink, Source, Store, Text};
 use rm_channel::Gate;

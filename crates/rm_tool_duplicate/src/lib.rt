@@ -3,7 +3,6 @@
 
 mod carrying;
 pub mod desk;
-mod ends;
 pub mod laws;
 mod making;
 mod preparing;

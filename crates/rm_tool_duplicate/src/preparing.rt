@@ -1,20 +1,22 @@
 //! All that a duplicate wants before anything changes.
 ghost use Rattle.std.specs.Prelude.{◌≡◌, ◌≤◌, IfErr, IfOk, OnOk};
 ghost use Rattle.rm_lang_words.specs.Reading.{duplicate_of as said_of};
-ghost use Rattle.rm_shelf.specs.Shelved.{AllStay};
-ghost use Rattle.rm_tool_duplicate.specs.Asked.{IsSource, sides};
-ghost use Rattle.rm_tool_duplicate.specs.Ended.{Counts, IsReady, Leaves, NoneFalls, RoseFor};
+ghost use Rattle.rm_shelf.specs.Shelved.{AllStay, under};
+ghost use Rattle.rm_tool.specs.Opening.{IsSource};
+ghost use Rattle.rm_tool_duplicate.specs.Asked.{sides};
+ghost use Rattle.rm_tool_duplicate.specs.Ended.{IsReady, Leaves};
+ghost use Rattle.rm_tool_ends.specs.Ended.{Counts, NoneFalls, RoseFor};
 
 use crate::carrying::commit_for;
-use crate::ends::Ended;
 use crate::making::duplicate_of;
-use crate::telling::{lines_text, write_refusal};
+use crate::telling::lines_text;
 use rm_base::{Seq, Sink, Store};
 use rm_commit::Commit;
 use rm_dup::Duplicate;
 use rm_lang_words::DuplicateWords;
 use rm_shelf::Shelf;
 use rm_site::Site;
+use rm_tool_ends::{Ended, write_refusal};
 use std::alloc::Global;
 use std::thread::Threads;
 
@@ -37,7 +39,7 @@ pub(crate) fn prepare<R: Threads + Sync, K: Sink, D: Store, E: Store, H: Shelf>(
     shelf: &mut H,
 ) -> Result<Ready, Ended>
     requires dbid { 1 ≤ said.now.dbid }
-    requires source { IsSource (sides (said_of said.now) (D.held from.old) (E.held to.old) (H.shelved shelf.old)) site.now }
+    requires source { IsSource (D.held from.old) (under said.now.from (H.shelved shelf.old)) site.now }
     ensures ready { IfOk result (IsReady (said_of said.now) (sides (said_of said.now) (D.held from.old) (E.held to.old) (H.shelved shelf.old))) }
     ensures silent { OnOk result (K.contents sink.new ≡ K.contents sink.old) }
     ensures ended { IfErr result (Leaves (said_of said.now) (sides (said_of said.now) (D.held from.old) (E.held to.old) (H.shelved shelf.old))
@@ -45,10 +47,10 @@ pub(crate) fn prepare<R: Threads + Sync, K: Sink, D: Store, E: Store, H: Shelf>(
     ensures from { D.held from.new ≡ D.held from.old }
     ensures to { E.held to.new ≡ E.held to.old }
     ensures shelf { AllStay (H.shelved shelf.old) (H.shelved shelf.new) }
-    ensures rose { IfErr result (RoseFor (record { sink = K.faults sink.old; from = D.faults from.old; to = E.faults to.old; shelf = H.faults shelf.old })
-        (record { sink = K.faults sink.new; from = D.faults from.new; to = E.faults to.new; shelf = H.faults shelf.new })) }
-    ensures never_fall { NoneFalls (record { sink = K.faults sink.old; from = D.faults from.old; to = E.faults to.old; shelf = H.faults shelf.old })
-        (record { sink = K.faults sink.new; from = D.faults from.new; to = E.faults to.new; shelf = H.faults shelf.new }) }
+    ensures rose { IfErr result (RoseFor (record { sink = K.faults sink.old; from = D.faults from.old; to = E.faults to.old; records = H.faults shelf.old })
+        (record { sink = K.faults sink.new; from = D.faults from.new; to = E.faults to.new; records = H.faults shelf.new })) }
+    ensures never_fall { NoneFalls (record { sink = K.faults sink.old; from = D.faults from.old; to = E.faults to.old; records = H.faults shelf.old })
+        (record { sink = K.faults sink.new; from = D.faults from.new; to = E.faults to.new; records = H.faults shelf.new }) }
 {
     let duplicate = match duplicate_of(rt, alloc, said, site.state(), from, to, shelf)? {
         Ok(duplicate) => duplicate,

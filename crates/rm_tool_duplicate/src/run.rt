@@ -6,50 +6,22 @@ ghost use Rattle.rm_lang_words.specs.Duplicate.{DuplicateSaid, duplicate_said};
 ghost use Rattle.rm_lang_words.specs.Reading.{duplicate_of as said_of};
 ghost use Rattle.rm_shelf.specs.Shelved.{AllStay, OthersStay, under};
 ghost use Rattle.rm_site.specs.Opens.{AreValid};
-ghost use Rattle.rm_tool.specs.Ends.{WritesFront};
-ghost use Rattle.rm_tool.specs.Session.{WritesBadRecord, bad_words};
+ghost use Rattle.rm_tool.specs.Session.{WritesBadRecord};
 ghost use Rattle.rm_tool_duplicate.specs.Asked.{accepts, sides};
-ghost use Rattle.rm_tool_duplicate.specs.Ended.{Counts, EndsInText, EndsRefused, EndsStopped, Finishes, IsEarly, Leaves, NoneFalls, RoseFor};
-ghost use Rattle.rm_tool_duplicate.specs.Ended.{status_of as the_status_of};
+ghost use Rattle.rm_tool_duplicate.specs.Ended.{EndsInText, EndsRefused, EndsStopped, Finishes, Leaves};
+ghost use Rattle.rm_tool_ends.specs.Ended.{Counts, IsEarly, NoneFalls, RoseFor};
+ghost use Rattle.rm_tool_ends.specs.Writing.{WritesFront, bad_words};
 
 use crate::carrying::carry;
-use crate::ends::Ended;
 use crate::preparing::prepare;
 use crate::source::open_source;
 use rm_base::{Sink, Store, Text};
 use rm_lang_words::{DuplicateWords, WordsFault, read_duplicate};
 use rm_shelf::Shelf;
-use rm_tool::ends::write_all;
+use rm_tool_ends::{Ended, refuse_words, status_of, write_all};
 use std::alloc::Global;
 use std::sync::Wait;
 use std::thread::Threads;
-
-// The line of words that are refused; its status, or that of the sink's fault.
-fn refuse_words<K: Sink>(sink: &mut K) -> u8
-    ensures statuses { Contains (2 ∷ 4 ∷ []) result }
-    ensures line { result ≡ 2 → Appends (K.contents sink.old) (K.contents sink.new) bad_words }
-    ensures front { result ≡ 4 → WritesFront (K.contents sink.old) (K.contents sink.new) bad_words }
-    ensures rose { result ≡ 4 → Rose (K.faults sink.old) (K.faults sink.new) }
-{
-    match write_all(sink, b"rman: bad words\n") {
-        Ok(()) => 2,
-        Err(_) => 4,
-    }
-}
-
-fn status_of(ended: Result<(), Ended>) -> u8
-    ensures { result ≡ the_status_of ended }
-{
-    match ended {
-        Ok(()) => 0,
-        Err(Ended::Refused) => 1,
-        Err(Ended::Sink) => 4,
-        Err(Ended::Store) => 5,
-        Err(Ended::Keeper) => 6,
-        Err(Ended::NoMemory) => 7,
-        Err(Ended::BadRecord) => 9,
-    }
-}
 
 // The duplicate that is asked for. The shelf is handed back.
 fn served<R: Threads + Wait + Sync, K: Sink, D: Store, E: Store, H: Shelf + Drop>(
@@ -68,8 +40,8 @@ fn served<R: Threads + Wait + Sync, K: Sink, D: Store, E: Store, H: Shelf + Drop
         (sides (said_of said.now) (D.held from.new) (E.held to.new) (H.shelved result.1)) (K.contents sink.old) (K.contents sink.new)) }
     ensures from { D.held from.new ≡ D.held from.old }
     ensures others { OthersStay said.now.number (H.shelved shelf) (H.shelved result.1) }
-    ensures rose { IfErr result.0 (RoseFor (record { sink = K.faults sink.old; from = D.faults from.old; to = E.faults to.old; shelf = H.faults shelf })
-        (record { sink = K.faults sink.new; from = D.faults from.new; to = E.faults to.new; shelf = H.faults result.1 })) }
+    ensures rose { IfErr result.0 (RoseFor (record { sink = K.faults sink.old; from = D.faults from.old; to = E.faults to.old; records = H.faults shelf })
+        (record { sink = K.faults sink.new; from = D.faults from.new; to = E.faults to.new; records = H.faults result.1 })) }
 {
     let (opened, mut shelf) = open_source(alloc, sink, from, shelf, said.from);
     let site = match opened {

@@ -2,8 +2,8 @@
 ghost use Rattle.std.specs.Prelude.{◌≡◌, ◌≤◌, IfErr, IfOk, OnOk, Some};
 ghost use Rattle.rm_shelf.specs.Shelved.{AllStay, under};
 ghost use Rattle.rm_site.specs.Opens.{Opens, Shows};
+ghost use Rattle.rm_tool.specs.Opening.{RoseUnopened, WritesUnopened};
 ghost use Rattle.rm_tool.specs.Session.{TellsValid};
-ghost use Rattle.rm_tool_duplicate.specs.Ended.{RoseUnopened, WritesUnopened};
 
 use rm_base::{Sink, Store};
 use rm_shelf::{Desk, Noted, Shelf};

@@ -1,21 +1,14 @@
 //! What a duplicate writes.
-ghost use Rattle.std.specs.Prelude.{◌≡◌, ◌≤◌, ◌++◌, IfErr, IfOk, OnErr, OnOk, length};
-ghost use Rattle.rm_base.specs.Outside.{Appends};
+ghost use Rattle.std.specs.Prelude.{◌≡◌, ◌≤◌, ◌++◌, IfOk, OnOk, length};
 ghost use Rattle.rm_lang_words.specs.Reading.{duplicate_of};
-ghost use Rattle.rm_report.specs.Reply.{HasDate};
 ghost use Rattle.rm_tool_duplicate.specs.Duplicated.{file_lines};
 ghost use Rattle.rm_tool_duplicate.specs.Duplicated.{lines_of as the_lines_of, lines_text as the_text_of};
-ghost use Rattle.rm_tool_duplicate.specs.Ended.{WritesRefusal, RoseInRefusal};
-ghost use Rattle.rm_tool_duplicate.specs.Refused.{refusal_line};
 
-use crate::ends::Ended;
-use rm_base::{FileNo, NoMemory, Refusal, Seq, Sink};
+use rm_base::{FileNo, NoMemory, Seq};
 use rm_dup::Duplicate;
 use rm_lang_words::DuplicateWords;
-use rm_machine_code::refusal_reply;
 use rm_machine_code::replies::skipped_lines;
 use rm_report::{Line, Reply, bytes_of};
-use rm_tool::ends::write_all;
 use std::alloc::Global;
 
 // Adds a line for each datafile, by the numbers that they had.
@@ -68,22 +61,4 @@ pub(crate) fn lines_text(
         refused: false,
     };
     bytes_of(alloc, &reply)
-}
-
-/// Writes the line of a refusal. An error is a fault of the sink, and a front of the line was written, or want of memory, and nothing was.
-pub(crate) fn write_refusal<K: Sink>(
-    alloc: Global,
-    sink: &mut K,
-    refusal: Refusal,
-) -> Result<(), Ended>
-    requires date { HasDate refusal }
-    ensures ok { OnOk result (Appends (K.contents sink.old) (K.contents sink.new) (refusal_line refusal)) }
-    ensures err { IfErr result (WritesRefusal refusal (K.contents sink.old) (K.contents sink.new)) }
-    ensures rose { IfErr result (RoseInRefusal (K.faults sink.old) (K.faults sink.new)) }
-    ensures never_falls { K.faults sink.old ≤ K.faults sink.new }
-{
-    let reply = refusal_reply(alloc, refusal)?;
-    let text = bytes_of(alloc, &reply)?;
-    write_all(sink, text.as_slice())?;
-    Ok(())
 }

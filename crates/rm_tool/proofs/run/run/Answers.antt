@@ -15,36 +15,36 @@ serve_session-requires-clause-channels g c κs within = c.look_at.ensures.channe
 
 pub returns-in-Ok-serve_session-clause-done : goal.returns-in-Ok-serve_session-clause-done
 returns-in-Ok-serve_session-clause-done g c = λ is.
-    let opened = c.in-Ok-open_site.ensures in
-    finishes c.in-Accepted.drill (c.look_at.ensures.drill c.in-Accepted.channels c.in-Accepted.drill c.in-Accepted.is) c.in-Ok-script_for.script.items c.in-Ok-open_site.site c.in-Ok-script_for.ensures.script (c.as_slice.ensures ∙ c.in-Ok-statements.ensures ∙ ap statements c.deref.ensures.value)
+    let opened = c.in-Ok-open_told.ensures in
+    finishes c.in-Accepted.drill (c.look_at.ensures.drill c.in-Accepted.channels c.in-Accepted.drill c.in-Accepted.is) c.in-Ok-script_for.script.items c.in-Ok-open_told.site c.in-Ok-script_for.ensures.script (c.as_slice.ensures ∙ c.in-Ok-statements.ensures ∙ ap statements c.deref.ensures.value)
     opened.ok opened.held opened.kept opened.opened opened.shows c.in-Ok-serve_session.refused _ (search rules) c.in-Ok-serve_session.ensures.ok
 
 pub returns-in-Err-Sink-serve_session-clause-sink_written : goal.returns-in-Err-Sink-serve_session-clause-sink_written
 returns-in-Err-Sink-serve_session-clause-sink_written g c = λ is.
-    let opened = c.in-Ok-open_site.ensures in
+    let opened = c.in-Ok-open_told.ensures in
     in_output opened.valid
-    (ends-in-output c.in-Accepted.drill (c.look_at.ensures.drill c.in-Accepted.channels c.in-Accepted.drill c.in-Accepted.is) c.in-Ok-script_for.script.items c.in-Ok-open_site.site c.in-Ok-script_for.ensures.script (c.as_slice.ensures ∙ c.in-Ok-statements.ensures ∙ ap statements c.deref.ensures.value)
+    (ends-in-output c.in-Accepted.drill (c.look_at.ensures.drill c.in-Accepted.channels c.in-Accepted.drill c.in-Accepted.is) c.in-Ok-script_for.script.items c.in-Ok-open_told.site c.in-Ok-script_for.ensures.script (c.as_slice.ensures ∙ c.in-Ok-statements.ensures ∙ ap statements c.deref.ensures.value)
     opened.ok opened.held opened.kept opened.opened opened.shows _ _ _ _ _ (c.in-Err-Sink-serve_session.ensures.sink (ap Err c.in-Err-Sink-serve_session.field-0-is)))
 
 pub returns-in-Err-Store-serve_session-clause-store_written : goal.returns-in-Err-Store-serve_session-clause-store_written
 returns-in-Err-Store-serve_session-clause-store_written g c = λ is.
-    let opened = c.in-Ok-open_site.ensures in
+    let opened = c.in-Ok-open_told.ensures in
     midway opened.valid
-    (ends-midway c.in-Accepted.drill (c.look_at.ensures.drill c.in-Accepted.channels c.in-Accepted.drill c.in-Accepted.is) c.in-Ok-script_for.script.items c.in-Ok-open_site.site c.in-Ok-script_for.ensures.script (c.as_slice.ensures ∙ c.in-Ok-statements.ensures ∙ ap statements c.deref.ensures.value)
+    (ends-midway c.in-Accepted.drill (c.look_at.ensures.drill c.in-Accepted.channels c.in-Accepted.drill c.in-Accepted.is) c.in-Ok-script_for.script.items c.in-Ok-open_told.site c.in-Ok-script_for.ensures.script (c.as_slice.ensures ∙ c.in-Ok-statements.ensures ∙ ap statements c.deref.ensures.value)
     opened.ok opened.held opened.kept opened.opened opened.shows (c.in-Err-Store-serve_session.ensures.store (ap Err c.in-Err-Store-serve_session.field-0-is)))
 
 pub returns-in-Err-Keeper-serve_session-clause-keeper_written : goal.returns-in-Err-Keeper-serve_session-clause-keeper_written
 returns-in-Err-Keeper-serve_session-clause-keeper_written g c = λ is.
-    let opened = c.in-Ok-open_site.ensures in
+    let opened = c.in-Ok-open_told.ensures in
     midway opened.valid
-    (ends-midway c.in-Accepted.drill (c.look_at.ensures.drill c.in-Accepted.channels c.in-Accepted.drill c.in-Accepted.is) c.in-Ok-script_for.script.items c.in-Ok-open_site.site c.in-Ok-script_for.ensures.script (c.as_slice.ensures ∙ c.in-Ok-statements.ensures ∙ ap statements c.deref.ensures.value)
+    (ends-midway c.in-Accepted.drill (c.look_at.ensures.drill c.in-Accepted.channels c.in-Accepted.drill c.in-Accepted.is) c.in-Ok-script_for.script.items c.in-Ok-open_told.site c.in-Ok-script_for.ensures.script (c.as_slice.ensures ∙ c.in-Ok-statements.ensures ∙ ap statements c.deref.ensures.value)
     opened.ok opened.held opened.kept opened.opened opened.shows (c.in-Err-Keeper-serve_session.ensures.keeper (ap Err c.in-Err-Keeper-serve_session.field-0-is)))
 
 pub returns-clause-memory_written : goal.returns-clause-memory_written
 returns-clause-memory_written g c = λ is.
-    let opened = c.in-Ok-open_site.ensures in
+    let opened = c.in-Ok-open_told.ensures in
     midway opened.valid
-    (ends-midway c.in-Accepted.drill (c.look_at.ensures.drill c.in-Accepted.channels c.in-Accepted.drill c.in-Accepted.is) c.in-Ok-script_for.script.items c.in-Ok-open_site.site c.in-Ok-script_for.ensures.script (c.as_slice.ensures ∙ c.in-Ok-statements.ensures ∙ ap statements c.deref.ensures.value)
+    (ends-midway c.in-Accepted.drill (c.look_at.ensures.drill c.in-Accepted.channels c.in-Accepted.drill c.in-Accepted.is) c.in-Ok-script_for.script.items c.in-Ok-open_told.site c.in-Ok-script_for.ensures.script (c.as_slice.ensures ∙ c.in-Ok-statements.ensures ∙ ap statements c.deref.ensures.value)
     opened.ok opened.held opened.kept opened.opened opened.shows (c.in-Err-NoMemory-serve_session.ensures.memory (ap Err c.in-Err-NoMemory-serve_session.field-0-is)))
 
 pub returns-in-Ok-clause-statuses : goal.returns-in-Ok-clause-statuses
@@ -77,8 +77,8 @@ returns-in-Err-Sink-clause-statuses g c = (4, lit< tt, refl)
 pub returns-in-Err-Keeper-clause-statuses : goal.returns-in-Err-Keeper-clause-statuses
 returns-in-Err-Keeper-clause-statuses g c = (6, lit< tt, refl)
 
-pub returns-in-Err-NoMemory-open_site-clause-statuses : goal.returns-in-Err-NoMemory-open_site-clause-statuses
-returns-in-Err-NoMemory-open_site-clause-statuses g c = (7, lit< tt, refl)
+pub returns-in-Err-NoMemory-open_told-clause-statuses : goal.returns-in-Err-NoMemory-open_told-clause-statuses
+returns-in-Err-NoMemory-open_told-clause-statuses g c = (7, lit< tt, refl)
 
 pub returns-in-Err-Sink-serve_session-clause-statuses : goal.returns-in-Err-Sink-serve_session-clause-statuses
 returns-in-Err-Sink-serve_session-clause-statuses g c = (4, lit< tt, refl)
@@ -114,8 +114,8 @@ returns-in-Err-Store-clause-bad_only g c = λ rs words counted few is some. absu
 pub returns-in-Err-Keeper-clause-bad_only : goal.returns-in-Err-Keeper-clause-bad_only
 returns-in-Err-Keeper-clause-bad_only g c = λ rs words counted few is some. (3, lit< tt, refl)
 
-pub returns-in-Err-NoMemory-open_site-clause-bad_only : goal.returns-in-Err-NoMemory-open_site-clause-bad_only
-returns-in-Err-NoMemory-open_site-clause-bad_only g c = λ rs words counted few is some. (4, lit< tt, refl)
+pub returns-in-Err-NoMemory-open_told-clause-bad_only : goal.returns-in-Err-NoMemory-open_told-clause-bad_only
+returns-in-Err-NoMemory-open_told-clause-bad_only g c = λ rs words counted few is some. (4, lit< tt, refl)
 
 pub returns-in-NoMemory-clause-bad_only : goal.returns-in-NoMemory-clause-bad_only
 returns-in-NoMemory-clause-bad_only g c = λ rs words counted few is some. (4, lit< tt, refl)
@@ -132,8 +132,8 @@ returns-in-Err-write_all-clause-long_only g c = λ counted many. (1, lit< tt, re
 pub returns-in-Err-NoMemory-clause-long_only : goal.returns-in-Err-NoMemory-clause-long_only
 returns-in-Err-NoMemory-clause-long_only g c = λ counted many. (2, lit< tt, refl)
 
-pub returns-in-Err-NoMemory-open_site-clause-complete : goal.returns-in-Err-NoMemory-open_site-clause-complete
-returns-in-Err-NoMemory-open_site-clause-complete g c = λ words counted few rs kept valid source sink store keeper. (2, lit< tt, refl)
+pub returns-in-Err-NoMemory-open_told-clause-complete : goal.returns-in-Err-NoMemory-open_told-clause-complete
+returns-in-Err-NoMemory-open_told-clause-complete g c = λ words counted few rs kept valid source sink store keeper. (2, lit< tt, refl)
 
 pub returns-clause-complete : goal.returns-clause-complete
 returns-clause-complete g c = λ words counted few rs kept valid source sink store keeper. (2, lit< tt, refl)

@@ -3,7 +3,7 @@ use Rattle.std.proofs.Math.Seq.{take-length}
 use Rattle.std.proofs.lemmas.Option.{slice_get_read}
 use Rattle.rm_base.specs.Outside.{Appends}
 use Rattle.rm_lang_token.specs.declared.token.Token.{Token}
-use Rattle.rm_tool.specs.Ends.{WritesFront}
+use Rattle.rm_tool_ends.specs.Writing.{WritesFront}
 use Rattle.rm_tool.proofs.Runs.{progress-none, progress-reached, reached-more, reached-ends, progress-serves, progress-cut}
 use Rattle.rm_tool.proofs.Statements.{cut-served}
 use Rattle.rm_tool.proofs.session.serve_all.Goals as goal

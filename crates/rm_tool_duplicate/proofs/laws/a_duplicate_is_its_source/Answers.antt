@@ -15,10 +15,10 @@ use Rattle.rm_history.specs.History.{IsHistory}
 use Rattle.rm_history.specs.Tree.{IsThere}
 use Rattle.rm_history.specs.declared.world.World.{World}
 use Rattle.rm_machine.specs.Recovery.{in_place}
+use Rattle.rm_machine_laws.proofs.Agreeing.{agreed}
 use Rattle.rm_tool_duplicate.specs.Asked.{target_inc}
 use Rattle.rm_tool_duplicate.proofs.Back.{catalog, database, inside, recorded-as, stands, there}
 use Rattle.rm_tool_duplicate.proofs.First.{first-place}
-use Rattle.rm_tool_duplicate.proofs.Truth.{agreed}
 use Rattle.rm_tool_duplicate.proofs.laws.a_duplicate_is_its_source.Goals as goal
 
 pub returns-clause-records : goal.returns-clause-records

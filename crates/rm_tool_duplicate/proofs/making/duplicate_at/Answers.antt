@@ -3,7 +3,7 @@ use Rattle.rm_history.specs.Tree.{IsThere}
 use Rattle.rm_machine.specs.Recovery.{range_refusal}
 use Rattle.rm_machine.specs.State.{tree}
 use Rattle.rm_step_recover.proofs.Records.{fits, never-outside, there}
-use Rattle.rm_tool_duplicate.proofs.Targets.{target-range, target-there}
+use Rattle.rm_step_recover.proofs.Targets.{target-range, target-there}
 use Rattle.rm_tool_duplicate.proofs.making.duplicate_at.Goals as goal
 
 pub duplicate-requires-clause-place : goal.duplicate-requires-clause-place

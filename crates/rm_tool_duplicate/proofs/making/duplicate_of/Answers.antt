@@ -11,7 +11,7 @@ use Rattle.rm_tool_duplicate.specs.Asked.{sides}
 use Rattle.rm_tool_duplicate.specs.Refused.{IsRefused, by_reason}
 use Rattle.rm_tool_duplicate.proofs.Made.{made-all, reason-by-names, refused-all}
 use Rattle.rm_tool_duplicate.proofs.Reasons.{by-numbers, no-source, number-none}
-use Rattle.rm_tool_duplicate.proofs.Targets.{target-there}
+use Rattle.rm_step_recover.proofs.Targets.{target-there}
 use Rattle.rm_tool_duplicate.proofs.making.duplicate_of.Goals as goal
 
 pub returns-in_default-clause-refused : goal.returns-in_default-clause-refused

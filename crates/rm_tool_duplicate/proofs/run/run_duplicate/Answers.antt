@@ -3,10 +3,11 @@ use Rattle.rm_lang_words.specs.Duplicate.{DuplicateSaid, duplicate_said}
 use Rattle.rm_lang_words.specs.Reading.{duplicate_of as said_of}
 use Rattle.rm_shelf.specs.Shelved.{OthersStay, under}
 use Rattle.rm_tool_duplicate.specs.Asked.{sides}
-use Rattle.rm_tool_duplicate.specs.Ended.{Counts}
-use Rattle.rm_tool_duplicate.specs.declared.ends.Ended.TheVariants as ended
-use Rattle.rm_tool_duplicate.proofs.Statuses.{has-status, leaves-at, of-bad, of-none, one-said, words-status}
+use Rattle.rm_tool_duplicate.proofs.Statuses.{leaves-at, of-bad, of-none, one-said}
 use Rattle.rm_tool_duplicate.proofs.run.run_duplicate.Goals as goal
+use Rattle.rm_tool_ends.proofs.Statuses.{has-status, words-status}
+use Rattle.rm_tool_ends.specs.Ended.{Counts}
+use Rattle.rm_tool_ends.specs.declared.ended.Ended.TheVariants as ended
 
 pub returns-in-Err-Bad-clause-statuses : goal.returns-in-Err-Bad-clause-statuses
 returns-in-Err-Bad-clause-statuses g c = words-status c.refuse_words.result c.refuse_words.ensures.statuses
@@ -77,7 +78,7 @@ returns-clause-complete g c x is rs kept valid no_sink no_from no_to no_shelf =
     let y = said_of c.in-Ok.said in
     let same = one-said (duplicate_said c.args.words.now) y x c.in-Ok.ensures.said is in
     let here = ap (λ (z : DuplicateSaid). under z.from (shelved c.args.shelf)) same ∙ kept in
-    let before : Counts = record { sink = g.K.Sink.faults c.args.sink.now; from = g.D.Store.faults c.args.from.now; to = g.E.Store.faults c.args.to.now; shelf = g.H.Shelf.faults c.args.shelf } in
-    let now : Counts = record { sink = g.K.Sink.faults was.new.sink; from = g.D.Store.faults was.new.from; to = g.E.Store.faults was.new.to; shelf = g.H.Shelf.faults was.result.1 } in
+    let before : Counts = record { sink = g.K.Sink.faults c.args.sink.now; from = g.D.Store.faults c.args.from.now; to = g.E.Store.faults c.args.to.now; records = g.H.Shelf.faults c.args.shelf } in
+    let now : Counts = record { sink = g.K.Sink.faults was.new.sink; from = g.D.Store.faults was.new.from; to = g.E.Store.faults was.new.to; records = g.H.Shelf.faults was.result.1 } in
     subst (Contains (0 ∷ 1 ∷ 7 ∷ [])) (sym c.status_of.ensures)
     (of-none y (sides y (from c.args.from.now) (to c.args.to.now) (shelved c.args.shelf)) (sides y (from was.new.from) (to was.new.to) (shelved was.result.1)) (told c.args.sink.now) (told was.new.sink) rs here was.result.0 before now was.ensures.ended was.ensures.rose valid no_sink no_from no_to no_shelf)

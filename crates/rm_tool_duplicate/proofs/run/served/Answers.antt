@@ -2,12 +2,15 @@ use Rattle.std.proofs.Common.{◌≡◌, ◌∙◌, ℕ, List, refl, sym, subst}
 use Rattle.rm_base.specs.Outside.{Appends}
 use Rattle.rm_commit.specs.Carrying.{Carried, Halted}
 use Rattle.rm_lang_words.specs.Reading.{duplicate_of as said_of}
-use Rattle.rm_tool.specs.Ends.{WritesFront}
-use Rattle.rm_tool_duplicate.specs.Asked.{IsSource, Sides, sides}
+use Rattle.rm_tool.specs.Opening.{IsSource}
+use Rattle.rm_tool.proofs.Source.{source-of}
+use Rattle.rm_tool_duplicate.specs.Asked.{Sides, sides}
 use Rattle.rm_tool_duplicate.specs.Ended.{IsReady, Leaves}
-use Rattle.rm_tool_duplicate.proofs.Ending.{finishes, halts, leaves-from, on-err, on-ok, sides-stay, source-of, untold-lines}
+use Rattle.rm_tool_duplicate.proofs.Ending.{finishes, halts, leaves-from, sides-stay, untold-lines}
 use Rattle.rm_tool_duplicate.proofs.Staying.{all-then, others-of, others-then}
 use Rattle.rm_tool_duplicate.proofs.run.served.Goals as goal
+use Rattle.rm_tool_ends.proofs.Ending.{on-err, on-ok}
+use Rattle.rm_tool_ends.specs.Writing.{WritesFront}
 
 pub prepare-requires-clause-source : goal.prepare-requires-clause-source
 prepare-requires-clause-source g c κs within =
@@ -19,7 +22,7 @@ prepare-requires-clause-source g c κs within =
     let a = sides x (from c.args.from.now) to (shelved c.args.shelf) in
     let b = sides x (from was.new.from) to (shelved was.result.1) in
     let same : b ≡ a = sides-stay x (from c.args.from.now) (from was.new.from) to to (shelved c.args.shelf) (shelved was.result.1) was.ensures.same refl was.ensures.shelf in
-    subst (λ (y : Sides). IsSource y c.in-Ok.site) (sym same) (source-of a was.result.0 c.in-Ok.site c.in-Ok.is was.ensures.opens was.ensures.shows was.ensures.valid)
+    subst (λ (y : Sides). IsSource y.from y.source c.in-Ok.site) (sym same) (source-of a.from a.source was.result.0 c.in-Ok.site c.in-Ok.is was.ensures.opens was.ensures.shows was.ensures.valid)
 
 pub returns-in-Err-prepare-clause-ended : goal.returns-in-Err-prepare-clause-ended
 returns-in-Err-prepare-clause-ended g c =

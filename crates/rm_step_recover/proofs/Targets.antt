@@ -1,4 +1,4 @@
--- The target of a duplicate that is not refused lies in its incarnation.
+-- A target that is not refused lies in its incarnation.
 use Rattle.std.proofs.Common.{◌≡◌, ◌<◌, ◌≤◌, ◌==◌, ◌||◌, ℕ, Bool, true, false, Option, Some, None, if◌then◌else◌, length, rules, refl, ap, nat_lt}
 use Rattle.std.specs.Option.{option_map}
 use Rattle.rm_apply.specs.Recover.{outside}

@@ -2,7 +2,7 @@ use Rattle.std.proofs.Common.{arith, take, drop, length-drop}
 use Rattle.std.proofs.Math.Seq.{take-add}
 use Rattle.std.proofs.lemmas.List.{take_rest}
 use Rattle.rm_base.proofs.Streams.{appends-then}
-use Rattle.rm_tool.proofs.ends.write_all.Goals as goal
+use Rattle.rm_tool_ends.proofs.writing.write_all.Goals as goal
 
 pub loop-at-preserved : goal.loop-at-preserved
 loop-at-preserved g c =

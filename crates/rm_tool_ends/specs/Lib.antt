@@ -1,0 +1,3 @@
+pub mod Causes
+pub mod Ended
+pub mod Writing
