@@ -1,0 +1,6 @@
+pub mod Beginning
+pub mod EachStatement
+pub mod Growing
+pub mod Lasting
+pub mod Settled
+pub mod Steps

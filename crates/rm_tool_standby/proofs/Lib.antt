@@ -1,0 +1,9 @@
+pub mod Dated
+pub mod Ending
+pub mod Exact
+pub mod Imaging
+pub mod MembersTold
+pub mod Replacing
+pub mod Statuses
+pub mod Stopped
+pub mod Working
