@@ -86,7 +86,9 @@ fn tell_tables(rt: &HostRuntime) -> io::Result<()> {
     tell_table(rt, "statements", Table::Statements)?;
     tell_table(rt, "refused", Table::Refused)?;
     tell_table(rt, "words", Table::Words)?;
-    tell_table(rt, "duplicate", Table::Duplicate)
+    tell_table(rt, "duplicate", Table::Duplicate)?;
+    tell_table(rt, "standby", Table::Standby)?;
+    tell_table(rt, "resync", Table::Resync)
 }
 
 // What can't be read is not so.

@@ -191,6 +191,27 @@ pub fn recovering(number: u32) -> Option<Line>
             until: 3,
             files: 1,
         },
+        25 => Line::Rolled {
+            id: 3,
+            from: 3,
+            checkpoint: 4,
+            files: 1,
+            rows: 1,
+        },
+        26 => Line::StandbyMade {
+            number: 1,
+            checkpoint: 3,
+            inc: 1,
+            files: 1,
+        },
+        27 => Line::StandbyRolled {
+            number: 2,
+            checkpoint: 4,
+            inc: 1,
+            files: 1,
+            changed: 1,
+        },
+        28 => Line::Resynced { records: 6 },
         _ => return None,
     })
 }
@@ -425,6 +446,11 @@ fn refusal(number: u32) -> Option<Refusal>
         23 => Refusal::Rm18 {
             file: 2,
             block: 65535,
+        },
+        24 => Refusal::Rm19 {
+            increment: 4,
+            from: 4,
+            standby: 3,
         },
         _ => return None,
     })

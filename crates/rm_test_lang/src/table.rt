@@ -1,7 +1,7 @@
 //! The tables of times, statements and words.
 use crate::moments::{marks, shown, time};
 use crate::statements::{texts, texts_again};
-use crate::words::{duplicate_said, said};
+use crate::words::{duplicate_said, resync_said, said, standby_said};
 use rm_test_harness::{Fault, Told};
 use std::alloc::Global;
 
@@ -15,6 +15,8 @@ pub enum Table {
     Refused,
     Words,
     Duplicate,
+    Standby,
+    Resync,
 }
 
 impl Told for Table {
@@ -27,6 +29,8 @@ impl Told for Table {
             Table::Refused => texts(alloc, given)?,
             Table::Words => said(alloc, given)?,
             Table::Duplicate => duplicate_said(alloc, given)?,
+            Table::Standby => standby_said(alloc, given)?,
+            Table::Resync => resync_said(alloc, given)?,
         })
     }
 }

@@ -1,6 +1,8 @@
 //! The words of the programs.
 use rm_base::{NoMemory, Text};
-use rm_lang_words::{WordsFault, read_duplicate, read_words};
+use rm_lang_words::{
+    StandbyTask, WordsFault, read_duplicate, read_resync, read_standby, read_words,
+};
 use std::alloc::Global;
 
 // The words of the line, each behind one space.
@@ -17,6 +19,22 @@ fn push_number(out: &mut String, number: Option<u64>) -> Result<(), NoMemory> {
     match number {
         Some(number) => write!(out, "|{number}")?,
         None => out.push_str("|-")?,
+    }
+    Ok(())
+}
+
+// Appends the text, or `-` for none.
+fn push_text(out: &mut String, text: &Option<Text>) -> Result<(), NoMemory> {
+    out.push_str("|")?;
+    out.push_str(text.as_ref().map_or("-", |text| text.as_str()))?;
+    Ok(())
+}
+
+fn push_task(out: &mut String, task: StandbyTask) -> Result<(), NoMemory> {
+    match task {
+        StandbyTask::Make(scn) => write!(out, "|make {scn}")?,
+        StandbyTask::Roll(increment) => write!(out, "|roll {increment}")?,
+        StandbyTask::Dump => out.push_str("|dump")?,
     }
     Ok(())
 }
@@ -41,6 +59,7 @@ pub fn said(alloc: Global, line: &str) -> Result<String, NoMemory> {
     push_number(&mut said, words.channels.map(u64::from))?;
     push_number(&mut said, words.drill)?;
     push_number(&mut said, words.database.map(u64::from))?;
+    push_text(&mut said, &words.control)?;
     Ok(said)
 }
 
@@ -62,4 +81,32 @@ pub fn duplicate_said(alloc: Global, line: &str) -> Result<String, NoMemory> {
     push_number(&mut said, words.incarnation)?;
     push_number(&mut said, words.channels.map(u64::from))?;
     Ok(said)
+}
+
+/// What the words of the line say to `standby`.
+pub fn standby_said(alloc: Global, line: &str) -> Result<String, NoMemory> {
+    let words = words_of(alloc, line)?;
+    let words = match read_standby(alloc, &words) {
+        Ok(words) => words,
+        Err(fault) => return refused(alloc, fault),
+    };
+    let (store, to, catalog) = (
+        words.store.as_str(),
+        words.to.as_str(),
+        words.catalog.as_str(),
+    );
+    let mut said = format!(in alloc; "{store}|{to}|{catalog}")?;
+    push_task(&mut said, words.task)?;
+    Ok(said)
+}
+
+/// What the words of the line say to `resync`.
+pub fn resync_said(alloc: Global, line: &str) -> Result<String, NoMemory> {
+    let words = words_of(alloc, line)?;
+    let words = match read_resync(alloc, &words) {
+        Ok(words) => words,
+        Err(fault) => return refused(alloc, fault),
+    };
+    let (control, catalog) = (words.control.as_str(), words.catalog.as_str());
+    Ok(format!(in alloc; "{control}|{catalog}")?)
 }

@@ -1,10 +1,11 @@
 //! Tests of the public calls of the libraries below the machine, each of which prints a line: of rm_base, rm_lang_token, rm_history,
-//! rm_blocks, rm_lanes and rm_track, of rm_catalog and rm_redo, of rm_piece, rm_evidence and rm_commit, of rm_merge and rm_backup, and of
+//! rm_blocks, rm_lanes and rm_track, of rm_catalog, rm_control and rm_redo, of rm_piece, rm_evidence and rm_commit, of rm_merge and rm_backup, and of
 //! rm_retain. The long tables and the worked rows are files of `data/`, of which each line is a case or says what is there.
 #![tactic(auto)]
 
 mod catalog;
 mod changes;
+mod control;
 mod database;
 mod datafiles;
 mod devices;
@@ -95,6 +96,16 @@ fn tell_catalogs(rt: &HostRuntime) -> io::Result<()> {
     tell(rt, "drops of many marks", many::dropped(alloc))
 }
 
+fn tell_controls(rt: &HostRuntime) -> io::Result<()> {
+    let alloc = rt.alloc();
+    tell(rt, "the third list fails", control::third_list(alloc))?;
+    tell(rt, "a far keeper away", control::away_and_back(alloc))?;
+    tell(rt, "the near keeper fails", control::near_fails(alloc))?;
+    tell(rt, "equal records take no list", control::equal(alloc))?;
+    tell(rt, "one list makes them equal", control::one_list(alloc))?;
+    tell(rt, "what waits is sent", control::sent(alloc))
+}
+
 fn tell_log_bytes(rt: &HostRuntime) -> io::Result<()> {
     let alloc = rt.alloc();
     let text = fs::read_to_string(rt, "logs.txt")?;
@@ -171,6 +182,7 @@ fn main(rt: HostRuntime) -> io::Result<()> {
     tell_history(&rt)?;
     tell_kernels(&rt)?;
     tell_catalogs(&rt)?;
+    tell_controls(&rt)?;
     tell_log_bytes(&rt)?;
     tell_logs(&rt)?;
     tell_pieces(&rt)?;

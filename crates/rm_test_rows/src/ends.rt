@@ -1,8 +1,9 @@
 //! Sources and sinks to their end, at the limit of a script, and failing in mid-stream.
 use crate::broken::Broken;
 use rm_base::{Failed, Failing, MemSink, MemSource, NoMemory, Sink, Source};
-use rm_tool::ends::{MOST_BYTES, ReadFault, read_all, write_all};
+use rm_tool::ends::{MOST_BYTES, ReadFault, read_all};
 use rm_tool::{ReadSource, WriteSink};
+use rm_tool_ends::write_all;
 use std::alloc::Global;
 use std::io::Cursor;
 

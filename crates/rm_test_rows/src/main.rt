@@ -26,6 +26,7 @@
 //! | `-- store NAME` | from here on runs go over the store of this name, which at first is `a`, and so do the lines below of objects |
 //! | `-- database N` | and over the records of this number, which at first is 0 |
 //! | `-- duplicate NAME WORD ..` | the next run is RMAN DUPLICATE with these words, from the store at hand into the store NAME |
+//! | `-- standby NAME WORD ..` | the next run is one of a standby with these words, of the store at hand in the store NAME |
 //! | `-- record KIND ID HEX ..` | the number at hand has this record, of these fields |
 //! | `-- drop KIND ID` | it has no record of this key |
 //! | `-- put NAME HEX ..` | the store that the last run left has an object of this name and of these bytes |
@@ -39,6 +40,7 @@ mod digits;
 mod ends;
 mod full_log;
 mod over_sqlite;
+mod resyncs;
 mod row;
 mod runs;
 mod site;
@@ -118,11 +120,21 @@ fn tell_runs<R: Threads + Wait + Sync>(rt: &HostRuntime, threads: &R) -> io::Res
     )
 }
 
+fn tell_resyncs(rt: &HostRuntime) -> io::Result<()> {
+    let alloc = rt.alloc();
+    tell(rt, "a resync", resyncs::done(alloc))?;
+    tell(rt, "a resync of equal records", resyncs::equal(alloc))?;
+    tell(rt, "a resync with bad words", resyncs::bad_words(alloc))?;
+    tell(rt, "a resync that is not told", resyncs::untold(alloc))?;
+    tell(rt, "a resync of keepers that fail", resyncs::failed(alloc))
+}
+
 fn main(rt: HostRuntime) -> io::Result<ExitCode> {
     if !tell_rows(&rt, &rt)? {
         return Ok(ExitCode::from(7));
     }
     tell_ends(&rt)?;
     tell_runs(&rt, &rt)?;
+    tell_resyncs(&rt)?;
     Ok(ExitCode::SUCCESS)
 }

@@ -26,8 +26,15 @@ pub struct Row {
     goes_on: bool,
     store: String,
     number: u32,
-    // The store that a duplicate goes into, where the next run is one.
-    into: Option<String>,
+    // What the next run is, where it is no session.
+    into: Option<Into>,
+}
+
+/// A run that is no session: a duplicate, or one of a standby, and the store into which it goes.
+#[derive(Drop)]
+struct Into {
+    name: String,
+    is_standby: bool,
 }
 
 impl Row {
@@ -105,11 +112,8 @@ impl Row {
                 Ok(())
             }
             ["database", number] => self.set_number(number),
-            ["duplicate", into, words @ ..] => {
-                self.into = Some(String::from_str(self.alloc, into)?);
-                self.words.clear();
-                self.add_words(words)
-            }
+            ["duplicate", into, words @ ..] => self.go_into(into, false, words),
+            ["standby", into, words @ ..] => self.go_into(into, true, words),
             _ => differs(self.alloc, "not a line of a row"),
         }
     }
@@ -120,6 +124,14 @@ impl Row {
         self.written.clear();
         self.goes_on = true;
         Ok(())
+    }
+
+    // The next run goes into the store of this name, with these words.
+    fn go_into(&mut self, name: &str, is_standby: bool, words: &[&str]) -> Result<(), Fault> {
+        let name = String::from_str(self.alloc, name)?;
+        self.into = Some(Into { name, is_standby });
+        self.words.clear();
+        self.add_words(words)
     }
 
     fn set_number(&mut self, number: &str) -> Result<(), Fault> {
@@ -236,10 +248,14 @@ impl Row {
         let mut store = stores.take(self.store.as_str(), &self.failing)?;
         let shelf = match &self.into {
             None => trial.gives(rt, &mut store, shelf, self.number, &wanted)?,
-            Some(name) => {
-                let mut into = stores.take(name.as_str(), &self.failing)?;
-                let shelf = trial.duplicates(rt, &mut store, &mut into, shelf, &wanted)?;
-                stores.put_back(name.as_str(), into)?;
+            Some(into) => {
+                let mut to = stores.take(into.name.as_str(), &self.failing)?;
+                let shelf = if into.is_standby {
+                    trial.stands(rt, &mut store, &mut to, shelf, self.number, &wanted)?
+                } else {
+                    trial.duplicates(rt, &mut store, &mut to, shelf, &wanted)?
+                };
+                stores.put_back(into.name.as_str(), to)?;
                 shelf
             }
         };

@@ -6,6 +6,7 @@ use rm_test_harness::Fault;
 use rm_tool::OpenGate;
 use rm_tool::run::run;
 use rm_tool_duplicate::run_duplicate;
+use rm_tool_standby::run_standby;
 use std::alloc::Global;
 use std::sync::Wait;
 use std::thread::Threads;
@@ -80,6 +81,24 @@ impl Trial<'_> {
         let (answer, shelf) = run_duplicate(rt, self.alloc, self.words, &mut sink, from, to, shelf);
         wanted.met(self.alloc, answer, sink.bytes())?;
         Ok(shelf)
+    }
+
+    /// A run of a standby of the database of this number and this store, in the other store, gives this status and writes the
+    /// first `len` bytes of the text. The shelf is handed back.
+    pub fn stands<R: Threads + Wait + Sync>(
+        &self,
+        rt: &R,
+        from: &mut MemStore,
+        to: &mut MemStore,
+        shelf: MemShelf,
+        number: u32,
+        wanted: &Wanted<'_>,
+    ) -> Result<MemShelf, Fault> {
+        let mut sink = self.sink()?;
+        let mut desk: Desk<MemShelf> = Desk::new(shelf, number);
+        let answer = run_standby(rt, self.alloc, self.words, &mut sink, from, to, &mut desk);
+        wanted.met(self.alloc, answer, sink.bytes())?;
+        Ok(desk.close())
     }
 }
 
