@@ -19,7 +19,7 @@ pub struct Fault<'a> {
 }
 
 /// Stands in place of a file that can't be used, and fails for this cause.
-pub fn unusable<S: Alter>(alloc: Global, why: Option<&str>) -> CatalogFile<S> {
+pub fn unusable<S: Alter + Drop>(alloc: Global, why: Option<&str>) -> CatalogFile<S> {
     let words = match why {
         Some(why) => String::from_str(alloc, why).ok(),
         None => None,
@@ -40,7 +40,7 @@ pub fn open(rt: &HostRuntime, file: &str, folders: &[&str]) -> Result<Catalog, N
 
 /// The records of the database of this number; nothing where they can't be read. Then the file is never read again: a second load
 /// that succeeds would find no folder beside it.
-pub fn load<S: Alter>(
+pub fn load<S: Alter + Drop>(
     alloc: Global,
     catalog: &mut CatalogFile<S>,
     number: u32,
@@ -57,7 +57,7 @@ pub fn load<S: Alter>(
 }
 
 /// Whether the database of this number has records; nothing where they can't be read.
-pub fn has_records<S: Alter>(
+pub fn has_records<S: Alter + Drop>(
     alloc: Global,
     catalog: &mut CatalogFile<S>,
     number: u32,
@@ -69,7 +69,7 @@ pub fn has_records<S: Alter>(
 }
 
 /// From now on it keeps the records of the database of this number.
-pub fn choose<S: Alter>(catalog: &mut CatalogFile<S>, number: u32) {
+pub fn choose<S: Alter + Drop>(catalog: &mut CatalogFile<S>, number: u32) {
     if let CatalogFile::Opened(keeper) = catalog {
         keeper.choose(number);
     }

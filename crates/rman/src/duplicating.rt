@@ -56,7 +56,7 @@ enum Records {
     None,
 }
 
-fn look_up<S: Alter>(
+fn look_up<S: Alter + Drop>(
     alloc: Global,
     catalog: &mut CatalogFile<S>,
     said: &Said,
@@ -111,7 +111,12 @@ fn folder_of_new<'a>(
 }
 
 // The folder is the duplicate's where its records are there now. What is refused leaves it as it was.
-fn claim<S: Alter>(alloc: Global, catalog: &mut CatalogFile<S>, said: &Said, to: &mut Folder<'_>) {
+fn claim<S: Alter + Drop>(
+    alloc: Global,
+    catalog: &mut CatalogFile<S>,
+    said: &Said,
+    to: &mut Folder<'_>,
+) {
     if let Ok(Some(true)) = catalog::has_records(alloc, catalog, said.number) {
         to.claim(owner(said));
     }

@@ -63,7 +63,7 @@ pub fn open(rt: &HostRuntime, paths: Paths<'_>, folders: &[&str]) -> Result<Open
 
 // Whether the database of this number has records, by both files. A control file to whose records the catalog's must not be made
 // equal is refused.
-fn have_records<S: Alter>(
+fn have_records<S: Alter + Drop>(
     alloc: Global,
     control: &mut CatalogFile<S>,
     catalog: &mut CatalogFile<S>,
@@ -85,7 +85,7 @@ fn have_records<S: Alter>(
     }
 }
 
-impl<S: Alter> Files<S> {
+impl<S: Alter + Drop> Files<S> {
     /// The catalog file alone.
     pub fn alone(catalog: CatalogFile<S>) -> Self {
         Files {
@@ -146,7 +146,7 @@ pub fn close(files: Opened) {
 }
 
 /// A control file that the catalog follows, or both as they are and why the catalog can't be made equal to it.
-pub fn follow<S: Alter>(
+pub fn follow<S: Alter + Drop>(
     alloc: Global,
     control: CatalogFile<S>,
     catalog: CatalogFile<S>,

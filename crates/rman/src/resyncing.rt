@@ -33,7 +33,7 @@ fn read(alloc: Global, words: &[Text]) -> Result<Said, NoMemory> {
 }
 
 // What it comes to over these files: its status, the error of the sink, and the files.
-fn serve<S: Alter>(
+fn serve<S: Alter + Drop>(
     rt: &HostRuntime,
     words: &[Text],
     files: Files<S>,

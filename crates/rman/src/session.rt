@@ -151,7 +151,7 @@ fn run_led<R: Threads + Wait + Sync, N: Keeper + Drop, F: Keeper + Drop>(
 
 // A session over a control file and the catalog, which are handed back. Where the catalog can't follow, the first call of the records
 // fails.
-fn run_both<R: Threads + Wait + Sync, S: Alter>(
+fn run_both<R: Threads + Wait + Sync, S: Alter + Drop>(
     rt: &HostRuntime,
     threads: &R,
     words: &[Text],
@@ -170,7 +170,7 @@ fn run_both<R: Threads + Wait + Sync, S: Alter>(
 }
 
 // A session over files of records, which are handed back.
-fn serve<R: Threads + Wait + Sync, S: Alter>(
+fn serve<R: Threads + Wait + Sync, S: Alter + Drop>(
     rt: &HostRuntime,
     threads: &R,
     words: &[Text],

@@ -53,7 +53,10 @@ fn owner(said: &Said) -> Owner<'_> {
 }
 
 // The dbid of the database, where the catalog can be read and has one.
-fn dbid_of<S: Alter>(alloc: Global, catalog: &mut CatalogFile<S>) -> Result<Option<u32>, NoMemory> {
+fn dbid_of<S: Alter + Drop>(
+    alloc: Global,
+    catalog: &mut CatalogFile<S>,
+) -> Result<Option<u32>, NoMemory> {
     let Some(records) = catalog::load(alloc, catalog, 0)? else {
         return Ok(None);
     };
