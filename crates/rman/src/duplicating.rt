@@ -1,12 +1,14 @@
 //! A duplicate of a database.
 use crate::bad_words::Task;
-use crate::catalog::{self, Catalog};
+use crate::catalog::{self, Fault};
 use crate::folder::{self, Folder, Owner};
 use crate::told;
 use rm_base::{NoMemory, Text};
+use rm_keeper_sql::{CatalogFile, Shelf};
 use rm_lang_words::{WordsFault, read_duplicate};
 use rm_tool::WriteSink;
 use rm_tool_duplicate::run_duplicate;
+use sqlite::Alter;
 use std::alloc::Global;
 use std::io;
 use std::sync::Wait;
@@ -54,7 +56,11 @@ enum Records {
     None,
 }
 
-fn look_up(alloc: Global, catalog: &mut Catalog, said: &Said) -> Result<Records, NoMemory> {
+fn look_up<S: Alter + Drop>(
+    alloc: Global,
+    catalog: &mut CatalogFile<S>,
+    said: &Said,
+) -> Result<Records, NoMemory> {
     let source = catalog::has_records(alloc, catalog, said.source)?;
     let taken = catalog::has_records(alloc, catalog, said.number)?;
     match (source, taken) {
@@ -99,13 +105,18 @@ fn folder_of_new<'a>(
         return Ok(Folder::none(rt));
     }
     if folder::are_one(rt, said.from.as_str(), said.to.as_str()) {
-        return Ok(folder::shared(rt));
+        return Ok(folder::shared(rt, "the duplicate needs a folder of its own"));
     }
     Ok(folder::to_come(rt, said.to.clone()?, owner(said)))
 }
 
 // The folder is the duplicate's where its records are there now. What is refused leaves it as it was.
-fn claim(alloc: Global, catalog: &mut Catalog, said: &Said, to: &mut Folder<'_>) {
+fn claim<S: Alter + Drop>(
+    alloc: Global,
+    catalog: &mut CatalogFile<S>,
+    said: &Said,
+    to: &mut Folder<'_>,
+) {
     if let Ok(Some(true)) = catalog::has_records(alloc, catalog, said.number) {
         to.claim(owner(said));
     }
@@ -113,25 +124,25 @@ fn claim(alloc: Global, catalog: &mut Catalog, said: &Said, to: &mut Folder<'_>)
 
 // A duplicate by what the words say, over its catalog: the status, the error of the sink, and the catalog. Over a folder that
 // can't be used none is made.
-fn make<R: Threads + Wait + Sync>(
+fn make<R: Threads + Wait + Sync, H: Shelf + Drop>(
     rt: &HostRuntime,
     threads: &R,
     words: &[Text],
     from: &mut Folder<'_>,
     to: &mut Folder<'_>,
-    catalog: Catalog,
-) -> (u8, Option<io::Error>, Catalog) {
+    shelf: H,
+) -> (u8, Option<io::Error>, H) {
     let mut sink = WriteSink::new(io::writer(rt));
-    let (status, catalog) = run_duplicate(
+    let (status, shelf) = run_duplicate(
         threads,
         rt.alloc(),
         words,
         &mut sink,
         &mut from.store,
         &mut to.store,
-        catalog,
+        shelf,
     );
-    (status, sink.last, catalog)
+    (status, sink.last, shelf)
 }
 
 /// A duplicate by these words, which come behind the command's, with threads by the second handle: its status. An error is want of
@@ -157,10 +168,13 @@ pub fn duplicate<R: Threads + Wait + Sync>(
         claim(alloc, &mut catalog, &said, &mut to);
     }
     let failed = if from.has_failed() { &from } else { &to };
-    let fault = catalog.last_fault();
+    let file = Fault {
+        name: "catalog",
+        path: said.file.as_str(),
+        why: catalog.last_fault(),
+    };
     let task = Task::Duplicate;
-    let file = said.file.as_str();
-    told::end(rt, status, task, words, of_stream, failed, file, fault);
+    told::end(rt, status, task, words, of_stream, Some(failed), file);
     let _ = catalog.close();
     Ok(status)
 }

@@ -1,4 +1,5 @@
 //! A folder beside a catalog, before anything is put in it.
+use crate::place::is_standby;
 use crate::told;
 use rm_base::Store;
 use rm_store_dir::{Dir, DirStore, Last};
@@ -47,15 +48,17 @@ impl<'a> Folder<'a> {
         self.is_unusable() || self.store.last_failure().is_some()
     }
 
-    // Whether it has objects; nothing where it can't be listed, which is told as a fault.
+    // Whether it has objects of a database, of which a standby is none; nothing where it can't be listed, which is told as a fault.
     fn has_objects(&mut self) -> Option<bool> {
-        match self.store.names() {
-            Ok(names) => Some(!names.is_empty()),
-            Err(_) => None,
-        }
+        let Ok(names) = self.store.names() else {
+            return None;
+        };
+        let mut names = names.as_slice().iter();
+        Some(names.any(|name| !is_standby(name.as_str())))
     }
 
-    fn refuse(&mut self, why: &'static str) {
+    /// From now on each call fails for this cause.
+    pub fn refuse(&mut self, why: &'static str) {
         self.store
             .refuse(io::Error::new(ErrorKind::InvalidInput, why));
     }
@@ -153,10 +156,35 @@ pub fn to_read<'a>(rt: &'a HostRuntime, path: String, owner: Owner<'_>) -> Folde
     folder
 }
 
-/// In place of a folder that two tasks would share.
-pub fn shared(rt: &HostRuntime) -> Folder<'_> {
+/// The folder of a standby, which is no database's and stays so: one that a database of the same catalog had last is refused. It is
+/// made where it is missing and a standby is to be made there.
+pub fn of_standby<'a>(
+    rt: &'a HostRuntime,
+    path: String,
+    owner: Owner<'_>,
+    is_made: bool,
+) -> Folder<'a> {
+    let mut folder = Folder::open(rt, path);
+    if is_made {
+        folder.store.make();
+    }
+    if folder.is_unusable() {
+        return folder;
+    }
+    match folder.store.last_used(owner.file, owner.number) {
+        Last::This => folder.refuse_for(owner.number),
+        Last::Number(number) => folder.refuse_for(number),
+        Last::Other(other) => folder.warn(rt, other.as_str()),
+        Last::Nobody => {}
+    }
+    folder.store.clear();
+    folder
+}
+
+/// In place of a folder that two tasks would share, which is refused for this.
+pub fn shared<'a>(rt: &'a HostRuntime, why: &'static str) -> Folder<'a> {
     let mut folder = Folder::none(rt);
-    folder.refuse("the duplicate needs a folder of its own");
+    folder.refuse(why);
     folder
 }
 

@@ -1,4 +1,4 @@
-//! Recovers a database as its script says, or makes a duplicate of one.
+//! Recovers a database as its script says, makes a duplicate or a standby of one, or makes a catalog equal to a control file.
 #![tactic(auto)]
 
 mod bad_words;
@@ -6,8 +6,12 @@ mod catalog;
 mod descriptors;
 mod duplicating;
 mod folder;
+mod following;
 mod place;
+mod records;
+mod resyncing;
 mod session;
+mod standing;
 mod told;
 
 use rm_base::{NoMemory, Text};
@@ -39,6 +43,8 @@ fn serve<R: Threads + Wait + Sync>(rt: &HostRuntime, threads: &R) -> Result<u8, 
         [first, rest @ ..] if first.as_str() == "duplicate" => duplicating::duplicate(
             rt, threads, rest,
         ),
+        [first, rest @ ..] if first.as_str() == "standby" => standing::standby(rt, threads, rest),
+        [first, rest @ ..] if first.as_str() == "resync" => resyncing::resync(rt, rest),
         all => session::session(rt, threads, all),
     }
 }

@@ -4,10 +4,11 @@ use std::fs;
 use std::io::{self, ErrorKind};
 use std::path::{Path, PathBuf};
 
+// What the names of standbys begin with.
+const STANDBY: &str = "standby_";
+
 // What the names begin with under which statements put and remove objects; behind it stands a number.
-const KINDS: [&str; 7] = [
-    "log_", "piece_", "copy_", "set_", "site_", "roll_", "standby_",
-];
+const KINDS: [&str; 7] = ["log_", "piece_", "copy_", "set_", "site_", "roll_", STANDBY];
 
 fn are_digits(bytes: &[u8]) -> bool {
     bytes.iter().all(|byte| byte.is_ascii_digit())
@@ -18,6 +19,11 @@ fn is_of_kind(name: &str, kind: &str) -> bool {
         Some(number) => !number.is_empty() && are_digits(number.as_bytes()),
         None => false,
     }
+}
+
+/// Whether an object of this name may be a standby.
+pub fn is_standby(name: &str) -> bool {
+    is_of_kind(name, STANDBY)
 }
 
 // Whether a statement may put or remove an object of this name, or the folder has such a file for itself.

@@ -1,5 +1,6 @@
 //! What is told on standard error. That a line can't be written changes nothing.
 use crate::bad_words::{Task, bad_word};
+use crate::catalog::Fault;
 use crate::folder::Folder;
 use rm_base::Text;
 use std::io;
@@ -48,9 +49,9 @@ fn store(rt: &HostRuntime, folder: &Folder<'_>) {
     };
 }
 
-// Why the catalog failed, or is refused.
-fn catalog(rt: &HostRuntime, path: &str, why: &str) {
-    let _ = eprintln!(rt; "rman: catalog: {path}: {why}");
+// Why a file of records failed, or is refused.
+fn records(rt: &HostRuntime, file: Fault<'_>, why: &str) {
+    let _ = eprintln!(rt; "rman: {}: {}: {why}", file.name, file.path);
 }
 
 // The script is too long.
@@ -59,26 +60,29 @@ fn long(rt: &HostRuntime) {
 }
 
 /// Why a task ended with this status, where it is none of 0 and 1: by the words, by the error of the source or the sink, by
-/// the store, or by the catalog in this file, whose last fault is told.
+/// the store, if there is one, or by a file of records.
 pub fn end(
     rt: &HostRuntime,
     status: u8,
     task: Task,
     given: &[Text],
     of_stream: Option<io::Error>,
-    folder: &Folder<'_>,
-    file: &str,
-    fault: Option<&str>,
+    folder: Option<&Folder<'_>>,
+    file: Fault<'_>,
 ) {
     match status {
         2 => words(rt, task, given),
         3 => stream(rt, "standard input", of_stream),
         4 => stream(rt, "standard output", of_stream),
-        5 => store(rt, folder),
-        6 => catalog(rt, file, fault.unwrap_or("failed")),
+        5 => {
+            if let Some(folder) = folder {
+                store(rt, folder);
+            }
+        }
+        6 => records(rt, file, file.why.unwrap_or("failed")),
         7 => memory(rt),
         8 => long(rt),
-        9 => catalog(rt, file, "a record breaks a rule"),
+        9 => records(rt, file, "a record breaks a rule"),
         _ => {}
     }
 }
