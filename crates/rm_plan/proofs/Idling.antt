@@ -14,7 +14,7 @@ use Rattle.rm_history.specs.declared.tree.Incarnation.{Incarnation}
 use Rattle.rm_history.specs.declared.world.Switch.{Switch}
 use Rattle.rm_history.specs.Threads.{applies, is_enabled, is_on, last_switch}
 use Rattle.rm_history.specs.Tree.{owner}
-use Rattle.rm_history.proofs.Enabled.{Applies, IsLast, applies-from, applies-parts, last-is}
+use Rattle.rm_history.proofs.Enabled.{IsLast, applies-from, applies-parts, last-is}
 use Rattle.rm_plan.specs.declared.span.Span.{Span}
 use Rattle.rm_plan.specs.Idle.{AreApart, after_one, is_below, on_after}
 use Rattle.rm_plan.specs.Spans.{covers, lies_in}
