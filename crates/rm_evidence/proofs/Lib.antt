@@ -17,4 +17,5 @@ pub mod Seen
 pub mod Single
 pub mod Sorting
 pub mod Switching
+pub mod Tells
 pub mod Worlds

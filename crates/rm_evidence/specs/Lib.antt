@@ -8,3 +8,4 @@ pub mod Objects
 pub mod Place
 pub mod Seen
 pub mod Taking
+pub mod Telling

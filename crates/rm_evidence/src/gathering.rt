@@ -13,10 +13,12 @@ use crate::evidence::{Evidence, InPlace};
 use crate::naming::id_fits;
 use crate::order::objects;
 use crate::place::in_place;
-use crate::taking::take_record;
+use crate::taking::{put_told, take_record};
+use crate::telling::tell_by;
 use rm_base::{NoMemory, Store, StoreFail};
 use rm_catalog::{Catalog, Record};
 use std::alloc::Global;
+use std::thread::Threads;
 
 /// Why no evidence was gathered.
 #[derive(Clone, Copy, PartialEq, Eq)]
@@ -73,6 +75,38 @@ pub fn gather<D: Store>(
         let row: &Record = object.1;
         id_fits(row);
         take_record(alloc, catalog, store, row, &mut evidence)?;
+    }
+    Ok(evidence)
+}
+
+/// The same by so many channels, at least one: so many objects are got, one after the other, and then digested and decoded
+/// side by side; the bytes of so many are held at a time. Each number of channels gives the same.
+pub fn gather_by<R: Threads + Sync, D: Store>(
+    rt: &R,
+    alloc: Global,
+    catalog: &Catalog,
+    store: &mut D,
+    place: &InPlace,
+    channels: u32,
+) -> Result<Evidence, EvidenceFault>
+    requires database { HasDatabase catalog.now }
+    requires place { FitsPlace catalog.now place.now }
+    ensures gathered { IfOk result (λ e. IsSeen (D.held store.old) (λ h. IsGathered h catalog.now place.now e)) }
+    ensures fits { IfOk result (λ e. FitsTree (nodes catalog.now) e) }
+    ensures same { D.held store.new ≡ D.held store.old }
+    ensures failed { IsErrOf result EvidenceFault.StoreFault → Rose (D.faults store.old) (D.faults store.new) }
+    ensures never_falls { D.faults store.old ≤ D.faults store.new }
+{
+    let mut evidence = in_place(alloc, dbid_of(catalog), place)?;
+    let objects = objects(alloc, catalog.records())?;
+    let rows = objects.as_slice();
+    let all = tell_by(rt, alloc, catalog, store, rows, channels)?;
+    let mut index = 0;
+    for told in all.into_vec() {
+        let row: &Record = rows[index].1;
+        id_fits(row);
+        put_told(&mut evidence, row, told)?;
+        index += 1;
     }
     Ok(evidence)
 }

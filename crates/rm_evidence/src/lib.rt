@@ -12,13 +12,15 @@ pub mod place;
 pub mod reading;
 pub mod sets;
 mod taking;
+pub mod telling;
 
 pub use database::{base_of, current_of, datafile, has_database, switches, threads};
 pub use evidence::{Evidence, InPlace};
-pub use gathering::{EvidenceFault, gather};
+pub use gathering::{EvidenceFault, gather, gather_by};
 pub use looking::{look_for_log, look_for_piece, look_for_set};
 pub use naming::{id_fits, log_name, object_id, piece_name, roll_name, set_name, site_name};
 pub use order::by_id;
 pub use place::fits_place;
 pub use reading::{log_object, piece_object};
 pub use sets::set_object;
+pub use telling::{Told, part_from, tell_each};

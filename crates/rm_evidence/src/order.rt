@@ -29,7 +29,7 @@ fn add_object<'a>(list: &mut Seq<(u32, &'a Record)>, row: &'a Record) -> Result<
 }
 
 /// The records of objects, each with its id, ascending by id.
-pub(crate) fn objects(alloc: Global, records: &[Record]) -> Result<Seq<(u32, &Record)>, NoMemory>
+pub fn objects(alloc: Global, records: &[Record]) -> Result<Seq<(u32, &Record)>, NoMemory>
     requires { IsCatalog records.now }
     ensures { IfOk result (λ objects. AreObjects records.now (map (λ x. (x.0, x.1.now)) objects)) }
 {

@@ -1,0 +1,204 @@
+-- What is told of records, one after the other.
+use Rattle.std.proofs.Common.{◌≡◌, ◌∙◌, ◌<◌, ◌≤◌, ◌+◌, ℕ, suc, Option, Some, None, List, [], ◌∷◌, ◌++◌, zero, append_assoc, drop, drop-cons, length-append, get_or, map, slice_get, take, refl, ap, sym, subst, arith, length}
+use Rattle.std.specs.Prelude.{Ok, Err, IfSome}
+use Rattle.std.proofs.Math.Seq.{take-length}
+use Rattle.std.proofs.lemmas.List.{get_or-map, length-map, length-take, map-append, take-append-drop, take-append-le, take_more}
+use Rattle.rm_base.specs.Store.{Held}
+use Rattle.rm_catalog.specs.declared.record.Record.{Record}
+use Rattle.rm_catalog.specs.declared.record.Record.TheVariants as kind
+use Rattle.rm_evidence.specs.declared.evidence.Evidence.{Evidence}
+use Rattle.rm_evidence.specs.declared.telling.Told.{Told}
+use Rattle.rm_evidence.specs.declared.telling.Told.TheVariants.{Nothing, OfLog, OfPiece, OfSet}
+use Rattle.rm_evidence.specs.Database.{Database}
+use Rattle.rm_evidence.specs.Objects.{IsLogObject, IsPieceObject, IsSetObject}
+use Rattle.rm_evidence.specs.Seen.{IsSeen}
+use Rattle.rm_evidence.specs.Taking.{Adds, IsTold}
+use Rattle.rm_evidence.specs.Telling.{AreTold, StandUnder, StandsUnder, TellAll, Tells, TellsAt, stands_in, with_artefact, with_told}
+use Rattle.rm_evidence.proofs.Adding.{adds-bad_log, adds-bad_piece, adds-bad_set, adds-log, adds-none, adds-piece, adds-set}
+use Rattle.rm_evidence.proofs.Seen.{seen-then}
+
+-- what is told of a record is what it adds
+pub adds-told : (held : Held) (base : Database) (r : Record) (t : Told) (e : Evidence) → Tells base r (stands_in held r) t → Adds held base (r ∷ []) e (with_told e r t)
+adds-told held base (kind.Log l) Nothing e tells = adds-none held base (kind.Log l) e tells
+adds-told held base (kind.Log l) (OfLog (Ok a)) e tells = adds-log held base l a e (with_artefact e l.id (OfLog (Ok a))) tells.0 tells.1 refl
+adds-told held base (kind.Log l) (OfLog (Err bad)) e tells = adds-bad_log held base l bad e (with_artefact e l.id (OfLog (Err bad))) tells.0 tells.1 refl
+adds-told held base (kind.Log l) (OfPiece told) e tells = absurd tells
+adds-told held base (kind.Log l) (OfSet told) e tells = absurd tells
+adds-told held base (kind.Piece p) Nothing e tells = adds-none held base (kind.Piece p) e tells
+adds-told held base (kind.Piece p) (OfLog told) e tells = absurd tells
+adds-told held base (kind.Piece p) (OfPiece (Ok a)) e tells = adds-piece held base p a e tells.0 tells.1
+adds-told held base (kind.Piece p) (OfPiece (Err bad)) e tells = adds-bad_piece held base p bad e (with_artefact e p.id (OfPiece (Err bad))) tells.0 tells.1 refl
+adds-told held base (kind.Piece p) (OfSet told) e tells = absurd tells
+adds-told held base (kind.Set s) Nothing e tells = adds-none held base (kind.Set s) e tells
+adds-told held base (kind.Set s) (OfLog told) e tells = absurd tells
+adds-told held base (kind.Set s) (OfPiece told) e tells = absurd tells
+adds-told held base (kind.Set s) (OfSet (Ok a)) e tells = adds-set held base s a e tells.0 tells.1
+adds-told held base (kind.Set s) (OfSet (Err bad)) e tells = adds-bad_set held base s bad e (with_artefact e s.id (OfSet (Err bad))) tells.0 tells.1 refl
+adds-told held base _ t e tells = adds-none held base _ e (λ counts. counts)
+
+-- what was got tells what stands there tells
+tells-there : (held : Held) (base : Database) (r : Record) (s : Option (List ℕ)) (t : Told) → StandsUnder held r s → Tells base r s t → Tells base r (stands_in held r) t
+tells-there held base (kind.Log l) s Nothing under tells = tells
+tells-there held base (kind.Log l) s (OfLog told) under tells = (tells.0, subst (λ (o : Option (List ℕ)). IsTold (IsLogObject l) o told) (under tells.0) tells.1)
+tells-there held base (kind.Log l) s (OfPiece told) under tells = tells
+tells-there held base (kind.Log l) s (OfSet told) under tells = tells
+tells-there held base (kind.Piece p) s Nothing under tells = tells
+tells-there held base (kind.Piece p) s (OfLog told) under tells = tells
+tells-there held base (kind.Piece p) s (OfPiece told) under tells = (tells.0, subst (λ (o : Option (List ℕ)). IsTold (IsPieceObject p) o told) (under tells.0) tells.1)
+tells-there held base (kind.Piece p) s (OfSet told) under tells = tells
+tells-there held base (kind.Set e) s Nothing under tells = tells
+tells-there held base (kind.Set e) s (OfLog told) under tells = tells
+tells-there held base (kind.Set e) s (OfPiece told) under tells = tells
+tells-there held base (kind.Set e) s (OfSet told) under tells = (tells.0, subst (λ (o : Option (List ℕ)). IsTold (IsSetObject base e) o told) (under tells.0) tells.1)
+tells-there held base _ s Nothing under tells = tells
+tells-there held base _ s (OfLog told) under tells = tells
+tells-there held base _ s (OfPiece told) under tells = tells
+tells-there held base _ s (OfSet told) under tells = tells
+
+-- any bytes stand there by a store that has them everywhere
+stands-any : (r : Record) (s : Option (List ℕ)) → StandsUnder (λ name. s) r s
+stands-any (kind.Log l) s = λ status. refl
+stands-any (kind.Piece p) s = λ status. refl
+stands-any (kind.Set e) s = λ status. refl
+stands-any _ s = tt
+
+-- so it is told by what is seen
+pub told-seen : (o : Option Held) (base : Database) (r : Record) (s : Option (List ℕ)) (t : Told) → IfSome o (λ h. StandsUnder h r s) → Tells base r s t → IsSeen o (λ h. Tells base r (stands_in h r) t)
+told-seen None base r s t under tells = let all : Held = λ name. s in (all, tells-there all base r s t (stands-any r s) tells)
+told-seen (Some h) base r s t under tells = tells-there h base r s t under tells
+
+-- and is what is added
+pub adds-seen : (o : Option Held) (base : Database) (r : Record) (t : Told) (e new : Evidence) → new ≡ with_told e r t → IsSeen o (λ h. Tells base r (stands_in h r) t) → IsSeen o (λ h. Adds h base (r ∷ []) e new)
+adds-seen o base r t e new is told = seen-then o told (λ h tells. subst (λ (x : Evidence). Adds h base (r ∷ []) e x) (sym is) (adds-told h base r t e tells))
+
+-- the same of records, one after the other
+pub are-told : (o : Option Held) (base : Database) (rs : List Record) (ss : List (Option (List ℕ))) (ts : List Told) → StandUnder o rs ss → TellAll base rs ss ts → AreTold o base rs ts
+are-told o base [] [] [] under tells = tt
+are-told o base [] [] (t ∷ ts) under tells = absurd tells
+are-told o base [] (s ∷ ss) ts under tells = absurd tells
+are-told o base (r ∷ rs) [] ts under tells = absurd tells
+are-told o base (r ∷ rs) (s ∷ ss) [] under tells = absurd tells
+are-told o base (r ∷ rs) (s ∷ ss) (t ∷ ts) under tells = (told-seen o base r s t under.0 tells.0, are-told o base rs ss ts under.1 tells.1)
+
+-- runs of records join
+pub told-join : (o : Option Held) (base : Database) (rs qs : List Record) (ts us : List Told) → AreTold o base rs ts → AreTold o base qs us → AreTold o base (rs ++ qs) (ts ++ us)
+told-join o base [] qs [] us first second = second
+told-join o base [] qs (t ∷ ts) us first second = absurd first
+told-join o base (r ∷ rs) qs [] us first second = absurd first
+told-join o base (r ∷ rs) qs (t ∷ ts) us first second = (first.0, told-join o base rs qs ts us first.1 second)
+
+-- one record more
+stand-more : (o : Option Held) (rs : List Record) (ss : List (Option (List ℕ))) (r : Record) (s : Option (List ℕ)) → StandUnder o rs ss → IfSome o (λ h. StandsUnder h r s) → StandUnder o (rs ++ r ∷ []) (ss ++ s ∷ [])
+stand-more o [] [] r s all one = (one, tt)
+stand-more o [] (x ∷ xs) r s all one = absurd all
+stand-more o (y ∷ ys) [] r s all one = absurd all
+stand-more o (y ∷ ys) (x ∷ xs) r s all one = (all.0, stand-more o ys xs r s all.1 one)
+
+tell-more : (base : Database) (rs : List Record) (ss : List (Option (List ℕ))) (ts : List Told) (r : Record) (s : Option (List ℕ)) (t : Told) → TellAll base rs ss ts → Tells base r s t → TellAll base (rs ++ r ∷ []) (ss ++ s ∷ []) (ts ++ t ∷ [])
+tell-more base [] [] [] r s t all one = (one, tt)
+tell-more base [] [] (z ∷ zs) r s t all one = absurd all
+tell-more base [] (y ∷ ys) ts r s t all one = absurd all
+tell-more base (x ∷ xs) [] ts r s t all one = absurd all
+tell-more base (x ∷ xs) (y ∷ ys) [] r s t all one = absurd all
+tell-more base (x ∷ xs) (y ∷ ys) (z ∷ zs) r s t all one = (all.0, tell-more base xs ys zs r s t all.1 one)
+
+-- the item at a place
+record HasItem {X : Type 0} (xs : List X) (k : ℕ) : Type 0 where
+  item : X
+  is : slice_get xs k ≡ Some item
+  more : take (k + 1) xs ≡ take k xs ++ item ∷ []
+
+item-at : {X : Type 0} (xs : List X) (k : ℕ) → k < length xs → HasItem xs k
+item-at [] k inside = absurd (omega arith)
+item-at (x ∷ xs) zero inside = record { item = x; is = refl; more = refl }
+item-at {X} (x ∷ xs) (suc k) inside =
+    let rest : HasItem xs k = item-at xs k (let lt : k < length xs = omega arith in lt) in
+    let next : suc k + 1 ≡ suc (k + 1) = omega arith in
+    record { item = rest.item; is = rest.is; more = ap (λ (n : ℕ). take n (x ∷ xs)) next ∙ ap (λ (zs : List X). x ∷ zs) rest.more }
+
+-- the first of what is left stands at its place
+pub first-left : {X : Type 0} (xs : List X) (k : ℕ) (x d : X) (rest : List X) → drop k xs ≡ x ∷ rest → (get_or xs k d ≡ x) × (drop (k + 1) xs ≡ rest)
+first-left [] zero x d rest is = absurd cc
+first-left [] (suc k) x d rest is = absurd cc
+first-left (y ∷ ys) zero x d rest is = (let same : y ≡ x = cc in same, let same : ys ≡ rest = cc in same)
+first-left {X} (y ∷ ys) (suc k) x d rest is =
+    let next : suc k + 1 ≡ suc (k + 1) = omega arith in
+    let inner = first-left ys k x d rest is in
+    (inner.0, ap (λ (n : ℕ). drop n (y ∷ ys)) next ∙ inner.1)
+
+-- one more was got
+pub stand-next : {X : Type 0} (see : X → Record) (xs : List X) (o p : Option Held) (i : ℕ) (x : X) (s : Option (List ℕ)) (ss ss' : List (Option (List ℕ))) → p ≡ o → i < length xs → x ≡ get_or xs i x → ss' ≡ ss ++ s ∷ []
+    → StandUnder o (map see (take i xs)) ss → IfSome p (λ h. StandsUnder h (see x) s) → StandUnder o (map see (take (i + 1) xs)) ss'
+stand-next {X} see xs o p i x s ss ss' same inside is longer before after =
+    let more : map see (take (i + 1) xs) ≡ map see (take i xs) ++ see x ∷ [] =
+    ap (map see) (take_more xs i x inside ∙ ap (λ (y : X). take i xs ++ y ∷ []) (sym is)) ∙ map-append see (take i xs) (x ∷ []) in
+    coe 1 0 (j. StandUnder o (more j) (longer j)) (stand-more o (map see (take i xs)) ss (see x) s before (subst (λ (q : Option Held). IfSome q (λ h. StandsUnder h (see x) s)) same after))
+
+-- so many items more
+pub take-part : {X : Type 0} (xs part after : List X) (k : ℕ) → k ≤ length xs → drop k xs ≡ part ++ after → take (k + length part) xs ≡ take k xs ++ part
+take-part {X} xs part after k within is =
+    let ys : List X = take k xs ++ part in
+    let whole : xs ≡ ys ++ after = sym (take-append-drop k xs) ∙ ap (λ (zs : List X). take k xs ++ zs) is ∙ sym (append_assoc (take k xs) part after) in
+    let joined = length-append (take k xs) part in
+    let front = length-take k xs in
+    let long : k + length part ≡ length ys = omega (arith, joined, front, within) in
+    ap (λ (n : ℕ). take n xs) long ∙ ap (take (length ys)) whole ∙ take-append-le (length ys) ys after (omega arith) ∙ take-length ys
+
+-- the records are read from these items
+module _ {X : Type 0} (see : X → Record) (xs : List X) (base : Database) where
+  -- one more is told
+  pub tell-next : (ss : List (Option (List ℕ))) (ts ts' : List Told) (t : Told) → length ts < length xs → length ss ≡ length xs → TellsAt base see xs ss (length ts) t → ts' ≡ ts ++ t ∷ []
+      → TellAll base (map see (take (length ts) xs)) (take (length ts) ss) ts → TellAll base (map see (take (length ts') xs)) (take (length ts') ss) ts'
+  tell-next ss ts ts' t inside many tells longer before =
+      let k : ℕ = length ts in
+      let x = item-at xs k inside in
+      let s = item-at ss k (omega arith) in
+      let long : length ts' ≡ k + 1 = ap length longer ∙ length-append ts (t ∷ []) in
+      coe 1 0 (i. TellAll base (((ap (λ (n : ℕ). map see (take n xs)) long ∙ ap (map see) x.more) ∙ map-append see (take k xs) (x.item ∷ [])) i) ((ap (λ (n : ℕ). take n ss) long ∙ s.more) i) (longer i))
+      (tell-more base (map see (take k xs)) (take k ss) ts (see x.item) s.item t before (tells x.item s.item x.is s.is))
+
+  -- so many more are told
+  pub part-told : (o p : Option Held) (k n : ℕ) (part : List X) (ts us all : List Told) → p ≡ o → n ≡ k + length part → take (k + length part) xs ≡ take k xs ++ part → all ≡ ts ++ us
+      → AreTold o base (map see (take k xs)) ts → AreTold p base (map see part) us → AreTold o base (map see (take n xs)) all
+  part-told o p k n part ts us all same many split longer before more =
+      coe 1 0 (i. AreTold o base (((ap (λ (m : ℕ). map see (take m xs)) many ∙ ap (map see) split) ∙ map-append see (take k xs) part) i) (longer i))
+      (told-join o base (map see (take k xs)) (map see part) ts us before (subst (λ (q : Option Held). AreTold q base (map see part) us) same more))
+
+  -- all are told
+  pub parts-told : (o : Option Held) (k : ℕ) (ts : List Told) → k ≤ length xs → length xs ≤ k → AreTold o base (map see (take k xs)) ts → AreTold o base (map see xs) ts
+  parts-told o k ts within past told =
+      let end : k ≡ length xs = omega arith in
+      subst (λ (ys : List X). AreTold o base (map see ys) ts) (ap (λ (m : ℕ). take m xs) end ∙ take-length xs) told
+
+  -- the next one is put
+  pub record IsNext (o : Option Held) (i : ℕ) (x : X) (t : Told) (ts : List Told) : Type 0 where
+    pub told : IsSeen o (λ h. Tells base (see x) (stands_in h (see x)) t)
+    pub rest : AreTold o base (drop (i + 1) (map see xs)) ts
+
+  pub told-inside : (o : Option Held) (i : ℕ) (t : Told) (ts : List Told) → AreTold o base (drop i (map see xs)) (t ∷ ts) → i < length xs
+  told-inside o i t ts are = step xs i are
+    where
+      step : (ys : List X) (k : ℕ) → AreTold o base (drop k (map see ys)) (t ∷ ts) → k < length ys
+      step [] zero is = absurd is
+      step [] (suc k) is = absurd is
+      step (y ∷ ys) zero is = omega arith
+      step (y ∷ ys) (suc k) is = let less = step ys k is in omega (arith, less)
+
+  pub told-next : (o : Option Held) (i : ℕ) (x : X) (t : Told) (ts : List Told) → x ≡ get_or xs i x → AreTold o base (drop i (map see xs)) (t ∷ ts) → IsNext o i x t ts
+  told-next o i x t ts is are =
+      let inside = told-inside o i t ts are in
+      let within : i < length (map see xs) = rw (length-map xs see) inside in
+      let next : suc i ≡ i + 1 = omega arith in
+      let here : get_or (map see xs) i (see x) ≡ see x = get_or-map see xs i x (see x) inside ∙ ap see (sym is) in
+      let split : drop i (map see xs) ≡ see x ∷ drop (i + 1) (map see xs) = drop-cons (map see xs) i (see x) within ∙ (λ k. here k ∷ drop (next k) (map see xs)) in
+      let all = subst (λ (rs : List Record). AreTold o base rs (t ∷ ts)) split are in
+      record { told = all.0; rest = all.1 }
+
+  pub none-left : (o : Option Held) (i : ℕ) (ts : List Told) → length ts ≡ 0 → AreTold o base (drop i (map see xs)) ts → length xs ≤ i
+  none-left o i (t ∷ ts) none are = absurd (omega arith)
+  none-left o i [] none are = step xs i are
+    where
+      step : (ys : List X) (k : ℕ) → AreTold o base (drop k (map see ys)) [] → length ys ≤ k
+      step [] k is = omega arith
+      step (y ∷ ys) zero is = absurd is
+      step (y ∷ ys) (suc k) is = let less = step ys k is in omega (arith, less)
