@@ -17,9 +17,10 @@ use crate::range::outside;
 use crate::targets::{TargetFile, datafiles_at};
 use rm_base::{Bad, IncNo, NoMemory, Scn, Seq, Store};
 use rm_catalog::Catalog;
-use rm_evidence::{Evidence, InPlace, gather};
+use rm_evidence::{Evidence, InPlace, gather_by};
 use rm_plan::{Gap, first_gap};
 use std::alloc::Global;
+use std::thread::Threads;
 
 // From where the datafile would be restored.
 fn origin(evidence: &Evidence, catalog: &Catalog, i: IncNo, s: Scn, target: TargetFile) -> Origin
@@ -57,14 +58,17 @@ fn origins(
 /// The origins from which the datafiles that exist at SCN `s` on the path of incarnation `i` would be
 /// restored, ascending by number; the first gap of a recovery to there, or none where each block is told; and
 /// the records that count as available but whose objects are missing or damaged. `Until` where `s` lies
-/// outside the incarnation.
-pub fn preview<D: Store>(
+/// outside the incarnation. The objects are digested and decoded by so many channels, at least one, the bytes of
+/// so many held at a time; each number gives the same.
+pub fn preview<R: Threads + Sync, D: Store>(
+    rt: &R,
     alloc: Global,
     catalog: &Catalog,
     store: &mut D,
     place: &InPlace,
     i: IncNo,
     s: Scn,
+    channels: u32,
 ) -> Result<(Seq<Origin>, Option<Gap>, Seq<(u32, Bad)>), RecoverFault>
     requires database { HasDatabase catalog.now }
     requires place { FitsPlace catalog.now place.now }
@@ -79,7 +83,7 @@ pub fn preview<D: Store>(
     if let Some((low, high)) = outside(catalog.tree(), i, s) {
         return Err(RecoverFault::Until(low, high));
     }
-    let evidence = gather(alloc, catalog, store, place)?;
+    let evidence = gather_by(rt, alloc, catalog, store, place, channels)?;
     let targets = datafiles_at(alloc, catalog, i, s, None)?;
     let origins = origins(alloc, &evidence, catalog, i, s, targets.as_slice())?;
     let gap = first_gap(alloc, &evidence, catalog, i, s)?;

@@ -18,7 +18,7 @@ use crate::targets::datafiles_at;
 use rm_base::{Bad, IncNo, Scn, Seq, Store};
 use rm_blocks::DataFile;
 use rm_catalog::Catalog;
-use rm_evidence::{Evidence, InPlace, gather};
+use rm_evidence::{Evidence, InPlace, gather_by};
 use rm_plan::PlanFault;
 use std::alloc::Global;
 use std::thread::Threads;
@@ -60,8 +60,9 @@ fn recover_files<R: Threads + Sync>(
 /// The datafiles that exist at SCN `s` on the path of incarnation `i`, by all that is at hand: each holds
 /// every change below `s` and none at or above it. `Until` where `s` lies outside the incarnation. `Gap`
 /// where a block is not told: that of the least datafile and block, behind which nothing more could be
-/// known. All memory is taken before the first part is applied. The parts are applied by so many channels;
-/// each number gives the same.
+/// known. All memory is taken before the first part is applied. By so many channels, at least one, the objects
+/// are digested and decoded, the bytes of so many held at a time, and the parts are applied; each number gives
+/// the same.
 pub fn recover<R: Threads + Sync, D: Store>(
     rt: &R,
     alloc: Global,
@@ -86,7 +87,7 @@ pub fn recover<R: Threads + Sync, D: Store>(
     if let Some((low, high)) = outside(catalog.tree(), i, s) {
         return Err(RecoverFault::Until(low, high));
     }
-    let evidence = gather(alloc, catalog, store, place)?;
+    let evidence = gather_by(rt, alloc, catalog, store, place, channels)?;
     let files = recover_files(rt, alloc, &evidence, catalog, i, s, channels)?;
     Ok(Recovered {
         files,

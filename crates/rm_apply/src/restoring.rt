@@ -23,10 +23,11 @@ use crate::targets::{TargetFile, datafiles_at};
 use rm_base::{FileNo, IncNo, NoMemory, Scn, Seq, Store};
 use rm_blocks::DataFile;
 use rm_catalog::Catalog;
-use rm_evidence::{Evidence, InPlace, gather};
+use rm_evidence::{Evidence, InPlace, gather_by};
 use rm_history::Datafile;
 use rm_piece::Piece;
 use std::alloc::Global;
+use std::thread::Threads;
 
 // The datafile as it stood in a backup.
 fn backed_up(alloc: Global, piece: &Piece) -> Result<DataFile, NoMemory>
@@ -109,8 +110,10 @@ fn restore_files(
 /// The datafiles that exist at SCN `s` on the path of incarnation `i`, or of these the one that is named, each
 /// from its available backup on that path of the greatest checkpoint up to `s`, ties by the greatest id, or
 /// else as it was created; and these origins, in the same order. What a set has of a datafile is a backup with
-/// the set's id. `Until` where `s` lies outside the incarnation.
-pub fn restore<D: Store>(
+/// the set's id. `Until` where `s` lies outside the incarnation. The objects are digested and decoded by so many
+/// channels, at least one, the bytes of so many held at a time; each number gives the same.
+pub fn restore<R: Threads + Sync, D: Store>(
+    rt: &R,
     alloc: Global,
     catalog: &Catalog,
     store: &mut D,
@@ -118,6 +121,7 @@ pub fn restore<D: Store>(
     i: IncNo,
     s: Scn,
     file: Option<FileNo>,
+    channels: u32,
 ) -> Result<(Recovered, Seq<Origin>), RecoverFault>
     requires database { HasDatabase catalog.now }
     requires place { FitsPlace catalog.now place.now }
@@ -132,7 +136,7 @@ pub fn restore<D: Store>(
     if let Some((low, high)) = outside(catalog.tree(), i, s) {
         return Err(RecoverFault::Until(low, high));
     }
-    let evidence = gather(alloc, catalog, store, place)?;
+    let evidence = gather_by(rt, alloc, catalog, store, place, channels)?;
     let targets = datafiles_at(alloc, catalog, i, s, file)?;
     let (files, origins) = restore_files(alloc, &evidence, catalog, i, s, targets.as_slice())?;
     let recovered = Recovered {
