@@ -5,6 +5,7 @@ use Rattle.std.specs.Option.{option_map}
 use Rattle.std.proofs.lemmas.Bool.{cases_lt}
 use Rattle.std.proofs.lemmas.Option.{same_Some}
 use Rattle.rm_base.specs.Store.{Held}
+use Rattle.rm_base.specs.declared.kinds.Bad.{Bad}
 use Rattle.rm_base.specs.declared.kinds.Bad.TheVariants.{Missing}
 use Rattle.rm_base.specs.declared.kinds.Class.{Class}
 use Rattle.rm_base.specs.declared.kinds.Status.{Status}
@@ -13,16 +14,15 @@ use Rattle.rm_catalog.specs.declared.record.Record.{Record}
 use Rattle.rm_catalog.specs.declared.record.Record.TheVariants.{Log, Piece, Set}
 use Rattle.rm_catalog.specs.Keys.{at, place_of}
 use Rattle.rm_catalog.specs.Rules.{IsCatalog}
-use Rattle.rm_evidence.specs.Available.{IsBad, IsSkipped}
+use Rattle.rm_evidence.specs.Available.{IsBad, IsSkipped, IsSkippedAmong}
 use Rattle.rm_evidence.specs.Database.{Database, database_in}
 use Rattle.rm_evidence.specs.Names.{log_name, object_id, piece_name, set_name}
 use Rattle.rm_evidence.proofs.Found.{at-is}
-use Rattle.rm_evidence.proofs.Records.{IsBadRecord, bad-to, skipped-single}
+use Rattle.rm_evidence.proofs.Records.{IsBadRecord, bad-by, bad-to, only, skipped-single}
 use Rattle.rm_evidence.proofs.Runs.{apart}
 use Rattle.rm_verify.specs.declared.object.Expected.{Expected}
 use Rattle.rm_verify.specs.Classes.{is_of, object_in}
 use Rattle.rm_verify.specs.Crosscheck.{IsChecked, checked, stands_in, status_after}
-use Rattle.rm_verify.proofs.Bad.{only-bad}
 use Rattle.rm_verify.proofs.Checked as checks
 
 module _ (rs : List Record) (catalog : IsCatalog rs) where
@@ -92,6 +92,6 @@ module _ (held : Held) (class : Class) where
       from skipped =
           let o = (skipped-single held base).one rs x.id Missing skipped in
           let same : o.0 ≡ r = one-number rs catalog o.0 r x.id o.1 has ((skipped-single held base).number o.0 x.id Missing o.2) number in
-          let here : IsBadRecord held base r x.id Missing = subst (λ (s : Record). IsBadRecord held base s x.id Missing) same (only-bad held base o.0 x.id Missing o.2) in
+          let here : IsBadRecord held base r x.id Missing = subst (λ (s : Record). IsBadRecord held base s x.id Missing) same (only Bad (λ rs. IsSkippedAmong held base rs) (IsBadRecord held base) (bad-by held base) (bad-to held base) o.0 x.id Missing o.2) in
           let after : status_after x.status (stands_in held x.name) ≡ Expired = (expires x.status (held x.name) status).1 ((is-missing base r x is status).0 here) in
           (r, has, said r x of is ∙ ap (λ (s : Status). Some (x.id, s)) after)

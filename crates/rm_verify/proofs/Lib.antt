@@ -1,5 +1,5 @@
 pub mod Among
-pub mod Bad
 pub mod Checked
 pub mod Expired
 pub mod Growing
+pub mod Skipping

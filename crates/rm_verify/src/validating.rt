@@ -1,105 +1,66 @@
 //! Validation: the records that count as available, but whose objects can't be used.
-ghost use Rattle.std.specs.Prelude.{◌≡◌, ◌≤◌, ◌∷◌, [], IfOk, IsErrOf};
+ghost use Rattle.std.specs.Prelude.{◌≡◌, ◌≤◌, All, [], IfOk, IsErrOf, OnOk, map};
 ghost use Rattle.rm_base.specs.Outside.{Rose};
 ghost use Rattle.rm_base.specs.declared.kinds.Bad.{Bad as BadOf};
-ghost use Rattle.rm_catalog.specs.declared.record.Record.TheVariants.{Log as OfLog, Piece as OfPiece, Set as OfSet};
-ghost use Rattle.rm_evidence.specs.Available.{IsSkipped, IsSkippedAmong};
-ghost use Rattle.rm_evidence.specs.Database.{Database, database_in};
+ghost use Rattle.rm_evidence.specs.Available.{IsSkipped};
 ghost use Rattle.rm_evidence.specs.Gathered.{Lists};
 ghost use Rattle.rm_evidence.specs.Seen.{IsSeen};
-ghost use Rattle.rm_verify.specs.Told.{Tells};
+ghost use Rattle.rm_evidence.specs.Taking.{HasId};
+ghost use Rattle.rm_verify.specs.Told.{reason, with_bad};
 
 use crate::fault::VerifyFault;
-use crate::found::{add, reason};
-use rm_base::{Bad, Seq, Status, Store};
-use rm_catalog::{Catalog, LogEntry, PieceEntry, Record, SetEntry};
-use rm_evidence::{by_id, id_fits, look_for_log, look_for_piece, look_for_set};
+use crate::found::add;
+use rm_base::{Bad, NoMemory, Seq, Store};
+use rm_catalog::{Catalog, Record};
+use rm_evidence::order::objects;
+use rm_evidence::{Told, id_fits, tell_each};
 use std::alloc::Global;
+use std::thread::Threads;
 
-// The id of the log and why its object can't be used, where its record counts as available.
-fn bad_log<D: Store>(
-    alloc: Global,
-    store: &mut D,
-    entry: &LogEntry,
-) -> Result<Option<(u32, Bad)>, VerifyFault>
-    ensures told { IfOk result (λ found. IsSeen (D.held store.old) (λ h. (base : Database) → Tells (IsSkippedAmong h base (OfLog entry.now ∷ [])) found)) }
-    ensures same { D.held store.new ≡ D.held store.old }
-    ensures failed { IsErrOf result VerifyFault.StoreFault → Rose (D.faults store.old) (D.faults store.new) }
-    ensures never_falls { D.faults store.old ≤ D.faults store.new }
+// Why the object of a record can't be used, where that is told.
+fn reason(told: &Told) -> Option<Bad>
+    ensures { result ≡ reason told.now }
 {
-    if entry.status != Status::Available {
-        return Ok(None);
+    match told {
+        Told::OfLog(Err(bad)) | Told::OfPiece(Err(bad)) | Told::OfSet(Err(bad)) => Some(*bad),
+        _ => None,
     }
-    let looked = look_for_log(alloc, store, entry)?;
-    Ok(reason(entry.id, looked))
 }
 
-// The id of the piece and why its object can't be used, where its record counts as available.
-fn bad_piece<D: Store>(
-    alloc: Global,
-    store: &mut D,
-    entry: &PieceEntry,
-) -> Result<Option<(u32, Bad)>, VerifyFault>
-    ensures told { IfOk result (λ found. IsSeen (D.held store.old) (λ h. (base : Database) → Tells (IsSkippedAmong h base (OfPiece entry.now ∷ [])) found)) }
-    ensures same { D.held store.new ≡ D.held store.old }
-    ensures failed { IsErrOf result VerifyFault.StoreFault → Rose (D.faults store.old) (D.faults store.new) }
-    ensures never_falls { D.faults store.old ≤ D.faults store.new }
+// The ids of these records are of four bytes each. Nothing is done.
+fn ids_fit(rows: &[(u32, &Record)])
+    ensures { All (λ x. HasId x.1.now) rows.now }
 {
-    if entry.status != Status::Available {
-        return Ok(None);
+    for row in rows {
+        id_fits(row.1);
     }
-    let looked = look_for_piece(alloc, store, entry)?;
-    Ok(reason(entry.id, looked))
 }
 
-// The id of the set and why its object can't be used, where its record counts as available.
-fn bad_set<D: Store>(
-    alloc: Global,
-    catalog: &Catalog,
-    store: &mut D,
-    entry: &SetEntry,
-) -> Result<Option<(u32, Bad)>, VerifyFault>
-    ensures told { IfOk result (λ found. IsSeen (D.held store.old) (λ h. Tells (IsSkippedAmong h (database_in catalog.now) (OfSet entry.now ∷ [])) found)) }
-    ensures same { D.held store.new ≡ D.held store.old }
-    ensures failed { IsErrOf result VerifyFault.StoreFault → Rose (D.faults store.old) (D.faults store.new) }
-    ensures never_falls { D.faults store.old ≤ D.faults store.new }
+// Adds the id of each of these records whose object can't be used by what is told of it, and why.
+fn add_bad(
+    list: &mut Seq<(u32, Bad)>,
+    rows: &[(u32, &Record)],
+    told: &[Told],
+) -> Result<(), NoMemory>
+    ensures bad { OnOk result (list.new ≡ with_bad list.old (map (λ x. x.0) rows.now) told.now) }
 {
-    if entry.status != Status::Available {
-        return Ok(None);
+    for ((id, _), told) in rows.iter().zip(told) {
+        add(list, reason(told).map(|bad| (*id, bad)))?;
     }
-    let looked = look_for_set(alloc, catalog, store, entry)?;
-    Ok(reason(entry.id, looked))
-}
-
-// The id of the record and why its object can't be used, where it counts as available.
-fn bad_record<D: Store>(
-    alloc: Global,
-    catalog: &Catalog,
-    store: &mut D,
-    row: &Record,
-) -> Result<Option<(u32, Bad)>, VerifyFault>
-    ensures told { IfOk result (λ found. IsSeen (D.held store.old) (λ h. Tells (IsSkippedAmong h (database_in catalog.now) (row.now ∷ [])) found)) }
-    ensures same { D.held store.new ≡ D.held store.old }
-    ensures failed { IsErrOf result VerifyFault.StoreFault → Rose (D.faults store.old) (D.faults store.new) }
-    ensures never_falls { D.faults store.old ≤ D.faults store.new }
-{
-    match row {
-        Record::Log(entry) => bad_log(alloc, store, entry),
-        Record::Piece(entry) => bad_piece(alloc, store, entry),
-        Record::Set(entry) => bad_set(alloc, catalog, store, entry),
-        _ => Ok(None),
-    }
+    Ok(())
 }
 
 /// The id of each record that counts as available and whose object is missing or damaged, and which of the two,
 /// ascending by id. An object is damaged where its bytes have not the size and the SHA-256 of the record, or spell
 /// nothing with the record's fields; a set's members are also to be of the catalog's datafiles. Where the store tells
-/// nothing of what it holds, it is so by some bytes under each name. Each object is read and let go before the next.
-/// `StoreFault` where the store failed, and counted it.
-pub fn validate<D: Store>(
+/// nothing of what it holds, it is so by some bytes under each name. The objects are read and let go by so many channels, at
+/// least one, which hold as many at a time; each number gives the same. `StoreFault` where the store failed, and counted it.
+pub fn validate<R: Threads + Sync, D: Store>(
+    rt: &R,
     alloc: Global,
     catalog: &Catalog,
     store: &mut D,
+    channels: u32,
 ) -> Result<Seq<(u32, Bad)>, VerifyFault>
     ensures bad { IfOk result (λ list. IsSeen (D.held store.old) (λ h. Lists BadOf [] (IsSkipped h catalog.now) list)) }
     ensures same { D.held store.new ≡ D.held store.old }
@@ -107,11 +68,11 @@ pub fn validate<D: Store>(
     ensures never_falls { D.faults store.old ≤ D.faults store.new }
 {
     let mut list = Seq::new(alloc);
-    let records = catalog.records();
-    for row in records {
-        id_fits(row);
-        let found = bad_record(alloc, catalog, store, row)?;
-        add(&mut list, found)?;
+    let objects = objects(alloc, catalog.records())?;
+    for part in objects.as_slice().chunks(channels.max(1) as usize) {
+        ids_fit(part);
+        let told = tell_each(rt, alloc, catalog, store, part)?;
+        add_bad(&mut list, part, told.as_slice())?;
     }
-    Ok(by_id(list))
+    Ok(list)
 }
