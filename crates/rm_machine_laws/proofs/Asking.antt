@@ -1,5 +1,5 @@
 -- What the state does not refuse has the ids of a save left, since these are asked for.
-use Rattle.std.proofs.Common.{◌≡◌, ◌+◌, ◌≤◌, ℕ, Option, Some, None, Bool, true, false, cond, refl, sym, ap, ◌∙◌, arith, rules}
+use Rattle.std.proofs.Common.{◌≡◌, ◌+◌, ◌≤◌, ℕ, Option, Some, None, Bool, true, false, cond, refl, arith, rules}
 use Rattle.std.specs.Option.{option_and_then, option_map_or}
 use Rattle.std.proofs.lemmas.Bool.{le-ltb}
 use Rattle.rm_base.specs.declared.refusal.Refusal.{Refusal}
@@ -7,7 +7,7 @@ use Rattle.rm_base.specs.declared.refusal.Refusal.TheVariants.{Rm03, Rm05, Rm09}
 use Rattle.rm_base.specs.declared.refusal.Absent.TheVariants.{File}
 use Rattle.rm_base.proofs.Conditions.{only-where, unless}
 use Rattle.rm_lang_statement.specs.declared.command.Command.{Command}
-use Rattle.rm_lang_statement.specs.declared.command.Command.TheVariants.{ArchiveLogCurrent, Backup, BackupFrom, ChangeBackup, Corrupt, CreateDatabase, CreateDatafile, Crosscheck, Cut, Damage, DeleteBackup, DeleteExpired, DeleteObsolete, LoseDatafile, LoseLog, Mount, OpenPlain, OpenResetlogs, Parallelism, Remove, Rename, ResetDatabase, Restore, Retention, SwitchLogfile, SwitchThread, Tracking, Write}
+use Rattle.rm_lang_statement.specs.declared.command.Command.TheVariants.{ArchiveLogCurrent, Backup, BackupFrom, ChangeBackup, Corrupt, CreateDatabase, CreateDatafile, Cut, Damage, DeleteBackup, DeleteExpired, LoseDatafile, LoseLog, Mount, OpenPlain, OpenResetlogs, Parallelism, Remove, Rename, ResetDatabase, Retention, SwitchLogfile, SwitchThread, Tracking, Write}
 use Rattle.rm_lang_statement.specs.declared.command.RepairForm.{RepairForm}
 use Rattle.rm_lang_statement.specs.declared.command.Until.{Until}
 use Rattle.rm_lang_statement.specs.declared.command.WriteForm.{WriteForm}
@@ -25,7 +25,7 @@ use Rattle.rm_machine.specs.Step.{refusal_of}
 use Rattle.rm_machine.specs.SwitchLogfile.{archive_refusal, is_due, switch_refusal}
 use Rattle.rm_machine.specs.Until.{nowhere_refusal, or_else, refusal_at, target_of, thread_refusal, until_refusal}
 use Rattle.rm_machine.specs.Write.{block_refusal, write_refusal}
-use Rattle.rm_machine.specs.declared.nature.Nature.TheVariants.{Changes, ChangesByHeld, Mishap}
+use Rattle.rm_machine.specs.declared.nature.Nature.TheVariants.{Changes, Mishap}
 use Rattle.rm_machine.specs.declared.state.State.{State}
 use Rattle.rm_machine_code.proofs.BackupAccepted.{can-back_up}
 use Rattle.rm_machine_code.proofs.Branching.{can-reset}

@@ -1,8 +1,7 @@
 -- CATALOG: where what stands there was recorded before, by a finished statement, it has a record again.
-use Rattle.std.proofs.Common.{◌≡◌, ◌≢◌, ◌≤◌, ◌+◌, ◌∙◌, ◌++◌, ◌⊎◌, ◌-◌, inl, inr, ℕ, zero, suc, List, [], ◌∷◌, Option, Some, None, Bool, true, false, cond, codes, refl, ap, sym, subst, arith, get_or, slice_index_or, slice_set, Contains}
+use Rattle.std.proofs.Common.{◌≡◌, ◌≢◌, ◌≤◌, ◌∙◌, ◌++◌, ◌⊎◌, ◌-◌, inl, inr, ℕ, zero, suc, List, [], ◌∷◌, Option, Some, None, Bool, true, false, cond, codes, refl, ap, sym, subst, arith, get_or, slice_index_or, slice_set, Contains}
 use Rattle.std.specs.Prelude.{MatchOption}
 use Rattle.std.specs.Option.{option_map_or}
-use Rattle.std.proofs.lemmas.Bool.{le-ltb}
 use Rattle.std.proofs.lemmas.List.Elements.{Contains-append_left, Contains-push, Contains-push_cases}
 use Rattle.rm_base.specs.Store.{Held}
 use Rattle.rm_base.specs.declared.block.Change.{Change}
@@ -30,7 +29,6 @@ use Rattle.rm_machine.specs.Effect.{Artefact, Effect, Made, a_log, a_piece, a_se
 use Rattle.rm_machine.specs.Honest.{IsHonest, IsRecorded}
 use Rattle.rm_machine.specs.Laws.{LeadsOn}
 use Rattle.rm_machine.specs.Machine.{DigestsTell, EndsWithin, HasLogArtefact, HasPieceArtefact, IsBorneOut, IsTrueArtefact, IsValidArtefact, Machine}
-use Rattle.rm_machine.specs.Marks.{lacks_ids}
 use Rattle.rm_machine.specs.Nature.{nature_of}
 use Rattle.rm_machine.specs.declared.nature.Nature.TheVariants.{Records}
 use Rattle.rm_machine.specs.Saved.{spelling_of}
@@ -48,7 +46,7 @@ use Rattle.rm_machine_laws.proofs.Leading.{LeadsOnAsking, StaysBy, leads-asking}
 use Rattle.rm_machine_laws.proofs.Loosening.{nothing-named}
 use Rattle.rm_machine_laws.proofs.LooseQuiet.{loose-done}
 use Rattle.rm_machine_laws.proofs.Quiet.{same-stays, unchanged}
-use Rattle.rm_machine_laws.proofs.Roomy.{LeavesIds, leaves}
+use Rattle.rm_machine_laws.proofs.Roomy.{KeepsIds, LeavesIds, enough, leaves}
 
 -- What was done
 
@@ -249,7 +247,7 @@ catalog-roomy name = leaves (CatalogName name) (λ s held lines e t sound none d
     let x = by.found in
     let left = (accepted s name x by.accepted_is).ids in
     let next = next-catalogued s x in
-    ap (λ y. lacks_ids y 0) (sym by.state) ∙ le-ltb 4294967295 ((catalogued s x).ledger.base.next_id + 0 + 68) (omega (arith, left, next)))
+    subst (KeepsIds s) by.state (enough s (with_catalog s (catalogued s x)) (omega (arith, next)) (omega (arith, left, next))))
 
 -- of no other statement more is asked than that digests tell
 pub asks-no-more : (m : Machine) (c : Command) → nature_of c ≢ Records → DigestsTell m → IsHonest m c

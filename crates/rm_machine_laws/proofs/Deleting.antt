@@ -14,8 +14,8 @@ use Rattle.rm_catalog.specs.declared.record.SetEntry.{SetEntry}
 use Rattle.rm_commit.specs.Names.{HasRemoves, is_named, itself, nothing}
 use Rattle.rm_commit.proofs.Named.{same-name, unnamed-stays}
 use Rattle.rm_catalog_typed.specs.Ledger.{Ledger}
-use Rattle.rm_evidence.specs.Names.{log_name, piece_name, set_name, site_name}
-use Rattle.rm_evidence.proofs.Names.{log-name-tells, log-no-piece, log-no-set, log-no-site, piece-name-tells, piece-no-set, piece-no-site, set-name-tells, set-no-site}
+use Rattle.rm_evidence.specs.Names.{log_name, piece_name, roll_name, set_name, site_name}
+use Rattle.rm_evidence.proofs.Names.{log-name-tells, log-no-piece, log-no-roll, log-no-set, log-no-site, piece-name-tells, piece-no-roll, piece-no-set, piece-no-site, set-name-tells, set-no-roll, set-no-site}
 use Rattle.rm_catalog_typed.specs.Changes.{higher, lower, without_one}
 use Rattle.rm_catalog_typed.specs.Facts.{IsTypedCatalog}
 use Rattle.rm_catalog_typed.specs.TypedCatalog.{TypedCatalog}
@@ -178,6 +178,11 @@ module _ (r : TypedCatalog) (rules : IsTypedCatalog r) where
     site-free id _ (a_piece p among there) same = piece-no-site p.copy p.id id (sym same)
     site-free id _ (a_set e among there) same = set-no-site e.id id (sym same)
 
+    roll-free : (id : ℕ) (name : List ℕ) → IsGone r ids name → roll_name id ≢ name
+    roll-free id _ (a_log e among there) same = log-no-roll e.id id (sym same)
+    roll-free id _ (a_piece p among there) same = piece-no-roll p.copy p.id id (sym same)
+    roll-free id _ (a_set e among there) same = set-no-roll e.id id (sym same)
+
     module _ (names : List (List ℕ)) (are : AreGone r ids names) where
       -- no record that is left names what goes
       pub left-free : (name : List ℕ) → IsObjectName (without_all ids r).ledger name → ¬ Contains names name
@@ -188,6 +193,10 @@ module _ (r : TypedCatalog) (rules : IsTypedCatalog r) where
       -- nor a part of a saved site
       pub part-free : (id : ℕ) → ¬ Contains names (site_name id)
       part-free id goes = site-free id (site_name id) (are (site_name id) goes) refl
+
+      -- and it is the name of no increment
+      pub increment-free : (id : ℕ) → ¬ Contains names (roll_name id)
+      increment-free id goes = roll-free id (roll_name id) (are (roll_name id) goes) refl
 
       -- so what they name stays
       pub object-stays : (objects after : Held) → LeavesObjects (removing names) objects after → (name : List ℕ) → IsObjectName (without_all ids r).ledger name → after name ≡ objects name

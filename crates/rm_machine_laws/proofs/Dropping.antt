@@ -1,11 +1,11 @@
--- The objects of a saved site go, and the names of logs, pieces and sets are none of theirs.
-use Rattle.std.proofs.Common.{◌≡◌, ◌∙◌, ◌++◌, ◌||◌, ℕ, List, [], ◌∷◌, Option, Some, None, Bool, true, false, refl, sym, subst, map, inl, inr}
+-- The objects of a saved site come and go, and the names of logs, pieces and sets are none of theirs.
+use Rattle.std.proofs.Common.{◌≡◌, ◌∙◌, ◌+◌, ◌++◌, ◌||◌, ℕ, List, [], ◌∷◌, Option, Some, None, Bool, true, false, refl, sym, subst, map, inl, inr}
 use Rattle.std.specs.Str.{bytes_eq}
 use Rattle.std.proofs.lemmas.Bool.{cases_Bool, false≢true}
 use Rattle.std.proofs.lemmas.Slice.Eq.{bytes_eq-Decides}
 use Rattle.rm_base.specs.Store.{Held}
 use Rattle.rm_catalog.specs.declared.record.PartEntry.{PartEntry}
-use Rattle.rm_commit.specs.Names.{after_all, is_named, itself, nothing}
+use Rattle.rm_commit.specs.Names.{after_all, is_named, itself, name_of, nothing}
 use Rattle.rm_commit.proofs.Named.{unnamed-stays}
 use Rattle.rm_catalog_typed.specs.Ledger.{Ledger}
 use Rattle.rm_evidence.specs.Names.{site_name}
@@ -13,6 +13,7 @@ use Rattle.rm_catalog_typed.specs.TypedCatalog.{Saved}
 use Rattle.rm_machine.specs.declared.state.State.{State}
 use Rattle.rm_machine.specs.Effect.{Effect, LeavesObjects}
 use Rattle.rm_machine.specs.Saved.{saved_names}
+use Rattle.rm_machine.specs.Saving.{SitePart, object_of, with_ids}
 use Rattle.rm_machine.specs.Step.{and_drops}
 use Rattle.rm_machine_code.proofs.Kept.{StandOn}
 use Rattle.rm_machine_code.proofs.Dropping.{IsNoSite, no-site}
@@ -34,13 +35,26 @@ pub unnamed-saved : (saved : Option Saved) (name : List ℕ) → IsNoSite name �
 unnamed-saved None name other = refl
 unnamed-saved (Some site) name other = unnamed-parts site.parts name other
 
+-- those that a save puts
+pub unnamed-site : (id : ℕ) (parts : List SitePart) (name : List ℕ) → IsNoSite name → is_named name_of (with_ids object_of id parts) name ≡ false
+unnamed-site id [] name other = refl
+unnamed-site id (p ∷ ps) name other = elim (cases_Bool (bytes_eq name (object_of id p).name)) [
+  | inl same ↦ absurd (other id ((bytes_eq-Decides name (object_of id p).name).0 same))
+  | inr apart ↦ rw apart (unnamed-site (id + 1) ps name other)
+]
+
 -- what is named by two lists and not by the second is named by the first
-pub named-left : (xs ys : List (List ℕ)) (name : List ℕ) → is_named itself ys name ≡ false → is_named itself (xs ++ ys) name ≡ true → is_named itself xs name ≡ true
+named-left : (xs ys : List (List ℕ)) (name : List ℕ) → is_named itself ys name ≡ false → is_named itself (xs ++ ys) name ≡ true → is_named itself xs name ≡ true
 named-left [] ys name other named = absurd (false≢true (sym other ∙ named))
 named-left (x ∷ xs) ys name other named = elim (cases_Bool (bytes_eq name x)) [
   | inl same ↦ rw same refl
   | inr apart ↦ rw apart (named-left xs ys name other (subst (λ (b : Bool). (b || is_named itself (xs ++ ys) name) ≡ true) apart named))
 ]
+
+-- so what is no part's goes by the effect alone
+pub named-first : (o : Option State) (e : Effect) (name : List ℕ) → IsNoSite name → is_named itself (and_drops o e).removes name ≡ true → is_named itself e.removes name ≡ true
+named-first None e name other named = named
+named-first (Some s) e name other named = named-left e.removes (saved_names s.catalog.saved) name (unnamed-saved s.catalog.saved name other) named
 
 -- the objects that the effect alone leaves
 module _ (s : State) (e : Effect) (before after : Held) (leaves : LeavesObjects (and_drops (Some s) e) before after) where

@@ -1,5 +1,5 @@
 -- What a stop leaves, wherever it came.
-use Rattle.std.proofs.Common.{◌≡◌, ◌∙◌, ◌++◌, ◌⊎◌, inl, inr, ℕ, List, Option, Some, None, IsSomeAnd, true, refl, ap, sym, subst, arith, Contains}
+use Rattle.std.proofs.Common.{◌≡◌, ◌∙◌, ◌++◌, ◌⊎◌, inl, inr, ℕ, List, Option, Some, None, IsSomeAnd, true, false, refl, ap, sym, subst, arith, Contains}
 use Rattle.std.proofs.lemmas.Bool.{cases_Bool}
 use Rattle.std.proofs.lemmas.List.Elements.{Contains-append_left, Contains-append_right}
 use Rattle.rm_base.specs.Store.{Held}
@@ -15,28 +15,29 @@ use Rattle.rm_lang_statement.specs.declared.command.Command.{Command}
 use Rattle.rm_report.specs.Reply.{said}
 use Rattle.rm_report.specs.declared.line.Line.{Line}
 use Rattle.rm_report.specs.declared.line.Reply.{Reply}
-use Rattle.rm_evidence.specs.Names.{site_name}
+use Rattle.rm_evidence.specs.Names.{roll_name, site_name}
+use Rattle.rm_evidence.proofs.Names.{roll-no-site}
 use Rattle.rm_catalog_typed.specs.TypedCatalog.{Saved}
-use Rattle.rm_machine.specs.Effect.{Artefact, Effect, Made}
+use Rattle.rm_machine.specs.Effect.{Artefact, Made}
 use Rattle.rm_machine.specs.Laws.{LeadsOn, StaysSound}
 use Rattle.rm_machine.specs.Machine.{HoldsUnder, IsBorneOut, IsSoundBy, IsSoundMachine, Machine}
 use Rattle.rm_machine.specs.Rest.{HaveParts, IsSoundRestBy, Rest, at_rest, catalog_in}
-use Rattle.rm_machine.specs.Saved.{saved_names, spelling_of}
+use Rattle.rm_machine.specs.Saved.{spelling_of}
 use Rattle.rm_machine.specs.declared.state.State.{State}
 use Rattle.rm_machine.specs.State.{ledger}
-use Rattle.rm_machine.specs.Step.{IsStatement, Step, and_drops, names_in}
+use Rattle.rm_machine.specs.Step.{IsStatement, Step, names_in}
 use Rattle.rm_machine_code.proofs.Dropping.{IsNoSite, no-site}
-use Rattle.rm_machine_laws.proofs.Dropping.{named-left, unnamed-saved}
+use Rattle.rm_machine_laws.proofs.Dropping.{named-first}
 use Rattle.rm_machine_code.proofs.Kept.{StandOn}
 use Rattle.rm_machine_code.proofs.Later.{borne-beside}
 use Rattle.rm_machine_laws.specs.Carries.{IsHanded}
 use Rattle.rm_machine_laws.specs.Holds.{Holds, HoldsRest, records, saved_in}
-use Rattle.rm_machine_laws.specs.Loose.{IsLoose, IsLowIn, IsNamedBy, IsNamedIn, StaysLoose, of_object, of_part}
+use Rattle.rm_machine_laws.specs.Loose.{IsLoose, IsLowIn, IsNamedBy, IsNamedIn, StaysLoose, is_roll, of_object, of_part}
 use Rattle.rm_machine_laws.specs.Moments.{IsMomentIn, moment_of}
 use Rattle.rm_machine_laws.specs.Stopped.{IsLeft, Stopped, StopsAt}
 use Rattle.rm_machine_laws.proofs.Carried.{edited, finished, no-parts}
 use Rattle.rm_machine_laws.proofs.Loosening.{loose-from}
-use Rattle.rm_machine_laws.proofs.LowNames.{StaysLow, low-put, low-removed, step-low}
+use Rattle.rm_machine_laws.proofs.LowNames.{StayRolls, StaysLow, low-put, low-removed, step-low}
 
 -- under each name of a record stands what stood there, but for those that were given
 abbrev pub StaysUnder : List (List ℕ) → Option State → Held → Held → Type 0
@@ -97,18 +98,14 @@ left-holds given n objects held kept sound parts same store keeper = record {
   sound = sound-by given n.state n.history n.objects objects n.made n.touched same sound parts;
 }
 
-pub is-left : (given : List (List ℕ)) (n : Machine) (objects : Held) → StaysUnder given n.state n.objects objects → IsLeft given n (left given n objects)
-is-left given n objects same = record { catalog = refl; history = refl; made = refl; touched = refl; objects = same }
+pub is-left : (given : List (List ℕ)) (n : Machine) (objects : Held) → StaysUnder given n.state n.objects objects → StayRolls given n.state n.objects objects
+    → IsLeft given n (left given n objects)
+is-left given n objects same rolls = record { catalog = refl; history = refl; made = refl; touched = refl; objects = same; rolls = rolls }
 
 -- the name of a log or a piece is none of a part
 pub no-part : (t : State) (name : List ℕ) → t.catalog.saved ≡ None → IsNamedBy t name → IsNoSite name
 no-part t _ none (of_object name names) = no-site (ledger t) name names
 no-part t _ none (of_part p has) = absurd (subst (λ o. IsSomeAnd o (λ site. Contains site.parts p)) none has)
-
--- so it goes by the effect alone
-named-first : (o : Option State) (e : Effect) (name : List ℕ) → IsNoSite name → is_named itself (and_drops o e).removes name ≡ true → is_named itself e.removes name ≡ true
-named-first None e name other named = named
-named-first (Some s) e name other named = named-left e.removes (saved_names s.catalog.saved) name (unnamed-saved s.catalog.saved name other) named
 
 module _ (c : Command) (law : LeadsOn c) (stays : StaysSound c) (loose : StaysLoose c) (held : Option Held) (kept : Option (List Record)) (o : Option State) (moment : ℕ) (lines : List Line) (x : Commit) (t : State)
     (well : IsStatement c) (at : IsMomentIn o moment) (handed : IsHanded held o c moment lines x t) where
@@ -124,12 +121,18 @@ module _ (c : Command) (law : LeadsOn c) (stays : StaysSound c) (loose : StaysLo
   low-of : (m : Machine) → m.state ≡ o → Holds held kept m → (name : List ℕ) → IsLowIn m.state name → is_named name_of x.objects name ≡ true → Contains (names_in c) name
   low-of m is holds name low put = (loose-of m is holds).low name (subst (λ y. IsLowIn y name) is low) (subst (λ ys. is_named name_of ys name ≡ true) handed.puts put)
 
+  rolls-stay : (m : Machine) → m.state ≡ o → Holds held kept m → (after : Held) → SameBeyondPuts x.objects m.objects after → StayRolls (names_in c) m.state m.objects after
+  rolls-stay m is holds after same id given = elim (cases_Bool (is_named name_of x.objects (roll_name id))) [
+    | inl put ↦ inl (low-of m is holds (roll_name id) (id, is_roll, given) put)
+    | inr other ↦ inr (same (roll_name id) other)
+  ]
+
   pub halts : (held' : Option Held) (kept' : Option (List Record)) → Halted x held kept held' kept' → StopsAt held kept o c moment held' kept'
   halts held' kept' (before_the_edits b) m is holds tell =
       let now = both-told (SameBeyondPuts x.objects) held held' m.objects holds.store b.objects in
       let same = before-stays m is holds now.0 now.1 in (
         left (names_in c) m now.0,
-        record { machine = m; one = inl refl; left = is-left (names_in c) m now.0 same; low = low-put (names_in c) m.state x.objects (low-of m is holds) m.objects now.0 m.objects now.1 },
+        record { machine = m; one = inl refl; left = is-left (names_in c) m now.0 same (rolls-stay m is holds now.0 now.1); low = low-put (names_in c) m.state x.objects (low-of m is holds) m.objects now.0 m.objects now.1 },
         left-holds (names_in c) m now.0 held' kept' holds.sound holds.parts same now.2 (b.records ∙ holds.keeper),
       )
   halts held' kept' (after_the_edits a) m is holds tell =
@@ -137,19 +140,26 @@ module _ (c : Command) (law : LeadsOn c) (stays : StaysSound c) (loose : StaysLo
       let all : Held = λ name. after_all itself nothing x.removes name (now.1.put name) in
       let last = finished c law stays held kept o moment lines x t well at handed m is holds tell now.1.put all now.1.puts (λ name. refl) in
       let n = last.machine in
+      let goes : (name : List ℕ) → IsNoSite name → is_named itself x.removes name ≡ true → is_named itself handed.effect.removes name ≡ true =
+      λ name other gone. named-first o handed.effect name other (subst (λ ys. is_named itself ys name ≡ true) handed.removes gone) in
+      let still : (name : List ℕ) → is_named itself x.removes name ≡ false → now.0 name ≡ n.objects name =
+      λ name stays. now.1.removes name stays ∙ sym (unnamed-stays itself nothing x.removes name (now.1.put name) stays) ∙ sym (ap (λ (h : Held). h name) last.objects_are) in
       let same : StaysUnder (names_in c) n.state n.objects now.0 = λ name names. elim (cases_Bool (is_named itself x.removes name)) [
         | inl gone ↦
             let named = subst (λ y. IsNamedIn y name) last.state names in
-            let by_effect = named-first o handed.effect name (no-part t name last.unsaved_is named) (subst (λ ys. is_named itself ys name ≡ true) handed.removes gone) in
-            inl ((loose-of m is holds).removes name named by_effect)
-        | inr stays ↦ inr (now.1.removes name stays ∙ sym (unnamed-stays itself nothing x.removes name (now.1.put name) stays) ∙ sym (ap (λ (h : Held). h name) last.objects_are))
+            inl ((loose-of m is holds).removes name named (goes name (no-part t name last.unsaved_is named) gone))
+        | inr stays ↦ inr (still name stays)
+      ] in
+      let rolls : StayRolls (names_in c) n.state n.objects now.0 = λ id given. elim (cases_Bool (is_named itself x.removes (roll_name id))) [
+        | inl gone ↦ inl ((loose-of m is holds).rolls id (goes (roll_name id) (roll-no-site id) gone))
+        | inr stays ↦ inr (still (roll_name id) stays)
       ] in
       let keeper = edited c law stays held kept o moment lines x t well at handed kept' m n is last.state holds.keeper a.records in (
         left (names_in c) n now.0,
         record {
           machine = n;
           one = inr (said lines, last.step);
-          left = is-left (names_in c) n now.0 same;
+          left = is-left (names_in c) n now.0 same rolls;
           low = low-removed (names_in c) m.state x.objects (low-of m is holds) m.objects x.removes now.1.put now.0 n.objects now.1.puts now.1.removes
               (λ name. ap (λ (h : Held). h name) last.objects_are);
         },
@@ -160,7 +170,7 @@ module _ (c : Command) (law : LeadsOn c) (stays : StaysSound c) (loose : StaysLo
 pub ends-here : (held : Option Held) (kept : Option (List Record)) (c : Command) (n : Machine) → Holds held kept n → (r : Rest) × IsLeft (names_in c) n r × HoldsRest held kept r × (r.objects ≡ n.objects)
 ends-here held kept c n holds =
     let same : StaysUnder (names_in c) n.state n.objects n.objects = λ name names. inr refl in
-    (left (names_in c) n n.objects, is-left (names_in c) n n.objects same, left-holds (names_in c) n n.objects held kept holds.sound holds.parts same holds.store holds.keeper, refl)
+    (left (names_in c) n n.objects, is-left (names_in c) n n.objects same (λ id given. inr refl), left-holds (names_in c) n n.objects held kept holds.sound holds.parts same holds.store holds.keeper, refl)
 
 -- and of it at rest
 pub rests : (held : Option Held) (kept : Option (List Record)) (m : Machine) → Holds held kept m → HoldsRest held kept (at_rest m)

@@ -1,5 +1,5 @@
 -- What an increment for a standby holds: the states at `now` of the datafiles of the current path, those at or above its SCN.
-use Rattle.std.proofs.Common.{◌≡◌, ◌+◌, ◌-◌, ◌∙◌, ℕ, zero, suc, List, [], ◌∷◌, Some, Bool, true, false, cond, refl, ap, sym, subst, arith, map, slice_get, All, Contains}
+use Rattle.std.proofs.Common.{◌≡◌, ◌+◌, ◌-◌, ◌∙◌, ℕ, zero, suc, List, [], ◌∷◌, Some, Bool, true, false, cond, refl, ap, sym, subst, arith, map, slice_get, Contains}
 use Rattle.std.proofs.lemmas.Bool.{and_from}
 use Rattle.std.proofs.lemmas.List.Elements.{All-contains, All-contains_itself, All-map}
 use Rattle.rm_base.proofs.Lists.{map_from, map_to}
@@ -9,7 +9,6 @@ use Rattle.rm_base.specs.declared.block.Change.{Change}
 use Rattle.rm_base.specs.declared.block.Row.{Row}
 use Rattle.rm_apply.proofs.States.{rows-are}
 use Rattle.rm_blocks.specs.File.{File}
-use Rattle.rm_history.specs.Agrees.{IsRow}
 use Rattle.rm_history.specs.State.{state, states}
 use Rattle.rm_history.specs.World.{creation_of, exists, file_of}
 use Rattle.rm_history.specs.declared.world.Datafile.{Datafile}
@@ -19,7 +18,7 @@ use Rattle.rm_piece.specs.Filling.{risen}
 use Rattle.rm_piece.specs.Rows.{from_on}
 use Rattle.rm_piece.specs.declared.set.SetFile.{SetFile}
 use Rattle.rm_piece.proofs.Risen.{states-same}
-use Rattle.rm_standby.specs.Standby.{HasFile, HoldsSince, IsTaken as IsHeld}
+use Rattle.rm_standby.specs.Standby.{HoldsSince, IsTaken as IsHeld}
 use Rattle.rm_lang_statement.specs.declared.command.BackupForm.{BackupForm}
 use Rattle.rm_machine.specs.Backup.{is_taken, rows_in, taken_from}
 use Rattle.rm_machine.specs.Damage.{has_file}

@@ -25,7 +25,7 @@ mod DeletingObsolete
 mod Disabling
 mod Mended
 mod Mishaps
-mod Dropping
+pub mod Dropping
 pub mod Every
 mod Enabling
 mod Exchanging

@@ -26,4 +26,4 @@ renew-loose tag until s held lines e t sound comes =
     let leaves = leaves-renewed (recover_target s until) s tag held lines e t sound (done-by (refusal_of s c) s held c lines e t comes).1 in
     loose-by s c e t
     (All-weaker (λ (x : Object). IsNewCopy s x.name) (λ x. IsNewName s x.name) (λ x new. subst (IsNewName s) new.is (new-piece s true new.id sound (record { next = new.next; most = new.most }))) e.puts leaves.puts)
-    (left-free s e t leaves)
+    (left-free s e t leaves) (λ id named. leaves.rolls id (named-in e.removes _ named))

@@ -6,7 +6,7 @@ use Rattle.std.proofs.lemmas.List.Elements.{Contains-append_left}
 use Rattle.rm_base.proofs.Members.{behind, in-front}
 use Rattle.rm_commit.proofs.Named.{same-name}
 use Rattle.rm_lang_statement.specs.declared.command.Command.TheVariants.{Cut, Damage, Remove, Rename}
-use Rattle.rm_evidence.specs.Names.{site_name}
+use Rattle.rm_evidence.specs.Names.{roll_name, site_name}
 use Rattle.rm_machine.specs.Mishaps.{removal, renaming, replacement}
 use Rattle.rm_machine.specs.declared.state.State.{State}
 use Rattle.rm_machine.specs.Step.{refusal_of}
@@ -27,6 +27,7 @@ removal-loose s t name = record {
   low = λ n low named. absurd (false≢true named);
   parts = λ id named. absurd (false≢true named);
   removes = λ n names named. one-named n name named;
+  rolls = λ id named. one-named (roll_name id) name named;
 }
 
 pub remove-loose : (name : List ℕ) → StaysLoose (Remove name)
@@ -45,6 +46,7 @@ damage-loose name at s held lines e t sound comes =
       low = λ n low named. one-named n name named;
       parts = λ id named. one-named (site_name id) name named;
       removes = λ n names named. absurd (false≢true named);
+      rolls = λ id named. absurd (false≢true named);
     }
 
 pub cut-loose : (name : List ℕ) (to : ℕ) → StaysLoose (Cut name to)
@@ -58,6 +60,7 @@ cut-loose name to s held lines e t sound comes =
       low = λ n low named. one-named n name named;
       parts = λ id named. one-named (site_name id) name named;
       removes = λ n names named. absurd (false≢true named);
+      rolls = λ id named. absurd (false≢true named);
     }
 
 pub rename-loose : (old new : List ℕ) → StaysLoose (Rename old new)
@@ -71,4 +74,5 @@ rename-loose old new s held lines e t sound comes =
       low = λ n low named. behind old (new ∷ []) n (one-named n new named);
       parts = λ id named. behind old (new ∷ []) (site_name id) (one-named (site_name id) new named);
       removes = λ n names named. Contains-append_left (old ∷ []) (new ∷ []) n (one-named n old named);
+      rolls = λ id named. Contains-append_left (old ∷ []) (new ∷ []) (roll_name id) (one-named (roll_name id) old named);
     }

@@ -1,5 +1,5 @@
 -- New objects bear no name of a record.
-use Rattle.std.proofs.Common.{◌≡◌, ◌≢◌, ◌<◌, ◌≤◌, ◌+◌, ◌∙◌, ◌∷◌, inl, inr, ℕ, zero, suc, List, [], Option, Some, None, Bool, true, false, cond, refl, ap, sym, subst, arith, All}
+use Rattle.std.proofs.Common.{◌≡◌, ◌≢◌, ◌<◌, ◌≤◌, ◌+◌, ◌^◌, ◌∙◌, ◌∷◌, ℕ, zero, suc, List, [], Option, Some, None, Bool, true, false, cond, refl, ap, sym, subst, arith, All}
 use Rattle.std.specs.Prelude.{IsSomeAnd}
 use Rattle.std.proofs.lemmas.List.Elements.{All-append, All-cons, All-nil}
 use Rattle.rm_commit.specs.declared.commit.Object.{Object}
@@ -7,8 +7,8 @@ use Rattle.rm_commit.specs.Names.{is_named, itself, name_of}
 use Rattle.rm_commit.proofs.Standing.{unnamed}
 use Rattle.rm_lang_statement.specs.declared.command.Command.{Command}
 use Rattle.rm_lang_statement.specs.declared.command.Command.TheVariants.{ArchiveLogCurrent, OpenResetlogs, SwitchLogfile, SwitchThread}
-use Rattle.rm_evidence.specs.Names.{log_name, piece_name, set_name, site_name}
-use Rattle.rm_evidence.proofs.Names.{log-name-tells, log-no-piece, log-no-set, log-no-site, piece-name-tells, piece-no-set, piece-no-site, set-no-site}
+use Rattle.rm_evidence.specs.Names.{log_name, piece_name, roll_name, set_name, site_name}
+use Rattle.rm_evidence.proofs.Names.{log-name-tells, log-no-piece, log-no-roll, log-no-set, log-no-site, piece-name-tells, piece-no-roll, piece-no-set, piece-no-site, set-name-tells, set-no-roll, set-no-site}
 use Rattle.rm_redo.specs.LogFormat.{spelling}
 use Rattle.rm_report.specs.declared.line.Line.{Line}
 use Rattle.rm_machine.specs.Archive.{after_all, after_thread, archiving, puts_from}
@@ -25,7 +25,7 @@ use Rattle.rm_machine_code.proofs.Branching.{can-reset}
 use Rattle.rm_machine_code.proofs.Disabling.{accepted}
 use Rattle.rm_machine_laws.proofs.NewObjects.{log-apart, piece-apart, set-apart}
 use Rattle.rm_machine_laws.proofs.Switching.{CanSwitch, can-archive, can-switch}
-use Rattle.rm_machine_laws.specs.Loose.{IsLoose, IsLowIn, IsNamedBy, StaysLoose, of_object, of_part}
+use Rattle.rm_machine_laws.specs.Loose.{IsLoose, IsLowIn, IsNamedBy, IsOfId, StaysLoose, is_log, is_piece, is_roll, is_set, of_object, of_part}
 use Rattle.rm_machine_laws.proofs.LooseQuiet.{loose-done, quiet-loose}
 
 -- no record of the database names it, its id is none that was given, and it is no name of a part of a saved site
@@ -39,47 +39,45 @@ pub record IsFree (s : State) (id : ℕ) : Type 0 where
   pub next : (ledger s).base.next_id ≤ id
   pub most : id ≤ 4294967295
 
+-- an id that was given is another one
+pub above : (s : State) (id lower : ℕ) → IsFree s id → lower < (ledger s).base.next_id → (lower < 2 ^ 64) × (id < 2 ^ 64) × (lower ≢ id)
+above s id lower free below = (omega (arith, below, free.next, free.most), omega (arith, free.most), λ same. omega (arith, same, below, free.next))
+
 -- names of new ids are new
 pub new-log : (s : State) (id : ℕ) → IsSound s → IsFree s id → IsNewName s (log_name id)
-new-log s id sound free = record { names = apart; low = above; parts = λ part same. log-no-site id part (sym same) }
+new-log s id sound free = record { names = apart; low = λ name low. other low.0 name low.1 low.2; parts = λ part same. log-no-site id part (sym same) }
   where
-    above : (name : List ℕ) → IsLowIn (Some s) name → name ≢ log_name id
-    above name (lower, of, below) same = elim of.is [
-      | inl log ↦ omega (arith, log-name-tells lower id (omega (arith, below, free.next, free.most)) (omega (arith, free.most)) (sym log ∙ same), below, free.next)
-      | inr (inl piece) ↦ log-no-piece id false lower (sym same ∙ piece)
-      | inr (inr copy) ↦ log-no-piece id true lower (sym same ∙ copy)
-    ]
+    other : (lower : ℕ) (name : List ℕ) → IsOfId lower name → lower < (ledger s).base.next_id → name ≢ log_name id
+    other lower _ is_log below same = let far = above s id lower free below in far.2 (log-name-tells lower id far.0 far.1 same)
+    other lower _ (is_piece copy) below same = log-no-piece id copy lower (sym same)
+    other lower _ is_set below same = log-no-set id lower (sym same)
+    other lower _ is_roll below same = log-no-roll id lower (sym same)
 
     apart : (name : List ℕ) → IsNamedBy s name → name ≢ log_name id
     apart _ (of_object name names) same = log-apart (ledger s) id name sound.catalog.ledger free.next free.most names same
     apart _ (of_part p has) same = log-no-site id p.id (sym same)
 
 pub new-piece : (s : State) (copy : Bool) (id : ℕ) → IsSound s → IsFree s id → IsNewName s (piece_name copy id)
-new-piece s copy id sound free = record { names = apart; low = above; parts = λ part same. piece-no-site copy id part (sym same) }
+new-piece s copy id sound free = record { names = apart; low = λ name low. other low.0 name low.1 low.2; parts = λ part same. piece-no-site copy id part (sym same) }
   where
-    other : (kind : Bool) (lower : ℕ) → lower < (ledger s).base.next_id → piece_name kind lower ≢ piece_name copy id
-    other kind lower below same = omega (arith, (piece-name-tells kind copy lower id (omega (arith, below, free.next, free.most)) (omega (arith, free.most)) same).1, below, free.next)
-
-    above : (name : List ℕ) → IsLowIn (Some s) name → name ≢ piece_name copy id
-    above name (lower, of, below) same = elim of.is [
-      | inl log ↦ log-no-piece lower copy id (sym log ∙ same)
-      | inr (inl piece) ↦ other false lower below (sym piece ∙ same)
-      | inr (inr image) ↦ other true lower below (sym image ∙ same)
-    ]
+    other : (lower : ℕ) (name : List ℕ) → IsOfId lower name → lower < (ledger s).base.next_id → name ≢ piece_name copy id
+    other lower _ is_log below same = log-no-piece lower copy id same
+    other lower _ (is_piece kind) below same = let far = above s id lower free below in far.2 (piece-name-tells kind copy lower id far.0 far.1 same).1
+    other lower _ is_set below same = piece-no-set copy id lower (sym same)
+    other lower _ is_roll below same = piece-no-roll copy id lower (sym same)
 
     apart : (name : List ℕ) → IsNamedBy s name → name ≢ piece_name copy id
     apart _ (of_object name names) same = piece-apart (ledger s) copy id name sound.catalog.ledger free.next free.most names same
     apart _ (of_part p has) same = piece-no-site copy id p.id (sym same)
 
 pub new-set : (s : State) (id : ℕ) → IsSound s → IsFree s id → IsNewName s (set_name id)
-new-set s id sound free = record { names = apart; low = above; parts = λ part same. set-no-site id part (sym same) }
+new-set s id sound free = record { names = apart; low = λ name low. other low.0 name low.1 low.2; parts = λ part same. set-no-site id part (sym same) }
   where
-    above : (name : List ℕ) → IsLowIn (Some s) name → name ≢ set_name id
-    above name (lower, of, below) same = elim of.is [
-      | inl log ↦ log-no-set lower id (sym log ∙ same)
-      | inr (inl piece) ↦ piece-no-set false lower id (sym piece ∙ same)
-      | inr (inr copy) ↦ piece-no-set true lower id (sym copy ∙ same)
-    ]
+    other : (lower : ℕ) (name : List ℕ) → IsOfId lower name → lower < (ledger s).base.next_id → name ≢ set_name id
+    other lower _ is_log below same = log-no-set lower id same
+    other lower _ (is_piece copy) below same = piece-no-set copy lower id same
+    other lower _ is_set below same = let far = above s id lower free below in far.2 (set-name-tells lower id far.0 far.1 same)
+    other lower _ is_roll below same = set-no-roll id lower (sym same)
 
     apart : (name : List ℕ) → IsNamedBy s name → name ≢ set_name id
     apart _ (of_object name names) same = set-apart (ledger s) id name sound.catalog.ledger free.next free.most names same
@@ -91,18 +89,23 @@ AreNew s xs = All (λ x. IsNewName s x.name) xs
 none-named : (n : List ℕ) (xs : List Object) → All (λ x. n ≢ x.name) xs → is_named name_of xs n ≡ true → ⊥
 none-named n xs apart named = let clash : false ≡ true = sym (unnamed name_of xs n apart) ∙ named in cc
 
--- a statement that puts new names alone, and takes away none of a record that is left
-pub loose-by : (s : State) (c : Command) (e : Effect) (t : State) → AreNew s e.puts → ((name : List ℕ) → IsNamedBy t name → ¬ (is_named itself e.removes name ≡ true)) → IsLoose (Some s) c e t
-loose-by s c e t new free = record {
+-- a statement that puts new names alone, and takes away none of a record that is left, nor of an increment
+pub loose-by : (s : State) (c : Command) (e : Effect) (t : State) → AreNew s e.puts → ((name : List ℕ) → IsNamedBy t name → ¬ (is_named itself e.removes name ≡ true))
+    → ((id : ℕ) → ¬ (is_named itself e.removes (roll_name id) ≡ true)) → IsLoose (Some s) c e t
+loose-by s c e t new free stays = record {
   puts = λ name names named. absurd (none-named name e.puts (λ k d inside. (new k d inside).names name names) named);
   low = λ name low named. absurd (none-named name e.puts (λ k d inside. (new k d inside).low name low) named);
   parts = λ id named. absurd (none-named (site_name id) e.puts (λ k d inside. (new k d inside).parts id) named);
   removes = λ name names named. absurd (free name names named);
+  rolls = λ id named. absurd (stays id named);
 }
 
 -- one that takes nothing away
 pub new-loose : (s : State) (c : Command) (e : Effect) (t : State) → e.removes ≡ [] → AreNew s e.puts → IsLoose (Some s) c e t
-new-loose s c e t removes new = loose-by s c e t new (λ name names named. let clash : false ≡ true = sym (ap (λ ys. is_named itself ys name) removes) ∙ named in cc)
+new-loose s c e t removes new = loose-by s c e t new (λ name names named. none name named) (λ id named. none (roll_name id) named)
+  where
+    none : (name : List ℕ) → ¬ (is_named itself e.removes name ≡ true)
+    none name named = let clash : false ≡ true = sym (ap (λ ys. is_named itself ys name) removes) ∙ named in cc
 
 one-new : (s : State) (id : ℕ) (bytes : List ℕ) → IsSound s → IsFree s id → AreNew s (record { name = log_name id; bytes = bytes } ∷ [])
 one-new s id bytes sound free =

@@ -13,7 +13,7 @@ use Rattle.rm_machine.specs.Sound.{IsSound}
 use Rattle.rm_machine.specs.declared.state.State.{State}
 use Rattle.rm_machine.specs.Step.{names_in}
 use Rattle.rm_machine.specs.Upkeep.{changed_to, names_at, removing, with_catalog, with_statuses, without_all}
-use Rattle.rm_machine_laws.proofs.Deleting.{AreGone, gone, left-free, named-in, part-free}
+use Rattle.rm_machine_laws.proofs.Deleting.{AreGone, gone, increment-free, left-free, named-in, part-free}
 use Rattle.rm_machine_laws.proofs.DeletingObsolete.{are-gone, names_of}
 use Rattle.rm_machine_laws.specs.Loose.{IsLoose, IsNamedBy, StaysLoose, of_object, of_part}
 use Rattle.rm_machine_laws.proofs.LooseQuiet.{loose-done, quiet-loose}
@@ -38,6 +38,7 @@ goes-loose s c ids names lines said e t sound are is =
       low = λ name low named. absurd (false≢true named);
       parts = λ part named. absurd (false≢true named);
       removes = removes;
+      rolls = λ id named. absurd (increment-free s.catalog sound.catalog ids names are id (named-in names _ named));
     }))
   where
     removes : (name : List ℕ) → IsNamedBy (with_catalog s (without_all ids s.catalog)) name → is_named itself names name ≡ true → Contains (names_in c) name

@@ -23,9 +23,13 @@ nothing-named o c e t puts removes = record {
   puts = λ name names named. absurd (none-put name named);
   low = λ name low named. absurd (none-put name named);
   parts = λ id named. absurd (none-put _ named);
-  removes = λ name names named. absurd (let clash : false ≡ true = sym (ap (λ ys. is_named itself ys name) removes) ∙ named in cc);
+  removes = λ name names named. absurd (none-gone name named);
+  rolls = λ id named. absurd (none-gone _ named);
 }
   where
+    none-gone : (name : List ℕ) → is_named itself e.removes name ≡ true → ⊥
+    none-gone name named = let clash : false ≡ true = sym (ap (λ ys. is_named itself ys name) removes) ∙ named in cc
+
     none-put : (name : List ℕ) → is_named name_of e.puts name ≡ true → ⊥
     none-put name named = let clash : false ≡ true = sym (ap (λ ys. is_named name_of ys name) puts) ∙ named in cc
 
@@ -38,7 +42,7 @@ loose-without c moment lines e t comes = absurd (let clash : done lines e t ≡ 
 
 -- a later moment names the same objects
 loose-later : (s : State) (moment : ℕ) (c : Command) (e : Effect) (t : State) → IsLoose (Some (at_moment s moment)) c e t → IsLoose (Some s) c e t
-loose-later s moment c e t is = record { puts = puts; low = is.low; parts = is.parts; removes = is.removes }
+loose-later s moment c e t is = record { puts = puts; low = is.low; parts = is.parts; removes = is.removes; rolls = is.rolls }
   where
     puts : (name : List ℕ) → IsNamedIn (Some s) name → is_named name_of e.puts name ≡ true → Contains (names_in c) name
     puts _ (of_object name names) named = is.puts name (of_object name (names-of (ledger (at_moment s moment)) (ledger s) (λ x has. has) (λ x has. has) (λ x has. has) name names)) named

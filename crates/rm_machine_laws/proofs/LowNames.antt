@@ -1,4 +1,5 @@
--- Under an id that was given stands what stood there, but where HOST gave the name, or where the statement takes the object away.
+-- Under an id that was given stands what stood there, but where HOST gave the name, or where the statement takes the object away. No statement
+-- takes an increment away.
 use Rattle.std.proofs.Common.{◌≡◌, ◌∙◌, ◌||◌, ◌⊎◌, inl, inr, ℕ, List, [], ◌∷◌, Option, Some, None, Bool, true, false, cond, refl, ap, sym, subst, Contains}
 use Rattle.std.specs.Str.{bytes_eq}
 use Rattle.std.proofs.lemmas.Bool.{cases_Bool}
@@ -6,16 +7,20 @@ use Rattle.rm_base.specs.Store.{Held}
 use Rattle.rm_commit.specs.declared.commit.Object.{Object}
 use Rattle.rm_commit.specs.Names.{HasPuts, HasRemoves, SameBeyondPuts, SameBeyondRemoves, after_all, bytes_of, is_named, itself, name_of, nothing}
 use Rattle.rm_commit.proofs.Named.{unnamed-stays}
+use Rattle.rm_evidence.specs.Names.{roll_name}
+use Rattle.rm_evidence.proofs.Names.{roll-no-site}
 use Rattle.rm_lang_statement.specs.declared.command.Command.{Command}
 use Rattle.rm_report.specs.declared.line.Reply.{Reply}
 use Rattle.rm_machine.specs.Effect.{Outcome, done, refused, told}
 use Rattle.rm_machine.specs.Machine.{IsSoundMachine, Machine}
 use Rattle.rm_machine.specs.Step.{Step, StepBy, StepIn, and_drops, names_in}
+use Rattle.rm_machine.specs.Rest.{catalog_in}
 use Rattle.rm_machine.specs.declared.state.State.{State}
 use Rattle.rm_machine_laws.specs.Carries.{IsOutcomeIn}
-use Rattle.rm_machine_laws.specs.Loose.{IsLowIn, StaysLoose}
+use Rattle.rm_machine_laws.specs.Loose.{IsGivenIn, IsLowIn, StaysLoose, is_roll}
 use Rattle.rm_machine_laws.specs.Moments.{IsMomentIn}
 use Rattle.rm_machine_laws.proofs.Carried.{acts_on, same-puts}
+use Rattle.rm_machine_laws.proofs.Dropping.{named-first}
 use Rattle.rm_machine_laws.proofs.Loosening.{loose-from}
 
 either : (b : Bool) (o : Option (List ℕ)) → cond b o o ≡ o
@@ -59,6 +64,10 @@ module _ (given : List (List ℕ)) (o : Option State) (puts : List Object)
     ]
   ]
 
+-- each increment under an id that was given stands as it did, but where its name is one of these
+abbrev pub StayRolls : List (List ℕ) → Option State → Held → Held → Type 0
+StayRolls given o before after = (id : ℕ) → IsGivenIn (catalog_in o) id → Contains given (roll_name id) ⊎ (after (roll_name id) ≡ before (roll_name id))
+
 -- A whole step
 
 module _ (c : Command) (loose : StaysLoose c) (m n : Machine) (moment : ℕ) (reply : Reply) (sound : IsSoundMachine m) where
@@ -73,9 +82,35 @@ module _ (c : Command) (loose : StaysLoose c) (m n : Machine) (moment : ℕ) (re
       (subst (λ ys. HasPuts ys m.objects goes.put) (same-puts m.state e) goes.puts)
       (λ name other. goes.removes name ∙ unnamed-stays itself nothing removes name (goes.put name) other) goes.removes name low
 
+  rolls-by : (o : Option State) (r : Outcome) → m.state ≡ o → IsMomentIn o moment → IsOutcomeIn o m.objects c moment r
+      → StepBy (acts_on o moment) m c r reply n → StayRolls (names_in c) o m.objects n.objects
+  rolls-by o (refused r) is at comes by id given = inr (ap (λ (x : Machine). x.objects (roll_name id)) by.1)
+  rolls-by o (told lines) is at comes by id given = inr (ap (λ (x : Machine). x.objects (roll_name id)) by.1)
+  rolls-by o (done lines e t) is at comes by id given =
+      let goes = by.1.objects in
+      let name = roll_name id in
+      let removes = (and_drops m.state e).removes in
+      let loose = loose-from c loose o m moment lines e t is sound at comes in
+      let puts = subst (λ ys. HasPuts ys m.objects goes.put) (same-puts m.state e) goes.puts in
+      elim (cases_Bool (is_named itself removes name)) [
+        | inl named ↦ inl (loose.rolls id (named-first m.state e name (roll-no-site id) named))
+        | inr left ↦ elim (cases_Bool (is_named name_of e.puts name)) [
+          | inl put ↦ inl (loose.low name (id, is_roll, given) put)
+          | inr other ↦ inr (goes.removes name ∙ unnamed-stays itself nothing removes name (goes.put name) left
+              ∙ puts name ∙ unnamed-stays name_of bytes_of e.puts name (m.objects name) other)
+        ]
+      ]
+
   by-state : (o : Option State) → m.state ≡ o → IsMomentIn o moment → StepIn o m c moment reply n → StaysLow (names_in c) o m.objects n.objects n.objects
-  by-state None is at step name low = absurd low
+  by-state None is at step name low = absurd low.2
   by-state (Some s) is at step name low = by-outcome (Some s) step.0 is at step.1 step.2 name low
+
+  rolls-in : (o : Option State) → m.state ≡ o → IsMomentIn o moment → StepIn o m c moment reply n → StayRolls (names_in c) o m.objects n.objects
+  rolls-in None is at step id given = absurd given
+  rolls-in (Some s) is at step id given = rolls-by (Some s) step.0 is at step.1 step.2 id given
 
   pub step-low : IsMomentIn m.state moment → Step m c moment reply n → StaysLow (names_in c) m.state m.objects n.objects n.objects
   step-low at step = by-state m.state refl at step
+
+  pub step-rolls : IsMomentIn m.state moment → Step m c moment reply n → StayRolls (names_in c) m.state m.objects n.objects
+  step-rolls at step = rolls-in m.state refl at step

@@ -7,8 +7,8 @@ use Rattle.rm_backup.specs.declared.renewing.Renewed.{Renewed}
 use Rattle.rm_catalog.specs.declared.record.PieceEntry.{PieceEntry}
 use Rattle.rm_commit.specs.declared.commit.Object.{Object}
 use Rattle.rm_catalog_typed.proofs.Lookups.{piece-id-within}
-use Rattle.rm_evidence.specs.Names.{piece_name, site_name}
-use Rattle.rm_evidence.proofs.Names.{log-no-piece, piece-name-tells, piece-no-set, piece-no-site}
+use Rattle.rm_evidence.specs.Names.{piece_name, roll_name, site_name}
+use Rattle.rm_evidence.proofs.Names.{log-no-piece, piece-name-tells, piece-no-roll, piece-no-set, piece-no-site}
 use Rattle.rm_piece.specs.declared.piece.Piece.{Piece}
 use Rattle.rm_piece.specs.Spelling.{spelling}
 use Rattle.rm_catalog_typed.specs.Changes.{without_one}
@@ -91,6 +91,10 @@ old-free xs s tag sound can _ (of_set e has) gone = let copy = of-copy xs _ gone
 
 pub old-no-part : (xs : List (ℕ × Renewed)) (id : ℕ) → ¬ Contains (copies_gone xs) (site_name id)
 old-no-part xs id gone = let copy = of-copy xs (site_name id) gone in piece-no-site true copy.0 id copy.1
+
+-- nor is it the name of an increment
+pub old-no-roll : (xs : List (ℕ × Renewed)) (id : ℕ) → ¬ Contains (copies_gone xs) (roll_name id)
+old-no-roll xs id gone = let copy = of-copy xs (roll_name id) gone in piece-no-roll true copy.0 id copy.1
 
 -- the name is that of a copy of an id that was not drawn before
 pub record IsNewCopy (s : State) (name : List ℕ) : Type 0 where

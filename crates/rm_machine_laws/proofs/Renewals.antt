@@ -28,7 +28,7 @@ use Rattle.rm_history.specs.Tree.{IsThere, IsTree, end_of, owner}
 use Rattle.rm_history.proofs.Highs.{high-least}
 use Rattle.rm_catalog_typed.specs.LedgerFacts.{IsPieceEntry, IsSetEntry, IsSetPart}
 use Rattle.rm_merge.specs.Merge.{merged}
-use Rattle.rm_evidence.specs.Names.{site_name}
+use Rattle.rm_evidence.specs.Names.{roll_name, site_name}
 use Rattle.rm_evidence.proofs.DatabaseWorlds.{is-tree}
 use Rattle.rm_evidence.proofs.Parts.{part-of}
 use Rattle.rm_piece.specs.declared.piece.Piece.{Piece}
@@ -60,7 +60,7 @@ use Rattle.rm_machine_laws.proofs.Deleting.{stand-without}
 use Rattle.rm_machine_code.proofs.Later.{borne-beside}
 use Rattle.rm_machine_laws.proofs.Leading.{LeadsOnBy, StaysBy}
 use Rattle.rm_machine_code.proofs.Merges.{EndsIn, IsLast, KeepsOn, last-merge, reached-keeps}
-use Rattle.rm_machine_laws.proofs.OldCopies.{IsNewCopy, copies-new, old-free, old-no-part}
+use Rattle.rm_machine_laws.proofs.OldCopies.{IsNewCopy, copies-new, old-free, old-no-part, old-no-roll}
 use Rattle.rm_catalog_typed.proofs.Records.{database-told, pieces-told, tree-told}
 use Rattle.rm_machine_code.proofs.Renewing.{CanRenew, CanRenewAll, CanRenewTo}
 use Rattle.rm_machine_laws.proofs.Renewing.{IsTrueTo, renewals-borne, renewals-next, renewals-saved, renewals-sound}
@@ -305,9 +305,11 @@ pub record LeavesRenewed (s : State) (e : Effect) (t : State) : Type 0 where
   pub sound : IsSound t
   pub saved : t.catalog.saved ≡ s.catalog.saved
   pub ids : (ledger t).base.next_id + 68 ≤ 4294967295
+  pub given : (ledger s).base.next_id ≤ (ledger t).base.next_id
   pub puts : All (λ x. IsNewCopy s x.name) e.puts
   pub removes : (name : List ℕ) → IsObjectName (ledger t) name → ¬ Contains e.removes name
   pub parts : (id : ℕ) → ¬ Contains e.removes (site_name id)
+  pub rolls : (id : ℕ) → ¬ Contains e.removes (roll_name id)
 
 pub leaves-renewed : (o : Option ℕ) (s : State) (tag : List ℕ) (objects : Held) (said : List Line) (e : Effect) (t : State) → IsSound s → RenewsTo s objects tag o (done said e t) → LeavesRenewed s e t
 leaves-renewed None s tag objects said e t sound does = absurd does
@@ -320,9 +322,11 @@ leaves-renewed (Some at) s tag objects said e t sound does =
       sound = renewals-sound xs s tag sound can;
       saved = renewals-saved xs s tag;
       ids = omega (arith, can.room, renewals-next xs s tag);
+      given = omega (arith, renewals-next xs s tag);
       puts = copies-new xs s s tag (omega arith) can;
       removes = old-free xs s tag sound can;
       parts = old-no-part xs;
+      rolls = old-no-roll xs;
     }))
 
 pub renew-stays : (tag : List ℕ) (until : Option Until) → StaysBy (RecoverCopy tag until)

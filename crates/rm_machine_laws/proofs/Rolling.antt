@@ -1,8 +1,11 @@
 -- BACKUP INCREMENTAL FROM SCN leads on: its object comes to stand under a name that no record has, an id is drawn, and the current bitmaps
 -- end. The increment holds what changed since its SCN.
-use Rattle.std.proofs.Common.{◌≡◌, ◌≢◌, ◌∙◌, ◌++◌, ◌∷◌, inl, inr, ℕ, List, [], Some, None, true, false, refl, sym, subst, arith}
-use Rattle.std.proofs.lemmas.List.{append-nil}
+use Rattle.std.proofs.Common.{◌≡◌, ◌≢◌, ◌<◌, ◌^◌, ◌∙◌, inl, ℕ, List, [], Some, refl, sym, subst, arith}
+use Rattle.std.proofs.lemmas.Fmt.{decimal_injective}
+use Rattle.std.proofs.lemmas.List.{append-nil, append_cancel_left}
 use Rattle.std.proofs.lemmas.List.Elements.{All-cons, All-nil}
+use Rattle.std.specs.Fmt.{decimal}
+use Rattle.std.specs.Prelude.{codes}
 use Rattle.rm_base.specs.Store.{Held}
 use Rattle.rm_base.specs.declared.block.Change.{Change}
 use Rattle.rm_commit.specs.declared.commit.Object.{Object}
@@ -17,13 +20,13 @@ use Rattle.rm_machine.specs.Names.{IsObjectName, of_log, of_piece, of_set}
 use Rattle.rm_machine.specs.Roll.{after_roll, of_all, roll_effect, roll_object, with_next_id}
 use Rattle.rm_machine.specs.declared.state.State.{State}
 use Rattle.rm_machine.specs.State.{ledger}
-use Rattle.rm_machine_code.proofs.Kept.{StandOn, stand-where}
+use Rattle.rm_machine_code.proofs.Kept.{stand-where}
 use Rattle.rm_machine_code.proofs.Later.{borne-with}
 use Rattle.rm_machine_code.proofs.Rolling.{CanRoll, begun-all, can-roll, sound-rolled}
-use Rattle.rm_machine_laws.specs.Loose.{IsLoose, IsLowIn, IsNamedBy, StaysLoose, of_object, of_part}
+use Rattle.rm_machine_laws.specs.Loose.{IsLoose, IsNamedBy, IsOfId, StaysLoose, is_log, is_piece, is_roll, is_set, of_object, of_part}
 use Rattle.rm_machine_laws.proofs.Increments.{holds-since}
 use Rattle.rm_machine_laws.proofs.Leading.{LeadsOnBy, StaysBy}
-use Rattle.rm_machine_laws.proofs.LooseNew.{AreNew, IsNewName, new-loose}
+use Rattle.rm_machine_laws.proofs.LooseNew.{AreNew, IsFree, IsNewName, above, new-loose}
 use Rattle.rm_machine_laws.proofs.LooseQuiet.{loose-done}
 use Rattle.rm_machine_laws.proofs.NewObjects.{put-beside}
 use Rattle.rm_machine_laws.proofs.Quiet.{same-stays, unchanged}
@@ -35,15 +38,18 @@ roll-apart l id name (of_log e has) same = log-no-roll e.id id same
 roll-apart l id name (of_piece e has) same = piece-no-roll e.copy e.id id same
 roll-apart l id name (of_set e has) same = set-no-roll e.id id same
 
-new-roll : (s : State) (id : ℕ) → IsNewName s (roll_name id)
-new-roll s id = record { names = apart; low = above; parts = λ part same. roll-no-site id part (sym same) }
+-- the names of two increments tell their ids
+roll-name-tells : (a b : ℕ) → a < 2 ^ 64 → b < 2 ^ 64 → roll_name a ≡ roll_name b → a ≡ b
+roll-name-tells a b small_a small_b same = decimal_injective a b small_a small_b (append_cancel_left (codes "roll_") (decimal a) (decimal b) same)
+
+new-roll : (s : State) (id : ℕ) → IsFree s id → IsNewName s (roll_name id)
+new-roll s id free = record { names = apart; low = λ name low. other low.0 name low.1 low.2; parts = λ part same. roll-no-site id part (sym same) }
   where
-    above : (name : List ℕ) → IsLowIn (Some s) name → name ≢ roll_name id
-    above name (lower, of, below) same = elim of.is [
-      | inl log ↦ log-no-roll lower id (sym log ∙ same)
-      | inr (inl piece) ↦ piece-no-roll false lower id (sym piece ∙ same)
-      | inr (inr copy) ↦ piece-no-roll true lower id (sym copy ∙ same)
-    ]
+    other : (lower : ℕ) (name : List ℕ) → IsOfId lower name → lower < (ledger s).base.next_id → name ≢ roll_name id
+    other lower _ is_log below same = log-no-roll lower id same
+    other lower _ (is_piece copy) below same = piece-no-roll copy lower id same
+    other lower _ is_set below same = set-no-roll lower id same
+    other lower _ is_roll below same = let far = above s id lower free below in far.2 (roll-name-tells lower id far.0 far.1 same)
 
     apart : (name : List ℕ) → IsNamedBy s name → name ≢ roll_name id
     apart _ (of_object name names) same = roll-apart (ledger s) id name names same
@@ -93,5 +99,7 @@ pub roll-loose : (from : ℕ) → StaysLoose (BackupFrom from)
 roll-loose from = loose-done (BackupFrom from) (λ s held lines e t sound none does.
     let by : Effect = roll_effect s from in
     let is : by ≡ e = cc in
-    let new : AreNew s by.puts = All-cons (λ (x : Object). IsNewName s x.name) (roll_object s from) [] (new-roll s (ledger s).base.next_id) (All-nil (λ (x : Object). IsNewName s x.name)) in
+    let ids = (can-roll s from none).ids in
+    let free : IsFree s (ledger s).base.next_id = record { next = omega arith; most = omega (arith, ids) } in
+    let new : AreNew s by.puts = All-cons (λ (x : Object). IsNewName s x.name) (roll_object s from) [] (new-roll s (ledger s).base.next_id free) (All-nil (λ (x : Object). IsNewName s x.name)) in
     subst (λ x. IsLoose (Some s) (BackupFrom from) x t) is (new-loose s (BackupFrom from) by t refl new))

@@ -1,14 +1,12 @@
--- What is done leaves the ids of a save.
-use Rattle.std.proofs.Common.{◌≡◌, ◌⊎◌, ◌≤◌, ◌+◌, ◌∙◌, ◌∷◌, ℕ, zero, suc, List, [], Option, Some, None, IsSomeAnd, is_none, Bool, true, false, cond, inl, inr, refl, ap, sym, arith, rules, length, map}
-use Rattle.std.specs.Option.{option_and_then, option_map_or}
+-- What is done leaves the ids of a save, and gives no id that was given.
+use Rattle.std.proofs.Common.{◌≡◌, ◌⊎◌, ◌≤◌, ◌+◌, ◌∙◌, ◌∷◌, ℕ, zero, suc, List, [], Option, Some, None, IsSomeAnd, is_none, Bool, true, false, cond, inl, inr, refl, ap, subst, arith, rules, length, map}
+use Rattle.std.specs.Option.{option_map_or}
 use Rattle.std.proofs.lemmas.Bool.{le-ltb}
 use Rattle.rm_base.specs.Store.{Held}
 use Rattle.rm_base.specs.declared.block.Row.{Row}
 use Rattle.rm_base.specs.declared.kinds.Class.{Class}
 use Rattle.rm_base.specs.declared.kinds.Status.{Status}
-use Rattle.rm_base.specs.declared.refusal.Refusal.{Refusal}
-use Rattle.rm_base.specs.declared.refusal.Refusal.TheVariants.{Rm03, Rm05, Rm09}
-use Rattle.rm_base.specs.declared.refusal.Absent.TheVariants.{File}
+use Rattle.rm_base.specs.declared.refusal.Refusal.TheVariants.{Rm03}
 use Rattle.rm_base.proofs.Conditions.{only-where, unless}
 use Rattle.rm_catalog.specs.declared.record.BaseEntry.{BaseEntry}
 use Rattle.rm_catalog.specs.declared.record.LogEntry.{LogEntry}
@@ -29,12 +27,9 @@ use Rattle.rm_lang_statement.specs.declared.command.RepairForm.{RepairForm}
 use Rattle.rm_lang_statement.specs.declared.command.RetentionForm.{RetentionForm}
 use Rattle.rm_lang_statement.specs.declared.command.WriteForm.{WriteForm}
 use Rattle.rm_machine.specs.Archive.{after_all, after_thread, after_threads, archiving, due_from}
-use Rattle.rm_machine.specs.Asked.{asked}
 use Rattle.rm_machine.specs.BackupOutcome.{at_end, effect_of}
-use Rattle.rm_machine.specs.BackupRefusal.{absent_of, lost_of}
 use Rattle.rm_machine.specs.BlockRecover.{MendsBlocks, MissesBlock, repair_begun, without_mended}
-use Rattle.rm_machine.specs.BlockRecoverRefusal.{absent_named, lost_named, repair_refusal, repair_room_refusal}
-use Rattle.rm_machine.specs.Corrupt.{corrupt_block_refusal, corrupt_refusal, corrupted, with_damage}
+use Rattle.rm_machine.specs.Corrupt.{corrupted, with_damage}
 use Rattle.rm_machine.specs.MadeObjects.{Packed, after_object, after_objects, packed}
 use Rattle.rm_machine.specs.BackupLogs.{copies_of, copies_refusal, copy_entry, copying, numbered_from, with_copies}
 use Rattle.rm_machine.specs.CreateDatafile.{with_datafile}
@@ -52,20 +47,18 @@ use Rattle.rm_machine.specs.Mount.{as_mounted, mounted}
 use Rattle.rm_machine.specs.Open.{opened}
 use Rattle.rm_machine.specs.OpenResetlogs.{branched_off, resetlogs_lines}
 use Rattle.rm_machine.specs.Recover.{RecoversTo, recover_target, recovered, target_refusal}
-use Rattle.rm_machine.specs.Until.{or_else}
 use Rattle.rm_machine_code.proofs.Untils.{until-none}
 use Rattle.rm_machine.specs.ResetDatabase.{at_incarnation}
 use Rattle.rm_machine.specs.Restore.{RestoresTo, place_refusal, restored}
 use Rattle.rm_machine.specs.Roll.{after_roll, roll_effect}
 use Rattle.rm_machine.specs.Sound.{IsSound}
 use Rattle.rm_machine.specs.declared.state.State.{State}
-use Rattle.rm_machine.specs.State.{current_of, is_no_thread, ledger, now_of, on_path, online}
+use Rattle.rm_machine.specs.State.{current_of, is_no_thread, ledger, now_of, online}
 use Rattle.rm_machine.specs.Step.{IsDone, IsOutcome, refusal_of}
 use Rattle.rm_machine.specs.SwitchLogfile.{archive_refusal, archived, is_due, made_lines, none_lines, with_archived}
 use Rattle.rm_machine.specs.Tracking.{with_tracking}
-use Rattle.rm_machine.specs.Until.{or_else}
 use Rattle.rm_machine.specs.Upkeep.{changed_to, log_at, log_changed, piece_at, piece_changed, set_at, set_changed, with_catalog, with_keep, with_status, with_statuses, without_all, without_record}
-use Rattle.rm_machine.specs.Write.{block_refusal, with_write, write_refusal}
+use Rattle.rm_machine.specs.Write.{with_write}
 use Rattle.rm_machine_code.proofs.Archives.{Took, took-thread}
 use Rattle.rm_machine_laws.proofs.ArchivingAll.{room}
 use Rattle.rm_machine_laws.proofs.Asking.{Asks, asks-else, asks-ids, corrupt-asks, repair-asks, write-asks}
@@ -85,11 +78,6 @@ use Rattle.rm_machine_code.proofs.Walk.{events-same}
 use Rattle.rm_machine_laws.proofs.Telling.{never-done}
 use Rattle.rm_machine_code.proofs.Untils.{until-none}
 
--- what the statement does leaves the ids of a save
-abbrev pub LeavesIds : Command → Type 0
-LeavesIds c =
-    (s : State) (held : Held) (lines : List Line) (e : Effect) (t : State) → IsSound s → IsOutcome s held c (done lines e t) → lacks_ids t 0 ≡ false
-
 -- the next id of a catalog, and of a database
 abbrev next_in : TypedCatalog → ℕ
 next_in r = r.ledger.base.next_id
@@ -97,28 +85,40 @@ next_in r = r.ledger.base.next_id
 abbrev next : State → ℕ
 next s = next_in s.catalog
 
--- ids are left after it, by the state that it comes to
-left-after : (lines said : List Line) (e x : Effect) (q t : State) → done lines e t ≡ done said x q → next q + 68 ≤ 4294967295 → lacks_ids t 0 ≡ false
-left-after lines said e x q t is most =
-    let state : q ≡ t = cc in
-    ap (λ y. lacks_ids y 0) (sym state) ∙ le-ltb 4294967295 (next q + 0 + 68) (omega (arith, most))
+-- from one state to the next the ids of a save are left, and the next id does not fall
+pub record KeepsIds (s t : State) : Type 0 where
+  pub save : lacks_ids t 0 ≡ false
+  pub given : (ledger s).base.next_id ≤ (ledger t).base.next_id
+
+-- so for what the statement does
+abbrev pub LeavesIds : Command → Type 0
+LeavesIds c =
+    (s : State) (held : Held) (lines : List Line) (e : Effect) (t : State) → IsSound s → IsOutcome s held c (done lines e t) → KeepsIds s t
+
+-- enough are left
+pub enough : (s t : State) → next s ≤ next t → next t + 68 ≤ 4294967295 → KeepsIds s t
+enough s t up most = record { save = le-ltb 4294967295 (next t + 0 + 68) (omega (arith, most)); given = up }
+
+-- by the state that it comes to
+left-after : (s : State) (lines said : List Line) (e x : Effect) (q t : State) → done lines e t ≡ done said x q → next s ≤ next q → next q + 68 ≤ 4294967295 → KeepsIds s t
+left-after s lines said e x q t is up most = let state : q ≡ t = cc in subst (KeepsIds s) state (enough s q up most)
 
 -- it draws none
-none-drawn : (s : State) (lines said : List Line) (e x : Effect) (q t : State) → done lines e t ≡ done said x q → next q ≡ next s → lacks_ids s 0 ≡ false → lacks_ids t 0 ≡ false
+none-drawn : (s : State) (lines said : List Line) (e x : Effect) (q t : State) → done lines e t ≡ done said x q → next q ≡ next s → lacks_ids s 0 ≡ false → KeepsIds s t
 none-drawn s lines said e x q t is same left =
-    left-after lines said e x q t is (omega (arith, not-above 4294967295 (next s + 0 + 68) left, same))
+    left-after s lines said e x q t is (omega (arith, same)) (omega (arith, not-above 4294967295 (next s + 0 + 68) left, same))
 
 -- Statements that draw none
 
 -- what was not refused, and was done
-pub leaves : (c : Command) → ((s : State) (held : Held) (lines : List Line) (e : Effect) (t : State) → IsSound s → refusal_of s c ≡ None → IsDone s held c (done lines e t) → lacks_ids t 0 ≡ false) → LeavesIds c
+pub leaves : (c : Command) → ((s : State) (held : Held) (lines : List Line) (e : Effect) (t : State) → IsSound s → refusal_of s c ≡ None → IsDone s held c (done lines e t) → KeepsIds s t) → LeavesIds c
 leaves c by s held lines e t sound comes =
     let both = done-by (refusal_of s c) s held c lines e t comes in
     by s held lines e t sound both.0 both.1
 
 -- a statement that asks for the ids, and comes to a state with the same next id
 draws-none : (c : Command) → ((s : State) → Asks s (refusal_of s c))
-    → ((s : State) (held : Held) (lines : List Line) (e : Effect) (t : State) → IsDone s held c (done lines e t) → lacks_ids s 0 ≡ false → lacks_ids t 0 ≡ false) → LeavesIds c
+    → ((s : State) (held : Held) (lines : List Line) (e : Effect) (t : State) → IsDone s held c (done lines e t) → lacks_ids s 0 ≡ false → KeepsIds s t) → LeavesIds c
 draws-none c asks stays = leaves c (λ s held lines e t sound none is. stays s held lines e t is (asks s none))
 
 pub create-roomy : (blocks : ℕ) → LeavesIds (CreateDatafile blocks)
@@ -171,7 +171,7 @@ marked-next : (b : Bool) (s : State) → next (cond b s (record s { catalog = wi
 marked-next true s = refl
 marked-next false s = refl
 
-repair-left : (form : RepairForm) (s : State) (evidence : Evidence) (lines : List Line) (e : Effect) (t : State) → MissesBlock s evidence form (done lines e t) ⊎ MendsBlocks s evidence form (done lines e t) → lacks_ids s 0 ≡ false → lacks_ids t 0 ≡ false
+repair-left : (form : RepairForm) (s : State) (evidence : Evidence) (lines : List Line) (e : Effect) (t : State) → MissesBlock s evidence form (done lines e t) ⊎ MendsBlocks s evidence form (done lines e t) → lacks_ids s 0 ≡ false → KeepsIds s t
 repair-left form s evidence lines e t (inl misses) left = absurd (let clash = misses.is in cc)
 repair-left form s evidence lines e t (inr it) left =
     none-drawn s lines _ e _ (without_mended (after_events (repair_begun s form) it.events) form) t it.is
@@ -183,7 +183,7 @@ repair-roomy form = draws-none (BlockRecover form) (repair-asks form)
 
 -- RECOVER and RESTORE, by their target
 
-recover-left : (o : Option ℕ) (s : State) (held : Held) (lines : List Line) (e : Effect) (t : State) → ((at : ℕ) → o ≡ Some at → target_refusal s at ≡ None) → RecoversTo s held o (done lines e t) → lacks_ids t 0 ≡ false
+recover-left : (o : Option ℕ) (s : State) (held : Held) (lines : List Line) (e : Effect) (t : State) → ((at : ℕ) → o ≡ Some at → target_refusal s at ≡ None) → RecoversTo s held o (done lines e t) → KeepsIds s t
 recover-left None s held lines e t none does = absurd does
 recover-left (Some at) s held lines e t none (inl found) = absurd (let clash = found.is in cc)
 recover-left (Some at) s held lines e t none (inr all) =
@@ -193,7 +193,7 @@ pub recover-roomy : (until : Option Until) → LeavesIds (Recover until)
 recover-roomy until = leaves (Recover until) (λ s held lines e t sound none does.
     recover-left (recover_target s until) s held lines e t (λ at is. until-none s (current_of s) until (target_refusal s) (ids_refusal s) at (unless s.instance.is_open _ _ none).1 is) does)
 
-restore-left : (o file : Option ℕ) (s : State) (held : Held) (lines : List Line) (e : Effect) (t : State) → ((at : ℕ) → o ≡ Some at → place_refusal s file at ≡ None) → RestoresTo s held file o (done lines e t) → lacks_ids t 0 ≡ false
+restore-left : (o file : Option ℕ) (s : State) (held : Held) (lines : List Line) (e : Effect) (t : State) → ((at : ℕ) → o ≡ Some at → place_refusal s file at ≡ None) → RestoresTo s held file o (done lines e t) → KeepsIds s t
 restore-left None file s held lines e t none does = absurd does
 restore-left (Some at) file s held lines e t none does =
     none-drawn s lines _ e _ (restored s does.back.files) t does.is refl (asks-else s _ _ (asks-else s _ _ (asks-ids s)) (none at refl))
@@ -278,8 +278,8 @@ tracking-roomy on = draws-none (Tracking on) asks-ids
 
 -- HOST: the state stays as it is
 
-mishap-left : (s : State) (by e : Effect) (t : State) → IsMishap s by e t → lacks_ids s 0 ≡ false → lacks_ids t 0 ≡ false
-mishap-left s by e t mishap left = ap (λ y. lacks_ids y 0) (sym mishap.state) ∙ left
+mishap-left : (s : State) (by e : Effect) (t : State) → IsMishap s by e t → lacks_ids s 0 ≡ false → KeepsIds s t
+mishap-left s by e t mishap left = subst (KeepsIds s) mishap.state (record { save = left; given = omega arith })
 
 pub remove-roomy : (name : List ℕ) → LeavesIds (Remove name)
 remove-roomy name = draws-none (Remove name) asks-ids (λ s held lines e t is left. mishap-left s _ e t (removed-by s name (held name) lines e t is) left)
@@ -296,11 +296,11 @@ rename-roomy old new = draws-none (Rename old new) asks-ids (λ s held lines e t
 -- Statements that draw ids
 
 switch-left : (b : Bool) (s : State) (t : ℕ) (lines : List Line) (e : Effect) (q : State) → cond b (archive_refusal s t) (ids_refusal s) ≡ None
-    → done lines e q ≡ cond b (done (made_lines s t) (archived (next s) (online s t)) (with_archived s t)) (done (none_lines t) no_effect s) → lacks_ids q 0 ≡ false
+    → done lines e q ≡ cond b (done (made_lines s t) (archived (next s) (online s t)) (with_archived s t)) (done (none_lines t) no_effect s) → KeepsIds s q
 switch-left false s t lines e q none is = none-drawn s lines (none_lines t) e no_effect s q is refl (asks-ids s none)
 switch-left true s t lines e q none is =
     let most : next s + 1 + 68 ≤ 4294967295 = search rules in
-    left-after lines (made_lines s t) e (archived (next s) (online s t)) (with_archived s t) q is (omega (arith, most))
+    left-after s lines (made_lines s t) e (archived (next s) (online s t)) (with_archived s t) q is (omega arith) (omega (arith, most))
 
 pub switch-roomy : (t : ℕ) → LeavesIds (SwitchLogfile t)
 switch-roomy t = leaves (SwitchLogfile t) (λ s held lines e q sound none is.
@@ -308,7 +308,8 @@ switch-roomy t = leaves (SwitchLogfile t) (λ s held lines e q sound none is.
 
 pub disable-roomy : (t : ℕ) → LeavesIds (SwitchThread t false)
 disable-roomy t = leaves (SwitchThread t false) (λ s held lines e q sound none is.
-    left-after lines _ e (disabling s t) (with_thread_off s t) q is (omega (arith, (accepted s t sound none).ids, (took-thread s t (is_due s t)).ids)))
+    let took = (took-thread s t (is_due s t)).ids in
+    left-after s lines _ e (disabling s t) (with_thread_off s t) q is (omega (arith, took)) (omega (arith, (accepted s t sound none).ids, took)))
 
 -- each thread that is due draws one
 threads-next : (n t : ℕ) (s : State) → next (after_threads s t n) ≡ next s + due_from s t n
@@ -320,11 +321,13 @@ threads-next (suc n) t s =
 
 pub archive-roomy : LeavesIds ArchiveLogCurrent
 archive-roomy = leaves ArchiveLogCurrent (λ s held lines e t sound none is.
-    left-after lines _ e (archiving s) (after_all s) t is (omega (arith, (room s sound none).ids, threads-next 4 1 s)))
+    let drawn = threads-next 4 1 s in
+    left-after s lines _ e (archiving s) (after_all s) t is (omega (arith, drawn)) (omega (arith, (room s sound none).ids, drawn)))
 
-branch-left : (o : Option ℕ) (s : State) (lines : List Line) (e : Effect) (t : State) → IsSomeAnd o (λ at. done lines e t ≡ done (resetlogs_lines s at) (archiving s) (branched_off (after_all s) at)) → next (after_all s) + 68 ≤ 4294967295 → lacks_ids t 0 ≡ false
+branch-left : (o : Option ℕ) (s : State) (lines : List Line) (e : Effect) (t : State) → IsSomeAnd o (λ at. done lines e t ≡ done (resetlogs_lines s at) (archiving s) (branched_off (after_all s) at)) → next (after_all s) + 68 ≤ 4294967295 → KeepsIds s t
 branch-left None s lines e t is most = absurd is
-branch-left (Some at) s lines e t is most = left-after lines (resetlogs_lines s at) e (archiving s) (branched_off (after_all s) at) t is most
+branch-left (Some at) s lines e t is most =
+    left-after s lines (resetlogs_lines s at) e (archiving s) (branched_off (after_all s) at) t is (omega (arith, threads-next 4 1 s)) most
 
 pub branch-roomy : LeavesIds OpenResetlogs
 branch-roomy = leaves OpenResetlogs (λ s held lines e t sound none is.
@@ -345,12 +348,12 @@ backup-roomy b s held lines e t sound comes =
     let many = objects-many s b does.jobs does.rows does.are does.whole in
     let most = (can-back_up s b sound both.0).ids in
     let up = objects-next b does.tag xs q in
-    left-after lines _ e (effect_of s b does.tag does.events xs) (after_objects q b does.tag xs) t does.is (omega (arith, same, many, most, up))
+    left-after s lines _ e (effect_of s b does.tag does.events xs) (after_objects q b does.tag xs) t does.is (omega (arith, same, up)) (omega (arith, same, many, most, up))
 
 -- and so does an increment for a standby
 pub roll-roomy : (from : ℕ) → LeavesIds (BackupFrom from)
 roll-roomy from = leaves (BackupFrom from) (λ s held lines e t sound none is.
-    let most = (can-roll s from none).ids in left-after lines _ e (roll_effect s from) (after_roll s) t is (omega (arith, most)))
+    let most = (can-roll s from none).ids in left-after s lines _ e (roll_effect s from) (after_roll s) t is (omega arith) (omega (arith, most)))
 
 -- and so does each backup of a log
 copies-next : (logs : List LogFile) (n : ℕ) (r : TypedCatalog) → next_in (with_copies r (numbered_from n logs)) ≡ next_in r + length logs
@@ -364,14 +367,14 @@ back_logs-roomy s held lines e t sound comes =
     let is = done-of (copies_refusal s logs) _ lines (copying (copies_of s logs)) e (after_copies s logs) t does.is in
     let most = (room-for s logs sound is.0).ids in
     let up = copies-next logs (next s) s.catalog in
-    ap (λ y. lacks_ids y 0) (sym is.2) ∙ le-ltb 4294967295 (next (after_copies s logs) + 0 + 68) (omega (arith, most, up))
+    subst (KeepsIds s) is.2 (enough s (after_copies s logs) (omega (arith, up)) (omega (arith, most, up)))
 
 -- and so does each copy that changed
 pub renew-roomy : (tag : List ℕ) (until : Option Until) → LeavesIds (RecoverCopy tag until)
 renew-roomy tag until s held lines e t sound comes =
     let c = RecoverCopy tag until in
-    let most = (leaves-renewed (recover_target s until) s tag held lines e t sound (done-by (refusal_of s c) s held c lines e t comes).1).ids in
-    le-ltb 4294967295 (next t + 0 + 68) (omega (arith, most))
+    let left = leaves-renewed (recover_target s until) s tag held lines e t sound (done-by (refusal_of s c) s held c lines e t comes).1 in
+    enough s t left.given left.ids
 
 -- Statements that are never done
 

@@ -1,14 +1,15 @@
 -- Names of records are touched by no statement but one of HOST that gives them.
-use Rattle.std.specs.Prelude.{ℕ, ◌≡◌, ◌<◌, true, IsSomeAnd, Option, Some, None, List, Contains}
+use Rattle.std.specs.Prelude.{ℕ, ◌≡◌, ◌<◌, Bool, true, IsSomeAnd, Option, Some, None, List, Contains}
 use Rattle.rm_base.specs.Store.{Held}
 use Rattle.rm_catalog.specs.declared.record.PartEntry.{PartEntry}
+use Rattle.rm_catalog_typed.specs.TypedCatalog.{TypedCatalog}
 use Rattle.rm_commit.specs.Names.{is_named, itself, name_of}
 use Rattle.rm_lang_statement.specs.declared.command.Command.{Command}
-use Rattle.rm_evidence.specs.Names.{site_name}
+use Rattle.rm_evidence.specs.Names.{log_name, piece_name, roll_name, set_name, site_name}
 use Rattle.rm_report.specs.declared.line.Line.{Line}
-use Rattle.rm_machine.specs.CatalogName.{IsNamed}
 use Rattle.rm_machine.specs.Effect.{Effect, done}
 use Rattle.rm_machine.specs.Names.{IsObjectName}
+use Rattle.rm_machine.specs.Rest.{catalog_in}
 use Rattle.rm_machine.specs.Sound.{IsSound}
 use Rattle.rm_machine.specs.declared.state.State.{State}
 use Rattle.rm_machine.specs.State.{ledger}
@@ -24,18 +25,30 @@ abbrev pub IsNamedIn : Option State → List ℕ → Type 0
 IsNamedIn None name = ⊥
 IsNamedIn (Some s) name = IsNamedBy s name
 
--- the name is of a log, a piece or an image copy, of an id below the next one
+-- the id was given: it lies below the next one
+abbrev pub IsGivenIn : Option TypedCatalog → ℕ → Type 0
+IsGivenIn None id = ⊥
+IsGivenIn (Some r) id = id < r.ledger.base.next_id
+
+-- the name is of an object of this id: of a log, a piece or an image copy, a set, or an increment
+pub data IsOfId (id : ℕ) : List ℕ → Type 0 where
+  is_log : IsOfId id (log_name id)
+  is_piece : (copy : Bool) → IsOfId id (piece_name copy id)
+  is_set : IsOfId id (set_name id)
+  is_roll : IsOfId id (roll_name id)
+
+-- the name is of an object of an id that was given
 abbrev pub IsLowIn : Option State → List ℕ → Type 0
-IsLowIn None name = ⊥
-IsLowIn (Some s) name = (id : ℕ) × IsNamed name id × (id < (ledger s).base.next_id)
+IsLowIn o name = (id : ℕ) × IsOfId id name × IsGivenIn (catalog_in o) id
 
 -- What is put has no name of a record before, nor that of a part of a saved site, and its id is none that was given; what goes
--- has no name of a record after. The names that HOST gives are left aside.
+-- has no name of a record after, nor that of an increment. The names that HOST gives are left aside.
 pub record IsLoose (o : Option State) (c : Command) (e : Effect) (t : State) : Type 0 where
   pub puts : (name : List ℕ) → IsNamedIn o name → is_named name_of e.puts name ≡ true → Contains (names_in c) name
   pub low : (name : List ℕ) → IsLowIn o name → is_named name_of e.puts name ≡ true → Contains (names_in c) name
   pub parts : (id : ℕ) → is_named name_of e.puts (site_name id) ≡ true → Contains (names_in c) (site_name id)
   pub removes : (name : List ℕ) → IsNamedBy t name → is_named itself e.removes name ≡ true → Contains (names_in c) name
+  pub rolls : (id : ℕ) → is_named itself e.removes (roll_name id) ≡ true → Contains (names_in c) (roll_name id)
 
 -- so for the statement, from each sound state
 abbrev pub StaysLoose : Command → Type 0

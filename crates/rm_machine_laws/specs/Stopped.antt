@@ -3,6 +3,7 @@ use Rattle.std.specs.Prelude.{ℕ, ◌≡◌, ◌⊎◌, ◌++◌, Option, None,
 use Rattle.rm_base.specs.Store.{Held}
 use Rattle.rm_catalog.specs.declared.record.Record.{Record}
 use Rattle.rm_lang_statement.specs.declared.command.Command.{Command}
+use Rattle.rm_evidence.specs.Names.{roll_name}
 use Rattle.rm_report.specs.declared.line.Reply.{Reply}
 use Rattle.rm_machine.specs.Honest.{IsHonest}
 use Rattle.rm_machine.specs.Machine.{Machine}
@@ -10,17 +11,18 @@ use Rattle.rm_machine.specs.Rest.{Rest, catalog_in}
 use Rattle.rm_machine.specs.declared.state.State.{State}
 use Rattle.rm_machine.specs.Step.{Step, names_in}
 use Rattle.rm_machine_laws.specs.Holds.{Holds, HoldsRest, Stands, View}
-use Rattle.rm_machine_laws.specs.Loose.{IsLowIn, IsNamedIn}
+use Rattle.rm_machine_laws.specs.Loose.{IsGivenIn, IsLowIn, IsNamedIn}
 use Rattle.rm_machine_laws.specs.Moments.{moment_of}
 
--- What is left of the machine n is at rest. Objects that no record names, and those under the names that HOST gives, may
--- hold anything.
+-- What is left of the machine n is at rest. Each object that a record names stands as it stood, and so does each increment under an
+-- id that was given. Other objects, and those under the names that HOST gives, may hold anything.
 pub record IsLeft (given : List (List ℕ)) (n : Machine) (r : Rest) : Type 0 where
   pub catalog : r.catalog ≡ catalog_in n.state
   pub history : r.history ≡ n.history
   pub made : r.made ≡ n.made
   pub touched : r.touched ≡ given ++ n.touched
   pub objects : (name : List ℕ) → IsNamedIn n.state name → Contains given name ⊎ (r.objects name ≡ n.objects name)
+  pub rolls : (id : ℕ) → IsGivenIn (catalog_in n.state) id → Contains given (roll_name id) ⊎ (r.objects (roll_name id) ≡ n.objects (roll_name id))
 
 -- What a stop leaves is the machine before the statement, or the one after the whole of it.
 pub record Stopped (m : Machine) (c : Command) (moment : ℕ) (r : Rest) : Type 0 where

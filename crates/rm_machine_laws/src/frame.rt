@@ -1,5 +1,5 @@
 //! What the frame makes of a statement.
-ghost use Rattle.std.specs.Prelude.{ℕ, ◌≡◌, false, List, Option};
+ghost use Rattle.std.specs.Prelude.{ℕ, ◌≡◌, ◌≤◌, false, List, Option};
 ghost use Rattle.rm_base.specs.Store.{Held};
 ghost use Rattle.rm_catalog.specs.declared.record.Record.{Record};
 ghost use Rattle.rm_lang_statement.specs.declared.command.Command.{Command};
@@ -12,6 +12,7 @@ ghost use Rattle.rm_machine.specs.Machine.{Machine};
 ghost use Rattle.rm_machine.specs.Marks.{lacks_ids};
 ghost use Rattle.rm_machine.specs.Rest.{at_rest};
 ghost use Rattle.rm_machine.specs.Sound.{IsSound};
+ghost use Rattle.rm_machine.specs.State.{ledger};
 ghost use Rattle.rm_machine.specs.Step.{IsOutcome};
 ghost use Rattle.rm_machine.specs.declared.state.State.{State};
 ghost use Rattle.rm_machine_laws.specs.Carries.{CarriesOn, LeadsOnWithout, StopsWell};
@@ -56,6 +57,11 @@ pub fn a_machine_rests()
 /// What is done leaves the ids of a save: 68 object ids.
 pub fn each_statement_leaves_the_ids_of_a_save()
     ensures { (c : Command) (s : State) (held : Held) (lines : List Line) (e : Effect) (t : State) → IsSound s → IsOutcome s held c (done lines e t) → lacks_ids t 0 ≡ false }
+{}
+
+/// No id is given twice: what is done leaves the next one as it was, or raises it.
+pub fn no_id_is_given_twice()
+    ensures { (c : Command) (s : State) (held : Held) (lines : List Line) (e : Effect) (t : State) → IsSound s → IsOutcome s held c (done lines e t) → (ledger s).base.next_id ≤ (ledger t).base.next_id }
 {}
 
 /// A step of DELETE OBSOLETE keeps the targets of the window, whatever site stands for the machine.

@@ -43,7 +43,7 @@ use Rattle.rm_standby_laws.specs.Lasting.{HoldsIn, HoldsOf, IsHeld, LiesWithin}
 -- An increment
 
 -- such a statement never only tells
-told-not : (o : Option Refusal) (q : State) (held : Held) (scn : ℕ) (lines : List Line) → IsOutcomeBy o q held (BackupFrom scn) (told lines) → ⊥
+pub told-not : (o : Option Refusal) (q : State) (held : Held) (scn : ℕ) (lines : List Line) → IsOutcomeBy o q held (BackupFrom scn) (told lines) → ⊥
 told-not None q held scn lines is = absurd (cc)
 told-not (Some r) q held scn lines is = absurd (cc)
 

@@ -228,7 +228,7 @@ module _ (s t : State) (h k : List Change) (from : ℕ) (a : Set) (are : AreInca
 
 -- A statement, and a stop
 
-moment-of : (s : State) (moment : ℕ) → IsMomentIn (Some s) moment → IsMomentOf s moment
+pub moment-of : (s : State) (moment : ℕ) → IsMomentIn (Some s) moment → IsMomentOf s moment
 moment-of s moment at = record { kept = at.kept; last = at.last }
 
 pub stays-since : (from : ℕ) → StaysHeld (from_on from)
@@ -252,6 +252,11 @@ all-picked (r ∷ rs) = ap (λ t. cond t (r ∷ from_on 0 rs) (from_on 0 rs)) (l
 
 pub stays-whole : StaysHeld (λ rows. rows)
 stays-whole = subst StaysHeld (λ j rows. all-picked rows j) (stays-since 0)
+
+-- what follows from the one and from the other
+pub either : (b : Bool) (P Q R : Type 0) → MatchBool b P Q → (P → R) → (Q → R) → R
+either true P Q R is first second = first is
+either false P Q R is first second = second is
 
 module _ (pick : List Row → List Row) (a : Set) where
   -- a machine with these records and this history is at rest
@@ -277,10 +282,6 @@ module _ (pick : List Row → List Row) (a : Set) where
   saved-held : (m : Machine) (s : State) (r : Rest) → IsSavedAs m (without_damaged s) r → HoldsIn (world s) m.history pick a → RestsHeld r pick a
   saved-held m s r saved holds =
       subst (λ (h : List Change). HoldsOf r.catalog h pick a) (sym saved.history) (subst (λ o. HoldsOf o m.history pick a) (sym saved.catalog) holds)
-
-  either : (b : Bool) (P Q R : Type 0) → MatchBool b P Q → (P → R) → (Q → R) → R
-  either true P Q R is first second = first is
-  either false P Q R is first second = second is
 
   saved-by : (o : Option State) (m : Machine) (r : Rest) → m.state ≡ o → IsSavedBy o m r → IsHeld m pick a → RestsHeld r pick a
   saved-by None m r is saved held = rested-held m r saved held

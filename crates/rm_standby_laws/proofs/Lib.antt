@@ -3,4 +3,5 @@ pub mod EachStatement
 pub mod Growing
 pub mod Lasting
 pub mod Settled
+pub mod Standing
 pub mod Steps

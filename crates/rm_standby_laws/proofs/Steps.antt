@@ -25,12 +25,12 @@ use Rattle.rm_standby_laws.proofs.Growing.{Grows, goes-same, grows-on}
 
 -- What was done
 
-record WasDone (m n : Machine) (s : State) (c : Command) (moment : ℕ) : Type 0 where
-  lines : List Line
-  effect : Effect
-  state : State
-  comes : IsOutcome (at_moment s moment) m.objects c (done lines effect state)
-  follows : MachineFollows m c effect state n
+pub record WasDone (m n : Machine) (s : State) (c : Command) (moment : ℕ) : Type 0 where
+  pub lines : List Line
+  pub effect : Effect
+  pub state : State
+  pub comes : IsOutcome (at_moment s moment) m.objects c (done lines effect state)
+  pub follows : MachineFollows m c effect state n
 
 -- a step leaves the machine as it is, or something was done
 step-cases : (m n : Machine) (s : State) (c : Command) (moment : ℕ) (reply : Reply) (o : Outcome) → IsOutcome (at_moment s moment) m.objects c o
@@ -39,7 +39,7 @@ step-cases m n s c moment reply (refused r) comes by = inl by.1
 step-cases m n s c moment reply (told lines) comes by = inl by.1
 step-cases m n s c moment reply (done lines e t) comes by = inr (record { lines = lines; effect = e; state = t; comes = comes; follows = by.1 })
 
-stepped : (m n : Machine) (s : State) (c : Command) (moment : ℕ) (reply : Reply) → m.state ≡ Some s → Step m c moment reply n → (n ≡ m) ⊎ WasDone m n s c moment
+pub stepped : (m n : Machine) (s : State) (c : Command) (moment : ℕ) (reply : Reply) → m.state ≡ Some s → Step m c moment reply n → (n ≡ m) ⊎ WasDone m n s c moment
 stepped m n s c moment reply is step =
     let by : StepIn (Some s) m c moment reply n = subst (λ o. StepIn o m c moment reply n) is step in
     step-cases m n s c moment reply by.0 by.1 by.2

@@ -1,5 +1,5 @@
 //! What a set holds of a machine.
-ghost use Rattle.std.specs.Prelude.{ℕ, ◌≡◌, All, Bool, List, None, Some, false};
+ghost use Rattle.std.specs.Prelude.{ℕ, ◌≡◌, All, Bool, Contains, List, None, Some, false};
 ghost use Rattle.rm_base.specs.declared.block.Change.{Change};
 ghost use Rattle.rm_base.specs.declared.block.Row.{Row};
 ghost use Rattle.rm_blocks.specs.File.{File};
@@ -10,6 +10,8 @@ ghost use Rattle.rm_piece.specs.declared.set.Set.{Set};
 ghost use Rattle.rm_standby.specs.Image.{imaged};
 ghost use Rattle.rm_standby.specs.Rolling.{Meets, rolled};
 ghost use Rattle.rm_standby.specs.Standby.{HoldsStates};
+ghost use Rattle.rm_evidence.specs.Names.{roll_name};
+ghost use Rattle.rm_lang_statement.specs.declared.command.Command.{Command};
 ghost use Rattle.rm_lang_statement.specs.declared.command.Command.TheVariants.{BackupFrom};
 ghost use Rattle.rm_lang_statement.specs.declared.command.Until.TheVariants.{Scn};
 ghost use Rattle.rm_report.specs.declared.line.Reply.{Reply};
@@ -20,11 +22,13 @@ ghost use Rattle.rm_machine.specs.Rest.{Rest, Wakes};
 ghost use Rattle.rm_machine.specs.Roll.{increment};
 ghost use Rattle.rm_machine.specs.Sound.{IsSound};
 ghost use Rattle.rm_machine.specs.State.{at_moment, current_of, ledger, tree, world};
-ghost use Rattle.rm_machine.specs.Step.{Step};
+ghost use Rattle.rm_machine.specs.Step.{Step, names_in};
 ghost use Rattle.rm_machine.specs.declared.state.State.{State};
+ghost use Rattle.rm_machine_laws.specs.Moments.{IsMomentIn};
 ghost use Rattle.rm_machine_laws.specs.Saves.{IsEnded};
-ghost use Rattle.rm_machine_laws.specs.Stopped.{IsLeft};
+ghost use Rattle.rm_machine_laws.specs.Stopped.{IsLeft, Stopped};
 ghost use Rattle.rm_standby_laws.specs.Lasting.{HoldsIn, IsHeld, RestsHeld, StaysHeld, StopsHeld};
+ghost use Rattle.rm_standby_laws.specs.Standing.{RestsIn, StandsIn};
 
 /// What a set holds of the states at its address, all of them or those of a version at or above an SCN, it holds after each statement
 /// too, where the world is honest.
@@ -54,6 +58,24 @@ pub fn an_increment_is_held()
     ensures begins { (s : State) (scn : ℕ) → All (λ m. m.piece.from ≡ scn) (increment s scn).members }
     ensures holds { (m n : Machine) (s : State) (scn moment : ℕ) (reply : Reply) → m.state ≡ Some s → IsSoundMachine m → IsMomentOf s moment
         → Step m (BackupFrom scn) moment reply n → reply.refused ≡ false → IsHeld m (from_on scn) (increment (at_moment s moment) scn) }
+{}
+
+/// The increment of a BACKUP INCREMENTAL FROM SCN that was not refused stands under the name of the id that it drew.
+pub fn an_increment_is_put()
+    ensures { (m n : Machine) (s : State) (scn moment : ℕ) (reply : Reply) → m.state ≡ Some s → Step m (BackupFrom scn) moment reply n
+        → reply.refused ≡ false → StandsIn n (ledger s).base.next_id (increment (at_moment s moment) scn) }
+{}
+
+/// There it stands after each statement, also where one is stopped, and from one session to the next, as long as HOST does not give its name.
+pub fn an_increment_stands()
+    ensures stays { (m n : Machine) (c : Command) (moment : ℕ) (reply : Reply) (id : ℕ) (a : Set) → IsSoundMachine m → IsMomentIn m.state moment
+        → Step m c moment reply n → ¬ Contains (names_in c) (roll_name id) → StandsIn m id a → StandsIn n id a }
+    ensures stops { (m : Machine) (r : Rest) (c : Command) (moment : ℕ) (id : ℕ) (a : Set) → IsSoundMachine m → IsMomentIn m.state moment
+        → Stopped m c moment r → ¬ Contains (names_in c) (roll_name id) → StandsIn m id a → RestsIn r id a }
+    ensures ends { (m : Machine) (r : Rest) (applied : Bool) (id : ℕ) (a : Set) → IsEnded applied m r → StandsIn m id a → RestsIn r id a }
+    ensures left { (m : Machine) (r : Rest) (given : List (List ℕ)) (id : ℕ) (a : Set)
+        → IsLeft given m r → ¬ Contains given (roll_name id) → StandsIn m id a → RestsIn r id a }
+    ensures wakes { (m : Machine) (r : Rest) (id : ℕ) (a : Set) → Wakes r m → RestsIn r id a → StandsIn m id a }
 {}
 
 /// A standby that is made until an SCN, to which a RECOVER TEST is not refused, holds all states there from then on.
