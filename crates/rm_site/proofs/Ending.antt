@@ -1,11 +1,8 @@
 -- What a save of a database leaves, and what a stop leaves of it.
-use Rattle.std.proofs.Common.{◌≡◌, ◌∙◌, ◌++◌, ◌⊎◌, ◌+◌, ◌&&◌, not, inl, inr, ℕ, Bool, List, [], ◌∷◌, Option, Some, None, true, false, refl, ap, sym, subst}
+use Rattle.std.proofs.Common.{◌≡◌, ◌∙◌, ◌++◌, ◌⊎◌, ◌&&◌, not, inl, inr, ℕ, Bool, List, [], Option, Some, None, true, false, refl, ap, sym, subst}
 use Rattle.std.specs.Prelude.{is_none, MatchBool, Result, Ok, Err, OnOk, OnErr}
 use Rattle.std.specs.Option.{option_map}
-use Rattle.std.specs.Str.{bytes_eq}
-use Rattle.std.proofs.lemmas.Bool.{cases_Bool}
-use Rattle.std.proofs.lemmas.Slice.Eq.{bytes_eq-Decides}
-use Rattle.rm_base.specs.Store.{Both, Held}
+use Rattle.rm_base.specs.Store.{Held}
 use Rattle.rm_catalog.specs.Edits.{after_edits}
 use Rattle.rm_catalog.specs.declared.record.Record.{Record}
 use Rattle.rm_commit.specs.declared.commit.Commit.{Commit}
@@ -13,11 +10,13 @@ use Rattle.rm_commit.specs.Carrying.{AreMoved, ArePut, Carried, Halted, after_th
 use Rattle.rm_commit.specs.Names.{SameBeyondPuts, HasPuts, HasRemoves, is_named, itself, name_of}
 use Rattle.rm_commit.proofs.Told.{both-map, both-told}
 use Rattle.rm_catalog_typed.specs.TypedCatalog.{Saved, all_records, records_of}
+use Rattle.rm_evidence.specs.Names.{roll_name}
+use Rattle.rm_evidence.proofs.Names.{roll-no-site}
 use Rattle.rm_machine.specs.Damage.{without_damaged}
 use Rattle.rm_machine.specs.Machine.{Machine}
 use Rattle.rm_machine.specs.Marks.{lacks_ids}
 use Rattle.rm_machine.specs.Rest.{Rest, at_rest, catalog_in}
-use Rattle.rm_machine.specs.Saving.{IsSavedAs, IsSavedBy, SitePart, made_of, object_of, parts_of, with_ids, with_site}
+use Rattle.rm_machine.specs.Saving.{IsSavedAs, IsSavedBy, made_of, object_of, parts_of, with_ids, with_site}
 use Rattle.rm_machine.specs.declared.state.State.{State}
 use Rattle.rm_machine.specs.State.{ledger}
 use Rattle.rm_machine_code.proofs.Dropping.{IsNoSite}
@@ -26,7 +25,9 @@ use Rattle.rm_machine_laws.specs.Holds.{Holds, HoldsRest, Stands, View, records,
 use Rattle.rm_machine_laws.specs.Loose.{IsNamedIn}
 use Rattle.rm_machine_laws.specs.Saves.{IsEnded, Saves, StopsSaving}
 use Rattle.rm_machine_laws.specs.Stopped.{IsLeft}
+use Rattle.rm_machine_laws.proofs.Dropping.{unnamed-site}
 use Rattle.rm_machine_laws.proofs.Halting.{StaysUnder, is-left, left, left-holds, no-part, rests}
+use Rattle.rm_machine_laws.proofs.LowNames.{StayRolls}
 use Rattle.rm_site.specs.Saved.{EndsOut, PutsSite, PutsWhat, SavesAt, StopsSavingAt}
 use Rattle.rm_site.specs.Untouched.{AreSame}
 
@@ -37,14 +38,6 @@ ok-then (Err e) f p = tt
 pub err-then : {T E : Type 0} {P Q : Type 0} (r : Result T E) → (P → Q) → OnErr r P → OnErr r Q
 err-then (Ok x) f p = tt
 err-then (Err e) f p = f p
-
--- the objects of a save have names of parts alone
-unnamed-site : (id : ℕ) (parts : List SitePart) (name : List ℕ) → IsNoSite name → is_named name_of (with_ids object_of id parts) name ≡ false
-unnamed-site id [] name other = refl
-unnamed-site id (p ∷ ps) name other = elim (cases_Bool (bytes_eq name (object_of id p).name)) [
-  | inl same ↦ absurd (other id ((bytes_eq-Decides name (object_of id p).name).0 same))
-  | inr apart ↦ rw apart (unnamed-site (id + 1) ps name other)
-]
 
 module _ (held : Option Held) (kept : Option (List Record)) (s : State) where
   -- where a saved site stands, or the ids of a save are not left, all stays as it is
@@ -117,17 +110,22 @@ module _ (held : Option Held) (kept : Option (List Record)) (s : State) where
           keeper = λ tells. all.records ∙ ap (option_map (after_edits x.edits)) tells ∙ ap Some edits;
         }
 
-    -- the names of records are none of the new objects
+    -- what has another name than a part stays
+    stays-beside : (m : Machine) (objects : Held) → SameBeyondPuts x.objects m.objects objects → (name : List ℕ) → IsNoSite name → objects name ≡ m.objects name
+    stays-beside m objects same name other = same name (ap (λ ys. is_named name_of ys name) puts ∙ unnamed-site (ledger s).base.next_id (parts_of t) name other)
+
+    -- so do the objects of records, and increments
     stays-under : (m : Machine) (objects : Held) → m.state ≡ Some s → SameBeyondPuts x.objects m.objects objects → StaysUnder [] m.state m.objects objects
-    stays-under m objects is same name names =
-        let other = no-part s name none (subst (λ o. IsNamedIn o name) is names) in
-        inr (same name (ap (λ ys. is_named name_of ys name) puts ∙ unnamed-site (ledger s).base.next_id (parts_of t) name other))
+    stays-under m objects is same name names = inr (stays-beside m objects same name (no-part s name none (subst (λ o. IsNamedIn o name) is names)))
+
+    rolls-stay : (m : Machine) (objects : Held) → SameBeyondPuts x.objects m.objects objects → StayRolls [] m.state m.objects objects
+    rolls-stay m objects same id given = inr (stays-beside m objects same (roll_name id) (roll-no-site id))
 
     pub stops-saving : (held' : Option Held) (kept' : Option (List Record)) → Halted x held kept held' kept' → StopsSavingAt held kept s held' kept'
     stops-saving held' kept' (before_the_edits b) m is holds =
         let now = both-told (SameBeyondPuts x.objects) held held' m.objects holds.store b.objects in
         let same = stays-under m now.0 is now.1 in
-        (left [] m now.0, inl (is-left [] m now.0 same), left-holds [] m now.0 held' kept' holds.sound holds.parts same now.2 (b.records ∙ holds.keeper))
+        (left [] m now.0, inl (is-left [] m now.0 same (rolls-stay m now.0 now.1)), left-holds [] m now.0 held' kept' holds.sound holds.parts same now.2 (b.records ∙ holds.keeper))
     stops-saving held' kept' (after_the_edits a) m is holds =
         let now = both-told (ArePut x) held held' m.objects holds.store a.objects in
         let same : (name : List ℕ) → now.0 name ≡ now.1.put name = λ name. now.1.removes name (ap (λ (ys : List (List ℕ)). is_named itself ys name) removes) in
@@ -138,7 +136,7 @@ module _ (held : Option Held) (kept : Option (List Record)) (s : State) where
   pub stops-before : StopsSavingAt held kept s held kept
   stops-before m is holds =
       let same : StaysUnder [] m.state m.objects m.objects = λ name names. inr refl in
-      (at_rest m, inl (is-left [] m m.objects same), rests held kept m holds)
+      (at_rest m, inl (is-left [] m m.objects same (λ id given. inr refl)), rests held kept m holds)
 
 -- over the site, where nothing is to be saved
 module _ (held : Option Held) (kept : Option (List Record)) (v : View) where

@@ -40,12 +40,15 @@ pub(crate) enum Answer {
 }
 
 // What a statement comes to that tells of what the store has, and that the state does not refuse.
-fn tell_held<D: Store>(
+fn tell_held<R: Threads + Sync, D: Store>(
+    rt: &R,
     alloc: Global,
+    channels: Option<u32>,
     state: &State,
     store: &mut D,
     command: &Command,
 ) -> Result<Answer, Stop>
+    requires channels { IfSome channels (λ n. (1 ≤ n) × (n ≤ 16)) }
     requires nature { nature_of command.now ≡ TellsHeld }
     requires sound { IsSound state.now }
     requires accepted { refusal_of state.now command.now ≡ None }
@@ -56,8 +59,10 @@ fn tell_held<D: Store>(
     ensures never_falls { D.faults store.old ≤ D.faults store.new }
 {
     match command {
-        Command::Preview { until } => step_recover::preview(alloc, state, store, until),
-        Command::ValidateAll => step_tell::validate(alloc, state, store),
+        Command::Preview { until } => {
+            step_recover::preview(rt, alloc, channels, state, store, until)
+        }
+        Command::ValidateAll => step_tell::validate(rt, alloc, channels, state, store),
         Command::ReportObsolete => step_retain::tell_obsolete(alloc, state, store),
         Command::ReportNeedBackup => step_retain::tell_needs(alloc, state, store),
         _ => unreachable!(),
@@ -92,13 +97,16 @@ fn test_held<R: Threads + Sync, D: Store>(
 }
 
 // What a statement comes to that changes the database by what the store has, and that the state does not refuse.
-fn change_by_held<D: Store>(
+fn change_by_held<R: Threads + Sync, D: Store>(
+    rt: &R,
     alloc: Global,
+    channels: Option<u32>,
     state: &mut State,
     store: &mut D,
     edits: &mut Vec<Edit>,
     command: &Command,
 ) -> Result<Answer, Stop>
+    requires channels { IfSome channels (λ n. (1 ≤ n) × (n ≤ 16)) }
     requires nature { nature_of command.now ≡ ChangesByHeld }
     requires sound { IsSound state.old }
     requires accepted { refusal_of state.old command.now ≡ None }
@@ -111,7 +119,7 @@ fn change_by_held<D: Store>(
 {
     match command {
         Command::Restore { file, until } => step_recover::restore(
-            alloc, state, store, *file, until,
+            rt, alloc, channels, state, store, *file, until,
         ),
         Command::Crosscheck { class } => step_upkeep::check(alloc, state, store, edits, *class),
         Command::DeleteObsolete => step_retain::clear(alloc, state, store, edits),
@@ -146,7 +154,7 @@ fn try_by_held<R: Threads + Wait + Sync, D: Store>(
             rt, alloc, channels, state, store, until,
         ),
         Command::RecoverCopy { tag, until } => step_copies::renew(
-            alloc, state, store, edits, tag, until,
+            rt, alloc, channels, state, store, edits, tag, until,
         ),
         Command::BackupLogs => step_backup::back_up_logs(alloc, state, store, edits),
         Command::BlockRecover(form) => step_repair::mend(rt, alloc, state, store, edits, form),
@@ -181,12 +189,14 @@ fn accepted<R: Threads + Wait + Sync, G: Gate, D: Store>(
     match nature_of(command) {
         Nature::Unbuilt => unreachable!(),
         Nature::TellsState => Ok(step_tell::tell(alloc, state, command)?),
-        Nature::TellsHeld => tell_held(alloc, state, store, command),
+        Nature::TellsHeld => tell_held(rt, alloc, channels, state, store, command),
         Nature::TestsHeld => test_held(rt, alloc, channels, state, store, command),
         Nature::Changes => Ok(Answer::Done(change(
             rt, alloc, gate, channels, state, edits, command,
         )?)),
-        Nature::ChangesByHeld => change_by_held(alloc, state, store, edits, command),
+        Nature::ChangesByHeld => {
+            change_by_held(rt, alloc, channels, state, store, edits, command)
+        }
         Nature::TriesByHeld => try_by_held(rt, alloc, channels, state, store, edits, command),
         Nature::Records => step_upkeep::record(alloc, state, store, edits, command),
         Nature::Mishap => step_host::mishap(alloc, state, store, command),

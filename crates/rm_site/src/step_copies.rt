@@ -1,5 +1,5 @@
 //! RECOVER COPY: it looks at what the store holds.
-ghost use Rattle.std.specs.Prelude.{◌≡◌, ◌≤◌, None, IfOk, IsErrOf, OnOk};
+ghost use Rattle.std.specs.Prelude.{◌≡◌, ◌≤◌, None, IfOk, IfSome, IsErrOf, OnOk};
 ghost use Rattle.rm_base.specs.Outside.{Rose};
 ghost use Rattle.rm_commit.specs.declared.commit.Stop.TheVariants.{StoreFault, KeeperFault};
 ghost use Rattle.rm_machine.specs.RecoverCopy.{recover_copy_refusal};
@@ -9,6 +9,7 @@ ghost use Rattle.rm_catalog_typed.specs.Changes.{EditsFollow};
 ghost use Rattle.rm_site.specs.Comes.{IsAnswer};
 ghost use Rattle.rm_lang_statement.specs.declared.command.Command.TheVariants.{RecoverCopy};
 
+use crate::channels::channel_count;
 use crate::faults::stop_of;
 use crate::statement::Answer;
 use rm_base::{Store, Text};
@@ -18,17 +19,21 @@ use rm_lang_statement::Until;
 use rm_machine::State;
 use rm_step_copies::recover_copy;
 use std::alloc::Global;
+use std::thread::Threads;
 
 /// What RECOVER COPY comes to that the state does not refuse: it is done, or refused by what the store holds. After an error,
 /// which is a stop, nothing is said of the state and the edits.
-pub(crate) fn renew<D: Store>(
+pub(crate) fn renew<R: Threads + Sync, D: Store>(
+    rt: &R,
     alloc: Global,
+    channels: Option<u32>,
     state: &mut State,
     store: &mut D,
     edits: &mut Vec<Edit>,
     tag: &Text,
     until: &Option<Until>,
 ) -> Result<Answer, Stop>
+    requires channels { IfSome channels (λ n. (1 ≤ n) × (n ≤ 16)) }
     requires command { IsStatement (RecoverCopy tag.now until.now) }
     requires sound { IsSound state.old }
     requires accepted { recover_copy_refusal state.old tag.now until.now ≡ None }
@@ -39,7 +44,17 @@ pub(crate) fn renew<D: Store>(
     ensures keeper { ¬ IsErrOf result KeeperFault }
     ensures never_falls { D.faults store.old ≤ D.faults store.new }
 {
-    match recover_copy(alloc, state, store, edits, tag.as_str(), until) {
+    let channels = channel_count(state, channels);
+    match recover_copy(
+        rt,
+        alloc,
+        channels,
+        state,
+        store,
+        edits,
+        tag.as_str(),
+        until,
+    ) {
         Ok(Ok(handed)) => Ok(Answer::Done(handed)),
         Ok(Err(refusal)) => Ok(Answer::Refused(refusal)),
         Err(fault) => Err(stop_of(fault)),

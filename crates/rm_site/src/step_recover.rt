@@ -78,13 +78,16 @@ pub(crate) fn recover_test<R: Threads + Sync, D: Store>(
 /// What RESTORE comes to that the state does not refuse: it is done. The catalog stays. After an error, which is a
 /// stop, nothing changed.
 #[tactic(auto, using(crate::proofs::Ids::restore_ids))]
-pub(crate) fn restore<D: Store>(
+pub(crate) fn restore<R: Threads + Sync, D: Store>(
+    rt: &R,
     alloc: Global,
+    channels: Option<u32>,
     state: &mut State,
     store: &mut D,
     file: Option<u64>,
     until: &Option<Until>,
 ) -> Result<Answer, Stop>
+    requires channels { IfSome channels (λ n. (1 ≤ n) × (n ≤ 16)) }
     requires sound { IsSound state.old }
     requires accepted { restore_refusal state.old file until.now ≡ None }
     ensures answer { IfOk result (λ a. IsAnswer (D.held store.old) state.old (Restore file until.now) a state.new) }
@@ -94,19 +97,23 @@ pub(crate) fn restore<D: Store>(
     ensures keeper { ¬ IsErrOf result KeeperFault }
     ensures never_falls { D.faults store.old ≤ D.faults store.new }
 {
-    match rm_step_recover::restore(alloc, state, store, file, until) {
+    let channels = channel_count(state, channels);
+    match rm_step_recover::restore(rt, alloc, channels, state, store, file, until) {
         Ok(handed) => Ok(Answer::Done(handed)),
         Err(fault) => Err(stop_of(fault)),
     }
 }
 
 /// What RESTORE PREVIEW comes to that the state does not refuse: it tells.
-pub(crate) fn preview<D: Store>(
+pub(crate) fn preview<R: Threads + Sync, D: Store>(
+    rt: &R,
     alloc: Global,
+    channels: Option<u32>,
     state: &State,
     store: &mut D,
     until: &Option<Until>,
 ) -> Result<Answer, Stop>
+    requires channels { IfSome channels (λ n. (1 ≤ n) × (n ≤ 16)) }
     requires sound { IsSound state.now }
     requires accepted { preview_refusal state.now until.now ≡ None }
     ensures answer { IfOk result (λ a. IsAnswer (D.held store.old) state.now (Preview until.now) a state.now) }
@@ -115,7 +122,8 @@ pub(crate) fn preview<D: Store>(
     ensures keeper { ¬ IsErrOf result KeeperFault }
     ensures never_falls { D.faults store.old ≤ D.faults store.new }
 {
-    match rm_step_recover::preview(alloc, state, store, until) {
+    let channels = channel_count(state, channels);
+    match rm_step_recover::preview(rt, alloc, channels, state, store, until) {
         Ok(lines) => Ok(Answer::Told(lines)),
         Err(fault) => Err(stop_of(fault)),
     }

@@ -1,5 +1,5 @@
 //! The statements that tell: of the state alone, and VALIDATE ALL, which looks at the objects of records.
-ghost use Rattle.std.specs.Prelude.{◌≡◌, Option, None, All, IfOk, ◌≤◌, IsErrOf};
+ghost use Rattle.std.specs.Prelude.{◌≡◌, Option, None, All, IfOk, IfSome, ◌≤◌, IsErrOf};
 ghost use Rattle.rm_base.specs.Store.{Held};
 ghost use Rattle.rm_machine.specs.Hands.{Tells};
 ghost use Rattle.rm_machine.specs.Nature.{nature_of};
@@ -12,6 +12,7 @@ ghost use Rattle.rm_base.specs.Outside.{Rose};
 ghost use Rattle.rm_commit.specs.declared.commit.Stop.TheVariants.{StoreFault, KeeperFault};
 ghost use Rattle.rm_lang_statement.specs.declared.command.Command.TheVariants.{ValidateAll};
 
+use crate::channels::channel_count;
 use crate::faults::stop_at;
 use crate::statement::Answer;
 use rm_base::{Class, NoMemory, Seq, Store};
@@ -23,6 +24,7 @@ use rm_step_tell::{
     dump, list, list_corruption, list_incarnation, report_schema, show_all, validate_all,
 };
 use std::alloc::Global;
+use std::thread::Threads;
 
 // The lines of a statement that tells of the state alone.
 fn lines_of(alloc: Global, state: &State, command: &Command) -> Result<Seq<Line>, NoMemory>
@@ -58,11 +60,14 @@ pub(crate) fn tell(alloc: Global, state: &State, command: &Command) -> Result<An
 }
 
 /// What VALIDATE ALL comes to: it tells. An error is a stop.
-pub(crate) fn validate<D: Store>(
+pub(crate) fn validate<R: Threads + Sync, D: Store>(
+    rt: &R,
     alloc: Global,
+    channels: Option<u32>,
     state: &State,
     store: &mut D,
 ) -> Result<Answer, Stop>
+    requires channels { IfSome channels (λ n. (1 ≤ n) × (n ≤ 16)) }
     requires sound { IsSound state.now }
     ensures answer { IfOk result (λ a. IsAnswer (D.held store.old) state.now ValidateAll a state.now) }
     ensures held { D.held store.new ≡ D.held store.old }
@@ -70,7 +75,8 @@ pub(crate) fn validate<D: Store>(
     ensures keeper { ¬ IsErrOf result KeeperFault }
     ensures never_falls { D.faults store.old ≤ D.faults store.new }
 {
-    match validate_all(alloc, state, store) {
+    let channels = channel_count(state, channels);
+    match validate_all(rt, alloc, channels, state, store) {
         Ok(lines) => Ok(Answer::Told(lines)),
         Err(fault) => Err(stop_at(fault)),
     }

@@ -8,14 +8,17 @@ ghost use Rattle.rm_machine.specs.State.{tree};
 ghost use Rattle.rm_catalog_typed.specs.TypedCatalog.{records_of};
 
 use rm_base::Store;
-use rm_evidence::{Evidence, EvidenceFault, gather};
+use rm_evidence::{Evidence, EvidenceFault, gather_by};
 use rm_machine::State;
 use rm_machine_code::hand::AtHand;
 use std::alloc::Global;
+use std::thread::Threads;
 
-/// What is at hand. Whatever the store tells, each artefact is valid, and each backup has the fields of its record.
-pub(crate) fn evidence_of<D: Store>(
+/// What is at hand, read by so many channels. Whatever the store tells, each artefact is valid, and each backup has the fields of its record.
+pub(crate) fn evidence_of<R: Threads + Sync, D: Store>(
+    rt: &R,
     alloc: Global,
+    channels: u32,
     state: &State,
     store: &mut D,
     hand: &AtHand,
@@ -31,5 +34,5 @@ pub(crate) fn evidence_of<D: Store>(
     ensures failed { IsErrOf result EvidenceFault.StoreFault → Rose (D.faults store.old) (D.faults store.new) }
     ensures never_falls { D.faults store.old ≤ D.faults store.new }
 {
-    gather(alloc, &hand.records, store, &hand.place)
+    gather_by(rt, alloc, &hand.records, store, &hand.place, channels)
 }

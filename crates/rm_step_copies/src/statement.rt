@@ -23,15 +23,19 @@ use rm_machine_code::hand::at_hand;
 use rm_machine_code::replies::skipped_lines;
 use rm_machine_code::until::recover_target;
 use std::alloc::Global;
+use std::thread::Threads;
 
 /// RECOVER COPY, which the state alone does not refuse. A line tells each record of an image copy or a level 1 with
 /// the tag that counts as available but whose object is missing or damaged. The copies that are taken take over the
 /// level 1s with the tag up to the target, ascending by datafile: one that changed gets a record and an object under
 /// the next id, in place of its own, and a line tells its checkpoint; then lines tell the level 1s that start above
 /// it. Where so many bytes or ids are not left it is refused (RM-11), and nothing changed. An error is a fault of the
-/// store, which is counted, or want of memory; then nothing is said of the state and the edits.
-pub fn recover_copy<D: Store>(
+/// store, which is counted, or want of memory; then nothing is said of the state and the edits. The objects are read
+/// by so many channels; each number gives the same.
+pub fn recover_copy<R: Threads + Sync, D: Store>(
+    rt: &R,
     alloc: Global,
+    channels: u32,
     state: &mut State,
     store: &mut D,
     edits: &mut Vec<Edit>,
@@ -56,7 +60,7 @@ pub fn recover_copy<D: Store>(
         unreachable!()
     };
     let hand = at_hand(alloc, state)?;
-    let evidence = evidence_of(alloc, state, store, &hand)?;
+    let evidence = evidence_of(rt, alloc, channels, state, store, &hand)?;
     let made = renewals(alloc, state, &hand.records, &evidence, tag, at)?;
     let copies = made.as_slice();
     if let Some(refusal) = renewed_refusal(state, copies) {

@@ -21,6 +21,7 @@ use rm_machine_code::until::{nowhere_refusal, range_refusal, recover_target, thr
 use rm_plan::Gap;
 use rm_report::Line;
 use std::alloc::Global;
+use std::thread::Threads;
 
 /// Why PREVIEW is refused by the state alone, if it is: the redo thread of its UNTIL is not there (RM-05), the target is out of
 /// the range of the current incarnation (RM-06), or its UNTIL leads to no target (RM-12, RM-14).
@@ -77,9 +78,12 @@ fn lines_of(
 
 /// RESTORE DATABASE PREVIEW, which the state alone does not refuse: tells of each datafile that exists at the
 /// target from where it would be restored, and whether a recovery would come there, or else its first gap.
-/// Nothing changes. An error is a fault of the store, which is counted, or want of memory.
-pub fn preview<D: Store>(
+/// Nothing changes. An error is a fault of the store, which is counted, or want of memory. The objects are read by so
+/// many channels; each number gives the same.
+pub fn preview<R: Threads + Sync, D: Store>(
+    rt: &R,
     alloc: Global,
+    channels: u32,
     state: &State,
     store: &mut D,
     until: &Option<Until>,
@@ -98,12 +102,14 @@ pub fn preview<D: Store>(
     let hand = at_hand(alloc, state)?;
     let current = state.catalog.base().current;
     let (origins, gap, skipped) = match rm_apply::preview(
+        rt,
         alloc,
         &hand.records,
         store,
         &hand.place,
         current,
         at,
+        channels,
     ) {
         Ok(told) => told,
         Err(fault) => return Err(fault_of(fault)),

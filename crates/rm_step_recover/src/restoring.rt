@@ -27,6 +27,7 @@ use rm_machine_code::room::ids_refusal;
 use rm_machine_code::until::{nowhere_refusal, range_refusal, recover_target, thread_refusal};
 use rm_report::Line;
 use std::alloc::Global;
+use std::thread::Threads;
 
 // The datafile that is named does not exist at the target.
 fn absent_refusal(state: &State, at: Scn, file: Option<u64>) -> Option<Refusal>
@@ -86,8 +87,10 @@ fn named(file: Option<u64>) -> Option<FileNo>
 }
 
 // The datafiles of the target, or the one that is named, by what is at hand.
-fn from_backups<D: Store>(
+fn from_backups<R: Threads + Sync, D: Store>(
+    rt: &R,
     alloc: Global,
+    channels: u32,
     state: &State,
     store: &mut D,
     at: Scn,
@@ -101,8 +104,11 @@ fn from_backups<D: Store>(
     ensures never_falls { D.faults store.old ≤ D.faults store.new }
 {
     let hand = at_hand(alloc, state)?;
+    let (records, place) = (&hand.records, &hand.place);
     let current = state.catalog.base().current;
-    match rm_apply::restore(alloc, &hand.records, store, &hand.place, current, at, file) {
+    match rm_apply::restore(
+        rt, alloc, records, store, place, current, at, file, channels,
+    ) {
         Ok(back) => Ok(back),
         Err(fault) => Err(fault_of(fault)),
     }
@@ -128,9 +134,11 @@ fn lines_of(alloc: Global, back: &Recovered, origins: &[Origin]) -> Result<Seq<L
 /// RESTORE, which the state alone does not refuse: each datafile that exists at the target, or the one that is
 /// named, comes to stand in place as its chosen backup has it, or else as it was created; the database stands at
 /// no point then. The catalog stays. An error is a fault of the store, which is counted, or want of memory; then
-/// nothing changed.
-pub fn restore<D: Store>(
+/// nothing changed. The objects are read by so many channels; each number gives the same.
+pub fn restore<R: Threads + Sync, D: Store>(
+    rt: &R,
     alloc: Global,
+    channels: u32,
     state: &mut State,
     store: &mut D,
     file: Option<u64>,
@@ -150,7 +158,7 @@ pub fn restore<D: Store>(
     let Some(at) = recover_target(state, until) else {
         unreachable!()
     };
-    let (back, origins) = from_backups(alloc, state, store, at, named(file))?;
+    let (back, origins) = from_backups(rt, alloc, channels, state, store, at, named(file))?;
     let lines = lines_of(alloc, &back, origins.as_slice())?;
     put_in_place(alloc, state, back.files, None);
     Ok(of_lines(alloc, lines))

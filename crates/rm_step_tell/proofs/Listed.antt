@@ -1,14 +1,13 @@
 -- The list of a class: the lines of each record of it, by ascending ids.
-use Rattle.std.proofs.Common.{◌≡◌, ◌∙◌, ℕ, List, [], ◌∷◌, Option, Some, All, Contains, get_or, map, refl, ap, sym, subst}
+use Rattle.std.proofs.Common.{◌≡◌, ◌∙◌, ℕ, List, [], ◌∷◌, Option, Some, All, Contains, refl, ap, sym, subst}
 use Rattle.std.specs.List.{flat_map}
 use Rattle.std.specs.Option.{option_map}
-use Rattle.std.proofs.lemmas.List.Elements.{All-append, All-cons, All-map, All-nil, Contains-get_or}
+use Rattle.std.proofs.lemmas.List.Elements.{All-append, All-cons, All-map, All-nil}
 use Rattle.std.proofs.lemmas.Option.{same_Some}
 use Rattle.rm_base.proofs.Members.{behind, in-front}
 use Rattle.rm_base.specs.declared.kinds.Class.{Class}
 use Rattle.rm_catalog.specs.declared.record.Record.{Record}
 use Rattle.rm_catalog.specs.declared.record.Record.TheVariants.{Log, Piece, Set}
-use Rattle.rm_catalog.specs.declared.record.SetPart.{SetPart}
 use Rattle.rm_evidence.specs.Gathered.{Lists}
 use Rattle.rm_evidence.specs.Names.{object_id}
 use Rattle.rm_evidence.proofs.Single.{IsOfOne}

@@ -15,6 +15,7 @@ use rm_machine_code::recorded::records_of;
 use rm_report::Line;
 use rm_verify::{VerifyFault, validate};
 use std::alloc::Global;
+use std::thread::Threads;
 
 // Whether a record of this status counts as available.
 fn is_available(status: Status) -> bool
@@ -56,10 +57,12 @@ fn lines_of(alloc: Global, bad: &[(u32, Bad)]) -> Result<Seq<Line>, NoMemory>
 }
 
 /// VALIDATE ALL: of the records of logs, pieces and sets that count as available, those whose objects are missing or damaged,
-/// ascending by id, and how many were looked at. Each object is read and let go before the next; nothing changes. An
-/// error is a fault of the store, which is counted, or want of memory.
-pub fn validate_all<D: Store>(
+/// ascending by id, and how many were looked at. The objects are read and let go by so many channels, which hold as many at a
+/// time; each number gives the same, and nothing changes. An error is a fault of the store, which is counted, or want of memory.
+pub fn validate_all<R: Threads + Sync, D: Store>(
+    rt: &R,
     alloc: Global,
+    channels: u32,
     state: &State,
     store: &mut D,
 ) -> Result<Seq<Line>, VerifyFault>
@@ -71,7 +74,7 @@ pub fn validate_all<D: Store>(
     ensures never_falls { D.faults store.old ≤ D.faults store.new }
 {
     let records = records_of(alloc, state)?;
-    let bad = validate(alloc, &records, store)?;
+    let bad = validate(rt, alloc, &records, store, channels)?;
     let mut lines = lines_of(alloc, bad.as_slice())?;
     lines.push(Line::Checked {
         count: count_available(state),
