@@ -3,15 +3,16 @@ pub mod Backed
 pub mod Begins
 pub mod Copying
 pub mod Counted
+mod FilesRead
+mod Filled
 pub mod Forms
 pub mod Gone
 pub mod Increments
 pub mod LogBackups
+mod NextMade
 mod Objects
-mod PieceLoops
 pub mod Ran
 pub mod Room
-mod SetLoops
 mod SetMembers
 pub mod Taken
 pub mod Takes

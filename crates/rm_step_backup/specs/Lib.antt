@@ -1,7 +1,7 @@
 pub mod Begins
 pub mod Copying
 pub mod Increments
-pub mod Left
 pub mod Logs
+pub mod Making
 pub mod Recorded
 pub mod Running

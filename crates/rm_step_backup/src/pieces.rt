@@ -1,29 +1,29 @@
-//! The piece of a datafile, its record, its object and its line.
-ghost use Rattle.std.specs.Prelude.{◌≡◌, ◌<◌, ◌≤◌, ◌∷◌, ◌++◌, [], IfOk, OnOk};
+//! The piece of a datafile, its record, its bytes and what is told of it.
+ghost use Rattle.std.specs.Prelude.{◌≡◌, ◌<◌, ◌≤◌, IfOk};
 ghost use Rattle.std.specs.Option.{option_copied};
 ghost use Rattle.rm_base.specs.Numbers.{last_moment};
 ghost use Rattle.rm_history.specs.World.{blocks_of};
-ghost use Rattle.rm_machine.specs.MadePieces.{after_piece, entry_for, line_for, object_for, piece_by};
+ghost use Rattle.rm_machine.specs.MadePieces.{piece_by};
 ghost use Rattle.rm_machine.specs.Backup.{IsTagBy, is_copy, kind_by, named_tag, piece_entry, rows_from, rows_in};
 ghost use Rattle.rm_machine.specs.Lists.{packing_by, shape_by};
 ghost use Rattle.rm_machine.specs.Sound.{IsSound};
 ghost use Rattle.rm_machine.specs.State.{ledger, world};
 ghost use Rattle.rm_piece.specs.Spelling.{spelling};
 ghost use Rattle.rm_piece.specs.Valid.{IsPiece};
-ghost use Rattle.rm_catalog_typed.specs.Changes.{EditsFollow};
-ghost use Rattle.rm_catalog_typed.specs.Fitting.{FitsNewPiece};
+ghost use Rattle.rm_step_backup.specs.Making.{made_by, told_alone};
+ghost use Rattle.rm_step_backup.specs.declared.reading.Read.TheVariants.{OfOne};
 ghost use Rattle.sha2.specs.Sha256.{sha256};
 
+use crate::making::{Entry, Made, Told};
+use crate::reading::FileRead;
 use rm_base::sealed::Encoded;
 use rm_base::{FileNo, Kind, Moment, NoMemory, Row, Scn, Seq, Status, Text};
-use rm_catalog::{Edit, PieceEntry};
-use rm_commit::Object;
-use rm_evidence::piece_name;
+use rm_catalog::PieceEntry;
 use rm_lang_statement::BackupForm;
-use rm_machine::{Handed, Job, State};
-use rm_machine_code::facts::{now, placed};
+use rm_machine::{Job, State};
+use rm_machine_code::facts::placed;
 use rm_piece::{Piece, encode_piece_with_digest, high_of, pick};
-use rm_report::{Line, Packing, Shape};
+use rm_report::{Packing, Shape};
 use std::alloc::Global;
 
 // What the backup makes of a datafile that begins here.
@@ -183,14 +183,13 @@ fn entry_of(
     })
 }
 
-// The line of a piece under the next id, for which so many blocks were read.
-fn piece_line(state: &State, copy: bool, piece: &Piece, reads: u64) -> Line
+// What is told of a piece, for which so many blocks were read.
+fn told_piece(copy: bool, piece: &Piece, reads: u64) -> Told
     requires valid { IsPiece piece.now }
-    ensures { result ≡ line_for state.now (record { copy = copy; piece = piece.now; reads = reads }) }
+    ensures { result ≡ told_alone (record { copy = copy; piece = piece.now; reads = reads }) }
 {
-    Line::BackedUp {
+    Told {
         packing: packing_by(copy),
-        id: state.catalog.base().next_id,
         file: piece.file,
         shape: shape_by(piece.kind, piece.from),
         checkpoint: piece.checkpoint,
@@ -199,35 +198,30 @@ fn piece_line(state: &State, copy: bool, piece: &Piece, reads: u64) -> Line
     }
 }
 
-/// Records a piece under the next id, for which so many blocks were read, and adds its object and its line. Without memory
-/// nothing is said of the state, the edits and what is handed out.
-pub(crate) fn record_piece(
+/// The piece or the image copy of a datafile that was read, with its record and its bytes. Its rows are let go. An error is
+/// want of memory.
+pub(crate) fn make_piece(
     alloc: Global,
-    state: &mut State,
-    edits: &mut Vec<Edit>,
-    handed: &mut Handed,
+    state: &State,
     form: &BackupForm,
     tag: &Text,
-    copy: bool,
-    piece: &Piece,
-    reads: u64,
-) -> Result<(), NoMemory>
-    requires sound { IsSound state.old }
-    requires valid { IsPiece piece.now }
-    requires fits { FitsNewPiece state.old.catalog (entry_for state.old form.now tag.now copy piece.now) }
-    ensures after { OnOk result (state.new ≡ after_piece state.old form.now tag.now copy piece.now) }
-    ensures edits { OnOk result (EditsFollow edits.old.items edits.new.items state.old.catalog state.new.catalog) }
-    ensures lines { OnOk result (handed.new.lines ≡ handed.old.lines ++ line_for state.old (record { copy = copy; piece = piece.now; reads = reads }) ∷ []) }
-    ensures objects { OnOk result (handed.new.objects ≡ handed.old.objects ++ object_for state.old copy piece.now ∷ []) }
-    ensures removes { OnOk result (handed.new.removes ≡ handed.old.removes) }
+    checkpoint: Scn,
+    file: FileRead,
+) -> Result<Made, NoMemory>
+    requires valid { IsPiece (piece_by (ledger state.now) form.now checkpoint file.job file.rows) }
+    ensures { IfOk result (λ made. made ≡ made_by state.now form.now tag.now checkpoint (OfOne file)) }
 {
-    let encoded = encode_piece_with_digest(alloc, piece)?;
-    let entry = entry_of(alloc, state, form, tag, copy, piece, &encoded)?;
-    let object = Object {
-        name: piece_name(alloc, copy, entry.id)?,
+    let FileRead { job, rows } = file;
+    let reads = rows.len() as u64;
+    let copy = is_copy(form, job);
+    let piece = piece_of(alloc, state, form, job, checkpoint, rows)?;
+    let encoded = encode_piece_with_digest(alloc, &piece)?;
+    let entry = entry_of(alloc, state, form, tag, copy, &piece, &encoded)?;
+    let mut told = Seq::new(alloc);
+    told.push(told_piece(copy, &piece, reads))?;
+    Ok(Made {
+        entry: Entry::OfPiece(entry),
+        told,
         bytes: encoded.bytes,
-    };
-    handed.lines.push(piece_line(state, copy, piece, reads))?;
-    handed.objects.push(object)?;
-    state.catalog.add_piece(alloc, edits, entry)
+    })
 }

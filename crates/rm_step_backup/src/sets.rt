@@ -1,31 +1,27 @@
-//! A backup set of datafiles, its record, its object and its lines.
-ghost use Rattle.std.specs.Prelude.{◌≡◌, ◌<◌, ◌≤◌, ◌+◌, ◌∷◌, ◌++◌, [], All, IfOk, OnOk, drop, length, map};
-ghost use Rattle.std.specs.Vec.Iter.{into_iter_items, into_iter_len};
-ghost use Rattle.rm_catalog_typed.specs.Changes.{EditsFollow};
-ghost use Rattle.rm_catalog_typed.specs.Fitting.{FitsNewSet};
+//! A backup set of datafiles, its record, its bytes and what is told of it.
+ghost use Rattle.std.specs.Prelude.{◌≡◌, ◌<◌, ◌++◌, All, IfOk, OnOk, length, map};
 ghost use Rattle.rm_history.specs.World.{creation_of};
 ghost use Rattle.rm_machine.specs.Backup.{part_of};
-ghost use Rattle.rm_machine.specs.MadeSets.{after_set, member_by, member_line, set_entry_for, set_object, set_of};
-ghost use Rattle.rm_machine.specs.Sound.{IsSound};
+ghost use Rattle.rm_machine.specs.MadeSets.{member_by, set_entry_for, set_of};
 ghost use Rattle.rm_machine.specs.State.{ledger, world};
 ghost use Rattle.rm_piece.specs.SetSpelling.{set_spelling, spelled};
 ghost use Rattle.rm_piece.specs.Sets.{IsSet};
 ghost use Rattle.rm_piece.specs.Valid.{IsPiece};
-ghost use Rattle.rm_step_backup.specs.Left.{members_of};
+ghost use Rattle.rm_step_backup.specs.Making.{made_by, member_of, told_member};
+ghost use Rattle.rm_step_backup.specs.declared.reading.Read.TheVariants.{OfSeveral};
 ghost use Rattle.sha2.specs.Sha256.{sha256};
 
+use crate::making::{Entry, Made, Told};
 use crate::pieces::{copied, piece_of, shape_by};
+use crate::reading::FileRead;
 use rm_base::sealed::Encoded;
 use rm_base::{FileNo, NoMemory, Row, Scn, Seq, Status, Text};
-use rm_catalog::{Edit, SetEntry, SetPart};
-use rm_commit::Object;
-use rm_evidence::set_name;
+use rm_catalog::{SetEntry, SetPart};
 use rm_lang_statement::BackupForm;
-use rm_machine::{Handed, Job, State};
+use rm_machine::{Job, State};
 use rm_piece::{Set, SetFile, count_written, encode_set_with_digest, risen_rows};
-use rm_report::{Line, Packing};
+use rm_report::Packing;
 use std::alloc::Global;
-use std::vec::IntoIter;
 
 // The SCN at which a datafile was created.
 fn creation_of(state: &State, file: FileNo) -> Scn
@@ -62,15 +58,14 @@ fn spelled_rows(member: &SetFile) -> u32
     count_written(member.piece.rows.as_slice(), member.creation) as u32
 }
 
-// The line of a member of a set under the next id, for which so many blocks were read.
-fn member_line(state: &State, member: &SetFile, reads: u64) -> Line
+// What is told of a member of a set, for which so many blocks were read.
+fn told_member(member: &SetFile, reads: u64) -> Told
     requires valid { IsPiece member.now.piece }
-    ensures { result ≡ member_line state.now (record { member = member.now; reads = reads }) }
+    ensures { result ≡ told_member (record { member = member.now; reads = reads }) }
 {
     let piece = &member.piece;
-    Line::BackedUp {
+    Told {
         packing: Packing::Set,
-        id: state.catalog.base().next_id,
         file: piece.file,
         shape: shape_by(piece.kind, piece.from),
         checkpoint: piece.checkpoint,
@@ -79,30 +74,24 @@ fn member_line(state: &State, member: &SetFile, reads: u64) -> Line
     }
 }
 
-// The members of these datafiles, of which the next lists of rows were read. Their lines are added.
+// The members of datafiles that were read. What is told of them is added.
 fn members_of(
     alloc: Global,
     state: &State,
-    lines: &mut Seq<Line>,
+    told: &mut Seq<Told>,
     form: &BackupForm,
     checkpoint: Scn,
-    jobs: &[Job],
-    rows: &mut IntoIter<Vec<Row>>,
+    files: Vec<FileRead>,
 ) -> Result<Seq<SetFile>, NoMemory>
-    requires many { length jobs.now ≤ into_iter_len rows.old }
-    requires valid { All (λ x. IsPiece x.member.piece) (members_of state.now form.now checkpoint jobs.now (into_iter_items rows.old)) }
-    ensures members { IfOk result (λ members. members ≡ map (λ x. x.member) (members_of state.now form.now checkpoint jobs.now (into_iter_items rows.old))) }
-    ensures lines { OnOk result (lines.new ≡ lines.old ++ map (member_line state.now) (members_of state.now form.now checkpoint jobs.now (into_iter_items rows.old))) }
-    ensures rest { OnOk result (into_iter_items rows.new ≡ drop (length jobs.now) (into_iter_items rows.old)) }
-    ensures left { OnOk result (into_iter_len rows.new + length jobs.now ≡ into_iter_len rows.old) }
+    requires valid { All (λ x. IsPiece x.member.piece) (map (member_of (ledger state.now) form.now checkpoint) files.items) }
+    ensures members { IfOk result (λ members. members ≡ map (λ x. x.member) (map (member_of (ledger state.now) form.now checkpoint) files.items)) }
+    ensures told { OnOk result (told.new ≡ told.old ++ map told_member (map (member_of (ledger state.now) form.now checkpoint) files.items)) }
 {
     let mut members = Seq::new(alloc);
-    for job in jobs {
-        let Some(read) = rows.next() else {
-            break;
-        };
-        let member = member_of(alloc, state, form, *job, checkpoint, &read)?;
-        lines.push(member_line(state, &member, read.len() as u64))?;
+    for file in files {
+        let rows = file.rows.as_slice();
+        let member = member_of(alloc, state, form, file.job, checkpoint, rows)?;
+        told.push(told_member(&member, rows.len() as u64))?;
         members.push(member)?;
     }
     Ok(members)
@@ -164,33 +153,21 @@ fn entry_of(
     })
 }
 
-/// Records a set of these datafiles under the next id, of which the next lists of rows were read, and adds its object and
-/// a line for each of them. Without memory nothing is said of the state, the edits, what is handed out and the rows.
-pub(crate) fn record_set(
+/// The set of datafiles that were read, with its record and its bytes. Their rows are let go. An error is want of memory.
+pub(crate) fn make_set(
     alloc: Global,
-    state: &mut State,
-    edits: &mut Vec<Edit>,
-    handed: &mut Handed,
+    state: &State,
     form: &BackupForm,
     tag: &Text,
     checkpoint: Scn,
-    jobs: &[Job],
-    rows: &mut IntoIter<Vec<Row>>,
-) -> Result<(), NoMemory>
-    requires sound { IsSound state.old }
-    requires many { length jobs.now ≤ into_iter_len rows.old }
-    requires valid { IsSet (set_of (ledger state.old) checkpoint (members_of state.old form.now checkpoint jobs.now (into_iter_items rows.old))) }
-    requires fits { FitsNewSet state.old.catalog (set_entry_for state.old form.now tag.now (set_of (ledger state.old) checkpoint (members_of state.old form.now checkpoint jobs.now (into_iter_items rows.old)))) }
-    ensures after { OnOk result (state.new ≡ after_set state.old form.now tag.now (set_of (ledger state.old) checkpoint (members_of state.old form.now checkpoint jobs.now (into_iter_items rows.old)))) }
-    ensures edits { OnOk result (EditsFollow edits.old.items edits.new.items state.old.catalog state.new.catalog) }
-    ensures lines { OnOk result (handed.new.lines ≡ handed.old.lines ++ map (member_line state.old) (members_of state.old form.now checkpoint jobs.now (into_iter_items rows.old))) }
-    ensures objects { OnOk result (handed.new.objects ≡ handed.old.objects ++ set_object state.old (set_of (ledger state.old) checkpoint (members_of state.old form.now checkpoint jobs.now (into_iter_items rows.old))) ∷ []) }
-    ensures removes { OnOk result (handed.new.removes ≡ handed.old.removes) }
-    ensures rest { OnOk result (into_iter_items rows.new ≡ drop (length jobs.now) (into_iter_items rows.old)) }
-    ensures left { OnOk result (into_iter_len rows.new + length jobs.now ≡ into_iter_len rows.old) }
+    files: Seq<FileRead>,
+) -> Result<Made, NoMemory>
+    requires valid { IsSet (set_of (ledger state.now) checkpoint (map (member_of (ledger state.now) form.now checkpoint) files)) }
+    ensures { IfOk result (λ made. made ≡ made_by state.now form.now tag.now checkpoint (OfSeveral files)) }
 {
-    let lines = &mut handed.lines;
-    let members = members_of(alloc, state, lines, form, checkpoint, jobs, rows)?;
+    let files = files.into_vec();
+    let mut told = Seq::new(alloc);
+    let members = members_of(alloc, state, &mut told, form, checkpoint, files)?;
     let base = state.catalog.base();
     let set = Set {
         dbid: base.dbid,
@@ -200,10 +177,9 @@ pub(crate) fn record_set(
     };
     let encoded = encode_set_with_digest(alloc, &set)?;
     let entry = entry_of(alloc, state, form, tag, &set, &encoded)?;
-    let object = Object {
-        name: set_name(alloc, entry.id)?,
+    Ok(Made {
+        entry: Entry::OfSet(entry),
+        told,
         bytes: encoded.bytes,
-    };
-    handed.objects.push(object)?;
-    state.catalog.add_set(alloc, edits, entry)
+    })
 }

@@ -118,7 +118,9 @@ fn tell_none(lines: &mut Seq<Line>) -> Result<(), NoMemory>
 /// BACKUP of datafiles, full, of level 0 or of level 1, while the database writes: by so many channels, 1 to 16, which call the
 /// gate before each section, and a writer for each thread. Each block that is wanted of each datafile is read once, in a turn of its
 /// own, and each write of the DURING is made once, those of a thread in their order; how their turns interleave is free. The
-/// pieces and sets have `now` at the start as their checkpoint. An error is want of memory; then nothing is said of the state
+/// pieces and sets have `now` at the start as their checkpoint. They are made side by side, as many at a time as there are
+/// channels, and recorded in their order: each number of channels gives the same. What is held in memory are the rows of
+/// those that are still to be made, and the bytes of the others. An error is want of memory; then nothing is said of the state
 /// and the edits.
 pub fn backup<G: Gate, R: Threads + Wait + Sync>(
     rt: &R,
@@ -152,7 +154,9 @@ pub fn backup<G: Gate, R: Threads + Wait + Sync>(
         removes: Seq::new(alloc),
     };
     let to = &mut handed;
-    record_all(alloc, state, edits, to, form, &tag, checkpoint, jobs, rows)?;
+    record_all(
+        rt, alloc, channels, state, edits, to, form, &tag, checkpoint, jobs, rows,
+    )?;
     tell_none(&mut handed.lines)?;
     tell_writes(&mut handed.lines, scns.as_slice())?;
     Ok(handed)

@@ -1,38 +1,40 @@
-use Rattle.std.proofs.Common.{◌≡◌, ◌∙◌, ◌++◌, ◌∷◌, [], None, ap, arith, length, sym, subst}
+use Rattle.std.proofs.Common.{◌∙◌, ◌++◌, ◌∷◌, [], List, ap, length, map, subst, sym}
 use Rattle.std.specs.Vec.Iter.{into_iter_items}
-use Rattle.rm_piece.specs.declared.set.SetFile.{SetFile}
+use Rattle.rm_base.specs.declared.block.Row.{Row}
 use Rattle.rm_piece.specs.Valid.{IsPiece}
-use Rattle.rm_report.specs.declared.line.Line.{Line}
-use Rattle.rm_machine.specs.declared.job.Job.{Job}
-use Rattle.rm_step_backup.specs.Left.{members_of}
-use Rattle.rm_step_backup.proofs.SetMembers.{drop-next, made-next, valid-here}
+use Rattle.rm_piece.specs.declared.set.SetFile.{SetFile}
+use Rattle.rm_machine.specs.MadeSets.{InSet, member_by}
+use Rattle.rm_machine.specs.State.{ledger}
+use Rattle.rm_step_backup.specs.Making.{member_of}
+use Rattle.rm_step_backup.specs.declared.making.Told.{Told}
+use Rattle.rm_step_backup.specs.declared.reading.FileRead.{FileRead}
+use Rattle.rm_step_backup.proofs.SetMembers.{made-next, valid-here}
 use Rattle.rm_step_backup.proofs.sets.members_of.Goals as goal
 
-abbrev no_job : Job
-no_job = record { file = 0; from = None }
-
 pub member_of-requires : goal.member_of-requires
-member_of-requires c = record {
-  valid = valid-here c.args.state.now c.args.form.now c.args.checkpoint c.args.jobs.now c.loop-job.job-index no_job c.loop-job-test.true (members_of c.args.state.now c.args.form.now c.args.checkpoint c.args.jobs.now (into_iter_items c.args.rows.now))
-      c.in-Some.read (into_iter_items c.next.new.self) (into_iter_items c.loop-job.rows) c.in-Some.ensures.items c.loop-job.members c.args.lines.now c.loop-job.lines c.loop-job.invariant.way c.deref.result.now c.deref.ensures.value;
-}
-
-pub member_line-requires : goal.member_line-requires
-member_line-requires c = record {
-  valid = subst (λ (m : SetFile). IsPiece m.piece) (sym c.in_ok-member.ensures)
-      (valid-here c.args.state.now c.args.form.now c.args.checkpoint c.args.jobs.now c.loop-job.job-index no_job c.loop-job-test.true (members_of c.args.state.now c.args.form.now c.args.checkpoint c.args.jobs.now (into_iter_items c.args.rows.now))
-      c.in-Some.read (into_iter_items c.next.new.self) (into_iter_items c.loop-job.rows) c.in-Some.ensures.items c.loop-job.members c.args.lines.now c.loop-job.lines c.loop-job.invariant.way c.deref.result.now c.deref.ensures.value);
-}
-
-pub loop-job-preserved : goal.loop-job-preserved
-loop-job-preserved c =
-    let was = c.loop-job.invariant in
-    let many : c.len.result ≡ length c.in-Some.read.items = omega (arith, c.len.ensures, c.in-Some.read.ok.0) in
-    let told = ap (λ (l : Line). c.loop-job.lines ++ l ∷ []) c.member_line.ensures in
+member_of-requires c =
+    let f : FileRead → InSet = member_of (ledger c.args.state.now) c.args.form.now c.args.checkpoint in
     record {
-      way = made-next c.args.state.now c.args.form.now c.args.checkpoint c.args.jobs.now c.loop-job.job-index no_job c.loop-job-test.true (members_of c.args.state.now c.args.form.now c.args.checkpoint c.args.jobs.now (into_iter_items c.args.rows.now))
-          c.in-Some.read (into_iter_items c.next.new.self) (into_iter_items c.loop-job.rows) c.in-Some.ensures.items c.loop-job.members c.args.lines.now c.loop-job.lines was.way c.deref.result.now c.deref.ensures.value
-          c.in_ok-member.member c.in_ok-member.ensures c.len.result many c.push-in-loop-job.new.self c.push.new.self c.in_ok-push-2.ensures.ok (c.in_ok-push.ensures.ok ∙ told);
-      rest = drop-next c.loop-job.job-index (into_iter_items c.args.rows.now) c.in-Some.read (into_iter_items c.next.new.self) (sym was.rest ∙ c.in-Some.ensures.items);
-      left = let left = was.left in let steps = c.in-Some.ensures.cases in omega (arith, left, steps.1);
+      valid = subst (λ (rs : List Row). IsPiece (member_by (ledger c.args.state.now) c.args.form.now c.args.checkpoint c.in-Some.file.job rs).piece) (sym c.as_slice-rows.ensures)
+          (valid-here (map f (into_iter_items c.into_iter-file-iterator.result)) (f c.in-Some.file) (map f (into_iter_items c.next.new.self)) (map f (into_iter_items c.loop-file.file-iterator))
+          (ap (map f) c.in-Some.ensures.steps.0) c.loop-file.members c.args.told.now c.loop-file.told c.loop-file.invariant);
     }
+
+pub told_member-requires : goal.told_member-requires
+told_member-requires c =
+    let f : FileRead → InSet = member_of (ledger c.args.state.now) c.args.form.now c.args.checkpoint in
+    let m : FileRead → List Row → SetFile = λ r rs. member_by (ledger c.args.state.now) c.args.form.now c.args.checkpoint r.job rs in
+    record {
+      valid = subst (λ (m : SetFile). IsPiece m.piece) (sym (c.in_ok-member.ensures ∙ ap (m c.in-Some.file) c.as_slice-rows.ensures))
+          (valid-here (map f (into_iter_items c.into_iter-file-iterator.result)) (f c.in-Some.file) (map f (into_iter_items c.next.new.self)) (map f (into_iter_items c.loop-file.file-iterator))
+          (ap (map f) c.in-Some.ensures.steps.0) c.loop-file.members c.args.told.now c.loop-file.told c.loop-file.invariant);
+    }
+
+pub loop-file-preserved : goal.loop-file-preserved
+loop-file-preserved c =
+    let f : FileRead → InSet = member_of (ledger c.args.state.now) c.args.form.now c.args.checkpoint in
+    let m : FileRead → List Row → SetFile = λ r rs. member_by (ledger c.args.state.now) c.args.form.now c.args.checkpoint r.job rs in
+    made-next (map f (into_iter_items c.into_iter-file-iterator.result)) (f c.in-Some.file) (map f (into_iter_items c.next.new.self)) (map f (into_iter_items c.loop-file.file-iterator))
+    (ap (map f) c.in-Some.ensures.steps.0) c.loop-file.members c.args.told.now c.loop-file.told c.loop-file.invariant
+    c.in_ok-member.member (c.in_ok-member.ensures ∙ ap (m c.in-Some.file) c.as_slice-rows.ensures) (length c.as_slice-rows.result.now) (ap (λ (rs : List Row). length rs) c.as_slice-rows.ensures) c.push-in-loop-file.new.self c.push.new.self
+    c.in_ok-push-2.ensures.ok (c.in_ok-push.ensures.ok ∙ ap (λ (t : Told). c.loop-file.told ++ t ∷ []) c.told_member.ensures)

@@ -15,22 +15,22 @@ pub run-requires-clause-jobs : goal.run-requires-clause-jobs
 run-requires-clause-jobs g c κs within = coe 1 0 (i. AreJobs c.args.state.now c.args.form.now (c.as_slice-jobs.ensures.value i)) c.in_ok-made.ensures
 
 pub record_all-requires-clause-sound : goal.record_all-requires-clause-sound
-record_all-requires-clause-sound g c =
+record_all-requires-clause-sound g c κs within =
     let by : IsTagBy (named_tag c.args.form.now) c.args.state.now.catalog.ledger.base.moment c.in_ok-tag.tag = search rules in
     let are = coe 1 0 (i. AreJobs c.args.state.now c.args.form.now (c.as_slice-jobs.ensures.value i)) c.in_ok-made.ensures in
     ran-sound c.args.state.now c.args.form.now c.requires.sound c.requires.statement c.requires.accepted c.in_ok-tag.tag by c.as_slice-jobs.result.now are c.run.new.state c.in_ok-work.work c.in_ok-work.ensures.ran
 
 pub record_all-requires-clause-some : goal.record_all-requires-clause-some
-record_all-requires-clause-some g c = per_set-some c.args.form.now c.requires.statement.0
+record_all-requires-clause-some g c κs within = per_set-some c.args.form.now c.requires.statement.0
 
 pub record_all-requires-clause-many : goal.record_all-requires-clause-many
-record_all-requires-clause-many g c =
+record_all-requires-clause-many g c κs within =
     let by : IsTagBy (named_tag c.args.form.now) c.args.state.now.catalog.ledger.base.moment c.in_ok-tag.tag = search rules in
     let are = coe 1 0 (i. AreJobs c.args.state.now c.args.form.now (c.as_slice-jobs.ensures.value i)) c.in_ok-made.ensures in
     rows-many c.args.state.now c.args.form.now c.requires.sound c.requires.statement c.requires.accepted c.in_ok-tag.tag by c.as_slice-jobs.result.now are c.run.new.state c.in_ok-work.work c.in_ok-work.ensures.ran
 
 pub record_all-requires-clause-can : goal.record_all-requires-clause-can
-record_all-requires-clause-can g c =
+record_all-requires-clause-can g c κs within =
     let t = c.run.new.state in
     let by : IsTagBy (named_tag c.args.form.now) c.args.state.now.catalog.ledger.base.moment c.in_ok-tag.tag = search rules in
     let are = coe 1 0 (i. AreJobs c.args.state.now c.args.form.now (c.as_slice-jobs.ensures.value i)) c.in_ok-made.ensures in
