@@ -3,11 +3,13 @@ pub mod Calls
 pub mod Closing
 pub mod Coming
 pub mod Drilling
+pub mod Leaving
 pub mod Lines
 pub mod Quiet
 pub mod Runs
 pub mod Setting
 pub mod Source
 pub mod Statements
+pub mod Statuses
 pub mod Tallies
 pub mod Telling

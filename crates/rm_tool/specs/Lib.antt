@@ -2,6 +2,7 @@ pub mod Block
 pub mod Built
 pub mod Comes
 pub mod Drill
+pub mod Early
 pub mod Ends
 pub mod Opening
 pub mod Quiet

@@ -1,11 +1,14 @@
 //! All that a source gives, and the script of a session.
-ghost use Rattle.std.specs.Prelude.{◌≡◌, ◌+◌, ◌<◌, ◌≤◌, length, true, None, IfOk, IfSome, IsSome, OnOk, IsErrOf};
+ghost use Rattle.std.specs.Prelude.{ℕ, ◌≡◌, ◌+◌, ◌<◌, ◌≤◌, length, true, None, IfErr, IfOk, IfSome, IsSome, OnOk, IsErrOf};
 ghost use Rattle.rm_base.specs.Outside.{HasTaken, Rose};
+ghost use Rattle.rm_tool.specs.Early.{EndsAtScript, IsOfLong, RoseFor};
 ghost use Rattle.rm_tool.specs.Ends.{Counted, TakesMany};
 ghost use Rattle.rm_tool.specs.Session.{ScriptOf};
 
-use rm_base::{Failed, NoMemory, Source};
+use crate::early::Early;
+use rm_base::{Failed, NoMemory, Sink, Source};
 use rm_drill::drill_script;
+use rm_tool_ends::write_all;
 use std::alloc::{AllocError, Global};
 
 /// The most bytes of a script.
@@ -101,5 +104,39 @@ pub fn script_for<S: Source>(
     match drill {
         Some(number) => Ok(drill_script(alloc, number)?.into_vec()),
         None => read_all(alloc, source),
+    }
+}
+
+/// The script of a session, as [`script_for`] has it. Where it is too long the line of that is written.
+pub fn script_of<S: Source, K: Sink>(
+    alloc: Global,
+    source: &mut S,
+    sink: &mut K,
+    drill: Option<u64>,
+) -> Result<Vec<u8>, Early>
+    ensures script { IfOk result (λ script. ScriptOf drill (S.left source.old) (S.left source.new) script.items) }
+    ensures end { OnOk result (drill ≡ None → S.at_end source.new ≡ true) }
+    ensures unread { IsSome drill → source.new ≡ source.old }
+    ensures within { IfOk result (λ script. length script.items ≤ 4194304) }
+    ensures few { OnOk result (Counted (S.taken source.old) → S.taken source.new ≤ S.taken source.old + 4194304) }
+    ensures long { IsErrOf result Early.TooLong → Counted (S.taken source.old) → TakesMany (S.taken source.old) (S.taken source.new) }
+    ensures long_only { Counted (S.taken source.old) → TakesMany (S.taken source.old) (S.taken source.new) → IfErr result IsOfLong }
+
+    // What was written, and that only the source and the sink failed.
+    ensures ok { OnOk result (K.contents sink.new ≡ K.contents sink.old) }
+    ensures ended { IfErr result (EndsAtScript (S.left source.old) (K.contents sink.old) (K.contents sink.new)) }
+    ensures rose { (d c : ℕ) → IfErr result (RoseFor (record { source = S.faults source.old; sink = K.faults sink.old; store = d; keeper = c })
+        (record { source = S.faults source.new; sink = K.faults sink.new; store = d; keeper = c })) }
+    ensures source_never_falls { S.faults source.old ≤ S.faults source.new }
+    ensures sink_never_falls { K.faults sink.old ≤ K.faults sink.new }
+{
+    match script_for(alloc, source, drill) {
+        Ok(script) => Ok(script),
+        Err(ReadFault::Failed) => Err(Early::Source),
+        Err(ReadFault::NoMemory) => Err(Early::NoMemory),
+        Err(ReadFault::TooLong) => {
+            write_all(sink, b"rman: script over 4194304 bytes\n")?;
+            Err(Early::TooLong)
+        }
     }
 }

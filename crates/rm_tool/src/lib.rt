@@ -5,6 +5,7 @@ mod adapters;
 mod block;
 mod built;
 mod drill;
+mod early;
 pub mod ends;
 pub mod laws;
 pub mod opening;

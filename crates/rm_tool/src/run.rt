@@ -1,26 +1,73 @@
 //! The whole run, from the words and the source to the sink.
-ghost use Rattle.std.specs.Prelude.{◌≡◌, ◌<◌, ◌∷◌, [], Contains, IfSome, IsSome, Some, None, List, length, true, false};
+ghost use Rattle.std.specs.Prelude.{◌≡◌, ◌<◌, ◌∷◌, [], Contains, IfErr, IfOk, IfSome, IsErrOf, IsSome, OnOk, Some, None, List, length, true, false};
 ghost use Rattle.rm_base.specs.Outside.{Appends, Rose};
 ghost use Rattle.rm_catalog.specs.declared.record.Record.{Record};
 ghost use Rattle.rm_site.specs.Opens.{AreValid};
+ghost use Rattle.rm_tool.specs.Early.{Leaves, RoseFor, status_of as the_status_of};
 ghost use Rattle.rm_tool.specs.Ends.{Counted, TakesMany};
 ghost use Rattle.rm_tool.specs.Run.{watch};
 ghost use Rattle.rm_tool.specs.Session.{HasScript, Finishes, EndsEarly, WritesPart, WritesBadRecord, TellsValid, IsDone, IsEarly, NoneRan, over_long};
 ghost use Rattle.rm_tool.specs.Words.{accepts, drill_of};
 ghost use Rattle.rm_tool_ends.specs.Writing.{bad_words};
 
-use crate::ends::{ReadFault, script_for};
-use crate::opening::{Unopened, open_told};
-use crate::session::{Halt, serve_session};
-use crate::words::{Look, look_at};
+use crate::early::{Early, status_of};
+use crate::ends::script_of;
+use crate::opening::open_site;
+use crate::session::serve_session;
+use crate::words::asked_in;
 use rm_base::{Clock, Sink, Source, Store, Text};
 use rm_catalog::Keeper;
 use rm_channel::Gate;
 use rm_lang_token::statements;
-use rm_tool_ends::write_all;
 use std::alloc::Global;
 use std::sync::Wait;
 use std::thread::Threads;
+
+// The whole run. Answers whether a statement was refused.
+fn session<R: Threads + Wait + Sync, G: Gate, S: Source, K: Sink, D: Store, C: Keeper, T: Clock>(
+    rt: &R,
+    alloc: Global,
+    gate: &G,
+    words: &[Text],
+    source: &mut S,
+    sink: &mut K,
+    store: &mut D,
+    keeper: &mut C,
+    clock: &mut T,
+) -> Result<bool, Early>
+    ensures finishes { IfOk result (λ refused. Finishes (drill_of words.now) (S.left source.old) (S.left source.new) (watch (T.answers clock.old) (T.asked clock.old)) (watch (T.answers clock.new) (T.asked clock.new)) (K.contents sink.old) (K.contents sink.new) (D.held store.old) (C.kept keeper.old) (D.held store.new) (C.kept keeper.new) (the_status_of result)) }
+    ensures ended { OnOk result (drill_of words.now ≡ None → S.at_end source.new ≡ true) }
+    ensures valid { OnOk result (TellsValid (C.kept keeper.old)) }
+    ensures left { IfErr result (Leaves words.now (S.left source.old) (S.left source.new) (watch (T.answers clock.old) (T.asked clock.old)) (watch (T.answers clock.new) (T.asked clock.new)) (K.contents sink.old) (K.contents sink.new) (D.held store.old) (C.kept keeper.old) (D.held store.new) (C.kept keeper.new)) }
+    ensures rose { IfErr result (RoseFor (record { source = S.faults source.old; sink = K.faults sink.old; store = D.faults store.old; keeper = C.faults keeper.old })
+        (record { source = S.faults source.new; sink = K.faults sink.new; store = D.faults store.new; keeper = C.faults keeper.new })) }
+
+    // What is asked of the source.
+    ensures drill_unread { IsSome (drill_of words.now) → source.new ≡ source.old }
+    ensures words_first { accepts words.now ≡ false → source.new ≡ source.old }
+    ensures words_only { accepts words.now ≡ false → Contains (2 ∷ 4 ∷ 7 ∷ []) (the_status_of result) }
+    ensures long { IsErrOf result Early.TooLong → Counted (S.taken source.old) → TakesMany (S.taken source.old) (S.taken source.new) }
+    ensures long_only { Counted (S.taken source.old) → TakesMany (S.taken source.old) (S.taken source.new) → Contains (8 ∷ 4 ∷ 7 ∷ []) (the_status_of result) }
+{
+    let asked = asked_in(alloc, words, sink)?;
+    let script = script_of(alloc, source, sink, asked.drill)?;
+    let found = statements(alloc, &script)?;
+    let site = open_site(alloc, sink, store, keeper)?;
+    let refused = serve_session(
+        rt,
+        alloc,
+        gate,
+        asked.channels,
+        asked.drill,
+        sink,
+        site,
+        store,
+        keeper,
+        clock,
+        found.as_slice(),
+    )?;
+    Ok(refused)
+}
 
 /// Runs a script against the site of a store and a keeper, and answers the status of the program.
 ///
@@ -94,55 +141,5 @@ pub fn run<R: Threads + Wait + Sync, G: Gate, S: Source, K: Sink, D: Store, C: K
     ensures statuses { Contains (0 ∷ 1 ∷ 2 ∷ 3 ∷ 4 ∷ 5 ∷ 6 ∷ 7 ∷ 8 ∷ 9 ∷ []) result }
     ensures complete { accepts words.now ≡ true → Counted (S.taken source.old) → ¬ TakesMany (S.taken source.old) (S.taken source.new) → (rs : List Record) → C.kept keeper.old ≡ Some rs → AreValid rs → ¬ Rose (S.faults source.old) (S.faults source.new) → ¬ Rose (K.faults sink.old) (K.faults sink.new) → ¬ Rose (D.faults store.old) (D.faults store.new) → ¬ Rose (C.faults keeper.old) (C.faults keeper.new) → Contains (0 ∷ 1 ∷ 7 ∷ []) result }
 {
-    let (channels, drill) = match look_at(alloc, words) {
-        Look::Accepted { channels, drill } => (channels, drill),
-        Look::Refused => {
-            return match write_all(sink, b"rman: bad words\n") {
-                Ok(()) => 2,
-                Err(_) => 4,
-            };
-        }
-        Look::NoMemory => return 7,
-    };
-    let script = match script_for(alloc, source, drill) {
-        Ok(script) => script,
-        Err(ReadFault::Failed) => return 3,
-        Err(ReadFault::NoMemory) => return 7,
-        Err(ReadFault::TooLong) => {
-            return match write_all(sink, b"rman: script over 4194304 bytes\n") {
-                Ok(()) => 8,
-                Err(_) => 4,
-            };
-        }
-    };
-    let Ok(found) = statements(alloc, &script) else {
-        return 7;
-    };
-    let site = match open_told(alloc, sink, store, keeper) {
-        Ok(site) => site,
-        Err(Unopened::BadRecord) => return 9,
-        Err(Unopened::Sink) => return 4,
-        Err(Unopened::Store) => return 5,
-        Err(Unopened::Keeper) => return 6,
-        Err(Unopened::NoMemory) => return 7,
-    };
-    match serve_session(
-        rt,
-        alloc,
-        gate,
-        channels,
-        drill,
-        sink,
-        site,
-        store,
-        keeper,
-        clock,
-        found.as_slice(),
-    ) {
-        Ok(refused) => u8::from(refused),
-        Err(Halt::Sink) => 4,
-        Err(Halt::Store) => 5,
-        Err(Halt::Keeper) => 6,
-        Err(Halt::NoMemory) => 7,
-    }
+    status_of(session(rt, alloc, gate, words, source, sink, store, keeper, clock))
 }

@@ -1,152 +1,134 @@
-use Rattle.std.proofs.Common.{rules, ◌∙◌, Err, ap, refl, arith, lit<}
-use Rattle.rm_lang_token.specs.Statements.{statements}
-use Rattle.rm_lang_token.proofs.Reading.{feeds_within}
-use Rattle.rm_tool.specs.Session.{in_output, midway}
-use Rattle.rm_tool.proofs.Calls.{finishes, ends-midway, ends-in-output, has-script, none-bad, told-valid}
+use Rattle.std.proofs.Common.{◌∷◌, [], Contains, refl, subst, sym}
+use Rattle.rm_tool.specs.Early.{RoseFor}
+use Rattle.rm_tool.specs.Run.{watch}
+use Rattle.rm_tool.specs.Session.{Finishes}
+use Rattle.rm_tool.specs.declared.early.Early.TheVariants as early
+use Rattle.rm_tool.proofs.Statuses.{done-at, done-on, ended-at, has-status, long-at, none-ran-at, of-bad, of-none}
 use Rattle.rm_tool.proofs.run.run.Goals as goal
 
-pub statements-requires : goal.statements-requires
-statements-requires g c =
-    let lines = feeds_within c.in-Ok-script_for.script.items in
-    rw c.deref.ensures.value (omega (arith, lines, c.in-Ok-script_for.ensures.within))
+-- 0 and 1
 
-pub serve_session-requires-clause-channels : goal.serve_session-requires-clause-channels
-serve_session-requires-clause-channels g c κs within = c.look_at.ensures.channels c.in-Accepted.channels c.in-Accepted.drill c.in-Accepted.is
+pub returns-clause-done : goal.returns-clause-done
+returns-clause-done g c is = done-at (Finishes _ _ _ _ _ _ _ _ _ _ _) c.session.result c.status_of.result c.status_of.ensures is c.session.ensures.finishes
 
-pub returns-in-Ok-serve_session-clause-done : goal.returns-in-Ok-serve_session-clause-done
-returns-in-Ok-serve_session-clause-done g c = λ is.
-    let opened = c.in-Ok-open_told.ensures in
-    finishes c.in-Accepted.drill (c.look_at.ensures.drill c.in-Accepted.channels c.in-Accepted.drill c.in-Accepted.is) c.in-Ok-script_for.script.items c.in-Ok-open_told.site c.in-Ok-script_for.ensures.script (c.as_slice.ensures ∙ c.in-Ok-statements.ensures ∙ ap statements c.deref.ensures.value)
-    opened.ok opened.held opened.kept opened.opened opened.shows c.in-Ok-serve_session.refused _ (search rules) c.in-Ok-serve_session.ensures.ok
+pub returns-clause-ended : goal.returns-clause-ended
+returns-clause-ended g c is = done-on _ c.session.result c.status_of.result c.status_of.ensures is c.session.ensures.ended
 
-pub returns-in-Err-Sink-serve_session-clause-sink_written : goal.returns-in-Err-Sink-serve_session-clause-sink_written
-returns-in-Err-Sink-serve_session-clause-sink_written g c = λ is.
-    let opened = c.in-Ok-open_told.ensures in
-    in_output opened.valid
-    (ends-in-output c.in-Accepted.drill (c.look_at.ensures.drill c.in-Accepted.channels c.in-Accepted.drill c.in-Accepted.is) c.in-Ok-script_for.script.items c.in-Ok-open_told.site c.in-Ok-script_for.ensures.script (c.as_slice.ensures ∙ c.in-Ok-statements.ensures ∙ ap statements c.deref.ensures.value)
-    opened.ok opened.held opened.kept opened.opened opened.shows _ _ _ _ _ (c.in-Err-Sink-serve_session.ensures.sink (ap Err c.in-Err-Sink-serve_session.field-0-is)))
+pub returns-clause-read : goal.returns-clause-read
+returns-clause-read g c is = let f = done-at (Finishes _ _ _ _ _ _ _ _ _ _ _) c.session.result c.status_of.result c.status_of.ensures is c.session.ensures.finishes in (f.serves.script, f.serves.read)
 
-pub returns-in-Err-Store-serve_session-clause-store_written : goal.returns-in-Err-Store-serve_session-clause-store_written
-returns-in-Err-Store-serve_session-clause-store_written g c = λ is.
-    let opened = c.in-Ok-open_told.ensures in
-    midway opened.valid
-    (ends-midway c.in-Accepted.drill (c.look_at.ensures.drill c.in-Accepted.channels c.in-Accepted.drill c.in-Accepted.is) c.in-Ok-script_for.script.items c.in-Ok-open_told.site c.in-Ok-script_for.ensures.script (c.as_slice.ensures ∙ c.in-Ok-statements.ensures ∙ ap statements c.deref.ensures.value)
-    opened.ok opened.held opened.kept opened.opened opened.shows (c.in-Err-Store-serve_session.ensures.store (ap Err c.in-Err-Store-serve_session.field-0-is)))
+pub returns-clause-done_from : goal.returns-clause-done_from
+returns-clause-done_from g c is = done-on _ c.session.result c.status_of.result c.status_of.ensures is c.session.ensures.valid
 
-pub returns-in-Err-Keeper-serve_session-clause-keeper_written : goal.returns-in-Err-Keeper-serve_session-clause-keeper_written
-returns-in-Err-Keeper-serve_session-clause-keeper_written g c = λ is.
-    let opened = c.in-Ok-open_told.ensures in
-    midway opened.valid
-    (ends-midway c.in-Accepted.drill (c.look_at.ensures.drill c.in-Accepted.channels c.in-Accepted.drill c.in-Accepted.is) c.in-Ok-script_for.script.items c.in-Ok-open_told.site c.in-Ok-script_for.ensures.script (c.as_slice.ensures ∙ c.in-Ok-statements.ensures ∙ ap statements c.deref.ensures.value)
-    opened.ok opened.held opened.kept opened.opened opened.shows (c.in-Err-Keeper-serve_session.ensures.keeper (ap Err c.in-Err-Keeper-serve_session.field-0-is)))
+-- 2
+
+pub returns-clause-words : goal.returns-clause-words
+returns-clause-words g c status = let left = ended-at _ c.session.result c.status_of.result 2 early.Words c.status_of.ensures refl status c.session.ensures.left in left.0
+
+pub returns-clause-words_line : goal.returns-clause-words_line
+returns-clause-words_line g c status = let left = ended-at _ c.session.result c.status_of.result 2 early.Words c.status_of.ensures refl status c.session.ensures.left in left.1
+
+pub returns-clause-words_only : goal.returns-clause-words_only
+returns-clause-words_only g c refused = subst (Contains (2 ∷ 4 ∷ 7 ∷ [])) (sym c.status_of.ensures) (c.session.ensures.words_only refused)
+
+-- 3 and 4
+
+pub returns-clause-source : goal.returns-clause-source
+returns-clause-source g c status = ended-at (RoseFor _ _) c.session.result c.status_of.result 3 early.Source c.status_of.ensures refl status c.session.ensures.rose
+
+pub returns-clause-source_written : goal.returns-clause-source_written
+returns-clause-source_written g c status = let left = ended-at _ c.session.result c.status_of.result 3 early.Source c.status_of.ensures refl status c.session.ensures.left in left.0
+
+pub returns-clause-sink : goal.returns-clause-sink
+returns-clause-sink g c status = ended-at (RoseFor _ _) c.session.result c.status_of.result 4 early.Sink c.status_of.ensures refl status c.session.ensures.rose
+
+pub returns-clause-sink_written : goal.returns-clause-sink_written
+returns-clause-sink_written g c status = ended-at _ c.session.result c.status_of.result 4 early.Sink c.status_of.ensures refl status c.session.ensures.left
+
+-- 5 to 7
+
+pub returns-clause-store : goal.returns-clause-store
+returns-clause-store g c status = ended-at (RoseFor _ _) c.session.result c.status_of.result 5 early.Store c.status_of.ensures refl status c.session.ensures.rose
+
+pub returns-clause-store_written : goal.returns-clause-store_written
+returns-clause-store_written g c status = let left = ended-at _ c.session.result c.status_of.result 5 early.Store c.status_of.ensures refl status c.session.ensures.left in left.1
+
+pub returns-clause-keeper : goal.returns-clause-keeper
+returns-clause-keeper g c status = ended-at (RoseFor _ _) c.session.result c.status_of.result 6 early.Keeper c.status_of.ensures refl status c.session.ensures.rose
+
+pub returns-clause-keeper_written : goal.returns-clause-keeper_written
+returns-clause-keeper_written g c status = ended-at _ c.session.result c.status_of.result 6 early.Keeper c.status_of.ensures refl status c.session.ensures.left
 
 pub returns-clause-memory_written : goal.returns-clause-memory_written
-returns-clause-memory_written g c = λ is.
-    let opened = c.in-Ok-open_told.ensures in
-    midway opened.valid
-    (ends-midway c.in-Accepted.drill (c.look_at.ensures.drill c.in-Accepted.channels c.in-Accepted.drill c.in-Accepted.is) c.in-Ok-script_for.script.items c.in-Ok-open_told.site c.in-Ok-script_for.ensures.script (c.as_slice.ensures ∙ c.in-Ok-statements.ensures ∙ ap statements c.deref.ensures.value)
-    opened.ok opened.held opened.kept opened.opened opened.shows (c.in-Err-NoMemory-serve_session.ensures.memory (ap Err c.in-Err-NoMemory-serve_session.field-0-is)))
+returns-clause-memory_written g c status = ended-at _ c.session.result c.status_of.result 7 early.NoMemory c.status_of.ensures refl status c.session.ensures.left
 
-pub returns-in-Ok-clause-statuses : goal.returns-in-Ok-clause-statuses
-returns-in-Ok-clause-statuses g c = (2, lit< tt, refl)
+-- 8
 
-pub returns-in-Err-clause-statuses : goal.returns-in-Err-clause-statuses
-returns-in-Err-clause-statuses g c = (4, lit< tt, refl)
+pub returns-clause-long : goal.returns-clause-long
+returns-clause-long g c status counted = c.session.ensures.long (long-at c.session.result c.status_of.result c.status_of.ensures status) counted
 
-pub returns-in-Err-Failed-clause-statuses : goal.returns-in-Err-Failed-clause-statuses
-returns-in-Err-Failed-clause-statuses g c = (3, lit< tt, refl)
+pub returns-clause-long_left : goal.returns-clause-long_left
+returns-clause-long_left g c status = let left = ended-at _ c.session.result c.status_of.result 8 early.TooLong c.status_of.ensures refl status c.session.ensures.left in left.0
 
-pub returns-in-Err-NoMemory-clause-statuses : goal.returns-in-Err-NoMemory-clause-statuses
-returns-in-Err-NoMemory-clause-statuses g c = (7, lit< tt, refl)
+pub returns-clause-long_line : goal.returns-clause-long_line
+returns-clause-long_line g c status = let left = ended-at _ c.session.result c.status_of.result 8 early.TooLong c.status_of.ensures refl status c.session.ensures.left in left.1
 
-pub returns-in-Ok-write_all-clause-statuses : goal.returns-in-Ok-write_all-clause-statuses
-returns-in-Ok-write_all-clause-statuses g c = (8, lit< tt, refl)
+pub returns-clause-long_only : goal.returns-clause-long_only
+returns-clause-long_only g c counted many = subst (Contains (8 ∷ 4 ∷ 7 ∷ [])) (sym c.status_of.ensures) (c.session.ensures.long_only counted many)
 
-pub returns-in-Err-write_all-clause-statuses : goal.returns-in-Err-write_all-clause-statuses
-returns-in-Err-write_all-clause-statuses g c = (4, lit< tt, refl)
+-- 9
 
-pub returns-in_default-clause-statuses : goal.returns-in_default-clause-statuses
-returns-in_default-clause-statuses g c = (7, lit< tt, refl)
+pub returns-clause-bad : goal.returns-clause-bad
+returns-clause-bad g c status = let left = ended-at _ c.session.result c.status_of.result 9 early.BadRecord c.status_of.ensures refl status c.session.ensures.left in left.1
 
-pub returns-in-Err-BadRecord-clause-statuses : goal.returns-in-Err-BadRecord-clause-statuses
-returns-in-Err-BadRecord-clause-statuses g c = (9, lit< tt, refl)
+pub returns-clause-bad_read : goal.returns-clause-bad_read
+returns-clause-bad_read g c status = let left = ended-at _ c.session.result c.status_of.result 9 early.BadRecord c.status_of.ensures refl status c.session.ensures.left in left.0
 
-pub returns-in-Err-Sink-clause-statuses : goal.returns-in-Err-Sink-clause-statuses
-returns-in-Err-Sink-clause-statuses g c = (4, lit< tt, refl)
+pub returns-clause-bad_only : goal.returns-clause-bad_only
+returns-clause-bad_only g c rs accepted counted few is bad =
+    let left = g.S.Source.left c.args.source.now in
+    let rest = g.S.Source.left c.session.new.source in
+    let clock = watch (g.T.Clock.answers c.args.clock.now) (g.T.Clock.asked c.args.clock.now) in
+    let later = watch (g.T.Clock.answers c.session.new.clock) (g.T.Clock.asked c.session.new.clock) in
+    let before = g.K.Sink.contents c.args.sink.now in
+    let now = g.K.Sink.contents c.session.new.sink in
+    let held = g.D.Store.held c.args.store.now in
+    let kept = g.C.Keeper.kept c.args.keeper.now in
+    let held' = g.D.Store.held c.session.new.store in
+    let kept' = g.C.Keeper.kept c.session.new.keeper in
+    subst (Contains (9 ∷ 4 ∷ 3 ∷ 6 ∷ 7 ∷ [])) (sym c.status_of.ensures)
+    (of-bad c.args.words.now left rest clock later before now held kept held' kept' rs is accepted c.session.result c.session.ensures.valid c.session.ensures.left (λ long. few (c.session.ensures.long long counted)) bad)
 
-pub returns-in-Err-Keeper-clause-statuses : goal.returns-in-Err-Keeper-clause-statuses
-returns-in-Err-Keeper-clause-statuses g c = (6, lit< tt, refl)
+-- all
 
-pub returns-in-Err-NoMemory-open_told-clause-statuses : goal.returns-in-Err-NoMemory-open_told-clause-statuses
-returns-in-Err-NoMemory-open_told-clause-statuses g c = (7, lit< tt, refl)
-
-pub returns-in-Err-Sink-serve_session-clause-statuses : goal.returns-in-Err-Sink-serve_session-clause-statuses
-returns-in-Err-Sink-serve_session-clause-statuses g c = (4, lit< tt, refl)
-
-pub returns-in-Err-Store-clause-statuses : goal.returns-in-Err-Store-clause-statuses
-returns-in-Err-Store-clause-statuses g c = (5, lit< tt, refl)
-
-pub returns-in-Err-Store-serve_session-clause-statuses : goal.returns-in-Err-Store-serve_session-clause-statuses
-returns-in-Err-Store-serve_session-clause-statuses g c = (5, lit< tt, refl)
-
-pub returns-in-Err-Keeper-serve_session-clause-statuses : goal.returns-in-Err-Keeper-serve_session-clause-statuses
-returns-in-Err-Keeper-serve_session-clause-statuses g c = (6, lit< tt, refl)
+pub returns-clause-same : goal.returns-clause-same
+returns-clause-same g c early =
+    let left = g.S.Source.left c.args.source.now in
+    let rest = g.S.Source.left c.session.new.source in
+    let clock = watch (g.T.Clock.answers c.args.clock.now) (g.T.Clock.asked c.args.clock.now) in
+    let later = watch (g.T.Clock.answers c.session.new.clock) (g.T.Clock.asked c.session.new.clock) in
+    let before = g.K.Sink.contents c.args.sink.now in
+    let now = g.K.Sink.contents c.session.new.sink in
+    let held = g.D.Store.held c.args.store.now in
+    let kept = g.C.Keeper.kept c.args.keeper.now in
+    let held' = g.D.Store.held c.session.new.store in
+    let kept' = g.C.Keeper.kept c.session.new.keeper in
+    none-ran-at c.args.words.now left rest clock later before now held kept held' kept' c.session.result c.status_of.result c.status_of.ensures early c.session.ensures.left
 
 pub returns-clause-statuses : goal.returns-clause-statuses
-returns-clause-statuses g c = (7, lit< tt, refl)
-
-pub returns-in-NoMemory-clause-statuses : goal.returns-in-NoMemory-clause-statuses
-returns-in-NoMemory-clause-statuses g c = (7, lit< tt, refl)
-
-pub returns-in-Err-BadRecord-clause-bad_read : goal.returns-in-Err-BadRecord-clause-bad_read
-returns-in-Err-BadRecord-clause-bad_read g c = λ is.
-    has-script _ _ c.in-Accepted.drill (c.look_at.ensures.drill c.in-Accepted.channels c.in-Accepted.drill c.in-Accepted.is) c.in-Ok-script_for.script.items c.in-Ok-script_for.ensures.script
-
-pub returns-in-Err-Failed-clause-bad_only : goal.returns-in-Err-Failed-clause-bad_only
-returns-in-Err-Failed-clause-bad_only g c = λ rs words counted few is some. (2, lit< tt, refl)
-
-pub returns-in-Err-Sink-clause-bad_only : goal.returns-in-Err-Sink-clause-bad_only
-returns-in-Err-Sink-clause-bad_only g c = λ rs words counted few is some. (1, lit< tt, refl)
-
-pub returns-in-Err-Store-clause-bad_only : goal.returns-in-Err-Store-clause-bad_only
-returns-in-Err-Store-clause-bad_only g c = λ rs words counted few is some. absurd (some (told-valid rs is (c.in-Err-Store.ensures.store_valid (ap Err c.in-Err-Store.field-0-is))))
-
-pub returns-in-Err-Keeper-clause-bad_only : goal.returns-in-Err-Keeper-clause-bad_only
-returns-in-Err-Keeper-clause-bad_only g c = λ rs words counted few is some. (3, lit< tt, refl)
-
-pub returns-in-Err-NoMemory-open_told-clause-bad_only : goal.returns-in-Err-NoMemory-open_told-clause-bad_only
-returns-in-Err-NoMemory-open_told-clause-bad_only g c = λ rs words counted few is some. (4, lit< tt, refl)
-
-pub returns-in-NoMemory-clause-bad_only : goal.returns-in-NoMemory-clause-bad_only
-returns-in-NoMemory-clause-bad_only g c = λ rs words counted few is some. (4, lit< tt, refl)
-
-pub returns-in-Err-NoMemory-clause-bad_only : goal.returns-in-Err-NoMemory-clause-bad_only
-returns-in-Err-NoMemory-clause-bad_only g c = λ rs words counted few is some. (4, lit< tt, refl)
-
-pub returns-in_default-clause-bad_only : goal.returns-in_default-clause-bad_only
-returns-in_default-clause-bad_only g c = λ rs words counted few is some. (4, lit< tt, refl)
-
-pub returns-in-Err-write_all-clause-long_only : goal.returns-in-Err-write_all-clause-long_only
-returns-in-Err-write_all-clause-long_only g c = λ counted many. (1, lit< tt, refl)
-
-pub returns-in-Err-NoMemory-clause-long_only : goal.returns-in-Err-NoMemory-clause-long_only
-returns-in-Err-NoMemory-clause-long_only g c = λ counted many. (2, lit< tt, refl)
-
-pub returns-in-Err-NoMemory-open_told-clause-complete : goal.returns-in-Err-NoMemory-open_told-clause-complete
-returns-in-Err-NoMemory-open_told-clause-complete g c = λ words counted few rs kept valid source sink store keeper. (2, lit< tt, refl)
+returns-clause-statuses g c = subst (Contains (0 ∷ 1 ∷ 2 ∷ 3 ∷ 4 ∷ 5 ∷ 6 ∷ 7 ∷ 8 ∷ 9 ∷ [])) (sym c.status_of.ensures) (has-status c.session.result)
 
 pub returns-clause-complete : goal.returns-clause-complete
-returns-clause-complete g c = λ words counted few rs kept valid source sink store keeper. (2, lit< tt, refl)
-
-pub returns-in-NoMemory-clause-complete : goal.returns-in-NoMemory-clause-complete
-returns-in-NoMemory-clause-complete g c = λ words counted few rs kept valid source sink store keeper. (2, lit< tt, refl)
-
-pub returns-in-Err-NoMemory-clause-complete : goal.returns-in-Err-NoMemory-clause-complete
-returns-in-Err-NoMemory-clause-complete g c = λ words counted few rs kept valid source sink store keeper. (2, lit< tt, refl)
-
-pub returns-in_default-clause-complete : goal.returns-in_default-clause-complete
-returns-in_default-clause-complete g c = λ words counted few rs kept valid source sink store keeper. (2, lit< tt, refl)
-
-pub returns-in-Err-BadRecord-clause-complete : goal.returns-in-Err-BadRecord-clause-complete
-returns-in-Err-BadRecord-clause-complete g c = λ words counted few rs kept valid source sink store keeper.
-    absurd (none-bad rs kept valid (c.in-Err-BadRecord.ensures.bad (ap Err c.in-Err-BadRecord.field-0-is)))
+returns-clause-complete g c accepted counted few rs is valid source sink store keeper =
+    let left = g.S.Source.left c.args.source.now in
+    let rest = g.S.Source.left c.session.new.source in
+    let clock = watch (g.T.Clock.answers c.args.clock.now) (g.T.Clock.asked c.args.clock.now) in
+    let later = watch (g.T.Clock.answers c.session.new.clock) (g.T.Clock.asked c.session.new.clock) in
+    let before = g.K.Sink.contents c.args.sink.now in
+    let now = g.K.Sink.contents c.session.new.sink in
+    let held = g.D.Store.held c.args.store.now in
+    let kept = g.C.Keeper.kept c.args.keeper.now in
+    let held' = g.D.Store.held c.session.new.store in
+    let kept' = g.C.Keeper.kept c.session.new.keeper in
+    subst (Contains (0 ∷ 1 ∷ 7 ∷ [])) (sym c.status_of.ensures)
+    (of-none c.args.words.now left rest clock later before now held kept held' kept' rs is accepted c.session.result _ _ c.session.ensures.left c.session.ensures.rose (λ long. few (c.session.ensures.long long counted)) valid source sink store keeper)
