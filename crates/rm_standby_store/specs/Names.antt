@@ -11,14 +11,13 @@ use Rattle.rm_standby.specs.Standby.{is_standby}
 abbrev pub standby_name : ℕ → List ℕ
 standby_name k = codes "standby_" ++ decimal k
 
--- the digits are those of a number that a standby can have
-pub record IsNumber (digits : List ℕ) (k : ℕ) : Type 0 where
-  pub number : (1 ≤ k) × (k ≤ 4294967295)
-  pub is : digits ≡ decimal k
+-- a standby may have this number
+abbrev pub IsStandbyNumber : ℕ → Type 0
+IsStandbyNumber k = (1 ≤ k) × (k ≤ 4294967295)
 
 -- the name is that of standby k
 pub record IsNumbered (name : List ℕ) (k : ℕ) : Type 0 where
-  pub number : (1 ≤ k) × (k ≤ 4294967295)
+  pub number : IsStandbyNumber k
   pub is : name ≡ standby_name k
 
 -- the set that the object of a name spells; None where nothing stands there, or bytes of no valid set
@@ -28,7 +27,7 @@ SpellsSet held name (Some s) = IsSet s × (held name ≡ Some (set_spelling s))
 
 -- the object of its name spells standby k
 pub record StandsAs (held : Held) (k : ℕ) (s : Set) : Type 0 where
-  pub number : (1 ≤ k) × (k ≤ 4294967295)
+  pub number : IsStandbyNumber k
   pub spelled : SpellsSet held (standby_name k) (Some s)
   pub standby : is_standby s ≡ true
 

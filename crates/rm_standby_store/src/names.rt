@@ -1,6 +1,6 @@
 //! The name of a standby in its store, and its number.
-ghost use Rattle.std.specs.Prelude.{ℕ, ◌≡◌, ◌↔◌, ◌<◌, IfOk, IsTrue, Some, slice_index};
-ghost use Rattle.rm_standby_store.specs.Names.{standby_name, IsNumber, IsNumbered};
+ghost use Rattle.std.specs.Prelude.{ℕ, ◌≡◌, ◌↔◌, ◌<◌, ◌++◌, IfOk, IsTrue, Some, codes, slice_index};
+ghost use Rattle.rm_standby_store.specs.Names.{standby_name, IsNumbered};
 
 use rm_base::{NoMemory, Text};
 use std::alloc::Global;
@@ -22,9 +22,9 @@ fn begins_above_zero(text: &str) -> bool
     }
 }
 
-// The number of these digits, from 1 to 4,294,967,295 and without a leading zero. None of any other text.
+// The number of a standby with these digits in its name, from 1 to 4,294,967,295 and without a leading zero. None of any other text.
 fn number_of(digits: &str) -> Option<u32>
-    ensures { (k : ℕ) → result ≡ Some k ↔ IsNumber digits.now k }
+    ensures { (k : ℕ) → result ≡ Some k ↔ IsNumbered (codes "standby_" ++ digits.now) k }
 {
     if !begins_above_zero(digits) {
         return None;

@@ -21,8 +21,8 @@ abbrev pub line_of : ℕ → List ℕ
 line_of number = reply_text (said (Resynced number ∷ []))
 
 -- where the near keeper tells its records, there are so many
-abbrev pub IsNumber : Option (List Record) → ℕ → Type 0
-IsNumber near number = IfSome near (λ rs. number ≡ length rs)
+abbrev pub HasSoMany : Option (List Record) → ℕ → Type 0
+HasSoMany near number = IfSome near (λ rs. number ≡ length rs)
 
 -- the far records are as they were, or they are the near ones
 abbrev pub StaysOrFollows : Option (List Record) → Option (List Record) → Option (List Record) → Type 0
@@ -31,14 +31,14 @@ StaysOrFollows near far far' = (far' ≡ far) ⊎ AreEqual near far'
 -- the far records are the near ones, and exactly the line of their number was written
 pub record Finishes (near far : Option (List Record)) (before now : Option (List ℕ)) : Type 0 where
   pub number : ℕ
-  pub told : IsNumber near number
+  pub told : HasSoMany near number
   pub equal : AreEqual near far
   pub written : Appends before now (line_of number)
 
 -- the far records are the near ones, and a front of that line was written that is not all of it
 pub record EndsInLine (near far : Option (List Record)) (before now : Option (List ℕ)) : Type 0 where
   pub number : ℕ
-  pub told : IsNumber near number
+  pub told : HasSoMany near number
   pub equal : AreEqual near far
   pub front : WritesFront before now (line_of number)
 
@@ -52,20 +52,11 @@ Leaves near far far' before now ended.Refused = ⊥
 Leaves near far far' before now ended.BadRecord = ⊥
 Leaves near far far' before now ended.Store = ⊥
 
--- the count of one of the keepers rose where it ended so, before the line
-abbrev pub RoseInLevel : ℕ → ℕ → ℕ → ℕ → Ended → Type 0
-RoseInLevel n n' f f' ended.Keeper = OneRose n n' f f'
-RoseInLevel n n' f f' ended.NoMemory = Unit {0}
-RoseInLevel n n' f f' ended.Sink = ⊥
-RoseInLevel n n' f f' ended.Refused = ⊥
-RoseInLevel n n' f f' ended.BadRecord = ⊥
-RoseInLevel n n' f f' ended.Store = ⊥
-
 -- Whose count rose where it ended so: of the sink, the near keeper and the far one, before and now. It ends in no other way.
-abbrev pub RoseFor : ℕ → ℕ → ℕ → ℕ → ℕ → ℕ → Ended → Type 0
-RoseFor k k' n n' f f' ended.Sink = Rose k k'
-RoseFor k k' n n' f f' ended.Keeper = OneRose n n' f f'
-RoseFor k k' n n' f f' ended.NoMemory = Unit {0}
-RoseFor k k' n n' f f' ended.Refused = ⊥
-RoseFor k k' n n' f f' ended.BadRecord = ⊥
-RoseFor k k' n n' f f' ended.Store = ⊥
+abbrev pub RoseInResync : ℕ → ℕ → ℕ → ℕ → ℕ → ℕ → Ended → Type 0
+RoseInResync k k' n n' f f' ended.Sink = Rose k k'
+RoseInResync k k' n n' f f' ended.Keeper = OneRose n n' f f'
+RoseInResync k k' n n' f f' ended.NoMemory = Unit {0}
+RoseInResync k k' n n' f f' ended.Refused = ⊥
+RoseInResync k k' n n' f f' ended.BadRecord = ⊥
+RoseInResync k k' n n' f f' ended.Store = ⊥

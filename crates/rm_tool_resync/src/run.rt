@@ -4,7 +4,7 @@ ghost use Rattle.rm_base.specs.Outside.{Appends, Rose};
 ghost use Rattle.rm_control.specs.Control.{OneRose};
 ghost use Rattle.rm_control.specs.Follows.{AreEqual};
 ghost use Rattle.rm_tool_ends.specs.Writing.{WritesFront, bad_words};
-ghost use Rattle.rm_tool_resync.specs.Resynced.{EndsInLine, Finishes, IsNumber, Leaves, RoseFor, RoseInLevel, StaysOrFollows, accepts};
+ghost use Rattle.rm_tool_resync.specs.Resynced.{EndsInLine, Finishes, HasSoMany, Leaves, RoseInResync, StaysOrFollows, accepts};
 ghost use Rattle.rm_tool_resync.specs.Resynced.{line_of as the_line_of};
 
 use rm_base::{NoMemory, Seq, Sink, Text};
@@ -28,23 +28,6 @@ fn line_of(alloc: Global, number: u64) -> Result<Seq<u8>, NoMemory>
     bytes_of(alloc, &reply)
 }
 
-// Makes the far records equal to the near ones, and gives their number. An error changes nothing.
-fn leveled<N: Keeper, F: Keeper>(alloc: Global, near: &mut N, far: &mut F) -> Result<u64, Ended>
-    ensures number { IfOk result (IsNumber (N.kept near.old)) }
-    ensures near { N.kept near.new ≡ N.kept near.old }
-    ensures equal { OnOk result (AreEqual (N.kept near.old) (F.kept far.new)) }
-    ensures far { OnErr result (F.kept far.new ≡ F.kept far.old) }
-    ensures rose { IfErr result (RoseInLevel (N.faults near.old) (N.faults near.new) (F.faults far.old) (F.faults far.new)) }
-    ensures near_never_falls { N.faults near.old ≤ N.faults near.new }
-    ensures far_never_falls { F.faults far.old ≤ F.faults far.new }
-{
-    match level(alloc, near, far) {
-        Ok(number) => Ok(number as u64),
-        Err(KeeperFail::Failed) => Err(Ended::Keeper),
-        Err(KeeperFail::NoMemory) => Err(Ended::NoMemory),
-    }
-}
-
 // The resync that is asked for.
 fn served<K: Sink, N: Keeper, F: Keeper>(
     alloc: Global,
@@ -55,10 +38,14 @@ fn served<K: Sink, N: Keeper, F: Keeper>(
     ensures finishes { OnOk result (Finishes (N.kept near.old) (F.kept far.new) (K.contents sink.old) (K.contents sink.new)) }
     ensures ended { IfErr result (Leaves (N.kept near.old) (F.kept far.old) (F.kept far.new) (K.contents sink.old) (K.contents sink.new)) }
     ensures near { N.kept near.new ≡ N.kept near.old }
-    ensures rose { IfErr result (RoseFor (K.faults sink.old) (K.faults sink.new) (N.faults near.old) (N.faults near.new) (F.faults far.old)
+    ensures rose { IfErr result (RoseInResync (K.faults sink.old) (K.faults sink.new) (N.faults near.old) (N.faults near.new) (F.faults far.old)
         (F.faults far.new)) }
 {
-    let number = leveled(alloc, near, far)?;
+    let number = match level(alloc, near, far) {
+        Ok(number) => number as u64,
+        Err(KeeperFail::Failed) => return Err(Ended::Keeper),
+        Err(KeeperFail::NoMemory) => return Err(Ended::NoMemory),
+    };
     let text = line_of(alloc, number)?;
     write_all(sink, text.as_slice())?;
     Ok(())

@@ -1,6 +1,7 @@
 pub mod Dated
 pub mod Ending
 pub mod Exact
+pub mod Finding
 pub mod Imaging
 pub mod MembersTold
 pub mod Replacing

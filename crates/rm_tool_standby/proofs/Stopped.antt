@@ -42,7 +42,7 @@ module _ (found : Option (ℕ × Set)) (new : Set) (before after : Held) (is : I
   next = next_number found
 
   -- the new one stands, and what stood above its number stands there no more
-  new-found : after (standby_name next) ≡ Some (set_spelling new) → ((k : ℕ) → next < k → k < 2 ^ 64 → after (standby_name k) ≡ before (standby_name k)) → IsStandby after (Some (next, new))
+  pub new-found : after (standby_name next) ≡ Some (set_spelling new) → ((k : ℕ) → next < k → k < 2 ^ 64 → after (standby_name k) ≡ before (standby_name k)) → IsStandby after (Some (next, new))
   new-found stands same = (
     record { number = next-fits found left; spelled = (valid, stands); standby = full },
     λ k s over other. none-above before found is k s (next-above found k (omega (arith, over))) (moved before after k s (same k over (let most = other.number.1 in omega (arith, most))) other),

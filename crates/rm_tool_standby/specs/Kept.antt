@@ -16,6 +16,10 @@ Finds to found = IfSome to (λ held. IsStandby held found)
 abbrev pub next_number : Option (ℕ × Set) → ℕ
 next_number found = option_map_or (λ x. x.0 + 1) found 1
 
+-- the standby of the store then: the new one, under that number, or else the one of before
+abbrev pub found_after : Option (ℕ × Set) → Option Set → Option (ℕ × Set)
+found_after found new = option_map_or (λ a. Some (next_number found, a)) new found
+
 -- the name is none of the standby of before
 abbrev pub IsNoneOf : Option (ℕ × Set) → List ℕ → Type 0
 IsNoneOf found n = IfSome found (λ x. n ≢ standby_name x.0)
