@@ -1,14 +1,13 @@
 //! A duplicate of a database.
 use crate::bad_words::Task;
-use crate::catalog::{self, Fault};
+use crate::catalog::{self, Fault, Opens, RecordFile};
 use crate::folder::{self, Folder, Owner};
 use crate::told;
 use rm_base::{NoMemory, Text};
-use rm_keeper_sql::{CatalogFile, Shelf};
+use rm_keeper_sql::Shelf;
 use rm_lang_words::{WordsFault, read_duplicate};
 use rm_tool::WriteSink;
 use rm_tool_duplicate::run_duplicate;
-use sqlite::Alter;
 use std::alloc::Global;
 use std::io;
 use std::sync::Wait;
@@ -56,9 +55,9 @@ enum Records {
     None,
 }
 
-fn look_up<S: Alter + Drop>(
+fn look_up<C: Shelf + RecordFile + Drop>(
     alloc: Global,
-    catalog: &mut CatalogFile<S>,
+    catalog: &mut C,
     said: &Said,
 ) -> Result<Records, NoMemory> {
     let source = catalog::has_records(alloc, catalog, said.source)?;
@@ -111,9 +110,9 @@ fn folder_of_new<'a>(
 }
 
 // The folder is the duplicate's where its records are there now. What is refused leaves it as it was.
-fn claim<S: Alter + Drop>(
+fn claim<C: Shelf + RecordFile + Drop>(
     alloc: Global,
-    catalog: &mut CatalogFile<S>,
+    catalog: &mut C,
     said: &Said,
     to: &mut Folder<'_>,
 ) {
@@ -147,15 +146,16 @@ fn make<R: Threads + Wait + Sync, H: Shelf + Drop>(
 
 /// A duplicate by these words, which come behind the command's, with threads by the second handle: its status. An error is want of
 /// memory before it began.
-pub fn duplicate<R: Threads + Wait + Sync>(
+pub fn duplicate<R: Threads + Wait + Sync, O: Opens>(
     rt: &HostRuntime,
     threads: &R,
+    opens: &O,
     words: &[Text],
 ) -> Result<u8, NoMemory> {
     let alloc = rt.alloc();
     let said = read(alloc, words)?;
     let folders = [said.from.as_str(), said.to.as_str()];
-    let mut catalog = catalog::open(rt, said.file.as_str(), &folders)?;
+    let mut catalog = catalog::open(rt, opens, said.file.as_str(), &folders)?;
     let records = look_up(alloc, &mut catalog, &said)?;
     let mut from = folder_of_source(rt, &said, records)?;
     let mut to = folder_of_new(rt, &said, records, &from)?;
@@ -171,10 +171,10 @@ pub fn duplicate<R: Threads + Wait + Sync>(
     let file = Fault {
         name: "catalog",
         path: said.file.as_str(),
-        why: catalog.last_fault(),
+        why: catalog.why(),
     };
     let task = Task::Duplicate;
     told::end(rt, status, task, words, of_stream, Some(failed), file);
-    let _ = catalog.close();
+    opens.close(catalog);
     Ok(status)
 }

@@ -14,6 +14,7 @@ mod session;
 mod standing;
 mod told;
 
+use catalog::{Machine, Opens};
 use rm_base::{NoMemory, Text};
 use std::env;
 use std::io::ErrorKind;
@@ -36,22 +37,29 @@ fn words(rt: &HostRuntime) -> Result<Vec<Text>, NoMemory> {
     Ok(words)
 }
 
-// What the program's words ask for, with threads by the second handle: its status. An error is want of memory before it began.
-fn serve<R: Threads + Wait + Sync>(rt: &HostRuntime, threads: &R) -> Result<u8, NoMemory> {
+// What the program's words ask for, with threads by the second handle, over the files that are opened so: its status. An error is want of
+// memory before it began.
+fn serve<R: Threads + Wait + Sync, O: Opens>(
+    rt: &HostRuntime,
+    threads: &R,
+    opens: &O,
+) -> Result<u8, NoMemory> {
     let words = words(rt)?;
     match words.as_slice() {
         [first, rest @ ..] if first.as_str() == "duplicate" => duplicating::duplicate(
-            rt, threads, rest,
+            rt, threads, opens, rest,
         ),
-        [first, rest @ ..] if first.as_str() == "standby" => standing::standby(rt, threads, rest),
-        [first, rest @ ..] if first.as_str() == "resync" => resyncing::resync(rt, rest),
-        all => session::session(rt, threads, all),
+        [first, rest @ ..] if first.as_str() == "standby" => standing::standby(
+            rt, threads, opens, rest,
+        ),
+        [first, rest @ ..] if first.as_str() == "resync" => resyncing::resync(rt, opens, rest),
+        all => session::session(rt, threads, opens, all),
     }
 }
 
 fn main(rt: HostRuntime) -> ExitCode {
     let held = descriptors::hold(&rt);
-    let status = match serve(&rt, &rt) {
+    let status = match serve(&rt, &rt, &Machine { rt: &rt }) {
         Ok(status) => status,
         Err(NoMemory) => {
             told::memory(&rt);

@@ -1,12 +1,11 @@
 //! The files of records: the catalog file alone, or a control file that the catalog follows.
-use crate::catalog::{self, Catalog, Fault};
+use crate::catalog::{self, Fault, Opens, RecordFile};
 use crate::folder::are_one;
 use crate::following::why_not;
 use rm_base::NoMemory;
-use rm_catalog::KeeperFail;
+use rm_catalog::{Keeper, KeeperFail};
 use rm_control::Control;
-use rm_keeper_sql::CatalogFile;
-use sqlite::{Alter, File, FileStore};
+use rm_keeper_sql::Shelf;
 use std::alloc::Global;
 
 // How many lists of edits may wait for the catalog in a session.
@@ -28,45 +27,49 @@ impl<'a> Paths<'a> {
 
 /// The catalog file, and before it the control file, where there is one.
 #[derive(Drop)]
-pub struct Files<S: Alter> {
-    pub catalog: CatalogFile<S>,
-    pub control: Option<CatalogFile<S>>,
+pub struct Files<C> {
+    pub catalog: C,
+    pub control: Option<C>,
 }
 
-/// Files of the machine.
-pub type Opened = Files<FileStore<File>>;
-
 // The catalog file of a control file, which can't be that file itself.
-fn open_far(
+fn open_far<O: Opens>(
     rt: &HostRuntime,
+    opens: &O,
     paths: Paths<'_>,
     control: &str,
     folders: &[&str],
-) -> Result<Catalog, NoMemory> {
+) -> Result<O::Opened, NoMemory> {
     if are_one(rt, control, paths.catalog) {
         let why = "it is the control file";
-        return Ok(catalog::unusable(rt.alloc(), Some(why)));
+        return Ok(RecordFile::unusable(rt.alloc(), Some(why)));
     }
-    catalog::open(rt, paths.catalog, folders)
+    catalog::open(rt, opens, paths.catalog, folders)
 }
 
 /// The files of these paths, beside these folders. Each is made where it is missing.
-pub fn open(rt: &HostRuntime, paths: Paths<'_>, folders: &[&str]) -> Result<Opened, NoMemory> {
+pub fn open<O: Opens>(
+    rt: &HostRuntime,
+    opens: &O,
+    paths: Paths<'_>,
+    folders: &[&str],
+) -> Result<Files<O::Opened>, NoMemory> {
     match paths.control {
-        None => Ok(Files::alone(catalog::open(rt, paths.catalog, folders)?)),
+        None => Ok(Files::alone(catalog::open(rt, opens, paths.catalog, folders)?)),
         Some(path) => {
-            let control = catalog::open(rt, path, folders)?;
-            Ok(Files::both(control, open_far(rt, paths, path, folders)?))
+            let control = catalog::open(rt, opens, path, folders)?;
+            let catalog = open_far(rt, opens, paths, path, folders)?;
+            Ok(Files::both(control, catalog))
         }
     }
 }
 
 // Whether the database of this number has records, by both files. A control file to whose records the catalog's must not be made
 // equal is refused.
-fn have_records<S: Alter + Drop>(
+fn have_records<C: Shelf + RecordFile + Drop>(
     alloc: Global,
-    control: &mut CatalogFile<S>,
-    catalog: &mut CatalogFile<S>,
+    control: &mut C,
+    catalog: &mut C,
     number: u32,
 ) -> Result<Option<bool>, NoMemory> {
     let Some(near) = catalog::load(alloc, control, number)? else {
@@ -78,16 +81,16 @@ fn have_records<S: Alter + Drop>(
     let has_records = !near.is_empty();
     match why_not(near, far)? {
         Some(why) => {
-            *control = catalog::unusable(alloc, Some(why));
+            *control = RecordFile::unusable(alloc, Some(why));
             Ok(None)
         }
         None => Ok(Some(has_records)),
     }
 }
 
-impl<S: Alter + Drop> Files<S> {
+impl<C> Files<C> {
     /// The catalog file alone.
-    pub fn alone(catalog: CatalogFile<S>) -> Self {
+    pub fn alone(catalog: C) -> Self {
         Files {
             catalog,
             control: None,
@@ -95,13 +98,15 @@ impl<S: Alter + Drop> Files<S> {
     }
 
     /// A control file, and the catalog file behind it.
-    pub fn both(control: CatalogFile<S>, catalog: CatalogFile<S>) -> Self {
+    pub fn both(control: C, catalog: C) -> Self {
         Files {
             catalog,
             control: Some(control),
         }
     }
+}
 
+impl<C: Shelf + RecordFile + Drop> Files<C> {
     /// Whether the database of this number has records; nothing where those of one of the files can't be read, or must not be followed.
     pub fn have_records(&mut self, alloc: Global, number: u32) -> Result<Option<bool>, NoMemory> {
         match &mut self.control {
@@ -112,9 +117,9 @@ impl<S: Alter + Drop> Files<S> {
 
     /// From now on they keep the records of the database of this number.
     pub fn choose(&mut self, number: u32) {
-        catalog::choose(&mut self.catalog, number);
+        self.catalog.choose(number);
         if let Some(control) = &mut self.control {
-            catalog::choose(control, number);
+            control.choose(number);
         }
     }
 
@@ -123,13 +128,13 @@ impl<S: Alter + Drop> Files<S> {
         let of_catalog = Fault {
             name: "catalog",
             path: paths.catalog,
-            why: self.catalog.last_fault(),
+            why: self.catalog.why(),
         };
         match (&self.control, paths.control) {
             (Some(control), Some(path)) if of_catalog.why.is_none() => Fault {
                 name: "control",
                 path,
-                why: control.last_fault(),
+                why: control.why(),
             },
             _ => of_catalog,
         }
@@ -137,19 +142,19 @@ impl<S: Alter + Drop> Files<S> {
 }
 
 /// Closes them. What was applied is durable without it.
-pub fn close(files: Opened) {
+pub fn close<O: Opens>(opens: &O, files: Files<O::Opened>) {
     let Files { catalog, control } = files;
-    let _ = catalog.close();
+    opens.close(catalog);
     if let Some(control) = control {
-        let _ = control.close();
+        opens.close(control);
     }
 }
 
 /// A control file that the catalog follows, or both as they are and why the catalog can't be made equal to it.
-pub fn follow<S: Alter + Drop>(
+pub fn follow<C: Keeper + Drop>(
     alloc: Global,
-    control: CatalogFile<S>,
-    catalog: CatalogFile<S>,
-) -> Result<Control<CatalogFile<S>, CatalogFile<S>>, (CatalogFile<S>, CatalogFile<S>, KeeperFail)> {
+    control: C,
+    catalog: C,
+) -> Result<Control<C, C>, (C, C, KeeperFail)> {
     Control::open(alloc, control, catalog, KEEP)
 }

@@ -1,16 +1,16 @@
 //! A session: a script over a database.
 use crate::bad_words::Task;
+use crate::catalog::Opens;
 use crate::folder::{self, Folder, Owner};
 use crate::records::{self, Files, Paths, close, follow};
 use crate::{catalog, told};
 use rm_base::{NoMemory, Text};
 use rm_catalog::Keeper;
 use rm_control::Control;
-use rm_keeper_sql::{CatalogFile, Unopened};
+use rm_keeper_sql::Unopened;
 use rm_lang_words::{WordsFault, read_words};
 use rm_tool::run::run;
 use rm_tool::{OpenGate, ReadSource, SystemClock, WriteSink};
-use sqlite::Alter;
 use std::alloc::Global;
 use std::io;
 use std::sync::Wait;
@@ -151,14 +151,14 @@ fn run_led<R: Threads + Wait + Sync, N: Keeper + Drop, F: Keeper + Drop>(
 
 // A session over a control file and the catalog, which are handed back. Where the catalog can't follow, the first call of the records
 // fails.
-fn run_both<R: Threads + Wait + Sync, S: Alter + Drop>(
+fn run_both<R: Threads + Wait + Sync, C: Keeper + Drop>(
     rt: &HostRuntime,
     threads: &R,
     words: &[Text],
     folder: &mut Folder<'_>,
-    control: CatalogFile<S>,
-    catalog: CatalogFile<S>,
-) -> (Ended, CatalogFile<S>, CatalogFile<S>) {
+    control: C,
+    catalog: C,
+) -> (Ended, C, C) {
     match follow(rt.alloc(), control, catalog) {
         Ok(both) => run_led(rt, threads, words, folder, both),
         Err((control, catalog, fail)) => {
@@ -170,13 +170,13 @@ fn run_both<R: Threads + Wait + Sync, S: Alter + Drop>(
 }
 
 // A session over files of records, which are handed back.
-fn serve<R: Threads + Wait + Sync, S: Alter + Drop>(
+fn serve<R: Threads + Wait + Sync, C: Keeper + Drop>(
     rt: &HostRuntime,
     threads: &R,
     words: &[Text],
     folder: &mut Folder<'_>,
-    files: Files<S>,
-) -> (Ended, Files<S>) {
+    files: Files<C>,
+) -> (Ended, Files<C>) {
     let Files { catalog, control } = files;
     let Some(control) = control else {
         let mut catalog = catalog;
@@ -189,14 +189,15 @@ fn serve<R: Threads + Wait + Sync, S: Alter + Drop>(
 
 /// A session by these words, with threads by the second handle: its status. An error is want of memory before it began. Over a
 /// folder that can't be used none begins, so that nothing is answered that couldn't be kept.
-pub fn session<R: Threads + Wait + Sync>(
+pub fn session<R: Threads + Wait + Sync, O: Opens>(
     rt: &HostRuntime,
     threads: &R,
+    opens: &O,
     words: &[Text],
 ) -> Result<u8, NoMemory> {
     let alloc = rt.alloc();
     let said = read(alloc, words)?;
-    let mut files = records::open(rt, said.paths(), &[said.folder.as_str()])?;
+    let mut files = records::open(rt, opens, said.paths(), &[said.folder.as_str()])?;
     let has_records = files.have_records(alloc, said.number)?;
     files.choose(said.number);
     let mut folder = folder_beside(rt, &said, has_records)?;
@@ -209,6 +210,6 @@ pub fn session<R: Threads + Wait + Sync>(
     let file = files.fault(said.paths());
     let task = Task::Session;
     told::end(rt, status, task, words, of_stream, Some(&folder), file);
-    close(files);
+    close(opens, files);
     Ok(status)
 }

@@ -1,16 +1,15 @@
 //! A standby of a database.
 use crate::bad_words::Task;
-use crate::catalog::{self, Fault};
+use crate::catalog::{self, Fault, Opens, RecordFile};
 use crate::folder::{self, Folder, Owner};
 use crate::told;
 use rm_base::{NoMemory, StoreFail, Text};
 use rm_catalog::{Keeper, Record};
-use rm_keeper_sql::CatalogFile;
+use rm_keeper_sql::Shelf;
 use rm_lang_words::{StandbyTask, WordsFault, read_standby};
 use rm_standby_store::find_standby;
 use rm_tool::WriteSink;
 use rm_tool_standby::run_standby;
-use sqlite::Alter;
 use std::alloc::Global;
 use std::io;
 use std::sync::Wait;
@@ -53,9 +52,9 @@ fn owner(said: &Said) -> Owner<'_> {
 }
 
 // The dbid of the database, where the catalog can be read and has one.
-fn dbid_of<S: Alter + Drop>(
+fn dbid_of<C: Shelf + RecordFile + Drop>(
     alloc: Global,
-    catalog: &mut CatalogFile<S>,
+    catalog: &mut C,
 ) -> Result<Option<u32>, NoMemory> {
     let Some(records) = catalog::load(alloc, catalog, 0)? else {
         return Ok(None);
@@ -126,15 +125,16 @@ fn serve<R: Threads + Wait + Sync, C: Keeper>(
 
 /// Makes, rolls or tells a standby by these words, which come behind the command's, with threads by the second handle: its status.
 /// An error is want of memory before it began. Beside a catalog without records, or that can't be read, no folder is opened.
-pub fn standby<R: Threads + Wait + Sync>(
+pub fn standby<R: Threads + Wait + Sync, O: Opens>(
     rt: &HostRuntime,
     threads: &R,
+    opens: &O,
     words: &[Text],
 ) -> Result<u8, NoMemory> {
     let alloc = rt.alloc();
     let said = read(alloc, words)?;
     let folders = [said.from.as_str(), said.to.as_str()];
-    let mut catalog = catalog::open(rt, said.file.as_str(), &folders)?;
+    let mut catalog = catalog::open(rt, opens, said.file.as_str(), &folders)?;
     let dbid = dbid_of(alloc, &mut catalog)?;
     let mut from = match dbid {
         Some(_) => folder::to_read(rt, said.from.clone()?, owner(&said)),
@@ -150,10 +150,10 @@ pub fn standby<R: Threads + Wait + Sync>(
     let file = Fault {
         name: "catalog",
         path: said.file.as_str(),
-        why: catalog.last_fault(),
+        why: catalog.why(),
     };
     let task = Task::Standby;
     told::end(rt, status, task, words, of_stream, Some(failed), file);
-    let _ = catalog.close();
+    opens.close(catalog);
     Ok(status)
 }
