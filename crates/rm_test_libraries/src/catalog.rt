@@ -31,13 +31,25 @@ fn without(records: Vec<Record>, key: Key) -> Result<Vec<Record>, NoMemory> {
     Ok(left)
 }
 
+// With the record that these words say, in place of that with its key.
+fn with_one(alloc: Global, records: Vec<Record>, words: &[&str]) -> Result<Vec<Record>, Fault> {
+    let record = record_of(alloc, words, 0)?;
+    let mut records = without(records, record.key())?;
+    records.push(record)?;
+    Ok(records)
+}
+
+// With the record that these words say, besides.
+fn also(alloc: Global, records: Vec<Record>, words: &[&str]) -> Result<Vec<Record>, Fault> {
+    let mut records = records;
+    records.push(record_of(alloc, words, 0)?)?;
+    Ok(records)
+}
+
 // With the records that these words say. One that is alone takes the place of that with its key.
 fn with(alloc: Global, records: Vec<Record>, words: &[&str]) -> Result<Vec<Record>, Fault> {
     let Some((first, last)) = range_of(words) else {
-        let record = record_of(alloc, words, 0)?;
-        let mut records = without(records, record.key())?;
-        records.push(record)?;
-        return Ok(records);
+        return with_one(alloc, records, words);
     };
     let mut records = records;
     for number in first..=last {
@@ -46,27 +58,39 @@ fn with(alloc: Global, records: Vec<Record>, words: &[&str]) -> Result<Vec<Recor
     Ok(records)
 }
 
+// The records but that of this kind and id.
+fn but(alloc: Global, records: Vec<Record>, kind: &str, id: &str) -> Result<Vec<Record>, Fault> {
+    match (kind.parse::<u8>(), id.parse::<u32>()) {
+        (Ok(kind), Ok(id)) => Ok(without(records, Key { kind, id })?),
+        _ => differs(alloc, kind),
+    }
+}
+
+// What a line says of these records.
+fn changed(alloc: Global, records: Vec<Record>, words: &[&str]) -> Result<Vec<Record>, Fault> {
+    match words {
+        ["same"] => Ok(records),
+        ["none"] => Ok(Vec::new(alloc)),
+        ["without", kind, id] => but(alloc, records, kind, id),
+        ["also", words @ ..] => also(alloc, records, words),
+        words => with(alloc, records, words),
+    }
+}
+
 impl Table {
+    // The records of the case so far.
+    fn taken(&mut self, alloc: Global) -> Result<Vec<Record>, NoMemory> {
+        match self.records.take() {
+            Some(records) => Ok(records),
+            None => copies_of(alloc, &self.small),
+        }
+    }
+
     // What a line says of the records of the case.
     fn put(&mut self, alloc: Global, line: &str) -> Result<(), Fault> {
         let words: Vec<&str> = line.split(' ').collect(alloc)?;
-        let mut records = match self.records.take() {
-            Some(records) => records,
-            None => copies_of(alloc, &self.small)?,
-        };
-        match words.as_slice() {
-            ["same"] => {}
-            ["none"] => records.clear(),
-            ["without", kind, id] => {
-                let (Ok(kind), Ok(id)) = (kind.parse::<u8>(), id.parse::<u32>()) else {
-                    return differs(alloc, line);
-                };
-                records = without(records, Key { kind, id })?;
-            }
-            ["also", words @ ..] => records.push(record_of(alloc, words, 0)?)?,
-            words => records = with(alloc, records, words)?,
-        }
-        self.records = Some(records);
+        let records = self.taken(alloc)?;
+        self.records = Some(changed(alloc, records, &words)?);
         Ok(())
     }
 }

@@ -60,21 +60,34 @@ fn object(alloc: Global, name: &str, bytes: &[u8]) -> Result<Object, NoMemory> {
     })
 }
 
-// Three objects, two of one name; mark 3 in place of mark 1; and two names, of which one has nothing.
+// The objects of the change, two of one name.
+const OBJECTS: [(&str, &[u8]); 3] = [("log_2", b"abcd"), ("log_3", b"efgh"), ("log_2", b"ijkl")];
+
+fn objects(alloc: Global) -> Result<Seq<Object>, NoMemory> {
+    let mut objects = Seq::new(alloc);
+    for (name, bytes) in OBJECTS {
+        objects.push(object(alloc, name, bytes)?)?;
+    }
+    Ok(objects)
+}
+
+// Two names, of which one has nothing.
+fn removes(alloc: Global) -> Result<Seq<Text>, NoMemory> {
+    let mut removes = Seq::new(alloc);
+    for name in ["copy_1", "copy_2"] {
+        removes.push(text(alloc, name)?)?;
+    }
+    Ok(removes)
+}
+
+// The objects, mark 3 in place of mark 1, and the names.
 fn change(alloc: Global) -> Result<Commit, NoMemory> {
-    let mut change = Commit {
-        objects: Seq::new(alloc),
-        edits: Seq::new(alloc),
-        removes: Seq::new(alloc),
-    };
-    change.objects.push(object(alloc, "log_2", b"abcd")?)?;
-    change.objects.push(object(alloc, "log_3", b"efgh")?)?;
-    change.objects.push(object(alloc, "log_2", b"ijkl")?)?;
-    change.edits.push(Edit::Put(mark(3)))?;
-    change.edits.push(Edit::Drop(Key { kind: 6, id: 1 }))?;
-    change.removes.push(text(alloc, "copy_1")?)?;
-    change.removes.push(text(alloc, "copy_2")?)?;
-    Ok(change)
+    let edits = [Edit::Put(mark(3)), Edit::Drop(Key { kind: 6, id: 1 })];
+    Ok(Commit {
+        objects: objects(alloc)?,
+        edits: Seq::from_vec(Vec::from_array(alloc, edits)?),
+        removes: removes(alloc)?,
+    })
 }
 
 // Writes each name with its bytes.

@@ -1,7 +1,9 @@
 //! The database of which a catalog tells.
 use crate::made::catalog_of;
-use rm_base::{Policy, Seq};
-use rm_catalog::{BaseEntry, DatafileEntry, IncarnationEntry, MarkEntry, Record, SwitchEntry};
+use rm_base::{NoMemory, Policy, Seq};
+use rm_catalog::{
+    BaseEntry, Catalog, DatafileEntry, IncarnationEntry, MarkEntry, Record, SwitchEntry,
+};
 use rm_evidence::{base_of, datafile, has_database, switches, threads};
 use rm_history::{Datafile, Switch};
 use rm_test_harness::Fault;
@@ -50,32 +52,43 @@ fn file(file: u32, creation: u64, blocks: u32) -> Record {
     })
 }
 
+fn records(alloc: Global) -> Result<Seq<Record>, NoMemory> {
+    let records = [
+        Record::Base(BASE),
+        Record::Incarnation(FIRST),
+        file(1, 1, 4),
+        file(2, 12, 8),
+        Record::Mark(MARK),
+        Record::Switch(SWITCH),
+    ];
+    Ok(Seq::from_vec(Vec::from_array(alloc, records)?))
+}
+
+const SECOND: Datafile = Datafile {
+    inc: 1,
+    creation: 12,
+    blocks: 8,
+};
+
+const OFF: Switch = Switch {
+    thread: 2,
+    inc: 1,
+    scn: 15,
+    on: false,
+};
+
+fn is_told(catalog: &Catalog) -> bool {
+    let is_base = has_database(catalog) && base_of(catalog) == Some(BASE);
+    let others = [datafile(catalog, 0), datafile(catalog, 3)];
+    let are_files = datafile(catalog, 2) == Some(SECOND) && others == [None, None];
+    is_base && threads(catalog) == 2 && are_files
+}
+
 /// A catalog tells the database.
 pub fn a_database(alloc: Global) -> Result<bool, Fault> {
-    let mut records = Vec::new(alloc);
-    records.push(Record::Base(BASE))?;
-    records.push(Record::Incarnation(FIRST))?;
-    records.push(file(1, 1, 4))?;
-    records.push(file(2, 12, 8))?;
-    records.push(Record::Mark(MARK))?;
-    records.push(Record::Switch(SWITCH))?;
-    let catalog = catalog_of(alloc, Seq::from_vec(records))?;
-    let second = Datafile {
-        inc: 1,
-        creation: 12,
-        blocks: 8,
-    };
-    let is_told = has_database(&catalog) && base_of(&catalog) == Some(BASE);
-    let others = [datafile(&catalog, 0), datafile(&catalog, 3)];
-    let are_files = datafile(&catalog, 2) == Some(second) && others == [None, None];
-    let off = Switch {
-        thread: 2,
-        inc: 1,
-        scn: 15,
-        on: false,
-    };
-    let is_off = switches(alloc, &catalog)?.as_slice() == [off].as_slice();
-    Ok(is_told && threads(&catalog) == 2 && are_files && is_off)
+    let catalog = catalog_of(alloc, records(alloc)?)?;
+    let off = switches(alloc, &catalog)?;
+    Ok(is_told(&catalog) && off.as_slice() == [OFF].as_slice())
 }
 
 /// No record tells no database.

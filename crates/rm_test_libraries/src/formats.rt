@@ -41,19 +41,39 @@ fn body(bytes: &[u8]) -> &[u8] {
     bytes.get(..len).unwrap_or(&[])
 }
 
-/// No front of the bytes is read, and nothing longer.
-pub fn no_front<F: Format>(alloc: Global, bytes: &[u8]) -> Result<bool, Fault> {
-    for n in 0..bytes.len() {
-        if is_read::<F>(alloc, bytes.get(..n).unwrap_or(&[]))? {
-            return Ok(false);
-        }
-    }
+// The bytes with one more behind them.
+fn longer(alloc: Global, bytes: &[u8]) -> Result<Vec<u8>, NoMemory> {
     let mut longer = Vec::from_slice(alloc, bytes)?;
     longer.push(0)?;
-    let mut sealed = Vec::from_slice(alloc, body(bytes))?;
-    sealed.push(0)?;
-    seal(&mut sealed)?;
-    Ok(!is_read::<F>(alloc, &longer)? && !is_read::<F>(alloc, &sealed)?)
+    Ok(longer)
+}
+
+// The bytes with one more before their digest, which is made anew.
+fn longer_body(alloc: Global, bytes: &[u8]) -> Result<Vec<u8>, NoMemory> {
+    let mut longer = longer(alloc, body(bytes))?;
+    seal(&mut longer)?;
+    Ok(longer)
+}
+
+// Whether a front of the bytes is read.
+fn is_front_read<F: Format>(alloc: Global, bytes: &[u8]) -> Result<bool, Fault> {
+    for n in 0..bytes.len() {
+        if is_read::<F>(alloc, bytes.get(..n).unwrap_or(&[]))? {
+            return Ok(true);
+        }
+    }
+    Ok(false)
+}
+
+// Whether something longer is read.
+fn is_longer_read<F: Format>(alloc: Global, bytes: &[u8]) -> Result<bool, Fault> {
+    let is_so = is_read::<F>(alloc, &longer(alloc, bytes)?)?;
+    Ok(is_so || is_read::<F>(alloc, &longer_body(alloc, bytes)?)?)
+}
+
+/// No front of the bytes is read, and nothing longer.
+pub fn no_front<F: Format>(alloc: Global, bytes: &[u8]) -> Result<bool, Fault> {
+    Ok(!is_front_read::<F>(alloc, bytes)? && !is_longer_read::<F>(alloc, bytes)?)
 }
 
 // The bytes with one of them changed.

@@ -120,17 +120,28 @@ pub fn each_byte(alloc: Global) -> Result<bool, Fault> {
     )
 }
 
+// Appends the record of this number, at SCN 2.
+fn push_record(out: &mut Vec<u8>, number: u32) -> Result<(), NoMemory> {
+    push_u64(out, 2)?;
+    push_u32(out, number / 65_536 + 1)?;
+    push_u32(out, number % 65_536)?;
+    out.extend_from_slice(&[7; 64])?;
+    Ok(())
+}
+
+// Appends what stands before so many records.
+fn push_head(out: &mut Vec<u8>, count: u32) -> Result<(), NoMemory> {
+    out.extend_from_slice(b"RMLG\x01\0\0\0\x01\0\0\0\x01\x01\0\0\0\x01\0\0\0\0\0\0\0\x01")?;
+    push_u64(out, 4)?;
+    push_u32(out, count)
+}
+
 // The bytes of a log with so many records, all at SCN 2.
 fn long_log(alloc: Global, count: u32) -> Result<Vec<u8>, NoMemory> {
     let mut out = Vec::new(alloc);
-    out.extend_from_slice(b"RMLG\x01\0\0\0\x01\0\0\0\x01\x01\0\0\0\x01\0\0\0\0\0\0\0\x01")?;
-    push_u64(&mut out, 4)?;
-    push_u32(&mut out, count)?;
-    for i in 0..count {
-        push_u64(&mut out, 2)?;
-        push_u32(&mut out, i / 65_536 + 1)?;
-        push_u32(&mut out, i % 65_536)?;
-        out.extend_from_slice(&[7; 64])?;
+    push_head(&mut out, count)?;
+    for number in 0..count {
+        push_record(&mut out, number)?;
     }
     seal(&mut out)?;
     Ok(out)

@@ -162,11 +162,8 @@ pub fn of_files(alloc: Global) -> Result<bool, Fault> {
     if !is_valid_log(&file) {
         return Ok(false);
     }
-    let mut files = Seq::new(alloc);
-    files.push(Some(file))?;
-    files.push(None)?;
-    files.push(None)?;
-    files.push(None)?;
+    let files = Vec::from_array(alloc, [Some(file), None, None, None])?;
+    let files = Seq::from_vec(files);
     let logs = OnlineLogs::from_logs(alloc, 7, 3, [true, false, true, false], files)?;
     if !logs.has(1) || !logs.has(3) {
         return Ok(false);

@@ -82,9 +82,12 @@ fn tell_kernels(rt: &HostRuntime) -> io::Result<()> {
 }
 
 fn tell_catalogs(rt: &HostRuntime) -> io::Result<()> {
-    let alloc = rt.alloc();
     let text = fs::read_to_string(rt, "catalog.txt")?;
-    let text = text.as_str();
+    tell_catalog(rt, text.as_str())
+}
+
+fn tell_catalog(rt: &HostRuntime, text: &str) -> io::Result<()> {
+    let alloc = rt.alloc();
     tell_cases(rt, "rules of records", catalog::rules(alloc, text))?;
     tell(rt, "calls of a catalog", catalog::calls(alloc, text))?;
     tell(rt, "threads of a catalog", catalog::threads(alloc, text))?;
@@ -106,14 +109,22 @@ fn tell_controls(rt: &HostRuntime) -> io::Result<()> {
     tell(rt, "what waits is sent", control::sent(alloc))
 }
 
+fn tell_log_numbers(rt: &HostRuntime) -> io::Result<()> {
+    let text = fs::read_to_string(rt, "logs.txt")?;
+    let numbers = log_bytes::numbers(rt.alloc(), text.as_str());
+    tell_cases(rt, "bytes of logs", numbers)
+}
+
+fn tell_a_log(rt: &HostRuntime) -> io::Result<()> {
+    let hex = fs::read_to_string(rt, "log_of_two_records.txt")?;
+    let two = log_bytes::two_records(rt.alloc(), hex.as_str());
+    tell(rt, "a log of two records", two)
+}
+
 fn tell_log_bytes(rt: &HostRuntime) -> io::Result<()> {
     let alloc = rt.alloc();
-    let text = fs::read_to_string(rt, "logs.txt")?;
-    let hex = fs::read_to_string(rt, "log_of_two_records.txt")?;
-    let numbers = log_bytes::numbers(alloc, text.as_str());
-    tell_cases(rt, "bytes of logs", numbers)?;
-    let two = log_bytes::two_records(alloc, hex.as_str());
-    tell(rt, "a log of two records", two)?;
+    tell_log_numbers(rt)?;
+    tell_a_log(rt)?;
     tell(rt, "no front of it", log_bytes::no_front(alloc))?;
     tell(rt, "each byte changed", log_bytes::each_byte(alloc))?;
     tell(rt, "the longest log", log_bytes::longest(alloc))
@@ -131,22 +142,30 @@ fn tell_logs(rt: &HostRuntime) -> io::Result<()> {
     tell(rt, "logs of log files", logs::of_files(alloc))
 }
 
+fn tell_a_copy(rt: &HostRuntime) -> io::Result<()> {
+    let hex = fs::read_to_string(rt, "copy_of_two_blocks.txt")?;
+    let copy = piece_bytes::two_blocks(rt.alloc(), hex.as_str());
+    tell(rt, "a copy of two blocks", copy)
+}
+
 fn tell_pieces(rt: &HostRuntime) -> io::Result<()> {
     let alloc = rt.alloc();
-    let hex = fs::read_to_string(rt, "copy_of_two_blocks.txt")?;
-    let copy = piece_bytes::two_blocks(alloc, hex.as_str());
-    tell(rt, "a copy of two blocks", copy)?;
+    tell_a_copy(rt)?;
     tell(rt, "no front of it", piece_bytes::no_front(alloc))?;
     tell(rt, "each byte changed", piece_bytes::each_byte(alloc))?;
     tell(rt, "rows from an SCN on", piece_bytes::rows_from(alloc))?;
     tell_table(rt, "pieces", piece_bytes::Pieces)
 }
 
+fn tell_a_set(rt: &HostRuntime) -> io::Result<()> {
+    let hex = fs::read_to_string(rt, "set_of_two_files.txt")?;
+    let set = set_bytes::two_files(rt.alloc(), hex.as_str());
+    tell(rt, "a set of two datafiles", set)
+}
+
 fn tell_sets(rt: &HostRuntime) -> io::Result<()> {
     let alloc = rt.alloc();
-    let hex = fs::read_to_string(rt, "set_of_two_files.txt")?;
-    let set = set_bytes::two_files(alloc, hex.as_str());
-    tell(rt, "a set of two datafiles", set)?;
+    tell_a_set(rt)?;
     tell(rt, "no front of it", set_bytes::no_front(alloc))?;
     tell(rt, "each byte changed", set_bytes::each_byte(alloc))?;
     tell(rt, "a set of none", set_bytes::none(alloc))?;
@@ -158,7 +177,7 @@ fn tell_sets(rt: &HostRuntime) -> io::Result<()> {
 
 fn tell_objects(rt: &HostRuntime) -> io::Result<()> {
     let alloc = rt.alloc();
-    tell(rt, "names have the id", objects::names(alloc))?;
+    tell::<Fault>(rt, "names have the id", Ok(objects::names(alloc)))?;
     tell(rt, "a log is an object", objects::a_log(alloc))?;
     tell(rt, "a piece is an object", objects::a_piece(alloc))?;
     tell(rt, "a database", database::a_database(alloc))?;

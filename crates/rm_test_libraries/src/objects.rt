@@ -1,24 +1,24 @@
 //! Names, and a log and a piece as objects.
 use crate::piece_bytes::{bytes_of, full, row};
 use rm_base::sealed::digest_of;
-use rm_base::{Kind, Seq, Status, Text};
+use rm_base::{Kind, NoMemory, Seq, Status, Text};
 use rm_catalog::{LogEntry, PieceEntry};
 use rm_evidence::{log_name, log_object, piece_name, piece_object, set_name, site_name};
 use rm_redo::{LogFile, encode_log, is_valid_log};
 use rm_test_harness::{Fault, differs};
 use std::alloc::Global;
 
+fn is_so(name: Result<Text, NoMemory>, wanted: &str) -> bool {
+    name.is_ok_and(|name| name.as_str() == wanted)
+}
+
 /// Names have the id.
-pub fn names(alloc: Global) -> Result<bool, Fault> {
-    let log = log_name(alloc, 7)?;
-    let piece = piece_name(alloc, false, 12)?;
-    let copy = piece_name(alloc, true, 12)?;
-    let set = set_name(alloc, 9)?;
-    let site = site_name(alloc, 4294967295)?;
-    let are_names = log.as_str() == "log_7"
-        && set.as_str() == "set_9"
-        && site.as_str() == "site_4294967295";
-    Ok(are_names && piece.as_str() == "piece_12" && copy.as_str() == "copy_12")
+pub fn names(alloc: Global) -> bool {
+    is_so(log_name(alloc, 7), "log_7")
+        && is_so(piece_name(alloc, false, 12), "piece_12")
+        && is_so(piece_name(alloc, true, 12), "copy_12")
+        && is_so(set_name(alloc, 9), "set_9")
+        && is_so(site_name(alloc, 4294967295), "site_4294967295")
 }
 
 fn log_bytes(alloc: Global) -> Result<Seq<u8>, Fault> {
@@ -55,17 +55,27 @@ fn log_entry(bytes: &[u8], sequence: u32) -> LogEntry {
     }
 }
 
+// The sequence number of the log that an object of a record is.
+fn sequence_of(alloc: Global, entry: &LogEntry, bytes: &[u8]) -> Result<Option<u32>, Fault> {
+    Ok(log_object(alloc, entry, bytes)?.map(|log| log.sequence))
+}
+
 /// A log is the object of its record alone.
 pub fn a_log(alloc: Global) -> Result<bool, Fault> {
     let bytes = log_bytes(alloc)?;
     let bytes = bytes.as_slice();
     let entry = log_entry(bytes, 3);
-    let found = log_object(alloc, &entry, bytes)?;
-    let other = log_object(alloc, &log_entry(bytes, 4), bytes)?;
-    let no_log = log_object(alloc, &log_entry(b"RMLG", 3), b"RMLG")?;
-    let no_object = log_object(alloc, &entry, b"RMLG")?;
-    let is_found = found.is_some_and(|log| log.sequence == 3);
-    Ok(is_found && other.is_none() && no_log.is_none() && no_object.is_none())
+    let is_found = sequence_of(alloc, &entry, bytes)? == Some(3);
+    for (entry, bytes) in [
+        (log_entry(bytes, 4), bytes),
+        (log_entry(b"RMLG", 3), b"RMLG"),
+        (entry, b"RMLG"),
+    ] {
+        if sequence_of(alloc, &entry, bytes)?.is_some() {
+            return Ok(false);
+        }
+    }
+    Ok(is_found)
 }
 
 // The record of an object of these bytes.

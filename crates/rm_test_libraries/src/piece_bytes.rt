@@ -1,7 +1,7 @@
 //! Pieces as bytes: a copy of two blocks, its bytes changed and cut, and each number at its limits.
 use crate::formats::{self, Format, count_read, digits, is_changed_read, word};
 use rm_base::sealed::seal;
-use rm_base::{Block, FormatFault, Kind, Row, Seq};
+use rm_base::{Block, FormatFault, Kind, NoMemory, Row, Seq};
 use rm_piece::{Piece, decode_piece, encode_piece, high_of, is_valid, pick};
 use rm_test_harness::{Fault, Told, differs, numbers};
 use std::alloc::Global;
@@ -77,10 +77,8 @@ pub fn each_byte(alloc: Global) -> Result<bool, Fault> {
 // How many bytes each number of a piece with two rows has, behind "RMPC" and the format.
 const WIDTHS: [usize; 13] = [1, 4, 4, 4, 4, 8, 8, 8, 4, 4, 8, 4, 8];
 
-// The bytes of these numbers. Each row ends with its content, of 64 bytes.
-fn spelled(alloc: Global, numbers: &[u64]) -> Result<Vec<u8>, Fault> {
-    let mut out = Vec::with_capacity(alloc, 300)?;
-    out.extend_from_slice(b"RMPC\x01")?;
+// Appends these numbers. Each row ends with its content, of 64 bytes.
+fn push_numbers(out: &mut Vec<u8>, numbers: &[u64]) -> Result<(), NoMemory> {
     for (place, (number, width)) in numbers.iter().zip(WIDTHS).enumerate() {
         let bytes = number.to_be_bytes();
         out.extend_from_slice(bytes.get(8usize.saturating_sub(width)..).unwrap_or(&[]))?;
@@ -88,6 +86,13 @@ fn spelled(alloc: Global, numbers: &[u64]) -> Result<Vec<u8>, Fault> {
             out.extend_from_slice(&[7; 64])?;
         }
     }
+    Ok(())
+}
+
+// The bytes of these numbers.
+fn spelled(alloc: Global, numbers: &[u64]) -> Result<Vec<u8>, NoMemory> {
+    let mut out = Vec::from_slice(alloc, b"RMPC\x01")?;
+    push_numbers(&mut out, numbers)?;
     seal(&mut out)?;
     Ok(out)
 }

@@ -62,6 +62,10 @@ fn bytes_of_two(alloc: Global) -> Result<Vec<u8>, Fault> {
     bytes_of(alloc, &set_of(1, two(alloc)?))
 }
 
+fn has_rows(alloc: Global, member: &SetFile, wanted: &str) -> Result<bool, Fault> {
+    Ok(rows_text(alloc, member.piece.rows.as_slice())?.as_str() == wanted)
+}
+
 /// Its bytes are those of the file, of which another program made the digest. What is read has all rows.
 pub fn two_files(alloc: Global, hex: &str) -> Result<bool, Fault> {
     let bytes = bytes_of_two(alloc)?;
@@ -72,10 +76,8 @@ pub fn two_files(alloc: Global, hex: &str) -> Result<bool, Fault> {
     let [first, second] = read.members.as_slice() else {
         return Ok(false);
     };
-    let first_rows = rows_text(alloc, first.piece.rows.as_slice())?;
-    let second_rows = rows_text(alloc, second.piece.rows.as_slice())?;
-    let are_rows = first_rows.as_str() == "0 3 A, 1 4 -, 2 1 -, 3 1 -"
-        && second_rows.as_str() == "0 2 -, 1 2 -, 2 2 -, 3 2 -";
+    let are_rows = has_rows(alloc, first, "0 3 A, 1 4 -, 2 1 -, 3 1 -")?
+        && has_rows(alloc, second, "0 2 -, 1 2 -, 2 2 -, 3 2 -")?;
     Ok(digits.as_str() == hex.trim_end() && bytes.len() == 283 && are_rows)
 }
 

@@ -7,6 +7,7 @@ use rm_base::sealed::digest_of;
 use rm_base::{FileNo, Kind, MemStore, NoMemory, Seq, Status, Store, Text};
 use rm_catalog::{Catalog, Record, SetEntry, SetPart};
 use rm_evidence::{Evidence, has_database};
+use rm_piece::Piece;
 use rm_test_harness::{Fault, Told, differs, head, status_of};
 use std::alloc::Global;
 
@@ -106,6 +107,15 @@ fn at_hand(alloc: Global, status: Status, word: &str) -> Result<Evidence, Fault>
     found(alloc, &catalog, &mut store)
 }
 
+// The ids and datafiles of the bases.
+fn bases_text(alloc: Global, bases: &[(u32, Piece)]) -> Result<String, Fault> {
+    let mut pairs = Vec::new(alloc);
+    for (id, piece) in bases {
+        pairs.push((*id, u64::from(piece.file)))?;
+    }
+    pairs_text(alloc, &pairs)
+}
+
 /// Objects, each of which is found, skipped or passed over.
 #[derive(Drop)]
 pub struct SetObjects;
@@ -114,11 +124,7 @@ impl Told for SetObjects {
     fn told(&mut self, alloc: Global, asked: &str) -> Result<String, Fault> {
         let (status, word) = head(asked);
         let found = at_hand(alloc, status_of(alloc, status)?, word)?;
-        let mut bases = Vec::new(alloc);
-        for (id, piece) in found.bases.as_slice() {
-            bases.push((*id, u64::from(piece.file)))?;
-        }
-        let mut out = pairs_text(alloc, &bases)?;
+        let mut out = bases_text(alloc, found.bases.as_slice())?;
         if let Some((id, bad)) = found.skipped.as_slice().first() {
             write!(out, "; {id} {bad:?}")?;
         }

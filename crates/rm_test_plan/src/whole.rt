@@ -16,19 +16,29 @@ struct Site {
     store: MemStore,
 }
 
+// The bytes of a log, of a full piece and of a level 1.
+#[derive(Drop)]
+struct Bytes {
+    log: Seq<u8>,
+    full: Seq<u8>,
+    level1: Seq<u8>,
+}
+
+fn made_bytes(alloc: Global) -> Result<Bytes, Fault> {
+    Ok(Bytes {
+        log: log_bytes(alloc, 3)?,
+        full: piece_bytes(alloc, Kind::Full, 0)?,
+        level1: piece_bytes(alloc, Kind::Level1, 1)?,
+    })
+}
+
 // A store that has a log and two pieces, and whose gets of these numbers are to fail.
-fn filled(
-    alloc: Global,
-    gets: &[u64],
-    log: &[u8],
-    full: &[u8],
-    level1: &[u8],
-) -> Result<MemStore, Fault> {
+fn filled(alloc: Global, gets: &[u64], bytes: &Bytes) -> Result<MemStore, Fault> {
     let mut store = store(alloc, gets)?;
     let puts = [
-        store.put("log_1", log),
-        store.put("piece_2", full),
-        store.put("piece_3", level1),
+        store.put("log_1", bytes.log.as_slice()),
+        store.put("piece_2", bytes.full.as_slice()),
+        store.put("piece_3", bytes.level1.as_slice()),
     ];
     if puts == [Ok(()), Ok(()), Ok(())] {
         Ok(store)
@@ -37,27 +47,38 @@ fn filled(
     }
 }
 
-// The records of the log 1, the full piece 2, the level 1 piece 3, the log 6 and the full piece 5.
-fn records(alloc: Global, log: &[u8], full: &[u8], level1: &[u8]) -> Result<Seq<Record>, NoMemory> {
+// The pieces: their id, kind and from.
+const PIECES: [(u32, Kind, u64); 3] = [
+    (2, Kind::Full, 0),
+    (3, Kind::Level1, 1),
+    (5, Kind::Full, 0),
+];
+
+// The records of the logs 1 and 6, and of the pieces.
+fn records(alloc: Global, bytes: &Bytes) -> Result<Seq<Record>, NoMemory> {
     let mut records = Seq::new(alloc);
-    records.push(Record::Log(log_entry(1, log, Status::Available)))?;
-    records.push(Record::Log(log_entry(6, log, Status::Available)))?;
-    records.push(Record::Piece(piece_entry(alloc, 2, Kind::Full, 0, full)?))?;
-    records.push(Record::Piece(piece_entry(alloc, 3, Kind::Level1, 1, level1)?))?;
-    records.push(Record::Piece(piece_entry(alloc, 5, Kind::Full, 0, full)?))?;
+    for id in [1, 6] {
+        let log = log_entry(id, bytes.log.as_slice(), Status::Available);
+        records.push(Record::Log(log))?;
+    }
+    for (id, kind, from) in PIECES {
+        let bytes = if from == 0 {
+            &bytes.full
+        } else {
+            &bytes.level1
+        };
+        let piece = piece_entry(alloc, id, kind, from, bytes.as_slice())?;
+        records.push(Record::Piece(piece))?;
+    }
     Ok(records)
 }
 
 // A catalog of them, and a store that has the first three.
 fn make_site(alloc: Global, gets: &[u64]) -> Result<Site, Fault> {
-    let log = log_bytes(alloc, 3)?;
-    let full = piece_bytes(alloc, Kind::Full, 0)?;
-    let level1 = piece_bytes(alloc, Kind::Level1, 1)?;
-    let (log, full, level1) = (log.as_slice(), full.as_slice(), level1.as_slice());
-    let records = records(alloc, log, full, level1)?;
+    let bytes = made_bytes(alloc)?;
     Ok(Site {
-        catalog: catalog(alloc, records)?,
-        store: filled(alloc, gets, log, full, level1)?,
+        catalog: catalog(alloc, records(alloc, &bytes)?)?,
+        store: filled(alloc, gets, &bytes)?,
     })
 }
 

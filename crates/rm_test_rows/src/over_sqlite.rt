@@ -1,9 +1,9 @@
 //! Two sessions over a catalog in a table of sqlite, in memory, which tells what it accepted.
 use rm_base::{Failing, MemClock, MemSink, MemSource, MemStore, NoMemory, StoreFailing, Text};
+use rm_catalog::Keeper;
 use rm_keeper_sql::ToldKeeper;
 use rm_tool::OpenGate;
 use rm_tool::run::run;
-use sqlite::MemStore as Pages;
 use std::alloc::Global;
 use std::sync::Wait;
 use std::thread::Threads;
@@ -39,14 +39,19 @@ fn words(alloc: Global) -> Result<Vec<Text>, NoMemory> {
     Ok(words)
 }
 
+// A sink for what a session writes.
+fn sink(alloc: Global) -> Result<MemSink, NoMemory> {
+    MemSink::new(alloc, 4096, 16, never(alloc))
+}
+
 // The status of a session of this script.
-fn session<R: Threads + Wait + Sync>(
+fn session<R: Threads + Wait + Sync, C: Keeper>(
     rt: &R,
     alloc: Global,
     script: &[u8],
     sink: &mut MemSink,
     store: &mut MemStore,
-    keeper: &mut ToldKeeper<Pages>,
+    keeper: &mut C,
 ) -> Result<u8, NoMemory> {
     let mut source = MemSource::new(Vec::from_slice(alloc, script)?, 64, never(alloc));
     let words = words(alloc)?;
@@ -64,13 +69,20 @@ fn session<R: Threads + Wait + Sync>(
     ))
 }
 
+// It stands over any keeper, so that its proof does not look into a connection.
+fn sessions<R: Threads + Wait + Sync, C: Keeper>(
+    rt: &R,
+    alloc: Global,
+    keeper: &mut C,
+) -> Result<bool, NoMemory> {
+    let mut store = store(alloc);
+    let first = session(rt, alloc, FIRST, &mut sink(alloc)?, &mut store, keeper)?;
+    let mut sink = sink(alloc)?;
+    let second = session(rt, alloc, SECOND, &mut sink, &mut store, keeper)?;
+    Ok(first == 0 && second == 0 && sink.bytes() == ANSWER)
+}
+
 /// The second session finds in the table what the first saved, and answers the same.
 pub fn two_sessions<R: Threads + Wait + Sync>(rt: &R, alloc: Global) -> Result<bool, NoMemory> {
-    let mut keeper = ToldKeeper::in_memory(alloc)?;
-    let mut store = store(alloc);
-    let mut sink = MemSink::new(alloc, 4096, 16, never(alloc))?;
-    let first = session(rt, alloc, FIRST, &mut sink, &mut store, &mut keeper)?;
-    let mut sink = MemSink::new(alloc, 4096, 16, never(alloc))?;
-    let second = session(rt, alloc, SECOND, &mut sink, &mut store, &mut keeper)?;
-    Ok(first == 0 && second == 0 && sink.bytes() == ANSWER)
+    sessions(rt, alloc, &mut ToldKeeper::in_memory(alloc)?)
 }

@@ -1,11 +1,11 @@
 //! A row, read line by line.
 use crate::calls::{Calls, call_of};
 use crate::digits::{bytes_in, record_of};
-use crate::site::Site;
+use crate::site::{Site, Stores};
 use crate::trial::{MOST, ROOM, Trial, Wanted, object};
-use rm_base::{Store, Text};
+use rm_base::{MemStore, Store, Text};
 use rm_catalog::{Edit, Key};
-use rm_shelf::Shelf;
+use rm_shelf::{MemShelf, Shelf};
 use rm_test_harness::{Fault, differs};
 use std::alloc::Global;
 use std::sync::Wait;
@@ -222,6 +222,19 @@ impl Row {
         Ok(())
     }
 
+    // The run that the lines have told of.
+    fn trial(&self) -> Trial<'_> {
+        Trial {
+            alloc: self.alloc,
+            words: &self.words,
+            script: self.script.as_bytes(),
+            clock: &self.clock,
+            failing: &self.failing,
+            room: self.room,
+            most: self.most,
+        }
+    }
+
     // What the run leaves of the site, where it gives what is wanted.
     fn left_by<R: Threads + Wait + Sync>(
         &self,
@@ -230,15 +243,6 @@ impl Row {
         status: u64,
         len: usize,
     ) -> Result<Site, Fault> {
-        let trial = Trial {
-            alloc: self.alloc,
-            words: &self.words,
-            script: self.script.as_bytes(),
-            clock: &self.clock,
-            failing: &self.failing,
-            room: self.room,
-            most: self.most,
-        };
         let wanted = Wanted {
             status,
             text: self.written.as_str(),
@@ -246,21 +250,33 @@ impl Row {
         };
         let Site { mut stores, shelf } = site;
         let mut store = stores.take(self.store.as_str(), &self.failing)?;
-        let shelf = match &self.into {
-            None => trial.gives(rt, &mut store, shelf, self.number, &wanted)?,
-            Some(into) => {
-                let mut to = stores.take(into.name.as_str(), &self.failing)?;
-                let shelf = if into.is_standby {
-                    trial.stands(rt, &mut store, &mut to, shelf, self.number, &wanted)?
-                } else {
-                    trial.duplicates(rt, &mut store, &mut to, shelf, &wanted)?
-                };
-                stores.put_back(into.name.as_str(), to)?;
-                shelf
-            }
-        };
+        let shelf = self.shelf_left(rt, &mut stores, &mut store, shelf, &wanted)?;
         stores.put_back(self.store.as_str(), store)?;
         Ok(Site { stores, shelf })
+    }
+
+    // What it leaves of the shelf, over this store of the site.
+    fn shelf_left<R: Threads + Wait + Sync>(
+        &self,
+        rt: &R,
+        stores: &mut Stores,
+        store: &mut MemStore,
+        shelf: MemShelf,
+        wanted: &Wanted<'_>,
+    ) -> Result<MemShelf, Fault> {
+        let trial = self.trial();
+        let Some(into) = &self.into else {
+            return trial.gives(rt, store, shelf, self.number, wanted);
+        };
+        let name = into.name.as_str();
+        let mut to = stores.take(name, &self.failing)?;
+        let shelf = if into.is_standby {
+            trial.stands(rt, store, &mut to, shelf, self.number, wanted)?
+        } else {
+            trial.duplicates(rt, store, &mut to, shelf, wanted)?
+        };
+        stores.put_back(name, to)?;
+        Ok(shelf)
     }
 
     // The last run left an object of this name of `len` bytes, which begin so.
