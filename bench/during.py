@@ -1,5 +1,5 @@
 #!/usr/bin/env python3
-"""Random scripts of BACKUPs while the database writes, each by 1, 4 and 16 channels:
+"""Random scripts of BACKUPs while the database writes, each by 1, 2, 4 and 16 channels:
     bench/during.py [TIMES] [PROGRAM]
 TIMES is how many scripts (200), PROGRAM what runs them (./rman). A script has a BACKUP of level 0 and two of level 1,
 each with up to 60 writes by up to 4 threads. Its replies must be those of some legal order: the SCNs of a DURING are the ones
@@ -152,7 +152,7 @@ def check_last_record(program, channels):
 def main():
     times = int(sys.argv[1]) if len(sys.argv) > 1 else 200
     program = sys.argv[2] if len(sys.argv) > 2 else "./rman"
-    for channels in (1, 4, 16):
+    for channels in (1, 2, 4, 16):
         check_last_record(program, channels)
         changed = 0
         for seed in range(times):

@@ -83,7 +83,7 @@ CREATE DATAFILE BLOCKS 2; WRITE DATAFILE 1 BLOCK 3 VALUE 'on'; ALTER SYSTEM ARCH
 VALIDATE ALL; RECOVER DATABASE TEST;"""
 
 # How a session ends whose device failed, or was another's, and what standard error says.
-DEVICES = {5: "rman: store: ", 6: "rman: catalog: ", 7: "rman: memory ran out"}
+DEVICES = {5: "rman: store: ", 6: "rman: (catalog|control): ", 7: "rman: memory ran out"}
 # Ways of bench/faults.c: at a full disk and a dead one the later calls fail too.
 WAYS = ["eio", "enospc", "eintr", "dead", "full"]
 WAYS_OF_WRITES = [*WAYS, "half", "torn"]
@@ -95,6 +95,8 @@ Ended = collections.namedtuple("Ended", "status out err")
 
 class Folder:
     """A folder that has a store and a catalog. A state of it has what stands under each path: bytes, or None for a folder."""
+
+    name, empty = "", {}
 
     def __init__(self, path, program, library):
         self.path, self.program, self.library = path, program, library
@@ -129,12 +131,13 @@ class Folder:
         return state
 
     def begin(self, script, store="objects", catalog="catalog", **how):
-        """A session, of which that call meets a fault in that way."""
-        return self.start(["--store", f"{self.path}/{store}", "--catalog", f"{self.path}/{catalog}"], script, **how)
+        """A session, of which that call meets a fault in that way, by as many channels as CHANNELS says, if it is set."""
+        channels = ["--channels", os.environ["CHANNELS"]] if "CHANNELS" in os.environ else []
+        return self.start(["--store", f"{self.path}/{store}", "--catalog", f"{self.path}/{catalog}", *channels], script, **how)
 
-    def start(self, words, script, number=0, way="", log=None, **how):
-        """The program with these words."""
-        told = {"FAULTS_ROOM": self.path, "FAULTS_AT": str(number), "FAULTS_WAY": way, "FAULTS_LOG": log or "", "LD_PRELOAD": self.library}
+    def start(self, words, script, number=0, way="", log=None, room=None, **how):
+        """The program with these words. Calls are counted on files in the room, which is all, where it is not said."""
+        told = {"FAULTS_ROOM": room or self.path, "FAULTS_AT": str(number), "FAULTS_WAY": way, "FAULTS_LOG": log or "", "LD_PRELOAD": self.library}
         stdin = subprocess.PIPE if script is None else open_text(script)
         words = [self.program, *words]
         begun = subprocess.Popen(words, stdin=stdin, stdout=subprocess.PIPE, stderr=subprocess.PIPE, env=os.environ | told, **how)
@@ -149,6 +152,16 @@ class Folder:
         """What the next session tells of all that there is, and what comes of the one by which it goes on. Warnings are left out."""
         found = self.run(ASKS, **how), self.run(GOES_ON, **how)
         return tuple(Ended(one.status, one.out, without_warnings(one.err)) for one in found)
+
+
+class Controlled(Folder):
+    """A folder that has a control file too, and its catalog in a folder of its own."""
+
+    name, empty = "with a control file, ", {"far": None}
+
+    def start(self, words, script, **how):
+        there = {f"{self.path}/catalog": f"{self.path}/far/catalog"}
+        return super().start([*(there.get(word, word) for word in words), "--control", f"{self.path}/near"], script, **how)
 
 
 def open_text(text):
@@ -308,7 +321,7 @@ class Reference:
             return f"status {how.status}, other replies: {how.out[-200:]!r}"
         if how.status == 0:
             return None if how.out == self.out else f"status 0 behind {answered} statements"
-        if how.status not in devices or DEVICES[how.status] not in how.err:
+        if how.status not in devices or not re.search(DEVICES[how.status], how.err):
             return f"status {how.status}, and standard error says {how.err!r}"
         return None
 
@@ -377,7 +390,7 @@ def part_calls(folder, refs, number, rng):
         for ref, call in calls
         for way in (WAYS_OF_WRITES if call.name in ("write", "pwrite") else WAYS)
     ]
-    tally = Tally("calls")
+    tally = Tally(f"{folder.name}calls")
     for fault in rng.sample(faults, number) if 0 < number < len(faults) else faults:
         try_call(folder, *fault, rng, tally)
     return tally.tell("calls that failed")
@@ -408,7 +421,7 @@ def way_back(folder, ref, rng):
 
 
 def part_cuts(folder, refs, number, rng):
-    tally = Tally("cuts")
+    tally = Tally(f"{folder.name}cuts")
     refs = [*refs, long_session(folder, refs)]
     for place in range(number or 1000):
         ref = rng.choice(refs)
@@ -429,7 +442,7 @@ def await_lock(folder):
 
 def is_no_refusal(how, statuses):
     """Why this is not the end of a session whose devices another one has: it did nothing."""
-    if how.status in statuses and not how.out and DEVICES[how.status] in how.err:
+    if how.status in statuses and not how.out and re.search(DEVICES[how.status], how.err):
         return None
     return f"the other one: status {how.status}, {how.out[:40]!r}, {how.err!r}"
 
@@ -669,7 +682,20 @@ def part_wrong(folder, refs, number, rng):
     return tally.tell("sessions that are begun wrongly")
 
 
+def part_controls(folder, refs, number, rng):
+    """Of so many tries half are calls that fail, a fourth power cuts, and a fourth sessions whose catalog fails from some call on and is back for the next."""
+    number, tally = number or 2000, Tally(f"{folder.name}away")
+    long = long_session(folder, refs)
+    for _ in range(number // 4):
+        ref, call = rng.choice([*refs, long, long]), rng.randrange(1, 200)
+        folder.put(ref.before)
+        how = folder.run(ref.script, number=call, way="dead", room=f"{folder.path}/far")
+        tally.add(f"status {how.status}", f"{ref.name}, the catalog away from its call {call} on", ref.is_no_end(how, (6,)), ref.is_lost(how, folder.finds()))
+    return tally.tell("sessions whose catalog went") & part_calls(folder, refs, number // 2, rng) & part_cuts(folder, refs, number // 4, rng)
+
+
 PARTS = {
+    "controls": part_controls,
     "calls": part_calls,
     "cuts": part_cuts,
     "pairs": part_pairs,
@@ -681,7 +707,7 @@ PARTS = {
 
 
 def references(folder):
-    state, history, found = {}, History(), []
+    state, history, found = folder.empty, History(), []
     for number, script in enumerate(SESSIONS):
         found.append(Reference(folder, f"session {number + 1}", script, state))
         found[-1].hold_to(history)
@@ -692,7 +718,8 @@ def references(folder):
 def main():
     program, library, room, part = sys.argv[1:5]
     number = int(sys.argv[5]) if len(sys.argv) > 5 else 0
-    folder, seed = Folder(f"{room}/now", program, library), os.environ.get("FAULTS_SEED") or str(random.randrange(2**32))
+    kind = Controlled if part == "controls" else Folder
+    folder, seed = kind(f"{room}/now", program, library), os.environ.get("FAULTS_SEED") or str(random.randrange(2**32))
     if PARTS[part](folder, references(folder), number, random.Random(seed)):
         return 0
     print(f"{part}: the seed was {seed}")

@@ -21,14 +21,18 @@
 #             file that is no catalog. What is refused leaves all files as they were
 #     duplicates  each call of one fails, in each way, and the power is cut: the source is as it was, the new number has all of its records
 #             or none, and the same words once more make it, or tell of what is taken (about 1,200)
+#     standbys    each call of one that is made, and of one that is rolled, fails, in each way, and the power is cut, also between its put and
+#             what it takes away: the database is as it was, the standby that of before or of after, and the same words once more make it
+#     controls    the four sessions with a control file, and a long one: their calls fail, the power is cut, or the catalog alone fails from some
+#             call on, so that up to 100 lists wait, and is back for the next session, which brings them (2,000)
 # Each prints a line with its figures, and of each problem the first three; the status is 1 where one is bad, and FAULTS_SEED draws the
-# same again. It wants python3 and cc, which builds bench/faults.c, and ends with 0 where there is none. TMPDIR has the files, or /dev/shm.
+# same again; CHANNELS=4 runs all sessions by 4 channels. It wants python3 and cc, which builds bench/faults.c, and ends with 0 where there is none. TMPDIR has the files, or /dev/shm.
 set -uo pipefail
 cd "$(dirname "$0")/.." || exit 1
 part=${1:-all}
 case $part in
-    all) parts='calls cuts pairs disks rights many wrong duplicates' ;;
-    calls | cuts | pairs | disks | rights | many | wrong | duplicates) parts=$part ;;
+    all) parts='calls cuts pairs disks rights many wrong duplicates standbys controls' ;;
+    calls | cuts | pairs | disks | rights | many | wrong | duplicates | standbys | controls) parts=$part ;;
     *)
         echo "$0: there is no part $part" >&2
         exit 2
@@ -61,10 +65,10 @@ fi
 
 status=0
 for part in $parts; do
-    if [ "$part" = duplicates ]; then
-        python3 -B bench/faults_duplicate.py "$room/rman" "$room/faults.so" "$room" "${2:-0}" || status=1
-    else
-        python3 -B bench/faults.py "$room/rman" "$room/faults.so" "$room" "$part" "${2:-0}" || status=1
-    fi
+    case $part in
+        duplicates) python3 -B bench/faults_duplicate.py "$room/rman" "$room/faults.so" "$room" "${2:-0}" ;;
+        standbys) python3 -B bench/faults_standby.py "$room/rman" "$room/faults.so" "$room" "${2:-0}" ;;
+        *) python3 -B bench/faults.py "$room/rman" "$room/faults.so" "$room" "$part" "${2:-0}" ;;
+    esac || status=1
 done
 exit "$status"

@@ -2,7 +2,7 @@
 # Lets each allocation of a session fail in turn, over a folder and a catalog file:
 #     bench/memory.sh PROGRAM [ROW ..]
 # PROGRAM is the program as it was built, and not the script ./rman. A ROW is one of crates/rm_test_rows/data, whose lines with `>` are its
-# sessions; with none, those of sessions, backups and branches are run. Each session is run once for each of its allocations, of which
+# sessions; with none, those of sessions, backups and branches are run, by as many channels as CHANNELS says, if it is set. Each session is run once for each of its allocations, of which
 # that one fails, over what the sessions before it left. What it writes is the beginning of what it writes with ample memory; its status
 # is 7, or that of a device that failed for it (sqlite may call it a fault of the file), or the same; and the next session finds the records
 # as they are behind the statements that were answered, or behind one more. It needs cc. The clock stands still. The threads of a BACKUP
@@ -66,7 +66,7 @@ statements() {
 run() {
     status=0
     FAILS_AT=$1 ALLOCATIONS=$room/allocations LD_PRELOAD=$room/failing.so \
-        "$program" --store "$room/now/objects" --catalog "$room/now/catalog" < "$2" > "$3" || status=$?
+        "$program" --store "$room/now/objects" --catalog "$room/now/catalog" ${CHANNELS:+--channels "$CHANNELS"} < "$2" > "$3" || status=$?
 }
 
 # What stands in `now` becomes what stood before the session.

@@ -8,7 +8,8 @@
 #     ```shell [next]
 #         a line with `$ ` is a command, and behind it stands all that it writes.
 # Each is run in a fresh folder that has ./rman and examples/, or with `next` in the folder of the block before. It prints how many
-# blocks there are; the status is 1 where one shows something else than what comes. At last docs/TRUSTED.md is compared to its sources.
+# blocks there are; the status is 1 where one shows something else than what comes. At last docs/TRUSTED.md is compared to its sources,
+# the rows of the gate to the sessions that they are made of, and links and the length of lines are looked at.
 set -uo pipefail
 cd "$(dirname "$0")/.." || exit 1
 top=$PWD
@@ -90,4 +91,6 @@ for paper in "$@"; do
 done
 echo "$blocks blocks of papers, $wrong of them wrong"
 bench/trusted.py --check || wrong=$((wrong + 1))
+bench/paper_rows.py --check || wrong=$((wrong + 1))
+bench/links.py || wrong=$((wrong + 1))
 [ "$wrong" -eq 0 ]

@@ -3,8 +3,8 @@
 #     bench/run.sh [PROGRAM [KERNELS]] | tee LINES | bench/page.py
 # PROGRAM is the program as it was built (./rman), and KERNELS rm_bench, which is proved and built where it is not named. First come the
 # kernels beside plain loops, the bytes of pieces and logs beside SHA-256 alone, gathering and planning, turns of a live database and
-# its copies by channels; then sha256sum alone, and what PROGRAM takes: scripts.sh, growth.sh, sessions.sh, drill.py and sets.py in time, level1.py
-# and mending.py in instructions (of a program as it was built; they want valgrind). It takes some ten minutes.
+# its copies by channels; then sha256sum alone, and what PROGRAM takes: scripts.sh, growth.sh, sessions.sh, drill.py, sets.py and channels.py in time
+# (this one of a program as it was built), level1.py and mending.py in instructions (likewise; they want valgrind). It takes some fifteen minutes.
 set -eu
 cd "$(dirname "$0")/.."
 program=${1:-./rman}
@@ -34,6 +34,9 @@ bench/growth.sh "$program"
 bench/sessions.sh "$program"
 bench/drill.py 0 "$program"
 bench/sets.py --figures "$program"
+if [ "$program" != ./rman ]; then
+    bench/channels.py "$program" 9 "${2:-crates/rm_bench/out/rm_bench}"
+fi
 if [ "$program" != ./rman ] && command -v valgrind > /dev/null; then
     bench/level1.py "$program"
     bench/mending.py --figures "$program"

@@ -254,21 +254,41 @@ def all_in_specs():
     return count
 
 
-ADAPTERS = ["crates/rm_tool/src/adapters.rt", "crates/rm_store_dir/src/dir.rt", "crates/rm_keeper_sql/src/file.rt", "crates/rman/src/main.rt"]
+ADAPTERS = ["crates/rm_tool/src/adapters.rt", "crates/rm_store_dir/src/dir.rt", "crates/rm_store_dir/src/lock.rt", "crates/rm_keeper_sql/src/file.rt"]
+WIRING = "crates/rman/src"
 HEAD = """# What a reader has to read, and what has to be trusted
 
 Made by `bench/trusted.py --write` from the sources: no line of it is written by hand, and `bench/trusted.py --check` says whether it is up to date.
 
 Who wants to know what `run` promises reads its clauses (`crates/rm_tool/src/run.rt`, lines {first} to {last}) and what they rest on: **{count} definitions
-of {lines} lines in {files} files of {crates} crates**, comments among them, `use` lines not. {specs} of them stand in `crates/*/specs`, of {all} that are there;
-the others are types and traits in `crates/*/src`. All other definitions and all lemmas may say what they like: the clauses hold all the same, since the
-toolchain has checked the proofs. A definition is here where a clause names it, or another definition that is here. They stand in the order in which
-they can be read: no crate rests on a later one, and within a crate what is named stands first where that can be. Names are followed by their spelling, so a
-few definitions may be here that are not needed; none is missing. [DEFINITIONS.md](DEFINITIONS.md) says them in words, [GLOSSARY.md](GLOSSARY.md) has the terms.
+of {lines} lines in {files} files of {crates} crates**, {comments} lines of comments among them, `use` lines not. {specs} of them stand in
+`crates/*/specs`, of {all} that are there; the others are types and traits in `crates/*/src`. All other definitions and all lemmas may say what they
+like: the clauses hold all the same, since the toolchain has checked the proofs. A definition is here where a clause names it, or another definition
+that is here. They stand in the order in which they can be read: no crate rests on a later one, and within a crate what is named stands first where
+that can be. Names are followed by their spelling, so a few definitions may be here that are not needed; none is missing.
+[DEFINITIONS.md](DEFINITIONS.md) says them in words, [GLOSSARY.md](GLOSSARY.md) has the terms.
+
+| What they say | Definitions | Lines |
+|---|---|---|
+{subjects}
+Who wants the meaning of the answers alone begins with the history, and then reads the machine. The largest files are
+{largest}.
 
 | Crate | Definitions | Lines | Files |
 |---|---|---|---|
 """
+
+# What the definitions of a crate say, by how its name begins; the first that fits.
+SUBJECTS = [
+    ("what a script and its words may say, and the text of a reply", ("rm_lang", "rm_report", "rm_moments", "rm_drill")),
+    ("what each statement comes to, and the history behind it", ("rm_machine",)),
+    ("what is recorded, and how records and objects stand for a database", ("rm_catalog", "rm_commit", "rm_evidence")),
+    ("the history, what tells of it, and backups and logs as bytes", ("rm_history", "rm_blocks", "rm_redo", "rm_piece", "rm_live", "rm_channel", "rm_track", "rm_lanes")),
+    ("recovery, increments and retention", ("rm_plan", "rm_apply", "rm_merge", "rm_backup", "rm_retain", "rm_verify", "rm_standby")),
+    ("sessions, and the clauses of `run` themselves", ("rm_site", "rm_tool")),
+    ("numbers, blocks, lists, devices", ("rm_",)),
+]
+LARGEST = 5
 
 TAIL = """
 ## What has to be trusted beside them
@@ -281,9 +301,11 @@ TAIL = """
 {ports}
   The proofs rest on the contracts of more of them, by crates.txt:
 {callers}
-- **The adapters**, {adapter_lines} lines: that standard input, standard output and the clock (`crates/rm_tool/src/adapters.rt`), the folder (`Dir` in
-  `crates/rm_store_dir/src/dir.rt`) and the opening and closing of the catalog file (`crates/rm_keeper_sql/src/file.rt`) do what their calls say; they
-  are proved to count their faults, and tell nothing else. And that `crates/rman/src/main.rt` makes them of the words and hands them to `run`.
+- **The adapters**, {adapter_lines} lines: that standard input, standard output and the clock (`crates/rm_tool/src/adapters.rt`), the folder (`dir.rt` and
+  `lock.rt` in `crates/rm_store_dir/src`) and the opening and closing of the catalog file (`crates/rm_keeper_sql/src/file.rt`) do what their calls say; they
+  are proved to count their faults, and tell nothing else.
+- **The wiring**, {wiring_lines} lines in `crates/rman/src`: that it makes them of the words and hands them to `run` and the calls beside it. It is proved safe
+  and to end, and no clause says more of it: `bench/papers.sh` and the scripts of `bench/` try it.
 - **The machine.** That a file which was flushed has what was written, that a renaming is whole, that the clock tells the time of day.
 - **The two premises of the clauses.** Where HOST gave the name of a record's object, bytes under it with the record's size and SHA-256 are the object's.
   What CATALOG records is the spelling of an artefact that a finished statement recorded.
@@ -316,6 +338,10 @@ def place_of(item):
     return f"`{item.name}` {item.first}" + (f"-{item.last}" if item.last > item.first else "")
 
 
+def lines_in(paths):
+    return f"{sum(len(read(it).splitlines()) for it in paths):,}"
+
+
 def names_of(names):
     return wrapped([f"`{it}`" for it in sorted(names)])
 
@@ -331,11 +357,34 @@ def callers():
     return wrapped([f"`{port}` ({' '.join(sorted(by))})" for port, by in sorted(found.items())])
 
 
+def comments_in(item):
+    lines = read(item.file).splitlines()[item.first - 1 : item.last]
+    return len([line for line in lines if re.match(r"\s*(--|//)", line)])
+
+
+def subjects_of(items):
+    """Returns the rows of the table of subjects."""
+    by_subject = collections.defaultdict(list)
+    for item in items:
+        crate = item.file.split("/")[1]
+        by_subject[next(subject for subject, begins in SUBJECTS if crate.startswith(begins))].append(item)
+    return "".join(f"| {subject} | {len(by_subject[subject])} | {lines_of(by_subject[subject]):,} |\n" for subject, _ in SUBJECTS)
+
+
+def largest_of(items):
+    by_file = collections.defaultdict(list)
+    for item in items:
+        by_file[item.file].append(item)
+    largest = sorted(by_file.items(), key=lambda it: (-lines_of(it[1]), it[0]))[:LARGEST]
+    return ", ".join(f"`{path.removeprefix('crates/')}` ({lines_of(here)})" for path, here in largest)
+
+
 def head_of(root, items):
     in_specs = [it for it in items if it.file.endswith(".antt")]
     files = {it.file for it in items}
     return HEAD.format(first=root.first, last=root.last, count=f"{len(items):,}", lines=f"{lines_of(items):,}", files=len(files),
-                       crates=len({it.split("/")[1] for it in files}), specs=f"{len(in_specs):,}", all=f"{all_in_specs():,}")
+                       crates=len({it.split("/")[1] for it in files}), specs=f"{len(in_specs):,}", all=f"{all_in_specs():,}",
+                       comments=f"{sum(map(comments_in, items)):,}", subjects=subjects_of(items), largest=largest_of(items))
 
 
 def paper():
@@ -353,8 +402,8 @@ def paper():
             text += f"- **{path.split('/', 2)[2]}**, {lines_of(here)} lines:\n{wrapped([place_of(it) for it in here])}\n"
     std = shelf.outside.pop("std", set())
     ports = "\n".join(names_of(names) + f" of `{crate}`;" for crate, names in sorted(shelf.outside.items()))[:-1] + "."
-    adapter_lines = sum(len(read(it).splitlines()) for it in ADAPTERS)
-    return text + TAIL.format(std=len(std), std_names=names_of(std), ports=ports, callers=callers(), adapter_lines=adapter_lines)
+    wiring = [f"{WIRING}/{it}" for it in os.listdir(os.path.join(TOP, WIRING)) if it.endswith(".rt")]
+    return text + TAIL.format(std=len(std), std_names=names_of(std), ports=ports, callers=callers(), adapter_lines=lines_in(ADAPTERS), wiring_lines=lines_in(wiring))
 
 
 def main(words):
