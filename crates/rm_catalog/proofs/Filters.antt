@@ -204,6 +204,11 @@ below_alone p e rs le =
     ∙ append-nil (below p (below q rs))
     ∙ filter_twice (λ (r : Record). ltb (place_of r) q) (λ (r : Record). ltb (place_of r) p) (λ (r : Record). ltb (place_of r) p) (λ r. tests_same q p (place_of r) le) rs
 
+-- edits behind edits
+pub after_both : (es fs : List Edit) (rs : List Record) → after_edits (es ++ fs) rs ≡ after_edits fs (after_edits es rs)
+after_both [] fs rs = refl
+after_both (e ∷ es) fs rs = after_both es fs (after_edit e rs)
+
 -- what stands below a place after edits is what the edits below it make
 pub below_after : (p : ℕ) (es : List Edit) (rs : List Record) → below p (after_edits es rs) ≡ after_edits (filter (λ e. ltb (place_of_edit e) p) es) (below p rs)
 below_after p [] rs = refl

@@ -60,7 +60,8 @@ impl Model for Catalog {
     ghost invariant = { λ c. HasTree c.records.items c.tree };
 }
 
-fn in_order(mut records: Vec<Record>) -> Vec<Record>
+/// The records, ascending by kind and then id.
+pub fn in_order(mut records: Vec<Record>) -> Vec<Record>
     ensures { IsOrderOf result.items records.items }
 {
     records.sort_unstable_by_key(|r| r.place());

@@ -80,7 +80,7 @@ pub struct LogEntry {
 }
 
 /// Kind 5: a backup piece, or an image copy.
-#[derive(Drop)]
+#[derive(PartialEq, Eq, Drop)]
 pub struct PieceEntry {
     pub id: u32,
     /// Whether it is an image copy.
@@ -157,7 +157,7 @@ pub struct SetPart {
 }
 
 /// Kind 9: a backup set, one object with several datafiles.
-#[derive(Drop)]
+#[derive(PartialEq, Eq, Drop)]
 pub struct SetEntry {
     pub id: u32,
     pub inc: IncNo,
@@ -192,7 +192,7 @@ pub struct SwitchEntry {
 }
 
 /// A record of the catalog.
-#[derive(Drop)]
+#[derive(PartialEq, Eq, Drop)]
 pub enum Record {
     Base(BaseEntry),
     Incarnation(IncarnationEntry),

@@ -22,11 +22,11 @@ use Rattle.rm_catalog.specs.declared.record.Record.TheVariants as kind
 use Rattle.rm_catalog.specs.declared.record.SetEntry.{SetEntry}
 use Rattle.rm_catalog.specs.Edits.{above, after_edit, after_edits, below, place_of_edit}
 use Rattle.rm_catalog.specs.Keys.{place, place_of, place_of_key}
-use Rattle.rm_catalog.proofs.Filters.{above_all, above_append, above_none, below_none}
+use Rattle.rm_catalog.proofs.Filters.{above_all, above_append, above_none, after_both, below_none}
 use Rattle.rm_catalog_typed.specs.Ledger.{incarnation_record, datafile_record, mark_record, switch_record}
 use Rattle.rm_catalog_typed.specs.declared.thread_switch.ThreadSwitch.{ThreadSwitch}
 use Rattle.rm_catalog_typed.proofs.Order.{Runs, incarnations_of, datafiles_of, logs_of, pieces_of, marks_of, sets_of, switch_records, incarnations-run, datafiles-run, logs-run, pieces-run, marks-run, sets-run, switches-run, marks-few, switches-few, runs-append, runs-lower, runs-objects, runs-within}
-use Rattle.rm_catalog_typed.proofs.Parts.{IsPart, after_both, more_part, part_then, put_part}
+use Rattle.rm_catalog_typed.proofs.Parts.{IsPart, more_part, part_then, put_part}
 use Rattle.rm_catalog_typed.proofs.Sections.{numbered_part, replaced}
 use Rattle.rm_catalog_typed.specs.Changes.{EditsFollow, higher, lower, with_base, with_end_at, with_file, with_incarnation, with_log, with_mark, with_new_log, with_new_piece, with_new_set, with_one, with_piece, with_set, with_switch, without_log, without_one, without_piece, without_set, part_drop, saved_edits, unsaved_edits, with_saved, without_saved}
 use Rattle.rm_base.specs.Numbers.{last_scn}

@@ -7,7 +7,7 @@ use Rattle.rm_catalog.specs.declared.record.Edit.{Edit}
 use Rattle.rm_catalog.specs.declared.record.Edit.TheVariants.{Put, Drop}
 use Rattle.rm_catalog.specs.Keys.{place_of, place_of_key}
 use Rattle.rm_catalog.specs.Edits.{below, above, place_of_edit, after_edit, after_edits}
-use Rattle.rm_catalog.proofs.Filters.{below_all, below_none, below_append, above_all, above_none, above_append}
+use Rattle.rm_catalog.proofs.Filters.{after_both, below_all, below_none, below_append, above_all, above_none, above_append}
 use Rattle.rm_catalog.proofs.Passing.{after_append, put_last}
 use Rattle.rm_catalog.proofs.Unique.{Rises, all_above, middle}
 use Rattle.rm_catalog_typed.proofs.Order.{Runs, runs-within, runs-rise}
@@ -63,10 +63,6 @@ puts_after low old (r ∷ rs) up =
     ap (λ (x : List Record). after_edits (map Put rs) x) (after_last r old (rises_front low old r rs up))
     ∙ puts_after low (old ++ r ∷ []) rs (subst (λ (x : List Record). Rises low x) (sym moved) up)
     ∙ moved
-
-pub after_both : (es fs : List Edit) (rs : List Record) → after_edits (es ++ fs) rs ≡ after_edits fs (after_edits es rs)
-after_both [] fs rs = refl
-after_both (e ∷ es) fs rs = after_both es fs (after_edit e rs)
 
 -- edits below a place leave alone what stands behind it
 all_behind : (p : ℕ) (es : List Edit) (made rest : List Record) → All (λ e. place_of_edit e < p) es → All (λ r. p ≤ place_of r) rest → after_edits es (made ++ rest) ≡ after_edits es made ++ rest

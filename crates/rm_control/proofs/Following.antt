@@ -6,16 +6,13 @@ use Rattle.std.proofs.lemmas.Bool.Decides.{nat_tests}
 use Rattle.std.proofs.lemmas.List.Sorted.{length_permutation}
 use Rattle.rm_catalog.specs.declared.record.Edit.{Edit}
 use Rattle.rm_catalog.specs.declared.record.Record.{Record}
-use Rattle.rm_catalog.specs.Edits.{after_edit, after_edits}
+use Rattle.rm_catalog.specs.Edits.{after_edits}
 use Rattle.rm_catalog.specs.Keys.{Ascends}
 use Rattle.rm_catalog.specs.Rules.{IsOrderOf}
 use Rattle.rm_catalog.proofs.Ascending.{loaded_in_order}
+use Rattle.rm_catalog.proofs.Filters.{after_both}
 use Rattle.rm_control.specs.Control.{IsFollowed}
 use Rattle.rm_control.specs.Follows.{AreEqual, Follows}
-
-after_both : (es fs : List Edit) (rs : List Record) → after_edits (es ++ fs) rs ≡ after_edits fs (after_edits es rs)
-after_both [] fs rs = refl
-after_both (e ∷ es) fs rs = after_both es fs (after_edit e rs)
 
 follows_sent : (near far : Option (List Record)) (waiting : List Edit) → Follows near far waiting → Follows near (option_map (after_edits waiting) far) []
 follows_sent (Some near) (Some far) waiting is = is

@@ -11,7 +11,7 @@ use Rattle.rm_catalog.specs.declared.record.Record.{Record}
 use Rattle.rm_catalog.specs.Edits.{below, above, after_edit, after_edits}
 use Rattle.rm_catalog.specs.Keys.{Ascends, place_of, place_of_key}
 use Rattle.rm_catalog.proofs.Ascending.{ascends_after_all, ascends_front, front_below, rest_above}
-use Rattle.rm_catalog.proofs.Filters.{below_all, below_none, below_append, above_all, above_none, above_append}
+use Rattle.rm_catalog.proofs.Filters.{after_both, below_all, below_none, below_append, above_all, above_none, above_append}
 use Rattle.rm_control.specs.Steps.{IsStep, IsTaken, IsFree, IsReplaced}
 
 -- what is left of a place between records below it and records above it
@@ -55,11 +55,6 @@ drop_over k f xs ys here low high =
     let both = sides (place_of_key k) f xs ys here low high in
     ap (λ (x : List Record). x ++ above (place_of_key k) (xs ++ f ∷ ys)) both.0 ∙ ap (λ (x : List Record). xs ++ x) both.1
 
--- one edit more
-one_more : (es : List Edit) (e : Edit) (rs : List Record) → after_edits (es ++ e ∷ []) rs ≡ after_edit e (after_edits es rs)
-one_more [] e rs = refl
-one_more (f ∷ es) e rs = one_more es e (after_edit f rs)
-
 -- what is left of both lists, and the records behind that both have after the edits
 pub record Stands (wanted present : List Record) (edits : List Edit) (w p : List Record) : Type 0 where
   pub tail : List Record
@@ -77,14 +72,6 @@ stands_last wanted present edits w p no_w no_p at = at.made ∙ ap (λ (x : List
 moved : (all rs rest tail : List Record) (r : Record) → all ≡ rs ++ tail → IsTaken rs r rest → all ≡ rest ++ r ∷ tail
 moved all rs rest tail r is taken = is ∙ ap (λ (x : List Record). x ++ tail) taken ∙ append_assoc rest (r ∷ []) tail
 
-pub stands_same : (wanted present : List Record) (edits : List Edit) (w p w' p' : List Record) → IsStep w p None w' p'
-    → Stands wanted present edits w p → Stands wanted present edits w' p'
-stands_same wanted present edits w p w' p' (r, one, two) at = record {
-  tail = r ∷ at.tail;
-  is = moved wanted w w' at.tail r at.is one;
-  made = moved (after_edits edits present) p p' at.tail r at.made two;
-}
-
 pub stands_edit : (wanted present : List Record) (edits : List Edit) (w p w' p' : List Record) (e : Edit) → Ascends wanted → Ascends present
     → IsStep w p (Some e) w' p' → Stands wanted present edits w p
     → Stands wanted present (edits ++ e ∷ []) w' p'
@@ -95,7 +82,7 @@ stands_edit wanted present edits w p w' p' (Drop k) up down (stays, (f, gone, ke
     record {
       tail = at.tail;
       is = at.is ∙ ap (λ (x : List Record). x ++ at.tail) (sym stays);
-      made = one_more edits (Drop k) present ∙ ap (λ (x : List Record). after_edit (Drop k) x) here
+      made = after_both edits (Drop k ∷ []) present ∙ ap (λ (x : List Record). after_edit (Drop k) x) here
           ∙ drop_over k f p' at.tail same
           (λ i d lt. let h = front_below p' f at.tail order i d lt in omega arith) (λ i d lt. let h = rest_above p' f at.tail order i d lt in omega arith);
     }
@@ -106,7 +93,7 @@ stands_edit wanted present edits w p w' p' (Put r) up down (taken, free) at =
     record {
       tail = r ∷ at.tail;
       is = there;
-      made = one_more edits (Put r) present ∙ ap (λ (x : List Record). after_edit (Put r) x) at.made ∙ put r p p' at.tail free order high;
+      made = after_both edits (Put r ∷ []) present ∙ ap (λ (x : List Record). after_edit (Put r) x) at.made ∙ put r p p' at.tail free order high;
     }
   where
     put : (r : Record) (p p' tail : List Record) → IsFree p r p' ⊎ IsReplaced p r p' → Ascends (p ++ tail) → All (λ x. place_of r < place_of x) tail

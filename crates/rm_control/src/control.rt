@@ -8,9 +8,9 @@ ghost use Rattle.rm_catalog.specs.Edits.{after_edits};
 ghost use Rattle.rm_control.specs.Control.{OneRose};
 ghost use Rattle.rm_control.specs.Follows.{AreEqual};
 
-use crate::differences::{edits_between, in_order};
+use crate::differences::edits_between;
 use rm_base::{NoMemory, Seq};
-use rm_catalog::{Edit, Keeper, KeeperFail, Record, copies};
+use rm_catalog::{Edit, Keeper, KeeperFail, Record, copies, in_order};
 use std::alloc::Global;
 use std::marker::Model;
 

@@ -3,6 +3,5 @@
 
 pub mod control;
 mod differences;
-mod sameness;
 
 pub use control::{Control, level};

@@ -18,6 +18,7 @@ use Rattle.rm_catalog.specs.declared.record.Edit.{Edit}
 use Rattle.rm_catalog.specs.declared.record.Edit.TheVariants.{Put, Drop}
 use Rattle.rm_catalog.specs.Keys.{key_of, place, place_of, place_of_key}
 use Rattle.rm_catalog.specs.Edits.{below, above, after_edit, after_edits}
+use Rattle.rm_catalog.proofs.Filters.{after_both}
 use Rattle.rm_catalog_bytes.specs.Spelling.{body_of}
 use Rattle.rm_keeper_sql.specs.Entries.{stored, IsEntry, is_number, has_key, others, IsKeyed, Upserted}
 use Rattle.rm_keeper_sql.specs.Shelves.{edits_at, records_at}
@@ -38,16 +39,12 @@ edits_push : (m n : ℕ) (e : Edit) (es : List (ℕ × Edit)) → edits_at m (es
 edits_push m n e [] = refl
 edits_push m n e (x ∷ es) = ap (λ l. cond (eqb x.0 m) (x.1 ∷ l) l) (edits_push m n e es) ∙ both (eqb x.0 m) (eqb n m) x.1 e (edits_at m es)
 
-after_push : (es : List Edit) (e : Edit) (rs : List Record) → after_edits (es ++ e ∷ []) rs ≡ after_edit e (after_edits es rs)
-after_push [] e rs = refl
-after_push (x ∷ es) e rs = after_push es e (after_edit x rs)
-
 pub records_push : (m n : ℕ) (e : Edit) (es : List (ℕ × Edit))
     → records_at m (es ++ (n, e) ∷ []) ≡ cond (eqb n m) (after_edit e (records_at m es)) (records_at m es)
 records_push m n e es = ap (λ l. after_edits l []) (edits_push m n e es) ∙ go (eqb n m)
   where
     go : (b : Bool) → after_edits (cond b (edits_at m es ++ e ∷ []) (edits_at m es)) [] ≡ cond b (after_edit e (records_at m es)) (records_at m es)
-    go true = after_push (edits_at m es) e []
+    go true = after_both (edits_at m es) (e ∷ []) []
     go false = refl
 
 -- the records of another number stay
