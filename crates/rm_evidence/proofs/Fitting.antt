@@ -1,9 +1,12 @@
 -- What is in place fits a catalog, and what is gathered.
-use Rattle.std.proofs.Common.{◌≡◌, ◌≢◌, ◌∙◌, ◌<◌, ◌≤◌, ◌-◌, ℕ, suc, List, [], ◌∷◌, Option, Some, None, length, get_or, slice_get, map, All, Contains, sym, subst, arith, inl, inr}
+use Rattle.std.proofs.Common.{◌≡◌, ◌≢◌, ◌∙◌, ◌<◌, ◌≤◌, ◌-◌, ℕ, suc, List, [], ◌∷◌, Option, Some, None, length, get_or, slice_get, map, All, AllPairs, Contains, sym, subst, arith, inl, inr}
 use Rattle.std.specs.Prelude.{IsSomeAnd}
 use Rattle.std.proofs.lemmas.List.Elements.{All-append, All-cons, All-contains, All-map, Contains-get_or}
+use Rattle.std.proofs.lemmas.Option.{slice_get-get_or}
 use Rattle.rm_base.specs.Store.{Held}
+use Rattle.rm_base.specs.declared.block.Row.{Row}
 use Rattle.rm_base.specs.declared.kinds.Kind.TheVariants.{Level1}
+use Rattle.rm_blocks.specs.File.{IsInOrder}
 use Rattle.rm_catalog.specs.declared.record.Record.{Record}
 use Rattle.rm_catalog.specs.declared.record.Record.TheVariants as kind
 use Rattle.rm_catalog.specs.declared.record.SetEntry.{SetEntry}
@@ -20,6 +23,7 @@ use Rattle.rm_piece.specs.declared.piece.Piece.{Piece}
 use Rattle.rm_piece.specs.declared.set.Set.{Set}
 use Rattle.rm_piece.specs.declared.set.SetFile.{SetFile}
 use Rattle.rm_piece.specs.Sets.{IsMember}
+use Rattle.rm_piece.specs.Valid.{IsBefore}
 use Rattle.rm_evidence.specs.declared.evidence.Evidence.{Evidence}
 use Rattle.rm_evidence.specs.declared.evidence.InPlace.{InPlace}
 use Rattle.rm_evidence.specs.Database.{Database, database_in, datafiles, dbid_in}
@@ -29,6 +33,12 @@ use Rattle.rm_evidence.specs.Objects.{IsAsCreated, IsSetObject}
 use Rattle.rm_evidence.specs.Place.{FitsPlace, placed_evidence}
 use Rattle.rm_evidence.specs.Taking.{HasIncarnation}
 use Rattle.rm_evidence.proofs.Parts.{part-of}
+
+-- blocks in order ascend
+pub ascends : (rows : List Row) → IsInOrder rows → AllPairs IsBefore rows
+ascends rows order i j d less inside =
+    let first = order i (get_or rows i d) (slice_get-get_or rows i d (omega (arith, less, inside))) in
+    omega (arith, first, order j (get_or rows j d) (slice_get-get_or rows j d inside), less)
 
 -- a part to read a list of parts by
 any-part : SetPart

@@ -43,6 +43,9 @@ piece-no-site false a b = differ (piece_name false a) (site_name b) (λ e. absur
 pub set-name-tells : (a b : ℕ) → a < 2 ^ 64 → b < 2 ^ 64 → set_name a ≡ set_name b → a ≡ b
 set-name-tells a b small_a small_b same = decimal_injective a b small_a small_b (append_cancel_left (codes "set_") (decimal a) (decimal b) same)
 
+pub site-name-tells : (a b : ℕ) → a < 2 ^ 64 → b < 2 ^ 64 → site_name a ≡ site_name b → a ≡ b
+site-name-tells a b small_a small_b same = decimal_injective a b small_a small_b (append_cancel_left (codes "site_") (decimal a) (decimal b) same)
+
 pub log-no-set : (a b : ℕ) → log_name a ≢ set_name b
 log-no-set a b = differ (log_name a) (set_name b) (λ e. absurd (omega (arith, e)))
 

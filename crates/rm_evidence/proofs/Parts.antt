@@ -1,16 +1,14 @@
 -- One member for each part, one after another.
-use Rattle.std.proofs.Common.{◌≡◌, ◌+◌, ◌<◌, ◌-◌, ◌≤◌, ◌↔◌, cond, ℕ, List, [], ◌∷◌, add-one, arith, ap, drop, drop-cons, get_or, length, All, Contains, Option, None, subst, sym, slice_get, inl, inr}
-use Rattle.std.specs.Prelude.{IsSomeAnd}
+use Rattle.std.proofs.Common.{◌≡◌, ◌+◌, ◌<◌, ◌-◌, ◌≤◌, cond, ℕ, List, [], ◌∷◌, add-one, arith, ap, drop, drop-cons, get_or, length, All, Contains, None, subst, slice_get, inl, inr}
 use Rattle.std.proofs.lemmas.Bool.{ne_eqb}
 use Rattle.rm_base.proofs.Members.{in-front, behind, none-in, first-or-rest}
 use Rattle.rm_catalog.specs.declared.record.SetPart.{SetPart}
-use Rattle.rm_history.specs.declared.world.Datafile.{Datafile}
 use Rattle.rm_history.specs.declared.world.World.{World}
 use Rattle.rm_history.specs.World.{file_of}
 use Rattle.rm_piece.specs.declared.set.Set.{Set}
 use Rattle.rm_piece.specs.declared.set.SetFile.{SetFile}
 use Rattle.rm_piece.specs.Sets.{IsSet}
-use Rattle.rm_evidence.specs.Objects.{AreParts, HasPartFields, IsAsCreated}
+use Rattle.rm_evidence.specs.Objects.{AreParts, HasPartFields}
 
 pub same-length : (ps : List SetPart) (ms : List SetFile) → AreParts ps ms → length ps ≡ length ms
 same-length [] [] are = omega arith
@@ -48,11 +46,3 @@ file-at w f above = ap (λ b. cond b None (slice_get w.files (f - 1))) (ne_eqb f
 -- the members of a set are of datafiles with such a number
 pub numbered : (s : Set) → IsSet s → All (λ m. 1 ≤ m.piece.file) s.members
 numbered s is k d inside = (is.members k d inside).piece.file.0
-
--- so they are as they were created by either
-pub as-created : (w : World) (ms : List SetFile) → All (λ m. 1 ≤ m.piece.file) ms
-    → All (λ m. IsSomeAnd (file_of w m.piece.file) (IsAsCreated m)) ms ↔ All (λ m. IsSomeAnd (slice_get w.files (m.piece.file - 1)) (IsAsCreated m)) ms
-as-created w ms above = (
-  λ all k d inside. subst (λ (o : Option Datafile). IsSomeAnd o (IsAsCreated (get_or ms k d))) (file-at w (get_or ms k d).piece.file (above k d inside)) (all k d inside),
-  λ all k d inside. subst (λ (o : Option Datafile). IsSomeAnd o (IsAsCreated (get_or ms k d))) (sym (file-at w (get_or ms k d).piece.file (above k d inside))) (all k d inside),
-)

@@ -1,8 +1,7 @@
 -- What is told of records, one after the other.
 use Rattle.std.proofs.Common.{◌≡◌, ◌∙◌, ◌<◌, ◌≤◌, ◌+◌, ℕ, suc, Option, Some, None, List, [], ◌∷◌, ◌++◌, zero, append_assoc, drop, drop-cons, length-append, get_or, map, slice_get, take, refl, ap, sym, subst, arith, length}
 use Rattle.std.specs.Prelude.{Ok, Err, IfSome}
-use Rattle.std.proofs.Math.Seq.{take-length}
-use Rattle.std.proofs.lemmas.List.{get_or-map, length-map, length-take, map-append, take-append-drop, take-append-le, take_more}
+use Rattle.std.proofs.lemmas.List.{append-nil, get_or-map, length-map, map-append, take_more}
 use Rattle.rm_base.specs.Store.{Held}
 use Rattle.rm_catalog.specs.declared.record.Record.{Record}
 use Rattle.rm_catalog.specs.declared.record.Record.TheVariants as kind
@@ -134,16 +133,6 @@ stand-next {X} see xs o p i x s ss ss' same inside is longer before after =
     ap (map see) (take_more xs i x inside ∙ ap (λ (y : X). take i xs ++ y ∷ []) (sym is)) ∙ map-append see (take i xs) (x ∷ []) in
     coe 1 0 (j. StandUnder o (more j) (longer j)) (stand-more o (map see (take i xs)) ss (see x) s before (subst (λ (q : Option Held). IfSome q (λ h. StandsUnder h (see x) s)) same after))
 
--- so many items more
-pub take-part : {X : Type 0} (xs part after : List X) (k : ℕ) → k ≤ length xs → drop k xs ≡ part ++ after → take (k + length part) xs ≡ take k xs ++ part
-take-part {X} xs part after k within is =
-    let ys : List X = take k xs ++ part in
-    let whole : xs ≡ ys ++ after = sym (take-append-drop k xs) ∙ ap (λ (zs : List X). take k xs ++ zs) is ∙ sym (append_assoc (take k xs) part after) in
-    let joined = length-append (take k xs) part in
-    let front = length-take k xs in
-    let long : k + length part ≡ length ys = omega (arith, joined, front, within) in
-    ap (λ (n : ℕ). take n xs) long ∙ ap (take (length ys)) whole ∙ take-append-le (length ys) ys after (omega arith) ∙ take-length ys
-
 -- the records are read from these items
 module _ {X : Type 0} (see : X → Record) (xs : List X) (base : Database) where
   -- one more is told
@@ -157,18 +146,25 @@ module _ {X : Type 0} (see : X → Record) (xs : List X) (base : Database) where
       coe 1 0 (i. TellAll base (((ap (λ (n : ℕ). map see (take n xs)) long ∙ ap (map see) x.more) ∙ map-append see (take k xs) (x.item ∷ [])) i) ((ap (λ (n : ℕ). take n ss) long ∙ s.more) i) (longer i))
       (tell-more base (map see (take k xs)) (take k ss) ts (see x.item) s.item t before (tells x.item s.item x.is s.is))
 
-  -- so many more are told
-  pub part-told : (o p : Option Held) (k n : ℕ) (part : List X) (ts us all : List Told) → p ≡ o → n ≡ k + length part → take (k + length part) xs ≡ take k xs ++ part → all ≡ ts ++ us
-      → AreTold o base (map see (take k xs)) ts → AreTold p base (map see part) us → AreTold o base (map see (take n xs)) all
-  part-told o p k n part ts us all same many split longer before more =
-      coe 1 0 (i. AreTold o base (((ap (λ (m : ℕ). map see (take m xs)) many ∙ ap (map see) split) ∙ map-append see (take k xs) part) i) (longer i))
-      (told-join o base (map see (take k xs)) (map see part) ts us before (subst (λ (q : Option Held). AreTold q base (map see part) us) same more))
+  -- whatever is told of the rest, behind this it is told of all
+  abbrev pub IsToldBefore : Option Held → List X → List Told → Type 0
+  IsToldBefore o rest ts = (us : List Told) → AreTold o base (map see rest) us → AreTold o base (map see xs) (ts ++ us)
+
+  -- nothing is told yet
+  pub before-none : (o : Option Held) (ts : List Told) → ts ≡ [] → IsToldBefore o xs ts
+  before-none o ts none us told = subst (λ (zs : List Told). AreTold o base (map see xs) (zs ++ us)) (sym none) told
+
+  -- a part more is told
+  pub before-part : (o p : Option Held) (part rest : List X) (ts us all : List Told) → p ≡ o → all ≡ ts ++ us → IsToldBefore o (part ++ rest) ts → AreTold p base (map see part) us → IsToldBefore o rest all
+  before-part o p part rest ts us all same longer was more vs after =
+      let joined = told-join o base (map see part) (map see rest) us vs (subst (λ (q : Option Held). AreTold q base (map see part) us) same more) after in
+      let behind : all ++ vs ≡ ts ++ (us ++ vs) = ap (λ (zs : List Told). zs ++ vs) longer ∙ append_assoc ts us vs in
+      coe 1 0 (i. AreTold o base (map see xs) (behind i)) (was (us ++ vs) (coe 1 0 (i. AreTold o base (map-append see part rest i) (us ++ vs)) joined))
 
   -- all are told
-  pub parts-told : (o : Option Held) (k : ℕ) (ts : List Told) → k ≤ length xs → length xs ≤ k → AreTold o base (map see (take k xs)) ts → AreTold o base (map see xs) ts
-  parts-told o k ts within past told =
-      let end : k ≡ length xs = omega arith in
-      subst (λ (ys : List X). AreTold o base (map see ys) ts) (ap (λ (m : ℕ). take m xs) end ∙ take-length xs) told
+  pub before-end : (o : Option Held) (rest : List X) (ts : List Told) → length rest ≡ 0 → IsToldBefore o rest ts → AreTold o base (map see xs) ts
+  before-end o [] ts none was = coe 0 1 (i. AreTold o base (map see xs) (append-nil ts i)) (was [] tt)
+  before-end o (x ∷ rest) ts none was = absurd (omega (arith, none))
 
   -- the next one is put
   pub record IsNext (o : Option Held) (i : ℕ) (x : X) (t : Told) (ts : List Told) : Type 0 where

@@ -1,6 +1,7 @@
 -- Which bytes are the object of a record.
-use Rattle.std.specs.Prelude.{◌≡◌, ℕ, ◌-◌, List, [], ◌∷◌, length, slice_get, All, IsSomeAnd}
+use Rattle.std.specs.Prelude.{◌≡◌, ℕ, ◌-◌, Bool, List, [], ◌∷◌, length, slice_get, All, IsSomeAnd}
 use Rattle.sha2.specs.Sha256.{sha256}
+use Rattle.rm_base.specs.declared.kinds.Status.TheVariants.{Available}
 use Rattle.rm_catalog.specs.declared.record.LogEntry.{LogEntry}
 use Rattle.rm_catalog.specs.declared.record.PieceEntry.{PieceEntry}
 use Rattle.rm_catalog.specs.declared.record.SetEntry.{SetEntry}
@@ -47,6 +48,27 @@ pub record HasPieceFields (p : PieceEntry) (a : Piece) : Type 0 where
   pub checkpoint : a.checkpoint ≡ p.checkpoint
   pub high : a.high ≡ p.high
   pub rows : length a.rows ≡ p.rows
+
+-- the record of a piece that is made, under this id, with the size and the digest of its object
+abbrev pub piece_entry : Bool → Bool → List ℕ → ℕ → ℕ → Piece → PieceEntry
+piece_entry copy keep tag moment id a =
+    record {
+      id = id;
+      copy = copy;
+      kind = a.kind;
+      inc = a.inc;
+      file = a.file;
+      from = a.from;
+      checkpoint = a.checkpoint;
+      high = a.high;
+      rows = length a.rows;
+      size = length (piece.spelling a);
+      sha = sha256 (piece.spelling a);
+      status = Available;
+      keep = keep;
+      tag = tag;
+      moment = moment;
+    }
 
 -- the bytes are the record's, and spell this piece
 pub record IsPieceObject (p : PieceEntry) (bytes : List ℕ) (a : Piece) : Type 0 where

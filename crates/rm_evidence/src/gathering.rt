@@ -69,7 +69,8 @@ pub fn gather<D: Store>(
     ensures failed { IsErrOf result EvidenceFault.StoreFault → Rose (D.faults store.old) (D.faults store.new) }
     ensures never_falls { D.faults store.old ≤ D.faults store.new }
 {
-    let mut evidence = in_place(alloc, dbid_of(catalog), place)?;
+    let copy = place.copied(alloc)?;
+    let mut evidence = in_place(alloc, dbid_of(catalog), copy)?;
     let objects = objects(alloc, catalog.records())?;
     for object in objects.as_slice() {
         let row: &Record = object.1;
@@ -80,18 +81,19 @@ pub fn gather<D: Store>(
 }
 
 /// The same by so many channels, at least one: so many objects are got, one after the other, and then digested and decoded
-/// side by side; the bytes of so many are held at a time. Each number of channels gives the same.
+/// side by side; the bytes of so many are held at a time. Each number of channels gives the same. What is in place is moved
+/// into the evidence, and not copied.
 pub fn gather_by<R: Threads + Sync, D: Store>(
     rt: &R,
     alloc: Global,
     catalog: &Catalog,
     store: &mut D,
-    place: &InPlace,
+    place: InPlace,
     channels: u32,
 ) -> Result<Evidence, EvidenceFault>
     requires database { HasDatabase catalog.now }
-    requires place { FitsPlace catalog.now place.now }
-    ensures gathered { IfOk result (λ e. IsSeen (D.held store.old) (λ h. IsGathered h catalog.now place.now e)) }
+    requires place { FitsPlace catalog.now place }
+    ensures gathered { IfOk result (λ e. IsSeen (D.held store.old) (λ h. IsGathered h catalog.now place e)) }
     ensures fits { IfOk result (λ e. FitsTree (nodes catalog.now) e) }
     ensures same { D.held store.new ≡ D.held store.old }
     ensures failed { IsErrOf result EvidenceFault.StoreFault → Rose (D.faults store.old) (D.faults store.new) }

@@ -2,13 +2,13 @@
 ghost use Rattle.std.specs.Prelude.{◌≡◌, ◌≤◌, IfOk, IsErrOf};
 ghost use Rattle.rm_base.specs.Outside.{Rose};
 ghost use Rattle.rm_evidence.specs.Database.{database_in};
-ghost use Rattle.rm_evidence.specs.Names.{log_name, piece_name, set_name};
+ghost use Rattle.rm_evidence.specs.Names.{log_name};
 ghost use Rattle.rm_evidence.specs.Objects.{IsLogObject, IsPieceObject, IsSetObject};
 ghost use Rattle.rm_evidence.specs.Seen.{IsSeen};
 ghost use Rattle.rm_evidence.specs.Taking.{IsTold};
 
 use crate::gathering::EvidenceFault;
-use crate::{log_name, log_object, piece_name, piece_object, set_name, set_object};
+use crate::{log_name, log_object, piece_object, set_object};
 use rm_base::{Bad, NoMemory, Seq, Store};
 use rm_catalog::{Catalog, LogEntry, PieceEntry, SetEntry};
 use rm_piece::{Piece, Set};
@@ -83,37 +83,4 @@ pub fn look_for_log<D: Store>(
     let name = log_name(alloc, entry.id)?;
     let stands = store.get(name.as_str())?;
     Ok(log_told(alloc, entry, &stands)?)
-}
-
-/// The piece of the record, likewise.
-pub fn look_for_piece<D: Store>(
-    alloc: Global,
-    store: &mut D,
-    entry: &PieceEntry,
-) -> Result<Result<Piece, Bad>, EvidenceFault>
-    ensures told { IfOk result (λ told. IsSeen (D.held store.old) (λ h. IsTold (IsPieceObject entry.now) (h (piece_name entry.now.copy entry.now.id)) told)) }
-    ensures same { D.held store.new ≡ D.held store.old }
-    ensures failed { IsErrOf result EvidenceFault.StoreFault → Rose (D.faults store.old) (D.faults store.new) }
-    ensures never_falls { D.faults store.old ≤ D.faults store.new }
-{
-    let name = piece_name(alloc, entry.copy, entry.id)?;
-    let stands = store.get(name.as_str())?;
-    Ok(piece_told(alloc, entry, &stands)?)
-}
-
-/// The set of the record, likewise. What it holds of each datafile is compared with the catalog's record of the datafile, too.
-pub fn look_for_set<D: Store>(
-    alloc: Global,
-    catalog: &Catalog,
-    store: &mut D,
-    entry: &SetEntry,
-) -> Result<Result<Set, Bad>, EvidenceFault>
-    ensures told { IfOk result (λ told. IsSeen (D.held store.old) (λ h. IsTold (IsSetObject (database_in catalog.now) entry.now) (h (set_name entry.now.id)) told)) }
-    ensures same { D.held store.new ≡ D.held store.old }
-    ensures failed { IsErrOf result EvidenceFault.StoreFault → Rose (D.faults store.old) (D.faults store.new) }
-    ensures never_falls { D.faults store.old ≤ D.faults store.new }
-{
-    let name = set_name(alloc, entry.id)?;
-    let stands = store.get(name.as_str())?;
-    Ok(set_told(alloc, catalog, entry, &stands)?)
 }

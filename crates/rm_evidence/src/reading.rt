@@ -12,9 +12,9 @@ use rm_piece::{Piece, piece_of_body};
 use rm_redo::{LogFile, log_of_body};
 use std::alloc::Global;
 
-// What stands before the seal, where the bytes are sealed and have this size and SHA-256. They are hashed once, and not
-// at all where the size is another.
-pub(crate) fn recorded_body<'a>(bytes: &'a [u8], size: u64, sha: &[u8; 32]) -> Option<&'a [u8]>
+/// What stands before the seal, where the bytes are sealed and have this size in bytes and this SHA-256. They are hashed once, and not
+/// at all where the size is another.
+pub fn recorded_body<'a>(bytes: &'a [u8], size: u64, sha: &[u8; 32]) -> Option<&'a [u8]>
     ensures sealed { IfSome result (λ body. bytes.now ≡ sealed body.now) }
     ensures digest { IfSome result (λ _. HasDigest bytes.now size sha.now) }
     ensures none { IfNone result (HasDigest bytes.now size sha.now → (body : List ℕ) → bytes.now ≢ sealed body) }

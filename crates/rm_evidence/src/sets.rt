@@ -1,5 +1,5 @@
 //! Sets from their bytes.
-ghost use Rattle.std.specs.Prelude.{◌≡◌, ◌↔◌, ◌≤◌, ◌-◌, IfNone, IfOk, IfSome, IsSomeAnd, IsTrue, All, slice_get};
+ghost use Rattle.std.specs.Prelude.{◌↔◌, ◌≤◌, ◌-◌, IfNone, IfOk, IfSome, IsSomeAnd, IsTrue, All, slice_get};
 ghost use Rattle.rm_history.specs.World.{file_of};
 ghost use Rattle.rm_piece.specs.declared.set.Set.{Set};
 ghost use Rattle.rm_evidence.specs.Database.{database_in, datafiles, world_of};

@@ -1,5 +1,5 @@
 //! What the store has of several records, looked at side by side.
-ghost use Rattle.std.specs.Prelude.{◌≡◌, ◌≤◌, ◌<◌, ◌+◌, ◌++◌, IfOk, IfSome, IsErrOf, OnOk, length, map, take};
+ghost use Rattle.std.specs.Prelude.{◌≡◌, ◌≤◌, ◌<◌, ◌++◌, IfOk, IfSome, IsErrOf, OnOk, length, map};
 ghost use Rattle.rm_base.specs.Outside.{Rose};
 ghost use Rattle.rm_evidence.specs.Database.{database_in};
 ghost use Rattle.rm_evidence.specs.Telling.{AreTold, StandUnder, StandsUnder, TellAll, Tells, TellsAt};
@@ -143,22 +143,6 @@ fn add_all(all: &mut Vec<Told>, more: Seq<Told>) -> Result<(), NoMemory>
     Ok(())
 }
 
-/// So many of these records, at least one, from this place on, or as many as are left.
-pub fn part_from<'a, 'b>(
-    rows: &'a [(u32, &'b Record)],
-    from: usize,
-    channels: u32,
-) -> &'a [(u32, &'b Record)]
-    requires { from < length rows.now }
-    ensures some { 0 < length result.now }
-    ensures inside { from + length result.now ≤ length rows.now }
-    ensures next { take (from + length result.now) rows.now ≡ take from rows.now ++ result.now }
-{
-    let (_, rest) = rows.split_at(from);
-    let (part, _) = rest.split_at(rest.len().min(channels.max(1) as usize));
-    part
-}
-
 /// The same for more records: the objects of so many, at least of one, are held at a time.
 pub(crate) fn tell_by<R: Threads + Sync, D: Store>(
     rt: &R,
@@ -174,13 +158,9 @@ pub(crate) fn tell_by<R: Threads + Sync, D: Store>(
     ensures never_falls { D.faults store.old ≤ D.faults store.new }
 {
     let mut all = Vec::new(alloc);
-    let many = rows.len();
-    let mut from = 0;
-    'parts: while from < many {
-        let part = part_from(rows, from, channels);
+    for part in rows.chunks(channels.max(1) as usize) {
         let told = tell_each(rt, alloc, catalog, store, part)?;
         add_all(&mut all, told)?;
-        from += part.len();
     }
     Ok(Seq::from_vec(all))
 }

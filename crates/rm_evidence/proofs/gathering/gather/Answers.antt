@@ -1,4 +1,4 @@
-use Rattle.std.proofs.Common.{◌≡◌, ◌∙◌, ℕ, ap, arith, map, refl, sym}
+use Rattle.std.proofs.Common.{◌≡◌, ◌∙◌, arith, map, refl, sym}
 use Rattle.rm_evidence.specs.Database.{database_in, dbid_in}
 use Rattle.rm_evidence.specs.Place.{placed_evidence}
 use Rattle.rm_evidence.specs.Taking.{AreObjects}
@@ -30,7 +30,7 @@ loop-object-preserved g c =
 pub returns-clause-gathered : goal.returns-clause-gathered
 returns-clause-gathered g c =
     let are = coe 0 1 (i. AreObjects (c.records.ensures.records i) (map (λ x. (x.0, x.1.now)) (sym c.as_slice-object-items.ensures i))) c.in_ok-objects.ensures in
-    let first : c.in_ok-evidence.evidence ≡ placed_evidence (dbid_in c.args.catalog.now) c.args.place.now = c.in_ok-evidence.ensures ∙ ap (λ (n : ℕ). placed_evidence n c.args.place.now) c.dbid_of.ensures in
+    let first : c.in_ok-evidence.evidence ≡ placed_evidence (dbid_in c.args.catalog.now) c.args.place.now = c.in_ok-evidence.ensures ∙ (λ i. placed_evidence (c.dbid_of.ensures i) (c.in_ok-copy.ensures i)) in
     told-all (λ x. (x.0, x.1.now)) c.args.catalog.now c.as_slice-object-items.result.now are (g.D.Store.held c.args.store.now) c.loop-object.object-index c.args.place.now c.in_ok-evidence.evidence c.loop-object.evidence
     c.loop-object.auto.object-index-end c.loop-object-test.false first c.loop-object.invariant.adds
 

@@ -53,11 +53,11 @@ returns-clause-gathered g c =
     let at = c.loop-told in
     let rows = c.as_slice-rows.result.now in
     let are = coe 0 1 (i. AreObjects (c.records.ensures.records i) (map (λ x. (x.0, x.1.now)) (sym c.as_slice-rows.ensures i))) c.in_ok-objects.ensures in
-    let first : c.in_ok-evidence.evidence ≡ placed_evidence (dbid_in c.args.catalog.now) c.args.place.now = c.in_ok-evidence.ensures ∙ ap (λ (n : ℕ). placed_evidence n c.args.place.now) c.dbid_of.ensures in
+    let first : c.in_ok-evidence.evidence ≡ placed_evidence (dbid_in c.args.catalog.now) c.args.place = c.in_ok-evidence.ensures ∙ ap (λ (n : ℕ). placed_evidence n c.args.place) c.dbid_of.ensures in
     let none = sym at.invariant.left ∙ c.in-None.ensures.steps.0 in
     let past : length rows ≤ at.index = none-left (λ x. x.1.now) rows (database_in c.args.catalog.now) held at.index (into_iter_items at.told-iterator) none at.invariant.told in
-    told-all (λ x. (x.0, x.1.now)) c.args.catalog.now rows are held at.index c.args.place.now c.in_ok-evidence.evidence at.evidence at.invariant.within past first at.invariant.adds
+    told-all (λ x. (x.0, x.1.now)) c.args.catalog.now rows are held at.index c.args.place c.in_ok-evidence.evidence at.evidence at.invariant.within past first at.invariant.adds
 
 pub returns-clause-fits : goal.returns-clause-fits
 returns-clause-fits g c =
-    seen-so (g.D.Store.held c.args.store.now) (returns-clause-gathered g c) (λ h is. gathered-fits h c.args.catalog.now c.args.place.now c.loop-told.evidence c.records.ensures.catalog c.requires.place is)
+    seen-so (g.D.Store.held c.args.store.now) (returns-clause-gathered g c) (λ h is. gathered-fits h c.args.catalog.now c.args.place c.loop-told.evidence c.records.ensures.catalog c.requires.place is)
