@@ -1,8 +1,8 @@
 -- The first fault of all datafiles: each block of the datafiles before it is determined.
-use Rattle.std.proofs.Common.{◌≡◌, ◌<◌, ◌∙◌, inl, inr, ℕ, List, Option, Some, None, IfNone, IfSome, Contains, map, take, get_or, slice_get, sym, subst, arith}
-use Rattle.std.proofs.lemmas.Bool.{cases_lt}
-use Rattle.std.proofs.lemmas.List.{get_or-take, length-take-le}
-use Rattle.std.proofs.lemmas.Option.{get_or_from_slice_get, slice_get_within}
+use Rattle.std.proofs.Common.{◌≡◌, ◌<◌, ◌++◌, ◌∷◌, [], inl, inr, ℕ, List, AllPairs, Option, Some, None, IfNone, IfSome, Contains, map, sym, subst, arith}
+use Rattle.std.proofs.lemmas.List.Elements.{Contains-append_cases, Contains-append_right}
+use Rattle.rm_base.proofs.Members.{first-or-rest, in-front}
+use Rattle.rm_evidence.proofs.Extending.{pairs-head, pairs-tail}
 use Rattle.rm_history.specs.declared.world.World.{World}
 use Rattle.rm_history.specs.Evidence.{Evidence}
 use Rattle.rm_history.specs.FirstGap.{IsFirstGap, IsRecoverable}
@@ -19,42 +19,41 @@ use Rattle.rm_apply.specs.Files.{AreExactly}
 use Rattle.rm_apply.specs.Told.{IsFaultOfAll, IsGapOrNone}
 use Rattle.rm_apply.proofs.Rows.{applied-numbers, applied-told, member-determined}
 
--- in a list that ascends, a lower number than that of a place stands before the place
-before : (ns : List ℕ) (W : ℕ → Type 0) (k n f : ℕ) → AreExactly W ns → slice_get ns k ≡ Some n → W f → f < n → Contains (take k ns) f
-before ns W k n f are is wanted less =
-    let place = (are.exact f).1 wanted in
-    let inside = slice_get_within ns k n is in
-    let here : get_or ns k f ≡ n = get_or_from_slice_get ns k n f is in
-    elim (cases_lt place.0 k) [
-      | inl early ↦
-          let long = length-take-le k ns (omega (arith, inside)) in
-          (place.0, omega (arith, early, long), get_or-take k ns place.0 f early ∙ place.2)
-      | inr late ↦ elim (cases_lt k place.0) [
-        | inl later ↦ let up = are.ascends k place.0 f later place.1 in let there = place.2 in absurd (omega (arith, up, there, here, less))
-        | inr same ↦
-            let at : place.0 ≡ k = omega (arith, late, same) in
-            let there : get_or ns k f ≡ f = subst (λ j. get_or ns j f ≡ f) at place.2 in
-            absurd (omega (arith, there, here, less))
-      ]
-    ]
+-- the numbers behind the first ones ascend too
+pairs-behind : (ms ns : List ℕ) → AllPairs (λ m n. m < n) (ms ++ ns) → AllPairs (λ m n. m < n) ns
+pairs-behind [] ns up = up
+pairs-behind (m ∷ ms) ns up = pairs-behind ms ns (pairs-tail (λ (a b : ℕ). a < b) m (ms ++ ns) up)
 
-module _ (w : World) (e : Evidence) (i s : ℕ) (ns : List ℕ) (exact : AreExactly (IsFileTarget w i s) ns) (k n : ℕ) (is : slice_get ns k ≡ Some n) (plans : List Plan) (are : ArePlanned w e i s (take k ns) plans) where
+-- in a list that ascends, a lower number than one of its own stands before that
+before : (ms rest : List ℕ) (W : ℕ → Type 0) (n f : ℕ) → AreExactly W (ms ++ n ∷ rest) → W f → f < n → Contains ms f
+before ms rest W n f are wanted less = elim (Contains-append_cases ms (n ∷ rest) f ((are.exact f).1 wanted)) [
+  | inl front ↦ front
+  | inr back ↦ elim (first-or-rest n rest f back) [
+    | inl same ↦ absurd (omega (arith, less, same))
+    | inr late ↦ let up : n < f = pairs-head (λ (a b : ℕ). a < b) n rest f (pairs-behind ms (n ∷ rest) are.ascends) late in absurd (omega (arith, less, up))
+  ]
+]
+
+module _ (w : World) (e : Evidence) (i s : ℕ) (ms : List ℕ) (n : ℕ) (rest : List ℕ) (exact : AreExactly (IsFileTarget w i s) (ms ++ n ∷ rest)) (plans : List Plan) (are : ArePlanned w e i s ms plans) where
+  target : IsFileTarget w i s n
+  target = (exact.exact n).0 (Contains-append_right ms (n ∷ rest) n (in-front n rest))
+
   below : FilesBelow w e i s n
-  below f less b target =
-      let file : IsFileTarget w i s f = record { there = target.there; datafile = target.datafile; is = target.is; exists = target.exists } in
-      let has = before ns (IsFileTarget w i s) k n f exact is file less in
-      member-determined w e i s (map (applied i s) plans) f (applied-told w e i s (take k ns) plans are)
-      (subst (λ ms. Contains ms f) (sym (applied-numbers w e i s (take k ns) plans are)) has) b target
+  below f less b at =
+      let file : IsFileTarget w i s f = record { there = at.there; datafile = at.datafile; is = at.is; exists = at.exists } in
+      let has = before ms rest (IsFileTarget w i s) n f exact file less in
+      member-determined w e i s (map (applied i s) plans) f (applied-told w e i s ms plans are)
+      (subst (λ ks. Contains ks f) (sym (applied-numbers w e i s ms plans are)) has) b at
 
   -- the fault of the next datafile is the first of all
-  pub first-fault : (x : PlanFault) → IsFileTarget w i s n → IsFileFault w e i s n x → IsFaultOfAll w e i s x
-  first-fault (planned.Gap x) target names =
+  pub first-fault : (x : PlanFault) → IsFileFault w e i s n x → IsFaultOfAll w e i s x
+  first-fault (planned.Gap x) names =
       let same : n ≡ x.file = sym names.names.file in
       record {
         first = first_of_all w e i s n x below (gap_of_file w e i s n x target names);
         unknown = subst (λ f. IsUnknown w e i s f x.block x.inc x.scn) same names.names.unknown;
       }
-  first-fault planned.NoMemory target names = tt
+  first-fault planned.NoMemory names = tt
 
 -- what a planner finds of all datafiles
 pub gap_or_none : (w : World) (e : Evidence) (i s : ℕ) (o : Option Gap)

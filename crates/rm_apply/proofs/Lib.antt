@@ -5,6 +5,7 @@ pub mod Firsts
 pub mod Numbers
 pub mod Orders
 pub mod Parts
+pub mod Planning
 pub mod Restorations
 pub mod Rows
 pub mod States

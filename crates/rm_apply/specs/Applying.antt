@@ -1,12 +1,15 @@
 -- What is told of a datafile before it is applied, and the datafile that it makes.
-use Rattle.std.specs.Prelude.{ℕ, ◌≡◌, List, All, length, map}
+use Rattle.std.specs.Prelude.{ℕ, ◌≡◌, ◌++◌, List, [], ◌∷◌, All, Result, Ok, Err, IfOk, IfErr, Some, length, map, slice_get}
 use Rattle.rm_blocks.specs.File.{File, IsInOrder}
 use Rattle.rm_channel.specs.Applied.{row_of}
 use Rattle.rm_history.specs.declared.world.World.{World}
 use Rattle.rm_history.specs.World.{blocks_of}
 use Rattle.rm_history.specs.Evidence.{Evidence}
-use Rattle.rm_plan.specs.Plan.{AreParts}
+use Rattle.rm_plan.specs.declared.plan.PlanFault.{PlanFault}
+use Rattle.rm_plan.specs.Plan.{AreParts, IsFileFault, IsFileTarget}
 use Rattle.rm_apply.specs.declared.plans.Plan.{Plan}
+use Rattle.rm_apply.specs.declared.targets.TargetFile.{TargetFile}
+use Rattle.rm_apply.specs.Files.{AreExactly}
 
 -- part k is of block k, and there is a row for each part
 pub record IsReady (p : Plan) : Type 0 where
@@ -22,6 +25,27 @@ pub record IsPlanned (w : World) (e : Evidence) (i s : ℕ) (p : Plan) : Type 0 
 pub record ArePlanned (w : World) (e : Evidence) (i s : ℕ) (ns : List ℕ) (plans : List Plan) : Type 0 where
   pub numbers : map (λ p. p.number) plans ≡ ns
   pub each : All (IsPlanned w e i s) plans
+
+-- what planning datafile n comes to: its plan, or the fault of its least block that is not told
+pub record IsTried (w : World) (e : Evidence) (i s n : ℕ) (r : Result Plan PlanFault) : Type 0 where
+  pub number : IfOk r (λ p. p.number ≡ n)
+  pub planned : IfOk r (IsPlanned w e i s)
+  pub gap : IfErr r (IsFileFault w e i s n)
+
+-- of the datafile at place k
+abbrev pub TriedAt : World → Evidence → ℕ → ℕ → List TargetFile → ℕ → Result Plan PlanFault → Type 0
+TriedAt w e i s ts k r = (t : TargetFile) → slice_get ts k ≡ Some t → IsTried w e i s t.number r
+
+-- of each of these, in order
+abbrev pub AreTried : World → Evidence → ℕ → ℕ → List ℕ → List (Result Plan PlanFault) → Type 0
+AreTried w e i s [] [] = Unit {0}
+AreTried w e i s [] (r ∷ rs) = ⊥
+AreTried w e i s (n ∷ ns) [] = ⊥
+AreTried w e i s (n ∷ ns) (r ∷ rs) = IsTried w e i s n r × AreTried w e i s ns rs
+
+-- with more behind them, these are exactly the datafiles that exist at (i, s)
+abbrev pub AreFirst : World → ℕ → ℕ → List ℕ → Type 0
+AreFirst w i s ns = (rest : List ℕ) × AreExactly (IsFileTarget w i s) (ns ++ rest)
 
 -- the datafile at (i, s) that the plan makes
 abbrev pub applied : ℕ → ℕ → Plan → File

@@ -4,6 +4,7 @@
 mod applying;
 mod choice;
 pub mod fault;
+pub mod given;
 pub mod laws;
 pub mod origin;
 mod plans;
@@ -14,9 +15,10 @@ pub mod restoring;
 pub mod targets;
 
 pub use fault::RecoverFault;
+pub use given::{preview, recover, restore};
 pub use origin::Origin;
-pub use previewing::preview;
+pub use previewing::preview_from;
 pub use range::outside;
-pub use recovering::{Recovered, recover};
-pub use restoring::restore;
+pub use recovering::{Recovered, recover_from};
+pub use restoring::restore_from;
 pub use targets::{TargetFile, datafiles_at};

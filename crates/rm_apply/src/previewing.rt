@@ -55,26 +55,22 @@ fn origins(
     Ok(origins)
 }
 
-/// The origins from which the datafiles that exist at SCN `s` on the path of incarnation `i` would be
-/// restored, ascending by number; the first gap of a recovery to there, or none where each block is told; and
-/// the records that count as available but whose objects are missing or damaged. `Until` where `s` lies
-/// outside the incarnation. The objects are digested and decoded by so many channels, at least one, the bytes of
-/// so many held at a time; each number gives the same.
-pub fn preview<R: Threads + Sync, D: Store>(
+/// What `preview` tells. What is in place is moved into what is at hand: no row of it is copied.
+pub fn preview_from<R: Threads + Sync, D: Store>(
     rt: &R,
     alloc: Global,
     catalog: &Catalog,
     store: &mut D,
-    place: &InPlace,
+    place: InPlace,
     i: IncNo,
     s: Scn,
     channels: u32,
 ) -> Result<(Seq<Origin>, Option<Gap>, Seq<(u32, Bad)>), RecoverFault>
     requires database { HasDatabase catalog.now }
-    requires place { FitsPlace catalog.now place.now }
+    requires place { FitsPlace catalog.now place }
     requires there { IsThere (nodes catalog.now) i }
     ensures until { until_of result ≡ outside (nodes catalog.now) i s }
-    ensures previews { IfOk result (λ x. Previews (D.held store.old) catalog.now place.now i s x.0 x.1 x.2) }
+    ensures previews { IfOk result (λ x. Previews (D.held store.old) catalog.now place i s x.0 x.1 x.2) }
     ensures no_gap { IfErr result (λ x. IfGap x (λ _. ⊥)) }
     ensures same { D.held store.new ≡ D.held store.old }
     ensures failed { IsErrOf result RecoverFault.StoreFault → Rose (D.faults store.old) (D.faults store.new) }

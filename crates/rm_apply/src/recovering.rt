@@ -51,35 +51,39 @@ fn recover_files<R: Threads + Sync>(
     // They are a catalog's, so there are at most 64.
     let _ = catalog.records();
     let targets = datafiles_at(alloc, catalog, i, s, None)?;
-    let plans = plans(alloc, evidence, catalog, i, s, targets.as_slice())?;
+    let plans = plans(
+        rt,
+        alloc,
+        evidence,
+        catalog,
+        i,
+        s,
+        targets.as_slice(),
+        channels,
+    )?;
     let files = room(alloc, plans.len())?;
     let plans = plans.into_vec();
     Ok(Seq::from_vec(apply_all(rt, plans, files, i, s, channels)))
 }
 
-/// The datafiles that exist at SCN `s` on the path of incarnation `i`, by all that is at hand: each holds
-/// every change below `s` and none at or above it. `Until` where `s` lies outside the incarnation. `Gap`
-/// where a block is not told: that of the least datafile and block, behind which nothing more could be
-/// known. All memory is taken before the first part is applied. By so many channels, at least one, the objects
-/// are digested and decoded, the bytes of so many held at a time, and the parts are applied; each number gives
-/// the same.
-pub fn recover<R: Threads + Sync, D: Store>(
+/// The datafiles that `recover` gives. What is in place is moved into what is at hand: no row of it is copied.
+pub fn recover_from<R: Threads + Sync, D: Store>(
     rt: &R,
     alloc: Global,
     catalog: &Catalog,
     store: &mut D,
-    place: &InPlace,
+    place: InPlace,
     i: IncNo,
     s: Scn,
     channels: u32,
 ) -> Result<Recovered, RecoverFault>
     requires database { HasDatabase catalog.now }
-    requires place { FitsPlace catalog.now place.now }
+    requires place { FitsPlace catalog.now place }
     requires there { IsThere (nodes catalog.now) i }
     ensures until { until_of result ≡ outside (nodes catalog.now) i s }
-    ensures files { IfOk result (TellsAll (D.held store.old) catalog.now place.now i s) }
+    ensures files { IfOk result (TellsAll (D.held store.old) catalog.now place i s) }
     ensures few { IfOk result (λ recovered. length recovered.files ≤ 64) }
-    ensures gap { IfErr result (λ x. IfGap x (FindsGap (D.held store.old) catalog.now place.now i s)) }
+    ensures gap { IfErr result (λ x. IfGap x (FindsGap (D.held store.old) catalog.now place i s)) }
     ensures same { D.held store.new ≡ D.held store.old }
     ensures failed { IsErrOf result RecoverFault.StoreFault → Rose (D.faults store.old) (D.faults store.new) }
     ensures never_falls { D.faults store.old ≤ D.faults store.new }

@@ -107,27 +107,23 @@ fn restore_files(
     Ok((files, origins))
 }
 
-/// The datafiles that exist at SCN `s` on the path of incarnation `i`, or of these the one that is named, each
-/// from its available backup on that path of the greatest checkpoint up to `s`, ties by the greatest id, or
-/// else as it was created; and these origins, in the same order. What a set has of a datafile is a backup with
-/// the set's id. `Until` where `s` lies outside the incarnation. The objects are digested and decoded by so many
-/// channels, at least one, the bytes of so many held at a time; each number gives the same.
-pub fn restore<R: Threads + Sync, D: Store>(
+/// What `restore` gives. What is in place is moved into what is at hand: no row of it is copied.
+pub fn restore_from<R: Threads + Sync, D: Store>(
     rt: &R,
     alloc: Global,
     catalog: &Catalog,
     store: &mut D,
-    place: &InPlace,
+    place: InPlace,
     i: IncNo,
     s: Scn,
     file: Option<FileNo>,
     channels: u32,
 ) -> Result<(Recovered, Seq<Origin>), RecoverFault>
     requires database { HasDatabase catalog.now }
-    requires place { FitsPlace catalog.now place.now }
+    requires place { FitsPlace catalog.now place }
     requires there { IsThere (nodes catalog.now) i }
     ensures until { until_of result ≡ outside (nodes catalog.now) i s }
-    ensures restored { IfOk result (λ x. Restores (D.held store.old) catalog.now place.now i s file x.0 x.1) }
+    ensures restored { IfOk result (λ x. Restores (D.held store.old) catalog.now place i s file x.0 x.1) }
     ensures no_gap { IfErr result (λ x. IfGap x (λ _. ⊥)) }
     ensures same { D.held store.new ≡ D.held store.old }
     ensures failed { IsErrOf result RecoverFault.StoreFault → Rose (D.faults store.old) (D.faults store.new) }

@@ -4,7 +4,6 @@ use Rattle.std.specs.Option.{option_map_or}
 use Rattle.rm_apply.specs.Restore.{backed_up}
 use Rattle.rm_base.specs.Store.{Held}
 use Rattle.rm_base.specs.declared.kinds.Policy.TheVariants.{Redundancy}
-use Rattle.rm_base.specs.declared.kinds.Status.TheVariants.{Available}
 use Rattle.rm_blocks.specs.File.{File}
 use Rattle.rm_catalog.specs.Keys.{base}
 use Rattle.rm_catalog.specs.declared.record.PieceEntry.{PieceEntry}
@@ -12,11 +11,11 @@ use Rattle.rm_catalog.specs.declared.record.Record.{Record}
 use Rattle.rm_catalog_typed.specs.Ledger.{Ledger}
 use Rattle.rm_catalog_typed.specs.TypedCatalog.{TypedCatalog}
 use Rattle.rm_evidence.specs.Names.{piece_name}
+use Rattle.rm_evidence.specs.Objects.{piece_entry}
 use Rattle.rm_evidence.specs.declared.evidence.InPlace.{InPlace}
 use Rattle.rm_history.specs.declared.world.World.{World}
 use Rattle.rm_piece.specs.Spelling.{spelling}
 use Rattle.rm_piece.specs.declared.piece.Piece.{Piece}
-use Rattle.sha2.specs.Sha256.{sha256}
 use Rattle.rm_dup.specs.Copies.{copies_of, duplicated}
 
 -- the latest moment that the records keep; 0 without a database
@@ -25,24 +24,7 @@ moment_in rs = option_map_or (λ b. b.moment) (base rs) 0
 
 -- the record of a copy, under the number of its datafile
 abbrev pub entry_of : ℕ → Piece → PieceEntry
-entry_of moment a =
-    record {
-      id = a.file;
-      copy = true;
-      kind = a.kind;
-      inc = a.inc;
-      file = a.file;
-      from = a.from;
-      checkpoint = a.checkpoint;
-      high = a.high;
-      rows = length a.rows;
-      size = length (spelling a);
-      sha = sha256 (spelling a);
-      status = Available;
-      keep = false;
-      tag = codes "DUPLICATE";
-      moment = moment;
-    }
+entry_of moment a = piece_entry true false (codes "DUPLICATE") moment a.file a
 
 -- a new database of the datafiles that were recovered until s, with a copy of each and one mark
 abbrev pub ledger_of : World → (dbid moment s : ℕ) → List File → Ledger

@@ -1,48 +1,45 @@
-use Rattle.std.proofs.Common.{◌≡◌, ◌∙◌, ◌∷◌, ◌++◌, [], ℕ, List, Some, get_or, map, slice_get, take, sym, ap, subst}
-use Rattle.std.specs.Option.{option_map}
-use Rattle.std.proofs.lemmas.List.{map-append, take-map}
-use Rattle.std.proofs.lemmas.List.Elements.{All-push, All-same}
-use Rattle.std.proofs.lemmas.Option.{slice_get-get_or, slice_get-map}
+use Rattle.std.proofs.Common.{◌≡◌, ◌∙◌, ◌++◌, List, ap, length, rules, subst}
+use Rattle.std.specs.Slice.Iter.{chunks_rest}
 use Rattle.rm_evidence.specs.Known.{known_of}
 use Rattle.rm_evidence.specs.Database.{world_of}
-use Rattle.rm_plan.proofs.Faults.{handed_on}
-use Rattle.rm_apply.specs.declared.plans.Plan.{Plan}
-use Rattle.rm_apply.specs.Applying.{ArePlanned, IsPlanned}
-use Rattle.rm_apply.specs.Told.{IsFaultOfAll}
-use Rattle.rm_apply.proofs.Firsts.{first-fault}
-use Rattle.rm_apply.proofs.Numbers.{no_file, number, numbers_more}
+use Rattle.rm_apply.specs.declared.targets.TargetFile.{TargetFile}
+use Rattle.rm_apply.proofs.Planning.{IsPartWay, at-end, at-start, part-each, part-first, part-next}
 use Rattle.rm_apply.proofs.plans.plans.Goals as goal
 
-pub returns-in_err-file_plan-clause-gap : goal.returns-in_err-file_plan-clause-gap
-returns-in_err-file_plan-clause-gap c =
-    let w = world_of c.args.catalog.now in
-    let e = known_of c.args.evidence.now in
-    let k = c.loop-target.target-index in
-    let ts = c.args.targets.now in
-    let inside = c.loop-target-test.true in
-    let x = c.in_err-file_plan.field-0.0 in
-    let is : slice_get (map number ts) k ≡ Some (get_or ts k no_file).number = slice_get-map number ts k ∙ ap (option_map number) (slice_get-get_or ts k no_file inside) in
-    let are = subst (λ ns. ArePlanned w e c.args.i c.args.s ns c.loop-target.plans) (sym (take-map number k ts)) c.loop-target.invariant in
-    handed_on c.from_residual.result x c.from_residual.ensures.1 (IsFaultOfAll w e c.args.i c.args.s)
-    (first-fault w e c.args.i c.args.s (map number ts) c.requires.numbers k (get_or ts k no_file).number is c.loop-target.plans are x (c.requires.each k no_file inside).1 c.in_err-file_plan.ensures.gap)
+pub loop-part-init : goal.loop-part-init
+loop-part-init g c =
+    at-start (world_of c.args.catalog.now) (known_of c.args.evidence.now) c.args.i c.args.s c.args.targets.now (chunks_rest c.into_iter-part-iterator.result) c.new-plans.result c.new-plans.ensures
+    (ap chunks_rest c.into_iter-part-iterator.ensures.into_iter_gives ∙ c.chunks-part-items.ensures.rest) c.requires.each
 
-pub loop-target-preserved : goal.loop-target-preserved
-loop-target-preserved c =
+pub add_plans-requires-clause-each : goal.add_plans-requires-clause-each
+add_plans-requires-clause-each g c κs within =
     let w = world_of c.args.catalog.now in
     let e = known_of c.args.evidence.now in
-    let k = c.loop-target.target-index in
-    let ts = c.args.targets.now in
-    let old = c.loop-target.plans in
-    let new = c.push.new.self in
-    let p = c.in_ok-file_plan.field-0 in
-    let of_plan : Plan → ℕ = λ x. x.number in
-    let is : new ≡ old ++ p ∷ [] = c.in_ok-push.ensures.ok in
-    record {
-      numbers =
-          ap (λ (ps : List Plan). map of_plan ps) is
-          ∙ map-append of_plan old (p ∷ [])
-          ∙ ap (λ (ns : List ℕ). ns ++ p.number ∷ []) c.loop-target.invariant.numbers
-          ∙ ap (λ n. map number (take k ts) ++ n ∷ []) c.in_ok-file_plan.ensures.number
-          ∙ sym (numbers_more ts k c.loop-target-test.true);
-      each = All-same (IsPlanned w e c.args.i c.args.s) new (old ++ p ∷ []) is (All-push (IsPlanned w e c.args.i c.args.s) old p c.loop-target.invariant.each c.in_ok-file_plan.ensures.planned);
-    }
+    let rest = chunks_rest c.next.new.self in
+    part-each w e c.args.i c.args.s c.args.targets.now c.in-Some.part.now rest c.loop-part.plans
+    (subst (λ (ts : List TargetFile). IsPartWay w e c.args.i c.args.s c.args.targets.now ts c.loop-part.plans) c.in-Some.ensures.steps.1.0 c.loop-part.invariant)
+
+pub add_plans-requires-clause-first : goal.add_plans-requires-clause-first
+add_plans-requires-clause-first g c κs within =
+    let w = world_of c.args.catalog.now in
+    let e = known_of c.args.evidence.now in
+    let rest = chunks_rest c.next.new.self in
+    part-first w e c.args.i c.args.s c.args.targets.now c.in-Some.part.now rest c.loop-part.plans
+    (subst (λ (ts : List TargetFile). IsPartWay w e c.args.i c.args.s c.args.targets.now ts c.loop-part.plans) c.in-Some.ensures.steps.1.0 c.loop-part.invariant)
+    c.requires.numbers
+
+pub loop-part-preserved : goal.loop-part-preserved
+loop-part-preserved g c =
+    let w = world_of c.args.catalog.now in
+    let e = known_of c.args.evidence.now in
+    let rest = chunks_rest c.next.new.self in
+    let adds = c.in_ok-add_plans.ensures in
+    part-next w e c.args.i c.args.s c.args.targets.now c.in-Some.part.now rest c.loop-part.plans
+    (subst (λ (ts : List TargetFile). IsPartWay w e c.args.i c.args.s c.args.targets.now ts c.loop-part.plans) c.in-Some.ensures.steps.1.0 c.loop-part.invariant)
+    c.add_plans.new.plans adds.numbers adds.planned
+
+pub returns-clause-plans : goal.returns-clause-plans
+returns-clause-plans g c =
+    let left = chunks_rest c.loop-part.part-iterator in
+    let none : length left ≡ 0 = search rules in
+    at-end (world_of c.args.catalog.now) (known_of c.args.evidence.now) c.args.i c.args.s c.args.targets.now left c.loop-part.plans c.loop-part.invariant none

@@ -11,7 +11,7 @@ use Rattle.rm_apply.proofs.Rows.{files-at}
 use Rattle.rm_apply.proofs.recovering.recover_files.Goals as goal
 
 pub plans-requires-clause-numbers : goal.plans-requires-clause-numbers
-plans-requires-clause-numbers g c = unnamed (world_of c.args.catalog.now) c.args.i c.args.s c.in_ok-targets.targets c.as_slice.result.now c.as_slice.ensures c.in_ok-targets.ensures.numbers
+plans-requires-clause-numbers g c κs within = unnamed (world_of c.args.catalog.now) c.args.i c.args.s c.in_ok-targets.targets c.as_slice.result.now c.as_slice.ensures c.in_ok-targets.ensures.numbers
 
 pub returns-clause-files : goal.returns-clause-files
 returns-clause-files g c =

@@ -5,7 +5,7 @@ use Rattle.rm_apply.specs.declared.targets.TargetFile.{TargetFile}
 use Rattle.rm_apply.specs.Preview.{AreOrigins}
 use Rattle.rm_apply.proofs.Firsts.{gap_or_none}
 use Rattle.rm_apply.proofs.Numbers.{number, unnamed}
-use Rattle.rm_apply.proofs.previewing.preview.Goals as goal
+use Rattle.rm_apply.proofs.previewing.preview_from.Goals as goal
 
 pub returns-clause-previews : goal.returns-clause-previews
 returns-clause-previews g c =

@@ -3,7 +3,7 @@ use Rattle.rm_evidence.specs.Database.{world_of}
 use Rattle.rm_apply.specs.declared.targets.TargetFile.{TargetFile}
 use Rattle.rm_apply.specs.Restore.{AreRestored}
 use Rattle.rm_apply.proofs.Numbers.{number}
-use Rattle.rm_apply.proofs.restoring.restore.Goals as goal
+use Rattle.rm_apply.proofs.restoring.restore_from.Goals as goal
 
 pub returns-clause-restored : goal.returns-clause-restored
 returns-clause-restored g c =
