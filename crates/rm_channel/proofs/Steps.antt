@@ -82,8 +82,5 @@ worked-some p q seen xs now left calls told later did work is = (
 pub worked-none : (p : Standing) (calls : List Call) → Worked p p.seen calls None
 worked-none p calls = ([], did-none p, (calls, refl), tt)
 
-pub later-self : (p : Standing) → IsLater p p
-later-self p = refl
-
 pub later-then : (p q r : Standing) → IsLater p q → IsLater q r → IsLater p r
 later-then p q r a b = b ∙ (λ i. record (a i) { seen = r.seen })

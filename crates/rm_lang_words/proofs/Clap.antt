@@ -8,7 +8,7 @@ use Rattle.std.specs.Str.{bytes_eq}
 use Rattle.std.proofs.lemmas.Slice.Eq.{bytes_eq-Decides}
 use Rattle.clap.specs.Kinds.{Kinds, or_else}
 use Rattle.clap.specs.Lexer.{name_and_value}
-use Rattle.clap.specs.Words.{App, Row, Rule, built, is_simple, is_simple_and_free, with_rule}
+use Rattle.clap.specs.Words.{App, Row, Rule, is_simple, is_simple_and_free, with_rule}
 use Rattle.clap.specs.Walk.{Held, Walk, after_step, arg_by_long, at_row, first_of, has_row, idle, is_early_multiple, more_values, with_values, without, walk_from, walked, long_met, after_flag}
 use Rattle.clap.specs.Faults.{long_fault, step_fault, turn_fault}
 use Rattle.clap.specs.Simple.{Shape, filled, filled_from, on_top, with_index}
@@ -60,9 +60,6 @@ built_with rs = on_top (λ s. record s { rules = rs; disable_help_subcommand = t
 
 abbrev pub shape : Form → Shape
 shape form = (built_with (rules form)).top
-
-pub built_is : (form : Form) → built (app_of_form form) ≡ built_with (rules form)
-built_is form = ap built (app_is form) ∙ ap built_with (filled_is form)
 
 -- `clap` tells of each such command what it makes of the words
 all_simple : (form : Form) → list_all (λ (a : Rule). a.is_simple) (map rule_of_entry form) ≡ true

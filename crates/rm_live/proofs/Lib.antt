@@ -1,5 +1,6 @@
 pub mod Edges
 pub mod Files
+pub mod Fresh
 pub mod Numbers
 pub mod Seats
 pub mod Sound

@@ -17,7 +17,7 @@ use Rattle.rm_machine.specs.Loading.{lost_instance}
 use Rattle.rm_machine.specs.Machine.{HistoryFits}
 use Rattle.rm_machine.specs.declared.state.State.{State}
 use Rattle.rm_machine.specs.State.{current_of, ledger, now_of, tree, world, is_lost, placed}
-use Rattle.rm_machine_code.proofs.FirstTold.{tell-none}
+use Rattle.rm_machine.proofs.FirstTold.{tell-none}
 
 -- n places with nothing there
 abbrev empty : ℕ → List (Option File)

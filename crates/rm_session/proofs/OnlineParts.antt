@@ -20,7 +20,7 @@ use Rattle.rm_machine.specs.Loading.{inc_of_first, online_of, where_of}
 use Rattle.rm_machine.specs.Saved.{FitsOnline}
 use Rattle.rm_machine.specs.Sound.{IsGone}
 use Rattle.rm_machine.specs.State.{is_lost}
-use Rattle.rm_machine_code.proofs.Threads.{where-gone, where-is_there}
+use Rattle.rm_machine.proofs.Threads.{where-gone, where-is_there}
 
 -- the flag of a thread, of four
 enabled-at : (on : ℕ → Bool) (t : ℕ) → 0 < t → t ≤ 4 → slice_get (on 1 ∷ on 2 ∷ on 3 ∷ on 4 ∷ []) (t - 1) ≡ Some (on t)

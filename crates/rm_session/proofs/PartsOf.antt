@@ -1,65 +1,29 @@
 -- What is saved: each part is that of a datafile in place, or of an online log that is not lost.
 use Rattle.std.proofs.Common.{◌≡◌, ◌≢◌, ◌<◌, ◌≤◌, ◌+◌, ◌-◌, ◌∙◌, ◌++◌, ◌&&◌, not, inl, inr, ℕ, zero, suc, List, [], ◌∷◌, Option, Some, None, Bool, true, false, cond, refl, ap, sym, subst, arith, length, length-append, AllPairs, Contains, slice_get}
-use Rattle.std.specs.List.{cons_option, filter_map}
+use Rattle.std.specs.List.{cons_option}
 use Rattle.std.specs.Option.{option_map, option_map_or}
-use Rattle.std.proofs.lemmas.List.Elements.{All-contains, Contains-append_cases, Contains-append_left, Contains-append_right}
+use Rattle.std.proofs.lemmas.List.Elements.{Contains-append_cases, Contains-append_left, Contains-append_right}
 use Rattle.std.proofs.lemmas.List.Kept.{AllPairs-cons}
-use Rattle.rm_base.proofs.Lists.{map_to}
 use Rattle.rm_base.proofs.Members.{behind, in-front, none-in, first-or-rest}
 use Rattle.rm_blocks.specs.File.{File}
-use Rattle.rm_catalog.specs.Trees.{nodes}
 use Rattle.rm_evidence.specs.Gathered.{placed_piece}
-use Rattle.rm_evidence.specs.Known.{FitsPiece}
 use Rattle.rm_catalog_typed.proofs.Keeping.{pairs_append}
 use Rattle.rm_machine.specs.declared.state.State.{State}
-use Rattle.rm_machine.specs.Damage.{undamaged}
-use Rattle.rm_machine.specs.Recovery.{in_place}
 use Rattle.rm_machine.specs.Saving.{SitePart, file_parts, log_parts, parts_of}
 use Rattle.rm_machine.specs.Sound.{IsSound}
 use Rattle.rm_machine.specs.State.{ledger, counted, is_lost, is_online}
-use Rattle.rm_machine_code.proofs.Damaged.{damaged-none}
-use Rattle.rm_machine_code.proofs.Fitting.{place-fits}
-use Rattle.rm_machine_code.proofs.Standing.{each-in}
-use Rattle.rm_machine_code.proofs.Threads.{online-parts, thread-in}
-use Rattle.rm_machine_code.proofs.Tracked.{tracked-same}
-use Rattle.rm_machine_code.proofs.Undamaged.{undamaged-none}
+use Rattle.rm_machine.proofs.Fitting.{stands-valid}
+use Rattle.rm_machine.proofs.Standing.{each-in}
+use Rattle.rm_machine.proofs.Threads.{online-parts, thread-in}
 use Rattle.rm_piece.specs.Valid.{IsPiece}
 use Rattle.rm_redo.specs.declared.online.ThreadLog.{ThreadLog}
 use Rattle.rm_redo.specs.Logs.{Logs}
 use Rattle.rm_redo.specs.Online.{IsThread}
-use Rattle.rm_catalog_typed.specs.TypedCatalog.{records_of}
 use Rattle.rm_session.specs.Adding.{part_of_file, part_of_thread}
-
-present-to : {X : Type 0} (os : List (Option X)) (k : ℕ) (x : X) → slice_get os k ≡ Some (Some x) → Contains (filter_map (λ o. o) os) x
-present-to [] k x at = absurd (let clash : None ≡ Some (Some x) = at in cc)
-present-to (None ∷ os) zero x at = absurd (let clash : Some None ≡ Some (Some x) = at in cc)
-present-to (Some y ∷ os) zero x at = let same : y ≡ x = (let is : Some (Some y) ≡ Some (Some x) = at in cc) in subst (λ z. Contains (y ∷ filter_map (λ o. o) os) z) same (in-front y (filter_map (λ o. o) os))
-present-to (None ∷ os) (suc k) x at = present-to os k x at
-present-to (Some y ∷ os) (suc k) x at = behind y (filter_map (λ o. o) os) x (present-to os k x at)
-
--- the database as if no block were damaged
-abbrev as_whole : State → State
-as_whole s = record s { instance = record s.instance { damaged = [] } }
-
-whole-sound : (s : State) → IsSound s → IsSound (as_whole s)
-whole-sound s sound = record {
-  catalog = sound.catalog;
-  dbid = sound.dbid;
-  place = record { many = sound.place.many; each = sound.place.each };
-  logs = record { dbid = sound.logs.dbid; there = sound.logs.there; four = sound.logs.four; threads = sound.logs.threads; gone = sound.logs.gone; each = sound.logs.each };
-  damaged = damaged-none (as_whole s) refl;
-  tracker = tracked-same s (as_whole s) sound.tracker;
-  in_open = λ opened. let is = sound.in_open opened in record { inc = is.inc; found = is.found; point = is.point };
-  point = λ at is. let it = sound.point at is in record { low = it.low; high = it.high; stands = it.stands };
-}
 
 -- what stands in place is valid as a piece
 pub file-valid : (s : State) → IsSound s → (k : ℕ) (x : File) → slice_get s.instance.place k ≡ Some (Some x) → IsPiece (placed_piece (ledger s).base.dbid (counted s x))
-file-valid s sound k x at =
-    let fits = place-fits (as_whole s) (whole-sound s sound) in
-    let place = undamaged [] 1 s.instance.place in
-    let here = ap (λ xs. slice_get xs k) (undamaged-none 1 s.instance.place) ∙ at in
-    (All-contains (λ y. FitsPiece (nodes (records_of s.catalog)) (placed_piece (ledger s).base.dbid y)) (in_place (as_whole s)).files (counted s x) fits.files (map_to (counted s) (filter_map (λ o. o) place) x (present-to place k x here))).valid
+file-valid s sound k x at = (stands-valid s sound k x at).valid
 
 -- What a part is of
 

@@ -1,8 +1,5 @@
 -- What was saved is at rest.
-use Rattle.std.proofs.Common.{◌≡◌, ◌≢◌, ◌<◌, ◌+◌, ◌-◌, ◌^◌, ◌∙◌, inl, inr, ℕ, List, [], Some, None, false, refl, ap, sym, subst, arith, Contains, codes, slice_index_or}
-use Rattle.std.specs.Fmt.{decimal}
-use Rattle.std.proofs.lemmas.Fmt.{decimal_injective}
-use Rattle.std.proofs.lemmas.List.{append_cancel_left}
+use Rattle.std.proofs.Common.{◌≡◌, ◌≢◌, ◌<◌, ◌+◌, ◌-◌, ◌∙◌, inl, inr, ℕ, List, [], Some, None, false, refl, ap, sym, subst, arith, Contains, slice_index_or}
 use Rattle.std.proofs.lemmas.List.Elements.{All-contains, Contains-append_cases, Contains-append_left, Contains-append_right}
 use Rattle.std.proofs.lemmas.Option.{slice_get_within}
 use Rattle.rm_base.proofs.Slots.{index-get}
@@ -13,6 +10,7 @@ use Rattle.rm_commit.proofs.Standing.{AreApart, each-stands, others-stay}
 use Rattle.rm_history.proofs.Highs.{high-least}
 use Rattle.rm_catalog_typed.proofs.Lookups.{item-at}
 use Rattle.rm_evidence.specs.Names.{site_name}
+use Rattle.rm_evidence.proofs.Names.{site-name-tells}
 use Rattle.rm_machine.specs.declared.state.State.{State}
 use Rattle.rm_machine.specs.Damage.{has_file, without_damaged}
 use Rattle.rm_machine.specs.Effect.{Made}
@@ -24,18 +22,14 @@ use Rattle.rm_machine.specs.Saving.{IsSavedAs, SitePart, entry_of, made_of, obje
 use Rattle.rm_machine.specs.Sound.{IsSound}
 use Rattle.rm_machine.specs.State.{ledger, counted, placed, world}
 use Rattle.rm_catalog_typed.specs.Worlds.{database_of}
-use Rattle.rm_machine_code.proofs.Dropping.{no-site}
-use Rattle.rm_machine_code.proofs.Kept.{StandOn, kept-on, stays-so}
-use Rattle.rm_machine_code.proofs.LosingFits.{losing-fits}
-use Rattle.rm_machine_code.proofs.Standing.{each-in}
-use Rattle.rm_machine_code.proofs.Undamaged.{sound-undamaged}
+use Rattle.rm_machine.proofs.Dropping.{no-site}
+use Rattle.rm_machine.proofs.Kept.{StandOn, kept-on, stays-so}
+use Rattle.rm_machine.proofs.LosingFits.{losing-fits}
+use Rattle.rm_machine.proofs.Standing.{each-in}
+use Rattle.rm_machine.proofs.Undamaged.{sound-undamaged}
 use Rattle.rm_session.proofs.Ids.{ids-from, ids-pairs}
 use Rattle.rm_session.proofs.PartsOf.{IsOther, IsPartOf, file-valid, of_file, of_thread, part-of, parts-apart}
 use Rattle.rm_session.proofs.Sites.{ids-left, next_after, site-typed_catalog}
-
--- the names of two parts differ
-site-name-tells : (a b : ℕ) → a < 2 ^ 64 → b < 2 ^ 64 → site_name a ≡ site_name b → a ≡ b
-site-name-tells a b small_a small_b same = decimal_injective a b small_a small_b (append_cancel_left (codes "site_") (decimal a) (decimal b) same)
 
 abbrev pub objects_of : State → List Object
 objects_of s = with_ids object_of (ledger s).base.next_id (parts_of s)

@@ -13,7 +13,7 @@ use Rattle.rm_machine.specs.Saved.{FitsInPlace, IsGoodFile, spelling_of}
 use Rattle.rm_machine.specs.Saving.{SitePart, object_of, rested, saved_of}
 use Rattle.rm_machine.specs.Sound.{IsSound}
 use Rattle.rm_machine.specs.State.{ledger, counted}
-use Rattle.rm_machine_code.proofs.Places.{counted-open, placed-map, placed-mapped}
+use Rattle.rm_machine.proofs.Places.{counted-open, placed-map, placed-mapped}
 use Rattle.rm_session.specs.Adding.{part_of_file}
 use Rattle.rm_session.proofs.PartsOf.{file-valid}
 use Rattle.rm_session.proofs.Resting.{objects_of}

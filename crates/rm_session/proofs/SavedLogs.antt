@@ -24,10 +24,10 @@ use Rattle.rm_machine.specs.Saved.{FitsOnline, IsGoodLog, IsOfBlock}
 use Rattle.rm_machine.specs.Saving.{a_log_kept, rested, saved_logs, saved_of}
 use Rattle.rm_machine.specs.Sound.{IsSound}
 use Rattle.rm_machine.specs.State.{has_lost, ledger, current_of, is_lost, now_of, online, redo_end, world}
-use Rattle.rm_machine_code.proofs.LostLogs.{lost-none}
-use Rattle.rm_machine_code.proofs.Numbers.{file-place}
-use Rattle.rm_machine_code.proofs.Standing.{each-in}
-use Rattle.rm_machine_code.proofs.Threads.{online-parts, thread-in}
+use Rattle.rm_machine.proofs.LostLogs.{lost-none}
+use Rattle.rm_machine.proofs.Numbers.{file-place}
+use Rattle.rm_machine.proofs.Standing.{each-in}
+use Rattle.rm_machine.proofs.Threads.{online-parts, thread-in}
 use Rattle.rm_session.specs.Adding.{part_of_thread}
 use Rattle.rm_session.proofs.PartsOf.{is-online}
 use Rattle.rm_session.proofs.SavedFiles.{HaveObjects}

@@ -13,7 +13,7 @@ use Rattle.rm_machine.specs.Rest.{Rest}
 use Rattle.rm_machine.specs.Saving.{IsSavedAs, head_of, rested, saved_logs}
 use Rattle.rm_machine.specs.Sound.{IsPoint, IsSound}
 use Rattle.rm_machine.specs.State.{has_lost, counted, current_of}
-use Rattle.rm_machine_code.proofs.Places.{counted-closed}
+use Rattle.rm_machine.proofs.Places.{counted-closed}
 use Rattle.rm_session.proofs.Resting.{borne-without, object-stands}
 use Rattle.rm_session.proofs.SavedFiles.{HaveObjects, loaded-file}
 use Rattle.rm_session.proofs.SavedLogs.{loaded-logs, none-lost}

@@ -29,8 +29,8 @@ use Rattle.rm_machine.specs.Saving.{SitePart, entry_of, head_of, object_of, part
 use Rattle.rm_machine.specs.Sound.{IsSound}
 use Rattle.rm_machine.specs.declared.state.State.{State}
 use Rattle.rm_machine.specs.State.{ledger, counted, current_of, online}
-use Rattle.rm_machine_code.proofs.Standing.{each-in}
-use Rattle.rm_machine_code.proofs.Switching.{not-above}
+use Rattle.rm_machine.proofs.Standing.{each-in}
+use Rattle.rm_machine.proofs.Switching.{not-above}
 use Rattle.rm_session.specs.Adding.{no_parts, with_parts}
 use Rattle.rm_session.specs.declared.site_parts.Parts.{Parts}
 use Rattle.rm_session.proofs.Adding.{parts-entries, parts-next, parts-objects}

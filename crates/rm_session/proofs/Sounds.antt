@@ -11,9 +11,9 @@ use Rattle.rm_machine.specs.Loading.{file_in, inc_of_first}
 use Rattle.rm_machine.specs.Sound.{AreOnline, ArePlaced, IsGone, IsOnline, IsOpen, IsPlaced, IsSound}
 use Rattle.rm_machine.specs.declared.state.State.{State}
 use Rattle.rm_machine.specs.State.{has_lost, counted, is_lost, ledger, online, tree}
-use Rattle.rm_machine_code.proofs.Damaged.{damaged-none}
-use Rattle.rm_machine_code.proofs.Places.{counted-closed, counted-open}
-use Rattle.rm_machine_code.proofs.Tracked.{tracked-fresh}
+use Rattle.rm_machine.proofs.Damaged.{damaged-none}
+use Rattle.rm_machine.proofs.Places.{counted-closed, counted-open}
+use Rattle.rm_machine.proofs.Tracked.{tracked-fresh}
 use Rattle.rm_piece.proofs.Whole.{full}
 use Rattle.rm_redo.specs.Logs.{Logs}
 use Rattle.rm_redo.specs.Online.{IsThread, has_log}
@@ -22,7 +22,7 @@ use Rattle.rm_catalog_typed.specs.Facts.{IsTypedCatalog}
 use Rattle.rm_catalog_typed.specs.TypedCatalog.{Saved}
 use Rattle.rm_session.specs.Fit.{IsFit, IsFitFile, IsFitLog, StandNow}
 use Rattle.rm_session.proofs.Firsts.{first-is, fit-each}
-use Rattle.rm_machine_code.proofs.LostLogs.{lost-found}
+use Rattle.rm_machine.proofs.LostLogs.{lost-found}
 use Rattle.rm_session.proofs.OnlineParts.{online-part, told-four, told-gone, told-has}
 use Rattle.rm_session.proofs.Orders.{in-order, not-level1}
 

@@ -14,10 +14,10 @@ use Rattle.rm_machine.specs.Mount.{first_lost, mount_point}
 use Rattle.rm_machine.specs.Sound.{IsPlaced, IsPoint, IsSound, StandsAt}
 use Rattle.rm_machine.specs.declared.state.State.{State}
 use Rattle.rm_machine.specs.State.{current_of, ledger, now_of, tree, world}
-use Rattle.rm_machine_code.proofs.Damaged.{damaged-same}
-use Rattle.rm_machine_code.proofs.Mounting.{none-lost}
-use Rattle.rm_machine_code.proofs.Places.{counted-closed}
-use Rattle.rm_machine_code.proofs.Tracked.{tracked-same}
+use Rattle.rm_machine.proofs.Damaged.{damaged-same}
+use Rattle.rm_machine.proofs.Mounting.{none-lost}
+use Rattle.rm_machine.proofs.Places.{counted-closed}
+use Rattle.rm_machine.proofs.Tracked.{tracked-same}
 use Rattle.rm_session.specs.Fit.{IsStanding, StandNow, with_point}
 
 -- what stands at a place, and the other way round

@@ -29,8 +29,8 @@ use Rattle.rm_machine.specs.Saved.{IsGoodFile, IsGoodLog}
 use Rattle.rm_machine.specs.Sound.{IsSound}
 use Rattle.rm_machine.specs.declared.state.State.{State}
 use Rattle.rm_machine.specs.State.{has_lost, counted, current_of, is_lost, ledger, now_of, online, world}
-use Rattle.rm_machine_code.proofs.FirstTold.{tell-first}
-use Rattle.rm_machine_code.proofs.Places.{counted-closed, counted-open}
+use Rattle.rm_machine.proofs.FirstTold.{tell-first}
+use Rattle.rm_machine.proofs.Places.{counted-closed, counted-open}
 use Rattle.rm_session.proofs.GoodParts.{file-agrees, log-agrees}
 use Rattle.rm_session.proofs.Lost.{lost-fits}
 use Rattle.rm_session.proofs.OnlineParts.{online-part}

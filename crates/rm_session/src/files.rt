@@ -10,12 +10,12 @@ ghost use Rattle.rm_piece.specs.Valid.{IsPiece};
 ghost use Rattle.rm_catalog_typed.specs.Facts.{IsTypedCatalog};
 ghost use Rattle.rm_session.specs.Fit.{AllAt, FitsAt, IsFitFile, IsFitPiece, IsLoadedAt, IsWhereFits};
 
-use crate::fault::SessionFault;
 use crate::parts::load_piece;
 use rm_base::{FileNo, IncNo, Kind, Scn, Seq, Store};
 use rm_blocks::DataFile;
 use rm_catalog::PartEntry;
 use rm_catalog_typed::{Saved, TypedCatalog};
+use rm_evidence::EvidenceFault;
 use rm_history::Datafile;
 use rm_piece::Piece;
 use std::alloc::Global;
@@ -89,11 +89,11 @@ fn good_piece<D: Store>(
     site: &Saved,
     number: FileNo,
     datafile: &Datafile,
-) -> Result<Option<Piece>, SessionFault>
+) -> Result<Option<Piece>, EvidenceFault>
     ensures told { IfOk result (λ found. IfSome (D.held store.old) (λ h. IsTheOne (IsGoodFile h catalog.now.ledger site.now number datafile.now) found)) }
     ensures fits { IfOk result (λ found. IfSome found (IsFitPiece catalog.now.ledger site.now.head.opened number datafile.now)) }
     ensures same { D.held store.new ≡ D.held store.old }
-    ensures failed { IsErrOf result SessionFault.StoreFault → Rose (D.faults store.old) (D.faults store.new) }
+    ensures failed { IsErrOf result EvidenceFault.StoreFault → Rose (D.faults store.old) (D.faults store.new) }
     ensures never_falls { D.faults store.old ≤ D.faults store.new }
 {
     let Some(part) = file_part(site, number) else {
@@ -120,11 +120,11 @@ fn load_file<D: Store>(
     site: &Saved,
     number: FileNo,
     datafile: &Datafile,
-) -> Result<Option<DataFile>, SessionFault>
+) -> Result<Option<DataFile>, EvidenceFault>
     ensures told { IfOk result (λ x. IfSome (D.held store.old) (λ h. IsLoadedFile h catalog.now.ledger site.now number datafile.now x)) }
     ensures fits { IfOk result (λ x. IfSome x (IsFitFile catalog.now.ledger site.now.head.opened number datafile.now)) }
     ensures same { D.held store.new ≡ D.held store.old }
-    ensures failed { IsErrOf result SessionFault.StoreFault → Rose (D.faults store.old) (D.faults store.new) }
+    ensures failed { IsErrOf result EvidenceFault.StoreFault → Rose (D.faults store.old) (D.faults store.new) }
     ensures never_falls { D.faults store.old ≤ D.faults store.new }
 {
     match good_piece(alloc, store, catalog, site, number, datafile)? {
@@ -140,13 +140,13 @@ pub(crate) fn load_files<D: Store>(
     store: &mut D,
     catalog: &TypedCatalog,
     site: &Saved,
-) -> Result<Seq<Option<DataFile>>, SessionFault>
+) -> Result<Seq<Option<DataFile>>, EvidenceFault>
     requires { IsTypedCatalog catalog.now }
     ensures many { IfOk result (λ place. length place ≡ length catalog.now.ledger.files) }
     ensures told { IfOk result (λ place. IfSome (D.held store.old) (λ h. AllAt (IsLoadedAt h catalog.now.ledger site.now) place)) }
     ensures fits { IfOk result (λ place. AllAt (FitsAt catalog.now.ledger site.now.head.opened) place) }
     ensures same { D.held store.new ≡ D.held store.old }
-    ensures failed { IsErrOf result SessionFault.StoreFault → Rose (D.faults store.old) (D.faults store.new) }
+    ensures failed { IsErrOf result EvidenceFault.StoreFault → Rose (D.faults store.old) (D.faults store.new) }
     ensures never_falls { D.faults store.old ≤ D.faults store.new }
 {
     let mut place = Seq::new(alloc);

@@ -6,14 +6,14 @@ ghost use Rattle.rm_machine.specs.State.{has_lost};
 ghost use Rattle.rm_catalog_typed.specs.Facts.{IsTypedCatalog};
 ghost use Rattle.rm_session.specs.Fit.{IsFit, IsHad};
 
-use crate::fault::SessionFault;
 use crate::files::{end_of, load_files};
 use crate::threads::{load_logs, online_of};
 use rm_base::{NoMemory, Seq, Store};
 use rm_catalog_typed::{Saved, TypedCatalog};
+use rm_evidence::EvidenceFault;
 use rm_machine::Instance;
-use rm_machine_code::facts::has_lost;
-use rm_machine_code::tracking::first_tracker;
+use rm_machine::facts::has_lost;
+use rm_machine::tracking::first_tracker;
 use rm_redo::OnlineLogs;
 use rm_track::Tracker;
 use std::alloc::Global;
@@ -62,12 +62,12 @@ pub(crate) fn load_instance<D: Store>(
     store: &mut D,
     catalog: &TypedCatalog,
     site: &Saved,
-) -> Result<Instance, SessionFault>
+) -> Result<Instance, EvidenceFault>
     requires { IsTypedCatalog catalog.now }
     ensures told { IfOk result (λ i. IfSome (D.held store.old) (λ h. IsHad h catalog.now.ledger site.now i)) }
     ensures fits { IfOk result (λ i. IsFit catalog.now.ledger site.now i) }
     ensures same { D.held store.new ≡ D.held store.old }
-    ensures failed { IsErrOf result SessionFault.StoreFault → Rose (D.faults store.old) (D.faults store.new) }
+    ensures failed { IsErrOf result EvidenceFault.StoreFault → Rose (D.faults store.old) (D.faults store.new) }
     ensures never_falls { D.faults store.old ≤ D.faults store.new }
 {
     let place = load_files(alloc, store, catalog, site)?;

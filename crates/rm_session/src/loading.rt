@@ -6,11 +6,11 @@ ghost use Rattle.rm_machine.specs.Sound.{IsSound};
 ghost use Rattle.rm_catalog_typed.specs.Facts.{IsTypedCatalog};
 ghost use Rattle.rm_session.specs.Fit.{IsFitBy, IsHadBy};
 
-use crate::fault::SessionFault;
 use crate::instances::{load_instance, lost_instance};
 use crate::point::point_of;
 use rm_base::Store;
 use rm_catalog_typed::TypedCatalog;
+use rm_evidence::EvidenceFault;
 use rm_machine::{Instance, State};
 use std::alloc::Global;
 
@@ -19,13 +19,13 @@ fn instance_of<D: Store>(
     alloc: Global,
     store: &mut D,
     catalog: &TypedCatalog,
-) -> Result<Instance, SessionFault>
+) -> Result<Instance, EvidenceFault>
     ensures rules { IsTypedCatalog catalog.now }
     ensures dbid { catalog.now.ledger.base.dbid < 2 ^ 32 }
     ensures told { IfOk result (λ i. IfSome (D.held store.old) (λ h. IsHadBy h catalog.now.ledger catalog.now.saved i)) }
     ensures fits { IfOk result (λ i. IsFitBy catalog.now.ledger catalog.now.saved i) }
     ensures same { D.held store.new ≡ D.held store.old }
-    ensures failed { IsErrOf result SessionFault.StoreFault → Rose (D.faults store.old) (D.faults store.new) }
+    ensures failed { IsErrOf result EvidenceFault.StoreFault → Rose (D.faults store.old) (D.faults store.new) }
     ensures never_falls { D.faults store.old ≤ D.faults store.new }
 {
     let _dbid = catalog.base().dbid;
@@ -42,12 +42,12 @@ pub fn load_place<D: Store>(
     alloc: Global,
     store: &mut D,
     catalog: TypedCatalog,
-) -> Result<State, SessionFault>
+) -> Result<State, EvidenceFault>
     ensures catalog { IfOk result (λ s. s.catalog ≡ catalog) }
     ensures loaded { IfOk result (λ s. IfSome (D.held store.old) (λ h. IsLoaded h s)) }
     ensures sound { IfOk result IsSound }
     ensures same { D.held store.new ≡ D.held store.old }
-    ensures failed { IsErrOf result SessionFault.StoreFault → Rose (D.faults store.old) (D.faults store.new) }
+    ensures failed { IsErrOf result EvidenceFault.StoreFault → Rose (D.faults store.old) (D.faults store.new) }
     ensures never_falls { D.faults store.old ≤ D.faults store.new }
 {
     let instance = instance_of(alloc, store, &catalog)?;

@@ -1,46 +1,24 @@
 //! What the store has of one part of a saved site.
-ghost use Rattle.std.specs.Prelude.{◌≡◌, ◌≢◌, ◌≤◌, ℕ, List, IfNone, IfOk, IfSome, IsErrOf};
+ghost use Rattle.std.specs.Prelude.{◌≡◌, ◌≤◌, IfOk, IfSome, IsErrOf};
 ghost use Rattle.rm_base.specs.Outside.{Rose};
-ghost use Rattle.rm_base.specs.Sealed.{sealed};
 ghost use Rattle.rm_machine.specs.Loading.{IsTheOne};
 ghost use Rattle.rm_evidence.specs.Names.{site_name};
-ghost use Rattle.rm_evidence.specs.Objects.{HasDigest};
 ghost use Rattle.rm_piece.specs.Valid.{IsPiece};
 ghost use Rattle.rm_redo.specs.LogFormat.{IsLogFile};
 ghost use Rattle.rm_session.specs.Fit.{HasLogPart, HasPiecePart, IsLogOf, IsPieceOf};
 
-use crate::fault::SessionFault;
-use rm_base::sealed::unseal_with_digest;
 use rm_base::{FormatFault, NoMemory, Seq, Store};
 use rm_catalog::PartEntry;
-use rm_evidence::site_name;
+use rm_evidence::{EvidenceFault, recorded_body, site_name};
 use rm_piece::{Piece, piece_of_body};
 use rm_redo::{LogFile, log_of_body};
 use std::alloc::Global;
-
-// What stands before the seal, where the bytes are sealed and have the size and SHA-256 of the part. They are hashed once,
-// and not at all where the size is another.
-fn part_body<'a>(part: &PartEntry, bytes: &'a [u8]) -> Option<&'a [u8]>
-    ensures sealed { IfSome result (λ body. bytes.now ≡ sealed body.now) }
-    ensures digest { IfSome result (λ _. HasDigest bytes.now part.now.size part.now.sha) }
-    ensures none { IfNone result (HasDigest bytes.now part.now.size part.now.sha → (body : List ℕ) → bytes.now ≢ sealed body) }
-{
-    if bytes.len() as u64 != part.size {
-        return None;
-    }
-    let (body, digest) = unseal_with_digest(bytes)?;
-    if digest.as_slice() == part.sha.as_slice() {
-        Some(body)
-    } else {
-        None
-    }
-}
 
 // The piece that the bytes spell, where they have the digest of the part.
 fn piece_of(alloc: Global, part: &PartEntry, bytes: &[u8]) -> Result<Option<Piece>, NoMemory>
     ensures { IfOk result (λ found. IsTheOne (IsPieceOf part.now bytes.now) found) }
 {
-    let Some(body) = part_body(part, bytes) else {
+    let Some(body) = recorded_body(bytes, part.size, &part.sha) else {
         return Ok(None);
     };
     match piece_of_body(alloc, body) {
@@ -54,7 +32,7 @@ fn piece_of(alloc: Global, part: &PartEntry, bytes: &[u8]) -> Result<Option<Piec
 fn log_of(alloc: Global, part: &PartEntry, bytes: &[u8]) -> Result<Option<LogFile>, NoMemory>
     ensures { IfOk result (λ found. IsTheOne (IsLogOf part.now bytes.now) found) }
 {
-    let Some(body) = part_body(part, bytes) else {
+    let Some(body) = recorded_body(bytes, part.size, &part.sha) else {
         return Ok(None);
     };
     match log_of_body(alloc, body) {
@@ -69,10 +47,10 @@ fn bytes_of<D: Store>(
     alloc: Global,
     store: &mut D,
     part: &PartEntry,
-) -> Result<Option<Seq<u8>>, SessionFault>
+) -> Result<Option<Seq<u8>>, EvidenceFault>
     ensures found { IfOk result (λ bytes. IfSome (D.held store.old) (λ h. h (site_name part.now.id) ≡ bytes)) }
     ensures same { D.held store.new ≡ D.held store.old }
-    ensures failed { IsErrOf result SessionFault.StoreFault → Rose (D.faults store.old) (D.faults store.new) }
+    ensures failed { IsErrOf result EvidenceFault.StoreFault → Rose (D.faults store.old) (D.faults store.new) }
     ensures never_falls { D.faults store.old ≤ D.faults store.new }
 {
     let name = site_name(alloc, part.id)?;
@@ -85,11 +63,11 @@ pub(crate) fn load_piece<D: Store>(
     alloc: Global,
     store: &mut D,
     part: &PartEntry,
-) -> Result<Option<Piece>, SessionFault>
+) -> Result<Option<Piece>, EvidenceFault>
     ensures told { IfOk result (λ found. IfSome (D.held store.old) (λ h. IsTheOne (HasPiecePart h part.now) found)) }
     ensures valid { IfOk result (λ found. IfSome found IsPiece) }
     ensures same { D.held store.new ≡ D.held store.old }
-    ensures failed { IsErrOf result SessionFault.StoreFault → Rose (D.faults store.old) (D.faults store.new) }
+    ensures failed { IsErrOf result EvidenceFault.StoreFault → Rose (D.faults store.old) (D.faults store.new) }
     ensures never_falls { D.faults store.old ≤ D.faults store.new }
 {
     let Some(bytes) = bytes_of(alloc, store, part)? else {
@@ -103,11 +81,11 @@ pub(crate) fn load_log<D: Store>(
     alloc: Global,
     store: &mut D,
     part: &PartEntry,
-) -> Result<Option<LogFile>, SessionFault>
+) -> Result<Option<LogFile>, EvidenceFault>
     ensures told { IfOk result (λ found. IfSome (D.held store.old) (λ h. IsTheOne (HasLogPart h part.now) found)) }
     ensures valid { IfOk result (λ found. IfSome found IsLogFile) }
     ensures same { D.held store.new ≡ D.held store.old }
-    ensures failed { IsErrOf result SessionFault.StoreFault → Rose (D.faults store.old) (D.faults store.new) }
+    ensures failed { IsErrOf result EvidenceFault.StoreFault → Rose (D.faults store.old) (D.faults store.new) }
     ensures never_falls { D.faults store.old ≤ D.faults store.new }
 {
     let Some(bytes) = bytes_of(alloc, store, part)? else {

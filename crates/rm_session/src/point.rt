@@ -10,8 +10,7 @@ ghost use Rattle.rm_session.specs.Fit.{AllStand, IsPointBy, IsStanding, StandNow
 use rm_base::{IncNo, Scn};
 use rm_blocks::DataFile;
 use rm_catalog::HeadEntry;
-use rm_machine::State;
-use rm_machine_code::facts;
+use rm_machine::{State, facts};
 
 // Whether the version of each row lies below the SCN.
 fn lies_below(file: &DataFile, at: Scn) -> bool

@@ -13,7 +13,7 @@ use rm_catalog::{BaseEntry, Edit, HeadEntry};
 use rm_catalog_typed::Saved;
 use rm_commit::Object;
 use rm_machine::State;
-use rm_machine_code::damage::lose_damaged;
+use rm_machine::damage::lose_damaged;
 use std::alloc::Global;
 
 // What the head tells: the mode, and the point if there is one.

@@ -17,7 +17,7 @@ use rm_catalog::PartEntry;
 use rm_commit::Object;
 use rm_evidence::site_name;
 use rm_machine::State;
-use rm_machine_code::facts::{MOST_THREADS, now, redo_end};
+use rm_machine::facts::{MOST_THREADS, now, redo_end};
 use rm_piece::{Piece, encode_piece_with_digest, high_of};
 use rm_redo::{LogFile, OnlineLogs, encode_log_with_digest};
 use std::alloc::Global;

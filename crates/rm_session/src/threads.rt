@@ -9,14 +9,14 @@ ghost use Rattle.rm_redo.specs.LogFormat.{IsLogFile};
 ghost use Rattle.rm_catalog_typed.specs.Facts.{IsTypedCatalog};
 ghost use Rattle.rm_session.specs.Fit.{AllAt, IsFitLog, IsLogAt, IsWhereLogFits, LogFitsAt};
 
-use crate::fault::SessionFault;
 use crate::files::end_of;
 use crate::parts::load_log;
 use rm_base::{IncNo, NoMemory, Seq, Store, ThreadNo};
 use rm_catalog::PartEntry;
 use rm_catalog_typed::{Saved, TypedCatalog};
+use rm_evidence::EvidenceFault;
 use rm_history::Datafile;
-use rm_machine_code::facts::MOST_THREADS;
+use rm_machine::facts::MOST_THREADS;
 use rm_redo::{LogFile, LogRecord, OnlineLogs};
 use std::alloc::Global;
 
@@ -90,11 +90,11 @@ fn good_log<D: Store>(
     catalog: &TypedCatalog,
     site: &Saved,
     thread: ThreadNo,
-) -> Result<Option<LogFile>, SessionFault>
+) -> Result<Option<LogFile>, EvidenceFault>
     ensures told { IfOk result (λ found. IfSome (D.held store.old) (λ h. IsTheOne (IsGoodLog h catalog.now.ledger site.now thread) found)) }
     ensures fits { IfOk result (λ found. IfSome found (IsFitLog catalog.now.ledger site.now.head.opened thread)) }
     ensures same { D.held store.new ≡ D.held store.old }
-    ensures failed { IsErrOf result SessionFault.StoreFault → Rose (D.faults store.old) (D.faults store.new) }
+    ensures failed { IsErrOf result EvidenceFault.StoreFault → Rose (D.faults store.old) (D.faults store.new) }
     ensures never_falls { D.faults store.old ≤ D.faults store.new }
 {
     let Some(part) = thread_part(site, thread) else {
@@ -111,13 +111,13 @@ pub(crate) fn load_logs<D: Store>(
     store: &mut D,
     catalog: &TypedCatalog,
     site: &Saved,
-) -> Result<Seq<Option<LogFile>>, SessionFault>
+) -> Result<Seq<Option<LogFile>>, EvidenceFault>
     requires { IsTypedCatalog catalog.now }
     ensures many { IfOk result (λ logs. length logs ≡ 4) }
     ensures told { IfOk result (λ logs. IfSome (D.held store.old) (λ h. AllAt (IsLogAt h catalog.now.ledger site.now) logs)) }
     ensures fits { IfOk result (λ logs. AllAt (LogFitsAt catalog.now.ledger site.now.head.opened) logs) }
     ensures same { D.held store.new ≡ D.held store.old }
-    ensures failed { IsErrOf result SessionFault.StoreFault → Rose (D.faults store.old) (D.faults store.new) }
+    ensures failed { IsErrOf result EvidenceFault.StoreFault → Rose (D.faults store.old) (D.faults store.new) }
     ensures never_falls { D.faults store.old ≤ D.faults store.new }
 {
     let mut logs = Seq::new(alloc);

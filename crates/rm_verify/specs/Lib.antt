@@ -1,4 +1,3 @@
 pub mod Classes
 pub mod Crosscheck
-pub mod Faults
 pub mod Told

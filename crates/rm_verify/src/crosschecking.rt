@@ -7,12 +7,11 @@ ghost use Rattle.rm_evidence.specs.Gathered.{Lists};
 ghost use Rattle.rm_evidence.specs.Seen.{IsSeen};
 ghost use Rattle.rm_verify.specs.Crosscheck.{IsChecked, checked, is_among, stands_in, status_after};
 
-use crate::fault::VerifyFault;
 use crate::found::add;
 use crate::object::{is_of, object_in};
 use rm_base::{Class, NoMemory, Seq, Status, Store, Text};
 use rm_catalog::{Catalog, Record};
-use rm_evidence::by_id;
+use rm_evidence::{EvidenceFault, by_id};
 use std::alloc::Global;
 
 // The status that one gets, by whether an object stands under its name.
@@ -89,10 +88,10 @@ pub fn crosscheck<D: Store>(
     catalog: &Catalog,
     store: &mut D,
     class: Class,
-) -> Result<Seq<(u32, Status)>, VerifyFault>
+) -> Result<Seq<(u32, Status)>, EvidenceFault>
     ensures checked { IfOk result (λ list. IsSeen (D.held store.old) (λ h. Lists StatusOf [] (IsChecked (stands_in h) catalog.now class) list)) }
     ensures same { D.held store.new ≡ D.held store.old }
-    ensures failed { IsErrOf result VerifyFault.StoreFault → Rose (D.faults store.old) (D.faults store.new) }
+    ensures failed { IsErrOf result EvidenceFault.StoreFault → Rose (D.faults store.old) (D.faults store.new) }
     ensures never_falls { D.faults store.old ≤ D.faults store.new }
 {
     let names = store.names()?;

@@ -8,12 +8,11 @@ ghost use Rattle.rm_evidence.specs.Seen.{IsSeen};
 ghost use Rattle.rm_evidence.specs.Taking.{HasId};
 ghost use Rattle.rm_verify.specs.Told.{reason, with_bad};
 
-use crate::fault::VerifyFault;
 use crate::found::add;
 use rm_base::{Bad, NoMemory, Seq, Store};
 use rm_catalog::{Catalog, Record};
 use rm_evidence::order::objects;
-use rm_evidence::{Told, id_fits, tell_each};
+use rm_evidence::{EvidenceFault, Told, id_fits, tell_each};
 use std::alloc::Global;
 use std::thread::Threads;
 
@@ -61,10 +60,10 @@ pub fn validate<R: Threads + Sync, D: Store>(
     catalog: &Catalog,
     store: &mut D,
     channels: u32,
-) -> Result<Seq<(u32, Bad)>, VerifyFault>
+) -> Result<Seq<(u32, Bad)>, EvidenceFault>
     ensures bad { IfOk result (λ list. IsSeen (D.held store.old) (λ h. Lists BadOf [] (IsSkipped h catalog.now) list)) }
     ensures same { D.held store.new ≡ D.held store.old }
-    ensures failed { IsErrOf result VerifyFault.StoreFault → Rose (D.faults store.old) (D.faults store.new) }
+    ensures failed { IsErrOf result EvidenceFault.StoreFault → Rose (D.faults store.old) (D.faults store.new) }
     ensures never_falls { D.faults store.old ≤ D.faults store.new }
 {
     let mut list = Seq::new(alloc);
