@@ -8,19 +8,16 @@ use Rattle.rm_base.specs.declared.kinds.Kind.{Kind}
 use Rattle.rm_base.specs.declared.kinds.Kind.TheVariants as kind
 use Rattle.rm_base.specs.declared.kinds.Status.TheVariants.{Available}
 use Rattle.rm_backup.specs.Parents.{IsParent}
-use Rattle.rm_catalog.specs.declared.record.PieceEntry.{PieceEntry}
 use Rattle.rm_catalog.specs.declared.record.SetEntry.{SetEntry}
 use Rattle.rm_catalog.specs.declared.record.SetPart.{SetPart}
 use Rattle.rm_lang_statement.specs.declared.command.BackupForm.{BackupForm}
 use Rattle.rm_history.specs.declared.world.Datafile.{Datafile}
 use Rattle.rm_history.specs.World.{exists, file_of}
 use Rattle.rm_moments.specs.Text.{IsTag}
-use Rattle.rm_piece.specs.declared.piece.Piece.{Piece}
 use Rattle.rm_piece.specs.declared.set.Set.{Set}
 use Rattle.rm_piece.specs.declared.set.SetFile.{SetFile}
 use Rattle.rm_piece.specs.SetSpelling.{set_spelling, spelled}
 use Rattle.rm_piece.specs.Rows.{from_on}
-use Rattle.rm_piece.specs.Spelling.{spelling}
 use Rattle.rm_report.specs.declared.line.Line.{Line}
 use Rattle.rm_report.specs.declared.line.Line.TheVariants.{NothingToBackUp}
 use Rattle.rm_catalog_typed.specs.TypedCatalog.{records_of}
@@ -125,27 +122,6 @@ objects_of s b = grouped b.files_per_set (taken s b)
 -- what an object of these datafiles counts as
 abbrev pub object_bytes : State → BackupForm → List ℕ → ℕ
 object_bytes s b files = if is_none b.files_per_set then sum_by (piece_bytes s) files else set_bytes (world s) files
-
--- the record of a piece, under this id
-abbrev pub piece_entry : Bool → Bool → List ℕ → ℕ → ℕ → Piece → PieceEntry
-piece_entry copy keep tag moment id a =
-    record {
-      id = id;
-      copy = copy;
-      kind = a.kind;
-      inc = a.inc;
-      file = a.file;
-      from = a.from;
-      checkpoint = a.checkpoint;
-      high = a.high;
-      rows = length a.rows;
-      size = length (spelling a);
-      sha = sha256 (spelling a);
-      status = Available;
-      keep = keep;
-      tag = tag;
-      moment = moment;
-    }
 
 -- what a set's record says of a member; the rows that are counted are those that stand in the bytes
 abbrev pub part_of : SetFile → SetPart

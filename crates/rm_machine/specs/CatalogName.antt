@@ -9,13 +9,13 @@ use Rattle.rm_base.specs.declared.refusal.Unknown.TheVariants.{Object}
 use Rattle.rm_history.specs.Tree.{end_of}
 use Rattle.rm_history.specs.declared.world.Datafile.{Datafile}
 use Rattle.rm_evidence.specs.Names.{log_name, piece_name}
+use Rattle.rm_evidence.specs.Objects.{piece_entry}
 use Rattle.rm_piece.specs.declared.piece.Piece.{Piece}
 use Rattle.rm_redo.specs.declared.log_file.LogFile.{LogFile}
 use Rattle.rm_report.specs.declared.line.Line.TheVariants.{Catalogued}
 use Rattle.rm_catalog_typed.specs.Changes.{with_base, with_end_at, with_log, with_piece}
 use Rattle.rm_catalog_typed.specs.LedgerFacts.{IsLogEntry, IsPieceEntry}
 use Rattle.rm_catalog_typed.specs.TypedCatalog.{TypedCatalog}
-use Rattle.rm_machine.specs.Backup.{piece_entry}
 use Rattle.rm_machine.specs.Effect.{Artefact, Effect, Outcome, a_log, a_piece, done, no_effect, refused}
 use Rattle.rm_machine.specs.Machine.{IsValidArtefact}
 use Rattle.rm_machine.specs.Marks.{lacks_bytes, lacks_ids, lacks_room}

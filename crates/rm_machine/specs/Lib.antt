@@ -31,7 +31,6 @@ pub mod MadeObjects
 pub mod MadePieces
 pub mod MadeSets
 pub mod Marks
-pub mod Meant
 pub mod Mishaps
 pub mod Mount
 pub mod Names

@@ -7,13 +7,14 @@ use Rattle.rm_history.specs.Artefacts.{high_of}
 use Rattle.rm_history.specs.World.{blocks_of}
 use Rattle.rm_catalog_typed.specs.Ledger.{Ledger}
 use Rattle.rm_evidence.specs.Names.{piece_name}
+use Rattle.rm_evidence.specs.Objects.{piece_entry}
 use Rattle.rm_piece.specs.declared.piece.Piece.{Piece}
 use Rattle.rm_piece.specs.Spelling.{spelling}
 use Rattle.rm_report.specs.declared.line.Line.{Line}
 use Rattle.rm_report.specs.declared.line.Line.TheVariants.{BackedUp}
 use Rattle.rm_catalog_typed.specs.Changes.{with_new_piece}
 use Rattle.rm_lang_statement.specs.declared.command.BackupForm.{BackupForm}
-use Rattle.rm_machine.specs.Backup.{is_copy, kind_by, piece_entry, rows_from}
+use Rattle.rm_machine.specs.Backup.{is_copy, kind_by, rows_from}
 use Rattle.rm_machine.specs.Effect.{Made, a_piece}
 use Rattle.rm_machine.specs.Lists.{packing_by, shape_by}
 use Rattle.rm_machine.specs.declared.job.Job.{Job}

@@ -12,7 +12,7 @@ use Rattle.rm_report.specs.declared.line.Line.TheVariants.{Recovered as recovere
 use Rattle.rm_machine.specs.Effect.{Outcome, done, no_effect}
 use Rattle.rm_machine.specs.Marks.{ids_refusal}
 use Rattle.rm_machine.specs.Mount.{first_lost}
-use Rattle.rm_machine.specs.Recovery.{AreMadeAt, IsRecoveryOutcome, put_over, range_refusal, skipped_lines}
+use Rattle.rm_machine.specs.Recovery.{AreMadeAt, IsRecoveryOutcome, put_over, range_refusal, skipped_lines, with_place}
 use Rattle.rm_machine.specs.Until.{or_else, target_of, until_refusal}
 use Rattle.rm_machine.specs.declared.state.State.{State}
 use Rattle.rm_machine.specs.State.{ledger, tree, world, current_of}
@@ -37,7 +37,7 @@ recover_refusal s until =
 
 -- the database with these datafiles in place, and the target as its point
 abbrev pub recovered : State → ℕ → List File → State
-recovered s at files = record s { instance = record s.instance { point = Some at; place = put_over files s.instance.place } }
+recovered s at files = with_place s (Some at) files
 
 -- what it comes to where each block is told
 abbrev pub brings_back : State → ℕ → Recovered → Outcome

@@ -23,6 +23,7 @@ use Rattle.rm_evidence.specs.declared.evidence.Evidence.{Evidence}
 use Rattle.rm_evidence.specs.Available.{IsSkipped}
 use Rattle.rm_evidence.specs.Gathered.{Lists}
 use Rattle.rm_evidence.specs.Names.{piece_name}
+use Rattle.rm_evidence.specs.Objects.{piece_entry}
 use Rattle.rm_piece.specs.declared.piece.Piece.{Piece}
 use Rattle.rm_piece.specs.Spelling.{spelling}
 use Rattle.rm_report.specs.declared.line.Line.{Line}
@@ -30,7 +31,6 @@ use Rattle.rm_report.specs.declared.line.Line.TheVariants.{Merged, StartsAbove, 
 use Rattle.rm_catalog_typed.specs.Changes.{with_new_piece, without_piece}
 use Rattle.rm_catalog_typed.specs.TypedCatalog.{records_of}
 use Rattle.rm_lang_statement.specs.declared.command.Until.{Until}
-use Rattle.rm_machine.specs.Backup.{piece_entry}
 use Rattle.rm_machine.specs.Effect.{Effect, Made, Outcome, a_piece, done, no_effect, refused}
 use Rattle.rm_machine.specs.Marks.{ids_refusal, lacks_bytes, lacks_ids}
 use Rattle.rm_machine.specs.Recover.{recover_target}

@@ -72,6 +72,10 @@ abbrev pub put_over : List File → List (Option File) → List (Option File)
 put_over [] place = place
 put_over (x ∷ xs) place = put_over xs (slice_set place (x.file - 1) (Some x))
 
+-- the database at this point, with these datafiles in place
+abbrev pub with_place : State → Option ℕ → List File → State
+with_place s point files = record s { instance = record s.instance { point = point; place = put_over files s.instance.place } }
+
 -- datafile f as the history made it at (i, at): each row is the state of its block
 abbrev pub file_at : World → List Change → ℕ → ℕ → ℕ → File
 file_at w h i at f = record { file = f; inc = i; checkpoint = at; rows = states w h i at f (blocks_of w f) }

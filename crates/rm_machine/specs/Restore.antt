@@ -21,7 +21,7 @@ use Rattle.rm_catalog_typed.specs.TypedCatalog.{records_of}
 use Rattle.rm_machine.specs.Effect.{Outcome, done, no_effect, told}
 use Rattle.rm_machine.specs.Marks.{ids_refusal}
 use Rattle.rm_machine.specs.Recover.{recover_target}
-use Rattle.rm_machine.specs.Recovery.{in_place, put_over, range_refusal, skipped_lines}
+use Rattle.rm_machine.specs.Recovery.{in_place, range_refusal, skipped_lines, with_place}
 use Rattle.rm_machine.specs.declared.state.State.{State}
 use Rattle.rm_machine.specs.State.{datafile_at, tree, world, current_of}
 use Rattle.rm_machine.specs.Until.{or_else, until_refusal}
@@ -58,7 +58,7 @@ origin_lines (f ∷ fs) (o ∷ os) = origin_line f o ∷ origin_lines fs os
 
 -- the database with these datafiles in place; it stands at no point then
 abbrev pub restored : State → List File → State
-restored s files = record s { instance = record s.instance { point = None; place = put_over files s.instance.place } }
+restored s files = with_place s None files
 
 -- By what is at hand, the datafiles of the target, or the one that is named, come to stand in place, each from
 -- its backup or else as it was created.

@@ -12,7 +12,7 @@ use Rattle.rm_moments.specs.Marks.{first_from, last_until}
 use Rattle.rm_retain.specs.Window.{is_on_path}
 use Rattle.rm_lang_statement.specs.declared.command.Until.{Until}
 use Rattle.rm_lang_statement.specs.declared.command.Until.TheVariants.{Scn, Sequence, Time}
-use Rattle.rm_machine.specs.Meant.{moment_meant}
+use Rattle.rm_moments.specs.Meant.{moment_meant}
 use Rattle.rm_machine.specs.declared.state.State.{State}
 use Rattle.rm_machine.specs.State.{is_lost, is_no_thread, ledger, online, tree}
 

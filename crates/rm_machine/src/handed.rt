@@ -15,6 +15,19 @@ pub struct Handed {
     pub removes: Seq<Text>,
 }
 
+/// These lines, of a statement that makes and removes no object.
+pub fn of_lines(alloc: Global, lines: Seq<Line>) -> Handed
+    ensures lines { result.lines ≡ lines }
+    ensures objects { result.objects ≡ [] }
+    ensures removes { result.removes ≡ [] }
+{
+    Handed {
+        lines,
+        objects: Seq::new(alloc),
+        removes: Seq::new(alloc),
+    }
+}
+
 /// One line, of a statement that makes and removes no object. An error is want of memory.
 pub fn of_line(alloc: Global, line: Line) -> Result<Handed, NoMemory>
     ensures lines { IfOk result (λ x. x.lines ≡ line ∷ []) }
@@ -23,9 +36,5 @@ pub fn of_line(alloc: Global, line: Line) -> Result<Handed, NoMemory>
 {
     let mut lines = Seq::new(alloc);
     lines.push(line)?;
-    Ok(Handed {
-        lines,
-        objects: Seq::new(alloc),
-        removes: Seq::new(alloc),
-    })
+    Ok(of_lines(alloc, lines))
 }

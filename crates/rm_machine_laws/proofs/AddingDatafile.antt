@@ -41,18 +41,18 @@ use Rattle.rm_machine.specs.Tracked.{AreTracked, IsTracked, tracks}
 use Rattle.rm_machine.specs.declared.state.State.{State}
 use Rattle.rm_machine.specs.State.{world, now_of, on_path, placed}
 use Rattle.rm_catalog_typed.specs.Worlds.{database_of}
-use Rattle.rm_machine_code.proofs.Damaged.{damaged-kept}
-use Rattle.rm_machine_code.proofs.Kept.{GrowsTo, kept-on, stand-same}
-use Rattle.rm_machine_code.proofs.Further.{catalog-further, keeps-further, sound-further}
-use Rattle.rm_machine_code.proofs.FirstTold.{lie-below}
+use Rattle.rm_machine.proofs.Damaged.{damaged-kept}
+use Rattle.rm_machine.proofs.Kept.{GrowsTo, kept-on, stand-same}
+use Rattle.rm_machine.proofs.Further.{catalog-further, keeps-further, sound-further}
+use Rattle.rm_machine.proofs.FirstTold.{lie-below}
 use Rattle.rm_machine_laws.proofs.DamagedRows.{but-damaged, sound-agrees}
 use Rattle.rm_machine_laws.proofs.Further.{fits-further, rows-further, same-further}
 use Rattle.rm_machine_laws.proofs.Grown.{SameHistory, true-on}
 use Rattle.rm_machine_laws.proofs.Leading.{LeadsOnBy, StaysBy}
-use Rattle.rm_machine_code.proofs.Places.{counted-open, placed-is}
+use Rattle.rm_machine.proofs.Places.{counted-open, placed-is}
 use Rattle.rm_machine_laws.proofs.Quiet.{quiet-on, quiet-stays}
-use Rattle.rm_machine_code.proofs.AddingDatafile.{HasRoom, has-room}
-use Rattle.rm_machine_code.proofs.AddingDatafile as shared
+use Rattle.rm_machine.proofs.AddingDatafile.{HasRoom, has-room}
+use Rattle.rm_machine.proofs.AddingDatafile as shared
 
 -- A new datafile
 

@@ -41,7 +41,7 @@ use Rattle.rm_machine.specs.declared.state.State.{State}
 use Rattle.rm_machine.specs.State.{ledger, world}
 use Rattle.rm_catalog_typed.specs.TypedCatalog.{records_of}
 use Rattle.rm_catalog_typed.specs.Worlds.{database_of}
-use Rattle.rm_machine_code.proofs.Places.{placed-is}
+use Rattle.rm_machine.proofs.Places.{placed-is}
 use Rattle.rm_machine_laws.proofs.AtHand.{BackupFrom, BaseFrom, Level1From, LogFrom, base-from, from_copy, from_log, from_online, from_piece, from_place, from_set, level1-from, log-from}
 
 -- a piece that is no level 1 agrees as a copy

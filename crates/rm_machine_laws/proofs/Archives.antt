@@ -10,12 +10,12 @@ use Rattle.rm_machine.specs.Machine.{IsBorneOut}
 use Rattle.rm_machine.specs.declared.state.State.{State}
 use Rattle.rm_machine.specs.State.{ledger, online}
 use Rattle.rm_machine.specs.SwitchLogfile.{archived, is_due, with_archived}
-use Rattle.rm_machine_code.proofs.Kept.{stand-same}
-use Rattle.rm_machine_code.proofs.Later.{borne-beside}
-use Rattle.rm_machine_code.proofs.Switching.{CanArchive}
+use Rattle.rm_machine.proofs.Kept.{stand-same}
+use Rattle.rm_machine.proofs.Later.{borne-beside}
+use Rattle.rm_machine.proofs.Switching.{CanArchive}
 use Rattle.rm_machine_laws.proofs.Switching.{switched-by}
 use Rattle.rm_machine_laws.proofs.NewObjects.{puts-rest, with_puts}
-use Rattle.rm_machine_code.proofs.Archives.{HasRoom, can-thread, next-room}
+use Rattle.rm_machine.proofs.Archives.{HasRoom, can-thread, next-room}
 
 -- What stands after it
 

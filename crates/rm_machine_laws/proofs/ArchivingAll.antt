@@ -5,7 +5,7 @@ use Rattle.rm_machine.specs.Archive.{after_all, archive_all_refusal, archiving, 
 use Rattle.rm_machine.specs.declared.state.State.{State}
 use Rattle.rm_machine.specs.Sound.{IsSound}
 use Rattle.rm_lang_statement.specs.declared.command.Command.TheVariants.{ArchiveLogCurrent}
-use Rattle.rm_machine_code.proofs.Archives.{HasRoom, room-accepted, threads-sound}
+use Rattle.rm_machine.proofs.Archives.{HasRoom, room-accepted, threads-sound}
 use Rattle.rm_machine_laws.proofs.Archives.{threads-stand}
 use Rattle.rm_base.proofs.Conditions.{only-where}
 use Rattle.rm_machine_laws.proofs.Leading.{LeadsOnBy, StaysBy}

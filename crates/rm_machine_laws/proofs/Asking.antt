@@ -27,12 +27,12 @@ use Rattle.rm_machine.specs.Until.{nowhere_refusal, or_else, refusal_at, target_
 use Rattle.rm_machine.specs.Write.{block_refusal, write_refusal}
 use Rattle.rm_machine.specs.declared.nature.Nature.TheVariants.{Changes, Mishap}
 use Rattle.rm_machine.specs.declared.state.State.{State}
-use Rattle.rm_machine_code.proofs.BackupAccepted.{can-back_up}
-use Rattle.rm_machine_code.proofs.Branching.{can-reset}
-use Rattle.rm_machine_code.proofs.Disabling.{accepted}
-use Rattle.rm_machine_code.proofs.Rolling.{can-roll}
-use Rattle.rm_machine_code.proofs.Switching.{not-above}
-use Rattle.rm_machine_code.proofs.Untils.{second-none}
+use Rattle.rm_machine.proofs.BackupAccepted.{can-back_up}
+use Rattle.rm_machine.proofs.Branching.{can-reset}
+use Rattle.rm_machine.proofs.Disabling.{accepted}
+use Rattle.rm_machine.proofs.Rolling.{can-roll}
+use Rattle.rm_machine.proofs.Switching.{not-above}
+use Rattle.rm_machine.proofs.Untils.{second-none}
 use Rattle.rm_machine_laws.proofs.ArchivingAll.{room}
 
 -- what is not refused so has them

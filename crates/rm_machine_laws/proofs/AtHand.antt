@@ -27,10 +27,10 @@ use Rattle.rm_machine.specs.declared.state.State.{State}
 use Rattle.rm_machine.specs.State.{ledger, counted, online, is_lost}
 use Rattle.rm_catalog_typed.specs.Worlds.{database_of}
 use Rattle.rm_catalog_typed.proofs.Records.{base-told}
-use Rattle.rm_machine_code.proofs.Undamaged.{undamaged-at}
-use Rattle.rm_machine_code.proofs.Standing.{present-in}
-use Rattle.rm_machine_code.proofs.AtHand.{online-in}
-use Rattle.rm_machine_code.proofs.Threads.{thread-in}
+use Rattle.rm_machine.proofs.Undamaged.{undamaged-at}
+use Rattle.rm_machine.proofs.Standing.{present-in}
+use Rattle.rm_machine.proofs.AtHand.{online-in}
+use Rattle.rm_machine.proofs.Threads.{thread-in}
 
 -- a log at hand is an online one that is not lost, or the log of a record
 pub data LogFrom (s : State) (held : Held) : LogFile → Type 0 where

@@ -35,29 +35,29 @@ use Rattle.rm_machine.specs.Sound.{IsSound}
 use Rattle.rm_machine.specs.declared.job.Job.{Job}
 use Rattle.rm_machine.specs.declared.state.State.{State}
 use Rattle.rm_machine.specs.State.{current_of, ledger, now_of, world}
-use Rattle.rm_machine_code.proofs.Tags.{tag-fits}
+use Rattle.rm_machine.proofs.Tags.{tag-fits}
 use Rattle.rm_machine.specs.Asked.{blocks_read, span_of, writers_of, writes_in}
 use Rattle.rm_machine.specs.Events.{changes_of, opening}
 use Rattle.rm_machine.specs.MadeObjects.{CanRecord, Packed, after_objects, objects_made, objects_put, packed}
 use Rattle.rm_machine.specs.BackupOutcome.{at_end, begun, effect_of}
 use Rattle.rm_machine.specs.BackupRefusal.{damage_refusal, damaged_taken, damaged_write, mark_count}
 use Rattle.rm_machine.specs.Damage.{has_block, has_file}
-use Rattle.rm_machine_code.proofs.BackupAccepted.{CanBackUp, can-back_up, unless-some}
-use Rattle.rm_machine_code.proofs.LosingFits.{no-block}
-use Rattle.rm_machine_code.proofs.Copies.{IsReady, all-copied, all-in_sets, all-packed, ready-member_true, ready-true}
-use Rattle.rm_machine_code.proofs.BackupMarks.{borne-marked, marked-same}
-use Rattle.rm_machine_code.proofs.MembersRead.{creation-by}
-use Rattle.rm_machine_code.proofs.PiecesRead.{AreOthers, IsCheckpoint, blocks-by}
+use Rattle.rm_machine.proofs.BackupAccepted.{CanBackUp, can-back_up, unless-some}
+use Rattle.rm_machine.proofs.LosingFits.{no-block}
+use Rattle.rm_machine.proofs.Copies.{IsReady, all-copied, all-in_sets, all-packed, ready-member_true, ready-true}
+use Rattle.rm_machine.proofs.BackupMarks.{borne-marked, marked-same}
+use Rattle.rm_machine.proofs.MembersRead.{creation-by}
+use Rattle.rm_machine.proofs.PiecesRead.{AreOthers, IsCheckpoint, blocks-by}
 use Rattle.rm_machine_laws.proofs.Recording.{IsTrueMember, IsTrueObject, objects-borne, objects-saved, objects-sound}
-use Rattle.rm_machine_code.proofs.Deeds.{WereRead, are-read}
-use Rattle.rm_machine_code.proofs.Walk.{AreAsked, CanGoOn, HasWalked, events-same}
+use Rattle.rm_machine.proofs.Deeds.{WereRead, are-read}
+use Rattle.rm_machine.proofs.Walk.{AreAsked, CanGoOn, HasWalked, events-same}
 use Rattle.rm_machine_laws.proofs.Walk.{below-events, borne-events, true-events}
 use Rattle.rm_machine_laws.proofs.Wanted.{below-begun, is-taken, tell-begun}
 use Rattle.rm_machine_laws.proofs.Leading.{LeadsOnBy, StaysBy}
 use Rattle.rm_lang_statement.specs.declared.command.Command.TheVariants.{Backup}
 use Rattle.rm_machine_laws.proofs.Quiet.{landed, same-stays}
-use Rattle.rm_machine_code.proofs.BackingUp.{IsNoCandidate, IsReadyToRead, jobs-ready, of-each, per_set-some}
-use Rattle.rm_machine_code.proofs.BackingUp as shared
+use Rattle.rm_machine.proofs.BackingUp.{IsNoCandidate, IsReadyToRead, jobs-ready, of-each, per_set-some}
+use Rattle.rm_machine.proofs.BackingUp as shared
 
 -- of a datafile that is backed up no block is damaged
 pub taken-clean : (s : State) (b : BackupForm) → damage_refusal s b ≡ None → (f : ℕ) → Contains (taken s b) f → has_file s.instance.damaged f ≡ false

@@ -24,15 +24,15 @@ use Rattle.rm_machine.specs.Sound.{IsSound}
 use Rattle.rm_machine.specs.declared.state.State.{State}
 use Rattle.rm_machine.specs.State.{ledger, world}
 use Rattle.rm_machine_laws.proofs.Agreeing.{log-agrees}
-use Rattle.rm_machine_code.proofs.Left.{HasRoom}
-use Rattle.rm_machine_code.proofs.Kept.{stand-same}
-use Rattle.rm_machine_code.proofs.Later.{borne-beside, fits-with}
+use Rattle.rm_machine.proofs.Left.{HasRoom}
+use Rattle.rm_machine.proofs.Kept.{stand-same}
+use Rattle.rm_machine.proofs.Later.{borne-beside, fits-with}
 use Rattle.rm_machine_laws.proofs.Leading.{LeadsOnBy, StaysBy}
-use Rattle.rm_machine_code.proofs.Standing.{each-in}
+use Rattle.rm_machine.proofs.Standing.{each-in}
 use Rattle.rm_machine_laws.proofs.Quiet.{same-stays, unchanged}
 use Rattle.rm_machine_laws.proofs.NewObjects.{borne-logged, puts-rest, with_puts}
-use Rattle.rm_machine_code.proofs.BackingUpLogs.{CanRecord, after_copies, can-next, can-record, room-for, room-next, with_copy}
-use Rattle.rm_machine_code.proofs.BackingUpLogs as shared
+use Rattle.rm_machine.proofs.BackingUpLogs.{CanRecord, after_copies, can-next, can-record, room-for, room-next, with_copy}
+use Rattle.rm_machine.proofs.BackingUpLogs as shared
 
 -- One log
 module _ (s : State) (a : LogFile) (n : ℕ) (sound : IsSound s) (can : CanRecord s a) (room : HasRoom s (suc n)) where

@@ -22,7 +22,7 @@ use Rattle.rm_catalog_typed.specs.TypedCatalog.{records_of}
 use Rattle.rm_machine.specs.Obsolete.{IsSafeBy}
 use Rattle.rm_machine.specs.Recovery.{IsAtHand}
 use Rattle.rm_machine.specs.declared.state.State.{State}
-use Rattle.rm_machine_code.proofs.Dropping.{IsNoSite}
+use Rattle.rm_machine.proofs.Dropping.{IsNoSite}
 
 -- two stores hold the same, parts of a saved site left aside
 abbrev pub SameBeside : Held → Held → Type 0

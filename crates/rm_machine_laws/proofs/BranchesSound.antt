@@ -19,14 +19,14 @@ use Rattle.rm_machine.specs.OpenResetlogs.{branched_off, next_incarnation, with_
 use Rattle.rm_machine.specs.Sound.{IsPlaced, IsPoint, IsSound}
 use Rattle.rm_machine.specs.declared.state.State.{State}
 use Rattle.rm_machine.specs.State.{ledger, world, current_of, redo_end}
-use Rattle.rm_machine_code.proofs.Damaged.{damaged-none}
-use Rattle.rm_machine_code.proofs.Tracked.{tracked-fresh}
+use Rattle.rm_machine.proofs.Damaged.{damaged-none}
+use Rattle.rm_machine.proofs.Tracked.{tracked-fresh}
 use Rattle.rm_machine_laws.proofs.Current.{current-kept}
 use Rattle.rm_machine_laws.proofs.FreshLogs.{fresh-found, fresh-online}
 use Rattle.rm_machine_laws.proofs.Opened.{below-point, kept-get, kept-length, placed-standing}
-use Rattle.rm_machine_code.proofs.Places.{counted-closed, counted-open}
-use Rattle.rm_machine_code.proofs.BranchesSound.{CanBranchAt}
-use Rattle.rm_machine_code.proofs.Threads.{all-where_gone, where-there}
+use Rattle.rm_machine.proofs.Places.{counted-closed, counted-open}
+use Rattle.rm_machine.proofs.BranchesSound.{CanBranchAt}
+use Rattle.rm_machine.proofs.Threads.{all-where_gone, where-there}
 
 -- whether the threads are enabled where the new incarnation begins
 abbrev pub enabled : State → ℕ → List Bool

@@ -23,18 +23,18 @@ use Rattle.rm_machine.specs.Sound.{IsSound}
 use Rattle.rm_machine.specs.declared.state.State.{State}
 use Rattle.rm_machine.specs.State.{current_of, now_of, online, placed, world}
 use Rattle.rm_machine_laws.proofs.Archives.{threads-stand}
-use Rattle.rm_machine_code.proofs.BranchesSound.{CanBranchAt}
-use Rattle.rm_machine_code.proofs.FirstTold.{tell-first}
+use Rattle.rm_machine.proofs.BranchesSound.{CanBranchAt}
+use Rattle.rm_machine.proofs.FirstTold.{tell-first}
 use Rattle.rm_machine_laws.proofs.BranchesSound.{enabled, end-branched, sound-branched}
 use Rattle.rm_machine_laws.proofs.DamagedRows.{but-damaged}
 use Rattle.rm_machine_laws.proofs.FreshLogs.{fresh-empty, fresh-first}
 use Rattle.rm_machine_laws.proofs.Grown.{SameHistory, true-on}
 use Rattle.rm_machine_laws.proofs.Leading.{LeadsOnBy, StaysBy}
 use Rattle.rm_machine_laws.proofs.Opened.{kept-rows, rows-agree}
-use Rattle.rm_machine_code.proofs.Places.{counted-open}
+use Rattle.rm_machine.proofs.Places.{counted-open}
 use Rattle.rm_machine_laws.proofs.Switching.{empty-agrees}
 use Rattle.rm_machine_laws.proofs.Quiet.{same-stays, unchanged}
-use Rattle.rm_machine_code.proofs.Branching.{after-archiving, can-after, can-reset}
+use Rattle.rm_machine.proofs.Branching.{after-archiving, can-after, can-reset}
 
 module _ (s : State) (at : ℕ) (h : List Change) (sound : IsSound s) (keeps : HistoryFits s h) (can : CanBranchAt s at) where
   abbrev i : ℕ

@@ -23,7 +23,7 @@ use Rattle.rm_piece.proofs.SetFitting.{spelling_same as set_same}
 use Rattle.rm_redo.specs.LogFormat as log_format
 use Rattle.rm_redo.proofs.LogFitting.{spelling_same as log_same}
 use Rattle.rm_report.specs.declared.line.Line.{Line}
-use Rattle.rm_machine.specs.Backup.{piece_entry}
+use Rattle.rm_evidence.specs.Objects.{piece_entry}
 use Rattle.rm_machine.specs.CatalogName.{Found, IsCatalogOutcome, IsFound, artefact_of, catalog_by, catalog_refusal, catalogued, catalogues, cataloguing, found_log, found_piece, inc_of, name_of, raised, top_of}
 use Rattle.rm_machine.specs.Effect.{Artefact, Effect, Made, a_log, a_piece, a_set, done, refused}
 use Rattle.rm_machine.specs.Honest.{IsHonest, IsRecorded}
@@ -38,9 +38,9 @@ use Rattle.rm_machine.specs.Upkeep.{with_catalog}
 use Rattle.rm_machine.specs.declared.state.State.{State}
 use Rattle.rm_machine.specs.State.{ledger, tree, world}
 use Rattle.rm_catalog_typed.specs.Worlds.{database_of}
-use Rattle.rm_machine_code.proofs.Cataloguing.{accepted, found-fits, next-catalogued, saved-catalogued, sound-catalogued}
-use Rattle.rm_machine_code.proofs.Kept.{kept-on, stand-same, stays-so}
-use Rattle.rm_machine_code.proofs.Later.{fits-with, resting}
+use Rattle.rm_machine.proofs.Cataloguing.{accepted, found-fits, next-catalogued, saved-catalogued, sound-catalogued}
+use Rattle.rm_machine.proofs.Kept.{kept-on, stand-same, stays-so}
+use Rattle.rm_machine.proofs.Later.{fits-with, resting}
 use Rattle.rm_machine_laws.specs.Loose.{StaysLoose}
 use Rattle.rm_machine_laws.proofs.Leading.{LeadsOnAsking, StaysBy, leads-asking}
 use Rattle.rm_machine_laws.proofs.Loosening.{nothing-named}

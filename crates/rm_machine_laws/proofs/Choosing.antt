@@ -15,15 +15,15 @@ use Rattle.rm_machine.specs.Sound.{IsPlaced, IsSound}
 use Rattle.rm_machine.specs.declared.state.State.{State}
 use Rattle.rm_machine.specs.State.{current_of, now_of, world}
 use Rattle.rm_lang_statement.specs.declared.command.Command.TheVariants.{ResetDatabase}
-use Rattle.rm_machine_code.proofs.Damaged.{damaged-none}
-use Rattle.rm_machine_code.proofs.Tracked.{tracked-none}
-use Rattle.rm_machine_code.proofs.FirstTold.{tell-none}
+use Rattle.rm_machine.proofs.Damaged.{damaged-none}
+use Rattle.rm_machine.proofs.Tracked.{tracked-none}
+use Rattle.rm_machine.proofs.FirstTold.{tell-none}
 use Rattle.rm_machine_laws.proofs.CountedLogs.{counted-agree, counted-online}
 use Rattle.rm_machine_laws.proofs.Current.{current-kept}
 use Rattle.rm_machine_laws.proofs.Leading.{LeadsOnBy, StaysBy}
-use Rattle.rm_machine_code.proofs.Places.{counted-closed}
+use Rattle.rm_machine.proofs.Places.{counted-closed}
 use Rattle.rm_machine_laws.proofs.Quiet.{quiet-on, quiet-stays}
-use Rattle.rm_machine_code.proofs.Threads.{number-within}
+use Rattle.rm_machine.proofs.Threads.{number-within}
 
 pub record CanChoose (s : State) (i : ℕ) : Type 0 where
   pub shut : s.instance.is_open ≡ false

@@ -53,9 +53,9 @@ use Rattle.rm_machine.specs.State.{ledger}
 use Rattle.rm_machine.specs.Upkeep.{with_catalog, without_all, without_record}
 use Rattle.rm_machine_laws.proofs.Agreeing.{evidence-agrees}
 use Rattle.rm_machine_laws.proofs.Deleting.{left-log, left-piece, left-set, stays-log, stays-piece, stays-set}
-use Rattle.rm_machine_code.proofs.Entries.{with_entries}
+use Rattle.rm_machine.proofs.Entries.{with_entries}
 use Rattle.rm_catalog_typed.proofs.Records.{base-told, database-told, world-told}
-use Rattle.rm_machine_code.proofs.Upkeep.{all-on}
+use Rattle.rm_machine.proofs.Upkeep.{all-on}
 
 -- an id is one of these, or none
 among : (ids : List ℕ) (n : ℕ) → Contains ids n ⊎ (¬ Contains ids n)

@@ -27,11 +27,11 @@ use Rattle.rm_machine.specs.Machine.{HistoryFits, IsBorneOut, SoundRowsAre}
 use Rattle.rm_machine.specs.Sound.{IsSound}
 use Rattle.rm_machine.specs.declared.state.State.{State}
 use Rattle.rm_machine.specs.State.{current_of, now_of, on_path, placed, world}
-use Rattle.rm_machine_code.proofs.Damaged.{put-stays}
-use Rattle.rm_machine_code.proofs.Found.{IsReadOf, read-found}
-use Rattle.rm_machine_code.proofs.Places.{placed-is}
-use Rattle.rm_machine_code.proofs.Putting.{sound-more, sound-put}
-use Rattle.rm_machine_code.proofs.Tracked.{on-path}
+use Rattle.rm_machine.proofs.Damaged.{put-stays}
+use Rattle.rm_machine.proofs.Found.{IsReadOf, read-found}
+use Rattle.rm_machine.proofs.Places.{placed-is}
+use Rattle.rm_machine.proofs.Putting.{sound-more, sound-put}
+use Rattle.rm_machine.proofs.Tracked.{on-path}
 use Rattle.rm_machine_laws.proofs.DamagedLists.{any-fewer, is-block, with-block-new, with-block-old}
 use Rattle.rm_machine_laws.proofs.DamagedRows.{sound-agrees}
 use Rattle.rm_machine_laws.proofs.Leading.{LeadsOnBy, StaysBy}

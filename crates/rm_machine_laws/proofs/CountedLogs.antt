@@ -12,7 +12,7 @@ use Rattle.rm_redo.specs.Online.{IsThread, are_lost, counted_as, lost_log, lost_
 use Rattle.rm_machine.specs.Sound.{AreOnline}
 use Rattle.rm_machine.specs.declared.state.State.{State}
 use Rattle.rm_machine.specs.State.{is_lost, ledger, online, tree}
-use Rattle.rm_machine_code.proofs.Threads.{all-where_gone, where-there}
+use Rattle.rm_machine.proofs.Threads.{all-where_gone, where-there}
 use Rattle.rm_machine_laws.proofs.FreshLogs.{where-get}
 
 -- the state with other logs

@@ -11,10 +11,10 @@ use Rattle.rm_machine.specs.CreateDatabase.{fresh_machine, fresh_state}
 use Rattle.rm_machine.specs.Machine.{HistoryFits, IsSoundMachine}
 use Rattle.rm_machine.specs.Sound.{IsSound}
 use Rattle.rm_machine.specs.declared.state.State.{State}
-use Rattle.rm_machine_code.proofs.Damaged.{damaged-none}
-use Rattle.rm_machine_code.proofs.Threads.{all-where_gone, where-there}
-use Rattle.rm_machine_code.proofs.Tracked.{tracked-none}
-use Rattle.rm_machine_code.proofs.FirstTold.{tell-none}
+use Rattle.rm_machine.proofs.Damaged.{damaged-none}
+use Rattle.rm_machine.proofs.Threads.{all-where_gone, where-there}
+use Rattle.rm_machine.proofs.Tracked.{tracked-none}
+use Rattle.rm_machine.proofs.FirstTold.{tell-none}
 use Rattle.rm_machine_laws.proofs.FreshLogs.{fresh-empty, fresh-found, fresh-online}
 
 module _ (dbid threads scn moment : ℕ) (some : 1 ≤ dbid) (small : dbid < 2 ^ 32) (least : 1 ≤ threads) (most : threads ≤ 4) (first : 1 ≤ scn) (last : scn ≤ last_scn) (kept : moment ≤ last_moment) where

@@ -12,8 +12,8 @@ use Rattle.rm_machine.specs.Machine.{RowsAre, SoundRowsAre}
 use Rattle.rm_machine.specs.Sound.{IsSound}
 use Rattle.rm_machine.specs.declared.state.State.{State}
 use Rattle.rm_machine.specs.State.{counted, current_of, now_of, world}
-use Rattle.rm_machine_code.proofs.LosingFits.{no-block}
-use Rattle.rm_machine_code.proofs.Places.{counted-open}
+use Rattle.rm_machine.proofs.LosingFits.{no-block}
+use Rattle.rm_machine.proofs.Places.{counted-open}
 use Rattle.rm_machine_laws.proofs.Opened.{rows-agree}
 
 -- rows that are all states are so but for damaged blocks

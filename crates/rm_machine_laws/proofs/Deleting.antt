@@ -28,12 +28,12 @@ use Rattle.rm_machine.specs.Names.{IsObjectName, of_log, of_piece, of_set}
 use Rattle.rm_machine.specs.Sound.{IsSound}
 use Rattle.rm_machine.specs.declared.state.State.{State}
 use Rattle.rm_machine.specs.Upkeep.{names_at, removing, with_catalog, without_all, without_record}
-use Rattle.rm_machine_code.proofs.Kept.{StandOn, stand-where}
-use Rattle.rm_machine_code.proofs.Later.{borne-beside}
+use Rattle.rm_machine.proofs.Kept.{StandOn, stand-where}
+use Rattle.rm_machine.proofs.Later.{borne-beside}
 use Rattle.rm_machine_laws.proofs.Leading.{LeadsOnBy, StaysBy}
 use Rattle.rm_machine_laws.proofs.Quiet.{removing-on, removing-stays}
-use Rattle.rm_machine_code.proofs.Upkeep.{all-on}
-use Rattle.rm_machine_code.proofs.Deleting.{stays-one}
+use Rattle.rm_machine.proofs.Upkeep.{all-on}
+use Rattle.rm_machine.proofs.Deleting.{stays-one}
 
 -- one of these names
 pub named-in : (names : List (List ℕ)) (name : List ℕ) → is_named itself names name ≡ true → Contains names name

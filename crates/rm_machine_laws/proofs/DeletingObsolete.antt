@@ -12,7 +12,7 @@ use Rattle.rm_machine.specs.declared.state.State.{State}
 use Rattle.rm_machine.specs.Upkeep.{names_at, removing, with_catalog, without_all}
 use Rattle.rm_machine_laws.proofs.Cleared.{is-safe, none-again, entries-left}
 use Rattle.rm_machine_laws.proofs.Deleting.{AreGone, all-gone, gone-on, gone-stays, object-stays}
-use Rattle.rm_machine_code.proofs.Entries.{with_entries}
+use Rattle.rm_machine.proofs.Entries.{with_entries}
 use Rattle.rm_machine_laws.proofs.Leading.{LeadsOnBy, StaysBy}
 
 module _ (s : State) (ids : List ℕ) where

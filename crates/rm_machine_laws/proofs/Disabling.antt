@@ -9,10 +9,10 @@ use Rattle.rm_machine.specs.Effect.{Made}
 use Rattle.rm_machine.specs.Machine.{IsBorneOut}
 use Rattle.rm_machine.specs.declared.state.State.{State}
 use Rattle.rm_machine.specs.State.{ledger}
-use Rattle.rm_machine_code.proofs.Archives.{beside-thread}
-use Rattle.rm_machine_code.proofs.Disabling.{after-due, brought, can-archive, can-disable, number, sound-disabled}
-use Rattle.rm_machine_code.proofs.Kept.{stand-same}
-use Rattle.rm_machine_code.proofs.Later.{borne-beside}
+use Rattle.rm_machine.proofs.Archives.{beside-thread}
+use Rattle.rm_machine.proofs.Disabling.{after-due, brought, can-archive, can-disable, number, sound-disabled}
+use Rattle.rm_machine.proofs.Kept.{stand-same}
+use Rattle.rm_machine.proofs.Later.{borne-beside}
 use Rattle.rm_machine_laws.proofs.Archives.{due-stand}
 use Rattle.rm_machine_laws.proofs.Leading.{LeadsOnBy, StaysBy}
 use Rattle.rm_machine_laws.proofs.NewObjects.{with_puts}

@@ -15,8 +15,8 @@ use Rattle.rm_machine.specs.Effect.{Effect, LeavesObjects}
 use Rattle.rm_machine.specs.Saved.{saved_names}
 use Rattle.rm_machine.specs.Saving.{SitePart, object_of, with_ids}
 use Rattle.rm_machine.specs.Step.{and_drops}
-use Rattle.rm_machine_code.proofs.Kept.{StandOn}
-use Rattle.rm_machine_code.proofs.Dropping.{IsNoSite, no-site}
+use Rattle.rm_machine.proofs.Kept.{StandOn}
+use Rattle.rm_machine.proofs.Dropping.{IsNoSite, no-site}
 
 -- one list of changes after another
 pub after-both : {X : Type 0} (name : X → List ℕ) (value : X → Option (List ℕ)) (xs ys : List X) (n : List ℕ) (o : Option (List ℕ))

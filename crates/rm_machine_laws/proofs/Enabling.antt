@@ -4,7 +4,7 @@ use Rattle.rm_lang_statement.specs.declared.command.Command.TheVariants.{SwitchT
 use Rattle.rm_catalog_typed.specs.Switches.{next_sequence}
 use Rattle.rm_machine.specs.EnableThread.{with_thread_on}
 use Rattle.rm_machine.specs.State.{ledger}
-use Rattle.rm_machine_code.proofs.Enabling.{can-enable, sound-enabled}
+use Rattle.rm_machine.proofs.Enabling.{can-enable, sound-enabled}
 use Rattle.rm_machine_laws.proofs.Leading.{LeadsOnBy, StaysBy}
 use Rattle.rm_machine_laws.proofs.Quiet.{quiet-on, quiet-stays}
 use Rattle.rm_machine_laws.proofs.ThreadSwitches.{borne-switched}

@@ -14,9 +14,9 @@ use Rattle.rm_machine.specs.Sound.{IsSound}
 use Rattle.rm_machine.specs.declared.state.State.{State}
 use Rattle.rm_machine.specs.State.{ledger, world, current_of}
 use Rattle.rm_machine_laws.proofs.DamagedRows.{closed-file}
-use Rattle.rm_machine_code.proofs.Places.{counted-closed}
-use Rattle.rm_machine_code.proofs.Exchanging.{exchanged}
-use Rattle.rm_machine_code.proofs.Exchanging as shared
+use Rattle.rm_machine.proofs.Places.{counted-closed}
+use Rattle.rm_machine.proofs.Exchanging.{exchanged}
+use Rattle.rm_machine.proofs.Exchanging as shared
 
 module _ (s : State) (point : Option ℕ) (place : List (Option File)) (sound : IsSound s) (closed : s.instance.is_open ≡ false) (many : length place ≡ length s.instance.place) where
   -- each datafile stood in place, or this is true of it

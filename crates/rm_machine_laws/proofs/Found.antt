@@ -16,9 +16,9 @@ use Rattle.rm_machine.specs.Sound.{IsSound}
 use Rattle.rm_machine.specs.Write.{change_of, with_write}
 use Rattle.rm_machine.specs.declared.state.State.{State}
 use Rattle.rm_machine.specs.State.{current_of, now_of, world}
-use Rattle.rm_machine_code.proofs.Writes.{Accepted}
+use Rattle.rm_machine.proofs.Writes.{Accepted}
 use Rattle.rm_machine_laws.proofs.WritesKeep.{keeps-write}
-use Rattle.rm_machine_code.proofs.Found.{IsReadOf, read-found}
+use Rattle.rm_machine.proofs.Found.{IsReadOf, read-found}
 
 module _ (u : State) (f b : ℕ) (r : Row) (sound : IsSound u) (opened : u.instance.is_open ≡ true) (is : IsReadOf u f b r) where
   -- and the state of its block now, where that is not damaged

@@ -23,8 +23,8 @@ use Rattle.rm_machine.specs.State.{ledger, world, now_of, redo_end, placed, onli
 use Rattle.rm_machine_laws.proofs.Bitmaps.{tell-later}
 use Rattle.rm_machine_laws.proofs.Grown.{SameHistory}
 use Rattle.rm_machine_laws.proofs.DamagedRows.{sound-agrees}
-use Rattle.rm_machine_code.proofs.Further.{GoesOn, inc-now}
-use Rattle.rm_machine_code.proofs.Further as shared
+use Rattle.rm_machine.proofs.Further.{GoesOn, inc-now}
+use Rattle.rm_machine.proofs.Further as shared
 
 -- each change lies below the end up to which the logs of its incarnation tell
 pub below-redo : (s : State) (h : List Change) → All (λ c. c.scn < end_of s.catalog.ledger.tree c.inc) h → All (λ c. c.inc ≡ s.instance.logs.inc → c.scn < redo_end s) h

@@ -26,10 +26,10 @@ use Rattle.rm_machine.specs.Saved.{spelling_of}
 use Rattle.rm_machine.specs.declared.state.State.{State}
 use Rattle.rm_machine.specs.State.{ledger}
 use Rattle.rm_machine.specs.Step.{IsStatement, Step, names_in}
-use Rattle.rm_machine_code.proofs.Dropping.{IsNoSite, no-site}
+use Rattle.rm_machine.proofs.Dropping.{IsNoSite, no-site}
 use Rattle.rm_machine_laws.proofs.Dropping.{named-first}
-use Rattle.rm_machine_code.proofs.Kept.{StandOn}
-use Rattle.rm_machine_code.proofs.Later.{borne-beside}
+use Rattle.rm_machine.proofs.Kept.{StandOn}
+use Rattle.rm_machine.proofs.Later.{borne-beside}
 use Rattle.rm_machine_laws.specs.Carries.{IsHanded}
 use Rattle.rm_machine_laws.specs.Holds.{Holds, HoldsRest, records, saved_in}
 use Rattle.rm_machine_laws.specs.Loose.{IsLoose, IsLowIn, IsNamedBy, IsNamedIn, StaysLoose, is_roll, of_object, of_part}

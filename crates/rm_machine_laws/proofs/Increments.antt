@@ -27,11 +27,11 @@ use Rattle.rm_machine.specs.Roll.{increment, of_all, roll_member, rolled_files}
 use Rattle.rm_machine.specs.Sound.{IsSound}
 use Rattle.rm_machine.specs.declared.state.State.{State}
 use Rattle.rm_machine.specs.State.{current_of, ledger, now_of, world}
-use Rattle.rm_machine_code.proofs.Backups.{IsTaken}
-use Rattle.rm_machine_code.proofs.MembersRead.{creation-by}
-use Rattle.rm_machine_code.proofs.Numbers.{file-at}
-use Rattle.rm_machine_code.proofs.PiecesRead.{blocks-by}
-use Rattle.rm_machine_code.proofs.Rolling.{CanRoll, file-number, block-at, rows-many, rows-placed}
+use Rattle.rm_machine.proofs.Backups.{IsTaken}
+use Rattle.rm_machine.proofs.MembersRead.{creation-by}
+use Rattle.rm_machine.proofs.Numbers.{file-at}
+use Rattle.rm_machine.proofs.PiecesRead.{blocks-by}
+use Rattle.rm_machine.proofs.Rolling.{CanRoll, file-number, block-at, rows-many, rows-placed}
 use Rattle.rm_machine_laws.proofs.BackingUp.{taken-clean}
 use Rattle.rm_machine_laws.proofs.DamagedRows.{none-damaged}
 

@@ -15,10 +15,10 @@ use Rattle.rm_machine.specs.declared.state.State.{State}
 use Rattle.rm_machine.specs.State.{ledger, at_moment}
 use Rattle.rm_machine.specs.Step.{IsStatement, IsDone, IsOutcome, IsOutcomeBy, Means, and_drops, names_in, refusal_of}
 use Rattle.rm_machine_laws.proofs.Beside.{safe-beside}
-use Rattle.rm_machine_code.proofs.Dropping.{IsNoSite}
+use Rattle.rm_machine.proofs.Dropping.{IsNoSite}
 use Rattle.rm_machine_laws.proofs.Dropping.{leaves-first, left_by, stand-beyond, stays-beyond}
-use Rattle.rm_machine_code.proofs.Kept.{stand-same}
-use Rattle.rm_machine_code.proofs.Later.{borne-beside, borne-later, sound-later}
+use Rattle.rm_machine.proofs.Kept.{stand-same}
+use Rattle.rm_machine.proofs.Later.{borne-beside, borne-later, sound-later}
 
 -- what was done was not refused
 pub done-by : (r : Option Refusal) (s : State) (held : Held) (c : Command) (said : List Line) (e : Effect) (t : State)

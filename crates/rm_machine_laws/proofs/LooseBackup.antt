@@ -13,10 +13,10 @@ use Rattle.rm_machine.specs.MadeObjects.{Packed, after_object, alone, in_set, ob
 use Rattle.rm_machine.specs.declared.state.State.{State}
 use Rattle.rm_machine.specs.State.{ledger, now_of}
 use Rattle.rm_machine.specs.Step.{refusal_of}
-use Rattle.rm_machine_code.proofs.BackingUp.{base-at_end, objects-many}
-use Rattle.rm_machine_code.proofs.BackupAccepted.{can-back_up}
-use Rattle.rm_machine_code.proofs.Recording.{next-id}
-use Rattle.rm_machine_code.proofs.BackingUpLogs.{after_copies, room-for}
+use Rattle.rm_machine.proofs.BackingUp.{base-at_end, objects-many}
+use Rattle.rm_machine.proofs.BackupAccepted.{can-back_up}
+use Rattle.rm_machine.proofs.Recording.{next-id}
+use Rattle.rm_machine.proofs.BackingUpLogs.{after_copies, room-for}
 use Rattle.rm_machine_laws.proofs.BackingUpLogs.{done-of}
 use Rattle.rm_machine_laws.proofs.Leading.{done-by}
 use Rattle.rm_machine_laws.specs.Loose.{IsLoose, StaysLoose}

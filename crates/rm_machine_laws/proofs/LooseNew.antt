@@ -19,10 +19,10 @@ use Rattle.rm_machine.specs.Sound.{IsSound}
 use Rattle.rm_machine.specs.declared.state.State.{State}
 use Rattle.rm_machine.specs.State.{ledger, online}
 use Rattle.rm_machine.specs.SwitchLogfile.{archived, is_due, made_lines, none_lines, with_archived}
-use Rattle.rm_machine_code.proofs.Archives.{HasRoom, Took, next-room, took-thread}
+use Rattle.rm_machine.proofs.Archives.{HasRoom, Took, next-room, took-thread}
 use Rattle.rm_machine_laws.proofs.ArchivingAll.{room}
-use Rattle.rm_machine_code.proofs.Branching.{can-reset}
-use Rattle.rm_machine_code.proofs.Disabling.{accepted}
+use Rattle.rm_machine.proofs.Branching.{can-reset}
+use Rattle.rm_machine.proofs.Disabling.{accepted}
 use Rattle.rm_machine_laws.proofs.NewObjects.{log-apart, piece-apart, set-apart}
 use Rattle.rm_machine_laws.proofs.Switching.{CanSwitch, can-archive, can-switch}
 use Rattle.rm_machine_laws.specs.Loose.{IsLoose, IsLowIn, IsNamedBy, IsOfId, StaysLoose, is_log, is_piece, is_roll, is_set, of_object, of_part}

@@ -10,8 +10,8 @@ use Rattle.rm_machine.specs.Machine.{IsBorneOut, IsSoundBy, IsSoundMachine, Mach
 use Rattle.rm_machine.specs.declared.state.State.{State}
 use Rattle.rm_machine.specs.State.{at_moment, ledger}
 use Rattle.rm_machine.specs.Step.{IsOutcomeWithout, names_in}
-use Rattle.rm_machine_code.proofs.Kept.{names-of}
-use Rattle.rm_machine_code.proofs.Later.{sound-later}
+use Rattle.rm_machine.proofs.Kept.{names-of}
+use Rattle.rm_machine.proofs.Later.{sound-later}
 use Rattle.rm_machine_laws.specs.Carries.{IsOutcomeIn}
 use Rattle.rm_machine_laws.specs.Loose.{IsLoose, IsNamedIn, StaysLoose, of_object, of_part}
 use Rattle.rm_machine_laws.specs.Moments.{IsMomentIn}

@@ -21,11 +21,11 @@ use Rattle.rm_machine.specs.Machine.{HistoryFits, IsBorneOut}
 use Rattle.rm_machine.specs.Sound.{IsSound}
 use Rattle.rm_machine.specs.declared.state.State.{State}
 use Rattle.rm_machine.specs.State.{current_of, now_of, on_path, placed, world}
-use Rattle.rm_machine_code.proofs.Damaged.{damaged-filtered, set-other, with_list}
+use Rattle.rm_machine.proofs.Damaged.{damaged-filtered, set-other, with_list}
 use Rattle.rm_machine_laws.proofs.DamagedLists.{block-stays, file-stays}
-use Rattle.rm_machine_code.proofs.Standing.{each-in}
-use Rattle.rm_machine_code.proofs.Places.{placed-is}
-use Rattle.rm_machine_code.proofs.Tracked.{on-path, tracked-same}
+use Rattle.rm_machine.proofs.Standing.{each-in}
+use Rattle.rm_machine.proofs.Places.{placed-is}
+use Rattle.rm_machine.proofs.Tracked.{on-path, tracked-same}
 use Rattle.rm_machine_laws.proofs.Leading.{LeadsOnBy, StaysBy}
 use Rattle.rm_machine_laws.proofs.Quiet.{quiet-on, quiet-stays}
 

@@ -21,14 +21,14 @@ use Rattle.rm_machine.specs.Mount.{as_mounted}
 use Rattle.rm_machine.specs.Sound.{AreOnline, IsOnline, IsSound}
 use Rattle.rm_machine.specs.declared.state.State.{State}
 use Rattle.rm_machine.specs.State.{ledger, tree, current_of, is_lost, is_no_thread, online, redo_end}
-use Rattle.rm_machine_code.proofs.Damaged.{damaged-none}
-use Rattle.rm_machine_code.proofs.Tracked.{tracked-same}
+use Rattle.rm_machine.proofs.Damaged.{damaged-none}
+use Rattle.rm_machine.proofs.Tracked.{tracked-same}
 use Rattle.rm_machine_laws.proofs.CountedLogs.{AgreeOnline, counted-agree, counted-online, with_logs}
 use Rattle.rm_machine_laws.proofs.Leading.{LeadsOnBy, StaysBy}
-use Rattle.rm_machine_code.proofs.Mounting.{mode-either, sound-as_mounted}
+use Rattle.rm_machine.proofs.Mounting.{mode-either, sound-as_mounted}
 use Rattle.rm_machine_laws.proofs.Mounting.{closed-as_mounted, none-mounted, stands-as_mounted}
 use Rattle.rm_machine_laws.proofs.Quiet.{quiet-on, quiet-stays}
-use Rattle.rm_machine_code.proofs.Threads.{gone-with_loss, thread-before, thread-of}
+use Rattle.rm_machine.proofs.Threads.{gone-with_loss, thread-before, thread-of}
 
 -- a log as a file, by its parts
 abbrev file_by : ℕ → ℕ → ℕ → ℕ → ℕ → ℕ → List LogRecord → LogFile

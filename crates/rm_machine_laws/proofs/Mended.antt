@@ -29,13 +29,13 @@ use Rattle.rm_machine.specs.Repair.{is_mend_of, is_mended, is_touched, is_write_
 use Rattle.rm_machine.specs.Write.{change_of, with_write}
 use Rattle.rm_machine.specs.declared.state.State.{State}
 use Rattle.rm_machine.specs.State.{current_of, now_of, placed, world}
-use Rattle.rm_machine_code.proofs.BackupAccepted.{CanBeWritten}
-use Rattle.rm_machine_code.proofs.Damaged.{placed-put, placed-put_other, with_list}
-use Rattle.rm_machine_code.proofs.Mending.{AreDue, CanMend, IsDue, IsPatch, Patch, can-event, row_of}
-use Rattle.rm_machine_code.proofs.Places.{placed-is}
-use Rattle.rm_machine_code.proofs.Putting.{sound-fewer, sound-put}
-use Rattle.rm_machine_code.proofs.Walk.{CanGoOn, accepted, full, legal-on}
-use Rattle.rm_machine_code.proofs.Writes.{Accepted}
+use Rattle.rm_machine.proofs.BackupAccepted.{CanBeWritten}
+use Rattle.rm_machine.proofs.Damaged.{placed-put, placed-put_other, with_list}
+use Rattle.rm_machine.proofs.Mending.{AreDue, CanMend, IsDue, IsPatch, Patch, can-event, row_of}
+use Rattle.rm_machine.proofs.Places.{placed-is}
+use Rattle.rm_machine.proofs.Putting.{sound-fewer, sound-put}
+use Rattle.rm_machine.proofs.Walk.{CanGoOn, accepted, full, legal-on}
+use Rattle.rm_machine.proofs.Writes.{Accepted}
 use Rattle.rm_machine_laws.proofs.DamagedLists.{any-fewer, same-block}
 use Rattle.rm_machine_laws.proofs.DamagedRows.{sound-agrees}
 use Rattle.rm_machine_laws.proofs.Writing.{borne-write}

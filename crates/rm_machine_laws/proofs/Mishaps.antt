@@ -20,8 +20,8 @@ use Rattle.rm_machine.specs.Effect.{Effect, LeavesObjects, Made, done, refused}
 use Rattle.rm_machine.specs.Machine.{IsBorneOut}
 use Rattle.rm_machine.specs.declared.state.State.{State}
 use Rattle.rm_machine.specs.State.{ledger}
-use Rattle.rm_machine_code.proofs.Kept.{StandOn}
-use Rattle.rm_machine_code.proofs.Later.{borne-beside}
+use Rattle.rm_machine.proofs.Kept.{StandOn}
+use Rattle.rm_machine.proofs.Later.{borne-beside}
 use Rattle.rm_machine_laws.proofs.Leading.{LeadsOnBy, StaysBy}
 use Rattle.rm_machine_laws.proofs.Quiet.{same-stays, unchanged}
 

@@ -15,15 +15,15 @@ use Rattle.rm_machine.specs.declared.state.State.{State}
 use Rattle.rm_machine.specs.State.{world, placed, counted}
 use Rattle.rm_lang_statement.specs.declared.command.Command.TheVariants.{Mount}
 use Rattle.rm_base.proofs.Conditions.{given-where}
-use Rattle.rm_machine_code.proofs.Undamaged.{sound-undamaged}
-use Rattle.rm_machine_code.proofs.FirstTold.{tell-none}
-use Rattle.rm_machine_code.proofs.LosingFits.{losing-fits}
+use Rattle.rm_machine.proofs.Undamaged.{sound-undamaged}
+use Rattle.rm_machine.proofs.FirstTold.{tell-none}
+use Rattle.rm_machine.proofs.LosingFits.{losing-fits}
 use Rattle.rm_machine_laws.proofs.DamagedRows.{none-damaged}
 use Rattle.rm_machine_laws.proofs.Leading.{LeadsOnBy, StaysBy}
-use Rattle.rm_machine_code.proofs.Places.{counted-closed, counted-open, placed-map}
+use Rattle.rm_machine.proofs.Places.{counted-closed, counted-open, placed-map}
 use Rattle.rm_machine_laws.proofs.Quiet.{quiet-on, quiet-stays}
-use Rattle.rm_machine_code.proofs.Mounting.{mode-either, sound-as_mounted}
-use Rattle.rm_machine_code.proofs.Mounting as shared
+use Rattle.rm_machine.proofs.Mounting.{mode-either, sound-as_mounted}
+use Rattle.rm_machine.proofs.Mounting as shared
 
 module _ (s : State) (sound : IsSound s) (opened : s.instance.is_open ≡ true) (none : s.instance.damaged ≡ []) where
   abbrev i : ℕ

@@ -28,8 +28,8 @@ use Rattle.rm_machine.specs.declared.state.State.{State}
 use Rattle.rm_machine.specs.State.{ledger, world}
 use Rattle.rm_catalog_typed.specs.Worlds.{database_of}
 use Rattle.rm_machine_laws.proofs.Dropping.{after-both}
-use Rattle.rm_machine_code.proofs.Kept.{GrowsTo, StandOn, kept-on, stays-so}
-use Rattle.rm_machine_code.proofs.NewObjects.{logged}
+use Rattle.rm_machine.proofs.Kept.{GrowsTo, StandOn, kept-on, stays-so}
+use Rattle.rm_machine.proofs.NewObjects.{logged}
 
 -- the objects, where these stand under their names
 abbrev pub with_puts : List Object → Held → Held

@@ -18,7 +18,7 @@ use Rattle.rm_machine.specs.Sound.{IsSound}
 use Rattle.rm_machine.specs.declared.state.State.{State}
 use Rattle.rm_machine.specs.State.{ledger}
 use Rattle.rm_machine_laws.proofs.Deleting.{left-one}
-use Rattle.rm_machine_code.proofs.Renewing.{CanRenewAll, CanRenewTo, drawn, first-can, first-room, next-to, renewed_to, rest-can, sound-to}
+use Rattle.rm_machine.proofs.Renewing.{CanRenewAll, CanRenewTo, drawn, first-can, first-room, next-to, renewed_to, rest-can, sound-to}
 use Rattle.rm_machine_laws.proofs.Renewing.{put_to, renewals-sound}
 
 -- an id that was drawn before

@@ -19,14 +19,14 @@ use Rattle.rm_machine.specs.Sound.{IsPlaced, IsSound}
 use Rattle.rm_machine.specs.declared.state.State.{State}
 use Rattle.rm_machine.specs.State.{world, current_of, now_of, placed, counted, has_lost, is_lost}
 use Rattle.rm_lang_statement.specs.declared.command.Command.TheVariants.{OpenPlain}
-use Rattle.rm_machine_code.proofs.Damaged.{damaged-none}
-use Rattle.rm_machine_code.proofs.Tracked.{tracked-fresh}
-use Rattle.rm_machine_code.proofs.FirstTold.{tell-first}
+use Rattle.rm_machine.proofs.Damaged.{damaged-none}
+use Rattle.rm_machine.proofs.Tracked.{tracked-fresh}
+use Rattle.rm_machine.proofs.FirstTold.{tell-first}
 use Rattle.rm_machine_laws.proofs.DamagedRows.{but-damaged}
 use Rattle.rm_machine_laws.proofs.Opened.{below-point, kept-get, kept-length, kept-rows, placed-standing, rows-agree}
 use Rattle.rm_base.proofs.Conditions.{only-where, unless}
 use Rattle.rm_machine_laws.proofs.Leading.{LeadsOnBy, StaysBy}
-use Rattle.rm_machine_code.proofs.Places.{counted-closed, counted-open}
+use Rattle.rm_machine.proofs.Places.{counted-closed, counted-open}
 use Rattle.rm_machine_laws.proofs.Quiet.{quiet-on, quiet-stays}
 
 record CanOpen (s : State) : Type 0 where

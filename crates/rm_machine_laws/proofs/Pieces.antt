@@ -20,9 +20,9 @@ use Rattle.rm_machine.specs.Sound.{IsSound}
 use Rattle.rm_machine.specs.declared.state.State.{State}
 use Rattle.rm_machine.specs.State.{world}
 use Rattle.rm_catalog_typed.specs.Worlds.{database_of}
-use Rattle.rm_machine_code.proofs.Kept.{stays-so}
-use Rattle.rm_machine_code.proofs.Later.{fits-with}
-use Rattle.rm_machine_code.proofs.Pieces.{sound-recorded, sound-recorded_set, with_recorded, with_recorded_set}
+use Rattle.rm_machine.proofs.Kept.{stays-so}
+use Rattle.rm_machine.proofs.Later.{fits-with}
+use Rattle.rm_machine.proofs.Pieces.{sound-recorded, sound-recorded_set, with_recorded, with_recorded_set}
 use Rattle.rm_machine_laws.proofs.NewObjects.{borne-more, piece-apart, put-there, set-apart, with_puts}
 
 -- the object of a piece, and of a set

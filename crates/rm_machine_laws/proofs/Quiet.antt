@@ -10,8 +10,8 @@ use Rattle.rm_machine.specs.Sound.{IsSound}
 use Rattle.rm_machine.specs.declared.state.State.{State}
 use Rattle.rm_machine.specs.State.{ledger}
 use Rattle.rm_machine.specs.Upkeep.{removing}
-use Rattle.rm_machine_code.proofs.Kept.{no-effect, stand-same}
-use Rattle.rm_machine_code.proofs.Later.{borne-beside}
+use Rattle.rm_machine.proofs.Kept.{no-effect, stand-same}
+use Rattle.rm_machine.proofs.Later.{borne-beside}
 
 -- what stands after this effect stands after what was done
 pub landed : (q : State) (by : Effect) (h : List Change) (objects : Held) (made : List Made) (touched : List (List ℕ)) (e : Effect) (t : State) (after : Held) → by ≡ e → q ≡ t → LeavesObjects e objects after

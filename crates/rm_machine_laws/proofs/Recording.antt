@@ -22,10 +22,10 @@ use Rattle.rm_machine.specs.Sound.{IsSound}
 use Rattle.rm_machine.specs.declared.state.State.{State}
 use Rattle.rm_machine.specs.State.{ledger, world}
 use Rattle.rm_catalog_typed.specs.Worlds.{database_of}
-use Rattle.rm_machine_code.proofs.Copies.{OfEach}
-use Rattle.rm_machine_code.proofs.Kept.{stand-same}
-use Rattle.rm_machine_code.proofs.Later.{borne-beside}
-use Rattle.rm_machine_code.proofs.Recording.{can-next, next, next-fits, next-sound, next-stays}
+use Rattle.rm_machine.proofs.Copies.{OfEach}
+use Rattle.rm_machine.proofs.Kept.{stand-same}
+use Rattle.rm_machine.proofs.Later.{borne-beside}
+use Rattle.rm_machine.proofs.Recording.{can-next, next, next-fits, next-sound, next-stays}
 use Rattle.rm_machine_laws.proofs.NewObjects.{puts-rest, with_puts}
 use Rattle.rm_machine_laws.proofs.Pieces.{borne-recorded, borne-recorded_set}
 

@@ -27,10 +27,10 @@ use Rattle.rm_machine.specs.State.{ledger, tree, world, current_of}
 use Rattle.rm_machine_laws.proofs.Agreeing.{evidence-agrees}
 use Rattle.rm_machine_laws.proofs.Exchanging.{fits-exchanged}
 use Rattle.rm_machine_laws.proofs.Leading.{LeadsOnBy, StaysBy, TellsOnBy}
-use Rattle.rm_machine_code.proofs.Placing.{over-length}
+use Rattle.rm_machine.proofs.Placing.{over-length}
 use Rattle.rm_machine_laws.proofs.Quiet.{quiet-on, quiet-stays}
-use Rattle.rm_machine_code.proofs.Recovering.{CameBack, CanRecover, can-recover, comes, sound-recovered, stands}
-use Rattle.rm_machine_code.proofs.Told.{tells-files, tells-fits}
+use Rattle.rm_machine.proofs.Recovering.{CameBack, CanRecover, can-recover, comes, sound-recovered, stands}
+use Rattle.rm_machine.proofs.Told.{tells-files, tells-fits}
 use Rattle.rm_machine_laws.proofs.Told.{files-made, told-states}
 
 module _ (s : State) (h : List Change) (e : Evidence) (at : ℕ) (files : List File) (sound : IsSound s) (keeps : HistoryFits s h) (fits : FitsTree (tree s) e) (can : CanRecover s at)

@@ -1,13 +1,10 @@
 -- RECOVER COPY leads on: what is at hand makes of a copy one that can be recorded, and that agrees with the history.
-use Rattle.std.proofs.Common.{◌≡◌, ◌≢◌, ◌<◌, ◌≤◌, ◌-◌, ◌+◌, ◌∙◌, ◌++◌, ℕ, List, Option, Some, None, Bool, true, false, refl, ap, sym, subst, arith, get_or, length, slice_get, All, AllPairs, Contains, rules}
-use Rattle.std.proofs.lemmas.List.{get_or-map, length-map}
-use Rattle.std.proofs.lemmas.List.Elements.{All-contains, Contains-get_or}
+use Rattle.std.proofs.Common.{◌≡◌, ◌≢◌, ◌<◌, ◌≤◌, ◌-◌, ◌+◌, ◌∙◌, ◌++◌, ℕ, List, Option, Some, None, Bool, true, false, refl, ap, sym, subst, arith, slice_get, All, Contains}
+use Rattle.std.proofs.lemmas.List.Elements.{All-contains}
 use Rattle.std.proofs.lemmas.Option.{same_Some, slice_get_within}
 use Rattle.rm_base.specs.Store.{Held}
 use Rattle.rm_base.specs.declared.block.Change.{Change}
-use Rattle.rm_base.specs.declared.kinds.Kind.{Kind}
-use Rattle.rm_base.specs.declared.kinds.Kind.TheVariants.{Full, Level0, Level1, Place}
-use Rattle.rm_base.proofs.Keyed.{same_item}
+use Rattle.rm_base.specs.declared.kinds.Kind.TheVariants.{Level1}
 use Rattle.rm_base.proofs.Sealing.{length-sealed}
 use Rattle.rm_backup.specs.declared.renewing.Renewed.{Renewed}
 use Rattle.rm_backup.specs.Level1s.{IsReached, next}
@@ -17,7 +14,7 @@ use Rattle.rm_backup.proofs.AtHand.{copy_at_hand}
 use Rattle.rm_backup.proofs.Chained.{reached_agrees, reached_valid}
 use Rattle.rm_catalog.specs.declared.record.PieceEntry.{PieceEntry}
 use Rattle.rm_catalog.specs.declared.record.Record.{Record}
-use Rattle.rm_catalog.specs.Objects.{FitsKind, IsTag}
+use Rattle.rm_catalog.specs.Objects.{IsTag}
 use Rattle.rm_catalog.specs.Rules.{IsCatalog}
 use Rattle.rm_catalog.specs.Trees.{nodes}
 use Rattle.rm_evidence.specs.declared.evidence.Evidence.{Evidence}
@@ -31,6 +28,7 @@ use Rattle.rm_merge.specs.Merge.{merged}
 use Rattle.rm_evidence.specs.Names.{roll_name, site_name}
 use Rattle.rm_evidence.proofs.DatabaseWorlds.{is-tree}
 use Rattle.rm_evidence.proofs.Parts.{part-of}
+use Rattle.rm_evidence.specs.Objects.{piece_entry}
 use Rattle.rm_piece.specs.declared.piece.Piece.{Piece}
 use Rattle.rm_piece.specs.Sets.{IsMember}
 use Rattle.rm_piece.specs.Spelling.{body_of}
@@ -43,7 +41,6 @@ use Rattle.rm_catalog_typed.proofs.Members.{piece-has}
 use Rattle.rm_catalog_typed.proofs.Valid.{typed_catalog-valid}
 use Rattle.rm_lang_statement.specs.declared.command.Command.TheVariants.{RecoverCopy}
 use Rattle.rm_lang_statement.specs.declared.command.Until.{Until}
-use Rattle.rm_machine.specs.Backup.{piece_entry}
 use Rattle.rm_machine.specs.Effect.{Effect, LeavesObjects, Made, a_piece, done}
 use Rattle.rm_machine.specs.Machine.{DigestsTellFor, IsBorneOut, IsTrueArtefact}
 use Rattle.rm_machine.specs.Names.{IsObjectName}
@@ -57,23 +54,16 @@ use Rattle.rm_machine_laws.proofs.Agreeing.{base-by, level1-by}
 use Rattle.rm_machine_laws.proofs.AtHand.{BackupFrom, from_copy, from_piece, from_set, level1-from}
 use Rattle.rm_machine_laws.proofs.BackingUpLogs.{done-of}
 use Rattle.rm_machine_laws.proofs.Deleting.{stand-without}
-use Rattle.rm_machine_code.proofs.Later.{borne-beside}
+use Rattle.rm_machine.proofs.Later.{borne-beside}
 use Rattle.rm_machine_laws.proofs.Leading.{LeadsOnBy, StaysBy}
-use Rattle.rm_machine_code.proofs.Merges.{EndsIn, IsLast, KeepsOn, last-merge, reached-keeps}
+use Rattle.rm_machine.proofs.Merges.{EndsIn, IsLast, KeepsOn, last-merge, reached-keeps}
 use Rattle.rm_machine_laws.proofs.OldCopies.{IsNewCopy, copies-new, old-free, old-no-part, old-no-roll}
 use Rattle.rm_catalog_typed.proofs.Records.{database-told, pieces-told, tree-told}
-use Rattle.rm_machine_code.proofs.Renewing.{CanRenew, CanRenewAll, CanRenewTo}
+use Rattle.rm_machine.proofs.Renewing.{CanRenew, CanRenewAll, CanRenewTo, copy-kind, ids-left, renewed-apart}
 use Rattle.rm_machine_laws.proofs.Renewing.{IsTrueTo, renewals-borne, renewals-next, renewals-saved, renewals-sound}
-use Rattle.rm_machine_code.proofs.Standing.{each-in}
+use Rattle.rm_machine.proofs.Standing.{each-in}
 use Rattle.rm_machine_laws.proofs.Quiet.{unchanged}
-use Rattle.rm_machine_code.proofs.Restoring.{entry-rows}
-
--- an image copy is no level 1
-copy-kind : (k : Kind) (p : PieceEntry) → FitsKind k p → p.copy ≡ true → k ≢ Level1
-copy-kind Level1 p is copy same = let clash : false ≡ true = sym is.0 ∙ copy in absurd (cc)
-copy-kind Full p is copy same = absurd (cc)
-copy-kind Level0 p is copy same = absurd (cc)
-copy-kind Place p is copy same = absurd is
+use Rattle.rm_machine.proofs.Restoring.{entry-rows}
 
 module _ (s : State) (held : Held) (sound : IsSound s) (e : Evidence) (at_hand : IsAtHand s held e) where
   abbrev rs : List Record
@@ -252,29 +242,11 @@ module _ (s : State) (held : Held) (sound : IsSound s) (e : Evidence) (at_hand :
     renewed-from x is = subst (λ n. FromTo x.0 tag at n x.1.merged) (sym is.id)
         (from-by x.0 tag at is.copy (copy_at e.bases is.copy.id) x.1.merged (taken-in is.copy is.taken.held) is.taken.passes.copy is.taken.passes.is refl is.merged)
 
-    -- copies of two datafiles have two records
-    renewed-apart : (xs : List (ℕ × Renewed)) → AreRenewed s e tag at xs → AllPairs (λ x y. x.1.id ≢ y.1.id) xs
-    renewed-apart xs are i j d less inside same =
-        let x : ℕ × Renewed = get_or xs i d in
-        let y : ℕ × Renewed = get_or xs j d in
-        let before : i < length xs = omega (arith, less, inside) in
-        let first = are.each x (Contains-get_or xs i d before) in
-        let second = are.each y (Contains-get_or xs j d inside) in
-        let one = same_item (λ (p : PieceEntry). p.id) (ledger s).pieces sound.catalog.ledger.ids.pieces_ascend first.copy second.copy (taken-in first.copy first.taken.held) (taken-in second.copy second.taken.held) (sym first.id ∙ same ∙ second.id) in
-        let files : x.0 ≡ y.0 = sym first.taken.passes.on.file ∙ ap (λ (p : PieceEntry). p.file) one ∙ second.taken.passes.on.file in
-        let many = length-map xs (λ (z : ℕ × Renewed). z.0) in
-        let low = get_or-map (λ (z : ℕ × Renewed). z.0) xs i d d.0 before in
-        let high = get_or-map (λ (z : ℕ × Renewed). z.0) xs j d d.0 inside in
-        absurd (omega (arith, are.exact.ascends i j d.0 less (omega (arith, many, inside)), low, high, files))
-
-    ids-left : (xs : List (ℕ × Renewed)) → renewed_refusal s xs ≡ None → (ledger s).base.next_id + length (changed xs) + 68 ≤ 4294967295
-    ids-left xs is = search rules
-
     can-all : (xs : List (ℕ × Renewed)) → AreRenewed s e tag at xs → renewed_refusal s xs ≡ None → CanRenewAll s tag xs
     can-all xs are is = record {
       each = each-in (λ (x : ℕ × Renewed). CanRenewTo s tag x.1.id x.1.merged) xs (λ x has. can-to x.0 tag at x.1.id x.1.merged (renewed-from x (are.each x has)));
-      apart = renewed-apart xs are;
-      room = ids-left xs is;
+      apart = renewed-apart s e tag at xs sound are;
+      room = ids-left s xs is;
     }
 
     true-all : (xs : List (ℕ × Renewed)) (h : List Change) (made : List Made) (touched : List (List ℕ)) → AreRenewed s e tag at xs → IsBorneOut s h held made touched → DigestsTellFor held made touched (ledger s) → All (λ x. IsTrueTo (world s) h x.1.merged) xs

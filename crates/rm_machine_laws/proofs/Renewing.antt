@@ -21,14 +21,14 @@ use Rattle.rm_machine.specs.RecoverCopy.{after_copies, after_copy, changed, copi
 use Rattle.rm_machine.specs.Sound.{IsSound}
 use Rattle.rm_machine.specs.declared.state.State.{State}
 use Rattle.rm_machine.specs.State.{ledger, world}
-use Rattle.rm_machine_code.proofs.Entries.{GoesOn}
-use Rattle.rm_machine_code.proofs.Kept.{stand-same}
-use Rattle.rm_machine_code.proofs.Later.{borne-beside}
-use Rattle.rm_machine_code.proofs.Pieces.{with_recorded}
+use Rattle.rm_machine.proofs.Entries.{GoesOn}
+use Rattle.rm_machine.proofs.Kept.{stand-same}
+use Rattle.rm_machine.proofs.Later.{borne-beside}
+use Rattle.rm_machine.proofs.Pieces.{with_recorded}
 use Rattle.rm_machine_laws.proofs.Pieces.{borne-recorded, object_of}
 use Rattle.rm_machine_laws.proofs.NewObjects.{puts-rest, with_puts}
-use Rattle.rm_machine_code.proofs.Renewing.{CanRenew, CanRenewAll, CanRenewTo, count-changed, drawn, first-can, first-room, next-to, renewed_to, rest-can, sound-to}
-use Rattle.rm_machine_code.proofs.Renewing as shared
+use Rattle.rm_machine.proofs.Renewing.{CanRenew, CanRenewAll, CanRenewTo, count-changed, drawn, first-can, first-room, next-to, renewed_to, rest-can, sound-to}
+use Rattle.rm_machine.proofs.Renewing as shared
 
 -- One copy
 

@@ -45,22 +45,22 @@ use Rattle.rm_machine.specs.Sound.{IsSound}
 use Rattle.rm_machine.specs.Step.{IsDone}
 use Rattle.rm_machine.specs.declared.state.State.{State}
 use Rattle.rm_machine.specs.State.{current_of, ledger, now_of, placed, world}
-use Rattle.rm_machine_code.proofs.BackupMarks.{borne-marked, marked-same}
-use Rattle.rm_machine_code.proofs.Damaged.{with_list}
-use Rattle.rm_machine_code.proofs.Fitting.{place-fits}
-use Rattle.rm_machine_code.proofs.Kept.{stand-same}
-use Rattle.rm_machine_code.proofs.Later.{borne-beside}
-use Rattle.rm_machine_code.proofs.Mending.{AreDue, CanMend, Patch, can-events}
-use Rattle.rm_machine_code.proofs.Places.{placed-is}
-use Rattle.rm_machine_code.proofs.Putting.{sound-fewer}
+use Rattle.rm_machine.proofs.BackupMarks.{borne-marked, marked-same}
+use Rattle.rm_machine.proofs.Damaged.{with_list}
+use Rattle.rm_machine.proofs.Fitting.{place-fits}
+use Rattle.rm_machine.proofs.Kept.{stand-same}
+use Rattle.rm_machine.proofs.Later.{borne-beside}
+use Rattle.rm_machine.proofs.Mending.{AreDue, CanMend, Patch, can-events}
+use Rattle.rm_machine.proofs.Places.{placed-is}
+use Rattle.rm_machine.proofs.Putting.{sound-fewer}
 use Rattle.rm_catalog_typed.proofs.Records.{tree-told}
-use Rattle.rm_machine_code.proofs.RepairAccepted.{CanRepair, can-repair}
-use Rattle.rm_machine_code.proofs.Repaired.{marking}
-use Rattle.rm_machine_code.proofs.Repaired as shared
-use Rattle.rm_machine_code.proofs.Repairs.{IsOfBlock, block-patched, due-front, due-mended, mended-due, patches, wanted}
-use Rattle.rm_machine_code.proofs.Standing.{each-in}
-use Rattle.rm_machine_code.proofs.ToldRows.{CanStand, IsTargetNow, in-place-target, told-stand}
-use Rattle.rm_machine_code.proofs.Walk.{CanGoOn, events-same}
+use Rattle.rm_machine.proofs.RepairAccepted.{CanRepair, can-repair}
+use Rattle.rm_machine.proofs.Repaired.{marking}
+use Rattle.rm_machine.proofs.Repaired as shared
+use Rattle.rm_machine.proofs.Repairs.{IsOfBlock, block-patched, due-front, due-mended, mended-due, patches, wanted}
+use Rattle.rm_machine.proofs.Standing.{each-in}
+use Rattle.rm_machine.proofs.ToldRows.{CanStand, IsTargetNow, in-place-target, told-stand}
+use Rattle.rm_machine.proofs.Walk.{CanGoOn, events-same}
 use Rattle.rm_machine_laws.proofs.Agreeing.{evidence-agrees}
 use Rattle.rm_machine_laws.proofs.DamagedLists.{any-fewer, is-block, same-block}
 use Rattle.rm_machine_laws.proofs.Leading.{LeadsOnBy, StaysBy}

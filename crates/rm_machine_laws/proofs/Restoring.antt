@@ -17,10 +17,10 @@ use Rattle.rm_machine.specs.State.{current_of, ledger, world}
 use Rattle.rm_machine_laws.proofs.Agreeing.{evidence-agrees}
 use Rattle.rm_machine_laws.proofs.Exchanging.{fits-exchanged}
 use Rattle.rm_machine_laws.proofs.Leading.{LeadsOnBy, StaysBy}
-use Rattle.rm_machine_code.proofs.Placing.{over-cases, over-length}
+use Rattle.rm_machine.proofs.Placing.{over-cases, over-length}
 use Rattle.rm_machine_laws.proofs.Quiet.{quiet-on, quiet-stays}
 use Rattle.rm_base.proofs.Conditions.{unless}
-use Rattle.rm_machine_code.proofs.Restoring.{are-restored, sound-restored}
+use Rattle.rm_machine.proofs.Restoring.{are-restored, sound-restored}
 
 -- where it was not refused the database is mounted
 can-restore : (s : State) (file : Option ℕ) (until : Option Until) → restore_refusal s file until ≡ None → s.instance.is_open ≡ false

@@ -20,9 +20,9 @@ use Rattle.rm_machine.specs.Names.{IsObjectName, of_log, of_piece, of_set}
 use Rattle.rm_machine.specs.Roll.{after_roll, of_all, roll_effect, roll_object, with_next_id}
 use Rattle.rm_machine.specs.declared.state.State.{State}
 use Rattle.rm_machine.specs.State.{ledger}
-use Rattle.rm_machine_code.proofs.Kept.{stand-where}
-use Rattle.rm_machine_code.proofs.Later.{borne-with}
-use Rattle.rm_machine_code.proofs.Rolling.{CanRoll, begun-all, can-roll, sound-rolled}
+use Rattle.rm_machine.proofs.Kept.{stand-where}
+use Rattle.rm_machine.proofs.Later.{borne-with}
+use Rattle.rm_machine.proofs.Rolling.{CanRoll, begun-all, can-roll, sound-rolled}
 use Rattle.rm_machine_laws.specs.Loose.{IsLoose, IsNamedBy, IsOfId, StaysLoose, is_log, is_piece, is_roll, is_set, of_object, of_part}
 use Rattle.rm_machine_laws.proofs.Increments.{holds-since}
 use Rattle.rm_machine_laws.proofs.Leading.{LeadsOnBy, StaysBy}

@@ -47,7 +47,7 @@ use Rattle.rm_machine.specs.Mount.{as_mounted, mounted}
 use Rattle.rm_machine.specs.Open.{opened}
 use Rattle.rm_machine.specs.OpenResetlogs.{branched_off, resetlogs_lines}
 use Rattle.rm_machine.specs.Recover.{RecoversTo, recover_target, recovered, target_refusal}
-use Rattle.rm_machine_code.proofs.Untils.{until-none}
+use Rattle.rm_machine.proofs.Untils.{until-none}
 use Rattle.rm_machine.specs.ResetDatabase.{at_incarnation}
 use Rattle.rm_machine.specs.Restore.{RestoresTo, place_refusal, restored}
 use Rattle.rm_machine.specs.Roll.{after_roll, roll_effect}
@@ -59,24 +59,24 @@ use Rattle.rm_machine.specs.SwitchLogfile.{archive_refusal, archived, is_due, ma
 use Rattle.rm_machine.specs.Tracking.{with_tracking}
 use Rattle.rm_machine.specs.Upkeep.{changed_to, log_at, log_changed, piece_at, piece_changed, set_at, set_changed, with_catalog, with_keep, with_status, with_statuses, without_all, without_record}
 use Rattle.rm_machine.specs.Write.{with_write}
-use Rattle.rm_machine_code.proofs.Archives.{Took, took-thread}
+use Rattle.rm_machine.proofs.Archives.{Took, took-thread}
 use Rattle.rm_machine_laws.proofs.ArchivingAll.{room}
 use Rattle.rm_machine_laws.proofs.Asking.{Asks, asks-else, asks-ids, corrupt-asks, repair-asks, write-asks}
-use Rattle.rm_machine_code.proofs.BackingUp.{base-at_end, objects-many}
-use Rattle.rm_machine_code.proofs.BackupAccepted.{can-back_up}
-use Rattle.rm_machine_code.proofs.Recording.{next-id}
-use Rattle.rm_machine_code.proofs.BackingUpLogs.{after_copies, room-for}
+use Rattle.rm_machine.proofs.BackingUp.{base-at_end, objects-many}
+use Rattle.rm_machine.proofs.BackupAccepted.{can-back_up}
+use Rattle.rm_machine.proofs.Recording.{next-id}
+use Rattle.rm_machine.proofs.BackingUpLogs.{after_copies, room-for}
 use Rattle.rm_machine_laws.proofs.BackingUpLogs.{done-of}
-use Rattle.rm_machine_code.proofs.Branching.{can-reset}
-use Rattle.rm_machine_code.proofs.Disabling.{accepted}
-use Rattle.rm_machine_code.proofs.Rolling.{can-roll}
+use Rattle.rm_machine.proofs.Branching.{can-reset}
+use Rattle.rm_machine.proofs.Disabling.{accepted}
+use Rattle.rm_machine.proofs.Rolling.{can-roll}
 use Rattle.rm_machine_laws.proofs.Mishaps.{IsMishap, cut-by, damaged-by, removed-by, renamed-by}
 use Rattle.rm_machine_laws.proofs.Leading.{done-by}
 use Rattle.rm_machine_laws.proofs.Renewals.{leaves-renewed}
-use Rattle.rm_machine_code.proofs.Switching.{not-above}
-use Rattle.rm_machine_code.proofs.Walk.{events-same}
+use Rattle.rm_machine.proofs.Switching.{not-above}
+use Rattle.rm_machine.proofs.Walk.{events-same}
 use Rattle.rm_machine_laws.proofs.Telling.{never-done}
-use Rattle.rm_machine_code.proofs.Untils.{until-none}
+use Rattle.rm_machine.proofs.Untils.{until-none}
 
 -- the next id of a catalog, and of a database
 abbrev next_in : TypedCatalog → ℕ

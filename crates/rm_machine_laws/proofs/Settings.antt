@@ -17,11 +17,11 @@ use Rattle.rm_machine.specs.Sound.{IsSound}
 use Rattle.rm_machine.specs.declared.state.State.{State}
 use Rattle.rm_machine.specs.State.{ledger}
 use Rattle.rm_machine.specs.Upkeep.{with_catalog}
-use Rattle.rm_machine_code.proofs.Entries.{GoesOn}
+use Rattle.rm_machine.proofs.Entries.{GoesOn}
 use Rattle.rm_machine_laws.proofs.Leading.{LeadsOnBy, StaysBy}
 use Rattle.rm_machine_laws.proofs.Upkeep.{catalog-on, catalog-stays}
-use Rattle.rm_machine_code.proofs.Later.{borne-same, sound-with}
-use Rattle.rm_machine_code.proofs.Switching.{not-above}
+use Rattle.rm_machine.proofs.Later.{borne-same, sound-with}
+use Rattle.rm_machine.proofs.Switching.{not-above}
 
 -- with another policy and another count of channels
 module _ (s : State) (p : Policy) (channels : ℕ) where

@@ -21,14 +21,14 @@ use Rattle.rm_machine.specs.State.{ledger, is_lost, is_no_thread, online, redo_e
 use Rattle.rm_lang_statement.specs.declared.command.Command.TheVariants.{SwitchLogfile}
 use Rattle.rm_machine.specs.SwitchLogfile.{archive_refusal, archived, is_due, log_entry, made_lines, none_lines, switch_refusal, with_archived}
 use Rattle.rm_base.proofs.Conditions.{only-where, unless}
-use Rattle.rm_machine_code.proofs.Kept.{stand-same}
+use Rattle.rm_machine.proofs.Kept.{stand-same}
 use Rattle.rm_machine_laws.proofs.Leading.{LeadsOnBy, StaysBy}
 use Rattle.rm_machine_laws.proofs.Quiet.{quiet-on, same-stays, unchanged}
 use Rattle.rm_machine_laws.proofs.NewObjects.{borne-logged, with_puts}
-use Rattle.rm_machine_code.proofs.Later.{borne-beside}
-use Rattle.rm_machine_code.proofs.Switching.{CanArchive, due-parts, sound-after}
-use Rattle.rm_machine_code.proofs.Threads.{thread-before, thread-of}
-use Rattle.rm_machine_code.proofs.Switching as shared
+use Rattle.rm_machine.proofs.Later.{borne-beside}
+use Rattle.rm_machine.proofs.Switching.{CanArchive, due-parts, sound-after}
+use Rattle.rm_machine.proofs.Threads.{thread-before, thread-of}
+use Rattle.rm_machine.proofs.Switching as shared
 
 -- An empty log
 

@@ -14,11 +14,11 @@ use Rattle.rm_machine.specs.declared.state.State.{State}
 use Rattle.rm_machine.specs.State.{current_of, ledger, now_of, tree}
 use Rattle.rm_machine.specs.Step.{IsOutcome, refusal_of}
 use Rattle.rm_machine.specs.SwitchLogfile.{is_due}
-use Rattle.rm_machine_code.proofs.Archives.{beside-thread, thread-either}
-use Rattle.rm_machine_code.proofs.Disabling.{after-due, brought, can-disable, current-after, now-after, number}
-use Rattle.rm_machine_code.proofs.Enabling.{can-enable}
-use Rattle.rm_machine_code.proofs.ThreadSwitches.{own-enabled}
-use Rattle.rm_machine_code.proofs.ThreadSwitches as shared
+use Rattle.rm_machine.proofs.Archives.{beside-thread, thread-either}
+use Rattle.rm_machine.proofs.Disabling.{after-due, brought, can-disable, current-after, now-after, number}
+use Rattle.rm_machine.proofs.Enabling.{can-enable}
+use Rattle.rm_machine.proofs.ThreadSwitches.{own-enabled}
+use Rattle.rm_machine.proofs.ThreadSwitches as shared
 use Rattle.rm_machine_laws.proofs.Leading.{done-by}
 use Rattle.rm_machine_laws.proofs.ThreadSwitches as switching
 

@@ -27,10 +27,10 @@ use Rattle.rm_machine.specs.Machine.{HistoryFits, IsBorneOut}
 use Rattle.rm_machine.specs.Sound.{IsSound}
 use Rattle.rm_machine.specs.declared.state.State.{State}
 use Rattle.rm_machine.specs.State.{counted, current_of, is_lost, ledger, now_of, online, tree, world}
-use Rattle.rm_machine_code.proofs.Further.{further, keeps-further}
-use Rattle.rm_machine_code.proofs.Threads.{file_by, thread-in}
-use Rattle.rm_machine_code.proofs.ThreadSwitches.{CanSwitch, sound-switched}
-use Rattle.rm_machine_code.proofs.ThreadSwitches as shared
+use Rattle.rm_machine.proofs.Further.{further, keeps-further}
+use Rattle.rm_machine.proofs.Threads.{file_by, thread-in}
+use Rattle.rm_machine.proofs.ThreadSwitches.{CanSwitch, sound-switched}
+use Rattle.rm_machine.proofs.ThreadSwitches as shared
 use Rattle.rm_machine_laws.proofs.Further.{fits-further}
 use Rattle.rm_machine_laws.proofs.Grown.{SameHistory, true-on}
 use Rattle.rm_machine_laws.proofs.Switching.{empty-agrees}

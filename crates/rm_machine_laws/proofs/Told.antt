@@ -15,8 +15,8 @@ use Rattle.rm_history.specs.Evidence.{Agrees, Evidence}
 use Rattle.rm_plan.specs.Plan.{IsFileTarget}
 use Rattle.rm_machine.specs.Machine.{RowsAre}
 use Rattle.rm_machine.specs.Recovery.{AreMadeAt, file_at}
-use Rattle.rm_machine_code.proofs.Placing.{number}
-use Rattle.rm_machine_code.proofs.Standing.{each-get, each-in}
+use Rattle.rm_machine.proofs.Placing.{number}
+use Rattle.rm_machine.proofs.Standing.{each-get, each-in}
 
 -- a datafile of the same fields
 same-file : (x : File) (i at : ℕ) (rows : List Row) → x.inc ≡ i → x.checkpoint ≡ at → x.rows ≡ rows → x ≡ record { file = x.file; inc = i; checkpoint = at; rows = rows }

@@ -11,9 +11,9 @@ use Rattle.rm_machine.specs.Sound.{IsSound}
 use Rattle.rm_machine.specs.Tracking.{with_tracking}
 use Rattle.rm_machine.specs.declared.state.State.{State}
 use Rattle.rm_machine.specs.State.{ledger}
-use Rattle.rm_machine_code.proofs.Damaged.{damaged-same}
-use Rattle.rm_machine_code.proofs.Tracked.{tracked-fresh}
-use Rattle.rm_machine_code.proofs.FirstTold.{tell-first}
+use Rattle.rm_machine.proofs.Damaged.{damaged-same}
+use Rattle.rm_machine.proofs.Tracked.{tracked-fresh}
+use Rattle.rm_machine.proofs.FirstTold.{tell-first}
 use Rattle.rm_machine_laws.proofs.Leading.{LeadsOnBy, StaysBy}
 use Rattle.rm_machine_laws.proofs.Quiet.{quiet-on, quiet-stays}
 

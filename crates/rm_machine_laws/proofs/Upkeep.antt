@@ -18,10 +18,10 @@ use Rattle.rm_machine.specs.Machine.{IsBorneOut}
 use Rattle.rm_machine.specs.Sound.{IsSound}
 use Rattle.rm_machine.specs.declared.state.State.{State}
 use Rattle.rm_machine.specs.Upkeep.{changed_to, log_changed, piece_changed, set_changed, with_catalog, with_keep, with_status, with_statuses, without_all}
-use Rattle.rm_machine_code.proofs.Entries.{GoesOn, LogAs, PieceAs, SetAs, log-on, piece-on, set-on, then-on, without-on}
+use Rattle.rm_machine.proofs.Entries.{GoesOn, LogAs, PieceAs, SetAs, log-on, piece-on, set-on, then-on, without-on}
 use Rattle.rm_machine_laws.proofs.Leading.{LeadsOnBy, StaysBy}
 use Rattle.rm_machine_laws.proofs.Quiet.{quiet-on, quiet-stays}
-use Rattle.rm_machine_code.proofs.Upkeep.{all-on}
+use Rattle.rm_machine.proofs.Upkeep.{all-on}
 
 -- the log, the piece and the set of an id, one after another
 each-on : (s : State) (f : LogEntry → LogEntry) (g : PieceEntry → PieceEntry) (k : SetEntry → SetEntry) (n : ℕ) → LogAs f → PieceAs g → SetAs k → IsSound s → GoesOn s (set_changed k n (piece_changed g n (log_changed f n s.catalog)))

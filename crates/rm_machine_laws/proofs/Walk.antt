@@ -20,9 +20,9 @@ use Rattle.rm_machine.specs.declared.state.State.{State}
 use Rattle.rm_machine.specs.State.{current_of, now_of, world}
 use Rattle.rm_machine_laws.proofs.Writing.{borne-write}
 use Rattle.rm_machine.specs.Events.{after_event, after_events, change_by, changes_of, opening}
-use Rattle.rm_machine_code.proofs.Found.{read-of}
+use Rattle.rm_machine.proofs.Found.{read-of}
 use Rattle.rm_machine_laws.proofs.Found.{read-true, row-write}
-use Rattle.rm_machine_code.proofs.Walk.{AreAsked, CanGoOn, IsAsked, accepted, by-event, event-on, found-here, full, legal-on, now-event, reading}
+use Rattle.rm_machine.proofs.Walk.{AreAsked, CanGoOn, IsAsked, accepted, by-event, event-on, found-here, full, legal-on, now-event, reading}
 
 -- One event
 

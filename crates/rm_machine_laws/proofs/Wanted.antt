@@ -25,11 +25,11 @@ use Rattle.rm_machine.specs.Tracked.{AreTracked, IsTracked, switch_all, tracks, 
 use Rattle.rm_machine.specs.declared.job.Job.{Job}
 use Rattle.rm_machine.specs.declared.state.State.{State}
 use Rattle.rm_machine.specs.State.{current_of, ledger, now_of, on_path, tree, world}
-use Rattle.rm_machine_code.proofs.BackingUp.{IsNoCandidate}
-use Rattle.rm_machine_code.proofs.ReadBlocks.{blocks-marked, marked-block}
-use Rattle.rm_machine_code.proofs.Tracked.{at-file, some-is, tracked-switch_all}
+use Rattle.rm_machine.proofs.BackingUp.{IsNoCandidate}
+use Rattle.rm_machine.proofs.ReadBlocks.{blocks-marked, marked-block}
+use Rattle.rm_machine.proofs.Tracked.{at-file, some-is, tracked-switch_all}
 use Rattle.rm_machine_laws.specs.Wanted.{HasChangedSince, IsReadByBitmaps}
-use Rattle.rm_machine_code.proofs.FirstTold.{lie-below}
+use Rattle.rm_machine.proofs.FirstTold.{lie-below}
 use Rattle.rm_machine_laws.proofs.Bitmaps.{not-wanted, tell-switch_all}
 
 -- Where the current bitmap starts

@@ -41,14 +41,14 @@ use Rattle.rm_machine.specs.Sound.{IsSound}
 use Rattle.rm_machine.specs.declared.state.State.{State}
 use Rattle.rm_machine.specs.State.{current_of, is_lost, now_of, online, placed, redo_end, world}
 use Rattle.rm_machine.specs.Write.{change_of, with_write}
-use Rattle.rm_machine_code.proofs.Further.{further, inc-now, now-further, redo-now}
+use Rattle.rm_machine.proofs.Further.{further, inc-now, now-further, redo-now}
 use Rattle.rm_machine_laws.proofs.Bitmaps.{tell-later}
 use Rattle.rm_machine_laws.proofs.DamagedRows.{sound-agrees}
 use Rattle.rm_machine_laws.proofs.Further.{below-redo, enabled-now, fits-further, owns-now, rows-further, same-further, state-further}
 use Rattle.rm_machine_laws.proofs.Grown.{true-on}
-use Rattle.rm_machine_code.proofs.Places.{placed-is}
-use Rattle.rm_machine_code.proofs.Threads.{thread-before}
-use Rattle.rm_machine_code.proofs.Writes.{Accepted}
+use Rattle.rm_machine.proofs.Places.{placed-is}
+use Rattle.rm_machine.proofs.Threads.{thread-before}
+use Rattle.rm_machine.proofs.Writes.{Accepted}
 
 -- a record as the change of which it tells
 abbrev told : ℕ → ℕ → LogRecord → Change

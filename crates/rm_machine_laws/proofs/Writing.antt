@@ -10,13 +10,13 @@ use Rattle.rm_machine.specs.declared.state.State.{State}
 use Rattle.rm_machine.specs.State.{ledger}
 use Rattle.rm_lang_statement.specs.declared.command.Command.TheVariants.{Write}
 use Rattle.rm_machine.specs.Write.{change_of, with_write}
-use Rattle.rm_machine_code.proofs.Kept.{stand-same}
-use Rattle.rm_machine_code.proofs.Later.{borne-beside}
+use Rattle.rm_machine.proofs.Kept.{stand-same}
+use Rattle.rm_machine.proofs.Later.{borne-beside}
 use Rattle.rm_machine_laws.proofs.Leading.{LeadsOnBy, StaysBy}
 use Rattle.rm_machine_laws.proofs.Quiet.{landed, same-stays}
-use Rattle.rm_machine_code.proofs.Writes.{Accepted, write-accepted}
+use Rattle.rm_machine.proofs.Writes.{Accepted, write-accepted}
 use Rattle.rm_machine_laws.proofs.WritesKeep.{keeps-write, made-write}
-use Rattle.rm_machine_code.proofs.WritesSound.{sound-write}
+use Rattle.rm_machine.proofs.WritesSound.{sound-write}
 
 abbrev changed : State → WriteForm → Effect
 changed s w = record no_effect { changes = change_of s w ∷ [] }

@@ -26,7 +26,7 @@ use Rattle.rm_machine.specs.declared.state.State.{State}
 use Rattle.rm_machine.specs.State.{at_moment, ledger}
 use Rattle.rm_machine.specs.Step.{IsOutcome, IsOutcomeBy, IsStatement, Step, refusal_of}
 use Rattle.rm_machine.specs.Saved.{saved_names}
-use Rattle.rm_machine_code.proofs.Later.{sound-later}
+use Rattle.rm_machine.proofs.Later.{sound-later}
 use Rattle.rm_machine_laws.proofs.Leading.{stays as keeps-sound}
 use Rattle.rm_machine_laws.specs.Carries.{IsHanded, IsOutcomeIn}
 use Rattle.rm_machine_laws.specs.Holds.{View, records_in}

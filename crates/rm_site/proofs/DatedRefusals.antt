@@ -43,7 +43,7 @@ use Rattle.rm_machine.specs.Upkeep.{record_refusal}
 use Rattle.rm_machine.specs.Write.{block_refusal, write_refusal}
 use Rattle.rm_machine.specs.declared.state.State.{State}
 use Rattle.rm_machine.specs.State.{current_of, tree}
-use Rattle.rm_machine_code.proofs.Meant.{nowhere-dated}
+use Rattle.rm_machine.proofs.Untils.{nowhere-dated}
 
 -- where it refuses, it tells no moment past the last
 record IsDated (o : Option Refusal) : Type 0 where

@@ -19,7 +19,7 @@ use Rattle.rm_machine.specs.Rest.{Rest, at_rest, catalog_in}
 use Rattle.rm_machine.specs.Saving.{IsSavedAs, IsSavedBy, made_of, object_of, parts_of, with_ids, with_site}
 use Rattle.rm_machine.specs.declared.state.State.{State}
 use Rattle.rm_machine.specs.State.{ledger}
-use Rattle.rm_machine_code.proofs.Dropping.{IsNoSite}
+use Rattle.rm_machine.proofs.Dropping.{IsNoSite}
 use Rattle.rm_session.proofs.Resting.{rests as saved-rests}
 use Rattle.rm_machine_laws.specs.Holds.{Holds, HoldsRest, Stands, View, records, saved_in}
 use Rattle.rm_machine_laws.specs.Loose.{IsNamedIn}

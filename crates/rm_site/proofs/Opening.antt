@@ -15,13 +15,13 @@ use Rattle.rm_catalog.specs.Rules.{IsOrderOf, IsValid}
 use Rattle.rm_catalog_typed.specs.Loading.{records_in}
 use Rattle.rm_catalog_typed.specs.TypedCatalog.{TypedCatalog, all_records}
 use Rattle.rm_catalog_typed.proofs.Valid.{typed_catalog-valid}
+use Rattle.rm_evidence.specs.declared.gathering.EvidenceFault.{EvidenceFault}
+use Rattle.rm_evidence.specs.declared.gathering.EvidenceFault.TheVariants as evidence
 use Rattle.rm_machine.specs.Loading.{IsLoaded}
 use Rattle.rm_machine.specs.Machine.{Machine}
 use Rattle.rm_machine.specs.Rest.{HaveParts, IsSoundRest, IsSoundRestBy, Rest, Wakes, catalog_in}
 use Rattle.rm_machine.specs.Sound.{IsSound}
 use Rattle.rm_machine.specs.declared.state.State.{State}
-use Rattle.rm_session.specs.declared.fault.SessionFault.{SessionFault}
-use Rattle.rm_session.specs.declared.fault.SessionFault.TheVariants as session
 use Rattle.rm_session.proofs.Recorded.{one-catalog}
 use Rattle.rm_session.proofs.Waking.{waking-sound}
 use Rattle.rm_machine_laws.specs.Holds.{HoldsRest, View, saved_in}
@@ -89,10 +89,10 @@ told-bad catalog.NoMemory None rs asked bad = tt
 told-bad catalog.NoMemory (Some ks) rs asked bad = tt
 
 -- where the store failed, they are valid
-pub told-valid : (fault : SessionFault) (kept : Option (List Record)) → IfSome kept AreValid → IfSome kept (IsBadFirst (fault_in fault))
+pub told-valid : (fault : EvidenceFault) (kept : Option (List Record)) → IfSome kept AreValid → IfSome kept (IsBadFirst (fault_in fault))
 told-valid fault None valid = tt
-told-valid session.StoreFault (Some ks) valid = valid
-told-valid session.NoMemory (Some ks) valid = tt
+told-valid evidence.StoreFault (Some ks) valid = valid
+told-valid evidence.NoMemory (Some ks) valid = tt
 
 -- what is so of the error that was handed on
 pub told-err : {T E : Type 0} (r : Result T E) (e : E) (P : E → Type 0) → IsErrAnd r (λ x. x ≡ e) → P e → IfErr r P

@@ -10,10 +10,6 @@ use Rattle.rm_commit.specs.declared.commit.Stop.{Stop}
 use Rattle.rm_commit.specs.declared.commit.Stop.TheVariants as stop
 use Rattle.rm_evidence.specs.declared.gathering.EvidenceFault.{EvidenceFault}
 use Rattle.rm_evidence.specs.declared.gathering.EvidenceFault.TheVariants as evidence
-use Rattle.rm_verify.specs.declared.fault.VerifyFault.{VerifyFault}
-use Rattle.rm_verify.specs.declared.fault.VerifyFault.TheVariants as verify
-use Rattle.rm_session.specs.declared.fault.SessionFault.{SessionFault}
-use Rattle.rm_session.specs.declared.fault.SessionFault.TheVariants as session
 use Rattle.rm_site.specs.declared.open.OpenFault.{OpenFault}
 use Rattle.rm_site.specs.declared.open.OpenFault.TheVariants.{BadRow, StoreFault, KeeperFault, NoMemory}
 use Rattle.rm_site.specs.Opens.{AreValid}
@@ -29,9 +25,9 @@ fault_at (catalog.BadRow kind id) = BadRow kind id
 fault_at catalog.NoMemory = NoMemory
 
 -- a fault of the store in loading, or no memory
-abbrev pub fault_in : SessionFault → OpenFault
-fault_in session.StoreFault = StoreFault
-fault_in session.NoMemory = NoMemory
+abbrev pub fault_in : EvidenceFault → OpenFault
+fault_in evidence.StoreFault = StoreFault
+fault_in evidence.NoMemory = NoMemory
 
 -- where a record is told, it is the first of these, in order, that breaks a rule; the store fails only where there is none
 abbrev pub IsBadFirst : OpenFault → List Record → Type 0
@@ -44,8 +40,3 @@ IsBadFirst NoMemory rs = Unit {0}
 abbrev pub stop_of : EvidenceFault → Stop
 stop_of evidence.StoreFault = stop.StoreFault
 stop_of evidence.NoMemory = stop.NoMemory
-
--- and so is one at the objects that are looked at one by one
-abbrev pub stop_at : VerifyFault → Stop
-stop_at verify.StoreFault = stop.StoreFault
-stop_at verify.NoMemory = stop.NoMemory

@@ -1,10 +1,9 @@
-//! The stops that faults make.
+//! The stop that a fault makes.
 ghost use Rattle.std.specs.Prelude.{◌≡◌};
-ghost use Rattle.rm_site.specs.Faults.{stop_of, stop_at};
+ghost use Rattle.rm_site.specs.Faults.{stop_of};
 
 use rm_commit::Stop;
 use rm_evidence::EvidenceFault;
-use rm_verify::VerifyFault;
 
 /// The stop that a fault at what the store holds makes.
 pub(crate) fn stop_of(fault: EvidenceFault) -> Stop
@@ -13,15 +12,5 @@ pub(crate) fn stop_of(fault: EvidenceFault) -> Stop
     match fault {
         EvidenceFault::StoreFault => Stop::StoreFault,
         EvidenceFault::NoMemory => Stop::NoMemory,
-    }
-}
-
-/// The stop that a fault at what the store holds makes.
-pub(crate) fn stop_at(fault: VerifyFault) -> Stop
-    ensures { result ≡ stop_at fault }
-{
-    match fault {
-        VerifyFault::StoreFault => Stop::StoreFault,
-        VerifyFault::NoMemory => Stop::NoMemory,
     }
 }

@@ -8,7 +8,8 @@ use crate::site::Site;
 use rm_base::{NoMemory, Store};
 use rm_catalog::{CatalogFault, Keeper, KeeperFail};
 use rm_catalog_typed::TypedCatalog;
-use rm_session::{SessionFault, load_place};
+use rm_evidence::EvidenceFault;
+use rm_session::load_place;
 use std::alloc::Global;
 
 /// Why a site could not be opened.
@@ -49,15 +50,15 @@ impl From<CatalogFault> for OpenFault {
     }
 }
 
-impl From<SessionFault> for OpenFault {
+impl From<EvidenceFault> for OpenFault {
     ghost use Rattle.rm_site.specs.Faults.{fault_in};
 
     ghost from_gives = { λ fault e. e ≡ fault_in fault };
 
-    fn from(fault: SessionFault) -> Self {
+    fn from(fault: EvidenceFault) -> Self {
         match fault {
-            SessionFault::StoreFault => OpenFault::StoreFault,
-            SessionFault::NoMemory => OpenFault::NoMemory,
+            EvidenceFault::StoreFault => OpenFault::StoreFault,
+            EvidenceFault::NoMemory => OpenFault::NoMemory,
         }
     }
 }

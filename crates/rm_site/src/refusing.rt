@@ -6,7 +6,7 @@ ghost use Rattle.rm_machine.specs.Step.{IsStatement, refusal_of};
 use rm_base::{NoMemory, Refusal};
 use rm_lang_statement::Command;
 use rm_machine::State;
-use rm_machine_code::room::ids_refusal;
+use rm_machine::room::ids_refusal;
 use std::alloc::Global;
 
 /// Why the state alone refuses a statement, if it does. Only the text of a tag takes memory.

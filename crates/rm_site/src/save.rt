@@ -13,7 +13,7 @@ use rm_base::{Seq, Store};
 use rm_catalog::Keeper;
 use rm_commit::{Commit, Stop, carry_out};
 use rm_machine::State;
-use rm_machine_code::room::lacks_ids;
+use rm_machine::room::lacks_ids;
 use rm_session::put_place;
 use std::alloc::Global;
 use std::mem;

@@ -7,7 +7,7 @@ ghost use Rattle.rm_site.specs.Shown.{next_scn, objects_in};
 
 use rm_base::Scn;
 use rm_machine::State;
-use rm_machine_code::facts::now;
+use rm_machine::facts::now;
 use std::alloc::Global;
 use std::marker::Model;
 

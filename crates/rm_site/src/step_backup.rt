@@ -7,7 +7,7 @@ ghost use Rattle.rm_catalog_typed.specs.Changes.{EditsFollow};
 ghost use Rattle.rm_site.specs.Comes.{IsAnswer};
 ghost use Rattle.rm_lang_statement.specs.declared.command.Command.TheVariants.{BackupLogs};
 
-use crate::faults::stop_at;
+use crate::faults::stop_of;
 use crate::statement::Answer;
 use rm_base::Store;
 use rm_catalog::Edit;
@@ -35,6 +35,6 @@ pub(crate) fn back_up_logs<D: Store>(
     match backup_logs(alloc, state, store, edits) {
         Ok(Ok(handed)) => Ok(Answer::Done(handed)),
         Ok(Err(refusal)) => Ok(Answer::Refused(refusal)),
-        Err(fault) => Err(stop_at(fault)),
+        Err(fault) => Err(stop_of(fault)),
     }
 }

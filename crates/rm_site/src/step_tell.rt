@@ -13,7 +13,7 @@ ghost use Rattle.rm_commit.specs.declared.commit.Stop.TheVariants.{StoreFault, K
 ghost use Rattle.rm_lang_statement.specs.declared.command.Command.TheVariants.{ValidateAll};
 
 use crate::channels::channel_count;
-use crate::faults::stop_at;
+use crate::faults::stop_of;
 use crate::statement::Answer;
 use rm_base::{Class, NoMemory, Seq, Store};
 use rm_commit::Stop;
@@ -78,6 +78,6 @@ pub(crate) fn validate<R: Threads + Sync, D: Store>(
     let channels = channel_count(state, channels);
     match validate_all(rt, alloc, channels, state, store) {
         Ok(lines) => Ok(Answer::Told(lines)),
-        Err(fault) => Err(stop_at(fault)),
+        Err(fault) => Err(stop_of(fault)),
     }
 }

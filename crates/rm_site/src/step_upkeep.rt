@@ -10,7 +10,7 @@ ghost use Rattle.rm_catalog_typed.specs.Changes.{EditsFollow};
 ghost use Rattle.rm_site.specs.Comes.{IsAnswer};
 ghost use Rattle.rm_lang_statement.specs.declared.command.Command.TheVariants.{Crosscheck};
 
-use crate::faults::stop_at;
+use crate::faults::stop_of;
 use crate::statement::Answer;
 use rm_base::{Class, Store};
 use rm_catalog::Edit;
@@ -40,7 +40,7 @@ pub(crate) fn check<D: Store>(
 {
     match crosscheck(alloc, state, store, edits, class) {
         Ok(handed) => Ok(Answer::Done(handed)),
-        Err(fault) => Err(stop_at(fault)),
+        Err(fault) => Err(stop_of(fault)),
     }
 }
 

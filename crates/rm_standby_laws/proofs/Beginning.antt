@@ -34,9 +34,9 @@ use Rattle.rm_machine.specs.Sound.{IsSound}
 use Rattle.rm_machine.specs.State.{at_moment, current_of, ledger, tree, world}
 use Rattle.rm_machine.specs.Step.{IsOutcome, IsOutcomeBy, Step, StepBy, StepIn}
 use Rattle.rm_machine.specs.declared.state.State.{State}
-use Rattle.rm_machine_code.proofs.Later.{sound-later}
-use Rattle.rm_machine_code.proofs.Recovering.{in-range}
-use Rattle.rm_machine_code.proofs.Rolling.{increment-valid}
+use Rattle.rm_machine.proofs.Later.{sound-later}
+use Rattle.rm_machine.proofs.Recovering.{in-range}
+use Rattle.rm_machine.proofs.Rolling.{increment-valid}
 use Rattle.rm_machine_laws.proofs.Leading.{done-by}
 use Rattle.rm_standby_laws.specs.Lasting.{HoldsIn, HoldsOf, IsHeld, LiesWithin}
 

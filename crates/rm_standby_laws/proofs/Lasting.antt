@@ -46,7 +46,7 @@ use Rattle.rm_machine_laws.specs.Saves.{IsEnded}
 use Rattle.rm_machine_laws.specs.Stopped.{IsLeft, Stopped}
 use Rattle.rm_machine.specs.declared.state.State.{State}
 use Rattle.rm_machine.specs.State.{tree, world}
-use Rattle.rm_machine_code.proofs.Standing.{each-in}
+use Rattle.rm_machine.proofs.Standing.{each-in}
 use Rattle.rm_standby_laws.specs.Lasting.{HoldsIn, HoldsOf, IsHeld, RestsHeld, StaysHeld}
 use Rattle.rm_standby_laws.proofs.Growing.{Grows}
 use Rattle.rm_standby_laws.proofs.Settled.{begin, picked-begin, row-read, row-there, still-picked, version-range}

@@ -25,7 +25,7 @@ use Rattle.rm_machine.specs.Saving.{IsSavedAs, IsSavedBy, object_of, parts_of, w
 use Rattle.rm_machine.specs.declared.state.State.{State}
 use Rattle.rm_machine.specs.State.{at_moment, ledger}
 use Rattle.rm_machine.specs.Step.{IsOutcome, Step, StepBy, StepIn, and_drops, names_in}
-use Rattle.rm_machine_code.proofs.Later.{sound-later}
+use Rattle.rm_machine.proofs.Later.{sound-later}
 use Rattle.rm_machine_laws.specs.Holds.{saved_in}
 use Rattle.rm_machine_laws.specs.Loose.{IsGivenIn}
 use Rattle.rm_machine_laws.specs.Moments.{IsMomentIn}

@@ -16,8 +16,8 @@ use Rattle.rm_machine.specs.Machine.{DigestsTellFor, IsBorneOut, IsSoundBy, IsSo
 use Rattle.rm_machine.specs.declared.state.State.{State}
 use Rattle.rm_machine.specs.State.{at_moment, ledger, world}
 use Rattle.rm_machine.specs.Step.{IsOutcome, IsStatement, MachineFollows, Step, StepBy, StepIn, and_drops, refusal_of}
-use Rattle.rm_machine_code.proofs.Kept.{kept-on, stand-same, stays-so}
-use Rattle.rm_machine_code.proofs.Later.{sound-later}
+use Rattle.rm_machine.proofs.Kept.{kept-on, stand-same, stays-so}
+use Rattle.rm_machine.proofs.Later.{sound-later}
 use Rattle.rm_machine_laws.proofs.Every.{every-leads}
 use Rattle.rm_machine_laws.proofs.Leading.{done-by}
 use Rattle.rm_standby_laws.proofs.EachStatement.{each-grows}

@@ -1,5 +1,5 @@
 -- A BACKUP that was done comes to what the machine says.
-use Rattle.std.proofs.Common.{◌≡◌, ◌<◌, ◌≤◌, ◌∙◌, ◌++◌, ℕ, zero, suc, List, [], ◌∷◌, Option, None, Ok, refl, ap, sym, subst, arith, length, map, Contains}
+use Rattle.std.proofs.Common.{◌≡◌, ◌<◌, ◌≤◌, ◌∙◌, ◌++◌, ℕ, List, [], ◌∷◌, Option, None, Ok, refl, ap, sym, subst, arith, length, map, Contains}
 use Rattle.std.specs.Global.{Global}
 use Rattle.std.specs.Prelude.{Vec}
 use Rattle.std.proofs.lemmas.List.{length-map}
@@ -25,26 +25,22 @@ use Rattle.rm_machine.specs.Hands.{Hands}
 use Rattle.rm_machine.specs.MadeObjects.{CanRecord, Packed, after_objects, object_lines, objects_put, packed}
 use Rattle.rm_machine.specs.Sound.{IsSound}
 use Rattle.rm_machine.specs.Step.{IsStatement, refusal_of}
-use Rattle.rm_machine_code.proofs.Tags.{tag-fits}
+use Rattle.rm_machine.proofs.Tags.{tag-fits}
 use Rattle.rm_machine.specs.declared.handed.Handed.{Handed}
 use Rattle.rm_machine.specs.declared.job.Job.{Job}
 use Rattle.rm_machine.specs.declared.state.State.{State}
 use Rattle.rm_machine.specs.State.{ledger, now_of}
-use Rattle.rm_machine_code.proofs.BackingUp.{can-record, during-marks, end-sound, packed-at_end, per_set-some, sound-begun}
-use Rattle.rm_machine_code.proofs.BackupAccepted.{CanBackUp, can-back_up}
-use Rattle.rm_machine_code.proofs.BackupMarks.{marked-same}
+use Rattle.rm_machine.proofs.BackingUp.{can-record, during-marks, end-sound, packed-at_end, per_set-some, sound-begun}
+use Rattle.rm_machine.proofs.BackupAccepted.{CanBackUp, can-back_up}
+use Rattle.rm_machine.proofs.BackupMarks.{marked-same}
 use Rattle.rm_machine.specs.Running.{CanFollow}
 use Rattle.rm_step_backup.specs.Recorded.{HasRecorded}
 use Rattle.rm_step_backup.specs.Running.{HasRunLive}
-use Rattle.rm_machine_code.proofs.WritersRoom.{four-writers}
+use Rattle.rm_machine.proofs.WritersRoom.{four-writers, no-writes}
 
 -- Before the first event
 
--- without a write no list has one
-no-writes : (t n : ℕ) → total length (lists_from t n []) ≡ 0
-no-writes t zero = refl
-no-writes t (suc n) = let rest = no-writes (suc t) n in omega (arith, rest)
-
+-- one that has a write is of some
 first-write : (ws : List WriteForm) (n : ℕ) → 0 < total length (lists_from 1 n ws) → (w : WriteForm) × Contains ws w
 first-write [] n some = let none = no-writes 1 n in absurd (omega (arith, some, none))
 first-write (w ∷ ws) n some = (w, in-front w ws)

@@ -21,12 +21,12 @@ use Rattle.rm_machine.specs.Tracked.{switch_all}
 use Rattle.rm_machine.specs.declared.job.Job.{Job}
 use Rattle.rm_machine.specs.declared.state.State.{State}
 use Rattle.rm_machine.specs.State.{ledger, now_of}
-use Rattle.rm_machine_code.proofs.PiecesRead.{blocks-by}
-use Rattle.rm_machine_code.proofs.ReadBlocks.{candidates-long, known-by}
-use Rattle.rm_machine_code.proofs.Tracked.{at-file}
+use Rattle.rm_machine.proofs.PiecesRead.{blocks-by}
+use Rattle.rm_machine.proofs.ReadBlocks.{candidates-long, known-by}
+use Rattle.rm_machine.proofs.Tracked.{at-file}
 use Rattle.rm_step_backup.specs.Copying.{AreCopiesOf, IsCopyOf, StartBelow, Stands}
 use Rattle.rm_step_backup.proofs.Counted.{counted-rows}
-use Rattle.rm_machine_code.proofs.WritersRoom.{file-found}
+use Rattle.rm_machine.proofs.WritersRoom.{file-found}
 use Rattle.rm_track.specs.Bitmaps.{Tracked, switch_at, switched, tracked_at}
 use Rattle.rm_track.specs.Bits.{IsBits, blocks_from, marks_of}
 use Rattle.rm_track.specs.declared.bits.Bits.{Bits}

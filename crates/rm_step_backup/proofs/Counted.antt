@@ -11,7 +11,7 @@ use Rattle.rm_machine.specs.Backup.{rows_in}
 use Rattle.rm_machine.specs.Sound.{IsSound}
 use Rattle.rm_machine.specs.declared.state.State.{State}
 use Rattle.rm_machine.specs.State.{counted, ledger, placed, tree}
-use Rattle.rm_machine_code.proofs.Places.{counted-closed, counted-open}
+use Rattle.rm_machine.proofs.Places.{counted-closed, counted-open}
 
 -- it counts with as many rows
 pub counted-rows : (s : State) (x : File) → length (counted s x).rows ≡ length x.rows

@@ -13,7 +13,7 @@ use Rattle.rm_machine.specs.MadeSets.{InSet, in_sets}
 use Rattle.rm_machine.specs.State.{ledger}
 use Rattle.rm_machine.specs.declared.job.Job.{Job}
 use Rattle.rm_machine.specs.declared.state.State.{State}
-use Rattle.rm_machine_code.proofs.Groups.{cut-next}
+use Rattle.rm_machine.proofs.Groups.{cut-next}
 use Rattle.rm_step_backup.specs.Making.{CanMake, IsValid, copied_of, files_of, made_by, made_of, member_of, packed_of, reads_by}
 use Rattle.rm_step_backup.specs.declared.making.Made.{Made}
 use Rattle.rm_step_backup.specs.declared.reading.FileRead.{FileRead}

@@ -22,8 +22,8 @@ use Rattle.rm_machine.specs.declared.handed.Handed.{Handed}
 use Rattle.rm_machine.specs.declared.job.Job.{Job}
 use Rattle.rm_machine.specs.declared.state.State.{State}
 use Rattle.rm_machine.specs.State.{ledger}
-use Rattle.rm_machine_code.proofs.BackingUp.{mapped-all}
-use Rattle.rm_machine_code.proofs.Rolling.{can-roll, increment-valid, next-fits}
+use Rattle.rm_machine.proofs.BackingUp.{mapped-all}
+use Rattle.rm_machine.proofs.Rolling.{can-roll, increment-valid, next-fits}
 use Rattle.rm_piece.specs.Sets.{IsMember, IsSet}
 use Rattle.rm_piece.specs.Valid.{IsPiece}
 use Rattle.rm_piece.specs.declared.set.Set.{Set}

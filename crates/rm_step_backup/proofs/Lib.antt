@@ -6,7 +6,6 @@ pub mod Counted
 mod FilesRead
 mod Filled
 pub mod Forms
-pub mod Gone
 pub mod Increments
 pub mod LogBackups
 mod NextMade

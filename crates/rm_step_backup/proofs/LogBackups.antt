@@ -30,10 +30,10 @@ use Rattle.rm_machine.specs.Sound.{IsSound}
 use Rattle.rm_machine.specs.declared.handed.Handed.{Handed}
 use Rattle.rm_machine.specs.declared.state.State.{State}
 use Rattle.rm_machine.specs.State.{ledger}
-use Rattle.rm_machine_code.proofs.BackingUpLogs.{CanRecord, after_copies, can-next, can-record, copy-fits, copy-sound, room-for, room-next, with_copy}
-use Rattle.rm_machine_code.proofs.Handing.{hands-by}
-use Rattle.rm_machine_code.proofs.Left.{HasRoom}
-use Rattle.rm_machine_code.proofs.Standing.{each-in}
+use Rattle.rm_machine.proofs.BackingUpLogs.{CanRecord, after_copies, can-next, can-record, copy-fits, copy-sound, room-for, room-next, with_copy}
+use Rattle.rm_machine.proofs.Handing.{hands-by}
+use Rattle.rm_machine.proofs.Left.{HasRoom}
+use Rattle.rm_machine.proofs.Standing.{each-in}
 use Rattle.rm_step_backup.specs.Logs.{AreRecorded, IsAll, IsRecorded}
 use Rattle.rm_step_backup.specs.declared.looking.Looked.{Looked}
 

@@ -10,7 +10,7 @@ use Rattle.rm_machine.specs.Sound.{IsSound}
 use Rattle.rm_machine.specs.State.{ledger}
 use Rattle.rm_machine.specs.declared.handed.Handed.{Handed}
 use Rattle.rm_machine.specs.declared.state.State.{State}
-use Rattle.rm_machine_code.proofs.Recording.{Stays, next-fits}
+use Rattle.rm_machine.proofs.Recording.{Stays, next-fits}
 use Rattle.rm_piece.specs.declared.set.Set.{Set}
 use Rattle.rm_report.specs.declared.line.Line.{Line}
 use Rattle.rm_step_backup.specs.Making.{FitsNext, after_entry, line_under, made_of, object_under, told_member}

@@ -1,23 +1,20 @@
 -- What a BACKUP's channels and writers made of the running database can be put back.
-use Rattle.std.proofs.Common.{◌≡◌, ◌≤◌, ℕ, List, [], ◌∷◌, Ok, Result, refl, arith, length, map}
+use Rattle.std.proofs.Common.{◌≡◌, ℕ, List, [], ◌∷◌, Ok, refl, arith, map}
 use Rattle.rm_base.specs.declared.block.Row.{Row}
-use Rattle.rm_channel.specs.Jobs.{Span, found, found_of, lists, whole, wrote_of}
-use Rattle.rm_channel.specs.Made.{AreThese, deed}
-use Rattle.rm_channel.specs.Runs.{work_told}
+use Rattle.rm_channel.specs.Jobs.{Span, found, found_of, lists, whole}
 use Rattle.rm_channel.specs.declared.jobs.CopyJob.{CopyJob}
 use Rattle.rm_channel.specs.declared.jobs.Work.{Work}
 use Rattle.rm_channel.specs.declared.jobs.WriteJob.{WriteJob}
 use Rattle.rm_channel.proofs.Mine.{total-append}
-use Rattle.rm_live.specs.declared.history.Event.{Event}
-use Rattle.rm_live.specs.declared.history.LiveFault.{LiveFault}
 use Rattle.rm_live.specs.Ruled.{total}
 use Rattle.rm_live.specs.Parts.{Parts}
 use Rattle.rm_machine.specs.Events.{after_events, opening}
-use Rattle.rm_machine.specs.Running.{CanFollow, HasRun, IsTakenOut, count_writes}
+use Rattle.rm_machine.specs.Running.{CanFollow, HasRun, IsTakenOut}
 use Rattle.rm_machine.specs.Sound.{IsSound}
 use Rattle.rm_machine.specs.declared.state.State.{State}
 use Rattle.rm_step_backup.specs.Running.{HasGone, HasRunLive}
-use Rattle.rm_machine_code.proofs.Ended.{is_once, once-events, once-wrote_of}
+use Rattle.rm_machine.proofs.Ended.{is_once}
+use Rattle.rm_machine.proofs.Ran.{has-run as ran}
 
 once-found : (f : ℕ) (bs : List ℕ) (rows : List Row) → total is_once (found f bs rows) ≡ 0
 once-found f [] rows = refl
@@ -30,23 +27,12 @@ once-found_of (s ∷ ss) [] = refl
 once-found_of (s ∷ ss) (rs ∷ rows) =
     omega (arith, total-append is_once (found s.file s.blocks rs) (found_of ss rows), once-found s.file s.blocks rs, once-found_of ss rows)
 
-pub few-writes : (jobs : List CopyJob) (writers : List (List WriteJob)) (w : Work) (es : List Event) → AreThese (work_told jobs writers w) (map deed es) → count_writes es ≤ total length writers
-few-writes jobs writers w es these =
-    let answers : List (List (Result ℕ LiveFault)) = map (map Ok) (lists w.scns.items) in
-    let both = total-append is_once (found_of (map whole jobs) (lists w.rows.items)) (wrote_of 1 writers answers) in
-    omega (arith, these.each_once is_once, once-events es, both, once-found_of (map whole jobs) (lists w.rows.items), once-wrote_of 1 writers answers)
-
 -- the database that they left is one that the state can have back, and then the state is the one that their events leave
 module _ (s : State) (jobs : List CopyJob) (writers : List (List WriteJob)) (sound : IsSound s) (follow : CanFollow s writers) (q : Parts) (w : Work) (gone : HasGone (opening s) jobs writers q w) where
   pub has-run : (t : State) → IsTakenOut s t → HasRun s gone.events t q
-  has-run t out = record {
-    sound = sound;
-    opened = follow.opened;
-    marked = λ some. follow.marked (omega (arith, some, few-writes jobs writers w gone.events gone.these));
-    legal = gone.legal;
-    left = gone.left;
-    out = out;
-  }
+  has-run =
+      ran s writers sound follow (found_of (map whole jobs) (lists w.rows.items)) (once-found_of (map whole jobs) (lists w.rows.items)) (map (map Ok) (lists w.scns.items)) gone.events gone.these
+      gone.legal q gone.left
 
   pub has-run-live : (u : State) → u ≡ after_events s gone.events → HasRunLive s jobs writers u w
   has-run-live u is = record { events = gone.events; legal = gone.legal; these = gone.these; rows = gone.rows; scns = gone.scns; state = is }

@@ -9,14 +9,14 @@ use Rattle.rm_machine.specs.Sound.{IsSound}
 use Rattle.rm_machine.specs.declared.job.Job.{Job}
 use Rattle.rm_machine.specs.declared.state.State.{State}
 use Rattle.rm_machine.specs.State.{placed}
-use Rattle.rm_machine_code.proofs.Backups.{IsTaken}
-use Rattle.rm_machine_code.proofs.BackingUp.{IsReadyToRead, jobs-ready}
+use Rattle.rm_machine.proofs.Backups.{IsTaken}
+use Rattle.rm_machine.proofs.BackingUp.{IsReadyToRead, jobs-ready}
 use Rattle.rm_machine.specs.Asked.{writers_of, writes_in}
 use Rattle.rm_machine.specs.Events.{opening}
 use Rattle.rm_machine.specs.BackupOutcome.{begun}
-use Rattle.rm_machine_code.proofs.BackupAccepted.{CanBackUp}
-use Rattle.rm_machine_code.proofs.BackupMarks.{marked-same}
-use Rattle.rm_machine_code.proofs.WritersRoom.{room-threads, room-writes}
+use Rattle.rm_machine.proofs.BackupAccepted.{CanBackUp}
+use Rattle.rm_machine.proofs.BackupMarks.{marked-same}
+use Rattle.rm_machine.proofs.WritersRoom.{room-threads, room-writes}
 use Rattle.rm_step_backup.specs.Copying.{Stands}
 
 -- the datafile of each job stands in place

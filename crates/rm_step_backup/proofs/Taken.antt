@@ -8,7 +8,7 @@ use Rattle.rm_history.specs.World.{blocks_of}
 use Rattle.rm_history.specs.declared.world.Datafile.{Datafile}
 use Rattle.rm_catalog_typed.specs.LedgerFacts.{IsCreated}
 use Rattle.rm_machine.specs.Backup.{is_taken, taken_from}
-use Rattle.rm_machine_code.proofs.Numbers.{blocks-at}
+use Rattle.rm_machine.proofs.Numbers.{blocks-at}
 use Rattle.rm_machine.specs.Sound.{IsSound}
 use Rattle.rm_machine.specs.declared.state.State.{State}
 use Rattle.rm_machine.specs.State.{ledger, placed, tree, world}

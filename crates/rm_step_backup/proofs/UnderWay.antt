@@ -11,7 +11,7 @@ use Rattle.rm_machine.specs.MadeObjects.{CanRecord, Packed, after_object, after_
 use Rattle.rm_machine.specs.Sound.{IsSound}
 use Rattle.rm_machine.specs.declared.handed.Handed.{Handed}
 use Rattle.rm_machine.specs.declared.state.State.{State}
-use Rattle.rm_machine_code.proofs.Recording.{Stays, can-next, next-sound, next-stays}
+use Rattle.rm_machine.proofs.Recording.{Stays, can-next, next-sound, next-stays}
 use Rattle.rm_step_backup.specs.Recorded.{HasRecorded}
 
 -- from the state s on all of these objects but the rest are recorded: the state is t

@@ -10,7 +10,8 @@ use rm_base::{FileNo, NoMemory};
 use rm_history::Datafile;
 use rm_lang_statement::BackupForm;
 use rm_machine::State;
-use rm_machine_code::facts::{exists, now, on_path, placed};
+use rm_machine::facts::{exists, now, on_path, placed};
+use rm_machine::room::sets_bytes;
 use std::alloc::Global;
 
 // Whether the backup asks for the datafile of this number.
@@ -80,10 +81,10 @@ pub(crate) fn object_bytes(state: &State, form: &BackupForm) -> u64
     ensures { result ≡ sum_by (object_bytes state.now form.now) (objects_of state.now form.now) }
 {
     let files = taken_count(state, form);
-    let rows = 76 * taken_blocks(state, form);
+    let blocks = taken_blocks(state, form);
     match form.files_per_set {
-        Some(_) => 57 * object_count(state, form) + 37 * files + rows,
-        None => 82 * files + rows,
+        Some(_) => sets_bytes(object_count(state, form), files, blocks),
+        None => 82 * files + 76 * blocks,
     }
 }
 

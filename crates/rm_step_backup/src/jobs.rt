@@ -11,8 +11,8 @@ use rm_backup::parent;
 use rm_base::{FileNo, NoMemory, Scn};
 use rm_catalog::Catalog as Records;
 use rm_lang_statement::BackupForm;
+use rm_machine::recorded::records_of;
 use rm_machine::{Job, State};
-use rm_machine_code::recorded::records_of;
 use std::alloc::Global;
 
 // Whether a level 1 is asked for.

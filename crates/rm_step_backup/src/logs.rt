@@ -8,27 +8,25 @@ ghost use Rattle.rm_machine.specs.Recovery.{skipped_lines};
 ghost use Rattle.rm_machine.specs.Sound.{IsSound};
 ghost use Rattle.rm_machine.specs.State.{ledger};
 ghost use Rattle.rm_machine.specs.Upkeep.{with_catalog};
-ghost use Rattle.rm_redo.specs.LogFormat.{IsLogFile, spelling};
+ghost use Rattle.rm_redo.specs.LogFormat.{IsLogFile};
 ghost use Rattle.rm_report.specs.Reply.{HasDate, IsPlain};
 ghost use Rattle.rm_report.specs.declared.line.Line.TheVariants.{NothingToBackUp};
 ghost use Rattle.rm_catalog_typed.specs.Changes.{EditsFollow, with_new_log};
 ghost use Rattle.rm_catalog_typed.specs.Fitting.{FitsNewLog};
 ghost use Rattle.rm_lang_statement.specs.declared.command.Command.TheVariants.{BackupLogs};
 ghost use Rattle.rm_step_backup.specs.Logs.{AreRecorded};
-ghost use Rattle.sha2.specs.Sha256.{sha256};
 
 use crate::looking::look;
-use rm_base::sealed::Encoded;
-use rm_base::{Bad, Limit, NoMemory, Refusal, Seq, Status, Store};
-use rm_catalog::{Edit, LogEntry};
+use rm_base::{Bad, Limit, NoMemory, Refusal, Seq, Store};
+use rm_catalog::Edit;
 use rm_commit::Object;
-use rm_evidence::log_name;
+use rm_evidence::{EvidenceFault, log_name};
+use rm_machine::recorded::log_entry;
+use rm_machine::replies::skipped_lines;
+use rm_machine::room::{lacks_bytes, lacks_ids, lacks_room};
 use rm_machine::{Handed, State};
-use rm_machine_code::replies::skipped_lines;
-use rm_machine_code::room::{lacks_bytes, lacks_ids, lacks_room};
 use rm_redo::{LogFile, encode_log_with_digest};
 use rm_report::Line;
-use rm_verify::VerifyFault;
 use std::alloc::Global;
 
 // The bytes of the log as a file: 70, and 80 for each record.
@@ -72,27 +70,6 @@ fn copies_refusal(state: &State, logs: &[(u32, LogFile)]) -> Option<Refusal>
     }
 }
 
-// The record of a backup of a log, whose object has these bytes and this digest.
-fn copy_entry(id: u32, log: &LogFile, encoded: &Encoded) -> LogEntry
-    requires bytes { encoded.now.bytes ≡ spelling log.now }
-    requires digest { encoded.now.digest ≡ sha256 (spelling log.now) }
-    ensures { result ≡ copy_entry (id, log.now) }
-{
-    LogEntry {
-        id,
-        archived: false,
-        inc: log.inc,
-        thread: log.thread,
-        sequence: log.sequence,
-        first: log.first,
-        next: log.next,
-        size: encoded.bytes.len() as u64,
-        sha: encoded.digest,
-        status: Status::Available,
-        keep: false,
-    }
-}
-
 // The line of a backup of a log.
 fn copy_line(id: u32, log: &LogFile) -> Line
     ensures { result ≡ copy_line (id, log.now) }
@@ -125,7 +102,7 @@ fn back_up(
 {
     let id = state.catalog.base().next_id;
     let encoded = encode_log_with_digest(alloc, log)?;
-    let entry = copy_entry(id, log, &encoded);
+    let entry = log_entry(id, false, log, &encoded);
     let object = Object {
         name: log_name(alloc, id)?,
         bytes: encoded.bytes,
@@ -185,7 +162,7 @@ pub fn backup_logs<D: Store>(
     state: &mut State,
     store: &mut D,
     edits: &mut Vec<Edit>,
-) -> Result<Result<Handed, Refusal>, VerifyFault>
+) -> Result<Result<Handed, Refusal>, EvidenceFault>
     requires sound { IsSound state.old }
     ensures hands { IfOk result (λ x. IfOk x (λ handed. Hands (D.held store.old) state.old BackupLogs handed state.new)) }
     ensures refuses { IfOk result (λ x. IfErr x (λ refusal. Refuses (D.held store.old) state.old BackupLogs refusal)) }
@@ -196,7 +173,7 @@ pub fn backup_logs<D: Store>(
     ensures dates { IfOk result (λ x. IfOk x (λ handed. All IsPlain handed.lines)) }
     ensures date { IfOk result (λ x. IfErr x HasDate) }
     ensures same { D.held store.new ≡ D.held store.old }
-    ensures store { IsErrOf result VerifyFault.StoreFault → Rose (D.faults store.old) (D.faults store.new) }
+    ensures store { IsErrOf result EvidenceFault.StoreFault → Rose (D.faults store.old) (D.faults store.new) }
     ensures never_falls { D.faults store.old ≤ D.faults store.new }
 {
     let looked = look(alloc, state, store)?;

@@ -8,10 +8,9 @@ ghost use Rattle.rm_step_backup.specs.Logs.{Adds, AreRecorded, IsAll, KeepsRecor
 
 use rm_base::{Bad, Seq, Status, Store};
 use rm_catalog::LogEntry;
-use rm_evidence::look_for_log;
+use rm_evidence::{EvidenceFault, look_for_log};
 use rm_machine::State;
 use rm_redo::LogFile;
-use rm_verify::VerifyFault;
 use std::alloc::Global;
 
 /// What the store has of them, ascending by the ids of their records.
@@ -35,11 +34,11 @@ fn look_at<D: Store>(
     store: &mut D,
     entry: &LogEntry,
     looked: &mut Looked,
-) -> Result<(), VerifyFault>
+) -> Result<(), EvidenceFault>
     ensures adds { OnOk result (IfSome (D.held store.old) (λ h. Adds h (entry.now ∷ []) looked.old looked.new)) }
     ensures recorded { OnOk result (KeepsRecords entry.now looked.old looked.new) }
     ensures same { D.held store.new ≡ D.held store.old }
-    ensures failed { IsErrOf result VerifyFault.StoreFault → Rose (D.faults store.old) (D.faults store.new) }
+    ensures failed { IsErrOf result EvidenceFault.StoreFault → Rose (D.faults store.old) (D.faults store.new) }
     ensures never_falls { D.faults store.old ≤ D.faults store.new }
 {
     if !counts(entry) {
@@ -58,12 +57,12 @@ pub(crate) fn look<D: Store>(
     alloc: Global,
     state: &State,
     store: &mut D,
-) -> Result<Looked, VerifyFault>
+) -> Result<Looked, EvidenceFault>
     requires sound { IsSound state.now }
     ensures all { IfOk result (λ all. IfSome (D.held store.old) (λ h. IsAll h (ledger state.now).logs all)) }
     ensures recorded { IfOk result (λ all. AreRecorded (ledger state.now).logs 65536 all.found) }
     ensures same { D.held store.new ≡ D.held store.old }
-    ensures failed { IsErrOf result VerifyFault.StoreFault → Rose (D.faults store.old) (D.faults store.new) }
+    ensures failed { IsErrOf result EvidenceFault.StoreFault → Rose (D.faults store.old) (D.faults store.new) }
     ensures never_falls { D.faults store.old ≤ D.faults store.new }
 {
     let mut looked = Looked {

@@ -4,8 +4,8 @@ ghost use Rattle.std.specs.Option.{option_copied};
 ghost use Rattle.rm_base.specs.Numbers.{last_moment};
 ghost use Rattle.rm_history.specs.World.{blocks_of};
 ghost use Rattle.rm_machine.specs.MadePieces.{piece_by};
-ghost use Rattle.rm_machine.specs.Backup.{IsTagBy, is_copy, kind_by, named_tag, piece_entry, rows_from, rows_in};
-ghost use Rattle.rm_machine.specs.Lists.{packing_by, shape_by};
+ghost use Rattle.rm_evidence.specs.Objects.{piece_entry};
+ghost use Rattle.rm_machine.specs.Backup.{IsTagBy, is_copy, kind_by, named_tag, rows_from, rows_in};
 ghost use Rattle.rm_machine.specs.Sound.{IsSound};
 ghost use Rattle.rm_machine.specs.State.{ledger, world};
 ghost use Rattle.rm_piece.specs.Spelling.{spelling};
@@ -20,10 +20,10 @@ use rm_base::sealed::Encoded;
 use rm_base::{FileNo, Kind, Moment, NoMemory, Row, Scn, Seq, Status, Text};
 use rm_catalog::PieceEntry;
 use rm_lang_statement::BackupForm;
+use rm_machine::facts::placed;
+use rm_machine::replies::{copied, packing_by, shape_by};
 use rm_machine::{Job, State};
-use rm_machine_code::facts::placed;
 use rm_piece::{Piece, encode_piece_with_digest, high_of, pick};
-use rm_report::{Packing, Shape};
 use std::alloc::Global;
 
 // What the backup makes of a datafile that begins here.
@@ -39,36 +39,11 @@ fn kind_by(form: &BackupForm, from: Option<Scn>) -> Kind
     }
 }
 
-/// The same, as it is told.
-pub(crate) fn shape_by(kind: Kind, from: Scn) -> Shape
-    ensures { result ≡ shape_by kind from }
-{
-    match kind {
-        Kind::Level0 => Shape::Level0,
-        Kind::Level1 => Shape::Level1 { from },
-        Kind::Full | Kind::Place => Shape::Full,
-    }
-}
-
-// How a piece is packed that is an image copy or not.
-fn packing_by(copy: bool) -> Packing
-    ensures { result ≡ packing_by copy }
-{
-    if copy { Packing::Copy } else { Packing::Piece }
-}
-
 /// Whether an image copy is made of a datafile, and not a piece.
 pub(crate) fn is_copy(form: &BackupForm, job: Job) -> bool
     ensures { result ≡ is_copy form.now job }
 {
     job.from.is_none() && (form.copy || form.merge_tag.is_some())
-}
-
-/// The same text.
-pub(crate) fn copied(alloc: Global, text: &Text) -> Result<Text, NoMemory>
-    ensures { IfOk result (λ copy. copy ≡ text.now) }
-{
-    Ok(Text::from_string(String::from_str(alloc, text.as_str())?))
 }
 
 // The tag that the backup names.

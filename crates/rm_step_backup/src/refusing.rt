@@ -11,12 +11,10 @@ use crate::datafiles::{lost_taken, object_bytes, object_count, takes};
 use rm_base::{Absent, BlockId, Limit, Refusal};
 use rm_lang_statement::BackupForm;
 use rm_machine::State;
-use rm_machine_code::during::{
-    absent_of, damaged_write, lacks_logs, lacks_scns, lost_of, marks_for,
-};
-use rm_machine_code::facts::on_path;
-use rm_machine_code::room::{lacks_bytes, lacks_ids, lacks_room};
-use rm_machine_code::writers::asked;
+use rm_machine::during::{absent_of, damaged_write, lacks_logs, lacks_scns, lost_of, marks_for};
+use rm_machine::facts::on_path;
+use rm_machine::room::{lacks_bytes, lacks_ids, lacks_room};
+use rm_machine::writers::asked;
 
 // The first datafile that the backup names and that is not on the current path.
 fn absent(state: &State, form: &BackupForm) -> Option<u64>

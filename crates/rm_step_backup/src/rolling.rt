@@ -27,10 +27,10 @@ use rm_catalog::{BaseEntry, Edit};
 use rm_commit::Object;
 use rm_evidence::roll_name;
 use rm_lang_statement::BackupForm;
+use rm_machine::facts::now;
 use rm_machine::handed::of_line;
+use rm_machine::room::{lacks_bytes, lacks_ids, sets_bytes};
 use rm_machine::{Handed, Job, State};
-use rm_machine_code::facts::now;
-use rm_machine_code::room::{lacks_bytes, lacks_ids};
 use rm_piece::{Set, SetFile, encode_set};
 use rm_report::Line;
 use std::alloc::Global;
@@ -52,12 +52,12 @@ fn of_all() -> BackupForm
     }
 }
 
-// What a set of the datafiles counts as: 57 bytes, 37 for each of them, and 76 for each of their blocks.
+// What a set of the datafiles counts as.
 fn set_bytes(state: &State, form: &BackupForm) -> u64
     requires sound { IsSound state.now }
     ensures { result ≡ set_bytes (world state.now) (taken state.now form.now) }
 {
-    57 + 37 * taken_count(state, form) + 76 * taken_blocks(state, form)
+    sets_bytes(1, taken_count(state, form), taken_blocks(state, form))
 }
 
 // Why the set can't be made of datafiles that are in place.

@@ -14,7 +14,7 @@ use rm_catalog::Edit;
 use rm_channel::{CopyJob, Gate, Work, WriteJob, copy_during};
 use rm_live::{Database, Live};
 use rm_machine::State;
-use rm_machine_code::running::{put_back, take_out};
+use rm_machine::running::{put_back, take_out};
 use std::alloc::Global;
 use std::sync::Wait;
 use std::thread::Threads;

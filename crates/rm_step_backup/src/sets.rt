@@ -12,12 +12,13 @@ ghost use Rattle.rm_step_backup.specs.declared.reading.Read.TheVariants.{OfSever
 ghost use Rattle.sha2.specs.Sha256.{sha256};
 
 use crate::making::{Entry, Made, Told};
-use crate::pieces::{copied, piece_of, shape_by};
+use crate::pieces::piece_of;
 use crate::reading::FileRead;
 use rm_base::sealed::Encoded;
 use rm_base::{FileNo, NoMemory, Row, Scn, Seq, Status, Text};
 use rm_catalog::{SetEntry, SetPart};
 use rm_lang_statement::BackupForm;
+use rm_machine::replies::{copied, shape_by};
 use rm_machine::{Job, State};
 use rm_piece::{Set, SetFile, count_written, encode_set_with_digest, risen_rows};
 use rm_report::Packing;

@@ -1,13 +1,10 @@
 -- Whatever the store tells: a copy that changed can be recorded, since what it was made of has the fields of its records.
-use Rattle.std.proofs.Common.{◌≡◌, ◌≢◌, ◌==◌, ◌<◌, ◌≤◌, ◌-◌, ◌∙◌, inl, inr, ℕ, List, Option, Some, None, Bool, true, false, refl, ap, sym, subst, arith, get_or, length, slice_get, All, AllPairs, Contains}
+use Rattle.std.proofs.Common.{◌≡◌, ◌≢◌, ◌==◌, ◌<◌, ◌≤◌, ◌-◌, ◌∙◌, inl, inr, ℕ, List, Option, Some, None, Bool, true, refl, ap, sym, subst, arith, length, slice_get, All, Contains}
 use Rattle.std.specs.Prelude.{IfSome, IsSomeAnd, option_and_then}
 use Rattle.std.specs.Option.{option_map}
 use Rattle.std.proofs.lemmas.Bool.{eqb-true}
-use Rattle.std.proofs.lemmas.List.{get_or-map, length-map}
-use Rattle.std.proofs.lemmas.List.Elements.{All-contains, Contains-get_or}
+use Rattle.std.proofs.lemmas.List.Elements.{All-contains}
 use Rattle.std.proofs.lemmas.Option.{same_Some}
-use Rattle.rm_base.specs.declared.kinds.Kind.{Kind}
-use Rattle.rm_base.specs.declared.kinds.Kind.TheVariants.{Full, Level0, Level1, Place}
 use Rattle.rm_base.proofs.Keyed.{same_item}
 use Rattle.rm_base.proofs.Lists.{find_cases}
 use Rattle.rm_base.proofs.Sealing.{length-sealed}
@@ -21,7 +18,7 @@ use Rattle.rm_catalog.specs.declared.record.Record.{Record}
 use Rattle.rm_catalog.specs.declared.record.Record.TheVariants as kind
 use Rattle.rm_catalog.specs.declared.record.SetEntry.{SetEntry}
 use Rattle.rm_catalog.specs.Keys.{piece_in, place, place_of}
-use Rattle.rm_catalog.specs.Objects.{FitsKind, FitsRows, IsTag}
+use Rattle.rm_catalog.specs.Objects.{IsTag}
 use Rattle.rm_catalog.specs.Trees.{nodes}
 use Rattle.rm_evidence.specs.declared.evidence.Evidence.{Evidence}
 use Rattle.rm_evidence.specs.Known.{AreRecorded, FitsPiece, FitsTree, IsPartOf, IsRecorded}
@@ -30,7 +27,7 @@ use Rattle.rm_history.specs.Tree.{IsThere, IsTree, end_of, owner}
 use Rattle.rm_history.proofs.Highs.{high-least}
 use Rattle.rm_catalog_typed.specs.LedgerFacts.{IsPieceEntry, IsSetEntry, IsSetPart}
 use Rattle.rm_merge.specs.Merge.{merged}
-use Rattle.rm_evidence.specs.Objects.{HasPieceFields}
+use Rattle.rm_evidence.specs.Objects.{HasPieceFields, piece_entry}
 use Rattle.rm_evidence.proofs.DatabaseWorlds.{is-tree}
 use Rattle.rm_piece.specs.declared.piece.Piece.{Piece}
 use Rattle.rm_piece.specs.Spelling.{body_of}
@@ -41,29 +38,16 @@ use Rattle.rm_catalog_typed.specs.TypedCatalog.{records_of}
 use Rattle.rm_catalog_typed.proofs.Lookups.{piece-id-within}
 use Rattle.rm_catalog_typed.proofs.Members.{piece-in, set-in}
 use Rattle.rm_catalog_typed.proofs.Valid.{typed_catalog-valid}
-use Rattle.rm_machine.specs.Backup.{piece_entry}
 use Rattle.rm_machine.specs.RecoverCopy.{AreRenewed}
 use Rattle.rm_machine.specs.Sound.{IsSound}
 use Rattle.rm_machine.specs.declared.state.State.{State}
 use Rattle.rm_machine.specs.State.{ledger, tree}
-use Rattle.rm_machine_code.proofs.Standing.{each-in}
+use Rattle.rm_machine.proofs.Standing.{each-in}
 use Rattle.rm_step_copies.specs.Fit.{AreFit, CanRecord, IsFit, IsShort}
-use Rattle.rm_machine_code.proofs.Merges.{EndsIn, IsLast, KeepsOn, last-merge, reached-keeps}
+use Rattle.rm_machine.proofs.Merges.{EndsIn, IsLast, KeepsOn, last-merge, reached-keeps}
+use Rattle.rm_machine.proofs.Renewing.{copy-kind, renewed-apart}
+use Rattle.rm_machine.proofs.Restoring.{entry-rows}
 use Rattle.rm_catalog_typed.proofs.Records.{database-told, pieces-told, tree-told}
-
--- an image copy is no level 1
-copy-kind : (k : Kind) (p : PieceEntry) → FitsKind k p → p.copy ≡ true → k ≢ Level1
-copy-kind Level1 p is copy same = let clash : false ≡ true = sym is.0 ∙ copy in absurd (cc)
-copy-kind Full p is copy same = absurd (cc)
-copy-kind Level0 p is copy same = absurd (cc)
-copy-kind Place p is copy same = absurd is
-
--- and so it has all blocks
-all-rows : (k : Kind) (n m : ℕ) → k ≢ Level1 → FitsRows k n m → n ≡ m
-all-rows Level1 n m other is = absurd (other refl)
-all-rows Full n m other is = is
-all-rows Level0 n m other is = is
-all-rows Place n m other is = is
 
 -- a copy that is found is one of those at hand, with this id
 copy-held : (bases : List (ℕ × Piece)) (id : ℕ) (a : Piece) → copy_at bases id ≡ Some a → Contains bases (id, a)
@@ -189,7 +173,7 @@ module _ (s : State) (e : Evidence) (sound : IsSound s) (fits : FitsTree (tree s
             datafile = d;
             is = subst (λ k. slice_get (ledger s).files (k - 1) ≡ Some d) (sym file-is) first.file.is;
             path = ap (λ i. owner (tree s) i d.creation) inc ∙ coe 0 1 (i. owner (tree s) own.entry.inc (one-datafile i).creation ≡ (one-datafile i).inc) rule.file.path;
-            rows = keeps.rows ∙ fields.rows ∙ all-rows p.kind p.rows d.blocks (copy-kind p.kind p first.kind copy) first.file.rows;
+            rows = keeps.rows ∙ fields.rows ∙ entry-rows p.kind p.rows d.blocks (copy-kind p.kind p first.kind copy) first.file.rows;
           };
           checkpoint = (valid.checkpoint.0, high-least a.checkpoint a.rows);
           high = keeps.high;
@@ -220,23 +204,8 @@ module _ (s : State) (e : Evidence) (sound : IsSound s) (fits : FitsTree (tree s
           changed = merges-fit tag at x.0 is.copy (copy_at e.bases is.copy.id) x.1.merged has is.taken.passes.copy is.taken.passes.is refl is.merged;
         }
 
-    -- copies of two datafiles have two records
-    renewed-apart : (xs : List (ℕ × Renewed)) → AreRenewed s e tag at xs → AllPairs (λ x y. x.1.id ≢ y.1.id) xs
-    renewed-apart xs are i j d less inside same =
-        let x : ℕ × Renewed = get_or xs i d in
-        let y : ℕ × Renewed = get_or xs j d in
-        let before : i < length xs = omega (arith, less, inside) in
-        let first = are.each x (Contains-get_or xs i d before) in
-        let second = are.each y (Contains-get_or xs j d inside) in
-        let one = same_item (λ (p : PieceEntry). p.id) (ledger s).pieces sound.catalog.ledger.ids.pieces_ascend first.copy second.copy (taken-in first.copy first.taken.held) (taken-in second.copy second.taken.held) (sym first.id ∙ same ∙ second.id) in
-        let files : x.0 ≡ y.0 = sym first.taken.passes.on.file ∙ ap (λ (p : PieceEntry). p.file) one ∙ second.taken.passes.on.file in
-        let up = are.exact.ascends i j d.0 less (omega (arith, length-map xs (λ (z : ℕ × Renewed). z.0), inside)) in
-        let low = get_or-map (λ (z : ℕ × Renewed). z.0) xs i d d.0 before in
-        let high = get_or-map (λ (z : ℕ × Renewed). z.0) xs j d d.0 inside in
-        absurd (omega (arith, up, low, high, files))
-
     pub all-fit : (xs : List (ℕ × Renewed)) → AreRenewed s e tag at xs → AreFit s tag xs
-    all-fit xs are = record { each = each-in (IsFit s tag) xs (λ x has. renewed-fit x (are.each x has)); apart = renewed-apart xs are }
+    all-fit xs are = record { each = each-in (IsFit s tag) xs (λ x has. renewed-fit x (are.each x has)); apart = renewed-apart s e tag at xs sound are }
 
 -- a copy that can be recorded is short
 short-by : (s : State) (tag : List ℕ) (o : Option Piece) → IfSome o (CanRecord s tag) → IfSome o (λ last. length last.rows ≤ 65536)

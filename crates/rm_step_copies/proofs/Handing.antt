@@ -27,8 +27,8 @@ use Rattle.rm_machine.specs.Until.{nowhere_refusal, or_else, refusal_at, target_
 use Rattle.rm_machine.specs.declared.handed.Handed.{Handed}
 use Rattle.rm_machine.specs.declared.state.State.{State}
 use Rattle.rm_machine.specs.State.{ledger}
-use Rattle.rm_machine_code.proofs.Handing.{hands-by}
-use Rattle.rm_machine_code.proofs.Untils.{second-none}
+use Rattle.rm_machine.proofs.Handing.{hands-by}
+use Rattle.rm_machine.proofs.Untils.{second-none}
 use Rattle.rm_step_copies.specs.Skipped.{is_of_copies}
 use Rattle.rm_step_copies.proofs.Skipped.{skipped-of}
 

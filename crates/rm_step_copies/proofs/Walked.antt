@@ -15,7 +15,7 @@ use Rattle.rm_history.specs.World.{exists, file_of}
 use Rattle.rm_machine.specs.RecoverCopy.{AreRenewed, HasTaken}
 use Rattle.rm_machine.specs.declared.state.State.{State}
 use Rattle.rm_machine.specs.State.{current_of, ledger, now_of, world}
-use Rattle.rm_machine_code.proofs.Numbers.{file-place}
+use Rattle.rm_machine.proofs.Numbers.{file-place}
 use Rattle.rm_catalog_typed.specs.TypedCatalog.{records_of}
 
 -- the number of a copy's datafile

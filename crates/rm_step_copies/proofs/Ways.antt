@@ -1,10 +1,7 @@
 -- RECOVER COPY under way: some copies are renewed, and the rest lead on from there.
-use Rattle.std.proofs.Common.{◌≡◌, ◌≤◌, ◌<◌, ◌+◌, ◌∙◌, ◌++◌, ℕ, suc, List, ◌∷◌, Option, None, Some, refl, ap, sym, subst, arith, append_assoc, drop-cons, drop, get_or, length, sum_by, All}
+use Rattle.std.proofs.Common.{◌≡◌, ◌≤◌, ◌<◌, ◌+◌, ◌∙◌, ◌++◌, ℕ, suc, List, ◌∷◌, Option, None, Some, refl, ap, sym, subst, arith, append_assoc, drop-cons, drop, get_or, length, All}
 use Rattle.std.specs.Prelude.{IfSome}
 use Rattle.std.proofs.lemmas.List.Elements.{All-contains, All-head, All-tail}
-use Rattle.rm_base.specs.declared.refusal.Limit.TheVariants.{Bytes, ObjectIds}
-use Rattle.rm_base.specs.declared.refusal.Refusal.TheVariants.{Rm11}
-use Rattle.rm_base.proofs.Conditions.{unless}
 use Rattle.rm_backup.specs.declared.renewing.Renewed.{Renewed}
 use Rattle.rm_catalog.specs.declared.record.Edit.{Edit}
 use Rattle.rm_commit.specs.declared.commit.Object.{Object}
@@ -15,16 +12,14 @@ use Rattle.rm_catalog_typed.specs.Changes.{EditsFollow}
 use Rattle.rm_catalog_typed.specs.Fitting.{HasId}
 use Rattle.rm_catalog_typed.proofs.Changed.{follows-then}
 use Rattle.rm_catalog_typed.proofs.Lookups.{piece-id-within}
-use Rattle.rm_machine.specs.Marks.{lacks_bytes, lacks_ids}
-use Rattle.rm_machine.specs.RecoverCopy.{after_copies, after_copy, changed, copies_gone, copies_lines, copies_put, copy_bytes, renewed_lines, renewed_name, renewed_object, renewed_refusal}
+use Rattle.rm_machine.specs.RecoverCopy.{after_copies, after_copy, changed, copies_gone, copies_lines, copies_put, renewed_lines, renewed_name, renewed_object, renewed_refusal}
 use Rattle.rm_machine.specs.Sound.{IsSound}
 use Rattle.rm_machine.specs.declared.handed.Handed.{Handed}
 use Rattle.rm_machine.specs.declared.state.State.{State}
 use Rattle.rm_machine.specs.State.{ledger}
-use Rattle.rm_machine_code.proofs.Standing.{each-in}
-use Rattle.rm_machine_code.proofs.Switching.{not-above}
+use Rattle.rm_machine.proofs.Standing.{each-in}
 use Rattle.rm_step_copies.specs.Fit.{AreFit, CanPut, CanRecord, IsFit}
-use Rattle.rm_machine_code.proofs.Renewing.{CanRenewAll, CanRenewTo, drawn, first-can, first-room, fits as renew-fits, rest-can, sound-to}
+use Rattle.rm_machine.proofs.Renewing.{CanRenewAll, CanRenewTo, drawn, first-can, first-room, fits as renew-fits, ids-left, rest-can, sound-to}
 
 -- those from place k on
 rest-at : (xs : List (ℕ × Renewed)) (k : ℕ) (one : ℕ × Renewed) → k < length xs → one ≡ get_or xs k one → drop k xs ≡ one ∷ drop (k + 1) xs
@@ -55,13 +50,6 @@ can-to s tag n (Some last) there can = record { entry = can.entry; old = there.0
 valid-to : (s : State) (tag : List ℕ) (o : Option Piece) → IfSome o (CanRecord s tag) → IfSome o IsPiece
 valid-to s tag None can = tt
 valid-to s tag (Some last) can = can.valid
-
--- the ids of those that changed are left
-pub ids-left : (s : State) (xs : List (ℕ × Renewed)) → renewed_refusal s xs ≡ None → (ledger s).base.next_id + length (changed xs) + 68 ≤ 4294967295
-ids-left s xs is =
-    let bytes = unless (lacks_bytes s (sum_by copy_bytes xs)) (Rm11 Bytes) _ is in
-    let ids = unless (lacks_ids s (length (changed xs))) (Rm11 ObjectIds) None bytes.1 in
-    not-above 4294967295 ((ledger s).base.next_id + length (changed xs) + 68) ids.0
 
 -- none is renewed at first
 pub way-start : (s : State) (tag : List ℕ) (xs : List (ℕ × Renewed)) (edits : List Edit) (x : Handed) → IsSound s → AreFit s tag xs → renewed_refusal s xs ≡ None → IsUnderWay s tag xs xs edits edits x x s

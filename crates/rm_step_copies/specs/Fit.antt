@@ -6,7 +6,7 @@ use Rattle.rm_piece.specs.declared.piece.Piece.{Piece}
 use Rattle.rm_piece.specs.Valid.{IsPiece}
 use Rattle.rm_catalog_typed.specs.Changes.{without_piece}
 use Rattle.rm_catalog_typed.specs.Fitting.{FitsNewPiece, HasId}
-use Rattle.rm_machine.specs.Backup.{piece_entry}
+use Rattle.rm_evidence.specs.Objects.{piece_entry}
 use Rattle.rm_machine.specs.RecoverCopy.{renewed_entry}
 use Rattle.rm_machine.specs.declared.state.State.{State}
 use Rattle.rm_machine.specs.State.{ledger, tree}

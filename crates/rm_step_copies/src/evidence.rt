@@ -8,9 +8,9 @@ ghost use Rattle.rm_machine.specs.State.{tree};
 ghost use Rattle.rm_catalog_typed.specs.TypedCatalog.{records_of};
 
 use rm_base::Store;
-use rm_evidence::{Evidence, EvidenceFault, gather_by};
+use rm_catalog::Catalog;
+use rm_evidence::{Evidence, EvidenceFault, InPlace, gather_by};
 use rm_machine::State;
-use rm_machine_code::hand::AtHand;
 use std::alloc::Global;
 use std::thread::Threads;
 
@@ -21,11 +21,12 @@ pub(crate) fn evidence_of<R: Threads + Sync, D: Store>(
     channels: u32,
     state: &State,
     store: &mut D,
-    hand: &AtHand,
+    records: &Catalog,
+    place: InPlace,
 ) -> Result<Evidence, EvidenceFault>
     requires sound { IsSound state.now }
-    requires records { hand.now.records ≡ records_of state.now.catalog }
-    requires place { hand.now.place ≡ in_place state.now }
+    requires records { records.now ≡ records_of state.now.catalog }
+    requires place { place ≡ in_place state.now }
     ensures at_hand { IfOk result (λ e. IfSome (D.held store.old) (λ h. IsAtHand state.now h e)) }
     ensures fits { IfOk result (λ e. FitsTree (tree state.now) e) }
     ensures recorded { IfOk result (λ e. AreRecorded (records_of state.now.catalog) e) }
@@ -34,5 +35,5 @@ pub(crate) fn evidence_of<R: Threads + Sync, D: Store>(
     ensures failed { IsErrOf result EvidenceFault.StoreFault → Rose (D.faults store.old) (D.faults store.new) }
     ensures never_falls { D.faults store.old ≤ D.faults store.new }
 {
-    gather_by(rt, alloc, &hand.records, store, &hand.place, channels)
+    gather_by(rt, alloc, records, store, place, channels)
 }

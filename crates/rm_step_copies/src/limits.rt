@@ -7,7 +7,7 @@ ghost use Rattle.rm_step_copies.specs.Fit.{IsShort};
 use rm_backup::Renewed;
 use rm_base::{FileNo, Limit, Refusal};
 use rm_machine::State;
-use rm_machine_code::room::{lacks_bytes, lacks_ids};
+use rm_machine::room::{lacks_bytes, lacks_ids};
 
 // The bytes of the copy: 82, and 76 for each row; 0 where it stays.
 fn copy_bytes(copy: &(FileNo, Renewed)) -> u64

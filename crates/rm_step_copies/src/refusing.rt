@@ -9,8 +9,8 @@ use rm_base::{NoMemory, Refusal, Scn, Status, Text, Unknown};
 use rm_catalog::PieceEntry;
 use rm_lang_statement::Until;
 use rm_machine::State;
-use rm_machine_code::room::ids_refusal;
-use rm_machine_code::until::{nowhere_refusal, range_refusal, recover_target, thread_refusal};
+use rm_machine::room::ids_refusal;
+use rm_machine::until::{nowhere_refusal, range_refusal, recover_target, thread_refusal};
 use std::alloc::Global;
 
 // Whether the record is one of an image copy with the tag that counts as available.

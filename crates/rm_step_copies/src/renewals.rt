@@ -12,7 +12,7 @@ use rm_base::{FileNo, NoMemory, Scn};
 use rm_catalog::Catalog;
 use rm_evidence::Evidence;
 use rm_machine::State;
-use rm_machine_code::facts::on_path;
+use rm_machine::facts::on_path;
 use std::alloc::Global;
 
 // What becomes of the copy of a datafile. None where the datafile is not on the current path, or no copy is taken.

@@ -1,10 +1,10 @@
 //! A changed copy, its record, its object and its lines.
 ghost use Rattle.std.specs.Prelude.{◌≡◌, ◌≤◌, ◌∷◌, ◌++◌, [], IfOk, IfSome, None, OnOk, map, true};
-ghost use Rattle.rm_machine.specs.Backup.{piece_entry};
 ghost use Rattle.rm_machine.specs.RecoverCopy.{after_copies, after_copy, copies_gone, copies_lines, copies_put, is_kept, renewed_entry, renewed_line, renewed_lines, renewed_name, renewed_object, renewed_refusal};
 ghost use Rattle.rm_machine.specs.Sound.{IsSound};
 ghost use Rattle.rm_machine.specs.State.{ledger};
 ghost use Rattle.rm_evidence.specs.Names.{piece_name};
+ghost use Rattle.rm_evidence.specs.Objects.{piece_entry};
 ghost use Rattle.rm_piece.specs.Spelling.{spelling};
 ghost use Rattle.rm_piece.specs.Valid.{IsPiece};
 ghost use Rattle.rm_report.specs.declared.line.Line.TheVariants.{StartsAbove};

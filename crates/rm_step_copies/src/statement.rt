@@ -18,10 +18,10 @@ use rm_base::{Refusal, Seq, Store};
 use rm_catalog::Edit;
 use rm_evidence::EvidenceFault;
 use rm_lang_statement::Until;
+use rm_machine::hand::{AtHand, at_hand};
+use rm_machine::replies::skipped_lines;
+use rm_machine::until::recover_target;
 use rm_machine::{Handed, State};
-use rm_machine_code::hand::at_hand;
-use rm_machine_code::replies::skipped_lines;
-use rm_machine_code::until::recover_target;
 use std::alloc::Global;
 use std::thread::Threads;
 
@@ -60,8 +60,9 @@ pub fn recover_copy<R: Threads + Sync, D: Store>(
         unreachable!()
     };
     let hand = at_hand(alloc, state)?;
-    let evidence = evidence_of(rt, alloc, channels, state, store, &hand)?;
-    let made = renewals(alloc, state, &hand.records, &evidence, tag, at)?;
+    let AtHand { records, place } = hand;
+    let evidence = evidence_of(rt, alloc, channels, state, store, &records, place)?;
+    let made = renewals(alloc, state, &records, &evidence, tag, at)?;
     let copies = made.as_slice();
     if let Some(refusal) = renewed_refusal(state, copies) {
         return Ok(Err(refusal));

@@ -11,7 +11,7 @@ use Rattle.rm_machine.specs.Effect.{done, refused}
 use Rattle.rm_machine.specs.Hands.{Hands}
 use Rattle.rm_machine.specs.declared.handed.Handed.{Handed}
 use Rattle.rm_machine.specs.declared.state.State.{State}
-use Rattle.rm_machine_code.proofs.Handing.{hands-by}
+use Rattle.rm_machine.proofs.Handing.{hands-by}
 
 -- what a store that tells has under a name is what it gave
 abbrev pub HasThere : Option Held → List ℕ → Option (List ℕ) → Type 0

@@ -11,11 +11,11 @@ ghost use Rattle.rm_machine.specs.Sound.{IsSound};
 
 use rm_base::{Absent, Block, BlockId, BlockNo, FileNo, NoMemory, Refusal, Row, Seq};
 use rm_blocks::DataFile;
+use rm_machine::damage::{is_damaged, with_block};
+use rm_machine::facts::{on_path, placed, placed_row};
 use rm_machine::handed::of_line;
+use rm_machine::room::ids_refusal;
 use rm_machine::{Handed, State};
-use rm_machine_code::damage::{is_damaged, with_block};
-use rm_machine_code::facts::{on_path, placed, placed_row};
-use rm_machine_code::room::ids_refusal;
 use rm_report::Line;
 use std::alloc::Global;
 use std::mem;

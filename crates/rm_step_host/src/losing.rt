@@ -9,11 +9,11 @@ ghost use Rattle.rm_machine.specs.Sound.{IsSound};
 ghost use Rattle.rm_redo.specs.Online.{IsThread};
 
 use rm_base::{Absent, BlockId, FileNo, NoMemory, Refusal, Seq, ThreadNo};
+use rm_machine::facts::{is_thread, now, on_path};
 use rm_machine::handed::of_line;
+use rm_machine::mounts::become_mounted;
+use rm_machine::room::ids_refusal;
 use rm_machine::{Handed, State};
-use rm_machine_code::facts::{is_thread, now, on_path};
-use rm_machine_code::mounts::become_mounted;
-use rm_machine_code::room::ids_refusal;
 use rm_report::Line;
 use std::alloc::Global;
 use std::mem;

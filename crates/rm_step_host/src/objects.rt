@@ -12,29 +12,23 @@ ghost use Rattle.rm_report.specs.Reply.{HasDate, IsPlain};
 use rm_base::{NoMemory, Refusal, Seq, Store, Text, Unknown};
 use rm_commit::{Object, Stop};
 use rm_machine::handed::of_line;
+use rm_machine::replies::copied;
 use rm_machine::{Handed, State};
 use rm_report::Line;
 use std::alloc::Global;
-
-// An equal name.
-fn copy(alloc: Global, name: &Text) -> Result<Text, NoMemory>
-    ensures { IfOk result (λ t. t ≡ name.now) }
-{
-    Ok(Text::from_string(String::from_str(alloc, name.as_str())?))
-}
 
 // No object has the name.
 fn no_object(alloc: Global, name: &Text) -> Result<Refusal, NoMemory>
     ensures { IfOk result (λ r. r ≡ refusal.Rm12 (NoObject name.now)) }
 {
-    Ok(Refusal::Rm12(Unknown::Object(copy(alloc, name)?)))
+    Ok(Refusal::Rm12(Unknown::Object(copied(alloc, name)?)))
 }
 
 // The object has no byte at the position.
 fn no_byte(alloc: Global, at: u64, name: &Text) -> Result<Refusal, NoMemory>
     ensures { IfOk result (λ r. r ≡ refusal.Rm12 (Byte at name.now)) }
 {
-    let name = copy(alloc, name)?;
+    let name = copied(alloc, name)?;
     Ok(Refusal::Rm12(Unknown::Byte { at, name }))
 }
 
@@ -44,7 +38,7 @@ fn put(alloc: Global, line: Line, name: &Text, bytes: Seq<u8>) -> Result<Handed,
     ensures objects { IfOk result (λ x. x.objects ≡ record { name = name.now; bytes = bytes } ∷ []) }
     ensures removes { IfOk result (λ x. x.removes ≡ []) }
 {
-    let name = copy(alloc, name)?;
+    let name = copied(alloc, name)?;
     let mut handed = of_line(alloc, line)?;
     handed.objects.push(Object { name, bytes })?;
     Ok(handed)
@@ -71,7 +65,7 @@ pub fn remove<D: Store>(
         return Ok(Err(no_object(alloc, name)?));
     }
     let mut handed = of_line(alloc, Line::Removed)?;
-    handed.removes.push(copy(alloc, name)?)?;
+    handed.removes.push(copied(alloc, name)?)?;
     Ok(Ok(handed))
 }
 
@@ -173,10 +167,10 @@ pub fn rename<D: Store>(
         return Ok(Err(no_object(alloc, old)?));
     };
     if store.get(new_name.as_str())?.is_some() {
-        let name = copy(alloc, new_name)?;
+        let name = copied(alloc, new_name)?;
         return Ok(Err(Refusal::Rm13 { name }));
     }
     let mut handed = put(alloc, Line::Renamed, new_name, bytes)?;
-    handed.removes.push(copy(alloc, old)?)?;
+    handed.removes.push(copied(alloc, old)?)?;
     Ok(Ok(handed))
 }

@@ -17,7 +17,7 @@ use Rattle.rm_machine.specs.declared.state.State.{State}
 use Rattle.rm_machine.specs.State.{online}
 use Rattle.rm_machine.specs.Sound.{IsSound}
 use Rattle.rm_machine.specs.SwitchLogfile.{archived, is_due, made_lines, none_lines, with_archived}
-use Rattle.rm_machine_code.proofs.Archives.{HasRoom, next-room, room-accepted, sound-thread}
+use Rattle.rm_machine.proofs.Archives.{HasRoom, next-room, room-accepted, sound-thread}
 
 -- what archiving has before it, or has reached
 pub record Reached : Type 0 where

@@ -19,11 +19,11 @@ use Rattle.rm_machine.specs.SwitchLogfile.{is_due}
 use Rattle.rm_machine.specs.declared.state.Instance.{Instance}
 use Rattle.rm_machine.specs.declared.state.State.{State}
 use Rattle.rm_machine.specs.State.{is_lost, is_online, ledger, now_of, online, redo_end, tree}
-use Rattle.rm_machine_code.proofs.Archives.{thread-either}
-use Rattle.rm_machine_code.proofs.Disabling.{IsAccepted, accepted, after-due, can-archive, can-disable, now-after, runs-after}
-use Rattle.rm_machine_code.proofs.Further.{redo-now}
-use Rattle.rm_machine_code.proofs.Switching.{begun-after, not-above}
-use Rattle.rm_machine_code.proofs.Threads.{thread-in}
+use Rattle.rm_machine.proofs.Archives.{thread-either}
+use Rattle.rm_machine.proofs.Disabling.{IsAccepted, accepted, after-due, can-archive, can-disable, now-after, runs-after}
+use Rattle.rm_machine.proofs.Further.{redo-now}
+use Rattle.rm_machine.proofs.Switching.{begun-after, not-above}
+use Rattle.rm_machine.proofs.Threads.{thread-in}
 
 -- the log of the thread can be closed there, and nothing is left to archive
 pub record CanClose (logs : Logs) (t scn : ℕ) : Type 0 where

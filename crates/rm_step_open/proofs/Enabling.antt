@@ -12,7 +12,7 @@ use Rattle.rm_machine.specs.Sound.{IsSound}
 use Rattle.rm_machine.specs.declared.state.Instance.{Instance}
 use Rattle.rm_machine.specs.declared.state.State.{State}
 use Rattle.rm_machine.specs.State.{current_of}
-use Rattle.rm_machine_code.proofs.Enabling.{can-enable}
+use Rattle.rm_machine.proofs.Enabling.{can-enable}
 
 -- an empty log of the thread can begin where the switch says
 pub record CanBegin (logs : Logs) (t : ℕ) (x : ThreadSwitch) : Type 0 where

@@ -1,4 +1,3 @@
-pub mod Accepted
 pub mod Archiving
 pub mod Disabling
 pub mod Enabling

@@ -12,9 +12,9 @@ use Rattle.rm_machine.specs.Marks.{lacks_bytes, lacks_ids, lacks_room}
 use Rattle.rm_machine.specs.declared.state.State.{State}
 use Rattle.rm_machine.specs.State.{ledger}
 use Rattle.rm_machine.specs.SwitchLogfile.{is_due}
-use Rattle.rm_machine_code.proofs.Archives.{HasRoom, can-thread, room-one}
-use Rattle.rm_machine_code.proofs.Switching.{CanArchive, due-parts}
-use Rattle.rm_machine_code.proofs.Further.{roomy-either}
+use Rattle.rm_machine.proofs.Archives.{HasRoom, can-thread, room-one}
+use Rattle.rm_machine.proofs.Switching.{CanArchive, due-parts}
+use Rattle.rm_machine.proofs.Further.{roomy-either}
 use Rattle.rm_step_open.specs.Space.{HasSpace}
 
 pub space-can : (s : State) (t : ℕ) → CanArchive s t → HasSpace s t

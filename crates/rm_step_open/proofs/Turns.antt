@@ -9,7 +9,7 @@ use Rattle.rm_machine.specs.DisableThread.{lacks_sequence}
 use Rattle.rm_machine.specs.declared.state.State.{State}
 use Rattle.rm_machine.specs.State.{is_online, redo_end}
 use Rattle.rm_machine.specs.SwitchLogfile.{is_due, log_bytes, with_archived}
-use Rattle.rm_machine_code.proofs.Archives.{thread-either}
+use Rattle.rm_machine.proofs.Archives.{thread-either}
 
 -- from thread t on the online logs of q are those of s
 record AlikeFrom (s q : State) (t : ℕ) : Type 0 where

@@ -11,8 +11,8 @@ ghost use Rattle.rm_redo.specs.Online.{IsThread};
 use crate::due::{bytes_due, is_due, is_last_sequence, log_bytes, logs_due};
 use rm_base::{Absent, Limit, Refusal, ThreadNo};
 use rm_machine::State;
-use rm_machine_code::facts::is_thread;
-use rm_machine_code::room::{ids_refusal, lacks_bytes, lacks_ids, lacks_room};
+use rm_machine::facts::is_thread;
+use rm_machine::room::{ids_refusal, lacks_bytes, lacks_ids, lacks_room};
 
 // What logs that are archived take, and whether one of them has the last sequence number.
 #[derive(Clone, Copy)]

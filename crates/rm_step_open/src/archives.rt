@@ -4,45 +4,23 @@ ghost use Rattle.rm_step_open.specs.Space.{HasSpace};
 ghost use Rattle.rm_machine.specs.Archive.{after_all, after_thread, archiving_refusal, lines_from, puts_by, puts_from, thread_lines};
 ghost use Rattle.rm_machine.specs.Sound.{IsSound};
 ghost use Rattle.rm_machine.specs.State.{ledger, online};
-ghost use Rattle.rm_machine.specs.SwitchLogfile.{is_due, log_entry, made_lines, with_archived};
+ghost use Rattle.rm_machine.specs.SwitchLogfile.{is_due, made_lines, with_archived};
 ghost use Rattle.rm_evidence.specs.Names.{log_name};
 ghost use Rattle.rm_redo.specs.LogFormat.{spelling};
 ghost use Rattle.rm_redo.specs.Online.{IsThread};
 ghost use Rattle.rm_catalog_typed.specs.Changes.{EditsFollow};
-ghost use Rattle.sha2.specs.Sha256.{sha256};
 
 use crate::due::{has_log, is_due};
-use rm_base::sealed::Encoded;
-use rm_base::{NoMemory, Seq, Status, ThreadNo};
-use rm_catalog::{Edit, LogEntry};
+use rm_base::{NoMemory, Seq, ThreadNo};
+use rm_catalog::Edit;
 use rm_commit::Object;
 use rm_evidence::log_name;
 use rm_machine::State;
-use rm_machine_code::facts::{MOST_THREADS, redo_end};
-use rm_redo::{LogFile, encode_log_with_digest};
+use rm_machine::facts::{MOST_THREADS, redo_end};
+use rm_machine::recorded::log_entry;
+use rm_redo::encode_log_with_digest;
 use rm_report::Line;
 use std::alloc::Global;
-
-// The record of an archived log, whose object has these bytes and this digest.
-fn entry_of(id: u32, log: &LogFile, encoded: &Encoded) -> LogEntry
-    requires bytes { encoded.now.bytes ≡ spelling log.now }
-    requires digest { encoded.now.digest ≡ sha256 (spelling log.now) }
-    ensures { result ≡ log_entry id log.now }
-{
-    LogEntry {
-        id,
-        archived: true,
-        inc: log.inc,
-        thread: log.thread,
-        sequence: log.sequence,
-        first: log.first,
-        next: log.next,
-        size: encoded.bytes.len() as u64,
-        sha: encoded.digest,
-        status: Status::Available,
-        keep: false,
-    }
-}
 
 // Archives the log of a thread that has something to archive, under the next id, and gives its object.
 fn archive(
@@ -65,7 +43,9 @@ fn archive(
         unreachable!()
     };
     let encoded = encode_log_with_digest(alloc, &log)?;
-    state.catalog.add_log(edits, entry_of(id, &log, &encoded))?;
+    state
+        .catalog
+        .add_log(edits, log_entry(id, true, &log, &encoded))?;
     Ok(Object {
         name: log_name(alloc, id)?,
         bytes: encoded.bytes,

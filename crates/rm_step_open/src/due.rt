@@ -8,7 +8,7 @@ ghost use Rattle.rm_redo.specs.Online.{IsThread, has_log};
 
 use rm_base::ThreadNo;
 use rm_machine::State;
-use rm_machine_code::facts::{MOST_THREADS, redo_end};
+use rm_machine::facts::{MOST_THREADS, redo_end};
 use rm_redo::OnlineLogs;
 
 /// Whether a thread, of a number from 1 on, has an online log, lost or not.

@@ -8,8 +8,8 @@ ghost use Rattle.rm_machine.specs.Sound.{IsSound};
 
 use rm_base::NoMemory;
 use rm_machine::handed::of_line;
+use rm_machine::mounts::become_mounted;
 use rm_machine::{Handed, State};
-use rm_machine_code::mounts::become_mounted;
 use rm_report::Line;
 use std::alloc::Global;
 

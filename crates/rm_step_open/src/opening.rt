@@ -9,11 +9,11 @@ ghost use Rattle.rm_machine.specs.Tracked.{with_tracker};
 
 use crate::place::keep_in_place;
 use rm_base::{NoMemory, Refusal, Scn, Seq};
+use rm_machine::facts::{has_lost, now};
 use rm_machine::handed::of_line;
+use rm_machine::room::ids_refusal;
+use rm_machine::tracking::first_tracker;
 use rm_machine::{Handed, State};
-use rm_machine_code::facts::{has_lost, now};
-use rm_machine_code::room::ids_refusal;
-use rm_machine_code::tracking::first_tracker;
 use rm_report::Line;
 use std::alloc::Global;
 use std::mem;

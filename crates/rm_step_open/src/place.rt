@@ -7,7 +7,7 @@ ghost use Rattle.rm_machine.specs.State.{ledger, tree, world};
 use rm_base::{IncNo, Scn};
 use rm_blocks::DataFile;
 use rm_machine::State;
-use rm_machine_code::facts::exists;
+use rm_machine::facts::exists;
 
 /// Takes out of place what does not exist at the address (i, s).
 pub(crate) fn keep_in_place(state: &State, place: &mut Vec<Option<DataFile>>, i: IncNo, s: Scn)

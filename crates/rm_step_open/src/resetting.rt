@@ -9,10 +9,10 @@ ghost use Rattle.rm_catalog_typed.specs.Changes.{EditsFollow};
 
 use rm_base::{IncNo, NoMemory, Refusal};
 use rm_catalog::{BaseEntry, Edit};
+use rm_machine::facts::now;
 use rm_machine::handed::of_line;
+use rm_machine::room::ids_refusal;
 use rm_machine::{Handed, State};
-use rm_machine_code::facts::now;
-use rm_machine_code::room::ids_refusal;
 use rm_report::Line;
 use std::alloc::Global;
 

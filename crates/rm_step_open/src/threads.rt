@@ -16,11 +16,11 @@ use crate::due::{count_of, has_log, is_due, lacks_sequence, log_bytes};
 use rm_base::{Absent, LAST_SCN, Limit, NoMemory, Refusal, Seq, ThreadNo, ThreadState};
 use rm_catalog::Edit;
 use rm_catalog_typed::ThreadSwitch;
+use rm_machine::facts::{MOST_THREADS, now};
 use rm_machine::handed::of_line;
+use rm_machine::marks::{go_further, mark_count};
+use rm_machine::room::{lacks_bytes, lacks_ids, lacks_room};
 use rm_machine::{Handed, State};
-use rm_machine_code::facts::{MOST_THREADS, now};
-use rm_machine_code::marks::{go_further, mark_count};
-use rm_machine_code::room::{lacks_bytes, lacks_ids, lacks_room};
 use rm_report::Line;
 use std::alloc::Global;
 

@@ -17,7 +17,7 @@ use Rattle.rm_machine.specs.Recovery.{skipped_lines}
 use Rattle.rm_machine.specs.RecoverTest.{block_lines, file_lines, files_lines, is_written, test_lines}
 use Rattle.rm_machine.specs.Restore.{gap_line, origin_line, origin_lines}
 use Rattle.rm_step_recover.specs.Lines.{rows_lines}
-use Rattle.rm_machine_code.proofs.Skipped.{skipped-dated}
+use Rattle.rm_machine.proofs.Skipped.{skipped-dated}
 
 abbrev AreDated : List Line → Type 0
 AreDated lines = All IsPlain lines

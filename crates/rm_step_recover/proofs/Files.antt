@@ -23,12 +23,12 @@ use Rattle.rm_machine.specs.Recovery.{in_place}
 use Rattle.rm_machine.specs.Sound.{IsSound}
 use Rattle.rm_machine.specs.declared.state.State.{State}
 use Rattle.rm_machine.specs.State.{ledger, tree, world}
-use Rattle.rm_machine_code.proofs.Numbers.{file-place}
-use Rattle.rm_machine_code.proofs.Placing.{number}
+use Rattle.rm_machine.proofs.Numbers.{file-place}
+use Rattle.rm_machine.proofs.Placing.{number}
 use Rattle.rm_catalog_typed.proofs.Records.{world-told}
-use Rattle.rm_machine_code.proofs.Restoring.{are-restored, file-number}
-use Rattle.rm_machine_code.proofs.Standing.{each-in}
-use Rattle.rm_machine_code.proofs.Told.{tells-files}
+use Rattle.rm_machine.proofs.Restoring.{are-restored, file-number}
+use Rattle.rm_machine.proofs.Standing.{each-in}
+use Rattle.rm_machine.proofs.Told.{tells-files}
 use Rattle.rm_step_recover.specs.Lines.{HasLines}
 use Rattle.rm_step_recover.specs.Placing.{HasPlace}
 

@@ -25,9 +25,9 @@ use Rattle.rm_machine.specs.Restore.{preview_refusal}
 use Rattle.rm_machine.specs.Sound.{IsSound}
 use Rattle.rm_machine.specs.declared.state.State.{State}
 use Rattle.rm_machine.specs.State.{current_of, tree, world}
-use Rattle.rm_machine_code.proofs.Fitting.{place-fits}
+use Rattle.rm_machine.proofs.Fitting.{place-fits}
 use Rattle.rm_catalog_typed.proofs.Records.{tree-told, world-told}
-use Rattle.rm_machine_code.proofs.Untils.{until-none}
+use Rattle.rm_machine.proofs.Untils.{until-none}
 
 -- where there is nothing to map there was nothing
 unmapped : {A B : Type 0} (f : A → B) (o : Option A) → option_map f o ≡ None → o ≡ None

@@ -17,9 +17,9 @@ use Rattle.rm_machine.specs.Sound.{IsSound}
 use Rattle.rm_machine.specs.declared.state.State.{State}
 use Rattle.rm_machine.specs.State.{current_of}
 use Rattle.rm_machine.specs.Until.{until_refusal}
-use Rattle.rm_machine_code.proofs.Recovering.{can-recover, sound-recovered}
-use Rattle.rm_machine_code.proofs.Restoring.{sound-restored}
-use Rattle.rm_machine_code.proofs.Told.{tells-files, tells-fits}
+use Rattle.rm_machine.proofs.Recovering.{can-recover, sound-recovered}
+use Rattle.rm_machine.proofs.Restoring.{sound-restored}
+use Rattle.rm_machine.proofs.Told.{tells-files, tells-fits}
 
 module _ (held : Option Held) (s : State) (sound : IsSound s) (until : Option Until) (at : ℕ) (back : Recovered) where
   pub recover-sound : recover_target s until ≡ Some at → recover_refusal s until ≡ None → TellsAll held (records_of s.catalog) (in_place s) (current_of s) at back → IsSound (recovered s at back.files)

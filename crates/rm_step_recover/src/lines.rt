@@ -9,22 +9,8 @@ ghost use Rattle.rm_step_recover.specs.Lines.{HasLines, rows_lines};
 use rm_apply::Origin;
 use rm_base::{FileNo, IncNo, NoMemory, Row, Scn, Seq};
 use rm_blocks::DataFile;
-use rm_machine::{Handed, State};
+use rm_machine::State;
 use rm_report::Line;
-use std::alloc::Global;
-
-/// These lines, of a statement that makes and removes no object.
-pub(crate) fn of_lines(alloc: Global, lines: Seq<Line>) -> Handed
-    ensures lines { result.lines ≡ lines }
-    ensures objects { result.objects ≡ [] }
-    ensures removes { result.removes ≡ [] }
-{
-    Handed {
-        lines,
-        objects: Seq::new(alloc),
-        removes: Seq::new(alloc),
-    }
-}
 
 // From where a datafile is restored.
 fn origin_line(file: FileNo, origin: Origin) -> Line

@@ -1,7 +1,7 @@
 //! Datafiles that come to stand in place.
 ghost use Rattle.std.specs.Prelude.{◌≡◌, All, length};
-ghost use Rattle.rm_machine.specs.Recovery.{put_over};
-ghost use Rattle.rm_step_recover.specs.Placing.{HasPlace, with_place};
+ghost use Rattle.rm_machine.specs.Recovery.{put_over, with_place};
+ghost use Rattle.rm_step_recover.specs.Placing.{HasPlace};
 
 use rm_base::{Scn, Seq};
 use rm_blocks::DataFile;

@@ -15,9 +15,9 @@ use rm_base::{Bad, FileNo, NoMemory, Refusal, Seq, Store};
 use rm_evidence::EvidenceFault;
 use rm_lang_statement::Until;
 use rm_machine::State;
-use rm_machine_code::hand::at_hand;
-use rm_machine_code::replies::skipped_lines;
-use rm_machine_code::until::{nowhere_refusal, range_refusal, recover_target, thread_refusal};
+use rm_machine::hand::{AtHand, at_hand};
+use rm_machine::replies::skipped_lines;
+use rm_machine::until::{nowhere_refusal, range_refusal, recover_target, thread_refusal};
 use rm_plan::Gap;
 use rm_report::Line;
 use std::alloc::Global;
@@ -100,21 +100,15 @@ pub fn preview<R: Threads + Sync, D: Store>(
         unreachable!()
     };
     let hand = at_hand(alloc, state)?;
+    let AtHand { records, place } = hand;
     let current = state.catalog.base().current;
-    let (origins, gap, skipped) = match rm_apply::preview(
-        rt,
-        alloc,
-        &hand.records,
-        store,
-        &hand.place,
-        current,
-        at,
-        channels,
+    let (origins, gap, skipped) = match rm_apply::preview_from(
+        rt, alloc, &records, store, place, current, at, channels,
     ) {
         Ok(told) => told,
         Err(fault) => return Err(fault_of(fault)),
     };
-    let targets = datafiles_at(alloc, &hand.records, current, at, None)?;
+    let targets = datafiles_at(alloc, &records, current, at, None)?;
     let numbers = numbers_of(alloc, targets.as_slice())?;
     Ok(lines_of(alloc, &numbers, origins.as_slice(), gap, skipped.as_slice())?)
 }

@@ -13,7 +13,7 @@ use rm_apply::{RecoverFault, Recovered};
 use rm_base::{IncNo, Refusal, Scn, Store};
 use rm_evidence::EvidenceFault;
 use rm_machine::State;
-use rm_machine_code::hand::at_hand;
+use rm_machine::hand::{AtHand, at_hand};
 use std::alloc::Global;
 use std::thread::Threads;
 
@@ -40,8 +40,8 @@ pub fn recovered_at<R: Threads + Sync, D: Store>(
     ensures never_falls { D.faults store.old ≤ D.faults store.new }
 {
     let hand = at_hand(alloc, state)?;
-    let (records, place) = (&hand.records, &hand.place);
-    match rm_apply::recover(rt, alloc, records, store, place, i, at, channels) {
+    let AtHand { records, place } = hand;
+    match rm_apply::recover_from(rt, alloc, &records, store, place, i, at, channels) {
         Ok(back) => Ok(Ok(back)),
         Err(RecoverFault::Gap(gap)) => Ok(Err(Refusal::Rm08 {
             file: gap.file,

@@ -12,19 +12,20 @@ ghost use Rattle.rm_catalog_typed.specs.TypedCatalog.{records_of};
 ghost use Rattle.rm_lang_statement.specs.declared.command.Command.TheVariants.{Restore};
 
 use crate::faults::fault_of;
-use crate::lines::{of_lines, push_origins};
+use crate::lines::push_origins;
 use crate::placing::put_in_place;
 use rm_apply::{Origin, Recovered};
 use rm_base::{Absent, FileNo, NoMemory, Refusal, Scn, Seq, Store};
 use rm_blocks::DataFile;
 use rm_evidence::EvidenceFault;
 use rm_lang_statement::Until;
+use rm_machine::facts::datafile_at;
+use rm_machine::hand::{AtHand, at_hand};
+use rm_machine::handed::of_lines;
+use rm_machine::replies::skipped_lines;
+use rm_machine::room::ids_refusal;
+use rm_machine::until::{nowhere_refusal, range_refusal, recover_target, thread_refusal};
 use rm_machine::{Handed, State};
-use rm_machine_code::facts::datafile_at;
-use rm_machine_code::hand::at_hand;
-use rm_machine_code::replies::skipped_lines;
-use rm_machine_code::room::ids_refusal;
-use rm_machine_code::until::{nowhere_refusal, range_refusal, recover_target, thread_refusal};
 use rm_report::Line;
 use std::alloc::Global;
 use std::thread::Threads;
@@ -104,10 +105,10 @@ fn from_backups<R: Threads + Sync, D: Store>(
     ensures never_falls { D.faults store.old ≤ D.faults store.new }
 {
     let hand = at_hand(alloc, state)?;
-    let (records, place) = (&hand.records, &hand.place);
+    let AtHand { records, place } = hand;
     let current = state.catalog.base().current;
-    match rm_apply::restore(
-        rt, alloc, records, store, place, current, at, file, channels,
+    match rm_apply::restore_from(
+        rt, alloc, &records, store, place, current, at, file, channels,
     ) {
         Ok(back) => Ok(back),
         Err(fault) => Err(fault_of(fault)),

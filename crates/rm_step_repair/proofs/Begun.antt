@@ -1,5 +1,5 @@
 -- The database as those who mend and write find it, behind the mark that comes before the writes.
-use Rattle.std.proofs.Common.{◌≡◌, ◌<◌, ◌∙◌, ℕ, zero, suc, List, [], Option, Some, None, cond, is_none, refl, sym, subst, arith, length, All}
+use Rattle.std.proofs.Common.{◌≡◌, ◌<◌, ◌∙◌, ℕ, List, [], Option, Some, None, cond, is_none, refl, sym, subst, arith, length, All}
 use Rattle.rm_channel.specs.Room.{AreThreads, CanWrite}
 use Rattle.rm_channel.specs.declared.jobs.WriteJob.{WriteJob}
 use Rattle.rm_lang_statement.specs.declared.command.RepairForm.{RepairForm}
@@ -13,15 +13,10 @@ use Rattle.rm_machine.specs.Marks.{marks_before}
 use Rattle.rm_machine.specs.Running.{CanFollow}
 use Rattle.rm_machine.specs.Sound.{IsSound}
 use Rattle.rm_machine.specs.declared.state.State.{State}
-use Rattle.rm_machine_code.proofs.BackupMarks.{marked-same, sound-marked, unmarked-mark, with_mark}
-use Rattle.rm_machine_code.proofs.RepairAccepted.{CanRepair}
-use Rattle.rm_machine_code.proofs.Repaired.{marking}
-use Rattle.rm_machine_code.proofs.WritersRoom.{fits-numbers, room-threads, room-writes}
-
--- without a write no list has one
-no-writes : (t n : ℕ) → total length (lists_from t n []) ≡ 0
-no-writes t zero = refl
-no-writes t (suc n) = let rest = no-writes (suc t) n in omega (arith, rest)
+use Rattle.rm_machine.proofs.BackupMarks.{marked-same, sound-marked, unmarked-mark, with_mark}
+use Rattle.rm_machine.proofs.RepairAccepted.{CanRepair}
+use Rattle.rm_machine.proofs.Repaired.{marking}
+use Rattle.rm_machine.proofs.WritersRoom.{fits-numbers, no-writes, room-threads, room-writes}
 
 -- behind the mark no write needs one
 unmarked : (s : State) (d : Option (List WriteForm)) (n : ℕ) → 0 < total length (lists_from 1 n (asked d)) → marks_before (cond (is_none d) s (with_mark s)) ≡ []

@@ -28,7 +28,7 @@ use Rattle.rm_machine.specs.Recovery.{IsAtHand, in_place}
 use Rattle.rm_machine.specs.Sound.{IsSound}
 use Rattle.rm_machine.specs.declared.state.State.{State}
 use Rattle.rm_machine.specs.State.{current_of, now_of, world}
-use Rattle.rm_machine_code.proofs.Fitting.{gathered-hand, place-fits}
+use Rattle.rm_machine.proofs.Fitting.{gathered-hand, place-fits}
 use Rattle.rm_catalog_typed.proofs.Records.{tree-told, world-told}
 use Rattle.rm_step_repair.specs.Told.{IsTargetNow, IsTold, NamesGap}
 use Rattle.rm_step_repair.specs.declared.telling.Told.{Told}

@@ -1,5 +1,5 @@
--- What BLOCKRECOVER hands out, and what refuses it by what is at hand.
-use Rattle.std.proofs.Common.{◌≡◌, ◌≤◌, ◌∙◌, ◌++◌, inl, inr, ℕ, List, [], Option, Some, None, Result, Ok, refl, ap, sym, subst, arith, length, map, All}
+-- What BLOCKRECOVER hands out.
+use Rattle.std.proofs.Common.{◌≡◌, ◌≤◌, ◌∙◌, ◌++◌, inr, ℕ, List, [], Option, Some, None, Result, Ok, refl, ap, sym, subst, arith, length, map, All}
 use Rattle.std.specs.Global.{Global}
 use Rattle.std.specs.Prelude.{IfOk, IfSome, Vec}
 use Rattle.std.proofs.lemmas.List.{length-map}
@@ -19,22 +19,22 @@ use Rattle.rm_machine.specs.Asked.{asked, writers_in}
 use Rattle.rm_machine.specs.BackupOutcome.{write_lines}
 use Rattle.rm_machine.specs.BlockRecover.{blocks_mended, mend_lines, mends_of, repair_begun, without_mended}
 use Rattle.rm_machine.specs.BlockRecoverRefusal.{repair_refusal}
-use Rattle.rm_machine.specs.Effect.{no_effect, refused}
+use Rattle.rm_machine.specs.Effect.{no_effect}
 use Rattle.rm_machine.specs.Events.{after_events, changes_of, opening}
-use Rattle.rm_machine.specs.Hands.{Hands, Refuses}
+use Rattle.rm_machine.specs.Hands.{Hands}
 use Rattle.rm_machine.specs.Recovery.{IsAtHand, skipped_lines}
 use Rattle.rm_machine.specs.Sound.{IsSound}
 use Rattle.rm_machine.specs.Step.{IsStatement}
 use Rattle.rm_machine.specs.declared.handed.Handed.{Handed}
 use Rattle.rm_machine.specs.declared.state.State.{State}
 use Rattle.rm_machine.specs.State.{now_of}
-use Rattle.rm_machine_code.proofs.Handing.{hands-by}
-use Rattle.rm_machine_code.proofs.RepairAccepted.{CanRepair, can-repair}
-use Rattle.rm_machine_code.proofs.Repaired.{repaired-sound}
-use Rattle.rm_machine_code.proofs.ToldRows.{CanStand}
-use Rattle.rm_machine_code.proofs.WritersRoom.{four-writers}
+use Rattle.rm_machine.proofs.Handing.{hands-by}
+use Rattle.rm_machine.proofs.RepairAccepted.{CanRepair, can-repair}
+use Rattle.rm_machine.proofs.Repaired.{repaired-sound}
+use Rattle.rm_machine.proofs.ToldRows.{CanStand}
+use Rattle.rm_machine.proofs.WritersRoom.{four-writers}
 use Rattle.rm_step_repair.specs.Gone.{HasRepaired}
-use Rattle.rm_step_repair.specs.Told.{IsTold, NamesGap, mended_line}
+use Rattle.rm_step_repair.specs.Told.{IsTold, mended_line}
 use Rattle.rm_step_repair.specs.declared.telling.Told.{Told}
 use Rattle.rm_step_repair.proofs.Mends.{jobs-older, jobs-there, lines-are, mended-is, mended-stand, rows-stand, rows_of}
 
@@ -43,17 +43,7 @@ told-hand : (held : Option Held) (s : State) (e : Evidence) → IfSome held (λ 
 told-hand None s e is objects tells = absurd (cc)
 told-hand (Some h) s e is objects tells = subst (λ (k : Held). IsAtHand s k e) (same_Some h objects tells) is
 
--- a block is not told
-pub repair-refused : (held : Option Held) (s : State) (form : RepairForm) (xs : List BlockId) (r : Refusal) → xs ≡ blocks_mended s form → NamesGap held s xs r → Refuses held s (BlockRecover form) r
-repair-refused held s form xs r same is objects tells =
-    let names = subst (λ (ys : List BlockId). NamesGap held s ys r) same is in
-    record {
-      evidence = names.evidence;
-      at_hand = told-hand held s names.evidence names.at_hand objects tells;
-      comes = inl (record { gap = names.gap; first = names.first; is = ap refused names.names });
-    }
-
--- all are
+-- what is handed out where all blocks are told
 module _ (held : Option Held) (s : State) (form : RepairForm) (sound : IsSound s) (accepted : repair_refusal s form ≡ None) (slice : List BlockId) (same : slice ≡ blocks_mended s form) (x : Result Told Refusal) (t : Told) (is : x ≡ Ok t) (tells : IfOk x (IsTold held s slice)) where
   abbrev xs : List BlockId
   xs = blocks_mended s form

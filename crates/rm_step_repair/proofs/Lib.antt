@@ -1,5 +1,4 @@
 pub mod Begun
-pub mod Fresh
 pub mod Gathering
 pub mod Handing
 pub mod Mends

@@ -23,8 +23,8 @@ use Rattle.rm_machine.specs.Events.{opening, standing_in}
 use Rattle.rm_machine.specs.Sound.{IsSound}
 use Rattle.rm_machine.specs.declared.state.State.{State}
 use Rattle.rm_machine.specs.State.{current_of, now_of, tree, world}
-use Rattle.rm_machine_code.proofs.ToldRows.{CanStand, IsTargetNow, in-place-target, told-stand}
-use Rattle.rm_machine_code.proofs.WritersRoom.{row-found}
+use Rattle.rm_machine.proofs.ToldRows.{CanStand, IsTargetNow, in-place-target, told-stand}
+use Rattle.rm_machine.proofs.WritersRoom.{row-found}
 use Rattle.rm_step_repair.specs.Told.{mended_line}
 
 abbrev pub rows_of : List MendJob → List Row

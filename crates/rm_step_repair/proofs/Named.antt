@@ -11,8 +11,8 @@ use Rattle.rm_machine.specs.BlockRecoverRefusal.{absent_named}
 use Rattle.rm_machine.specs.Sound.{IsSound}
 use Rattle.rm_machine.specs.declared.state.State.{State}
 use Rattle.rm_machine.specs.State.{on_path}
-use Rattle.rm_machine_code.proofs.Numbers.{numbered}
-use Rattle.rm_machine_code.proofs.Tracked.{on-path}
+use Rattle.rm_machine.proofs.Numbers.{numbered}
+use Rattle.rm_machine.proofs.Tracked.{on-path}
 
 -- what a search finds is a member
 pub found-in : {X : Type 0} (p : X → Bool) (xs : List X) (x : X) → find p xs ≡ Some x → Contains xs x

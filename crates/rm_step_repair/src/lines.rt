@@ -1,25 +1,10 @@
 //! The lines of the reply.
-ghost use Rattle.std.specs.Prelude.{◌≡◌, ◌++◌, [], OnOk, map};
+ghost use Rattle.std.specs.Prelude.{◌≡◌, ◌++◌, OnOk, map};
 ghost use Rattle.rm_step_repair.specs.Told.{mended_line};
 
 use rm_base::{NoMemory, Seq};
-use rm_machine::Handed;
 use rm_repair::MendJob;
 use rm_report::Line;
-use std::alloc::Global;
-
-/// These lines, of a statement that makes and removes no object.
-pub(crate) fn of_lines(alloc: Global, lines: Seq<Line>) -> Handed
-    ensures lines { result.lines ≡ lines }
-    ensures objects { result.objects ≡ [] }
-    ensures removes { result.removes ≡ [] }
-{
-    Handed {
-        lines,
-        objects: Seq::new(alloc),
-        removes: Seq::new(alloc),
-    }
-}
 
 // The line of a block that is mended.
 fn mended_line(job: &MendJob) -> Line

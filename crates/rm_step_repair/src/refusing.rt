@@ -11,13 +11,11 @@ use rm_base::{Absent, BlockNo, FileNo, Limit, Refusal};
 use rm_history::Datafile;
 use rm_lang_statement::{NamedBlocks, RepairForm};
 use rm_machine::State;
-use rm_machine_code::damage::is_damaged;
-use rm_machine_code::during::{
-    absent_of, damaged_write, lacks_logs, lacks_scns, lost_of, marks_for,
-};
-use rm_machine_code::facts::{on_path, placed};
-use rm_machine_code::room::{lacks_ids, lacks_room};
-use rm_machine_code::writers::asked;
+use rm_machine::damage::is_damaged;
+use rm_machine::during::{absent_of, damaged_write, lacks_logs, lacks_scns, lost_of, marks_for};
+use rm_machine::facts::{on_path, placed};
+use rm_machine::room::{lacks_ids, lacks_room};
+use rm_machine::writers::asked;
 
 // The least of these blocks that is not one of the datafile.
 fn absent_block(datafile: &Datafile, blocks: &[u64]) -> Option<u64>

@@ -16,7 +16,7 @@ use rm_catalog::Edit;
 use rm_channel::WriteJob;
 use rm_live::{Database, Live};
 use rm_machine::State;
-use rm_machine_code::running::{put_back, take_out};
+use rm_machine::running::{put_back, take_out};
 use rm_repair::{MendJob, mend_during};
 use std::alloc::Global;
 use std::sync::Wait;

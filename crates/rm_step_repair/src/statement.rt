@@ -17,17 +17,18 @@ ghost use Rattle.rm_report.specs.Reply.{HasDate, IsPlain};
 ghost use Rattle.rm_step_repair.specs.Gone.{HasRepaired};
 
 use crate::blocks::{blocks_mended, take_off};
-use crate::lines::{of_lines, push_mends};
+use crate::lines::push_mends;
 use crate::running::run_live;
 use crate::telling::tell_blocks;
 use rm_base::{NoMemory, Refusal, Scn, Store};
 use rm_catalog::Edit;
 use rm_evidence::EvidenceFault;
 use rm_lang_statement::RepairForm;
+use rm_machine::handed::of_lines;
+use rm_machine::marks::add_marks_for;
+use rm_machine::replies::skipped_lines;
+use rm_machine::writers::{tell_writes, writers_in};
 use rm_machine::{Handed, State};
-use rm_machine_code::marks::add_marks_for;
-use rm_machine_code::replies::skipped_lines;
-use rm_machine_code::writers::{tell_writes, writers_in};
 use rm_repair::MendJob;
 use std::alloc::Global;
 use std::sync::Wait;
@@ -84,7 +85,7 @@ pub fn block_recover<R: Threads + Wait + Sync, D: Store>(
     ensures never_falls { D.faults store.old ≤ D.faults store.new }
 {
     let blocks = blocks_mended(alloc, state, form)?;
-    let told = match tell_blocks(alloc, state, store, blocks.as_slice())? {
+    let told = match tell_blocks(rt, alloc, state, store, blocks.as_slice())? {
         Ok(told) => told,
         Err(refusal) => return Ok(Err(refusal)),
     };

@@ -7,13 +7,14 @@ ghost use Rattle.rm_report.specs.Reply.{HasDate};
 ghost use Rattle.rm_step_repair.specs.Told.{IsTargetNow, IsTold, NamesGap};
 
 use rm_base::{Bad, BlockId, Refusal, Seq, Store};
-use rm_evidence::{EvidenceFault, gather};
+use rm_evidence::{EvidenceFault, gather_by};
 use rm_machine::State;
-use rm_machine_code::facts::now;
-use rm_machine_code::hand::at_hand;
+use rm_machine::facts::now;
+use rm_machine::hand::{AtHand, at_hand};
 use rm_plan::{Gap, PlanFault};
 use rm_repair::{MendJob, mend_jobs};
 use std::alloc::Global;
+use std::thread::Threads;
 
 /// What is told of blocks.
 #[derive(Drop)]
@@ -39,7 +40,8 @@ fn gap_refusal(gap: Gap) -> Refusal
 /// What is at hand tells of blocks of datafiles that exist at `now`, as they are there; or the refusal that names the gap of the
 /// first one that is not told (RM-08). Each object that counts as available is read once. An error is a fault of the store, which is
 /// counted, or want of memory.
-pub(crate) fn tell_blocks<D: Store>(
+pub(crate) fn tell_blocks<R: Threads + Sync, D: Store>(
+    rt: &R,
     alloc: Global,
     state: &State,
     store: &mut D,
@@ -55,10 +57,11 @@ pub(crate) fn tell_blocks<D: Store>(
     ensures never_falls { D.faults store.old ≤ D.faults store.new }
 {
     let hand = at_hand(alloc, state)?;
-    let evidence = gather(alloc, &hand.records, store, &hand.place)?;
+    let AtHand { records, place } = hand;
+    let evidence = gather_by(rt, alloc, &records, store, place, 1)?;
     let inc = state.catalog.base().current;
     let scn = now(state);
-    match mend_jobs(alloc, &evidence, &hand.records, inc, scn, blocks) {
+    match mend_jobs(alloc, &evidence, &records, inc, scn, blocks) {
         Ok(jobs) => Ok(Ok(Told {
             jobs,
             skipped: evidence.skipped,

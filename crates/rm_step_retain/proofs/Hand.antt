@@ -12,7 +12,7 @@ use Rattle.rm_machine.specs.Recovery.{in_place}
 use Rattle.rm_machine.specs.Sound.{IsSound}
 use Rattle.rm_machine.specs.declared.state.State.{State}
 use Rattle.rm_machine.specs.State.{ledger}
-use Rattle.rm_machine_code.proofs.Fitting.{place-fits}
+use Rattle.rm_machine.proofs.Fitting.{place-fits}
 
 module _ (s : State) (rs : List Record) (records : rs ≡ records_of s.catalog) where
   pub fits : IsSound s → (place : InPlace) → place ≡ in_place s → FitsPlace rs place

@@ -22,7 +22,7 @@ use Rattle.rm_machine.specs.Recovery.{IsAtHand}
 use Rattle.rm_machine.specs.declared.state.State.{State}
 use Rattle.rm_machine.specs.State.{current_of, ledger, now_of, on_path, world}
 use Rattle.rm_catalog_typed.proofs.Records.{world-told}
-use Rattle.rm_machine_code.proofs.Tracked.{on-path}
+use Rattle.rm_machine.proofs.Tracked.{on-path}
 
 module _ (s : State) (e : Evidence) where
   abbrev by_state : World → ℕ → Datafile → Bool

@@ -17,7 +17,7 @@ use Rattle.rm_machine.specs.Recovery.{IsAtHand}
 use Rattle.rm_machine.specs.Sound.{IsSound}
 use Rattle.rm_machine.specs.declared.state.State.{State}
 use Rattle.rm_machine.specs.State.{ledger}
-use Rattle.rm_machine_code.proofs.Ids.{few-ids, row-id, some-ids, IsId}
+use Rattle.rm_machine.proofs.Ids.{few-ids, row-id, some-ids, IsId}
 use Rattle.rm_step_retain.proofs.Hand.{of-state}
 
 -- only a record of an object is obsolete

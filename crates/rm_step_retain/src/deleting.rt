@@ -13,9 +13,9 @@ use crate::finding::obsolete_ids;
 use rm_base::{NoMemory, Seq, Store, Text};
 use rm_catalog::Edit;
 use rm_evidence::EvidenceFault;
+use rm_machine::drops::drop_records;
+use rm_machine::naming::push_name;
 use rm_machine::{Handed, State};
-use rm_machine_code::drops::drop_records;
-use rm_machine_code::naming::push_name;
 use std::alloc::Global;
 
 // The names of the objects of these records.

@@ -12,7 +12,7 @@ use rm_base::{Policy, Scn, Store};
 use rm_catalog::Catalog as Records;
 use rm_evidence::{Evidence, EvidenceFault, gather};
 use rm_machine::State;
-use rm_machine_code::hand::at_hand;
+use rm_machine::hand::at_hand;
 use rm_retain::window_start;
 use std::alloc::Global;
 

@@ -17,7 +17,7 @@ use crate::looking::{Looked, look, start_by};
 use rm_base::{FileNo, NoMemory, Policy, Seq, Store};
 use rm_evidence::EvidenceFault;
 use rm_machine::State;
-use rm_machine_code::facts::on_path;
+use rm_machine::facts::on_path;
 use rm_report::Line;
 use rm_retain::chosen;
 use std::alloc::Global;

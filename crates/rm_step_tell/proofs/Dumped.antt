@@ -8,7 +8,7 @@ use Rattle.rm_machine.specs.Dump.{dump_refusal, row_refusal}
 use Rattle.rm_machine.specs.Sound.{IsSound}
 use Rattle.rm_machine.specs.declared.state.State.{State}
 use Rattle.rm_machine.specs.State.{on_path, placed}
-use Rattle.rm_machine_code.proofs.PlacedRows.{HasRow, has-row, there-by}
+use Rattle.rm_machine.proofs.PlacedRows.{HasRow, has-row, there-by}
 
 pub row-told : (s : State) (f b : ℕ) → IsSound s → dump_refusal s f b ≡ None → HasRow s f b
 row-told s f b sound is =

@@ -8,8 +8,8 @@ ghost use Rattle.rm_machine.specs.Sound.{IsSound};
 
 use rm_base::{Absent, BlockNo, FileNo, NoMemory, Refusal, Seq};
 use rm_machine::State;
-use rm_machine_code::damage::is_damaged;
-use rm_machine_code::facts::{on_path, placed, placed_row};
+use rm_machine::damage::is_damaged;
+use rm_machine::facts::{on_path, placed, placed_row};
 use rm_report::Line;
 use std::alloc::Global;
 

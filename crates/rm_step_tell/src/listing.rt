@@ -3,46 +3,22 @@ ghost use Rattle.std.specs.Prelude.{◌≡◌, ◌++◌, ◌∷◌, [], All, IfO
 ghost use Rattle.std.specs.List.{flat_map};
 ghost use Rattle.rm_evidence.specs.Gathered.{Lists};
 ghost use Rattle.rm_machine.specs.Effect.{told};
-ghost use Rattle.rm_machine.specs.Lists.{IsListOutcome, IsListed, listed, lines_in, packing_by, part_line, shape_by};
+ghost use Rattle.rm_machine.specs.Lists.{IsListOutcome, IsListed, listed, lines_in, part_line};
 ghost use Rattle.rm_machine.specs.Sound.{IsSound};
 ghost use Rattle.rm_catalog.specs.declared.record.Record.TheVariants.{Log as OfLog, Piece as OfPiece};
 ghost use Rattle.rm_report.specs.Reply.{IsPlain};
 ghost use Rattle.rm_report.specs.declared.line.Line.{Line as LineOf};
 
-use rm_base::{Class, Kind, NoMemory, Scn, Seq, Text};
+use rm_base::{Class, NoMemory, Seq};
 use rm_catalog::{Catalog, LogEntry, PieceEntry, Record, SetEntry, SetPart};
 use rm_evidence::by_id;
 use rm_machine::State;
-use rm_machine_code::recorded::records_of;
-use rm_report::{Line, Packing, Shape};
+use rm_machine::recorded::records_of;
+use rm_machine::replies::{copied, packing_by, shape_by};
+use rm_report::{Line, Packing};
 use rm_verify::found::add;
 use rm_verify::is_of;
 use std::alloc::Global;
-
-// What a piece of this kind has.
-fn shape(kind: Kind, from: Scn) -> Shape
-    ensures { result ≡ shape_by kind from }
-{
-    match kind {
-        Kind::Level0 => Shape::Level0,
-        Kind::Level1 => Shape::Level1 { from },
-        Kind::Full | Kind::Place => Shape::Full,
-    }
-}
-
-// How a piece is packed that is an image copy or not.
-fn packing(copy: bool) -> Packing
-    ensures { result ≡ packing_by copy }
-{
-    if copy { Packing::Copy } else { Packing::Piece }
-}
-
-// An equal text.
-fn copy_of(alloc: Global, text: &Text) -> Result<Text, NoMemory>
-    ensures { IfOk result (λ t. t ≡ text.now) }
-{
-    Ok(Text::from_string(String::from_str(alloc, text.as_str())?))
-}
 
 // The line of a log.
 fn log_line(log: &LogEntry) -> Line
@@ -65,14 +41,14 @@ fn piece_line(alloc: Global, piece: &PieceEntry) -> Result<Line, NoMemory>
     ensures { IfOk result (λ line. lines_in (OfPiece piece.now) ≡ Some (piece.now.id, line ∷ [])) }
 {
     Ok(Line::PieceIs {
-        packing: packing(piece.copy),
+        packing: packing_by(piece.copy),
         id: piece.id,
         file: piece.file,
-        shape: shape(piece.kind, piece.from),
+        shape: shape_by(piece.kind, piece.from),
         checkpoint: piece.checkpoint,
         high: piece.high,
         status: piece.status,
-        tag: copy_of(alloc, &piece.tag)?,
+        tag: copied(alloc, &piece.tag)?,
         keep: piece.keep,
     })
 }
@@ -85,11 +61,11 @@ fn part_line(alloc: Global, set: &SetEntry, part: &SetPart) -> Result<Line, NoMe
         packing: Packing::Set,
         id: set.id,
         file: part.file,
-        shape: shape(part.kind, part.from),
+        shape: shape_by(part.kind, part.from),
         checkpoint: set.checkpoint,
         high: part.high,
         status: set.status,
-        tag: copy_of(alloc, &set.tag)?,
+        tag: copied(alloc, &set.tag)?,
         keep: set.keep,
     })
 }

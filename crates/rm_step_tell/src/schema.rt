@@ -11,7 +11,7 @@ use rm_base::{FileNo, NoMemory, Scn, Seq};
 use rm_blocks::DataFile;
 use rm_history::Datafile;
 use rm_machine::State;
-use rm_machine_code::facts::{exists, now, placed};
+use rm_machine::facts::{exists, now, placed};
 use rm_report::{Line, SchemaPlace};
 use std::alloc::Global;
 

@@ -10,10 +10,11 @@ ghost use Rattle.rm_report.specs.Reply.{IsPlain};
 ghost use Rattle.rm_report.specs.declared.line.Line.TheVariants.{BadOf};
 
 use rm_base::{Bad, NoMemory, Seq, Status, Store};
+use rm_evidence::EvidenceFault;
 use rm_machine::State;
-use rm_machine_code::recorded::records_of;
+use rm_machine::recorded::records_of;
 use rm_report::Line;
-use rm_verify::{VerifyFault, validate};
+use rm_verify::validate;
 use std::alloc::Global;
 use std::thread::Threads;
 
@@ -65,12 +66,12 @@ pub fn validate_all<R: Threads + Sync, D: Store>(
     channels: u32,
     state: &State,
     store: &mut D,
-) -> Result<Seq<Line>, VerifyFault>
+) -> Result<Seq<Line>, EvidenceFault>
     requires sound { IsSound state.now }
     ensures tells { IfOk result (λ lines. Tells (D.held store.old) state.now ValidateAll lines) }
     ensures dates { IfOk result (All IsPlain) }
     ensures same { D.held store.new ≡ D.held store.old }
-    ensures store { IsErrOf result VerifyFault.StoreFault → Rose (D.faults store.old) (D.faults store.new) }
+    ensures store { IsErrOf result EvidenceFault.StoreFault → Rose (D.faults store.old) (D.faults store.new) }
     ensures never_falls { D.faults store.old ≤ D.faults store.new }
 {
     let records = records_of(alloc, state)?;

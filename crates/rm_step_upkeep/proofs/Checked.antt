@@ -19,7 +19,7 @@ use Rattle.rm_machine.specs.Hands.{Hands}
 use Rattle.rm_machine.specs.Upkeep.{with_catalog, with_statuses}
 use Rattle.rm_machine.specs.declared.handed.Handed.{Handed}
 use Rattle.rm_machine.specs.declared.state.State.{State}
-use Rattle.rm_machine_code.proofs.Handing.{hands-by}
+use Rattle.rm_machine.proofs.Handing.{hands-by}
 use Rattle.rm_step_upkeep.specs.Amended.{amended}
 use Rattle.rm_step_upkeep.specs.Lines.{status_line}
 use Rattle.rm_step_upkeep.specs.declared.amending.Amendment.TheVariants as by

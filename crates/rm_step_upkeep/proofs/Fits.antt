@@ -11,7 +11,7 @@ use Rattle.rm_catalog_typed.specs.TypedCatalog.{TypedCatalog}
 use Rattle.rm_machine.specs.Sound.{IsSound}
 use Rattle.rm_machine.specs.Upkeep.{log_changed, piece_changed, set_changed, with_catalog}
 use Rattle.rm_machine.specs.declared.state.State.{State}
-use Rattle.rm_machine_code.proofs.Entries.{LogAs, PieceAs, SetAs, log-as-fits, log-on, piece-as-fits, piece-on, set-as-fits, set-on}
+use Rattle.rm_machine.proofs.Entries.{LogAs, PieceAs, SetAs, log-as-fits, log-on, piece-as-fits, piece-on, set-as-fits, set-on}
 use Rattle.rm_step_upkeep.specs.Amended.{log_by, piece_by, set_by}
 use Rattle.rm_step_upkeep.specs.declared.amending.Amendment.{Amendment}
 use Rattle.rm_step_upkeep.specs.declared.amending.Amendment.TheVariants as by

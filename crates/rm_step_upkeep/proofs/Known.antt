@@ -11,7 +11,7 @@ use Rattle.rm_catalog_typed.specs.TypedCatalog.{TypedCatalog}
 use Rattle.rm_machine.specs.Marks.{lacks_ids}
 use Rattle.rm_machine.specs.Upkeep.{is_unknown, record_refusal}
 use Rattle.rm_machine.specs.declared.state.State.{State}
-use Rattle.rm_machine_code.proofs.Ids.{IsId, log-id, piece-id, set-id}
+use Rattle.rm_machine.proofs.Ids.{IsId, log-id, piece-id, set-id}
 
 module _ (r : TypedCatalog) (rules : IsTypedCatalog r) where
   -- what is there has such an id

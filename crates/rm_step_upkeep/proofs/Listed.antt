@@ -29,9 +29,9 @@ use Rattle.rm_machine.specs.Sound.{IsSound}
 use Rattle.rm_machine.specs.Upkeep.{IsExpired, with_catalog, without_all}
 use Rattle.rm_machine.specs.declared.handed.Handed.{Handed}
 use Rattle.rm_machine.specs.declared.state.State.{State}
-use Rattle.rm_machine_code.proofs.Handing.{hands-by}
+use Rattle.rm_machine.proofs.Handing.{hands-by}
 use Rattle.rm_step_upkeep.specs.Expired.{Alone, expired, when_expired}
-use Rattle.rm_machine_code.proofs.Ids.{row-id, IsId}
+use Rattle.rm_machine.proofs.Ids.{row-id, IsId}
 
 -- an id is told of what is expired alone
 of_expired : (n : ℕ) (st : Status) (y : ℕ × Alone) → when_expired n st ≡ Some y → (st ≡ Expired) × (n ≡ y.0)

@@ -13,12 +13,12 @@ use Rattle.rm_base.proofs.Sealing.{length-sealed}
 use Rattle.rm_catalog.specs.declared.record.PieceEntry.{PieceEntry}
 use Rattle.rm_catalog.specs.Objects.{FitsKind as IsOfKind, FitsRows}
 use Rattle.rm_evidence.proofs.Names.{log-name-tells, log-no-piece, piece-name-tells}
+use Rattle.rm_evidence.specs.Objects.{piece_entry}
 use Rattle.rm_history.proofs.Ends.{IsThere-with_end, end_of-with_end, owner-with_end, reset_of-with_end}
 use Rattle.rm_history.proofs.Highs.{high-least}
 use Rattle.rm_history.specs.Tree.{IsThere, end_of, parent_of, reset_of, with_end}
 use Rattle.rm_history.specs.declared.tree.Incarnation.{Incarnation}
 use Rattle.rm_history.specs.declared.world.Datafile.{Datafile}
-use Rattle.rm_machine.specs.Backup.{piece_entry}
 use Rattle.rm_machine.specs.CatalogName.{Found, IsFound, IsNamed, Obeys, artefact_of, found_log, found_piece, id_of, name_of}
 use Rattle.rm_machine.specs.Saved.{spelling_of}
 use Rattle.rm_machine.specs.State.{ledger, tree}

@@ -17,9 +17,9 @@ use Rattle.rm_machine.specs.Upkeep.{is_unknown, with_catalog}
 use Rattle.rm_machine.specs.declared.handed.Handed.{Handed}
 use Rattle.rm_machine.specs.State.{ledger}
 use Rattle.rm_machine.specs.declared.state.State.{State}
-use Rattle.rm_machine_code.proofs.Cataloguing.{FitsFound, found-fits, sound-catalogued}
-use Rattle.rm_machine_code.proofs.Handing.{hands-by}
-use Rattle.rm_machine_code.proofs.Switching.{not-above}
+use Rattle.rm_machine.proofs.Cataloguing.{FitsFound, found-fits, sound-catalogued}
+use Rattle.rm_machine.proofs.Handing.{hands-by}
+use Rattle.rm_machine.proofs.Switching.{not-above}
 use Rattle.rm_report.specs.declared.line.Line.TheVariants.{Catalogued}
 use Rattle.rm_step_upkeep.specs.Catalogued.{CanBeRecorded, Finds, IsFoundAs, IsOf, entry_of, id_in, id_of, recorded, refusal_by, room_refusal, size_of}
 use Rattle.rm_step_upkeep.specs.declared.finding.Entry.{Entry}

@@ -12,9 +12,9 @@ use Rattle.rm_catalog_typed.specs.Changes.{with_base, with_end_at, with_log, wit
 use Rattle.rm_catalog_typed.specs.Fitting.{FitsBase, FitsLog, FitsPiece}
 use Rattle.rm_catalog_typed.specs.TypedCatalog.{TypedCatalog}
 use Rattle.rm_evidence.specs.Names.{log_name, piece_name}
+use Rattle.rm_evidence.specs.Objects.{piece_entry}
 use Rattle.rm_history.specs.Tree.{IsThere, end_of, owner, reset_of}
 use Rattle.rm_history.specs.declared.world.Datafile.{Datafile}
-use Rattle.rm_machine.specs.Backup.{piece_entry}
 use Rattle.rm_machine.specs.CatalogName.{Found, IsFound, Obeys, artefact_of, dbid_of, found_log, found_piece, ids_up_to, lacks_ids_behind}
 use Rattle.rm_machine.specs.Machine.{IsValidArtefact}
 use Rattle.rm_machine.specs.Marks.{lacks_bytes, lacks_room}

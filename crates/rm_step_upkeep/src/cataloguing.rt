@@ -24,8 +24,9 @@ use rm_base::{Limit, NoMemory, Refusal, Scn, Store, Text, Unknown};
 use rm_catalog::{BaseEntry, Edit};
 use rm_commit::Stop;
 use rm_machine::handed::of_line;
+use rm_machine::replies::copied;
+use rm_machine::room::{lacks_bytes, lacks_ids, lacks_room};
 use rm_machine::{Handed, State};
-use rm_machine_code::room::{lacks_bytes, lacks_ids, lacks_room};
 use rm_report::Line;
 use std::alloc::Global;
 
@@ -45,13 +46,6 @@ fn lacks_ids_behind(state: &State, id: u32) -> bool
     lacks_ids(state, ids_up_to(state, id))
 }
 
-// An equal name.
-fn copy(alloc: Global, name: &Text) -> Result<Text, NoMemory>
-    ensures { IfOk result (λ t. t ≡ name.now) }
-{
-    Ok(Text::from_string(String::from_str(alloc, name.as_str())?))
-}
-
 // Why nothing is catalogued where no object is found under a name that tells this id.
 fn absent_refusal(alloc: Global, state: &State, name: &Text, id: u32) -> Result<Refusal, NoMemory>
     requires sound { IsSound state.now }
@@ -61,7 +55,7 @@ fn absent_refusal(alloc: Global, state: &State, name: &Text, id: u32) -> Result<
     if lacks_ids_behind(state, id) {
         Ok(Refusal::Rm11(Limit::ObjectIds))
     } else {
-        Ok(Refusal::Rm12(Unknown::Object(copy(alloc, name)?)))
+        Ok(Refusal::Rm12(Unknown::Object(copied(alloc, name)?)))
     }
 }
 
@@ -97,7 +91,7 @@ fn entry_refusal(
     } else if lacks_ids_behind(state, id) {
         Ok(Some(Refusal::Rm11(Limit::ObjectIds)))
     } else {
-        let name = copy(alloc, name)?;
+        let name = copied(alloc, name)?;
         Ok(Some(Refusal::Rm13 { name }))
     }
 }

@@ -12,9 +12,9 @@ use crate::refusing::known;
 use rm_base::{NoMemory, Status};
 use rm_catalog::Edit;
 use rm_lang_statement::ChangeTo;
+use rm_machine::drops::drop_record;
 use rm_machine::handed::of_line;
 use rm_machine::{Handed, State};
-use rm_machine_code::drops::drop_record;
 use rm_report::Line;
 use std::alloc::Global;
 

@@ -12,10 +12,10 @@ ghost use Rattle.rm_step_upkeep.specs.Lines.{status_line};
 use crate::amending::{Amendment, amend};
 use rm_base::{Class, NoMemory, Seq, Status, Store};
 use rm_catalog::Edit;
+use rm_evidence::EvidenceFault;
+use rm_machine::recorded::records_of;
 use rm_machine::{Handed, State};
-use rm_machine_code::recorded::records_of;
 use rm_report::Line;
-use rm_verify::VerifyFault;
 use std::alloc::Global;
 
 // Gives each record of these ids its status, one after another, and tells it.
@@ -49,14 +49,14 @@ pub fn crosscheck<D: Store>(
     store: &mut D,
     edits: &mut Vec<Edit>,
     class: Class,
-) -> Result<Handed, VerifyFault>
+) -> Result<Handed, EvidenceFault>
     requires sound { IsSound state.old }
     ensures hands { IfOk result (λ x. Hands (D.held store.old) state.old (Crosscheck class) x state.new) }
     ensures edits { OnOk result (EditsFollow edits.old.items edits.new.items state.old.catalog state.new.catalog) }
     ensures sound { OnOk result (IsSound state.new) }
     ensures dates { IfOk result (λ x. All IsPlain x.lines) }
     ensures same { D.held store.new ≡ D.held store.old }
-    ensures store { IsErrOf result VerifyFault.StoreFault → Rose (D.faults store.old) (D.faults store.new) }
+    ensures store { IsErrOf result EvidenceFault.StoreFault → Rose (D.faults store.old) (D.faults store.new) }
     ensures never_falls { D.faults store.old ≤ D.faults store.new }
 {
     let records = records_of(alloc, state)?;

@@ -10,9 +10,9 @@ ghost use Rattle.rm_catalog_typed.specs.Changes.{EditsFollow};
 use crate::refusing::known;
 use rm_base::{NoMemory, Seq};
 use rm_catalog::Edit;
+use rm_machine::drops::drop_record;
+use rm_machine::naming::push_name;
 use rm_machine::{Handed, State};
-use rm_machine_code::drops::drop_record;
-use rm_machine_code::naming::push_name;
 use rm_report::Line;
 use std::alloc::Global;
 

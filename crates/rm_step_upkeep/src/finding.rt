@@ -3,7 +3,7 @@ ghost use Rattle.std.specs.Prelude.{◌≡◌, ◌≢◌, ◌-◌, ◌↔◌, �
 ghost use Rattle.sha2.specs.Sha256.{sha256};
 ghost use Rattle.rm_base.specs.Outside.{Rose};
 ghost use Rattle.rm_commit.specs.declared.commit.Stop.TheVariants.{KeeperFault, StoreFault};
-ghost use Rattle.rm_machine.specs.Backup.{piece_entry};
+ghost use Rattle.rm_evidence.specs.Objects.{piece_entry};
 ghost use Rattle.rm_machine.specs.Sound.{IsSound};
 ghost use Rattle.rm_machine.specs.State.{ledger};
 ghost use Rattle.rm_piece.specs.Spelling as piece;

@@ -12,8 +12,8 @@ ghost use Rattle.rm_lang_statement.specs.declared.command.Command.TheVariants.{P
 use rm_base::{Limit, NoMemory, Refusal};
 use rm_catalog::{BaseEntry, Edit};
 use rm_machine::handed::of_line;
+use rm_machine::room::ids_refusal;
 use rm_machine::{Handed, State};
-use rm_machine_code::room::ids_refusal;
 use rm_report::Line;
 use std::alloc::Global;
 

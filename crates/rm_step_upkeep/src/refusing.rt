@@ -5,7 +5,7 @@ ghost use Rattle.rm_machine.specs.Upkeep.{is_unknown, record_refusal};
 
 use rm_base::{Limit, Refusal, Unknown};
 use rm_machine::State;
-use rm_machine_code::room::lacks_ids;
+use rm_machine::room::lacks_ids;
 
 /// Whether no log, no piece and no set has the id.
 pub(crate) fn is_unknown(state: &State, id: u64) -> bool

@@ -15,8 +15,8 @@ use rm_base::{Limit, NoMemory, Policy, Refusal};
 use rm_catalog::{BaseEntry, Edit};
 use rm_lang_statement::RetentionForm;
 use rm_machine::handed::of_line;
+use rm_machine::room::lacks_ids;
 use rm_machine::{Handed, State};
-use rm_machine_code::room::lacks_ids;
 use rm_report::Line;
 use std::alloc::Global;
 

@@ -12,8 +12,8 @@ ghost use Rattle.rm_lang_statement.specs.declared.command.Command.TheVariants.{T
 use rm_base::NoMemory;
 use rm_catalog::{BaseEntry, Edit};
 use rm_machine::handed::of_line;
+use rm_machine::tracking::first_tracker;
 use rm_machine::{Handed, State};
-use rm_machine_code::tracking::first_tracker;
 use rm_report::Line;
 use std::alloc::Global;
 

@@ -20,9 +20,9 @@ use Rattle.rm_machine.specs.Sound.{IsPlaced, IsSound}
 use Rattle.rm_machine.specs.declared.state.State.{State}
 use Rattle.rm_machine.specs.State.{now_of, placed, redo_end, tree, world}
 use Rattle.rm_machine.specs.Write.{change_of, write_refusal}
-use Rattle.rm_machine_code.proofs.Further.{redo-now}
-use Rattle.rm_machine_code.proofs.Places.{counted-open}
-use Rattle.rm_machine_code.proofs.Writes.{write-accepted}
+use Rattle.rm_machine.proofs.Further.{redo-now}
+use Rattle.rm_machine.proofs.Places.{counted-open}
+use Rattle.rm_machine.proofs.Writes.{write-accepted}
 
 -- its numbers are those of a thread, a datafile and a block that can be
 pub record AreNumbers (w : WriteForm) : Type 0 where

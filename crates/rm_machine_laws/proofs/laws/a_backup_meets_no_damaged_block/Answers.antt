@@ -1,4 +1,4 @@
-use Rattle.rm_machine_code.proofs.BackupAccepted.{can-back_up}
+use Rattle.rm_machine.proofs.BackupAccepted.{can-back_up}
 use Rattle.rm_machine_laws.proofs.BackingUp.{taken-clean, written-clean}
 use Rattle.rm_machine_laws.proofs.laws.a_backup_meets_no_damaged_block.Goals as goal
 

@@ -1,4 +1,4 @@
-use Rattle.rm_machine_code.proofs.Later.{sound-later}
+use Rattle.rm_machine.proofs.Later.{sound-later}
 use Rattle.rm_machine_laws.proofs.laws.a_moment_keeps_a_state_sound.Goals as goal
 
 pub returns : goal.returns

@@ -4,7 +4,7 @@ use Rattle.std.specs.Prelude.{IfSome}
 use Rattle.rm_commit.specs.declared.commit.Object.{Object}
 use Rattle.rm_machine.specs.BackupLogs.{copies_of, copies_refusal, copy_line, copy_object}
 use Rattle.rm_machine.specs.State.{ledger}
-use Rattle.rm_machine_code.proofs.BackingUpLogs.{room-for}
+use Rattle.rm_machine.proofs.BackingUpLogs.{room-for}
 use Rattle.rm_redo.specs.declared.log_file.LogFile.{LogFile}
 use Rattle.rm_report.specs.declared.line.Line.{Line}
 use Rattle.rm_step_backup.specs.Logs.{AreRecorded, IsAll}

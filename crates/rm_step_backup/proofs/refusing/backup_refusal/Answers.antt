@@ -1,4 +1,4 @@
-use Rattle.rm_machine_code.proofs.BackingUp.{per_set-some}
+use Rattle.rm_machine.proofs.BackingUp.{per_set-some}
 use Rattle.rm_step_backup.proofs.refusing.backup_refusal.Goals as goal
 
 pub lost_refusal-requires-clause-some : goal.lost_refusal-requires-clause-some

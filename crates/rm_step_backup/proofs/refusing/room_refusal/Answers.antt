@@ -1,5 +1,5 @@
 use Rattle.std.proofs.Common.{arith}
-use Rattle.rm_machine_code.proofs.TakenFiles.{taken-few}
+use Rattle.rm_machine.proofs.TakenFiles.{taken-few}
 use Rattle.rm_step_backup.proofs.Objects.{objects-few}
 use Rattle.rm_step_backup.proofs.refusing.room_refusal.Goals as goal
 

@@ -3,7 +3,7 @@ use Rattle.rm_channel.specs.Jobs.{lists}
 use Rattle.rm_machine.specs.Backup.{AreJobs, IsTagBy, named_tag}
 use Rattle.rm_machine.specs.MadeObjects.{CanRecord, packed}
 use Rattle.rm_machine.specs.State.{ledger}
-use Rattle.rm_machine_code.proofs.BackingUp.{per_set-some}
+use Rattle.rm_machine.proofs.BackingUp.{per_set-some}
 use Rattle.rm_step_backup.proofs.Backed.{few-told, hands, ran-record, ran-sound, rows-many}
 use Rattle.rm_step_backup.proofs.Forms.{not-cumulative}
 use Rattle.rm_step_backup.proofs.statement.backup.Goals as goal

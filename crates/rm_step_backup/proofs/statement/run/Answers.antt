@@ -8,12 +8,12 @@ use Rattle.rm_machine.specs.Asked.{writes_in}
 use Rattle.rm_machine.specs.Events.{opening}
 use Rattle.rm_machine.specs.Sound.{IsSound}
 use Rattle.rm_machine.specs.declared.job.Job.{Job}
-use Rattle.rm_machine_code.proofs.BackupAccepted.{can-back_up}
+use Rattle.rm_machine.proofs.BackupAccepted.{can-back_up}
 use Rattle.rm_step_backup.specs.Copying.{AreCopiesOf, Stands}
 use Rattle.rm_machine.specs.Running.{CanFollow}
 use Rattle.rm_step_backup.specs.Running.{HasRunLive}
 use Rattle.rm_step_backup.proofs.Backed.{HasWorked, begun-sound, can-follow}
-use Rattle.rm_machine_code.proofs.WritersRoom.{fits-numbers}
+use Rattle.rm_machine.proofs.WritersRoom.{fits-numbers}
 use Rattle.rm_step_backup.proofs.Room.{begun-stand, begun-threads, begun-writes}
 use Rattle.rm_step_backup.proofs.statement.run.Goals as goal
 

@@ -7,33 +7,30 @@ use Rattle.rm_evidence.specs.Place.{FitsPlace}
 use Rattle.rm_evidence.proofs.Fitting.{gathered-recorded, level1s-recorded}
 use Rattle.rm_evidence.proofs.Seen.{seen-so, seen-told}
 use Rattle.rm_machine.specs.Recovery.{in_place}
-use Rattle.rm_machine_code.proofs.Fitting.{gathered-hand, place-fits}
+use Rattle.rm_machine.proofs.Fitting.{gathered-hand, place-fits}
 use Rattle.rm_step_copies.proofs.Hand.{fits-state, ok-then}
 use Rattle.rm_step_copies.proofs.evidence.evidence_of.Goals as goal
 
 pub gather_by-requires-clause-place : goal.gather_by-requires-clause-place
 gather_by-requires-clause-place g c κs within =
     let s = c.args.state.now in
-    subst (FitsPlace c.args.hand.now.records) (sym c.requires.place) (subst (λ (xs : List Record). FitsPlace xs (in_place s)) (sym c.requires.records) (place-fits s c.requires.sound))
+    subst (FitsPlace c.args.records.now) (sym c.requires.place) (subst (λ (xs : List Record). FitsPlace xs (in_place s)) (sym c.requires.records) (place-fits s c.requires.sound))
 
 pub returns-clause-at_hand : goal.returns-clause-at_hand
 returns-clause-at_hand g c =
-    let hand = c.args.hand.now in
     let held = g.D.Store.held c.args.store.now in
     ok-then c.gather_by.result c.gather_by.ensures.gathered (λ e seen.
-    IfSome_then held (seen-told held (λ h. IsGathered h hand.records hand.place e) seen) (λ h is. gathered-hand c.args.state.now hand.records hand.place h e c.requires.records c.requires.place is))
+    IfSome_then held (seen-told held (λ h. IsGathered h c.args.records.now c.args.place e) seen) (λ h is. gathered-hand c.args.state.now c.args.records.now c.args.place h e c.requires.records c.requires.place is))
 
 pub returns-clause-fits : goal.returns-clause-fits
-returns-clause-fits g c = ok-then c.gather_by.result c.gather_by.ensures.fits (λ e fits. fits-state c.args.state.now c.args.hand.now.records e c.requires.records fits)
+returns-clause-fits g c = ok-then c.gather_by.result c.gather_by.ensures.fits (λ e fits. fits-state c.args.state.now c.args.records.now e c.requires.records fits)
 
 pub returns-clause-recorded : goal.returns-clause-recorded
 returns-clause-recorded g c =
-    let hand = c.args.hand.now in
     ok-then c.gather_by.result c.gather_by.ensures.gathered (λ e seen.
-    subst (λ (rs : List Record). AreRecorded rs e) c.requires.records (seen-so (g.D.Store.held c.args.store.now) seen (λ h is. gathered-recorded h hand.records hand.place e is)))
+    subst (λ (rs : List Record). AreRecorded rs e) c.requires.records (seen-so (g.D.Store.held c.args.store.now) seen (λ h is. gathered-recorded h c.args.records.now c.args.place e is)))
 
 pub returns-clause-level1s : goal.returns-clause-level1s
 returns-clause-level1s g c =
-    let hand = c.args.hand.now in
     ok-then c.gather_by.result c.gather_by.ensures.gathered (λ e seen.
-    subst (λ (rs : List Record). All (IsRecorded rs) e.level1s) c.requires.records (seen-so (g.D.Store.held c.args.store.now) seen (λ h is. level1s-recorded h hand.records hand.place e is)))
+    subst (λ (rs : List Record). All (IsRecorded rs) e.level1s) c.requires.records (seen-so (g.D.Store.held c.args.store.now) seen (λ h is. level1s-recorded h c.args.records.now c.args.place e is)))

@@ -8,7 +8,7 @@ use Rattle.rm_machine.specs.State.{current_of, ledger}
 use Rattle.rm_report.specs.declared.line.Line.{Line}
 use Rattle.rm_step_copies.proofs.Fit.{all-fit, all-short}
 use Rattle.rm_step_copies.proofs.Handing.{all-dated, leads-on, renew-hands, renew-refused}
-use Rattle.rm_step_copies.proofs.Ways.{ids-left}
+use Rattle.rm_machine.proofs.Renewing.{ids-left}
 use Rattle.rm_step_copies.proofs.statement.recover_copy.Goals as goal
 
 pub unreachable-requires : goal.unreachable-requires

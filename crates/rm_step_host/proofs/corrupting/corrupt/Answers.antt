@@ -5,7 +5,7 @@ use Rattle.rm_lang_statement.specs.declared.command.Command.TheVariants.{Corrupt
 use Rattle.rm_machine.specs.Corrupt.{corrupted}
 use Rattle.rm_machine.specs.Effect.{no_effect}
 use Rattle.rm_machine.specs.declared.state.State.{State}
-use Rattle.rm_machine_code.proofs.Handing.{hands-by}
+use Rattle.rm_machine.proofs.Handing.{hands-by}
 use Rattle.rm_step_host.proofs.Corrupted.{row-there}
 use Rattle.rm_step_host.proofs.corrupting.corrupt.Goals as goal
 

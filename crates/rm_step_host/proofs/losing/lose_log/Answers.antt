@@ -6,8 +6,8 @@ use Rattle.rm_machine.specs.LoseLog.{without_log}
 use Rattle.rm_machine.specs.Mount.{as_mounted}
 use Rattle.rm_machine.specs.Sound.{IsSound}
 use Rattle.rm_machine.specs.declared.state.State.{State}
-use Rattle.rm_machine_code.proofs.Handing.{hands-by}
-use Rattle.rm_machine_code.proofs.Mounting.{sound-as_mounted}
+use Rattle.rm_machine.proofs.Handing.{hands-by}
+use Rattle.rm_machine.proofs.Mounting.{sound-as_mounted}
 use Rattle.rm_step_host.proofs.losing.lose_log.Goals as goal
 
 pub lose_thread-requires-clause-sound : goal.lose_thread-requires-clause-sound

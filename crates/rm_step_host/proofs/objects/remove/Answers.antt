@@ -9,4 +9,4 @@ returns-clause-hands g c =
     let there = some-there held c.as_str.result.now name c.in_ok-get.field-0 c.as_str.ensures c.in_ok-get.ensures.found (search rules) in
     remove-hands held c.args.state.now name there.0 _ there.1
     c.in_ok-handed.ensures.lines c.in_ok-handed.ensures.objects
-    (c.in_ok-push.ensures.ok ∙ ap (λ (ns : List (List ℕ)). ns ++ c.in_ok-copy.field-0 ∷ []) c.in_ok-handed.ensures.removes ∙ ap (λ (n : List ℕ). n ∷ []) c.in_ok-copy.ensures)
+    (c.in_ok-push.ensures.ok ∙ ap (λ (ns : List (List ℕ)). ns ++ c.in_ok-copied.field-0 ∷ []) c.in_ok-handed.ensures.removes ∙ ap (λ (n : List ℕ). n ∷ []) c.in_ok-copied.ensures)

@@ -13,4 +13,4 @@ returns-clause-hands g c =
     let free = none-there held c.as_str-2.result.now new c.in_ok-get.field-0 c.as_str-2.ensures (subst (λ (o : Option Held). IfSome o (λ h. h c.as_str-2.result.now ≡ c.in_ok-get.field-0)) c.in_ok-bytes.ensures.same c.in_ok-get.ensures.found) (search rules) in
     rename-hands held c.args.state.now old bytes _ there new free
     c.in_ok-handed.ensures.lines c.in_ok-handed.ensures.objects
-    (c.in_ok-push.ensures.ok ∙ ap (λ (ns : List (List ℕ)). ns ++ c.in_ok-copy.field-0 ∷ []) c.in_ok-handed.ensures.removes ∙ ap (λ (n : List ℕ). n ∷ []) c.in_ok-copy.ensures)
+    (c.in_ok-push.ensures.ok ∙ ap (λ (ns : List (List ℕ)). ns ++ c.in_ok-copied.field-0 ∷ []) c.in_ok-handed.ensures.removes ∙ ap (λ (n : List ℕ). n ∷ []) c.in_ok-copied.ensures)

@@ -1,5 +1,5 @@
 use Rattle.std.proofs.Common.{◌≡◌, ◌+◌, ◌-◌, suc, subst, arith}
-use Rattle.rm_machine_code.proofs.Archives.{HasRoom}
+use Rattle.rm_machine.proofs.Archives.{HasRoom}
 use Rattle.rm_step_open.proofs.Archiving.{goes-first, goes-last, goes-turn}
 use Rattle.rm_step_open.proofs.Spaces.{space-first}
 use Rattle.rm_step_open.proofs.archives.archive_all.Goals as goal

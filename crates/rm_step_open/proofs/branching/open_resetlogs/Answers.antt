@@ -10,16 +10,15 @@ use Rattle.rm_machine.specs.OpenResetlogs.{branched_off, resetlogs_lines}
 use Rattle.rm_machine.specs.State.{tree}
 use Rattle.rm_machine.specs.declared.state.State.{State}
 use Rattle.rm_catalog_typed.specs.Fitting.{HasRoomFor}
-use Rattle.rm_machine_code.proofs.Branching.{after-archiving, can-after, can-reset}
-use Rattle.rm_machine_code.proofs.Handing.{hands-by}
+use Rattle.rm_machine.proofs.Branching.{after-archiving, can-after, can-reset}
+use Rattle.rm_machine.proofs.Handing.{hands-by}
 use Rattle.rm_step_open.proofs.Spaces.{accepted-alone}
-use Rattle.rm_step_open.proofs.Accepted.{archiving-accepted}
 use Rattle.rm_step_open.proofs.branching.open_resetlogs.Goals as goal
 
 pub archive_all-requires-clause-accepted : goal.archive_all-requires-clause-accepted
 archive_all-requires-clause-accepted c =
     let s : State = c.args.state.now in
-    accepted-alone s 2 (archiving-accepted s c.requires.accepted)
+    accepted-alone s 2 (can-reset s c.requires.sound c.requires.accepted).archiving
 
 pub branch_off-requires-clause-point : goal.branch_off-requires-clause-point
 branch_off-requires-clause-point c =

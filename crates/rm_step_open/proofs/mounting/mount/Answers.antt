@@ -4,7 +4,7 @@ use Rattle.rm_lang_statement.specs.declared.command.Command.TheVariants.{Mount}
 use Rattle.rm_machine.specs.Effect.{no_effect}
 use Rattle.rm_machine.specs.Mount.{as_mounted}
 use Rattle.rm_machine.specs.declared.state.State.{State}
-use Rattle.rm_machine_code.proofs.Handing.{hands-by}
+use Rattle.rm_machine.proofs.Handing.{hands-by}
 use Rattle.rm_step_open.proofs.mounting.mount.Goals as goal
 
 pub returns-clause-hands : goal.returns-clause-hands

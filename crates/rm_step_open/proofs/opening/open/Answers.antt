@@ -6,7 +6,7 @@ use Rattle.rm_machine.specs.Open.{opened}
 use Rattle.rm_machine.specs.State.{current_of, now_of}
 use Rattle.rm_machine.specs.Tracked.{with_tracker}
 use Rattle.rm_machine.specs.declared.state.State.{State}
-use Rattle.rm_machine_code.proofs.Handing.{hands-by}
+use Rattle.rm_machine.proofs.Handing.{hands-by}
 use Rattle.rm_step_open.proofs.opening.open.Goals as goal
 
 pub returns-clause-hands : goal.returns-clause-hands

@@ -5,7 +5,7 @@ use Rattle.std.specs.Prelude.{[], ◌∷◌}
 use Rattle.rm_machine.specs.Effect.{no_effect}
 use Rattle.rm_machine.specs.ResetDatabase.{at_incarnation}
 use Rattle.rm_machine.specs.declared.state.State.{State}
-use Rattle.rm_machine_code.proofs.Handing.{hands-by}
+use Rattle.rm_machine.proofs.Handing.{hands-by}
 use Rattle.rm_step_open.proofs.resetting.reset_database.Goals as goal
 
 pub returns-clause-hands : goal.returns-clause-hands

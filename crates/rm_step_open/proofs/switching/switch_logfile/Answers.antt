@@ -3,7 +3,7 @@ use Rattle.rm_base.proofs.Conditions.{only-where, unless}
 use Rattle.rm_commit.specs.declared.commit.Object.{Object}
 use Rattle.rm_machine.specs.Archive.{puts_by, thread_lines}
 use Rattle.rm_machine.specs.State.{is_no_thread}
-use Rattle.rm_machine_code.proofs.Threads.{thread-of}
+use Rattle.rm_machine.proofs.Threads.{thread-of}
 use Rattle.rm_report.specs.declared.line.Line.{Line}
 use Rattle.rm_step_open.proofs.Archiving.{hands_switch}
 use Rattle.rm_step_open.proofs.switching.switch_logfile.Goals as goal

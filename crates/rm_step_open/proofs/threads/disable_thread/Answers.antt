@@ -13,8 +13,8 @@ use Rattle.rm_machine.specs.Marks.{lacks_room, marks_before, one_further}
 use Rattle.rm_machine.specs.Sound.{IsSound}
 use Rattle.rm_machine.specs.State.{now_of}
 use Rattle.rm_machine.specs.declared.state.State.{State}
-use Rattle.rm_machine_code.proofs.Disabling.{accepted, after-due, can-archive, can-disable, disabling-fits}
-use Rattle.rm_machine_code.proofs.Handing.{hands-by}
+use Rattle.rm_machine.proofs.Disabling.{accepted, after-due, can-archive, can-disable, disabling-fits}
+use Rattle.rm_machine.proofs.Handing.{hands-by}
 use Rattle.rm_step_open.proofs.Disabling.{after-disable, can-close, room-after}
 use Rattle.rm_step_open.proofs.Spaces.{space-can}
 use Rattle.rm_step_open.proofs.threads.disable_thread.Goals as goal

@@ -8,8 +8,8 @@ use Rattle.rm_machine.specs.Effect.{no_effect}
 use Rattle.rm_machine.specs.EnableThread.{switch_on, with_thread_on}
 use Rattle.rm_machine.specs.State.{now_of}
 use Rattle.rm_machine.specs.declared.state.State.{State}
-use Rattle.rm_machine_code.proofs.Enabling.{enabling-fits}
-use Rattle.rm_machine_code.proofs.Handing.{hands-by}
+use Rattle.rm_machine.proofs.Enabling.{enabling-fits}
+use Rattle.rm_machine.proofs.Handing.{hands-by}
 use Rattle.rm_step_open.proofs.Enabling.{after-enable, can-begin}
 use Rattle.rm_step_open.proofs.threads.enable_thread.Goals as goal
 

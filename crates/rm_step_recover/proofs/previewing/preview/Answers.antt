@@ -14,13 +14,13 @@ use Rattle.rm_step_recover.proofs.Handing.{preview-tells}
 use Rattle.rm_step_recover.proofs.Records.{exact-numbers, fits, of-state, preview-within, there, within}
 use Rattle.rm_step_recover.proofs.previewing.preview.Goals as goal
 
-pub preview-requires-clause-place : goal.preview-requires-clause-place
-preview-requires-clause-place g c κs within =
+pub preview_from-requires-clause-place : goal.preview_from-requires-clause-place
+preview_from-requires-clause-place g c κs within =
     let hand = c.in_ok-hand.hand in
     fits c.args.state.now hand.records c.in_ok-hand.ensures.records hand.place c.in_ok-hand.ensures.place c.requires.sound
 
-pub preview-requires-clause-there : goal.preview-requires-clause-there
-preview-requires-clause-there g c κs within =
+pub preview_from-requires-clause-there : goal.preview_from-requires-clause-there
+preview_from-requires-clause-there g c κs within =
     let s = c.args.state.now in
     let current = ap (λ (b : BaseEntry). b.current) c.base-current.ensures.value in
     there s c.in_ok-hand.hand.records c.in_ok-hand.ensures.records c.base-current.result.current (subst (IsThere (tree s)) (sym current) c.requires.sound.catalog.ledger.current)

@@ -7,13 +7,13 @@ use Rattle.rm_machine.specs.State.{tree}
 use Rattle.rm_step_recover.proofs.Records.{fits, there, within}
 use Rattle.rm_step_recover.proofs.restoring.from_backups.Goals as goal
 
-pub restore-requires-clause-place : goal.restore-requires-clause-place
-restore-requires-clause-place g c κs within =
+pub restore_from-requires-clause-place : goal.restore_from-requires-clause-place
+restore_from-requires-clause-place g c κs within =
     let hand = c.in_ok-hand.hand in
     fits c.args.state.now hand.records c.in_ok-hand.ensures.records hand.place c.in_ok-hand.ensures.place c.requires.sound
 
-pub restore-requires-clause-there : goal.restore-requires-clause-there
-restore-requires-clause-there g c κs within =
+pub restore_from-requires-clause-there : goal.restore_from-requires-clause-there
+restore_from-requires-clause-there g c κs within =
     let s = c.args.state.now in
     let current = ap (λ (b : BaseEntry). b.current) c.base-current.ensures.value in
     there s c.in_ok-hand.hand.records c.in_ok-hand.ensures.records c.base-current.result.current (subst (IsThere (tree s)) (sym current) c.requires.sound.catalog.ledger.current)

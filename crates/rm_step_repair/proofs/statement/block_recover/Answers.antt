@@ -6,7 +6,7 @@ use Rattle.rm_machine.specs.BlockRecover.{repair_begun}
 use Rattle.rm_machine.specs.Events.{opening}
 use Rattle.rm_machine.specs.Recovery.{skipped_lines}
 use Rattle.rm_machine.specs.State.{now_of}
-use Rattle.rm_machine_code.proofs.RepairAccepted.{can-repair}
+use Rattle.rm_machine.proofs.RepairAccepted.{can-repair}
 use Rattle.rm_repair.specs.Mended.{HasBlock, IsOlder}
 use Rattle.rm_step_repair.specs.Gone.{HasRepaired}
 use Rattle.rm_step_repair.specs.Told.{IsTargetNow, mended_line}
@@ -15,7 +15,7 @@ use Rattle.rm_step_repair.proofs.Mends.{all-dated, in-place-targets, mended-stan
 use Rattle.rm_step_repair.proofs.statement.block_recover.Goals as goal
 
 pub tell_blocks-requires-clause-there : goal.tell_blocks-requires-clause-there
-tell_blocks-requires-clause-there g c =
+tell_blocks-requires-clause-there g c κs within =
     let s = c.args.state.now in
     let can = can-repair s c.args.form.now c.requires.sound c.requires.accepted in
     subst (All (IsTargetNow s)) (sym (c.as_slice.ensures.value ∙ c.in_ok-blocks.ensures)) (in-place-targets s c.requires.sound can.opened _ (mended-stand s c.requires.sound can.opened c.args.form.now))

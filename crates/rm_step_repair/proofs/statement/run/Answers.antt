@@ -5,7 +5,7 @@ use Rattle.rm_channel.specs.Room.{AreThreads, CanWrite}
 use Rattle.rm_machine.specs.Events.{opening}
 use Rattle.rm_machine.specs.Running.{CanFollow}
 use Rattle.rm_machine.specs.Sound.{IsSound}
-use Rattle.rm_machine_code.proofs.RepairAccepted.{can-repair}
+use Rattle.rm_machine.proofs.RepairAccepted.{can-repair}
 use Rattle.rm_repair.specs.Mended.{HasBlock, IsOlder}
 use Rattle.rm_step_repair.specs.Gone.{HasRepaired}
 use Rattle.rm_step_repair.proofs.Begun.{asked-fit, begun-follow, begun-opening, begun-sound, begun-threads, begun-writes}

@@ -3,8 +3,8 @@ use Rattle.rm_catalog.specs.declared.record.BaseEntry.{BaseEntry}
 use Rattle.rm_step_repair.proofs.Gathering.{gap-by, place-fits-records, targets, told-by}
 use Rattle.rm_step_repair.proofs.telling.tell_blocks.Goals as goal
 
-pub gather-requires-clause-place : goal.gather-requires-clause-place
-gather-requires-clause-place g c =
+pub gather_by-requires-clause-place : goal.gather_by-requires-clause-place
+gather_by-requires-clause-place g c κs within =
     let hand = c.in_ok-hand.hand in
     place-fits-records c.args.state.now hand.records hand.place c.in_ok-hand.ensures.records c.in_ok-hand.ensures.place c.requires.sound
 

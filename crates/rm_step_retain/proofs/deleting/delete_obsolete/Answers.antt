@@ -6,8 +6,8 @@ use Rattle.rm_machine.specs.Sound.{IsSound}
 use Rattle.rm_machine.specs.Upkeep.{names_at, removing, with_catalog, without_all}
 use Rattle.rm_machine.specs.declared.handed.Handed.{Handed}
 use Rattle.rm_machine.specs.declared.state.State.{State}
-use Rattle.rm_machine_code.proofs.Handing.{hands-by}
-use Rattle.rm_machine_code.proofs.Upkeep.{all-on}
+use Rattle.rm_machine.proofs.Handing.{hands-by}
+use Rattle.rm_machine.proofs.Upkeep.{all-on}
 use Rattle.rm_step_retain.proofs.Dates.{counted-dated}
 use Rattle.rm_step_retain.proofs.Obsolete.{told}
 use Rattle.rm_step_retain.proofs.deleting.delete_obsolete.Goals as goal

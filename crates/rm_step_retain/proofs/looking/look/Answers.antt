@@ -2,7 +2,7 @@ use Rattle.std.proofs.lemmas.Option.{IfSome_then}
 use Rattle.rm_evidence.specs.Gathered.{IsGathered}
 use Rattle.rm_evidence.proofs.Seen.{seen-so, seen-told}
 use Rattle.rm_retain.proofs.CopiesLeft.{gathered_ascend}
-use Rattle.rm_machine_code.proofs.Fitting.{gathered-hand}
+use Rattle.rm_machine.proofs.Fitting.{gathered-hand}
 use Rattle.rm_step_retain.proofs.Hand.{fits}
 use Rattle.rm_step_retain.proofs.looking.look.Goals as goal
 

@@ -5,7 +5,7 @@ use Rattle.rm_machine.specs.Effect.{no_effect}
 use Rattle.rm_machine.specs.Hands.{Hands}
 use Rattle.rm_machine.specs.Upkeep.{change_line, changed_to, with_catalog}
 use Rattle.rm_machine.specs.declared.state.State.{State}
-use Rattle.rm_machine_code.proofs.Handing.{hands-by}
+use Rattle.rm_machine.proofs.Handing.{hands-by}
 use Rattle.rm_step_upkeep.proofs.changing.change_backup.Goals as goal
 
 pub returns-clause-hands : goal.returns-clause-hands

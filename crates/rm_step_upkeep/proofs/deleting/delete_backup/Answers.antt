@@ -5,7 +5,7 @@ use Rattle.rm_machine.specs.Hands.{Hands}
 use Rattle.rm_machine.specs.Upkeep.{names_at, removing, with_catalog, without_record}
 use Rattle.rm_machine.specs.declared.handed.Handed.{Handed}
 use Rattle.rm_machine.specs.declared.state.State.{State}
-use Rattle.rm_machine_code.proofs.Handing.{hands-by}
+use Rattle.rm_machine.proofs.Handing.{hands-by}
 use Rattle.rm_step_upkeep.proofs.deleting.delete_backup.Goals as goal
 
 pub returns-clause-hands : goal.returns-clause-hands

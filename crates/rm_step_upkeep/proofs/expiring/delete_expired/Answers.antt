@@ -2,7 +2,7 @@ use Rattle.std.proofs.Common.{◌≤◌, ◌<◌, ◌^◌, ◌∙◌, ◌++◌, 
 use Rattle.rm_report.specs.declared.line.Line.TheVariants.{Deleted, DeletedCount}
 use Rattle.rm_machine.specs.Upkeep.{with_catalog, without_all}
 use Rattle.rm_machine.specs.declared.state.State.{State}
-use Rattle.rm_machine_code.proofs.Ids.{few-ids, some-ids}
+use Rattle.rm_machine.proofs.Ids.{few-ids, some-ids}
 use Rattle.rm_step_upkeep.proofs.Listed.{expired-hands, in-range}
 use Rattle.rm_step_upkeep.proofs.expiring.delete_expired.Goals as goal
 

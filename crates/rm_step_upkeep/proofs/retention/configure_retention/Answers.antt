@@ -6,7 +6,7 @@ use Rattle.rm_machine.specs.Configure.{policy_of, with_policy}
 use Rattle.rm_machine.specs.Effect.{no_effect}
 use Rattle.rm_machine.specs.Upkeep.{with_catalog}
 use Rattle.rm_machine.specs.declared.state.State.{State}
-use Rattle.rm_machine_code.proofs.Handing.{hands-by}
+use Rattle.rm_machine.proofs.Handing.{hands-by}
 use Rattle.rm_step_upkeep.proofs.retention.configure_retention.Goals as goal
 
 pub returns-clause-hands : goal.returns-clause-hands

@@ -6,7 +6,7 @@ use Rattle.rm_machine.specs.State.{ledger}
 use Rattle.rm_machine.specs.Tracked.{first_tracker, with_tracker}
 use Rattle.rm_machine.specs.Tracking.{with_tracking}
 use Rattle.rm_machine.specs.declared.state.State.{State}
-use Rattle.rm_machine_code.proofs.Handing.{hands-by}
+use Rattle.rm_machine.proofs.Handing.{hands-by}
 use Rattle.rm_step_upkeep.proofs.tracking.track_changes.Goals as goal
 
 pub returns-clause-hands : goal.returns-clause-hands

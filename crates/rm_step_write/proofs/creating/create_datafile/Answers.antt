@@ -7,8 +7,8 @@ use Rattle.rm_machine.specs.CreateDatafile.{new_datafile, next_file, with_datafi
 use Rattle.rm_machine.specs.Effect.{no_effect}
 use Rattle.rm_machine.specs.State.{now_of}
 use Rattle.rm_machine.specs.declared.state.State.{State}
-use Rattle.rm_machine_code.proofs.AddingDatafile.{datafile-fits, has-room}
-use Rattle.rm_machine_code.proofs.Handing.{hands-by}
+use Rattle.rm_machine.proofs.AddingDatafile.{datafile-fits, has-room}
+use Rattle.rm_machine.proofs.Handing.{hands-by}
 use Rattle.rm_report.specs.declared.line.Line.TheVariants.{DatafileAt}
 use Rattle.rm_step_write.proofs.Results.{after-datafile}
 use Rattle.rm_step_write.proofs.creating.create_datafile.Goals as goal

@@ -8,8 +8,8 @@ use Rattle.rm_machine.specs.declared.state.Instance.{Instance}
 use Rattle.rm_machine.specs.declared.state.State.{State}
 use Rattle.rm_machine.specs.State.{now_of}
 use Rattle.rm_machine.specs.Write.{change_of, with_write}
-use Rattle.rm_machine_code.proofs.Handing.{hands-by}
-use Rattle.rm_machine_code.proofs.Writes.{write-accepted}
+use Rattle.rm_machine.proofs.Handing.{hands-by}
+use Rattle.rm_machine.proofs.Writes.{write-accepted}
 use Rattle.rm_report.specs.declared.line.Line.TheVariants.{Written}
 use Rattle.rm_step_write.proofs.Accepted.{can-append, rows-below, write-numbers}
 use Rattle.rm_step_write.proofs.Results.{after-write}

@@ -1,0 +1,16 @@
+use Rattle.std.proofs.Common.{sym}
+use Rattle.std.proofs.lemmas.Result.{IfOk-weaker}
+use Rattle.rm_catalog.specs.declared.record.SetEntry.{SetEntry}
+use Rattle.rm_evidence.specs.Names.{set_name}
+use Rattle.rm_machine.proofs.Named.{no-name, one-name}
+use Rattle.rm_machine.proofs.naming.push_set_name.Goals as goal
+
+pub returns-in_ok-set_name-in-Some : goal.returns-in_ok-set_name-in-Some
+returns-in_ok-set_name-in-Some c =
+    let l = c.args.state.now.catalog.ledger in
+    IfOk-weaker c.push.result _ _ (λ x is. one-name (λ (e : SetEntry). e.id) c.args.id (λ (e : SetEntry). set_name e.id) l.sets c.requires.sound.catalog.ledger.ids.sets_ascend c.args.names.now
+    c.in-Some.set.now c.in_ok-set_name-in-Some.field-0 c.push.new.self (sym c.in-Some.ensures) c.in_ok-set_name-in-Some.ensures is) c.push.ensures.ok
+
+pub returns-in-None : goal.returns-in-None
+returns-in-None c =
+    no-name (λ (e : SetEntry). e.id) c.args.id (λ (e : SetEntry). set_name e.id) c.args.state.now.catalog.ledger.sets c.requires.sound.catalog.ledger.ids.sets_ascend c.args.names.now (sym c.in-None.ensures)

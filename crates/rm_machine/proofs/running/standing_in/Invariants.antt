@@ -1,0 +1,7 @@
+use Rattle.std.proofs.Common.{◌≡◌, ◌++◌}
+use Rattle.std.specs.List.{filter_map}
+use Rattle.std.specs.Vec.Iter.{into_iter_items}
+use Rattle.rm_machine.proofs.running.standing_in.Given as goal
+
+abbrev pub invariant-loop-slot : goal.invariant-loop-slot
+invariant-loop-slot l = l.files.items ++ filter_map (λ o. o) (into_iter_items l.slot-iterator) ≡ filter_map (λ o. o) (into_iter_items l.initial.slot-iterator)
