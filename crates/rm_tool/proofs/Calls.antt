@@ -1,18 +1,16 @@
 -- What serving left, of the script that was read and the site that was opened.
-use Rattle.std.proofs.Common.{◌≡◌, ℕ, Bool, List, Option, IfSome, Some, None, if◌then◌else◌, sym, subst}
+use Rattle.std.proofs.Common.{◌≡◌, ℕ, Bool, List, Option, Some, None, if◌then◌else◌, sym, subst}
 use Rattle.rm_base.specs.Store.{Held}
 use Rattle.rm_catalog.specs.declared.record.Record.{Record}
 use Rattle.rm_lang_token.specs.declared.token.Token.{Token}
 use Rattle.rm_lang_token.specs.Statements.{statements}
 use Rattle.rm_machine.specs.Machine.{Machine}
 use Rattle.rm_machine_laws.specs.Holds.{View}
-use Rattle.rm_catalog.specs.declared.catalog.CatalogFault.TheVariants.{BadRow}
-use Rattle.rm_catalog.specs.Faults.{IsBadRow}
-use Rattle.rm_catalog.proofs.Unique.{none_valid}
-use Rattle.rm_site.specs.Opens.{AreValid, Opens, Shows}
+use Rattle.rm_tool_opening.specs.Opens.{Opens, Shows}
 use Rattle.rm_tool.specs.Run.{Watch}
 use Rattle.rm_tool.specs.Serving.{FromEach, Closes, EndsInOutput, EndsMidway, at_saving, at_statement}
-use Rattle.rm_tool.specs.Session.{Finishes, FromRest, HasScript, OfOpened, OfScript, ScriptOf, TellsValid, WritesBadRecord}
+use Rattle.rm_tool.specs.Session.{Finishes, HasScript, OfOpened, OfScript, ScriptOf}
+use Rattle.rm_tool_opening.specs.Opening.{FromRest}
 
 -- what is so of each machine that the opened site stands for is so of the one that wakes
 from-opening : (held : Option Held) (kept : Option (List Record)) (v : View) (Is : Machine → Type 0) → Opens held kept v → FromEach held kept v Is → FromRest held kept Is
@@ -141,14 +139,3 @@ module _ {said : Option ℕ} {left rest : Option (List ℕ)} {before mid : Optio
 -- there is a script, where the words say this drill
 pub has-script : {said : Option ℕ} (left rest : Option (List ℕ)) (drill : Option ℕ) → said ≡ drill → (script : List ℕ) → ScriptOf drill left rest script → HasScript said left rest
 has-script left rest drill says script read = subst (λ (d : Option ℕ). HasScript d left rest) (sym says) (script, read)
-
--- the records that are told are valid
-pub told-valid : {kept : Option (List Record)} (rs : List Record) → kept ≡ Some rs → TellsValid kept → AreValid rs
-told-valid rs is valid = subst (λ (o : Option (List Record)). IfSome o AreValid) is valid
-
--- and then none of them breaks a rule
-pub none-bad : {kept : Option (List Record)} {before now : Option (List ℕ)} (rs : List Record) → kept ≡ Some rs → AreValid rs → WritesBadRecord kept before now → ⊥
-none-bad rs is valid writes =
-    let key = writes.bad.key in
-    let bad = subst (λ (o : Option (List Record)). IfSome o (λ qs. IsBadRow qs (BadRow key.kind key.id))) is writes.bad.first in
-    none_valid rs valid.0 bad.0 (record { kind = key.kind; id = key.id }) bad.1 bad.2 valid.1 valid.2

@@ -6,8 +6,8 @@ use Rattle.rm_lang_token.specs.declared.token.Token.{Token}
 use Rattle.rm_machine_laws.specs.Holds.{View}
 use Rattle.rm_machine_laws.specs.Saves.{IsEnded, Saves, StopsSaving}
 use Rattle.rm_machine_laws.specs.Stopped.{IsLeft}
-use Rattle.rm_site.specs.Saved.{EndsOut}
-use Rattle.rm_site.specs.Untouched.{AreSame}
+use Rattle.rm_tool_opening.specs.Saved.{EndsOut}
+use Rattle.rm_tool_opening.specs.Untouched.{AreSame}
 use Rattle.rm_tool.specs.Comes.{AtHand}
 use Rattle.rm_tool.proofs.Quiet.{same-then}
 use Rattle.rm_tool.specs.Run.{Watch}

@@ -17,8 +17,8 @@ use Rattle.rm_machine_laws.specs.Saves.{applies}
 use Rattle.rm_report.specs.Reply.{said}
 use Rattle.rm_report.specs.declared.line.Line.{Line}
 use Rattle.rm_report.specs.declared.line.Reply.{Reply}
-use Rattle.rm_site.specs.ComesOut.{ComesOut}
-use Rattle.rm_site.specs.Untouched.{IsUntouched, is_quiet}
+use Rattle.rm_tool_opening.specs.ComesOut.{ComesOut}
+use Rattle.rm_tool_opening.specs.Untouched.{IsUntouched, is_quiet}
 use Rattle.rm_tool.specs.Block.{after_inner, inner_applies, joined, unset, with_until}
 use Rattle.rm_tool.specs.Built.{statement_built_at}
 use Rattle.rm_tool.specs.Comes.{AllCome, AtHand, BlockComes, CommandComes, InnerComes, StatementComes, at_hand}
@@ -64,10 +64,6 @@ pub record Comes (origin v : View) (x : Settings) (block left : List Inner) (clo
 -- the reply to a whole RUN
 abbrev pub IsComing : View → View → List Inner → ℕ → Reply → AtHand → AtHand → Type 0
 IsComing origin v block clock reply start end = (applied : Bool) × BlockComes unset start block clock reply applied end × (v.applied ≡ (origin.applied || applied))
-
--- before its first statement
-pub comes-none : (v : View) (block : List Inner) (clock : ℕ) (start : AtHand) → Comes v v unset block block clock [] start start
-comes-none v block clock start = record { applied = false; knows = sym (or-false v.applied); goes = λ reply more end comes. comes }
 
 module _ {origin v : View} {x : Settings} {y : Inner} {block left others : List Inner} {clock : ℕ} {lines : List Line} {start here : AtHand} (at : Comes origin v x block left clock lines start here) (is : left ≡ y ∷ others) where
   next : Comes origin v x block (y ∷ others) clock lines start here

@@ -8,7 +8,7 @@ use Rattle.rm_lang_token.specs.declared.token.Token.{Token}
 use Rattle.rm_machine_laws.specs.Holds.{View}
 use Rattle.rm_machine_laws.proofs.Halting.{rests}
 use Rattle.rm_report.specs.declared.line.Reply.{Reply}
-use Rattle.rm_site.specs.Shown.{next_scn, objects_in}
+use Rattle.rm_tool_opening.specs.Shown.{next_scn, objects_in}
 use Rattle.rm_tool.proofs.Tallies.{line-is}
 use Rattle.rm_tool.specs.Drill.{IsTally, drill_line, summary_text}
 use Rattle.rm_tool.specs.Comes.{AtHand}

@@ -8,7 +8,6 @@ pub mod Lines
 pub mod Quiet
 pub mod Runs
 pub mod Setting
-pub mod Source
 pub mod Statements
 pub mod Statuses
 pub mod Tallies

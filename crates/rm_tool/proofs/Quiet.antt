@@ -11,7 +11,7 @@ use Rattle.rm_lang_statement.specs.declared.command.Until.{Until}
 use Rattle.rm_machine.specs.Laws.{only_tells}
 use Rattle.rm_machine_laws.specs.Holds.{View}
 use Rattle.rm_report.specs.declared.line.Reply.{Reply}
-use Rattle.rm_site.specs.Untouched.{AreSame, IsUntouched, is_quiet}
+use Rattle.rm_tool_opening.specs.Untouched.{AreSame, IsUntouched, is_quiet}
 use Rattle.rm_tool.specs.Quiet.{is_quiet_statement, only_tells_statement}
 use Rattle.rm_lang_statement.specs.declared.command.Statement.{Statement}
 use Rattle.rm_lang_statement.specs.declared.command.Statement.TheVariants.{Plain, Run as Block}

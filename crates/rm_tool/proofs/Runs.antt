@@ -21,7 +21,7 @@ use Rattle.rm_machine.specs.Machine.{Machine}
 use Rattle.rm_machine.specs.Rest.{at_rest}
 use Rattle.rm_machine_laws.specs.Holds.{Holds, HoldsRest, Stands, View}
 use Rattle.rm_machine_laws.proofs.Halting.{rests}
-use Rattle.rm_site.specs.Untouched.{AreSame, IsUntouched}
+use Rattle.rm_tool_opening.specs.Untouched.{AreSame, IsUntouched}
 use Rattle.rm_tool.proofs.Coming.{come-more}
 use Rattle.rm_tool.specs.Comes.{AtHand, ComeWith, StatementComes, at_hand}
 use Rattle.rm_tool.specs.Drill.{IsTally}

@@ -24,7 +24,7 @@ use Rattle.rm_machine_laws.specs.Stopped.{Stops}
 use Rattle.rm_machine_laws.proofs.Every.{every-loose}
 use Rattle.rm_machine_laws.proofs.Halting.{rests, stopped-after}
 use Rattle.rm_machine.specs.Laws.{only_tells}
-use Rattle.rm_site.specs.Untouched.{AreSame, IsUntouched, is_quiet}
+use Rattle.rm_tool_opening.specs.Untouched.{AreSame, IsUntouched, is_quiet}
 use Rattle.rm_tool.proofs.Quiet.{telling-quiet}
 use Rattle.rm_tool.specs.Quiet.{is_quiet_statement, only_tells_inner, only_tells_statement}
 use Rattle.rm_tool.specs.Run.{StepOf, IsHonestWithin, Watch}

@@ -4,14 +4,15 @@ use Rattle.std.specs.Prelude.{IfErr, IfOk, OnOk, IsErrOf}
 use Rattle.rm_base.specs.Outside.{Rose}
 use Rattle.rm_base.specs.Store.{Held}
 use Rattle.rm_catalog.specs.declared.record.Record.{Record}
-use Rattle.rm_site.specs.Opens.{AreValid}
+use Rattle.rm_tool_opening.specs.Opens.{AreValid}
 use Rattle.rm_tool.specs.Early.{Faults, Leaves, RoseFor, status_for, status_of}
 use Rattle.rm_tool.specs.Run.{Watch}
-use Rattle.rm_tool.specs.Session.{IsDone, IsEarly, NoneRan, TellsValid}
+use Rattle.rm_tool.specs.Session.{IsDone, IsEarly, NoneRan}
+use Rattle.rm_tool_opening.specs.Opening.{TellsValid}
 use Rattle.rm_tool.specs.Words.{accepts}
 use Rattle.rm_tool.specs.declared.early.Early.{Early}
 use Rattle.rm_tool.specs.declared.early.Early.TheVariants as early
-use Rattle.rm_tool.proofs.Calls.{none-bad, told-valid}
+use Rattle.rm_tool_opening.proofs.Source.{none-bad, told-valid}
 
 -- how a run ended that has this status
 abbrev pub of_status : ℕ → Option Early

@@ -6,7 +6,7 @@ use Rattle.std.specs.List.{list_any}
 use Rattle.std.proofs.lemmas.Bool.{le-ltb}
 use Rattle.rm_machine.specs.declared.state.State.{State}
 use Rattle.rm_report.specs.declared.line.Reply.{Reply}
-use Rattle.rm_site.specs.Shown.{next_scn, objects_in}
+use Rattle.rm_tool_opening.specs.Shown.{next_scn, objects_in}
 use Rattle.rm_tool.specs.Drill.{IsTally, capped, drill_line, refusals_told, summary_text}
 use Rattle.rm_tool.specs.declared.drill.Summary.{Summary}
 use Rattle.rm_tool.specs.declared.tally.Tally.{Tally}

@@ -17,8 +17,8 @@ use Rattle.rm_machine_laws.specs.Refused.{AnsweredBy, refusal_in}
 use Rattle.rm_machine_laws.specs.Saves.{applies}
 use Rattle.rm_report.specs.Reply.{refused_by, said}
 use Rattle.rm_report.specs.declared.line.Reply.{Reply}
-use Rattle.rm_site.specs.ComesOut.{ComesOut}
-use Rattle.rm_site.specs.Untouched.{is_quiet}
+use Rattle.rm_tool_opening.specs.ComesOut.{ComesOut}
+use Rattle.rm_tool_opening.specs.Untouched.{is_quiet}
 use Rattle.rm_tool.specs.Block.{after_inner, channel_reply, inner_applies, joined, set_reply, unset, with_until}
 use Rattle.rm_tool.specs.Built.{statement_built_at}
 use Rattle.rm_tool.specs.Run.{past}

@@ -4,7 +4,6 @@ pub mod Comes
 pub mod Drill
 pub mod Early
 pub mod Ends
-pub mod Opening
 pub mod Quiet
 pub mod Run
 pub mod Serving

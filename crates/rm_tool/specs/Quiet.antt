@@ -8,7 +8,7 @@ use Rattle.rm_lang_statement.specs.declared.command.Statement.TheVariants.{Plain
 use Rattle.rm_lang_token.specs.declared.token.Token.{Token}
 use Rattle.rm_machine.specs.Laws.{only_tells}
 use Rattle.rm_report.specs.declared.line.Reply.{Reply}
-use Rattle.rm_site.specs.Untouched.{is_quiet}
+use Rattle.rm_tool_opening.specs.Untouched.{is_quiet}
 use Rattle.rm_tool.specs.Built.{statement_built_at}
 
 -- the statement of a RUN only tells, or sets what holds for those behind it

@@ -27,8 +27,8 @@ use Rattle.rm_machine_laws.specs.Stopped.{IsLeft, Stopped}
 use Rattle.rm_tool.specs.declared.session.Halt.{Halt}
 use Rattle.rm_tool.specs.declared.session.Halt.TheVariants as halt
 use Rattle.rm_tool.specs.declared.tally.Tally.{Tally}
-use Rattle.rm_site.specs.Saved.{EndsOut}
-use Rattle.rm_site.specs.Untouched.{AreSame, IsUntouched}
+use Rattle.rm_tool_opening.specs.Saved.{EndsOut}
+use Rattle.rm_tool_opening.specs.Untouched.{AreSame, IsUntouched}
 use Rattle.rm_tool.specs.Comes.{AtHand, BlockComes, ComeWith, StatementComes, at_hand}
 use Rattle.rm_tool.specs.Quiet.{are_quiet, is_quiet_statement, only_tells_statement}
 use Rattle.rm_tool.specs.Drill.{IsTally, drill_line, output_of, output_so_far}

@@ -1,33 +1,24 @@
 -- What a whole call of `run` leaves.
 use Rattle.std.specs.Prelude.{ℕ, ◌≡◌, ◌⊎◌, ◌<◌, Bool, false, Option, Some, None, List, [], ◌∷◌, ◌++◌, codes, if◌then◌else◌, IfSome, length}
-use Rattle.std.specs.Fmt.{decimal}
-use Rattle.rm_base.specs.Outside.{Appends, HasTaken}
+use Rattle.rm_base.specs.Outside.{HasTaken}
 use Rattle.rm_base.specs.Store.{Held}
-use Rattle.rm_catalog.specs.Faults.{IsBadRow}
-use Rattle.rm_catalog.specs.declared.catalog.CatalogFault.TheVariants.{BadRow}
-use Rattle.rm_catalog.specs.declared.record.Key.{Key}
 use Rattle.rm_catalog.specs.declared.record.Record.{Record}
 use Rattle.rm_drill.specs.Script.{script_text}
 use Rattle.rm_lang_token.specs.Statements.{statements}
 use Rattle.rm_lang_token.specs.declared.token.Token.{Token}
-use Rattle.rm_machine.specs.Machine.{Machine}
-use Rattle.rm_machine.specs.Rest.{PartsTell, Rest, Wakes}
 use Rattle.rm_machine.specs.declared.state.State.{State}
-use Rattle.rm_machine_laws.specs.Holds.{HoldsRest, View}
-use Rattle.rm_site.specs.Opens.{AreValid, Shows}
-use Rattle.rm_site.specs.Untouched.{AreSame}
+use Rattle.rm_machine_laws.specs.Holds.{View}
+use Rattle.rm_tool_opening.specs.Opens.{Shows}
+use Rattle.rm_tool_opening.specs.Untouched.{AreSame}
 use Rattle.rm_tool.specs.Run.{Watch}
 use Rattle.rm_tool.specs.Serving.{Closes, EndsInOutput, EndsMidway}
 use Rattle.rm_tool.specs.Words.{accepts, drill_of}
+use Rattle.rm_tool_opening.specs.Opening.{BeginsBadRecord, FromRest, TellsValid}
 use Rattle.rm_tool_ends.specs.Writing.{WritesFront, bad_words}
 
 -- the line of status 8
 abbrev pub over_long : List ℕ
 over_long = codes "rman: script over 4194304 bytes" ++ 10 ∷ []
-
--- the line of status 9
-abbrev pub bad_record : Key → List ℕ
-bad_record key = codes "rman: bad record " ++ decimal key.kind ++ 32 ∷ decimal key.id ++ 10 ∷ []
 
 -- 0 or 1: the script was read to its end, and each statement was answered
 abbrev pub IsDone : ℕ → Type 0
@@ -40,11 +31,6 @@ IsEarly status = (status ≡ 2) ⊎ (status ≡ 3) ⊎ (status ≡ 8) ⊎ (statu
 -- no statement ran: the clock was not asked, and the store and the keeper hold what they held
 abbrev pub NoneRan : Watch → Watch → Option Held → Option (List Record) → Option Held → Option (List Record) → Type 0
 NoneRan clock later held kept held' kept' = (later ≡ clock) × AreSame held kept held' kept'
-
--- Whatever database at rest the store and the keeper hold: where digests tell of its saved site it wakes, and this is so of
--- the machine.
-abbrev pub FromRest : Option Held → Option (List Record) → (Machine → Type 0) → Type 0
-FromRest held kept Is = (r : Rest) → HoldsRest held kept r → PartsTell r → (first : Machine) × Wakes r first × Is first
 
 -- Whatever the store and the keeper hold: a site was opened that shows what they hold, and this is so of its database.
 abbrev pub OfOpened : Option Held → Option (List Record) → (Option State → Type 0) → Type 0
@@ -79,34 +65,12 @@ pub record Finishes (drill : Option ℕ) (left rest : Option (List ℕ)) (clock 
   pub serves : OfScript drill left rest (λ ss. OfOpened held kept (λ o. Closes (FromRest held kept) o drill clock later before now held kept held' kept' refused ss))
   pub tells : status ≡ (if refused then 1 else 0)
 
--- the keeper's records are valid, where it tells them
-abbrev pub TellsValid : Option (List Record) → Type 0
-TellsValid kept = IfSome kept AreValid
-
 -- Status 5, 6 and 7: the call ended before the first statement, with nothing written and no statement run; or at a
 -- statement, and what was written are exactly the replies to those before it, of a drill nothing; or at the save, after all that is written. The store and
 -- the keeper hold what is left.
 pub data EndsEarly (drill : Option ℕ) (left rest : Option (List ℕ)) (clock later : Watch) (before now : Option (List ℕ)) (held : Option Held) (kept : Option (List Record)) (held' : Option Held) (kept' : Option (List Record)) : Type 0 where
   before_statements : now ≡ before → NoneRan clock later held kept held' kept' → EndsEarly drill left rest clock later before now held kept held' kept'
   midway : TellsValid kept → OfScript drill left rest (λ ss. OfOpened held kept (λ o. EndsMidway (FromRest held kept) o drill clock later before now held kept held' kept' ss)) → EndsEarly drill left rest clock later before now held kept held' kept'
-
--- the line of the first of the keeper's records, in order, that breaks a rule, where it tells them
-pub record IsBadRecord (kept : Option (List Record)) (line : List ℕ) : Type 0 where
-  pub key : Key
-  pub first : IfSome kept (λ rs. IsBadRow rs (BadRow key.kind key.id))
-  pub is : line ≡ bad_record key
-
--- Status 9: the line of that record was written.
-pub record WritesBadRecord (kept : Option (List Record)) (before now : Option (List ℕ)) : Type 0 where
-  pub line : List ℕ
-  pub bad : IsBadRecord kept line
-  pub written : Appends before now line
-
--- a front of that line was written, not all of it
-pub record BeginsBadRecord (kept : Option (List Record)) (before now : Option (List ℕ)) : Type 0 where
-  pub line : List ℕ
-  pub bad : IsBadRecord kept line
-  pub written : WritesFront before now line
 
 -- Status 4: what was written is a front of the line of status 2, 8 or 9, not all of it, and no statement ran; or the sink failed in what the
 -- session writes.

@@ -7,7 +7,7 @@ ghost use Rattle.rm_tool.specs.Built.{is_built_inner, is_built_statement, statem
 use rm_base::NoMemory;
 use rm_lang::{Inner, Statement, statement_of};
 use rm_lang_token::Token;
-use rm_machine_code::is_built;
+use rm_machine::is_built;
 use std::alloc::Global;
 
 fn is_built_inner(inner: &Inner) -> bool

@@ -2,9 +2,9 @@
 ghost use Rattle.std.specs.Prelude.{◌≡◌};
 ghost use Rattle.rm_tool.specs.Early.{status_of as the_status_of};
 
-use crate::opening::Unopened;
 use crate::session::Halt;
 use rm_base::{Failed, NoMemory};
+use rm_tool_opening::Unopened;
 
 /// Why a run has not answered each statement of its script, or has not saved what they changed.
 #[derive(Clone, Copy, PartialEq, Eq)]

@@ -84,7 +84,7 @@ pub fn read_all<S: Source>(alloc: Global, source: &mut S) -> Result<Vec<u8>, Rea
 
 /// The script of a session: all that the source gives, or of a drill its own, and then the source is left alone. After want of memory
 /// nothing is known but that the source's faults did not fall.
-pub fn script_for<S: Source>(
+fn script_for<S: Source>(
     alloc: Global,
     source: &mut S,
     drill: Option<u64>,

@@ -4,11 +4,11 @@
 mod adapters;
 mod block;
 mod built;
+pub mod desk;
 mod drill;
 mod early;
 pub mod ends;
 pub mod laws;
-pub mod opening;
 pub mod run;
 mod session;
 mod tally;
@@ -16,4 +16,5 @@ mod untils;
 mod words;
 
 pub use adapters::{ReadSource, SystemClock, WriteSink};
-pub use rm_site::OpenGate;
+pub use desk::run_at;
+pub use rm_tool_opening::OpenGate;

@@ -2,23 +2,24 @@
 ghost use Rattle.std.specs.Prelude.{◌≡◌, ◌<◌, ◌∷◌, [], Contains, IfErr, IfOk, IfSome, IsErrOf, IsSome, OnOk, Some, None, List, length, true, false};
 ghost use Rattle.rm_base.specs.Outside.{Appends, Rose};
 ghost use Rattle.rm_catalog.specs.declared.record.Record.{Record};
-ghost use Rattle.rm_site.specs.Opens.{AreValid};
+ghost use Rattle.rm_tool_opening.specs.Opens.{AreValid};
 ghost use Rattle.rm_tool.specs.Early.{Leaves, RoseFor, status_of as the_status_of};
 ghost use Rattle.rm_tool.specs.Ends.{Counted, TakesMany};
 ghost use Rattle.rm_tool.specs.Run.{watch};
-ghost use Rattle.rm_tool.specs.Session.{HasScript, Finishes, EndsEarly, WritesPart, WritesBadRecord, TellsValid, IsDone, IsEarly, NoneRan, over_long};
+ghost use Rattle.rm_tool.specs.Session.{HasScript, Finishes, EndsEarly, WritesPart, IsDone, IsEarly, NoneRan, over_long};
+ghost use Rattle.rm_tool_opening.specs.Opening.{WritesBadRecord, TellsValid};
 ghost use Rattle.rm_tool.specs.Words.{accepts, drill_of};
 ghost use Rattle.rm_tool_ends.specs.Writing.{bad_words};
 
 use crate::early::{Early, status_of};
 use crate::ends::script_of;
-use crate::opening::open_site;
 use crate::session::serve_session;
 use crate::words::asked_in;
 use rm_base::{Clock, Sink, Source, Store, Text};
 use rm_catalog::Keeper;
 use rm_channel::Gate;
 use rm_lang_token::statements;
+use rm_tool_opening::open_site;
 use std::alloc::Global;
 use std::sync::Wait;
 use std::thread::Threads;

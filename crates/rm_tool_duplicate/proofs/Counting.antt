@@ -15,7 +15,7 @@ use Rattle.rm_history.specs.World.{exists, file_of}
 use Rattle.rm_history.specs.declared.world.Datafile.{Datafile}
 use Rattle.rm_history.specs.declared.world.World.{World}
 use Rattle.rm_history.proofs.Worlds.{file-there}
-use Rattle.rm_machine_code.proofs.Numbers.{file-at}
+use Rattle.rm_machine.proofs.Numbers.{file-at}
 use Rattle.rm_plan.specs.Plan.{IsFileTarget}
 
 -- what stands past the end of the datafiles

@@ -10,7 +10,7 @@ use Rattle.rm_dup.specs.declared.database.Duplicate.{Duplicate}
 use Rattle.rm_lang_words.specs.Duplicate.{DuplicateSaid}
 use Rattle.rm_machine.specs.declared.state.State.{State}
 use Rattle.rm_shelf.specs.Shelved.{AllStay, Shelved}
-use Rattle.rm_tool.specs.Session.{TellsValid}
+use Rattle.rm_tool_opening.specs.Opening.{TellsValid}
 use Rattle.rm_tool_duplicate.specs.Asked.{Sides, sides}
 use Rattle.rm_tool_duplicate.specs.Duplicated.{IsMade, IsMadeOf, Makes, commit_of}
 use Rattle.rm_tool_duplicate.specs.Ended.{Finishes, IsReady, Leaves, before_changes, in_changes, in_lines, in_refusal}

@@ -15,9 +15,10 @@ use Rattle.rm_machine.specs.Recovery.{in_place}
 use Rattle.rm_machine.specs.Sound.{IsSound}
 use Rattle.rm_machine.specs.declared.state.State.{State}
 use Rattle.rm_piece.specs.Valid.{IsPiece}
+use Rattle.rm_step_recover.specs.Gap.{NamesGap}
 use Rattle.rm_tool_duplicate.specs.Asked.{Sides, target_inc}
 use Rattle.rm_tool_duplicate.specs.Duplicated.{IsMadeOf}
-use Rattle.rm_tool_duplicate.specs.Refused.{HasGap, IsNameReason, IsNumberReason, IsReason, IsRefused, by_gap}
+use Rattle.rm_tool_duplicate.specs.Refused.{IsNameReason, IsNumberReason, IsReason, IsRefused, by_gap}
 use Rattle.rm_tool_duplicate.proofs.Reasons.{by-names}
 
 module _ (x : DuplicateSaid) (a : Sides) (s : State) where
@@ -42,10 +43,10 @@ module _ (x : DuplicateSaid) (a : Sides) (s : State) where
             subst (λ o. IsMadeOf x a o d) (sym shown) (record { sound = sound; dbid = dbid; accepted = accepted; is = is; pieces = pieces; records = records })
 
     -- or the gap
-    pub refused-all : IfOk r (λ y. IfErr y (HasGap x a.from s)) → IfOk r (λ y. IfErr y (IsRefused x a source))
+    pub refused-all : IfOk r (λ y. IfErr y (NamesGap a.from s (target_inc x s) x.until)) → IfOk r (λ y. IfErr y (IsRefused x a source))
     refused-all = by-result r
       where
-        by-result : (r : Result (Result Duplicate Refusal) Stop) → IfOk r (λ y. IfErr y (HasGap x a.from s)) → IfOk r (λ y. IfErr y (IsRefused x a source))
+        by-result : (r : Result (Result Duplicate Refusal) Stop) → IfOk r (λ y. IfErr y (NamesGap a.from s (target_inc x s) x.until)) → IfOk r (λ y. IfErr y (IsRefused x a source))
         by-result (Err e) gap = tt
         by-result (Ok (Ok d)) gap = tt
         by-result (Ok (Err refusal)) gap = subst (λ o. IsRefused x a o refusal) (sym shown) (by_gap s refusal accepted gap)

@@ -10,10 +10,9 @@ use Rattle.rm_apply.specs.Recover.{outside}
 use Rattle.rm_base.proofs.Members.{behind, first-or-rest, in-front, none-in}
 use Rattle.rm_base.specs.Store.{AreTheNames, Held}
 use Rattle.rm_base.specs.declared.refusal.Refusal.{Refusal}
-use Rattle.rm_base.specs.declared.refusal.Refusal.TheVariants.{Rm02, Rm03, Rm06, Rm07, Rm13}
+use Rattle.rm_base.specs.declared.refusal.Refusal.TheVariants.{Rm02, Rm03, Rm06, Rm07}
 use Rattle.rm_catalog.specs.Faults.{Answers}
 use Rattle.rm_catalog.specs.declared.record.Record.{Record}
-use Rattle.rm_history.specs.declared.world.World.{World}
 use Rattle.rm_lang_statement.specs.declared.command.Until.TheVariants.{Scn}
 use Rattle.rm_lang_words.specs.Duplicate.{DuplicateSaid}
 use Rattle.rm_machine.specs.RecoverTest.{is_no_incarnation, test_refusal, tested}
@@ -22,7 +21,7 @@ use Rattle.rm_machine.specs.Until.{or_else}
 use Rattle.rm_machine.specs.declared.state.State.{State}
 use Rattle.rm_report.specs.Reply.{HasDate}
 use Rattle.rm_tool_duplicate.specs.Asked.{Sides, target_inc}
-use Rattle.rm_tool_duplicate.specs.Refused.{AreTaken, HasRecords, IsNameReason, IsNumberReason, IsReason, files_at, first_taken, is_among, name_refusal, number_refusal}
+use Rattle.rm_tool_duplicate.specs.Refused.{AreTaken, HasRecords, IsNameReason, IsNumberReason, IsReason, files_at, is_among, name_refusal, number_refusal}
 
 -- Whether a number has records
 
@@ -134,10 +133,3 @@ by-records x s false = in-range (tested s x.incarnation) x.until (is_no_incarnat
 
 pub number-dated : (x : DuplicateSaid) (target : Option (List Record)) (s : State) (o : Option Refusal) → IsNumberReason x target s o → IfSome o HasDate
 number-dated x target s o why = subst (λ p. IfSome p HasDate) (sym why.is) (by-records x s why.has_records)
-
-taken-dated : (o : Option (List ℕ)) → IfSome (option_map Rm13 o) HasDate
-taken-dated None = tt
-taken-dated (Some n) = tt
-
-pub name-dated : (w : World) (i s : ℕ) (to : Option Held) (o : Option Refusal) → IsNameReason w i s to o → IfSome o HasDate
-name-dated w i s to o why = subst (λ p. IfSome p HasDate) (sym why.is) (taken-dated (first_taken why.is_taken 1 (files_at w i s)))

@@ -6,8 +6,8 @@ use Rattle.rm_lang_words.specs.Duplicate.{DuplicateSaid}
 use Rattle.rm_base.specs.Outside.{Rose}
 use Rattle.rm_base.specs.Store.{Held}
 use Rattle.rm_shelf.specs.Shelved.{Shelved}
-use Rattle.rm_site.specs.Opens.{AreValid}
-use Rattle.rm_tool.proofs.Calls.{none-bad, told-valid}
+use Rattle.rm_tool_opening.specs.Opens.{AreValid}
+use Rattle.rm_tool_opening.proofs.Source.{none-bad, told-valid}
 use Rattle.rm_tool_duplicate.specs.Asked.{Sides, sides}
 use Rattle.rm_tool_duplicate.specs.Ended.{Finishes, Leaves}
 use Rattle.rm_tool_ends.proofs.Statuses.{ended-at, of_status}

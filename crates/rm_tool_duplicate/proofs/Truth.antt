@@ -25,12 +25,12 @@ use Rattle.rm_machine.specs.Machine.{DigestsTell, IsSoundBy, Machine, TellBy}
 use Rattle.rm_machine.specs.Recovery.{AreMadeAt, file_at, in_place}
 use Rattle.rm_machine.specs.State.{world}
 use Rattle.rm_machine.specs.declared.state.State.{State}
-use Rattle.rm_machine_code.proofs.Told.{tells-files}
+use Rattle.rm_machine.proofs.Told.{tells-files}
 use Rattle.rm_machine_laws.specs.Holds.{View}
 use Rattle.rm_machine_laws.proofs.Agreeing.{agreed}
 use Rattle.rm_machine_laws.proofs.Told.{files-made}
 use Rattle.rm_plan.specs.Plan.{IsFileTarget}
-use Rattle.rm_tool.specs.Opening.{IsSource}
+use Rattle.rm_tool_opening.specs.Opening.{IsSource}
 use Rattle.rm_tool_duplicate.specs.Asked.{Sides, target_inc}
 use Rattle.rm_tool_duplicate.specs.Duplicated.{AreTrueCopies, IsMade, Makes}
 

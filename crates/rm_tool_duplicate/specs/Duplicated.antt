@@ -31,8 +31,8 @@ use Rattle.rm_report.specs.Reply.{said}
 use Rattle.rm_report.specs.Text.{reply_text}
 use Rattle.rm_report.specs.declared.line.Line.{Line}
 use Rattle.rm_report.specs.declared.line.Line.TheVariants.{DuplicatedDatabase, DuplicatedDatafile}
-use Rattle.rm_tool.specs.Opening.{IsSource}
-use Rattle.rm_tool.specs.Session.{FromRest}
+use Rattle.rm_tool_opening.specs.Opening.{IsSource}
+use Rattle.rm_tool_opening.specs.Opening.{FromRest}
 use Rattle.rm_tool_duplicate.specs.Asked.{Sides, target_inc}
 use Rattle.rm_tool_duplicate.specs.Refused.{IsReason, copy_name}
 

@@ -5,7 +5,7 @@ use Rattle.rm_base.specs.declared.refusal.Refusal.{Refusal}
 use Rattle.rm_commit.specs.Carrying.{Carried, Halted}
 use Rattle.rm_dup.specs.declared.database.Duplicate.{Duplicate}
 use Rattle.rm_lang_words.specs.Duplicate.{DuplicateSaid}
-use Rattle.rm_tool.specs.Session.{BeginsBadRecord, TellsValid, WritesBadRecord}
+use Rattle.rm_tool_opening.specs.Opening.{BeginsBadRecord, TellsValid, WritesBadRecord}
 use Rattle.rm_tool_duplicate.specs.Asked.{Sides}
 use Rattle.rm_tool_duplicate.specs.Duplicated.{Makes, commit_of, lines_text}
 use Rattle.rm_tool_duplicate.specs.Refused.{Refuses}

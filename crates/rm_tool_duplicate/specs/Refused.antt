@@ -5,23 +5,20 @@ use Rattle.std.specs.Option.{option_map}
 use Rattle.std.specs.Str.{bytes_eq}
 use Rattle.rm_base.specs.Store.{Held}
 use Rattle.rm_base.specs.declared.refusal.Refusal.{Refusal}
-use Rattle.rm_base.specs.declared.refusal.Refusal.TheVariants.{Rm02, Rm03, Rm08, Rm13}
-use Rattle.rm_apply.specs.Recover.{FindsGap}
+use Rattle.rm_base.specs.declared.refusal.Refusal.TheVariants.{Rm02, Rm03, Rm13}
 use Rattle.rm_catalog.specs.declared.record.Record.{Record}
-use Rattle.rm_catalog_typed.specs.TypedCatalog.{records_of}
 use Rattle.rm_evidence.specs.Names.{piece_name}
 use Rattle.rm_history.specs.World.{exists}
 use Rattle.rm_history.specs.declared.world.World.{World}
 use Rattle.rm_lang_statement.specs.declared.command.Until.TheVariants.{Scn}
 use Rattle.rm_lang_words.specs.Duplicate.{DuplicateSaid}
-use Rattle.rm_machine.specs.Recovery.{in_place}
 use Rattle.rm_machine.specs.RecoverTest.{test_refusal}
 use Rattle.rm_machine.specs.State.{world}
 use Rattle.rm_machine.specs.Until.{or_else}
 use Rattle.rm_machine.specs.declared.state.State.{State}
 use Rattle.rm_machine_laws.specs.Holds.{View}
-use Rattle.rm_plan.specs.declared.plan.Gap.{Gap}
-use Rattle.rm_tool.specs.Opening.{IsSource}
+use Rattle.rm_step_recover.specs.Gap.{NamesGap}
+use Rattle.rm_tool_opening.specs.Opening.{IsSource}
 use Rattle.rm_tool_duplicate.specs.Asked.{Sides, target_inc}
 
 -- the name of the copy of datafile k
@@ -83,16 +80,10 @@ pub record IsReason (x : DuplicateSaid) (a : Sides) (source : Option State) (rea
   pub names : AreTaken a.to is_taken
   pub is : reason ≡ refusal_by x source has_records is_taken
 
--- what is at hand leaves a gap, and this is the first one
-pub record HasGap (x : DuplicateSaid) (from : Option Held) (s : State) (refusal : Refusal) : Type 0 where
-  pub gap : Gap
-  pub first : FindsGap from (records_of s.catalog) (in_place s) (target_inc x s) x.until gap
-  pub is : refusal ≡ Rm08 gap.file gap.block gap.scn gap.inc
-
 -- It is refused, for such a reason; or there is none, but a gap (RM-08).
 pub data IsRefused (x : DuplicateSaid) (a : Sides) : Option State → Refusal → Type 0 where
   by_reason : (source : Option State) (refusal : Refusal) → IsReason x a source (Some refusal) → IsRefused x a source refusal
-  by_gap : (s : State) (refusal : Refusal) → IsReason x a (Some s) None → HasGap x a.from s refusal → IsRefused x a (Some s) refusal
+  by_gap : (s : State) (refusal : Refusal) → IsReason x a (Some s) None → NamesGap a.from s (target_inc x s) x.until refusal → IsRefused x a (Some s) refusal
 
 -- the source as it is opened, and that it is refused so
 pub record Refuses (x : DuplicateSaid) (a : Sides) (refusal : Refusal) : Type 0 where

@@ -18,7 +18,7 @@ ghost use Rattle.rm_machine.specs.Recovery.{in_place};
 ghost use Rattle.rm_machine.specs.State.{world};
 ghost use Rattle.rm_machine.specs.declared.state.State.{State};
 ghost use Rattle.rm_plan.specs.declared.plan.Gap.{Gap};
-ghost use Rattle.rm_tool.specs.Session.{FromRest};
+ghost use Rattle.rm_tool_opening.specs.Opening.{FromRest};
 ghost use Rattle.rm_tool_duplicate.specs.Asked.{Sides, target_inc};
 ghost use Rattle.rm_tool_duplicate.specs.Duplicated.{IsPlaceOf};
 ghost use Rattle.rm_tool_duplicate.specs.Ended.{Finishes};

@@ -2,7 +2,6 @@
 #![tactic(auto)]
 
 mod carrying;
-pub mod desk;
 pub mod laws;
 mod making;
 mod preparing;
@@ -11,5 +10,4 @@ pub mod run;
 mod source;
 mod telling;
 
-pub use desk::run_at;
 pub use run::run_duplicate;

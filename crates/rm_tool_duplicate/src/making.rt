@@ -13,9 +13,10 @@ ghost use Rattle.rm_machine.specs.Sound.{IsSound};
 ghost use Rattle.rm_piece.specs.Valid.{IsPiece};
 ghost use Rattle.rm_report.specs.Reply.{HasDate};
 ghost use Rattle.rm_shelf.specs.Shelved.{AllStay};
+ghost use Rattle.rm_step_recover.specs.Gap.{NamesGap};
 ghost use Rattle.rm_tool_duplicate.specs.Asked.{sides, target_inc};
 ghost use Rattle.rm_tool_duplicate.specs.Duplicated.{IsMadeOf};
-ghost use Rattle.rm_tool_duplicate.specs.Refused.{HasGap, IsRefused};
+ghost use Rattle.rm_tool_duplicate.specs.Refused.{IsRefused};
 
 use crate::refusing::{name_refusal, number_refusal};
 use rm_apply::RecoverFault;
@@ -25,7 +26,7 @@ use rm_dup::Duplicate;
 use rm_dup::duplicating::duplicate;
 use rm_lang_words::DuplicateWords;
 use rm_machine::State;
-use rm_machine_code::hand::{AtHand, at_hand};
+use rm_machine::hand::{AtHand, at_hand};
 use rm_shelf::Shelf;
 use std::alloc::Global;
 use std::thread::Threads;
@@ -59,7 +60,7 @@ fn duplicate_at<R: Threads + Sync, D: Store>(
     requires place { hand.now.place ≡ in_place state.now }
     ensures duplicate { IfOk result (λ x. IfOk x (IsDuplicate (D.held from.old) (records_of state.now.catalog) (in_place state.now) (target_inc
         (duplicate_of said.now) state.now) said.now.until said.now.dbid)) }
-    ensures gap { IfOk result (λ x. IfErr x (HasGap (duplicate_of said.now) (D.held from.old) state.now)) }
+    ensures gap { IfOk result (λ x. IfErr x (NamesGap (D.held from.old) state.now (target_inc (duplicate_of said.now) state.now) said.now.until)) }
     ensures dbid { said.now.dbid < 2 ^ 32 }
     ensures pieces { IfOk result (λ x. IfOk x (λ d. All IsPiece d.pieces)) }
     ensures records { IfOk result (λ x. IfOk x (λ d. IsCatalog d.records)) }

@@ -2,7 +2,7 @@
 ghost use Rattle.std.specs.Prelude.{◌≡◌, ◌≤◌, IfErr, IfOk, OnOk};
 ghost use Rattle.rm_lang_words.specs.Reading.{duplicate_of as said_of};
 ghost use Rattle.rm_shelf.specs.Shelved.{AllStay, under};
-ghost use Rattle.rm_tool.specs.Opening.{IsSource};
+ghost use Rattle.rm_tool_opening.specs.Opening.{IsSource};
 ghost use Rattle.rm_tool_duplicate.specs.Asked.{sides};
 ghost use Rattle.rm_tool_duplicate.specs.Ended.{IsReady, Leaves};
 ghost use Rattle.rm_tool_ends.specs.Ended.{Counts, NoneFalls, RoseFor};
@@ -15,8 +15,8 @@ use rm_commit::Commit;
 use rm_dup::Duplicate;
 use rm_lang_words::DuplicateWords;
 use rm_shelf::Shelf;
-use rm_site::Site;
 use rm_tool_ends::{Ended, write_refusal};
+use rm_tool_opening::Site;
 use std::alloc::Global;
 use std::thread::Threads;
 

@@ -1,14 +1,13 @@
 //! The site of the source, opened over a shelf.
 ghost use Rattle.std.specs.Prelude.{◌≡◌, ◌≤◌, IfErr, IfOk, OnOk, Some};
 ghost use Rattle.rm_shelf.specs.Shelved.{AllStay, under};
-ghost use Rattle.rm_site.specs.Opens.{Opens, Shows};
-ghost use Rattle.rm_tool.specs.Opening.{RoseUnopened, WritesUnopened};
-ghost use Rattle.rm_tool.specs.Session.{TellsValid};
+ghost use Rattle.rm_tool_opening.specs.Opens.{Opens, Shows};
+ghost use Rattle.rm_tool_opening.specs.Opening.{RoseUnopened, WritesUnopened};
+ghost use Rattle.rm_tool_opening.specs.Opening.{TellsValid};
 
 use rm_base::{Sink, Store};
 use rm_shelf::{Desk, Noted, Shelf};
-use rm_site::Site;
-use rm_tool::opening::{Unopened, open_site};
+use rm_tool_opening::{Site, Unopened, open_site};
 use std::alloc::Global;
 use std::marker::Brand;
 

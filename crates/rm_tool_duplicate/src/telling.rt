@@ -7,7 +7,7 @@ ghost use Rattle.rm_tool_duplicate.specs.Duplicated.{lines_of as the_lines_of, l
 use rm_base::{FileNo, NoMemory, Seq};
 use rm_dup::Duplicate;
 use rm_lang_words::DuplicateWords;
-use rm_machine_code::replies::skipped_lines;
+use rm_machine::replies::skipped_lines;
 use rm_report::{Line, Reply, bytes_of};
 use std::alloc::Global;
 

@@ -1,19 +1,15 @@
 -- No line and no refusal of a standby has a date that is too late.
-use Rattle.std.proofs.Common.{◌≡◌, ◌++◌, ℕ, Bool, true, false, List, [], ◌∷◌, Option, Some, None, All, IfSome, if◌then◌else◌, nat_lt, refl, subst, sym}
-use Rattle.std.specs.Option.{option_map}
+use Rattle.std.proofs.Common.{◌≡◌, ◌++◌, ℕ, Bool, true, false, List, [], ◌∷◌, Option, Some, None, All, IfSome, if◌then◌else◌, nat_lt, subst, sym}
 use Rattle.std.proofs.lemmas.List.Elements.{All-append, All-cons, All-nil}
-use Rattle.rm_apply.specs.Recover.{outside}
 use Rattle.rm_base.specs.Store.{Held}
 use Rattle.rm_base.specs.declared.kinds.Bad.{Bad}
 use Rattle.rm_base.specs.declared.refusal.Limit.TheVariants.{ObjectIds}
 use Rattle.rm_base.specs.declared.refusal.Refusal.{Refusal}
-use Rattle.rm_base.specs.declared.refusal.Refusal.TheVariants.{Rm06, Rm07, Rm11}
-use Rattle.rm_machine.specs.RecoverTest.{file_lines, is_no_incarnation, tested}
+use Rattle.rm_base.specs.declared.refusal.Refusal.TheVariants.{Rm11}
+use Rattle.rm_machine.specs.RecoverTest.{file_lines}
 use Rattle.rm_machine.specs.Recovery.{skipped_lines}
-use Rattle.rm_machine.specs.State.{tree}
-use Rattle.rm_machine.specs.Until.{or_else}
 use Rattle.rm_machine.specs.declared.state.State.{State}
-use Rattle.rm_machine_code.proofs.Skipped.{skipped-dated}
+use Rattle.rm_machine.proofs.Skipped.{skipped-dated}
 use Rattle.rm_piece.specs.declared.set.Set.{Set}
 use Rattle.rm_piece.specs.declared.set.SetFile.{SetFile}
 use Rattle.rm_report.proofs.Plain.{plain-dated}
@@ -22,7 +18,7 @@ use Rattle.rm_report.specs.declared.line.Line.{Line}
 use Rattle.rm_step_recover.proofs.Dates.{rows-dated}
 use Rattle.rm_step_recover.specs.Gap.{NamesGap}
 use Rattle.rm_tool_standby.specs.Done.{dump_lines, file_in, members_lines}
-use Rattle.rm_tool_standby.specs.Refused.{RefusesRoll, apart, make_refusal, no_increment, no_number, none_to_roll, number_refusal}
+use Rattle.rm_tool_standby.specs.Refused.{RefusesRoll, apart, no_increment, no_number, none_to_roll, number_refusal}
 
 -- The lines
 
@@ -44,11 +40,6 @@ dump-dated a lines is = subst (All LineHasDate) (sym is) (plain-dated (dump_line
 
 -- The refusals
 
-by-target : (i at : ℕ) (b : Bool) (o : Option (ℕ × ℕ)) (p : Option Refusal) → IfSome p HasDate → IfSome (or_else (if b then Some (Rm07 i) else option_map (λ (y : ℕ × ℕ). Rm06 at y.0 y.1) o) p) HasDate
-by-target i at true o p dated = tt
-by-target i at false None p dated = dated
-by-target i at false (Some y) p dated = tt
-
 by-number : (b : Bool) → IfSome (if b then None else Some (Rm11 ObjectIds)) HasDate
 by-number true = tt
 by-number false = tt
@@ -59,14 +50,6 @@ number-dated found r is = subst (λ (o : Option Refusal). IfSome o HasDate) is (
     of-found : (found : Option (ℕ × Set)) → IfSome (number_refusal found) HasDate
     of-found None = tt
     of-found (Some x) = by-number (nat_lt x.0 4294967295)
-
-pub make-dated : (s : State) (until : ℕ) (found : Option (ℕ × Set)) (r : Refusal) → make_refusal s until found ≡ Some r → HasDate r
-make-dated s until found r is = subst (λ (o : Option Refusal). IfSome o HasDate) is
-    (by-target (tested s None) until (is_no_incarnation s (tested s None)) (outside (tree s) (tested s None) until) (number_refusal found) (each (number_refusal found) (λ q at. number-dated found q at)))
-  where
-    each : (o : Option Refusal) → ((q : Refusal) → o ≡ Some q → HasDate q) → IfSome o HasDate
-    each None dated = tt
-    each (Some q) dated = dated q refl
 
 pub gap-dated : (from : Option Held) (s : State) (i at : ℕ) (r : Refusal) → NamesGap from s i at r → HasDate r
 gap-dated from s i at r gap = subst HasDate (sym gap.names) tt

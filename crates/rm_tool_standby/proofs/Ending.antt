@@ -8,9 +8,9 @@ use Rattle.rm_commit.specs.declared.commit.Stop.TheVariants as stop
 use Rattle.rm_lang_words.specs.declared.standby.StandbyTask.{StandbyTask}
 use Rattle.rm_piece.specs.declared.set.Set.{Set}
 use Rattle.rm_report.specs.declared.line.Line.{Line}
-use Rattle.rm_tool.specs.Opening.{WritesUnopened, of_unopened}
-use Rattle.rm_tool.specs.declared.opening.Unopened.{Unopened}
-use Rattle.rm_tool.specs.declared.opening.Unopened.TheVariants as unopened
+use Rattle.rm_tool_opening.specs.Opening.{WritesUnopened, of_unopened}
+use Rattle.rm_tool_opening.specs.declared.opening.Unopened.{Unopened}
+use Rattle.rm_tool_opening.specs.declared.opening.Unopened.TheVariants as unopened
 use Rattle.rm_tool_ends.specs.Causes.{of_stop}
 use Rattle.rm_tool_ends.specs.Ended.{Counts, NoneFalls, RoseFor}
 use Rattle.rm_tool_ends.specs.Writing.{WritesFront, WritesRefusal}

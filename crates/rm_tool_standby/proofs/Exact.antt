@@ -17,14 +17,14 @@ use Rattle.rm_machine.specs.Recovery.{AreMadeAt, in_place}
 use Rattle.rm_machine.specs.Sound.{IsSound}
 use Rattle.rm_machine.specs.State.{tree, world}
 use Rattle.rm_machine.specs.declared.state.State.{State}
-use Rattle.rm_machine_code.proofs.Told.{tells-files}
+use Rattle.rm_machine.proofs.Told.{tells-files}
 use Rattle.rm_machine_laws.proofs.Agreeing.{agreed}
 use Rattle.rm_machine_laws.proofs.Told.{files-made}
 use Rattle.rm_machine_laws.specs.Holds.{View}
 use Rattle.rm_piece.specs.declared.set.Set.{Set}
 use Rattle.rm_standby.specs.Standby.{HoldsSince, HoldsStates}
-use Rattle.rm_tool.specs.Opening.{IsSource}
-use Rattle.rm_tool.specs.Session.{FromRest}
+use Rattle.rm_tool_opening.specs.Opening.{IsSource}
+use Rattle.rm_tool_opening.specs.Opening.{FromRest}
 
 -- its incarnations are a tree
 pub a-tree : (s : State) → IsSound s → IsTree (tree s)

@@ -34,9 +34,9 @@ use Rattle.rm_machine.specs.Recovery.{AreMadeAt, file_at, in_place}
 use Rattle.rm_machine.specs.Sound.{IsSound}
 use Rattle.rm_machine.specs.State.{current_of, ledger, tree, world}
 use Rattle.rm_machine.specs.declared.state.State.{State}
-use Rattle.rm_machine_code.proofs.Numbers.{file-place}
-use Rattle.rm_machine_code.proofs.Standing.{each-get, each-in}
-use Rattle.rm_machine_code.proofs.Told.{tells-files, tells-fits}
+use Rattle.rm_machine.proofs.Numbers.{file-place}
+use Rattle.rm_machine.proofs.Standing.{each-get, each-in}
+use Rattle.rm_machine.proofs.Told.{tells-files, tells-fits}
 use Rattle.rm_plan.specs.Plan.{IsFileTarget}
 use Rattle.rm_piece.specs.declared.set.Set.{Set}
 use Rattle.rm_standby.specs.Image.{AreStates, CanImage, StandsAt, imaged}

@@ -5,8 +5,8 @@ use Rattle.rm_base.specs.Outside.{Rose}
 use Rattle.rm_catalog.specs.declared.record.Record.{Record}
 use Rattle.rm_lang_words.specs.Standby.{StandbySaid}
 use Rattle.rm_lang_words.specs.declared.standby.StandbyTask.{StandbyTask}
-use Rattle.rm_site.specs.Opens.{AreValid}
-use Rattle.rm_tool.proofs.Calls.{none-bad, told-valid}
+use Rattle.rm_tool_opening.specs.Opens.{AreValid}
+use Rattle.rm_tool_opening.proofs.Source.{none-bad, told-valid}
 use Rattle.rm_tool_ends.proofs.Statuses.{ended-at, of_status}
 use Rattle.rm_tool_ends.specs.Ended.{Counts, RoseFor, status_of}
 use Rattle.rm_tool_ends.specs.declared.ended.Ended.{Ended}

@@ -25,7 +25,7 @@ use Rattle.rm_report.specs.declared.line.Line.{Line}
 use Rattle.rm_standby.specs.Image.{imaged}
 use Rattle.rm_standby.specs.Rolling.{Meets, changed, rolled}
 use Rattle.rm_standby.specs.Standby.{HoldsSince, HoldsStates}
-use Rattle.rm_tool.specs.Opening.{IsSource}
+use Rattle.rm_tool_opening.specs.Opening.{IsSource}
 use Rattle.rm_tool_standby.specs.Asked.{sides}
 use Rattle.rm_tool_standby.specs.Done.{ComesTo, dump_lines, dumped, made, made_line, rolled_line, was_rolled}
 use Rattle.rm_tool_standby.specs.Kept.{Finds}

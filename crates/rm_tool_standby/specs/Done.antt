@@ -23,8 +23,8 @@ use Rattle.rm_report.specs.declared.line.Line.TheVariants.{StandbyMade, StandbyR
 use Rattle.rm_standby.specs.Image.{imaged}
 use Rattle.rm_standby.specs.Rolling.{Meets, changed, rolled}
 use Rattle.rm_standby.specs.Standby.{HoldsSince, HoldsStates}
-use Rattle.rm_tool.specs.Opening.{IsSource}
-use Rattle.rm_tool.specs.Session.{FromRest}
+use Rattle.rm_tool_opening.specs.Opening.{IsSource}
+use Rattle.rm_tool_opening.specs.Opening.{FromRest}
 use Rattle.rm_tool_standby.specs.Asked.{Sides}
 use Rattle.rm_tool_standby.specs.Kept.{Finds, next_number}
 use Rattle.rm_tool_standby.specs.Refused.{FindsIncrement, make_refusal, number_refusal}

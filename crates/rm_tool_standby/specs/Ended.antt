@@ -6,7 +6,7 @@ use Rattle.rm_base.specs.declared.refusal.Refusal.{Refusal}
 use Rattle.rm_lang_words.specs.declared.standby.StandbyTask.{StandbyTask}
 use Rattle.rm_piece.specs.declared.set.Set.{Set}
 use Rattle.rm_report.specs.declared.line.Line.{Line}
-use Rattle.rm_tool.specs.Session.{BeginsBadRecord, TellsValid, WritesBadRecord}
+use Rattle.rm_tool_opening.specs.Opening.{BeginsBadRecord, TellsValid, WritesBadRecord}
 use Rattle.rm_tool_ends.specs.Writing.{WritesFront, refusal_line}
 use Rattle.rm_tool_ends.specs.declared.ended.Ended.{Ended}
 use Rattle.rm_tool_ends.specs.declared.ended.Ended.TheVariants as ended

@@ -12,7 +12,7 @@ use Rattle.rm_piece.specs.declared.set.Set.{Set}
 use Rattle.rm_report.specs.Reply.{LineHasDate}
 use Rattle.rm_report.specs.declared.line.Line.{Line}
 use Rattle.rm_standby_store.specs.Names.{standby_name}
-use Rattle.rm_tool.specs.Opening.{IsSource}
+use Rattle.rm_tool_opening.specs.Opening.{IsSource}
 use Rattle.rm_tool_standby.specs.Asked.{Sides, sides}
 use Rattle.rm_tool_standby.specs.Done.{Comes, ComesTo, text_of}
 use Rattle.rm_tool_standby.specs.Kept.{Stops, next_number}

@@ -19,7 +19,7 @@ use Rattle.rm_piece.specs.declared.set.Set.{Set}
 use Rattle.rm_standby_store.specs.Names.{SpellsSet}
 use Rattle.rm_standby.specs.Rolling.{Meets}
 use Rattle.rm_step_recover.specs.Gap.{NamesGap}
-use Rattle.rm_tool.specs.Opening.{IsSource}
+use Rattle.rm_tool_opening.specs.Opening.{IsSource}
 use Rattle.rm_tool_standby.specs.Asked.{Sides}
 use Rattle.rm_tool_standby.specs.Kept.{Finds}
 

@@ -8,7 +8,7 @@ ghost use Rattle.rm_lang_words.specs.declared.standby.StandbyTask.TheVariants.{D
 ghost use Rattle.rm_machine.specs.Sound.{IsSound};
 ghost use Rattle.rm_piece.specs.Sets.{IsSet};
 ghost use Rattle.rm_report.specs.Reply.{HasDate, LineHasDate};
-ghost use Rattle.rm_tool.specs.Opening.{IsSource};
+ghost use Rattle.rm_tool_opening.specs.Opening.{IsSource};
 ghost use Rattle.rm_tool_ends.specs.Ended.{Counts, NoneFalls, RoseFor};
 ghost use Rattle.rm_tool_standby.specs.Asked.{sides};
 ghost use Rattle.rm_tool_standby.specs.Ended.{Leaves};
@@ -25,9 +25,9 @@ use rm_evidence::EvidenceFault;
 use rm_lang_words::StandbyTask;
 use rm_machine::State;
 use rm_piece::Set;
-use rm_site::Site;
 use rm_standby_store::find_standby;
 use rm_tool_ends::{Ended, write_refusal};
+use rm_tool_opening::Site;
 use std::alloc::Global;
 use std::thread::Threads;
 

@@ -9,7 +9,7 @@ ghost use Rattle.rm_tool_standby.specs.Refused.{number_refusal};
 
 use crate::numbering::next_number;
 use rm_base::{Bad, NoMemory, Seq};
-use rm_machine_code::replies::skipped_lines;
+use rm_machine::replies::skipped_lines;
 use rm_piece::{Set, SetFile};
 use rm_report::{Line, Reply, bytes_of};
 use rm_step_recover::push_rows;

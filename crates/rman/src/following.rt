@@ -1,12 +1,6 @@
 //! Whether a catalog may follow a control file: its records are then made equal to those of that.
 use rm_base::{NoMemory, Seq};
-use rm_catalog::{Catalog, CatalogFault, Record};
-
-fn in_order(records: Seq<Record>) -> Vec<Record> {
-    let mut records = records.into_vec();
-    records.sort_unstable_by_key(|record| record.place());
-    records
-}
+use rm_catalog::{Catalog, CatalogFault, Record, in_order};
 
 // Whether a database that has the old record may have the new one under the same key later. Only what no statement takes back or
 // away is asked: whose the records are, how far the ids and the clock were, the incarnations, the datafiles and the marks.
@@ -50,8 +44,8 @@ pub fn why_not(
     control: Seq<Record>,
     catalog: Seq<Record>,
 ) -> Result<Option<&'static str>, NoMemory> {
-    let near = in_order(control);
-    let far = in_order(catalog);
+    let near = in_order(control.into_vec());
+    let far = in_order(catalog.into_vec());
     if !far.iter().all(|record| goes_on(record, &near)) {
         return Ok(Some(
             "it does not go on from the catalog's records: it is empty, older, or another database's",

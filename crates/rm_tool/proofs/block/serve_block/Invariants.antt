@@ -3,7 +3,7 @@ use Rattle.std.specs.List.{list_all}
 use Rattle.std.specs.Vec.Iter.{into_iter_items, into_iter_len}
 use Rattle.rm_report.specs.Reply.{IsPlain}
 use Rattle.rm_lang_statement.specs.IsCommand.{is_inner}
-use Rattle.rm_site.specs.Untouched.{IsUntouched}
+use Rattle.rm_tool_opening.specs.Untouched.{IsUntouched}
 use Rattle.rm_tool.specs.Block.{AreSet}
 use Rattle.rm_tool.specs.Built.{is_built_inner}
 use Rattle.rm_tool.specs.Quiet.{only_tells_inner}

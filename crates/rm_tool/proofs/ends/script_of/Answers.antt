@@ -1,5 +1,5 @@
 use Rattle.std.proofs.Common.{lit<, refl}
-use Rattle.rm_site.proofs.Opening.{told-err}
+use Rattle.rm_tool_opening.proofs.Source.{told-err}
 use Rattle.rm_tool.specs.Early.{IsOfLong}
 use Rattle.rm_tool.specs.declared.early.Early.TheVariants as early
 use Rattle.rm_tool.proofs.ends.script_of.Goals as goal

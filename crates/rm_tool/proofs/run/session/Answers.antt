@@ -2,9 +2,9 @@ use Rattle.std.proofs.Common.{◌≡◌, ◌∙◌, ◌∷◌, [], Contains, Err
 use Rattle.std.specs.Prelude.{IfErr}
 use Rattle.rm_lang_token.specs.Statements.{statements}
 use Rattle.rm_lang_token.proofs.Reading.{feeds_within}
-use Rattle.rm_site.proofs.Opening.{told-err}
+use Rattle.rm_tool_opening.proofs.Source.{told-err}
 use Rattle.rm_tool.specs.Early.{EndsAtScript, EndsAtWords, Faults, Leaves, NoneFalls, RoseFor, of_halt, of_unopened, status_for, status_of}
-use Rattle.rm_tool.specs.Opening.{WritesUnopened}
+use Rattle.rm_tool_opening.specs.Opening.{WritesUnopened}
 use Rattle.rm_tool.specs.Run.{Watch, watch}
 use Rattle.rm_tool.specs.Session.{before_statements, in_output, midway}
 use Rattle.rm_tool.specs.declared.early.Early.TheVariants as early

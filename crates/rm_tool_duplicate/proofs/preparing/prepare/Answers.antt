@@ -6,7 +6,7 @@ use Rattle.rm_dup.specs.declared.database.Duplicate.{Duplicate}
 use Rattle.rm_lang_words.specs.Reading.{duplicate_of as said_of}
 use Rattle.rm_machine.specs.declared.state.State.{State}
 use Rattle.rm_piece.specs.declared.piece.Piece.{Piece}
-use Rattle.rm_site.proofs.Opening.{told-err}
+use Rattle.rm_tool_opening.proofs.Source.{told-err}
 use Rattle.rm_tool_duplicate.specs.Asked.{sides}
 use Rattle.rm_tool_duplicate.specs.Duplicated.{IsMadeOf, commit_for}
 use Rattle.rm_tool_duplicate.specs.Ended.{Leaves}

@@ -2,8 +2,8 @@ use Rattle.std.proofs.Common.{◌≡◌, ◌∙◌, ℕ, List, refl, sym, subst}
 use Rattle.rm_base.specs.Outside.{Appends}
 use Rattle.rm_commit.specs.Carrying.{Carried, Halted}
 use Rattle.rm_lang_words.specs.Reading.{duplicate_of as said_of}
-use Rattle.rm_tool.specs.Opening.{IsSource}
-use Rattle.rm_tool.proofs.Source.{source-of}
+use Rattle.rm_tool_opening.specs.Opening.{IsSource}
+use Rattle.rm_tool_opening.proofs.Source.{source-of}
 use Rattle.rm_tool_duplicate.specs.Asked.{Sides, sides}
 use Rattle.rm_tool_duplicate.specs.Ended.{IsReady, Leaves}
 use Rattle.rm_tool_duplicate.proofs.Ending.{finishes, halts, leaves-from, sides-stay, untold-lines}

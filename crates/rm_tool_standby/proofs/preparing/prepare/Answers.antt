@@ -3,8 +3,8 @@ use Rattle.std.specs.Option.{option_copied}
 use Rattle.std.specs.Prelude.{IfErr, IsSomeAnd}
 use Rattle.rm_base.specs.declared.refusal.Refusal.{Refusal}
 use Rattle.rm_catalog.specs.declared.record.Record.{Record}
-use Rattle.rm_site.proofs.Opening.{told-err}
-use Rattle.rm_tool.specs.Opening.{IsSource}
+use Rattle.rm_tool_opening.proofs.Source.{told-err}
+use Rattle.rm_tool_opening.specs.Opening.{IsSource}
 use Rattle.rm_tool_standby.specs.Asked.{sides}
 use Rattle.rm_tool_standby.specs.Ended.{Leaves}
 use Rattle.rm_tool_standby.specs.Prepared.{IsReady, OfShown}

@@ -2,8 +2,8 @@ use Rattle.std.proofs.Common.{◌≡◌, ◌∙◌, inr, Option, ap, arith, sym,
 use Rattle.std.specs.Prelude.{Err}
 use Rattle.rm_base.specs.Outside.{Appends}
 use Rattle.rm_base.specs.Store.{Held}
-use Rattle.rm_site.proofs.Opening.{told-err}
-use Rattle.rm_tool.specs.Opening.{IsSource}
+use Rattle.rm_tool_opening.proofs.Source.{told-err}
+use Rattle.rm_tool_opening.specs.Opening.{IsSource}
 use Rattle.rm_tool_ends.specs.Causes.{of_stop}
 use Rattle.rm_tool_ends.specs.Ended.{Counts, NoneFalls, RoseFor}
 use Rattle.rm_tool_ends.specs.Writing.{WritesFront}

@@ -2,8 +2,8 @@
 ghost use Rattle.std.specs.Prelude.{◌≡◌, ◌≤◌, true, false, IfErr, IfOk, OnOk, IsErrOf};
 ghost use Rattle.rm_base.specs.Outside.{Rose};
 ghost use Rattle.rm_site.specs.Opens.{Opens, Shows};
-ghost use Rattle.rm_tool.specs.Opening.{RoseUnopened, WritesUnopened};
-ghost use Rattle.rm_tool.specs.Session.{BeginsBadRecord, TellsValid, WritesBadRecord, bad_record};
+ghost use Rattle.rm_tool_opening.specs.Opening.{RoseUnopened, WritesUnopened};
+ghost use Rattle.rm_tool_opening.specs.Opening.{BeginsBadRecord, TellsValid, WritesBadRecord, bad_record};
 
 use rm_base::{Failed, NoMemory, Sink, Store, Text};
 use rm_catalog::{Keeper, Key};
@@ -26,7 +26,7 @@ pub enum Unopened {
 }
 
 impl From<NoMemory> for Unopened {
-    ghost use Rattle.rm_tool.specs.declared.opening.Unopened.TheVariants.{NoMemory as WithoutMemory};
+    ghost use Rattle.rm_tool_opening.specs.declared.opening.Unopened.TheVariants.{NoMemory as WithoutMemory};
 
     ghost from_gives = { λ _ e. e ≡ WithoutMemory };
 
@@ -36,7 +36,7 @@ impl From<NoMemory> for Unopened {
 }
 
 impl From<Failed> for Unopened {
-    ghost use Rattle.rm_tool.specs.declared.opening.Unopened.TheVariants.{Sink as OfSink};
+    ghost use Rattle.rm_tool_opening.specs.declared.opening.Unopened.TheVariants.{Sink as OfSink};
 
     ghost from_gives = { λ _ e. e ≡ OfSink };
 
@@ -46,7 +46,7 @@ impl From<Failed> for Unopened {
 }
 
 impl From<Unopened> for Ended {
-    ghost use Rattle.rm_tool.specs.Opening.{of_unopened};
+    ghost use Rattle.rm_tool_opening.specs.Opening.{of_unopened};
 
     ghost from_gives = { λ unopened e. e ≡ of_unopened unopened };
 
@@ -70,7 +70,7 @@ fn bad_record(alloc: Global, key: Key) -> Result<Text, NoMemory>
 }
 
 // Opens the site, as `open_site` does, and tells of each way out by itself.
-pub(crate) fn open_told<K: Sink, D: Store, C: Keeper>(
+fn open_told<K: Sink, D: Store, C: Keeper>(
     alloc: Global,
     sink: &mut K,
     store: &mut D,

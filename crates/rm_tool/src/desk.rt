@@ -3,17 +3,18 @@ ghost use Rattle.std.specs.Prelude.{◌≡◌, ◌<◌, ◌∷◌, [], Contains,
 ghost use Rattle.rm_base.specs.Outside.{Appends, Rose};
 ghost use Rattle.rm_catalog.specs.declared.record.Record.{Record};
 ghost use Rattle.rm_shelf.specs.Shelved.{OthersStay, under};
-ghost use Rattle.rm_site.specs.Opens.{AreValid};
+ghost use Rattle.rm_tool_opening.specs.Opens.{AreValid};
 ghost use Rattle.rm_tool.specs.Ends.{Counted, TakesMany};
 ghost use Rattle.rm_tool.specs.Run.{watch};
-ghost use Rattle.rm_tool.specs.Session.{HasScript, Finishes, EndsEarly, WritesPart, WritesBadRecord, TellsValid, IsDone, IsEarly, NoneRan, over_long};
+ghost use Rattle.rm_tool.specs.Session.{HasScript, Finishes, EndsEarly, WritesPart, IsDone, IsEarly, NoneRan, over_long};
+ghost use Rattle.rm_tool_opening.specs.Opening.{WritesBadRecord, TellsValid};
 ghost use Rattle.rm_tool.specs.Words.{accepts, drill_of};
 ghost use Rattle.rm_tool_ends.specs.Writing.{bad_words};
 
+use crate::run::run;
 use rm_base::{Clock, Sink, Source, Store, Text};
 use rm_channel::Gate;
 use rm_shelf::{Desk, Noted, Shelf};
-use rm_tool::run::run;
 use std::alloc::Global;
 use std::marker::Brand;
 use std::sync::Wait;

@@ -1,6 +1,6 @@
 use Rattle.std.proofs.Common.{◌∙◌, ap, arith}
 use Rattle.rm_shelf.specs.Shelved.{under}
-use Rattle.rm_tool_duplicate.proofs.desk.run_noted.Goals as goal
+use Rattle.rm_tool.proofs.desk.run_noted.Goals as goal
 
 pub returns-clause-bad_only : goal.returns-clause-bad_only
 returns-clause-bad_only g c rs accepted counted few told =
