@@ -116,7 +116,7 @@ fn tell_plan(
         files: Seq::new(alloc),
         logs: Seq::new(alloc),
     };
-    if !kept(fits_place(alloc, catalog, &nothing))? {
+    if !fits_place(catalog, &nothing) {
         return tell(rt, "gather", false);
     }
     let start = Instant::now(rt)?;

@@ -2,7 +2,7 @@
 use crate::record::{range_of, record_of};
 use rm_base::{NoMemory, Seq};
 use rm_catalog::{Catalog, CatalogFault, Edit, Key, Record};
-use rm_test_harness::{Fault, Told, cases, differs};
+use rm_test_harness::{Fault, Told, cases, differs, head};
 use std::alloc::Global;
 
 // The small catalog, and the records of the case that is read.
@@ -31,49 +31,50 @@ fn without(records: Vec<Record>, key: Key) -> Result<Vec<Record>, NoMemory> {
     Ok(left)
 }
 
-// With the record that these words say, in place of that with its key.
-fn with_one(alloc: Global, records: Vec<Record>, words: &[&str]) -> Result<Vec<Record>, Fault> {
-    let record = record_of(alloc, words, 0)?;
+// With the record that this line says, in place of that with its key.
+fn with_one(alloc: Global, records: Vec<Record>, line: &str) -> Result<Vec<Record>, Fault> {
+    let record = record_of(alloc, line, None)?;
     let mut records = without(records, record.key())?;
     records.push(record)?;
     Ok(records)
 }
 
-// With the record that these words say, besides.
-fn also(alloc: Global, records: Vec<Record>, words: &[&str]) -> Result<Vec<Record>, Fault> {
+// With the record that this line says, besides.
+fn also(alloc: Global, records: Vec<Record>, line: &str) -> Result<Vec<Record>, Fault> {
     let mut records = records;
-    records.push(record_of(alloc, words, 0)?)?;
+    records.push(record_of(alloc, line, None)?)?;
     Ok(records)
 }
 
-// With the records that these words say. One that is alone takes the place of that with its key.
-fn with(alloc: Global, records: Vec<Record>, words: &[&str]) -> Result<Vec<Record>, Fault> {
-    let Some((first, last)) = range_of(words) else {
-        return with_one(alloc, records, words);
+// With the records that this line says. One that is alone takes the place of that with its key.
+fn with(alloc: Global, records: Vec<Record>, line: &str) -> Result<Vec<Record>, Fault> {
+    let Some((first, last)) = range_of(line) else {
+        return with_one(alloc, records, line);
     };
     let mut records = records;
     for number in first..=last {
-        records.push(record_of(alloc, words, number)?)?;
+        records.push(record_of(alloc, line, Some(number))?)?;
     }
     Ok(records)
 }
 
 // The records but that of this kind and id.
-fn but(alloc: Global, records: Vec<Record>, kind: &str, id: &str) -> Result<Vec<Record>, Fault> {
+fn but(alloc: Global, records: Vec<Record>, key: &str) -> Result<Vec<Record>, Fault> {
+    let (kind, id) = head(key);
     match (kind.parse::<u8>(), id.parse::<u32>()) {
         (Ok(kind), Ok(id)) => Ok(without(records, Key { kind, id })?),
-        _ => differs(alloc, kind),
+        _ => differs(alloc, key),
     }
 }
 
 // What a line says of these records.
-fn changed(alloc: Global, records: Vec<Record>, words: &[&str]) -> Result<Vec<Record>, Fault> {
-    match words {
-        ["same"] => Ok(records),
-        ["none"] => Ok(Vec::new(alloc)),
-        ["without", kind, id] => but(alloc, records, kind, id),
-        ["also", words @ ..] => also(alloc, records, words),
-        words => with(alloc, records, words),
+fn changed(alloc: Global, records: Vec<Record>, line: &str) -> Result<Vec<Record>, Fault> {
+    match head(line) {
+        ("same", "") => Ok(records),
+        ("none", "") => Ok(Vec::new(alloc)),
+        ("without", key) => but(alloc, records, key),
+        ("also", line) => also(alloc, records, line),
+        _ => with(alloc, records, line),
     }
 }
 
@@ -88,9 +89,8 @@ impl Table {
 
     // What a line says of the records of the case.
     fn put(&mut self, alloc: Global, line: &str) -> Result<(), Fault> {
-        let words: Vec<&str> = line.split(' ').collect(alloc)?;
         let records = self.taken(alloc)?;
-        self.records = Some(changed(alloc, records, &words)?);
+        self.records = Some(changed(alloc, records, line)?);
         Ok(())
     }
 }
@@ -128,8 +128,7 @@ pub fn small(alloc: Global, text: &str) -> Result<Vec<Record>, Fault> {
     let mut records = Vec::new(alloc);
     for line in text.lines() {
         if let Some(line) = line.strip_prefix("small ") {
-            let words: Vec<&str> = line.split(' ').collect(alloc)?;
-            records.push(record_of(alloc, &words, 0)?)?;
+            records.push(record_of(alloc, line, None)?)?;
         }
     }
     Ok(records)
@@ -167,8 +166,7 @@ fn switched(alloc: Global, text: &str) -> Result<Catalog, Fault> {
         "switch 2 2 2 15 on 1",
         "switch 3 3 2 16 on 1",
     ] {
-        let words: Vec<&str> = line.split(' ').collect(alloc)?;
-        records.push(record_of(alloc, &words, 0)?)?;
+        records.push(record_of(alloc, line, None)?)?;
     }
     match Catalog::from_records(Seq::from_vec(records)) {
         Ok(catalog) => Ok(catalog),

@@ -6,7 +6,6 @@
 mod catalog;
 mod changes;
 mod control;
-mod database;
 mod datafiles;
 mod devices;
 mod formats;
@@ -17,7 +16,6 @@ mod logs;
 mod made;
 mod many;
 mod merging;
-mod objects;
 mod parents;
 mod piece_bytes;
 mod pieces;
@@ -175,18 +173,9 @@ fn tell_sets(rt: &HostRuntime) -> io::Result<()> {
     tell_table(rt, "set_objects", set_objects::SetObjects)
 }
 
-fn tell_objects(rt: &HostRuntime) -> io::Result<()> {
-    let alloc = rt.alloc();
-    tell::<Fault>(rt, "names have the id", Ok(objects::names(alloc)))?;
-    tell(rt, "a log is an object", objects::a_log(alloc))?;
-    tell(rt, "a piece is an object", objects::a_piece(alloc))?;
-    tell(rt, "a database", database::a_database(alloc))?;
-    tell(rt, "no database", database::none(alloc))?;
-    tell_table(rt, "changes", changes::Changes)
-}
-
 fn tell_backups(rt: &HostRuntime) -> io::Result<()> {
     let alloc = rt.alloc();
+    tell_table(rt, "changes", changes::Changes)?;
     tell_table(rt, "merging", merging::Merging { copy: None })?;
     tell_table(rt, "parents", parents::Parents::new())?;
     tell_table(rt, "renewing", renewing::Shelf::new(alloc))?;
@@ -206,6 +195,5 @@ fn main(rt: HostRuntime) -> io::Result<()> {
     tell_logs(&rt)?;
     tell_pieces(&rt)?;
     tell_sets(&rt)?;
-    tell_objects(&rt)?;
     tell_backups(&rt)
 }

@@ -6,8 +6,8 @@ use rm_piece::{Piece, decode_piece, encode_piece, high_of, is_valid, pick};
 use rm_test_harness::{Fault, Told, differs, numbers};
 use std::alloc::Global;
 
-/// A row of this text.
-pub fn row(block: u32, version: u64, text: &[u8; 2]) -> Row {
+// A row of this text.
+fn row(block: u32, version: u64, text: &[u8; 2]) -> Row {
     Row {
         block,
         version,
@@ -15,8 +15,8 @@ pub fn row(block: u32, version: u64, text: &[u8; 2]) -> Row {
     }
 }
 
-/// The full piece of a datafile of so many blocks.
-pub fn full(dbid: u32, blocks: u32, rows: Vec<Row>) -> Piece {
+// The full piece of a datafile of so many blocks.
+fn full(dbid: u32, blocks: u32, rows: Vec<Row>) -> Piece {
     Piece {
         kind: Kind::Full,
         dbid,
@@ -30,8 +30,8 @@ pub fn full(dbid: u32, blocks: u32, rows: Vec<Row>) -> Piece {
     }
 }
 
-/// The bytes of a valid piece.
-pub fn bytes_of(alloc: Global, piece: &Piece) -> Result<Vec<u8>, Fault> {
+// The bytes of a valid piece.
+fn bytes_of(alloc: Global, piece: &Piece) -> Result<Vec<u8>, Fault> {
     if is_valid(piece) {
         Ok(encode_piece(alloc, piece)?.into_vec())
     } else {

@@ -7,40 +7,43 @@ use rm_catalog::{
 use rm_test_harness::{Fault, differs};
 use std::alloc::Global;
 
-// Words that are no number.
-const NAMES: [&str; 11] = [
-    "nothing",
-    "window",
-    "redundancy",
-    "full",
-    "level_0",
-    "level_1",
-    "place",
-    "piece",
-    "copy",
-    "on",
-    "off",
-];
-
-// How many words a record of this kind has at least; none has the most.
-fn least(kind: &str) -> usize {
+// The words behind the kind, a letter each: `1`, `4` and `8` are numbers of so many bytes, the others begin the words policy, kind, form,
+// switch and tag. Those of another kind no word is.
+fn shape(kind: &str) -> &'static str {
     match kind {
-        "head" => 3,
-        "mark" | "incarnation" | "datafile" | "part" => 5,
-        "set" => 6,
-        "switch" => 7,
-        "log" => 8,
-        "base" => 9,
-        "backup" => 12,
-        _ => usize::MAX,
+        "base" => "41448p44",
+        "incarnation" => "4488",
+        "datafile" => "4484",
+        "log" => "4414888",
+        "backup" => "4fk4488848t",
+        "mark" => "4848",
+        "part" => "4418",
+        "head" => "48",
+        "set" => "4488t",
+        "switch" => "4148s4",
+        _ => "?",
     }
 }
 
-// The words of a line. `@` and `2..9` stand for this number.
+// The words of each datafile of a set, behind the others.
+const PART: &str = "4k884";
+
+// The first and the last number of a range.
+fn range_in(word: &str) -> Option<(u64, u64)> {
+    let (first, last) = word.split_once("..")?;
+    Some((first.parse::<u64>().ok()?, last.parse::<u64>().ok()?))
+}
+
+// The tag between these quotes.
+fn tag_in(word: &str) -> Option<&str> {
+    word.strip_prefix("'")?.strip_suffix("'")
+}
+
+// The words of a line. `@` and `2..9` stand for the number, where there is one.
 #[derive(Clone, Copy)]
 struct Words<'a> {
     words: &'a [&'a str],
-    number: u64,
+    number: Option<u64>,
 }
 
 impl Words<'_> {
@@ -53,16 +56,60 @@ impl Words<'_> {
 
     // The number of this word, if it is one.
     fn number_of(&self, word: &str) -> Option<u64> {
-        if word == "@" || word.contains("..") {
-            Some(self.number)
+        if word == "@" || range_in(word).is_some() {
+            self.number
         } else {
             word.parse::<u64>().ok()
         }
     }
 
-    // Whether the word behind the kind is a number, a name or a tag between quotes.
-    fn is_known(&self, word: &str) -> bool {
-        word.starts_with("'") || NAMES.contains(&word) || self.number_of(word).is_some()
+    fn is_up_to(&self, most: u64, word: &str) -> bool {
+        self.number_of(word).is_some_and(|number| number <= most)
+    }
+
+    // Whether the word is one of this letter.
+    fn is_of(&self, letter: u8, word: &str) -> bool {
+        match letter {
+            b'1' => self.is_up_to(u64::from(u8::MAX), word),
+            b'4' => self.is_up_to(u64::from(u32::MAX), word),
+            b'8' => self.is_up_to(u64::MAX, word),
+            b'p' => matches!(word, "nothing" | "window" | "redundancy"),
+            b'k' => matches!(word, "full" | "level_0" | "level_1" | "place"),
+            b'f' => matches!(word, "piece" | "copy"),
+            b's' => matches!(word, "on" | "off"),
+            b't' => tag_in(word).is_some(),
+            _ => false,
+        }
+    }
+
+    // Whether these words are of this shape.
+    fn are_of(&self, shape: &str, words: &[&str]) -> bool {
+        for (letter, word) in shape.as_bytes().iter().zip(words) {
+            if !self.is_of(*letter, word) {
+                return false;
+            }
+        }
+        words.len() == shape.len()
+    }
+
+    // Whether these words are what a set has of datafiles.
+    fn are_parts(&self, words: &[&str]) -> bool {
+        for part in words.chunks(5) {
+            if !self.are_of(PART, part) {
+                return false;
+            }
+        }
+        true
+    }
+
+    // Whether they say a record. A set's alone go on behind those of its shape.
+    fn fit(&self) -> bool {
+        let kind = self.word(0);
+        let shape = shape(kind);
+        let end = shape.len().saturating_add(1);
+        let front = self.words.get(1..end).unwrap_or(&[]);
+        let rest = self.words.get(end..).unwrap_or(&[]);
+        self.are_of(shape, front) && self.are_parts(rest) && (rest.is_empty() || kind == "set")
     }
 
     fn u64(&self, at: usize) -> u64 {
@@ -95,12 +142,9 @@ impl Words<'_> {
         }
     }
 
-    // A tag between quotes.
     fn tag(&self, alloc: Global, at: usize) -> Result<Text, NoMemory> {
-        let word = self.word(at);
-        let word = word.strip_prefix("'").unwrap_or(word);
-        let word = word.strip_suffix("'").unwrap_or(word);
-        Ok(Text::from_string(String::from_str(alloc, word)?))
+        let tag = tag_in(self.word(at)).unwrap_or("");
+        Ok(Text::from_string(String::from_str(alloc, tag)?))
     }
 
     fn base(&self) -> BaseEntry {
@@ -243,7 +287,7 @@ impl Words<'_> {
         }
     }
 
-    // The record of these words, which are as many as its kind has.
+    // The record of these words, which say one.
     fn record(&self, alloc: Global) -> Result<Record, NoMemory> {
         Ok(match self.word(0) {
             "base" => Record::Base(self.base()),
@@ -260,25 +304,25 @@ impl Words<'_> {
     }
 }
 
-/// The record that these words say, where `@` stands for this number.
-pub fn record_of(alloc: Global, words: &[&str], number: u64) -> Result<Record, Fault> {
-    let words = Words { words, number };
-    for word in words.words.iter().skip(1) {
-        if !words.is_known(word) {
-            return differs(alloc, word);
-        }
+/// The record that this line says, where `@` and a range stand for the number.
+pub fn record_of(alloc: Global, line: &str, number: Option<u64>) -> Result<Record, Fault> {
+    let words: Vec<&str> = line.split(' ').collect(alloc)?;
+    let words = Words {
+        words: words.as_slice(),
+        number,
+    };
+    if words.fit() {
+        Ok(words.record(alloc)?)
+    } else {
+        differs(alloc, line)
     }
-    if words.words.len() < least(words.word(0)) {
-        return differs(alloc, words.word(0));
-    }
-    Ok(words.record(alloc)?)
 }
 
-/// The first and the last number of the range in these words, if there is one.
-pub fn range_of(words: &[&str]) -> Option<(u64, u64)> {
-    for word in words {
-        if let Some((first, last)) = word.split_once("..") {
-            return Some((first.parse::<u64>().ok()?, last.parse::<u64>().ok()?));
+/// The first and the last number of the range in this line, if there is one.
+pub fn range_of(line: &str) -> Option<(u64, u64)> {
+    for word in line.split(' ') {
+        if let Some(range) = range_in(word) {
+            return Some(range);
         }
     }
     None

@@ -119,7 +119,7 @@ pub fn found(alloc: Global, catalog: &Catalog, store: &mut MemStore) -> Result<E
         files: Seq::new(alloc),
         logs: Seq::new(alloc),
     };
-    if !fits_place(alloc, catalog, &place)? {
+    if !fits_place(catalog, &place) {
         return differs(alloc, "nothing does not fit");
     }
     match gather(alloc, catalog, store, &place) {

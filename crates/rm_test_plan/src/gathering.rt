@@ -13,7 +13,8 @@ use rm_redo::{LogFile, encode_log, is_valid_log};
 use rm_test_harness::{Fault, differs};
 use std::alloc::Global;
 
-const BASE: BaseEntry = BaseEntry {
+/// The base facts.
+pub const BASE: BaseEntry = BaseEntry {
     dbid: 7,
     threads: 2,
     current: 1,
@@ -178,7 +179,7 @@ pub fn evidence<D: Store>(
     store: &mut D,
     place: &InPlace,
 ) -> Result<Option<Evidence>, Fault> {
-    if !has_database(catalog) || !fits_place(alloc, catalog, place)? {
+    if !has_database(catalog) || !fits_place(catalog, place) {
         return differs(alloc, "what is in place does not fit");
     }
     match gather(alloc, catalog, store, place) {

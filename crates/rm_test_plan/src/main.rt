@@ -5,6 +5,7 @@
 mod asked;
 mod both;
 mod branches;
+mod database;
 mod draws;
 mod drill;
 mod gathering;
@@ -12,13 +13,23 @@ mod histories;
 mod made;
 mod objects;
 mod plans;
+mod single;
 mod slow;
 mod switched;
 mod threads;
 mod whole;
 
-use rm_test_harness::{tell, tell_table};
+use rm_test_harness::{Fault, tell, tell_table};
 use std::io;
+
+fn tell_records(rt: &HostRuntime) -> io::Result<()> {
+    let alloc = rt.alloc();
+    tell::<Fault>(rt, "names have the id", Ok(single::names(alloc)))?;
+    tell(rt, "a log is an object", single::a_log(alloc))?;
+    tell(rt, "a piece is an object", single::a_piece(alloc))?;
+    tell(rt, "a database", database::told(alloc))?;
+    tell(rt, "no database", database::none(alloc))
+}
 
 fn tell_evidence(rt: &HostRuntime) -> io::Result<()> {
     let alloc = rt.alloc();
@@ -49,6 +60,7 @@ fn tell_histories(rt: &HostRuntime) -> io::Result<()> {
 fn main(rt: HostRuntime) -> io::Result<()> {
     let alloc = rt.alloc();
     tell_table(&rt, "plans", plans::Plans::new(alloc))?;
+    tell_records(&rt)?;
     tell_evidence(&rt)?;
     tell_histories(&rt)?;
     tell(

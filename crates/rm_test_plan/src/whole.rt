@@ -113,11 +113,11 @@ pub fn by_kind(alloc: Global) -> Result<bool, Fault> {
 pub fn unfit(alloc: Global) -> Result<bool, Fault> {
     let Site { catalog, .. } = make_site(alloc, &[])?;
     let mut place = some_place(alloc)?;
-    if !has_database(&catalog) || !fits_place(alloc, &catalog, &place)? {
+    if !has_database(&catalog) || !fits_place(&catalog, &place) {
         return Ok(false);
     }
     place.logs.push(log(alloc, 0))?;
-    Ok(!fits_place(alloc, &catalog, &place)?)
+    Ok(!fits_place(&catalog, &place))
 }
 
 // Whether the store fails where its get of this number is to fail.

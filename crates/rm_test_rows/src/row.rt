@@ -95,22 +95,13 @@ impl Row {
             ["room", room] => self.set_room(room),
             ["most", most] => self.set_most(most),
             ["clock", answers @ ..] => self.set_clock(answers),
-            ["words", words @ ..] => {
-                self.words.clear();
-                self.add_words(words)
-            }
+            ["words", words @ ..] => self.set_words(words),
             ["channels", count] => self.add_words(&["--channels", count]),
             ["record", kind, id, fields @ ..] => self.put_record(kind, id, fields),
-            ["drop", kind, id] => {
-                let key = self.key(kind, id)?;
-                self.apply(Edit::Drop(key))
-            }
+            ["drop", kind, id] => self.drop_record(kind, id),
             ["put", name, digits @ ..] => self.put_object(name, digits),
             ["session"] => self.go_on(),
-            ["store", name] => {
-                self.store = String::from_str(self.alloc, name)?;
-                Ok(())
-            }
+            ["store", name] => self.set_store(name),
             ["database", number] => self.set_number(number),
             ["duplicate", into, words @ ..] => self.go_into(into, false, words),
             ["standby", into, words @ ..] => self.go_into(into, true, words),
@@ -130,8 +121,13 @@ impl Row {
     fn go_into(&mut self, name: &str, is_standby: bool, words: &[&str]) -> Result<(), Fault> {
         let name = String::from_str(self.alloc, name)?;
         self.into = Some(Into { name, is_standby });
-        self.words.clear();
-        self.add_words(words)
+        self.set_words(words)
+    }
+
+    // The store of the next lines.
+    fn set_store(&mut self, name: &str) -> Result<(), Fault> {
+        self.store = String::from_str(self.alloc, name)?;
+        Ok(())
     }
 
     fn set_number(&mut self, number: &str) -> Result<(), Fault> {
@@ -161,6 +157,11 @@ impl Row {
             self.words.push(Text::from_string(word))?;
         }
         Ok(())
+    }
+
+    fn set_words(&mut self, words: &[&str]) -> Result<(), Fault> {
+        self.words.clear();
+        self.add_words(words)
     }
 
     fn fail(&mut self, name: &str, numbers: &[&str]) -> Result<(), Fault> {
@@ -309,6 +310,12 @@ impl Row {
             Some(record) => self.apply(Edit::Put(record)),
             None => differs(self.alloc, "not a record"),
         }
+    }
+
+    // The keeper has no record of this key.
+    fn drop_record(&mut self, kind: &str, id: &str) -> Result<(), Fault> {
+        let key = self.key(kind, id)?;
+        self.apply(Edit::Drop(key))
     }
 
     // The store that the last run left has this object.
