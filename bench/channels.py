@@ -71,13 +71,13 @@ def less(one, other):
     return Cost(*(a - b for a, b in zip(one, other)))
 
 
-def run(program, place, script, channels):
-    """Runs a session, and returns what it took. Its replies are in a file of the place."""
+def run(program, place, script, channels, under=()):
+    """Runs a session, under another program where its words are given, and returns what it took. Its replies are in a file of the place."""
     with open(f"{place}/script", "w+", encoding="utf-8") as said, open(f"{place}/replies", "wb") as replies:
         said.write(script)
         said.seek(0)
         words = ["--store", f"{place}/objects", "--catalog", f"{place}/catalog", "--channels", str(channels)]
-        return cost_of([program, *words], said, replies)
+        return cost_of([*under, program, *words], said, replies)
 
 
 def digest_of(path):
@@ -108,10 +108,10 @@ class Prepared:
         self.objects = [path for path in objects if "/site_" not in path and LOCK not in path]
         self.bytes = sum(os.path.getsize(path) for path in self.objects)
 
-    def session(self, script, channels):
+    def session(self, script, channels, under=()):
         """What a session takes over what was kept."""
         shutil.copytree(self.kept, self.place)
-        return run(self.program, self.place, script, channels)
+        return run(self.program, self.place, script, channels, under)
 
     def digest(self):
         """What sha256sum takes for the objects more than for nothing."""

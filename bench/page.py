@@ -15,6 +15,14 @@ def number(text):
     return f"{int(text):,}"
 
 
+# What bench/functions.py counts, and how it is told.
+BY_FUNCTION = [
+    ("instructions", "Each function itself, in percent of its statement's instructions, without the system's."),
+    ("instructions with what it calls", "The same with what a function calls, but for threads that it begins."),
+    ("processor time", "Each function of the program itself, and what it calls of the C library and of the system."),
+    ("page faults", "Likewise. Fewer in a session with the statement than in one without are below 0."),
+]
+
 # Of each table its subject, what is told and wanted, its columns, and the form of a line with what a row makes of its parts.
 TABLES = [
     ("Kernels", "1,000 runs over 65,536 bytes or blocks, by lanes and by a plain loop.", ["Kernel", "Lanes, ms", "Plain loop, ms", "Of it"],
@@ -35,6 +43,12 @@ TABLES = [
      ["Statement", "Channels", "ms", "Of SHA-256", "Of `sha256sum`", "ms of processors", "Of SHA-256", "Of `sha256sum`", "Page faults", "Peak, MB", "Without it"],
      r"^([a-z\d ]+), channels (\d+): (-?[\d.]+) ms, (-|-?\d+ %) of SHA-256, (-?\d+ %) of sha256sum; processors (-?[\d.]+) ms, (-|-?\d+ %) of SHA-256, (-?\d+ %) of sha256sum; (-?\d+) page faults; peak ([\d.]+) MB, without ([\d.]+) MB$",
      lambda g: [g[0], *g[1:8], number(g[8]), *g[9:]]),
+    *((f"Where the time goes, by function: {what}", told, ["Function", "BACKUP by 1", "by 4", "RECOVER by 1", "by 4", "VALIDATE ALL by 1", "by 4"],
+       rf"^by function, {what}: (.*): (-?[\d.]+ %), (-?[\d.]+ %), (-?[\d.]+ %), (-?[\d.]+ %), (-?[\d.]+ %), (-?[\d.]+ %)$", lambda g: [f"`{g[0]}`" if "::" in g[0] else g[0], *g[1:]]) for what, told in BY_FUNCTION),
+    ("A peak of memory", "RECOVER of 8 MB of datafiles from 20 MB of logs.", ["Logs", "Channels", "Peak, MB", "Without it", "Page faults", "ms of processors"],
+     r"^peak of a recover from (\d+) logs, channels (\d+): ([\d.]+) MB, without ([\d.]+) MB; ([\d,]+) page faults; (-?\d+) ms of processors$", list),
+    ("The list of records, where a statement only looks", "`records_of` of rm_machine over 16,000 logs.", ["Statement", "Blocks", "Millions of instructions", "Of the statement's", "Of it", "In its checks", "MB asked for", "Of the statement's", "Of it"],
+     r"^the list of \d+ logs' records in (.*) of (\d+) blocks: ([\d.]+) of ([\d.,]+) million instructions, ([\d.]+ %), ([\d.]+) of them in its checks; ([\d.]+) of ([\d.,]+) MB asked for, ([\d.]+ %)$", lambda g: [g[0], number(g[1]), *g[2:]]),
     ("A save behind one WRITE", "Of a database of 8 MB: what its session takes more than one that only shows the settings.", ["ms", "Session, ms", "Of it", "ms of processors", "Session, ms", "Of it"],
      r"^save behind one WRITE: (-?[\d.]+) ms of ([\d.]+) ms, (-?\d+ %); processors (-?[\d.]+) ms of ([\d.]+) ms, (-?\d+ %)$", list),
     ("RECOVER from more and more logs", "Wanted: linear.", ["Logs of 4,096 records", "ms"], r"^recover from (\d+) logs of 4096 records: (\d+) us", lambda g: [g[0], ms(g[1])]),

@@ -4,7 +4,8 @@
 # PROGRAM is the program as it was built (./rman), and KERNELS rm_bench, which is proved and built where it is not named. First come the
 # kernels beside plain loops, the bytes of pieces and logs beside SHA-256 alone, gathering and planning, turns of a live database and
 # its copies by channels; then sha256sum alone, and what PROGRAM takes: scripts.sh, growth.sh, sessions.sh, drill.py, sets.py and channels.py in time
-# (this one of a program as it was built), level1.py and mending.py in instructions (likewise; they want valgrind). It takes some fifteen minutes.
+# (this one of a program as it was built), then peak.py in memory, and level1.py, mending.py, functions.py and looking.py in instructions (likewise; they want valgrind).
+# It takes some twenty minutes.
 set -eu
 cd "$(dirname "$0")/.."
 program=${1:-./rman}
@@ -36,8 +37,11 @@ bench/drill.py 0 "$program"
 bench/sets.py --figures "$program"
 if [ "$program" != ./rman ]; then
     bench/channels.py "$program" 9 "${2:-crates/rm_bench/out/rm_bench}"
+    bench/peak.py "$program"
 fi
 if [ "$program" != ./rman ] && command -v valgrind > /dev/null; then
     bench/level1.py "$program"
     bench/mending.py --figures "$program"
+    bench/functions.py "$program"
+    bench/looking.py "$program"
 fi

@@ -58,4 +58,5 @@ def main():
     print(f"\nOne round, each of the {len(libraries)} libraries once: {sum(found[it][2] for it in libraries):,} reads.")
 
 
-main()
+if __name__ == "__main__":
+    main()
