@@ -143,8 +143,10 @@ class Shelf:
                 words = words[: words.index("TheVariants")]
             return self.in_code(crate, words[-1], "/".join(words[:-2]) or words[0])
         if words[1] == "specs":
-            named = self.items_of(f"crates/{crate}/specs/{words[2]}.antt").get(words[-1])
-            return [named] if named else []
+            path = f"crates/{crate}/specs/{words[2]}.antt"
+            named = self.items_of(path).get(words[-1])
+            handed_on = None if os.path.exists(os.path.join(TOP, path)) else self.uses_of(f"crates/{crate}/specs/Lib.antt").get(words[2])
+            return [named] if named else self.meant_by(handed_on + words[3:]) if handed_on else []
         handed_on = self.uses_of(f"crates/{crate}/src/lib.rt").get(words[-1])
         return self.in_code(crate, words[-1]) or (self.meant_by(handed_on) if handed_on and handed_on[0].startswith("rm") else [])
 
