@@ -83,15 +83,6 @@ fn first_bad(records: &[Record]) -> Option<Key>
     None
 }
 
-// The catalog of valid records in order.
-fn of_valid(records: Vec<Record>) -> Result<Catalog, NoMemory>
-    requires { IsCatalog records.items }
-    ensures { IfOk result (λ c. c ≡ records.items) }
-{
-    let tree = tree_now(*records.allocator(), &records)?;
-    Ok(Catalog { records, tree })
-}
-
 // The tree of records, whose incarnations stand in front of the datafiles.
 fn tree_now(alloc: Global, records: &[Record]) -> Result<Option<Tree>, NoMemory>
     requires { IsCatalog records.now }
@@ -130,7 +121,18 @@ impl Catalog {
         if let Some(key) = first_bad(&records) {
             return Err(CatalogFault::BadRow(key.kind, key.id));
         }
-        Ok(of_valid(records)?)
+        Ok(Catalog::from_valid(Seq::from_vec(records))?)
+    }
+
+    /// The catalog of records that obey all rules and ascend by kind and then id, as those that a catalog gave do:
+    /// nothing is checked anew. `from_records` takes any records, and checks them.
+    pub fn from_valid(records: Seq<Record>) -> Result<Catalog, NoMemory>
+        requires { IsCatalog records }
+        ensures { IfOk result (λ c. c ≡ records) }
+    {
+        let records = records.into_vec();
+        let tree = tree_now(*records.allocator(), &records)?;
+        Ok(Catalog { records, tree })
     }
 
     /// The records, ascending by kind and then id.

@@ -1,6 +1,6 @@
 //! The records of a state, as a list, and the record of a log that is made.
 ghost use Rattle.std.specs.Prelude.{◌≡◌, IfOk};
-ghost use Rattle.rm_catalog.specs.Rules.{HasDatabase, IsCatalog};
+ghost use Rattle.rm_catalog.specs.Rules.{HasDatabase};
 ghost use Rattle.rm_machine.specs.Sound.{IsSound};
 ghost use Rattle.rm_machine.specs.SwitchLogfile.{log_entry};
 ghost use Rattle.rm_catalog_typed.specs.TypedCatalog.{records_of};
@@ -9,22 +9,10 @@ ghost use Rattle.sha2.specs.Sha256.{sha256};
 
 use crate::state::State;
 use rm_base::sealed::Encoded;
-use rm_base::{NoMemory, Seq, Status};
-use rm_catalog::{Catalog, CatalogFault, LogEntry, Record};
+use rm_base::{NoMemory, Status};
+use rm_catalog::{Catalog, LogEntry};
 use rm_redo::LogFile;
 use std::alloc::Global;
-
-// Valid records in order, as a list.
-fn as_records(records: Seq<Record>) -> Result<Catalog, NoMemory>
-    requires { IsCatalog records }
-    ensures { IfOk result (λ list. list ≡ records) }
-{
-    match Catalog::from_records(records) {
-        Ok(records) => Ok(records),
-        Err(CatalogFault::NoMemory) => Err(NoMemory),
-        Err(CatalogFault::BadRow(..)) => unreachable!(),
-    }
-}
 
 /// The records of a database and of its saved site, as a list that ascends by kind and then id. An error is want of
 /// memory.
@@ -33,7 +21,7 @@ pub fn records_of(alloc: Global, state: &State) -> Result<Catalog, NoMemory>
     ensures records { IfOk result (λ records. records ≡ records_of state.now.catalog) }
     ensures database { IfOk result (λ records. HasDatabase records) }
 {
-    as_records(state.catalog.records(alloc)?)
+    Catalog::from_valid(state.catalog.records(alloc)?)
 }
 
 /// The record of a log under this id, an archived one or a backup of one, whose object has these bytes and this digest.

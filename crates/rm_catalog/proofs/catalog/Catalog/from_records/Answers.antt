@@ -1,7 +1,7 @@
 use Rattle.std.proofs.Common.{◌∙◌, List, sym, subst, rules}
 use Rattle.rm_catalog.specs.declared.record.Record.{Record}
 use Rattle.rm_catalog.specs.Keys.{InOrder}
-use Rattle.rm_catalog.specs.Rules.{IsOrderOf, IsFirstBad}
+use Rattle.rm_catalog.specs.Rules.{IsCatalog, IsOrderOf, IsFirstBad}
 use Rattle.rm_catalog.proofs.Unique.{one_order, none_valid}
 use Rattle.rm_catalog.proofs.Told.{one_told, one_key}
 use Rattle.rm_catalog.proofs.catalog.Catalog.from_records.Goals as goal
@@ -14,7 +14,7 @@ returns-in-Some-clause-only c s order valid =
     order valid
 
 pub returns-clause-only : goal.returns-clause-only
-returns-clause-only c s order valid = c.in_ok-of_valid.ensures ∙ sym (one_order c.args.records s c.in_order-records.result.items order
+returns-clause-only c s order valid = c.in_ok-from_valid.ensures ∙ c.from_vec.ensures ∙ sym (one_order c.args.records s c.in_order-records.result.items order
     (subst (λ (x : List Record). IsOrderOf c.in_order-records.result.items x) c.into_vec.ensures c.in_order-records.ensures) valid)
 
 pub returns-in-Some-clause-told : goal.returns-in-Some-clause-told
@@ -30,3 +30,6 @@ returns-clause-told c s key small order bad =
 
 pub first_bad-requires : goal.first_bad-requires
 first_bad-requires c = subst (λ (x : List Record). InOrder x) (sym c.deref.ensures.value) c.in_order-records.ensures.order
+
+pub from_valid-requires : goal.from_valid-requires
+from_valid-requires c = subst (λ (x : List Record). IsCatalog x) (sym c.from_vec.ensures) (record { order = c.in_order-records.ensures.order; valid = search rules })
