@@ -26,8 +26,8 @@ use std::thread::Threads;
 /// every change below `s` and none at or above it. `Until` where `s` lies outside the incarnation. `Gap`
 /// where a block is not told: that of the least datafile and block, behind which nothing more could be
 /// known. All memory is taken before the first part is applied. By so many channels, at least one, the objects
-/// are digested and decoded, the bytes of so many held at a time, and the parts are applied; each number gives
-/// the same.
+/// are digested and decoded, the bytes of so many held at a time, the datafiles are planned, and the parts are
+/// applied; each number gives the same.
 pub fn recover<R: Threads + Sync, D: Store>(
     rt: &R,
     alloc: Global,

@@ -28,10 +28,11 @@ fn shape(kind: &str) -> &'static str {
 // The words of each datafile of a set, behind the others.
 const PART: &str = "4k884";
 
-// The first and the last number of a range.
+// The first and the last number of a range, which does not fall.
 fn range_in(word: &str) -> Option<(u64, u64)> {
     let (first, last) = word.split_once("..")?;
-    Some((first.parse::<u64>().ok()?, last.parse::<u64>().ok()?))
+    let (first, last) = (first.parse::<u64>().ok()?, last.parse::<u64>().ok()?);
+    if first <= last { Some((first, last)) } else { None }
 }
 
 // The tag between these quotes.
@@ -318,12 +319,16 @@ pub fn record_of(alloc: Global, line: &str, number: Option<u64>) -> Result<Recor
     }
 }
 
-/// The first and the last number of the range in this line, if there is one.
+/// The first and the last number of the range in this line, if there is just one.
 pub fn range_of(line: &str) -> Option<(u64, u64)> {
+    let mut found = None;
     for word in line.split(' ') {
         if let Some(range) = range_in(word) {
-            return Some(range);
+            if found.is_some() {
+                return None;
+            }
+            found = Some(range);
         }
     }
-    None
+    found
 }

@@ -11,7 +11,7 @@ use rm_site::{OpenFault, Site};
 use rm_tool_ends::{Ended, write_all};
 use std::alloc::Global;
 
-/// Why no statement could be stepped.
+/// Why no site was opened.
 #[derive(Clone, Copy, PartialEq, Eq)]
 pub enum Unopened {
     /// A record of the keeper breaks a rule, and the line of the first was written.
