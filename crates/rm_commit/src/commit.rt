@@ -115,8 +115,7 @@ pub fn carry_out<D: Store, C: Keeper>(
     ensures before { IsErrOf result KeeperFault → HaltedBefore change.now (D.held store.old) (C.kept keeper.old) (D.held store.new) (C.kept keeper.new) }
     ensures store { IsErrOf result StoreFault → Rose (D.faults store.old) (D.faults store.new) }
     ensures keeper { IsErrOf result KeeperFault → Rose (C.faults keeper.old) (C.faults keeper.new) }
-    ensures store_never_falls { D.faults store.old ≤ D.faults store.new }
-    ensures keeper_never_falls { C.faults keeper.old ≤ C.faults keeper.new }
+    ensures none_falls { (D.faults store.old ≤ D.faults store.new) × (C.faults keeper.old ≤ C.faults keeper.new) }
 {
     put_all(store, change.objects.as_slice())?;
     keeper.apply(change.edits.as_slice())?;
