@@ -45,8 +45,7 @@ pub fn level<N: Keeper, F: Keeper>(
     ensures equal { OnOk result (AreEqual (N.kept near.new) (F.kept far.new)) }
     ensures far { OnErr result (F.kept far.new ≡ F.kept far.old) }
     ensures failed { IsErrOf result Failed → OneRose (N.faults near.old) (N.faults near.new) (F.faults far.old) (F.faults far.new) }
-    ensures near_never_falls { N.faults near.old ≤ N.faults near.new }
-    ensures far_never_falls { F.faults far.old ≤ F.faults far.new }
+    ensures none_falls { (N.faults near.old ≤ N.faults near.new) × (F.faults far.old ≤ F.faults far.new) }
 {
     let wanted = in_order(near.load()?.into_vec());
     let number = wanted.len();
@@ -115,8 +114,7 @@ impl<N: Keeper, F: Keeper> Control<N, F> {
         ensures near_back { IfErr result (λ e. N.kept e.0 ≡ N.kept near) }
         ensures far_back { IfErr result (λ e. F.kept e.1 ≡ F.kept far) }
         ensures failed { IfErr result (λ e. e.2 ≡ Failed → OneRose (N.faults near) (N.faults e.0) (F.faults far) (F.faults e.1)) }
-        ensures near_never_falls { IfOk result (λ c. N.faults near ≤ N.faults c.near) × IfErr result (λ e. N.faults near ≤ N.faults e.0) }
-        ensures far_never_falls { IfOk result (λ c. F.faults far ≤ F.faults c.far) × IfErr result (λ e. F.faults far ≤ F.faults e.1) }
+        ensures none_falls { IfOk result (λ c. (N.faults near ≤ N.faults c.near) × (F.faults far ≤ F.faults c.far)) × IfErr result (λ e. (N.faults near ≤ N.faults e.0) × (F.faults far ≤ F.faults e.1)) }
     {
         let mut near = near;
         let mut far = far;
