@@ -81,8 +81,7 @@ impl Site {
         ensures kept { C.kept keeper.new ≡ C.kept keeper.old }
         ensures store { IsErrOf result OpenFault.StoreFault → Rose (D.faults store.old) (D.faults store.new) }
         ensures keeper { IsErrOf result OpenFault.KeeperFault → Rose (C.faults keeper.old) (C.faults keeper.new) }
-        ensures store_never_falls { D.faults store.old ≤ D.faults store.new }
-        ensures keeper_never_falls { C.faults keeper.old ≤ C.faults keeper.new }
+        ensures none_falls { (D.faults store.old ≤ D.faults store.new) × (C.faults keeper.old ≤ C.faults keeper.new) }
     {
         let records = keeper.load()?;
         let state = match TypedCatalog::from_records(records)? {

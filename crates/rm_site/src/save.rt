@@ -43,8 +43,7 @@ fn save_state<D: Store, C: Keeper>(
     ensures stopped { OnErr result (StopsSavingAt (D.held store.old) (C.kept keeper.old) state (D.held store.new) (C.kept keeper.new)) }
     ensures store { IsErrOf result StoreFault → Rose (D.faults store.old) (D.faults store.new) }
     ensures keeper { IsErrOf result KeeperFault → Rose (C.faults keeper.old) (C.faults keeper.new) }
-    ensures store_never_falls { D.faults store.old ≤ D.faults store.new }
-    ensures keeper_never_falls { C.faults keeper.old ≤ C.faults keeper.new }
+    ensures none_falls { (D.faults store.old ≤ D.faults store.new) × (C.faults keeper.old ≤ C.faults keeper.new) }
 {
     let mut state = state;
     let mut edits = Vec::new(alloc);
@@ -73,8 +72,7 @@ impl Site {
         ensures unapplied { self.old.applied ≡ false → AreSame (D.held store.old) (C.kept keeper.old) (D.held store.new) (C.kept keeper.new) }
         ensures store { IsErrOf result StoreFault → Rose (D.faults store.old) (D.faults store.new) }
         ensures keeper { IsErrOf result KeeperFault → Rose (C.faults keeper.old) (C.faults keeper.new) }
-        ensures store_never_falls { D.faults store.old ≤ D.faults store.new }
-        ensures keeper_never_falls { C.faults keeper.old ≤ C.faults keeper.new }
+        ensures none_falls { (D.faults store.old ≤ D.faults store.new) × (C.faults keeper.old ≤ C.faults keeper.new) }
     {
         self.live = false;
         let Some(state) = mem::replace(&mut self.state, None) else {

@@ -99,8 +99,7 @@ fn answer_without<D: Store, C: Keeper>(
     ensures untouched { OnErr result (only_tells command.now ≡ true → AreSame (D.held store.old) (C.kept keeper.old) (D.held store.new) (C.kept keeper.new)) }
     ensures store { IsErrOf result StoreFault → Rose (D.faults store.old) (D.faults store.new) }
     ensures keeper { IsErrOf result KeeperFault → Rose (C.faults keeper.old) (C.faults keeper.new) }
-    ensures store_never_falls { D.faults store.old ≤ D.faults store.new }
-    ensures keeper_never_falls { C.faults keeper.old ≤ C.faults keeper.new }
+    ensures none_falls { (D.faults store.old ≤ D.faults store.new) × (C.faults keeper.old ≤ C.faults keeper.new) }
 {
     if let Some(refusal) = refusal_without(command) {
         return Ok((None, refusal_reply(alloc, refusal)?));
@@ -145,8 +144,7 @@ fn answer_in<R: Threads + Wait + Sync, G: Gate, D: Store, C: Keeper>(
     ensures untouched { OnErr result (only_tells command.now ≡ true → AreSame (D.held store.old) (C.kept keeper.old) (D.held store.new) (C.kept keeper.new)) }
     ensures store { IsErrOf result StoreFault → Rose (D.faults store.old) (D.faults store.new) }
     ensures keeper { IsErrOf result KeeperFault → Rose (C.faults keeper.old) (C.faults keeper.new) }
-    ensures store_never_falls { D.faults store.old ≤ D.faults store.new }
-    ensures keeper_never_falls { C.faults keeper.old ≤ C.faults keeper.new }
+    ensures none_falls { (D.faults store.old ≤ D.faults store.new) × (C.faults keeper.old ≤ C.faults keeper.new) }
 {
     let mut edits = Vec::new(alloc);
     let earlier = state.catalog.begin(&mut edits, moment)?;
@@ -205,8 +203,7 @@ fn answer<R: Threads + Wait + Sync, G: Gate, D: Store, C: Keeper>(
     ensures untouched { OnErr result (only_tells command.now ≡ true → AreSame (D.held store.old) (C.kept keeper.old) (D.held store.new) (C.kept keeper.new)) }
     ensures store { IsErrOf result StoreFault → Rose (D.faults store.old) (D.faults store.new) }
     ensures keeper { IsErrOf result KeeperFault → Rose (C.faults keeper.old) (C.faults keeper.new) }
-    ensures store_never_falls { D.faults store.old ≤ D.faults store.new }
-    ensures keeper_never_falls { C.faults keeper.old ≤ C.faults keeper.new }
+    ensures none_falls { (D.faults store.old ≤ D.faults store.new) × (C.faults keeper.old ≤ C.faults keeper.new) }
 {
     match state {
         None => answer_without(alloc, store, keeper, command, moment),
@@ -274,8 +271,7 @@ impl Site {
         ensures spent { OnErr result (self.new ≡ record { state = None; live = false; applied = self.old.applied }) }
         ensures store { IsErrOf result StoreFault → Rose (D.faults store.old) (D.faults store.new) }
         ensures keeper { IsErrOf result KeeperFault → Rose (C.faults keeper.old) (C.faults keeper.new) }
-        ensures store_never_falls { D.faults store.old ≤ D.faults store.new }
-        ensures keeper_never_falls { C.faults keeper.old ≤ C.faults keeper.new }
+        ensures none_falls { (D.faults store.old ≤ D.faults store.new) × (C.faults keeper.old ≤ C.faults keeper.new) }
     {
         self.live = false;
         let state = mem::replace(&mut self.state, None);
