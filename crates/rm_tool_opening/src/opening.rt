@@ -97,9 +97,7 @@ fn open_told<K: Sink, D: Store, C: Keeper>(
     ensures sink_failed { IsErrOf result Unopened.Sink → Rose (K.faults sink.old) (K.faults sink.new) }
     ensures store_failed { IsErrOf result Unopened.Store → Rose (D.faults store.old) (D.faults store.new) }
     ensures keeper_failed { IsErrOf result Unopened.Keeper → Rose (C.faults keeper.old) (C.faults keeper.new) }
-    ensures sink_never_falls { K.faults sink.old ≤ K.faults sink.new }
-    ensures store_never_falls { D.faults store.old ≤ D.faults store.new }
-    ensures keeper_never_falls { C.faults keeper.old ≤ C.faults keeper.new }
+    ensures none_falls { (K.faults sink.old ≤ K.faults sink.new) × (D.faults store.old ≤ D.faults store.new) × (C.faults keeper.old ≤ C.faults keeper.new) }
 {
     match Site::open(alloc, store, keeper) {
         Ok(site) => Ok(site),
@@ -134,9 +132,7 @@ pub fn open_site<K: Sink, D: Store, C: Keeper>(
     ensures ok { OnOk result (K.contents sink.new ≡ K.contents sink.old) }
     ensures written { IfErr result (WritesUnopened (C.kept keeper.old) (K.contents sink.old) (K.contents sink.new)) }
     ensures rose { IfErr result (RoseUnopened (K.faults sink.old) (K.faults sink.new) (D.faults store.old) (D.faults store.new) (C.faults keeper.old) (C.faults keeper.new)) }
-    ensures sink_never_falls { K.faults sink.old ≤ K.faults sink.new }
-    ensures store_never_falls { D.faults store.old ≤ D.faults store.new }
-    ensures keeper_never_falls { C.faults keeper.old ≤ C.faults keeper.new }
+    ensures none_falls { (K.faults sink.old ≤ K.faults sink.new) × (D.faults store.old ≤ D.faults store.new) × (C.faults keeper.old ≤ C.faults keeper.new) }
 {
     open_told(alloc, sink, store, keeper)
 }

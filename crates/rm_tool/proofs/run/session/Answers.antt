@@ -189,7 +189,7 @@ returns-in_err-refused-clause-rose g c =
     let h : Faults = record { source = g.S.Source.faults c.script_of.new.source; sink = g.K.Sink.faults c.serve_session.new.sink; store = g.D.Store.faults c.serve_session.new.store; keeper = g.C.Keeper.faults c.serve_session.new.keeper } in
     let ab : NoneFalls a b = record { source = omega arith; sink = c.asked_in.ensures.never_falls; store = omega arith; keeper = omega arith } in
     let bd : NoneFalls b d = record { source = c.script_of.ensures.source_never_falls; sink = c.script_of.ensures.sink_never_falls; store = omega arith; keeper = omega arith } in
-    let df : NoneFalls d f = record { source = omega arith; sink = c.open_site.ensures.sink_never_falls; store = c.open_site.ensures.store_never_falls; keeper = c.open_site.ensures.keeper_never_falls } in
+    let df : NoneFalls d f = record { source = omega arith; sink = c.open_site.ensures.none_falls.0; store = c.open_site.ensures.none_falls.1; keeper = c.open_site.ensures.none_falls.2 } in
     let e = c.in_err-refused.field-0.0 in
     let so = c.serve_session.ensures in
     let stops = c.in_err-refused.was in
