@@ -124,8 +124,7 @@ fn serve_inner<R: Threads + Wait + Sync, G: Gate, D: Store, C: Keeper>(
     ensures flagged { IfOk result IsFlagged }
     ensures store { IsErrOf result StoreFault → Rose (D.faults store.old) (D.faults store.new) }
     ensures keeper { IsErrOf result KeeperFault → Rose (C.faults keeper.old) (C.faults keeper.new) }
-    ensures store_never_falls { D.faults store.old ≤ D.faults store.new }
-    ensures keeper_never_falls { C.faults keeper.old ≤ C.faults keeper.new }
+    ensures none_falls { (D.faults store.old ≤ D.faults store.new) × (C.faults keeper.old ≤ C.faults keeper.new) }
 {
     match inner {
         Inner::Plain(command) => {
@@ -176,8 +175,7 @@ pub fn serve_block<R: Threads + Wait + Sync, G: Gate, D: Store, C: Keeper>(
     ensures flagged { IfOk result IsFlagged }
     ensures store { IsErrOf result StoreFault → Rose (D.faults store.old) (D.faults store.new) }
     ensures keeper { IsErrOf result KeeperFault → Rose (C.faults keeper.old) (C.faults keeper.new) }
-    ensures store_never_falls { D.faults store.old ≤ D.faults store.new }
-    ensures keeper_never_falls { C.faults keeper.old ≤ C.faults keeper.new }
+    ensures none_falls { (D.faults store.old ≤ D.faults store.new) × (C.faults keeper.old ≤ C.faults keeper.new) }
 {
     let mut settings = Settings {
         until: None,

@@ -127,8 +127,7 @@ pub fn script_of<S: Source, K: Sink>(
     ensures ended { IfErr result (EndsAtScript (S.left source.old) (K.contents sink.old) (K.contents sink.new)) }
     ensures rose { (d c : ℕ) → IfErr result (RoseFor (record { source = S.faults source.old; sink = K.faults sink.old; store = d; keeper = c })
         (record { source = S.faults source.new; sink = K.faults sink.new; store = d; keeper = c })) }
-    ensures source_never_falls { S.faults source.old ≤ S.faults source.new }
-    ensures sink_never_falls { K.faults sink.old ≤ K.faults sink.new }
+    ensures none_falls { (S.faults source.old ≤ S.faults source.new) × (K.faults sink.old ≤ K.faults sink.new) }
 {
     match script_for(alloc, source, drill) {
         Ok(script) => Ok(script),

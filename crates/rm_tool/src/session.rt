@@ -89,8 +89,7 @@ fn serve<R: Threads + Wait + Sync, G: Gate, D: Store, C: Keeper, T: Clock>(
     ensures flagged { IfOk result IsFlagged }
     ensures store { IsErrOf result StoreFault → Rose (D.faults store.old) (D.faults store.new) }
     ensures keeper { IsErrOf result KeeperFault → Rose (C.faults keeper.old) (C.faults keeper.new) }
-    ensures store_never_falls { D.faults store.old ≤ D.faults store.new }
-    ensures keeper_never_falls { C.faults keeper.old ≤ C.faults keeper.new }
+    ensures none_falls { (D.faults store.old ≤ D.faults store.new) × (C.faults keeper.old ≤ C.faults keeper.new) }
 {
     let Some(statement) = built_statement(alloc, tokens)? else {
         return Ok(refusal_reply(alloc, Refusal::Rm01 { line })?);
@@ -137,9 +136,7 @@ fn serve_all<R: Threads + Wait + Sync, G: Gate, K: Sink, D: Store, C: Keeper, T:
     ensures sink_failed { IsErrOf result Halt.Sink → Rose (K.faults sink.old) (K.faults sink.new) }
     ensures store_failed { IsErrOf result Halt.Store → Rose (D.faults store.old) (D.faults store.new) }
     ensures keeper_failed { IsErrOf result Halt.Keeper → Rose (C.faults keeper.old) (C.faults keeper.new) }
-    ensures sink_never_falls { K.faults sink.old ≤ K.faults sink.new }
-    ensures store_never_falls { D.faults store.old ≤ D.faults store.new }
-    ensures keeper_never_falls { C.faults keeper.old ≤ C.faults keeper.new }
+    ensures none_falls { (K.faults sink.old ≤ K.faults sink.new) × (D.faults store.old ≤ D.faults store.new) × (C.faults keeper.old ≤ C.faults keeper.new) }
 {
     let mut tally = Tally::new();
     for (line, tokens) in statements {
@@ -191,9 +188,7 @@ fn serve_drill<R: Threads + Wait + Sync, G: Gate, K: Sink, D: Store, C: Keeper, 
     ensures sink_failed { IsErrOf result Halt.Sink → Rose (K.faults sink.old) (K.faults sink.new) }
     ensures store_failed { IsErrOf result Halt.Store → Rose (D.faults store.old) (D.faults store.new) }
     ensures keeper_failed { IsErrOf result Halt.Keeper → Rose (C.faults keeper.old) (C.faults keeper.new) }
-    ensures sink_never_falls { K.faults sink.old ≤ K.faults sink.new }
-    ensures store_never_falls { D.faults store.old ≤ D.faults store.new }
-    ensures keeper_never_falls { C.faults keeper.old ≤ C.faults keeper.new }
+    ensures none_falls { (K.faults sink.old ≤ K.faults sink.new) × (D.faults store.old ≤ D.faults store.new) × (C.faults keeper.old ≤ C.faults keeper.new) }
 {
     let tally = serve_all(
         rt,
@@ -247,9 +242,7 @@ fn serve_shown<R: Threads + Wait + Sync, G: Gate, K: Sink, D: Store, C: Keeper, 
     ensures sink_failed { IsErrOf result Halt.Sink → Rose (K.faults sink.old) (K.faults sink.new) }
     ensures store_failed { IsErrOf result Halt.Store → Rose (D.faults store.old) (D.faults store.new) }
     ensures keeper_failed { IsErrOf result Halt.Keeper → Rose (C.faults keeper.old) (C.faults keeper.new) }
-    ensures sink_never_falls { K.faults sink.old ≤ K.faults sink.new }
-    ensures store_never_falls { D.faults store.old ≤ D.faults store.new }
-    ensures keeper_never_falls { C.faults keeper.old ≤ C.faults keeper.new }
+    ensures none_falls { (K.faults sink.old ≤ K.faults sink.new) × (D.faults store.old ≤ D.faults store.new) × (C.faults keeper.old ≤ C.faults keeper.new) }
 {
     if let Some(number) = drill {
         return serve_drill(
@@ -294,9 +287,7 @@ pub fn serve_session<R: Threads + Wait + Sync, G: Gate, K: Sink, D: Store, C: Ke
     ensures sink_failed { IsErrOf result Halt.Sink → Rose (K.faults sink.old) (K.faults sink.new) }
     ensures store_failed { IsErrOf result Halt.Store → Rose (D.faults store.old) (D.faults store.new) }
     ensures keeper_failed { IsErrOf result Halt.Keeper → Rose (C.faults keeper.old) (C.faults keeper.new) }
-    ensures sink_never_falls { K.faults sink.old ≤ K.faults sink.new }
-    ensures store_never_falls { D.faults store.old ≤ D.faults store.new }
-    ensures keeper_never_falls { C.faults keeper.old ≤ C.faults keeper.new }
+    ensures none_falls { (K.faults sink.old ≤ K.faults sink.new) × (D.faults store.old ≤ D.faults store.new) × (C.faults keeper.old ≤ C.faults keeper.new) }
 {
     let mut site = site;
     let refused = serve_shown(

@@ -62,8 +62,8 @@ loop-inner-preserved g c =
       plain =
           all-added IsPlain c.loop-inner.lines c.in_ok-reply.reply.lines c.add_lines.new.lines c.in_ok-add_lines.ensures c.loop-inner.invariant.plain
           (plain-lines c.in_ok-reply.reply done.flagged c.if-reply.false);
-      store = omega (arith, c.loop-inner.invariant.store, c.serve_inner.ensures.store_never_falls);
-      keeper = omega (arith, c.loop-inner.invariant.keeper, c.serve_inner.ensures.keeper_never_falls);
+      store = omega (arith, c.loop-inner.invariant.store, c.serve_inner.ensures.none_falls.0);
+      keeper = omega (arith, c.loop-inner.invariant.keeper, c.serve_inner.ensures.none_falls.1);
     }
 
 pub returns-clause-steps : goal.returns-clause-steps

@@ -146,7 +146,7 @@ returns-in_err-site-clause-rose g c =
     let d : Faults = record { source = g.S.Source.faults c.script_of.new.source; sink = g.K.Sink.faults c.script_of.new.sink; store = g.D.Store.faults c.args.store.now; keeper = g.C.Keeper.faults c.args.keeper.now } in
     let f : Faults = record { source = g.S.Source.faults c.script_of.new.source; sink = g.K.Sink.faults c.open_site.new.sink; store = g.D.Store.faults c.open_site.new.store; keeper = g.C.Keeper.faults c.open_site.new.keeper } in
     let ab : NoneFalls a b = record { source = omega arith; sink = c.asked_in.ensures.never_falls; store = omega arith; keeper = omega arith } in
-    let bd : NoneFalls b d = record { source = c.script_of.ensures.source_never_falls; sink = c.script_of.ensures.sink_never_falls; store = omega arith; keeper = omega arith } in
+    let bd : NoneFalls b d = record { source = c.script_of.ensures.none_falls.0; sink = c.script_of.ensures.none_falls.1; store = omega arith; keeper = omega arith } in
     let u = c.in_err-site.field-0.0 in
     told-err c.from_residual-in_err-site.result (of_unopened u) (RoseFor a f) c.from_residual-in_err-site.ensures.1 (rose-then a d f (of_unopened u) (falls-then a b d ab bd) (rose-at-opening d f u c.in_err-site.ensures.rose))
 
@@ -188,7 +188,7 @@ returns-in_err-refused-clause-rose g c =
     let f : Faults = record { source = g.S.Source.faults c.script_of.new.source; sink = g.K.Sink.faults c.open_site.new.sink; store = g.D.Store.faults c.open_site.new.store; keeper = g.C.Keeper.faults c.open_site.new.keeper } in
     let h : Faults = record { source = g.S.Source.faults c.script_of.new.source; sink = g.K.Sink.faults c.serve_session.new.sink; store = g.D.Store.faults c.serve_session.new.store; keeper = g.C.Keeper.faults c.serve_session.new.keeper } in
     let ab : NoneFalls a b = record { source = omega arith; sink = c.asked_in.ensures.never_falls; store = omega arith; keeper = omega arith } in
-    let bd : NoneFalls b d = record { source = c.script_of.ensures.source_never_falls; sink = c.script_of.ensures.sink_never_falls; store = omega arith; keeper = omega arith } in
+    let bd : NoneFalls b d = record { source = c.script_of.ensures.none_falls.0; sink = c.script_of.ensures.none_falls.1; store = omega arith; keeper = omega arith } in
     let df : NoneFalls d f = record { source = omega arith; sink = c.open_site.ensures.none_falls.0; store = c.open_site.ensures.none_falls.1; keeper = c.open_site.ensures.none_falls.2 } in
     let e = c.in_err-refused.field-0.0 in
     let so = c.serve_session.ensures in

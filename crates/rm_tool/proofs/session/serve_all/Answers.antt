@@ -63,8 +63,8 @@ loop-line-preserved g c =
       progress = reached-more (take (i + 1) ss) (progress-reached ss i there c.loop-line.invariant.progress c.in_ok-reply.ensures.served c.in_ok-reply.ensures.flagged) grows c.after-tally.ensures;
       live = c.in_ok-reply.ensures.live;
       sink = omega (arith, c.loop-line.invariant.sink, c.write_all.ensures.never_falls);
-      store = omega (arith, c.loop-line.invariant.store, c.serve.ensures.store_never_falls);
-      keeper = omega (arith, c.loop-line.invariant.keeper, c.serve.ensures.keeper_never_falls);
+      store = omega (arith, c.loop-line.invariant.store, c.serve.ensures.none_falls.0);
+      keeper = omega (arith, c.loop-line.invariant.keeper, c.serve.ensures.none_falls.1);
     }
 
 pub returns-clause-ok : goal.returns-clause-ok
