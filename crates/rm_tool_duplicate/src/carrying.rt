@@ -82,8 +82,7 @@ fn carry_noted<E: Store, H: Shelf + Drop, B: Noted>(
         (H.shelved result.1))) }
     ensures store { IsErrOf result.0 Stop.StoreFault → Rose (E.faults to.old) (E.faults to.new) }
     ensures shelf { IsErrOf result.0 Stop.KeeperFault → Rose (H.faults shelf) (H.faults result.1) }
-    ensures store_never_falls { E.faults to.old ≤ E.faults to.new }
-    ensures shelf_never_falls { H.faults shelf ≤ H.faults result.1 }
+    ensures none_falls { (E.faults to.old ≤ E.faults to.new) × (H.faults shelf ≤ H.faults result.1) }
 {
     let mut desk: Desk<H, B> = Desk::new(shelf, number);
     let carried = carry_out(to, &mut desk, change);
@@ -104,8 +103,7 @@ pub(crate) fn carry<E: Store, H: Shelf + Drop>(
         (H.shelved result.1))) }
     ensures store { IsErrOf result.0 Stop.StoreFault → Rose (E.faults to.old) (E.faults to.new) }
     ensures shelf { IsErrOf result.0 Stop.KeeperFault → Rose (H.faults shelf) (H.faults result.1) }
-    ensures store_never_falls { E.faults to.old ≤ E.faults to.new }
-    ensures shelf_never_falls { H.faults shelf ≤ H.faults result.1 }
+    ensures none_falls { (E.faults to.old ≤ E.faults to.new) × (H.faults shelf ≤ H.faults result.1) }
 {
     carry_noted::<E, H, Brand>(to, shelf, number, change)
 }

@@ -114,9 +114,7 @@ pub(crate) fn duplicate_of<R: Threads + Sync, D: Store, E: Store, H: Shelf>(
     ensures shelf { AllStay (H.shelved shelf.old) (H.shelved shelf.new) }
     ensures store_failed { IsErrOf result Stop.StoreFault → Rose (D.faults from.old) (D.faults from.new) ⊎ Rose (E.faults to.old) (E.faults to.new) }
     ensures shelf_failed { IsErrOf result Stop.KeeperFault → Rose (H.faults shelf.old) (H.faults shelf.new) }
-    ensures from_never_falls { D.faults from.old ≤ D.faults from.new }
-    ensures to_never_falls { E.faults to.old ≤ E.faults to.new }
-    ensures shelf_never_falls { H.faults shelf.old ≤ H.faults shelf.new }
+    ensures none_falls { (D.faults from.old ≤ D.faults from.new) × (E.faults to.old ≤ E.faults to.new) × (H.faults shelf.old ≤ H.faults shelf.new) }
 {
     let Some(state) = source else {
         return Ok(Err(Refusal::Rm02));

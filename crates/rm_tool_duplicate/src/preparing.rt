@@ -49,7 +49,7 @@ pub(crate) fn prepare<R: Threads + Sync, K: Sink, D: Store, E: Store, H: Shelf>(
     ensures shelf { AllStay (H.shelved shelf.old) (H.shelved shelf.new) }
     ensures rose { IfErr result (RoseFor (record { sink = K.faults sink.old; from = D.faults from.old; to = E.faults to.old; records = H.faults shelf.old })
         (record { sink = K.faults sink.new; from = D.faults from.new; to = E.faults to.new; records = H.faults shelf.new })) }
-    ensures never_fall { NoneFalls (record { sink = K.faults sink.old; from = D.faults from.old; to = E.faults to.old; records = H.faults shelf.old })
+    ensures none_falls { NoneFalls (record { sink = K.faults sink.old; from = D.faults from.old; to = E.faults to.old; records = H.faults shelf.old })
         (record { sink = K.faults sink.new; from = D.faults from.new; to = E.faults to.new; records = H.faults shelf.new }) }
 {
     let duplicate = match duplicate_of(rt, alloc, said, site.state(), from, to, shelf)? {

@@ -28,9 +28,7 @@ fn open_noted<K: Sink, D: Store, H: Shelf + Drop, B: Noted>(
     ensures rose { IfErr result.0 (RoseUnopened (K.faults sink.old) (K.faults sink.new) (D.faults from.old) (D.faults from.new) (H.faults shelf) (H.faults result.1)) }
     ensures same { D.held from.new ≡ D.held from.old }
     ensures shelf { AllStay (H.shelved shelf) (H.shelved result.1) }
-    ensures sink_never_falls { K.faults sink.old ≤ K.faults sink.new }
-    ensures store_never_falls { D.faults from.old ≤ D.faults from.new }
-    ensures shelf_never_falls { H.faults shelf ≤ H.faults result.1 }
+    ensures none_falls { (K.faults sink.old ≤ K.faults sink.new) × (D.faults from.old ≤ D.faults from.new) × (H.faults shelf ≤ H.faults result.1) }
 {
     let mut desk: Desk<H, B> = Desk::new(shelf, number);
     let opened = open_site(alloc, sink, from, &mut desk);
@@ -54,9 +52,7 @@ pub(crate) fn open_source<K: Sink, D: Store, H: Shelf + Drop>(
     ensures rose { IfErr result.0 (RoseUnopened (K.faults sink.old) (K.faults sink.new) (D.faults from.old) (D.faults from.new) (H.faults shelf) (H.faults result.1)) }
     ensures same { D.held from.new ≡ D.held from.old }
     ensures shelf { AllStay (H.shelved shelf) (H.shelved result.1) }
-    ensures sink_never_falls { K.faults sink.old ≤ K.faults sink.new }
-    ensures store_never_falls { D.faults from.old ≤ D.faults from.new }
-    ensures shelf_never_falls { H.faults shelf ≤ H.faults result.1 }
+    ensures none_falls { (K.faults sink.old ≤ K.faults sink.new) × (D.faults from.old ≤ D.faults from.new) × (H.faults shelf ≤ H.faults result.1) }
 {
     open_noted::<K, D, H, Brand>(alloc, sink, from, shelf, number)
 }
