@@ -109,8 +109,7 @@ fn answer_over<R: Threads + Sync, D: Store, E: Store>(
     ensures from { D.held from.new ≡ D.held from.old }
     ensures to { E.held to.new ≡ E.held to.old }
     ensures failed { IsErrOf result EvidenceFault.StoreFault → Rose (D.faults from.old) (D.faults from.new) ⊎ Rose (E.faults to.old) (E.faults to.new) }
-    ensures from_never_falls { D.faults from.old ≤ D.faults from.new }
-    ensures to_never_falls { E.faults to.old ≤ E.faults to.new }
+    ensures none_falls { (D.faults from.old ≤ D.faults from.new) × (E.faults to.old ≤ E.faults to.new) }
 {
     let found = find_standby(alloc, to)?;
     match work_of(rt, alloc, task, state, &found, from)? {
@@ -136,8 +135,7 @@ fn answer<R: Threads + Sync, D: Store, E: Store>(
     ensures from { D.held from.new ≡ D.held from.old }
     ensures to { E.held to.new ≡ E.held to.old }
     ensures failed { IsErrOf result EvidenceFault.StoreFault → Rose (D.faults from.old) (D.faults from.new) ⊎ Rose (E.faults to.old) (E.faults to.new) }
-    ensures from_never_falls { D.faults from.old ≤ D.faults from.new }
-    ensures to_never_falls { E.faults to.old ≤ E.faults to.new }
+    ensures none_falls { (D.faults from.old ≤ D.faults from.new) × (E.faults to.old ≤ E.faults to.new) }
 {
     match shown {
         Some(state) => answer_over(rt, alloc, task, state, from, to),
@@ -165,7 +163,7 @@ pub(crate) fn prepare<R: Threads + Sync, K: Sink, D: Store, E: Store>(
     ensures to { E.held to.new ≡ E.held to.old }
     ensures rose { IfErr result (λ ended. (n : ℕ) → RoseFor (record { sink = K.faults sink.old; from = D.faults from.old; to = E.faults to.old; records = n })
         (record { sink = K.faults sink.new; from = D.faults from.new; to = E.faults to.new; records = n }) ended) }
-    ensures never_fall { (n : ℕ) → NoneFalls (record { sink = K.faults sink.old; from = D.faults from.old; to = E.faults to.old; records = n })
+    ensures none_falls { (n : ℕ) → NoneFalls (record { sink = K.faults sink.old; from = D.faults from.old; to = E.faults to.old; records = n })
         (record { sink = K.faults sink.new; from = D.faults from.new; to = E.faults to.new; records = n }) }
 {
     match answer(rt, alloc, task, site.state(), from, to) {

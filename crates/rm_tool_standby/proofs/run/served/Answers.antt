@@ -136,7 +136,7 @@ returns-in_err-carry-clause-rose g c =
     let d : Counts = record { sink = g.K.Sink.faults next.sink; from = g.D.Store.faults next.from; to = g.E.Store.faults next.to; records = n } in
     let last : Counts = record { sink = g.K.Sink.faults next.sink; from = g.D.Store.faults next.from; to = g.E.Store.faults c.carry.new.to; records = n } in
     let low : NoneFalls a b = record { sink = was.ensures.none_falls.0; from = was.ensures.none_falls.1; to = omega arith; records = was.ensures.none_falls.2 } in
-    let then : NoneFalls b d = c.prepare.ensures.never_fall n in
+    let then : NoneFalls b d = c.prepare.ensures.none_falls n in
     let e = c.in_err-carry.field-0.0 in
     let rose : RoseFor d last (of_stop e) =
     rose-stop d last e (λ is. inr (c.carry.ensures.store (c.in_err-carry.was ∙ ap Err is))) (λ is. c.carry.ensures.keeper (c.in_err-carry.was ∙ ap Err is)) in
@@ -151,6 +151,6 @@ returns-in_err-write_all-clause-rose g c =
     let a : Counts = record { sink = g.K.Sink.faults c.args.sink.now; from = g.D.Store.faults c.args.from.now; to = g.E.Store.faults c.args.to.now; records = g.C.Keeper.faults c.args.keeper.now } in
     let last : Counts = record { sink = g.K.Sink.faults c.write_all.new.sink; from = g.D.Store.faults next.from; to = g.E.Store.faults c.carry.new.to; records = n } in
     let first = was.none_falls.0 in
-    let then = (c.prepare.ensures.never_fall n).sink in
+    let then = (c.prepare.ensures.none_falls n).sink in
     let rose = c.in_err-write_all.ensures.failed in
     told-err c.from_residual-in_err-write_all.result ended.Sink (RoseFor a last) c.from_residual-in_err-write_all.ensures.1 (omega (arith, first, then, rose))
