@@ -1,5 +1,6 @@
 -- Rows that take on parts.
 use Rattle.std.specs.Prelude.{ℕ, suc, ◌==◌, List, [], ◌∷◌, if◌then◌else◌}
+use Rattle.std.specs.List.Sorted.{IsNonDecreasingBy}
 use Rattle.rm_base.specs.declared.block.Part.{Part}
 use Rattle.rm_base.specs.declared.block.Row.{Row}
 
@@ -16,3 +17,7 @@ row_by (p ∷ ps) b row = row_by ps b (if p.block == b then row_of p else row)
 abbrev pub with_parts : List Part → ℕ → List Row → List Row
 with_parts parts b [] = []
 with_parts parts b (r ∷ rs) = row_by parts b r ∷ with_parts parts (suc b) rs
+
+-- the parts ascend by block; several may be of one block
+abbrev pub Ascend : List Part → Type 0
+Ascend parts = IsNonDecreasingBy (λ (p : Part). p.block) parts

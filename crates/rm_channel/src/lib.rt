@@ -9,7 +9,7 @@ pub mod pacing;
 pub mod working;
 pub mod writing;
 
-pub use applying::apply_rows;
+pub use applying::{apply_in_order, apply_rows};
 pub use copying::{copy_during, copy_file, scns_of};
 pub use jobs::{CopyJob, Gate, Point, Wanted, Work, WriteJob};
 pub use writing::write_lists;
