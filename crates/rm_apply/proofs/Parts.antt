@@ -1,13 +1,13 @@
 -- Rows that take on the parts of their blocks are those parts.
-use Rattle.std.proofs.Common.{◌≡◌, ◌∙◌, ℕ, suc, ◌+◌, ◌<◌, List, [], ◌∷◌, ◌++◌, Some, drop, length, map, slice_get, take, ap, ap₂, sym, arith, eq-eqb, ne_eqb, refl}
+use Rattle.std.proofs.Common.{◌≡◌, ◌∙◌, ℕ, suc, ◌+◌, ◌<◌, List, [], ◌∷◌, ◌++◌, Some, drop, length, map, slice_get, take, ap, ap₂, subst, sym, arith, eq-eqb, ne_eqb, refl}
 use Rattle.std.specs.Option.{option_map}
 use Rattle.std.proofs.Math.Seq.{take-append_seam}
 use Rattle.std.proofs.lemmas.List.{length-map}
-use Rattle.std.proofs.lemmas.Option.{slice_get-map}
+use Rattle.std.proofs.lemmas.Option.{slice_get-get_or, slice_get-map}
 use Rattle.rm_base.specs.declared.block.Part.{Part}
 use Rattle.rm_base.specs.declared.block.Row.{Row}
 use Rattle.rm_blocks.specs.File.{IsInOrder}
-use Rattle.rm_channel.specs.Applied.{row_by, row_of, with_parts}
+use Rattle.rm_channel.specs.Applied.{Ascend, row_by, row_of, with_parts}
 use Rattle.rm_channel.proofs.Puts.{part-before, parts-then}
 
 -- the first part is of block b, the next one of block b + 1, and so on
@@ -37,9 +37,17 @@ rows-from b (p ∷ ps) (r ∷ rs) from len =
     let others = parts-then (p ∷ []) ps (suc b) rs ∙ ap (with_parts ps (suc b)) (part-before p (suc b) rs (omega (arith, is))) ∙ rows-from (suc b) ps rs rest (omega (arith, len)) in
     rw e (ap₂ (λ (x : Row) (xs : List Row). x ∷ xs) first others)
 
+from-start : (parts : List Part) → IsInOrder (map row_of parts) → AreFrom 0 parts
+from-start parts order k p is = let e : p.block ≡ k = order k (row_of p) (slice_get-map row_of parts k ∙ ap (option_map row_of) is) in omega (arith, e)
+
 rows-of-parts : (parts : List Part) (rows : List Row) → IsInOrder (map row_of parts) → length rows ≡ length parts → with_parts parts 0 rows ≡ map row_of parts
-rows-of-parts parts rows order =
-    rows-from 0 parts rows (λ k p is. let e : p.block ≡ k = order k (row_of p) (slice_get-map row_of parts k ∙ ap (option_map row_of) is) in omega (arith, e))
+rows-of-parts parts rows order = rows-from 0 parts rows (from-start parts order)
+
+pub parts-ascend : (parts lent : List Part) → IsInOrder (map row_of parts) → lent ≡ parts → Ascend lent
+parts-ascend parts lent order same = subst Ascend (sym same) (λ i j d le lt.
+    let one = from-start parts order i _ (slice_get-get_or parts i d (omega arith)) in
+    let other = from-start parts order j _ (slice_get-get_or parts j d lt) in
+    omega (arith, one, other, le))
 
 -- where part k is of block k; the rows are those of a list, to which they are written back
 pub taken-on : (parts lent_parts : List Part) (rows lent new : List Row) (n : ℕ)

@@ -1,5 +1,5 @@
 -- What is told of a datafile before it is applied, and the datafile that it makes.
-use Rattle.std.specs.Prelude.{ℕ, ◌≡◌, ◌++◌, List, [], ◌∷◌, All, Result, Ok, Err, IfOk, IfErr, Some, length, map, slice_get}
+use Rattle.std.specs.Prelude.{ℕ, ◌≡◌, ◌++◌, List, [], ◌∷◌, All, Result, IfOk, IfErr, Some, length, map, slice_get}
 use Rattle.rm_blocks.specs.File.{File, IsInOrder}
 use Rattle.rm_channel.specs.Applied.{row_of}
 use Rattle.rm_history.specs.declared.world.World.{World}

@@ -6,7 +6,7 @@ ghost use Rattle.rm_apply.specs.Applying.{IsReady, applied};
 use crate::plans::Plan;
 use rm_base::{Block, IncNo, NoMemory, Row, Scn, Seq};
 use rm_blocks::DataFile;
-use rm_channel::apply_rows;
+use rm_channel::apply_in_order;
 use std::alloc::Global;
 use std::thread::Threads;
 
@@ -53,7 +53,7 @@ fn apply<R: Threads + Sync>(rt: &R, plan: Plan, i: IncNo, s: Scn, channels: u32)
         parts,
         mut rows,
     } = plan;
-    apply_rows(rt, rows.as_mut_slice(), parts.as_slice(), channels);
+    apply_in_order(rt, rows.as_mut_slice(), parts.as_slice(), channels);
     DataFile::from_rows(number, i, s, Seq::from_vec(rows))
 }
 

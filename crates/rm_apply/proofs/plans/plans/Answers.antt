@@ -1,4 +1,4 @@
-use Rattle.std.proofs.Common.{◌≡◌, ◌∙◌, ◌++◌, List, ap, length, rules, subst}
+use Rattle.std.proofs.Common.{◌≡◌, ◌∙◌, List, ap, length, rules, subst}
 use Rattle.std.specs.Slice.Iter.{chunks_rest}
 use Rattle.rm_evidence.specs.Known.{known_of}
 use Rattle.rm_evidence.specs.Database.{world_of}
