@@ -51,5 +51,6 @@ fn main(rt: HostRuntime) -> io::Result<()> {
         parts::same_rows(&rt, alloc),
     )?;
     tell(&rt, "a part beyond the rows", parts::beyond(&rt, alloc))?;
-    tell(&rt, "of two parts the last", parts::last(&rt, alloc))
+    tell(&rt, "of two parts the last", parts::last(&rt, alloc))?;
+    tell(&rt, "parts in order", parts::in_order(&rt, alloc))
 }
