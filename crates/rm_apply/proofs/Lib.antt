@@ -9,4 +9,5 @@ pub mod Planning
 pub mod Restorations
 pub mod Rows
 pub mod States
+pub mod Taking
 pub mod Unique

@@ -4,4 +4,5 @@ pub mod Files
 pub mod Preview
 pub mod Recover
 pub mod Restore
+pub mod Taking
 pub mod Told

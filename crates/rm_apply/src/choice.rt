@@ -3,6 +3,7 @@ ghost use Rattle.std.specs.Prelude.{◌≡◌, ◌↔◌, IsTrue};
 ghost use Rattle.std.specs.Option.{option_copied};
 ghost use Rattle.rm_history.specs.Tree.{IsThere};
 ghost use Rattle.rm_apply.specs.Restore.{ComesFirst, IsBackupFor, MayRestore, origin_by};
+ghost use Rattle.rm_apply.specs.Taking.{base_at};
 
 use crate::origin::Origin;
 use rm_base::{FileNo, IncNo, Scn};
@@ -27,24 +28,34 @@ fn comes_first(x: &(u32, Piece), y: &(u32, Piece)) -> bool
     y.1.checkpoint < x.1.checkpoint || (y.1.checkpoint == x.1.checkpoint && y.0 <= x.0)
 }
 
-/// The backup from which the datafile is restored to (i, s): of those from which it may be the one of the
-/// greatest checkpoint, ties by the greatest id. None where there is none.
-pub(crate) fn choose<'a>(
+/// The base at this place. None where no place is given, or it is past the end.
+pub(crate) fn base_at(bases: &[(u32, Piece)], place: Option<usize>) -> Option<&(u32, Piece)>
+    ensures { option_copied result ≡ base_at bases.now place }
+{
+    match place {
+        Some(k) => bases.get(k),
+        None => None,
+    }
+}
+
+/// The place of the backup from which the datafile is restored to (i, s): of those from which it may be the one
+/// of the greatest checkpoint, ties by the greatest id. None where there is none.
+pub(crate) fn choose(
     tree: &Tree,
-    bases: &'a [(u32, Piece)],
+    bases: &[(u32, Piece)],
     i: IncNo,
     s: Scn,
     number: FileNo,
-) -> Option<&'a (u32, Piece)>
+) -> Option<usize>
     requires { IsThere tree.now i }
-    ensures { IsBackupFor tree.now bases.now i s number (option_copied result) }
+    ensures { IsBackupFor tree.now bases.now i s number (base_at bases.now result) }
 {
-    let mut best: Option<&'a (u32, Piece)> = None;
-    for base in bases {
+    let mut best: Option<usize> = None;
+    for (place, base) in bases.iter().enumerate() {
         if may_restore(tree, i, s, number, base) {
-            best = match best {
-                Some(first) if comes_first(first, base) => Some(first),
-                _ => Some(base),
+            best = match base_at(bases, best) {
+                Some(first) if comes_first(first, base) => best,
+                _ => Some(place),
             };
         }
     }

@@ -10,7 +10,7 @@ ghost use Rattle.rm_apply.specs.Files.{IsTargetFile};
 ghost use Rattle.rm_apply.specs.Preview.{AreOrigins, Previews};
 ghost use Rattle.rm_apply.specs.Recover.{IfGap, outside, until_of};
 
-use crate::choice::{choose, origin_by};
+use crate::choice::{base_at, choose, origin_by};
 use crate::fault::RecoverFault;
 use crate::origin::Origin;
 use crate::range::outside;
@@ -30,8 +30,8 @@ fn origin(evidence: &Evidence, catalog: &Catalog, i: IncNo, s: Scn, target: Targ
     ensures { AreOrigins (world_of catalog.now) evidence.now.bases i s (target.number ∷ []) (result ∷ []) }
 {
     let bases = evidence.bases.as_slice();
-    let backup = choose(catalog.tree(), bases, i, s, target.number);
-    origin_by(backup)
+    let place = choose(catalog.tree(), bases, i, s, target.number);
+    origin_by(base_at(bases, place))
 }
 
 // The origins of the datafiles, in order.
