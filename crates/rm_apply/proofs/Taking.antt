@@ -6,7 +6,7 @@ use Rattle.rm_base.specs.Choice.{IsChoice}
 use Rattle.rm_base.proofs.Members.{behind, first-or-rest, in-front}
 use Rattle.rm_history.specs.declared.tree.Incarnation.{Incarnation}
 use Rattle.rm_piece.specs.declared.piece.Piece.{Piece}
-use Rattle.rm_apply.specs.Restore.{ComesFirst, IsBackupFor, MayRestore}
+use Rattle.rm_apply.specs.Restore.{ComesFirst, MayRestore}
 use Rattle.rm_apply.specs.Taking.{Stays}
 
 -- an item of a list after one was set is that one, or was there
@@ -27,10 +27,12 @@ set-held (x ∷ xs) (suc k) new y has = elim (first-or-rest x (slice_set xs k ne
 module _ {X : Type 0} (P : X → Type 0) (xs : List X) (k : ℕ) (d new : X) (before : ¬ P (get_or xs k d)) (after : ¬ P new) where
   -- where neither the new one nor the one in whose place it stands passes, those that pass are the same
   still : (y : X) → P y → Contains xs y → Contains (slice_set xs k new) y
-  still y passes has = elim (set-held (slice_set xs k new) k (get_or xs k d) y (subst (λ ys. Contains ys y) (sym (set-set xs k new (get_or xs k d) ∙ set-get_or xs k d)) has)) [
-    | inl same ↦ absurd (before (subst P (sym same) passes))
-    | inr there ↦ there
-  ]
+  still y passes has =
+      let back = sym (set-set xs k new (get_or xs k d) ∙ set-get_or xs k d) in
+      elim (set-held (slice_set xs k new) k (get_or xs k d) y (subst (λ ys. Contains ys y) back has)) [
+        | inl same ↦ absurd (before (subst P (sym same) passes))
+        | inr there ↦ there
+      ]
 
   -- and so is the choice
   choice-set : (R : X → X → Type 0) (o : Option X) → IsChoice P R (slice_set xs k new) o → IsChoice P R xs o
@@ -45,12 +47,8 @@ module _ {X : Type 0} (P : X → Type 0) (xs : List X) (k : ℕ) (d new : X) (be
   }
 
 -- where a backup gave up its rows, the choice for each other datafile stays
-pub others-stay : (xs : List (ℕ × Piece)) (k : ℕ) (d new : ℕ × Piece) → k < length xs → new.1.file ≡ (get_or xs k d).1.file → (tree : List Incarnation) (i s f : ℕ) → IfSome (slice_get xs k) (λ x. x.1.file ≢ f) → Stays tree i s xs (slice_set xs k new) f
+pub others-stay : (xs : List (ℕ × Piece)) (k : ℕ) (d new : ℕ × Piece) → k < length xs → new.1.file ≡ (get_or xs k d).1.file
+    → (tree : List Incarnation) (i s f : ℕ) → IfSome (slice_get xs k) (λ x. x.1.file ≢ f) → Stays tree i s xs (slice_set xs k new) f
 others-stay xs k d new inside same tree i s f other =
     let fails : (get_or xs k d).1.file ≢ f = subst (λ (o : Option (ℕ × Piece)). IfSome o (λ x. x.1.file ≢ f)) (slice_get-get_or xs k d inside) other in
     choice-set (MayRestore tree i s f) xs k d new (λ may. fails may.file) (λ may. fails (sym same ∙ may.file)) ComesFirst
-
--- and what is chosen for a datafile is of no other one
-pub of_no_other : (tree : List Incarnation) (bases : List (ℕ × Piece)) (i s f other : ℕ) (o : Option (ℕ × Piece)) → IsBackupFor tree bases i s f o → other ≢ f → IfSome o (λ x. x.1.file ≢ other)
-of_no_other tree bases i s f other None chosen apart = tt
-of_no_other tree bases i s f other (Some x) chosen apart = λ same. apart (sym same ∙ chosen.passes.file)

@@ -5,7 +5,6 @@ use Rattle.rm_apply.specs.declared.origin.Origin.{Origin}
 use Rattle.rm_apply.specs.Restore.{AreRestored, file_by, origin_by}
 use Rattle.rm_apply.specs.Taking.{base_at}
 use Rattle.rm_apply.proofs.Restorations.{created_below, created_with, one_restored, same_choice}
-use Rattle.rm_apply.proofs.Taking.{of_no_other}
 use Rattle.rm_apply.proofs.restoring.restore_file.Goals as goal
 
 pub file_by-requires-clause-creation : goal.file_by-requires-clause-creation

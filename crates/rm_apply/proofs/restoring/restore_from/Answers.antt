@@ -1,4 +1,4 @@
-use Rattle.std.proofs.Common.{◌≡◌, ◌∙◌, ◌<◌, ℕ, AllPairs, List, map, refl, sym, subst}
+use Rattle.std.proofs.Common.{◌∙◌, ◌<◌, ℕ, AllPairs, List, map, refl, sym, subst}
 use Rattle.rm_catalog.specs.Trees.{nodes}
 use Rattle.rm_evidence.specs.Database.{world_of}
 use Rattle.rm_evidence.proofs.Extending.{unmapped-pairs}
