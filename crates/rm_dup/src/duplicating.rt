@@ -12,7 +12,7 @@ ghost use Rattle.rm_dup.specs.Duplicate.{IsDuplicate};
 use crate::copying::{copies, numbers};
 use crate::database::Duplicate;
 use crate::recording::records_of_copies;
-use rm_apply::{RecoverFault, recover};
+use rm_apply::{RecoverFault, outside, recover_from};
 use rm_base::{IncNo, Scn, Store};
 use rm_catalog::Catalog;
 use rm_evidence::InPlace;
@@ -50,9 +50,42 @@ pub fn duplicate<R: Threads + Sync, D: Store>(
     ensures failed { IsErrOf result RecoverFault.StoreFault → Rose (D.faults store.old) (D.faults store.new) }
     ensures never_falls { D.faults store.old ≤ D.faults store.new }
 {
+    if let Some((low, high)) = outside(catalog.tree(), i, s) {
+        return Err(RecoverFault::Until(low, high));
+    }
+    let copy = place.copied(alloc)?;
+    duplicate_from(rt, alloc, catalog, store, copy, i, s, dbid, channels)
+}
+
+/// The duplicate that `duplicate` gives. What is in place is moved into what is at hand: no row of it is copied.
+pub fn duplicate_from<R: Threads + Sync, D: Store>(
+    rt: &R,
+    alloc: Global,
+    catalog: &Catalog,
+    store: &mut D,
+    place: InPlace,
+    i: IncNo,
+    s: Scn,
+    dbid: u32,
+    channels: u32,
+) -> Result<Duplicate, RecoverFault>
+    requires database { HasDatabase catalog.now }
+    requires place { FitsPlace catalog.now place }
+    requires there { IsThere (nodes catalog.now) i }
+    requires dbid { 1 ≤ dbid }
+    ensures until { until_of result ≡ outside (nodes catalog.now) i s }
+    ensures duplicate { IfOk result (IsDuplicate (D.held store.old) catalog.now place i s dbid) }
+    ensures pieces { IfOk result (λ d. All IsPiece d.pieces) }
+    ensures records { IfOk result (λ d. IsCatalog d.records) }
+    ensures few { IfOk result (λ d. length d.from ≤ 64) }
+    ensures gap { IfErr result (λ x. IfGap x (FindsGap (D.held store.old) catalog.now place i s)) }
+    ensures same { D.held store.new ≡ D.held store.old }
+    ensures failed { IsErrOf result RecoverFault.StoreFault → Rose (D.faults store.old) (D.faults store.new) }
+    ensures never_falls { D.faults store.old ≤ D.faults store.new }
+{
     // They are valid.
     let _ = catalog.records();
-    let recovered = match recover(rt, alloc, catalog, store, place, i, s, channels) {
+    let recovered = match recover_from(rt, alloc, catalog, store, place, i, s, channels) {
         Ok(recovered) => recovered,
         Err(fault) => return Err(fault),
     };

@@ -23,7 +23,7 @@ use rm_apply::RecoverFault;
 use rm_base::{IncNo, Refusal, Store};
 use rm_commit::Stop;
 use rm_dup::Duplicate;
-use rm_dup::duplicating::duplicate;
+use rm_dup::duplicating::duplicate_from;
 use rm_lang_words::DuplicateWords;
 use rm_machine::State;
 use rm_machine::hand::{AtHand, at_hand};
@@ -50,14 +50,14 @@ fn duplicate_at<R: Threads + Sync, D: Store>(
     alloc: Global,
     said: &DuplicateWords,
     state: &State,
-    hand: &AtHand,
+    hand: AtHand,
     from: &mut D,
 ) -> Result<Result<Duplicate, Refusal>, Stop>
     requires sound { IsSound state.now }
     requires dbid { 1 ≤ said.now.dbid }
     requires accepted { test_refusal state.now (Some (AtScn said.now.until)) said.now.incarnation ≡ None }
-    requires records { hand.now.records ≡ records_of state.now.catalog }
-    requires place { hand.now.place ≡ in_place state.now }
+    requires records { hand.records ≡ records_of state.now.catalog }
+    requires place { hand.place ≡ in_place state.now }
     ensures duplicate { IfOk result (λ x. IfOk x (IsDuplicate (D.held from.old) (records_of state.now.catalog) (in_place state.now) (target_inc
         (duplicate_of said.now) state.now) said.now.until said.now.dbid)) }
     ensures gap { IfOk result (λ x. IfErr x (NamesGap (D.held from.old) state.now (target_inc (duplicate_of said.now) state.now) said.now.until)) }
@@ -71,10 +71,10 @@ fn duplicate_at<R: Threads + Sync, D: Store>(
     ensures never_falls { D.faults from.old ≤ D.faults from.new }
 {
     let inc = target_inc(said, state) as IncNo;
-    let (records, place) = (&hand.records, &hand.place);
+    let AtHand { records, place } = hand;
     let channels = channels(said, state);
     let (until, dbid) = (said.until, said.dbid);
-    match duplicate(rt, alloc, records, from, place, inc, until, dbid, channels) {
+    match duplicate_from(rt, alloc, &records, from, place, inc, until, dbid, channels) {
         Ok(duplicate) => Ok(Ok(duplicate)),
         Err(RecoverFault::Gap(gap)) => Ok(Err(Refusal::Rm08 {
             file: gap.file,
@@ -127,5 +127,5 @@ pub(crate) fn duplicate_of<R: Threads + Sync, D: Store, E: Store, H: Shelf>(
     if let Some(refusal) = name_refusal(alloc, &hand.records, inc, said.until, to)? {
         return Ok(Err(refusal));
     }
-    duplicate_at(rt, alloc, said, state, &hand, from)
+    duplicate_at(rt, alloc, said, state, hand, from)
 }
