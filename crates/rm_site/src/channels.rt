@@ -1,4 +1,5 @@
-//! How many channels a statement has: BACKUP, RECOVER and its test, RECOVER COPY, RESTORE and its preview, VALIDATE ALL.
+//! How many channels a statement has: BACKUP, RECOVER and its test, RECOVER COPY, RESTORE and its preview, VALIDATE ALL,
+//! REPORT OBSOLETE and NEED BACKUP, DELETE OBSOLETE.
 ghost use Rattle.std.specs.Prelude.{◌≡◌, ◌≤◌, IfSome, unwrap_or};
 ghost use Rattle.rm_machine.specs.Sound.{IsSound};
 ghost use Rattle.rm_machine.specs.State.{ledger};

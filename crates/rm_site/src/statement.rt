@@ -62,8 +62,8 @@ fn tell_held<R: Threads + Sync, D: Store>(
             step_recover::preview(rt, alloc, channels, state, store, until)
         }
         Command::ValidateAll => step_tell::validate(rt, alloc, channels, state, store),
-        Command::ReportObsolete => step_retain::tell_obsolete(alloc, state, store),
-        Command::ReportNeedBackup => step_retain::tell_needs(alloc, state, store),
+        Command::ReportObsolete => step_retain::tell_obsolete(rt, alloc, channels, state, store),
+        Command::ReportNeedBackup => step_retain::tell_needs(rt, alloc, channels, state, store),
         _ => unreachable!(),
     }
 }
@@ -121,7 +121,7 @@ fn change_by_held<R: Threads + Sync, D: Store>(
             rt, alloc, channels, state, store, *file, until,
         ),
         Command::Crosscheck { class } => step_upkeep::check(alloc, state, store, edits, *class),
-        Command::DeleteObsolete => step_retain::clear(alloc, state, store, edits),
+        Command::DeleteObsolete => step_retain::clear(rt, alloc, channels, state, store, edits),
         _ => unreachable!(),
     }
 }

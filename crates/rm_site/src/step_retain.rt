@@ -1,5 +1,5 @@
 //! REPORT OBSOLETE, REPORT NEED BACKUP and DELETE OBSOLETE: they look at what the store holds.
-ghost use Rattle.std.specs.Prelude.{◌≡◌, ◌≤◌, None, IfOk, IsErrOf, OnOk};
+ghost use Rattle.std.specs.Prelude.{◌≡◌, ◌≤◌, None, IfOk, IfSome, IsErrOf, OnOk};
 ghost use Rattle.rm_base.specs.Outside.{Rose};
 ghost use Rattle.rm_commit.specs.declared.commit.Stop.TheVariants.{StoreFault, KeeperFault};
 ghost use Rattle.rm_machine.specs.Marks.{ids_refusal};
@@ -8,6 +8,7 @@ ghost use Rattle.rm_catalog_typed.specs.Changes.{EditsFollow};
 ghost use Rattle.rm_site.specs.Comes.{IsAnswer};
 ghost use Rattle.rm_lang_statement.specs.declared.command.Command.TheVariants.{DeleteObsolete, ReportNeedBackup, ReportObsolete};
 
+use crate::channels::channel_count;
 use crate::faults::stop_of;
 use crate::statement::Answer;
 use rm_base::Store;
@@ -16,13 +17,17 @@ use rm_commit::Stop;
 use rm_machine::State;
 use rm_step_retain::{delete_obsolete, report_need_backup, report_obsolete};
 use std::alloc::Global;
+use std::thread::Threads;
 
 /// What REPORT OBSOLETE comes to: it tells. An error is a stop.
-pub(crate) fn tell_obsolete<D: Store>(
+pub(crate) fn tell_obsolete<R: Threads + Sync, D: Store>(
+    rt: &R,
     alloc: Global,
+    channels: Option<u32>,
     state: &State,
     store: &mut D,
 ) -> Result<Answer, Stop>
+    requires channels { IfSome channels (λ n. (1 ≤ n) × (n ≤ 16)) }
     requires sound { IsSound state.now }
     ensures answer { IfOk result (λ a. IsAnswer (D.held store.old) state.now ReportObsolete a state.now) }
     ensures held { D.held store.new ≡ D.held store.old }
@@ -30,18 +35,22 @@ pub(crate) fn tell_obsolete<D: Store>(
     ensures keeper { ¬ IsErrOf result KeeperFault }
     ensures never_falls { D.faults store.old ≤ D.faults store.new }
 {
-    match report_obsolete(alloc, state, store) {
+    let channels = channel_count(state, channels);
+    match report_obsolete(rt, alloc, channels, state, store) {
         Ok(lines) => Ok(Answer::Told(lines)),
         Err(fault) => Err(stop_of(fault)),
     }
 }
 
 /// What REPORT NEED BACKUP comes to: it tells. An error is a stop.
-pub(crate) fn tell_needs<D: Store>(
+pub(crate) fn tell_needs<R: Threads + Sync, D: Store>(
+    rt: &R,
     alloc: Global,
+    channels: Option<u32>,
     state: &State,
     store: &mut D,
 ) -> Result<Answer, Stop>
+    requires channels { IfSome channels (λ n. (1 ≤ n) × (n ≤ 16)) }
     requires sound { IsSound state.now }
     ensures answer { IfOk result (λ a. IsAnswer (D.held store.old) state.now ReportNeedBackup a state.now) }
     ensures held { D.held store.new ≡ D.held store.old }
@@ -49,7 +58,8 @@ pub(crate) fn tell_needs<D: Store>(
     ensures keeper { ¬ IsErrOf result KeeperFault }
     ensures never_falls { D.faults store.old ≤ D.faults store.new }
 {
-    match report_need_backup(alloc, state, store) {
+    let channels = channel_count(state, channels);
+    match report_need_backup(rt, alloc, channels, state, store) {
         Ok(lines) => Ok(Answer::Told(lines)),
         Err(fault) => Err(stop_of(fault)),
     }
@@ -57,12 +67,15 @@ pub(crate) fn tell_needs<D: Store>(
 
 /// What DELETE OBSOLETE comes to that the state does not refuse: it is done. After an error, which is a stop, nothing is
 /// said of the state and the edits.
-pub(crate) fn clear<D: Store>(
+pub(crate) fn clear<R: Threads + Sync, D: Store>(
+    rt: &R,
     alloc: Global,
+    channels: Option<u32>,
     state: &mut State,
     store: &mut D,
     edits: &mut Vec<Edit>,
 ) -> Result<Answer, Stop>
+    requires channels { IfSome channels (λ n. (1 ≤ n) × (n ≤ 16)) }
     requires sound { IsSound state.old }
     requires accepted { ids_refusal state.old ≡ None }
     ensures answer { IfOk result (λ a. IsAnswer (D.held store.old) state.old DeleteObsolete a state.new) }
@@ -72,7 +85,8 @@ pub(crate) fn clear<D: Store>(
     ensures keeper { ¬ IsErrOf result KeeperFault }
     ensures never_falls { D.faults store.old ≤ D.faults store.new }
 {
-    match delete_obsolete(alloc, state, store, edits) {
+    let channels = channel_count(state, channels);
+    match delete_obsolete(rt, alloc, channels, state, store, edits) {
         Ok(handed) => Ok(Answer::Done(handed)),
         Err(fault) => Err(stop_of(fault)),
     }

@@ -17,6 +17,7 @@ use rm_machine::drops::drop_records;
 use rm_machine::naming::push_name;
 use rm_machine::{Handed, State};
 use std::alloc::Global;
+use std::thread::Threads;
 
 // The names of the objects of these records.
 fn names_of(alloc: Global, state: &State, ids: &[u32]) -> Result<Seq<Text>, NoMemory>
@@ -31,10 +32,13 @@ fn names_of(alloc: Global, state: &State, ids: &[u32]) -> Result<Seq<Text>, NoMe
 }
 
 /// DELETE OBSOLETE: the records go that the policy does not need, by what is at hand, ascending by id, and their objects. A
-/// line tells each, and a last one how many they are. An error is a fault of the store, which is counted, or want of
-/// memory; then nothing is said of the state and the edits.
-pub fn delete_obsolete<D: Store>(
+/// line tells each, and a last one how many they are. By so many channels, at least one, objects are digested and decoded;
+/// each number gives the same. An error is a fault of the store, which is counted, or want of memory; then nothing is said
+/// of the state and the edits.
+pub fn delete_obsolete<R: Threads + Sync, D: Store>(
+    rt: &R,
     alloc: Global,
+    channels: u32,
     state: &mut State,
     store: &mut D,
     edits: &mut Vec<Edit>,
@@ -48,7 +52,7 @@ pub fn delete_obsolete<D: Store>(
     ensures failed { IsErrOf result EvidenceFault.StoreFault → Rose (D.faults store.old) (D.faults store.new) }
     ensures never_falls { D.faults store.old ≤ D.faults store.new }
 {
-    let ids = obsolete_ids(alloc, state, store)?;
+    let ids = obsolete_ids(rt, alloc, channels, state, store)?;
     let removes = names_of(alloc, state, &ids)?;
     Ok(Handed {
         lines: drop_records(alloc, state, edits, &ids)?,

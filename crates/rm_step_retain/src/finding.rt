@@ -10,10 +10,14 @@ use rm_evidence::EvidenceFault;
 use rm_machine::State;
 use rm_retain::obsolete;
 use std::alloc::Global;
+use std::thread::Threads;
 
-/// The ids of the obsolete records, ascending. An error is a fault of the store, which is counted, or want of memory.
-pub(crate) fn obsolete_ids<D: Store>(
+/// The ids of the obsolete records, ascending, by what is read by so many channels. An error is a fault of the store, which
+/// is counted, or want of memory.
+pub(crate) fn obsolete_ids<R: Threads + Sync, D: Store>(
+    rt: &R,
     alloc: Global,
+    channels: u32,
     state: &State,
     store: &mut D,
 ) -> Result<Vec<u32>, EvidenceFault>
@@ -25,7 +29,7 @@ pub(crate) fn obsolete_ids<D: Store>(
     ensures failed { IsErrOf result EvidenceFault.StoreFault → Rose (D.faults store.old) (D.faults store.new) }
     ensures never_falls { D.faults store.old ≤ D.faults store.new }
 {
-    let looked = look(alloc, state, store)?;
+    let looked = look(rt, alloc, channels, state, store)?;
     let policy = state.catalog.base().policy;
     let start = start_by(state, policy);
     Ok(obsolete(alloc, &looked.records, &looked.evidence, policy, start)?)

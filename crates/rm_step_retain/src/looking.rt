@@ -10,11 +10,12 @@ ghost use Rattle.rm_retain.specs.Chosen.{Ascend};
 
 use rm_base::{Policy, Scn, Store};
 use rm_catalog::Catalog as Records;
-use rm_evidence::{Evidence, EvidenceFault, gather};
+use rm_evidence::{Evidence, EvidenceFault, gather_by};
 use rm_machine::State;
-use rm_machine::hand::at_hand;
+use rm_machine::hand::{AtHand, at_hand};
 use rm_retain::window_start;
 use std::alloc::Global;
+use std::thread::Threads;
 
 /// The records of a catalog, and the artefacts at hand.
 #[derive(Drop)]
@@ -23,10 +24,13 @@ pub(crate) struct Looked {
     pub evidence: Evidence,
 }
 
-/// The records, and what is at hand of those that count as available: its copies ascend by id, and those of one set by
-/// datafile, whatever the store tells. An error is a fault of the store, which is counted, or want of memory.
-pub(crate) fn look<D: Store>(
+/// The records, and what is at hand of those that count as available, read by so many channels: its copies ascend by id,
+/// and those of one set by datafile, whatever the store tells. An error is a fault of the store, which is counted, or want
+/// of memory.
+pub(crate) fn look<R: Threads + Sync, D: Store>(
+    rt: &R,
     alloc: Global,
+    channels: u32,
     state: &State,
     store: &mut D,
 ) -> Result<Looked, EvidenceFault>
@@ -39,11 +43,9 @@ pub(crate) fn look<D: Store>(
     ensures never_falls { D.faults store.old ≤ D.faults store.new }
 {
     let hand = at_hand(alloc, state)?;
-    let evidence = gather(alloc, &hand.records, store, &hand.place)?;
-    Ok(Looked {
-        records: hand.records,
-        evidence,
-    })
+    let AtHand { records, place } = hand;
+    let evidence = gather_by(rt, alloc, &records, store, place, channels)?;
+    Ok(Looked { records, evidence })
 }
 
 /// The SCN at which the window of the policy starts: 0 for a policy without one.

@@ -21,6 +21,7 @@ use rm_machine::facts::on_path;
 use rm_report::Line;
 use rm_retain::chosen;
 use std::alloc::Global;
+use std::thread::Threads;
 
 // How many backups a datafile must have: as many as the policy wants, and at least one.
 fn fewest(policy: Policy) -> usize
@@ -104,10 +105,13 @@ fn lines_of(alloc: Global, files: &[FileNo]) -> Result<Seq<Line>, NoMemory>
 }
 
 /// REPORT NEED BACKUP: the datafiles on the current path of which, of the backups at hand, fewer are chosen than the policy
-/// wants, or none, ascending by number, and how many they are. Nothing changes. An error is a fault of the store, which is
-/// counted, or want of memory.
-pub fn report_need_backup<D: Store>(
+/// wants, or none, ascending by number, and how many they are. By so many channels, at least one, objects are digested and
+/// decoded; each number gives the same. Nothing changes. An error is a fault of the store, which is counted, or want of
+/// memory.
+pub fn report_need_backup<R: Threads + Sync, D: Store>(
+    rt: &R,
     alloc: Global,
+    channels: u32,
     state: &State,
     store: &mut D,
 ) -> Result<Seq<Line>, EvidenceFault>
@@ -118,7 +122,7 @@ pub fn report_need_backup<D: Store>(
     ensures failed { IsErrOf result EvidenceFault.StoreFault → Rose (D.faults store.old) (D.faults store.new) }
     ensures never_falls { D.faults store.old ≤ D.faults store.new }
 {
-    let looked = look(alloc, state, store)?;
+    let looked = look(rt, alloc, channels, state, store)?;
     let files = in_need(alloc, state, &looked)?;
     Ok(lines_of(alloc, &files)?)
 }

@@ -13,6 +13,7 @@ use rm_evidence::EvidenceFault;
 use rm_machine::State;
 use rm_report::Line;
 use std::alloc::Global;
+use std::thread::Threads;
 
 // A line for each of these records, and one that says how many they are.
 fn lines_of(alloc: Global, ids: &[u32]) -> Result<Seq<Line>, NoMemory>
@@ -30,9 +31,12 @@ fn lines_of(alloc: Global, ids: &[u32]) -> Result<Seq<Line>, NoMemory>
 }
 
 /// REPORT OBSOLETE: the records that the policy does not need, by what is at hand, ascending by id, and how many they are;
-/// none without a policy. Nothing changes. An error is a fault of the store, which is counted, or want of memory.
-pub fn report_obsolete<D: Store>(
+/// none without a policy. By so many channels, at least one, objects are digested and decoded; each number gives the same.
+/// Nothing changes. An error is a fault of the store, which is counted, or want of memory.
+pub fn report_obsolete<R: Threads + Sync, D: Store>(
+    rt: &R,
     alloc: Global,
+    channels: u32,
     state: &State,
     store: &mut D,
 ) -> Result<Seq<Line>, EvidenceFault>
@@ -43,6 +47,6 @@ pub fn report_obsolete<D: Store>(
     ensures failed { IsErrOf result EvidenceFault.StoreFault → Rose (D.faults store.old) (D.faults store.new) }
     ensures never_falls { D.faults store.old ≤ D.faults store.new }
 {
-    let ids = obsolete_ids(alloc, state, store)?;
+    let ids = obsolete_ids(rt, alloc, channels, state, store)?;
     Ok(lines_of(alloc, &ids)?)
 }

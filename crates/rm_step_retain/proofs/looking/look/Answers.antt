@@ -6,8 +6,8 @@ use Rattle.rm_machine.proofs.Fitting.{gathered-hand}
 use Rattle.rm_step_retain.proofs.Hand.{fits}
 use Rattle.rm_step_retain.proofs.looking.look.Goals as goal
 
-pub gather-requires-clause-place : goal.gather-requires-clause-place
-gather-requires-clause-place g c =
+pub gather_by-requires-clause-place : goal.gather_by-requires-clause-place
+gather_by-requires-clause-place g c κs within =
     let hand = c.in_ok-hand.hand in
     fits c.args.state.now hand.records c.in_ok-hand.ensures.records c.requires.sound hand.place c.in_ok-hand.ensures.place
 
