@@ -1,7 +1,9 @@
 //! The incarnations of a database, and which of them owns an SCN.
 ghost use Rattle.std.specs.Prelude.{◌≡◌, ◌<◌, ◌≤◌, ◌↔◌, ◌⊎◌, ◌∷◌, [], ◌+◌, length, IsTrue, IsSome, IfSome, IfOk, OnOk, OnErr, IsErrOf, false};
 ghost use Rattle.rm_history.specs.Tree.{IsThere, IsTree, HasParentsBelow, IsProperAncestor, IsShared, is_on_path as path_has, owner, incarnation, reset_of, end_of, with_end, with_branch, segment_end, standing, is_within};
+ghost use Rattle.rm_history.specs.World.{exists_in};
 
+use crate::world::Datafile;
 use rm_base::{IncNo, LAST_SCN, NoMemory, Scn};
 use std::alloc::{AllocFailed, Global};
 use std::marker::Model;
@@ -168,8 +170,8 @@ impl Tree {
         true
     }
 
-    // Whether the incarnation is there.
-    fn is_there(&self, i: IncNo) -> bool
+    /// Whether the incarnation is there.
+    pub fn is_there(&self, i: IncNo) -> bool
         ensures { IsTrue result ↔ IsThere self.now i }
     {
         i != 0 && i as usize <= self.incarnations.len()
@@ -269,10 +271,33 @@ impl Tree {
         ensures some { IsSome result ↔ (IsThere self.now i × (0 < g)) }
         ensures value { IfSome result (λ o. o ≡ owner self.now i g) }
     {
-        if g == 0 || i == 0 || i as usize > self.incarnations.len() {
+        if g == 0 || !self.is_there(i) {
             return None;
         }
         Some(owner_of(&self.incarnations, i, g))
+    }
+
+    /// Whether a datafile exists at the address (i, s): it was created below `s`, on the path of `i`.
+    pub fn exists(&self, i: IncNo, s: Scn, file: &Datafile) -> bool
+        requires there { IsThere self.now i }
+        requires created { 0 < file.now.creation }
+        ensures { result ≡ exists_in self.now i s file.now }
+    {
+        file.creation < s && self.owner(i, file.creation) == Some(file.inc)
+    }
+
+    /// The resetlogs SCN of an incarnation; 0 for one that is not there.
+    pub fn reset_of(&self, i: IncNo) -> Scn
+        ensures { result ≡ reset_of self.now i }
+    {
+        self.get(i).map_or(0, |found| found.reset)
+    }
+
+    /// The SCN up to which an incarnation is known; 0 for one that is not there.
+    pub fn end_of(&self, i: IncNo) -> Scn
+        ensures { result ≡ end_of self.now i }
+    {
+        self.get(i).map_or(0, |found| found.end)
     }
 
     /// The incarnation of this number. None where it is not there.

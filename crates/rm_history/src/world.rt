@@ -50,7 +50,7 @@ impl World {
         requires created { 0 < file.now.creation }
         ensures { result ≡ exists self.now i s file.now }
     {
-        file.creation < s && self.tree.owner(i, file.creation) == Some(file.inc)
+        self.tree.exists(i, s, file)
     }
 
     // Whether a change is one of this block below `s`, at an address that the path of `i` owns.
