@@ -1,8 +1,8 @@
 //! What a state shows.
-ghost use Rattle.std.specs.Prelude.{◌≡◌, ◌<◌, ◌≤◌, ◌↔◌, ◌==◌, ◌&&◌, IfSome, IsTrue, nat_lt, not};
+ghost use Rattle.std.specs.Prelude.{◌≡◌, ◌<◌, ◌≤◌, ◌↔◌, IfSome, IsTrue, not};
 ghost use Rattle.std.specs.Option.{option_copied};
 ghost use Rattle.rm_base.specs.Numbers.{last_scn};
-ghost use Rattle.rm_history.specs.Tree.{IsThere, end_of, owner};
+ghost use Rattle.rm_history.specs.Tree.{IsThere, end_of};
 ghost use Rattle.rm_history.specs.World.{blocks_of, exists, file_of};
 ghost use Rattle.rm_machine.specs.Dump.{placed_row};
 ghost use Rattle.rm_machine.specs.Mount.{first_lost};
@@ -13,21 +13,14 @@ ghost use Rattle.rm_redo.specs.Online.{IsLost, IsThread};
 use crate::state::State;
 use rm_base::{BlockNo, FileNo, IncNo, Row, Scn, ThreadNo};
 use rm_blocks::DataFile;
-use rm_history::{Datafile, Tree};
+use rm_history::Datafile;
 use rm_redo::OnlineLogs;
-
-// The SCN up to which an incarnation is known; 0 for one that is not there.
-pub(crate) fn end_in(tree: &Tree, inc: IncNo) -> Scn
-    ensures { result ≡ end_of tree.now inc }
-{
-    tree.get(inc).map_or(0, |node| node.end)
-}
 
 /// The SCN up to which an incarnation is known; 0 for one that is not there.
 pub(crate) fn end_of(state: &State, inc: IncNo) -> Scn
     ensures { result ≡ end_of (tree state.now) inc }
 {
-    end_in(state.catalog.tree(), inc)
+    state.catalog.tree().end_of(inc)
 }
 
 /// The SCN that the next change takes.
@@ -44,22 +37,13 @@ pub fn redo_end(state: &State) -> Scn
     end_of(state, state.instance.logs.inc())
 }
 
-// Whether a datafile was created below `s`, on the path of `i`.
-pub(crate) fn exists_in(tree: &Tree, i: IncNo, s: Scn, file: &Datafile) -> bool
-    requires there { IsThere tree.now i }
-    requires created { 0 < file.now.creation }
-    ensures { result ≡ (nat_lt file.now.creation s && (owner tree.now i file.now.creation == file.now.inc)) }
-{
-    file.creation < s && tree.owner(i, file.creation) == Some(file.inc)
-}
-
 /// Whether a datafile exists at the address (i, s): it was created below `s`, on the path of `i`.
 pub fn exists(state: &State, i: IncNo, s: Scn, file: &Datafile) -> bool
     requires there { IsThere (tree state.now) i }
     requires created { 0 < file.now.creation }
     ensures { result ≡ exists (world state.now) i s file.now }
 {
-    exists_in(state.catalog.tree(), i, s, file)
+    state.catalog.tree().exists(i, s, file)
 }
 
 // The datafile of this number. None where it is not there.

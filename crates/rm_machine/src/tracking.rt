@@ -7,7 +7,6 @@ ghost use Rattle.rm_catalog_typed.specs.Facts.{IsTypedCatalog};
 ghost use Rattle.rm_catalog_typed.specs.Worlds.{world_of};
 ghost use Rattle.rm_machine.specs.Tracked.{first_tracker, fresh_from};
 
-use crate::facts::{end_in, exists_in};
 use rm_base::{FileNo, NoMemory};
 use rm_catalog_typed::TypedCatalog;
 use rm_history::Datafile;
@@ -29,8 +28,8 @@ fn add_current(
         OnOk result (tracker.new ≡ (if exists (world_of l) l.base.current now file.now then with_file tracker.old (fresh number file.now.blocks now) else tracker.old)) }
 {
     let current = catalog.base().current;
-    let now = end_in(catalog.tree(), current);
-    if exists_in(catalog.tree(), current, now, file) {
+    let now = catalog.tree().end_of(current);
+    if catalog.tree().exists(current, now, file) {
         tracker.add_file(alloc, number, file.blocks, now)?;
     }
     Ok(())
