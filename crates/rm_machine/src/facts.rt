@@ -3,7 +3,7 @@ ghost use Rattle.std.specs.Prelude.{◌≡◌, ◌<◌, ◌≤◌, ◌↔◌, If
 ghost use Rattle.std.specs.Option.{option_copied};
 ghost use Rattle.rm_base.specs.Numbers.{last_scn};
 ghost use Rattle.rm_history.specs.Tree.{IsThere, end_of};
-ghost use Rattle.rm_history.specs.World.{blocks_of, exists, file_of};
+ghost use Rattle.rm_history.specs.World.{blocks_of, creation_of, exists, file_of};
 ghost use Rattle.rm_machine.specs.Dump.{placed_row};
 ghost use Rattle.rm_machine.specs.Mount.{first_lost};
 ghost use Rattle.rm_machine.specs.Sound.{IsSound};
@@ -61,6 +61,13 @@ pub fn blocks_of(state: &State, number: FileNo) -> u32
     ensures most { result ≤ 65536 }
 {
     file(state, u64::from(number)).map_or(0, |datafile| datafile.blocks)
+}
+
+/// The SCN at which the datafile of this number was created; 0 for one that is not there.
+pub fn creation_of(state: &State, number: FileNo) -> Scn
+    ensures { result ≡ creation_of (world state.now) number }
+{
+    file(state, u64::from(number)).map_or(0, |datafile| datafile.creation)
 }
 
 /// The datafile of this number, where it exists at the address (i, s).
