@@ -1,9 +1,8 @@
 //! A backup set of datafiles, its record, its bytes and what is told of it.
-ghost use Rattle.std.specs.Prelude.{◌≡◌, ◌<◌, ◌++◌, All, IfOk, OnOk, length, map};
-ghost use Rattle.rm_history.specs.World.{creation_of};
+ghost use Rattle.std.specs.Prelude.{◌≡◌, ◌++◌, All, IfOk, OnOk, length, map};
 ghost use Rattle.rm_machine.specs.Backup.{part_of};
 ghost use Rattle.rm_machine.specs.MadeSets.{member_by, set_entry_for, set_of};
-ghost use Rattle.rm_machine.specs.State.{ledger, world};
+ghost use Rattle.rm_machine.specs.State.{ledger};
 ghost use Rattle.rm_piece.specs.SetSpelling.{set_spelling, spelled};
 ghost use Rattle.rm_piece.specs.Sets.{IsSet};
 ghost use Rattle.rm_piece.specs.Valid.{IsPiece};
@@ -15,23 +14,15 @@ use crate::making::{Entry, Made, Told};
 use crate::pieces::piece_of;
 use crate::reading::FileRead;
 use rm_base::sealed::Encoded;
-use rm_base::{FileNo, NoMemory, Row, Scn, Seq, Status, Text};
+use rm_base::{NoMemory, Row, Scn, Seq, Status, Text};
 use rm_catalog::{SetEntry, SetPart};
 use rm_lang_statement::BackupForm;
+use rm_machine::facts::creation_of;
 use rm_machine::replies::{copied, shape_by};
 use rm_machine::{Job, State};
 use rm_piece::{Set, SetFile, count_written, encode_set_with_digest, risen_rows};
 use rm_report::Packing;
 use std::alloc::Global;
-
-// The SCN at which a datafile was created.
-fn creation_of(state: &State, file: FileNo) -> Scn
-    requires { 0 < file }
-    ensures { result ≡ creation_of (world state.now) file }
-{
-    let index = file as usize - 1;
-    state.catalog.files().get(index).map_or(0, |it| it.creation)
-}
 
 /// The member of a datafile of which these rows were read, with this checkpoint. An error is want of memory.
 pub(crate) fn member_of(
