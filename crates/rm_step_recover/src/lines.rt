@@ -1,6 +1,5 @@
 //! The lines of the replies.
-ghost use Rattle.std.specs.Prelude.{◌≡◌, ◌<◌, ◌≤◌, ◌++◌, ◌∷◌, [], OnOk, All, length};
-ghost use Rattle.rm_history.specs.World.{creation_of};
+ghost use Rattle.std.specs.Prelude.{◌≡◌, ◌≤◌, ◌++◌, ◌∷◌, [], OnOk, All, length};
 ghost use Rattle.rm_machine.specs.RecoverTest.{block_lines, file_lines, files_lines, test_lines};
 ghost use Rattle.rm_machine.specs.Restore.{origin_line, origin_lines};
 ghost use Rattle.rm_machine.specs.State.{world};
@@ -10,6 +9,7 @@ use rm_apply::Origin;
 use rm_base::{FileNo, IncNo, NoMemory, Row, Scn, Seq};
 use rm_blocks::DataFile;
 use rm_machine::State;
+use rm_machine::facts::creation_of;
 use rm_report::Line;
 
 // From where a datafile is restored.
@@ -89,15 +89,6 @@ fn push_file(lines: &mut Seq<Line>, creation: Scn, file: &DataFile) -> Result<()
     ensures { OnOk result (lines.new ≡ lines.old ++ file_lines creation file.now) }
 {
     push_rows(lines, creation, file.file(), file.rows())
-}
-
-// The SCN at which the datafile of this number, at least 1, was created; 0 for one that is not there.
-fn creation_of(state: &State, number: FileNo) -> Scn
-    requires { 0 < number }
-    ensures { result ≡ creation_of (world state.now) number }
-{
-    let datafile = state.catalog.files().get(number as usize - 1);
-    datafile.map_or(0, |datafile| datafile.creation)
 }
 
 // Adds the lines of these datafiles.
