@@ -3,7 +3,6 @@ ghost use Rattle.std.specs.Prelude.{◌≡◌, ◌<◌, ◌≤◌, ◌+◌, ◌�
 ghost use Rattle.rm_base.specs.Store.{Held};
 ghost use Rattle.rm_catalog_typed.specs.Changes.{EditsFollow};
 ghost use Rattle.rm_catalog_typed.specs.Fitting.{FitsBase};
-ghost use Rattle.rm_history.specs.Tree.{reset_of};
 ghost use Rattle.rm_lang_statement.specs.declared.command.Command.TheVariants.{BackupFrom};
 ghost use Rattle.rm_machine.specs.Backup.{taken};
 ghost use Rattle.rm_machine.specs.Hands.{Hands};
@@ -87,13 +86,6 @@ fn lost_refusal(state: &State, form: &BackupForm) -> Option<Refusal>
     }
 }
 
-// The SCN at which the first incarnation begins.
-fn first_scn(state: &State) -> Scn
-    ensures { result ≡ reset_of (tree state.now) 1 }
-{
-    state.catalog.tree().get(1).map_or(0, |first| first.reset)
-}
-
 /// Why an increment from an SCN is refused, if it is: the database is mounted (RM-04); the SCN lies below the first incarnation or
 /// above `now` (RM-06); a datafile of the current path is lost (RM-09), the least of them; too few bytes or ids are left (RM-11,
 /// in this order); or a block of these datafiles is damaged (RM-17), the least of them.
@@ -104,7 +96,7 @@ pub fn roll_refusal(state: &State, scn: u64) -> Option<Refusal>
     if !state.instance.is_open {
         return Some(Refusal::Rm04 { mounted: true });
     }
-    let low = first_scn(state);
+    let low = state.catalog.tree().reset_of(1);
     let high = now(state);
     if scn < low || high < scn {
         return Some(Refusal::Rm06 {
