@@ -6,7 +6,6 @@ ghost use Rattle.rm_catalog.specs.declared.record.Record.TheVariants as kind;
 ghost use Rattle.rm_catalog_typed.specs.Ledger.{datafile_record, numbered};
 ghost use Rattle.rm_catalog_typed.specs.TypedCatalog.{records_of};
 ghost use Rattle.rm_evidence.specs.Database.{world_of};
-ghost use Rattle.rm_history.specs.Tree.{reset_of};
 ghost use Rattle.rm_piece.specs.Valid.{IsPiece};
 ghost use Rattle.rm_dup.specs.Copies.{as_first, copies_of};
 ghost use Rattle.rm_dup.specs.Entries.{catalog_of, moment_in};
@@ -18,7 +17,7 @@ use rm_catalog::{
     BaseEntry, Catalog, DatafileEntry, IncarnationEntry, MarkEntry, PieceEntry, Record,
 };
 use rm_evidence::{base_of, datafile};
-use rm_history::{Datafile, Tree};
+use rm_history::Datafile;
 use rm_piece::{Piece, encode_piece_with_digest};
 use std::alloc::Global;
 
@@ -30,16 +29,6 @@ fn facts_of(catalog: &Catalog) -> (ThreadNo, Moment)
     match base_of(catalog) {
         Some(base) => (base.threads, base.moment),
         None => (0, 0),
-    }
-}
-
-// Where incarnation 1 of the source began.
-fn first_reset(tree: &Tree) -> Scn
-    ensures { result ≡ reset_of tree.now 1 }
-{
-    match tree.get(1) {
-        Some(first) => first.reset,
-        None => 0,
     }
 }
 
@@ -156,7 +145,7 @@ pub(crate) fn records_of_copies(
     records.push(Record::Incarnation(IncarnationEntry {
         inc: 1,
         parent: 0,
-        reset: first_reset(catalog.tree()),
+        reset: catalog.tree().reset_of(1),
         end: s,
     }))?;
     push_files(&mut records, catalog, files)?;
