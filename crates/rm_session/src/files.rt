@@ -11,7 +11,7 @@ ghost use Rattle.rm_catalog_typed.specs.Facts.{IsTypedCatalog};
 ghost use Rattle.rm_session.specs.Fit.{AllAt, FitsAt, IsFitFile, IsFitPiece, IsLoadedAt, IsWhereFits};
 
 use crate::parts::load_piece;
-use rm_base::{FileNo, IncNo, Kind, Scn, Seq, Store};
+use rm_base::{FileNo, Kind, Seq, Store};
 use rm_blocks::DataFile;
 use rm_catalog::PartEntry;
 use rm_catalog_typed::{Saved, TypedCatalog};
@@ -20,19 +20,12 @@ use rm_history::Datafile;
 use rm_piece::Piece;
 use std::alloc::Global;
 
-/// The SCN up to which an incarnation is known; 0 for one that is not there.
-pub(crate) fn end_of(catalog: &TypedCatalog, inc: IncNo) -> Scn
-    ensures { result ≡ end_of catalog.now.ledger.tree inc }
-{
-    catalog.tree().get(inc).map_or(0, |node| node.end)
-}
-
 // Whether the piece is of the current incarnation, at its end.
 fn is_now(catalog: &TypedCatalog, piece: &Piece) -> bool
     ensures { IsTrue result ↔ ((piece.now.inc ≡ catalog.now.ledger.base.current) × (piece.now.checkpoint ≡ end_of catalog.now.ledger.tree catalog.now.ledger.base.current)) }
 {
     let current = catalog.base().current;
-    piece.inc == current && piece.checkpoint == end_of(catalog, current)
+    piece.inc == current && piece.checkpoint == catalog.tree().end_of(current)
 }
 
 // Whether the piece could stand in place of the datafile of this number.

@@ -6,7 +6,7 @@ ghost use Rattle.rm_machine.specs.State.{has_lost};
 ghost use Rattle.rm_catalog_typed.specs.Facts.{IsTypedCatalog};
 ghost use Rattle.rm_session.specs.Fit.{IsFit, IsHad};
 
-use crate::files::{end_of, load_files};
+use crate::files::load_files;
 use crate::threads::{load_logs, online_of};
 use rm_base::{NoMemory, Seq, Store};
 use rm_catalog_typed::{Saved, TypedCatalog};
@@ -36,7 +36,7 @@ pub(crate) fn lost_instance(alloc: Global, catalog: &TypedCatalog) -> Result<Ins
 {
     let base = catalog.base();
     let place = all_lost(alloc, catalog.files().len())?;
-    let enabled = catalog.enabled_at(base.current, end_of(catalog, base.current));
+    let enabled = catalog.enabled_at(base.current, catalog.tree().end_of(base.current));
     let logs = OnlineLogs::from_logs(alloc, base.dbid, base.current, enabled, all_lost(alloc, 4)?)?;
     Ok(Instance {
         is_open: false,

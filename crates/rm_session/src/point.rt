@@ -1,6 +1,6 @@
 //! The point of what is loaded.
 ghost use Rattle.std.specs.Prelude.{◌≡◌, ◌↔◌, ◌<◌, All, IfSome, IsTrue, false, true};
-ghost use Rattle.rm_history.specs.Tree.{IsThere, reset_of};
+ghost use Rattle.rm_history.specs.Tree.{IsThere};
 ghost use Rattle.rm_machine.specs.Loading.{IsHeadPoint, IsTheOne};
 ghost use Rattle.rm_machine.specs.Mount.{mount_point};
 ghost use Rattle.rm_machine.specs.Sound.{IsPoint, IsSound};
@@ -44,20 +44,15 @@ fn all_stand(state: &State, i: IncNo, s: Scn) -> bool
     true
 }
 
-// The resetlogs SCN of an incarnation; 0 for one that is not there.
-fn reset_of(state: &State, inc: IncNo) -> Scn
-    ensures { result ≡ reset_of (tree state.now) inc }
-{
-    state.catalog.tree().get(inc).map_or(0, |node| node.reset)
-}
-
 // Whether the database has a point here.
 fn is_point(state: &State, at: Scn) -> bool
     requires { IsSound state.now }
     ensures { IsTrue result ↔ IsPoint state.now at }
 {
     let current = state.catalog.base().current;
-    reset_of(state, current) <= at && at <= facts::now(state) && all_stand(state, current, at)
+    state.catalog.tree().reset_of(current) <= at
+        && at <= facts::now(state)
+        && all_stand(state, current, at)
 }
 
 // The point that the head tells, where it is one.

@@ -9,7 +9,6 @@ ghost use Rattle.rm_redo.specs.LogFormat.{IsLogFile};
 ghost use Rattle.rm_catalog_typed.specs.Facts.{IsTypedCatalog};
 ghost use Rattle.rm_session.specs.Fit.{AllAt, IsFitLog, IsLogAt, IsWhereLogFits, LogFitsAt};
 
-use crate::files::end_of;
 use crate::parts::load_log;
 use rm_base::{IncNo, NoMemory, Seq, Store, ThreadNo};
 use rm_catalog::PartEntry;
@@ -178,7 +177,7 @@ pub(crate) fn online_of(
 {
     let base = catalog.base();
     let inc = inc_of_first(base.current, logs.as_slice());
-    let enabled = catalog.enabled_at(inc, end_of(catalog, inc));
+    let enabled = catalog.enabled_at(inc, catalog.tree().end_of(inc));
     let kept = all_of(alloc, inc, logs)?;
     OnlineLogs::from_logs(alloc, base.dbid, inc, enabled, kept)
 }

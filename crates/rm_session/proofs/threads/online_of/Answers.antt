@@ -14,7 +14,8 @@ from_logs-requires-clause-valid c =
 pub returns : goal.returns
 returns c =
     let l = c.args.catalog.now.ledger in
-    let enabled = c.enabled_at-enabled.ensures ∙ ap (enabled_at l c.inc_of_first-inc.result) c.end_of.ensures in
+    let ended = c.end_of.ensures ∙ ap (λ tree. end_of tree c.inc_of_first-inc.result) c.tree.ensures in
+    let enabled = c.enabled_at-enabled.ensures ∙ ap (enabled_at l c.inc_of_first-inc.result) ended in
     let inc : c.inc_of_first-inc.result ≡ inc_of_first l.base.current c.args.logs = c.inc_of_first-inc.ensures ∙ (λ i. inc_of_first (c.base-base.ensures.value i).current (c.as_slice.ensures i)) in
     subst (λ logs. IfOk c.from_logs.result (λ online. online ≡ logs))
     ((λ i. logs_of (c.base-base.ensures.value i).dbid c.inc_of_first-inc.result (enabled i) (c.in_ok-kept.ensures i)) ∙ ap (λ n. logs_of l.base.dbid n (enabled_at l n (end_of l.tree n)) (map (where_of n) c.args.logs)) inc)
