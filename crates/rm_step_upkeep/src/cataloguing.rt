@@ -98,13 +98,10 @@ fn entry_refusal(
 
 // The end of its incarnation, which is no lower than it tells.
 fn end_of(state: &State, entry: &Entry) -> Scn
-    requires there { IsThere (tree state.now) (inc_of entry.now) }
     ensures { result ≡ end_by state.now entry.now }
 {
-    let Some(inc) = state.catalog.tree().get(entry.inc()) else {
-        unreachable!()
-    };
-    inc.end.max(entry.top())
+    let end = state.catalog.tree().end_of(entry.inc());
+    end.max(entry.top())
 }
 
 // No id up to its own is free, and its incarnation ends no lower than it tells.
