@@ -2,11 +2,10 @@
 ghost use Rattle.std.specs.Prelude.{◌≡◌, ◌≢◌, ◌↔◌, ◌≤◌, IsTrue, IsSomeAnd, IfNone, All, length, slice_get};
 ghost use Rattle.std.specs.Option.{option_copied};
 ghost use Rattle.rm_base.specs.declared.kinds.Kind.TheVariants.{Level1};
-ghost use Rattle.rm_history.specs.Tree.{IsThere};
 ghost use Rattle.rm_standby.specs.Standby.{has_all, is_standby};
 ghost use Rattle.rm_standby.specs.Rolling.{member_at, BeginsBy, IsSameFile, Meets};
 
-use rm_base::{IncNo, Kind};
+use rm_base::Kind;
 use rm_history::Tree;
 use rm_piece::{Set, SetFile};
 
@@ -15,12 +14,6 @@ pub(crate) fn member_at(members: &[SetFile], file: u32) -> Option<&SetFile>
     ensures { option_copied result ≡ member_at members.now file }
 {
     members.iter().find(|member| member.piece.file == file)
-}
-
-fn is_there(tree: &Tree, inc: IncNo) -> bool
-    ensures { IsTrue result ↔ IsThere tree.now inc }
-{
-    tree.get(inc).is_some()
 }
 
 fn has_all(member: &SetFile) -> bool
@@ -104,8 +97,8 @@ pub fn meets(standby: &Set, increment: &Set, tree: &Tree) -> bool
     ensures { IsTrue result ↔ Meets tree.now standby.now increment.now }
 {
     standby.dbid == increment.dbid
-        && is_there(tree, standby.inc)
-        && is_there(tree, increment.inc)
+        && tree.is_there(standby.inc)
+        && tree.is_there(increment.inc)
         && standby.checkpoint <= increment.checkpoint
         && begins(standby, increment)
         && is_standby(standby)
