@@ -98,13 +98,7 @@ fn is_on_path(catalog: &Catalog, current: IncNo, found: Datafile) -> bool
     ensures { result ≡ exists (world_of catalog.now) current (end_of (nodes catalog.now) current) found }
 {
     let tree = catalog.tree();
-    match tree.get(current) {
-        Some(incarnation) => {
-            found.creation < incarnation.end
-                && tree.owner(current, found.creation) == Some(found.inc)
-        }
-        None => unreachable!(),
-    }
+    tree.exists(current, tree.end_of(current), &found)
 }
 
 // The checkpoint of the last copy that is wanted, or else the creation.
