@@ -1,10 +1,10 @@
 //! The first gap of all datafiles.
-ghost use Rattle.std.specs.Prelude.{◌≡◌, ◌<◌, IfNone, IfOk, IfSome, Some};
+ghost use Rattle.std.specs.Prelude.{◌≡◌, IfNone, IfOk, IfSome, Some};
 ghost use Rattle.rm_catalog.specs.Rules.{HasDatabase};
 ghost use Rattle.rm_catalog.specs.Trees.{nodes};
 ghost use Rattle.rm_evidence.specs.Known.{FitsTree, known_of};
 ghost use Rattle.rm_history.specs.Tree.{IsThere};
-ghost use Rattle.rm_history.specs.World.{exists, file_of};
+ghost use Rattle.rm_history.specs.World.{file_of};
 ghost use Rattle.rm_history.specs.FirstGap.{IsFirstGap, IsRecoverable};
 ghost use Rattle.rm_history.specs.Unknown.{IsUnknown};
 ghost use Rattle.rm_evidence.specs.Database.{world_of};
@@ -22,16 +22,6 @@ use std::alloc::Global;
 
 // The greatest number of a datafile.
 const LAST_FILE: FileNo = 64;
-
-// Whether the datafile exists at (i, s).
-fn does_exist(catalog: &Catalog, i: IncNo, s: Scn, found: Datafile) -> bool
-    requires database { HasDatabase catalog.now }
-    requires there { IsThere (nodes catalog.now) i }
-    requires created { 0 < found.creation }
-    ensures { result ≡ exists (world_of catalog.now) i s found }
-{
-    found.creation < s && catalog.tree().owner(i, found.creation) == Some(found.inc)
-}
 
 // The gap of the least block of the datafile that is not told.
 fn gap_of_blocks(
@@ -89,7 +79,7 @@ fn gap_of_file(
     // They are a catalog's, so each datafile was created at 1 or later.
     let _ = catalog.records();
     match datafile(catalog, file) {
-        Some(found) if does_exist(catalog, i, s, found) => {
+        Some(found) if catalog.tree().exists(i, s, &found) => {
             gap_of_blocks(alloc, evidence, catalog, i, s, file, found)
         }
         _ => Ok(None),
