@@ -1,9 +1,8 @@
 //! The datafiles that exist at an SCN on the path of an incarnation.
-ghost use Rattle.std.specs.Prelude.{◌≡◌, ◌<◌, ◌↔◌, All, IfNone, IfOk, IfSome, IsTrue, map};
+ghost use Rattle.std.specs.Prelude.{◌↔◌, All, IfNone, IfOk, IfSome, IsTrue, map};
 ghost use Rattle.rm_catalog.specs.Rules.{HasDatabase};
 ghost use Rattle.rm_catalog.specs.Trees.{nodes};
 ghost use Rattle.rm_history.specs.Tree.{IsThere};
-ghost use Rattle.rm_history.specs.World.{exists};
 ghost use Rattle.rm_evidence.specs.Database.{world_of};
 ghost use Rattle.rm_plan.specs.Plan.{IsFileTarget};
 ghost use Rattle.rm_apply.specs.Files.{AreExactly, IsCreatedSo, IsNamed, IsTargetFile, IsAsked};
@@ -24,16 +23,6 @@ pub struct TargetFile {
 // The greatest number of a datafile.
 const LAST_FILE: FileNo = 64;
 
-// Whether the datafile exists at (i, s).
-fn does_exist(catalog: &Catalog, i: IncNo, s: Scn, found: Datafile) -> bool
-    requires database { HasDatabase catalog.now }
-    requires there { IsThere (nodes catalog.now) i }
-    requires created { 0 < found.creation }
-    ensures { result ≡ exists (world_of catalog.now) i s found }
-{
-    found.creation < s && catalog.tree().owner(i, found.creation) == Some(found.inc)
-}
-
 // The datafile of this number, where it exists at (i, s).
 fn target(catalog: &Catalog, i: IncNo, s: Scn, number: FileNo) -> Option<Datafile>
     requires database { HasDatabase catalog.now }
@@ -44,7 +33,7 @@ fn target(catalog: &Catalog, i: IncNo, s: Scn, number: FileNo) -> Option<Datafil
     // They are a catalog's, so each datafile was created at 1 or later.
     let _ = catalog.records();
     match datafile(catalog, number) {
-        Some(found) if does_exist(catalog, i, s, found) => Some(found),
+        Some(found) if catalog.tree().exists(i, s, &found) => Some(found),
         _ => None,
     }
 }
