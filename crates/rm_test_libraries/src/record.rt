@@ -32,7 +32,11 @@ const PART: &str = "4k884";
 fn range_in(word: &str) -> Option<(u64, u64)> {
     let (first, last) = word.split_once("..")?;
     let (first, last) = (first.parse::<u64>().ok()?, last.parse::<u64>().ok()?);
-    if first <= last { Some((first, last)) } else { None }
+    if first <= last {
+        Some((first, last))
+    } else {
+        None
+    }
 }
 
 // The tag between these quotes.
