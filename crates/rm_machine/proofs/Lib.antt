@@ -74,7 +74,6 @@ pub mod Skipped
 pub mod Standing
 pub mod Switching
 pub mod Tags
-mod Taken
 pub mod TakenFiles
 pub mod Threads
 pub mod ThreadSwitches

@@ -223,7 +223,7 @@ impl Site {
     /// decides so, whatever the store and the keeper hold. Whatever these hold, they and the site stay as they are where the
     /// statement is refused or only tells, and nothing is done where too few ids are left for a save.
     ///
-    /// BACKUP, RECOVER, RESTORE and VALIDATE ALL go by `channels` channels, or by as many as are configured where none are asked for.
+    /// What reads or makes objects goes by `channels` channels, or by as many as are configured where none are asked for.
     /// Those of a BACKUP and its writers call the gate.
     ///
     /// Each line of the reply has a text, and the reply counts as refused exactly where one of them is a refusal.

@@ -76,7 +76,7 @@ fn session<R: Threads + Wait + Sync, G: Gate, S: Source, K: Sink, D: Store, C: K
 /// step and its reply is written, and then the site is saved. With the word `--drill` the script is the drill's, the source is not
 /// read, and before the site is saved one line is written in the place of all replies. Of which database `keeper` has the records, by the
 /// word `--database`, and whether another one follows it, by `--control`, is the caller's matter. The clock is asked once for each statement of
-/// the grammar. The channels of a BACKUP or RECOVER are threads of `rt`, and so are the writers of a BACKUP; its threads call `gate`. The
+/// the grammar. The channels of a statement are threads of `rt`, and so are the writers of a BACKUP; its threads call `gate`. The
 /// status is
 /// - 0 where no reply is a refusal, 1 where one is,
 /// - 2 where the words are refused,
