@@ -25,7 +25,7 @@ WAYS = ("said", "allocated", "configured")
 # What is counted of the replies.
 COUNTED = {"skipped": r"skipped ", "bad": r"\d+ (missing|damaged)", "gaps": "RM-08", "recoveries": "(recovered|until) ", "merges": r"copy .* merged", "mends": r".* mended"}
 # The statements that take channels.
-TAKES = re.compile(r"(BACKUP|RESTORE|RECOVER|VALIDATE) ")
+TAKES = re.compile(r"(BACKUP|RESTORE|RECOVER|VALIDATE|REPORT (OBSOLETE|NEED)|DELETE (NOPROMPT )?OBSOLETE)\b")
 Left = collections.namedtuple("Left", "status errors replies objects records")
 
 
