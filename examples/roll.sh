@@ -5,7 +5,7 @@ standby() {
 }
 scn=$(standby --dump | sed -n 's/^until \([0-9]*\) .*/\1/p')
 [ -n "$scn" ] || exit 1
-echo "BACKUP INCREMENTAL FROM SCN $scn DATABASE;" > roll.rman
+echo "ALTER SYSTEM ARCHIVE LOG CURRENT; BACKUP INCREMENTAL FROM SCN $scn DATABASE;" > roll.rman
 roll=$(./rman --store objects --catalog catalog < roll.rman | sed -n 's/^roll \([0-9]*\) .*/\1/p')
 [ -n "$roll" ] || exit 1
 standby --roll "$roll" && rm "objects/roll_$roll"
