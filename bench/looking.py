@@ -3,7 +3,7 @@
     bench/looking.py PROGRAM
 PROGRAM is the program as it was built, and not the script ./rman; it wants valgrind, cc and nm. VALIDATE ALL, RECOVER .. TEST and a level 1, of a datafile of one block and of
 one of 65,536, beside the same session without: instructions, by callgrind, and bytes that are asked of malloc and realloc, each in the whole statement and in `records_of` with what
-it calls, and of it in `from_records`, which puts the records in order and looks at each rule anew. An allocation is within `records_of` where a return address into it stands on the
+it calls. An allocation is within `records_of` where a return address into it stands on the
 stack. One may be left there from before, so the least of the three statements is told: the list is the same in each."""
 import os
 import re
@@ -17,7 +17,6 @@ from functions import callgrind, read_callgrind
 
 LOGS = 16000
 FUNCTION = "rm_machine::recorded::records_of"
-CHECKS = "rm_catalog::catalog::Catalog::from_records"
 STATEMENTS = {"VALIDATE ALL": "VALIDATE ALL;", "RECOVER .. TEST": "RECOVER DATABASE TEST;", "a level 1": "BACKUP INCREMENTAL LEVEL 1 DATABASE;"}
 
 # Writes how many bytes were asked for, and how many by calls with WITHIN on the stack, which is where a function begins in the program and how long it is.
@@ -76,20 +75,20 @@ def main(program):
             prepared = Prepared(program, Subject("looking", "", 1, made, SAVED), f"{room}/{blocks}")
 
             def counts(statement):
-                """What a session takes in instructions, in all, in the list and in its checks; and in bytes, in all and in the list."""
+                """What a session takes in instructions, in all and in the list, and in bytes likewise."""
                 prepared.session(f"{SAVED}\n{statement}", 1, callgrind(counted))
                 shutil.rmtree(prepared.place)
                 own, whole, _ = read_callgrind(counted)
                 prepared.session(f"{SAVED}\n{statement}", 1, by_library)
                 shutil.rmtree(prepared.place)
                 with open(counted, encoding="ascii") as it:
-                    return (sum(own.values()), whole[FUNCTION], whole[CHECKS], *map(int, it.read().split()))
+                    return (sum(own.values()), whole[FUNCTION], *map(int, it.read().split()))
 
             without = counts("")
             more = {name: [one - other for one, other in zip(counts(statement), without)] for name, statement in STATEMENTS.items()}
-            asked = min(it[4] for it in more.values())
-            for name, (every, ours, checks, bytes_of_all, _) in more.items():
-                instructions = f"{ours / 1e6:.1f} of {every / 1e6:,.1f} million instructions, {100 * ours / every:.1f} %, {checks / 1e6:.1f} of them in its checks"
+            asked = min(it[3] for it in more.values())
+            for name, (every, ours, bytes_of_all, _) in more.items():
+                instructions = f"{ours / 1e6:.1f} of {every / 1e6:,.1f} million instructions, {100 * ours / every:.1f} %"
                 print(f"the list of {LOGS} logs' records in {name} of {blocks} blocks: {instructions}; {asked / 1e6:.1f} of {bytes_of_all / 1e6:,.1f} MB asked for, {100 * asked / bytes_of_all:.1f} %", flush=True)
 
 
